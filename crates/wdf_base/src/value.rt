@@ -1,0 +1,18 @@
+use crate::ids::Handle;
+
+/// How a call, a callback or a request ended. Statuses are told by name, not by NTSTATUS number.
+#[derive(Clone, Copy, Debug, PartialEq, Eq, Hash)]
+pub enum Status {
+    Success,
+}
+
+/// A value of a driver script.
+#[derive(Clone, Copy, Debug, PartialEq, Eq)]
+pub enum Value {
+    /// An unsigned number, which wraps at 64 bits.
+    Num(u64),
+    /// An object.
+    Obj(Handle),
+    /// A status.
+    Stat(Status),
+}
