@@ -1,0 +1,30 @@
+-- What contracts see of a core: the plan of its run, and the events so far.
+use Rattle.std.specs.Prelude.{List, Bool, true, false, ◌==◌}
+use Rattle.wdf_base.specs.declared.plan.Plan.{Plan}
+use Rattle.wdf_base.specs.declared.event.Event.{Event}
+use Rattle.wdf_base.specs.declared.event.Event.TheVariants as event
+use Rattle.wdf_base.specs.declared.event.Actor.{Actor}
+use Rattle.wdf_base.specs.declared.event.Actor.TheVariants as actor
+
+pub record Course : Type 0 where
+  pub plan : Plan
+  pub journal : List Event
+
+-- who takes the step, a row for each kind of event
+abbrev pub actor_of : Event → Actor
+actor_of (event.Start cpu callback object request) = actor.Cpu cpu.0
+actor_of (event.Did cpu call answer) = actor.Cpu cpu.0
+actor_of (event.End cpu callback object value) = actor.Cpu cpu.0
+actor_of (event.Cleanup object) = actor.Framework
+actor_of (event.Destroy object) = actor.Framework
+actor_of (event.Posted agent post answer) = actor.Agent agent
+
+abbrev pub same_actor : Actor → Actor → Bool
+same_actor (actor.Cpu a) (actor.Cpu b) = a == b
+same_actor actor.Framework actor.Framework = true
+same_actor (actor.Agent a) (actor.Agent b) = a == b
+same_actor _ _ = false
+
+-- whether an event is a step of this actor
+abbrev pub is_by : Actor → Event → Bool
+is_by who e = same_actor (actor_of e) who

@@ -1,0 +1,4 @@
+pub mod State
+pub mod Deeds
+pub mod Machine
+pub mod Course

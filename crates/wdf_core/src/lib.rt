@@ -1,0 +1,7 @@
+//! The machine of one run: its plan, its journal, and what may follow. It serves one processor,
+//! one working device with one sequential queue, and apps that read.
+#![tactic(auto)]
+
+mod tables;
+
+pub use tables::{Frame, Group, Intent, Life, Place};
