@@ -1,0 +1,3 @@
+-- What the contracts of sources and sinks cite.
+pub mod Outside
+pub mod Memory

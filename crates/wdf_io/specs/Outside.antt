@@ -1,0 +1,26 @@
+-- What a source gives, what a sink takes, and how their faults are counted.
+use Rattle.std.specs.Prelude.{◌≡◌, ℕ, ◌+◌, ◌-◌, ◌^◌, ◌<◌, ◌⊎◌, min, List, ◌++◌, ⊤, Option, None, Some}
+
+-- the last value of a count
+abbrev pub last_count : ℕ
+last_count = 2 ^ 64 - 1
+
+-- one more, and no more than the last value
+abbrev pub counted : ℕ → ℕ
+counted count = min (count + 1) last_count
+
+-- a count rose in a call, or stood at its last value before it
+abbrev pub Rose : ℕ → ℕ → Type 0
+Rose before after = (before < after) ⊎ (before ≡ last_count)
+
+-- a source that tells what it has left had the bytes at its front, and has only the rest after them
+abbrev pub Takes : Option (List ℕ) → Option (List ℕ) → List ℕ → Type 0
+Takes None after bytes = ⊤
+Takes (Some left) None bytes = ⊥
+Takes (Some left) (Some rest) bytes = left ≡ bytes ++ rest
+
+-- a sink that tells what was written has the bytes behind what it had
+abbrev pub Gains : Option (List ℕ) → Option (List ℕ) → List ℕ → Type 0
+Gains None after bytes = ⊤
+Gains (Some written) None bytes = ⊥
+Gains (Some written) (Some more) bytes = more ≡ written ++ bytes
