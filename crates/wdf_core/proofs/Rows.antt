@@ -1,5 +1,5 @@
 -- Worked runs, computed from the definitions: they say what a reader expects of them.
-use Rattle.std.proofs.Common.{if◌then◌else◌, ℕ, zero, suc, ◌≡◌, ◌+◌, ◌-◌, ◌%◌, ◌==◌, List, [], ◌∷◌, ◌++◌, length, Option, Some, None, refl, slice_get, slice_index, drop}
+use Rattle.std.proofs.Common.{if◌then◌else◌, ℕ, zero, suc, ◌≡◌, ◌-◌, ◌%◌, ◌==◌, List, [], ◌∷◌, ◌++◌, length, Option, Some, None, refl, slice_get, slice_index, drop}
 use Rattle.wdf_base.specs.Meaning.{Meaning}
 use Rattle.wdf_base.specs.declared.plan.Plan.{Plan}
 use Rattle.wdf_base.specs.declared.event.Event.{Event}
@@ -39,7 +39,7 @@ pub picked : ℕ → ℕ → ℕ → List ℕ → List Event → List Event
 picked n limit zero picks run = run
 picked n limit (suc turns) picks run =
     picked n limit turns (drop 1 picks)
-      (with_next run (slice_get (ready (reads n) (plan_of limit) run) (slice_index picks 0 % length (ready (reads n) (plan_of limit) run))))
+    (with_next run (slice_get (ready (reads n) (plan_of limit) run) (slice_index picks 0 % length (ready (reads n) (plan_of limit) run))))
 
 abbrev posted : ℕ → Event
 posted id = event.Posted 1 (Read (handle_of DEVICE) 16) (Some (handle_of id))

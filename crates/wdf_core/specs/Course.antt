@@ -1,10 +1,14 @@
 -- What contracts see of a core: the plan of its run, and the events so far.
-use Rattle.std.specs.Prelude.{List, Bool, true, false, ◌==◌}
+use Rattle.std.specs.Prelude.{ℕ, ◌≡◌, ◌≤◌, List, length, Bool, true, false, ◌==◌}
+use Rattle.wdf_base.specs.Meaning.{Meaning}
 use Rattle.wdf_base.specs.declared.plan.Plan.{Plan}
 use Rattle.wdf_base.specs.declared.event.Event.{Event}
 use Rattle.wdf_base.specs.declared.event.Event.TheVariants as event
 use Rattle.wdf_base.specs.declared.event.Actor.{Actor}
 use Rattle.wdf_base.specs.declared.event.Actor.TheVariants as actor
+use Rattle.wdf_model.specs.Runs.{IsRun}
+use Rattle.wdf_core.specs.State.{State}
+use Rattle.wdf_core.specs.Machine.{state_after, ready}
 
 pub record Course : Type 0 where
   pub plan : Plan
@@ -28,3 +32,12 @@ same_actor _ _ = false
 -- whether an event is a step of this actor
 abbrev pub is_by : Actor → Event → Bool
 is_by who e = same_actor (actor_of e) who
+
+-- What a core keeps: its state is that of its journal, which is a run, and room for the rest of it.
+pub record IsUnderWay {A : Type 0} (m : Meaning A) (plan : Plan) (journal : List Event) (S : State A) (space : ℕ) : Type 0 where
+  pub state : S ≡ state_after m plan journal
+  pub run : IsRun (ready m plan) journal
+  pub counted : S.number ≡ length journal
+  pub within : length journal ≤ plan.limit
+  pub room : plan.limit ≤ space
+  pub limit : plan.limit ≤ 200000

@@ -1,6 +1,6 @@
 -- What an event does to the state, as data: a list of deeds, each an act of one piece of the
 -- framework, or of a few that move together.
-use Rattle.std.specs.Prelude.{ℕ, ◌+◌, ◌==◌, Bool, not, List, [], ◌∷◌, ◌++◌, map, filter, drop, slice_set, Option, Some, None}
+use Rattle.std.specs.Prelude.{ℕ, ◌+◌, ◌==◌, not, List, [], ◌∷◌, ◌++◌, map, filter, drop, slice_set, Some, None}
 use Rattle.std.specs.Option.{option_map}
 use Rattle.wdf_base.specs.Meaning.{Meaning}
 use Rattle.wdf_base.specs.declared.event.Event.{Event}
@@ -8,7 +8,7 @@ use Rattle.wdf_core.specs.declared.tables.Frame.{Frame}
 use Rattle.wdf_core.specs.declared.tables.Life.{Life}
 use Rattle.wdf_core.specs.declared.tables.Life.TheVariants.{Live, Asked, Cleaned, Gone}
 use Rattle.wdf_core.specs.declared.tables.Place.TheVariants.{Queued, Owned, Done}
-use Rattle.wdf_core.specs.State.{State, life_of, is_live}
+use Rattle.wdf_core.specs.State.{State}
 
 pub data Deed : Type 0 where
   -- a request arrives and enters the queue

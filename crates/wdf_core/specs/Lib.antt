@@ -2,3 +2,5 @@ pub mod State
 pub mod Deeds
 pub mod Machine
 pub mod Course
+pub mod Parts
+pub mod Ready

@@ -1,6 +1,6 @@
 -- The state of the machine: one part for each piece of the framework, the agents, and two counts.
 -- Maps are lists by id. No object has the id 0, whose entry is that of an object that is gone.
-use Rattle.std.specs.Prelude.{if◌then◌else◌, ℕ, ◌+◌, Bool, true, false, ◌&&◌, ◌==◌, List, [], ◌∷◌, length, map, Option, Some, None, unwrap_or, slice_get}
+use Rattle.std.specs.Prelude.{if◌then◌else◌, ℕ, Bool, true, false, ◌==◌, List, [], ◌∷◌, length, map, Option, None, unwrap_or, slice_get}
 use Rattle.wdf_base.specs.Meaning.{Meaning}
 use Rattle.wdf_base.specs.declared.plan.Plan.{Plan}
 use Rattle.wdf_base.specs.declared.ids.Handle.{Handle}

@@ -2,6 +2,11 @@
 //! one working device with one sequential queue, and apps that read.
 #![tactic(auto)]
 
+mod actor;
+mod machine;
+mod parts;
+mod ready;
 mod tables;
 
+pub use machine::Core;
 pub use tables::{Frame, Group, Intent, Life, Place};

@@ -1,3 +1,5 @@
+ghost use Rattle.std.specs.Prelude.{◌≡◌, ◌||◌};
+
 use wdf_base::{Call, FrameId, Handle, Value};
 
 /// How far the life of an object has come.
@@ -12,6 +14,38 @@ pub enum Life {
     Gone,
 }
 
+impl Life {
+    ghost use Rattle.wdf_core.specs.State.{is_live, is_asked, is_cleaned};
+
+    /// Whether the object lives.
+    pub fn is_live(self) -> bool
+        ensures { result ≡ is_live self }
+    {
+        matches!(self, Life::Live)
+    }
+
+    /// Whether its deletion was asked, and its cleanup wasn't done.
+    pub fn is_asked(self) -> bool
+        ensures { result ≡ is_asked self }
+    {
+        matches!(self, Life::Asked)
+    }
+
+    /// Whether its cleanup was done, and it wasn't destroyed.
+    pub fn is_cleaned(self) -> bool
+        ensures { result ≡ is_cleaned self }
+    {
+        matches!(self, Life::Cleaned)
+    }
+
+    /// Whether its deletion was asked and isn't finished.
+    pub fn is_ending(self) -> bool
+        ensures { result ≡ (is_asked self || is_cleaned self) }
+    {
+        matches!(self, Life::Asked | Life::Cleaned)
+    }
+}
+
 /// Where a request is.
 #[derive(Clone, Copy, Debug, PartialEq, Eq)]
 pub enum Place {
@@ -21,6 +55,24 @@ pub enum Place {
     Owned,
     /// It was completed.
     Done,
+}
+
+impl Place {
+    ghost use Rattle.wdf_core.specs.State.{is_owned, is_done};
+
+    /// Whether the driver owns the request.
+    pub fn is_owned(self) -> bool
+        ensures { result ≡ is_owned self }
+    {
+        matches!(self, Place::Owned)
+    }
+
+    /// Whether the request was completed.
+    pub fn is_done(self) -> bool
+        ensures { result ≡ is_done self }
+    {
+        matches!(self, Place::Done)
+    }
 }
 
 /// One running callback: its number, its queue, its request, and the statement at which it stands.
@@ -54,4 +106,21 @@ pub enum Group {
     Destroys,
     /// The posts, by agent.
     Posts,
+}
+
+impl Group {
+    ghost use Rattle.wdf_core.specs.Ready.{later as group_after};
+
+    /// The group after this one.
+    pub fn later(self) -> Option<Group>
+        ensures { result ≡ group_after self }
+    {
+        match self {
+            Group::OwnEvent => Some(Group::Reads),
+            Group::Reads => Some(Group::Cleanups),
+            Group::Cleanups => Some(Group::Destroys),
+            Group::Destroys => Some(Group::Posts),
+            Group::Posts => None,
+        }
+    }
 }

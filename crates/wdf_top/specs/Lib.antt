@@ -1,0 +1,7 @@
+pub mod Words
+pub mod Tokens
+pub mod Form
+pub mod Input
+pub mod Said
+pub mod Top
+pub mod Refusals

@@ -1,0 +1,16 @@
+//! The top call: words and bytes in, bytes and a status out.
+#![tactic(auto)]
+
+mod form;
+mod input;
+mod lexer;
+mod order;
+mod refusal;
+mod say;
+mod token;
+mod top;
+mod trace;
+mod words;
+
+pub use form::one_plan;
+pub use top::top_plain;

@@ -1,0 +1,115 @@
+ghost use Rattle.std.specs.Prelude.{◌≡◌, map, string_bytes};
+ghost use Rattle.std.specs.Char.{is_ascii_digit};
+ghost use Rattle.std.specs.List.{list_all};
+ghost use Rattle.wdf_top.specs.Words.{form_of_word, form_with_number, form_of_words, number_word};
+
+use crate::lexer::small_number;
+
+/// What the program was asked to do. `run` isn't served yet, so it is no form.
+#[derive(Clone, Copy, Debug, PartialEq, Eq)]
+pub enum Form {
+    /// Write the scenario in its canonical form.
+    Check,
+    /// Write the run that the scenario's own picks make.
+    Order,
+    /// Write the run that the words of a seed pick.
+    Seed(u64),
+    /// Judge a trace.
+    Replay,
+    /// Write the scenario that a seed generates.
+    Gen(u64),
+    /// Run the scenario that a seed generates, and write the summary.
+    Load(u64),
+}
+
+/// The form that the words after the program's name ask for, if they are one.
+pub fn form_of(words: &[String]) -> Option<Form>
+    ensures { result ≡ form_of_words (map string_bytes words.now) }
+{
+    match words {
+        [word] => form_of_word(word.as_str()),
+        [word, number] => form_with_number(word.as_str(), number_word(number.as_bytes())?),
+        _ => None,
+    }
+}
+
+fn form_of_word(word: &str) -> Option<Form>
+    ensures { result ≡ form_of_word word.now }
+{
+    if word == "check" {
+        Some(Form::Check)
+    } else if word == "order" {
+        Some(Form::Order)
+    } else if word == "replay" {
+        Some(Form::Replay)
+    } else {
+        None
+    }
+}
+
+fn form_with_number(word: &str, number: u64) -> Option<Form>
+    ensures { result ≡ form_with_number word.now number }
+{
+    if word == "seed" {
+        Some(Form::Seed(number))
+    } else if word == "gen" {
+        Some(Form::Gen(number))
+    } else if word == "load" {
+        Some(Form::Load(number))
+    } else {
+        None
+    }
+}
+
+pub(crate) fn is_number(word: &[u8]) -> bool
+    ensures { result ≡ list_all is_ascii_digit word.now }
+{
+    word.iter().all(|byte| byte.is_ascii_digit())
+}
+
+/// The number that one to twenty decimal digits write.
+fn number_word(word: &[u8]) -> Option<u64>
+    ensures { result ≡ number_word word.now }
+{
+    if (1..=20).contains(&word.len()) && is_number(word) {
+        small_number(word)
+    } else {
+        None
+    }
+}
+
+#[cfg(test)]
+mod tests {
+    use super::*;
+    use std::test::Fail;
+
+    #[test]
+    fn knows_its_words(rt: HostRuntime) -> Result<(), Fail> {
+        let alloc = rt.alloc();
+        for (line, form) in [
+            ("check", Some(Form::Check)),
+            ("order", Some(Form::Order)),
+            ("seed 7", Some(Form::Seed(7))),
+            ("seed 00000000000000000007", Some(Form::Seed(7))),
+            ("replay", Some(Form::Replay)),
+            ("gen 18446744073709551615", Some(Form::Gen(u64::MAX))),
+            ("load 0", Some(Form::Load(0))),
+            ("", None),
+            ("run", None),
+            ("--help", None),
+            ("order 1", None),
+            ("seed", None),
+            ("seed -1", None),
+            ("seed 18446744073709551616", None),
+            ("seed 000000000000000000007", None),
+            ("seed 1 2", None),
+        ] {
+            let mut words = Vec::new(alloc);
+            for word in line.split_whitespace() {
+                words.push(String::from_str(alloc, word)?)?;
+            }
+            assert_eq!(rt; form_of(words.as_slice()), form, "at {line:?}");
+        }
+        Ok(())
+    }
+}
