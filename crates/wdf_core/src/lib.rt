@@ -7,6 +7,8 @@ mod machine;
 mod parts;
 mod ready;
 mod tables;
+#[cfg(test)]
+mod tests;
 
 pub use machine::Core;
 pub use tables::{Frame, Group, Intent, Life, Place};

@@ -1,24 +1,20 @@
 -- What follows from what the top call tells, a lemma for each of its clauses.
-use Rattle.std.proofs.Common.{ℕ, zero, suc, ◌≡◌, ◌+◌, ◌<◌, ◌≤◌, ◌⊎◌, inl, inr, List, [], ◌∷◌, ◌++◌, length, Option, Some, None, refl, sym, ap, ◌∙◌, arith, IsTrue, Bool, true, false, if◌then◌else◌, nat_le, ◌==◌, ◌||◌, length-append, subst, ◌≢◌}
+use Rattle.std.proofs.Common.{ℕ, ◌≡◌, ◌+◌, ◌≤◌, ◌⊎◌, inl, inr, List, [], length, Option, Some, None, refl, sym, ap, ◌∙◌, arith, Bool, true, false, if◌then◌else◌, nat_le, length-append, ◌≢◌}
 use Rattle.std.proofs.lemmas.List.{append-nil}
 use Rattle.wdf_base.specs.declared.plan.Plan.{Plan}
-use Rattle.wdf_base.specs.declared.event.Ending.{Ending}
 use Rattle.wdf_base.specs.declared.event.Ending.TheVariants as ending
 use Rattle.wdf_base.specs.declared.event.Event.{Event}
 use Rattle.wdf_base.specs.Meaning.{Meaning}
 use Rattle.wdf_core.specs.Machine.{ending_of, is_open, ready, state_after}
-use Rattle.wdf_dev.specs.Agents.{agent_meaning}
-use Rattle.wdf_io.specs.Outside.{Rose, Gains, Takes}
+use Rattle.wdf_io.specs.Outside.{Gains, Takes}
 use Rattle.wdf_top.specs.declared.input.TheConstants.{INPUT_LIMIT}
 use Rattle.wdf_top.specs.Form.{StandsFor}
-use Rattle.wdf_top.specs.Input.{TakesAll, TakesCount, TakesAtMost, UsesUp}
+use Rattle.wdf_top.specs.Input.{TakesAll, TakesAtMost}
 use Rattle.wdf_top.specs.Said.{Sinking, Says, IsCutShort}
 use Rattle.wdf_top.specs.declared.refusal.Refusal.{Refusal}
 use Rattle.wdf_top.specs.declared.refusal.Refusal.TheVariants.{ReadFault, TooLarge, NoMemory, NotBuilt}
 use Rattle.wdf_top.specs.Refusals.{refusal_line, refusal_status, IsRead, IsCause}
-use Rattle.wdf_top.specs.declared.words.Form.{Form}
-use Rattle.wdf_top.specs.declared.words.Form.TheVariants.{Check, Order, Seed, Replay, Gen, Load}
-use Rattle.wdf_top.specs.Top.{service_of, is_later, TellsPlan, read_fault_line, too_large_line, not_built_line, Service, Usage, Run, Later, Sourcing, Tells, IsDue, IsOrderDue, IsUnread, IsAnswered, IsTooLarge, IsReadFault, IsOutOfMemory, Orders, IsTraceOf, is_status, status_of, Stayed, no_memory_line}
+use Rattle.wdf_top.specs.Top.{TellsPlan, read_fault_line, too_large_line, not_built_line, Run, Sourcing, Tells, IsOrderDue, IsAnswered, Orders, Stayed, no_memory_line}
 
 -- the answer's own status: any but those that tell why there is none
 order_due_answer : (s : Sourcing) (text : List ℕ) (status : ℕ) → IsOrderDue s text status → status ≢ 12 → status ≢ 14 → status ≢ 15 → IsAnswered s text status

@@ -14,3 +14,6 @@ mod words;
 
 pub use form::one_plan;
 pub use top::top_plain;
+
+#[cfg(test)]
+mod tests;

@@ -1,5 +1,4 @@
 -- A picked run has ended, so its trace can be written.
-use Rattle.std.proofs.Common.{◌≡◌}
 use Rattle.wdf_dev.specs.Agents.{agent_meaning}
 use Rattle.wdf_top.proofs.Due.{has_ended}
 use Rattle.wdf_top.proofs.top.order_plan.Goals as goal

@@ -1,7 +1,4 @@
 -- What `order` answers to an input that is told, and how far it reads.
-use Rattle.std.proofs.Common.{ap, ◌≡◌}
-use Rattle.wdf_top.specs.Top.{service_of, Tells, Run, sourcing}
-use Rattle.wdf_top.specs.Said.{sinking}
 use Rattle.wdf_top.proofs.Due.{order_answers, no_further}
 use Rattle.wdf_top.proofs.top.top_plain.Goals as goal
 

@@ -1,5 +1,5 @@
 -- A line that was cut short leaves a front of all lines; a whole line is one line more.
-use Rattle.std.proofs.Common.{◌≤◌, arith}
+use Rattle.std.proofs.Common.{arith}
 use Rattle.wdf_top.proofs.Writing.{cut_behind, lines_at, lines_more, gains_more}
 use Rattle.wdf_top.proofs.trace.write_events.Goals as goal
 

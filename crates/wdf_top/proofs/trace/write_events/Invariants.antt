@@ -1,5 +1,5 @@
 -- The lines of the events before this one were written, and no fault was forgotten.
-use Rattle.std.proofs.Common.{◌≡◌, ◌≤◌, take}
+use Rattle.std.proofs.Common.{◌≤◌, take}
 use Rattle.wdf_io.specs.Outside.{Gains}
 use Rattle.wdf_trace.specs.Lines.{lines_from}
 use Rattle.wdf_top.proofs.trace.write_events.Given as goal
