@@ -1,1 +1,11 @@
+pub mod Callbacks
+pub mod Calls
+pub mod Items
+pub mod Kinds
 pub mod Meaning
+pub mod Name
+pub mod Plan
+pub mod Resolved
+pub mod Same
+pub mod SamePlan
+pub mod Words

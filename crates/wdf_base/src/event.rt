@@ -1,6 +1,6 @@
 use crate::call::{Call, Callback};
-use crate::ids::{Cpu, Handle};
-use crate::value::Value;
+use crate::ids::{Cpu, FrameId, Handle};
+use crate::value::{Status, Value};
 
 /// Who takes a step of the machine.
 #[derive(Clone, Copy, Debug, PartialEq, Eq, Hash)]
@@ -11,13 +11,111 @@ pub enum Actor {
     Framework,
     /// An agent of the outside, counted from 0: the Plug and Play manager, an app, a device, a target.
     Agent(u16),
+    /// The clock.
+    Clock,
+}
+
+/// What the Plug and Play manager asks of a device.
+#[derive(Clone, Copy, Debug, PartialEq, Eq, Hash)]
+pub enum Ask {
+    Start,
+    Sleep,
+    Wake,
+    Rebalance,
+    Remove,
+    Surprise,
+}
+
+/// A step that the framework itself takes in a Plug and Play or power sequence.
+#[derive(Clone, Copy, Debug, PartialEq, Eq, Hash)]
+pub enum Stage {
+    Hardware,
+    NoHardware,
+    /// An interrupt is put on the list of enabled ones.
+    Enabled,
+    /// An interrupt is taken off that list.
+    Disabled,
+    QueuesUp,
+    QueuesDown,
+    Settled,
+    Quiet,
+    Closed,
+    Working,
+    Sleeping,
+    Removed,
+}
+
+/// One step of a Plug and Play or power sequence of a device.
+#[derive(Clone, Copy, Debug, PartialEq, Eq)]
+pub enum Step {
+    /// A callback runs: the device's own, or EvtInterruptEnable or EvtInterruptDisable of one of its
+    /// interrupts.
+    Run {
+        callback: Callback,
+        interrupt: Option<Handle>,
+    },
+    /// The framework passes a stage, for one interrupt where it enables or disables that.
+    Pass {
+        stage: Stage,
+        interrupt: Option<Handle>,
+    },
+}
+
+/// Whether a register is read or written.
+#[derive(Clone, Copy, Debug, PartialEq, Eq, Hash)]
+pub enum Access {
+    Read,
+    Write,
+}
+
+/// What a device does on its side of the hardware.
+#[derive(Clone, Copy, Debug, PartialEq, Eq)]
+pub enum Action {
+    /// A register of the plan takes a value.
+    Set { register: u32, value: u64 },
+    /// The line of an interrupt becomes 1.
+    Raise { interrupt: Handle },
+    /// The line of an interrupt becomes 0.
+    Lower { interrupt: Handle },
 }
 
 /// What an agent posts to the framework.
 #[derive(Clone, Copy, Debug, PartialEq, Eq)]
 pub enum Post {
-    /// A read request of `length` bytes for a device.
-    Read { device: Handle, length: u64 },
+    /// A read request of `length` bytes for a device, by an app.
+    Read {
+        device: Handle,
+        length: u64,
+    },
+    /// A write request of `length` bytes for a device, by an app.
+    Write {
+        device: Handle,
+        length: u64,
+    },
+    /// A control request for a device, by an app.
+    Control {
+        device: Handle,
+        code: u64,
+        length: u64,
+    },
+    /// The cancel of the request that the app's `arrival`-th arrival made, counted from 1.
+    Cancel {
+        arrival: u64,
+    },
+    /// What the Plug and Play manager asks of a device.
+    Ask {
+        ask: Ask,
+        device: Handle,
+    },
+    /// What a device does.
+    Act {
+        action: Action,
+    },
+    /// A target is done with a request.
+    Done {
+        request: Handle,
+        status: Status,
+    },
 }
 
 /// One step of the machine, with everything that its trace line tells.
@@ -30,11 +128,54 @@ pub enum Event {
         object: Handle,
         request: Option<Handle>,
     },
+    /// A step inside a frame: a `let`, an `if` or a `repeat` in this line of the text.
+    Local {
+        cpu: Cpu,
+        line: u32,
+    },
+    /// A value is printed.
+    Log {
+        cpu: Cpu,
+        value: Value,
+    },
+    /// A frame begins to spend a number of ticks.
+    Spend {
+        cpu: Cpu,
+        ticks: u64,
+    },
+    /// A register of the plan was read as `value`, or `value` was written to it.
+    Register {
+        cpu: Cpu,
+        access: Access,
+        register: u32,
+        value: u64,
+    },
     /// A framework call was made and answered.
     Did {
         cpu: Cpu,
         call: Call,
         answer: Value,
+    },
+    /// A framework call was made, and its frame waits.
+    Waiting {
+        cpu: Cpu,
+        call: Call,
+    },
+    /// The wait of a frame's call is over, and the call is answered.
+    Woke {
+        cpu: Cpu,
+        call: Call,
+        answer: Value,
+    },
+    /// A waiting frame leaves its processor.
+    Park {
+        cpu: Cpu,
+        frame: FrameId,
+    },
+    /// A parked frame goes on.
+    Unpark {
+        cpu: Cpu,
+        frame: FrameId,
     },
     /// A callback ended with `value`.
     End {
@@ -42,6 +183,23 @@ pub enum Event {
         callback: Callback,
         object: Handle,
         value: Value,
+    },
+    /// The driver made a mistake in this line of the text.
+    Fault {
+        cpu: Cpu,
+        fault: Fault,
+        line: u32,
+    },
+    /// A device passes a stage, for one interrupt where it enables or disables that.
+    Stage {
+        device: Handle,
+        stage: Stage,
+        interrupt: Option<Handle>,
+    },
+    /// The framework completes a request.
+    Complete {
+        request: Handle,
+        status: Status,
     },
     /// The cleanup of an object whose deletion was asked.
     Cleanup {
@@ -51,18 +209,37 @@ pub enum Event {
     Destroy {
         object: Handle,
     },
-    /// An agent posted. `answer` is the request that an arrival made.
+    /// An agent posted. `answer` is the request that an arrival made or that a cancel reached.
     Posted {
         agent: u16,
         post: Post,
         answer: Option<Handle>,
+    },
+    /// The clock shows this new time.
+    Tick {
+        time: u64,
     },
 }
 
 /// A mistake of the driver that ends the run.
 #[derive(Clone, Copy, Debug, PartialEq, Eq, Hash)]
 pub enum Fault {
+    StaleHandle,
+    WrongKind,
+    IrqlTooHigh,
     NotOwned,
+    CompleteWhileMarked,
+    CompleteBeforeCancelCallback,
+    MarkedTwice,
+    AckOutsideStop,
+    NoReferenceHeld,
+    DeleteNotAllowed,
+    LockHeldAlready,
+    LockNotHeld,
+    ReturnHoldingLock,
+    HardwareReleased,
+    SyncInOwnScope,
+    ScriptError,
 }
 
 /// How a run stands: whether a step may follow, and if not, why.

@@ -4,10 +4,19 @@ use crate::ids::Handle;
 #[derive(Clone, Copy, Debug, PartialEq, Eq, Hash)]
 pub enum Status {
     Success,
+    Cancelled,
+    Unsuccessful,
+    InvalidDeviceRequest,
+    InvalidDeviceState,
+    NoMoreEntries,
+    WdfPaused,
+    WdfBusy,
+    InsufficientResources,
+    DeletePending,
 }
 
 /// A value of a driver script.
-#[derive(Clone, Copy, Debug, PartialEq, Eq)]
+#[derive(Clone, Copy, Debug, PartialEq, Eq, Hash)]
 pub enum Value {
     /// An unsigned number, which wraps at 64 bits.
     Num(u64),

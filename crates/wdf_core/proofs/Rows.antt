@@ -14,11 +14,7 @@ use Rattle.wdf_core.specs.Machine.{ready, state_after, ending_of, cpu0, success,
 -- what an agent that posts reads of 16 bytes has left to post
 abbrev left : ℕ → Event → ℕ
 left n (event.Posted agent post answer) = n - 1
-left n (event.Start cpu callback object request) = n
-left n (event.Did cpu call answer) = n
-left n (event.End cpu callback object value) = n
-left n (event.Cleanup object) = n
-left n (event.Destroy object) = n
+left n _ = n
 
 abbrev next_post : ℕ → Option Post
 next_post n = if n == 0 then None else Some (Read (handle_of DEVICE) 16)
@@ -27,8 +23,13 @@ next_post n = if n == 0 then None else Some (Read (handle_of DEVICE) 16)
 abbrev reads : ℕ → Meaning ℕ
 reads n = record { begin = λ plan k. if k == 1 then n else 0; fold = left; due = next_post; next = λ a. None; value = λ a w. 0 }
 
+-- two agents beside the Plug and Play manager: an app and a device
 abbrev plan_of : ℕ → Plan
-plan_of limit = record { limit = limit; objects = 16; device = 68 ∷ []; queue = 81 ∷ []; app = 65 ∷ []; length = 16 }
+plan_of limit = record {
+  cpus = 1; limit = limit; objects = 16; names = []; declared = []; classes = []; registers = []; whens = []; pnp = [];
+  agents = record { name = 4; posts = [] } ∷ record { name = 2; posts = [] } ∷ [];
+  exprs = []; scripts = []; picks = [];
+}
 
 -- the run with the next picked event, where one may follow
 abbrev with_next : List Event → Option Event → List Event

@@ -52,6 +52,7 @@ event_of f (Return value) = event.End cpu0 EvtIoRead f.object value
 -- the request that an arrival makes
 abbrev pub arrival : {A : Type 0} → State A → Post → Option Handle
 arrival S (Read device bytes) = Some (handle_of (next_id S))
+arrival S _ = None
 
 abbrev pub post_event : {A : Type 0} → State A → ℕ → Post → Event
 post_event S agent post = event.Posted agent post (arrival S post)
@@ -100,6 +101,7 @@ ARRIVALS = 4096
 -- a read of one byte or more, for the device, while requests may arrive
 abbrev pub may_arrive : {A : Type 0} → State A → Post → Bool
 may_arrive S (Read device bytes) = device.id.0 == DEVICE && device.name == 2 && nat_lt 0 bytes && nat_lt S.arrived ARRIVALS
+may_arrive S _ = false
 
 -- the request that a call names
 abbrev pub request_in : Arg → Option ℕ
@@ -126,6 +128,8 @@ may S (event.Cleanup object) = is_asked (life_of S object.id.0) && is_done (plac
 may S (event.Destroy object) = is_cleaned (life_of S object.id.0)
 -- own: the first machine takes reads
 may S (event.Posted agent post answer) = may_arrive S post
+-- own: no other event comes in the first machine
+may S _ = false
 
 -- The events that may follow in a state, in their order; none once there are as many as the limit. (own)
 abbrev pub ready_in : {A : Type 0} → Meaning A → Plan → State A → List Event
@@ -150,6 +154,7 @@ deeds S (event.Cleanup object) = Clean object.id.0 ∷ []
 deeds S (event.Destroy object) = End_life object.id.0 ∷ []
 deeds S (event.Posted agent post None) = []
 deeds S (event.Posted agent post (Some request)) = Arrive request.id.0 ∷ []
+deeds S _ = []
 
 abbrev pub after : {A : Type 0} → Meaning A → State A → Event → State A
 after m S e = counted m e (all_done (deeds S e) S)

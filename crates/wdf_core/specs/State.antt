@@ -1,6 +1,7 @@
 -- The state of the machine: one part for each piece of the framework, the agents, and two counts.
 -- Maps are lists by id. No object has the id 0, whose entry is that of an object that is gone.
-use Rattle.std.specs.Prelude.{if◌then◌else◌, ℕ, Bool, true, false, ◌==◌, List, [], ◌∷◌, length, map, Option, None, unwrap_or, slice_get}
+use Rattle.std.specs.List.{range_with_len}
+use Rattle.std.specs.Prelude.{if◌then◌else◌, ℕ, ◌+◌, Bool, true, false, ◌==◌, List, [], ◌∷◌, length, map, Option, None, unwrap_or, slice_get}
 use Rattle.wdf_base.specs.Meaning.{Meaning}
 use Rattle.wdf_base.specs.declared.plan.Plan.{Plan}
 use Rattle.wdf_base.specs.declared.ids.Handle.{Handle}
@@ -58,9 +59,9 @@ name_of id = if id == 1 then 0 else if id == DEVICE then 2 else if id == QUEUE t
 abbrev pub handle_of : ℕ → Handle
 handle_of id = record { id = record { 0 = id }; name = name_of id }
 
--- The numbers of the agents: the Plug and Play manager, the app, the device. (own)
+-- The numbers of the agents: the Plug and Play manager is 0, the others of the plan follow. (own)
 abbrev pub agent_numbers : Plan → List ℕ
-agent_numbers plan = 0 ∷ 1 ∷ 2 ∷ []
+agent_numbers plan = range_with_len 0 (1 + length plan.agents)
 
 -- the agents as they are at the opening
 abbrev pub agents_of : {A : Type 0} → Meaning A → Plan → List A

@@ -59,16 +59,11 @@ impl<A: Agent> Parts<A> {
         requires agents { agents.items ≡ agents_of A.meaning plan.now }
         ensures opening { IfOk result (λ parts. parts ≡ opening A.meaning plan.now) }
     {
+        note_few(plan, &agents);
         let mut lives = Vec::with_capacity(alloc, OBJECTS)?;
-        lives.push_reserved(Life::Gone);
-        lives.push_reserved(Life::Live);
-        lives.push_reserved(Life::Live);
-        lives.push_reserved(Life::Live);
+        lives.extend_from_slice(&[Life::Gone, Life::Live, Life::Live, Life::Live])?;
         let mut places = Vec::with_capacity(alloc, OBJECTS)?;
-        places.push_reserved(Place::Done);
-        places.push_reserved(Place::Done);
-        places.push_reserved(Place::Done);
-        places.push_reserved(Place::Done);
+        places.extend_from_slice(&[Place::Done; 4])?;
         Ok(Parts {
             lives,
             places,
@@ -81,7 +76,7 @@ impl<A: Agent> Parts<A> {
         })
     }
 
-    /// How many events there were. A run has few objects and few agents.
+    /// How many events there were. The other clauses bound how many objects and agents there are.
     pub(crate) fn number(&self) -> u32
         ensures number { result ≡ self.now.number }
         ensures objects { next_id self.now ≤ 4100 }
@@ -110,6 +105,14 @@ impl<A: Agent> Parts<A> {
             Ending::Finished
         }
     }
+}
+
+/// The numbers of a plan's agents have 16 bits.
+fn note_few<A: Agent>(plan: &Plan, agents: &[A])
+    requires { agents.now ≡ agents_of A.meaning plan.now }
+    ensures { length agents.now < 2 ^ 16 }
+{
+    let _numbers = plan.agent_len();
 }
 
 /// Whether some request isn't completed.

@@ -1,7 +1,8 @@
 use crate::Core;
+use std::alloc::Global;
 use std::test::Fail;
 use wdf_base::{
-    Actor, Agent, Arg, Call, CallKind, Callback, Cpu, Ending, Event, Handle, Name, ObjectId, Plan,
+    Actor, Agent, AgentInfo, Arg, Call, CallKind, Callback, Cpu, Ending, Event, Handle, Items, Memory, ObjectId, Plan,
     Post, Status, Value,
 };
 
@@ -61,25 +62,77 @@ const REQUEST: Handle = Handle {
 
 const SUCCESS: Value = Value::Stat(Status::Success);
 
+/// What a reader expects of one read, from its post to its end.
+const ONE_READ: [Event; 6] = [
+    Event::Posted {
+        agent: 1,
+        post: POST,
+        answer: Some(REQUEST),
+    },
+    Event::Start {
+        cpu: Cpu(0),
+        callback: Callback::EvtIoRead,
+        object: QUEUE,
+        request: Some(REQUEST),
+    },
+    Event::Did {
+        cpu: Cpu(0),
+        call: Call {
+            kind: CallKind::WdfRequestComplete,
+            count: 2,
+            a: Arg::Val(Value::Obj(REQUEST)),
+            b: Arg::Val(SUCCESS),
+            c: Arg::Val(Value::Num(0)),
+        },
+        answer: SUCCESS,
+    },
+    Event::End {
+        cpu: Cpu(0),
+        callback: Callback::EvtIoRead,
+        object: QUEUE,
+        value: SUCCESS,
+    },
+    Event::Cleanup { object: REQUEST },
+    Event::Destroy { object: REQUEST },
+];
+
+/// A plan with an app and a device as agents beside the Plug and Play manager.
+fn plan_of(alloc: Global, limit: u32) -> Result<Plan, Memory>
+    ensures { IfOk result (λ plan. (plan.limit ≡ limit) × (length plan.agents ≡ 2)) }
+{
+    let mut agents = Items::new(alloc);
+    for name in [4, 2] {
+        agents.push(AgentInfo {
+            name,
+            posts: Items::new(alloc),
+        })?;
+    }
+    Ok(Plan {
+        cpus: 1,
+        limit,
+        objects: 16,
+        names: Items::new(alloc),
+        declared: Items::new(alloc),
+        classes: Items::new(alloc),
+        registers: Items::new(alloc),
+        whens: Items::new(alloc),
+        pnp: Items::new(alloc),
+        agents,
+        exprs: Items::new(alloc),
+        scripts: Items::new(alloc),
+        picks: Items::new(alloc),
+    })
+}
+
 #[test]
 fn one_read(rt: HostRuntime) -> Result<(), Fail> {
-    let plan = Plan {
-        limit: 100,
-        objects: 16,
-        device: Name::new(b"d"),
-        queue: Name::new(b"q"),
-        app: Name::new(b"a"),
-        length: 16,
-    };
-    let agents = Vec::from_array(
-        rt.alloc(),
-        [
-            Reader { reads: false },
-            Reader { reads: true },
-            Reader { reads: false },
-        ],
-    )?;
-    let mut core = Core::make(rt.alloc(), plan, agents)?;
+    let plan = plan_of(rt.alloc(), 100)?;
+    let readers = [
+        Reader { reads: false },
+        Reader { reads: true },
+        Reader { reads: false },
+    ];
+    let mut core = Core::make(rt.alloc(), plan, Vec::from_array(rt.alloc(), readers)?)?;
     assert_eq!(rt; core.first_for(Actor::Agent(1)), Some(0));
     assert_eq!(rt; core.ending(), Ending::Running);
     for _ in 0..6 {
@@ -90,48 +143,8 @@ fn one_read(rt: HostRuntime) -> Result<(), Fail> {
     assert_eq!(rt; core.ending(), Ending::Finished);
     assert_eq!(rt; core.plan().limit, 100);
     assert_eq!(rt; core.journal_len(), 6);
-    assert_eq!(rt;
-        core.journal_at(0),
-        Event::Posted {
-            agent: 1,
-            post: POST,
-            answer: Some(REQUEST)
-        }
-    );
-    assert_eq!(rt;
-        core.journal_at(1),
-        Event::Start {
-            cpu: Cpu(0),
-            callback: Callback::EvtIoRead,
-            object: QUEUE,
-            request: Some(REQUEST)
-        }
-    );
-    let call = Call {
-        kind: CallKind::WdfRequestComplete,
-        count: 2,
-        a: Arg::Val(Value::Obj(REQUEST)),
-        b: Arg::Val(SUCCESS),
-        c: Arg::Val(Value::Num(0)),
-    };
-    assert_eq!(rt;
-        core.journal_at(2),
-        Event::Did {
-            cpu: Cpu(0),
-            call,
-            answer: SUCCESS
-        }
-    );
-    assert_eq!(rt;
-        core.journal_at(3),
-        Event::End {
-            cpu: Cpu(0),
-            callback: Callback::EvtIoRead,
-            object: QUEUE,
-            value: SUCCESS
-        }
-    );
-    assert_eq!(rt; core.journal_at(4), Event::Cleanup { object: REQUEST });
-    assert_eq!(rt; core.journal_at(5), Event::Destroy { object: REQUEST });
+    for (k, event) in ONE_READ.iter().enumerate() {
+        assert_eq!(rt; core.journal_at(k), *event);
+    }
     Ok(())
 }

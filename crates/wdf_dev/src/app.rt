@@ -1,19 +1,19 @@
 ghost use Rattle.std.specs.Prelude.{◌≡◌};
-ghost use Rattle.wdf_dev.specs.App.{app_after, app_due};
+ghost use Rattle.wdf_dev.specs.App.{after_post, app_after, app_due, app_next, next_line};
 
-use wdf_base::{Event, Handle, Post};
+use wdf_base::{Event, Items, MANY, Post, PostLine};
 
-/// An app that asks a device for one read.
-#[derive(Clone, Copy, Debug)]
+/// An agent that posts its lines in order, each from its tick on. One without lines never posts.
+#[derive(Debug, Drop)]
 pub struct App {
     /// Its number among the agents.
     pub agent: u16,
-    /// The device that it reads from.
-    pub device: Handle,
-    /// How many bytes it asks for.
-    pub length: u64,
-    /// Whether it has posted its read.
-    pub posted: bool,
+    /// What it posts.
+    pub lines: Items<PostLine, MANY>,
+    /// How many of its lines it has posted.
+    pub posted: u32,
+    /// The tick that the clock shows.
+    pub clock: u64,
 }
 
 impl App {
@@ -21,23 +21,50 @@ impl App {
     pub fn feed(&mut self, event: &Event)
         ensures { self.new ≡ app_after self.old event.now }
     {
-        if let Event::Posted { agent, .. } = event {
-            if *agent == self.agent {
-                self.posted = true;
-            }
+        match event {
+            Event::Posted { agent, .. } => self.note_post(*agent),
+            Event::Tick { time } => self.clock = *time,
+            _ => {}
         }
     }
 
-    /// Its read, until it was posted.
+    /// Counts a post that is its own.
+    fn note_post(&mut self, agent: u16)
+        ensures { self.new ≡ after_post agent self.old }
+    {
+        if agent == self.agent && self.posted < self.lines.len() {
+            self.posted += 1;
+        }
+    }
+
+    /// The line that it posts next.
+    fn next_line(&self) -> Option<PostLine>
+        ensures { result ≡ next_line self.now }
+    {
+        self.lines.as_slice().get(self.posted as usize).copied()
+    }
+
+    /// Its next line's post, if that line's tick is reached.
     pub fn due(&self) -> Option<Post>
         ensures { result ≡ app_due self.now }
     {
-        if self.posted {
-            return None;
+        let line = self.next_line()?;
+        if line.tick <= self.clock {
+            Some(line.post)
+        } else {
+            None
         }
-        Some(Post::Read {
-            device: self.device,
-            length: self.length,
-        })
+    }
+
+    /// The tick of its next line, if that is later.
+    pub fn next_time(&self) -> Option<u64>
+        ensures { result ≡ app_next self.now }
+    {
+        let line = self.next_line()?;
+        if self.clock < line.tick {
+            Some(line.tick)
+        } else {
+            None
+        }
     }
 }

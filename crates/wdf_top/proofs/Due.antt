@@ -8,7 +8,9 @@ use Rattle.wdf_base.specs.Meaning.{Meaning}
 use Rattle.wdf_core.specs.Machine.{ending_of, is_open, ready, state_after}
 use Rattle.wdf_io.specs.Outside.{Gains, Takes}
 use Rattle.wdf_top.specs.declared.input.TheConstants.{INPUT_LIMIT}
+use Rattle.wdf_top.specs.declared.form.FirstForm.{FirstForm}
 use Rattle.wdf_top.specs.Form.{StandsFor}
+use Rattle.wdf_top.specs.FirstPlan.{first_plan}
 use Rattle.wdf_top.specs.Input.{TakesAll, TakesAtMost}
 use Rattle.wdf_top.specs.Said.{Sinking, Says, IsCutShort}
 use Rattle.wdf_top.specs.declared.refusal.Refusal.{Refusal}
@@ -84,10 +86,10 @@ within_limit None after input all small = ([], omega arith, tt)
 within_limit (Some left) after input all small = (input, small, rw all.1 (all.0 ∙ sym (append-nil input)))
 
 -- an input that stands for a plan is answered as the plan is
-pub order_ok : (s : Sourcing) (k : Sinking) (plan : Plan) (answer : ℕ) → ((text : List ℕ) × IsRead s text × StandsFor text plan) → TellsPlan plan k answer → Tells Run s k answer
-order_ok s k plan answer (input, is_read, stands) (text, status, inl traced, said) =
-    (text, status, inl (input, is_read.0, is_read.1, is_read.2, inl (plan, stands, traced)), said)
-order_ok s k plan answer (input, is_read, stands) (text, status, inr wanting, said) =
+pub order_ok : (s : Sourcing) (k : Sinking) (form : FirstForm) (answer : ℕ) → ((text : List ℕ) × IsRead s text × StandsFor text form) → TellsPlan (first_plan form) k answer → Tells Run s k answer
+order_ok s k form answer (input, is_read, stands) (text, status, inl traced, said) =
+    (text, status, inl (input, is_read.0, is_read.1, is_read.2, inl (form, stands, traced)), said)
+order_ok s k form answer (input, is_read, stands) (text, status, inr wanting, said) =
     (text, status, inr (inr (inr (is_read.2, within_limit s.before s.after input is_read.0 is_read.1, wanting.0, wanting.1))), said)
 
 -- a refusal is told

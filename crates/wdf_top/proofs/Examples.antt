@@ -4,7 +4,7 @@ use Rattle.std.proofs.lemmas.Slice.Eq.{bytes_eq-Decides}
 use Rattle.std.specs.Str.{bytes_eq}
 use Rattle.std.specs.Prelude.{codes}
 use Rattle.std.specs.List.{flat_map}
-use Rattle.wdf_base.specs.declared.plan.Plan.{Plan}
+use Rattle.wdf_top.specs.declared.form.FirstForm.{FirstForm}
 use Rattle.wdf_top.specs.declared.token.Operator.TheVariants.{Equal, NotEqual, LessOrEqual, Less}
 use Rattle.wdf_top.specs.declared.token.Token.TheVariants.{Number, Name, Open, Close, Assign, Infix}
 use Rattle.wdf_top.specs.declared.lexer.TokenFault.TheVariants.{NotAscii, BadToken, NumberTooLarge}
@@ -25,7 +25,7 @@ sample = ended (
     ∷ codes "call WdfRequestComplete request SUCCESS" ∷ codes "end" ∷ codes "end" ∷ codes "end"
     ∷ codes "app A" ∷ codes "at 0 read D 16" ∷ codes "end" ∷ [])
 
-abbrev sample_plan : Plan
+abbrev sample_plan : FirstForm
 sample_plan = record { limit = 100; objects = 16; device = codes "D"; queue = codes "Q"; app = codes "A"; length = 16 }
 
 -- names that the test tells apart differ

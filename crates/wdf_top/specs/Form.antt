@@ -4,7 +4,7 @@ use Rattle.std.specs.Prelude.{◌≡◌, ◌≢◌, ℕ, ◌<◌, ◌≤◌, ◌
 use Rattle.std.specs.Char.{is_ascii_digit}
 use Rattle.std.specs.List.{list_all, list_any}
 use Rattle.std.specs.Str.{bytes_eq}
-use Rattle.wdf_base.specs.declared.plan.Plan.{Plan}
+use Rattle.wdf_top.specs.declared.form.FirstForm.{FirstForm}
 use Rattle.wdf_top.specs.declared.token.Token.{Token}
 use Rattle.wdf_top.specs.declared.token.Token.TheVariants.{Number, Name}
 use Rattle.wdf_top.specs.declared.form.Expected.{Expected}
@@ -12,7 +12,7 @@ use Rattle.wdf_top.specs.declared.form.Expected.TheVariants.{Word, Count}
 use Rattle.wdf_top.specs.Tokens.{token_lines}
 
 -- the token lines of the form, spelled from its plan
-abbrev pub form_lines : Plan → List (List Token)
+abbrev pub form_lines : FirstForm → List (List Token)
 form_lines plan =
     (Name (codes "cpus") ∷ Number 1 ∷ [])
     ∷ (Name (codes "limit") ∷ Number plan.limit ∷ [])
@@ -73,12 +73,12 @@ pub record AreNames (device queue app : List ℕ) : Type 0 where
   pub queue_app : queue ≢ app
 
 -- a plan that the form may have
-abbrev pub IsFirstPlan : Plan → Type 0
-IsFirstPlan plan = AreInRange plan.limit plan.objects plan.length × AreNames plan.device plan.queue plan.app
+abbrev pub IsFirstForm : FirstForm → Type 0
+IsFirstForm plan = AreInRange plan.limit plan.objects plan.length × AreNames plan.device plan.queue plan.app
 
 -- the text is the form, spelled from this plan
-abbrev pub StandsFor : List ℕ → Plan → Type 0
-StandsFor text plan = (token_lines text ≡ Some (form_lines plan)) × IsFirstPlan plan
+abbrev pub StandsFor : List ℕ → FirstForm → Type 0
+StandsFor text plan = (token_lines text ≡ Some (form_lines plan)) × IsFirstForm plan
 
 -- the token that is looked for
 abbrev pub expected_token : Expected → Token

@@ -1,6 +1,6 @@
 -- Why `order` has no run to write: the line and the status of each reason, and when it comes. (own)
 use Rattle.std.specs.Prelude.{ℕ, ◌≡◌, ◌≤◌, ◌+◌, List, length}
-use Rattle.wdf_base.specs.declared.plan.Plan.{Plan}
+use Rattle.wdf_top.specs.declared.form.FirstForm.{FirstForm}
 use Rattle.wdf_io.specs.Outside.{Rose}
 use Rattle.wdf_top.specs.declared.input.InputError.{InputError}
 use Rattle.wdf_top.specs.declared.input.InputError.TheVariants as input
@@ -38,4 +38,4 @@ abbrev pub IsCause : Sourcing → Refusal → Type 0
 IsCause s ReadFault = Rose s.faults_before s.faults_after × TakesAtMost s.before s.after INPUT_LIMIT
 IsCause s TooLarge = TakesCount s.before s.after (INPUT_LIMIT + 1) × (s.faults_after ≡ s.faults_before)
 IsCause s NoMemory = (s.faults_after ≡ s.faults_before) × TakesAtMost s.before s.after INPUT_LIMIT
-IsCause s NotBuilt = (text : List ℕ) × IsRead s text × ((plan : Plan) → StandsFor text plan → ⊥)
+IsCause s NotBuilt = (text : List ℕ) × IsRead s text × ((form : FirstForm) → StandsFor text form → ⊥)

@@ -1,5 +1,5 @@
 -- What the program answers: which text is to be written, and with which status. (own)
-use Rattle.std.specs.Prelude.{ℕ, ◌≡◌, ◌≤◌, ◌+◌, ◌⊎◌, ◌==◌, ◌||◌, Bool, true, false, List, [], length, codes, Option, None, Some}
+use Rattle.std.specs.Prelude.{◌++◌, ℕ, ◌≡◌, ◌≤◌, ◌+◌, ◌⊎◌, ◌==◌, ◌||◌, Bool, true, false, List, [], length, codes, Option, None, Some}
 use Rattle.wdf_base.specs.declared.plan.Plan.{Plan}
 use Rattle.wdf_base.specs.declared.event.Event.{Event}
 use Rattle.wdf_base.specs.declared.event.Ending.{Ending}
@@ -7,12 +7,15 @@ use Rattle.wdf_base.specs.declared.event.Ending.TheVariants as ending
 use Rattle.wdf_model.specs.Runs.{Picked}
 use Rattle.wdf_core.specs.Machine.{ready, ending_of}
 use Rattle.wdf_dev.specs.Agents.{agent_meaning}
-use Rattle.wdf_trace.specs.Lines.{text_of}
+use Rattle.wdf_trace.specs.Lines.{lines_from}
+use Rattle.wdf_trace.specs.Endings.{ending_text}
 use Rattle.wdf_io.specs.Outside.{Rose}
 use Rattle.wdf_top.specs.declared.words.Form.{Form}
 use Rattle.wdf_top.specs.declared.words.Form.TheVariants.{Check, Order, Seed, Replay, Gen, Load}
 use Rattle.wdf_top.specs.declared.input.TheConstants.{INPUT_LIMIT}
+use Rattle.wdf_top.specs.declared.form.FirstForm.{FirstForm}
 use Rattle.wdf_top.specs.Form.{StandsFor}
+use Rattle.wdf_top.specs.FirstPlan.{first_plan}
 use Rattle.wdf_top.specs.Input.{TakesAll, TakesCount, TakesAtMost}
 use Rattle.wdf_top.specs.Said.{Sinking, Says}
 
@@ -39,6 +42,10 @@ status_of (ending.Fault f) = 3
 status_of ending.Stuck = 4
 status_of ending.Limit = 5
 
+-- The text of a whole run: a line for each event, and the ending's line.
+abbrev pub text_of : Plan → List Event → ℕ → Ending → List ℕ
+text_of plan run events e = lines_from plan 1 run ++ (ending_text events e ++ codes "\n")
+
 -- The trace of the run that is picked from a plan's opening where no pick is given, so each is 0.
 pub record IsTraceOf (plan : Plan) (text : List ℕ) (status : ℕ) : Type 0 where
   pub run : List Event
@@ -46,11 +53,11 @@ pub record IsTraceOf (plan : Plan) (text : List ℕ) (status : ℕ) : Type 0 whe
   pub text_is : text ≡ text_of plan run (length run) (ending_of agent_meaning plan run)
   pub status_is : status ≡ status_of (ending_of agent_meaning plan run)
 
--- What `order` answers to an input: the trace of the plan that the input stands for, or `not built` where it stands for none.
+-- What `order` answers to an input: the trace of the plan of the form that the input is, or `not built` where it is none.
 abbrev pub Orders : List ℕ → List ℕ → ℕ → Type 0
 Orders input text status =
-    ((plan : Plan) × StandsFor input plan × IsTraceOf plan text status)
-    ⊎ (((plan : Plan) → StandsFor input plan → ⊥) × (text ≡ not_built_line) × (status ≡ 16))
+    ((form : FirstForm) × StandsFor input form × IsTraceOf (first_plan form) text status)
+    ⊎ (((form : FirstForm) → StandsFor input form → ⊥) × (text ≡ not_built_line) × (status ≡ 16))
 
 -- what a source has left and how many faults it has counted, before a call and after it
 pub record Sourcing : Type 0 where

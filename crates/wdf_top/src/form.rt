@@ -1,14 +1,31 @@
 ghost use Rattle.std.specs.Prelude.{◌≡◌, ◌^◌, ◌<◌, ◌≤◌, ◌↔◌, ℕ, [], length, IsTrue, IfOk, IfSome, IfNone, List, Some, slice_get, slice_index_or};
 ghost use Rattle.std.specs.Option.{option_copied};
-ghost use Rattle.wdf_base.specs.declared.plan.Plan.{Plan};
+ghost use Rattle.wdf_top.specs.declared.form.FirstForm.{FirstForm};
 ghost use Rattle.wdf_top.specs.Tokens.{contents};
-ghost use Rattle.wdf_top.specs.Form.{form_lines, is_among, status_words, script_words, trace_words, is_cpu_word, is_reserved, AreInRange, AreNames, IsFirstPlan, StandsFor, expected_token, expected_tokens};
+ghost use Rattle.wdf_top.specs.Form.{form_lines, is_among, status_words, script_words, trace_words, is_cpu_word, is_reserved, AreInRange, AreNames, IsFirstForm, StandsFor, expected_token, expected_tokens};
 
 use crate::lexer::token_lines;
 use crate::token::Token;
 use crate::words::is_number;
 use std::alloc::Global;
-use wdf_base::{Memory, Name, Plan};
+use wdf_base::{Memory, Name};
+
+/// What a scenario of the one form that is served tells.
+#[derive(Clone, Copy, Debug)]
+pub struct FirstForm {
+    /// The most events of the run.
+    pub limit: u32,
+    /// The most counted objects that stand at one time.
+    pub objects: u32,
+    /// The name of the working device.
+    pub device: Name,
+    /// The name of its default sequential queue.
+    pub queue: Name,
+    /// The name of the app.
+    pub app: Name,
+    /// The bytes that the app's one read asks for.
+    pub length: u64,
+}
 
 /// The lines of the form that have tokens.
 const FORM_LINES: usize = 14;
@@ -141,7 +158,7 @@ fn token_in(lines: &[Vec<Token>], row: usize, place: usize) -> Option<&Token>
 }
 
 /// Whether a line is the form's line at this place, counted from 0, spelled from the plan.
-fn is_row(plan: &Plan, row: usize, line: &[Token]) -> bool
+fn is_row(plan: &FirstForm, row: usize, line: &[Token]) -> bool
     requires { row < FORM_LINES }
     ensures { IsTrue result ↔ (line.now ≡ slice_index_or (form_lines plan.now) row []) }
 {
@@ -208,7 +225,7 @@ fn is_row(plan: &Plan, row: usize, line: &[Token]) -> bool
 }
 
 /// Whether the lines are the form, spelled from the plan.
-fn is_form(plan: &Plan, lines: &[Vec<Token>]) -> bool
+fn is_form(plan: &FirstForm, lines: &[Vec<Token>]) -> bool
     requires { length lines.now ≡ FORM_LINES }
     ensures { IsTrue result ↔ (contents lines.now ≡ form_lines plan.now) }
 {
@@ -221,10 +238,10 @@ fn is_form(plan: &Plan, lines: &[Vec<Token>]) -> bool
 }
 
 /// The plan that the lines would be spelled from, with its numbers in range and its names fit.
-fn candidate(lines: &[Vec<Token>]) -> Option<Plan>
+fn candidate(lines: &[Vec<Token>]) -> Option<FirstForm>
     requires { length lines.now ≡ FORM_LINES }
-    ensures fit { IfSome result IsFirstPlan }
-    ensures only { (plan : Plan) → contents lines.now ≡ form_lines plan → IsFirstPlan plan → result ≡ Some plan }
+    ensures fit { IfSome result IsFirstForm }
+    ensures only { (plan : FirstForm) → contents lines.now ≡ form_lines plan → IsFirstForm plan → result ≡ Some plan }
 {
     let limit = number_of(token_in(lines, 1, 1));
     let objects = number_of(token_in(lines, 2, 1));
@@ -238,7 +255,7 @@ fn candidate(lines: &[Vec<Token>]) -> Option<Plan>
     if !are_names(&device, &queue, &app) {
         return None;
     }
-    Some(Plan {
+    Some(FirstForm {
         limit: limit as u32,
         objects: objects as u32,
         device,
@@ -249,9 +266,9 @@ fn candidate(lines: &[Vec<Token>]) -> Option<Plan>
 }
 
 /// The plan that the lines are spelled from, if they are the form.
-fn plan_of(lines: &[Vec<Token>]) -> Option<Plan>
-    ensures found { IfSome result (λ plan. (contents lines.now ≡ form_lines plan) × IsFirstPlan plan) }
-    ensures missing { IfNone result ((plan : Plan) → contents lines.now ≡ form_lines plan → IsFirstPlan plan → ⊥) }
+fn plan_of(lines: &[Vec<Token>]) -> Option<FirstForm>
+    ensures found { IfSome result (λ plan. (contents lines.now ≡ form_lines plan) × IsFirstForm plan) }
+    ensures missing { IfNone result ((plan : FirstForm) → contents lines.now ≡ form_lines plan → IsFirstForm plan → ⊥) }
 {
     if lines.len() != FORM_LINES {
         return None;
@@ -265,9 +282,9 @@ fn plan_of(lines: &[Vec<Token>]) -> Option<Plan>
 }
 
 /// Reads a scenario of the one form that is served: `None` where the text is anything else.
-pub fn read_form(alloc: Global, text: &[u8]) -> Result<Option<Plan>, Memory>
+pub fn read_form(alloc: Global, text: &[u8]) -> Result<Option<FirstForm>, Memory>
     ensures found { IfOk result (λ found. IfSome found (λ plan. StandsFor text.now plan)) }
-    ensures missing { IfOk result (λ found. IfNone found ((plan : Plan) → StandsFor text.now plan → ⊥)) }
+    ensures missing { IfOk result (λ found. IfNone found ((plan : FirstForm) → StandsFor text.now plan → ⊥)) }
 {
     match token_lines(alloc, text)? {
         Some(lines) => Ok(plan_of(&lines)),
@@ -275,9 +292,9 @@ pub fn read_form(alloc: Global, text: &[u8]) -> Result<Option<Plan>, Memory>
     }
 }
 
-/// At most one plan stands for a text.
-pub fn one_plan()
-    ensures { (text : List ℕ) (plan other : Plan) → StandsFor text plan → StandsFor text other → plan ≡ other }
+/// A text is read in at most one way.
+pub fn one_reading()
+    ensures { (text : List ℕ) (plan other : FirstForm) → StandsFor text plan → StandsFor text other → plan ≡ other }
 {}
 
 #[cfg(test)]

@@ -5,6 +5,7 @@ mod form;
 mod input;
 mod lexer;
 mod order;
+mod plan;
 mod refusal;
 mod say;
 mod token;
@@ -12,7 +13,7 @@ mod top;
 mod trace;
 mod words;
 
-pub use form::one_plan;
+pub use form::one_reading;
 pub use top::top_plain;
 
 #[cfg(test)]

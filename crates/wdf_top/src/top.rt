@@ -1,6 +1,7 @@
 //! The top call.
 ghost use Rattle.std.specs.Prelude.{◌≡◌, ◌≢◌, ◌≤◌, ◌+◌, ◌⊎◌, ℕ, List, length, map, string_bytes, IsTrue, None, Some};
-ghost use Rattle.wdf_base.specs.declared.plan.Plan.{Plan};
+ghost use Rattle.wdf_top.specs.declared.form.FirstForm.{FirstForm};
+ghost use Rattle.wdf_top.specs.FirstPlan.{first_plan};
 ghost use Rattle.wdf_io.specs.Outside.{Rose, Gains};
 ghost use Rattle.wdf_top.specs.declared.words.Form.TheVariants.{Order};
 ghost use Rattle.wdf_top.specs.Words.{form_of_words};
@@ -9,13 +10,13 @@ ghost use Rattle.wdf_top.specs.Input.{TakesAll, TakesCount, TakesAtMost, UsesUp}
 ghost use Rattle.wdf_top.specs.Said.{sinking};
 ghost use Rattle.wdf_top.specs.Top.{TellsPlan, Run, service_of, Tells, Orders, IsUnread, Stayed, is_status, is_later, no_memory_line, sourcing};
 
-use crate::order::{read_plan, run_plan};
+use crate::form::FirstForm;
+use crate::order::{read_scenario, run_form};
 use crate::refusal::Refusal;
 use crate::say::say;
 use crate::trace::write_run;
 use crate::words::{Form, form_of};
 use std::alloc::Global;
-use wdf_base::Plan;
 use wdf_io::{Sink, Source};
 
 /// What words of no form are told.
@@ -52,8 +53,8 @@ pub fn top_plain<S: Source, K: Sink>(
         result }
 
     // For `order`, an input that is told and within the limit, and counts of faults that don't rise: what is written is
-    // the trace of the picked run of the plan that the input stands for, with its ending's status, or that none stands
-    // for it; unless memory is wanting.
+    // the trace of the picked run of the plan of the form that the input is, with its ending's status, or that it is none;
+    // unless memory is wanting.
     ensures order { form_of_words (map string_bytes words.now) ≡ Some Order
         → Stayed (S.faults source.old) (S.faults source.new) → Stayed (K.faults sink.old) (K.faults sink.new)
         → (input : List ℕ) → S.left source.old ≡ Some input → length input ≤ 1048576
@@ -65,9 +66,9 @@ pub fn top_plain<S: Source, K: Sink>(
     // 2 comes exactly where the words are no form, unless the sink fails.
     ensures usage_only { result ≡ 2 → form_of_words (map string_bytes words.now) ≡ None }
     ensures usage_always { form_of_words (map string_bytes words.now) ≡ None → (result ≡ 2) ⊎ (result ≡ 13) }
-    // 16 comes exactly where the words are a form that isn't built, or `order` read what stands for no plan.
+    // 16 comes exactly where the words are a form that isn't built, or `order` read what is no scenario of the form.
     ensures not_built_only { result ≡ 16 → IsTrue (is_later (form_of_words (map string_bytes words.now)))
-        ⊎ ((input : List ℕ) × TakesAll (S.left source.old) (S.left source.new) input × ((plan : Plan) → StandsFor input plan → ⊥)) }
+        ⊎ ((input : List ℕ) × TakesAll (S.left source.old) (S.left source.new) input × ((form : FirstForm) → StandsFor input form → ⊥)) }
     ensures not_built_always { IsTrue (is_later (form_of_words (map string_bytes words.now))) → (result ≡ 16) ⊎ (result ≡ 13) }
     // Only `order` reads, and nothing past the byte behind the limit.
     ensures unread { form_of_words (map string_bytes words.now) ≢ Some Order
@@ -108,20 +109,20 @@ fn order<S: Source, K: Sink>(alloc: Global, source: &mut S, sink: &mut K) -> u8
         (sinking (K.written sink.old) (K.written sink.new) (K.faults sink.old) (K.faults sink.new))
         result }
 {
-    match read_plan(alloc, source) {
-        Ok(plan) => order_plan(alloc, plan, sink),
+    match read_scenario(alloc, source) {
+        Ok(form) => order_form(alloc, &form, sink),
         Err(refusal) => say(sink, refusal.line(), refusal.status()),
     }
 }
 
-/// Runs a plan and writes the trace, or tells that memory is wanting.
-fn order_plan<K: Sink>(alloc: Global, plan: Plan, sink: &mut K) -> u8
-    requires { plan.limit ≤ 200000 }
-    ensures told { TellsPlan plan
+/// Runs a form's plan and writes the trace, or tells that memory is wanting.
+fn order_form<K: Sink>(alloc: Global, form: &FirstForm, sink: &mut K) -> u8
+    requires { form.now.limit ≤ 200000 }
+    ensures told { TellsPlan (first_plan form.now)
         (sinking (K.written sink.old) (K.written sink.new) (K.faults sink.old) (K.faults sink.new))
         result }
 {
-    match run_plan(alloc, plan) {
+    match run_form(alloc, form) {
         Ok(core) => write_run(&core, sink),
         Err(memory) => {
             let refusal = Refusal::from(memory);

@@ -2,9 +2,9 @@
 ghost use Rattle.std.specs.Prelude.{◌≡◌, ◌≢◌, ◌+◌, ◌<◌, ◌≤◌, ◌++◌, length, codes, OnOk, OnErr};
 ghost use Rattle.wdf_io.specs.Outside.{Gains};
 ghost use Rattle.wdf_core.specs.Machine.{ending_of};
-ghost use Rattle.wdf_trace.specs.Lines.{line_text, lines_from, text_of};
+ghost use Rattle.wdf_trace.specs.Lines.{line_text, lines_from};
 ghost use Rattle.wdf_top.specs.Said.{Says, IsCutShort, sinking};
-ghost use Rattle.wdf_top.specs.Top.{status_of};
+ghost use Rattle.wdf_top.specs.Top.{status_of, text_of};
 
 use crate::say::SINK_FAULT;
 use wdf_base::{Agent, Ending, Event, Plan};
@@ -19,7 +19,7 @@ fn write_line<K: Sink>(sink: &mut K, mut line: Line) -> Result<(), Failed>
     ensures cut { OnErr result (IsCutShort (sinking (K.written sink.old) (K.written sink.new) (K.faults sink.old) (K.faults sink.new)) (line ++ codes "\n")) }
     ensures never_falls { K.faults sink.old ≤ K.faults sink.new }
 {
-    line.push(b"\n");
+    line.push_line_feed();
     write_all(sink, line.bytes())
 }
 

@@ -1,9 +1,11 @@
-//! The lines of a trace: one for each event, and one for the ending.
+//! The lines of a trace: one for each event, one for the ending, and those of the wait list.
 #![tactic(auto)]
 
+mod endings;
 mod line;
 mod lines;
 mod pieces;
 
+pub use endings::{ending_line, wait_line};
 pub use line::{LINE_LIMIT, Line};
-pub use lines::{ending_line, line_of};
+pub use lines::line_of;

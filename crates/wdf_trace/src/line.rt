@@ -1,4 +1,4 @@
-ghost use Rattle.std.specs.Prelude.{◌≡◌, ◌+◌, ◌≤◌, [], ◌++◌, length, codes, decimal};
+ghost use Rattle.std.specs.Prelude.{◌≡◌, ◌+◌, ◌<◌, ◌≤◌, [], ◌++◌, length, codes, decimal};
 
 use arrayvec::ArrayVec;
 use itoa::Buffer;
@@ -23,7 +23,7 @@ impl Model for Line {
 
 impl Line {
     /// An empty line.
-    pub fn new() -> Line
+    pub(crate) fn new() -> Line
         ensures { result ≡ [] }
     {
         Line {
@@ -39,8 +39,17 @@ impl Line {
         self.text.as_slice()
     }
 
+    /// Adds the line feed that ends a line in a trace.
+    pub fn push_line_feed(&mut self)
+        requires { length self.old < LINE_LIMIT }
+        ensures value { self.new ≡ self.old ++ codes "\n" }
+        ensures length { length self.new ≡ length self.old + 1 }
+    {
+        self.push(b"\n");
+    }
+
     /// Adds these bytes at the end.
-    pub fn push(&mut self, piece: &[u8])
+    pub(crate) fn push(&mut self, piece: &[u8])
         requires { length self.old + length piece.now ≤ LINE_LIMIT }
         ensures value { self.new ≡ self.old ++ piece.now }
         ensures length { length self.new ≡ length self.old + length piece.now }
@@ -49,12 +58,32 @@ impl Line {
     }
 
     /// Adds a number in decimal digits.
-    pub fn push_number(&mut self, number: u64)
+    pub(crate) fn push_digits(&mut self, number: u64)
         requires { length self.old + 20 ≤ LINE_LIMIT }
         ensures value { self.new ≡ self.old ++ decimal number }
         ensures length { length self.new ≤ length self.old + 20 }
     {
         let mut buffer = Buffer::new();
         self.push(buffer.format(number).as_bytes());
+    }
+
+    /// Adds a blank and a word.
+    pub(crate) fn push_word(&mut self, word: &[u8])
+        requires { length self.old + length word.now + 1 ≤ LINE_LIMIT }
+        ensures value { self.new ≡ self.old ++ (codes " " ++ word.now) }
+        ensures length { length self.new ≡ length self.old + length word.now + 1 }
+    {
+        self.push(b" ");
+        self.push(word);
+    }
+
+    /// Adds a blank and a number in decimal digits.
+    pub(crate) fn push_number(&mut self, number: u64)
+        requires { length self.old + 21 ≤ LINE_LIMIT }
+        ensures value { self.new ≡ self.old ++ (codes " " ++ decimal number) }
+        ensures length { length self.new ≤ length self.old + 21 }
+    {
+        self.push(b" ");
+        self.push_digits(number);
     }
 }

@@ -1,15 +1,104 @@
-ghost use Rattle.std.specs.Prelude.{◌≡◌, ◌≢◌, ◌+◌, ◌<◌, ◌≤◌, ◌++◌, length, codes};
-ghost use Rattle.wdf_trace.specs.Lines.{line_text, ending_text, event_text, ending_word};
+ghost use Rattle.std.specs.Prelude.{◌≡◌, ◌+◌, ◌<◌, ◌≤◌, ◌++◌, ◌∷◌, [], length, codes, decimal, Option};
+ghost use Rattle.wdf_base.specs.Words.{call_word};
+ghost use Rattle.wdf_trace.specs.Lines.{spaced, line_text, event_words, post_words, action_words, access_words, answered_words, argument_words, value_text, object_text, register_text};
 
 use crate::line::{LINE_LIMIT, Line};
 use crate::pieces::*;
-use wdf_base::{Ending, Event, Plan};
+use wdf_base::{Access, Action, Call, Event, Handle, Plan, Post, Value};
 
-/// Adds the text of an event.
+/// Adds the words of what a device does.
+fn push_action(line: &mut Line, plan: &Plan, action: Action)
+    requires { length line.old + 95 ≤ LINE_LIMIT }
+    ensures value { line.new ≡ line.old ++ spaced (action_words plan.now action) }
+    ensures length { length line.new ≤ length line.old + 95 }
+{
+    match action {
+        Action::Set { register, value } => {
+            line.push_word(b"set");
+            push_register(line, plan, register);
+            line.push_number(value);
+        }
+        Action::Raise { interrupt } => push_word_object(line, plan, b"raise", interrupt),
+        Action::Lower { interrupt } => push_word_object(line, plan, b"lower", interrupt),
+    }
+}
+
+/// Adds the words of a post and of its answer.
+fn push_post(line: &mut Line, plan: &Plan, post: &Post, answer: Option<Handle>)
+    requires { length line.old + 200 ≤ LINE_LIMIT }
+    ensures value { line.new ≡ line.old ++ spaced (post_words plan.now post.now answer) }
+    ensures length { length line.new ≤ length line.old + 200 }
+{
+    match *post {
+        Post::Read { device, length } => {
+            push_word_object(line, plan, b"read", device);
+            line.push_number(length);
+            push_answer(line, plan, answer);
+        }
+        Post::Write { device, length } => {
+            push_word_object(line, plan, b"write", device);
+            line.push_number(length);
+            push_answer(line, plan, answer);
+        }
+        Post::Control {
+            device,
+            code,
+            length,
+        } => {
+            push_word_object(line, plan, b"control", device);
+            line.push_number(code);
+            line.push_number(length);
+            push_answer(line, plan, answer);
+        }
+        Post::Cancel { arrival } => {
+            push_word_number(line, b"cancel", arrival);
+            push_answer(line, plan, answer);
+        }
+        Post::Ask { ask, device } => push_word_object(line, plan, ask_bytes(ask), device),
+        Post::Act { action } => push_action(line, plan, action),
+        Post::Done { request, status } => {
+            push_word_object(line, plan, b"done", request);
+            line.push_word(status_bytes(status));
+        }
+    }
+}
+
+/// Adds the words of an access to a register.
+fn push_access(line: &mut Line, plan: &Plan, access: Access, register: u32, value: u64)
+    requires { length line.old + 100 ≤ LINE_LIMIT }
+    ensures value { line.new ≡ line.old ++ spaced (access_words plan.now access register value) }
+    ensures length { length line.new ≤ length line.old + 100 }
+{
+    match access {
+        Access::Read => {
+            line.push_word(b"get");
+            push_register(line, plan, register);
+            push_word_number(line, b"->", value);
+        }
+        Access::Write => {
+            line.push_word(b"put");
+            push_register(line, plan, register);
+            line.push_number(value);
+        }
+    }
+}
+
+/// Adds the words of a call and of its answer.
+fn push_answered(line: &mut Line, plan: &Plan, call: &Call, answer: Value)
+    requires { length line.old + 260 ≤ LINE_LIMIT }
+    ensures value { line.new ≡ line.old ++ spaced (answered_words plan.now call.now answer) }
+    ensures length { length line.new ≤ length line.old + 260 }
+{
+    push_call(line, plan, call);
+    line.push_word(b"->");
+    push_value(line, plan, answer);
+}
+
+/// Adds the words of an event.
 fn push_event(line: &mut Line, plan: &Plan, event: &Event)
-    requires { length line.old + 400 ≤ LINE_LIMIT }
-    ensures value { line.new ≡ line.old ++ event_text plan.now event.now }
-    ensures length { length line.new ≤ length line.old + 400 }
+    requires { length line.old + 300 ≤ LINE_LIMIT }
+    ensures value { line.new ≡ line.old ++ spaced (event_words plan.now event.now) }
+    ensures length { length line.new ≤ length line.old + 300 }
 {
     match event {
         Event::Start {
@@ -19,18 +108,54 @@ fn push_event(line: &mut Line, plan: &Plan, event: &Event)
             request,
         } => {
             push_cpu(line, *cpu);
-            line.push(b" start ");
-            line.push(callback_name(*callback));
-            line.push(b" ");
-            push_object(line, plan, *object);
-            push_request(line, plan, *request);
+            line.push_word(b"start");
+            push_word_object(line, plan, callback_bytes(*callback), *object);
+            push_optional(line, plan, *request);
+        }
+        Event::Local { cpu, line: number } => {
+            push_cpu(line, *cpu);
+            push_word_number(line, b"step", u64::from(*number));
+        }
+        Event::Log { cpu, value } => {
+            push_cpu(line, *cpu);
+            line.push_word(b"log");
+            push_value(line, plan, *value);
+        }
+        Event::Spend { cpu, ticks } => {
+            push_cpu(line, *cpu);
+            push_word_number(line, b"spend", *ticks);
+        }
+        Event::Register {
+            cpu,
+            access,
+            register,
+            value,
+        } => {
+            push_cpu(line, *cpu);
+            push_access(line, plan, *access, *register, *value);
         }
         Event::Did { cpu, call, answer } => {
             push_cpu(line, *cpu);
-            line.push(b" call ");
+            line.push_word(b"call");
+            push_answered(line, plan, call, *answer);
+        }
+        Event::Waiting { cpu, call } => {
+            push_cpu(line, *cpu);
+            line.push_word(b"wait");
             push_call(line, plan, call);
-            line.push(b" -> ");
-            push_value(line, plan, *answer);
+        }
+        Event::Woke { cpu, call, answer } => {
+            push_cpu(line, *cpu);
+            line.push_word(b"woke");
+            push_answered(line, plan, call, *answer);
+        }
+        Event::Park { cpu, frame } => {
+            push_cpu(line, *cpu);
+            push_word_number(line, b"park", u64::from(frame.0));
+        }
+        Event::Unpark { cpu, frame } => {
+            push_cpu(line, *cpu);
+            push_word_number(line, b"unpark", u64::from(frame.0));
         }
         Event::End {
             cpu,
@@ -39,20 +164,41 @@ fn push_event(line: &mut Line, plan: &Plan, event: &Event)
             value,
         } => {
             push_cpu(line, *cpu);
-            line.push(b" end ");
-            line.push(callback_name(*callback));
-            line.push(b" ");
-            push_object(line, plan, *object);
-            line.push(b" ");
+            line.push_word(b"end");
+            push_word_object(line, plan, callback_bytes(*callback), *object);
             push_value(line, plan, *value);
         }
+        Event::Fault {
+            cpu,
+            fault,
+            line: number,
+        } => {
+            push_cpu(line, *cpu);
+            line.push_word(b"fault");
+            push_word_number(line, fault_bytes(*fault), u64::from(*number));
+        }
+        Event::Stage {
+            device,
+            stage,
+            interrupt,
+        } => {
+            line.push_word(b"fw");
+            push_word_object(line, plan, b"stage", *device);
+            line.push_word(stage_bytes(*stage));
+            push_optional(line, plan, *interrupt);
+        }
+        Event::Complete { request, status } => {
+            line.push_word(b"fw");
+            push_word_object(line, plan, b"complete", *request);
+            line.push_word(status_bytes(*status));
+        }
         Event::Cleanup { object } => {
-            line.push(b"fw cleanup ");
-            push_object(line, plan, *object);
+            line.push_word(b"fw");
+            push_word_object(line, plan, b"cleanup", *object);
         }
         Event::Destroy { object } => {
-            line.push(b"fw destroy ");
-            push_object(line, plan, *object);
+            line.push_word(b"fw");
+            push_word_object(line, plan, b"destroy", *object);
         }
         Event::Posted {
             agent,
@@ -61,6 +207,10 @@ fn push_event(line: &mut Line, plan: &Plan, event: &Event)
         } => {
             push_agent(line, plan, *agent);
             push_post(line, plan, post, *answer);
+        }
+        Event::Tick { time } => {
+            line.push_word(b"clock");
+            push_word_number(line, b"tick", *time);
         }
     }
 }
@@ -71,116 +221,7 @@ pub fn line_of(plan: &Plan, number: usize, event: &Event) -> Line
     ensures small { length result < LINE_LIMIT }
 {
     let mut line = Line::new();
-    line.push_number(number as u64);
-    line.push(b" ");
+    line.push_digits(number as u64);
     push_event(&mut line, plan, event);
     line
-}
-
-/// The word of an ending; a run that goes on has none.
-fn word_of(ending: Ending) -> &'static [u8]
-    ensures value { result.now ≡ ending_word ending }
-    ensures small { length result.now ≤ 32 }
-{
-    match ending {
-        Ending::Running => b"",
-        Ending::Finished => b"finished",
-        Ending::Limit => b"limit",
-        Ending::Fault(_) => b"fault",
-        Ending::Stuck => b"stuck",
-    }
-}
-
-/// The line of an ending after this many events, without its line feed.
-pub fn ending_line(events: usize, ending: Ending) -> Line
-    requires { ending ≢ Ending.Running }
-    ensures value { result ≡ ending_text events ending }
-    ensures small { length result < LINE_LIMIT }
-{
-    let mut line = Line::new();
-    line.push(word_of(ending));
-    line.push(b" ");
-    line.push_number(events as u64);
-    line
-}
-
-#[cfg(test)]
-mod tests {
-    use super::*;
-    use std::test::Fail;
-    use wdf_base::{
-        Arg, Call, CallKind, Callback, Cpu, Handle, Name, ObjectId, Post, Status, Value,
-    };
-
-    fn handle(id: u32, name: u32) -> Handle {
-        Handle {
-            id: ObjectId(id),
-            name,
-        }
-    }
-
-    /// The lines of one read, as a reader expects them.
-    #[test]
-    fn one_read(rt: HostRuntime) -> Result<(), Fail> {
-        let plan = Plan {
-            limit: 100,
-            objects: 16,
-            device: Name::new(b"Disk"),
-            queue: Name::new(b"Q"),
-            app: Name::new(b"A"),
-            length: 16,
-        };
-        let device = handle(2, 2);
-        let queue = handle(3, 3);
-        let request = handle(4, 1);
-        let success = Value::Stat(Status::Success);
-        let call = Call {
-            kind: CallKind::WdfRequestComplete,
-            count: 2,
-            a: Arg::Val(Value::Obj(request)),
-            b: Arg::Val(success),
-            c: Arg::Val(Value::Num(0)),
-        };
-        let read = Post::Read { device, length: 16 };
-        let posted = Event::Posted {
-            agent: 1,
-            post: read,
-            answer: Some(request),
-        };
-        let started = Event::Start {
-            cpu: Cpu(0),
-            callback: Callback::EvtIoRead,
-            object: queue,
-            request: Some(request),
-        };
-        let did = Event::Did {
-            cpu: Cpu(0),
-            call,
-            answer: success,
-        };
-        let ended = Event::End {
-            cpu: Cpu(0),
-            callback: Callback::EvtIoRead,
-            object: queue,
-            value: success,
-        };
-        let table: [(usize, Event, &[u8]); 6] = [
-            (1, posted, b"1 A read Disk.2 16 -> req.4"),
-            (2, started, b"2 cpu0 start EvtIoRead Q.3 req.4"),
-            (
-                3,
-                did,
-                b"3 cpu0 call WdfRequestComplete req.4 SUCCESS -> SUCCESS",
-            ),
-            (4, ended, b"4 cpu0 end EvtIoRead Q.3 SUCCESS"),
-            (5, Event::Cleanup { object: request }, b"5 fw cleanup req.4"),
-            (6, Event::Destroy { object: request }, b"6 fw destroy req.4"),
-        ];
-        for (number, event, text) in &table {
-            assert_eq!(rt; line_of(&plan, *number, event).bytes(), *text);
-        }
-        let finished = ending_line(6, Ending::Finished);
-        assert_eq!(rt; finished.bytes(), b"finished 6".as_slice());
-        Ok(())
-    }
 }

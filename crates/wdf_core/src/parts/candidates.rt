@@ -3,7 +3,7 @@
 ghost use Rattle.std.specs.Prelude.{◌≡◌, ◌+◌, ◌<◌, ◌≤◌, ◌^◌, length, slice_get, unwrap_or};
 ghost use Rattle.std.specs.Option.{option_map};
 ghost use Rattle.wdf_core.specs.State.{State, handle_of as handle_by_id, life_of, place_of, next_id};
-ghost use Rattle.wdf_core.specs.Machine.{intent as intent_by_frame, event_of as event_by_intent, post_event, places_in, candidate, irql, may, owns, may_arrive};
+ghost use Rattle.wdf_core.specs.Machine.{intent as intent_by_frame, event_of as event_by_intent, arrival, post_event, places_in, candidate, irql, may, owns, may_arrive};
 ghost use Rattle.wdf_core.specs.Ready.{offered};
 
 use crate::parts::{ARRIVAL_LIMIT, Parts, request_in};
@@ -135,12 +135,21 @@ impl<A: Agent> Parts<A> {
         ensures { result ≡ candidate A.meaning self.now Group.Posts agent }
     {
         let post = self.agents[agent].due()?;
-        let Post::Read { .. } = post;
         Some(Event::Posted {
             agent: agent as u16,
             post,
-            answer: Some(handle_of(self.object_len() as u32)),
+            answer: self.arrival(&post),
         })
+    }
+
+    /// The request that a post would make.
+    fn arrival(&self, post: &Post) -> Option<Handle>
+        ensures { result ≡ arrival self.now post.now }
+    {
+        match post {
+            Post::Read { .. } => Some(handle_of(self.object_len() as u32)),
+            _ => None,
+        }
     }
 
     /// The candidate of a group at a place, whether or not it may come.
@@ -200,6 +209,7 @@ impl<A: Agent> Parts<A> {
                     && 0 < *length
                     && self.arrived < ARRIVAL_LIMIT
             }
+            _ => false,
         }
     }
 
@@ -219,6 +229,7 @@ impl<A: Agent> Parts<A> {
             }
             Event::Destroy { object } => self.life(object.id).is_cleaned(),
             Event::Posted { post, .. } => self.may_arrive(post),
+            _ => false,
         }
     }
 

@@ -161,7 +161,7 @@ impl<A: Agent> Parts<A> {
                 answer: Some(request),
                 ..
             } => self.arrive(request.id),
-            Event::Start { request: None, .. } | Event::Posted { answer: None, .. } => {}
+            _ => {}
         }
     }
 }

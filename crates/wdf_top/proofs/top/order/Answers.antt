@@ -3,7 +3,7 @@ use Rattle.wdf_top.proofs.Due.{order_ok, order_err}
 use Rattle.wdf_top.proofs.top.order.Goals as goal
 
 pub returns-in-Ok : goal.returns-in-Ok
-returns-in-Ok g c = record { told = order_ok _ _ c.in-Ok.plan _ c.in-Ok.ensures.found c.order_plan.ensures.told }
+returns-in-Ok g c = record { told = order_ok _ _ c.in-Ok.form _ c.in-Ok.ensures.found c.order_form.ensures.told }
 
 pub returns-in-Err : goal.returns-in-Err
 returns-in-Err g c = record {

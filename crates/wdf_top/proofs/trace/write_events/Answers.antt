@@ -1,5 +1,6 @@
 -- A line that was cut short leaves a front of all lines; a whole line is one line more.
-use Rattle.std.proofs.Common.{arith}
+use Rattle.std.proofs.Common.{◌+◌, ◌++◌, ◌≤◌, arith, codes, take}
+use Rattle.wdf_trace.specs.Lines.{line_text, lines_from}
 use Rattle.wdf_top.proofs.Writing.{cut_behind, lines_at, lines_more, gains_more}
 use Rattle.wdf_top.proofs.trace.write_events.Goals as goal
 
@@ -7,13 +8,22 @@ pub returns-in-Err-clause-cut : goal.returns-in-Err-clause-cut
 returns-in-Err-clause-cut g c =
     let at = lines_at c.args.core.now.plan c.args.core.now.journal c.journal_at-event.result c.loop-k.k c.journal_at-event.ensures in
     let cut = rw c.plan.ensures at c.in-Err.ensures.cut in
-    cut_behind _ _ _ _ _ _ _ _ at.0 _ c.loop-k.invariant.gained c.loop-k.invariant.faults c.in-Err.ensures.never_falls cut at.1
+    cut_behind (g.K.Sink.written c.args.sink.now) (g.K.Sink.written c.loop-k.sink) (g.K.Sink.written c.write_event.new.sink)
+      (g.K.Sink.faults c.args.sink.now) (g.K.Sink.faults c.loop-k.sink) (g.K.Sink.faults c.write_event.new.sink)
+      (lines_from c.args.core.now.plan 1 (take c.loop-k.k c.args.core.now.journal))
+      (line_text c.args.core.now.plan (c.loop-k.k + 1) c.journal_at-event.result ++ codes "\n")
+      at.0 (lines_from c.args.core.now.plan 1 c.args.core.now.journal)
+      c.loop-k.invariant.gained c.loop-k.invariant.faults c.in-Err.ensures.never_falls cut at.1
 
 pub loop-k-preserved : goal.loop-k-preserved
 loop-k-preserved g c =
     let more = lines_more c.args.core.now.plan c.args.core.now.journal c.journal_at-event.result c.loop-k.k c.journal_at-event.ensures in
     let whole = rw c.plan.ensures at c.in-Ok.ensures.whole in
     record {
-      gained = rw more (gains_more _ _ _ _ _ c.loop-k.invariant.gained whole);
+      gained = rw more
+          (gains_more (g.K.Sink.written c.args.sink.now) (g.K.Sink.written c.loop-k.sink) (g.K.Sink.written c.write_event.new.sink)
+            (lines_from c.args.core.now.plan 1 (take c.loop-k.k c.args.core.now.journal))
+            (line_text c.args.core.now.plan (c.loop-k.k + 1) c.journal_at-event.result ++ codes "\n")
+            c.loop-k.invariant.gained whole);
       faults = omega (arith, c.loop-k.invariant.faults, c.in-Ok.ensures.never_falls);
     }

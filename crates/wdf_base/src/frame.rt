@@ -1,0 +1,71 @@
+use crate::call::{Call, Callback};
+use crate::ids::Handle;
+use crate::value::{Status, Value};
+
+/// The most variables of a callback, and the most `if` and `repeat` that stand in one another.
+pub const VARIABLES: usize = 16;
+
+/// A call that waits, with the answer that it gets when the wait is over.
+#[derive(Clone, Copy, Debug, PartialEq, Eq)]
+pub struct Pending {
+    pub call: Call,
+    pub answer: Value,
+}
+
+/// One running or waiting callback. Which locks it holds is told elsewhere.
+#[derive(Clone, Copy, Debug, PartialEq, Eq)]
+pub struct Frame {
+    pub callback: Callback,
+    /// The object of the callback.
+    pub object: Handle,
+    /// The nearest device at or above the object, or the driver object.
+    pub device: Handle,
+    /// The request that it is for.
+    pub request: Option<Handle>,
+    /// The length of the request, 0 where there is none.
+    pub length: u64,
+    /// The code of the request, 0 where there is none.
+    pub code: u64,
+    /// The completion status in EvtRequestCompletion, else SUCCESS.
+    pub status: Status,
+    /// The number of the script in the plan.
+    pub script: u32,
+    /// The number of the next statement in the script.
+    pub at: u32,
+    pub variables: [Value; VARIABLES],
+    /// How many runs are left of each `repeat` that is open, the outermost first.
+    pub counters: [u32; VARIABLES],
+    /// The tick until which it spends; it spends where this is later than the clock.
+    pub until: u64,
+    /// What it waits for.
+    pub pending: Option<Pending>,
+}
+
+/// What a `let`, an `if` or a `repeat` changes in its frame.
+#[derive(Clone, Copy, Debug, PartialEq, Eq)]
+pub enum Change {
+    /// A variable takes a value.
+    Assign { variable: u8, value: Value },
+    /// Nothing but the place: an `if`.
+    Branch,
+    /// The `repeat` at this depth has this many runs left.
+    Count { depth: u8, left: u32 },
+}
+
+/// What the statement does at which a frame stands, with its expressions evaluated.
+#[derive(Clone, Copy, Debug, PartialEq, Eq)]
+pub enum Intent {
+    /// A step inside the frame, which goes on at the statement `next`.
+    Local { change: Change, next: u32 },
+    Log(Value),
+    /// A number of ticks is spent.
+    Spend(u64),
+    /// A register is read.
+    Get(u32),
+    /// A register is written.
+    Put { register: u32, value: u64 },
+    Do(Call),
+    Return(Value),
+    /// The statement isn't a call and has a script error.
+    Broken,
+}

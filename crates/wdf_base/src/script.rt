@@ -1,0 +1,168 @@
+ghost use Rattle.std.specs.Prelude.{◌≡◌};
+
+use crate::call::{CallKind, Callback};
+use crate::declared::Declared;
+use crate::ids::Handle;
+use crate::items::{Items, MANY};
+use crate::same::same_callback;
+use crate::same_plan::same_declared;
+use crate::value::Status;
+
+/// An operator of expressions. Numbers wrap; a comparison gives 1 or 0.
+#[derive(Clone, Copy, Debug, PartialEq, Eq)]
+pub enum Operator {
+    Add,
+    Subtract,
+    Multiply,
+    Divide,
+    Remainder,
+    BitAnd,
+    BitOr,
+    BitXor,
+    Equals,
+    Differs,
+    Below,
+    AtMost,
+}
+
+/// A word of expressions that stands for a part of the running callback.
+#[derive(Clone, Copy, Debug, PartialEq, Eq)]
+pub enum ContextWord {
+    /// `self`: the callback's object.
+    OwnObject,
+    /// `device`: its nearest device, or the driver object.
+    NearestDevice,
+    /// `request`: its request, or the number 0.
+    OwnRequest,
+    /// `length`: the request's length, or 0.
+    RequestLength,
+    /// `code`: the request's code, or 0.
+    RequestCode,
+    /// `status`: the completion status.
+    CompletionStatus,
+}
+
+/// One node of an expression: an atom, or an operator with the numbers of its operands, each of
+/// which is less than the node's own number.
+#[derive(Clone, Copy, Debug, PartialEq, Eq)]
+pub enum ExprNode {
+    Number(u64),
+    /// A variable of the callback, by its number among them.
+    Variable(u8),
+    /// A declared device, queue, interrupt or target.
+    Object(Handle),
+    Literal(Status),
+    Context(ContextWord),
+    Binary {
+        operator: Operator,
+        left: u32,
+        right: u32,
+    },
+}
+
+/// An argument of a framework call in a script.
+#[derive(Clone, Copy, Debug, PartialEq, Eq)]
+pub enum ArgNode {
+    /// The call has no such argument.
+    NoArgument,
+    /// The number of an expression.
+    Expression(u32),
+    /// The number of a class.
+    OfClass(u16),
+}
+
+/// What a statement does. Variables, expressions, registers and statements stand by their numbers.
+#[derive(Clone, Copy, Debug, PartialEq, Eq)]
+pub enum Act {
+    Let {
+        variable: u8,
+        value: u32,
+    },
+    Call {
+        kind: CallKind,
+        /// The variable that gets the answer.
+        into: Option<u8>,
+        a: ArgNode,
+        b: ArgNode,
+        c: ArgNode,
+    },
+    Get {
+        variable: u8,
+        register: u32,
+    },
+    Put {
+        register: u32,
+        value: u32,
+    },
+    /// The statement behind it is the first branch's.
+    If {
+        test: u32,
+        /// Where to go on where the number is 0.
+        otherwise: u32,
+    },
+    /// The statement behind it is the body's first.
+    Repeat {
+        count: u32,
+        /// How many `repeat` stand round it in the callback.
+        depth: u8,
+        /// Where to go on where the number is 0.
+        past: u32,
+    },
+    /// The end of a `repeat`'s body; the statement behind it comes after the last run.
+    Again {
+        depth: u8,
+        /// The body's first statement.
+        body: u32,
+    },
+    Spend {
+        ticks: u32,
+    },
+    Log {
+        value: u32,
+    },
+    Return {
+        value: u32,
+    },
+}
+
+/// A statement of a callback.
+#[derive(Clone, Copy, Debug, PartialEq, Eq)]
+pub struct Statement {
+    /// The line of the text; for the end of a `repeat`'s body, that of the `repeat`.
+    pub line: u32,
+    /// The number of the statement that follows it, where it doesn't go elsewhere. The number of
+    /// statements stands for the callback's end.
+    pub next: u32,
+    pub act: Act,
+}
+
+/// The statements of a callback that is declared.
+#[derive(Debug, Drop)]
+pub struct Script {
+    pub callback: Callback,
+    /// What it is declared on.
+    pub owner: Declared,
+    /// The line of its `on`.
+    pub line: u32,
+    pub statements: Items<Statement, MANY>,
+}
+
+impl Script {
+    ghost use Rattle.wdf_base.specs.Plan.{is_script_of};
+
+    /// Whether it is the script of this callback on this object.
+    pub fn is_of(&self, callback: Callback, owner: &Declared) -> bool
+        ensures { result ≡ is_script_of callback owner.now self.now }
+    {
+        same_callback(self.callback, callback) && same_declared(&self.owner, owner)
+    }
+}
+
+/// An app, a device or a target as one that posts.
+#[derive(Debug, Drop)]
+pub struct AgentInfo {
+    /// The number of its name.
+    pub name: u32,
+    /// What its lines post, in their order.
+    pub posts: Items<crate::declared::PostLine, MANY>,
+}

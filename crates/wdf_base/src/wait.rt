@@ -1,0 +1,91 @@
+use crate::call::Callback;
+use crate::event::Step;
+use crate::ids::{FrameId, Handle};
+
+/// Something that a stuck run leaves open.
+#[derive(Clone, Copy, Debug, PartialEq, Eq)]
+pub enum OpenThing {
+    /// A running or parked callback of `object`.
+    Waiting {
+        frame: FrameId,
+        callback: Callback,
+        object: Handle,
+    },
+    /// A request that the driver has.
+    Owned {
+        request: Handle,
+    },
+    /// A request at a target.
+    Sent {
+        request: Handle,
+        target: Handle,
+    },
+    /// A request in the line of a queue.
+    Queued {
+        request: Handle,
+        queue: Handle,
+    },
+    /// A request whose EvtIoCanceledOnQueue is due.
+    Returning {
+        request: Handle,
+        queue: Handle,
+    },
+    /// A device with this step running or next.
+    Sequence {
+        device: Handle,
+        step: Step,
+    },
+    /// An object whose deletion hasn't come to its end, or that waits for its target.
+    Leaving {
+        object: Handle,
+    },
+    /// A DPC, a timer or a work item that is queued.
+    Deferred {
+        object: Handle,
+    },
+    /// The Plug and Play manager with a post that is due for a device.
+    Asking {
+        device: Handle,
+    },
+}
+
+/// Why something open has no step.
+#[derive(Clone, Copy, Debug, PartialEq, Eq)]
+pub enum Cause {
+    /// A frame keeps it.
+    ByFrame { frame: FrameId },
+    /// A frame holds the lock that it needs; a scope lock stands as its device or queue.
+    ByLock { lock: Handle, frame: FrameId },
+    /// A request isn't settled.
+    ByRequest { request: Handle },
+    /// A work item is still queued.
+    ByWork { work: Handle },
+    /// The queue is stopped.
+    Stopped,
+    /// The queue's device has no power.
+    Unpowered,
+    /// The queue waits to be asked.
+    Manual,
+    /// Another request stands ahead.
+    Behind { request: Handle },
+    /// The queue has presented as many as it may.
+    Full,
+    /// The scope lock is held.
+    ScopeHeld,
+    /// No processor is left.
+    NoCpu,
+    /// The driver holds references.
+    References { count: u32 },
+    /// A child must go first.
+    ByChild { child: Handle },
+    /// It stands at a target.
+    AtTarget { target: Handle },
+}
+
+/// One line of the wait list of a stuck run: what is open, and why. An owned or sent request and the
+/// Plug and Play manager have no cause.
+#[derive(Clone, Copy, Debug, PartialEq, Eq)]
+pub struct WaitLine {
+    pub thing: OpenThing,
+    pub cause: Option<Cause>,
+}

@@ -1,0 +1,4 @@
+pub mod Change
+pub mod PlanParts
+pub mod Scene
+pub mod Words
