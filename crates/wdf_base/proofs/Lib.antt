@@ -1,3 +1,4 @@
+pub mod Decides
 pub mod Padding
 pub mod RowOne
 pub mod WordLaws

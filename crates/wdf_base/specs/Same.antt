@@ -1,6 +1,7 @@
 -- When two values of a plain type are one: exactly where their variants and fields are.
 use Rattle.std.specs.Prelude.{Bool, true, false, ℕ, List, Option, Some, None, ◌==◌, ◌&&◌}
 use Rattle.std.specs.Bool.{beq}
+use Rattle.std.specs.Cmp.Lexicographic.{pointwise}
 use Rattle.std.specs.Str.{bytes_eq}
 use denote.Enum.Bare.{sameb}
 use Rattle.wdf_base.specs.declared.ids.ObjectId.{ObjectId}
@@ -34,6 +35,7 @@ use Rattle.wdf_base.specs.declared.event.Ending.{Ending}
 use Rattle.wdf_base.specs.declared.wait.OpenThing.{OpenThing}
 use Rattle.wdf_base.specs.declared.wait.Cause.{Cause}
 use Rattle.wdf_base.specs.declared.wait.WaitLine.{WaitLine}
+use Rattle.wdf_base.specs.declared.frame.Frame.{Frame}
 use Rattle.wdf_base.specs.declared.frame.Pending.{Pending}
 use Rattle.wdf_base.specs.declared.frame.Change.{Change}
 use Rattle.wdf_base.specs.declared.frame.Intent.{Intent}
@@ -265,3 +267,9 @@ same_intent (intent.Do a) (intent.Do b) = same_call a b
 same_intent (intent.Return a) (intent.Return b) = same_value a b
 same_intent intent.Broken intent.Broken = true
 same_intent _ _ = false
+
+abbrev pub same_frame : Frame → Frame → Bool
+same_frame a b =
+    same_callback a.callback b.callback && same_handle a.object b.object && same_handle a.device b.device && same_option same_handle a.request b.request
+    && (a.length == b.length) && (a.code == b.code) && same_status a.status b.status && (a.script == b.script) && (a.at == b.at)
+    && pointwise same_value a.variables b.variables && pointwise ◌==◌ a.counters b.counters && (a.until == b.until) && same_option same_pending a.pending b.pending

@@ -5,6 +5,7 @@
 mod agent;
 mod call;
 mod declared;
+mod equal_frames;
 mod event;
 mod frame;
 mod ids;
@@ -42,6 +43,8 @@ pub use declared::Scope;
 pub use declared::Serves;
 pub use declared::TargetInfo;
 pub use declared::WhenLine;
+pub use equal_frames::same_frame;
+pub use equal_frames::same_option_pending;
 pub use event::Access;
 pub use event::Action;
 pub use event::Actor;
@@ -52,7 +55,6 @@ pub use event::Fault;
 pub use event::Post;
 pub use event::Stage;
 pub use event::Step;
-
 pub use frame::Change;
 pub use frame::Frame;
 pub use frame::Intent;
@@ -104,6 +106,7 @@ pub use same::same_kind;
 pub use same::same_life;
 pub use same::same_lock;
 pub use same::same_mark;
+pub use same::same_name;
 pub use same::same_object_id;
 pub use same::same_open_thing;
 pub use same::same_option_cause;
@@ -156,3 +159,6 @@ pub use words::callback_words;
 pub use words::fault_words;
 pub use words::stage_words;
 pub use words::status_words;
+
+#[cfg(test)]
+mod tests;

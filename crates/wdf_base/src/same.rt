@@ -5,7 +5,8 @@ ghost use Rattle.wdf_base.specs.Same as same;
 use crate::{
     Access, Action, Actor, Arg, Ask, Call, CallKind, Callback, Cause, Change, Cpu, Ending, Event,
     Fault, FrameId, Handle, Intent, Irql, Kind, Life, LockRef, Mark, Name, ObjectId, OpenThing,
-    Pending, Place, Post, RequestForm, RequestInfo, Stage, Status, Step, Value, WaitLine,
+    Pending, Place, Post, RequestForm, RequestInfo, Stage, Status, Step, VARIABLES, Value,
+    WaitLine,
 };
 
 /// Whether the two are one.

@@ -26,9 +26,19 @@ reads n = record { begin = λ plan k. if k == 1 then n else 0; fold = left; due 
 -- two agents beside the Plug and Play manager: an app and a device
 abbrev plan_of : ℕ → Plan
 plan_of limit = record {
-  cpus = 1; limit = limit; objects = 16; names = []; declared = []; classes = []; registers = []; whens = []; pnp = [];
+  cpus = 1;
+  limit = limit;
+  objects = 16;
+  names = [];
+  declared = [];
+  classes = [];
+  registers = [];
+  whens = [];
+  pnp = [];
   agents = record { name = 4; posts = [] } ∷ record { name = 2; posts = [] } ∷ [];
-  exprs = []; scripts = []; picks = [];
+  exprs = [];
+  scripts = [];
+  picks = [];
 }
 
 -- the run with the next picked event, where one may follow

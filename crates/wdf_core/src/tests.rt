@@ -2,8 +2,8 @@ use crate::Core;
 use std::alloc::Global;
 use std::test::Fail;
 use wdf_base::{
-    Actor, Agent, AgentInfo, Arg, Call, CallKind, Callback, Cpu, Ending, Event, Handle, Items, Memory, ObjectId, Plan,
-    Post, Status, Value,
+    Actor, Agent, AgentInfo, Arg, Call, CallKind, Callback, Cpu, Ending, Event, Handle, Items,
+    Memory, ObjectId, Plan, Post, Status, Value,
 };
 
 /// An app that reads once, or an agent that does nothing.

@@ -28,9 +28,14 @@ device_handle = record { id = record { 0 = 2 }; name = 2 }
 -- the driver object, the working device, and its default sequential queue
 abbrev pub queue : Declared
 queue = Queue (record {
-  name = 3; device = record { 0 = 2 }; dispatch = Sequential;
+  name = 3;
+  device = record { 0 = 2 };
+  dispatch = Sequential;
   serves = record { rest = true; read = false; write = false; control = false };
-  powered = true; zero = false; scope = Unscoped; level = Dispatch;
+  powered = true;
+  zero = false;
+  scope = Unscoped;
+  level = Dispatch;
 })
 
 abbrev pub objects_of : List Declared
@@ -45,16 +50,23 @@ posting bytes =
 -- the handler completes its request with SUCCESS
 abbrev pub handler : Script
 handler = record {
-  callback = EvtIoRead; owner = queue; line = 7;
+  callback = EvtIoRead;
+  owner = queue;
+  line = 7;
   statements = record { line = 8; next = 1; act = Call WdfRequestComplete None (Expression 0) (Expression 1) NoArgument } ∷ [];
 }
 
 abbrev pub first_plan : FirstForm → Plan
 first_plan form = record {
-  cpus = 1; limit = form.limit; objects = form.objects;
+  cpus = 1;
+  limit = form.limit;
+  objects = form.objects;
   names = codes "driver" ∷ codes "req" ∷ form.device ∷ form.queue ∷ form.app ∷ [];
   declared = objects_of;
-  classes = []; registers = []; whens = []; pnp = [];
+  classes = [];
+  registers = [];
+  whens = [];
+  pnp = [];
   agents = posting form.length;
   exprs = Context OwnRequest ∷ Literal Success ∷ [];
   scripts = handler ∷ [];

@@ -9,11 +9,11 @@ returns-in-Err-clause-cut g c =
     let at = lines_at c.args.core.now.plan c.args.core.now.journal c.journal_at-event.result c.loop-k.k c.journal_at-event.ensures in
     let cut = rw c.plan.ensures at c.in-Err.ensures.cut in
     cut_behind (g.K.Sink.written c.args.sink.now) (g.K.Sink.written c.loop-k.sink) (g.K.Sink.written c.write_event.new.sink)
-      (g.K.Sink.faults c.args.sink.now) (g.K.Sink.faults c.loop-k.sink) (g.K.Sink.faults c.write_event.new.sink)
-      (lines_from c.args.core.now.plan 1 (take c.loop-k.k c.args.core.now.journal))
-      (line_text c.args.core.now.plan (c.loop-k.k + 1) c.journal_at-event.result ++ codes "\n")
-      at.0 (lines_from c.args.core.now.plan 1 c.args.core.now.journal)
-      c.loop-k.invariant.gained c.loop-k.invariant.faults c.in-Err.ensures.never_falls cut at.1
+    (g.K.Sink.faults c.args.sink.now) (g.K.Sink.faults c.loop-k.sink) (g.K.Sink.faults c.write_event.new.sink)
+    (lines_from c.args.core.now.plan 1 (take c.loop-k.k c.args.core.now.journal))
+    (line_text c.args.core.now.plan (c.loop-k.k + 1) c.journal_at-event.result ++ codes "\n")
+    at.0 (lines_from c.args.core.now.plan 1 c.args.core.now.journal)
+    c.loop-k.invariant.gained c.loop-k.invariant.faults c.in-Err.ensures.never_falls cut at.1
 
 pub loop-k-preserved : goal.loop-k-preserved
 loop-k-preserved g c =
@@ -22,8 +22,8 @@ loop-k-preserved g c =
     record {
       gained = rw more
           (gains_more (g.K.Sink.written c.args.sink.now) (g.K.Sink.written c.loop-k.sink) (g.K.Sink.written c.write_event.new.sink)
-            (lines_from c.args.core.now.plan 1 (take c.loop-k.k c.args.core.now.journal))
-            (line_text c.args.core.now.plan (c.loop-k.k + 1) c.journal_at-event.result ++ codes "\n")
-            c.loop-k.invariant.gained whole);
+          (lines_from c.args.core.now.plan 1 (take c.loop-k.k c.args.core.now.journal))
+          (line_text c.args.core.now.plan (c.loop-k.k + 1) c.journal_at-event.result ++ codes "\n")
+          c.loop-k.invariant.gained whole);
       faults = omega (arith, c.loop-k.invariant.faults, c.in-Ok.ensures.never_falls);
     }

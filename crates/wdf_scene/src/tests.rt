@@ -1,0 +1,239 @@
+use crate::*;
+use wdf_base::{
+    Access, Act, Action, Ask, Callback, ClassInfo, ContextWord, Declared, DeferredKind, DeviceInfo,
+    DispatchKind, ExecutionLevel, ExprNode, Handle, Memory, Name, ObjectId, Operator, PlainKind,
+    Post, PostLine, QueueInfo, RegisterInfo, RequestForm, Scope, Serves, Statement, Status,
+    WhenLine,
+};
+
+#[test]
+fn words_are_those_of_the_text(rt: HostRuntime) {
+    assert_eq!(rt; plain_kind_word(PlainKind::SpinLock), "spinlock");
+    assert_eq!(rt;
+        plain_kind_from_word(b"waitlock"),
+        Some(PlainKind::WaitLock)
+    );
+    assert_eq!(rt; plain_kind_from_word(b"dpc"), None);
+    assert_eq!(rt; deferred_kind_word(DeferredKind::WorkItem), "workitem");
+    assert_eq!(rt;
+        deferred_kind_from_word(b"timer"),
+        Some(DeferredKind::Timer)
+    );
+    assert_eq!(rt; scope_word(Scope::Unscoped), "none");
+    assert_eq!(rt; scope_from_word(b"queue"), Some(Scope::PerQueue));
+    assert_eq!(rt; scope_from_word(b"inherit"), None);
+    assert_eq!(rt; level_word(ExecutionLevel::Passive), "passive");
+    assert_eq!(rt;
+        level_from_word(b"dispatch"),
+        Some(ExecutionLevel::Dispatch)
+    );
+    assert_eq!(rt; form_word(RequestForm::Control), "control");
+    assert_eq!(rt; form_from_word(b"write"), Some(RequestForm::Write));
+    assert_eq!(rt; access_word(Access::Read), "read");
+    assert_eq!(rt; access_from_word(b"control"), None);
+    for (operator, word) in [
+        (Operator::Add, "+"),
+        (Operator::Subtract, "-"),
+        (Operator::Multiply, "*"),
+        (Operator::Divide, "/"),
+        (Operator::Remainder, "%"),
+        (Operator::BitAnd, "&"),
+        (Operator::BitOr, "|"),
+        (Operator::BitXor, "^"),
+        (Operator::Equals, "=="),
+        (Operator::Differs, "!="),
+        (Operator::Below, "<"),
+        (Operator::AtMost, "<="),
+    ] {
+        assert_eq!(rt; operator_word(operator), word);
+        assert_eq!(rt; operator_from_word(word.as_bytes()), Some(operator));
+    }
+    assert_eq!(rt; context_word(ContextWord::OwnObject), "self");
+    assert_eq!(rt;
+        context_from_word(b"status"),
+        Some(ContextWord::CompletionStatus)
+    );
+}
+
+#[test]
+fn a_scene_gives_its_lines_back(rt: HostRuntime) -> Result<(), Memory> {
+    let mut builder = SceneBuilder::new(rt.alloc(), 1);
+    builder.line(1, SceneLine::Cpus(1))?;
+    builder.line(4, SceneLine::Picks)?;
+    builder.pick(7)?;
+    builder.pick(8)?;
+    let scene = builder.finish();
+    assert_eq!(rt; scene.version, 1);
+    assert_eq!(rt; scene.line_len(), 2);
+    assert_eq!(rt; scene.line(0), SceneLine::Cpus(1));
+    assert_eq!(rt; scene.number(1), 4);
+    assert_eq!(rt; scene.pick_len(0), 0);
+    assert_eq!(rt; scene.pick_len(1), 2);
+    assert_eq!(rt; scene.pick(1, 0), 7);
+    assert_eq!(rt; scene.pick(1, 1), 8);
+    Ok(())
+}
+
+#[test]
+fn a_scene_gives_its_expressions_back(rt: HostRuntime) -> Result<(), Memory> {
+    let mut builder = SceneBuilder::new(rt.alloc(), 2);
+    assert_eq!(rt;
+        builder.expr(SceneExpr::Context(ContextWord::OwnRequest))?,
+        0
+    );
+    assert_eq!(rt; builder.expr(SceneExpr::Literal(Status::Success))?, 1);
+    let scene = builder.finish();
+    assert_eq!(rt; scene.expr_len(), 2);
+    assert_eq!(rt; scene.expr(1), SceneExpr::Literal(Status::Success));
+    Ok(())
+}
+
+const QUEUE: QueueInfo = QueueInfo {
+    name: 3,
+    device: ObjectId(2),
+    dispatch: DispatchKind::Sequential,
+    serves: Serves {
+        rest: true,
+        read: false,
+        write: false,
+        control: false,
+    },
+    powered: true,
+    zero: false,
+    scope: Scope::Unscoped,
+    level: ExecutionLevel::Dispatch,
+};
+
+const DEVICE: DeviceInfo = DeviceInfo {
+    name: 2,
+    working: true,
+    scope: Scope::Unscoped,
+    level: ExecutionLevel::Dispatch,
+};
+
+const ON_DEVICE: Handle = Handle {
+    id: ObjectId(2),
+    name: 2,
+};
+
+#[test]
+fn a_plan_gives_its_names_and_objects_back(rt: HostRuntime) -> Result<(), Memory> {
+    let mut builder = PlanBuilder::new(rt.alloc(), 2, 100, 16);
+    builder.name(Name::new(b"driver"))?;
+    builder.name(Name::new(b"req"))?;
+    builder.declared(Declared::Driver)?;
+    builder.declared(Declared::Device(DEVICE))?;
+    let plan = builder.finish();
+    assert_eq!(rt; plan.cpus(), 2);
+    assert_eq!(rt; plan.limit(), 100);
+    assert_eq!(rt; plan.objects(), 16);
+    assert_eq!(rt; plan.name_len(), 2);
+    assert_eq!(rt; plan.name(1), b"req".as_slice());
+    assert_eq!(rt; plan.declared_len(), 2);
+    assert_eq!(rt; plan.declared(ObjectId(1)), Declared::Driver);
+    assert_eq!(rt; plan.declared(ObjectId(2)), Declared::Device(DEVICE));
+    assert_eq!(rt; plan.object_named(2), Some(ObjectId(2)));
+    assert_eq!(rt; plan.object_named(6), None);
+    Ok(())
+}
+
+#[test]
+fn a_plan_gives_its_classes_and_registers_back(rt: HostRuntime) -> Result<(), Memory> {
+    let mut builder = PlanBuilder::new(rt.alloc(), 2, 100, 16);
+    let class = builder.class(ClassInfo::Plain {
+        name: 4,
+        kind: PlainKind::Object,
+    })?;
+    assert_eq!(rt; class, 0);
+    builder.register(RegisterInfo {
+        name: 5,
+        device: ObjectId(2),
+        value: 65,
+    })?;
+    builder.when(WhenLine {
+        access: Access::Write,
+        register: 0,
+        action: Action::Set {
+            register: 0,
+            value: 1,
+        },
+        after: 3,
+    })?;
+    let plan = builder.finish();
+    assert_eq!(rt; plan.class_len(), 1);
+    assert_eq!(rt; plan.class(0).name(), 4);
+    assert_eq!(rt; plan.register_len(), 1);
+    assert_eq!(rt; plan.register(0).value, 65);
+    assert_eq!(rt; plan.when_len(), 1);
+    assert_eq!(rt; plan.when(0).after, 3);
+    Ok(())
+}
+
+#[test]
+fn a_plan_gives_its_agents_back(rt: HostRuntime) -> Result<(), Memory> {
+    let mut builder = PlanBuilder::new(rt.alloc(), 2, 100, 16);
+    assert_eq!(rt; builder.agent(6)?, 1);
+    builder.post(
+        0,
+        PostLine {
+            tick: 1,
+            post: Post::Ask {
+                ask: Ask::Sleep,
+                device: ON_DEVICE,
+            },
+        },
+    )?;
+    builder.post(
+        1,
+        PostLine {
+            tick: 3,
+            post: Post::Read {
+                device: ON_DEVICE,
+                length: 16,
+            },
+        },
+    )?;
+    let plan = builder.finish();
+    assert_eq!(rt; plan.agent_len(), 2);
+    assert_eq!(rt; plan.agent_name(1), 6);
+    assert_eq!(rt; plan.post_len(0), 1);
+    assert_eq!(rt; plan.post(0, 0).tick, 1);
+    assert_eq!(rt; plan.post_len(1), 1);
+    assert_eq!(rt; plan.post(1, 0).tick, 3);
+    Ok(())
+}
+
+#[test]
+fn a_plan_gives_its_scripts_back(rt: HostRuntime) -> Result<(), Memory> {
+    let mut builder = PlanBuilder::new(rt.alloc(), 2, 100, 16);
+    builder.expr(ExprNode::Literal(Status::Success))?;
+    builder.script(Callback::EvtIoRead, Declared::Queue(QUEUE), 7)?;
+    builder.statement(
+        0,
+        Statement {
+            line: 8,
+            next: 1,
+            act: Act::Return { value: 0 },
+        },
+    )?;
+    builder.pick(9)?;
+    let plan = builder.finish();
+    assert_eq!(rt; plan.expr_len(), 1);
+    assert_eq!(rt; plan.expr(0), ExprNode::Literal(Status::Success));
+    assert_eq!(rt; plan.script_len(), 1);
+    assert_eq!(rt;
+        plan.script(Callback::EvtIoRead, Declared::Queue(QUEUE)),
+        Some(0)
+    );
+    assert_eq!(rt;
+        plan.script(Callback::EvtIoWrite, Declared::Queue(QUEUE)),
+        None
+    );
+    assert_eq!(rt; plan.script_line(0), 7);
+    assert_eq!(rt; plan.script_callback(0), Callback::EvtIoRead);
+    assert_eq!(rt; plan.script_owner(0), Declared::Queue(QUEUE));
+    assert_eq!(rt; plan.statement_len(0), 1);
+    assert_eq!(rt; plan.statement(0, 0).line, 8);
+    assert_eq!(rt; plan.picks(), [9].as_slice());
+    Ok(())
+}
