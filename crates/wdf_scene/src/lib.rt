@@ -1,13 +1,15 @@
 //! A scenario as the lines of its text, and the builders of scenes and of plans.
 #![tactic(auto)]
 
+mod block;
 mod line;
 mod plan_builder;
 mod scene;
 mod scene_builder;
 mod words;
 
-pub use line::{InterruptLevel, NumberedLine, SceneAction, SceneArg, SceneExpr, SceneLine};
+pub use block::Block;
+pub use line::{InterruptLevel, NumberedLine, SceneAction, SceneArg, SceneExpr, SceneLine, StatementHead};
 pub use plan_builder::PlanBuilder;
 pub use scene::Scene;
 pub use scene_builder::SceneBuilder;

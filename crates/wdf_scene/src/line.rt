@@ -46,6 +46,18 @@ pub enum SceneExpr {
     },
 }
 
+/// What stands before the one expression of a statement.
+#[derive(Clone, Copy, Debug, PartialEq, Eq)]
+pub enum StatementHead {
+    Let(Name),
+    Put(Name),
+    If,
+    Repeat,
+    Spend,
+    Log,
+    Return,
+}
+
 /// A line of the text with its names, its numbers and the numbers of its expressions. No line stands
 /// for `version 2`: that is the version of the scene.
 #[derive(Clone, Copy, Debug, PartialEq, Eq)]

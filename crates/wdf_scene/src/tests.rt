@@ -1,4 +1,7 @@
+ghost use Rattle.std.specs.Prelude.{◌≡◌, []};
+
 use crate::*;
+use std::alloc::Global;
 use wdf_base::{
     Access, Act, Action, Ask, Callback, ClassInfo, ContextWord, Declared, DeferredKind, DeviceInfo,
     DispatchKind, ExecutionLevel, ExprNode, Handle, Memory, Name, ObjectId, Operator, PlainKind,
@@ -58,33 +61,34 @@ fn words_are_those_of_the_text(rt: HostRuntime) {
 #[test]
 fn a_scene_gives_its_lines_back(rt: HostRuntime) -> Result<(), Memory> {
     let mut builder = SceneBuilder::new(rt.alloc(), 1);
-    builder.line(1, SceneLine::Cpus(1))?;
-    builder.line(4, SceneLine::Picks)?;
-    builder.pick(7)?;
-    builder.pick(8)?;
+    builder.line(4, SceneLine::Cpus(1))?;
     let scene = builder.finish();
     assert_eq!(rt; scene.version, 1);
-    assert_eq!(rt; scene.line_len(), 2);
+    assert_eq!(rt; scene.line_len(), 1);
     assert_eq!(rt; scene.line(0), SceneLine::Cpus(1));
-    assert_eq!(rt; scene.number(1), 4);
-    assert_eq!(rt; scene.pick_len(0), 0);
-    assert_eq!(rt; scene.pick_len(1), 2);
-    assert_eq!(rt; scene.pick(1, 0), 7);
-    assert_eq!(rt; scene.pick(1, 1), 8);
+    assert_eq!(rt; scene.number(0), 4);
+    Ok(())
+}
+
+#[test]
+fn a_scene_gives_its_picks_back(rt: HostRuntime) -> Result<(), Memory> {
+    let mut builder = SceneBuilder::new(rt.alloc(), 1);
+    builder.line(4, SceneLine::Picks)?;
+    builder.pick(7)?;
+    let scene = builder.finish();
+    assert_eq!(rt; scene.line_len(), 1);
+    assert_eq!(rt; scene.pick_len(0), 1);
+    assert_eq!(rt; scene.pick(0, 0), 7);
     Ok(())
 }
 
 #[test]
 fn a_scene_gives_its_expressions_back(rt: HostRuntime) -> Result<(), Memory> {
     let mut builder = SceneBuilder::new(rt.alloc(), 2);
-    assert_eq!(rt;
-        builder.expr(SceneExpr::Context(ContextWord::OwnRequest))?,
-        0
-    );
-    assert_eq!(rt; builder.expr(SceneExpr::Literal(Status::Success))?, 1);
+    assert_eq!(rt; builder.expr(SceneExpr::Literal(Status::Success))?, 0);
     let scene = builder.finish();
-    assert_eq!(rt; scene.expr_len(), 2);
-    assert_eq!(rt; scene.expr(1), SceneExpr::Literal(Status::Success));
+    assert_eq!(rt; scene.expr_len(), 1);
+    assert_eq!(rt; scene.expr(0), SceneExpr::Literal(Status::Success));
     Ok(())
 }
 
@@ -116,124 +120,167 @@ const ON_DEVICE: Handle = Handle {
     name: 2,
 };
 
+fn small_builder(alloc: Global) -> PlanBuilder
+    ensures { result ≡ record { cpus = 2; limit = 100; objects = 16; names = []; declared = []; classes = []; registers = []; whens = []; pnp = []; agents = []; exprs = []; scripts = []; picks = [] } }
+{
+    PlanBuilder::new(alloc, 2, 100, 16)
+}
+
 #[test]
-fn a_plan_gives_its_names_and_objects_back(rt: HostRuntime) -> Result<(), Memory> {
-    let mut builder = PlanBuilder::new(rt.alloc(), 2, 100, 16);
-    builder.name(Name::new(b"driver"))?;
-    builder.name(Name::new(b"req"))?;
-    builder.declared(Declared::Driver)?;
-    builder.declared(Declared::Device(DEVICE))?;
+fn a_plan_gives_its_names_back(rt: HostRuntime) -> Result<(), Memory> {
+    let mut builder = small_builder(rt.alloc());
+    assert_eq!(rt; builder.name(Name::new(b"driver"))?, 0);
     let plan = builder.finish();
     assert_eq!(rt; plan.cpus(), 2);
     assert_eq!(rt; plan.limit(), 100);
     assert_eq!(rt; plan.objects(), 16);
-    assert_eq!(rt; plan.name_len(), 2);
-    assert_eq!(rt; plan.name(1), b"req".as_slice());
-    assert_eq!(rt; plan.declared_len(), 2);
-    assert_eq!(rt; plan.declared(ObjectId(1)), Declared::Driver);
-    assert_eq!(rt; plan.declared(ObjectId(2)), Declared::Device(DEVICE));
-    assert_eq!(rt; plan.object_named(2), Some(ObjectId(2)));
+    assert_eq!(rt; plan.name_len(), 1);
+    assert_eq!(rt; plan.name(0), b"driver".as_slice());
+    Ok(())
+}
+
+#[test]
+fn a_plan_gives_its_objects_back(rt: HostRuntime) -> Result<(), Memory> {
+    let mut builder = small_builder(rt.alloc());
+    assert_eq!(rt; builder.declared(Declared::Device(DEVICE))?, ObjectId(1));
+    let plan = builder.finish();
+    assert_eq!(rt; plan.declared_len(), 1);
+    assert_eq!(rt; plan.declared(ObjectId(1)), Declared::Device(DEVICE));
+    assert_eq!(rt; plan.object_named(2), Some(ObjectId(1)));
     assert_eq!(rt; plan.object_named(6), None);
     Ok(())
 }
 
 #[test]
-fn a_plan_gives_its_classes_and_registers_back(rt: HostRuntime) -> Result<(), Memory> {
-    let mut builder = PlanBuilder::new(rt.alloc(), 2, 100, 16);
-    let class = builder.class(ClassInfo::Plain {
+fn a_plan_gives_its_classes_back(rt: HostRuntime) -> Result<(), Memory> {
+    let mut builder = small_builder(rt.alloc());
+    let object = ClassInfo::Plain {
         name: 4,
         kind: PlainKind::Object,
-    })?;
-    assert_eq!(rt; class, 0);
-    builder.register(RegisterInfo {
-        name: 5,
-        device: ObjectId(2),
-        value: 65,
-    })?;
-    builder.when(WhenLine {
-        access: Access::Write,
-        register: 0,
-        action: Action::Set {
-            register: 0,
-            value: 1,
-        },
-        after: 3,
-    })?;
+    };
+    assert_eq!(rt; builder.class(object)?, 0);
     let plan = builder.finish();
     assert_eq!(rt; plan.class_len(), 1);
     assert_eq!(rt; plan.class(0).name(), 4);
+    Ok(())
+}
+
+#[test]
+fn a_plan_gives_its_registers_back(rt: HostRuntime) -> Result<(), Memory> {
+    let mut builder = small_builder(rt.alloc());
+    let register = RegisterInfo {
+        name: 5,
+        device: ObjectId(2),
+        value: 65,
+    };
+    assert_eq!(rt; builder.register(register)?, 0);
+    let plan = builder.finish();
     assert_eq!(rt; plan.register_len(), 1);
     assert_eq!(rt; plan.register(0).value, 65);
+    Ok(())
+}
+
+#[test]
+fn a_plan_gives_its_when_lines_back(rt: HostRuntime) -> Result<(), Memory> {
+    let mut builder = small_builder(rt.alloc());
+    let action = Action::Set {
+        register: 0,
+        value: 1,
+    };
+    let line = WhenLine {
+        access: Access::Write,
+        register: 0,
+        action,
+        after: 3,
+    };
+    assert_eq!(rt; builder.when(line)?, 0);
+    let plan = builder.finish();
     assert_eq!(rt; plan.when_len(), 1);
     assert_eq!(rt; plan.when(0).after, 3);
     Ok(())
 }
 
 #[test]
+fn a_plan_gives_its_posts_back(rt: HostRuntime) -> Result<(), Memory> {
+    let mut builder = small_builder(rt.alloc());
+    let post = Post::Ask {
+        ask: Ask::Sleep,
+        device: ON_DEVICE,
+    };
+    builder.post(0, PostLine { tick: 1, post })?;
+    let plan = builder.finish();
+    assert_eq!(rt; plan.agent_len(), 1);
+    assert_eq!(rt; plan.post_len(0), 1);
+    assert_eq!(rt; plan.post(0, 0).tick, 1);
+    Ok(())
+}
+
+#[test]
 fn a_plan_gives_its_agents_back(rt: HostRuntime) -> Result<(), Memory> {
-    let mut builder = PlanBuilder::new(rt.alloc(), 2, 100, 16);
+    let mut builder = small_builder(rt.alloc());
     assert_eq!(rt; builder.agent(6)?, 1);
-    builder.post(
-        0,
-        PostLine {
-            tick: 1,
-            post: Post::Ask {
-                ask: Ask::Sleep,
-                device: ON_DEVICE,
-            },
-        },
-    )?;
-    builder.post(
-        1,
-        PostLine {
-            tick: 3,
-            post: Post::Read {
-                device: ON_DEVICE,
-                length: 16,
-            },
-        },
-    )?;
+    let post = Post::Read {
+        device: ON_DEVICE,
+        length: 16,
+    };
+    builder.post(1, PostLine { tick: 3, post })?;
     let plan = builder.finish();
     assert_eq!(rt; plan.agent_len(), 2);
     assert_eq!(rt; plan.agent_name(1), 6);
-    assert_eq!(rt; plan.post_len(0), 1);
-    assert_eq!(rt; plan.post(0, 0).tick, 1);
     assert_eq!(rt; plan.post_len(1), 1);
     assert_eq!(rt; plan.post(1, 0).tick, 3);
     Ok(())
 }
 
 #[test]
-fn a_plan_gives_its_scripts_back(rt: HostRuntime) -> Result<(), Memory> {
-    let mut builder = PlanBuilder::new(rt.alloc(), 2, 100, 16);
-    builder.expr(ExprNode::Literal(Status::Success))?;
-    builder.script(Callback::EvtIoRead, Declared::Queue(QUEUE), 7)?;
-    builder.statement(
-        0,
-        Statement {
-            line: 8,
-            next: 1,
-            act: Act::Return { value: 0 },
-        },
-    )?;
-    builder.pick(9)?;
+fn a_plan_gives_its_expressions_back(rt: HostRuntime) -> Result<(), Memory> {
+    let mut builder = small_builder(rt.alloc());
+    assert_eq!(rt; builder.expr(ExprNode::Literal(Status::Success))?, 0);
     let plan = builder.finish();
     assert_eq!(rt; plan.expr_len(), 1);
     assert_eq!(rt; plan.expr(0), ExprNode::Literal(Status::Success));
+    Ok(())
+}
+
+#[test]
+fn a_plan_gives_its_scripts_back(rt: HostRuntime) -> Result<(), Memory> {
+    let mut builder = small_builder(rt.alloc());
+    let owner = Declared::Queue(QUEUE);
+    assert_eq!(rt; builder.script(Callback::EvtIoRead, owner, 7)?, 0);
+    let plan = builder.finish();
     assert_eq!(rt; plan.script_len(), 1);
-    assert_eq!(rt;
-        plan.script(Callback::EvtIoRead, Declared::Queue(QUEUE)),
-        Some(0)
-    );
-    assert_eq!(rt;
-        plan.script(Callback::EvtIoWrite, Declared::Queue(QUEUE)),
-        None
-    );
+    assert_eq!(rt; plan.script(Callback::EvtIoRead, owner), Some(0));
+    assert_eq!(rt; plan.script(Callback::EvtIoWrite, owner), None);
     assert_eq!(rt; plan.script_line(0), 7);
     assert_eq!(rt; plan.script_callback(0), Callback::EvtIoRead);
-    assert_eq!(rt; plan.script_owner(0), Declared::Queue(QUEUE));
+    assert_eq!(rt; plan.script_owner(0), owner);
+    assert_eq!(rt; plan.statement_len(0), 0);
+    Ok(())
+}
+
+#[test]
+fn a_plan_gives_its_statements_back(rt: HostRuntime) -> Result<(), Memory> {
+    let mut builder = small_builder(rt.alloc());
+    builder.script(Callback::EvtIoRead, Declared::Queue(QUEUE), 7)?;
+    let act = Act::Return { value: 0 };
+    let statement = Statement {
+        line: 8,
+        next: 1,
+        act,
+    };
+    builder.statement(0, statement)?;
+    let plan = builder.finish();
+    assert_eq!(rt; plan.script_len(), 1);
     assert_eq!(rt; plan.statement_len(0), 1);
     assert_eq!(rt; plan.statement(0, 0).line, 8);
+    Ok(())
+}
+
+#[test]
+fn a_plan_gives_its_picks_back(rt: HostRuntime) -> Result<(), Memory> {
+    let mut builder = small_builder(rt.alloc());
+    builder.pick(9)?;
+    let plan = builder.finish();
     assert_eq!(rt; plan.picks(), [9].as_slice());
     Ok(())
 }

@@ -1,0 +1,20 @@
+/// A block of the text that is open: its first line was seen, and its `end` wasn't.
+#[derive(Clone, Copy, Debug, PartialEq, Eq)]
+pub enum Block {
+    Driver,
+    Class,
+    Device,
+    Interrupt,
+    Queue,
+    Target,
+    App,
+    Pnp,
+    Order,
+    /// `on CALLBACK`.
+    On,
+    /// `if`, before its `else`.
+    If,
+    /// `if`, behind its `else`.
+    Else,
+    Repeat,
+}
