@@ -1,11 +1,9 @@
-ghost use Rattle.std.specs.Prelude.{◌≡◌, []};
-
 use crate::*;
 use std::alloc::Global;
 use wdf_base::{
     Access, Act, Action, Ask, Callback, ClassInfo, ContextWord, Declared, DeferredKind, DeviceInfo,
     DispatchKind, ExecutionLevel, ExprNode, Handle, Memory, Name, ObjectId, Operator, PlainKind,
-    Post, PostLine, QueueInfo, RegisterInfo, RequestForm, Scope, Serves, Statement, Status,
+    Plan, Post, PostLine, QueueInfo, RegisterInfo, RequestForm, Scope, Serves, Statement, Status,
     WhenLine,
 };
 
@@ -120,17 +118,15 @@ const ON_DEVICE: Handle = Handle {
     name: 2,
 };
 
-fn small_builder(alloc: Global) -> PlanBuilder
-    ensures { result ≡ record { cpus = 2; limit = 100; objects = 16; names = []; declared = []; classes = []; registers = []; whens = []; pnp = []; agents = []; exprs = []; scripts = []; picks = [] } }
-{
-    PlanBuilder::new(alloc, 2, 100, 16)
+fn with_name(alloc: Global) -> Result<Plan, Memory> {
+    let mut builder = PlanBuilder::new(alloc, 2, 100, 16);
+    builder.name(Name::new(b"driver"))?;
+    Ok(builder.finish())
 }
 
 #[test]
 fn a_plan_gives_its_names_back(rt: HostRuntime) -> Result<(), Memory> {
-    let mut builder = small_builder(rt.alloc());
-    assert_eq!(rt; builder.name(Name::new(b"driver"))?, 0);
-    let plan = builder.finish();
+    let plan = with_name(rt.alloc())?;
     assert_eq!(rt; plan.cpus(), 2);
     assert_eq!(rt; plan.limit(), 100);
     assert_eq!(rt; plan.objects(), 16);
@@ -139,11 +135,15 @@ fn a_plan_gives_its_names_back(rt: HostRuntime) -> Result<(), Memory> {
     Ok(())
 }
 
+fn with_object(alloc: Global) -> Result<Plan, Memory> {
+    let mut builder = PlanBuilder::new(alloc, 2, 100, 16);
+    builder.declared(Declared::Device(DEVICE))?;
+    Ok(builder.finish())
+}
+
 #[test]
 fn a_plan_gives_its_objects_back(rt: HostRuntime) -> Result<(), Memory> {
-    let mut builder = small_builder(rt.alloc());
-    assert_eq!(rt; builder.declared(Declared::Device(DEVICE))?, ObjectId(1));
-    let plan = builder.finish();
+    let plan = with_object(rt.alloc())?;
     assert_eq!(rt; plan.declared_len(), 1);
     assert_eq!(rt; plan.declared(ObjectId(1)), Declared::Device(DEVICE));
     assert_eq!(rt; plan.object_named(2), Some(ObjectId(1)));
@@ -151,38 +151,45 @@ fn a_plan_gives_its_objects_back(rt: HostRuntime) -> Result<(), Memory> {
     Ok(())
 }
 
-#[test]
-fn a_plan_gives_its_classes_back(rt: HostRuntime) -> Result<(), Memory> {
-    let mut builder = small_builder(rt.alloc());
+fn with_class(alloc: Global) -> Result<Plan, Memory> {
+    let mut builder = PlanBuilder::new(alloc, 2, 100, 16);
     let object = ClassInfo::Plain {
         name: 4,
         kind: PlainKind::Object,
     };
-    assert_eq!(rt; builder.class(object)?, 0);
-    let plan = builder.finish();
+    builder.class(object)?;
+    Ok(builder.finish())
+}
+
+#[test]
+fn a_plan_gives_its_classes_back(rt: HostRuntime) -> Result<(), Memory> {
+    let plan = with_class(rt.alloc())?;
     assert_eq!(rt; plan.class_len(), 1);
     assert_eq!(rt; plan.class(0).name(), 4);
     Ok(())
 }
 
-#[test]
-fn a_plan_gives_its_registers_back(rt: HostRuntime) -> Result<(), Memory> {
-    let mut builder = small_builder(rt.alloc());
+fn with_register(alloc: Global) -> Result<Plan, Memory> {
+    let mut builder = PlanBuilder::new(alloc, 2, 100, 16);
     let register = RegisterInfo {
         name: 5,
         device: ObjectId(2),
         value: 65,
     };
-    assert_eq!(rt; builder.register(register)?, 0);
-    let plan = builder.finish();
+    builder.register(register)?;
+    Ok(builder.finish())
+}
+
+#[test]
+fn a_plan_gives_its_registers_back(rt: HostRuntime) -> Result<(), Memory> {
+    let plan = with_register(rt.alloc())?;
     assert_eq!(rt; plan.register_len(), 1);
     assert_eq!(rt; plan.register(0).value, 65);
     Ok(())
 }
 
-#[test]
-fn a_plan_gives_its_when_lines_back(rt: HostRuntime) -> Result<(), Memory> {
-    let mut builder = small_builder(rt.alloc());
+fn with_when_line(alloc: Global) -> Result<Plan, Memory> {
+    let mut builder = PlanBuilder::new(alloc, 2, 100, 16);
     let action = Action::Set {
         register: 0,
         value: 1,
@@ -193,38 +200,51 @@ fn a_plan_gives_its_when_lines_back(rt: HostRuntime) -> Result<(), Memory> {
         action,
         after: 3,
     };
-    assert_eq!(rt; builder.when(line)?, 0);
-    let plan = builder.finish();
+    builder.when(line)?;
+    Ok(builder.finish())
+}
+
+#[test]
+fn a_plan_gives_its_when_lines_back(rt: HostRuntime) -> Result<(), Memory> {
+    let plan = with_when_line(rt.alloc())?;
     assert_eq!(rt; plan.when_len(), 1);
     assert_eq!(rt; plan.when(0).after, 3);
     Ok(())
 }
 
-#[test]
-fn a_plan_gives_its_posts_back(rt: HostRuntime) -> Result<(), Memory> {
-    let mut builder = small_builder(rt.alloc());
+fn with_post(alloc: Global) -> Result<Plan, Memory> {
+    let mut builder = PlanBuilder::new(alloc, 2, 100, 16);
     let post = Post::Ask {
         ask: Ask::Sleep,
         device: ON_DEVICE,
     };
     builder.post(0, PostLine { tick: 1, post })?;
-    let plan = builder.finish();
+    Ok(builder.finish())
+}
+
+#[test]
+fn a_plan_gives_its_posts_back(rt: HostRuntime) -> Result<(), Memory> {
+    let plan = with_post(rt.alloc())?;
     assert_eq!(rt; plan.agent_len(), 1);
     assert_eq!(rt; plan.post_len(0), 1);
     assert_eq!(rt; plan.post(0, 0).tick, 1);
     Ok(())
 }
 
-#[test]
-fn a_plan_gives_its_agents_back(rt: HostRuntime) -> Result<(), Memory> {
-    let mut builder = small_builder(rt.alloc());
-    assert_eq!(rt; builder.agent(6)?, 1);
+fn with_agent(alloc: Global) -> Result<Plan, Memory> {
+    let mut builder = PlanBuilder::new(alloc, 2, 100, 16);
+    builder.agent(6)?;
     let post = Post::Read {
         device: ON_DEVICE,
         length: 16,
     };
     builder.post(1, PostLine { tick: 3, post })?;
-    let plan = builder.finish();
+    Ok(builder.finish())
+}
+
+#[test]
+fn a_plan_gives_its_agents_back(rt: HostRuntime) -> Result<(), Memory> {
+    let plan = with_agent(rt.alloc())?;
     assert_eq!(rt; plan.agent_len(), 2);
     assert_eq!(rt; plan.agent_name(1), 6);
     assert_eq!(rt; plan.post_len(1), 1);
@@ -232,22 +252,31 @@ fn a_plan_gives_its_agents_back(rt: HostRuntime) -> Result<(), Memory> {
     Ok(())
 }
 
+fn with_expression(alloc: Global) -> Result<Plan, Memory> {
+    let mut builder = PlanBuilder::new(alloc, 2, 100, 16);
+    builder.expr(ExprNode::Literal(Status::Success))?;
+    Ok(builder.finish())
+}
+
 #[test]
 fn a_plan_gives_its_expressions_back(rt: HostRuntime) -> Result<(), Memory> {
-    let mut builder = small_builder(rt.alloc());
-    assert_eq!(rt; builder.expr(ExprNode::Literal(Status::Success))?, 0);
-    let plan = builder.finish();
+    let plan = with_expression(rt.alloc())?;
     assert_eq!(rt; plan.expr_len(), 1);
     assert_eq!(rt; plan.expr(0), ExprNode::Literal(Status::Success));
     Ok(())
 }
 
+fn with_script(alloc: Global) -> Result<Plan, Memory> {
+    let mut builder = PlanBuilder::new(alloc, 2, 100, 16);
+    let owner = Declared::Queue(QUEUE);
+    builder.script(Callback::EvtIoRead, owner, 7)?;
+    Ok(builder.finish())
+}
+
 #[test]
 fn a_plan_gives_its_scripts_back(rt: HostRuntime) -> Result<(), Memory> {
-    let mut builder = small_builder(rt.alloc());
     let owner = Declared::Queue(QUEUE);
-    assert_eq!(rt; builder.script(Callback::EvtIoRead, owner, 7)?, 0);
-    let plan = builder.finish();
+    let plan = with_script(rt.alloc())?;
     assert_eq!(rt; plan.script_len(), 1);
     assert_eq!(rt; plan.script(Callback::EvtIoRead, owner), Some(0));
     assert_eq!(rt; plan.script(Callback::EvtIoWrite, owner), None);
@@ -258,9 +287,8 @@ fn a_plan_gives_its_scripts_back(rt: HostRuntime) -> Result<(), Memory> {
     Ok(())
 }
 
-#[test]
-fn a_plan_gives_its_statements_back(rt: HostRuntime) -> Result<(), Memory> {
-    let mut builder = small_builder(rt.alloc());
+fn with_statement(alloc: Global) -> Result<Plan, Memory> {
+    let mut builder = PlanBuilder::new(alloc, 2, 100, 16);
     builder.script(Callback::EvtIoRead, Declared::Queue(QUEUE), 7)?;
     let act = Act::Return { value: 0 };
     let statement = Statement {
@@ -269,18 +297,27 @@ fn a_plan_gives_its_statements_back(rt: HostRuntime) -> Result<(), Memory> {
         act,
     };
     builder.statement(0, statement)?;
-    let plan = builder.finish();
+    Ok(builder.finish())
+}
+
+#[test]
+fn a_plan_gives_its_statements_back(rt: HostRuntime) -> Result<(), Memory> {
+    let plan = with_statement(rt.alloc())?;
     assert_eq!(rt; plan.script_len(), 1);
     assert_eq!(rt; plan.statement_len(0), 1);
     assert_eq!(rt; plan.statement(0, 0).line, 8);
     Ok(())
 }
 
+fn with_pick(alloc: Global) -> Result<Plan, Memory> {
+    let mut builder = PlanBuilder::new(alloc, 2, 100, 16);
+    builder.pick(9)?;
+    Ok(builder.finish())
+}
+
 #[test]
 fn a_plan_gives_its_picks_back(rt: HostRuntime) -> Result<(), Memory> {
-    let mut builder = small_builder(rt.alloc());
-    builder.pick(9)?;
-    let plan = builder.finish();
+    let plan = with_pick(rt.alloc())?;
     assert_eq!(rt; plan.picks(), [9].as_slice());
     Ok(())
 }
