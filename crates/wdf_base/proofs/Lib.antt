@@ -1,4 +1,3 @@
-pub mod Decides
 pub mod Padding
 pub mod RowOne
 pub mod WordLaws

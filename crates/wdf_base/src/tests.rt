@@ -181,8 +181,8 @@ fn names_are_keys(rt: HostRuntime) -> Result<(), Fail> {
     assert_eq!(rt; numbers.len(), 2);
     assert_eq!(rt; numbers.get(&Name::new(b"abc")).copied(), Some(3));
     assert_eq!(rt; numbers.get(&Name::new(b"ab")).copied(), None);
-    assert!(rt; same_name(&longest, &longest));
-    assert!(rt; !same_name(&longest, &Name::new(b"abc")));
+    assert!(rt; longest == longest);
+    assert!(rt; longest != Name::new(b"abc"));
     Ok(())
 }
 
@@ -198,36 +198,6 @@ fn lists_are_read_by_number(rt: HostRuntime) -> Result<(), Memory> {
     assert_eq!(rt; *items.item(1), 9);
     assert_eq!(rt; items.as_slice(), [8, 9].as_slice());
     Ok(())
-}
-
-#[test]
-fn values_are_one_where_their_fields_are(rt: HostRuntime) {
-    let first = Handle {
-        id: ObjectId(4),
-        name: 1,
-    };
-    let second = Handle {
-        id: ObjectId(4),
-        name: 2,
-    };
-    assert!(rt; same_value(Value::Obj(first), Value::Obj(first)));
-    assert!(rt; !same_value(Value::Obj(first), Value::Obj(second)));
-    assert!(rt; !same_value(Value::Num(0), Value::Stat(Status::Success)));
-    let get = Event::Register {
-        cpu: Cpu(0),
-        access: Access::Read,
-        register: 3,
-        value: 5,
-    };
-    let put = Event::Register {
-        cpu: Cpu(0),
-        access: Access::Write,
-        register: 3,
-        value: 5,
-    };
-    assert!(rt; same_event(&get, &get));
-    assert!(rt; !same_event(&get, &put));
-    assert!(rt; !same_event(&get, &Event::Tick { time: 5 }));
 }
 
 #[test]

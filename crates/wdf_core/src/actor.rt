@@ -1,7 +1,8 @@
 ghost use Rattle.std.specs.Prelude.{◌≡◌};
 ghost use Rattle.wdf_core.specs.Course.{actor_of as actor_by_event, is_by as is_step_of};
 
-use wdf_base::{Actor, Event, same_actor};
+use wdf_base::{Actor, Event};
+use wdf_same::same_actor;
 
 /// Who takes the step of an event.
 fn actor_of(event: &Event) -> Actor

@@ -9,7 +9,9 @@ mod scene_builder;
 mod words;
 
 pub use block::Block;
-pub use line::{InterruptLevel, NumberedLine, SceneAction, SceneArg, SceneExpr, SceneLine, StatementHead};
+pub use line::{
+    InterruptLevel, NumberedLine, SceneAction, SceneArg, SceneExpr, SceneLine, StatementHead,
+};
 pub use plan_builder::PlanBuilder;
 pub use scene::Scene;
 pub use scene_builder::SceneBuilder;

@@ -1,2 +1,12 @@
+pub mod AgentLaws
+pub mod Blanks
+pub mod CallLaws
+pub mod Decimals
+pub mod EventLaws
+pub mod NameLaws
+pub mod Numbers
+pub mod ResolvedLaws
 pub mod Spaced
+pub mod ValueLaws
+pub mod WordLaws
 pub mod WordSizes

@@ -10,9 +10,8 @@ use Rattle.wdf_base.specs.declared.wait.OpenThing.TheVariants as thing
 use Rattle.wdf_base.specs.declared.wait.Cause.{Cause}
 use Rattle.wdf_base.specs.declared.wait.Cause.TheVariants as cause
 use Rattle.wdf_base.specs.declared.wait.WaitLine.{WaitLine}
-use Rattle.wdf_base.specs.declared.event.Event.{Event}
 use Rattle.wdf_base.specs.Words.{callback_word, stage_word}
-use Rattle.wdf_trace.specs.Lines.{spaced, object_text, lines_from}
+use Rattle.wdf_trace.specs.Lines.{spaced, object_text}
 
 -- words with a blank between each two
 abbrev pub joined : List (List ℕ) → List ℕ

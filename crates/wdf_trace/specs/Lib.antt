@@ -1,2 +1,6 @@
 pub mod Endings
+pub mod Events
 pub mod Lines
+pub mod Reading
+pub mod Told
+pub mod Verbs

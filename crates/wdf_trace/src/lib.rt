@@ -5,7 +5,13 @@ mod endings;
 mod line;
 mod lines;
 mod pieces;
+mod read;
+mod reading;
+mod told;
+mod valid;
+mod verb;
 
 pub use endings::{ending_line, wait_line};
 pub use line::{LINE_LIMIT, Line};
 pub use lines::line_of;
+pub use read::read_line;

@@ -10,7 +10,7 @@ use wdf_base::{
 };
 
 /// The bytes of the name with this number, none where there is no such name.
-fn name_bytes(plan: &Plan, name: u32) -> &[u8]
+pub fn name_bytes(plan: &Plan, name: u32) -> &[u8]
     ensures value { result.now ≡ name_text plan.now name }
     ensures small { length result.now ≤ 32 }
 {

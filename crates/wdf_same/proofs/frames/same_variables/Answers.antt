@@ -2,8 +2,8 @@ use Rattle.std.proofs.Common.{◌≡◌, rules}
 use Rattle.std.specs.Cmp.Lexicographic.{pointwise}
 use Rattle.std.proofs.lemmas.Slice.Eq.{slice_eq-Decides}
 use Rattle.wdf_base.specs.Same.{same_value}
-use Rattle.wdf_base.proofs.Decides.{value_decides}
-use Rattle.wdf_base.proofs.equal_frames.same_variables.Goals as goal
+use Rattle.wdf_same.proofs.Decides.{value_decides}
+use Rattle.wdf_same.proofs.frames.same_variables.Goals as goal
 
 pub returns-clause-exact : goal.returns-clause-exact
 returns-clause-exact c =

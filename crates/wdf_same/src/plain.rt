@@ -1,0 +1,219 @@
+//! Equality of ids, enums, values, requests and calls.
+ghost use Rattle.std.specs.Prelude.{◌≡◌, ◌↔◌, IsTrue};
+ghost use Rattle.wdf_base.specs.Same as same;
+
+use wdf_base::{
+    Access, Arg, Ask, Call, CallKind, Cpu, Fault, FrameId, Handle, Kind, Life, LockRef, Mark, Name,
+    ObjectId, Place, RequestForm, RequestInfo, Stage, Value, same_object_id, same_status,
+};
+
+/// Whether the two are one.
+pub fn same_cpu(a: Cpu, b: Cpu) -> bool
+    ensures value { result ≡ same.same_cpu a b }
+    ensures exact { IsTrue result ↔ (a ≡ b) }
+{
+    a == b
+}
+
+/// Whether the two are one.
+pub fn same_frame_id(a: FrameId, b: FrameId) -> bool
+    ensures value { result ≡ same.same_frame_id a b }
+    ensures exact { IsTrue result ↔ (a ≡ b) }
+{
+    a == b
+}
+
+/// Whether the two are one.
+pub fn same_kind(a: Kind, b: Kind) -> bool
+    ensures value { result ≡ same.same_kind a b }
+    ensures exact { IsTrue result ↔ (a ≡ b) }
+{
+    a == b
+}
+
+/// Whether the two are one.
+pub fn same_life(a: Life, b: Life) -> bool
+    ensures value { result ≡ same.same_life a b }
+    ensures exact { IsTrue result ↔ (a ≡ b) }
+{
+    a == b
+}
+
+/// Whether the two are one.
+pub fn same_mark(a: Mark, b: Mark) -> bool
+    ensures value { result ≡ same.same_mark a b }
+    ensures exact { IsTrue result ↔ (a ≡ b) }
+{
+    a == b
+}
+
+/// Whether the two are one.
+pub fn same_request_form(a: RequestForm, b: RequestForm) -> bool
+    ensures value { result ≡ same.same_request_form a b }
+    ensures exact { IsTrue result ↔ (a ≡ b) }
+{
+    a == b
+}
+
+/// Whether the two are one.
+pub fn same_call_kind(a: CallKind, b: CallKind) -> bool
+    ensures value { result ≡ same.same_call_kind a b }
+    ensures exact { IsTrue result ↔ (a ≡ b) }
+{
+    a == b
+}
+
+/// Whether the two are one.
+pub fn same_ask(a: Ask, b: Ask) -> bool
+    ensures value { result ≡ same.same_ask a b }
+    ensures exact { IsTrue result ↔ (a ≡ b) }
+{
+    a == b
+}
+
+/// Whether the two are one.
+pub fn same_stage(a: Stage, b: Stage) -> bool
+    ensures value { result ≡ same.same_stage a b }
+    ensures exact { IsTrue result ↔ (a ≡ b) }
+{
+    a == b
+}
+
+/// Whether the two are one.
+pub fn same_access(a: Access, b: Access) -> bool
+    ensures value { result ≡ same.same_access a b }
+    ensures exact { IsTrue result ↔ (a ≡ b) }
+{
+    a == b
+}
+
+/// Whether the two are one.
+pub fn same_fault(a: Fault, b: Fault) -> bool
+    ensures value { result ≡ same.same_fault a b }
+    ensures exact { IsTrue result ↔ (a ≡ b) }
+{
+    a == b
+}
+
+/// Whether the two names have the same bytes.
+pub fn same_name(a: &Name, b: &Name) -> bool
+    ensures value { result ≡ same.same_name a.now b.now }
+    ensures exact { IsTrue result ↔ (a.now ≡ b.now) }
+{
+    a.bytes() == b.bytes()
+}
+
+/// Whether the two handles are one.
+pub fn same_handle(a: Handle, b: Handle) -> bool
+    ensures value { result ≡ same.same_handle a b }
+    ensures exact { IsTrue result ↔ (a ≡ b) }
+{
+    same_object_id(a.id, b.id) && a.name == b.name
+}
+
+/// Whether both are none, or both the same.
+pub fn same_option_handle(a: Option<Handle>, b: Option<Handle>) -> bool
+    ensures value { result ≡ same.same_option same.same_handle a b }
+    ensures exact { IsTrue result ↔ (a ≡ b) }
+{
+    match (a, b) {
+        (Some(a), Some(b)) => same_handle(a, b),
+        (None, None) => true,
+        _ => false,
+    }
+}
+
+/// Whether both are none, or both the same.
+pub fn same_option_object_id(a: Option<ObjectId>, b: Option<ObjectId>) -> bool
+    ensures value { result ≡ same.same_option same.same_object_id a b }
+    ensures exact { IsTrue result ↔ (a ≡ b) }
+{
+    match (a, b) {
+        (Some(a), Some(b)) => same_object_id(a, b),
+        (None, None) => true,
+        _ => false,
+    }
+}
+
+/// Whether the two values are one.
+pub fn same_value(a: Value, b: Value) -> bool
+    ensures value { result ≡ same.same_value a b }
+    ensures exact { IsTrue result ↔ (a ≡ b) }
+{
+    match (a, b) {
+        (Value::Num(x), Value::Num(y)) => { x == y }
+        (Value::Obj(x), Value::Obj(y)) => { same_handle(x, y) }
+        (Value::Stat(x), Value::Stat(y)) => { same_status(x, y) }
+        _ => false,
+    }
+}
+
+/// Whether the two places are one.
+pub fn same_place(a: Place, b: Place) -> bool
+    ensures value { result ≡ same.same_place a b }
+    ensures exact { IsTrue result ↔ (a ≡ b) }
+{
+    match (a, b) {
+        (Place::Queued(x), Place::Queued(y)) => { same_object_id(x, y) }
+        (Place::Returning(x), Place::Returning(y)) => { same_object_id(x, y) }
+        (Place::Closing(x), Place::Closing(y)) => { same_status(x, y) }
+        (Place::Owned, Place::Owned) => true,
+        (Place::Sent(x), Place::Sent(y)) => { same_object_id(x, y) }
+        (Place::Done, Place::Done) => true,
+        _ => false,
+    }
+}
+
+/// Whether the two locks are one.
+pub fn same_lock(a: LockRef, b: LockRef) -> bool
+    ensures value { result ≡ same.same_lock a b }
+    ensures exact { IsTrue result ↔ (a ≡ b) }
+{
+    match (a, b) {
+        (LockRef::Object(x), LockRef::Object(y)) => { same_object_id(x, y) }
+        (LockRef::DeviceScope(x), LockRef::DeviceScope(y)) => { same_object_id(x, y) }
+        (LockRef::QueueScope(x), LockRef::QueueScope(y)) => { same_object_id(x, y) }
+        _ => false,
+    }
+}
+
+/// Whether the two infos of requests are one.
+pub fn same_request_info(a: &RequestInfo, b: &RequestInfo) -> bool
+    ensures value { result ≡ same.same_request_info a.now b.now }
+    ensures exact { IsTrue result ↔ (a.now ≡ b.now) }
+{
+    same_object_id(a.device, b.device)
+        && same_request_form(a.form, b.form)
+        && a.length == b.length
+        && a.code == b.code
+        && same_option_object_id(a.origin, b.origin)
+        && a.agent == b.agent
+        && a.arrival == b.arrival
+        && same_mark(a.mark, b.mark)
+        && a.cancelled == b.cancelled
+        && a.received == b.received
+}
+
+/// Whether the two arguments are one.
+pub fn same_arg(a: Arg, b: Arg) -> bool
+    ensures value { result ≡ same.same_arg a b }
+    ensures exact { IsTrue result ↔ (a ≡ b) }
+{
+    match (a, b) {
+        (Arg::Val(x), Arg::Val(y)) => { same_value(x, y) }
+        (Arg::Class(x), Arg::Class(y)) => { x == y }
+        _ => false,
+    }
+}
+
+/// Whether the two calls are one.
+pub fn same_call(a: &Call, b: &Call) -> bool
+    ensures value { result ≡ same.same_call a.now b.now }
+    ensures exact { IsTrue result ↔ (a.now ≡ b.now) }
+{
+    same_call_kind(a.kind, b.kind)
+        && a.count == b.count
+        && same_arg(a.a, b.a)
+        && same_arg(a.b, b.b)
+        && same_arg(a.c, b.c)
+}

@@ -1,0 +1,209 @@
+ghost use Rattle.std.specs.Prelude.{◌≡◌, ◌<◌, ◌^◌, ◌+◌, ◌-◌, ◌*◌, IfSome, position, slice_get};
+ghost use Rattle.std.specs.Option.{SomeIff, option_copied};
+ghost use Rattle.wdf_trace.specs.Reading.{part, parts, word, words, is_name_with, is_class_with, is_register_with, is_agent_with, number_after, number_of, short_of, cpu_of, name_of, has_dot, object_of, class_of, register_of, poster_of, agent_of};
+
+use crate::pieces::name_bytes;
+use wdf_base::{AgentInfo, ClassInfo, Cpu, Handle, Name, ObjectId, Plan, RegisterInfo};
+
+/// The part of a text at this place between separators, if there are so many.
+fn part_if_any(text: &[u8], separator: u8, place: usize) -> Option<&[u8]>
+    ensures { option_copied result ≡ slice_get (parts separator text.now) place }
+{
+    text.split(|byte| *byte == separator).nth(place)
+}
+
+/// The part of a text at this place between separators, nothing where there are fewer.
+fn part(text: &[u8], separator: u8, place: usize) -> &[u8]
+    ensures { result.now ≡ part separator place text.now }
+{
+    match part_if_any(text, separator, place) {
+        Some(part) => part,
+        None => &[],
+    }
+}
+
+/// The word of a line at this place.
+pub fn word(text: &[u8], place: usize) -> &[u8]
+    ensures { result.now ≡ word place (words text.now) }
+{
+    part(text, b' ', place)
+}
+
+/// A number with one more digit behind it, if it fits 64 bits.
+fn with_digit(value: u64, digit: u8) -> Option<u64>
+    ensures { SomeIff result (10 * value + (digit - 48) < 2 ^ 64) (10 * value + (digit - 48)) }
+{
+    value
+        .checked_mul(10)?
+        .checked_add(u64::from(digit.saturating_sub(b'0')))
+}
+
+/// The number that a word writes in decimal digits, 0 where it doesn't fit 64 bits.
+pub fn number_of(digits: &[u8]) -> u64
+    ensures { result ≡ number_of digits.now }
+{
+    let mut value = 0;
+    for digit in digits {
+        match with_digit(value, *digit) {
+            Some(next) => value = next,
+            None => return 0,
+        }
+    }
+    value
+}
+
+/// The number that a word writes, 0 where it doesn't fit 32 bits.
+pub fn short_of(digits: &[u8]) -> u32
+    ensures { result ≡ short_of digits.now }
+{
+    u32::try_from(number_of(digits)).unwrap_or(0)
+}
+
+/// The processor that a word names.
+pub fn cpu_of(word: &[u8]) -> Cpu
+    ensures { result ≡ cpu_of word.now }
+{
+    let digits = word.get(3..).unwrap_or(&[]);
+    Cpu(u8::try_from(number_of(digits)).unwrap_or(0))
+}
+
+/// Whether a name has these bytes.
+fn is_name_with(word: &[u8], name: &Name) -> bool
+    ensures { result ≡ is_name_with word.now name.now }
+{
+    name.bytes() == word
+}
+
+/// The place of the name with these bytes.
+fn name_place(plan: &Plan, word: &[u8]) -> Option<usize>
+    ensures value { result ≡ position (is_name_with word.now) plan.now.names }
+    ensures small { IfSome result (λ k. k < 2 ^ 32) }
+{
+    plan.names
+        .as_slice()
+        .iter()
+        .position(|name| is_name_with(word, name))
+}
+
+/// The number of a name, 0 where there is no such name.
+fn name_of(plan: &Plan, word: &[u8]) -> u32
+    ensures { result ≡ name_of plan.now word.now }
+{
+    match name_place(plan, word) {
+        Some(place) => place as u32,
+        None => 0,
+    }
+}
+
+/// Whether a word has a dot, as those of objects have.
+pub fn has_dot(word: &[u8]) -> bool
+    ensures { result ≡ has_dot word.now }
+{
+    word.iter().any(|byte| *byte == b'.')
+}
+
+/// The object that a word names.
+pub fn object_of(plan: &Plan, word: &[u8]) -> Handle
+    ensures { result ≡ object_of plan.now word.now }
+{
+    Handle {
+        id: ObjectId(short_of(part(word, b'.', 1))),
+        name: name_of(plan, part(word, b'.', 0)),
+    }
+}
+
+/// Whether a class has this name.
+fn is_class_with(plan: &Plan, word: &[u8], class: &ClassInfo) -> bool
+    ensures { result ≡ is_class_with plan.now word.now class.now }
+{
+    name_bytes(plan, class.name()) == word
+}
+
+/// The place of the class with this name.
+fn class_place(plan: &Plan, word: &[u8]) -> Option<usize>
+    ensures value { result ≡ class_of plan.now word.now }
+    ensures small { IfSome result (λ k. k < 2 ^ 16) }
+{
+    plan.classes
+        .as_slice()
+        .iter()
+        .position(|class| is_class_with(plan, word, class))
+}
+
+/// The class that a word names.
+pub fn class_of(plan: &Plan, word: &[u8]) -> Option<u16>
+    ensures { result ≡ class_of plan.now word.now }
+{
+    match class_place(plan, word) {
+        Some(place) => Some(place as u16),
+        None => None,
+    }
+}
+
+/// Whether a register has this name.
+fn is_register_with(plan: &Plan, word: &[u8], register: &RegisterInfo) -> bool
+    ensures { result ≡ is_register_with plan.now word.now register.now }
+{
+    name_bytes(plan, register.name) == word
+}
+
+/// The place of the register with this name.
+fn register_place(plan: &Plan, word: &[u8]) -> Option<usize>
+    ensures value { result ≡ position (is_register_with plan.now word.now) plan.now.registers }
+    ensures small { IfSome result (λ k. k < 2 ^ 32) }
+{
+    plan.registers
+        .as_slice()
+        .iter()
+        .position(|register| is_register_with(plan, word, register))
+}
+
+/// The register that a word names, 0 where there is no such register.
+pub fn register_of(plan: &Plan, word: &[u8]) -> u32
+    ensures { result ≡ register_of plan.now word.now }
+{
+    match register_place(plan, word) {
+        Some(place) => place as u32,
+        None => 0,
+    }
+}
+
+/// Whether an agent has this name.
+fn is_agent_with(plan: &Plan, word: &[u8], agent: &AgentInfo) -> bool
+    ensures { result ≡ is_agent_with plan.now word.now agent.now }
+{
+    name_bytes(plan, agent.name) == word
+}
+
+/// The place of the agent with this name.
+fn agent_place(plan: &Plan, word: &[u8]) -> Option<usize>
+    ensures value { result ≡ position (is_agent_with plan.now word.now) plan.now.agents }
+    ensures small { IfSome result (λ k. k + 1 < 2 ^ 16) }
+{
+    plan.agents
+        .as_slice()
+        .iter()
+        .position(|agent| is_agent_with(plan, word, agent))
+}
+
+/// The place among the agents from 1 of the one whose name a word begins with, 0 where there is none.
+fn poster_of(plan: &Plan, word: &[u8]) -> u16
+    ensures value { result ≡ poster_of plan.now word.now }
+    ensures small { result + 1 < 2 ^ 16 }
+{
+    match agent_place(plan, part(word, b'.', 0)) {
+        Some(place) => place as u16,
+        None => 0,
+    }
+}
+
+/// The agent that a word names.
+pub fn agent_of(plan: &Plan, word: &[u8]) -> u16
+    ensures { result ≡ agent_of plan.now word.now }
+{
+    if word == b"pnp".as_slice() {
+        0
+    } else {
+        poster_of(plan, word) + 1
+    }
+}
