@@ -1,21 +1,29 @@
 -- The lines of the form, compared and read.
-use Rattle.std.proofs.Common.{◌≡◌, ℕ, ◌<◌, List, [], length, get_or, slice_get, Option, Some, Vec, Global, refl, ap, ◌∙◌}
-use Rattle.std.proofs.lemmas.List.{get_or_read, length-map}
+use Rattle.std.proofs.Common.{◌≡◌, ℕ, ◌+◌, List, ◌∷◌, [], ◌++◌, take, slice_get, Option, Some, option_map, length, ap, subst, refl, sym, ◌∙◌, add-one}
+use Rattle.std.proofs.lemmas.Option.{slice_get-map}
+use Rattle.std.proofs.lemmas.List.{length-map}
+use Rattle.wdf_scene.specs.declared.line.NumberedLine.{NumberedLine}
+use Rattle.wdf_scene.specs.declared.line.SceneLine.{SceneLine}
+use Rattle.wdf_model.proofs.Runs.{take_next}
 use Rattle.wdf_top.specs.declared.form.FirstForm.{FirstForm}
-use Rattle.wdf_top.specs.declared.token.Token.{Token}
-use Rattle.wdf_top.specs.Form.{form_lines, AreInRange, AreNames}
-use Rattle.wdf_top.specs.Tokens.{contents}
-use Rattle.wdf_top.proofs.SameLists.{read_map}
+use Rattle.wdf_top.specs.Form.{form_lines, form_at, forms_of, AreInRange, AreNames}
 
--- the tokens of a line that was read stand at its place
-pub line_read : (lines : List (Vec Token Global)) (row : ℕ) (line : Vec Token Global) → row < length lines → line ≡ get_or lines row line → line.items ≡ get_or (contents lines) row []
-line_read lines row line inside read =
-    let inside_contents : row < length (contents lines) = simp length-map inside in
-    get_or_read (contents lines) row line.items inside_contents (read_map (λ (v : Vec Token Global). v.items) lines row line read) []
+-- the line that stands at a place of a scene, among its forms
+pub form_read : (lines : List NumberedLine) (k : ℕ) (found : SceneLine) → option_map (λ (l : NumberedLine). l.form) (slice_get lines k) ≡ Some found → slice_get (forms_of lines) k ≡ Some found
+form_read lines k found read = slice_get-map form_at lines k ∙ read
 
--- the token that stands at a place of the form's lines
-pub token_of_form : (lines : List (List Token)) (plan : FirstForm) (row place : ℕ) (found : Option Token) → lines ≡ form_lines plan → found ≡ slice_get (get_or lines row []) place → found ≡ slice_get (get_or (form_lines plan) row []) place
-token_of_form lines plan row place found same is = is ∙ ap (λ (l : List (List Token)). slice_get (get_or l row []) place) same
+some_is : {X : Type 0} (a b : X) → Some a ≡ Some b → b ≡ a
+some_is a b h = cc
+
+-- the line that stands at a place of the form
+pub form_line : (lines : List NumberedLine) (form : FirstForm) (k : ℕ) (found expected : SceneLine) → forms_of lines ≡ form_lines form
+    → option_map (λ (l : NumberedLine). l.form) (slice_get lines k) ≡ Some found → slice_get (form_lines form) k ≡ Some expected → found ≡ expected
+form_line lines form k found expected same read is =
+    some_is expected found (sym is ∙ subst (λ (forms : List SceneLine). slice_get forms k ≡ Some found) same (form_read lines k found read))
+
+-- one line more is the same
+pub same_front : (xs ys : List SceneLine) (k : ℕ) (l : SceneLine) → take k xs ≡ take k ys → slice_get xs k ≡ Some l → slice_get ys k ≡ Some l → take (k + 1) xs ≡ take (k + 1) ys
+same_front xs ys k l same x y = rw (add-one, take_next xs k l x, take_next ys k l y, same) refl
 
 -- equal numbers are in range alike
 pub range_along : (limit objects length limit' objects' length' : ℕ) → limit ≡ limit' → objects ≡ objects' → length ≡ length' → AreInRange limit' objects' length' → AreInRange limit objects length
@@ -25,10 +33,10 @@ range_along limit objects length limit' objects' length' e f g range = rw (e, f,
 pub names_along : (device queue app device' queue' app' : List ℕ) → device ≡ device' → queue ≡ queue' → app ≡ app' → AreNames device' queue' app' → AreNames device queue app
 names_along device queue app device' queue' app' e f g names = rw (e, f, g) names
 
--- a plan with the same parts is the same
-pub plan_along : (plan : FirstForm) (limit objects : ℕ) (device queue app : List ℕ) (length : ℕ) → limit ≡ plan.limit → objects ≡ plan.objects → device ≡ plan.device → queue ≡ plan.queue → app ≡ plan.app → length ≡ plan.length → Some (record { limit = limit; objects = objects; device = device; queue = queue; app = app; length = length }) ≡ Some plan
-plan_along plan limit objects device queue app length e1 e2 e3 e4 e5 e6 = rw (e1, e2, e3, e4, e5, e6) refl
+-- a form with the same values is the same
+pub form_along : (form : FirstForm) (limit objects : ℕ) (device queue app : List ℕ) (length : ℕ) → limit ≡ form.limit → objects ≡ form.objects → device ≡ form.device → queue ≡ form.queue → app ≡ form.app → length ≡ form.length → Some (record { limit = limit; objects = objects; device = device; queue = queue; app = app; length = length }) ≡ Some form
+form_along form limit objects device queue app length e1 e2 e3 e4 e5 e6 = rw (e1, e2, e3, e4, e5, e6) refl
 
 -- the form has its lines, no more and no fewer
-pub form_length : (lines : List (Vec Token Global)) (plan : FirstForm) → contents lines ≡ form_lines plan → length lines ≡ 14
-form_length lines plan same = simp length-map at (ap (λ (l : List (List Token)). length l) same)
+pub form_length : (lines : List NumberedLine) (form : FirstForm) → forms_of lines ≡ form_lines form → length lines ≡ 14
+form_length lines form same = simp length-map at (ap (λ (forms : List SceneLine). length forms) same)

@@ -1,34 +1,53 @@
 -- The one form of scenario text that is served: a working device with a sequential default queue,
 -- whose one callback completes each read, and an app that reads once at tick 0.
-use Rattle.std.specs.Prelude.{◌≡◌, ◌≢◌, ℕ, ◌<◌, ◌≤◌, ◌^◌, List, [], ◌∷◌, length, take, drop, Bool, false, ◌||◌, ◌&&◌, nat_lt, Some, codes, map}
+use Rattle.std.specs.Prelude.{◌≡◌, ◌≢◌, ℕ, ◌<◌, ◌≤◌, ◌^◌, List, [], ◌∷◌, length, take, drop, Bool, true, false, ◌||◌, ◌&&◌, nat_lt, Option, None, Some, Ok, codes, map}
 use Rattle.std.specs.Char.{is_ascii_digit}
 use Rattle.std.specs.List.{list_all, list_any}
 use Rattle.std.specs.Str.{bytes_eq}
+use Rattle.wdf_base.specs.declared.value.Status.TheVariants.{Success}
+use Rattle.wdf_base.specs.declared.call.CallKind.TheVariants.{WdfRequestComplete}
+use Rattle.wdf_base.specs.declared.call.Callback.TheVariants.{EvtIoRead}
+use Rattle.wdf_base.specs.declared.declared.DispatchKind.TheVariants.{Sequential}
+use Rattle.wdf_base.specs.declared.script.ContextWord.TheVariants.{OwnRequest}
+use Rattle.wdf_scene.specs.declared.line.SceneLine.{SceneLine}
+use Rattle.wdf_scene.specs.declared.line.SceneLine.TheVariants as line
+use Rattle.wdf_scene.specs.declared.line.SceneArg.TheVariants.{NoArgument, Expression}
+use Rattle.wdf_scene.specs.declared.line.SceneExpr.{SceneExpr}
+use Rattle.wdf_scene.specs.declared.line.SceneExpr.TheVariants.{Literal, Context}
+use Rattle.wdf_scene.specs.declared.line.NumberedLine.{NumberedLine}
+use Rattle.wdf_scene.specs.declared.scene.Scene.{Scene}
+use Rattle.wdf_parse.specs.Texts.{reading}
 use Rattle.wdf_top.specs.declared.form.FirstForm.{FirstForm}
-use Rattle.wdf_top.specs.declared.token.Token.{Token}
-use Rattle.wdf_top.specs.declared.token.Token.TheVariants.{Number, Name}
-use Rattle.wdf_top.specs.declared.form.Expected.{Expected}
-use Rattle.wdf_top.specs.declared.form.Expected.TheVariants.{Word, Count}
-use Rattle.wdf_top.specs.Tokens.{token_lines}
 
--- the token lines of the form, spelled from its plan
-abbrev pub form_lines : FirstForm → List (List Token)
-form_lines plan =
-    (Name (codes "cpus") ∷ Number 1 ∷ [])
-    ∷ (Name (codes "limit") ∷ Number plan.limit ∷ [])
-    ∷ (Name (codes "objects") ∷ Number plan.objects ∷ [])
-    ∷ (Name (codes "device") ∷ Name plan.device ∷ Name (codes "working") ∷ [])
-    ∷ (Name (codes "queue") ∷ Name plan.queue ∷ Name (codes "sequential") ∷ [])
-    ∷ (Name (codes "default") ∷ [])
-    ∷ (Name (codes "on") ∷ Name (codes "EvtIoRead") ∷ [])
-    ∷ (Name (codes "call") ∷ Name (codes "WdfRequestComplete") ∷ Name (codes "request") ∷ Name (codes "SUCCESS") ∷ [])
-    ∷ (Name (codes "end") ∷ [])
-    ∷ (Name (codes "end") ∷ [])
-    ∷ (Name (codes "end") ∷ [])
-    ∷ (Name (codes "app") ∷ Name plan.app ∷ [])
-    ∷ (Name (codes "at") ∷ Number 0 ∷ Name (codes "read") ∷ Name plan.device ∷ Number plan.length ∷ [])
-    ∷ (Name (codes "end") ∷ [])
+-- the lines of the form
+abbrev pub form_lines : FirstForm → List SceneLine
+form_lines form =
+    line.Cpus 1
+    ∷ line.Limit form.limit
+    ∷ line.Objects form.objects
+    ∷ line.Device form.device true
+    ∷ line.Queue form.queue Sequential
+    ∷ line.Default
+    ∷ line.On EvtIoRead
+    ∷ line.Call WdfRequestComplete None (Expression 0) (Expression 1) NoArgument
+    ∷ line.End
+    ∷ line.End
+    ∷ line.End
+    ∷ line.App form.app
+    ∷ line.AtRead 0 form.device form.length
+    ∷ line.End
     ∷ []
+
+-- the arguments of its call: the request, and SUCCESS
+abbrev pub form_nodes : List SceneExpr
+form_nodes = Context OwnRequest ∷ Literal Success ∷ []
+
+abbrev pub form_at : NumberedLine → SceneLine
+form_at l = l.form
+
+-- the lines of a scene, without their numbers
+abbrev pub forms_of : List NumberedLine → List SceneLine
+forms_of lines = map form_at lines
 
 -- whether the name is one of these words
 abbrev pub is_among : List ℕ → List (List ℕ) → Bool
@@ -72,19 +91,16 @@ pub record AreNames (device queue app : List ℕ) : Type 0 where
   pub device_app : device ≢ app
   pub queue_app : queue ≢ app
 
--- a plan that the form may have
+-- values that the form may have
 abbrev pub IsFirstForm : FirstForm → Type 0
-IsFirstForm plan = AreInRange plan.limit plan.objects plan.length × AreNames plan.device plan.queue plan.app
+IsFirstForm form = AreInRange form.limit form.objects form.length × AreNames form.device form.queue form.app
 
--- the text is the form, spelled from this plan
+-- a scene is the form, with these values
+pub record IsScene (scene : Scene) (form : FirstForm) : Type 0 where
+  pub version : scene.version ≡ 1
+  pub lines : forms_of scene.lines ≡ form_lines form
+  pub nodes : scene.exprs ≡ form_nodes
+
+-- the text is the form, with these values
 abbrev pub StandsFor : List ℕ → FirstForm → Type 0
-StandsFor text plan = (token_lines text ≡ Some (form_lines plan)) × IsFirstForm plan
-
--- the token that is looked for
-abbrev pub expected_token : Expected → Token
-expected_token (Word letters) = Name letters.now
-expected_token (Count number) = Number number
-
--- the tokens that are looked for
-abbrev pub expected_tokens : List Expected → List Token
-expected_tokens expected = map expected_token expected
+StandsFor text form = (scene : Scene) × (reading text ≡ Ok scene) × IsScene scene form × IsFirstForm form

@@ -1,5 +1,4 @@
 pub mod Words
-pub mod Tokens
 pub mod Form
 pub mod FirstPlan
 pub mod Input

@@ -1,14 +1,14 @@
-ghost use Rattle.std.specs.Prelude.{◌≡◌, ◌^◌, ◌<◌, ◌≤◌, ◌↔◌, ℕ, [], length, IsTrue, IfOk, IfSome, IfNone, List, Some, slice_get, slice_index_or};
-ghost use Rattle.std.specs.Option.{option_copied};
+//! The one form of scenario that is served.
+ghost use Rattle.std.specs.Prelude.{◌≡◌, ◌^◌, ◌<◌, ◌≤◌, ◌↔◌, ℕ, [], length, IsTrue, Bool, true, None, IfOk, IfSome, IfNone, List, Some, Ok, slice_get, slice_index_or, map};
+ghost use Rattle.wdf_scene.specs.declared.scene.Scene.{Scene};
 ghost use Rattle.wdf_top.specs.declared.form.FirstForm.{FirstForm};
-ghost use Rattle.wdf_top.specs.Tokens.{contents};
-ghost use Rattle.wdf_top.specs.Form.{form_lines, is_among, status_words, script_words, trace_words, is_cpu_word, is_reserved, AreInRange, AreNames, IsFirstForm, StandsFor, expected_token, expected_tokens};
+ghost use Rattle.wdf_top.specs.Form.{form_lines, form_nodes, forms_of, is_among, status_words, script_words, trace_words, is_cpu_word, is_reserved, AreInRange, AreNames, IsFirstForm, IsScene, StandsFor};
 
-use crate::lexer::token_lines;
-use crate::token::Token;
 use crate::words::is_number;
 use std::alloc::Global;
-use wdf_base::{Memory, Name};
+use wdf_base::{CallKind, Callback, ContextWord, DispatchKind, Memory, Name, Status};
+use wdf_parse::{ParseRefusal, parse};
+use wdf_scene::{Scene, SceneArg, SceneExpr, SceneLine};
 
 /// What a scenario of the one form that is served tells.
 #[derive(Clone, Copy, Debug)]
@@ -27,17 +27,11 @@ pub struct FirstForm {
     pub length: u64,
 }
 
-/// The lines of the form that have tokens.
-const FORM_LINES: usize = 14;
+/// How many lines the form has.
+const FORM_LINES: u32 = 14;
 
-/// A token that is looked for.
-#[derive(Clone, Copy, Debug)]
-enum Expected<'a> {
-    /// A keyword, or a name.
-    Word(&'a [u8]),
-    /// A number.
-    Count(u64),
-}
+/// How many nodes its expressions have.
+const FORM_NODES: u32 = 2;
 
 fn is_status_word(name: &[u8]) -> bool
     ensures { result ≡ is_among name.now status_words }
@@ -104,154 +98,164 @@ fn are_names(device: &Name, queue: &Name, app: &Name) -> bool
         && queue.bytes() != app.bytes()
 }
 
-fn is_token(token: &Token, expected: Expected) -> bool
-    ensures { IsTrue result ↔ (token.now ≡ expected_token expected.entry) }
+/// Whether a line is the form's line at this place, counted from 0.
+fn is_row(form: &FirstForm, row: u32, line: &SceneLine) -> bool
+    requires { row < FORM_LINES }
+    ensures { IsTrue result ↔ (slice_get (form_lines form.now) row ≡ Some line.now) }
 {
-    match (token, expected) {
-        (Token::Name(name), Expected::Word(word)) => name.bytes() == word,
-        (Token::Number(number), Expected::Count(count)) => *number == count,
+    match row {
+        0 => matches!(line, SceneLine::Cpus(1)),
+        1 => is_limit(line, form.limit),
+        2 => is_objects(line, form.objects),
+        3 => is_device(line, &form.device),
+        4 => is_queue(line, &form.queue),
+        5 => matches!(line, SceneLine::Default),
+        6 => is_handler(line),
+        7 => is_completion(line),
+        8 => is_end(line),
+        9 => is_end(line),
+        10 => is_end(line),
+        11 => is_app(line, &form.app),
+        12 => is_read(line, &form.device, form.length),
+        13 => is_end(line),
+        _ => unreachable!(),
+    }
+}
+
+fn is_end(line: &SceneLine) -> bool
+    ensures { IsTrue result ↔ (line.now ≡ SceneLine.End) }
+{
+    matches!(line, SceneLine::End)
+}
+
+fn is_limit(line: &SceneLine, limit: u32) -> bool
+    ensures { IsTrue result ↔ (line.now ≡ SceneLine.Limit limit) }
+{
+    match line {
+        SceneLine::Limit(n) => *n == u64::from(limit),
         _ => false,
     }
 }
 
-/// Whether a line has exactly these tokens.
-fn is_line(line: &[Token], expected: &[Expected]) -> bool
-    ensures { IsTrue result ↔ (line.now ≡ expected_tokens expected.now) }
+fn is_objects(line: &SceneLine, objects: u32) -> bool
+    ensures { IsTrue result ↔ (line.now ≡ SceneLine.Objects objects) }
 {
-    if line.len() != expected.len() {
-        return false;
+    match line {
+        SceneLine::Objects(n) => *n == u64::from(objects),
+        _ => false,
     }
-    for place in 0..line.len() {
-        if !is_token(&line[place], expected[place]) {
+}
+
+fn is_device(line: &SceneLine, device: &Name) -> bool
+    ensures { IsTrue result ↔ (line.now ≡ SceneLine.Device device.now true) }
+{
+    match line {
+        SceneLine::Device { name, working } => *working && name.bytes() == device.bytes(),
+        _ => false,
+    }
+}
+
+fn is_queue(line: &SceneLine, queue: &Name) -> bool
+    ensures { IsTrue result ↔ (line.now ≡ SceneLine.Queue queue.now DispatchKind.Sequential) }
+{
+    match line {
+        SceneLine::Queue {
+            name,
+            dispatch: DispatchKind::Sequential,
+        } => name.bytes() == queue.bytes(),
+        _ => false,
+    }
+}
+
+fn is_handler(line: &SceneLine) -> bool
+    ensures { IsTrue result ↔ (line.now ≡ SceneLine.On Callback.EvtIoRead) }
+{
+    matches!(
+        line,
+        SceneLine::On {
+            callback: Callback::EvtIoRead
+        }
+    )
+}
+
+fn is_completion(line: &SceneLine) -> bool
+    ensures { IsTrue result ↔ (line.now ≡ SceneLine.Call CallKind.WdfRequestComplete None (SceneArg.Expression 0) (SceneArg.Expression 1) SceneArg.NoArgument) }
+{
+    matches!(
+        line,
+        SceneLine::Call {
+            kind: CallKind::WdfRequestComplete,
+            into: None,
+            a: SceneArg::Expression(0),
+            b: SceneArg::Expression(1),
+            c: SceneArg::NoArgument,
+        }
+    )
+}
+
+fn is_app(line: &SceneLine, app: &Name) -> bool
+    ensures { IsTrue result ↔ (line.now ≡ SceneLine.App app.now) }
+{
+    match line {
+        SceneLine::App { name } => name.bytes() == app.bytes(),
+        _ => false,
+    }
+}
+
+fn is_read(line: &SceneLine, device: &Name, length: u64) -> bool
+    ensures { IsTrue result ↔ (line.now ≡ SceneLine.AtRead 0 device.now length) }
+{
+    match line {
+        SceneLine::AtRead {
+            tick: 0,
+            device: name,
+            length: bytes,
+        } => name.bytes() == device.bytes() && *bytes == length,
+        _ => false,
+    }
+}
+
+/// Whether the nodes are those of the call's arguments.
+fn are_nodes(nodes: &[SceneExpr]) -> bool
+    ensures { IsTrue result ↔ (nodes.now ≡ form_nodes) }
+{
+    matches!(
+        nodes,
+        [
+            SceneExpr::Context(ContextWord::OwnRequest),
+            SceneExpr::Literal(Status::Success)
+        ]
+    )
+}
+
+/// Whether the lines are the form's, with these values.
+fn are_rows(form: &FirstForm, scene: &Scene) -> bool
+    requires { length scene.now.lines ≡ FORM_LINES }
+    ensures { IsTrue result ↔ (forms_of scene.now.lines ≡ form_lines form.now) }
+{
+    for row in 0..FORM_LINES {
+        if !is_row(form, row, &scene.line(row)) {
             return false;
         }
     }
     true
 }
 
-/// The number that a token is, or 0.
-fn number_of(token: Option<&Token>) -> u64
-    ensures { (n : ℕ) → option_copied token.entry ≡ Some (Token.Number n) → result ≡ n }
-{
-    match token {
-        Some(Token::Number(number)) => *number,
-        _ => 0,
-    }
-}
-
-/// The name that a token is, or the empty name.
-fn name_of(token: Option<&Token>) -> Name
-    ensures { (name : List ℕ) → option_copied token.entry ≡ Some (Token.Name name) → result ≡ name }
-{
-    match token {
-        Some(Token::Name(name)) => Name::new(name.bytes()),
-        _ => Name::new(&[]),
-    }
-}
-
-/// The token at a place of a line, if there is one.
-fn token_in(lines: &[Vec<Token>], row: usize, place: usize) -> Option<&Token>
-    requires { row < length lines.now }
-    ensures { option_copied result ≡ slice_get (slice_index_or (contents lines.now) row []) place }
-{
-    lines[row].get(place)
-}
-
-/// Whether a line is the form's line at this place, counted from 0, spelled from the plan.
-fn is_row(plan: &FirstForm, row: usize, line: &[Token]) -> bool
-    requires { row < FORM_LINES }
-    ensures { IsTrue result ↔ (line.now ≡ slice_index_or (form_lines plan.now) row []) }
-{
-    let device = plan.device.bytes();
-    match row {
-        0 => is_line(line, &[Expected::Word(b"cpus"), Expected::Count(1)]),
-        1 => is_line(
-            line,
-            &[
-                Expected::Word(b"limit"),
-                Expected::Count(u64::from(plan.limit)),
-            ],
-        ),
-        2 => is_line(
-            line,
-            &[
-                Expected::Word(b"objects"),
-                Expected::Count(u64::from(plan.objects)),
-            ],
-        ),
-        3 => is_line(
-            line,
-            &[
-                Expected::Word(b"device"),
-                Expected::Word(device),
-                Expected::Word(b"working"),
-            ],
-        ),
-        4 => is_line(
-            line,
-            &[
-                Expected::Word(b"queue"),
-                Expected::Word(plan.queue.bytes()),
-                Expected::Word(b"sequential"),
-            ],
-        ),
-        5 => is_line(line, &[Expected::Word(b"default")]),
-        6 => is_line(line, &[Expected::Word(b"on"), Expected::Word(b"EvtIoRead")]),
-        7 => is_line(
-            line,
-            &[
-                Expected::Word(b"call"),
-                Expected::Word(b"WdfRequestComplete"),
-                Expected::Word(b"request"),
-                Expected::Word(b"SUCCESS"),
-            ],
-        ),
-        11 => is_line(
-            line,
-            &[Expected::Word(b"app"), Expected::Word(plan.app.bytes())],
-        ),
-        12 => is_line(
-            line,
-            &[
-                Expected::Word(b"at"),
-                Expected::Count(0),
-                Expected::Word(b"read"),
-                Expected::Word(device),
-                Expected::Count(plan.length),
-            ],
-        ),
-        _ => is_line(line, &[Expected::Word(b"end")]),
-    }
-}
-
-/// Whether the lines are the form, spelled from the plan.
-fn is_form(plan: &FirstForm, lines: &[Vec<Token>]) -> bool
-    requires { length lines.now ≡ FORM_LINES }
-    ensures { IsTrue result ↔ (contents lines.now ≡ form_lines plan.now) }
-{
-    for row in 0..lines.len() {
-        if !is_row(plan, row, &lines[row]) {
-            return false;
-        }
-    }
-    true
-}
-
-/// The plan that the lines would be spelled from, with its numbers in range and its names fit.
-fn candidate(lines: &[Vec<Token>]) -> Option<FirstForm>
-    requires { length lines.now ≡ FORM_LINES }
+/// The values that the lines would be the form's with, if they are in range and the names fit.
+fn candidate(scene: &Scene) -> Option<FirstForm>
+    requires { length scene.now.lines ≡ FORM_LINES }
     ensures fit { IfSome result IsFirstForm }
-    ensures only { (plan : FirstForm) → contents lines.now ≡ form_lines plan → IsFirstForm plan → result ≡ Some plan }
+    ensures only { (form : FirstForm) → forms_of scene.now.lines ≡ form_lines form → IsFirstForm form → result ≡ Some form }
 {
-    let limit = number_of(token_in(lines, 1, 1));
-    let objects = number_of(token_in(lines, 2, 1));
-    let length = number_of(token_in(lines, 12, 4));
+    let limit = number_in(&scene.line(1));
+    let objects = number_in(&scene.line(2));
+    let length = number_in(&scene.line(12));
     if !are_in_range(limit, objects, length) {
         return None;
     }
-    let device = name_of(token_in(lines, 3, 1));
-    let queue = name_of(token_in(lines, 4, 1));
-    let app = name_of(token_in(lines, 11, 1));
+    let device = name_in(&scene.line(3));
+    let queue = name_in(&scene.line(4));
+    let app = name_in(&scene.line(11));
     if !are_names(&device, &queue, &app) {
         return None;
     }
@@ -265,17 +269,20 @@ fn candidate(lines: &[Vec<Token>]) -> Option<FirstForm>
     })
 }
 
-/// The plan that the lines are spelled from, if they are the form.
-fn plan_of(lines: &[Vec<Token>]) -> Option<FirstForm>
-    ensures found { IfSome result (λ plan. (contents lines.now ≡ form_lines plan) × IsFirstForm plan) }
-    ensures missing { IfNone result ((plan : FirstForm) → contents lines.now ≡ form_lines plan → IsFirstForm plan → ⊥) }
+/// The values that a scene is the form with, if it is the form.
+fn form_of(scene: &Scene) -> Option<FirstForm>
+    ensures found { IfSome result (λ form. IsScene scene.now form × IsFirstForm form) }
+    ensures missing { IfNone result ((form : FirstForm) → IsScene scene.now form → IsFirstForm form → ⊥) }
 {
-    if lines.len() != FORM_LINES {
+    if scene.version != 1 || !are_nodes(scene.exprs.as_slice()) {
         return None;
     }
-    let plan = candidate(lines)?;
-    if is_form(&plan, lines) {
-        Some(plan)
+    if scene.line_len() != FORM_LINES {
+        return None;
+    }
+    let form = candidate(scene)?;
+    if are_rows(&form, scene) {
+        Some(form)
     } else {
         None
     }
@@ -283,124 +290,106 @@ fn plan_of(lines: &[Vec<Token>]) -> Option<FirstForm>
 
 /// Reads a scenario of the one form that is served: `None` where the text is anything else.
 pub fn read_form(alloc: Global, text: &[u8]) -> Result<Option<FirstForm>, Memory>
-    ensures found { IfOk result (λ found. IfSome found (λ plan. StandsFor text.now plan)) }
-    ensures missing { IfOk result (λ found. IfNone found ((plan : FirstForm) → StandsFor text.now plan → ⊥)) }
+    requires { length text.now ≤ 1048576 }
+    ensures found { IfOk result (λ found. IfSome found (λ form. StandsFor text.now form)) }
+    ensures missing { IfOk result (λ found. IfNone found ((form : FirstForm) → StandsFor text.now form → ⊥)) }
 {
-    match token_lines(alloc, text)? {
-        Some(lines) => Ok(plan_of(&lines)),
-        None => Ok(None),
+    match parse(alloc, text) {
+        Ok(scene) => Ok(form_of(&scene)),
+        Err(ParseRefusal::Memory) => Err(Memory),
+        Err(_) => Ok(None),
     }
 }
 
-/// A text is read in at most one way.
+/// The number of a `limit` or an `objects` line, or of a read's length; else 0.
+fn number_in(line: &SceneLine) -> u64
+    ensures limit { (n : ℕ) → line.now ≡ SceneLine.Limit n → result ≡ n }
+    ensures objects { (n : ℕ) → line.now ≡ SceneLine.Objects n → result ≡ n }
+    ensures length { (tick n : ℕ) (device : List ℕ) → line.now ≡ SceneLine.AtRead tick device n → result ≡ n }
+{
+    match line {
+        SceneLine::Limit(n) | SceneLine::Objects(n) => *n,
+        SceneLine::AtRead { length, .. } => *length,
+        _ => 0,
+    }
+}
+
+/// The name of a device, a queue or an app; else the empty name.
+fn name_in(line: &SceneLine) -> Name
+    ensures device { (name : List ℕ) (working : Bool) → line.now ≡ SceneLine.Device name working → result ≡ name }
+    ensures queue { (name : List ℕ) → line.now ≡ SceneLine.Queue name DispatchKind.Sequential → result ≡ name }
+    ensures app { (name : List ℕ) → line.now ≡ SceneLine.App name → result ≡ name }
+{
+    match line {
+        SceneLine::Device { name, .. }
+        | SceneLine::Queue { name, .. }
+        | SceneLine::App { name } => *name,
+        _ => Name::new(&[]),
+    }
+}
+
+/// A text is the form in at most one way.
 pub fn one_reading()
-    ensures { (text : List ℕ) (plan other : FirstForm) → StandsFor text plan → StandsFor text other → plan ≡ other }
-{}
+    ensures { (text : List ℕ) (form other : FirstForm) → StandsFor text form → StandsFor text other → form ≡ other }
+{
+}
 
 #[cfg(test)]
 mod tests {
     use super::*;
     use std::test::Fail;
 
-    /// The form's lines, each with its LF.
-    const TEXT: [&str; 14] = [
-        "cpus 1\n",
-        "limit 100\n",
-        "objects 16\n",
-        "device D working\n",
-        "queue Q sequential\n",
-        "default\n",
-        "on EvtIoRead\n",
-        "call WdfRequestComplete request SUCCESS\n",
-        "end\n",
-        "end\n",
-        "end\n",
-        "app A\n",
-        "at 0 read D 16\n",
-        "end\n",
-    ];
+    const FORM: &str = "cpus 1\nlimit 100\nobjects 16\ndevice D working\nqueue Q sequential\ndefault\non EvtIoRead\ncall WdfRequestComplete request SUCCESS\nend\nend\nend\napp A\nat 0 read D 16\nend\n";
 
-    /// The form with another text in place of one of its lines.
-    fn text_with(alloc: Global, row: usize, line: &str) -> Result<String, Fail> {
+    /// The form with a part replaced, or none where memory is wanting.
+    fn read(alloc: Global, from: &str, to: &str) -> Result<Option<FirstForm>, Fail> {
         let mut text = String::new(alloc);
-        for place in 0..TEXT.len() {
-            text.push_str(if place == row { line } else { TEXT[place] })?;
+        match FORM.split_once(from) {
+            Some((before, after)) => {
+                text.push_str(before)?;
+                text.push_str(to)?;
+                text.push_str(after)?;
+            }
+            None => text.push_str(FORM)?,
         }
-        Ok(text)
+        if text.len() > 1_048_576 {
+            return Err("too long")?;
+        }
+        Ok(read_form(alloc, text.as_bytes()).map_err(|_| "no memory")?)
     }
 
     #[test]
-    fn reads_the_form(rt: HostRuntime) -> Result<(), Fail> {
-        let alloc = rt.alloc();
-        let text = text_with(alloc, 14, "")?;
-        let plan = read_form(alloc, text.as_bytes())?.ok_or("no plan")?;
-        assert_eq!(rt; plan.limit, 100);
-        assert_eq!(rt; plan.objects, 16);
-        assert_eq!(rt; plan.device.bytes(), b"D".as_slice());
-        assert_eq!(rt; plan.queue.bytes(), b"Q".as_slice());
-        assert_eq!(rt; plan.app.bytes(), b"A".as_slice());
-        assert_eq!(rt; plan.length, 16);
-        Ok(())
-    }
-
-    #[test]
-    fn takes_each_spelling_of_the_form(rt: HostRuntime) -> Result<(), Fail> {
-        let alloc = rt.alloc();
-        for (row, line) in [
-            (0, "# a comment\n\n\r\n\t cpus\t1 # cpus 2\r\n"),
-            (1, "limit 007\n"),
-            (1, "limit 200000\n"),
-            (2, "objects 3\n"),
-            (2, "objects 4096\n"),
-            (4, "queue end sequential\n"),
-            (11, "app cpu\n"),
-            (11, "app cpu3a\n"),
-            (11, "app a23456789_123456789_123456789_12\n"),
-            (12, "at 0read D 1\n"),
-            (12, "at 00 read D 18446744073709551615\n"),
-            (13, "end"),
+    fn takes_the_form_in_each_spelling(rt: HostRuntime) -> Result<(), Fail> {
+        for (from, to, limit, length) in [
+            ("", "", 100, 16),
+            ("limit 100", "\tlimit 007 # few\r\n\n", 7, 16),
+            ("limit 100", "limit 200000", 200_000, 16),
+            ("D 16", "D 18446744073709551615", 100, u64::MAX),
+            ("queue Q", "queue cpu", 100, 16),
+            ("queue Q", "queue end", 100, 16),
         ] {
-            let text = text_with(alloc, row, line)?;
-            assert!(rt;
-                read_form(alloc, text.as_bytes())?.is_some(),
-                "with {line:?}"
-            );
+            let form = read(rt.alloc(), from, to)?.ok_or("no form")?;
+            assert_eq!(rt; form.limit, limit, "at {to}");
+            assert_eq!(rt; form.length, length, "at {to}");
         }
         Ok(())
     }
 
     #[test]
     fn refuses_other_texts(rt: HostRuntime) -> Result<(), Fail> {
-        let alloc = rt.alloc();
-        for (row, line) in [
-            (0, ""),
-            (0, "cpus 2\n"),
-            (0, "cpus 1 # é\n"),
-            (1, "limit 6\n"),
-            (1, "limit 200001\n"),
-            (1, "limit 100 limit\n"),
-            (2, "objects 2\n"),
-            (2, "objects 4097\n"),
-            (4, "queue D sequential\n"),
-            (4, "queue Q parallel\n"),
-            (11, "app cpu3\n"),
-            (11, "app DELETE_PENDING\n"),
-            (11, "app status\n"),
-            (11, "app driver\n"),
-            (11, "app Q\n"),
-            (11, "app a23456789_123456789_123456789_123\n"),
-            (12, "at 0 read E 16\n"),
-            (12, "at 0 read D 0\n"),
-            (12, "at 0 read D 18446744073709551616\n"),
-            (12, "at 0 read D 16\nat 0 read D 16\n"),
-            (13, "end !\n"),
-            (13, "end\nend\n"),
+        for (from, to) in [
+            ("limit 100", "limit 6"),
+            ("limit 100", "limit 200001"),
+            ("objects 16", "objects 2"),
+            ("D 16", "D 0"),
+            ("D 16", "D 16\nat 0 read D 16"),
+            ("queue Q", "queue D"),
+            ("queue Q", "queue cpu3"),
+            ("app A", "app SUCCESS"),
+            ("cpus 1", "version 2\ncpus 1"),
+            ("cpus 1", "cpus 1 # \u{e9}"),
         ] {
-            let text = text_with(alloc, row, line)?;
-            assert!(rt;
-                read_form(alloc, text.as_bytes())?.is_none(),
-                "with {line:?}"
-            );
+            assert!(rt; read(rt.alloc(), from, to)?.is_none(), "at {to}");
         }
         Ok(())
     }

@@ -3,12 +3,10 @@
 
 mod form;
 mod input;
-mod lexer;
 mod order;
 mod plan;
 mod refusal;
 mod say;
-mod token;
 mod top;
 mod trace;
 mod words;

@@ -1,0 +1,15 @@
+pub mod CallBuilding
+pub mod ExprTokens
+pub mod FormBuilding
+pub mod FormSoundness
+pub mod KeywordLaws
+pub mod LineReading
+pub mod LineSoundness
+pub mod LinesTaken
+pub mod Numbers
+pub mod Picking
+pub mod PrintedLines
+pub mod Respelling
+pub mod ShortWords
+pub mod TextLines
+pub mod TreeBuilding

@@ -1,0 +1,13 @@
+pub mod Building
+pub mod Canonical
+pub mod Forms
+pub mod Keywords
+pub mod Named
+pub mod Picking
+pub mod Printing
+pub mod Reading
+pub mod Spelling
+pub mod Standing
+pub mod Texts
+pub mod Tokens
+pub mod WellFormed

@@ -1,9 +1,0 @@
-use Rattle.std.proofs.Common.{length, ◌-◌}
-use Rattle.wdf_top.proofs.LineReading.{ReadUpTo}
-use Rattle.wdf_top.proofs.lexer.read_tokens.Given as goal
-
-abbrev pub invariant-loop-at : goal.invariant-loop-at
-invariant-loop-at l = ReadUpTo l.line l.at l.tokens.items
-
-abbrev pub decreases-loop-at : goal.decreases-loop-at
-decreases-loop-at l = length l.line - l.at
