@@ -141,7 +141,7 @@ line_spelled (Calling kind into a b c) exprs front back base is at h =
             ∙ ap (argument_then b) (sym (append-nil z) ∙ arg_spelled c exprs ((front ++ na) ++ nb) back (base + argument_size a + argument_size b) [] third at3)) in
     ap (λ (xs : List Token). word keyword.Call ∷ into_then into (token.Word (call_word kind) ∷ xs)) args
 
-length_nodes_at : (base : ℕ) (w : Written) → length (nodes_at base w) ≡ written_size w
+pub length_nodes_at : (base : ℕ) (w : Written) → length (nodes_at base w) ≡ written_size w
 length_nodes_at base (Plain form) = refl
 length_nodes_at base (Picked ns) = refl
 length_nodes_at base (Single h t) = length_nodes base t

@@ -8,6 +8,7 @@ pub mod Printing
 pub mod Reading
 pub mod Spelling
 pub mod Standing
+pub mod StandsFor
 pub mod Texts
 pub mod Tokens
 pub mod WellFormed

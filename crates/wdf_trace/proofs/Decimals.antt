@@ -1,11 +1,11 @@
 -- What decimal digits are.
-use Rattle.std.proofs.Common.{◌≡◌, ℕ, ◌^◌, ◌<◌, true, false, List, [], ◌∷◌, rules, refl, ap, ◌∙◌, lt-ltb, arith, decimal}
+use Rattle.std.proofs.Common.{◌≡◌, ℕ, ◌^◌, ◌<◌, true, false, List, [], ◌∷◌, rules, ltb, refl, ap, ◌∙◌, lt-ltb, arith, decimal}
 use Rattle.std.specs.Char.{is_ascii_digit}
 use Rattle.std.specs.List.{list_all}
 use Rattle.std.specs.Str.{all_ascii_digits}
 use Rattle.std.proofs.lemmas.Str.Parse.{IsNumeralModel, numerals_by_fold}
 use Rattle.std.proofs.lemmas.Fmt.{digits_decimal, digits_value-decimal}
-use Rattle.std.proofs.lemmas.Bool.{and_parts, and_from, cond-true}
+use Rattle.std.proofs.lemmas.Bool.{and_parts, and_from, cond-true, cond_both, ltb-true}
 use Rattle.wdf_trace.specs.Reading.{number_after, number_of, short_of, below}
 use Rattle.wdf_trace.proofs.Blanks.{Lacks, Lacks_from}
 
@@ -36,3 +36,9 @@ pub short_of-decimal : (n : ℕ) → n < 2 ^ 32 → short_of (decimal n) ≡ n
 short_of-decimal n h =
     let wide : n < 2 ^ 64 = omega arith in
     ap (below (2 ^ 32)) (number_of-decimal n wide) ∙ below_is (2 ^ 32) n h
+
+-- what is kept below a bound is below it
+pub below_small : (bound n : ℕ) → 0 < bound → below bound n < bound
+below_small bound n h =
+    let P : ℕ → Type 0 = λ m. m < bound in
+    cond_both (ltb n bound) n 0 P (λ e. ltb-true n bound e) (λ e. h)

@@ -18,10 +18,11 @@ use Rattle.wdf_base.specs.declared.event.Post.TheVariants as post
 use Rattle.wdf_base.specs.declared.event.Event.{Event}
 use Rattle.wdf_base.specs.declared.event.Event.TheVariants as event
 use Rattle.wdf_base.specs.declared.event.Fault.TheVariants as fault
+use Rattle.wdf_base.specs.declared.event.Stage.{Stage}
 use Rattle.wdf_base.specs.declared.event.Stage.TheVariants as stage
 use Rattle.wdf_base.specs.declared.value.Status.TheVariants as status
 use Rattle.wdf_base.specs.declared.call.Callback.TheVariants as callback
-use Rattle.wdf_base.specs.Words.{callback_word, callback_of, call_word, ask_word}
+use Rattle.wdf_base.specs.Words.{callback_word, callback_of, call_word, ask_word, stage_word}
 use Rattle.wdf_base.proofs.WordLaws.{callback-back, callback-only, status-back, fault-back, stage-back}
 use Rattle.wdf_trace.specs.Lines.{cpu_text, object_text, value_text, argument_words, answered_words, access_words, optional_words, answer_text, action_words, agent_text, post_words, event_words, line_text}
 use Rattle.wdf_trace.specs.Reading.{word, words, number_of, short_of, object_of, has_dot}
@@ -42,10 +43,10 @@ cpu_lacks cpu h =
     let wide : cpu.0 < 2 ^ 64 = omega arith in
     record { each = (Lacks_decimal 32 cpu.0 refl wide).each }
 
-digits_lack : (n : ℕ) → n < 2 ^ 64 → Lacks 32 (decimal n)
+pub digits_lack : (n : ℕ) → n < 2 ^ 64 → Lacks 32 (decimal n)
 digits_lack n h = Lacks_decimal 32 n refl h
 
-short_lacks : (n : ℕ) → n < 2 ^ 32 → Lacks 32 (decimal n)
+pub short_lacks : (n : ℕ) → n < 2 ^ 32 → Lacks 32 (decimal n)
 short_lacks n h = Lacks_decimal 32 n refl (omega arith)
 
 optional_lacks : (plan : Plan) → HasNames plan → (o : Option Handle) → IsOptionalOf plan o → AllLack 32 (optional_words plan o)
@@ -97,11 +98,11 @@ event_lacks plan h (event.Tick n) v = (record { each = refl }, (record { each = 
 
 -- ---- each event is told by its words
 
-callback_named-word : (c : Callback) → callback_named (callback_word c) ≡ Some c
+pub callback_named-word : (c : Callback) → callback_named (callback_word c) ≡ Some c
 unfolding callback_named
 callback_named-word c = callback-back c
 
-callback_in-word : (c : Callback) → callback_in (callback_word c) ≡ c
+pub callback_in-word : (c : Callback) → callback_in (callback_word c) ≡ c
 unfolding callback_in
 callback_in-word c = ap (λ o. unwrap_or o callback.EvtIoRead) (callback-back c)
 
@@ -217,3 +218,19 @@ read_each plan h text k e is_number is_event number event small v same = (
   is_number ∙ ap (λ t. number_of (word 0 (words t))) (sym same) ∙ line_number plan h number event small v,
   is_event ∙ ap (λ t. event_in plan (words t)) (sym same) ∙ line_event plan h number event small v,
 )
+
+-- the word of a stage is that of no callback
+pub callback_named-stage : (s : Stage) → callback_named (stage_word s) ≡ None
+unfolding callback_named
+callback_named-stage stage.Hardware = refl
+callback_named-stage stage.NoHardware = refl
+callback_named-stage stage.Enabled = refl
+callback_named-stage stage.Disabled = refl
+callback_named-stage stage.QueuesUp = refl
+callback_named-stage stage.QueuesDown = refl
+callback_named-stage stage.Settled = refl
+callback_named-stage stage.Quiet = refl
+callback_named-stage stage.Closed = refl
+callback_named-stage stage.Working = refl
+callback_named-stage stage.Sleeping = refl
+callback_named-stage stage.Removed = refl

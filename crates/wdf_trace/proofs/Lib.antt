@@ -8,5 +8,6 @@ pub mod Numbers
 pub mod ResolvedLaws
 pub mod Spaced
 pub mod ValueLaws
+pub mod WaitLaws
 pub mod WordLaws
 pub mod WordSizes

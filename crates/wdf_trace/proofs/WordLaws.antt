@@ -1,7 +1,8 @@
 -- The words of the tables have no blank, and those that a line must tell from others differ from these.
-use Rattle.std.proofs.Common.{◌≡◌, Bool, true, false, refl}
+use Rattle.std.proofs.Common.{◌≡◌, Bool, true, false, refl, codes}
 use Rattle.std.specs.Char.{is_ascii_digit}
 use Rattle.std.specs.List.{list_all}
+use Rattle.std.specs.Str.{bytes_eq}
 use Rattle.wdf_base.specs.declared.value.Status.{Status}
 use Rattle.wdf_base.specs.declared.value.Status.TheVariants as status
 use Rattle.wdf_base.specs.declared.call.Callback.{Callback}
@@ -230,3 +231,52 @@ callback_word_no_dot callback.EvtDestroyCallback = refl
 abbrev pub is_present : Sort → Bool
 is_present sort.Absent = false
 is_present _ = true
+
+pub callback_word_other : (x : Callback) → (bytes_eq (callback_word x) (codes "owned") ≡ false) × (bytes_eq (callback_word x) (codes "sent") ≡ false) × (bytes_eq (callback_word x) (codes "returning") ≡ false)
+callback_word_other callback.EvtInterruptIsr = (refl, refl, refl)
+callback_word_other callback.EvtDpcFunc = (refl, refl, refl)
+callback_word_other callback.EvtInterruptDpc = (refl, refl, refl)
+callback_word_other callback.EvtTimerFunc = (refl, refl, refl)
+callback_word_other callback.EvtRequestCompletion = (refl, refl, refl)
+callback_word_other callback.EvtRequestCancel = (refl, refl, refl)
+callback_word_other callback.EvtIoCanceledOnQueue = (refl, refl, refl)
+callback_word_other callback.EvtIoStop = (refl, refl, refl)
+callback_word_other callback.EvtIoResume = (refl, refl, refl)
+callback_word_other callback.EvtIoQueueState = (refl, refl, refl)
+callback_word_other callback.EvtIoRead = (refl, refl, refl)
+callback_word_other callback.EvtIoWrite = (refl, refl, refl)
+callback_word_other callback.EvtIoDeviceControl = (refl, refl, refl)
+callback_word_other callback.EvtIoDefault = (refl, refl, refl)
+callback_word_other callback.EvtDevicePrepareHardware = (refl, refl, refl)
+callback_word_other callback.EvtDeviceReleaseHardware = (refl, refl, refl)
+callback_word_other callback.EvtDeviceD0Entry = (refl, refl, refl)
+callback_word_other callback.EvtDeviceD0EntryPostInterruptsEnabled = (refl, refl, refl)
+callback_word_other callback.EvtDeviceD0ExitPreInterruptsDisabled = (refl, refl, refl)
+callback_word_other callback.EvtDeviceD0Exit = (refl, refl, refl)
+callback_word_other callback.EvtDeviceSelfManagedIoInit = (refl, refl, refl)
+callback_word_other callback.EvtDeviceSelfManagedIoRestart = (refl, refl, refl)
+callback_word_other callback.EvtDeviceSelfManagedIoSuspend = (refl, refl, refl)
+callback_word_other callback.EvtDeviceSelfManagedIoFlush = (refl, refl, refl)
+callback_word_other callback.EvtDeviceSelfManagedIoCleanup = (refl, refl, refl)
+callback_word_other callback.EvtDeviceQueryStop = (refl, refl, refl)
+callback_word_other callback.EvtDeviceQueryRemove = (refl, refl, refl)
+callback_word_other callback.EvtDeviceSurpriseRemoval = (refl, refl, refl)
+callback_word_other callback.EvtInterruptEnable = (refl, refl, refl)
+callback_word_other callback.EvtInterruptDisable = (refl, refl, refl)
+callback_word_other callback.EvtWorkItem = (refl, refl, refl)
+callback_word_other callback.EvtCleanupCallback = (refl, refl, refl)
+callback_word_other callback.EvtDestroyCallback = (refl, refl, refl)
+
+pub stage_word_other : (x : Stage) → (bytes_eq (stage_word x) (codes "owned") ≡ false) × (bytes_eq (stage_word x) (codes "sent") ≡ false) × (bytes_eq (stage_word x) (codes "returning") ≡ false)
+stage_word_other stage.Hardware = (refl, refl, refl)
+stage_word_other stage.NoHardware = (refl, refl, refl)
+stage_word_other stage.Enabled = (refl, refl, refl)
+stage_word_other stage.Disabled = (refl, refl, refl)
+stage_word_other stage.QueuesUp = (refl, refl, refl)
+stage_word_other stage.QueuesDown = (refl, refl, refl)
+stage_word_other stage.Settled = (refl, refl, refl)
+stage_word_other stage.Quiet = (refl, refl, refl)
+stage_word_other stage.Closed = (refl, refl, refl)
+stage_word_other stage.Working = (refl, refl, refl)
+stage_word_other stage.Sleeping = (refl, refl, refl)
+stage_word_other stage.Removed = (refl, refl, refl)

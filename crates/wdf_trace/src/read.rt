@@ -1,5 +1,6 @@
 ghost use Rattle.std.specs.Prelude.{◌≡◌, ◌↔◌, ◌<◌, ◌^◌, ℕ, Some, IfSome, IsTrue};
 ghost use Rattle.wdf_base.specs.declared.event.Event.{Event};
+ghost use Rattle.wdf_base.specs.declared.plan.Plan.{Plan};
 ghost use Rattle.wdf_base.specs.Resolved.{IsResolved};
 ghost use Rattle.wdf_trace.specs.Events.{IsEventOf};
 ghost use Rattle.wdf_trace.specs.Lines.{line_text};
@@ -34,3 +35,8 @@ pub fn read_line(plan: &Plan, text: &[u8]) -> Option<(usize, Event)>
         None
     }
 }
+
+/// The law of lines: no two events of a resolved plan share a line.
+pub fn one_event_a_line()
+    ensures { (plan : Plan) → IsResolved plan → (j k : ℕ) (e f : Event) → j < 2 ^ 64 → k < 2 ^ 64 → IsEventOf plan e → IsEventOf plan f → line_text plan j e ≡ line_text plan k f → (j ≡ k) × (e ≡ f) }
+{}

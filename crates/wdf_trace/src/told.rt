@@ -105,7 +105,7 @@ fn answer_of(plan: &Plan, word: &[u8]) -> Option<Handle>
 
 /// The callback of a word, if it is one.
 #[tactic(auto, unfolding(crate::specs::Told::callback_named))]
-fn callback_named(word: &[u8]) -> Option<Callback>
+pub fn callback_named(word: &[u8]) -> Option<Callback>
     ensures { result ≡ callback_named word.now }
 {
     Callback::from_word(word)
@@ -113,7 +113,7 @@ fn callback_named(word: &[u8]) -> Option<Callback>
 
 /// The callback of a word; of another word it is any.
 #[tactic(auto, unfolding(crate::specs::Told::callback_in))]
-fn callback_in(word: &[u8]) -> Callback
+pub fn callback_in(word: &[u8]) -> Callback
     ensures { result ≡ callback_in word.now }
 {
     Callback::from_word(word).unwrap_or(Callback::EvtIoRead)
@@ -127,7 +127,7 @@ fn fault_in(word: &[u8]) -> Fault
 }
 
 /// The stage of a word; of another word it is any.
-fn stage_in(word: &[u8]) -> Stage
+pub fn stage_in(word: &[u8]) -> Stage
     ensures { result ≡ stage_in word.now }
 {
     Stage::from_word(word).unwrap_or(Stage::Working)

@@ -5,7 +5,7 @@ ghost use Rattle.wdf_trace.specs.Events.{IsHandleOf, IsOptionalOf, IsValueOf, Is
 use wdf_base::{Action, Arg, Call, Callback, Event, Handle, Plan, Post, Sort, Stage, Value};
 
 /// Whether an object has a name of the plan.
-fn is_handle(plan: &Plan, object: Handle) -> bool
+pub fn is_handle(plan: &Plan, object: Handle) -> bool
     ensures { IsTrue result ↔ IsHandleOf plan.now object }
 {
     object.name < plan.name_len()
