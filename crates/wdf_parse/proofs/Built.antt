@@ -55,7 +55,7 @@ adds_step : (r now : Reader) (w : WrittenLine) (ws : List WrittenLine) → may_s
 adds_step r now w ws stands h =
     let base = next_node r.builder in
     let further : length (r.builder.exprs ++ nodes_at base w.written) ≡ base + written_size w.written =
-        length-append r.builder.exprs (nodes_at base w.written) ∙ ap (λ n. base + n) (length_nodes_at base w.written) in
+    length-append r.builder.exprs (nodes_at base w.written) ∙ ap (λ n. base + n) (length_nodes_at base w.written) in
     let x : NumberedLine = record { number = w.number; form = line_at base w.written; picks = picks_in w.written } in
     record {
       version = h.version;
@@ -129,7 +129,7 @@ is_read text s e =
     let h = front_history (lines_of text) 1 end.now end.is in
     record { now = end.now; history = h; headers = end.headers; openers = end.openers; scene = end.scene; adds = adds h.ws end.now (opening h.version) h.taken }
 
-scene_parts : (b : Scene) (v : ℕ) (ls : List NumberedLine) (es : List SceneExpr) → b.version ≡ v → b.lines ≡ ls → b.exprs ≡ es → b ≡ record { version = v; lines = ls; exprs = es }
+pub scene_parts : (b : Scene) (v : ℕ) (ls : List NumberedLine) (es : List SceneExpr) → b.version ≡ v → b.lines ≡ ls → b.exprs ≡ es → b ≡ record { version = v; lines = ls; exprs = es }
 scene_parts b v ls es is_v is_ls is_es =
     ap (λ x. record { version = x; lines = b.lines; exprs = b.exprs }) is_v
     ∙ ap (λ (x : List NumberedLine). record { version = v; lines = x; exprs = b.exprs }) is_ls

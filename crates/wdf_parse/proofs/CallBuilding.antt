@@ -71,11 +71,16 @@ call_read kind into (ArgumentBefore a b1) NoArgument third l1 l2 l3 s0 s1 s2 s3 
 call_read kind into (ArgumentBefore a b1) (ArgumentBefore b b2) NoArgument l1 l2 l3 s0 s1 s2 s3 x y z h1 is2 h2 is3 h3 done = absurd h3
 call_read kind into (ArgumentBefore a b1) (ArgumentBefore b b2) (ArgumentBefore c b3) l1 l2 l3 s0 s1 s2 s3 x y z h1 is2 h2 is3 h3 done =
     let three : Arguments a b c x y z s0 s1 s2 s3 = record {
-      first = h1.number; first_built = h1.built; second = h2.number; second_built = h2.built; third = h3.number; third_built = h3.built
+      first = h1.number;
+      first_built = h1.built;
+      second = h2.number;
+      second_built = h2.built;
+      third = h3.number;
+      third_built = h3.built;
     } in
     let steps = three_read kind into a b c b1 b2 b3
-        (ap (read_argument (signature_of kind).b) (sym h1.left_is) ∙ sym is2)
-        (ap (read_argument (signature_of kind).c) (sym h2.left_is) ∙ sym is3) in
+    (ap (read_argument (signature_of kind).b) (sym h1.left_is) ∙ sym is2)
+    (ap (read_argument (signature_of kind).c) (sym h2.left_is) ∙ sym is3) in
     let done3 : b3 ≡ [] = sym h3.left_is ∙ done in
     let steps_done : first_read kind into (ArgumentBefore a b1) ≡ Some (Calling kind into a b c) = steps ∙ ap (λ ts. third_read kind into a b (ArgumentBefore c ts)) done3 in
     let P : Option Written → Type 0 = λ w. IsLineRead w (Some (line.Call kind into x y z)) s0 s3 in
@@ -98,7 +103,7 @@ call_overfull kind into (ArgumentBefore a b1) NoArgument third l1 l2 l3 s0 s1 s2
 call_overfull kind into (ArgumentBefore a b1) (ArgumentBefore b b2) NoArgument l1 l2 l3 s0 s1 s2 s3 x y z h1 is2 h2 is3 h3 more = absurd h3
 call_overfull kind into (ArgumentBefore a b1) (ArgumentBefore b b2) (ArgumentBefore c b3) l1 l2 l3 s0 s1 s2 s3 x y z h1 is2 h2 is3 h3 more =
     let steps = three_read kind into a b c b1 b2 b3
-        (ap (read_argument (signature_of kind).b) (sym h1.left_is) ∙ sym is2)
-        (ap (read_argument (signature_of kind).c) (sym h2.left_is) ∙ sym is3) in
+    (ap (read_argument (signature_of kind).b) (sym h1.left_is) ∙ sym is2)
+    (ap (read_argument (signature_of kind).c) (sym h2.left_is) ∙ sym is3) in
     let P : Option Written → Type 0 = λ w. IsLineRead w None s0 s3 in
     subst P (sym (steps ∙ none_left kind into a b c b3 (λ e. more (h3.left_is ∙ e)))) tt

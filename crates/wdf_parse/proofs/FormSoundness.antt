@@ -39,27 +39,35 @@ use Rattle.wdf_parse.proofs.KeywordLaws.{keyword_only}
 status_only : (x : Status) (w : List ℕ) → status_named w ≡ Some x → status_word x ≡ w
 unfolding status_named
 status_only x w e = status-only x w e
+
 callback_only : (x : Callback) (w : List ℕ) → callback_named w ≡ Some x → callback_word x ≡ w
 unfolding callback_named
 callback_only x w e = callback-only x w e
+
 ask_only : (x : Ask) (w : List ℕ) → ask_named w ≡ Some x → ask_word x ≡ w
 unfolding ask_named
 ask_only x w e = ask-only x w e
+
 access_only : (x : Access) (w : List ℕ) → access_named w ≡ Some x → access_word x ≡ w
 unfolding access_named
 access_only x w e = access-only x w e
+
 plain_kind_only : (x : PlainKind) (w : List ℕ) → plain_kind_named w ≡ Some x → plain_kind_word x ≡ w
 unfolding plain_kind_named
 plain_kind_only x w e = plain_kind-only x w e
+
 deferred_kind_only : (x : DeferredKind) (w : List ℕ) → deferred_kind_named w ≡ Some x → deferred_kind_word x ≡ w
 unfolding deferred_kind_named
 deferred_kind_only x w e = deferred_kind-only x w e
+
 scope_only : (x : Scope) (w : List ℕ) → scope_named w ≡ Some x → scope_word x ≡ w
 unfolding scope_named
 scope_only x w e = scope-only x w e
+
 level_only : (x : ExecutionLevel) (w : List ℕ) → level_named w ≡ Some x → level_word x ≡ w
 unfolding level_named
 level_only x w e = level-only x w e
+
 form_only : (x : RequestForm) (w : List ℕ) → form_named w ≡ Some x → form_word x ≡ w
 unfolding form_named
 form_only x w e = form-only x w e
@@ -187,7 +195,7 @@ when_of_spelled a r w n (Some acc) (Some act) (Some keyword.After) middle f is_a
       tokens = ap (λ x. word keyword.When ∷ token.Word x ∷ token.Word r ∷ action_then act (word keyword.After ∷ token.Number n ∷ [])) (access_only acc a is_a)
           ∙ ap (λ x. word keyword.When ∷ token.Word a ∷ token.Word r ∷ action_then act (token.Word x ∷ token.Number n ∷ [])) (keyword_only keyword.After w is_k)
           ∙ ap (λ xs. word keyword.When ∷ token.Word a ∷ token.Word r ∷ xs) (is_act act (token.Word w ∷ token.Number n ∷ []) refl);
-      plain = refl
+      plain = refl;
     })
 when_of_spelled a r w n _ _ _ middle f is_a is_act is_k e = absurd (let z : ⊥ = cc in z)
 

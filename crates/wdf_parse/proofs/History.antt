@@ -82,8 +82,10 @@ Onward number lines now = (r : Reader) → is_at_front r.place.position ≡ fals
 
 empty_line : (r now : Reader) (number : ℕ) (l : List ℕ) (ls : List (List ℕ)) → line_reading l ≡ Ok [] → History r (suc number) ls now → History r number (l ∷ ls) now
 empty_line r now number l ls is h = record {
-  ws = h.ws; good = h.good; taken = h.taken;
-  tokens = ap (λ x. with_token_line number x (token_lines (suc number) ls)) is ∙ h.tokens
+  ws = h.ws;
+  good = h.good;
+  taken = h.taken;
+  tokens = ap (λ x. with_token_line number x (token_lines (suc number) ls)) is ∙ h.tokens;
 }
 
 -- one line more in front
@@ -129,8 +131,8 @@ inside_by r now number l ls (Err f) inside is onward e = absurd (let z : ⊥ = c
 inside_by r now number l ls (Ok []) inside is onward e = empty_line r now number l ls is (onward r inside e)
 inside_by r now number l ls (Ok (t ∷ ts)) inside is onward e =
     let plain : tokens_taken r number (t ∷ ts) ≡ line_taken r number (read_written (t ∷ ts)) =
-        ap (λ b. cond (is_version (t ∷ ts) && b) (Some (opening 2)) (line_taken r number (read_written (t ∷ ts)))) inside
-        ∙ ap (λ b. cond b (Some (opening 2)) (line_taken r number (read_written (t ∷ ts)))) (and_false (is_version (t ∷ ts))) in
+    ap (λ b. cond (is_version (t ∷ ts) && b) (Some (opening 2)) (line_taken r number (read_written (t ∷ ts)))) inside
+    ∙ ap (λ b. cond b (Some (opening 2)) (line_taken r number (read_written (t ∷ ts)))) (and_false (is_version (t ∷ ts))) in
     formed r now number l ls t ts (read_written (t ∷ ts)) is refl
     (λ w _. not_front_moved r.place.position (line_at (next_node r.builder) w) inside) onward
     (ap (λ o. after_lines (or_bad_line number o) (suc number) ls) (sym plain) ∙ e)
@@ -165,7 +167,12 @@ from_one number lines now h = record { version = 1; known = inl refl; first = 0;
 
 from_two : (number : ℕ) (l : List ℕ) (ls : List (List ℕ)) (t : Token) (ts : List Token) (now : Reader) → line_reading l ≡ Ok (t ∷ ts) → is_version (t ∷ ts) ≡ true → History (opening 2) (suc number) ls now → FrontHistory number (l ∷ ls) now
 from_two number l ls t ts now is mark h = record {
-  version = 2; known = inr refl; first = number; ws = h.ws; good = h.good; taken = h.taken;
+  version = 2;
+  known = inr refl;
+  first = number;
+  ws = h.ws;
+  good = h.good;
+  taken = h.taken;
   tokens = ap (λ x. with_token_line number x (token_lines (suc number) ls)) is
       ∙ ap (with_token_line number (Ok (t ∷ ts))) h.tokens
       ∙ ap (λ xs. Some (record { number = number; tokens = xs } ∷ map spelled_line h.ws)) (version_only (t ∷ ts) mark);
@@ -173,8 +180,13 @@ from_two number l ls t ts now is mark h = record {
 
 front_empty : (number : ℕ) (l : List ℕ) (ls : List (List ℕ)) (now : Reader) → line_reading l ≡ Ok [] → FrontHistory (suc number) ls now → FrontHistory number (l ∷ ls) now
 front_empty number l ls now is h = record {
-  version = h.version; known = h.known; first = h.first; ws = h.ws; good = h.good; taken = h.taken;
-  tokens = ap (λ x. with_token_line number x (token_lines (suc number) ls)) is ∙ h.tokens
+  version = h.version;
+  known = h.known;
+  first = h.first;
+  ws = h.ws;
+  good = h.good;
+  taken = h.taken;
+  tokens = ap (λ x. with_token_line number x (token_lines (suc number) ls)) is ∙ h.tokens;
 }
 
 front_marked : (number : ℕ) (l : List ℕ) (ls : List (List ℕ)) (t : Token) (ts : List Token) (now : Reader) (b : Bool)

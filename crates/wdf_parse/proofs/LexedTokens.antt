@@ -58,9 +58,9 @@ word_taken : (bytes : List ℕ) → is_ascii_alphabetic (slice_index bytes 0) �
 word_taken [] h = absurd (let z : ⊥ = cc in z)
 word_taken (b ∷ bytes) h =
     let cut : take_while is_name_byte (b ∷ bytes) ≡ b ∷ take_while is_name_byte bytes =
-        take_while-cons is_name_byte b bytes ∙ ap (λ t. cond t (b ∷ take_while is_name_byte bytes) []) (alpha_names b h) in
+    take_while-cons is_name_byte b bytes ∙ ap (λ t. cond t (b ∷ take_while is_name_byte bytes) []) (alpha_names b h) in
     ap is_word cut ∙ both (is_ascii_alphabetic b) (list_all is_name_byte (b ∷ take_while is_name_byte bytes)) h
-        (both (is_name_byte b) (list_all is_name_byte (take_while is_name_byte bytes)) (alpha_names b h) (taken_pass is_name_byte bytes))
+    (both (is_name_byte b) (list_all is_name_byte (take_while is_name_byte bytes)) (alpha_names b h) (taken_pass is_name_byte bytes))
 
 long_fit : (w : List ℕ) (c : Option Callback) → is_word w ≡ true → 32 < length w → callback_of w ≡ c → IsFit (long_content c)
 long_fit w None is long found = tt

@@ -1,8 +1,10 @@
 pub mod Built
 pub mod CallBuilding
+pub mod Completeness
 pub mod ExprTokens
 pub mod FormBuilding
 pub mod FormSoundness
+pub mod Forward
 pub mod History
 pub mod KeywordLaws
 pub mod LexedTokens
@@ -18,3 +20,4 @@ pub mod Respelling
 pub mod ShortWords
 pub mod TextLines
 pub mod TreeBuilding
+pub mod Uniqueness

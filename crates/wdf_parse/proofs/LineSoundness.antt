@@ -36,9 +36,11 @@ use Rattle.wdf_parse.proofs.KeywordLaws.{keyword_only}
 status_only : (x : Status) (w : List ℕ) → status_named w ≡ Some x → status_word x ≡ w
 unfolding status_named
 status_only x w e = status-only x w e
+
 context_only : (x : ContextWord) (w : List ℕ) → context_named w ≡ Some x → context_word x ≡ w
 unfolding context_named
 context_only x w e = context-only x w e
+
 call_only : (x : CallKind) (w : List ℕ) → call_named w ≡ Some x → call_word x ≡ w
 unfolding call_named
 call_only x w e = call-only x w e
@@ -211,8 +213,8 @@ fronted_spelled name None into n ts rest w is behind front e = absurd (let z : �
 fronted_spelled name (Some kind) into n ts rest w is behind front e =
     first_spelled kind into (word keyword.Call ∷ ts) (drop n ts) (read_argument (signature_of kind).a (drop n ts)) w
     (ap (λ xs. word keyword.Call ∷ into_then into (token.Word (call_word kind) ∷ xs)) behind
-        ∙ ap (λ x. word keyword.Call ∷ into_then into (token.Word x ∷ rest)) (call_only kind name is)
-        ∙ ap (λ xs. word keyword.Call ∷ xs) front)
+    ∙ ap (λ x. word keyword.Call ∷ into_then into (token.Word x ∷ rest)) (call_only kind name is)
+    ∙ ap (λ xs. word keyword.Call ∷ xs) front)
     refl e
 
 call_spelled : (ts : List Token) (w : Written) → call_behind (call_front ts) ts ≡ Some w → SpellsLine (word keyword.Call ∷ ts) w

@@ -76,7 +76,7 @@ taken_refused first text at number len line now e before inside is_len is_line g
     let behind = lines_of (drop (at + (len + 1)) text) in
     let here : line ≡ take_while is_inside (drop at text) = is_line ∙ line_there text at len is_len in
     let steps : after_lines (Ok first) 1 (lines_of text) ≡ after_lines (after_line now number line) (suc number) behind =
-        before.splits ∙ ap (after_lines (Ok now) number) cut ∙ ap (λ l. after_lines (after_line now number l) (suc number) behind) (sym here) in
+    before.splits ∙ ap (after_lines (Ok now) number) cut ∙ ap (λ l. after_lines (after_line now number l) (suc number) behind) (sym here) in
     rw steps (refusal_passes (after_line now number line) e (suc number) behind gives)
 
 -- at the end all is taken

@@ -136,9 +136,9 @@ line_spelled (Calling kind into a b c) exprs front back base is at h =
     let at3 : length ((front ++ na) ++ nb) ≡ base + argument_size a + argument_size b = omega (arith, length-append (front ++ na) nb, length_argument b) in
     let z = arg_tokens exprs (numbered_argument (base + argument_size a + argument_size b) c) in
     let args : arg_tokens exprs (numbered_argument base a) ++ (arg_tokens exprs (numbered_argument (base + argument_size a) b) ++ z) ≡ argument_then a (argument_then b (argument_then c [])) =
-        arg_spelled a exprs front ((nb ++ nc) ++ back) base (arg_tokens exprs (numbered_argument (base + argument_size a) b) ++ z) first at
-        ∙ ap (argument_then a) (arg_spelled b exprs (front ++ na) (nc ++ back) (base + argument_size a) z second at2
-            ∙ ap (argument_then b) (sym (append-nil z) ∙ arg_spelled c exprs ((front ++ na) ++ nb) back (base + argument_size a + argument_size b) [] third at3)) in
+    arg_spelled a exprs front ((nb ++ nc) ++ back) base (arg_tokens exprs (numbered_argument (base + argument_size a) b) ++ z) first at
+    ∙ ap (argument_then a) (arg_spelled b exprs (front ++ na) (nc ++ back) (base + argument_size a) z second at2
+    ∙ ap (argument_then b) (sym (append-nil z) ∙ arg_spelled c exprs ((front ++ na) ++ nb) back (base + argument_size a + argument_size b) [] third at3)) in
     ap (λ (xs : List Token). word keyword.Call ∷ into_then into (token.Word (call_word kind) ∷ xs)) args
 
 pub length_nodes_at : (base : ℕ) (w : Written) → length (nodes_at base w) ≡ written_size w

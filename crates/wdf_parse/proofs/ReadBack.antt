@@ -1,6 +1,7 @@
 -- A scene that is printed is read back.
 use Rattle.std.proofs.Common.{◌≡◌, ℕ, suc, ◌+◌, ◌-◌, Bool, true, false, cond, ◌&&◌, ◌⊎◌, inl, inr, List, [], ◌∷◌, ◌++◌, map, flat_map, length, drop, Option, Some, None, option_map, Result, Ok, Err, refl, ap, ◌∙◌, sym, subst, arith, append-nil, length-append, length-drop}
-use Rattle.std.specs.Prelude.{◌==◌, if◌then◌else◌}
+use Rattle.std.specs.Prelude.{◌==◌, if◌then◌else◌, Vec, IfOk}
+use Rattle.std.specs.declared.alloc.Global.{Global}
 use Rattle.std.specs.List.{list_all}
 use Rattle.std.proofs.lemmas.List.{map-append}
 use Rattle.wdf_scene.specs.declared.block.Block.{Block}
@@ -18,22 +19,23 @@ use Rattle.wdf_parse.specs.declared.refusal.ParseRefusal.TheVariants as refusal
 use Rattle.wdf_parse.specs.declared.token.Token.{Token}
 use Rattle.wdf_parse.specs.declared.token.Token.TheVariants as token
 use Rattle.wdf_parse.specs.Building.{next_node}
-use Rattle.wdf_parse.specs.Canonical.{written_text, canonical_text}
+use Rattle.wdf_parse.specs.Canonical.{written_text, canonical_text, line_bytes}
 use Rattle.wdf_parse.specs.Keywords.{keyword_of}
 use Rattle.wdf_parse.specs.Printing.{line_text, version_text, printed}
 use Rattle.wdf_parse.specs.Reading.{read_written}
 use Rattle.wdf_parse.specs.Spelling.{word, written_tokens}
 use Rattle.wdf_parse.specs.Standing.{first_number}
-use Rattle.wdf_parse.specs.StandsFor.{version_tokens, without_number, without_numbers}
+use Rattle.wdf_parse.specs.StandsFor.{StandsFor, version_tokens, without_number, without_numbers}
+use Rattle.wdf_parse.specs.Laws.{IsReadBack}
 use Rattle.wdf_parse.specs.Texts.{opening, with_written, line_taken, version_mark, is_version, is_at_front, tokens_taken, or_bad_line, after_tokens, after_line, after_lines, closed, at_end, finished, reading}
 use Rattle.wdf_parse.specs.Tokens.{line_reading, lines_of}
 use Rattle.wdf_parse.specs.WellFormed.{is_token}
-use Rattle.wdf_parse.proofs.Built.{IsRead, is_read, read_scene, all_written}
+use Rattle.wdf_parse.proofs.Built.{IsRead, is_read, read_scene, all_written, read_stands}
 use Rattle.wdf_parse.proofs.History.{Good, AllGood, taken_by}
 use Rattle.wdf_parse.proofs.KeywordLaws.{keyword_back}
 use Rattle.wdf_parse.proofs.NotVersion.{read_not_version}
 use Rattle.wdf_parse.proofs.PrintedLines.{lines_spelled}
-use Rattle.wdf_parse.proofs.Respelling.{line_bytes, line_is_read, first_line_text}
+use Rattle.wdf_parse.proofs.Respelling.{line_is_read, first_line_text}
 
 -- two readers that differ in line numbers alone
 record Same (r s : Reader) : Type 0 where
@@ -102,8 +104,8 @@ replay_by ws r now s number w false onward good goods same stands e = absurd (le
 replay_by ws r now s number w true onward good goods same stands e =
     let base : next_node r.builder ≡ next_node s.builder = ap (λ (xs : List SceneExpr). length xs) same.exprs in
     let stands_too : may_stand s.place.position (line_at (next_node s.builder) w.written) ≡ true =
-        ap (λ k. may_stand s.place.position (line_at k w.written)) (sym base)
-        ∙ ap (λ p. may_stand p (line_at (next_node r.builder) w.written)) (sym same.position) ∙ stands in
+    ap (λ k. may_stand s.place.position (line_at k w.written)) (sym base)
+    ∙ ap (λ p. may_stand p (line_at (next_node r.builder) w.written)) (sym same.position) ∙ stands in
     let behind = onward (with_written r w.number w.written) (with_written s number w.written) goods (same_step r s w.number number w.written same) e in
     record {
       last = behind.last;
@@ -123,7 +125,7 @@ canonical_lines (w ∷ ws) goods =
     first_line_text (written_tokens w.written) (flat_map written_text ws) goods.0.fit
     ∙ ap (λ (ls : List (List ℕ)). spelled_bytes w ∷ ls) (canonical_lines ws goods.1)
 
-version_is : is_version version_tokens ≡ true
+pub version_is : is_version version_tokens ≡ true
 version_is = ap (λ k. version_mark k 2) (keyword_back keyword.Version)
 
 version_fit : list_all is_token version_tokens ≡ true
@@ -161,7 +163,7 @@ again_two ws now goods e =
           ∙ ap (λ x. after_lines x 2 (lines_of (flat_map written_text ws))) (version_taken 1)
           ∙ ap (after_lines (Ok (opening 2)) 2) (canonical_lines ws goods)
           ∙ r.gives;
-      same = r.same
+      same = r.same;
     }
 
 again : (v : ℕ) (ws : List WrittenLine) (now : Reader) → ((v ≡ 1) ⊎ (v ≡ 2)) → AllGood ws → taken_by (Some (opening v)) ws ≡ Some now → Again v ws now
@@ -183,12 +185,6 @@ same_scene r s h =
     ∙ ap (λ (ls : List NumberedLine). record { version = r.builder.version; lines = ls; exprs = s.builder.exprs }) (sym h.lines)
     ∙ ap (λ (es : List SceneExpr). record { version = r.builder.version; lines = map without_number r.builder.lines; exprs = es }) (sym h.exprs)
 
--- the printed text of a scene stands for it, but for line numbers
-pub record IsReadBack (s : Scene) : Type 0 where
-  pub again : Scene
-  pub reads : reading (printed s) ≡ Ok again
-  pub same : without_numbers again ≡ without_numbers s
-
 ended : (text : List ℕ) (now last : Reader) → after_lines (Ok (opening 1)) 1 (lines_of text) ≡ Ok last → Same now last → (now.place.position.headers == 3) ≡ true → now.place.openers ≡ [] → reading text ≡ Ok last.builder
 unfolding reading
 ended text now last gives same headers openers =
@@ -199,6 +195,13 @@ ended text now last gives same headers openers =
     ∙ ap (λ b. cond b (closed (first_number last.place.openers) last.builder) (Err (refusal.BadLine past))) there
     ∙ ap (λ o. closed o last.builder) none_left
 
+same_itself : (r : Reader) → Same r r
+same_itself r = record { version = refl; exprs = refl; lines = refl; position = refl; openers = refl }
+
+-- a text whose lines are taken, and that may end there, has a scene
+pub reading_ends : (text : List ℕ) (now : Reader) → after_lines (Ok (opening 1)) 1 (lines_of text) ≡ Ok now → (now.place.position.headers == 3) ≡ true → now.place.openers ≡ [] → reading text ≡ Ok now.builder
+reading_ends text now gives headers openers = ended text now now gives (same_itself now) headers openers
+
 pub read_back : (text : List ℕ) (s : Scene) → reading text ≡ Ok s → IsReadBack s
 read_back text s e =
     let h = is_read text s e in
@@ -208,6 +211,11 @@ read_back text s e =
     let text_is : printed s ≡ canonical_text h.history.version h.history.ws = ap printed is ∙ printed_canonical h.history.version h.history.ws written in
     record {
       again = a.last.builder;
-      reads = ap reading text_is ∙ ended (canonical_text h.history.version h.history.ws) h.now a.last a.gives a.same h.headers h.openers;
+      stands = read_stands (printed s) a.last.builder (ap reading text_is ∙ ended (canonical_text h.history.version h.history.ws) h.now a.last a.gives a.same h.headers h.openers);
       same = same_scene h.now a.last a.same ∙ ap without_numbers (sym h.scene);
     }
+
+-- what is printed of a scene that stands for a text is its canonical text
+pub canonical_if : {E : Type 0} (source : List ℕ) (s : Scene) (stands : StandsFor source s) (r : Result (Vec ℕ Global) E) → IfOk r (λ t. t.items ≡ printed s) → IfOk r (λ t. t.items ≡ canonical_text s.version stands.ws)
+canonical_if source s stands (Err e) h = tt
+canonical_if source s stands (Ok t) h = h ∙ ap printed stands.is ∙ printed_canonical s.version stands.ws stands.lines.written

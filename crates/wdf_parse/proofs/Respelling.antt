@@ -21,6 +21,7 @@ use Rattle.wdf_parse.specs.declared.lexer.TokenFault.TheVariants as fault
 use Rattle.wdf_parse.specs.declared.token.Token.{Token}
 use Rattle.wdf_parse.specs.declared.token.Token.TheVariants as token
 use Rattle.wdf_parse.specs.Printing.{token_text, rest_text, line_text}
+use Rattle.wdf_parse.specs.Canonical.{rest_bytes, line_bytes}
 use Rattle.wdf_parse.specs.Tokens.{is_blank, is_plain, is_name_byte, is_inside, number_after, small_number, piece, piece_of, digits_piece, letters_piece, number_content, name_content, long_name, long_content, marks_piece, token_at, with_token, tokens_from, line_reading, lines_of, with_byte}
 use Rattle.wdf_parse.specs.WellFormed.{is_word, is_token}
 use Rattle.wdf_parse.proofs.FormSoundness.{first_part, second_part}
@@ -285,16 +286,6 @@ piece_read column (b ∷ bytes) rest t some is =
 
 token_read : (column : ℕ) (t : Token) (rest : List ℕ) → is_token t ≡ true → Stops rest → tokens_from column 0 (token_text t ++ rest) ≡ with_token (Ok (Some t)) (tokens_from (column + length (token_text t)) 0 rest)
 token_read column t rest fit stops = piece_read column (token_text t) rest t (token_some t fit) (token_piece t rest fit stops)
-
--- the tokens behind another one, without the line's end
-abbrev pub rest_bytes : List Token → List ℕ
-rest_bytes [] = []
-rest_bytes (t ∷ ts) = 32 ∷ (token_text t ++ rest_bytes ts)
-
--- a line with these tokens, without its end
-abbrev pub line_bytes : List Token → List ℕ
-line_bytes [] = []
-line_bytes (t ∷ ts) = token_text t ++ rest_bytes ts
 
 rest_stops : (ts : List Token) → Stops (rest_bytes ts)
 rest_stops [] = AtEnd

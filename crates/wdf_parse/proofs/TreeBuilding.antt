@@ -42,7 +42,7 @@ pair_built l r op x y s0 s1 s2 h =
     let a = nodes base l in
     let node : List SceneExpr = expr.Binary op (root base l) (root (base + size l) r) ∷ [] in
     let operands : expr.Binary op x y ∷ [] ≡ node =
-        ap (λ n. expr.Binary op n y ∷ []) h.left ∙ ap (λ n. expr.Binary op (root base l) n ∷ []) (h.right ∙ ap (λ n. root n r) further) in
+    ap (λ n. expr.Binary op n y ∷ []) h.left ∙ ap (λ n. expr.Binary op (root base l) n ∷ []) (h.right ∙ ap (λ n. root n r) further) in
     ap (with_nodes s2) operands
     ∙ ap (λ s. with_nodes s node) (h.right_built ∙ ap (λ n. with_nodes s1 (nodes n r)) further)
     ∙ with_nodes_twice s1 (nodes (base + size l) r) node

@@ -2,6 +2,7 @@ pub mod Building
 pub mod Canonical
 pub mod Forms
 pub mod Keywords
+pub mod Laws
 pub mod Named
 pub mod Picking
 pub mod Printing

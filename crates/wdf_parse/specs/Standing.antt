@@ -16,7 +16,7 @@ start v = record { position = front v; openers = [] }
 abbrev pub shifted : Standing → ℕ → SceneLine → Standing
 shifted s number form = record {
   position = record s.position { blocks = blocks_after s.position.blocks form };
-  openers = openers_after s.openers number form
+  openers = openers_after s.openers number form;
 }
 
 -- behind a line that may stand there

@@ -27,9 +27,9 @@ abbrev pub with_written : Reader → ℕ → Written → Reader
 with_written r number w = record {
   builder = record r.builder {
     lines = r.builder.lines ++ record { number = number; form = line_at (next_node r.builder) w; picks = picks_in w } ∷ [];
-    exprs = r.builder.exprs ++ nodes_at (next_node r.builder) w
+    exprs = r.builder.exprs ++ nodes_at (next_node r.builder) w;
   };
-  place = standing_after r.place number (line_at (next_node r.builder) w)
+  place = standing_after r.place number (line_at (next_node r.builder) w);
 }
 
 -- the line, if there is one and it may stand there

@@ -164,9 +164,11 @@ fn queue_line(tokens: &[Token]) -> Option<SceneLine>
 {
     match tokens {
         [Token::Word(name), Token::Word(kind)] => plain_queue(*name, keyword_named(kind)),
-        [Token::Word(name), Token::Word(kind), Token::Number(presented)] => {
-            parallel_queue(*name, keyword_named(kind), *presented)
-        }
+        [
+            Token::Word(name),
+            Token::Word(kind),
+            Token::Number(presented),
+        ] => { parallel_queue(*name, keyword_named(kind), *presented) }
         _ => None,
     }
 }
@@ -424,9 +426,11 @@ fn at_line(tokens: &[Token]) -> Option<SceneLine>
             Token::Number(code),
             Token::Number(length),
         ] => control_at(*tick, keyword_named(verb), *device, *code, *length),
-        [Token::Number(tick), Token::Word(verb), Token::Number(request)] => {
-            cancel_at(*tick, keyword_named(verb), *request)
-        }
+        [
+            Token::Number(tick),
+            Token::Word(verb),
+            Token::Number(request),
+        ] => { cancel_at(*tick, keyword_named(verb), *request) }
         _ => None,
     }
 }

@@ -182,6 +182,9 @@ impl Keyword {
     pub fn from_word(word: &[u8]) -> Option<Keyword>
         ensures { result ≡ keyword_of word.now }
     {
-        KEYWORDS.iter().copied().find(|x| x.word().as_bytes() == word)
+        KEYWORDS
+            .iter()
+            .copied()
+            .find(|x| x.word().as_bytes() == word)
     }
 }

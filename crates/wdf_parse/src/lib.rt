@@ -5,6 +5,8 @@ mod cursor;
 mod exprs;
 mod forms;
 mod keyword;
+mod laws;
+mod lexer;
 mod line_tokens;
 mod named;
 mod parsing;
@@ -14,11 +16,14 @@ mod printing;
 mod reader;
 mod refusal;
 mod statements;
-mod lexer;
 mod token;
 mod word_tokens;
 
+pub use laws::{one_scene, printed_is_read_back, spelled_lines_are_read, spelled_tokens_are_read};
 pub use lexer::small_number;
 pub use parsing::{TEXT_LIMIT, parse};
 pub use printing::print;
 pub use refusal::ParseRefusal;
+
+#[cfg(test)]
+mod tests;

@@ -76,7 +76,11 @@ fn add_argument(tokens: &mut Vec<Token>, scene: &Scene, argument: &SceneArg) -> 
     }
 }
 
-fn add_call_front(tokens: &mut Vec<Token>, kind: CallKind, into: &Option<Name>) -> Result<(), Memory>
+fn add_call_front(
+    tokens: &mut Vec<Token>,
+    kind: CallKind,
+    into: &Option<Name>,
+) -> Result<(), Memory>
     ensures { OnOk result (tokens.new.items ≡ tokens.old.items ++ spelling.word Keyword.Call ∷ spelling.into_then into.now (Token.Word (call_word kind) ∷ [])) }
 {
     match into {
@@ -110,12 +114,7 @@ fn add_call(
     add_argument(tokens, scene, c)
 }
 
-fn add_single(
-    tokens: &mut Vec<Token>,
-    scene: &Scene,
-    front: &[Token],
-    e: u32,
-) -> Result<(), Memory>
+fn add_single(tokens: &mut Vec<Token>, scene: &Scene, front: &[Token], e: u32) -> Result<(), Memory>
     ensures { OnOk result (tokens.new.items ≡ tokens.old.items ++ (front.now ++ printing.expr_tokens 16 scene.now.exprs e)) }
 {
     add(tokens, front)?;

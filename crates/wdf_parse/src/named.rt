@@ -4,8 +4,14 @@ ghost use Rattle.wdf_parse.specs.Keywords.{keyword_of};
 ghost use Rattle.wdf_parse.specs.Named.{callback_named, call_named, status_named, ask_named, context_named, access_named, plain_kind_named, deferred_kind_named, scope_named, level_named, form_named};
 
 use crate::keyword::Keyword;
-use wdf_base::{Access, Ask, CallKind, Callback, ContextWord, DeferredKind, ExecutionLevel, Name, PlainKind, RequestForm, Scope, Status};
-use wdf_scene::{access_from_word, context_from_word, deferred_kind_from_word, form_from_word, level_from_word, plain_kind_from_word, scope_from_word};
+use wdf_base::{
+    Access, Ask, CallKind, Callback, ContextWord, DeferredKind, ExecutionLevel, Name, PlainKind,
+    RequestForm, Scope, Status,
+};
+use wdf_scene::{
+    access_from_word, context_from_word, deferred_kind_from_word, form_from_word, level_from_word,
+    plain_kind_from_word, scope_from_word,
+};
 
 /// The keyword with this word.
 pub fn keyword_named(word: &Name) -> Option<Keyword>

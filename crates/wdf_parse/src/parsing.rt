@@ -1,6 +1,8 @@
 //! A text is read to its scene, or to its first refusal.
 ghost use Rattle.std.specs.Prelude.{◌≡◌, ℕ, ◌+◌, ◌<◌, ◌≤◌, [], length, IfOk, OnOk, IfErr, Ok};
 ghost use Rattle.wdf_parse.specs.Tokens.{lines_of};
+ghost use Rattle.wdf_parse.specs.StandsFor.{StandsFor};
+ghost use Rattle.wdf_parse.specs.Laws.{IsNoScene};
 ghost use Rattle.wdf_parse.specs.Texts as texts;
 
 use crate::lexer::line_len;
@@ -39,10 +41,8 @@ fn take_lines(alloc: Global, reader: &mut Reader, text: &[u8]) -> Result<u32, Pa
     Ok(number)
 }
 
-/// The scene that stands for a text, or the text's first refusal. The time grows with the length of
-/// the text.
 #[tactic(auto, unfolding(crate::specs::Texts::reading))]
-pub fn parse(alloc: Global, text: &[u8]) -> Result<Scene, ParseRefusal>
+fn read_text(alloc: Global, text: &[u8]) -> Result<Scene, ParseRefusal>
     requires { length text.now ≤ TEXT_LIMIT }
     ensures scene { IfOk result (λ scene. texts.reading text.now ≡ Ok scene) }
     ensures refused { IfErr result (texts.IsRefusalOf (texts.reading text.now)) }
@@ -52,4 +52,18 @@ pub fn parse(alloc: Global, text: &[u8]) -> Result<Scene, ParseRefusal>
         Ok(past) => reader.finish(past),
         Err(refusal) => Err(refusal),
     }
+}
+
+/// The scene that stands for a text, or the text's first refusal. The time grows with the length of
+/// the text.
+pub fn parse(alloc: Global, text: &[u8]) -> Result<Scene, ParseRefusal>
+    requires { length text.now ≤ TEXT_LIMIT }
+    ensures stands { IfOk result (StandsFor text.now) }
+    ensures scene { IfOk result (λ scene. texts.reading text.now ≡ Ok scene) }
+
+    // Want of memory aside, an error is the first refusal, and no scene stands for the text.
+    ensures refused { IfErr result (texts.IsRefusalOf (texts.reading text.now)) }
+    ensures none { IfErr result (IsNoScene text.now) }
+{
+    read_text(alloc, text)
 }

@@ -33,7 +33,7 @@ impl Model for Place {
 
     ghost view = { λ p. record {
       position = record { version = p.version; headers = p.headers; blocks = p.blocks.items; driver = p.driver; pnp = p.pnp; order = p.order };
-      openers = p.openers.items
+      openers = p.openers.items;
     } };
 }
 

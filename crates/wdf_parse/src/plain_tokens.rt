@@ -74,7 +74,10 @@ fn add_queue(tokens: &mut Vec<Token>, name: Name, dispatch: DispatchKind) -> Res
     let name = Token::Word(name);
     match dispatch {
         DispatchKind::Sequential => {
-            add(tokens, &[key(Keyword::Queue), name, key(Keyword::Sequential)])
+            add(
+                tokens,
+                &[key(Keyword::Queue), name, key(Keyword::Sequential)],
+            )
         }
         DispatchKind::Parallel(presented) => add(
             tokens,
@@ -165,12 +168,42 @@ pub fn add_plain(tokens: &mut Vec<Token>, form: &SceneLine) -> Result<(), Memory
         SceneLine::Limit(n) => add(tokens, &[key(Keyword::Limit), Token::Number(*n)]),
         SceneLine::Objects(n) => add(tokens, &[key(Keyword::Objects), Token::Number(*n)]),
         SceneLine::Driver => add(tokens, &[key(Keyword::Driver)]),
-        SceneLine::Class { name, kind } => add(tokens, &[key(Keyword::Class), Token::Word(*name), plain_kind_token(*kind)]),
-        SceneLine::DeferredClass { name, kind, parent } => add_deferred(tokens, *name, *kind, parent),
+        SceneLine::Class { name, kind } => add(
+            tokens,
+            &[
+                key(Keyword::Class),
+                Token::Word(*name),
+                plain_kind_token(*kind),
+            ],
+        ),
+        SceneLine::DeferredClass { name, kind, parent } => add_deferred(
+            tokens, *name, *kind, parent,
+        ),
         SceneLine::Device { name, working } => add_device(tokens, *name, *working),
-        SceneLine::Interrupt { name, level } => add(tokens, &[key(Keyword::Interrupt), Token::Word(*name), level_token_of(*level)]),
+        SceneLine::Interrupt { name, level } => add(
+            tokens,
+            &[
+                key(Keyword::Interrupt),
+                Token::Word(*name),
+                level_token_of(*level),
+            ],
+        ),
         SceneLine::Queue { name, dispatch } => add_queue(tokens, *name, *dispatch),
-        SceneLine::Target { name, delay, status, depth } => add(tokens, &[key(Keyword::Target), Token::Word(*name), Token::Number(*delay), status_token(*status), Token::Number(*depth)]),
+        SceneLine::Target {
+            name,
+            delay,
+            status,
+            depth,
+        } => add(
+            tokens,
+            &[
+                key(Keyword::Target),
+                Token::Word(*name),
+                Token::Number(*delay),
+                status_token(*status),
+                Token::Number(*depth),
+            ],
+        ),
         SceneLine::App { name } => add(tokens, &[key(Keyword::App), Token::Word(*name)]),
         SceneLine::Pnp => add(tokens, &[key(Keyword::Pnp)]),
         SceneLine::Order => add(tokens, &[key(Keyword::Order)]),
@@ -180,19 +213,96 @@ pub fn add_plain(tokens: &mut Vec<Token>, form: &SceneLine) -> Result<(), Memory
         SceneLine::Level { level } => add(tokens, &[key(Keyword::Level), execution_token(*level)]),
         SceneLine::Serialize => add(tokens, &[key(Keyword::Serialize)]),
         SceneLine::Period { ticks } => add(tokens, &[key(Keyword::Period), Token::Number(*ticks)]),
-        SceneLine::Register { name, value } => add(tokens, &[key(Keyword::Register), Token::Word(*name), Token::Number(*value)]),
-        SceneLine::When { access, register, action, after } => add_when(tokens, *access, *register, action, *after),
+        SceneLine::Register { name, value } => add(
+            tokens,
+            &[
+                key(Keyword::Register),
+                Token::Word(*name),
+                Token::Number(*value),
+            ],
+        ),
+        SceneLine::When {
+            access,
+            register,
+            action,
+            after,
+        } => add_when(tokens, *access, *register, action, *after),
         SceneLine::At { tick, action } => add_at(tokens, *tick, action),
         SceneLine::Default => add(tokens, &[key(Keyword::Default)]),
         SceneLine::For { form } => add(tokens, &[key(Keyword::For), form_token(*form)]),
         SceneLine::PowerOff => add(tokens, &[key(Keyword::Power), key(Keyword::Off)]),
         SceneLine::Zero => add(tokens, &[key(Keyword::Zero)]),
-        SceneLine::AtRead { tick, device, length } => add(tokens, &[key(Keyword::At), Token::Number(*tick), key(Keyword::Read), Token::Word(*device), Token::Number(*length)]),
-        SceneLine::AtWrite { tick, device, length } => add(tokens, &[key(Keyword::At), Token::Number(*tick), key(Keyword::Write), Token::Word(*device), Token::Number(*length)]),
-        SceneLine::AtControl { tick, device, code, length } => add(tokens, &[key(Keyword::At), Token::Number(*tick), key(Keyword::Control), Token::Word(*device), Token::Number(*code), Token::Number(*length)]),
-        SceneLine::AtCancel { tick, request } => add(tokens, &[key(Keyword::At), Token::Number(*tick), key(Keyword::Cancel), Token::Number(*request)]),
-        SceneLine::AtAsk { tick, ask, device } => add(tokens, &[key(Keyword::At), Token::Number(*tick), ask_token(*ask), Token::Word(*device)]),
-        SceneLine::Get { variable, register } => add(tokens, &[key(Keyword::Get), Token::Word(*variable), Token::Assign, Token::Word(*register)]),
+        SceneLine::AtRead {
+            tick,
+            device,
+            length,
+        } => add(
+            tokens,
+            &[
+                key(Keyword::At),
+                Token::Number(*tick),
+                key(Keyword::Read),
+                Token::Word(*device),
+                Token::Number(*length),
+            ],
+        ),
+        SceneLine::AtWrite {
+            tick,
+            device,
+            length,
+        } => add(
+            tokens,
+            &[
+                key(Keyword::At),
+                Token::Number(*tick),
+                key(Keyword::Write),
+                Token::Word(*device),
+                Token::Number(*length),
+            ],
+        ),
+        SceneLine::AtControl {
+            tick,
+            device,
+            code,
+            length,
+        } => add(
+            tokens,
+            &[
+                key(Keyword::At),
+                Token::Number(*tick),
+                key(Keyword::Control),
+                Token::Word(*device),
+                Token::Number(*code),
+                Token::Number(*length),
+            ],
+        ),
+        SceneLine::AtCancel { tick, request } => add(
+            tokens,
+            &[
+                key(Keyword::At),
+                Token::Number(*tick),
+                key(Keyword::Cancel),
+                Token::Number(*request),
+            ],
+        ),
+        SceneLine::AtAsk { tick, ask, device } => add(
+            tokens,
+            &[
+                key(Keyword::At),
+                Token::Number(*tick),
+                ask_token(*ask),
+                Token::Word(*device),
+            ],
+        ),
+        SceneLine::Get { variable, register } => add(
+            tokens,
+            &[
+                key(Keyword::Get),
+                Token::Word(*variable),
+                Token::Assign,
+                Token::Word(*register),
+            ],
+        ),
         SceneLine::Else => add(tokens, &[key(Keyword::Else)]),
         _ => Ok(()),
     }

@@ -1,6 +1,8 @@
 //! A scene is printed in canonical form.
-ghost use Rattle.std.specs.Prelude.{◌≡◌, ◌++◌, ◌∷◌, [], OnOk, IfOk, decimal};
+ghost use Rattle.std.specs.Prelude.{◌≡◌, ◌++◌, ◌∷◌, [], OnOk, IfOk, decimal, List, ℕ};
+ghost use Rattle.wdf_parse.specs.Canonical.{canonical_text};
 ghost use Rattle.wdf_parse.specs.Printing as printing;
+ghost use Rattle.wdf_parse.specs.StandsFor.{StandsFor};
 
 use crate::keyword::Keyword;
 use crate::line_tokens::add_line;
@@ -88,9 +90,8 @@ fn print_version(out: &mut Vec<u8>, version: u8) -> Result<(), Memory>
     }
 }
 
-/// The canonical text of a scene: one space between two tokens, and no empty line.
 #[tactic(auto, unfolding(crate::specs::Printing::printed))]
-pub fn print(alloc: Global, scene: &Scene) -> Result<Vec<u8>, Memory>
+fn print_scene(alloc: Global, scene: &Scene) -> Result<Vec<u8>, Memory>
     ensures { IfOk result (λ text. text.items ≡ printing.printed scene.now) }
 {
     let mut out = Vec::new(alloc);
@@ -100,4 +101,12 @@ pub fn print(alloc: Global, scene: &Scene) -> Result<Vec<u8>, Memory>
         print_line(&mut out, &mut tokens, scene, line)?;
     }
     Ok(out)
+}
+
+/// The canonical text of a scene: one space between two tokens, and no empty line.
+pub fn print(alloc: Global, scene: &Scene) -> Result<Vec<u8>, Memory>
+    ensures text { IfOk result (λ text. text.items ≡ printing.printed scene.now) }
+    ensures canonical { (source : List ℕ) (stands : StandsFor source scene.now) → IfOk result (λ text. text.items ≡ canonical_text scene.now.version stands.ws) }
+{
+    print_scene(alloc, scene)
 }

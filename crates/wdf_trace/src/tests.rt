@@ -189,7 +189,7 @@ const ZERO: Arg = Arg::Val(Value::Num(0));
 const SUCCESS: Value = Value::Stat(Status::Success);
 
 /// Callbacks start and end.
-const FRAMES: [(Event, &str); 7] = [
+static FRAMES: [(Event, &str); 7] = [
     (
         Event::Start {
             cpu: CPU,
@@ -256,7 +256,7 @@ const FRAMES: [(Event, &str); 7] = [
 ];
 
 /// What frames do.
-const STATEMENTS: [(Event, &str); 9] = [
+static STATEMENTS: [(Event, &str); 9] = [
     (
         Event::Local {
             cpu: Cpu(1),
@@ -322,7 +322,7 @@ const STATEMENTS: [(Event, &str); 9] = [
 ];
 
 /// Framework calls.
-const CALLS: [(Event, &str); 7] = [
+static CALLS: [(Event, &str); 7] = [
     (
         Event::Did {
             cpu: CPU,
@@ -423,7 +423,7 @@ const CALLS: [(Event, &str); 7] = [
 ];
 
 /// What the framework and the clock do.
-const STEPS: [(Event, &str); 6] = [
+static STEPS: [(Event, &str); 6] = [
     (
         Event::Stage {
             device: D,
@@ -453,7 +453,7 @@ const STEPS: [(Event, &str); 6] = [
 ];
 
 /// What agents post.
-const POSTS: [(Event, &str); 11] = [
+static POSTS: [(Event, &str); 11] = [
     (
         Event::Posted {
             agent: 1,
@@ -648,7 +648,7 @@ fn other_texts_are_not_read(rt: HostRuntime) -> Result<(), Fail> {
 }
 
 /// Endings after some events.
-const ENDINGS: [(usize, Ending, &str); 4] = [
+static ENDINGS: [(usize, Ending, &str); 4] = [
     (0, Ending::Finished, "finished 0"),
     (100, Ending::Limit, "limit 100"),
     (4, Ending::Fault(Fault::NotOwned), "fault 4"),
@@ -679,7 +679,7 @@ fn endings_are_shown_and_told(rt: HostRuntime) {
 }
 
 /// Lines of a wait list.
-const WAITS: [(WaitLine, &str); 11] = [
+static WAITS: [(WaitLine, &str); 11] = [
     (
         WaitLine {
             thing: OpenThing::Waiting {

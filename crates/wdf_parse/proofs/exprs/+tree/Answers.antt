@@ -23,10 +23,10 @@ read_tree-returns-then-is_open-clause-read t c =
 pub read_tree-returns-else-depth-gt0-clause-read : goal.read_tree-returns-else-depth-gt0-clause-read
 read_tree-returns-else-depth-gt0-clause-read t c =
     elim c.else-depth-gt0.branch [
-      read_tree-else-depth-gt0-via-then-depth-gt0+else-is_open w ↦
+      | read_tree-else-depth-gt0-via-then-depth-gt0+else-is_open w ↦
           let o : is_open (first_token c.args.cursor.now) ≡ false = cc in
           rw (read_tree_leaf c.args.depth c.args.cursor.now o) c.read_leaf.ensures.read
-    | read_tree-else-depth-gt0-via-else-depth-gt0 w ↦
+      | read_tree-else-depth-gt0-via-else-depth-gt0 w ↦
           let e : c.args.depth ≡ 0 = omega arith in
           rw (read_tree_none c.args.depth c.args.cursor.now e) c.read_leaf.ensures.read
     ]

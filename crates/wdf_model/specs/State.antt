@@ -1,0 +1,169 @@
+-- The state of the machine: a part for each piece of the framework, the agents, and counts; its
+-- opening; and the words that read several parts.
+use Rattle.std.specs.Prelude.{if◌then◌else◌, ℕ, Bool, true, false, ◌==◌, not, ◌&&◌, ◌||◌, List, [], map, filter, Option, Some, None, is_some}
+use Rattle.std.specs.List.{list_any, range_with_len}
+use Rattle.wdf_base.specs.Meaning.{Meaning}
+use Rattle.wdf_base.specs.declared.plan.Plan.{Plan}
+use Rattle.wdf_base.specs.declared.ids.Handle.{Handle}
+use Rattle.wdf_base.specs.declared.value.Status.TheVariants as status
+use Rattle.wdf_base.specs.declared.value.Value.TheVariants.{Num, Obj, Stat}
+use Rattle.wdf_base.specs.declared.object.Place.{Place}
+use Rattle.wdf_base.specs.declared.object.Place.TheVariants as place
+use Rattle.wdf_base.specs.declared.call.Arg.{Arg}
+use Rattle.wdf_base.specs.declared.call.Arg.TheVariants.{Val, Class}
+use Rattle.wdf_base.specs.declared.call.Callback.{Callback}
+use Rattle.wdf_base.specs.declared.call.Callback.TheVariants as callback
+use Rattle.wdf_base.specs.declared.frame.Pending.{Pending}
+use Rattle.wdf_base.specs.declared.declared.Declared.{Declared}
+use Rattle.wdf_model.specs.Tables.{ids_of}
+use Rattle.wdf_model.specs.Plans.{agent_count, device_of_queue, declares, is_managed, script_on}
+use Rattle.wdf_model.specs.Objects.{Tree, opening_tree, declared_as, handle_of}
+use Rattle.wdf_model.specs.Frames.{Cpus, opening_cpus, frame_of, all_frames}
+use Rattle.wdf_model.specs.Locks.{Locks, no_locks, object_lock, is_free_lock}
+use Rattle.wdf_model.specs.Requests.{Requests, no_requests, place_of, info_of, origin_of}
+use Rattle.wdf_model.specs.Lines.{Lines, opening_lines}
+use Rattle.wdf_model.specs.Modes.{Modes, opening_modes, delivers, is_closed}
+use Rattle.wdf_model.specs.Power.{Power, opening_power, queues_up}
+use Rattle.wdf_model.specs.Sequences.{Sequences, opening_sequences}
+use Rattle.wdf_model.specs.Interrupts.{Interrupts, no_interrupts}
+use Rattle.wdf_model.specs.Deferred.{Dpcs, Works, Timers, opening_dpcs, no_works, no_timers}
+use Rattle.wdf_model.specs.Targets.{Targets, opening_targets, is_forgotten}
+
+pub record State (A : Type 0) : Type 0 where
+  pub tree : Tree
+  pub cpus : Cpus
+  pub locks : Locks
+  pub requests : Requests
+  pub lines : Lines
+  pub modes : Modes
+  pub power : Power
+  pub sequences : Sequences
+  pub interrupts : Interrupts
+  pub dpcs : Dpcs
+  pub works : Works
+  pub timers : Timers
+  pub targets : Targets
+  -- the state of each agent, by number
+  pub agents : List A
+  -- how many arrivals each agent has posted, those without a request among them
+  pub arrivals : List ℕ
+  -- the tick
+  pub clock : ℕ
+  -- how many events there were
+  pub number : ℕ
+
+-- the agents as they are at the opening
+abbrev pub opening_agents : {A : Type 0} → Meaning A → Plan → List A
+opening_agents m plan = map (m.begin plan) (range_with_len 0 (agent_count plan))
+
+-- The opening: what is declared lives, working devices are powered up, and nothing runs or waits.
+abbrev pub opening : {A : Type 0} → Meaning A → Plan → State A
+opening m plan = record {
+  tree = opening_tree plan;
+  cpus = opening_cpus plan;
+  locks = no_locks;
+  requests = no_requests;
+  lines = opening_lines plan;
+  modes = opening_modes plan;
+  power = opening_power plan;
+  sequences = opening_sequences plan;
+  interrupts = no_interrupts;
+  dpcs = opening_dpcs plan;
+  works = no_works;
+  timers = no_timers;
+  targets = opening_targets plan;
+  agents = opening_agents m plan;
+  arrivals = [];
+  clock = 0;
+  number = 0;
+}
+
+-- ---- requests and queues
+
+-- the driver holds a request: it is Owned, or Sent and will come back (KMDF)
+abbrev pub held_at : Bool → Place → Bool
+held_at forgotten place.Owned = true
+held_at forgotten (place.Sent t) = not forgotten
+held_at forgotten _ = false
+
+abbrev pub is_with_driver : {A : Type 0} → State A → ℕ → Bool
+is_with_driver S r = held_at (is_forgotten S.targets r) (place_of S.requests r)
+
+abbrev pub same_id : Option ℕ → ℕ → Bool
+same_id None id = false
+same_id (Some other) id = other == id
+
+abbrev pub is_held_from : {A : Type 0} → State A → ℕ → ℕ → Bool
+is_held_from S q r = same_id (origin_of S.requests r) q && is_with_driver S r
+
+-- the requests with this origin that the driver holds, by rising id
+abbrev pub held_from : {A : Type 0} → State A → ℕ → List ℕ
+held_from S q = filter (is_held_from S q) (ids_of S.requests.all)
+
+-- a queue's device has its queues up
+abbrev pub up_for : {A : Type 0} → Plan → State A → ℕ → Bool
+up_for plan S q = queues_up S.power (device_of_queue plan q)
+
+-- a queue delivers, by its mode and by power (KMDF)
+abbrev pub queue_delivers : {A : Type 0} → Plan → State A → ℕ → Bool
+queue_delivers plan S q = delivers S.modes q (up_for plan S q)
+
+-- a received request that is cancelled in this queue goes back to the driver, by EvtIoCanceledOnQueue (KMDF)
+abbrev pub returns_to : {A : Type 0} → Plan → State A → ℕ → Bool
+returns_to plan S q =
+    declares plan callback.EvtIoCanceledOnQueue q && not (is_closed S.modes (device_of_queue plan q)) && (not (is_managed plan q) || up_for plan S q)
+
+-- where a request goes that is cancelled in a queue
+abbrev pub withdrawn_place : {A : Type 0} → Plan → State A → ℕ → ℕ → Place
+withdrawn_place plan S q r =
+    if (info_of S.requests r).received && returns_to plan S q then place.Returning (record { 0 = q }) else place.Closing status.Cancelled
+
+-- no request is Sent to a target
+abbrev pub nothing_at : {A : Type 0} → State A → ℕ → Bool
+nothing_at S t = not (list_any (λ r. elim r.place as (λ _. Bool) [
+  | place.Queued q ↦ false
+  | place.Returning q ↦ false
+  | place.Closing s ↦ false
+  | place.Owned ↦ false
+  | place.Sent u ↦ u.0 == t
+  | place.Done ↦ false
+]) S.requests.all)
+
+-- ---- frames
+
+-- the object that a call is about: its first argument
+abbrev pub object_in : Arg → ℕ
+object_in (Val (Obj h)) = h.id.0
+object_in (Val (Num n)) = 0
+object_in (Val (Stat s)) = 0
+object_in (Class c) = 0
+
+abbrev pub waits_for : ℕ → Option Pending → Bool
+waits_for o None = false
+waits_for o (Some p) = object_in p.call.a == o
+
+-- a frame waits for an object
+abbrev pub is_waited_for : {A : Type 0} → State A → ℕ → Bool
+is_waited_for S o = list_any (λ f. waits_for o (frame_of S.cpus f).pending) (all_frames S.cpus)
+
+-- the lock of an object is held
+abbrev pub is_locked : {A : Type 0} → State A → ℕ → Bool
+is_locked S o = not (is_free_lock S.locks (object_lock o))
+
+-- what an object is in the plan
+abbrev pub declared_in : {A : Type 0} → Plan → State A → ℕ → Option Declared
+declared_in plan S o = declared_as plan S.tree o
+
+-- the script of a callback on an object
+abbrev pub script_in : {A : Type 0} → Plan → State A → Callback → ℕ → Option ℕ
+script_in plan S c o = script_on plan c (declared_in plan S o)
+
+abbrev pub declares_in : {A : Type 0} → Plan → State A → Callback → ℕ → Bool
+declares_in plan S c o = is_some (script_in plan S c o)
+
+abbrev pub handle_in : {A : Type 0} → Plan → State A → ℕ → Handle
+handle_in plan S o = handle_of plan S.tree o
+
+-- a handle is that of its object
+abbrev pub is_proper : {A : Type 0} → Plan → State A → Handle → Bool
+is_proper plan S h = h.name == (handle_in plan S h.id.0).name

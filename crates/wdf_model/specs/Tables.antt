@@ -1,0 +1,49 @@
+-- Maps by id, and lists of ids in order. A map is a list of entries by id; what was never written is
+-- the blank entry of its map. No object has the id 0.
+use Rattle.std.specs.Prelude.{if◌then◌else◌, ℕ, zero, suc, Bool, ◌==◌, nat_lt, nat_le, not, List, [], ◌∷◌, length, filter, Option, Some, None, fold, slice_index_or}
+use Rattle.std.specs.List.{list_any, range_with_len}
+
+-- the entry of an id
+abbrev pub entry : {T : Type 0} → T → List T → ℕ → T
+entry blank xs id = slice_index_or xs id blank
+
+-- the map with this entry for an id; blank entries fill the way to it
+abbrev pub put : {T : Type 0} → T → List T → ℕ → T → List T
+put blank [] zero new = new ∷ []
+put blank [] (suc id) new = blank ∷ put blank [] id new
+put blank (x ∷ xs) zero new = new ∷ xs
+put blank (x ∷ xs) (suc id) new = x ∷ put blank xs id new
+
+-- the map with the entry of an id changed
+abbrev pub change : {T : Type 0} → T → List T → ℕ → (T → T) → List T
+change blank xs id f = put blank xs id (f (entry blank xs id))
+
+-- the ids of a map's entries, rising
+abbrev pub ids_of : {T : Type 0} → List T → List ℕ
+ids_of xs = range_with_len 0 (length xs)
+
+-- whether an id stands in a list
+abbrev pub contains : ℕ → List ℕ → Bool
+contains id ids = list_any (λ other. other == id) ids
+
+-- a list without an id
+abbrev pub without : ℕ → List ℕ → List ℕ
+without id ids = filter (λ other. not (other == id)) ids
+
+-- a rising list with an id more
+abbrev pub in_order : ℕ → List ℕ → List ℕ
+in_order id [] = id ∷ []
+in_order id (x ∷ xs) = if nat_lt id x then id ∷ x ∷ xs else x ∷ in_order id xs
+
+-- the least number of a list
+abbrev pub lesser : Option ℕ → ℕ → Option ℕ
+lesser None n = Some n
+lesser (Some m) n = if nat_le m n then Some m else Some n
+
+abbrev pub least : List ℕ → Option ℕ
+least ns = fold lesser None ns
+
+-- the first of a list
+abbrev pub first_of_list : {T : Type 0} → List T → Option T
+first_of_list [] = None
+first_of_list (x ∷ xs) = Some x

@@ -1,0 +1,46 @@
+use wdf_base::Rank;
+
+/// The mode of a queue: what its last control call was.
+#[derive(Clone, Copy, Debug, PartialEq, Eq)]
+pub enum Mode {
+    Started,
+    Stopped,
+    Drained,
+    Purged,
+}
+
+/// How far a device has come.
+#[derive(Clone, Copy, Debug, PartialEq, Eq)]
+pub enum Phase {
+    /// It was never started.
+    Off,
+    Working,
+    Sleeping,
+    Removed,
+}
+
+/// Candidates that stand together in the order of what may follow. Each has places, from 0.
+#[derive(Clone, Copy, Debug, PartialEq, Eq)]
+pub enum Group {
+    /// The top frame's own event on a processor.
+    OwnEvent { cpu: u8 },
+    /// The top frame leaves a processor.
+    Parks { cpu: u8 },
+    /// A parked frame comes back to a processor, a place for each.
+    Unparks { cpu: u8 },
+    /// The starts of one rank on a processor.
+    Starts { cpu: u8, rank: Rank },
+    /// The starts of one rank on a processor for the requests of a queue or of a target, a place for
+    /// each id.
+    StartsFor { cpu: u8, rank: Rank, object: u32 },
+    /// The stages of the devices, a place for each id.
+    Stages,
+    /// The completions by the framework, a place for each id.
+    Completions,
+    /// The cleanups, a place for each id.
+    Cleanups,
+    /// The ends of objects, a place for each id.
+    Destroys,
+    /// The posts, a place for each agent.
+    Posts,
+}

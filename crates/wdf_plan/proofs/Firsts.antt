@@ -1,0 +1,44 @@
+-- The search for the first line that is refused.
+use Rattle.std.proofs.Common.{◌≡◌, ℕ, List, [], ◌∷◌, Option, Some, None, refl, ap, sym, ◌∙◌}
+use Rattle.wdf_scene.specs.declared.scene.Scene.{Scene}
+use Rattle.wdf_plan.specs.declared.declaration.Declaration.{Declaration}
+use Rattle.wdf_plan.specs.declared.placed.Placed.{Placed}
+use Rattle.wdf_plan.specs.declared.refusal.PlanRefusal.{PlanRefusal}
+use Rattle.wdf_plan.specs.Declarations.{declarations, declared_on}
+use Rattle.wdf_plan.specs.First.{refused, refused_at, first_refusal}
+use Rattle.wdf_plan.specs.Placed.{placed}
+use Rattle.wdf_plan.specs.Variables.{variables_at, variables_in}
+use Rattle.wdf_plan.proofs.Gather.{IsGathered, IsSought, seek_more, seek_found, seek_end}
+
+-- no line before these was refused, and the variables are this callback's
+pub record IsUnderway (scene : Scene) (rest : List Placed) (callback : Option ℕ) (variables : List (List ℕ)) : Type 0 where
+  pub sought : IsSought (refused_at scene) rest (first_refusal scene)
+  pub own : variables ≡ variables_in scene callback
+
+pub underway_begins : (scene : Scene) (rest : List Placed) (variables : List (List ℕ)) → rest ≡ placed scene → variables ≡ [] → IsUnderway scene rest None variables
+unfolding first_refusal variables_in
+underway_begins scene rest variables all none' =
+    record { sought = record { is = rw all refl }; own = none' }
+
+here : (scene : Scene) (names : List Declaration) (variables : List (List ℕ)) (p : Placed) (o : Option PlanRefusal) → names ≡ declarations scene → variables ≡ variables_in scene p.stand.callback → o ≡ refused scene names variables p → o ≡ refused_at scene p
+unfolding refused_at variables_at
+here scene names variables p o declares own is = rw (is, declares, own) refl
+
+pub underway_more : (scene : Scene) (names : List Declaration) (rest rest' : List Placed) (callback : Option ℕ) (variables variables' : List (List ℕ)) (p : Placed) (o : Option PlanRefusal) → IsUnderway scene rest callback variables → names ≡ declarations scene → rest ≡ p ∷ rest' → variables' ≡ variables_in scene p.stand.callback → o ≡ refused scene names variables' p → o ≡ None → IsUnderway scene rest' p.stand.callback variables'
+underway_more scene names rest rest' callback variables variables' p o u declares next own is none' =
+    record {
+      sought = seek_more (refused_at scene) rest rest' (first_refusal scene) o p u.sought next (here scene names variables' p o declares own is) none';
+      own = own;
+    }
+
+pub underway_found : (scene : Scene) (names : List Declaration) (rest rest' : List Placed) (callback : Option ℕ) (variables variables' : List (List ℕ)) (p : Placed) (o : Option PlanRefusal) (r : PlanRefusal) → IsUnderway scene rest callback variables → names ≡ declarations scene → rest ≡ p ∷ rest' → variables' ≡ variables_in scene p.stand.callback → o ≡ refused scene names variables' p → o ≡ Some r → Some r ≡ first_refusal scene
+underway_found scene names rest rest' callback variables variables' p o r u declares next own is found =
+    seek_found (refused_at scene) rest rest' (first_refusal scene) o p r u.sought next (here scene names variables' p o declares own is) found
+
+pub underway_ends : (scene : Scene) (rest : List Placed) (callback : Option ℕ) (variables : List (List ℕ)) → IsUnderway scene rest callback variables → rest ≡ [] → None ≡ first_refusal scene
+underway_ends scene rest callback variables u none' =
+    seek_end (refused_at scene) rest (first_refusal scene) u.sought none'
+
+pub declared_begins : (scene : Scene) (rest : List Placed) (names : List Declaration) → names ≡ [] → rest ≡ placed scene → IsGathered declared_on rest names (declarations scene)
+unfolding declarations
+declared_begins scene rest names none' all = record { is = rw (none', all) refl }

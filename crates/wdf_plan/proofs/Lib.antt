@@ -1,0 +1,10 @@
+pub mod Assigned
+pub mod Courses
+pub mod Firsts
+pub mod Gather
+pub mod Lookups
+pub mod Making
+pub mod NodeLists
+pub mod Scans
+pub mod Walks
+pub mod Writings

@@ -1,0 +1,15 @@
+use Rattle.std.proofs.Common.{◌≡◌, length}
+use Rattle.wdf_plan.specs.First.{refused_at, first_refusal}
+use Rattle.wdf_plan.specs.Variables.{variables_in}
+use Rattle.wdf_plan.specs.Declarations.{declarations}
+use Rattle.wdf_plan.specs.declared.placed.Placed.{Placed}
+use Rattle.wdf_scene.specs.declared.scene.Scene.{Scene}
+use Rattle.wdf_plan.proofs.Gather.{IsSought}
+use Rattle.wdf_plan.proofs.first.first_refusal.Given as goal
+use Rattle.wdf_plan.proofs.Firsts.{IsUnderway}
+
+abbrev pub invariant-loop-placed : goal.invariant-loop-placed
+invariant-loop-placed l = IsUnderway l.scene l.walk l.callback l.variables
+
+abbrev pub decreases-loop-placed : goal.decreases-loop-placed
+decreases-loop-placed l = length l.walk

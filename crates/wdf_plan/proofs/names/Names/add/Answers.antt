@@ -1,0 +1,7 @@
+use Rattle.std.proofs.Common.{ap, length}
+use Rattle.wdf_plan.proofs.Lookups.{indexed_more}
+use Rattle.wdf_plan.proofs.names.Names.add.Goals as goal
+
+pub invariant_of-self-2 : goal.invariant_of-self-2
+invariant_of-self-2 c =
+    indexed_more _ _ _ _ c.args.declaration (length c.as_slice-at.result.now) c.self.invariant c.in_ok-note.ensures.ok (ap length c.as_slice-at.ensures.value) (rw (← c.reserve.ensures.items) c.push_reserved.ensures.items)

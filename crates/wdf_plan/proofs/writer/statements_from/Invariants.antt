@@ -1,0 +1,9 @@
+use Rattle.std.proofs.Common.{◌-◌, length}
+use Rattle.wdf_plan.proofs.Writings.{IsWritten}
+use Rattle.wdf_plan.proofs.writer.statements_from.Given as goal
+
+abbrev pub invariant-loop-at : goal.invariant-loop-at
+invariant-loop-at l = IsWritten l.names l.variables l.lines l.from l.blocks.items l.statements l.at
+
+abbrev pub decreases-loop-at : goal.decreases-loop-at
+decreases-loop-at l = length l.initial.lines - l.at

@@ -1,0 +1,16 @@
+pub mod Attribute
+pub mod Blocks
+pub mod Declarations
+pub mod First
+pub mod Forms
+pub mod Limits
+pub mod Names
+pub mod Numbers
+pub mod Parts
+pub mod Placed
+pub mod Plans
+pub mod Reserved
+pub mod Rows
+pub mod Scripts
+pub mod Variables
+pub mod Walk

@@ -1,0 +1,100 @@
+ghost use Rattle.std.specs.Prelude.{◌≡◌, ◌++◌, IfOk, OnOk};
+ghost use Rattle.std.specs.Option.{option_to_list};
+ghost use Rattle.wdf_plan.specs.Declarations.{declarations};
+ghost use Rattle.wdf_plan.specs.First as spec;
+
+use crate::declaration::{Declaration, declared_by};
+use crate::limit::exceeded;
+use crate::names::Names;
+use crate::placed::Placed;
+use crate::refusal::PlanRefusal;
+use crate::twice::twice_named;
+use crate::unknown::unknown_name;
+use crate::variables::{Variables, entered};
+use crate::walk::Walk;
+use crate::wrong::{incompatible_level, no_parent, wrong_callback};
+use std::alloc::Global;
+use wdf_base::Memory;
+use wdf_scene::Scene;
+
+#[tactic(auto, unfolding(crate::specs::First::refused))]
+fn refused(
+    scene: &Scene,
+    names: &Names,
+    variables: &Variables,
+    placed: &Placed,
+) -> Option<PlanRefusal>
+    ensures { result ≡ spec.refused scene.now names.now variables.now placed.now }
+{
+    let line = placed.number;
+    if unknown_name(scene, names, variables, placed) {
+        return Some(PlanRefusal::UnknownName { line });
+    }
+    if let Some(first) = twice_named(scene, names, placed) {
+        return Some(PlanRefusal::TwiceNamed { line, first });
+    }
+    if wrong_callback(scene, placed, &placed.form) {
+        return Some(PlanRefusal::WrongCallback { line });
+    }
+    if let Some(limit) = exceeded(names, variables, placed) {
+        return Some(PlanRefusal::OverLimit { line, limit });
+    }
+    if incompatible_level(scene, names, placed, &placed.form) {
+        return Some(PlanRefusal::IncompatibleLevel { line });
+    }
+    if no_parent(names, &placed.form) {
+        return Some(PlanRefusal::NoParent { line });
+    }
+    None
+}
+
+fn add_found(names: &mut Names, found: Option<Declaration>) -> Result<(), Memory>
+    ensures { OnOk result (names.new ≡ names.old ++ option_to_list found) }
+{
+    match found {
+        Some(declaration) => names.add(declaration),
+        None => Ok(()),
+    }
+}
+
+/// The declarations of a scene.
+pub fn declared(alloc: Global, scene: &Scene) -> Result<Names, Memory>
+    ensures { IfOk result (λ n. n ≡ declarations scene.now) }
+{
+    let mut names = Names::new(alloc);
+    let mut walk = Walk::new(scene);
+    while let Some(placed) = walk.next() {
+        match add_found(&mut names, declared_by(&placed, &placed.form)) {
+            Ok(()) => {}
+            Err(error) => return Err(error),
+        }
+    }
+    Ok(names)
+}
+
+/// The refusal of the first line that has one.
+pub fn first_refusal(
+    alloc: Global,
+    scene: &Scene,
+    names: &Names,
+) -> Result<Option<PlanRefusal>, Memory>
+    requires { names.now ≡ declarations scene.now }
+    ensures { IfOk result (λ r. r ≡ spec.first_refusal scene.now) }
+{
+    let mut callback = None;
+    let mut variables = Variables::new(alloc);
+    let mut walk = Walk::new(scene);
+    while let Some(placed) = walk.next() {
+        let next = placed.stand.callback;
+        variables = match entered(alloc, scene, callback, variables, next) {
+            Ok(entered) => entered,
+            Err(error) => return Err(error),
+        };
+        callback = next;
+        match refused(scene, names, &variables, &placed) {
+            Some(refusal) => return Ok(Some(refusal)),
+            None => {}
+        }
+    }
+    Ok(None)
+}

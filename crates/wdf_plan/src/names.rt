@@ -1,0 +1,139 @@
+ghost use Rattle.std.specs.Prelude.{◌≡◌, ◌++◌, ◌∷◌, [], is_ok, if◌then◌else◌, position, find, drop, IfSome, ◌<◌, ◌^◌, length, option_map, List, ℕ, OnOk, OnErr, slice_get};
+ghost use Rattle.indexmap.specs.IndexMap.{get, IsUnchanged};
+ghost use Rattle.wdf_plan.specs.Names.{or_last, place_from};
+ghost use Rattle.std.specs.List.{list_any};
+ghost use Rattle.std.specs.Str.{bytes_eq};
+ghost use Rattle.wdf_plan.specs.Declarations as spec;
+
+use crate::declaration::{Declaration, Wanted};
+use indexmap::IndexMap;
+use std::alloc::Global;
+use std::marker::Model;
+use wdf_base::{Memory, Name};
+
+/// The declarations of a scene, found by name.
+#[derive(Drop)]
+pub struct Names {
+    declarations: Vec<Declaration>,
+    /// The place of each name's first declaration.
+    first: IndexMap<Name, u32>,
+}
+
+impl Model for Names {
+    ghost use Rattle.std.specs.Prelude.{List};
+    ghost use Rattle.wdf_plan.specs.declared.declaration.Declaration.{Declaration};
+    ghost use Rattle.wdf_plan.specs.Names.{IsIndexed};
+
+    ghost Value = { List Declaration };
+
+    ghost view = { λ n. n.declarations.items };
+
+    ghost invariant = { λ n. IsIndexed n.first n.declarations.items };
+}
+
+impl Names {
+    /// No declaration.
+    pub fn new(alloc: Global) -> Names
+        ensures { result ≡ [] }
+    {
+        Names {
+            declarations: Vec::new(alloc),
+            first: IndexMap::new(alloc),
+        }
+    }
+
+    /// Adds a declaration behind the others. On want of memory they stay as they were.
+    pub fn add(&mut self, declaration: Declaration) -> Result<(), Memory>
+        ensures { self.new ≡ (if is_ok result then self.old ++ declaration ∷ [] else self.old) }
+    {
+        let at = self.declarations.as_slice().len();
+        if at >= u32::MAX as usize {
+            return Err(Memory);
+        }
+        self.declarations.reserve(1)?;
+        note(&mut self.first, declaration.name, at as u32)?;
+        self.declarations.push_reserved(declaration);
+        Ok(())
+    }
+
+    /// The declarations in the order of their lines.
+    pub fn as_slice(&self) -> &[Declaration]
+        ensures { result.now ≡ self.now }
+    {
+        self.declarations.as_slice()
+    }
+
+    /// The first declaration of a name.
+    pub fn first(&self, name: &Name) -> Option<Declaration>
+        ensures { result ≡ find (spec.has_name name.now) self.now }
+    {
+        match self.first.get(name) {
+            Some(at) => item(self.declarations.as_slice(), *at as usize),
+            None => None,
+        }
+    }
+
+    /// The place of the first declaration of a name.
+    pub fn place(&self, name: &Name) -> Option<u32>
+        ensures { result ≡ place_from (spec.has_name name.now) 0 self.now }
+    {
+        self.first.get(name).copied()
+    }
+
+    /// The first declaration of a name that is what a place in the text needs.
+    pub fn found(&self, name: &Name, wanted: Wanted) -> Option<Declaration>
+        ensures { result ≡ spec.found self.now name.now wanted }
+    {
+        match self.first.get(name) {
+            Some(at) => found_from(self.declarations.as_slice(), *at as usize, name, wanted),
+            None => None,
+        }
+    }
+
+    /// Whether a name stands for what a place in the text needs.
+    #[tactic(auto, unfolding(crate::specs::Declarations::stands))]
+    pub fn stands(&self, name: &Name, wanted: Wanted) -> bool
+        ensures { result ≡ spec.stands self.now name.now wanted }
+    {
+        self.found(name, wanted).is_some()
+    }
+}
+
+fn item(declarations: &[Declaration], at: usize) -> Option<Declaration>
+    ensures { result ≡ slice_get declarations.now at }
+{
+    declarations.get(at).copied()
+}
+
+// The place of a name that has none yet.
+fn note(first: &mut IndexMap<Name, u32>, name: Name, at: u32) -> Result<(), Memory>
+    ensures ok { OnOk result ((q : List ℕ) → get bytes_eq first.new q ≡ or_last (get bytes_eq first.old q) (bytes_eq name q) at) }
+    ensures err { OnErr result (IsUnchanged first.old first.new) }
+{
+    if first.get(&name).is_some() {
+        return Ok(());
+    }
+    first.insert(name, at)?;
+    Ok(())
+}
+
+pub fn is_wanted(declaration: &Declaration, name: &Name, wanted: Wanted) -> bool
+    ensures { result ≡ spec.is_wanted name.now wanted declaration.now }
+{
+    declaration.name == *name && declaration.suits(wanted)
+}
+
+fn found_from(
+    declarations: &[Declaration],
+    from: usize,
+    name: &Name,
+    wanted: Wanted,
+) -> Option<Declaration>
+    ensures { result ≡ find (spec.is_wanted name.now wanted) (drop from declarations.now) }
+{
+    declarations
+        .iter()
+        .skip(from)
+        .copied()
+        .find(|declaration| is_wanted(declaration, name, wanted))
+}

@@ -1,0 +1,129 @@
+//! The nodes of the expressions of a plan, and its picks.
+ghost use Rattle.std.specs.Prelude.{◌≡◌, ◌++◌, ◌∷◌, [], ◌-◌, IfOk, OnOk, take, drop, map};
+ghost use Rattle.std.specs.List.{flat_map};
+ghost use Rattle.wdf_plan.specs.Parts.{line_picks};
+ghost use Rattle.wdf_plan.specs.Placed.{placed};
+ghost use Rattle.wdf_plan.specs.Scripts as scripts;
+ghost use Rattle.wdf_plan.specs.Variables.{variables_at};
+
+use crate::forms::nodes_end;
+use crate::names::Names;
+use crate::numbers::add;
+use crate::placed::Placed;
+use crate::scripts::node_of;
+use crate::variables::{Variables, entered};
+use crate::walk::Walk;
+use std::alloc::Global;
+use wdf_base::{ExprNode, Items, MANY, Memory};
+use wdf_scene::{NumberedLine, Scene, SceneExpr};
+
+fn add_node(
+    names: &Names,
+    variables: &Variables,
+    node: &SceneExpr,
+    nodes: &mut Items<ExprNode, MANY>,
+) -> Result<(), Memory>
+    ensures { OnOk result (nodes.new ≡ nodes.old ++ scripts.node_of names.now variables.now node.now ∷ []) }
+{
+    let node = node_of(names, variables, node)?;
+    add(nodes, node)
+}
+
+fn add_nodes(
+    names: &Names,
+    variables: &Variables,
+    all: &[SceneExpr],
+    nodes: &mut Items<ExprNode, MANY>,
+) -> Result<(), Memory>
+    ensures { OnOk result (nodes.new ≡ nodes.old ++ map (scripts.node_of names.now variables.now) all.now) }
+{
+    for node in all {
+        match add_node(names, variables, node, nodes) {
+            Ok(()) => {}
+            Err(error) => return Err(error),
+        }
+    }
+    Ok(())
+}
+
+// The items from one place to another, as far as there are items.
+fn window(all: &[SceneExpr], from: u64, to: u64) -> &[SceneExpr]
+    ensures { result.now ≡ take (to - from) (drop from all.now) }
+{
+    let start = (from as usize).min(all.len());
+    let end = (to as usize).max(start).min(all.len());
+    &all[start..end]
+}
+
+fn add_line(
+    scene: &Scene,
+    names: &Names,
+    variables: &Variables,
+    placed: &Placed,
+    nodes: &mut Items<ExprNode, MANY>,
+) -> Result<(), Memory>
+    requires { variables.now ≡ variables_at scene.now placed.now }
+    ensures { OnOk result (nodes.new ≡ nodes.old ++ scripts.nodes_on scene.now names.now placed.now) }
+{
+    let from = placed.counts.nodes;
+    let to = nodes_end(from, &placed.form);
+    add_nodes(
+        names,
+        variables,
+        window(scene.exprs.as_slice(), from, to),
+        nodes,
+    )
+}
+
+/// The nodes of all expressions.
+pub fn all_nodes(
+    alloc: Global,
+    scene: &Scene,
+    names: &Names,
+) -> Result<Items<ExprNode, MANY>, Memory>
+    ensures { IfOk result (λ n. n ≡ flat_map (scripts.nodes_on scene.now names.now) (placed scene.now)) }
+{
+    let mut nodes = Items::new(alloc);
+    let mut callback = None;
+    let mut variables = Variables::new(alloc);
+    let mut walk = Walk::new(scene);
+    while let Some(placed) = walk.next() {
+        let next = placed.stand.callback;
+        variables = match entered(alloc, scene, callback, variables, next) {
+            Ok(entered) => entered,
+            Err(error) => return Err(error),
+        };
+        callback = next;
+        match add_line(scene, names, &variables, &placed, &mut nodes) {
+            Ok(()) => {}
+            Err(error) => return Err(error),
+        }
+    }
+    Ok(nodes)
+}
+
+fn add_picks(all: &[u64], picks: &mut Items<u64, MANY>) -> Result<(), Memory>
+    ensures { OnOk result (picks.new ≡ picks.old ++ all.now) }
+{
+    for pick in all {
+        match add(picks, *pick) {
+            Ok(()) => {}
+            Err(error) => return Err(error),
+        }
+    }
+    Ok(())
+}
+
+/// The numbers behind `picks` of all lines.
+pub fn all_picks(alloc: Global, lines: &[NumberedLine]) -> Result<Items<u64, MANY>, Memory>
+    ensures { IfOk result (λ p. p ≡ flat_map line_picks lines.now) }
+{
+    let mut picks = Items::new(alloc);
+    for line in lines {
+        match add_picks(line.picks.as_slice(), &mut picks) {
+            Ok(()) => {}
+            Err(error) => return Err(error),
+        }
+    }
+    Ok(picks)
+}

@@ -1,0 +1,325 @@
+//! The objects, classes and registers of a plan, and what devices do.
+ghost use Rattle.std.specs.Prelude.{◌≡◌, IfOk};
+ghost use Rattle.wdf_plan.specs.Parts as parts;
+
+use crate::attribute::Attribute;
+use crate::block::{effective_level, effective_scope, given_form, has_given, ticks_in};
+use crate::declaration::Wanted;
+use crate::names::Names;
+use crate::numbers::{action_of, id_of, name_number, number_of};
+use crate::part::Part;
+use crate::placed::Placed;
+use wdf_base::{
+    ClassInfo, Declared, DeviceInfo, DispatchKind, InterruptInfo, Irql, Memory, Name, QueueInfo,
+    RegisterInfo, RequestForm, Serves, Status, TargetInfo, WhenLine,
+};
+use wdf_scene::{InterruptLevel, Scene, SceneLine};
+
+#[tactic(auto, unfolding(crate::specs::Parts::device_info))]
+fn device_info(
+    scene: &Scene,
+    names: &Names,
+    line: u32,
+    name: &Name,
+    working: bool,
+) -> Result<DeviceInfo, Memory>
+    ensures { IfOk result (λ d. d ≡ parts.device_info scene.now names.now line name.now working) }
+{
+    let name = name_number(names, name)?;
+    Ok(DeviceInfo {
+        name,
+        working,
+        scope: effective_scope(scene, line, None),
+        level: effective_level(scene, line, None),
+    })
+}
+
+#[tactic(auto, unfolding(crate::specs::Parts::serves))]
+fn serves(scene: &Scene, line: u32) -> Serves
+    ensures { result ≡ parts.serves scene.now line }
+{
+    Serves {
+        rest: has_given(scene, line, Attribute::Default),
+        read: has_given(scene, line, Attribute::For(RequestForm::Read)),
+        write: has_given(scene, line, Attribute::For(RequestForm::Write)),
+        control: has_given(scene, line, Attribute::For(RequestForm::Control)),
+    }
+}
+
+#[tactic(auto, unfolding(crate::specs::Parts::queue_info))]
+fn queue_info(
+    scene: &Scene,
+    names: &Names,
+    placed: &Placed,
+    line: u32,
+    name: &Name,
+    dispatch: DispatchKind,
+) -> Result<QueueInfo, Memory>
+    ensures { IfOk result (λ q. q ≡ parts.queue_info scene.now names.now placed.now.stand.device placed.now.counts.device line name.now dispatch) }
+{
+    let name = name_number(names, name)?;
+    let device = id_of(placed.counts.device)?;
+    Ok(QueueInfo {
+        name,
+        device,
+        dispatch,
+        serves: serves(scene, line),
+        powered: !has_given(scene, line, Attribute::PowerOff),
+        zero: has_given(scene, line, Attribute::Zero),
+        scope: effective_scope(scene, line, placed.stand.device),
+        level: effective_level(scene, line, placed.stand.device),
+    })
+}
+
+fn irql_of(level: InterruptLevel) -> Result<Irql, Memory>
+    ensures { IfOk result (λ l. l ≡ parts.irql_of level) }
+{
+    match level {
+        // A level above 12 was refused.
+        InterruptLevel::Numbered(level) => {
+            if level > 12 {
+                return Err(Memory);
+            }
+            Ok(Irql(level as u8))
+        }
+        InterruptLevel::AtPassive => Ok(Irql(0)),
+    }
+}
+
+#[tactic(auto, unfolding(crate::specs::Parts::interrupt_info))]
+fn interrupt_info(
+    names: &Names,
+    device: u32,
+    name: &Name,
+    level: InterruptLevel,
+) -> Result<InterruptInfo, Memory>
+    ensures { IfOk result (λ i. i ≡ parts.interrupt_info names.now device name.now level) }
+{
+    let name = name_number(names, name)?;
+    let device = id_of(device)?;
+    let level = irql_of(level)?;
+    Ok(InterruptInfo {
+        name,
+        device,
+        level,
+    })
+}
+
+#[tactic(auto, unfolding(crate::specs::Parts::target_info))]
+fn target_info(
+    names: &Names,
+    device: u32,
+    name: &Name,
+    delay: u64,
+    status: Status,
+    depth: u64,
+) -> Result<TargetInfo, Memory>
+    ensures { IfOk result (λ t. t ≡ parts.target_info names.now device name.now delay status depth) }
+{
+    let name = name_number(names, name)?;
+    let device = id_of(device)?;
+    Ok(TargetInfo {
+        name,
+        device,
+        delay,
+        status,
+        depth,
+    })
+}
+
+/// The object that line `line` declares, where `placed` is this line or stands in its block.
+#[tactic(auto, unfolding(crate::specs::Parts::object_of))]
+pub fn object_of(
+    scene: &Scene,
+    names: &Names,
+    placed: &Placed,
+    line: u32,
+    form: &SceneLine,
+) -> Result<Option<Declared>, Memory>
+    ensures { IfOk result (λ o. o ≡ parts.object_of scene.now names.now placed.now line form.now) }
+{
+    let device = placed.counts.device;
+    match form {
+        SceneLine::Device { name, working } => {
+            let info = device_info(scene, names, line, name, *working)?;
+            Ok(Some(Declared::Device(info)))
+        }
+        SceneLine::Queue { name, dispatch } => {
+            let info = queue_info(scene, names, placed, line, name, *dispatch)?;
+            Ok(Some(Declared::Queue(info)))
+        }
+        SceneLine::Interrupt { name, level } => {
+            let info = interrupt_info(names, device, name, *level)?;
+            Ok(Some(Declared::Interrupt(info)))
+        }
+        SceneLine::Target {
+            name,
+            delay,
+            status,
+            depth,
+        } => {
+            let info = target_info(names, device, name, *delay, *status, *depth)?;
+            Ok(Some(Declared::Target(info)))
+        }
+        _ => Ok(None),
+    }
+}
+
+/// The declared objects.
+#[derive(Drop)]
+pub struct Objects<'a> {
+    pub scene: &'a Scene,
+    pub names: &'a Names,
+}
+
+impl Part for Objects<'_> {
+    type Item = Declared;
+
+    ghost part = { λ s. parts.object_on s.scene.now s.names.now };
+
+    fn take(&self, line: &Placed) -> Result<Option<Declared>, Memory> {
+        object_of(self.scene, self.names, line, line.at, &line.form)
+    }
+}
+
+fn parent_order(names: &Names, parent: &Option<Name>) -> u32
+    ensures { result ≡ parts.parent_order names.now parent.now }
+{
+    match parent {
+        Some(name) => number_of(names, name, Wanted::Parent),
+        None => 0,
+    }
+}
+
+#[tactic(auto, unfolding(crate::specs::Parts::period_of))]
+fn period_of(scene: &Scene, line: u32) -> u64
+    ensures { result ≡ parts.period_of scene.now line }
+{
+    match given_form(scene, line, Attribute::Period) {
+        Some(form) => ticks_in(&form).unwrap_or(0),
+        None => 0,
+    }
+}
+
+#[tactic(auto, unfolding(crate::specs::Parts::class_on))]
+fn class_on(
+    scene: &Scene,
+    names: &Names,
+    placed: &Placed,
+    form: &SceneLine,
+) -> Result<Option<ClassInfo>, Memory>
+    ensures { IfOk result (λ o. o ≡ parts.class_on scene.now names.now placed.now form.now) }
+{
+    match form {
+        SceneLine::Class { name, kind } => {
+            let name = name_number(names, name)?;
+            Ok(Some(ClassInfo::Plain { name, kind: *kind }))
+        }
+        SceneLine::DeferredClass { name, kind, parent } => {
+            let name = name_number(names, name)?;
+            let parent = id_of(parent_order(names, parent))?;
+            Ok(Some(ClassInfo::Deferred {
+                name,
+                kind: *kind,
+                parent,
+                serialize: has_given(scene, placed.at, Attribute::Serialize),
+                period: period_of(scene, placed.at),
+            }))
+        }
+        _ => Ok(None),
+    }
+}
+
+/// The classes.
+#[derive(Drop)]
+pub struct Classes<'a> {
+    pub scene: &'a Scene,
+    pub names: &'a Names,
+}
+
+impl Part for Classes<'_> {
+    type Item = ClassInfo;
+
+    ghost part = { λ s p. parts.class_on s.scene.now s.names.now p p.form };
+
+    fn take(&self, line: &Placed) -> Result<Option<ClassInfo>, Memory> {
+        class_on(self.scene, self.names, line, &line.form)
+    }
+}
+
+#[tactic(auto, unfolding(crate::specs::Parts::register_on))]
+fn register_on(
+    names: &Names,
+    placed: &Placed,
+    form: &SceneLine,
+) -> Result<Option<RegisterInfo>, Memory>
+    ensures { IfOk result (λ o. o ≡ parts.register_on names.now placed.now form.now) }
+{
+    match form {
+        SceneLine::Register { name, value } => {
+            let name = name_number(names, name)?;
+            let device = id_of(placed.counts.device)?;
+            Ok(Some(RegisterInfo {
+                name,
+                device,
+                value: *value,
+            }))
+        }
+        _ => Ok(None),
+    }
+}
+
+/// The registers.
+#[derive(Drop)]
+pub struct Registers<'a> {
+    pub names: &'a Names,
+}
+
+impl Part for Registers<'_> {
+    type Item = RegisterInfo;
+
+    ghost part = { λ s p. parts.register_on s.names.now p p.form };
+
+    fn take(&self, line: &Placed) -> Result<Option<RegisterInfo>, Memory> {
+        register_on(self.names, line, &line.form)
+    }
+}
+
+#[tactic(auto, unfolding(crate::specs::Parts::when_on))]
+fn when_on(names: &Names, device: Option<u32>, form: &SceneLine) -> Result<Option<WhenLine>, Memory>
+    ensures { IfOk result (λ o. o ≡ parts.when_on names.now device form.now) }
+{
+    match form {
+        SceneLine::When {
+            access,
+            register,
+            action,
+            after,
+        } => {
+            let action = action_of(names, device, action)?;
+            Ok(Some(WhenLine {
+                access: *access,
+                register: number_of(names, register, Wanted::RegisterOf(device)),
+                action,
+                after: *after,
+            }))
+        }
+        _ => Ok(None),
+    }
+}
+
+/// The `when` lines.
+#[derive(Drop)]
+pub struct Whens<'a> {
+    pub names: &'a Names,
+}
+
+impl Part for Whens<'_> {
+    type Item = WhenLine;
+
+    ghost part = { λ s p. parts.when_on s.names.now p.stand.device p.form };
+
+    fn take(&self, line: &Placed) -> Result<Option<WhenLine>, Memory> {
+        when_on(self.names, line.stand.device, &line.form)
+    }
+}

@@ -1,0 +1,188 @@
+//! The plan of a scene, or the first reason why it has none.
+ghost use Rattle.std.specs.Prelude.{◌≡◌, ◌++◌, ◌∷◌, [], ◌⊎◌, IfOk, IfErr, OnOk, Option, Some, None, MatchResult, codes, map};
+ghost use Rattle.wdf_plan.specs.Blocks.{form_at};
+ghost use Rattle.wdf_plan.specs.Declarations.{declarations};
+ghost use Rattle.wdf_plan.specs.First as first;
+ghost use Rattle.wdf_plan.specs.Plans as plans;
+
+use crate::agents::{Apps, Devices, PnpPosts, Targets};
+use crate::block::form_at;
+use crate::declaration::Declaration;
+use crate::first::{declared, first_refusal};
+use crate::names::Names;
+use crate::nodes::{all_nodes, all_picks};
+use crate::numbers::add;
+use crate::objects::{Classes, Objects, Registers, Whens};
+use crate::part::{gather, gather_behind};
+use crate::refusal::PlanRefusal;
+use crate::writer::Scripts;
+use std::alloc::Global;
+use wdf_base::{AgentInfo, Declared, FEW, Items, MANY, Memory, Name, Plan};
+use wdf_scene::{Scene, SceneLine};
+
+#[tactic(auto, unfolding(crate::specs::Plans::header_in))]
+fn header_in(form: &SceneLine) -> u64
+    ensures { result ≡ plans.header_in form.now }
+{
+    match form {
+        SceneLine::Cpus(n) => *n,
+        SceneLine::Limit(n) => *n,
+        SceneLine::Objects(n) => *n,
+        _ => 0,
+    }
+}
+
+// A number that was refused above 200,000.
+fn header_at(scene: &Scene, at: u32) -> Result<u32, Memory>
+    ensures { IfOk result (λ n. n ≡ plans.header_of (form_at scene.now at)) }
+{
+    let number = match form_at(scene, at) {
+        Some(form) => header_in(&form),
+        None => 0,
+    };
+    if number > 200_000 {
+        return Err(Memory);
+    }
+    Ok(number as u32)
+}
+
+// A number that was refused above 8.
+fn cpus_at(scene: &Scene, at: u32) -> Result<u8, Memory>
+    ensures { IfOk result (λ n. n ≡ plans.header_of (form_at scene.now at)) }
+{
+    let number = header_at(scene, at)?;
+    if number > 8 {
+        return Err(Memory);
+    }
+    Ok(number as u8)
+}
+
+fn add_names(all: &[Declaration], names: &mut Items<Name, MANY>) -> Result<(), Memory>
+    ensures { OnOk result (names.new ≡ names.old ++ map plans.name_in all.now) }
+{
+    for declaration in all {
+        match add(names, declaration.name) {
+            Ok(()) => {}
+            Err(error) => return Err(error),
+        }
+    }
+    Ok(())
+}
+
+fn all_names(alloc: Global, all: &[Declaration]) -> Result<Items<Name, MANY>, Memory>
+    ensures { IfOk result (λ n. n ≡ codes "driver" ∷ codes "req" ∷ map plans.name_in all.now) }
+{
+    let mut names = Items::new(alloc);
+    add(&mut names, Name::new("driver".as_bytes()))?;
+    add(&mut names, Name::new("req".as_bytes()))?;
+    add_names(all, &mut names)?;
+    Ok(names)
+}
+
+fn all_objects(alloc: Global, scene: &Scene, names: &Names) -> Result<Items<Declared, MANY>, Memory>
+    ensures { IfOk result (λ d. d ≡ plans.all_objects scene.now names.now) }
+{
+    let mut objects = Items::new(alloc);
+    add(&mut objects, Declared::Driver)?;
+    gather_behind(scene, &Objects { scene, names }, &mut objects)?;
+    Ok(objects)
+}
+
+fn all_agents(alloc: Global, scene: &Scene, names: &Names) -> Result<Items<AgentInfo, FEW>, Memory>
+    ensures { IfOk result (λ a. a ≡ plans.all_agents scene.now names.now) }
+{
+    let mut agents = Items::new(alloc);
+    gather_behind(
+        scene,
+        &Apps {
+            alloc,
+            scene,
+            names,
+        },
+        &mut agents,
+    )?;
+    gather_behind(
+        scene,
+        &Devices {
+            alloc,
+            scene,
+            names,
+        },
+        &mut agents,
+    )?;
+    gather_behind(scene, &Targets { alloc, names }, &mut agents)?;
+    Ok(agents)
+}
+
+fn plan_with(alloc: Global, scene: &Scene, names: &Names) -> Result<Plan, Memory>
+    ensures { IfOk result (λ p. p ≡ plans.plan_with scene.now names.now) }
+{
+    let cpus = cpus_at(scene, 0)?;
+    let limit = header_at(scene, 1)?;
+    let objects = header_at(scene, 2)?;
+    let all = all_names(alloc, names.as_slice())?;
+    let declared = all_objects(alloc, scene, names)?;
+    let classes = gather(alloc, scene, &Classes { scene, names })?;
+    let registers = gather(alloc, scene, &Registers { names })?;
+    let whens = gather(alloc, scene, &Whens { names })?;
+    let pnp = gather(alloc, scene, &PnpPosts { names })?;
+    let agents = all_agents(alloc, scene, names)?;
+    let exprs = all_nodes(alloc, scene, names)?;
+    let scripts = gather(
+        alloc,
+        scene,
+        &Scripts {
+            alloc,
+            scene,
+            names,
+        },
+    )?;
+    let picks = all_picks(alloc, scene.lines.as_slice())?;
+    Ok(Plan {
+        cpus,
+        limit,
+        objects,
+        names: all,
+        declared,
+        classes,
+        registers,
+        whens,
+        pnp,
+        agents,
+        exprs,
+        scripts,
+        picks,
+    })
+}
+
+// The plan of a scene or its first refusal.
+#[tactic(auto, unfolding(crate::specs::Plans::plan_of))]
+fn outcome(alloc: Global, scene: &Scene) -> Result<Result<Plan, PlanRefusal>, Memory>
+    ensures { IfOk result (λ r. MatchResult r (λ p. (first.first_refusal scene.now ≡ None) × (p ≡ plans.plan_of scene.now)) (λ e. first.first_refusal scene.now ≡ Some e)) }
+{
+    let names = declared(alloc, scene)?;
+    match first_refusal(alloc, scene, &names)? {
+        Some(refusal) => Ok(Err(refusal)),
+        None => {
+            let plan = plan_with(alloc, scene, &names)?;
+            Ok(Ok(plan))
+        }
+    }
+}
+
+/// The plan of a scene: its names replaced by numbers.
+///
+/// # Errors
+///
+/// Where a line of the scene is refused, the refusal of the first such line, and of several there the
+/// first in the order of [`PlanRefusal`]; and [`PlanRefusal::Memory`] where memory is wanting.
+pub fn resolve(alloc: Global, scene: &Scene) -> Result<Plan, PlanRefusal>
+    ensures plan { IfOk result (λ p. p ≡ plans.plan_of scene.now) }
+    ensures accepted { OnOk result (first.first_refusal scene.now ≡ None) }
+    ensures refused { IfErr result (λ e. (e ≡ PlanRefusal.Memory) ⊎ (first.first_refusal scene.now ≡ Some e)) }
+{
+    match outcome(alloc, scene) {
+        Ok(answer) => answer,
+        Err(Memory) => Err(PlanRefusal::Memory),
+    }
+}

@@ -1,0 +1,384 @@
+//! Expressions, statements and scripts with numbers.
+ghost use Rattle.std.specs.Prelude.{◌≡◌, ◌++◌, ◌∷◌, [], ◌+◌, ◌-◌, ◌<◌, ◌≤◌, ◌^◌, IfOk, OnOk, length, drop, take, map, count_by, Some};
+ghost use Rattle.std.specs.List.{flat_map};
+ghost use Rattle.wdf_plan.specs.Placed.{placed};
+ghost use Rattle.wdf_plan.specs.Scripts as scripts;
+
+use crate::course::{Course, Nest, nest_at, reach};
+use crate::declaration::Wanted;
+use crate::forms::is_end;
+use crate::names::Names;
+use crate::numbers::{handle_of, number_of};
+use crate::variables::Variables;
+use std::alloc::Global;
+use wdf_base::{Act, ArgNode, ExprNode, Memory, Name, Sort, Statement};
+use wdf_scene::{NumberedLine, SceneArg, SceneExpr, SceneLine};
+
+// A number that fits 8 bits where nothing was refused.
+fn byte(number: u64) -> Result<u8, Memory>
+    ensures { IfOk result (λ n. n ≡ number) }
+{
+    if number > 255 {
+        return Err(Memory);
+    }
+    Ok(number as u8)
+}
+
+// A number of statements.
+fn word(number: u64) -> Result<u32, Memory>
+    ensures { IfOk result (λ n. n ≡ number) }
+{
+    if number > u64::from(u32::MAX) {
+        return Err(Memory);
+    }
+    Ok(number as u32)
+}
+
+fn named_node(names: &Names, name: &Name, variable: Option<u64>) -> Result<ExprNode, Memory>
+    ensures { IfOk result (λ n. n ≡ scripts.named_node names.now name.now variable) }
+{
+    match variable {
+        Some(number) => {
+            let number = byte(number)?;
+            Ok(ExprNode::Variable(number))
+        }
+        None => {
+            let object = handle_of(names, name, Wanted::Object)?;
+            Ok(ExprNode::Object(object))
+        }
+    }
+}
+
+/// A node with numbers in place of names.
+#[tactic(auto, unfolding(crate::specs::Scripts::node_of))]
+pub fn node_of(names: &Names, variables: &Variables, node: &SceneExpr) -> Result<ExprNode, Memory>
+    ensures { IfOk result (λ n. n ≡ scripts.node_of names.now variables.now node.now) }
+{
+    match node {
+        SceneExpr::Number(number) => Ok(ExprNode::Number(*number)),
+        SceneExpr::Named(name) => named_node(names, name, variables.number(name)),
+        SceneExpr::Literal(status) => Ok(ExprNode::Literal(*status)),
+        SceneExpr::Context(word) => Ok(ExprNode::Context(*word)),
+        SceneExpr::Binary {
+            operator,
+            left,
+            right,
+        } => Ok(ExprNode::Binary {
+            operator: *operator,
+            left: *left,
+            right: *right,
+        }),
+    }
+}
+
+#[tactic(auto, unfolding(crate::specs::Scripts::variable_of))]
+fn variable_of(variables: &Variables, name: &Name) -> Result<u8, Memory>
+    ensures { IfOk result (λ n. n ≡ scripts.variable_of variables.now name.now) }
+{
+    byte(variables.number(name).unwrap_or(0))
+}
+
+fn answer_place(variables: &Variables, into: &Option<Name>) -> Result<Option<u8>, Memory>
+    ensures { IfOk result (λ n. n ≡ scripts.answer_place variables.now into.now) }
+{
+    match into {
+        Some(name) => {
+            let variable = variable_of(variables, name)?;
+            Ok(Some(variable))
+        }
+        None => Ok(None),
+    }
+}
+
+#[tactic(auto, unfolding(crate::specs::Scripts::class_number))]
+fn class_number(names: &Names, sort: Sort, name: &Name) -> u32
+    ensures { result ≡ scripts.class_number names.now sort name.now }
+{
+    match sort {
+        Sort::Class(kind) => number_of(names, name, Wanted::ClassOf(kind)),
+        _ => 0,
+    }
+}
+
+// A number of a class.
+pub fn class_word(number: u32) -> Result<u16, Memory>
+    ensures { IfOk result (λ n. n ≡ number) }
+{
+    if number > 65535 {
+        return Err(Memory);
+    }
+    Ok(number as u16)
+}
+
+#[tactic(auto, unfolding(crate::specs::Scripts::argument_of))]
+fn argument_of(names: &Names, sort: Sort, arg: &SceneArg) -> Result<ArgNode, Memory>
+    ensures { IfOk result (λ a. a ≡ scripts.argument_of names.now sort arg.now) }
+{
+    match arg {
+        SceneArg::NoArgument => Ok(ArgNode::NoArgument),
+        SceneArg::Expression(e) => Ok(ArgNode::Expression(*e)),
+        SceneArg::OfClass(name) => {
+            let class = class_word(class_number(names, sort, name))?;
+            Ok(ArgNode::OfClass(class))
+        }
+    }
+}
+
+#[tactic(auto, unfolding(crate::specs::Scripts::plain_act))]
+fn plain_act(names: &Names, variables: &Variables, form: &SceneLine) -> Result<Option<Act>, Memory>
+    ensures { IfOk result (λ a. a ≡ scripts.plain_act names.now variables.now form.now) }
+{
+    match form {
+        SceneLine::Let { variable, value } => {
+            let variable = variable_of(variables, variable)?;
+            Ok(Some(Act::Let {
+                variable,
+                value: *value,
+            }))
+        }
+        SceneLine::Call {
+            kind,
+            into,
+            a,
+            b,
+            c,
+        } => {
+            let signature = kind.signature();
+            let into = answer_place(variables, into)?;
+            let a = argument_of(names, signature.a, a)?;
+            let b = argument_of(names, signature.b, b)?;
+            let c = argument_of(names, signature.c, c)?;
+            Ok(Some(Act::Call {
+                kind: *kind,
+                into,
+                a,
+                b,
+                c,
+            }))
+        }
+        SceneLine::Get { variable, register } => {
+            let variable = variable_of(variables, variable)?;
+            Ok(Some(Act::Get {
+                variable,
+                register: number_of(names, register, Wanted::Register),
+            }))
+        }
+        SceneLine::Put { register, value } => Ok(Some(Act::Put {
+            register: number_of(names, register, Wanted::Register),
+            value: *value,
+        })),
+        SceneLine::Spend { ticks } => Ok(Some(Act::Spend { ticks: *ticks })),
+        SceneLine::Log { value } => Ok(Some(Act::Log { value: *value })),
+        SceneLine::Return { value } => Ok(Some(Act::Return { value: *value })),
+        _ => Ok(None),
+    }
+}
+
+fn is_loop(block: &Nest) -> bool
+    ensures { result ≡ scripts.is_loop block.now }
+{
+    match block {
+        Nest::Branch => false,
+        Nest::Loop { .. } => true,
+    }
+}
+
+#[tactic(auto, unfolding(crate::specs::Scripts::loops))]
+fn loops(blocks: &[Nest]) -> Result<u8, Memory>
+    ensures { IfOk result (λ n. n ≡ scripts.loops blocks.now) }
+{
+    byte(count_loops(blocks) as u64)
+}
+
+fn count_loops(blocks: &[Nest]) -> usize
+    ensures { result ≡ count_by scripts.is_loop blocks.now }
+{
+    blocks.iter().filter(|block| is_loop(block)).count()
+}
+
+fn outer(blocks: &[Nest]) -> &[Nest]
+    ensures { result.now ≡ scripts.outer blocks.now }
+{
+    &blocks[..blocks.len().saturating_sub(1)]
+}
+
+fn again(blocks: &[Nest], innermost: Option<Nest>) -> Result<Option<Act>, Memory>
+    ensures { IfOk result (λ a. a ≡ scripts.again blocks.now innermost) }
+{
+    match innermost {
+        Some(block) => again_at(blocks, block),
+        None => Ok(None),
+    }
+}
+
+fn again_at(blocks: &[Nest], innermost: Nest) -> Result<Option<Act>, Memory>
+    ensures { IfOk result (λ a. a ≡ scripts.again blocks.now (Some innermost)) }
+{
+    match innermost {
+        Nest::Loop { line: _, number } => {
+            let depth = loops(outer(blocks))?;
+            let before = word(number)?;
+            let body = word(u64::from(before) + 1)?;
+            Ok(Some(Act::Again { depth, body }))
+        }
+        Nest::Branch => Ok(None),
+    }
+}
+
+/// The open blocks behind a line, whose statement would have this number.
+#[tactic(auto, unfolding(crate::specs::Scripts::blocks_behind))]
+pub fn blocks_behind(
+    alloc: Global,
+    blocks: &[Nest],
+    number: u64,
+    line: u32,
+    form: &SceneLine,
+) -> Result<Vec<Nest>, Memory>
+    ensures { IfOk result (λ v. v.items ≡ scripts.blocks_behind blocks.now number line form.now) }
+{
+    match form {
+        SceneLine::If { .. } => with_block(alloc, blocks, Nest::Branch),
+        SceneLine::Repeat { .. } => with_block(alloc, blocks, Nest::Loop { line, number }),
+        SceneLine::End => copied(alloc, outer(blocks)),
+        _ => copied(alloc, blocks),
+    }
+}
+
+fn copied(alloc: Global, blocks: &[Nest]) -> Result<Vec<Nest>, Memory>
+    ensures { IfOk result (λ v. v.items ≡ blocks.now) }
+{
+    let all = Vec::from_slice(alloc, blocks)?;
+    Ok(all)
+}
+
+fn with_block(alloc: Global, blocks: &[Nest], block: Nest) -> Result<Vec<Nest>, Memory>
+    ensures { IfOk result (λ v. v.items ≡ blocks.now ++ block ∷ []) }
+{
+    let mut all = Vec::from_slice(alloc, blocks)?;
+    all.push(block)?;
+    Ok(all)
+}
+
+fn start(number: u64, skipping: u64) -> Course
+    ensures { result ≡ record { skipping = skipping; left = 0; number = number } }
+{
+    Course {
+        skipping,
+        left: 0,
+        number,
+    }
+}
+
+fn beyond(blocks: &[Nest], number: u64, lines: &[NumberedLine], from: u32) -> Result<u32, Memory>
+    requires lines { length lines.now < 2 ^ 32 }
+    requires number { number < 2 ^ 40 }
+    ensures { IfOk result (λ n. n ≡ scripts.beyond blocks.now number (drop from lines.now)) }
+{
+    word(reach(blocks, start(number, 1), lines, from))
+}
+
+fn onward(blocks: &[Nest], number: u64, lines: &[NumberedLine], from: u32) -> Result<u32, Memory>
+    requires lines { length lines.now < 2 ^ 32 }
+    requires number { number < 2 ^ 40 }
+    ensures { IfOk result (λ n. n ≡ scripts.onward blocks.now number (drop from lines.now)) }
+{
+    word(reach(blocks, start(number, 0), lines, from))
+}
+
+/// What stands round a statement: the open blocks before and behind its line, its number, and the
+/// lines behind it.
+#[derive(Clone, Copy)]
+pub struct Round<'a> {
+    pub blocks: &'a [Nest],
+    pub behind: &'a [Nest],
+    pub number: u64,
+    pub lines: &'a [NumberedLine],
+    pub from: u32,
+}
+
+#[tactic(auto, unfolding(crate::specs::Scripts::act_on))]
+fn act_on(
+    names: &Names,
+    variables: &Variables,
+    round: &Round,
+    form: &SceneLine,
+) -> Result<Option<Act>, Memory>
+    requires lines { length round.now.lines.now < 2 ^ 32 }
+    requires number { round.now.number < 2 ^ 32 }
+    ensures { IfOk result (λ a. a ≡ scripts.act_on names.now variables.now round.now.blocks.now round.now.behind.now round.now.number form.now (drop round.now.from round.now.lines.now)) }
+{
+    match form {
+        SceneLine::If { test } => {
+            let otherwise = beyond(round.behind, round.number + 1, round.lines, round.from)?;
+            Ok(Some(Act::If {
+                test: *test,
+                otherwise,
+            }))
+        }
+        SceneLine::Repeat { count } => {
+            let depth = loops(round.blocks)?;
+            let past = beyond(round.behind, round.number + 2, round.lines, round.from)?;
+            Ok(Some(Act::Repeat {
+                count: *count,
+                depth,
+                past,
+            }))
+        }
+        SceneLine::End => again(round.blocks, nest_at(round.blocks, 0)),
+        _ => plain_act(names, variables, form),
+    }
+}
+
+fn loop_line(number: u32, innermost: Option<Nest>) -> u32
+    ensures { result ≡ scripts.loop_line number innermost }
+{
+    match innermost {
+        Some(block) => match block {
+            Nest::Loop { line, number: _ } => line,
+            Nest::Branch => number,
+        },
+        None => number,
+    }
+}
+
+#[tactic(auto, unfolding(crate::specs::Scripts::told_line))]
+fn told_line(blocks: &[Nest], number: u32, form: &SceneLine) -> u32
+    ensures { result ≡ scripts.told_line blocks.now number form.now }
+{
+    if is_end(form) {
+        loop_line(number, nest_at(blocks, 0))
+    } else {
+        number
+    }
+}
+
+#[tactic(auto, unfolding(crate::specs::Scripts::statement_on))]
+pub fn statement_on(
+    names: &Names,
+    variables: &Variables,
+    round: &Round,
+    line: &NumberedLine,
+) -> Result<Option<Statement>, Memory>
+    requires lines { length round.now.lines.now < 2 ^ 32 }
+    requires number { round.now.number < 2 ^ 32 }
+    ensures { IfOk result (λ s. s ≡ scripts.statement_on names.now variables.now round.now.blocks.now round.now.behind.now round.now.number line.now (drop round.now.from round.now.lines.now)) }
+{
+    let act = act_on(names, variables, round, &line.form)?;
+    match act {
+        Some(act) => {
+            let next = onward(round.behind, round.number + 1, round.lines, round.from)?;
+            Ok(Some(Statement {
+                line: told_line(round.blocks, line.number, &line.form),
+                next,
+                act,
+            }))
+        }
+        None => Ok(None),
+    }
+}
+
+pub fn ends_callback(blocks: &[Nest], form: &SceneLine) -> bool
+    ensures { result ≡ scripts.ends_callback blocks.now form.now }
+{
+    is_end(form) && blocks.is_empty()
+}

@@ -1,0 +1,188 @@
+//! The scripts of a plan and the nodes of its expressions.
+ghost use Rattle.std.specs.Prelude.{◌≡◌, ◌++◌, [], ◌<◌, ◌^◌, ◌-◌, suc, IfOk, OnOk, length, drop, take, map};
+ghost use Rattle.std.specs.List.{flat_map};
+ghost use Rattle.std.specs.Option.{option_to_list};
+ghost use Rattle.wdf_plan.specs.Placed.{placed};
+ghost use Rattle.wdf_plan.specs.Scripts as scripts;
+
+use crate::block::form_at;
+use crate::course::Nest;
+use crate::declaration::Wanted;
+use crate::names::Names;
+use crate::numbers::{add_found, number_of};
+use crate::objects::object_of;
+use crate::part::Part;
+use crate::placed::Placed;
+use crate::scripts::{Round, blocks_behind, class_word, ends_callback, statement_on};
+use crate::variables::{Variables, variables_of};
+use std::alloc::Global;
+use wdf_base::{Declared, Items, MANY, Memory, Script, Statement};
+use wdf_scene::{NumberedLine, Scene, SceneLine};
+
+fn add_statement(
+    names: &Names,
+    variables: &Variables,
+    round: &Round,
+    line: &NumberedLine,
+    statements: &mut Items<Statement, MANY>,
+) -> Result<(), Memory>
+    requires lines { length round.now.lines.now < 2 ^ 32 }
+    requires number { round.now.number < 2 ^ 32 }
+    ensures { OnOk result (statements.new ≡ statements.old ++ option_to_list (scripts.statement_on names.now variables.now round.now.blocks.now round.now.behind.now round.now.number line.now (drop round.now.from round.now.lines.now))) }
+{
+    let found = statement_on(names, variables, round, line)?;
+    add_found(statements, found)
+}
+
+fn statements_from(
+    alloc: Global,
+    names: &Names,
+    variables: &Variables,
+    lines: &[NumberedLine],
+    from: u32,
+) -> Result<Items<Statement, MANY>, Memory>
+    requires { length lines.now < 2 ^ 32 }
+    ensures { IfOk result (λ s. s ≡ scripts.statements_from names.now variables.now [] 0 (drop from lines.now)) }
+{
+    let mut statements = Items::new(alloc);
+    let mut blocks: Vec<Nest> = Vec::new(alloc);
+    let mut at = from;
+    while (at as usize) < lines.len() {
+        let line = &lines[at as usize];
+        if ends_callback(blocks.as_slice(), &line.form) {
+            return Ok(statements);
+        }
+        let number = u64::from(statements.len());
+        let behind = match blocks_behind(
+            alloc,
+            blocks.as_slice(),
+            number,
+            line.number,
+            &line.form,
+        ) {
+            Ok(behind) => behind,
+            Err(error) => return Err(error),
+        };
+        let round = Round {
+            blocks: blocks.as_slice(),
+            behind: behind.as_slice(),
+            number,
+            lines,
+            from: at + 1,
+        };
+        match add_statement(names, variables, &round, line, &mut statements) {
+            Ok(()) => {}
+            Err(error) => return Err(error),
+        }
+        blocks = behind;
+        at += 1;
+    }
+    Ok(statements)
+}
+
+/// The statements of the callback that line `callback` begins.
+pub fn statements_of(
+    alloc: Global,
+    scene: &Scene,
+    names: &Names,
+    callback: u32,
+) -> Result<Items<Statement, MANY>, Memory>
+    ensures { IfOk result (λ s. s ≡ scripts.statements_of scene.now names.now callback) }
+{
+    let variables = variables_of(alloc, scene, callback)?;
+    let lines = scene.lines.as_slice();
+    if (callback as usize) < lines.len() {
+        statements_from(alloc, names, &variables, lines, callback + 1)
+    } else {
+        Ok(Items::new(alloc))
+    }
+}
+
+#[tactic(auto, unfolding(crate::specs::Scripts::block_owner))]
+fn block_owner(
+    scene: &Scene,
+    names: &Names,
+    placed: &Placed,
+    block: u32,
+    form: &SceneLine,
+) -> Result<Option<Declared>, Memory>
+    ensures { IfOk result (λ o. o ≡ scripts.block_owner scene.now names.now placed.now block form.now) }
+{
+    match form {
+        SceneLine::Class { name, kind } => {
+            let class = class_word(number_of(names, name, Wanted::ClassOf(kind.kind())))?;
+            Ok(Some(Declared::OfClass(class)))
+        }
+        SceneLine::DeferredClass { name, kind, .. } => {
+            let class = class_word(number_of(names, name, Wanted::ClassOf(kind.kind())))?;
+            Ok(Some(Declared::OfClass(class)))
+        }
+        _ => object_of(scene, names, placed, block, form),
+    }
+}
+
+#[tactic(auto, unfolding(crate::specs::Scripts::owner_of))]
+fn owner_of(
+    scene: &Scene,
+    names: &Names,
+    placed: &Placed,
+    block: Option<u32>,
+) -> Result<Option<Declared>, Memory>
+    ensures { IfOk result (λ o. o ≡ scripts.owner_of scene.now names.now placed.now block) }
+{
+    match block {
+        Some(block) => match form_at(scene, block) {
+            Some(form) => block_owner(scene, names, placed, block, &form),
+            None => Ok(None),
+        },
+        None => Ok(None),
+    }
+}
+
+#[tactic(auto, unfolding(crate::specs::Scripts::script_on))]
+fn script_on(
+    alloc: Global,
+    scene: &Scene,
+    names: &Names,
+    placed: &Placed,
+    form: &SceneLine,
+) -> Result<Option<Script>, Memory>
+    ensures { IfOk result (λ s. s ≡ scripts.script_on scene.now names.now placed.now form.now) }
+{
+    match form {
+        SceneLine::On { callback } => {
+            let owner = owner_of(scene, names, placed, placed.stand.block)?;
+            match owner {
+                Some(owner) => {
+                    let statements = statements_of(alloc, scene, names, placed.at)?;
+                    Ok(Some(Script {
+                        callback: *callback,
+                        owner,
+                        line: placed.number,
+                        statements,
+                    }))
+                }
+                None => Ok(None),
+            }
+        }
+        _ => Ok(None),
+    }
+}
+
+/// The scripts.
+#[derive(Drop)]
+pub struct Scripts<'a> {
+    pub alloc: Global,
+    pub scene: &'a Scene,
+    pub names: &'a Names,
+}
+
+impl Part for Scripts<'_> {
+    type Item = Script;
+
+    ghost part = { λ s p. scripts.script_on s.scene.now s.names.now p p.form };
+
+    fn take(&self, line: &Placed) -> Result<Option<Script>, Memory> {
+        script_on(self.alloc, self.scene, self.names, line, &line.form)
+    }
+}

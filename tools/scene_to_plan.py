@@ -1,0 +1,599 @@
+#!/usr/bin/env python3
+"""Turns scenarios and their traces into antt: a plan as a record, the events as a list.
+
+    tools/scene_to_plan.py tools/runs/power/*.scn > crates/wdf_model/proofs/RowsPower.antt
+
+Each argument is the path of a scenario `NAME.scn` with its trace beside it in `NAME.out`; NAME names
+the run. For each the file gets the plan, the events, the ending, the wait list of a stuck run, and facts by
+`refl` that the definitions of wdf_model compute them, and that the parts agree in each state. It serves
+the worked runs alone: what the program reads is read by its own parser.
+"""
+import os
+import re
+import sys
+
+STATUS = {
+    "SUCCESS": "Success", "CANCELLED": "Cancelled", "UNSUCCESSFUL": "Unsuccessful",
+    "INVALID_DEVICE_REQUEST": "InvalidDeviceRequest", "INVALID_DEVICE_STATE": "InvalidDeviceState",
+    "NO_MORE_ENTRIES": "NoMoreEntries", "WDF_PAUSED": "WdfPaused", "WDF_BUSY": "WdfBusy",
+    "INSUFFICIENT_RESOURCES": "InsufficientResources", "DELETE_PENDING": "DeletePending",
+}
+WORDS = {"self": "OwnObject", "device": "NearestDevice", "request": "OwnRequest",
+         "length": "RequestLength", "code": "RequestCode", "status": "CompletionStatus"}
+OPERATORS = {"+": "Add", "-": "Subtract", "*": "Multiply", "/": "Divide", "%": "Remainder",
+             "&": "BitAnd", "|": "BitOr", "^": "BitXor", "==": "Equals", "!=": "Differs",
+             "<": "Below", "<=": "AtMost"}
+PLAIN = {"object": "Object", "spinlock": "SpinLock", "waitlock": "WaitLock", "request": "Request"}
+DEFERRED = {"dpc": "Dpc", "timer": "Timer", "workitem": "WorkItem"}
+ASKS = {"start", "sleep", "wake", "rebalance", "remove", "surprise"}
+STAGES = {"hardware": "Hardware", "no_hardware": "NoHardware", "enabled": "Enabled", "disabled": "Disabled",
+          "queues_up": "QueuesUp", "queues_down": "QueuesDown", "settled": "Settled", "quiet": "Quiet",
+          "closed": "Closed", "working": "Working", "sleeping": "Sleeping", "removed": "Removed"}
+COUNTS = {  # the calls with other than one argument
+    "WdfObjectCreate": 2, "WdfSpinLockCreate": 2, "WdfWaitLockCreate": 2, "WdfRequestCreate": 2,
+    "GetContext": 2, "SetContext": 3, "WdfRequestComplete": 2, "WdfRequestForwardToIoQueue": 2,
+    "WdfRequestStopAcknowledge": 2, "WdfRequestSend": 3, "WdfIoQueueReadyNotify": 2, "WdfDpcCancel": 2,
+    "WdfTimerStart": 2, "WdfTimerStop": 2, "WdfIoTargetStop": 2,
+}
+
+
+def antt_list(items):
+    return " ∷ ".join([f"({i})" for i in items] + ["[]"])
+
+
+def long_list(items, pad):
+    if not items:
+        return "[]"
+    return ("\n" + pad + "∷ ").join(items) + "\n" + pad + "∷ []"
+
+
+class Scene:
+    """A scenario, resolved."""
+
+    def __init__(self, text):
+        self.lines = []
+        for number, line in enumerate(text.split("\n"), 1):
+            tokens = re.findall(r"[0-9]+|[A-Za-z][A-Za-z0-9_]*|==|!=|<=|[-+*/%&|^<=()]", line.split("#")[0])
+            if tokens:
+                self.lines.append((number, tokens))
+        self.at = 0
+        self.names = ["driver", "req"]
+        self.number_of = {}
+        self.driver = {"scope": "none", "level": "dispatch"}
+        self.objects = [{"kind": "driver"}]
+        self.classes, self.registers, self.whens = [], [], []
+        self.pnp, self.apps, self.picks = [], [], []
+        self.exprs, self.scripts = [], []
+        self.read()
+
+    # ---- reading blocks
+
+    def name(self, word):
+        self.number_of[word] = len(self.names)
+        self.names.append(word)
+        return self.number_of[word]
+
+    def next(self):
+        self.at += 1
+        return self.lines[self.at - 1]
+
+    def read(self):
+        raw_scripts = []
+        number, tokens = self.next()
+        if tokens[0] == "version":
+            number, tokens = self.next()
+        self.cpus = int(tokens[1])
+        self.limit = int(self.next()[1][1])
+        self.limit_objects = int(self.next()[1][1])
+        while self.at < len(self.lines):
+            number, t = self.next()
+            if t[0] == "driver":
+                while (line := self.next())[1] != ["end"]:
+                    self.driver[line[1][0]] = line[1][1]
+            elif t[0] == "class":
+                self.read_class(t, raw_scripts)
+            elif t[0] == "device":
+                self.read_device(t, raw_scripts)
+            elif t[0] == "app":
+                self.read_posts(t)
+            elif t[0] == "pnp":
+                while (line := self.next())[1] != ["end"]:
+                    self.pnp.append((int(line[1][1]), line[1][2:]))
+            elif t[0] == "order":
+                while (line := self.next())[1] != ["end"]:
+                    self.picks += [int(n) for n in line[1][1:]]
+        for owner, number, callback, body in raw_scripts:
+            self.scripts.append(Script(self, owner, number, callback, body))
+
+    def read_class(self, t, raw_scripts):
+        c = {"name": self.name(t[1]), "word": t[1], "kind": t[2], "parent": t[3] if len(t) > 3 else None,
+             "serialize": False, "period": 0}
+        self.classes.append(c)
+        while (line := self.next())[1] != ["end"]:
+            number, u = line
+            if u[0] == "serialize":
+                c["serialize"] = True
+            elif u[0] == "period":
+                c["period"] = int(u[1])
+            else:
+                raw_scripts.append((("class", len(self.classes) - 1), number, u[1], self.body()))
+
+    def read_device(self, t, raw_scripts):
+        d = {"kind": "device", "name": self.name(t[1]), "word": t[1], "working": len(t) > 2, "scope": "inherit",
+             "level": "inherit", "posts": []}
+        self.objects.append(d)
+        d["id"] = device = len(self.objects)
+        while (line := self.next())[1] != ["end"]:
+            number, u = line
+            if u[0] in ("scope", "level"):
+                d[u[0]] = u[1]
+            elif u[0] == "register":
+                self.registers.append({"name": self.name(u[1]), "word": u[1], "device": device, "value": int(u[2])})
+            elif u[0] == "when":
+                self.whens.append((u[1], u[2], u[3:-2], int(u[-1])))
+            elif u[0] == "at":
+                d["posts"].append((int(u[1]), u[2:]))
+            elif u[0] in ("interrupt", "queue", "target"):
+                self.read_part(u, device, raw_scripts)
+            else:
+                raw_scripts.append((("object", device), number, u[1], self.body()))
+
+    def read_part(self, t, device, raw_scripts):
+        o = {"kind": t[0], "name": self.name(t[1]), "word": t[1], "device": device, "scope": "inherit",
+             "level": "inherit", "serves": [], "powered": True, "zero": False, "args": t[2:]}
+        self.objects.append(o)
+        o["id"] = me = len(self.objects)
+        while (line := self.next())[1] != ["end"]:
+            number, u = line
+            if u[0] in ("scope", "level"):
+                o[u[0]] = u[1]
+            elif u[0] == "default":
+                o["serves"].append("rest")
+            elif u[0] == "for":
+                o["serves"].append(u[1])
+            elif u[0] == "power":
+                o["powered"] = False
+            elif u[0] == "zero":
+                o["zero"] = True
+            else:
+                raw_scripts.append((("object", me), number, u[1], self.body()))
+
+    def read_posts(self, t):
+        app = {"name": self.name(t[1]), "word": t[1], "posts": []}
+        self.apps.append(app)
+        while (line := self.next())[1] != ["end"]:
+            app["posts"].append((int(line[1][1]), line[1][2:]))
+
+    def body(self):
+        """The statements up to `end` or `else`: lists of (number, tokens, first branch, second branch)."""
+        block, _ = self.branch()
+        return block
+
+    def branch(self):
+        block = []
+        while True:
+            number, t = self.next()
+            if t[0] in ("end", "else"):
+                return block, t[0]
+            first = second = None
+            if t[0] in ("if", "repeat"):
+                first, closed = self.branch()
+                if closed == "else":
+                    second, _ = self.branch()
+            block.append((number, t, first, second or []))
+
+    # ---- words of the plan
+
+    def effective(self, attribute, o):
+        value = o[attribute]
+        if value == "inherit":
+            value = self.driver[attribute] if o["kind"] == "device" else self.effective(attribute, self.objects[o["device"] - 1])
+        return value
+
+    def scope(self, o):
+        return {"device": "scope.PerDevice", "queue": "scope.PerQueue", "none": "scope.Unscoped"}[self.effective("scope", o)]
+
+    def level(self, o):
+        return {"passive": "level.Passive", "dispatch": "level.Dispatch"}[self.effective("level", o)]
+
+    def handle(self, word):
+        for k, o in enumerate(self.objects, 1):
+            if o.get("word") == word:
+                return f"(h {k} {o['name']})"
+        raise KeyError(word)
+
+    def printed(self, text):
+        """The handle that prints as NAME.ID."""
+        word, number = text.split(".")
+        return f"(h {number} {0 if word == 'driver' else 1 if word == 'req' else self.number_of[word]})"
+
+    def declared(self, k):
+        o = self.objects[k - 1]
+        if o["kind"] == "driver":
+            return "declared.Driver"
+        if o["kind"] == "device":
+            working = "true" if o["working"] else "false"
+            return (f"declared.Device (record {{ name = {o['name']}; working = {working}; scope = {self.scope(o)}; "
+                    f"level = {self.level(o)} }})")
+        home = f"device = record {{ 0 = {o['device']} }}"
+        if o["kind"] == "queue":
+            dispatch = {"sequential": "dispatch.Sequential", "manual": "dispatch.Manual"}.get(
+                o["args"][0], "dispatch.Parallel " + o["args"][-1])
+            serves = "; ".join(f"{s} = {'true' if s in o['serves'] else 'false'}" for s in ("rest", "read", "write", "control"))
+            return (f"declared.Queue (record {{ name = {o['name']}; {home}; dispatch = {dispatch}; serves = record {{ {serves} }}; "
+                    f"powered = {'true' if o['powered'] else 'false'}; zero = {'true' if o['zero'] else 'false'}; "
+                    f"scope = {self.scope(o)}; level = {self.level(o)} }})")
+        if o["kind"] == "interrupt":
+            irql = 0 if o["args"][0] == "passive" else int(o["args"][0])
+            return f"declared.Interrupt (record {{ name = {o['name']}; {home}; level = record {{ 0 = {irql} }} }})"
+        delay, status, depth = o["args"]
+        return (f"declared.Target (record {{ name = {o['name']}; {home}; delay = {delay}; status = status.{STATUS[status]}; "
+                f"depth = {depth} }})")
+
+    def class_info(self, c):
+        if c["kind"] in PLAIN:
+            return f"class.Plain {c['name']} plain.{PLAIN[c['kind']]}"
+        parent = [k for k, o in enumerate(self.objects, 1) if o.get("word") == c["parent"]][0]
+        return (f"class.Deferred {c['name']} deferred.{DEFERRED[c['kind']]} (record {{ 0 = {parent} }}) "
+                f"{'true' if c['serialize'] else 'false'} {c['period']}")
+
+    def class_number(self, word):
+        for k, c in enumerate(self.classes):
+            if c["word"] == word:
+                return k
+        return None
+
+    def register(self, word):
+        return [k for k, r in enumerate(self.registers) if r["word"] == word][0]
+
+    def action(self, t):
+        if t[0] == "set":
+            return f"action.Set {self.register(t[1])} {t[2]}"
+        return f"action.{t[0].capitalize()} {self.handle(t[1])}"
+
+    def post(self, t):
+        if t[0] in ("read", "write"):
+            return f"post.{t[0].capitalize()} {self.handle(t[1])} {t[2]}"
+        if t[0] == "control":
+            return f"post.Control {self.handle(t[1])} {t[2]} {t[3]}"
+        if t[0] == "cancel":
+            return f"post.Cancel {t[1]}"
+        if t[0] in ASKS:
+            return f"post.Ask ask.{t[0].capitalize()} {self.handle(t[1])}"
+        return f"post.Act ({self.action(t)})"
+
+    def posts(self, posts):
+        return antt_list([f"at {tick} ({self.post(t)})" for tick, t in posts])
+
+    def agents(self):
+        devices = [o for o in self.objects if o["kind"] == "device"]
+        targets = [o for o in self.objects if o["kind"] == "target"]
+        return [(a["name"], a["posts"]) for a in self.apps] + [(d["name"], d["posts"]) for d in devices] + [
+            (t["name"], []) for t in targets]
+
+    def agent(self, word):
+        """The number of the agent that prints so: pnp, an app, NAME.ID of a device or a target."""
+        if word == "pnp":
+            return 0
+        name = self.number_of[word.split(".")[0]]
+        return 1 + [n for n, _ in self.agents()].index(name)
+
+    def owner(self, owner):
+        return f"declared.OfClass {owner[1]}" if owner[0] == "class" else self.declared(owner[1])
+
+    def plan(self, label):
+        out = [f"abbrev pub {label}_plan : Plan", f"{label}_plan = record {{",
+               f"  cpus = {self.cpus}; limit = {self.limit}; objects = {self.limit_objects};",
+               "  names = " + antt_list([f'codes "{n}"' for n in self.names]) + ";",
+               "  declared = " + long_list([f"({self.declared(k)})" for k in range(1, len(self.objects) + 1)], "    ") + ";",
+               "  classes = " + antt_list([self.class_info(c) for c in self.classes]) + ";",
+               "  registers = " + antt_list([f"record {{ name = {r['name']}; device = record {{ 0 = {r['device']} }}; value = {r['value']} }}"
+                                             for r in self.registers]) + ";",
+               "  whens = " + antt_list([f"record {{ access = access.{a.capitalize()}; register = {self.register(r)}; "
+                                         f"action = {self.action(t)}; after = {n} }}" for a, r, t, n in self.whens]) + ";",
+               "  pnp = " + self.posts(self.pnp) + ";",
+               "  agents = " + long_list([f"(record {{ name = {n}; posts = {self.posts(p)} }})" for n, p in self.agents()], "    ") + ";",
+               "  exprs = " + antt_list(self.exprs) + ";",
+               "  scripts = " + long_list([s.text() for s in self.scripts], "    ") + ";",
+               "  picks = " + antt_list(self.picks) + ";", "}"]
+        return "\n".join(out)
+
+    # ---- events
+
+    def value(self, text):
+        if re.fullmatch(r"[0-9]+", text):
+            return f"(Num {text})"
+        if text in STATUS:
+            return f"(Stat status.{STATUS[text]})"
+        return f"(Obj {self.printed(text)})"
+
+    def call(self, words):
+        args = []
+        for w in words[1:]:
+            c = self.class_number(w) if "." not in w else None
+            args.append(f"(Val {self.value(w)})" if c is None else f"(Class {c})")
+        args += ["(Val (Num 0))"] * (3 - len(args))
+        return f"(c call.{words[0]} {len(words) - 1} {' '.join(args)})"
+
+    def event(self, text):
+        w = text.split()
+        cpu = re.fullmatch(r"cpu([0-9]+)", w[0])
+        if cpu:
+            return self.cpu_event(f"(p {cpu.group(1)})", w[1:])
+        if w[0] == "fw":
+            return self.framework_event(w[1:])
+        if w[0] == "clock":
+            return f"event.Tick {w[2]}"
+        agent = self.agent(w[0])
+        answer = "None"
+        if "->" in w:
+            answer = "None" if w[-1] == "none" else f"(Some {self.printed(w[-1])})"
+            w = w[:-2]
+        t = [x.split(".")[0] if "." in x else x for x in w[1:]]
+        if t[0] == "done":
+            return f"event.Posted {agent} (post.Done {self.printed(w[2])} status.{STATUS[w[3]]}) None"
+        return f"event.Posted {agent} ({self.post(t)}) {answer}"
+
+    def cpu_event(self, cpu, w):
+        kind = w[0]
+        if kind == "start":
+            request = f"(Some {self.printed(w[3])})" if len(w) > 3 else "None"
+            return f"event.Start {cpu} callback.{w[1]} {self.printed(w[2])} {request}"
+        if kind == "step":
+            return f"event.Local {cpu} {w[1]}"
+        if kind == "log":
+            return f"event.Log {cpu} {self.value(w[1])}"
+        if kind == "spend":
+            return f"event.Spend {cpu} {w[1]}"
+        if kind == "get":
+            return f"event.Register {cpu} access.Read {self.register(w[1])} {w[3]}"
+        if kind == "put":
+            return f"event.Register {cpu} access.Write {self.register(w[1])} {w[2]}"
+        if kind == "call":
+            return f"event.Did {cpu} {self.call(w[1:-2])} {self.value(w[-1])}"
+        if kind == "wait":
+            return f"event.Waiting {cpu} {self.call(w[1:])}"
+        if kind == "woke":
+            return f"event.Woke {cpu} {self.call(w[1:-2])} {self.value(w[-1])}"
+        if kind in ("park", "unpark"):
+            return f"event.{kind.capitalize()} {cpu} (f {w[1]})"
+        if kind == "end":
+            return f"event.End {cpu} callback.{w[1]} {self.printed(w[2])} {self.value(w[3])}"
+        return f"event.Fault {cpu} fault.{w[1]} {w[2]}"
+
+    def framework_event(self, w):
+        if w[0] == "stage":
+            interrupt = f"(Some {self.printed(w[3])})" if len(w) > 3 else "None"
+            return f"event.Stage {self.printed(w[1])} stage.{STAGES[w[2]]} {interrupt}"
+        if w[0] == "complete":
+            return f"event.Complete {self.printed(w[1])} status.{STATUS[w[2]]}"
+        return f"event.{w[0].capitalize()} {self.printed(w[1])}"
+
+    def wait_line(self, text):
+        w = text.split()
+        if w[0] == "frame":
+            thing = f"thing.Waiting (f {w[1]}) callback.{w[2]} {self.printed(w[3])}"
+            cause = w[5:]
+        elif w[0] == "pnp":
+            return f"line (thing.Asking {self.printed(w[2])}) None"
+        elif w[1] == "owned":
+            return f"line (thing.Owned {self.printed(w[0])}) None"
+        elif w[1] == "sent" and w[0].startswith("req."):
+            return f"line (thing.Sent {self.printed(w[0])} {self.printed(w[2])}) None"
+        elif w[1] in ("queued", "returning") and len(w) > 2 and "." in w[2]:
+            thing = f"thing.{w[1].capitalize()} {self.printed(w[0])} {self.printed(w[2])}"
+            cause = w[3:]
+        elif w[1] == "queued":
+            thing, cause = f"thing.Deferred {self.printed(w[0])}", w[2:]
+        elif len(w) > 2 and w[2] == "waits":
+            if w[1] in STAGES:
+                step = f"(step.Pass stage.{STAGES[w[1]]} None)"
+            else:
+                step = f"(step.Run callback.{w[1]} None)"
+            thing, cause = f"thing.Sequence {self.printed(w[0])} {step}", w[3:]
+        else:
+            thing, cause = f"thing.Leaving {self.printed(w[0])}", w[1:]
+        return f"line ({thing}) (Some ({self.cause(cause)}))"
+
+    def cause(self, w):
+        if w[0] == "frame":
+            return f"cause.ByFrame (f {w[1]})"
+        if w[0] == "lock":
+            return f"cause.ByLock {self.printed(w[1])} (f {w[4]})"
+        if w[0] == "references":
+            return f"cause.References {w[1]}"
+        named = {"request": "ByRequest", "work": "ByWork", "behind": "Behind", "child": "ByChild", "sent": "AtTarget"}
+        if w[0] in named:
+            return f"cause.{named[w[0]]} {self.printed(w[1])}"
+        return "cause." + {"stopped": "Stopped", "unpowered": "Unpowered", "manual": "Manual", "full": "Full",
+                           "scope": "ScopeHeld", "cpus": "NoCpu"}[w[0]]
+
+
+class Script:
+    """The statements of one callback, with the numbers of those that follow."""
+
+    def __init__(self, scene, owner, line, callback, body):
+        self.scene, self.owner, self.line, self.callback = scene, owner, line, callback
+        self.variables = []
+        self.assigned(body)
+        self.statements = [None] * self.size(body)
+        self.compile(body, 0, len(self.statements), 0)
+
+    def assigned(self, body):
+        for _, t, first, second in body:
+            word = None
+            if t[0] in ("let", "get"):
+                word = t[1]
+            elif t[0] == "call" and "=" in t:
+                word = t[1]
+            if word is not None and word not in self.variables:
+                self.variables.append(word)
+            self.assigned(first or [])
+            self.assigned(second)
+
+    def size(self, body):
+        return sum(1 + self.size(first or []) + self.size(second) + (t[0] == "repeat") for _, t, first, second in body)
+
+    def compile(self, body, start, following, depth):
+        at = start
+        for k, (line, t, first, second) in enumerate(body):
+            size = self.size([body[k]])
+            after = at + size if k + 1 < len(body) else following
+            self.statement(at, after, line, t, first, second, depth)
+            at += size
+
+    def put(self, at, line, following, act):
+        self.statements[at] = f"s {line} {following} ({act})"
+
+    def statement(self, at, after, line, t, first, second, depth):
+        if t[0] == "let":
+            self.put(at, line, after, f"act.Let {self.variables.index(t[1])} {self.expression(t[3:])}")
+        elif t[0] == "call":
+            into = "None"
+            words = t[1:]
+            if "=" in t:
+                into, words = f"(Some {self.variables.index(t[1])})", t[3:]
+            args = [self.argument(a) for a in words[1:]]
+            args += ["arg.NoArgument"] * (3 - len(args))
+            assert COUNTS.get(words[0], 1) == len(words) - 1, (line, words)
+            self.put(at, line, after, f"act.Call call.{words[0]} {into} {' '.join(args)}")
+        elif t[0] == "get":
+            self.put(at, line, after, f"act.Get {self.variables.index(t[1])} {self.scene.register(t[3])}")
+        elif t[0] == "put":
+            self.put(at, line, after, f"act.Put {self.scene.register(t[1])} {self.expression(t[2:])}")
+        elif t[0] == "if":
+            test = self.expression(t[1:])
+            branch, other = at + 1, at + 1 + self.size(first)
+            self.put(at, line, branch if first else after, f"act.If {test} {other if second else after}")
+            self.compile(first, branch, after, depth)
+            self.compile(second, other, after, depth)
+        elif t[0] == "repeat":
+            count = self.expression(t[1:])
+            again = at + 1 + self.size(first)
+            self.put(at, line, at + 1, f"act.Repeat {count} {depth} {after}")
+            self.compile(first, at + 1, again, depth + 1)
+            self.put(again, line, after, f"act.Again {depth} {at + 1}")
+        else:
+            act = {"spend": "Spend", "log": "Log", "return": "Return"}[t[0]]
+            self.put(at, line, after, f"act.{act} {self.expression(t[1:])}")
+
+    def argument(self, word):
+        c = self.scene.class_number(word)
+        return f"(arg.OfClass {c})" if c is not None else f"(arg.Expression {self.expression([word])})"
+
+    def node(self, text):
+        self.scene.exprs.append(text)
+        return len(self.scene.exprs) - 1
+
+    def expression(self, tokens):
+        number, rest = self.tree(tokens)
+        assert rest == [], rest
+        return number
+
+    def tree(self, tokens):
+        head, rest = tokens[0], tokens[1:]
+        if head == "(":
+            left, rest = self.tree(rest)
+            operator, rest = rest[0], rest[1:]
+            right, rest = self.tree(rest)
+            assert rest[0] == ")"
+            return self.node(f"node.Binary operator.{OPERATORS[operator]} {left} {right}"), rest[1:]
+        if re.fullmatch(r"[0-9]+", head):
+            return self.node(f"node.Number {head}"), rest
+        if head in STATUS:
+            return self.node(f"node.Literal status.{STATUS[head]}"), rest
+        if head in WORDS:
+            return self.node(f"node.Context context.{WORDS[head]}"), rest
+        if head in self.variables:
+            return self.node(f"node.Variable {self.variables.index(head)}"), rest
+        return self.node(f"node.Object {self.scene.handle(head)}"), rest
+
+    def text(self):
+        body = "\n        ∷ ".join(self.statements + ["[]"])
+        return (f"(record {{ callback = callback.{self.callback}; owner = {self.scene.owner(self.owner)}; line = {self.line};\n"
+                f"      statements = {body} }})")
+
+
+HEAD = """-- Worked runs, computed from the definitions: they say what a reader expects of them. Made by
+-- tools/scene_to_plan.py from scenarios and their traces.
+use Rattle.std.proofs.Common.{◌≡◌, List, [], ◌∷◌, ◌++◌, Option, Some, None, true, false, codes, refl}
+use Rattle.wdf_base.specs.declared.ids.Handle.{Handle}
+use Rattle.wdf_base.specs.declared.declared.Declared.TheVariants as declared
+use Rattle.wdf_base.specs.declared.declared.ClassInfo.TheVariants as class
+use Rattle.wdf_base.specs.declared.declared.PlainKind.TheVariants as plain
+use Rattle.wdf_base.specs.declared.declared.DeferredKind.TheVariants as deferred
+use Rattle.wdf_base.specs.declared.declared.Scope.TheVariants as scope
+use Rattle.wdf_base.specs.declared.declared.ExecutionLevel.TheVariants as level
+use Rattle.wdf_base.specs.declared.declared.DispatchKind.TheVariants as dispatch
+use Rattle.wdf_base.specs.declared.event.Access.TheVariants as access
+use Rattle.wdf_base.specs.declared.event.Action.TheVariants as action
+use Rattle.wdf_base.specs.declared.event.Ask.TheVariants as ask
+use Rattle.wdf_base.specs.declared.event.Post.TheVariants as post
+use Rattle.wdf_base.specs.declared.event.Stage.TheVariants as stage
+use Rattle.wdf_base.specs.declared.event.Fault.TheVariants as fault
+use Rattle.wdf_base.specs.declared.event.Ending.TheVariants as ending
+use Rattle.wdf_base.specs.declared.event.Event.{Event}
+use Rattle.wdf_base.specs.declared.event.Event.TheVariants as event
+use Rattle.wdf_base.specs.declared.script.ExprNode.TheVariants as node
+use Rattle.wdf_base.specs.declared.script.ContextWord.TheVariants as context
+use Rattle.wdf_base.specs.declared.script.Operator.TheVariants as operator
+use Rattle.wdf_base.specs.declared.script.ArgNode.TheVariants as arg
+use Rattle.wdf_base.specs.declared.script.Act.TheVariants as act
+use Rattle.wdf_base.specs.declared.call.Arg.TheVariants.{Val, Class}
+use Rattle.wdf_base.specs.declared.call.CallKind.TheVariants as call
+use Rattle.wdf_base.specs.declared.call.Callback.TheVariants as callback
+use Rattle.wdf_base.specs.declared.value.Status.TheVariants as status
+use Rattle.wdf_base.specs.declared.value.Value.TheVariants.{Num, Obj, Stat}
+use Rattle.wdf_base.specs.declared.plan.Plan.{Plan}
+use Rattle.wdf_base.specs.declared.event.Step.TheVariants as step
+use Rattle.wdf_base.specs.declared.wait.OpenThing.TheVariants as thing
+use Rattle.wdf_base.specs.declared.wait.Cause.TheVariants as cause
+use Rattle.wdf_model.specs.Agents.{Agent}
+use Rattle.wdf_model.specs.Script.{value_of}
+use Rattle.wdf_model.specs.Agreement.{agrees}
+use Rattle.wdf_model.proofs.Picking.{Course, events_of, ending_at, waits_at, run_by, is_kept, h, p, f, c, at, s, line}
+"""
+
+
+def main():
+    print(HEAD)
+    for path in sys.argv[1:]:
+        label = os.path.basename(path)[:-4]
+        with open(path) as scenario, open(path[:-4] + ".out") as trace:
+            scene, lines = Scene(scenario.read()), trace.read().split("\n")[:-1]
+        last = [k for k, x in enumerate(lines) if not re.match(r"[0-9]+ ", x)][0]
+        events = [scene.event(x.split(" ", 1)[1]) for x in lines[:last]]
+        words = lines[last].split()
+        ending = "ending." + words[0].capitalize()
+        if words[0] == "fault":
+            ending = "ending.Fault " + events[-1].split()[3]
+        waits = [scene.wait_line(x) for x in lines[last + 1:]]
+        print(scene.plan(label))
+        print()
+        print(f"abbrev pub {label}_events : List Event")
+        print(f"{label}_events = " + long_list(events, "    "))
+        print()
+        print(f"abbrev {label}_run : Course")
+        print(f"{label}_run = run_by {label}_plan {len(events) + 2}")
+        print()
+        print(f"{label} : events_of {label}_run ≡ {label}_events")
+        print("unfolding run_by value_of")
+        print(f"{label} = refl")
+        print()
+        print(f"{label}_ends : ending_at {label}_run ≡ {ending}")
+        print("unfolding run_by value_of")
+        print(f"{label}_ends = refl")
+        print()
+        print(f"{label}_agrees : is_kept (agrees {label}_plan) {label}_plan {len(events) + 2} ≡ true")
+        print("unfolding is_kept value_of")
+        print(f"{label}_agrees = refl")
+        print()
+        if words[0] == "stuck":
+            print(f"{label}_waits : waits_at {label}_run ≡ " + antt_list(waits))
+            print("unfolding run_by value_of")
+            print(f"{label}_waits = refl")
+            print()
+
+
+if __name__ == "__main__":
+    main()
