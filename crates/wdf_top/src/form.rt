@@ -321,9 +321,8 @@ fn name_in(line: &SceneLine) -> Name
     ensures app { (name : List ℕ) → line.now ≡ SceneLine.App name → result ≡ name }
 {
     match line {
-        SceneLine::Device { name, .. }
-        | SceneLine::Queue { name, .. }
-        | SceneLine::App { name } => *name,
+        SceneLine::Device { name, .. } | SceneLine::Queue { name, .. } | SceneLine::App { name } =>
+            *name,
         _ => Name::new(&[]),
     }
 }
@@ -331,15 +330,15 @@ fn name_in(line: &SceneLine) -> Name
 /// A text is the form in at most one way.
 pub fn one_reading()
     ensures { (text : List ℕ) (form other : FirstForm) → StandsFor text form → StandsFor text other → form ≡ other }
-{
-}
+{}
 
 #[cfg(test)]
 mod tests {
     use super::*;
     use std::test::Fail;
 
-    const FORM: &str = "cpus 1\nlimit 100\nobjects 16\ndevice D working\nqueue Q sequential\ndefault\non EvtIoRead\ncall WdfRequestComplete request SUCCESS\nend\nend\nend\napp A\nat 0 read D 16\nend\n";
+    const FORM: &str =
+        "cpus 1\nlimit 100\nobjects 16\ndevice D working\nqueue Q sequential\ndefault\non EvtIoRead\ncall WdfRequestComplete request SUCCESS\nend\nend\nend\napp A\nat 0 read D 16\nend\n";
 
     /// The form with a part replaced, or none where memory is wanting.
     fn read(alloc: Global, from: &str, to: &str) -> Result<Option<FirstForm>, Fail> {
