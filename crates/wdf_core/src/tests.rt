@@ -1,3 +1,5 @@
+ghost use Rattle.std.specs.Prelude.{◌≡◌, ◌×◌, length, IfOk};
+
 use crate::Core;
 use std::alloc::Global;
 use std::test::Fail;
@@ -96,17 +98,19 @@ const ONE_READ: [Event; 6] = [
     Event::Destroy { object: REQUEST },
 ];
 
+/// An agent that posts nothing by itself, with this name's number.
+fn agent(alloc: Global, name: u32) -> AgentInfo {
+    let posts = Items::new(alloc);
+    AgentInfo { name, posts }
+}
+
 /// A plan with an app and a device as agents beside the Plug and Play manager.
 fn plan_of(alloc: Global, limit: u32) -> Result<Plan, Memory>
     ensures { IfOk result (λ plan. (plan.limit ≡ limit) × (length plan.agents ≡ 2)) }
 {
     let mut agents = Items::new(alloc);
-    for name in [4, 2] {
-        agents.push(AgentInfo {
-            name,
-            posts: Items::new(alloc),
-        })?;
-    }
+    agents.push(agent(alloc, 4))?;
+    agents.push(agent(alloc, 2))?;
     Ok(Plan {
         cpus: 1,
         limit,
