@@ -26,7 +26,7 @@ queue Q sequential
 default
 on EvtIoRead
 """
-STATEMENT = "let total{0} = (length + {0}) * 3 + (request == self)  # a comment\n"
+STATEMENT = "let total{0} = (((length + {0}) * 3) + (request == self))  # a comment\n"
 MIDDLE = "call WdfRequestComplete request SUCCESS\nend\nend\nend\napp A\n"
 POST = "at {0} read D {0}\n"
 TAIL = "end\n"
