@@ -39,7 +39,7 @@ row_one = record {
   registers = [];
   whens = [];
   pnp = [];
-  agents = record { name = 4; posts = record { tick = 0; post = post.Read (record { id = record { 0 = 2 }; name = 2 }) 16 } ∷ [] } ∷ record { name = 2; posts = [] } ∷ [];
+  agents = record { name = 4; posts = record { tick = 0; post = post.Read (record { id = record { 0 = 2 }; name = 2 }) 16; line = 13 } ∷ [] } ∷ record { name = 2; posts = [] } ∷ [];
   exprs = node.Context context.OwnRequest ∷ node.Literal status.Success ∷ [];
   scripts = record {
     callback = callback.EvtIoRead;
@@ -70,6 +70,7 @@ row_one_IsResolved = record {
   driver_name = refl;
   request_name = refl;
   names_plain = refl;
+  names_short = refl;
   names_differ = refl;
   names_free = refl;
   names_used = refl;

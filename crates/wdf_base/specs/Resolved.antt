@@ -413,6 +413,7 @@ pub record IsResolved (plan : Plan) : Type 0 where
   pub driver_name : slice_get plan.names 0 ≡ Some (codes "driver")
   pub request_name : slice_get plan.names 1 ≡ Some (codes "req")
   pub names_plain : IsTrue (list_all is_name plan.names)
+  pub names_short : IsTrue (list_all (λ n. nat_le (length n) 32) plan.names)
   pub names_differ : IsTrue (all_differ bytes_eq plan.names)
   pub names_free : IsTrue (list_all (λ n. not (is_reserved n)) (drop 2 plan.names))
   pub names_used : IsTrue (all_differ ◌==◌ (used_names plan))

@@ -167,6 +167,8 @@ pub struct WhenLine {
     pub action: Action,
     /// The ticks between; with 0 it takes effect at once.
     pub after: u64,
+    /// The number of its line in the text.
+    pub line: u32,
 }
 
 /// What an agent posts, and the tick from which it may.
@@ -174,6 +176,8 @@ pub struct WhenLine {
 pub struct PostLine {
     pub tick: u64,
     pub post: Post,
+    /// The number of its line in the text.
+    pub line: u32,
 }
 
 impl Declared {

@@ -52,4 +52,8 @@ pub use words::{
 };
 
 #[cfg(test)]
+mod plan_tests;
+#[cfg(test)]
+mod same_tests;
+#[cfg(test)]
 mod tests;

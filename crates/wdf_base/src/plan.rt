@@ -6,7 +6,7 @@ use crate::call::Callback;
 use crate::declared::{ClassInfo, Declared, PostLine, RegisterInfo, WhenLine};
 use crate::ids::ObjectId;
 use crate::items::{FEW, Items, MANY};
-use crate::name::Name;
+use crate::name::{NAME_LIMIT, Name};
 use crate::script::{AgentInfo, ExprNode, Script, Statement};
 
 /// A scenario with numbers in place of names.
@@ -69,7 +69,8 @@ impl Plan {
     /// The bytes of name `n`.
     pub fn name(&self, n: u32) -> &[u8]
         requires { n < length self.now.names }
-        ensures { slice_get self.now.names n ≡ Some result.now }
+        ensures value { slice_get self.now.names n ≡ Some result.now }
+        ensures small { length result.now ≤ NAME_LIMIT }
     {
         self.names.item(n).bytes()
     }

@@ -131,32 +131,76 @@ fn calls_have_their_words_arguments_and_levels(rt: HostRuntime) {
 }
 
 #[test]
-fn faults_stages_and_asks_have_their_words(rt: HostRuntime) {
+fn faults_have_their_words(rt: HostRuntime) {
     for (fault, word) in [
         (Fault::StaleHandle, "StaleHandle"),
+        (Fault::WrongKind, "WrongKind"),
+        (Fault::IrqlTooHigh, "IrqlTooHigh"),
+        (Fault::NotOwned, "NotOwned"),
+        (Fault::CompleteWhileMarked, "CompleteWhileMarked"),
         (
             Fault::CompleteBeforeCancelCallback,
             "CompleteBeforeCancelCallback",
         ),
+        (Fault::MarkedTwice, "MarkedTwice"),
         (Fault::AckOutsideStop, "AckOutsideStop"),
+        (Fault::NoReferenceHeld, "NoReferenceHeld"),
+        (Fault::DeleteNotAllowed, "DeleteNotAllowed"),
+        (Fault::LockHeldAlready, "LockHeldAlready"),
+        (Fault::LockNotHeld, "LockNotHeld"),
+        (Fault::ReturnHoldingLock, "ReturnHoldingLock"),
+        (Fault::HardwareReleased, "HardwareReleased"),
+        (Fault::SyncInOwnScope, "SyncInOwnScope"),
         (Fault::ScriptError, "ScriptError"),
     ] {
         assert_eq!(rt; fault.word(), word);
         assert_eq!(rt; Fault::from_word(word.as_bytes()), Some(fault));
     }
+    assert_eq!(rt; Fault::from_word(b"staleHandle"), None);
+}
+
+#[test]
+fn stages_and_asks_have_their_words(rt: HostRuntime) {
     for (stage, word) in [
+        (Stage::Hardware, "hardware"),
         (Stage::NoHardware, "no_hardware"),
+        (Stage::Enabled, "enabled"),
+        (Stage::Disabled, "disabled"),
         (Stage::QueuesUp, "queues_up"),
+        (Stage::QueuesDown, "queues_down"),
         (Stage::Settled, "settled"),
+        (Stage::Quiet, "quiet"),
+        (Stage::Closed, "closed"),
+        (Stage::Working, "working"),
+        (Stage::Sleeping, "sleeping"),
         (Stage::Removed, "removed"),
     ] {
         assert_eq!(rt; stage.word(), word);
         assert_eq!(rt; Stage::from_word(word.as_bytes()), Some(stage));
     }
-    for (ask, word) in [(Ask::Rebalance, "rebalance"), (Ask::Surprise, "surprise")] {
+    for (ask, word) in [
+        (Ask::Start, "start"),
+        (Ask::Sleep, "sleep"),
+        (Ask::Wake, "wake"),
+        (Ask::Rebalance, "rebalance"),
+        (Ask::Remove, "remove"),
+        (Ask::Surprise, "surprise"),
+    ] {
         assert_eq!(rt; ask.word(), word);
         assert_eq!(rt; Ask::from_word(word.as_bytes()), Some(ask));
     }
+}
+
+/// The laws are functions without a body: a caller gets their clauses.
+#[test]
+fn laws_of_words_may_be_used(_rt: HostRuntime) {
+    let word = b"closed";
+    status_words(Status::Success, word);
+    callback_words(Callback::EvtIoRead, word);
+    call_words(CallKind::GetContext, word);
+    fault_words(Fault::NotOwned, word);
+    stage_words(Stage::Closed, word);
+    ask_words(Ask::Wake, word);
 }
 
 #[test]

@@ -8,30 +8,63 @@ use wdf_base::{
 };
 
 #[test]
-fn words_are_those_of_the_text(rt: HostRuntime) {
-    assert_eq!(rt; plain_kind_word(PlainKind::SpinLock), "spinlock");
-    assert_eq!(rt;
-        plain_kind_from_word(b"waitlock"),
-        Some(PlainKind::WaitLock)
-    );
+fn kinds_have_their_words(rt: HostRuntime) {
+    for (kind, word) in [
+        (PlainKind::Object, "object"),
+        (PlainKind::SpinLock, "spinlock"),
+        (PlainKind::WaitLock, "waitlock"),
+        (PlainKind::Request, "request"),
+    ] {
+        assert_eq!(rt; plain_kind_word(kind), word);
+        assert_eq!(rt; plain_kind_from_word(word.as_bytes()), Some(kind));
+    }
     assert_eq!(rt; plain_kind_from_word(b"dpc"), None);
-    assert_eq!(rt; deferred_kind_word(DeferredKind::WorkItem), "workitem");
-    assert_eq!(rt;
-        deferred_kind_from_word(b"timer"),
-        Some(DeferredKind::Timer)
-    );
-    assert_eq!(rt; scope_word(Scope::Unscoped), "none");
-    assert_eq!(rt; scope_from_word(b"queue"), Some(Scope::PerQueue));
+    for (kind, word) in [
+        (DeferredKind::Dpc, "dpc"),
+        (DeferredKind::Timer, "timer"),
+        (DeferredKind::WorkItem, "workitem"),
+    ] {
+        assert_eq!(rt; deferred_kind_word(kind), word);
+        assert_eq!(rt; deferred_kind_from_word(word.as_bytes()), Some(kind));
+    }
+    assert_eq!(rt; deferred_kind_from_word(b"object"), None);
+}
+
+#[test]
+fn attributes_have_their_words(rt: HostRuntime) {
+    for (scope, word) in [
+        (Scope::PerDevice, "device"),
+        (Scope::PerQueue, "queue"),
+        (Scope::Unscoped, "none"),
+    ] {
+        assert_eq!(rt; scope_word(scope), word);
+        assert_eq!(rt; scope_from_word(word.as_bytes()), Some(scope));
+    }
     assert_eq!(rt; scope_from_word(b"inherit"), None);
-    assert_eq!(rt; level_word(ExecutionLevel::Passive), "passive");
-    assert_eq!(rt;
-        level_from_word(b"dispatch"),
-        Some(ExecutionLevel::Dispatch)
-    );
-    assert_eq!(rt; form_word(RequestForm::Control), "control");
-    assert_eq!(rt; form_from_word(b"write"), Some(RequestForm::Write));
-    assert_eq!(rt; access_word(Access::Read), "read");
+    for (level, word) in [
+        (ExecutionLevel::Passive, "passive"),
+        (ExecutionLevel::Dispatch, "dispatch"),
+    ] {
+        assert_eq!(rt; level_word(level), word);
+        assert_eq!(rt; level_from_word(word.as_bytes()), Some(level));
+    }
+    for (form, word) in [
+        (RequestForm::Read, "read"),
+        (RequestForm::Write, "write"),
+        (RequestForm::Control, "control"),
+    ] {
+        assert_eq!(rt; form_word(form), word);
+        assert_eq!(rt; form_from_word(word.as_bytes()), Some(form));
+    }
+    for (access, word) in [(Access::Read, "read"), (Access::Write, "write")] {
+        assert_eq!(rt; access_word(access), word);
+        assert_eq!(rt; access_from_word(word.as_bytes()), Some(access));
+    }
     assert_eq!(rt; access_from_word(b"control"), None);
+}
+
+#[test]
+fn expressions_have_their_words(rt: HostRuntime) {
     for (operator, word) in [
         (Operator::Add, "+"),
         (Operator::Subtract, "-"),
@@ -49,11 +82,31 @@ fn words_are_those_of_the_text(rt: HostRuntime) {
         assert_eq!(rt; operator_word(operator), word);
         assert_eq!(rt; operator_from_word(word.as_bytes()), Some(operator));
     }
-    assert_eq!(rt; context_word(ContextWord::OwnObject), "self");
-    assert_eq!(rt;
-        context_from_word(b"status"),
-        Some(ContextWord::CompletionStatus)
-    );
+    for (part, word) in [
+        (ContextWord::OwnObject, "self"),
+        (ContextWord::NearestDevice, "device"),
+        (ContextWord::OwnRequest, "request"),
+        (ContextWord::RequestLength, "length"),
+        (ContextWord::RequestCode, "code"),
+        (ContextWord::CompletionStatus, "status"),
+    ] {
+        assert_eq!(rt; context_word(part), word);
+        assert_eq!(rt; context_from_word(word.as_bytes()), Some(part));
+    }
+}
+
+/// The laws are functions without a body: a caller gets their clauses.
+#[test]
+fn laws_of_words_may_be_used(_rt: HostRuntime) {
+    let word = b"read";
+    plain_kind_words(PlainKind::Object, word);
+    deferred_kind_words(DeferredKind::Dpc, word);
+    scope_words(Scope::Unscoped, word);
+    level_words(ExecutionLevel::Passive, word);
+    form_words(RequestForm::Read, word);
+    access_words(Access::Read, word);
+    operator_words(Operator::Add, word);
+    context_words(ContextWord::OwnObject, word);
 }
 
 #[test]
@@ -199,6 +252,7 @@ fn with_when_line(alloc: Global) -> Result<Plan, Memory> {
         register: 0,
         action,
         after: 3,
+        line: 12,
     };
     builder.when(line)?;
     Ok(builder.finish())
@@ -209,6 +263,7 @@ fn a_plan_gives_its_when_lines_back(rt: HostRuntime) -> Result<(), Memory> {
     let plan = with_when_line(rt.alloc())?;
     assert_eq!(rt; plan.when_len(), 1);
     assert_eq!(rt; plan.when(0).after, 3);
+    assert_eq!(rt; plan.when(0).line, 12);
     Ok(())
 }
 
@@ -218,7 +273,12 @@ fn with_post(alloc: Global) -> Result<Plan, Memory> {
         ask: Ask::Sleep,
         device: ON_DEVICE,
     };
-    builder.post(0, PostLine { tick: 1, post })?;
+    let line = PostLine {
+        tick: 1,
+        post,
+        line: 20,
+    };
+    builder.post(0, line)?;
     Ok(builder.finish())
 }
 
@@ -228,6 +288,7 @@ fn a_plan_gives_its_posts_back(rt: HostRuntime) -> Result<(), Memory> {
     assert_eq!(rt; plan.agent_len(), 1);
     assert_eq!(rt; plan.post_len(0), 1);
     assert_eq!(rt; plan.post(0, 0).tick, 1);
+    assert_eq!(rt; plan.post(0, 0).line, 20);
     Ok(())
 }
 
@@ -238,7 +299,12 @@ fn with_agent(alloc: Global) -> Result<Plan, Memory> {
         device: ON_DEVICE,
         length: 16,
     };
-    builder.post(1, PostLine { tick: 3, post })?;
+    let line = PostLine {
+        tick: 3,
+        post,
+        line: 31,
+    };
+    builder.post(1, line)?;
     Ok(builder.finish())
 }
 
