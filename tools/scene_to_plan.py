@@ -1,12 +1,13 @@
 #!/usr/bin/env python3
-"""Turns scenarios and their traces into antt: a plan as a record, the events as a list.
+"""Turns scenarios and their traces into antt: a plan as a record, the events and the wait list as lists.
 
-    tools/scene_to_plan.py tools/runs/power/*.scn > crates/wdf_model/proofs/RowsPower.antt
+    tools/scene_to_plan.py specs tools/runs/power/*.scn > crates/wdf_worked/specs/RunsOfPower.antt
+    tools/scene_to_plan.py proofs tools/runs/power/*.scn > crates/wdf_worked/proofs/RunsOfPower.antt
 
-Each argument is the path of a scenario `NAME.scn` with its trace beside it in `NAME.out`; NAME names
-the run. For each the file gets the plan, the events, the ending, the wait list of a stuck run, and facts by
-`refl` that the definitions of wdf_model compute them, and that the parts agree in each state. It serves
-the worked runs alone: what the program reads is read by its own parser.
+Each argument behind the first is the path of a scenario `NAME.scn` with its trace beside it in `NAME.out`;
+NAME names the run. `specs` gives the plan, the events and the wait list of each, `proofs` that the definitions
+of wdf_model compute them. It serves the worked runs alone: what the program reads is read by its own
+parser.
 """
 import os
 import re
@@ -98,7 +99,7 @@ class Scene:
                 self.read_posts(t)
             elif t[0] == "pnp":
                 while (line := self.next())[1] != ["end"]:
-                    self.pnp.append((int(line[1][1]), line[1][2:]))
+                    self.pnp.append((line[0], int(line[1][1]), line[1][2:]))
             elif t[0] == "order":
                 while (line := self.next())[1] != ["end"]:
                     self.picks += [int(n) for n in line[1][1:]]
@@ -130,9 +131,9 @@ class Scene:
             elif u[0] == "register":
                 self.registers.append({"name": self.name(u[1]), "word": u[1], "device": device, "value": int(u[2])})
             elif u[0] == "when":
-                self.whens.append((u[1], u[2], u[3:-2], int(u[-1])))
+                self.whens.append((number, u[1], u[2], u[3:-2], int(u[-1])))
             elif u[0] == "at":
-                d["posts"].append((int(u[1]), u[2:]))
+                d["posts"].append((number, int(u[1]), u[2:]))
             elif u[0] in ("interrupt", "queue", "target"):
                 self.read_part(u, device, raw_scripts)
             else:
@@ -162,7 +163,7 @@ class Scene:
         app = {"name": self.name(t[1]), "word": t[1], "posts": []}
         self.apps.append(app)
         while (line := self.next())[1] != ["end"]:
-            app["posts"].append((int(line[1][1]), line[1][2:]))
+            app["posts"].append((line[0], int(line[1][1]), line[1][2:]))
 
     def body(self):
         """The statements up to `end` or `else`: lists of (number, tokens, first branch, second branch)."""
@@ -263,7 +264,7 @@ class Scene:
         return f"post.Act ({self.action(t)})"
 
     def posts(self, posts):
-        return antt_list([f"at {tick} ({self.post(t)})" for tick, t in posts])
+        return antt_list([f"at {number} {tick} ({self.post(t)})" for number, tick, t in posts])
 
     def agents(self):
         devices = [o for o in self.objects if o["kind"] == "device"]
@@ -290,7 +291,8 @@ class Scene:
                "  registers = " + antt_list([f"record {{ name = {r['name']}; device = record {{ 0 = {r['device']} }}; value = {r['value']} }}"
                                              for r in self.registers]) + ";",
                "  whens = " + antt_list([f"record {{ access = access.{a.capitalize()}; register = {self.register(r)}; "
-                                         f"action = {self.action(t)}; after = {n} }}" for a, r, t, n in self.whens]) + ";",
+                                         f"action = {self.action(t)}; after = {n}; line = {number} }}"
+                                         for number, a, r, t, n in self.whens]) + ";",
                "  pnp = " + self.posts(self.pnp) + ";",
                "  agents = " + long_list([f"(record {{ name = {n}; posts = {self.posts(p)} }})" for n, p in self.agents()], "    ") + ";",
                "  exprs = " + antt_list(self.exprs) + ";",
@@ -514,9 +516,9 @@ class Script:
                 f"      statements = {body} }})")
 
 
-HEAD = """-- Worked runs, computed from the definitions: they say what a reader expects of them. Made by
--- tools/scene_to_plan.py from scenarios and their traces.
-use Rattle.std.proofs.Common.{◌≡◌, List, [], ◌∷◌, ◌++◌, Option, Some, None, true, false, codes, refl}
+SPECS_HEAD = """-- Worked runs: the plan of each, its events, and what it waits for where it is stuck. Made by
+-- tools/scene_to_plan.py from the scenarios and traces of tools/runs.
+use Rattle.std.specs.Prelude.{List, [], ◌∷◌, Some, None, true, false, codes}
 use Rattle.wdf_base.specs.declared.ids.Handle.{Handle}
 use Rattle.wdf_base.specs.declared.declared.Declared.TheVariants as declared
 use Rattle.wdf_base.specs.declared.declared.ClassInfo.TheVariants as class
@@ -548,51 +550,72 @@ use Rattle.wdf_base.specs.declared.plan.Plan.{Plan}
 use Rattle.wdf_base.specs.declared.event.Step.TheVariants as step
 use Rattle.wdf_base.specs.declared.wait.OpenThing.TheVariants as thing
 use Rattle.wdf_base.specs.declared.wait.Cause.TheVariants as cause
-use Rattle.wdf_model.specs.Agents.{Agent}
-use Rattle.wdf_model.specs.Script.{value_of}
-use Rattle.wdf_model.specs.Agreement.{agrees}
-use Rattle.wdf_model.proofs.Picking.{Course, events_of, ending_at, waits_at, run_by, is_kept, h, p, f, c, at, s, line}
+use Rattle.wdf_base.specs.declared.wait.WaitLine.{WaitLine}
+use Rattle.wdf_worked.specs.Writing.{h, p, f, c, at, s, line}
 """
+
+PROOFS_HEAD = """-- Worked runs, computed from the definitions. Made by tools/scene_to_plan.py.
+use Rattle.std.proofs.Common.{[], refl}
+use Rattle.wdf_base.specs.declared.event.Ending.TheVariants as ending
+use Rattle.wdf_base.specs.declared.event.Fault.TheVariants as fault
+use Rattle.wdf_model.specs.Course.{run_by}
+use Rattle.wdf_model.specs.Script.{value_of}
+use Rattle.wdf_model.proofs.Course.{worked_of}
+use Rattle.wdf_worked.specs.Shown.{IsShown, is_kept}
+use Rattle.wdf_worked.proofs.Ended.{over}
+"""
+
+class Run:
+    """A worked run: its scenario, its events, its ending and its wait list."""
+
+    def __init__(self, path):
+        self.label = os.path.basename(path)[:-4]
+        with open(path) as scenario, open(path[:-4] + ".out") as trace:
+            self.scene, lines = Scene(scenario.read()), trace.read().split("\n")[:-1]
+        last = [k for k, x in enumerate(lines) if not re.match(r"[0-9]+ ", x)][0]
+        self.events = [self.scene.event(x.split(" ", 1)[1]) for x in lines[:last]]
+        words = lines[last].split()
+        self.ending = "ending." + words[0].capitalize()
+        if words[0] == "fault":
+            self.ending = "(ending.Fault " + self.events[-1].split()[3] + ")"
+        self.waits = [self.scene.wait_line(x) for x in lines[last + 1:]]
+
+    def definitions(self):
+        return "\n".join([
+            self.scene.plan(self.label),
+            "",
+            f"abbrev pub {self.label}_events : List Event",
+            f"{self.label}_events = " + long_list(self.events, "    "),
+        ] + ([
+            "",
+            f"abbrev pub {self.label}_waits : List WaitLine",
+            f"{self.label}_waits = " + antt_list(self.waits),
+        ] if self.waits else []))
+
+    def fact(self):
+        waits = f"{self.label}_waits" if self.waits else "[]"
+        told = f"{self.label}_plan {self.label}_events {self.ending}"
+        return "\n".join([
+            f"pub {self.label} : IsShown {told} {waits}",
+            "unfolding run_by value_of is_kept",
+            f"{self.label} = record {{",
+            f"  worked = worked_of {self.label}_plan {len(self.events)} {self.label}_events {self.ending} refl refl (over {self.ending} refl);",
+            "  agree = refl;",
+            "  stuck = refl;",
+            "}",
+        ])
 
 
 def main():
-    print(HEAD)
-    for path in sys.argv[1:]:
-        label = os.path.basename(path)[:-4]
-        with open(path) as scenario, open(path[:-4] + ".out") as trace:
-            scene, lines = Scene(scenario.read()), trace.read().split("\n")[:-1]
-        last = [k for k, x in enumerate(lines) if not re.match(r"[0-9]+ ", x)][0]
-        events = [scene.event(x.split(" ", 1)[1]) for x in lines[:last]]
-        words = lines[last].split()
-        ending = "ending." + words[0].capitalize()
-        if words[0] == "fault":
-            ending = "ending.Fault " + events[-1].split()[3]
-        waits = [scene.wait_line(x) for x in lines[last + 1:]]
-        print(scene.plan(label))
-        print()
-        print(f"abbrev pub {label}_events : List Event")
-        print(f"{label}_events = " + long_list(events, "    "))
-        print()
-        print(f"abbrev {label}_run : Course")
-        print(f"{label}_run = run_by {label}_plan {len(events) + 2}")
-        print()
-        print(f"{label} : events_of {label}_run ≡ {label}_events")
-        print("unfolding run_by value_of")
-        print(f"{label} = refl")
-        print()
-        print(f"{label}_ends : ending_at {label}_run ≡ {ending}")
-        print("unfolding run_by value_of")
-        print(f"{label}_ends = refl")
-        print()
-        print(f"{label}_agrees : is_kept (agrees {label}_plan) {label}_plan {len(events) + 2} ≡ true")
-        print("unfolding is_kept value_of")
-        print(f"{label}_agrees = refl")
-        print()
-        if words[0] == "stuck":
-            print(f"{label}_waits : waits_at {label}_run ≡ " + antt_list(waits))
-            print("unfolding run_by value_of")
-            print(f"{label}_waits = refl")
-            print()
+    runs = [Run(path) for path in sys.argv[2:]]
+    if sys.argv[1] == "specs":
+        parts = [SPECS_HEAD] + [run.definitions() for run in runs]
+    else:
+        subject = "RunsOf" + os.path.basename(os.path.dirname(sys.argv[2])).capitalize()
+        words = [f"{r.label}_{w}" for r in runs for w in ("plan", "events", "waits") if w != "waits" or r.waits]
+        cited = f"use Rattle.wdf_worked.specs.{subject}.{{{', '.join(words)}}}"
+        parts = [PROOFS_HEAD + cited] + [run.fact() for run in runs]
+    print("\n\n".join(parts))
 
 
 if __name__ == "__main__":

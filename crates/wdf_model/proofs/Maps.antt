@@ -1,5 +1,6 @@
 -- Maps by id: what is read after a write, and how a write is done in a list that holds the id.
-use Rattle.std.proofs.Common.{◌≡◌, ◌≢◌, ℕ, zero, suc, ◌+◌, ◌<◌, List, [], ◌∷◌, ◌++◌, length, replicate, refl, ap, arith, slice_set, zero-add}
+use Rattle.std.proofs.Common.{if◌then◌else◌, ◌==◌, Bool, true, false, map, sym, ◌≡◌, ◌≢◌, ℕ, zero, suc, ◌+◌, ◌<◌, ◌≤◌, List, [], ◌∷◌, ◌++◌, length, replicate, refl, ap, arith, slice_set, zero-add}
+use Rattle.std.proofs.lemmas.Bool.{eq-eqb, eqb-true}
 use Rattle.wdf_model.specs.Tables.{entry, put}
 
 -- where the id has an entry, a write is that of a list
@@ -37,3 +38,50 @@ entry_put_other blank (x ∷ xs) zero zero new h = absurd (h refl)
 entry_put_other blank (x ∷ xs) zero (suc other) new h = refl
 entry_put_other blank (x ∷ xs) (suc id) zero new h = refl
 entry_put_other blank (x ∷ xs) (suc id) (suc other) new h = entry_put_other blank xs id other new (λ e. h (ap suc e))
+
+-- what is read after a write
+entry_put_by : {T : Type 0} (blank : T) (xs : List T) (id other : ℕ) (new : T) (b : Bool) → (other == id) ≡ b
+    → entry blank (put blank xs id new) other ≡ (if b then new else entry blank xs other)
+entry_put_by blank xs id other new true e = let same : other ≡ id = eqb-true other id e in rw same (entry_put_same blank xs id new)
+entry_put_by blank xs id other new false e =
+    entry_put_other blank xs id other new (λ same. let yes : (other == id) ≡ true = eq-eqb other id same in let z : ⊥ = cc in z)
+
+pub entry_put : {T : Type 0} (blank : T) (xs : List T) (id other : ℕ) (new : T) → entry blank (put blank xs id new) other ≡ (if other == id then new else entry blank xs other)
+entry_put blank xs id other new = entry_put_by blank xs id other new (other == id) refl
+
+-- what is read after each entry was changed by what leaves the blank entry alone
+pub entry_map : {T : Type 0} (blank : T) (xs : List T) (g : T → T) (id : ℕ) → g blank ≡ blank → entry blank (map g xs) id ≡ g (entry blank xs id)
+entry_map blank [] g zero e = sym e
+entry_map blank [] g (suc id) e = sym e
+entry_map blank (x ∷ xs) g zero e = refl
+entry_map blank (x ∷ xs) g (suc id) e = entry_map blank xs g id e
+
+-- behind the end stand blank entries
+pub entry_past : {T : Type 0} (blank : T) (xs : List T) (id : ℕ) → length xs ≤ id → entry blank xs id ≡ blank
+entry_past blank [] id h = refl
+entry_past blank (x ∷ xs) zero h = absurd (omega arith)
+entry_past blank (x ∷ xs) (suc id) h = entry_past blank xs id (omega arith)
+
+-- how long a map is after a write
+pub put_short : {T : Type 0} (blank : T) (xs : List T) (id : ℕ) (new : T) (n : ℕ) → id < n → length xs ≤ n → length (put blank xs id new) ≤ n
+put_short blank xs id new zero h k = absurd (omega arith)
+put_short blank [] zero new (suc n) h k = omega arith
+put_short blank [] (suc id) new (suc n) h k = let e = put_short blank [] id new n (omega arith) (omega arith) in omega arith
+put_short blank (x ∷ xs) zero new (suc n) h k = k
+put_short blank (x ∷ xs) (suc id) new (suc n) h k = let e = put_short blank xs id new n (omega arith) (omega arith) in omega arith
+
+pub put_long : {T : Type 0} (blank : T) (xs : List T) (id : ℕ) (new : T) → length xs ≤ length (put blank xs id new)
+put_long blank [] id new = omega arith
+put_long blank (x ∷ xs) zero new = omega arith
+put_long blank (x ∷ xs) (suc id) new = let e = put_long blank xs id new in omega arith
+
+-- what is read after an entry more
+pub entry_last : {T : Type 0} (blank : T) (xs : List T) (x : T) → entry blank (xs ++ x ∷ []) (length xs) ≡ x
+entry_last blank [] x = refl
+entry_last blank (y ∷ ys) x = entry_last blank ys x
+
+pub entry_before : {T : Type 0} (blank : T) (xs : List T) (x : T) (id : ℕ) → id ≢ length xs → entry blank (xs ++ x ∷ []) id ≡ entry blank xs id
+entry_before blank [] x zero h = absurd (h refl)
+entry_before blank [] x (suc id) h = refl
+entry_before blank (y ∷ ys) x zero h = refl
+entry_before blank (y ∷ ys) x (suc id) h = entry_before blank ys x id (λ e. h (ap suc e))

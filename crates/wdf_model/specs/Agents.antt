@@ -82,6 +82,8 @@ pub record DeviceLine : Type 0 where
   pub trigger : Option WhenLine
   -- the tick at which it is due, if it is to come
   pub tick : Option ℕ
+  -- its number in the text
+  pub line : ℕ
 
 pub record Hardware : Type 0 where
   pub agent : ℕ
@@ -98,17 +100,22 @@ register_of d r = if r.device.0 == d then Some r.value else None
 
 abbrev pub when_line : Plan → ℕ → WhenLine → Option DeviceLine
 when_line plan d w =
-    if device_of_register plan w.register == d then Some (record { action = w.action; trigger = Some w; tick = None }) else None
+    if device_of_register plan w.register == d then Some (record { action = w.action; trigger = Some w; tick = None; line = w.line }) else None
 
 abbrev pub at_line : PostLine → Option DeviceLine
 at_line l = elim l.post as (λ _. Option DeviceLine) [
-  | post.Act a ↦ Some (record { action = a; trigger = None; tick = Some l.tick })
+  | post.Act a ↦ Some (record { action = a; trigger = None; tick = Some l.tick; line = l.line })
   | _ ↦ None
 ]
 
--- the lines of a device: those with `when` before those with `at`, each in the order of the text
+-- one more line among lines in the order of the text
+abbrev pub among : List DeviceLine → DeviceLine → List DeviceLine
+among [] l = l ∷ []
+among (m ∷ ms) l = if nat_le m.line l.line then m ∷ among ms l else l ∷ m ∷ ms
+
+-- the lines of a device, those with `when` and those with `at` in the order of the text
 abbrev pub device_lines : Plan → ℕ → ℕ → List DeviceLine
-device_lines plan d agent = filter_map (when_line plan d) plan.whens ++ filter_map at_line (posts_of plan agent)
+device_lines plan d agent = fold among (filter_map (when_line plan d) plan.whens) (filter_map at_line (posts_of plan agent))
 
 abbrev pub hardware_at : Plan → ℕ → ℕ → Hardware
 hardware_at plan d agent = record {

@@ -3,6 +3,10 @@
 #![tactic(auto)]
 
 mod enums;
+pub mod facts_of_events;
+pub mod facts_of_tables;
 pub mod laws;
+pub mod laws_of_runs;
+pub mod worked;
 
 pub use enums::{Group, Mode, Phase};

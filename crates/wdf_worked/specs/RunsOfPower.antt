@@ -1,6 +1,6 @@
--- Worked runs, computed from the definitions: they say what a reader expects of them. Made by
--- tools/scene_to_plan.py from scenarios and their traces.
-use Rattle.std.proofs.Common.{◌≡◌, List, [], ◌∷◌, Some, None, true, false, codes, refl}
+-- Worked runs: the plan of each, its events, and what it waits for where it is stuck. Made by
+-- tools/scene_to_plan.py from the scenarios and traces of tools/runs.
+use Rattle.std.specs.Prelude.{List, [], ◌∷◌, Some, None, true, false, codes}
 use Rattle.wdf_base.specs.declared.declared.Declared.TheVariants as declared
 use Rattle.wdf_base.specs.declared.declared.ClassInfo.TheVariants as class
 use Rattle.wdf_base.specs.declared.declared.PlainKind.TheVariants as plain
@@ -11,7 +11,6 @@ use Rattle.wdf_base.specs.declared.declared.DispatchKind.TheVariants as dispatch
 use Rattle.wdf_base.specs.declared.event.Ask.TheVariants as ask
 use Rattle.wdf_base.specs.declared.event.Post.TheVariants as post
 use Rattle.wdf_base.specs.declared.event.Stage.TheVariants as stage
-use Rattle.wdf_base.specs.declared.event.Ending.TheVariants as ending
 use Rattle.wdf_base.specs.declared.event.Event.{Event}
 use Rattle.wdf_base.specs.declared.event.Event.TheVariants as event
 use Rattle.wdf_base.specs.declared.script.ExprNode.TheVariants as node
@@ -28,9 +27,8 @@ use Rattle.wdf_base.specs.declared.plan.Plan.{Plan}
 use Rattle.wdf_base.specs.declared.event.Step.TheVariants as step
 use Rattle.wdf_base.specs.declared.wait.OpenThing.TheVariants as thing
 use Rattle.wdf_base.specs.declared.wait.Cause.TheVariants as cause
-use Rattle.wdf_model.specs.Script.{value_of}
-use Rattle.wdf_model.specs.Agreement.{agrees}
-use Rattle.wdf_model.proofs.Picking.{Course, events_of, ending_at, waits_at, run_by, is_kept, h, p, c, at, s, line}
+use Rattle.wdf_base.specs.declared.wait.WaitLine.{WaitLine}
+use Rattle.wdf_worked.specs.Writing.{h, p, c, at, s, line}
 
 abbrev pub deleted_timer_plan : Plan
 deleted_timer_plan = record {
@@ -44,7 +42,7 @@ deleted_timer_plan = record {
   classes = (class.Deferred 2 deferred.Timer (record { 0 = 2 }) false 0) ∷ [];
   registers = [];
   whens = [];
-  pnp = (at 0 (post.Ask ask.Start (h 2 3))) ∷ [];
+  pnp = (at 22 0 (post.Ask ask.Start (h 2 3))) ∷ [];
   agents = (record { name = 3; posts = [] })
       ∷ [];
   exprs = (node.Context context.OwnObject) ∷ (node.Number 1) ∷ (node.Number 2) ∷ (node.Variable 0) ∷ (node.Number 1) ∷ [];
@@ -104,21 +102,6 @@ deleted_timer_events = event.Posted 0 (post.Ask ask.Start (h 2 3)) None
     ∷ event.Destroy (h 3 2)
     ∷ []
 
-abbrev deleted_timer_run : Course
-deleted_timer_run = run_by deleted_timer_plan 22
-
-deleted_timer : events_of deleted_timer_run ≡ deleted_timer_events
-unfolding run_by value_of
-deleted_timer = refl
-
-deleted_timer_ends : ending_at deleted_timer_run ≡ ending.Finished
-unfolding run_by value_of
-deleted_timer_ends = refl
-
-deleted_timer_agrees : is_kept (agrees deleted_timer_plan) deleted_timer_plan 22 ≡ true
-unfolding is_kept value_of
-deleted_timer_agrees = refl
-
 abbrev pub failed_start_plan : Plan
 failed_start_plan = record {
   cpus = 1;
@@ -132,7 +115,7 @@ failed_start_plan = record {
   classes = [];
   registers = [];
   whens = [];
-  pnp = (at 0 (post.Ask ask.Start (h 2 2))) ∷ [];
+  pnp = (at 18 0 (post.Ask ask.Start (h 2 2))) ∷ [];
   agents = (record { name = 2; posts = [] })
       ∷ [];
   exprs = (node.Literal status.Unsuccessful) ∷ [];
@@ -181,21 +164,6 @@ failed_start_events = event.Posted 0 (post.Ask ask.Start (h 2 2)) None
     ∷ event.Destroy (h 2 2)
     ∷ []
 
-abbrev failed_start_run : Course
-failed_start_run = run_by failed_start_plan 15
-
-failed_start : events_of failed_start_run ≡ failed_start_events
-unfolding run_by value_of
-failed_start = refl
-
-failed_start_ends : ending_at failed_start_run ≡ ending.Finished
-unfolding run_by value_of
-failed_start_ends = refl
-
-failed_start_agrees : is_kept (agrees failed_start_plan) failed_start_plan 15 ≡ true
-unfolding is_kept value_of
-failed_start_agrees = refl
-
 abbrev pub leaked_reference_plan : Plan
 leaked_reference_plan = record {
   cpus = 1;
@@ -210,7 +178,7 @@ leaked_reference_plan = record {
   registers = [];
   whens = [];
   pnp = [];
-  agents = (record { name = 5; posts = (at 0 (post.Read (h 2 3) 16)) ∷ [] })
+  agents = (record { name = 5; posts = (at 18 0 (post.Read (h 2 3) 16)) ∷ [] })
       ∷ (record { name = 3; posts = [] })
       ∷ [];
   exprs = (node.Context context.NearestDevice) ∷ (node.Variable 0) ∷ (node.Variable 0) ∷ (node.Context context.OwnRequest) ∷ (node.Literal status.Success) ∷ [];
@@ -241,24 +209,8 @@ leaked_reference_events = event.Posted 1 (post.Read (h 2 3) 16) (Some (h 4 1))
     ∷ event.Destroy (h 4 1)
     ∷ []
 
-abbrev leaked_reference_run : Course
-leaked_reference_run = run_by leaked_reference_plan 12
-
-leaked_reference : events_of leaked_reference_run ≡ leaked_reference_events
-unfolding run_by value_of
-leaked_reference = refl
-
-leaked_reference_ends : ending_at leaked_reference_run ≡ ending.Stuck
-unfolding run_by value_of
-leaked_reference_ends = refl
-
-leaked_reference_agrees : is_kept (agrees leaked_reference_plan) leaked_reference_plan 12 ≡ true
-unfolding is_kept value_of
-leaked_reference_agrees = refl
-
-leaked_reference_waits : waits_at leaked_reference_run ≡ (line (thing.Leaving (h 5 2)) (Some (cause.References 1))) ∷ []
-unfolding run_by value_of
-leaked_reference_waits = refl
+abbrev pub leaked_reference_waits : List WaitLine
+leaked_reference_waits = (line (thing.Leaving (h 5 2)) (Some (cause.References 1))) ∷ []
 
 abbrev pub never_acknowledged_plan : Plan
 never_acknowledged_plan = record {
@@ -273,8 +225,8 @@ never_acknowledged_plan = record {
   classes = [];
   registers = [];
   whens = [];
-  pnp = (at 1 (post.Ask ask.Sleep (h 2 2))) ∷ [];
-  agents = (record { name = 4; posts = (at 0 (post.Read (h 2 2) 16)) ∷ [] })
+  pnp = (at 15 1 (post.Ask ask.Sleep (h 2 2))) ∷ [];
+  agents = (record { name = 4; posts = (at 12 0 (post.Read (h 2 2) 16)) ∷ [] })
       ∷ (record { name = 2; posts = [] })
       ∷ [];
   exprs = [];
@@ -297,24 +249,8 @@ never_acknowledged_events = event.Posted 1 (post.Read (h 2 2) 16) (Some (h 4 1))
     ∷ event.Stage (h 2 2) stage.QueuesDown None
     ∷ []
 
-abbrev never_acknowledged_run : Course
-never_acknowledged_run = run_by never_acknowledged_plan 8
-
-never_acknowledged : events_of never_acknowledged_run ≡ never_acknowledged_events
-unfolding run_by value_of
-never_acknowledged = refl
-
-never_acknowledged_ends : ending_at never_acknowledged_run ≡ ending.Stuck
-unfolding run_by value_of
-never_acknowledged_ends = refl
-
-never_acknowledged_agrees : is_kept (agrees never_acknowledged_plan) never_acknowledged_plan 8 ≡ true
-unfolding is_kept value_of
-never_acknowledged_agrees = refl
-
-never_acknowledged_waits : waits_at never_acknowledged_run ≡ (line (thing.Owned (h 4 1)) None) ∷ (line (thing.Sequence (h 2 2) (step.Pass stage.Settled None)) (Some (cause.ByRequest (h 4 1)))) ∷ []
-unfolding run_by value_of
-never_acknowledged_waits = refl
+abbrev pub never_acknowledged_waits : List WaitLine
+never_acknowledged_waits = (line (thing.Owned (h 4 1)) None) ∷ (line (thing.Sequence (h 2 2) (step.Pass stage.Settled None)) (Some (cause.ByRequest (h 4 1)))) ∷ []
 
 abbrev pub removed_plan : Plan
 removed_plan = record {
@@ -331,8 +267,8 @@ removed_plan = record {
   classes = [];
   registers = [];
   whens = [];
-  pnp = (at 1 (post.Ask ask.Remove (h 2 2))) ∷ [];
-  agents = (record { name = 6; posts = (at 0 (post.Read (h 2 2) 1)) ∷ (at 0 (post.Read (h 2 2) 1)) ∷ (at 0 (post.Write (h 2 2) 1)) ∷ [] })
+  pnp = (at 31 1 (post.Ask ask.Remove (h 2 2))) ∷ [];
+  agents = (record { name = 6; posts = (at 26 0 (post.Read (h 2 2) 1)) ∷ (at 27 0 (post.Read (h 2 2) 1)) ∷ (at 28 0 (post.Write (h 2 2) 1)) ∷ [] })
       ∷ (record { name = 2; posts = [] })
       ∷ (record { name = 5; posts = [] })
       ∷ [];
@@ -409,21 +345,6 @@ removed_events = event.Posted 1 (post.Read (h 2 2) 1) (Some (h 6 1))
     ∷ event.Destroy (h 2 2)
     ∷ []
 
-abbrev removed_run : Course
-removed_run = run_by removed_plan 40
-
-removed : events_of removed_run ≡ removed_events
-unfolding run_by value_of
-removed = refl
-
-removed_ends : ending_at removed_run ≡ ending.Finished
-unfolding run_by value_of
-removed_ends = refl
-
-removed_agrees : is_kept (agrees removed_plan) removed_plan 40 ≡ true
-unfolding is_kept value_of
-removed_agrees = refl
-
 abbrev pub sleep_and_wake_plan : Plan
 sleep_and_wake_plan = record {
   cpus = 1;
@@ -437,8 +358,8 @@ sleep_and_wake_plan = record {
   classes = [];
   registers = [];
   whens = [];
-  pnp = (at 1 (post.Ask ask.Sleep (h 2 2))) ∷ (at 2 (post.Ask ask.Wake (h 2 2))) ∷ [];
-  agents = (record { name = 4; posts = (at 0 (post.Read (h 2 2) 1)) ∷ (at 0 (post.Read (h 2 2) 2)) ∷ (at 0 (post.Read (h 2 2) 3)) ∷ [] })
+  pnp = (at 39 1 (post.Ask ask.Sleep (h 2 2))) ∷ (at 40 2 (post.Ask ask.Wake (h 2 2))) ∷ [];
+  agents = (record { name = 4; posts = (at 34 0 (post.Read (h 2 2) 1)) ∷ (at 35 0 (post.Read (h 2 2) 2)) ∷ (at 36 0 (post.Read (h 2 2) 3)) ∷ [] })
       ∷ (record { name = 2; posts = [] })
       ∷ [];
   exprs = (node.Context context.OwnRequest) ∷ (node.Number 0) ∷ (node.Variable 0) ∷ (node.Number 1) ∷ (node.Binary operator.Equals 2 3) ∷ (node.Context context.OwnRequest) ∷ (node.Literal status.Success) ∷ (node.Context context.OwnRequest) ∷ (node.Number 0) ∷ (node.Number 1) ∷ (node.Context context.RequestLength) ∷ (node.Number 1) ∷ (node.Binary operator.Equals 10 11) ∷ (node.Context context.OwnRequest) ∷ (node.Number 0) ∷ (node.Context context.RequestLength) ∷ (node.Number 2) ∷ (node.Binary operator.Equals 15 16) ∷ (node.Context context.OwnRequest) ∷ (node.Number 1) ∷ (node.Context context.RequestLength) ∷ (node.Number 3) ∷ (node.Binary operator.Equals 20 21) ∷ (node.Context context.OwnRequest) ∷ (node.Literal status.Success) ∷ (node.Context context.OwnRequest) ∷ (node.Literal status.Success) ∷ [];
@@ -544,18 +465,3 @@ sleep_and_wake_events = event.Posted 1 (post.Read (h 2 2) 1) (Some (h 4 1))
     ∷ event.Destroy (h 4 1)
     ∷ event.Destroy (h 5 1)
     ∷ []
-
-abbrev sleep_and_wake_run : Course
-sleep_and_wake_run = run_by sleep_and_wake_plan 63
-
-sleep_and_wake : events_of sleep_and_wake_run ≡ sleep_and_wake_events
-unfolding run_by value_of
-sleep_and_wake = refl
-
-sleep_and_wake_ends : ending_at sleep_and_wake_run ≡ ending.Finished
-unfolding run_by value_of
-sleep_and_wake_ends = refl
-
-sleep_and_wake_agrees : is_kept (agrees sleep_and_wake_plan) sleep_and_wake_plan 63 ≡ true
-unfolding is_kept value_of
-sleep_and_wake_agrees = refl

@@ -1,6 +1,6 @@
--- Worked runs, computed from the definitions: they say what a reader expects of them. Made by
--- tools/scene_to_plan.py from scenarios and their traces.
-use Rattle.std.proofs.Common.{◌≡◌, List, [], ◌∷◌, Some, None, true, false, codes, refl}
+-- Worked runs: the plan of each, its events, and what it waits for where it is stuck. Made by
+-- tools/scene_to_plan.py from the scenarios and traces of tools/runs.
+use Rattle.std.specs.Prelude.{List, [], ◌∷◌, Some, None, true, false, codes}
 use Rattle.wdf_base.specs.declared.declared.Declared.TheVariants as declared
 use Rattle.wdf_base.specs.declared.declared.ClassInfo.TheVariants as class
 use Rattle.wdf_base.specs.declared.declared.PlainKind.TheVariants as plain
@@ -13,7 +13,6 @@ use Rattle.wdf_base.specs.declared.event.Action.TheVariants as action
 use Rattle.wdf_base.specs.declared.event.Ask.TheVariants as ask
 use Rattle.wdf_base.specs.declared.event.Post.TheVariants as post
 use Rattle.wdf_base.specs.declared.event.Stage.TheVariants as stage
-use Rattle.wdf_base.specs.declared.event.Ending.TheVariants as ending
 use Rattle.wdf_base.specs.declared.event.Event.{Event}
 use Rattle.wdf_base.specs.declared.event.Event.TheVariants as event
 use Rattle.wdf_base.specs.declared.script.ExprNode.TheVariants as node
@@ -28,9 +27,8 @@ use Rattle.wdf_base.specs.declared.value.Value.TheVariants.{Num, Obj, Stat}
 use Rattle.wdf_base.specs.declared.plan.Plan.{Plan}
 use Rattle.wdf_base.specs.declared.wait.OpenThing.TheVariants as thing
 use Rattle.wdf_base.specs.declared.wait.Cause.TheVariants as cause
-use Rattle.wdf_model.specs.Script.{value_of}
-use Rattle.wdf_model.specs.Agreement.{agrees}
-use Rattle.wdf_model.proofs.Picking.{Course, events_of, ending_at, waits_at, run_by, is_kept, h, p, f, c, at, s, line}
+use Rattle.wdf_base.specs.declared.wait.WaitLine.{WaitLine}
+use Rattle.wdf_worked.specs.Writing.{h, p, f, c, at, s, line}
 
 abbrev pub blocked_dpc_plan : Plan
 blocked_dpc_plan = record {
@@ -46,7 +44,7 @@ blocked_dpc_plan = record {
   registers = [];
   whens = [];
   pnp = [];
-  agents = (record { name = 7; posts = (at 0 (post.Read (h 2 5) 1)) ∷ (at 0 (post.Read (h 2 5) 1)) ∷ [] })
+  agents = (record { name = 7; posts = (at 41 0 (post.Read (h 2 5) 1)) ∷ (at 42 0 (post.Read (h 2 5) 1)) ∷ [] })
       ∷ (record { name = 5; posts = [] })
       ∷ [];
   exprs = (node.Context context.NearestDevice) ∷ (node.Number 0) ∷ (node.Context context.NearestDevice) ∷ (node.Number 1) ∷ (node.Variable 1) ∷ (node.Number 1) ∷ (node.Variable 0) ∷ (node.Number 1) ∷ (node.Context context.NearestDevice) ∷ (node.Context context.NearestDevice) ∷ (node.Context context.NearestDevice) ∷ (node.Number 0) ∷ (node.Variable 0) ∷ (node.Context context.NearestDevice) ∷ (node.Number 1) ∷ (node.Variable 1) ∷ (node.Variable 2) ∷ (node.Variable 3) ∷ (node.Variable 0) ∷ (node.Number 1) ∷ (node.Variable 1) ∷ [];
@@ -113,24 +111,8 @@ blocked_dpc_events = event.Posted 1 (post.Read (h 2 5) 1) (Some (h 4 1))
     ∷ event.Waiting (p 1) (c call.WdfSpinLockAcquire 1 (Val (Obj (h 5 2))) (Val (Num 0)) (Val (Num 0)))
     ∷ []
 
-abbrev blocked_dpc_run : Course
-blocked_dpc_run = run_by blocked_dpc_plan 23
-
-blocked_dpc : events_of blocked_dpc_run ≡ blocked_dpc_events
-unfolding run_by value_of
-blocked_dpc = refl
-
-blocked_dpc_ends : ending_at blocked_dpc_run ≡ ending.Stuck
-unfolding run_by value_of
-blocked_dpc_ends = refl
-
-blocked_dpc_agrees : is_kept (agrees blocked_dpc_plan) blocked_dpc_plan 23 ≡ true
-unfolding is_kept value_of
-blocked_dpc_agrees = refl
-
-blocked_dpc_waits : waits_at blocked_dpc_run ≡ (line (thing.Waiting (f 2) callback.EvtIoRead (h 3 6)) (Some (cause.ByLock (h 6 2) (f 13)))) ∷ (line (thing.Waiting (f 13) callback.EvtWorkItem (h 8 3)) (Some (cause.ByLock (h 5 2) (f 2)))) ∷ (line (thing.Owned (h 4 1)) None) ∷ (line (thing.Queued (h 9 1) (h 3 6)) (Some (cause.Full))) ∷ (line (thing.Deferred (h 7 4)) (Some (cause.ScopeHeld))) ∷ []
-unfolding run_by value_of
-blocked_dpc_waits = refl
+abbrev pub blocked_dpc_waits : List WaitLine
+blocked_dpc_waits = (line (thing.Waiting (f 2) callback.EvtIoRead (h 3 6)) (Some (cause.ByLock (h 6 2) (f 13)))) ∷ (line (thing.Waiting (f 13) callback.EvtWorkItem (h 8 3)) (Some (cause.ByLock (h 5 2) (f 2)))) ∷ (line (thing.Owned (h 4 1)) None) ∷ (line (thing.Queued (h 9 1) (h 3 6)) (Some (cause.Full))) ∷ (line (thing.Deferred (h 7 4)) (Some (cause.ScopeHeld))) ∷ []
 
 abbrev pub deadlock_plan : Plan
 deadlock_plan = record {
@@ -144,7 +126,7 @@ deadlock_plan = record {
   classes = (class.Plain 2 plain.WaitLock) ∷ (class.Deferred 3 deferred.WorkItem (record { 0 = 2 }) false 0) ∷ (class.Deferred 4 deferred.WorkItem (record { 0 = 2 }) false 0) ∷ [];
   registers = [];
   whens = [];
-  pnp = (at 0 (post.Ask ask.Start (h 2 5))) ∷ [];
+  pnp = (at 37 0 (post.Ask ask.Start (h 2 5))) ∷ [];
   agents = (record { name = 5; posts = [] })
       ∷ [];
   exprs = (node.Context context.NearestDevice) ∷ (node.Number 0) ∷ (node.Context context.NearestDevice) ∷ (node.Number 1) ∷ (node.Variable 0) ∷ (node.Number 1) ∷ (node.Variable 1) ∷ (node.Context context.NearestDevice) ∷ (node.Number 0) ∷ (node.Context context.NearestDevice) ∷ (node.Number 1) ∷ (node.Variable 1) ∷ (node.Number 1) ∷ (node.Variable 0) ∷ (node.Context context.NearestDevice) ∷ (node.Context context.NearestDevice) ∷ (node.Context context.NearestDevice) ∷ (node.Number 0) ∷ (node.Variable 0) ∷ (node.Context context.NearestDevice) ∷ (node.Number 1) ∷ (node.Variable 1) ∷ (node.Variable 2) ∷ (node.Variable 3) ∷ [];
@@ -220,24 +202,8 @@ deadlock_events = event.Posted 0 (post.Ask ask.Start (h 2 5)) None
     ∷ event.Park (p 1) (f 18)
     ∷ []
 
-abbrev deadlock_run : Course
-deadlock_run = run_by deadlock_plan 31
-
-deadlock : events_of deadlock_run ≡ deadlock_events
-unfolding run_by value_of
-deadlock = refl
-
-deadlock_ends : ending_at deadlock_run ≡ ending.Stuck
-unfolding run_by value_of
-deadlock_ends = refl
-
-deadlock_agrees : is_kept (agrees deadlock_plan) deadlock_plan 31 ≡ true
-unfolding is_kept value_of
-deadlock_agrees = refl
-
-deadlock_waits : waits_at deadlock_run ≡ (line (thing.Waiting (f 13) callback.EvtWorkItem (h 5 3)) (Some (cause.ByLock (h 4 2) (f 18)))) ∷ (line (thing.Waiting (f 18) callback.EvtWorkItem (h 6 4)) (Some (cause.ByLock (h 3 2) (f 13)))) ∷ []
-unfolding run_by value_of
-deadlock_waits = refl
+abbrev pub deadlock_waits : List WaitLine
+deadlock_waits = (line (thing.Waiting (f 13) callback.EvtWorkItem (h 5 3)) (Some (cause.ByLock (h 4 2) (f 18)))) ∷ (line (thing.Waiting (f 18) callback.EvtWorkItem (h 6 4)) (Some (cause.ByLock (h 3 2) (f 13)))) ∷ []
 
 abbrev pub device_scope_plan : Plan
 device_scope_plan = record {
@@ -254,7 +220,7 @@ device_scope_plan = record {
   registers = [];
   whens = [];
   pnp = [];
-  agents = (record { name = 5; posts = (at 0 (post.Read (h 2 2) 8)) ∷ (at 0 (post.Write (h 2 2) 8)) ∷ [] })
+  agents = (record { name = 5; posts = (at 21 0 (post.Read (h 2 2) 8)) ∷ (at 22 0 (post.Write (h 2 2) 8)) ∷ [] })
       ∷ (record { name = 2; posts = [] })
       ∷ [];
   exprs = (node.Number 1) ∷ (node.Context context.OwnRequest) ∷ (node.Literal status.Success) ∷ (node.Context context.OwnRequest) ∷ (node.Literal status.Success) ∷ [];
@@ -294,21 +260,6 @@ device_scope_events = event.Posted 1 (post.Read (h 2 2) 8) (Some (h 5 1))
     ∷ event.Destroy (h 6 1)
     ∷ []
 
-abbrev device_scope_run : Course
-device_scope_run = run_by device_scope_plan 16
-
-device_scope : events_of device_scope_run ≡ device_scope_events
-unfolding run_by value_of
-device_scope = refl
-
-device_scope_ends : ending_at device_scope_run ≡ ending.Finished
-unfolding run_by value_of
-device_scope_ends = refl
-
-device_scope_agrees : is_kept (agrees device_scope_plan) device_scope_plan 16 ≡ true
-unfolding is_kept value_of
-device_scope_agrees = refl
-
 abbrev pub isr_and_dpc_plan : Plan
 isr_and_dpc_plan = record {
   cpus = 1;
@@ -321,8 +272,8 @@ isr_and_dpc_plan = record {
       ∷ [];
   classes = (class.Plain 2 plain.SpinLock) ∷ [];
   registers = (record { name = 4; device = record { 0 = 2 }; value = 1 }) ∷ (record { name = 5; device = record { 0 = 2 }; value = 0 }) ∷ [];
-  whens = (record { access = access.Write; register = 1; action = action.Raise (h 3 6); after = 0 }) ∷ (record { access = access.Read; register = 0; action = action.Lower (h 3 6); after = 0 }) ∷ [];
-  pnp = (at 0 (post.Ask ask.Start (h 2 3))) ∷ [];
+  whens = (record { access = access.Write; register = 1; action = action.Raise (h 3 6); after = 0; line = 9 }) ∷ (record { access = access.Read; register = 0; action = action.Lower (h 3 6); after = 0; line = 10 }) ∷ [];
+  pnp = (at 29 0 (post.Ask ask.Start (h 2 3))) ∷ [];
   agents = (record { name = 3; posts = [] })
       ∷ [];
   exprs = (node.Context context.OwnObject) ∷ (node.Context context.OwnObject) ∷ (node.Number 7) ∷ (node.Context context.NearestDevice) ∷ (node.Variable 0) ∷ (node.Number 1) ∷ (node.Variable 0) ∷ [];
@@ -378,21 +329,6 @@ isr_and_dpc_events = event.Posted 0 (post.Ask ask.Start (h 2 3)) None
     ∷ event.Stage (h 2 3) stage.Working None
     ∷ []
 
-abbrev isr_and_dpc_run : Course
-isr_and_dpc_run = run_by isr_and_dpc_plan 21
-
-isr_and_dpc : events_of isr_and_dpc_run ≡ isr_and_dpc_events
-unfolding run_by value_of
-isr_and_dpc = refl
-
-isr_and_dpc_ends : ending_at isr_and_dpc_run ≡ ending.Finished
-unfolding run_by value_of
-isr_and_dpc_ends = refl
-
-isr_and_dpc_agrees : is_kept (agrees isr_and_dpc_plan) isr_and_dpc_plan 21 ≡ true
-unfolding is_kept value_of
-isr_and_dpc_agrees = refl
-
 abbrev pub passive_interrupt_plan : Plan
 passive_interrupt_plan = record {
   cpus = 2;
@@ -405,8 +341,8 @@ passive_interrupt_plan = record {
       ∷ [];
   classes = [];
   registers = (record { name = 3; device = record { 0 = 2 }; value = 0 }) ∷ [];
-  whens = (record { access = access.Write; register = 0; action = action.Raise (h 3 4); after = 0 }) ∷ (record { access = access.Read; register = 0; action = action.Lower (h 3 4); after = 0 }) ∷ [];
-  pnp = (at 0 (post.Ask ask.Start (h 2 2))) ∷ (at 3 (post.Ask ask.Surprise (h 2 2))) ∷ [];
+  whens = (record { access = access.Write; register = 0; action = action.Raise (h 3 4); after = 0; line = 7 }) ∷ (record { access = access.Read; register = 0; action = action.Lower (h 3 4); after = 0; line = 8 }) ∷ [];
+  pnp = (at 31 0 (post.Ask ask.Start (h 2 2))) ∷ (at 32 3 (post.Ask ask.Surprise (h 2 2))) ∷ [];
   agents = (record { name = 2; posts = [] })
       ∷ [];
   exprs = (node.Variable 0) ∷ (node.Number 1) ∷ (node.Number 2) ∷ (node.Object (h 3 4)) ∷ (node.Number 5) ∷ (node.Number 1) ∷ (node.Object (h 3 4)) ∷ (node.Object (h 3 4)) ∷ (node.Object (h 3 4)) ∷ [];
@@ -492,21 +428,6 @@ passive_interrupt_events = event.Posted 0 (post.Ask ask.Start (h 2 2)) None
     ∷ event.Destroy (h 2 2)
     ∷ []
 
-abbrev passive_interrupt_run : Course
-passive_interrupt_run = run_by passive_interrupt_plan 43
-
-passive_interrupt : events_of passive_interrupt_run ≡ passive_interrupt_events
-unfolding run_by value_of
-passive_interrupt = refl
-
-passive_interrupt_ends : ending_at passive_interrupt_run ≡ ending.Finished
-unfolding run_by value_of
-passive_interrupt_ends = refl
-
-passive_interrupt_agrees : is_kept (agrees passive_interrupt_plan) passive_interrupt_plan 43 ≡ true
-unfolding is_kept value_of
-passive_interrupt_agrees = refl
-
 abbrev pub periodic_timer_plan : Plan
 periodic_timer_plan = record {
   cpus = 2;
@@ -519,7 +440,7 @@ periodic_timer_plan = record {
   classes = (class.Deferred 2 deferred.Timer (record { 0 = 2 }) true 2) ∷ (class.Deferred 3 deferred.WorkItem (record { 0 = 2 }) false 0) ∷ [];
   registers = [];
   whens = [];
-  pnp = (at 0 (post.Ask ask.Start (h 2 4))) ∷ [];
+  pnp = (at 33 0 (post.Ask ask.Start (h 2 4))) ∷ [];
   agents = (record { name = 4; posts = [] })
       ∷ [];
   exprs = (node.Number 1) ∷ (node.Number 1) ∷ (node.Context context.NearestDevice) ∷ (node.Number 0) ∷ (node.Variable 0) ∷ (node.Number 1) ∷ (node.Variable 1) ∷ (node.Variable 0) ∷ (node.Context context.NearestDevice) ∷ (node.Number 0) ∷ (node.Variable 0) ∷ (node.Variable 0) ∷ (node.Number 1) ∷ (node.Variable 0) ∷ (node.Number 1) ∷ (node.Number 3) ∷ (node.Variable 2) ∷ [];
@@ -596,18 +517,3 @@ periodic_timer_events = event.Posted 0 (post.Ask ask.Start (h 2 4)) None
     ∷ event.Cleanup (h 3 2)
     ∷ event.Destroy (h 3 2)
     ∷ []
-
-abbrev periodic_timer_run : Course
-periodic_timer_run = run_by periodic_timer_plan 38
-
-periodic_timer : events_of periodic_timer_run ≡ periodic_timer_events
-unfolding run_by value_of
-periodic_timer = refl
-
-periodic_timer_ends : ending_at periodic_timer_run ≡ ending.Finished
-unfolding run_by value_of
-periodic_timer_ends = refl
-
-periodic_timer_agrees : is_kept (agrees periodic_timer_plan) periodic_timer_plan 38 ≡ true
-unfolding is_kept value_of
-periodic_timer_agrees = refl

@@ -1,6 +1,6 @@
--- Worked runs, computed from the definitions: they say what a reader expects of them. Made by
--- tools/scene_to_plan.py from scenarios and their traces.
-use Rattle.std.proofs.Common.{◌≡◌, List, [], ◌∷◌, Some, None, true, false, codes, refl}
+-- Worked runs: the plan of each, its events, and what it waits for where it is stuck. Made by
+-- tools/scene_to_plan.py from the scenarios and traces of tools/runs.
+use Rattle.std.specs.Prelude.{List, [], ◌∷◌, Some, None, true, false, codes}
 use Rattle.wdf_base.specs.declared.declared.Declared.TheVariants as declared
 use Rattle.wdf_base.specs.declared.declared.ClassInfo.TheVariants as class
 use Rattle.wdf_base.specs.declared.declared.DeferredKind.TheVariants as deferred
@@ -9,7 +9,6 @@ use Rattle.wdf_base.specs.declared.declared.ExecutionLevel.TheVariants as level
 use Rattle.wdf_base.specs.declared.declared.DispatchKind.TheVariants as dispatch
 use Rattle.wdf_base.specs.declared.event.Post.TheVariants as post
 use Rattle.wdf_base.specs.declared.event.Fault.TheVariants as fault
-use Rattle.wdf_base.specs.declared.event.Ending.TheVariants as ending
 use Rattle.wdf_base.specs.declared.event.Event.{Event}
 use Rattle.wdf_base.specs.declared.event.Event.TheVariants as event
 use Rattle.wdf_base.specs.declared.script.ExprNode.TheVariants as node
@@ -23,9 +22,7 @@ use Rattle.wdf_base.specs.declared.call.Callback.TheVariants as callback
 use Rattle.wdf_base.specs.declared.value.Status.TheVariants as status
 use Rattle.wdf_base.specs.declared.value.Value.TheVariants.{Num, Obj, Stat}
 use Rattle.wdf_base.specs.declared.plan.Plan.{Plan}
-use Rattle.wdf_model.specs.Script.{value_of}
-use Rattle.wdf_model.specs.Agreement.{agrees}
-use Rattle.wdf_model.proofs.Picking.{Course, events_of, ending_at, run_by, is_kept, h, p, f, c, at, s}
+use Rattle.wdf_worked.specs.Writing.{h, p, f, c, at, s}
 
 abbrev pub cancel_comes_first_plan : Plan
 cancel_comes_first_plan = record {
@@ -41,7 +38,7 @@ cancel_comes_first_plan = record {
   registers = [];
   whens = [];
   pnp = [];
-  agents = (record { name = 4; posts = (at 0 (post.Read (h 2 2) 16)) ∷ (at 0 (post.Cancel 1)) ∷ [] })
+  agents = (record { name = 4; posts = (at 20 0 (post.Read (h 2 2) 16)) ∷ (at 21 0 (post.Cancel 1)) ∷ [] })
       ∷ (record { name = 2; posts = [] })
       ∷ [];
   exprs = (node.Context context.OwnRequest) ∷ (node.Context context.OwnRequest) ∷ (node.Variable 1) ∷ (node.Literal status.Success) ∷ (node.Binary operator.Equals 2 3) ∷ (node.Context context.OwnRequest) ∷ (node.Literal status.Success) ∷ (node.Context context.OwnRequest) ∷ (node.Literal status.Cancelled) ∷ [];
@@ -81,21 +78,6 @@ cancel_comes_first_events = event.Posted 1 (post.Read (h 2 2) 16) (Some (h 4 1))
     ∷ event.Destroy (h 4 1)
     ∷ []
 
-abbrev cancel_comes_first_run : Course
-cancel_comes_first_run = run_by cancel_comes_first_plan 14
-
-cancel_comes_first : events_of cancel_comes_first_run ≡ cancel_comes_first_events
-unfolding run_by value_of
-cancel_comes_first = refl
-
-cancel_comes_first_ends : ending_at cancel_comes_first_run ≡ ending.Finished
-unfolding run_by value_of
-cancel_comes_first_ends = refl
-
-cancel_comes_first_agrees : is_kept (agrees cancel_comes_first_plan) cancel_comes_first_plan 14 ≡ true
-unfolding is_kept value_of
-cancel_comes_first_agrees = refl
-
 abbrev pub completed_too_early_plan : Plan
 completed_too_early_plan = record {
   cpus = 1;
@@ -110,7 +92,7 @@ completed_too_early_plan = record {
   registers = [];
   whens = [];
   pnp = [];
-  agents = (record { name = 4; posts = (at 0 (post.Read (h 2 2) 16)) ∷ (at 0 (post.Cancel 1)) ∷ [] })
+  agents = (record { name = 4; posts = (at 18 0 (post.Read (h 2 2) 16)) ∷ (at 19 0 (post.Cancel 1)) ∷ [] })
       ∷ (record { name = 2; posts = [] })
       ∷ [];
   exprs = (node.Context context.OwnRequest) ∷ (node.Context context.OwnRequest) ∷ (node.Context context.OwnRequest) ∷ (node.Literal status.Success) ∷ (node.Context context.OwnRequest) ∷ (node.Literal status.Cancelled) ∷ [];
@@ -143,21 +125,6 @@ completed_too_early_events = event.Posted 1 (post.Read (h 2 2) 16) (Some (h 4 1)
     ∷ event.Fault (p 0) fault.CompleteBeforeCancelCallback 10
     ∷ []
 
-abbrev completed_too_early_run : Course
-completed_too_early_run = run_by completed_too_early_plan 8
-
-completed_too_early : events_of completed_too_early_run ≡ completed_too_early_events
-unfolding run_by value_of
-completed_too_early = refl
-
-completed_too_early_ends : ending_at completed_too_early_run ≡ ending.Fault fault.CompleteBeforeCancelCallback
-unfolding run_by value_of
-completed_too_early_ends = refl
-
-completed_too_early_agrees : is_kept (agrees completed_too_early_plan) completed_too_early_plan 8 ≡ true
-unfolding is_kept value_of
-completed_too_early_agrees = refl
-
 abbrev pub notified_plan : Plan
 notified_plan = record {
   cpus = 1;
@@ -173,7 +140,7 @@ notified_plan = record {
   registers = [];
   whens = [];
   pnp = [];
-  agents = (record { name = 5; posts = (at 0 (post.Read (h 2 2) 16)) ∷ [] })
+  agents = (record { name = 5; posts = (at 21 0 (post.Read (h 2 2) 16)) ∷ [] })
       ∷ (record { name = 2; posts = [] })
       ∷ [];
   exprs = (node.Object (h 4 4)) ∷ (node.Number 1) ∷ (node.Context context.OwnRequest) ∷ (node.Object (h 4 4)) ∷ (node.Context context.OwnObject) ∷ (node.Context context.OwnObject) ∷ (node.Variable 0) ∷ (node.Literal status.Success) ∷ [];
@@ -213,21 +180,6 @@ notified_events = event.Posted 1 (post.Read (h 2 2) 16) (Some (h 5 1))
     ∷ event.Destroy (h 5 1)
     ∷ []
 
-abbrev notified_run : Course
-notified_run = run_by notified_plan 14
-
-notified : events_of notified_run ≡ notified_events
-unfolding run_by value_of
-notified = refl
-
-notified_ends : ending_at notified_run ≡ ending.Finished
-unfolding run_by value_of
-notified_ends = refl
-
-notified_agrees : is_kept (agrees notified_plan) notified_plan 14 ≡ true
-unfolding is_kept value_of
-notified_agrees = refl
-
 abbrev pub one_read_plan : Plan
 one_read_plan = record {
   cpus = 1;
@@ -242,7 +194,7 @@ one_read_plan = record {
   registers = [];
   whens = [];
   pnp = [];
-  agents = (record { name = 4; posts = (at 0 (post.Read (h 2 2) 16)) ∷ [] })
+  agents = (record { name = 4; posts = (at 13 0 (post.Read (h 2 2) 16)) ∷ [] })
       ∷ (record { name = 2; posts = [] })
       ∷ [];
   exprs = (node.Context context.OwnRequest) ∷ (node.Literal status.Success) ∷ [];
@@ -266,21 +218,6 @@ one_read_events = event.Posted 1 (post.Read (h 2 2) 16) (Some (h 4 1))
     ∷ event.Destroy (h 4 1)
     ∷ []
 
-abbrev one_read_run : Course
-one_read_run = run_by one_read_plan 8
-
-one_read : events_of one_read_run ≡ one_read_events
-unfolding run_by value_of
-one_read = refl
-
-one_read_ends : ending_at one_read_run ≡ ending.Finished
-unfolding run_by value_of
-one_read_ends = refl
-
-one_read_agrees : is_kept (agrees one_read_plan) one_read_plan 8 ≡ true
-unfolding is_kept value_of
-one_read_agrees = refl
-
 abbrev pub purged_plan : Plan
 purged_plan = record {
   cpus = 1;
@@ -296,7 +233,7 @@ purged_plan = record {
   registers = [];
   whens = [];
   pnp = [];
-  agents = (record { name = 6; posts = (at 0 (post.Read (h 2 3) 1)) ∷ (at 0 (post.Read (h 2 3) 2)) ∷ (at 0 (post.Read (h 2 3) 3)) ∷ (at 1 (post.Cancel 1)) ∷ [] })
+  agents = (record { name = 6; posts = (at 36 0 (post.Read (h 2 3) 1)) ∷ (at 37 0 (post.Read (h 2 3) 2)) ∷ (at 38 0 (post.Read (h 2 3) 3)) ∷ (at 39 1 (post.Cancel 1)) ∷ [] })
       ∷ (record { name = 3; posts = [] })
       ∷ [];
   exprs = (node.Object (h 4 5)) ∷ (node.Variable 0) ∷ (node.Object (h 4 5)) ∷ (node.Context context.RequestLength) ∷ (node.Number 3) ∷ (node.Binary operator.Equals 3 4) ∷ (node.Variable 0) ∷ (node.Context context.OwnRequest) ∷ (node.Literal status.Success) ∷ (node.Context context.OwnRequest) ∷ (node.Object (h 4 5)) ∷ (node.Context context.RequestLength) ∷ (node.Context context.OwnRequest) ∷ (node.Literal status.Cancelled) ∷ [];
@@ -376,21 +313,6 @@ purged_events = event.Posted 1 (post.Read (h 2 3) 1) (Some (h 5 1))
     ∷ event.Posted 1 (post.Cancel 1) None
     ∷ []
 
-abbrev purged_run : Course
-purged_run = run_by purged_plan 43
-
-purged : events_of purged_run ≡ purged_events
-unfolding run_by value_of
-purged = refl
-
-purged_ends : ending_at purged_run ≡ ending.Finished
-unfolding run_by value_of
-purged_ends = refl
-
-purged_agrees : is_kept (agrees purged_plan) purged_plan 43 ≡ true
-unfolding is_kept value_of
-purged_agrees = refl
-
 abbrev pub returned_by_cancel_plan : Plan
 returned_by_cancel_plan = record {
   cpus = 1;
@@ -405,7 +327,7 @@ returned_by_cancel_plan = record {
   registers = [];
   whens = [];
   pnp = [];
-  agents = (record { name = 4; posts = (at 0 (post.Read (h 2 2) 16)) ∷ (at 0 (post.Cancel 1)) ∷ [] })
+  agents = (record { name = 4; posts = (at 17 0 (post.Read (h 2 2) 16)) ∷ (at 18 0 (post.Cancel 1)) ∷ [] })
       ∷ (record { name = 2; posts = [] })
       ∷ [];
   exprs = (node.Context context.OwnObject) ∷ (node.Context context.OwnRequest) ∷ (node.Context context.OwnRequest) ∷ (node.Literal status.Cancelled) ∷ [];
@@ -442,21 +364,6 @@ returned_by_cancel_events = event.Posted 1 (post.Read (h 2 2) 16) (Some (h 4 1))
     ∷ event.Destroy (h 4 1)
     ∷ []
 
-abbrev returned_by_cancel_run : Course
-returned_by_cancel_run = run_by returned_by_cancel_plan 13
-
-returned_by_cancel : events_of returned_by_cancel_run ≡ returned_by_cancel_events
-unfolding run_by value_of
-returned_by_cancel = refl
-
-returned_by_cancel_ends : ending_at returned_by_cancel_run ≡ ending.Finished
-unfolding run_by value_of
-returned_by_cancel_ends = refl
-
-returned_by_cancel_agrees : is_kept (agrees returned_by_cancel_plan) returned_by_cancel_plan 13 ≡ true
-unfolding is_kept value_of
-returned_by_cancel_agrees = refl
-
 abbrev pub unmark_comes_first_plan : Plan
 unmark_comes_first_plan = record {
   cpus = 1;
@@ -471,7 +378,7 @@ unmark_comes_first_plan = record {
   registers = [];
   whens = [];
   pnp = [];
-  agents = (record { name = 4; posts = (at 0 (post.Read (h 2 2) 16)) ∷ (at 0 (post.Cancel 1)) ∷ [] })
+  agents = (record { name = 4; posts = (at 20 0 (post.Read (h 2 2) 16)) ∷ (at 21 0 (post.Cancel 1)) ∷ [] })
       ∷ (record { name = 2; posts = [] })
       ∷ [];
   exprs = (node.Context context.OwnRequest) ∷ (node.Context context.OwnRequest) ∷ (node.Variable 1) ∷ (node.Literal status.Success) ∷ (node.Binary operator.Equals 2 3) ∷ (node.Context context.OwnRequest) ∷ (node.Literal status.Success) ∷ (node.Context context.OwnRequest) ∷ (node.Literal status.Cancelled) ∷ [];
@@ -508,18 +415,3 @@ unmark_comes_first_events = event.Posted 1 (post.Read (h 2 2) 16) (Some (h 4 1))
     ∷ event.Cleanup (h 4 1)
     ∷ event.Destroy (h 4 1)
     ∷ []
-
-abbrev unmark_comes_first_run : Course
-unmark_comes_first_run = run_by unmark_comes_first_plan 12
-
-unmark_comes_first : events_of unmark_comes_first_run ≡ unmark_comes_first_events
-unfolding run_by value_of
-unmark_comes_first = refl
-
-unmark_comes_first_ends : ending_at unmark_comes_first_run ≡ ending.Finished
-unfolding run_by value_of
-unmark_comes_first_ends = refl
-
-unmark_comes_first_agrees : is_kept (agrees unmark_comes_first_plan) unmark_comes_first_plan 12 ≡ true
-unfolding is_kept value_of
-unmark_comes_first_agrees = refl

@@ -1,6 +1,6 @@
--- Worked runs, computed from the definitions: they say what a reader expects of them. Made by
--- tools/scene_to_plan.py from scenarios and their traces.
-use Rattle.std.proofs.Common.{◌≡◌, List, [], ◌∷◌, Some, None, true, false, codes, refl}
+-- Worked runs: the plan of each, its events, and what it waits for where it is stuck. Made by
+-- tools/scene_to_plan.py from the scenarios and traces of tools/runs.
+use Rattle.std.specs.Prelude.{List, [], ◌∷◌, Some, None, true, false, codes}
 use Rattle.wdf_base.specs.declared.declared.Declared.TheVariants as declared
 use Rattle.wdf_base.specs.declared.declared.ClassInfo.TheVariants as class
 use Rattle.wdf_base.specs.declared.declared.DeferredKind.TheVariants as deferred
@@ -12,7 +12,6 @@ use Rattle.wdf_base.specs.declared.event.Action.TheVariants as action
 use Rattle.wdf_base.specs.declared.event.Ask.TheVariants as ask
 use Rattle.wdf_base.specs.declared.event.Post.TheVariants as post
 use Rattle.wdf_base.specs.declared.event.Stage.TheVariants as stage
-use Rattle.wdf_base.specs.declared.event.Ending.TheVariants as ending
 use Rattle.wdf_base.specs.declared.event.Event.{Event}
 use Rattle.wdf_base.specs.declared.event.Event.TheVariants as event
 use Rattle.wdf_base.specs.declared.script.ExprNode.TheVariants as node
@@ -26,9 +25,7 @@ use Rattle.wdf_base.specs.declared.call.Callback.TheVariants as callback
 use Rattle.wdf_base.specs.declared.value.Status.TheVariants as status
 use Rattle.wdf_base.specs.declared.value.Value.TheVariants.{Num, Obj, Stat}
 use Rattle.wdf_base.specs.declared.plan.Plan.{Plan}
-use Rattle.wdf_model.specs.Script.{value_of}
-use Rattle.wdf_model.specs.Agreement.{agrees}
-use Rattle.wdf_model.proofs.Picking.{Course, events_of, ending_at, run_by, is_kept, h, p, c, at, s}
+use Rattle.wdf_worked.specs.Writing.{h, p, c, at, s}
 
 abbrev pub serial_port_plan : Plan
 serial_port_plan = record {
@@ -45,9 +42,9 @@ serial_port_plan = record {
       ∷ [];
   classes = (class.Deferred 2 deferred.Timer (record { 0 = 2 }) false 0) ∷ [];
   registers = (record { name = 4; device = record { 0 = 2 }; value = 0 }) ∷ (record { name = 5; device = record { 0 = 2 }; value = 0 }) ∷ [];
-  whens = (record { access = access.Write; register = 1; action = action.Set 0 65; after = 3 }) ∷ (record { access = access.Write; register = 1; action = action.Raise (h 3 6); after = 3 }) ∷ (record { access = access.Read; register = 0; action = action.Lower (h 3 6); after = 0 }) ∷ [];
-  pnp = (at 0 (post.Ask ask.Start (h 2 3))) ∷ (at 10 (post.Ask ask.Sleep (h 2 3))) ∷ (at 15 (post.Ask ask.Wake (h 2 3))) ∷ (at 40 (post.Ask ask.Surprise (h 2 3))) ∷ [];
-  agents = (record { name = 10; posts = (at 0 (post.Read (h 2 3) 16)) ∷ (at 1 (post.Read (h 2 3) 16)) ∷ (at 4 (post.Write (h 2 3) 1)) ∷ (at 20 (post.Write (h 2 3) 1)) ∷ (at 25 (post.Read (h 2 3) 16)) ∷ [] })
+  whens = (record { access = access.Write; register = 1; action = action.Set 0 65; after = 3; line = 13 }) ∷ (record { access = access.Write; register = 1; action = action.Raise (h 3 6); after = 3; line = 14 }) ∷ (record { access = access.Read; register = 0; action = action.Lower (h 3 6); after = 0; line = 15 }) ∷ [];
+  pnp = (at 69 0 (post.Ask ask.Start (h 2 3))) ∷ (at 70 10 (post.Ask ask.Sleep (h 2 3))) ∷ (at 71 15 (post.Ask ask.Wake (h 2 3))) ∷ (at 72 40 (post.Ask ask.Surprise (h 2 3))) ∷ [];
+  agents = (record { name = 10; posts = (at 62 0 (post.Read (h 2 3) 16)) ∷ (at 63 1 (post.Read (h 2 3) 16)) ∷ (at 64 4 (post.Write (h 2 3) 1)) ∷ (at 65 20 (post.Write (h 2 3) 1)) ∷ (at 66 25 (post.Read (h 2 3) 16)) ∷ [] })
       ∷ (record { name = 3; posts = [] })
       ∷ [];
   exprs = (node.Number 99) ∷ (node.Context context.NearestDevice) ∷ (node.Number 1) ∷ (node.Variable 0) ∷ (node.Context context.OwnObject) ∷ (node.Object (h 6 9)) ∷ (node.Variable 0) ∷ (node.Literal status.NoMoreEntries) ∷ (node.Binary operator.Differs 6 7) ∷ (node.Variable 0) ∷ (node.Literal status.Success) ∷ (node.Number 1) ∷ (node.Context context.OwnRequest) ∷ (node.Literal status.Success) ∷ (node.Context context.OwnRequest) ∷ (node.Object (h 6 9)) ∷ (node.Variable 0) ∷ (node.Literal status.Success) ∷ (node.Binary operator.Differs 16 17) ∷ (node.Context context.OwnRequest) ∷ (node.Variable 0) ∷ (node.Context context.NearestDevice) ∷ (node.Number 0) ∷ (node.Variable 0) ∷ (node.Context context.NearestDevice) ∷ (node.Number 0) ∷ (node.Variable 0) ∷ (node.Number 2) ∷ (node.Context context.NearestDevice) ∷ (node.Number 0) ∷ (node.Variable 0) ∷ (node.Number 1) ∷ [];
@@ -284,18 +281,3 @@ serial_port_events = event.Posted 0 (post.Ask ask.Start (h 2 3)) None
     ∷ event.Destroy (h 12 1)
     ∷ event.Destroy (h 2 3)
     ∷ []
-
-abbrev serial_port_run : Course
-serial_port_run = run_by serial_port_plan 163
-
-serial_port : events_of serial_port_run ≡ serial_port_events
-unfolding run_by value_of
-serial_port = refl
-
-serial_port_ends : ending_at serial_port_run ≡ ending.Finished
-unfolding run_by value_of
-serial_port_ends = refl
-
-serial_port_agrees : is_kept (agrees serial_port_plan) serial_port_plan 163 ≡ true
-unfolding is_kept value_of
-serial_port_agrees = refl

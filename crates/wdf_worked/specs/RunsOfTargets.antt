@@ -1,6 +1,6 @@
--- Worked runs, computed from the definitions: they say what a reader expects of them. Made by
--- tools/scene_to_plan.py from scenarios and their traces.
-use Rattle.std.proofs.Common.{◌≡◌, List, [], ◌∷◌, Some, None, true, false, codes, refl}
+-- Worked runs: the plan of each, its events, and what it waits for where it is stuck. Made by
+-- tools/scene_to_plan.py from the scenarios and traces of tools/runs.
+use Rattle.std.specs.Prelude.{List, [], ◌∷◌, Some, None, true, false, codes}
 use Rattle.wdf_base.specs.declared.declared.Declared.TheVariants as declared
 use Rattle.wdf_base.specs.declared.declared.ClassInfo.TheVariants as class
 use Rattle.wdf_base.specs.declared.declared.PlainKind.TheVariants as plain
@@ -12,7 +12,6 @@ use Rattle.wdf_base.specs.declared.event.Ask.TheVariants as ask
 use Rattle.wdf_base.specs.declared.event.Post.TheVariants as post
 use Rattle.wdf_base.specs.declared.event.Stage.TheVariants as stage
 use Rattle.wdf_base.specs.declared.event.Fault.TheVariants as fault
-use Rattle.wdf_base.specs.declared.event.Ending.TheVariants as ending
 use Rattle.wdf_base.specs.declared.event.Event.{Event}
 use Rattle.wdf_base.specs.declared.event.Event.TheVariants as event
 use Rattle.wdf_base.specs.declared.script.ExprNode.TheVariants as node
@@ -26,9 +25,7 @@ use Rattle.wdf_base.specs.declared.call.Callback.TheVariants as callback
 use Rattle.wdf_base.specs.declared.value.Status.TheVariants as status
 use Rattle.wdf_base.specs.declared.value.Value.TheVariants.{Num, Obj, Stat}
 use Rattle.wdf_base.specs.declared.plan.Plan.{Plan}
-use Rattle.wdf_model.specs.Script.{value_of}
-use Rattle.wdf_model.specs.Agreement.{agrees}
-use Rattle.wdf_model.proofs.Picking.{Course, events_of, ending_at, run_by, is_kept, h, p, f, c, at, s}
+use Rattle.wdf_worked.specs.Writing.{h, p, f, c, at, s}
 
 abbrev pub drained_plan : Plan
 drained_plan = record {
@@ -45,7 +42,7 @@ drained_plan = record {
   registers = [];
   whens = [];
   pnp = [];
-  agents = (record { name = 6; posts = (at 0 (post.Read (h 2 3) 1)) ∷ (at 0 (post.Read (h 2 3) 2)) ∷ [] })
+  agents = (record { name = 6; posts = (at 37 0 (post.Read (h 2 3) 1)) ∷ (at 38 0 (post.Read (h 2 3) 2)) ∷ [] })
       ∷ (record { name = 3; posts = [] })
       ∷ [];
   exprs = (node.Object (h 4 5)) ∷ (node.Variable 0) ∷ (node.Object (h 4 5)) ∷ (node.Context context.OwnRequest) ∷ (node.Object (h 4 5)) ∷ (node.Context context.RequestLength) ∷ (node.Number 2) ∷ (node.Binary operator.Equals 5 6) ∷ (node.Variable 1) ∷ (node.Number 1) ∷ (node.Object (h 4 5)) ∷ (node.Variable 2) ∷ (node.Literal status.Success) ∷ (node.Object (h 4 5)) ∷ (node.Variable 2) ∷ (node.Literal status.Success) ∷ (node.Context context.OwnRequest) ∷ (node.Literal status.Cancelled) ∷ [];
@@ -117,21 +114,6 @@ drained_events = event.Posted 1 (post.Read (h 2 3) 1) (Some (h 5 1))
     ∷ event.Destroy (h 6 1)
     ∷ []
 
-abbrev drained_run : Course
-drained_run = run_by drained_plan 32
-
-drained : events_of drained_run ≡ drained_events
-unfolding run_by value_of
-drained = refl
-
-drained_ends : ending_at drained_run ≡ ending.Finished
-unfolding run_by value_of
-drained_ends = refl
-
-drained_agrees : is_kept (agrees drained_plan) drained_plan 32 ≡ true
-unfolding is_kept value_of
-drained_agrees = refl
-
 abbrev pub every_statement_plan : Plan
 every_statement_plan = record {
   cpus = 1;
@@ -146,7 +128,7 @@ every_statement_plan = record {
   registers = [];
   whens = [];
   pnp = [];
-  agents = (record { name = 4; posts = (at 0 (post.Control (h 2 2) 5 9)) ∷ [] })
+  agents = (record { name = 4; posts = (at 33 0 (post.Control (h 2 2) 5 9)) ∷ [] })
       ∷ (record { name = 2; posts = [] })
       ∷ [];
   exprs = (node.Number 0) ∷ (node.Number 3) ∷ (node.Variable 0) ∷ (node.Number 2) ∷ (node.Binary operator.Add 2 3) ∷ (node.Variable 0) ∷ (node.Number 4) ∷ (node.Binary operator.Equals 5 6) ∷ (node.Variable 0) ∷ (node.Number 0) ∷ (node.Number 1) ∷ (node.Number 0) ∷ (node.Number 1) ∷ (node.Binary operator.Subtract 11 12) ∷ (node.Variable 1) ∷ (node.Variable 1) ∷ (node.Number 2) ∷ (node.Binary operator.Multiply 15 16) ∷ (node.Number 3) ∷ (node.Binary operator.Divide 17 18) ∷ (node.Literal status.Success) ∷ (node.Number 0) ∷ (node.Binary operator.Equals 20 21) ∷ (node.Context context.OwnObject) ∷ (node.Context context.OwnObject) ∷ (node.Binary operator.Equals 23 24) ∷ (node.Number 7) ∷ (node.Number 3) ∷ (node.Binary operator.BitAnd 26 27) ∷ (node.Number 7) ∷ (node.Number 2) ∷ (node.Binary operator.BitXor 29 30) ∷ (node.Number 3) ∷ (node.Number 3) ∷ (node.Binary operator.AtMost 32 33) ∷ (node.Number 3) ∷ (node.Number 3) ∷ (node.Binary operator.Below 35 36) ∷ (node.Context context.OwnRequest) ∷ (node.Context context.RequestCode) ∷ [];
@@ -207,21 +189,6 @@ every_statement_events = event.Posted 1 (post.Control (h 2 2) 5 9) (Some (h 4 1)
     ∷ event.Fault (p 0) fault.ScriptError 28
     ∷ []
 
-abbrev every_statement_run : Course
-every_statement_run = run_by every_statement_plan 27
-
-every_statement : events_of every_statement_run ≡ every_statement_events
-unfolding run_by value_of
-every_statement = refl
-
-every_statement_ends : ending_at every_statement_run ≡ ending.Fault fault.ScriptError
-unfolding run_by value_of
-every_statement_ends = refl
-
-every_statement_agrees : is_kept (agrees every_statement_plan) every_statement_plan 27 ≡ true
-unfolding is_kept value_of
-every_statement_agrees = refl
-
 abbrev pub sent_and_cancelled_plan : Plan
 sent_and_cancelled_plan = record {
   cpus = 1;
@@ -237,7 +204,7 @@ sent_and_cancelled_plan = record {
   registers = [];
   whens = [];
   pnp = [];
-  agents = (record { name = 6; posts = (at 0 (post.Read (h 2 3) 1)) ∷ (at 0 (post.Read (h 2 3) 2)) ∷ (at 1 (post.Cancel 2)) ∷ [] })
+  agents = (record { name = 6; posts = (at 34 0 (post.Read (h 2 3) 1)) ∷ (at 35 0 (post.Read (h 2 3) 2)) ∷ (at 36 1 (post.Cancel 2)) ∷ [] })
       ∷ (record { name = 3; posts = [] })
       ∷ (record { name = 5; posts = [] })
       ∷ [];
@@ -317,21 +284,6 @@ sent_and_cancelled_events = event.Posted 1 (post.Read (h 2 3) 1) (Some (h 5 1))
     ∷ event.Destroy (h 5 1)
     ∷ []
 
-abbrev sent_and_cancelled_run : Course
-sent_and_cancelled_run = run_by sent_and_cancelled_plan 45
-
-sent_and_cancelled : events_of sent_and_cancelled_run ≡ sent_and_cancelled_events
-unfolding run_by value_of
-sent_and_cancelled = refl
-
-sent_and_cancelled_ends : ending_at sent_and_cancelled_run ≡ ending.Finished
-unfolding run_by value_of
-sent_and_cancelled_ends = refl
-
-sent_and_cancelled_agrees : is_kept (agrees sent_and_cancelled_plan) sent_and_cancelled_plan 45 ≡ true
-unfolding is_kept value_of
-sent_and_cancelled_agrees = refl
-
 abbrev pub stopped_while_sent_plan : Plan
 stopped_while_sent_plan = record {
   cpus = 1;
@@ -346,8 +298,8 @@ stopped_while_sent_plan = record {
   classes = [];
   registers = [];
   whens = [];
-  pnp = (at 1 (post.Ask ask.Sleep (h 2 2))) ∷ (at 2 (post.Ask ask.Wake (h 2 2))) ∷ [];
-  agents = (record { name = 5; posts = (at 0 (post.Read (h 2 2) 7)) ∷ [] })
+  pnp = (at 27 1 (post.Ask ask.Sleep (h 2 2))) ∷ (at 28 2 (post.Ask ask.Wake (h 2 2))) ∷ [];
+  agents = (record { name = 5; posts = (at 24 0 (post.Read (h 2 2) 7)) ∷ [] })
       ∷ (record { name = 2; posts = [] })
       ∷ (record { name = 4; posts = [] })
       ∷ [];
@@ -413,21 +365,6 @@ stopped_while_sent_events = event.Posted 1 (post.Read (h 2 2) 7) (Some (h 5 1))
     ∷ event.Destroy (h 5 1)
     ∷ []
 
-abbrev stopped_while_sent_run : Course
-stopped_while_sent_run = run_by stopped_while_sent_plan 28
-
-stopped_while_sent : events_of stopped_while_sent_run ≡ stopped_while_sent_events
-unfolding run_by value_of
-stopped_while_sent = refl
-
-stopped_while_sent_ends : ending_at stopped_while_sent_run ≡ ending.Finished
-unfolding run_by value_of
-stopped_while_sent_ends = refl
-
-stopped_while_sent_agrees : is_kept (agrees stopped_while_sent_plan) stopped_while_sent_plan 28 ≡ true
-unfolding is_kept value_of
-stopped_while_sent_agrees = refl
-
 abbrev pub target_stopped_plan : Plan
 target_stopped_plan = record {
   cpus = 1;
@@ -443,7 +380,7 @@ target_stopped_plan = record {
   registers = [];
   whens = [];
   pnp = [];
-  agents = (record { name = 6; posts = (at 0 (post.Read (h 2 3) 1)) ∷ (at 0 (post.Read (h 2 3) 2)) ∷ [] })
+  agents = (record { name = 6; posts = (at 28 0 (post.Read (h 2 3) 1)) ∷ (at 29 0 (post.Read (h 2 3) 2)) ∷ [] })
       ∷ (record { name = 3; posts = [] })
       ∷ (record { name = 5; posts = [] })
       ∷ [];
@@ -510,18 +447,3 @@ target_stopped_events = event.Posted 1 (post.Read (h 2 3) 1) (Some (h 5 1))
     ∷ event.Cleanup (h 6 1)
     ∷ event.Destroy (h 6 1)
     ∷ []
-
-abbrev target_stopped_run : Course
-target_stopped_run = run_by target_stopped_plan 33
-
-target_stopped : events_of target_stopped_run ≡ target_stopped_events
-unfolding run_by value_of
-target_stopped = refl
-
-target_stopped_ends : ending_at target_stopped_run ≡ ending.Finished
-unfolding run_by value_of
-target_stopped_ends = refl
-
-target_stopped_agrees : is_kept (agrees target_stopped_plan) target_stopped_plan 33 ≡ true
-unfolding is_kept value_of
-target_stopped_agrees = refl

@@ -1,0 +1,424 @@
+-- Each deed that fits keeps places, lines, targets and kinds in step: a line for each.
+use Rattle.std.proofs.Common.{if◌then◌else◌, ◌≡◌, ◌≢◌, ℕ, suc, ◌+◌, ◌-◌, ◌==◌, ◌≤◌, nat_lt, Bool, true, false, not, ◌&&◌, ◌||◌, List, [], ◌∷◌, ◌++◌, ◌⊎◌, inl, inr, Option, Some, None, is_some, slice_set, fold, length, count_by, refl, ap, sym, subst, ◌∙◌, arith, length-append}
+use Rattle.std.proofs.lemmas.Bool.{cases_Bool, or_cases}
+use Rattle.std.specs.List.{list_all}
+use Rattle.wdf_base.specs.declared.plan.Plan.{Plan}
+use Rattle.wdf_base.specs.declared.object.Kind.{Kind}
+use Rattle.wdf_base.specs.declared.object.Kind.TheVariants as kind
+use Rattle.wdf_base.specs.declared.object.Life.TheVariants as life
+use Rattle.wdf_base.specs.declared.object.Place.{Place}
+use Rattle.wdf_base.specs.declared.object.Place.TheVariants as place
+use Rattle.wdf_base.specs.declared.object.RequestInfo.{RequestInfo}
+use Rattle.wdf_base.specs.declared.call.Callback.{Callback}
+use Rattle.wdf_base.specs.declared.call.Callback.TheVariants as callback
+use Rattle.wdf_base.specs.declared.value.Status.TheVariants as status
+use Rattle.wdf_base.specs.Same.{same_kind}
+use Rattle.wdf_model.specs.declared.enums.Mode.TheVariants as mode
+use Rattle.wdf_model.specs.Tables.{ids_of}
+use Rattle.wdf_model.specs.Objects.{Node, Tree, create, gone, is_full, is_live, kind_of, life_of, nearest_device, new_node, next_id, node_of, noted, subtree, with_life, with_node}
+use Rattle.wdf_model.specs.Requests.{Request, Requests, cancel_request, cancelled, has_arrived, is_closing, is_done, is_due, mark_of, is_marked, is_owned, is_queued_in, is_returning_to, is_sent, is_sent_to, made_info, marked, move_to, moved, place_of, unmarked, with_mark}
+use Rattle.wdf_base.specs.declared.object.Mark.TheVariants as mark
+use Rattle.wdf_model.specs.Lines.{Line, Lines, enter_head, enter_tail, hold, take_cancelled, waiting_in}
+use Rattle.wdf_model.specs.Modes.{accepts, set_mode}
+use Rattle.wdf_model.specs.Targets.{Target, Targets, is_forgotten, is_undone, routine_due, send, the_target, with_target}
+use Rattle.wdf_model.specs.Power.{Power}
+use Rattle.wdf_model.specs.Script.{flag}
+use Rattle.wdf_model.specs.State.{State, held_at, is_with_driver, withdrawn_place}
+use Rattle.wdf_model.specs.Deeds.{Deed, Create, Make_request, Arrive, Ask_deletion, Refer, Unrefer, Write_cell, Note, Clean_up, End_life, Present, Receive, Requeue, Forward, Give_back, Withdraw, Mark_request, Unmark_request, Cancel_request, Take_cancel, Send_request, Finish_sending, Come_back, Complete_request, Purge_queue, Close_returning, Stop_target, Start_target, arrive_at, ask_object, ask_objects, close_one, do_deed, do_deeds, give_up, give_up_if, queued, release_line, withdraw}
+use Rattle.wdf_model.specs.Faults.{is_request_kind}
+use Rattle.wdf_model.specs.Calls.{may_send}
+use Rattle.wdf_model.specs.Fits.{all_fit, fits, is_arrival_place, is_given, is_reached}
+use Rattle.wdf_model.proofs.Tests.{both_left, both_right, not_true}
+use Rattle.wdf_model.proofs.Sames.{kind_decides}
+use Rattle.wdf_model.proofs.Maps.{entry_before, entry_last, entry_put_other, entry_put_same, put_long}
+use Rattle.wdf_model.proofs.Deletion.{object_live, object_off}
+use Rattle.wdf_model.proofs.Counts.{at_head, equal, one_or_two}
+use Rattle.wdf_model.proofs.Kept.{Kept, arrived, is_made_place}
+use Rattle.wdf_model.proofs.KeptMoves.{Enters, arrived_within, enter_line, enters_others, enters_once, head_enters, is_still, line_elsewhere, line_here, marks_change, present_front, request_here, request_elsewhere, same_lines, same_targets, same_tree, still_move, tail_enters, target_elsewhere, target_here, withdraw_from_line, within}
+use Rattle.wdf_model.proofs.KeptTargets.{come_back, finish_sending, new_request, nowhere_yet, send_request}
+
+-- the invariant in a state
+abbrev pub KeptIn : {A : Type 0} → (ℕ → Bool) → (ℕ → Bool) → State A → Type 0
+KeptIn F B S = Kept F B S.requests S.lines S.targets S.tree
+
+-- ---- objects
+
+-- an object is changed, and becomes no request
+tree_changes : {F B : ℕ → Bool} {R : Requests} {Q : Lines} {T : Targets} {N : Tree} (o : ℕ) (f : Node → Node) → Kept F B R Q T N → ((n : Node) → same_kind (f n).kind kind.Request ≡ true → same_kind n.kind kind.Request ≡ true)
+    → Kept F B R Q T (with_node N o f)
+tree_changes {N = N} o f k kinds = same_tree k
+    (λ x h. elim (one_or_two x o) [
+      | inl e ↦ rw e (kinds (node_of N o) (sym (ap (λ (n : Node). same_kind n.kind kind.Request) (entry_put_same gone N.nodes o (f (node_of N o)))) ∙ rw e at h))
+      | inr n ↦ sym (ap (λ (n : Node). same_kind n.kind kind.Request) (entry_put_other gone N.nodes o x (f (node_of N o)) n)) ∙ h
+    ])
+    (put_long gone N.nodes o (f (node_of N o)))
+
+isnt_request : (k : Kind) → is_request_kind k ≡ false → same_kind k kind.Request ≡ true → ⊥
+isnt_request k h e = let same : k ≡ kind.Request = (kind_decides k kind.Request).0 e in let f = rw same at h in let z : ⊥ = cc in z
+
+object_made : {F B : ℕ → Bool} {R : Requests} {Q : Lines} {T : Targets} {N : Tree} (what : Kind) (class parent : ℕ) → Kept F B R Q T N → is_request_kind what ≡ false → Kept F B R Q T (create N what class parent)
+object_made {N = N} what class parent k h = same_tree k
+    (λ x e. elim (one_or_two x (next_id N)) [
+      | inl same ↦ absurd (isnt_request what h (sym (ap (λ (n : Node). same_kind n.kind kind.Request) (entry_last gone N.nodes (new_node what class parent))) ∙ rw same at e))
+      | inr n ↦ sym (ap (λ (n : Node). same_kind n.kind kind.Request) (entry_before gone N.nodes (new_node what class parent) x n)) ∙ e
+    ])
+    (let e : length (N.nodes ++ new_node what class parent ∷ []) ≡ suc (length N.nodes) = omega (arith, length-append N.nodes (new_node what class parent ∷ [])) in omega arith)
+
+noted_kind : (c : Callback) (n : Node) → (noted c n).kind ≡ n.kind
+noted_kind callback.EvtCleanupCallback n = refl
+noted_kind callback.EvtDestroyCallback n = refl
+noted_kind _ n = refl
+
+object_asked : {A : Type 0} {F B : ℕ → Bool} (S : State A) (x : ℕ) (b : Bool) → is_live (life_of S.tree x) ≡ b → KeptIn F B S → KeptIn F B (ask_object S x)
+object_asked {A = A} {F = F} {B = B} S x true h k = subst (λ (T : State A). KeptIn F B T) (sym (object_live S x h)) (tree_changes x (with_life life.Asked) k (λ n e. e))
+object_asked {A = A} {F = F} {B = B} S x false h k = subst (λ (T : State A). KeptIn F B T) (sym (object_off S x h)) k
+
+all_asked : {A : Type 0} {F B : ℕ → Bool} (xs : List ℕ) (S : State A) → KeptIn F B S → KeptIn F B (fold ask_object S xs)
+all_asked [] S k = k
+all_asked (x ∷ xs) S k = all_asked xs (ask_object S x) (object_asked S x (is_live (life_of S.tree x)) refl k)
+
+asked : {A : Type 0} {F B : ℕ → Bool} (S : State A) (o : ℕ) → KeptIn F B S → KeptIn F B (ask_objects S o)
+asked S o k = all_asked (subtree S.tree o) S k
+
+-- ---- the driver gives up a request
+
+pub record GivesUp {A : Type 0} (S U : State A) : Type 0 where
+  pub lines : (q : ℕ) → waiting_in U.lines q ≡ waiting_in S.lines q
+  pub requests : U.requests ≡ S.requests
+  pub targets : U.targets ≡ S.targets
+  pub tree : U.tree ≡ S.tree
+
+released : (Q : Lines) (from : Option ℕ) (q : ℕ) → waiting_in (release_line Q from) q ≡ waiting_in Q q
+released Q None q = refl
+released Q (Some p) q = elim (one_or_two q p) [
+  | inl e ↦ rw e (ap (λ (l : Line). l.waiting) (line_here Q p (λ l. record l { held = l.held - 1 })))
+  | inr n ↦ ap (λ (l : Line). l.waiting) (line_elsewhere Q p q (λ l. record l { held = l.held - 1 }) n)
+]
+
+gives_up_by : {A : Type 0} (S : State A) (b : Bool) (from : Option ℕ) (power : Power) → GivesUp S (if b then record S { lines = release_line S.lines from; power = power } else S)
+gives_up_by S true from power = record { lines = λ q. released S.lines from q; requests = refl; targets = refl; tree = refl }
+gives_up_by S false from power = record { lines = λ q. refl; requests = refl; targets = refl; tree = refl }
+
+gives_up : {A : Type 0} (S : State A) (r : ℕ) → GivesUp S (give_up S r)
+gives_up S r = gives_up_by S (is_with_driver S r) _ _
+
+gives_up_if : {A : Type 0} (S : State A) (r : ℕ) (forget : Bool) → GivesUp S (give_up_if forget S r)
+gives_up_if S r true = gives_up S r
+gives_up_if S r false = record { lines = λ q. refl; requests = refl; targets = refl; tree = refl }
+
+-- the invariant with the parts of either state
+mixed : {A : Type 0} {F B : ℕ → Bool} (S U : State A) → GivesUp S U → KeptIn F B S → Kept F B S.requests U.lines S.targets S.tree
+mixed S U g k = same_lines k g.lines
+
+all_given_up : {A : Type 0} {F B : ℕ → Bool} (S U : State A) → GivesUp S U → KeptIn F B S → KeptIn F B U
+all_given_up {F = F} {B = B} S U g k =
+    subst (λ (N : Tree). Kept F B U.requests U.lines U.targets N) (sym g.tree)
+    (subst (λ (T : Targets). Kept F B U.requests U.lines T S.tree) (sym g.targets)
+    (subst (λ (R : Requests). Kept F B R U.lines S.targets S.tree) (sym g.requests) (mixed S U g k)))
+
+given_up_sent : {A : Type 0} {F B : ℕ → Bool} (S U : State A) → GivesUp S U → KeptIn F B S → Kept F B U.requests U.lines S.targets U.tree
+given_up_sent {F = F} {B = B} S U g k =
+    subst (λ (N : Tree). Kept F B U.requests U.lines S.targets N) (sym g.tree)
+    (subst (λ (R : Requests). Kept F B R U.lines S.targets S.tree) (sym g.requests) (mixed S U g k))
+
+given_up_done : {A : Type 0} {F B : ℕ → Bool} (S U : State A) → GivesUp S U → KeptIn F B S → Kept F B S.requests U.lines U.targets U.tree
+given_up_done {F = F} {B = B} S U g k =
+    subst (λ (N : Tree). Kept F B S.requests U.lines U.targets N) (sym g.tree)
+    (subst (λ (T : Targets). Kept F B S.requests U.lines T S.tree) (sym g.targets) (mixed S U g k))
+
+still_given : {A : Type 0} (S U : State A) (r : ℕ) → GivesUp S U → is_given S r ≡ true → is_given U r ≡ true
+still_given S U r g h =
+    ap (λ (R : Requests). is_owned (place_of R r) && same_kind (kind_of U.tree r) kind.Request) g.requests
+    ∙ ap (λ (N : Tree). is_owned (place_of S.requests r) && same_kind (kind_of N r) kind.Request) g.tree ∙ h
+
+-- ---- places
+
+pub owned_undone : (p : Place) → is_owned p ≡ true → is_done p ≡ false
+owned_undone place.Owned h = refl
+owned_undone (place.Queued q) h = refl
+owned_undone (place.Returning q) h = refl
+owned_undone (place.Closing s) h = refl
+owned_undone (place.Sent t) h = refl
+owned_undone place.Done h = absurd (let z : ⊥ = cc in z)
+
+owned_still : (p : Place) → is_owned p ≡ true → is_still p ≡ true
+owned_still place.Owned h = refl
+owned_still (place.Queued q) h = absurd (let z : ⊥ = cc in z)
+owned_still (place.Returning q) h = refl
+owned_still (place.Closing s) h = refl
+owned_still (place.Sent t) h = absurd (let z : ⊥ = cc in z)
+owned_still place.Done h = refl
+
+reached_undone : (p : Place) → is_reached p ≡ true → is_done p ≡ false
+reached_undone place.Owned h = refl
+reached_undone (place.Queued q) h = refl
+reached_undone (place.Returning q) h = refl
+reached_undone (place.Closing s) h = refl
+reached_undone (place.Sent t) h = refl
+reached_undone place.Done h = absurd (let z : ⊥ = cc in z)
+
+pub closing_undone : (p : Place) → is_closing p ≡ true → (is_done p ≡ false) × (is_still p ≡ true) × (is_made_place p ≡ false)
+closing_undone (place.Closing s) h = (refl, refl, refl)
+closing_undone place.Owned h = absurd (let z : ⊥ = cc in z)
+closing_undone (place.Queued q) h = absurd (let z : ⊥ = cc in z)
+closing_undone (place.Returning q) h = absurd (let z : ⊥ = cc in z)
+closing_undone (place.Sent t) h = absurd (let z : ⊥ = cc in z)
+closing_undone place.Done h = absurd (let z : ⊥ = cc in z)
+
+returning_undone : (q : ℕ) (p : Place) → is_returning_to q p ≡ true → (is_done p ≡ false) × (is_still p ≡ true) × (is_made_place p ≡ false)
+returning_undone q (place.Returning r) h = (refl, refl, refl)
+returning_undone q place.Owned h = absurd (let z : ⊥ = cc in z)
+returning_undone q (place.Queued r) h = absurd (let z : ⊥ = cc in z)
+returning_undone q (place.Closing s) h = absurd (let z : ⊥ = cc in z)
+returning_undone q (place.Sent t) h = absurd (let z : ⊥ = cc in z)
+returning_undone q place.Done h = absurd (let z : ⊥ = cc in z)
+
+queued_unmade : (q : ℕ) (p : Place) → is_queued_in q p ≡ true → is_made_place p ≡ false
+queued_unmade q (place.Queued r) h = refl
+queued_unmade q (place.Returning r) h = absurd (let z : ⊥ = cc in z)
+queued_unmade q place.Owned h = absurd (let z : ⊥ = cc in z)
+queued_unmade q (place.Closing s) h = absurd (let z : ⊥ = cc in z)
+queued_unmade q (place.Sent t) h = absurd (let z : ⊥ = cc in z)
+queued_unmade q place.Done h = absurd (let z : ⊥ = cc in z)
+
+unmade_unsent : (t : ℕ) (p : Place) → is_made_place p ≡ false → is_sent_to t p ≡ false
+unmade_unsent t (place.Queued r) h = refl
+unmade_unsent t (place.Returning r) h = refl
+unmade_unsent t (place.Closing s) h = refl
+unmade_unsent t place.Owned h = refl
+unmade_unsent t (place.Sent u) h = absurd (let z : ⊥ = cc in z)
+unmade_unsent t place.Done h = refl
+
+unmade_undone : (p : Place) → is_made_place p ≡ false → is_done p ≡ false
+unmade_undone (place.Queued r) h = refl
+unmade_undone (place.Returning r) h = refl
+unmade_undone (place.Closing s) h = refl
+unmade_undone place.Owned h = refl
+unmade_undone (place.Sent u) h = refl
+unmade_undone place.Done h = absurd (let z : ⊥ = cc in z)
+
+sent_is_reached : (p : Place) → is_sent p ≡ true → is_done p ≡ false
+sent_is_reached (place.Sent t) h = refl
+sent_is_reached (place.Queued r) h = refl
+sent_is_reached (place.Returning r) h = refl
+sent_is_reached (place.Closing s) h = refl
+sent_is_reached place.Owned h = refl
+sent_is_reached place.Done h = absurd (let z : ⊥ = cc in z)
+
+withdrawn_by : (b : Bool) (q : ℕ) → (is_still (if b then place.Returning (record { 0 = q }) else place.Closing status.Cancelled) ≡ true) × (is_made_place (if b then place.Returning (record { 0 = q }) else place.Closing status.Cancelled) ≡ false)
+withdrawn_by true q = (refl, refl)
+withdrawn_by false q = (refl, refl)
+
+held_undone : (forgotten : Bool) (p : Place) → held_at forgotten p ≡ true → is_done p ≡ false
+held_undone forgotten place.Owned h = refl
+held_undone forgotten (place.Sent t) h = refl
+held_undone forgotten (place.Queued q) h = refl
+held_undone forgotten (place.Returning q) h = refl
+held_undone forgotten (place.Closing s) h = refl
+held_undone forgotten place.Done h = absurd (let z : ⊥ = cc in z)
+
+-- a request that is where none is that the driver made
+pub came_by_place : {F B : ℕ → Bool} {R : Requests} {Q : Lines} {T : Targets} {N : Tree} (r : ℕ) → Kept F B R Q T N → is_made_place (place_of R r) ≡ false → arrived R r ≡ true
+came_by_place {R = R} r k h = elim (cases_Bool (arrived R r)) [
+  | inl e ↦ e
+  | inr e ↦ absurd (let made = k.made r e in let z : ⊥ = cc in z)
+]
+
+pub came_by_kind : {A : Type 0} {F B : ℕ → Bool} (S : State A) (r : ℕ) → KeptIn F B S → is_given S r ≡ true → arrived S.requests r ≡ true
+came_by_kind S r k h = k.kinds r (both_right (is_owned (place_of S.requests r)) (same_kind (kind_of S.tree r) kind.Request) h)
+
+pub owned_of : {A : Type 0} (S : State A) (r : ℕ) → is_given S r ≡ true → is_owned (place_of S.requests r) ≡ true
+owned_of S r h = both_left (is_owned (place_of S.requests r)) (same_kind (kind_of S.tree r) kind.Request) h
+
+-- ---- cancels in a queue
+
+cancel_marks : {F B : ℕ → Bool} {R : Requests} {Q : Lines} {T : Targets} {N : Tree} (r : ℕ) → Kept F B R Q T N → is_done (place_of R r) ≡ false → Kept F B (cancel_request R r) Q T N
+cancel_marks {R = R} r k h = marks_change r cancelled k (within R r h) (λ q. refl) (λ q. refl)
+
+cancel_here : (R : Requests) (r : ℕ) → place_of (cancel_request R r) r ≡ place_of R r
+cancel_here R r = ap (λ (q : Request). q.place) (request_here R r cancelled)
+
+cancel_arrived : (R : Requests) (r : ℕ) → arrived (cancel_request R r) r ≡ arrived R r
+cancel_arrived R r = ap has_arrived (request_here R r cancelled)
+
+given_back : {A : Type 0} {F B : ℕ → Bool} (plan : Plan) (U : State A) (q r : ℕ) → KeptIn F B U → is_given U r ≡ true
+    → Kept F B (move_to (cancel_request U.requests r) r (withdrawn_place plan U q r)) U.lines U.targets U.tree
+given_back plan U q r k h =
+    let owned : is_owned (place_of U.requests r) ≡ true = owned_of U r h in
+    let there : is_done (place_of U.requests r) ≡ false = owned_undone (place_of U.requests r) owned in
+    let came : arrived U.requests r ≡ true = came_by_kind U r k h in
+    still_move r (withdrawn_place plan U q r) (cancel_marks r k there) (ap is_done (cancel_here U.requests r) ∙ there) (ap is_still (cancel_here U.requests r) ∙ owned_still (place_of U.requests r) owned)
+    (withdrawn_by _ q).0
+    (λ n. absurd (let yes : arrived (cancel_request U.requests r) r ≡ true = cancel_arrived U.requests r ∙ came in let z : ⊥ = cc in z))
+
+withdrawn : {A : Type 0} {F B : ℕ → Bool} (plan : Plan) (q : ℕ) (S : State A) (r : ℕ) → KeptIn F B S → is_made_place (place_of S.requests r) ≡ false → KeptIn F B (withdraw plan q S r)
+withdrawn plan q S r k h =
+    let there : is_done (place_of S.requests r) ≡ false = unmade_undone (place_of S.requests r) h in
+    let came : arrived S.requests r ≡ true = came_by_place r k h in
+    withdraw_from_line r (withdrawn_place plan (record S { lines = take_cancelled S.lines r }) q r) (cancel_marks r k there)
+    (ap is_done (cancel_here S.requests r) ∙ there)
+    (λ t. ap (is_sent_to t) (cancel_here S.requests r) ∙ unmade_unsent t (place_of S.requests r) h)
+    (withdrawn_by _ q).0
+    (λ n. absurd (let yes : arrived (cancel_request S.requests r) r ≡ true = cancel_arrived S.requests r ∙ came in let z : ⊥ = cc in z))
+
+-- a request that was withdrawn, or another, may be withdrawn still
+stays_unmade : {A : Type 0} (plan : Plan) (q : ℕ) (S : State A) (r x : ℕ) → is_made_place (place_of S.requests x) ≡ false → (x ≡ r) ⊎ (x ≢ r) → is_made_place (place_of (withdraw plan q S r).requests x) ≡ false
+stays_unmade plan q S r x h (inl e) =
+    rw e (ap (λ (y : Request). is_made_place y.place) (request_here (cancel_request S.requests r) r (moved (withdrawn_place plan (record S { lines = take_cancelled S.lines r }) q r))) ∙ (withdrawn_by _ q).1)
+stays_unmade plan q S r x h (inr n) =
+    ap (λ (y : Request). is_made_place y.place) (request_elsewhere (cancel_request S.requests r) r x (moved (withdrawn_place plan (record S { lines = take_cancelled S.lines r }) q r)) n ∙ request_elsewhere S.requests r x cancelled n) ∙ h
+
+all_withdrawn : {A : Type 0} {F B : ℕ → Bool} (plan : Plan) (q : ℕ) (rs : List ℕ) (S : State A) → KeptIn F B S → ((x : ℕ) → 1 ≤ count_by (λ y. y == x) rs → is_made_place (place_of S.requests x) ≡ false)
+    → KeptIn F B (fold (withdraw plan q) S rs)
+all_withdrawn plan q [] S k h = k
+all_withdrawn plan q (r ∷ rs) S k h =
+    all_withdrawn plan q rs (withdraw plan q S r)
+    (withdrawn plan q S r k (h r (let e = at_head r r rs in let yes : flag (r == r) ≡ 1 = ap flag (equal r r refl) in omega arith)))
+    (λ x more. stays_unmade plan q S r x (h x (let e = at_head x r rs in omega arith)) (one_or_two x r))
+
+waits_queued : {A : Type 0} {F B : ℕ → Bool} (S : State A) (q x : ℕ) → KeptIn F B S → 1 ≤ count_by (λ y. y == x) (waiting_in S.lines q) → is_queued_in q (place_of S.requests x) ≡ true
+waits_queued S q x k more = elim (cases_Bool (is_queued_in q (place_of S.requests x))) [
+  | inl e ↦ e
+  | inr e ↦ absurd (let is = k.queued q x in let no_ : flag (is_queued_in q (place_of S.requests x)) ≡ 0 = ap flag e in omega arith)
+]
+
+purged : {A : Type 0} {F B : ℕ → Bool} (plan : Plan) (S T : State A) (q : ℕ) → KeptIn F B S → KeptIn F B T → T.requests ≡ S.requests → KeptIn F B (fold (withdraw plan q) T (waiting_in S.lines q))
+purged plan S T q k kt same = all_withdrawn plan q (waiting_in S.lines q) T kt
+    (λ x more. ap (λ (R : Requests). is_made_place (place_of R x)) same ∙ queued_unmade q (place_of S.requests x) (waits_queued S q x k more))
+
+closes_one : {A : Type 0} {F B : ℕ → Bool} (q : ℕ) (S : State A) (r : ℕ) (b : Bool) → is_returning_to q (place_of S.requests r) ≡ b → KeptIn F B S
+    → KeptIn F B (if b then record S { requests = move_to S.requests r (place.Closing status.Cancelled) } else S)
+closes_one q S r false e k = k
+closes_one q S r true e k =
+    let is = returning_undone q (place_of S.requests r) e in
+    still_move r (place.Closing status.Cancelled) k is.0 is.1 refl
+    (λ n. absurd (let came : arrived S.requests r ≡ true = came_by_place r k is.2 in let z : ⊥ = cc in z))
+
+all_closed : {A : Type 0} {F B : ℕ → Bool} (q : ℕ) (rs : List ℕ) (S : State A) → KeptIn F B S → KeptIn F B (fold (close_one q) S rs)
+all_closed q [] S k = k
+all_closed q (r ∷ rs) S k = all_closed q rs (close_one q S r) (closes_one q S r (is_returning_to q (place_of S.requests r)) refl k)
+
+-- ---- the marks of a request
+
+marked_place : (q : Request) (b : Bool) → q.info.cancelled ≡ b → ((marked q).place ≡ q.place) × (has_arrived (marked q) ≡ has_arrived q)
+marked_place q true e = rw e (refl, refl)
+marked_place q false e = rw e (refl, refl)
+
+unmarked_place : (q : Request) (b : Bool) → is_marked q.info.mark ≡ b → ((unmarked q).place ≡ q.place) × (has_arrived (unmarked q) ≡ has_arrived q)
+unmarked_place q true e = rw e (refl, refl)
+unmarked_place q false e = rw e (refl, refl)
+
+-- ---- each deed
+
+held_line : (Q : Lines) (q p : ℕ) → waiting_in (hold Q q) p ≡ waiting_in Q p
+held_line Q q p = elim (one_or_two p q) [
+  | inl e ↦ rw e (ap (λ (l : Line). l.waiting) (line_here Q q (λ l. record l { held = l.held + 1 })))
+  | inr n ↦ ap (λ (l : Line). l.waiting) (line_elsewhere Q q p (λ l. record l { held = l.held + 1 }) n)
+]
+
+stopped_target : (T : Targets) (t u : ℕ) (b : Bool) → (the_target (with_target T t (λ x. record x { stopped = b })) u).sent ≡ (the_target T u).sent
+stopped_target T t u b = elim (one_or_two u t) [
+  | inl e ↦ rw e (ap (λ (x : Target). x.sent) (target_here T t (λ x. record x { stopped = b })))
+  | inr n ↦ ap (λ (x : Target). x.sent) (target_elsewhere T t u (λ x. record x { stopped = b }) n)
+]
+
+given_enters : {A : Type 0} {F B : ℕ → Bool} (U : State A) (q r : ℕ) (Q : Lines) → KeptIn F B U → is_given U r ≡ true → Enters U.lines Q q r
+    → Kept F B (move_to U.requests r (queued q)) Q U.targets U.tree
+given_enters U q r Q k h e =
+    enter_line q r k (owned_undone (place_of U.requests r) (owned_of U r h)) (owned_still (place_of U.requests r) (owned_of U r h)) (came_by_kind U r k h) e
+
+sends_given : {A : Type 0} {F B : ℕ → Bool} (S U : State A) (r t : ℕ) (forget : Bool) → GivesUp S U → KeptIn F B S → is_owned (place_of S.requests r) ≡ true
+    → (not forget || same_kind (kind_of S.tree r) kind.Request) ≡ true → Kept F B (move_to U.requests r (place.Sent (record { 0 = t }))) U.lines (send S.targets t r forget) U.tree
+sends_given S U r t forget g k owned made =
+    let owned_there : is_owned (place_of U.requests r) ≡ true = ap (λ (R : Requests). is_owned (place_of R r)) g.requests ∙ owned in
+    send_request r t forget (given_up_sent S U g k) (owned_undone (place_of U.requests r) owned_there) (owned_still (place_of U.requests r) owned_there)
+    (λ n. elim (or_cases (not forget) (same_kind (kind_of S.tree r) kind.Request) made) [
+      | inl e ↦ not_true forget e
+      | inr e ↦ absurd (let came : arrived S.requests r ≡ true = k.kinds r e in let never : arrived S.requests r ≡ false = sym (ap (λ (R : Requests). arrived R r) g.requests) ∙ n in let z : ⊥ = cc in z)
+    ])
+
+completes_it : {A : Type 0} {F B : ℕ → Bool} (S U : State A) (r : ℕ) → GivesUp S U → KeptIn F B S → (is_closing (place_of S.requests r) || is_given S r) ≡ true
+    → Kept F B (move_to S.requests r place.Done) U.lines U.targets U.tree
+completes_it S U r g k h = elim (or_cases (is_closing (place_of S.requests r)) (is_given S r) h) [
+  | inl e ↦ let is = closing_undone (place_of S.requests r) e in still_move r place.Done (given_up_done S U g k) is.0 is.1 refl (λ _. refl)
+  | inr e ↦ still_move r place.Done (given_up_done S U g k) (owned_undone (place_of S.requests r) (owned_of S r e)) (owned_still (place_of S.requests r) (owned_of S r e)) refl (λ _. refl)
+]
+
+-- a request arrives
+arrives_there : {A : Type 0} {F B : ℕ → Bool} (S : State A) (device : ℕ) (info : RequestInfo) (p : Place) → KeptIn F B S → nat_lt 0 info.arrival ≡ true → is_arrival_place p ≡ true
+    → B (next_id S.tree) ≡ true → KeptIn F B (arrive_at S device info p)
+arrives_there S device info (place.Queued q) k came fit told =
+    new_request kind.Request 0 device (place.Queued q) info k (λ t. refl) (λ _. came) (λ n. absurd (let z : ⊥ = cc in z)) (λ _. told)
+    (λ o x n. enters_others (tail_enters S.lines q.0 (next_id S.tree)) o x n (one_or_two o q.0))
+    (λ o. enters_once (tail_enters S.lines q.0 (next_id S.tree)) (nowhere_yet k) o (one_or_two o q.0))
+arrives_there S device info (place.Closing s) k came fit told =
+    new_request kind.Request 0 device (place.Closing s) info k (λ t. refl) (λ _. came) (λ n. absurd (let z : ⊥ = cc in z)) (λ _. told)
+    (λ o x n. refl) (λ o. nowhere_yet k o)
+arrives_there S device info _ k came fit told = absurd (let z : ⊥ = cc in z)
+
+-- a deed by which a request arrives
+abbrev pub is_arrival : Deed → Bool
+is_arrival (Arrive device info p) = true
+is_arrival _ = false
+
+pub deed_keeps : {A : Type 0} {F B : ℕ → Bool} (plan : Plan) (d : Deed) (S : State A) → fits plan d S ≡ true → (is_arrival d ≡ true → B (next_id S.tree) ≡ true) → KeptIn F B S
+    → KeptIn F B (do_deed plan d S)
+deed_keeps plan (Create what class parent) S f b k =
+    object_made what class parent k (not_true (is_request_kind what) (both_right (is_live (life_of S.tree parent) && not (is_full S.tree)) (not (is_request_kind what)) f))
+deed_keeps plan (Make_request class parent) S f b k =
+    new_request kind.Made class parent place.Owned (made_info (nearest_device S.tree parent)) k (λ t. refl) (λ e. absurd (let z : ⊥ = cc in z)) (λ _. refl) (λ e. absurd (let z : ⊥ = cc in z))
+    (λ o x n. refl) (λ o. nowhere_yet k o)
+deed_keeps plan (Arrive device info p) S f b k =
+    arrives_there S device info p k
+    (both_right (is_live (life_of S.tree device)) (nat_lt 0 info.arrival) (both_left (is_live (life_of S.tree device) && nat_lt 0 info.arrival) (is_arrival_place p) f))
+    (both_right (is_live (life_of S.tree device) && nat_lt 0 info.arrival) (is_arrival_place p) f) (b refl)
+deed_keeps plan (Ask_deletion o) S f b k = asked S o k
+deed_keeps plan (Refer o) S f b k = tree_changes o (λ n. record n { references = n.references + 1 }) k (λ n e. e)
+deed_keeps plan (Unrefer o) S f b k = tree_changes o (λ n. record n { references = n.references - 1 }) k (λ n e. e)
+deed_keeps plan (Write_cell o c v) S f b k = tree_changes o (λ n. record n { cells = slice_set n.cells c v }) k (λ n e. e)
+deed_keeps plan (Note o c) S f b k = tree_changes o (noted c) k (λ n e. sym (ap (λ (x : Kind). same_kind x kind.Request) (noted_kind c n)) ∙ e)
+deed_keeps plan (Clean_up o) S f b k = tree_changes o (with_life life.Cleaned) k (λ n e. e)
+deed_keeps plan (End_life o) S f b k = tree_changes o (λ _. gone) k (λ n e. absurd (let z : ⊥ = cc in z))
+deed_keeps plan (Present q r) S f b k = present_front q r k f
+deed_keeps plan (Receive q r) S f b k =
+    let is = returning_undone q (place_of S.requests r) f in
+    same_lines (still_move r place.Owned k is.0 is.1 refl (λ _. refl)) (λ p. held_line S.lines q p)
+deed_keeps plan (Requeue r q) S f b k =
+    given_enters (give_up S r) q r (enter_head (give_up S r).lines q r) (all_given_up S (give_up S r) (gives_up S r) k) (still_given S (give_up S r) r (gives_up S r) f) (head_enters (give_up S r).lines q r)
+deed_keeps plan (Forward r q) S f b k =
+    given_enters (give_up S r) q r (enter_tail (give_up S r).lines q r) (all_given_up S (give_up S r) (gives_up S r) k)
+    (still_given S (give_up S r) r (gives_up S r) (both_left (is_given S r) (accepts S.modes q) f)) (tail_enters (give_up S r).lines q r)
+deed_keeps plan (Give_back r q) S f b k = given_back plan (give_up S r) q r (all_given_up S (give_up S r) (gives_up S r) k) (still_given S (give_up S r) r (gives_up S r) f)
+deed_keeps plan (Withdraw q r) S f b k = withdrawn plan q S r k (queued_unmade q (place_of S.requests r) f)
+deed_keeps plan (Mark_request r) S f b k =
+    marks_change r marked k (within S.requests r (owned_undone (place_of S.requests r) (owned_of S r f))) (λ q. (marked_place q q.info.cancelled refl).0) (λ q. (marked_place q q.info.cancelled refl).1)
+deed_keeps plan (Unmark_request r) S f b k =
+    marks_change r unmarked k (arrived_within S.requests r (k.kinds r f)) (λ q. (unmarked_place q (is_marked q.info.mark) refl).0) (λ q. (unmarked_place q (is_marked q.info.mark) refl).1)
+deed_keeps plan (Cancel_request r) S f b k = cancel_marks r k (reached_undone (place_of S.requests r) f)
+deed_keeps plan (Take_cancel r) S f b k =
+    marks_change r (with_mark mark.Taken) k (within S.requests r (held_undone (is_forgotten S.targets r) (place_of S.requests r) (both_right (is_due (mark_of S.requests r)) (is_with_driver S r) f))) (λ q. refl) (λ q. refl)
+deed_keeps plan (Send_request r t forget) S f b k =
+    sends_given S (give_up_if forget S r) r t forget (gives_up_if S r forget) k
+    (both_left (is_owned (place_of S.requests r)) (may_send S r t) (both_left (is_owned (place_of S.requests r) && may_send S r t) (not forget || same_kind (kind_of S.tree r) kind.Request) f))
+    (both_right (is_owned (place_of S.requests r) && may_send S r t) (not forget || same_kind (kind_of S.tree r) kind.Request) f)
+deed_keeps plan (Finish_sending r s) S f b k = finish_sending r s k (both_left (is_sent (place_of S.requests r)) (is_undone S.targets r) f)
+deed_keeps plan (Come_back r) S f b k = come_back r k (both_left (is_sent (place_of S.requests r)) (is_some (routine_due S.targets r)) f)
+deed_keeps plan (Complete_request r) S f b k =
+    asked (record (give_up S r) { requests = move_to S.requests r place.Done }) r (completes_it S (give_up S r) r (gives_up S r) k f)
+deed_keeps plan (Purge_queue q) S f b k = purged plan S (record S { modes = set_mode S.modes q mode.Purged }) q k k refl
+deed_keeps plan (Close_returning q) S f b k = all_closed q (ids_of S.requests.all) S k
+deed_keeps plan (Stop_target t) S f b k = same_targets k (λ u. stopped_target S.targets t u true)
+deed_keeps plan (Start_target t) S f b k = same_targets k (λ u. stopped_target S.targets t u false)
+deed_keeps plan _ S f b k = k
+
+-- ---- deeds one after another, of which none is an arrival
+
+abbrev pub none_arrives : List Deed → Bool
+none_arrives ds = list_all (λ d. not (is_arrival d)) ds
+
+pub deeds_keep : {A : Type 0} {F B : ℕ → Bool} (plan : Plan) (ds : List Deed) (S : State A) → all_fit plan ds S ≡ true → none_arrives ds ≡ true → KeptIn F B S → KeptIn F B (do_deeds plan ds S)
+deeds_keep plan [] S f n k = k
+deeds_keep plan (d ∷ ds) S f n k =
+    deeds_keep plan ds (do_deed plan d S) (both_right (fits plan d S) (all_fit plan ds (do_deed plan d S)) f) (both_right (not (is_arrival d)) (none_arrives ds) n)
+    (deed_keeps plan d S (both_left (fits plan d S) (all_fit plan ds (do_deed plan d S)) f)
+    (λ a. absurd (let never : is_arrival d ≡ false = not_true (is_arrival d) (both_left (not (is_arrival d)) (none_arrives ds) n) in let z : ⊥ = cc in z)) k)

@@ -1,0 +1,35 @@
+ghost use Rattle.std.specs.Prelude.{◌≡◌, ◌<◌, ℕ, true, List, [], ◌∷◌, ◌++◌, Some, slice_get, take};
+ghost use Rattle.wdf_base.specs.Meaning.{Meaning};
+ghost use Rattle.wdf_base.specs.declared.plan.Plan.{Plan};
+ghost use Rattle.wdf_base.specs.declared.event.Event.{Event};
+ghost use Rattle.wdf_model.specs.Objects.{next_id};
+ghost use Rattle.wdf_model.specs.Requests.{is_done, place_of};
+ghost use Rattle.wdf_model.specs.State.{State};
+ghost use Rattle.wdf_model.specs.Machine.{deeds, may};
+ghost use Rattle.wdf_model.specs.Ready.{IsRunOf, ready, state_after};
+ghost use Rattle.wdf_model.specs.Fits.{all_fit};
+ghost use Rattle.wdf_model.specs.OverRuns.{CompletedOnce, PlacesAgree};
+
+/// The deeds of each event that may come fit where they are done.
+pub fn each_event_fits<A>()
+    ensures { (plan : Plan) (m : Meaning A) (S : State A) (e : Event) → may plan m S e ≡ true → all_fit plan (deeds plan S e) S ≡ true }
+{}
+
+/// At each place of every run a request is Queued exactly where it stands in that queue's line, once, and
+/// Sent exactly where that target has it, once.
+pub fn places_agree<A>()
+    ensures { (m : Meaning A) (plan : Plan) (run : List Event) → IsRunOf m plan run → (n : ℕ) → PlacesAgree (state_after m plan (take n run)) }
+{}
+
+/// In every run no request is completed twice, and none before it arrives.
+pub fn completed_once<A>()
+    ensures { (m : Meaning A) (plan : Plan) (run : List Event) → IsRunOf m plan run → CompletedOnce run }
+{}
+
+/// In every run a request that is Done stays Done, whatever event follows.
+pub fn done_stays_done<A>()
+    ensures { (m : Meaning A) (plan : Plan) (run : List Event) (k : ℕ) (e : Event) (r : ℕ) → IsRunOf m plan run
+        → slice_get (ready m plan run) k ≡ Some e → r < next_id (state_after m plan run).tree
+        → is_done (place_of (state_after m plan run).requests r) ≡ true
+        → is_done (place_of (state_after m plan (run ++ e ∷ [])).requests r) ≡ true }
+{}
