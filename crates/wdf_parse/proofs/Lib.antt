@@ -15,6 +15,7 @@ pub mod NotVersion
 pub mod Numbers
 pub mod Picking
 pub mod PrintedLines
+pub mod ProperNames
 pub mod ReadBack
 pub mod Respelling
 pub mod ShortWords

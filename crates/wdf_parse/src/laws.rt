@@ -2,7 +2,8 @@
 ghost use Rattle.std.specs.Prelude.{◌≡◌, List, Some, Ok, IsTrue};
 ghost use Rattle.std.specs.List.{list_all};
 ghost use Rattle.wdf_scene.specs.declared.scene.Scene.{Scene};
-ghost use Rattle.wdf_scene.specs.Written.{Written, is_written};
+ghost use Rattle.wdf_scene.specs.Naming.{HasProperNames};
+ghost use Rattle.wdf_scene.specs.Written.{Written, IsScene, is_written};
 ghost use Rattle.wdf_parse.specs.declared.token.Token.{Token};
 ghost use Rattle.wdf_parse.specs.Canonical.{line_bytes};
 ghost use Rattle.wdf_parse.specs.Reading.{read_written};
@@ -36,4 +37,10 @@ pub fn one_scene(text: &[u8])
 /// line numbers.
 pub fn printed_is_read_back(text: &[u8])
     ensures { (scene : Scene) → StandsFor text.now scene → IsReadBack scene }
+{}
+
+/// A scene that stands for a text has lines of the language, and declares names of the language.
+pub fn scenes_are_well_formed(text: &[u8])
+    ensures lines { (scene : Scene) → StandsFor text.now scene → IsScene scene }
+    ensures names { (scene : Scene) → StandsFor text.now scene → HasProperNames scene }
 {}
