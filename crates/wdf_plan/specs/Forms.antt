@@ -71,18 +71,6 @@ is_post (line.AtCancel tick k) = true
 is_post (line.AtAsk tick ask d) = true
 is_post _ = false
 
--- the name that the line declares
-unfoldable pub declared_name : SceneLine → Option (List ℕ)
-declared_name (line.Class n k) = Some n
-declared_name (line.DeferredClass n k parent) = Some n
-declared_name (line.Device n working) = Some n
-declared_name (line.Interrupt n level) = Some n
-declared_name (line.Queue n dispatch) = Some n
-declared_name (line.Target n delay status depth) = Some n
-declared_name (line.App n) = Some n
-declared_name (line.Register n v) = Some n
-declared_name _ = None
-
 -- the variable that the line assigns
 unfoldable pub assigned_name : SceneLine → Option (List ℕ)
 assigned_name (line.Let x e) = Some x

@@ -1,14 +1,17 @@
 pub mod Attribute
 pub mod Blocks
+pub mod Bounded
 pub mod Declarations
 pub mod First
 pub mod Forms
 pub mod Limits
+pub mod Named
 pub mod Names
 pub mod Numbers
 pub mod Parts
 pub mod Placed
 pub mod Plans
+pub mod Posted
 pub mod Reserved
 pub mod Rows
 pub mod Scripts

@@ -132,43 +132,45 @@ register_on names p (line.Register n v) =
     Some (record { name = name_number names n; device = id_of p.counts.device; value = v })
 register_on names p _ = None
 
-unfoldable pub when_on : List Declaration → Option ℕ → SceneLine → Option WhenLine
-when_on names device (line.When access r a after) =
+unfoldable pub when_on : List Declaration → ℕ → Option ℕ → SceneLine → Option WhenLine
+when_on names number device (line.When access r a after) =
     Some (record {
       access = access;
       register = number_of names r (wanted.RegisterOf device);
       action = action_of names device a;
       after = after;
+      line = number;
     })
-when_on names device _ = None
+when_on names number device _ = None
 
 -- ---- posts
 
-abbrev pub post_at : ℕ → Post → PostLine
-post_at tick p = record { tick = tick; post = p }
+-- the post of the line with this number
+abbrev pub post_at : ℕ → ℕ → Post → PostLine
+post_at number tick p = record { tick = tick; post = p; line = number }
 
 -- what the Plug and Play manager posts
-unfoldable pub pnp_post : List Declaration → SceneLine → Option PostLine
-pnp_post names (line.AtAsk tick ask d) =
-    Some (post_at tick (post.Ask ask (handle_of names d wanted.Device)))
-pnp_post names _ = None
+unfoldable pub pnp_post : List Declaration → ℕ → SceneLine → Option PostLine
+pnp_post names number (line.AtAsk tick ask d) =
+    Some (post_at number tick (post.Ask ask (handle_of names d wanted.Device)))
+pnp_post names number _ = None
 
 -- what an app posts
-unfoldable pub app_post : List Declaration → SceneLine → Option PostLine
-app_post names (line.AtRead tick d n) =
-    Some (post_at tick (post.Read (handle_of names d wanted.Device) n))
-app_post names (line.AtWrite tick d n) =
-    Some (post_at tick (post.Write (handle_of names d wanted.Device) n))
-app_post names (line.AtControl tick d code n) =
-    Some (post_at tick (post.Control (handle_of names d wanted.Device) code n))
-app_post names (line.AtCancel tick k) = Some (post_at tick (post.Cancel k))
-app_post names _ = None
+unfoldable pub app_post : List Declaration → ℕ → SceneLine → Option PostLine
+app_post names number (line.AtRead tick d n) =
+    Some (post_at number tick (post.Read (handle_of names d wanted.Device) n))
+app_post names number (line.AtWrite tick d n) =
+    Some (post_at number tick (post.Write (handle_of names d wanted.Device) n))
+app_post names number (line.AtControl tick d code n) =
+    Some (post_at number tick (post.Control (handle_of names d wanted.Device) code n))
+app_post names number (line.AtCancel tick k) = Some (post_at number tick (post.Cancel k))
+app_post names number _ = None
 
 -- what a device posts
-unfoldable pub device_post : List Declaration → Option ℕ → SceneLine → Option PostLine
-device_post names device (line.At tick a) =
-    Some (post_at tick (post.Act (action_of names device a)))
-device_post names device _ = None
+unfoldable pub device_post : List Declaration → ℕ → Option ℕ → SceneLine → Option PostLine
+device_post names number device (line.At tick a) =
+    Some (post_at number tick (post.Act (action_of names device a)))
+device_post names number device _ = None
 
 -- the line stands in the block of line b
 abbrev pub stands_in : ℕ → Placed → Bool
@@ -176,10 +178,10 @@ stands_in b p = same_option ◌==◌ p.stand.block (Some b)
 
 -- the posts of the app, or of the device, of line b
 abbrev pub app_post_in : List Declaration → ℕ → Placed → Option PostLine
-app_post_in names b p = cond (stands_in b p) (app_post names p.form) None
+app_post_in names b p = cond (stands_in b p) (app_post names p.number p.form) None
 
 abbrev pub device_post_in : List Declaration → ℕ → Placed → Option PostLine
-device_post_in names b p = cond (stands_in b p) (device_post names p.stand.device p.form) None
+device_post_in names b p = cond (stands_in b p) (device_post names p.number p.stand.device p.form) None
 
 -- ---- agents
 

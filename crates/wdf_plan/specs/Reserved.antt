@@ -1,4 +1,4 @@
--- The words that are no names.
+-- The words that no line may declare, as they are looked for.
 use Rattle.std.specs.Prelude.{Bool, ℕ, ◌&&◌, ◌||◌, nat_lt, List, length, take, drop, codes}
 use Rattle.std.specs.Option.{is_some}
 use Rattle.std.specs.List.{list_all}
@@ -21,7 +21,7 @@ is_cpu_with_digits n =
 abbrev pub is_processor_word : List ℕ → Bool
 is_processor_word n = nat_lt 3 (length n) && is_cpu_with_digits n
 
--- a status, a part of the running callback, or one of these
-unfoldable pub is_reserved : List ℕ → Bool
-is_reserved n =
+-- a status, a part of the running callback, or one of these: so the look-up goes, and it finds wdf_base's reserved words
+unfoldable pub is_refused_word : List ℕ → Bool
+is_refused_word n =
     is_some (status_of n) || (is_some (context_of n) || (is_actor_word n || is_processor_word n))

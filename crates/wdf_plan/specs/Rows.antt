@@ -12,7 +12,7 @@ use Rattle.wdf_base.specs.declared.signature.Sort.{Sort}
 use Rattle.wdf_base.specs.declared.signature.Sort.TheVariants as sort
 use Rattle.wdf_base.specs.Calls.{signature_of}
 use Rattle.wdf_base.specs.Callbacks.{row_of}
-use Rattle.wdf_base.specs.Resolved.{function_of, serial_level}
+use Rattle.wdf_base.specs.Resolved.{function_of, serial_level, is_reserved}
 use Rattle.wdf_base.specs.Same.{same_option, same_kind}
 use Rattle.wdf_scene.specs.declared.line.SceneAction.{SceneAction}
 use Rattle.wdf_scene.specs.declared.line.SceneAction.TheVariants as action
@@ -23,6 +23,7 @@ use Rattle.wdf_scene.specs.declared.line.SceneExpr.TheVariants as expr
 use Rattle.wdf_scene.specs.declared.line.SceneLine.{SceneLine}
 use Rattle.wdf_scene.specs.declared.line.SceneLine.TheVariants as line
 use Rattle.wdf_scene.specs.declared.scene.Scene.{Scene}
+use Rattle.wdf_scene.specs.Naming.{declared_name}
 use Rattle.wdf_plan.specs.declared.attribute.Attribute.{Attribute}
 use Rattle.wdf_plan.specs.declared.attribute.Attribute.TheVariants as attribute
 use Rattle.wdf_plan.specs.declared.declaration.Declaration.{Declaration}
@@ -32,8 +33,7 @@ use Rattle.wdf_plan.specs.declared.placed.Placed.{Placed}
 use Rattle.wdf_plan.specs.Attribute.{attribute_of, is_device_wide}
 use Rattle.wdf_plan.specs.Blocks.{given, has_given, form_at, number_at}
 use Rattle.wdf_plan.specs.Declarations.{stands, has_name, is_parent_at}
-use Rattle.wdf_plan.specs.Forms.{declared_name, assigned_name, nodes_end, block_kind}
-use Rattle.wdf_plan.specs.Reserved.{is_reserved}
+use Rattle.wdf_plan.specs.Forms.{assigned_name, nodes_end, block_kind}
 use Rattle.wdf_plan.specs.Variables.{variable_number}
 
 -- ---- a name that stands for nothing there

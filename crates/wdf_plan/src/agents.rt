@@ -11,28 +11,32 @@ use std::alloc::Global;
 use wdf_base::{AgentInfo, Items, MANY, Memory, Post, PostLine};
 use wdf_scene::{Scene, SceneLine};
 
-fn post_at(tick: u64, post: Post) -> Option<PostLine>
-    ensures { result ≡ Some (parts.post_at tick post) }
+fn post_at(number: u32, tick: u64, post: Post) -> Option<PostLine>
+    ensures { result ≡ Some (parts.post_at number tick post) }
 {
-    Some(PostLine { tick, post })
+    Some(PostLine {
+        tick,
+        post,
+        line: number,
+    })
 }
 
 #[tactic(auto, unfolding(crate::specs::Parts::pnp_post))]
-fn pnp_post(names: &Names, form: &SceneLine) -> Result<Option<PostLine>, Memory>
-    ensures { IfOk result (λ o. o ≡ parts.pnp_post names.now form.now) }
+fn pnp_post(names: &Names, number: u32, form: &SceneLine) -> Result<Option<PostLine>, Memory>
+    ensures { IfOk result (λ o. o ≡ parts.pnp_post names.now number form.now) }
 {
     match form {
         SceneLine::AtAsk { tick, ask, device } => {
             let device = handle_of(names, device, Wanted::Device)?;
-            Ok(post_at(*tick, Post::Ask { ask: *ask, device }))
+            Ok(post_at(number, *tick, Post::Ask { ask: *ask, device }))
         }
         _ => Ok(None),
     }
 }
 
 #[tactic(auto, unfolding(crate::specs::Parts::app_post))]
-fn app_post(names: &Names, form: &SceneLine) -> Result<Option<PostLine>, Memory>
-    ensures { IfOk result (λ o. o ≡ parts.app_post names.now form.now) }
+fn app_post(names: &Names, number: u32, form: &SceneLine) -> Result<Option<PostLine>, Memory>
+    ensures { IfOk result (λ o. o ≡ parts.app_post names.now number form.now) }
 {
     match form {
         SceneLine::AtRead {
@@ -42,6 +46,7 @@ fn app_post(names: &Names, form: &SceneLine) -> Result<Option<PostLine>, Memory>
         } => {
             let device = handle_of(names, device, Wanted::Device)?;
             Ok(post_at(
+                number,
                 *tick,
                 Post::Read {
                     device,
@@ -56,6 +61,7 @@ fn app_post(names: &Names, form: &SceneLine) -> Result<Option<PostLine>, Memory>
         } => {
             let device = handle_of(names, device, Wanted::Device)?;
             Ok(post_at(
+                number,
                 *tick,
                 Post::Write {
                     device,
@@ -71,6 +77,7 @@ fn app_post(names: &Names, form: &SceneLine) -> Result<Option<PostLine>, Memory>
         } => {
             let device = handle_of(names, device, Wanted::Device)?;
             Ok(post_at(
+                number,
                 *tick,
                 Post::Control {
                     device,
@@ -80,7 +87,7 @@ fn app_post(names: &Names, form: &SceneLine) -> Result<Option<PostLine>, Memory>
             ))
         }
         SceneLine::AtCancel { tick, request } => {
-            Ok(post_at(*tick, Post::Cancel { arrival: *request }))
+            Ok(post_at(number, *tick, Post::Cancel { arrival: *request }))
         }
         _ => Ok(None),
     }
@@ -89,15 +96,16 @@ fn app_post(names: &Names, form: &SceneLine) -> Result<Option<PostLine>, Memory>
 #[tactic(auto, unfolding(crate::specs::Parts::device_post))]
 fn device_post(
     names: &Names,
+    number: u32,
     device: Option<u32>,
     form: &SceneLine,
 ) -> Result<Option<PostLine>, Memory>
-    ensures { IfOk result (λ o. o ≡ parts.device_post names.now device form.now) }
+    ensures { IfOk result (λ o. o ≡ parts.device_post names.now number device form.now) }
 {
     match form {
         SceneLine::At { tick, action } => {
             let action = action_of(names, device, action)?;
-            Ok(post_at(*tick, Post::Act { action }))
+            Ok(post_at(number, *tick, Post::Act { action }))
         }
         _ => Ok(None),
     }
@@ -118,10 +126,10 @@ pub struct PnpPosts<'a> {
 impl Part for PnpPosts<'_> {
     type Item = PostLine;
 
-    ghost part = { λ s p. parts.pnp_post s.names.now p.form };
+    ghost part = { λ s p. parts.pnp_post s.names.now p.number p.form };
 
     fn take(&self, line: &Placed) -> Result<Option<PostLine>, Memory> {
-        pnp_post(self.names, &line.form)
+        pnp_post(self.names, line.number, &line.form)
     }
 }
 
@@ -139,7 +147,7 @@ impl Part for AppPosts<'_> {
 
     fn take(&self, line: &Placed) -> Result<Option<PostLine>, Memory> {
         if stands_in(self.block, line) {
-            app_post(self.names, &line.form)
+            app_post(self.names, line.number, &line.form)
         } else {
             Ok(None)
         }
@@ -160,7 +168,7 @@ impl Part for DevicePosts<'_> {
 
     fn take(&self, line: &Placed) -> Result<Option<PostLine>, Memory> {
         if stands_in(self.block, line) {
-            device_post(self.names, line.stand.device, &line.form)
+            device_post(self.names, line.number, line.stand.device, &line.form)
         } else {
             Ok(None)
         }

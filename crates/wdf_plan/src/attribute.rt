@@ -1,8 +1,8 @@
 ghost use Rattle.std.specs.Prelude.{◌≡◌};
 ghost use Rattle.wdf_plan.specs.Attribute as spec;
 
-use crate::equal::same_request_form;
 use wdf_base::{Callback, RequestForm, same_callback};
+use wdf_same::same_request_form;
 use wdf_scene::SceneLine;
 
 /// What a block, or a device, is given by one of its lines at most.

@@ -2,9 +2,9 @@ ghost use Rattle.std.specs.Prelude.{◌≡◌, ◌==◌};
 ghost use Rattle.wdf_base.specs.Same.{same_option};
 ghost use Rattle.wdf_plan.specs.Declarations as spec;
 
-use crate::equal::same_kind;
 use crate::placed::Placed;
 use wdf_base::{Kind, Name};
+use wdf_same::same_kind;
 use wdf_scene::SceneLine;
 
 /// What a name is declared as.

@@ -1,4 +1,5 @@
 ghost use Rattle.std.specs.Prelude.{◌≡◌};
+ghost use Rattle.wdf_scene.specs.Naming.{declared_name};
 ghost use Rattle.wdf_plan.specs.Forms as forms;
 
 use wdf_base::{Kind, Name};
@@ -128,9 +129,9 @@ pub fn is_post(form: &SceneLine) -> bool
 }
 
 /// The name that a line declares, if it is a declaration.
-#[tactic(auto, unfolding(crate::specs::Forms::declared_name))]
+#[tactic(auto, unfolding(wdf_scene::specs::Naming::declared_name))]
 pub fn declared_name(form: &SceneLine) -> Option<Name>
-    ensures { result ≡ forms.declared_name form.now }
+    ensures { result ≡ declared_name form.now }
 {
     match form {
         SceneLine::Class { name, .. } => Some(*name),

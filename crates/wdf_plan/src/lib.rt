@@ -6,9 +6,9 @@ mod attribute;
 mod block;
 mod course;
 mod declaration;
-mod equal;
 mod first;
 mod forms;
+mod laws;
 mod limit;
 mod names;
 mod nodes;
@@ -27,6 +27,7 @@ mod walk;
 mod writer;
 mod wrong;
 
+pub use laws::{plans_are_bounded, plans_are_in_order, plans_are_named, plans_post_to_devices};
 pub use limit::{LIMITS, Limit};
 pub use refusal::PlanRefusal;
 pub use resolution::resolve;

@@ -286,8 +286,13 @@ impl Part for Registers<'_> {
 }
 
 #[tactic(auto, unfolding(crate::specs::Parts::when_on))]
-fn when_on(names: &Names, device: Option<u32>, form: &SceneLine) -> Result<Option<WhenLine>, Memory>
-    ensures { IfOk result (λ o. o ≡ parts.when_on names.now device form.now) }
+fn when_on(
+    names: &Names,
+    number: u32,
+    device: Option<u32>,
+    form: &SceneLine,
+) -> Result<Option<WhenLine>, Memory>
+    ensures { IfOk result (λ o. o ≡ parts.when_on names.now number device form.now) }
 {
     match form {
         SceneLine::When {
@@ -302,6 +307,7 @@ fn when_on(names: &Names, device: Option<u32>, form: &SceneLine) -> Result<Optio
                 register: number_of(names, register, Wanted::RegisterOf(device)),
                 action,
                 after: *after,
+                line: number,
             }))
         }
         _ => Ok(None),
@@ -317,9 +323,9 @@ pub struct Whens<'a> {
 impl Part for Whens<'_> {
     type Item = WhenLine;
 
-    ghost part = { λ s p. parts.when_on s.names.now p.stand.device p.form };
+    ghost part = { λ s p. parts.when_on s.names.now p.number p.stand.device p.form };
 
     fn take(&self, line: &Placed) -> Result<Option<WhenLine>, Memory> {
-        when_on(self.names, line.stand.device, &line.form)
+        when_on(self.names, line.number, line.stand.device, &line.form)
     }
 }

@@ -2,6 +2,7 @@ ghost use Rattle.std.specs.Prelude.{◌≡◌, ◌<◌, codes, drop, length};
 ghost use Rattle.std.specs.Char.{is_ascii_digit};
 ghost use Rattle.std.specs.List.{list_all};
 ghost use Rattle.std.specs.Str.{bytes_eq};
+ghost use Rattle.wdf_base.specs.Resolved.{is_reserved};
 ghost use Rattle.wdf_plan.specs.Reserved as spec;
 
 use wdf_base::{Name, Status};
@@ -42,14 +43,20 @@ fn is_processor_word(name: &[u8]) -> bool
     name.len() > 3 && is_cpu_with_digits(name)
 }
 
-/// Whether a name is a word that no declared thing and no variable may have.
-#[tactic(auto, unfolding(crate::specs::Reserved::is_reserved))]
-pub fn is_reserved(name: &Name) -> bool
-    ensures { result ≡ spec.is_reserved name.now }
+#[tactic(auto, unfolding(crate::specs::Reserved::is_refused_word))]
+fn is_refused_word(name: &[u8]) -> bool
+    ensures { result ≡ spec.is_refused_word name.now }
 {
-    let bytes = name.bytes();
-    Status::from_word(bytes).is_some()
-        || context_from_word(bytes).is_some()
-        || is_actor_word(bytes)
-        || is_processor_word(bytes)
+    Status::from_word(name).is_some()
+        || context_from_word(name).is_some()
+        || is_actor_word(name)
+        || is_processor_word(name)
+}
+
+/// Whether a name is a word that no declared thing and no variable may have.
+#[tactic(auto, using(crate::proofs::FreeNames::reserved_same))]
+pub fn is_reserved(name: &Name) -> bool
+    ensures { result ≡ is_reserved name.now }
+{
+    is_refused_word(name.bytes())
 }

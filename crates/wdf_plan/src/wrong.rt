@@ -8,11 +8,11 @@ ghost use Rattle.wdf_plan.specs.Rows as rows;
 use crate::attribute::Attribute;
 use crate::block::{effective_level, form_at, has_given};
 use crate::declaration::{Declaration, Wanted};
-use crate::equal::same_kind;
 use crate::forms::block_kind;
 use crate::names::{Names, is_wanted};
 use crate::placed::Placed;
 use wdf_base::{Callback, DeferredKind, ExecutionLevel, Name, Owner, same_execution_level};
+use wdf_same::same_kind;
 use wdf_scene::{Scene, SceneLine};
 
 #[tactic(auto, unfolding(crate::specs::Rows::is_class_or_device))]

@@ -1,0 +1,378 @@
+use crate::answers::{Answer, answered};
+use std::alloc::Global;
+use std::test::Fail;
+use wdf_base::Memory;
+use wdf_plan::{Limit, PlanRefusal};
+
+/// A number within its bound, the same past it, and the line of it.
+static NUMBERS: [(Limit, u32, &str, &str, &str, &str); 21] = [
+    (Limit::Cpus, 1, "cpus ", "1", "0", "\nlimit 9\nobjects 9\n"),
+    (Limit::Cpus, 1, "cpus ", "8", "9", "\nlimit 9\nobjects 9\n"),
+    (Limit::Limit, 2, "cpus 1\nlimit ", "1", "0", "\nobjects 9\n"),
+    (
+        Limit::Limit,
+        2,
+        "cpus 1\nlimit ",
+        "200000",
+        "200001",
+        "\nobjects 9\n",
+    ),
+    (
+        Limit::Objects,
+        3,
+        "cpus 1\nlimit 9\nobjects ",
+        "1",
+        "0",
+        "\n",
+    ),
+    (
+        Limit::Objects,
+        3,
+        "cpus 1\nlimit 9\nobjects ",
+        "4096",
+        "4097",
+        "\n",
+    ),
+    // The driver object, a device and a queue count, and no class, register or app does.
+    (
+        Limit::Objects,
+        3,
+        "cpus 1\nlimit 9\nobjects ",
+        "3",
+        "2",
+        "\ndevice D\nregister R 0\nqueue Q manual\nend\nend\nclass C object\nend\napp A\nend\n",
+    ),
+    (
+        Limit::Level,
+        5,
+        "cpus 1\nlimit 9\nobjects 9\ndevice D\ninterrupt I ",
+        "3",
+        "2",
+        "\non EvtInterruptIsr\nend\nend\nend\n",
+    ),
+    (
+        Limit::Level,
+        5,
+        "cpus 1\nlimit 9\nobjects 9\ndevice D\ninterrupt I ",
+        "12",
+        "13",
+        "\non EvtInterruptIsr\nend\nend\nend\n",
+    ),
+    // A passive interrupt has no number.
+    (
+        Limit::Level,
+        6,
+        "version 2\ncpus 1\nlimit 9\nobjects 9\ndevice D\ninterrupt I ",
+        "passive",
+        "0",
+        "\non EvtInterruptIsr\nend\nend\nend\n",
+    ),
+    (
+        Limit::Parallel,
+        5,
+        "cpus 1\nlimit 9\nobjects 9\ndevice D\nqueue Q parallel ",
+        "1",
+        "0",
+        "\nend\nend\n",
+    ),
+    (
+        Limit::Parallel,
+        5,
+        "cpus 1\nlimit 9\nobjects 9\ndevice D\nqueue Q parallel ",
+        "1024",
+        "1025",
+        "\nend\nend\n",
+    ),
+    (
+        Limit::Depth,
+        5,
+        "cpus 1\nlimit 9\nobjects 9\ndevice D\ntarget T 0 SUCCESS ",
+        "1",
+        "0",
+        "\non EvtRequestCompletion\nend\nend\nend\n",
+    ),
+    (
+        Limit::Depth,
+        5,
+        "cpus 1\nlimit 9\nobjects 9\ndevice D\ntarget T 0 SUCCESS ",
+        "256",
+        "257",
+        "\non EvtRequestCompletion\nend\nend\nend\n",
+    ),
+    (
+        Limit::Ticks,
+        5,
+        "cpus 1\nlimit 9\nobjects 9\ndevice D\ntarget T ",
+        "1000000",
+        "1000001",
+        " SUCCESS 1\non EvtRequestCompletion\nend\nend\nend\n",
+    ),
+    (
+        Limit::Ticks,
+        5,
+        "cpus 1\nlimit 9\nobjects 9\nclass C timer D\nperiod ",
+        "1000000",
+        "1000001",
+        "\non EvtTimerFunc\nend\nend\ndevice D\nend\n",
+    ),
+    (
+        Limit::Ticks,
+        6,
+        "cpus 1\nlimit 9\nobjects 9\ndevice D\nregister R 0\nwhen read R set R 1 after ",
+        "1000000",
+        "1000001",
+        "\nend\n",
+    ),
+    (
+        Limit::Ticks,
+        6,
+        "cpus 1\nlimit 9\nobjects 9\ndevice D\nregister R 0\nat ",
+        "1000000",
+        "1000001",
+        " set R 1\nend\n",
+    ),
+    (
+        Limit::Ticks,
+        7,
+        "cpus 1\nlimit 9\nobjects 9\ndevice D\nend\napp A\nat ",
+        "1000000",
+        "1000001",
+        " read D 1\nend\n",
+    ),
+    (
+        Limit::Ticks,
+        7,
+        "cpus 1\nlimit 9\nobjects 9\ndevice D\nend\npnp\nat ",
+        "1000000",
+        "1000001",
+        " start D\nend\n",
+    ),
+    // Of several limits the first is told.
+    (
+        Limit::Depth,
+        5,
+        "cpus 1\nlimit 9\nobjects 9\ndevice D\ntarget T ",
+        "0 SUCCESS 1",
+        "1000001 SUCCESS 257",
+        "\non EvtRequestCompletion\nend\nend\nend\n",
+    ),
+];
+
+/// Lines that may stand so often, and one more.
+struct Many {
+    limit: Limit,
+    /// What stands before them, behind the first three lines.
+    front: &'static str,
+    /// The lines, before and behind their number.
+    before: &'static str,
+    after: &'static str,
+    /// How often they may stand.
+    bound: u32,
+    /// What is one too many behind them, and its line.
+    more: &'static str,
+    line: u32,
+    back: &'static str,
+}
+
+static FEW_LINES: [Many; 5] = [
+    Many {
+        limit: Limit::Devices,
+        front: "",
+        before: "device D",
+        after: "\nend\n",
+        bound: 8,
+        more: "device E\nend\n",
+        line: 20,
+        back: "",
+    },
+    Many {
+        limit: Limit::Apps,
+        front: "",
+        before: "app A",
+        after: "\nend\n",
+        bound: 256,
+        more: "app B\nend\n",
+        line: 516,
+        back: "",
+    },
+    Many {
+        limit: Limit::Registers,
+        front: "device D\nregister S 0\nend\ndevice E\n",
+        before: "register R",
+        after: " 0\n",
+        bound: 63,
+        more: "register T 0\n",
+        line: 71,
+        back: "end\n",
+    },
+    Many {
+        limit: Limit::Classes,
+        front: "",
+        before: "class C",
+        after: " object\nend\n",
+        bound: 256,
+        more: "class K dpc D\non EvtDpcFunc\nend\nend\n",
+        line: 516,
+        back: "device D\nend\n",
+    },
+    Many {
+        limit: Limit::Variables,
+        front: "device D\non EvtDeviceD0Exit\nlet y = 1\nend\non EvtDeviceD0Entry\n",
+        before: "let x",
+        after: " = 1\n",
+        bound: 16,
+        more: "let x0 = 2\ncall y = GetContext D 0\n",
+        line: 26,
+        back: "end\nend\n",
+    },
+];
+
+// An `else` and an `end` are no statements.
+static STATEMENTS: Many = Many {
+    limit: Limit::Statements,
+    front: "device D\non EvtDeviceD0Entry\nif 1\nelse\nend\nend\non EvtDeviceD0Exit\n",
+    before: "spend ",
+    after: "\n",
+    bound: 4095,
+    more: "log 1\n",
+    line: 4106,
+    back: "end\nend\n",
+};
+
+static POSTS: Many = Many {
+    limit: Limit::Posts,
+    front: "device D\nregister R 0\nat 0 set R 1\nend\npnp\nat 0 start D\nend\napp A\n",
+    before: "at 0 cancel ",
+    after: "\n",
+    bound: 4094,
+    more: "at 0 read D 1\n",
+    line: 4106,
+    back: "end\n",
+};
+
+static PICKS: Many = Many {
+    limit: Limit::Picks,
+    front: "order\n",
+    before: "picks 0 0 0 0 0 0 0 0 0 0 0 0 0 0 0 0 0 0 0 ",
+    after: "\n",
+    bound: 10_000,
+    more: "picks 0\n",
+    line: 10_005,
+    back: "end\n",
+};
+
+fn refused(line: u32, limit: Limit) -> Answer {
+    Answer::Refused(PlanRefusal::OverLimit { line, limit })
+}
+
+/// Three texts in a row.
+fn joined(alloc: Global, front: &str, middle: &str, back: &str) -> Result<String, Memory> {
+    let mut text = String::new(alloc);
+    text.push_str(front)?;
+    text.push_str(middle)?;
+    text.push_str(back)?;
+    Ok(text)
+}
+
+fn push_number(text: &mut String, number: u32) -> Result<(), Memory> {
+    let mut buffer = itoa::Buffer::new();
+    text.push_str(buffer.format(number))?;
+    Ok(())
+}
+
+/// The lines as often as they may stand.
+fn push_lines(text: &mut String, many: &Many) -> Result<(), Memory> {
+    for number in 0..many.bound {
+        text.push_str(many.before)?;
+        push_number(text, number)?;
+        text.push_str(many.after)?;
+    }
+    Ok(())
+}
+
+/// The scenario with the lines as often as they may stand, and this behind them.
+fn repeated(alloc: Global, many: &Many, more: &str) -> Result<String, Memory> {
+    let mut text = String::new(alloc);
+    text.push_str("cpus 1\nlimit 9\nobjects 99\n")?;
+    text.push_str(many.front)?;
+    push_lines(&mut text, many)?;
+    text.push_str(more)?;
+    text.push_str(many.back)?;
+    Ok(text)
+}
+
+fn answer_of_number(alloc: Global, front: &str, number: &str, back: &str) -> Option<Answer> {
+    let text = joined(alloc, front, number, back).ok()?;
+    Some(answered(alloc, text.as_bytes()))
+}
+
+fn answer_of_lines(alloc: Global, many: &Many, more: &str) -> Option<Answer> {
+    let text = repeated(alloc, many, more).ok()?;
+    Some(answered(alloc, text.as_bytes()))
+}
+
+/// The answers to the lines as often as they may stand, and to one more.
+fn answers_of_lines(alloc: Global, many: &Many) -> (Option<Answer>, Option<Answer>) {
+    (
+        answer_of_lines(alloc, many, ""),
+        answer_of_lines(alloc, many, many.more),
+    )
+}
+
+/// What is to be answered to these.
+fn expected(many: &Many) -> (Option<Answer>, Option<Answer>) {
+    (Some(Answer::Resolved), Some(refused(many.line, many.limit)))
+}
+
+#[test]
+fn numbers_have_bounds(rt: HostRuntime) -> Result<(), Fail> {
+    let alloc = rt.alloc();
+    for (limit, line, front, within, past, back) in &NUMBERS {
+        assert_eq!(rt;
+            answer_of_number(alloc, front, within, back),
+            Some(Answer::Resolved),
+            "at {front:?} {within:?}"
+        );
+        assert_eq!(rt;
+            answer_of_number(alloc, front, past, back),
+            Some(refused(*line, *limit)),
+            "at {front:?} {past:?}"
+        );
+    }
+    Ok(())
+}
+
+#[test]
+fn lines_may_stand_so_often(rt: HostRuntime) -> Result<(), Fail> {
+    let alloc = rt.alloc();
+    for many in &FEW_LINES {
+        assert_eq!(rt;
+            answers_of_lines(alloc, many),
+            expected(many),
+            "at {:?}",
+            many.before
+        );
+    }
+    Ok(())
+}
+
+#[test]
+fn statements_may_stand_so_often(rt: HostRuntime) -> Result<(), Fail> {
+    assert_eq!(rt;
+        answers_of_lines(rt.alloc(), &STATEMENTS),
+        expected(&STATEMENTS)
+    );
+    Ok(())
+}
+
+#[test]
+fn posts_may_stand_so_often(rt: HostRuntime) -> Result<(), Fail> {
+    assert_eq!(rt; answers_of_lines(rt.alloc(), &POSTS), expected(&POSTS));
+    Ok(())
+}
+
+#[test]
+fn picks_may_stand_so_often(rt: HostRuntime) -> Result<(), Fail> {
+    assert_eq!(rt; answers_of_lines(rt.alloc(), &PICKS), expected(&PICKS));
+    Ok(())
+}

@@ -1,0 +1,11 @@
+//! Tests of plans over texts: what `resolve` answers to the scene that a text stands for.
+#![tactic(auto)]
+
+#[cfg(test)]
+mod answers;
+#[cfg(test)]
+mod bounds;
+#[cfg(test)]
+mod refusals;
+#[cfg(test)]
+mod serial_port;

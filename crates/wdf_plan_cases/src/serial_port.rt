@@ -1,0 +1,684 @@
+use crate::answers::plan_of;
+use std::test::Fail;
+use wdf_base::{
+    Access, Act, Action, ArgNode, Ask, CallKind, Callback, ClassInfo, ContextWord, Declared,
+    DeferredKind, DeviceInfo, DispatchKind, ExecutionLevel, ExprNode, Handle, InterruptInfo, Irql,
+    ObjectId, Operator, Post, QueueInfo, Scope, Serves, Statement, Status,
+};
+
+/// A serial port: its interrupt fetches a byte, and a read waits in a manual queue for it.
+const TEXT: &str = "cpus 2
+limit 1000
+objects 32
+class TM timer D
+on EvtTimerFunc
+log 99
+end
+end
+device D
+scope device
+register RX 0
+register CTL 0
+when write CTL set RX 65 after 3
+when write CTL raise IRQ after 3
+when read RX lower IRQ after 0
+interrupt IRQ 6
+on EvtInterruptIsr
+get b = RX
+call SetContext device 1 b
+call WdfInterruptQueueDpcForIsr self
+end
+on EvtInterruptDpc
+call r = WdfIoQueueRetrieveNextRequest PEND
+if ( r != NO_MORE_ENTRIES )
+call WdfRequestComplete r SUCCESS
+end
+end
+end
+queue WQ parallel 2
+for write
+on EvtIoWrite
+put CTL 1
+call WdfRequestComplete request SUCCESS
+end
+end
+queue RQ parallel 4
+for read
+on EvtIoRead
+call f = WdfRequestForwardToIoQueue request PEND
+if ( f != SUCCESS )
+call WdfRequestComplete request f
+end
+end
+end
+queue PEND manual
+power off
+end
+on EvtDevicePrepareHardware
+call t = WdfTimerCreate TM
+call SetContext device 0 t
+end
+on EvtDeviceD0Entry
+call t = GetContext device 0
+call WdfTimerStart t 2
+end
+on EvtDeviceD0Exit
+call t = GetContext device 0
+call WdfTimerStop t 1
+end
+end
+app A
+at 0 read D 16
+at 1 read D 16
+at 4 write D 1
+at 20 write D 1
+at 25 read D 16
+end
+pnp
+at 0 start D
+at 10 sleep D
+at 15 wake D
+at 40 surprise D
+end
+";
+
+/// The names by their numbers.
+static NAMES: [&str; 11] = [
+    "driver", "req", "TM", "D", "RX", "CTL", "IRQ", "WQ", "RQ", "PEND", "A",
+];
+
+const DEVICE: Handle = Handle {
+    id: ObjectId(2),
+    name: 3,
+};
+
+const INTERRUPT: Handle = Handle {
+    id: ObjectId(3),
+    name: 6,
+};
+
+const PENDING: ExprNode = ExprNode::Object(Handle {
+    id: ObjectId(6),
+    name: 9,
+});
+
+/// The objects from id 1 on.
+static OBJECTS: [Declared; 6] = [
+    Declared::Driver,
+    Declared::Device(DeviceInfo {
+        name: 3,
+        working: false,
+        scope: Scope::PerDevice,
+        level: ExecutionLevel::Dispatch,
+    }),
+    Declared::Interrupt(InterruptInfo {
+        name: 6,
+        device: ObjectId(2),
+        level: Irql(6),
+    }),
+    Declared::Queue(QueueInfo {
+        name: 7,
+        device: ObjectId(2),
+        dispatch: DispatchKind::Parallel(2),
+        serves: Serves {
+            rest: false,
+            read: false,
+            write: true,
+            control: false,
+        },
+        powered: true,
+        zero: false,
+        scope: Scope::PerDevice,
+        level: ExecutionLevel::Dispatch,
+    }),
+    Declared::Queue(QueueInfo {
+        name: 8,
+        device: ObjectId(2),
+        dispatch: DispatchKind::Parallel(4),
+        serves: Serves {
+            rest: false,
+            read: true,
+            write: false,
+            control: false,
+        },
+        powered: true,
+        zero: false,
+        scope: Scope::PerDevice,
+        level: ExecutionLevel::Dispatch,
+    }),
+    Declared::Queue(QueueInfo {
+        name: 9,
+        device: ObjectId(2),
+        dispatch: DispatchKind::Manual,
+        serves: Serves {
+            rest: false,
+            read: false,
+            write: false,
+            control: false,
+        },
+        powered: false,
+        zero: false,
+        scope: Scope::PerDevice,
+        level: ExecutionLevel::Dispatch,
+    }),
+];
+
+/// The nodes of the expressions.
+static NODES: [ExprNode; 32] = [
+    ExprNode::Number(99),
+    ExprNode::Context(ContextWord::NearestDevice),
+    ExprNode::Number(1),
+    ExprNode::Variable(0),
+    ExprNode::Context(ContextWord::OwnObject),
+    PENDING,
+    ExprNode::Variable(0),
+    ExprNode::Literal(Status::NoMoreEntries),
+    ExprNode::Binary {
+        operator: Operator::Differs,
+        left: 6,
+        right: 7,
+    },
+    ExprNode::Variable(0),
+    ExprNode::Literal(Status::Success),
+    ExprNode::Number(1),
+    ExprNode::Context(ContextWord::OwnRequest),
+    ExprNode::Literal(Status::Success),
+    ExprNode::Context(ContextWord::OwnRequest),
+    PENDING,
+    ExprNode::Variable(0),
+    ExprNode::Literal(Status::Success),
+    ExprNode::Binary {
+        operator: Operator::Differs,
+        left: 16,
+        right: 17,
+    },
+    ExprNode::Context(ContextWord::OwnRequest),
+    ExprNode::Variable(0),
+    ExprNode::Context(ContextWord::NearestDevice),
+    ExprNode::Number(0),
+    ExprNode::Variable(0),
+    ExprNode::Context(ContextWord::NearestDevice),
+    ExprNode::Number(0),
+    ExprNode::Variable(0),
+    ExprNode::Number(2),
+    ExprNode::Context(ContextWord::NearestDevice),
+    ExprNode::Number(0),
+    ExprNode::Variable(0),
+    ExprNode::Number(1),
+];
+
+/// The callbacks with the ids of their objects, 0 for the class, their lines and how many statements they have.
+static SCRIPTS: [(Callback, usize, u32, u32); 8] = [
+    (Callback::EvtTimerFunc, 0, 5, 1),
+    (Callback::EvtInterruptIsr, 3, 17, 3),
+    (Callback::EvtInterruptDpc, 3, 22, 3),
+    (Callback::EvtIoWrite, 4, 31, 2),
+    (Callback::EvtIoRead, 5, 38, 3),
+    (Callback::EvtDevicePrepareHardware, 2, 48, 2),
+    (Callback::EvtDeviceD0Entry, 2, 52, 2),
+    (Callback::EvtDeviceD0Exit, 2, 56, 2),
+];
+
+/// The statements of all callbacks.
+static STATEMENTS: [Statement; 18] = [
+    Statement {
+        line: 6,
+        next: 1,
+        act: Act::Log { value: 0 },
+    },
+    Statement {
+        line: 18,
+        next: 1,
+        act: Act::Get {
+            variable: 0,
+            register: 0,
+        },
+    },
+    Statement {
+        line: 19,
+        next: 2,
+        act: Act::Call {
+            kind: CallKind::SetContext,
+            into: None,
+            a: ArgNode::Expression(1),
+            b: ArgNode::Expression(2),
+            c: ArgNode::Expression(3),
+        },
+    },
+    Statement {
+        line: 20,
+        next: 3,
+        act: Act::Call {
+            kind: CallKind::WdfInterruptQueueDpcForIsr,
+            into: None,
+            a: ArgNode::Expression(4),
+            b: ArgNode::NoArgument,
+            c: ArgNode::NoArgument,
+        },
+    },
+    Statement {
+        line: 23,
+        next: 1,
+        act: Act::Call {
+            kind: CallKind::WdfIoQueueRetrieveNextRequest,
+            into: Some(0),
+            a: ArgNode::Expression(5),
+            b: ArgNode::NoArgument,
+            c: ArgNode::NoArgument,
+        },
+    },
+    Statement {
+        line: 24,
+        next: 2,
+        act: Act::If {
+            test: 8,
+            otherwise: 3,
+        },
+    },
+    Statement {
+        line: 25,
+        next: 3,
+        act: Act::Call {
+            kind: CallKind::WdfRequestComplete,
+            into: None,
+            a: ArgNode::Expression(9),
+            b: ArgNode::Expression(10),
+            c: ArgNode::NoArgument,
+        },
+    },
+    Statement {
+        line: 32,
+        next: 1,
+        act: Act::Put {
+            register: 1,
+            value: 11,
+        },
+    },
+    Statement {
+        line: 33,
+        next: 2,
+        act: Act::Call {
+            kind: CallKind::WdfRequestComplete,
+            into: None,
+            a: ArgNode::Expression(12),
+            b: ArgNode::Expression(13),
+            c: ArgNode::NoArgument,
+        },
+    },
+    Statement {
+        line: 39,
+        next: 1,
+        act: Act::Call {
+            kind: CallKind::WdfRequestForwardToIoQueue,
+            into: Some(0),
+            a: ArgNode::Expression(14),
+            b: ArgNode::Expression(15),
+            c: ArgNode::NoArgument,
+        },
+    },
+    Statement {
+        line: 40,
+        next: 2,
+        act: Act::If {
+            test: 18,
+            otherwise: 3,
+        },
+    },
+    Statement {
+        line: 41,
+        next: 3,
+        act: Act::Call {
+            kind: CallKind::WdfRequestComplete,
+            into: None,
+            a: ArgNode::Expression(19),
+            b: ArgNode::Expression(20),
+            c: ArgNode::NoArgument,
+        },
+    },
+    Statement {
+        line: 49,
+        next: 1,
+        act: Act::Call {
+            kind: CallKind::WdfTimerCreate,
+            into: Some(0),
+            a: ArgNode::OfClass(0),
+            b: ArgNode::NoArgument,
+            c: ArgNode::NoArgument,
+        },
+    },
+    Statement {
+        line: 50,
+        next: 2,
+        act: Act::Call {
+            kind: CallKind::SetContext,
+            into: None,
+            a: ArgNode::Expression(21),
+            b: ArgNode::Expression(22),
+            c: ArgNode::Expression(23),
+        },
+    },
+    Statement {
+        line: 53,
+        next: 1,
+        act: Act::Call {
+            kind: CallKind::GetContext,
+            into: Some(0),
+            a: ArgNode::Expression(24),
+            b: ArgNode::Expression(25),
+            c: ArgNode::NoArgument,
+        },
+    },
+    Statement {
+        line: 54,
+        next: 2,
+        act: Act::Call {
+            kind: CallKind::WdfTimerStart,
+            into: None,
+            a: ArgNode::Expression(26),
+            b: ArgNode::Expression(27),
+            c: ArgNode::NoArgument,
+        },
+    },
+    Statement {
+        line: 57,
+        next: 1,
+        act: Act::Call {
+            kind: CallKind::GetContext,
+            into: Some(0),
+            a: ArgNode::Expression(28),
+            b: ArgNode::Expression(29),
+            c: ArgNode::NoArgument,
+        },
+    },
+    Statement {
+        line: 58,
+        next: 2,
+        act: Act::Call {
+            kind: CallKind::WdfTimerStop,
+            into: None,
+            a: ArgNode::Expression(30),
+            b: ArgNode::Expression(31),
+            c: ArgNode::NoArgument,
+        },
+    },
+];
+
+/// The ticks and the posts of the app.
+static APP_POSTS: [(u64, Post); 5] = [
+    (
+        0,
+        Post::Read {
+            device: DEVICE,
+            length: 16,
+        },
+    ),
+    (
+        1,
+        Post::Read {
+            device: DEVICE,
+            length: 16,
+        },
+    ),
+    (
+        4,
+        Post::Write {
+            device: DEVICE,
+            length: 1,
+        },
+    ),
+    (
+        20,
+        Post::Write {
+            device: DEVICE,
+            length: 1,
+        },
+    ),
+    (
+        25,
+        Post::Read {
+            device: DEVICE,
+            length: 16,
+        },
+    ),
+];
+
+/// The ticks and the posts of the Plug and Play manager.
+static ASKS: [(u64, Post); 4] = [
+    (
+        0,
+        Post::Ask {
+            ask: Ask::Start,
+            device: DEVICE,
+        },
+    ),
+    (
+        10,
+        Post::Ask {
+            ask: Ask::Sleep,
+            device: DEVICE,
+        },
+    ),
+    (
+        15,
+        Post::Ask {
+            ask: Ask::Wake,
+            device: DEVICE,
+        },
+    ),
+    (
+        40,
+        Post::Ask {
+            ask: Ask::Surprise,
+            device: DEVICE,
+        },
+    ),
+];
+
+/// What the `when` lines say: the access, the register, the action, the ticks between.
+static WHENS: [(Access, u32, Action, u64); 3] = [
+    (
+        Access::Write,
+        1,
+        Action::Set {
+            register: 0,
+            value: 65,
+        },
+        3,
+    ),
+    (
+        Access::Write,
+        1,
+        Action::Raise {
+            interrupt: INTERRUPT,
+        },
+        3,
+    ),
+    (
+        Access::Read,
+        0,
+        Action::Lower {
+            interrupt: INTERRUPT,
+        },
+        0,
+    ),
+];
+
+#[test]
+fn names_objects_and_classes_have_numbers(rt: HostRuntime) -> Result<(), Fail> {
+    let plan = plan_of(rt.alloc(), TEXT.as_bytes()).ok_or("no plan")?;
+    assert_eq!(rt; (plan.cpus, plan.limit, plan.objects), (2, 1000, 32));
+    assert_eq!(rt; plan.names.len() as usize, NAMES.len());
+    for (name, expected) in plan.names.as_slice().iter().zip(&NAMES) {
+        assert_eq!(rt; name.bytes(), expected.as_bytes());
+    }
+    assert_eq!(rt; plan.declared.as_slice(), &OBJECTS[..]);
+    assert_eq!(rt;
+        plan.classes.as_slice(),
+        &[ClassInfo::Deferred {
+            name: 2,
+            kind: DeferredKind::Timer,
+            parent: ObjectId(2),
+            serialize: false,
+            period: 0,
+        }][..]
+    );
+    Ok(())
+}
+
+#[test]
+fn registers_and_posts_stand_for_their_devices(rt: HostRuntime) -> Result<(), Fail> {
+    let plan = plan_of(rt.alloc(), TEXT.as_bytes()).ok_or("no plan")?;
+    assert_eq!(rt; plan.registers.len(), 2);
+    for (register, name) in plan.registers.as_slice().iter().zip([4, 5]) {
+        assert_eq!(rt;
+            (register.name, register.device, register.value),
+            (name, ObjectId(2), 0)
+        );
+    }
+    assert_eq!(rt; plan.whens.len() as usize, WHENS.len());
+    for (line, expected) in plan.whens.as_slice().iter().zip(&WHENS) {
+        assert_eq!(rt;
+            (line.access, line.register, line.action, line.after),
+            *expected
+        );
+    }
+    assert_eq!(rt; plan.pnp.len() as usize, ASKS.len());
+    for (line, expected) in plan.pnp.as_slice().iter().zip(&ASKS) {
+        assert_eq!(rt; (line.tick, line.post), *expected);
+    }
+    let names = plan.agents.as_slice().iter().map(|agent| agent.name);
+    assert!(rt; names.eq([10, 3]));
+    Ok(())
+}
+
+#[test]
+fn an_app_posts_in_the_order_of_its_lines(rt: HostRuntime) -> Result<(), Fail> {
+    let plan = plan_of(rt.alloc(), TEXT.as_bytes()).ok_or("no plan")?;
+    let app = plan.agents.as_slice().first().ok_or("no app")?;
+    assert_eq!(rt; app.posts.len() as usize, APP_POSTS.len());
+    for (line, expected) in app.posts.as_slice().iter().zip(&APP_POSTS) {
+        assert_eq!(rt; (line.tick, line.post), *expected);
+    }
+    Ok(())
+}
+
+/// The object with this id, or of the one class.
+fn owner(id: usize) -> Declared {
+    match id {
+        0 => Declared::OfClass(0),
+        _ => match OBJECTS.get(id - 1) {
+            Some(object) => *object,
+            None => Declared::Driver,
+        },
+    }
+}
+
+#[test]
+fn callbacks_stand_for_their_objects(rt: HostRuntime) -> Result<(), Fail> {
+    let plan = plan_of(rt.alloc(), TEXT.as_bytes()).ok_or("no plan")?;
+    assert_eq!(rt; plan.scripts.len() as usize, SCRIPTS.len());
+    for (script, (callback, id, line, count)) in plan.scripts.as_slice().iter().zip(&SCRIPTS) {
+        assert_eq!(rt; script.callback, *callback);
+        assert_eq!(rt; script.owner, owner(*id), "at line {line}");
+        assert_eq!(rt; script.line, *line);
+        assert_eq!(rt; script.statements.len(), *count, "at line {line}");
+    }
+    Ok(())
+}
+
+#[test]
+fn statements_and_expressions_have_numbers(rt: HostRuntime) -> Result<(), Fail> {
+    let plan = plan_of(rt.alloc(), TEXT.as_bytes()).ok_or("no plan")?;
+    assert_eq!(rt; plan.exprs.as_slice(), &NODES[..]);
+    let mut from = 0;
+    for script in plan.scripts.as_slice() {
+        for (statement, expected) in script
+            .statements
+            .as_slice()
+            .iter()
+            .zip(STATEMENTS.iter().skip(from))
+        {
+            assert_eq!(rt; *statement, *expected, "at line {}", expected.line);
+        }
+        from = from.saturating_add(script.statements.len() as usize);
+    }
+    assert_eq!(rt; from, STATEMENTS.len());
+    Ok(())
+}
+
+/// Blocks in a callback.
+const NESTED: &str = "cpus 1
+limit 9
+objects 9
+device D
+on EvtDeviceD0Entry
+repeat 2
+if 1
+log 1
+else
+repeat 3
+end
+end
+end
+return SUCCESS
+end
+end
+";
+
+/// From a first branch the way leads past the `else`, from a body's end to its first statement.
+static NESTED_STATEMENTS: [Statement; 7] = [
+    Statement {
+        line: 6,
+        next: 1,
+        act: Act::Repeat {
+            count: 0,
+            depth: 0,
+            past: 6,
+        },
+    },
+    Statement {
+        line: 7,
+        next: 2,
+        act: Act::If {
+            test: 1,
+            otherwise: 3,
+        },
+    },
+    Statement {
+        line: 8,
+        next: 5,
+        act: Act::Log { value: 2 },
+    },
+    Statement {
+        line: 10,
+        next: 4,
+        act: Act::Repeat {
+            count: 3,
+            depth: 1,
+            past: 5,
+        },
+    },
+    Statement {
+        line: 10,
+        next: 5,
+        act: Act::Again { depth: 1, body: 4 },
+    },
+    Statement {
+        line: 6,
+        next: 6,
+        act: Act::Again { depth: 0, body: 1 },
+    },
+    Statement {
+        line: 14,
+        next: 7,
+        act: Act::Return { value: 4 },
+    },
+];
+
+#[test]
+fn the_way_through_nested_blocks(rt: HostRuntime) -> Result<(), Fail> {
+    let plan = plan_of(rt.alloc(), NESTED.as_bytes()).ok_or("no plan")?;
+    let script = plan.scripts.as_slice().first().ok_or("no script")?;
+    assert_eq!(rt; script.statements.as_slice(), &NESTED_STATEMENTS[..]);
+    Ok(())
+}
