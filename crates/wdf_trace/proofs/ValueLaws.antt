@@ -15,8 +15,6 @@ use Rattle.wdf_base.specs.declared.value.Value.TheVariants.{Num, Obj, Stat}
 use Rattle.wdf_base.specs.declared.call.Arg.{Arg}
 use Rattle.wdf_base.specs.declared.call.Arg.TheVariants.{Val, Class}
 use Rattle.wdf_base.specs.Kinds.{class_name}
-use Rattle.wdf_base.specs.declared.signature.Sort.{Sort}
-use Rattle.wdf_base.specs.declared.signature.Sort.TheVariants as sort
 use Rattle.wdf_base.specs.Resolved.{is_name, is_reserved, register_name}
 use Rattle.wdf_base.specs.Words.{status_word, status_of}
 use Rattle.wdf_base.proofs.WordLaws.{status-back, status-only}
@@ -27,7 +25,7 @@ use Rattle.wdf_trace.specs.Events.{IsHandleOf, IsOptionalOf, IsValueOf, IsArgume
 use Rattle.wdf_trace.proofs.Blanks.{Lacks, Lacks_append, parts_last, parts_more, has_dot_none, has_dot_some}
 use Rattle.wdf_trace.proofs.Decimals.{Lacks_decimal, decimal_digits, number_of-decimal, short_of-decimal, below_is}
 use Rattle.wdf_trace.proofs.NameLaws.{HasNames, is_name_lacks, item_at, text_by_name, class_of-class_text}
-use Rattle.wdf_trace.proofs.WordLaws.{is_present, status_word_lacks, status_word_no_dot, status_word_no_digits, status_word_reserved}
+use Rattle.wdf_trace.proofs.WordLaws.{status_word_lacks, status_word_no_dot, status_word_no_digits, status_word_reserved}
 
 -- two arguments at once
 pub ap2 : {A B C : Type 0} (f : A → B → C) {a a' : A} {b b' : B} → a ≡ a' → b ≡ b' → f a b ≡ f a' b'
@@ -160,26 +158,11 @@ class_of-value_text plan h v valid =
       | inr p ↦ absurd (class_no_value plan h v valid p.0 p.1)
     ]
 
-pub argument_of-argument_text : (plan : Plan) → HasNames plan → (s : Sort) (a : Arg) → is_present s ≡ true → IsArgumentOf plan s a → argument_of plan s (argument_text plan a) ≡ a
-argument_of-argument_text plan h sort.Absent a there v = absurd (let z : ⊥ = cc in z)
-argument_of-argument_text plan h (sort.Class k) (Val x) there v =
+pub argument_of-argument_text : (plan : Plan) → HasNames plan → (a : Arg) → IsArgumentOf plan true a → argument_of plan true (argument_text plan a) ≡ a
+argument_of-argument_text plan h (Val x) v =
     ap2 class_or_value (class_of-value_text plan h x v) (value_of-value_text plan h x v)
-argument_of-argument_text plan h (sort.Class k) (Class c) there v =
+argument_of-argument_text plan h (Class c) v =
     ap (λ o. class_or_value o (value_of plan (class_text plan c))) (class_of-class_text plan h c v)
-argument_of-argument_text plan h sort.AnyObject (Val x) there v = ap Val (value_of-value_text plan h x v)
-argument_of-argument_text plan h (sort.ObjectOf k) (Val x) there v = ap Val (value_of-value_text plan h x v)
-argument_of-argument_text plan h sort.AnyRequest (Val x) there v = ap Val (value_of-value_text plan h x v)
-argument_of-argument_text plan h sort.AnyStatus (Val x) there v = ap Val (value_of-value_text plan h x v)
-argument_of-argument_text plan h sort.AnyNumber (Val x) there v = ap Val (value_of-value_text plan h x v)
-argument_of-argument_text plan h (sort.UpTo n) (Val x) there v = ap Val (value_of-value_text plan h x v)
-argument_of-argument_text plan h sort.AnyValue (Val x) there v = ap Val (value_of-value_text plan h x v)
-argument_of-argument_text plan h sort.AnyObject (Class c) there v = absurd v
-argument_of-argument_text plan h (sort.ObjectOf k) (Class c) there v = absurd v
-argument_of-argument_text plan h sort.AnyRequest (Class c) there v = absurd v
-argument_of-argument_text plan h sort.AnyStatus (Class c) there v = absurd v
-argument_of-argument_text plan h sort.AnyNumber (Class c) there v = absurd v
-argument_of-argument_text plan h (sort.UpTo n) (Class c) there v = absurd v
-argument_of-argument_text plan h sort.AnyValue (Class c) there v = absurd v
 
 -- the word of a class has no blank
 pub class_lacks : (plan : Plan) → HasNames plan → (c : ℕ) → c < length plan.classes → Lacks 32 (class_text plan c)
@@ -187,24 +170,9 @@ class_lacks plan h c within =
     let (x, got, same) = item_at plan.classes c within in
     rw (text_by_name plan class_name plan.classes c x got, ← same) (name_lacks_blank plan h (class_name (get_or plan.classes c x)) (h.classes.there c x within))
 
-pub argument_lacks : (plan : Plan) → HasNames plan → (s : Sort) (a : Arg) → is_present s ≡ true → IsArgumentOf plan s a → Lacks 32 (argument_text plan a)
-argument_lacks plan h sort.Absent a there v = absurd (let z : ⊥ = cc in z)
-argument_lacks plan h (sort.Class k) (Val x) there v = value_lacks plan h x v
-argument_lacks plan h (sort.Class k) (Class c) there v = class_lacks plan h c v
-argument_lacks plan h sort.AnyObject (Val x) there v = value_lacks plan h x v
-argument_lacks plan h (sort.ObjectOf k) (Val x) there v = value_lacks plan h x v
-argument_lacks plan h sort.AnyRequest (Val x) there v = value_lacks plan h x v
-argument_lacks plan h sort.AnyStatus (Val x) there v = value_lacks plan h x v
-argument_lacks plan h sort.AnyNumber (Val x) there v = value_lacks plan h x v
-argument_lacks plan h (sort.UpTo n) (Val x) there v = value_lacks plan h x v
-argument_lacks plan h sort.AnyValue (Val x) there v = value_lacks plan h x v
-argument_lacks plan h sort.AnyObject (Class c) there v = absurd v
-argument_lacks plan h (sort.ObjectOf k) (Class c) there v = absurd v
-argument_lacks plan h sort.AnyRequest (Class c) there v = absurd v
-argument_lacks plan h sort.AnyStatus (Class c) there v = absurd v
-argument_lacks plan h sort.AnyNumber (Class c) there v = absurd v
-argument_lacks plan h (sort.UpTo n) (Class c) there v = absurd v
-argument_lacks plan h sort.AnyValue (Class c) there v = absurd v
+pub argument_lacks : (plan : Plan) → HasNames plan → (a : Arg) → IsArgumentOf plan true a → Lacks 32 (argument_text plan a)
+argument_lacks plan h (Val x) v = value_lacks plan h x v
+argument_lacks plan h (Class c) v = class_lacks plan h c v
 
 -- ---- parts that may be missing
 

@@ -1,9 +1,9 @@
 -- A line of an ending or of a wait list is read back from its words.
-use Rattle.std.proofs.Common.{◌≡◌, ◌≢◌, ℕ, zero, suc, ◌+◌, ◌<◌, ◌^◌, Bool, true, false, List, [], ◌∷◌, ◌++◌, length, Option, Some, None, unwrap_or, refl, sym, ap, ◌∙◌, subst, arith, codes, decimal, add-zero, zero-add}
+use Rattle.std.proofs.Common.{◌≡◌, ◌≢◌, ℕ, suc, ◌+◌, ◌<◌, ◌^◌, Bool, true, false, List, [], ◌∷◌, ◌++◌, length, Option, Some, None, unwrap_or, refl, sym, ap, ◌∙◌, subst, arith, codes, decimal, add-zero, zero-add}
 use Rattle.std.specs.Char.{is_ascii_digit}
 use Rattle.std.specs.List.{list_all}
 use Rattle.std.specs.Str.{bytes_eq}
-use Rattle.std.proofs.lemmas.Bool.{both_ways, false_from_ne_true, cond-true, cond-false, cond_both}
+use Rattle.std.proofs.lemmas.Bool.{both_ways, false_from_ne_true, cond-true, cond-false}
 use Rattle.std.proofs.lemmas.Slice.Eq.{bytes_eq-Decides}
 use Rattle.wdf_base.specs.declared.plan.Plan.{Plan}
 use Rattle.wdf_base.specs.declared.ids.Handle.{Handle}
@@ -21,17 +21,16 @@ use Rattle.wdf_base.specs.declared.wait.Cause.{Cause}
 use Rattle.wdf_base.specs.declared.wait.Cause.TheVariants as cause
 use Rattle.wdf_base.specs.declared.wait.WaitLine.{WaitLine}
 use Rattle.wdf_base.specs.Words.{callback_word, stage_word}
-use Rattle.wdf_base.proofs.WordLaws.{callback-only, stage-back}
-use Rattle.wdf_trace.specs.Lines.{spaced, object_text}
+use Rattle.wdf_base.proofs.WordLaws.{stage-back}
+use Rattle.wdf_trace.specs.Lines.{object_text}
 use Rattle.wdf_trace.specs.Endings.{joined, ending_word, ending_text, step_word, thing_words, cause_words, wait_text}
 use Rattle.wdf_trace.specs.Events.{IsHandleOf}
-use Rattle.wdf_trace.specs.Reading.{word, words, number_after, number_of, below, short_of, has_dot, object_of}
-use Rattle.wdf_trace.specs.Told.{callback_named, callback_in, stage_in}
+use Rattle.wdf_trace.specs.Reading.{word, words, number_after, number_of, short_of, has_dot, object_of}
+use Rattle.wdf_trace.specs.Told.{stage_in}
 use Rattle.wdf_trace.specs.CauseWords.{cause_word_of}
-use Rattle.wdf_trace.specs.Waits.{IsEndingText, ending_of, has_cause, IsThingOf, IsCauseOf, IsWaitOf, frame_of, cause_with, cause_in, step_with, step_of, queued_line, sequence_line, object_line, wait_in}
+use Rattle.wdf_trace.specs.Waits.{IsEndingText, ending_of, has_cause, IsThingOf, IsCauseOf, IsWaitOf, frame_of, cause_with, cause_in, step_with, step_of, object_line, wait_in}
 use Rattle.wdf_trace.proofs.Blanks.{Lacks, AllLack, words_spaced}
-use Rattle.wdf_trace.proofs.CallLaws.{AllLack_append}
-use Rattle.wdf_trace.proofs.Decimals.{Lacks_decimal, decimal_digits, number_of-decimal, short_of-decimal, below_small}
+use Rattle.wdf_trace.proofs.Decimals.{decimal_digits, number_of-decimal, short_of-decimal, below_small}
 use Rattle.wdf_trace.proofs.EventLaws.{short_lacks, digits_lack, callback_named-word, callback_in-word, callback_named-stage}
 use Rattle.wdf_trace.proofs.NameLaws.{HasNames}
 use Rattle.wdf_trace.proofs.ValueLaws.{ap2, ap3, ap4, object_of-object_text, has_dot-object_text, object_lacks}

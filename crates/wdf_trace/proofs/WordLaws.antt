@@ -1,5 +1,5 @@
 -- The words of the tables have no blank, and those that a line must tell from others differ from these.
-use Rattle.std.proofs.Common.{◌≡◌, Bool, true, false, refl, codes}
+use Rattle.std.proofs.Common.{◌≡◌, true, false, refl, codes}
 use Rattle.std.specs.Char.{is_ascii_digit}
 use Rattle.std.specs.List.{list_all}
 use Rattle.std.specs.Str.{bytes_eq}
@@ -15,8 +15,6 @@ use Rattle.wdf_base.specs.declared.event.Stage.{Stage}
 use Rattle.wdf_base.specs.declared.event.Stage.TheVariants as stage
 use Rattle.wdf_base.specs.declared.event.Ask.{Ask}
 use Rattle.wdf_base.specs.declared.event.Ask.TheVariants as ask
-use Rattle.wdf_base.specs.declared.signature.Sort.{Sort}
-use Rattle.wdf_base.specs.declared.signature.Sort.TheVariants as sort
 use Rattle.wdf_base.specs.Resolved.{is_reserved}
 use Rattle.wdf_base.specs.Words.{status_word, callback_word, call_word, fault_word, stage_word, ask_word}
 use Rattle.wdf_trace.specs.Reading.{has_dot}
@@ -226,11 +224,6 @@ callback_word_no_dot callback.EvtInterruptDisable = refl
 callback_word_no_dot callback.EvtWorkItem = refl
 callback_word_no_dot callback.EvtCleanupCallback = refl
 callback_word_no_dot callback.EvtDestroyCallback = refl
-
--- a call has such an argument
-abbrev pub is_present : Sort → Bool
-is_present sort.Absent = false
-is_present _ = true
 
 pub callback_word_other : (x : Callback) → (bytes_eq (callback_word x) (codes "owned") ≡ false) × (bytes_eq (callback_word x) (codes "sent") ≡ false) × (bytes_eq (callback_word x) (codes "returning") ≡ false)
 callback_word_other callback.EvtInterruptIsr = (refl, refl, refl)

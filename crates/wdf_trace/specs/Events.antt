@@ -1,5 +1,5 @@
 -- The events whose texts are lines of a plan: over all values of the types, not over what the machine may do.
-use Rattle.std.specs.Prelude.{◌≡◌, ◌^◌, ◌<◌, ◌≤◌, Bool, true, false, length, Option, Some, None, is_some}
+use Rattle.std.specs.Prelude.{◌≡◌, ◌^◌, ◌<◌, ◌≤◌, nat_lt, Bool, true, false, length, Option, Some, None, is_some}
 use Rattle.wdf_base.specs.declared.plan.Plan.{Plan}
 use Rattle.wdf_base.specs.declared.ids.Handle.{Handle}
 use Rattle.wdf_base.specs.declared.value.Value.{Value}
@@ -7,8 +7,6 @@ use Rattle.wdf_base.specs.declared.value.Value.TheVariants.{Num, Obj, Stat}
 use Rattle.wdf_base.specs.declared.call.Arg.{Arg}
 use Rattle.wdf_base.specs.declared.call.Arg.TheVariants.{Val, Class}
 use Rattle.wdf_base.specs.declared.call.Call.{Call}
-use Rattle.wdf_base.specs.declared.signature.Sort.{Sort}
-use Rattle.wdf_base.specs.declared.signature.Sort.TheVariants as sort
 use Rattle.wdf_base.specs.declared.event.Action.{Action}
 use Rattle.wdf_base.specs.declared.event.Action.TheVariants as action
 use Rattle.wdf_base.specs.declared.event.Stage.{Stage}
@@ -34,19 +32,17 @@ IsValueOf plan (Num n) = n < 2 ^ 64
 IsValueOf plan (Obj o) = IsHandleOf plan o
 IsValueOf plan (Stat s) = Unit {0}
 
--- a class stands only where the call takes one, and an argument that it doesn't take is the number 0
-abbrev pub IsArgumentOf : Plan → Sort → Arg → Type 0
-IsArgumentOf plan sort.Absent a = a ≡ Val (Num 0)
-IsArgumentOf plan (sort.Class k) (Val v) = IsValueOf plan v
-IsArgumentOf plan (sort.Class k) (Class c) = c < length plan.classes
-IsArgumentOf plan _ (Val v) = IsValueOf plan v
-IsArgumentOf plan _ (Class c) = ⊥
+-- an argument that a call takes is a value or a class; one that it doesn't take is the number 0
+abbrev pub IsArgumentOf : Plan → Bool → Arg → Type 0
+IsArgumentOf plan false a = a ≡ Val (Num 0)
+IsArgumentOf plan true (Val v) = IsValueOf plan v
+IsArgumentOf plan true (Class c) = c < length plan.classes
 
--- a call has as many arguments as it takes
+-- a call has as many arguments as its row takes
 abbrev pub IsCallOf : Plan → Call → Type 0
 IsCallOf plan call =
-    (call.count ≡ argument_count (signature_of call.kind)) × IsArgumentOf plan (signature_of call.kind).a call.a
-    × IsArgumentOf plan (signature_of call.kind).b call.b × IsArgumentOf plan (signature_of call.kind).c call.c
+    (call.count ≡ argument_count (signature_of call.kind)) × IsArgumentOf plan (nat_lt 0 call.count) call.a
+    × IsArgumentOf plan (nat_lt 1 call.count) call.b × IsArgumentOf plan (nat_lt 2 call.count) call.c
 
 -- a stage that is passed for one interrupt
 abbrev pub is_for_interrupt : Stage → Bool

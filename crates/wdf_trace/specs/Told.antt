@@ -1,5 +1,5 @@
 -- The event that the words of a line tell, if they tell any: each word is taken for what stands at its place.
-use Rattle.std.specs.Prelude.{if◌then◌else◌, ℕ, ◌==◌, ◌+◌, List, length, Option, Some, None, unwrap_or}
+use Rattle.std.specs.Prelude.{if◌then◌else◌, ℕ, ◌==◌, ◌+◌, nat_lt, Bool, true, false, List, length, Option, Some, None, unwrap_or}
 use Rattle.wdf_base.specs.declared.plan.Plan.{Plan}
 use Rattle.wdf_base.specs.declared.ids.Handle.{Handle}
 use Rattle.wdf_base.specs.declared.value.Value.{Value}
@@ -13,8 +13,6 @@ use Rattle.wdf_base.specs.declared.call.CallKind.{CallKind}
 use Rattle.wdf_base.specs.declared.call.CallKind.TheVariants as call
 use Rattle.wdf_base.specs.declared.call.Callback.{Callback}
 use Rattle.wdf_base.specs.declared.call.Callback.TheVariants as callback
-use Rattle.wdf_base.specs.declared.signature.Sort.{Sort}
-use Rattle.wdf_base.specs.declared.signature.Sort.TheVariants as sort
 use Rattle.wdf_base.specs.declared.event.Access.TheVariants as access
 use Rattle.wdf_base.specs.declared.event.Action.TheVariants as action
 use Rattle.wdf_base.specs.declared.event.Ask.{Ask}
@@ -50,20 +48,19 @@ abbrev pub class_or_value : Option ℕ → Value → Arg
 class_or_value None v = Val v
 class_or_value (Some c) v = Class c
 
--- the argument of this sort that a word names; an absent one is the number 0
-abbrev pub argument_of : Plan → Sort → List ℕ → Arg
-argument_of plan sort.Absent w = Val (Num 0)
-argument_of plan (sort.Class k) w = class_or_value (class_of plan w) (value_of plan w)
-argument_of plan _ w = Val (value_of plan w)
+-- the argument that a word names; one that isn't taken is the number 0
+abbrev pub argument_of : Plan → Bool → List ℕ → Arg
+argument_of plan false w = Val (Num 0)
+argument_of plan true w = class_or_value (class_of plan w) (value_of plan w)
 
 -- the call of this kind whose arguments a line has
 abbrev pub call_with : Plan → CallKind → List (List ℕ) → Call
 call_with plan k ws = record {
   kind = k;
   count = argument_count (signature_of k);
-  a = argument_of plan (signature_of k).a (word 4 ws);
-  b = argument_of plan (signature_of k).b (word 5 ws);
-  c = argument_of plan (signature_of k).c (word 6 ws);
+  a = argument_of plan (nat_lt 0 (argument_count (signature_of k))) (word 4 ws);
+  b = argument_of plan (nat_lt 1 (argument_count (signature_of k))) (word 5 ws);
+  c = argument_of plan (nat_lt 2 (argument_count (signature_of k))) (word 6 ws);
 }
 
 -- the kind of call of a word

@@ -1,5 +1,5 @@
 -- Which texts are lines of an ending and lines of a wait list, and what such a line tells.
-use Rattle.std.specs.Prelude.{if◌then◌else◌, ◌≡◌, ◌≢◌, ℕ, ◌==◌, ◌+◌, ◌^◌, ◌<◌, Bool, true, false, List, [], ◌∷◌, codes, Option, Some, None, find, unwrap_or}
+use Rattle.std.specs.Prelude.{if◌then◌else◌, ◌≡◌, ◌≢◌, ℕ, ◌+◌, ◌^◌, ◌<◌, Bool, true, false, List, codes, Option, Some, None}
 use Rattle.std.specs.Str.{bytes_eq}
 use Rattle.wdf_base.specs.declared.plan.Plan.{Plan}
 use Rattle.wdf_base.specs.declared.ids.FrameId.{FrameId}
@@ -18,7 +18,7 @@ use Rattle.wdf_base.specs.declared.wait.WaitLine.{WaitLine}
 use Rattle.wdf_trace.specs.declared.cause_word.CauseWord.{CauseWord}
 use Rattle.wdf_trace.specs.declared.cause_word.CauseWord.TheVariants as cause_word
 use Rattle.wdf_trace.specs.CauseWords.{cause_word_of}
-use Rattle.wdf_trace.specs.Endings.{ending_text, wait_text}
+use Rattle.wdf_trace.specs.Endings.{ending_text}
 use Rattle.wdf_trace.specs.Events.{IsHandleOf}
 use Rattle.wdf_trace.specs.Reading.{word, short_of, has_dot, object_of}
 use Rattle.wdf_trace.specs.Told.{callback_named, callback_in, stage_in}

@@ -1,143 +1,11 @@
+use crate::test_plan::{plan, show};
 use crate::*;
-use std::alloc::Global;
 use std::process::Abort;
 use std::test::Fail;
 use wdf_base::{
-    Access, Action, AgentInfo, Arg, Ask, Call, CallKind, Callback, Cause, ClassInfo, Cpu, Declared,
-    DeferredKind, DeviceInfo, DispatchKind, Ending, Event, ExecutionLevel, FEW, Fault, FrameId,
-    Handle, InterruptInfo, Irql, Items, MANY, Memory, Name, ObjectId, OpenThing, PlainKind, Plan,
-    Post, QueueInfo, RegisterInfo, Scope, Serves, Stage, Status, Step, TargetInfo, Value, WaitLine,
+    Access, Action, Arg, Ask, Call, CallKind, Callback, Cpu, Event, Fault, FrameId, Handle,
+    ObjectId, Plan, Post, Stage, Status, Value,
 };
-
-/// The declared names behind `driver` and `req`, from name 2 on.
-const NAMES: [&str; 10] = ["D", "Q", "IRQ", "T", "RX", "CTL", "L", "TM", "A", "DQ"];
-
-fn names(alloc: Global) -> Result<Items<Name, MANY>, Memory> {
-    let mut names = Items::new(alloc);
-    names.push(Name::new(b"driver"))?;
-    names.push(Name::new(b"req"))?;
-    for name in NAMES {
-        if name.len() <= 32 && names.len() < 100 {
-            names.push(Name::new(name.as_bytes()))?;
-        }
-    }
-    Ok(names)
-}
-
-fn device(name: u32) -> Declared {
-    Declared::Device(DeviceInfo {
-        name,
-        working: false,
-        scope: Scope::Unscoped,
-        level: ExecutionLevel::Dispatch,
-    })
-}
-
-fn queue(name: u32) -> Declared {
-    Declared::Queue(QueueInfo {
-        name,
-        device: ObjectId(2),
-        dispatch: DispatchKind::Sequential,
-        serves: Serves {
-            rest: true,
-            read: false,
-            write: false,
-            control: false,
-        },
-        powered: true,
-        zero: false,
-        scope: Scope::Unscoped,
-        level: ExecutionLevel::Dispatch,
-    })
-}
-
-fn interrupt(name: u32) -> Declared {
-    Declared::Interrupt(InterruptInfo {
-        name,
-        device: ObjectId(2),
-        level: Irql(6),
-    })
-}
-
-fn target(name: u32) -> Declared {
-    Declared::Target(TargetInfo {
-        name,
-        device: ObjectId(2),
-        delay: 3,
-        status: Status::Success,
-        depth: 1,
-    })
-}
-
-fn declared(alloc: Global) -> Result<Items<Declared, MANY>, Memory> {
-    let mut declared = Items::new(alloc);
-    declared.push(Declared::Driver)?;
-    declared.push(device(2))?;
-    declared.push(queue(3))?;
-    declared.push(interrupt(4))?;
-    declared.push(target(5))?;
-    Ok(declared)
-}
-
-fn classes(alloc: Global) -> Result<Items<ClassInfo, FEW>, Memory> {
-    let mut classes = Items::new(alloc);
-    classes.push(ClassInfo::Plain {
-        name: 8,
-        kind: PlainKind::WaitLock,
-    })?;
-    classes.push(ClassInfo::Deferred {
-        name: 9,
-        kind: DeferredKind::Timer,
-        parent: ObjectId(2),
-        serialize: false,
-        period: 0,
-    })?;
-    Ok(classes)
-}
-
-fn registers(alloc: Global) -> Result<Items<RegisterInfo, MANY>, Memory> {
-    let mut registers = Items::new(alloc);
-    for name in [6, 7] {
-        if registers.len() < 100 {
-            registers.push(RegisterInfo {
-                name,
-                device: ObjectId(2),
-                value: 0,
-            })?;
-        }
-    }
-    Ok(registers)
-}
-
-/// The app A, the device D and the target T.
-fn agents(alloc: Global) -> Result<Items<AgentInfo, FEW>, Memory> {
-    let mut agents = Items::new(alloc);
-    for name in [10, 2, 5] {
-        if agents.len() < 100 {
-            let posts = Items::new(alloc);
-            agents.push(AgentInfo { name, posts })?;
-        }
-    }
-    Ok(agents)
-}
-
-fn plan(alloc: Global) -> Result<Plan, Memory> {
-    Ok(Plan {
-        cpus: 2,
-        limit: 100,
-        objects: 32,
-        names: names(alloc)?,
-        declared: declared(alloc)?,
-        classes: classes(alloc)?,
-        registers: registers(alloc)?,
-        whens: Items::new(alloc),
-        pnp: Items::new(alloc),
-        agents: agents(alloc)?,
-        exprs: Items::new(alloc),
-        scripts: Items::new(alloc),
-        picks: Items::new(alloc),
-    })
-}
 
 const DRIVER: Handle = Handle {
     id: ObjectId(1),
@@ -322,7 +190,7 @@ static STATEMENTS: [(Event, &str); 9] = [
 ];
 
 /// Framework calls.
-static CALLS: [(Event, &str); 7] = [
+static CALLS: [(Event, &str); 10] = [
     (
         Event::Did {
             cpu: CPU,
@@ -419,6 +287,47 @@ static CALLS: [(Event, &str); 7] = [
             answer: Value::Num(0),
         },
         "3 cpu0 woke WdfTimerStop TM.7 1 -> 0",
+    ),
+    (
+        Event::Did {
+            cpu: CPU,
+            call: Call {
+                kind: CallKind::WdfObjectDelete,
+                count: 1,
+                a: Arg::Class(1),
+                b: ZERO,
+                c: ZERO,
+            },
+            answer: SUCCESS,
+        },
+        "3 cpu0 call WdfObjectDelete TM -> SUCCESS",
+    ),
+    (
+        Event::Waiting {
+            cpu: CPU,
+            call: Call {
+                kind: CallKind::WdfRequestSend,
+                count: 3,
+                a: Arg::Class(0),
+                b: Arg::Class(1),
+                c: Arg::Class(2),
+            },
+        },
+        "3 cpu0 wait WdfRequestSend L TM O",
+    ),
+    (
+        Event::Woke {
+            cpu: CPU,
+            call: Call {
+                kind: CallKind::WdfTimerCreate,
+                count: 1,
+                a: Arg::Val(SUCCESS),
+                b: ZERO,
+                c: ZERO,
+            },
+            answer: Value::Num(0),
+        },
+        "3 cpu0 woke WdfTimerCreate SUCCESS -> 0",
     ),
 ];
 
@@ -575,31 +484,25 @@ static POSTS: [(Event, &str); 11] = [
     ),
 ];
 
-/// Each event and its line, in both directions.
-fn show(rt: &impl Abort, plan: &Plan, number: usize, rows: &[(Event, &str)]) {
+fn show_all(rt: &impl Abort, plan: &Plan, number: usize, rows: &[(Event, &str)]) {
     for (event, text) in rows {
-        assert_eq!(rt; line_of(plan, number, event).bytes(), text.as_bytes());
-        assert_eq!(rt;
-            read_line(plan, text.as_bytes()),
-            Some((number, *event)),
-            "{text}"
-        );
+        show(rt, plan, number, event, text);
     }
 }
 
 #[test]
 fn events_are_shown_and_read(rt: HostRuntime) -> Result<(), Fail> {
     let plan = plan(rt.alloc())?;
-    show(&rt, &plan, 7, &FRAMES);
-    show(&rt, &plan, 0, &STATEMENTS);
-    show(&rt, &plan, 3, &CALLS);
-    show(&rt, &plan, 12, &STEPS);
-    show(&rt, &plan, 1, &POSTS);
+    show_all(&rt, &plan, 7, &FRAMES);
+    show_all(&rt, &plan, 0, &STATEMENTS);
+    show_all(&rt, &plan, 3, &CALLS);
+    show_all(&rt, &plan, 12, &STEPS);
+    show_all(&rt, &plan, 1, &POSTS);
     Ok(())
 }
 
 /// Texts that are no event's line.
-const OTHERS: [&str; 36] = [
+const OTHERS: [&str; 38] = [
     "",
     "1",
     "clock tick 1",
@@ -619,7 +522,9 @@ const OTHERS: [&str; 36] = [
     "1 cpu0 start EvtInterruptIsr IRQ.4 req.4",
     "1 cpu0 call WdfTimerCreate TM D.2 -> TM.7",
     "1 cpu0 call WdfTimerCreate TM.7",
-    "1 cpu0 call WdfObjectDelete TM -> SUCCESS",
+    "1 cpu0 call WdfObjectDelete D -> SUCCESS",
+    "1 cpu0 call WdfObjectDelete TMX -> SUCCESS",
+    "1 cpu0 call WdfObjectDelete TM D.2 -> SUCCESS",
     "1 cpu0 call WdfRequestComplete req.4 -> SUCCESS",
     "1 fw stage D.2 enabled",
     "1 fw stage D.2 hardware IRQ.4",
@@ -643,171 +548,6 @@ fn other_texts_are_not_read(rt: HostRuntime) -> Result<(), Fail> {
     let plan = plan(rt.alloc())?;
     for text in OTHERS {
         assert_eq!(rt; read_line(&plan, text.as_bytes()), None, "{text}");
-    }
-    Ok(())
-}
-
-/// Endings after some events.
-static ENDINGS: [(usize, Ending, &str); 4] = [
-    (0, Ending::Finished, "finished 0"),
-    (100, Ending::Limit, "limit 100"),
-    (4, Ending::Fault(Fault::NotOwned), "fault 4"),
-    (18, Ending::Stuck, "stuck 18"),
-];
-
-/// Texts that are no ending's line.
-const NO_ENDINGS: [&str; 6] = [
-    "finished",
-    "finished 04",
-    "limit 9 ",
-    "running 4",
-    " 4",
-    "stuck x",
-];
-
-#[test]
-fn endings_are_shown_and_told(rt: HostRuntime) {
-    for (events, ending, text) in &ENDINGS {
-        if !matches!(*ending, Ending::Running) {
-            assert_eq!(rt; ending_line(*events, *ending).bytes(), text.as_bytes());
-            assert!(rt; reads_as_ending(text.as_bytes()));
-        }
-    }
-    for text in NO_ENDINGS {
-        assert!(rt; !reads_as_ending(text.as_bytes()), "{text}");
-    }
-}
-
-/// Lines of a wait list.
-static WAITS: [(WaitLine, &str); 11] = [
-    (
-        WaitLine {
-            thing: OpenThing::Waiting {
-                frame: FrameId(18),
-                callback: Callback::EvtWorkItem,
-                object: TM,
-            },
-            cause: Some(Cause::ByLock {
-                lock: L,
-                frame: FrameId(13),
-            }),
-        },
-        "frame 18 EvtWorkItem TM.7 waits lock L.6 of frame 13",
-    ),
-    (
-        WaitLine {
-            thing: OpenThing::Owned { request: REQ },
-            cause: None,
-        },
-        "req.8 owned",
-    ),
-    (
-        WaitLine {
-            thing: OpenThing::Sent {
-                request: REQ,
-                target: T,
-            },
-            cause: None,
-        },
-        "req.8 sent T.5",
-    ),
-    (
-        WaitLine {
-            thing: OpenThing::Queued {
-                request: REQ,
-                queue: Q,
-            },
-            cause: Some(Cause::Behind { request: REQ }),
-        },
-        "req.8 queued Q.3 behind req.8",
-    ),
-    (
-        WaitLine {
-            thing: OpenThing::Returning {
-                request: REQ,
-                queue: Q,
-            },
-            cause: Some(Cause::ScopeHeld),
-        },
-        "req.8 returning Q.3 scope",
-    ),
-    (
-        WaitLine {
-            thing: OpenThing::Sequence {
-                device: D,
-                step: Step::Pass {
-                    stage: Stage::Settled,
-                    interrupt: None,
-                },
-            },
-            cause: Some(Cause::ByRequest { request: REQ }),
-        },
-        "D.2 settled waits request req.8",
-    ),
-    (
-        WaitLine {
-            thing: OpenThing::Sequence {
-                device: D,
-                step: Step::Run {
-                    callback: Callback::EvtInterruptEnable,
-                    interrupt: Some(IRQ),
-                },
-            },
-            cause: Some(Cause::NoCpu),
-        },
-        "D.2 EvtInterruptEnable waits cpus",
-    ),
-    (
-        WaitLine {
-            thing: OpenThing::Leaving { object: L },
-            cause: Some(Cause::References { count: 1 }),
-        },
-        "L.6 references 1",
-    ),
-    (
-        WaitLine {
-            thing: OpenThing::Leaving { object: L },
-            cause: Some(Cause::AtTarget { target: T }),
-        },
-        "L.6 sent T.5",
-    ),
-    (
-        WaitLine {
-            thing: OpenThing::Deferred { object: TM },
-            cause: Some(Cause::ByFrame { frame: FrameId(13) }),
-        },
-        "TM.7 queued frame 13",
-    ),
-    (
-        WaitLine {
-            thing: OpenThing::Asking { device: D },
-            cause: None,
-        },
-        "pnp waits D.2",
-    ),
-];
-
-/// Texts that are no line of a wait list.
-const NO_WAITS: [&str; 8] = [
-    "req.8 owned scope",
-    "req.8 queued Q.3",
-    "req.8 queued Q.3 references 1",
-    "L.6 full",
-    "TM.7 queued full",
-    "pnp waits D",
-    "D.2 settled waits",
-    "frame 013 EvtWorkItem TM.7 waits cpus",
-];
-
-#[test]
-fn wait_lines_are_shown_and_told(rt: HostRuntime) -> Result<(), Fail> {
-    let plan = plan(rt.alloc())?;
-    for (wait, text) in &WAITS {
-        assert_eq!(rt; wait_line(&plan, wait).bytes(), text.as_bytes());
-        assert!(rt; reads_as_wait(&plan, text.as_bytes()), "{text}");
-    }
-    for text in NO_WAITS {
-        assert!(rt; !reads_as_wait(&plan, text.as_bytes()), "{text}");
     }
     Ok(())
 }

@@ -8,7 +8,7 @@ use crate::reading::{
 use crate::verb::Verb;
 use wdf_base::{
     Access, Action, Arg, Ask, Call, CallKind, Callback, Event, Fault, FrameId, Handle, Plan, Post,
-    Sort, Stage, Status, Value,
+    Stage, Status, Value,
 };
 
 /// The value that a word names.
@@ -34,14 +34,14 @@ fn class_or_value(plan: &Plan, word: &[u8]) -> Arg
     }
 }
 
-/// The argument of this sort that a word names. An absent one is the number 0.
-fn argument_of(plan: &Plan, sort: Sort, word: &[u8]) -> Arg
-    ensures { result ≡ argument_of plan.now sort word.now }
+/// The argument that a word names. One that isn't taken is the number 0.
+fn argument_of(plan: &Plan, taken: bool, word: &[u8]) -> Arg
+    ensures { result ≡ argument_of plan.now taken word.now }
 {
-    match sort {
-        Sort::Absent => Arg::Val(Value::Num(0)),
-        Sort::Class(_) => class_or_value(plan, word),
-        _ => Arg::Val(value_of(plan, word)),
+    if taken {
+        class_or_value(plan, word)
+    } else {
+        Arg::Val(Value::Num(0))
     }
 }
 
@@ -49,13 +49,13 @@ fn argument_of(plan: &Plan, sort: Sort, word: &[u8]) -> Arg
 fn call_with(plan: &Plan, kind: CallKind, text: &[u8]) -> Call
     ensures { result ≡ call_with plan.now kind (words text.now) }
 {
-    let signature = kind.signature();
+    let count = kind.signature().count();
     Call {
         kind,
-        count: signature.count(),
-        a: argument_of(plan, signature.a, word(text, 4)),
-        b: argument_of(plan, signature.b, word(text, 5)),
-        c: argument_of(plan, signature.c, word(text, 6)),
+        count,
+        a: argument_of(plan, count > 0, word(text, 4)),
+        b: argument_of(plan, count > 1, word(text, 5)),
+        c: argument_of(plan, count > 2, word(text, 6)),
     }
 }
 

@@ -2,7 +2,7 @@ ghost use Rattle.std.specs.Prelude.{◌≡◌, ◌↔◌, ◌≤◌, IsTrue, len
 ghost use Rattle.wdf_base.specs.Callbacks.{row_of, carries_request};
 ghost use Rattle.wdf_trace.specs.Events.{IsHandleOf, IsOptionalOf, IsValueOf, IsArgumentOf, IsCallOf, is_for_interrupt, IsActionOf, IsPostOf, IsEventOf};
 
-use wdf_base::{Action, Arg, Call, Callback, Event, Handle, Plan, Post, Sort, Stage, Value};
+use wdf_base::{Action, Arg, Call, Callback, Event, Handle, Plan, Post, Stage, Value};
 
 /// Whether an object has a name of the plan.
 pub fn is_handle(plan: &Plan, object: Handle) -> bool
@@ -31,28 +31,27 @@ fn is_value(plan: &Plan, value: Value) -> bool
     }
 }
 
-/// Whether an argument is one of this sort, as far as a line shows it.
-fn is_argument(plan: &Plan, sort: Sort, argument: Arg) -> bool
-    ensures { IsTrue result ↔ IsArgumentOf plan.now sort argument }
+/// Whether an argument that is taken has names of the plan, and one that isn't is the number 0.
+fn is_argument(plan: &Plan, taken: bool, argument: Arg) -> bool
+    ensures { IsTrue result ↔ IsArgumentOf plan.now taken argument }
 {
-    match (sort, argument) {
-        (Sort::Absent, Arg::Val(Value::Num(number))) => number == 0,
-        (Sort::Absent, _) => false,
-        (_, Arg::Val(value)) => is_value(plan, value),
-        (Sort::Class(_), Arg::Class(class)) => class < plan.class_len(),
-        (_, Arg::Class(_)) => false,
+    match (taken, argument) {
+        (false, Arg::Val(Value::Num(number))) => number == 0,
+        (false, _) => false,
+        (true, Arg::Val(value)) => is_value(plan, value),
+        (true, Arg::Class(class)) => class < plan.class_len(),
     }
 }
 
-/// Whether a call has as many arguments as it takes, each of its sort.
+/// Whether a call has as many arguments as it takes.
 fn is_call(plan: &Plan, call: Call) -> bool
     ensures { IsTrue result ↔ IsCallOf plan.now call }
 {
     let signature = call.kind.signature();
     call.count == signature.count()
-        && is_argument(plan, signature.a, call.a)
-        && is_argument(plan, signature.b, call.b)
-        && is_argument(plan, signature.c, call.c)
+        && is_argument(plan, call.count > 0, call.a)
+        && is_argument(plan, call.count > 1, call.b)
+        && is_argument(plan, call.count > 2, call.c)
 }
 
 /// Whether a callback has a request exactly where its rank carries one.

@@ -1,6 +1,6 @@
 -- The ending that a line tells is the one that it is tried for.
 use Rattle.std.proofs.Common.{ap, ◌∙◌, ◌<◌, ◌^◌, ℕ, subst, sym}
-use Rattle.wdf_trace.specs.Reading.{word, words, number_of}
+use Rattle.wdf_trace.specs.Reading.{word, number_of}
 use Rattle.wdf_trace.specs.Waits.{ending_of}
 use Rattle.wdf_trace.proofs.WaitLaws.{ending_read, number_of_small}
 use Rattle.wdf_trace.proofs.waits.reads_as_ending.Goals as goal
