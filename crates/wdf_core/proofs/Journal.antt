@@ -53,15 +53,15 @@ below_limit n limit false xs k y e h = absurd (let z : ⊥ = cc in z)
 
 -- an event that may follow passes its test, below the limit
 pub ready_may : {A : Type 0} (m : Meaning A) (plan : Plan) (S : State A) (k : ℕ) (event : Event) → slice_get (ready_in m plan S) k ≡ Some event
-    → (S.number < plan.limit) × IsTrue (may S event)
+    → (S.number < plan.limit) × IsTrue (may plan S event)
 ready_may m plan S k event h =
-    let p : (S.number < plan.limit) × (slice_get (filter (may S) (candidates m S)) k ≡ Some event)
-    = below_limit S.number plan.limit (nat_lt S.number plan.limit) (filter (may S) (candidates m S)) k event refl h in
-    (p.0, filter_passes (may S) (candidates m S) k event p.1)
+    let p : (S.number < plan.limit) × (slice_get (filter (may plan S) (candidates m plan S)) k ≡ Some event)
+    = below_limit S.number plan.limit (nat_lt S.number plan.limit) (filter (may plan S) (candidates m plan S)) k event refl h in
+    (p.0, filter_passes (may plan S) (candidates m plan S) k event p.1)
 
 -- the same of what may follow a journal
 pub next_may : {A : Type 0} (m : Meaning A) (plan : Plan) (journal : List Event) (S : State A) (space k : ℕ) (event : Event)
-    → IsUnderWay m plan journal S space → slice_get (ready m plan journal) k ≡ Some event → (S.number < plan.limit) × IsTrue (may S event)
+    → IsUnderWay m plan journal S space → slice_get (ready m plan journal) k ≡ Some event → (S.number < plan.limit) × IsTrue (may plan S event)
 next_may m plan journal S space k event u h =
     ready_may m plan S k event (rw (ready_by_state m plan journal S u.state) h)
 
@@ -82,7 +82,7 @@ pub goes_on : {A : Type 0} (m : Meaning A) (plan : Plan) (journal : List Event) 
     → IsUnderWay m plan journal S space → slice_get (ready m plan journal) k ≡ Some event
     → IsUnderWay m plan (journal ++ event ∷ []) (after m S event) space
 goes_on m plan journal S space k event u h =
-    let p : (S.number < plan.limit) × IsTrue (may S event) = next_may m plan journal S space k event u h in
+    let p : (S.number < plan.limit) × IsTrue (may plan S event) = next_may m plan journal S space k event u h in
     let below : S.number < plan.limit = p.0 in
     let counted : S.number ≡ length journal = u.counted in
     record {

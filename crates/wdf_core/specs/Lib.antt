@@ -1,3 +1,4 @@
+pub mod Served
 pub mod State
 pub mod Deeds
 pub mod Machine

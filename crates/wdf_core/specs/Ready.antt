@@ -4,23 +4,28 @@ use Rattle.std.specs.Option.{option_and_then}
 use Rattle.std.specs.List.{filter_map, flat_map, range_with_len}
 use Rattle.wdf_base.specs.Meaning.{Meaning}
 use Rattle.wdf_base.specs.declared.event.Event.{Event}
+use Rattle.wdf_base.specs.declared.plan.Plan.{Plan}
 use Rattle.wdf_core.specs.declared.tables.Group.{Group}
 use Rattle.wdf_core.specs.declared.tables.Group.TheVariants.{OwnEvent, Reads, Cleanups, Destroys, Posts}
 use Rattle.wdf_core.specs.State.{State}
 use Rattle.wdf_core.specs.Machine.{candidate, may, places_in}
 
+-- a candidate, if it may come
+abbrev pub if_allowed : {A : Type 0} → Plan → State A → Option Event → Option Event
+if_allowed plan S = option_and_then (λ event. if may plan S event then Some event else None)
+
 -- the candidate of a group at a place, if it may come
-abbrev pub offered : {A : Type 0} → Meaning A → State A → Group → ℕ → Option Event
-offered m S group place = option_and_then (λ event. if may S event then Some event else None) (candidate m S group place)
+abbrev pub offered : {A : Type 0} → Meaning A → Plan → State A → Group → ℕ → Option Event
+offered m plan S group place = if_allowed plan S (candidate m plan S group place)
 
 -- what may come of a group's places from this one on
-abbrev pub offered_from : {A : Type 0} → Meaning A → State A → Group → ℕ → List Event
-offered_from m S group place = filter_map (offered m S group) (range_with_len place (places_in S group - place))
+abbrev pub offered_from : {A : Type 0} → Meaning A → Plan → State A → Group → ℕ → List Event
+offered_from m plan S group place = filter_map (offered m plan S group) (range_with_len place (places_in S group - place))
 
 -- what may come from a place of the first of these groups on
-abbrev pub offered_in : {A : Type 0} → Meaning A → State A → List Group → ℕ → List Event
-offered_in m S [] place = []
-offered_in m S (group ∷ later) place = offered_from m S group place ++ flat_map (λ g. offered_from m S g 0) later
+abbrev pub offered_in : {A : Type 0} → Meaning A → Plan → State A → List Group → ℕ → List Event
+offered_in m plan S [] place = []
+offered_in m plan S (group ∷ later) place = offered_from m plan S group place ++ flat_map (λ g. offered_from m plan S g 0) later
 
 -- the group that is searched after one
 abbrev pub later : Group → Option Group
@@ -40,5 +45,5 @@ groups_from (Some Destroys) = Destroys ∷ Posts ∷ []
 groups_from (Some Posts) = Posts ∷ []
 
 -- the events that a search has left, which stands at a place of a group
-abbrev pub events_left : {A : Type 0} → Meaning A → State A → Option Group → ℕ → List Event
-events_left m S group place = offered_in m S (groups_from group) place
+abbrev pub events_left : {A : Type 0} → Meaning A → Plan → State A → Option Group → ℕ → List Event
+events_left m plan S group place = offered_in m plan S (groups_from group) place

@@ -1,10 +1,12 @@
 -- The state of the machine: one part for each piece of the framework, the agents, and two counts.
 -- Maps are lists by id. No object has the id 0, whose entry is that of an object that is gone.
 use Rattle.std.specs.List.{range_with_len}
-use Rattle.std.specs.Prelude.{if◌then◌else◌, ℕ, ◌+◌, Bool, true, false, ◌==◌, List, [], ◌∷◌, length, map, Option, None, unwrap_or, slice_get}
+use Rattle.std.specs.Prelude.{ℕ, ◌+◌, Bool, true, false, ◌||◌, List, [], ◌∷◌, length, map, replicate, Option, None, unwrap_or, option_and_then, slice_get}
 use Rattle.wdf_base.specs.Meaning.{Meaning}
 use Rattle.wdf_base.specs.declared.plan.Plan.{Plan}
 use Rattle.wdf_base.specs.declared.ids.Handle.{Handle}
+use Rattle.wdf_base.specs.Kinds.{declared_name}
+use Rattle.wdf_base.specs.Plan.{declared_of}
 use Rattle.wdf_core.specs.declared.tables.Frame.{Frame}
 use Rattle.wdf_core.specs.declared.tables.Life.{Life}
 use Rattle.wdf_core.specs.declared.tables.Life.TheVariants.{Live, Asked, Cleaned, Gone}
@@ -45,19 +47,16 @@ pub record State (A : Type 0) : Type 0 where
   -- how many events there were
   pub number : ℕ
 
--- the objects that are declared: the driver, the device and its queue (KMDF: objects form a tree)
-abbrev pub DEVICE : ℕ
-DEVICE = 2
-
+-- a served plan declares the driver object, a device and its queue, in this order, or the driver object alone
 abbrev pub QUEUE : ℕ
 QUEUE = 3
 
--- The number of an object's name: 0 for the driver, 2 for the device, 3 for the queue, 1 for a request. (own)
-abbrev pub name_of : ℕ → ℕ
-name_of id = if id == 1 then 0 else if id == DEVICE then 2 else if id == QUEUE then 3 else 1
+-- The number of an object's name: a declared object has its own, and any other is a request, `req`. (own)
+abbrev pub name_of : Plan → ℕ → ℕ
+name_of plan id = unwrap_or (option_and_then declared_name (declared_of plan id)) 1
 
-abbrev pub handle_of : ℕ → Handle
-handle_of id = record { id = record { 0 = id }; name = name_of id }
+abbrev pub handle_of : Plan → ℕ → Handle
+handle_of plan id = record { id = record { 0 = id }; name = name_of plan id }
 
 -- The numbers of the agents: the Plug and Play manager is 0, the others of the plan follow. (own)
 abbrev pub agent_numbers : Plan → List ℕ
@@ -67,12 +66,12 @@ agent_numbers plan = range_with_len 0 (1 + length plan.agents)
 abbrev pub agents_of : {A : Type 0} → Meaning A → Plan → List A
 agents_of m plan = map (m.begin plan) (agent_numbers plan)
 
--- The opening of a run: the driver, the device and the queue live, and nothing runs or waits.
+-- The opening of a run: the driver object and the declared objects live, and nothing runs or waits.
 abbrev pub opening : {A : Type 0} → Meaning A → Plan → State A
 opening m plan = record {
-  tree = record { lives = Gone ∷ Live ∷ Live ∷ Live ∷ [] };
+  tree = record { lives = Gone ∷ replicate (length plan.declared) Live };
   processor = record { top = None };
-  requests = record { places = Done ∷ Done ∷ Done ∷ Done ∷ [] };
+  requests = record { places = Done ∷ replicate (length plan.declared) Done };
   queue = record { line = []; held = [] };
   agents = agents_of m plan;
   arrived = 0;
@@ -106,6 +105,10 @@ is_cleaned Live = false
 is_cleaned Asked = false
 is_cleaned Cleaned = true
 is_cleaned Gone = false
+
+-- its deletion was asked and isn't finished
+abbrev pub is_ending : Life → Bool
+is_ending life = is_asked life || is_cleaned life
 
 abbrev pub is_owned : Place → Bool
 is_owned Queued = false

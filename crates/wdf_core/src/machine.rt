@@ -1,14 +1,15 @@
-ghost use Rattle.std.specs.Prelude.{◌≡◌, ◌<◌, ◌≤◌, ◌^◌, ◌++◌, ◌∷◌, [], IfOk, Some, length, slice_get};
+ghost use Rattle.std.specs.Prelude.{◌≡◌, ◌<◌, ◌≤◌, ◌^◌, ◌++◌, ◌∷◌, [], IfOk, IsTrue, Some, length, slice_get};
 ghost use Rattle.wdf_base.specs.declared.event.Event.{Event};
 ghost use Rattle.wdf_model.specs.Runs.{IsRun, place_for};
 ghost use Rattle.wdf_core.specs.State.{agents_of};
 ghost use Rattle.wdf_core.specs.Machine.{ready, ending_of};
 ghost use Rattle.wdf_core.specs.Course.{is_by as is_step_of};
+ghost use Rattle.wdf_core.specs.Served.{is_served};
 ghost use Rattle.wdf_core.specs.Ready.{events_left};
 
 use crate::actor::is_by;
 use crate::parts::Parts;
-use crate::ready::Ready;
+use crate::ready::{Ready, ready_len};
 use std::alloc::Global;
 use std::marker::Model;
 use wdf_base::{Actor, Agent, Ending, Event, Memory, Plan};
@@ -35,9 +36,9 @@ impl<A: Agent> Model for Core<A> {
 impl<A: Agent> Core<A> {
     /// The opening of the plan's run, with these agents. It takes all the memory that the run
     /// needs. On [`Memory`] the plan and the agents are dropped.
-    #[tactic(auto, using(wdf_model::proofs::Runs::run_opens), unfolding(crate::specs::Machine::state_after))]
+    #[tactic(auto, using(wdf_model::proofs::Runs::run_opens, crate::proofs::Bounds::served_limit, crate::proofs::Bounds::served_objects), unfolding(crate::specs::Machine::state_after))]
     pub fn make(alloc: Global, plan: Plan, agents: Vec<A>) -> Result<Core<A>, Memory>
-        requires limit { plan.limit ≤ 200000 }
+        requires served { IsTrue (is_served plan) }
         requires agents { agents.items ≡ agents_of A.meaning plan }
         ensures plan { IfOk result (λ core. core.plan ≡ plan) }
         ensures journal { IfOk result (λ core. core.journal ≡ []) }
@@ -53,9 +54,9 @@ impl<A: Agent> Core<A> {
 
     /// The events that may follow.
     fn ready(&self) -> Ready<'_, A>
-        ensures events { events_left A.meaning result.parts.now result.group result.place ≡ ready A.meaning self.now.plan self.now.journal }
-        ensures room { 0 < length (events_left A.meaning result.parts.now result.group result.place) → length self.now.journal < self.now.plan.limit }
-        ensures few { length (events_left A.meaning result.parts.now result.group result.place) < 2 ^ 32 }
+        ensures events { events_left A.meaning result.plan.now result.parts.now result.group result.place ≡ ready A.meaning self.now.plan self.now.journal }
+        ensures room { 0 < length (events_left A.meaning result.plan.now result.parts.now result.group result.place) → length self.now.journal < self.now.plan.limit }
+        ensures few { length (events_left A.meaning result.plan.now result.parts.now result.group result.place) < 2 ^ 32 }
     {
         Ready::new(&self.plan, &self.parts)
     }
@@ -65,7 +66,7 @@ impl<A: Agent> Core<A> {
         ensures length { result ≡ length (ready A.meaning self.now.plan self.now.journal) }
         ensures room { 0 < result → length self.now.journal < self.now.plan.limit }
     {
-        self.ready().count()
+        ready_len(&self.plan, &self.parts)
     }
 
     /// The k-th of the events that may follow.
@@ -90,7 +91,7 @@ impl<A: Agent> Core<A> {
         ensures journal { (event : Event) × (slice_get (ready A.meaning self.old.plan self.old.journal) k ≡ Some event) × (self.new.journal ≡ self.old.journal ++ event ∷ []) }
     {
         let event = self.ready_at(k);
-        self.parts.step(&event);
+        self.parts.step(&self.plan, &event);
         self.journal.push_reserved(event);
     }
 

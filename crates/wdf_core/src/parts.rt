@@ -1,12 +1,12 @@
 mod candidates;
 mod deeds;
 
-ghost use Rattle.std.specs.Prelude.{◌≡◌, ◌<◌, ◌≤◌, ◌^◌, ◌||◌, not, [], IfOk, length};
+ghost use Rattle.std.specs.Prelude.{◌≡◌, ◌+◌, ◌<◌, ◌≤◌, ◌^◌, ◌∷◌, not, [], IfOk, length, replicate, vec_capacity};
 ghost use Rattle.std.specs.List.{list_any};
-ghost use Rattle.wdf_core.specs.State.{agents_of, opening, next_id, is_done, is_asked, is_cleaned};
-ghost use Rattle.wdf_core.specs.Machine.{is_open, ending_by};
+ghost use Rattle.wdf_core.specs.State.{agents_of, opening, next_id, is_done, is_ending};
+ghost use Rattle.wdf_core.specs.Machine.{ARRIVALS, is_open, ending_by};
 
-use crate::tables::{Frame, Life, Place};
+use crate::tables::{Frame, Life, Place, Span};
 use deeds::request_in;
 use std::alloc::Global;
 use std::collections::VecDeque;
@@ -16,9 +16,8 @@ use wdf_base::{Agent, Ending, Memory, Plan};
 /// The most requests that may arrive in one run.
 const ARRIVAL_LIMIT: u32 = 4096;
 
-/// Room for the entries of all objects: no object has the id 0, three are declared, and each
-/// request that arrives is one more.
-const OBJECTS: usize = 4100;
+/// The room for the entries of the requests that may arrive.
+const ARRIVAL_ROOM: usize = 4096;
 
 /// The whole state of the machine, and the agents.
 #[derive(Drop)]
@@ -39,6 +38,8 @@ pub(crate) struct Parts<A: Agent> {
     arrived: u32,
     /// How many events there were.
     number: u32,
+    /// Where the objects that are ending are, so that nothing else is searched.
+    span: Span,
 }
 
 impl<A: Agent> Model for Parts<A> {
@@ -56,30 +57,29 @@ impl<A: Agent> Model for Parts<A> {
 impl<A: Agent> Parts<A> {
     /// The state at the opening of the plan's run. It takes all the room that the run needs.
     pub(crate) fn make(alloc: Global, plan: &Plan, agents: Vec<A>) -> Result<Parts<A>, Memory>
+        requires objects { length plan.now.declared ≤ 4096 }
         requires agents { agents.items ≡ agents_of A.meaning plan.now }
         ensures opening { IfOk result (λ parts. parts ≡ opening A.meaning plan.now) }
     {
         note_few(plan, &agents);
-        let mut lives = Vec::with_capacity(alloc, OBJECTS)?;
-        lives.extend_from_slice(&[Life::Gone, Life::Live, Life::Live, Life::Live])?;
-        let mut places = Vec::with_capacity(alloc, OBJECTS)?;
-        places.extend_from_slice(&[Place::Done; 4])?;
+        let objects = plan.declared_len() as usize;
         Ok(Parts {
-            lives,
-            places,
+            lives: entries(alloc, Life::Gone, Life::Live, objects)?,
+            places: entries(alloc, Place::Done, Place::Done, objects)?,
             top: None,
             line: VecDeque::with_capacity(alloc, ARRIVAL_LIMIT as usize)?,
             held: None,
             agents,
             arrived: 0,
             number: 0,
+            span: Span { first: 0, past: 0 },
         })
     }
 
     /// How many events there were. The other clauses bound how many objects and agents there are.
     pub(crate) fn number(&self) -> u32
         ensures number { result ≡ self.now.number }
-        ensures objects { next_id self.now ≤ 4100 }
+        ensures objects { next_id self.now ≤ 8193 }
         ensures agents { length self.now.agents < 2 ^ 16 }
     {
         self.number
@@ -107,6 +107,18 @@ impl<A: Agent> Parts<A> {
     }
 }
 
+/// An entry for the id 0, one for each object, and room for those of the requests that may arrive.
+fn entries<T: Copy>(alloc: Global, dummy: T, entry: T, objects: usize) -> Result<Vec<T>, Memory>
+    requires { objects ≤ 4096 }
+    ensures items { IfOk result (λ all. all.items ≡ dummy ∷ replicate objects entry) }
+    ensures room { IfOk result (λ all. 1 + objects + ARRIVALS ≤ vec_capacity all) }
+{
+    let mut all = Vec::with_capacity(alloc, 1 + objects + ARRIVAL_ROOM)?;
+    all.push(dummy)?;
+    all.resize(1 + objects, entry)?;
+    Ok(all)
+}
+
 /// The numbers of a plan's agents have 16 bits.
 fn note_few<A: Agent>(plan: &Plan, agents: &[A])
     requires { agents.now ≡ agents_of A.meaning plan.now }
@@ -124,7 +136,7 @@ fn some_undone(places: &[Place]) -> bool
 
 /// Whether the deletion of some object was asked and isn't finished.
 fn some_ending(lives: &[Life]) -> bool
-    ensures { result ≡ list_any (λ life. is_asked life || is_cleaned life) lives.now }
+    ensures { result ≡ list_any is_ending lives.now }
 {
     lives.iter().any(|life| life.is_ending())
 }

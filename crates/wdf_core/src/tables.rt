@@ -1,6 +1,6 @@
-ghost use Rattle.std.specs.Prelude.{◌≡◌, ◌||◌};
+ghost use Rattle.std.specs.Prelude.{◌≡◌};
 
-use wdf_base::{Call, FrameId, Handle, Value};
+use wdf_base::{Call, FrameId, Handle, ObjectId, Value};
 
 /// How far the life of an object has come.
 #[derive(Clone, Copy, Debug, PartialEq, Eq)]
@@ -15,7 +15,7 @@ pub enum Life {
 }
 
 impl Life {
-    ghost use Rattle.wdf_core.specs.State.{is_live, is_asked, is_cleaned};
+    ghost use Rattle.wdf_core.specs.State.{is_live, is_asked, is_cleaned, is_ending};
 
     /// Whether the object lives.
     pub fn is_live(self) -> bool
@@ -40,7 +40,7 @@ impl Life {
 
     /// Whether its deletion was asked and isn't finished.
     pub fn is_ending(self) -> bool
-        ensures { result ≡ (is_asked self || is_cleaned self) }
+        ensures { result ≡ is_ending self }
     {
         matches!(self, Life::Asked | Life::Cleaned)
     }
@@ -121,6 +121,51 @@ impl Group {
             Group::Cleanups => Some(Group::Destroys),
             Group::Destroys => Some(Group::Posts),
             Group::Posts => None,
+        }
+    }
+}
+
+/// Ids from one on and before another, among which every object that is ending has its own.
+#[derive(Clone, Copy, Debug)]
+pub(crate) struct Span {
+    pub(crate) first: usize,
+    pub(crate) past: usize,
+}
+
+impl Span {
+    ghost use Rattle.wdf_core.specs.Parts.{widened as widened_by, narrowed as narrowed_by};
+
+    /// The span with one id more.
+    #[tactic(auto, unfolding(crate::specs::Parts::widened))]
+    pub(crate) fn widened(self, id: ObjectId) -> Span
+        ensures { result ≡ widened_by self id.0 }
+    {
+        let at = id.0 as usize;
+        if self.first < self.past {
+            Span {
+                first: self.first.min(at),
+                past: self.past.max(at + 1),
+            }
+        } else {
+            Span {
+                first: at,
+                past: at + 1,
+            }
+        }
+    }
+
+    /// The span without an id, where it is its first.
+    pub(crate) fn narrowed(self, id: ObjectId) -> Span
+        ensures { result ≡ narrowed_by self id.0 }
+    {
+        let at = id.0 as usize;
+        if at == self.first {
+            Span {
+                first: at + 1,
+                past: self.past,
+            }
+        } else {
+            self
         }
     }
 }

@@ -1,4 +1,4 @@
-//! The agents: what acts on the framework from outside. So far only the app acts, and it reads once.
+//! The agents: what acts on the framework from outside. So far only apps act.
 #![tactic(auto)]
 
 mod any;

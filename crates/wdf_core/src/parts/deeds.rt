@@ -8,7 +8,7 @@ ghost use Rattle.wdf_core.specs.Machine.{ARRIVALS, after, may, request_in as req
 
 use crate::parts::Parts;
 use crate::tables::{Frame, Life, Place};
-use wdf_base::{Agent, Arg, Event, FrameId, ObjectId, Value};
+use wdf_base::{Agent, Arg, Event, FrameId, ObjectId, Plan, Value};
 
 /// Changes the entry of an id; an id that has none changes nothing.
 fn put<T: Copy>(entries: &mut [T], id: ObjectId, entry: T)
@@ -66,6 +66,7 @@ impl<A: Agent> Parts<A> {
     {
         put(&mut self.lives, id, Life::Asked);
         put(&mut self.places, id, Place::Done);
+        self.span = self.span.widened(id);
         if self.held == Some(id.0) {
             self.held = None;
         }
@@ -76,6 +77,7 @@ impl<A: Agent> Parts<A> {
         ensures done { self.new ≡ done (Clean id.0) self.old }
     {
         put(&mut self.lives, id, Life::Cleaned);
+        self.span = self.span.widened(id);
     }
 
     /// An object ends.
@@ -83,6 +85,7 @@ impl<A: Agent> Parts<A> {
         ensures done { self.new ≡ done (End_life id.0) self.old }
     {
         put(&mut self.lives, id, Life::Gone);
+        self.span = self.span.narrowed(id);
     }
 
     /// A frame begins on the processor.
@@ -127,9 +130,9 @@ impl<A: Agent> Parts<A> {
     }
 
     /// Does an event that may come: its deeds, after it was counted and every agent was told of it.
-    pub(crate) fn step(&mut self, event: &Event)
+    pub(crate) fn step(&mut self, plan: &Plan, event: &Event)
         requires fits { self.old.number + 1 < 2 ^ 32 }
-        requires may { IsTrue (may self.old event.now) }
+        requires may { IsTrue (may plan.now self.old event.now) }
         ensures after { self.new ≡ after A.meaning self.old event.now }
     {
         self.count();

@@ -7,11 +7,11 @@ use Rattle.wdf_core.proofs.ready.first_offered.Goals as goal
 
 pub returns-in-Some : goal.returns-in-Some
 returns-in-Some g c =
-    let below : c.loop-place.place < places_in c.args.parts.now c.args.group = omega arith in
-    rw c.loop-place.invariant (found g.A.Agent.meaning c.args.parts.now c.args.group c.loop-place.place c.in-Some.event below c.in-Some.ensures)
+    let below : c.loop-place.place < places_in c.args.parts.now c.args.group = omega (arith, c.search_to-place-end.ensures.within) in
+    rw c.loop-place.invariant (found g.A.Agent.meaning c.args.plan.now c.args.parts.now c.args.group c.loop-place.place c.in-Some.event below c.in-Some.ensures)
 
 pub loop-place-preserved : goal.loop-place-preserved
 loop-place-preserved g c =
-    let below : c.loop-place.place < places_in c.args.parts.now c.args.group = omega arith in
-    let nothing : offered g.A.Agent.meaning c.args.parts.now c.args.group c.loop-place.place ≡ None = cc in
-    rw c.loop-place.invariant (passed g.A.Agent.meaning c.args.parts.now c.args.group c.loop-place.place below nothing)
+    let below : c.loop-place.place < places_in c.args.parts.now c.args.group = omega (arith, c.search_to-place-end.ensures.within) in
+    let nothing : offered g.A.Agent.meaning c.args.plan.now c.args.parts.now c.args.group c.loop-place.place ≡ None = cc in
+    rw c.loop-place.invariant (passed g.A.Agent.meaning c.args.plan.now c.args.parts.now c.args.group c.loop-place.place below nothing)

@@ -4,4 +4,4 @@ use Rattle.wdf_core.specs.Ready.{offered_from}
 use Rattle.wdf_core.proofs.ready.first_offered.Given as goal
 
 abbrev pub invariant-loop-place : goal.invariant-loop-place
-invariant-loop-place g l = offered_from g.A.Agent.meaning l.parts l.group l.from ≡ offered_from g.A.Agent.meaning l.parts l.group l.place
+invariant-loop-place g l = offered_from g.A.Agent.meaning l.plan l.parts l.group l.from ≡ offered_from g.A.Agent.meaning l.plan l.parts l.group l.place

@@ -9,5 +9,5 @@ use Rattle.wdf_core.proofs.machine.Core.first_for.Goals as goal
 pub returns : goal.returns
 returns g c =
     position_from_yields_List (is_by c.args.actor) c.position.new.self _ c.position.result c.position.ensures.ran
-    (YieldsList-from_first (λ event. event) (λ s. events_left g.A.Agent.meaning s.parts.now s.group s.place) {s = c.ready.result} _ c.ready.ensures.events)
+    (YieldsList-from_first (λ event. event) (λ s. events_left g.A.Agent.meaning s.plan.now s.parts.now s.group s.place) {s = c.ready.result} _ c.ready.ensures.events)
     (λ event b q k. search (rules, tests))

@@ -11,6 +11,6 @@ returns-clause-events g c =
 
 pub returns-clause-room : goal.returns-clause-room
 returns-clause-room g c =
-    let events : events_left g.A.Agent.meaning c.new.result.parts.now c.new.result.group c.new.result.place ≡ ready g.A.Agent.meaning c.self.inside.plan c.self.inside.journal.items =
+    let events : events_left g.A.Agent.meaning c.new.result.plan.now c.new.result.parts.now c.new.result.group c.new.result.place ≡ ready g.A.Agent.meaning c.self.inside.plan c.self.inside.journal.items =
     rw c.new.ensures.events (ready_by_state g.A.Agent.meaning c.self.inside.plan c.self.inside.journal.items c.self.inside.parts c.self.invariant.state) in
     rw (← c.self.view_is) (room_for_next g.A.Agent.meaning c.self.inside.plan c.self.inside.journal.items c.self.inside.parts _ _ c.self.invariant events)

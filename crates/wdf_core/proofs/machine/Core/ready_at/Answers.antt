@@ -11,5 +11,5 @@ pub returns : goal.returns
 returns g c =
     let reads : option_map (λ (event : Event). event) c.nth.result ≡ slice_get (ready g.A.Agent.meaning c.args.self.now.plan c.args.self.now.journal) c.args.k =
     nth_from_yields_List c.nth.result c.nth.new.self c.args.k c.nth.ensures.ran
-    (YieldsList-from_first (λ event. event) (λ s. events_left g.A.Agent.meaning s.parts.now s.group s.place) _ c.ready.ensures.events) in
+    (YieldsList-from_first (λ event. event) (λ s. events_left g.A.Agent.meaning s.plan.now s.parts.now s.group s.place) _ c.ready.ensures.events) in
     sym (rw c.unwrap.ensures at reads)
