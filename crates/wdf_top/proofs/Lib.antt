@@ -1,3 +1,7 @@
 pub mod Due
-pub mod FormLines
+pub mod Given
+pub mod Statuses
+pub mod Causes
+pub mod Ended
+pub mod Messages
 pub mod Writing

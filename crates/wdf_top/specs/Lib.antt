@@ -1,7 +1,7 @@
 pub mod Words
-pub mod Form
-pub mod FirstPlan
 pub mod Input
 pub mod Said
-pub mod Top
 pub mod Refusals
+pub mod Answers
+pub mod Top
+pub mod Causes

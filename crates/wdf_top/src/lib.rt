@@ -1,17 +1,16 @@
 //! The top call: words and bytes in, bytes and a status out.
 #![tactic(auto)]
 
-mod form;
 mod input;
+mod message;
 mod order;
-mod plan;
 mod refusal;
 mod say;
+mod scenario;
 mod top;
 mod trace;
 mod words;
 
-pub use form::one_reading;
 pub use top::top_plain;
 
 #[cfg(test)]

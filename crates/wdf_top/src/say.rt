@@ -1,18 +1,42 @@
 ghost use Rattle.std.specs.Prelude.{◌≡◌, ◌≤◌};
+ghost use Rattle.wdf_top.specs.Answers.{not_built_line};
+ghost use Rattle.wdf_top.specs.Refusals.{refusal_line, refusal_status};
 ghost use Rattle.wdf_top.specs.Said.{Says, sinking};
 
+use crate::refusal::Refusal;
 use wdf_io::{Sink, write_all};
 
 /// The status of a call whose sink failed.
 pub const SINK_FAULT: u8 = 13;
 
-/// Writes a line with its line feed, and answers the status, or [`SINK_FAULT`] where the sink fails.
-pub fn say<K: Sink>(sink: &mut K, line: &[u8], status: u8) -> u8
-    ensures said { Says (sinking (K.written sink.old) (K.written sink.new) (K.faults sink.old) (K.faults sink.new)) line.now status result }
+/// What a form of words or a plan that isn't built yet is told.
+const NOT_BUILT: &[u8] = b"not built\n";
+
+/// The status of what isn't built yet.
+const NOT_BUILT_STATUS: u8 = 16;
+
+/// Writes a text, and answers the status, or [`SINK_FAULT`] where the sink fails.
+pub fn say<K: Sink>(sink: &mut K, text: &[u8], status: u8) -> u8
+    ensures said { Says (sinking (K.written sink.old) (K.written sink.new) (K.faults sink.old) (K.faults sink.new)) text.now status result }
     ensures never_falls { K.faults sink.old ≤ K.faults sink.new }
 {
-    match write_all(sink, line) {
+    match write_all(sink, text) {
         Ok(()) => status,
         Err(_) => SINK_FAULT,
     }
+}
+
+/// Writes the line of what isn't built yet, and answers its status.
+pub fn say_not_built<K: Sink>(sink: &mut K) -> u8
+    ensures { Says (sinking (K.written sink.old) (K.written sink.new) (K.faults sink.old) (K.faults sink.new)) not_built_line 16 result }
+{
+    say(sink, NOT_BUILT, NOT_BUILT_STATUS)
+}
+
+/// Writes the line of a refusal, and answers its status.
+pub fn tell<K: Sink>(sink: &mut K, refusal: Refusal) -> u8
+    ensures { Says (sinking (K.written sink.old) (K.written sink.new) (K.faults sink.old) (K.faults sink.new)) (refusal_line refusal) (refusal_status refusal) result }
+{
+    let line = refusal.line();
+    say(sink, line.bytes(), refusal.status())
 }

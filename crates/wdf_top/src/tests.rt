@@ -1,4 +1,5 @@
-//! The top call over sources and sinks in memory. What it is to write was written down by hand.
+//! The top call over a source and a sink in memory: each form on its happy path. What it is to write was
+//! written down by hand.
 use crate::top_plain;
 use std::alloc::Global;
 use std::test::Fail;
@@ -19,28 +20,60 @@ const USAGE: &[u8] = b"usage: kmdfsim check | order | seed N | run | replay | ge
 struct Case {
     words: &'static str,
     input: &'static [u8],
-    /// The most bytes that one read gives.
-    piece: usize,
-    /// The read that fails, or 0.
-    read_fails: u64,
-    /// The write that fails, or 0.
-    write_fails: u64,
-    /// The bytes that the sink can hold.
-    room: usize,
     status: u8,
     written: &'static [u8],
 }
 
-const PLAIN: Case = Case {
-    words: "order",
-    input: SCENARIO,
-    piece: 4096,
-    read_fails: 0,
-    write_fails: 0,
-    room: 4096,
-    status: 0,
-    written: TRACE,
-};
+static CASES: [Case; 8] = [
+    Case {
+        words: "order",
+        input: SCENARIO,
+        status: 0,
+        written: TRACE,
+    },
+    Case {
+        words: "check",
+        input: SCENARIO,
+        status: 0,
+        written: SCENARIO,
+    },
+    Case {
+        words: "check",
+        input: b" cpus\t1#\nlimit 9\r\n\nobjects 09",
+        status: 0,
+        written: b"cpus 1\nlimit 9\nobjects 9\n",
+    },
+    Case {
+        words: "check",
+        input: b"cpus 1\nlimit 1$0\n",
+        status: 10,
+        written: b"parse refused at line 2 column 8: BadToken\n",
+    },
+    Case {
+        words: "order",
+        input: b"cpus 1\nlimit 9\nobjects 9\ndevice D\nend\ndevice D\nend\n",
+        status: 11,
+        written: b"plan refused at line 6: TwiceNamed first 4\n",
+    },
+    Case {
+        words: "check",
+        input: b"cpus 9\nlimit 9\nobjects 9\n",
+        status: 11,
+        written: b"plan refused at line 1: OverLimit cpus\n",
+    },
+    Case {
+        words: "seed 7",
+        input: SCENARIO,
+        status: 16,
+        written: b"not built\n",
+    },
+    Case {
+        words: "run",
+        input: SCENARIO,
+        status: 2,
+        written: USAGE,
+    },
+];
 
 fn words_of(alloc: Global, words: &str) -> Result<Vec<String>, Fail> {
     let mut all = Vec::new(alloc);
@@ -53,98 +86,18 @@ fn words_of(alloc: Global, words: &str) -> Result<Vec<String>, Fail> {
 fn call(alloc: Global, case: &Case) -> Result<(u8, MemSink), Fail> {
     let words = words_of(alloc, case.words)?;
     let input = Vec::from_slice(alloc, case.input)?;
-    let read_fails = Vec::from_slice(alloc, &[case.read_fails])?;
-    let write_fails = Vec::from_slice(alloc, &[case.write_fails])?;
-    let mut source = MemSource::new(input, read_fails, case.piece.max(1));
-    let mut sink = MemSink::new(alloc, case.room, write_fails)?;
+    let mut source = MemSource::new(input, Vec::new(alloc), 4096);
+    let mut sink = MemSink::new(alloc, 4096, Vec::new(alloc))?;
     let status = top_plain(alloc, &words, &mut source, &mut sink);
     Ok((status, sink))
 }
 
 #[test]
 fn answers_by_hand(rt: HostRuntime) -> Result<(), Fail> {
-    let cases = [
-        PLAIN,
-        Case { piece: 1, ..PLAIN },
-        Case {
-            words: "",
-            status: 2,
-            written: USAGE,
-            ..PLAIN
-        },
-        Case {
-            words: "run",
-            status: 2,
-            written: USAGE,
-            ..PLAIN
-        },
-        Case {
-            words: "order order",
-            status: 2,
-            written: USAGE,
-            ..PLAIN
-        },
-        Case {
-            words: "seed 7",
-            status: 16,
-            written: b"not built\n",
-            ..PLAIN
-        },
-        Case {
-            input: b"",
-            status: 16,
-            written: b"not built\n",
-            ..PLAIN
-        },
-        Case {
-            read_fails: 1,
-            status: 12,
-            written: b"read fault\n",
-            ..PLAIN
-        },
-        Case {
-            read_fails: 3,
-            piece: 100,
-            status: 12,
-            written: b"read fault\n",
-            ..PLAIN
-        },
-        Case {
-            room: 40,
-            status: 13,
-            written: &TRACE[..40],
-            ..PLAIN
-        },
-        Case {
-            write_fails: 3,
-            status: 13,
-            written: b"1 A read D.2 16 -> req.4\n2 cpu0 start EvtIoRead Q.3 req.4\n",
-            ..PLAIN
-        },
-        Case {
-            words: "",
-            room: 6,
-            status: 13,
-            written: b"usage:",
-            ..PLAIN
-        },
-    ];
-    for case in &cases {
+    for case in &CASES {
         let (status, sink) = call(rt.alloc(), case)?;
         assert_eq!(rt; status, case.status, "at {}", case.words);
         assert_eq!(rt; sink.written(), case.written, "at {}", case.words);
     }
-    Ok(())
-}
-
-#[test]
-fn refuses_a_large_input(rt: HostRuntime) -> Result<(), Fail> {
-    let mut input = Vec::new(rt.alloc());
-    input.resize(1_048_577, b'\n')?;
-    let mut source = MemSource::new(input, Vec::new(rt.alloc()), 65536);
-    let mut sink = MemSink::new(rt.alloc(), 100, Vec::new(rt.alloc()))?;
-    let words = words_of(rt.alloc(), "order")?;
-    assert_eq!(rt; top_plain(rt.alloc(), &words, &mut source, &mut sink), 14);
-    assert_eq!(rt; sink.written(), b"input too large\n".as_slice());
     Ok(())
 }

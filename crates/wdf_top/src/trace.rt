@@ -4,7 +4,7 @@ ghost use Rattle.wdf_io.specs.Outside.{Gains};
 ghost use Rattle.wdf_core.specs.Machine.{ending_of};
 ghost use Rattle.wdf_trace.specs.Lines.{line_text, lines_from};
 ghost use Rattle.wdf_top.specs.Said.{Says, IsCutShort, sinking};
-ghost use Rattle.wdf_top.specs.Top.{status_of, text_of};
+ghost use Rattle.wdf_top.specs.Answers.{status_of, text_of};
 
 use crate::say::SINK_FAULT;
 use wdf_base::{Agent, Ending, Event, Plan};

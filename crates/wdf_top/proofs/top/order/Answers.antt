@@ -1,11 +1,10 @@
 -- What `order` tells, of a plan and of a refusal.
-use Rattle.wdf_top.proofs.Due.{order_ok, order_err}
+use Rattle.wdf_top.specs.Answers.{writes_run}
+use Rattle.wdf_top.proofs.Due.{order_told, refusal_told}
 use Rattle.wdf_top.proofs.top.order.Goals as goal
 
 pub returns-in-Ok : goal.returns-in-Ok
-returns-in-Ok g c = record { told = order_ok _ _ c.in-Ok.form _ c.in-Ok.ensures.found c.order_form.ensures.told }
+returns-in-Ok g c = record { told = order_told _ _ c.in-Ok.plan _ c.in-Ok.ensures.plan c.order_plan.ensures.told }
 
 pub returns-in-Err : goal.returns-in-Err
-returns-in-Err g c = record {
-  told = order_err _ _ c.in-Err.refusal _ c.in-Err.ensures.cause (rw (c.line.ensures, c.status.ensures) at c.say.ensures.said);
-}
+returns-in-Err g c = record { told = refusal_told writes_run _ _ c.in-Err.refusal _ c.in-Err.ensures.cause c.tell.ensures }

@@ -1,0 +1,139 @@
+#!/usr/bin/env python3
+"""How long the program takes to resolve the largest scenarios, and how much memory.
+
+Not part of the gate. Prove and build the program first (`rt ci`), then from the root:
+
+    python3 bench/resolve.py [PROGRAM]
+
+Each scenario fills limits: 4,096 statements, 4,096 posts, 254 apps, 255 classes, 64 registers, 4,096
+objects. The word `check` reads, parses, resolves and prints it. The same text with an open block at
+its end is read and parsed alone, and the same with a name that is declared twice at its end is
+resolved up to that line: so the differences tell what the search for a refusal takes, and what the
+plan and the printing take. Figures are of the best of five runs: seconds of the processor, and the most
+memory of the process in MB.
+"""
+
+import os
+import subprocess
+import sys
+import tempfile
+
+PROGRAM = os.path.join("crates", "kmdfsim", "out", "kmdfsim")
+
+HEAD = "cpus 4\nlimit 200000\nobjects 4096\n"
+TWICE = "app Again\nend\napp Again\nend\n"
+OPEN = "app Again\n"
+
+
+def statements(count):
+    """One callback with `count` statements, which nest and call."""
+    lines = ["device D", "register R 0", "on EvtDeviceD0Entry"]
+    while count >= 8:
+        lines += [
+            "repeat 3",
+            "if (x0 < 4)",
+            "let x0 = ((x0 + 1) * (x1 + 2))",
+            "else",
+            "get x1 = R",
+            "end",
+            "put R (x0 & 255)",
+            "end",
+            "call x2 = GetContext device 1",
+            "log (x2 == D)",
+            "spend 1",
+        ]
+        count -= 8
+    return lines + ["spend 1"] * count + ["end", "end"]
+
+
+def callbacks(count):
+    """Callbacks of classes with `count` statements together."""
+    lines = ["device D", "end"]
+    for number in range(255):
+        share = count // (255 - number)
+        count -= share
+        lines += [f"class C{number} dpc D", "serialize", "on EvtDpcFunc"]
+        lines += [f"let x{k % 16} = (x{k % 16} + {k})" for k in range(share)]
+        lines += ["end", "end"]
+    return lines
+
+
+def posts(devices, apps, count):
+    """Apps with `count` posts together, to so many devices."""
+    lines = []
+    for number in range(devices):
+        lines += [f"device D{number}", f"queue Q{number} parallel 4", "default", "end", "end"]
+    for number in range(apps):
+        share = count // (apps - number)
+        count -= share
+        lines.append(f"app A{number}")
+        lines += [f"at {k} read D{(number + k) % devices} {k + 1}" for k in range(share)]
+        lines.append("end")
+    return lines
+
+
+def device_lines(count):
+    """A device with `count` lines with `at`, and as many with `when`, over 64 registers."""
+    lines = ["device D"] + [f"register R{k} 0" for k in range(64)]
+    for k in range(count):
+        lines.append(f"when write R{k % 64} set R{(k + 1) % 64} {k} after 1")
+        lines.append(f"at {k} set R{k % 64} {k}")
+    return lines + ["end"]
+
+
+def queues(count):
+    """A device with `count` queues."""
+    lines = ["device D"]
+    for number in range(count):
+        lines += [f"queue Q{number} manual", "power off", "end"]
+    return lines + ["end"]
+
+
+SCENARIOS = {
+    "4,096 statements in one callback": statements(4096),
+    "4,096 statements, 255 classes": callbacks(4096),
+    "4,096 posts, 254 apps": posts(8, 254, 4096),
+    "4,096 posts, one app": posts(8, 1, 4096),
+    "4,096 posts of a device, 64 registers": device_lines(4096),
+    "all at once": statements(2048) + callbacks(2048)[2:] + posts(7, 254, 4096),
+    "4,094 queues of a device": queues(4094),
+}
+
+
+def run(program, text):
+    """The answer, seconds and MB of one run over the text."""
+    with tempfile.TemporaryFile() as file:
+        file.write(text.encode())
+        file.seek(0)
+        child = subprocess.Popen([program, "check"], stdin=file, stdout=subprocess.PIPE)
+        answer = child.stdout.read()
+        _, status, usage = os.wait4(child.pid, 0)
+        seconds = usage.ru_utime + usage.ru_stime
+    return answer, os.waitstatus_to_exitcode(status), seconds, usage.ru_maxrss / 1024
+
+
+def best(program, text, wanted):
+    """Seconds and MB of the best of five runs that answer with this status."""
+    runs = [run(program, text) for _ in range(5)]
+    for answer, code, _, _ in runs:
+        if code != wanted:
+            sys.exit(f"answered {answer[:60]!r} with status {code}, not {wanted}")
+    return min(r[2] for r in runs), max(r[3] for r in runs)
+
+
+def main():
+    program = sys.argv[1] if len(sys.argv) > 1 else PROGRAM
+    for name, lines in SCENARIOS.items():
+        text = HEAD + "\n".join(lines) + "\n"
+        if len(text) > 1_048_576:
+            sys.exit(f"{name}: {len(text)} bytes")
+        whole, most = best(program, text, 0)
+        searched, _ = best(program, text + TWICE, 11)
+        parsed, _ = best(program, text + OPEN, 10)
+        print(
+            f"{name}: {len(text)} bytes, {most:.0f} MB, check {whole:.3f} s: read and parsed "
+            f"{parsed:.3f} s, searched {searched - parsed:.3f} s, plan and print {whole - searched:.3f} s"
+        )
+
+
+main()

@@ -1,0 +1,72 @@
+//! One call of the program over a source and a sink in memory.
+use std::alloc::Global;
+use std::process::Abort;
+use std::test::Fail;
+use wdf_io::{MemSink, MemSource};
+use wdf_top::top_plain;
+
+/// What the outside does.
+#[derive(Clone, Copy)]
+pub struct Outside {
+    /// The most bytes that one read gives.
+    pub piece: usize,
+    /// The read that fails, or 0.
+    pub read_fails: u64,
+    /// The write that fails, or 0.
+    pub write_fails: u64,
+    /// The bytes that the sink can hold.
+    pub room: usize,
+}
+
+/// An outside that doesn't fail.
+pub const STEADY: Outside = Outside {
+    piece: 65_536,
+    read_fails: 0,
+    write_fails: 0,
+    room: 65_536,
+};
+
+/// A name for what is tried; the words and the input; the status and the text that are due.
+pub type Row = (&'static str, &'static str, &'static [u8], u8, &'static [u8]);
+
+/// The words that stand behind the program's name.
+fn words_of(alloc: Global, words: &str) -> Result<Vec<String>, Fail> {
+    let mut all = Vec::new(alloc);
+    for word in words.split_whitespace() {
+        all.push(String::from_str(alloc, word)?)?;
+    }
+    Ok(all)
+}
+
+/// The status that the program ends with, and where it wrote.
+pub fn call(
+    alloc: Global,
+    words: &str,
+    input: &[u8],
+    outside: Outside,
+) -> Result<(u8, MemSink), Fail> {
+    let words = words_of(alloc, words)?;
+    let read_fails = Vec::from_slice(alloc, &[outside.read_fails])?;
+    let write_fails = Vec::from_slice(alloc, &[outside.write_fails])?;
+    let input = Vec::from_slice(alloc, input)?;
+    let mut source = MemSource::new(input, read_fails, outside.piece.max(1));
+    let mut sink = MemSink::new(alloc, outside.room, write_fails)?;
+    let status = top_plain(alloc, &words, &mut source, &mut sink);
+    Ok((status, sink))
+}
+
+/// Tries what each row says.
+pub fn try_rows<R: Abort>(
+    rt: &R,
+    alloc: Global,
+    outside: Outside,
+    rows: &[Row],
+) -> Result<(), Fail> {
+    for (name, words, input, status, text) in rows {
+        let (found, sink) = call(alloc, words, input, outside)?;
+        let written = String::from_utf8_lossy(alloc, sink.written())?;
+        assert!(rt; sink.written() == *text, "at {name}: {written}");
+        assert_eq!(rt; found, *status, "at {name}");
+    }
+    Ok(())
+}

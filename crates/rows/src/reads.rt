@@ -1,0 +1,213 @@
+//! Runs of apps that read from a device whose queue completes each read.
+use crate::call::{Outside, Row, STEADY, try_rows};
+use std::test::Fail;
+
+/// One app reads once.
+pub const ONE_READ: &[u8] = b"\
+cpus 1\n\
+limit 100\n\
+objects 16\n\
+device D working\n\
+queue Q sequential\n\
+default\n\
+on EvtIoRead\n\
+call WdfRequestComplete request SUCCESS\n\
+end\n\
+end\n\
+end\n\
+app A\n\
+at 0 read D 16\n\
+end\n\
+";
+
+pub const ONE_READ_RUN: &[u8] = b"\
+1 A read D.2 16 -> req.4\n\
+2 cpu0 start EvtIoRead Q.3 req.4\n\
+3 cpu0 call WdfRequestComplete req.4 SUCCESS -> SUCCESS\n\
+4 cpu0 end EvtIoRead Q.3 SUCCESS\n\
+5 fw cleanup req.4\n\
+6 fw destroy req.4\n\
+finished 6\n\
+";
+
+/// The app reads twice, and the run takes what comes first.
+const TWO_READS: &[u8] = b"\
+cpus 1\n\
+limit 100\n\
+objects 16\n\
+device D working\n\
+queue Q sequential\n\
+default\n\
+on EvtIoRead\n\
+call WdfRequestComplete request SUCCESS\n\
+end\n\
+end\n\
+end\n\
+app A\n\
+at 0 read D 16\n\
+at 0 read D 16\n\
+end\n\
+";
+
+const TWO_READS_RUN: &[u8] = b"\
+1 A read D.2 16 -> req.4\n\
+2 cpu0 start EvtIoRead Q.3 req.4\n\
+3 cpu0 call WdfRequestComplete req.4 SUCCESS -> SUCCESS\n\
+4 cpu0 end EvtIoRead Q.3 SUCCESS\n\
+5 fw cleanup req.4\n\
+6 fw destroy req.4\n\
+7 A read D.2 16 -> req.5\n\
+8 cpu0 start EvtIoRead Q.3 req.5\n\
+9 cpu0 call WdfRequestComplete req.5 SUCCESS -> SUCCESS\n\
+10 cpu0 end EvtIoRead Q.3 SUCCESS\n\
+11 fw cleanup req.5\n\
+12 fw destroy req.5\n\
+finished 12\n\
+";
+
+/// The second read is picked before the first one is presented.
+pub const TWO_READS_AT_ONCE: &[u8] = b"\
+cpus 1\n\
+limit 100\n\
+objects 16\n\
+device D working\n\
+queue Q sequential\n\
+default\n\
+on EvtIoRead\n\
+call WdfRequestComplete request SUCCESS\n\
+end\n\
+end\n\
+end\n\
+app A\n\
+at 0 read D 16\n\
+at 0 read D 16\n\
+end\n\
+order\n\
+picks 0 1\n\
+end\n\
+";
+
+pub const TWO_READS_AT_ONCE_RUN: &[u8] = b"\
+1 A read D.2 16 -> req.4\n\
+2 A read D.2 16 -> req.5\n\
+3 cpu0 start EvtIoRead Q.3 req.4\n\
+4 cpu0 call WdfRequestComplete req.4 SUCCESS -> SUCCESS\n\
+5 cpu0 end EvtIoRead Q.3 SUCCESS\n\
+6 cpu0 start EvtIoRead Q.3 req.5\n\
+7 cpu0 call WdfRequestComplete req.5 SUCCESS -> SUCCESS\n\
+8 cpu0 end EvtIoRead Q.3 SUCCESS\n\
+9 fw cleanup req.4\n\
+10 fw cleanup req.5\n\
+11 fw destroy req.4\n\
+12 fw destroy req.5\n\
+finished 12\n\
+";
+
+/// The run may have four events.
+const FOUR_EVENTS: &[u8] = b"\
+cpus 1\n\
+limit 4\n\
+objects 16\n\
+device D working\n\
+queue Q sequential\n\
+default\n\
+on EvtIoRead\n\
+call WdfRequestComplete request SUCCESS\n\
+end\n\
+end\n\
+end\n\
+app A\n\
+at 0 read D 16\n\
+end\n\
+";
+
+const FOUR_EVENTS_RUN: &[u8] = b"\
+1 A read D.2 16 -> req.4\n\
+2 cpu0 start EvtIoRead Q.3 req.4\n\
+3 cpu0 call WdfRequestComplete req.4 SUCCESS -> SUCCESS\n\
+4 cpu0 end EvtIoRead Q.3 SUCCESS\n\
+limit 4\n\
+";
+
+/// No app and no device.
+const NOTHING: &[u8] = b"\
+cpus 1\n\
+limit 9\n\
+objects 9\n\
+";
+
+/// One read on two processors.
+const TWO_PROCESSORS: &[u8] = b"\
+cpus 2\n\
+limit 100\n\
+objects 16\n\
+device D working\n\
+queue Q sequential\n\
+default\n\
+on EvtIoRead\n\
+call WdfRequestComplete request SUCCESS\n\
+end\n\
+end\n\
+end\n\
+app A\n\
+at 0 read D 16\n\
+end\n\
+";
+
+/// The callback prints the length before it completes the read.
+const LOGS_FIRST: &[u8] = b"\
+cpus 1\n\
+limit 100\n\
+objects 16\n\
+device D working\n\
+queue Q sequential\n\
+default\n\
+on EvtIoRead\n\
+log length\n\
+call WdfRequestComplete request SUCCESS\n\
+end\n\
+end\n\
+end\n\
+app A\n\
+at 0 read D 16\n\
+end\n\
+";
+
+#[test]
+fn a_run_is_the_picked_one(rt: HostRuntime) -> Result<(), Fail> {
+    let rows: [Row; 5] = [
+        ("one read", "order", ONE_READ, 0, ONE_READ_RUN),
+        ("two reads", "order", TWO_READS, 0, TWO_READS_RUN),
+        (
+            "picks",
+            "order",
+            TWO_READS_AT_ONCE,
+            0,
+            TWO_READS_AT_ONCE_RUN,
+        ),
+        ("four events", "order", FOUR_EVENTS, 5, FOUR_EVENTS_RUN),
+        ("nothing", "order", NOTHING, 0, b"finished 0\n"),
+    ];
+    try_rows(&rt, rt.alloc(), STEADY, &rows)
+}
+
+#[test]
+fn a_text_may_come_byte_by_byte(rt: HostRuntime) -> Result<(), Fail> {
+    let rows: [Row; 1] = [("one read", "order", ONE_READ, 0, ONE_READ_RUN)];
+    try_rows(&rt, rt.alloc(), Outside { piece: 1, ..STEADY }, &rows)
+}
+
+#[test]
+fn other_plans_are_not_built(rt: HostRuntime) -> Result<(), Fail> {
+    let rows: [Row; 2] = [
+        (
+            "two processors",
+            "order",
+            TWO_PROCESSORS,
+            16,
+            b"not built\n",
+        ),
+        ("a log", "order", LOGS_FIRST, 16, b"not built\n"),
+    ];
+    try_rows(&rt, rt.alloc(), STEADY, &rows)
+}

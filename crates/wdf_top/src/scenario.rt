@@ -1,0 +1,40 @@
+//! Reading a scenario: the input's scene and its plan.
+ghost use Rattle.std.specs.Prelude.{◌≡◌, ◌≤◌, ℕ, List, length, None, IfOk, IfErr, MatchResult};
+ghost use Rattle.wdf_scene.specs.declared.scene.Scene.{Scene};
+ghost use Rattle.wdf_parse.specs.Canonical.{canonical_text};
+ghost use Rattle.wdf_parse.specs.StandsFor.{StandsFor};
+ghost use Rattle.wdf_plan.specs.First.{first_refusal};
+ghost use Rattle.wdf_top.specs.Answers.{HasPlan};
+ghost use Rattle.wdf_top.specs.Causes.{IsCause};
+ghost use Rattle.wdf_top.specs.Top.{IsRead, sourcing};
+
+use crate::input::read_whole;
+use crate::refusal::Refusal;
+use std::alloc::Global;
+use wdf_base::Plan;
+use wdf_io::Source;
+use wdf_parse::{parse, print};
+use wdf_plan::resolve;
+
+/// Reads the whole input and resolves its scene.
+pub fn read_plan<S: Source>(alloc: Global, source: &mut S) -> Result<Plan, Refusal>
+    ensures plan { IfOk result (λ plan. (input : List ℕ) × IsRead (sourcing (S.left source.old) (S.left source.new) (S.faults source.old) (S.faults source.new)) input × HasPlan input plan) }
+    ensures cause { IfErr result (λ refusal. IsCause (sourcing (S.left source.old) (S.left source.new) (S.faults source.old) (S.faults source.new)) refusal) }
+{
+    let text = read_whole(alloc, source)?;
+    let scene = parse(alloc, &text)?;
+    let plan = resolve(alloc, &scene)?;
+    Ok(plan)
+}
+
+/// Reads the whole input, whose scene has a plan, and prints the scene in canonical form.
+pub fn read_canonical<S: Source>(alloc: Global, source: &mut S) -> Result<Vec<u8>, Refusal>
+    ensures text { IfOk result (λ text. (input : List ℕ) × (scene : Scene) × (stands : StandsFor input scene) × IsRead (sourcing (S.left source.old) (S.left source.new) (S.faults source.old) (S.faults source.new)) input × (first_refusal scene ≡ None) × (text.items ≡ canonical_text scene.version stands.ws)) }
+    ensures cause { IfErr result (λ refusal. IsCause (sourcing (S.left source.old) (S.left source.new) (S.faults source.old) (S.faults source.new)) refusal) }
+{
+    let text = read_whole(alloc, source)?;
+    let scene = parse(alloc, &text)?;
+    let _plan = resolve(alloc, &scene)?;
+    let canonical = print(alloc, &scene)?;
+    Ok(canonical)
+}

@@ -1,0 +1,132 @@
+#!/usr/bin/env python3
+"""Runs the program on each example of docs/SCENARIO.md and on each file of examples/.
+
+    python3 tools/check_examples.py [PROGRAM]
+
+Each must be accepted by `check`, and what `check` writes must be left as it is by another `check`. A
+fenced block `kmdf` of the guide is a whole scenario; `kmdf blocks`, `kmdf device` and `kmdf statements`
+are put where such lines stand, with the declarations below. A block `trace` is the run that `order`
+writes for the example before it. A file of examples/ whose first comment names `kmdfsim order` must
+also run to its end.
+"""
+
+import os
+import re
+import subprocess
+import sys
+
+ROOT = os.path.dirname(os.path.dirname(os.path.abspath(__file__)))
+GUIDE = os.path.join("docs", "SCENARIO.md")
+PROGRAM = os.path.join(ROOT, "crates", "kmdfsim", "out", "kmdfsim")
+
+HEAD = "cpus 1\nlimit 100\nobjects 64\n"
+DECLARED = """class Note object
+end
+class Guard spinlock
+end
+class Own request
+end
+class Later timer D
+on EvtTimerFunc
+end
+end
+device D
+register Mode 0
+interrupt Line 5
+on EvtInterruptIsr
+end
+end
+queue Waiting manual
+end
+target Below 3 SUCCESS 8
+on EvtRequestCompletion
+end
+end
+"""
+# What stands around the lines of an example.
+AROUND = {
+    "": ("", ""),
+    "blocks": (HEAD, ""),
+    "device": (HEAD + "device D\n", "end\n"),
+    "statements": (HEAD + DECLARED + "on EvtDeviceD0Entry\n", "end\nend\n"),
+}
+FENCED = re.compile(r"^```(kmdf|trace)(?: (\w+))?\n(.*?)^```$", re.MULTILINE | re.DOTALL)
+
+
+def examples(guide):
+    """For each fenced block its line, and its scenario or the run that is due."""
+    for found in FENCED.finditer(guide):
+        line = guide.count("\n", 0, found.start()) + 1
+        form, place, text = found.groups()
+        if form == "kmdf":
+            before, after = AROUND[place or ""]
+            yield line, "check", before + text + after
+        else:
+            yield line, "order", text
+
+
+def call(program, word, text):
+    """The status that the program ends with, and what it writes."""
+    done = subprocess.run([program, word], input=text.encode(), stdout=subprocess.PIPE, timeout=60)
+    return done.returncode, done.stdout.decode()
+
+
+def check(program, text):
+    """What is wrong with a scenario, if anything is."""
+    status, canonical = call(program, "check", text)
+    if status != 0:
+        return canonical.strip()
+    if call(program, "check", canonical) != (0, canonical):
+        return "the canonical form doesn't stay"
+    return None
+
+
+def check_guide(program):
+    """The faults of the guide's examples, and how many examples there are."""
+    faults, count, scenario = [], 0, ""
+    with open(os.path.join(ROOT, GUIDE), encoding="utf-8") as file:
+        guide = file.read()
+    for line, word, text in examples(guide):
+        count += 1
+        if word == "check":
+            scenario = text
+            fault = check(program, text)
+        else:
+            fault = None if call(program, word, scenario) == (0, text) else "another run"
+        if fault:
+            faults.append(f"{GUIDE}:{line}: {fault}")
+    return faults, count
+
+
+def check_files(program):
+    """The same for the files of examples/."""
+    faults = []
+    folder = os.path.join(ROOT, "examples")
+    names = sorted(name for name in os.listdir(folder) if name.endswith(".kmdf"))
+    for name in names:
+        with open(os.path.join(folder, name), encoding="utf-8") as file:
+            text = file.read()
+        fault = check(program, text)
+        comment = text.split("\ncpus")[0]
+        if not fault and "kmdfsim order" in comment and call(program, "order", text)[0] != 0:
+            fault = "the run doesn't finish"
+        if fault:
+            faults.append(f"examples/{name}: {fault}")
+    return faults, len(names)
+
+
+def main():
+    program = os.path.abspath(sys.argv[1]) if len(sys.argv) > 1 else PROGRAM
+    if not os.path.exists(program):
+        sys.exit(f"{program} isn't there: build the program first (./kmdfsim check < examples/first-read.kmdf)")
+    guide_faults, guide_count = check_guide(program)
+    file_faults, file_count = check_files(program)
+    faults = guide_faults + file_faults
+    for fault in faults:
+        print(fault)
+    print(f"{guide_count} examples of the guide, {file_count} files, {len(faults)} faults")
+    sys.exit(1 if faults else 0)
+
+
+if __name__ == "__main__":
+    main()
