@@ -5,10 +5,11 @@ Not part of the gate. Prove and build the program first (`rt ci`), then from the
 
     python3 bench/parse.py
 
-Each text is one that the program parses whole and that has no plan, since one of its first lines assigns a
-variable too many. So what is measured is the start of the program, the reading of the input, the parse, and the
-search for the first refusal. Figures are of the best of five runs: seconds of the clock, and the most memory of
-the process in MB.
+The first texts are parsed whole and have no plan, since they ask for nine processors: what is measured is
+the start of the program, the reading of the input, the parse, and the look for the first line that the plan
+refuses. The others, whose bulk is numbers of `picks` lines, have a plan, and are printed too. Figures are of
+the best of five runs: seconds of the clock and of the processor, and the most memory in MB (no less than what
+this script itself takes, some 14 MB).
 """
 
 import os
@@ -19,7 +20,7 @@ import time
 
 PROGRAM = os.path.join("crates", "kmdfsim", "out", "kmdfsim")
 
-HEAD = """cpus 2
+HEAD = """cpus 9
 limit 1000
 objects 64
 device D working
@@ -54,28 +55,57 @@ def scenario(size):
     return "".join(parts).encode()
 
 
-def run(text):
-    """Seconds and MB of one run over the text."""
-    with tempfile.TemporaryFile() as file:
+def picks(size):
+    """A canonical text of exactly `size` bytes that has a plan."""
+    parts = ["cpus 1\nlimit 9\nobjects 9\norder\n"]
+    length = len(parts[0]) + len("end\n")
+    line = "picks" + " 12345" * 100 + "\n"
+    while length + 2 * len(line) <= size:
+        parts.append(line)
+        length += len(line)
+    # One more line makes the size exact: `picks` and numbers of at most 20 digits.
+    rest = size - length - len("picks\n")
+    numbers = []
+    while rest > 0:
+        digits = rest - 1 if rest <= 20 else 10
+        numbers.append(" " + "1" * digits)
+        rest -= digits + 1
+    parts.append("picks" + "".join(numbers) + "\n" + "end\n")
+    return "".join(parts).encode()
+
+
+def run(text, due):
+    """Seconds of the clock and of the processor, and MB, of one run over the text, which must answer what is due."""
+    with tempfile.TemporaryFile() as file, tempfile.TemporaryFile() as written:
         file.write(text)
         file.seek(0)
         start = time.perf_counter()
-        child = subprocess.Popen([PROGRAM, "order"], stdin=file, stdout=subprocess.PIPE)
-        answer = child.stdout.read()
+        child = subprocess.Popen([PROGRAM, "check"], stdin=file, stdout=written)
         _, status, usage = os.wait4(child.pid, 0)
         seconds = time.perf_counter() - start
+        written.seek(0)
+        answer = written.read()
     code = os.waitstatus_to_exitcode(status)
-    if code != 11 or not answer.startswith(b"plan refused at line "):
+    if (answer, code) != due:
         sys.exit(f"answered {answer[:60]!r} with status {code}")
-    return seconds, usage.ru_maxrss / 1024
+    return seconds, usage.ru_utime + usage.ru_stime, usage.ru_maxrss / 1024
+
+
+def report(name, runs):
+    """Prints the best seconds and the most memory of some runs."""
+    clock, processor, memory = zip(*runs)
+    print(f"{name}: {min(clock):.3f} s, processor {min(processor):.3f} s, {max(memory):.0f} MB", flush=True)
 
 
 def main():
-    for size in (262_144, 524_288, 1_048_576):
-        text = scenario(size)
-        assert len(text) == size
-        runs = [run(text) for _ in range(5)]
-        print(f"{size} bytes: {min(r[0] for r in runs):.3f} s, {max(r[1] for r in runs):.0f} MB")
+    for name, make in (("refused", scenario), ("printed", picks)):
+        for size in (262_144, 524_288, 1_048_576):
+            text = make(size)
+            assert len(text) == size
+            due = (b"plan refused at line 1: OverLimit cpus\n", 11) if name == "refused" else (text, 0)
+            runs = [run(text, due) for _ in range(5)]
+            report(f"{size} bytes, {name}", runs)
 
 
-main()
+if __name__ == "__main__":
+    main()
