@@ -11,13 +11,9 @@ wait in the queue together. Figures are of the best of three runs: seconds of th
 and the most memory in MB (no less than what this script itself takes, some 14 MB).
 """
 
-import os
-import subprocess
 import sys
-import tempfile
-import time
 
-PROGRAM = os.path.join("crates", "kmdfsim", "out", "kmdfsim")
+from measure import report, run
 
 HEAD = """cpus 1
 limit 200000
@@ -43,21 +39,13 @@ def scenario(reads, picked):
     return text.encode()
 
 
-def run(text, reads):
-    """Seconds of the clock and of the processor, and MB, of one run of the text."""
-    with tempfile.TemporaryFile() as source, tempfile.TemporaryFile() as trace:
-        source.write(text)
-        source.seek(0)
-        start = time.perf_counter()
-        child = subprocess.Popen([PROGRAM, "order"], stdin=source, stdout=trace)
-        _, status, usage = os.wait4(child.pid, 0)
-        seconds = time.perf_counter() - start
-        trace.seek(0)
-        lines = trace.read().decode().splitlines()
-    code = os.waitstatus_to_exitcode(status)
-    if code != 0 or lines[-1] != f"finished {6 * reads}" or len(lines) != 6 * reads + 1:
-        sys.exit(f"ended with status {code} and {lines[-1]!r}")
-    return seconds, usage.ru_utime + usage.ru_stime, usage.ru_maxrss / 1024
+def measured(text, reads):
+    """The figures of one run of the text, which must come to its end."""
+    trace, status, figures = run("order", text)
+    lines = trace.decode().splitlines()
+    if status != 0 or lines[-1] != f"finished {6 * reads}" or len(lines) != 6 * reads + 1:
+        sys.exit(f"ended with status {status} and {lines[-1]!r}")
+    return figures
 
 
 def main():
@@ -65,9 +53,7 @@ def main():
         order = "posted first" if picked else "one by one"
         for reads in (1, 512, 1024, 2048, 4096):
             text = scenario(reads, picked)
-            runs = [run(text, reads) for _ in range(3)]
-            clock, processor, memory = zip(*runs)
-            print(f"{reads} reads {order}: {min(clock):.3f} s, processor {min(processor):.3f} s, {max(memory):.0f} MB", flush=True)
+            report(f"{reads} reads {order}", [measured(text, reads) for _ in range(3)])
 
 
 if __name__ == "__main__":

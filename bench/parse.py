@@ -12,13 +12,9 @@ the best of five runs: seconds of the clock and of the processor, and the most m
 this script itself takes, some 14 MB).
 """
 
-import os
-import subprocess
 import sys
-import tempfile
-import time
 
-PROGRAM = os.path.join("crates", "kmdfsim", "out", "kmdfsim")
+from measure import report, run
 
 HEAD = """cpus 9
 limit 1000
@@ -74,27 +70,12 @@ def picks(size):
     return "".join(parts).encode()
 
 
-def run(text, due):
-    """Seconds of the clock and of the processor, and MB, of one run over the text, which must answer what is due."""
-    with tempfile.TemporaryFile() as file, tempfile.TemporaryFile() as written:
-        file.write(text)
-        file.seek(0)
-        start = time.perf_counter()
-        child = subprocess.Popen([PROGRAM, "check"], stdin=file, stdout=written)
-        _, status, usage = os.wait4(child.pid, 0)
-        seconds = time.perf_counter() - start
-        written.seek(0)
-        answer = written.read()
-    code = os.waitstatus_to_exitcode(status)
-    if (answer, code) != due:
-        sys.exit(f"answered {answer[:60]!r} with status {code}")
-    return seconds, usage.ru_utime + usage.ru_stime, usage.ru_maxrss / 1024
-
-
-def report(name, runs):
-    """Prints the best seconds and the most memory of some runs."""
-    clock, processor, memory = zip(*runs)
-    print(f"{name}: {min(clock):.3f} s, processor {min(processor):.3f} s, {max(memory):.0f} MB", flush=True)
+def measured(text, due):
+    """The figures of one run over the text, which must answer what is due."""
+    answer, status, figures = run("check", text)
+    if (answer, status) != due:
+        sys.exit(f"answered {answer[:60]!r} with status {status}")
+    return figures
 
 
 def main():
@@ -103,8 +84,7 @@ def main():
             text = make(size)
             assert len(text) == size
             due = (b"plan refused at line 1: OverLimit cpus\n", 11) if name == "refused" else (text, 0)
-            runs = [run(text, due) for _ in range(5)]
-            report(f"{size} bytes, {name}", runs)
+            report(f"{size} bytes, {name}", [measured(text, due) for _ in range(5)])
 
 
 if __name__ == "__main__":

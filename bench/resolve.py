@@ -13,12 +13,9 @@ plan and the printing take. Figures are of the best of five runs: seconds of the
 memory of the process in MB.
 """
 
-import os
-import subprocess
 import sys
-import tempfile
 
-PROGRAM = os.path.join("crates", "kmdfsim", "out", "kmdfsim")
+from measure import PROGRAM, run
 
 HEAD = "cpus 4\nlimit 200000\nobjects 4096\n"
 TWICE = "app Again\nend\napp Again\nend\n"
@@ -100,25 +97,13 @@ SCENARIOS = {
 }
 
 
-def run(program, text):
-    """The answer, seconds and MB of one run over the text."""
-    with tempfile.TemporaryFile() as file:
-        file.write(text.encode())
-        file.seek(0)
-        child = subprocess.Popen([program, "check"], stdin=file, stdout=subprocess.PIPE)
-        answer = child.stdout.read()
-        _, status, usage = os.wait4(child.pid, 0)
-        seconds = usage.ru_utime + usage.ru_stime
-    return answer, os.waitstatus_to_exitcode(status), seconds, usage.ru_maxrss / 1024
-
-
 def best(program, text, wanted):
     """Seconds and MB of the best of five runs that answer with this status."""
-    runs = [run(program, text) for _ in range(5)]
-    for answer, code, _, _ in runs:
-        if code != wanted:
-            sys.exit(f"answered {answer[:60]!r} with status {code}, not {wanted}")
-    return min(r[2] for r in runs), max(r[3] for r in runs)
+    runs = [run("check", text.encode(), program) for _ in range(5)]
+    for answer, status, _ in runs:
+        if status != wanted:
+            sys.exit(f"answered {answer[:60]!r} with status {status}, not {wanted}")
+    return min(figures[1] for _, _, figures in runs), max(figures[2] for _, _, figures in runs)
 
 
 def main():
