@@ -9,6 +9,7 @@ use Rattle.wdf_base.specs.declared.call.Callback.{Callback}
 use Rattle.wdf_base.specs.declared.script.Operator.{Operator}
 use Rattle.wdf_base.specs.Words.{callback_word, callback_of}
 use Rattle.wdf_base.proofs.WordLaws.{callback-only}
+use Rattle.wdf_text.specs.Decimals.{number_after}
 use Rattle.wdf_parse.specs.declared.lexer.Content.{Content}
 use Rattle.wdf_parse.specs.declared.lexer.Content.TheVariants.{Whole, Blank, Foreign, TooLarge}
 use Rattle.wdf_parse.specs.declared.lexer.Piece.{Piece}
@@ -16,7 +17,7 @@ use Rattle.wdf_parse.specs.declared.lexer.TokenFault.{TokenFault}
 use Rattle.wdf_parse.specs.declared.lexer.TokenFault.TheVariants as fault
 use Rattle.wdf_parse.specs.declared.token.Token.{Token}
 use Rattle.wdf_parse.specs.declared.token.Token.TheVariants as token
-use Rattle.wdf_parse.specs.Tokens.{is_blank, is_plain, is_name_byte, number_after, small_number, piece, piece_of, digits_piece, letters_piece, number_content, name_content, long_name, long_content, operator_of, mark_token, pair_token, marks_piece, token_at, with_token, tokens_from, line_reading}
+use Rattle.wdf_parse.specs.Tokens.{is_blank, is_plain, is_name_byte, piece, piece_of, digits_piece, letters_piece, number_content, name_content, long_name, long_content, operator_of, mark_token, pair_token, marks_piece, token_at, with_token, tokens_from, line_reading}
 use Rattle.wdf_parse.specs.WellFormed.{is_word, is_token}
 use Rattle.wdf_parse.proofs.FormSoundness.{first_part, second_part}
 

@@ -12,7 +12,6 @@ pub mod LineReading
 pub mod LineSoundness
 pub mod LinesTaken
 pub mod NotVersion
-pub mod Numbers
 pub mod Picking
 pub mod PrintedLines
 pub mod ProperNames

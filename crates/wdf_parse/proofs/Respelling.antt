@@ -1,10 +1,10 @@
 -- Tokens that are spelled are read again.
-use Rattle.std.proofs.Common.{◌≡◌, ℕ, zero, suc, ◌+◌, ◌-◌, ◌*◌, ◌/◌, ◌%◌, ◌^◌, ◌<◌, ◌≤◌, Bool, true, false, cond, not, ◌&&◌, ◌||◌, nat_le, nat_lt, List, [], ◌∷◌, ◌++◌, length, drop, decimal, Option, Some, None, Result, Ok, Err, refl, ap, ◌∙◌, sym, subst, arith, append_assoc, append-nil, length-append}
+use Rattle.std.proofs.Common.{◌≡◌, ℕ, zero, suc, ◌+◌, ◌-◌, ◌^◌, ◌<◌, ◌≤◌, Bool, true, false, cond, not, ◌&&◌, ◌||◌, nat_le, nat_lt, List, [], ◌∷◌, ◌++◌, length, drop, decimal, Option, Some, None, Result, Ok, Err, refl, ap, ◌∙◌, sym, subst, arith, append_assoc, append-nil}
 use Rattle.std.specs.Prelude.{◌==◌, if◌then◌else◌, slice_index}
 use Rattle.std.specs.Char.{is_ascii_digit, is_ascii_alphabetic}
 use Rattle.std.specs.List.{list_all, take_while}
 use Rattle.std.proofs.lemmas.Bool.{leb-true, ltb-true, lt-leb, le-leb, ne_eqb, eqb-true}
-use Rattle.std.proofs.lemmas.Fmt.{decimal_by_steps}
+use Rattle.std.proofs.lemmas.Fmt.{decimal_nonempty}
 use Rattle.std.proofs.lemmas.List.Sums.{take_while-cons}
 use Rattle.std.proofs.Math.Seq.{drop-append_seam}
 use Rattle.wdf_base.specs.declared.call.Callback.{Callback}
@@ -13,6 +13,8 @@ use Rattle.wdf_base.specs.declared.script.Operator.TheVariants as operator
 use Rattle.wdf_base.specs.Words.{callback_word}
 use Rattle.wdf_base.proofs.WordLaws.{callback-back}
 use Rattle.wdf_scene.specs.Words.{operator_word}
+use Rattle.wdf_text.specs.Decimals.{small_number}
+use Rattle.wdf_text.proofs.ReadBack.{decimal_digits, small_number-decimal}
 use Rattle.wdf_parse.specs.declared.lexer.Content.{Content}
 use Rattle.wdf_parse.specs.declared.lexer.Content.TheVariants.{Whole, Blank}
 use Rattle.wdf_parse.specs.declared.lexer.Piece.{Piece}
@@ -22,11 +24,10 @@ use Rattle.wdf_parse.specs.declared.token.Token.{Token}
 use Rattle.wdf_parse.specs.declared.token.Token.TheVariants as token
 use Rattle.wdf_parse.specs.Printing.{token_text, rest_text, line_text}
 use Rattle.wdf_parse.specs.Canonical.{rest_bytes, line_bytes}
-use Rattle.wdf_parse.specs.Tokens.{is_blank, is_plain, is_name_byte, is_inside, number_after, small_number, piece, piece_of, digits_piece, letters_piece, number_content, name_content, long_name, long_content, marks_piece, token_at, with_token, tokens_from, line_reading, lines_of, with_byte}
+use Rattle.wdf_parse.specs.Tokens.{is_blank, is_plain, is_name_byte, is_inside, piece, piece_of, digits_piece, letters_piece, number_content, name_content, long_name, long_content, marks_piece, token_at, with_token, tokens_from, line_reading, lines_of, with_byte}
 use Rattle.wdf_parse.specs.WellFormed.{is_word, is_token}
 use Rattle.wdf_parse.proofs.FormSoundness.{first_part, second_part}
 use Rattle.wdf_parse.proofs.LineReading.{tokens_from_head}
-use Rattle.wdf_parse.proofs.Numbers.{small_number_fits}
 
 and_true : (a b : Bool) → a ≡ true → b ≡ true → (a && b) ≡ true
 and_true a b p q = rw p q
@@ -34,11 +35,6 @@ and_true a b p q = rw p q
 or_true : (a b : Bool) → b ≡ true → (a || b) ≡ true
 or_true true b h = refl
 or_true false b h = h
-
--- a last digit
-number_after_last : (value : ℕ) (ds : List ℕ) (d : ℕ) → number_after value (ds ++ d ∷ []) ≡ 10 * number_after value ds + (d - 48)
-number_after_last value [] d = refl
-number_after_last value (x ∷ xs) d = number_after_last (10 * value + (x - 48)) xs d
 
 list_all_append : (p : ℕ → Bool) (xs ys : List ℕ) → list_all p xs ≡ true → list_all p ys ≡ true → list_all p (xs ++ ys) ≡ true
 list_all_append p [] ys h e = e
@@ -99,31 +95,6 @@ printed_inside b h =
     let other : (b ≡ 10 → ⊥) = λ (e : b ≡ 10). let z : ⊥ = absurd (omega arith) in z in
     ap not (ne_eqb b 10 other)
 
--- what is known of decimal digits
-record IsDecimal (n : ℕ) (ds : List ℕ) : Type 0 where
-  digits : list_all is_ascii_digit ds ≡ true
-  value : number_after 0 ds ≡ n
-  some : 0 < length ds
-
-digit_is : (d : ℕ) → d < 10 → is_ascii_digit (48 + d) ≡ true
-digit_is d h = in_range 48 57 (48 + d) (omega arith) (omega arith)
-
-one_decimal : (n : ℕ) → n < 10 → IsDecimal n ((48 + n) ∷ [])
-one_decimal n h = record { digits = and_true (is_ascii_digit (48 + n)) true (digit_is n h) refl; value = omega arith; some = omega arith }
-
-more_decimal : (n : ℕ) (ds : List ℕ) → 10 ≤ n → IsDecimal (n / 10) ds → IsDecimal n (ds ++ ((48 + n % 10) ∷ []))
-more_decimal n ds h before =
-    let last : n % 10 < 10 = omega arith in
-    let value : 10 * (n / 10) + (48 + n % 10 - 48) ≡ n = omega arith in
-    record {
-      digits = list_all_append is_ascii_digit ds ((48 + n % 10) ∷ []) before.digits (and_true (is_ascii_digit (48 + n % 10)) true (digit_is (n % 10) last) refl);
-      value = number_after_last 0 ds (48 + n % 10) ∙ ap (λ v. 10 * v + (48 + n % 10 - 48)) before.value ∙ value;
-      some = omega (arith, length-append ds ((48 + n % 10) ∷ []));
-    }
-
-decimal_is : (n : ℕ) → n < 2 ^ 64 → IsDecimal n (decimal n)
-decimal_is n h = decimal_by_steps IsDecimal one_decimal more_decimal n h
-
 -- what may stand behind a token: nothing, or a blank
 pub data Stops : List ℕ → Type 0 where
   AtEnd : Stops []
@@ -171,12 +142,12 @@ digits_front b bytes h =
     piece_by_tests : is_blank b ≡ false → (b == 35) ≡ false → piece_of (b ∷ bytes) ≡ digits_piece (take_while is_ascii_digit (b ∷ bytes))
     piece_by_tests blank comment = rw (blank, comment, h) refl
 
-number_piece : (n : ℕ) (ds rest : List ℕ) → n < 2 ^ 64 → IsDecimal n ds → Stops rest → piece_of (ds ++ rest) ≡ piece (length ds) (Whole (token.Number n))
-number_piece n [] rest small is stops = absurd (let z : 0 < 0 = is.some in omega arith)
-number_piece n (b ∷ ds) rest small is stops =
-    digits_front b (ds ++ rest) (first_part (is_ascii_digit b) (list_all is_ascii_digit ds) is.digits)
-    ∙ ap digits_piece (front_taken is_ascii_digit (b ∷ ds) rest refl is.digits stops)
-    ∙ ap (λ o. piece (length (b ∷ ds)) (number_content o)) (sym (small_number_fits (b ∷ ds) n is.value small))
+number_piece : (n : ℕ) (ds rest : List ℕ) → list_all is_ascii_digit ds ≡ true → small_number ds ≡ Some n → 0 < length ds → Stops rest → piece_of (ds ++ rest) ≡ piece (length ds) (Whole (token.Number n))
+number_piece n [] rest digits is some stops = absurd (omega arith)
+number_piece n (b ∷ ds) rest digits is some stops =
+    digits_front b (ds ++ rest) (first_part (is_ascii_digit b) (list_all is_ascii_digit ds) digits)
+    ∙ ap digits_piece (front_taken is_ascii_digit (b ∷ ds) rest refl digits stops)
+    ∙ ap (λ o. piece (length (b ∷ ds)) (number_content o)) is
 
 -- the piece of a word
 letters_front : (b : ℕ) (bytes : List ℕ) → is_ascii_alphabetic b ≡ true → piece_of (b ∷ bytes) ≡ letters_piece (take_while is_name_byte (b ∷ bytes))
@@ -243,7 +214,7 @@ assign_piece rest (AtBlank more) = refl
 
 -- the piece of each token
 pub token_piece : (t : Token) (rest : List ℕ) → is_token t ≡ true → Stops rest → piece_of (token_text t ++ rest) ≡ piece (length (token_text t)) (Whole t)
-token_piece (token.Number n) rest fit stops = let small : n < 2 ^ 64 = ltb-true n (2 ^ 64) fit in number_piece n (decimal n) rest small (decimal_is n small) stops
+token_piece (token.Number n) rest fit stops = let small : n < 2 ^ 64 = ltb-true n (2 ^ 64) fit in number_piece n (decimal n) rest (decimal_digits n small) (small_number-decimal n small) (decimal_nonempty n small) stops
 token_piece (token.Word w) rest fit stops =
     word_piece w rest (first_part (is_word w) (nat_le (length w) 32) fit) stops
     ∙ ap (piece (length w)) (short_content w (second_part (is_word w) (nat_le (length w) 32) fit))
@@ -266,7 +237,7 @@ operator_some operator.AtMost = omega arith
 operator_some _ = omega arith
 
 token_some : (t : Token) → is_token t ≡ true → 0 < length (token_text t)
-token_some (token.Number n) fit = let small : n < 2 ^ 64 = ltb-true n (2 ^ 64) fit in (decimal_is n small).some
+token_some (token.Number n) fit = let small : n < 2 ^ 64 = ltb-true n (2 ^ 64) fit in decimal_nonempty n small
 token_some (token.Word w) fit = word_some w (first_part (is_word w) (nat_le (length w) 32) fit)
 token_some (token.LongName c) fit = word_some (callback_word c) (first_part (is_word (callback_word c)) (nat_lt 32 (length (callback_word c))) fit)
 token_some token.Open fit = omega arith
@@ -327,7 +298,7 @@ operator_is_printed operator.Below = refl
 operator_is_printed operator.AtMost = refl
 
 token_is_printed : (t : Token) → is_token t ≡ true → list_all is_printed (token_text t) ≡ true
-token_is_printed (token.Number n) fit = let small : n < 2 ^ 64 = ltb-true n (2 ^ 64) fit in all_implies is_ascii_digit is_printed (decimal n) digit_printed (decimal_is n small).digits
+token_is_printed (token.Number n) fit = let small : n < 2 ^ 64 = ltb-true n (2 ^ 64) fit in all_implies is_ascii_digit is_printed (decimal n) digit_printed (decimal_digits n small)
 token_is_printed (token.Word w) fit = word_is_printed w (first_part (is_word w) (nat_le (length w) 32) fit)
 token_is_printed (token.LongName c) fit = word_is_printed (callback_word c) (first_part (is_word (callback_word c)) (nat_lt 32 (length (callback_word c))) fit)
 token_is_printed token.Open fit = refl

@@ -1,11 +1,12 @@
 -- The lines of a scenario's text, and the tokens of a line.
-use Rattle.std.specs.Prelude.{◌≡◌, ℕ, ◌+◌, ◌-◌, ◌*◌, ◌^◌, zero, suc, option_map, List, [], ◌∷◌, length, Bool, ◌||◌, ◌&&◌, not, ◌==◌, nat_lt, nat_le, Option, Some, None, Result, Ok, Err, if◌then◌else◌, slice_index}
+use Rattle.std.specs.Prelude.{◌≡◌, ℕ, ◌-◌, zero, suc, option_map, List, [], ◌∷◌, length, Bool, ◌||◌, ◌&&◌, not, ◌==◌, nat_le, Option, Some, None, Result, Ok, Err, if◌then◌else◌, slice_index}
 use Rattle.std.specs.Char.{is_ascii_digit, is_ascii_alphabetic}
 use Rattle.std.specs.List.{list_all, take_while}
 use Rattle.wdf_base.specs.declared.call.Callback.{Callback}
 use Rattle.wdf_base.specs.declared.script.Operator.{Operator}
 use Rattle.wdf_base.specs.declared.script.Operator.TheVariants as operator
 use Rattle.wdf_base.specs.Words.{callback_of}
+use Rattle.wdf_text.specs.Decimals.{small_number}
 use Rattle.wdf_parse.specs.declared.token.Token.{Token}
 use Rattle.wdf_parse.specs.declared.token.Token.TheVariants as token
 use Rattle.wdf_parse.specs.declared.lexer.TokenFault.{TokenFault}
@@ -27,15 +28,6 @@ is_blank b = b == 32 || b == 9 || b == 13
 -- a byte of a name behind its first letter
 abbrev pub is_name_byte : ℕ → Bool
 is_name_byte b = is_ascii_alphabetic b || is_ascii_digit b || b == 95
-
--- the number that digits write behind those of another number
-abbrev pub number_after : ℕ → List ℕ → ℕ
-number_after value [] = value
-number_after value (digit ∷ digits) = number_after (10 * value + (digit - 48)) digits
-
--- the number that digits write, if it is below 2 ^ 64
-abbrev pub small_number : List ℕ → Option ℕ
-small_number digits = if nat_lt (number_after 0 digits) (2 ^ 64) then Some (number_after 0 digits) else None
 
 -- a piece of a line
 abbrev pub piece : ℕ → Content → Piece

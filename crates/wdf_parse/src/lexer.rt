@@ -1,12 +1,14 @@
 //! The lines of a text, and the tokens of a line.
-ghost use Rattle.std.specs.Prelude.{◌≡◌, ◌+◌, ◌-◌, ◌*◌, ◌^◌, ◌<◌, ◌≤◌, ◌++◌, length, OnOk, IfErr, IfOk, slice_index, Err, Ok, Option};
-ghost use Rattle.std.specs.Option.{SomeIff, option_to_list};
+ghost use Rattle.std.specs.Prelude.{◌≡◌, ◌+◌, ◌^◌, ◌<◌, ◌≤◌, ◌++◌, length, OnOk, IfErr, IfOk, slice_index, Err, Ok, Option};
+ghost use Rattle.std.specs.Option.{option_to_list};
 ghost use Rattle.std.specs.Char.{is_ascii_digit};
 ghost use Rattle.std.specs.List.{list_all, take_while};
-ghost use Rattle.wdf_parse.specs.Tokens.{is_plain, is_blank, is_name_byte, small_number, name_content, long_name, number_content, operator_of, mark_token, pair_token, marks_piece, piece, digits_piece, letters_piece, piece_of, token_at, line_reading, IsFaultOf, is_inside};
+ghost use Rattle.wdf_text.specs.Decimals.{small_number};
+ghost use Rattle.wdf_parse.specs.Tokens.{is_plain, is_blank, is_name_byte, name_content, long_name, number_content, operator_of, mark_token, pair_token, marks_piece, piece, digits_piece, letters_piece, piece_of, token_at, line_reading, IsFaultOf, is_inside};
 
 use crate::token::Token;
 use wdf_base::{Callback, Memory, NAME_LIMIT, Name, Operator};
+use wdf_text::small_number;
 
 /// Why a line has no reading.
 #[derive(Clone, Copy, Debug, PartialEq, Eq)]
@@ -64,29 +66,6 @@ fn is_name_byte(byte: u8) -> bool
     ensures { result ≡ is_name_byte byte }
 {
     byte.is_ascii_alphabetic() || byte.is_ascii_digit() || byte == b'_'
-}
-
-/// A number with one more digit behind it, if it fits 64 bits.
-fn with_digit(value: u64, digit: u8) -> Option<u64>
-    ensures { SomeIff result (10 * value + (digit - 48) < 2 ^ 64) (10 * value + (digit - 48)) }
-{
-    value
-        .checked_mul(10)?
-        .checked_add(u64::from(digit.saturating_sub(b'0')))
-}
-
-/// The number that decimal digits write, if it fits 64 bits.
-pub fn small_number(digits: &[u8]) -> Option<u64>
-    ensures { result ≡ small_number digits.now }
-{
-    let mut value = 0;
-    for digit in digits {
-        match with_digit(value, *digit) {
-            Some(next) => value = next,
-            None => return None,
-        }
-    }
-    Some(value)
 }
 
 fn number_content(digits: &[u8]) -> Content

@@ -23,7 +23,6 @@ pub use laws::{
     one_scene, printed_is_read_back, scenes_are_well_formed, spelled_lines_are_read,
     spelled_tokens_are_read,
 };
-pub use lexer::small_number;
 pub use parsing::{TEXT_LIMIT, parse};
 pub use printing::print;
 pub use refusal::ParseRefusal;

@@ -6,7 +6,7 @@ use Rattle.std.specs.Option.{option_and_then}
 use Rattle.std.specs.Char.{is_ascii_digit}
 use Rattle.wdf_top.specs.declared.words.Form.{Form}
 use Rattle.wdf_top.specs.declared.words.Form.TheVariants.{Check, Order, Seed, Replay, Gen, Load}
-use Rattle.wdf_parse.specs.Tokens.{small_number}
+use Rattle.wdf_text.specs.Decimals.{small_number}
 
 -- the form of one word alone
 abbrev pub form_of_word : List ℕ → Option Form

@@ -3,7 +3,7 @@ ghost use Rattle.std.specs.Char.{is_ascii_digit};
 ghost use Rattle.std.specs.List.{list_all};
 ghost use Rattle.wdf_top.specs.Words.{form_of_word, form_with_number, form_of_words, number_word};
 
-use wdf_parse::small_number;
+use wdf_text::small_number;
 
 /// What the program was asked to do. `run` isn't served yet, so it is no form.
 #[derive(Clone, Copy, Debug, PartialEq, Eq)]

@@ -4,7 +4,6 @@ pub mod CallLaws
 pub mod Decimals
 pub mod EventLaws
 pub mod NameLaws
-pub mod Numbers
 pub mod ResolvedLaws
 pub mod Spaced
 pub mod ValueLaws

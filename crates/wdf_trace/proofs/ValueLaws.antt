@@ -18,12 +18,13 @@ use Rattle.wdf_base.specs.Kinds.{class_name}
 use Rattle.wdf_base.specs.Resolved.{is_name, is_reserved, register_name}
 use Rattle.wdf_base.specs.Words.{status_word, status_of}
 use Rattle.wdf_base.proofs.WordLaws.{status-back, status-only}
+use Rattle.wdf_text.proofs.ReadBack.{decimal_digits}
 use Rattle.wdf_trace.specs.Lines.{name_text, object_text, class_text, register_text, cpu_text, value_text, argument_text, answer_text}
 use Rattle.wdf_trace.specs.Reading.{parts, word, short_of, below, cpu_of, has_dot, object_of, name_of, class_of, is_class_with}
 use Rattle.wdf_trace.specs.Told.{status_or_number, value_of, class_or_value, argument_of, optional_of, answer_of}
 use Rattle.wdf_trace.specs.Events.{IsHandleOf, IsOptionalOf, IsValueOf, IsArgumentOf}
 use Rattle.wdf_trace.proofs.Blanks.{Lacks, Lacks_append, parts_last, parts_more, has_dot_none, has_dot_some}
-use Rattle.wdf_trace.proofs.Decimals.{Lacks_decimal, decimal_digits, number_of-decimal, short_of-decimal, below_is}
+use Rattle.wdf_trace.proofs.Decimals.{Lacks_decimal, number_of-decimal, short_of-decimal, below_is}
 use Rattle.wdf_trace.proofs.NameLaws.{HasNames, is_name_lacks, item_at, text_by_name, class_of-class_text}
 use Rattle.wdf_trace.proofs.WordLaws.{status_word_lacks, status_word_no_dot, status_word_no_digits, status_word_reserved}
 

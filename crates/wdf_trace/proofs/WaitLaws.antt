@@ -22,15 +22,17 @@ use Rattle.wdf_base.specs.declared.wait.Cause.TheVariants as cause
 use Rattle.wdf_base.specs.declared.wait.WaitLine.{WaitLine}
 use Rattle.wdf_base.specs.Words.{callback_word, stage_word}
 use Rattle.wdf_base.proofs.WordLaws.{stage-back}
+use Rattle.wdf_text.proofs.ReadBack.{decimal_digits}
+use Rattle.wdf_text.proofs.Numbers.{small_number_below}
 use Rattle.wdf_trace.specs.Lines.{object_text}
 use Rattle.wdf_trace.specs.Endings.{joined, ending_word, ending_text, step_word, thing_words, cause_words, wait_text}
 use Rattle.wdf_trace.specs.Events.{IsHandleOf}
-use Rattle.wdf_trace.specs.Reading.{word, words, number_after, number_of, short_of, has_dot, object_of}
+use Rattle.wdf_trace.specs.Reading.{word, words, number_of, short_of, has_dot, object_of}
 use Rattle.wdf_trace.specs.Told.{stage_in}
 use Rattle.wdf_trace.specs.CauseWords.{cause_word_of}
 use Rattle.wdf_trace.specs.Waits.{IsEndingText, ending_of, has_cause, IsThingOf, IsCauseOf, IsWaitOf, frame_of, cause_with, cause_in, step_with, step_of, object_line, wait_in}
 use Rattle.wdf_trace.proofs.Blanks.{Lacks, AllLack, words_spaced}
-use Rattle.wdf_trace.proofs.Decimals.{decimal_digits, number_of-decimal, short_of-decimal, below_small}
+use Rattle.wdf_trace.proofs.Decimals.{number_of-decimal, short_of-decimal}
 use Rattle.wdf_trace.proofs.EventLaws.{short_lacks, digits_lack, callback_named-word, callback_in-word, callback_named-stage}
 use Rattle.wdf_trace.proofs.NameLaws.{HasNames}
 use Rattle.wdf_trace.proofs.ValueLaws.{ap2, ap3, ap4, object_of-object_text, has_dot-object_text, object_lacks}
@@ -80,7 +82,7 @@ ending_read text k e is_number is_ending h =
 
 -- a number that is read fits
 pub number_of_small : (w : List ℕ) → number_of w < 2 ^ 64
-number_of_small w = below_small (2 ^ 64) (number_after 0 w) (omega arith)
+number_of_small w = small_number_below w
 
 -- ---- no word of a wait line has a blank
 

@@ -1,5 +1,5 @@
 -- The words of a line, and what each names: a word is taken for what stands at its place.
-use Rattle.std.specs.Prelude.{if◌then◌else◌, ℕ, ◌==◌, ◌+◌, ◌-◌, ◌*◌, ◌^◌, nat_lt, Bool, List, [], ◌∷◌, drop, codes, Option, position, unwrap_or, slice_get}
+use Rattle.std.specs.Prelude.{if◌then◌else◌, ℕ, ◌==◌, ◌+◌, ◌^◌, nat_lt, Bool, List, [], drop, codes, Option, position, unwrap_or, slice_get}
 use Rattle.std.specs.List.{slice_split, list_any}
 use Rattle.std.specs.Str.{bytes_eq}
 use Rattle.wdf_base.specs.declared.plan.Plan.{Plan}
@@ -9,6 +9,7 @@ use Rattle.wdf_base.specs.declared.script.AgentInfo.{AgentInfo}
 use Rattle.wdf_base.specs.declared.ids.Handle.{Handle}
 use Rattle.wdf_base.specs.declared.ids.Cpu.{Cpu}
 use Rattle.wdf_base.specs.Kinds.{class_name}
+use Rattle.wdf_text.specs.Decimals.{small_number}
 use Rattle.wdf_trace.specs.Lines.{name_text}
 
 -- ---- words
@@ -30,18 +31,13 @@ words text = parts 32 text
 
 -- ---- numbers
 
--- the number that digits write behind those that wrote `value`
-abbrev pub number_after : ℕ → List ℕ → ℕ
-number_after value [] = value
-number_after value (digit ∷ digits) = number_after (10 * value + (digit - 48)) digits
-
 -- a number below this bound, or 0
 abbrev pub below : ℕ → ℕ → ℕ
 below bound n = if nat_lt n bound then n else 0
 
--- the number that a word writes, if it fits 64 bits
+-- the number that a word writes, or 0 where it doesn't fit 64 bits
 abbrev pub number_of : List ℕ → ℕ
-number_of digits = below (2 ^ 64) (number_after 0 digits)
+number_of digits = unwrap_or (small_number digits) 0
 
 -- the number that a word writes, if it fits 32 bits
 abbrev pub short_of : List ℕ → ℕ

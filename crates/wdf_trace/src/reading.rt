@@ -1,9 +1,10 @@
-ghost use Rattle.std.specs.Prelude.{◌≡◌, ◌<◌, ◌^◌, ◌+◌, ◌-◌, ◌*◌, IfSome, position, slice_get};
-ghost use Rattle.std.specs.Option.{SomeIff, option_copied};
-ghost use Rattle.wdf_trace.specs.Reading.{part, parts, word, words, is_name_with, is_class_with, is_register_with, is_agent_with, number_after, number_of, short_of, cpu_of, name_of, has_dot, object_of, class_of, register_of, poster_of, agent_of};
+ghost use Rattle.std.specs.Prelude.{◌≡◌, ◌<◌, ◌^◌, ◌+◌, IfSome, position, slice_get};
+ghost use Rattle.std.specs.Option.{option_copied};
+ghost use Rattle.wdf_trace.specs.Reading.{part, parts, word, words, is_name_with, is_class_with, is_register_with, is_agent_with, number_of, short_of, cpu_of, name_of, has_dot, object_of, class_of, register_of, poster_of, agent_of};
 
 use crate::pieces::name_bytes;
 use wdf_base::{AgentInfo, ClassInfo, Cpu, Handle, Name, ObjectId, Plan, RegisterInfo};
+use wdf_text::small_number;
 
 /// The part of a text at this place between separators, if there are so many.
 fn part_if_any(text: &[u8], separator: u8, place: usize) -> Option<&[u8]>
@@ -29,27 +30,11 @@ pub fn word(text: &[u8], place: usize) -> &[u8]
     part(text, b' ', place)
 }
 
-/// A number with one more digit behind it, if it fits 64 bits.
-fn with_digit(value: u64, digit: u8) -> Option<u64>
-    ensures { SomeIff result (10 * value + (digit - 48) < 2 ^ 64) (10 * value + (digit - 48)) }
-{
-    value
-        .checked_mul(10)?
-        .checked_add(u64::from(digit.saturating_sub(b'0')))
-}
-
 /// The number that a word writes in decimal digits, 0 where it doesn't fit 64 bits.
 pub fn number_of(digits: &[u8]) -> u64
     ensures { result ≡ number_of digits.now }
 {
-    let mut value = 0;
-    for digit in digits {
-        match with_digit(value, *digit) {
-            Some(next) => value = next,
-            None => return 0,
-        }
-    }
-    value
+    small_number(digits).unwrap_or(0)
 }
 
 /// The number that a word writes, 0 where it doesn't fit 32 bits.

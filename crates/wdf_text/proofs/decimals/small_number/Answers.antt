@@ -1,8 +1,8 @@
 use Rattle.std.proofs.Common.{arith, ap, refl, ◌∙◌}
 use Rattle.std.proofs.lemmas.List.{drop_all}
-use Rattle.wdf_parse.specs.Tokens.{number_after}
-use Rattle.wdf_parse.proofs.Numbers.{small_number_fits, small_number_large}
-use Rattle.wdf_parse.proofs.lexer.small_number.Goals as goal
+use Rattle.wdf_text.specs.Decimals.{number_after}
+use Rattle.wdf_text.proofs.Numbers.{small_number_fits, small_number_large}
+use Rattle.wdf_text.proofs.decimals.small_number.Goals as goal
 
 -- the digits so far and the next one are too many already
 pub returns-in-None : goal.returns-in-None

@@ -1,0 +1,2 @@
+-- What the contracts of text code cite.
+pub mod Decimals
