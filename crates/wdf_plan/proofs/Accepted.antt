@@ -1,19 +1,19 @@
 -- What is known of a line that nothing refuses.
-use Rattle.std.proofs.Common.{◌≡◌, ℕ, Bool, true, false, cond, List, [], ◌∷◌, Option, Some, None, refl}
+use Rattle.std.proofs.Common.{◌≡◌, ℕ, Bool, true, false, Option, Some, None, refl}
+use Rattle.std.proofs.lemmas.Bool.{or_parts}
 use Rattle.std.specs.Option.{option_or}
+use Rattle.std.specs.List.{list_any}
 use Rattle.wdf_scene.specs.declared.scene.Scene.{Scene}
 use Rattle.wdf_plan.specs.declared.limit.Limit.{Limit}
-use Rattle.wdf_plan.specs.declared.limit.Limit.TheVariants as limit
 use Rattle.wdf_plan.specs.declared.limit.TheConstants.{LIMITS}
 use Rattle.wdf_plan.specs.declared.placed.Placed.{Placed}
-use Rattle.wdf_plan.specs.declared.declaration.Declaration.{Declaration}
 use Rattle.wdf_plan.specs.declared.refusal.PlanRefusal.{PlanRefusal}
 use Rattle.wdf_plan.specs.declared.refusal.PlanRefusal.TheVariants as refusal
 use Rattle.wdf_plan.specs.Declarations.{declarations}
 use Rattle.wdf_plan.specs.First.{refused, refused_at, first_refusal, if_holds, if_twice, if_over}
 use Rattle.wdf_plan.specs.Limits.{exceeds, exceeded}
 use Rattle.wdf_plan.specs.Placed.{placed}
-use Rattle.wdf_plan.specs.Rows.{unknown_name, twice_named, wrong_callback, incompatible_level, no_parent}
+use Rattle.wdf_plan.specs.Rows.{unknown_name, unknown_word, unknown_node, nodes_of, twice_named, wrong_callback, incompatible_level, no_parent}
 use Rattle.wdf_plan.specs.Variables.{variables_at}
 use Rattle.wdf_plan.proofs.Every.{Every, none_each, find_none, every_map}
 
@@ -42,6 +42,7 @@ over_step : (n : ℕ) (l : Option Limit) (o : Option PlanRefusal) → option_or 
 over_step n None o e = (refl, e)
 over_step n (Some k) o e = absurd (let z : ⊥ = cc in z)
 
+-- a line that nothing refuses
 pub accepted : (scene : Scene) (p : Placed) → refused_at scene p ≡ None → IsAccepted scene p
 unfolding refused_at refused exceeded
 accepted scene p e =
@@ -58,6 +59,12 @@ accepted scene p e =
       like = f.0;
       fathered = last_step (no_parent (declarations scene) p.form) (refusal.NoParent p.number) f.1;
     }
+
+-- its names are known
+pub word_known : (scene : Scene) (p : Placed) → IsAccepted scene p → unknown_word (declarations scene) p.stand.device p.form ≡ false
+unfolding unknown_name
+word_known scene p a =
+    (or_parts (unknown_word (declarations scene) p.stand.device p.form) (list_any (unknown_node (declarations scene) (variables_at scene p)) (nodes_of scene p)) a.known).0
 
 -- in a scene without a refusal each line is accepted
 pub each_accepted : (scene : Scene) → first_refusal scene ≡ None → Every (IsAccepted scene) (placed scene)

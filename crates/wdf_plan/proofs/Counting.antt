@@ -1,5 +1,5 @@
 -- A list of a plan has at most as many items as the bound of its sort of lines.
-use Rattle.std.proofs.Common.{◌≡◌, ℕ, suc, ◌+◌, ◌<◌, ◌≤◌, Bool, true, false, cond, List, [], ◌∷◌, ◌++◌, length, Option, Some, None, refl, ap, sym, ◌∙◌, arith}
+use Rattle.std.proofs.Common.{◌≡◌, ℕ, suc, ◌+◌, ◌<◌, ◌≤◌, Bool, true, false, List, [], ◌∷◌, ◌++◌, length, Option, Some, None, refl, arith}
 use Rattle.std.proofs.lemmas.Bool.{leb-false, ltb-false}
 use Rattle.std.proofs.lemmas.List.{length-append}
 use Rattle.std.specs.Option.{is_some}
@@ -47,3 +47,7 @@ unfolding placed_from counted
 picks_bounded k o c [] fits within = omega arith
 picks_bounded k o c (l ∷ ls) fits within =
     pick_step c.picks (c.picks + length l.picks) 200000 l.picks (flat_map line_picks ls) (ltb-false 200000 (c.picks + length l.picks) within.0) refl (λ fits'. picks_bounded (suc k) (opened_by o k l.form) (counted c l.form (length l.picks)) ls fits' within.1)
+
+-- where nothing was counted before, the items alone keep it
+pub from_zero : (n m bound : ℕ) → n ≡ 0 → n + m ≤ bound → m ≤ bound
+from_zero n m bound e h = omega arith

@@ -1,11 +1,11 @@
 -- No two declarations have one name, and none has a word of the language.
-use Rattle.std.proofs.Common.{◌≡◌, ℕ, suc, ◌<◌, ◌≤◌, Bool, true, false, not, cond, ◌&&◌, ◌||◌, List, [], ◌∷◌, map, find, Option, Some, None, refl, ap, sym, ◌∙◌, arith}
+use Rattle.std.proofs.Common.{◌≡◌, ℕ, suc, ◌<◌, ◌≤◌, Bool, true, false, cond, List, [], ◌∷◌, map, find, Option, Some, None, refl, ap, sym, ◌∙◌, arith}
 use Rattle.std.proofs.lemmas.Slice.Eq.{bytes_eq-Decides}
 use Rattle.std.proofs.lemmas.Bool.{lt-ltb, and_parts, false_from_ne_true}
-use Rattle.std.specs.Prelude.{nat_lt, nat_le, codes, length}
-use Rattle.std.specs.List.{filter_map, cons_option, list_all, list_any}
+use Rattle.std.specs.Prelude.{nat_lt, length}
+use Rattle.std.specs.List.{list_all, list_any}
 use Rattle.std.specs.Str.{bytes_eq}
-use Rattle.wdf_base.specs.Resolved.{all_differ, is_name, is_reserved}
+use Rattle.wdf_base.specs.Resolved.{all_differ, is_reserved}
 use Rattle.wdf_scene.specs.declared.line.NumberedLine.{NumberedLine}
 use Rattle.wdf_scene.specs.declared.line.SceneLine.{SceneLine}
 use Rattle.wdf_scene.specs.declared.line.SceneLine.TheVariants as line
@@ -16,11 +16,12 @@ use Rattle.wdf_plan.specs.declared.placed.Counts.{Counts}
 use Rattle.wdf_plan.specs.declared.placed.Placed.{Placed}
 use Rattle.wdf_plan.specs.declared.placed.Stand.{Stand}
 use Rattle.wdf_plan.specs.Declarations.{declarations, declared_by, declared_on, has_name}
-use Rattle.wdf_plan.specs.Placed.{outside, nothing, placed_line, opened_by, counted, placed_from, placed}
+use Rattle.wdf_plan.specs.Placed.{outside, nothing, opened_by, counted, placed_from, placed}
 use Rattle.wdf_plan.specs.Plans.{name_in}
 use Rattle.wdf_plan.specs.Rows.{earlier_line, reserved_line, first_line, twice_declared, twice_named}
 use Rattle.wdf_plan.proofs.Accepted.{IsAccepted}
 use Rattle.wdf_plan.proofs.Every.{Every, every_map, every_kept}
+use Rattle.wdf_plan.proofs.Rising.{AreRising, rising_every, rising_from}
 
 -- ---- what a line declares
 
@@ -29,6 +30,7 @@ declares_step a d e =
     let i : a ≡ d = cc in
     (ap (λ (x : Declaration). Some x.name) i, ap (λ (x : Declaration). x.at) (sym i))
 
+-- a declaration has the name that its line declares, and the place of the line
 pub declares : (p : Placed) (form : SceneLine) (d : Declaration) → declared_by p form ≡ Some d → (declared_name form ≡ Some d.name) × (d.at ≡ p.at)
 unfolding declared_by declared_name
 declares p (line.Class n k) d e = declares_step _ d e
@@ -42,7 +44,7 @@ declares p (line.App n) d e = declares_step _ d e
 declares p _ d e = absurd (let z : ⊥ = cc in z)
 
 -- no earlier declaration of these has its name, and it is no word of the language
-abbrev pub IsFresh : List Declaration → Declaration → Type 0
+abbrev IsFresh : List Declaration → Declaration → Type 0
 IsFresh ds d = earlier_line d.at d.name (find (has_name d.name) ds) ≡ None
 
 fresh_line : (scene : Scene) (p : Placed) (d : Declaration) → IsAccepted scene p → declared_on p ≡ Some d → IsFresh (declarations scene) d
@@ -52,42 +54,17 @@ fresh_line scene p d a e =
     let t : twice_declared scene (declarations scene) p (Some d.name) ≡ None = rw h.0 at a.once in
     rw h.1 t
 
-pub all_fresh : (scene : Scene) → Every (IsAccepted scene) (placed scene) → Every (IsFresh (declarations scene)) (declarations scene)
+all_fresh : (scene : Scene) → Every (IsAccepted scene) (placed scene) → Every (IsFresh (declarations scene)) (declarations scene)
 unfolding declarations
 all_fresh scene each =
     every_kept declared_on (IsAccepted scene) (IsFresh (declarations scene)) (fresh_line scene) (placed scene) each
 
 -- ---- the declarations stand in the order of their lines
 
-abbrev pub IsRising : ℕ → List Declaration → Type 0
-IsRising k [] = Unit {0}
-IsRising k (d ∷ ds) = (k ≤ d.at) × IsRising (suc d.at) ds
-
-weaken : (j k : ℕ) (ds : List Declaration) → j ≤ k → IsRising k ds → IsRising j ds
-weaken j k [] h r = tt
-weaken j k (d ∷ ds) h r = let first : k ≤ d.at = r.0 in (omega arith, r.1)
-
-rising_every : (k : ℕ) (ds : List Declaration) → IsRising k ds → Every (λ d. k ≤ d.at) ds
-rising_every k [] r = tt
-rising_every k (d ∷ ds) r =
-    let first : k ≤ d.at = r.0 in
-    (first, rising_every k ds (weaken k (suc d.at) ds (omega arith) r.1))
-
-rising_step : (k : ℕ) (o : Option Declaration) (ds : List Declaration) → ((d : Declaration) → o ≡ Some d → d.at ≡ k) → IsRising (suc k) ds → IsRising k (cons_option o ds)
-rising_step k None ds at' r = weaken k (suc k) ds (omega arith) r
-rising_step k (Some d) ds at' r =
-    let here : d.at ≡ k = at' d refl in
-    (omega arith, weaken (suc d.at) (suc k) ds (omega arith) r)
-
-rising_from : (k : ℕ) (o : Stand) (c : Counts) (ls : List NumberedLine) → IsRising k (filter_map declared_on (placed_from k o c ls))
-unfolding placed_from
-rising_from k o c [] = tt
-rising_from k o c (l ∷ ls) =
-    rising_step k (declared_on (placed_line k o c l)) (filter_map declared_on (placed_from (suc k) (opened_by o k l.form) (counted c l.form (length l.picks)) ls)) (λ d e. (declares (placed_line k o c l) l.form d e).1) (rising_from (suc k) (opened_by o k l.form) (counted c l.form (length l.picks)) ls)
-
-rising_all : (scene : Scene) → IsRising 0 (declarations scene)
+rising_all : (scene : Scene) → AreRising (λ (d : Declaration). d.at) 0 (declarations scene)
 unfolding declarations placed
-rising_all scene = rising_from 0 outside nothing scene.lines
+rising_all scene =
+    rising_from (λ (d : Declaration). d.at) declared_on (λ p d e. (declares p p.form d e).1) 0 outside nothing scene.lines
 
 -- ---- no two have one name
 
@@ -109,12 +86,13 @@ others x inner [] below fresh = tt
 others x inner (d ∷ ds) below fresh =
     (one x d (find (has_name d.name) inner) below.0 (has_name d.name x) refl fresh.0, others x inner ds below.1 fresh.1)
 
-distinct : (k : ℕ) (ds : List Declaration) → IsRising k ds → Every (IsFresh ds) ds → AreDistinct ds
+distinct : (k : ℕ) (ds : List Declaration) → AreRising (λ (d : Declaration). d.at) k ds → Every (IsFresh ds) ds → AreDistinct ds
 distinct k [] r f = tt
 distinct k (x ∷ xs) r f =
-    let o = others x xs xs (rising_every (suc x.at) xs r.1) f.1 in
+    let o = others x xs xs (rising_every (λ (d : Declaration). d.at) (suc x.at) xs r.1) f.1 in
     (every_map (λ d. (bytes_eq x.name d.name ≡ false) × IsFresh xs d) (λ d. bytes_eq x.name d.name ≡ false) (λ d h. h.0) xs o, distinct (suc x.at) xs r.1 (every_map (λ d. (bytes_eq x.name d.name ≡ false) × IsFresh xs d) (IsFresh xs) (λ d h. h.1) xs o))
 
+-- no two declarations have one name
 pub all_distinct : (scene : Scene) → Every (IsAccepted scene) (placed scene) → AreDistinct (declarations scene)
 all_distinct scene each =
     distinct 0 (declarations scene) (rising_all scene) (all_fresh scene each)
@@ -137,6 +115,7 @@ not_reserved : (n : List ℕ) → reserved_line n ≡ None → is_reserved n ≡
 unfolding reserved_line
 not_reserved n e = not_cond (is_reserved n) e
 
+-- none has a word of the language
 pub all_free : (scene : Scene) → Every (IsAccepted scene) (placed scene) → Every (λ d. is_reserved d.name ≡ false) (declarations scene)
 all_free scene each =
     every_map (IsFresh (declarations scene)) (λ d. is_reserved d.name ≡ false) (λ d h. not_reserved d.name (free_step d.at d.name (find (has_name d.name) (declarations scene)) h)) (declarations scene) (all_fresh scene each)
@@ -153,6 +132,7 @@ proper_from k o c (l ∷ ls) h =
     let both = and_parts (names_properly l) (list_all names_properly ls) h in
     (both.0, proper_from (suc k) (opened_by o k l.form) (counted c l.form (length l.picks)) ls both.1)
 
+-- each has a name of the language
 pub all_proper : (scene : Scene) → HasProperNames scene → Every (λ d. is_proper_name d.name ≡ true) (declarations scene)
 unfolding declarations placed
 all_proper scene h =
@@ -160,14 +140,17 @@ all_proper scene h =
 
 -- ---- the list of names
 
+-- no name of the list is this one
 pub none_any : (n : List ℕ) (ds : List Declaration) → Every (λ d. bytes_eq n d.name ≡ false) ds → list_any (bytes_eq n) (map name_in ds) ≡ false
 none_any n [] h = refl
 none_any n (d ∷ ds) h = rw (h.0, none_any n ds h.1) refl
 
+-- the names differ
 pub differ : (ds : List Declaration) → AreDistinct ds → all_differ bytes_eq (map name_in ds) ≡ true
 differ [] h = refl
 differ (x ∷ xs) h = rw (none_any x.name xs h.0, differ xs h.1) refl
 
+-- a test that all names pass
 pub all_names : (f : List ℕ → Bool) (ds : List Declaration) → Every (λ d. f d.name ≡ true) ds → list_all f (map name_in ds) ≡ true
 all_names f [] h = refl
 all_names f (d ∷ ds) h = rw (h.0, all_names f ds h.1) refl

@@ -1,5 +1,5 @@
 -- The search for the first line that is refused.
-use Rattle.std.proofs.Common.{◌≡◌, ℕ, List, [], ◌∷◌, Option, Some, None, refl, ap, sym, ◌∙◌}
+use Rattle.std.proofs.Common.{◌≡◌, ℕ, List, [], ◌∷◌, Option, Some, None, refl}
 use Rattle.wdf_scene.specs.declared.scene.Scene.{Scene}
 use Rattle.wdf_plan.specs.declared.declaration.Declaration.{Declaration}
 use Rattle.wdf_plan.specs.declared.placed.Placed.{Placed}
@@ -8,13 +8,14 @@ use Rattle.wdf_plan.specs.Declarations.{declarations, declared_on}
 use Rattle.wdf_plan.specs.First.{refused, refused_at, first_refusal}
 use Rattle.wdf_plan.specs.Placed.{placed}
 use Rattle.wdf_plan.specs.Variables.{variables_at, variables_in}
-use Rattle.wdf_plan.proofs.Gather.{IsGathered, IsSought, seek_more, seek_found, seek_end}
+use Rattle.wdf_plan.proofs.Gather.{IsGathered, IsSought, seek_more, seek_found}
 
 -- no line before these was refused, and the variables are this callback's
 pub record IsUnderway (scene : Scene) (rest : List Placed) (callback : Option ℕ) (variables : List (List ℕ)) : Type 0 where
   pub sought : IsSought (refused_at scene) rest (first_refusal scene)
   pub own : variables ≡ variables_in scene callback
 
+-- the search begins
 pub underway_begins : (scene : Scene) (rest : List Placed) (variables : List (List ℕ)) → rest ≡ placed scene → variables ≡ [] → IsUnderway scene rest None variables
 unfolding first_refusal variables_in
 underway_begins scene rest variables all none' =
@@ -24,6 +25,7 @@ here : (scene : Scene) (names : List Declaration) (variables : List (List ℕ)) 
 unfolding refused_at variables_at
 here scene names variables p o declares own is = rw (is, declares, own) refl
 
+-- it goes on behind a line that isn't refused
 pub underway_more : (scene : Scene) (names : List Declaration) (rest rest' : List Placed) (callback : Option ℕ) (variables variables' : List (List ℕ)) (p : Placed) (o : Option PlanRefusal) → IsUnderway scene rest callback variables → names ≡ declarations scene → rest ≡ p ∷ rest' → variables' ≡ variables_in scene p.stand.callback → o ≡ refused scene names variables' p → o ≡ None → IsUnderway scene rest' p.stand.callback variables'
 underway_more scene names rest rest' callback variables variables' p o u declares next own is none' =
     record {
@@ -31,13 +33,10 @@ underway_more scene names rest rest' callback variables variables' p o u declare
       own = own;
     }
 
+-- it ends at one that is
 pub underway_found : (scene : Scene) (names : List Declaration) (rest rest' : List Placed) (callback : Option ℕ) (variables variables' : List (List ℕ)) (p : Placed) (o : Option PlanRefusal) (r : PlanRefusal) → IsUnderway scene rest callback variables → names ≡ declarations scene → rest ≡ p ∷ rest' → variables' ≡ variables_in scene p.stand.callback → o ≡ refused scene names variables' p → o ≡ Some r → Some r ≡ first_refusal scene
 underway_found scene names rest rest' callback variables variables' p o r u declares next own is found =
     seek_found (refused_at scene) rest rest' (first_refusal scene) o p r u.sought next (here scene names variables' p o declares own is) found
-
-pub underway_ends : (scene : Scene) (rest : List Placed) (callback : Option ℕ) (variables : List (List ℕ)) → IsUnderway scene rest callback variables → rest ≡ [] → None ≡ first_refusal scene
-underway_ends scene rest callback variables u none' =
-    seek_end (refused_at scene) rest (first_refusal scene) u.sought none'
 
 pub declared_begins : (scene : Scene) (rest : List Placed) (names : List Declaration) → names ≡ [] → rest ≡ placed scene → IsGathered declared_on rest names (declarations scene)
 unfolding declarations

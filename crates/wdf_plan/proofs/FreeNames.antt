@@ -1,5 +1,5 @@
 -- The words that a line may not declare are those that no name of a plan may be.
-use Rattle.std.proofs.Common.{◌≡◌, ℕ, Bool, true, false, cond, ◌&&◌, ◌||◌, List, [], ◌∷◌, ◌++◌, map, take, drop, length, find, Option, Some, None, refl, ap, sym, ◌∙◌}
+use Rattle.std.proofs.Common.{◌≡◌, ℕ, Bool, true, false, cond, ◌&&◌, ◌||◌, List, [], ◌∷◌, ◌++◌, map, take, drop, length, find, Option, Some, refl, sym, ◌∙◌}
 use Rattle.std.proofs.lemmas.Slice.Eq.{bytes_eq-Decides}
 use Rattle.std.proofs.lemmas.List.Folds.{list_any-append}
 use Rattle.std.specs.Prelude.{nat_lt, codes}
@@ -22,7 +22,7 @@ agree false false f g = refl
 flip_true : (a b : List ℕ) → bytes_eq a b ≡ true → bytes_eq b a ≡ true
 flip_true a b e = (bytes_eq-Decides b a).1 (sym ((bytes_eq-Decides a b).0 e))
 
-pub flip : (a b : List ℕ) → bytes_eq a b ≡ bytes_eq b a
+flip : (a b : List ℕ) → bytes_eq a b ≡ bytes_eq b a
 flip a b = agree (bytes_eq a b) (bytes_eq b a) (flip_true a b) (flip_true b a)
 
 found_step : {X : Type 0} (b : Bool) (x : X) (o : Option X) → is_some (cond b (Some x) o) ≡ (b || is_some o)
@@ -35,6 +35,7 @@ some_any w n [] = refl
 some_any w n (x ∷ xs) =
     found_step (bytes_eq (w x) n) x (find (λ y. bytes_eq (w y) n) xs) ∙ rw (flip (w x) n, some_any w n xs) refl
 
+-- the words for who acts
 abbrev actor_words : List (List ℕ)
 actor_words =
     codes "req" ∷ codes "fw" ∷ codes "clock" ∷ codes "pnp" ∷ codes "driver" ∷ []
@@ -61,6 +62,7 @@ words_any : (n : List ℕ) → list_any (bytes_eq n) reserved_words ≡ (list_an
 words_any n =
     list_any-append (bytes_eq n) (map status_word STATUSES) (map context_word CONTEXT_WORDS ++ actor_words) ∙ rw (list_any-append (bytes_eq n) (map context_word CONTEXT_WORDS) actor_words) refl
 
+-- the two lists of words agree
 pub reserved_same : (n : List ℕ) → is_refused_word n ≡ is_reserved n
 unfolding is_refused_word
 reserved_same n =

@@ -1,11 +1,11 @@
 -- The first three lines of a scene give its processors, its events and its objects.
-use Rattle.std.proofs.Common.{◌≡◌, ℕ, Bool, true, false, cond, List, [], ◌∷◌, map, Option, Some, None, IsSomeAnd, IsTrue, refl, ap, sym, ◌∙◌}
+use Rattle.std.proofs.Common.{◌≡◌, ℕ, true, false, List, [], ◌∷◌, map, Some, None, IsSomeAnd, IsTrue, refl, ap, cond, Bool}
 use Rattle.wdf_scene.specs.declared.line.SceneLine.{SceneLine}
 use Rattle.wdf_scene.specs.declared.line.SceneLine.TheVariants as line
 use Rattle.wdf_scene.specs.declared.line.NumberedLine.{NumberedLine}
 use Rattle.wdf_scene.specs.declared.scene.Scene.{Scene}
 use Rattle.wdf_scene.specs.Blocks.{Position, front, moved, is_outside, after_lines, may_stand}
-use Rattle.wdf_scene.specs.Written.{IsScene, scene_of, lines_at}
+use Rattle.wdf_scene.specs.Written.{IsScene, lines_at}
 use Rattle.wdf_plan.specs.Blocks.{form_at}
 use Rattle.wdf_plan.specs.Plans.{header_in, header_of}
 
@@ -22,14 +22,19 @@ lost [] = refl
 lost (f ∷ fs) = lost fs
 
 -- behind a line that may not stand there no text ends
-pub gone : (forms : List SceneLine) → IsSomeAnd (after_lines None forms) (λ q. IsTrue (is_outside q)) → ⊥
+gone : (forms : List SceneLine) → IsSomeAnd (after_lines None forms) (λ q. IsTrue (is_outside q)) → ⊥
 gone forms h = rw (lost forms) at h
 
+-- where a text goes on behind a line, the line may stand there
+pub stood : (q : Position) (form : SceneLine) (forms : List SceneLine) (b : Bool) → may_stand q form ≡ b → IsSomeAnd (after_lines (cond b (Some (moved q form)) None) forms) (λ x. IsTrue (is_outside x)) → (may_stand q form ≡ true) × Ends (moved q form) forms
+stood q form forms true e h = (e, h)
+stood q form forms false e h = absurd (gone forms h)
+
 -- the first line
-pub record IsCpus (v : ℕ) (form : SceneLine) (forms : List SceneLine) : Type 0 where
-  pub n : ℕ
-  pub is : form ≡ line.Cpus n
-  pub then : Ends (moved (front v) (line.Cpus n)) forms
+record IsCpus (v : ℕ) (form : SceneLine) (forms : List SceneLine) : Type 0 where
+  n : ℕ
+  is : form ≡ line.Cpus n
+  then : Ends (moved (front v) (line.Cpus n)) forms
 
 cpus_first : (v : ℕ) (form : SceneLine) (forms : List SceneLine) → Ends (front v) (form ∷ forms) → IsCpus v form forms
 cpus_first v (line.Cpus n) forms h = record { n = n; is = refl; then = h }
@@ -39,10 +44,11 @@ cpus_first v (line.Level None) forms h = absurd (gone forms h)
 cpus_first v (line.Level (Some x)) forms h = absurd (gone forms h)
 cpus_first v _ forms h = absurd (gone forms h)
 
-pub record IsLimit (v c : ℕ) (form : SceneLine) (forms : List SceneLine) : Type 0 where
-  pub n : ℕ
-  pub is : form ≡ line.Limit n
-  pub then : Ends (moved (moved (front v) (line.Cpus c)) (line.Limit n)) forms
+-- the second
+record IsLimit (v c : ℕ) (form : SceneLine) (forms : List SceneLine) : Type 0 where
+  n : ℕ
+  is : form ≡ line.Limit n
+  then : Ends (moved (moved (front v) (line.Cpus c)) (line.Limit n)) forms
 
 limit_second : (v c : ℕ) (form : SceneLine) (forms : List SceneLine) → Ends (moved (front v) (line.Cpus c)) (form ∷ forms) → IsLimit v c form forms
 limit_second v c (line.Limit n) forms h = record { n = n; is = refl; then = h }
@@ -52,10 +58,11 @@ limit_second v c (line.Level None) forms h = absurd (gone forms h)
 limit_second v c (line.Level (Some x)) forms h = absurd (gone forms h)
 limit_second v c _ forms h = absurd (gone forms h)
 
-pub record IsObjects (v c m : ℕ) (form : SceneLine) (forms : List SceneLine) : Type 0 where
-  pub n : ℕ
-  pub is : form ≡ line.Objects n
-  pub then : Ends (moved (moved (moved (front v) (line.Cpus c)) (line.Limit m)) (line.Objects n)) forms
+-- the third
+record IsObjects (v c m : ℕ) (form : SceneLine) (forms : List SceneLine) : Type 0 where
+  n : ℕ
+  is : form ≡ line.Objects n
+  then : Ends (moved (moved (moved (front v) (line.Cpus c)) (line.Limit m)) (line.Objects n)) forms
 
 objects_third : (v c m : ℕ) (form : SceneLine) (forms : List SceneLine) → Ends (moved (moved (front v) (line.Cpus c)) (line.Limit m)) (form ∷ forms) → IsObjects v c m form forms
 objects_third v c m (line.Objects n) forms h = record { n = n; is = refl; then = h }
@@ -80,7 +87,7 @@ pub record HasHead (v : ℕ) (lines : List NumberedLine) : Type 0 where
   pub is_objects : third.form ≡ line.Objects objects
   pub then : Ends (moved (moved (moved (front v) (line.Cpus cpus)) (line.Limit limit)) (line.Objects objects)) (map form_of rest)
 
-pub head_of : (v : ℕ) (lines : List NumberedLine) → Ends (front v) (map form_of lines) → HasHead v lines
+head_of : (v : ℕ) (lines : List NumberedLine) → Ends (front v) (map form_of lines) → HasHead v lines
 head_of v [] h = absurd (let e : false ≡ true = h in let z : ⊥ = cc in z)
 head_of v (a ∷ []) h =
     let i = cpus_first v a.form [] h in
@@ -108,12 +115,14 @@ head_of v (a ∷ b ∷ c ∷ ls) h =
       then = k.then;
     }
 
+-- a scene has these three lines
 pub scene_head : (scene : Scene) → IsScene scene → HasHead scene.version scene.lines
 scene_head scene s =
     let lines : scene.lines ≡ lines_at 0 s.ws = ap (λ (x : Scene). x.lines) s.is in
     let whole : Ends (front scene.version) (map form_of (lines_at 0 s.ws)) = s.lines.whole in
     head_of scene.version scene.lines (rw lines whole)
 
+-- the plan's numbers are theirs
 pub first_header : (scene : Scene) (h : HasHead scene.version scene.lines) → header_of (form_at scene 0) ≡ h.cpus
 unfolding form_at header_in
 first_header scene h = rw (h.are, h.is_cpus) refl

@@ -1,12 +1,10 @@
 -- Declarations that are found from the place of the first one of their name.
-use Rattle.std.proofs.Common.{◌≡◌, ℕ, zero, suc, ◌+◌, Bool, true, false, cond, ◌&&◌, List, [], ◌∷◌, ◌++◌, length, drop, slice_get, find, Option, Some, None, refl, ap, sym, ◌∙◌, arith, add-one}
+use Rattle.std.proofs.Common.{◌≡◌, ℕ, suc, ◌+◌, Bool, true, false, cond, List, [], ◌∷◌, ◌++◌, length, drop, slice_get, find, Option, Some, None, refl, sym, arith}
 use Rattle.std.specs.Str.{bytes_eq}
-use Rattle.std.specs.Option.{is_some}
-use Rattle.std.proofs.lemmas.Slice.Eq.{bytes_eq-Decides}
 use Rattle.indexmap.specs.IndexMap.{IndexMap, get}
 use Rattle.wdf_plan.specs.declared.declaration.Declaration.{Declaration}
 use Rattle.wdf_plan.specs.declared.declaration.Wanted.{Wanted}
-use Rattle.wdf_plan.specs.Declarations.{has_name, is_wanted, suits, found}
+use Rattle.wdf_plan.specs.Declarations.{has_name, is_wanted, found}
 use Rattle.wdf_plan.specs.Names.{place_from, or_last, IsIndexed}
 
 -- where the first item that passes p is, as seen by a test r that nothing passes but what passes p
@@ -32,7 +30,7 @@ spot_step p r x xs k j only later true px e =
 spot_step p r x xs k j only later false px e =
     spot_later p r x xs k j px (only px) (later e)
 
-pub spot : {T : Type 0} (p r : T → Bool) (only : (x : T) → p x ≡ false → r x ≡ false) (xs : List T) (k j : ℕ) → place_from p k xs ≡ Some j → IsSpot p r xs k j
+spot : {T : Type 0} (p r : T → Bool) (only : (x : T) → p x ≡ false → r x ≡ false) (xs : List T) (k j : ℕ) → place_from p k xs ≡ Some j → IsSpot p r xs k j
 spot p r only [] k j e = absurd (let z : ⊥ = cc in z)
 spot p r only (x ∷ xs) k j e =
     spot_step p r x xs k j (only x) (spot p r only xs (suc k) j) (p x) refl e
@@ -41,7 +39,7 @@ none_step : {T : Type 0} (p r : T → Bool) (x : T) (xs : List T) (k : ℕ) → 
 none_step p r x xs k only later true px e = absurd (let z : ⊥ = cc in z)
 none_step p r x xs k only later false px e = rw (only px) (later e)
 
-pub spot_none : {T : Type 0} (p r : T → Bool) (only : (x : T) → p x ≡ false → r x ≡ false) (xs : List T) (k : ℕ) → place_from p k xs ≡ None → find r xs ≡ None
+spot_none : {T : Type 0} (p r : T → Bool) (only : (x : T) → p x ≡ false → r x ≡ false) (xs : List T) (k : ℕ) → place_from p k xs ≡ None → find r xs ≡ None
 spot_none p r only [] k e = refl
 spot_none p r only (x ∷ xs) k e =
     none_step p r x xs k (only x) (spot_none p r only xs (suc k)) (p x) refl e
@@ -52,10 +50,12 @@ only_named n w d e = rw e refl
 same_test : {T : Type 0} (p : T → Bool) (x : T) → p x ≡ false → p x ≡ false
 same_test p x e = e
 
+-- a name that no declaration has stands for nothing
 pub found_none : (n : List ℕ) (w : Wanted) (names : List Declaration) → place_from (has_name n) 0 names ≡ None → None ≡ found names n w
 unfolding found
 found_none n w names e = sym (spot_none (has_name n) (is_wanted n w) (only_named n w) names 0 e)
 
+-- else what it stands for is found from the first place on
 pub found_some : (n : List ℕ) (w : Wanted) (names : List Declaration) (j : ℕ) (r : Option Declaration) → place_from (has_name n) 0 names ≡ Some j → r ≡ find (is_wanted n w) (drop j names) → r ≡ found names n w
 unfolding found
 found_some n w names j r e is =
@@ -63,6 +63,7 @@ found_some n w names j r e is =
     let same : j ≡ s.skipped = omega (arith, s.is) in
     rw (is, same) (sym s.rest)
 
+-- the first declaration of a name
 pub first_none : (n : List ℕ) (names : List Declaration) → place_from (has_name n) 0 names ≡ None → None ≡ find (has_name n) names
 first_none n names e = sym (spot_none (has_name n) (has_name n) (same_test (has_name n)) names 0 e)
 
@@ -79,7 +80,7 @@ more_step p ys x k later false =
     rw (← e) later
 
 -- one item more
-pub place_more : {T : Type 0} (p : T → Bool) (xs : List T) (x : T) (k : ℕ) → place_from p k (xs ++ x ∷ []) ≡ or_last (place_from p k xs) (p x) (k + length xs)
+place_more : {T : Type 0} (p : T → Bool) (xs : List T) (x : T) (k : ℕ) → place_from p k (xs ++ x ∷ []) ≡ or_last (place_from p k xs) (p x) (k + length xs)
 place_more p [] x k = let z : k + 0 ≡ k = omega arith in rw z refl
 place_more p (y ∷ ys) x k = more_step p ys x k (place_more p ys x (suc k)) (p y)
 
@@ -93,44 +94,3 @@ indexed_more m m' names names' d at i noted is grown =
           let z : 0 + length names ≡ length names = omega arith in
           rw (grown, e, f, is, place_more (has_name q) names d 0, z) refl;
     }
-
-pub indexed_same : {S : Type 0} (m m' : IndexMap (List ℕ) ℕ S) (names names' : List Declaration) → IsIndexed m names → m'.entries ≡ m.entries → names' ≡ names → IsIndexed m' names'
-indexed_same m m' names names' i same kept =
-    record {
-      first = λ q. let f : get bytes_eq m q ≡ place_from (has_name q) 0 names = i.first q in rw (kept, same, f) refl;
-    }
-
-true_name : (xs ys : List ℕ) → bytes_eq xs ys ≡ true → xs ≡ ys
-true_name xs ys e = (bytes_eq-Decides xs ys).0 e
-
-none_of : (e : Option ℕ) → is_some e ≡ false → e ≡ None
-none_of None h = refl
-none_of (Some k) h = absurd (let z : ⊥ = cc in z)
-
--- a name without a place gets it
-new_step : (e : Option ℕ) (b : Bool) (at : ℕ) → (b ≡ true → e ≡ None) → cond b (Some at) e ≡ or_last e b at
-new_step None true at new = refl
-new_step None false at new = refl
-new_step (Some k) true at new = absurd (let n : Some k ≡ None = new refl in let z : ⊥ = cc in z)
-new_step (Some k) false at new = refl
-
--- a name that has a place keeps it
-kept_step : (e : Option ℕ) (b : Bool) (at : ℕ) → (b ≡ true → e ≡ None → ⊥) → e ≡ or_last e b at
-kept_step None true at no' = absurd (no' refl refl)
-kept_step None false at no' = refl
-kept_step (Some k) b at no' = refl
-
-pub noted_same : {S : Type 0} (m : IndexMap (List ℕ) ℕ S) (name : List ℕ) (at : ℕ) → is_some (get bytes_eq m name) ≡ true → (q : List ℕ) → get bytes_eq m q ≡ or_last (get bytes_eq m q) (bytes_eq name q) at
-noted_same m name at there q =
-    kept_step (get bytes_eq m q) (bytes_eq name q) at (λ same e.
-    let is : name ≡ q = true_name name q same in
-    let gone : get bytes_eq m name ≡ None = rw is e in
-    let w : is_some (get bytes_eq m name) ≡ false = ap is_some gone in
-    let z : ⊥ = cc in z)
-
-pub noted_new : {S : Type 0} (m m' : IndexMap (List ℕ) ℕ S) (name : List ℕ) (at : ℕ) → is_some (get bytes_eq m name) ≡ false → ((q : List ℕ) → get bytes_eq m' q ≡ cond (bytes_eq name q) (Some at) (get bytes_eq m q)) → (q : List ℕ) → get bytes_eq m' q ≡ or_last (get bytes_eq m q) (bytes_eq name q) at
-noted_new m m' name at free put q =
-    rw (put q) (new_step (get bytes_eq m q) (bytes_eq name q) at (λ same.
-    let is : name ≡ q = true_name name q same in
-    let e : is_some (get bytes_eq m q) ≡ false = rw (← is) free in
-    none_of (get bytes_eq m q) e))

@@ -1,15 +1,13 @@
 -- The names of the plan of a scene that nothing refuses.
-use Rattle.std.proofs.Common.{◌≡◌, ℕ, suc, ◌+◌, ◌<◌, ◌≤◌, Bool, true, false, not, cond, ◌&&◌, ◌||◌, List, [], ◌∷◌, ◌++◌, map, take, drop, length, Option, Some, None, refl, ap, sym, ◌∙◌, arith, append_assoc}
+use Rattle.std.proofs.Common.{◌≡◌, ℕ, suc, ◌+◌, ◌<◌, ◌≤◌, Bool, true, false, not, ◌&&◌, List, [], ◌∷◌, ◌++◌, map, drop, length, Option, Some, None, IsTrue, slice_get, refl, ap, sym, ◌∙◌, arith, append_assoc}
 use Rattle.std.proofs.lemmas.Bool.{le-leb, lt-ltb, and_parts}
-use Rattle.std.proofs.lemmas.List.{take_at, drop_at, map-append, length-map}
-use Rattle.std.proofs.lemmas.List.Folds.{list_all-append}
+use Rattle.std.proofs.lemmas.List.{drop_at, map-append, length-map}
 use Rattle.std.specs.Prelude.{option_and_then, option_map, nat_le, nat_lt, codes, ◌==◌}
 use Rattle.std.specs.List.{filter_map, list_all}
 use Rattle.std.specs.Str.{bytes_eq}
-use Rattle.wdf_base.specs.declared.declared.Declared.{Declared}
-use Rattle.wdf_base.specs.declared.script.AgentInfo.{AgentInfo}
 use Rattle.wdf_base.specs.Kinds.{declared_name as object_name, class_name}
-use Rattle.wdf_base.specs.Resolved.{all_differ, is_name, is_reserved, device_name, target_name, posting_names, app_count, apps, agent_name, register_name, used_names}
+use Rattle.wdf_base.specs.declared.plan.Plan.{Plan}
+use Rattle.wdf_base.specs.Resolved.{all_differ, is_name, is_reserved, device_name, target_name, posting_names, app_count, agent_name, register_name, used_names}
 use Rattle.wdf_scene.specs.declared.line.SceneLine.{SceneLine}
 use Rattle.wdf_scene.specs.declared.line.SceneLine.TheVariants as line
 use Rattle.wdf_scene.specs.declared.scene.Scene.{Scene}
@@ -18,24 +16,33 @@ use Rattle.wdf_plan.specs.declared.declaration.Declaration.{Declaration}
 use Rattle.wdf_plan.specs.declared.declaration.Thing.{Thing}
 use Rattle.wdf_plan.specs.declared.declaration.Thing.TheVariants as thing
 use Rattle.wdf_plan.specs.declared.placed.Placed.{Placed}
-use Rattle.wdf_plan.specs.Declarations.{declarations, declared_by, declared_on, is_object}
+use Rattle.wdf_plan.specs.Declarations.{declarations, declared_by, declared_on, is_object, declares_object, is_register}
 use Rattle.wdf_plan.specs.First.{first_refusal}
-use Rattle.wdf_plan.specs.Named.{IsNamed}
 use Rattle.wdf_plan.specs.Numbers.{name_number}
 use Rattle.wdf_plan.specs.Parts.{object_of, object_on, device_info, queue_info, interrupt_info, target_info, class_on, register_on, app_agent, device_agent, target_agent}
 use Rattle.wdf_plan.specs.Placed.{placed}
 use Rattle.wdf_plan.specs.Plans.{name_in, all_objects, all_agents, plan_with, plan_of}
-use Rattle.wdf_plan.proofs.Accepted.{IsAccepted, each_accepted}
-use Rattle.wdf_plan.proofs.Bounds.{app_length}
-use Rattle.wdf_plan.proofs.Distinct.{AreDistinct, all_distinct, all_free, all_proper, differ, none_any, all_names, word_free}
-use Rattle.wdf_plan.proofs.Every.{Every, every_map, composed, mapped}
-use Rattle.wdf_plan.proofs.Numbering.{AreNumbered, IsWithin, AreApart, number_if, numbers_of, numbers, within, numbers_differ, apart, every_append, differ_append}
+use Rattle.wdf_plan.proofs.Accepted.{each_accepted}
+use Rattle.wdf_plan.proofs.AgentLists.{app_length, apps_are}
+use Rattle.wdf_plan.proofs.Distinct.{all_distinct, all_free, all_proper, differ, none_any, all_names, word_free}
+use Rattle.wdf_plan.proofs.Every.{Every, every_map, composed, mapped, every_append}
+use Rattle.wdf_plan.proofs.Numbering.{AreNumbered, IsWithin, number_if, numbers_of, numbers, within, numbers_differ, apart, differ_append}
+
+-- the names are names of the language, each once, and everything that is declared has its own
+pub record IsNamed (plan : Plan) : Type 0 where
+  pub driver : slice_get plan.names 0 ≡ Some (codes "driver")
+  pub request : slice_get plan.names 1 ≡ Some (codes "req")
+  pub plain : IsTrue (list_all is_name plan.names)
+  pub short : IsTrue (list_all (λ n. nat_le (length n) 32) plan.names)
+  pub differ : IsTrue (all_differ bytes_eq plan.names)
+  pub free : IsTrue (list_all (λ n. not (is_reserved n)) (drop 2 plan.names))
+  pub used : IsTrue (all_differ ◌==◌ (used_names plan))
+  pub there : IsTrue (list_all (λ n. nat_le 2 n && nat_lt n (length plan.names)) (used_names plan))
+  pub agents_end : drop (app_count plan) (map agent_name plan.agents) ≡ posting_names plan
 
 -- ---- what the names of a list are declared as
 
-abbrev is_object_name : Declaration → Bool
-is_object_name d = is_object d.thing
-
+-- whether a class is declared
 abbrev is_class_thing : Thing → Bool
 is_class_thing (thing.Class k) = true
 is_class_thing _ = false
@@ -43,13 +50,10 @@ is_class_thing _ = false
 abbrev is_class_name : Declaration → Bool
 is_class_name d = is_class_thing d.thing
 
-abbrev is_register_thing : Thing → Bool
-is_register_thing thing.Register = true
-is_register_thing _ = false
-
 abbrev is_register_name : Declaration → Bool
-is_register_name d = is_register_thing d.thing
+is_register_name d = is_register d.thing
 
+-- whether an app is declared
 abbrev is_app_thing : Thing → Bool
 is_app_thing thing.App = true
 is_app_thing _ = false
@@ -59,46 +63,31 @@ is_app_name d = is_app_thing d.thing
 
 no_object_class : (t : Thing) → is_object t ≡ true → is_class_thing t ≡ true → ⊥
 no_object_class (thing.Class k) h g = let z : ⊥ = cc in z
-no_object_class thing.Device h g = let z : ⊥ = cc in z
-no_object_class thing.Queue h g = let z : ⊥ = cc in z
-no_object_class thing.Interrupt h g = let z : ⊥ = cc in z
-no_object_class thing.Target h g = let z : ⊥ = cc in z
-no_object_class thing.Register h g = let z : ⊥ = cc in z
-no_object_class thing.App h g = let z : ⊥ = cc in z
+no_object_class _ h g = let z : ⊥ = cc in z
 
-no_register : (t : Thing) → is_object t ≡ true → is_register_thing t ≡ true → ⊥
-no_register (thing.Class k) h g = let z : ⊥ = cc in z
-no_register thing.Device h g = let z : ⊥ = cc in z
-no_register thing.Queue h g = let z : ⊥ = cc in z
-no_register thing.Interrupt h g = let z : ⊥ = cc in z
-no_register thing.Target h g = let z : ⊥ = cc in z
+no_register : (t : Thing) → is_object t ≡ true → is_register t ≡ true → ⊥
 no_register thing.Register h g = let z : ⊥ = cc in z
-no_register thing.App h g = let z : ⊥ = cc in z
+no_register _ h g = let z : ⊥ = cc in z
 
-no_class_register : (t : Thing) → is_class_thing t ≡ true → is_register_thing t ≡ true → ⊥
+no_class_register : (t : Thing) → is_class_thing t ≡ true → is_register t ≡ true → ⊥
 no_class_register (thing.Class k) h g = let z : ⊥ = cc in z
 no_class_register _ h g = let z : ⊥ = cc in z
 
 no_object_app : (t : Thing) → is_object t ≡ true → is_app_thing t ≡ true → ⊥
-no_object_app (thing.Class k) h g = let z : ⊥ = cc in z
-no_object_app thing.Device h g = let z : ⊥ = cc in z
-no_object_app thing.Queue h g = let z : ⊥ = cc in z
-no_object_app thing.Interrupt h g = let z : ⊥ = cc in z
-no_object_app thing.Target h g = let z : ⊥ = cc in z
-no_object_app thing.Register h g = let z : ⊥ = cc in z
 no_object_app thing.App h g = let z : ⊥ = cc in z
+no_object_app _ h g = let z : ⊥ = cc in z
 
 no_class_app : (t : Thing) → is_class_thing t ≡ true → is_app_thing t ≡ true → ⊥
 no_class_app (thing.Class k) h g = let z : ⊥ = cc in z
 no_class_app _ h g = let z : ⊥ = cc in z
 
-no_register_app : (t : Thing) → is_register_thing t ≡ true → is_app_thing t ≡ true → ⊥
+no_register_app : (t : Thing) → is_register t ≡ true → is_app_thing t ≡ true → ⊥
 no_register_app thing.Register h g = let z : ⊥ = cc in z
 no_register_app _ h g = let z : ⊥ = cc in z
 
 -- ---- the numbers in each list
 
-object_number : (scene : Scene) (names : List Declaration) (p : Placed) (b : ℕ) (form : SceneLine) → option_and_then object_name (object_of scene names p b form) ≡ option_and_then (number_if (λ d. name_number names d.name) is_object_name) (declared_by p form)
+object_number : (scene : Scene) (names : List Declaration) (p : Placed) (b : ℕ) (form : SceneLine) → option_and_then object_name (object_of scene names p b form) ≡ option_and_then (number_if (λ d. name_number names d.name) declares_object) (declared_by p form)
 unfolding object_of declared_by device_info queue_info interrupt_info target_info
 object_number scene names p b (line.Device n working) = refl
 object_number scene names p b (line.Queue n dispatch) = refl
@@ -171,9 +160,9 @@ unfolding declarations
 by_lines scene names t =
     composed declared_on (number_if (λ d. name_number names d.name) t) (number_on names t) (λ p. refl) (placed scene)
 
-object_numbers : (scene : Scene) (names : List Declaration) → filter_map object_name (filter_map (object_on scene names) (placed scene)) ≡ numbers_of (λ d. name_number names d.name) is_object_name (declarations scene)
+object_numbers : (scene : Scene) (names : List Declaration) → filter_map object_name (filter_map (object_on scene names) (placed scene)) ≡ numbers_of (λ d. name_number names d.name) declares_object (declarations scene)
 object_numbers scene names =
-    composed (object_on scene names) object_name (number_on names is_object_name) (λ p. object_number scene names p p.at p.form) (placed scene) ∙ sym (by_lines scene names is_object_name)
+    composed (object_on scene names) object_name (number_on names declares_object) (λ p. object_number scene names p p.at p.form) (placed scene) ∙ sym (by_lines scene names declares_object)
 
 class_numbers : (scene : Scene) (names : List Declaration) → map class_name (filter_map (λ p. class_on scene names p p.form) (placed scene)) ≡ numbers_of (λ d. name_number names d.name) is_class_name (declarations scene)
 class_numbers scene names =
@@ -187,18 +176,7 @@ app_numbers : (scene : Scene) (names : List Declaration) → map agent_name (fil
 app_numbers scene names =
     mapped (λ p. app_agent scene names p p.form) agent_name (number_on names is_app_name) (λ p. app_number scene names p p.form) (placed scene) ∙ sym (by_lines scene names is_app_name)
 
--- ---- the apps are the first agents
-
-pub apps_are : (scene : Scene) → apps (plan_of scene) ≡ filter_map (λ p. app_agent scene (declarations scene) p p.form) (placed scene)
-unfolding plan_of plan_with all_agents
-apps_are scene =
-    let names = declarations scene in
-    let as' = filter_map (λ p. app_agent scene names p p.form) (placed scene) in
-    let ds = filter_map (λ p. device_agent scene names p p.form) (placed scene) in
-    let ts = filter_map (λ p. target_agent names p.form) (placed scene) in
-    let shape : (as' ++ ds) ++ ts ≡ as' ++ (ds ++ ts) = append_assoc as' ds ts in
-    let front : take (app_count (plan_of scene)) (as' ++ (ds ++ ts)) ≡ as' = take_at as' (ds ++ ts) (app_count (plan_of scene)) (sym (app_length scene)) in
-    ap (take (app_count (plan_of scene))) shape ∙ front
+-- ---- the names of the agents behind the apps
 
 rest_are : (scene : Scene) → drop (app_count (plan_of scene)) (map agent_name (plan_of scene).agents) ≡ posting_names (plan_of scene)
 unfolding plan_of plan_with all_agents all_objects
@@ -220,9 +198,10 @@ rest_are scene =
 
 -- ---- the numbers that are used
 
+-- the numbers of all that is declared
 abbrev used_from : (Declaration → ℕ) → List Declaration → List ℕ
 used_from num ds =
-    numbers_of num is_object_name ds ++ numbers_of num is_class_name ds ++ numbers_of num is_register_name ds ++ numbers_of num is_app_name ds
+    numbers_of num declares_object ds ++ numbers_of num is_class_name ds ++ numbers_of num is_register_name ds ++ numbers_of num is_app_name ds
 
 joined : (o c r a o' c' r' a' : List ℕ) → o ≡ o' → c ≡ c' → r ≡ r' → a ≡ a' → o ++ c ++ r ++ a ≡ o' ++ c' ++ r' ++ a'
 joined o c r a o' c' r' a' e f g h = rw (e, f, g, h) refl
@@ -232,15 +211,15 @@ unfolding plan_of plan_with all_objects
 used_are scene =
     joined _ _ _ _ _ _ _ _ (object_numbers scene (declarations scene)) (class_numbers scene (declarations scene)) (register_numbers scene (declarations scene)) (ap (map agent_name) (apps_are scene) ∙ app_numbers scene (declarations scene))
 
-pub used_differ : (num : Declaration → ℕ) (ds : List Declaration) → AreNumbered num 0 ds → all_differ ◌==◌ (used_from num ds) ≡ true
+used_differ : (num : Declaration → ℕ) (ds : List Declaration) → AreNumbered num 0 ds → all_differ ◌==◌ (used_from num ds) ≡ true
 used_differ num ds h =
-    let o = numbers_of num is_object_name ds in
+    let o = numbers_of num declares_object ds in
     let c = numbers_of num is_class_name ds in
     let r = numbers_of num is_register_name ds in
     let a = numbers_of num is_app_name ds in
-    let oc = differ_append o c (numbers_differ num is_object_name 0 ds h) (numbers_differ num is_class_name 0 ds h) (apart num is_object_name is_class_name (λ d. no_object_class d.thing) 0 ds h) in
-    let ocr = differ_append (o ++ c) r oc (numbers_differ num is_register_name 0 ds h) (every_append _ o c (apart num is_object_name is_register_name (λ d. no_register d.thing) 0 ds h) (apart num is_class_name is_register_name (λ d. no_class_register d.thing) 0 ds h)) in
-    differ_append (o ++ c ++ r) a ocr (numbers_differ num is_app_name 0 ds h) (every_append _ (o ++ c) r (every_append _ o c (apart num is_object_name is_app_name (λ d. no_object_app d.thing) 0 ds h) (apart num is_class_name is_app_name (λ d. no_class_app d.thing) 0 ds h)) (apart num is_register_name is_app_name (λ d. no_register_app d.thing) 0 ds h))
+    let oc = differ_append o c (numbers_differ num declares_object 0 ds h) (numbers_differ num is_class_name 0 ds h) (apart num declares_object is_class_name (λ d. no_object_class d.thing) 0 ds h) in
+    let ocr = differ_append (o ++ c) r oc (numbers_differ num is_register_name 0 ds h) (every_append _ o c (apart num declares_object is_register_name (λ d. no_register d.thing) 0 ds h) (apart num is_class_name is_register_name (λ d. no_class_register d.thing) 0 ds h)) in
+    differ_append (o ++ c ++ r) a ocr (numbers_differ num is_app_name 0 ds h) (every_append _ (o ++ c) r (every_append _ o c (apart num declares_object is_app_name (λ d. no_object_app d.thing) 0 ds h) (apart num is_class_name is_app_name (λ d. no_class_app d.thing) 0 ds h)) (apart num is_register_name is_app_name (λ d. no_register_app d.thing) 0 ds h))
 
 is_there : (len total : ℕ) (ns : List ℕ) → total ≡ suc (suc len) → Every (IsWithin 0 len) ns → list_all (λ n. nat_le 2 n && nat_lt n total) ns ≡ true
 is_there len total [] e h = refl
@@ -249,13 +228,13 @@ is_there len total (n ∷ ns) e h =
     let high : n < 0 + 2 + len = h.0.1 in
     rw (le-leb 2 n (omega arith), lt-ltb n total (omega arith), is_there len total ns e h.1) refl
 
-pub used_there : (num : Declaration → ℕ) (ds : List Declaration) (total : ℕ) → AreNumbered num 0 ds → total ≡ suc (suc (length ds)) → list_all (λ n. nat_le 2 n && nat_lt n total) (used_from num ds) ≡ true
+used_there : (num : Declaration → ℕ) (ds : List Declaration) (total : ℕ) → AreNumbered num 0 ds → total ≡ suc (suc (length ds)) → list_all (λ n. nat_le 2 n && nat_lt n total) (used_from num ds) ≡ true
 used_there num ds total h e =
-    let o = numbers_of num is_object_name ds in
+    let o = numbers_of num declares_object ds in
     let c = numbers_of num is_class_name ds in
     let r = numbers_of num is_register_name ds in
     let a = numbers_of num is_app_name ds in
-    is_there (length ds) total (o ++ c ++ r ++ a) e (every_append (IsWithin 0 (length ds)) (o ++ c ++ r) a (every_append (IsWithin 0 (length ds)) (o ++ c) r (every_append (IsWithin 0 (length ds)) o c (within num is_object_name 0 ds h) (within num is_class_name 0 ds h)) (within num is_register_name 0 ds h)) (within num is_app_name 0 ds h))
+    is_there (length ds) total (o ++ c ++ r ++ a) e (every_append (IsWithin 0 (length ds)) (o ++ c ++ r) a (every_append (IsWithin 0 (length ds)) (o ++ c) r (every_append (IsWithin 0 (length ds)) o c (within num declares_object 0 ds h) (within num is_class_name 0 ds h)) (within num is_register_name 0 ds h)) (within num is_app_name 0 ds h))
 
 -- ---- the whole
 
@@ -266,6 +245,7 @@ free_of w ds taken free =
 not_free : (b : Bool) → b ≡ false → not b ≡ true
 not_free b e = rw e refl
 
+-- the names of a plan
 pub plan_named : (scene : Scene) → HasProperNames scene → first_refusal scene ≡ None → IsNamed (plan_of scene)
 unfolding plan_of plan_with
 plan_named scene proper e =

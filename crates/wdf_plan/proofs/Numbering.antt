@@ -1,5 +1,5 @@
 -- Each declaration's name has its own number.
-use Rattle.std.proofs.Common.{◌≡◌, ℕ, suc, ◌+◌, ◌<◌, ◌≤◌, Bool, true, false, not, cond, ◌&&◌, ◌||◌, List, [], ◌∷◌, ◌++◌, length, Option, Some, None, refl, ap, sym, ◌∙◌, arith}
+use Rattle.std.proofs.Common.{◌≡◌, ℕ, suc, ◌+◌, ◌<◌, ◌≤◌, Bool, true, false, not, cond, ◌&&◌, List, [], ◌∷◌, ◌++◌, length, Option, Some, None, refl, ◌∙◌, arith}
 use Rattle.std.proofs.lemmas.Slice.Eq.{bytes_eq-Decides}
 use Rattle.std.proofs.lemmas.Bool.{ne_eqb}
 use Rattle.std.proofs.lemmas.List.Folds.{list_any-append}
@@ -12,29 +12,17 @@ use Rattle.wdf_plan.specs.Declarations.{has_name}
 use Rattle.wdf_plan.specs.Names.{place_from}
 use Rattle.wdf_plan.specs.Numbers.{name_number, numbered}
 use Rattle.wdf_plan.proofs.Distinct.{AreDistinct}
-use Rattle.wdf_plan.proofs.Every.{Every, every_map}
-
--- each item has the property with its place, the first of which is k
-abbrev pub EveryAt : {T : Type 0} → (ℕ → T → Type 0) → ℕ → List T → Type 0
-EveryAt P k [] = Unit {0}
-EveryAt P k (x ∷ xs) = P k x × EveryAt P (suc k) xs
-
-every_at_map : {T : Type 0} (P Q : ℕ → T → Type 0) → ((k : ℕ) (x : T) → P k x → Q k x) → (k : ℕ) (xs : List T) → EveryAt P k xs → EveryAt Q k xs
-every_at_map P Q f k [] h = tt
-every_at_map P Q f k (x ∷ xs) h = (f k x h.0, every_at_map P Q f (suc k) xs h.1)
+use Rattle.wdf_plan.proofs.Every.{Every, every_map, EveryAt, every_at_map}
 
 shift : (x : Declaration) (k : ℕ) (inner : List Declaration) (j : ℕ) (ds : List Declaration) → Every (λ d. bytes_eq x.name d.name ≡ false) ds → EveryAt (λ i d. place_from (has_name d.name) (suc k) inner ≡ Some i) j ds → EveryAt (λ i d. place_from (has_name d.name) k (x ∷ inner) ≡ Some i) j ds
 shift x k inner j [] h g = tt
 shift x k inner j (d ∷ ds) h g =
     (rw h.0 g.0, shift x k inner (suc j) ds h.1 g.1)
 
-same_bytes : (n : List ℕ) → bytes_eq n n ≡ true
-same_bytes n = (bytes_eq-Decides n n).1 refl
-
 places : (k : ℕ) (ds : List Declaration) → AreDistinct ds → EveryAt (λ i d. place_from (has_name d.name) k ds ≡ Some i) k ds
 places k [] h = tt
 places k (x ∷ xs) h =
-    (rw (same_bytes x.name) refl, shift x k xs (suc k) xs h.0 (places (suc k) xs h.1))
+    (rw ((bytes_eq-Decides x.name x.name).1 refl) refl, shift x k xs (suc k) xs h.0 (places (suc k) xs h.1))
 
 -- the number of each name is its place behind `driver` and `req`
 pub numbers : (ds : List Declaration) → AreDistinct ds → EveryAt (λ i d. name_number ds d.name ≡ i + 2) 0 ds
@@ -46,6 +34,7 @@ numbers ds h =
 abbrev pub number_if : (Declaration → ℕ) → (Declaration → Bool) → Declaration → Option ℕ
 number_if num t d = cond (t d) (Some (num d)) None
 
+-- in their order
 abbrev pub numbers_of : (Declaration → ℕ) → (Declaration → Bool) → List Declaration → List ℕ
 numbers_of num t ds = filter_map (number_if num t) ds
 
@@ -71,6 +60,7 @@ within_step k len n false ns e h =
     let high : m < suc k + 2 + len = w.1 in
     (omega arith, omega arith)) ns h
 
+-- the numbers lie within the places
 pub within : (num : Declaration → ℕ) (t : Declaration → Bool) (k : ℕ) (ds : List Declaration) → AreNumbered num k ds → Every (IsWithin k (length ds)) (numbers_of num t ds)
 within num t k [] h = tt
 within num t k (x ∷ xs) h =
@@ -91,6 +81,7 @@ differ_step : (n m : ℕ) (b : Bool) (ns : List ℕ) → n ≡ m → Every (λ a
 differ_step n m true ns e h d = rw (absent n m ns e h, d) refl
 differ_step n m false ns e h d = d
 
+-- they differ
 pub numbers_differ : (num : Declaration → ℕ) (t : Declaration → Bool) (k : ℕ) (ds : List Declaration) → AreNumbered num k ds → all_differ ◌==◌ (numbers_of num t ds) ≡ true
 numbers_differ num t k [] h = refl
 numbers_differ num t k (x ∷ xs) h =
@@ -113,20 +104,18 @@ apart_step n m true false ss ts not' e hs ht g = (absent n m ts e ht, g)
 apart_step n m false true ss ts not' e hs ht g = apart_more n m ss ts e hs g
 apart_step n m false false ss ts not' e hs ht g = g
 
+-- the numbers of two sorts differ
 pub apart : (num : Declaration → ℕ) (s t : Declaration → Bool) → ((d : Declaration) → s d ≡ true → t d ≡ true → ⊥) → (k : ℕ) (ds : List Declaration) → AreNumbered num k ds → AreApart (numbers_of num s ds) (numbers_of num t ds)
 apart num s t not' k [] h = tt
 apart num s t not' k (x ∷ xs) h =
     apart_step (num x) (k + 2) (s x) (t x) (numbers_of num s xs) (numbers_of num t xs) (not' x) h.0 (above num s k xs h.1) (above num t k xs h.1) (apart num s t not' (suc k) xs h.1)
-
-pub every_append : {T : Type 0} (P : T → Type 0) (xs ys : List T) → Every P xs → Every P ys → Every P (xs ++ ys)
-every_append P [] ys h g = g
-every_append P (x ∷ xs) ys h g = (h.0, every_append P xs ys h.1 g)
 
 append_step : (n d m w : Bool) → (not n && d) ≡ true → (n ≡ false → m ≡ false) → (d ≡ true → w ≡ true) → (not m && w) ≡ true
 append_step true d m w h f g = absurd (let z : ⊥ = cc in z)
 append_step false true m w h f g = rw (f refl, g refl) refl
 append_step false false m w h f g = absurd (let z : ⊥ = cc in z)
 
+-- two lists that differ in themselves and from one another
 pub differ_append : (as' bs : List ℕ) → all_differ ◌==◌ as' ≡ true → all_differ ◌==◌ bs ≡ true → AreApart as' bs → all_differ ◌==◌ (as' ++ bs) ≡ true
 differ_append [] bs h g k = g
 differ_append (a ∷ as') bs h g k =

@@ -1,104 +1,51 @@
 -- The objects of a plan stand in the order of their devices.
-use Rattle.std.proofs.Common.{◌≡◌, ℕ, suc, ◌+◌, ◌<◌, ◌≤◌, Bool, true, false, not, cond, ◌&&◌, ◌||◌, ◌⊎◌, inl, inr, List, [], ◌∷◌, map, length, Option, Some, None, IsSomeAnd, IsTrue, refl, ap, sym, subst, ◌∙◌, arith}
-use Rattle.std.proofs.lemmas.Bool.{lt-ltb, eq-eqb, ne_eqb, and_parts}
-use Rattle.std.specs.Prelude.{◌==◌, nat_lt}
-use Rattle.std.specs.List.{filter_map, cons_option, list_any}
+use Rattle.std.proofs.Common.{◌≡◌, ℕ, suc, ◌+◌, ◌<◌, Bool, true, false, not, cond, ◌&&◌, List, [], ◌∷◌, length, Some, refl, sym, arith, slice_get}
+use Rattle.std.proofs.lemmas.Bool.{lt-ltb, eq-eqb, ne_eqb}
+use Rattle.std.specs.Prelude.{◌==◌}
+use Rattle.std.specs.List.{filter_map, cons_option}
 use Rattle.wdf_base.specs.declared.declared.Declared.{Declared}
 use Rattle.wdf_base.specs.Resolved.{in_order, objects_in_order}
-use Rattle.wdf_scene.specs.declared.block.Block.{Block}
-use Rattle.wdf_scene.specs.declared.block.Block.TheVariants as block
 use Rattle.wdf_scene.specs.declared.line.SceneLine.{SceneLine}
 use Rattle.wdf_scene.specs.declared.line.SceneLine.TheVariants as line
-use Rattle.wdf_scene.specs.declared.line.InterruptLevel.{InterruptLevel}
 use Rattle.wdf_scene.specs.declared.line.NumberedLine.{NumberedLine}
 use Rattle.wdf_scene.specs.declared.scene.Scene.{Scene}
-use Rattle.wdf_scene.specs.Blocks.{Position, front, moved, innermost, in_device, has_level, blocks_after, after_lines, is_outside, may_stand}
-use Rattle.wdf_scene.specs.Written.{IsScene, lines_at}
+use Rattle.wdf_scene.specs.Written.{IsScene}
 use Rattle.wdf_plan.specs.declared.declaration.Declaration.{Declaration}
 use Rattle.wdf_plan.specs.declared.placed.Counts.{Counts}
 use Rattle.wdf_plan.specs.declared.placed.Placed.{Placed}
 use Rattle.wdf_plan.specs.declared.placed.Stand.{Stand}
 use Rattle.wdf_plan.specs.Forms.{is_device, is_object}
-use Rattle.wdf_plan.specs.Parts.{object_of, object_on, device_info, queue_info, interrupt_info, target_info}
-use Rattle.wdf_plan.specs.Placed.{outside, nothing, one_more, counted, opened_by, placed_line, placed_from, placed}
+use Rattle.wdf_plan.specs.Parts.{object_of, object_on, queue_info, interrupt_info, target_info}
+use Rattle.wdf_plan.specs.Placed.{outside, nothing, counted, opened_by, placed_line, placed_from, placed}
 use Rattle.wdf_plan.specs.Plans.{all_objects}
-use Rattle.wdf_plan.proofs.Heads.{form_of, Ends, gone}
-
--- ---- a device was begun before what stands in one
-
-is_device_block : Block → Bool
-is_device_block block.Device = true
-is_device_block _ = false
-
-abbrev has_device : List Block → Bool
-has_device bs = list_any is_device_block bs
-
-or_true : (b : Bool) → (b || true) ≡ true
-or_true true = refl
-or_true false = refl
-
-drop_has : (b : Block) (bs : List Block) → has_device bs ≡ true → has_device (b ∷ bs) ≡ true
-drop_has b bs h = rw h (or_true (is_device_block b))
-
-end_has : (bs : List Block) (form : SceneLine) → has_device (blocks_after bs line.End) ≡ true → has_device bs ≡ true
-unfolding is_device_block
-end_has [] form h = h
-end_has (b ∷ bs) form h = drop_has b bs h
-
-else_has : (bs : List Block) → has_device (blocks_after bs line.Else) ≡ true → has_device bs ≡ true
-unfolding is_device_block
-else_has [] h = h
-else_has (b ∷ bs) h = drop_has b bs h
-
-kept_device : (bs : List Block) (form : SceneLine) → has_device (blocks_after bs form) ≡ true → (is_device form ≡ true) ⊎ (has_device bs ≡ true)
-unfolding is_device_block is_device
-kept_device bs (line.Device n working) h = inl refl
-kept_device bs line.End h = inr (end_has bs line.End h)
-kept_device bs line.Else h = inr (else_has bs h)
-kept_device bs _ h = inr h
-
-in_has : (bs : List Block) → in_device (innermost bs) ≡ true → has_device bs ≡ true
-unfolding is_device_block
-in_has [] h = absurd (let z : ⊥ = cc in z)
-in_has (block.Device ∷ bs) h = refl
-in_has (_ ∷ bs) h = absurd (let z : ⊥ = cc in z)
+use Rattle.wdf_plan.proofs.Devices.{HasDevice, at_home, belongs, devices_known}
+use Rattle.wdf_plan.proofs.Every.{Every, every_map, every_both}
+use Rattle.wdf_plan.proofs.Stacking.{IsPassed, every_passed}
 
 -- a queue, an interrupt or a target
 abbrev is_inside : SceneLine → Bool
 is_inside form = is_object form && not (is_device form)
 
-stands_inside : (q : Position) (form : SceneLine) → may_stand q form ≡ true → is_inside form ≡ true → has_device q.blocks ≡ true
+-- such a line stands only in a device
+belongs_inside : (form : SceneLine) → is_inside form ≡ true → belongs form ≡ true
 unfolding is_object is_device
-stands_inside q (line.Queue n dispatch) h e = in_has q.blocks h
-stands_inside q (line.Target n delay status depth) h e = in_has q.blocks h
-stands_inside q (line.Interrupt n l) h e = in_has q.blocks (and_parts (in_device (innermost q.blocks)) (has_level q.version l) h).0
-stands_inside q (line.Device n working) h e = absurd (let z : ⊥ = cc in z)
-stands_inside q _ h e = absurd (let z : ⊥ = cc in z)
+belongs_inside (line.Queue n dispatch) e = refl
+belongs_inside (line.Interrupt n l) e = refl
+belongs_inside (line.Target n delay status depth) e = refl
+belongs_inside (line.Device n working) e = absurd (let z : ⊥ = cc in z)
+belongs_inside _ e = absurd (let z : ⊥ = cc in z)
+
+-- before such a line a device was counted
+abbrev IsBehindDevice : Placed → Type 0
+IsBehindDevice p = is_inside p.form ≡ true → 0 < p.counts.devices
+
+all_behind : (scene : Scene) → IsScene scene → Every IsBehindDevice (placed scene)
+all_behind scene s =
+    every_map (λ p. HasDevice (placed scene) p.stand p.counts × ((slice_get (placed scene) p.at ≡ Some p) × IsPassed scene p.at p)) IsBehindDevice (λ p h e. (at_home scene p h.0 h.1.1 (belongs_inside p.form e)).counted) (placed scene) (every_both _ _ (placed scene) (devices_known scene) (every_passed scene s))
 
 -- the id of the last device, 0 for none
 abbrev last_id : Counts → ℕ
 last_id c = cond (c.devices == 0) 0 (c.device + 2)
-
--- where a device is open, one was counted
-abbrev Sees : Position → Counts → Type 0
-Sees q c = has_device q.blocks ≡ true → 0 < c.devices
-
-more_step : (n : ℕ) (b : Bool) → 0 < n → 0 < one_more n b
-more_step n true h = omega arith
-more_step n false h = h
-
-more_devices : (c : Counts) (form : SceneLine) (n : ℕ) → ((is_device form ≡ true) ⊎ (0 < c.devices)) → 0 < (counted c form n).devices
-unfolding counted
-more_devices c form n (inl e) = rw e (omega arith)
-more_devices c form n (inr h) = more_step c.devices (is_device form) h
-
-sees_case : (q : Position) (c : Counts) (form : SceneLine) → Sees q c → (is_device form ≡ true) ⊎ (has_device q.blocks ≡ true) → (is_device form ≡ true) ⊎ (0 < c.devices)
-sees_case q c form s (inl e) = inl e
-sees_case q c form s (inr e) = inr (s e)
-
-sees_on : (q : Position) (c : Counts) (form : SceneLine) (n : ℕ) → Sees q c → Sees (moved q form) (counted c form n)
-sees_on q c form n s h =
-    more_devices c form n (sees_case q c form s (kept_device q.blocks form h))
 
 -- ---- one line
 
@@ -159,25 +106,19 @@ after_other : (c : Counts) (form : SceneLine) (n : ℕ) (rest : List Declared) �
 unfolding counted
 after_other c form n rest g e = rw (e, no_device form e) at g
 
-stood : (q : Position) (form : SceneLine) (forms : List SceneLine) (b : Bool) → may_stand q form ≡ b → IsSomeAnd (after_lines (cond b (Some (moved q form)) None) forms) (λ x. IsTrue (is_outside x)) → (may_stand q form ≡ true) × Ends (moved q form) forms
-stood q form forms true e h = (e, h)
-stood q form forms false e h = absurd (gone forms h)
-
-order_from : (scene : Scene) (names : List Declaration) (k : ℕ) (o : Stand) (c : Counts) (q : Position) (ls : List NumberedLine) → Ends q (map form_of ls) → Sees q c → Goes c (filter_map (object_on scene names) (placed_from k o c ls))
+order_from : (scene : Scene) (names : List Declaration) (k : ℕ) (o : Stand) (c : Counts) (ls : List NumberedLine) → Every IsBehindDevice (placed_from k o c ls) → Goes c (filter_map (object_on scene names) (placed_from k o c ls))
 unfolding placed_from
-order_from scene names k o c q [] h s = refl
-order_from scene names k o c q (l ∷ ls) h s =
-    let st = stood q l.form (map form_of ls) (may_stand q l.form) refl h in
-    let g = order_from scene names (suc k) (opened_by o k l.form) (counted c l.form (length l.picks)) (moved q l.form) ls st.1 (sees_on q c l.form (length l.picks) s) in
+order_from scene names k o c [] behind = refl
+order_from scene names k o c (l ∷ ls) behind =
+    let g = order_from scene names (suc k) (opened_by o k l.form) (counted c l.form (length l.picks)) ls behind.1 in
     let rest = filter_map (object_on scene names) (placed_from (suc k) (opened_by o k l.form) (counted c l.form (length l.picks)) ls) in
     line_order scene names (placed_line k o c l) k l.form rest (c.objects + 2) (last_id c) (λ e.
-    let seen : 0 < c.devices = s (stands_inside q l.form st.0 e) in
+    let seen : 0 < c.devices = behind.0 e in
     let i : last_id c ≡ c.device + 2 = last_at c.devices c.device seen in
     (rw i (omega arith), sym i)) (after_device c l.form (length l.picks) rest g) (after_inside c l.form (length l.picks) rest g) (after_other c l.form (length l.picks) rest g)
 
+-- the objects are in the order of their devices
 pub plan_ordered : (scene : Scene) (names : List Declaration) → IsScene scene → objects_in_order (all_objects scene names) ≡ true
 unfolding all_objects placed
 plan_ordered scene names s =
-    let lines : scene.lines ≡ lines_at 0 s.ws = ap (λ (x : Scene). x.lines) s.is in
-    let whole : Ends (front scene.version) (map form_of scene.lines) = rw lines s.lines.whole in
-    order_from scene names 0 outside nothing (front scene.version) scene.lines whole (λ h. absurd (let z : ⊥ = cc in z))
+    order_from scene names 0 outside nothing scene.lines (all_behind scene s)

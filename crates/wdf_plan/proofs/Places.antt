@@ -1,5 +1,5 @@
 -- The item of a line stands in the list at the place that counts the lines of its sort before it.
-use Rattle.std.proofs.Common.{◌≡◌, ℕ, suc, ◌+◌, Bool, true, false, cond, List, [], ◌∷◌, ◌++◌, length, Option, Some, None, find, slice_get, refl, ap, sym, subst, ◌∙◌, arith, append_assoc, length-append}
+use Rattle.std.proofs.Common.{◌≡◌, ℕ, suc, ◌+◌, Bool, true, false, cond, List, [], ◌∷◌, ◌++◌, length, Option, Some, None, find, slice_get, refl, sym, subst, ◌∙◌, arith, append_assoc, length-append}
 use Rattle.std.specs.Option.{is_some}
 use Rattle.std.specs.List.{filter_map, cons_option}
 use Rattle.wdf_scene.specs.declared.line.SceneLine.{SceneLine}
@@ -13,6 +13,30 @@ use Rattle.wdf_plan.proofs.Every.{Every}
 item_behind : {X : Type 0} (front : List X) (x : X) (rest : List X) → slice_get (front ++ x ∷ rest) (length front) ≡ Some x
 item_behind [] x rest = refl
 item_behind (y ∷ ys) x rest = item_behind ys x rest
+
+-- the item behind the first k
+pub item_there : {X : Type 0} (whole front : List X) (x : X) (rest : List X) (k : ℕ) → whole ≡ front ++ x ∷ rest → length front ≡ k → slice_get whole k ≡ Some x
+item_there whole front x rest k is long = rw (is, ← long) (item_behind front x rest)
+
+-- the place of a line that passes
+abbrev pub place_if : (SceneLine → Bool) → Placed → Option ℕ
+place_if is p = cond (is p.form) (Some p.at) None
+
+-- such a line has a place
+pub place_tells : (is : SceneLine → Bool) (p : Placed) → is_some (place_if is p) ≡ is p.form
+place_tells is p = by_test (is p.form)
+  where
+    by_test : (b : Bool) → is_some (cond b (Some p.at) None) ≡ b
+    by_test true = refl
+    by_test false = refl
+
+-- it is its own
+pub place_is : (is : SceneLine → Bool) (p : Placed) (n : ℕ) → place_if is p ≡ Some n → n ≡ p.at
+place_is is p n e = by_test (is p.form) e
+  where
+    by_test : (b : Bool) → cond b (Some p.at) None ≡ Some n → n ≡ p.at
+    by_test true e = cc
+    by_test false e = absurd (let z : ⊥ = cc in z)
 
 -- the front with the item of one line more
 abbrev with_item : {X : Type 0} → List X → Option X → List X
@@ -37,6 +61,7 @@ at_front whole front (Some y) rest n e is x f =
     let same : y ≡ x = cc in
     rw (is, ← e, ← same) (item_behind front y rest)
 
+-- where the item of each line stands in the list
 pub indexed : {X : Type 0} (is : SceneLine → Bool) (count : Counts → ℕ) (g : Placed → Option X) → ((c : Counts) (f : SceneLine) (n : ℕ) → count (counted c f n) ≡ one_more (count c) (is f)) → ((p : Placed) → is_some (g p) ≡ is p.form) → (whole front : List X) (k : ℕ) (o : Stand) (c : Counts) (ls : List NumberedLine) → length front ≡ count c → whole ≡ front ++ filter_map g (placed_from k o c ls) → Every (λ p. (x : X) → g p ≡ Some x → slice_get whole (count p.counts) ≡ Some x) (placed_from k o c ls)
 unfolding placed_from
 indexed is count g adds tells whole front k o c [] long e = tt

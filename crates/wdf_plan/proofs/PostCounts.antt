@@ -1,9 +1,8 @@
 -- The posts of a plan are at most as many as its lines with `at`.
-use Rattle.std.proofs.Common.{◌≡◌, ℕ, suc, ◌+◌, ◌<◌, ◌≤◌, Bool, true, false, cond, List, [], ◌∷◌, ◌++◌, length, Option, Some, None, refl, ap, sym, ◌∙◌, arith}
+use Rattle.std.proofs.Common.{◌≡◌, ℕ, suc, ◌+◌, ◌<◌, ◌≤◌, Bool, true, false, cond, List, [], ◌∷◌, ◌++◌, length, Option, Some, None, refl, ap, ◌∙◌, arith}
 use Rattle.std.proofs.lemmas.Bool.{ne_eqb, eqb-true}
 use Rattle.std.proofs.lemmas.List.Sums.{sum_by-append, sum_by-cons}
 use Rattle.std.specs.Prelude.{◌==◌}
-use Rattle.std.specs.Option.{is_some}
 use Rattle.std.specs.List.{filter_map, cons_option, sum_by}
 use Rattle.wdf_base.specs.declared.declared.PostLine.{PostLine}
 use Rattle.wdf_base.specs.declared.script.AgentInfo.{AgentInfo}
@@ -11,23 +10,21 @@ use Rattle.wdf_base.specs.Resolved.{post_count}
 use Rattle.wdf_base.specs.Same.{same_option}
 use Rattle.wdf_scene.specs.declared.line.SceneLine.{SceneLine}
 use Rattle.wdf_scene.specs.declared.line.SceneLine.TheVariants as line
-use Rattle.wdf_scene.specs.declared.line.NumberedLine.{NumberedLine}
 use Rattle.wdf_scene.specs.declared.scene.Scene.{Scene}
 use Rattle.wdf_plan.specs.declared.declaration.Declaration.{Declaration}
-use Rattle.wdf_plan.specs.declared.placed.Counts.{Counts}
 use Rattle.wdf_plan.specs.declared.placed.Placed.{Placed}
-use Rattle.wdf_plan.specs.declared.placed.Stand.{Stand}
 use Rattle.wdf_plan.specs.Declarations.{declarations}
-use Rattle.wdf_plan.specs.First.{first_refusal}
-use Rattle.wdf_plan.specs.Forms.{is_post}
-use Rattle.wdf_plan.specs.Limits.{exceeds, is_one_too_many}
+use Rattle.wdf_plan.specs.Forms.{is_post, is_app, is_device}
+use Rattle.wdf_plan.specs.Limits.{is_one_too_many}
 use Rattle.wdf_plan.specs.Parts.{app_post, app_post_in, pnp_post, device_post, device_post_in, app_agent, device_agent, target_agent, stands_in}
-use Rattle.wdf_plan.specs.Placed.{outside, nothing, counted, opened_by, placed_line, placed_from, placed}
+use Rattle.wdf_plan.specs.Placed.{outside, nothing, counted, placed}
 use Rattle.wdf_plan.specs.Plans.{all_agents, plan_with, plan_of}
-use Rattle.wdf_plan.proofs.Accepted.{IsAccepted, each_accepted}
-use Rattle.wdf_plan.proofs.Bounds.{from_zero}
-use Rattle.wdf_plan.proofs.Counting.{bounded}
+use Rattle.wdf_plan.proofs.Accepted.{IsAccepted}
+use Rattle.wdf_plan.proofs.Counting.{bounded, from_zero}
 use Rattle.wdf_plan.proofs.Every.{Every, every_map}
+use Rattle.wdf_plan.proofs.Places.{place_if, place_tells, place_is}
+use Rattle.wdf_plan.proofs.Rising.{AreRising, rising_from}
+use Rattle.wdf_plan.proofs.Within.{posts_within}
 
 -- ---- sums over places
 
@@ -51,16 +48,11 @@ sums_zero f e (b ∷ bs) =
     let rest : sums f bs ≡ 0 = sums_zero f e bs in
     omega arith
 
--- places in rising order
-abbrev AreRising : ℕ → List ℕ → Type 0
-AreRising k [] = Unit {0}
-AreRising k (b ∷ bs) = (k ≤ b) × AreRising (suc b) bs
-
 -- one where the place is this one
 abbrev hit : ℕ → ℕ → ℕ
 hit j b = cond (j == b) 1 0
 
-hit_none : (j k : ℕ) (bs : List ℕ) → j < k → AreRising k bs → sums (hit j) bs ≡ 0
+hit_none : (j k : ℕ) (bs : List ℕ) → j < k → AreRising (λ n. n) k bs → sums (hit j) bs ≡ 0
 unfolding sums
 hit_none j k [] less r = refl
 hit_none j k (b ∷ bs) less r =
@@ -69,14 +61,14 @@ hit_none j k (b ∷ bs) less r =
     let rest : sums (hit j) bs ≡ 0 = hit_none j (suc b) bs (omega arith) r.1 in
     rw other (omega arith)
 
-hit_step : (j b : ℕ) (bs : List ℕ) (t : Bool) → (j == b) ≡ t → AreRising (suc b) bs → sums (hit j) bs ≤ 1 → cond t 1 0 + sums (hit j) bs ≤ 1
+hit_step : (j b : ℕ) (bs : List ℕ) (t : Bool) → (j == b) ≡ t → AreRising (λ n. n) (suc b) bs → sums (hit j) bs ≤ 1 → cond t 1 0 + sums (hit j) bs ≤ 1
 hit_step j b bs true e r h =
     let same : j ≡ b = eqb-true j b e in
     let rest : sums (hit j) bs ≡ 0 = hit_none j (suc b) bs (omega arith) r in
     omega arith
 hit_step j b bs false e r h = omega arith
 
-hit_once : (j k : ℕ) (bs : List ℕ) → AreRising k bs → sums (hit j) bs ≤ 1
+hit_once : (j k : ℕ) (bs : List ℕ) → AreRising (λ n. n) k bs → sums (hit j) bs ≤ 1
 unfolding sums
 hit_once j k [] r = omega arith
 hit_once j k (b ∷ bs) r = hit_step j b bs (j == b) refl r.1 (hit_once j (suc b) bs r.1)
@@ -109,7 +101,7 @@ unfolding sums
 sums_same f g e [] = refl
 sums_same f g e (b ∷ bs) = rw (e b, sums_same f g e bs) refl
 
-line_once : {X : Type 0} (block : Option ℕ) (o : Option X) (k : ℕ) (bs : List ℕ) → AreRising k bs → sums (λ b. one_if (cond (same_option ◌==◌ block (Some b)) o None)) bs ≤ one_if o
+line_once : {X : Type 0} (block : Option ℕ) (o : Option X) (k : ℕ) (bs : List ℕ) → AreRising (λ n. n) k bs → sums (λ b. one_if (cond (same_option ◌==◌ block (Some b)) o None)) bs ≤ one_if o
 line_once {X} block None k bs r =
     let z : sums (λ b. one_if {X = X} (cond (same_option ◌==◌ block (Some b)) None None)) bs ≡ 0 = sums_zero (λ b. one_if {X = X} (cond (same_option ◌==◌ block (Some b)) None None)) (λ b. none_in X (same_option ◌==◌ block (Some b))) bs in
     omega arith
@@ -122,7 +114,7 @@ line_once (Some j) (Some x) k bs r =
     omega arith
 
 -- over all blocks together there are at most as many items as lines with one
-block_sum : {X : Type 0} (f : Placed → Option X) (k : ℕ) (bs : List ℕ) → AreRising k bs → (ps : List Placed) → sums (λ b. length (filter_map (item_in f b) ps)) bs ≤ length (filter_map f ps)
+block_sum : {X : Type 0} (f : Placed → Option X) (k : ℕ) (bs : List ℕ) → AreRising (λ n. n) k bs → (ps : List Placed) → sums (λ b. length (filter_map (item_in f b) ps)) bs ≤ length (filter_map f ps)
 block_sum f k bs r [] =
     let z : sums (λ b. 0) bs ≡ 0 = sums_zero (λ b. 0) (λ b. refl) bs in
     omega arith
@@ -135,24 +127,6 @@ block_sum f k bs r (p ∷ ps) =
     omega arith
 
 -- ---- the lines of apps and of devices
-
-weaken : (j k : ℕ) (bs : List ℕ) → j ≤ k → AreRising k bs → AreRising j bs
-weaken j k [] h r = tt
-weaken j k (b ∷ bs) h r = let first : k ≤ b = r.0 in (omega arith, r.1)
-
-rising_step : (k : ℕ) (t : Bool) (bs : List ℕ) → AreRising (suc k) bs → AreRising k (cons_option (cond t (Some k) None) bs)
-rising_step k true bs r = (omega arith, r)
-rising_step k false bs r = weaken k (suc k) bs (omega arith) r
-
--- the places of the lines that pass
-abbrev place_if : (SceneLine → Bool) → Placed → Option ℕ
-place_if t p = cond (t p.form) (Some p.at) None
-
-rising_places : (t : SceneLine → Bool) (k : ℕ) (o : Stand) (c : Counts) (ls : List NumberedLine) → AreRising k (filter_map (place_if t) (placed_from k o c ls))
-unfolding placed_from
-rising_places t k o c [] = tt
-rising_places t k o c (l ∷ ls) =
-    rising_step k (t l.form) _ (rising_places t (suc k) (opened_by o k l.form) (counted c l.form (length l.picks)) ls)
 
 -- an agent with the posts of its block
 abbrev IsBlock : (ℕ → List PostLine) → Option AgentInfo → Option ℕ → Type 0
@@ -173,40 +147,32 @@ agent_sum posts f g is [] = refl
 agent_sum posts f g is (p ∷ ps) =
     agent_sum_step posts (f p) (g p) (filter_map f ps) (filter_map g ps) (is p) (agent_sum posts f g is ps)
 
-is_app_line : SceneLine → Bool
-is_app_line (line.App n) = true
-is_app_line _ = false
-
-is_device_line : SceneLine → Bool
-is_device_line (line.Device n working) = true
-is_device_line _ = false
-
-app_block : (scene : Scene) (names : List Declaration) (p : Placed) (form : SceneLine) → IsBlock (λ b. filter_map (app_post_in names b) (placed scene)) (app_agent scene names p form) (cond (is_app_line form) (Some p.at) None)
-unfolding app_agent is_app_line
+app_block : (scene : Scene) (names : List Declaration) (p : Placed) (form : SceneLine) → IsBlock (λ b. filter_map (app_post_in names b) (placed scene)) (app_agent scene names p form) (cond (is_app form) (Some p.at) None)
+unfolding app_agent is_app
 app_block scene names p (line.App n) = refl
 app_block scene names p _ = tt
 
-device_block : (scene : Scene) (names : List Declaration) (p : Placed) (form : SceneLine) → IsBlock (λ b. filter_map (device_post_in names b) (placed scene)) (device_agent scene names p form) (cond (is_device_line form) (Some p.at) None)
-unfolding device_agent is_device_line
+device_block : (scene : Scene) (names : List Declaration) (p : Placed) (form : SceneLine) → IsBlock (λ b. filter_map (device_post_in names b) (placed scene)) (device_agent scene names p form) (cond (is_device form) (Some p.at) None)
+unfolding device_agent is_device
 device_block scene names p (line.Device n working) = refl
 device_block scene names p _ = tt
 
 apps_sum : (scene : Scene) (names : List Declaration) → sum_by (λ a. length a.posts) (filter_map (λ p. app_agent scene names p p.form) (placed scene)) ≤ length (filter_map (λ p. app_post names p.number p.form) (placed scene))
 unfolding placed
 apps_sum scene names =
-    let e : sum_by (λ a. length a.posts) (filter_map (λ p. app_agent scene names p p.form) (placed scene)) ≡ sums (λ b. length (filter_map (app_post_in names b) (placed scene))) (filter_map (place_if is_app_line) (placed scene)) =
-    agent_sum (λ b. filter_map (app_post_in names b) (placed scene)) (λ p. app_agent scene names p p.form) (place_if is_app_line) (λ p. app_block scene names p p.form) (placed scene) in
-    let h : sums (λ b. length (filter_map (app_post_in names b) (placed scene))) (filter_map (place_if is_app_line) (placed scene)) ≤ length (filter_map (λ p. app_post names p.number p.form) (placed scene)) =
-    block_sum (λ p. app_post names p.number p.form) 0 (filter_map (place_if is_app_line) (placed scene)) (rising_places is_app_line 0 outside nothing scene.lines) (placed scene) in
+    let e : sum_by (λ a. length a.posts) (filter_map (λ p. app_agent scene names p p.form) (placed scene)) ≡ sums (λ b. length (filter_map (app_post_in names b) (placed scene))) (filter_map (place_if is_app) (placed scene)) =
+    agent_sum (λ b. filter_map (app_post_in names b) (placed scene)) (λ p. app_agent scene names p p.form) (place_if is_app) (λ p. app_block scene names p p.form) (placed scene) in
+    let h : sums (λ b. length (filter_map (app_post_in names b) (placed scene))) (filter_map (place_if is_app) (placed scene)) ≤ length (filter_map (λ p. app_post names p.number p.form) (placed scene)) =
+    block_sum (λ p. app_post names p.number p.form) 0 (filter_map (place_if is_app) (placed scene)) (rising_from (λ n. n) (place_if is_app) (place_is is_app) 0 outside nothing scene.lines) (placed scene) in
     omega arith
 
 devices_sum : (scene : Scene) (names : List Declaration) → sum_by (λ a. length a.posts) (filter_map (λ p. device_agent scene names p p.form) (placed scene)) ≤ length (filter_map (λ p. device_post names p.number p.stand.device p.form) (placed scene))
 unfolding placed
 devices_sum scene names =
-    let e : sum_by (λ a. length a.posts) (filter_map (λ p. device_agent scene names p p.form) (placed scene)) ≡ sums (λ b. length (filter_map (device_post_in names b) (placed scene))) (filter_map (place_if is_device_line) (placed scene)) =
-    agent_sum (λ b. filter_map (device_post_in names b) (placed scene)) (λ p. device_agent scene names p p.form) (place_if is_device_line) (λ p. device_block scene names p p.form) (placed scene) in
-    let h : sums (λ b. length (filter_map (device_post_in names b) (placed scene))) (filter_map (place_if is_device_line) (placed scene)) ≤ length (filter_map (λ p. device_post names p.number p.stand.device p.form) (placed scene)) =
-    block_sum (λ p. device_post names p.number p.stand.device p.form) 0 (filter_map (place_if is_device_line) (placed scene)) (rising_places is_device_line 0 outside nothing scene.lines) (placed scene) in
+    let e : sum_by (λ a. length a.posts) (filter_map (λ p. device_agent scene names p p.form) (placed scene)) ≡ sums (λ b. length (filter_map (device_post_in names b) (placed scene))) (filter_map (place_if is_device) (placed scene)) =
+    agent_sum (λ b. filter_map (device_post_in names b) (placed scene)) (λ p. device_agent scene names p p.form) (place_if is_device) (λ p. device_block scene names p p.form) (placed scene) in
+    let h : sums (λ b. length (filter_map (device_post_in names b) (placed scene))) (filter_map (place_if is_device) (placed scene)) ≤ length (filter_map (λ p. device_post names p.number p.stand.device p.form) (placed scene)) =
+    block_sum (λ p. device_post names p.number p.stand.device p.form) 0 (filter_map (place_if is_device) (placed scene)) (rising_from (λ n. n) (place_if is_device) (place_is is_device) 0 outside nothing scene.lines) (placed scene) in
     omega arith
 
 no_posts : (names : List Declaration) (form : SceneLine) → (elim (target_agent names form) as (λ _. ℕ) [ None ↦ 0 | Some a ↦ length a.posts ]) ≡ 0
@@ -225,9 +191,6 @@ targets_sum names (p ∷ ps) =
 
 -- ---- each line with `at` is one post
 
-abbrev mark : Placed → Option ℕ
-mark p = cond (is_post p.form) (Some p.at) None
-
 one_post : (names : List Declaration) (number : ℕ) (device : Option ℕ) (place : ℕ) (form : SceneLine) → one_if (pnp_post names number form) + one_if (app_post names number form) + one_if (device_post names number device form) ≡ one_if (cond (is_post form) (Some place) None)
 unfolding pnp_post app_post device_post is_post
 one_post names number device place (line.At tick action) = refl
@@ -238,7 +201,7 @@ one_post names number device place (line.AtCancel tick k) = refl
 one_post names number device place (line.AtAsk tick ask d) = refl
 one_post names number device place _ = refl
 
-all_posts : (names : List Declaration) (ps : List Placed) → length (filter_map (λ p. pnp_post names p.number p.form) ps) + length (filter_map (λ p. app_post names p.number p.form) ps) + length (filter_map (λ p. device_post names p.number p.stand.device p.form) ps) ≡ length (filter_map mark ps)
+all_posts : (names : List Declaration) (ps : List Placed) → length (filter_map (λ p. pnp_post names p.number p.form) ps) + length (filter_map (λ p. app_post names p.number p.form) ps) + length (filter_map (λ p. device_post names p.number p.stand.device p.form) ps) ≡ length (filter_map (place_if is_post) ps)
 all_posts names [] = refl
 all_posts names (p ∷ ps) =
     let here = one_post names p.number p.stand.device p.at p.form in
@@ -246,22 +209,15 @@ all_posts names (p ∷ ps) =
     let a : length (cons_option (pnp_post names p.number p.form) (filter_map (λ q. pnp_post names q.number q.form) ps)) ≡ one_if (pnp_post names p.number p.form) + length (filter_map (λ q. pnp_post names q.number q.form) ps) = cons_length _ _ in
     let b : length (cons_option (app_post names p.number p.form) (filter_map (λ q. app_post names q.number q.form) ps)) ≡ one_if (app_post names p.number p.form) + length (filter_map (λ q. app_post names q.number q.form) ps) = cons_length _ _ in
     let c : length (cons_option (device_post names p.number p.stand.device p.form) (filter_map (λ q. device_post names q.number q.stand.device q.form) ps)) ≡ one_if (device_post names p.number p.stand.device p.form) + length (filter_map (λ q. device_post names q.number q.stand.device q.form) ps) = cons_length _ _ in
-    let d : length (cons_option (mark p) (filter_map mark ps)) ≡ one_if (mark p) + length (filter_map mark ps) = cons_length _ _ in
+    let d : length (cons_option (place_if is_post p) (filter_map (place_if is_post) ps)) ≡ one_if (place_if is_post p) + length (filter_map (place_if is_post) ps) = cons_length _ _ in
     omega (arith, here, rest, a, b, c, d)
 
-posts_within : (scene : Scene) (p : Placed) → IsAccepted scene p → is_one_too_many (is_post p.form) 4096 p.counts.posts ≡ false
-unfolding exceeds
-posts_within scene p a = a.within.1.1.1.1.1.1.1.1.0
-
-marked : (b : Bool) (n : ℕ) → is_some (cond b (Some n) None) ≡ b
-marked true n = refl
-marked false n = refl
-
-marks_bound : (scene : Scene) → Every (IsAccepted scene) (placed scene) → length (filter_map mark (placed scene)) ≤ 4096
+marks_bound : (scene : Scene) → Every (IsAccepted scene) (placed scene) → length (filter_map (place_if is_post) (placed scene)) ≤ 4096
 unfolding placed counted
 marks_bound scene each =
-    from_zero _ _ _ refl (bounded is_post (λ c. c.posts) mark 4096 (λ c f n. refl) (λ p. marked (is_post p.form) p.at) 0 outside nothing scene.lines (omega arith) (every_map (IsAccepted scene) (λ p. is_one_too_many (is_post p.form) 4096 p.counts.posts ≡ false) (posts_within scene) (placed scene) each))
+    from_zero _ _ _ refl (bounded is_post (λ c. c.posts) (place_if is_post) 4096 (λ c f n. refl) (place_tells is_post) 0 outside nothing scene.lines (omega arith) (every_map (IsAccepted scene) (λ p. is_one_too_many (is_post p.form) 4096 p.counts.posts ≡ false) (posts_within scene) (placed scene) each))
 
+-- a plan has at most 4096 posts
 pub posts_bound : (scene : Scene) → Every (IsAccepted scene) (placed scene) → post_count (plan_of scene) ≤ 4096
 unfolding plan_of plan_with all_agents
 posts_bound scene each =

@@ -1,14 +1,13 @@
 -- The counts stay within the lines, and a walk goes on by one line.
-use Rattle.std.proofs.Common.{◌≡◌, ℕ, zero, suc, ◌+◌, ◌-◌, ◌*◌, ◌<◌, ◌≤◌, ◌^◌, Bool, true, false, cond, List, [], ◌∷◌, length, drop, get_or, Some, None, refl, ap, arith, drop-cons, add-one}
+use Rattle.std.proofs.Common.{◌≡◌, ℕ, suc, ◌+◌, ◌-◌, ◌<◌, ◌≤◌, ◌^◌, Bool, true, false, cond, List, [], ◌∷◌, length, drop, get_or, Some, None, refl, arith, drop-cons, add-one}
 use Rattle.std.proofs.lemmas.List.{drop_all}
-use Rattle.wdf_base.specs.Same.{same_option}
 use Rattle.wdf_scene.specs.declared.line.SceneLine.{SceneLine}
 use Rattle.wdf_scene.specs.declared.line.SceneLine.TheVariants as line
 use Rattle.wdf_scene.specs.declared.line.NumberedLine.{NumberedLine}
 use Rattle.wdf_plan.specs.declared.placed.Stand.{Stand}
 use Rattle.wdf_plan.specs.declared.placed.Counts.{Counts}
 use Rattle.wdf_plan.specs.declared.placed.Placed.{Placed}
-use Rattle.wdf_plan.specs.Forms.{is_device, is_object, is_app, is_register, is_class, is_statement, is_post, nodes_end}
+use Rattle.wdf_plan.specs.Forms.{is_device, is_object, is_app, is_register, is_class, is_statement, is_post}
 use Rattle.wdf_plan.specs.Placed.{outside, closed, closed_block, closed_in_callback, opened_by, one_more, counted, placed_line, placed_from}
 use Rattle.wdf_plan.specs.Walk.{IsWithin}
 
@@ -35,7 +34,7 @@ opened_nested o k (line.Repeat e) h = omega arith
 opened_nested o k (line.On c) h = omega arith
 opened_nested o k _ h = omega arith
 
-pub within_next : (lines : List NumberedLine) (k : ℕ) (o : Stand) (c : Counts) (form : SceneLine) (picks : ℕ) → IsWithin lines k o c → k < length lines → picks < 2 ^ 32 → IsWithin lines (suc k) (opened_by o k form) (counted c form picks)
+within_next : (lines : List NumberedLine) (k : ℕ) (o : Stand) (c : Counts) (form : SceneLine) (picks : ℕ) → IsWithin lines k o c → k < length lines → picks < 2 ^ 32 → IsWithin lines (suc k) (opened_by o k form) (counted c form picks)
 unfolding counted
 within_next lines k o c form picks w here fits =
     record {
@@ -52,11 +51,12 @@ within_next lines k o c form picks w here fits =
       picks = omega (arith, w.picks);
     }
 
-pub placed_next : (lines : List NumberedLine) (k : ℕ) (o : Stand) (c : Counts) (l : NumberedLine) → k < length lines → l ≡ get_or lines k l → placed_from k o c (drop k lines) ≡ placed_line k o c l ∷ placed_from (suc k) (opened_by o k l.form) (counted c l.form (length l.picks)) (drop (suc k) lines)
+placed_next : (lines : List NumberedLine) (k : ℕ) (o : Stand) (c : Counts) (l : NumberedLine) → k < length lines → l ≡ get_or lines k l → placed_from k o c (drop k lines) ≡ placed_line k o c l ∷ placed_from (suc k) (opened_by o k l.form) (counted c l.form (length l.picks)) (drop (suc k) lines)
 unfolding placed_from
 placed_next lines k o c l here is =
     rw (drop-cons lines k l) (rw (← is) refl)
 
+-- behind the last line nothing is placed
 pub placed_end : (lines : List NumberedLine) (k : ℕ) (o : Stand) (c : Counts) → length lines ≤ k → placed_from k o c (drop k lines) ≡ []
 unfolding placed_from
 placed_end lines k o c h = rw (drop_all k lines h) refl
@@ -68,6 +68,7 @@ walk_next lines slice k o o' c c' l picks now view same here is many stood count
     let is' : l ≡ get_or lines k l = rw (← same) is in
     rw (← view, stood, counts, many, add-one) (placed_next lines k o c l here' is')
 
+-- its counts stay within
 pub within_walk : (lines slice : List NumberedLine) (k : ℕ) (o o' : Stand) (c c' : Counts) (form : SceneLine) (picks : ℕ) → IsWithin lines k o c → slice ≡ lines → k < length slice → picks < 2 ^ 32 → o' ≡ opened_by o k form → c' ≡ counted c form picks → IsWithin lines (k + 1) o' c'
 within_walk lines slice k o o' c c' form picks w same here fits stood counts =
     let here' : k < length lines = rw (← same) here in

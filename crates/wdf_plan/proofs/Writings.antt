@@ -1,5 +1,5 @@
 -- The statements of a callback are written line by line.
-use Rattle.std.proofs.Common.{◌≡◌, ℕ, zero, suc, ◌+◌, ◌-◌, ◌<◌, ◌≤◌, Bool, true, false, cond, List, [], ◌∷◌, ◌++◌, length, drop, get_or, Option, Some, None, Result, Ok, Err, IfOk, refl, ap, sym, ◌∙◌, arith, drop-cons, add-one, append_assoc, length-append}
+use Rattle.std.proofs.Common.{◌≡◌, ℕ, suc, ◌+◌, ◌<◌, ◌≤◌, true, false, cond, List, [], ◌++◌, length, drop, get_or, Option, Some, None, Result, Ok, Err, IfOk, refl, ap, sym, ◌∙◌, arith, drop-cons, add-one, length-append}
 use Rattle.std.proofs.lemmas.List.{drop_all, append-nil}
 use Rattle.std.specs.Option.{option_to_list}
 use Rattle.std.specs.List.{cons_option}
@@ -24,21 +24,21 @@ more_length : (so_far : List Statement) (o : Option Statement) → number_behind
 more_length so_far None = ap length (sym (append-nil so_far))
 more_length so_far (Some s) = simp length-append (omega arith)
 
-pub writing_begins : (names : List Declaration) (vars : List (List ℕ)) (lines : List NumberedLine) (from : ℕ) (blocks : List Nest) (so_far : List Statement) → so_far ≡ [] → blocks ≡ [] → IsWritten names vars lines from blocks so_far from
-writing_begins names vars lines from blocks so_far none' outside = record { answer = rw (none', outside) refl }
-
+-- the statements end with the callback
 pub writing_over : (names : List Declaration) (vars : List (List ℕ)) (lines : List NumberedLine) (from : ℕ) (blocks slice : List Nest) (so_far : List Statement) (k : ℕ) (l : NumberedLine) → IsWritten names vars lines from blocks so_far k → k < length lines → l ≡ get_or lines k l → slice ≡ blocks → true ≡ ends_callback slice l.form → so_far ≡ statements_from names vars [] 0 (drop from lines)
 writing_over names vars lines from blocks slice so_far k l w here is same ends =
     let ends' : true ≡ ends_callback blocks l.form = rw (← same) ends in
     let e : statements_from names vars blocks (length so_far) (drop k lines) ≡ [] = step names vars lines blocks (length so_far) k l here is ∙ rw (← ends') refl in
     sym (append-nil so_far) ∙ (rw e at w.answer)
 
+-- they end with the text
 pub writing_ends : (names : List Declaration) (vars : List (List ℕ)) (lines : List NumberedLine) (from : ℕ) (blocks : List Nest) (so_far : List Statement) (k : ℕ) → IsWritten names vars lines from blocks so_far k → length lines ≤ k → so_far ≡ statements_from names vars [] 0 (drop from lines)
 unfolding statements_from
 writing_ends names vars lines from blocks so_far k w past =
     let e : statements_from names vars blocks (length so_far) (drop k lines) ≡ [] = rw (drop_all k lines past) refl in
     sym (append-nil so_far) ∙ (rw e at w.answer)
 
+-- a line adds its statement
 pub writing_more : (names : List Declaration) (vars : List (List ℕ)) (lines : List NumberedLine) (from : ℕ) (blocks slice behind slice' : List Nest) (so_far so_far' : List Statement) (n k : ℕ) (l : NumberedLine) → IsWritten names vars lines from blocks so_far k → k < length lines → l ≡ get_or lines k l → slice ≡ blocks → false ≡ ends_callback slice l.form → n ≡ length so_far → behind ≡ blocks_behind slice n l.number l.form → slice' ≡ behind → so_far' ≡ so_far ++ option_to_list (statement_on names vars slice slice' n l (drop (k + 1) lines)) → IsWritten names vars lines from behind so_far' (k + 1)
 writing_more names vars lines from blocks slice behind slice' so_far so_far' n k l w here is same ends count grown same' put =
     let ends' : false ≡ ends_callback blocks l.form = rw (← same) ends in
@@ -49,11 +49,13 @@ writing_more names vars lines from blocks slice behind slice' so_far so_far' n k
     let g : so_far ++ cons_option o (statements_from names vars (blocks_behind blocks (length so_far) l.number l.form) (number_behind (length so_far) o) (drop (suc k) lines)) ≡ statements_from names vars [] 0 (drop from lines) = rw e at w.answer in
     record { answer = rw (b, f, add-one, ← more_length, ← cons-append) g }
 
+-- the statements of the callback of line k
 pub statements_there : {E : Type 0} (scene : Scene) (names : List Declaration) (lines : List NumberedLine) (vars : List (List ℕ)) (k : ℕ) (r : Result (List Statement) E) → lines ≡ scene.lines → vars ≡ variables scene k → IfOk r (λ s. s ≡ statements_from names vars [] 0 (drop (k + 1) lines)) → IfOk r (λ s. s ≡ statements_of scene names k)
 unfolding statements_of
 statements_there scene names lines vars k (Ok s) same own e = e ∙ rw (own, same, add-one) refl
 statements_there scene names lines vars k (Err x) same own e = tt
 
+-- a callback that the text ends behind has none
 pub statements_past : (scene : Scene) (names : List Declaration) (lines : List NumberedLine) (k : ℕ) (s : List Statement) → lines ≡ scene.lines → length lines ≤ k → s ≡ [] → s ≡ statements_of scene names k
 unfolding statements_of statements_from
 statements_past scene names lines k s same past none' =

@@ -1,15 +1,17 @@
 //! The agents of a plan and what their lines post.
 ghost use Rattle.std.specs.Prelude.{◌≡◌, IfOk, Some};
 ghost use Rattle.wdf_plan.specs.Parts as parts;
+ghost use Rattle.wdf_plan.specs.Posts as shares;
 
-use crate::declaration::{Wanted, same_line};
+use crate::declaration::Wanted;
 use crate::names::Names;
 use crate::numbers::{action_of, handle_of, name_number};
-use crate::part::{Part, gather};
+use crate::part::Part;
 use crate::placed::Placed;
+use crate::posts::{Posted, posts_in, with_block};
 use std::alloc::Global;
-use wdf_base::{AgentInfo, Items, MANY, Memory, Post, PostLine};
-use wdf_scene::{Scene, SceneLine};
+use wdf_base::{AgentInfo, Items, Memory, Post, PostLine};
+use wdf_scene::SceneLine;
 
 fn post_at(number: u32, tick: u64, post: Post) -> Option<PostLine>
     ensures { result ≡ Some (parts.post_at number tick post) }
@@ -111,12 +113,6 @@ fn device_post(
     }
 }
 
-fn stands_in(block: u32, placed: &Placed) -> bool
-    ensures { result ≡ parts.stands_in block placed.now }
-{
-    same_line(placed.stand.block, Some(block))
-}
-
 /// The posts of the Plug and Play manager.
 #[derive(Drop)]
 pub struct PnpPosts<'a> {
@@ -133,129 +129,113 @@ impl Part for PnpPosts<'_> {
     }
 }
 
-/// The posts of the app of a line.
+/// The posts of apps.
 #[derive(Drop)]
-struct AppPosts<'a> {
-    names: &'a Names,
-    block: u32,
-}
-
-impl Part for AppPosts<'_> {
-    type Item = PostLine;
-
-    ghost part = { λ s. parts.app_post_in s.names.now s.block };
-
-    fn take(&self, line: &Placed) -> Result<Option<PostLine>, Memory> {
-        if stands_in(self.block, line) {
-            app_post(self.names, line.number, &line.form)
-        } else {
-            Ok(None)
-        }
-    }
-}
-
-/// The posts of the device of a line.
-#[derive(Drop)]
-struct DevicePosts<'a> {
-    names: &'a Names,
-    block: u32,
-}
-
-impl Part for DevicePosts<'_> {
-    type Item = PostLine;
-
-    ghost part = { λ s. parts.device_post_in s.names.now s.block };
-
-    fn take(&self, line: &Placed) -> Result<Option<PostLine>, Memory> {
-        if stands_in(self.block, line) {
-            device_post(self.names, line.number, line.stand.device, &line.form)
-        } else {
-            Ok(None)
-        }
-    }
-}
-
-/// The apps.
-#[derive(Drop)]
-pub struct Apps<'a> {
-    pub alloc: Global,
-    pub scene: &'a Scene,
+pub struct AppPosts<'a> {
     pub names: &'a Names,
 }
 
-#[tactic(auto, unfolding(crate::specs::Parts::app_agent))]
+impl Part for AppPosts<'_> {
+    type Item = Posted;
+
+    ghost part = { λ s. shares.app_posted s.names.now };
+
+    fn take(&self, line: &Placed) -> Result<Option<Posted>, Memory> {
+        let post = app_post(self.names, line.number, &line.form)?;
+        Ok(with_block(line.stand.block, post))
+    }
+}
+
+/// The posts of devices.
+#[derive(Drop)]
+pub struct DevicePosts<'a> {
+    pub names: &'a Names,
+}
+
+impl Part for DevicePosts<'_> {
+    type Item = Posted;
+
+    ghost part = { λ s. shares.device_posted s.names.now };
+
+    fn take(&self, line: &Placed) -> Result<Option<Posted>, Memory> {
+        let post = device_post(self.names, line.number, line.stand.device, &line.form)?;
+        Ok(with_block(line.stand.block, post))
+    }
+}
+
+#[tactic(auto, unfolding(crate::specs::Posts::app_with))]
 fn app_agent(
     alloc: Global,
-    scene: &Scene,
     names: &Names,
+    posts: &[Posted],
     placed: &Placed,
     form: &SceneLine,
 ) -> Result<Option<AgentInfo>, Memory>
-    ensures { IfOk result (λ o. o ≡ parts.app_agent scene.now names.now placed.now form.now) }
+    ensures { IfOk result (λ o. o ≡ shares.app_with names.now posts.now placed.now form.now) }
 {
     match form {
         SceneLine::App { name } => {
             let name = name_number(names, name)?;
-            let part = AppPosts {
-                names,
-                block: placed.at,
-            };
-            let posts: Items<PostLine, MANY> = gather(alloc, scene, &part)?;
+            let posts = posts_in(alloc, posts, placed.at)?;
             Ok(Some(AgentInfo { name, posts }))
         }
         _ => Ok(None),
     }
+}
+
+/// The apps, with their share of the posts of apps.
+#[derive(Drop)]
+pub struct Apps<'a> {
+    pub alloc: Global,
+    pub names: &'a Names,
+    pub posts: &'a [Posted],
 }
 
 impl Part for Apps<'_> {
     type Item = AgentInfo;
 
-    ghost part = { λ s p. parts.app_agent s.scene.now s.names.now p p.form };
+    ghost part = { λ s p. shares.app_with s.names.now s.posts.now p p.form };
 
     fn take(&self, line: &Placed) -> Result<Option<AgentInfo>, Memory> {
-        app_agent(self.alloc, self.scene, self.names, line, &line.form)
+        app_agent(self.alloc, self.names, self.posts, line, &line.form)
     }
 }
 
-/// The devices, as those that post.
-#[derive(Drop)]
-pub struct Devices<'a> {
-    pub alloc: Global,
-    pub scene: &'a Scene,
-    pub names: &'a Names,
-}
-
-#[tactic(auto, unfolding(crate::specs::Parts::device_agent))]
+#[tactic(auto, unfolding(crate::specs::Posts::device_with))]
 fn device_agent(
     alloc: Global,
-    scene: &Scene,
     names: &Names,
+    posts: &[Posted],
     placed: &Placed,
     form: &SceneLine,
 ) -> Result<Option<AgentInfo>, Memory>
-    ensures { IfOk result (λ o. o ≡ parts.device_agent scene.now names.now placed.now form.now) }
+    ensures { IfOk result (λ o. o ≡ shares.device_with names.now posts.now placed.now form.now) }
 {
     match form {
         SceneLine::Device { name, .. } => {
             let name = name_number(names, name)?;
-            let part = DevicePosts {
-                names,
-                block: placed.at,
-            };
-            let posts: Items<PostLine, MANY> = gather(alloc, scene, &part)?;
+            let posts = posts_in(alloc, posts, placed.at)?;
             Ok(Some(AgentInfo { name, posts }))
         }
         _ => Ok(None),
     }
 }
 
+/// The devices as those that post, with their share of the posts of devices.
+#[derive(Drop)]
+pub struct Devices<'a> {
+    pub alloc: Global,
+    pub names: &'a Names,
+    pub posts: &'a [Posted],
+}
+
 impl Part for Devices<'_> {
     type Item = AgentInfo;
 
-    ghost part = { λ s p. parts.device_agent s.scene.now s.names.now p p.form };
+    ghost part = { λ s p. shares.device_with s.names.now s.posts.now p p.form };
 
     fn take(&self, line: &Placed) -> Result<Option<AgentInfo>, Memory> {
-        device_agent(self.alloc, self.scene, self.names, line, &line.form)
+        device_agent(self.alloc, self.names, self.posts, line, &line.form)
     }
 }
 

@@ -138,7 +138,7 @@ pub fn given_form(scene: &Scene, block: u32, attribute: Attribute) -> Option<Sce
 
 /// The level that the lines of a block give it, where it doesn't inherit.
 #[tactic(auto, unfolding(crate::specs::Blocks::given_level))]
-fn given_level(scene: &Scene, block: u32) -> Option<ExecutionLevel>
+pub fn given_level(scene: &Scene, block: u32) -> Option<ExecutionLevel>
     ensures { result ≡ blocks.given_level scene.now block }
 {
     match given_form(scene, block, Attribute::Level) {
@@ -149,7 +149,7 @@ fn given_level(scene: &Scene, block: u32) -> Option<ExecutionLevel>
 
 /// The scope that the lines of a block give it, where it doesn't inherit.
 #[tactic(auto, unfolding(crate::specs::Blocks::given_scope))]
-fn given_scope(scene: &Scene, block: u32) -> Option<Scope>
+pub fn given_scope(scene: &Scene, block: u32) -> Option<Scope>
     ensures { result ≡ blocks.given_scope scene.now block }
 {
     match given_form(scene, block, Attribute::Scope) {
@@ -160,7 +160,7 @@ fn given_scope(scene: &Scene, block: u32) -> Option<Scope>
 
 /// The line of the `driver` block, if there is one.
 #[tactic(auto, unfolding(crate::specs::Blocks::driver_line))]
-fn driver_line(scene: &Scene) -> Option<u32>
+pub fn driver_line(scene: &Scene) -> Option<u32>
     ensures value { result ≡ blocks.driver_line scene.now }
     ensures there { IfSome result (λ k. k < length scene.now.lines) }
 {
@@ -173,38 +173,4 @@ fn find_driver(lines: &[NumberedLine]) -> Option<usize>
     ensures there { IfSome result (λ k. k < length lines.now) }
 {
     lines.iter().position(|line| is_driver(&line.form))
-}
-
-/// The effective level of the device or the queue that line `block` declares.
-#[tactic(auto, unfolding(crate::specs::Blocks::effective_level))]
-pub fn effective_level(scene: &Scene, block: u32, device: Option<u32>) -> ExecutionLevel
-    ensures { result ≡ blocks.effective_level scene.now block device }
-{
-    if let Some(level) = given_level(scene, block) {
-        return level;
-    }
-    if let Some(level) = device.and_then(|device| given_level(scene, device)) {
-        return level;
-    }
-    match driver_line(scene) {
-        Some(driver) => given_level(scene, driver).unwrap_or(ExecutionLevel::Dispatch),
-        None => ExecutionLevel::Dispatch,
-    }
-}
-
-/// The effective scope of the device or the queue that line `block` declares.
-#[tactic(auto, unfolding(crate::specs::Blocks::effective_scope))]
-pub fn effective_scope(scene: &Scene, block: u32, device: Option<u32>) -> Scope
-    ensures { result ≡ blocks.effective_scope scene.now block device }
-{
-    if let Some(scope) = given_scope(scene, block) {
-        return scope;
-    }
-    if let Some(scope) = device.and_then(|device| given_scope(scene, device)) {
-        return scope;
-    }
-    match driver_line(scene) {
-        Some(driver) => given_scope(scene, driver).unwrap_or(Scope::Unscoped),
-        None => Scope::Unscoped,
-    }
 }

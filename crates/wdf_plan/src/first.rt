@@ -4,6 +4,7 @@ ghost use Rattle.wdf_plan.specs.Declarations.{declarations};
 ghost use Rattle.wdf_plan.specs.First as spec;
 
 use crate::declaration::{Declaration, declared_by};
+use crate::heritage::Heritage;
 use crate::limit::exceeded;
 use crate::names::Names;
 use crate::placed::Placed;
@@ -19,14 +20,15 @@ use wdf_scene::Scene;
 
 #[tactic(auto, unfolding(crate::specs::First::refused))]
 fn refused(
-    scene: &Scene,
+    heritage: &Heritage,
     names: &Names,
     variables: &Variables,
     placed: &Placed,
 ) -> Option<PlanRefusal>
-    ensures { result ≡ spec.refused scene.now names.now variables.now placed.now }
+    ensures { result ≡ spec.refused heritage.now names.now variables.now placed.now }
 {
     let line = placed.number;
+    let scene = heritage.scene();
     if unknown_name(scene, names, variables, placed) {
         return Some(PlanRefusal::UnknownName { line });
     }
@@ -39,7 +41,7 @@ fn refused(
     if let Some(limit) = exceeded(names, variables, placed) {
         return Some(PlanRefusal::OverLimit { line, limit });
     }
-    if incompatible_level(scene, names, placed, &placed.form) {
+    if incompatible_level(heritage, names, placed, &placed.form) {
         return Some(PlanRefusal::IncompatibleLevel { line });
     }
     if no_parent(names, &placed.form) {
@@ -75,23 +77,23 @@ pub fn declared(alloc: Global, scene: &Scene) -> Result<Names, Memory>
 /// The refusal of the first line that has one.
 pub fn first_refusal(
     alloc: Global,
-    scene: &Scene,
+    heritage: &Heritage,
     names: &Names,
 ) -> Result<Option<PlanRefusal>, Memory>
-    requires { names.now ≡ declarations scene.now }
-    ensures { IfOk result (λ r. r ≡ spec.first_refusal scene.now) }
+    requires { names.now ≡ declarations heritage.now }
+    ensures { IfOk result (λ r. r ≡ spec.first_refusal heritage.now) }
 {
     let mut callback = None;
     let mut variables = Variables::new(alloc);
-    let mut walk = Walk::new(scene);
+    let mut walk = Walk::new(heritage.scene());
     while let Some(placed) = walk.next() {
         let next = placed.stand.callback;
-        variables = match entered(alloc, scene, callback, variables, next) {
+        variables = match entered(alloc, heritage.scene(), callback, variables, next) {
             Ok(entered) => entered,
             Err(error) => return Err(error),
         };
         callback = next;
-        match refused(scene, names, &variables, &placed) {
+        match refused(heritage, names, &variables, &placed) {
             Some(refusal) => return Ok(Some(refusal)),
             None => {}
         }

@@ -3,8 +3,9 @@ ghost use Rattle.std.specs.Prelude.{◌≡◌, IfOk};
 ghost use Rattle.wdf_plan.specs.Parts as parts;
 
 use crate::attribute::Attribute;
-use crate::block::{effective_level, effective_scope, given_form, has_given, ticks_in};
+use crate::block::{given_form, has_given, ticks_in};
 use crate::declaration::Wanted;
+use crate::heritage::Heritage;
 use crate::names::Names;
 use crate::numbers::{action_of, id_of, name_number, number_of};
 use crate::part::Part;
@@ -15,22 +16,23 @@ use wdf_base::{
 };
 use wdf_scene::{InterruptLevel, Scene, SceneLine};
 
-#[tactic(auto, unfolding(crate::specs::Parts::device_info))]
+#[tactic(auto, unfolding(crate::specs::Parts::device_info, crate::specs::Heritage::effective))]
 fn device_info(
-    scene: &Scene,
+    heritage: &Heritage,
     names: &Names,
     line: u32,
     name: &Name,
     working: bool,
 ) -> Result<DeviceInfo, Memory>
-    ensures { IfOk result (λ d. d ≡ parts.device_info scene.now names.now line name.now working) }
+    ensures { IfOk result (λ d. d ≡ parts.device_info heritage.now names.now line name.now working) }
 {
     let name = name_number(names, name)?;
+    let effective = heritage.effective(line, None);
     Ok(DeviceInfo {
         name,
         working,
-        scope: effective_scope(scene, line, None),
-        level: effective_level(scene, line, None),
+        scope: effective.scope,
+        level: effective.level,
     })
 }
 
@@ -46,19 +48,21 @@ fn serves(scene: &Scene, line: u32) -> Serves
     }
 }
 
-#[tactic(auto, unfolding(crate::specs::Parts::queue_info))]
+#[tactic(auto, unfolding(crate::specs::Parts::queue_info, crate::specs::Heritage::effective))]
 fn queue_info(
-    scene: &Scene,
+    heritage: &Heritage,
     names: &Names,
     placed: &Placed,
     line: u32,
     name: &Name,
     dispatch: DispatchKind,
 ) -> Result<QueueInfo, Memory>
-    ensures { IfOk result (λ q. q ≡ parts.queue_info scene.now names.now placed.now.stand.device placed.now.counts.device line name.now dispatch) }
+    ensures { IfOk result (λ q. q ≡ parts.queue_info heritage.now names.now placed.now.stand.device placed.now.counts.device line name.now dispatch) }
 {
     let name = name_number(names, name)?;
     let device = id_of(placed.counts.device)?;
+    let scene = heritage.scene();
+    let effective = heritage.effective(line, placed.stand.device);
     Ok(QueueInfo {
         name,
         device,
@@ -66,8 +70,8 @@ fn queue_info(
         serves: serves(scene, line),
         powered: !has_given(scene, line, Attribute::PowerOff),
         zero: has_given(scene, line, Attribute::Zero),
-        scope: effective_scope(scene, line, placed.stand.device),
-        level: effective_level(scene, line, placed.stand.device),
+        scope: effective.scope,
+        level: effective.level,
     })
 }
 
@@ -130,22 +134,22 @@ fn target_info(
 /// The object that line `line` declares, where `placed` is this line or stands in its block.
 #[tactic(auto, unfolding(crate::specs::Parts::object_of))]
 pub fn object_of(
-    scene: &Scene,
+    heritage: &Heritage,
     names: &Names,
     placed: &Placed,
     line: u32,
     form: &SceneLine,
 ) -> Result<Option<Declared>, Memory>
-    ensures { IfOk result (λ o. o ≡ parts.object_of scene.now names.now placed.now line form.now) }
+    ensures { IfOk result (λ o. o ≡ parts.object_of heritage.now names.now placed.now line form.now) }
 {
     let device = placed.counts.device;
     match form {
         SceneLine::Device { name, working } => {
-            let info = device_info(scene, names, line, name, *working)?;
+            let info = device_info(heritage, names, line, name, *working)?;
             Ok(Some(Declared::Device(info)))
         }
         SceneLine::Queue { name, dispatch } => {
-            let info = queue_info(scene, names, placed, line, name, *dispatch)?;
+            let info = queue_info(heritage, names, placed, line, name, *dispatch)?;
             Ok(Some(Declared::Queue(info)))
         }
         SceneLine::Interrupt { name, level } => {
@@ -168,17 +172,17 @@ pub fn object_of(
 /// The declared objects.
 #[derive(Drop)]
 pub struct Objects<'a> {
-    pub scene: &'a Scene,
+    pub heritage: &'a Heritage<'a>,
     pub names: &'a Names,
 }
 
 impl Part for Objects<'_> {
     type Item = Declared;
 
-    ghost part = { λ s. parts.object_on s.scene.now s.names.now };
+    ghost part = { λ s. parts.object_on s.heritage.now s.names.now };
 
     fn take(&self, line: &Placed) -> Result<Option<Declared>, Memory> {
-        object_of(self.scene, self.names, line, line.at, &line.form)
+        object_of(self.heritage, self.names, line, line.at, &line.form)
     }
 }
 

@@ -1,19 +1,24 @@
 //! The plan of a scene, or the first reason why it has none.
 ghost use Rattle.std.specs.Prelude.{◌≡◌, ◌++◌, ◌∷◌, [], ◌⊎◌, IfOk, IfErr, OnOk, Option, Some, None, MatchResult, codes, map};
+ghost use Rattle.wdf_base.specs.Resolved.{IsResolved};
+ghost use Rattle.wdf_scene.specs.Naming.{HasProperNames};
+ghost use Rattle.wdf_scene.specs.Written.{IsScene};
 ghost use Rattle.wdf_plan.specs.Blocks.{form_at};
 ghost use Rattle.wdf_plan.specs.Declarations.{declarations};
 ghost use Rattle.wdf_plan.specs.First as first;
 ghost use Rattle.wdf_plan.specs.Plans as plans;
 
-use crate::agents::{Apps, Devices, PnpPosts, Targets};
+use crate::agents::{AppPosts, Apps, DevicePosts, Devices, PnpPosts, Targets};
 use crate::block::form_at;
 use crate::declaration::Declaration;
 use crate::first::{declared, first_refusal};
+use crate::heritage::Heritage;
 use crate::names::Names;
 use crate::nodes::{all_nodes, all_picks};
 use crate::numbers::add;
 use crate::objects::{Classes, Objects, Registers, Whens};
 use crate::part::{gather, gather_behind};
+use crate::posts::Posted;
 use crate::refusal::PlanRefusal;
 use crate::writer::Scripts;
 use std::alloc::Global;
@@ -79,12 +84,16 @@ fn all_names(alloc: Global, all: &[Declaration]) -> Result<Items<Name, MANY>, Me
     Ok(names)
 }
 
-fn all_objects(alloc: Global, scene: &Scene, names: &Names) -> Result<Items<Declared, MANY>, Memory>
-    ensures { IfOk result (λ d. d ≡ plans.all_objects scene.now names.now) }
+fn all_objects(
+    alloc: Global,
+    heritage: &Heritage,
+    names: &Names,
+) -> Result<Items<Declared, MANY>, Memory>
+    ensures { IfOk result (λ d. d ≡ plans.all_objects heritage.now names.now) }
 {
     let mut objects = Items::new(alloc);
     add(&mut objects, Declared::Driver)?;
-    gather_behind(scene, &Objects { scene, names }, &mut objects)?;
+    gather_behind(heritage.scene(), &Objects { heritage, names }, &mut objects)?;
     Ok(objects)
 }
 
@@ -92,36 +101,33 @@ fn all_agents(alloc: Global, scene: &Scene, names: &Names) -> Result<Items<Agent
     ensures { IfOk result (λ a. a ≡ plans.all_agents scene.now names.now) }
 {
     let mut agents = Items::new(alloc);
-    gather_behind(
-        scene,
-        &Apps {
-            alloc,
-            scene,
-            names,
-        },
-        &mut agents,
-    )?;
-    gather_behind(
-        scene,
-        &Devices {
-            alloc,
-            scene,
-            names,
-        },
-        &mut agents,
-    )?;
+    let posts: Items<Posted, MANY> = gather(alloc, scene, &AppPosts { names })?;
+    let apps = Apps {
+        alloc,
+        names,
+        posts: posts.as_slice(),
+    };
+    gather_behind(scene, &apps, &mut agents)?;
+    let posts: Items<Posted, MANY> = gather(alloc, scene, &DevicePosts { names })?;
+    let devices = Devices {
+        alloc,
+        names,
+        posts: posts.as_slice(),
+    };
+    gather_behind(scene, &devices, &mut agents)?;
     gather_behind(scene, &Targets { alloc, names }, &mut agents)?;
     Ok(agents)
 }
 
-fn plan_with(alloc: Global, scene: &Scene, names: &Names) -> Result<Plan, Memory>
-    ensures { IfOk result (λ p. p ≡ plans.plan_with scene.now names.now) }
+fn plan_with(alloc: Global, heritage: &Heritage, names: &Names) -> Result<Plan, Memory>
+    ensures { IfOk result (λ p. p ≡ plans.plan_with heritage.now names.now) }
 {
+    let scene = heritage.scene();
     let cpus = cpus_at(scene, 0)?;
     let limit = header_at(scene, 1)?;
     let objects = header_at(scene, 2)?;
     let all = all_names(alloc, names.as_slice())?;
-    let declared = all_objects(alloc, scene, names)?;
+    let declared = all_objects(alloc, heritage, names)?;
     let classes = gather(alloc, scene, &Classes { scene, names })?;
     let registers = gather(alloc, scene, &Registers { names })?;
     let whens = gather(alloc, scene, &Whens { names })?;
@@ -133,7 +139,7 @@ fn plan_with(alloc: Global, scene: &Scene, names: &Names) -> Result<Plan, Memory
         scene,
         &Scripts {
             alloc,
-            scene,
+            heritage,
             names,
         },
     )?;
@@ -161,10 +167,11 @@ fn outcome(alloc: Global, scene: &Scene) -> Result<Result<Plan, PlanRefusal>, Me
     ensures { IfOk result (λ r. MatchResult r (λ p. (first.first_refusal scene.now ≡ None) × (p ≡ plans.plan_of scene.now)) (λ e. first.first_refusal scene.now ≡ Some e)) }
 {
     let names = declared(alloc, scene)?;
-    match first_refusal(alloc, scene, &names)? {
+    let heritage = Heritage::new(alloc, scene)?;
+    match first_refusal(alloc, &heritage, &names)? {
         Some(refusal) => Ok(Err(refusal)),
         None => {
-            let plan = plan_with(alloc, scene, &names)?;
+            let plan = plan_with(alloc, &heritage, &names)?;
             Ok(Ok(plan))
         }
     }
@@ -180,6 +187,8 @@ pub fn resolve(alloc: Global, scene: &Scene) -> Result<Plan, PlanRefusal>
     ensures plan { IfOk result (λ p. p ≡ plans.plan_of scene.now) }
     ensures accepted { OnOk result (first.first_refusal scene.now ≡ None) }
     ensures refused { IfErr result (λ e. (e ≡ PlanRefusal.Memory) ⊎ (first.first_refusal scene.now ≡ Some e)) }
+    // For a scene that stands for a text: the plan has all that the crates above rely on.
+    ensures resolved { IsScene scene.now → HasProperNames scene.now → IfOk result (λ p. IsResolved p) }
 {
     match outcome(alloc, scene) {
         Ok(answer) => answer,

@@ -8,6 +8,7 @@ ghost use Rattle.wdf_plan.specs.Scripts as scripts;
 use crate::block::form_at;
 use crate::course::Nest;
 use crate::declaration::Wanted;
+use crate::heritage::Heritage;
 use crate::names::Names;
 use crate::numbers::{add_found, number_of};
 use crate::objects::object_of;
@@ -100,13 +101,13 @@ pub fn statements_of(
 
 #[tactic(auto, unfolding(crate::specs::Scripts::block_owner))]
 fn block_owner(
-    scene: &Scene,
+    heritage: &Heritage,
     names: &Names,
     placed: &Placed,
     block: u32,
     form: &SceneLine,
 ) -> Result<Option<Declared>, Memory>
-    ensures { IfOk result (λ o. o ≡ scripts.block_owner scene.now names.now placed.now block form.now) }
+    ensures { IfOk result (λ o. o ≡ scripts.block_owner heritage.now names.now placed.now block form.now) }
 {
     match form {
         SceneLine::Class { name, kind } => {
@@ -117,22 +118,22 @@ fn block_owner(
             let class = class_word(number_of(names, name, Wanted::ClassOf(kind.kind())))?;
             Ok(Some(Declared::OfClass(class)))
         }
-        _ => object_of(scene, names, placed, block, form),
+        _ => object_of(heritage, names, placed, block, form),
     }
 }
 
 #[tactic(auto, unfolding(crate::specs::Scripts::owner_of))]
 fn owner_of(
-    scene: &Scene,
+    heritage: &Heritage,
     names: &Names,
     placed: &Placed,
     block: Option<u32>,
 ) -> Result<Option<Declared>, Memory>
-    ensures { IfOk result (λ o. o ≡ scripts.owner_of scene.now names.now placed.now block) }
+    ensures { IfOk result (λ o. o ≡ scripts.owner_of heritage.now names.now placed.now block) }
 {
     match block {
-        Some(block) => match form_at(scene, block) {
-            Some(form) => block_owner(scene, names, placed, block, &form),
+        Some(block) => match form_at(heritage.scene(), block) {
+            Some(form) => block_owner(heritage, names, placed, block, &form),
             None => Ok(None),
         },
         None => Ok(None),
@@ -142,19 +143,19 @@ fn owner_of(
 #[tactic(auto, unfolding(crate::specs::Scripts::script_on))]
 fn script_on(
     alloc: Global,
-    scene: &Scene,
+    heritage: &Heritage,
     names: &Names,
     placed: &Placed,
     form: &SceneLine,
 ) -> Result<Option<Script>, Memory>
-    ensures { IfOk result (λ s. s ≡ scripts.script_on scene.now names.now placed.now form.now) }
+    ensures { IfOk result (λ s. s ≡ scripts.script_on heritage.now names.now placed.now form.now) }
 {
     match form {
         SceneLine::On { callback } => {
-            let owner = owner_of(scene, names, placed, placed.stand.block)?;
+            let owner = owner_of(heritage, names, placed, placed.stand.block)?;
             match owner {
                 Some(owner) => {
-                    let statements = statements_of(alloc, scene, names, placed.at)?;
+                    let statements = statements_of(alloc, heritage.scene(), names, placed.at)?;
                     Ok(Some(Script {
                         callback: *callback,
                         owner,
@@ -173,16 +174,16 @@ fn script_on(
 #[derive(Drop)]
 pub struct Scripts<'a> {
     pub alloc: Global,
-    pub scene: &'a Scene,
+    pub heritage: &'a Heritage<'a>,
     pub names: &'a Names,
 }
 
 impl Part for Scripts<'_> {
     type Item = Script;
 
-    ghost part = { λ s p. scripts.script_on s.scene.now s.names.now p p.form };
+    ghost part = { λ s p. scripts.script_on s.heritage.now s.names.now p p.form };
 
     fn take(&self, line: &Placed) -> Result<Option<Script>, Memory> {
-        script_on(self.alloc, self.scene, self.names, line, &line.form)
+        script_on(self.alloc, self.heritage, self.names, line, &line.form)
     }
 }

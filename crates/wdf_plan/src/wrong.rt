@@ -6,9 +6,10 @@ ghost use Rattle.wdf_plan.specs.Declarations.{is_parent_at};
 ghost use Rattle.wdf_plan.specs.Rows as rows;
 
 use crate::attribute::Attribute;
-use crate::block::{effective_level, form_at, has_given};
+use crate::block::{form_at, has_given};
 use crate::declaration::{Declaration, Wanted};
 use crate::forms::block_kind;
+use crate::heritage::Heritage;
 use crate::names::{Names, is_wanted};
 use crate::placed::Placed;
 use wdf_base::{Callback, DeferredKind, ExecutionLevel, Name, Owner, same_execution_level};
@@ -163,70 +164,76 @@ fn serial_level(kind: DeferredKind) -> ExecutionLevel
     }
 }
 
+#[tactic(auto, unfolding(crate::specs::Heritage::effective))]
 fn is_parent_at(
-    scene: &Scene,
+    heritage: &Heritage,
     level: ExecutionLevel,
     name: &Name,
     declaration: &Declaration,
 ) -> bool
-    ensures { result ≡ is_parent_at scene.now level name.now declaration.now }
+    ensures { result ≡ is_parent_at heritage.now level name.now declaration.now }
 {
     is_wanted(declaration, name, Wanted::Parent)
         && same_execution_level(
-            effective_level(scene, declaration.at, declaration.device),
+            heritage.effective(declaration.at, declaration.device).level,
             level,
         )
 }
 
 fn any_parent_at(
-    scene: &Scene,
+    heritage: &Heritage,
     level: ExecutionLevel,
     name: &Name,
     declarations: &[Declaration],
 ) -> bool
-    ensures { result ≡ list_any (is_parent_at scene.now level name.now) declarations.now }
+    ensures { result ≡ list_any (is_parent_at heritage.now level name.now) declarations.now }
 {
-    declarations.iter().any(|declaration| is_parent_at(scene, level, name, declaration))
+    declarations.iter().any(|declaration| is_parent_at(heritage, level, name, declaration))
 }
 
 #[tactic(auto, unfolding(crate::specs::Rows::unlike_parent))]
-fn unlike_parent(scene: &Scene, names: &Names, kind: DeferredKind, parent: &Name) -> bool
-    ensures { result ≡ rows.unlike_parent scene.now names.now kind parent.now }
+fn unlike_parent(heritage: &Heritage, names: &Names, kind: DeferredKind, parent: &Name) -> bool
+    ensures { result ≡ rows.unlike_parent heritage.now names.now kind parent.now }
 {
     names.stands(parent, Wanted::Parent)
-        && !any_parent_at(scene, serial_level(kind), parent, names.as_slice())
+        && !any_parent_at(heritage, serial_level(kind), parent, names.as_slice())
 }
 
 #[tactic(auto, unfolding(crate::specs::Rows::unlike_block))]
-fn unlike_block(scene: &Scene, names: &Names, form: &SceneLine) -> bool
-    ensures { result ≡ rows.unlike_block scene.now names.now form.now }
+fn unlike_block(heritage: &Heritage, names: &Names, form: &SceneLine) -> bool
+    ensures { result ≡ rows.unlike_block heritage.now names.now form.now }
 {
     match form {
         SceneLine::DeferredClass {
             kind,
             parent: Some(parent),
             ..
-        } => unlike_parent(scene, names, *kind, parent),
+        } => unlike_parent(heritage, names, *kind, parent),
         _ => false,
     }
 }
 
-fn block_is_unlike(scene: &Scene, names: &Names, block: Option<u32>) -> bool
-    ensures { result ≡ rows.block_is (rows.unlike_block scene.now names.now) scene.now block }
+fn block_is_unlike(heritage: &Heritage, names: &Names, block: Option<u32>) -> bool
+    ensures { result ≡ rows.block_is (rows.unlike_block heritage.now names.now) heritage.now block }
 {
-    match block_form(scene, block) {
-        Some(form) => unlike_block(scene, names, &form),
+    match block_form(heritage.scene(), block) {
+        Some(form) => unlike_block(heritage, names, &form),
         None => false,
     }
 }
 
 /// Whether the line serializes a class whose parent's effective level doesn't allow it.
 #[tactic(auto, unfolding(crate::specs::Rows::incompatible_level))]
-pub fn incompatible_level(scene: &Scene, names: &Names, placed: &Placed, form: &SceneLine) -> bool
-    ensures { result ≡ rows.incompatible_level scene.now names.now placed.now form.now }
+pub fn incompatible_level(
+    heritage: &Heritage,
+    names: &Names,
+    placed: &Placed,
+    form: &SceneLine,
+) -> bool
+    ensures { result ≡ rows.incompatible_level heritage.now names.now placed.now form.now }
 {
     match form {
-        SceneLine::Serialize => block_is_unlike(scene, names, placed.stand.block),
+        SceneLine::Serialize => block_is_unlike(heritage, names, placed.stand.block),
         _ => false,
     }
 }

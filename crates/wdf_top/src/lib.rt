@@ -2,6 +2,7 @@
 #![tactic(auto)]
 
 mod input;
+mod laws;
 mod message;
 mod order;
 mod refusal;
@@ -11,6 +12,7 @@ mod top;
 mod trace;
 mod words;
 
+pub use laws::plans_of_texts_are_resolved;
 pub use top::top_plain;
 
 #[cfg(test)]

@@ -9,7 +9,7 @@ use Rattle.wdf_plan.proofs.first.first_refusal.Given as goal
 use Rattle.wdf_plan.proofs.Firsts.{IsUnderway}
 
 abbrev pub invariant-loop-placed : goal.invariant-loop-placed
-invariant-loop-placed l = IsUnderway l.scene l.walk l.callback l.variables
+invariant-loop-placed l = IsUnderway l.heritage l.walk l.callback l.variables
 
 abbrev pub decreases-loop-placed : goal.decreases-loop-placed
 decreases-loop-placed l = length l.walk

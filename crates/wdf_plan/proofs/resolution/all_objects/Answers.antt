@@ -5,4 +5,4 @@ use Rattle.wdf_plan.proofs.resolution.all_objects.Goals as goal
 pub returns : goal.returns
 unfolding all_objects
 returns c =
-    rw (c.in_ok-gather_behind.ensures, c.in_ok-add.ensures, c.new-objects.ensures) refl
+    rw (c.in_ok-gather_behind.ensures, c.in_ok-add.ensures, c.new-objects.ensures, c.scene.ensures) refl

@@ -1,0 +1,66 @@
+-- Each agent's share of all posts is what the lines of its block post.
+use Rattle.std.proofs.Common.{◌≡◌, ℕ, ◌+◌, ◌<◌, Bool, true, false, cond, List, [], ◌∷◌, ◌++◌, take, length, get_or, Option, Some, None, refl, ap, ◌∙◌, add-one}
+use Rattle.std.proofs.Math.Seq.{take-suc}
+use Rattle.std.proofs.lemmas.List.Elements.{filter_map-append}
+use Rattle.std.specs.Option.{option_to_list}
+use Rattle.std.specs.Prelude.{option_and_then, ◌==◌}
+use Rattle.std.specs.List.{filter_map, cons_option}
+use Rattle.wdf_base.specs.declared.declared.PostLine.{PostLine}
+use Rattle.wdf_base.specs.declared.script.AgentInfo.{AgentInfo}
+use Rattle.wdf_base.specs.Same.{same_option}
+use Rattle.wdf_scene.specs.declared.line.SceneLine.{SceneLine}
+use Rattle.wdf_scene.specs.declared.line.SceneLine.TheVariants as line
+use Rattle.wdf_scene.specs.declared.scene.Scene.{Scene}
+use Rattle.wdf_plan.specs.declared.declaration.Declaration.{Declaration}
+use Rattle.wdf_plan.specs.declared.placed.Placed.{Placed}
+use Rattle.wdf_plan.specs.declared.posts.Posted.{Posted}
+use Rattle.wdf_plan.specs.Numbers.{name_number}
+use Rattle.wdf_plan.specs.Parts.{agent, app_post, app_post_in, app_agent, device_post, device_post_in, device_agent, target_agent}
+use Rattle.wdf_plan.specs.Placed.{placed}
+use Rattle.wdf_plan.specs.Plans.{all_agents}
+use Rattle.wdf_plan.specs.Posts.{posted, app_posted, device_posted, post_in, app_with, device_with}
+use Rattle.wdf_plan.proofs.Every.{composed}
+
+none_in : {T : Type 0} (t : Bool) → None ≡ cond {A = Option T} t None None
+none_in true = refl
+none_in false = refl
+
+-- a post is its block's and no other's
+share : (block : Option ℕ) (b : ℕ) (post : Option PostLine) → option_and_then (post_in b) (posted block post) ≡ cond (same_option ◌==◌ block (Some b)) post None
+unfolding posted post_in
+share block b None = none_in (same_option ◌==◌ block (Some b))
+share block b (Some x) = refl
+
+app_same : (scene : Scene) (names : List Declaration) (p : Placed) (form : SceneLine) → app_with names (filter_map (app_posted names) (placed scene)) p form ≡ app_agent scene names p form
+unfolding app_with app_agent
+app_same scene names p (line.App n) =
+    ap (λ posts. Some (agent (name_number names n) posts)) (composed (app_posted names) (post_in p.at) (app_post_in names p.at) (λ q. share q.stand.block p.at (app_post names q.number q.form)) (placed scene))
+app_same scene names p _ = refl
+
+device_same : (scene : Scene) (names : List Declaration) (p : Placed) (form : SceneLine) → device_with names (filter_map (device_posted names) (placed scene)) p form ≡ device_agent scene names p form
+unfolding device_with device_agent
+device_same scene names p (line.Device n working) =
+    ap (λ posts. Some (agent (name_number names n) posts)) (composed (device_posted names) (post_in p.at) (device_post_in names p.at) (λ q. share q.stand.block p.at (device_post names q.number q.stand.device q.form)) (placed scene))
+device_same scene names p _ = refl
+
+pub kept_same : {P T : Type 0} (f g : P → Option T) → ((p : P) → f p ≡ g p) → (ps : List P) → filter_map f ps ≡ filter_map g ps
+kept_same f g e [] = refl
+kept_same f g e (p ∷ ps) = rw (e p, kept_same f g e ps) refl
+
+pub apps_same : (scene : Scene) (names : List Declaration) → filter_map (λ p. app_with names (filter_map (app_posted names) (placed scene)) p p.form) (placed scene) ≡ filter_map (λ p. app_agent scene names p p.form) (placed scene)
+apps_same scene names =
+    kept_same (λ p. app_with names (filter_map (app_posted names) (placed scene)) p p.form) (λ p. app_agent scene names p p.form) (λ p. app_same scene names p p.form) (placed scene)
+
+pub devices_same : (scene : Scene) (names : List Declaration) → filter_map (λ p. device_with names (filter_map (device_posted names) (placed scene)) p p.form) (placed scene) ≡ filter_map (λ p. device_agent scene names p p.form) (placed scene)
+devices_same scene names =
+    kept_same (λ p. device_with names (filter_map (device_posted names) (placed scene)) p p.form) (λ p. device_agent scene names p p.form) (λ p. device_same scene names p p.form) (placed scene)
+
+-- ---- a share is taken post by post
+
+as_list : {T : Type 0} (o : Option T) → cons_option o [] ≡ option_to_list o
+as_list None = refl
+as_list (Some x) = refl
+
+pub share_more : (b : ℕ) (all : List Posted) (k : ℕ) (d : Posted) (so_far so_far' : List PostLine) (o : Option PostLine) → k < length all → so_far ≡ filter_map (post_in b) (take k all) → o ≡ post_in b (get_or all k d) → so_far' ≡ so_far ++ option_to_list o → so_far' ≡ filter_map (post_in b) (take (k + 1) all)
+share_more b all k d so_far so_far' o h e is grown =
+    rw (add-one, take-suc all k d h, filter_map-append, grown, e, is, ← as_list (post_in b (get_or all k d))) refl

@@ -1,0 +1,52 @@
+//! The posts of all lines, each with its block, so that no agent looks at the lines of another.
+ghost use Rattle.std.specs.Prelude.{◌≡◌, IfOk};
+ghost use Rattle.std.specs.List.{filter_map};
+ghost use Rattle.wdf_plan.specs.Posts as spec;
+
+use crate::declaration::same_line;
+use crate::numbers::add_found;
+use std::alloc::Global;
+use wdf_base::{Items, MANY, Memory, PostLine};
+
+/// A post, and the line of the block in which it stands.
+#[derive(Clone, Copy, Debug, PartialEq, Eq)]
+pub struct Posted {
+    pub block: Option<u32>,
+    pub post: PostLine,
+}
+
+/// A post with the block of its line.
+#[tactic(auto, unfolding(crate::specs::Posts::posted))]
+pub fn with_block(block: Option<u32>, post: Option<PostLine>) -> Option<Posted>
+    ensures { result ≡ spec.posted block post }
+{
+    match post {
+        Some(post) => Some(Posted { block, post }),
+        None => None,
+    }
+}
+
+#[tactic(auto, unfolding(crate::specs::Posts::post_in))]
+fn post_in(posted: &Posted, block: u32) -> Option<PostLine>
+    ensures { result ≡ spec.post_in block posted.now }
+{
+    if same_line(posted.block, Some(block)) {
+        Some(posted.post)
+    } else {
+        None
+    }
+}
+
+/// The posts of one block, in the order of their lines.
+pub fn posts_in(alloc: Global, all: &[Posted], block: u32) -> Result<Items<PostLine, MANY>, Memory>
+    ensures { IfOk result (λ v. v ≡ filter_map (spec.post_in block) all.now) }
+{
+    let mut posts = Items::new(alloc);
+    for posted in all {
+        match add_found(&mut posts, post_in(posted, block)) {
+            Ok(()) => {}
+            Err(error) => return Err(error),
+        }
+    }
+    Ok(posts)
+}
