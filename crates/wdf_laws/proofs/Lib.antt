@@ -1,0 +1,11 @@
+pub mod Totals
+pub mod Forgotten
+pub mod Holding
+pub mod Releases
+pub mod HeldPlaces
+pub mod HeldMoves
+pub mod HeldByDeeds
+pub mod HeldOverRuns
+pub mod Exchanges
+pub mod PowerQueues
+pub mod Unsettled
