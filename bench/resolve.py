@@ -6,7 +6,7 @@ Not part of the gate. Prove and build the program first (`rt ci`), then from the
     python3 bench/resolve.py [PROGRAM]
 
 Each scenario fills limits: 4,096 statements, 4,096 posts, 254 apps, 255 classes, 64 registers, 4,096
-objects. The word `check` reads, parses, resolves and prints it. The same text with an open block at
+objects. The last two ask for what thousands of queues inherit from their device. The word `check` reads, parses, resolves and prints it. The same text with an open block at
 its end is read and parsed alone, and the same with a name that is declared twice at its end is
 resolved up to that line: so the differences tell what the search for a refusal takes, and what the
 plan and the printing take. Figures are of the best of five runs: seconds of the processor, and the most
@@ -78,11 +78,14 @@ def device_lines(count):
     return lines + ["end"]
 
 
-def queues(count):
-    """A device with `count` queues."""
+def queues(count, callbacks=()):
+    """A device with `count` queues, each with these callbacks."""
     lines = ["device D"]
     for number in range(count):
-        lines += [f"queue Q{number} manual", "power off", "end"]
+        lines += [f"queue Q{number} manual", "power off"]
+        for callback in callbacks:
+            lines += [f"on {callback}", "end"]
+        lines.append("end")
     return lines + ["end"]
 
 
@@ -94,6 +97,7 @@ SCENARIOS = {
     "4,096 posts of a device, 64 registers": device_lines(4096),
     "all at once": statements(2048) + callbacks(2048)[2:] + posts(7, 254, 4096),
     "4,094 queues of a device": queues(4094),
+    "4,094 queues with two callbacks each": queues(4094, ["EvtIoRead", "EvtIoWrite"]),
 }
 
 

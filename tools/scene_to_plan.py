@@ -337,31 +337,32 @@ class Scene:
         return f"event.Posted {agent} ({self.post(t)}) {answer}"
 
     def cpu_event(self, cpu, w):
-        kind = w[0]
-        if kind == "start":
-            request = f"(Some {self.printed(w[3])})" if len(w) > 3 else "None"
-            return f"event.Start {cpu} callback.{w[1]} {self.printed(w[2])} {request}"
-        if kind == "step":
-            return f"event.Local {cpu} {w[1]}"
-        if kind == "log":
-            return f"event.Log {cpu} {self.value(w[1])}"
-        if kind == "spend":
-            return f"event.Spend {cpu} {w[1]}"
-        if kind == "get":
-            return f"event.Register {cpu} access.Read {self.register(w[1])} {w[3]}"
-        if kind == "put":
-            return f"event.Register {cpu} access.Write {self.register(w[1])} {w[2]}"
-        if kind == "call":
-            return f"event.Did {cpu} {self.call(w[1:-2])} {self.value(w[-1])}"
-        if kind == "wait":
-            return f"event.Waiting {cpu} {self.call(w[1:])}"
-        if kind == "woke":
-            return f"event.Woke {cpu} {self.call(w[1:-2])} {self.value(w[-1])}"
-        if kind in ("park", "unpark"):
-            return f"event.{kind.capitalize()} {cpu} (f {w[1]})"
-        if kind == "end":
-            return f"event.End {cpu} callback.{w[1]} {self.printed(w[2])} {self.value(w[3])}"
-        return f"event.Fault {cpu} fault.{w[1]} {w[2]}"
+        match w:
+            case ["start", callback, owner, *request]:
+                about = f"(Some {self.printed(request[0])})" if request else "None"
+                return f"event.Start {cpu} callback.{callback} {self.printed(owner)} {about}"
+            case ["step", line]:
+                return f"event.Local {cpu} {line}"
+            case ["log", value]:
+                return f"event.Log {cpu} {self.value(value)}"
+            case ["spend", ticks]:
+                return f"event.Spend {cpu} {ticks}"
+            case ["get", register, _, value]:
+                return f"event.Register {cpu} access.Read {self.register(register)} {value}"
+            case ["put", register, value]:
+                return f"event.Register {cpu} access.Write {self.register(register)} {value}"
+            case ["call", *call, _, value]:
+                return f"event.Did {cpu} {self.call(call)} {self.value(value)}"
+            case ["wait", *call]:
+                return f"event.Waiting {cpu} {self.call(call)}"
+            case ["woke", *call, _, value]:
+                return f"event.Woke {cpu} {self.call(call)} {self.value(value)}"
+            case ["park" | "unpark" as kind, frame]:
+                return f"event.{kind.capitalize()} {cpu} (f {frame})"
+            case ["end", callback, owner, value]:
+                return f"event.End {cpu} callback.{callback} {self.printed(owner)} {self.value(value)}"
+            case ["fault", fault, line]:
+                return f"event.Fault {cpu} fault.{fault} {line}"
 
     def framework_event(self, w):
         if w[0] == "stage":

@@ -31,7 +31,7 @@ deal v i = record { view = v; about = i }
 abbrev pub fault_in_deal : Deal → Option Fault
 fault_in_deal d = fault_of d.view d.about
 
--- the queue 3 and its request 5
+-- with these ids: the queue has 3, its request 5
 abbrev pub thing : ℕ → Handle
 thing id = record { id = record { 0 = id }; name = 0 }
 
