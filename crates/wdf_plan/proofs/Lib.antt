@@ -16,6 +16,7 @@ pub mod Distinct
 pub mod Every
 pub mod ExprFacts
 pub mod Firsts
+pub mod Flows
 pub mod FreeNames
 pub mod Gather
 pub mod Gathered
@@ -39,6 +40,7 @@ pub mod OwnLines
 pub mod OwnNames
 pub mod Owners
 pub mod Parents
+pub mod Passing
 pub mod Places
 pub mod PostCounts
 pub mod PostFacts
@@ -53,6 +55,7 @@ pub mod Stacking
 pub mod Stacks
 pub mod StatementCounts
 pub mod Statements
+pub mod Trees
 pub mod Uses
 pub mod VariableFacts
 pub mod Walks

@@ -1,12 +1,11 @@
 -- Each agent's share of all posts is what the lines of its block post.
-use Rattle.std.proofs.Common.{◌≡◌, ℕ, ◌+◌, ◌<◌, Bool, true, false, cond, List, [], ◌∷◌, ◌++◌, take, length, get_or, Option, Some, None, refl, ap, ◌∙◌, add-one}
+use Rattle.std.proofs.Common.{◌≡◌, ℕ, ◌+◌, ◌<◌, Bool, true, false, cond, List, [], ◌∷◌, ◌++◌, take, length, get_or, Option, Some, None, refl, ap, add-one}
 use Rattle.std.proofs.Math.Seq.{take-suc}
 use Rattle.std.proofs.lemmas.List.Elements.{filter_map-append}
 use Rattle.std.specs.Option.{option_to_list}
 use Rattle.std.specs.Prelude.{option_and_then, ◌==◌}
 use Rattle.std.specs.List.{filter_map, cons_option}
 use Rattle.wdf_base.specs.declared.declared.PostLine.{PostLine}
-use Rattle.wdf_base.specs.declared.script.AgentInfo.{AgentInfo}
 use Rattle.wdf_base.specs.Same.{same_option}
 use Rattle.wdf_scene.specs.declared.line.SceneLine.{SceneLine}
 use Rattle.wdf_scene.specs.declared.line.SceneLine.TheVariants as line
@@ -15,9 +14,8 @@ use Rattle.wdf_plan.specs.declared.declaration.Declaration.{Declaration}
 use Rattle.wdf_plan.specs.declared.placed.Placed.{Placed}
 use Rattle.wdf_plan.specs.declared.posts.Posted.{Posted}
 use Rattle.wdf_plan.specs.Numbers.{name_number}
-use Rattle.wdf_plan.specs.Parts.{agent, app_post, app_post_in, app_agent, device_post, device_post_in, device_agent, target_agent}
+use Rattle.wdf_plan.specs.Parts.{agent, app_post, app_post_in, app_agent, device_post, device_post_in, device_agent}
 use Rattle.wdf_plan.specs.Placed.{placed}
-use Rattle.wdf_plan.specs.Plans.{all_agents}
 use Rattle.wdf_plan.specs.Posts.{posted, app_posted, device_posted, post_in, app_with, device_with}
 use Rattle.wdf_plan.proofs.Every.{composed}
 

@@ -1,5 +1,5 @@
 -- The plan of a scene that stands for a text, and in which nothing is refused, is a resolved plan.
-use Rattle.std.proofs.Common.{◌≡◌, Option, None, Result, Ok, Err, IfOk, MatchResult}
+use Rattle.std.proofs.Common.{◌≡◌, None, Result, Ok, Err, IfOk, MatchResult}
 use Rattle.wdf_base.specs.declared.plan.Plan.{Plan}
 use Rattle.wdf_base.specs.Resolved.{IsResolved}
 use Rattle.wdf_scene.specs.declared.scene.Scene.{Scene}

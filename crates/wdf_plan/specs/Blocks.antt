@@ -1,7 +1,6 @@
 -- What the lines of one block give.
-use Rattle.std.specs.Prelude.{Bool, true, false, ℕ, zero, suc, ◌-◌, ◌||◌, cond, List, [], ◌∷◌, drop, Option, Some, None, option_map, option_and_then, slice_get, position}
+use Rattle.std.specs.Prelude.{Bool, false, ℕ, zero, suc, ◌-◌, cond, List, [], ◌∷◌, drop, Option, Some, None, option_map, option_and_then, slice_get, position}
 use Rattle.std.specs.Option.{is_some, option_or, unwrap_or}
-use Rattle.wdf_base.specs.declared.call.Callback.{Callback}
 use Rattle.wdf_base.specs.declared.declared.ExecutionLevel.{ExecutionLevel}
 use Rattle.wdf_base.specs.declared.declared.ExecutionLevel.TheVariants as level
 use Rattle.wdf_base.specs.declared.declared.Scope.{Scope}

@@ -1,7 +1,7 @@
 -- What a scene declares, and what a name stands for.
-use Rattle.std.specs.Prelude.{Bool, true, false, ℕ, ◌&&◌, ◌||◌, ◌==◌, List, [], ◌∷◌, Option, Some, None, find, position}
+use Rattle.std.specs.Prelude.{Bool, true, false, ℕ, ◌&&◌, ◌==◌, List, Option, Some, None, find}
 use Rattle.std.specs.Option.{is_some}
-use Rattle.std.specs.List.{filter_map, list_any, count_by}
+use Rattle.std.specs.List.{filter_map, count_by}
 use Rattle.std.specs.Str.{bytes_eq}
 use Rattle.wdf_base.specs.declared.declared.ExecutionLevel.{ExecutionLevel}
 use Rattle.wdf_base.specs.declared.object.Kind.{Kind}

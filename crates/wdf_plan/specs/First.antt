@@ -1,5 +1,5 @@
 -- The first reason why a scene has no plan.
-use Rattle.std.specs.Prelude.{Bool, true, false, ℕ, cond, List, [], ◌∷◌, Option, Some, None}
+use Rattle.std.specs.Prelude.{Bool, ℕ, cond, List, [], ◌∷◌, Option, Some, None}
 use Rattle.std.specs.Option.{option_or}
 use Rattle.wdf_scene.specs.declared.scene.Scene.{Scene}
 use Rattle.wdf_plan.specs.declared.declaration.Declaration.{Declaration}

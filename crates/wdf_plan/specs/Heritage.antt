@@ -1,5 +1,5 @@
 -- What devices and the `driver` block pass on to what stands in them, as it is kept for all lines.
-use Rattle.std.specs.Prelude.{◌≡◌, ℕ, Bool, true, false, cond, List, Option, Some, None, option_and_then}
+use Rattle.std.specs.Prelude.{◌≡◌, ℕ, cond, List, Option, Some, None, option_and_then}
 use Rattle.std.specs.List.{filter_map}
 use Rattle.wdf_scene.specs.declared.scene.Scene.{Scene}
 use Rattle.wdf_plan.specs.declared.heritage.Given.{Given}

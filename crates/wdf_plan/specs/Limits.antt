@@ -1,9 +1,7 @@
 -- The limits of a scenario, in the order in which they are told.
-use Rattle.std.specs.Prelude.{Bool, true, false, not, ℕ, suc, ◌+◌, ◌&&◌, ◌||◌, nat_lt, nat_le, List, Option, Some, None, find, codes}
+use Rattle.std.specs.Prelude.{Bool, false, not, ℕ, ◌+◌, ◌&&◌, ◌||◌, nat_lt, nat_le, List, Option, Some, None, find, codes}
 use Rattle.wdf_base.specs.Resolved.{is_from, is_ticks}
-use Rattle.wdf_base.specs.declared.declared.DispatchKind.{DispatchKind}
 use Rattle.wdf_base.specs.declared.declared.DispatchKind.TheVariants as dispatch
-use Rattle.wdf_scene.specs.declared.line.InterruptLevel.{InterruptLevel}
 use Rattle.wdf_scene.specs.declared.line.InterruptLevel.TheVariants as level
 use Rattle.wdf_scene.specs.declared.line.SceneLine.{SceneLine}
 use Rattle.wdf_scene.specs.declared.line.SceneLine.TheVariants as line

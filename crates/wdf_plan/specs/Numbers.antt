@@ -1,5 +1,5 @@
 -- The numbers that stand for names in a plan.
-use Rattle.std.specs.Prelude.{Bool, true, false, ℕ, ◌+◌, List, Option, Some, None}
+use Rattle.std.specs.Prelude.{ℕ, ◌+◌, List, Option, Some, None}
 use Rattle.wdf_base.specs.declared.ids.Handle.{Handle}
 use Rattle.wdf_base.specs.declared.ids.ObjectId.{ObjectId}
 use Rattle.wdf_base.specs.declared.event.Action.{Action}

@@ -1,5 +1,5 @@
 -- What the lists of a plan have of each line.
-use Rattle.std.specs.Prelude.{Bool, true, false, not, ℕ, ◌==◌, cond, List, [], ◌∷◌, ◌++◌, Option, Some, None, option_and_then, codes, map}
+use Rattle.std.specs.Prelude.{Bool, not, ℕ, ◌==◌, cond, List, [], Option, Some, None, option_and_then}
 use Rattle.std.specs.Option.{unwrap_or}
 use Rattle.std.specs.List.{filter_map}
 use Rattle.wdf_base.specs.declared.ids.Irql.{Irql}
@@ -21,7 +21,6 @@ use Rattle.wdf_base.specs.declared.declared.RegisterInfo.{RegisterInfo}
 use Rattle.wdf_base.specs.declared.declared.WhenLine.{WhenLine}
 use Rattle.wdf_base.specs.declared.script.AgentInfo.{AgentInfo}
 use Rattle.wdf_base.specs.declared.value.Status.{Status}
-use Rattle.wdf_base.specs.Kinds.{plain_kind, deferred_kind}
 use Rattle.wdf_base.specs.Same.{same_option}
 use Rattle.wdf_scene.specs.declared.line.InterruptLevel.{InterruptLevel}
 use Rattle.wdf_scene.specs.declared.line.InterruptLevel.TheVariants as level

@@ -1,8 +1,7 @@
 -- When a line is refused: one definition for each refusal, in the words of the text language.
-use Rattle.std.specs.Prelude.{Bool, true, false, not, ℕ, zero, suc, ◌+◌, ◌-◌, ◌&&◌, ◌||◌, nat_lt, nat_le, cond, List, [], ◌∷◌, take, drop, length, Option, Some, None, find, option_map, option_and_then}
+use Rattle.std.specs.Prelude.{Bool, true, false, not, ℕ, ◌-◌, ◌&&◌, ◌||◌, nat_lt, cond, List, take, drop, Option, Some, None, find, option_and_then}
 use Rattle.std.specs.Option.{is_some}
 use Rattle.std.specs.List.{list_any}
-use Rattle.wdf_base.specs.declared.call.Callback.{Callback}
 use Rattle.wdf_base.specs.declared.call.Callback.TheVariants as callback
 use Rattle.wdf_base.specs.declared.declared.DeferredKind.{DeferredKind}
 use Rattle.wdf_base.specs.declared.declared.DeferredKind.TheVariants as deferred
@@ -27,7 +26,6 @@ use Rattle.wdf_scene.specs.Naming.{declared_name}
 use Rattle.wdf_plan.specs.declared.attribute.Attribute.{Attribute}
 use Rattle.wdf_plan.specs.declared.attribute.Attribute.TheVariants as attribute
 use Rattle.wdf_plan.specs.declared.declaration.Declaration.{Declaration}
-use Rattle.wdf_plan.specs.declared.declaration.Wanted.{Wanted}
 use Rattle.wdf_plan.specs.declared.declaration.Wanted.TheVariants as wanted
 use Rattle.wdf_plan.specs.declared.placed.Placed.{Placed}
 use Rattle.wdf_plan.specs.Attribute.{attribute_of, is_device_wide}

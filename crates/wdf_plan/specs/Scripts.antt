@@ -1,8 +1,7 @@
 -- Expressions and statements with numbers.
-use Rattle.std.specs.Prelude.{Bool, true, false, not, ℕ, zero, suc, ◌+◌, ◌-◌, ◌==◌, ◌&&◌, ◌≤◌, nat_lt, cond, List, [], ◌∷◌, ◌++◌, length, map, take, drop, count_by, Option, Some, None, option_map, option_and_then, slice_get}
-use Rattle.std.specs.Option.{is_some, unwrap_or}
-use Rattle.std.specs.List.{cons_option, flat_map}
-use Rattle.wdf_base.specs.declared.call.CallKind.{CallKind}
+use Rattle.std.specs.Prelude.{Bool, true, false, ℕ, suc, ◌+◌, ◌-◌, ◌==◌, ◌&&◌, ◌≤◌, nat_lt, cond, List, [], ◌∷◌, ◌++◌, length, map, take, drop, count_by, Option, Some, None, option_map, slice_get}
+use Rattle.std.specs.Option.{unwrap_or}
+use Rattle.std.specs.List.{cons_option}
 use Rattle.wdf_base.specs.declared.declared.Declared.{Declared}
 use Rattle.wdf_base.specs.declared.declared.Declared.TheVariants as declared
 use Rattle.wdf_base.specs.declared.script.Act.{Act}

@@ -1,6 +1,6 @@
 -- The variables of a callback.
-use Rattle.std.specs.Prelude.{Bool, true, false, ℕ, zero, suc, cond, List, [], ◌∷◌, ◌++◌, drop, Option, Some, None, position}
-use Rattle.std.specs.List.{list_any, cons_option}
+use Rattle.std.specs.Prelude.{ℕ, suc, cond, List, [], ◌∷◌, ◌++◌, drop, Option, Some, None, position}
+use Rattle.std.specs.List.{list_any}
 use Rattle.std.specs.Str.{bytes_eq}
 use Rattle.wdf_scene.specs.declared.line.NumberedLine.{NumberedLine}
 use Rattle.wdf_scene.specs.declared.scene.Scene.{Scene}

@@ -50,7 +50,7 @@ fn refused(
     None
 }
 
-fn add_found(names: &mut Names, found: Option<Declaration>) -> Result<(), Memory>
+fn add_declared(names: &mut Names, found: Option<Declaration>) -> Result<(), Memory>
     ensures { OnOk result (names.new ≡ names.old ++ option_to_list found) }
 {
     match found {
@@ -66,7 +66,7 @@ pub fn declared(alloc: Global, scene: &Scene) -> Result<Names, Memory>
     let mut names = Names::new(alloc);
     let mut walk = Walk::new(scene);
     while let Some(placed) = walk.next() {
-        match add_found(&mut names, declared_by(&placed, &placed.form)) {
+        match add_declared(&mut names, declared_by(&placed, &placed.form)) {
             Ok(()) => {}
             Err(error) => return Err(error),
         }

@@ -29,7 +29,7 @@ mod walk;
 mod writer;
 mod wrong;
 
-pub use laws::plans_are_resolved;
-pub use limit::{LIMITS, Limit};
+pub use laws::{plans_are_resolved, statements_are_of_trees};
+pub use limit::Limit;
 pub use refusal::PlanRefusal;
 pub use resolution::resolve;

@@ -11,23 +11,39 @@ use crate::variables::Variables;
 use wdf_base::{DispatchKind, Name};
 use wdf_scene::{InterruptLevel, SceneLine};
 
-/// A quantity that is bounded. A line past several bounds is refused for the first in this order.
+/// A quantity that is bounded. A line past several bounds is refused for the first in this order. All
+/// bounds are this project's own but that of an interrupt's level.
 #[derive(Clone, Copy, Debug, PartialEq, Eq)]
 pub enum Limit {
+    /// Processors, by `cpus`: 1 to 8.
     Cpus,
+    /// Events of a run, by `limit`: 1 to 200,000.
     Limit,
+    /// Objects of a run, by `objects`: 1 to 4,096, and at least those declared and the driver object.
     Objects,
+    /// Lines `device`: 8.
     Devices,
+    /// Lines `app`: 256.
     Apps,
+    /// Lines `register`: 64.
     Registers,
+    /// Lines `class`: 256.
     Classes,
+    /// Statements of the whole text: 4,096. An `else` and an `end` don't count.
     Statements,
+    /// Lines with `at`: 4,096.
     Posts,
+    /// Numbers behind `picks`, of all lines: 200,000.
     Picks,
+    /// Different variables of a callback: 16.
     Variables,
+    /// The level of an interrupt that isn't passive: 3 to 12 (KMDF: a device's interrupt request levels).
     Level,
+    /// Requests that a parallel queue presents at a time: 1 to 1,024.
     Parallel,
+    /// Requests that a target holds: 1 to 256.
     Depth,
+    /// Ticks of a delay, a period, an `after` or an `at`: at most 1,000,000.
     Ticks,
 }
 

@@ -177,17 +177,19 @@ fn outcome(alloc: Global, scene: &Scene) -> Result<Result<Plan, PlanRefusal>, Me
     }
 }
 
-/// The plan of a scene: its names replaced by numbers.
+/// The plan of a scene: its names replaced by numbers. Of a scene that stands for a text the plan is resolved:
+/// each number is in its range and stands for what its place needs.
 ///
 /// # Errors
 ///
 /// Where a line of the scene is refused, the refusal of the first such line, and of several there the
-/// first in the order of [`PlanRefusal`]; and [`PlanRefusal::Memory`] where memory is wanting.
+/// first in the order of [`PlanRefusal`]; and [`PlanRefusal::Memory`] where memory is wanting, or a number
+/// doesn't fit its type.
 pub fn resolve(alloc: Global, scene: &Scene) -> Result<Plan, PlanRefusal>
     ensures plan { IfOk result (λ p. p ≡ plans.plan_of scene.now) }
     ensures accepted { OnOk result (first.first_refusal scene.now ≡ None) }
     ensures refused { IfErr result (λ e. (e ≡ PlanRefusal.Memory) ⊎ (first.first_refusal scene.now ≡ Some e)) }
-    // For a scene that stands for a text: the plan has all that the crates above rely on.
+    // For a scene that stands for a text.
     ensures resolved { IsScene scene.now → HasProperNames scene.now → IfOk result (λ p. IsResolved p) }
 {
     match outcome(alloc, scene) {

@@ -5,9 +5,10 @@ ghost use Rattle.wdf_top.specs.Input.{UsesUp, TakesAll, ReadsInto, TakesCount, T
 
 use std::alloc::{AllocError, Global};
 use wdf_io::Source;
+use wdf_parse::TEXT_LIMIT;
 
-/// The most bytes that an input may have.
-pub const INPUT_LIMIT: usize = 1_048_576;
+/// The most bytes that an input may have: those of a scenario's text.
+pub const INPUT_LIMIT: usize = TEXT_LIMIT;
 
 /// The most bytes that one read asks for.
 const PIECE: usize = 8192;

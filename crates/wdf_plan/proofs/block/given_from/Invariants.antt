@@ -1,5 +1,4 @@
-use Rattle.std.proofs.Common.{◌≡◌, ℕ, ◌-◌, ◌≤◌, length, drop}
-use Rattle.wdf_plan.specs.Blocks.{given_from}
+use Rattle.std.proofs.Common.{◌-◌, length}
 use Rattle.wdf_plan.proofs.Scans.{IsScanned}
 use Rattle.wdf_plan.proofs.block.given_from.Given as goal
 

@@ -1,10 +1,4 @@
-use Rattle.std.proofs.Common.{◌≡◌, length}
-use Rattle.wdf_plan.specs.First.{refused_at, first_refusal}
-use Rattle.wdf_plan.specs.Variables.{variables_in}
-use Rattle.wdf_plan.specs.Declarations.{declarations}
-use Rattle.wdf_plan.specs.declared.placed.Placed.{Placed}
-use Rattle.wdf_scene.specs.declared.scene.Scene.{Scene}
-use Rattle.wdf_plan.proofs.Gather.{IsSought}
+use Rattle.std.proofs.Common.{length}
 use Rattle.wdf_plan.proofs.first.first_refusal.Given as goal
 use Rattle.wdf_plan.proofs.Firsts.{IsUnderway}
 

@@ -1,4 +1,4 @@
-use Rattle.std.proofs.Common.{◌≡◌, Some, slice_get, sym, ◌∙◌, ap}
+use Rattle.std.proofs.Common.{Some, sym, ◌∙◌, ap}
 use Rattle.wdf_plan.specs.Heritage.{given_in}
 use Rattle.wdf_plan.proofs.Heritages.{kept_right}
 use Rattle.wdf_plan.proofs.heritage.Heritage.given.Goals as goal

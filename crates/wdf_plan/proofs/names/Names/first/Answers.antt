@@ -1,4 +1,4 @@
-use Rattle.std.proofs.Common.{◌≡◌, ◌∙◌, sym, Some, None, slice_get}
+use Rattle.std.proofs.Common.{◌∙◌, sym}
 use Rattle.wdf_plan.proofs.Lookups.{first_none, first_some}
 use Rattle.wdf_plan.proofs.names.Names.first.Goals as goal
 

@@ -1,4 +1,4 @@
-use Rattle.std.proofs.Common.{◌≡◌, ◌∙◌, sym, Some, None}
+use Rattle.std.proofs.Common.{◌∙◌, sym}
 use Rattle.wdf_plan.proofs.Lookups.{found_none, found_some}
 use Rattle.wdf_plan.proofs.names.Names.found.Goals as goal
 
