@@ -10,10 +10,10 @@ use wdf_top::top_plain;
 pub struct Outside {
     /// The most bytes that one read gives.
     pub piece: usize,
-    /// The read that fails, or 0.
-    pub read_fails: u64,
-    /// The write that fails, or 0.
-    pub write_fails: u64,
+    /// The read that fails, counted from 1.
+    pub read_fails: Option<u64>,
+    /// The write that fails, counted from 1.
+    pub write_fails: Option<u64>,
     /// The bytes that the sink can hold.
     pub room: usize,
 }
@@ -21,13 +21,24 @@ pub struct Outside {
 /// An outside that doesn't fail.
 pub const STEADY: Outside = Outside {
     piece: 65_536,
-    read_fails: 0,
-    write_fails: 0,
+    read_fails: None,
+    write_fails: None,
     room: 65_536,
 };
 
-/// A name for what is tried; the words and the input; the status and the text that are due.
-pub type Row = (&'static str, &'static str, &'static [u8], u8, &'static [u8]);
+/// What is tried, and what is due.
+#[derive(Clone, Copy)]
+pub struct Row {
+    /// A name for it.
+    pub name: &'static str,
+    /// The words behind the program's name.
+    pub words: &'static str,
+    pub input: &'static [u8],
+    /// The status that is due.
+    pub status: u8,
+    /// The text that is due.
+    pub text: &'static [u8],
+}
 
 /// The words that stand behind the program's name.
 fn words_of(alloc: Global, words: &str) -> Result<Vec<String>, Fail> {
@@ -38,6 +49,14 @@ fn words_of(alloc: Global, words: &str) -> Result<Vec<String>, Fail> {
     Ok(all)
 }
 
+/// The calls that fail.
+fn failing(alloc: Global, number: Option<u64>) -> Result<Vec<u64>, Fail> {
+    match number {
+        Some(number) => Ok(Vec::from_slice(alloc, &[number])?),
+        None => Ok(Vec::new(alloc)),
+    }
+}
+
 /// The status that the program ends with, and where it wrote.
 pub fn call(
     alloc: Global,
@@ -46,8 +65,8 @@ pub fn call(
     outside: Outside,
 ) -> Result<(u8, MemSink), Fail> {
     let words = words_of(alloc, words)?;
-    let read_fails = Vec::from_slice(alloc, &[outside.read_fails])?;
-    let write_fails = Vec::from_slice(alloc, &[outside.write_fails])?;
+    let read_fails = failing(alloc, outside.read_fails)?;
+    let write_fails = failing(alloc, outside.write_fails)?;
     let input = Vec::from_slice(alloc, input)?;
     let mut source = MemSource::new(input, read_fails, outside.piece.max(1));
     let mut sink = MemSink::new(alloc, outside.room, write_fails)?;
@@ -62,11 +81,11 @@ pub fn try_rows<R: Abort>(
     outside: Outside,
     rows: &[Row],
 ) -> Result<(), Fail> {
-    for (name, words, input, status, text) in rows {
-        let (found, sink) = call(alloc, words, input, outside)?;
+    for row in rows {
+        let (found, sink) = call(alloc, row.words, row.input, outside)?;
         let written = String::from_utf8_lossy(alloc, sink.written())?;
-        assert!(rt; sink.written() == *text, "at {name}: {written}");
-        assert_eq!(rt; found, *status, "at {name}");
+        assert!(rt; sink.written() == row.text, "at {}: {written}", row.name);
+        assert_eq!(rt; found, row.status, "at {}", row.name);
     }
     Ok(())
 }

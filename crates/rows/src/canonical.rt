@@ -151,28 +151,46 @@ end\n\
 #[test]
 fn a_canonical_text_stays(rt: HostRuntime) -> Result<(), Fail> {
     let rows: [Row; 4] = [
-        ("one read", "check", ONE_READ, 0, ONE_READ),
-        (
-            "sixteen parentheses",
-            "check",
-            SIXTEEN_PARENTHESES,
-            0,
-            SIXTEEN_PARENTHESES,
-        ),
-        (
-            "a passive interrupt",
-            "check",
-            PASSIVE_INTERRUPT,
-            0,
-            PASSIVE_INTERRUPT,
-        ),
-        ("a serial port", "check", SERIAL_PORT, 0, SERIAL_PORT),
+        Row {
+            name: "one read",
+            words: "check",
+            input: ONE_READ,
+            status: 0,
+            text: ONE_READ,
+        },
+        Row {
+            name: "sixteen parentheses",
+            words: "check",
+            input: SIXTEEN_PARENTHESES,
+            status: 0,
+            text: SIXTEEN_PARENTHESES,
+        },
+        Row {
+            name: "a passive interrupt",
+            words: "check",
+            input: PASSIVE_INTERRUPT,
+            status: 0,
+            text: PASSIVE_INTERRUPT,
+        },
+        Row {
+            name: "a serial port",
+            words: "check",
+            input: SERIAL_PORT,
+            status: 0,
+            text: SERIAL_PORT,
+        },
     ];
     try_rows(&rt, rt.alloc(), STEADY, &rows)
 }
 
 #[test]
 fn comments_and_indents_go(rt: HostRuntime) -> Result<(), Fail> {
-    let rows: [Row; 1] = [("one read", "check", ADORNED_READ, 0, ONE_READ)];
+    let rows: [Row; 1] = [Row {
+        name: "one read",
+        words: "check",
+        input: ADORNED_READ,
+        status: 0,
+        text: ONE_READ,
+    }];
     try_rows(&rt, rt.alloc(), STEADY, &rows)
 }

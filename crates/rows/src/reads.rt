@@ -176,38 +176,74 @@ end\n\
 #[test]
 fn a_run_is_the_picked_one(rt: HostRuntime) -> Result<(), Fail> {
     let rows: [Row; 5] = [
-        ("one read", "order", ONE_READ, 0, ONE_READ_RUN),
-        ("two reads", "order", TWO_READS, 0, TWO_READS_RUN),
-        (
-            "picks",
-            "order",
-            TWO_READS_AT_ONCE,
-            0,
-            TWO_READS_AT_ONCE_RUN,
-        ),
-        ("four events", "order", FOUR_EVENTS, 5, FOUR_EVENTS_RUN),
-        ("nothing", "order", NOTHING, 0, b"finished 0\n"),
+        Row {
+            name: "one read",
+            words: "order",
+            input: ONE_READ,
+            status: 0,
+            text: ONE_READ_RUN,
+        },
+        Row {
+            name: "two reads",
+            words: "order",
+            input: TWO_READS,
+            status: 0,
+            text: TWO_READS_RUN,
+        },
+        Row {
+            name: "picks",
+            words: "order",
+            input: TWO_READS_AT_ONCE,
+            status: 0,
+            text: TWO_READS_AT_ONCE_RUN,
+        },
+        Row {
+            name: "four events",
+            words: "order",
+            input: FOUR_EVENTS,
+            status: 5,
+            text: FOUR_EVENTS_RUN,
+        },
+        Row {
+            name: "nothing",
+            words: "order",
+            input: NOTHING,
+            status: 0,
+            text: b"finished 0\n",
+        },
     ];
     try_rows(&rt, rt.alloc(), STEADY, &rows)
 }
 
 #[test]
 fn a_text_may_come_byte_by_byte(rt: HostRuntime) -> Result<(), Fail> {
-    let rows: [Row; 1] = [("one read", "order", ONE_READ, 0, ONE_READ_RUN)];
+    let rows: [Row; 1] = [Row {
+        name: "one read",
+        words: "order",
+        input: ONE_READ,
+        status: 0,
+        text: ONE_READ_RUN,
+    }];
     try_rows(&rt, rt.alloc(), Outside { piece: 1, ..STEADY }, &rows)
 }
 
 #[test]
 fn other_plans_are_not_built(rt: HostRuntime) -> Result<(), Fail> {
     let rows: [Row; 2] = [
-        (
-            "two processors",
-            "order",
-            TWO_PROCESSORS,
-            16,
-            b"not built\n",
-        ),
-        ("a log", "order", LOGS_FIRST, 16, b"not built\n"),
+        Row {
+            name: "two processors",
+            words: "order",
+            input: TWO_PROCESSORS,
+            status: 16,
+            text: b"not built\n",
+        },
+        Row {
+            name: "a log",
+            words: "order",
+            input: LOGS_FIRST,
+            status: 16,
+            text: b"not built\n",
+        },
     ];
     try_rows(&rt, rt.alloc(), STEADY, &rows)
 }

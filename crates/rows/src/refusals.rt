@@ -4,69 +4,69 @@ use std::test::Fail;
 
 pub const USAGE: &[u8] = b"usage: kmdfsim check | order | seed N | run | replay | gen N | load N\n";
 
-const NO_SCENE: [Row; 9] = [
-    (
-        "an empty text",
-        "order",
-        b"",
-        10,
-        b"parse refused at line 1: BadLine\n",
-    ),
-    (
-        "a foreign mark",
-        "check",
-        b"\
+static NO_SCENE: [Row; 9] = [
+    Row {
+        name: "an empty text",
+        words: "order",
+        input: b"",
+        status: 10,
+        text: b"parse refused at line 1: BadLine\n",
+    },
+    Row {
+        name: "a foreign mark",
+        words: "check",
+        input: b"\
 cpus 1\n\
 limit 1$0\n\
 ",
-        10,
-        b"parse refused at line 2 column 8: BadToken\n",
-    ),
-    (
-        "a number of 65 bits",
-        "check",
-        b"\
+        status: 10,
+        text: b"parse refused at line 2 column 8: BadToken\n",
+    },
+    Row {
+        name: "a number of 65 bits",
+        words: "check",
+        input: b"\
 cpus 18446744073709551616\n\
 ",
-        10,
-        b"parse refused at line 1 column 6: NumberTooLarge\n",
-    ),
-    (
-        "an open block",
-        "check",
-        b"\
+        status: 10,
+        text: b"parse refused at line 1 column 6: NumberTooLarge\n",
+    },
+    Row {
+        name: "an open block",
+        words: "check",
+        input: b"\
 cpus 1\n\
 limit 9\n\
 objects 9\n\
 driver\n\
 ",
-        10,
-        b"parse refused at line 4: Unclosed\n",
-    ),
-    (
-        "a foreign byte",
-        "check",
-        b"\
+        status: 10,
+        text: b"parse refused at line 4: Unclosed\n",
+    },
+    Row {
+        name: "a foreign byte",
+        words: "check",
+        input: b"\
 \xc8",
-        10,
-        b"parse refused at line 1: NotAscii\n",
-    ),
-    (
-        "a name of 33 letters",
-        "order",
-        b"\
+        status: 10,
+        text: b"parse refused at line 1: NotAscii\n",
+    },
+    Row {
+        name: "a name of 33 letters",
+        words: "order",
+        input: b"\
 cpus 1\n\
 limit 9\n\
 objects 9\n\
 device aaaaaaaaaaaaaaaaaaaaaaaaaaaaaaaaa\n\
 ",
-        10,
-        b"parse refused at line 4 column 8: BadToken\n",
-    ),
-    (
-        "seventeen parentheses",
-        "order",
-        b"\
+        status: 10,
+        text: b"parse refused at line 4 column 8: BadToken\n",
+    },
+    Row {
+        name: "seventeen parentheses",
+        words: "order",
+        input: b"\
 cpus 1\n\
 limit 9\n\
 objects 9\n\
@@ -74,38 +74,38 @@ device D\n\
 on EvtDeviceD0Entry\n\
 log ( ( ( ( ( ( ( ( ( ( ( ( ( ( ( ( ( 1 + 1 ) + 1 ) + 1 ) + 1 ) + 1 ) + 1 ) + 1 ) + 1 ) + 1 ) + 1 ) + 1 ) + 1 ) + 1 ) + 1 ) + 1 ) + 1 ) + 1 )\n\
 ",
-        10,
-        b"parse refused at line 6: BadLine\n",
-    ),
-    (
-        "a third version",
-        "check",
-        b"\
+        status: 10,
+        text: b"parse refused at line 6: BadLine\n",
+    },
+    Row {
+        name: "a third version",
+        words: "check",
+        input: b"\
 version 3\n\
 ",
-        10,
-        b"parse refused at line 1: BadLine\n",
-    ),
-    (
-        "a passive interrupt in version 1",
-        "check",
-        b"\
+        status: 10,
+        text: b"parse refused at line 1: BadLine\n",
+    },
+    Row {
+        name: "a passive interrupt in version 1",
+        words: "check",
+        input: b"\
 cpus 1\n\
 limit 9\n\
 objects 9\n\
 device D\n\
 interrupt I passive\n\
 ",
-        10,
-        b"parse refused at line 5: BadLine\n",
-    ),
+        status: 10,
+        text: b"parse refused at line 5: BadLine\n",
+    },
 ];
 
-const NO_PLAN: [Row; 7] = [
-    (
-        "a device twice",
-        "check",
-        b"\
+static NO_PLAN: [Row; 7] = [
+    Row {
+        name: "a device twice",
+        words: "check",
+        input: b"\
 cpus 1\n\
 limit 9\n\
 objects 9\n\
@@ -114,13 +114,13 @@ end\n\
 device D\n\
 end\n\
 ",
-        11,
-        b"plan refused at line 6: TwiceNamed first 4\n",
-    ),
-    (
-        "a serialized DPC under a passive device",
-        "check",
-        b"\
+        status: 11,
+        text: b"plan refused at line 6: TwiceNamed first 4\n",
+    },
+    Row {
+        name: "a serialized DPC under a passive device",
+        words: "check",
+        input: b"\
 cpus 1\n\
 limit 9\n\
 objects 9\n\
@@ -133,13 +133,13 @@ device D\n\
 level passive\n\
 end\n\
 ",
-        11,
-        b"plan refused at line 5: IncompatibleLevel\n",
-    ),
-    (
-        "a DPC class without a parent",
-        "check",
-        b"\
+        status: 11,
+        text: b"plan refused at line 5: IncompatibleLevel\n",
+    },
+    Row {
+        name: "a DPC class without a parent",
+        words: "check",
+        input: b"\
 cpus 1\n\
 limit 9\n\
 objects 9\n\
@@ -148,13 +148,13 @@ on EvtDpcFunc\n\
 end\n\
 end\n\
 ",
-        11,
-        b"plan refused at line 4: NoParent\n",
-    ),
-    (
-        "a queue's callback in a device",
-        "check",
-        b"\
+        status: 11,
+        text: b"plan refused at line 4: NoParent\n",
+    },
+    Row {
+        name: "a queue's callback in a device",
+        words: "check",
+        input: b"\
 cpus 1\n\
 limit 9\n\
 objects 9\n\
@@ -163,13 +163,13 @@ on EvtIoRead\n\
 end\n\
 end\n\
 ",
-        11,
-        b"plan refused at line 5: WrongCallback\n",
-    ),
-    (
-        "a variable that nothing assigns",
-        "check",
-        b"\
+        status: 11,
+        text: b"plan refused at line 5: WrongCallback\n",
+    },
+    Row {
+        name: "a variable that nothing assigns",
+        words: "check",
+        input: b"\
 cpus 1\n\
 limit 9\n\
 objects 9\n\
@@ -179,31 +179,31 @@ log x\n\
 end\n\
 end\n\
 ",
-        11,
-        b"plan refused at line 6: UnknownName\n",
-    ),
-    (
-        "nine processors",
-        "check",
-        b"\
+        status: 11,
+        text: b"plan refused at line 6: UnknownName\n",
+    },
+    Row {
+        name: "nine processors",
+        words: "check",
+        input: b"\
 cpus 9\n\
 limit 9\n\
 objects 9\n\
 ",
-        11,
-        b"plan refused at line 1: OverLimit cpus\n",
-    ),
-    (
-        "no event allowed",
-        "order",
-        b"\
+        status: 11,
+        text: b"plan refused at line 1: OverLimit cpus\n",
+    },
+    Row {
+        name: "no event allowed",
+        words: "order",
+        input: b"\
 cpus 1\n\
 limit 0\n\
 objects 9\n\
 ",
-        11,
-        b"plan refused at line 2: OverLimit limit\n",
-    ),
+        status: 11,
+        text: b"plan refused at line 2: OverLimit limit\n",
+    },
 ];
 
 #[test]
@@ -219,24 +219,48 @@ fn no_plan(rt: HostRuntime) -> Result<(), Fail> {
 #[test]
 fn no_form_of_words(rt: HostRuntime) -> Result<(), Fail> {
     let rows: [Row; 6] = [
-        ("no word", "", b"", 2, USAGE),
-        (
-            "threads, which the plain call doesn't serve",
-            "run",
-            b"",
-            2,
-            USAGE,
-        ),
-        ("a word too many", "check check", b"", 2, USAGE),
-        ("a seed without its number", "seed", b"", 2, USAGE),
-        (
-            "a seed above 64 bits",
-            "seed 18446744073709551616",
-            b"",
-            2,
-            USAGE,
-        ),
-        ("a request for help", "--help", b"", 2, USAGE),
+        Row {
+            name: "no word",
+            words: "",
+            input: b"",
+            status: 2,
+            text: USAGE,
+        },
+        Row {
+            name: "threads, which the plain call doesn't serve",
+            words: "run",
+            input: b"",
+            status: 2,
+            text: USAGE,
+        },
+        Row {
+            name: "a word too many",
+            words: "check check",
+            input: b"",
+            status: 2,
+            text: USAGE,
+        },
+        Row {
+            name: "a seed without its number",
+            words: "seed",
+            input: b"",
+            status: 2,
+            text: USAGE,
+        },
+        Row {
+            name: "a seed above 64 bits",
+            words: "seed 18446744073709551616",
+            input: b"",
+            status: 2,
+            text: USAGE,
+        },
+        Row {
+            name: "a request for help",
+            words: "--help",
+            input: b"",
+            status: 2,
+            text: USAGE,
+        },
     ];
     try_rows(&rt, rt.alloc(), STEADY, &rows)
 }

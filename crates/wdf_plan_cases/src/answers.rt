@@ -1,6 +1,6 @@
 use std::alloc::Global;
 use wdf_base::Plan;
-use wdf_parse::{TEXT_LIMIT, parse};
+use wdf_parse::{ParseRefusal, TEXT_LIMIT, parse};
 use wdf_plan::{PlanRefusal, resolve};
 
 /// What becomes of a text.
@@ -8,6 +8,8 @@ use wdf_plan::{PlanRefusal, resolve};
 pub enum Answer {
     /// No scene stands for it.
     NotParsed,
+    /// Memory was wanting.
+    NoMemory,
     Resolved,
     Refused(PlanRefusal),
 }
@@ -20,8 +22,10 @@ pub fn answered(alloc: Global, text: &[u8]) -> Answer {
     match parse(alloc, text) {
         Ok(scene) => match resolve(alloc, &scene) {
             Ok(_) => Answer::Resolved,
+            Err(PlanRefusal::Memory) => Answer::NoMemory,
             Err(refusal) => Answer::Refused(refusal),
         },
+        Err(ParseRefusal::Memory) => Answer::NoMemory,
         Err(_) => Answer::NotParsed,
     }
 }

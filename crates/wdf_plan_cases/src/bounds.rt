@@ -4,158 +4,215 @@ use std::test::Fail;
 use wdf_base::Memory;
 use wdf_plan::{Limit, PlanRefusal};
 
-/// A number within its bound, the same past it, and the line of it.
-static NUMBERS: [(Limit, u32, &str, &str, &str, &str); 21] = [
-    (Limit::Cpus, 1, "cpus ", "1", "0", "\nlimit 9\nobjects 9\n"),
-    (Limit::Cpus, 1, "cpus ", "8", "9", "\nlimit 9\nobjects 9\n"),
-    (Limit::Limit, 2, "cpus 1\nlimit ", "1", "0", "\nobjects 9\n"),
-    (
-        Limit::Limit,
-        2,
-        "cpus 1\nlimit ",
-        "200000",
-        "200001",
-        "\nobjects 9\n",
-    ),
-    (
-        Limit::Objects,
-        3,
-        "cpus 1\nlimit 9\nobjects ",
-        "1",
-        "0",
-        "\n",
-    ),
-    (
-        Limit::Objects,
-        3,
-        "cpus 1\nlimit 9\nobjects ",
-        "4096",
-        "4097",
-        "\n",
-    ),
+/// A number within its bound, and the same past it.
+struct Bound {
+    limit: Limit,
+    /// The line of the number.
+    line: u32,
+    /// What stands before it.
+    front: &'static str,
+    within: &'static str,
+    past: &'static str,
+    /// What stands behind it.
+    back: &'static str,
+}
+
+static NUMBERS: [Bound; 24] = [
+    Bound {
+        limit: Limit::Cpus,
+        line: 1,
+        front: "cpus ",
+        within: "1",
+        past: "0",
+        back: "\nlimit 9\nobjects 9\n",
+    },
+    Bound {
+        limit: Limit::Cpus,
+        line: 1,
+        front: "cpus ",
+        within: "8",
+        past: "9",
+        back: "\nlimit 9\nobjects 9\n",
+    },
+    Bound {
+        limit: Limit::Limit,
+        line: 2,
+        front: "cpus 1\nlimit ",
+        within: "1",
+        past: "0",
+        back: "\nobjects 9\n",
+    },
+    Bound {
+        limit: Limit::Limit,
+        line: 2,
+        front: "cpus 1\nlimit ",
+        within: "200000",
+        past: "200001",
+        back: "\nobjects 9\n",
+    },
+    Bound {
+        limit: Limit::Objects,
+        line: 3,
+        front: "cpus 1\nlimit 9\nobjects ",
+        within: "1",
+        past: "0",
+        back: "\n",
+    },
+    Bound {
+        limit: Limit::Objects,
+        line: 3,
+        front: "cpus 1\nlimit 9\nobjects ",
+        within: "4096",
+        past: "4097",
+        back: "\n",
+    },
     // The driver object, a device and a queue count, and no class, register or app does.
-    (
-        Limit::Objects,
-        3,
-        "cpus 1\nlimit 9\nobjects ",
-        "3",
-        "2",
-        "\ndevice D\nregister R 0\nqueue Q manual\nend\nend\nclass C object\nend\napp A\nend\n",
-    ),
-    (
-        Limit::Level,
-        5,
-        "cpus 1\nlimit 9\nobjects 9\ndevice D\ninterrupt I ",
-        "3",
-        "2",
-        "\non EvtInterruptIsr\nend\nend\nend\n",
-    ),
-    (
-        Limit::Level,
-        5,
-        "cpus 1\nlimit 9\nobjects 9\ndevice D\ninterrupt I ",
-        "12",
-        "13",
-        "\non EvtInterruptIsr\nend\nend\nend\n",
-    ),
+    Bound {
+        limit: Limit::Objects,
+        line: 3,
+        front: "cpus 1\nlimit 9\nobjects ",
+        within: "3",
+        past: "2",
+        back: "\ndevice D\nregister R 0\nqueue Q manual\nend\nend\nclass C object\nend\napp A\nend\n",
+    },
+    Bound {
+        limit: Limit::Level,
+        line: 5,
+        front: "cpus 1\nlimit 9\nobjects 9\ndevice D\ninterrupt I ",
+        within: "3",
+        past: "2",
+        back: "\non EvtInterruptIsr\nend\nend\nend\n",
+    },
+    Bound {
+        limit: Limit::Level,
+        line: 5,
+        front: "cpus 1\nlimit 9\nobjects 9\ndevice D\ninterrupt I ",
+        within: "12",
+        past: "13",
+        back: "\non EvtInterruptIsr\nend\nend\nend\n",
+    },
     // A passive interrupt has no number.
-    (
-        Limit::Level,
-        6,
-        "version 2\ncpus 1\nlimit 9\nobjects 9\ndevice D\ninterrupt I ",
-        "passive",
-        "0",
-        "\non EvtInterruptIsr\nend\nend\nend\n",
-    ),
-    (
-        Limit::Parallel,
-        5,
-        "cpus 1\nlimit 9\nobjects 9\ndevice D\nqueue Q parallel ",
-        "1",
-        "0",
-        "\nend\nend\n",
-    ),
-    (
-        Limit::Parallel,
-        5,
-        "cpus 1\nlimit 9\nobjects 9\ndevice D\nqueue Q parallel ",
-        "1024",
-        "1025",
-        "\nend\nend\n",
-    ),
-    (
-        Limit::Depth,
-        5,
-        "cpus 1\nlimit 9\nobjects 9\ndevice D\ntarget T 0 SUCCESS ",
-        "1",
-        "0",
-        "\non EvtRequestCompletion\nend\nend\nend\n",
-    ),
-    (
-        Limit::Depth,
-        5,
-        "cpus 1\nlimit 9\nobjects 9\ndevice D\ntarget T 0 SUCCESS ",
-        "256",
-        "257",
-        "\non EvtRequestCompletion\nend\nend\nend\n",
-    ),
-    (
-        Limit::Ticks,
-        5,
-        "cpus 1\nlimit 9\nobjects 9\ndevice D\ntarget T ",
-        "1000000",
-        "1000001",
-        " SUCCESS 1\non EvtRequestCompletion\nend\nend\nend\n",
-    ),
-    (
-        Limit::Ticks,
-        5,
-        "cpus 1\nlimit 9\nobjects 9\nclass C timer D\nperiod ",
-        "1000000",
-        "1000001",
-        "\non EvtTimerFunc\nend\nend\ndevice D\nend\n",
-    ),
-    (
-        Limit::Ticks,
-        6,
-        "cpus 1\nlimit 9\nobjects 9\ndevice D\nregister R 0\nwhen read R set R 1 after ",
-        "1000000",
-        "1000001",
-        "\nend\n",
-    ),
-    (
-        Limit::Ticks,
-        6,
-        "cpus 1\nlimit 9\nobjects 9\ndevice D\nregister R 0\nat ",
-        "1000000",
-        "1000001",
-        " set R 1\nend\n",
-    ),
-    (
-        Limit::Ticks,
-        7,
-        "cpus 1\nlimit 9\nobjects 9\ndevice D\nend\napp A\nat ",
-        "1000000",
-        "1000001",
-        " read D 1\nend\n",
-    ),
-    (
-        Limit::Ticks,
-        7,
-        "cpus 1\nlimit 9\nobjects 9\ndevice D\nend\npnp\nat ",
-        "1000000",
-        "1000001",
-        " start D\nend\n",
-    ),
+    Bound {
+        limit: Limit::Level,
+        line: 6,
+        front: "version 2\ncpus 1\nlimit 9\nobjects 9\ndevice D\ninterrupt I ",
+        within: "passive",
+        past: "0",
+        back: "\non EvtInterruptIsr\nend\nend\nend\n",
+    },
+    Bound {
+        limit: Limit::Parallel,
+        line: 5,
+        front: "cpus 1\nlimit 9\nobjects 9\ndevice D\nqueue Q parallel ",
+        within: "1",
+        past: "0",
+        back: "\nend\nend\n",
+    },
+    Bound {
+        limit: Limit::Parallel,
+        line: 5,
+        front: "cpus 1\nlimit 9\nobjects 9\ndevice D\nqueue Q parallel ",
+        within: "1024",
+        past: "1025",
+        back: "\nend\nend\n",
+    },
+    Bound {
+        limit: Limit::Depth,
+        line: 5,
+        front: "cpus 1\nlimit 9\nobjects 9\ndevice D\ntarget T 0 SUCCESS ",
+        within: "1",
+        past: "0",
+        back: "\non EvtRequestCompletion\nend\nend\nend\n",
+    },
+    Bound {
+        limit: Limit::Depth,
+        line: 5,
+        front: "cpus 1\nlimit 9\nobjects 9\ndevice D\ntarget T 0 SUCCESS ",
+        within: "256",
+        past: "257",
+        back: "\non EvtRequestCompletion\nend\nend\nend\n",
+    },
+    Bound {
+        limit: Limit::Ticks,
+        line: 5,
+        front: "cpus 1\nlimit 9\nobjects 9\ndevice D\ntarget T ",
+        within: "1000000",
+        past: "1000001",
+        back: " SUCCESS 1\non EvtRequestCompletion\nend\nend\nend\n",
+    },
+    Bound {
+        limit: Limit::Ticks,
+        line: 5,
+        front: "cpus 1\nlimit 9\nobjects 9\nclass C timer D\nperiod ",
+        within: "1000000",
+        past: "1000001",
+        back: "\non EvtTimerFunc\nend\nend\ndevice D\nend\n",
+    },
+    Bound {
+        limit: Limit::Ticks,
+        line: 6,
+        front: "cpus 1\nlimit 9\nobjects 9\ndevice D\nregister R 0\nwhen read R set R 1 after ",
+        within: "1000000",
+        past: "1000001",
+        back: "\nend\n",
+    },
+    Bound {
+        limit: Limit::Ticks,
+        line: 6,
+        front: "cpus 1\nlimit 9\nobjects 9\ndevice D\nregister R 0\nat ",
+        within: "1000000",
+        past: "1000001",
+        back: " set R 1\nend\n",
+    },
+    Bound {
+        limit: Limit::Ticks,
+        line: 7,
+        front: "cpus 1\nlimit 9\nobjects 9\ndevice D\nend\napp A\nat ",
+        within: "1000000",
+        past: "1000001",
+        back: " read D 1\nend\n",
+    },
+    Bound {
+        limit: Limit::Ticks,
+        line: 7,
+        front: "cpus 1\nlimit 9\nobjects 9\ndevice D\nend\napp A\nat ",
+        within: "1000000",
+        past: "1000001",
+        back: " write D 1\nend\n",
+    },
+    Bound {
+        limit: Limit::Ticks,
+        line: 7,
+        front: "cpus 1\nlimit 9\nobjects 9\ndevice D\nend\napp A\nat ",
+        within: "1000000",
+        past: "1000001",
+        back: " control D 5 1\nend\n",
+    },
+    Bound {
+        limit: Limit::Ticks,
+        line: 7,
+        front: "cpus 1\nlimit 9\nobjects 9\ndevice D\nend\napp A\nat ",
+        within: "1000000",
+        past: "1000001",
+        back: " cancel 1\nend\n",
+    },
+    Bound {
+        limit: Limit::Ticks,
+        line: 7,
+        front: "cpus 1\nlimit 9\nobjects 9\ndevice D\nend\npnp\nat ",
+        within: "1000000",
+        past: "1000001",
+        back: " start D\nend\n",
+    },
     // Of several limits the first is told.
-    (
-        Limit::Depth,
-        5,
-        "cpus 1\nlimit 9\nobjects 9\ndevice D\ntarget T ",
-        "0 SUCCESS 1",
-        "1000001 SUCCESS 257",
-        "\non EvtRequestCompletion\nend\nend\nend\n",
-    ),
+    Bound {
+        limit: Limit::Depth,
+        line: 5,
+        front: "cpus 1\nlimit 9\nobjects 9\ndevice D\ntarget T ",
+        within: "0 SUCCESS 1",
+        past: "1000001 SUCCESS 257",
+        back: "\non EvtRequestCompletion\nend\nend\nend\n",
+    },
 ];
 
 /// Lines that may stand so often, and one more.
@@ -324,19 +381,28 @@ fn expected(many: &Many) -> (Option<Answer>, Option<Answer>) {
     (Some(Answer::Resolved), Some(refused(many.line, many.limit)))
 }
 
+/// The answers to the number within its bound, and to the one past it.
+fn answers_of_number(alloc: Global, bound: &Bound) -> (Option<Answer>, Option<Answer>) {
+    (
+        answer_of_number(alloc, bound.front, bound.within, bound.back),
+        answer_of_number(alloc, bound.front, bound.past, bound.back),
+    )
+}
+
 #[test]
 fn numbers_have_bounds(rt: HostRuntime) -> Result<(), Fail> {
     let alloc = rt.alloc();
-    for (limit, line, front, within, past, back) in &NUMBERS {
+    for bound in &NUMBERS {
         assert_eq!(rt;
-            answer_of_number(alloc, front, within, back),
-            Some(Answer::Resolved),
-            "at {front:?} {within:?}"
-        );
-        assert_eq!(rt;
-            answer_of_number(alloc, front, past, back),
-            Some(refused(*line, *limit)),
-            "at {front:?} {past:?}"
+            answers_of_number(alloc, bound),
+            (
+                Some(Answer::Resolved),
+                Some(refused(bound.line, bound.limit))
+            ),
+            "at {:?} {:?} {:?}",
+            bound.front,
+            bound.past,
+            bound.back
         );
     }
     Ok(())

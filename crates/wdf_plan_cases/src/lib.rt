@@ -8,4 +8,6 @@ mod bounds;
 #[cfg(test)]
 mod refusals;
 #[cfg(test)]
+mod second_text;
+#[cfg(test)]
 mod serial_port;
