@@ -9,3 +9,16 @@ pub mod HeldOverRuns
 pub mod Exchanges
 pub mod PowerQueues
 pub mod Unsettled
+pub mod Nearest
+pub mod Trees
+pub mod StillDeeds
+pub mod StillFrames
+pub mod FrameCounts
+pub mod Framed
+pub mod FrameMoves
+pub mod StepMoves
+pub mod StepStates
+pub mod NextFrames
+pub mod StepEvents
+pub mod StepTable
+pub mod StepsOverRuns

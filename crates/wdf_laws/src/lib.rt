@@ -1,7 +1,7 @@
 //! More laws over all runs of the machine: what its parts keep of one another.
 #![tactic(auto)]
 
-ghost use Rattle.wdf_model.specs.Agreement.{held_agrees, holdings_agree, unsettled_agrees};
+ghost use Rattle.wdf_model.specs.Agreement.{held_agrees, holdings_agree, steps_agree, unsettled_agrees};
 ghost use Rattle.wdf_laws.specs.AtPlaces.{AtEachPlace};
 
 /// At each place of every run, each queue's count of held requests is the number of those that are held from it.
@@ -19,4 +19,10 @@ pub fn holdings_agree<A>()
 /// are among those that power takes for unsettled there, and as many.
 pub fn unsettled_agrees<A>()
     ensures { AtEachPlace {A = A} unsettled_agrees }
+{}
+
+/// At each place of every run, a device's step is noted as running exactly where the frame of a step's callback of that
+/// device is there, and there is at most one.
+pub fn steps_agree<A>()
+    ensures { AtEachPlace {A = A} steps_agree }
 {}
