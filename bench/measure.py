@@ -2,10 +2,19 @@
 
 import os
 import subprocess
+import sys
 import tempfile
 import time
 
 PROGRAM = os.path.join("crates", "kmdfsim", "out", "kmdfsim")
+
+
+def program_of(words):
+    """The program that the words name, or the built one of this tree; without a program the process ends."""
+    program = words[1] if len(words) > 1 else PROGRAM
+    if not os.path.exists(program):
+        sys.exit(f"no program at {program}: build it first, by `rt ci`")
+    return program
 
 
 def run(word, text, program=PROGRAM):

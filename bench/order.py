@@ -3,7 +3,7 @@
 
 Not part of the gate. Prove and build the program first (`rt ci`), then from the root:
 
-    python3 bench/order.py
+    python3 bench/order.py [PROGRAM]
 
 The app reads once to 4,096 times, and the run may have 200,000 events. Each run is made twice: as the first
 events come, so that the reads follow one another, and with picks that post all reads first, so that they
@@ -13,7 +13,7 @@ and the most memory in MB (no less than what this script itself takes, some 14 M
 
 import sys
 
-from measure import report, run
+from measure import program_of, report, run
 
 HEAD = """cpus 1
 limit 200000
@@ -39,9 +39,9 @@ def scenario(reads, picked):
     return text.encode()
 
 
-def measured(text, reads):
+def measured(program, text, reads):
     """The figures of one run of the text, which must come to its end."""
-    trace, status, figures = run("order", text)
+    trace, status, figures = run("order", text, program)
     lines = trace.decode().splitlines()
     if status != 0 or lines[-1] != f"finished {6 * reads}" or len(lines) != 6 * reads + 1:
         sys.exit(f"ended with status {status} and {lines[-1]!r}")
@@ -49,11 +49,12 @@ def measured(text, reads):
 
 
 def main():
+    program = program_of(sys.argv)
     for picked in (False, True):
         order = "posted first" if picked else "one by one"
         for reads in (1, 512, 1024, 2048, 4096):
             text = scenario(reads, picked)
-            report(f"{reads} reads {order}", [measured(text, reads) for _ in range(3)])
+            report(f"{reads} reads {order}", [measured(program, text, reads) for _ in range(3)])
 
 
 if __name__ == "__main__":

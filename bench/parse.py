@@ -3,7 +3,7 @@
 
 Not part of the gate. Prove and build the program first (`rt ci`), then from the root:
 
-    python3 bench/parse.py
+    python3 bench/parse.py [PROGRAM]
 
 The first texts are parsed whole and have no plan, since they ask for nine processors: what is measured is
 the start of the program, the reading of the input, the parse, and the look for the first line that the plan
@@ -14,7 +14,7 @@ this script itself takes, some 14 MB).
 
 import sys
 
-from measure import report, run
+from measure import program_of, report, run
 
 HEAD = """cpus 9
 limit 1000
@@ -70,21 +70,22 @@ def picks(size):
     return "".join(parts).encode()
 
 
-def measured(text, due):
+def measured(program, text, due):
     """The figures of one run over the text, which must answer what is due."""
-    answer, status, figures = run("check", text)
+    answer, status, figures = run("check", text, program)
     if (answer, status) != due:
         sys.exit(f"answered {answer[:60]!r} with status {status}")
     return figures
 
 
 def main():
+    program = program_of(sys.argv)
     for name, make in (("refused", scenario), ("printed", picks)):
         for size in (262_144, 524_288, 1_048_576):
             text = make(size)
             assert len(text) == size
             due = (b"plan refused at line 1: OverLimit cpus\n", 11) if name == "refused" else (text, 0)
-            report(f"{size} bytes, {name}", [measured(text, due) for _ in range(5)])
+            report(f"{size} bytes, {name}", [measured(program, text, due) for _ in range(5)])
 
 
 if __name__ == "__main__":

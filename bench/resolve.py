@@ -5,20 +5,18 @@ Not part of the gate. Prove and build the program first (`rt ci`), then from the
 
     python3 bench/resolve.py [PROGRAM]
 
-Each scenario fills limits: 4,096 statements, 4,096 posts, 254 apps, 255 classes, 64 registers, 4,096
-objects. The last two ask for what thousands of queues inherit from their device. The word `check` reads, parses, resolves and prints it. The same text with an open block at
-its end is read and parsed alone, and the same with a name that is declared twice at its end is
-resolved up to that line: so the differences tell what the search for a refusal takes, and what the
-plan and the printing take. Figures are of the best of five runs: seconds of the processor, and the most
-memory of the process in MB.
+Each scenario fills limits: 4,096 statements, 4,096 posts, 256 apps, 256 classes, 64 registers, 4,096
+objects. `check` reads, parses, resolves and prints it; `order` reads, parses and resolves it, and answers that
+the plan isn't served; with an open block at its end it is read and parsed alone. So the differences tell
+what `resolve` takes. The last scenarios are refused at their end, after a search through them. Figures are of
+the best of five runs: seconds of the processor, and the most memory of the process in MB.
 """
 
 import sys
 
-from measure import PROGRAM, run
+from measure import program_of, run
 
 HEAD = "cpus 4\nlimit 200000\nobjects 4096\n"
-TWICE = "app Again\nend\napp Again\nend\n"
 OPEN = "app Again\n"
 
 
@@ -46,8 +44,8 @@ def statements(count):
 def callbacks(count):
     """Callbacks of classes with `count` statements together."""
     lines = ["device D", "end"]
-    for number in range(255):
-        share = count // (255 - number)
+    for number in range(256):
+        share = count // (256 - number)
         count -= share
         lines += [f"class C{number} dpc D", "serialize", "on EvtDpcFunc"]
         lines += [f"let x{k % 16} = (x{k % 16} + {k})" for k in range(share)]
@@ -89,40 +87,63 @@ def queues(count, callbacks=()):
     return lines + ["end"]
 
 
-SCENARIOS = {
+def twice_declared(count):
+    """`count` lines that name a register with a name that an app has too, among twice as many registers."""
+    lines = ["app R", "end", "device D"]
+    lines += ["when read R set R 1 after 0"] * count
+    lines += [f"register X{number} 0" for number in range(2 * count)]
+    return lines + ["register R 0", "end"]
+
+
+ACCEPTED = {
     "4,096 statements in one callback": statements(4096),
-    "4,096 statements, 255 classes": callbacks(4096),
-    "4,096 posts, 254 apps": posts(8, 254, 4096),
+    "4,096 statements, 256 classes": callbacks(4096),
+    "4,096 posts, 256 apps": posts(8, 256, 4096),
     "4,096 posts, one app": posts(8, 1, 4096),
     "4,096 posts of a device, 64 registers": device_lines(4096),
-    "all at once": statements(2048) + callbacks(2048)[2:] + posts(7, 254, 4096),
+    "all at once": statements(2048) + callbacks(2048)[2:] + posts(7, 256, 4096),
     "4,094 queues of a device": queues(4094),
     "4,094 queues with two callbacks each": queues(4094, ["EvtIoRead", "EvtIoWrite"]),
 }
 
+REFUSED = {
+    "2,000 uses of a name that two lines declare": twice_declared(2000),
+    "14,000 uses of a name that two lines declare": twice_declared(14000),
+}
 
-def best(program, text, wanted):
+
+def best(program, word, text, wanted):
     """Seconds and MB of the best of five runs that answer with this status."""
-    runs = [run("check", text.encode(), program) for _ in range(5)]
+    runs = [run(word, text.encode(), program) for _ in range(5)]
     for answer, status, _ in runs:
         if status != wanted:
             sys.exit(f"answered {answer[:60]!r} with status {status}, not {wanted}")
     return min(figures[1] for _, _, figures in runs), max(figures[2] for _, _, figures in runs)
 
 
+def text_of(name, lines):
+    text = HEAD + "\n".join(lines) + "\n"
+    if len(text) > 1_048_576:
+        sys.exit(f"{name}: {len(text)} bytes")
+    return text
+
+
 def main():
-    program = sys.argv[1] if len(sys.argv) > 1 else PROGRAM
-    for name, lines in SCENARIOS.items():
-        text = HEAD + "\n".join(lines) + "\n"
-        if len(text) > 1_048_576:
-            sys.exit(f"{name}: {len(text)} bytes")
-        whole, most = best(program, text, 0)
-        searched, _ = best(program, text + TWICE, 11)
-        parsed, _ = best(program, text + OPEN, 10)
+    program = program_of(sys.argv)
+    for name, lines in ACCEPTED.items():
+        text = text_of(name, lines)
+        whole, most = best(program, "check", text, 0)
+        resolved, _ = best(program, "order", text, 16)
+        parsed, _ = best(program, "check", text + OPEN, 10)
         print(
             f"{name}: {len(text)} bytes, {most:.0f} MB, check {whole:.3f} s: read and parsed "
-            f"{parsed:.3f} s, searched {searched - parsed:.3f} s, plan and print {whole - searched:.3f} s"
+            f"{parsed:.3f} s, resolved {resolved - parsed:.3f} s"
         )
+    for name, lines in REFUSED.items():
+        text = text_of(name, lines)
+        whole, most = best(program, "check", text, 11)
+        print(f"{name}: {len(text)} bytes, {most:.0f} MB, refused in {whole:.3f} s")
 
 
-main()
+if __name__ == "__main__":
+    main()

@@ -6,8 +6,8 @@
 
 Each argument behind the first is the path of a scenario `NAME.scn` with its trace beside it in `NAME.out`;
 NAME names the run. `specs` gives the plan, the events and the wait list of each, `proofs` that the definitions
-of wdf_model compute them. It serves the worked runs alone: what the program reads is read by its own
-parser.
+of wdf_model compute them. What it writes still has to go through `rt tidy` in crates/wdf_worked. It serves
+the worked runs alone: what the program reads is read by its own parser.
 """
 import os
 import re
