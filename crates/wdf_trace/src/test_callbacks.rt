@@ -1,4 +1,4 @@
-//! The callbacks of the worked runs, as their traces show them.
+//! Lines of callbacks, most of them from traces of the worked runs.
 use crate::test_plan::*;
 use crate::*;
 use std::process::Abort;

@@ -1,4 +1,4 @@
-//! The framework calls that the worked runs make, as their traces show them.
+//! Lines of framework calls, most of them from traces of the worked runs.
 use crate::test_plan::*;
 use crate::*;
 use std::process::Abort;

@@ -70,7 +70,7 @@ const L_4: Handle = Handle {
     name: test_plan::L,
 };
 
-/// Endings after some events, with those of all worked runs.
+/// Endings after some events.
 static ENDINGS: [(usize, Ending, &str); 22] = [
     (0, Ending::Finished, "finished 0"),
     (100, Ending::Limit, "limit 100"),
@@ -123,7 +123,7 @@ fn endings_are_shown_and_told(rt: HostRuntime) {
     }
 }
 
-/// Lines of a wait list. The first four are those of the worked runs.
+/// Lines of a wait list.
 static WAITS: [(WaitLine, &str); 15] = [
     (
         WaitLine {

@@ -1,4 +1,4 @@
-//! The other lines of the worked runs: what frames, the framework and the agents do.
+//! Lines of what frames, the framework and the agents do, most of them from traces of the worked runs.
 use crate::test_plan::*;
 use crate::*;
 use std::process::Abort;

@@ -1,4 +1,4 @@
-//! The plan of the tests, whose names and ids serve the lines of all worked runs but those of a timer T.
+//! The plan of the tests, with names and ids like those of the worked runs.
 use crate::*;
 use std::alloc::Global;
 use std::process::Abort;
