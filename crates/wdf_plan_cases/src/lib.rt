@@ -8,6 +8,10 @@ mod bounds;
 #[cfg(test)]
 mod refusals;
 #[cfg(test)]
+mod second_posts;
+#[cfg(test)]
+mod second_scripts;
+#[cfg(test)]
 mod second_text;
 #[cfg(test)]
 mod serial_port;

@@ -1,0 +1,482 @@
+//! The callbacks in the plan of the scenario of version 2: variables in the order of their first assignments, nodes
+//! of expressions in the order of the text.
+use crate::second_text::{BELL, HELD, LINK, OBJECTS, READS, SLOW, TASKS, part, plan};
+use std::process::Abort;
+use std::test::Fail;
+use wdf_base::{
+    Act, ArgNode, CallKind, Callback, ContextWord, Declared, ExprNode, Operator, Script, Statement,
+    Status,
+};
+
+/// The nodes of the expressions; the operands of an operator stand before it.
+static NODES: [ExprNode; 37] = [
+    // The timer.
+    ExprNode::Number(1),
+    // The reads: the variables are n and m.
+    ExprNode::Context(ContextWord::RequestLength),
+    ExprNode::Number(1),
+    ExprNode::Binary {
+        operator: Operator::Subtract,
+        left: 1,
+        right: 2,
+    },
+    ExprNode::Context(ContextWord::OwnRequest),
+    ExprNode::Object(HELD),
+    ExprNode::Variable(1),
+    ExprNode::Literal(Status::Success),
+    ExprNode::Binary {
+        operator: Operator::Differs,
+        left: 6,
+        right: 7,
+    },
+    ExprNode::Variable(0),
+    ExprNode::Context(ContextWord::OwnRequest),
+    ExprNode::Variable(1),
+    // The completion.
+    ExprNode::Context(ContextWord::OwnRequest),
+    ExprNode::Context(ContextWord::CompletionStatus),
+    // The entry: the variables are a, b and c.
+    ExprNode::Variable(2),
+    ExprNode::Variable(1),
+    ExprNode::Binary {
+        operator: Operator::Equals,
+        left: 14,
+        right: 15,
+    },
+    ExprNode::Variable(1),
+    ExprNode::Number(3),
+    ExprNode::Binary {
+        operator: Operator::Add,
+        left: 17,
+        right: 18,
+    },
+    ExprNode::Context(ContextWord::NearestDevice),
+    ExprNode::Variable(2),
+    ExprNode::Variable(0),
+    ExprNode::Variable(1),
+    ExprNode::Binary {
+        operator: Operator::Remainder,
+        left: 22,
+        right: 23,
+    },
+    ExprNode::Binary {
+        operator: Operator::BitOr,
+        left: 21,
+        right: 24,
+    },
+    ExprNode::Variable(0),
+    ExprNode::Object(READS),
+    // The exit: the variables are c and a.
+    ExprNode::Variable(0),
+    // The device Hi.
+    ExprNode::Context(ContextWord::OwnRequest),
+    ExprNode::Object(LINK),
+    ExprNode::Number(1),
+    ExprNode::Object(SLOW),
+    ExprNode::Object(TASKS),
+    ExprNode::Object(BELL),
+    // The last classes.
+    ExprNode::Number(2),
+    ExprNode::Literal(Status::Cancelled),
+];
+
+/// A callback that is declared.
+struct Answering {
+    callback: Callback,
+    /// The id of its object, or 0 for a class.
+    id: u32,
+    /// The number of its class.
+    class: u16,
+    line: u32,
+    /// How many statements.
+    count: usize,
+}
+
+static SCRIPTS: [Answering; 14] = [
+    Answering {
+        callback: Callback::EvtTimerFunc,
+        id: 0,
+        class: 3,
+        line: 29,
+        count: 1,
+    },
+    Answering {
+        callback: Callback::EvtTimerFunc,
+        id: 0,
+        class: 4,
+        line: 35,
+        count: 0,
+    },
+    Answering {
+        callback: Callback::EvtInterruptIsr,
+        id: 4,
+        class: 0,
+        line: 50,
+        count: 1,
+    },
+    Answering {
+        callback: Callback::EvtIoRead,
+        id: 5,
+        class: 0,
+        line: 59,
+        count: 5,
+    },
+    Answering {
+        callback: Callback::EvtRequestCompletion,
+        id: 6,
+        class: 0,
+        line: 69,
+        count: 1,
+    },
+    Answering {
+        callback: Callback::EvtInterruptIsr,
+        id: 7,
+        class: 0,
+        line: 74,
+        count: 0,
+    },
+    Answering {
+        callback: Callback::EvtDeviceD0Entry,
+        id: 2,
+        class: 0,
+        line: 79,
+        count: 7,
+    },
+    Answering {
+        callback: Callback::EvtDeviceD0Exit,
+        id: 2,
+        class: 0,
+        line: 90,
+        count: 2,
+    },
+    Answering {
+        callback: Callback::EvtRequestCompletion,
+        id: 9,
+        class: 0,
+        line: 102,
+        count: 0,
+    },
+    Answering {
+        callback: Callback::EvtIoDefault,
+        id: 10,
+        class: 0,
+        line: 108,
+        count: 1,
+    },
+    Answering {
+        callback: Callback::EvtInterruptIsr,
+        id: 11,
+        class: 0,
+        line: 113,
+        count: 2,
+    },
+    Answering {
+        callback: Callback::EvtDeviceD0Entry,
+        id: 8,
+        class: 0,
+        line: 124,
+        count: 5,
+    },
+    Answering {
+        callback: Callback::EvtWorkItem,
+        id: 0,
+        class: 5,
+        line: 152,
+        count: 1,
+    },
+    Answering {
+        callback: Callback::EvtDpcFunc,
+        id: 0,
+        class: 6,
+        line: 157,
+        count: 1,
+    },
+];
+
+/// The statements of all callbacks, one after the other.
+static STATEMENTS: [Statement; 27] = [
+    Statement {
+        line: 30,
+        next: 1,
+        act: Act::Log { value: 0 },
+    },
+    Statement {
+        line: 51,
+        next: 1,
+        act: Act::Get {
+            variable: 0,
+            register: 1,
+        },
+    },
+    Statement {
+        line: 60,
+        next: 1,
+        act: Act::Let {
+            variable: 0,
+            value: 3,
+        },
+    },
+    Statement {
+        line: 61,
+        next: 2,
+        act: Act::Call {
+            kind: CallKind::WdfRequestForwardToIoQueue,
+            into: Some(1),
+            a: ArgNode::Expression(4),
+            b: ArgNode::Expression(5),
+            c: ArgNode::NoArgument,
+        },
+    },
+    Statement {
+        line: 62,
+        next: 3,
+        act: Act::If {
+            test: 8,
+            otherwise: 5,
+        },
+    },
+    Statement {
+        line: 63,
+        next: 4,
+        act: Act::Log { value: 9 },
+    },
+    Statement {
+        line: 64,
+        next: 5,
+        act: Act::Call {
+            kind: CallKind::WdfRequestComplete,
+            into: None,
+            a: ArgNode::Expression(10),
+            b: ArgNode::Expression(11),
+            c: ArgNode::NoArgument,
+        },
+    },
+    Statement {
+        line: 70,
+        next: 1,
+        act: Act::Call {
+            kind: CallKind::WdfRequestComplete,
+            into: None,
+            a: ArgNode::Expression(12),
+            b: ArgNode::Expression(13),
+            c: ArgNode::NoArgument,
+        },
+    },
+    Statement {
+        line: 81,
+        next: 1,
+        act: Act::If {
+            test: 16,
+            otherwise: 6,
+        },
+    },
+    Statement {
+        line: 82,
+        next: 2,
+        act: Act::Let {
+            variable: 0,
+            value: 19,
+        },
+    },
+    Statement {
+        line: 83,
+        next: 3,
+        act: Act::Get {
+            variable: 1,
+            register: 0,
+        },
+    },
+    Statement {
+        line: 84,
+        next: 4,
+        act: Act::Call {
+            kind: CallKind::WdfSpinLockCreate,
+            into: Some(2),
+            a: ArgNode::OfClass(1),
+            b: ArgNode::Expression(20),
+            c: ArgNode::NoArgument,
+        },
+    },
+    Statement {
+        line: 85,
+        next: 5,
+        act: Act::Let {
+            variable: 0,
+            value: 25,
+        },
+    },
+    Statement {
+        line: 86,
+        next: 6,
+        act: Act::Put {
+            register: 1,
+            value: 26,
+        },
+    },
+    Statement {
+        line: 88,
+        next: 7,
+        act: Act::Call {
+            kind: CallKind::WdfObjectCreate,
+            into: Some(1),
+            a: ArgNode::OfClass(0),
+            b: ArgNode::Expression(27),
+            c: ArgNode::NoArgument,
+        },
+    },
+    Statement {
+        line: 91,
+        next: 1,
+        act: Act::Call {
+            kind: CallKind::WdfTimerCreate,
+            into: Some(0),
+            a: ArgNode::OfClass(4),
+            b: ArgNode::NoArgument,
+            c: ArgNode::NoArgument,
+        },
+    },
+    Statement {
+        line: 92,
+        next: 2,
+        act: Act::Let {
+            variable: 1,
+            value: 28,
+        },
+    },
+    Statement {
+        line: 109,
+        next: 1,
+        act: Act::Call {
+            kind: CallKind::WdfRequestSend,
+            into: None,
+            a: ArgNode::Expression(29),
+            b: ArgNode::Expression(30),
+            c: ArgNode::Expression(31),
+        },
+    },
+    Statement {
+        line: 114,
+        next: 1,
+        act: Act::Get {
+            variable: 0,
+            register: 2,
+        },
+    },
+    Statement {
+        line: 115,
+        next: 2,
+        act: Act::Call {
+            kind: CallKind::WdfInterruptAcquireLock,
+            into: None,
+            a: ArgNode::Expression(32),
+            b: ArgNode::NoArgument,
+            c: ArgNode::NoArgument,
+        },
+    },
+    Statement {
+        line: 125,
+        next: 1,
+        act: Act::Call {
+            kind: CallKind::WdfTimerCreate,
+            into: Some(0),
+            a: ArgNode::OfClass(3),
+            b: ArgNode::NoArgument,
+            c: ArgNode::NoArgument,
+        },
+    },
+    Statement {
+        line: 126,
+        next: 2,
+        act: Act::Call {
+            kind: CallKind::WdfWorkItemCreate,
+            into: Some(1),
+            a: ArgNode::OfClass(5),
+            b: ArgNode::NoArgument,
+            c: ArgNode::NoArgument,
+        },
+    },
+    Statement {
+        line: 127,
+        next: 3,
+        act: Act::Call {
+            kind: CallKind::WdfWaitLockCreate,
+            into: Some(2),
+            a: ArgNode::OfClass(2),
+            b: ArgNode::Expression(33),
+            c: ArgNode::NoArgument,
+        },
+    },
+    Statement {
+        line: 128,
+        next: 4,
+        act: Act::Call {
+            kind: CallKind::WdfDpcCreate,
+            into: Some(3),
+            a: ArgNode::OfClass(6),
+            b: ArgNode::NoArgument,
+            c: ArgNode::NoArgument,
+        },
+    },
+    Statement {
+        line: 129,
+        next: 5,
+        act: Act::Log { value: 34 },
+    },
+    Statement {
+        line: 153,
+        next: 1,
+        act: Act::Spend { ticks: 35 },
+    },
+    Statement {
+        line: 158,
+        next: 1,
+        act: Act::Return { value: 36 },
+    },
+];
+
+/// What a callback is declared on.
+fn owner(expected: &Answering) -> Option<Declared> {
+    match expected.id.checked_sub(1) {
+        Some(place) => OBJECTS.get(place as usize).copied(),
+        None => Some(Declared::OfClass(expected.class)),
+    }
+}
+
+fn try_script<R: Abort>(
+    rt: &R,
+    script: &Script,
+    expected: &Answering,
+    statements: &[Statement],
+) -> Result<(), Fail> {
+    let line = expected.line;
+    assert_eq!(rt; script.callback, expected.callback, "at {line}");
+    assert_eq!(rt; Some(script.owner), owner(expected), "at {line}");
+    assert_eq!(rt; script.line, line);
+    assert_eq!(rt; script.statements.as_slice(), statements, "at {line}");
+    Ok(())
+}
+
+#[test]
+fn callbacks_have_their_statements(rt: HostRuntime) -> Result<(), Fail> {
+    let plan = plan(rt.alloc())?;
+    assert_eq!(rt; plan.scripts.len() as usize, SCRIPTS.len());
+    let mut from = 0;
+    for (script, expected) in plan.scripts.as_slice().iter().zip(&SCRIPTS) {
+        try_script(
+            &rt,
+            script,
+            expected,
+            part(&STATEMENTS, from, expected.count),
+        )?;
+        from = expected.count.saturating_add(from);
+    }
+    assert_eq!(rt; from, STATEMENTS.len());
+    Ok(())
+}
+
+#[test]
+fn nodes_stand_in_the_order_of_the_text(rt: HostRuntime) -> Result<(), Fail> {
+    let plan = plan(rt.alloc())?;
+    assert_eq!(rt; plan.exprs.as_slice(), &NODES[..]);
+    Ok(())
+}
