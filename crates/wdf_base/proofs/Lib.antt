@@ -1,3 +1,3 @@
 pub mod Padding
-pub mod RowOne
+pub mod PlainRead
 pub mod WordLaws

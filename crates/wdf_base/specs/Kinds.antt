@@ -12,7 +12,7 @@ use Rattle.wdf_base.specs.declared.declared.ClassInfo.{ClassInfo}
 use Rattle.wdf_base.specs.declared.declared.ClassInfo.TheVariants as class
 use Rattle.wdf_base.specs.Same.{same_option}
 
--- the kind of a declared object; a class tells its own
+-- the kind of a declared object; a class says its own
 abbrev pub declared_kind : Declared → Option Kind
 declared_kind declared.Driver = Some kind.Driver
 declared_kind (declared.Device d) = Some kind.Device
@@ -21,7 +21,7 @@ declared_kind (declared.Interrupt i) = Some kind.Interrupt
 declared_kind (declared.Target t) = Some kind.Target
 declared_kind (declared.OfClass c) = None
 
--- the number of the name of a declared object; a class tells its own
+-- the number of the name of a declared object; a class says its own
 abbrev pub declared_name : Declared → Option ℕ
 declared_name declared.Driver = Some 0
 declared_name (declared.Device d) = Some d.name

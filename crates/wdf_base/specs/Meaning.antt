@@ -14,5 +14,5 @@ pub record Meaning (A : Type 0) : Type 0 where
   pub due : A → Option Post
   -- the least later tick of a post
   pub next : A → Option ℕ
-  -- a register, or the state of an interrupt line
+  -- a register, or the level line of an interrupt
   pub value : A → ℕ → ℕ

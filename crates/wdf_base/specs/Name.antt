@@ -4,13 +4,13 @@ use Rattle.std.proofs.Common.{arith, refl, sym, ◌∙◌, ap, append-nil}
 use Rattle.std.proofs.lemmas.List.{take-append-drop, length-take-le, drop-replicate}
 use Rattle.std.proofs.Math.Seq.{drop-append_seam}
 
--- the first bytes are the name's, and zeros lie behind them
+-- the first bytes are the name's, and zeros follow
 pub record IsPadded (bytes : List ℕ) (len : ℕ) : Type 0 where
   pub room : length bytes ≡ 32
   pub small : len ≤ 32
   pub zeros : drop len bytes ≡ replicate (32 - len) 0
 
--- the bytes of a name with the zeros behind them
+-- the bytes of a name with the zeros after them
 abbrev pub padded : List ℕ → List ℕ
 padded name = name ++ replicate (32 - length name) 0
 

@@ -1,4 +1,4 @@
--- What a plan tells, by number.
+-- What a plan says, by number.
 use Rattle.std.specs.Prelude.{ℕ, zero, suc, Bool, ◌&&◌, List, [], Option, Some, None, position, slice_get, option_map}
 use Rattle.wdf_base.specs.declared.call.Callback.{Callback}
 use Rattle.wdf_base.specs.declared.declared.Declared.{Declared}

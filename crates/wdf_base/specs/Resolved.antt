@@ -129,7 +129,7 @@ abbrev pub is_handle : Plan → Kind → Handle → Bool
 is_handle plan k h =
     is_kind plan k h.id.0 && same_option ◌==◌ (option_and_then declared_name (declared_of plan h.id.0)) (Some h.name)
 
--- the objects from this id on: a device, and behind it what belongs to it; `device` is the last one before them, 0 for none
+-- the objects from this id on: a device, and after it what belongs to it; `device` is the last one before them, 0 for none
 abbrev pub in_order : ℕ → ℕ → List Declared → Bool
 in_order id device [] = true
 in_order id device (declared.Driver ∷ ds) = false
@@ -261,7 +261,7 @@ device_ids id [] = []
 device_ids id (declared.Device d ∷ ds) = id ∷ device_ids (suc id) ds
 device_ids id (_ ∷ ds) = device_ids (suc id) ds
 
--- the posts of each agent against the device that it is; behind the devices come the targets, without posts
+-- the posts of each agent against the device that it is; after the devices come the targets, without posts
 abbrev pub device_posts_fit : Plan → List ℕ → List AgentInfo → Bool
 device_posts_fit plan [] as' = list_all (λ a. length a.posts == 0) as'
 device_posts_fit plan (id ∷ ids) [] = true

@@ -1,4 +1,4 @@
--- The words by which texts and traces tell enums.
+-- The words by which texts and traces name enums.
 use Rattle.std.specs.Prelude.{List, ℕ, Option, find, codes}
 use Rattle.std.specs.Str.{bytes_eq}
 use Rattle.wdf_base.specs.declared.value.Status.{Status}

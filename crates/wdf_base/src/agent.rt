@@ -21,7 +21,7 @@ pub trait Agent: Drop {
     fn next_time(&self) -> Option<u64>
         ensures { result ≡ meaning.next self.now };
 
-    /// The content of a register (its number) or the state of an interrupt line (64 and the id of
+    /// The content of a register (its number) or the level line of an interrupt (64 and the id of
     /// the interrupt): 1 or 0. It is 0 for what isn't the agent's own.
     fn value(&self, what: u32) -> u64
         ensures { result ≡ meaning.value self.now what };

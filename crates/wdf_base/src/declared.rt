@@ -162,7 +162,7 @@ pub struct RegisterInfo {
 #[derive(Clone, Copy, Debug, PartialEq, Eq)]
 pub struct WhenLine {
     pub access: Access,
-    /// The register, which tells the device.
+    /// The register, which says the device.
     pub register: u32,
     pub action: Action,
     /// The ticks between; with 0 it takes effect at once.
@@ -181,7 +181,7 @@ pub struct PostLine {
 }
 
 impl Declared {
-    /// The kind of the object. Of an object of a class its class tells the kind.
+    /// The kind of the object. Of an object of a class its class says the kind.
     pub fn kind(&self) -> Option<Kind>
         ensures { result ≡ kinds.declared_kind self.now }
     {
@@ -195,7 +195,7 @@ impl Declared {
         }
     }
 
-    /// The number of the object's name. Of an object of a class its class tells the name.
+    /// The number of the object's name. Of an object of a class its class says the name.
     pub fn name(&self) -> Option<u32>
         ensures { result ≡ kinds.declared_name self.now }
     {

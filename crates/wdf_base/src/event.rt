@@ -73,9 +73,9 @@ pub enum Access {
 pub enum Action {
     /// A register of the plan takes a value.
     Set { register: u32, value: u64 },
-    /// The line of an interrupt becomes 1.
+    /// The level line of an interrupt becomes 1.
     Raise { interrupt: Handle },
-    /// The line of an interrupt becomes 0.
+    /// The level line of an interrupt becomes 0.
     Lower { interrupt: Handle },
 }
 
@@ -118,7 +118,7 @@ pub enum Post {
     },
 }
 
-/// One step of the machine, with everything that its trace line tells.
+/// One step of the machine, with everything that its trace line says.
 #[derive(Clone, Copy, Debug, PartialEq, Eq)]
 pub enum Event {
     /// A callback of `object` begins on `cpu`, for `request` where it carries one.
@@ -242,7 +242,7 @@ pub enum Fault {
     ScriptError,
 }
 
-/// How a run stands: whether a step may follow, and if not, why.
+/// How a run ends: whether a step may follow, and if not, why.
 #[derive(Clone, Copy, Debug, PartialEq, Eq)]
 pub enum Ending {
     /// A step may follow.

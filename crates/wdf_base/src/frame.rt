@@ -2,7 +2,7 @@ use crate::call::{Call, Callback};
 use crate::ids::Handle;
 use crate::value::{Status, Value};
 
-/// The most variables of a callback, and the most `if` and `repeat` that stand in one another.
+/// The most variables of a callback, and the deepest nesting of `if` and `repeat`.
 pub const VARIABLES: usize = 16;
 
 /// A call that waits, with the answer that it gets when the wait is over.
@@ -12,7 +12,7 @@ pub struct Pending {
     pub answer: Value,
 }
 
-/// One running or waiting callback. Which locks it holds is told elsewhere.
+/// One running or waiting callback. Which locks it holds is kept elsewhere.
 #[derive(Clone, Copy, Debug, PartialEq, Eq)]
 pub struct Frame {
     pub callback: Callback,
@@ -52,7 +52,7 @@ pub enum Change {
     Count { depth: u8, left: u32 },
 }
 
-/// What the statement does at which a frame stands, with its expressions evaluated.
+/// What the next statement of a frame does, with its expressions evaluated.
 #[derive(Clone, Copy, Debug, PartialEq, Eq)]
 pub enum Intent {
     /// A step inside the frame, which goes on at the statement `next`.

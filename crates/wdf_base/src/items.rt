@@ -94,7 +94,7 @@ impl<T, const CEILING: u64> Items<T, CEILING> {
 }
 
 impl<T: Drop, const CEILING: u64> Items<T, CEILING> {
-    /// Adds an item at the end. On want of memory the list stays as it was, and the item is dropped.
+    /// Adds an item at the end. Where it is out of memory the list stays as it was, and the item is dropped.
     pub fn push(&mut self, item: T) -> Result<(), Memory>
         requires number { length self.old + 1 < 2 ^ 32 }
         requires room { length self.old + 1 < CEILING }

@@ -50,10 +50,3 @@ pub use words::{
     ASKS, CALL_KINDS, CALLBACKS, FAULTS, STAGES, STATUSES, ask_words, call_words, callback_words,
     fault_words, stage_words, status_words,
 };
-
-#[cfg(test)]
-mod plan_tests;
-#[cfg(test)]
-mod same_tests;
-#[cfg(test)]
-mod tests;

@@ -14,7 +14,7 @@ pub const NAME_LIMIT: usize = 32;
 /// A name of at most [`NAME_LIMIT`] bytes, without heap.
 #[derive(Clone, Copy, Debug)]
 pub struct Name {
-    /// The bytes, and zeros behind them.
+    /// The bytes, and zeros after them.
     bytes: [u8; NAME_LIMIT],
     len: u8,
 }

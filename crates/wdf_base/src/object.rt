@@ -34,12 +34,12 @@ pub enum Life {
     Gone,
 }
 
-/// Where a request stands.
+/// Where a request is.
 #[derive(Clone, Copy, Debug, PartialEq, Eq)]
 pub enum Place {
-    /// In the line of a queue.
+    /// In the waiting list of a queue.
     Queued(ObjectId),
-    /// Out of the line of a queue, whose EvtIoCanceledOnQueue is due for it.
+    /// Out of the waiting list of a queue, whose EvtIoCanceledOnQueue is due for it.
     Returning(ObjectId),
     /// To be completed by the framework with this status.
     Closing(Status),

@@ -16,7 +16,7 @@ pub struct Plan {
     pub cpus: u8,
     /// The most events of the run.
     pub limit: u32,
-    /// The most counted objects that stand at one time.
+    /// The most counted objects at one time.
     pub objects: u32,
     /// The names by their numbers: `driver`, `req`, and the declared ones in the order of their lines.
     pub names: Items<Name, MANY>,
@@ -52,7 +52,7 @@ impl Plan {
         self.limit
     }
 
-    /// The most counted objects that stand at one time.
+    /// The most counted objects at one time.
     pub fn objects(&self) -> u32
         ensures { result ≡ self.now.objects }
     {

@@ -20,7 +20,7 @@ pub enum Rank {
     Cancel,
     /// A waiting request that the driver had before was cancelled.
     CanceledOnQueue,
-    /// A held request stands in the way of a power-down.
+    /// A held request keeps a power-down from going on.
     Stop,
     /// A held request may go on after a power-up.
     Resume,
@@ -34,7 +34,7 @@ pub enum Rank {
     Work,
     /// An object is cleaned up.
     Cleanup,
-    /// An object ends.
+    /// An object is destroyed.
     Destroy,
 }
 

@@ -25,7 +25,7 @@ pub enum Operator {
     AtMost,
 }
 
-/// A word of expressions that stands for a part of the running callback.
+/// A word of expressions that means a part of the running callback.
 #[derive(Clone, Copy, Debug, PartialEq, Eq)]
 pub enum ContextWord {
     /// `self`: the callback's object.
@@ -71,7 +71,7 @@ pub enum ArgNode {
     OfClass(u16),
 }
 
-/// What a statement does. Variables, expressions, registers and statements stand by their numbers.
+/// What a statement does. Variables, expressions, registers and statements are given by their numbers.
 #[derive(Clone, Copy, Debug, PartialEq, Eq)]
 pub enum Act {
     Let {
@@ -94,21 +94,21 @@ pub enum Act {
         register: u32,
         value: u32,
     },
-    /// The statement behind it is the first branch's.
+    /// The statement after it is the first branch's.
     If {
         test: u32,
         /// Where to go on where the number is 0.
         otherwise: u32,
     },
-    /// The statement behind it is the body's first.
+    /// The statement after it is the body's first.
     Repeat {
         count: u32,
-        /// How many `repeat` stand round it in the callback.
+        /// How many `repeat` are round it in the callback.
         depth: u8,
         /// Where to go on where the number is 0.
         past: u32,
     },
-    /// The end of a `repeat`'s body; the statement behind it comes after the last run.
+    /// The end of a `repeat`'s body; the statement after it comes after the last run.
     Again {
         depth: u8,
         /// The body's first statement.

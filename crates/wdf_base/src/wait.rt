@@ -20,7 +20,7 @@ pub enum OpenThing {
         request: Handle,
         target: Handle,
     },
-    /// A request in the line of a queue.
+    /// A request in the waiting list of a queue.
     Queued {
         request: Handle,
         queue: Handle,
@@ -54,7 +54,7 @@ pub enum OpenThing {
 pub enum Cause {
     /// A frame keeps it.
     ByFrame { frame: FrameId },
-    /// A frame holds the lock that it needs; a scope lock stands as its device or queue.
+    /// A frame holds the lock that it needs; a scope lock is named by its device or queue.
     ByLock { lock: Handle, frame: FrameId },
     /// A request isn't settled.
     ByRequest { request: Handle },
@@ -66,7 +66,7 @@ pub enum Cause {
     Unpowered,
     /// The queue waits to be asked.
     Manual,
-    /// Another request stands ahead.
+    /// Another request is ahead.
     Behind { request: Handle },
     /// The queue has presented as many as it may.
     Full,
@@ -78,7 +78,7 @@ pub enum Cause {
     References { count: u32 },
     /// A child must go first.
     ByChild { child: Handle },
-    /// It stands at a target.
+    /// It is at a target.
     AtTarget { target: Handle },
 }
 

@@ -1,4 +1,4 @@
-//! The words by which texts and traces tell enums: each table both ways.
+//! The words by which texts and traces name enums: each table both ways.
 ghost use Rattle.std.specs.Prelude.{◌≡◌, Some};
 ghost use Rattle.wdf_base.specs.Words as words;
 

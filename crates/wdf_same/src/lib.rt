@@ -16,6 +16,3 @@ pub use plain::{
     same_stage, same_value,
 };
 pub use waits::{same_cause, same_open_thing, same_option_cause, same_wait_line};
-
-#[cfg(test)]
-mod tests;

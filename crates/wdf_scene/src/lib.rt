@@ -23,6 +23,3 @@ pub use words::{
     operator_from_word, operator_word, operator_words, plain_kind_from_word, plain_kind_word,
     plain_kind_words, scope_from_word, scope_word, scope_words,
 };
-
-#[cfg(test)]
-mod tests;

@@ -1,8 +1,8 @@
 //! A plan that is made by hand gives back what stands at each number.
 ghost use Rattle.std.specs.Prelude.{◌<◌};
 
-use crate::*;
 use std::alloc::Global;
+use wdf_base::*;
 
 const DEVICE: Declared = Declared::Device(DeviceInfo {
     name: 1,

@@ -1,11 +1,11 @@
 //! Two are one where no field differs: no two of a table are.
-use crate::*;
 use wdf_base::{
     Access, Action, Actor, Arg, Ask, Call, CallKind, Callback, Cause, Change, Cpu, Ending, Event,
     Fault, Frame, FrameId, Handle, Intent, Kind, Life, LockRef, Mark, Name, ObjectId, OpenThing,
     Pending, Place, Post, RequestForm, RequestInfo, Stage, Status, Step, VARIABLES, Value,
     WaitLine,
 };
+use wdf_same::*;
 
 const DEVICE: Handle = Handle {
     id: ObjectId(2),

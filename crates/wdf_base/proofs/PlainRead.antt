@@ -28,8 +28,8 @@ queue = declared.Queue (record {
   level = level.Dispatch;
 })
 
-abbrev pub row_one : Plan
-row_one = record {
+abbrev pub plain_read : Plan
+plain_read = record {
   cpus = 1;
   limit = 100;
   objects = 16;
@@ -54,8 +54,8 @@ row_one = record {
   picks = [];
 }
 
-pub row_one_IsResolved : IsResolved row_one
-row_one_IsResolved = record {
+pub plain_read_IsResolved : IsResolved plain_read
+plain_read_IsResolved = record {
   cpus = refl;
   limit = refl;
   objects = refl;

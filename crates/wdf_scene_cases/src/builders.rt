@@ -1,4 +1,3 @@
-use crate::*;
 use std::alloc::Global;
 use wdf_base::{
     Access, Act, Action, Ask, Callback, ClassInfo, ContextWord, Declared, DeferredKind, DeviceInfo,
@@ -6,6 +5,7 @@ use wdf_base::{
     Plan, Post, PostLine, QueueInfo, RegisterInfo, RequestForm, Scope, Serves, Statement, Status,
     WhenLine,
 };
+use wdf_scene::*;
 
 #[test]
 fn kinds_have_their_words(rt: HostRuntime) {

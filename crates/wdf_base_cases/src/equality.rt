@@ -1,5 +1,5 @@
 //! Two are one where no field differs: each case changes one field.
-use crate::*;
+use wdf_base::*;
 
 const DEVICE: DeviceInfo = DeviceInfo {
     name: 2,

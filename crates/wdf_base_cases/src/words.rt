@@ -1,7 +1,7 @@
-use crate::*;
 use std::collections::HashMap;
 use std::mem::size_of;
 use std::test::Fail;
+use wdf_base::*;
 
 #[test]
 fn words_are_those_of_the_text(rt: HostRuntime) {
