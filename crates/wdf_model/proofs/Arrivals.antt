@@ -26,25 +26,25 @@ use Rattle.wdf_base.specs.declared.event.Stage.TheVariants as stage
 use Rattle.wdf_base.specs.declared.frame.Frame.{Frame}
 use Rattle.wdf_base.specs.Callbacks.{row_of}
 use Rattle.wdf_base.specs.declared.call.Callback.TheVariants as callback
-use Rattle.wdf_model.specs.Script.{flag}
-use Rattle.wdf_model.specs.Objects.{is_full, is_live, life_of}
-use Rattle.wdf_model.specs.Modes.{accepts, is_purged, mode_of}
-use Rattle.wdf_model.specs.Interrupts.{is_enabled}
-use Rattle.wdf_model.specs.Deferred.{is_dpc_queued, is_timer_queued}
+use Rattle.wdf_model.specs.rules.Script.{flag, intent_of}
+use Rattle.wdf_model.specs.parts.Tree.{is_full, is_live, life_of}
+use Rattle.wdf_model.specs.parts.Control.{accepts, is_purged, mode_of}
+use Rattle.wdf_model.specs.parts.Interrupts.{is_enabled}
+use Rattle.wdf_model.specs.parts.Deferred.Dpcs.{is_dpc_queued}
+use Rattle.wdf_model.specs.parts.Deferred.Timers.{is_timer_queued}
 use Rattle.wdf_model.specs.Plans.{declares, is_manual_queue, is_parallel_queue, kind_of_class, callback_irql, managed_queues, parent_of_class, queues_of}
-use Rattle.wdf_model.specs.Frames.{frame_of, top}
-use Rattle.wdf_model.specs.Locks.{lock_of_callback}
-use Rattle.wdf_model.specs.Lines.{front}
-use Rattle.wdf_model.specs.Requests.{arrival_of, is_cancelled, mark_answer, place_of}
+use Rattle.wdf_model.specs.parts.Cpus.{frame_of, top}
+use Rattle.wdf_model.specs.parts.Locks.{lock_of_callback}
+use Rattle.wdf_model.specs.parts.Queues.{front}
+use Rattle.wdf_model.specs.parts.Requests.{arrival_of, is_cancelled, mark_answer, place_of}
 use Rattle.wdf_model.specs.State.{State, declared_in, object_in, queue_delivers}
-use Rattle.wdf_model.specs.Deeds.{Acknowledge, Close_returning, Deed, Enqueue_dpc, Enqueue_work, Forward, Give_back, Go_on, Mark_request, Pop_frame, Push_frame, Register_queue, Requeue, Send_request, Start_timer}
-use Rattle.wdf_model.specs.Faults.{arg_is}
-use Rattle.wdf_model.specs.Calls.{Outcome, acknowledge_outcome, class_in, create_outcome, creation, forward_outcome, forwards_nowhere, mark_outcome, may_send, new_handle, number, number_in, origin_or_none, outcome, requeue_outcome, retrieve_front, retrieve_outcome, refused, second_deeds, send_outcome, success}
-use Rattle.wdf_model.specs.Starts.{close_queue, effect, effect_for, end_of_step, new_frame, next_number, release_if_any, stage_effect, start_effect, take_if_any}
-use Rattle.wdf_model.specs.Posts.{cancel_at, cancel_deeds, in_reach, post_deeds}
-use Rattle.wdf_model.specs.Machine.{answered, deeds, did_deeds, goes_on, spending, stepped, waiting, waiting_deeds, woke_deeds}
-use Rattle.wdf_model.specs.Script.{intent_of}
-use Rattle.wdf_model.specs.OverRuns.{is_arrival_post}
+use Rattle.wdf_model.specs.rules.Deeds.{Acknowledge, Close_returning, Deed, Enqueue_dpc, Enqueue_work, Forward, Give_back, Go_on, Mark_request, Pop_frame, Push_frame, Register_queue, Requeue, Send_request, Start_timer}
+use Rattle.wdf_model.specs.rules.Faults.{arg_is}
+use Rattle.wdf_model.specs.rules.Calls.{Outcome, acknowledge_outcome, class_in, create_outcome, creation, forward_outcome, forwards_nowhere, mark_outcome, may_send, new_handle, number, number_in, origin_or_none, outcome, requeue_outcome, retrieve_front, retrieve_outcome, refused, second_deeds, send_outcome, success}
+use Rattle.wdf_model.specs.rules.Starts.{close_queue, effect, effect_for, end_of_step, new_frame, next_number, release_if_any, stage_effect, start_effect, take_if_any}
+use Rattle.wdf_model.specs.rules.Posts.{cancel_at, cancel_deeds, in_reach, post_deeds}
+use Rattle.wdf_model.specs.rules.Steps.{answered, deeds, did_deeds, goes_on, spending, stepped, waiting, waiting_deeds, woke_deeds}
+use Rattle.wdf_model.specs.laws.OverRuns.{is_arrival_post}
 use Rattle.wdf_model.proofs.Tests.{both, both_left, both_right}
 use Rattle.wdf_model.proofs.KeptByDeeds.{is_arrival, none_arrives}
 
@@ -68,7 +68,7 @@ create_none plan S class parent =
     (creation_none (kind_of_class plan class) class parent))
 
 requeue_none : {A : Type 0} (S : State A) (r q : ℕ) → none_arrives (requeue_outcome S r q).deeds ≡ true
-requeue_none S r q = either_none (is_cancelled S.requests r || is_purged (mode_of S.modes q)) (success (Give_back r q ∷ [])) (success (Requeue r q ∷ [])) refl refl
+requeue_none S r q = either_none (is_cancelled S.requests r || is_purged (mode_of S.control q)) (success (Give_back r q ∷ [])) (success (Requeue r q ∷ [])) refl refl
 
 mark_none : {A : Type 0} (plan : Plan) (S : State A) (r : ℕ) → none_arrives (mark_outcome plan S r).deeds ≡ true
 mark_none plan S r =
@@ -77,8 +77,8 @@ mark_none plan S r =
 forward_none : {A : Type 0} (plan : Plan) (S : State A) (r q : ℕ) → none_arrives (forward_outcome plan S r q).deeds ≡ true
 forward_none plan S r q =
     either_none (forwards_nowhere plan S r q) (refused status.InvalidDeviceRequest)
-    (if not (accepts S.modes q) then refused status.WdfBusy else if is_cancelled S.requests r then success (Give_back r q ∷ []) else success (Forward r q ∷ [])) refl
-    (either_none (not (accepts S.modes q)) (refused status.WdfBusy) (if is_cancelled S.requests r then success (Give_back r q ∷ []) else success (Forward r q ∷ [])) refl
+    (if not (accepts S.control q) then refused status.WdfBusy else if is_cancelled S.requests r then success (Give_back r q ∷ []) else success (Forward r q ∷ [])) refl
+    (either_none (not (accepts S.control q)) (refused status.WdfBusy) (if is_cancelled S.requests r then success (Give_back r q ∷ []) else success (Forward r q ∷ [])) refl
     (either_none (is_cancelled S.requests r) (success (Give_back r q ∷ [])) (success (Forward r q ∷ [])) refl refl))
 
 acknowledge_none : {A : Type 0} (S : State A) (r : ℕ) (b : Arg) → none_arrives (acknowledge_outcome S r b).deeds ≡ true
@@ -93,8 +93,8 @@ front_none plan S q (Some r) = refl
 
 retrieve_none : {A : Type 0} (plan : Plan) (S : State A) (q : ℕ) → none_arrives (retrieve_outcome plan S q).deeds ≡ true
 retrieve_none plan S q =
-    either_none (is_parallel_queue plan q) (refused status.InvalidDeviceState) (if not (queue_delivers plan S q) then refused status.WdfPaused else retrieve_front plan S q (front S.lines q)) refl
-    (either_none (not (queue_delivers plan S q)) (refused status.WdfPaused) (retrieve_front plan S q (front S.lines q)) refl (front_none plan S q (front S.lines q)))
+    either_none (is_parallel_queue plan q) (refused status.InvalidDeviceState) (if not (queue_delivers plan S q) then refused status.WdfPaused else retrieve_front plan S q (front S.queues q)) refl
+    (either_none (not (queue_delivers plan S q)) (refused status.WdfPaused) (retrieve_front plan S q (front S.queues q)) refl (front_none plan S q (front S.queues q)))
 
 outcome_none : {A : Type 0} (plan : Plan) (S : State A) (cpu f : ℕ) (k : CallKind) (n : ℕ) (a b x : Arg) → none_arrives (outcome plan S cpu f (record { kind = k; count = n; a = a; b = b; c = x })).deeds ≡ true
 outcome_none plan S cpu f call.WdfObjectCreate n a b x = create_none plan S (class_in a) (object_in b)

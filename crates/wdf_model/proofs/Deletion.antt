@@ -4,10 +4,12 @@ use Rattle.std.specs.List.{range_with_len}
 use Rattle.wdf_base.specs.declared.object.Life.TheVariants as life
 use Rattle.wdf_base.specs.declared.plan.Plan.{Plan}
 use Rattle.wdf_model.specs.Tables.{entry, put}
-use Rattle.wdf_model.specs.Objects.{Node, Tree, below_marks, gone, is_below, is_live, life_of, node_of, subtree, with_life, with_node}
-use Rattle.wdf_model.specs.Deferred.{cancel_dpc, cancel_work, stop_timer}
+use Rattle.wdf_model.specs.parts.Tree.{Node, Tree, below_marks, gone, is_below, is_live, life_of, node_of, subtree, with_life, with_node}
+use Rattle.wdf_model.specs.parts.Deferred.Dpcs as dpcs
+use Rattle.wdf_model.specs.parts.Deferred.WorkItems as work_items
+use Rattle.wdf_model.specs.parts.Deferred.Timers as timers
 use Rattle.wdf_model.specs.State.{State}
-use Rattle.wdf_model.specs.Deeds.{Ask_deletion, ask_object, ask_objects, do_deed}
+use Rattle.wdf_model.specs.rules.Deeds.{Ask_deletion, ask_object, ask_objects, do_deed}
 use Rattle.wdf_model.proofs.Maps.{entry_put_same, entry_put_other}
 
 -- ---- what is below an object, by the parents alone
@@ -45,9 +47,9 @@ subtree_by_parents T U o e =
 pub object_live : {A : Type 0} (S : State A) (x : ℕ) → is_live (life_of S.tree x) ≡ true
     → ask_object S x ≡ record S {
       tree = with_node S.tree x (with_life life.Asked);
-      dpcs = cancel_dpc S.dpcs x;
-      works = cancel_work S.works x;
-      timers = stop_timer S.timers x;
+      dpcs = dpcs.cancel S.dpcs x;
+      work_items = work_items.cancel S.work_items x;
+      timers = timers.stop S.timers x;
     }
 object_live S x h = rw h refl
 
@@ -103,7 +105,7 @@ asking_twice plan S o =
 
 -- the parts but for the tree and the queues of deferred work
 pub record OnlyDeletes {A : Type 0} (old new : State A) : Type 0 where
-  pub rest : new ≡ record old { tree = new.tree; dpcs = new.dpcs; works = new.works; timers = new.timers }
+  pub rest : new ≡ record old { tree = new.tree; dpcs = new.dpcs; work_items = new.work_items; timers = new.timers }
 
 object_deletes : {A : Type 0} (S : State A) (x : ℕ) (b : Bool) → is_live (life_of S.tree x) ≡ b → OnlyDeletes S (ask_object S x)
 object_deletes S x true h = rw (object_live S x h) (record { rest = refl })
@@ -111,8 +113,8 @@ object_deletes S x false h = rw (object_off S x h) (record { rest = refl })
 
 then_deletes : {A : Type 0} (S T U : State A) → OnlyDeletes S T → OnlyDeletes T U → OnlyDeletes S U
 then_deletes {A} S T U h k =
-    let front : record T { tree = U.tree; dpcs = U.dpcs; works = U.works; timers = U.timers } ≡ record S { tree = U.tree; dpcs = U.dpcs; works = U.works; timers = U.timers }
-    = ap (λ (V : State A). record V { tree = U.tree; dpcs = U.dpcs; works = U.works; timers = U.timers }) h.rest in
+    let front : record T { tree = U.tree; dpcs = U.dpcs; work_items = U.work_items; timers = U.timers } ≡ record S { tree = U.tree; dpcs = U.dpcs; work_items = U.work_items; timers = U.timers }
+    = ap (λ (V : State A). record V { tree = U.tree; dpcs = U.dpcs; work_items = U.work_items; timers = U.timers }) h.rest in
     record { rest = k.rest ∙ front }
 
 all_delete : {A : Type 0} (xs : List ℕ) (S T : State A) → OnlyDeletes S T → OnlyDeletes S (fold ask_object T xs)

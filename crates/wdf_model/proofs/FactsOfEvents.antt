@@ -12,18 +12,18 @@ use Rattle.wdf_base.specs.declared.call.Callback.TheVariants as callback
 use Rattle.wdf_base.specs.declared.event.Event.{Event}
 use Rattle.wdf_base.specs.declared.event.Event.TheVariants as event
 use Rattle.wdf_base.specs.declared.frame.Frame.{Frame}
-use Rattle.wdf_model.specs.Objects.{is_gone, is_live, is_asked, is_cleaned, life_of}
-use Rattle.wdf_model.specs.Frames.{no_frame, running, frame_of, top}
+use Rattle.wdf_model.specs.parts.Tree.{is_gone, is_live, is_asked, is_cleaned, life_of}
+use Rattle.wdf_model.specs.parts.Cpus.{no_frame, running, frame_of, top}
 use Rattle.wdf_model.specs.Plans.{callback_irql}
-use Rattle.wdf_model.specs.Locks.{is_free_if_any, lock_of_callback}
+use Rattle.wdf_model.specs.parts.Locks.{is_free_if_any, lock_of_callback}
 use Rattle.wdf_model.specs.State.{State, declares_in, declared_in, is_proper}
-use Rattle.wdf_model.specs.Starts.{is_ready_for, level_fits, life_fits, may_start}
-use Rattle.wdf_model.specs.Deeds.{Deed, Go_on, do_deeds, counted}
-use Rattle.wdf_model.specs.Machine.{goes_on, stepped, after, is_proper_if_any, may}
-use Rattle.wdf_model.specs.Agents.{Agent, Manager, App, Device, Target, agent_after, agents}
-use Rattle.wdf_model.specs.Script.{intent_of}
-use Rattle.wdf_model.specs.Ready.{ready, state_after}
-use Rattle.wdf_model.specs.FactsOfEvents.{IsTick, MovesOnlyFrame, touches_gone}
+use Rattle.wdf_model.specs.rules.Starts.{is_ready_for, level_fits, life_fits, may_start}
+use Rattle.wdf_model.specs.rules.Deeds.{Deed, Go_on, do_deeds, counted}
+use Rattle.wdf_model.specs.rules.Steps.{goes_on, stepped, after, is_proper_if_any, may}
+use Rattle.wdf_model.specs.agents.{Agent, Manager, App, Device, Target, agent_after, agents}
+use Rattle.wdf_model.specs.rules.Script.{intent_of}
+use Rattle.wdf_model.specs.rules.Ready.{ready, state_after}
+use Rattle.wdf_model.specs.laws.FactsOfEvents.{IsTick, MovesOnlyFrame, touches_gone}
 use Rattle.wdf_model.proofs.Maps.{entry_put_same, entry_put_other}
 use Rattle.wdf_model.proofs.Tests.{both_left, both_right}
 use Rattle.wdf_model.proofs.Follows.{follows}

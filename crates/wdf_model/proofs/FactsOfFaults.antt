@@ -1,7 +1,7 @@
 -- The sixteen faults, each once, by computation.
 use Rattle.std.proofs.Common.{◌≡◌, map, replicate, Some, None, refl}
 use Rattle.wdf_base.specs.declared.words.TheConstants.{FAULTS}
-use Rattle.wdf_model.specs.FactsOfFaults.{MISTAKES, DONE_RIGHT, fault_in_deal}
+use Rattle.wdf_model.specs.laws.FactsOfFaults.{MISTAKES, DONE_RIGHT, fault_in_deal}
 
 pub each_mistake : map fault_in_deal MISTAKES ≡ map Some FAULTS
 each_mistake = refl

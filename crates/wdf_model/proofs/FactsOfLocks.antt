@@ -2,7 +2,7 @@
 use Rattle.std.proofs.Common.{◌≡◌, refl}
 use Rattle.wdf_base.specs.declared.declared.Scope.{Scope}
 use Rattle.wdf_base.specs.declared.declared.Scope.TheVariants as scope
-use Rattle.wdf_model.specs.FactsOfLocks.{locks_under, locks_expected}
+use Rattle.wdf_model.specs.laws.FactsOfLocks.{locks_under, locks_expected}
 
 pub each_lock : (s : Scope) → locks_under s ≡ locks_expected s
 each_lock scope.PerDevice = refl

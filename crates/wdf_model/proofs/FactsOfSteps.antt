@@ -9,8 +9,8 @@ use Rattle.wdf_base.specs.declared.event.Ask.{Ask}
 use Rattle.wdf_base.specs.declared.event.Ask.TheVariants as ask
 use Rattle.wdf_model.specs.declared.enums.Phase.{Phase}
 use Rattle.wdf_model.specs.declared.enums.Phase.TheVariants as phase
-use Rattle.wdf_model.specs.Sequences.{DeviceSteps, down_steps, enable_steps, end_steps, flush_steps, hard_steps, pass, run, self_managed_start, steps_for, steps_working, tail_steps, up_steps}
-use Rattle.wdf_model.specs.FactsOfSteps.{last_of, passes, passing, stage_reached, was_working, whole_device, whole_steps}
+use Rattle.wdf_model.specs.parts.Pnp.{DeviceSteps, down_steps, enable_steps, end_steps, flush_steps, hard_steps, pass, run, self_managed_start, steps_for, steps_working, tail_steps, up_steps}
+use Rattle.wdf_model.specs.laws.FactsOfSteps.{last_of, passes, passing, stage_reached, was_working, whole_device, whole_steps}
 
 -- the last of a list that another one goes before
 pub last_of_behind : {T : Type 0} (xs ys : List T) (y : T) → last_of ys ≡ Some y → last_of (xs ++ ys) ≡ Some y

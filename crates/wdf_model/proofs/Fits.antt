@@ -20,15 +20,15 @@ use Rattle.wdf_base.specs.Calls.{signature_of}
 use Rattle.wdf_base.specs.Kinds.{class_kind}
 use Rattle.wdf_base.specs.Same.{same_kind}
 use Rattle.wdf_model.specs.Plans.{declares, is_parallel_queue, kind_of_class}
-use Rattle.wdf_model.specs.Objects.{is_full, is_live, kind_of, life_of}
-use Rattle.wdf_model.specs.Requests.{is_cancelled, is_owned, mark_answer, place_of}
-use Rattle.wdf_model.specs.Lines.{front}
-use Rattle.wdf_model.specs.Modes.{accepts, is_purged, mode_of}
+use Rattle.wdf_model.specs.parts.Tree.{is_full, is_live, kind_of, life_of}
+use Rattle.wdf_model.specs.parts.Requests.{is_cancelled, is_owned, mark_answer, place_of}
+use Rattle.wdf_model.specs.parts.Queues.{front}
+use Rattle.wdf_model.specs.parts.Control.{accepts, is_purged, mode_of}
 use Rattle.wdf_model.specs.State.{State, object_in, queue_delivers}
-use Rattle.wdf_model.specs.Deeds.{Deed, do_deed, do_deeds, Forward, Give_back, Mark_request, Requeue, Send_request}
-use Rattle.wdf_model.specs.Faults.{View, is_request_kind, any_argument, call_faults, forgets_made, is_wrong_kind}
-use Rattle.wdf_model.specs.Calls.{Outcome, create_outcome, creation, forward_outcome, forwards_nowhere, mark_outcome, may_send, new_handle, number, origin_or_none, refused, requeue_outcome, retrieve_front, retrieve_outcome, send_outcome, success}
-use Rattle.wdf_model.specs.Fits.{all_fit, fits, is_given}
+use Rattle.wdf_model.specs.rules.Deeds.{Deed, do_deed, do_deeds, Forward, Give_back, Mark_request, Requeue, Send_request}
+use Rattle.wdf_model.specs.rules.Faults.{View, is_request_kind, any_argument, call_faults, forgets_made, is_wrong_kind}
+use Rattle.wdf_model.specs.rules.Calls.{Outcome, create_outcome, creation, forward_outcome, forwards_nowhere, mark_outcome, may_send, new_handle, number, origin_or_none, refused, requeue_outcome, retrieve_front, retrieve_outcome, send_outcome, success}
+use Rattle.wdf_model.specs.laws.Fits.{all_fit, fits, is_given}
 use Rattle.wdf_model.proofs.Tests.{alone, both, both_left, both_right, either_false, itself, not_false, second}
 
 -- deeds that fit, and others that fit behind them
@@ -123,7 +123,7 @@ create_fits plan S class parent =
 
 pub requeue_fits : {A : Type 0} (plan : Plan) (S : State A) (r q : ℕ) → is_given S r ≡ true → all_fit plan (requeue_outcome S r q).deeds S ≡ true
 requeue_fits plan S r q h =
-    either_fits plan S (is_cancelled S.requests r || is_purged (mode_of S.modes q)) (success (Give_back r q ∷ [])) (success (Requeue r q ∷ []))
+    either_fits plan S (is_cancelled S.requests r || is_purged (mode_of S.control q)) (success (Give_back r q ∷ [])) (success (Requeue r q ∷ []))
     (λ _. alone (is_given S r) h) (λ _. alone (is_given S r) h)
 
 pub mark_fits : {A : Type 0} (plan : Plan) (S : State A) (r : ℕ) → is_given S r ≡ true → all_fit plan (mark_outcome plan S r).deeds S ≡ true
@@ -134,13 +134,13 @@ mark_fits plan S r h =
 pub forward_fits : {A : Type 0} (plan : Plan) (S : State A) (r q : ℕ) → is_given S r ≡ true → all_fit plan (forward_outcome plan S r q).deeds S ≡ true
 forward_fits plan S r q h =
     either_fits plan S (forwards_nowhere plan S r q) (refused status.InvalidDeviceRequest)
-    (if not (accepts S.modes q) then refused status.WdfBusy else if is_cancelled S.requests r then success (Give_back r q ∷ []) else success (Forward r q ∷ []))
+    (if not (accepts S.control q) then refused status.WdfBusy else if is_cancelled S.requests r then success (Give_back r q ∷ []) else success (Forward r q ∷ []))
     (λ _. refl)
-    (λ _. either_fits plan S (not (accepts S.modes q)) (refused status.WdfBusy) (if is_cancelled S.requests r then success (Give_back r q ∷ []) else success (Forward r q ∷ []))
+    (λ _. either_fits plan S (not (accepts S.control q)) (refused status.WdfBusy) (if is_cancelled S.requests r then success (Give_back r q ∷ []) else success (Forward r q ∷ []))
     (λ _. refl)
     (λ open_. either_fits plan S (is_cancelled S.requests r) (success (Give_back r q ∷ [])) (success (Forward r q ∷ []))
     (λ _. alone (is_given S r) h)
-    (λ _. alone (is_given S r && accepts S.modes q) (both (is_given S r) (accepts S.modes q) h (not_false (accepts S.modes q) open_)))))
+    (λ _. alone (is_given S r && accepts S.control q) (both (is_given S r) (accepts S.control q) h (not_false (accepts S.control q) open_)))))
 
 pub send_fits : {A : Type 0} (plan : Plan) (S : State A) (r t : ℕ) (forget : Bool) → is_owned (place_of S.requests r) ≡ true
     → (not forget || same_kind (kind_of S.tree r) kind.Request) ≡ true → all_fit plan (send_outcome S r t forget).deeds S ≡ true
@@ -150,14 +150,14 @@ send_fits plan S r t forget owned made =
     (both (is_owned (place_of S.requests r) && may_send S r t) (not forget || same_kind (kind_of S.tree r) kind.Request) (both (is_owned (place_of S.requests r)) (may_send S r t) owned may) made))
     (λ _. refl)
 
-front_fits : {A : Type 0} (plan : Plan) (S : State A) (q : ℕ) (there : Option ℕ) → front S.lines q ≡ there → all_fit plan (retrieve_front plan S q there).deeds S ≡ true
+front_fits : {A : Type 0} (plan : Plan) (S : State A) (q : ℕ) (there : Option ℕ) → front S.queues q ≡ there → all_fit plan (retrieve_front plan S q there).deeds S ≡ true
 front_fits plan S q None e = refl
 front_fits plan S q (Some r) e = rw e (alone (r == r) (itself r))
 
 pub retrieve_fits : {A : Type 0} (plan : Plan) (S : State A) (q : ℕ) → all_fit plan (retrieve_outcome plan S q).deeds S ≡ true
 retrieve_fits plan S q =
-    either_fits plan S (is_parallel_queue plan q) (refused status.InvalidDeviceState) (if not (queue_delivers plan S q) then refused status.WdfPaused else retrieve_front plan S q (front S.lines q))
+    either_fits plan S (is_parallel_queue plan q) (refused status.InvalidDeviceState) (if not (queue_delivers plan S q) then refused status.WdfPaused else retrieve_front plan S q (front S.queues q))
     (λ _. refl)
-    (λ _. either_fits plan S (not (queue_delivers plan S q)) (refused status.WdfPaused) (retrieve_front plan S q (front S.lines q))
+    (λ _. either_fits plan S (not (queue_delivers plan S q)) (refused status.WdfPaused) (retrieve_front plan S q (front S.queues q))
     (λ _. refl)
-    (λ _. front_fits plan S q (front S.lines q) refl))
+    (λ _. front_fits plan S q (front S.queues q) refl))

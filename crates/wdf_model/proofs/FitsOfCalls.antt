@@ -12,18 +12,19 @@ use Rattle.wdf_base.specs.declared.object.Kind.TheVariants as kind
 use Rattle.wdf_base.specs.declared.value.Status.TheVariants as status
 use Rattle.wdf_base.specs.Same.{same_kind}
 use Rattle.wdf_model.specs.Plans.{declares, is_manual_queue, parent_of_class}
-use Rattle.wdf_model.specs.Objects.{is_live, kind_of, life_of, references_of}
-use Rattle.wdf_model.specs.Requests.{is_owned, place_of}
-use Rattle.wdf_model.specs.Interrupts.{is_enabled}
-use Rattle.wdf_model.specs.Deferred.{is_dpc_queued, is_timer_queued}
-use Rattle.wdf_model.specs.Power.{acknowledged}
-use Rattle.wdf_model.specs.Script.{flag}
+use Rattle.wdf_model.specs.parts.Tree.{is_live, kind_of, life_of, references_of}
+use Rattle.wdf_model.specs.parts.Requests.{is_owned, place_of}
+use Rattle.wdf_model.specs.parts.Interrupts.{is_enabled}
+use Rattle.wdf_model.specs.parts.Deferred.Dpcs.{is_dpc_queued}
+use Rattle.wdf_model.specs.parts.Deferred.Timers.{is_timer_queued}
+use Rattle.wdf_model.specs.parts.Power.{acknowledged}
+use Rattle.wdf_model.specs.rules.Script.{flag}
 use Rattle.wdf_model.specs.State.{State, is_with_driver, object_in}
-use Rattle.wdf_model.specs.Deeds.{Acknowledge, Enqueue_dpc, Enqueue_work, Register_queue, Start_timer}
-use Rattle.wdf_model.specs.Faults.{arg_is, call_faults, is_stop_of}
-use Rattle.wdf_model.specs.Calls.{acknowledge_outcome, class_in, dpc_outcome, isr_dpc_outcome, notify_outcome, number, number_in, origin_or_none, outcome, refused, requeue_outcome, success, timer_outcome, work_outcome}
-use Rattle.wdf_model.specs.Machine.{view_of}
-use Rattle.wdf_model.specs.Fits.{all_fit, is_given}
+use Rattle.wdf_model.specs.rules.Deeds.{Acknowledge, Enqueue_dpc, Enqueue_work, Register_queue, Start_timer}
+use Rattle.wdf_model.specs.rules.Faults.{arg_is, call_faults, is_stop_of}
+use Rattle.wdf_model.specs.rules.Calls.{acknowledge_outcome, class_in, dpc_outcome, isr_dpc_outcome, notify_outcome, number, number_in, origin_or_none, outcome, refused, requeue_outcome, success, timer_outcome, work_outcome}
+use Rattle.wdf_model.specs.rules.Steps.{view_of}
+use Rattle.wdf_model.specs.laws.Fits.{all_fit, is_given}
 use Rattle.wdf_model.proofs.Tests.{alone, both, either_false, not_false, positive, second}
 use Rattle.wdf_model.proofs.Fits.{create_fits, either_fits, first_kind, forgets_none, forgotten_arrived, forward_fits, given, mark_fits, requeue_fits, retrieve_fits, send_fits, wrong_kind_of_first}
 

@@ -35,20 +35,20 @@ use Rattle.wdf_base.specs.Callbacks.{row_of}
 use Rattle.wdf_base.specs.declared.call.Callback.TheVariants as callback
 use Rattle.wdf_base.specs.Same.{same_handle, same_option, same_post, same_step}
 use Rattle.wdf_model.specs.Plans.{callback_irql, managed_queues, queue_for, queues_of, has_handler, is_manual_queue, queue_of, target_of_agent}
-use Rattle.wdf_model.specs.Objects.{is_live, life_of, nearest_device}
-use Rattle.wdf_model.specs.Frames.{frame_of, top}
-use Rattle.wdf_model.specs.Locks.{is_free_if_any, is_free_lock, lock_of_callback}
-use Rattle.wdf_model.specs.Requests.{arrival_of, is_closing, is_done, is_sent, is_sent_to, place_of}
-use Rattle.wdf_model.specs.Modes.{accepts}
-use Rattle.wdf_model.specs.Sequences.{is_running_step, next_step}
+use Rattle.wdf_model.specs.parts.Tree.{is_live, life_of, nearest_device}
+use Rattle.wdf_model.specs.parts.Cpus.{frame_of, top}
+use Rattle.wdf_model.specs.parts.Locks.{is_free_if_any, is_free_lock, lock_of_callback}
+use Rattle.wdf_model.specs.parts.Requests.{arrival_of, is_closing, is_done, is_sent, is_sent_to, place_of}
+use Rattle.wdf_model.specs.parts.Control.{accepts}
+use Rattle.wdf_model.specs.parts.Pnp.{is_running_step, next_step}
 use Rattle.wdf_model.specs.State.{State, declared_in, declares_in, is_proper, is_with_driver}
-use Rattle.wdf_model.specs.Deeds.{Arrive, Close_returning, Count_arrival, Deed, Go_on, Pop_frame, Push_frame, do_deed, do_deeds}
-use Rattle.wdf_model.specs.Script.{intent_of}
-use Rattle.wdf_model.specs.Calls.{is_met, outcome, second_deeds}
-use Rattle.wdf_model.specs.Starts.{callback_over, clean_ready, close_queue, destroy_ready, effect, effect_for, end_deeds, end_of_step, is_ready_for, level_fits, life_fits, may_pass, may_start, new_frame, next_number, rank_ready, rank_ready_for, release_if_any, stage_deeds, stage_effect, stage_ready, start_deeds, start_effect, step_of, step_ready, take_if_any}
-use Rattle.wdf_model.specs.Posts.{arrival_deeds, arrival_info, arrival_place, cancel_at, cancel_deeds, due_of, in_reach, is_data, may_finish, place_if_any, place_in_queue, post_answer, post_deeds, post_fits, takes_empty}
-use Rattle.wdf_model.specs.Machine.{answered, by_top, did_deeds, goes_on, spending, stepped, waiting, waiting_deeds, woke_deeds, deeds, is_closing_with, is_own_event, is_proper_if_any, may}
-use Rattle.wdf_model.specs.Fits.{all_fit, is_arrival_place}
+use Rattle.wdf_model.specs.rules.Deeds.{Arrive, Close_returning, Count_arrival, Deed, Go_on, Pop_frame, Push_frame, do_deed, do_deeds}
+use Rattle.wdf_model.specs.rules.Script.{intent_of}
+use Rattle.wdf_model.specs.rules.Calls.{is_met, outcome, second_deeds}
+use Rattle.wdf_model.specs.rules.Starts.{callback_over, clean_ready, close_queue, destroy_ready, effect, effect_for, end_deeds, end_of_step, is_ready_for, level_fits, life_fits, may_pass, may_start, new_frame, next_number, rank_ready, rank_ready_for, release_if_any, stage_deeds, stage_effect, stage_ready, start_deeds, start_effect, step_of, step_ready, take_if_any}
+use Rattle.wdf_model.specs.rules.Posts.{arrival_deeds, arrival_info, arrival_place, cancel_at, cancel_deeds, due_of, in_reach, is_data, may_finish, place_if_any, place_in_queue, post_answer, post_deeds, post_fits, takes_empty}
+use Rattle.wdf_model.specs.rules.Steps.{answered, by_top, did_deeds, goes_on, spending, stepped, waiting, waiting_deeds, woke_deeds, deeds, is_closing_with, is_own_event, is_proper_if_any, may}
+use Rattle.wdf_model.specs.laws.Fits.{all_fit, is_arrival_place}
 use Rattle.wdf_model.proofs.Tests.{alone, both, both_left, both_right, either_false, first, itself}
 use Rattle.wdf_model.proofs.OwnEvents.{IsDid, IsWaiting, IsWoke, did_tells, waiting_tells, woke_tells}
 use Rattle.wdf_model.proofs.Fits.{fit_behind}
@@ -68,8 +68,8 @@ there_is : (found : Option Step) (s : Step) → same_option same_step found (Som
 there_is None s h = h
 there_is (Some x) s h = refl
 
-step_fits : {A : Type 0} (S : State A) (d : ℕ) (s : Step) → step_ready S d s ≡ true → (is_some (next_step S.sequences d) && not (is_running_step S.sequences d)) ≡ true
-step_fits S d s h = both (is_some (next_step S.sequences d)) (not (is_running_step S.sequences d)) (there_is (next_step S.sequences d) s (search (both_left, both_right))) (search (both_left, both_right))
+step_fits : {A : Type 0} (S : State A) (d : ℕ) (s : Step) → step_ready S d s ≡ true → (is_some (next_step S.pnp d) && not (is_running_step S.pnp d)) ≡ true
+step_fits S d s h = both (is_some (next_step S.pnp d)) (not (is_running_step S.pnp d)) (there_is (next_step S.pnp d) s (search (both_left, both_right))) (search (both_left, both_right))
 
 effect_for_fits : {A : Type 0} (plan : Plan) (S : State A) (k : Rank) (c : Callback) (o r : ℕ) → rank_ready_for plan S k c o r ≡ true → all_fit plan (effect_for k o r) S ≡ true
 effect_for_fits plan S rank.Completion c o r h =
@@ -221,7 +221,7 @@ stage_effect_fits plan d stage.Removed i S = refl
 
 stage_fits : {A : Type 0} (plan : Plan) (S : State A) (d : ℕ) (s : Stage) (i : Option Handle) → may_pass plan S d s i ≡ true → all_fit plan (stage_deeds plan d s i) S ≡ true
 stage_fits plan S d s i h =
-    both (is_some (next_step S.sequences d) && not (is_running_step S.sequences d)) _
+    both (is_some (next_step S.pnp d) && not (is_running_step S.pnp d)) _
     (step_fits S d (step.Pass s i) (both_left (step_ready S d (step.Pass s i)) (stage_ready plan S d s i) h))
     (stage_effect_fits plan d s i _)
 
@@ -243,7 +243,7 @@ if_arrives false p q h k = k
 
 arrives_in_queue : {A : Type 0} (plan : Plan) (S : State A) (f : RequestForm) (length q : ℕ) → is_arrival_place (place_in_queue plan S f length q) ≡ true
 arrives_in_queue plan S f length q =
-    if_arrives (not (accepts S.modes q)) (place.Closing status.InvalidDeviceState) _ refl
+    if_arrives (not (accepts S.control q)) (place.Closing status.InvalidDeviceState) _ refl
     (if_arrives (is_data f && length == 0 && not (takes_empty (queue_of plan q))) (place.Closing status.Success) _ refl
     (if_arrives (not (is_manual_queue plan q || has_handler plan q f)) (place.Closing status.InvalidDeviceRequest) (place.Queued (record { 0 = q })) refl refl))
 

@@ -8,10 +8,10 @@ use Rattle.wdf_base.specs.declared.event.Event.{Event}
 use Rattle.wdf_base.specs.declared.event.Event.TheVariants as event
 use Rattle.wdf_base.specs.declared.event.Fault.{Fault}
 use Rattle.wdf_model.specs.State.{State, opening}
-use Rattle.wdf_model.specs.Machine.{after, may}
-use Rattle.wdf_model.specs.Candidates.{candidates}
-use Rattle.wdf_model.specs.Ready.{allowed, fault_in, last_fault, or_tick, ready, ready_in, state_after, unless_fault, waits_for_time}
-use Rattle.wdf_model.specs.FactsOfEvents.{IsTick}
+use Rattle.wdf_model.specs.rules.Steps.{after, may}
+use Rattle.wdf_model.specs.rules.Groups.{candidates}
+use Rattle.wdf_model.specs.rules.Ready.{allowed, fault_in, last_fault, or_tick, ready, ready_in, state_after, unless_fault, waits_for_time}
+use Rattle.wdf_model.specs.laws.FactsOfEvents.{IsTick}
 use Rattle.wdf_model.proofs.Runs.{slice_get-append-right}
 use Rattle.wdf_model.proofs.Tests.{in_filter}
 

@@ -5,17 +5,17 @@ use Rattle.wdf_base.specs.declared.object.Kind.TheVariants as kind
 use Rattle.wdf_base.specs.declared.object.Place.{Place}
 use Rattle.wdf_base.specs.declared.object.Place.TheVariants as place
 use Rattle.wdf_base.specs.Same.{same_kind}
-use Rattle.wdf_model.specs.Objects.{Tree, kind_of}
-use Rattle.wdf_model.specs.Requests.{Requests, has_arrived, is_done, is_queued_in, is_sent_to, place_of, request_of}
-use Rattle.wdf_model.specs.Lines.{Lines, waiting_in}
-use Rattle.wdf_model.specs.Targets.{Targets, the_target}
-use Rattle.wdf_model.specs.Script.{flag}
+use Rattle.wdf_model.specs.parts.Tree.{Tree, kind_of}
+use Rattle.wdf_model.specs.parts.Requests.{Requests, has_arrived, is_done, is_queued_in, is_sent_to, place_of, request_of}
+use Rattle.wdf_model.specs.parts.Queues.{Queues, waiting_in}
+use Rattle.wdf_model.specs.parts.Targets.{Targets, the_target}
+use Rattle.wdf_model.specs.rules.Script.{flag}
 use Rattle.wdf_model.proofs.Counts.{one_or_two}
 
 -- ---- readers
 
 -- how often a request stands in a queue's line, and among a target's sendings
-abbrev pub stands : Lines → ℕ → ℕ → ℕ
+abbrev pub stands : Queues → ℕ → ℕ → ℕ
 stands Q q r = count_by (λ x. x == r) (waiting_in Q q)
 
 abbrev pub sends : Targets → ℕ → ℕ → ℕ
@@ -41,7 +41,7 @@ is_made_place _ = false
 -- ---- the invariant
 
 -- F tells the requests that were completed, and B those that arrived.
-pub record Kept (F B : ℕ → Bool) (R : Requests) (Q : Lines) (T : Targets) (N : Tree) : Type 0 where
+pub record Kept (F B : ℕ → Bool) (R : Requests) (Q : Queues) (T : Targets) (N : Tree) : Type 0 where
   -- a request is Queued where it stands in that queue's line, once; and Sent where that target has it, once
   pub queued : (q r : ℕ) → stands Q q r ≡ flag (is_queued_in q (place_of R r))
   pub sent : (t r : ℕ) → sends T t r ≡ flag (is_sent_to t (place_of R r))
@@ -60,7 +60,7 @@ pub record Kept (F B : ℕ → Bool) (R : Requests) (Q : Lines) (T : Targets) (N
 
 -- ---- a request moves, and the others stay
 
-pub record Moves (F B : ℕ → Bool) (R R' : Requests) (Q Q' : Lines) (T T' : Targets) (N N' : Tree) (r : ℕ) (p : Place) : Type 0 where
+pub record Moves (F B : ℕ → Bool) (R R' : Requests) (Q Q' : Queues) (T T' : Targets) (N N' : Tree) (r : ℕ) (p : Place) : Type 0 where
   pub elsewhere : (x : ℕ) → x ≢ r → place_of R' x ≡ place_of R x
   pub here : place_of R' r ≡ p
   pub arrivals : (x : ℕ) → x ≢ r → arrived R' x ≡ arrived R x
@@ -78,7 +78,7 @@ pub record Moves (F B : ℕ → Bool) (R R' : Requests) (Q Q' : Lines) (T T' : T
   pub unended : F r ≡ true → is_done p ≡ true
   pub begun : arrived R' r ≡ true → B r ≡ true
 
-module _ {F B : ℕ → Bool} {R R' : Requests} {Q Q' : Lines} {T T' : Targets} {N N' : Tree} {r : ℕ} {p : Place} where
+module _ {F B : ℕ → Bool} {R R' : Requests} {Q Q' : Queues} {T T' : Targets} {N N' : Tree} {r : ℕ} {p : Place} where
   queued_after : Kept F B R Q T N → Moves F B R R' Q Q' T T' N N' r p → (q x : ℕ) → (x ≡ r) ⊎ (x ≢ r) → stands Q' q x ≡ flag (is_queued_in q (place_of R' x))
   queued_after k m q x (inl e) = rw (e, m.here) (m.line q)
   queued_after k m q x (inr n) = rw (m.elsewhere x n) (m.other_lines q x n ∙ k.queued q x)

@@ -15,19 +15,24 @@ use Rattle.wdf_base.specs.declared.value.Status.TheVariants as status
 use Rattle.wdf_base.specs.Same.{same_kind}
 use Rattle.wdf_model.specs.declared.enums.Mode.TheVariants as mode
 use Rattle.wdf_model.specs.Tables.{ids_of}
-use Rattle.wdf_model.specs.Objects.{Node, Tree, create, gone, is_full, is_live, kind_of, life_of, nearest_device, new_node, next_id, node_of, noted, subtree, with_life, with_node}
-use Rattle.wdf_model.specs.Requests.{Request, Requests, cancel_request, cancelled, has_arrived, is_closing, is_done, is_due, mark_of, is_marked, is_owned, is_queued_in, is_returning_to, is_sent, is_sent_to, made_info, marked, move_to, moved, place_of, unmarked, with_mark}
+use Rattle.wdf_model.specs.parts.Tree.{Node, Tree, gone, is_full, is_live, kind_of, life_of, nearest_device, new_node, next_id, node_of, noted, subtree, with_life, with_node}
+use Rattle.wdf_model.specs.parts.Tree as tree
+use Rattle.wdf_model.specs.parts.Requests.{Request, Requests, cancelled, has_arrived, is_closing, is_done, is_due, mark_of, is_marked, is_owned, is_queued_in, is_returning_to, is_sent, is_sent_to, made_info, marked, moved, place_of, unmarked, with_mark}
+use Rattle.wdf_model.specs.parts.Requests as requests
 use Rattle.wdf_base.specs.declared.object.Mark.TheVariants as mark
-use Rattle.wdf_model.specs.Lines.{Line, Lines, enter_head, enter_tail, hold, take_cancelled, waiting_in}
-use Rattle.wdf_model.specs.Modes.{accepts, set_mode}
-use Rattle.wdf_model.specs.Targets.{Target, Targets, is_forgotten, is_undone, routine_due, send, the_target, with_target}
-use Rattle.wdf_model.specs.Power.{Power}
-use Rattle.wdf_model.specs.Script.{flag}
+use Rattle.wdf_model.specs.parts.Queues.{Queue, Queues, waiting_in}
+use Rattle.wdf_model.specs.parts.Queues as queues
+use Rattle.wdf_model.specs.parts.Control.{accepts}
+use Rattle.wdf_model.specs.parts.Control as control
+use Rattle.wdf_model.specs.parts.Targets.{Target, Targets, is_forgotten, is_undone, routine_due, the_target, with_target}
+use Rattle.wdf_model.specs.parts.Targets as targets
+use Rattle.wdf_model.specs.parts.Power.{Power}
+use Rattle.wdf_model.specs.rules.Script.{flag}
 use Rattle.wdf_model.specs.State.{State, held_at, is_with_driver, withdrawn_place}
-use Rattle.wdf_model.specs.Deeds.{Deed, Create, Make_request, Arrive, Ask_deletion, Refer, Unrefer, Write_cell, Note, Clean_up, End_life, Present, Receive, Requeue, Forward, Give_back, Withdraw, Mark_request, Unmark_request, Cancel_request, Take_cancel, Send_request, Finish_sending, Come_back, Complete_request, Purge_queue, Close_returning, Stop_target, Start_target, arrive_at, ask_object, ask_objects, close_one, do_deed, do_deeds, give_up, give_up_if, queued, release_line, withdraw}
-use Rattle.wdf_model.specs.Faults.{is_request_kind}
-use Rattle.wdf_model.specs.Calls.{may_send}
-use Rattle.wdf_model.specs.Fits.{all_fit, fits, is_arrival_place, is_given, is_reached}
+use Rattle.wdf_model.specs.rules.Deeds.{Deed, Create, Make_request, Arrive, Ask_deletion, Refer, Unrefer, Write_cell, Note, Clean_up, End_life, Present, Receive, Requeue, Forward, Give_back, Withdraw, Mark_request, Unmark_request, Cancel_request, Take_cancel, Send_request, Finish_sending, Come_back, Complete_request, Purge_queue, Close_returning, Stop_target, Start_target, arrive_at, ask_object, ask_objects, close_one, do_deed, do_deeds, give_up, give_up_if, queued, release_line, withdraw}
+use Rattle.wdf_model.specs.rules.Faults.{is_request_kind}
+use Rattle.wdf_model.specs.rules.Calls.{may_send}
+use Rattle.wdf_model.specs.laws.Fits.{all_fit, fits, is_arrival_place, is_given, is_reached}
 use Rattle.wdf_model.proofs.Tests.{both_left, both_right, not_true}
 use Rattle.wdf_model.proofs.Sames.{kind_decides}
 use Rattle.wdf_model.proofs.Maps.{entry_before, entry_last, entry_put_other, entry_put_same, put_long}
@@ -39,12 +44,12 @@ use Rattle.wdf_model.proofs.KeptTargets.{come_back, finish_sending, new_request,
 
 -- the invariant in a state
 abbrev pub KeptIn : {A : Type 0} → (ℕ → Bool) → (ℕ → Bool) → State A → Type 0
-KeptIn F B S = Kept F B S.requests S.lines S.targets S.tree
+KeptIn F B S = Kept F B S.requests S.queues S.targets S.tree
 
 -- ---- objects
 
 -- an object is changed, and becomes no request
-tree_changes : {F B : ℕ → Bool} {R : Requests} {Q : Lines} {T : Targets} {N : Tree} (o : ℕ) (f : Node → Node) → Kept F B R Q T N → ((n : Node) → same_kind (f n).kind kind.Request ≡ true → same_kind n.kind kind.Request ≡ true)
+tree_changes : {F B : ℕ → Bool} {R : Requests} {Q : Queues} {T : Targets} {N : Tree} (o : ℕ) (f : Node → Node) → Kept F B R Q T N → ((n : Node) → same_kind (f n).kind kind.Request ≡ true → same_kind n.kind kind.Request ≡ true)
     → Kept F B R Q T (with_node N o f)
 tree_changes {N = N} o f k kinds = same_tree k
     (λ x h. elim (one_or_two x o) [
@@ -56,7 +61,7 @@ tree_changes {N = N} o f k kinds = same_tree k
 isnt_request : (k : Kind) → is_request_kind k ≡ false → same_kind k kind.Request ≡ true → ⊥
 isnt_request k h e = let same : k ≡ kind.Request = (kind_decides k kind.Request).0 e in let f = rw same at h in let z : ⊥ = cc in z
 
-object_made : {F B : ℕ → Bool} {R : Requests} {Q : Lines} {T : Targets} {N : Tree} (what : Kind) (class parent : ℕ) → Kept F B R Q T N → is_request_kind what ≡ false → Kept F B R Q T (create N what class parent)
+object_made : {F B : ℕ → Bool} {R : Requests} {Q : Queues} {T : Targets} {N : Tree} (what : Kind) (class parent : ℕ) → Kept F B R Q T N → is_request_kind what ≡ false → Kept F B R Q T (tree.create N what class parent)
 object_made {N = N} what class parent k h = same_tree k
     (λ x e. elim (one_or_two x (next_id N)) [
       | inl same ↦ absurd (isnt_request what h (sym (ap (λ (n : Node). same_kind n.kind kind.Request) (entry_last gone N.nodes (new_node what class parent))) ∙ rw same at e))
@@ -83,48 +88,48 @@ asked S o k = all_asked (subtree S.tree o) S k
 -- ---- the driver gives up a request
 
 pub record GivesUp {A : Type 0} (S U : State A) : Type 0 where
-  pub lines : (q : ℕ) → waiting_in U.lines q ≡ waiting_in S.lines q
+  pub queues : (q : ℕ) → waiting_in U.queues q ≡ waiting_in S.queues q
   pub requests : U.requests ≡ S.requests
   pub targets : U.targets ≡ S.targets
   pub tree : U.tree ≡ S.tree
 
-released : (Q : Lines) (from : Option ℕ) (q : ℕ) → waiting_in (release_line Q from) q ≡ waiting_in Q q
+released : (Q : Queues) (from : Option ℕ) (q : ℕ) → waiting_in (release_line Q from) q ≡ waiting_in Q q
 released Q None q = refl
 released Q (Some p) q = elim (one_or_two q p) [
-  | inl e ↦ rw e (ap (λ (l : Line). l.waiting) (line_here Q p (λ l. record l { held = l.held - 1 })))
-  | inr n ↦ ap (λ (l : Line). l.waiting) (line_elsewhere Q p q (λ l. record l { held = l.held - 1 }) n)
+  | inl e ↦ rw e (ap (λ (l : Queue). l.waiting) (line_here Q p (λ l. record l { held = l.held - 1 })))
+  | inr n ↦ ap (λ (l : Queue). l.waiting) (line_elsewhere Q p q (λ l. record l { held = l.held - 1 }) n)
 ]
 
-gives_up_by : {A : Type 0} (S : State A) (b : Bool) (from : Option ℕ) (power : Power) → GivesUp S (if b then record S { lines = release_line S.lines from; power = power } else S)
-gives_up_by S true from power = record { lines = λ q. released S.lines from q; requests = refl; targets = refl; tree = refl }
-gives_up_by S false from power = record { lines = λ q. refl; requests = refl; targets = refl; tree = refl }
+gives_up_by : {A : Type 0} (S : State A) (b : Bool) (from : Option ℕ) (power : Power) → GivesUp S (if b then record S { queues = release_line S.queues from; power = power } else S)
+gives_up_by S true from power = record { queues = λ q. released S.queues from q; requests = refl; targets = refl; tree = refl }
+gives_up_by S false from power = record { queues = λ q. refl; requests = refl; targets = refl; tree = refl }
 
 gives_up : {A : Type 0} (S : State A) (r : ℕ) → GivesUp S (give_up S r)
 gives_up S r = gives_up_by S (is_with_driver S r) _ _
 
 gives_up_if : {A : Type 0} (S : State A) (r : ℕ) (forget : Bool) → GivesUp S (give_up_if forget S r)
 gives_up_if S r true = gives_up S r
-gives_up_if S r false = record { lines = λ q. refl; requests = refl; targets = refl; tree = refl }
+gives_up_if S r false = record { queues = λ q. refl; requests = refl; targets = refl; tree = refl }
 
 -- the invariant with the parts of either state
-mixed : {A : Type 0} {F B : ℕ → Bool} (S U : State A) → GivesUp S U → KeptIn F B S → Kept F B S.requests U.lines S.targets S.tree
-mixed S U g k = same_lines k g.lines
+mixed : {A : Type 0} {F B : ℕ → Bool} (S U : State A) → GivesUp S U → KeptIn F B S → Kept F B S.requests U.queues S.targets S.tree
+mixed S U g k = same_lines k g.queues
 
 all_given_up : {A : Type 0} {F B : ℕ → Bool} (S U : State A) → GivesUp S U → KeptIn F B S → KeptIn F B U
 all_given_up {F = F} {B = B} S U g k =
-    subst (λ (N : Tree). Kept F B U.requests U.lines U.targets N) (sym g.tree)
-    (subst (λ (T : Targets). Kept F B U.requests U.lines T S.tree) (sym g.targets)
-    (subst (λ (R : Requests). Kept F B R U.lines S.targets S.tree) (sym g.requests) (mixed S U g k)))
+    subst (λ (N : Tree). Kept F B U.requests U.queues U.targets N) (sym g.tree)
+    (subst (λ (T : Targets). Kept F B U.requests U.queues T S.tree) (sym g.targets)
+    (subst (λ (R : Requests). Kept F B R U.queues S.targets S.tree) (sym g.requests) (mixed S U g k)))
 
-given_up_sent : {A : Type 0} {F B : ℕ → Bool} (S U : State A) → GivesUp S U → KeptIn F B S → Kept F B U.requests U.lines S.targets U.tree
+given_up_sent : {A : Type 0} {F B : ℕ → Bool} (S U : State A) → GivesUp S U → KeptIn F B S → Kept F B U.requests U.queues S.targets U.tree
 given_up_sent {F = F} {B = B} S U g k =
-    subst (λ (N : Tree). Kept F B U.requests U.lines S.targets N) (sym g.tree)
-    (subst (λ (R : Requests). Kept F B R U.lines S.targets S.tree) (sym g.requests) (mixed S U g k))
+    subst (λ (N : Tree). Kept F B U.requests U.queues S.targets N) (sym g.tree)
+    (subst (λ (R : Requests). Kept F B R U.queues S.targets S.tree) (sym g.requests) (mixed S U g k))
 
-given_up_done : {A : Type 0} {F B : ℕ → Bool} (S U : State A) → GivesUp S U → KeptIn F B S → Kept F B S.requests U.lines U.targets U.tree
+given_up_done : {A : Type 0} {F B : ℕ → Bool} (S U : State A) → GivesUp S U → KeptIn F B S → Kept F B S.requests U.queues U.targets U.tree
 given_up_done {F = F} {B = B} S U g k =
-    subst (λ (N : Tree). Kept F B S.requests U.lines U.targets N) (sym g.tree)
-    (subst (λ (T : Targets). Kept F B S.requests U.lines T S.tree) (sym g.targets) (mixed S U g k))
+    subst (λ (N : Tree). Kept F B S.requests U.queues U.targets N) (sym g.tree)
+    (subst (λ (T : Targets). Kept F B S.requests U.queues T S.tree) (sym g.targets) (mixed S U g k))
 
 still_given : {A : Type 0} (S U : State A) (r : ℕ) → GivesUp S U → is_given S r ≡ true → is_given U r ≡ true
 still_given S U r g h =
@@ -218,7 +223,7 @@ held_undone forgotten (place.Closing s) h = refl
 held_undone forgotten place.Done h = absurd (let z : ⊥ = cc in z)
 
 -- a request that is where none is that the driver made
-pub came_by_place : {F B : ℕ → Bool} {R : Requests} {Q : Lines} {T : Targets} {N : Tree} (r : ℕ) → Kept F B R Q T N → is_made_place (place_of R r) ≡ false → arrived R r ≡ true
+pub came_by_place : {F B : ℕ → Bool} {R : Requests} {Q : Queues} {T : Targets} {N : Tree} (r : ℕ) → Kept F B R Q T N → is_made_place (place_of R r) ≡ false → arrived R r ≡ true
 came_by_place {R = R} r k h = elim (cases_Bool (arrived R r)) [
   | inl e ↦ e
   | inr e ↦ absurd (let made = k.made r e in let z : ⊥ = cc in z)
@@ -232,41 +237,41 @@ owned_of S r h = both_left (is_owned (place_of S.requests r)) (same_kind (kind_o
 
 -- ---- cancels in a queue
 
-cancel_marks : {F B : ℕ → Bool} {R : Requests} {Q : Lines} {T : Targets} {N : Tree} (r : ℕ) → Kept F B R Q T N → is_done (place_of R r) ≡ false → Kept F B (cancel_request R r) Q T N
+cancel_marks : {F B : ℕ → Bool} {R : Requests} {Q : Queues} {T : Targets} {N : Tree} (r : ℕ) → Kept F B R Q T N → is_done (place_of R r) ≡ false → Kept F B (requests.cancel R r) Q T N
 cancel_marks {R = R} r k h = marks_change r cancelled k (within R r h) (λ q. refl) (λ q. refl)
 
-cancel_here : (R : Requests) (r : ℕ) → place_of (cancel_request R r) r ≡ place_of R r
+cancel_here : (R : Requests) (r : ℕ) → place_of (requests.cancel R r) r ≡ place_of R r
 cancel_here R r = ap (λ (q : Request). q.place) (request_here R r cancelled)
 
-cancel_arrived : (R : Requests) (r : ℕ) → arrived (cancel_request R r) r ≡ arrived R r
+cancel_arrived : (R : Requests) (r : ℕ) → arrived (requests.cancel R r) r ≡ arrived R r
 cancel_arrived R r = ap has_arrived (request_here R r cancelled)
 
 given_back : {A : Type 0} {F B : ℕ → Bool} (plan : Plan) (U : State A) (q r : ℕ) → KeptIn F B U → is_given U r ≡ true
-    → Kept F B (move_to (cancel_request U.requests r) r (withdrawn_place plan U q r)) U.lines U.targets U.tree
+    → Kept F B (requests.move_to (requests.cancel U.requests r) r (withdrawn_place plan U q r)) U.queues U.targets U.tree
 given_back plan U q r k h =
     let owned : is_owned (place_of U.requests r) ≡ true = owned_of U r h in
     let there : is_done (place_of U.requests r) ≡ false = owned_undone (place_of U.requests r) owned in
     let came : arrived U.requests r ≡ true = came_by_kind U r k h in
     still_move r (withdrawn_place plan U q r) (cancel_marks r k there) (ap is_done (cancel_here U.requests r) ∙ there) (ap is_still (cancel_here U.requests r) ∙ owned_still (place_of U.requests r) owned)
     (withdrawn_by _ q).0
-    (λ n. absurd (let yes : arrived (cancel_request U.requests r) r ≡ true = cancel_arrived U.requests r ∙ came in let z : ⊥ = cc in z))
+    (λ n. absurd (let yes : arrived (requests.cancel U.requests r) r ≡ true = cancel_arrived U.requests r ∙ came in let z : ⊥ = cc in z))
 
 withdrawn : {A : Type 0} {F B : ℕ → Bool} (plan : Plan) (q : ℕ) (S : State A) (r : ℕ) → KeptIn F B S → is_made_place (place_of S.requests r) ≡ false → KeptIn F B (withdraw plan q S r)
 withdrawn plan q S r k h =
     let there : is_done (place_of S.requests r) ≡ false = unmade_undone (place_of S.requests r) h in
     let came : arrived S.requests r ≡ true = came_by_place r k h in
-    withdraw_from_line r (withdrawn_place plan (record S { lines = take_cancelled S.lines r }) q r) (cancel_marks r k there)
+    withdraw_from_line r (withdrawn_place plan (record S { queues = queues.take_cancelled S.queues r }) q r) (cancel_marks r k there)
     (ap is_done (cancel_here S.requests r) ∙ there)
     (λ t. ap (is_sent_to t) (cancel_here S.requests r) ∙ unmade_unsent t (place_of S.requests r) h)
     (withdrawn_by _ q).0
-    (λ n. absurd (let yes : arrived (cancel_request S.requests r) r ≡ true = cancel_arrived S.requests r ∙ came in let z : ⊥ = cc in z))
+    (λ n. absurd (let yes : arrived (requests.cancel S.requests r) r ≡ true = cancel_arrived S.requests r ∙ came in let z : ⊥ = cc in z))
 
 -- a request that was withdrawn, or another, may be withdrawn still
 stays_unmade : {A : Type 0} (plan : Plan) (q : ℕ) (S : State A) (r x : ℕ) → is_made_place (place_of S.requests x) ≡ false → (x ≡ r) ⊎ (x ≢ r) → is_made_place (place_of (withdraw plan q S r).requests x) ≡ false
 stays_unmade plan q S r x h (inl e) =
-    rw e (ap (λ (y : Request). is_made_place y.place) (request_here (cancel_request S.requests r) r (moved (withdrawn_place plan (record S { lines = take_cancelled S.lines r }) q r))) ∙ (withdrawn_by _ q).1)
+    rw e (ap (λ (y : Request). is_made_place y.place) (request_here (requests.cancel S.requests r) r (moved (withdrawn_place plan (record S { queues = queues.take_cancelled S.queues r }) q r))) ∙ (withdrawn_by _ q).1)
 stays_unmade plan q S r x h (inr n) =
-    ap (λ (y : Request). is_made_place y.place) (request_elsewhere (cancel_request S.requests r) r x (moved (withdrawn_place plan (record S { lines = take_cancelled S.lines r }) q r)) n ∙ request_elsewhere S.requests r x cancelled n) ∙ h
+    ap (λ (y : Request). is_made_place y.place) (request_elsewhere (requests.cancel S.requests r) r x (moved (withdrawn_place plan (record S { queues = queues.take_cancelled S.queues r }) q r)) n ∙ request_elsewhere S.requests r x cancelled n) ∙ h
 
 all_withdrawn : {A : Type 0} {F B : ℕ → Bool} (plan : Plan) (q : ℕ) (rs : List ℕ) (S : State A) → KeptIn F B S → ((x : ℕ) → 1 ≤ count_by (λ y. y == x) rs → is_made_place (place_of S.requests x) ≡ false)
     → KeptIn F B (fold (withdraw plan q) S rs)
@@ -276,18 +281,18 @@ all_withdrawn plan q (r ∷ rs) S k h =
     (withdrawn plan q S r k (h r (let e = at_head r r rs in let yes : flag (r == r) ≡ 1 = ap flag (equal r r refl) in omega arith)))
     (λ x more. stays_unmade plan q S r x (h x (let e = at_head x r rs in omega arith)) (one_or_two x r))
 
-waits_queued : {A : Type 0} {F B : ℕ → Bool} (S : State A) (q x : ℕ) → KeptIn F B S → 1 ≤ count_by (λ y. y == x) (waiting_in S.lines q) → is_queued_in q (place_of S.requests x) ≡ true
+waits_queued : {A : Type 0} {F B : ℕ → Bool} (S : State A) (q x : ℕ) → KeptIn F B S → 1 ≤ count_by (λ y. y == x) (waiting_in S.queues q) → is_queued_in q (place_of S.requests x) ≡ true
 waits_queued S q x k more = elim (cases_Bool (is_queued_in q (place_of S.requests x))) [
   | inl e ↦ e
   | inr e ↦ absurd (let is = k.queued q x in let no_ : flag (is_queued_in q (place_of S.requests x)) ≡ 0 = ap flag e in omega arith)
 ]
 
-purged : {A : Type 0} {F B : ℕ → Bool} (plan : Plan) (S T : State A) (q : ℕ) → KeptIn F B S → KeptIn F B T → T.requests ≡ S.requests → KeptIn F B (fold (withdraw plan q) T (waiting_in S.lines q))
-purged plan S T q k kt same = all_withdrawn plan q (waiting_in S.lines q) T kt
+purged : {A : Type 0} {F B : ℕ → Bool} (plan : Plan) (S T : State A) (q : ℕ) → KeptIn F B S → KeptIn F B T → T.requests ≡ S.requests → KeptIn F B (fold (withdraw plan q) T (waiting_in S.queues q))
+purged plan S T q k kt same = all_withdrawn plan q (waiting_in S.queues q) T kt
     (λ x more. ap (λ (R : Requests). is_made_place (place_of R x)) same ∙ queued_unmade q (place_of S.requests x) (waits_queued S q x k more))
 
 closes_one : {A : Type 0} {F B : ℕ → Bool} (q : ℕ) (S : State A) (r : ℕ) (b : Bool) → is_returning_to q (place_of S.requests r) ≡ b → KeptIn F B S
-    → KeptIn F B (if b then record S { requests = move_to S.requests r (place.Closing status.Cancelled) } else S)
+    → KeptIn F B (if b then record S { requests = requests.move_to S.requests r (place.Closing status.Cancelled) } else S)
 closes_one q S r false e k = k
 closes_one q S r true e k =
     let is = returning_undone q (place_of S.requests r) e in
@@ -310,10 +315,10 @@ unmarked_place q false e = rw e (refl, refl)
 
 -- ---- each deed
 
-held_line : (Q : Lines) (q p : ℕ) → waiting_in (hold Q q) p ≡ waiting_in Q p
+held_line : (Q : Queues) (q p : ℕ) → waiting_in (queues.hold Q q) p ≡ waiting_in Q p
 held_line Q q p = elim (one_or_two p q) [
-  | inl e ↦ rw e (ap (λ (l : Line). l.waiting) (line_here Q q (λ l. record l { held = l.held + 1 })))
-  | inr n ↦ ap (λ (l : Line). l.waiting) (line_elsewhere Q q p (λ l. record l { held = l.held + 1 }) n)
+  | inl e ↦ rw e (ap (λ (l : Queue). l.waiting) (line_here Q q (λ l. record l { held = l.held + 1 })))
+  | inr n ↦ ap (λ (l : Queue). l.waiting) (line_elsewhere Q q p (λ l. record l { held = l.held + 1 }) n)
 ]
 
 stopped_target : (T : Targets) (t u : ℕ) (b : Bool) → (the_target (with_target T t (λ x. record x { stopped = b })) u).sent ≡ (the_target T u).sent
@@ -322,13 +327,13 @@ stopped_target T t u b = elim (one_or_two u t) [
   | inr n ↦ ap (λ (x : Target). x.sent) (target_elsewhere T t u (λ x. record x { stopped = b }) n)
 ]
 
-given_enters : {A : Type 0} {F B : ℕ → Bool} (U : State A) (q r : ℕ) (Q : Lines) → KeptIn F B U → is_given U r ≡ true → Enters U.lines Q q r
-    → Kept F B (move_to U.requests r (queued q)) Q U.targets U.tree
+given_enters : {A : Type 0} {F B : ℕ → Bool} (U : State A) (q r : ℕ) (Q : Queues) → KeptIn F B U → is_given U r ≡ true → Enters U.queues Q q r
+    → Kept F B (requests.move_to U.requests r (queued q)) Q U.targets U.tree
 given_enters U q r Q k h e =
     enter_line q r k (owned_undone (place_of U.requests r) (owned_of U r h)) (owned_still (place_of U.requests r) (owned_of U r h)) (came_by_kind U r k h) e
 
 sends_given : {A : Type 0} {F B : ℕ → Bool} (S U : State A) (r t : ℕ) (forget : Bool) → GivesUp S U → KeptIn F B S → is_owned (place_of S.requests r) ≡ true
-    → (not forget || same_kind (kind_of S.tree r) kind.Request) ≡ true → Kept F B (move_to U.requests r (place.Sent (record { 0 = t }))) U.lines (send S.targets t r forget) U.tree
+    → (not forget || same_kind (kind_of S.tree r) kind.Request) ≡ true → Kept F B (requests.move_to U.requests r (place.Sent (record { 0 = t }))) U.queues (targets.send S.targets t r forget) U.tree
 sends_given S U r t forget g k owned made =
     let owned_there : is_owned (place_of U.requests r) ≡ true = ap (λ (R : Requests). is_owned (place_of R r)) g.requests ∙ owned in
     send_request r t forget (given_up_sent S U g k) (owned_undone (place_of U.requests r) owned_there) (owned_still (place_of U.requests r) owned_there)
@@ -338,7 +343,7 @@ sends_given S U r t forget g k owned made =
     ])
 
 completes_it : {A : Type 0} {F B : ℕ → Bool} (S U : State A) (r : ℕ) → GivesUp S U → KeptIn F B S → (is_closing (place_of S.requests r) || is_given S r) ≡ true
-    → Kept F B (move_to S.requests r place.Done) U.lines U.targets U.tree
+    → Kept F B (requests.move_to S.requests r place.Done) U.queues U.targets U.tree
 completes_it S U r g k h = elim (or_cases (is_closing (place_of S.requests r)) (is_given S r) h) [
   | inl e ↦ let is = closing_undone (place_of S.requests r) e in still_move r place.Done (given_up_done S U g k) is.0 is.1 refl (λ _. refl)
   | inr e ↦ still_move r place.Done (given_up_done S U g k) (owned_undone (place_of S.requests r) (owned_of S r e)) (owned_still (place_of S.requests r) (owned_of S r e)) refl (λ _. refl)
@@ -349,8 +354,8 @@ arrives_there : {A : Type 0} {F B : ℕ → Bool} (S : State A) (device : ℕ) (
     → B (next_id S.tree) ≡ true → KeptIn F B (arrive_at S device info p)
 arrives_there S device info (place.Queued q) k came fit told =
     new_request kind.Request 0 device (place.Queued q) info k (λ t. refl) (λ _. came) (λ n. absurd (let z : ⊥ = cc in z)) (λ _. told)
-    (λ o x n. enters_others (tail_enters S.lines q.0 (next_id S.tree)) o x n (one_or_two o q.0))
-    (λ o. enters_once (tail_enters S.lines q.0 (next_id S.tree)) (nowhere_yet k) o (one_or_two o q.0))
+    (λ o x n. enters_others (tail_enters S.queues q.0 (next_id S.tree)) o x n (one_or_two o q.0))
+    (λ o. enters_once (tail_enters S.queues q.0 (next_id S.tree)) (nowhere_yet k) o (one_or_two o q.0))
 arrives_there S device info (place.Closing s) k came fit told =
     new_request kind.Request 0 device (place.Closing s) info k (λ t. refl) (λ _. came) (λ n. absurd (let z : ⊥ = cc in z)) (λ _. told)
     (λ o x n. refl) (λ o. nowhere_yet k o)
@@ -382,12 +387,12 @@ deed_keeps plan (End_life o) S f b k = tree_changes o (λ _. gone) k (λ n e. ab
 deed_keeps plan (Present q r) S f b k = present_front q r k f
 deed_keeps plan (Receive q r) S f b k =
     let is = returning_undone q (place_of S.requests r) f in
-    same_lines (still_move r place.Owned k is.0 is.1 refl (λ _. refl)) (λ p. held_line S.lines q p)
+    same_lines (still_move r place.Owned k is.0 is.1 refl (λ _. refl)) (λ p. held_line S.queues q p)
 deed_keeps plan (Requeue r q) S f b k =
-    given_enters (give_up S r) q r (enter_head (give_up S r).lines q r) (all_given_up S (give_up S r) (gives_up S r) k) (still_given S (give_up S r) r (gives_up S r) f) (head_enters (give_up S r).lines q r)
+    given_enters (give_up S r) q r (queues.requeue (give_up S r).queues q r) (all_given_up S (give_up S r) (gives_up S r) k) (still_given S (give_up S r) r (gives_up S r) f) (head_enters (give_up S r).queues q r)
 deed_keeps plan (Forward r q) S f b k =
-    given_enters (give_up S r) q r (enter_tail (give_up S r).lines q r) (all_given_up S (give_up S r) (gives_up S r) k)
-    (still_given S (give_up S r) r (gives_up S r) (both_left (is_given S r) (accepts S.modes q) f)) (tail_enters (give_up S r).lines q r)
+    given_enters (give_up S r) q r (queues.enter (give_up S r).queues q r) (all_given_up S (give_up S r) (gives_up S r) k)
+    (still_given S (give_up S r) r (gives_up S r) (both_left (is_given S r) (accepts S.control q) f)) (tail_enters (give_up S r).queues q r)
 deed_keeps plan (Give_back r q) S f b k = given_back plan (give_up S r) q r (all_given_up S (give_up S r) (gives_up S r) k) (still_given S (give_up S r) r (gives_up S r) f)
 deed_keeps plan (Withdraw q r) S f b k = withdrawn plan q S r k (queued_unmade q (place_of S.requests r) f)
 deed_keeps plan (Mark_request r) S f b k =
@@ -404,8 +409,8 @@ deed_keeps plan (Send_request r t forget) S f b k =
 deed_keeps plan (Finish_sending r s) S f b k = finish_sending r s k (both_left (is_sent (place_of S.requests r)) (is_undone S.targets r) f)
 deed_keeps plan (Come_back r) S f b k = come_back r k (both_left (is_sent (place_of S.requests r)) (is_some (routine_due S.targets r)) f)
 deed_keeps plan (Complete_request r) S f b k =
-    asked (record (give_up S r) { requests = move_to S.requests r place.Done }) r (completes_it S (give_up S r) r (gives_up S r) k f)
-deed_keeps plan (Purge_queue q) S f b k = purged plan S (record S { modes = set_mode S.modes q mode.Purged }) q k k refl
+    asked (record (give_up S r) { requests = requests.move_to S.requests r place.Done }) r (completes_it S (give_up S r) r (gives_up S r) k f)
+deed_keeps plan (Purge_queue q) S f b k = purged plan S (record S { control = control.set_mode S.control q mode.Purged }) q k k refl
 deed_keeps plan (Close_returning q) S f b k = all_closed q (ids_of S.requests.all) S k
 deed_keeps plan (Stop_target t) S f b k = same_targets k (λ u. stopped_target S.targets t u true)
 deed_keeps plan (Start_target t) S f b k = same_targets k (λ u. stopped_target S.targets t u false)

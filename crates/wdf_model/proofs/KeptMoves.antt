@@ -4,11 +4,13 @@ use Rattle.wdf_base.specs.declared.object.Place.{Place}
 use Rattle.wdf_base.specs.declared.object.Place.TheVariants as place
 use Rattle.std.proofs.lemmas.Bool.{eqb-true}
 use Rattle.wdf_model.specs.Tables.{entry, without}
-use Rattle.wdf_model.specs.Objects.{Tree}
-use Rattle.wdf_model.specs.Requests.{Request, Requests, has_arrived, is_done, is_queued_in, is_sent_to, move_to, moved, no_request, place_of, request_of, with_request}
-use Rattle.wdf_model.specs.Lines.{Line, Lines, enter_head, enter_tail, front, line_of, line_without, no_line, take_cancelled, take_front, waiting_in, with_line}
-use Rattle.wdf_model.specs.Targets.{Target, Targets, no_target, the_target, with_target}
-use Rattle.wdf_model.specs.Script.{flag}
+use Rattle.wdf_model.specs.parts.Tree.{Tree}
+use Rattle.wdf_model.specs.parts.Requests.{Request, Requests, has_arrived, is_done, is_queued_in, is_sent_to, moved, no_request, place_of, request_of, with_request}
+use Rattle.wdf_model.specs.parts.Requests as requests
+use Rattle.wdf_model.specs.parts.Queues.{Queue, Queues, front, the_queue, queue_without, no_queue, waiting_in, with_queue}
+use Rattle.wdf_model.specs.parts.Queues as queues
+use Rattle.wdf_model.specs.parts.Targets.{Target, Targets, no_target, the_target, with_target}
+use Rattle.wdf_model.specs.rules.Script.{flag}
 use Rattle.wdf_model.specs.State.{same_id}
 use Rattle.wdf_model.proofs.Maps.{entry_map, entry_put_other, entry_put_same, put_short}
 use Rattle.wdf_model.proofs.Counts.{at_head, at_tail, equal, flag_yes, front_leaves, it_leaves, not_equal, one_or_two, others_stay}
@@ -80,11 +82,11 @@ arrived_in_list (x ∷ xs) (suc r) h = let e = arrived_in_list xs r h in omega a
 pub arrived_within : (R : Requests) (r : ℕ) → arrived R r ≡ true → r < length R.all
 arrived_within R r h = arrived_in_list R.all r h
 
-pub line_here : (Q : Lines) (q : ℕ) (f : Line → Line) → line_of (with_line Q q f) q ≡ f (line_of Q q)
-line_here Q q f = entry_put_same no_line Q.lines q (f (line_of Q q))
+pub line_here : (Q : Queues) (q : ℕ) (f : Queue → Queue) → the_queue (with_queue Q q f) q ≡ f (the_queue Q q)
+line_here Q q f = entry_put_same no_queue Q.queues q (f (the_queue Q q))
 
-pub line_elsewhere : (Q : Lines) (q p : ℕ) (f : Line → Line) → p ≢ q → line_of (with_line Q q f) p ≡ line_of Q p
-line_elsewhere Q q p f n = entry_put_other no_line Q.lines q p (f (line_of Q q)) n
+pub line_elsewhere : (Q : Queues) (q p : ℕ) (f : Queue → Queue) → p ≢ q → the_queue (with_queue Q q f) p ≡ the_queue Q p
+line_elsewhere Q q p f n = entry_put_other no_queue Q.queues q p (f (the_queue Q q)) n
 
 pub target_here : (T : Targets) (t : ℕ) (f : Target → Target) → the_target (with_target T t f) t ≡ f (the_target T t)
 target_here T t f = entry_put_same no_target T.targets t (f (the_target T t))
@@ -94,7 +96,7 @@ target_elsewhere T t u f n = entry_put_other no_target T.targets t u (f (the_tar
 
 -- ---- what is alike
 
-pub same_requests : {F B : ℕ → Bool} {R R' : Requests} {Q : Lines} {T : Targets} {N : Tree} → Kept F B R Q T N → ((x : ℕ) → place_of R' x ≡ place_of R x) → ((x : ℕ) → arrived R' x ≡ arrived R x)
+pub same_requests : {F B : ℕ → Bool} {R R' : Requests} {Q : Queues} {T : Targets} {N : Tree} → Kept F B R Q T N → ((x : ℕ) → place_of R' x ≡ place_of R x) → ((x : ℕ) → arrived R' x ≡ arrived R x)
     → length R'.all ≤ length N.nodes → Kept F B R' Q T N
 same_requests k places arrivals room = record {
   queued = λ q x. rw (places x) (k.queued q x);
@@ -108,9 +110,9 @@ same_requests k places arrivals room = record {
   begun = λ x h. k.begun x (sym (arrivals x) ∙ h);
 }
 
-pub same_lines : {F B : ℕ → Bool} {R : Requests} {Q Q' : Lines} {T : Targets} {N : Tree} → Kept F B R Q T N → ((q : ℕ) → waiting_in Q' q ≡ waiting_in Q q) → Kept F B R Q' T N
-same_lines k lines = record {
-  queued = λ q x. rw (lines q) (k.queued q x);
+pub same_lines : {F B : ℕ → Bool} {R : Requests} {Q Q' : Queues} {T : Targets} {N : Tree} → Kept F B R Q T N → ((q : ℕ) → waiting_in Q' q ≡ waiting_in Q q) → Kept F B R Q' T N
+same_lines k queues = record {
+  queued = λ q x. rw (queues q) (k.queued q x);
   sent = k.sent;
   room = k.room;
   kinds = k.kinds;
@@ -121,7 +123,7 @@ same_lines k lines = record {
   begun = k.begun;
 }
 
-pub same_targets : {F B : ℕ → Bool} {R : Requests} {Q : Lines} {T T' : Targets} {N : Tree} → Kept F B R Q T N → ((t : ℕ) → (the_target T' t).sent ≡ (the_target T t).sent) → Kept F B R Q T' N
+pub same_targets : {F B : ℕ → Bool} {R : Requests} {Q : Queues} {T T' : Targets} {N : Tree} → Kept F B R Q T N → ((t : ℕ) → (the_target T' t).sent ≡ (the_target T t).sent) → Kept F B R Q T' N
 same_targets k targets = record {
   queued = k.queued;
   sent = λ t x. rw (targets t) (k.sent t x);
@@ -134,7 +136,7 @@ same_targets k targets = record {
   begun = k.begun;
 }
 
-pub same_tree : {F B : ℕ → Bool} {R : Requests} {Q : Lines} {T : Targets} {N N' : Tree} → Kept F B R Q T N → ((x : ℕ) → is_request N' x ≡ true → is_request N x ≡ true) → length N.nodes ≤ length N'.nodes
+pub same_tree : {F B : ℕ → Bool} {R : Requests} {Q : Queues} {T : Targets} {N N' : Tree} → Kept F B R Q T N → ((x : ℕ) → is_request N' x ≡ true → is_request N x ≡ true) → length N.nodes ≤ length N'.nodes
     → Kept F B R Q T N'
 same_tree k kinds longer = record {
   queued = k.queued;
@@ -149,7 +151,7 @@ same_tree k kinds longer = record {
 }
 
 -- a request whose mark or cancel changes
-pub marks_change : {F B : ℕ → Bool} {R : Requests} {Q : Lines} {T : Targets} {N : Tree} (r : ℕ) (f : Request → Request) → Kept F B R Q T N → r < length R.all
+pub marks_change : {F B : ℕ → Bool} {R : Requests} {Q : Queues} {T : Targets} {N : Tree} (r : ℕ) (f : Request → Request) → Kept F B R Q T N → r < length R.all
     → ((q : Request) → (f q).place ≡ q.place) → ((q : Request) → has_arrived (f q) ≡ has_arrived q) → Kept F B (with_request R r f) Q T N
 marks_change {F} {B} {R} r f k inside places arrivals = same_requests k
     (λ x. elim (one_or_two x r) [
@@ -164,20 +166,20 @@ marks_change {F} {B} {R} r f k inside places arrivals = same_requests k
 
 -- ---- a request that is there moves
 
-pub move_request : {F B : ℕ → Bool} {R : Requests} {Q Q' : Lines} {T T' : Targets} {N : Tree} (r : ℕ) (p : Place) → Kept F B R Q T N → is_done (place_of R r) ≡ false
+pub move_request : {F B : ℕ → Bool} {R : Requests} {Q Q' : Queues} {T T' : Targets} {N : Tree} (r : ℕ) (p : Place) → Kept F B R Q T N → is_done (place_of R r) ≡ false
     → (arrived R r ≡ false → is_made_place p ≡ true)
     → ((q x : ℕ) → x ≢ r → stands Q' q x ≡ stands Q q x) → ((q : ℕ) → stands Q' q r ≡ flag (is_queued_in q p))
     → ((t x : ℕ) → x ≢ r → sends T' t x ≡ sends T t x) → ((t : ℕ) → sends T' t r ≡ flag (is_sent_to t p))
     → ((t x : ℕ) → x ≢ r → forgets T' t x ≤ forgets T t x) → ((t : ℕ) → arrived R r ≡ false → forgets T' t r ≡ 0)
-    → Kept F B (move_to R r p) Q' T' N
-move_request {F} {B} {R} {Q} {Q'} {T} {T'} {N} r p k there made lines line targets target others returns = kept_by_move {r = r} {p = p} k (record {
+    → Kept F B (requests.move_to R r p) Q' T' N
+move_request {F} {B} {R} {Q} {Q'} {T} {T'} {N} r p k there made queues line targets target others returns = kept_by_move {r = r} {p = p} k (record {
   elsewhere = λ x n. ap (λ (q : Request). q.place) (request_elsewhere R r x (moved p) n);
   here = ap (λ (q : Request). q.place) (request_here R r (moved p));
   arrivals = λ x n. ap has_arrived (request_elsewhere R r x (moved p) n);
   room = let room = k.room in let inside = within R r there in put_short no_request R.all r (moved p (request_of R r)) (length N.nodes) (omega arith) room;
   other_kinds = λ x n h. h;
   kind = λ h. ap has_arrived (request_here R r (moved p)) ∙ k.kinds r h;
-  other_lines = lines;
+  other_lines = queues;
   line = line;
   other_targets = targets;
   target = target;
@@ -190,8 +192,8 @@ move_request {F} {B} {R} {Q} {Q'} {T} {T'} {N} r p k there made lines line targe
 })
 
 -- from a place to another, where it is in no line and at no target
-pub still_move : {F B : ℕ → Bool} {R : Requests} {Q : Lines} {T : Targets} {N : Tree} (r : ℕ) (p : Place) → Kept F B R Q T N → is_done (place_of R r) ≡ false → is_still (place_of R r) ≡ true → is_still p ≡ true
-    → (arrived R r ≡ false → is_made_place p ≡ true) → Kept F B (move_to R r p) Q T N
+pub still_move : {F B : ℕ → Bool} {R : Requests} {Q : Queues} {T : Targets} {N : Tree} (r : ℕ) (p : Place) → Kept F B R Q T N → is_done (place_of R r) ≡ false → is_still (place_of R r) ≡ true → is_still p ≡ true
+    → (arrived R r ≡ false → is_made_place p ≡ true) → Kept F B (requests.move_to R r p) Q T N
 still_move {F} {B} {R} {Q} {T} {N} r p k there old new made = move_request r p k there made
     (λ q x n. refl)
     (λ q. k.queued q r ∙ ap flag (still_unqueued q (place_of R r) old ∙ sym (still_unqueued q p new)))
@@ -203,37 +205,37 @@ still_move {F} {B} {R} {Q} {T} {N} r p k there old new made = move_request r p k
 -- ---- lines
 
 -- a line that one request enters
-pub record Enters (Q Q' : Lines) (q r : ℕ) : Type 0 where
+pub record Enters (Q Q' : Queues) (q r : ℕ) : Type 0 where
   pub here : (x : ℕ) → stands Q' q x ≡ stands Q q x + flag (r == x)
   pub elsewhere : (p x : ℕ) → p ≢ q → stands Q' p x ≡ stands Q p x
 
-pub tail_enters : (Q : Lines) (q r : ℕ) → Enters Q (enter_tail Q q r) q r
+pub tail_enters : (Q : Queues) (q r : ℕ) → Enters Q (queues.enter Q q r) q r
 tail_enters Q q r = record {
-  here = λ x. ap (λ (l : Line). count_by (λ y. y == x) l.waiting) (line_here Q q (λ l. record l { waiting = l.waiting ++ r ∷ [] })) ∙ at_tail x r (waiting_in Q q);
-  elsewhere = λ p x n. ap (λ (l : Line). count_by (λ y. y == x) l.waiting) (line_elsewhere Q q p (λ l. record l { waiting = l.waiting ++ r ∷ [] }) n);
+  here = λ x. ap (λ (l : Queue). count_by (λ y. y == x) l.waiting) (line_here Q q (λ l. record l { waiting = l.waiting ++ r ∷ [] })) ∙ at_tail x r (waiting_in Q q);
+  elsewhere = λ p x n. ap (λ (l : Queue). count_by (λ y. y == x) l.waiting) (line_elsewhere Q q p (λ l. record l { waiting = l.waiting ++ r ∷ [] }) n);
 }
 
-head_counts : (Q : Lines) (q r x : ℕ) → count_by (λ y. y == x) (r ∷ waiting_in Q q) ≡ stands Q q x + flag (r == x)
+head_counts : (Q : Queues) (q r x : ℕ) → count_by (λ y. y == x) (r ∷ waiting_in Q q) ≡ stands Q q x + flag (r == x)
 head_counts Q q r x = let e = at_head x r (waiting_in Q q) in omega arith
 
-pub head_enters : (Q : Lines) (q r : ℕ) → Enters Q (enter_head Q q r) q r
+pub head_enters : (Q : Queues) (q r : ℕ) → Enters Q (queues.requeue Q q r) q r
 head_enters Q q r = record {
-  here = λ x. ap (λ (l : Line). count_by (λ y. y == x) l.waiting) (line_here Q q (λ l. record l { waiting = r ∷ l.waiting })) ∙ head_counts Q q r x;
-  elsewhere = λ p x n. ap (λ (l : Line). count_by (λ y. y == x) l.waiting) (line_elsewhere Q q p (λ l. record l { waiting = r ∷ l.waiting }) n);
+  here = λ x. ap (λ (l : Queue). count_by (λ y. y == x) l.waiting) (line_here Q q (λ l. record l { waiting = r ∷ l.waiting })) ∙ head_counts Q q r x;
+  elsewhere = λ p x n. ap (λ (l : Queue). count_by (λ y. y == x) l.waiting) (line_elsewhere Q q p (λ l. record l { waiting = r ∷ l.waiting }) n);
 }
 
 -- what an entry does to the others, and to the request, which stood nowhere
-pub enters_others : {Q Q' : Lines} {q r : ℕ} → Enters Q Q' q r → (p x : ℕ) → x ≢ r → (p ≡ q) ⊎ (p ≢ q) → stands Q' p x ≡ stands Q p x
+pub enters_others : {Q Q' : Queues} {q r : ℕ} → Enters Q Q' q r → (p x : ℕ) → x ≢ r → (p ≡ q) ⊎ (p ≢ q) → stands Q' p x ≡ stands Q p x
 enters_others {Q} {Q'} {q} {r} e p x n (inl same) = rw same (let here = e.here x in let no : flag (r == x) ≡ 0 = ap flag (not_equal r x (λ f. n (sym f))) in omega arith)
 enters_others e p x n (inr other) = e.elsewhere p x other
 
-pub enters_once : {Q Q' : Lines} {q r : ℕ} → Enters Q Q' q r → ((p : ℕ) → stands Q p r ≡ 0) → (p : ℕ) → (p ≡ q) ⊎ (p ≢ q) → stands Q' p r ≡ flag (q == p)
+pub enters_once : {Q Q' : Queues} {q r : ℕ} → Enters Q Q' q r → ((p : ℕ) → stands Q p r ≡ 0) → (p : ℕ) → (p ≡ q) ⊎ (p ≢ q) → stands Q' p r ≡ flag (q == p)
 enters_once {Q} {Q'} {q} {r} e none p (inl same) =
     rw same (let here = e.here r in let zero_ = none q in let yes : flag (r == r) ≡ 1 = ap flag (equal r r refl) in let one : flag (q == q) ≡ 1 = ap flag (equal q q refl) in omega arith)
 enters_once {Q} {Q'} {q} {r} e none p (inr other) = e.elsewhere p r other ∙ none p ∙ sym (ap flag (not_equal q p (λ f. other (sym f))))
 
-pub enter_line : {F B : ℕ → Bool} {R : Requests} {Q Q' : Lines} {T : Targets} {N : Tree} (q r : ℕ) → Kept F B R Q T N → is_done (place_of R r) ≡ false → is_still (place_of R r) ≡ true → arrived R r ≡ true
-    → Enters Q Q' q r → Kept F B (move_to R r (place.Queued (record { 0 = q }))) Q' T N
+pub enter_line : {F B : ℕ → Bool} {R : Requests} {Q Q' : Queues} {T : Targets} {N : Tree} (q r : ℕ) → Kept F B R Q T N → is_done (place_of R r) ≡ false → is_still (place_of R r) ≡ true → arrived R r ≡ true
+    → Enters Q Q' q r → Kept F B (requests.move_to R r (place.Queued (record { 0 = q }))) Q' T N
 enter_line {F} {B} {R} {Q} {Q'} {T} {N} q r k there old came e = move_request r (place.Queued (record { 0 = q })) k there
     (λ h. absurd (let z : ⊥ = cc in z))
     (λ p x n. enters_others e p x n (one_or_two p q))
@@ -244,9 +246,9 @@ enter_line {F} {B} {R} {Q} {Q'} {T} {N} q r k there old came e = move_request r 
     (λ t h. k.returns t r h)
 
 -- a request leaves the line in which it stands
-pub leave_line : {F B : ℕ → Bool} {R : Requests} {Q Q' : Lines} {T : Targets} {N : Tree} (r : ℕ) (p : Place) → Kept F B R Q T N → is_done (place_of R r) ≡ false → ((t : ℕ) → is_sent_to t (place_of R r) ≡ false)
+pub leave_line : {F B : ℕ → Bool} {R : Requests} {Q Q' : Queues} {T : Targets} {N : Tree} (r : ℕ) (p : Place) → Kept F B R Q T N → is_done (place_of R r) ≡ false → ((t : ℕ) → is_sent_to t (place_of R r) ≡ false)
     → is_still p ≡ true → (arrived R r ≡ false → is_made_place p ≡ true) → ((q x : ℕ) → x ≢ r → stands Q' q x ≡ stands Q q x) → ((q : ℕ) → stands Q' q r ≡ 0)
-    → Kept F B (move_to R r p) Q' T N
+    → Kept F B (requests.move_to R r p) Q' T N
 leave_line {F} {B} {R} {Q} {Q'} {T} {N} r p k there unsent new made others gone_ = move_request r p k there made
     others
     (λ q. gone_ q ∙ sym (ap flag (still_unqueued q p new)))
@@ -256,21 +258,21 @@ leave_line {F} {B} {R} {Q} {Q'} {T} {N} r p k there unsent new made others gone_
     (λ t h. k.returns t r h)
 
 -- the front of a queue's line is Queued there
-pub front_queued : {F B : ℕ → Bool} {R : Requests} {Q : Lines} {T : Targets} {N : Tree} (q r : ℕ) → Kept F B R Q T N → same_id (front Q q) r ≡ true → is_queued_in q (place_of R r) ≡ true
+pub front_queued : {F B : ℕ → Bool} {R : Requests} {Q : Queues} {T : Targets} {N : Tree} (q r : ℕ) → Kept F B R Q T N → same_id (front Q q) r ≡ true → is_queued_in q (place_of R r) ≡ true
 front_queued {F} {B} {R} {Q} q r k h =
     let e = front_leaves r r (waiting_in Q q) h in
     let yes : flag (r == r) ≡ 1 = ap flag (equal r r refl) in
     let is = k.queued q r in
     flag_yes (is_queued_in q (place_of R r)) (count_by (λ x. x == r) (drop 1 (waiting_in Q q))) (omega arith)
 
-behind_front : {F B : ℕ → Bool} {R : Requests} {Q : Lines} {T : Targets} {N : Tree} (q r x : ℕ) → Kept F B R Q T N → same_id (front Q q) r ≡ true → x ≢ r
+behind_front : {F B : ℕ → Bool} {R : Requests} {Q : Queues} {T : Targets} {N : Tree} (q r x : ℕ) → Kept F B R Q T N → same_id (front Q q) r ≡ true → x ≢ r
     → count_by (λ y. y == x) (drop 1 (waiting_in Q q)) ≡ stands Q q x
 behind_front {F} {B} {R} {Q} q r x k h n =
     let e = front_leaves x r (waiting_in Q q) h in
     let no : flag (r == x) ≡ 0 = ap flag (not_equal r x (λ f. n (sym f))) in
     omega arith
 
-no_more_behind : {F B : ℕ → Bool} {R : Requests} {Q : Lines} {T : Targets} {N : Tree} (q r : ℕ) → Kept F B R Q T N → same_id (front Q q) r ≡ true → count_by (λ y. y == r) (drop 1 (waiting_in Q q)) ≡ 0
+no_more_behind : {F B : ℕ → Bool} {R : Requests} {Q : Queues} {T : Targets} {N : Tree} (q r : ℕ) → Kept F B R Q T N → same_id (front Q q) r ≡ true → count_by (λ y. y == r) (drop 1 (waiting_in Q q)) ≡ 0
 no_more_behind {F} {B} {R} {Q} q r k h =
     let e = front_leaves r r (waiting_in Q q) h in
     let yes : flag (r == r) ≡ 1 = ap flag (equal r r refl) in
@@ -278,22 +280,22 @@ no_more_behind {F} {B} {R} {Q} q r k h =
     let one : flag (is_queued_in q (place_of R r)) ≡ 1 = ap flag (front_queued q r k h) in
     omega arith
 
-front_others : {F B : ℕ → Bool} {R : Requests} {Q : Lines} {T : Targets} {N : Tree} (q r : ℕ) → Kept F B R Q T N → same_id (front Q q) r ≡ true → (p x : ℕ) → x ≢ r → (p ≡ q) ⊎ (p ≢ q)
-    → stands (take_front Q q) p x ≡ stands Q p x
+front_others : {F B : ℕ → Bool} {R : Requests} {Q : Queues} {T : Targets} {N : Tree} (q r : ℕ) → Kept F B R Q T N → same_id (front Q q) r ≡ true → (p x : ℕ) → x ≢ r → (p ≡ q) ⊎ (p ≢ q)
+    → stands (queues.take Q q) p x ≡ stands Q p x
 front_others {F} {B} {R} {Q} q r k h p x n (inl same) =
     rw same
-    (ap (λ (l : Line). count_by (λ y. y == x) l.waiting) (line_here Q q (λ l. record l { waiting = drop 1 l.waiting; held = l.held + 1 }))
+    (ap (λ (l : Queue). count_by (λ y. y == x) l.waiting) (line_here Q q (λ l. record l { waiting = drop 1 l.waiting; held = l.held + 1 }))
     ∙ behind_front q r x k h n)
 front_others {F} {B} {R} {Q} q r k h p x n (inr other) =
-    ap (λ (l : Line). count_by (λ y. y == x) l.waiting) (line_elsewhere Q q p (λ l. record l { waiting = drop 1 l.waiting; held = l.held + 1 }) other)
+    ap (λ (l : Queue). count_by (λ y. y == x) l.waiting) (line_elsewhere Q q p (λ l. record l { waiting = drop 1 l.waiting; held = l.held + 1 }) other)
 
-front_gone : {F B : ℕ → Bool} {R : Requests} {Q : Lines} {T : Targets} {N : Tree} (q r : ℕ) → Kept F B R Q T N → same_id (front Q q) r ≡ true → (p : ℕ) → (p ≡ q) ⊎ (p ≢ q) → stands (take_front Q q) p r ≡ 0
+front_gone : {F B : ℕ → Bool} {R : Requests} {Q : Queues} {T : Targets} {N : Tree} (q r : ℕ) → Kept F B R Q T N → same_id (front Q q) r ≡ true → (p : ℕ) → (p ≡ q) ⊎ (p ≢ q) → stands (queues.take Q q) p r ≡ 0
 front_gone {F} {B} {R} {Q} q r k h p (inl same) =
     rw same
-    (ap (λ (l : Line). count_by (λ y. y == r) l.waiting) (line_here Q q (λ l. record l { waiting = drop 1 l.waiting; held = l.held + 1 }))
+    (ap (λ (l : Queue). count_by (λ y. y == r) l.waiting) (line_here Q q (λ l. record l { waiting = drop 1 l.waiting; held = l.held + 1 }))
     ∙ no_more_behind q r k h)
 front_gone {F} {B} {R} {Q} q r k h p (inr other) =
-    ap (λ (l : Line). count_by (λ y. y == r) l.waiting) (line_elsewhere Q q p (λ l. record l { waiting = drop 1 l.waiting; held = l.held + 1 }) other)
+    ap (λ (l : Queue). count_by (λ y. y == r) l.waiting) (line_elsewhere Q q p (λ l. record l { waiting = drop 1 l.waiting; held = l.held + 1 }) other)
     ∙ k.queued p r ∙ ap flag (queued_once q p (place_of R r) (front_queued q r k h) other)
 
 queued_undone : (q : ℕ) (p : Place) → is_queued_in q p ≡ true → is_done p ≡ false
@@ -305,18 +307,18 @@ queued_undone q (place.Sent t) h = refl
 queued_undone q place.Done h = absurd (let z : ⊥ = cc in z)
 
 -- the front becomes Owned
-pub present_front : {F B : ℕ → Bool} {R : Requests} {Q : Lines} {T : Targets} {N : Tree} (q r : ℕ) → Kept F B R Q T N → same_id (front Q q) r ≡ true → Kept F B (move_to R r place.Owned) (take_front Q q) T N
+pub present_front : {F B : ℕ → Bool} {R : Requests} {Q : Queues} {T : Targets} {N : Tree} (q r : ℕ) → Kept F B R Q T N → same_id (front Q q) r ≡ true → Kept F B (requests.move_to R r place.Owned) (queues.take Q q) T N
 present_front {F} {B} {R} {Q} {T} {N} q r k h =
     let here : is_queued_in q (place_of R r) ≡ true = front_queued q r k h in
     leave_line r place.Owned k (queued_undone q (place_of R r) here) (λ t. queued_unsent q t (place_of R r) here) refl (λ _. refl)
     (λ p x n. front_others q r k h p x n (one_or_two p q)) (λ p. front_gone q r k h p (one_or_two p q))
 
-cancelled_line : (Q : Lines) (r p : ℕ) → waiting_in (take_cancelled Q r) p ≡ without r (waiting_in Q p)
-cancelled_line Q r p = ap (λ (l : Line). l.waiting) (entry_map no_line Q.lines (line_without r) p refl)
+cancelled_line : (Q : Queues) (r p : ℕ) → waiting_in (queues.take_cancelled Q r) p ≡ without r (waiting_in Q p)
+cancelled_line Q r p = ap (λ (l : Queue). l.waiting) (entry_map no_queue Q.queues (queue_without r) p refl)
 
 -- a request leaves its line, wherever it stands
-pub withdraw_from_line : {F B : ℕ → Bool} {R : Requests} {Q : Lines} {T : Targets} {N : Tree} (r : ℕ) (p : Place) → Kept F B R Q T N → is_done (place_of R r) ≡ false → ((t : ℕ) → is_sent_to t (place_of R r) ≡ false)
-    → is_still p ≡ true → (arrived R r ≡ false → is_made_place p ≡ true) → Kept F B (move_to R r p) (take_cancelled Q r) T N
+pub withdraw_from_line : {F B : ℕ → Bool} {R : Requests} {Q : Queues} {T : Targets} {N : Tree} (r : ℕ) (p : Place) → Kept F B R Q T N → is_done (place_of R r) ≡ false → ((t : ℕ) → is_sent_to t (place_of R r) ≡ false)
+    → is_still p ≡ true → (arrived R r ≡ false → is_made_place p ≡ true) → Kept F B (requests.move_to R r p) (queues.take_cancelled Q r) T N
 withdraw_from_line {F} {B} {R} {Q} r p k there unsent new made = leave_line r p k there unsent new made
     (λ q x n. ap (λ (ws : List ℕ). count_by (λ y. y == x) ws) (cancelled_line Q r q) ∙ others_stay x r (waiting_in Q q) (λ e. n (sym e)))
     (λ q. ap (λ (ws : List ℕ). count_by (λ y. y == r) ws) (cancelled_line Q r q) ∙ it_leaves r (waiting_in Q q))

@@ -8,12 +8,15 @@ use Rattle.wdf_base.specs.declared.object.Place.TheVariants as place
 use Rattle.wdf_base.specs.declared.object.RequestInfo.{RequestInfo}
 use Rattle.wdf_base.specs.declared.value.Status.{Status}
 use Rattle.wdf_base.specs.Same.{same_kind}
-use Rattle.wdf_model.specs.Objects.{Node, Tree, create, gone, new_node, next_id}
-use Rattle.wdf_model.specs.Requests.{Request, Requests, enter_request, has_arrived, is_done, is_queued_in, is_sent, is_sent_to, move_to, no_request, place_of, request_of}
-use Rattle.wdf_model.specs.Lines.{Lines}
-use Rattle.wdf_model.specs.Targets.{Sending, Target, Targets, back, done, done_sending, is_forgotten, is_forgotten_sending, new_sending, no_target, send, sending_in_order, target_done, the_target, without_sending}
-use Rattle.wdf_model.specs.Script.{flag}
-use Rattle.wdf_model.specs.Deeds.{finished_at}
+use Rattle.wdf_model.specs.parts.Tree.{Node, Tree, gone, new_node, next_id}
+use Rattle.wdf_model.specs.parts.Tree as tree
+use Rattle.wdf_model.specs.parts.Requests.{Request, Requests, has_arrived, is_done, is_queued_in, is_sent, is_sent_to, no_request, place_of, request_of}
+use Rattle.wdf_model.specs.parts.Requests as requests
+use Rattle.wdf_model.specs.parts.Queues.{Queues}
+use Rattle.wdf_model.specs.parts.Targets.{Sending, Target, Targets, done_sending, is_forgotten, is_forgotten_sending, new_sending, no_target, sending_in_order, target_done, the_target, without_sending}
+use Rattle.wdf_model.specs.parts.Targets as targets
+use Rattle.wdf_model.specs.rules.Script.{flag}
+use Rattle.wdf_model.specs.rules.Deeds.{finished_at}
 use Rattle.wdf_model.proofs.Maps.{entry_before, entry_last, entry_map, entry_past, entry_put_other, entry_put_same, put_short}
 use Rattle.wdf_model.proofs.Counts.{by_request, differs, done_asks, equal, filter_less, forgotten_counts, found_at_its_target, it_comes_back, left_over, less_left, not_equal, one_is_sent, one_left, one_or_two, others_left, others_stay_sent}
 use Rattle.wdf_model.proofs.Kept.{Kept, arrived, forgets, is_made_place, kept_by_move, sends, stands}
@@ -26,7 +29,7 @@ no_more true = refl
 no_more false = refl
 
 sent_others : (T : Targets) (t r : ℕ) (forget : Bool) (test : ℕ → Sending → Bool) (u x : ℕ) → test x (new_sending r forget) ≡ false → (u ≡ t) ⊎ (u ≢ t)
-    → count_by (test x) (the_target (send T t r forget) u).sent ≡ count_by (test x) (the_target T u).sent
+    → count_by (test x) (the_target (targets.send T t r forget) u).sent ≡ count_by (test x) (the_target T u).sent
 sent_others T t r forget test u x differs_ (inl same) =
     rw same
     (ap (λ (y : Target). count_by (test x) y.sent) (target_here T t (λ y. record y { sent = sending_in_order (new_sending r forget) y.sent }))
@@ -35,7 +38,7 @@ sent_others T t r forget test u x differs_ (inl same) =
 sent_others T t r forget test u x differs_ (inr other) =
     ap (λ (y : Target). count_by (test x) y.sent) (target_elsewhere T t u (λ y. record y { sent = sending_in_order (new_sending r forget) y.sent }) other)
 
-sent_once : (T : Targets) (t r : ℕ) (forget : Bool) → ((u : ℕ) → sends T u r ≡ 0) → (u : ℕ) → (u ≡ t) ⊎ (u ≢ t) → sends (send T t r forget) u r ≡ flag (t == u)
+sent_once : (T : Targets) (t r : ℕ) (forget : Bool) → ((u : ℕ) → sends T u r ≡ 0) → (u : ℕ) → (u ≡ t) ⊎ (u ≢ t) → sends (targets.send T t r forget) u r ≡ flag (t == u)
 sent_once T t r forget none u (inl same) =
     rw same
     (ap (λ (y : Target). count_by (λ s. s.request == r) y.sent) (target_here T t (λ y. record y { sent = sending_in_order (new_sending r forget) y.sent }))
@@ -45,8 +48,8 @@ sent_once T t r forget none u (inr other) =
     ap (λ (y : Target). count_by (λ s. s.request == r) y.sent) (target_elsewhere T t u (λ y. record y { sent = sending_in_order (new_sending r forget) y.sent }) other)
     ∙ none u ∙ sym (ap flag (not_equal t u (λ f. other (sym f))))
 
-pub send_request : {F B : ℕ → Bool} {R : Requests} {Q : Lines} {T : Targets} {N : Tree} (r t : ℕ) (forget : Bool) → Kept F B R Q T N → is_done (place_of R r) ≡ false → is_still (place_of R r) ≡ true
-    → (arrived R r ≡ false → forget ≡ false) → Kept F B (move_to R r (place.Sent (record { 0 = t }))) Q (send T t r forget) N
+pub send_request : {F B : ℕ → Bool} {R : Requests} {Q : Queues} {T : Targets} {N : Tree} (r t : ℕ) (forget : Bool) → Kept F B R Q T N → is_done (place_of R r) ≡ false → is_still (place_of R r) ≡ true
+    → (arrived R r ≡ false → forget ≡ false) → Kept F B (requests.move_to R r (place.Sent (record { 0 = t }))) Q (targets.send T t r forget) N
 send_request {F} {B} {R} {Q} {T} {N} r t forget k there old comes = move_request r (place.Sent (record { 0 = t })) k there
     (λ _. refl)
     (λ q x n. refl)
@@ -74,16 +77,16 @@ sent_undone (place.Closing s) h = refl
 sent_undone place.Owned h = refl
 sent_undone place.Done h = absurd (let z : ⊥ = cc in z)
 
-back_at : (T : Targets) (r u : ℕ) → (the_target (back T r) u).sent ≡ filter (λ s. not (s.request == r)) (the_target T u).sent
+back_at : (T : Targets) (r u : ℕ) → (the_target (targets.back T r) u).sent ≡ filter (λ s. not (s.request == r)) (the_target T u).sent
 back_at T r u = ap (λ (y : Target). y.sent) (entry_map no_target T.targets (without_sending r) u refl)
 
-less_back : {F B : ℕ → Bool} {R : Requests} {Q : Lines} {T : Targets} {N : Tree} (r u : ℕ) → Kept F B R Q T N → arrived R r ≡ false → forgets (back T r) u r ≡ 0
+less_back : {F B : ℕ → Bool} {R : Requests} {Q : Queues} {T : Targets} {N : Tree} (r u : ℕ) → Kept F B R Q T N → arrived R r ≡ false → forgets (targets.back T r) u r ≡ 0
 less_back {F} {B} {R} {Q} {T} r u k a =
     let less = filter_less (λ s. s.request == r && s.forgotten) (λ s. not (s.request == r)) (the_target T u).sent in
     let none = k.returns u r a in
     ap (λ (xs : List Sending). count_by (λ s. s.request == r && s.forgotten) xs) (back_at T r u) ∙ omega arith
 
-pub come_back : {F B : ℕ → Bool} {R : Requests} {Q : Lines} {T : Targets} {N : Tree} (r : ℕ) → Kept F B R Q T N → is_sent (place_of R r) ≡ true → Kept F B (move_to R r place.Owned) Q (back T r) N
+pub come_back : {F B : ℕ → Bool} {R : Requests} {Q : Queues} {T : Targets} {N : Tree} (r : ℕ) → Kept F B R Q T N → is_sent (place_of R r) ≡ true → Kept F B (requests.move_to R r place.Owned) Q (targets.back T r) N
 come_back {F} {B} {R} {Q} {T} {N} r k h = move_request r place.Owned k (sent_undone (place_of R r) h)
     (λ _. refl)
     (λ q x n. refl)
@@ -91,7 +94,7 @@ come_back {F} {B} {R} {Q} {T} {N} r k h = move_request r place.Owned k (sent_und
     (λ u x n. ap (λ (xs : List Sending). count_by (λ s. s.request == x) xs) (back_at T r u) ∙ others_stay_sent (λ s. s.request == x) r (the_target T u).sent (λ s e. differs s.request r x e (λ f. n (sym f))))
     (λ u. ap (λ (xs : List Sending). count_by (λ s. s.request == r) xs) (back_at T r u) ∙ it_comes_back r (the_target T u).sent)
     (λ u x n.
-    let e : forgets (back T r) u x ≡ forgets T u x =
+    let e : forgets (targets.back T r) u x ≡ forgets T u x =
     ap (λ (xs : List Sending). count_by (λ s. s.request == x && s.forgotten) xs) (back_at T r u)
     ∙ others_stay_sent (λ s. s.request == x && s.forgotten) r (the_target T u).sent (λ s e. and_left (s.request == x) s.forgotten (differs s.request r x e (λ f. n (sym f))))
     in omega arith)
@@ -99,7 +102,7 @@ come_back {F} {B} {R} {Q} {T} {N} r k h = move_request r place.Owned k (sent_und
 
 -- ---- its target is done with it
 
-left_at : (T : Targets) (r : ℕ) (status : Status) (u : ℕ) → (the_target (done T r status) u).sent ≡ left_over r status (the_target T u).sent
+left_at : (T : Targets) (r : ℕ) (status : Status) (u : ℕ) → (the_target (targets.done T r status) u).sent ≡ left_over r status (the_target T u).sent
 left_at T r status u = ap (λ (y : Target). y.sent) (entry_map no_target T.targets (target_done r status) u refl)
 
 finished_still : (u : ℕ) (b : Bool) (s : Status) (t : ℕ) → flag (is_sent_to u (finished_at b s (place.Sent (record { 0 = t })))) ≡ (if b then 0 else flag (t == u))
@@ -114,7 +117,7 @@ by_both : (x y : ℕ) (status : Status) (s : Sending) → ((done_sending y statu
 by_both x y status s = ap (λ n. n == x && (done_sending y status s).forgotten) (done_asks y status s).0 ∙ ap (λ b. s.request == x && b) (done_asks y status s).1
 
 -- the request is at this target, and at no other
-module _ {F B : ℕ → Bool} {R : Requests} {Q : Lines} {T : Targets} {N : Tree} (r t : ℕ) (status : Status) (k : Kept F B R Q T N) (at : place_of R r ≡ place.Sent (record { 0 = t })) where
+module _ {F B : ℕ → Bool} {R : Requests} {Q : Queues} {T : Targets} {N : Tree} (r t : ℕ) (status : Status) (k : Kept F B R Q T N) (at : place_of R r ≡ place.Sent (record { 0 = t })) where
   here_once : sends T t r ≡ 1
   here_once = k.sent t r ∙ ap (λ p. flag (is_sent_to t p)) at ∙ ap flag (equal t t refl)
 
@@ -124,18 +127,18 @@ module _ {F B : ℕ → Bool} {R : Requests} {Q : Lines} {T : Targets} {N : Tree
   found_here : is_forgotten T r ≡ is_forgotten_sending (find (λ s. s.request == r) (the_target T t).sent)
   found_here = ap is_forgotten_sending (found_at_its_target r T.targets t nowhere_else)
 
-  left_here : (b : Bool) → is_forgotten T r ≡ b → sends (done T r status) t r ≡ flag (not b)
+  left_here : (b : Bool) → is_forgotten T r ≡ b → sends (targets.done T r status) t r ≡ flag (not b)
   left_here b e =
       ap (λ (xs : List Sending). count_by (λ s. s.request == r) xs) (left_at T r status t)
       ∙ one_left r status (the_target T t).sent here_once ∙ ap (λ c. flag (not c)) (sym found_here ∙ e)
 
-  left_elsewhere : (u : ℕ) → u ≢ t → sends (done T r status) u r ≡ 0
+  left_elsewhere : (u : ℕ) → u ≢ t → sends (targets.done T r status) u r ≡ 0
   left_elsewhere u n =
       let less = less_left (λ s. s.request == r) r status (the_target T u).sent (by_request r r status) in
       let none = nowhere_else u n in
       ap (λ (xs : List Sending). count_by (λ s. s.request == r) xs) (left_at T r status u) ∙ omega arith
 
-  left_by : (b : Bool) → is_forgotten T r ≡ b → (u : ℕ) → (u ≡ t) ⊎ (u ≢ t) → sends (done T r status) u r ≡ flag (is_sent_to u (finished_at b status (place.Sent (record { 0 = t }))))
+  left_by : (b : Bool) → is_forgotten T r ≡ b → (u : ℕ) → (u ≡ t) ⊎ (u ≢ t) → sends (targets.done T r status) u r ≡ flag (is_sent_to u (finished_at b status (place.Sent (record { 0 = t }))))
   left_by true e u (inl same) = rw same (left_here true e)
   left_by false e u (inl same) = rw same (left_here false e ∙ sym (ap flag (equal t t refl)))
   left_by true e u (inr other) = left_elsewhere u other
@@ -149,7 +152,7 @@ module _ {F B : ℕ → Bool} {R : Requests} {Q : Lines} {T : Targets} {N : Tree
       let none = k.returns t r a in
       absurd (omega arith)
 
-  pub finish_at : (b : Bool) → is_forgotten T r ≡ b → Kept F B (move_to R r (finished_at b status (place.Sent (record { 0 = t })))) Q (done T r status) N
+  pub finish_at : (b : Bool) → is_forgotten T r ≡ b → Kept F B (requests.move_to R r (finished_at b status (place.Sent (record { 0 = t })))) Q (targets.done T r status) N
   finish_at b e = move_request r (finished_at b status (place.Sent (record { 0 = t }))) k (ap is_done at)
       (made_at b e)
       (λ q x n. refl)
@@ -160,16 +163,16 @@ module _ {F B : ℕ → Bool} {R : Requests} {Q : Lines} {T : Targets} {N : Tree
       (λ u. left_by b e u (one_or_two u t))
       (λ u x n.
       let less = less_left (λ s. s.request == x && s.forgotten) r status (the_target T u).sent (by_both x r status) in
-      let same : forgets (done T r status) u x ≡ count_by (λ s. s.request == x && s.forgotten) (left_over r status (the_target T u).sent) = ap (λ (xs : List Sending). count_by (λ s. s.request == x && s.forgotten) xs) (left_at T r status u) in
+      let same : forgets (targets.done T r status) u x ≡ count_by (λ s. s.request == x && s.forgotten) (left_over r status (the_target T u).sent) = ap (λ (xs : List Sending). count_by (λ s. s.request == x && s.forgotten) xs) (left_at T r status u) in
       omega arith)
       (λ u a.
       let less = less_left (λ s. s.request == r && s.forgotten) r status (the_target T u).sent (by_both r r status) in
-      let same : forgets (done T r status) u r ≡ count_by (λ s. s.request == r && s.forgotten) (left_over r status (the_target T u).sent) = ap (λ (xs : List Sending). count_by (λ s. s.request == r && s.forgotten) xs) (left_at T r status u) in
+      let same : forgets (targets.done T r status) u r ≡ count_by (λ s. s.request == r && s.forgotten) (left_over r status (the_target T u).sent) = ap (λ (xs : List Sending). count_by (λ s. s.request == r && s.forgotten) xs) (left_at T r status u) in
       let none = k.returns u r a in
       omega arith)
 
-finish_by : {F B : ℕ → Bool} {R : Requests} {Q : Lines} {T : Targets} {N : Tree} (r : ℕ) (status : Status) (p : Place) → Kept F B R Q T N → place_of R r ≡ p → is_sent p ≡ true
-    → Kept F B (move_to R r (finished_at (is_forgotten T r) status p)) Q (done T r status) N
+finish_by : {F B : ℕ → Bool} {R : Requests} {Q : Queues} {T : Targets} {N : Tree} (r : ℕ) (status : Status) (p : Place) → Kept F B R Q T N → place_of R r ≡ p → is_sent p ≡ true
+    → Kept F B (requests.move_to R r (finished_at (is_forgotten T r) status p)) Q (targets.done T r status) N
 finish_by {T = T} r status (place.Sent t) k at h = finish_at r t.0 status k at (is_forgotten T r) refl
 finish_by r status (place.Queued q) k at h = absurd (let z : ⊥ = cc in z)
 finish_by r status (place.Returning q) k at h = absurd (let z : ⊥ = cc in z)
@@ -177,23 +180,23 @@ finish_by r status (place.Closing s) k at h = absurd (let z : ⊥ = cc in z)
 finish_by r status place.Owned k at h = absurd (let z : ⊥ = cc in z)
 finish_by r status place.Done k at h = absurd (let z : ⊥ = cc in z)
 
-pub finish_sending : {F B : ℕ → Bool} {R : Requests} {Q : Lines} {T : Targets} {N : Tree} (r : ℕ) (status : Status) → Kept F B R Q T N → is_sent (place_of R r) ≡ true
-    → Kept F B (move_to R r (finished_at (is_forgotten T r) status (place_of R r))) Q (done T r status) N
+pub finish_sending : {F B : ℕ → Bool} {R : Requests} {Q : Queues} {T : Targets} {N : Tree} (r : ℕ) (status : Status) → Kept F B R Q T N → is_sent (place_of R r) ≡ true
+    → Kept F B (requests.move_to R r (finished_at (is_forgotten T r) status (place_of R r))) Q (targets.done T r status) N
 finish_sending {F} {B} {R} r status k h = finish_by r status (place_of R r) k refl h
 
 -- ---- a request comes into being
 
 -- nothing is told of a number that no object has
-fresh : {F B : ℕ → Bool} {R : Requests} {Q : Lines} {T : Targets} {N : Tree} → Kept F B R Q T N → request_of R (next_id N) ≡ no_request
+fresh : {F B : ℕ → Bool} {R : Requests} {Q : Queues} {T : Targets} {N : Tree} → Kept F B R Q T N → request_of R (next_id N) ≡ no_request
 fresh {F} {B} {R} {N = N} k = entry_past no_request R.all (next_id N) k.room
 
-pub new_request : {F B : ℕ → Bool} {R : Requests} {Q Q' : Lines} {T : Targets} {N : Tree} (what : Kind) (class parent : ℕ) (p : Place) (info : RequestInfo) → Kept F B R Q T N
+pub new_request : {F B : ℕ → Bool} {R : Requests} {Q Q' : Queues} {T : Targets} {N : Tree} (what : Kind) (class parent : ℕ) (p : Place) (info : RequestInfo) → Kept F B R Q T N
     → ((t : ℕ) → is_sent_to t p ≡ false) → (same_kind what kind.Request ≡ true → has_arrived (record { place = p; info = info }) ≡ true)
     → (has_arrived (record { place = p; info = info }) ≡ false → is_made_place p ≡ true)
     → (has_arrived (record { place = p; info = info }) ≡ true → B (next_id N) ≡ true)
     → ((q x : ℕ) → x ≢ next_id N → stands Q' q x ≡ stands Q q x) → ((q : ℕ) → stands Q' q (next_id N) ≡ flag (is_queued_in q p))
-    → Kept F B (enter_request R (next_id N) p info) Q' T (create N what class parent)
-new_request {F} {B} {R} {Q} {Q'} {T} {N} what class parent p info k unsent known made told lines line = kept_by_move {r = next_id N} {p = p} k (record {
+    → Kept F B (requests.arrive R (next_id N) p info) Q' T (tree.create N what class parent)
+new_request {F} {B} {R} {Q} {Q'} {T} {N} what class parent p info k unsent known made told queues line = kept_by_move {r = next_id N} {p = p} k (record {
   elsewhere = λ x n. ap (λ (q : Request). q.place) (entry_put_other no_request R.all (next_id N) x (record { place = p; info = info }) n);
   here = ap (λ (q : Request). q.place) (entry_put_same no_request R.all (next_id N) (record { place = p; info = info }));
   arrivals = λ x n. ap has_arrived (entry_put_other no_request R.all (next_id N) x (record { place = p; info = info }) n);
@@ -205,7 +208,7 @@ new_request {F} {B} {R} {Q} {Q'} {T} {N} what class parent p info k unsent known
   kind = λ h.
       ap has_arrived (entry_put_same no_request R.all (next_id N) (record { place = p; info = info }))
       ∙ known (sym (ap (λ (o : Node). same_kind o.kind kind.Request) (entry_last gone N.nodes (new_node what class parent))) ∙ h);
-  other_lines = lines;
+  other_lines = queues;
   line = line;
   other_targets = λ t x n. refl;
   target = λ t. k.sent t (next_id N) ∙ ap (λ (q : Request). flag (is_sent_to t q.place)) (fresh k) ∙ sym (ap flag (unsent t));
@@ -217,5 +220,5 @@ new_request {F} {B} {R} {Q} {Q'} {T} {N} what class parent p info k unsent known
   begun = λ h. told (sym (ap has_arrived (entry_put_same no_request R.all (next_id N) (record { place = p; info = info }))) ∙ h);
 })
 
-pub nowhere_yet : {F B : ℕ → Bool} {R : Requests} {Q : Lines} {T : Targets} {N : Tree} → Kept F B R Q T N → (q : ℕ) → stands Q q (next_id N) ≡ 0
+pub nowhere_yet : {F B : ℕ → Bool} {R : Requests} {Q : Queues} {T : Targets} {N : Tree} → Kept F B R Q T N → (q : ℕ) → stands Q q (next_id N) ≡ 0
 nowhere_yet {N = N} k q = k.queued q (next_id N) ∙ ap (λ (x : Request). flag (is_queued_in q x.place)) (fresh k)

@@ -27,23 +27,24 @@ use Rattle.wdf_base.specs.Same.{same_call_kind, same_handle, same_kind, same_opt
 use Rattle.wdf_model.specs.Runs.{IsRun}
 use Rattle.wdf_model.specs.Tables.{entry}
 use Rattle.wdf_model.specs.Plans.{declared_ids, queue_of, target_of}
-use Rattle.wdf_model.specs.Objects.{declared_node, gone, is_live, kind_of, life_of, next_id, opening_tree}
-use Rattle.wdf_model.specs.Requests.{Request, Requests, complete_request, has_arrived, is_closing, is_done, move_to, moved, place_of}
-use Rattle.wdf_model.specs.Lines.{no_line, opening_line}
-use Rattle.wdf_model.specs.Targets.{no_target, opening_target}
-use Rattle.wdf_model.specs.Script.{flag}
+use Rattle.wdf_model.specs.parts.Tree.{declared_node, gone, is_live, kind_of, life_of, next_id, opening_tree}
+use Rattle.wdf_model.specs.parts.Requests.{Request, Requests, has_arrived, is_closing, is_done, moved, place_of}
+use Rattle.wdf_model.specs.parts.Requests as requests
+use Rattle.wdf_model.specs.parts.Queues.{no_queue, opening_queue}
+use Rattle.wdf_model.specs.parts.Targets.{no_target, opening_target}
+use Rattle.wdf_model.specs.rules.Script.{flag}
 use Rattle.wdf_model.specs.State.{State, object_in, opening}
-use Rattle.wdf_model.specs.Deeds.{Arrive, Complete_request, Count_arrival, Deed, do_deed, do_deeds, give_up}
-use Rattle.wdf_model.specs.Posts.{arrival_answer, arrival_info, arrival_place, arriving, due_of, post_fits}
-use Rattle.wdf_model.specs.Machine.{after, deeds, did_deeds, is_own_event, may}
-use Rattle.wdf_model.specs.Ready.{IsRunOf, ready, state_after}
-use Rattle.wdf_model.specs.Fits.{is_given}
-use Rattle.wdf_model.specs.OverRuns.{CompletedOnce, PlacesAgree, arrives, completes, is_answer}
+use Rattle.wdf_model.specs.rules.Deeds.{Arrive, Complete_request, Count_arrival, Deed, do_deed, do_deeds, give_up}
+use Rattle.wdf_model.specs.rules.Posts.{arrival_answer, arrival_info, arrival_place, arriving, due_of, post_fits}
+use Rattle.wdf_model.specs.rules.Steps.{after, deeds, did_deeds, is_own_event, may}
+use Rattle.wdf_model.specs.rules.Ready.{IsRunOf, ready, state_after}
+use Rattle.wdf_model.specs.laws.Fits.{is_given}
+use Rattle.wdf_model.specs.laws.OverRuns.{CompletedOnce, PlacesAgree, arrives, completes, is_answer}
 use Rattle.wdf_model.proofs.Runs.{along_run}
 use Rattle.wdf_model.proofs.Tests.{both_left, both_right, itself}
 use Rattle.wdf_model.proofs.Sames.{call_kind_decides, handle_same}
 use Rattle.wdf_model.proofs.Follows.{follows, state_goes_on}
-use Rattle.wdf_model.specs.FactsOfEvents.{IsTick}
+use Rattle.wdf_model.specs.laws.FactsOfEvents.{IsTick}
 use Rattle.wdf_model.proofs.Deletion.{asking_deletes}
 use Rattle.wdf_model.proofs.OwnEvents.{IsDid, did_tells}
 use Rattle.wdf_model.proofs.FitsOfCalls.{outcome_fits}
@@ -56,11 +57,11 @@ use Rattle.wdf_model.proofs.Arrivals.{event_none, is_arrival_event}
 
 -- ---- the opening
 
-line_opens : (plan : Plan) (q : Option QueueInfo) → (opening_line q).waiting ≡ []
+line_opens : (plan : Plan) (q : Option QueueInfo) → (opening_queue q).waiting ≡ []
 line_opens plan None = refl
 line_opens plan (Some q) = refl
 
-lines_open : (plan : Plan) (ids : List ℕ) (q : ℕ) → (entry no_line (map (λ i. opening_line (queue_of plan i)) ids) q).waiting ≡ []
+lines_open : (plan : Plan) (ids : List ℕ) (q : ℕ) → (entry no_queue (map (λ i. opening_queue (queue_of plan i)) ids) q).waiting ≡ []
 lines_open plan [] q = refl
 lines_open plan (i ∷ ids) zero = line_opens plan (queue_of plan i)
 lines_open plan (i ∷ ids) (suc q) = lines_open plan ids q
@@ -133,10 +134,10 @@ arrival_keeps plan S agent f length code device true e told k =
 -- event e completes request r, whose place is now Done
 pub record Completing {A : Type 0} (plan : Plan) (S : State A) (e : Event) (r : ℕ) : Type 0 where
   pub ready : (is_closing (place_of S.requests r) || is_given S r) ≡ true
-  pub done : (do_deeds plan (deeds plan S e) S).requests ≡ move_to S.requests r place.Done
+  pub done : (do_deeds plan (deeds plan S e) S).requests ≡ requests.move_to S.requests r place.Done
 
-complete_changes : {A : Type 0} (plan : Plan) (S : State A) (r : ℕ) → (do_deed plan (Complete_request r) S).requests ≡ move_to S.requests r place.Done
-complete_changes {A} plan S r = ap (λ (T : State A). T.requests) (asking_deletes (record (give_up S r) { requests = complete_request S.requests r }) r).rest
+complete_changes : {A : Type 0} (plan : Plan) (S : State A) (r : ℕ) → (do_deed plan (Complete_request r) S).requests ≡ requests.move_to S.requests r place.Done
+complete_changes {A} plan S r = ap (λ (T : State A). T.requests) (asking_deletes (record (give_up S r) { requests = requests.complete S.requests r }) r).rest
 
 completing_call : {A : Type 0} (plan : Plan) (m : Meaning A) (S : State A) (k : Cpu) (n : ℕ) (a b x : Arg) (v : Value)
     → is_own_event plan m S k (event.Did k (record { kind = call.WdfRequestComplete; count = n; a = a; b = b; c = x }) v) ≡ true
@@ -220,7 +221,7 @@ event_keeps plan m S e h told k = elim (cases_Bool (is_arrival_event e)) [
 ended_now : {A : Type 0} {F B : ℕ → Bool} (plan : Plan) (S T : State A) (e : Event) (r : ℕ) → do_deeds plan (deeds plan S e) S ≡ T → Completing plan S e r → KeptIn F B S → KeptIn F B T
     → (is_done (place_of T.requests r) ≡ true) × (r < length T.tree.nodes)
 ended_now {A} plan S T e r same c k l =
-    let changed : T.requests ≡ move_to S.requests r place.Done = ap (λ (U : State A). U.requests) (sym same) ∙ c.done in
+    let changed : T.requests ≡ requests.move_to S.requests r place.Done = ap (λ (U : State A). U.requests) (sym same) ∙ c.done in
     let came : arrived T.requests r ≡ true =
     ap (λ (R : Requests). arrived R r) changed ∙ ap has_arrived (request_here S.requests r (moved place.Done)) ∙ (not_yet plan S e r c k).1 in
     let inside = arrived_within T.requests r came in

@@ -17,30 +17,32 @@ use Rattle.wdf_base.specs.declared.frame.Pending.{Pending}
 use Rattle.wdf_base.specs.declared.declared.Declared.{Declared}
 use Rattle.wdf_model.specs.Tables.{ids_of}
 use Rattle.wdf_model.specs.Plans.{agent_count, device_of_queue, declares, is_managed, script_on}
-use Rattle.wdf_model.specs.Objects.{Tree, opening_tree, declared_as, handle_of}
-use Rattle.wdf_model.specs.Frames.{Cpus, opening_cpus, frame_of, all_frames}
-use Rattle.wdf_model.specs.Locks.{Locks, no_locks, object_lock, is_free_lock}
-use Rattle.wdf_model.specs.Requests.{Requests, no_requests, place_of, info_of, origin_of}
-use Rattle.wdf_model.specs.Lines.{Lines, opening_lines}
-use Rattle.wdf_model.specs.Modes.{Modes, opening_modes, delivers, is_closed}
-use Rattle.wdf_model.specs.Power.{Power, opening_power, queues_up}
-use Rattle.wdf_model.specs.Sequences.{Sequences, opening_sequences}
-use Rattle.wdf_model.specs.Interrupts.{Interrupts, no_interrupts}
-use Rattle.wdf_model.specs.Deferred.{Dpcs, Works, Timers, opening_dpcs, no_works, no_timers}
-use Rattle.wdf_model.specs.Targets.{Targets, opening_targets, is_forgotten}
+use Rattle.wdf_model.specs.parts.Tree.{Tree, opening_tree, declared_as, handle_of}
+use Rattle.wdf_model.specs.parts.Cpus.{Cpus, opening_cpus, frame_of, all_frames}
+use Rattle.wdf_model.specs.parts.Locks.{Locks, no_locks, object_lock, is_free_lock}
+use Rattle.wdf_model.specs.parts.Requests.{Requests, no_requests, place_of, info_of, origin_of}
+use Rattle.wdf_model.specs.parts.Queues.{Queues, opening_queues}
+use Rattle.wdf_model.specs.parts.Control.{Control, opening_control, delivers, is_closed}
+use Rattle.wdf_model.specs.parts.Power.{Power, opening_power, queues_up}
+use Rattle.wdf_model.specs.parts.Pnp.{Pnp, opening_pnp}
+use Rattle.wdf_model.specs.parts.Interrupts.{Interrupts, no_interrupts}
+use Rattle.wdf_model.specs.parts.Deferred.Dpcs.{Dpcs, opening_dpcs}
+use Rattle.wdf_model.specs.parts.Deferred.WorkItems.{WorkItems, no_work_items}
+use Rattle.wdf_model.specs.parts.Deferred.Timers.{Timers, no_timers}
+use Rattle.wdf_model.specs.parts.Targets.{Targets, opening_targets, is_forgotten}
 
 pub record State (A : Type 0) : Type 0 where
   pub tree : Tree
   pub cpus : Cpus
   pub locks : Locks
   pub requests : Requests
-  pub lines : Lines
-  pub modes : Modes
+  pub queues : Queues
+  pub control : Control
   pub power : Power
-  pub sequences : Sequences
+  pub pnp : Pnp
   pub interrupts : Interrupts
   pub dpcs : Dpcs
-  pub works : Works
+  pub work_items : WorkItems
   pub timers : Timers
   pub targets : Targets
   -- the state of each agent, by number
@@ -63,13 +65,13 @@ opening m plan = record {
   cpus = opening_cpus plan;
   locks = no_locks;
   requests = no_requests;
-  lines = opening_lines plan;
-  modes = opening_modes plan;
+  queues = opening_queues plan;
+  control = opening_control plan;
   power = opening_power plan;
-  sequences = opening_sequences plan;
+  pnp = opening_pnp plan;
   interrupts = no_interrupts;
   dpcs = opening_dpcs plan;
-  works = no_works;
+  work_items = no_work_items;
   timers = no_timers;
   targets = opening_targets plan;
   agents = opening_agents m plan;
@@ -106,12 +108,12 @@ up_for plan S q = queues_up S.power (device_of_queue plan q)
 
 -- a queue delivers, by its mode and by power (KMDF)
 abbrev pub queue_delivers : {A : Type 0} → Plan → State A → ℕ → Bool
-queue_delivers plan S q = delivers S.modes q (up_for plan S q)
+queue_delivers plan S q = delivers S.control q (up_for plan S q)
 
 -- a received request that is cancelled in this queue goes back to the driver, by EvtIoCanceledOnQueue (KMDF)
 abbrev pub returns_to : {A : Type 0} → Plan → State A → ℕ → Bool
 returns_to plan S q =
-    declares plan callback.EvtIoCanceledOnQueue q && not (is_closed S.modes (device_of_queue plan q)) && (not (is_managed plan q) || up_for plan S q)
+    declares plan callback.EvtIoCanceledOnQueue q && not (is_closed S.control (device_of_queue plan q)) && (not (is_managed plan q) || up_for plan S q)
 
 -- where a request goes that is cancelled in a queue
 abbrev pub withdrawn_place : {A : Type 0} → Plan → State A → ℕ → ℕ → Place

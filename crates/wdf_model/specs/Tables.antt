@@ -15,8 +15,8 @@ put blank (x ∷ xs) zero new = new ∷ xs
 put blank (x ∷ xs) (suc id) new = x ∷ put blank xs id new
 
 -- the map with the entry of an id changed
-abbrev pub change : {T : Type 0} → T → List T → ℕ → (T → T) → List T
-change blank xs id f = put blank xs id (f (entry blank xs id))
+abbrev pub change_at : {T : Type 0} → T → List T → ℕ → (T → T) → List T
+change_at blank xs id f = put blank xs id (f (entry blank xs id))
 
 -- the ids of a map's entries, rising
 abbrev pub ids_of : {T : Type 0} → List T → List ℕ

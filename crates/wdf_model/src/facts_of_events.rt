@@ -5,14 +5,14 @@ ghost use Rattle.wdf_base.specs.declared.value.Value.{Value};
 ghost use Rattle.wdf_base.specs.declared.plan.Plan.{Plan};
 ghost use Rattle.wdf_base.specs.declared.event.Event.{Event};
 ghost use Rattle.wdf_base.specs.declared.event.Event.TheVariants as event;
-ghost use Rattle.wdf_model.specs.Frames.{top};
+ghost use Rattle.wdf_model.specs.parts.Cpus.{top};
 ghost use Rattle.wdf_model.specs.State.{State};
-ghost use Rattle.wdf_model.specs.Machine.{after};
+ghost use Rattle.wdf_model.specs.rules.Steps.{after};
 ghost use Rattle.wdf_base.specs.declared.event.Fault.{Fault};
-ghost use Rattle.wdf_model.specs.Deeds.{Ask_deletion, do_deed};
-ghost use Rattle.wdf_model.specs.Ready.{ready, state_after};
-ghost use Rattle.wdf_model.specs.Agents.{Agent, agents};
-ghost use Rattle.wdf_model.specs.FactsOfEvents.{IsTick, MovesOnlyFrame, touches_gone};
+ghost use Rattle.wdf_model.specs.rules.Deeds.{Ask_deletion, do_deed};
+ghost use Rattle.wdf_model.specs.rules.Ready.{ready, state_after};
+ghost use Rattle.wdf_model.specs.agents.{Agent, agents};
+ghost use Rattle.wdf_model.specs.laws.FactsOfEvents.{IsTick, MovesOnlyFrame, touches_gone};
 
 /// A Local or a Log of a processor's top frame changes nothing but what the script keeps in that frame:
 /// no agent hears of it, and no other part, frame, stack or level changes.

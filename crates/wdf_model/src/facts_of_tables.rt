@@ -4,10 +4,10 @@ ghost use Rattle.wdf_base.specs.declared.declared.Scope.{Scope};
 ghost use Rattle.wdf_base.specs.declared.event.Ask.{Ask};
 ghost use Rattle.wdf_base.specs.declared.words.TheConstants.{FAULTS};
 ghost use Rattle.wdf_model.specs.declared.enums.Phase.{Phase};
-ghost use Rattle.wdf_model.specs.Sequences.{DeviceSteps, steps_for};
-ghost use Rattle.wdf_model.specs.FactsOfSteps.{last_of, passing, stage_reached, was_working, whole_device, whole_steps};
-ghost use Rattle.wdf_model.specs.FactsOfFaults.{MISTAKES, DONE_RIGHT, fault_in_deal};
-ghost use Rattle.wdf_model.specs.FactsOfLocks.{locks_under, locks_expected};
+ghost use Rattle.wdf_model.specs.parts.Pnp.{DeviceSteps, steps_for};
+ghost use Rattle.wdf_model.specs.laws.FactsOfSteps.{last_of, passing, stage_reached, was_working, whole_device, whole_steps};
+ghost use Rattle.wdf_model.specs.laws.FactsOfFaults.{MISTAKES, DONE_RIGHT, fault_in_deal};
+ghost use Rattle.wdf_model.specs.laws.FactsOfLocks.{locks_under, locks_expected};
 
 /// Each list of steps ends with the stage to which its post brings the device; a post that changes
 /// nothing has none.

@@ -2,13 +2,13 @@ ghost use Rattle.std.specs.Prelude.{◌≡◌, ◌<◌, ℕ, true, List, [], ◌
 ghost use Rattle.wdf_base.specs.Meaning.{Meaning};
 ghost use Rattle.wdf_base.specs.declared.plan.Plan.{Plan};
 ghost use Rattle.wdf_base.specs.declared.event.Event.{Event};
-ghost use Rattle.wdf_model.specs.Objects.{next_id};
-ghost use Rattle.wdf_model.specs.Requests.{is_done, place_of};
+ghost use Rattle.wdf_model.specs.parts.Tree.{next_id};
+ghost use Rattle.wdf_model.specs.parts.Requests.{is_done, place_of};
 ghost use Rattle.wdf_model.specs.State.{State};
-ghost use Rattle.wdf_model.specs.Machine.{deeds, may};
-ghost use Rattle.wdf_model.specs.Ready.{IsRunOf, ready, state_after};
-ghost use Rattle.wdf_model.specs.Fits.{all_fit};
-ghost use Rattle.wdf_model.specs.OverRuns.{CompletedOnce, PlacesAgree};
+ghost use Rattle.wdf_model.specs.rules.Steps.{deeds, may};
+ghost use Rattle.wdf_model.specs.rules.Ready.{IsRunOf, ready, state_after};
+ghost use Rattle.wdf_model.specs.laws.Fits.{all_fit};
+ghost use Rattle.wdf_model.specs.laws.OverRuns.{CompletedOnce, PlacesAgree};
 
 /// The deeds of each event that may come fit where they are done.
 pub fn each_event_fits<A>()

@@ -1,7 +1,7 @@
 ghost use Rattle.std.specs.Prelude.{◌≢◌, ℕ};
 ghost use Rattle.wdf_base.specs.declared.plan.Plan.{Plan};
 ghost use Rattle.wdf_base.specs.declared.event.Ending.TheVariants as ending;
-ghost use Rattle.wdf_model.specs.Course.{IsWorked, ending_at, events_of, run_by};
+ghost use Rattle.wdf_model.specs.laws.Course.{IsWorked, ending_at, events_of, run_by};
 
 /// What is computed pick by pick is the run that the picks determine, once it has ended.
 pub fn computed_run_is_picked()

@@ -10,7 +10,7 @@ use Rattle.wdf_base.specs.declared.value.Value.TheVariants.{Num, Obj, Stat}
 use Rattle.wdf_base.specs.declared.script.Act.{Act}
 use Rattle.wdf_base.specs.declared.script.Act.TheVariants as act
 use Rattle.wdf_base.specs.declared.script.Statement.{Statement}
-use Rattle.wdf_model.specs.Script.{value_of, intent_of, intent_at, statement_at, act_intent, let_intent, put_intent, if_intent, repeat_intent, spend_intent, log_intent, return_intent}
+use Rattle.wdf_model.specs.rules.Script.{value_of, intent_of, intent_at, statement_at, act_intent, let_intent, put_intent, if_intent, repeat_intent, spend_intent, log_intent, return_intent}
 use Rattle.wdf_script.specs.Errors.{script_error, act_error, is_number, is_number_to}
 
 abbrev pub BrokenWhere : Intent → Bool → Type 0

@@ -9,7 +9,7 @@ use Rattle.wdf_base.specs.declared.value.Value.{Value}
 use Rattle.wdf_base.specs.declared.script.ExprNode.{ExprNode}
 use Rattle.wdf_base.specs.declared.script.ExprNode.TheVariants as node
 use Rattle.wdf_base.specs.declared.script.Operator.{Operator}
-use Rattle.wdf_model.specs.Script.{value_of, value_at, values_after, node_value, operands_by}
+use Rattle.wdf_model.specs.rules.Script.{value_of, value_at, values_after, node_value, operands_by}
 use Rattle.wdf_script.specs.Errors.{is_atom}
 use Rattle.wdf_model.proofs.Runs.{take-take-below}
 

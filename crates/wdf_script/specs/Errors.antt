@@ -10,7 +10,7 @@ use Rattle.wdf_base.specs.declared.script.ExprNode.TheVariants as node
 use Rattle.wdf_base.specs.declared.script.Act.{Act}
 use Rattle.wdf_base.specs.declared.script.Act.TheVariants as act
 use Rattle.wdf_base.specs.declared.script.Statement.{Statement}
-use Rattle.wdf_model.specs.Script.{value_of}
+use Rattle.wdf_model.specs.rules.Script.{value_of}
 
 -- what stands alone in an expression
 abbrev pub is_atom : ExprNode → Bool

@@ -1,6 +1,6 @@
 //! The framework call of a statement, with its arguments evaluated.
 ghost use Rattle.std.specs.Prelude.{◌≡◌};
-ghost use Rattle.wdf_model.specs.Script as script;
+ghost use Rattle.wdf_model.specs.rules.Script as script;
 
 use crate::expressions::value_of;
 use wdf_base::{Arg, ArgNode, Call, CallKind, Frame, Plan, Value};

@@ -1,7 +1,7 @@
 //! What an expression is worth in a frame.
 ghost use Rattle.std.specs.Prelude.{◌≡◌, slice_index_or};
 ghost use Rattle.wdf_base.specs.declared.value.Value.TheVariants.{Num};
-ghost use Rattle.wdf_model.specs.Script as script;
+ghost use Rattle.wdf_model.specs.rules.Script as script;
 
 use crate::operators::operands_by;
 use wdf_base::{ContextWord, ExprNode, Frame, Handle, Plan, Value};

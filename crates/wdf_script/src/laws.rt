@@ -6,7 +6,7 @@ ghost use Rattle.wdf_base.specs.declared.frame.Intent.TheVariants.{Broken};
 ghost use Rattle.wdf_base.specs.declared.script.ExprNode.{ExprNode};
 ghost use Rattle.wdf_base.specs.declared.script.ExprNode.TheVariants.{Binary};
 ghost use Rattle.wdf_base.specs.declared.script.Operator.{Operator};
-ghost use Rattle.wdf_model.specs.Script as script;
+ghost use Rattle.wdf_model.specs.rules.Script as script;
 ghost use Rattle.wdf_script.specs.Errors.{is_atom, script_error};
 
 /// An operator's value is what it makes of the values of its operands.

@@ -1,6 +1,6 @@
 //! Operators of expressions, on numbers and on values.
 ghost use Rattle.std.specs.Prelude.{◌≡◌};
-ghost use Rattle.wdf_model.specs.Script as script;
+ghost use Rattle.wdf_model.specs.rules.Script as script;
 
 use wdf_base::{Operator, Value};
 use wdf_same::same_value;

@@ -1,6 +1,6 @@
 //! What the statement does at which a frame stands.
 ghost use Rattle.std.specs.Prelude.{◌≡◌, unwrap_or, option_map, slice_get};
-ghost use Rattle.wdf_model.specs.Script as script;
+ghost use Rattle.wdf_model.specs.rules.Script as script;
 
 use crate::arguments::call_of;
 use crate::expressions::value_of;

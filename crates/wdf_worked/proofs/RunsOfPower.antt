@@ -1,8 +1,8 @@
 -- Worked runs, computed from the definitions. Made by tools/scene_to_plan.py.
 use Rattle.std.proofs.Common.{[], refl}
 use Rattle.wdf_base.specs.declared.event.Ending.TheVariants as ending
-use Rattle.wdf_model.specs.Course.{run_by}
-use Rattle.wdf_model.specs.Script.{value_of}
+use Rattle.wdf_model.specs.laws.Course.{run_by}
+use Rattle.wdf_model.specs.rules.Script.{value_of}
 use Rattle.wdf_model.proofs.Course.{worked_of}
 use Rattle.wdf_worked.specs.Shown.{IsShown, is_kept}
 use Rattle.wdf_worked.proofs.Ended.{over}

@@ -6,11 +6,11 @@ use Rattle.wdf_base.specs.declared.event.Fault.{Fault}
 use Rattle.wdf_base.specs.declared.plan.Plan.{Plan}
 use Rattle.wdf_base.specs.declared.wait.WaitLine.{WaitLine}
 use Rattle.wdf_model.specs.State.{State, opening}
-use Rattle.wdf_model.specs.Machine.{after}
-use Rattle.wdf_model.specs.Ready.{ready_in, fault_in, unless_fault}
-use Rattle.wdf_model.specs.Agents.{Agent, agents}
-use Rattle.wdf_model.specs.Agreement.{agrees}
-use Rattle.wdf_model.specs.Course.{IsWorked, pick, run_by, waits_at}
+use Rattle.wdf_model.specs.rules.Steps.{after}
+use Rattle.wdf_model.specs.rules.Ready.{ready_in, fault_in, unless_fault}
+use Rattle.wdf_model.specs.agents.{Agent, agents}
+use Rattle.wdf_model.specs.laws.Agreement.{agrees}
+use Rattle.wdf_model.specs.laws.Course.{IsWorked, pick, run_by, waits_at}
 
 -- whether a test holds in the state after an event, if there is one
 abbrev also : (State Agent → Option Fault → Bool) → Plan → State Agent → Option Event → Bool

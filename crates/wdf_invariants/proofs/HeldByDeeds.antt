@@ -1,0 +1,169 @@
+-- Each deed that fits keeps what is held in step with what is counted and noted of it: a line for each.
+use Rattle.std.proofs.Common.{if◌then◌else◌, ◌≡◌, ◌≢◌, ℕ, ◌==◌, ◌≤◌, Bool, true, false, ◌&&◌, List, [], ◌∷◌, ◌++◌, ◌⊎◌, inl, inr, is_some, fold, count_by, refl, ap, sym, subst, ◌∙◌, arith}
+use Rattle.std.proofs.lemmas.Bool.{cases_Bool}
+use Rattle.wdf_base.specs.declared.plan.Plan.{Plan}
+use Rattle.wdf_base.specs.declared.object.Mark.TheVariants as mark
+use Rattle.wdf_base.specs.declared.object.Place.{Place}
+use Rattle.wdf_base.specs.declared.object.Place.TheVariants as place
+use Rattle.wdf_base.specs.declared.object.RequestInfo.{RequestInfo}
+use Rattle.wdf_base.specs.declared.event.Stage.{Stage}
+use Rattle.wdf_base.specs.declared.event.Stage.TheVariants as stage
+use Rattle.wdf_base.specs.declared.event.Step.{Step}
+use Rattle.wdf_base.specs.declared.event.Step.TheVariants as step
+use Rattle.wdf_base.specs.declared.value.Status.TheVariants as status
+use Rattle.wdf_model.specs.declared.enums.Mode.TheVariants as mode
+use Rattle.wdf_model.specs.Tables.{ids_of}
+use Rattle.wdf_model.specs.parts.Tree.{nearest_device, next_id}
+use Rattle.wdf_model.specs.parts.Requests.{Request, cancelled, is_marked, is_owned, is_queued_in, is_returning_to, is_sent, made_info, marked, moved, place_of, request_of, unmarked, with_mark}
+use Rattle.wdf_model.specs.parts.Requests as requests
+use Rattle.wdf_model.specs.parts.Queues as queues
+use Rattle.wdf_model.specs.parts.Queues.{waiting_in}
+use Rattle.wdf_model.specs.parts.Control as control
+use Rattle.wdf_model.specs.parts.Targets.{is_forgotten, is_undone, routine_due}
+use Rattle.wdf_model.specs.parts.Power.{Holding, Power, advance_stage, holding_of, is_held_at, no_holding, wake_holdings, with_up, woken}
+use Rattle.wdf_model.specs.parts.Power as power
+use Rattle.wdf_model.specs.rules.Script.{flag}
+use Rattle.wdf_model.specs.State.{State, held_at, withdrawn_place}
+use Rattle.wdf_model.specs.rules.Deeds.{Deed, Make_request, Arrive, Ask_deletion, Present, Receive, Requeue, Forward, Give_back, Withdraw, Mark_request, Unmark_request, Cancel_request, Take_cancel, Send_request, Finish_sending, Come_back, Complete_request, Purge_queue, Close_returning, Stop_target, Start_target, Advance_power, Acknowledge, Ask_stop, Resume, arrive_at, ask_objects, close_one, do_deed, do_deeds, give_up, queued, withdraw}
+use Rattle.wdf_model.specs.rules.Calls.{may_send}
+use Rattle.wdf_model.specs.laws.Fits.{all_fit, fits, is_arrival_place}
+use Rattle.wdf_model.proofs.Tests.{both_left, both_right}
+use Rattle.wdf_model.proofs.Maps.{entry_map}
+use Rattle.wdf_model.proofs.Deletion.{asking_deletes}
+use Rattle.wdf_model.proofs.Counts.{at_head, equal, one_or_two}
+use Rattle.wdf_model.proofs.KeptByDeeds.{deed_keeps}
+use Rattle.wdf_model.proofs.KeptMoves.{request_elsewhere, request_here}
+use Rattle.wdf_invariants.proofs.Forgotten.{stops_other}
+use Rattle.wdf_invariants.proofs.Holding.{HoldsIn, held_by, holds_alike}
+use Rattle.wdf_invariants.proofs.Releases.{cancelled_counts, gives_up, line_counts, same_holding}
+use Rattle.wdf_invariants.proofs.HeldPlaces.{marked_held, unmarked_held, withdrawn_unheld}
+use Rattle.wdf_invariants.proofs.HeldMoves.{Placed, away, away_cancelled, came_back, completed, entered_unheld, finished, gone_by, gone_cancelled, marks_hold, presented, received, sent_for_good, sent_to_return}
+
+-- ---- places from which nothing is held
+
+queued_unheld : (forgotten : Bool) (q : ℕ) (p : Place) → is_queued_in q p ≡ true → held_at forgotten p ≡ false
+queued_unheld forgotten q (place.Queued o) h = refl
+queued_unheld forgotten q (place.Returning o) h = refl
+queued_unheld forgotten q (place.Closing s) h = refl
+queued_unheld forgotten q place.Owned h = absurd (let z : ⊥ = cc in z)
+queued_unheld forgotten q (place.Sent t) h = absurd (let z : ⊥ = cc in z)
+queued_unheld forgotten q place.Done h = refl
+
+returning_unheld : (forgotten : Bool) (q : ℕ) (p : Place) → is_returning_to q p ≡ true → held_at forgotten p ≡ false
+returning_unheld forgotten q (place.Queued o) h = refl
+returning_unheld forgotten q (place.Returning o) h = refl
+returning_unheld forgotten q (place.Closing s) h = refl
+returning_unheld forgotten q place.Owned h = absurd (let z : ⊥ = cc in z)
+returning_unheld forgotten q (place.Sent t) h = absurd (let z : ⊥ = cc in z)
+returning_unheld forgotten q place.Done h = refl
+
+-- ---- cancels in a queue
+
+withdrawn : {A : Type 0} (plan : Plan) (q : ℕ) (S : State A) (r : ℕ) → HoldsIn plan S → held_at (is_forgotten S.targets r) (place_of S.requests r) ≡ false → HoldsIn plan (withdraw plan q S r)
+withdrawn plan q S r h old =
+    away_cancelled r (withdrawn_place plan (record S { queues = queues.take_cancelled S.queues r }) q r) h old (withdrawn_unheld _ (is_forgotten S.targets r) q) (λ p. cancelled_counts S.queues r p)
+
+stays_unheld : {A : Type 0} (plan : Plan) (q : ℕ) (S : State A) (r x : ℕ) → held_at (is_forgotten S.targets x) (place_of S.requests x) ≡ false → (x ≡ r) ⊎ (x ≢ r)
+    → held_at (is_forgotten S.targets x) (place_of (withdraw plan q S r).requests x) ≡ false
+stays_unheld plan q S r x h (inl e) =
+    rw e (ap (λ (y : Request). held_at (is_forgotten S.targets r) y.place) (request_here (requests.cancel S.requests r) r (moved (withdrawn_place plan (record S { queues = queues.take_cancelled S.queues r }) q r)))
+    ∙ withdrawn_unheld _ (is_forgotten S.targets r) q)
+stays_unheld plan q S r x h (inr n) =
+    ap (λ (y : Request). held_at (is_forgotten S.targets x) y.place)
+    (request_elsewhere (requests.cancel S.requests r) r x (moved (withdrawn_place plan (record S { queues = queues.take_cancelled S.queues r }) q r)) n ∙ request_elsewhere S.requests r x cancelled n)
+    ∙ h
+
+all_withdrawn : {A : Type 0} (plan : Plan) (q : ℕ) (rs : List ℕ) (S : State A) → HoldsIn plan S
+    → ((x : ℕ) → 1 ≤ count_by (λ y. y == x) rs → held_at (is_forgotten S.targets x) (place_of S.requests x) ≡ false) → HoldsIn plan (fold (withdraw plan q) S rs)
+all_withdrawn plan q [] S h waits = h
+all_withdrawn plan q (r ∷ rs) S h waits =
+    all_withdrawn plan q rs (withdraw plan q S r)
+    (withdrawn plan q S r h (waits r (let e = at_head r r rs in let yes : flag (r == r) ≡ 1 = ap flag (equal r r refl) in omega arith)))
+    (λ x more. stays_unheld plan q S r x (waits x (let e = at_head x r rs in omega arith)) (one_or_two x r))
+
+waiting_unheld : {A : Type 0} (S : State A) (q x : ℕ) → Placed S → 1 ≤ count_by (λ y. y == x) (waiting_in S.queues q) → held_at (is_forgotten S.targets x) (place_of S.requests x) ≡ false
+waiting_unheld S q x k more = elim (cases_Bool (is_queued_in q (place_of S.requests x))) [
+  | inl e ↦ queued_unheld (is_forgotten S.targets x) q (place_of S.requests x) e
+  | inr e ↦ absurd (let is = k.queued q x in let no_ : flag (is_queued_in q (place_of S.requests x)) ≡ 0 = ap flag e in omega arith)
+]
+
+closes_one : {A : Type 0} (plan : Plan) (q : ℕ) (S : State A) (r : ℕ) (b : Bool) → is_returning_to q (place_of S.requests r) ≡ b → HoldsIn plan S
+    → HoldsIn plan (if b then record S { requests = requests.move_to S.requests r (place.Closing status.Cancelled) } else S)
+closes_one plan q S r false e h = h
+closes_one plan q S r true e h = away r (place.Closing status.Cancelled) h (returning_unheld (is_forgotten S.targets r) q (place_of S.requests r) e) refl (λ p. refl)
+
+all_closed : {A : Type 0} (plan : Plan) (q : ℕ) (rs : List ℕ) (S : State A) → HoldsIn plan S → HoldsIn plan (fold (close_one q) S rs)
+all_closed plan q [] S h = h
+all_closed plan q (r ∷ rs) S h = all_closed plan q rs (close_one q S r) (closes_one plan q S r (is_returning_to q (place_of S.requests r)) refl h)
+
+-- ---- power
+
+woken_by : (P : Power) (d : ℕ) (h : Holding) (b : Bool) → is_held_at P d h ≡ b → (woken P d h).queue ≡ h.queue
+woken_by P d h true e = rw e refl
+woken_by P d h false e = rw e refl
+
+woken_queue : (P : Power) (d r : ℕ) → (holding_of (wake_holdings P d) r).queue ≡ (holding_of P r).queue
+woken_queue P d r = ap (λ (h : Holding). h.queue) (entry_map no_holding P.holdings (woken P d) r refl) ∙ woken_by P d (holding_of P r) (is_held_at P d (holding_of P r)) refl
+
+stage_queue : (P : Power) (d : ℕ) (s : Stage) (r : ℕ) → (holding_of (advance_stage P d s) r).queue ≡ (holding_of P r).queue
+stage_queue P d stage.Hardware r = refl
+stage_queue P d stage.NoHardware r = refl
+stage_queue P d stage.QueuesUp r = woken_queue (with_up P d true) d r
+stage_queue P d stage.QueuesDown r = refl
+stage_queue P d _ r = refl
+
+step_queue : (P : Power) (d : ℕ) (s : Step) (r : ℕ) → (holding_of (power.advance P d s) r).queue ≡ (holding_of P r).queue
+step_queue P d (step.Run c i) r = refl
+step_queue P d (step.Pass s i) r = stage_queue P d s r
+
+-- ---- each deed
+
+arrives_there : {A : Type 0} (plan : Plan) (S : State A) (device : ℕ) (info : RequestInfo) (p : Place) → Placed S → HoldsIn plan S → is_arrival_place p ≡ true → HoldsIn plan (arrive_at S device info p)
+arrives_there plan S device info (place.Queued q) k h f = entered_unheld S (place.Queued q) info k h (λ forgotten. refl) (λ p. line_counts S.queues q.0 p (λ l. record l { waiting = l.waiting ++ next_id S.tree ∷ [] }) (λ l. refl))
+arrives_there plan S device info (place.Closing s) k h f = entered_unheld S (place.Closing s) info k h (λ forgotten. refl) (λ p. refl)
+arrives_there plan S device info _ k h f = absurd (let z : ⊥ = cc in z)
+
+deleted : {A : Type 0} (plan : Plan) (S : State A) (o : ℕ) → HoldsIn plan S → HoldsIn plan (ask_objects S o)
+deleted {A} plan S o h = subst (λ (T : State A). HoldsIn plan T) (sym (asking_deletes S o).rest) h
+
+sends_it : {A : Type 0} (plan : Plan) (S : State A) (r t : ℕ) (forget : Bool) → Placed S → HoldsIn plan S → is_owned (place_of S.requests r) ≡ true → HoldsIn plan (do_deed plan (Send_request r t forget) S)
+sends_it plan S r t true k h owned = sent_for_good S (give_up S r) r t k h (gives_up plan S r h) owned
+sends_it plan S r t false k h owned = sent_to_return S r t k h owned
+
+pub deed_holds : {A : Type 0} (plan : Plan) (d : Deed) (S : State A) → fits plan d S ≡ true → Placed S → HoldsIn plan S → HoldsIn plan (do_deed plan d S)
+deed_holds plan (Make_request class parent) S f k h = entered_unheld S place.Owned (made_info (nearest_device S.tree parent)) k h (λ forgotten. refl) (λ p. refl)
+deed_holds plan (Arrive device info p) S f k h = arrives_there plan S device info p k h (both_right _ (is_arrival_place p) f)
+deed_holds plan (Ask_deletion o) S f k h = deleted plan S o h
+deed_holds plan (Present q r) S f k h = presented S q r k h f
+deed_holds plan (Receive q r) S f k h = received S q r h f
+deed_holds plan (Requeue r q) S f k h =
+    gone_by S (give_up S r) r (queued q) h (gives_up plan S r h) (λ forgotten. refl) (λ p. line_counts (give_up S r).queues q p (λ l. record l { waiting = r ∷ l.waiting }) (λ l. refl))
+deed_holds plan (Forward r q) S f k h =
+    gone_by S (give_up S r) r (queued q) h (gives_up plan S r h) (λ forgotten. refl) (λ p. line_counts (give_up S r).queues q p (λ l. record l { waiting = l.waiting ++ r ∷ [] }) (λ l. refl))
+deed_holds plan (Give_back r q) S f k h = gone_cancelled S (give_up S r) r (withdrawn_place plan (give_up S r) q r) h (gives_up plan S r h) (λ forgotten. withdrawn_unheld _ forgotten q)
+deed_holds plan (Withdraw q r) S f k h = withdrawn plan q S r h (queued_unheld (is_forgotten S.targets r) q (place_of S.requests r) f)
+deed_holds plan (Mark_request r) S f k h = marks_hold r marked h (λ forgotten q. marked_held forgotten q q.info.cancelled refl)
+deed_holds plan (Unmark_request r) S f k h = marks_hold r unmarked h (λ forgotten q. unmarked_held forgotten q (is_marked q.info.mark) refl)
+deed_holds plan (Cancel_request r) S f k h = marks_hold r cancelled h (λ forgotten q. refl)
+deed_holds plan (Take_cancel r) S f k h = marks_hold r (with_mark mark.Taken) h (λ forgotten q. refl)
+deed_holds plan (Send_request r t forget) S f k h = sends_it plan S r t forget k h (both_left (is_owned (place_of S.requests r)) (may_send S r t) (both_left (is_owned (place_of S.requests r) && may_send S r t) _ f))
+deed_holds plan (Finish_sending r s) S f k h = finished S r s h (both_left (is_sent (place_of S.requests r)) (is_undone S.targets r) f)
+deed_holds plan (Come_back r) S f k h = came_back S r h (both_left (is_sent (place_of S.requests r)) (is_some (routine_due S.targets r)) f) (both_right (is_sent (place_of S.requests r)) (is_some (routine_due S.targets r)) f)
+deed_holds plan (Complete_request r) S f k h = deleted plan (record (give_up S r) { requests = requests.complete S.requests r }) r (completed S (give_up S r) r h (gives_up plan S r h))
+deed_holds plan (Purge_queue q) S f k h = all_withdrawn plan q (waiting_in S.queues q) (record S { control = control.set_mode S.control q mode.Purged }) h (λ x more. waiting_unheld S q x k more)
+deed_holds plan (Close_returning q) S f k h = all_closed plan q (ids_of S.requests.all) S h
+deed_holds plan (Advance_power d s) S f k h = holds_alike h (λ x. refl) (omega arith) (λ q. refl) (λ x. step_queue S.power d s x)
+deed_holds plan (Acknowledge r) S f k h = holds_alike h (λ x. refl) (omega arith) (λ q. refl) (λ x. same_holding S.power r x (λ y. record y { acknowledged = true }) (λ y. refl))
+deed_holds plan (Ask_stop r) S f k h = holds_alike h (λ x. refl) (omega arith) (λ q. refl) (λ x. same_holding S.power r x (λ y. record y { stop_asked = true }) (λ y. refl))
+deed_holds plan (Resume r) S f k h = holds_alike h (λ x. refl) (omega arith) (λ q. refl) (λ x. same_holding S.power r x (λ y. record y { resume_due = false }) (λ y. refl))
+deed_holds plan (Stop_target t) S f k h = holds_alike h (λ x. ap (λ b. held_by b (request_of S.requests x)) (stops_other S.targets t x true)) (omega arith) (λ q. refl) (λ x. refl)
+deed_holds plan (Start_target t) S f k h = holds_alike h (λ x. ap (λ b. held_by b (request_of S.requests x)) (stops_other S.targets t x false)) (omega arith) (λ q. refl) (λ x. refl)
+deed_holds plan _ S f k h = h
+
+-- ---- deeds one after another
+
+pub deeds_hold : {A : Type 0} (plan : Plan) (ds : List Deed) (S : State A) → all_fit plan ds S ≡ true → Placed S → HoldsIn plan S → HoldsIn plan (do_deeds plan ds S)
+deeds_hold plan [] S f k h = h
+deeds_hold plan (d ∷ ds) S f k h =
+    let now : fits plan d S ≡ true = both_left (fits plan d S) (all_fit plan ds (do_deed plan d S)) f in
+    deeds_hold plan ds (do_deed plan d S) (both_right (fits plan d S) (all_fit plan ds (do_deed plan d S)) f) (deed_keeps plan d S now (λ _. refl) k) (deed_holds plan d S now k h)

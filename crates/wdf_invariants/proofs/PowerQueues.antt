@@ -1,0 +1,110 @@
+-- What power knows of the queues never changes.
+use Rattle.std.proofs.Common.{if◌then◌else◌, ◌≡◌, ℕ, Bool, true, false, List, [], ◌∷◌, fold, take, refl, ap, ◌∙◌}
+use Rattle.wdf_base.specs.Meaning.{Meaning}
+use Rattle.wdf_base.specs.declared.plan.Plan.{Plan}
+use Rattle.wdf_base.specs.declared.event.Event.{Event}
+use Rattle.wdf_base.specs.declared.event.Stage.{Stage}
+use Rattle.wdf_base.specs.declared.event.Stage.TheVariants as stage
+use Rattle.wdf_base.specs.declared.event.Step.{Step}
+use Rattle.wdf_base.specs.declared.event.Step.TheVariants as step
+use Rattle.wdf_base.specs.declared.object.Place.TheVariants as place
+use Rattle.wdf_base.specs.declared.value.Status.TheVariants as status
+use Rattle.wdf_model.specs.declared.enums.Mode.TheVariants as mode
+use Rattle.wdf_model.specs.Tables.{ids_of}
+use Rattle.wdf_model.specs.Plans.{is_managed}
+use Rattle.wdf_model.specs.parts.Requests as requests
+use Rattle.wdf_model.specs.parts.Requests.{is_returning_to, place_of}
+use Rattle.wdf_model.specs.parts.Queues.{Queues, waiting_in}
+use Rattle.wdf_model.specs.parts.Control as control
+use Rattle.wdf_model.specs.parts.Power.{Power, advance_stage, holding_of, is_held, opening_power}
+use Rattle.wdf_model.specs.parts.Power as power
+use Rattle.wdf_model.specs.State.{State, is_with_driver}
+use Rattle.wdf_model.specs.rules.Deeds.{Deed, Arrive, Ask_deletion, Present, Receive, Requeue, Forward, Give_back, Send_request, Complete_request, Purge_queue, Close_returning, Advance_power, arrive_at, ask_objects, close_one, do_deed, do_deeds, give_up, give_up_if, release_power, withdraw}
+use Rattle.wdf_base.specs.declared.object.Place.{Place}
+use Rattle.wdf_base.specs.declared.object.RequestInfo.{RequestInfo}
+use Rattle.wdf_model.specs.rules.Steps.{deeds}
+use Rattle.wdf_model.specs.rules.Ready.{IsRunOf, ready, state_after}
+use Rattle.wdf_model.proofs.Runs.{along_run}
+use Rattle.wdf_model.proofs.Follows.{state_goes_on}
+use Rattle.wdf_model.proofs.Deletion.{asking_deletes}
+
+-- ---- parts of deeds
+
+held_queues : (P : Power) (r q : ℕ) (b : Bool) → (if b then power.held_more P r q else P).queues ≡ P.queues
+held_queues P r q true = refl
+held_queues P r q false = refl
+
+released_queues : (P : Power) (r : ℕ) (b : Bool) → (if b then power.held_less P r else P).queues ≡ P.queues
+released_queues P r true = refl
+released_queues P r false = refl
+
+given_up_queues : {A : Type 0} (S : State A) (r : ℕ) (b : Bool) (Q : Queues) → (if b then record S { queues = Q; power = release_power S.power r } else S).power.queues ≡ S.power.queues
+given_up_queues S r true Q = released_queues S.power r (is_held (holding_of S.power r))
+given_up_queues S r false Q = refl
+
+gives_up_queues : {A : Type 0} (S : State A) (r : ℕ) → (give_up S r).power.queues ≡ S.power.queues
+gives_up_queues S r = given_up_queues S r (is_with_driver S r) _
+
+sent_queues : {A : Type 0} (S : State A) (r : ℕ) (forget : Bool) → (give_up_if forget S r).power.queues ≡ S.power.queues
+sent_queues S r true = gives_up_queues S r
+sent_queues S r false = refl
+
+deleted_queues : {A : Type 0} (S : State A) (o : ℕ) → (ask_objects S o).power.queues ≡ S.power.queues
+deleted_queues {A} S o = ap (λ (T : State A). T.power.queues) (asking_deletes S o).rest
+
+withdrawn_queues : {A : Type 0} (plan : Plan) (q : ℕ) (rs : List ℕ) (S : State A) → (fold (withdraw plan q) S rs).power.queues ≡ S.power.queues
+withdrawn_queues plan q [] S = refl
+withdrawn_queues plan q (r ∷ rs) S = withdrawn_queues plan q rs (withdraw plan q S r)
+
+closed_queues : {A : Type 0} (S : State A) (r : ℕ) (b : Bool) → (if b then record S { requests = requests.move_to S.requests r (place.Closing status.Cancelled) } else S).power.queues ≡ S.power.queues
+closed_queues S r true = refl
+closed_queues S r false = refl
+
+all_closed_queues : {A : Type 0} (q : ℕ) (rs : List ℕ) (S : State A) → (fold (close_one q) S rs).power.queues ≡ S.power.queues
+all_closed_queues q [] S = refl
+all_closed_queues q (r ∷ rs) S = all_closed_queues q rs (close_one q S r) ∙ closed_queues S r (is_returning_to q (place_of S.requests r))
+
+stage_queues : (P : Power) (d : ℕ) (s : Stage) → (advance_stage P d s).queues ≡ P.queues
+stage_queues P d stage.Hardware = refl
+stage_queues P d stage.NoHardware = refl
+stage_queues P d stage.QueuesUp = refl
+stage_queues P d stage.QueuesDown = refl
+stage_queues P d _ = refl
+
+step_queues : (P : Power) (d : ℕ) (s : Step) → (power.advance P d s).queues ≡ P.queues
+step_queues P d (step.Run c i) = refl
+step_queues P d (step.Pass s i) = stage_queues P d s
+
+arrived_queues : {A : Type 0} (S : State A) (device : ℕ) (info : RequestInfo) (p : Place) → (arrive_at S device info p).power.queues ≡ S.power.queues
+arrived_queues S device info (place.Queued q) = refl
+arrived_queues S device info _ = refl
+
+-- ---- deeds, events and runs
+
+deed_queues : {A : Type 0} (plan : Plan) (d : Deed) (S : State A) → (do_deed plan d S).power.queues ≡ S.power.queues
+deed_queues plan (Arrive device info p) S = arrived_queues S device info p
+deed_queues plan (Ask_deletion o) S = deleted_queues S o
+deed_queues plan (Present q r) S = held_queues S.power r q (is_managed plan q)
+deed_queues plan (Receive q r) S = held_queues S.power r q (is_managed plan q)
+deed_queues plan (Requeue r q) S = gives_up_queues S r
+deed_queues plan (Forward r q) S = gives_up_queues S r
+deed_queues plan (Give_back r q) S = gives_up_queues S r
+deed_queues plan (Send_request r t forget) S = sent_queues S r forget
+deed_queues plan (Complete_request r) S = deleted_queues (record (give_up S r) { requests = requests.complete S.requests r }) r ∙ gives_up_queues S r
+deed_queues plan (Purge_queue q) S = withdrawn_queues plan q (waiting_in S.queues q) (record S { control = control.set_mode S.control q mode.Purged })
+deed_queues plan (Close_returning q) S = all_closed_queues q (ids_of S.requests.all) S
+deed_queues plan (Advance_power d s) S = step_queues S.power d s
+deed_queues plan _ S = refl
+
+deeds_queues : {A : Type 0} (plan : Plan) (ds : List Deed) (S : State A) → (do_deeds plan ds S).power.queues ≡ S.power.queues
+deeds_queues plan [] S = refl
+deeds_queues plan (d ∷ ds) S = deeds_queues plan ds (do_deed plan d S) ∙ deed_queues plan d S
+
+first_queues : {A : Type 0} (m : Meaning A) (plan : Plan) → (state_after m plan []).power.queues ≡ (opening_power plan).queues
+unfolding state_after
+first_queues m plan = refl
+
+pub queues_at_each : {A : Type 0} (m : Meaning A) (plan : Plan) (run : List Event) → IsRunOf m plan run → (n : ℕ) → (state_after m plan (take n run)).power.queues ≡ (opening_power plan).queues
+queues_at_each {A} m plan run is_run n = along_run (λ es. (state_after m plan es).power.queues ≡ (opening_power plan).queues) (ready m plan) run (first_queues m plan)
+    (λ before e place so_far held at. ap (λ (T : State A). T.power.queues) (state_goes_on m plan before e) ∙ deeds_queues plan (deeds plan (state_after m plan before) e) (state_after m plan before) ∙ held)
+    is_run n

@@ -1,0 +1,28 @@
+//! More laws over all runs of the machine: what its parts keep of one another.
+#![tactic(auto)]
+
+ghost use Rattle.wdf_model.specs.laws.Agreement.{held_agrees, holdings_agree, steps_agree, unsettled_agrees};
+ghost use Rattle.wdf_invariants.specs.AtPlaces.{AtEachPlace};
+
+/// At each place of every run, each queue's count of held requests is the number of those that are held from it.
+pub fn held_agrees<A>()
+    ensures { AtEachPlace {A = A} held_agrees }
+{}
+
+/// At each place of every run, each request's holding names the power-managed queue from which the driver holds
+/// it, and 0 where there is none.
+pub fn holdings_agree<A>()
+    ensures { AtEachPlace {A = A} holdings_agree }
+{}
+
+/// At each place of every run, the requests that are held from a device's power-managed queues and aren't acknowledged
+/// are among those that power takes for unsettled there, and as many.
+pub fn unsettled_agrees<A>()
+    ensures { AtEachPlace {A = A} unsettled_agrees }
+{}
+
+/// At each place of every run, a device's step is noted as running exactly where the frame of a step's callback of that
+/// device is there, and there is at most one.
+pub fn steps_agree<A>()
+    ensures { AtEachPlace {A = A} steps_agree }
+{}

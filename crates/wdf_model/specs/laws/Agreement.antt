@@ -1,0 +1,112 @@
+-- What the parts of a state keep of one another, as tests. A part counts or notes what others tell in
+-- full: how many requests are held from a queue, the levels of a frame's locks, which step's callback
+-- runs. Each test says that it agrees with what it stands for; every state of a run passes them.
+use Rattle.std.specs.Prelude.{if◌then◌else◌, ℕ, max, Bool, true, false, ◌==◌, not, ◌&&◌, List, [], ◌∷◌, ◌++◌, length, map, filter, fold, count_by, Option, Some, None}
+use Rattle.std.specs.Bool.{beq}
+use Rattle.std.specs.List.{flat_map, list_all, list_any, range_with_len}
+use Rattle.wdf_base.specs.declared.plan.Plan.{Plan}
+use Rattle.wdf_base.specs.declared.object.Kind.{Kind}
+use Rattle.wdf_base.specs.declared.object.Kind.TheVariants as kind
+use Rattle.wdf_base.specs.declared.object.LockRef.{LockRef}
+use Rattle.wdf_base.specs.declared.object.LockRef.TheVariants as lock
+use Rattle.wdf_base.specs.declared.rank.Rank.{Rank}
+use Rattle.wdf_base.specs.declared.rank.Rank.TheVariants as rank
+use Rattle.wdf_base.specs.declared.frame.Frame.{Frame}
+use Rattle.wdf_base.specs.declared.frame.Pending.{Pending}
+use Rattle.wdf_base.specs.Callbacks.{row_of}
+use Rattle.wdf_model.specs.Tables.{contains, ids_of}
+use Rattle.wdf_model.specs.Plans.{declared_ids, devices_of, interrupt_level, is_managed, managed_queues}
+use Rattle.wdf_model.specs.parts.Tree.{Tree, kind_of}
+use Rattle.wdf_model.specs.parts.Cpus.{all_frames, frame_of, irql, running, top}
+use Rattle.wdf_model.specs.parts.Locks.{Held}
+use Rattle.wdf_model.specs.parts.Requests.{is_queued_in, is_sent_to, origin_of, place_of}
+use Rattle.wdf_model.specs.parts.Queues.{held_count, waiting_in}
+use Rattle.wdf_model.specs.parts.Power.{acknowledged, holding_of, unsettled}
+use Rattle.wdf_model.specs.parts.Pnp.{is_running_step}
+use Rattle.wdf_model.specs.parts.Targets.{the_target}
+use Rattle.wdf_model.specs.State.{State, held_from, is_with_driver, object_in}
+use Rattle.wdf_model.specs.rules.Calls.{lock_level}
+use Rattle.wdf_model.specs.rules.Faults.{is_acquire}
+
+-- ---- the level of a processor, by the locks that its top frame holds or spins for (KMDF)
+
+abbrev pub level_of_kind : Plan → ℕ → Kind → ℕ
+level_of_kind plan o kind.SpinLock = 2
+level_of_kind plan o kind.Interrupt = interrupt_level plan o
+level_of_kind plan o _ = 0
+
+abbrev pub level_of_lock : Plan → Tree → LockRef → ℕ
+level_of_lock plan T (lock.Object o) = level_of_kind plan o.0 (kind_of T o.0)
+level_of_lock plan T _ = 0
+
+abbrev pub levels_held : {A : Type 0} → Plan → State A → ℕ → List ℕ
+levels_held plan S f = map (λ (h : Held). level_of_lock plan S.tree h.lock) (filter (λ h. h.frame == f) S.locks.held)
+
+-- the lock that a pending call asks for
+abbrev pub level_awaited : Plan → Option Pending → List ℕ
+level_awaited plan None = []
+level_awaited plan (Some p) = if is_acquire p.call.kind then lock_level plan p.call.kind (object_in p.call.a) ∷ [] else []
+
+abbrev pub level_by_locks : {A : Type 0} → Plan → State A → Option ℕ → ℕ
+level_by_locks plan S None = 0
+level_by_locks plan S (Some f) =
+    fold max (running S.cpus f).level (levels_held plan S f ++ level_awaited plan (frame_of S.cpus f).pending)
+
+abbrev pub levels_agree : {A : Type 0} → Plan → State A → Bool
+levels_agree plan S =
+    list_all (λ cpu. irql S.cpus cpu == level_by_locks plan S (top S.cpus cpu)) (range_with_len 0 plan.cpus)
+
+-- ---- what is held from the queues, by the requests (KMDF)
+
+abbrev pub held_agrees : {A : Type 0} → Plan → State A → Bool
+held_agrees plan S = list_all (λ q. held_count S.queues q == length (held_from S q)) (declared_ids plan)
+
+-- the power-managed queue from which the driver holds a request, 0 for none
+abbrev pub managed_origin : Plan → Option ℕ → ℕ
+managed_origin plan None = 0
+managed_origin plan (Some q) = if is_managed plan q then q else 0
+
+abbrev pub holding_queue : {A : Type 0} → Plan → State A → ℕ → ℕ
+holding_queue plan S r = if is_with_driver S r then managed_origin plan (origin_of S.requests r) else 0
+
+abbrev pub holdings_agree : {A : Type 0} → Plan → State A → Bool
+holdings_agree plan S = list_all (λ r. (holding_of S.power r).queue == holding_queue plan S r) (ids_of S.tree.nodes)
+
+-- the requests that are held from a device's power-managed queues and aren't acknowledged (own, after KMDF)
+abbrev pub unsettled_of : {A : Type 0} → Plan → State A → ℕ → List ℕ
+unsettled_of plan S d = filter (λ r. not (acknowledged S.power r)) (flat_map (held_from S) (managed_queues plan d))
+
+abbrev pub unsettled_agrees : {A : Type 0} → Plan → State A → Bool
+unsettled_agrees plan S =
+    list_all (λ d. length (unsettled S.power d) == length (unsettled_of plan S d) && list_all (λ r. contains r (unsettled S.power d)) (unsettled_of plan S d)) (devices_of plan)
+
+-- ---- lines, targets and steps
+
+-- a request is Queued exactly where it stands in the queue's line, once
+abbrev pub lines_agree : {A : Type 0} → Plan → State A → Bool
+lines_agree plan S =
+    list_all (λ q. list_all (λ r. count_by (λ x. x == r) (waiting_in S.queues q) == (if is_queued_in q (place_of S.requests r) then 1 else 0)) (ids_of S.tree.nodes)) (declared_ids plan)
+
+-- a request is Sent exactly where its target has it
+abbrev pub targets_agree : {A : Type 0} → Plan → State A → Bool
+targets_agree plan S =
+    list_all (λ t. list_all (λ r. beq (list_any (λ s. s.request == r) (the_target S.targets t).sent) (is_sent_to t (place_of S.requests r))) (ids_of S.tree.nodes)) (declared_ids plan)
+
+abbrev pub is_sequence : Rank → Bool
+is_sequence rank.Sequence = true
+is_sequence _ = false
+
+-- a device callback of a device, or a callback of its interrupts that is a step
+abbrev pub is_step_frame : ℕ → Frame → Bool
+is_step_frame d frame = is_sequence (row_of frame.callback).rank && frame.device.id.0 == d
+
+-- a step's callback is noted exactly where its frame is there, and there is at most one
+abbrev pub steps_agree : {A : Type 0} → Plan → State A → Bool
+steps_agree plan S =
+    list_all (λ d. count_by (λ f. is_step_frame d (frame_of S.cpus f)) (all_frames S.cpus) == (if is_running_step S.pnp d then 1 else 0)) (devices_of plan)
+
+-- all of them
+abbrev pub agrees : {A : Type 0} → Plan → State A → Bool
+agrees plan S =
+    levels_agree plan S && held_agrees plan S && holdings_agree plan S && unsettled_agrees plan S && lines_agree plan S && targets_agree plan S
+    && steps_agree plan S

@@ -1,0 +1,86 @@
+-- What holds where a deed is done: for each deed the test that stands before it in every run, whatever
+-- the agents are. The laws over all runs rest on these alone.
+use Rattle.std.specs.Prelude.{ℕ, Bool, true, false, nat_lt, not, ◌&&◌, ◌||◌, List, [], ◌∷◌, is_some}
+use Rattle.wdf_base.specs.declared.plan.Plan.{Plan}
+use Rattle.wdf_base.specs.declared.object.Kind.TheVariants as kind
+use Rattle.wdf_base.specs.declared.object.Place.{Place}
+use Rattle.wdf_base.specs.declared.object.Place.TheVariants as place
+use Rattle.wdf_base.specs.Same.{same_kind}
+use Rattle.wdf_model.specs.parts.Tree.{is_full, is_live, kind_of, life_of, references_of, started}
+use Rattle.wdf_model.specs.parts.Locks.{is_free_lock}
+use Rattle.wdf_model.specs.parts.Requests.{is_closing, is_due, is_owned, is_queued_in, is_returning_to, is_sent, mark_of, place_of}
+use Rattle.wdf_model.specs.parts.Queues.{front}
+use Rattle.wdf_model.specs.parts.Control.{accepts}
+use Rattle.wdf_model.specs.parts.Power.{acknowledged, resume_due, stop_was_asked}
+use Rattle.wdf_model.specs.parts.Pnp.{busy, is_running_step, next_step}
+use Rattle.wdf_model.specs.parts.Targets.{is_undone, routine_due}
+use Rattle.wdf_model.specs.State.{State, is_with_driver, same_id}
+use Rattle.wdf_model.specs.rules.Deeds.{Deed, do_deed, Create, Make_request, Arrive, Unrefer, Note, Clean_up, End_life, Take_lock, Present, Receive, Requeue, Forward, Give_back, Withdraw, Mark_request, Unmark_request, Cancel_request, Take_cancel, Send_request, Finish_sending, Come_back, Complete_request, Acknowledge, Ask_stop, Resume, Ask_device, Take_step}
+use Rattle.wdf_model.specs.rules.Faults.{is_request_kind}
+use Rattle.wdf_model.specs.rules.Calls.{may_send}
+use Rattle.wdf_model.specs.rules.Starts.{clean_ready, destroy_ready}
+
+-- where a request may be that arrives
+abbrev pub is_arrival_place : Place → Bool
+is_arrival_place (place.Queued q) = true
+is_arrival_place (place.Closing s) = true
+is_arrival_place _ = false
+
+-- an arrived request, in the driver's hands
+abbrev pub is_given : {A : Type 0} → State A → ℕ → Bool
+is_given S r = is_owned (place_of S.requests r) && same_kind (kind_of S.tree r) kind.Request
+
+-- a request that isn't in a line, and isn't completed or about to be
+abbrev pub is_reached : Place → Bool
+is_reached (place.Returning q) = true
+is_reached place.Owned = true
+is_reached (place.Sent t) = true
+is_reached _ = false
+
+abbrev pub fits : {A : Type 0} → Plan → Deed → State A → Bool
+-- an object is made under a live parent while there is room, and is no request
+fits plan (Create k class parent) S = is_live (life_of S.tree parent) && not (is_full S.tree) && not (is_request_kind k)
+fits plan (Make_request class parent) S = is_live (life_of S.tree parent) && not (is_full S.tree)
+-- a request arrives at a live device, with a number of its own, and waits or is closing
+fits plan (Arrive device info p) S = is_live (life_of S.tree device) && nat_lt 0 info.arrival && is_arrival_place p
+-- a reference is held
+fits plan (Unrefer o) S = nat_lt 0 (references_of S.tree o)
+-- a callback of an object's end comes once; a cleanup and an end come when they may
+fits plan (Note o c) S = not (started S.tree o c)
+fits plan (Clean_up o) S = clean_ready S o
+fits plan (End_life o) S = destroy_ready S o
+-- a lock is free where it is taken
+fits plan (Take_lock l f by_call) S = is_free_lock S.locks l
+-- what is presented is the front; what returns is received from its queue
+fits plan (Present q r) S = same_id (front S.queues q) r
+fits plan (Receive q r) S = is_returning_to q (place_of S.requests r)
+-- the driver gives back what it owns, and forwards to a queue that accepts
+fits plan (Requeue r q) S = is_given S r
+fits plan (Forward r q) S = is_given S r && accepts S.control q
+fits plan (Give_back r q) S = is_given S r
+-- a cancel takes a waiting request out of its queue, and reaches the others
+fits plan (Withdraw q r) S = is_queued_in q (place_of S.requests r)
+fits plan (Cancel_request r) S = is_reached (place_of S.requests r)
+-- a request is marked while it is owned; only an arrived one is unmarked; its cancel is due before it is taken
+fits plan (Mark_request r) S = is_given S r
+fits plan (Unmark_request r) S = same_kind (kind_of S.tree r) kind.Request
+fits plan (Take_cancel r) S = is_due (mark_of S.requests r) && is_with_driver S r
+-- a request is sent while it is owned; only an arrived one is forgotten
+fits plan (Send_request r t forget) S = is_owned (place_of S.requests r) && may_send S r t && (not forget || same_kind (kind_of S.tree r) kind.Request)
+fits plan (Finish_sending r s) S = is_sent (place_of S.requests r) && is_undone S.targets r
+fits plan (Come_back r) S = is_sent (place_of S.requests r) && is_some (routine_due S.targets r)
+-- what is completed is closing, or owned and arrived
+fits plan (Complete_request r) S = is_closing (place_of S.requests r) || is_given S r
+-- what is acknowledged, asked to stop or resumed is held
+fits plan (Acknowledge r) S = is_with_driver S r && not (acknowledged S.power r)
+fits plan (Ask_stop r) S = is_with_driver S r && not (stop_was_asked S.power r)
+fits plan (Resume r) S = is_with_driver S r && resume_due S.power r
+-- a sequence begins where none is under way; a step is left, and no callback of one runs
+fits plan (Ask_device d a) S = not (busy S.pnp d)
+fits plan (Take_step d) S = is_some (next_step S.pnp d) && not (is_running_step S.pnp d)
+fits plan _ S = true
+
+-- each of some deeds fits where it is done
+abbrev pub all_fit : {A : Type 0} → Plan → List Deed → State A → Bool
+all_fit plan [] S = true
+all_fit plan (d ∷ ds) S = fits plan d S && all_fit plan ds (do_deed plan d S)

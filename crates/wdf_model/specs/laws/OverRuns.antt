@@ -1,0 +1,46 @@
+-- What is so at each place of every run, whatever the plan and the agents are.
+use Rattle.std.specs.Prelude.{ℕ, ◌≡◌, ◌≤◌, ◌==◌, Bool, true, false, ◌&&◌, List, count_by, take, Option, Some, None, slice_get}
+use Rattle.std.specs.List.{list_any}
+use Rattle.wdf_base.specs.declared.ids.Handle.{Handle}
+use Rattle.wdf_base.specs.declared.call.CallKind.TheVariants as call
+use Rattle.wdf_base.specs.declared.event.Event.{Event}
+use Rattle.wdf_base.specs.declared.event.Event.TheVariants as event
+use Rattle.wdf_base.specs.declared.event.Post.{Post}
+use Rattle.wdf_base.specs.declared.event.Post.TheVariants as post
+use Rattle.wdf_base.specs.Same.{same_call_kind}
+use Rattle.wdf_model.specs.parts.Requests.{is_queued_in, is_sent_to, place_of}
+use Rattle.wdf_model.specs.parts.Queues.{waiting_in}
+use Rattle.wdf_model.specs.parts.Targets.{the_target}
+use Rattle.wdf_model.specs.rules.Script.{flag}
+use Rattle.wdf_model.specs.State.{State, object_in}
+
+-- A request is Queued exactly where it stands in that queue's line, once, and Sent exactly where that target has it, once.
+pub record PlacesAgree {A : Type 0} (S : State A) : Type 0 where
+  pub queued : (q r : ℕ) → count_by (λ x. x == r) (waiting_in S.queues q) ≡ flag (is_queued_in q (place_of S.requests r))
+  pub sent : (t r : ℕ) → count_by (λ s. s.request == r) (the_target S.targets t).sent ≡ flag (is_sent_to t (place_of S.requests r))
+
+-- an event completes a request: the driver's call, or the framework
+abbrev pub completes : ℕ → Event → Bool
+completes r (event.Did cpu c answer) = same_call_kind c.kind call.WdfRequestComplete && object_in c.a == r
+completes r (event.Complete request s) = request.id.0 == r
+completes r _ = false
+
+abbrev pub is_arrival_post : Post → Bool
+is_arrival_post (post.Read device length) = true
+is_arrival_post (post.Write device length) = true
+is_arrival_post (post.Control device code length) = true
+is_arrival_post _ = false
+
+abbrev pub is_answer : ℕ → Option Handle → Bool
+is_answer r None = false
+is_answer r (Some h) = h.id.0 == r
+
+-- an event is the arrival of a request
+abbrev pub arrives : ℕ → Event → Bool
+arrives r (event.Posted agent p answer) = is_arrival_post p && is_answer r answer
+arrives r _ = false
+
+-- No request is completed twice, and none before it arrives.
+pub record CompletedOnce (run : List Event) : Type 0 where
+  pub once : (r : ℕ) → count_by (completes r) run ≤ 1
+  pub after : (k r : ℕ) (e : Event) → slice_get run k ≡ Some e → completes r e ≡ true → list_any (arrives r) (take k run) ≡ true

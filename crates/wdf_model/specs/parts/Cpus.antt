@@ -1,0 +1,168 @@
+-- The processors: their frames, the levels that the frames hold, and the frames that are parked.
+use Rattle.std.specs.Prelude.{if◌then◌else◌, ℕ, max, Bool, ◌==◌, ◌&&◌, List, [], ◌∷◌, ◌++◌, length, filter, drop, replicate, fold, Option, Some, None}
+use Rattle.std.specs.List.{list_any, flat_map}
+use Rattle.wdf_base.specs.declared.plan.Plan.{Plan}
+use Rattle.wdf_base.specs.declared.ids.Handle.{Handle}
+use Rattle.wdf_base.specs.declared.frame.Frame.{Frame}
+use Rattle.wdf_base.specs.declared.value.Status.TheVariants as status
+use Rattle.wdf_base.specs.declared.value.Value.TheVariants.{Num}
+use Rattle.wdf_base.specs.declared.call.Callback.{Callback}
+use Rattle.wdf_base.specs.declared.call.Callback.TheVariants as callback
+use Rattle.wdf_base.specs.Same.{same_callback}
+use Rattle.wdf_model.specs.Tables.{entry, put, change_at, without, in_order, first_of_list}
+
+-- one running or waiting callback
+pub record Running : Type 0 where
+  pub frame : Frame
+  -- the level of the callback
+  pub level : ℕ
+  -- the levels of the locks that it acquired by calls or spins for
+  pub levels : List ℕ
+
+pub record Cpus : Type 0 where
+  -- the frames by number: the number of the event that started the frame
+  pub frames : List Running
+  -- for each processor the numbers of its frames, the top first
+  pub stacks : List (List ℕ)
+  -- the numbers of the frames that left their processor, rising
+  pub parked : List ℕ
+
+abbrev pub no_handle : Handle
+no_handle = record { id = record { 0 = 0 }; name = 0 }
+
+-- the frame that stands where none is
+abbrev pub blank_frame : Frame
+blank_frame = record {
+  callback = callback.EvtDestroyCallback;
+  object = no_handle;
+  device = no_handle;
+  request = None;
+  length = 0;
+  code = 0;
+  status = status.Success;
+  script = 0;
+  at = 0;
+  variables = replicate 16 (Num 0);
+  counters = replicate 16 0;
+  until = 0;
+  pending = None;
+}
+
+abbrev pub no_frame : Running
+no_frame = record { frame = blank_frame; level = 0; levels = [] }
+
+-- ---- readers
+
+abbrev pub running : Cpus → ℕ → Running
+running C f = entry no_frame C.frames f
+
+abbrev pub frame_of : Cpus → ℕ → Frame
+frame_of C f = (running C f).frame
+
+abbrev pub stack_of : Cpus → ℕ → List ℕ
+stack_of C cpu = entry [] C.stacks cpu
+
+-- the top frame of a processor
+abbrev pub top : Cpus → ℕ → Option ℕ
+top C cpu = first_of_list (stack_of C cpu)
+
+abbrev pub is_empty_cpu : Cpus → ℕ → Bool
+is_empty_cpu C cpu = length (stack_of C cpu) == 0
+
+-- the level of a frame: the greatest of its callback's and of those that it holds
+abbrev pub frame_level : Running → ℕ
+frame_level r = fold max r.level r.levels
+
+abbrev pub level_of_top : Cpus → Option ℕ → ℕ
+level_of_top C None = 0
+level_of_top C (Some f) = frame_level (running C f)
+
+-- KMDF: the level of a processor, 0 where it is empty, else its top frame's
+abbrev pub irql : Cpus → ℕ → ℕ
+irql C cpu = level_of_top C (top C cpu)
+
+-- the numbers of all frames, running and parked
+abbrev pub all_frames : Cpus → List ℕ
+all_frames C = flat_map (λ fs. fs) C.stacks ++ C.parked
+
+abbrev pub is_on : Cpus → ℕ → ℕ → Bool
+is_on C o f = (frame_of C f).object.id.0 == o
+
+-- how many frames run on an object
+abbrev pub frames_on : Cpus → ℕ → ℕ
+frames_on C o = length (filter (is_on C o) (all_frames C))
+
+abbrev pub nobody_on : Cpus → ℕ → Bool
+nobody_on C o = frames_on C o == 0
+
+-- whether a frame of this callback on a device, or on what has it as nearest device, runs
+abbrev pub is_running : Cpus → Callback → ℕ → Bool
+is_running C c device =
+    list_any (λ f. same_callback (frame_of C f).callback c && (frame_of C f).device.id.0 == device) (all_frames C)
+
+-- ---- acts
+
+abbrev pub with_stack : Cpus → ℕ → List ℕ → Cpus
+with_stack C cpu fs = record C { stacks = put [] C.stacks cpu fs }
+
+-- a frame begins on a processor
+abbrev pub push : Cpus → ℕ → ℕ → Frame → ℕ → Cpus
+push C cpu f frame level = record {
+  frames = put no_frame C.frames f (record { frame = frame; level = level; levels = [] });
+  stacks = put [] C.stacks cpu (f ∷ stack_of C cpu);
+  parked = C.parked;
+}
+
+-- a frame goes on
+abbrev pub change : Cpus → ℕ → Frame → Cpus
+change C f frame = record C { frames = change_at no_frame C.frames f (λ r. record r { frame = frame }) }
+
+-- a frame holds a level more
+abbrev pub raise : Cpus → ℕ → ℕ → Cpus
+raise C f level = record C { frames = change_at no_frame C.frames f (λ r. record r { levels = level ∷ r.levels }) }
+
+-- a list with one of these numbers taken away
+abbrev pub less_one : ℕ → List ℕ → List ℕ
+less_one n [] = []
+less_one n (x ∷ xs) = if x == n then xs else x ∷ less_one n xs
+
+-- a frame holds a level less
+abbrev pub lower : Cpus → ℕ → ℕ → Cpus
+lower C f level = record C { frames = change_at no_frame C.frames f (λ r. record r { levels = less_one level r.levels }) }
+
+abbrev pub without_frame : Cpus → Option ℕ → List Running
+without_frame C None = C.frames
+without_frame C (Some f) = put no_frame C.frames f no_frame
+
+-- the top frame of a processor ends
+abbrev pub pop : Cpus → ℕ → Cpus
+pop C cpu = record {
+  frames = without_frame C (top C cpu);
+  stacks = put [] C.stacks cpu (drop 1 (stack_of C cpu));
+  parked = C.parked;
+}
+
+abbrev pub parked_with : Cpus → Option ℕ → List ℕ
+parked_with C None = C.parked
+parked_with C (Some f) = in_order f C.parked
+
+-- own: a waiting frame at PASSIVE_LEVEL leaves its processor
+abbrev pub park : Cpus → ℕ → Cpus
+park C cpu = record {
+  frames = C.frames;
+  stacks = put [] C.stacks cpu (drop 1 (stack_of C cpu));
+  parked = parked_with C (top C cpu);
+}
+
+-- own: it goes on later on any empty one
+abbrev pub unpark : Cpus → ℕ → ℕ → Cpus
+unpark C cpu f = record {
+  frames = C.frames;
+  stacks = put [] C.stacks cpu (f ∷ stack_of C cpu);
+  parked = without f C.parked;
+}
+
+-- ---- the opening
+
+abbrev pub opening_cpus : Plan → Cpus
+opening_cpus plan = record { frames = []; stacks = replicate plan.cpus []; parked = [] }

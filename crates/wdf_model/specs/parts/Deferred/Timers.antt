@@ -1,0 +1,66 @@
+-- The queued timers. (KMDF)
+use Rattle.std.specs.Prelude.{if◌then◌else◌, ℕ, ◌+◌, min, Bool, false, ◌==◌, nat_le, nat_lt, not, List, [], ◌∷◌, map, filter, find, Option, Some, None, is_some}
+use Rattle.std.specs.List.{list_any}
+use Rattle.wdf_model.specs.Tables.{least}
+
+pub record Timed : Type 0 where
+  pub timer : ℕ
+  -- the tick at which it is due
+  pub tick : ℕ
+
+pub record Timers : Type 0 where
+  -- the queued timers, by rising id
+  pub queued : List Timed
+
+-- ---- readers
+
+-- own: the most ticks from a start to the due tick
+abbrev pub LONGEST : ℕ
+LONGEST = 1000000
+
+abbrev pub timed_of : Timers → ℕ → Option Timed
+timed_of T o = find (λ t. t.timer == o) T.queued
+
+abbrev pub is_timer_queued : Timers → ℕ → Bool
+is_timer_queued T o = is_some (timed_of T o)
+
+abbrev pub is_reached : ℕ → Option Timed → Bool
+is_reached now None = false
+is_reached now (Some t) = nat_le t.tick now
+
+-- the timer's tick is reached
+abbrev pub timer_due : Timers → ℕ → ℕ → Bool
+timer_due T o now = is_reached now (timed_of T o)
+
+-- the least tick at which a timer is due
+abbrev pub next_timer : Timers → Option ℕ
+next_timer T = least (map (λ t. t.tick) T.queued)
+
+-- a timer is queued for a later tick
+abbrev pub any_later_timer : Timers → ℕ → Bool
+any_later_timer T now = list_any (λ t. nat_lt now t.tick) T.queued
+
+abbrev pub without_timer : ℕ → List Timed → List Timed
+without_timer o ts = filter (λ t. not (t.timer == o)) ts
+
+abbrev pub timer_in_order : Timed → List Timed → List Timed
+timer_in_order t [] = t ∷ []
+timer_in_order t (x ∷ xs) = if nat_lt t.timer x.timer then t ∷ x ∷ xs else x ∷ timer_in_order t xs
+
+abbrev pub start : Timers → ℕ → ℕ → ℕ → Timers
+start T o now ticks = record { queued = timer_in_order (record { timer = o; tick = now + min ticks LONGEST }) (without_timer o T.queued) }
+
+abbrev pub stop : Timers → ℕ → Timers
+stop T o = record { queued = without_timer o T.queued }
+
+abbrev pub later_by : ℕ → ℕ → Timed → Timed
+later_by o period t = if t.timer == o then record t { tick = t.tick + period } else t
+
+-- a timer without a period leaves its queue; a periodic one's due tick grows by its period
+abbrev pub fired : Timers → ℕ → ℕ → Timers
+fired T o period = if period == 0 then stop T o else record { queued = map (later_by o period) T.queued }
+
+-- ---- the opening
+
+abbrev pub no_timers : Timers
+no_timers = record { queued = [] }

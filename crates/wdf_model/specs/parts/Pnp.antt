@@ -1,0 +1,273 @@
+-- Plug and Play and power sequences: the steps of each list, and what a device has left of them. The
+-- names of the callbacks are KMDF's; the order of the steps is own, chosen after it.
+use Rattle.std.specs.Prelude.{if◌then◌else◌, ℕ, Bool, true, false, ◌==◌, ◌||◌, not, List, [], ◌∷◌, ◌++◌, length, map, filter, drop, reverse, Option, Some, None, is_some}
+use Rattle.std.specs.List.{list_any, flat_map}
+use Rattle.wdf_base.specs.declared.plan.Plan.{Plan}
+use Rattle.wdf_base.specs.declared.ids.Handle.{Handle}
+use Rattle.wdf_base.specs.declared.value.Value.{Value}
+use Rattle.wdf_base.specs.declared.value.Value.TheVariants.{Stat}
+use Rattle.wdf_base.specs.declared.value.Status.TheVariants as status
+use Rattle.wdf_base.specs.declared.call.Callback.{Callback}
+use Rattle.wdf_base.specs.declared.call.Callback.TheVariants as callback
+use Rattle.wdf_base.specs.declared.event.Ask.{Ask}
+use Rattle.wdf_base.specs.declared.event.Ask.TheVariants as asks
+use Rattle.wdf_base.specs.declared.event.Stage.{Stage}
+use Rattle.wdf_base.specs.declared.event.Stage.TheVariants as stage
+use Rattle.wdf_base.specs.declared.event.Step.{Step}
+use Rattle.wdf_base.specs.declared.event.Step.TheVariants as step
+use Rattle.wdf_base.specs.declared.declared.DeviceInfo.{DeviceInfo}
+use Rattle.wdf_base.specs.declared.declared.InterruptInfo.{InterruptInfo}
+use Rattle.wdf_base.specs.Same.{same_callback, same_value}
+use Rattle.wdf_model.specs.declared.enums.Phase.{Phase}
+use Rattle.wdf_model.specs.declared.enums.Phase.TheVariants.{Off, Working, Sleeping, Removed}
+use Rattle.wdf_model.specs.Tables.{entry, change_at, first_of_list}
+use Rattle.wdf_model.specs.Plans.{device_of, interrupt_of, interrupts_of, declared_ids, declares}
+
+-- an interrupt, and which of its two callbacks are declared
+pub record InterruptSteps : Type 0 where
+  pub interrupt : Handle
+  pub enables : Bool
+  pub disables : Bool
+
+-- what a device's steps are made of
+pub record DeviceSteps : Type 0 where
+  -- the callbacks that it declares
+  pub callbacks : List Callback
+  -- its interrupts in order
+  pub interrupts : List InterruptSteps
+
+pub record Sequence : Type 0 where
+  pub steps : DeviceSteps
+  pub phase : Phase
+  -- whether it was ever Working
+  pub ever_working : Bool
+  -- the steps that are left
+  pub left : List Step
+  -- the step whose callback runs
+  pub running : Option Step
+
+pub record Pnp : Type 0 where
+  -- by the device's id
+  pub devices : List Sequence
+
+-- ---- the lists of steps; a callback that isn't declared isn't in them
+
+abbrev pub run : DeviceSteps → Callback → List Step
+run p c = if list_any (same_callback c) p.callbacks then step.Run c None ∷ [] else []
+
+abbrev pub pass : Stage → List Step
+pass s = step.Pass s None ∷ []
+
+abbrev pub run_if : Bool → Callback → Handle → List Step
+run_if true c i = step.Run c (Some i) ∷ []
+run_if false c i = []
+
+abbrev pub enable_steps : InterruptSteps → List Step
+enable_steps i = run_if i.enables callback.EvtInterruptEnable i.interrupt ++ step.Pass stage.Enabled (Some i.interrupt) ∷ []
+
+abbrev pub disable_steps : InterruptSteps → List Step
+disable_steps i = step.Pass stage.Disabled (Some i.interrupt) ∷ run_if i.disables callback.EvtInterruptDisable i.interrupt
+
+-- the first power-up of a device, or a later one
+abbrev pub self_managed_start : Bool → Callback
+self_managed_start false = callback.EvtDeviceSelfManagedIoInit
+self_managed_start true = callback.EvtDeviceSelfManagedIoRestart
+
+abbrev pub up_steps : DeviceSteps → Bool → List Step
+up_steps p ever =
+    run p callback.EvtDeviceD0Entry ++ flat_map enable_steps p.interrupts ++ run p callback.EvtDeviceD0EntryPostInterruptsEnabled
+    ++ pass stage.QueuesUp ++ run p (self_managed_start ever) ++ pass stage.Working
+
+abbrev pub quiet_steps : List InterruptSteps → List Step
+quiet_steps [] = []
+quiet_steps (i ∷ is) = pass stage.Quiet
+
+-- own: the interrupts in reverse order
+abbrev pub down_steps : DeviceSteps → List Step
+down_steps p =
+    run p callback.EvtDeviceSelfManagedIoSuspend ++ pass stage.QueuesDown ++ pass stage.Settled ++ run p callback.EvtDeviceD0ExitPreInterruptsDisabled
+    ++ flat_map disable_steps (reverse p.interrupts) ++ quiet_steps p.interrupts ++ run p callback.EvtDeviceD0Exit
+
+abbrev pub hard_steps : DeviceSteps → List Step
+hard_steps p = pass stage.Hardware ++ run p callback.EvtDevicePrepareHardware
+
+abbrev pub flush_steps : DeviceSteps → Bool → List Step
+flush_steps p false = []
+flush_steps p true = run p callback.EvtDeviceSelfManagedIoFlush ++ run p callback.EvtDeviceSelfManagedIoCleanup
+
+-- the end of a device, from where its hardware is given back
+abbrev pub end_steps : DeviceSteps → Bool → List Step
+end_steps p ever = pass stage.NoHardware ++ pass stage.Closed ++ flush_steps p ever ++ pass stage.Removed
+
+abbrev pub tail_steps : DeviceSteps → Bool → List Step
+tail_steps p ever = run p callback.EvtDeviceReleaseHardware ++ end_steps p ever
+
+-- what each post asks of a device in each phase; none where it changes nothing
+abbrev pub steps_off : DeviceSteps → Bool → Ask → List Step
+-- own: its hardware, and the first power-up
+steps_off p ever asks.Start = hard_steps p ++ up_steps p ever
+-- own: it ends without ever having worked
+steps_off p ever asks.Remove = pass stage.Closed ++ pass stage.Removed
+steps_off p ever asks.Surprise = pass stage.Closed ++ pass stage.Removed
+steps_off p ever _ = []
+
+abbrev pub steps_working : DeviceSteps → Bool → Ask → List Step
+-- own: power-down
+steps_working p ever asks.Sleep = down_steps p ++ pass stage.Sleeping
+-- own: the driver may refuse; else power-down, other hardware, power-up
+steps_working p ever asks.Rebalance =
+    run p callback.EvtDeviceQueryStop ++ down_steps p ++ run p callback.EvtDeviceReleaseHardware ++ pass stage.NoHardware
+    ++ hard_steps p ++ up_steps p ever
+-- own: the driver may refuse; else power-down and the end
+steps_working p ever asks.Remove = run p callback.EvtDeviceQueryRemove ++ down_steps p ++ tail_steps p ever
+-- own: the same, and the driver can't refuse
+steps_working p ever asks.Surprise = run p callback.EvtDeviceSurpriseRemoval ++ down_steps p ++ tail_steps p ever
+steps_working p ever _ = []
+
+-- own: a sleeping device is removed without being woken, and rebalance does nothing to it
+abbrev pub steps_sleeping : DeviceSteps → Bool → Ask → List Step
+-- own: power-up
+steps_sleeping p ever asks.Wake = up_steps p ever
+steps_sleeping p ever asks.Remove = run p callback.EvtDeviceQueryRemove ++ tail_steps p ever
+steps_sleeping p ever asks.Surprise = run p callback.EvtDeviceSurpriseRemoval ++ tail_steps p ever
+steps_sleeping p ever _ = []
+
+abbrev pub steps_for : DeviceSteps → Bool → Phase → Ask → List Step
+steps_for p ever Off a = steps_off p ever a
+steps_for p ever Working a = steps_working p ever a
+steps_for p ever Sleeping a = steps_sleeping p ever a
+steps_for p ever Removed a = []
+
+-- ---- readers
+
+abbrev pub no_sequence : Sequence
+no_sequence = record { steps = record { callbacks = []; interrupts = [] }; phase = Removed; ever_working = false; left = []; running = None }
+
+abbrev pub sequence_of : Pnp → ℕ → Sequence
+sequence_of Q d = entry no_sequence Q.devices d
+
+abbrev pub steps_left : Pnp → ℕ → List Step
+steps_left Q d = (sequence_of Q d).left
+
+abbrev pub next_step : Pnp → ℕ → Option Step
+next_step Q d = first_of_list (steps_left Q d)
+
+-- the step whose callback runs
+abbrev pub running_step : Pnp → ℕ → Option Step
+running_step Q d = (sequence_of Q d).running
+
+abbrev pub is_running_step : Pnp → ℕ → Bool
+is_running_step Q d = is_some (running_step Q d)
+
+-- a sequence is under way: a step is left, or its callback runs
+abbrev pub busy : Pnp → ℕ → Bool
+busy Q d = is_running_step Q d || not (length (steps_left Q d) == 0)
+
+-- `queues_up` is what stands before this step in the list Up
+abbrev pub follows_up : Sequence → Option Step → Bool
+follows_up q (Some (step.Run c i)) = same_callback c callback.EvtDeviceSelfManagedIoInit || same_callback c callback.EvtDeviceSelfManagedIoRestart
+follows_up q (Some (step.Pass stage.Working i)) = length (run q.steps (self_managed_start q.ever_working)) == 0
+follows_up q _ = false
+
+abbrev pub follows_queues_up : Pnp → ℕ → Bool
+follows_queues_up Q d = follows_up (sequence_of Q d) (next_step Q d)
+
+-- ---- acts
+
+abbrev pub with_sequence : Pnp → ℕ → (Sequence → Sequence) → Pnp
+with_sequence Q d f = record { devices = change_at no_sequence Q.devices d f }
+
+-- the Plug and Play manager asks something of a device
+abbrev pub ask : Pnp → ℕ → Ask → Pnp
+ask Q d a = with_sequence Q d (λ q. record q { left = steps_for q.steps q.ever_working q.phase a })
+
+-- what a stage does to the phase
+abbrev pub passed : Stage → Sequence → Sequence
+passed stage.Working q = record q { phase = Working; ever_working = true }
+passed stage.Sleeping q = record q { phase = Sleeping }
+passed stage.Removed q = record q { phase = Removed }
+passed _ q = q
+
+-- a step is taken: a callback runs, or a stage is passed
+abbrev pub with_step : Option Step → Sequence → Sequence
+with_step None q = q
+with_step (Some (step.Run c i)) q = record q { running = Some (step.Run c i) }
+with_step (Some (step.Pass s i)) q = passed s q
+
+abbrev pub taken_step : Sequence → Sequence
+taken_step q = with_step (first_of_list q.left) (record q { left = drop 1 q.left })
+
+abbrev pub taken : Pnp → ℕ → Pnp
+taken Q d = with_sequence Q d taken_step
+
+abbrev pub is_success : Value → Bool
+is_success v = same_value v (Stat status.Success)
+
+-- what is left after a callback that failed: a refused query empties the list; a failed start ends the device
+abbrev pub left_after_failure : Sequence → Callback → List Step
+-- own: a refused query leaves the device as it was
+left_after_failure q callback.EvtDeviceQueryStop = []
+left_after_failure q callback.EvtDeviceQueryRemove = []
+-- own: a device that can't prepare its hardware ends, and has none to release
+left_after_failure q callback.EvtDevicePrepareHardware = end_steps q.steps q.ever_working
+-- own: a device that can't power up ends
+left_after_failure q callback.EvtDeviceD0Entry = tail_steps q.steps q.ever_working
+left_after_failure q _ = q.left
+
+-- own: the results of other callbacks are ignored
+abbrev pub left_after : Sequence → Step → Value → List Step
+left_after q (step.Pass s i) result = q.left
+left_after q (step.Run c i) result = if is_success result then q.left else left_after_failure q c
+
+-- the callback of a step ends
+abbrev pub ended : Pnp → ℕ → Step → Value → Pnp
+ended Q d s result = with_sequence Q d (λ q. record q { left = left_after q s result; running = None })
+
+-- ---- the opening
+
+-- the callbacks that are steps of a device
+abbrev pub DEVICE_CALLBACKS : List Callback
+DEVICE_CALLBACKS =
+    callback.EvtDevicePrepareHardware ∷ callback.EvtDeviceReleaseHardware ∷ callback.EvtDeviceD0Entry ∷ callback.EvtDeviceD0EntryPostInterruptsEnabled
+    ∷ callback.EvtDeviceD0ExitPreInterruptsDisabled ∷ callback.EvtDeviceD0Exit ∷ callback.EvtDeviceSelfManagedIoInit ∷ callback.EvtDeviceSelfManagedIoRestart
+    ∷ callback.EvtDeviceSelfManagedIoSuspend ∷ callback.EvtDeviceSelfManagedIoFlush ∷ callback.EvtDeviceSelfManagedIoCleanup ∷ callback.EvtDeviceQueryStop
+    ∷ callback.EvtDeviceQueryRemove ∷ callback.EvtDeviceSurpriseRemoval ∷ []
+
+abbrev pub interrupt_name : Option InterruptInfo → ℕ
+interrupt_name None = 0
+interrupt_name (Some i) = i.name
+
+abbrev pub interrupt_steps : Plan → ℕ → InterruptSteps
+interrupt_steps plan i = record {
+  interrupt = record { id = record { 0 = i }; name = interrupt_name (interrupt_of plan i) };
+  enables = declares plan callback.EvtInterruptEnable i;
+  disables = declares plan callback.EvtInterruptDisable i;
+}
+
+abbrev pub device_steps : Plan → ℕ → DeviceSteps
+device_steps plan d = record {
+  callbacks = filter (λ c. declares plan c d) DEVICE_CALLBACKS;
+  interrupts = map (interrupt_steps plan) (interrupts_of plan d);
+}
+
+-- the steps that a post gives a device of the plan, in a phase
+abbrev pub steps_of : Plan → ℕ → Bool → Phase → Ask → List Step
+steps_of plan d ever phase a = steps_for (device_steps plan d) ever phase a
+
+-- own: a working device was powered up, without callbacks
+abbrev pub opening_phase : Bool → Phase
+opening_phase true = Working
+opening_phase false = Off
+
+abbrev pub opening_sequence : Plan → ℕ → Option DeviceInfo → Sequence
+opening_sequence plan d None = no_sequence
+opening_sequence plan d (Some i) = record {
+  steps = device_steps plan d;
+  phase = opening_phase i.working;
+  ever_working = i.working;
+  left = [];
+  running = None;
+}
+
+abbrev pub opening_pnp : Plan → Pnp
+opening_pnp plan = record { devices = map (λ d. opening_sequence plan d (device_of plan d)) (declared_ids plan) }

@@ -1,0 +1,168 @@
+-- Power: which devices have their queues up and their hardware, and how far the requests that the
+-- driver holds from power-managed queues are acknowledged, asked to stop, or due to go on. (KMDF; the
+-- points at which an acknowledgement begins and ceases to count are own)
+use Rattle.std.specs.Prelude.{if◌then◌else◌, ℕ, Bool, true, false, ◌==◌, nat_lt, ◌&&◌, not, List, [], map, filter, Option, Some, None}
+use Rattle.std.specs.List.{list_any}
+use Rattle.wdf_base.specs.declared.plan.Plan.{Plan}
+use Rattle.wdf_base.specs.declared.event.Stage.{Stage}
+use Rattle.wdf_base.specs.declared.event.Stage.TheVariants as stage
+use Rattle.wdf_base.specs.declared.event.Step.{Step}
+use Rattle.wdf_base.specs.declared.event.Step.TheVariants as step
+use Rattle.wdf_base.specs.declared.declared.DeviceInfo.{DeviceInfo}
+use Rattle.wdf_base.specs.declared.call.Callback.TheVariants as callback
+use Rattle.wdf_model.specs.Tables.{entry, change_at, ids_of}
+use Rattle.wdf_model.specs.Plans.{device_of, device_of_queue, declared_ids, declares}
+
+pub record DevicePower : Type 0 where
+  -- whether its queues are up
+  pub up : Bool
+  -- whether it has its hardware
+  pub hardware : Bool
+
+pub record QueuePower : Type 0 where
+  -- the queue's device
+  pub device : ℕ
+  -- whether it declares EvtIoResume
+  pub resumes : Bool
+
+-- a request that the driver holds from a power-managed queue
+pub record Holding : Type 0 where
+  -- that queue, 0 for a request that isn't held from one
+  pub queue : ℕ
+  pub acknowledged : Bool
+  -- whether EvtIoStop has started for it
+  pub stop_asked : Bool
+  pub resume_due : Bool
+
+pub record Power : Type 0 where
+  -- by the device's id
+  pub devices : List DevicePower
+  -- by the queue's id
+  pub queues : List QueuePower
+  -- by the request's id
+  pub holdings : List Holding
+
+abbrev pub no_device_power : DevicePower
+no_device_power = record { up = false; hardware = false }
+
+abbrev pub no_queue_power : QueuePower
+no_queue_power = record { device = 0; resumes = false }
+
+abbrev pub no_holding : Holding
+no_holding = record { queue = 0; acknowledged = false; stop_asked = false; resume_due = false }
+
+-- ---- readers
+
+abbrev pub device_power : Power → ℕ → DevicePower
+device_power P d = entry no_device_power P.devices d
+
+abbrev pub queue_power : Power → ℕ → QueuePower
+queue_power P q = entry no_queue_power P.queues q
+
+abbrev pub holding_of : Power → ℕ → Holding
+holding_of P r = entry no_holding P.holdings r
+
+abbrev pub queues_up : Power → ℕ → Bool
+queues_up P d = (device_power P d).up
+
+abbrev pub has_hardware : Power → ℕ → Bool
+has_hardware P d = (device_power P d).hardware
+
+abbrev pub acknowledged : Power → ℕ → Bool
+acknowledged P r = (holding_of P r).acknowledged
+
+abbrev pub stop_was_asked : Power → ℕ → Bool
+stop_was_asked P r = (holding_of P r).stop_asked
+
+abbrev pub resume_due : Power → ℕ → Bool
+resume_due P r = (holding_of P r).resume_due
+
+abbrev pub is_held : Holding → Bool
+is_held h = nat_lt 0 h.queue
+
+-- a request that is held from a power-managed queue of this device
+abbrev pub is_held_at : Power → ℕ → Holding → Bool
+is_held_at P d h = is_held h && (queue_power P h.queue).device == d
+
+abbrev pub is_unsettled_at : Power → ℕ → Holding → Bool
+is_unsettled_at P d h = is_held_at P d h && not h.acknowledged
+
+-- the requests that the driver holds from the device's power-managed queues and that aren't acknowledged
+abbrev pub unsettled : Power → ℕ → List ℕ
+unsettled P d = filter (λ r. is_unsettled_at P d (holding_of P r)) (ids_of P.holdings)
+
+-- a resume is due for some request of the device
+abbrev pub any_resume_due : Power → ℕ → Bool
+any_resume_due P d = list_any (λ h. is_held_at P d h && h.resume_due) P.holdings
+
+-- ---- acts
+
+abbrev pub with_holding : Power → ℕ → (Holding → Holding) → Power
+with_holding P r f = record P { holdings = change_at no_holding P.holdings r f }
+
+-- a request is held from a power-managed queue
+abbrev pub held_more : Power → ℕ → ℕ → Power
+held_more P r q = with_holding P r (λ _. record { queue = q; acknowledged = false; stop_asked = false; resume_due = false })
+
+-- it is held no more, and nothing of it is acknowledged, asked or due
+abbrev pub held_less : Power → ℕ → Power
+held_less P r = with_holding P r (λ _. no_holding)
+
+abbrev pub acknowledge : Power → ℕ → Power
+acknowledge P r = with_holding P r (λ h. record h { acknowledged = true })
+
+-- EvtIoStop starts for it
+abbrev pub stop_asked : Power → ℕ → Power
+stop_asked P r = with_holding P r (λ h. record h { stop_asked = true })
+
+-- EvtIoResume starts for it
+abbrev pub resumed : Power → ℕ → Power
+resumed P r = with_holding P r (λ h. record h { resume_due = false })
+
+abbrev pub with_up : Power → ℕ → Bool → Power
+with_up P d up = record P { devices = change_at no_device_power P.devices d (λ x. record x { up = up }) }
+
+abbrev pub with_hardware : Power → ℕ → Bool → Power
+with_hardware P d hardware = record P { devices = change_at no_device_power P.devices d (λ x. record x { hardware = hardware }) }
+
+-- a held request of a device whose queues come up: its resume is due where its queue declares EvtIoResume
+abbrev pub woken : Power → ℕ → Holding → Holding
+woken P d h =
+    if is_held_at P d h then record { queue = h.queue; acknowledged = false; stop_asked = false; resume_due = (queue_power P h.queue).resumes }
+    else h
+
+abbrev pub wake_holdings : Power → ℕ → Power
+wake_holdings P d = record P { holdings = map (woken P d) P.holdings }
+
+-- what a stage does to power
+abbrev pub advance_stage : Power → ℕ → Stage → Power
+-- own: the device's hardware begins
+advance_stage P d stage.Hardware = with_hardware P d true
+-- own: and ends
+advance_stage P d stage.NoHardware = with_hardware P d false
+-- own: delivery goes on; acknowledgement and stop asked end, and resumes are due
+advance_stage P d stage.QueuesUp = wake_holdings (with_up P d true) d
+-- own: delivery by power stops
+advance_stage P d stage.QueuesDown = with_up P d false
+advance_stage P d _ = P
+
+abbrev pub advance : Power → ℕ → Step → Power
+advance P d (step.Run c i) = P
+advance P d (step.Pass s i) = advance_stage P d s
+
+-- ---- the opening
+
+-- own: a working device stands as if a power-up without callbacks had ended
+abbrev pub opening_device_power : Option DeviceInfo → DevicePower
+opening_device_power None = no_device_power
+opening_device_power (Some d) = record { up = d.working; hardware = d.working }
+
+abbrev pub opening_queue_power : Plan → ℕ → QueuePower
+opening_queue_power plan q = record { device = device_of_queue plan q; resumes = declares plan callback.EvtIoResume q }
+
+abbrev pub opening_power : Plan → Power
+opening_power plan = record {
+  devices = map (λ d. opening_device_power (device_of plan d)) (declared_ids plan);
+  queues = map (opening_queue_power plan) (declared_ids plan);
+  holdings = [];
+}

@@ -1,0 +1,321 @@
+-- The framework calls: what each answers and what it does, one row a call; and, for the calls that
+-- wait, when the wait is over and what is done then. (KMDF, but for what is marked own)
+use Rattle.std.specs.Prelude.{if◌then◌else◌, ℕ, Bool, true, ◌==◌, not, ◌&&◌, ◌||◌, List, [], ◌∷◌, Option, Some, None, unwrap_or}
+use Rattle.std.specs.List.{list_any}
+use Rattle.wdf_base.specs.declared.plan.Plan.{Plan}
+use Rattle.wdf_base.specs.declared.ids.Handle.{Handle}
+use Rattle.wdf_base.specs.declared.value.Value.{Value}
+use Rattle.wdf_base.specs.declared.value.Value.TheVariants.{Num, Obj, Stat}
+use Rattle.wdf_base.specs.declared.value.Status.{Status}
+use Rattle.wdf_base.specs.declared.value.Status.TheVariants as status
+use Rattle.wdf_base.specs.declared.object.Kind.{Kind}
+use Rattle.wdf_base.specs.declared.object.Kind.TheVariants as kind
+use Rattle.wdf_base.specs.declared.call.Arg.{Arg}
+use Rattle.wdf_base.specs.declared.call.Arg.TheVariants.{Val, Class}
+use Rattle.wdf_base.specs.declared.call.Call.{Call}
+use Rattle.wdf_base.specs.declared.call.CallKind.{CallKind}
+use Rattle.wdf_base.specs.declared.call.CallKind.TheVariants as call
+use Rattle.wdf_base.specs.declared.call.Callback.TheVariants as callback
+use Rattle.wdf_model.specs.declared.enums.Mode.TheVariants as mode
+use Rattle.wdf_model.specs.Plans.{declares, device_of_queue, has_handler, interrupt_level, is_manual_queue, is_parallel_queue, kind_of_class, name_of_class, parent_of_class}
+use Rattle.wdf_model.specs.parts.Tree.{life_of, is_live, is_full, next_id, cell_of}
+use Rattle.wdf_model.specs.parts.Cpus.{nobody_on}
+use Rattle.wdf_model.specs.parts.Locks.{object_lock, is_free_lock}
+use Rattle.wdf_model.specs.parts.Requests.{Request, info_of, origin_of, is_cancelled, is_returning_to, mark_answer, unmark_answer}
+use Rattle.wdf_model.specs.parts.Queues.{front, held_count, is_empty_queue}
+use Rattle.wdf_model.specs.parts.Control.{accepts, mode_of, is_purged}
+use Rattle.wdf_model.specs.parts.Interrupts.{is_enabled}
+use Rattle.wdf_model.specs.parts.Deferred.Dpcs.{is_dpc_queued}
+use Rattle.wdf_model.specs.parts.Deferred.WorkItems.{is_work_queued}
+use Rattle.wdf_model.specs.parts.Deferred.Timers.{is_timer_queued}
+use Rattle.wdf_model.specs.parts.Targets.{takes_more, is_undone}
+use Rattle.wdf_model.specs.rules.Script.{flag}
+use Rattle.wdf_model.specs.State.{State, object_in, queue_delivers, nothing_at, handle_in}
+use Rattle.wdf_model.specs.rules.Deeds.{Deed, Create, Make_request, Ask_deletion, Refer, Unrefer, Write_cell, Raise, Lower, Take_lock, Release_lock, Present, Requeue, Forward, Give_back, Mark_request, Unmark_request, Send_request, Complete_request, Set_mode, Purge_queue, Register_queue, Acknowledge, Enqueue_dpc, Cancel_dpc, Enqueue_work, Start_timer, Stop_timer, Stop_target, Start_target}
+use Rattle.wdf_model.specs.rules.Faults.{arg_is}
+
+-- what a call answers, and what it does
+pub record Outcome : Type 0 where
+  pub answer : Value
+  pub deeds : List Deed
+
+-- ---- arguments
+
+abbrev pub value_in : Arg → Value
+value_in (Val v) = v
+value_in (Class c) = Num 0
+
+abbrev pub number_in : Arg → ℕ
+number_in (Val (Num n)) = n
+number_in _ = 0
+
+abbrev pub status_in : Arg → Status
+status_in (Val (Stat s)) = s
+status_in _ = status.Success
+
+abbrev pub class_in : Arg → ℕ
+class_in (Class c) = c
+class_in (Val v) = 0
+
+-- ---- outcomes
+
+-- a status, with nothing done
+abbrev pub refused : Status → Outcome
+refused s = record { answer = Stat s; deeds = [] }
+
+-- SUCCESS, with this done
+abbrev pub success : List Deed → Outcome
+success ds = record { answer = Stat status.Success; deeds = ds }
+
+-- a number, with this done
+abbrev pub number : ℕ → List Deed → Outcome
+number n ds = record { answer = Num n; deeds = ds }
+
+-- ---- objects
+
+-- the object that is made next, of a class
+abbrev pub new_handle : {A : Type 0} → Plan → State A → ℕ → Handle
+new_handle plan S class = record { id = record { 0 = next_id S.tree }; name = name_of_class plan class }
+
+-- a request is more than an object
+abbrev pub creation : Kind → ℕ → ℕ → Deed
+creation kind.Made class parent = Make_request class parent
+creation k class parent = Create k class parent
+
+-- a live parent, and room among the counted objects
+abbrev pub create_outcome : {A : Type 0} → Plan → State A → ℕ → ℕ → Outcome
+create_outcome plan S class parent =
+    if not (is_live (life_of S.tree parent)) then refused status.DeletePending
+    else if is_full S.tree then refused status.InsufficientResources
+    else record { answer = Obj (new_handle plan S class); deeds = creation (kind_of_class plan class) class parent ∷ [] }
+
+-- ---- requests
+
+abbrev pub origin_or_none : {A : Type 0} → State A → ℕ → ℕ
+origin_or_none S r = unwrap_or (origin_of S.requests r) 0
+
+-- own: marking a request of a queue without EvtRequestCancel is refused
+abbrev pub mark_outcome : {A : Type 0} → Plan → State A → ℕ → Outcome
+mark_outcome plan S r =
+    if declares plan callback.EvtRequestCancel (origin_or_none S r) then record { answer = Stat (mark_answer S.requests r); deeds = Mark_request r ∷ [] }
+    else refused status.InvalidDeviceRequest
+
+-- to the head of the queue that it came from; one that is cancelled, or whose queue is Purged, is cancelled in it at once
+abbrev pub requeue_outcome : {A : Type 0} → State A → ℕ → ℕ → Outcome
+requeue_outcome S r q =
+    if is_cancelled S.requests r || is_purged (mode_of S.control q) then success (Give_back r q ∷ []) else success (Requeue r q ∷ [])
+
+-- own: a queue that a request can't be forwarded to
+abbrev pub forwards_nowhere : {A : Type 0} → Plan → State A → ℕ → ℕ → Bool
+forwards_nowhere plan S r q =
+    origin_or_none S r == q || not (device_of_queue plan q == (info_of S.requests r).device.0)
+    || not (is_manual_queue plan q || has_handler plan q (info_of S.requests r).form)
+
+abbrev pub forward_outcome : {A : Type 0} → Plan → State A → ℕ → ℕ → Outcome
+forward_outcome plan S r q =
+    if forwards_nowhere plan S r q then refused status.InvalidDeviceRequest
+    else if not (accepts S.control q) then refused status.WdfBusy
+    else if is_cancelled S.requests r then success (Give_back r q ∷ [])
+    else success (Forward r q ∷ [])
+
+abbrev pub acknowledge_outcome : {A : Type 0} → State A → ℕ → Arg → Outcome
+acknowledge_outcome S r f = if arg_is f 0 then success (Acknowledge r ∷ []) else requeue_outcome S r (origin_or_none S r)
+
+-- own: what a send asks for
+abbrev pub may_send : {A : Type 0} → State A → ℕ → ℕ → Bool
+may_send S r t = is_live (life_of S.tree t) && takes_more S.targets t && not (is_cancelled S.requests r)
+
+abbrev pub send_outcome : {A : Type 0} → State A → ℕ → ℕ → Bool → Outcome
+send_outcome S r t forget = if may_send S r t then number 1 (Send_request r t forget ∷ []) else number 0 []
+
+-- ---- queues
+
+abbrev pub retrieve_front : {A : Type 0} → Plan → State A → ℕ → Option ℕ → Outcome
+retrieve_front plan S q None = refused status.NoMoreEntries
+retrieve_front plan S q (Some r) = record { answer = Obj (handle_in plan S r); deeds = Present q r ∷ [] }
+
+abbrev pub retrieve_outcome : {A : Type 0} → Plan → State A → ℕ → Outcome
+retrieve_outcome plan S q =
+    if is_parallel_queue plan q then refused status.InvalidDeviceState
+    else if not (queue_delivers plan S q) then refused status.WdfPaused
+    else retrieve_front plan S q (front S.queues q)
+
+abbrev pub notify_outcome : Plan → ℕ → Arg → Outcome
+notify_outcome plan q f =
+    if is_manual_queue plan q && declares plan callback.EvtIoQueueState q then success (Register_queue q (not (arg_is f 0)) ∷ [])
+    else refused status.InvalidDeviceRequest
+
+-- ---- deferred work; what isn't live is never queued
+
+abbrev pub isr_dpc_outcome : {A : Type 0} → Plan → State A → ℕ → ℕ → Outcome
+isr_dpc_outcome plan S cpu i =
+    if is_enabled S.interrupts i && declares plan callback.EvtInterruptDpc i && not (is_dpc_queued S.dpcs i) then number 1 (Enqueue_dpc cpu i ∷ [])
+    else number 0 []
+
+abbrev pub dpc_outcome : {A : Type 0} → State A → ℕ → ℕ → Outcome
+dpc_outcome S cpu o =
+    if is_live (life_of S.tree o) && not (is_dpc_queued S.dpcs o) then number 1 (Enqueue_dpc cpu o ∷ []) else number 0 []
+
+abbrev pub timer_outcome : {A : Type 0} → State A → ℕ → ℕ → Outcome
+timer_outcome S o n =
+    if is_live (life_of S.tree o) then number (flag (is_timer_queued S.timers o)) (Start_timer o n ∷ []) else number 0 []
+
+abbrev pub work_outcome : {A : Type 0} → State A → ℕ → Outcome
+work_outcome S o = if is_live (life_of S.tree o) then success (Enqueue_work o ∷ []) else success []
+
+-- ---- locks
+
+-- the level of the lock that a call acquires or releases (KMDF)
+abbrev pub lock_level : Plan → CallKind → ℕ → ℕ
+lock_level plan call.WdfSpinLockAcquire o = 2
+lock_level plan call.WdfSpinLockRelease o = 2
+lock_level plan call.WdfInterruptAcquireLock o = interrupt_level plan o
+lock_level plan call.WdfInterruptReleaseLock o = interrupt_level plan o
+lock_level plan _ o = 0
+
+-- a frame has the level of a lock while it holds it, and while it spins for it
+abbrev pub acquire_outcome : ℕ → ℕ → Outcome
+acquire_outcome f level = success (Raise f level ∷ [])
+
+abbrev pub release_outcome : ℕ → ℕ → ℕ → Outcome
+release_outcome f o level = success (Release_lock (object_lock o) ∷ Lower f level ∷ [])
+
+-- ---- the table: what a call of frame f on a processor answers and does; of a call that waits, its first part
+
+abbrev pub outcome : {A : Type 0} → Plan → State A → ℕ → ℕ → Call → Outcome
+outcome plan S cpu f c = elim c.kind as (λ _. Outcome) [
+  -- KMDF: DELETE_PENDING where the parent isn't live; INSUFFICIENT_RESOURCES where the counted objects are at their limit; else the new object
+  | call.WdfObjectCreate ↦ create_outcome plan S (class_in c.a) (object_in c.b)
+  -- KMDF: the same
+  | call.WdfSpinLockCreate ↦ create_outcome plan S (class_in c.a) (object_in c.b)
+  -- KMDF: the same
+  | call.WdfWaitLockCreate ↦ create_outcome plan S (class_in c.a) (object_in c.b)
+  -- KMDF: the same; the driver owns the request
+  | call.WdfRequestCreate ↦ create_outcome plan S (class_in c.a) (object_in c.b)
+  -- KMDF: the same, under the parent that the class names
+  | call.WdfDpcCreate ↦ create_outcome plan S (class_in c.a) (parent_of_class plan (class_in c.a))
+  -- KMDF: the same, under the parent that the class names
+  | call.WdfTimerCreate ↦ create_outcome plan S (class_in c.a) (parent_of_class plan (class_in c.a))
+  -- KMDF: the same, under the parent that the class names
+  | call.WdfWorkItemCreate ↦ create_outcome plan S (class_in c.a) (parent_of_class plan (class_in c.a))
+  -- KMDF, own in that it only asks: the deletion is asked; nothing if it was asked already
+  | call.WdfObjectDelete ↦ success (Ask_deletion (object_in c.a) ∷ [])
+  -- KMDF: one reference more
+  | call.WdfObjectReference ↦ success (Refer (object_in c.a) ∷ [])
+  -- KMDF: one reference less
+  | call.WdfObjectDereference ↦ success (Unrefer (object_in c.a) ∷ [])
+  -- own: the value of a context cell
+  | call.GetContext ↦ record { answer = cell_of S.tree (object_in c.a) (number_in c.b); deeds = [] }
+  -- own: a context cell takes a value
+  | call.SetContext ↦ success (Write_cell (object_in c.a) (number_in c.b) (value_in c.c) ∷ [])
+  -- KMDF: waits on its processor at DISPATCH_LEVEL until the lock is free
+  | call.WdfSpinLockAcquire ↦ acquire_outcome f (lock_level plan c.kind (object_in c.a))
+  -- KMDF: the lock is free
+  | call.WdfSpinLockRelease ↦ release_outcome f (object_in c.a) (lock_level plan c.kind (object_in c.a))
+  -- KMDF: waits until the lock is free
+  | call.WdfWaitLockAcquire ↦ acquire_outcome f (lock_level plan c.kind (object_in c.a))
+  -- KMDF: the lock is free
+  | call.WdfWaitLockRelease ↦ release_outcome f (object_in c.a) (lock_level plan c.kind (object_in c.a))
+  -- KMDF: waits on its processor at the interrupt's level; for a passive interrupt at level 0
+  | call.WdfInterruptAcquireLock ↦ acquire_outcome f (lock_level plan c.kind (object_in c.a))
+  -- KMDF: the lock is free
+  | call.WdfInterruptReleaseLock ↦ release_outcome f (object_in c.a) (lock_level plan c.kind (object_in c.a))
+  -- KMDF: the request is done; it and what is below it are deleted
+  | call.WdfRequestComplete ↦ success (Complete_request (object_in c.a) ∷ [])
+  -- KMDF: cancelable, or CANCELLED where it is cancelled; own: INVALID_DEVICE_REQUEST without an EvtRequestCancel
+  | call.WdfRequestMarkCancelableEx ↦ mark_outcome plan S (object_in c.a)
+  -- KMDF: no longer cancelable; CANCELLED where its cancel is due or taken; INVALID_DEVICE_REQUEST where it wasn't marked
+  | call.WdfRequestUnmarkCancelable ↦ record { answer = Stat (unmark_answer S.requests (object_in c.a)); deeds = Unmark_request (object_in c.a) ∷ [] }
+  -- KMDF: whether it is cancelled
+  | call.WdfRequestIsCanceled ↦ number (flag (is_cancelled S.requests (object_in c.a))) []
+  -- KMDF: to the head of the queue that it came from
+  | call.WdfRequestRequeue ↦ requeue_outcome S (object_in c.a) (origin_or_none S (object_in c.a))
+  -- KMDF: to the tail of another queue of the device that accepts; own: what is refused
+  | call.WdfRequestForwardToIoQueue ↦ forward_outcome plan S (object_in c.a) (object_in c.b)
+  -- KMDF: with 0 acknowledged and kept, else requeued
+  | call.WdfRequestStopAcknowledge ↦ acknowledge_outcome S (object_in c.a) c.b
+  -- KMDF: to the target, which has it from then on; own: when it fails
+  | call.WdfRequestSend ↦ send_outcome S (object_in c.a) (object_in c.b) (arg_is c.c 1)
+  -- KMDF: the target is told to cancel it, if it is there and isn't done
+  | call.WdfRequestCancelSentRequest ↦ number (flag (is_undone S.targets (object_in c.a))) []
+  -- KMDF: the queue accepts and delivers
+  | call.WdfIoQueueStart ↦ success (Set_mode (object_in c.a) mode.Started ∷ [])
+  -- KMDF: it accepts and doesn't deliver
+  | call.WdfIoQueueStop ↦ success (Set_mode (object_in c.a) mode.Stopped ∷ [])
+  -- KMDF: it delivers and doesn't accept
+  | call.WdfIoQueueDrain ↦ success (Set_mode (object_in c.a) mode.Drained ∷ [])
+  -- KMDF: it does neither, and what waits is cancelled in it; own: what the driver holds stays as it is
+  | call.WdfIoQueuePurge ↦ success (Purge_queue (object_in c.a) ∷ [])
+  -- KMDF: the same as Stop, and waits
+  | call.WdfIoQueueStopSynchronously ↦ success (Set_mode (object_in c.a) mode.Stopped ∷ [])
+  -- KMDF: the same as Drain, and waits
+  | call.WdfIoQueueDrainSynchronously ↦ success (Set_mode (object_in c.a) mode.Drained ∷ [])
+  -- KMDF: the same as Purge, and waits
+  | call.WdfIoQueuePurgeSynchronously ↦ success (Purge_queue (object_in c.a) ∷ [])
+  -- KMDF: the front request, owned; INVALID_DEVICE_STATE if parallel, WDF_PAUSED if it doesn't deliver, NO_MORE_ENTRIES if empty; own: without asking whether a sequential queue is free
+  | call.WdfIoQueueRetrieveNextRequest ↦ retrieve_outcome plan S (object_in c.a)
+  -- KMDF: notification is registered or not; own: at any time; INVALID_DEVICE_REQUEST if not manual or without an EvtIoQueueState
+  | call.WdfIoQueueReadyNotify ↦ notify_outcome plan (object_in c.a) c.b
+  -- KMDF: queued on this processor; 0 if not enabled, without an EvtInterruptDpc or queued already
+  | call.WdfInterruptQueueDpcForIsr ↦ isr_dpc_outcome plan S cpu (object_in c.a)
+  -- KMDF: queued last on this processor; 0 if queued already
+  | call.WdfDpcEnqueue ↦ dpc_outcome S cpu (object_in c.a)
+  -- KMDF: taken out of its queue; 1 if it was there; waits if it is asked to
+  | call.WdfDpcCancel ↦ number (flag (is_dpc_queued S.dpcs (object_in c.a))) (Cancel_dpc (object_in c.a) ∷ [])
+  -- KMDF: due so many ticks from now; 1 if it was queued
+  | call.WdfTimerStart ↦ timer_outcome S (object_in c.a) (number_in c.b)
+  -- KMDF: taken out of its queue; 1 if it was there; waits if it is asked to
+  | call.WdfTimerStop ↦ number (flag (is_timer_queued S.timers (object_in c.a))) (Stop_timer (object_in c.a) ∷ [])
+  -- KMDF: queued, once
+  | call.WdfWorkItemEnqueue ↦ work_outcome S (object_in c.a)
+  -- KMDF: waits for the work item
+  | call.WdfWorkItemFlush ↦ success []
+  -- KMDF: the target takes no more; waits, but for 2; own: the numbers of the actions
+  | call.WdfIoTargetStop ↦ success (Stop_target (object_in c.a) ∷ [])
+  -- KMDF: the target takes requests again
+  | call.WdfIoTargetStart ↦ success (Start_target (object_in c.a) ∷ [])
+]
+
+-- ---- the calls that wait
+
+-- nothing is held from a queue
+abbrev pub nothing_held : {A : Type 0} → State A → ℕ → Bool
+nothing_held S q = held_count S.queues q == 0
+
+abbrev pub nothing_returns : {A : Type 0} → State A → ℕ → Bool
+nothing_returns S q = not (list_any (λ (r : Request). is_returning_to q r.place) S.requests.all)
+
+-- whether the wait of a call is over; the other calls never wait
+abbrev pub is_met : {A : Type 0} → State A → Call → Bool
+is_met S c = elim c.kind as (λ _. Bool) [
+  -- KMDF: the lock is free
+  | call.WdfSpinLockAcquire ↦ is_free_lock S.locks (object_lock (object_in c.a))
+  -- KMDF: the lock is free
+  | call.WdfWaitLockAcquire ↦ is_free_lock S.locks (object_lock (object_in c.a))
+  -- KMDF: the lock is free
+  | call.WdfInterruptAcquireLock ↦ is_free_lock S.locks (object_lock (object_in c.a))
+  -- KMDF: nothing is held from the queue
+  | call.WdfIoQueueStopSynchronously ↦ nothing_held S (object_in c.a)
+  -- KMDF: nothing waits in it, and nothing is held from it
+  | call.WdfIoQueueDrainSynchronously ↦ nothing_held S (object_in c.a) && is_empty_queue S.queues (object_in c.a)
+  -- KMDF: nothing is held from it, and nothing returns from it
+  | call.WdfIoQueuePurgeSynchronously ↦ nothing_held S (object_in c.a) && nothing_returns S (object_in c.a)
+  -- KMDF: no frame runs on it, if that is asked for
+  | call.WdfDpcCancel ↦ arg_is c.b 0 || nobody_on S.cpus (object_in c.a)
+  -- KMDF: the same
+  | call.WdfTimerStop ↦ arg_is c.b 0 || nobody_on S.cpus (object_in c.a)
+  -- KMDF: it isn't queued, and no frame runs on it
+  | call.WdfWorkItemFlush ↦ not (is_work_queued S.work_items (object_in c.a)) && nobody_on S.cpus (object_in c.a)
+  -- KMDF: nothing is sent to the target, unless it is left there
+  | call.WdfIoTargetStop ↦ arg_is c.b 2 || nothing_at S (object_in c.a)
+  | _ ↦ true
+]
+
+-- what is done when the wait of frame f's call is over: a lock is taken
+abbrev pub second_deeds : ℕ → Call → List Deed
+second_deeds f c = elim c.kind as (λ _. List Deed) [
+  | call.WdfSpinLockAcquire ↦ Take_lock (object_lock (object_in c.a)) f true ∷ []
+  | call.WdfWaitLockAcquire ↦ Take_lock (object_lock (object_in c.a)) f true ∷ []
+  | call.WdfInterruptAcquireLock ↦ Take_lock (object_lock (object_in c.a)) f true ∷ []
+  | _ ↦ []
+]

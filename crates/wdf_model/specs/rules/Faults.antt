@@ -1,0 +1,287 @@
+-- The faults of a driver: for each a test of what a frame is about to do, in a view of the state. The
+-- names are own; the rules behind them are KMDF's, but for the script errors.
+use Rattle.std.specs.Prelude.{if◌then◌else◌, ℕ, Bool, true, false, ◌==◌, nat_lt, not, ◌&&◌, ◌||◌, find, Option, Some, None}
+use Rattle.wdf_base.specs.declared.ids.Handle.{Handle}
+use Rattle.wdf_base.specs.declared.value.Value.{Value}
+use Rattle.wdf_base.specs.declared.value.Value.TheVariants.{Num, Obj, Stat}
+use Rattle.wdf_base.specs.declared.object.Kind.{Kind}
+use Rattle.wdf_base.specs.declared.object.Kind.TheVariants as kind
+use Rattle.wdf_base.specs.declared.object.Life.{Life}
+use Rattle.wdf_base.specs.declared.object.Place.{Place}
+use Rattle.wdf_base.specs.declared.object.Mark.{Mark}
+use Rattle.wdf_base.specs.declared.object.LockRef.{LockRef}
+use Rattle.wdf_base.specs.declared.call.Arg.{Arg}
+use Rattle.wdf_base.specs.declared.call.Arg.TheVariants.{Val, Class}
+use Rattle.wdf_base.specs.declared.call.Call.{Call}
+use Rattle.wdf_base.specs.declared.call.CallKind.{CallKind}
+use Rattle.wdf_base.specs.declared.call.CallKind.TheVariants as call
+use Rattle.wdf_base.specs.declared.call.Callback.TheVariants as callback
+use Rattle.wdf_base.specs.declared.signature.Sort.{Sort}
+use Rattle.wdf_base.specs.declared.signature.Sort.TheVariants as sort
+use Rattle.wdf_base.specs.declared.signature.CallLevel.{CallLevel}
+use Rattle.wdf_base.specs.declared.signature.CallLevel.TheVariants as level
+use Rattle.wdf_base.specs.declared.event.Fault.{Fault}
+use Rattle.wdf_base.specs.declared.event.Fault.TheVariants as fault
+use Rattle.wdf_base.specs.declared.frame.Frame.{Frame}
+use Rattle.wdf_base.specs.declared.frame.Intent.{Intent}
+use Rattle.wdf_base.specs.declared.frame.Intent.TheVariants as intent
+use Rattle.wdf_base.specs.declared.words.TheConstants.{FAULTS}
+use Rattle.wdf_base.specs.Calls.{signature_of}
+use Rattle.wdf_base.specs.Same.{same_kind, same_callback, same_call_kind, same_value}
+use Rattle.wdf_model.specs.parts.Tree.{is_gone, is_cleaned}
+use Rattle.wdf_model.specs.parts.Locks.{object_lock}
+use Rattle.wdf_model.specs.parts.Requests.{is_owned, is_marked, is_due}
+use Rattle.wdf_model.specs.State.{object_in, same_id}
+
+-- one top frame in one state
+pub record View : Type 0 where
+  pub frame : Frame
+  -- the number of the frame
+  pub number : ℕ
+  -- the level of its processor
+  pub irql : ℕ
+  -- what is told of an object
+  pub life : ℕ → Life
+  pub kind : ℕ → Kind
+  pub references : ℕ → ℕ
+  -- the level of an interrupt
+  pub level_of : ℕ → ℕ
+  -- the scope lock that the callbacks of an object need
+  pub scope : ℕ → Option LockRef
+  -- what is told of a request
+  pub place : ℕ → Place
+  pub origin : ℕ → Option ℕ
+  pub mark : ℕ → Mark
+  -- whether the driver holds it
+  pub held : ℕ → Bool
+  pub acknowledged : ℕ → Bool
+  -- the number of the frame that holds a lock
+  pub holder : LockRef → Option ℕ
+  -- whether this frame took the lock by a call
+  pub by_call : LockRef → Bool
+  -- how many locks this frame took by calls
+  pub held_by_call : ℕ
+  -- whether the device of a register has its hardware
+  pub hardware : ℕ → Bool
+
+-- ---- arguments
+
+abbrev pub is_number : Value → ℕ → Bool
+is_number v n = same_value v (Num n)
+
+-- a value is this number
+abbrev pub arg_is : Arg → ℕ → Bool
+arg_is (Val v) n = is_number v n
+arg_is (Class c) n = false
+
+-- whether a row calls an argument of this sort an object
+abbrev pub is_object_sort : Sort → Bool
+is_object_sort sort.AnyObject = true
+is_object_sort (sort.ObjectOf k) = true
+is_object_sort sort.AnyRequest = true
+is_object_sort _ = false
+
+-- an object that no call may name, or that this call may not
+abbrev pub is_stale : View → Bool → Sort → Arg → Bool
+is_stale v cleaned_too s (Val (Obj h)) =
+    is_object_sort s && (is_gone (v.life h.id.0) || (is_cleaned (v.life h.id.0) && not cleaned_too))
+is_stale v cleaned_too s _ = false
+
+abbrev pub is_request_kind : Kind → Bool
+is_request_kind kind.Request = true
+is_request_kind kind.Made = true
+is_request_kind _ = false
+
+-- an object of the kind that the sort asks for
+abbrev pub has_sort : Kind → Sort → Bool
+has_sort k (sort.ObjectOf wanted) = same_kind k wanted
+has_sort k sort.AnyRequest = is_request_kind k
+has_sort k _ = true
+
+-- an argument isn't an object of the needed kind
+abbrev pub is_wrong_kind : View → Sort → Arg → Bool
+is_wrong_kind v s (Val (Obj h)) = is_object_sort s && not (has_sort (v.kind h.id.0) s)
+is_wrong_kind v s _ = is_object_sort s
+
+-- a status or number argument has the wrong kind of value, or is too great
+abbrev pub is_script_error : Sort → Arg → Bool
+is_script_error sort.AnyStatus (Val (Stat s)) = false
+is_script_error sort.AnyStatus _ = true
+is_script_error sort.AnyNumber (Val (Num n)) = false
+is_script_error sort.AnyNumber _ = true
+is_script_error (sort.UpTo most) (Val (Num n)) = nat_lt most n
+is_script_error (sort.UpTo most) _ = true
+is_script_error _ _ = false
+
+-- one of three tests of sort and argument holds
+abbrev pub any_argument : (Sort → Arg → Bool) → Call → Bool
+any_argument test c =
+    test (signature_of c.kind).a c.a || test (signature_of c.kind).b c.b || test (signature_of c.kind).c c.c
+
+-- ---- groups of calls
+
+-- the calls on a request that need it Owned
+abbrev pub needs_owned : CallKind → Bool
+needs_owned call.WdfRequestComplete = true
+needs_owned call.WdfRequestMarkCancelableEx = true
+needs_owned call.WdfRequestRequeue = true
+needs_owned call.WdfRequestForwardToIoQueue = true
+needs_owned call.WdfRequestSend = true
+needs_owned _ = false
+
+-- StopAcknowledge that gives the request back
+abbrev pub is_return_at_stop : Call → Bool
+is_return_at_stop c = elim c.kind as (λ _. Bool) [
+  | call.WdfRequestStopAcknowledge ↦ not (arg_is c.b 0)
+  | _ ↦ false
+]
+
+-- the calls by which the driver gives up a request
+abbrev pub gives_up : Call → Bool
+gives_up c = elim c.kind as (λ _. Bool) [
+  | call.WdfRequestComplete ↦ true
+  | call.WdfRequestRequeue ↦ true
+  | call.WdfRequestForwardToIoQueue ↦ true
+  | call.WdfRequestSend ↦ true
+  | _ ↦ is_return_at_stop c
+]
+
+-- the calls that wait for what runs on an object or is held from it
+abbrev pub waits_for_others : Call → Bool
+waits_for_others c = elim c.kind as (λ _. Bool) [
+  | call.WdfIoQueueStopSynchronously ↦ true
+  | call.WdfIoQueueDrainSynchronously ↦ true
+  | call.WdfIoQueuePurgeSynchronously ↦ true
+  | call.WdfWorkItemFlush ↦ true
+  | call.WdfDpcCancel ↦ not (arg_is c.b 0)
+  | call.WdfTimerStop ↦ not (arg_is c.b 0)
+  | _ ↦ false
+]
+
+abbrev pub is_acquire : CallKind → Bool
+is_acquire call.WdfSpinLockAcquire = true
+is_acquire call.WdfWaitLockAcquire = true
+is_acquire call.WdfInterruptAcquireLock = true
+is_acquire _ = false
+
+abbrev pub is_release : CallKind → Bool
+is_release call.WdfSpinLockRelease = true
+is_release call.WdfWaitLockRelease = true
+is_release call.WdfInterruptReleaseLock = true
+is_release _ = false
+
+-- ---- levels
+
+-- the greatest level at which a call may be made
+abbrev pub greatest_level : View → Call → CallLevel → ℕ
+greatest_level v c (level.AtMost n) = n.0
+greatest_level v c level.OfInterrupt = v.level_of (object_in c.a)
+greatest_level v c (level.DispatchIf n) = if arg_is c.b n then 2 else 0
+
+-- ---- who has what
+
+-- a request is not in the driver's hands as the call needs it
+abbrev pub is_not_owned : View → Call → ℕ → Bool
+is_not_owned v c r = elim c.kind as (λ _. Bool) [
+  | call.WdfRequestStopAcknowledge ↦ not (v.held r) || (is_return_at_stop c && not (is_owned (v.place r)))
+  | call.WdfRequestIsCanceled ↦ not (v.held r)
+  | _ ↦ needs_owned c.kind && not (is_owned (v.place r))
+]
+
+abbrev pub is_handle_of : Option Handle → ℕ → Bool
+is_handle_of None r = false
+is_handle_of (Some h) r = h.id.0 == r
+
+-- this frame is the EvtIoStop of the request on the queue that it came from
+abbrev pub is_stop_of : View → ℕ → Bool
+is_stop_of v r = same_callback v.frame.callback callback.EvtIoStop && is_handle_of v.frame.request r && same_id (v.origin r) v.frame.object.id.0
+
+-- this frame holds the lock
+abbrev pub holds_lock : View → LockRef → Bool
+holds_lock v l = same_id (v.holder l) v.number
+
+abbrev pub holds_if_any : View → Option LockRef → Bool
+holds_if_any v None = false
+holds_if_any v (Some l) = holds_lock v l
+
+-- KMDF: what the framework or the system alone deletes
+abbrev pub is_never_deleted : Kind → Bool
+is_never_deleted kind.Driver = true
+is_never_deleted kind.Device = true
+is_never_deleted kind.Queue = true
+is_never_deleted kind.Interrupt = true
+is_never_deleted kind.Target = true
+is_never_deleted kind.Request = true
+is_never_deleted _ = false
+
+-- SendAndForget of a request that the driver made
+abbrev pub forgets_made : View → Call → Bool
+forgets_made v c =
+    same_call_kind c.kind call.WdfRequestSend && arg_is c.c 1 && same_kind (v.kind (object_in c.a)) kind.Made
+
+-- ---- the table: whether a fault's row holds of a call
+
+abbrev pub call_faults : View → Call → Fault → Bool
+-- an object argument is gone, or is cleaned up and the call isn't one that may come then
+call_faults v c fault.StaleHandle = any_argument (is_stale v (signature_of c.kind).cleaned) c
+-- an argument isn't an object of the needed kind; SendAndForget of a made request
+call_faults v c fault.WrongKind = any_argument (is_wrong_kind v) c || forgets_made v c
+-- the processor's level is above the call's
+call_faults v c fault.IrqlTooHigh = nat_lt (greatest_level v c (signature_of c.kind).level) v.irql
+-- the request isn't the driver's, as the call needs it
+call_faults v c fault.NotOwned = is_not_owned v c (object_in c.a)
+-- a request is given up that is still cancelable
+call_faults v c fault.CompleteWhileMarked = gives_up c && is_marked (v.mark (object_in c.a))
+-- or whose EvtRequestCancel is due
+call_faults v c fault.CompleteBeforeCancelCallback = gives_up c && is_due (v.mark (object_in c.a))
+-- a request is marked that is cancelable already
+call_faults v c fault.MarkedTwice =
+    same_call_kind c.kind call.WdfRequestMarkCancelableEx && (is_marked (v.mark (object_in c.a)) || is_due (v.mark (object_in c.a)))
+-- StopAcknowledge outside the request's EvtIoStop, or a second time
+call_faults v c fault.AckOutsideStop =
+    same_call_kind c.kind call.WdfRequestStopAcknowledge && (not (is_stop_of v (object_in c.a)) || v.acknowledged (object_in c.a))
+-- a reference is given up that isn't held
+call_faults v c fault.NoReferenceHeld = same_call_kind c.kind call.WdfObjectDereference && v.references (object_in c.a) == 0
+-- an object is deleted that isn't the driver's to delete
+call_faults v c fault.DeleteNotAllowed = same_call_kind c.kind call.WdfObjectDelete && is_never_deleted (v.kind (object_in c.a))
+-- a lock is acquired that this frame holds
+call_faults v c fault.LockHeldAlready = is_acquire c.kind && holds_lock v (object_lock (object_in c.a))
+-- a release of a lock that this frame didn't acquire by a call
+call_faults v c fault.LockNotHeld = is_release c.kind && not (v.by_call (object_lock (object_in c.a)))
+-- these two are no faults of calls
+call_faults v c fault.ReturnHoldingLock = false
+call_faults v c fault.HardwareReleased = false
+-- a call waits for what can't end before this frame does
+call_faults v c fault.SyncInOwnScope =
+    waits_for_others c && (v.frame.object.id.0 == object_in c.a || holds_if_any v (v.scope (object_in c.a)))
+-- a number or status argument is none, or too great
+call_faults v c fault.ScriptError = any_argument is_script_error c
+
+abbrev pub is_fault_of_return : Fault → Bool
+is_fault_of_return fault.ReturnHoldingLock = true
+is_fault_of_return _ = false
+
+abbrev pub is_fault_of_access : Fault → Bool
+is_fault_of_access fault.HardwareReleased = true
+is_fault_of_access _ = false
+
+abbrev pub is_script_fault : Fault → Bool
+is_script_fault fault.ScriptError = true
+is_script_fault _ = false
+
+-- whether a fault's row holds of what a frame is about to do
+abbrev pub holds_of : View → Intent → Fault → Bool
+holds_of v (intent.Do c) f = call_faults v c f
+-- the callback would end with a lock acquired by a call
+holds_of v (intent.Return value) f = is_fault_of_return f && nat_lt 0 v.held_by_call
+-- a register is accessed while its device has no hardware
+holds_of v (intent.Get register) f = is_fault_of_access f && not (v.hardware register)
+holds_of v (intent.Put register value) f = is_fault_of_access f && not (v.hardware register)
+holds_of v intent.Broken f = is_script_fault f
+holds_of v (intent.Local change next) f = false
+holds_of v (intent.Log value) f = false
+holds_of v (intent.Spend ticks) f = false
+
+-- the first row that holds
+abbrev pub fault_of : View → Intent → Option Fault
+fault_of v i = find (holds_of v i) FAULTS

@@ -1,0 +1,165 @@
+-- Posts of agents: which may come, what they answer, and what they do.
+use Rattle.std.specs.Prelude.{if◌then◌else◌, ℕ, ◌+◌, Bool, true, false, ◌==◌, nat_lt, not, ◌&&◌, ◌||◌, List, [], ◌∷◌, Option, Some, None, option_map, option_and_then, slice_get}
+use Rattle.wdf_base.specs.Meaning.{Meaning}
+use Rattle.wdf_base.specs.declared.plan.Plan.{Plan}
+use Rattle.wdf_base.specs.declared.ids.Handle.{Handle}
+use Rattle.wdf_base.specs.declared.value.Status.TheVariants as status
+use Rattle.wdf_base.specs.declared.object.Kind.TheVariants as kind
+use Rattle.wdf_base.specs.declared.object.Mark.TheVariants as mark
+use Rattle.wdf_base.specs.declared.object.Place.{Place}
+use Rattle.wdf_base.specs.declared.object.Place.TheVariants as place
+use Rattle.wdf_base.specs.declared.object.RequestForm.{RequestForm}
+use Rattle.wdf_base.specs.declared.object.RequestForm.TheVariants as form
+use Rattle.wdf_base.specs.declared.object.RequestInfo.{RequestInfo}
+use Rattle.wdf_base.specs.declared.declared.QueueInfo.{QueueInfo}
+use Rattle.wdf_base.specs.declared.event.Post.{Post}
+use Rattle.wdf_base.specs.declared.event.Post.TheVariants as post
+use Rattle.wdf_base.specs.Same.{same_handle, same_option, same_post}
+use Rattle.wdf_base.specs.Resolved.{is_handle, action_fits}
+use Rattle.wdf_model.specs.Tables.{entry}
+use Rattle.wdf_model.specs.Plans.{device_of_agent, target_of_agent, has_handler, is_app, is_manual_queue, queue_for, queue_of}
+use Rattle.wdf_model.specs.parts.Tree.{life_of, is_live, next_id}
+use Rattle.wdf_model.specs.parts.Requests.{arrival_of, arrived_count, is_closing, is_done, is_sent_to, place_of}
+use Rattle.wdf_model.specs.parts.Control.{accepts}
+use Rattle.wdf_model.specs.parts.Pnp.{busy}
+use Rattle.wdf_model.specs.parts.Targets.{is_undone}
+use Rattle.wdf_model.specs.State.{State, handle_in, is_proper}
+use Rattle.wdf_model.specs.rules.Deeds.{Deed, Arrive, Count_arrival, Withdraw, Cancel_request, Finish_sending, Ask_device}
+
+-- ---- arrivals
+
+-- own: the most requests that arrive in one run
+abbrev pub ARRIVALS : ℕ
+ARRIVALS = 4096
+
+abbrev pub is_data : RequestForm → Bool
+is_data form.Read = true
+is_data form.Write = true
+is_data form.Control = false
+
+-- a queue takes requests of no length
+abbrev pub takes_empty : Option QueueInfo → Bool
+takes_empty None = false
+takes_empty (Some q) = q.zero
+
+-- the place of a request that arrives for a queue: the first case that holds (KMDF)
+abbrev pub place_in_queue : {A : Type 0} → Plan → State A → RequestForm → ℕ → ℕ → Place
+place_in_queue plan S f length q =
+    if not (accepts S.control q) then place.Closing status.InvalidDeviceState
+    else if is_data f && length == 0 && not (takes_empty (queue_of plan q)) then place.Closing status.Success
+    else if not (is_manual_queue plan q || has_handler plan q f) then place.Closing status.InvalidDeviceRequest
+    else place.Queued (record { 0 = q })
+
+abbrev pub place_if_any : {A : Type 0} → Plan → State A → RequestForm → ℕ → Option ℕ → Place
+place_if_any plan S f length None = place.Closing status.InvalidDeviceRequest
+place_if_any plan S f length (Some q) = place_in_queue plan S f length q
+
+abbrev pub arrival_place : {A : Type 0} → Plan → State A → RequestForm → ℕ → ℕ → Place
+arrival_place plan S f length device = place_if_any plan S f length (queue_for plan device f)
+
+-- arrivals are numbered for each agent from 1
+abbrev pub arrival_info : {A : Type 0} → State A → ℕ → RequestForm → ℕ → ℕ → ℕ → RequestInfo
+arrival_info S agent f length code device = record {
+  device = record { 0 = device };
+  form = f;
+  length = length;
+  code = code;
+  origin = None;
+  agent = agent;
+  arrival = entry 0 S.arrivals agent + 1;
+  mark = mark.Unmarked;
+  cancelled = false;
+  received = false;
+}
+
+-- a request that arrives prints as `req`
+abbrev pub arriving : {A : Type 0} → State A → Handle
+arriving S = record { id = record { 0 = next_id S.tree }; name = 1 }
+
+-- a live device makes a request
+abbrev pub arrival_answer : {A : Type 0} → State A → ℕ → Option Handle
+arrival_answer S device = if is_live (life_of S.tree device) then Some (arriving S) else None
+
+abbrev pub arrival_deeds : {A : Type 0} → Plan → State A → ℕ → RequestForm → ℕ → ℕ → ℕ → List Deed
+arrival_deeds plan S agent f length code device =
+    Count_arrival agent
+    ∷ (if is_live (life_of S.tree device) then Arrive device (arrival_info S agent f length code device) (arrival_place plan S f length device) ∷ [] else [])
+
+-- ---- cancels
+
+-- a request that is completed, or is about to be, is out of reach
+abbrev pub in_reach : {A : Type 0} → State A → ℕ → Option ℕ
+in_reach S r = if is_done (place_of S.requests r) || is_closing (place_of S.requests r) then None else Some r
+
+-- the request that a cancel reaches: that of the agent's arrival with this number
+abbrev pub cancel_reaches : {A : Type 0} → State A → ℕ → ℕ → Option ℕ
+cancel_reaches S agent k = option_and_then (in_reach S) (arrival_of S.requests agent k)
+
+-- KMDF: a waiting request is cancelled in its queue; of another only the mark tells
+abbrev pub cancel_at : Place → ℕ → List Deed
+cancel_at (place.Queued q) r = Withdraw q.0 r ∷ []
+cancel_at _ r = Cancel_request r ∷ []
+
+abbrev pub cancel_deeds : {A : Type 0} → State A → Option ℕ → List Deed
+cancel_deeds S None = []
+cancel_deeds S (Some r) = cancel_at (place_of S.requests r) r
+
+-- ---- the tables
+
+-- what a post answers
+abbrev pub post_answer : {A : Type 0} → Plan → State A → ℕ → Post → Option Handle
+post_answer plan S agent (post.Read device length) = arrival_answer S device.id.0
+post_answer plan S agent (post.Write device length) = arrival_answer S device.id.0
+post_answer plan S agent (post.Control device code length) = arrival_answer S device.id.0
+post_answer plan S agent (post.Cancel k) = option_map (handle_in plan S) (cancel_reaches S agent k)
+post_answer plan S agent (post.Ask a device) = None
+post_answer plan S agent (post.Act action) = None
+post_answer plan S agent (post.Done request s) = None
+
+-- what it does
+abbrev pub post_deeds : {A : Type 0} → Plan → State A → ℕ → Post → List Deed
+-- KMDF: a request arrives
+post_deeds plan S agent (post.Read device length) = arrival_deeds plan S agent form.Read length 0 device.id.0
+-- KMDF: a request arrives
+post_deeds plan S agent (post.Write device length) = arrival_deeds plan S agent form.Write length 0 device.id.0
+-- KMDF: a request arrives
+post_deeds plan S agent (post.Control device code length) = arrival_deeds plan S agent form.Control length code device.id.0
+-- KMDF: it is cancelled
+post_deeds plan S agent (post.Cancel k) = cancel_deeds S (cancel_reaches S agent k)
+-- own: a list of steps begins
+post_deeds plan S agent (post.Ask a device) = Ask_device device.id.0 a ∷ []
+-- own: what a device does is its agent's
+post_deeds plan S agent (post.Act action) = []
+-- own: the target is done with it
+post_deeds plan S agent (post.Done request s) = Finish_sending request.id.0 s ∷ []
+
+abbrev pub may_arrive : {A : Type 0} → Plan → State A → ℕ → Handle → Bool
+may_arrive plan S agent device = is_app plan agent && is_handle plan kind.Device device && nat_lt (arrived_count S.requests) ARRIVALS
+
+-- this agent is the target to which the request is sent, and the request isn't done
+abbrev pub may_finish : {A : Type 0} → Plan → State A → Option ℕ → Handle → Bool
+may_finish plan S None request = false
+may_finish plan S (Some t) request = is_proper plan S request && is_sent_to t (place_of S.requests request.id.0) && is_undone S.targets request.id.0
+
+-- the form of a post fits its agent, and its names are the plan's
+abbrev pub post_fits : {A : Type 0} → Plan → State A → ℕ → Post → Bool
+-- own: an app posts requests and cancels
+post_fits plan S agent (post.Read device length) = may_arrive plan S agent device
+post_fits plan S agent (post.Write device length) = may_arrive plan S agent device
+post_fits plan S agent (post.Control device code length) = may_arrive plan S agent device
+post_fits plan S agent (post.Cancel k) = is_app plan agent
+-- own: the Plug and Play manager asks while the device has no step left and no running device callback
+post_fits plan S agent (post.Ask a device) = agent == 0 && is_handle plan kind.Device device && not (busy S.pnp device.id.0)
+-- own: a device acts on its own registers and lines
+post_fits plan S agent (post.Act action) = action_fits plan (device_of_agent plan agent) action
+-- own: a target is done with what is sent to it
+post_fits plan S agent (post.Done request s) = may_finish plan S (target_of_agent plan agent) request
+
+-- the post that is due for an agent
+abbrev pub due_of : {A : Type 0} → Meaning A → State A → ℕ → Option Post
+due_of m S agent = option_and_then m.due (slice_get S.agents agent)
+
+-- a post may come: it is due, it fits, and its answer is the right one
+abbrev pub may_post : {A : Type 0} → Plan → Meaning A → State A → ℕ → Post → Option Handle → Bool
+may_post plan m S agent p answer =
+    same_option same_post (due_of m S agent) (Some p) && post_fits plan S agent p && same_option same_handle (post_answer plan S agent p) answer

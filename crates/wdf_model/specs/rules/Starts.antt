@@ -1,0 +1,325 @@
+-- Starts of callbacks, steps of sequences, cleanups and ends: when each may come, and what it does.
+-- (KMDF, but for what is marked own)
+use Rattle.std.specs.Prelude.{if◌then◌else◌, ℕ, ◌+◌, Bool, true, false, ◌==◌, nat_lt, not, ◌&&◌, ◌||◌, List, [], ◌∷◌, ◌++◌, length, map, filter, replicate, Option, Some, None, is_some, unwrap_or, slice_get, option_map}
+use Rattle.std.specs.List.{list_any, list_all, flat_map}
+use Rattle.wdf_base.specs.Meaning.{Meaning}
+use Rattle.wdf_base.specs.declared.plan.Plan.{Plan}
+use Rattle.wdf_base.specs.declared.ids.Handle.{Handle}
+use Rattle.wdf_base.specs.declared.value.Value.{Value}
+use Rattle.wdf_base.specs.declared.value.Value.TheVariants.{Num}
+use Rattle.wdf_base.specs.declared.value.Status.{Status}
+use Rattle.wdf_base.specs.declared.value.Status.TheVariants as status
+use Rattle.wdf_base.specs.declared.object.Kind.TheVariants as kind
+use Rattle.wdf_base.specs.declared.object.LockRef.{LockRef}
+use Rattle.wdf_base.specs.declared.call.Callback.{Callback}
+use Rattle.wdf_base.specs.declared.call.Callback.TheVariants as callback
+use Rattle.wdf_base.specs.declared.rank.Rank.{Rank}
+use Rattle.wdf_base.specs.declared.rank.Rank.TheVariants as rank
+use Rattle.wdf_base.specs.declared.event.Stage.{Stage}
+use Rattle.wdf_base.specs.declared.event.Stage.TheVariants as stage
+use Rattle.wdf_base.specs.declared.event.Step.{Step}
+use Rattle.wdf_base.specs.declared.event.Step.TheVariants as step
+use Rattle.wdf_base.specs.declared.frame.Frame.{Frame}
+use Rattle.wdf_base.specs.Callbacks.{row_of}
+use Rattle.wdf_base.specs.Same.{same_callback, same_kind, same_step, same_option}
+use Rattle.wdf_model.specs.Plans.{agent_of_device, callback_irql, handler_for, interrupt_of, interrupts_of, is_managed, is_manual_queue, is_target_of, managed_queues, period_of, queues_of, target_of, declared_ids}
+use Rattle.wdf_model.specs.parts.Tree.{class_of, kind_of, life_of, is_live, is_asked, is_cleaned, may_clean, may_destroy, nearest_device, started}
+use Rattle.wdf_model.specs.parts.Cpus.{irql, is_empty_cpu, is_running, nobody_on}
+use Rattle.wdf_model.specs.parts.Locks.{is_free_if_any, is_free_lock, lock_of_callback, object_lock}
+use Rattle.wdf_model.specs.parts.Requests.{Request, info_of, place_of, mark_of, is_done, is_due, is_returning_to, is_sent, is_sent_to, has_arrived}
+use Rattle.wdf_model.specs.parts.Queues.{front, is_free}
+use Rattle.wdf_model.specs.parts.Control.{notify_due}
+use Rattle.wdf_model.specs.parts.Power.{any_resume_due, resume_due, stop_was_asked, unsettled}
+use Rattle.wdf_model.specs.parts.Pnp.{follows_queues_up, is_running_step, next_step}
+use Rattle.wdf_model.specs.parts.Interrupts.{isr_due}
+use Rattle.wdf_model.specs.parts.Deferred.Dpcs.{dpc_head, is_dpc_queued}
+use Rattle.wdf_model.specs.parts.Deferred.WorkItems.{is_work_queued}
+use Rattle.wdf_model.specs.parts.Deferred.Timers.{timer_due}
+use Rattle.wdf_model.specs.parts.Targets.{routine_due}
+use Rattle.wdf_model.specs.State.{State, declared_in, declares_in, handle_in, is_held_from, is_locked, is_waited_for, nothing_at, queue_delivers, same_id, script_in}
+use Rattle.wdf_model.specs.rules.Deeds.{Deed, Ask_deletion, Note, Push_frame, Pop_frame, Take_lock, Release_lock, Present, Receive, Take_cancel, Come_back, Purge_queue, Close_returning, Shut_device, Notify_queue, Advance_power, Ask_stop, Resume, Take_step, End_step, Enable_interrupt, Disable_interrupt, Take_dpc, Cancel_work, Fire_timer}
+
+-- ---- what agents show
+
+abbrev pub value_of_agent : {A : Type 0} → Meaning A → Option A → ℕ → ℕ
+value_of_agent m None what = 0
+value_of_agent m (Some a) what = m.value a what
+
+-- a register, or an interrupt's line, as the agent of its device shows it
+abbrev pub shown : {A : Type 0} → Plan → Meaning A → State A → ℕ → ℕ → ℕ
+shown plan m S device what = value_of_agent m (slice_get S.agents (agent_of_device plan device)) what
+
+-- the number by which an agent shows an interrupt's line
+abbrev pub line_number : ℕ → ℕ
+line_number i = 64 + i
+
+abbrev pub device_of_interrupt : Plan → ℕ → ℕ
+device_of_interrupt plan i = unwrap_or (option_map (λ x. x.device.0) (interrupt_of plan i)) 0
+
+abbrev pub line_is_up : {A : Type 0} → Plan → Meaning A → State A → ℕ → Bool
+line_is_up plan m S i = shown plan m S (device_of_interrupt plan i) (line_number i) == 1
+
+-- ---- cleanup and end of an object
+
+-- no frame runs on the object, holds it or waits for it
+abbrev pub is_unused : {A : Type 0} → State A → ℕ → Bool
+is_unused S o = nobody_on S.cpus o && not (is_locked S o) && not (is_waited_for S o)
+
+-- an arrived request is completed, a made one isn't sent
+abbrev pub is_finished : {A : Type 0} → State A → ℕ → Bool
+is_finished S o =
+    (not (same_kind (kind_of S.tree o) kind.Request) || is_done (place_of S.requests o)) && (not (same_kind (kind_of S.tree o) kind.Made) || not (is_sent (place_of S.requests o)))
+
+-- the conditions of a cleanup
+abbrev pub clean_ready : {A : Type 0} → State A → ℕ → Bool
+clean_ready S o = may_clean S.tree o && is_unused S o && is_finished S o && nothing_at S o
+
+-- the conditions of an end
+abbrev pub destroy_ready : {A : Type 0} → State A → ℕ → Bool
+destroy_ready S o = may_destroy S.tree o && nobody_on S.cpus o
+
+-- a callback that is declared comes first, once
+abbrev pub callback_over : {A : Type 0} → Plan → State A → Callback → ℕ → Bool
+callback_over plan S c o = not (declares_in plan S c o) || started S.tree o c
+
+-- ---- steps of sequences
+
+-- the wait of the step behind `queues_up`: no resume is due, and no EvtIoResume runs
+abbrev pub resumes_over : {A : Type 0} → State A → ℕ → Bool
+resumes_over S d = not (any_resume_due S.power d) && not (is_running S.cpus callback.EvtIoResume d)
+
+-- a step may come: the callback before it has ended, and it waits for resumes where it must
+abbrev pub step_ready : {A : Type 0} → State A → ℕ → Step → Bool
+step_ready S d s =
+    same_option same_step (next_step S.pnp d) (Some s) && not (is_running_step S.pnp d)
+    && (not (follows_queues_up S.pnp d) || resumes_over S d)
+
+-- no EvtInterruptDpc of the device is queued or runs
+abbrev pub is_quiet : {A : Type 0} → Plan → State A → ℕ → Bool
+is_quiet plan S d =
+    list_all (λ i. not (is_dpc_queued S.dpcs i)) (interrupts_of plan d) && not (is_running S.cpus callback.EvtInterruptDpc d)
+
+-- each request that is held from the device's power-managed queues is acknowledged, and no frame runs on one
+abbrev pub is_settled : {A : Type 0} → Plan → State A → ℕ → Bool
+is_settled plan S d = length (unsettled S.power d) == 0 && list_all (nobody_on S.cpus) (managed_queues plan d)
+
+-- an arrived request of a device that isn't done
+abbrev pub is_unfinished_at : ℕ → Request → Bool
+is_unfinished_at d r = has_arrived r && r.info.device.0 == d && not (is_done r.place)
+
+abbrev pub targets_at : Plan → ℕ → List ℕ
+targets_at plan d = filter (λ t. is_target_of d (target_of plan t)) (declared_ids plan)
+
+-- all arrived requests of the device are done, and nothing is sent to its targets
+abbrev pub is_drained : {A : Type 0} → Plan → State A → ℕ → Bool
+is_drained plan S d = not (list_any (is_unfinished_at d) S.requests.all) && list_all (nothing_at S) (targets_at plan d)
+
+abbrev pub handle_id : Option Handle → ℕ
+handle_id None = 0
+handle_id (Some h) = h.id.0
+
+-- what a stage waits for
+abbrev pub stage_ready : {A : Type 0} → Plan → State A → ℕ → Stage → Option Handle → Bool
+-- own: the driver has acknowledged what it holds, and no callback of a power-managed queue runs
+stage_ready plan S d stage.Settled i = is_settled plan S d
+-- own: the interrupt's lock is free
+stage_ready plan S d stage.Disabled i = is_free_lock S.locks (object_lock (handle_id i))
+-- own: the device's EvtInterruptDpc is over
+stage_ready plan S d stage.Quiet i = is_quiet plan S d
+-- own: its requests are done
+stage_ready plan S d stage.Removed i = is_drained plan S d
+stage_ready plan S d _ i = true
+
+-- a stage may be passed
+abbrev pub may_pass : {A : Type 0} → Plan → State A → ℕ → Stage → Option Handle → Bool
+may_pass plan S d s i = step_ready S d (step.Pass s i) && stage_ready plan S d s i
+
+-- a queue of a closed device is Purged, and nothing returns from it
+abbrev pub close_queue : ℕ → List Deed
+close_queue q = Purge_queue q ∷ Close_returning q ∷ []
+
+-- what a stage does beside power and phase
+abbrev pub stage_effect : Plan → ℕ → Stage → Option Handle → List Deed
+-- own: the interrupt is put on the list of enabled ones
+stage_effect plan d stage.Enabled i = Enable_interrupt (handle_id i) ∷ []
+-- own: and taken off it
+stage_effect plan d stage.Disabled i = Disable_interrupt (handle_id i) ∷ []
+-- own: what returns from a power-managed queue is to be completed with CANCELLED
+stage_effect plan d stage.QueuesDown i = map Close_returning (managed_queues plan d)
+-- own: the device's queues are Purged for good, and what waits in them or returns is to be completed with CANCELLED
+stage_effect plan d stage.Closed i = Shut_device d ∷ flat_map close_queue (queues_of plan d)
+-- own: the device's deletion is asked
+stage_effect plan d stage.Removed i = Ask_deletion d ∷ []
+stage_effect plan d _ i = []
+
+abbrev pub stage_deeds : Plan → ℕ → Stage → Option Handle → List Deed
+stage_deeds plan d s i = Take_step d ∷ Advance_power d (step.Pass s i) ∷ stage_effect plan d s i
+
+-- ---- starts
+
+-- the interrupt of a step's callback, none where the device itself is its object
+abbrev pub interrupt_of_step : {A : Type 0} → Plan → State A → ℕ → Option Handle
+interrupt_of_step plan S o = if is_some (interrupt_of plan o) then Some (handle_in plan S o) else None
+
+-- a callback as the step that it is
+abbrev pub step_of : {A : Type 0} → Plan → State A → Callback → ℕ → Step
+step_of plan S c o = step.Run c (interrupt_of_step plan S o)
+
+-- the requests of EvtIoStop: held from a power-managed queue, once each, between `queues_down` and `settled`
+abbrev pub stop_is_due : {A : Type 0} → Plan → State A → ℕ → ℕ → Bool
+stop_is_due plan S q r =
+    is_managed plan q && is_held_from S q r && not (stop_was_asked S.power r)
+    && same_option same_step (next_step S.pnp (nearest_device S.tree q)) (Some (step.Pass stage.Settled None))
+
+-- the front request is presented by its handler
+abbrev pub presents : {A : Type 0} → Plan → State A → Callback → ℕ → ℕ → Bool
+presents plan S c q r =
+    not (is_manual_queue plan q) && queue_delivers plan S q && is_free S.queues q
+    && same_id (front S.queues q) r && same_option same_callback (handler_for plan q (info_of S.requests r).form) (Some c)
+
+-- when the callbacks of a rank start that are for a request
+abbrev pub rank_ready_for : {A : Type 0} → Plan → State A → Rank → Callback → ℕ → ℕ → Bool
+-- own: a sent request is done, and wasn't forgotten
+rank_ready_for plan S rank.Completion c o r = is_sent_to o (place_of S.requests r) && is_some (routine_due S.targets r)
+-- KMDF: the request's mark is due, on the queue that it came from
+rank_ready_for plan S rank.Cancel c o r = is_due (mark_of S.requests r) && is_held_from S o r
+-- KMDF: the request returns from the queue
+rank_ready_for plan S rank.CanceledOnQueue c o r = is_returning_to o (place_of S.requests r)
+-- KMDF: the request is held while its queue loses power
+rank_ready_for plan S rank.Stop c o r = stop_is_due plan S o r
+-- KMDF: a resume is due for the held request
+rank_ready_for plan S rank.Resume c o r = resume_due S.power r && is_held_from S o r
+-- KMDF: the queue presents its front request
+rank_ready_for plan S rank.Handler c o r = presents plan S c o r
+rank_ready_for plan S _ c o r = false
+
+-- when the other callbacks of a rank start
+abbrev pub rank_ready : {A : Type 0} → Plan → Meaning A → State A → Rank → ℕ → Callback → ℕ → Bool
+-- KMDF: the interrupt's line is 1, and it is enabled
+rank_ready plan m S rank.Isr cpu c o = isr_due S.interrupts o (line_is_up plan m S o)
+-- KMDF: it is the first in this processor's list
+rank_ready plan m S rank.Deferred cpu c o = same_id (dpc_head S.dpcs cpu) o
+-- KMDF: its tick is reached, and no frame runs on it
+rank_ready plan m S rank.Timed cpu c o = timer_due S.timers o S.clock && nobody_on S.cpus o
+-- KMDF: notification is due, and the queue delivers
+rank_ready plan m S rank.QueueState cpu c o = notify_due S.control o && queue_delivers plan S o
+-- own: it is the next step of its device
+rank_ready plan m S rank.Sequence cpu c o = step_ready S (nearest_device S.tree o) (step_of plan S c o)
+-- KMDF: it is queued, and no frame runs on it
+rank_ready plan m S rank.Work cpu c o = is_work_queued S.work_items o && nobody_on S.cpus o
+-- KMDF: the conditions of the cleanup, or of the end, hold, and it hasn't started
+rank_ready plan m S rank.Cleanup cpu c o = clean_ready S o && not (started S.tree o c)
+rank_ready plan m S rank.Destroy cpu c o = destroy_ready S o && not (started S.tree o c)
+rank_ready plan m S _ cpu c o = false
+
+abbrev pub is_ready_for : {A : Type 0} → Plan → Meaning A → State A → ℕ → Callback → ℕ → Option Handle → Bool
+is_ready_for plan m S cpu c o None = rank_ready plan m S (row_of c).rank cpu c o
+is_ready_for plan m S cpu c o (Some r) = rank_ready_for plan S (row_of c).rank c o r.id.0
+
+-- no callback starts on an object that isn't live, but for the cleanup and the destroy callback
+abbrev pub life_fits : {A : Type 0} → State A → Callback → ℕ → Bool
+life_fits S callback.EvtCleanupCallback o = is_asked (life_of S.tree o)
+life_fits S callback.EvtDestroyCallback o = is_cleaned (life_of S.tree o)
+life_fits S _ o = is_live (life_of S.tree o)
+
+-- a callback of level 0 starts on an empty processor, a higher one on a processor whose level is lower
+abbrev pub level_fits : {A : Type 0} → State A → ℕ → ℕ → Bool
+level_fits S cpu level = if level == 0 then is_empty_cpu S.cpus cpu else nat_lt (irql S.cpus cpu) level
+
+-- a callback may start on an object, with a request where it is for one
+abbrev pub may_start : {A : Type 0} → Plan → Meaning A → State A → ℕ → Callback → ℕ → Option Handle → Bool
+may_start plan m S cpu c o r =
+    declares_in plan S c o && life_fits S c o && level_fits S cpu (callback_irql plan c o)
+    && is_free_if_any S.locks (lock_of_callback plan c o (declared_in plan S o))
+    && is_ready_for plan m S cpu c o r
+
+-- what a start does of its rank's own, for a request
+abbrev pub effect_for : Rank → ℕ → ℕ → List Deed
+-- own: it is owned again
+effect_for rank.Completion o r = Come_back r ∷ []
+-- KMDF: its cancel is taken
+effect_for rank.Cancel o r = Take_cancel r ∷ []
+-- KMDF: it is owned
+effect_for rank.CanceledOnQueue o r = Receive o r ∷ []
+-- KMDF: once
+effect_for rank.Stop o r = Ask_stop r ∷ []
+-- KMDF: once
+effect_for rank.Resume o r = Resume r ∷ []
+-- KMDF: it is owned
+effect_for rank.Handler o r = Present o r ∷ []
+effect_for _ o r = []
+
+-- what it does without one
+abbrev pub effect : {A : Type 0} → Plan → State A → Rank → ℕ → Callback → ℕ → List Deed
+-- KMDF: it leaves its list
+effect plan S rank.Deferred cpu c o = Take_dpc cpu ∷ []
+-- KMDF: it leaves its queue, or is due a period later
+effect plan S rank.Timed cpu c o = Fire_timer o (period_of plan (class_of S.tree o)) ∷ []
+-- KMDF: notification is due no more
+effect plan S rank.QueueState cpu c o = Notify_queue o ∷ []
+-- own: the step is taken
+effect plan S rank.Sequence cpu c o = Take_step (nearest_device S.tree o) ∷ []
+-- KMDF: it leaves its queue
+effect plan S rank.Work cpu c o = Cancel_work o ∷ []
+-- KMDF: once
+effect plan S rank.Cleanup cpu c o = Note o c ∷ []
+-- KMDF: once
+effect plan S rank.Destroy cpu c o = Note o c ∷ []
+effect plan S _ cpu c o = []
+
+abbrev pub start_effect : {A : Type 0} → Plan → State A → ℕ → Callback → ℕ → Option Handle → List Deed
+start_effect plan S cpu c o None = effect plan S (row_of c).rank cpu c o
+start_effect plan S cpu c o (Some r) = effect_for (row_of c).rank o r.id.0
+
+-- the completion status that the callback sees: that of the request in EvtRequestCompletion, else SUCCESS
+abbrev pub status_for : {A : Type 0} → State A → Callback → ℕ → Status
+status_for S callback.EvtRequestCompletion r = unwrap_or (routine_due S.targets r) status.Success
+status_for S _ r = status.Success
+
+-- the number of the event that comes next, which is that of the frame that it begins
+abbrev pub next_number : {A : Type 0} → State A → ℕ
+next_number S = S.number + 1
+
+-- the frame that a start begins; variables start as 0
+abbrev pub new_frame : {A : Type 0} → Plan → State A → Callback → Handle → Option Handle → Frame
+new_frame plan S c o r = record {
+  callback = c;
+  object = o;
+  device = handle_in plan S (nearest_device S.tree o.id.0);
+  request = r;
+  length = (info_of S.requests (handle_id r)).length;
+  code = (info_of S.requests (handle_id r)).code;
+  status = status_for S c (handle_id r);
+  script = unwrap_or (script_in plan S c o.id.0) 0;
+  at = 0;
+  variables = replicate 16 (Num 0);
+  counters = replicate 16 0;
+  until = 0;
+  pending = None;
+}
+
+abbrev pub take_if_any : ℕ → Option LockRef → List Deed
+take_if_any f None = []
+take_if_any f (Some l) = Take_lock l f false ∷ []
+
+abbrev pub release_if_any : Option LockRef → List Deed
+release_if_any None = []
+release_if_any (Some l) = Release_lock l ∷ []
+
+abbrev pub start_deeds : {A : Type 0} → Plan → State A → ℕ → Callback → Handle → Option Handle → List Deed
+start_deeds plan S cpu c o r =
+    start_effect plan S cpu c o.id.0 r
+    ++ Push_frame cpu (next_number S) (new_frame plan S c o r) (callback_irql plan c o.id.0)
+    ∷ take_if_any (next_number S) (lock_of_callback plan c o.id.0 (declared_in plan S o.id.0))
+
+-- ---- ends
+
+-- a step of a sequence tells its result
+abbrev pub end_of_step : {A : Type 0} → Plan → State A → Rank → Callback → ℕ → Value → List Deed
+end_of_step plan S rank.Sequence c o v = End_step (nearest_device S.tree o) (step_of plan S c o) v ∷ []
+end_of_step plan S _ c o v = []
+
+-- the frame and its lock are gone
+abbrev pub end_deeds : {A : Type 0} → Plan → State A → ℕ → Callback → ℕ → Value → List Deed
+end_deeds plan S cpu c o v =
+    release_if_any (lock_of_callback plan c o (declared_in plan S o)) ++ Pop_frame cpu ∷ end_of_step plan S (row_of c).rank c o v

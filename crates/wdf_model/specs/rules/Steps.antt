@@ -1,0 +1,277 @@
+-- The machine: a frame's own event, what may come in a state, and the state after an event.
+use Rattle.std.specs.Prelude.{if◌then◌else◌, ℕ, ◌+◌, Bool, true, false, ◌==◌, nat_lt, not, ◌&&◌, List, [], ◌∷◌, ◌++◌, slice_set, Option, Some, None}
+use Rattle.wdf_base.specs.Meaning.{Meaning}
+use Rattle.wdf_base.specs.declared.plan.Plan.{Plan}
+use Rattle.wdf_base.specs.declared.ids.Handle.{Handle}
+use Rattle.wdf_base.specs.declared.ids.Cpu.{Cpu}
+use Rattle.wdf_base.specs.declared.value.Value.{Value}
+use Rattle.wdf_base.specs.declared.value.Value.TheVariants.{Num}
+use Rattle.wdf_base.specs.declared.value.Status.{Status}
+use Rattle.wdf_base.specs.declared.object.Place.{Place}
+use Rattle.wdf_base.specs.declared.object.Place.TheVariants as place
+use Rattle.wdf_base.specs.declared.call.Call.{Call}
+use Rattle.wdf_base.specs.declared.call.Callback.TheVariants as callback
+use Rattle.wdf_base.specs.declared.event.Access.TheVariants as access
+use Rattle.wdf_base.specs.declared.event.Fault.{Fault}
+use Rattle.wdf_base.specs.declared.event.Fault.TheVariants as fault
+use Rattle.wdf_base.specs.declared.event.Event.{Event}
+use Rattle.wdf_base.specs.declared.event.Event.TheVariants as event
+use Rattle.wdf_base.specs.declared.frame.Frame.{Frame}
+use Rattle.wdf_base.specs.declared.frame.Pending.{Pending}
+use Rattle.wdf_base.specs.declared.frame.Change.{Change}
+use Rattle.wdf_base.specs.declared.frame.Change.TheVariants as change
+use Rattle.wdf_base.specs.declared.frame.Intent.{Intent}
+use Rattle.wdf_base.specs.declared.frame.Intent.TheVariants as intent
+use Rattle.wdf_base.specs.declared.script.Act.{Act}
+use Rattle.wdf_base.specs.declared.script.Act.TheVariants as act
+use Rattle.wdf_base.specs.declared.script.Statement.{Statement}
+use Rattle.wdf_base.specs.Same.{same_event, same_option, same_status}
+use Rattle.wdf_model.specs.Tables.{contains}
+use Rattle.wdf_model.specs.Plans.{device_of_register, interrupt_level}
+use Rattle.wdf_model.specs.parts.Tree.{kind_of, life_of, references_of}
+use Rattle.wdf_model.specs.parts.Cpus.{frame_of, irql, is_empty_cpu, top}
+use Rattle.wdf_model.specs.parts.Locks.{held_by_call, holder, holds_by_call, scope_of_object}
+use Rattle.wdf_model.specs.parts.Requests.{mark_of, origin_of, place_of}
+use Rattle.wdf_model.specs.parts.Power.{acknowledged, has_hardware}
+use Rattle.wdf_model.specs.rules.Script.{intent_of, line_of, statement_at}
+use Rattle.wdf_model.specs.State.{State, declared_in, is_proper, is_with_driver, same_id}
+use Rattle.wdf_model.specs.rules.Deeds.{Deed, do_deeds, counted, Go_on, Park_frame, Unpark_frame, Complete_request, Clean_up, End_life, Pass_tick}
+use Rattle.wdf_model.specs.rules.Faults.{View, fault_of}
+use Rattle.wdf_model.specs.rules.Calls.{Outcome, outcome, is_met, second_deeds}
+use Rattle.wdf_model.specs.rules.Starts.{callback_over, clean_ready, destroy_ready, end_deeds, may_pass, may_start, shown, stage_deeds, start_deeds}
+use Rattle.wdf_model.specs.rules.Posts.{may_post, post_deeds}
+
+-- ---- a frame's own event
+
+-- what a frame on a processor sees of the state
+abbrev pub view_of : {A : Type 0} → Plan → State A → ℕ → ℕ → View
+view_of plan S cpu f = record {
+  frame = frame_of S.cpus f;
+  number = f;
+  irql = irql S.cpus cpu;
+  life = life_of S.tree;
+  kind = kind_of S.tree;
+  references = references_of S.tree;
+  level_of = interrupt_level plan;
+  scope = λ o. scope_of_object plan o (declared_in plan S o);
+  place = place_of S.requests;
+  origin = origin_of S.requests;
+  mark = mark_of S.requests;
+  held = is_with_driver S;
+  acknowledged = acknowledged S.power;
+  holder = holder S.locks;
+  by_call = holds_by_call S.locks f;
+  held_by_call = held_by_call S.locks f;
+  hardware = λ k. has_hardware S.power (device_of_register plan k);
+}
+
+abbrev pub cpu_of : ℕ → Cpu
+cpu_of cpu = record { 0 = cpu }
+
+-- a call without a fault is answered, or waits where its condition isn't met after its first part
+abbrev pub call_event : {A : Type 0} → Plan → State A → ℕ → Call → Outcome → Event
+call_event plan S cpu c o =
+    if is_met (do_deeds plan o.deeds S) c then event.Did (cpu_of cpu) c o.answer else event.Waiting (cpu_of cpu) c
+
+-- the event of an intent without a fault
+abbrev pub intent_event : {A : Type 0} → Plan → Meaning A → State A → ℕ → ℕ → Frame → Intent → Event
+intent_event plan m S cpu f frame (intent.Local change next) = event.Local (cpu_of cpu) (line_of plan frame)
+intent_event plan m S cpu f frame (intent.Log v) = event.Log (cpu_of cpu) v
+intent_event plan m S cpu f frame (intent.Spend n) = event.Spend (cpu_of cpu) n
+intent_event plan m S cpu f frame (intent.Get k) = event.Register (cpu_of cpu) access.Read k (shown plan m S (device_of_register plan k) k)
+intent_event plan m S cpu f frame (intent.Put k v) = event.Register (cpu_of cpu) access.Write k v
+intent_event plan m S cpu f frame (intent.Do c) = call_event plan S cpu c (outcome plan S cpu f c)
+intent_event plan m S cpu f frame (intent.Return v) = event.End (cpu_of cpu) frame.callback frame.object v
+intent_event plan m S cpu f frame intent.Broken = event.Fault (cpu_of cpu) fault.ScriptError (line_of plan frame)
+
+-- a fault comes in place of what the frame is about to do
+abbrev pub fault_event : {A : Type 0} → Plan → Meaning A → State A → ℕ → ℕ → Frame → Intent → Option Fault → Event
+fault_event plan m S cpu f frame i (Some x) = event.Fault (cpu_of cpu) x (line_of plan frame)
+fault_event plan m S cpu f frame i None = intent_event plan m S cpu f frame i
+
+abbrev pub next_event : {A : Type 0} → Plan → Meaning A → State A → ℕ → ℕ → Frame → Intent → Event
+next_event plan m S cpu f frame i = fault_event plan m S cpu f frame i (fault_of (view_of plan S cpu f) i)
+
+-- a frame that waits wakes where its condition is met
+abbrev pub woken_event : {A : Type 0} → State A → ℕ → Pending → Option Event
+woken_event S cpu p = if is_met S p.call then Some (event.Woke (cpu_of cpu) p.call p.answer) else None
+
+abbrev pub event_of_frame : {A : Type 0} → Plan → Meaning A → State A → ℕ → ℕ → Frame → Option Pending → Option Event
+event_of_frame plan m S cpu f frame (Some p) = woken_event S cpu p
+event_of_frame plan m S cpu f frame None = Some (next_event plan m S cpu f frame (intent_of plan frame))
+
+-- a frame spends while its tick is later than the clock
+abbrev pub spends : {A : Type 0} → State A → Frame → Bool
+spends S frame = nat_lt S.clock frame.until
+
+abbrev pub event_of_top : {A : Type 0} → Plan → Meaning A → State A → ℕ → Option ℕ → Option Event
+event_of_top plan m S cpu None = None
+event_of_top plan m S cpu (Some f) =
+    if spends S (frame_of S.cpus f) then None else event_of_frame plan m S cpu f (frame_of S.cpus f) (frame_of S.cpus f).pending
+
+-- the one event of a processor's top frame, beside leaving the processor: none where the frame spends, or waits in vain
+abbrev pub own_event : {A : Type 0} → Plan → Meaning A → State A → ℕ → Option Event
+own_event plan m S cpu = event_of_top plan m S cpu (top S.cpus cpu)
+
+-- ---- parking
+
+-- a wait that isn't over
+abbrev pub waits_on : {A : Type 0} → State A → Option Pending → Bool
+waits_on S None = false
+waits_on S (Some p) = not (is_met S p.call)
+
+-- a wait that is over
+abbrev pub wait_is_over : {A : Type 0} → State A → Option Pending → Bool
+wait_is_over S None = false
+wait_is_over S (Some p) = is_met S p.call
+
+-- own: a frame that waits at PASSIVE_LEVEL leaves its processor
+abbrev pub may_park : {A : Type 0} → State A → ℕ → ℕ → Bool
+may_park S cpu f = same_id (top S.cpus cpu) f && irql S.cpus cpu == 0 && waits_on S (frame_of S.cpus f).pending
+
+-- own: and comes back to an empty one when its wait is over
+abbrev pub may_unpark : {A : Type 0} → State A → ℕ → ℕ → Bool
+may_unpark S cpu f = contains f S.cpus.parked && is_empty_cpu S.cpus cpu && wait_is_over S (frame_of S.cpus f).pending
+
+-- ---- what may come: one row for each kind of event
+
+abbrev pub is_own_event : {A : Type 0} → Plan → Meaning A → State A → Cpu → Event → Bool
+is_own_event plan m S cpu e = same_option same_event (own_event plan m S cpu.0) (Some e)
+
+abbrev pub is_closing_with : Place → Status → Bool
+is_closing_with (place.Closing s) t = same_status s t
+is_closing_with _ t = false
+
+abbrev pub is_proper_if_any : {A : Type 0} → Plan → State A → Option Handle → Bool
+is_proper_if_any plan S None = true
+is_proper_if_any plan S (Some h) = is_proper plan S h
+
+abbrev pub may : {A : Type 0} → Plan → Meaning A → State A → Event → Bool
+-- a callback starts by its row of the table of callbacks
+may plan m S (event.Start cpu c o r) = is_proper plan S o && is_proper_if_any plan S r && may_start plan m S cpu.0 c o.id.0 r
+-- a frame's event is the one of its statement, its fault, its end or its waking
+may plan m S (event.Local cpu line) = is_own_event plan m S cpu (event.Local cpu line)
+may plan m S (event.Log cpu v) = is_own_event plan m S cpu (event.Log cpu v)
+may plan m S (event.Spend cpu n) = is_own_event plan m S cpu (event.Spend cpu n)
+may plan m S (event.Register cpu a k v) = is_own_event plan m S cpu (event.Register cpu a k v)
+may plan m S (event.Did cpu c v) = is_own_event plan m S cpu (event.Did cpu c v)
+may plan m S (event.Waiting cpu c) = is_own_event plan m S cpu (event.Waiting cpu c)
+may plan m S (event.Woke cpu c v) = is_own_event plan m S cpu (event.Woke cpu c v)
+may plan m S (event.End cpu c o v) = is_own_event plan m S cpu (event.End cpu c o v)
+may plan m S (event.Fault cpu x line) = is_own_event plan m S cpu (event.Fault cpu x line)
+-- own: a frame leaves its processor, and comes back
+may plan m S (event.Park cpu f) = may_park S cpu.0 f.0
+may plan m S (event.Unpark cpu f) = may_unpark S cpu.0 f.0
+-- a stage is the device's next step, and its wait is over
+may plan m S (event.Stage d s i) = is_proper plan S d && may_pass plan S d.id.0 s i
+-- the framework completes what is Closing, with its status
+may plan m S (event.Complete r s) = is_proper plan S r && is_closing_with (place_of S.requests r.id.0) s
+-- a cleanup and an end come by the rules of the tree, behind their callbacks
+may plan m S (event.Cleanup o) = is_proper plan S o && clean_ready S o.id.0 && callback_over plan S callback.EvtCleanupCallback o.id.0
+may plan m S (event.Destroy o) = is_proper plan S o && destroy_ready S o.id.0 && callback_over plan S callback.EvtDestroyCallback o.id.0
+may plan m S (event.Posted agent p answer) = may_post plan m S agent p answer
+-- own: time passes where nothing else may come
+may plan m S (event.Tick time) = false
+
+-- ---- the state after an event: one row for each kind of event
+
+-- a frame at the statement that follows
+abbrev pub at_next : Frame → Option Statement → Frame
+at_next frame None = frame
+at_next frame (Some s) = record frame { at = s.next }
+
+abbrev pub goes_on : Plan → Frame → Frame
+goes_on plan frame = at_next frame (statement_at plan frame)
+
+abbrev pub with_variable : Frame → ℕ → Value → Frame
+with_variable frame variable v = record frame { variables = slice_set frame.variables variable v }
+
+abbrev pub with_answer : Frame → Option ℕ → Value → Frame
+with_answer frame None v = frame
+with_answer frame (Some variable) v = with_variable frame variable v
+
+-- the variable that gets the answer of a statement, if any
+abbrev pub result_of_act : Act → Option ℕ
+result_of_act (act.Call k into a b c) = into
+result_of_act (act.Get variable register) = Some variable
+result_of_act _ = None
+
+abbrev pub result_of : Option Statement → Option ℕ
+result_of None = None
+result_of (Some s) = result_of_act s.act
+
+-- a frame whose statement is answered goes on
+abbrev pub answered : Plan → Frame → Value → Frame
+answered plan frame v = record (with_answer (goes_on plan frame) (result_of (statement_at plan frame)) v) { pending = None }
+
+abbrev pub changed : Frame → Change → Frame
+changed frame (change.Assign variable v) = with_variable frame variable v
+changed frame change.Branch = frame
+changed frame (change.Count depth left) = record frame { counters = slice_set frame.counters depth left }
+
+-- a step inside a frame
+abbrev pub stepped : Frame → Intent → Frame
+stepped frame (intent.Local c next) = record (changed frame c) { at = next }
+stepped frame _ = frame
+
+abbrev pub spending : {A : Type 0} → Plan → State A → Frame → ℕ → Frame
+spending plan S frame n = record (goes_on plan frame) { until = S.clock + n }
+
+abbrev pub waiting : Frame → Call → Value → Frame
+waiting frame c v = record frame { pending = Some (record { call = c; answer = v }) }
+
+-- what the top frame of a processor does, by its number and itself
+abbrev pub by_top : {A : Type 0} → State A → ℕ → (ℕ → Frame → List Deed) → List Deed
+by_top S cpu deeds = elim (top S.cpus cpu) as (λ _. List Deed) [
+  | None ↦ []
+  | Some f ↦ deeds f (frame_of S.cpus f)
+]
+
+-- the answer of a frame's pending call
+abbrev pub did_deeds : {A : Type 0} → Plan → State A → ℕ → Call → Value → ℕ → Frame → List Deed
+did_deeds plan S cpu c v f frame =
+    (outcome plan S cpu f c).deeds ++ second_deeds f c ++ Go_on f (answered plan frame v) ∷ []
+
+abbrev pub waiting_deeds : {A : Type 0} → Plan → State A → ℕ → Call → ℕ → Frame → List Deed
+waiting_deeds plan S cpu c f frame =
+    (outcome plan S cpu f c).deeds ++ Go_on f (waiting frame c (outcome plan S cpu f c).answer) ∷ []
+
+abbrev pub woke_deeds : Plan → Call → Value → ℕ → Frame → List Deed
+woke_deeds plan c v f frame = second_deeds f c ++ Go_on f (answered plan frame v) ∷ []
+
+abbrev pub deeds : {A : Type 0} → Plan → State A → Event → List Deed
+-- the callback's own effect, its frame on top, its lock
+deeds plan S (event.Start cpu c o r) = start_deeds plan S cpu.0 c o r
+-- the frame's variables, counters, place and tick
+deeds plan S (event.Local cpu line) = by_top S cpu.0 (λ f frame. Go_on f (stepped frame (intent_of plan frame)) ∷ [])
+deeds plan S (event.Log cpu v) = by_top S cpu.0 (λ f frame. Go_on f (goes_on plan frame) ∷ [])
+deeds plan S (event.Spend cpu n) = by_top S cpu.0 (λ f frame. Go_on f (spending plan S frame n) ∷ [])
+-- the register and the device's lines are its agent's
+deeds plan S (event.Register cpu a k v) = by_top S cpu.0 (λ f frame. Go_on f (answered plan frame (Num v)) ∷ [])
+-- the effect of the call's first part, and of the second where nothing is to be waited for
+deeds plan S (event.Did cpu c v) = by_top S cpu.0 (did_deeds plan S cpu.0 c v)
+deeds plan S (event.Waiting cpu c) = by_top S cpu.0 (waiting_deeds plan S cpu.0 c)
+deeds plan S (event.Woke cpu c v) = by_top S cpu.0 (woke_deeds plan c v)
+-- own: the frame moves between the processor and the parked list
+deeds plan S (event.Park cpu f) = Park_frame cpu.0 ∷ []
+deeds plan S (event.Unpark cpu f) = Unpark_frame cpu.0 f.0 ∷ []
+-- the frame and its lock are gone; a failed step changes the steps left
+deeds plan S (event.End cpu c o v) = end_deeds plan S cpu.0 c o.id.0 v
+-- own: a fault changes nothing, and ends the run
+deeds plan S (event.Fault cpu x line) = []
+-- own: the step is taken, with its effect
+deeds plan S (event.Stage d s i) = stage_deeds plan d.id.0 s i
+-- KMDF: the request is done, and its deletion is asked
+deeds plan S (event.Complete r s) = Complete_request r.id.0 ∷ []
+-- KMDF: the cleanup is done
+deeds plan S (event.Cleanup o) = Clean_up o.id.0 ∷ []
+-- KMDF: the object is gone
+deeds plan S (event.Destroy o) = End_life o.id.0 ∷ []
+-- KMDF: an arrival or a cancel; own: a done, and a list of steps
+deeds plan S (event.Posted agent p answer) = post_deeds plan S agent p
+-- own: the clock is one more
+deeds plan S (event.Tick time) = Pass_tick ∷ []
+
+-- the state after an event: its deeds are done, each agent is told of it, and it is counted
+abbrev pub after : {A : Type 0} → Plan → Meaning A → State A → Event → State A
+after plan m S e = counted m e (do_deeds plan (deeds plan S e) S)
