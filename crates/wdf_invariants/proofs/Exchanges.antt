@@ -2,8 +2,7 @@
 use Rattle.std.proofs.Common.{if◌then◌else◌, ◌≡◌, ◌≢◌, ℕ, zero, suc, ◌+◌, ◌==◌, ◌<◌, ◌≤◌, Bool, true, false, not, ◌&&◌, ◌||◌, List, [], ◌∷◌, ◌⊎◌, inl, inr, filter, count_by, refl, ap, sym, ◌∙◌, arith}
 use Rattle.std.specs.List.{flat_map, list_all, range_with_len}
 use Rattle.std.proofs.lemmas.List.Folds.{list_all-append}
-use Rattle.wdf_model.specs.rules.Script.{flag}
-use Rattle.wdf_model.specs.Tables.{contains}
+use Rattle.wdf_model.specs.Tables.{contains, flag}
 use Rattle.wdf_model.proofs.Tests.{both, both_left, both_right, first, second}
 use Rattle.wdf_model.proofs.Counts.{count_behind, count_cons, equal, one_or_two}
 use Rattle.wdf_invariants.proofs.Totals.{same_total}

@@ -2,10 +2,9 @@
 use Rattle.std.proofs.Common.{if◌then◌else◌, ◌≡◌, ◌≢◌, ℕ, zero, suc, ◌+◌, ◌==◌, ◌≤◌, nat_lt, Bool, true, false, not, List, [], ◌∷◌, ◌⊎◌, inl, inr, Some, drop, count_by, refl, ap, sym, ◌∙◌, arith}
 use Rattle.std.specs.List.{flat_map}
 use Rattle.wdf_base.specs.declared.frame.Frame.{Frame}
-use Rattle.wdf_model.specs.Tables.{entry, in_order, put, without, first_of_list}
+use Rattle.wdf_model.specs.Tables.{entry, in_order, put, without, first_of_list, flag}
 use Rattle.wdf_model.specs.parts.Cpus.{Cpus, all_frames, parked_with, stack_of, top}
 use Rattle.wdf_model.specs.parts.Cpus as cpus
-use Rattle.wdf_model.specs.rules.Script.{flag}
 use Rattle.wdf_model.proofs.Counts.{at_head, count_behind, count_cons, equal, not_equal, one_or_two}
 
 pub same_on : (p q : ℕ → Bool) (xs : List ℕ) → ((x : ℕ) → 1 ≤ count_by (λ y. y == x) xs → q x ≡ p x) → count_by q xs ≡ count_by p xs

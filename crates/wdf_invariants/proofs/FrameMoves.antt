@@ -4,11 +4,10 @@ use Rattle.std.specs.List.{flat_map}
 use Rattle.wdf_base.specs.declared.ids.Handle.{Handle}
 use Rattle.wdf_base.specs.declared.frame.Frame.{Frame}
 use Rattle.wdf_base.specs.Callbacks.{row_of}
-use Rattle.wdf_model.specs.Tables.{contains, entry}
+use Rattle.wdf_model.specs.Tables.{contains, entry, flag}
 use Rattle.wdf_model.specs.parts.Tree.{Tree, nearest_device}
 use Rattle.wdf_model.specs.parts.Cpus.{Cpus, Running, all_frames, frame_of, no_frame, running, top, without_frame}
 use Rattle.wdf_model.specs.parts.Cpus as cpus
-use Rattle.wdf_model.specs.rules.Script.{flag}
 use Rattle.wdf_model.specs.laws.Agreement.{is_sequence, is_step_frame}
 use Rattle.wdf_model.proofs.Maps.{entry_put_other, entry_put_same}
 use Rattle.wdf_model.proofs.Counts.{at_head, count_behind, count_cons, equal, not_equal, one_or_two}

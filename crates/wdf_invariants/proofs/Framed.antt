@@ -1,10 +1,10 @@
 -- The frames of a state and the steps of its sequences, after each kind of event.
 use Rattle.std.proofs.Common.{◌≡◌, ℕ, ◌==◌, ◌<◌, ◌≤◌, List, ◌++◌, length, count_by, ap, sym, ◌∙◌, arith}
 use Rattle.std.specs.List.{flat_map}
+use Rattle.wdf_model.specs.Tables.{flag}
 use Rattle.wdf_model.specs.parts.Tree.{Tree, nearest_device}
 use Rattle.wdf_model.specs.parts.Cpus.{Cpus, all_frames, frame_of}
 use Rattle.wdf_model.specs.parts.Pnp.{Pnp, is_running_step}
-use Rattle.wdf_model.specs.rules.Script.{flag}
 use Rattle.wdf_model.specs.State.{State}
 use Rattle.wdf_model.specs.laws.Agreement.{is_step_frame}
 use Rattle.wdf_invariants.proofs.StillFrames.{Still}

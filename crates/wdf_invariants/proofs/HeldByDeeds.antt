@@ -12,7 +12,7 @@ use Rattle.wdf_base.specs.declared.event.Step.{Step}
 use Rattle.wdf_base.specs.declared.event.Step.TheVariants as step
 use Rattle.wdf_base.specs.declared.value.Status.TheVariants as status
 use Rattle.wdf_model.specs.declared.enums.Mode.TheVariants as mode
-use Rattle.wdf_model.specs.Tables.{ids_of}
+use Rattle.wdf_model.specs.Tables.{ids_of, flag}
 use Rattle.wdf_model.specs.parts.Tree.{nearest_device, next_id}
 use Rattle.wdf_model.specs.parts.Requests.{Request, cancelled, is_marked, is_owned, is_queued_in, is_returning_to, is_sent, made_info, marked, moved, place_of, request_of, unmarked, with_mark}
 use Rattle.wdf_model.specs.parts.Requests as requests
@@ -22,7 +22,6 @@ use Rattle.wdf_model.specs.parts.Control as control
 use Rattle.wdf_model.specs.parts.Targets.{is_forgotten, is_undone, routine_due}
 use Rattle.wdf_model.specs.parts.Power.{Holding, Power, advance_stage, holding_of, is_held_at, no_holding, wake_holdings, with_up, woken}
 use Rattle.wdf_model.specs.parts.Power as power
-use Rattle.wdf_model.specs.rules.Script.{flag}
 use Rattle.wdf_model.specs.State.{State, held_at, withdrawn_place}
 use Rattle.wdf_model.specs.rules.Deeds.{Deed, Make_request, Arrive, Ask_deletion, Present, Receive, Requeue, Forward, Give_back, Withdraw, Mark_request, Unmark_request, Cancel_request, Take_cancel, Send_request, Finish_sending, Come_back, Complete_request, Purge_queue, Close_returning, Stop_target, Start_target, Advance_power, Acknowledge, Ask_stop, Resume, arrive_at, ask_objects, close_one, do_deed, do_deeds, give_up, queued, withdraw}
 use Rattle.wdf_model.specs.rules.Calls.{may_send}

@@ -5,6 +5,7 @@ use Rattle.wdf_base.specs.declared.value.Status.{Status}
 use Rattle.wdf_base.specs.declared.object.Place.{Place}
 use Rattle.wdf_base.specs.declared.object.Place.TheVariants as place
 use Rattle.wdf_base.specs.declared.object.RequestInfo.{RequestInfo}
+use Rattle.wdf_model.specs.Tables.{flag, same_id}
 use Rattle.wdf_model.specs.parts.Tree.{next_id}
 use Rattle.wdf_model.specs.parts.Requests.{Request, Requests, cancelled, is_owned, is_queued_in, is_returning_to, is_sent, is_sent_to, moved, no_request, place_of, request_of, with_request}
 use Rattle.wdf_model.specs.parts.Requests as requests
@@ -13,8 +14,7 @@ use Rattle.wdf_model.specs.parts.Queues as queues
 use Rattle.wdf_model.specs.parts.Targets.{Sending, Targets, is_forgotten, is_forgotten_sending, routine_due, routine_outcome, sending_of}
 use Rattle.wdf_model.specs.parts.Targets as targets
 use Rattle.wdf_model.specs.parts.Power.{Power}
-use Rattle.wdf_model.specs.rules.Script.{flag}
-use Rattle.wdf_model.specs.State.{State, held_at, same_id}
+use Rattle.wdf_model.specs.State.{State, held_at}
 use Rattle.wdf_model.specs.rules.Deeds.{finished_at, hold_power}
 use Rattle.wdf_model.proofs.Maps.{entry_past, entry_put_other, entry_put_same, put_long}
 use Rattle.wdf_model.proofs.Counts.{equal, flag_yes, front_leaves}

@@ -6,12 +6,12 @@ use Rattle.wdf_base.specs.Meaning.{Meaning}
 use Rattle.wdf_base.specs.declared.plan.Plan.{Plan}
 use Rattle.wdf_base.specs.declared.event.Event.{Event}
 use Rattle.wdf_base.specs.declared.declared.QueueInfo.{QueueInfo}
-use Rattle.wdf_model.specs.Tables.{entry, ids_of}
+use Rattle.wdf_model.specs.Tables.{entry, ids_of, same_id}
 use Rattle.wdf_model.specs.Plans.{declared_ids, queue_of}
 use Rattle.wdf_model.specs.parts.Requests.{origin_of}
 use Rattle.wdf_model.specs.parts.Queues.{held_count, no_queue, opening_queue}
 use Rattle.wdf_model.specs.parts.Power.{holding_of}
-use Rattle.wdf_model.specs.State.{State, held_from, is_held_from, is_with_driver, opening, same_id}
+use Rattle.wdf_model.specs.State.{State, held_from, is_held_from, is_with_driver, opening}
 use Rattle.wdf_model.specs.rules.Steps.{after, deeds, may}
 use Rattle.wdf_model.specs.rules.Ready.{IsRunOf, ready, state_after}
 use Rattle.wdf_model.specs.laws.FactsOfEvents.{IsTick}

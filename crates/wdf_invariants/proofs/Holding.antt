@@ -3,12 +3,12 @@
 use Rattle.std.proofs.Common.{if◌then◌else◌, ◌≡◌, ◌≢◌, ℕ, suc, ◌+◌, ◌<◌, ◌≤◌, Bool, ◌⊎◌, inl, inr, Option, None, option_map, length, count_by, ap, sym, ◌∙◌, arith}
 use Rattle.std.specs.List.{range_with_len}
 use Rattle.wdf_base.specs.declared.plan.Plan.{Plan}
+use Rattle.wdf_model.specs.Tables.{flag, same_id}
 use Rattle.wdf_model.specs.parts.Requests.{Request, Requests, request_of}
 use Rattle.wdf_model.specs.parts.Queues.{Queues, held_count}
 use Rattle.wdf_model.specs.parts.Targets.{Targets, is_forgotten}
 use Rattle.wdf_model.specs.parts.Power.{Power, holding_of}
-use Rattle.wdf_model.specs.rules.Script.{flag}
-use Rattle.wdf_model.specs.State.{State, held_at, same_id}
+use Rattle.wdf_model.specs.State.{State, held_at}
 use Rattle.wdf_model.specs.laws.Agreement.{managed_origin}
 use Rattle.wdf_model.proofs.Counts.{one_or_two}
 use Rattle.wdf_invariants.proofs.Totals.{counts_it, one_changes, same_total}

@@ -2,6 +2,7 @@
 use Rattle.std.proofs.Common.{if◌then◌else◌, ◌≡◌, ◌≢◌, ℕ, ◌+◌, ◌-◌, ◌==◌, ◌<◌, ◌≤◌, nat_lt, Bool, true, false, ◌⊎◌, inl, inr, Option, Some, None, length, refl, ap, sym, ◌∙◌, arith}
 use Rattle.std.proofs.lemmas.Bool.Decides.{nat_tests}
 use Rattle.wdf_base.specs.declared.plan.Plan.{Plan}
+use Rattle.wdf_model.specs.Tables.{flag, same_id}
 use Rattle.wdf_model.specs.Plans.{is_managed}
 use Rattle.wdf_model.specs.parts.Requests.{Requests, origin_of}
 use Rattle.wdf_model.specs.parts.Queues.{Queue, Queues, held_count, queue_without, no_queue, with_queue}
@@ -9,8 +10,7 @@ use Rattle.wdf_model.specs.parts.Queues as queues
 use Rattle.wdf_model.specs.parts.Targets.{Targets}
 use Rattle.wdf_model.specs.parts.Power.{Holding, Power, holding_of, is_held, no_holding, with_holding}
 use Rattle.wdf_model.specs.parts.Power as power
-use Rattle.wdf_model.specs.rules.Script.{flag}
-use Rattle.wdf_model.specs.State.{State, is_with_driver, same_id}
+use Rattle.wdf_model.specs.State.{State, is_with_driver}
 use Rattle.wdf_model.specs.rules.Deeds.{give_up, hold_power, release_line, release_power}
 use Rattle.wdf_model.specs.laws.Agreement.{managed_origin}
 use Rattle.wdf_model.proofs.Maps.{entry_map, entry_put_other, entry_put_same}

@@ -14,7 +14,7 @@ use Rattle.wdf_base.specs.Same.{same_option, same_step}
 use Rattle.wdf_model.specs.Plans.{callback_irql}
 use Rattle.wdf_model.specs.parts.Tree.{Node, Tree, gone, is_gone, life_of, nearest_device}
 use Rattle.wdf_model.specs.parts.Cpus.{frame_of, top}
-use Rattle.wdf_model.specs.Tables.{first_of_list, entry}
+use Rattle.wdf_model.specs.Tables.{first_of_list, entry, flag}
 use Rattle.wdf_model.specs.parts.Locks.{is_free_if_any, lock_of_callback}
 use Rattle.wdf_model.specs.parts.Pnp as pnp
 use Rattle.wdf_model.specs.parts.Pnp.{is_running_step, next_step}
@@ -34,7 +34,6 @@ use Rattle.wdf_invariants.proofs.Framed.{on}
 use Rattle.wdf_invariants.proofs.FrameMoves.{fresh, pop_on}
 use Rattle.wdf_invariants.proofs.StepMoves.{ended_elsewhere, ended_here, other_begins, other_ends, step_begins, step_ends, taken_elsewhere, taken_runs}
 use Rattle.wdf_invariants.proofs.StepStates.{StepsIn, begun, deeds_stay, ended_in, fit_after, fit_before, in_turn}
-use Rattle.wdf_model.specs.rules.Script.{flag}
 
 -- ---- where a callback may start
 

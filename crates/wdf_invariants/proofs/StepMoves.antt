@@ -12,13 +12,13 @@ use Rattle.wdf_base.specs.declared.frame.Frame.{Frame}
 use Rattle.wdf_base.specs.declared.value.Value.{Value}
 use Rattle.wdf_base.specs.Callbacks.{row_of}
 use Rattle.wdf_base.specs.Same.{same_option, same_step}
+use Rattle.wdf_model.specs.Tables.{flag}
 use Rattle.wdf_model.specs.parts.Tree.{Tree, gone, may_destroy}
 use Rattle.wdf_model.specs.parts.Tree as tree
 use Rattle.wdf_model.specs.parts.Cpus.{Cpus, all_frames, frame_of, is_on, nobody_on, top}
 use Rattle.wdf_model.specs.parts.Cpus as cpus
 use Rattle.wdf_model.specs.parts.Pnp.{Sequence, Pnp, is_running_step, left_after, next_step, no_sequence, passed, sequence_of, taken_step, with_step}
 use Rattle.wdf_model.specs.parts.Pnp as pnp
-use Rattle.wdf_model.specs.rules.Script.{flag}
 use Rattle.wdf_model.specs.laws.Agreement.{is_sequence, is_step_frame}
 use Rattle.wdf_model.proofs.Maps.{entry_put_other, entry_put_same, put_long}
 use Rattle.wdf_model.proofs.Counts.{equal, not_equal, one_or_two}

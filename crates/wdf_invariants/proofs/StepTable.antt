@@ -14,12 +14,12 @@ use Rattle.wdf_base.specs.declared.event.Stage.{Stage}
 use Rattle.wdf_base.specs.declared.event.Step.TheVariants as step
 use Rattle.wdf_base.specs.declared.frame.Frame.{Frame}
 use Rattle.wdf_base.specs.Same.{same_option, same_step}
-use Rattle.wdf_model.specs.Tables.{contains}
+use Rattle.wdf_model.specs.Tables.{contains, same_id}
 use Rattle.wdf_model.specs.parts.Tree.{may_destroy}
 use Rattle.wdf_model.specs.parts.Cpus.{frame_of, irql, is_empty_cpu, nobody_on, top}
 use Rattle.wdf_model.specs.parts.Pnp.{is_running_step, next_step}
 use Rattle.wdf_model.specs.parts.Pnp as pnp
-use Rattle.wdf_model.specs.State.{State, is_proper, same_id}
+use Rattle.wdf_model.specs.State.{State, is_proper}
 use Rattle.wdf_model.specs.rules.Deeds.{Advance_power, Deed, End_life, Go_on, Take_step, do_deed, do_deeds}
 use Rattle.wdf_model.specs.rules.Script.{intent_of}
 use Rattle.wdf_model.specs.rules.Calls.{outcome, second_deeds}

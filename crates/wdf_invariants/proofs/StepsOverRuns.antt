@@ -6,12 +6,11 @@ use Rattle.wdf_base.specs.declared.plan.Plan.{Plan}
 use Rattle.wdf_base.specs.declared.declared.Declared.{Declared}
 use Rattle.wdf_base.specs.declared.declared.DeviceInfo.{DeviceInfo}
 use Rattle.wdf_base.specs.declared.event.Event.{Event}
-use Rattle.wdf_model.specs.Tables.{entry}
+use Rattle.wdf_model.specs.Tables.{entry, flag}
 use Rattle.wdf_model.specs.Plans.{declared_ids, device_of, devices_of}
 use Rattle.wdf_model.specs.parts.Tree.{declared_node, gone, is_gone, life_of, opening_tree, parent_of}
 use Rattle.wdf_model.specs.parts.Cpus.{all_frames, frame_of, opening_cpus}
 use Rattle.wdf_model.specs.parts.Pnp.{is_running_step, no_sequence, opening_sequence}
-use Rattle.wdf_model.specs.rules.Script.{flag}
 use Rattle.wdf_model.specs.State.{State, opening}
 use Rattle.wdf_model.specs.rules.Steps.{after, deeds, may}
 use Rattle.wdf_model.specs.rules.Deeds.{counted, do_deeds}

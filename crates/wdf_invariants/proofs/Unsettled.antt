@@ -8,12 +8,11 @@ use Rattle.wdf_base.specs.declared.plan.Plan.{Plan}
 use Rattle.wdf_base.specs.declared.declared.Declared.{Declared}
 use Rattle.wdf_base.specs.declared.declared.QueueInfo.{QueueInfo}
 use Rattle.wdf_base.specs.Plan.{declared_of}
-use Rattle.wdf_model.specs.Tables.{contains, entry, ids_of}
+use Rattle.wdf_model.specs.Tables.{contains, entry, ids_of, flag, same_id}
 use Rattle.wdf_model.specs.Plans.{as_queue, declared_ids, devices_of, is_managed, is_queue_of, managed_queues, queue_of, queues_of}
 use Rattle.wdf_model.specs.parts.Requests.{no_request, origin_of, request_of}
 use Rattle.wdf_model.specs.parts.Power.{Power, acknowledged, holding_of, is_unsettled_at, no_holding, no_queue_power, opening_power, opening_queue_power, queue_power, unsettled}
-use Rattle.wdf_model.specs.rules.Script.{flag}
-use Rattle.wdf_model.specs.State.{State, held_from, is_held_from, is_with_driver, same_id}
+use Rattle.wdf_model.specs.State.{State, held_from, is_held_from, is_with_driver}
 use Rattle.wdf_model.specs.rules.Ready.{state_after}
 use Rattle.wdf_model.specs.laws.Agreement.{managed_origin, unsettled_agrees, unsettled_of}
 use Rattle.wdf_model.proofs.Maps.{entry_past}

@@ -26,7 +26,8 @@ use Rattle.wdf_base.specs.declared.event.Stage.TheVariants as stage
 use Rattle.wdf_base.specs.declared.frame.Frame.{Frame}
 use Rattle.wdf_base.specs.Callbacks.{row_of}
 use Rattle.wdf_base.specs.declared.call.Callback.TheVariants as callback
-use Rattle.wdf_model.specs.rules.Script.{flag, intent_of}
+use Rattle.wdf_model.specs.Tables.{flag}
+use Rattle.wdf_model.specs.rules.Script.{intent_of}
 use Rattle.wdf_model.specs.parts.Tree.{is_full, is_live, life_of}
 use Rattle.wdf_model.specs.parts.Control.{accepts, is_purged, mode_of}
 use Rattle.wdf_model.specs.parts.Interrupts.{is_enabled}

@@ -4,10 +4,8 @@ use Rattle.std.specs.List.{flat_map}
 use Rattle.std.proofs.lemmas.List.Sums.{sum_by-append}
 use Rattle.std.proofs.lemmas.Bool.{cases_Bool, eq-eqb, eqb-true, false_from_ne_true}
 use Rattle.wdf_base.specs.declared.value.Status.{Status}
-use Rattle.wdf_model.specs.Tables.{entry, first_of_list, without}
+use Rattle.wdf_model.specs.Tables.{entry, first_of_list, without, flag, same_id}
 use Rattle.wdf_model.specs.parts.Targets.{Sending, Target, done_sending, is_forgotten_sending, no_target, sending_in_order}
-use Rattle.wdf_model.specs.rules.Script.{flag}
-use Rattle.wdf_model.specs.State.{same_id}
 use Rattle.wdf_model.proofs.Tests.{both_left, not_false, not_true}
 
 -- ---- in general

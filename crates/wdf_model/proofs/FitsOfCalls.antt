@@ -11,6 +11,7 @@ use Rattle.wdf_base.specs.declared.event.Fault.TheVariants as fault
 use Rattle.wdf_base.specs.declared.object.Kind.TheVariants as kind
 use Rattle.wdf_base.specs.declared.value.Status.TheVariants as status
 use Rattle.wdf_base.specs.Same.{same_kind}
+use Rattle.wdf_model.specs.Tables.{flag}
 use Rattle.wdf_model.specs.Plans.{declares, is_manual_queue, parent_of_class}
 use Rattle.wdf_model.specs.parts.Tree.{is_live, kind_of, life_of, references_of}
 use Rattle.wdf_model.specs.parts.Requests.{is_owned, place_of}
@@ -18,7 +19,6 @@ use Rattle.wdf_model.specs.parts.Interrupts.{is_enabled}
 use Rattle.wdf_model.specs.parts.Deferred.Dpcs.{is_dpc_queued}
 use Rattle.wdf_model.specs.parts.Deferred.Timers.{is_timer_queued}
 use Rattle.wdf_model.specs.parts.Power.{acknowledged}
-use Rattle.wdf_model.specs.rules.Script.{flag}
 use Rattle.wdf_model.specs.State.{State, is_with_driver, object_in}
 use Rattle.wdf_model.specs.rules.Deeds.{Acknowledge, Enqueue_dpc, Enqueue_work, Register_queue, Start_timer}
 use Rattle.wdf_model.specs.rules.Faults.{arg_is, call_faults, is_stop_of}

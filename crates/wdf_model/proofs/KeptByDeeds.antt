@@ -14,7 +14,7 @@ use Rattle.wdf_base.specs.declared.call.Callback.TheVariants as callback
 use Rattle.wdf_base.specs.declared.value.Status.TheVariants as status
 use Rattle.wdf_base.specs.Same.{same_kind}
 use Rattle.wdf_model.specs.declared.enums.Mode.TheVariants as mode
-use Rattle.wdf_model.specs.Tables.{ids_of}
+use Rattle.wdf_model.specs.Tables.{ids_of, flag}
 use Rattle.wdf_model.specs.parts.Tree.{Node, Tree, gone, is_full, is_live, kind_of, life_of, nearest_device, new_node, next_id, node_of, noted, subtree, with_life, with_node}
 use Rattle.wdf_model.specs.parts.Tree as tree
 use Rattle.wdf_model.specs.parts.Requests.{Request, Requests, cancelled, has_arrived, is_closing, is_done, is_due, mark_of, is_marked, is_owned, is_queued_in, is_returning_to, is_sent, is_sent_to, made_info, marked, moved, place_of, unmarked, with_mark}
@@ -27,7 +27,6 @@ use Rattle.wdf_model.specs.parts.Control as control
 use Rattle.wdf_model.specs.parts.Targets.{Target, Targets, is_forgotten, is_undone, routine_due, the_target, with_target}
 use Rattle.wdf_model.specs.parts.Targets as targets
 use Rattle.wdf_model.specs.parts.Power.{Power}
-use Rattle.wdf_model.specs.rules.Script.{flag}
 use Rattle.wdf_model.specs.State.{State, held_at, is_with_driver, withdrawn_place}
 use Rattle.wdf_model.specs.rules.Deeds.{Deed, Create, Make_request, Arrive, Ask_deletion, Refer, Unrefer, Write_cell, Note, Clean_up, End_life, Present, Receive, Requeue, Forward, Give_back, Withdraw, Mark_request, Unmark_request, Cancel_request, Take_cancel, Send_request, Finish_sending, Come_back, Complete_request, Purge_queue, Close_returning, Stop_target, Start_target, arrive_at, ask_object, ask_objects, close_one, do_deed, do_deeds, give_up, give_up_if, queued, release_line, withdraw}
 use Rattle.wdf_model.specs.rules.Faults.{is_request_kind}

@@ -3,15 +3,13 @@ use Rattle.std.proofs.Common.{◌≡◌, ◌≢◌, ℕ, zero, suc, ◌+◌, ◌
 use Rattle.wdf_base.specs.declared.object.Place.{Place}
 use Rattle.wdf_base.specs.declared.object.Place.TheVariants as place
 use Rattle.std.proofs.lemmas.Bool.{eqb-true}
-use Rattle.wdf_model.specs.Tables.{entry, without}
+use Rattle.wdf_model.specs.Tables.{entry, without, flag, same_id}
 use Rattle.wdf_model.specs.parts.Tree.{Tree}
 use Rattle.wdf_model.specs.parts.Requests.{Request, Requests, has_arrived, is_done, is_queued_in, is_sent_to, moved, no_request, place_of, request_of, with_request}
 use Rattle.wdf_model.specs.parts.Requests as requests
 use Rattle.wdf_model.specs.parts.Queues.{Queue, Queues, front, the_queue, queue_without, no_queue, waiting_in, with_queue}
 use Rattle.wdf_model.specs.parts.Queues as queues
 use Rattle.wdf_model.specs.parts.Targets.{Target, Targets, no_target, the_target, with_target}
-use Rattle.wdf_model.specs.rules.Script.{flag}
-use Rattle.wdf_model.specs.State.{same_id}
 use Rattle.wdf_model.proofs.Maps.{entry_map, entry_put_other, entry_put_same, put_short}
 use Rattle.wdf_model.proofs.Counts.{at_head, at_tail, equal, flag_yes, front_leaves, it_leaves, not_equal, one_or_two, others_stay}
 use Rattle.wdf_model.proofs.Kept.{Kept, arrived, forgets, is_made_place, is_request, kept_by_move, sends, stands}

@@ -8,6 +8,7 @@ use Rattle.wdf_base.specs.declared.object.Place.TheVariants as place
 use Rattle.wdf_base.specs.declared.object.RequestInfo.{RequestInfo}
 use Rattle.wdf_base.specs.declared.value.Status.{Status}
 use Rattle.wdf_base.specs.Same.{same_kind}
+use Rattle.wdf_model.specs.Tables.{flag}
 use Rattle.wdf_model.specs.parts.Tree.{Node, Tree, gone, new_node, next_id}
 use Rattle.wdf_model.specs.parts.Tree as tree
 use Rattle.wdf_model.specs.parts.Requests.{Request, Requests, has_arrived, is_done, is_queued_in, is_sent, is_sent_to, no_request, place_of, request_of}
@@ -15,7 +16,6 @@ use Rattle.wdf_model.specs.parts.Requests as requests
 use Rattle.wdf_model.specs.parts.Queues.{Queues}
 use Rattle.wdf_model.specs.parts.Targets.{Sending, Target, Targets, done_sending, is_forgotten, is_forgotten_sending, new_sending, no_target, sending_in_order, target_done, the_target, without_sending}
 use Rattle.wdf_model.specs.parts.Targets as targets
-use Rattle.wdf_model.specs.rules.Script.{flag}
 use Rattle.wdf_model.specs.rules.Deeds.{finished_at}
 use Rattle.wdf_model.proofs.Maps.{entry_before, entry_last, entry_map, entry_past, entry_put_other, entry_put_same, put_short}
 use Rattle.wdf_model.proofs.Counts.{by_request, differs, done_asks, equal, filter_less, forgotten_counts, found_at_its_target, it_comes_back, left_over, less_left, not_equal, one_is_sent, one_left, one_or_two, others_left, others_stay_sent}

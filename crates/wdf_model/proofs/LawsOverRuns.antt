@@ -25,14 +25,13 @@ use Rattle.wdf_base.specs.declared.event.Event.TheVariants as event
 use Rattle.wdf_base.specs.declared.event.Post.TheVariants as post
 use Rattle.wdf_base.specs.Same.{same_call_kind, same_handle, same_kind, same_option, same_post}
 use Rattle.wdf_model.specs.Runs.{IsRun}
-use Rattle.wdf_model.specs.Tables.{entry}
+use Rattle.wdf_model.specs.Tables.{entry, flag}
 use Rattle.wdf_model.specs.Plans.{declared_ids, queue_of, target_of}
 use Rattle.wdf_model.specs.parts.Tree.{declared_node, gone, is_live, kind_of, life_of, next_id, opening_tree}
 use Rattle.wdf_model.specs.parts.Requests.{Request, Requests, has_arrived, is_closing, is_done, moved, place_of}
 use Rattle.wdf_model.specs.parts.Requests as requests
 use Rattle.wdf_model.specs.parts.Queues.{no_queue, opening_queue}
 use Rattle.wdf_model.specs.parts.Targets.{no_target, opening_target}
-use Rattle.wdf_model.specs.rules.Script.{flag}
 use Rattle.wdf_model.specs.State.{State, object_in, opening}
 use Rattle.wdf_model.specs.rules.Deeds.{Arrive, Complete_request, Count_arrival, Deed, do_deed, do_deeds, give_up}
 use Rattle.wdf_model.specs.rules.Posts.{arrival_answer, arrival_info, arrival_place, arriving, due_of, post_fits}

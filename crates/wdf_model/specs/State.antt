@@ -15,12 +15,12 @@ use Rattle.wdf_base.specs.declared.call.Callback.{Callback}
 use Rattle.wdf_base.specs.declared.call.Callback.TheVariants as callback
 use Rattle.wdf_base.specs.declared.frame.Pending.{Pending}
 use Rattle.wdf_base.specs.declared.declared.Declared.{Declared}
-use Rattle.wdf_model.specs.Tables.{ids_of}
+use Rattle.wdf_model.specs.Tables.{ids_of, same_id}
 use Rattle.wdf_model.specs.Plans.{agent_count, device_of_queue, declares, is_managed, script_on}
 use Rattle.wdf_model.specs.parts.Tree.{Tree, opening_tree, declared_as, handle_of}
 use Rattle.wdf_model.specs.parts.Cpus.{Cpus, opening_cpus, frame_of, all_frames}
 use Rattle.wdf_model.specs.parts.Locks.{Locks, no_locks, object_lock, is_free_lock}
-use Rattle.wdf_model.specs.parts.Requests.{Requests, no_requests, place_of, info_of, origin_of}
+use Rattle.wdf_model.specs.parts.Requests.{Requests, no_requests, place_of, info_of, origin_of, is_sent_to, Request}
 use Rattle.wdf_model.specs.parts.Queues.{Queues, opening_queues}
 use Rattle.wdf_model.specs.parts.Control.{Control, opening_control, delivers, is_closed}
 use Rattle.wdf_model.specs.parts.Power.{Power, opening_power, queues_up}
@@ -91,10 +91,6 @@ held_at forgotten _ = false
 abbrev pub is_with_driver : {A : Type 0} → State A → ℕ → Bool
 is_with_driver S r = held_at (is_forgotten S.targets r) (place_of S.requests r)
 
-abbrev pub same_id : Option ℕ → ℕ → Bool
-same_id None id = false
-same_id (Some other) id = other == id
-
 abbrev pub is_held_from : {A : Type 0} → State A → ℕ → ℕ → Bool
 is_held_from S q r = same_id (origin_of S.requests r) q && is_with_driver S r
 
@@ -122,14 +118,7 @@ withdrawn_place plan S q r =
 
 -- no request is Sent to a target
 abbrev pub nothing_at : {A : Type 0} → State A → ℕ → Bool
-nothing_at S t = not (list_any (λ r. elim r.place as (λ _. Bool) [
-  | place.Queued q ↦ false
-  | place.Returning q ↦ false
-  | place.Closing s ↦ false
-  | place.Owned ↦ false
-  | place.Sent u ↦ u.0 == t
-  | place.Done ↦ false
-]) S.requests.all)
+nothing_at S t = not (list_any (λ (r : Request). is_sent_to t r.place) S.requests.all)
 
 -- ---- frames
 

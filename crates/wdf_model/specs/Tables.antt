@@ -1,6 +1,6 @@
 -- Maps by id, and lists of ids in order. A map is a list of entries by id; what was never written is
 -- the blank entry of its map. No object has the id 0.
-use Rattle.std.specs.Prelude.{if◌then◌else◌, ℕ, zero, suc, Bool, ◌==◌, nat_lt, nat_le, not, List, [], ◌∷◌, length, filter, Option, Some, None, fold, slice_index_or}
+use Rattle.std.specs.Prelude.{if◌then◌else◌, ℕ, zero, suc, Bool, true, false, ◌==◌, nat_lt, nat_le, not, List, [], ◌∷◌, length, filter, Option, Some, None, fold, slice_index_or}
 use Rattle.std.specs.List.{list_any, range_with_len}
 
 -- the entry of an id
@@ -22,7 +22,7 @@ change_at blank xs id f = put blank xs id (f (entry blank xs id))
 abbrev pub ids_of : {T : Type 0} → List T → List ℕ
 ids_of xs = range_with_len 0 (length xs)
 
--- whether an id stands in a list
+-- whether an id is in a list
 abbrev pub contains : ℕ → List ℕ → Bool
 contains id ids = list_any (λ other. other == id) ids
 
@@ -30,10 +30,14 @@ contains id ids = list_any (λ other. other == id) ids
 abbrev pub without : ℕ → List ℕ → List ℕ
 without id ids = filter (λ other. not (other == id)) ids
 
+-- a list that rises by a number of its items, with an item more
+abbrev pub in_order_by : {T : Type 0} → (T → ℕ) → T → List T → List T
+in_order_by key x [] = x ∷ []
+in_order_by key x (y ∷ ys) = if nat_lt (key x) (key y) then x ∷ y ∷ ys else y ∷ in_order_by key x ys
+
 -- a rising list with an id more
 abbrev pub in_order : ℕ → List ℕ → List ℕ
-in_order id [] = id ∷ []
-in_order id (x ∷ xs) = if nat_lt id x then id ∷ x ∷ xs else x ∷ in_order id xs
+in_order id ids = in_order_by (λ x. x) id ids
 
 -- the least number of a list
 abbrev pub lesser : Option ℕ → ℕ → Option ℕ
@@ -42,6 +46,16 @@ lesser (Some m) n = if nat_le m n then Some m else Some n
 
 abbrev pub least : List ℕ → Option ℕ
 least ns = fold lesser None ns
+
+-- whether there is a number, and it is this one
+abbrev pub same_id : Option ℕ → ℕ → Bool
+same_id None id = false
+same_id (Some other) id = other == id
+
+-- 1 for true, 0 for false
+abbrev pub flag : Bool → ℕ
+flag true = 1
+flag false = 0
 
 -- the first of a list
 abbrev pub first_of_list : {T : Type 0} → List T → Option T

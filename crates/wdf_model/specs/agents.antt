@@ -27,7 +27,7 @@ use Rattle.wdf_base.specs.declared.declared.RegisterInfo.{RegisterInfo}
 use Rattle.wdf_base.specs.declared.declared.TargetInfo.{TargetInfo}
 use Rattle.wdf_base.specs.Plan.{posts_of}
 use Rattle.wdf_base.specs.Same.{same_access, same_value}
-use Rattle.wdf_model.specs.Tables.{entry, put, least}
+use Rattle.wdf_model.specs.Tables.{entry, put, least, flag, in_order_by}
 use Rattle.wdf_model.specs.Plans.{device_of_agent, device_of_register, is_app, target_of, target_of_agent}
 use Rattle.wdf_model.specs.State.{object_in}
 use Rattle.wdf_model.specs.rules.Faults.{arg_is}
@@ -110,8 +110,7 @@ at_line l = elim l.post as (λ _. Option DeviceLine) [
 
 -- one more line among lines in the order of the text
 abbrev pub among : List DeviceLine → DeviceLine → List DeviceLine
-among [] l = l ∷ []
-among (m ∷ ms) l = if nat_le m.line l.line then m ∷ among ms l else l ∷ m ∷ ms
+among ls l = in_order_by (λ (m : DeviceLine). m.line) l ls
 
 -- the lines of a device, those with `when` and those with `at` in the order of the text
 abbrev pub device_lines : Plan → ℕ → ℕ → List DeviceLine
@@ -209,13 +208,9 @@ later_tick now (Some t) = if nat_lt now t then Some t else None
 abbrev pub hardware_next : Hardware → Option ℕ
 hardware_next h = least (filter_map (λ l. later_tick h.clock l.tick) h.lines)
 
-abbrev pub bit : Bool → ℕ
-bit true = 1
-bit false = 0
-
 -- a register by its number, an interrupt's line by 64 and its id; 0 for what isn't its own
 abbrev pub hardware_value : Hardware → ℕ → ℕ
-hardware_value h what = if nat_lt what 64 then unwrap_or (own_register h what) 0 else bit (entry false h.raised (what - 64))
+hardware_value h what = if nat_lt what 64 then unwrap_or (own_register h what) 0 else flag (entry false h.raised (what - 64))
 
 -- ---- a target: what was sent to it, in order
 
@@ -236,25 +231,13 @@ pub record LowerTarget : Type 0 where
   pub sent : List SentRequest
   pub clock : ℕ
 
-abbrev pub delay_of_target : Option TargetInfo → ℕ
-delay_of_target None = 0
-delay_of_target (Some t) = t.delay
-
-abbrev pub depth_of_target : Option TargetInfo → ℕ
-depth_of_target None = 0
-depth_of_target (Some t) = t.depth
-
-abbrev pub status_of_target : Option TargetInfo → Status
-status_of_target None = status.Success
-status_of_target (Some t) = t.status
-
 abbrev pub target_at : Plan → ℕ → ℕ → LowerTarget
 target_at plan t agent = record {
   agent = agent;
   target = t;
-  delay = delay_of_target (target_of plan t);
-  status = status_of_target (target_of plan t);
-  depth = depth_of_target (target_of plan t);
+  delay = unwrap_or (option_map (λ i. i.delay) (target_of plan t)) 0;
+  status = unwrap_or (option_map (λ i. i.status) (target_of plan t)) status.Success;
+  depth = unwrap_or (option_map (λ i. i.depth) (target_of plan t)) 0;
   sent = [];
   clock = 0;
 }

@@ -6,6 +6,7 @@ use Rattle.wdf_base.specs.declared.object.Kind.TheVariants as kind
 use Rattle.wdf_base.specs.declared.object.Place.{Place}
 use Rattle.wdf_base.specs.declared.object.Place.TheVariants as place
 use Rattle.wdf_base.specs.Same.{same_kind}
+use Rattle.wdf_model.specs.Tables.{same_id}
 use Rattle.wdf_model.specs.parts.Tree.{is_full, is_live, kind_of, life_of, references_of, started}
 use Rattle.wdf_model.specs.parts.Locks.{is_free_lock}
 use Rattle.wdf_model.specs.parts.Requests.{is_closing, is_due, is_owned, is_queued_in, is_returning_to, is_sent, mark_of, place_of}
@@ -14,7 +15,7 @@ use Rattle.wdf_model.specs.parts.Control.{accepts}
 use Rattle.wdf_model.specs.parts.Power.{acknowledged, resume_due, stop_was_asked}
 use Rattle.wdf_model.specs.parts.Pnp.{busy, is_running_step, next_step}
 use Rattle.wdf_model.specs.parts.Targets.{is_undone, routine_due}
-use Rattle.wdf_model.specs.State.{State, is_with_driver, same_id}
+use Rattle.wdf_model.specs.State.{State, is_with_driver}
 use Rattle.wdf_model.specs.rules.Deeds.{Deed, do_deed, Create, Make_request, Arrive, Unrefer, Note, Clean_up, End_life, Take_lock, Present, Receive, Requeue, Forward, Give_back, Withdraw, Mark_request, Unmark_request, Cancel_request, Take_cancel, Send_request, Finish_sending, Come_back, Complete_request, Acknowledge, Ask_stop, Resume, Ask_device, Take_step}
 use Rattle.wdf_model.specs.rules.Faults.{is_request_kind}
 use Rattle.wdf_model.specs.rules.Calls.{may_send}

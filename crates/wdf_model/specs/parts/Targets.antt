@@ -4,7 +4,7 @@ use Rattle.std.specs.List.{flat_map}
 use Rattle.wdf_base.specs.declared.plan.Plan.{Plan}
 use Rattle.wdf_base.specs.declared.value.Status.{Status}
 use Rattle.wdf_base.specs.declared.declared.TargetInfo.{TargetInfo}
-use Rattle.wdf_model.specs.Tables.{entry, change_at}
+use Rattle.wdf_model.specs.Tables.{entry, change_at, in_order_by}
 use Rattle.wdf_model.specs.Plans.{target_of, declared_ids}
 
 -- a sent request
@@ -82,8 +82,7 @@ abbrev pub with_target : Targets → ℕ → (Target → Target) → Targets
 with_target T t f = record { targets = change_at no_target T.targets t f }
 
 abbrev pub sending_in_order : Sending → List Sending → List Sending
-sending_in_order s [] = s ∷ []
-sending_in_order s (x ∷ xs) = if nat_lt s.request x.request then s ∷ x ∷ xs else x ∷ sending_in_order s xs
+sending_in_order s xs = in_order_by (λ (x : Sending). x.request) s xs
 
 abbrev pub new_sending : ℕ → Bool → Sending
 new_sending r forget = record { request = r; forgotten = forget; outcome = None }

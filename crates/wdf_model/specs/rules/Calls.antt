@@ -17,6 +17,7 @@ use Rattle.wdf_base.specs.declared.call.CallKind.{CallKind}
 use Rattle.wdf_base.specs.declared.call.CallKind.TheVariants as call
 use Rattle.wdf_base.specs.declared.call.Callback.TheVariants as callback
 use Rattle.wdf_model.specs.declared.enums.Mode.TheVariants as mode
+use Rattle.wdf_model.specs.Tables.{flag}
 use Rattle.wdf_model.specs.Plans.{declares, device_of_queue, has_handler, interrupt_level, is_manual_queue, is_parallel_queue, kind_of_class, name_of_class, parent_of_class}
 use Rattle.wdf_model.specs.parts.Tree.{life_of, is_live, is_full, next_id, cell_of}
 use Rattle.wdf_model.specs.parts.Cpus.{nobody_on}
@@ -29,7 +30,6 @@ use Rattle.wdf_model.specs.parts.Deferred.Dpcs.{is_dpc_queued}
 use Rattle.wdf_model.specs.parts.Deferred.WorkItems.{is_work_queued}
 use Rattle.wdf_model.specs.parts.Deferred.Timers.{is_timer_queued}
 use Rattle.wdf_model.specs.parts.Targets.{takes_more, is_undone}
-use Rattle.wdf_model.specs.rules.Script.{flag}
 use Rattle.wdf_model.specs.State.{State, object_in, queue_delivers, nothing_at, handle_in}
 use Rattle.wdf_model.specs.rules.Deeds.{Deed, Create, Make_request, Ask_deletion, Refer, Unrefer, Write_cell, Raise, Lower, Take_lock, Release_lock, Present, Requeue, Forward, Give_back, Mark_request, Unmark_request, Send_request, Complete_request, Set_mode, Purge_queue, Register_queue, Acknowledge, Enqueue_dpc, Cancel_dpc, Enqueue_work, Start_timer, Stop_timer, Stop_target, Start_target}
 use Rattle.wdf_model.specs.rules.Faults.{arg_is}

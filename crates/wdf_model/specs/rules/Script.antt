@@ -28,17 +28,13 @@ use Rattle.wdf_base.specs.declared.script.Statement.{Statement}
 use Rattle.wdf_base.specs.Calls.{signature_of, argument_count}
 use Rattle.wdf_base.specs.Plan.{statements_of}
 use Rattle.wdf_base.specs.Same.{same_value}
+use Rattle.wdf_model.specs.Tables.{flag}
 
 -- ---- expressions
 
 -- numbers wrap at 64 bits
 abbrev pub WORD : ℕ
 WORD = 2 ^ 64
-
--- a comparison gives 1 or 0
-abbrev pub flag : Bool → ℕ
-flag true = 1
-flag false = 0
 
 -- a quotient, none where the divisor is zero
 abbrev pub quotient : ℕ → ℕ → Option ℕ

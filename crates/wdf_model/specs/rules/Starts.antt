@@ -23,6 +23,7 @@ use Rattle.wdf_base.specs.declared.frame.Frame.{Frame}
 use Rattle.wdf_base.specs.Callbacks.{row_of}
 use Rattle.wdf_base.specs.Same.{same_callback, same_kind, same_step, same_option}
 use Rattle.wdf_model.specs.Plans.{agent_of_device, callback_irql, handler_for, interrupt_of, interrupts_of, is_managed, is_manual_queue, is_target_of, managed_queues, period_of, queues_of, target_of, declared_ids}
+use Rattle.wdf_model.specs.Tables.{same_id}
 use Rattle.wdf_model.specs.parts.Tree.{class_of, kind_of, life_of, is_live, is_asked, is_cleaned, may_clean, may_destroy, nearest_device, started}
 use Rattle.wdf_model.specs.parts.Cpus.{irql, is_empty_cpu, is_running, nobody_on}
 use Rattle.wdf_model.specs.parts.Locks.{is_free_if_any, is_free_lock, lock_of_callback, object_lock}
@@ -36,7 +37,7 @@ use Rattle.wdf_model.specs.parts.Deferred.Dpcs.{dpc_head, is_dpc_queued}
 use Rattle.wdf_model.specs.parts.Deferred.WorkItems.{is_work_queued}
 use Rattle.wdf_model.specs.parts.Deferred.Timers.{timer_due}
 use Rattle.wdf_model.specs.parts.Targets.{routine_due}
-use Rattle.wdf_model.specs.State.{State, declared_in, declares_in, handle_in, is_held_from, is_locked, is_waited_for, nothing_at, queue_delivers, same_id, script_in}
+use Rattle.wdf_model.specs.State.{State, declared_in, declares_in, handle_in, is_held_from, is_locked, is_waited_for, nothing_at, queue_delivers, script_in}
 use Rattle.wdf_model.specs.rules.Deeds.{Deed, Ask_deletion, Note, Push_frame, Pop_frame, Take_lock, Release_lock, Present, Receive, Take_cancel, Come_back, Purge_queue, Close_returning, Shut_device, Notify_queue, Advance_power, Ask_stop, Resume, Take_step, End_step, Enable_interrupt, Disable_interrupt, Take_dpc, Cancel_work, Fire_timer}
 
 -- ---- what agents show

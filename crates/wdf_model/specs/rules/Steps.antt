@@ -26,7 +26,7 @@ use Rattle.wdf_base.specs.declared.script.Act.{Act}
 use Rattle.wdf_base.specs.declared.script.Act.TheVariants as act
 use Rattle.wdf_base.specs.declared.script.Statement.{Statement}
 use Rattle.wdf_base.specs.Same.{same_event, same_option, same_status}
-use Rattle.wdf_model.specs.Tables.{contains}
+use Rattle.wdf_model.specs.Tables.{contains, same_id}
 use Rattle.wdf_model.specs.Plans.{device_of_register, interrupt_level}
 use Rattle.wdf_model.specs.parts.Tree.{kind_of, life_of, references_of}
 use Rattle.wdf_model.specs.parts.Cpus.{frame_of, irql, is_empty_cpu, top}
@@ -34,7 +34,7 @@ use Rattle.wdf_model.specs.parts.Locks.{held_by_call, holder, holds_by_call, sco
 use Rattle.wdf_model.specs.parts.Requests.{mark_of, origin_of, place_of}
 use Rattle.wdf_model.specs.parts.Power.{acknowledged, has_hardware}
 use Rattle.wdf_model.specs.rules.Script.{intent_of, line_of, statement_at}
-use Rattle.wdf_model.specs.State.{State, declared_in, is_proper, is_with_driver, same_id}
+use Rattle.wdf_model.specs.State.{State, declared_in, is_proper, is_with_driver}
 use Rattle.wdf_model.specs.rules.Deeds.{Deed, do_deeds, counted, Go_on, Park_frame, Unpark_frame, Complete_request, Clean_up, End_life, Pass_tick}
 use Rattle.wdf_model.specs.rules.Faults.{View, fault_of}
 use Rattle.wdf_model.specs.rules.Calls.{Outcome, outcome, is_met, second_deeds}

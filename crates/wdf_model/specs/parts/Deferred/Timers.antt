@@ -1,7 +1,7 @@
 -- The queued timers. (KMDF)
 use Rattle.std.specs.Prelude.{if◌then◌else◌, ℕ, ◌+◌, min, Bool, false, ◌==◌, nat_le, nat_lt, not, List, [], ◌∷◌, map, filter, find, Option, Some, None, is_some}
 use Rattle.std.specs.List.{list_any}
-use Rattle.wdf_model.specs.Tables.{least}
+use Rattle.wdf_model.specs.Tables.{least, in_order_by}
 
 pub record Timed : Type 0 where
   pub timer : ℕ
@@ -43,12 +43,8 @@ any_later_timer T now = list_any (λ t. nat_lt now t.tick) T.queued
 abbrev pub without_timer : ℕ → List Timed → List Timed
 without_timer o ts = filter (λ t. not (t.timer == o)) ts
 
-abbrev pub timer_in_order : Timed → List Timed → List Timed
-timer_in_order t [] = t ∷ []
-timer_in_order t (x ∷ xs) = if nat_lt t.timer x.timer then t ∷ x ∷ xs else x ∷ timer_in_order t xs
-
 abbrev pub start : Timers → ℕ → ℕ → ℕ → Timers
-start T o now ticks = record { queued = timer_in_order (record { timer = o; tick = now + min ticks LONGEST }) (without_timer o T.queued) }
+start T o now ticks = record { queued = in_order_by (λ (t : Timed). t.timer) (record { timer = o; tick = now + min ticks LONGEST }) (without_timer o T.queued) }
 
 abbrev pub stop : Timers → ℕ → Timers
 stop T o = record { queued = without_timer o T.queued }
