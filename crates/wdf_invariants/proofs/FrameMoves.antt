@@ -4,9 +4,10 @@ use Rattle.std.specs.List.{flat_map}
 use Rattle.wdf_base.specs.declared.ids.Handle.{Handle}
 use Rattle.wdf_base.specs.declared.frame.Frame.{Frame}
 use Rattle.wdf_base.specs.Callbacks.{row_of}
+use Rattle.wdf_model.specs.declared.entries.Running.{Running}
 use Rattle.wdf_model.specs.Tables.{contains, entry, flag}
 use Rattle.wdf_model.specs.parts.Tree.{Tree, nearest_device}
-use Rattle.wdf_model.specs.parts.Cpus.{Cpus, Running, all_frames, frame_of, no_frame, running, top, without_frame}
+use Rattle.wdf_model.specs.parts.Cpus.{Cpus, all_frames, frame_of, no_frame, running, top, without_frame}
 use Rattle.wdf_model.specs.parts.Cpus as cpus
 use Rattle.wdf_model.specs.laws.Agreement.{is_sequence, is_step_frame}
 use Rattle.wdf_model.proofs.Maps.{entry_put_other, entry_put_same}
@@ -62,10 +63,10 @@ fresh C T N f h later = elim (none_or_some (on C f)) [
 
 module _ (C : Cpus) (cpu f : ℕ) (frame : Frame) (level : ℕ) where
   push_here : frame_of (cpus.push C cpu f frame level) f ≡ frame
-  push_here = ap (λ (r : Running). r.frame) (entry_put_same no_frame C.frames f (record { frame = frame; level = level; levels = [] }))
+  push_here = ap (λ (r : Running). r.frame) (entry_put_same no_frame C.frames f (record { frame = frame; level = record { 0 = level } }))
 
   push_elsewhere : (x : ℕ) → x ≢ f → frame_of (cpus.push C cpu f frame level) x ≡ frame_of C x
-  push_elsewhere x n = ap (λ (r : Running). r.frame) (entry_put_other no_frame C.frames f x (record { frame = frame; level = level; levels = [] }) n)
+  push_elsewhere x n = ap (λ (r : Running). r.frame) (entry_put_other no_frame C.frames f x (record { frame = frame; level = record { 0 = level } }) n)
 
   pushed_on : (x : ℕ) → on (cpus.push C cpu f frame level) x ≡ on C x + flag (f == x)
   pushed_on x = pushed (λ y. y == x) C cpu f frame level

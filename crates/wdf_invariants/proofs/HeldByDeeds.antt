@@ -12,15 +12,17 @@ use Rattle.wdf_base.specs.declared.event.Step.{Step}
 use Rattle.wdf_base.specs.declared.event.Step.TheVariants as step
 use Rattle.wdf_base.specs.declared.value.Status.TheVariants as status
 use Rattle.wdf_model.specs.declared.enums.Mode.TheVariants as mode
+use Rattle.wdf_model.specs.declared.entries.Request.{Request}
+use Rattle.wdf_model.specs.declared.entries.Holding.{Holding}
 use Rattle.wdf_model.specs.Tables.{ids_of, flag}
 use Rattle.wdf_model.specs.parts.Tree.{nearest_device, next_id}
-use Rattle.wdf_model.specs.parts.Requests.{Request, cancelled, is_marked, is_owned, is_queued_in, is_returning_to, is_sent, made_info, marked, moved, place_of, request_of, unmarked, with_mark}
+use Rattle.wdf_model.specs.parts.Requests.{cancelled, is_marked, is_owned, is_queued_in, is_returning_to, is_sent, made_info, marked, moved, place_of, request_of, unmarked, with_mark}
 use Rattle.wdf_model.specs.parts.Requests as requests
 use Rattle.wdf_model.specs.parts.Queues as queues
 use Rattle.wdf_model.specs.parts.Queues.{waiting_in}
 use Rattle.wdf_model.specs.parts.Control as control
 use Rattle.wdf_model.specs.parts.Targets.{is_forgotten, is_undone, routine_due}
-use Rattle.wdf_model.specs.parts.Power.{Holding, Power, advance_stage, holding_of, is_held_at, no_holding, wake_holdings, with_up, woken}
+use Rattle.wdf_model.specs.parts.Power.{Power, advance_stage, holding_of, is_held_at, no_holding, wake_holdings, with_up, woken}
 use Rattle.wdf_model.specs.parts.Power as power
 use Rattle.wdf_model.specs.State.{State, held_at, withdrawn_place}
 use Rattle.wdf_model.specs.rules.Deeds.{Deed, Make_request, Arrive, Ask_deletion, Present, Receive, Requeue, Forward, Give_back, Withdraw, Mark_request, Unmark_request, Cancel_request, Take_cancel, Send_request, Finish_sending, Come_back, Complete_request, Purge_queue, Close_returning, Stop_target, Start_target, Advance_power, Acknowledge, Ask_stop, Resume, arrive_at, ask_objects, close_one, do_deed, do_deeds, give_up, queued, withdraw}
@@ -34,7 +36,7 @@ use Rattle.wdf_model.proofs.KeptByDeeds.{deed_keeps}
 use Rattle.wdf_model.proofs.KeptMoves.{request_elsewhere, request_here}
 use Rattle.wdf_invariants.proofs.Forgotten.{stops_other}
 use Rattle.wdf_invariants.proofs.Holding.{HoldsIn, held_by, holds_alike}
-use Rattle.wdf_invariants.proofs.Releases.{cancelled_counts, gives_up, line_counts, same_holding}
+use Rattle.wdf_invariants.proofs.Releases.{gives_up, same_holding}
 use Rattle.wdf_invariants.proofs.HeldPlaces.{marked_held, unmarked_held, withdrawn_unheld}
 use Rattle.wdf_invariants.proofs.HeldMoves.{Placed, away, away_cancelled, came_back, completed, entered_unheld, finished, gone_by, gone_cancelled, marks_hold, presented, received, sent_for_good, sent_to_return}
 
@@ -60,7 +62,7 @@ returning_unheld forgotten q place.Done h = refl
 
 withdrawn : {A : Type 0} (plan : Plan) (q : ℕ) (S : State A) (r : ℕ) → HoldsIn plan S → held_at (is_forgotten S.targets r) (place_of S.requests r) ≡ false → HoldsIn plan (withdraw plan q S r)
 withdrawn plan q S r h old =
-    away_cancelled r (withdrawn_place plan (record S { queues = queues.take_cancelled S.queues r }) q r) h old (withdrawn_unheld _ (is_forgotten S.targets r) q) (λ p. cancelled_counts S.queues r p)
+    away_cancelled r (withdrawn_place plan (record S { queues = queues.take_cancelled S.queues r }) q r) h old (withdrawn_unheld _ (is_forgotten S.targets r) q) (λ p. refl)
 
 stays_unheld : {A : Type 0} (plan : Plan) (q : ℕ) (S : State A) (r x : ℕ) → held_at (is_forgotten S.targets x) (place_of S.requests x) ≡ false → (x ≡ r) ⊎ (x ≢ r)
     → held_at (is_forgotten S.targets x) (place_of (withdraw plan q S r).requests x) ≡ false
@@ -97,28 +99,28 @@ all_closed plan q (r ∷ rs) S h = all_closed plan q rs (close_one q S r) (close
 
 -- ---- power
 
-woken_by : (P : Power) (d : ℕ) (h : Holding) (b : Bool) → is_held_at P d h ≡ b → (woken P d h).queue ≡ h.queue
+woken_by : (P : Power) (d : ℕ) (h : Holding) (b : Bool) → is_held_at P d h ≡ b → (woken P d h).queue.0 ≡ h.queue.0
 woken_by P d h true e = rw e refl
 woken_by P d h false e = rw e refl
 
-woken_queue : (P : Power) (d r : ℕ) → (holding_of (wake_holdings P d) r).queue ≡ (holding_of P r).queue
-woken_queue P d r = ap (λ (h : Holding). h.queue) (entry_map no_holding P.holdings (woken P d) r refl) ∙ woken_by P d (holding_of P r) (is_held_at P d (holding_of P r)) refl
+woken_queue : (P : Power) (d r : ℕ) → (holding_of (wake_holdings P d) r).queue.0 ≡ (holding_of P r).queue.0
+woken_queue P d r = ap (λ (h : Holding). h.queue.0) (entry_map no_holding P.holdings (woken P d) r refl) ∙ woken_by P d (holding_of P r) (is_held_at P d (holding_of P r)) refl
 
-stage_queue : (P : Power) (d : ℕ) (s : Stage) (r : ℕ) → (holding_of (advance_stage P d s) r).queue ≡ (holding_of P r).queue
+stage_queue : (P : Power) (d : ℕ) (s : Stage) (r : ℕ) → (holding_of (advance_stage P d s) r).queue.0 ≡ (holding_of P r).queue.0
 stage_queue P d stage.Hardware r = refl
 stage_queue P d stage.NoHardware r = refl
 stage_queue P d stage.QueuesUp r = woken_queue (with_up P d true) d r
 stage_queue P d stage.QueuesDown r = refl
 stage_queue P d _ r = refl
 
-step_queue : (P : Power) (d : ℕ) (s : Step) (r : ℕ) → (holding_of (power.advance P d s) r).queue ≡ (holding_of P r).queue
+step_queue : (P : Power) (d : ℕ) (s : Step) (r : ℕ) → (holding_of (power.advance P d s) r).queue.0 ≡ (holding_of P r).queue.0
 step_queue P d (step.Run c i) r = refl
 step_queue P d (step.Pass s i) r = stage_queue P d s r
 
 -- ---- each deed
 
 arrives_there : {A : Type 0} (plan : Plan) (S : State A) (device : ℕ) (info : RequestInfo) (p : Place) → Placed S → HoldsIn plan S → is_arrival_place p ≡ true → HoldsIn plan (arrive_at S device info p)
-arrives_there plan S device info (place.Queued q) k h f = entered_unheld S (place.Queued q) info k h (λ forgotten. refl) (λ p. line_counts S.queues q.0 p (λ l. record l { waiting = l.waiting ++ next_id S.tree ∷ [] }) (λ l. refl))
+arrives_there plan S device info (place.Queued q) k h f = entered_unheld S (place.Queued q) info k h (λ forgotten. refl) (λ p. refl)
 arrives_there plan S device info (place.Closing s) k h f = entered_unheld S (place.Closing s) info k h (λ forgotten. refl) (λ p. refl)
 arrives_there plan S device info _ k h f = absurd (let z : ⊥ = cc in z)
 
@@ -136,9 +138,9 @@ deed_holds plan (Ask_deletion o) S f k h = deleted plan S o h
 deed_holds plan (Present q r) S f k h = presented S q r k h f
 deed_holds plan (Receive q r) S f k h = received S q r h f
 deed_holds plan (Requeue r q) S f k h =
-    gone_by S (give_up S r) r (queued q) h (gives_up plan S r h) (λ forgotten. refl) (λ p. line_counts (give_up S r).queues q p (λ l. record l { waiting = r ∷ l.waiting }) (λ l. refl))
+    gone_by S (give_up S r) r (queued q) h (gives_up plan S r h) (λ forgotten. refl) (λ p. refl)
 deed_holds plan (Forward r q) S f k h =
-    gone_by S (give_up S r) r (queued q) h (gives_up plan S r h) (λ forgotten. refl) (λ p. line_counts (give_up S r).queues q p (λ l. record l { waiting = l.waiting ++ r ∷ [] }) (λ l. refl))
+    gone_by S (give_up S r) r (queued q) h (gives_up plan S r h) (λ forgotten. refl) (λ p. refl)
 deed_holds plan (Give_back r q) S f k h = gone_cancelled S (give_up S r) r (withdrawn_place plan (give_up S r) q r) h (gives_up plan S r h) (λ forgotten. withdrawn_unheld _ forgotten q)
 deed_holds plan (Withdraw q r) S f k h = withdrawn plan q S r h (queued_unheld (is_forgotten S.targets r) q (place_of S.requests r) f)
 deed_holds plan (Mark_request r) S f k h = marks_hold r marked h (λ forgotten q. marked_held forgotten q q.info.cancelled refl)

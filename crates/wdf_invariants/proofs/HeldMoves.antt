@@ -5,13 +5,15 @@ use Rattle.wdf_base.specs.declared.value.Status.{Status}
 use Rattle.wdf_base.specs.declared.object.Place.{Place}
 use Rattle.wdf_base.specs.declared.object.Place.TheVariants as place
 use Rattle.wdf_base.specs.declared.object.RequestInfo.{RequestInfo}
+use Rattle.wdf_model.specs.declared.entries.Request.{Request}
+use Rattle.wdf_model.specs.declared.entries.Sending.{Sending}
 use Rattle.wdf_model.specs.Tables.{flag, same_id}
 use Rattle.wdf_model.specs.parts.Tree.{next_id}
-use Rattle.wdf_model.specs.parts.Requests.{Request, Requests, cancelled, is_owned, is_queued_in, is_returning_to, is_sent, is_sent_to, moved, no_request, place_of, request_of, with_request}
+use Rattle.wdf_model.specs.parts.Requests.{Requests, cancelled, is_owned, is_queued_in, is_returning_to, is_sent, is_sent_to, moved, no_request, place_of, request_of, with_request}
 use Rattle.wdf_model.specs.parts.Requests as requests
 use Rattle.wdf_model.specs.parts.Queues.{Queues, front, held_count, waiting_in}
 use Rattle.wdf_model.specs.parts.Queues as queues
-use Rattle.wdf_model.specs.parts.Targets.{Sending, Targets, is_forgotten, is_forgotten_sending, routine_due, routine_outcome, sending_of}
+use Rattle.wdf_model.specs.parts.Targets.{Targets, is_forgotten, is_forgotten_sending, routine_due, routine_outcome, sending_of}
 use Rattle.wdf_model.specs.parts.Targets as targets
 use Rattle.wdf_model.specs.parts.Power.{Power}
 use Rattle.wdf_model.specs.State.{State, held_at}
@@ -103,7 +105,7 @@ presented {A} {plan} S q r k h f =
     let parts = from_queue (is_forgotten S.targets r) q (request_of S.requests r) (place_of S.requests r) refl (queued_at_front S q r k f) in
     taken q r h (λ x n. holder_elsewhere S.requests S.targets r x (moved place.Owned) n) (inside_with S.requests r (moved place.Owned)) (longer_with S.requests r (moved place.Owned))
     parts.0 (holder_here S.requests S.targets r (moved place.Owned) ∙ parts.1)
-    (λ p. one_more S.queues q p (λ l. record l { waiting = drop 1 l.waiting; held = l.held + 1 }) (λ l. refl))
+    (λ p. one_more S.queues q p)
 
 pub received : {A : Type 0} {plan : Plan} (S : State A) (q r : ℕ) → HoldsIn plan S → is_returning_to q (place_of S.requests r) ≡ true
     → Holds plan (requests.move_to S.requests r place.Owned) (queues.hold S.queues q) S.targets (hold_power plan S.power r q)
@@ -111,7 +113,7 @@ received {A} {plan} S q r h f =
     let parts = from_return (is_forgotten S.targets r) q (request_of S.requests r) (place_of S.requests r) refl f in
     taken q r h (λ x n. holder_elsewhere S.requests S.targets r x (moved place.Owned) n) (inside_with S.requests r (moved place.Owned)) (longer_with S.requests r (moved place.Owned))
     parts.0 (holder_here S.requests S.targets r (moved place.Owned) ∙ parts.1)
-    (λ p. one_more S.queues q p (λ l. record l { held = l.held + 1 }) (λ l. refl))
+    (λ p. one_more S.queues q p)
 
 -- ---- targets
 

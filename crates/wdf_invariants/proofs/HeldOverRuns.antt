@@ -9,7 +9,7 @@ use Rattle.wdf_base.specs.declared.declared.QueueInfo.{QueueInfo}
 use Rattle.wdf_model.specs.Tables.{entry, ids_of, same_id}
 use Rattle.wdf_model.specs.Plans.{declared_ids, queue_of}
 use Rattle.wdf_model.specs.parts.Requests.{origin_of}
-use Rattle.wdf_model.specs.parts.Queues.{held_count, no_queue, opening_queue}
+use Rattle.wdf_model.specs.parts.Queues.{held_count}
 use Rattle.wdf_model.specs.parts.Power.{holding_of}
 use Rattle.wdf_model.specs.State.{State, held_from, is_held_from, is_with_driver, opening}
 use Rattle.wdf_model.specs.rules.Steps.{after, deeds, may}
@@ -31,14 +31,10 @@ use Rattle.wdf_invariants.proofs.HeldByDeeds.{deeds_hold}
 
 -- ---- the opening
 
-line_opens : (q : Option QueueInfo) → (opening_queue q).held ≡ 0
-line_opens None = refl
-line_opens (Some q) = refl
-
-lines_open : (plan : Plan) (ids : List ℕ) (q : ℕ) → (entry no_queue (map (λ i. opening_queue (queue_of plan i)) ids) q).held ≡ 0
-lines_open plan [] q = refl
-lines_open plan (i ∷ ids) zero = line_opens (queue_of plan i)
-lines_open plan (i ∷ ids) (suc q) = lines_open plan ids q
+queues_open : (ids : List ℕ) (q : ℕ) → entry {T = ℕ} 0 (map (λ i. 0) ids) q ≡ 0
+queues_open [] q = refl
+queues_open (i ∷ ids) zero = refl
+queues_open (i ∷ ids) (suc q) = queues_open ids q
 
 none_counted : (a n : ℕ) → count_by (λ (r : ℕ). false) (range_with_len a n) ≡ 0
 none_counted a zero = refl
@@ -46,7 +42,7 @@ none_counted a (suc n) = none_counted (a + 1) n
 
 opening_holds : {A : Type 0} (m : Meaning A) (plan : Plan) → HoldsIn plan (opening m plan)
 opening_holds m plan = record {
-  counts = λ q n within. lines_open plan (declared_ids plan) q ∙ sym (none_counted 0 n);
+  counts = λ q n within. queues_open (declared_ids plan) q ∙ sym (none_counted 0 n);
   holdings = λ r. refl;
 }
 
@@ -112,7 +108,7 @@ named_by : (plan : Plan) (b : Bool) (o : Option ℕ) → managed_origin plan (if
 named_by plan true o = refl
 named_by plan false o = refl
 
-named : {A : Type 0} (plan : Plan) (S : State A) → HoldsIn plan S → (r : ℕ) → (holding_of S.power r).queue ≡ holding_queue plan S r
+named : {A : Type 0} (plan : Plan) (S : State A) → HoldsIn plan S → (r : ℕ) → (holding_of S.power r).queue.0 ≡ holding_queue plan S r
 named plan S h r = h.holdings r ∙ named_by plan (is_with_driver S r) (origin_of S.requests r)
 
 pub held_agrees_at_each : {A : Type 0} → AtEachPlace {A = A} held_agrees
@@ -123,4 +119,4 @@ held_agrees_at_each m plan run is_run n =
 pub holdings_agree_at_each : {A : Type 0} → AtEachPlace {A = A} holdings_agree
 holdings_agree_at_each m plan run is_run n =
     let S = state_after m plan (take n run) in
-    each_passes (λ r. (holding_of S.power r).queue == holding_queue plan S r) (λ r. equal (holding_of S.power r).queue (holding_queue plan S r) (named plan S (holds_at_each m plan run is_run n) r)) (ids_of S.tree.nodes)
+    each_passes (λ r. (holding_of S.power r).queue.0 == holding_queue plan S r) (λ r. equal (holding_of S.power r).queue.0 (holding_queue plan S r) (named plan S (holds_at_each m plan run is_run n) r)) (ids_of S.tree.nodes)

@@ -3,8 +3,9 @@
 use Rattle.std.proofs.Common.{if◌then◌else◌, ◌≡◌, ◌≢◌, ℕ, suc, ◌+◌, ◌<◌, ◌≤◌, Bool, ◌⊎◌, inl, inr, Option, None, option_map, length, count_by, ap, sym, ◌∙◌, arith}
 use Rattle.std.specs.List.{range_with_len}
 use Rattle.wdf_base.specs.declared.plan.Plan.{Plan}
+use Rattle.wdf_model.specs.declared.entries.Request.{Request}
 use Rattle.wdf_model.specs.Tables.{flag, same_id}
-use Rattle.wdf_model.specs.parts.Requests.{Request, Requests, request_of}
+use Rattle.wdf_model.specs.parts.Requests.{Requests, request_of}
 use Rattle.wdf_model.specs.parts.Queues.{Queues, held_count}
 use Rattle.wdf_model.specs.parts.Targets.{Targets, is_forgotten}
 use Rattle.wdf_model.specs.parts.Power.{Power, holding_of}
@@ -32,7 +33,7 @@ pub record Holds (plan : Plan) (R : Requests) (Q : Queues) (T : Targets) (P : Po
   -- a queue counts what is held from it
   pub counts : (q n : ℕ) → length R.all ≤ n → held_count Q q ≡ count_by (is_from R T q) (range_with_len 0 n)
   -- a holding names the power-managed queue from which the request is held
-  pub holdings : (r : ℕ) → (holding_of P r).queue ≡ managed_origin plan (holder R T r)
+  pub holdings : (r : ℕ) → (holding_of P r).queue.0 ≡ managed_origin plan (holder R T r)
 
 abbrev pub HoldsIn : {A : Type 0} → Plan → State A → Type 0
 HoldsIn plan S = Holds plan S.requests S.queues S.targets S.power
@@ -51,8 +52,8 @@ pub record Turns (plan : Plan) (R R' : Requests) (Q Q' : Queues) (T T' : Targets
   pub inside : r < length R'.all
   pub longer : length R.all ≤ length R'.all
   pub counts : (q : ℕ) → held_count Q' q + flag (is_from R T q r) ≡ held_count Q q + flag (is_from R' T' q r)
-  pub others : (x : ℕ) → x ≢ r → (holding_of P' x).queue ≡ (holding_of P x).queue
-  pub here : (holding_of P' r).queue ≡ managed_origin plan (holder R' T' r)
+  pub others : (x : ℕ) → x ≢ r → (holding_of P' x).queue.0 ≡ (holding_of P x).queue.0
+  pub here : (holding_of P' r).queue.0 ≡ managed_origin plan (holder R' T' r)
 
 the_same : (R R' : Requests) (T T' : Targets) (r : ℕ) → ((x : ℕ) → x ≢ r → holder R' T' x ≡ holder R T x) → holder R' T' r ≡ holder R T r → (x : ℕ) → (x ≡ r) ⊎ (x ≢ r) → holder R' T' x ≡ holder R T x
 the_same R R' T T' r elsewhere here x (inl e) = rw e here
@@ -67,7 +68,7 @@ module _ {plan : Plan} {R R' : Requests} {Q Q' : Queues} {T T' : Targets} {P P' 
       let count = t.counts q in
       omega arith
 
-  holding_after : Holds plan R Q T P → (r : ℕ) → Turns plan R R' Q Q' T T' P P' r → (x : ℕ) → (x ≡ r) ⊎ (x ≢ r) → (holding_of P' x).queue ≡ managed_origin plan (holder R' T' x)
+  holding_after : Holds plan R Q T P → (r : ℕ) → Turns plan R R' Q Q' T T' P P' r → (x : ℕ) → (x ≡ r) ⊎ (x ≢ r) → (holding_of P' x).queue.0 ≡ managed_origin plan (holder R' T' x)
   holding_after h r t x (inl e) = rw e t.here
   holding_after h r t x (inr d) = t.others x d ∙ h.holdings x ∙ ap (managed_origin plan) (sym (t.elsewhere x d))
 
@@ -76,7 +77,7 @@ module _ {plan : Plan} {R R' : Requests} {Q Q' : Queues} {T T' : Targets} {P P' 
 
   -- nothing changes of who holds what
   pub holds_alike : Holds plan R Q T P → ((x : ℕ) → holder R' T' x ≡ holder R T x) → length R.all ≤ length R'.all → ((q : ℕ) → held_count Q' q ≡ held_count Q q)
-      → ((x : ℕ) → (holding_of P' x).queue ≡ (holding_of P x).queue) → Holds plan R' Q' T' P'
+      → ((x : ℕ) → (holding_of P' x).queue.0 ≡ (holding_of P x).queue.0) → Holds plan R' Q' T' P'
   holds_alike h same longer queues power = record {
     counts = λ q n within. queues q ∙ h.counts q n (omega arith) ∙ sym (same_total (is_from R T q) (is_from R' T' q) 0 n (λ x above. ap (λ o. same_id o q) (same x)));
     holdings = λ x. power x ∙ h.holdings x ∙ ap (managed_origin plan) (sym (same x));
@@ -84,5 +85,5 @@ module _ {plan : Plan} {R R' : Requests} {Q Q' : Queues} {T T' : Targets} {P P' 
 
   -- one request changes, but not who holds it
   pub holds_still : Holds plan R Q T P → (r : ℕ) → ((x : ℕ) → x ≢ r → holder R' T' x ≡ holder R T x) → holder R' T' r ≡ holder R T r → length R.all ≤ length R'.all
-      → ((q : ℕ) → held_count Q' q ≡ held_count Q q) → ((x : ℕ) → (holding_of P' x).queue ≡ (holding_of P x).queue) → Holds plan R' Q' T' P'
+      → ((q : ℕ) → held_count Q' q ≡ held_count Q q) → ((x : ℕ) → (holding_of P' x).queue.0 ≡ (holding_of P x).queue.0) → Holds plan R' Q' T' P'
   holds_still h r elsewhere here longer queues power = holds_alike h (λ x. the_same R R' T T' r elsewhere here x (one_or_two x r)) longer queues power

@@ -2,16 +2,17 @@
 use Rattle.std.proofs.Common.{if◌then◌else◌, ◌≡◌, ◌≢◌, ℕ, suc, ◌+◌, ◌<◌, ◌≤◌, Bool, true, false, List, [], ◌∷◌, ◌++◌, ◌⊎◌, inl, inr, length, refl, ap, sym, ◌∙◌, arith, length-append}
 use Rattle.wdf_base.specs.declared.object.Kind.TheVariants as kind
 use Rattle.wdf_base.specs.Same.{same_kind}
+use Rattle.wdf_model.specs.declared.entries.Node.{Node}
 use Rattle.wdf_model.specs.Tables.{entry}
-use Rattle.wdf_model.specs.parts.Tree.{Node, gone, nearest_devices, own_device}
+use Rattle.wdf_model.specs.parts.Tree.{gone, nearest_devices, own_device}
 use Rattle.wdf_model.proofs.Maps.{entry_before, entry_last}
 use Rattle.wdf_model.proofs.Counts.{one_or_two}
 
 -- a node that stands where another stood, as far as its nearest device goes
 pub record Alike (Fine : ℕ → Type 0) (n m : Node) : Type 0 where
   pub device : same_kind m.kind kind.Device ≡ same_kind n.kind kind.Device
-  pub parent : m.parent ≡ n.parent
-  pub fine : Fine n.parent
+  pub parent : m.parent.0 ≡ n.parent.0
+  pub fine : Fine n.parent.0
 
 longer_one : (xs : List ℕ) (x : ℕ) → length (xs ++ x ∷ []) ≡ suc (length xs)
 longer_one xs x = let e = length-append xs (x ∷ []) in omega arith
@@ -51,8 +52,8 @@ module _ (Fine : ℕ → Type 0) where
       nearest_stays (before ++ x ∷ []) (later ++ y ∷ []) ns ms (omega arith)
       (λ j fine_j. agrees_by before later x y j long same
       (λ fine_here. let a : Alike Fine n m = alike 0 (omega arith) (rw start fine_here) in
-      ap (λ k. if same_kind m.kind kind.Device then k else entry 1 later m.parent) (sym long)
-      ∙ own_alike n m (same_kind n.kind kind.Device) (length before) (entry 1 later m.parent) (entry 1 before n.parent) refl a.device (ap (entry 1 later) a.parent ∙ same n.parent a.fine))
+      ap (λ k. if same_kind m.kind kind.Device then k else entry 1 later m.parent.0) (sym long)
+      ∙ own_alike n m (same_kind n.kind kind.Device) (length before) (entry 1 later m.parent.0) (entry 1 before n.parent.0) refl a.device (ap (entry 1 later) a.parent ∙ same n.parent.0 a.fine))
       fine_j (one_or_two j (length before)))
       (λ i within fine_i. let e : length (before ++ x ∷ []) + i ≡ length before + suc i = omega arith in alike (suc i) (omega arith) (rw e at fine_i))
       (omega arith) o fine (omega arith)

@@ -44,7 +44,7 @@ all_rest plan [] d = refl
 all_rest plan (i ∷ ids) zero = rests plan i (device_of plan i)
 all_rest plan (i ∷ ids) (suc d) = all_rest plan ids d
 
-declared_stand : (ds : List Declared) (o : ℕ) → is_gone (entry gone (map declared_node ds) o).life ≡ true → (entry gone (map declared_node ds) o).parent ≡ 0
+declared_stand : (ds : List Declared) (o : ℕ) → is_gone (entry gone (map declared_node ds) o).life ≡ true → (entry gone (map declared_node ds) o).parent.0 ≡ 0
 declared_stand [] o h = refl
 declared_stand (d ∷ ds) zero h = absurd (let z : ⊥ = cc in z)
 declared_stand (d ∷ ds) (suc o) h = declared_stand ds o h

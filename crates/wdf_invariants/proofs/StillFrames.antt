@@ -12,9 +12,11 @@ use Rattle.wdf_base.specs.declared.call.Callback.TheVariants as callback
 use Rattle.wdf_base.specs.declared.event.Ask.{Ask}
 use Rattle.wdf_base.specs.declared.value.Status.TheVariants as status
 use Rattle.wdf_model.specs.declared.enums.Mode.TheVariants as mode
+use Rattle.wdf_model.specs.declared.entries.Node.{Node}
+use Rattle.wdf_model.specs.declared.entries.Running.{Running}
 use Rattle.wdf_model.specs.Tables.{change_at, ids_of}
-use Rattle.wdf_model.specs.parts.Tree.{children, is_past_cleanup, Node, Tree, is_asked, is_gone, is_live, life_of, may_clean, node_of, noted, subtree, with_life}
-use Rattle.wdf_model.specs.parts.Cpus.{Cpus, Running, frame_of, less_one, no_frame, running}
+use Rattle.wdf_model.specs.parts.Tree.{children, is_past_cleanup, Tree, is_asked, is_gone, is_live, life_of, may_clean, node_of, noted, subtree, with_life}
+use Rattle.wdf_model.specs.parts.Cpus.{Cpus, frame_of, less_one, no_frame, running}
 use Rattle.wdf_model.specs.parts.Queues.{Queues, waiting_in}
 use Rattle.wdf_model.specs.parts.Control as control
 use Rattle.wdf_model.specs.parts.Power.{Power}

@@ -8,8 +8,9 @@ use Rattle.wdf_base.specs.declared.object.Kind.TheVariants as kind
 use Rattle.wdf_base.specs.declared.object.Life.{Life}
 use Rattle.wdf_base.specs.declared.object.Life.TheVariants as life
 use Rattle.wdf_base.specs.Same.{same_kind}
+use Rattle.wdf_model.specs.declared.entries.Node.{Node}
 use Rattle.wdf_model.specs.Tables.{entry, flag}
-use Rattle.wdf_model.specs.parts.Tree.{Node, Tree, children, gone, is_child, is_cleaned, is_gone, life_of, may_destroy, nearest_device, new_node, node_of, parent_of, with_node}
+use Rattle.wdf_model.specs.parts.Tree.{Tree, children, gone, is_child, is_cleaned, is_gone, life_of, may_destroy, nearest_device, new_node, node_of, parent_of, with_node}
 use Rattle.wdf_model.specs.parts.Tree as tree
 use Rattle.wdf_model.proofs.Maps.{entry_before, entry_last, entry_put_other, entry_put_same, put_long}
 use Rattle.wdf_model.proofs.Tests.{both, both_left, both_right}
@@ -41,30 +42,30 @@ tree_then T U V a b = record {
 -- ---- one object changes
 
 module _ (T : Tree) (o : ℕ) (f : Node → Node) where
-  node_alike : ((n : Node) → (f n).kind ≡ n.kind) → ((n : Node) → (f n).parent ≡ n.parent) → (i : ℕ) → (i ≡ o) ⊎ (i ≢ o) → Alike (λ _. Unit {0}) (entry gone T.nodes i) (entry gone (with_node T o f).nodes i)
+  node_alike : ((n : Node) → (f n).kind ≡ n.kind) → ((n : Node) → (f n).parent ≡ n.parent.0) → (i : ℕ) → (i ≡ o) ⊎ (i ≢ o) → Alike (λ _. Unit {0}) (entry gone T.nodes i) (entry gone (with_node T o f).nodes i)
   node_alike kinds parents i (inl e) = rw e (record {
     device = ap (λ (n : Node). same_kind n.kind kind.Device) (entry_put_same gone T.nodes o (f (node_of T o))) ∙ ap (λ k. same_kind k kind.Device) (kinds (node_of T o));
-    parent = ap (λ (n : Node). n.parent) (entry_put_same gone T.nodes o (f (node_of T o))) ∙ parents (node_of T o);
+    parent = ap (λ (n : Node). n.parent.0) (entry_put_same gone T.nodes o (f (node_of T o))) ∙ parents (node_of T o);
     fine = tt;
   })
   node_alike kinds parents i (inr n) = record {
     device = ap (λ (m : Node). same_kind m.kind kind.Device) (entry_put_other gone T.nodes o i (f (node_of T o)) n);
-    parent = ap (λ (m : Node). m.parent) (entry_put_other gone T.nodes o i (f (node_of T o)) n);
+    parent = ap (λ (m : Node). m.parent.0) (entry_put_other gone T.nodes o i (f (node_of T o)) n);
     fine = tt;
   }
 
-  node_hollow : Rooted T → ((n : Node) → (f n).parent ≡ n.parent) → is_gone (f (node_of T o)).life ≡ is_gone (node_of T o).life → (i : ℕ) → (i ≡ o) ⊎ (i ≢ o) → is_gone (life_of (with_node T o f) i) ≡ true → parent_of (with_node T o f) i ≡ 0
+  node_hollow : Rooted T → ((n : Node) → (f n).parent ≡ n.parent.0) → is_gone (f (node_of T o)).life ≡ is_gone (node_of T o).life → (i : ℕ) → (i ≡ o) ⊎ (i ≢ o) → is_gone (life_of (with_node T o f) i) ≡ true → parent_of (with_node T o f) i ≡ 0
   node_hollow r parents lives i (inl e) h =
       let was : is_gone (life_of T o) ≡ true = sym lives ∙ sym (ap (λ (n : Node). is_gone n.life) (entry_put_same gone T.nodes o (f (node_of T o)))) ∙ rw e at h in
-      rw e (ap (λ (n : Node). n.parent) (entry_put_same gone T.nodes o (f (node_of T o))) ∙ parents (node_of T o) ∙ r.hollow o was)
+      rw e (ap (λ (n : Node). n.parent.0) (entry_put_same gone T.nodes o (f (node_of T o))) ∙ parents (node_of T o) ∙ r.hollow o was)
   node_hollow r parents lives i (inr n) h =
-      ap (λ (m : Node). m.parent) (entry_put_other gone T.nodes o i (f (node_of T o)) n) ∙ r.hollow i (sym (ap (λ (m : Node). is_gone m.life) (entry_put_other gone T.nodes o i (f (node_of T o)) n)) ∙ h)
+      ap (λ (m : Node). m.parent.0) (entry_put_other gone T.nodes o i (f (node_of T o)) n) ∙ r.hollow i (sym (ap (λ (m : Node). is_gone m.life) (entry_put_other gone T.nodes o i (f (node_of T o)) n)) ∙ h)
 
   node_root : Rooted T → is_gone (f (node_of T o)).life ≡ is_gone (node_of T o).life → (0 ≡ o) ⊎ (0 ≢ o) → is_gone (life_of (with_node T o f) 0) ≡ true
   node_root r lives (inl e) = subst (λ y. is_gone (life_of (with_node T o f) y) ≡ true) (sym e) (ap (λ (n : Node). is_gone n.life) (entry_put_same gone T.nodes o (f (node_of T o))) ∙ lives ∙ subst (λ i. is_gone (life_of T i) ≡ true) e r.root)
   node_root r lives (inr n) = ap (λ (m : Node). is_gone m.life) (entry_put_other gone T.nodes o 0 (f (node_of T o)) n) ∙ r.root
 
-  pub tree_changes : ((n : Node) → (f n).kind ≡ n.kind) → ((n : Node) → (f n).parent ≡ n.parent) → is_gone (f (node_of T o)).life ≡ is_gone (node_of T o).life → TreeStays T (with_node T o f)
+  pub tree_changes : ((n : Node) → (f n).kind ≡ n.kind) → ((n : Node) → (f n).parent ≡ n.parent.0) → is_gone (f (node_of T o)).life ≡ is_gone (node_of T o).life → TreeStays T (with_node T o f)
   tree_changes kinds parents lives =
       let more = put_long gone T.nodes o (f (node_of T o)) in
       record {
@@ -86,13 +87,13 @@ tree_grows T k class parent =
     record {
       nearest = λ o h. nearest_stays (λ _. Unit {0}) [] [] T.nodes (T.nodes ++ n ∷ []) refl (λ j _. refl)
           (λ i within _. let same : entry gone (T.nodes ++ n ∷ []) i ≡ entry gone T.nodes i = entry_before gone T.nodes n i (λ e. let z : ⊥ = omega arith in z) in
-          record { device = ap (λ (m : Node). same_kind m.kind kind.Device) same; parent = ap (λ (m : Node). m.parent) same; fine = tt })
+          record { device = ap (λ (m : Node). same_kind m.kind kind.Device) same; parent = ap (λ (m : Node). m.parent.0) same; fine = tt })
           (omega arith) o tt (omega arith);
       longer = omega arith;
       rooted = λ r. record {
         hollow = λ o h. elim (one_or_two o (length T.nodes)) [
           | inl e ↦ absurd (let live : is_gone (life_of (tree.create T k class parent) o) ≡ false = rw e (ap (λ (m : Node). is_gone m.life) (entry_last gone T.nodes n)) in let z : ⊥ = cc in z)
-          | inr d ↦ ap (λ (m : Node). m.parent) (entry_before gone T.nodes n o d) ∙ r.hollow o (sym (ap (λ (m : Node). is_gone m.life) (entry_before gone T.nodes n o d)) ∙ h)
+          | inr d ↦ ap (λ (m : Node). m.parent.0) (entry_before gone T.nodes n o d) ∙ r.hollow o (sym (ap (λ (m : Node). is_gone m.life) (entry_before gone T.nodes n o d)) ∙ h)
         ];
         root = ap (λ (m : Node). is_gone m.life) (entry_before gone T.nodes n 0 (λ e. let s = r.some in let z : ⊥ = omega arith in z)) ∙ r.root;
         some = omega arith;
@@ -135,14 +136,14 @@ tree_loses T x r h o other inside =
     nearest_stays (λ i. i ≢ x) [] [] T.nodes (tree.destroy T x).nodes refl (λ j _. refl)
     (λ i within n. let d : i ≢ x = λ e. n (let k : 0 + i ≡ x = omega arith in k) in
     let same : entry gone (tree.destroy T x).nodes i ≡ entry gone T.nodes i = entry_put_other gone T.nodes x i gone d in
-    record { device = ap (λ (m : Node). same_kind m.kind kind.Device) same; parent = ap (λ (m : Node). m.parent) same; fine = childless T x i r h within })
+    record { device = ap (λ (m : Node). same_kind m.kind kind.Device) same; parent = ap (λ (m : Node). m.parent.0) same; fine = childless T x i r h within })
     (put_long gone T.nodes x gone) o other (omega arith)
 
 pub rooted_still : (T : Tree) (x : ℕ) → Rooted T → Rooted (tree.destroy T x)
 rooted_still T x r = record {
   hollow = λ o h. elim (one_or_two o x) [
-    | inl e ↦ rw e (ap (λ (m : Node). m.parent) (entry_put_same gone T.nodes x gone))
-    | inr n ↦ ap (λ (m : Node). m.parent) (entry_put_other gone T.nodes x o gone n) ∙ r.hollow o (sym (ap (λ (m : Node). is_gone m.life) (entry_put_other gone T.nodes x o gone n)) ∙ h)
+    | inl e ↦ rw e (ap (λ (m : Node). m.parent.0) (entry_put_same gone T.nodes x gone))
+    | inr n ↦ ap (λ (m : Node). m.parent.0) (entry_put_other gone T.nodes x o gone n) ∙ r.hollow o (sym (ap (λ (m : Node). is_gone m.life) (entry_put_other gone T.nodes x o gone n)) ∙ h)
   ];
   root = elim (one_or_two 0 x) [
     | inl e ↦ subst (λ y. is_gone (life_of (tree.destroy T x) y) ≡ true) (sym e) (ap (λ (m : Node). is_gone m.life) (entry_put_same gone T.nodes x gone))

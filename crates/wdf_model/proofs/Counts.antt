@@ -4,8 +4,9 @@ use Rattle.std.specs.List.{flat_map}
 use Rattle.std.proofs.lemmas.List.Sums.{sum_by-append}
 use Rattle.std.proofs.lemmas.Bool.{cases_Bool, eq-eqb, eqb-true, false_from_ne_true}
 use Rattle.wdf_base.specs.declared.value.Status.{Status}
+use Rattle.wdf_model.specs.declared.entries.Sending.{Sending}
 use Rattle.wdf_model.specs.Tables.{entry, first_of_list, without, flag, same_id}
-use Rattle.wdf_model.specs.parts.Targets.{Sending, Target, done_sending, is_forgotten_sending, no_target, sending_in_order}
+use Rattle.wdf_model.specs.parts.Targets.{Target, done_sending, is_forgotten_sending, no_target, sending_in_order}
 use Rattle.wdf_model.proofs.Tests.{both_left, not_false, not_true}
 
 -- ---- in general
@@ -141,7 +142,7 @@ others_stay r y xs n = filter_kept (λ x. x == r) (λ x. not (x == y)) (λ x h. 
 
 -- ---- sendings
 
-sent_before : (p : Sending → Bool) (s x : Sending) (xs : List Sending) (b : Bool) → nat_lt s.request x.request ≡ b
+sent_before : (p : Sending → Bool) (s x : Sending) (xs : List Sending) (b : Bool) → nat_lt s.request.0 x.request.0 ≡ b
     → count_by p (sending_in_order s xs) ≡ flag (p s) + count_by p xs → count_by p (sending_in_order s (x ∷ xs)) ≡ flag (p s) + count_by p (x ∷ xs)
 sent_before p s x xs true e rest = rw e (count_cons p s (x ∷ xs))
 sent_before p s x xs false e rest =
@@ -149,87 +150,87 @@ sent_before p s x xs false e rest =
 
 pub one_is_sent : (p : Sending → Bool) (s : Sending) (xs : List Sending) → count_by p (sending_in_order s xs) ≡ flag (p s) + count_by p xs
 one_is_sent p s [] = count_cons p s []
-one_is_sent p s (x ∷ xs) = sent_before p s x xs (nat_lt s.request x.request) refl (one_is_sent p s xs)
+one_is_sent p s (x ∷ xs) = sent_before p s x xs (nat_lt s.request.0 x.request.0) refl (one_is_sent p s xs)
 
-pub it_comes_back : (r : ℕ) (xs : List Sending) → count_by (λ s. s.request == r) (filter (λ s. not (s.request == r)) xs) ≡ 0
-it_comes_back r xs = filter_none (λ s. s.request == r) (λ s. not (s.request == r)) (λ s h. not_true (s.request == r) h) xs
+pub it_comes_back : (r : ℕ) (xs : List Sending) → count_by (λ s. s.request.0 == r) (filter (λ s. not (s.request.0 == r)) xs) ≡ 0
+it_comes_back r xs = filter_none (λ s. s.request.0 == r) (λ s. not (s.request.0 == r)) (λ s h. not_true (s.request.0 == r) h) xs
 
-pub others_stay_sent : (p : Sending → Bool) (y : ℕ) (xs : List Sending) → ((s : Sending) → (s.request == y) ≡ true → p s ≡ false)
-    → count_by p (filter (λ s. not (s.request == y)) xs) ≡ count_by p xs
-others_stay_sent p y xs h = filter_kept p (λ s. not (s.request == y)) (λ s e. h s (not_false (s.request == y) e)) xs
+pub others_stay_sent : (p : Sending → Bool) (y : ℕ) (xs : List Sending) → ((s : Sending) → (s.request.0 == y) ≡ true → p s ≡ false)
+    → count_by p (filter (λ s. not (s.request.0 == y)) xs) ≡ count_by p xs
+others_stay_sent p y xs h = filter_kept p (λ s. not (s.request.0 == y)) (λ s e. h s (not_false (s.request.0 == y) e)) xs
 
 -- what is left of a request's sendings where its target is done with it
 abbrev pub left_over : ℕ → Status → List Sending → List Sending
-left_over r status xs = filter (λ s. not (s.request == r && s.forgotten)) (map (done_sending r status) xs)
+left_over r status xs = filter (λ s. not (s.request.0 == r && s.forgotten)) (map (done_sending r status) xs)
 
-done_asks_by : (r : ℕ) (status : Status) (s : Sending) (b : Bool) → (s.request == r) ≡ b → ((done_sending r status s).request ≡ s.request) × ((done_sending r status s).forgotten ≡ s.forgotten)
+done_asks_by : (r : ℕ) (status : Status) (s : Sending) (b : Bool) → (s.request.0 == r) ≡ b → ((done_sending r status s).request.0 ≡ s.request.0) × ((done_sending r status s).forgotten ≡ s.forgotten)
 done_asks_by r status s true e = rw e (refl, refl)
 done_asks_by r status s false e = rw e (refl, refl)
 
 -- the target's status changes neither the request nor whether it is forgotten
-pub done_asks : (r : ℕ) (status : Status) (s : Sending) → ((done_sending r status s).request ≡ s.request) × ((done_sending r status s).forgotten ≡ s.forgotten)
-done_asks r status s = done_asks_by r status s (s.request == r) refl
+pub done_asks : (r : ℕ) (status : Status) (s : Sending) → ((done_sending r status s).request.0 ≡ s.request.0) × ((done_sending r status s).forgotten ≡ s.forgotten)
+done_asks r status s = done_asks_by r status s (s.request.0 == r) refl
 
 -- of the other requests
 pub others_left : (p : Sending → Bool) (y : ℕ) (status : Status) (xs : List Sending) → ((s : Sending) → p (done_sending y status s) ≡ p s)
-    → ((s : Sending) → (s.request == y) ≡ true → p s ≡ false) → count_by p (left_over y status xs) ≡ count_by p xs
+    → ((s : Sending) → (s.request.0 == y) ≡ true → p s ≡ false) → count_by p (left_over y status xs) ≡ count_by p xs
 others_left p y status xs same h =
-    filter_kept p (λ s. not (s.request == y && s.forgotten)) (λ s e. h s (both_left (s.request == y) s.forgotten (not_false (s.request == y && s.forgotten) e))) (map (done_sending y status) xs)
+    filter_kept p (λ s. not (s.request.0 == y && s.forgotten)) (λ s e. h s (both_left (s.request.0 == y) s.forgotten (not_false (s.request.0 == y && s.forgotten) e))) (map (done_sending y status) xs)
     ∙ count_mapped p (done_sending y status) same xs
 
 pub less_left : (p : Sending → Bool) (y : ℕ) (status : Status) (xs : List Sending) → ((s : Sending) → p (done_sending y status s) ≡ p s) → count_by p (left_over y status xs) ≤ count_by p xs
 less_left p y status xs same =
-    let e = filter_less p (λ s. not (s.request == y && s.forgotten)) (map (done_sending y status) xs) in
+    let e = filter_less p (λ s. not (s.request.0 == y && s.forgotten)) (map (done_sending y status) xs) in
     let k : count_by p (map (done_sending y status) xs) ≡ count_by p xs = count_mapped p (done_sending y status) same xs in
     omega arith
 
-pub by_request : (r y : ℕ) (status : Status) (s : Sending) → ((done_sending y status s).request == r) ≡ (s.request == r)
+pub by_request : (r y : ℕ) (status : Status) (s : Sending) → ((done_sending y status s).request.0 == r) ≡ (s.request.0 == r)
 by_request r y status s = ap (λ n. n == r) (done_asks y status s).0
 
 -- the one sending of a request is kept exactly if it isn't forgotten
-kept_by_forgotten : (r : ℕ) (status : Status) (x : Sending) (xs : List Sending) (b : Bool) → (x.request == r) ≡ true → x.forgotten ≡ b
-    → count_by (λ s. s.request == r) xs ≡ 0 → count_by (λ s. s.request == r) (left_over r status (x ∷ xs)) ≡ flag (not b)
+kept_by_forgotten : (r : ℕ) (status : Status) (x : Sending) (xs : List Sending) (b : Bool) → (x.request.0 == r) ≡ true → x.forgotten ≡ b
+    → count_by (λ s. s.request.0 == r) xs ≡ 0 → count_by (λ s. s.request.0 == r) (left_over r status (x ∷ xs)) ≡ flag (not b)
 kept_by_forgotten r status x xs true e f none =
-    let gone : (not ((done_sending r status x).request == r && (done_sending r status x).forgotten)) ≡ false = rw ((done_asks r status x).0, (done_asks r status x).1, e, f) refl in
-    rw gone (let less = less_left (λ s. s.request == r) r status xs (by_request r r status) in omega arith)
+    let gone : (not ((done_sending r status x).request.0 == r && (done_sending r status x).forgotten)) ≡ false = rw ((done_asks r status x).0, (done_asks r status x).1, e, f) refl in
+    rw gone (let less = less_left (λ s. s.request.0 == r) r status xs (by_request r r status) in omega arith)
 kept_by_forgotten r status x xs false e f none =
-    let stays : (not ((done_sending r status x).request == r && (done_sending r status x).forgotten)) ≡ true = rw ((done_asks r status x).0, (done_asks r status x).1, e, f) refl in
-    let one : ((done_sending r status x).request == r) ≡ true = by_request r r status x ∙ e in
-    rw stays (let less = less_left (λ s. s.request == r) r status xs (by_request r r status) in let k = count_yes (λ s. s.request == r) (done_sending r status x) (left_over r status xs) one in omega arith)
+    let stays : (not ((done_sending r status x).request.0 == r && (done_sending r status x).forgotten)) ≡ true = rw ((done_asks r status x).0, (done_asks r status x).1, e, f) refl in
+    let one : ((done_sending r status x).request.0 == r) ≡ true = by_request r r status x ∙ e in
+    rw stays (let less = less_left (λ s. s.request.0 == r) r status xs (by_request r r status) in let k = count_yes (λ s. s.request.0 == r) (done_sending r status x) (left_over r status xs) one in omega arith)
 
-one_left_by : (r : ℕ) (status : Status) (x : Sending) (xs : List Sending) (b : Bool) → (x.request == r) ≡ b → count_by (λ s. s.request == r) (x ∷ xs) ≡ 1
-    → (count_by (λ s. s.request == r) xs ≡ 1 → count_by (λ s. s.request == r) (left_over r status xs) ≡ flag (not (is_forgotten_sending (find (λ s. s.request == r) xs))))
-    → count_by (λ s. s.request == r) (left_over r status (x ∷ xs)) ≡ flag (not (is_forgotten_sending (find (λ s. s.request == r) (x ∷ xs))))
+one_left_by : (r : ℕ) (status : Status) (x : Sending) (xs : List Sending) (b : Bool) → (x.request.0 == r) ≡ b → count_by (λ s. s.request.0 == r) (x ∷ xs) ≡ 1
+    → (count_by (λ s. s.request.0 == r) xs ≡ 1 → count_by (λ s. s.request.0 == r) (left_over r status xs) ≡ flag (not (is_forgotten_sending (find (λ s. s.request.0 == r) xs))))
+    → count_by (λ s. s.request.0 == r) (left_over r status (x ∷ xs)) ≡ flag (not (is_forgotten_sending (find (λ s. s.request.0 == r) (x ∷ xs))))
 one_left_by r status x xs true e h rest =
-    let none : count_by (λ s. s.request == r) xs ≡ 0 = let k = count_yes (λ s. s.request == r) x xs e in omega arith in
-    let found : is_forgotten_sending (find (λ s. s.request == r) (x ∷ xs)) ≡ x.forgotten = rw e refl in
+    let none : count_by (λ s. s.request.0 == r) xs ≡ 0 = let k = count_yes (λ s. s.request.0 == r) x xs e in omega arith in
+    let found : is_forgotten_sending (find (λ s. s.request.0 == r) (x ∷ xs)) ≡ x.forgotten = rw e refl in
     rw found (kept_by_forgotten r status x xs x.forgotten e refl none)
 one_left_by r status x xs false e h rest =
-    let one : count_by (λ s. s.request == r) xs ≡ 1 = let k = count_no (λ s. s.request == r) x xs e in omega arith in
-    let found : is_forgotten_sending (find (λ s. s.request == r) (x ∷ xs)) ≡ is_forgotten_sending (find (λ s. s.request == r) xs) = rw e refl in
-    let stays : (not ((done_sending r status x).request == r && (done_sending r status x).forgotten)) ≡ true = rw ((done_asks r status x).0, e) refl in
-    let other : ((done_sending r status x).request == r) ≡ false = by_request r r status x ∙ e in
-    rw (found, stays) (count_no (λ s. s.request == r) (done_sending r status x) (left_over r status xs) other ∙ rest one)
+    let one : count_by (λ s. s.request.0 == r) xs ≡ 1 = let k = count_no (λ s. s.request.0 == r) x xs e in omega arith in
+    let found : is_forgotten_sending (find (λ s. s.request.0 == r) (x ∷ xs)) ≡ is_forgotten_sending (find (λ s. s.request.0 == r) xs) = rw e refl in
+    let stays : (not ((done_sending r status x).request.0 == r && (done_sending r status x).forgotten)) ≡ true = rw ((done_asks r status x).0, e) refl in
+    let other : ((done_sending r status x).request.0 == r) ≡ false = by_request r r status x ∙ e in
+    rw (found, stays) (count_no (λ s. s.request.0 == r) (done_sending r status x) (left_over r status xs) other ∙ rest one)
 
-pub one_left : (r : ℕ) (status : Status) (xs : List Sending) → count_by (λ s. s.request == r) xs ≡ 1
-    → count_by (λ s. s.request == r) (left_over r status xs) ≡ flag (not (is_forgotten_sending (find (λ s. s.request == r) xs)))
+pub one_left : (r : ℕ) (status : Status) (xs : List Sending) → count_by (λ s. s.request.0 == r) xs ≡ 1
+    → count_by (λ s. s.request.0 == r) (left_over r status xs) ≡ flag (not (is_forgotten_sending (find (λ s. s.request.0 == r) xs)))
 one_left r status [] h = absurd (omega arith)
-one_left r status (x ∷ xs) h = one_left_by r status x xs (x.request == r) refl h (one_left r status xs)
+one_left r status (x ∷ xs) h = one_left_by r status x xs (x.request.0 == r) refl h (one_left r status xs)
 
 -- where the other targets don't have a request, it is found at its own
-pub found_nowhere : (r : ℕ) (ts : List Target) → ((t : ℕ) → count_by (λ s. s.request == r) (entry no_target ts t).sent ≡ 0)
-    → find (λ s. s.request == r) (flat_map (λ t. t.sent) ts) ≡ None
+pub found_nowhere : (r : ℕ) (ts : List Target) → ((t : ℕ) → count_by (λ s. s.request.0 == r) (entry no_target ts t).sent ≡ 0)
+    → find (λ s. s.request.0 == r) (flat_map (λ t. t.sent) ts) ≡ None
 found_nowhere r [] h = refl
 found_nowhere r (x ∷ ts) h =
-    find_behind (λ s. s.request == r) x.sent (flat_map (λ t. t.sent) ts) (none_found (λ s. s.request == r) x.sent (h 0)) ∙ found_nowhere r ts (λ t. h (suc t))
+    find_behind (λ s. s.request.0 == r) x.sent (flat_map (λ t. t.sent) ts) (none_found (λ s. s.request.0 == r) x.sent (h 0)) ∙ found_nowhere r ts (λ t. h (suc t))
 
-pub found_at_its_target : (r : ℕ) (ts : List Target) (t : ℕ) → ((u : ℕ) → u ≢ t → count_by (λ s. s.request == r) (entry no_target ts u).sent ≡ 0)
-    → find (λ s. s.request == r) (flat_map (λ x. x.sent) ts) ≡ find (λ s. s.request == r) (entry no_target ts t).sent
+pub found_at_its_target : (r : ℕ) (ts : List Target) (t : ℕ) → ((u : ℕ) → u ≢ t → count_by (λ s. s.request.0 == r) (entry no_target ts u).sent ≡ 0)
+    → find (λ s. s.request.0 == r) (flat_map (λ x. x.sent) ts) ≡ find (λ s. s.request.0 == r) (entry no_target ts t).sent
 found_at_its_target r [] t h = refl
 found_at_its_target r (x ∷ ts) zero h =
-    find_front (λ s. s.request == r) x.sent (flat_map (λ y. y.sent) ts) (found_nowhere r ts (λ u. h (suc u) (λ e. let z : ⊥ = cc in z)))
+    find_front (λ s. s.request.0 == r) x.sent (flat_map (λ y. y.sent) ts) (found_nowhere r ts (λ u. h (suc u) (λ e. let z : ⊥ = cc in z)))
 found_at_its_target r (x ∷ ts) (suc t) h =
-    find_behind (λ s. s.request == r) x.sent (flat_map (λ y. y.sent) ts) (none_found (λ s. s.request == r) x.sent (h 0 (λ e. let z : ⊥ = cc in z)))
+    find_behind (λ s. s.request.0 == r) x.sent (flat_map (λ y. y.sent) ts) (none_found (λ s. s.request.0 == r) x.sent (h 0 (λ e. let z : ⊥ = cc in z)))
     ∙ found_at_its_target r ts t (λ u n. h (suc u) (λ e. n (let k : u ≡ t = omega arith in k)))
 
 -- ---- what a count tells
@@ -238,18 +239,33 @@ pub flag_yes : (b : Bool) (n : ℕ) → flag b ≡ suc n → b ≡ true
 flag_yes true n h = refl
 flag_yes false n h = absurd (omega arith)
 
-forgotten_by : (r : ℕ) (x : Sending) (xs : List Sending) (b : Bool) → (x.request == r) ≡ b → is_forgotten_sending (find (λ s. s.request == r) (x ∷ xs)) ≡ true
-    → (is_forgotten_sending (find (λ s. s.request == r) xs) ≡ true → 1 ≤ count_by (λ s. s.request == r && s.forgotten) xs)
-    → 1 ≤ count_by (λ s. s.request == r && s.forgotten) (x ∷ xs)
+forgotten_by : (r : ℕ) (x : Sending) (xs : List Sending) (b : Bool) → (x.request.0 == r) ≡ b → is_forgotten_sending (find (λ s. s.request.0 == r) (x ∷ xs)) ≡ true
+    → (is_forgotten_sending (find (λ s. s.request.0 == r) xs) ≡ true → 1 ≤ count_by (λ s. s.request.0 == r && s.forgotten) xs)
+    → 1 ≤ count_by (λ s. s.request.0 == r && s.forgotten) (x ∷ xs)
 forgotten_by r x xs true e h rest =
     let f : x.forgotten ≡ true = rw e at h in
-    let yes : (x.request == r && x.forgotten) ≡ true = rw (e, f) refl in
-    let k = count_yes (λ s. s.request == r && s.forgotten) x xs yes in omega arith
+    let yes : (x.request.0 == r && x.forgotten) ≡ true = rw (e, f) refl in
+    let k = count_yes (λ s. s.request.0 == r && s.forgotten) x xs yes in omega arith
 forgotten_by r x xs false e h rest =
-    let k = count_cons (λ s. s.request == r && s.forgotten) x xs in
+    let k = count_cons (λ s. s.request.0 == r && s.forgotten) x xs in
     let l = rest (rw e at h) in omega arith
 
 -- a request that is found forgotten is one that doesn't come back
-pub forgotten_counts : (r : ℕ) (xs : List Sending) → is_forgotten_sending (find (λ s. s.request == r) xs) ≡ true → 1 ≤ count_by (λ s. s.request == r && s.forgotten) xs
+pub forgotten_counts : (r : ℕ) (xs : List Sending) → is_forgotten_sending (find (λ s. s.request.0 == r) xs) ≡ true → 1 ≤ count_by (λ s. s.request.0 == r && s.forgotten) xs
 forgotten_counts r [] h = absurd (let z : ⊥ = cc in z)
-forgotten_counts r (x ∷ xs) h = forgotten_by r x xs (x.request == r) refl h (forgotten_counts r xs)
+forgotten_counts r (x ∷ xs) h = forgotten_by r x xs (x.request.0 == r) refl h (forgotten_counts r xs)
+
+flag_both : (a b : Bool) → flag (a && b) ≤ flag a
+flag_both true true = omega arith
+flag_both true false = omega arith
+flag_both false b = omega arith
+
+-- what passes two tests is not more than what passes the first
+pub both_fewer : {T : Type 0} (p q : T → Bool) (xs : List T) → count_by (λ x. p x && q x) xs ≤ count_by p xs
+both_fewer p q [] = omega arith
+both_fewer p q (x ∷ xs) =
+    let rest = both_fewer p q xs in
+    let here = count_cons (λ y. p y && q y) x xs in
+    let there = count_cons p x xs in
+    let less = flag_both (p x) (q x) in
+    omega arith

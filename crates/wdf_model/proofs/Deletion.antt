@@ -3,8 +3,9 @@ use Rattle.std.proofs.Common.{◌≡◌, ◌≢◌, ℕ, zero, suc, ◌==◌, Bo
 use Rattle.std.specs.List.{range_with_len}
 use Rattle.wdf_base.specs.declared.object.Life.TheVariants as life
 use Rattle.wdf_base.specs.declared.plan.Plan.{Plan}
+use Rattle.wdf_model.specs.declared.entries.Node.{Node}
 use Rattle.wdf_model.specs.Tables.{entry, put}
-use Rattle.wdf_model.specs.parts.Tree.{Node, Tree, below_marks, gone, is_below, is_live, life_of, node_of, subtree, with_life, with_node}
+use Rattle.wdf_model.specs.parts.Tree.{Tree, below_marks, gone, is_below, is_live, life_of, node_of, subtree, with_life, with_node}
 use Rattle.wdf_model.specs.parts.Deferred.Dpcs as dpcs
 use Rattle.wdf_model.specs.parts.Deferred.WorkItems as work_items
 use Rattle.wdf_model.specs.parts.Deferred.Timers as timers
@@ -15,29 +16,29 @@ use Rattle.wdf_model.proofs.Maps.{entry_put_same, entry_put_other}
 -- ---- what is below an object, by the parents alone
 
 -- where a live object is changed but keeps its parent, the parents are the same
-parents_kept : (ns : List Node) (x : ℕ) (n : Node) → is_live (entry gone ns x).life ≡ true → n.parent ≡ (entry gone ns x).parent
-    → map (λ k. k.parent) (put gone ns x n) ≡ map (λ k. k.parent) ns
+parents_kept : (ns : List Node) (x : ℕ) (n : Node) → is_live (entry gone ns x).life ≡ true → n.parent.0 ≡ (entry gone ns x).parent.0
+    → map (λ k. k.parent.0) (put gone ns x n) ≡ map (λ k. k.parent.0) ns
 parents_kept [] x n h e = absurd (let z : ⊥ = cc in z)
 parents_kept (k ∷ ks) zero n h e = cc
-parents_kept (k ∷ ks) (suc x) n h e = ap (λ ps. k.parent ∷ ps) (parents_kept ks x n h e)
+parents_kept (k ∷ ks) (suc x) n h e = ap (λ ps. k.parent.0 ∷ ps) (parents_kept ks x n h e)
 
-marks_by_parents : (o : ℕ) (before : List Bool) (ns ms : List Node) → map (λ k. k.parent) ns ≡ map (λ k. k.parent) ms
+marks_by_parents : (o : ℕ) (before : List Bool) (ns ms : List Node) → map (λ k. k.parent.0) ns ≡ map (λ k. k.parent.0) ms
     → below_marks o before ns ≡ below_marks o before ms
 marks_by_parents o before [] [] e = refl
 marks_by_parents o before [] (m ∷ ms) e = absurd (let z : ⊥ = cc in z)
 marks_by_parents o before (n ∷ ns) [] e = absurd (let z : ⊥ = cc in z)
 marks_by_parents o before (n ∷ ns) (m ∷ ms) e =
-    let one : n.parent ≡ m.parent = cc in
-    let rest : map (λ k. k.parent) ns ≡ map (λ k. k.parent) ms = cc in
-    rw one (marks_by_parents o (before ++ (m.parent == o || entry false before m.parent) ∷ []) ns ms rest)
+    let one : n.parent.0 ≡ m.parent.0 = cc in
+    let rest : map (λ k. k.parent.0) ns ≡ map (λ k. k.parent.0) ms = cc in
+    rw one (marks_by_parents o (before ++ (m.parent.0 == o || entry false before m.parent.0) ∷ []) ns ms rest)
 
-as_many : (ns ms : List Node) → map (λ k. k.parent) ns ≡ map (λ k. k.parent) ms → length ns ≡ length ms
+as_many : (ns ms : List Node) → map (λ k. k.parent.0) ns ≡ map (λ k. k.parent.0) ms → length ns ≡ length ms
 as_many [] [] e = refl
 as_many [] (m ∷ ms) e = absurd (let z : ⊥ = cc in z)
 as_many (n ∷ ns) [] e = absurd (let z : ⊥ = cc in z)
-as_many (n ∷ ns) (m ∷ ms) e = ap suc (as_many ns ms (let rest : map (λ k. k.parent) ns ≡ map (λ k. k.parent) ms = cc in rest))
+as_many (n ∷ ns) (m ∷ ms) e = ap suc (as_many ns ms (let rest : map (λ k. k.parent.0) ns ≡ map (λ k. k.parent.0) ms = cc in rest))
 
-subtree_by_parents : (T U : Tree) (o : ℕ) → map (λ k. k.parent) T.nodes ≡ map (λ k. k.parent) U.nodes → subtree T o ≡ subtree U o
+subtree_by_parents : (T U : Tree) (o : ℕ) → map (λ k. k.parent.0) T.nodes ≡ map (λ k. k.parent.0) U.nodes → subtree T o ≡ subtree U o
 subtree_by_parents T U o e =
     ap (λ marks. filter (λ x. x == o || entry false marks x) (range_with_len 0 (length T.nodes))) (marks_by_parents o [] T.nodes U.nodes e)
     ∙ ap (λ n. filter (λ x. x == o || is_below U o x) (range_with_len 0 n)) (as_many T.nodes U.nodes e)
@@ -57,7 +58,7 @@ pub object_off : {A : Type 0} (S : State A) (x : ℕ) → is_live (life_of S.tre
 object_off S x h = rw h refl
 
 object_parents : {A : Type 0} (S : State A) (x : ℕ) (b : Bool) → is_live (life_of S.tree x) ≡ b
-    → map (λ k. k.parent) (ask_object S x).tree.nodes ≡ map (λ k. k.parent) S.tree.nodes
+    → map (λ k. k.parent.0) (ask_object S x).tree.nodes ≡ map (λ k. k.parent.0) S.tree.nodes
 object_parents S x true h = rw (object_live S x h) (parents_kept S.tree.nodes x (with_life life.Asked (node_of S.tree x)) h refl)
 object_parents S x false h = rw (object_off S x h) refl
 
@@ -77,7 +78,7 @@ goes_off S x false h = rw (object_off S x h) h
 
 -- ---- all of them
 
-all_parents : {A : Type 0} (xs : List ℕ) (S : State A) → map (λ k. k.parent) (fold ask_object S xs).tree.nodes ≡ map (λ k. k.parent) S.tree.nodes
+all_parents : {A : Type 0} (xs : List ℕ) (S : State A) → map (λ k. k.parent.0) (fold ask_object S xs).tree.nodes ≡ map (λ k. k.parent.0) S.tree.nodes
 all_parents [] S = refl
 all_parents (x ∷ xs) S = all_parents xs (ask_object S x) ∙ object_parents S x (is_live (life_of S.tree x)) refl
 

@@ -56,7 +56,7 @@ frame_moves plan S e f frame same = record {
   parked = refl;
   others = λ g other. entry_put_other no_frame S.cpus.frames f g (record (running S.cpus f) { frame = frame }) other;
   level = ap (λ r. r.level) (entry_put_same no_frame S.cpus.frames f (record (running S.cpus f) { frame = frame }));
-  levels = ap (λ r. r.levels) (entry_put_same no_frame S.cpus.frames f (record (running S.cpus f) { frame = frame }));
+  levels = refl;
 }
 
 top_moves : (plan : Plan) (S : State Agent) (e : Event) (next : ℕ → Frame → Frame) (f : ℕ) (there : Option ℕ) → there ≡ Some f

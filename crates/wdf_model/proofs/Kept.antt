@@ -19,11 +19,11 @@ abbrev pub stands : Queues → ℕ → ℕ → ℕ
 stands Q q r = count_by (λ x. x == r) (waiting_in Q q)
 
 abbrev pub sends : Targets → ℕ → ℕ → ℕ
-sends T t r = count_by (λ s. s.request == r) (the_target T t).sent
+sends T t r = count_by (λ s. s.request.0 == r) (the_target T t).sent
 
 -- among those that don't come back
 abbrev pub forgets : Targets → ℕ → ℕ → ℕ
-forgets T t r = count_by (λ s. s.request == r && s.forgotten) (the_target T t).sent
+forgets T t r = count_by (λ s. s.request.0 == r && s.forgotten) (the_target T t).sent
 
 abbrev pub arrived : Requests → ℕ → Bool
 arrived R r = has_arrived (request_of R r)

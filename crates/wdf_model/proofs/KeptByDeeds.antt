@@ -1,5 +1,5 @@
 -- Each deed that fits keeps places, lines, targets and kinds in step: a line for each.
-use Rattle.std.proofs.Common.{if◌then◌else◌, ◌≡◌, ◌≢◌, ℕ, suc, ◌+◌, ◌-◌, ◌==◌, ◌≤◌, nat_lt, Bool, true, false, not, ◌&&◌, ◌||◌, List, [], ◌∷◌, ◌++◌, ◌⊎◌, inl, inr, Option, Some, None, is_some, slice_set, fold, length, count_by, refl, ap, sym, subst, ◌∙◌, arith, length-append}
+use Rattle.std.proofs.Common.{is_none, if◌then◌else◌, ◌≡◌, ◌≢◌, ℕ, suc, ◌+◌, ◌-◌, ◌==◌, ◌≤◌, nat_lt, Bool, true, false, not, ◌&&◌, ◌||◌, List, [], ◌∷◌, ◌++◌, ◌⊎◌, inl, inr, Option, Some, None, is_some, slice_set, fold, length, count_by, refl, ap, sym, subst, ◌∙◌, arith, length-append}
 use Rattle.std.proofs.lemmas.Bool.{cases_Bool, or_cases}
 use Rattle.std.specs.List.{list_all}
 use Rattle.wdf_base.specs.declared.plan.Plan.{Plan}
@@ -14,13 +14,16 @@ use Rattle.wdf_base.specs.declared.call.Callback.TheVariants as callback
 use Rattle.wdf_base.specs.declared.value.Status.TheVariants as status
 use Rattle.wdf_base.specs.Same.{same_kind}
 use Rattle.wdf_model.specs.declared.enums.Mode.TheVariants as mode
+use Rattle.wdf_model.specs.declared.entries.Node.{Node}
+use Rattle.wdf_model.specs.declared.entries.Request.{Request}
+use Rattle.wdf_model.specs.declared.entries.Sending.{Sending}
 use Rattle.wdf_model.specs.Tables.{ids_of, flag}
-use Rattle.wdf_model.specs.parts.Tree.{Node, Tree, gone, is_full, is_live, kind_of, life_of, nearest_device, new_node, next_id, node_of, noted, subtree, with_life, with_node}
+use Rattle.wdf_model.specs.parts.Tree.{Tree, gone, is_full, is_live, kind_of, life_of, nearest_device, new_node, next_id, node_of, noted, subtree, with_life, with_node}
 use Rattle.wdf_model.specs.parts.Tree as tree
-use Rattle.wdf_model.specs.parts.Requests.{Request, Requests, cancelled, has_arrived, is_closing, is_done, is_due, mark_of, is_marked, is_owned, is_queued_in, is_returning_to, is_sent, is_sent_to, made_info, marked, moved, place_of, unmarked, with_mark}
+use Rattle.wdf_model.specs.parts.Requests.{Requests, cancelled, has_arrived, is_closing, is_done, is_due, mark_of, is_marked, is_owned, is_queued_in, is_returning_to, is_sent, is_sent_to, made_info, marked, moved, place_of, unmarked, with_mark, is_over, no_request, request_of}
 use Rattle.wdf_model.specs.parts.Requests as requests
 use Rattle.wdf_base.specs.declared.object.Mark.TheVariants as mark
-use Rattle.wdf_model.specs.parts.Queues.{Queue, Queues, waiting_in}
+use Rattle.wdf_model.specs.parts.Queues.{Queues, waiting_in}
 use Rattle.wdf_model.specs.parts.Queues as queues
 use Rattle.wdf_model.specs.parts.Control.{accepts}
 use Rattle.wdf_model.specs.parts.Control as control
@@ -34,11 +37,11 @@ use Rattle.wdf_model.specs.rules.Calls.{may_send}
 use Rattle.wdf_model.specs.laws.Fits.{all_fit, fits, is_arrival_place, is_given, is_reached}
 use Rattle.wdf_model.proofs.Tests.{both_left, both_right, not_true}
 use Rattle.wdf_model.proofs.Sames.{kind_decides}
-use Rattle.wdf_model.proofs.Maps.{entry_before, entry_last, entry_put_other, entry_put_same, put_long}
+use Rattle.wdf_model.proofs.Maps.{entry_before, entry_last, entry_put_other, entry_put_same, put_long, entry_blanked, entry_set_other, set_as_it_was, as_long}
 use Rattle.wdf_model.proofs.Deletion.{object_live, object_off}
-use Rattle.wdf_model.proofs.Counts.{at_head, equal, one_or_two}
-use Rattle.wdf_model.proofs.Kept.{Kept, arrived, is_made_place}
-use Rattle.wdf_model.proofs.KeptMoves.{Enters, arrived_within, enter_line, enters_others, enters_once, head_enters, is_still, line_elsewhere, line_here, marks_change, present_front, request_here, request_elsewhere, same_lines, same_targets, same_tree, still_move, tail_enters, target_elsewhere, target_here, withdraw_from_line, within}
+use Rattle.wdf_model.proofs.Counts.{at_head, equal, one_or_two, both_fewer}
+use Rattle.wdf_model.proofs.Kept.{Kept, arrived, is_made_place, forgets, is_request, kept_by_move, sends}
+use Rattle.wdf_model.proofs.KeptMoves.{Enters, arrived_within, enter_line, enters_others, enters_once, head_enters, is_still, marks_change, present_front, request_here, request_elsewhere, same_lines, same_targets, same_tree, still_move, tail_enters, target_elsewhere, target_here, withdraw_from_line, within, still_unqueued, still_unsent}
 use Rattle.wdf_model.proofs.KeptTargets.{come_back, finish_sending, new_request, nowhere_yet, send_request}
 
 -- the invariant in a state
@@ -94,10 +97,7 @@ pub record GivesUp {A : Type 0} (S U : State A) : Type 0 where
 
 released : (Q : Queues) (from : Option ℕ) (q : ℕ) → waiting_in (release_line Q from) q ≡ waiting_in Q q
 released Q None q = refl
-released Q (Some p) q = elim (one_or_two q p) [
-  | inl e ↦ rw e (ap (λ (l : Queue). l.waiting) (line_here Q p (λ l. record l { held = l.held - 1 })))
-  | inr n ↦ ap (λ (l : Queue). l.waiting) (line_elsewhere Q p q (λ l. record l { held = l.held - 1 }) n)
-]
+released Q (Some p) q = refl
 
 gives_up_by : {A : Type 0} (S : State A) (b : Bool) (from : Option ℕ) (power : Power) → GivesUp S (if b then record S { queues = release_line S.queues from; power = power } else S)
 gives_up_by S true from power = record { queues = λ q. released S.queues from q; requests = refl; targets = refl; tree = refl }
@@ -312,13 +312,54 @@ unmarked_place : (q : Request) (b : Bool) → is_marked q.info.mark ≡ b → ((
 unmarked_place q true e = rw e (refl, refl)
 unmarked_place q false e = rw e (refl, refl)
 
+-- ---- an object is destroyed
+
+-- what the framework is done with is in no queue and at no target
+over_still : (p : Place) (b : Bool) → (is_done p || (is_owned p && b)) ≡ true → is_still p ≡ true
+over_still place.Owned b h = refl
+over_still place.Done b h = refl
+over_still (place.Queued q) b h = absurd (let z : ⊥ = cc in z)
+over_still (place.Returning q) b h = refl
+over_still (place.Closing s) b h = refl
+over_still (place.Sent t) b h = absurd (let z : ⊥ = cc in z)
+
+-- what isn't sent isn't to be forgotten
+fewer_forgotten : (T : Targets) (t r : ℕ) → sends T t r ≡ 0 → forgets T t r ≡ 0
+fewer_forgotten T t r none = let e = both_fewer (λ (s : Sending). s.request.0 == r) (λ s. s.forgotten) (the_target T t).sent in omega arith
+
+forgotten_by : {F B : ℕ → Bool} {R : Requests} {Q : Queues} {T : Targets} {N : Tree} (o : ℕ) (b : Bool) → is_over (request_of R o) ≡ b → is_request N o ≡ false → Kept F B R Q T N
+    → Kept F B (record R { all = slice_set R.all o (if b then no_request else request_of R o) }) Q T N
+forgotten_by {F} {B} {R} {Q} {T} {N} o false e none k = subst (λ (all : List Request). Kept F B (record R { all = all }) Q T N) (sym (set_as_it_was no_request R.all o)) k
+forgotten_by {F} {B} {R} {Q} {T} {N} o true e none k =
+    let still : is_still (place_of R o) ≡ true = over_still (place_of R o) (is_none (request_of R o).info.origin) e in
+    kept_by_move {r = o} {p = place.Done} k (record {
+      elsewhere = λ x n. ap (λ (q : Request). q.place) (entry_set_other no_request R.all o x no_request n);
+      here = ap (λ (q : Request). q.place) (entry_blanked no_request R.all o);
+      arrivals = λ x n. ap has_arrived (entry_set_other no_request R.all o x no_request n);
+      room = let room = k.room in let long = as_long R.all o no_request in omega arith;
+      other_kinds = λ x n h. h;
+      kind = λ h. absurd (let z : ⊥ = cc in z);
+      other_lines = λ q x n. refl;
+      line = λ q. k.queued q o ∙ ap flag (still_unqueued q (place_of R o) still);
+      other_targets = λ t x n. refl;
+      target = λ t. k.sent t o ∙ ap flag (still_unsent t (place_of R o) still);
+      made = λ h. refl;
+      other_returns = λ t x n. omega arith;
+      returns = λ t h. fewer_forgotten T t o (k.sent t o ∙ ap flag (still_unsent t (place_of R o) still));
+      longer = omega arith;
+      unended = λ h. refl;
+      begun = λ h. absurd (let never : arrived (record R { all = slice_set R.all o no_request }) o ≡ false = ap has_arrived (entry_blanked no_request R.all o) in let z : ⊥ = cc in z);
+    })
+
+destroyed : {A : Type 0} {F B : ℕ → Bool} (S : State A) (o : ℕ) → KeptIn F B S → Kept F B (requests.forget S.requests o) S.queues S.targets (tree.destroy S.tree o)
+destroyed S o k =
+    forgotten_by o (is_over (request_of S.requests o)) refl (ap (λ (n : Node). same_kind n.kind kind.Request) (entry_put_same gone S.tree.nodes o gone))
+    (tree_changes o (λ _. gone) k (λ n e. absurd (let z : ⊥ = cc in z)))
+
 -- ---- each deed
 
 held_line : (Q : Queues) (q p : ℕ) → waiting_in (queues.hold Q q) p ≡ waiting_in Q p
-held_line Q q p = elim (one_or_two p q) [
-  | inl e ↦ rw e (ap (λ (l : Queue). l.waiting) (line_here Q q (λ l. record l { held = l.held + 1 })))
-  | inr n ↦ ap (λ (l : Queue). l.waiting) (line_elsewhere Q q p (λ l. record l { held = l.held + 1 }) n)
-]
+held_line Q q p = refl
 
 stopped_target : (T : Targets) (t u : ℕ) (b : Bool) → (the_target (with_target T t (λ x. record x { stopped = b })) u).sent ≡ (the_target T u).sent
 stopped_target T t u b = elim (one_or_two u t) [
@@ -382,7 +423,7 @@ deed_keeps plan (Unrefer o) S f b k = tree_changes o (λ n. record n { reference
 deed_keeps plan (Write_cell o c v) S f b k = tree_changes o (λ n. record n { cells = slice_set n.cells c v }) k (λ n e. e)
 deed_keeps plan (Note o c) S f b k = tree_changes o (noted c) k (λ n e. sym (ap (λ (x : Kind). same_kind x kind.Request) (noted_kind c n)) ∙ e)
 deed_keeps plan (Clean_up o) S f b k = tree_changes o (with_life life.Cleaned) k (λ n e. e)
-deed_keeps plan (End_life o) S f b k = tree_changes o (λ _. gone) k (λ n e. absurd (let z : ⊥ = cc in z))
+deed_keeps plan (End_life o) S f b k = destroyed S o k
 deed_keeps plan (Present q r) S f b k = present_front q r k f
 deed_keeps plan (Receive q r) S f b k =
     let is = returning_undone q (place_of S.requests r) f in

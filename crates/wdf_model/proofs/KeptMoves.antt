@@ -3,11 +3,12 @@ use Rattle.std.proofs.Common.{◌≡◌, ◌≢◌, ℕ, zero, suc, ◌+◌, ◌
 use Rattle.wdf_base.specs.declared.object.Place.{Place}
 use Rattle.wdf_base.specs.declared.object.Place.TheVariants as place
 use Rattle.std.proofs.lemmas.Bool.{eqb-true}
+use Rattle.wdf_model.specs.declared.entries.Request.{Request}
 use Rattle.wdf_model.specs.Tables.{entry, without, flag, same_id}
 use Rattle.wdf_model.specs.parts.Tree.{Tree}
-use Rattle.wdf_model.specs.parts.Requests.{Request, Requests, has_arrived, is_done, is_queued_in, is_sent_to, moved, no_request, place_of, request_of, with_request}
+use Rattle.wdf_model.specs.parts.Requests.{Requests, has_arrived, is_done, is_queued_in, is_sent_to, moved, no_request, place_of, request_of, with_request}
 use Rattle.wdf_model.specs.parts.Requests as requests
-use Rattle.wdf_model.specs.parts.Queues.{Queue, Queues, front, the_queue, queue_without, no_queue, waiting_in, with_queue}
+use Rattle.wdf_model.specs.parts.Queues.{Queues, front, waiting_in, with_waiting}
 use Rattle.wdf_model.specs.parts.Queues as queues
 use Rattle.wdf_model.specs.parts.Targets.{Target, Targets, no_target, the_target, with_target}
 use Rattle.wdf_model.proofs.Maps.{entry_map, entry_put_other, entry_put_same, put_short}
@@ -80,11 +81,11 @@ arrived_in_list (x ∷ xs) (suc r) h = let e = arrived_in_list xs r h in omega a
 pub arrived_within : (R : Requests) (r : ℕ) → arrived R r ≡ true → r < length R.all
 arrived_within R r h = arrived_in_list R.all r h
 
-pub line_here : (Q : Queues) (q : ℕ) (f : Queue → Queue) → the_queue (with_queue Q q f) q ≡ f (the_queue Q q)
-line_here Q q f = entry_put_same no_queue Q.queues q (f (the_queue Q q))
+pub queue_here : (Q : Queues) (q : ℕ) (f : List ℕ → List ℕ) → waiting_in (with_waiting Q q f) q ≡ f (waiting_in Q q)
+queue_here Q q f = entry_put_same [] Q.waiting q (f (waiting_in Q q))
 
-pub line_elsewhere : (Q : Queues) (q p : ℕ) (f : Queue → Queue) → p ≢ q → the_queue (with_queue Q q f) p ≡ the_queue Q p
-line_elsewhere Q q p f n = entry_put_other no_queue Q.queues q p (f (the_queue Q q)) n
+pub queue_elsewhere : (Q : Queues) (q p : ℕ) (f : List ℕ → List ℕ) → p ≢ q → waiting_in (with_waiting Q q f) p ≡ waiting_in Q p
+queue_elsewhere Q q p f n = entry_put_other [] Q.waiting q p (f (waiting_in Q q)) n
 
 pub target_here : (T : Targets) (t : ℕ) (f : Target → Target) → the_target (with_target T t f) t ≡ f (the_target T t)
 target_here T t f = entry_put_same no_target T.targets t (f (the_target T t))
@@ -209,8 +210,8 @@ pub record Enters (Q Q' : Queues) (q r : ℕ) : Type 0 where
 
 pub tail_enters : (Q : Queues) (q r : ℕ) → Enters Q (queues.enter Q q r) q r
 tail_enters Q q r = record {
-  here = λ x. ap (λ (l : Queue). count_by (λ y. y == x) l.waiting) (line_here Q q (λ l. record l { waiting = l.waiting ++ r ∷ [] })) ∙ at_tail x r (waiting_in Q q);
-  elsewhere = λ p x n. ap (λ (l : Queue). count_by (λ y. y == x) l.waiting) (line_elsewhere Q q p (λ l. record l { waiting = l.waiting ++ r ∷ [] }) n);
+  here = λ x. ap (λ (ws : List ℕ). count_by (λ y. y == x) ws) (queue_here Q q (λ ws. ws ++ r ∷ [])) ∙ at_tail x r (waiting_in Q q);
+  elsewhere = λ p x n. ap (λ (ws : List ℕ). count_by (λ y. y == x) ws) (queue_elsewhere Q q p (λ ws. ws ++ r ∷ []) n);
 }
 
 head_counts : (Q : Queues) (q r x : ℕ) → count_by (λ y. y == x) (r ∷ waiting_in Q q) ≡ stands Q q x + flag (r == x)
@@ -218,8 +219,8 @@ head_counts Q q r x = let e = at_head x r (waiting_in Q q) in omega arith
 
 pub head_enters : (Q : Queues) (q r : ℕ) → Enters Q (queues.requeue Q q r) q r
 head_enters Q q r = record {
-  here = λ x. ap (λ (l : Queue). count_by (λ y. y == x) l.waiting) (line_here Q q (λ l. record l { waiting = r ∷ l.waiting })) ∙ head_counts Q q r x;
-  elsewhere = λ p x n. ap (λ (l : Queue). count_by (λ y. y == x) l.waiting) (line_elsewhere Q q p (λ l. record l { waiting = r ∷ l.waiting }) n);
+  here = λ x. ap (λ (ws : List ℕ). count_by (λ y. y == x) ws) (queue_here Q q (λ ws. r ∷ ws)) ∙ head_counts Q q r x;
+  elsewhere = λ p x n. ap (λ (ws : List ℕ). count_by (λ y. y == x) ws) (queue_elsewhere Q q p (λ ws. r ∷ ws) n);
 }
 
 -- what an entry does to the others, and to the request, which stood nowhere
@@ -282,18 +283,18 @@ front_others : {F B : ℕ → Bool} {R : Requests} {Q : Queues} {T : Targets} {N
     → stands (queues.take Q q) p x ≡ stands Q p x
 front_others {F} {B} {R} {Q} q r k h p x n (inl same) =
     rw same
-    (ap (λ (l : Queue). count_by (λ y. y == x) l.waiting) (line_here Q q (λ l. record l { waiting = drop 1 l.waiting; held = l.held + 1 }))
+    (ap (λ (ws : List ℕ). count_by (λ y. y == x) ws) (queue_here Q q (drop 1))
     ∙ behind_front q r x k h n)
 front_others {F} {B} {R} {Q} q r k h p x n (inr other) =
-    ap (λ (l : Queue). count_by (λ y. y == x) l.waiting) (line_elsewhere Q q p (λ l. record l { waiting = drop 1 l.waiting; held = l.held + 1 }) other)
+    ap (λ (ws : List ℕ). count_by (λ y. y == x) ws) (queue_elsewhere Q q p (drop 1) other)
 
 front_gone : {F B : ℕ → Bool} {R : Requests} {Q : Queues} {T : Targets} {N : Tree} (q r : ℕ) → Kept F B R Q T N → same_id (front Q q) r ≡ true → (p : ℕ) → (p ≡ q) ⊎ (p ≢ q) → stands (queues.take Q q) p r ≡ 0
 front_gone {F} {B} {R} {Q} q r k h p (inl same) =
     rw same
-    (ap (λ (l : Queue). count_by (λ y. y == r) l.waiting) (line_here Q q (λ l. record l { waiting = drop 1 l.waiting; held = l.held + 1 }))
+    (ap (λ (ws : List ℕ). count_by (λ y. y == r) ws) (queue_here Q q (drop 1))
     ∙ no_more_behind q r k h)
 front_gone {F} {B} {R} {Q} q r k h p (inr other) =
-    ap (λ (l : Queue). count_by (λ y. y == r) l.waiting) (line_elsewhere Q q p (λ l. record l { waiting = drop 1 l.waiting; held = l.held + 1 }) other)
+    ap (λ (ws : List ℕ). count_by (λ y. y == r) ws) (queue_elsewhere Q q p (drop 1) other)
     ∙ k.queued p r ∙ ap flag (queued_once q p (place_of R r) (front_queued q r k h) other)
 
 queued_undone : (q : ℕ) (p : Place) → is_queued_in q p ≡ true → is_done p ≡ false
@@ -312,7 +313,7 @@ present_front {F} {B} {R} {Q} {T} {N} q r k h =
     (λ p x n. front_others q r k h p x n (one_or_two p q)) (λ p. front_gone q r k h p (one_or_two p q))
 
 cancelled_line : (Q : Queues) (r p : ℕ) → waiting_in (queues.take_cancelled Q r) p ≡ without r (waiting_in Q p)
-cancelled_line Q r p = ap (λ (l : Queue). l.waiting) (entry_map no_queue Q.queues (queue_without r) p refl)
+cancelled_line Q r p = entry_map [] Q.waiting (without r) p refl
 
 -- a request leaves its line, wherever it stands
 pub withdraw_from_line : {F B : ℕ → Bool} {R : Requests} {Q : Queues} {T : Targets} {N : Tree} (r : ℕ) (p : Place) → Kept F B R Q T N → is_done (place_of R r) ≡ false → ((t : ℕ) → is_sent_to t (place_of R r) ≡ false)

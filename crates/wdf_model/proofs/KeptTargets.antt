@@ -8,13 +8,16 @@ use Rattle.wdf_base.specs.declared.object.Place.TheVariants as place
 use Rattle.wdf_base.specs.declared.object.RequestInfo.{RequestInfo}
 use Rattle.wdf_base.specs.declared.value.Status.{Status}
 use Rattle.wdf_base.specs.Same.{same_kind}
+use Rattle.wdf_model.specs.declared.entries.Node.{Node}
+use Rattle.wdf_model.specs.declared.entries.Request.{Request}
+use Rattle.wdf_model.specs.declared.entries.Sending.{Sending}
 use Rattle.wdf_model.specs.Tables.{flag}
-use Rattle.wdf_model.specs.parts.Tree.{Node, Tree, gone, new_node, next_id}
+use Rattle.wdf_model.specs.parts.Tree.{Tree, gone, new_node, next_id}
 use Rattle.wdf_model.specs.parts.Tree as tree
-use Rattle.wdf_model.specs.parts.Requests.{Request, Requests, has_arrived, is_done, is_queued_in, is_sent, is_sent_to, no_request, place_of, request_of}
+use Rattle.wdf_model.specs.parts.Requests.{Requests, has_arrived, is_done, is_queued_in, is_sent, is_sent_to, no_request, place_of, request_of}
 use Rattle.wdf_model.specs.parts.Requests as requests
 use Rattle.wdf_model.specs.parts.Queues.{Queues}
-use Rattle.wdf_model.specs.parts.Targets.{Sending, Target, Targets, done_sending, is_forgotten, is_forgotten_sending, new_sending, no_target, sending_in_order, target_done, the_target, without_sending}
+use Rattle.wdf_model.specs.parts.Targets.{Target, Targets, done_sending, is_forgotten, is_forgotten_sending, new_sending, no_target, sending_in_order, target_done, the_target, without_sending}
 use Rattle.wdf_model.specs.parts.Targets as targets
 use Rattle.wdf_model.specs.rules.Deeds.{finished_at}
 use Rattle.wdf_model.proofs.Maps.{entry_before, entry_last, entry_map, entry_past, entry_put_other, entry_put_same, put_short}
@@ -41,11 +44,11 @@ sent_others T t r forget test u x differs_ (inr other) =
 sent_once : (T : Targets) (t r : ℕ) (forget : Bool) → ((u : ℕ) → sends T u r ≡ 0) → (u : ℕ) → (u ≡ t) ⊎ (u ≢ t) → sends (targets.send T t r forget) u r ≡ flag (t == u)
 sent_once T t r forget none u (inl same) =
     rw same
-    (ap (λ (y : Target). count_by (λ s. s.request == r) y.sent) (target_here T t (λ y. record y { sent = sending_in_order (new_sending r forget) y.sent }))
-    ∙ one_is_sent (λ s. s.request == r) (new_sending r forget) (the_target T t).sent
+    (ap (λ (y : Target). count_by (λ s. s.request.0 == r) y.sent) (target_here T t (λ y. record y { sent = sending_in_order (new_sending r forget) y.sent }))
+    ∙ one_is_sent (λ s. s.request.0 == r) (new_sending r forget) (the_target T t).sent
     ∙ (let zero_ = none t in let yes : flag (r == r) ≡ 1 = ap flag (equal r r refl) in let one : flag (t == t) ≡ 1 = ap flag (equal t t refl) in omega arith))
 sent_once T t r forget none u (inr other) =
-    ap (λ (y : Target). count_by (λ s. s.request == r) y.sent) (target_elsewhere T t u (λ y. record y { sent = sending_in_order (new_sending r forget) y.sent }) other)
+    ap (λ (y : Target). count_by (λ s. s.request.0 == r) y.sent) (target_elsewhere T t u (λ y. record y { sent = sending_in_order (new_sending r forget) y.sent }) other)
     ∙ none u ∙ sym (ap flag (not_equal t u (λ f. other (sym f))))
 
 pub send_request : {F B : ℕ → Bool} {R : Requests} {Q : Queues} {T : Targets} {N : Tree} (r t : ℕ) (forget : Bool) → Kept F B R Q T N → is_done (place_of R r) ≡ false → is_still (place_of R r) ≡ true
@@ -54,10 +57,10 @@ send_request {F} {B} {R} {Q} {T} {N} r t forget k there old comes = move_request
     (λ _. refl)
     (λ q x n. refl)
     (λ q. k.queued q r ∙ ap flag (still_unqueued q (place_of R r) old))
-    (λ u x n. sent_others T t r forget (λ y s. s.request == y) u x (not_equal r x (λ e. n (sym e))) (one_or_two u t))
+    (λ u x n. sent_others T t r forget (λ y s. s.request.0 == y) u x (not_equal r x (λ e. n (sym e))) (one_or_two u t))
     (λ u. sent_once T t r forget (λ v. k.sent v r ∙ ap flag (still_unsent v (place_of R r) old)) u (one_or_two u t))
-    (λ u x n. let e = sent_others T t r forget (λ y s. s.request == y && s.forgotten) u x (and_left (r == x) forget (not_equal r x (λ e. n (sym e)))) (one_or_two u t) in omega arith)
-    (λ u h. sent_others T t r forget (λ y s. s.request == y && s.forgotten) u r (rw (comes h) (no_more (r == r))) (one_or_two u t) ∙ k.returns u r h)
+    (λ u x n. let e = sent_others T t r forget (λ y s. s.request.0 == y && s.forgotten) u x (and_left (r == x) forget (not_equal r x (λ e. n (sym e)))) (one_or_two u t) in omega arith)
+    (λ u h. sent_others T t r forget (λ y s. s.request.0 == y && s.forgotten) u r (rw (comes h) (no_more (r == r))) (one_or_two u t) ∙ k.returns u r h)
 
 -- ---- it comes back
 
@@ -77,26 +80,26 @@ sent_undone (place.Closing s) h = refl
 sent_undone place.Owned h = refl
 sent_undone place.Done h = absurd (let z : ⊥ = cc in z)
 
-back_at : (T : Targets) (r u : ℕ) → (the_target (targets.back T r) u).sent ≡ filter (λ s. not (s.request == r)) (the_target T u).sent
+back_at : (T : Targets) (r u : ℕ) → (the_target (targets.back T r) u).sent ≡ filter (λ s. not (s.request.0 == r)) (the_target T u).sent
 back_at T r u = ap (λ (y : Target). y.sent) (entry_map no_target T.targets (without_sending r) u refl)
 
 less_back : {F B : ℕ → Bool} {R : Requests} {Q : Queues} {T : Targets} {N : Tree} (r u : ℕ) → Kept F B R Q T N → arrived R r ≡ false → forgets (targets.back T r) u r ≡ 0
 less_back {F} {B} {R} {Q} {T} r u k a =
-    let less = filter_less (λ s. s.request == r && s.forgotten) (λ s. not (s.request == r)) (the_target T u).sent in
+    let less = filter_less (λ s. s.request.0 == r && s.forgotten) (λ s. not (s.request.0 == r)) (the_target T u).sent in
     let none = k.returns u r a in
-    ap (λ (xs : List Sending). count_by (λ s. s.request == r && s.forgotten) xs) (back_at T r u) ∙ omega arith
+    ap (λ (xs : List Sending). count_by (λ s. s.request.0 == r && s.forgotten) xs) (back_at T r u) ∙ omega arith
 
 pub come_back : {F B : ℕ → Bool} {R : Requests} {Q : Queues} {T : Targets} {N : Tree} (r : ℕ) → Kept F B R Q T N → is_sent (place_of R r) ≡ true → Kept F B (requests.move_to R r place.Owned) Q (targets.back T r) N
 come_back {F} {B} {R} {Q} {T} {N} r k h = move_request r place.Owned k (sent_undone (place_of R r) h)
     (λ _. refl)
     (λ q x n. refl)
     (λ q. k.queued q r ∙ ap flag (sent_unqueued q (place_of R r) h))
-    (λ u x n. ap (λ (xs : List Sending). count_by (λ s. s.request == x) xs) (back_at T r u) ∙ others_stay_sent (λ s. s.request == x) r (the_target T u).sent (λ s e. differs s.request r x e (λ f. n (sym f))))
-    (λ u. ap (λ (xs : List Sending). count_by (λ s. s.request == r) xs) (back_at T r u) ∙ it_comes_back r (the_target T u).sent)
+    (λ u x n. ap (λ (xs : List Sending). count_by (λ s. s.request.0 == x) xs) (back_at T r u) ∙ others_stay_sent (λ s. s.request.0 == x) r (the_target T u).sent (λ s e. differs s.request.0 r x e (λ f. n (sym f))))
+    (λ u. ap (λ (xs : List Sending). count_by (λ s. s.request.0 == r) xs) (back_at T r u) ∙ it_comes_back r (the_target T u).sent)
     (λ u x n.
     let e : forgets (targets.back T r) u x ≡ forgets T u x =
-    ap (λ (xs : List Sending). count_by (λ s. s.request == x && s.forgotten) xs) (back_at T r u)
-    ∙ others_stay_sent (λ s. s.request == x && s.forgotten) r (the_target T u).sent (λ s e. and_left (s.request == x) s.forgotten (differs s.request r x e (λ f. n (sym f))))
+    ap (λ (xs : List Sending). count_by (λ s. s.request.0 == x && s.forgotten) xs) (back_at T r u)
+    ∙ others_stay_sent (λ s. s.request.0 == x && s.forgotten) r (the_target T u).sent (λ s e. and_left (s.request.0 == x) s.forgotten (differs s.request.0 r x e (λ f. n (sym f))))
     in omega arith)
     (λ u a. less_back r u k a)
 
@@ -113,8 +116,8 @@ finished_unqueued : (q : ℕ) (b : Bool) (s : Status) (t : ℕ) → is_queued_in
 finished_unqueued q true s t = refl
 finished_unqueued q false s t = refl
 
-by_both : (x y : ℕ) (status : Status) (s : Sending) → ((done_sending y status s).request == x && (done_sending y status s).forgotten) ≡ (s.request == x && s.forgotten)
-by_both x y status s = ap (λ n. n == x && (done_sending y status s).forgotten) (done_asks y status s).0 ∙ ap (λ b. s.request == x && b) (done_asks y status s).1
+by_both : (x y : ℕ) (status : Status) (s : Sending) → ((done_sending y status s).request.0 == x && (done_sending y status s).forgotten) ≡ (s.request.0 == x && s.forgotten)
+by_both x y status s = ap (λ n. n == x && (done_sending y status s).forgotten) (done_asks y status s).0 ∙ ap (λ b. s.request.0 == x && b) (done_asks y status s).1
 
 -- the request is at this target, and at no other
 module _ {F B : ℕ → Bool} {R : Requests} {Q : Queues} {T : Targets} {N : Tree} (r t : ℕ) (status : Status) (k : Kept F B R Q T N) (at : place_of R r ≡ place.Sent (record { 0 = t })) where
@@ -124,19 +127,19 @@ module _ {F B : ℕ → Bool} {R : Requests} {Q : Queues} {T : Targets} {N : Tre
   nowhere_else : (u : ℕ) → u ≢ t → sends T u r ≡ 0
   nowhere_else u n = k.sent u r ∙ ap (λ p. flag (is_sent_to u p)) at ∙ ap flag (not_equal t u (λ e. n (sym e)))
 
-  found_here : is_forgotten T r ≡ is_forgotten_sending (find (λ s. s.request == r) (the_target T t).sent)
+  found_here : is_forgotten T r ≡ is_forgotten_sending (find (λ s. s.request.0 == r) (the_target T t).sent)
   found_here = ap is_forgotten_sending (found_at_its_target r T.targets t nowhere_else)
 
   left_here : (b : Bool) → is_forgotten T r ≡ b → sends (targets.done T r status) t r ≡ flag (not b)
   left_here b e =
-      ap (λ (xs : List Sending). count_by (λ s. s.request == r) xs) (left_at T r status t)
+      ap (λ (xs : List Sending). count_by (λ s. s.request.0 == r) xs) (left_at T r status t)
       ∙ one_left r status (the_target T t).sent here_once ∙ ap (λ c. flag (not c)) (sym found_here ∙ e)
 
   left_elsewhere : (u : ℕ) → u ≢ t → sends (targets.done T r status) u r ≡ 0
   left_elsewhere u n =
-      let less = less_left (λ s. s.request == r) r status (the_target T u).sent (by_request r r status) in
+      let less = less_left (λ s. s.request.0 == r) r status (the_target T u).sent (by_request r r status) in
       let none = nowhere_else u n in
-      ap (λ (xs : List Sending). count_by (λ s. s.request == r) xs) (left_at T r status u) ∙ omega arith
+      ap (λ (xs : List Sending). count_by (λ s. s.request.0 == r) xs) (left_at T r status u) ∙ omega arith
 
   left_by : (b : Bool) → is_forgotten T r ≡ b → (u : ℕ) → (u ≡ t) ⊎ (u ≢ t) → sends (targets.done T r status) u r ≡ flag (is_sent_to u (finished_at b status (place.Sent (record { 0 = t }))))
   left_by true e u (inl same) = rw same (left_here true e)
@@ -158,16 +161,16 @@ module _ {F B : ℕ → Bool} {R : Requests} {Q : Queues} {T : Targets} {N : Tre
       (λ q x n. refl)
       (λ q. k.queued q r ∙ ap (λ p. flag (is_queued_in q p)) at ∙ sym (ap flag (finished_unqueued q b status t)))
       (λ u x n.
-      ap (λ (xs : List Sending). count_by (λ s. s.request == x) xs) (left_at T r status u)
-      ∙ others_left (λ s. s.request == x) r status (the_target T u).sent (by_request x r status) (λ s e. differs s.request r x e (λ f. n (sym f))))
+      ap (λ (xs : List Sending). count_by (λ s. s.request.0 == x) xs) (left_at T r status u)
+      ∙ others_left (λ s. s.request.0 == x) r status (the_target T u).sent (by_request x r status) (λ s e. differs s.request.0 r x e (λ f. n (sym f))))
       (λ u. left_by b e u (one_or_two u t))
       (λ u x n.
-      let less = less_left (λ s. s.request == x && s.forgotten) r status (the_target T u).sent (by_both x r status) in
-      let same : forgets (targets.done T r status) u x ≡ count_by (λ s. s.request == x && s.forgotten) (left_over r status (the_target T u).sent) = ap (λ (xs : List Sending). count_by (λ s. s.request == x && s.forgotten) xs) (left_at T r status u) in
+      let less = less_left (λ s. s.request.0 == x && s.forgotten) r status (the_target T u).sent (by_both x r status) in
+      let same : forgets (targets.done T r status) u x ≡ count_by (λ s. s.request.0 == x && s.forgotten) (left_over r status (the_target T u).sent) = ap (λ (xs : List Sending). count_by (λ s. s.request.0 == x && s.forgotten) xs) (left_at T r status u) in
       omega arith)
       (λ u a.
-      let less = less_left (λ s. s.request == r && s.forgotten) r status (the_target T u).sent (by_both r r status) in
-      let same : forgets (targets.done T r status) u r ≡ count_by (λ s. s.request == r && s.forgotten) (left_over r status (the_target T u).sent) = ap (λ (xs : List Sending). count_by (λ s. s.request == r && s.forgotten) xs) (left_at T r status u) in
+      let less = less_left (λ s. s.request.0 == r && s.forgotten) r status (the_target T u).sent (by_both r r status) in
+      let same : forgets (targets.done T r status) u r ≡ count_by (λ s. s.request.0 == r && s.forgotten) (left_over r status (the_target T u).sent) = ap (λ (xs : List Sending). count_by (λ s. s.request.0 == r && s.forgotten) xs) (left_at T r status u) in
       let none = k.returns u r a in
       omega arith)
 

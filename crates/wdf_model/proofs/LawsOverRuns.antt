@@ -24,13 +24,13 @@ use Rattle.wdf_base.specs.declared.event.Event.{Event}
 use Rattle.wdf_base.specs.declared.event.Event.TheVariants as event
 use Rattle.wdf_base.specs.declared.event.Post.TheVariants as post
 use Rattle.wdf_base.specs.Same.{same_call_kind, same_handle, same_kind, same_option, same_post}
+use Rattle.wdf_model.specs.declared.entries.Request.{Request}
 use Rattle.wdf_model.specs.Runs.{IsRun}
 use Rattle.wdf_model.specs.Tables.{entry, flag}
 use Rattle.wdf_model.specs.Plans.{declared_ids, queue_of, target_of}
 use Rattle.wdf_model.specs.parts.Tree.{declared_node, gone, is_live, kind_of, life_of, next_id, opening_tree}
-use Rattle.wdf_model.specs.parts.Requests.{Request, Requests, has_arrived, is_closing, is_done, moved, place_of}
+use Rattle.wdf_model.specs.parts.Requests.{Requests, has_arrived, is_closing, is_done, moved, place_of}
 use Rattle.wdf_model.specs.parts.Requests as requests
-use Rattle.wdf_model.specs.parts.Queues.{no_queue, opening_queue}
 use Rattle.wdf_model.specs.parts.Targets.{no_target, opening_target}
 use Rattle.wdf_model.specs.State.{State, object_in, opening}
 use Rattle.wdf_model.specs.rules.Deeds.{Arrive, Complete_request, Count_arrival, Deed, do_deed, do_deeds, give_up}
@@ -56,14 +56,10 @@ use Rattle.wdf_model.proofs.Arrivals.{event_none, is_arrival_event}
 
 -- ---- the opening
 
-line_opens : (plan : Plan) (q : Option QueueInfo) → (opening_queue q).waiting ≡ []
-line_opens plan None = refl
-line_opens plan (Some q) = refl
-
-lines_open : (plan : Plan) (ids : List ℕ) (q : ℕ) → (entry no_queue (map (λ i. opening_queue (queue_of plan i)) ids) q).waiting ≡ []
-lines_open plan [] q = refl
-lines_open plan (i ∷ ids) zero = line_opens plan (queue_of plan i)
-lines_open plan (i ∷ ids) (suc q) = lines_open plan ids q
+queues_open : (ids : List ℕ) (q : ℕ) → entry {T = List ℕ} [] (map (λ i. []) ids) q ≡ []
+queues_open [] q = refl
+queues_open (i ∷ ids) zero = refl
+queues_open (i ∷ ids) (suc q) = queues_open ids q
 
 target_opens : (plan : Plan) (t : Option TargetInfo) → (opening_target t).sent ≡ []
 target_opens plan None = refl
@@ -93,7 +89,7 @@ none_at_opening plan (suc r) = none_declared plan.declared r
 
 opening_kept : {A : Type 0} (m : Meaning A) (plan : Plan) (F B : ℕ → Bool) → ((r : ℕ) → F r ≡ false) → KeptIn F B (opening m plan)
 opening_kept m plan F B none = record {
-  queued = λ q r. ap (λ (ws : List ℕ). count_by (λ x. x == r) ws) (lines_open plan (declared_ids plan) q);
+  queued = λ q r. ap (λ (ws : List ℕ). count_by (λ x. x == r) ws) (queues_open (declared_ids plan) q);
   sent = λ t r. rw (targets_open plan (declared_ids plan) t) refl;
   room = omega arith;
   kinds = λ r h. absurd (let never = none_at_opening plan r in let z : ⊥ = cc in z);

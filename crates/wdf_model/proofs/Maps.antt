@@ -85,3 +85,26 @@ entry_before blank [] x zero h = absurd (h refl)
 entry_before blank [] x (suc id) h = refl
 entry_before blank (y ∷ ys) x zero h = refl
 entry_before blank (y ∷ ys) x (suc id) h = entry_before blank ys x id (λ e. h (ap suc e))
+
+-- what is read after an entry of a list became blank, or what it was
+pub entry_blanked : {T : Type 0} (blank : T) (xs : List T) (id : ℕ) → entry blank (slice_set xs id blank) id ≡ blank
+entry_blanked blank [] id = refl
+entry_blanked blank (x ∷ xs) zero = refl
+entry_blanked blank (x ∷ xs) (suc id) = entry_blanked blank xs id
+
+pub entry_set_other : {T : Type 0} (blank : T) (xs : List T) (id other : ℕ) (new : T) → other ≢ id → entry blank (slice_set xs id new) other ≡ entry blank xs other
+entry_set_other blank [] id other new h = refl
+entry_set_other blank (x ∷ xs) zero zero new h = absurd (h refl)
+entry_set_other blank (x ∷ xs) zero (suc other) new h = refl
+entry_set_other blank (x ∷ xs) (suc id) zero new h = refl
+entry_set_other blank (x ∷ xs) (suc id) (suc other) new h = entry_set_other blank xs id other new (λ e. h (ap suc e))
+
+pub set_as_it_was : {T : Type 0} (blank : T) (xs : List T) (id : ℕ) → slice_set xs id (entry blank xs id) ≡ xs
+set_as_it_was blank [] id = refl
+set_as_it_was blank (x ∷ xs) zero = refl
+set_as_it_was blank (x ∷ xs) (suc id) = ap (λ ys. x ∷ ys) (set_as_it_was blank xs id)
+
+pub as_long : {T : Type 0} (xs : List T) (id : ℕ) (new : T) → length (slice_set xs id new) ≡ length xs
+as_long [] id new = refl
+as_long (x ∷ xs) zero new = refl
+as_long (x ∷ xs) (suc id) new = ap suc (as_long xs id new)

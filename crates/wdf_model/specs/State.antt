@@ -15,12 +15,13 @@ use Rattle.wdf_base.specs.declared.call.Callback.{Callback}
 use Rattle.wdf_base.specs.declared.call.Callback.TheVariants as callback
 use Rattle.wdf_base.specs.declared.frame.Pending.{Pending}
 use Rattle.wdf_base.specs.declared.declared.Declared.{Declared}
+use Rattle.wdf_model.specs.declared.entries.Request.{Request}
 use Rattle.wdf_model.specs.Tables.{ids_of, same_id}
 use Rattle.wdf_model.specs.Plans.{agent_count, device_of_queue, declares, is_managed, script_on}
 use Rattle.wdf_model.specs.parts.Tree.{Tree, opening_tree, declared_as, handle_of}
 use Rattle.wdf_model.specs.parts.Cpus.{Cpus, opening_cpus, frame_of, all_frames}
 use Rattle.wdf_model.specs.parts.Locks.{Locks, no_locks, object_lock, is_free_lock}
-use Rattle.wdf_model.specs.parts.Requests.{Requests, no_requests, place_of, info_of, origin_of, is_sent_to, Request}
+use Rattle.wdf_model.specs.parts.Requests.{Requests, no_requests, place_of, info_of, origin_of, is_sent_to}
 use Rattle.wdf_model.specs.parts.Queues.{Queues, opening_queues}
 use Rattle.wdf_model.specs.parts.Control.{Control, opening_control, delivers, is_closed}
 use Rattle.wdf_model.specs.parts.Power.{Power, opening_power, queues_up}
@@ -102,14 +103,18 @@ held_from S q = filter (is_held_from S q) (ids_of S.requests.all)
 abbrev pub up_for : {A : Type 0} → Plan → State A → ℕ → Bool
 up_for plan S q = queues_up S.power (device_of_queue plan q)
 
+-- KMDF: a queue has power that isn't power-managed, or whose device's queues are up
+abbrev pub is_powered : {A : Type 0} → Plan → State A → ℕ → Bool
+is_powered plan S q = not (is_managed plan q) || up_for plan S q
+
 -- a queue delivers, by its mode and by power (KMDF)
 abbrev pub queue_delivers : {A : Type 0} → Plan → State A → ℕ → Bool
-queue_delivers plan S q = delivers S.control q (up_for plan S q)
+queue_delivers plan S q = delivers S.control q (is_powered plan S q)
 
 -- a received request that is cancelled in this queue goes back to the driver, by EvtIoCanceledOnQueue (KMDF)
 abbrev pub returns_to : {A : Type 0} → Plan → State A → ℕ → Bool
 returns_to plan S q =
-    declares plan callback.EvtIoCanceledOnQueue q && not (is_closed S.control (device_of_queue plan q)) && (not (is_managed plan q) || up_for plan S q)
+    declares plan callback.EvtIoCanceledOnQueue q && not (is_closed S.control (device_of_queue plan q)) && is_powered plan S q
 
 -- where a request goes that is cancelled in a queue
 abbrev pub withdrawn_place : {A : Type 0} → Plan → State A → ℕ → ℕ → Place

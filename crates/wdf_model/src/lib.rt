@@ -2,11 +2,18 @@
 //! what may follow in a state, and what an event changes; and runs, over any machine.
 #![tactic(auto)]
 
+mod entries;
 mod enums;
 pub mod facts_of_events;
 pub mod facts_of_tables;
 pub mod laws;
 pub mod laws_of_runs;
+mod room;
 pub mod worked;
 
+pub use entries::{
+    CELLS, DevicePower, Held, HeldLevel, Holding, Node, QueueControl, QueuePower, Request, Running,
+    Sending, Timed,
+};
 pub use enums::{Group, Mode, Phase};
+pub use room::{EVENTS, FRAMES, OBJECTS};

@@ -14,11 +14,11 @@ use Rattle.wdf_base.specs.declared.rank.Rank.TheVariants as rank
 use Rattle.wdf_base.specs.declared.frame.Frame.{Frame}
 use Rattle.wdf_base.specs.declared.frame.Pending.{Pending}
 use Rattle.wdf_base.specs.Callbacks.{row_of}
+use Rattle.wdf_model.specs.declared.entries.Held.{Held}
 use Rattle.wdf_model.specs.Tables.{contains, ids_of}
 use Rattle.wdf_model.specs.Plans.{declared_ids, devices_of, interrupt_level, is_managed, managed_queues}
 use Rattle.wdf_model.specs.parts.Tree.{Tree, kind_of}
 use Rattle.wdf_model.specs.parts.Cpus.{all_frames, frame_of, irql, running, top}
-use Rattle.wdf_model.specs.parts.Locks.{Held}
 use Rattle.wdf_model.specs.parts.Requests.{is_queued_in, is_sent_to, origin_of, place_of}
 use Rattle.wdf_model.specs.parts.Queues.{held_count, waiting_in}
 use Rattle.wdf_model.specs.parts.Power.{acknowledged, holding_of, unsettled}
@@ -40,7 +40,7 @@ level_of_lock plan T (lock.Object o) = level_of_kind plan o.0 (kind_of T o.0)
 level_of_lock plan T _ = 0
 
 abbrev pub levels_held : {A : Type 0} → Plan → State A → ℕ → List ℕ
-levels_held plan S f = map (λ (h : Held). level_of_lock plan S.tree h.lock) (filter (λ h. h.frame == f) S.locks.held)
+levels_held plan S f = map (λ (h : Held). level_of_lock plan S.tree h.lock) (filter (λ h. h.frame.0 == f) S.locks.held)
 
 -- the lock that a pending call asks for
 abbrev pub level_awaited : Plan → Option Pending → List ℕ
@@ -50,7 +50,7 @@ level_awaited plan (Some p) = if is_acquire p.call.kind then lock_level plan p.c
 abbrev pub level_by_locks : {A : Type 0} → Plan → State A → Option ℕ → ℕ
 level_by_locks plan S None = 0
 level_by_locks plan S (Some f) =
-    fold max (running S.cpus f).level (levels_held plan S f ++ level_awaited plan (frame_of S.cpus f).pending)
+    fold max (running S.cpus f).level.0 (levels_held plan S f ++ level_awaited plan (frame_of S.cpus f).pending)
 
 abbrev pub levels_agree : {A : Type 0} → Plan → State A → Bool
 levels_agree plan S =
@@ -70,7 +70,7 @@ abbrev pub holding_queue : {A : Type 0} → Plan → State A → ℕ → ℕ
 holding_queue plan S r = if is_with_driver S r then managed_origin plan (origin_of S.requests r) else 0
 
 abbrev pub holdings_agree : {A : Type 0} → Plan → State A → Bool
-holdings_agree plan S = list_all (λ r. (holding_of S.power r).queue == holding_queue plan S r) (ids_of S.tree.nodes)
+holdings_agree plan S = list_all (λ r. (holding_of S.power r).queue.0 == holding_queue plan S r) (ids_of S.tree.nodes)
 
 -- the requests that are held from a device's power-managed queues and aren't acknowledged (own, after KMDF)
 abbrev pub unsettled_of : {A : Type 0} → Plan → State A → ℕ → List ℕ
@@ -90,7 +90,7 @@ lines_agree plan S =
 -- a request is Sent exactly where its target has it
 abbrev pub targets_agree : {A : Type 0} → Plan → State A → Bool
 targets_agree plan S =
-    list_all (λ t. list_all (λ r. beq (list_any (λ s. s.request == r) (the_target S.targets t).sent) (is_sent_to t (place_of S.requests r))) (ids_of S.tree.nodes)) (declared_ids plan)
+    list_all (λ t. list_all (λ r. beq (list_any (λ s. s.request.0 == r) (the_target S.targets t).sent) (is_sent_to t (place_of S.requests r))) (ids_of S.tree.nodes)) (declared_ids plan)
 
 abbrev pub is_sequence : Rank → Bool
 is_sequence rank.Sequence = true

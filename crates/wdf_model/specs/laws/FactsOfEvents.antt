@@ -16,7 +16,7 @@ pub record MovesOnlyFrame {A : Type 0} (f : ℕ) (old new : State A) : Type 0 wh
   pub parked : new.cpus.parked ≡ old.cpus.parked
   pub others : (g : ℕ) → g ≢ f → running new.cpus g ≡ running old.cpus g
   pub level : (running new.cpus f).level ≡ (running old.cpus f).level
-  pub levels : (running new.cpus f).levels ≡ (running old.cpus f).levels
+  pub levels : new.cpus.levels ≡ old.cpus.levels
 
 -- an event starts a callback on an object that is gone, cleans one up or ends one
 abbrev pub touches_gone : Tree → Event → Bool

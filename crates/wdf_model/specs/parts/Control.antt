@@ -6,17 +6,7 @@ use Rattle.wdf_model.specs.declared.enums.Mode.{Mode}
 use Rattle.wdf_model.specs.declared.enums.Mode.TheVariants.{Started, Stopped, Drained, Purged}
 use Rattle.wdf_model.specs.Tables.{entry, change_at, put}
 use Rattle.wdf_model.specs.Plans.{queue_of, declared_ids}
-
-pub record QueueControl : Type 0 where
-  -- the queue's device
-  pub device : ℕ
-  -- whether it is power-managed
-  pub managed : Bool
-  pub mode : Mode
-  -- whether notification is registered
-  pub registered : Bool
-  -- whether notification is due
-  pub due : Bool
+use Rattle.wdf_model.specs.declared.entries.QueueControl.{QueueControl}
 
 pub record Control : Type 0 where
   -- by the queue's id
@@ -25,7 +15,7 @@ pub record Control : Type 0 where
   pub closed : List Bool
 
 abbrev pub no_control : QueueControl
-no_control = record { device = 0; managed = false; mode = Purged; registered = false; due = false }
+no_control = record { device = record { 0 = 0 }; mode = Purged; registered = false; due = false }
 
 -- ---- readers
 
@@ -59,9 +49,9 @@ is_purged _ = false
 abbrev pub accepts : Control → ℕ → Bool
 accepts M q = accepts_in (mode_of M q)
 
--- a power-managed queue delivers only while its device's queues are up (KMDF)
+-- KMDF: a queue delivers by its mode, where it has power
 abbrev pub delivers : Control → ℕ → Bool → Bool
-delivers M q up = delivers_in (mode_of M q) && (not (control_of M q).managed || up)
+delivers M q powered = delivers_in (mode_of M q) && powered
 
 abbrev pub notify_due : Control → ℕ → Bool
 notify_due M q = (control_of M q).due
@@ -73,10 +63,10 @@ with_control M q f = record M { controls = change_at no_control M.controls q f }
 
 -- a control call; a closed device's queues stay Purged
 abbrev pub set_mode : Control → ℕ → Mode → Control
-set_mode M q mode = if is_closed M (control_of M q).device then M else with_control M q (λ c. record c { mode = mode })
+set_mode M q mode = if is_closed M (control_of M q).device.0 then M else with_control M q (λ c. record c { mode = mode })
 
 abbrev pub shut_control : ℕ → QueueControl → QueueControl
-shut_control device c = if c.device == device then record c { mode = Purged } else c
+shut_control device c = if c.device.0 == device then record c { mode = Purged } else c
 
 -- a device is closed, and its queues are Purged for good
 abbrev pub shut : Control → ℕ → Control
@@ -98,7 +88,7 @@ notified M q = with_control M q (λ c. record c { due = false })
 
 abbrev pub opening_mode : Option QueueInfo → QueueControl
 opening_mode None = no_control
-opening_mode (Some q) = record { device = q.device.0; managed = q.powered; mode = Started; registered = false; due = false }
+opening_mode (Some q) = record { device = q.device; mode = Started; registered = false; due = false }
 
 abbrev pub opening_control : Plan → Control
 opening_control plan = record { controls = map (λ q. opening_mode (queue_of plan q)) (declared_ids plan); closed = [] }

@@ -1,5 +1,5 @@
 -- The processors: their frames, the levels that the frames hold, and the frames that are parked.
-use Rattle.std.specs.Prelude.{if◌then◌else◌, ℕ, max, Bool, ◌==◌, ◌&&◌, List, [], ◌∷◌, ◌++◌, length, filter, drop, replicate, fold, Option, Some, None}
+use Rattle.std.specs.Prelude.{if◌then◌else◌, ℕ, max, Bool, ◌==◌, ◌&&◌, List, [], ◌∷◌, ◌++◌, length, filter, drop, replicate, fold, Option, Some, None, map, not}
 use Rattle.std.specs.List.{list_any, flat_map}
 use Rattle.wdf_base.specs.declared.plan.Plan.{Plan}
 use Rattle.wdf_base.specs.declared.ids.Handle.{Handle}
@@ -10,14 +10,8 @@ use Rattle.wdf_base.specs.declared.call.Callback.{Callback}
 use Rattle.wdf_base.specs.declared.call.Callback.TheVariants as callback
 use Rattle.wdf_base.specs.Same.{same_callback}
 use Rattle.wdf_model.specs.Tables.{entry, put, change_at, without, in_order, first_of_list}
-
--- one running or waiting callback
-pub record Running : Type 0 where
-  pub frame : Frame
-  -- the level of the callback
-  pub level : ℕ
-  -- the levels of the locks that it acquired by calls or spins for
-  pub levels : List ℕ
+use Rattle.wdf_model.specs.declared.entries.Running.{Running}
+use Rattle.wdf_model.specs.declared.entries.HeldLevel.{HeldLevel}
 
 pub record Cpus : Type 0 where
   -- the frames by number: the number of the event that started the frame
@@ -26,6 +20,8 @@ pub record Cpus : Type 0 where
   pub stacks : List (List ℕ)
   -- the numbers of the frames that left their processor, rising
   pub parked : List ℕ
+  -- the levels that the frames hold, the latest first
+  pub levels : List HeldLevel
 
 abbrev pub no_handle : Handle
 no_handle = record { id = record { 0 = 0 }; name = 0 }
@@ -49,7 +45,7 @@ blank_frame = record {
 }
 
 abbrev pub no_frame : Running
-no_frame = record { frame = blank_frame; level = 0; levels = [] }
+no_frame = record { frame = blank_frame; level = record { 0 = 0 } }
 
 -- ---- readers
 
@@ -70,12 +66,15 @@ abbrev pub is_empty_cpu : Cpus → ℕ → Bool
 is_empty_cpu C cpu = length (stack_of C cpu) == 0
 
 -- the level of a frame: the greatest of its callback's and of those that it holds
-abbrev pub frame_level : Running → ℕ
-frame_level r = fold max r.level r.levels
+abbrev pub levels_of : Cpus → ℕ → List ℕ
+levels_of C f = map (λ (l : HeldLevel). l.level.0) (filter (λ (l : HeldLevel). l.frame.0 == f) C.levels)
+
+abbrev pub frame_level : Cpus → ℕ → ℕ
+frame_level C f = fold max (running C f).level.0 (levels_of C f)
 
 abbrev pub level_of_top : Cpus → Option ℕ → ℕ
 level_of_top C None = 0
-level_of_top C (Some f) = frame_level (running C f)
+level_of_top C (Some f) = frame_level C f
 
 -- KMDF: the level of a processor, 0 where it is empty, else its top frame's
 abbrev pub irql : Cpus → ℕ → ℕ
@@ -108,9 +107,10 @@ with_stack C cpu fs = record C { stacks = put [] C.stacks cpu fs }
 -- a frame begins on a processor
 abbrev pub push : Cpus → ℕ → ℕ → Frame → ℕ → Cpus
 push C cpu f frame level = record {
-  frames = put no_frame C.frames f (record { frame = frame; level = level; levels = [] });
+  frames = put no_frame C.frames f (record { frame = frame; level = record { 0 = level } });
   stacks = put [] C.stacks cpu (f ∷ stack_of C cpu);
   parked = C.parked;
+  levels = C.levels;
 }
 
 -- a frame goes on
@@ -119,20 +119,24 @@ change C f frame = record C { frames = change_at no_frame C.frames f (λ r. reco
 
 -- a frame holds a level more
 abbrev pub raise : Cpus → ℕ → ℕ → Cpus
-raise C f level = record C { frames = change_at no_frame C.frames f (λ r. record r { levels = level ∷ r.levels }) }
+raise C f level = record C { levels = record { frame = record { 0 = f }; level = record { 0 = level } } ∷ C.levels }
 
--- a list with one of these numbers taken away
-abbrev pub less_one : ℕ → List ℕ → List ℕ
-less_one n [] = []
-less_one n (x ∷ xs) = if x == n then xs else x ∷ less_one n xs
+-- the levels without one of this frame
+abbrev pub less_one : ℕ → ℕ → List HeldLevel → List HeldLevel
+less_one f level [] = []
+less_one f level (l ∷ ls) = if l.frame.0 == f && l.level.0 == level then ls else l ∷ less_one f level ls
 
 -- a frame holds a level less
 abbrev pub lower : Cpus → ℕ → ℕ → Cpus
-lower C f level = record C { frames = change_at no_frame C.frames f (λ r. record r { levels = less_one level r.levels }) }
+lower C f level = record C { levels = less_one f level C.levels }
 
 abbrev pub without_frame : Cpus → Option ℕ → List Running
 without_frame C None = C.frames
 without_frame C (Some f) = put no_frame C.frames f no_frame
+
+abbrev pub levels_without : Cpus → Option ℕ → List HeldLevel
+levels_without C None = C.levels
+levels_without C (Some f) = filter (λ (l : HeldLevel). not (l.frame.0 == f)) C.levels
 
 -- the top frame of a processor ends
 abbrev pub pop : Cpus → ℕ → Cpus
@@ -140,6 +144,7 @@ pop C cpu = record {
   frames = without_frame C (top C cpu);
   stacks = put [] C.stacks cpu (drop 1 (stack_of C cpu));
   parked = C.parked;
+  levels = levels_without C (top C cpu);
 }
 
 abbrev pub parked_with : Cpus → Option ℕ → List ℕ
@@ -152,6 +157,7 @@ park C cpu = record {
   frames = C.frames;
   stacks = put [] C.stacks cpu (drop 1 (stack_of C cpu));
   parked = parked_with C (top C cpu);
+  levels = C.levels;
 }
 
 -- own: it goes on later on any empty one
@@ -160,9 +166,10 @@ unpark C cpu f = record {
   frames = C.frames;
   stacks = put [] C.stacks cpu (f ∷ stack_of C cpu);
   parked = without f C.parked;
+  levels = C.levels;
 }
 
 -- ---- the opening
 
 abbrev pub opening_cpus : Plan → Cpus
-opening_cpus plan = record { frames = []; stacks = replicate plan.cpus []; parked = [] }
+opening_cpus plan = record { frames = []; stacks = replicate plan.cpus []; parked = []; levels = [] }

@@ -12,14 +12,7 @@ use Rattle.wdf_base.specs.declared.rank.CallbackLock.TheVariants as callback_loc
 use Rattle.wdf_base.specs.Callbacks.{row_of}
 use Rattle.wdf_base.specs.Same.{same_lock}
 use Rattle.wdf_model.specs.Plans.{scope_lock, serial_lock}
-
--- a lock that is held
-pub record Held : Type 0 where
-  pub lock : LockRef
-  -- the number of the frame
-  pub frame : ℕ
-  -- whether a call took it, and not the start of the callback
-  pub by_call : Bool
+use Rattle.wdf_model.specs.declared.entries.Held.{Held}
 
 pub record Locks : Type 0 where
   pub held : List Held
@@ -67,7 +60,7 @@ hold_of L l = find (λ h. same_lock h.lock l) L.held
 
 -- the frame that holds a lock, none where it is free
 abbrev pub holder : Locks → LockRef → Option ℕ
-holder L l = option_map (λ h. h.frame) (hold_of L l)
+holder L l = option_map (λ h. h.frame.0) (hold_of L l)
 
 abbrev pub is_free_hold : Option Held → Bool
 is_free_hold None = true
@@ -83,20 +76,20 @@ is_free_if_any L (Some l) = is_free_lock L l
 
 -- whether this frame holds the lock
 abbrev pub holds : Locks → ℕ → LockRef → Bool
-holds L f l = list_any (λ h. same_lock h.lock l && h.frame == f) L.held
+holds L f l = list_any (λ h. same_lock h.lock l && h.frame.0 == f) L.held
 
 -- whether this frame acquired the lock by a call
 abbrev pub holds_by_call : Locks → ℕ → LockRef → Bool
-holds_by_call L f l = list_any (λ h. same_lock h.lock l && h.frame == f && h.by_call) L.held
+holds_by_call L f l = list_any (λ h. same_lock h.lock l && h.frame.0 == f && h.by_call) L.held
 
 -- how many locks a frame acquired by calls
 abbrev pub held_by_call : Locks → ℕ → ℕ
-held_by_call L f = count_by (λ h. h.frame == f && h.by_call) L.held
+held_by_call L f = count_by (λ h. h.frame.0 == f && h.by_call) L.held
 
 -- ---- acts
 
 abbrev pub take : Locks → LockRef → ℕ → Bool → Locks
-take L l f by_call = record { held = L.held ++ record { lock = l; frame = f; by_call = by_call } ∷ [] }
+take L l f by_call = record { held = L.held ++ record { lock = l; frame = record { 0 = f }; by_call = by_call } ∷ [] }
 
 abbrev pub release : Locks → LockRef → Locks
 release L l = record { held = filter (λ h. not (same_lock h.lock l)) L.held }

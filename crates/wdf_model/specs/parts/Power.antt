@@ -12,27 +12,9 @@ use Rattle.wdf_base.specs.declared.declared.DeviceInfo.{DeviceInfo}
 use Rattle.wdf_base.specs.declared.call.Callback.TheVariants as callback
 use Rattle.wdf_model.specs.Tables.{entry, change_at, ids_of}
 use Rattle.wdf_model.specs.Plans.{device_of, device_of_queue, declared_ids, declares}
-
-pub record DevicePower : Type 0 where
-  -- whether its queues are up
-  pub up : Bool
-  -- whether it has its hardware
-  pub hardware : Bool
-
-pub record QueuePower : Type 0 where
-  -- the queue's device
-  pub device : ℕ
-  -- whether it declares EvtIoResume
-  pub resumes : Bool
-
--- a request that the driver holds from a power-managed queue
-pub record Holding : Type 0 where
-  -- that queue, 0 for a request that isn't held from one
-  pub queue : ℕ
-  pub acknowledged : Bool
-  -- whether EvtIoStop has started for it
-  pub stop_asked : Bool
-  pub resume_due : Bool
+use Rattle.wdf_model.specs.declared.entries.DevicePower.{DevicePower}
+use Rattle.wdf_model.specs.declared.entries.QueuePower.{QueuePower}
+use Rattle.wdf_model.specs.declared.entries.Holding.{Holding}
 
 pub record Power : Type 0 where
   -- by the device's id
@@ -46,10 +28,10 @@ abbrev pub no_device_power : DevicePower
 no_device_power = record { up = false; hardware = false }
 
 abbrev pub no_queue_power : QueuePower
-no_queue_power = record { device = 0; resumes = false }
+no_queue_power = record { device = record { 0 = 0 }; resumes = false }
 
 abbrev pub no_holding : Holding
-no_holding = record { queue = 0; acknowledged = false; stop_asked = false; resume_due = false }
+no_holding = record { queue = record { 0 = 0 }; acknowledged = false; stop_asked = false; resume_due = false }
 
 -- ---- readers
 
@@ -78,11 +60,11 @@ abbrev pub resume_due : Power → ℕ → Bool
 resume_due P r = (holding_of P r).resume_due
 
 abbrev pub is_held : Holding → Bool
-is_held h = nat_lt 0 h.queue
+is_held h = nat_lt 0 h.queue.0
 
 -- a request that is held from a power-managed queue of this device
 abbrev pub is_held_at : Power → ℕ → Holding → Bool
-is_held_at P d h = is_held h && (queue_power P h.queue).device == d
+is_held_at P d h = is_held h && (queue_power P h.queue.0).device.0 == d
 
 abbrev pub is_unsettled_at : Power → ℕ → Holding → Bool
 is_unsettled_at P d h = is_held_at P d h && not h.acknowledged
@@ -102,7 +84,7 @@ with_holding P r f = record P { holdings = change_at no_holding P.holdings r f }
 
 -- a request is held from a power-managed queue
 abbrev pub held_more : Power → ℕ → ℕ → Power
-held_more P r q = with_holding P r (λ _. record { queue = q; acknowledged = false; stop_asked = false; resume_due = false })
+held_more P r q = with_holding P r (λ _. record { queue = record { 0 = q }; acknowledged = false; stop_asked = false; resume_due = false })
 
 -- it is held no more, and nothing of it is acknowledged, asked or due
 abbrev pub held_less : Power → ℕ → Power
@@ -128,7 +110,7 @@ with_hardware P d hardware = record P { devices = change_at no_device_power P.de
 -- a held request of a device whose queues come up: its resume is due where its queue declares EvtIoResume
 abbrev pub woken : Power → ℕ → Holding → Holding
 woken P d h =
-    if is_held_at P d h then record { queue = h.queue; acknowledged = false; stop_asked = false; resume_due = (queue_power P h.queue).resumes }
+    if is_held_at P d h then record { queue = h.queue; acknowledged = false; stop_asked = false; resume_due = (queue_power P h.queue.0).resumes }
     else h
 
 abbrev pub wake_holdings : Power → ℕ → Power
@@ -158,7 +140,7 @@ opening_device_power None = no_device_power
 opening_device_power (Some d) = record { up = d.working; hardware = d.working }
 
 abbrev pub opening_queue_power : Plan → ℕ → QueuePower
-opening_queue_power plan q = record { device = device_of_queue plan q; resumes = declares plan callback.EvtIoResume q }
+opening_queue_power plan q = record { device = record { 0 = device_of_queue plan q }; resumes = declares plan callback.EvtIoResume q }
 
 abbrev pub opening_power : Plan → Power
 opening_power plan = record {

@@ -1,5 +1,5 @@
--- The queues: who waits in which line, and how many requests the driver holds from each.
-use Rattle.std.specs.Prelude.{ℕ, ◌+◌, ◌-◌, Bool, false, ◌==◌, nat_lt, List, [], ◌∷◌, ◌++◌, length, map, drop, Option, Some, None}
+-- The queues: who waits in which, and how many requests the driver holds from each. (KMDF)
+use Rattle.std.specs.Prelude.{sum, ℕ, ◌+◌, ◌-◌, Bool, false, ◌==◌, nat_lt, List, [], ◌∷◌, ◌++◌, length, map, drop, Option, Some, None}
 use Rattle.std.specs.List.{list_any}
 use Rattle.wdf_base.specs.declared.plan.Plan.{Plan}
 use Rattle.wdf_base.specs.declared.declared.QueueInfo.{QueueInfo}
@@ -8,30 +8,23 @@ use Rattle.wdf_base.specs.declared.declared.DispatchKind.TheVariants as dispatch
 use Rattle.wdf_model.specs.Tables.{entry, change_at, without, contains, first_of_list}
 use Rattle.wdf_model.specs.Plans.{queue_of, declared_ids}
 
-pub record Queue : Type 0 where
-  -- how the queue presents its requests
-  pub dispatch : DispatchKind
-  -- the ids that wait, the front first
-  pub waiting : List ℕ
-  -- how many requests from it the driver holds
-  pub held : ℕ
-
 pub record Queues : Type 0 where
-  -- by the queue's id
-  pub queues : List Queue
-
-abbrev pub no_queue : Queue
-no_queue = record { dispatch = dispatch.Manual; waiting = []; held = 0 }
+  -- how each queue presents its requests, by the queue's id
+  pub dispatch : List DispatchKind
+  -- the ids that wait in each, the front first
+  pub waiting : List (List ℕ)
+  -- how many requests from each the driver holds
+  pub held : List ℕ
 
 -- ---- readers
 
-abbrev pub the_queue : Queues → ℕ → Queue
-the_queue Q q = entry no_queue Q.queues q
+abbrev pub dispatch_of : Queues → ℕ → DispatchKind
+dispatch_of Q q = entry dispatch.Manual Q.dispatch q
 
 abbrev pub waiting_in : Queues → ℕ → List ℕ
-waiting_in Q q = (the_queue Q q).waiting
+waiting_in Q q = entry [] Q.waiting q
 
--- the front of a queue's line
+-- the front of a queue's waiting list
 abbrev pub front : Queues → ℕ → Option ℕ
 front Q q = first_of_list (waiting_in Q q)
 
@@ -39,7 +32,11 @@ abbrev pub is_empty_queue : Queues → ℕ → Bool
 is_empty_queue Q q = length (waiting_in Q q) == 0
 
 abbrev pub held_count : Queues → ℕ → ℕ
-held_count Q q = (the_queue Q q).held
+held_count Q q = entry 0 Q.held q
+
+-- how many requests the driver holds from all queues
+abbrev pub held_in : Queues → ℕ
+held_in Q = sum Q.held
 
 -- KMDF: a sequential queue presents where nothing is held from it, a parallel one while fewer than its number are
 abbrev pub is_free_by : DispatchKind → ℕ → Bool
@@ -48,47 +45,57 @@ is_free_by (dispatch.Parallel n) held = nat_lt held n
 is_free_by dispatch.Manual held = false
 
 abbrev pub is_free : Queues → ℕ → Bool
-is_free Q q = is_free_by (the_queue Q q).dispatch (held_count Q q)
+is_free Q q = is_free_by (dispatch_of Q q) (held_count Q q)
 
--- whether a request stands in some line
+-- whether a request waits in some queue
 abbrev pub is_waiting : Queues → ℕ → Bool
-is_waiting Q r = list_any (λ l. contains r l.waiting) Q.queues
+is_waiting Q r = list_any (contains r) Q.waiting
 
 -- ---- acts
 
-abbrev pub with_queue : Queues → ℕ → (Queue → Queue) → Queues
-with_queue Q q f = record { queues = change_at no_queue Q.queues q f }
+abbrev pub with_waiting : Queues → ℕ → (List ℕ → List ℕ) → Queues
+with_waiting Q q f = record Q { waiting = change_at [] Q.waiting q f }
 
--- a request enters at the tail, or at the head
+abbrev pub with_held : Queues → ℕ → (ℕ → ℕ) → Queues
+with_held Q q f = record Q { held = change_at 0 Q.held q f }
+
+-- a request enters at the tail
 abbrev pub enter : Queues → ℕ → ℕ → Queues
-enter Q q r = with_queue Q q (λ l. record l { waiting = l.waiting ++ r ∷ [] })
+enter Q q r = with_waiting Q q (λ rs. rs ++ r ∷ [])
 
+-- a request enters at the head
 abbrev pub requeue : Queues → ℕ → ℕ → Queues
-requeue Q q r = with_queue Q q (λ l. record l { waiting = r ∷ l.waiting })
+requeue Q q r = with_waiting Q q (λ rs. r ∷ rs)
+
+-- one request more is held
+abbrev pub hold : Queues → ℕ → Queues
+hold Q q = with_held Q q (λ n. n + 1)
+
+-- one request less is held
+abbrev pub let_go : Queues → ℕ → Queues
+let_go Q q = with_held Q q (λ n. n - 1)
 
 -- the front leaves, and counts as held
 abbrev pub take : Queues → ℕ → Queues
-take Q q = with_queue Q q (λ l. record l { waiting = drop 1 l.waiting; held = l.held + 1 })
+take Q q = hold (with_waiting Q q (drop 1)) q
 
-abbrev pub hold : Queues → ℕ → Queues
-hold Q q = with_queue Q q (λ l. record l { held = l.held + 1 })
-
-abbrev pub let_go : Queues → ℕ → Queues
-let_go Q q = with_queue Q q (λ l. record l { held = l.held - 1 })
-
--- a line without a request
-abbrev pub queue_without : ℕ → Queue → Queue
-queue_without r l = record l { waiting = without r l.waiting }
-
--- a request leaves the line in which it stands
+-- a request leaves the queue in which it waits
 abbrev pub take_cancelled : Queues → ℕ → Queues
-take_cancelled Q r = record { queues = map (queue_without r) Q.queues }
+take_cancelled Q r = record Q { waiting = map (without r) Q.waiting }
+
+-- nothing waits in a queue any more
+abbrev pub clear : Queues → ℕ → Queues
+clear Q q = with_waiting Q q (λ _. [])
 
 -- ---- the opening
 
-abbrev pub opening_queue : Option QueueInfo → Queue
-opening_queue None = no_queue
-opening_queue (Some q) = record { dispatch = q.dispatch; waiting = []; held = 0 }
+abbrev pub opening_dispatch : Option QueueInfo → DispatchKind
+opening_dispatch None = dispatch.Manual
+opening_dispatch (Some q) = q.dispatch
 
 abbrev pub opening_queues : Plan → Queues
-opening_queues plan = record { queues = map (λ q. opening_queue (queue_of plan q)) (declared_ids plan) }
+opening_queues plan = record {
+  dispatch = map (λ q. opening_dispatch (queue_of plan q)) (declared_ids plan);
+  waiting = map (λ _. []) (declared_ids plan);
+  held = map (λ _. 0) (declared_ids plan);
+}

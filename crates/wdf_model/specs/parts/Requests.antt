@@ -1,5 +1,5 @@
 -- The requests: places, marks, and what is kept of each. (KMDF, but for what is marked own)
-use Rattle.std.specs.Prelude.{if◌then◌else◌, ℕ, Bool, true, false, ◌==◌, nat_lt, ◌&&◌, List, [], count_by, find, Option, Some, None, option_map}
+use Rattle.std.specs.Prelude.{if◌then◌else◌, ℕ, ◌+◌, Bool, true, false, ◌==◌, nat_lt, ◌&&◌, ◌||◌, List, [], find, slice_set, Option, Some, None, is_none, option_map}
 use Rattle.wdf_base.specs.declared.ids.ObjectId.{ObjectId}
 use Rattle.wdf_base.specs.declared.value.Status.{Status}
 use Rattle.wdf_base.specs.declared.value.Status.TheVariants as status
@@ -9,15 +9,14 @@ use Rattle.wdf_base.specs.declared.object.Mark.{Mark}
 use Rattle.wdf_base.specs.declared.object.Mark.TheVariants as marks
 use Rattle.wdf_base.specs.declared.object.RequestForm.TheVariants as form
 use Rattle.wdf_base.specs.declared.object.RequestInfo.{RequestInfo}
-use Rattle.wdf_model.specs.Tables.{entry, put, change_at, ids_of}
-
-pub record Request : Type 0 where
-  pub place : Place
-  pub info : RequestInfo
+use Rattle.wdf_model.specs.Tables.{entry, put, change_at, ids_of, flag}
+use Rattle.wdf_model.specs.declared.entries.Request.{Request}
 
 pub record Requests : Type 0 where
-  -- by id; what is no request is Done. A request that is gone keeps its entry
+  -- by id; what is no request, or is gone, is Done
   pub all : List Request
+  -- how many requests arrived
+  pub arrived : ℕ
 
 -- own: a made request has no origin, its form is control, and its length, code, agent and arrival are 0
 abbrev pub made_info : ℕ → RequestInfo
@@ -97,9 +96,6 @@ is_due _ = false
 abbrev pub has_arrived : Request → Bool
 has_arrived r = nat_lt 0 r.info.arrival
 
-abbrev pub arrived_count : Requests → ℕ
-arrived_count R = count_by has_arrived R.all
-
 -- the request of an agent's arrival, if that made one
 abbrev pub is_arrival : Requests → ℕ → ℕ → ℕ → Bool
 is_arrival R agent k r = nat_lt 0 k && (info_of R r).agent == agent && (info_of R r).arrival == k
@@ -110,11 +106,14 @@ arrival_of R agent k = find (is_arrival R agent k) (ids_of R.all)
 -- ---- acts
 
 abbrev pub with_request : Requests → ℕ → (Request → Request) → Requests
-with_request R r f = record { all = change_at no_request R.all r f }
+with_request R r f = record R { all = change_at no_request R.all r f }
 
 -- a request is there from now on
 abbrev pub arrive : Requests → ℕ → Place → RequestInfo → Requests
-arrive R r p info = record { all = put no_request R.all r (record { place = p; info = info }) }
+arrive R r p info = record {
+  all = put no_request R.all r (record { place = p; info = info });
+  arrived = R.arrived + flag (nat_lt 0 info.arrival);
+}
 
 -- the mark is none again where the request enters a queue, leaves one or is sent
 abbrev pub mark_at : Place → Mark → Mark
@@ -187,5 +186,16 @@ take_cancel R r = with_request R r (with_mark marks.Taken)
 abbrev pub complete : Requests → ℕ → Requests
 complete R r = move_to R r place.Done
 
+-- a request that the framework is done with: completed, or made by the driver and given to nobody
+abbrev pub is_over : Request → Bool
+is_over r = is_done r.place || (is_owned r.place && is_none r.info.origin)
+
+abbrev pub forgotten : Request → Request
+forgotten r = if is_over r then no_request else r
+
+-- of a request that is gone nothing is kept
+abbrev pub forget : Requests → ℕ → Requests
+forget R r = record R { all = slice_set R.all r (forgotten (request_of R r)) }
+
 abbrev pub no_requests : Requests
-no_requests = record { all = [] }
+no_requests = record { all = []; arrived = 0 }

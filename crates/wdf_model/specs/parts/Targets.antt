@@ -6,14 +6,7 @@ use Rattle.wdf_base.specs.declared.value.Status.{Status}
 use Rattle.wdf_base.specs.declared.declared.TargetInfo.{TargetInfo}
 use Rattle.wdf_model.specs.Tables.{entry, change_at, in_order_by}
 use Rattle.wdf_model.specs.Plans.{target_of, declared_ids}
-
--- a sent request
-pub record Sending : Type 0 where
-  pub request : ℕ
-  -- whether it doesn't come back to the driver
-  pub forgotten : Bool
-  -- the status with which the target is done with it
-  pub outcome : Option Status
+use Rattle.wdf_model.specs.declared.entries.Sending.{Sending}
 
 pub record Target : Type 0 where
   -- the most requests that it holds
@@ -45,7 +38,7 @@ abbrev pub all_sent : Targets → List Sending
 all_sent T = flat_map (λ t. t.sent) T.targets
 
 abbrev pub sending_of : Targets → ℕ → Option Sending
-sending_of T r = find (λ s. s.request == r) (all_sent T)
+sending_of T r = find (λ s. s.request.0 == r) (all_sent T)
 
 abbrev pub is_forgotten_sending : Option Sending → Bool
 is_forgotten_sending None = false
@@ -82,24 +75,24 @@ abbrev pub with_target : Targets → ℕ → (Target → Target) → Targets
 with_target T t f = record { targets = change_at no_target T.targets t f }
 
 abbrev pub sending_in_order : Sending → List Sending → List Sending
-sending_in_order s xs = in_order_by (λ (x : Sending). x.request) s xs
+sending_in_order s xs = in_order_by (λ (x : Sending). x.request.0) s xs
 
 abbrev pub new_sending : ℕ → Bool → Sending
-new_sending r forget = record { request = r; forgotten = forget; outcome = None }
+new_sending r forget = record { request = record { 0 = r }; forgotten = forget; outcome = None }
 
 abbrev pub send : Targets → ℕ → ℕ → Bool → Targets
 send T t r forget = with_target T t (λ x. record x { sent = sending_in_order (new_sending r forget) x.sent })
 
 abbrev pub without_sending : ℕ → Target → Target
-without_sending r t = record t { sent = filter (λ s. not (s.request == r)) t.sent }
+without_sending r t = record t { sent = filter (λ s. not (s.request.0 == r)) t.sent }
 
 abbrev pub done_sending : ℕ → Status → Sending → Sending
-done_sending r status s = if s.request == r then record s { outcome = Some status } else s
+done_sending r status s = if s.request.0 == r then record s { outcome = Some status } else s
 
 -- what is left of a request's sending where its target is done with it: nothing of a forgotten one
 abbrev pub target_done : ℕ → Status → Target → Target
 target_done r status t =
-    record t { sent = filter (λ s. not (s.request == r && s.forgotten)) (map (done_sending r status) t.sent) }
+    record t { sent = filter (λ s. not (s.request.0 == r && s.forgotten)) (map (done_sending r status) t.sent) }
 
 abbrev pub done : Targets → ℕ → Status → Targets
 done T r status = record { targets = map (target_done r status) T.targets }

@@ -1,5 +1,5 @@
 -- The tree of objects: kinds, parents, lives, references and context cells. (KMDF)
-use Rattle.std.specs.Prelude.{if◌then◌else◌, ℕ, ◌+◌, ◌-◌, Bool, true, false, ◌==◌, nat_lt, not, ◌&&◌, ◌||◌, List, [], ◌∷◌, ◌++◌, length, map, filter, count_by, replicate, fold, slice_set, slice_index_or, Option, Some, None, unwrap_or}
+use Rattle.std.specs.Prelude.{sum, if◌then◌else◌, ℕ, ◌+◌, ◌-◌, Bool, true, false, ◌==◌, nat_lt, not, ◌&&◌, ◌||◌, List, [], ◌∷◌, ◌++◌, length, map, filter, count_by, replicate, fold, slice_set, slice_index_or, Option, Some, None, unwrap_or}
 use Rattle.std.specs.List.{list_all}
 use Rattle.wdf_base.specs.declared.plan.Plan.{Plan}
 use Rattle.wdf_base.specs.declared.ids.Handle.{Handle}
@@ -18,23 +18,7 @@ use Rattle.wdf_base.specs.Plan.{declared_of}
 use Rattle.wdf_base.specs.Same.{same_kind}
 use Rattle.wdf_model.specs.Tables.{entry, change_at, ids_of}
 use Rattle.wdf_model.specs.Plans.{name_of_class}
-
--- an object; of one that is gone only that is kept
-pub record Node : Type 0 where
-  pub life : Life
-  pub kind : Kind
-  -- the number of its class, 0 for what has none
-  pub class : ℕ
-  -- the id of its parent, 0 for the driver object
-  pub parent : ℕ
-  -- how many references the driver holds
-  pub references : ℕ
-  -- the eight context cells
-  pub cells : List Value
-  -- whether EvtCleanupCallback has started
-  pub cleanup_started : Bool
-  -- whether EvtDestroyCallback has started
-  pub destroy_started : Bool
+use Rattle.wdf_model.specs.declared.entries.Node.{Node}
 
 pub record Tree : Type 0 where
   -- the most counted objects that stand at one time
@@ -42,29 +26,29 @@ pub record Tree : Type 0 where
   -- the objects by id; the id 0 is none
   pub nodes : List Node
 
+-- own: eight cells, which start as the number 0
+abbrev pub blank_cells : List Value
+blank_cells = replicate 8 (Num 0)
+
 -- an object that is gone
 abbrev pub gone : Node
 gone = record {
   life = life.Gone;
   kind = kind.General;
   class = 0;
-  parent = 0;
+  parent = record { 0 = 0 };
   references = 0;
-  cells = [];
+  cells = blank_cells;
   cleanup_started = false;
   destroy_started = false;
 }
-
--- own: eight cells, which start as the number 0
-abbrev pub blank_cells : List Value
-blank_cells = replicate 8 (Num 0)
 
 abbrev pub new_node : Kind → ℕ → ℕ → Node
 new_node k c parent = record {
   life = life.Live;
   kind = k;
   class = c;
-  parent = parent;
+  parent = record { 0 = parent };
   references = 0;
   cells = blank_cells;
   cleanup_started = false;
@@ -86,10 +70,14 @@ abbrev pub class_of : Tree → ℕ → ℕ
 class_of T o = (node_of T o).class
 
 abbrev pub parent_of : Tree → ℕ → ℕ
-parent_of T o = (node_of T o).parent
+parent_of T o = (node_of T o).parent.0
 
 abbrev pub references_of : Tree → ℕ → ℕ
 references_of T o = (node_of T o).references
+
+-- how many references the driver holds in all
+abbrev pub references_in : Tree → ℕ
+references_in T = sum (map (λ (n : Node). n.references) T.nodes)
 
 abbrev pub cell_of : Tree → ℕ → ℕ → Value
 cell_of T o k = slice_index_or (node_of T o).cells k (Num 0)
@@ -157,7 +145,7 @@ handle_of plan T o = record { id = record { 0 = o }; name = name_as plan (declar
 
 -- the nearest devices of the objects, from those before them: itself for a device, else its parent's, else the driver object
 abbrev pub own_device : List ℕ → ℕ → Node → ℕ
-own_device before o n = if same_kind n.kind kind.Device then o else entry 1 before n.parent
+own_device before o n = if same_kind n.kind kind.Device then o else entry 1 before n.parent.0
 
 abbrev pub nearest_devices : List ℕ → List Node → List ℕ
 nearest_devices before [] = before
@@ -170,7 +158,7 @@ nearest_device T o = entry 1 (nearest_devices [] T.nodes) o
 -- for each object whether it is reached from o by steps from parent to child; a child's id is greater than its parent's
 abbrev pub below_marks : ℕ → List Bool → List Node → List Bool
 below_marks o before [] = before
-below_marks o before (n ∷ ns) = below_marks o (before ++ (n.parent == o || entry false before n.parent) ∷ []) ns
+below_marks o before (n ∷ ns) = below_marks o (before ++ (n.parent.0 == o || entry false before n.parent.0) ∷ []) ns
 
 -- whether x is reached from o by one or more steps from parent to child
 abbrev pub is_below : Tree → ℕ → ℕ → Bool

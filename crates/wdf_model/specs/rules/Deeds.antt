@@ -242,7 +242,7 @@ do_deed plan (Unrefer o) S = record S { tree = tree.dereference S.tree o }
 do_deed plan (Write_cell o k v) S = record S { tree = tree.set S.tree o k v }
 do_deed plan (Note o c) S = record S { tree = tree.note_start S.tree o c }
 do_deed plan (Clean_up o) S = record S { tree = tree.clean S.tree o }
-do_deed plan (End_life o) S = record S { tree = tree.destroy S.tree o }
+do_deed plan (End_life o) S = record S { tree = tree.destroy S.tree o; requests = requests.forget S.requests o }
 do_deed plan (Push_frame cpu f frame level) S = record S { cpus = cpus.push S.cpus cpu f frame level }
 do_deed plan (Go_on f frame) S = record S { cpus = cpus.change S.cpus f frame }
 do_deed plan (Raise f level) S = record S { cpus = cpus.raise S.cpus f level }

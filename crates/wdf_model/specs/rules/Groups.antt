@@ -19,15 +19,16 @@ use Rattle.wdf_base.specs.declared.event.Step.TheVariants as step
 use Rattle.wdf_base.specs.Same.{same_callback}
 use Rattle.wdf_model.specs.declared.enums.Group.{Group}
 use Rattle.wdf_model.specs.declared.enums.Group.TheVariants as group
+use Rattle.wdf_model.specs.declared.entries.Timed.{Timed}
+use Rattle.wdf_model.specs.declared.entries.Sending.{Sending}
 use Rattle.wdf_model.specs.Plans.{declares, handler_for, interrupt_of, queue_of, targets_of, declared_ids}
 use Rattle.wdf_model.specs.parts.Tree.{kind_of, next_id}
 use Rattle.wdf_model.specs.parts.Cpus.{top}
 use Rattle.wdf_model.specs.parts.Requests.{info_of, place_of}
 use Rattle.wdf_model.specs.parts.Queues.{front}
 use Rattle.wdf_model.specs.parts.Pnp.{next_step}
-use Rattle.wdf_model.specs.parts.Deferred.Timers.{Timed}
 use Rattle.wdf_model.specs.parts.Deferred.Dpcs.{dpc_head}
-use Rattle.wdf_model.specs.parts.Targets.{Sending, the_target}
+use Rattle.wdf_model.specs.parts.Targets.{the_target}
 use Rattle.wdf_model.specs.State.{State, handle_in}
 use Rattle.wdf_model.specs.rules.Posts.{due_of, post_answer}
 use Rattle.wdf_model.specs.rules.Steps.{cpu_of, own_event}
@@ -141,7 +142,7 @@ start_of_step plan S cpu d (step.Pass s i) = None
 abbrev pub start_at : {A : Type 0} → Plan → State A → ℕ → Rank → ℕ → Option Event
 start_at plan S cpu rank.Isr k = if_there (is_some (interrupt_of plan k)) (starts plan S cpu callback.EvtInterruptIsr k)
 start_at plan S cpu rank.Deferred k = option_map (λ o. starts plan S cpu (dpc_function (kind_of S.tree o)) o) (dpc_head S.dpcs cpu)
-start_at plan S cpu rank.Timed k = option_map (λ (t : Timed). starts plan S cpu callback.EvtTimerFunc t.timer) (slice_get S.timers.queued k)
+start_at plan S cpu rank.Timed k = option_map (λ (t : Timed). starts plan S cpu callback.EvtTimerFunc t.timer.0) (slice_get S.timers.queued k)
 start_at plan S cpu rank.QueueState k = if_there (is_some (queue_of plan k)) (starts plan S cpu callback.EvtIoQueueState k)
 start_at plan S cpu rank.Handler k = option_and_then (handler_start plan S cpu k) (front S.queues k)
 start_at plan S cpu rank.Sequence k = option_and_then (start_of_step plan S cpu k) (next_step S.pnp k)
@@ -152,7 +153,7 @@ start_at plan S cpu _ k = None
 
 abbrev pub start_for : {A : Type 0} → Plan → State A → ℕ → Rank → ℕ → ℕ → Option Event
 start_for plan S cpu rank.Completion o k =
-    option_map (λ (s : Sending). starts_for plan S cpu callback.EvtRequestCompletion o s.request) (slice_get (the_target S.targets o).sent k)
+    option_map (λ (s : Sending). starts_for plan S cpu callback.EvtRequestCompletion o s.request.0) (slice_get (the_target S.targets o).sent k)
 start_for plan S cpu r o k = Some (starts_for plan S cpu (callback_for r) o k)
 
 abbrev pub stage_of_step : {A : Type 0} → Plan → State A → ℕ → Step → Option Event

@@ -19,7 +19,7 @@ use Rattle.wdf_base.specs.Resolved.{is_handle, action_fits}
 use Rattle.wdf_model.specs.Tables.{entry}
 use Rattle.wdf_model.specs.Plans.{device_of_agent, target_of_agent, has_handler, is_app, is_manual_queue, queue_for, queue_of}
 use Rattle.wdf_model.specs.parts.Tree.{life_of, is_live, next_id}
-use Rattle.wdf_model.specs.parts.Requests.{arrival_of, arrived_count, is_closing, is_done, is_sent_to, place_of}
+use Rattle.wdf_model.specs.parts.Requests.{arrival_of, is_closing, is_done, is_sent_to, place_of}
 use Rattle.wdf_model.specs.parts.Control.{accepts}
 use Rattle.wdf_model.specs.parts.Pnp.{busy}
 use Rattle.wdf_model.specs.parts.Targets.{is_undone}
@@ -134,7 +134,7 @@ post_deeds plan S agent (post.Act action) = []
 post_deeds plan S agent (post.Done request s) = Finish_sending request.id.0 s ∷ []
 
 abbrev pub may_arrive : {A : Type 0} → Plan → State A → ℕ → Handle → Bool
-may_arrive plan S agent device = is_app plan agent && is_handle plan kind.Device device && nat_lt (arrived_count S.requests) ARRIVALS
+may_arrive plan S agent device = is_app plan agent && is_handle plan kind.Device device && nat_lt S.requests.arrived ARRIVALS
 
 -- this agent is the target to which the request is sent, and the request isn't done
 abbrev pub may_finish : {A : Type 0} → Plan → State A → Option ℕ → Handle → Bool

@@ -22,12 +22,13 @@ use Rattle.wdf_base.specs.declared.event.Step.TheVariants as step
 use Rattle.wdf_base.specs.declared.frame.Frame.{Frame}
 use Rattle.wdf_base.specs.Callbacks.{row_of}
 use Rattle.wdf_base.specs.Same.{same_callback, same_kind, same_step, same_option}
+use Rattle.wdf_model.specs.declared.entries.Request.{Request}
 use Rattle.wdf_model.specs.Plans.{agent_of_device, callback_irql, handler_for, interrupt_of, interrupts_of, is_managed, is_manual_queue, is_target_of, managed_queues, period_of, queues_of, target_of, declared_ids}
 use Rattle.wdf_model.specs.Tables.{same_id}
 use Rattle.wdf_model.specs.parts.Tree.{class_of, kind_of, life_of, is_live, is_asked, is_cleaned, may_clean, may_destroy, nearest_device, started}
 use Rattle.wdf_model.specs.parts.Cpus.{irql, is_empty_cpu, is_running, nobody_on}
 use Rattle.wdf_model.specs.parts.Locks.{is_free_if_any, is_free_lock, lock_of_callback, object_lock}
-use Rattle.wdf_model.specs.parts.Requests.{Request, info_of, place_of, mark_of, is_done, is_due, is_returning_to, is_sent, is_sent_to, has_arrived}
+use Rattle.wdf_model.specs.parts.Requests.{info_of, place_of, mark_of, is_done, is_due, is_returning_to, is_sent, is_sent_to, has_arrived}
 use Rattle.wdf_model.specs.parts.Queues.{front, is_free}
 use Rattle.wdf_model.specs.parts.Control.{notify_due}
 use Rattle.wdf_model.specs.parts.Power.{any_resume_due, resume_due, stop_was_asked, unsettled}

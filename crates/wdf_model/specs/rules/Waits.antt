@@ -42,7 +42,7 @@ use Rattle.wdf_model.specs.parts.Pnp.{follows_queues_up, next_step, running_step
 use Rattle.wdf_model.specs.parts.Deferred.Dpcs.{dpc_head, dpcs_of, is_dpc_queued}
 use Rattle.wdf_model.specs.parts.Deferred.WorkItems.{is_work_queued}
 use Rattle.wdf_model.specs.parts.Targets.{is_undone, routine_due}
-use Rattle.wdf_model.specs.State.{State, declared_in, declares_in, handle_in, held_from, object_in, up_for, waits_for}
+use Rattle.wdf_model.specs.State.{State, declared_in, declares_in, handle_in, held_from, object_in, up_for, waits_for, is_powered}
 use Rattle.wdf_model.specs.rules.Starts.{clean_ready, destroy_ready, handle_id, is_unfinished_at, level_fits, targets_at}
 use Rattle.wdf_model.specs.rules.Posts.{due_of}
 use Rattle.wdf_model.specs.rules.Steps.{wait_is_over}
@@ -162,7 +162,7 @@ abbrev pub queued_cause : {A : Type 0} → Plan → State A → ℕ → ℕ → 
 queued_cause plan S q r =
     first_cause (
     cause_if (not (delivers_in (mode_of S.control q))) cause.Stopped
-    ∷ cause_if (is_managed plan q && not (up_for plan S q)) cause.Unpowered
+    ∷ cause_if (not (is_powered plan S q)) cause.Unpowered
     ∷ cause_if (is_manual_queue plan q) cause.Manual
     ∷ option_map (λ x. cause.Behind (handle_in plan S x)) (least (ahead S q r))
     ∷ cause_if (not (is_free S.queues q)) cause.Full

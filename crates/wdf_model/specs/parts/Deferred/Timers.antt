@@ -2,11 +2,7 @@
 use Rattle.std.specs.Prelude.{if◌then◌else◌, ℕ, ◌+◌, min, Bool, false, ◌==◌, nat_le, nat_lt, not, List, [], ◌∷◌, map, filter, find, Option, Some, None, is_some}
 use Rattle.std.specs.List.{list_any}
 use Rattle.wdf_model.specs.Tables.{least, in_order_by}
-
-pub record Timed : Type 0 where
-  pub timer : ℕ
-  -- the tick at which it is due
-  pub tick : ℕ
+use Rattle.wdf_model.specs.declared.entries.Timed.{Timed}
 
 pub record Timers : Type 0 where
   -- the queued timers, by rising id
@@ -19,7 +15,7 @@ abbrev pub LONGEST : ℕ
 LONGEST = 1000000
 
 abbrev pub timed_of : Timers → ℕ → Option Timed
-timed_of T o = find (λ t. t.timer == o) T.queued
+timed_of T o = find (λ t. t.timer.0 == o) T.queued
 
 abbrev pub is_timer_queued : Timers → ℕ → Bool
 is_timer_queued T o = is_some (timed_of T o)
@@ -41,16 +37,16 @@ abbrev pub any_later_timer : Timers → ℕ → Bool
 any_later_timer T now = list_any (λ t. nat_lt now t.tick) T.queued
 
 abbrev pub without_timer : ℕ → List Timed → List Timed
-without_timer o ts = filter (λ t. not (t.timer == o)) ts
+without_timer o ts = filter (λ t. not (t.timer.0 == o)) ts
 
 abbrev pub start : Timers → ℕ → ℕ → ℕ → Timers
-start T o now ticks = record { queued = in_order_by (λ (t : Timed). t.timer) (record { timer = o; tick = now + min ticks LONGEST }) (without_timer o T.queued) }
+start T o now ticks = record { queued = in_order_by (λ (t : Timed). t.timer.0) (record { timer = record { 0 = o }; tick = now + min ticks LONGEST }) (without_timer o T.queued) }
 
 abbrev pub stop : Timers → ℕ → Timers
 stop T o = record { queued = without_timer o T.queued }
 
 abbrev pub later_by : ℕ → ℕ → Timed → Timed
-later_by o period t = if t.timer == o then record t { tick = t.tick + period } else t
+later_by o period t = if t.timer.0 == o then record t { tick = t.tick + period } else t
 
 -- a timer without a period leaves its queue; a periodic one's due tick grows by its period
 abbrev pub fired : Timers → ℕ → ℕ → Timers
