@@ -164,9 +164,13 @@ below_marks o before (n ∷ ns) = below_marks o (before ++ (n.parent.0 == o || e
 abbrev pub is_below : Tree → ℕ → ℕ → Bool
 is_below T o x = entry false (below_marks o [] T.nodes) x
 
+-- o and what is marked, of these ids
+abbrev pub with_marked : ℕ → List Bool → List ℕ → List ℕ
+with_marked o marks ids = filter (λ x. x == o || entry false marks x) ids
+
 -- o and the objects below it
 abbrev pub subtree : Tree → ℕ → List ℕ
-subtree T o = filter (λ x. x == o || is_below T o x) (ids_of T.nodes)
+subtree T o = with_marked o (below_marks o [] T.nodes) (ids_of T.nodes)
 
 abbrev pub is_child : Tree → ℕ → ℕ → Bool
 is_child T o x = parent_of T x == o && not (is_gone (life_of T x))
