@@ -1,5 +1,6 @@
 -- What still deeds keep of frames, steps and the tree.
 use Rattle.std.proofs.Common.{if◌then◌else◌, ◌≡◌, ◌≢◌, ℕ, ◌+◌, ◌-◌, Bool, true, false, ◌&&◌, List, [], ◌∷◌, ◌⊎◌, inl, inr, is_some, fold, slice_set, refl, ap, sym, subst, ◌∙◌}
+use Rattle.wdf_base.specs.declared.ids.ObjectId.{ObjectId}
 use Rattle.wdf_base.specs.declared.plan.Plan.{Plan}
 use Rattle.wdf_base.specs.declared.object.Kind.TheVariants as kind
 use Rattle.wdf_base.specs.declared.object.Life.{Life}
@@ -16,7 +17,7 @@ use Rattle.wdf_model.specs.declared.entries.Node.{Node}
 use Rattle.wdf_model.specs.declared.entries.Running.{Running}
 use Rattle.wdf_model.specs.Tables.{change_at, ids_of}
 use Rattle.wdf_model.specs.parts.Tree.{children, is_past_cleanup, Tree, is_asked, is_gone, is_live, life_of, may_clean, node_of, noted, subtree, with_life}
-use Rattle.wdf_model.specs.parts.Cpus.{Cpus, frame_of, less_one, no_frame, running}
+use Rattle.wdf_model.specs.parts.Cpus.{Cpus, frame_of, no_frame, running}
 use Rattle.wdf_model.specs.parts.Queues.{Queues, waiting_in}
 use Rattle.wdf_model.specs.parts.Control as control
 use Rattle.wdf_model.specs.parts.Power.{Power}
@@ -114,10 +115,6 @@ all_closed : {A : Type 0} (q : ℕ) (rs : List ℕ) (S : State A) → Still S (f
 all_closed q [] S = still_same S
 all_closed q (r ∷ rs) S = still_then S (close_one q S r) _ (closed_one S r (is_returning_to q (place_of S.requests r))) (all_closed q rs (close_one q S r))
 
-level_frames : (C : Cpus) (f x : ℕ) (g : Running → Running) → ((r : Running) → (g r).frame ≡ r.frame) → (x ≡ f) ⊎ (x ≢ f) → frame_of (record C { frames = change_at no_frame C.frames f g }) x ≡ frame_of C x
-level_frames C f x g same (inl e) = rw e (ap (λ (r : Running). r.frame) (entry_put_same no_frame C.frames f (g (running C f))) ∙ same (running C f))
-level_frames C f x g same (inr n) = ap (λ (r : Running). r.frame) (entry_put_other no_frame C.frames f x (g (running C f)) n)
-
 asked_running : (Q : Pnp) (d x : ℕ) (a : Ask) → (x ≡ d) ⊎ (x ≢ d) → is_running_step (pnp.ask Q d a) x ≡ is_running_step Q x
 asked_running Q d x a (inl e) = rw e (ap (λ (q : Sequence). is_some q.running) (entry_put_same no_sequence Q.devices d (record (sequence_of Q d) { left = steps_for (sequence_of Q d).steps (sequence_of Q d).ever_working (sequence_of Q d).phase a })))
 asked_running Q d x a (inr n) = ap (λ (q : Sequence). is_some q.running) (entry_put_other no_sequence Q.devices d x (record (sequence_of Q d) { left = steps_for (sequence_of Q d).steps (sequence_of Q d).ever_working (sequence_of Q d).phase a }) n)
@@ -139,11 +136,11 @@ deed_still plan (Ask_deletion o) S h f = all_asked (subtree S.tree o) S
 deed_still plan (Refer o) S h f = by_tree S _ (tree_changes S.tree o (λ n. record n { references = n.references + 1 }) (λ n. refl) (λ n. refl) refl)
 deed_still plan (Unrefer o) S h f = by_tree S _ (tree_changes S.tree o (λ n. record n { references = n.references - 1 }) (λ n. refl) (λ n. refl) refl)
 deed_still plan (Write_cell o c v) S h f = by_tree S _ (tree_changes S.tree o (λ n. record n { cells = slice_set n.cells c v }) (λ n. refl) (λ n. refl) refl)
-deed_still plan (Note o c) S h f = by_tree S _ (tree_changes S.tree o (noted c) (λ n. (noted_kept c n).0) (λ n. (noted_kept c n).1) (noted_kept c (node_of S.tree o)).2)
+deed_still plan (Note o c) S h f = by_tree S _ (tree_changes S.tree o (noted c) (λ n. (noted_kept c n).0) (λ n. ap (λ (p : ObjectId). p.0) (noted_kept c n).1) (noted_kept c (node_of S.tree o)).2)
 deed_still plan (Clean_up o) S h f = by_tree S _ (tree_changes S.tree o (with_life life.Cleaned) (λ n. refl) (λ n. refl)
     (sym (asked_there (life_of S.tree o) (asked_at S o f))))
-deed_still plan (Raise g level) S h f = record { number = refl; stacks = refl; parked = refl; frames = λ x. level_frames S.cpus g x (λ r. record r { levels = level ∷ r.levels }) (λ r. refl) (one_or_two x g); running = λ d. refl; tree = tree_same S.tree }
-deed_still plan (Lower g level) S h f = record { number = refl; stacks = refl; parked = refl; frames = λ x. level_frames S.cpus g x (λ r. record r { levels = less_one level r.levels }) (λ r. refl) (one_or_two x g); running = λ d. refl; tree = tree_same S.tree }
+deed_still plan (Raise g level) S h f = record { number = refl; stacks = refl; parked = refl; frames = λ x. refl; running = λ d. refl; tree = tree_same S.tree }
+deed_still plan (Lower g level) S h f = record { number = refl; stacks = refl; parked = refl; frames = λ x. refl; running = λ d. refl; tree = tree_same S.tree }
 deed_still plan (Requeue r q) S h f = let k = gives_up S r in record { number = k.number; stacks = k.stacks; parked = k.parked; frames = k.frames; running = k.running; tree = k.tree }
 deed_still plan (Forward r q) S h f = let k = gives_up S r in record { number = k.number; stacks = k.stacks; parked = k.parked; frames = k.frames; running = k.running; tree = k.tree }
 deed_still plan (Give_back r q) S h f = let k = gives_up S r in record { number = k.number; stacks = k.stacks; parked = k.parked; frames = k.frames; running = k.running; tree = k.tree }
