@@ -11,17 +11,16 @@ ghost use Rattle.wdf_model.specs.rules.Steps.{after};
 ghost use Rattle.wdf_base.specs.declared.event.Fault.{Fault};
 ghost use Rattle.wdf_model.specs.rules.Deeds.{Ask_deletion, do_deed};
 ghost use Rattle.wdf_model.specs.rules.Ready.{ready, state_after};
-ghost use Rattle.wdf_model.specs.agents.{Agent, agents};
 ghost use Rattle.wdf_model.specs.laws.FactsOfEvents.{IsTick, MovesOnlyFrame, touches_gone};
 
 /// A Local or a Log of a processor's top frame changes nothing but what the script keeps in that frame:
 /// no agent hears of it, and no other part, frame, stack or level changes.
 #[tactic(auto, using(crate::proofs::FactsOfEvents::local_moves_frame, crate::proofs::FactsOfEvents::log_moves_frame))]
-pub fn steps_inside_a_frame()
-    ensures local { (plan : Plan) (S : State Agent) (cpu : Cpu) (line f : ℕ) → top S.cpus cpu.0 ≡ Some f
-        → MovesOnlyFrame f S (after plan agents S (event.Local cpu line)) }
-    ensures log { (plan : Plan) (S : State Agent) (cpu : Cpu) (v : Value) (f : ℕ) → top S.cpus cpu.0 ≡ Some f
-        → MovesOnlyFrame f S (after plan agents S (event.Log cpu v)) }
+pub fn steps_inside_a_frame<A>()
+    ensures local { (plan : Plan) (m : Meaning A) (S : State A) (cpu : Cpu) (line f : ℕ) → top S.cpus cpu.0 ≡ Some f
+        → MovesOnlyFrame f S (after plan m S (event.Local cpu line)) }
+    ensures log { (plan : Plan) (m : Meaning A) (S : State A) (cpu : Cpu) (v : Value) (f : ℕ) → top S.cpus cpu.0 ≡ Some f
+        → MovesOnlyFrame f S (after plan m S (event.Log cpu v)) }
 {}
 
 /// No start, cleanup or end that may follow names an object that is gone.

@@ -39,7 +39,7 @@ use Rattle.wdf_model.specs.parts.Deferred.WorkItems.{is_work_queued}
 use Rattle.wdf_model.specs.parts.Deferred.Timers.{timer_due}
 use Rattle.wdf_model.specs.parts.Targets.{routine_due}
 use Rattle.wdf_model.specs.State.{State, declared_in, declares_in, handle_in, is_held_from, is_locked, is_waited_for, nothing_at, queue_delivers, script_in}
-use Rattle.wdf_model.specs.rules.Deeds.{Deed, Ask_deletion, Note, Push_frame, Pop_frame, Take_lock, Release_lock, Present, Receive, Take_cancel, Come_back, Purge_queue, Close_returning, Shut_device, Notify_queue, Advance_power, Ask_stop, Resume, Take_step, End_step, Enable_interrupt, Disable_interrupt, Take_dpc, Cancel_work, Fire_timer}
+use Rattle.wdf_model.specs.rules.Deeds.{Deed, Ask_deletion, Note, Push_frame, Pop_frame, Take_lock, Release_lock, Present, Receive, Take_cancel, Come_back, Close_returning, Close_device, Notify_queue, Advance_power, Ask_stop, Resume, Take_step, End_step, Enable_interrupt, Disable_interrupt, Take_dpc, Cancel_work, Fire_timer}
 
 -- ---- what agents show
 
@@ -136,10 +136,6 @@ stage_ready plan S d _ i = true
 abbrev pub may_pass : {A : Type 0} → Plan → State A → ℕ → Stage → Option Handle → Bool
 may_pass plan S d s i = step_ready S d (step.Pass s i) && stage_ready plan S d s i
 
--- a queue of a closed device is Purged, and nothing returns from it
-abbrev pub close_queue : ℕ → List Deed
-close_queue q = Purge_queue q ∷ Close_returning q ∷ []
-
 -- what a stage does beside power and phase
 abbrev pub stage_effect : Plan → ℕ → Stage → Option Handle → List Deed
 -- own: the interrupt is put on the list of enabled ones
@@ -147,9 +143,9 @@ stage_effect plan d stage.Enabled i = Enable_interrupt (handle_id i) ∷ []
 -- own: and taken off it
 stage_effect plan d stage.Disabled i = Disable_interrupt (handle_id i) ∷ []
 -- own: what returns from a power-managed queue is to be completed with CANCELLED
-stage_effect plan d stage.QueuesDown i = map Close_returning (managed_queues plan d)
+stage_effect plan d stage.QueuesDown i = Close_returning d ∷ []
 -- own: the device's queues are Purged for good, and what waits in them or returns is to be completed with CANCELLED
-stage_effect plan d stage.Closed i = Shut_device d ∷ flat_map close_queue (queues_of plan d)
+stage_effect plan d stage.Closed i = Close_device d ∷ []
 -- own: the device's deletion is asked
 stage_effect plan d stage.Removed i = Ask_deletion d ∷ []
 stage_effect plan d _ i = []

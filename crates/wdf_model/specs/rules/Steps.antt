@@ -146,9 +146,13 @@ abbrev pub is_proper_if_any : {A : Type 0} → Plan → State A → Option Handl
 is_proper_if_any plan S None = true
 is_proper_if_any plan S (Some h) = is_proper plan S h
 
+-- a processor of the plan
+abbrev pub is_cpu : Plan → Cpu → Bool
+is_cpu plan cpu = nat_lt cpu.0 plan.cpus
+
 abbrev pub may : {A : Type 0} → Plan → Meaning A → State A → Event → Bool
 -- a callback starts by its row of the table of callbacks
-may plan m S (event.Start cpu c o r) = is_proper plan S o && is_proper_if_any plan S r && may_start plan m S cpu.0 c o.id.0 r
+may plan m S (event.Start cpu c o r) = is_cpu plan cpu && is_proper plan S o && is_proper_if_any plan S r && may_start plan m S cpu.0 c o.id.0 r
 -- a frame's event is the one of its statement, its fault, its end or its waking
 may plan m S (event.Local cpu line) = is_own_event plan m S cpu (event.Local cpu line)
 may plan m S (event.Log cpu v) = is_own_event plan m S cpu (event.Log cpu v)
@@ -161,7 +165,7 @@ may plan m S (event.End cpu c o v) = is_own_event plan m S cpu (event.End cpu c 
 may plan m S (event.Fault cpu x line) = is_own_event plan m S cpu (event.Fault cpu x line)
 -- own: a frame leaves its processor, and comes back
 may plan m S (event.Park cpu f) = may_park S cpu.0 f.0
-may plan m S (event.Unpark cpu f) = may_unpark S cpu.0 f.0
+may plan m S (event.Unpark cpu f) = is_cpu plan cpu && may_unpark S cpu.0 f.0
 -- a stage is the device's next step, and its wait is over
 may plan m S (event.Stage d s i) = is_proper plan S d && may_pass plan S d.id.0 s i
 -- the framework completes what is Closing, with its status
