@@ -6,6 +6,7 @@ use Rattle.wdf_base.specs.declared.plan.Plan.{Plan}
 use Rattle.wdf_base.specs.declared.declared.Declared.{Declared}
 use Rattle.wdf_base.specs.declared.declared.DeviceInfo.{DeviceInfo}
 use Rattle.wdf_base.specs.declared.event.Event.{Event}
+use Rattle.wdf_base.specs.declared.event.Event.TheVariants as event
 use Rattle.wdf_model.specs.Tables.{entry, flag}
 use Rattle.wdf_model.specs.Plans.{declared_ids, device_of, devices_of}
 use Rattle.wdf_model.specs.parts.Tree.{declared_node, gone, is_gone, life_of, opening_tree, parent_of}
@@ -78,7 +79,7 @@ told_more m e N S h =
 
 one_event_more : {A : Type 0} (plan : Plan) (m : Meaning A) (S : State A) (offered : List Event) (e : Event) → (may plan m S e ≡ true) ⊎ IsTick m S offered e → StepsNow S → StepsNow (after plan m S e)
 one_event_more plan m S offered e (inl may_come) h = told_more m e S.number (do_deeds plan (deeds plan S e) S) (event_keeps_steps plan m S e may_come h)
-one_event_more plan m S offered e (inr t) h = subst (λ x. StepsNow (after plan m S x)) (sym t.tick) (told_more m _ S.number _ (tick_keeps_steps plan S (S.clock + 1) h))
+one_event_more plan m S offered e (inr t) h = subst (λ x. StepsNow (after plan m S x)) (sym t.tick) (told_more m (event.Tick (S.clock + 1)) S.number _ (tick_keeps_steps plan S (S.clock + 1) h))
 
 -- ---- each place of a run
 
