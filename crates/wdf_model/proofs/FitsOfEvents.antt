@@ -44,7 +44,7 @@ use Rattle.wdf_model.specs.parts.Pnp.{is_running_step, next_step}
 use Rattle.wdf_model.specs.State.{State, declared_in, declares_in, is_proper, is_with_driver}
 use Rattle.wdf_model.specs.rules.Deeds.{Arrive, Count_arrival, Deed, Go_on, Pop_frame, Push_frame, do_deed, do_deeds}
 use Rattle.wdf_model.specs.rules.Script.{intent_of}
-use Rattle.wdf_model.specs.rules.Calls.{is_met, outcome, second_deeds}
+use Rattle.wdf_model.specs.rules.Calls.{is_met, outcome, second_deeds, is_met_then}
 use Rattle.wdf_model.specs.rules.Starts.{callback_over, clean_ready, destroy_ready, effect, effect_for, end_deeds, end_of_step, is_ready_for, level_fits, life_fits, may_pass, may_start, new_frame, next_number, rank_ready, rank_ready_for, release_if_any, stage_deeds, stage_effect, stage_ready, start_deeds, start_effect, step_of, step_ready, take_if_any}
 use Rattle.wdf_model.specs.rules.Posts.{arrival_deeds, arrival_info, arrival_place, cancel_at, cancel_deeds, due_of, in_reach, is_data, may_finish, place_if_any, place_in_queue, post_answer, post_deeds, post_fits, takes_empty}
 use Rattle.wdf_model.specs.rules.Steps.{answered, by_top, did_deeds, goes_on, spending, stepped, waiting, waiting_deeds, woke_deeds, deeds, is_closing_with, is_own_event, is_proper_if_any, may, is_cpu}
@@ -138,6 +138,14 @@ second_fits plan T f call.WdfWaitLockAcquire n a b x h = alone _ h
 second_fits plan T f call.WdfInterruptAcquireLock n a b x h = alone _ h
 second_fits plan T f _ n a b x h = refl
 
+-- the first part of an acquire leaves the lock alone
+second_fits_then : {A : Type 0} (plan : Plan) (S : State A) (cpu f : ℕ) (k : CallKind) (n : ℕ) (a b x : Arg) → is_met_then plan S (record { kind = k; count = n; a = a; b = b; c = x }) ≡ true
+    → all_fit plan (second_deeds f (record { kind = k; count = n; a = a; b = b; c = x })) (do_deeds plan (outcome plan S cpu f (record { kind = k; count = n; a = a; b = b; c = x })).deeds S) ≡ true
+second_fits_then plan S cpu f call.WdfSpinLockAcquire n a b x h = alone _ h
+second_fits_then plan S cpu f call.WdfWaitLockAcquire n a b x h = alone _ h
+second_fits_then plan S cpu f call.WdfInterruptAcquireLock n a b x h = alone _ h
+second_fits_then plan S cpu f _ n a b x h = refl
+
 by_there : {A : Type 0} (S : State A) (f : ℕ) (ds : ℕ → Frame → List Deed) (there : Option ℕ) → there ≡ Some f
     → (elim there as (λ _. List Deed) [ None ↦ [] | Some g ↦ ds g (frame_of S.cpus g) ]) ≡ ds f (frame_of S.cpus f)
 by_there S f ds None h = absurd (let z : ⊥ = cc in z)
@@ -159,7 +167,7 @@ did_fits plan m S k c v h =
     (fit_behind plan ((outcome plan S k.0 d.frame c).deeds ++ second_deeds d.frame c) (Go_on d.frame (answered plan (frame_of S.cpus d.frame) v) ∷ []) S
     (fit_behind plan (outcome plan S k.0 d.frame c).deeds (second_deeds d.frame c) S
     (outcome_fits plan S k.0 d.frame c.kind c.count c.a c.b c.c d.about.clean)
-    (second_fits plan (do_deeds plan (outcome plan S k.0 d.frame c).deeds S) d.frame c.kind c.count c.a c.b c.c d.met))
+    (second_fits_then plan S k.0 d.frame c.kind c.count c.a c.b c.c d.met))
     refl)
 
 waiting_fits : {A : Type 0} (plan : Plan) (m : Meaning A) (S : State A) (k : Cpu) (c : Call) → is_own_event plan m S k (event.Waiting k c) ≡ true

@@ -24,14 +24,14 @@ use Rattle.wdf_model.specs.parts.Tree.{life_of, is_live, is_full, next_id, cell_
 use Rattle.wdf_model.specs.parts.Cpus.{nobody_on}
 use Rattle.wdf_model.specs.parts.Locks.{object_lock, is_free_lock}
 use Rattle.wdf_model.specs.parts.Requests.{info_of, origin_of, is_cancelled, is_returning_to, mark_answer, unmark_answer}
-use Rattle.wdf_model.specs.parts.Queues.{front, held_count, is_empty_queue}
+use Rattle.wdf_model.specs.parts.Queues.{front, held_count, is_empty_queue, waiting_in}
 use Rattle.wdf_model.specs.parts.Control.{accepts, mode_of, is_purged}
 use Rattle.wdf_model.specs.parts.Interrupts.{is_enabled}
 use Rattle.wdf_model.specs.parts.Deferred.Dpcs.{is_dpc_queued}
 use Rattle.wdf_model.specs.parts.Deferred.WorkItems.{is_work_queued}
 use Rattle.wdf_model.specs.parts.Deferred.Timers.{is_timer_queued}
 use Rattle.wdf_model.specs.parts.Targets.{takes_more, is_undone}
-use Rattle.wdf_model.specs.State.{State, object_in, queue_delivers, nothing_at, handle_in}
+use Rattle.wdf_model.specs.State.{State, object_in, queue_delivers, nothing_at, handle_in, returns_to}
 use Rattle.wdf_model.specs.rules.Deeds.{Deed, Create, Make_request, Ask_deletion, Refer, Unrefer, Write_cell, Raise, Lower, Take_lock, Release_lock, Present, Requeue, Forward, Give_back, Mark_request, Unmark_request, Send_request, Complete_request, Set_mode, Purge_queue, Register_queue, Acknowledge, Enqueue_dpc, Cancel_dpc, Enqueue_work, Start_timer, Stop_timer, Stop_target, Start_target}
 use Rattle.wdf_model.specs.rules.Faults.{arg_is}
 
@@ -310,6 +310,19 @@ is_met S c = elim c.kind as (λ _. Bool) [
   -- KMDF: nothing is sent to the target, unless it is left there
   | call.WdfIoTargetStop ↦ arg_is c.b 2 || nothing_at S (object_in c.a)
   | _ ↦ true
+]
+
+-- what a purge of a queue makes return to it: a waiting request that the driver had before
+abbrev pub purge_returns : {A : Type 0} → Plan → State A → ℕ → Bool
+purge_returns plan S q = returns_to plan S q && list_any (λ r. (info_of S.requests r).received) (waiting_in S.queues q)
+
+-- whether the wait of a call is over once its first part is done, said of the state before it
+abbrev pub is_met_then : {A : Type 0} → Plan → State A → Call → Bool
+is_met_then plan S c = elim c.kind as (λ _. Bool) [
+  -- KMDF: its purge makes nothing return either
+  | call.WdfIoQueuePurgeSynchronously ↦ is_met S c && not (purge_returns plan S (object_in c.a))
+  -- the first part of another call leaves alone what it waits for
+  | _ ↦ is_met S c
 ]
 
 -- what is done when the wait of frame f's call is over: a lock is taken

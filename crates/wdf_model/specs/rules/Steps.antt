@@ -37,7 +37,7 @@ use Rattle.wdf_model.specs.rules.Script.{intent_of, line_of, statement_at}
 use Rattle.wdf_model.specs.State.{State, declared_in, is_proper, is_with_driver}
 use Rattle.wdf_model.specs.rules.Deeds.{Deed, do_deeds, counted, Go_on, Park_frame, Unpark_frame, Complete_request, Clean_up, End_life, Pass_tick}
 use Rattle.wdf_model.specs.rules.Faults.{View, fault_of}
-use Rattle.wdf_model.specs.rules.Calls.{Outcome, outcome, is_met, second_deeds}
+use Rattle.wdf_model.specs.rules.Calls.{Outcome, outcome, is_met, second_deeds, is_met_then}
 use Rattle.wdf_model.specs.rules.Starts.{callback_over, clean_ready, destroy_ready, end_deeds, may_pass, may_start, shown, stage_deeds, start_deeds}
 use Rattle.wdf_model.specs.rules.Posts.{may_post, post_deeds}
 
@@ -68,10 +68,10 @@ view_of plan S cpu f = record {
 abbrev pub cpu_of : ℕ → Cpu
 cpu_of cpu = record { 0 = cpu }
 
--- a call without a fault is answered, or waits where its condition isn't met after its first part
+-- a call without a fault is answered, or waits where its condition isn't met once its first part is done
 abbrev pub call_event : {A : Type 0} → Plan → State A → ℕ → Call → Outcome → Event
 call_event plan S cpu c o =
-    if is_met (do_deeds plan o.deeds S) c then event.Did (cpu_of cpu) c o.answer else event.Waiting (cpu_of cpu) c
+    if is_met_then plan S c then event.Did (cpu_of cpu) c o.answer else event.Waiting (cpu_of cpu) c
 
 -- the event of an intent without a fault
 abbrev pub intent_event : {A : Type 0} → Plan → Meaning A → State A → ℕ → ℕ → Frame → Intent → Event
