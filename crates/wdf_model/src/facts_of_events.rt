@@ -9,7 +9,7 @@ ghost use Rattle.wdf_model.specs.parts.Cpus.{top};
 ghost use Rattle.wdf_model.specs.State.{State};
 ghost use Rattle.wdf_model.specs.rules.Steps.{after};
 ghost use Rattle.wdf_base.specs.declared.event.Fault.{Fault};
-ghost use Rattle.wdf_model.specs.rules.Deeds.{Ask_deletion, do_deed};
+ghost use Rattle.wdf_model.specs.rules.Deeds.{Ask_deletion, Deed, counted, do_deed, do_deeds};
 ghost use Rattle.wdf_model.specs.rules.Ready.{ready, state_after};
 ghost use Rattle.wdf_model.specs.laws.FactsOfEvents.{IsTick, MovesOnlyFrame, touches_gone};
 
@@ -48,4 +48,10 @@ pub fn fault_ends_the_run<A>()
 pub fn deletion_is_asked_once<A>()
     ensures { (plan : Plan) (S : State A) (o : ℕ)
         → do_deed plan (Ask_deletion o) (do_deed plan (Ask_deletion o) S) ≡ do_deed plan (Ask_deletion o) S }
+{}
+
+/// To count an event, and let the agents hear of it, before its deeds or after them is the same.
+#[tactic(auto, using(crate::proofs::Counting::counted_first))]
+pub fn counting_commutes<A>()
+    ensures { (plan : Plan) (m : Meaning A) (ds : List Deed) (e : Event) (S : State A) → do_deeds plan ds (counted m e S) ≡ counted m e (do_deeds plan ds S) }
 {}
