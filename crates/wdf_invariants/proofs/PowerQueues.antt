@@ -101,11 +101,11 @@ deeds_queues : {A : Type 0} (plan : Plan) (ds : List Deed) (S : State A) → (do
 deeds_queues plan [] S = refl
 deeds_queues plan (d ∷ ds) S = deeds_queues plan ds (do_deed plan d S) ∙ deed_queues plan d S
 
-first_queues : {A : Type 0} (m : Meaning A) (plan : Plan) → (state_after m plan []).power.queues ≡ (opening_power plan).queues
+first_queues : {A : Type 0} (plan : Plan) (m : Meaning A) → (state_after plan m []).power.queues ≡ (opening_power plan).queues
 unfolding state_after
-first_queues m plan = refl
+first_queues plan m = refl
 
-pub queues_at_each : {A : Type 0} (m : Meaning A) (plan : Plan) (run : List Event) → IsRunOf m plan run → (n : ℕ) → (state_after m plan (take n run)).power.queues ≡ (opening_power plan).queues
-queues_at_each {A} m plan run is_run n = along_run (λ es. (state_after m plan es).power.queues ≡ (opening_power plan).queues) (ready m plan) run (first_queues m plan)
-    (λ before e place so_far held at. ap (λ (T : State A). T.power.queues) (state_goes_on m plan before e) ∙ deeds_queues plan (deeds plan (state_after m plan before) e) (state_after m plan before) ∙ held)
+pub queues_at_each : {A : Type 0} (plan : Plan) (m : Meaning A) (run : List Event) → IsRunOf plan m run → (n : ℕ) → (state_after plan m (take n run)).power.queues ≡ (opening_power plan).queues
+queues_at_each {A} plan m run is_run n = along_run (λ es. (state_after plan m es).power.queues ≡ (opening_power plan).queues) (ready plan m) run (first_queues plan m)
+    (λ before e place so_far held at. ap (λ (T : State A). T.power.queues) (state_goes_on plan m before e) ∙ deeds_queues plan (deeds plan (state_after plan m before) e) (state_after plan m before) ∙ held)
     is_run n

@@ -213,7 +213,7 @@ module _ {A : Type 0} (plan : Plan) (S : State A) (h : HoldsIn plan S) (same : S
 -- ---- the law
 
 pub unsettled_agrees_at_each : {A : Type 0} → AtEachPlace {A = A} unsettled_agrees
-unsettled_agrees_at_each m plan run is_run n =
-    let S = state_after m plan (take n run) in
+unsettled_agrees_at_each plan m run is_run n =
+    let S = state_after plan m (take n run) in
     each_passes (λ d. length (unsettled S.power d) == length (unsettled_of plan S d) && list_all (λ r. contains r (unsettled S.power d)) (unsettled_of plan S d))
-    (λ d. unsettled_match plan S (holds_at_each m plan run is_run n) (queues_at_each m plan run is_run n) d) (devices_of plan)
+    (λ d. unsettled_match plan S (holds_at_each plan m run is_run n) (queues_at_each plan m run is_run n) d) (devices_of plan)

@@ -95,20 +95,20 @@ allowed_is_there plan m S (event.Cleanup o) h = asked_is_there (life_of S.tree o
 allowed_is_there plan m S (event.Destroy o) h = cleaned_is_there (life_of S.tree o.id.0) (search (both_left, both_right))
 allowed_is_there plan m S _ h = refl
 
-pub nothing_gone_is_touched : {A : Type 0} (m : Meaning A) (plan : Plan) (run : List Event) (k : ℕ) (e : Event)
-    → slice_get (ready m plan run) k ≡ Some e → touches_gone (state_after m plan run).tree e ≡ false
-nothing_gone_is_touched m plan run k e h =
-    elim (follows m plan run k e h) [
-      | inl p ↦ allowed_is_there plan m (state_after m plan run) e p
+pub nothing_gone_is_touched : {A : Type 0} (plan : Plan) (m : Meaning A) (run : List Event) (k : ℕ) (e : Event)
+    → slice_get (ready plan m run) k ≡ Some e → touches_gone (state_after plan m run).tree e ≡ false
+nothing_gone_is_touched plan m run k e h =
+    elim (follows plan m run k e h) [
+      | inl p ↦ allowed_is_there plan m (state_after plan m run) e p
       | inr t ↦ rw t.tick refl
     ]
 
 -- ---- the clock
 
-pub tick_is_alone : {A : Type 0} (m : Meaning A) (plan : Plan) (run : List Event) (k time : ℕ) → slice_get (ready m plan run) k ≡ Some (event.Tick time)
-    → IsTick m (state_after m plan run) (ready m plan run) (event.Tick time)
-tick_is_alone m plan run k time h =
-    elim (follows m plan run k (event.Tick time) h) [
+pub tick_is_alone : {A : Type 0} (plan : Plan) (m : Meaning A) (run : List Event) (k time : ℕ) → slice_get (ready plan m run) k ≡ Some (event.Tick time)
+    → IsTick m (state_after plan m run) (ready plan m run) (event.Tick time)
+tick_is_alone plan m run k time h =
+    elim (follows plan m run k (event.Tick time) h) [
       | inl p ↦ absurd (let z : ⊥ = cc in z)
       | inr t ↦ t
     ]

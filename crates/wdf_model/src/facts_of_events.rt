@@ -26,21 +26,21 @@ pub fn steps_inside_a_frame<A>()
 /// No start, cleanup or end that may follow names an object that is gone.
 #[tactic(auto, using(crate::proofs::FactsOfEvents::nothing_gone_is_touched))]
 pub fn nothing_gone_is_touched<A>()
-    ensures { (m : Meaning A) (plan : Plan) (run : List Event) (k : ℕ) (e : Event) → slice_get (ready m plan run) k ≡ Some e
-        → touches_gone (state_after m plan run).tree e ≡ false }
+    ensures { (plan : Plan) (m : Meaning A) (run : List Event) (k : ℕ) (e : Event) → slice_get (ready plan m run) k ≡ Some e
+        → touches_gone (state_after plan m run).tree e ≡ false }
 {}
 
 /// Time passes only where nothing else may follow and something waits for it.
 pub fn time_passes_alone<A>()
-    ensures { (m : Meaning A) (plan : Plan) (run : List Event) (k time : ℕ) → slice_get (ready m plan run) k ≡ Some (event.Tick time)
-        → IsTick m (state_after m plan run) (ready m plan run) (event.Tick time) }
+    ensures { (plan : Plan) (m : Meaning A) (run : List Event) (k time : ℕ) → slice_get (ready plan m run) k ≡ Some (event.Tick time)
+        → IsTick m (state_after plan m run) (ready plan m run) (event.Tick time) }
 {}
 
 /// Nothing follows a fault.
 #[tactic(auto, using(crate::proofs::Follows::fault_ends))]
 pub fn fault_ends_the_run<A>()
-    ensures { (m : Meaning A) (plan : Plan) (run : List Event) (cpu : Cpu) (x : Fault) (line : ℕ)
-        → ready m plan (run ++ event.Fault cpu x line ∷ []) ≡ [] }
+    ensures { (plan : Plan) (m : Meaning A) (run : List Event) (cpu : Cpu) (x : Fault) (line : ℕ)
+        → ready plan m (run ++ event.Fault cpu x line ∷ []) ≡ [] }
 {}
 
 /// To ask the deletion of an object twice is to ask it once.

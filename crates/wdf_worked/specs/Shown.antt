@@ -24,7 +24,7 @@ kept_from (suc turns) test plan picks S x =
 
 -- whether a test holds in each state of the run of the plan's picks, so many events far
 unfoldable pub is_kept : (State Agent → Bool) → Plan → ℕ → Bool
-is_kept test plan turns = kept_from turns test plan plan.picks (opening agents plan) None
+is_kept test plan turns = kept_from turns test plan plan.picks (opening plan agents) None
 
 -- The events are the run that the plan's picks determine; it ends so; in each of its states the parts agree; and these are the
 -- lines of its wait list, which only a stuck run has.

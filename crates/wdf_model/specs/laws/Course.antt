@@ -46,11 +46,11 @@ run_from (suc turns) plan picks events S x =
 
 -- the run of the plan's picks, with at most so many events
 unfoldable pub run_by : Plan → ℕ → Course
-run_by plan turns = run_from turns plan plan.picks [] (opening agents plan) None
+run_by plan turns = run_from turns plan plan.picks [] (opening plan agents) None
 
 -- ---- worked runs
 
 -- these events are the run that the plan's picks determine, from its opening to where nothing may follow, and this is how it ends
 pub record IsWorked (plan : Plan) (events : List Event) (ending : Ending) : Type 0 where
-  pub run : IsPickedRun agents plan plan.picks events
-  pub ends : ending_of agents plan events ≡ ending
+  pub run : IsPickedRun plan agents plan.picks events
+  pub ends : ending_of plan agents events ≡ ending

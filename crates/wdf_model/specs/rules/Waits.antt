@@ -394,5 +394,5 @@ if_stuck ending.Stuck ls = ls
 if_stuck _ ls = []
 
 -- the wait list of a run
-unfoldable pub wait_list : {A : Type 0} → Meaning A → Plan → List Event → List WaitLine
-wait_list m plan run = if_stuck (ending_of m plan run) (wait_lines plan m (state_after m plan run))
+unfoldable pub wait_list : {A : Type 0} → Plan → Meaning A → List Event → List WaitLine
+wait_list plan m run = if_stuck (ending_of plan m run) (wait_lines plan m (state_after plan m run))
