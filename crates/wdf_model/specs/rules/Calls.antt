@@ -20,7 +20,7 @@ use Rattle.wdf_model.specs.declared.enums.Mode.TheVariants as mode
 use Rattle.wdf_model.specs.declared.entries.Request.{Request}
 use Rattle.wdf_model.specs.Tables.{flag}
 use Rattle.wdf_model.specs.Plans.{declares, device_of_queue, has_handler, interrupt_level, is_manual_queue, is_parallel_queue, kind_of_class, name_of_class, parent_of_class}
-use Rattle.wdf_model.specs.parts.Tree.{life_of, is_live, is_full, next_id, cell_of}
+use Rattle.wdf_model.specs.parts.Tree.{life_of, is_live, is_full, next_id, cell_of, kind_of}
 use Rattle.wdf_model.specs.parts.Cpus.{nobody_on}
 use Rattle.wdf_model.specs.parts.Locks.{object_lock, is_free_lock}
 use Rattle.wdf_model.specs.parts.Requests.{info_of, origin_of, is_cancelled, is_returning_to, mark_answer, unmark_answer}
@@ -166,13 +166,14 @@ work_outcome S o = if is_live (life_of S.tree o) then success (Enqueue_work o �
 
 -- ---- locks
 
--- the level of the lock that a call acquires or releases (KMDF)
-abbrev pub lock_level : Plan → CallKind → ℕ → ℕ
-lock_level plan call.WdfSpinLockAcquire o = 2
-lock_level plan call.WdfSpinLockRelease o = 2
-lock_level plan call.WdfInterruptAcquireLock o = interrupt_level plan o
-lock_level plan call.WdfInterruptReleaseLock o = interrupt_level plan o
-lock_level plan _ o = 0
+-- the level of an object's lock, by its kind (KMDF)
+abbrev pub level_of_kind : Plan → ℕ → Kind → ℕ
+level_of_kind plan o kind.SpinLock = 2
+level_of_kind plan o kind.Interrupt = interrupt_level plan o
+level_of_kind plan o _ = 0
+
+abbrev pub lock_level : {A : Type 0} → Plan → State A → ℕ → ℕ
+lock_level plan S o = level_of_kind plan o (kind_of S.tree o)
 
 -- a frame has the level of a lock while it holds it, and while it spins for it
 abbrev pub acquire_outcome : ℕ → ℕ → Outcome
@@ -210,17 +211,17 @@ outcome plan S cpu f c = elim c.kind as (λ _. Outcome) [
   -- own: a context cell takes a value
   | call.SetContext ↦ success (Write_cell (object_in c.a) (number_in c.b) (value_in c.c) ∷ [])
   -- KMDF: waits on its processor at DISPATCH_LEVEL until the lock is free
-  | call.WdfSpinLockAcquire ↦ acquire_outcome f (lock_level plan c.kind (object_in c.a))
+  | call.WdfSpinLockAcquire ↦ acquire_outcome f (lock_level plan S (object_in c.a))
   -- KMDF: the lock is free
-  | call.WdfSpinLockRelease ↦ release_outcome f (object_in c.a) (lock_level plan c.kind (object_in c.a))
+  | call.WdfSpinLockRelease ↦ release_outcome f (object_in c.a) (lock_level plan S (object_in c.a))
   -- KMDF: waits until the lock is free
-  | call.WdfWaitLockAcquire ↦ acquire_outcome f (lock_level plan c.kind (object_in c.a))
+  | call.WdfWaitLockAcquire ↦ acquire_outcome f (lock_level plan S (object_in c.a))
   -- KMDF: the lock is free
-  | call.WdfWaitLockRelease ↦ release_outcome f (object_in c.a) (lock_level plan c.kind (object_in c.a))
+  | call.WdfWaitLockRelease ↦ release_outcome f (object_in c.a) (lock_level plan S (object_in c.a))
   -- KMDF: waits on its processor at the interrupt's level; for a passive interrupt at level 0
-  | call.WdfInterruptAcquireLock ↦ acquire_outcome f (lock_level plan c.kind (object_in c.a))
+  | call.WdfInterruptAcquireLock ↦ acquire_outcome f (lock_level plan S (object_in c.a))
   -- KMDF: the lock is free
-  | call.WdfInterruptReleaseLock ↦ release_outcome f (object_in c.a) (lock_level plan c.kind (object_in c.a))
+  | call.WdfInterruptReleaseLock ↦ release_outcome f (object_in c.a) (lock_level plan S (object_in c.a))
   -- KMDF: the request is done; it and what is below it are deleted
   | call.WdfRequestComplete ↦ success (Complete_request (object_in c.a) ∷ [])
   -- KMDF: cancelable, or CANCELLED where it is cancelled; own: INVALID_DEVICE_REQUEST without an EvtRequestCancel
