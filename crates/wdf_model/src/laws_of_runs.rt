@@ -15,7 +15,7 @@ pub fn each_event_fits<A>()
     ensures { (plan : Plan) (m : Meaning A) (S : State A) (e : Event) → may plan m S e ≡ true → all_fit plan (deeds plan S e) S ≡ true }
 {}
 
-/// At each place of every run a request is Queued exactly where it stands in that queue's line, once, and
+/// At each place of every run a request is Queued exactly where it waits in that queue, once, and
 /// Sent exactly where that target has it, once.
 pub fn places_agree<A>()
     ensures { (plan : Plan) (m : Meaning A) (run : List Event) → IsRunOf plan m run → (n : ℕ) → PlacesAgree (state_after plan m (take n run)) }

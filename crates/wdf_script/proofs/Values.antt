@@ -39,10 +39,10 @@ same_node f of other e (Some (node.Literal s)) same = refl
 same_node f of other e (Some (node.Context word)) same = refl
 same_node f of other e (Some (node.Binary op left right)) same = both_same of other op e left right (nat_lt left e) (nat_lt right e) refl refl same
 
-enough : (n m : ℕ) (plan : Plan) (f : Frame) (e : ℕ) → e < n → e < m → value_to n plan f e ≡ value_to plan m f e
-enough zero plan m f e h k = absurd (omega arith)
+enough : (n m : ℕ) (plan : Plan) (f : Frame) (e : ℕ) → e < n → e < m → value_to n plan f e ≡ value_to m plan f e
+enough zero m plan f e h k = absurd (omega arith)
 enough (suc n) zero plan f e h k = absurd (omega arith)
-enough (suc n) (suc m) plan f e h k = same_node f (value_to n plan f) (value_to plan m f) e (slice_get plan.exprs e) (λ x less. enough n plan m f x (omega arith) (omega arith))
+enough (suc n) (suc m) plan f e h k = same_node f (value_to n plan f) (value_to m plan f) e (slice_get plan.exprs e) (λ x less. enough n m plan f x (omega arith) (omega arith))
 
 -- ---- one node
 

@@ -1,6 +1,6 @@
--- What the parts of a state keep of one another, as tests. A part counts or notes what others tell in
+-- What the parts of a state keep of one another, as tests. A part counts or notes what others say in
 -- full: how many requests are held from a queue, the levels of a frame's locks, which step's callback
--- runs. Each test says that it agrees with what it stands for; every state of a run passes them.
+-- runs. Each test says that it agrees with what it counts or notes; every state of a run passes them.
 use Rattle.std.specs.Prelude.{if◌then◌else◌, ℕ, max, Bool, true, false, ◌==◌, not, ◌&&◌, List, [], ◌∷◌, ◌++◌, length, map, filter, fold, count_by, Option, Some, None}
 use Rattle.std.specs.Bool.{beq}
 use Rattle.std.specs.List.{flat_map, list_all, list_any, range_with_len}
@@ -75,9 +75,9 @@ abbrev pub unsettled_agrees : {A : Type 0} → Plan → State A → Bool
 unsettled_agrees plan S =
     list_all (λ d. length (unsettled S.power d) == length (unsettled_of plan S d) && list_all (λ r. contains r (unsettled S.power d)) (unsettled_of plan S d)) (devices_of plan)
 
--- ---- lines, targets and steps
+-- ---- queues, targets and steps
 
--- a request is Queued exactly where it stands in the queue's line, once
+-- a request is Queued exactly where it waits in that queue, once
 abbrev pub lines_agree : {A : Type 0} → Plan → State A → Bool
 lines_agree plan S =
     list_all (λ q. list_all (λ r. count_by (λ x. x == r) (waiting_in S.queues q) == (if is_queued_in q (place_of S.requests r) then 1 else 0)) (ids_of S.tree.nodes)) (declared_ids plan)

@@ -1,4 +1,4 @@
--- What holds where a deed is done: for each deed the test that stands before it in every run, whatever
+-- What holds where a deed is done: for each deed the test that holds before it in every run, whatever
 -- the agents are. The laws over all runs rest on these alone.
 use Rattle.std.specs.Prelude.{ℕ, Bool, true, false, nat_lt, not, ◌&&◌, ◌||◌, List, [], ◌∷◌, is_some}
 use Rattle.wdf_base.specs.declared.plan.Plan.{Plan}
@@ -31,7 +31,7 @@ is_arrival_place _ = false
 abbrev pub is_given : {A : Type 0} → State A → ℕ → Bool
 is_given S r = is_owned (place_of S.requests r) && same_kind (kind_of S.tree r) kind.Request
 
--- a request that isn't in a line, and isn't completed or about to be
+-- a request that isn't in a queue, and isn't completed or about to be
 abbrev pub is_reached : Place → Bool
 is_reached (place.Returning q) = true
 is_reached place.Owned = true

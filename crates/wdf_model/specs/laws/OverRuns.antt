@@ -14,7 +14,7 @@ use Rattle.wdf_model.specs.parts.Queues.{waiting_in}
 use Rattle.wdf_model.specs.parts.Targets.{the_target}
 use Rattle.wdf_model.specs.State.{State, object_in}
 
--- A request is Queued exactly where it stands in that queue's line, once, and Sent exactly where that target has it, once.
+-- A request is Queued exactly where it waits in that queue, once, and Sent exactly where that target has it, once.
 pub record PlacesAgree {A : Type 0} (S : State A) : Type 0 where
   pub queued : (q r : ℕ) → count_by (λ x. x == r) (waiting_in S.queues q) ≡ flag (is_queued_in q (place_of S.requests r))
   pub sent : (t r : ℕ) → count_by (λ s. s.request.0 == r) (the_target S.targets t).sent ≡ flag (is_sent_to t (place_of S.requests r))

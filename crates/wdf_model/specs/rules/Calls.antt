@@ -50,10 +50,6 @@ abbrev pub number_in : Arg → ℕ
 number_in (Val (Num n)) = n
 number_in _ = 0
 
-abbrev pub status_in : Arg → Status
-status_in (Val (Stat s)) = s
-status_in _ = status.Success
-
 abbrev pub class_in : Arg → ℕ
 class_in (Class c) = c
 class_in (Val v) = 0

@@ -60,7 +60,7 @@ pub data Deed : Type 0 where
   Write_cell : (o k : ℕ) (v : Value) → Deed
   -- a cleanup or destroy callback of an object starts
   Note : (o : ℕ) (c : Callback) → Deed
-  -- the cleanup of an object is done; an object ends
+  -- the cleanup of an object is done; an object is destroyed
   Clean_up : (o : ℕ) → Deed
   End_life : (o : ℕ) → Deed
   -- a frame begins on a processor
@@ -198,7 +198,7 @@ enter_at_head S q r = record S {
 abbrev pub cancel_in : {A : Type 0} → Plan → State A → ℕ → ℕ → State A
 cancel_in plan S q r = record S { requests = requests.move_to (requests.cancel S.requests r) r (withdrawn_place plan S q r) }
 
--- a waiting request is: it leaves the line
+-- a waiting request is: it leaves the queue
 abbrev pub withdraw : {A : Type 0} → Plan → ℕ → State A → ℕ → State A
 withdraw plan q S r = cancel_in plan (record S { queues = queues.take_cancelled S.queues r }) q r
 

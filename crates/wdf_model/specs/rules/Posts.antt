@@ -95,7 +95,7 @@ in_reach S r = if is_done (place_of S.requests r) || is_closing (place_of S.requ
 abbrev pub cancel_reaches : {A : Type 0} → State A → ℕ → ℕ → Option ℕ
 cancel_reaches S agent k = option_and_then (in_reach S) (arrival_of S.requests agent k)
 
--- KMDF: a waiting request is cancelled in its queue; of another only the mark tells
+-- KMDF: a waiting request is cancelled in its queue; of another only the mark changes
 abbrev pub cancel_at : Place → ℕ → List Deed
 cancel_at (place.Queued q) r = Withdraw q.0 r ∷ []
 cancel_at _ r = Cancel_request r ∷ []
@@ -150,7 +150,7 @@ post_fits plan S agent (post.Control device code length) = may_arrive plan S dev
 post_fits plan S agent (post.Cancel k) = true
 -- own: the Plug and Play manager asks while the device has no step left and no running device callback
 post_fits plan S agent (post.Ask a device) = agent == 0 && is_handle plan kind.Device device && not (busy S.pnp device.id.0)
--- own: a device acts on its own registers and lines
+-- own: a device acts on its own registers and level lines
 post_fits plan S agent (post.Act action) = action_fits plan (device_of_agent plan agent) action
 -- own: a target is done with what is sent to it
 post_fits plan S agent (post.Done request s) = may_finish plan S (target_of_agent plan agent) request

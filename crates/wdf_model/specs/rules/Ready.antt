@@ -70,7 +70,7 @@ state_after plan m run = fold (after plan m) (opening plan m) run
 unfoldable pub ready : {A : Type 0} → Plan → Meaning A → List Event → List Event
 ready plan m run = unless_fault (last_fault run) (ready_in plan m (state_after plan m run))
 
--- a run of a plan: each event stands in what may follow the events before it
+-- a run of a plan: each event is in what may follow the events before it
 abbrev pub IsRunOf : {A : Type 0} → Plan → Meaning A → List Event → Type 0
 IsRunOf plan m run = IsRun (ready plan m) run
 

@@ -1,4 +1,4 @@
--- Scripts: what the statement does at which a frame stands, with its expressions evaluated.
+-- Scripts: what the next statement of a frame does, with its expressions evaluated.
 -- The statements, the expressions and their limits are this project's own.
 use Rattle.std.specs.Prelude.{if◌then◌else◌, ℕ, ◌+◌, ◌-◌, ◌*◌, ◌/◌, ◌%◌, ◌^◌, Bool, true, false, ◌==◌, nat_lt, nat_le, not, List, [], ◌∷◌, ◌++◌, take, Option, Some, None, unwrap_or, option_map, slice_get, slice_index_or, bit_and, bit_or, bit_xor, zero, suc, ◌&&◌}
 use Rattle.wdf_base.specs.declared.plan.Plan.{Plan}
@@ -170,7 +170,7 @@ call_of plan f k a b c = record {
 abbrev pub runs_left : Frame → ℕ → ℕ
 runs_left f depth = slice_index_or f.counters depth 0
 
--- what an act of a frame does, where the statement behind it is `next`
+-- what an act of a frame does, where the statement after it is `next`
 abbrev pub act_intent : Plan → Frame → ℕ → Act → Intent
 act_intent plan f next (act.Let variable e) = let_intent variable next (value_of plan f e)
 act_intent plan f next (act.Call k into a b c) = intent.Do (call_of plan f k a b c)
@@ -188,15 +188,15 @@ abbrev pub intent_at : Plan → Frame → Option Statement → Intent
 intent_at plan f None = intent.Return (Stat status.Success)
 intent_at plan f (Some s) = act_intent plan f s.next s.act
 
--- the statement at which a frame stands, none at the callback's end
+-- the next statement of a frame, none at the callback's end
 abbrev pub statement_at : Plan → Frame → Option Statement
 statement_at plan f = slice_get (statements_of plan f.script) f.at
 
--- what the statement does at which a frame stands
+-- what the next statement of a frame does
 abbrev pub intent_of : Plan → Frame → Intent
 intent_of plan f = intent_at plan f (statement_at plan f)
 
--- the line of that statement; behind the last one the line of the callback's `on`
+-- the line of that statement; after the last one the line of the callback's `on`
 abbrev pub line_of_statement : ℕ → Option Statement → ℕ
 line_of_statement end None = end
 line_of_statement end (Some s) = s.line

@@ -1,4 +1,4 @@
--- Starts of callbacks, steps of sequences, cleanups and ends: when each may come, and what it does.
+-- Starts of callbacks, steps of sequences, cleanups and destructions: when each may come, and what it does.
 -- (KMDF, but for what is marked own)
 use Rattle.std.specs.Prelude.{if◌then◌else◌, ℕ, ◌+◌, Bool, true, false, ◌==◌, nat_lt, not, ◌&&◌, ◌||◌, List, [], ◌∷◌, ◌++◌, length, map, filter, replicate, Option, Some, None, is_some, unwrap_or, slice_get, option_map}
 use Rattle.std.specs.List.{list_any, list_all, flat_map}
@@ -47,11 +47,11 @@ abbrev pub value_of_agent : {A : Type 0} → Meaning A → Option A → ℕ → 
 value_of_agent m None what = 0
 value_of_agent m (Some a) what = m.value a what
 
--- a register, or an interrupt's line, as the agent of its device shows it
+-- a register, or an interrupt's level line, as the agent of its device shows it
 abbrev pub shown : {A : Type 0} → Plan → Meaning A → State A → ℕ → ℕ → ℕ
 shown plan m S device what = value_of_agent m (slice_get S.agents (agent_of_device plan device)) what
 
--- the number by which an agent shows an interrupt's line
+-- the number by which an agent shows an interrupt's level line
 abbrev pub line_number : ℕ → ℕ
 line_number i = 64 + i
 
@@ -86,7 +86,7 @@ callback_over plan S c o = not (declares_in plan S c o) || started S.tree o c
 
 -- ---- steps of sequences
 
--- the wait of the step behind `queues_up`: no resume is due, and no EvtIoResume runs
+-- the wait of the step after `queues_up`: no resume is due, and no EvtIoResume runs
 abbrev pub resumes_over : {A : Type 0} → State A → ℕ → Bool
 resumes_over S d = not (any_resume_due S.power d) && not (is_running S.cpus callback.EvtIoResume d)
 
@@ -193,7 +193,7 @@ rank_ready_for plan S _ c o r = false
 
 -- when the other callbacks of a rank start
 abbrev pub rank_ready : {A : Type 0} → Plan → Meaning A → State A → Rank → ℕ → Callback → ℕ → Bool
--- KMDF: the interrupt's line is 1, and it is enabled
+-- KMDF: the interrupt's level line is 1, and it is enabled
 rank_ready plan m S rank.Isr cpu c o = isr_due S.interrupts o (line_is_up plan m S o)
 -- KMDF: it is the first in this processor's list
 rank_ready plan m S rank.Deferred cpu c o = same_id (dpc_head S.dpcs cpu) o
@@ -312,7 +312,7 @@ start_deeds plan S cpu c o r =
 
 -- ---- ends
 
--- a step of a sequence tells its result
+-- a step of a sequence gives its result
 abbrev pub end_of_step : {A : Type 0} → Plan → State A → Rank → Callback → ℕ → Value → List Deed
 end_of_step plan S rank.Sequence c o v = End_step (nearest_device S.tree o) (step_of plan S c o) v ∷ []
 end_of_step plan S _ c o v = []

@@ -170,7 +170,7 @@ may plan m S (event.Unpark cpu f) = is_cpu plan cpu && may_unpark S cpu.0 f.0
 may plan m S (event.Stage d s i) = is_proper plan S d && may_pass plan S d.id.0 s i
 -- the framework completes what is Closing, with its status
 may plan m S (event.Complete r s) = is_proper plan S r && is_closing_with (place_of S.requests r.id.0) s
--- a cleanup and an end come by the rules of the tree, behind their callbacks
+-- a cleanup and a destruction come by the rules of the tree, after their callbacks
 may plan m S (event.Cleanup o) = is_proper plan S o && clean_ready S o.id.0 && callback_over plan S callback.EvtCleanupCallback o.id.0
 may plan m S (event.Destroy o) = is_proper plan S o && destroy_ready S o.id.0 && callback_over plan S callback.EvtDestroyCallback o.id.0
 may plan m S (event.Posted agent p answer) = may_post plan m S agent p answer
@@ -250,7 +250,7 @@ deeds plan S (event.Start cpu c o r) = start_deeds plan S cpu.0 c o r
 deeds plan S (event.Local cpu line) = by_top S cpu.0 (λ f frame. Go_on f (stepped frame (intent_of plan frame)) ∷ [])
 deeds plan S (event.Log cpu v) = by_top S cpu.0 (λ f frame. Go_on f (goes_on plan frame) ∷ [])
 deeds plan S (event.Spend cpu n) = by_top S cpu.0 (λ f frame. Go_on f (spending plan S frame n) ∷ [])
--- the register and the device's lines are its agent's
+-- the register and the device's level lines are its agent's
 deeds plan S (event.Register cpu a k v) = by_top S cpu.0 (λ f frame. Go_on f (answered plan frame (Num v)) ∷ [])
 -- the effect of the call's first part, and of the second where nothing is to be waited for
 deeds plan S (event.Did cpu c v) = by_top S cpu.0 (did_deeds plan S cpu.0 c v)
@@ -276,6 +276,6 @@ deeds plan S (event.Posted agent p answer) = post_deeds plan S agent p
 -- own: the clock is one more
 deeds plan S (event.Tick time) = Pass_tick ∷ []
 
--- the state after an event: its deeds are done, each agent is told of it, and it is counted
+-- the state after an event: its deeds are done, the agents hear of it, and it is counted
 abbrev pub after : {A : Type 0} → Plan → Meaning A → State A → Event → State A
 after plan m S e = counted m e (do_deeds plan (deeds plan S e) S)
