@@ -1,6 +1,12 @@
 //! More laws over all runs of the machine: what its parts keep of one another.
 #![tactic(auto)]
 
+ghost use Rattle.std.specs.Prelude.{ℕ, List, take};
+ghost use Rattle.wdf_base.specs.Meaning.{Meaning};
+ghost use Rattle.wdf_base.specs.declared.plan.Plan.{Plan};
+ghost use Rattle.wdf_base.specs.declared.event.Event.{Event};
+ghost use Rattle.wdf_model.specs.rules.Ready.{IsRunOf, state_after};
+ghost use Rattle.wdf_model.specs.laws.OverRuns.{DeclaredAgree};
 ghost use Rattle.wdf_model.specs.laws.Agreement.{held_agrees, holdings_agree, steps_agree, unsettled_agrees};
 ghost use Rattle.wdf_invariants.specs.AtPlaces.{AtEachPlace};
 
@@ -25,4 +31,9 @@ pub fn unsettled_agrees<A>()
 /// device is there, and there is at most one.
 pub fn steps_agree<A>()
     ensures { AtEachPlace {A = A} steps_agree }
+{}
+
+/// At each place of every run, an object of a kind that only the scenario declares is a declared one, of that kind.
+pub fn declared_agree<A>()
+    ensures { (plan : Plan) (m : Meaning A) (run : List Event) → IsRunOf plan m run → (n : ℕ) → DeclaredAgree plan (state_after plan m (take n run)) }
 {}

@@ -34,7 +34,7 @@ use Rattle.wdf_model.specs.parts.Targets as targets
 use Rattle.wdf_model.specs.parts.Power.{Power}
 use Rattle.wdf_model.specs.State.{State, held_at, is_with_driver, withdrawn_place}
 use Rattle.wdf_model.specs.rules.Deeds.{Deed, Create, Make_request, Arrive, Ask_deletion, Refer, Unrefer, Write_cell, Note, Clean_up, End_life, Present, Receive, Requeue, Forward, Give_back, Withdraw, Mark_request, Unmark_request, Cancel_request, Take_cancel, Send_request, Finish_sending, Come_back, Complete_request, Purge_queue, Close_device, Close_returning, Stop_target, Start_target, arrive_at, ask_object, ask_objects, close_queue, close_returning, do_deed, do_deeds, give_up, give_up_if, queued, release_line, withdraw}
-use Rattle.wdf_model.specs.rules.Faults.{is_request_kind}
+use Rattle.wdf_model.specs.rules.Faults.{is_request_kind, is_never_deleted}
 use Rattle.wdf_model.specs.rules.Calls.{may_send}
 use Rattle.wdf_model.specs.laws.Fits.{all_fit, fits, is_arrival_place, is_given, is_reached}
 use Rattle.wdf_model.proofs.Tests.{both_left, both_right, not_true, either_false}
@@ -501,7 +501,7 @@ is_arrival _ = false
 pub deed_keeps : {A : Type 0} {F B : ℕ → Bool} (plan : Plan) (d : Deed) (S : State A) → fits plan d S ≡ true → (is_arrival d ≡ true → B (next_id S.tree) ≡ true) → KeptIn F B S
     → KeptIn F B (do_deed plan d S)
 deed_keeps plan (Create what class parent) S f b k =
-    object_made what class parent k (not_true (is_request_kind what) (both_right (is_live (life_of S.tree parent) && not (is_full S.tree)) (not (is_request_kind what)) f))
+    object_made what class parent k (not_true (is_request_kind what) (both_right (is_live (life_of S.tree parent) && not (is_full S.tree)) (not (is_request_kind what)) (both_left (is_live (life_of S.tree parent) && not (is_full S.tree) && not (is_request_kind what)) (not (is_never_deleted what)) f)))
 deed_keeps plan (Make_request class parent) S f b k =
     new_request kind.Made class parent place.Owned (made_info (nearest_device S.tree parent)) k (λ t. refl) (λ e. absurd (let z : ⊥ = cc in z)) (λ _. refl) (λ e. absurd (let z : ⊥ = cc in z))
     (λ o x n. refl) (λ o. nowhere_yet k o)

@@ -17,7 +17,7 @@ use Rattle.wdf_model.specs.parts.Pnp.{busy, is_running_step, next_step}
 use Rattle.wdf_model.specs.parts.Targets.{is_undone, routine_due}
 use Rattle.wdf_model.specs.State.{State, is_with_driver}
 use Rattle.wdf_model.specs.rules.Deeds.{Deed, do_deed, Create, Make_request, Arrive, Unrefer, Note, Clean_up, End_life, Take_lock, Present, Receive, Requeue, Forward, Give_back, Withdraw, Mark_request, Unmark_request, Cancel_request, Take_cancel, Send_request, Finish_sending, Come_back, Complete_request, Acknowledge, Ask_stop, Resume, Ask_device, Take_step}
-use Rattle.wdf_model.specs.rules.Faults.{is_request_kind}
+use Rattle.wdf_model.specs.rules.Faults.{is_never_deleted, is_request_kind}
 use Rattle.wdf_model.specs.rules.Calls.{may_send}
 use Rattle.wdf_model.specs.rules.Starts.{clean_ready, destroy_ready}
 
@@ -39,8 +39,8 @@ is_reached (place.Sent t) = true
 is_reached _ = false
 
 abbrev pub fits : {A : Type 0} → Plan → Deed → State A → Bool
--- an object is made under a live parent while there is room, and is no request
-fits plan (Create k class parent) S = is_live (life_of S.tree parent) && not (is_full S.tree) && not (is_request_kind k)
+-- an object is made under a live parent while there is room, and is no request and nothing that is declared
+fits plan (Create k class parent) S = is_live (life_of S.tree parent) && not (is_full S.tree) && not (is_request_kind k) && not (is_never_deleted k)
 fits plan (Make_request class parent) S = is_live (life_of S.tree parent) && not (is_full S.tree)
 -- a request arrives at a live device, with a number of its own, and waits or is closing
 fits plan (Arrive device info p) S = is_live (life_of S.tree device) && nat_lt 0 info.arrival && is_arrival_place p
