@@ -1,0 +1,8 @@
+mod Items
+mod Paths
+mod Changes
+mod Zeros
+mod Joins
+mod Sound
+mod Read
+mod Acts
