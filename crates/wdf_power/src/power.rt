@@ -313,9 +313,8 @@ impl Power {
         if is_held(&holding) && queue.device.0 == d.0 {
             Holding {
                 queue: holding.queue,
-                acknowledged: false,
-                stop_asked: false,
                 resume_due: queue.resumes,
+                ..NO_HOLDING
             }
         } else {
             holding
