@@ -1,4 +1,5 @@
-mod Items
+pub mod Items
+pub mod Lists
 mod Paths
 mod Changes
 mod Zeros

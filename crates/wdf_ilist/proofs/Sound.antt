@@ -1,6 +1,6 @@
 -- The tables go on to be linked as the lists say.
 use Rattle.std.proofs.Common.{ℕ, zero, suc, ◌≡◌, ◌≢◌, ◌⊎◌, ◌+◌, ◌-◌, ◌*◌, ◌<◌, ◌≤◌, ◌==◌, Bool, true, false, ◌||◌, List, [], ◌∷◌, ◌++◌, length, map, slice_index, slice_set, length-set, add-one, get_or-set_same, get_or-set_other, refl, sym, subst, ap, ◌∙◌, inl, inr, arith}
-use Rattle.std.proofs.lemmas.Bool.{ne_eqb, eqb-true, cases_eq, cases_lt, or_parts}
+use Rattle.std.proofs.lemmas.Bool.{ne_eqb, eqb-true, cases_eq, cases_lt}
 use Rattle.std.proofs.lemmas.List.{ext_get_or, get_or_past, length_push, length-map}
 use Rattle.std.proofs.lemmas.List.FromFn.{length-map-range_with_len, get_or-map-range_with_len}
 use Rattle.wdf_ilist.specs.Family.{is_on, is_on_any, without, list_at, are_distinct, AreApart}
@@ -10,6 +10,7 @@ use Rattle.wdf_ilist.specs.Links.{HasRoom, AreSound, lists_by}
 use Rattle.wdf_ilist.specs.declared.members.Members.{Members}
 use Rattle.wdf_ilist.specs.declared.rings.Rings.{Rings}
 use Rattle.wdf_ilist.proofs.Items.{length_below, on_pushed, distinct_pushed, distinct_in_front}
+use Rattle.wdf_ilist.proofs.Lists.{off_each, map_at}
 use Rattle.wdf_ilist.proofs.Paths.{end_no_place, walk_path, first_link, first_other, last_other, last_link, around, Inserts, stays_at_back, grows_at_back, stays_at_front, grows_at_front}
 use Rattle.wdf_ilist.proofs.Changes.{on_its_list, off_each_list, Leaves, linked_without, Enters, Gains, linked_with}
 use Rattle.wdf_ilist.proofs.Joins.{room_joined, cuts_joined, inserted, room_inserted, inserts_inserted}
@@ -35,17 +36,6 @@ sound_as_read r m ls s = subst (λ z. AreSound r m z) (sym (read_lists r m ls s)
 
 -- ---- what callers may know
 
-pub apart_lem : (r : Rings) (m : Members) (ls : List (List ℕ)) → AreSound r m ls → AreApart ls
-apart_lem r m ls s = record {
-  apart = λ x p q on_p on_q.
-      let mine : (slice_index m.owners x == suc p) ≡ true = sym (s.linked.owned p x) ∙ on_p in
-      let its : (slice_index m.owners x == suc q) ≡ true = sym (s.linked.owned q x) ∙ on_q in
-      let a : slice_index m.owners x ≡ suc p = eqb-true (slice_index m.owners x) (suc p) mine in
-      let b : slice_index m.owners x ≡ suc q = eqb-true (slice_index m.owners x) (suc q) its in
-      omega arith;
-  once = s.linked.once;
-}
-
 -- an item with an owner is one of the items, and its list one of the lists
 pub owned_within : (r : Rings) (m : Members) (ls : List (List ℕ)) → AreSound r m ls → (x q : ℕ) → slice_index m.owners x ≡ suc q → (x < length m.owners) × (q < length m.counts)
 owned_within r m ls s x q own = (within (cases_lt x (length m.owners)), known (cases_lt q (length m.counts)))
@@ -64,6 +54,16 @@ owned_within r m ls s x q own = (within (cases_lt x (length m.owners)), known (c
         let no : is_on x [] ≡ true = subst (λ z. is_on x z ≡ true) empty on in
         absurd (let z : ⊥ = cc in z)
 
+pub apart_lem : (r : Rings) (m : Members) (ls : List (List ℕ)) → AreSound r m ls → AreApart (record { lists = ls; items = length m.owners })
+apart_lem r m ls s = record {
+  apart = λ x p q on_p on_q.
+      let a : slice_index m.owners x ≡ suc p = eqb-true (slice_index m.owners x) (suc p) (sym (s.linked.owned p x) ∙ on_p) in
+      let b : slice_index m.owners x ≡ suc q = eqb-true (slice_index m.owners x) (suc q) (sym (s.linked.owned q x) ∙ on_q) in
+      omega arith;
+  once = s.linked.once;
+  within = λ x q on. (owned_within r m ls s x q (eqb-true (slice_index m.owners x) (suc q) (sym (s.linked.owned q x) ∙ on))).0;
+}
+
 -- a list that has an item is one of the lists
 pub count_within : (r : Rings) (m : Members) (ls : List (List ℕ)) → AreSound r m ls → (q : ℕ) → slice_index m.counts q ≢ 0 → q < length m.counts
 count_within r m ls s q some = known (cases_lt q (length m.counts))
@@ -71,11 +71,6 @@ count_within r m ls s q some = known (cases_lt q (length m.counts))
     known : (q < length m.counts) ⊎ (length m.counts ≤ q) → q < length m.counts
     known (inl h) = h
     known (inr h) = absurd (some (get_or_past m.counts q 0 h))
-
-off_lists : (x : ℕ) (ls : List (List ℕ)) (q : ℕ) → is_on_any x ls ≡ false → is_on x (list_at ls q) ≡ false
-off_lists x [] q off = refl
-off_lists x (ys ∷ ls) zero off = (or_parts (is_on x ys) (is_on_any x ls) off).0
-off_lists x (ys ∷ ls) (suc q) off = off_lists x ls q (or_parts (is_on x ys) (is_on_any x ls) off).1
 
 -- an item that is on no list has no owner
 pub no_owner : (r : Rings) (m : Members) (ls : List (List ℕ)) → AreSound r m ls → (x : ℕ) → is_on_any x ls ≡ false → slice_index m.owners x ≡ 0
@@ -85,14 +80,14 @@ no_owner r m ls s x off = by_owner (slice_index m.owners x) refl
     by_owner zero e = e
     by_owner (suc q) e =
         let on : is_on x (list_at ls q) ≡ true = on_its_list (next_of r) (previous_of r) (slice_index m.owners) (slice_index m.counts) (length m.owners) (list_at ls) s.linked x q e in
-        let not_there : is_on x (list_at ls q) ≡ false = off_lists x ls q off in
+        let not_there : is_on x (list_at ls q) ≡ false = off_each x ls q off in
         absurd (let z : ⊥ = cc in z)
 
 -- a list with an item more still has a count below the number of items
 pub count_room : (r : Rings) (m : Members) (ls : List (List ℕ)) → AreSound r m ls → (x q : ℕ) → x < length m.owners → is_on_any x ls ≡ false → slice_index m.counts q + 1 ≤ length m.owners
 count_room r m ls s x q there off =
     let xs = list_at ls q in
-    let not_there : is_on x xs ≡ false = off_lists x ls q off in
+    let not_there : is_on x xs ≡ false = off_each x ls q off in
     let once : are_distinct (x ∷ xs) ≡ true = distinct_in_front x xs not_there (s.linked.once q) in
     let few : length (x ∷ xs) ≤ length m.owners = length_below (length m.owners) (x ∷ xs) once (λ y on. below y (cases_eq y x) on) in
     let count : slice_index m.counts q ≡ length xs = s.linked.counted q in
@@ -112,11 +107,6 @@ count_room r m ls s x q there off =
         by_owner y (slice_index m.owners y) refl (rw it at on)
 
 -- ---- an item goes
-
-pub map_at : (f : List ℕ → List ℕ) (ls : List (List ℕ)) (q : ℕ) → f [] ≡ [] → list_at (map f ls) q ≡ f (list_at ls q)
-map_at f [] q e = sym e
-map_at f (xs ∷ ls) zero e = refl
-map_at f (xs ∷ ls) (suc q) e = map_at f ls q e
 
 leaves_left : (m : Members) (x q : ℕ) → slice_index m.owners x ≡ suc q → x < length m.owners → q < length m.counts → 0 < slice_index m.counts q
     → Leaves (slice_index m.owners) (slice_index m.counts) (slice_index (left m q x).owners) (slice_index (left m q x).counts) x q
@@ -242,10 +232,10 @@ sound_pushed r m ls x q s known there off =
     let here : place_of x < length r.next = omega arith in
     let from : previous_of r (end_of q) < length r.next = s.room.previous_near (end_of q) to in
     let link : next_of r (previous_of r (end_of q)) ≡ end_of q = last_link (next_of r) (previous_of r) (end_of q) (list_at ls q) (end_of q) (s.linked.ring q) in
-    let new = last_other (next_of r) (previous_of r) (end_of q) x (list_at ls q) (end_of q) (s.linked.ring q) (end_no_place q x) (off_lists x ls q off) in
+    let new = last_other (next_of r) (previous_of r) (end_of q) x (list_at ls q) (end_of q) (s.linked.ring q) (end_no_place q x) (off_each x ls q off) in
     let i = inserts_inserted r (length m.counts) (length m.owners) (previous_of r (end_of q)) x (end_of q) s.room from here to link refl new (end_no_place q x) in
     sound_with r m ls (slice_set ls q (list_at ls q ++ x ∷ [])) (previous_of r (end_of q)) x (end_of q) q s there (omega arith) off (length-set ls q (list_at ls q ++ x ∷ []))
-    (gains_pushed ls x q known (off_lists x ls q off) (s.linked.once q)) (room_inserted r (length m.counts) (length m.owners) (previous_of r (end_of q)) x (end_of q) s.room from here to)
+    (gains_pushed ls x q known (off_each x ls q off) (s.linked.once q)) (room_inserted r (length m.counts) (length m.owners) (previous_of r (end_of q)) x (end_of q) s.room from here to)
     (λ p. ring i p (cases_eq p q))
   where
     after : Rings
@@ -255,13 +245,13 @@ sound_pushed r m ls x q s known there off =
         → IsPath (next_of after) (previous_of after) (end_of p) (list_at (slice_set ls q (list_at ls q ++ x ∷ [])) p) (end_of p)
     ring i p (inl same) =
         let it : list_at (slice_set ls q (list_at ls q ++ x ∷ [])) q ≡ list_at ls q ++ x ∷ [] = get_or-set_same ls q (list_at ls q ++ x ∷ []) [] known in
-        let grown = grows_at_back (next_of r) (previous_of r) (next_of after) (previous_of after) (previous_of r (end_of q)) x q i (end_of q) (list_at ls q) (s.linked.ring q) (end_no_place q x) (off_lists x ls q off) in
+        let grown = grows_at_back (next_of r) (previous_of r) (next_of after) (previous_of after) (previous_of r (end_of q)) x q i (end_of q) (list_at ls q) (s.linked.ring q) (end_no_place q x) (off_each x ls q off) in
         subst (λ z. IsPath (next_of after) (previous_of after) (end_of z) (list_at (slice_set ls q (list_at ls q ++ x ∷ [])) z) (end_of z)) (sym same)
         (subst (λ z. IsPath (next_of after) (previous_of after) (end_of q) z (end_of q)) (sym it) grown)
     ring i p (inr other) =
         let it : list_at (slice_set ls q (list_at ls q ++ x ∷ [])) p ≡ list_at ls p = get_or-set_other ls q p (list_at ls q ++ x ∷ []) [] other in
         let apart : end_of p ≢ end_of q = λ e. other (omega arith) in
-        let kept = stays_at_back (next_of r) (previous_of r) (next_of after) (previous_of after) (previous_of r (end_of q)) x q i (end_of p) (list_at ls p) (end_of p) (s.linked.ring p) apart (end_no_place p x) (end_no_place p x) (off_lists x ls p off) in
+        let kept = stays_at_back (next_of r) (previous_of r) (next_of after) (previous_of after) (previous_of r (end_of q)) x q i (end_of p) (list_at ls p) (end_of p) (s.linked.ring p) apart (end_no_place p x) (end_no_place p x) (off_each x ls p off) in
         subst (λ z. IsPath (next_of after) (previous_of after) (end_of p) z (end_of p)) (sym it) kept
 
 pub sound_in_front : (r : Rings) (m : Members) (ls : List (List ℕ)) (x q : ℕ) → AreSound r m ls → q < length ls → x < length m.owners → is_on_any x ls ≡ false
@@ -274,10 +264,10 @@ sound_in_front r m ls x q s known there off =
     let here : place_of x < length r.next = omega arith in
     let to : next_of r (end_of q) < length r.next = s.room.next_near (end_of q) from in
     let link : previous_of r (next_of r (end_of q)) ≡ end_of q = first_link (next_of r) (previous_of r) (end_of q) (list_at ls q) (end_of q) (s.linked.ring q) in
-    let new = first_other (next_of r) (previous_of r) (end_of q) x (list_at ls q) (end_of q) (s.linked.ring q) (end_no_place q x) (off_lists x ls q off) in
+    let new = first_other (next_of r) (previous_of r) (end_of q) x (list_at ls q) (end_of q) (s.linked.ring q) (end_no_place q x) (off_each x ls q off) in
     let i = inserts_inserted r (length m.counts) (length m.owners) (end_of q) x (next_of r (end_of q)) s.room from here to refl link (end_no_place q x) new in
     sound_with r m ls (slice_set ls q (x ∷ list_at ls q)) (end_of q) x (next_of r (end_of q)) q s there (omega arith) off (length-set ls q (x ∷ list_at ls q))
-    (gains_in_front ls x q known (off_lists x ls q off) (s.linked.once q)) (room_inserted r (length m.counts) (length m.owners) (end_of q) x (next_of r (end_of q)) s.room from here to)
+    (gains_in_front ls x q known (off_each x ls q off) (s.linked.once q)) (room_inserted r (length m.counts) (length m.owners) (end_of q) x (next_of r (end_of q)) s.room from here to)
     (λ p. ring i p (cases_eq p q))
   where
     after : Rings
@@ -287,11 +277,11 @@ sound_in_front r m ls x q s known there off =
         → IsPath (next_of after) (previous_of after) (end_of p) (list_at (slice_set ls q (x ∷ list_at ls q)) p) (end_of p)
     ring i p (inl same) =
         let it : list_at (slice_set ls q (x ∷ list_at ls q)) q ≡ x ∷ list_at ls q = get_or-set_same ls q (x ∷ list_at ls q) [] known in
-        let grown = grows_at_front (next_of r) (previous_of r) (next_of after) (previous_of after) q x (next_of r (end_of q)) i (list_at ls q) (s.linked.ring q) (off_lists x ls q off) in
+        let grown = grows_at_front (next_of r) (previous_of r) (next_of after) (previous_of after) q x (next_of r (end_of q)) i (list_at ls q) (s.linked.ring q) (off_each x ls q off) in
         subst (λ z. IsPath (next_of after) (previous_of after) (end_of z) (list_at (slice_set ls q (x ∷ list_at ls q)) z) (end_of z)) (sym same)
         (subst (λ z. IsPath (next_of after) (previous_of after) (end_of q) z (end_of q)) (sym it) grown)
     ring i p (inr other) =
         let it : list_at (slice_set ls q (x ∷ list_at ls q)) p ≡ list_at ls p = get_or-set_other ls q p (x ∷ list_at ls q) [] other in
         let apart : end_of p ≢ end_of q = λ e. other (omega arith) in
-        let kept = stays_at_front (next_of r) (previous_of r) (next_of after) (previous_of after) q x (next_of r (end_of q)) i (end_of p) (list_at ls p) (end_of p) (s.linked.ring p) apart (end_no_place p x) (end_no_place p x) (off_lists x ls p off) in
+        let kept = stays_at_front (next_of r) (previous_of r) (next_of after) (previous_of after) q x (next_of r (end_of q)) i (end_of p) (list_at ls p) (end_of p) (s.linked.ring p) apart (end_no_place p x) (end_no_place p x) (off_each x ls p off) in
         subst (λ z. IsPath (next_of after) (previous_of after) (end_of p) z (end_of p)) (sym it) kept

@@ -1,5 +1,5 @@
 -- A family of lists of items, as contracts see it. Lists and items have numbers from 0.
-use Rattle.std.specs.Prelude.{if◌then◌else◌, ℕ, ◌≡◌, Bool, true, ◌==◌, not, ◌&&◌, List, [], ◌∷◌, filter, Option, Some, None, option_and_then, position, slice_index_or}
+use Rattle.std.specs.Prelude.{if◌then◌else◌, ℕ, ◌≡◌, ◌<◌, Bool, true, ◌==◌, not, ◌&&◌, List, [], ◌∷◌, filter, Option, Some, None, option_and_then, position, slice_index_or}
 use Rattle.std.specs.List.{list_any}
 
 -- the lists by number, and how many items there are
@@ -52,7 +52,8 @@ abbrev pub are_distinct : List ℕ → Bool
 are_distinct [] = true
 are_distinct (x ∷ xs) = not (is_on x xs) && are_distinct xs
 
--- No item is on two lists, and none twice on one.
-pub record AreApart (lists : List (List ℕ)) : Type 0 where
-  pub apart : (item p q : ℕ) → is_on item (list_at lists p) ≡ true → is_on item (list_at lists q) ≡ true → p ≡ q
-  pub once : (q : ℕ) → are_distinct (list_at lists q) ≡ true
+-- No item is on two lists, and none twice on one. Whatever is on a list is one of the items.
+pub record AreApart (family : Family) : Type 0 where
+  pub apart : (item p q : ℕ) → is_on item (list_at family.lists p) ≡ true → is_on item (list_at family.lists q) ≡ true → p ≡ q
+  pub once : (q : ℕ) → are_distinct (list_at family.lists q) ≡ true
+  pub within : (item q : ℕ) → is_on item (list_at family.lists q) ≡ true → item < family.items

@@ -12,7 +12,7 @@ use wdf_base::Memory;
 ///
 /// Contracts see a record: `lists`, a list of items for each number, and `items`, how many items
 /// there are.
-#[derive(Debug, Drop)]
+#[derive(Drop)]
 pub struct Links {
     rings: Rings,
     members: Members,
@@ -62,7 +62,7 @@ impl Links {
     pub fn owner(&self, item: u32) -> Option<u32>
         ensures list { result ≡ list_of item self.now.lists }
         ensures any { is_some result ≡ is_on_any item self.now.lists }
-        ensures apart { AreApart self.now.lists }
+        ensures apart { AreApart self.now }
     {
         self.members.owner(item)
     }
@@ -70,7 +70,7 @@ impl Links {
     /// The first item of a list, `None` where it is empty.
     pub fn front(&self, list: u32) -> Option<u32>
         ensures first { result ≡ first_of (list_at self.now.lists list) }
-        ensures apart { AreApart self.now.lists }
+        ensures apart { AreApart self.now }
     {
         if self.members.count(list) == 0 {
             return None;

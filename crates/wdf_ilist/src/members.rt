@@ -6,7 +6,7 @@ use std::alloc::Global;
 use wdf_base::Memory;
 
 /// Which list each item is on, and how many items each list has.
-#[derive(Debug, Drop)]
+#[derive(Drop)]
 pub(crate) struct Members {
     /// The number of an item's list and one more, or 0 for none.
     owners: Table,

@@ -11,7 +11,7 @@ use wdf_base::Memory;
 /// A list is a ring: its end, then its items, and the end again. So an item goes in and out with
 /// no case on the ends of its list. Ends have the even places and items the odd ones, so that
 /// both tables are written only as far as lists and items are used.
-#[derive(Debug, Drop)]
+#[derive(Drop)]
 pub(crate) struct Rings {
     /// The number of the next place and one more, or 0 for the place itself.
     next: Table,

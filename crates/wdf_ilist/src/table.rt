@@ -6,7 +6,7 @@ use wdf_base::Memory;
 
 /// A table of numbers by place, all 0 at first. Its memory is taken at once, and written only as
 /// far as places are used.
-#[derive(Debug, Drop)]
+#[derive(Drop)]
 pub(crate) struct Table {
     numbers: Vec<u32>,
     places: usize,

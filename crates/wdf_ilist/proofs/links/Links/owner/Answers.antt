@@ -1,7 +1,9 @@
-use Rattle.std.proofs.Common.{◌≡◌, is_some, ap, ◌∙◌}
-use Rattle.wdf_ilist.specs.Family.{list_of}
+use Rattle.std.proofs.Common.{◌≡◌, is_some, subst, ap, ◌∙◌}
+use Rattle.wdf_ilist.specs.Family.{list_of, AreApart}
+use Rattle.wdf_ilist.specs.Links.{lists_by}
 use Rattle.wdf_ilist.proofs.Acts.{family_sound}
-use Rattle.wdf_ilist.proofs.Read.{owner_lem, some_list}
+use Rattle.wdf_ilist.proofs.Lists.{some_list}
+use Rattle.wdf_ilist.proofs.Read.{owner_lem}
 use Rattle.wdf_ilist.proofs.Sound.{apart_lem}
 use Rattle.wdf_ilist.proofs.links.Links.owner.Goals as goal
 
@@ -22,5 +24,4 @@ returns-clause-any c =
 pub returns-clause-apart : goal.returns-clause-apart
 returns-clause-apart c =
     let links = c.self.inside in
-    let family = c.args.self.now in
-    apart_lem links.rings links.members family.lists (family_sound links family c.self.view_is c.self.invariant)
+    subst AreApart c.self.view_is (apart_lem links.rings links.members (lists_by links.rings links.members) c.self.invariant)

@@ -1,7 +1,8 @@
 use Rattle.std.proofs.Common.{ℕ, ◌≡◌, false, List, length, map, is_some, length-set, sym, ap, ◌∙◌}
 use Rattle.wdf_ilist.specs.Family.{Family, is_on_any, without}
 use Rattle.wdf_ilist.proofs.Acts.{family_sound, family_read, count_some, sound_unlinked}
-use Rattle.wdf_ilist.proofs.Read.{owner_lem, some_list, kept_some, none_unlinked}
+use Rattle.wdf_ilist.proofs.Lists.{some_list, none_leaves}
+use Rattle.wdf_ilist.proofs.Read.{owner_lem, kept_some}
 use Rattle.wdf_ilist.proofs.Sound.{sound_as_read, owned_within}
 use Rattle.wdf_ilist.proofs.links.Links.unlink.Goals as goal
 
@@ -26,7 +27,7 @@ returns-in_err-list-clause-gone c =
     let list = c.owner.ensures ∙ owner_lem links.rings links.members family.lists (family_sound links family c.self.view_is c.self.invariant) c.args.item in
     let off : is_on_any c.args.item family.lists ≡ false = sym (some_list c.args.item family.lists) ∙ ap is_some (sym list ∙ c.in_err-list.was) in
     let with_lists : List (List ℕ) → Family = λ ls. record { lists = ls; items = family.items } in
-    ap with_lists (sym (none_unlinked c.args.item family.lists off))
+    ap with_lists (sym (none_leaves c.args.item family.lists off))
 
 pub leave-requires-clause-known : goal.leave-requires-clause-known
 leave-requires-clause-known c =
