@@ -1,5 +1,5 @@
 -- The queues that the fields stand for.
-use Rattle.std.specs.Prelude.{ℕ, ◌≡◌, length}
+use Rattle.std.specs.Prelude.{◌≡◌, length}
 use Rattle.wdf_model.specs.declared.room.TheConstants.{OBJECTS}
 use Rattle.wdf_model.specs.parts.Queues.{Queues}
 use Rattle.wdf_queue.specs.declared.queues.Queues.TheInside.{Inside}

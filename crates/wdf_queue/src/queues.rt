@@ -1,4 +1,4 @@
-ghost use Rattle.std.specs.Prelude.{◌≡◌, ℕ, ◌+◌, ◌<◌, IfOk, Some, if◌then◌else◌, drop, false, is_some, length, option_map, slice_get};
+ghost use Rattle.std.specs.Prelude.{◌≡◌, ℕ, ◌+◌, ◌<◌, IfOk, Some, if◌then◌else◌, drop, false, is_some, length, option_map, replicate, slice_get};
 ghost use Rattle.wdf_model.specs.Tables.{put};
 ghost use Rattle.wdf_model.specs.parts.Queues as parts;
 ghost use Rattle.wdf_model.specs.parts.Queues.{held_in, is_waiting, waiting_in};
@@ -38,7 +38,6 @@ impl Model for Queues {
 impl Queues {
     /// The queues at the opening of the plan's run: nothing waits, and nothing is held. It takes
     /// all memory that the queues need.
-    #[tactic(auto, using(crate::proofs::Openings::none_by_id))]
     pub fn make(alloc: Global, plan: &Plan) -> Result<Queues, Memory>
         requires room { length plan.now.declared < OBJECTS }
         ensures { IfOk result (λ made. made ≡ parts.opening_queues plan.now) }
@@ -47,7 +46,7 @@ impl Queues {
         Ok(Queues {
             dispatch: opening_dispatches(alloc, plan)?,
             waiting: Links::make(alloc, ids, OBJECTS)?,
-            held: vec![in alloc; 0; ids as usize]?,
+            held: no_counts(alloc, ids as usize)?,
         })
     }
 
@@ -55,7 +54,7 @@ impl Queues {
     pub fn head(&self, q: ObjectId) -> Option<ObjectId>
         ensures { option_map (λ r. r.0) result ≡ parts.front self.now q.0 }
     {
-        self.waiting.front(q.0).map(ObjectId)
+        request_at(self.waiting.front(q.0))
     }
 
     /// How many requests wait in a queue.
@@ -85,10 +84,10 @@ impl Queues {
         ensures { option_map (λ r. r.0) result ≡ slice_get (waiting_in self.now q.0) k }
     {
         let mut found = self.waiting.front(q.0);
-        for _place in 0..k {
+        for place in 0..k {
             found = self.waiting.after(found?);
         }
-        found.map(ObjectId)
+        request_at(found)
     }
 
     /// The request after this one in its waiting list: `None` where it is the last or doesn't wait.
@@ -96,7 +95,7 @@ impl Queues {
         ensures { (q k : ℕ) → slice_get (waiting_in self.now q) k ≡ Some r.0 → option_map (λ x. x.0) result ≡ slice_get (waiting_in self.now q) (k + 1) }
     {
         let _queue = self.waiting.owner(r.0)?;
-        self.waiting.after(r.0).map(ObjectId)
+        request_at(self.waiting.after(r.0))
     }
 
     /// How many requests from a queue the driver holds.
@@ -155,7 +154,8 @@ impl Queues {
     #[tactic(auto, using(wdf_model::proofs::Maps::put_within))]
     fn drop_front(&mut self, q: ObjectId)
         requires there { q.0 < length self.old.dispatch }
-        ensures { self.new ≡ parts.with_waiting self.old q.0 (λ rs. drop 1 rs) }
+        ensures rest { self.new ≡ parts.with_waiting self.old q.0 (drop 1) }
+        ensures size { length self.new.waiting ≡ length self.old.waiting }
     {
         let _front = self.waiting.pop_front(q.0);
     }
@@ -202,8 +202,23 @@ impl Queues {
         requires { q.0 < length self.old.dispatch }
         ensures { self.new ≡ parts.clear self.old q.0 }
     {
+        let _ids = &self.dispatch;
         while !self.is_empty(q) {
             self.drop_front(q);
         }
     }
+}
+
+/// The request that an item of a waiting list is.
+fn request_at(item: Option<u32>) -> Option<ObjectId>
+    ensures { option_map (λ r. r.0) result ≡ item }
+{
+    item.map(ObjectId)
+}
+
+/// A count of 0 for each id.
+fn no_counts(alloc: Global, ids: usize) -> Result<Vec<u32>, Memory>
+    ensures { IfOk result (λ counts. counts.items ≡ replicate ids 0) }
+{
+    Ok(vec![in alloc; 0; ids]?)
 }
