@@ -1,4 +1,4 @@
-ghost use Rattle.std.specs.Prelude.{◌≡◌, ◌<◌, ◌^◌, IfOk, IfSome, Some, length, slice_get, is_some, [], true};
+ghost use Rattle.std.specs.Prelude.{◌≡◌, ◌<◌, ◌^◌, IfOk, None, Some, length, slice_get, is_some, [], true};
 ghost use Rattle.wdf_rising.specs.Places.{rises, IsPlace, entry_of, others, with_entry};
 
 use crate::entry::Entry;
@@ -76,11 +76,11 @@ impl<T: Entry> Rising<T> {
         }
     }
 
-    /// Puts an entry in its place, or in place of that with its id. The answer says whether there was
-    /// one.
+    /// Puts an entry in its place, or in place of that with its id, which needs no room. The answer
+    /// says whether there was one.
     pub fn put(&mut self, entry: T) -> bool
         requires number { T.id entry < 2 ^ 32 }
-        requires room { length (others T.id (T.id entry) self.old.entries) < self.old.room }
+        requires room { entry_of T.id self.old.entries (T.id entry) ≡ None → length self.old.entries < self.old.room }
         ensures answer { result ≡ is_some (entry_of T.id self.old.entries (T.id entry)) }
         ensures room { self.new.room ≡ self.old.room }
         ensures entries { self.new.entries ≡ with_entry T.id entry self.old.entries }

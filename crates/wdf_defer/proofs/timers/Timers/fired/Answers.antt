@@ -2,9 +2,9 @@ use Rattle.std.proofs.Common.{◌≡◌, ◌+◌, ◌<◌, ◌^◌, ◌∙◌, l
 use Rattle.wdf_model.specs.declared.room.TheConstants.{OBJECTS}
 use Rattle.wdf_model.specs.declared.entries.Timed.{Timed}
 use Rattle.wdf_model.specs.parts.Deferred.Timers as timers
-use Rattle.wdf_rising.specs.Places.{entry_of, others}
-use Rattle.wdf_rising.proofs.PlacesOfKeys.{others_short, rises_others, rises_with_entry}
-use Rattle.wdf_rising.proofs.EntriesById.{entry_key, entry_below}
+use Rattle.wdf_rising.specs.Places.{entry_of}
+use Rattle.wdf_rising.proofs.PlacesOfKeys.{rises_others, rises_with_entry}
+use Rattle.wdf_rising.proofs.EntriesById.{absent_short, entry_key, entry_below}
 use Rattle.wdf_defer.specs.Timers.{timer_id}
 use Rattle.wdf_defer.proofs.TimersThatFire.{fired_present, fired_absent}
 use Rattle.wdf_defer.proofs.timers.Timers.fired.Goals as goal
@@ -23,11 +23,11 @@ overflow_add-timed c =
     omega arith
 
 pub put-requires-clause-room : goal.put-requires-clause-room
-put-requires-clause-room c =
+put-requires-clause-room c = λ none.
     let there : entry_of timer_id c.self.inside.queued.entries c.args.o.0 ≡ Some c.in-Some.timed = sym c.get.ensures ∙ c.in-Some.is in
     let same = entry_key timer_id c.args.o.0 c.self.inside.queued.entries c.in-Some.timed there in
     let below = entry_below timer_id 0 OBJECTS c.args.o.0 c.self.inside.queued.entries c.in-Some.timed c.self.invariant.objects there in
-    let short : length (others timer_id c.in-Some.timed.timer.0 c.self.inside.queued.entries) + 0 < OBJECTS = others_short timer_id 0 OBJECTS c.in-Some.timed.timer.0 c.self.inside.queued.entries c.self.invariant.objects (omega arith) (omega arith) in
+    let short = absent_short timer_id OBJECTS c.in-Some.timed.timer.0 c.self.inside.queued.entries c.self.invariant.objects (omega arith) none in
     omega arith
 
 pub invariant_of-self-else-period-eq0 : goal.invariant_of-self-else-period-eq0

@@ -1,14 +1,14 @@
 use Rattle.std.proofs.Common.{◌+◌, ◌<◌, length, sym, ◌∙◌, arith}
 use Rattle.wdf_model.specs.declared.room.TheConstants.{OBJECTS}
-use Rattle.wdf_rising.specs.Places.{others}
-use Rattle.wdf_rising.proofs.PlacesOfKeys.{others_short, rises_with_entry}
+use Rattle.wdf_rising.proofs.PlacesOfKeys.{rises_with_entry}
+use Rattle.wdf_rising.proofs.EntriesById.{absent_short}
 use Rattle.wdf_defer.specs.WorkItems.{same}
 use Rattle.wdf_defer.proofs.QueuedWork.{enqueued}
 use Rattle.wdf_defer.proofs.work_items.WorkItems.enqueue.Goals as goal
 
 pub put-requires-clause-room : goal.put-requires-clause-room
-put-requires-clause-room c =
-    let short : length (others same c.args.o.0 c.self.inside.queued.entries) + 0 < OBJECTS = others_short same 0 OBJECTS c.args.o.0 c.self.inside.queued.entries c.self.invariant.objects (omega arith) c.requires in
+put-requires-clause-room c = λ none.
+    let short = absent_short same OBJECTS c.args.o.0 c.self.inside.queued.entries c.self.invariant.objects c.requires none in
     omega arith
 
 pub invariant_of-self : goal.invariant_of-self
