@@ -15,17 +15,9 @@ use Rattle.wdf_base.specs.declared.declared.WhenLine.{WhenLine}
 use Rattle.wdf_base.specs.declared.declared.RegisterInfo.{RegisterInfo}
 use Rattle.wdf_base.specs.Plan.{posts_of}
 use Rattle.wdf_base.specs.Same.{same_access}
+use Rattle.wdf_model.specs.declared.entries.DeviceAction.{DeviceAction}
 use Rattle.wdf_model.specs.Tables.{tick_after, entry, put, least, flag, in_order_by}
 use Rattle.wdf_model.specs.Plans.{device_of_register}
-
-pub record DeviceAction : Type 0 where
-  pub action : Action
-  -- what brings it about, none for one with `at`
-  pub trigger : Option WhenLine
-  -- the tick at which it is due, if it is to come
-  pub tick : Option ℕ
-  -- its number in the text
-  pub line : ℕ
 
 pub record Device : Type 0 where
   pub agent : ℕ
