@@ -1,0 +1,4 @@
+pub mod Notes
+pub mod Tokens
+pub mod Story
+pub mod Turns
