@@ -1,14 +1,13 @@
 -- The notes of a history that got one event more at most.
-use Rattle.std.proofs.Common.{◌≡◌, ◌≢◌, ◌⊎◌, inl, inr, ⊎_elim, ℕ, zero, suc, ◌+◌, ◌≤◌, ◌<◌, List, [], ◌∷◌, ◌++◌, drop, length, Some, slice_get, get_or, set, refl, ap, sym, ◌∙◌, subst, arith, length-append, rules}
+use Rattle.std.proofs.Common.{◌≡◌, inl, inr, ℕ, zero, suc, ◌+◌, ◌≤◌, List, [], ◌∷◌, ◌++◌, drop, length, Some, slice_get, refl, sym, ◌∙◌, subst, arith, length-append}
 use Rattle.std.specs.List.{All}
 use Rattle.std.proofs.lemmas.List.Elements.{All-append, All-nil}
 use Rattle.std.proofs.lemmas.List.{append-nil}
 use mathlib.Core.List.{IsPrefix}
 use Rattle.wdf_base.specs.declared.event.Event.{Event}
-use Rattle.wdf_turn.specs.Notes.{total, Note, notes_from, notes_beyond, times, within, IsNoteOf}
+use Rattle.wdf_turn.specs.Notes.{Note, notes_from, notes_beyond, times, within, IsNoteOf}
 use Rattle.wdf_turn.specs.Tokens.{IsGrown}
-use Rattle.wdf_turn.proofs.Prefixes.{prefix_self, prefix_get, prefix_length, All-weaken}
-use Rattle.wdf_turn.proofs.Sums.{total-append}
+use Rattle.wdf_turn.proofs.Prefixes.{prefix_get, All-weaken}
 
 -- what stands behind a list that one event follows
 drop_behind : (xs : List Event) (e : Event) → drop (length xs) (xs ++ e ∷ []) ≡ e ∷ []

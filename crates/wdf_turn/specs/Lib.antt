@@ -2,3 +2,4 @@ pub mod Notes
 pub mod Tokens
 pub mod Story
 pub mod Turns
+pub mod Lending

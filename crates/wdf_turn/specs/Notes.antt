@@ -1,5 +1,5 @@
 -- Sums over all tokens, and the notes that a seat keeps of the events that it added.
-use Rattle.std.specs.Prelude.{◌≡◌, ◌==◌, ℕ, ◌+◌, ◌≤◌, ◌&&◌, List, [], ◌∷◌, ◌++◌, drop, length, nat_le, nat_lt, slice_get, Some, if◌then◌else◌}
+use Rattle.std.specs.Prelude.{◌≡◌, ◌==◌, ℕ, ◌+◌, ◌≤◌, ◌&&◌, List, [], ◌∷◌, All, drop, length, nat_le, nat_lt, slice_get, Some, if◌then◌else◌}
 use Rattle.wdf_base.specs.declared.event.Event.{Event}
 
 -- f of each, added up
@@ -31,3 +31,7 @@ within from history place = if nat_le from place && nat_lt place (length history
 -- the history has the note's event at its place, which isn't before `from`
 abbrev pub IsNoteOf : ℕ → List Event → Note → Type 0
 IsNoteOf from history n = (from ≤ n.0) × (slice_get history n.0 ≡ Some n.1)
+
+-- the notes are those of all places from `from` on, each once
+abbrev pub IsAccountOf : ℕ → List Event → List Note → Type 0
+IsAccountOf from history notes = All (IsNoteOf from history) notes × ((place : ℕ) → times place notes ≡ within from history place)

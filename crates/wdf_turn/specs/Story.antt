@@ -8,7 +8,7 @@ use Rattle.atomic_table.specs.Table.{State}
 use Rattle.wdf_base.specs.declared.event.Event.{Event}
 use Rattle.wdf_turn.specs.declared.token.Token.{Token}
 use Rattle.wdf_turn.specs.declared.token.Hold.{Hold}
-use Rattle.wdf_turn.specs.declared.token.Hold.TheVariants.{Idle, Taken, Stored}
+use Rattle.wdf_turn.specs.declared.token.Hold.TheVariants.{Idle, Out, Stored}
 use Rattle.wdf_turn.specs.Notes.{total, times, within, IsNoteOf}
 use Rattle.wdf_turn.specs.Tokens.{IsOther}
 
@@ -23,7 +23,7 @@ alive v = alive_as v.opening
 -- 1 where the seat holds the value
 abbrev pub held_as : Hold → ℕ
 held_as Idle = 0
-held_as (Taken list) = 1
+held_as (Out list) = 1
 held_as Stored = 1
 
 abbrev pub held : {T : Type 0} → Token T → ℕ
@@ -36,7 +36,7 @@ taken holder = if holder == 0 then 0 else 1
 -- the holder is the seat that holds; the history at its taking is the history, and so is what it has seen once that is stored
 abbrev pub Holds : List Event → ℕ → ℕ → List Event → Hold → Type 0
 Holds history holder number seen Idle = number ≢ holder
-Holds history holder number seen (Taken list) = (number ≡ holder) × (list ≡ history)
+Holds history holder number seen (Out list) = (number ≡ holder) × (list ≡ history)
 Holds history holder number seen Stored = (number ≡ holder) × (seen ≡ history)
 
 -- what no token has for itself: the history and where the opening's ends, who holds, how many seats there may be, were made and aren't joined, and which seat has a number

@@ -6,7 +6,7 @@ use Rattle.atomic_table.specs.Table.{Me, Step, rest}
 use Rattle.wdf_base.specs.declared.event.Event.{Event}
 use Rattle.wdf_turn.specs.declared.token.Token.{Token}
 use Rattle.wdf_turn.specs.declared.token.Hold.{Hold}
-use Rattle.wdf_turn.specs.declared.token.Hold.TheVariants.{Idle, Taken, Stored}
+use Rattle.wdf_turn.specs.declared.token.Hold.TheVariants.{Idle, Out, Stored}
 use Rattle.wdf_turn.specs.Notes.{notes_beyond}
 
 abbrev pub longer : List Event → List Event → List Event
@@ -92,7 +92,7 @@ module _ {T : Type 0} where
 
   -- the value was taken, with this history
   abbrev pub holding : Token T → List Event → Token T
-  holding v history = record v { hold = Taken history }
+  holding v history = record v { hold = Out history }
 
   -- the history of the value, which was `old`, has become `new`, and the seat hasn't let go yet
   abbrev pub stored : Token T → List Event → List Event → Token T
@@ -115,7 +115,7 @@ module _ {T : Type 0} where
 
   -- the exchange of the length, which is told the value
   abbrev pub Records : (T → List Event) → Step (Option T) → Sat T → ℕ → Sat T → Type 0
-  Records events st m n m' = (x : T) (old : List Event) → st.said ≡ maybe.some (Some x) → m.0.hold ≡ Taken old → m' ≡ (stored m.0 old (events x), m.1)
+  Records events st m n m' = (x : T) (old : List Event) → st.said ≡ maybe.some (Some x) → m.0.hold ≡ Out old → m' ≡ (stored m.0 old (events x), m.1)
 
   -- the store of 0 to the holder word
   abbrev pub LetsGo : Step (Option T) → Sat T → ℕ → Sat T → Type 0
@@ -128,11 +128,11 @@ module _ {T : Type 0} where
 -- the slots of a seat between two calls: none where it is idle, and the empty slot where it has taken the value
 abbrev pub slots_of : {T : Type 0} → Hold → List (ℕ × Option T)
 slots_of Idle = []
-slots_of (Taken list) = (0, None) ∷ []
+slots_of (Out list) = (0, None) ∷ []
 slots_of Stored = (0, None) ∷ []
 
 -- a seat stores and lets go in one call
 abbrev pub is_settled : Hold → Bool
 is_settled Idle = true
-is_settled (Taken list) = true
+is_settled (Out list) = true
 is_settled Stored = false

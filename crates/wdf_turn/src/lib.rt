@@ -3,13 +3,16 @@
 #![tactic(auto)]
 
 mod chronicle;
+mod held;
 mod plays;
 mod seat;
+mod seating;
 mod token;
 mod turn;
 
 pub use chronicle::{Chronicle, Gate};
+pub use held::{Attempt, Held, Refused};
 pub use plays::OneHistory;
-pub use seat::{Attempt, Held, Refused, Seat};
+pub use seat::Seat;
 pub use token::{Hold, Terms, Token};
 pub use turn::Turn;

@@ -9,7 +9,7 @@ pub enum Hold {
     /// It doesn't.
     Idle,
     /// It has taken the value, whose history was this list.
-    Taken(LinkedList<Event>),
+    Out(LinkedList<Event>),
     /// It has stored the new length of the history, and hasn't let go yet.
     Stored,
 }
@@ -41,6 +41,7 @@ pub struct Token<T> {
 }
 
 /// What a turnstile was made with.
+#[derive(Drop)]
 pub struct Terms<T> {
     /// How many seats there may be.
     pub seats: u32,
