@@ -1,5 +1,5 @@
 -- The rule at each step on a word: the load of the length, the try, the exchange of the length, and letting go.
-use Rattle.std.proofs.Common.{◌≡◌, ◌≢◌, ℕ, ◌==◌, eqb, ◌≤◌, ◌<◌, List, [], ◌∷◌, length, Option, Some, set, get_or, refl, ap, sym, ◌∙◌, subst, arith, if◌then◌else◌, eq-eqb, ne_eqb}
+use Rattle.std.proofs.Common.{◌≡◌, ◌≢◌, ℕ, ◌==◌, eqb, ◌≤◌, ◌<◌, List, [], ◌∷◌, length, Option, Some, None, set, get_or, refl, ap, sym, ◌∙◌, subst, arith, if◌then◌else◌, eq-eqb, ne_eqb}
 use Rattle.std.specs.List.{All}
 use Rattle.std.proofs.lemmas.List.Elements.{All-append}
 use mathlib.Core.List.{IsPrefix}
@@ -9,13 +9,13 @@ use native.Mathlib.Decide.{ℕ_discrete}
 use lib.ListN.{get_elem?}
 use lib.Seq.{set-get_or}
 use prog.Atomic.{either}
-use Rattle.atomic_table.specs.Table.{State, step, Act, keeps, takes, gives, stepped, Valid, carried_after, put_back, Allows}
+use Rattle.atomic_table.specs.Table.{Me, State, step, Act, keeps, takes, gives, stepped, Valid, carried_after, put_back, rest, Allows}
 use Rattle.wdf_base.specs.declared.event.Event.{Event}
 use Rattle.wdf_turn.specs.declared.token.Token.{Token}
 use Rattle.wdf_turn.specs.declared.token.Hold.{Hold}
 use Rattle.wdf_turn.specs.declared.token.Hold.TheVariants.{Idle, Out, Stored}
 use Rattle.wdf_turn.specs.Notes.{times, IsNoteOf, notes_beyond}
-use Rattle.wdf_turn.specs.Tokens.{IsOther, IsGrown, looked, failed, holding, stored, Tries, Records, LetsGo, Looks}
+use Rattle.wdf_turn.specs.Tokens.{IsOther, IsGrown, looked, failed, holding, stored, given, slots_of, Tries, Records, LetsGo, Looks}
 use Rattle.wdf_turn.specs.Story.{Common, IsLive, Holds, held, held_as, taken}
 use Rattle.wdf_turn.proofs.Prefixes.{prefix_self, prefix_trans, prefix_length, All-weaken}
 use Rattle.wdf_turn.proofs.Sums.{total-append}
@@ -240,3 +240,33 @@ module _ {T R : Type 0} (root : T → R) (events : T → List Event) (seats : �
             (λ j u there other m. let n = m.number in others_hold c.history c.history c.holder 0 u.number u.seen u.hold m.holds (λ e. other (e ∙ sym mine.0)) (λ e. omega arith)),
         refl,
       )
+
+  -- the same with the number as the code has it
+  pub tries_with : (slots id : ℕ) (v : Tok) (has : Slots) (number : ℕ) → number ≡ v.number → v.opening ≡ Some opening → v.hold ≡ Idle
+      → Allows Keeps slots id (v, has) 0 (λ n. either (eqb n 0) number n) (Tries root events (step slots 0 0 number maybe.none) (v, has))
+  tries_with slots id v has number same is idle =
+      subst (λ (k : ℕ). Allows Keeps slots id (v, has) 0 (λ n. either (eqb n 0) k n) (Tries root events (step slots 0 0 k maybe.none) (v, has))) (sym same) (tries slots id v has is idle)
+
+module _ {T : Type 0} where
+  -- a seat that has won has the slot, and the exchange of its slot gives the value
+  pub won_slot : (has had : List (ℕ × Option T)) (x : T) → has ≡ (0, Some x) ∷ had → has ≡ (0, Some x) ∷ rest has
+  won_slot has had x e = e ∙ ap (λ (l : List (ℕ × Option T)). (0, Some x) ∷ rest l) (sym e)
+
+  abbrev front : Option T → List (ℕ × Option T) → Option T
+  front d [] = d
+  front d (x ∷ xs) = x.1
+
+  pub same_front : (has : List (ℕ × Option T)) (a b : Option T) (xs ys : List (ℕ × Option T)) → has ≡ (0, a) ∷ xs → has ≡ (0, b) ∷ ys → a ≡ b
+  same_front has a b xs ys e f = ap (front a) (sym e ∙ f)
+
+  -- what the exchange of the length leaves a seat that has taken the value
+  pub recorded : (events : T → List Event) (me me' : Me (Option T) (Token T)) (x : T) (old : List Event) → me' ≡ (stored me.0 old (events x), me.1) → me.0.hold ≡ Out old → me.1 ≡ slots_of me.0.hold
+      → me' ≡ (stored me.0 old (events x), (0, None) ∷ [])
+  recorded events me me' x old told taken_it has = told ∙ ap (λ (l : List (ℕ × Option T)). (stored me.0 old (events x), l)) (has ∙ ap slots_of taken_it)
+
+  -- the three steps of a give
+  pub gave : (events : T → List Event) (me me1 me2 me3 : Me (Option T) (Token T)) (x : T) (old : List Event) → me1 ≡ (stored me.0 old (events x), (0, None) ∷ []) → me2 ≡ (me1.0, (0, Some x) ∷ rest me1.1) → me3 ≡ (record me2.0 { hold = Idle }, rest me2.1)
+      → me3 ≡ (given me.0 old (events x), [])
+  gave events me me1 me2 me3 x old now put let_go =
+      let full : me2 ≡ (stored me.0 old (events x), (0, Some x) ∷ []) = put ∙ ap (λ (m : Me (Option T) (Token T)). (m.0, (0, Some x) ∷ rest m.1)) now in
+      let_go ∙ ap (λ (m : Me (Option T) (Token T)). (record m.0 { hold = Idle }, rest m.1)) full

@@ -7,6 +7,7 @@ mod held;
 mod plays;
 mod seat;
 mod seating;
+mod taking;
 mod token;
 mod turn;
 
