@@ -23,6 +23,7 @@ pub enum Attempt<T> {
 }
 
 /// There was no memory. The value comes back.
+#[derive(Drop)]
 pub struct Refused<T> {
     pub value: T,
 }
