@@ -1,5 +1,5 @@
 -- The rule at the start, at a split, at a join and at the end.
-use Rattle.std.proofs.Common.{◌≡◌, ◌≢◌, ⊎_elim, ℕ, zero, suc, Bool, true, false, ◌==◌, ◌+◌, ◌-◌, ◌≤◌, ◌<◌, List, [], ◌∷◌, length, Option, Some, None, set, refl, ap, sym, ◌∙◌, subst, arith, if◌then◌else◌, nat_lt, eq-eqb, ne_eqb, length-set}
+use Rattle.std.proofs.Common.{◌≡◌, ◌≢◌, ⊎_elim, ℕ, zero, suc, Bool, true, false, ◌==◌, ◌+◌, ◌-◌, ◌≤◌, ◌<◌, List, [], ◌∷◌, ◌++◌, length, Option, Some, None, set, refl, ap, sym, ◌∙◌, subst, arith, if◌then◌else◌, nat_lt, eq-eqb, ne_eqb, length-set}
 use Rattle.std.proofs.lemmas.Bool.{ltb-true, ltb-false}
 use Rattle.std.proofs.lemmas.List.Elements.{All-append, All-nil}
 use mathlib.Core.List.{IsPrefix}
@@ -18,7 +18,7 @@ use Rattle.wdf_turn.specs.Tokens.{IsOther, longer, shorter, first_token, split_o
 use Rattle.wdf_turn.specs.Story.{Common, IsLive, Fits, Holds, alive, alive_as, held, held_as, taken}
 use Rattle.wdf_turn.proofs.Prefixes.{prefix_self, prefix_shorter, All-weaken}
 use Rattle.wdf_turn.proofs.Sums.{total-set, total-append, total-least, total-one, at_end, at_below}
-use Rattle.wdf_turn.proofs.Stories.{Rule, live, fits_as, moves, each_set, apart}
+use Rattle.wdf_turn.proofs.Stories.{Rule, live, reseated, fits_as, moves, each_set, apart}
 
 longest_as : (a b h : List Event) (t : Bool) → nat_lt (length a) (length b) ≡ t → IsPrefix a h → IsPrefix b h
     → IsPrefix (if t then b else a) h × IsPrefix (if t then a else b) (if t then b else a)
@@ -157,26 +157,19 @@ module _ {T R : Type 0} (root : T → R) (events : T → List Event) (seats : �
       let right : Tok = new_token v in
       let numbers = r.numbers in
       let first = l.first one in
-      let st = l.seats in record {
-        common = c';
-        begins = r.begins;
-        start = r.start;
-        words = r.words;
-        free = r.free;
-        busy = r.busy;
-        one_holds = let t = total-set held s.views id v left at in let a = total-append held (set s.views id left) (right ∷ []) in let o = r.one_holds in omega arith;
-        numbers = (omega arith, omega arith, numbers.2, numbers.3);
-        counted = let t = total-set alive s.views id v left at in let a = total-append alive (set s.views id left) (right ∷ []) in let o = r.counted in
-            let e : alive v ≡ 1 = ap alive_as is in omega arith;
-        once = λ p. let t = total-set (λ (u : Tok). times p u.own) s.views id v left at in let a = total-append (λ (u : Tok). times p u.own) (set s.views id left) (right ∷ []) in let o = r.once p in omega arith;
-        each = λ j u e. ⊎_elim
-            (λ (t : get_elem? (set s.views id left) j ≡ maybe.some u). each_set opening c c' s.views id left (fits_as opening c' id left is (split_live c count id v one l)) r.each
-            (λ k x other there m. moves c c' k x (prefix_self c.history) refl refl (omega arith) (let n = m.number in put_else x.number (c.made + 1) count (c.place x.number) (λ e. omega arith))
-            (λ first. absurd (apart c k id x v m l other (first ∙ sym one))) m.holds m) j u t)
-            (λ (t : (j ≡ length (set s.views id left)) × (right ≡ u)). subst (λ (z : ℕ × Tok). Fits opening c' z.0 z.1 z.1.opening) (λ i. (sym (t.0 ∙ length-set s.views id left) i, t.1 i))
-            (fits_as opening c' count right is (new_live c count id v one numbers.0 l)))
-            (at_end (set s.views id left) right u j e);
-      }
+      let st = l.seats in
+      let place : ℕ → ℕ = λ n. if n == c.made + 1 then count else c.place n in
+      reseated root events seats opening s r (c.made + 1) (c.live + 1) place (set s.views id left ++ right ∷ []) (omega arith) (omega arith)
+      (let t = total-set held s.views id v left at in let a = total-append held (set s.views id left) (right ∷ []) in omega arith)
+      (let t = total-set alive s.views id v left at in let a = total-append alive (set s.views id left) (right ∷ []) in let o = r.counted in let e : alive v ≡ 1 = ap alive_as is in omega arith)
+      (λ p. let t = total-set (λ (u : Tok). times p u.own) s.views id v left at in let a = total-append (λ (u : Tok). times p u.own) (set s.views id left) (right ∷ []) in omega arith)
+      (λ j u e. ⊎_elim
+      (λ (t : get_elem? (set s.views id left) j ≡ maybe.some u). each_set opening c c' s.views id left (fits_as opening c' id left is (split_live c count id v one l)) r.each
+      (λ k x other there m. moves c c' k x (prefix_self c.history) refl refl (omega arith) (let n = m.number in put_else x.number (c.made + 1) count (c.place x.number) (λ e. omega arith))
+      (λ first. absurd (apart c k id x v m l other (first ∙ sym one))) m.holds m) j u t)
+      (λ (t : (j ≡ length (set s.views id left)) × (right ≡ u)). subst (λ (z : ℕ × Tok). Fits opening c' z.0 z.1 z.1.opening) (λ i. (sym (t.0 ∙ length-set s.views id left) i, t.1 i))
+      (fits_as opening c' count right is (new_live c count id v one numbers.0 l)))
+      (at_end (set s.views id left) right u j e))
 
   after_join : Common → Common
   after_join c = record c { live = c.live - 1 }
@@ -214,23 +207,17 @@ module _ {T R : Type 0} (root : T → R) (events : T → List Event) (seats : �
       let t = total-set alive s.views id v both at in
       let t' = total-set alive (set s.views id both) other w spent there in
       let counted = r.counted in
-      let some : 1 < c.live = omega arith in record {
-        common = c';
-        begins = r.begins;
-        start = r.start;
-        words = r.words;
-        free = r.free;
-        busy = r.busy;
-        one_holds = let h = total-set held s.views id v both at in let h' = total-set held (set s.views id both) other w spent there in let o = r.one_holds in omega arith;
-        numbers = r.numbers;
-        counted = omega arith;
-        once = λ p. let h = total-set (λ (u : Tok). times p u.own) s.views id v both at in let h' = total-set (λ (u : Tok). times p u.own) (set s.views id both) other w spent there in let o = r.once p in
-            let e = total-append (λ (n : ℕ × Event). if n.0 == p then 1 else 0) v.own w.own in omega arith;
-        each = each_set opening c' c' (set s.views id both) other spent (refl, refl)
-            (each_set opening c c' s.views id both (fits_as opening c' id both is (joined_live c id other v w one settled some l m)) r.each
-            (λ k x away stays m. moves c c' k x (prefix_self c.history) refl refl (omega arith) refl (λ first. absurd (apart c k id x v m l away (first ∙ sym one))) m.holds m))
-            (λ k x away stays m. m);
-      }
+      let some : 1 < c.live = omega arith in
+      let numbers = r.numbers in
+      reseated root events seats opening s r c.made (c.live - 1) c.place (set (set s.views id both) other spent) (omega arith) (omega arith)
+      (let h = total-set held s.views id v both at in let h' = total-set held (set s.views id both) other w spent there in omega arith)
+      (omega arith)
+      (λ p. let h = total-set (λ (u : Tok). times p u.own) s.views id v both at in let h' = total-set (λ (u : Tok). times p u.own) (set s.views id both) other w spent there in
+      let e = total-append (λ (n : ℕ × Event). if n.0 == p then 1 else 0) v.own w.own in omega arith)
+      (each_set opening c' c' (set s.views id both) other spent (refl, refl)
+      (each_set opening c c' s.views id both (fits_as opening c' id both is (joined_live c id other v w one settled some l m)) r.each
+      (λ k x away stays m. moves c c' k x (prefix_self c.history) refl refl (omega arith) refl (λ first. absurd (apart c k id x v m l away (first ∙ sym one))) m.holds m))
+      (λ k x away stays m. m))
 
   dead : (c : Common) (at : ℕ) (u : Tok) (o : Option T) → Fits opening c at u o → alive_as o ≡ 0 → (u.own ≡ []) × (u.hold ≡ Idle)
   dead c at u None fits z = fits

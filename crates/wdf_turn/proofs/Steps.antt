@@ -1,5 +1,5 @@
 -- The rule at each step on a word: the load of the length, the try, the exchange of the length, and letting go.
-use Rattle.std.proofs.Common.{◌≡◌, ◌≢◌, ℕ, ◌==◌, eqb, ◌≤◌, ◌<◌, List, [], ◌∷◌, length, Option, Some, None, set, get_or, refl, ap, sym, ◌∙◌, subst, arith, if◌then◌else◌, eq-eqb, ne_eqb}
+use Rattle.std.proofs.Common.{◌≡◌, ◌≢◌, ℕ, ◌==◌, eqb, ◌≤◌, ◌<◌, List, [], ◌∷◌, ◌++◌, length, Option, Some, None, set, get_or, refl, ap, sym, ◌∙◌, subst, arith, if◌then◌else◌, eq-eqb, ne_eqb}
 use Rattle.std.specs.List.{All}
 use Rattle.std.proofs.lemmas.List.Elements.{All-append}
 use mathlib.Core.List.{IsPrefix}
@@ -20,7 +20,7 @@ use Rattle.wdf_turn.specs.Story.{Common, IsLive, Holds, held, held_as, taken}
 use Rattle.wdf_turn.proofs.Prefixes.{prefix_self, prefix_trans, prefix_length, All-weaken}
 use Rattle.wdf_turn.proofs.Sums.{total-append}
 use Rattle.wdf_turn.proofs.Noted.{grown_prefix, notes_stay, notes_gain, notes_once, All-snoc}
-use Rattle.wdf_turn.proofs.Stories.{Rule, live, turned, others_hold}
+use Rattle.wdf_turn.proofs.Stories.{Rule, live, relive, turned, others_hold}
 
 abbrev taken_list : List Event → Hold → List Event
 taken_list d (Out list) = list
@@ -58,19 +58,7 @@ module _ {T R : Type 0} (root : T → R) (events : T → List Event) (seats : �
         keeps,
         tt,
         turned root events seats opening s r c 1 n id v w has keeps is at (prefix_self c.history) refl refl refl refl (λ _. refl) (set-get_or s.words 1 0 ∙ r.words) r.free r.busy refl numbers.0 (λ _. refl) refl
-            record {
-              seen = l.seen;
-              told = l.told;
-              own = l.own;
-              looks = All-snoc (λ k. k ≤ length c.history) v.looks n l.looks (omega arith);
-              found = l.found;
-              number = l.number;
-              only = l.only;
-              seats = l.seats;
-              first = l.first;
-              other = l.other;
-              holds = l.holds;
-            }
+            (relive c c.holder id v (v.looks ++ n ∷ []) v.found v.hold (All-snoc (λ k. k ≤ length c.history) v.looks n l.looks (omega arith)) l.found l.holds l)
             (λ j u there other m. m.holds),
         (refl, omega arith, l.told),
       )
@@ -102,19 +90,7 @@ module _ {T R : Type 0} (root : T → R) (events : T → List Event) (seats : �
         subst (λ b. Keeps (stepped s 0 (either b v.number (get_or s.words 0 0)) id has w (takes 0 (Some x)))) (sym (eq-eqb (get_or s.words 0 0) 0 hit))
             (turned root events seats opening s r c' 0 v.number id v w has (takes 0 (Some x)) is at (prefix_self c.history) refl refl refl refl (λ _. refl) (ap (λ ws. set ws 0 v.number) r.words)
             (λ nobody. absurd (omega arith)) (λ _. ap (λ hs. set hs 0 maybe.none) at_home.1) (omega arith) number.1 (λ _. refl) refl
-            record {
-              seen = l.seen;
-              told = l.told;
-              own = l.own;
-              looks = l.looks;
-              found = l.found;
-              number = l.number;
-              only = l.only;
-              seats = l.seats;
-              first = l.first;
-              other = l.other;
-              holds = (refl, at_home.3);
-            }
+            (relive c v.number id v v.looks v.found (Out (events x)) l.looks l.found (refl, at_home.3) l)
             (λ j u there other m. let n = m.number in others_hold c.history c.history c.holder v.number u.number u.seen u.hold m.holds (λ e. omega arith) other)),
         (
           (λ _. (x, ((λ o e. at_home.2 ∙ ap root (same_some (sym is ∙ e))), subst (IsPrefix v.seen) (sym at_home.3) l.seen), refl)),
@@ -139,19 +115,7 @@ module _ {T R : Type 0} (root : T → R) (events : T → List Event) (seats : �
         tt,
         subst (λ b. Keeps (stepped s 0 (either b v.number n) id has w keeps)) (sym (ne_eqb n 0 miss))
             (turned root events seats opening s r c 0 n id v w has keeps is at (prefix_self c.history) refl refl refl refl (λ _. refl) (set-get_or s.words 0 0 ∙ r.words) r.free r.busy refl numbers.0 (λ _. refl) refl
-            record {
-              seen = l.seen;
-              told = l.told;
-              own = l.own;
-              looks = l.looks;
-              found = All-snoc (IsOther c.made v.number) v.found n l.found (omega arith, omega arith, differ);
-              number = l.number;
-              only = l.only;
-              seats = l.seats;
-              first = l.first;
-              other = l.other;
-              holds = l.holds;
-            }
+            (relive c c.holder id v v.looks (v.found ++ n ∷ []) v.hold l.looks (All-snoc (IsOther c.made v.number) v.found n l.found (omega arith, omega arith, differ)) l.holds l)
             (λ j u there other m. m.holds)),
         ((λ hit. absurd (miss hit)), λ _. ((omega arith, omega arith, differ), omega arith, refl)),
       )
@@ -224,19 +188,7 @@ module _ {T R : Type 0} (root : T → R) (events : T → List Event) (seats : �
         tt,
         turned root events seats opening s r c' 0 0 id v w has gives is at (prefix_self c.history) refl refl refl refl (λ _. refl) (ap (λ ws. set ws 0 0) r.words)
             (λ _. (x, (ap (put_back s.homes) full ∙ ap (λ hs. set hs 0 (maybe.some (Some x))) out), rooted, whole ∙ mine.1)) (λ some. absurd (some refl)) (omega arith) (omega arith) (λ _. refl) refl
-            record {
-              seen = l.seen;
-              told = l.told;
-              own = l.own;
-              looks = l.looks;
-              found = l.found;
-              number = l.number;
-              only = l.only;
-              seats = l.seats;
-              first = l.first;
-              other = l.other;
-              holds = λ e. omega arith;
-            }
+            (relive c 0 id v v.looks v.found Idle l.looks l.found (λ e. let some = number.0 in omega arith) l)
             (λ j u there other m. let n = m.number in others_hold c.history c.history c.holder 0 u.number u.seen u.hold m.holds (λ e. other (e ∙ sym mine.0)) (λ e. omega arith)),
         refl,
       )

@@ -10,7 +10,7 @@ use Rattle.wdf_base.specs.declared.event.Event.{Event}
 use Rattle.wdf_turn.specs.declared.token.Token.{Token}
 use Rattle.wdf_turn.specs.declared.token.Hold.{Hold}
 use Rattle.wdf_turn.specs.declared.token.Hold.TheVariants.{Idle, Out, Stored}
-use Rattle.wdf_turn.specs.Notes.{times, within, IsNoteOf}
+use Rattle.wdf_turn.specs.Notes.{total, times, within, IsNoteOf}
 use Rattle.wdf_turn.specs.Tokens.{IsOther}
 use Rattle.wdf_turn.specs.Story.{Common, IsLive, Fits, Kept, Holds, alive, held, taken}
 use Rattle.wdf_turn.proofs.Prefixes.{prefix_trans, prefix_length, All-weaken}
@@ -38,6 +38,23 @@ module _ {T : Type 0} where
     seats = l.seats ∙ sym seats;
     first = λ one. let a = l.first one in let b = first one in (a.0 ∙ sym b.0, a.1 ∙ sym b.1);
     other = λ more. let a = l.other more in (a.0 ∙ sym seats, a.1);
+    holds = holds;
+  }
+
+  -- a seat whose looks, failed tries or hold have changed, under a holder
+  pub relive : (c : Common) (holder id : ℕ) (v : Token T) (looks found : List ℕ) (hold : Hold) → All (λ n. n ≤ length c.history) looks → All (IsOther c.made v.number) found → Holds c.history holder v.number v.seen hold → IsLive c id v
+      → IsLive (record c { holder = holder }) id (record v { looks = looks; found = found; hold = hold })
+  relive c holder id v looks found hold looked failed holds l = record {
+    seen = l.seen;
+    told = l.told;
+    own = l.own;
+    looks = looked;
+    found = failed;
+    number = l.number;
+    only = l.only;
+    seats = l.seats;
+    first = l.first;
+    other = l.other;
     holds = holds;
   }
 
@@ -97,4 +114,23 @@ module _ {T R : Type 0} (root : T → R) (events : T → List Event) (seats : �
     once = λ p. let t = total-set (λ (u : Token T). times p u.own) s.views id v w at in let o = r.once p in let e = once p in omega arith;
     each = each_set opening r.common c' s.views id w (fits_as opening c' id w (same ∙ is) mine) r.each
         (λ j u other there l. moves r.common c' j u pre from sts (omega arith) (place u.number) (λ _. (made, lv)) (others j u there (apart r.common j id u v l (live s r id v is at) other) l) l);
+  }
+
+  -- the rule after seats have come or gone, where the words and the slot stay
+  pub reseated : (s : State (Option T) (Token T)) (r : Rule s) (made more : ℕ) (place : ℕ → ℕ) (views : List (Token T)) → r.common.made ≤ made → made ≤ seats → total held views ≡ total held s.views → total alive views ≡ more
+      → ((p : ℕ) → total (λ (u : Token T). times p u.own) views ≡ total (λ (u : Token T). times p u.own) s.views)
+      → ((at : ℕ) (v : Token T) → get_elem? views at ≡ maybe.some v → Fits opening (record r.common { made = made; live = more; place = place }) at v v.opening)
+      → Rule record { words = s.words; homes = s.homes; views = views }
+  reseated s r made more place views up room same_held same_live same_own each = record {
+    common = record r.common { made = made; live = more; place = place };
+    begins = r.begins;
+    start = r.start;
+    words = r.words;
+    free = r.free;
+    busy = r.busy;
+    one_holds = same_held ∙ r.one_holds;
+    numbers = let a = r.numbers in (omega arith, room, a.2, a.3);
+    counted = same_live;
+    once = λ p. same_own p ∙ r.once p;
+    each = each;
   }

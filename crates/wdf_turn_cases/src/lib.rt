@@ -3,8 +3,10 @@
 
 mod alone;
 mod log;
+mod pair;
 #[cfg(test)]
 mod rounds;
 
 pub use alone::take_alone;
 pub use log::Log;
+pub use pair::close_pair;

@@ -38,3 +38,19 @@ fn the_value_goes_from_seat_to_seat(rt: HostRuntime) -> Result<(), Fail> {
     assert_eq!(rt; log.events.as_slice(), [STEP].as_slice());
     Ok(())
 }
+
+fn shared<X: Sync>(_value: &X) {}
+
+fn sent<X: Send>(_value: &X) {}
+
+#[test]
+fn turnstiles_are_shared_and_seats_are_sent(rt: HostRuntime) -> Result<(), Fail> {
+    let Ok((turn, first)) = Turn::make(rt.alloc(), 1, Log::new(rt.alloc(), 7)) else {
+        panic!(rt; "there is memory")
+    };
+    shared(&turn);
+    sent(&first);
+    let log = turn.close(first);
+    assert_eq!(rt; log.events.len(), 0);
+    Ok(())
+}

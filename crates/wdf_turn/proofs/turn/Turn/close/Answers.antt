@@ -7,14 +7,11 @@ unwrap-requires g c =
     let end = finished g.T.Chronicle.root g.T.Chronicle.events _ _ _ _ _ _ c.close_with-closed.ensures.values.2 c.requires.own.1 c.requires.last.0 c.requires.last.1 c.requires.idle _ c.take-value.ensures.value in
     subst IsSome (sym end.1) (search rules)
 
-pub returns-clause-root : goal.returns-clause-root
-returns-clause-root g c = (finished_with g.T.Chronicle.root g.T.Chronicle.events _ _ _ _ _ _ c.close_with-closed.ensures.values.2 c.requires.own.1 c.requires.last.0 c.requires.last.1 c.requires.idle c.unwrap.result (search rules)).0
-
-pub returns-clause-list : goal.returns-clause-list
-returns-clause-list g c = (finished_with g.T.Chronicle.root g.T.Chronicle.events _ _ _ _ _ _ c.close_with-closed.ensures.values.2 c.requires.own.1 c.requires.last.0 c.requires.last.1 c.requires.idle c.unwrap.result (search rules)).1
-
-pub returns-clause-seen : goal.returns-clause-seen
-returns-clause-seen g c = (finished_with g.T.Chronicle.root g.T.Chronicle.events _ _ _ _ _ _ c.close_with-closed.ensures.values.2 c.requires.own.1 c.requires.last.0 c.requires.last.1 c.requires.idle c.unwrap.result (search rules)).2
-
-pub returns-clause-own : goal.returns-clause-own
-returns-clause-own g c = (finished_with g.T.Chronicle.root g.T.Chronicle.events _ _ _ _ _ _ c.close_with-closed.ensures.values.2 c.requires.own.1 c.requires.last.0 c.requires.last.1 c.requires.idle c.unwrap.result (search rules)).3
+pub returns : goal.returns
+returns g c =
+    let end = finished_with g.T.Chronicle.root g.T.Chronicle.events _ _ _ _ _ _ c.close_with-closed.ensures.values.2 c.requires.own.1 c.requires.last.0 c.requires.last.1 c.requires.idle c.unwrap.result (search rules) in record {
+      root = end.0;
+      list = end.1;
+      seen = end.2;
+      own = end.3;
+    }
