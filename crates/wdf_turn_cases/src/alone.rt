@@ -1,7 +1,7 @@
 //! Nobody is in the way of a seat that is alone.
 ghost use Rattle.std.specs.Prelude.{◌≡◌};
 ghost use Rattle.wdf_turn.specs.declared.token.Hold.TheVariants.{Idle};
-ghost use Rattle.wdf_turn.specs.Turns.{token, IsSeatOf, IsHeldBy};
+ghost use Rattle.wdf_turn.specs.Turns.{token, IsSeatOf, IsHeldBy, value_of, taken_value};
 
 use wdf_turn::{Attempt, Chronicle, Held, Seat, Turn};
 
@@ -12,6 +12,7 @@ pub fn take_alone<T: Chronicle>(turn: &Turn<T>, seat: &mut Seat<T>) -> Held<T>
     requires alone { ((token seat.old).number ≡ 1) × ((token seat.old).made ≡ 1) }
     ensures own { IsSeatOf turn.now seat.new }
     ensures held { IsHeldBy T.root T.events turn.now seat.new result }
+    ensures value { value_of result ≡ taken_value result }
 {
     match turn.try_take(seat) {
         Attempt::Taken(held) => held,

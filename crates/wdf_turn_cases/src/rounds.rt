@@ -23,7 +23,10 @@ fn the_value_goes_from_seat_to_seat(rt: HostRuntime) -> Result<(), Fail> {
         Attempt::Taken(_held) => panic!(rt; "seat 1 holds"),
         Attempt::Busy(holder) => assert_eq!(rt; holder, 1),
     }
-    held.value_mut().events.push(STEP).expect(&rt, "there is memory");
+    held.value_mut()
+        .events
+        .push(STEP)
+        .expect(&rt, "there is memory");
     turn.give(&mut first, held);
     assert_eq!(rt; turn.seen(&mut second), 1);
     let held = match turn.try_take(&mut second) {
