@@ -1,0 +1,9 @@
+pub mod Items
+pub mod Lists
+mod Paths
+mod Changes
+mod Zeros
+mod Joins
+mod Sound
+mod Read
+mod Acts

@@ -1,0 +1,24 @@
+ghost use Rattle.std.specs.Prelude.{◌≡◌, ◌<◌, ◌≤◌, vec_capacity};
+ghost use Rattle.wdf_model.specs.Tables.{entry, put};
+
+/// The entry of an id, the blank one where none was written. (own)
+pub fn entry_at<T: Copy>(entries: &[T], blank: T, id: u32) -> T
+    ensures { result ≡ entry blank entries.now id }
+{
+    entries.get(id as usize).copied().unwrap_or(blank)
+}
+
+/// Writes the entry of an id, with blank entries on the way to it. It takes no memory. (own)
+pub fn put_at<T: Copy>(entries: &mut Vec<T>, blank: T, id: u32, new: T)
+    requires room { id < vec_capacity entries.old }
+    ensures entries { entries.new.items ≡ put blank entries.old.items id new }
+    ensures room { vec_capacity entries.old ≤ vec_capacity entries.new }
+{
+    let id = id as usize;
+    if id < entries.len() {
+        entries[id] = new;
+    } else {
+        entries.resize(id, blank).unwrap();
+        entries.push_reserved(new);
+    }
+}
