@@ -2,7 +2,7 @@
 use Rattle.std.proofs.Common.{add-one, refl}
 use Rattle.wdf_base.specs.Plan.{posts_of}
 use Rattle.wdf_model.proofs.Runs.{take_next}
-use Rattle.wdf_dev.proofs.any.lines_of.Goals as goal
+use Rattle.wdf_dev.proofs.app.lines_of.Goals as goal
 
 pub loop-k-preserved : goal.loop-k-preserved
 loop-k-preserved c =
