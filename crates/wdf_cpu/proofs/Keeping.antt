@@ -1,23 +1,24 @@
 -- What is kept beside the state, after each act.
-use Rattle.std.proofs.Common.{◌≡◌, ◌≢◌, ℕ, zero, suc, ◌+◌, ◌==◌, ◌<◌, ◌≤◌, max, fold, drop, filter, not, subst, Bool, true, false, List, [], ◌∷◌, ◌++◌, replicate, ◌⊎◌, inl, inr, Option, Some, None, length, count_by, refl, ap, sym, ◌∙◌, arith}
+use Rattle.std.proofs.Common.{◌≡◌, ℕ, zero, suc, ◌==◌, ◌<◌, ◌≤◌, max, fold, drop, filter, not, subst, Bool, true, false, List, [], ◌∷◌, ◌++◌, replicate, Option, Some, None, length, count_by, refl, ap, sym, ◌∙◌, arith}
+use Rattle.std.specs.List.{flat_map}
 use Rattle.std.proofs.lemmas.List.Sums.{count_by-le-length}
 use Rattle.wdf_base.specs.declared.frame.Frame.{Frame}
 use Rattle.wdf_base.specs.declared.plan.Plan.{Plan}
 use Rattle.wdf_model.specs.declared.room.TheConstants.{FRAMES, OBJECTS}
-use Rattle.wdf_model.specs.Tables.{contains, entry, first_of_list, flag, in_order, put, same_id}
+use Rattle.wdf_model.specs.Tables.{contains, entry, first_of_list, in_order, put, same_id}
 use Rattle.wdf_model.specs.declared.entries.HeldLevel.{HeldLevel}
 use Rattle.wdf_model.specs.parts.Cpus.{Cpus, all_frames, frame_of, less_one, levels_of, levels_without, no_frame, opening_cpus, parked_with, running, stack_of, top, without_frame}
 use Rattle.wdf_model.specs.parts.Cpus as cpus
 use Rattle.wdf_model.proofs.Maps.{put_within, set_as_it_was}
-use Rattle.wdf_model.proofs.Counts.{count_cons, equal, not_equal, one_or_two}
-use Rattle.wdf_cpu.specs.Keys.{IsTally, Swapped, keyed, object_key, wait_key}
+use Rattle.wdf_cpu.specs.Keys.{IsTally, Swapped, object_key, wait_key}
 use Rattle.wdf_cpu.specs.Kept.{IsKept, IsSound, cpus_in}
 use Rattle.wdf_cpu.specs.declared.cpus.Cpus.TheInside.{Inside}
 use Rattle.wdf_cpu.specs.Levels.{held_by}
-use Rattle.wdf_cpu.proofs.FrameCounts.{stacked}
-use Rattle.wdf_cpu.proofs.Live.{few_frames, live_is_off, live_is_on, live_park, live_pop, live_push, live_unpark, parked_once, top_goes_off, top_is_on}
+use Rattle.wdf_invariants.proofs.Framed.{on}
+use Rattle.wdf_invariants.proofs.FrameMoves.{seen}
+use Rattle.wdf_cpu.proofs.Live.{few_frames, live_is_off, live_is_on, live_park, live_pop, live_push, live_unpark, parked_once, top_goes_off}
 use Rattle.wdf_cpu.proofs.Numbers.{absent_from}
-use Rattle.wdf_cpu.proofs.Passing.{on, passing_change, passing_change_off, passing_park, passing_pop, passing_push, passing_unpark}
+use Rattle.wdf_cpu.proofs.Passing.{passing_change, passing_change_off, passing_park, passing_pop, passing_push, passing_unpark}
 use Rattle.wdf_cpu.proofs.Peaks.{peaks_change, peaks_lower, peaks_pop, peaks_push, peaks_raise}
 use Rattle.wdf_cpu.proofs.Tallies.{tally_follows}
 
@@ -32,19 +33,12 @@ counts_fit key C flags levels counts awaited tally h t id within =
     let few = few_frames C flags h.live in
     omega arith
 
-seen_among : (p : ℕ → Bool) (f : ℕ) (xs : List ℕ) → 1 ≤ count_by (λ y. y == f) xs → p f ≡ true → 1 ≤ count_by p xs
-seen_among p f [] h k = absurd (omega arith)
-seen_among p f (y ∷ ys) h k = elim (one_or_two y f) [
-  | inl e ↦ let yes : flag (p y) ≡ 1 = ap (λ z. flag (p z)) e ∙ ap flag k in let c = count_cons p y ys in omega arith
-  | inr n ↦ let no : flag (y == f) ≡ 0 = ap flag (not_equal y f n) in let a = count_cons (λ z. z == f) y ys in let c = count_cons p y ys in let rest = seen_among p f ys (omega arith) k in omega arith
-]
-
 -- a frame that is there is counted under its key
 pub live_is_counted : (key : Frame → Option ℕ) (C : Cpus) (tally : List ℕ) (f : ℕ) (left : Option ℕ) → left ≡ key (frame_of C f) → on C f ≡ 1 → IsTally key C tally
     → (id : ℕ) → id < OBJECTS → same_id left id ≡ true → 1 ≤ entry 0 tally id
 live_is_counted key C tally f left is one t id within same =
     let e = t.counted id within in
-    let s = seen_among (λ x. same_id (key (frame_of C x)) id) f (all_frames C) (omega arith) (ap (λ k. same_id k id) (sym is) ∙ same) in
+    let s = seen (λ x. same_id (key (frame_of C x)) id) f (all_frames C) (omega arith) (ap (λ k. same_id k id) (sym is) ∙ same) in
     omega arith
 
 -- the bounds and the places of what is kept, by the fields
@@ -72,7 +66,7 @@ kept_opening plan = record {
   waits = record { counted = λ id h. sym (none_stacked (λ f. same_id (wait_key (frame_of (opening_cpus plan) f)) id) plan.cpus) };
 }
   where
-    none_stacked : (p : ℕ → Bool) (n : ℕ) → count_by p (stacked (replicate n []) ++ []) ≡ 0
+    none_stacked : (p : ℕ → Bool) (n : ℕ) → count_by p (flat_map (λ fs. fs) (replicate n []) ++ []) ≡ 0
     none_stacked p zero = refl
     none_stacked p (suc n) = none_stacked p n
 

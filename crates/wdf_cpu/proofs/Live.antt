@@ -1,5 +1,6 @@
 -- Which frames are live after a frame begins, ends, parks or comes back; and the room for them.
-use Rattle.std.proofs.Common.{◌≡◌, ◌≢◌, ℕ, zero, suc, ◌+◌, ◌==◌, ◌<◌, ◌≤◌, Bool, true, false, List, [], ◌∷◌, ◌++◌, ◌⊎◌, inl, inr, Option, Some, None, length, drop, count_by, refl, ap, sym, subst, ◌∙◌, arith, length-append}
+use Rattle.std.proofs.Common.{◌≡◌, ℕ, zero, suc, ◌+◌, ◌==◌, ◌<◌, ◌≤◌, Bool, true, false, List, [], ◌∷◌, inl, inr, Some, length, count_by, refl, ap, sym, ◌∙◌, arith, length-append}
+use Rattle.std.specs.List.{flat_map}
 use Rattle.std.proofs.lemmas.Bool.{cases_lt}
 use Rattle.wdf_base.specs.declared.frame.Frame.{Frame}
 use Rattle.wdf_model.specs.declared.room.TheConstants.{FRAMES}
@@ -7,15 +8,14 @@ use Rattle.wdf_model.specs.Tables.{contains, entry, first_of_list, flag, put}
 use Rattle.wdf_model.specs.parts.Cpus.{Cpus, all_frames, stack_of, top}
 use Rattle.wdf_model.specs.parts.Cpus as cpus
 use Rattle.wdf_model.proofs.Maps.{entry_past, entry_put_other, entry_put_same, put_short}
-use Rattle.wdf_model.proofs.Counts.{at_head, count_behind, count_cons, equal, not_equal, one_or_two}
+use Rattle.wdf_model.proofs.Counts.{at_head, equal, not_equal, one_or_two}
 use Rattle.wdf_cpu.specs.Kept.{IsLive}
-use Rattle.wdf_cpu.proofs.FrameCounts.{parks, pushed, stacked, stacks_put, unparks}
-use Rattle.wdf_cpu.proofs.Numbers.{contained, few_numbers, flag_small}
-use Rattle.wdf_cpu.proofs.Passing.{on, pop_leaves}
-
--- the lists of the processors and of the parked frames, one behind the other
-on_parts : (C : Cpus) (x : ℕ) → on C x ≡ count_by (λ y. y == x) (stacked C.stacks) + count_by (λ y. y == x) C.parked
-on_parts C x = count_behind (λ y. y == x) (stacked C.stacks) C.parked
+use Rattle.wdf_invariants.proofs.FrameCounts.{parks, pushed, unparks}
+use Rattle.wdf_invariants.proofs.FrameMoves.{flag_small}
+use Rattle.wdf_invariants.proofs.FrameMoves as moves
+use Rattle.wdf_invariants.proofs.Framed.{on}
+use Rattle.wdf_cpu.proofs.Numbers.{few_numbers}
+use Rattle.wdf_cpu.proofs.Passing.{pop_leaves}
 
 pub live_once : (C : Cpus) (live : List Bool) → IsLive C live → (x : ℕ) → on C x ≤ 1
 live_once C live h x = let o = h.once x in let s = flag_small (entry false live x) in omega arith
@@ -34,21 +34,34 @@ live_is_on C live f h e = h.once f ∙ ap flag e
 pub live_is_off : (C : Cpus) (live : List Bool) (f : ℕ) → IsLive C live → entry false live f ≡ false → on C f ≡ 0
 live_is_off C live f h e = h.once f ∙ ap flag e
 
+contains_counted_by : (f x : ℕ) (xs : List ℕ) (b c : Bool) → (x == f) ≡ c → count_by (λ y. y == f) (x ∷ xs) ≡ flag b → (count_by (λ y. y == f) xs ≡ flag b → b ≡ contains f xs) → b ≡ contains f (x ∷ xs)
+contains_counted_by f x xs true true e h rest = rw e refl
+contains_counted_by f x xs false true e h rest = absurd (let a = at_head f x xs in let yes : flag (x == f) ≡ 1 = ap flag e in omega arith)
+contains_counted_by f x xs b false e h rest = rw e (rest (let a = at_head f x xs in let no : flag (x == f) ≡ 0 = ap flag e in omega arith))
+
+contains_counted : (f : ℕ) (xs : List ℕ) (b : Bool) → count_by (λ y. y == f) xs ≡ flag b → b ≡ contains f xs
+contains_counted f [] true h = absurd (let z : ⊥ = omega arith in z)
+contains_counted f [] false h = refl
+contains_counted f (x ∷ xs) b h = contains_counted_by f x xs b (x == f) refl h (contains_counted f xs b)
+
+pub live_is_contained : (C : Cpus) (live : List Bool) (f : ℕ) → IsLive C live → entry false live f ≡ contains f (all_frames C)
+live_is_contained C live f h = contains_counted f (all_frames C) (entry false live f) (h.once f)
+
 -- ---- acts
 
 pub live_push : (C : Cpus) (live : List Bool) (cpu f : ℕ) (frame : Frame) (level : ℕ) → on C f ≡ 0 → f < FRAMES → IsLive C live → IsLive (cpus.push C cpu f frame level) (put false live f true)
 live_push C live cpu f frame level none within h = record {
   once = λ x. let p = pushed (λ y. y == x) C cpu f frame level in let o = h.once x in elim (one_or_two x f) [
     | inl e ↦
-      let here : entry false (put false live f true) x ≡ true = ap (entry false (put false live f true)) e ∙ entry_put_same false live f true in
-      let one : flag (entry false (put false live f true) x) ≡ 1 = ap flag here in
-      let old : on C x ≡ 0 = ap (on C) e ∙ none in
-      let yes : flag (f == x) ≡ 1 = ap flag (equal f x (sym e)) in
-      omega arith
+        let here : entry false (put false live f true) x ≡ true = ap (entry false (put false live f true)) e ∙ entry_put_same false live f true in
+        let one : flag (entry false (put false live f true) x) ≡ 1 = ap flag here in
+        let old : on C x ≡ 0 = ap (on C) e ∙ none in
+        let yes : flag (f == x) ≡ 1 = ap flag (equal f x (sym e)) in
+        omega arith
     | inr n ↦
-      let there : flag (entry false (put false live f true) x) ≡ flag (entry false live x) = ap flag (entry_put_other false live f x true n) in
-      let no : flag (f == x) ≡ 0 = ap flag (not_equal f x (λ e. n (sym e))) in
-      omega arith
+        let there : flag (entry false (put false live f true) x) ≡ flag (entry false live x) = ap flag (entry_put_other false live f x true n) in
+        let no : flag (f == x) ≡ 0 = ap flag (not_equal f x (λ e. n (sym e))) in
+        omega arith
   ];
   few = put_short false live f true FRAMES within h.few;
 }
@@ -72,13 +85,13 @@ pub live_pop : (C : Cpus) (live : List Bool) (cpu f : ℕ) → top C cpu ≡ Som
 live_pop C live cpu f is_top h = record {
   once = λ x. let p = pop_leaves C cpu f is_top x in let o = h.once x in elim (one_or_two x f) [
     | inl e ↦
-      let here : flag (entry false (put false live f false) x) ≡ 0 = ap (λ y. flag (entry false (put false live f false) y)) e ∙ ap flag (entry_put_same false live f false) in
-      let off : on (cpus.pop C cpu) x ≡ 0 = ap (on (cpus.pop C cpu)) e ∙ top_goes_off C live cpu f is_top h in
-      omega arith
+        let here : flag (entry false (put false live f false) x) ≡ 0 = ap (λ y. flag (entry false (put false live f false) y)) e ∙ ap flag (entry_put_same false live f false) in
+        let off : on (cpus.pop C cpu) x ≡ 0 = ap (on (cpus.pop C cpu)) e ∙ top_goes_off C live cpu f is_top h in
+        omega arith
     | inr n ↦
-      let there : flag (entry false (put false live f false) x) ≡ flag (entry false live x) = ap flag (entry_put_other false live f x false n) in
-      let no : flag (f == x) ≡ 0 = ap flag (not_equal f x (λ e. n (sym e))) in
-      omega arith
+        let there : flag (entry false (put false live f false) x) ≡ flag (entry false live x) = ap flag (entry_put_other false live f x false n) in
+        let no : flag (f == x) ≡ 0 = ap flag (not_equal f x (λ e. n (sym e))) in
+        omega arith
   ];
   few = put_short false live f false FRAMES (live_within C live h f (let o = top_is_on C live cpu f is_top h in omega arith)) h.few;
 }
@@ -87,11 +100,7 @@ pub live_park : (C : Cpus) (live : List Bool) (cpu f : ℕ) → top C cpu ≡ So
 live_park C live cpu f is_top h = record { once = λ x. parks (λ y. y == x) C cpu f is_top ∙ h.once x; few = h.few }
 
 pub parked_once : (C : Cpus) (live : List Bool) (f : ℕ) → IsLive C live → contains f C.parked ≡ true → count_by (λ y. y == f) C.parked ≡ 1
-parked_once C live f h is =
-    let more = contained f C.parked is in
-    let both = on_parts C f in
-    let o = live_once C live h f in
-    omega arith
+parked_once C live f h is = moves.parked_once C f (live_once C live h f) is
 
 pub live_unpark : (C : Cpus) (live : List Bool) (cpu f : ℕ) → count_by (λ y. y == f) C.parked ≡ 1 → IsLive C live → IsLive (cpus.unpark C cpu f) live
 live_unpark C live cpu f one h = record { once = λ x. unparks (λ y. y == x) C cpu f one ∙ h.once x; few = h.few }
@@ -114,17 +123,16 @@ few_with_one C live f none within h =
     ])
     (λ x past. let a = at_head x f (all_frames C) in let no : flag (f == x) ≡ 0 = ap flag (not_equal f x (λ e. let z : ⊥ = omega arith in z)) in let o = none_beyond C live h x past in omega arith)
 
-all_counted : (xs : List ℕ) → count_by (λ x. true) xs ≡ length xs
-all_counted [] = refl
-all_counted (x ∷ xs) = let c = count_cons (λ (y : ℕ). true) x xs in let rest = all_counted xs in omega arith
+one_of_many : (ss : List (List ℕ)) (k : ℕ) → length (entry [] ss k) ≤ length (flat_map (λ fs. fs) ss)
+one_of_many [] k = omega arith
+one_of_many (fs ∷ ss) zero = let e = length-append fs (flat_map (λ gs. gs) ss) in omega arith
+one_of_many (fs ∷ ss) (suc k) = let e = length-append fs (flat_map (λ gs. gs) ss) in let rest = one_of_many ss k in omega arith
 
 -- a processor has no more frames than there are
 stack_few : (C : Cpus) (cpu : ℕ) → length (stack_of C cpu) + length C.parked ≤ length (all_frames C)
 stack_few C cpu =
-    let e = stacks_put (λ x. true) C.stacks cpu [] in
-    let one = all_counted (stack_of C cpu) in
-    let all = all_counted (stacked C.stacks) in
-    let both : length (all_frames C) ≡ length (stacked C.stacks) + length C.parked = length-append (stacked C.stacks) C.parked in
+    let one = one_of_many C.stacks cpu in
+    let both : length (all_frames C) ≡ length (flat_map (λ fs. fs) C.stacks) + length C.parked = length-append (flat_map (λ fs. fs) C.stacks) C.parked in
     omega arith
 
 pub room_to_push : (C : Cpus) (live : List Bool) (cpu f : ℕ) → on C f ≡ 0 → f < FRAMES → IsLive C live → length (stack_of C cpu) < FRAMES

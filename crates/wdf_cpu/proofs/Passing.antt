@@ -1,17 +1,14 @@
 -- How many frames pass a test after a frame begins, goes on, ends, parks or comes back.
-use Rattle.std.proofs.Common.{◌≡◌, ◌≢◌, ℕ, zero, suc, ◌+◌, ◌==◌, ◌<◌, ◌≤◌, Bool, true, false, List, [], ◌∷◌, ◌⊎◌, inl, inr, Option, Some, None, length, count_by, refl, ap, sym, subst, ◌∙◌, arith}
+use Rattle.std.proofs.Common.{◌≡◌, ◌≢◌, ℕ, ◌+◌, ◌==◌, ◌≤◌, Bool, List, [], Some, count_by, ap, sym, subst, ◌∙◌, arith}
 use Rattle.wdf_base.specs.declared.frame.Frame.{Frame}
 use Rattle.wdf_model.specs.declared.entries.Running.{Running}
 use Rattle.wdf_model.specs.Tables.{entry, flag, without}
 use Rattle.wdf_model.specs.parts.Cpus.{Cpus, all_frames, frame_of, no_frame, running, top, without_frame}
 use Rattle.wdf_model.specs.parts.Cpus as cpus
 use Rattle.wdf_model.proofs.Maps.{entry_put_other, entry_put_same}
-use Rattle.wdf_model.proofs.Counts.{it_leaves}
-use Rattle.wdf_cpu.proofs.FrameCounts.{parks, popped, pushed, same_on, taken, unparks}
-
--- how many times a frame stands among the running and the parked ones
-abbrev pub on : Cpus → ℕ → ℕ
-on C f = count_by (λ x. x == f) (all_frames C)
+use Rattle.wdf_model.proofs.Counts.{count_cons, it_leaves}
+use Rattle.wdf_invariants.proofs.FrameCounts.{parks, popped, pushed, same_on, unparks}
+use Rattle.wdf_invariants.proofs.Framed.{on}
 
 abbrev pub passing : (Frame → Bool) → Cpus → ℕ
 passing test C = count_by (λ f. test (frame_of C f)) (all_frames C)
@@ -45,12 +42,16 @@ others_agree : (p q : ℕ → Bool) (f : ℕ) (xs : List ℕ) → count_by (λ y
 others_agree p q f xs none same =
     same_on p q xs (λ x more. same x (λ e. let there : 1 ≤ count_by (λ y. y == f) xs = subst (λ z. 1 ≤ count_by (λ y. y == z) xs) e more in let z : ⊥ = omega arith in z))
 
+-- one number taken out of a list, as a parked frame is that comes back
+taken : (p : ℕ → Bool) (f : ℕ) (xs : List ℕ) → count_by (λ y. y == f) xs ≡ 1 → count_by p xs ≡ flag (p f) + count_by p (without f xs)
+taken p f xs one = sym (unparks p (record { frames = []; stacks = []; parked = xs; levels = [] }) 0 f one) ∙ count_cons p f (without f xs)
+
 pub passing_change : (test : Frame → Bool) (C : Cpus) (f : ℕ) (frame : Frame) → on C f ≡ 1 → passing test (cpus.change C f frame) + flag (test (frame_of C f)) ≡ passing test C + flag (test frame)
 passing_change test C f frame one =
     let old = taken (λ x. test (frame_of C x)) f (all_frames C) one in
     let new = taken (λ x. test (frame_of (cpus.change C f frame) x)) f (all_frames C) one in
     let rest = others_agree (λ x. test (frame_of C x)) (λ x. test (frame_of (cpus.change C f frame) x)) f (without f (all_frames C)) (it_leaves f (all_frames C))
-        (λ x n. ap (λ (r : Running). test r.frame) (change_elsewhere C f frame x n)) in
+    (λ x n. ap (λ (r : Running). test r.frame) (change_elsewhere C f frame x n)) in
     let here : flag (test (frame_of (cpus.change C f frame) f)) ≡ flag (test frame) = ap (λ (r : Running). flag (test r.frame)) (change_here C f frame) in
     omega arith
 

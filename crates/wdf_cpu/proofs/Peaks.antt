@@ -1,5 +1,5 @@
 -- The level of each frame after each act.
-use Rattle.std.proofs.Common.{if◌then◌else◌, ◌≡◌, ◌≢◌, ℕ, zero, suc, ◌+◌, ◌==◌, ◌&&◌, max, Bool, true, false, not, List, [], ◌∷◌, ◌++◌, ◌<◌, ◌≤◌, ◌⊎◌, inl, inr, Option, Some, None, length, get_or, take, fold, filter, map, refl, ap, sym, ◌∙◌, arith}
+use Rattle.std.proofs.Common.{if◌then◌else◌, ◌≡◌, ◌≢◌, ℕ, suc, ◌+◌, ◌==◌, ◌&&◌, max, Bool, true, false, not, List, [], ◌∷◌, ◌++◌, ◌<◌, ◌≤◌, inl, inr, Option, Some, None, length, get_or, take, fold, filter, map, refl, ap, sym, ◌∙◌, arith}
 use Rattle.std.specs.List.{remove, position_or_len}
 use Rattle.std.specs.declared.collections.VecDeque.{VecDeque}
 use Rattle.std.specs.Option.{IfNone, IsSome, OnSome}
@@ -37,7 +37,7 @@ peak_more : (ls : List HeldLevel) (place f level : ℕ) (l : HeldLevel) (b : Boo
     → fold max level (held_by (take (place + 1) ls) f) ≡ (if b then max (fold max level (held_by (take place ls) f)) l.level.0 else fold max level (held_by (take place ls) f))
 peak_more ls place f level l b within read is =
     let more : held_by (take (place + 1) ls) f ≡ held_by (take place ls) f ++ map (λ (m : HeldLevel). m.level.0) (if b then l ∷ [] else []) =
-        rw (filter_more (λ (m : HeldLevel). m.frame.0 == f) ls place l within, ← read, is) (map-append (λ (m : HeldLevel). m.level.0) (filter (λ (m : HeldLevel). m.frame.0 == f) (take place ls)) (if b then l ∷ [] else [])) in
+    rw (filter_more (λ (m : HeldLevel). m.frame.0 == f) ls place l within, ← read, is) (map-append (λ (m : HeldLevel). m.level.0) (filter (λ (m : HeldLevel). m.frame.0 == f) (take place ls)) (if b then l ∷ [] else [])) in
     rw (more, fold-append max level (held_by (take place ls) f) (map (λ (m : HeldLevel). m.level.0) (if b then l ∷ [] else []))) (last_level (fold max level (held_by (take place ls) f)) l b)
   where
     last_level : (peak : ℕ) (l : HeldLevel) (b : Bool) → fold max peak (map (λ (m : HeldLevel). m.level.0) (if b then l ∷ [] else [])) ≡ (if b then max peak l.level.0 else peak)
@@ -105,7 +105,7 @@ pub level_removed : (f level place len : ℕ) (old new : List HeldLevel) (r : Op
     → OnSome r (new ≡ remove old place) → IfNone r (new ≡ old) → (IsSome r ↔ (place < len)) → new ≡ less_one f level old
 level_removed f level place len old new (Some l) many is removed same there = removed ∙ ap (remove old) is ∙ less_one_is f level old
 level_removed f level place len old new None many is removed same there =
-    let past : length old ≤ place = elim (cases_lt place len) [ | inl e ↦ absurd (let z : IsSome {T = HeldLevel} None = there.1 e in let y : ⊥ = cc in y) | inr e ↦ omega arith ] in
+    let past : length old ≤ place = elim (cases_lt place len) [ inl e ↦ absurd (let z : IsSome {T = HeldLevel} None = there.1 e in let y : ⊥ = cc in y) | inr e ↦ omega arith ] in
     same ∙ sym (remove_past old place past) ∙ ap (remove old) is ∙ less_one_is f level old
   where
     remove_past : (ls : List HeldLevel) (i : ℕ) → length ls ≤ i → remove ls i ≡ ls

@@ -1,5 +1,5 @@
 -- The counts by id after one left and one came.
-use Rattle.std.proofs.Common.{if◌then◌else◌, ◌≡◌, ◌≢◌, ℕ, zero, suc, ◌+◌, ◌-◌, ◌==◌, ◌<◌, ◌≤◌, Bool, true, false, List, [], ◌∷◌, ◌⊎◌, inl, inr, Option, Some, None, length, count_by, refl, ap, sym, ◌∙◌, arith}
+use Rattle.std.proofs.Common.{◌≡◌, ℕ, ◌+◌, ◌-◌, ◌==◌, ◌<◌, ◌≤◌, List, inl, inr, Option, Some, None, ap, sym, ◌∙◌, arith}
 use Rattle.wdf_base.specs.declared.frame.Frame.{Frame}
 use Rattle.wdf_model.specs.declared.room.TheConstants.{OBJECTS}
 use Rattle.wdf_model.specs.Tables.{entry, flag, put, same_id}
@@ -12,14 +12,14 @@ pub one_more : (counts : List ℕ) (id : ℕ) → Swapped None (Some id) counts 
 one_more counts id = record {
   counted = λ x h. elim (one_or_two x id) [
     | inl e ↦
-      let same : entry 0 (put 0 counts id (entry 0 counts id + 1)) x ≡ entry 0 counts id + 1 = ap (entry 0 (put 0 counts id (entry 0 counts id + 1))) e ∙ entry_put_same 0 counts id (entry 0 counts id + 1) in
-      let old : entry 0 counts x ≡ entry 0 counts id = ap (entry 0 counts) e in
-      let yes : flag (id == x) ≡ 1 = ap flag (equal id x (sym e)) in
-      omega arith
+        let same : entry 0 (put 0 counts id (entry 0 counts id + 1)) x ≡ entry 0 counts id + 1 = ap (entry 0 (put 0 counts id (entry 0 counts id + 1))) e ∙ entry_put_same 0 counts id (entry 0 counts id + 1) in
+        let old : entry 0 counts x ≡ entry 0 counts id = ap (entry 0 counts) e in
+        let yes : flag (id == x) ≡ 1 = ap flag (equal id x (sym e)) in
+        omega arith
     | inr n ↦
-      let other = entry_put_other 0 counts id x (entry 0 counts id + 1) n in
-      let no : flag (id == x) ≡ 0 = ap flag (not_equal id x (λ e. n (sym e))) in
-      omega arith
+        let other = entry_put_other 0 counts id x (entry 0 counts id + 1) n in
+        let no : flag (id == x) ≡ 0 = ap flag (not_equal id x (λ e. n (sym e))) in
+        omega arith
   ];
 }
 
@@ -27,14 +27,14 @@ pub one_less : (counts : List ℕ) (id : ℕ) → 1 ≤ entry 0 counts id → Sw
 one_less counts id some = record {
   counted = λ x h. elim (one_or_two x id) [
     | inl e ↦
-      let same : entry 0 (put 0 counts id (entry 0 counts id - 1)) x ≡ entry 0 counts id - 1 = ap (entry 0 (put 0 counts id (entry 0 counts id - 1))) e ∙ entry_put_same 0 counts id (entry 0 counts id - 1) in
-      let old : entry 0 counts x ≡ entry 0 counts id = ap (entry 0 counts) e in
-      let yes : flag (id == x) ≡ 1 = ap flag (equal id x (sym e)) in
-      omega arith
+        let same : entry 0 (put 0 counts id (entry 0 counts id - 1)) x ≡ entry 0 counts id - 1 = ap (entry 0 (put 0 counts id (entry 0 counts id - 1))) e ∙ entry_put_same 0 counts id (entry 0 counts id - 1) in
+        let old : entry 0 counts x ≡ entry 0 counts id = ap (entry 0 counts) e in
+        let yes : flag (id == x) ≡ 1 = ap flag (equal id x (sym e)) in
+        omega arith
     | inr n ↦
-      let other = entry_put_other 0 counts id x (entry 0 counts id - 1) n in
-      let no : flag (id == x) ≡ 0 = ap flag (not_equal id x (λ e. n (sym e))) in
-      omega arith
+        let other = entry_put_other 0 counts id x (entry 0 counts id - 1) n in
+        let no : flag (id == x) ≡ 0 = ap flag (not_equal id x (λ e. n (sym e))) in
+        omega arith
   ];
 }
 

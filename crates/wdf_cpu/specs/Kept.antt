@@ -3,7 +3,7 @@ use Rattle.std.specs.Prelude.{ℕ, ◌≡◌, ◌≤◌, ◌==◌, Bool, false, 
 use Rattle.std.specs.VecDeque.{deque_capacity}
 use Rattle.wdf_model.specs.declared.room.TheConstants.{EVENTS, FRAMES}
 use Rattle.wdf_model.specs.Tables.{entry, flag}
-use Rattle.wdf_model.specs.parts.Cpus.{Cpus, all_frames, frame_level}
+use Rattle.wdf_model.specs.parts.Cpus.{Cpus, all_frames, blank_frame, frame_level}
 use Rattle.wdf_cpu.specs.Keys.{IsTally, object_key, wait_key}
 use Rattle.wdf_cpu.specs.declared.cpus.Cpus.TheInside.{Inside}
 
@@ -32,4 +32,5 @@ pub record IsSound (a : Inside) : Type 0 where
   pub peaks_room : FRAMES ≤ vec_capacity a.peaks
   pub parked_room : FRAMES ≤ vec_capacity a.parked
   pub levels_room : EVENTS ≤ deque_capacity a.levels
+  pub blank : a.blank ≡ blank_frame
   pub kept : IsKept (cpus_in a) a.live.items a.peaks.items a.on a.waits

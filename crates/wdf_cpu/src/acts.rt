@@ -53,7 +53,8 @@ impl Cpus {
     {
         let peak = entry_at(&self.peaks, 0, f.0);
         put_at(&mut self.peaks, 0, f.0, peak.max(level.0));
-        self.levels.push_front_reserved(HeldLevel { frame: f, level });
+        self.levels
+            .push_front_reserved(HeldLevel { frame: f, level });
     }
 
     /// A frame holds a level less. Nothing changes where it doesn't hold it.

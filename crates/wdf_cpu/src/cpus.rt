@@ -21,7 +21,7 @@ const NO_HANDLE: Handle = Handle {
 };
 
 /// What stands for a frame that isn't there.
-pub(crate) static NO_FRAME: Running = Running {
+pub(crate) const NO_FRAME: Running = Running {
     frame: Frame {
         callback: Callback::EvtDestroyCallback,
         object: NO_HANDLE,
@@ -59,6 +59,8 @@ pub struct Cpus {
     pub(crate) on: Tally,
     /// How many frames wait for an object.
     pub(crate) waits: Tally,
+    /// What a number says that is no frame's.
+    pub(crate) blank: Frame,
 }
 
 impl Model for Cpus {
@@ -88,6 +90,7 @@ impl Cpus {
             peaks: Vec::with_capacity(alloc, FRAMES as usize)?,
             on: Tally::make(alloc)?,
             waits: Tally::make(alloc)?,
+            blank: NO_FRAME.frame,
         })
     }
 }

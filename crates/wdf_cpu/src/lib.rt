@@ -2,8 +2,11 @@
 #![tactic(auto)]
 
 mod acts;
+mod asked;
 mod cpus;
+mod frames;
 mod levels;
+mod readers;
 mod rising;
 mod stack;
 mod tally;

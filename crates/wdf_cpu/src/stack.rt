@@ -56,6 +56,14 @@ impl Stack {
         self.frames.get(place).copied()
     }
 
+    /// The frame at a place, of which there are more.
+    pub(crate) fn get(&self, place: usize) -> u32
+        requires { place < length self.now }
+        ensures { slice_get self.now place ≡ Some result }
+    {
+        self.frames[place]
+    }
+
     /// A frame more, on top.
     pub(crate) fn push(&mut self, frame: u32)
         requires room { length self.old < FRAMES }

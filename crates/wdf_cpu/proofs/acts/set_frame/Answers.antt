@@ -10,6 +10,6 @@ use Rattle.wdf_cpu.proofs.acts.set_frame.Goals as goal
 pub returns-clause-changed : goal.returns-clause-changed
 returns-clause-changed c =
     let read : c.index_mut.result.now ≡ entry no_frame c.args.frames.now.items c.args.f.0 =
-        c.index_mut.ensures.value ∙ get_or_default c.args.frames.now.items c.args.f.0 c.index_mut.result.now no_frame c.requires in
+    c.index_mut.ensures.value ∙ get_or_default c.args.frames.now.items c.args.f.0 c.index_mut.result.now no_frame c.requires in
     ap (λ (r : Running). slice_set c.args.frames.now.items c.args.f.0 (record { frame = c.args.frame; level = r.level })) read
     ∙ sym (put_within no_frame c.args.frames.now.items c.args.f.0 (record { frame = c.args.frame; level = (entry no_frame c.args.frames.now.items c.args.f.0).level }) c.requires)

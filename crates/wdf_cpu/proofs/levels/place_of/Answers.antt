@@ -1,5 +1,5 @@
 -- The first level that is the one, or none of them.
-use Rattle.std.proofs.Common.{◌≡◌, true, get_or, sym, ap, ◌∙◌, arith}
+use Rattle.std.proofs.Common.{sym, arith}
 use Rattle.std.proofs.lemmas.List.Sums.{position_or_len_is}
 use Rattle.wdf_cpu.specs.Levels.{is_level}
 use Rattle.wdf_cpu.proofs.Peaks.{is_level_at}

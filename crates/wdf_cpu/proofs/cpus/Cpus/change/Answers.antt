@@ -4,7 +4,6 @@ use Rattle.std.specs.Option.{option_map}
 use Rattle.std.proofs.lemmas.List.{get_or_default}
 use Rattle.wdf_base.specs.declared.ids.ObjectId.{ObjectId}
 use Rattle.wdf_model.specs.declared.entries.Running.{Running}
-use Rattle.wdf_model.specs.Tables.{entry}
 use Rattle.wdf_model.specs.parts.Cpus.{Cpus, frame_of, no_frame, running}
 use Rattle.wdf_cpu.specs.Keys.{object_key, wait_key}
 use Rattle.wdf_cpu.specs.Kept.{cpus_in}
@@ -52,6 +51,7 @@ invariant_of-self c =
       peaks_room = h.peaks_room;
       parked_room = h.parked_room;
       levels_room = h.levels_room;
+      blank = h.blank;
       kept = rw c.set_frame.ensures.changed
           (kept_change_by (cpus_in a) a.live.items a.peaks.items a.on a.waits c.args.f.0 c.args.frame c.swap_if.new.self c.swap_if-2.new.self c.entry_at-live.result
           (rw c.deref.ensures.value at c.entry_at-live.ensures)

@@ -1,5 +1,5 @@
 -- The top frame is among the parked ones.
-use Rattle.std.proofs.Common.{◌≡◌, [], length, Some, None, sym, arith}
+use Rattle.std.proofs.Common.{◌≡◌, [], length, Some, None, arith}
 use Rattle.wdf_model.specs.Tables.{entry, first_of_list}
 use Rattle.wdf_model.specs.parts.Cpus.{top}
 use Rattle.wdf_cpu.specs.Kept.{cpus_in}
@@ -26,6 +26,7 @@ invariant_of-self c =
       peaks_room = h.peaks_room;
       parked_room = omega arith;
       levels_room = h.levels_room;
+      blank = h.blank;
       kept = rw (c.pop_from.ensures.rest, c.insert_number.ensures.items)
           (kept_park (cpus_in a) a.live.items a.peaks.items a.on a.waits c.args.cpu.0 c.in-Some.f is_top h.kept);
     }
@@ -42,5 +43,6 @@ invariant_of-self-in_default c =
       peaks_room = h.peaks_room;
       parked_room = h.parked_room;
       levels_room = h.levels_room;
+      blank = h.blank;
       kept = rw (c.pop_from.ensures.rest, empty_stays a.stacks.items c.args.cpu.0 (omega arith) none) h.kept;
     }

@@ -3,8 +3,7 @@ use Rattle.std.proofs.Common.{◌≡◌, ◌<◌, Some, arith}
 use Rattle.wdf_base.specs.declared.ids.ObjectId.{ObjectId}
 use Rattle.std.specs.Option.{option_map}
 use Rattle.wdf_model.specs.declared.room.TheConstants.{FRAMES}
-use Rattle.wdf_model.specs.parts.Cpus.{frame_of, top}
-use Rattle.wdf_cpu.specs.Keys.{object_key, wait_key}
+use Rattle.wdf_model.specs.parts.Cpus.{top}
 use Rattle.wdf_cpu.specs.Kept.{cpus_in}
 use Rattle.wdf_cpu.proofs.Keeping.{kept_pop, on_counted, on_fits, wait_counted, waits_fit}
 use Rattle.wdf_cpu.proofs.Live.{live_within, top_is_on}
@@ -65,6 +64,7 @@ invariant_of-self c =
       peaks_room = omega arith;
       parked_room = h.parked_room;
       levels_room = omega arith;
+      blank = h.blank;
       kept = rw (c.put_at.ensures.entries, c.pop_from.ensures.rest, c.drop_levels.ensures.items, c.put_at-2.ensures.entries, c.put_at-3.ensures.entries)
           (kept_pop (cpus_in a) a.live.items a.peaks.items a.on a.waits c.args.cpu.0 c.unwrap.result c.swap.new.self c.swap-2.new.self is_top
           (rw (c.object_key.ensures, c.entry_at.ensures, c.deref.ensures.value) at c.swap.ensures) (rw (c.wait_key.ensures, c.entry_at.ensures, c.deref.ensures.value) at c.swap-2.ensures) h.kept);

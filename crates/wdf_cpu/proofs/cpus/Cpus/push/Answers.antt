@@ -31,6 +31,7 @@ invariant_of-self c =
       peaks_room = omega arith;
       parked_room = h.parked_room;
       levels_room = h.levels_room;
+      blank = h.blank;
       kept = rw (c.put_at.ensures.entries, c.push_on.ensures.pushed, c.put_at-2.ensures.entries, c.put_at-3.ensures.entries)
           (kept_push (cpus_in a) a.live.items a.peaks.items a.on a.waits c.args.cpu.0 c.args.f.0 c.args.frame c.args.level.0 c.peak_of.result.0 c.swap.new.self c.swap-2.new.self
           c.requires.room fresh c.peak_of.ensures (rw c.object_key.ensures at c.swap.ensures) (rw c.wait_key.ensures at c.swap-2.ensures) h.kept);

@@ -23,6 +23,7 @@ invariant_of-self c =
       peaks_room = h.peaks_room;
       parked_room = omega arith;
       levels_room = h.levels_room;
+      blank = h.blank;
       kept = rw (c.push_on.ensures.pushed, c.drop_number.ensures.items)
           (kept_unpark (cpus_in a) a.live.items a.peaks.items a.on a.waits c.args.cpu.0 c.args.f.0 is h.kept);
     }
