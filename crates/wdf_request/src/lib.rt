@@ -2,6 +2,5 @@
 #![tactic(auto)]
 
 mod change;
-mod requests;
-
-pub use requests::Requests;
+mod counts;
+mod keys;
