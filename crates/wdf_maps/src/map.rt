@@ -1,5 +1,7 @@
-ghost use Rattle.std.specs.Prelude.{◌≡◌, ◌<◌, ◌≤◌, vec_capacity};
+ghost use Rattle.std.specs.Prelude.{◌≡◌, ◌<◌, ◌≤◌, option_map, vec_capacity};
 ghost use Rattle.wdf_model.specs.Tables.{entry, put};
+
+use wdf_base::ObjectId;
 
 /// The entry of an id, the blank one where none was written. (own)
 pub fn entry_at<T: Copy>(entries: &[T], blank: T, id: u32) -> T
@@ -21,4 +23,11 @@ pub fn put_at<T: Copy>(entries: &mut Vec<T>, blank: T, id: u32, new: T)
         entries.resize(id, blank).unwrap();
         entries.push_reserved(new);
     }
+}
+
+/// The object with an id, if there is one.
+pub fn object_at(id: Option<u32>) -> Option<ObjectId>
+    ensures { option_map (λ o. o.0) result ≡ id }
+{
+    id.map(ObjectId)
 }

@@ -8,7 +8,7 @@ use std::alloc::Global;
 use std::marker::Model;
 use wdf_base::{DispatchKind, Memory, ObjectId, Plan};
 use wdf_ilist::Links;
-use wdf_maps::entry_at;
+use wdf_maps::{entry_at, object_at};
 use wdf_model::{EVENTS, OBJECTS};
 
 /// Who waits in which queue, and how many requests the driver holds from each. A request waits in
@@ -54,7 +54,7 @@ impl Queues {
     pub fn head(&self, q: ObjectId) -> Option<ObjectId>
         ensures { option_map (λ r. r.0) result ≡ parts.front self.now q.0 }
     {
-        request_at(self.waiting.front(q.0))
+        object_at(self.waiting.front(q.0))
     }
 
     /// How many requests wait in a queue.
@@ -87,7 +87,7 @@ impl Queues {
         for place in 0..k {
             found = self.waiting.after(found?);
         }
-        request_at(found)
+        object_at(found)
     }
 
     /// The request after this one in its waiting list: `None` where it is the last or doesn't wait.
@@ -95,7 +95,7 @@ impl Queues {
         ensures { (q k : ℕ) → slice_get (waiting_in self.now q) k ≡ Some r.0 → option_map (λ x. x.0) result ≡ slice_get (waiting_in self.now q) (k + 1) }
     {
         let _queue = self.waiting.owner(r.0)?;
-        request_at(self.waiting.after(r.0))
+        object_at(self.waiting.after(r.0))
     }
 
     /// How many requests from a queue the driver holds.
@@ -207,13 +207,6 @@ impl Queues {
             self.drop_front(q);
         }
     }
-}
-
-/// The request that an item of a waiting list is.
-fn request_at(item: Option<u32>) -> Option<ObjectId>
-    ensures { option_map (λ r. r.0) result ≡ item }
-{
-    item.map(ObjectId)
 }
 
 /// A count of 0 for each id.

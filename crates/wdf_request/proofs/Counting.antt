@@ -1,14 +1,21 @@
 -- Counts by id, after an entry was written.
-use Rattle.std.proofs.Common.{if◌then◌else◌, ℕ, zero, suc, ◌≡◌, ◌≢◌, ◌⊎◌, ◌+◌, ◌-◌, ◌<◌, ◌≤◌, ◌==◌, nat_lt, Bool, true, false, cond, List, [], ◌∷◌, Option, Some, None, length, refl, ap, sym, ◌∙◌, inl, inr, arith}
-use Rattle.std.specs.List.{count_by, list_any, sum_by}
-use Rattle.std.proofs.lemmas.Bool.{eqb-true, eq-eqb, ne_eqb, cases_eq}
+use Rattle.std.proofs.Common.{if◌then◌else◌, ℕ, zero, suc, ◌≡◌, ◌⊎◌, ◌+◌, ◌-◌, ◌<◌, ◌≤◌, ◌==◌, ◌&&◌, ◌||◌, not, nat_lt, Bool, true, false, cond, List, [], ◌∷◌, Option, Some, None, refl, ap, sym, ◌∙◌, inl, inr, zero-add, arith}
+use Rattle.std.specs.List.{count_by, list_any}
+use Rattle.std.proofs.lemmas.Bool.{eq-eqb, ne_eqb, cases_eq}
+use Rattle.std.proofs.Math.Bool.{and-true}
 use Rattle.std.proofs.lemmas.Bool.Decides.{nat_tests}
 use Rattle.std.proofs.lemmas.List.Sums.{sum_by-cons}
 use Rattle.wdf_base.specs.declared.ids.ObjectId.{ObjectId}
 use Rattle.wdf_model.specs.declared.room.TheConstants.{OBJECTS}
 use Rattle.wdf_model.specs.Tables.{entry, put, flag}
 use Rattle.wdf_model.proofs.Maps.{entry_put_same, entry_put_other}
+use Rattle.wdf_base.specs.declared.object.Place.{Place}
+use Rattle.wdf_base.specs.declared.object.Place.TheVariants as place
+use Rattle.wdf_model.specs.declared.entries.Request.{Request}
+use Rattle.wdf_model.specs.parts.Requests.{has_arrived, is_done, is_returning_to, is_sent_to}
+use Rattle.wdf_model.specs.rules.Starts.{is_unfinished_at}
 use Rattle.wdf_request.specs.Counts.{AreCounted, changed_at, is_at, moved_count}
+use Rattle.wdf_request.specs.Keys.{returning_queue, sent_target, unfinished_device}
 
 -- ---- a count at one place
 
@@ -86,17 +93,17 @@ pub counted_put : {T : Type 0} (key : T → Option ObjectId) (blank : T) (xs : L
     → AreCounted key xs counts → AreCounted key (put blank xs r new) (moved_count counts (key (entry blank xs r)) (key new))
 counted_put key blank xs counts r new none counted = record {
   count = λ id h.
-    let moved = at_moved counts (key (entry blank xs r)) (key new) id h in
-    let was = counted.count id h in
-    let is = count_put (λ x. is_at id (key x)) blank xs r new (ap (is_at id) none) in
-    omega arith;
+      let moved = at_moved counts (key (entry blank xs r)) (key new) id h in
+      let was = counted.count id h in
+      let is = count_put (λ x. is_at id (key x)) blank xs r new (ap (is_at id) none) in
+      omega arith;
 }
 
 -- ---- whether there is any
 
-some_by : (b c : Bool) (n : ℕ) → nat_lt 0 n ≡ c → nat_lt 0 (flag b + n) ≡ (if b then true else c)
+some_by : (b c : Bool) (n : ℕ) → nat_lt 0 n ≡ c → nat_lt 0 (flag b + n) ≡ (b || c)
 some_by true c n e = grind (arith, nat_tests)
-some_by false c n e = e
+some_by false c n e = let same : flag false + n ≡ n = zero-add n in rw same e
 
 -- there is one where the count isn't 0
 pub any_counted : {T : Type 0} (p : T → Bool) (xs : List T) → nat_lt 0 (count_by p xs) ≡ list_any p xs
@@ -107,3 +114,45 @@ any_counted p (x ∷ xs) = rw (count_cons p x xs) (some_by (p x) (list_any p xs)
 pub any_same : {T : Type 0} (p q : T → Bool) (xs : List T) → ((x : T) → p x ≡ q x) → list_any p xs ≡ list_any q xs
 any_same p q [] e = refl
 any_same p q (x ∷ xs) e = rw (e x, any_same p q xs e) refl
+
+-- whether an entry belongs to an id
+pub any_at : {T : Type 0} (key : T → Option ObjectId) (test : T → Bool) (xs : List T) (counts : List ℕ) (id : ℕ) → id < OBJECTS
+    → AreCounted key xs counts → ((x : T) → is_at id (key x) ≡ test x) → nat_lt 0 (entry 0 counts id) ≡ list_any test xs
+any_at key test xs counts id h counted same =
+    rw (counted.count id h) (any_counted (λ x. is_at id (key x)) xs ∙ any_same (λ x. is_at id (key x)) test xs same)
+
+-- ---- what belongs to an id
+
+pub is_at_queue : (q : ℕ) (p : Place) → is_at q (returning_queue p) ≡ is_returning_to q p
+is_at_queue q (place.Queued o) = refl
+is_at_queue q (place.Returning o) = refl
+is_at_queue q (place.Closing s) = refl
+is_at_queue q place.Owned = refl
+is_at_queue q (place.Sent t) = refl
+is_at_queue q place.Done = refl
+
+pub is_at_target : (t : ℕ) (p : Place) → is_at t (sent_target p) ≡ is_sent_to t p
+is_at_target t (place.Queued o) = refl
+is_at_target t (place.Returning o) = refl
+is_at_target t (place.Closing s) = refl
+is_at_target t place.Owned = refl
+is_at_target t (place.Sent o) = refl
+is_at_target t place.Done = refl
+
+both_by : (device : ObjectId) (d : ℕ) (arrived undone : Bool)
+    → is_at d (if arrived && undone then Some device else None) ≡ (arrived && (device.0 == d) && undone)
+both_by device d true true = sym (and-true (device.0 == d))
+both_by device d true false = sym (none (device.0 == d))
+  where
+    none : (b : Bool) → (b && false) ≡ false
+    none true = refl
+    none false = refl
+both_by device d false undone = refl
+
+pub is_at_device : (d : ℕ) (r : Request) → is_at d (unfinished_device r) ≡ is_unfinished_at d r
+is_at_device d r = both_by r.info.device d (has_arrived r) (not (is_done r.place))
+
+-- ---- no entries
+
+pub none_counted : {T : Type 0} (key : T → Option ObjectId) → AreCounted key [] []
+none_counted key = record { count = λ id h. refl }

@@ -1,6 +1,8 @@
 //! The ids that a request belongs to, and what is open.
 
 ghost use Rattle.std.specs.Prelude.{◌≡◌};
+ghost use Rattle.wdf_model.specs.Tables.{flag};
+ghost use Rattle.wdf_model.specs.parts.Requests as parts;
 ghost use Rattle.wdf_model.specs.rules.Ready.{is_open_request};
 ghost use Rattle.wdf_request.specs.Keys as keys;
 
@@ -38,14 +40,22 @@ pub(crate) fn unfinished_device(request: Request) -> Option<ObjectId>
     }
 }
 
-/// Whether a request keeps a run from its end: it arrived and isn't done, or the driver made it and
-/// it is sent.
-pub(crate) fn is_open(request: Request) -> bool
-    ensures { result ≡ is_open_request request }
+/// 1 for a request that keeps a run from its end, 0 for another. It arrived and isn't done, or the
+/// driver made it and it is sent.
+pub(crate) fn open_flag(request: Request) -> u32
+    ensures { result ≡ flag (is_open_request request) }
 {
-    if request.info.arrival > 0 {
+    let is_open = if request.info.arrival > 0 {
         !matches!(request.place, Place::Done)
     } else {
         matches!(request.place, Place::Sent(_))
-    }
+    };
+    if is_open { 1 } else { 0 }
+}
+
+/// Whether the framework will complete a request at this place.
+pub(crate) fn is_closing(place: Place) -> bool
+    ensures { result ≡ parts.is_closing place }
+{
+    matches!(place, Place::Closing(_))
 }

@@ -4,3 +4,6 @@
 mod change;
 mod counts;
 mod keys;
+mod requests;
+
+pub use requests::Requests;
