@@ -1,7 +1,7 @@
-ghost use Rattle.std.specs.Prelude.{◌≡◌, ℕ, ◌+◌, ◌<◌, IfOk, Some, if◌then◌else◌, drop, false, is_some, length, option_map, replicate, slice_get};
+ghost use Rattle.std.specs.Prelude.{◌≡◌, ℕ, ◌+◌, ◌<◌, ◌≤◌, IfOk, Some, if◌then◌else◌, drop, false, is_some, length, option_map, replicate, slice_get};
 ghost use Rattle.wdf_model.specs.Tables.{put};
 ghost use Rattle.wdf_model.specs.parts.Queues as parts;
-ghost use Rattle.wdf_model.specs.parts.Queues.{held_in, is_waiting, waiting_in};
+ghost use Rattle.wdf_model.specs.parts.Queues.{held_count, held_in, is_waiting, waiting_in};
 
 use crate::dispatch::{is_free_by, opening_dispatches};
 use std::alloc::Global;
@@ -143,6 +143,7 @@ impl Queues {
         requires few { held_in self.old < EVENTS }
         ensures front { option_map (λ r. r.0) result ≡ parts.front self.old q.0 }
         ensures done { self.new ≡ (if is_some result then parts.take self.old q.0 else self.old) }
+        ensures many { held_in self.new ≤ held_in self.old + 1 }
     {
         let front = self.head(q)?;
         self.drop_front(q);
@@ -164,7 +165,8 @@ impl Queues {
     pub fn hold(&mut self, q: ObjectId)
         requires there { q.0 < length self.old.dispatch }
         requires few { held_in self.old < EVENTS }
-        ensures { self.new ≡ parts.hold self.old q.0 }
+        ensures done { self.new ≡ parts.hold self.old q.0 }
+        ensures many { held_in self.new ≡ held_in self.old + 1 }
     {
         let held = self.held(q) + 1;
         self.write_held(q, held);
@@ -173,17 +175,19 @@ impl Queues {
     /// The driver holds one request less from a queue; nothing changes where it holds none.
     pub fn let_go(&mut self, q: ObjectId)
         requires { q.0 < length self.old.dispatch }
-        ensures { self.new ≡ parts.let_go self.old q.0 }
+        ensures done { self.new ≡ parts.let_go self.old q.0 }
+        ensures many { held_in self.new ≤ held_in self.old }
     {
         let held = self.held(q).saturating_sub(1);
         self.write_held(q, held);
     }
 
     /// Writes how many requests from a queue the driver holds.
-    #[tactic(auto, using(wdf_model::proofs::Maps::put_within))]
+    #[tactic(auto, using(crate::proofs::Sums::sum_put, wdf_model::proofs::Maps::put_within))]
     fn write_held(&mut self, q: ObjectId, held: u32)
         requires { q.0 < length self.old.dispatch }
-        ensures { self.new ≡ record self.old { held = put 0 self.old.held q.0 held } }
+        ensures done { self.new ≡ record self.old { held = put 0 self.old.held q.0 held } }
+        ensures many { held_in self.new + held_count self.old q.0 ≡ held_in self.old + held }
     {
         self.held[q.0 as usize] = held;
     }

@@ -5,10 +5,6 @@ use Rattle.std.specs.List.{find, range_with_len}
 find_first : (p : ℕ → Bool) (a n m : ℕ) → n ≡ suc m → find p (range_with_len a n) ≡ (if p a then Some a else find p (range_with_len (a + 1) m))
 find_first p a n m e = rw e refl
 
--- an id that passes is the first
-pub find_here : (p : ℕ → Bool) (a n : ℕ) → a < n → p a ≡ true → find p (range_with_len a (n - a)) ≡ Some a
-find_here p a n h e = find_first p a (n - a) (n - (a + 1)) (omega arith) ∙ rw e refl
-
 -- one that doesn't is passed over
 pub find_further : (p : ℕ → Bool) (a n : ℕ) → a < n → p a ≡ false
     → find p (range_with_len (a + 1) (n - (a + 1))) ≡ find p (range_with_len a (n - a))

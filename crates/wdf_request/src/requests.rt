@@ -1,4 +1,4 @@
-ghost use Rattle.std.specs.Prelude.{◌≡◌, ◌<◌, ◌==◌, IfOk, find, length, max, nat_le, option_map, slice_get};
+ghost use Rattle.std.specs.Prelude.{◌≡◌, ◌<◌, ◌≤◌, ◌==◌, IfOk, find, length, max, nat_le, option_map, slice_get};
 ghost use Rattle.std.specs.List.{list_any};
 ghost use Rattle.wdf_model.specs.Tables.{put};
 ghost use Rattle.wdf_model.specs.parts.Requests as parts;
@@ -205,6 +205,8 @@ impl Requests {
         requires there { r.0 < max (length self.old.all) OBJECTS }
         ensures done { self.new ≡ record self.old { all = put no_request self.old.all r.0 request } }
         ensures size { r.0 < length self.old.all → length self.new.all ≡ length self.old.all }
+        ensures there { r.0 < length self.new.all }
+        ensures longer { length self.old.all ≤ length self.new.all }
     {
         let old = entry_at(&self.all, NO_REQUEST, r.0);
         self.returning
@@ -223,7 +225,9 @@ impl Requests {
     pub fn arrive(&mut self, r: ObjectId, place: Place, info: RequestInfo)
         requires room { r.0 < OBJECTS }
         requires few { self.old.arrived < EVENTS }
-        ensures { self.new ≡ parts.arrive self.old r.0 place info }
+        ensures done { self.new ≡ parts.arrive self.old r.0 place info }
+        ensures there { r.0 < length self.new.all }
+        ensures longer { length self.old.all ≤ length self.new.all }
     {
         self.write(r, Request { place, info });
         if info.arrival > 0 {
