@@ -1,0 +1,7 @@
+pub mod FrameCounts
+pub mod Numbers
+pub mod Tallies
+pub mod Passing
+pub mod Live
+pub mod Peaks
+pub mod Keeping

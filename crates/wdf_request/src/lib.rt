@@ -1,0 +1,7 @@
+//! The requests: where each is, whether it is cancelable, and what is kept of it.
+#![tactic(auto)]
+
+mod change;
+mod requests;
+
+pub use requests::Requests;

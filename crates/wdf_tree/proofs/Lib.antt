@@ -1,0 +1,4 @@
+pub mod Standing
+pub mod Marks
+pub mod Children
+pub mod Walks

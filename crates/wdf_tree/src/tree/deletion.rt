@@ -1,0 +1,146 @@
+//! How objects end: a deletion is asked, the cleanup is done, and the object is destroyed.
+
+ghost use Rattle.std.specs.Prelude.{◌≡◌, ◌+◌, ◌<◌, ◌==◌, ◌||◌, IfSome, IsTrue, drop, false, find, length, nat_lt, option_map};
+ghost use Rattle.std.specs.List.{list_all};
+ghost use Rattle.wdf_model.specs.parts.Tree as tree;
+ghost use Rattle.wdf_tree.specs.Below.{is_clean_under, is_gone_under};
+
+use super::Tree;
+use super::making::{DRIVER, counted, gone};
+use wdf_base::{Life, ObjectId};
+use wdf_model::Node;
+
+/// Whether each child of an object has been cleaned up, of those with this id or a greater one.
+fn are_clean_under(nodes: &[Node], from: usize, parent: ObjectId) -> bool
+    ensures { result ≡ list_all (is_clean_under parent.0) (drop from nodes.now) }
+{
+    nodes.iter().skip(from).all(|node| {
+        node.parent.0 != parent.0 || matches!(&node.life, Life::Cleaned | Life::Gone)
+    })
+}
+
+/// Whether each child of an object is gone.
+fn are_gone_under(nodes: &[Node], parent: ObjectId) -> bool
+    ensures { result ≡ list_all (is_gone_under parent.0) nodes.now }
+{
+    nodes.iter().all(|node| node.parent.0 != parent.0 || node.life == Life::Gone)
+}
+
+impl Tree {
+    /// Asks the deletion of one object, if it is live.
+    #[tactic(auto, using(crate::proofs::Standing::kept_by_set, wdf_model::proofs::Maps::put_within, wdf_model::proofs::Maps::set_as_it_was))]
+    pub fn ask_one(&mut self, o: ObjectId)
+        requires there { o.0 < length self.old.nodes }
+        ensures done { self.new ≡ tree.ask_one self.old o.0 }
+        ensures size { length self.new.nodes ≡ length self.old.nodes }
+    {
+        if self.life(o) == Life::Live {
+            self.nodes[o.0 as usize].life = Life::Asked;
+        }
+    }
+
+    /// Whether an object is below another, by one or more steps from child to parent.
+    #[tactic(auto, using(crate::proofs::Marks::below_by_parent))]
+    pub fn is_below(&self, o: ObjectId, below: ObjectId) -> bool
+        ensures { result ≡ tree.is_below self.now o.0 below.0 }
+    {
+        if below.0 >= self.len() {
+            return false;
+        }
+        let mut at = below;
+        'up: loop {
+            let parent = self.parent(at);
+            if parent.0 == o.0 {
+                return true;
+            }
+            if parent.0 >= at.0 {
+                return false;
+            }
+            at = parent;
+        }
+    }
+
+    /// The least id above `after` in the subtree of an object, which is that object and what is
+    /// below it. So the subtree is walked by rising ids, from the id 0, which is no object.
+    #[tactic(auto, using(crate::proofs::Walks::next_after, crate::proofs::Walks::none_past, crate::proofs::Walks::ids_from))]
+    pub fn next_below(&self, o: ObjectId, after: ObjectId) -> Option<ObjectId>
+        ensures next { option_map (λ x. x.0) result ≡ find (nat_lt after.0) (tree.subtree self.now o.0) }
+        ensures above { IfSome result (λ x. after.0 < x.0) }
+        ensures there { IfSome result (λ x. x.0 < length self.now.nodes) }
+        ensures none { tree.is_live (tree.life_of self.now 0) ≡ false }
+    {
+        if after.0 as usize >= self.nodes.len() {
+            return None;
+        }
+        for x in after.0 + 1..self.len() {
+            if x == o.0 || self.is_below(o, ObjectId(x)) {
+                return Some(ObjectId(x));
+            }
+        }
+        None
+    }
+
+    /// Asks the deletion of an object and of what is below it (KMDF): of each that is live.
+    pub fn ask_delete(&mut self, o: ObjectId)
+        ensures done { self.new ≡ tree.ask_delete self.old o.0 }
+        ensures size { length self.new.nodes ≡ length self.old.nodes }
+    {
+        let mut at = ObjectId(0);
+        'walk: while let Some(next) = self.next_below(o, at) {
+            self.ask_one(next);
+            at = next;
+        }
+    }
+
+    /// Whether each younger sibling of an object has been cleaned up.
+    #[tactic(auto, using(crate::proofs::Children::all_younger_clean))]
+    fn are_younger_clean(&self, o: ObjectId) -> bool
+        requires there { o.0 < length self.now.nodes }
+        ensures { result ≡ list_all (λ x. tree.is_past_cleanup (tree.life_of self.now x)) (tree.younger_siblings self.now o.0) }
+    {
+        are_clean_under(&self.nodes, o.0 as usize + 1, self.parent(o))
+    }
+
+    /// Whether the cleanup of an object may come, by lives alone: its deletion was asked, no child
+    /// waits for cleanup, and, where the deletion of its parent was asked too, no younger sibling
+    /// does (own).
+    #[tactic(auto, using(crate::proofs::Children::all_clean, crate::proofs::Standing::there_if_asked))]
+    pub fn may_clean(&self, o: ObjectId) -> bool
+        ensures { result ≡ tree.may_clean self.now o.0 }
+    {
+        self.life(o) == Life::Asked
+            && are_clean_under(&self.nodes, 0, o)
+            && (self.life(self.parent(o)) != Life::Asked || self.are_younger_clean(o))
+    }
+
+    /// The cleanup of an object is done.
+    #[tactic(auto, using(crate::proofs::Standing::kept_by_set, crate::proofs::Standing::there_if_asked, wdf_model::proofs::Maps::put_within))]
+    pub fn clean(&mut self, o: ObjectId)
+        requires asked { IsTrue (tree.is_asked (tree.life_of self.old o.0)) }
+        ensures done { self.new ≡ tree.clean self.old o.0 }
+        ensures size { length self.new.nodes ≡ length self.old.nodes }
+    {
+        self.nodes[o.0 as usize].life = Life::Cleaned;
+    }
+
+    /// Whether an object may end, by the tree alone: its cleanup is done, no reference is held, and
+    /// no child is left (KMDF).
+    #[tactic(auto, using(crate::proofs::Children::all_gone))]
+    pub fn may_destroy(&self, o: ObjectId) -> bool
+        ensures { result ≡ tree.may_destroy self.now o.0 }
+    {
+        self.life(o) == Life::Cleaned && self.references(o) == 0 && are_gone_under(&self.nodes, o)
+    }
+
+    /// An object ends, and nothing of it is kept.
+    #[tactic(auto, using(crate::proofs::Standing::kept_by_end, crate::proofs::Standing::there_if_cleaned, crate::proofs::Standing::few_counted, wdf_model::proofs::Maps::put_within))]
+    pub fn destroy(&mut self, o: ObjectId)
+        requires may { IsTrue (tree.may_destroy self.old o.0) }
+        ensures done { self.new ≡ tree.destroy self.old o.0 }
+        ensures size { length self.new.nodes ≡ length self.old.nodes }
+    {
+        self.count -= counted(&self.nodes[o.0 as usize]);
+        self.nodes[o.0 as usize] = gone();
+        self.devices[o.0 as usize] = DRIVER;
+    }
+}
