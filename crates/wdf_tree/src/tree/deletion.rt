@@ -2,28 +2,21 @@
 
 ghost use Rattle.std.specs.Prelude.{◌≡◌, ◌+◌, ◌<◌, ◌==◌, ◌||◌, IfSome, IsTrue, drop, false, find, length, nat_lt, option_map};
 ghost use Rattle.std.specs.List.{list_all};
+ghost use Rattle.wdf_model.specs.Tables.{same_id};
 ghost use Rattle.wdf_model.specs.parts.Tree as tree;
-ghost use Rattle.wdf_tree.specs.Below.{is_clean_under, is_gone_under};
 
 use super::Tree;
 use super::making::{DRIVER, counted, gone};
 use wdf_base::{Life, ObjectId};
-use wdf_model::Node;
 
-/// Whether each child of an object has been cleaned up, of those with this id or a greater one.
-fn are_clean_under(nodes: &[Node], from: usize, parent: ObjectId) -> bool
-    ensures { result ≡ list_all (is_clean_under parent.0) (drop from nodes.now) }
+/// Whether an id was found, and it is this one.
+fn is_id(found: Option<u32>, id: u32) -> bool
+    ensures { result ≡ same_id found id }
 {
-    nodes.iter().skip(from).all(|node| {
-        node.parent.0 != parent.0 || matches!(&node.life, Life::Cleaned | Life::Gone)
-    })
-}
-
-/// Whether each child of an object is gone.
-fn are_gone_under(nodes: &[Node], parent: ObjectId) -> bool
-    ensures { result ≡ list_all (is_gone_under parent.0) nodes.now }
-{
-    nodes.iter().all(|node| node.parent.0 != parent.0 || node.life == Life::Gone)
+    match found {
+        Some(other) => other == id,
+        None => false,
+    }
 }
 
 impl Tree {
@@ -92,25 +85,45 @@ impl Tree {
         }
     }
 
-    /// Whether each younger sibling of an object has been cleaned up.
-    #[tactic(auto, using(crate::proofs::Children::all_younger_clean))]
-    fn are_younger_clean(&self, o: ObjectId) -> bool
+    /// Whether no child of an object is left.
+    #[tactic(auto, using(crate::proofs::Children::left_children))]
+    fn has_no_child(&self, o: ObjectId) -> bool
         requires there { o.0 < length self.now.nodes }
+        ensures { result ≡ (length (tree.children self.now o.0) == 0) }
+    {
+        self.children.is_empty(o.0)
+    }
+
+    /// Whether each child of an object has been cleaned up.
+    #[tactic(auto, using(crate::proofs::Children::no_waiting_child))]
+    fn are_children_clean(&self, o: ObjectId) -> bool
+        requires there { o.0 < length self.now.nodes }
+        ensures { result ≡ list_all (λ x. tree.is_past_cleanup (tree.life_of self.now x)) (tree.children self.now o.0) }
+    {
+        self.waiting.is_empty(o.0)
+    }
+
+    /// Whether each younger sibling of an object whose deletion was asked has been cleaned up.
+    #[tactic(auto, using(crate::proofs::Children::last_waiting))]
+    fn are_younger_clean(&self, o: ObjectId) -> bool
+        requires asked { IsTrue (tree.is_asked (tree.life_of self.now o.0)) }
+        requires parent { IsTrue (tree.is_asked (tree.life_of self.now (tree.parent_of self.now o.0))) }
         ensures { result ≡ list_all (λ x. tree.is_past_cleanup (tree.life_of self.now x)) (tree.younger_siblings self.now o.0) }
     {
-        are_clean_under(&self.nodes, o.0 as usize + 1, self.parent(o))
+        is_id(self.waiting.back(self.parent(o).0), o.0)
     }
 
     /// Whether the cleanup of an object may come, by lives alone: its deletion was asked, no child
     /// waits for cleanup, and, where the deletion of its parent was asked too, no younger sibling
     /// does (own).
-    #[tactic(auto, using(crate::proofs::Children::all_clean, crate::proofs::Standing::there_if_asked))]
+    #[tactic(auto, using(crate::proofs::Standing::there_if_asked, crate::proofs::Standing::asked_as_same))]
     pub fn may_clean(&self, o: ObjectId) -> bool
         ensures { result ≡ tree.may_clean self.now o.0 }
     {
-        self.life(o) == Life::Asked
-            && are_clean_under(&self.nodes, 0, o)
-            && (self.life(self.parent(o)) != Life::Asked || self.are_younger_clean(o))
+        if self.life(o) != Life::Asked || !self.are_children_clean(o) {
+            return false;
+        }
+        self.life(self.parent(o)) != Life::Asked || self.are_younger_clean(o)
     }
 
     /// The cleanup of an object is done.
@@ -121,15 +134,16 @@ impl Tree {
         ensures size { length self.new.nodes ≡ length self.old.nodes }
     {
         self.nodes[o.0 as usize].life = Life::Cleaned;
+        let _list = self.waiting.unlink(o.0);
     }
 
     /// Whether an object may end, by the tree alone: its cleanup is done, no reference is held, and
     /// no child is left (KMDF).
-    #[tactic(auto, using(crate::proofs::Children::all_gone))]
+    #[tactic(auto, using(crate::proofs::Standing::there_if_cleaned, crate::proofs::Standing::cleaned_as_same))]
     pub fn may_destroy(&self, o: ObjectId) -> bool
         ensures { result ≡ tree.may_destroy self.now o.0 }
     {
-        self.life(o) == Life::Cleaned && self.references(o) == 0 && are_gone_under(&self.nodes, o)
+        self.life(o) == Life::Cleaned && self.references(o) == 0 && self.has_no_child(o)
     }
 
     /// An object ends, and nothing of it is kept.
@@ -142,5 +156,6 @@ impl Tree {
         self.count -= counted(&self.nodes[o.0 as usize]);
         self.nodes[o.0 as usize] = gone();
         self.devices[o.0 as usize] = DRIVER;
+        let _list = self.children.unlink(o.0);
     }
 }
