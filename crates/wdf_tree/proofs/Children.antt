@@ -21,7 +21,7 @@ is_gone_under parent n = not (n.parent.0 == parent) || is_gone n.life
 
 -- ---- lists
 
-all_same : {T : Type 0} (p q : T → Bool) → ((x : T) → p x ≡ q x) → (xs : List T) → list_all p xs ≡ list_all q xs
+pub all_same : {T : Type 0} (p q : T → Bool) → ((x : T) → p x ≡ q x) → (xs : List T) → list_all p xs ≡ list_all q xs
 all_same p q e [] = refl
 all_same p q e (x ∷ xs) = rw (e x, all_same p q e xs) refl
 
@@ -79,7 +79,7 @@ clean_or_gone true life.Asked = refl
 clean_or_gone true life.Cleaned = refl
 clean_or_gone true life.Gone = refl
 
-no_child_or_gone : (b c : Bool) → not (b && not c) ≡ (not b || c)
+pub no_child_or_gone : (b c : Bool) → not (b && not c) ≡ (not b || c)
 no_child_or_gone false c = refl
 no_child_or_gone true false = refl
 no_child_or_gone true true = refl

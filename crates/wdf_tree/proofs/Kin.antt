@@ -1,12 +1,12 @@
 -- The places of the objects that pass a test, and the families that hold them: after an object more,
 -- and after a change of one.
-use Rattle.std.proofs.Common.{if◌then◌else◌, ◌==◌, not, Bool, true, false, map, sym, ◌≡◌, ◌≢◌, ℕ, zero, suc, ◌+◌, ◌<◌, ◌≤◌, List, [], ◌∷◌, ◌++◌, length, drop, filter, replicate, refl, ap, ◌∙◌, arith, inl, inr, ◌⊎◌}
+use Rattle.std.proofs.Common.{if◌then◌else◌, ◌==◌, not, Bool, true, false, map, sym, ◌≡◌, ◌≢◌, ℕ, zero, suc, ◌+◌, ◌<◌, ◌≤◌, List, [], ◌∷◌, ◌++◌, length, drop, filter, replicate, refl, ap, ◌∙◌, arith, inl, inr, ◌⊎◌, take, Some, None}
 use Rattle.std.specs.Prelude.{slice_set}
 use Rattle.std.specs.List.{list_all, range_with_len}
 use Rattle.std.proofs.lemmas.Bool.{and_right, cases_lt, eqb-true, eqb-false, eq-eqb, ne_eqb, lt-ltb, le-ltb}
 use Rattle.std.proofs.lemmas.List.{append-nil}
 use Rattle.wdf_base.specs.declared.object.Life.{Life}
-use Rattle.wdf_ilist.specs.Family.{Family, is_on, is_on_any, last_of, list_at, without}
+use Rattle.wdf_ilist.specs.Family.{Family, is_on, first_of, is_on_any, last_of, list_at, without}
 use Rattle.wdf_ilist.proofs.Items.{without_off}
 use Rattle.wdf_ilist.proofs.Lists.{map_at, off_all}
 use Rattle.wdf_model.specs.Tables.{entry, same_id}
@@ -137,6 +137,26 @@ last_place p x k (n ∷ ns) (suc o) e h t =
         → same_id (last_of (places p k (n ∷ ns))) x ≡ list_all (λ m. not (p m)) (drop (suc o) ns)
     by_test true f here there = rw f here
     by_test false f here there = rw f there
+
+-- ---- the first place
+
+pub first_place : (p : Node → Bool) (k : ℕ) (ns : List Node) (c j : ℕ) → first_of (places p k ns) ≡ Some c → c ≡ k + j → list_all (λ n. not (p n)) (take j ns) ≡ true
+first_place p k [] c j e h = absurd (let z : ⊥ = cc in z)
+first_place p k (n ∷ ns) c zero e h = refl
+first_place p k (n ∷ ns) c (suc j) e h = by_test (p n) refl (first_place p (k + 1) ns c j)
+  where
+    by_test : (b : Bool) → p n ≡ b → (first_of (places p (k + 1) ns) ≡ Some c → c ≡ (k + 1) + j → list_all (λ m. not (p m)) (take j ns) ≡ true)
+        → list_all (λ m. not (p m)) (take (suc j) (n ∷ ns)) ≡ true
+    by_test true t rest = let g = rw t at e in let same : k ≡ c = cc in absurd (omega arith)
+    by_test false t rest = rw t (rest (rw t at e) (omega arith))
+
+pub no_first_place : (p : Node → Bool) (k : ℕ) (ns : List Node) → first_of (places p k ns) ≡ None → list_all (λ n. not (p n)) ns ≡ true
+no_first_place p k [] e = refl
+no_first_place p k (n ∷ ns) e = by_test (p n) refl (no_first_place p (k + 1) ns)
+  where
+    by_test : (b : Bool) → p n ≡ b → (first_of (places p (k + 1) ns) ≡ None → list_all (λ m. not (p m)) ns ≡ true) → list_all (λ m. not (p m)) (n ∷ ns) ≡ true
+    by_test true t rest = let g = rw t at e in absurd (let z : ⊥ = cc in z)
+    by_test false t rest = rw t (rest (rw t at e))
 
 -- ---- by ids
 

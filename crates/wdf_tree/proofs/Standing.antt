@@ -232,7 +232,7 @@ nearest_ended before (n ∷ ns) (suc o) at e there h =
     nearest_ended (before ++ one ∷ []) ns o at (let more = length_push before one in omega arith) (omega arith) both.1
 
 -- an object with no child that isn't gone has none at all
-no_child : (ns : List Node) (o : ℕ) → 0 < o → list_all ends_alone ns ≡ true → list_all (is_gone_under o) ns ≡ true → list_all (λ (n : Node). not (n.parent.0 == o)) ns ≡ true
+pub no_child : (ns : List Node) (o : ℕ) → 0 < o → list_all ends_alone ns ≡ true → list_all (is_gone_under o) ns ≡ true → list_all (λ (n : Node). not (n.parent.0 == o)) ns ≡ true
 no_child [] o h k l = refl
 no_child (n ∷ ns) o h k l =
     let alone = and_parts (ends_alone n) (list_all ends_alone ns) k in
