@@ -1,3 +1,4 @@
+pub mod Kin
 pub mod Standing
 pub mod Marks
 pub mod Children

@@ -1,3 +1,3 @@
 pub mod Inside
 pub mod Refusal
-pub mod Below
+pub mod Kin
