@@ -1,5 +1,5 @@
 -- The rule at the start, at a split, at a join and at the end.
-use Rattle.std.proofs.Common.{◌≡◌, ◌≢◌, ⊎_elim, ℕ, zero, suc, Bool, true, false, ◌==◌, ◌+◌, ◌-◌, ◌≤◌, ◌<◌, List, [], ◌∷◌, ◌++◌, length, Option, Some, None, set, refl, ap, sym, ◌∙◌, subst, arith, if◌then◌else◌, nat_lt, eq-eqb, ne_eqb, length-set}
+use Rattle.std.proofs.Common.{◌≡◌, ◌≢◌, ⊎_elim, ℕ, zero, suc, Bool, true, false, ◌==◌, ◌+◌, ◌-◌, ◌^◌, ◌≤◌, ◌<◌, List, [], ◌∷◌, ◌++◌, length, Option, Some, None, set, refl, ap, sym, ◌∙◌, subst, arith, if◌then◌else◌, nat_lt, eq-eqb, ne_eqb, length-set}
 use Rattle.std.proofs.lemmas.Bool.{ltb-true, ltb-false}
 use Rattle.std.proofs.lemmas.List.Elements.{All-append, All-nil}
 use mathlib.Core.List.{IsPrefix}
@@ -83,7 +83,7 @@ module _ {T R : Type 0} (root : T → R) (events : T → List Event) (seats : �
     holds = λ same. absurd (omega arith);
   }
 
-  pub opens : (n : ℕ) → 0 < seats → seats < 4294967296 → n ≡ length (events opening) → Keeps (opening_state (0 ∷ n ∷ []) (Some opening ∷ []) (first_token events seats opening))
+  pub opens : (n : ℕ) → 0 < seats → seats < 2 ^ 32 → n ≡ length (events opening) → Keeps (opening_state (0 ∷ n ∷ []) (Some opening ∷ []) (first_token events seats opening))
   unfolding first_common
   opens n some few len = record {
     common = first_common;

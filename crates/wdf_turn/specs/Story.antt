@@ -1,6 +1,6 @@
 -- The rule of a turnstile: what holds between any two steps, of the words, the slot and all tokens.
 -- Word 0 is the holder: the number of the seat that holds the value, or 0. Word 1 is the length of the history. Slot 0 has the value.
-use Rattle.std.specs.Prelude.{◌≡◌, ◌≢◌, ◌==◌, ℕ, ◌+◌, ◌<◌, ◌≤◌, List, [], ◌∷◌, length, All, Option, Some, None, if◌then◌else◌}
+use Rattle.std.specs.Prelude.{◌≡◌, ◌≢◌, ◌==◌, ℕ, ◌+◌, ◌^◌, ◌<◌, ◌≤◌, List, [], ◌∷◌, length, All, Option, Some, None, if◌then◌else◌}
 use mathlib.Core.List.{IsPrefix}
 use mathlib.Core.Option as maybe
 use lib.ListN.{get_elem?}
@@ -77,7 +77,7 @@ pub record Kept {T R : Type 0} (root : T → R) (events : T → List Event) (sea
   pub free : common.holder ≡ 0 → (x : T) × (s.homes ≡ maybe.some (Some x) ∷ []) × (root x ≡ root opening) × (events x ≡ common.history)
   pub busy : common.holder ≢ 0 → s.homes ≡ maybe.none ∷ []
   pub one_holds : total held s.views ≡ taken common.holder
-  pub numbers : (common.holder ≤ common.made) × (common.made ≤ seats) × (seats < 4294967296) × (common.seats ≡ seats)
+  pub numbers : (common.holder ≤ common.made) × (common.made ≤ seats) × (seats < 2 ^ 32) × (common.seats ≡ seats)
   pub counted : total alive s.views ≡ common.live
   -- each place since the opening is noted once
   pub once : (place : ℕ) → total (λ v. times place v.own) s.views ≡ within common.from common.history place

@@ -1,5 +1,5 @@
 -- What a token says at the start, and what each call makes of it.
-use Rattle.std.specs.Prelude.{◌≡◌, ◌≢◌, ◌⊎◌, ℕ, Bool, true, false, ◌+◌, ◌-◌, ◌<◌, ◌≤◌, List, [], ◌∷◌, ◌++◌, length, nat_lt, Option, Some, None, if◌then◌else◌}
+use Rattle.std.specs.Prelude.{◌≡◌, ◌≢◌, ◌⊎◌, ℕ, Bool, true, false, ◌+◌, ◌-◌, ◌^◌, ◌<◌, ◌≤◌, List, [], ◌∷◌, ◌++◌, length, nat_lt, Option, Some, None, if◌then◌else◌}
 use mathlib.Core.List.{IsPrefix}
 use mathlib.Core.Option as maybe
 use Rattle.atomic_table.specs.Table.{Me, Step, rest}
@@ -111,7 +111,7 @@ module _ {T : Type 0} where
   -- the try of the holder word: at 0 it has won, and the slot is the seat's; else it found another seat's number
   abbrev pub Tries : {R : Type 0} → (T → R) → (T → List Event) → Step (Option T) → Sat T → ℕ → Sat T → Type 0
   Tries root events st m n m' = (n ≡ 0 → (x : T) × IsWhole root events m.0 x × (m' ≡ (holding m.0 (events x), (0, Some x) ∷ m.1)))
-      × (n ≢ 0 → IsOther m.0.made m.0.number n × (n < 4294967296) × (m' ≡ (failed m.0 n, m.1)))
+      × (n ≢ 0 → IsOther m.0.made m.0.number n × (n < 2 ^ 32) × (m' ≡ (failed m.0 n, m.1)))
 
   -- the exchange of the length, which is told the value
   abbrev pub Records : (T → List Event) → Step (Option T) → Sat T → ℕ → Sat T → Type 0

@@ -1,7 +1,7 @@
 use crate::log::Log;
 use std::test::Fail;
 use wdf_base::{Cpu, Event};
-use wdf_turn::{Attempt, Turn};
+use wdf_turn::{Attempt, Chronicle, Seat, Turn};
 
 const STEP: Event = Event::Local {
     cpu: Cpu(0),
@@ -46,13 +46,18 @@ fn shared<X: Sync>(_value: &X) {}
 
 fn sent<X: Send>(_value: &X) {}
 
+// A turnstile may be shared and its seats sent, where the value may be sent.
+fn may_cross<T: Chronicle + Send>(turn: &Turn<T>, seat: &Seat<T>) {
+    shared(turn);
+    sent(seat);
+}
+
 #[test]
 fn turnstiles_are_shared_and_seats_are_sent(rt: HostRuntime) -> Result<(), Fail> {
     let Ok((turn, first)) = Turn::make(rt.alloc(), 1, Log::new(rt.alloc(), 7)) else {
         panic!(rt; "there is memory")
     };
-    shared(&turn);
-    sent(&first);
+    may_cross(&turn, &first);
     let log = turn.close(first);
     assert_eq!(rt; log.events.len(), 0);
     Ok(())
