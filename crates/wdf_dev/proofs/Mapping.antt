@@ -16,7 +16,7 @@ changed_next f (y ∷ ys) (suc k) d h = ap (λ zs. f y ∷ zs) (changed_next f y
 
 -- ---- an entry that is there
 
-there : {T : Type 0} (xs : List T) (k : ℕ) (d : T) → k < length xs → slice_get xs k ≡ Some (slice_index_or xs k d)
+pub there : {T : Type 0} (xs : List T) (k : ℕ) (d : T) → k < length xs → slice_get xs k ≡ Some (slice_index_or xs k d)
 there [] k d h = absurd (omega (arith, h))
 there (y ∷ ys) zero d h = refl
 there (y ∷ ys) (suc k) d h = there ys k d (omega (arith, h))

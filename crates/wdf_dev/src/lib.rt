@@ -3,11 +3,14 @@
 
 mod any;
 mod app;
+mod device;
+mod device_lines;
 mod least;
 mod lower_target;
 mod pnp_manager;
 
 pub use any::{AnyAgent, agents};
 pub use app::App;
+pub use device::Device;
 pub use lower_target::LowerTarget;
 pub use pnp_manager::PnpManager;
