@@ -20,7 +20,7 @@ one_more_mapped f xs k x h = ap (map f) (take_next xs k x h) ∙ map_last f (tak
 pub kept : {S T : Type 0} (f : S → Option T) (xs : List S) (k : ℕ) (x : S) (y : T) → slice_get xs k ≡ Some x → f x ≡ Some y → filter_map f (take (suc k) xs) ≡ filter_map f (take k xs) ++ y ∷ []
 kept f xs k x y h e = rw (take_next xs k x h, filter_map-append, e) refl
 
-append_none : {T : Type 0} (xs : List T) → xs ++ [] ≡ xs
+pub append_none : {T : Type 0} (xs : List T) → xs ++ [] ≡ xs
 append_none [] = refl
 append_none (x ∷ xs) = ap (λ zs. x ∷ zs) (append_none xs)
 

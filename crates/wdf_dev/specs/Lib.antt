@@ -1,3 +1,4 @@
 pub mod Actions
 pub mod Agents
 pub mod Least
+pub mod Owners
