@@ -1,8 +1,13 @@
-//! The agents: what acts on the framework from outside. So far only apps act.
+//! The agents: what acts on the framework from outside. Each is a fold of the events of the run.
 #![tactic(auto)]
 
 mod any;
 mod app;
+mod least;
+mod lower_target;
+mod pnp_manager;
 
 pub use any::{AnyAgent, agents};
 pub use app::App;
+pub use lower_target::LowerTarget;
+pub use pnp_manager::PnpManager;

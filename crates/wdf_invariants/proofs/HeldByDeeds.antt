@@ -175,7 +175,6 @@ forgotten_holder R T o x (inl e) =
     rw e (ap (held_by (is_forgotten T o)) (set_read no_request forgotten R.all o refl) ∙ forgotten_unheld (is_forgotten T o) (request_of R o) (is_over (request_of R o)) refl)
 forgotten_holder R T o x (inr n) = ap (held_by (is_forgotten T x)) (entry_set_other no_request R.all o x (forgotten (request_of R o)) n)
 
-
 pub deed_holds : {A : Type 0} (plan : Plan) (d : Deed) (S : State A) → fits plan d S ≡ true → Placed S → HoldsIn plan S → HoldsIn plan (do_deed plan d S)
 deed_holds plan (Make_request class parent) S f k h = entered_unheld S place.Owned (made_info (nearest_device S.tree parent)) k h (λ forgotten. refl) (λ p. refl)
 deed_holds plan (Arrive device info p) S f k h = arrives_there plan S device info p k h (both_right _ (is_arrival_place p) f)

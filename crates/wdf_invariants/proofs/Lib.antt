@@ -23,3 +23,4 @@ pub mod StepEvents
 pub mod StepTable
 pub mod StepsOverRuns
 pub mod DeclaredOverRuns
+pub mod WaitsOverRuns

@@ -7,6 +7,7 @@ use Rattle.wdf_base.specs.declared.declared.Declared.{Declared}
 use Rattle.wdf_base.specs.declared.declared.DeviceInfo.{DeviceInfo}
 use Rattle.wdf_base.specs.declared.event.Event.{Event}
 use Rattle.wdf_base.specs.declared.event.Event.TheVariants as event
+use Rattle.wdf_model.specs.laws.OverRuns.{FramesAgree}
 use Rattle.wdf_model.specs.Tables.{entry, flag}
 use Rattle.wdf_model.specs.Plans.{declared_ids, device_of, devices_of}
 use Rattle.wdf_model.specs.parts.Tree.{declared_node, gone, is_gone, life_of, opening_tree, parent_of}
@@ -106,3 +107,8 @@ steps_agree_at_each plan m run is_run n =
     (λ d. equal (count_by (λ f. is_step_frame d (frame_of S.cpus f)) (all_frames S.cpus)) (if is_running_step S.pnp d then 1 else 0)
     ((steps_at_each plan m run is_run n).stepping.steps d ∙ flag_by (is_running_step S.pnp d)))
     (devices_of plan)
+
+pub frames_agree_at_each : {A : Type 0} (plan : Plan) (m : Meaning A) (run : List Event) → IsRunOf plan m run → (n : ℕ) → FramesAgree (state_after plan m (take n run))
+frames_agree_at_each plan m run is_run n =
+    let framed = (steps_at_each plan m run is_run n).framed in
+    record { once = framed.once; numbered = framed.old; device = framed.known; object = framed.there }

@@ -1,5 +1,5 @@
 -- What is so at each place of every run, whatever the plan and the agents are.
-use Rattle.std.specs.Prelude.{ℕ, ◌≡◌, ◌≤◌, ◌==◌, Bool, true, false, ◌&&◌, List, count_by, take, Option, Some, None, slice_get, option_and_then}
+use Rattle.std.specs.Prelude.{ℕ, ◌≡◌, ◌≤◌, ◌<◌, ◌==◌, length, Bool, true, false, ◌&&◌, List, count_by, take, Option, Some, None, slice_get, option_and_then}
 use Rattle.std.specs.List.{list_any}
 use Rattle.wdf_base.specs.declared.plan.Plan.{Plan}
 use Rattle.wdf_base.specs.declared.ids.Handle.{Handle}
@@ -14,7 +14,8 @@ use Rattle.wdf_base.specs.declared.event.Post.{Post}
 use Rattle.wdf_base.specs.declared.event.Post.TheVariants as post
 use Rattle.wdf_base.specs.Same.{same_call_kind}
 use Rattle.wdf_model.specs.Tables.{flag}
-use Rattle.wdf_model.specs.parts.Tree.{kind_of}
+use Rattle.wdf_model.specs.parts.Tree.{kind_of, nearest_device}
+use Rattle.wdf_model.specs.parts.Cpus.{all_frames, frame_of}
 use Rattle.wdf_model.specs.parts.Requests.{is_queued_in, is_sent_to, place_of}
 use Rattle.wdf_model.specs.parts.Queues.{waiting_in}
 use Rattle.wdf_model.specs.parts.Targets.{the_target}
@@ -37,6 +38,13 @@ pub record PlacesAgree {A : Type 0} (S : State A) : Type 0 where
 -- An object of a kind that only the scenario declares is a declared one, of that kind.
 pub record DeclaredAgree {A : Type 0} (plan : Plan) (S : State A) : Type 0 where
   pub declared : (o : ℕ) → is_declared_kind (kind_of S.tree o) ≡ true → option_and_then declared_kind (declared_of plan o) ≡ Some (kind_of S.tree o)
+
+-- Each frame is there once, on a processor or parked; its number is that of an event of the run; and it knows the nearest device of its object.
+pub record FramesAgree {A : Type 0} (S : State A) : Type 0 where
+  pub once : (f : ℕ) → count_by (λ x. x == f) (all_frames S.cpus) ≤ 1
+  pub numbered : (f : ℕ) → 1 ≤ count_by (λ x. x == f) (all_frames S.cpus) → f ≤ S.number
+  pub device : (f : ℕ) → 1 ≤ count_by (λ x. x == f) (all_frames S.cpus) → (frame_of S.cpus f).device.id.0 ≡ nearest_device S.tree (frame_of S.cpus f).object.id.0
+  pub object : (f : ℕ) → 1 ≤ count_by (λ x. x == f) (all_frames S.cpus) → (frame_of S.cpus f).object.id.0 < length S.tree.nodes
 
 -- an event completes a request: the driver's call, or the framework
 abbrev pub completes : ℕ → Event → Bool

@@ -1,0 +1,3 @@
+pub mod DpcLists
+pub mod QueuedWork
+pub mod TimersThatFire

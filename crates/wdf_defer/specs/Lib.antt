@@ -1,0 +1,3 @@
+pub mod Dpcs
+pub mod Timers
+pub mod WorkItems

@@ -1,0 +1,5 @@
+pub mod Ids
+pub mod Tallies
+pub mod Readers
+pub mod Waking
+pub mod Least

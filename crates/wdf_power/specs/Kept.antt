@@ -1,0 +1,19 @@
+-- What the code keeps of power, and what holds of it.
+use Rattle.std.specs.Prelude.{◌≡◌, ◌≤◌, length, vec_capacity}
+use Rattle.wdf_model.specs.declared.room.TheConstants.{OBJECTS}
+use Rattle.wdf_model.specs.parts.Power as power
+use Rattle.wdf_power.specs.declared.power.Power.TheInside.{Inside}
+use Rattle.wdf_power.specs.Power.{Tallies, due_at, unsettled_at}
+
+-- the power that is kept
+abbrev pub power_in : Inside → power.Power
+power_in a = record { devices = a.devices.items; queues = a.queues.items; holdings = a.holdings.items }
+
+-- there is room for every request, and each device has its counts
+pub record IsSound (a : Inside) : Type 0 where
+  pub room : OBJECTS ≤ vec_capacity a.holdings
+  pub within : length a.holdings.items ≤ OBJECTS
+  pub unsettled_long : length a.unsettled ≡ length a.devices.items
+  pub due_long : length a.due ≡ length a.devices.items
+  pub unsettled : Tallies a.holdings.items (unsettled_at a.queues.items) a.unsettled
+  pub due : Tallies a.holdings.items (due_at a.queues.items) a.due

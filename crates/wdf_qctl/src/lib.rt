@@ -1,0 +1,7 @@
+//! Queue control: the modes of the queues, their notification, and the devices that are closed.
+#![tactic(auto)]
+
+mod control;
+mod modes;
+
+pub use control::Control;

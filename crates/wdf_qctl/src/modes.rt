@@ -1,0 +1,87 @@
+//! What a mode says, and the opening of the queues.
+
+ghost use Rattle.std.specs.Prelude.{◌≡◌, Some, IfOk, map};
+ghost use Rattle.wdf_model.specs.Plans.{as_queue};
+ghost use Rattle.wdf_model.specs.parts.Control as parts;
+
+use std::alloc::Global;
+use wdf_base::{Declared, Memory, ObjectId, Plan};
+use wdf_model::{Mode, QueueControl};
+
+/// The control of what is no queue.
+pub(crate) const NO_CONTROL: QueueControl = QueueControl {
+    device: ObjectId(0),
+    mode: Mode::Purged,
+    registered: false,
+    due: false,
+};
+
+/// Whether a queue of this mode takes new requests. (KMDF: in Started and Stopped)
+pub(crate) fn accepts_in(mode: Mode) -> bool
+    ensures { result ≡ parts.accepts_in mode }
+{
+    match mode {
+        Mode::Started | Mode::Stopped => true,
+        Mode::Drained | Mode::Purged => false,
+    }
+}
+
+/// Whether a queue of this mode presents requests. (KMDF: in Started and Drained)
+pub(crate) fn delivers_in(mode: Mode) -> bool
+    ensures { result ≡ parts.delivers_in mode }
+{
+    match mode {
+        Mode::Started | Mode::Drained => true,
+        Mode::Stopped | Mode::Purged => false,
+    }
+}
+
+/// The control of a declared object at the opening.
+fn opening_mode(declared: Declared) -> QueueControl
+    ensures { result ≡ parts.opening_mode (as_queue (Some declared)) }
+{
+    match declared {
+        Declared::Queue(queue) => QueueControl {
+            device: queue.device,
+            mode: Mode::Started,
+            registered: false,
+            due: false,
+        },
+        _ => NO_CONTROL,
+    }
+}
+
+/// The controls at the opening, by id.
+pub(crate) fn opening_controls(alloc: Global, plan: &Plan) -> Result<Vec<QueueControl>, Memory>
+    ensures { IfOk result (λ all. all.items ≡ (parts.opening_control plan.now).controls) }
+{
+    let mut all = Vec::with_capacity(alloc, 1 + plan.declared_len() as usize)?;
+    all.push(NO_CONTROL)?;
+    for k in 0..plan.declared_len() {
+        all.push(opening_mode(plan.declared(ObjectId(k + 1))))?;
+    }
+    Ok(all)
+}
+
+/// The control of a queue after a device is closed: Purged for that device's queues. (KMDF)
+fn shut_control(device: ObjectId, control: QueueControl) -> QueueControl
+    ensures { result ≡ parts.shut_control device.0 control }
+{
+    if control.device.0 == device.0 {
+        QueueControl {
+            mode: Mode::Purged,
+            ..control
+        }
+    } else {
+        control
+    }
+}
+
+/// Purges the queues of a device that is closed. (KMDF)
+pub(crate) fn purge_all(controls: &mut [QueueControl], device: ObjectId)
+    ensures { controls.new ≡ map (parts.shut_control device.0) controls.old }
+{
+    for control in controls.iter_mut() {
+        *control = shut_control(device, *control);
+    }
+}

@@ -1,0 +1,221 @@
+ghost use Rattle.std.specs.Prelude.{◌≡◌, ℕ, ◌+◌, ◌<◌, ◌≤◌, IfOk, Some, if◌then◌else◌, drop, false, is_some, length, option_map, replicate, slice_get};
+ghost use Rattle.wdf_model.specs.Tables.{put};
+ghost use Rattle.wdf_model.specs.parts.Queues as parts;
+ghost use Rattle.wdf_model.specs.parts.Queues.{held_count, held_in, is_waiting, waiting_in};
+
+use crate::dispatch::{is_free_by, opening_dispatches};
+use std::alloc::Global;
+use std::marker::Model;
+use wdf_base::{DispatchKind, Memory, ObjectId, Plan};
+use wdf_ilist::Links;
+use wdf_maps::{entry_at, object_at};
+use wdf_model::{EVENTS, OBJECTS};
+
+/// Who waits in which queue, and how many requests the driver holds from each. A request waits in
+/// one queue at most. Each call but [`Queues::make`] takes no memory.
+#[derive(Drop)]
+pub struct Queues {
+    /// How each queue presents its requests, by id.
+    dispatch: Vec<DispatchKind>,
+    /// The waiting list of each queue, by id.
+    waiting: Links,
+    /// How many requests from each queue the driver holds, by id.
+    held: Vec<u32>,
+}
+
+impl Model for Queues {
+    ghost use Rattle.wdf_model.specs.parts.Queues.{Queues};
+
+    ghost Value = { Queues };
+
+    ghost use Rattle.wdf_queue.specs.Queues.{queues_in, IsWhole};
+
+    ghost view = { queues_in };
+
+    ghost invariant = { IsWhole };
+}
+
+impl Queues {
+    /// The queues at the opening of the plan's run: nothing waits, and nothing is held. It takes
+    /// all memory that the queues need.
+    pub fn make(alloc: Global, plan: &Plan) -> Result<Queues, Memory>
+        requires room { length plan.now.declared < OBJECTS }
+        ensures { IfOk result (λ made. made ≡ parts.opening_queues plan.now) }
+    {
+        let ids = 1 + plan.declared_len();
+        Ok(Queues {
+            dispatch: opening_dispatches(alloc, plan)?,
+            waiting: Links::make(alloc, ids, OBJECTS)?,
+            held: no_counts(alloc, ids as usize)?,
+        })
+    }
+
+    /// The request at the front of a queue, `None` exactly where none waits there.
+    pub fn head(&self, q: ObjectId) -> Option<ObjectId>
+        ensures { option_map (λ r. r.0) result ≡ parts.front self.now q.0 }
+    {
+        object_at(self.waiting.front(q.0))
+    }
+
+    /// How many requests wait in a queue.
+    pub fn len(&self, q: ObjectId) -> u32
+        ensures { result ≡ length (waiting_in self.now q.0) }
+    {
+        self.waiting.len(q.0)
+    }
+
+    /// Whether no request waits in a queue.
+    pub fn is_empty(&self, q: ObjectId) -> bool
+        ensures { result ≡ parts.is_empty_queue self.now q.0 }
+    {
+        self.waiting.is_empty(q.0)
+    }
+
+    /// Whether a request waits in some queue.
+    pub fn is_waiting(&self, r: ObjectId) -> bool
+        ensures { result ≡ is_waiting self.now r.0 }
+    {
+        self.waiting.owner(r.0).is_some()
+    }
+
+    /// The request that waits at a place of a queue, counted from 0 at the front; `None` past the
+    /// end. It goes over those before it.
+    pub fn waiting_at(&self, q: ObjectId, k: u32) -> Option<ObjectId>
+        ensures { option_map (λ r. r.0) result ≡ slice_get (waiting_in self.now q.0) k }
+    {
+        let mut found = self.waiting.front(q.0);
+        for place in 0..k {
+            found = self.waiting.after(found?);
+        }
+        object_at(found)
+    }
+
+    /// The request after this one in its waiting list: `None` where it is the last or doesn't wait.
+    pub fn next_waiting(&self, r: ObjectId) -> Option<ObjectId>
+        ensures { (q k : ℕ) → slice_get (waiting_in self.now q) k ≡ Some r.0 → option_map (λ x. x.0) result ≡ slice_get (waiting_in self.now q) (k + 1) }
+    {
+        let _queue = self.waiting.owner(r.0)?;
+        object_at(self.waiting.after(r.0))
+    }
+
+    /// How many requests from a queue the driver holds.
+    pub fn held(&self, q: ObjectId) -> u32
+        ensures { result ≡ parts.held_count self.now q.0 }
+    {
+        entry_at(&self.held, 0, q.0)
+    }
+
+    /// Whether a queue presents one more request. (KMDF: a sequential queue one at a time, a
+    /// parallel one up to its number, a manual one none of itself)
+    pub fn free(&self, q: ObjectId) -> bool
+        ensures { result ≡ parts.is_free self.now q.0 }
+    {
+        let dispatch = entry_at(&self.dispatch, DispatchKind::Manual, q.0);
+        is_free_by(dispatch, self.held(q))
+    }
+
+    /// A request enters a queue at the tail.
+    #[tactic(auto, using(wdf_model::proofs::Maps::put_within))]
+    pub fn enter(&mut self, q: ObjectId, r: ObjectId)
+        requires there { q.0 < length self.old.dispatch }
+        requires room { r.0 < OBJECTS }
+        requires apart { is_waiting self.old r.0 ≡ false }
+        ensures { self.new ≡ parts.enter self.old q.0 r.0 }
+    {
+        self.waiting.push_back(q.0, r.0);
+    }
+
+    /// A request enters a queue at the head.
+    #[tactic(auto, using(wdf_model::proofs::Maps::put_within))]
+    pub fn requeue(&mut self, q: ObjectId, r: ObjectId)
+        requires there { q.0 < length self.old.dispatch }
+        requires room { r.0 < OBJECTS }
+        requires apart { is_waiting self.old r.0 ≡ false }
+        ensures { self.new ≡ parts.requeue self.old q.0 r.0 }
+    {
+        self.waiting.push_front(q.0, r.0);
+    }
+
+    /// The front of a queue leaves it, and counts as held. `None` where none waits there, and then
+    /// nothing changes.
+    pub fn take(&mut self, q: ObjectId) -> Option<ObjectId>
+        requires there { q.0 < length self.old.dispatch }
+        requires few { held_in self.old < EVENTS }
+        ensures front { option_map (λ r. r.0) result ≡ parts.front self.old q.0 }
+        ensures done { self.new ≡ (if is_some result then parts.take self.old q.0 else self.old) }
+        ensures many { held_in self.new ≤ held_in self.old + 1 }
+    {
+        let front = self.head(q)?;
+        self.drop_front(q);
+        self.hold(q);
+        Some(front)
+    }
+
+    /// The front of a queue leaves it.
+    #[tactic(auto, using(wdf_model::proofs::Maps::put_within))]
+    fn drop_front(&mut self, q: ObjectId)
+        requires there { q.0 < length self.old.dispatch }
+        ensures rest { self.new ≡ parts.with_waiting self.old q.0 (drop 1) }
+        ensures size { length self.new.waiting ≡ length self.old.waiting }
+    {
+        let _front = self.waiting.pop_front(q.0);
+    }
+
+    /// The driver holds one request more from a queue.
+    pub fn hold(&mut self, q: ObjectId)
+        requires there { q.0 < length self.old.dispatch }
+        requires few { held_in self.old < EVENTS }
+        ensures done { self.new ≡ parts.hold self.old q.0 }
+        ensures many { held_in self.new ≡ held_in self.old + 1 }
+    {
+        let held = self.held(q) + 1;
+        self.write_held(q, held);
+    }
+
+    /// The driver holds one request less from a queue; nothing changes where it holds none.
+    pub fn let_go(&mut self, q: ObjectId)
+        requires { q.0 < length self.old.dispatch }
+        ensures done { self.new ≡ parts.let_go self.old q.0 }
+        ensures many { held_in self.new ≤ held_in self.old }
+    {
+        let held = self.held(q).saturating_sub(1);
+        self.write_held(q, held);
+    }
+
+    /// Writes how many requests from a queue the driver holds.
+    #[tactic(auto, using(crate::proofs::Sums::sum_put, wdf_model::proofs::Maps::put_within))]
+    fn write_held(&mut self, q: ObjectId, held: u32)
+        requires { q.0 < length self.old.dispatch }
+        ensures done { self.new ≡ record self.old { held = put 0 self.old.held q.0 held } }
+        ensures many { held_in self.new + held_count self.old q.0 ≡ held_in self.old + held }
+    {
+        self.held[q.0 as usize] = held;
+    }
+
+    /// A request leaves the queue in which it waits: false, and nothing changes, exactly where it
+    /// waits in none.
+    pub fn take_cancelled(&mut self, r: ObjectId) -> bool
+        ensures found { result ≡ is_waiting self.old r.0 }
+        ensures done { self.new ≡ parts.take_cancelled self.old r.0 }
+    {
+        self.waiting.unlink(r.0).is_some()
+    }
+
+    /// Nothing waits in a queue any more.
+    pub fn clear(&mut self, q: ObjectId)
+        requires { q.0 < length self.old.dispatch }
+        ensures { self.new ≡ parts.clear self.old q.0 }
+    {
+        let _ids = &self.dispatch;
+        while !self.is_empty(q) {
+            self.drop_front(q);
+        }
+    }
+}
+
+/// A count of 0 for each id.
+fn no_counts(alloc: Global, ids: usize) -> Result<Vec<u32>, Memory>
+    ensures { IfOk result (λ counts. counts.items ≡ replicate ids 0) }
+{
+    Ok(vec![in alloc; 0; ids]?)
+}

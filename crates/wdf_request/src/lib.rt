@@ -1,0 +1,9 @@
+//! The requests: where each is, whether it is cancelable, and what is kept of it.
+#![tactic(auto)]
+
+mod change;
+mod counts;
+mod keys;
+mod requests;
+
+pub use requests::Requests;

@@ -1,0 +1,169 @@
+-- Lemmas on ranks and members, for this crate and those that keep a set.
+use Rattle.std.proofs.Common.{ℕ, zero, suc, ◌≡◌, ◌⊎◌, ◌+◌, ◌-◌, ◌<◌, ◌≤◌, Bool, true, false, cond, List, [], ◌∷◌, ◌++◌, length, take, slice_set, Some, None, slice_get, refl, sym, subst, ap, ◌∙◌, inl, inr, arith}
+use Rattle.std.specs.List.{count_by, filter, range_with_len}
+use Rattle.std.proofs.lemmas.Bool.{cases_lt}
+use Rattle.std.proofs.lemmas.List.{append_assoc, length_push, take_all}
+use Rattle.std.proofs.lemmas.List.Sums.{count_by_more_yes, count_by_more_no, sum_by-cons}
+use Rattle.wdf_sets.specs.Members.{is_in, members, rank}
+
+-- 1 for a member
+abbrev pub one : Bool → ℕ
+one b = cond b 1 0
+
+rank_cons : (x : ℕ) (b : Bool) (bs : List Bool) → rank (suc x) (b ∷ bs) ≡ one b + rank x bs
+rank_cons x b bs = sum_by-cons one b (take x bs)
+
+more_by : (bits : List Bool) (x : ℕ) (b : Bool) → x < length bits → is_in x bits ≡ b → rank (x + 1) bits ≡ rank x bits + one b
+more_by bits x true h e = count_by_more_yes (λ b. b) bits x false h e
+more_by bits x false h e = count_by_more_no (λ b. b) bits x false h e ∙ omega arith
+
+-- one id more
+pub rank_more : (bits : List Bool) (x : ℕ) → x < length bits → rank (x + 1) bits ≡ rank x bits + one (is_in x bits)
+rank_more bits x h = more_by bits x (is_in x bits) h refl
+
+-- from the last id on
+pub rank_past : (bits : List Bool) (x : ℕ) → length bits ≤ x → rank x bits ≡ rank (length bits) bits
+rank_past bits x h = ap (count_by (λ b. b)) (take_all x bits h ∙ sym (take_all (length bits) bits (omega arith)))
+
+-- ranks rise
+rank_rises : (bits : List Bool) (x n : ℕ) → rank x bits ≤ rank (x + n) bits
+rank_rises [] zero zero = omega arith
+rank_rises [] (suc x) zero = omega arith
+rank_rises [] zero (suc n) = omega arith
+rank_rises [] (suc x) (suc n) = omega arith
+rank_rises (b ∷ bs) zero n = omega arith
+rank_rises (b ∷ bs) (suc x) n =
+    let e : suc x + n ≡ suc (x + n) = omega arith in
+    let h : rank x bs ≤ rank (x + n) bs = rank_rises bs x n in
+    rw (e, rank_cons x b bs, rank_cons (x + n) b bs) (omega arith)
+
+pub rank_mono : (bits : List Bool) (x y : ℕ) → x ≤ y → rank x bits ≤ rank y bits
+rank_mono bits x y h = let e : x + (y - x) ≡ y = omega arith in subst (λ z. rank x bits ≤ rank z bits) e (rank_rises bits x (y - x))
+
+-- there are no more members below an id than ids
+pub rank_le : (bits : List Bool) (x : ℕ) → rank x bits ≤ x
+rank_le bits zero = omega arith
+rank_le [] (suc x) = omega arith
+rank_le (b ∷ bs) (suc x) =
+    let h : rank x bs ≤ x = rank_le bs x in
+    rw (rank_cons x b bs) (by_bit b h)
+  where
+    by_bit : (b : Bool) → rank x bs ≤ x → one b + rank x bs ≤ suc x
+    by_bit true h = omega arith
+    by_bit false h = omega arith
+
+-- a lower rank is that of a lower id
+pub rank_below : (bits : List Bool) (x y : ℕ) → rank x bits < rank y bits → x < y
+rank_below bits x y h = by_order (cases_lt x y)
+  where
+    by_order : (x < y) ⊎ (y ≤ x) → x < y
+    by_order (inl l) = l
+    by_order (inr g) = absurd (let m : rank y bits ≤ rank x bits = rank_mono bits y x g in omega arith)
+
+-- ---- a bit is written
+
+-- below the id nothing changes
+pub rank_set_below : (bits : List Bool) (x y : ℕ) (on : Bool) → y ≤ x → rank y (slice_set bits x on) ≡ rank y bits
+rank_set_below bits x zero on h = refl
+rank_set_below [] x (suc y) on h = refl
+rank_set_below (b ∷ bs) zero (suc y) on h = absurd (omega arith)
+rank_set_below (b ∷ bs) (suc x) (suc y) on h =
+    let rest : rank y (slice_set bs x on) ≡ rank y bs = rank_set_below bs x y on (omega arith) in
+    rank_cons y b (slice_set bs x on) ∙ ap (λ n. one b + n) rest ∙ sym (rank_cons y b bs)
+
+-- above it the new bit counts for the old one
+pub rank_set_above : (bits : List Bool) (x y : ℕ) (on : Bool) → x < y → x < length bits → rank y (slice_set bits x on) + one (is_in x bits) ≡ rank y bits + one on
+rank_set_above [] x y on h l = absurd (omega arith)
+rank_set_above (b ∷ bs) x zero on h l = absurd (omega arith)
+rank_set_above (b ∷ bs) zero (suc y) on h l = rw (rank_cons y on bs, rank_cons y b bs) (omega arith)
+rank_set_above (b ∷ bs) (suc x) (suc y) on h l =
+    let rest : rank y (slice_set bs x on) + one (is_in x bs) ≡ rank y bs + one on = rank_set_above bs x y on (omega arith) (omega arith) in
+    rw (rank_cons y b (slice_set bs x on), rank_cons y b bs) (omega arith)
+
+-- ---- members
+
+-- the members of bits that begin with this id
+members_from : ℕ → List Bool → List ℕ
+members_from n [] = []
+members_from n (b ∷ bs) = cond b (n ∷ members_from (n + 1) bs) (members_from (n + 1) bs)
+
+in_after : (front : List Bool) (b : Bool) (bs : List Bool) → is_in (length front) (front ++ b ∷ bs) ≡ b
+in_after [] b bs = refl
+in_after (a ∷ front) b bs = in_after front b bs
+
+filtered : (front bits : List Bool) → filter (λ x. is_in x (front ++ bits)) (range_with_len (length front) (length bits)) ≡ members_from (length front) bits
+unfolding members_from
+filtered front [] = refl
+filtered front (b ∷ bs) =
+    let joined : (front ++ b ∷ []) ++ bs ≡ front ++ b ∷ bs = append_assoc front (b ∷ []) bs in
+    let n : length (front ++ b ∷ []) ≡ length front + 1 = length_push front b in
+    let rest : filter (λ x. is_in x (front ++ b ∷ bs)) (range_with_len (length front + 1) (length bs)) ≡ members_from (length front + 1) bs
+    = subst (λ z. filter (λ x. is_in x z) (range_with_len (length front + 1) (length bs)) ≡ members_from (length front + 1) bs) joined
+    (subst (λ z. filter (λ x. is_in x ((front ++ b ∷ []) ++ bs)) (range_with_len z (length bs)) ≡ members_from z bs) n (filtered (front ++ b ∷ []) bs)) in
+    rw (in_after front b bs) (ap (λ z. cond b (length front ∷ z) z) rest)
+
+members_are : (bits : List Bool) → members bits ≡ members_from 0 bits
+members_are bits = filtered [] bits
+
+member_from : (bits : List Bool) (n x : ℕ) → is_in x bits ≡ true → slice_get (members_from n bits) (rank x bits) ≡ Some (n + x)
+unfolding members_from
+member_from [] n x on = absurd (let z : ⊥ = cc in z)
+member_from (true ∷ bs) n zero on = ap Some (omega arith)
+member_from (false ∷ bs) n zero on = absurd (let z : ⊥ = cc in z)
+member_from (true ∷ bs) n (suc x) on =
+    let rest : slice_get (members_from (n + 1) bs) (rank x bs) ≡ Some (n + 1 + x) = member_from bs (n + 1) x on in
+    let e : rank (suc x) (true ∷ bs) ≡ suc (rank x bs) = rank_cons x true bs ∙ omega arith in
+    let f : n + 1 + x ≡ n + suc x = omega arith in
+    rw e (rest ∙ ap Some f)
+member_from (false ∷ bs) n (suc x) on =
+    let rest : slice_get (members_from (n + 1) bs) (rank x bs) ≡ Some (n + 1 + x) = member_from bs (n + 1) x on in
+    let e : rank (suc x) (false ∷ bs) ≡ rank x bs = rank_cons x false bs ∙ omega arith in
+    let f : n + 1 + x ≡ n + suc x = omega arith in
+    rw e (rest ∙ ap Some f)
+
+-- a member is at its rank
+pub member_at_rank : (bits : List Bool) (x : ℕ) → is_in x bits ≡ true → slice_get (members bits) (rank x bits) ≡ Some x
+member_at_rank bits x on = rw (members_are bits) (member_from bits 0 x on ∙ ap Some (omega arith))
+
+length_from : (bits : List Bool) (n : ℕ) → length (members_from n bits) ≡ rank (length bits) bits
+unfolding members_from
+length_from [] n = refl
+length_from (true ∷ bs) n = rw (rank_cons (length bs) true bs) (let rest : length (members_from (n + 1) bs) ≡ rank (length bs) bs = length_from bs (n + 1) in omega arith)
+length_from (false ∷ bs) n = rw (rank_cons (length bs) false bs) (let rest : length (members_from (n + 1) bs) ≡ rank (length bs) bs = length_from bs (n + 1) in omega arith)
+
+-- how many members there are
+pub length_members : (bits : List Bool) → length (members bits) ≡ rank (length bits) bits
+length_members bits = ap length (members_are bits) ∙ length_from bits 0
+
+get_past : (xs : List ℕ) (k : ℕ) → length xs ≤ k → slice_get xs k ≡ None
+get_past [] k h = refl
+get_past (x ∷ xs) zero h = absurd (omega arith)
+get_past (x ∷ xs) (suc k) h = get_past xs k (omega arith)
+
+-- from their number on there is none
+pub no_member_at : (bits : List Bool) (k : ℕ) → rank (length bits) bits ≤ k → slice_get (members bits) k ≡ None
+no_member_at bits k h = let e : length (members bits) ≡ rank (length bits) bits = length_members bits in get_past (members bits) k (omega arith)
+
+-- ---- parts
+
+-- a part has no more members than ids
+pub rank_part : (bits : List Bool) (x n : ℕ) → rank (x + n) bits ≤ rank x bits + n
+rank_part [] zero n = let h : rank n [] ≤ 0 = none n in let e : zero + n ≡ n = omega arith in rw e (omega arith)
+  where
+    none : (k : ℕ) → rank k [] ≤ 0
+    none zero = omega arith
+    none (suc k) = omega arith
+rank_part [] (suc x) n = let e : suc x + n ≡ suc (x + n) = omega arith in rw e (omega arith)
+rank_part (b ∷ bs) zero n = let h : rank n (b ∷ bs) ≤ n = rank_le (b ∷ bs) n in let e : zero + n ≡ n = omega arith in rw e (omega arith)
+rank_part (b ∷ bs) (suc x) n =
+    let h : rank (x + n) bs ≤ rank x bs + n = rank_part bs x n in
+    let e : suc x + n ≡ suc (x + n) = omega arith in
+    rw (e, rank_cons x b bs, rank_cons (x + n) b bs) (omega arith)
+
+found_by : (bits : List Bool) (x k : ℕ) (b : Bool) → is_in x bits ≡ b → rank x bits ≤ k → k < rank x bits + one b → slice_get (members bits) k ≡ Some x
+found_by bits x k true e low high = let here : k ≡ rank x bits = omega arith in rw here (member_at_rank bits x e)
+found_by bits x k false e low high = absurd (omega arith)
+
+-- the member with as many before it, by the ranks around it
+pub member_between : (bits : List Bool) (x k : ℕ) → x < length bits → rank x bits ≤ k → k < rank (x + 1) bits → slice_get (members bits) k ≡ Some x
+member_between bits x k h low high = found_by bits x k (is_in x bits) refl low (let e : rank (x + 1) bits ≡ rank x bits + one (is_in x bits) = rank_more bits x h in omega arith)

@@ -1,0 +1,4 @@
+pub mod Members
+pub mod Words
+pub mod Parts
+pub mod Counted

@@ -1,0 +1,160 @@
+ghost use Rattle.std.specs.Prelude.{◌≡◌, ◌+◌, ◌*◌, ◌/◌, ◌<◌, ◌≤◌, ◌^◌, IfOk, false, length, replicate, slice_get, slice_set};
+ghost use Rattle.std.specs.Int.{div_ceil};
+ghost use Rattle.wdf_sets.specs.Members.{is_in, members, rank};
+ghost use Rattle.wdf_sets.specs.Parts.{HasMember, number_of};
+
+use crate::bits::{Bits, Part, WORD};
+use std::alloc::Global;
+use std::marker::Model;
+use wdf_base::Memory;
+
+/// How many ids are counted together.
+const BLOCK: u32 = 4096;
+
+/// How many words a block has.
+const BLOCK_WORDS: u32 = 64;
+
+/// A set of ids below a bound. No call looks at each id: the members of each 4,096 ids are counted.
+///
+/// Contracts see a list of bits, one for each id from 0.
+#[derive(Drop)]
+pub struct IdSet {
+    bits: Bits,
+    /// How many members each block has.
+    counts: Vec<u32>,
+    /// How many members there are.
+    len: u32,
+}
+
+impl Model for IdSet {
+    ghost use Rattle.std.specs.Prelude.{Bool, List};
+
+    ghost Value = { List Bool };
+
+    ghost use Rattle.wdf_sets.specs.Counted.{IsCounted};
+
+    ghost view = { λ s. s.bits };
+
+    ghost invariant = { IsCounted };
+}
+
+impl IdSet {
+    /// The empty set of ids below a bound, which is rounded up to a multiple of 4,096. All memory is
+    /// taken here. On [`Memory`] nothing is made.
+    pub fn make(alloc: Global, bound: u32) -> Result<IdSet, Memory>
+        requires { bound < 2 ^ 31 }
+        ensures { IfOk result (λ set. set ≡ replicate (4096 * div_ceil bound 4096) false) }
+    {
+        let blocks = bound.div_ceil(BLOCK);
+        Ok(IdSet {
+            bits: Bits::make(alloc, BLOCK_WORDS * blocks)?,
+            counts: vec![in alloc; 0; blocks as usize]?,
+            len: 0,
+        })
+    }
+
+    /// How many members there are.
+    pub fn len(&self) -> u32
+        ensures { result ≡ length (members self.now) }
+    {
+        self.len
+    }
+
+    /// Whether an id is a member: none is from the bound on.
+    pub fn contains(&self, id: u32) -> bool
+        ensures { result ≡ is_in id self.now }
+    {
+        self.bits.get(id)
+    }
+
+    /// Makes an id a member, or takes it out.
+    pub fn put(&mut self, id: u32, on: bool)
+        requires { id < length self.old }
+        ensures { self.new ≡ slice_set self.old id on }
+    {
+        if self.bits.get(id) == on {
+            return;
+        }
+        self.bits.set(id, on);
+        let count = &mut self.counts[(id / BLOCK) as usize];
+        if on {
+            *count += 1;
+            self.len += 1;
+        } else {
+            *count -= 1;
+            self.len -= 1;
+        }
+    }
+
+    /// How many members are below an id.
+    pub fn before(&self, id: u32) -> u32
+        ensures { result ≡ rank id self.now }
+    {
+        if (id / BLOCK) as usize >= self.counts.len() {
+            return self.len;
+        }
+        let below = self.before_block(id / BLOCK) + self.before_word(id);
+        below + self.bits.count_part(id - id % WORD, id % WORD)
+    }
+
+    /// How many members are below a block.
+    fn before_block(&self, block: u32) -> u32
+        requires { 4096 * block ≤ length self.now }
+        ensures { result ≡ rank (4096 * block) self.now }
+    {
+        let mut below = 0;
+        for counted in 0..block {
+            below += self.counts[counted as usize];
+        }
+        below
+    }
+
+    /// How many members of an id's block are below its word.
+    fn before_word(&self, id: u32) -> u32
+        requires { id < length self.now }
+        ensures { result + rank (4096 * (id / 4096)) self.now ≡ rank (64 * (id / 64)) self.now }
+    {
+        let mut below = 0;
+        for word in id / BLOCK * BLOCK_WORDS..id / WORD {
+            below += self.bits.count_word(WORD * word);
+        }
+        below
+    }
+
+    /// The member that has as many before it, `None` where there are no more than these.
+    pub fn at(&self, k: u32) -> Option<u32>
+        ensures { result ≡ slice_get (members self.now) k }
+    {
+        if self.len <= k {
+            return None;
+        }
+        let word = self.bits.word_of(self.block_of(k));
+        Some(self.bits.member_in(word))
+    }
+
+    /// The first member from an id on, `None` where there is none.
+    pub fn from(&self, id: u32) -> Option<u32>
+        ensures { result ≡ slice_get (members self.now) (rank id self.now) }
+    {
+        self.at(self.before(id))
+    }
+
+    /// The block of the member that has as many before it.
+    fn block_of(&self, k: u32) -> Part
+        requires { k < rank (length self.now) self.now }
+        ensures number { number_of self.now result ≡ k }
+        ensures block { HasMember self.now result 4096 }
+        ensures few { length self.now ≤ 2 ^ 31 }
+    {
+        let mut block = 0;
+        let mut skipped = k;
+        while self.counts[block as usize] <= skipped {
+            skipped -= self.counts[block as usize];
+            block += 1;
+        }
+        Part {
+            start: BLOCK * block,
+            skipped,
+        }
+    }
+}
