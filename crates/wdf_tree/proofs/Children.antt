@@ -84,7 +84,7 @@ no_child_or_gone false c = refl
 no_child_or_gone true false = refl
 no_child_or_gone true true = refl
 
-same_place : (ns : List Node) (j : ℕ) → entry gone ns (0 + j) ≡ entry gone ns j
+pub same_place : (ns : List Node) (j : ℕ) → entry gone ns (0 + j) ≡ entry gone ns j
 same_place ns j = ap (entry gone ns) (omega arith)
 
 all_clean : (T : Tree) (o : ℕ) → list_all (is_clean_under o) T.nodes ≡ list_all (λ x. is_past_cleanup (life_of T x)) (children T o)

@@ -22,7 +22,7 @@ use Rattle.wdf_tree.specs.Kin.{HoldsKin, is_kin, joined, places}
 place_off : (p : Node → Bool) (k : ℕ) (n : Node) (ns : List Node) → p n ≡ false → places p k (n ∷ ns) ≡ places p (k + 1) ns
 place_off p k n ns e = rw e refl
 
-place_on : (p : Node → Bool) (k : ℕ) (n : Node) (ns : List Node) → p n ≡ true → places p k (n ∷ ns) ≡ k ∷ places p (k + 1) ns
+pub place_on : (p : Node → Bool) (k : ℕ) (n : Node) (ns : List Node) → p n ≡ true → places p k (n ∷ ns) ≡ k ∷ places p (k + 1) ns
 place_on p k n ns e = rw e refl
 
 -- an item after which a list's rest is the same
@@ -39,7 +39,7 @@ off_past p k (n ∷ ns) x h = by_test (p n) refl (off_past p (k + 1) ns x (omega
     by_test true e rest = let other : k ≢ x = omega arith in rw (e, ne_eqb k x other) rest
     by_test false e rest = rw e rest
 
-off_before : (p : Node → Bool) (k : ℕ) (ns : List Node) (x : ℕ) → x < k → is_on x (places p k ns) ≡ false
+pub off_before : (p : Node → Bool) (k : ℕ) (ns : List Node) (x : ℕ) → x < k → is_on x (places p k ns) ≡ false
 off_before p k [] x h = refl
 off_before p k (n ∷ ns) x h = by_test (p n) refl (off_before p (k + 1) ns x (omega arith))
   where

@@ -3,3 +3,4 @@ pub mod Standing
 pub mod Marks
 pub mod Children
 pub mod Walks
+pub mod Firsts

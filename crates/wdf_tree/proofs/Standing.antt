@@ -24,7 +24,7 @@ use Rattle.wdf_tree.proofs.Kin.{holds_joined, holds_kept, holds_none, holds_off,
 
 -- ---- lists
 
-all_of_entry : {T : Type 0} (p : T → Bool) (blank : T) (xs : List T) (k : ℕ) → p blank ≡ true → list_all p xs ≡ true → p (entry blank xs k) ≡ true
+pub all_of_entry : {T : Type 0} (p : T → Bool) (blank : T) (xs : List T) (k : ℕ) → p blank ≡ true → list_all p xs ≡ true → p (entry blank xs k) ≡ true
 all_of_entry p blank [] k b h = b
 all_of_entry p blank (x ∷ xs) zero b h = (and_parts (p x) (list_all p xs) h).0
 all_of_entry p blank (x ∷ xs) (suc k) b h = all_of_entry p blank xs k b (and_parts (p x) (list_all p xs) h).1

@@ -1,6 +1,7 @@
 mod acts;
 mod deletion;
 mod making;
+mod order;
 mod readers;
 
 use std::marker::Model;
