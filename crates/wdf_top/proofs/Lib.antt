@@ -5,3 +5,4 @@ pub mod Causes
 pub mod Ended
 pub mod Messages
 pub mod Writing
+pub mod Taken
