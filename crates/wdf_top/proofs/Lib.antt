@@ -5,4 +5,5 @@ pub mod Causes
 pub mod Ended
 pub mod Messages
 pub mod Writing
+pub mod Sinks
 pub mod Taken
