@@ -7,3 +7,4 @@ pub mod Messages
 pub mod Writing
 pub mod Sinks
 pub mod Taken
+pub mod Serving
