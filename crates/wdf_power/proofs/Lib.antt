@@ -2,3 +2,5 @@ pub mod Tallies
 pub mod Readers
 pub mod Waking
 pub mod Least
+pub mod Members
+pub mod Held

@@ -1,6 +1,7 @@
 -- Counts by device, over the requests: one request of a map is written, and the counts move with it.
-use Rattle.std.proofs.Common.{if◌then◌else◌, ◌≡◌, ◌≢◌, ℕ, zero, suc, ◌+◌, ◌-◌, ◌<◌, ◌≤◌, ◌==◌, Bool, true, false, List, [], ◌∷◌, Option, Some, None, length, count_by, slice_index, slice_set, get_or-set_other, get_or-set_same, refl, sym, ap, ◌∙◌, arith}
+use Rattle.std.proofs.Common.{if◌then◌else◌, ◌≡◌, ◌≢◌, ℕ, zero, suc, ◌+◌, ◌-◌, ◌<◌, ◌≤◌, ◌==◌, Bool, true, false, List, [], ◌∷◌, Option, Some, None, length, count_by, replicate, slice_index, slice_set, get_or-set_other, get_or-set_same, refl, sym, ap, ◌∙◌, arith}
 use Rattle.std.proofs.lemmas.Bool.{eq-eqb, eqb-true}
+use Rattle.std.proofs.lemmas.List.{get_or-replicate, length-replicate}
 use Rattle.std.proofs.Math.ListN.{length-set}
 use Rattle.wdf_base.specs.declared.ids.ObjectId.{ObjectId}
 use Rattle.wdf_model.specs.declared.entries.Holding.{Holding}
@@ -103,3 +104,9 @@ tallies_kept device before after counts counts' r old new from to none a o f t m
     let from_is : from ≡ device (entry no_holding before r) = f ∙ ap device o in
     let counts_are : counts' ≡ moved counts (device (entry no_holding before r)) (device new) = m ∙ ap (λ x. moved counts x to) from_is ∙ ap (moved counts (device (entry no_holding before r))) t in
     rw (a, counts_are) (moves d (rw counts_are at within))
+
+-- nothing is counted at first
+pub tallies_none : (device : Holding → Option ObjectId) (holdings : List Holding) (counts : List ℕ) (n : ℕ) → counts ≡ replicate n 0 → holdings ≡ [] → Tallies holdings device counts
+tallies_none device holdings counts n e h d within =
+    let long : length counts ≡ n = ap length e ∙ length-replicate n 0 in
+    rw (e, h) (get_or-replicate n d 0 0 (omega arith))

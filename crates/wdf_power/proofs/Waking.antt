@@ -1,8 +1,9 @@
 -- The queues of a device come up: its held requests are woken one by one.
-use Rattle.std.proofs.Common.{◌⊎◌, inl, inr, ◌≡◌, ◌≢◌, ℕ, zero, suc, ◌+◌, ◌<◌, ◌≤◌, Bool, true, false, List, [], ◌∷◌, length, map, refl, sym, ap, ◌∙◌, arith}
+use Rattle.std.proofs.Common.{◌⊎◌, inl, inr, ◌≡◌, ◌≢◌, ℕ, zero, suc, ◌+◌, ◌-◌, ◌<◌, ◌≤◌, Bool, true, false, List, [], ◌∷◌, length, map, refl, sym, ap, ◌∙◌, arith}
+use Rattle.std.proofs.lemmas.Bool.{cases_lt}
 use Rattle.wdf_model.specs.declared.entries.Holding.{Holding}
 use Rattle.wdf_model.specs.Tables.{entry, put}
-use Rattle.wdf_model.specs.parts.Power.{Power, is_held_at, no_holding, woken}
+use Rattle.wdf_model.specs.parts.Power.{Power, is_held, is_held_at, no_holding, woken}
 use Rattle.wdf_model.proofs.Counts.{one_or_two}
 use Rattle.wdf_model.proofs.Maps.{as_long, entry_put_other, entry_put_same, put_within}
 
@@ -58,6 +59,18 @@ waking_more P now next d n w h e =
       awake = λ k l. rw hs (awake_more P d now.holdings n k (one_or_two k n) (λ m. w.awake k m) (omega arith));
     }
 
+-- who isn't held is awake
+asleep_none : (P : Power) (d : ℕ) (h : Holding) → is_held h ≡ false → woken P d h ≡ h
+asleep_none P d h e = rw e refl
+
+pub waking_skip : (P now : Power) (d n m : ℕ) → Waking P now d n → ((k : ℕ) → n ≤ k → k < m → is_held (entry no_holding now.holdings k) ≡ false) → Waking P now d m
+waking_skip P now d n m w none = record {
+  devices = w.devices;
+  queues = w.queues;
+  to_come = w.to_come;
+  awake = λ k l. elim (cases_lt k n) [ inl before ↦ w.awake k before | inr after ↦ asleep_none P d (entry no_holding now.holdings k) (none k after l) ];
+}
+
 -- all are awake
 pub waking_all : (P now : Power) (d n : ℕ) → Waking P now d n → length now.holdings ≤ n → now ≡ record P { holdings = map (woken P d) P.holdings }
 waking_all P now d n w h =
@@ -68,6 +81,9 @@ waking_all P now d n w h =
     let same : record { devices = now.devices; queues = now.queues; holdings = now.holdings } ≡ record { devices = P.devices; queues = P.queues; holdings = map (woken P d) P.holdings } = cc in
     same
 
--- as many requests as before
-pub put_keeps_length : (hs hs' : List Holding) (n m : ℕ) (new : Holding) → hs' ≡ put no_holding hs n new → n < length hs → length hs ≡ m → length hs' ≡ m
-put_keeps_length hs hs' n m new e h l = rw (e, put_within no_holding hs n new h) (as_long hs n new ∙ l)
+-- what is left of the requests shrinks
+pub fewer_left : (now next : Power) (n r : ℕ) (new : Holding) → next ≡ record now { holdings = put no_holding now.holdings r new } → n ≤ r → r < length now.holdings
+    → length next.holdings - (r + 1) < length now.holdings - n
+fewer_left now next n r new e h l =
+    let long : length next.holdings ≡ length now.holdings = ap (λ P. length P.holdings) e ∙ ap length (put_within no_holding now.holdings r new l) ∙ as_long now.holdings r new in
+    omega arith

@@ -1,13 +1,14 @@
 -- What the code keeps beside the power of devices and requests: counts by device.
-use Rattle.std.specs.Prelude.{if◌then◌else◌, ◌≡◌, ℕ, ◌<◌, Bool, false, ◌==◌, ◌&&◌, not, List, length, count_by, Option, Some, None, slice_index}
+use Rattle.std.specs.Prelude.{if◌then◌else◌, ◌≡◌, ℕ, ◌<◌, ◌≤◌, Bool, false, ◌==◌, ◌&&◌, not, List, length, count_by, Option, Some, None, slice_index}
 use Rattle.wdf_base.specs.declared.ids.ObjectId.{ObjectId}
 use Rattle.wdf_base.specs.declared.plan.Plan.{Plan}
 use Rattle.wdf_model.specs.declared.entries.DevicePower.{DevicePower}
 use Rattle.wdf_model.specs.declared.entries.QueuePower.{QueuePower}
 use Rattle.wdf_model.specs.declared.entries.Holding.{Holding}
+use Rattle.wdf_model.specs.declared.room.TheConstants.{OBJECTS}
 use Rattle.wdf_model.specs.Tables.{entry}
 use Rattle.wdf_model.specs.Plans.{device_of}
-use Rattle.wdf_model.specs.parts.Power.{is_held, no_queue_power, opening_device_power}
+use Rattle.wdf_model.specs.parts.Power.{Power, holding_of, is_held, no_queue_power, opening_device_power}
 
 -- the device of the queue that a request is held from
 abbrev pub device_at : List QueuePower → Holding → ObjectId
@@ -33,3 +34,9 @@ Tallies holdings device counts = (d : ℕ) → d < length counts → slice_index
 -- the power of an id at the opening
 abbrev pub opening_device_at : Plan → ℕ → DevicePower
 opening_device_at plan d = opening_device_power (device_of plan d)
+
+-- the request that is held and has the least id from this one on, none where nothing is held from there on
+abbrev pub IsNextHeld : Power → ℕ → Option ObjectId → Type 0
+IsNextHeld P id None = (k : ℕ) → id ≤ k → is_held (holding_of P k) ≡ false
+IsNextHeld P id (Some r) =
+    (id ≤ r.0) × (r.0 < length P.holdings) × (length P.holdings ≤ OBJECTS) × ((k : ℕ) → id ≤ k → k < r.0 → is_held (holding_of P k) ≡ false)

@@ -10,6 +10,7 @@ use std::marker::Model;
 use wdf_base::{Memory, ObjectId, Plan, Stage, Step};
 use wdf_maps::{entry_at, put_at};
 use wdf_model::{DevicePower, Holding, OBJECTS, QueuePower};
+use wdf_sets::IdSet;
 
 /// Of a device that there isn't.
 const NO_DEVICE_POWER: DevicePower = DevicePower {
@@ -33,7 +34,7 @@ const NO_HOLDING: Holding = Holding {
 
 /// Which devices have their queues up and their hardware, and how far the requests that the driver
 /// holds from power-managed queues are acknowledged, asked to stop, or due to go on. (KMDF)
-#[derive(Debug, Drop)]
+#[derive(Drop)]
 pub struct Power {
     /// By the device's id.
     devices: Vec<DevicePower>,
@@ -45,6 +46,8 @@ pub struct Power {
     unsettled: Tally,
     /// For how many requests a resume is due, by device.
     due: Tally,
+    /// The requests that are held.
+    held: IdSet,
 }
 
 impl Model for Power {
@@ -102,6 +105,7 @@ impl Power {
             holdings: Vec::with_capacity(alloc, OBJECTS as usize)?,
             unsettled: Tally::make(alloc, count)?,
             due: Tally::make(alloc, count)?,
+            held: IdSet::make(alloc, OBJECTS)?,
         })
     }
 
@@ -140,6 +144,16 @@ impl Power {
         is_held(&self.holding(r))
     }
 
+    /// The first request from an id on that is held, if there is one.
+    fn next_held(&self, id: u32) -> Option<ObjectId>
+        ensures { kept.IsNextHeld self.now id result }
+    {
+        match self.held.from(id) {
+            Some(r) => Some(ObjectId(r)),
+            None => None,
+        }
+    }
+
     /// Whether a held request is acknowledged.
     pub fn acknowledged(&self, r: ObjectId) -> bool
         ensures { result ≡ definition.acknowledged self.now r.0 }
@@ -175,6 +189,7 @@ impl Power {
         );
         self.due
             .change(due_at(&self.queues, &old), due_at(&self.queues, &new));
+        self.held.put(r.0, is_held(&new));
         put_at(&mut self.holdings, NO_HOLDING, r.0, new);
     }
 
@@ -254,11 +269,12 @@ impl Power {
     pub fn least_unsettled(&self, d: ObjectId) -> Option<ObjectId>
         ensures { option_map (λ r. r.0) result ≡ least (definition.unsettled self.now d.0) }
     {
-        for r in 0..self.holdings.len() as u32 {
-            let r = ObjectId(r);
+        let mut id = 0;
+        while let Some(r) = self.next_held(id) {
             if self.is_unsettled_at(d, r) {
                 return Some(r);
             }
+            id = r.0 + 1;
         }
         None
     }
@@ -326,9 +342,10 @@ impl Power {
     fn wake(&mut self, d: ObjectId)
         ensures { self.new ≡ definition.wake_holdings self.old d.0 }
     {
-        for r in 0..self.holdings.len() as u32 {
-            let r = ObjectId(r);
+        let mut id = 0;
+        while let Some(r) = self.next_held(id) {
             self.write(r, self.woken(d, self.holding(r)));
+            id = r.0 + 1;
         }
     }
 
