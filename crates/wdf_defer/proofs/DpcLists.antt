@@ -1,10 +1,10 @@
 -- Which processor's list has a DPC, and what comes after it there.
-use Rattle.std.proofs.Common.{ℕ, zero, suc, ◌≡◌, ◌≢◌, ◌+◌, ◌<◌, ◌==◌, ◌||◌, Bool, true, false, List, [], ◌∷◌, length, Option, Some, None, is_some, slice_get, refl, sym, subst, ap, ◌∙◌, arith}
+use Rattle.std.proofs.Common.{ℕ, zero, suc, ◌≡◌, ◌+◌, ◌<◌, ◌==◌, ◌||◌, Bool, true, false, List, [], ◌∷◌, Option, Some, None, is_some, slice_get, refl, sym, subst, ap, ◌∙◌, arith}
 use Rattle.std.specs.Option.{option_and_then}
 use Rattle.std.proofs.lemmas.Bool.{eq-eqb, eqb-true}
 use Rattle.std.proofs.lemmas.List.Quantifiers.{position-Some}
 use Rattle.wdf_model.specs.Tables.{same_id}
-use Rattle.wdf_ilist.specs.Family.{Family, is_on, is_on_any, list_at, list_of, first_of, after_on, after_in, are_distinct, AreApart}
+use Rattle.wdf_ilist.specs.Family.{Family, is_on, list_at, list_of, first_of, after_on, after_in, are_distinct, AreApart}
 use Rattle.wdf_ilist.proofs.Items.{first_once, rest_distinct}
 use Rattle.wdf_ilist.proofs.Lists.{off_each, some_list, list_of_first}
 

@@ -1,8 +1,8 @@
 -- What it leaves that a timer fires.
-use Rattle.std.proofs.Common.{if◌then◌else◌, ◌≡◌, ◌≢◌, ℕ, ◌+◌, Bool, true, false, ◌==◌, List, map, Option, Some, None, refl, sym, ap, ◌∙◌, subst, arith}
+use Rattle.std.proofs.Common.{if◌then◌else◌, ◌≡◌, ◌≢◌, ℕ, ◌+◌, Bool, true, false, ◌==◌, List, map, Some, None, sym, ap, ◌∙◌, arith}
 use Rattle.std.proofs.lemmas.Bool.Decides.{nat_tests}
 use Rattle.wdf_model.specs.declared.entries.Timed.{Timed}
-use Rattle.wdf_model.specs.parts.Deferred.Timers.{Timers, timed_of, fired, stop, later_by, without_timer}
+use Rattle.wdf_model.specs.parts.Deferred.Timers.{Timers, timed_of, fired, stop, later_by}
 use Rattle.wdf_rising.specs.Places.{rises, entry_of, with_entry}
 use Rattle.wdf_rising.proofs.EntriesById.{entry_key, map_present, map_absent, others_absent}
 use Rattle.wdf_defer.specs.Timers.{timer_id}

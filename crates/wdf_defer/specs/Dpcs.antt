@@ -1,5 +1,5 @@
 -- What the fields of the DPC lists say.
-use Rattle.std.specs.Prelude.{ℕ, ◌≡◌, ◌<◌, length}
+use Rattle.std.specs.Prelude.{◌≡◌}
 use Rattle.wdf_model.specs.declared.room.TheConstants.{OBJECTS}
 use Rattle.wdf_model.specs.parts.Deferred.Dpcs.{Dpcs}
 use Rattle.wdf_defer.specs.declared.dpcs.Dpcs.TheInside.{Inside}

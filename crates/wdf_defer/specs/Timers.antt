@@ -1,5 +1,5 @@
 -- What the fields of the timers say.
-use Rattle.std.specs.Prelude.{ℕ, ◌≡◌, max, List, map, fold, true}
+use Rattle.std.specs.Prelude.{ℕ, ◌≡◌, true}
 use Rattle.wdf_model.specs.declared.room.TheConstants.{OBJECTS}
 use Rattle.wdf_model.specs.declared.entries.Timed.{Timed}
 use Rattle.wdf_model.specs.parts.Deferred.Timers.{Timers}

@@ -1,16 +1,17 @@
-ghost use Rattle.std.specs.Prelude.{◌≡◌, ◌<◌, IfOk, Some, length, not, slice_get};
+ghost use Rattle.std.specs.Prelude.{◌≡◌, ◌<◌, ◌≤◌, ◌^◌, IfOk, Some, [], length, not, slice_get};
 ghost use Rattle.wdf_model.specs.parts.Deferred.WorkItems as work_items;
+ghost use Rattle.wdf_sets.specs.Members.{members};
 
 use std::alloc::Global;
 use std::marker::Model;
 use wdf_base::{Memory, ObjectId, Plan};
 use wdf_model::OBJECTS;
-use wdf_rising::Rising;
+use wdf_sets::IdSet;
 
 /// The queued work items. All calls but [`WorkItems::make`] take no memory.
 #[derive(Drop)]
 pub struct WorkItems {
-    queued: Rising<u32>,
+    queued: IdSet,
 }
 
 impl Model for WorkItems {
@@ -25,13 +26,22 @@ impl Model for WorkItems {
     ghost invariant = { HasWorkItems };
 }
 
+/// The empty set of ids below a bound.
+fn empty_set(alloc: Global, bound: u32) -> Result<IdSet, Memory>
+    requires { bound < 2 ^ 31 }
+    ensures members { IfOk result (λ set. members set ≡ []) }
+    ensures room { IfOk result (λ set. bound ≤ length set) }
+{
+    Ok(IdSet::make(alloc, bound)?)
+}
+
 impl WorkItems {
     /// No work item is queued. On [`Memory`] nothing is made.
     pub fn make(alloc: Global, _plan: &Plan) -> Result<WorkItems, Memory>
         ensures { IfOk result (λ made. made ≡ work_items.no_work_items) }
     {
         Ok(WorkItems {
-            queued: Rising::make(alloc, OBJECTS)?,
+            queued: empty_set(alloc, OBJECTS)?,
         })
     }
 
@@ -47,14 +57,14 @@ impl WorkItems {
         requires { k < length self.now.queued }
         ensures { slice_get self.now.queued k ≡ Some result.0 }
     {
-        ObjectId(self.queued.at(k))
+        ObjectId(self.queued.at(k).unwrap())
     }
 
     /// Whether the work item is queued.
     pub fn queued(&self, o: ObjectId) -> bool
         ensures { result ≡ work_items.is_work_queued self.now o.0 }
     {
-        self.queued.get(o).is_some()
+        self.queued.contains(o.0)
     }
 
     /// Queues the work item. The answer is `false`, and nothing changes, exactly where it is queued
@@ -67,7 +77,7 @@ impl WorkItems {
         if self.queued(o) {
             return false;
         }
-        self.queued.put(o.0);
+        self.queued.put(o.0, true);
         true
     }
 
@@ -77,6 +87,10 @@ impl WorkItems {
         ensures answer { result ≡ work_items.is_work_queued self.old o.0 }
         ensures done { self.new ≡ work_items.cancel self.old o.0 }
     {
-        self.queued.remove(o)
+        if !self.queued(o) {
+            return false;
+        }
+        self.queued.put(o.0, false);
+        true
     }
 }

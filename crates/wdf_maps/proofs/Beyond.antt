@@ -1,5 +1,5 @@
 -- A write past the end of a map.
-use Rattle.std.proofs.Common.{◌≡◌, ℕ, ◌+◌, ◌-◌, ◌≤◌, List, [], ◌∷◌, ◌++◌, length, take, replicate, arith, refl}
+use Rattle.std.proofs.Common.{◌≡◌, ℕ, zero, suc, ◌+◌, ◌-◌, ◌<◌, ◌≤◌, List, [], ◌∷◌, ◌++◌, length, take, replicate, arith, refl}
 use Rattle.std.proofs.lemmas.List.{take_all}
 use Rattle.wdf_model.specs.Tables.{put}
 use Rattle.wdf_model.proofs.Maps.{put_behind}
@@ -14,3 +14,10 @@ pub put_beyond : {T : Type 0} (blank : T) (xs : List T) (n id : ℕ) (new : T) �
     → take id xs ++ replicate (id - n) blank ++ new ∷ [] ≡ put blank xs id new
 put_beyond blank xs n id new e h =
     rw (take_all id xs (omega arith), put_further blank xs id (id - n) new (omega arith)) refl
+
+-- what was written is there
+pub put_there : {T : Type 0} (blank : T) (xs : List T) (id : ℕ) (new : T) → id < length (put blank xs id new)
+put_there blank [] zero new = omega arith
+put_there blank [] (suc id) new = let rest = put_there blank [] id new in omega arith
+put_there blank (x ∷ xs) zero new = omega arith
+put_there blank (x ∷ xs) (suc id) new = let rest = put_there blank xs id new in omega arith

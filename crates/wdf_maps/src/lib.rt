@@ -4,4 +4,4 @@
 
 mod map;
 
-pub use map::{entry_at, put_at};
+pub use map::{entry_at, object_at, put_at};

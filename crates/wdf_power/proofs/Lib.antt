@@ -1,4 +1,3 @@
-pub mod Ids
 pub mod Tallies
 pub mod Readers
 pub mod Waking

@@ -1,14 +1,14 @@
-ghost use Rattle.std.specs.Prelude.{◌≡◌, ℕ, ◌+◌, ◌<◌, IfOk, Some, if◌then◌else◌, drop, false, is_some, length, option_map, replicate, slice_get};
+ghost use Rattle.std.specs.Prelude.{◌≡◌, ℕ, ◌+◌, ◌<◌, ◌≤◌, IfOk, Some, if◌then◌else◌, drop, false, is_some, length, option_map, replicate, slice_get};
 ghost use Rattle.wdf_model.specs.Tables.{put};
 ghost use Rattle.wdf_model.specs.parts.Queues as parts;
-ghost use Rattle.wdf_model.specs.parts.Queues.{held_in, is_waiting, waiting_in};
+ghost use Rattle.wdf_model.specs.parts.Queues.{held_count, held_in, is_waiting, waiting_in};
 
 use crate::dispatch::{is_free_by, opening_dispatches};
 use std::alloc::Global;
 use std::marker::Model;
 use wdf_base::{DispatchKind, Memory, ObjectId, Plan};
 use wdf_ilist::Links;
-use wdf_maps::entry_at;
+use wdf_maps::{entry_at, object_at};
 use wdf_model::{EVENTS, OBJECTS};
 
 /// Who waits in which queue, and how many requests the driver holds from each. A request waits in
@@ -54,7 +54,7 @@ impl Queues {
     pub fn head(&self, q: ObjectId) -> Option<ObjectId>
         ensures { option_map (λ r. r.0) result ≡ parts.front self.now q.0 }
     {
-        request_at(self.waiting.front(q.0))
+        object_at(self.waiting.front(q.0))
     }
 
     /// How many requests wait in a queue.
@@ -87,7 +87,7 @@ impl Queues {
         for place in 0..k {
             found = self.waiting.after(found?);
         }
-        request_at(found)
+        object_at(found)
     }
 
     /// The request after this one in its waiting list: `None` where it is the last or doesn't wait.
@@ -95,7 +95,7 @@ impl Queues {
         ensures { (q k : ℕ) → slice_get (waiting_in self.now q) k ≡ Some r.0 → option_map (λ x. x.0) result ≡ slice_get (waiting_in self.now q) (k + 1) }
     {
         let _queue = self.waiting.owner(r.0)?;
-        request_at(self.waiting.after(r.0))
+        object_at(self.waiting.after(r.0))
     }
 
     /// How many requests from a queue the driver holds.
@@ -143,6 +143,7 @@ impl Queues {
         requires few { held_in self.old < EVENTS }
         ensures front { option_map (λ r. r.0) result ≡ parts.front self.old q.0 }
         ensures done { self.new ≡ (if is_some result then parts.take self.old q.0 else self.old) }
+        ensures many { held_in self.new ≤ held_in self.old + 1 }
     {
         let front = self.head(q)?;
         self.drop_front(q);
@@ -164,7 +165,8 @@ impl Queues {
     pub fn hold(&mut self, q: ObjectId)
         requires there { q.0 < length self.old.dispatch }
         requires few { held_in self.old < EVENTS }
-        ensures { self.new ≡ parts.hold self.old q.0 }
+        ensures done { self.new ≡ parts.hold self.old q.0 }
+        ensures many { held_in self.new ≡ held_in self.old + 1 }
     {
         let held = self.held(q) + 1;
         self.write_held(q, held);
@@ -173,17 +175,19 @@ impl Queues {
     /// The driver holds one request less from a queue; nothing changes where it holds none.
     pub fn let_go(&mut self, q: ObjectId)
         requires { q.0 < length self.old.dispatch }
-        ensures { self.new ≡ parts.let_go self.old q.0 }
+        ensures done { self.new ≡ parts.let_go self.old q.0 }
+        ensures many { held_in self.new ≤ held_in self.old }
     {
         let held = self.held(q).saturating_sub(1);
         self.write_held(q, held);
     }
 
     /// Writes how many requests from a queue the driver holds.
-    #[tactic(auto, using(wdf_model::proofs::Maps::put_within))]
+    #[tactic(auto, using(crate::proofs::Sums::sum_put, wdf_model::proofs::Maps::put_within))]
     fn write_held(&mut self, q: ObjectId, held: u32)
         requires { q.0 < length self.old.dispatch }
-        ensures { self.new ≡ record self.old { held = put 0 self.old.held q.0 held } }
+        ensures done { self.new ≡ record self.old { held = put 0 self.old.held q.0 held } }
+        ensures many { held_in self.new + held_count self.old q.0 ≡ held_in self.old + held }
     {
         self.held[q.0 as usize] = held;
     }
@@ -207,13 +211,6 @@ impl Queues {
             self.drop_front(q);
         }
     }
-}
-
-/// The request that an item of a waiting list is.
-fn request_at(item: Option<u32>) -> Option<ObjectId>
-    ensures { option_map (λ r. r.0) result ≡ item }
-{
-    item.map(ObjectId)
 }
 
 /// A count of 0 for each id.

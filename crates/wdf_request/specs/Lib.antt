@@ -1,1 +1,4 @@
+pub mod Closing
+pub mod Counts
+pub mod Keys
 pub mod Requests

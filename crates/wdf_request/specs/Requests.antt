@@ -1,13 +1,23 @@
--- The requests that the fields stand for.
-use Rattle.std.specs.Prelude.{◌≤◌, length, vec_capacity}
+-- The requests that the fields stand for, and what is kept beside them.
+use Rattle.std.specs.Prelude.{◌≡◌, ◌≤◌, count_by, length, vec_capacity}
 use Rattle.wdf_model.specs.declared.room.TheConstants.{OBJECTS}
-use Rattle.wdf_model.specs.parts.Requests.{Requests}
+use Rattle.wdf_model.specs.declared.entries.Request.{Request}
+use Rattle.wdf_model.specs.parts.Requests.{Requests, is_closing}
+use Rattle.wdf_model.specs.rules.Ready.{is_open_request}
+use Rattle.wdf_request.specs.Closing.{IsSetOf}
+use Rattle.wdf_request.specs.Counts.{AreCounted}
+use Rattle.wdf_request.specs.Keys.{returning_queue, sent_target, unfinished_device}
 use Rattle.wdf_request.specs.declared.requests.Requests.TheInside.{Inside}
 
 abbrev pub requests_in : Inside → Requests
 requests_in s = record { all = s.all.items; arrived = s.arrived }
 
--- Every object may be a request.
-pub record HasRoom (s : Inside) : Type 0 where
+-- Every object may be a request. The counts and the set are those of the requests.
+pub record IsKept (s : Inside) : Type 0 where
   pub entries : length s.all.items ≤ OBJECTS
   pub room : OBJECTS ≤ vec_capacity s.all
+  pub returning : AreCounted (λ (r : Request). returning_queue r.place) s.all.items s.returning
+  pub sent : AreCounted (λ (r : Request). sent_target r.place) s.all.items s.sent
+  pub unfinished : AreCounted unfinished_device s.all.items s.unfinished
+  pub open_count : s.open_count ≡ count_by is_open_request s.all.items
+  pub closing : IsSetOf (λ (r : Request). is_closing r.place) s.all.items s.closing

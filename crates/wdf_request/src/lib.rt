@@ -2,6 +2,8 @@
 #![tactic(auto)]
 
 mod change;
+mod counts;
+mod keys;
 mod requests;
 
 pub use requests::Requests;

@@ -1,25 +1,43 @@
-ghost use Rattle.std.specs.Prelude.{◌≡◌, ◌<◌, IfOk, length, option_map, ◌==◌};
+ghost use Rattle.std.specs.Prelude.{◌≡◌, ◌<◌, ◌≤◌, ◌==◌, IfOk, find, length, max, nat_le, option_map, slice_get};
+ghost use Rattle.std.specs.List.{list_any};
 ghost use Rattle.wdf_model.specs.Tables.{put};
 ghost use Rattle.wdf_model.specs.parts.Requests as parts;
-ghost use Rattle.wdf_model.specs.parts.Requests.{no_request};
+ghost use Rattle.wdf_model.specs.parts.Requests.{is_returning_to, is_sent_to, no_request};
+ghost use Rattle.wdf_model.specs.rules.Ready.{is_open_request};
+ghost use Rattle.wdf_model.specs.rules.Starts.{is_unfinished_at};
+ghost use Rattle.wdf_request.specs.Closing.{closing_requests};
+ghost use Rattle.wdf_request.specs.Counts.{is_at};
 
 use crate::change::{
     NO_REQUEST, answer_of_mark, cancelled, forgotten, marked, moved, unmarked, with_mark,
 };
+use crate::counts::Counts;
+use crate::keys::{is_closing, open_flag, returning_queue, sent_target, unfinished_device};
 use std::alloc::Global;
 use std::marker::Model;
 use wdf_base::{Mark, Memory, ObjectId, Place, RequestInfo, Status};
-use wdf_maps::{entry_at, put_at};
+use wdf_maps::{entry_at, object_at, put_at};
 use wdf_model::{EVENTS, OBJECTS, Request};
+use wdf_sets::IdSet;
 
 /// Where each request is, whether it is cancelable, and what is kept of it. What is no request, or
 /// is gone, is Done. Each call but [`Requests::make`] takes no memory.
-#[derive(Debug, Drop)]
+#[derive(Drop)]
 pub struct Requests {
     /// By id, as far as a request came.
     all: Vec<Request>,
     /// How many requests arrived.
     arrived: u32,
+    /// How many are Returning to each queue.
+    returning: Counts,
+    /// How many are Sent to each target.
+    sent: Counts,
+    /// How many arrived at each device and aren't done.
+    unfinished: Counts,
+    /// How many keep the run from its end.
+    open_count: u32,
+    /// Those that the framework will complete.
+    closing: IdSet,
 }
 
 impl Model for Requests {
@@ -27,11 +45,11 @@ impl Model for Requests {
 
     ghost Value = { Requests };
 
-    ghost use Rattle.wdf_request.specs.Requests.{requests_in, HasRoom};
+    ghost use Rattle.wdf_request.specs.Requests.{requests_in, IsKept};
 
     ghost view = { requests_in };
 
-    ghost invariant = { HasRoom };
+    ghost invariant = { IsKept };
 }
 
 impl Requests {
@@ -42,6 +60,11 @@ impl Requests {
         Ok(Requests {
             all: Vec::with_capacity(alloc, OBJECTS as usize)?,
             arrived: 0,
+            returning: Counts::make(alloc)?,
+            sent: Counts::make(alloc)?,
+            unfinished: Counts::make(alloc)?,
+            open_count: 0,
+            closing: IdSet::make(alloc, OBJECTS)?,
         })
     }
 
@@ -87,28 +110,129 @@ impl Requests {
         self.request(r).info
     }
 
-    /// A request is there from now on. It counts as arrived where it has a number among an agent's
-    /// arrivals.
-    #[tactic(auto, using(wdf_model::proofs::Maps::put_short))]
-    pub fn arrive(&mut self, r: ObjectId, place: Place, info: RequestInfo)
-        requires room { r.0 < OBJECTS }
-        requires few { self.old.arrived < EVENTS }
-        ensures { self.new ≡ parts.arrive self.old r.0 place info }
+    /// Whether a request is that of an agent's arrival with this number, from 1.
+    fn is_arrival(&self, agent: u16, k: u32, r: ObjectId) -> bool
+        ensures { result ≡ parts.is_arrival self.now agent k r.0 }
     {
-        put_at(&mut self.all, NO_REQUEST, r.0, Request { place, info });
-        if info.arrival > 0 {
-            self.arrived += 1;
+        let info = self.info(r);
+        k > 0 && info.agent == agent && info.arrival == k
+    }
+
+    /// The request of an agent's arrival with this number, from 1, if that made one. It goes over
+    /// the requests.
+    pub fn arrival_of(&self, agent: u16, k: u32) -> Option<ObjectId>
+        ensures { option_map (λ r. r.0) result ≡ parts.arrival_of self.now agent k }
+    {
+        for id in 0..self.len() {
+            if self.is_arrival(agent, k, ObjectId(id)) {
+                return Some(ObjectId(id));
+            }
+        }
+        None
+    }
+
+    /// Whether some request is Returning to a queue.
+    pub fn returns_to(&self, q: ObjectId) -> bool
+        ensures { result ≡ list_any (λ r. is_returning_to q.0 r.place) self.now.all }
+    {
+        if q.0 < OBJECTS {
+            self.returning.get(q) > 0
+        } else {
+            self.all
+                .iter()
+                .any(|request| is_for(q, returning_queue(request.place)))
         }
     }
 
-    /// Writes what is kept of a request.
-    #[tactic(auto, using(wdf_model::proofs::Maps::put_within))]
-    fn write(&mut self, r: ObjectId, request: Request)
-        requires there { r.0 < length self.old.all }
-        ensures done { self.new ≡ record self.old { all = put no_request self.old.all r.0 request } }
-        ensures size { length self.new.all ≡ length self.old.all }
+    /// Whether some request is Sent to a target.
+    pub fn sent_to(&self, t: ObjectId) -> bool
+        ensures { result ≡ list_any (λ r. is_sent_to t.0 r.place) self.now.all }
     {
-        self.all[r.0 as usize] = request;
+        if t.0 < OBJECTS {
+            self.sent.get(t) > 0
+        } else {
+            self.all
+                .iter()
+                .any(|request| is_for(t, sent_target(request.place)))
+        }
+    }
+
+    /// Whether some request that arrived at a device isn't done.
+    pub fn unfinished_at(&self, device: ObjectId) -> bool
+        ensures { result ≡ list_any (is_unfinished_at device.0) self.now.all }
+    {
+        if device.0 < OBJECTS {
+            self.unfinished.get(device) > 0
+        } else {
+            self.all
+                .iter()
+                .any(|request| is_for(device, unfinished_device(*request)))
+        }
+    }
+
+    /// Whether some request keeps the run from its end: it arrived and isn't done, or the driver
+    /// made it and it is sent.
+    #[tactic(auto, using(crate::proofs::Counting::any_counted))]
+    pub fn some_open(&self) -> bool
+        ensures { result ≡ list_any is_open_request self.now.all }
+    {
+        self.open_count > 0
+    }
+
+    /// How many requests the framework will complete.
+    pub fn closing_len(&self) -> u32
+        ensures { result ≡ length (closing_requests self.now) }
+    {
+        self.closing.len()
+    }
+
+    /// The request that the framework will complete with as many of them before it, by id.
+    pub fn closing_at(&self, k: u32) -> Option<ObjectId>
+        ensures { option_map (λ r. r.0) result ≡ slice_get (closing_requests self.now) k }
+    {
+        object_at(self.closing.at(k))
+    }
+
+    /// The first request from an id on that the framework will complete.
+    pub fn next_closing(&self, from: ObjectId) -> Option<ObjectId>
+        ensures { option_map (λ r. r.0) result ≡ find (nat_le from.0) (closing_requests self.now) }
+    {
+        object_at(self.closing.from(from.0))
+    }
+
+    /// Writes what is kept of a request.
+    fn write(&mut self, r: ObjectId, request: Request)
+        requires there { r.0 < max (length self.old.all) OBJECTS }
+        ensures done { self.new ≡ record self.old { all = put no_request self.old.all r.0 request } }
+        ensures size { r.0 < length self.old.all → length self.new.all ≡ length self.old.all }
+        ensures there { r.0 < length self.new.all }
+        ensures longer { length self.old.all ≤ length self.new.all }
+    {
+        let old = entry_at(&self.all, NO_REQUEST, r.0);
+        self.returning
+            .moves(returning_queue(old.place), returning_queue(request.place));
+        self.sent
+            .moves(sent_target(old.place), sent_target(request.place));
+        self.unfinished
+            .moves(unfinished_device(old), unfinished_device(request));
+        self.open_count = self.open_count + open_flag(request) - open_flag(old);
+        self.closing.put(r.0, is_closing(request.place));
+        put_at(&mut self.all, NO_REQUEST, r.0, request);
+    }
+
+    /// A request is there from now on. It counts as arrived where it has a number among an agent's
+    /// arrivals.
+    pub fn arrive(&mut self, r: ObjectId, place: Place, info: RequestInfo)
+        requires room { r.0 < OBJECTS }
+        requires few { self.old.arrived < EVENTS }
+        ensures done { self.new ≡ parts.arrive self.old r.0 place info }
+        ensures there { r.0 < length self.new.all }
+        ensures longer { length self.old.all ≤ length self.new.all }
+    {
+        self.write(r, Request { place, info });
+        if info.arrival > 0 {
+            self.arrived += 1;
+        }
     }
 
     /// A request comes to another place. Its mark is none again where it enters a queue, leaves one
@@ -188,5 +312,15 @@ impl Requests {
         if r.0 < self.len() {
             self.write(r, forgotten(self.request(r)));
         }
+    }
+}
+
+/// Whether an id is this one.
+fn is_for(id: ObjectId, key: Option<ObjectId>) -> bool
+    ensures { result ≡ is_at id.0 key }
+{
+    match key {
+        Some(other) => other.0 == id.0,
+        None => false,
     }
 }

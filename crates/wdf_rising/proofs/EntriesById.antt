@@ -63,13 +63,13 @@ module _ {T : Type 0} (key : T → ℕ) where
       let r : entry_of key (others key k xs) other ≡ entry_of key xs other = entry_left k other xs h in
       grind (arith, nat_tests)
 
-  entry_added : (y : T) (xs : List T) → entry_of key xs (key y) ≡ None → entry_of key (in_order_by key y xs) (key y) ≡ Some y
+  pub entry_added : (y : T) (xs : List T) → entry_of key xs (key y) ≡ None → entry_of key (in_order_by key y xs) (key y) ≡ Some y
   entry_added y [] h = grind (arith, nat_tests)
   entry_added y (x ∷ xs) h =
       let r : entry_of key xs (key y) ≡ None → entry_of key (in_order_by key y xs) (key y) ≡ Some y = entry_added y xs in
       grind (arith, nat_tests)
 
-  entry_beside : (y : T) (other : ℕ) (xs : List T) → other ≢ key y → entry_of key (in_order_by key y xs) other ≡ entry_of key xs other
+  pub entry_beside : (y : T) (other : ℕ) (xs : List T) → other ≢ key y → entry_of key (in_order_by key y xs) other ≡ entry_of key xs other
   entry_beside y other [] h = grind (arith, nat_tests)
   entry_beside y other (x ∷ xs) h =
       let r : entry_of key (in_order_by key y xs) other ≡ entry_of key xs other = entry_beside y other xs h in

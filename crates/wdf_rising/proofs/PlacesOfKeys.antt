@@ -108,7 +108,7 @@ module _ {T : Type 0} (key : T → ℕ) where
   entered_one_on y x xs (Err i) = refl
 
   -- no item has a key that is below all of them
-  none_below : (low high k : ℕ) (xs : List T) → rises key low high xs ≡ true → k < low → find (λ x. key x == k) xs ≡ None
+  pub none_below : (low high k : ℕ) (xs : List T) → rises key low high xs ≡ true → k < low → find (λ x. key x == k) xs ≡ None
   none_below low high k [] h l = refl
   none_below low high k (x ∷ xs) h l =
       let a = rises_low low high x xs h in

@@ -2,17 +2,26 @@
 use Rattle.std.proofs.Common.{◌==◌, ◌&&◌, ◌||◌, not, Bool, true, false, sym, ◌≡◌, ◌≢◌, ℕ, zero, suc, ◌+◌, ◌<◌, List, [], ◌∷◌, length, drop, filter, refl, ap, ◌∙◌, arith}
 use Rattle.std.specs.Prelude.{nat_lt}
 use Rattle.std.specs.List.{list_all, range_with_len}
-use Rattle.std.proofs.lemmas.Bool.{lt-ltb, le-ltb, ne_eqb}
+use Rattle.std.proofs.lemmas.Bool.{eq-eqb, false≢true, lt-ltb, le-ltb, ne_eqb}
 use Rattle.wdf_base.specs.declared.object.Life.{Life}
 use Rattle.wdf_base.specs.declared.object.Life.TheVariants as life
-use Rattle.wdf_model.specs.Tables.{entry, ids_of}
+use Rattle.wdf_ilist.specs.Family.{last_of}
+use Rattle.wdf_model.specs.Tables.{entry, ids_of, same_id}
 use Rattle.wdf_model.specs.declared.entries.Node.{Node}
-use Rattle.wdf_model.specs.parts.Tree.{Tree, children, gone, is_child, is_gone, is_past_cleanup, life_of, parent_of, younger_siblings}
-use Rattle.wdf_tree.specs.Below.{is_clean_under, is_gone_under}
+use Rattle.wdf_model.specs.parts.Tree.{Tree, children, gone, is_asked, is_child, is_gone, is_past_cleanup, life_of, parent_of, younger_siblings}
+use Rattle.wdf_tree.specs.Kin.{is_kin, is_left, is_waiting, places}
+use Rattle.wdf_tree.proofs.Kin.{last_place, no_places, places_by_ids}
+
+-- a child of this parent, if it is one, has been cleaned up, or is gone
+abbrev is_clean_under : ℕ → Node → Bool
+is_clean_under parent n = not (n.parent.0 == parent) || is_past_cleanup n.life
+
+abbrev pub is_gone_under : ℕ → Node → Bool
+is_gone_under parent n = not (n.parent.0 == parent) || is_gone n.life
 
 -- ---- lists
 
-all_same : {T : Type 0} (p q : T → Bool) → ((x : T) → p x ≡ q x) → (xs : List T) → list_all p xs ≡ list_all q xs
+pub all_same : {T : Type 0} (p q : T → Bool) → ((x : T) → p x ≡ q x) → (xs : List T) → list_all p xs ≡ list_all q xs
 all_same p q e [] = refl
 all_same p q e (x ∷ xs) = rw (e x, all_same p q e xs) refl
 
@@ -70,15 +79,15 @@ clean_or_gone true life.Asked = refl
 clean_or_gone true life.Cleaned = refl
 clean_or_gone true life.Gone = refl
 
-no_child_or_gone : (b c : Bool) → not (b && not c) ≡ (not b || c)
+pub no_child_or_gone : (b c : Bool) → not (b && not c) ≡ (not b || c)
 no_child_or_gone false c = refl
 no_child_or_gone true false = refl
 no_child_or_gone true true = refl
 
-same_place : (ns : List Node) (j : ℕ) → entry gone ns (0 + j) ≡ entry gone ns j
+pub same_place : (ns : List Node) (j : ℕ) → entry gone ns (0 + j) ≡ entry gone ns j
 same_place ns j = ap (entry gone ns) (omega arith)
 
-pub all_clean : (T : Tree) (o : ℕ) → list_all (is_clean_under o) T.nodes ≡ list_all (λ x. is_past_cleanup (life_of T x)) (children T o)
+all_clean : (T : Tree) (o : ℕ) → list_all (is_clean_under o) T.nodes ≡ list_all (λ x. is_past_cleanup (life_of T x)) (children T o)
 all_clean T o = sym (
     all_of_filter (λ x. is_past_cleanup (life_of T x)) (is_child T o) (ids_of T.nodes)
     ∙ all_same (λ x. not (is_child T o x) || is_past_cleanup (life_of T x)) (λ x. is_clean_under o (entry gone T.nodes x)) (λ x. clean_or_gone (parent_of T x == o) (life_of T x)) (ids_of T.nodes)
@@ -90,7 +99,7 @@ all_gone T o = sym (
     ∙ all_same (λ x. not (is_child T o x)) (λ x. is_gone_under o (entry gone T.nodes x)) (λ x. no_child_or_gone (parent_of T x == o) (is_gone (life_of T x))) (ids_of T.nodes)
     ∙ all_ids (is_gone_under o) T.nodes T.nodes 0 (same_place T.nodes))
 
-pub all_younger_clean : (T : Tree) (o : ℕ) → list_all (is_clean_under (parent_of T o)) (drop (o + 1) T.nodes) ≡ list_all (λ x. is_past_cleanup (life_of T x)) (younger_siblings T o)
+all_younger_clean : (T : Tree) (o : ℕ) → list_all (is_clean_under (parent_of T o)) (drop (o + 1) T.nodes) ≡ list_all (λ x. is_past_cleanup (life_of T x)) (younger_siblings T o)
 all_younger_clean T o =
     let p = parent_of T o in
     sym (
@@ -106,3 +115,32 @@ all_younger_clean T o =
     swapped true false c = refl
     swapped false true c = refl
     swapped false false c = refl
+
+-- ---- by families
+
+pub left_children : (T : Tree) (o : ℕ) → places (is_kin is_left o) 0 T.nodes ≡ children T o
+left_children T o = sym (places_by_ids (is_kin is_left o) T.nodes T.nodes 0 (same_place T.nodes))
+
+pub no_waiting_child : (T : Tree) (o : ℕ) → (length (places (is_kin is_waiting o) 0 T.nodes) == 0) ≡ list_all (λ x. is_past_cleanup (life_of T x)) (children T o)
+no_waiting_child T o =
+    no_places (is_kin is_waiting o) 0 T.nodes
+    ∙ all_same (λ n. not (is_kin is_waiting o n)) (is_clean_under o) (λ n. no_child_or_gone (n.parent.0 == o) (is_past_cleanup n.life)) T.nodes
+    ∙ all_clean T o
+
+asked_waits : (l : Life) → is_asked l ≡ true → is_waiting l ≡ true
+asked_waits life.Live h = refl
+asked_waits life.Asked h = refl
+asked_waits life.Cleaned h = absurd (false≢true h)
+asked_waits life.Gone h = absurd (false≢true h)
+
+-- where an object waits, its younger siblings are clean exactly where it is the last that waits
+pub last_waiting : (T : Tree) (o : ℕ) → o < length T.nodes → is_asked (life_of T o) ≡ true
+    → same_id (last_of (places (is_kin is_waiting (parent_of T o)) 0 T.nodes)) o ≡ list_all (λ x. is_past_cleanup (life_of T x)) (younger_siblings T o)
+last_waiting T o there asked =
+    let p = is_kin is_waiting (parent_of T o) in
+    let mine : p (entry gone T.nodes o) ≡ true = rw (eq-eqb (parent_of T o) (parent_of T o) refl) (asked_waits (life_of T o) asked) in
+    let next : suc o ≡ o + 1 = omega arith in
+    last_place p o 0 T.nodes o (omega arith) there mine
+    ∙ all_same (λ n. not (p n)) (is_clean_under (parent_of T o)) (λ n. no_child_or_gone (n.parent.0 == parent_of T o) (is_past_cleanup n.life)) (drop (suc o) T.nodes)
+    ∙ ap (λ k. list_all (is_clean_under (parent_of T o)) (drop k T.nodes)) next
+    ∙ all_younger_clean T o

@@ -1,5 +1,5 @@
 -- What is kept beside the objects: after an object more, after a change of one, and after an end.
-use Rattle.std.proofs.Common.{◌==◌, ◌&&◌, not, Bool, true, false, sym, cond, ◌≡◌, ◌≢◌, ℕ, zero, suc, ◌+◌, ◌<◌, ◌≤◌, List, [], ◌∷◌, ◌++◌, length, refl, ap, ◌∙◌, arith, IsTrue}
+use Rattle.std.proofs.Common.{map, replicate, ◌==◌, ◌&&◌, not, Bool, true, false, sym, cond, ◌≡◌, ◌≢◌, ℕ, zero, suc, ◌+◌, ◌<◌, ◌≤◌, List, [], ◌∷◌, ◌++◌, length, refl, ap, ◌∙◌, arith, IsTrue}
 use Rattle.std.specs.Prelude.{slice_index_or, slice_set}
 use Rattle.std.specs.List.{list_all}
 use Rattle.std.proofs.lemmas.Bool.{and_parts, and_from, eq-eqb, eqb-true, false≢true, not-true}
@@ -11,18 +11,20 @@ use Rattle.wdf_base.specs.declared.object.Kind.TheVariants as kind
 use Rattle.wdf_base.specs.declared.object.Life.{Life}
 use Rattle.wdf_base.specs.declared.object.Life.TheVariants as life
 use Rattle.wdf_base.specs.Same.{same_kind, same_life}
+use Rattle.wdf_ilist.specs.Family.{Family, without}
 use Rattle.wdf_model.specs.Tables.{entry}
 use Rattle.wdf_model.specs.declared.entries.Node.{Node}
 use Rattle.wdf_model.specs.declared.room.TheConstants.{OBJECTS}
-use Rattle.wdf_model.specs.parts.Tree.{Tree, counts, children, gone, is_asked, is_cleaned, is_gone, is_live, life_of, may_destroy, nearest_devices, own_device, references_in, references_of}
+use Rattle.wdf_model.specs.parts.Tree.{Tree, counts, children, gone, is_asked, is_cleaned, is_gone, is_live, is_past_cleanup, life_of, may_destroy, nearest_devices, own_device, references_in, references_of}
 use Rattle.wdf_model.proofs.Maps.{entry_before, entry_set_other, as_long}
 use Rattle.wdf_tree.specs.Inside.{EndsAlone, IsKept, ends_alone}
-use Rattle.wdf_tree.specs.Below.{is_gone_under}
-use Rattle.wdf_tree.proofs.Children.{all_gone}
+use Rattle.wdf_tree.specs.Kin.{HoldsKin, is_left, is_waiting, joined}
+use Rattle.wdf_tree.proofs.Children.{all_gone, is_gone_under}
+use Rattle.wdf_tree.proofs.Kin.{holds_joined, holds_kept, holds_none, holds_off, holds_without}
 
 -- ---- lists
 
-all_of_entry : {T : Type 0} (p : T → Bool) (blank : T) (xs : List T) (k : ℕ) → p blank ≡ true → list_all p xs ≡ true → p (entry blank xs k) ≡ true
+pub all_of_entry : {T : Type 0} (p : T → Bool) (blank : T) (xs : List T) (k : ℕ) → p blank ≡ true → list_all p xs ≡ true → p (entry blank xs k) ≡ true
 all_of_entry p blank [] k b h = b
 all_of_entry p blank (x ∷ xs) zero b h = (and_parts (p x) (list_all p xs) h).0
 all_of_entry p blank (x ∷ xs) (suc k) b h = all_of_entry p blank xs k b (and_parts (p x) (list_all p xs) h).1
@@ -66,46 +68,66 @@ nearest_kept before (n ∷ ns) (suc o) m k p = nearest_kept (before ++ own_devic
 -- ---- an object more
 
 -- no object is counted but what is there
-pub few_counts : (ns : List Node) (ds : List ObjectId) (count r s : ℕ) → IsKept ns ds count r s → count ≤ length ns
-few_counts ns ds count r s h = let few = count_by-le-length counts ns in omega (arith, h.counted)
+pub few_counts : {ns : List Node} {ds : List ObjectId} {count r s : ℕ} {kin waiting : Family} → IsKept ns ds count r s kin waiting → count ≤ length ns
+few_counts {ns} {ds} {count} {r} {s} {kin} {waiting} h = let few = count_by-le-length counts ns in omega (arith, h.counted)
 
-pub devices_as_many : (ns : List Node) (ds : List ObjectId) (count r s : ℕ) → IsKept ns ds count r s → length ds ≡ length ns
-devices_as_many ns ds count r s h =
+pub devices_as_many : {ns : List Node} {ds : List ObjectId} {count r s : ℕ} {kin waiting : Family} → IsKept ns ds count r s kin waiting → length ds ≡ length ns
+devices_as_many {ns} {ds} {count} {r} {s} {kin} {waiting} h =
     let one = length-map ds (λ (d : ObjectId). d.0) in
     let other = nearest_length [] ns in
     let same = ap length h.devices in
     omega arith
 
 -- the id 0 alone
-pub kept_at_first : (r s : ℕ) (d : ObjectId) → d.0 ≡ 1 → OBJECTS ≤ r → OBJECTS ≤ s → IsKept (gone ∷ []) (d ∷ []) 0 r s
-kept_at_first r s d e h k = record {
+pub kept_at_first : (ns : List Node) (ds : List ObjectId) (r s n : ℕ) (kin waiting : Family) → ns ≡ gone ∷ [] → ds ≡ record { 0 = 1 } ∷ [] → OBJECTS ≤ r → OBJECTS ≤ s → n ≡ OBJECTS
+    → kin ≡ record { lists = replicate n []; items = n } → waiting ≡ record { lists = replicate n []; items = n } → IsKept ns ds 0 r s kin waiting
+kept_at_first ns ds r s n kin waiting one first h k all empty none = rw (one, first) (record {
   few = omega arith;
   room_for_nodes = h;
   room_for_devices = k;
-  devices = ap (λ x. x ∷ []) e;
+  devices = refl;
   counted = refl;
   ends = record { some = omega arith; none = refl; alone = refl };
-}
+  kin = rw empty (holds_none is_left n all refl);
+  waiting_kin = rw none (holds_none is_waiting n all refl);
+})
 
-pub kept_by_push : (ns : List Node) (ds : List ObjectId) (count r s : ℕ) (n : Node) (d : ObjectId) → IsKept ns ds count r s → length ns < OBJECTS → is_gone n.life ≡ false
-    → d.0 ≡ own_device (nearest_devices [] ns) (length ns) n → IsKept (ns ++ n ∷ []) (ds ++ d ∷ []) (count + cond (counts n) 1 0) r s
-kept_by_push ns ds count r s n d h room there e = record {
-  few = let one = length_push ns n in omega (arith, h.few);
-  room_for_nodes = h.room_for_nodes;
-  room_for_devices = h.room_for_devices;
-  devices =
-      let as_many : length (nearest_devices [] ns) ≡ length ns = nearest_length [] ns ∙ omega arith in
-      map-append (λ (x : ObjectId). x.0) ds (d ∷ [])
-      ∙ ap (λ xs. xs ++ d.0 ∷ []) h.devices
-      ∙ ap (λ x. nearest_devices [] ns ++ x ∷ []) (e ∙ ap (λ k. own_device (nearest_devices [] ns) k n) (sym as_many))
-      ∙ sym (nearest_push [] ns n);
-  counted = let more = sum_by_push (λ (x : Node). cond (counts x) 1 0) ns n in omega (arith, h.counted);
-  ends = record {
-    some = let one = length_push ns n in omega arith;
-    none = let past : 0 ≢ length ns = let some = h.ends.some in omega arith in rw (entry_before gone ns n 0 past) h.ends.none;
-    alone = list_all-append ends_alone ns (n ∷ []) ∙ and_from (list_all ends_alone ns) (ends_alone n && true) h.ends.alone (rw there refl);
-  };
-}
+live_waits : (l : Life) → is_live l ≡ true → is_waiting l ≡ true
+live_waits life.Live h = refl
+live_waits life.Asked h = absurd (false≢true h)
+live_waits life.Cleaned h = absurd (false≢true h)
+live_waits life.Gone h = absurd (false≢true h)
+
+live_left : (l : Life) → is_live l ≡ true → is_gone l ≡ false
+live_left life.Live h = refl
+live_left life.Asked h = refl
+live_left life.Cleaned h = refl
+live_left life.Gone h = absurd (false≢true h)
+
+pub kept_by_push : {ns : List Node} {ds : List ObjectId} {count r s : ℕ} {kin waiting : Family} (n : Node) (d : ObjectId) (id : ℕ) → IsKept ns ds count r s kin waiting → length ns < OBJECTS → is_live n.life ≡ true
+    → d.0 ≡ own_device (nearest_devices [] ns) (length ns) n → id ≡ length ns
+    → IsKept (ns ++ n ∷ []) (ds ++ d ∷ []) (count + cond (counts n) 1 0) r s (joined kin n.parent.0 id) (joined waiting n.parent.0 id)
+kept_by_push {ns} {ds} {count} {r} {s} {kin} {waiting} n d id h room live e next =
+    let there = live_left n.life live in
+    rw next (record {
+      few = let one = length_push ns n in omega (arith, h.few);
+      room_for_nodes = h.room_for_nodes;
+      room_for_devices = h.room_for_devices;
+      devices =
+          let as_many : length (nearest_devices [] ns) ≡ length ns = nearest_length [] ns ∙ omega arith in
+          map-append (λ (x : ObjectId). x.0) ds (d ∷ [])
+          ∙ ap (λ xs. xs ++ d.0 ∷ []) h.devices
+          ∙ ap (λ x. nearest_devices [] ns ++ x ∷ []) (e ∙ ap (λ k. own_device (nearest_devices [] ns) k n) (sym as_many))
+          ∙ sym (nearest_push [] ns n);
+      counted = let more = sum_by_push (λ (x : Node). cond (counts x) 1 0) ns n in omega (arith, h.counted);
+      ends = record {
+        some = let one = length_push ns n in omega arith;
+        none = let past : 0 ≢ length ns = let some = h.ends.some in omega arith in rw (entry_before gone ns n 0 past) h.ends.none;
+        alone = list_all-append ends_alone ns (n ∷ []) ∙ and_from (list_all ends_alone ns) (ends_alone n && true) h.ends.alone (rw there refl);
+      };
+      kin = holds_joined is_left ns n kin h.kin (ap not there);
+      waiting_kin = holds_joined is_waiting ns n waiting h.waiting_kin (live_waits n.life live);
+    })
 
 -- ---- a change of one object
 
@@ -115,9 +137,9 @@ first_kept [] o m e = refl
 first_kept (n ∷ ns) zero m e = e
 first_kept (n ∷ ns) (suc o) m e = refl
 
-pub kept_by_set : (ns : List Node) (ds : List ObjectId) (count r s o : ℕ) (m : Node) → IsKept ns ds count r s → o < length ns → Stays (entry gone ns o) m
-    → IsKept (slice_set ns o m) ds count r s
-kept_by_set ns ds count r s o m h there stays = record {
+pub kept_by_set : {ns : List Node} {ds : List ObjectId} {count r s : ℕ} {kin waiting : Family} (o : ℕ) (m : Node) (kin' waiting' : Family) → IsKept ns ds count r s kin waiting → o < length ns → Stays (entry gone ns o) m
+    → HoldsKin is_left (slice_set ns o m) kin' → HoldsKin is_waiting (slice_set ns o m) waiting' → IsKept (slice_set ns o m) ds count r s kin' waiting'
+kept_by_set {ns} {ds} {count} {r} {s} {kin} {waiting} o m kin' waiting' h there stays left waits = record {
   few = let one = as_long ns o m in omega (arith, h.few);
   room_for_nodes = h.room_for_nodes;
   room_for_devices = h.room_for_devices;
@@ -134,6 +156,8 @@ kept_by_set ns ds count r s o m h there stays = record {
         let was : ends_alone (entry gone ns o) ≡ true = all_of_entry ends_alone gone ns o refl h.ends.alone in
         all_of_set ends_alone ns o m (rw (stays.gone, stays.kind, stays.parent) was) h.ends.alone;
   };
+  kin = left;
+  waiting_kin = waits;
 }
 
 -- an element that was read is the entry
@@ -142,11 +166,30 @@ read_entry blank [] o x h e = absurd (omega arith)
 read_entry blank (y ∷ ys) zero x h e = sym e
 read_entry blank (y ∷ ys) (suc o) x h e = read_entry blank ys o x (omega arith) e
 
-pub kept_by_write : (ns : List Node) (ds : List ObjectId) (count r s o : ℕ) (n m : Node) → IsKept ns ds count r s → o < length ns → n ≡ slice_index_or ns o n
-    → m.kind ≡ n.kind → m.parent.0 ≡ n.parent.0 → is_gone m.life ≡ is_gone n.life → IsKept (slice_set ns o m) ds count r s
-kept_by_write ns ds count r s o n m h there read k p g =
+stays_read : (ns : List Node) (o : ℕ) (n m : Node) → o < length ns → n ≡ slice_index_or ns o n → Stays n m → Stays (entry gone ns o) m
+stays_read ns o n m there read stays =
     let e = read_entry gone ns o n there read in
-    kept_by_set ns ds count r s o m h there (record { kind = k ∙ ap (λ (x : Node). x.kind) (sym e); parent = p ∙ ap (λ (x : Node). x.parent.0) (sym e); gone = g ∙ ap (λ (x : Node). is_gone x.life) (sym e) })
+    record {
+      kind = stays.kind ∙ ap (λ (x : Node). x.kind) (sym e);
+      parent = stays.parent ∙ ap (λ (x : Node). x.parent.0) (sym e);
+      gone = stays.gone ∙ ap (λ (x : Node). is_gone x.life) (sym e);
+    }
+
+-- a write that keeps the life as far as the children of its parent are concerned
+pub kept_by_write : {ns : List Node} {ds : List ObjectId} {count r s : ℕ} {kin waiting : Family} (o : ℕ) (n m : Node) → IsKept ns ds count r s kin waiting → o < length ns → n ≡ slice_index_or ns o n
+    → Stays n m → is_past_cleanup m.life ≡ is_past_cleanup n.life → IsKept (slice_set ns o m) ds count r s kin waiting
+kept_by_write {ns} {ds} {count} {r} {s} {kin} {waiting} o n m h there read stays past =
+    let all = stays_read ns o n m there read stays in
+    let waits : is_waiting m.life ≡ is_waiting (entry gone ns o).life = ap not past ∙ ap (λ (x : Node). is_waiting x.life) (sym (read_entry gone ns o n there read)) in
+    kept_by_set o m kin waiting h there all (holds_kept is_left ns kin o m h.kin all.parent (ap not all.gone)) (holds_kept is_waiting ns waiting o m h.waiting_kin all.parent waits)
+
+-- a cleanup: the object leaves the list of those that wait
+pub kept_by_cleanup : {ns : List Node} {ds : List ObjectId} {count r s : ℕ} {kin waiting : Family} (o : ℕ) (n m : Node) → IsKept ns ds count r s kin waiting → o < length ns → n ≡ slice_index_or ns o n
+    → Stays n m → is_past_cleanup m.life ≡ true → IsKept (slice_set ns o m) ds count r s kin (record waiting { lists = map (without o) waiting.lists })
+kept_by_cleanup {ns} {ds} {count} {r} {s} {kin} {waiting} o n m h there read stays past =
+    let all = stays_read ns o n m there read stays in
+    kept_by_set o m kin (record waiting { lists = map (without o) waiting.lists }) h there all (holds_kept is_left ns kin o m h.kin all.parent (ap not all.gone))
+    (holds_without is_waiting ns waiting o m h.waiting_kin (ap not past))
 
 -- ---- an end
 
@@ -189,7 +232,7 @@ nearest_ended before (n ∷ ns) (suc o) at e there h =
     nearest_ended (before ++ one ∷ []) ns o at (let more = length_push before one in omega arith) (omega arith) both.1
 
 -- an object with no child that isn't gone has none at all
-no_child : (ns : List Node) (o : ℕ) → 0 < o → list_all ends_alone ns ≡ true → list_all (is_gone_under o) ns ≡ true → list_all (λ (n : Node). not (n.parent.0 == o)) ns ≡ true
+pub no_child : (ns : List Node) (o : ℕ) → 0 < o → list_all ends_alone ns ≡ true → list_all (is_gone_under o) ns ≡ true → list_all (λ (n : Node). not (n.parent.0 == o)) ns ≡ true
 no_child [] o h k l = refl
 no_child (n ∷ ns) o h k l =
     let alone = and_parts (ends_alone n) (list_all ends_alone ns) k in
@@ -215,16 +258,20 @@ there_if_cleaned [] o h = absurd (false≢true h)
 there_if_cleaned (n ∷ ns) zero h = omega arith
 there_if_cleaned (n ∷ ns) (suc o) h = let there = there_if_cleaned ns o h in omega arith
 
--- what is live or asked is not gone
-pub live_stands : (l : Life) → same_life l life.Live ≡ true → is_gone l ≡ false
-live_stands life.Live h = refl
-live_stands life.Asked h = refl
-live_stands life.Cleaned h = refl
+-- what is live is not gone, and its cleanup is still to come
+pub record IsLiving (l : Life) : Type 0 where
+  pub gone : is_gone l ≡ false
+  pub waits : is_past_cleanup l ≡ false
+
+pub live_stands : (l : Life) → same_life l life.Live ≡ true → IsLiving l
+live_stands life.Live h = record { gone = refl; waits = refl }
+live_stands life.Asked h = absurd (false≢true h)
+live_stands life.Cleaned h = absurd (false≢true h)
 live_stands life.Gone h = absurd (false≢true h)
 
 -- the id 0 is not live
-pub none_live : (ns : List Node) (ds : List ObjectId) (count r s : ℕ) → IsKept ns ds count r s → is_live (entry gone ns 0).life ≡ false
-none_live ns ds count r s h = gone_off (entry gone ns 0).life h.ends.none
+pub none_live : {ns : List Node} {ds : List ObjectId} {count r s : ℕ} {kin waiting : Family} → IsKept ns ds count r s kin waiting → is_live (entry gone ns 0).life ≡ false
+none_live {ns} {ds} {count} {r} {s} {kin} {waiting} h = gone_off (entry gone ns 0).life h.ends.none
   where
     gone_off : (l : Life) → is_gone l ≡ true → is_live l ≡ false
     gone_off life.Live e = absurd (false≢true e)
@@ -238,6 +285,19 @@ asked_stands life.Asked h = refl
 asked_stands life.Cleaned h = refl
 asked_stands life.Gone h = absurd (false≢true h)
 
+-- the tests of a life, as code makes them
+pub asked_as_same : (l : Life) → same_life l life.Asked ≡ is_asked l
+asked_as_same life.Live = refl
+asked_as_same life.Asked = refl
+asked_as_same life.Cleaned = refl
+asked_as_same life.Gone = refl
+
+pub cleaned_as_same : (l : Life) → same_life l life.Cleaned ≡ is_cleaned l
+cleaned_as_same life.Live = refl
+cleaned_as_same life.Asked = refl
+cleaned_as_same life.Cleaned = refl
+cleaned_as_same life.Gone = refl
+
 -- what is cleaned up is not gone
 cleaned_stands : (l : Life) → is_cleaned l ≡ true → is_gone l ≡ false
 cleaned_stands life.Live h = refl
@@ -245,9 +305,9 @@ cleaned_stands life.Asked h = refl
 cleaned_stands life.Cleaned h = refl
 cleaned_stands life.Gone h = absurd (false≢true h)
 
-pub few_counted : (ns : List Node) (ds : List ObjectId) (count r s o : ℕ) (n : Node) → IsKept ns ds count r s → o < length ns → n ≡ slice_index_or ns o n
+pub few_counted : {ns : List Node} {ds : List ObjectId} {count r s : ℕ} {kin waiting : Family} (o : ℕ) (n : Node) → IsKept ns ds count r s kin waiting → o < length ns → n ≡ slice_index_or ns o n
     → cond (counts n) 1 0 ≤ count
-few_counted ns ds count r s o n h there read =
+few_counted {ns} {ds} {count} {r} {s} {kin} {waiting} o n h there read =
     let one = get_or-le-sum_by (λ (x : Node). cond (counts x) 1 0) ns o n there in
     let same : cond {A = ℕ} (counts (slice_index_or ns o n)) 1 0 ≡ cond {A = ℕ} (counts n) 1 0 = ap (λ (x : Node). cond {A = ℕ} (counts x) 1 0) (sym read) in
     omega (arith, h.counted)
@@ -285,9 +345,15 @@ may_end T U o e h =
       childless = all_gone T o ∙ outer.1;
     }
 
-pub kept_by_end : (ns : List Node) (ds : List ObjectId) (count r s o less : ℕ) (n m : Node) (d : ObjectId) → IsKept ns ds count r s → MayEnd ns o
-    → n ≡ slice_index_or ns o n → m ≡ gone → d.0 ≡ 1 → less + cond (counts n) 1 0 ≡ count → IsKept (slice_set ns o m) (slice_set ds o d) less r s
-kept_by_end ns ds count r s o less n m d h may read blank driver e =
+cleaned_off : (l : Life) → is_cleaned l ≡ true → is_waiting l ≡ false
+cleaned_off life.Live h = absurd (false≢true h)
+cleaned_off life.Asked h = absurd (false≢true h)
+cleaned_off life.Cleaned h = refl
+cleaned_off life.Gone h = absurd (false≢true h)
+
+pub kept_by_end : {ns : List Node} {ds : List ObjectId} {count r s : ℕ} {kin waiting : Family} (o less : ℕ) (n m : Node) (d : ObjectId) → IsKept ns ds count r s kin waiting → MayEnd ns o
+    → n ≡ slice_index_or ns o n → m ≡ gone → d.0 ≡ 1 → less + cond (counts n) 1 0 ≡ count → IsKept (slice_set ns o m) (slice_set ds o d) less r s (record kin { lists = map (without o) kin.lists }) waiting
+kept_by_end {ns} {ds} {count} {r} {s} {kin} {waiting} o less n m d h may read blank driver e =
     let cleaned = may.cleaned in
     let none = may.childless in
     let there : o < length ns = there_if_cleaned ns o cleaned in
@@ -307,6 +373,8 @@ kept_by_end ns ds count r s o less n m d h may read blank driver e =
         none = first_ended ns o first h.ends.none;
         alone = all_of_set ends_alone ns o gone refl h.ends.alone;
       };
+      kin = holds_without is_left ns kin o gone h.kin refl;
+      waiting_kin = holds_off is_waiting ns waiting o gone h.waiting_kin (cleaned_off (entry gone ns o).life cleaned) refl;
     })
   where
     first_ended : (ms : List Node) (k : ℕ) → 0 < k → is_gone (entry gone ms 0).life ≡ true → is_gone (entry gone (slice_set ms k gone) 0).life ≡ true

@@ -1,8 +1,8 @@
 -- A walk over the subtree of an object by rising ids.
-use Rattle.std.proofs.Common.{◌==◌, ◌||◌, Bool, true, false, sym, cond, ◌≡◌, ℕ, zero, suc, ◌+◌, ◌-◌, ◌<◌, ◌≤◌, List, [], ◌∷◌, length, filter, find, fold, Some, None, refl, ap, ◌∙◌, arith}
+use Rattle.std.proofs.Common.{◌==◌, ◌||◌, Bool, true, false, sym, cond, ◌≡◌, ℕ, zero, suc, ◌+◌, ◌-◌, ◌<◌, ◌≤◌, List, [], ◌∷◌, length, filter, find, fold, Some, None, refl, ap, ◌∙◌, arith, ◌≢◌}
 use Rattle.std.specs.Prelude.{nat_lt, slice_set}
 use Rattle.std.specs.List.{range_with_len}
-use Rattle.std.proofs.lemmas.Bool.{lt-ltb, le-ltb, ltb-true, ltb-false}
+use Rattle.std.proofs.lemmas.Bool.{lt-ltb, le-ltb, ltb-true, ltb-false, eq-eqb, ne_eqb}
 use Rattle.wdf_model.specs.declared.entries.Node.{Node}
 use Rattle.wdf_model.specs.parts.Tree.{Tree, ask_delete, ask_one, asked_if_live, gone, is_below, is_live, life_of, node_of, subtree}
 use Rattle.wdf_model.proofs.Maps.{put_within, set_as_it_was, as_long}
@@ -98,6 +98,16 @@ walk_begins {S} f s p (suc n) e = by_test (p 0) refl
     by_test true g = rw (g, rest) (ap (λ t. fold f t (filter p (range_with_len 1 n))) (sym e))
     by_test false g = rw (g, rest) refl
 
+-- ids that fail are left out
+find_skips : (p : ℕ → Bool) (k n more : ℕ) → ((x : ℕ) → k ≤ x → x < k + more → p x ≡ false) → find p (range_with_len k n) ≡ find p (range_with_len (k + more) (n - more))
+find_skips p k n zero h = let e : k + 0 ≡ k = omega arith in let f : n - 0 ≡ n = omega arith in rw (e, f) refl
+find_skips p k zero (suc more) h = let e : zero - suc more ≡ 0 = omega arith in rw e refl
+find_skips p k (suc n) (suc more) h =
+    let off : p k ≡ false = h k (omega arith) (omega arith) in
+    let e : k + suc more ≡ (k + 1) + more = omega arith in
+    let f : suc n - suc more ≡ n - more = omega arith in
+    rw (off, e, f) (find_skips p (k + 1) n more (λ x from to. h x (omega arith) (omega arith)))
+
 -- ---- in the tree
 
 pub next_after : (T : Tree) (o a : ℕ) → find (nat_lt a) (subtree T o) ≡ find (λ x. x == o || is_below T o x) (range_with_len (suc a) (length T.nodes - suc a))
@@ -141,3 +151,22 @@ asks_begin T o off = by_length (length T.nodes) refl
     by_length : (n : ℕ) → length T.nodes ≡ n → fold ask_one T (filter (nat_lt 0) (subtree T o)) ≡ ask_delete T o
     by_length zero e = rw e refl
     by_length (suc n) e = walk_begins ask_one T (λ y. y == o || is_below T o y) (length T.nodes) (not_asked T 0 (omega arith) off)
+
+-- the ids up to the first that may be below are left out
+pub next_is_later : (T : Tree) (o a first : ℕ) → suc a ≤ first → ((x : ℕ) → x < first → a < x → (x == o || is_below T o x) ≡ false)
+    → find (nat_lt a) (subtree T o) ≡ find (λ x. x == o || is_below T o x) (range_with_len first (length T.nodes - first))
+next_is_later T o a first h off =
+    let e : suc a + (first - suc a) ≡ first = omega arith in
+    let f : (length T.nodes - suc a) - (first - suc a) ≡ length T.nodes - first = omega arith in
+    next_after T o a
+    ∙ find_skips (λ x. x == o || is_below T o x) (suc a) (length T.nodes - suc a) (first - suc a) (λ x from to. off x (omega arith) (omega arith))
+    ∙ ap (λ k. find (λ x. x == o || is_below T o x) (range_with_len k ((length T.nodes - suc a) - (first - suc a)))) e
+    ∙ ap (λ n. find (λ x. x == o || is_below T o x) (range_with_len first n)) f
+
+-- the object itself comes before what is below it
+pub next_is_self : (T : Tree) (o a first : ℕ) → a < o → o < first → o < length T.nodes → ((x : ℕ) → x < first → is_below T o x ≡ false)
+    → find (nat_lt a) (subtree T o) ≡ Some o
+next_is_self T o a first above before there off =
+    next_is_later T o a o (omega arith) (λ x less more. let other : x ≢ o = omega arith in rw (ne_eqb x o other) (off x (omega arith)))
+    ∙ ids_from (λ x. x == o || is_below T o x) o (length T.nodes) there
+    ∙ rw (eq-eqb o o refl) refl

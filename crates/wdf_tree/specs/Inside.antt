@@ -4,10 +4,12 @@ use Rattle.std.specs.List.{list_all}
 use Rattle.wdf_base.specs.declared.ids.ObjectId.{ObjectId}
 use Rattle.wdf_base.specs.declared.object.Kind.TheVariants as kind
 use Rattle.wdf_base.specs.Same.{same_kind}
+use Rattle.wdf_ilist.specs.Family.{Family}
 use Rattle.wdf_model.specs.Tables.{entry}
 use Rattle.wdf_model.specs.declared.entries.Node.{Node}
 use Rattle.wdf_model.specs.declared.room.TheConstants.{OBJECTS}
 use Rattle.wdf_model.specs.parts.Tree.{Tree, counts, gone, is_gone, nearest_devices}
+use Rattle.wdf_tree.specs.Kin.{HoldsKin, is_left, is_waiting}
 use Rattle.wdf_tree.specs.declared.tree.Tree.TheInside.{Inside}
 
 abbrev pub tree_in : Inside → Tree
@@ -27,14 +29,17 @@ pub record EndsAlone (nodes : List Node) : Type 0 where
   pub none : is_gone (entry gone nodes 0).life ≡ true
   pub alone : list_all ends_alone nodes ≡ true
 
--- The nearest devices and a count are kept, and there is room for each object.
-pub record IsKept (nodes : List Node) (nearest : List ObjectId) (count node_room device_room : ℕ) : Type 0 where
+-- The nearest devices, a count and two families of children are kept, and there is room for each object.
+pub record IsKept (nodes : List Node) (nearest : List ObjectId) (count node_room device_room : ℕ) (children waiting : Family) : Type 0 where
   pub few : length nodes ≤ OBJECTS
   pub room_for_nodes : OBJECTS ≤ node_room
   pub room_for_devices : OBJECTS ≤ device_room
   pub devices : map (λ d. d.0) nearest ≡ nearest_devices [] nodes
   pub counted : count ≡ count_by counts nodes
   pub ends : EndsAlone nodes
+  -- the children that are left, and those whose cleanup is still to come
+  pub kin : HoldsKin is_left nodes children
+  pub waiting_kin : HoldsKin is_waiting nodes waiting
 
 abbrev pub IsSound : Inside → Type 0
-IsSound t = IsKept t.nodes.items t.devices.items t.count (vec_capacity t.nodes) (vec_capacity t.devices)
+IsSound t = IsKept t.nodes.items t.devices.items t.count (vec_capacity t.nodes) (vec_capacity t.devices) t.children t.waiting

@@ -1,3 +1,4 @@
 pub mod Inside
 pub mod Refusal
-pub mod Below
+pub mod Kin
+pub mod GoFirst

@@ -1,17 +1,19 @@
 mod acts;
 mod deletion;
 mod making;
+mod order;
 mod readers;
 
 use std::marker::Model;
 use wdf_base::ObjectId;
+use wdf_ilist::Links;
 use wdf_model::Node;
 
 /// The objects of the machine: what they are, who stands above whom, and how far the deletion of
 /// each has come. An object that is gone keeps its id.
 ///
 /// Contracts see wdf_model's record of the tree. Every call but [`Tree::make`] takes no memory.
-#[derive(Debug, Drop)]
+#[derive(Drop)]
 pub struct Tree {
     /// The most counted objects that stand at one time.
     limit: u32,
@@ -21,6 +23,10 @@ pub struct Tree {
     devices: Vec<ObjectId>,
     /// How many counted objects there are.
     count: u32,
+    /// The children of each object that are left, by rising ids.
+    children: Links,
+    /// The children of each object whose cleanup is still to come, by rising ids.
+    waiting: Links,
 }
 
 impl Model for Tree {

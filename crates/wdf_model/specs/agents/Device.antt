@@ -15,17 +15,9 @@ use Rattle.wdf_base.specs.declared.declared.WhenLine.{WhenLine}
 use Rattle.wdf_base.specs.declared.declared.RegisterInfo.{RegisterInfo}
 use Rattle.wdf_base.specs.Plan.{posts_of}
 use Rattle.wdf_base.specs.Same.{same_access}
-use Rattle.wdf_model.specs.Tables.{entry, put, least, flag, in_order_by}
+use Rattle.wdf_model.specs.declared.entries.DeviceAction.{DeviceAction}
+use Rattle.wdf_model.specs.Tables.{tick_after, entry, put, least, flag, in_order_by}
 use Rattle.wdf_model.specs.Plans.{device_of_register}
-
-pub record DeviceAction : Type 0 where
-  pub action : Action
-  -- what brings it about, none for one with `at`
-  pub trigger : Option WhenLine
-  -- the tick at which it is due, if it is to come
-  pub tick : Option ℕ
-  -- its number in the text
-  pub line : ℕ
 
 pub record Device : Type 0 where
   pub agent : ℕ
@@ -93,7 +85,7 @@ delay_of (Some w) = w.after
 
 -- a triggered action with a delay is due that much later; a new trigger moves its tick
 abbrev pub set_off : Access → ℕ → ℕ → DeviceAction → DeviceAction
-set_off a k now l = if triggers a k l.trigger && nat_lt 0 (delay_of l.trigger) then record l { tick = Some (now + delay_of l.trigger) } else l
+set_off a k now l = if triggers a k l.trigger && nat_lt 0 (delay_of l.trigger) then record l { tick = Some (tick_after now (delay_of l.trigger)) } else l
 
 -- a triggered action without one takes effect at once
 abbrev pub at_once : Access → ℕ → Device → DeviceAction → Device

@@ -16,17 +16,11 @@ use Rattle.wdf_base.specs.declared.event.Post.TheVariants as post
 use Rattle.wdf_base.specs.declared.event.Event.{Event}
 use Rattle.wdf_base.specs.declared.event.Event.TheVariants as event
 use Rattle.wdf_base.specs.Same.{same_value}
-use Rattle.wdf_model.specs.Tables.{least}
+use Rattle.wdf_model.specs.declared.entries.SentRequest.{SentRequest}
+use Rattle.wdf_model.specs.Tables.{tick_after, least}
 use Rattle.wdf_model.specs.Plans.{target_of}
 use Rattle.wdf_model.specs.State.{object_in}
 use Rattle.wdf_model.specs.rules.Faults.{arg_is}
-
-pub record SentRequest : Type 0 where
-  pub request : Handle
-  -- the tick at which it is due
-  pub tick : ℕ
-  -- whether it was cancelled, or the target was told to cancel it
-  pub told : Bool
 
 pub record LowerTarget : Type 0 where
   pub agent : ℕ
@@ -52,7 +46,7 @@ target_at plan t agent = record {
 abbrev pub with_sent : LowerTarget → Option Handle → LowerTarget
 with_sent t None = t
 with_sent t (Some r) =
-    if nat_lt (length t.sent) t.depth then record t { sent = t.sent ++ record { request = r; tick = t.clock + t.delay; told = false } ∷ [] } else t
+    if nat_lt (length t.sent) t.depth then record t { sent = t.sent ++ record { request = r; tick = tick_after t.clock t.delay; told = false } ∷ [] } else t
 
 -- a request is to be cancelled
 abbrev pub told_one : ℕ → SentRequest → SentRequest

@@ -1,29 +1,22 @@
 //! How objects end: a deletion is asked, the cleanup is done, and the object is destroyed.
 
-ghost use Rattle.std.specs.Prelude.{◌≡◌, ◌+◌, ◌<◌, ◌==◌, ◌||◌, IfSome, IsTrue, drop, false, find, length, nat_lt, option_map};
-ghost use Rattle.std.specs.List.{list_all};
+ghost use Rattle.std.specs.Prelude.{◌≡◌, ◌+◌, ◌-◌, ◌<◌, ◌≤◌, ◌==◌, ◌||◌, ℕ, IfSome, IsTrue, drop, false, find, length, nat_lt, option_map};
+ghost use Rattle.std.specs.List.{list_all, range_with_len};
+ghost use Rattle.wdf_model.specs.Tables.{same_id};
 ghost use Rattle.wdf_model.specs.parts.Tree as tree;
-ghost use Rattle.wdf_tree.specs.Below.{is_clean_under, is_gone_under};
 
 use super::Tree;
 use super::making::{DRIVER, counted, gone};
 use wdf_base::{Life, ObjectId};
-use wdf_model::Node;
 
-/// Whether each child of an object has been cleaned up, of those with this id or a greater one.
-fn are_clean_under(nodes: &[Node], from: usize, parent: ObjectId) -> bool
-    ensures { result ≡ list_all (is_clean_under parent.0) (drop from nodes.now) }
+/// Whether an id was found, and it is this one.
+fn is_id(found: Option<u32>, id: u32) -> bool
+    ensures { result ≡ same_id found id }
 {
-    nodes.iter().skip(from).all(|node| {
-        node.parent.0 != parent.0 || matches!(&node.life, Life::Cleaned | Life::Gone)
-    })
-}
-
-/// Whether each child of an object is gone.
-fn are_gone_under(nodes: &[Node], parent: ObjectId) -> bool
-    ensures { result ≡ list_all (is_gone_under parent.0) nodes.now }
-{
-    nodes.iter().all(|node| node.parent.0 != parent.0 || node.life == Life::Gone)
+    match found {
+        Some(other) => other == id,
+        None => false,
+    }
 }
 
 impl Tree {
@@ -60,9 +53,39 @@ impl Tree {
         }
     }
 
+    /// An id before which nothing is below an object: that of its first child.
+    fn first_below(&self, o: ObjectId) -> u32
+        ensures before { (x : ℕ) → x < result → tree.is_below self.now o.0 x ≡ false }
+        ensures there { 0 < result → o.0 < length self.now.nodes }
+    {
+        if o.0 == 0 || o.0 >= self.len() {
+            return 0;
+        }
+        match self.children.front(o.0) {
+            Some(child) => child,
+            None => self.len(),
+        }
+    }
+
+    /// The least id from `first` on in the subtree of an object.
+    #[tactic(auto, using(crate::proofs::Walks::ids_from))]
+    fn next_from(&self, o: ObjectId, first: u32) -> Option<ObjectId>
+        ensures next { option_map (λ x. x.0) result
+            ≡ find (λ x. x == o.0 || tree.is_below self.now o.0 x) (range_with_len first (length self.now.nodes - first)) }
+        ensures above { IfSome result (λ x. first ≤ x.0) }
+        ensures there { IfSome result (λ x. x.0 < length self.now.nodes) }
+    {
+        for x in first..self.len() {
+            if x == o.0 || self.is_below(o, ObjectId(x)) {
+                return Some(ObjectId(x));
+            }
+        }
+        None
+    }
+
     /// The least id above `after` in the subtree of an object, which is that object and what is
     /// below it. So the subtree is walked by rising ids, from the id 0, which is no object.
-    #[tactic(auto, using(crate::proofs::Walks::next_after, crate::proofs::Walks::none_past, crate::proofs::Walks::ids_from))]
+    #[tactic(auto, using(crate::proofs::Walks::next_is_self, crate::proofs::Walks::next_after, crate::proofs::Walks::none_past))]
     pub fn next_below(&self, o: ObjectId, after: ObjectId) -> Option<ObjectId>
         ensures next { option_map (λ x. x.0) result ≡ find (nat_lt after.0) (tree.subtree self.now o.0) }
         ensures above { IfSome result (λ x. after.0 < x.0) }
@@ -72,12 +95,11 @@ impl Tree {
         if after.0 as usize >= self.nodes.len() {
             return None;
         }
-        for x in after.0 + 1..self.len() {
-            if x == o.0 || self.is_below(o, ObjectId(x)) {
-                return Some(ObjectId(x));
-            }
+        let first = self.first_below(o);
+        if after.0 < o.0 && o.0 < first {
+            return Some(o);
         }
-        None
+        self.next_from(o, first.max(after.0 + 1))
     }
 
     /// Asks the deletion of an object and of what is below it (KMDF): of each that is live.
@@ -92,25 +114,45 @@ impl Tree {
         }
     }
 
-    /// Whether each younger sibling of an object has been cleaned up.
-    #[tactic(auto, using(crate::proofs::Children::all_younger_clean))]
-    fn are_younger_clean(&self, o: ObjectId) -> bool
+    /// Whether no child of an object is left.
+    #[tactic(auto, using(crate::proofs::Children::left_children))]
+    fn has_no_child(&self, o: ObjectId) -> bool
         requires there { o.0 < length self.now.nodes }
+        ensures { result ≡ (length (tree.children self.now o.0) == 0) }
+    {
+        self.children.is_empty(o.0)
+    }
+
+    /// Whether each child of an object has been cleaned up.
+    #[tactic(auto, using(crate::proofs::Children::no_waiting_child))]
+    fn are_children_clean(&self, o: ObjectId) -> bool
+        requires there { o.0 < length self.now.nodes }
+        ensures { result ≡ list_all (λ x. tree.is_past_cleanup (tree.life_of self.now x)) (tree.children self.now o.0) }
+    {
+        self.waiting.is_empty(o.0)
+    }
+
+    /// Whether each younger sibling of an object whose deletion was asked has been cleaned up.
+    #[tactic(auto, using(crate::proofs::Children::last_waiting))]
+    fn are_younger_clean(&self, o: ObjectId) -> bool
+        requires asked { IsTrue (tree.is_asked (tree.life_of self.now o.0)) }
+        requires parent { IsTrue (tree.is_asked (tree.life_of self.now (tree.parent_of self.now o.0))) }
         ensures { result ≡ list_all (λ x. tree.is_past_cleanup (tree.life_of self.now x)) (tree.younger_siblings self.now o.0) }
     {
-        are_clean_under(&self.nodes, o.0 as usize + 1, self.parent(o))
+        is_id(self.waiting.back(self.parent(o).0), o.0)
     }
 
     /// Whether the cleanup of an object may come, by lives alone: its deletion was asked, no child
     /// waits for cleanup, and, where the deletion of its parent was asked too, no younger sibling
     /// does (own).
-    #[tactic(auto, using(crate::proofs::Children::all_clean, crate::proofs::Standing::there_if_asked))]
+    #[tactic(auto, using(crate::proofs::Standing::there_if_asked, crate::proofs::Standing::asked_as_same))]
     pub fn may_clean(&self, o: ObjectId) -> bool
         ensures { result ≡ tree.may_clean self.now o.0 }
     {
-        self.life(o) == Life::Asked
-            && are_clean_under(&self.nodes, 0, o)
-            && (self.life(self.parent(o)) != Life::Asked || self.are_younger_clean(o))
+        if self.life(o) != Life::Asked || !self.are_children_clean(o) {
+            return false;
+        }
+        self.life(self.parent(o)) != Life::Asked || self.are_younger_clean(o)
     }
 
     /// The cleanup of an object is done.
@@ -121,15 +163,16 @@ impl Tree {
         ensures size { length self.new.nodes ≡ length self.old.nodes }
     {
         self.nodes[o.0 as usize].life = Life::Cleaned;
+        let _list = self.waiting.unlink(o.0);
     }
 
     /// Whether an object may end, by the tree alone: its cleanup is done, no reference is held, and
     /// no child is left (KMDF).
-    #[tactic(auto, using(crate::proofs::Children::all_gone))]
+    #[tactic(auto, using(crate::proofs::Standing::there_if_cleaned, crate::proofs::Standing::cleaned_as_same))]
     pub fn may_destroy(&self, o: ObjectId) -> bool
         ensures { result ≡ tree.may_destroy self.now o.0 }
     {
-        self.life(o) == Life::Cleaned && self.references(o) == 0 && are_gone_under(&self.nodes, o)
+        self.life(o) == Life::Cleaned && self.references(o) == 0 && self.has_no_child(o)
     }
 
     /// An object ends, and nothing of it is kept.
@@ -142,5 +185,6 @@ impl Tree {
         self.count -= counted(&self.nodes[o.0 as usize]);
         self.nodes[o.0 as usize] = gone();
         self.devices[o.0 as usize] = DRIVER;
+        let _list = self.children.unlink(o.0);
     }
 }

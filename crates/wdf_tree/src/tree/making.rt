@@ -1,12 +1,15 @@
 //! How objects come to be: those that the plan declares, those that calls make, and requests.
 
-ghost use Rattle.std.specs.Prelude.{◌≡◌, ◌<◌, ◌++◌, ◌∷◌, [], IfOk, if◌then◌else◌, false, is_ok, length};
+ghost use Rattle.std.specs.Prelude.{◌≡◌, ◌<◌, ◌++◌, ◌∷◌, [], IfOk, if◌then◌else◌, true, false, is_ok, length};
 ghost use Rattle.wdf_model.specs.parts.Tree as tree;
+ghost use Rattle.wdf_ilist.specs.Family.{is_on_any};
+ghost use Rattle.wdf_tree.specs.Kin.{joined};
 ghost use Rattle.wdf_tree.specs.Refusal.{create_answer};
 
 use super::{CreateRefusal, Tree};
 use std::alloc::Global;
 use wdf_base::{Declared, Kind, Life, Memory, ObjectId, Plan, Value};
+use wdf_ilist::Links;
 use wdf_model::{CELLS, Node, OBJECTS};
 
 /// The driver object.
@@ -70,6 +73,18 @@ pub(super) fn counted(node: &Node) -> u32
     }
 }
 
+/// Puts an object at the end of the list of its parent's children, if there is such a list.
+fn join(family: &mut Links, parent: ObjectId, id: u32)
+    requires known { length family.old.lists ≡ OBJECTS }
+    requires within { id < family.old.items }
+    requires free { is_on_any id family.old.lists ≡ false }
+    ensures { family.new ≡ joined family.old parent.0 id }
+{
+    if parent.0 < OBJECTS {
+        family.push_back(parent.0, id);
+    }
+}
+
 impl Tree {
     /// The tree at the opening of the plan's run: the driver object and the declared ones, all live.
     /// It takes the room for all objects that a run can make.
@@ -77,20 +92,21 @@ impl Tree {
         requires { length plan.now.declared < OBJECTS }
         ensures opening { IfOk result (λ made. made ≡ tree.opening_tree plan.now) }
     {
-        let mut tree = Tree::empty(alloc, plan.objects())?;
+        let mut tree = Tree::empty(alloc, plan.objects(), OBJECTS)?;
         for declared in plan.declared.as_slice() {
             tree.enter(declared_node(declared));
         }
         Ok(tree)
     }
 
-    /// The tree with no object.
+    /// The tree with no object, and with room for as many.
     #[tactic(auto, using(crate::proofs::Standing::kept_at_first))]
-    fn empty(alloc: Global, limit: u32) -> Result<Tree, Memory>
+    fn empty(alloc: Global, limit: u32, room: u32) -> Result<Tree, Memory>
+        requires { room ≡ OBJECTS }
         ensures { IfOk result (λ made. made ≡ record { limit = limit; nodes = tree.gone ∷ [] }) }
     {
-        let mut nodes = Vec::with_capacity(alloc, OBJECTS as usize)?;
-        let mut devices = Vec::with_capacity(alloc, OBJECTS as usize)?;
+        let mut nodes = Vec::with_capacity(alloc, room as usize)?;
+        let mut devices = Vec::with_capacity(alloc, room as usize)?;
         nodes.push_reserved(gone());
         devices.push_reserved(DRIVER);
         Ok(Tree {
@@ -98,6 +114,8 @@ impl Tree {
             nodes,
             devices,
             count: 0,
+            children: Links::make(alloc, room, room)?,
+            waiting: Links::make(alloc, room, room)?,
         })
     }
 
@@ -113,15 +131,18 @@ impl Tree {
         }
     }
 
-    /// An object comes into the tree, with the next id.
-    #[tactic(auto, using(crate::proofs::Standing::kept_by_push, crate::proofs::Standing::few_counts))]
+    /// A live object comes into the tree, with the next id.
+    #[tactic(auto, using(crate::proofs::Standing::kept_by_push, crate::proofs::Standing::few_counts, crate::proofs::Kin::next_is_free))]
     fn enter(&mut self, node: Node)
         requires room { length self.old.nodes < OBJECTS }
-        requires there { tree.is_gone node.life ≡ false }
+        requires live { tree.is_live node.life ≡ true }
         ensures { self.new ≡ record self.old { nodes = self.old.nodes ++ node ∷ [] } }
     {
         let device = self.nearest_for(&node);
+        let id = self.len();
         self.count += counted(&node);
+        join(&mut self.children, node.parent, id);
+        join(&mut self.waiting, node.parent, id);
         self.nodes.push_reserved(node);
         self.devices.push_reserved(device);
     }

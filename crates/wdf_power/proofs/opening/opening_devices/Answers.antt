@@ -1,7 +1,7 @@
 -- One device more, and all.
 use Rattle.std.proofs.Common.{arith}
 use Rattle.wdf_power.specs.Power.{opening_device_at}
-use Rattle.wdf_power.proofs.Ids.{ids_all, ids_more}
+use Rattle.wdf_declared.proofs.Ids.{ids_all, ids_more}
 use Rattle.wdf_power.proofs.opening.opening_devices.Goals as goal
 
 pub loop-id-preserved : goal.loop-id-preserved

@@ -1,7 +1,7 @@
 -- One queue more, and all.
 use Rattle.std.proofs.Common.{arith}
 use Rattle.wdf_model.specs.parts.Power.{opening_queue_power}
-use Rattle.wdf_power.proofs.Ids.{ids_all, ids_more}
+use Rattle.wdf_declared.proofs.Ids.{ids_all, ids_more}
 use Rattle.wdf_power.proofs.opening.opening_queues.Goals as goal
 
 pub loop-id-preserved : goal.loop-id-preserved

@@ -1,15 +1,20 @@
-use Rattle.std.proofs.Common.{◌∙◌}
-use Rattle.wdf_model.specs.declared.room.TheConstants.{OBJECTS}
-use Rattle.wdf_rising.proofs.PlacesOfKeys.{rises_others}
-use Rattle.wdf_defer.specs.WorkItems.{same}
-use Rattle.wdf_defer.proofs.QueuedWork.{is_there}
+use Rattle.std.proofs.Common.{◌≡◌, true, sym, ◌∙◌, subst}
+use Rattle.wdf_model.specs.parts.Deferred.WorkItems.{WorkItems, is_work_queued}
+use Rattle.wdf_defer.proofs.QueuedWork.{is_member, member_within, cancelled, not_cancelled}
 use Rattle.wdf_defer.proofs.work_items.WorkItems.cancel.Goals as goal
 
-pub invariant_of-self : goal.invariant_of-self
-invariant_of-self c = record {
-  objects = rw c.remove.ensures.entries (rises_others same OBJECTS c.args.o.0 c.self.inside.queued.entries c.self.invariant.objects);
-  room = c.remove.ensures.room ∙ c.self.invariant.room;
-}
+pub returns-then-not-queued-clause-done : goal.returns-then-not-queued-clause-done
+returns-then-not-queued-clause-done c = not_cancelled c.args.self.now c.args.o.0 (sym c.queued.ensures ∙ c.if-not-queued.true)
 
-pub returns-clause-answer : goal.returns-clause-answer
-returns-clause-answer c = rw (← c.self.view_is) (c.remove.ensures.answer ∙ is_there c.self.inside.queued.entries c.args.o.0)
+pub put-requires : goal.put-requires
+put-requires c =
+    let P : WorkItems → Type 0 = λ W. is_work_queued W c.args.o.0 ≡ true in
+    let queued = subst P (sym c.self.view_is) (sym c.queued.ensures ∙ c.if-not-queued.false) in
+    member_within c.args.o.0 c.self.inside.queued (is_member c.args.o.0 c.self.inside.queued ∙ queued)
+
+pub returns-clause-done : goal.returns-clause-done
+returns-clause-done c =
+    let P : WorkItems → Type 0 = λ W. is_work_queued W c.args.o.0 ≡ true in
+    let queued = subst P (sym c.self.view_is) (sym c.queued.ensures ∙ c.if-not-queued.false) in
+    let within = member_within c.args.o.0 c.self.inside.queued (is_member c.args.o.0 c.self.inside.queued ∙ queued) in
+    rw c.put.ensures (cancelled c.args.self.now c.args.o.0 c.self.inside.queued c.self.view_is within)

@@ -12,4 +12,4 @@ returns-in_err-_queue c = λ q k here.
 pub returns : goal.returns
 returns c = λ q k here.
     let lists = ap (λ (Q : Queues). Q.waiting) c.self.view_is in
-    rw (c.request_at.ensures, c.after.ensures) (next_waiting_at c.self.inside.waiting c.args.self.now lists c.owner.ensures.apart q k c.args.r.0 here)
+    rw (c.object_at.ensures, c.after.ensures) (next_waiting_at c.self.inside.waiting c.args.self.now lists c.owner.ensures.apart q k c.args.r.0 here)

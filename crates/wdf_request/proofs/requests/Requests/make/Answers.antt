@@ -1,0 +1,24 @@
+-- Nothing is kept of no request.
+use Rattle.std.proofs.Common.{refl, lit≤, arith}
+use Rattle.wdf_model.specs.declared.entries.Request.{Request}
+use Rattle.wdf_model.specs.parts.Requests.{is_closing}
+use Rattle.wdf_request.specs.Keys.{returning_queue, sent_target, unfinished_device}
+use Rattle.wdf_request.proofs.Counting.{none_counted}
+use Rattle.wdf_request.proofs.Members.{empty_set}
+use Rattle.wdf_request.proofs.requests.Requests.make.Goals as goal
+
+pub invariant_of-result : goal.invariant_of-result
+invariant_of-result c =
+    let none = c.in_ok-with_capacity.ensures.items in
+    record {
+      entries = rw none (omega arith);
+      room = omega (arith, c.in_ok-with_capacity.ensures.exact);
+      returning = rw (none, c.in_ok-make.ensures) (none_counted (λ (r : Request). returning_queue r.place));
+      sent = rw (none, c.in_ok-make-2.ensures) (none_counted (λ (r : Request). sent_target r.place));
+      unfinished = rw (none, c.in_ok-make-3.ensures) (none_counted unfinished_device);
+      open_count = rw none refl;
+      closing = rw none (empty_set (λ (r : Request). is_closing r.place) 204800 _ refl (lit≤ tt) c.in_ok-make-4.ensures);
+    }
+
+pub returns : goal.returns
+returns c = rw c.in_ok-with_capacity.ensures.items refl

@@ -1,0 +1,77 @@
+ghost use Rattle.std.specs.Prelude.{◌≡◌, ◌+◌, ◌-◌, ◌<◌, ◌^◌, [], IfOk};
+ghost use Rattle.wdf_model.specs.Tables.{entry};
+ghost use Rattle.wdf_request.specs.Counts.{changed_at, count_at, moved_count};
+
+use std::alloc::Global;
+use std::marker::Model;
+use wdf_base::{Memory, ObjectId};
+use wdf_maps::{entry_at, put_at};
+use wdf_model::OBJECTS;
+
+/// How many requests belong to each id, as far as ids came. Ids past the room for objects aren't
+/// counted.
+#[derive(Debug, Drop)]
+pub(crate) struct Counts {
+    counts: Vec<u32>,
+}
+
+impl Model for Counts {
+    ghost use Rattle.std.specs.Prelude.{ℕ, List, ◌≤◌, vec_capacity};
+    ghost use Rattle.wdf_model.specs.declared.room.TheConstants.{OBJECTS};
+
+    ghost Value = { List ℕ };
+
+    ghost view = { λ c. c.counts.items };
+
+    ghost invariant = { λ c. OBJECTS ≤ vec_capacity c.counts };
+}
+
+impl Counts {
+    /// No request belongs to an id.
+    pub(crate) fn make(alloc: Global) -> Result<Counts, Memory>
+        ensures { IfOk result (λ made. made ≡ []) }
+    {
+        Ok(Counts {
+            counts: Vec::with_capacity(alloc, OBJECTS as usize)?,
+        })
+    }
+
+    /// How many requests belong to an id.
+    pub(crate) fn get(&self, id: ObjectId) -> u32
+        ensures { result ≡ entry 0 self.now id.0 }
+    {
+        entry_at(&self.counts, 0, id.0)
+    }
+
+    /// One request more belongs to an id.
+    fn more(&mut self, id: Option<ObjectId>)
+        requires { count_at self.old id + 1 < 2 ^ 32 }
+        ensures { self.new ≡ changed_at self.old (λ n. n + 1) id }
+    {
+        let Some(id) = id else { return };
+        if id.0 < OBJECTS {
+            let count = self.get(id) + 1;
+            put_at(&mut self.counts, 0, id.0, count);
+        }
+    }
+
+    /// One request less belongs to an id.
+    fn less(&mut self, id: Option<ObjectId>)
+        ensures { self.new ≡ changed_at self.old (λ n. n - 1) id }
+    {
+        let Some(id) = id else { return };
+        if id.0 < OBJECTS {
+            let count = self.get(id).saturating_sub(1);
+            put_at(&mut self.counts, 0, id.0, count);
+        }
+    }
+
+    /// A request that belonged to one id belongs to another.
+    pub(crate) fn moves(&mut self, from: Option<ObjectId>, to: Option<ObjectId>)
+        requires { count_at self.old to + 1 < 2 ^ 32 }
+        ensures { self.new ≡ moved_count self.old from to }
+    {
+        self.more(to);
+        self.less(from);
+    }
+}

@@ -1,0 +1,61 @@
+//! The ids that a request belongs to, and what is open.
+
+ghost use Rattle.std.specs.Prelude.{◌≡◌};
+ghost use Rattle.wdf_model.specs.Tables.{flag};
+ghost use Rattle.wdf_model.specs.parts.Requests as parts;
+ghost use Rattle.wdf_model.specs.rules.Ready.{is_open_request};
+ghost use Rattle.wdf_request.specs.Keys as keys;
+
+use wdf_base::{ObjectId, Place};
+use wdf_model::Request;
+
+/// The queue that a request is Returning to.
+pub(crate) fn returning_queue(place: Place) -> Option<ObjectId>
+    ensures { result ≡ keys.returning_queue place }
+{
+    match place {
+        Place::Returning(q) => Some(q),
+        _ => None,
+    }
+}
+
+/// The target that a request is Sent to.
+pub(crate) fn sent_target(place: Place) -> Option<ObjectId>
+    ensures { result ≡ keys.sent_target place }
+{
+    match place {
+        Place::Sent(t) => Some(t),
+        _ => None,
+    }
+}
+
+/// The device at which a request arrived that isn't done.
+pub(crate) fn unfinished_device(request: Request) -> Option<ObjectId>
+    ensures { result ≡ keys.unfinished_device request }
+{
+    if request.info.arrival > 0 && !matches!(request.place, Place::Done) {
+        Some(request.info.device)
+    } else {
+        None
+    }
+}
+
+/// 1 for a request that keeps a run from its end, 0 for another. It arrived and isn't done, or the
+/// driver made it and it is sent.
+pub(crate) fn open_flag(request: Request) -> u32
+    ensures { result ≡ flag (is_open_request request) }
+{
+    let is_open = if request.info.arrival > 0 {
+        !matches!(request.place, Place::Done)
+    } else {
+        matches!(request.place, Place::Sent(_))
+    };
+    if is_open { 1 } else { 0 }
+}
+
+/// Whether the framework will complete a request at this place.
+pub(crate) fn is_closing(place: Place) -> bool
+    ensures { result ≡ parts.is_closing place }
+{
+    matches!(place, Place::Closing(_))
+}
