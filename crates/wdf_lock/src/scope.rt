@@ -71,7 +71,7 @@ fn scope_lock_of_device(device: ObjectId, scope: Scope) -> Option<LockRef>
 {
     match scope {
         Scope::PerDevice => Some(LockRef::DeviceScope(device)),
-        Scope::PerQueue | Scope::Unscoped => None,
+        Scope::Unscoped | Scope::PerQueue => None,
     }
 }
 
