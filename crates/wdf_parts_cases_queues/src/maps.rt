@@ -1,6 +1,6 @@
 use std::test::Fail;
-use wdf_maps::{entry_at, object_at, put_at};
 use wdf_base::ObjectId;
+use wdf_maps::{entry_at, object_at, put_at};
 
 #[test]
 fn a_write_past_the_end_leaves_blank_entries(rt: HostRuntime) -> Result<(), Fail> {

@@ -4,14 +4,17 @@ ghost use Rattle.std.specs.Prelude.{◌≡◌, IfOk, length};
 
 use std::alloc::Global;
 use wdf_base::{
-    Declared, DeviceInfo, DispatchKind, ExecutionLevel, Memory, ObjectId, Plan, QueueInfo, Scope,
-    Serves,
+    Declared, DeviceInfo, DispatchKind, ExecutionLevel, Handle, Items, MANY, Memory, ObjectId,
+    Plan, Post, PostLine, QueueInfo, Scope, Serves,
 };
 use wdf_scene::PlanBuilder;
 
 pub(crate) const DEVICE: ObjectId = ObjectId(2);
+
 pub(crate) const SEQUENTIAL: ObjectId = ObjectId(3);
+
 pub(crate) const PARALLEL: ObjectId = ObjectId(4);
+
 pub(crate) const MANUAL: ObjectId = ObjectId(5);
 
 fn queue(name: u32, dispatch: DispatchKind) -> Declared {
@@ -32,7 +35,25 @@ fn queue(name: u32, dispatch: DispatchKind) -> Declared {
     })
 }
 
-/// The driver object, a device, and a queue of each kind; the parallel one takes two.
+/// Two posts.
+fn posts(alloc: Global) -> Result<Items<PostLine, MANY>, Memory> {
+    let device = Handle {
+        id: DEVICE,
+        name: 2,
+    };
+    let line = PostLine {
+        tick: 0,
+        post: Post::Read { device, length: 16 },
+        line: 9,
+    };
+    let mut posts = Items::new(alloc);
+    posts.push(line)?;
+    posts.push(line)?;
+    Ok(posts)
+}
+
+/// The driver object, a device, a queue of each kind, of which the parallel one takes two; and two
+/// posts of agent 0.
 pub(crate) fn plan(alloc: Global) -> Result<Plan, Memory>
     ensures { IfOk result (λ plan. length plan.declared ≡ 5) }
 {
@@ -47,5 +68,7 @@ pub(crate) fn plan(alloc: Global) -> Result<Plan, Memory>
     builder.declared(queue(3, DispatchKind::Sequential))?;
     builder.declared(queue(4, DispatchKind::Parallel(2)))?;
     builder.declared(queue(5, DispatchKind::Manual))?;
-    Ok(builder.finish())
+    let mut plan = builder.finish();
+    plan.pnp = posts(alloc)?;
+    Ok(plan)
 }

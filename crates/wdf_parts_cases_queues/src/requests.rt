@@ -1,21 +1,26 @@
+use crate::plans::plan;
 use std::test::Fail;
 use wdf_base::{Mark, ObjectId, Place, RequestForm, RequestInfo, Status};
 use wdf_request::Requests;
 
 const QUEUE: ObjectId = ObjectId(3);
+
 const OTHER: ObjectId = ObjectId(4);
+
 const TARGET: ObjectId = ObjectId(5);
+
 const DEVICE: ObjectId = ObjectId(2);
+
 const REQUEST: ObjectId = ObjectId(10);
 
-/// The second arrival of agent 1, a read.
+/// The second arrival of agent 0, a read.
 const READ: RequestInfo = RequestInfo {
     device: DEVICE,
     form: RequestForm::Read,
     length: 16,
     code: 0,
     origin: None,
-    agent: 1,
+    agent: 0,
     arrival: 2,
     mark: Mark::Unmarked,
     cancelled: false,
@@ -51,20 +56,21 @@ fn does(requests: &mut Requests, act: Act) -> bool {
 
 /// What a request that waited in the queue has come to after some acts.
 struct Case {
-    acts: [Option<Act>; 4],
+    acts: &'static [Act],
     place: Place,
     mark: Mark,
     cancelled: bool,
     origin: Option<ObjectId>,
 }
 
-const PRESENTED: Option<Act> = Some(Act::To(Place::Owned));
-const MARKED: Option<Act> = Some(Act::Mark(Status::Success));
+const PRESENTED: Act = Act::To(Place::Owned);
+
+const MARKED: Act = Act::Mark(Status::Success);
 
 static CASES: [Case; 10] = [
     // it becomes Owned from a queue, which is its origin
     Case {
-        acts: [PRESENTED, None, None, None],
+        acts: &[PRESENTED],
         place: Place::Owned,
         mark: Mark::Unmarked,
         cancelled: false,
@@ -72,7 +78,7 @@ static CASES: [Case; 10] = [
     },
     // marked, then unmarked
     Case {
-        acts: [PRESENTED, MARKED, Some(Act::Unmark(Status::Success)), None],
+        acts: &[PRESENTED, MARKED, Act::Unmark(Status::Success)],
         place: Place::Owned,
         mark: Mark::Unmarked,
         cancelled: false,
@@ -80,12 +86,7 @@ static CASES: [Case; 10] = [
     },
     // none was marked
     Case {
-        acts: [
-            PRESENTED,
-            Some(Act::Unmark(Status::InvalidDeviceRequest)),
-            None,
-            None,
-        ],
+        acts: &[PRESENTED, Act::Unmark(Status::InvalidDeviceRequest)],
         place: Place::Owned,
         mark: Mark::Unmarked,
         cancelled: false,
@@ -93,11 +94,11 @@ static CASES: [Case; 10] = [
     },
     // a cancelled cancelable request has EvtRequestCancel due, and can't be unmarked
     Case {
-        acts: [
+        acts: &[
             PRESENTED,
             MARKED,
-            Some(Act::Cancel),
-            Some(Act::Unmark(Status::Cancelled)),
+            Act::Cancel,
+            Act::Unmark(Status::Cancelled),
         ],
         place: Place::Owned,
         mark: Mark::Due,
@@ -106,7 +107,7 @@ static CASES: [Case; 10] = [
     },
     // EvtRequestCancel starts
     Case {
-        acts: [PRESENTED, MARKED, Some(Act::Cancel), Some(Act::TakeCancel)],
+        acts: &[PRESENTED, MARKED, Act::Cancel, Act::TakeCancel],
         place: Place::Owned,
         mark: Mark::Taken,
         cancelled: true,
@@ -114,12 +115,7 @@ static CASES: [Case; 10] = [
     },
     // a cancelled request doesn't become cancelable
     Case {
-        acts: [
-            PRESENTED,
-            Some(Act::Cancel),
-            Some(Act::Mark(Status::Cancelled)),
-            None,
-        ],
+        acts: &[PRESENTED, Act::Cancel, Act::Mark(Status::Cancelled)],
         place: Place::Owned,
         mark: Mark::Unmarked,
         cancelled: true,
@@ -127,7 +123,7 @@ static CASES: [Case; 10] = [
     },
     // the mark is none again where it enters a queue; the origin stays until it is Owned again
     Case {
-        acts: [PRESENTED, MARKED, Some(Act::To(Place::Queued(OTHER))), None],
+        acts: &[PRESENTED, MARKED, Act::To(Place::Queued(OTHER))],
         place: Place::Queued(OTHER),
         mark: Mark::Unmarked,
         cancelled: false,
@@ -135,12 +131,7 @@ static CASES: [Case; 10] = [
     },
     // the mark is none again where it is sent; back from the target it keeps its origin
     Case {
-        acts: [
-            PRESENTED,
-            MARKED,
-            Some(Act::To(Place::Sent(TARGET))),
-            PRESENTED,
-        ],
+        acts: &[PRESENTED, MARKED, Act::To(Place::Sent(TARGET)), PRESENTED],
         place: Place::Owned,
         mark: Mark::Unmarked,
         cancelled: false,
@@ -148,12 +139,7 @@ static CASES: [Case; 10] = [
     },
     // a returning request becomes Owned from the queue that its place names
     Case {
-        acts: [
-            PRESENTED,
-            Some(Act::To(Place::Returning(OTHER))),
-            PRESENTED,
-            None,
-        ],
+        acts: &[PRESENTED, Act::To(Place::Returning(OTHER)), PRESENTED],
         place: Place::Owned,
         mark: Mark::Unmarked,
         cancelled: false,
@@ -161,7 +147,7 @@ static CASES: [Case; 10] = [
     },
     // it is completed
     Case {
-        acts: [PRESENTED, Some(Act::Complete), None, None],
+        acts: &[PRESENTED, Act::Complete],
         place: Place::Done,
         mark: Mark::Unmarked,
         cancelled: false,
@@ -171,13 +157,12 @@ static CASES: [Case; 10] = [
 
 #[test]
 fn requests_move(rt: HostRuntime) -> Result<(), Fail> {
+    let plan = plan(rt.alloc())?;
     for case in &CASES {
-        let mut requests = Requests::make(rt.alloc())?;
+        let mut requests = Requests::make(rt.alloc(), &plan)?;
         requests.arrive(REQUEST, Place::Queued(QUEUE), READ);
         for act in case.acts {
-            if let Some(act) = act {
-                assert!(rt; does(&mut requests, act));
-            }
+            assert!(rt; does(&mut requests, *act));
         }
         let info = requests.info(REQUEST);
         assert_eq!(rt; requests.place(REQUEST), case.place);
@@ -193,7 +178,8 @@ fn requests_move(rt: HostRuntime) -> Result<(), Fail> {
 /// What is kept of all requests follows each move.
 #[test]
 fn counts_follow(rt: HostRuntime) -> Result<(), Fail> {
-    let mut requests = Requests::make(rt.alloc())?;
+    let plan = plan(rt.alloc())?;
+    let mut requests = Requests::make(rt.alloc(), &plan)?;
     assert!(rt; requests.is_empty());
     requests.arrive(REQUEST, Place::Queued(QUEUE), READ);
     for (place, returning, sent, closing) in [
@@ -220,22 +206,30 @@ fn counts_follow(rt: HostRuntime) -> Result<(), Fail> {
     Ok(())
 }
 
-/// A request is found by its number among the agent's arrivals, until it is forgotten.
+/// A request is found by its number among the agent's arrivals, until it is forgotten; also past
+/// the agent's lines, and where a number came twice.
 #[test]
 fn arrivals_are_found(rt: HostRuntime) -> Result<(), Fail> {
-    let mut requests = Requests::make(rt.alloc())?;
+    let plan = plan(rt.alloc())?;
+    let mut requests = Requests::make(rt.alloc(), &plan)?;
     requests.arrive(REQUEST, Place::Queued(QUEUE), READ);
-    assert_eq!(rt; requests.arrival_of(1, 2), Some(REQUEST));
-    for (agent, k) in [(1, 0), (1, 1), (2, 2), (0, 0)] {
+    for (arrival, id) in [(1, 11), (9, 12), (1, 13)] {
+        let info = RequestInfo { arrival, ..READ };
+        requests.arrive(ObjectId(id), Place::Queued(QUEUE), info);
+        assert_eq!(rt; requests.arrival_of(0, 2), Some(REQUEST));
+    }
+    assert_eq!(rt; requests.arrival_of(0, 1), Some(ObjectId(11)));
+    assert_eq!(rt; requests.arrival_of(0, 9), Some(ObjectId(12)));
+    for (agent, k) in [(0, 0), (0, 3), (1, 2)] {
         assert_eq!(rt; requests.arrival_of(agent, k), None);
     }
     requests.forget(REQUEST);
-    assert_eq!(rt; requests.arrival_of(1, 2), Some(REQUEST));
+    assert_eq!(rt; requests.arrival_of(0, 2), Some(REQUEST));
     assert!(rt; does(&mut requests, Act::Complete));
     requests.forget(REQUEST);
-    assert_eq!(rt; requests.arrival_of(1, 2), None);
+    assert_eq!(rt; requests.arrival_of(0, 2), None);
     assert_eq!(rt; requests.request(REQUEST).place, Place::Done);
     requests.forget(ObjectId(77));
-    assert_eq!(rt; requests.len(), 11);
+    assert_eq!(rt; requests.len(), 14);
     Ok(())
 }
