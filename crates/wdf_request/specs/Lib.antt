@@ -1,3 +1,4 @@
+pub mod Arrivals
 pub mod Closing
 pub mod Counts
 pub mod Keys

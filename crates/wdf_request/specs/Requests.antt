@@ -4,6 +4,7 @@ use Rattle.wdf_model.specs.declared.room.TheConstants.{OBJECTS}
 use Rattle.wdf_model.specs.declared.entries.Request.{Request}
 use Rattle.wdf_model.specs.parts.Requests.{Requests, is_closing}
 use Rattle.wdf_model.specs.rules.Ready.{is_open_request}
+use Rattle.wdf_request.specs.Arrivals.{IsNoted}
 use Rattle.wdf_request.specs.Closing.{IsSetOf}
 use Rattle.wdf_request.specs.Counts.{AreCounted}
 use Rattle.wdf_request.specs.Keys.{returning_queue, sent_target, unfinished_device}
@@ -12,7 +13,7 @@ use Rattle.wdf_request.specs.declared.requests.Requests.TheInside.{Inside}
 abbrev pub requests_in : Inside → Requests
 requests_in s = record { all = s.all.items; arrived = s.arrived }
 
--- Every object may be a request. The counts and the set are those of the requests.
+-- Every object may be a request. The counts, the set and the rows are those of the requests.
 pub record IsKept (s : Inside) : Type 0 where
   pub entries : length s.all.items ≤ OBJECTS
   pub room : OBJECTS ≤ vec_capacity s.all
@@ -21,3 +22,4 @@ pub record IsKept (s : Inside) : Type 0 where
   pub unfinished : AreCounted unfinished_device s.all.items s.unfinished
   pub open_count : s.open_count ≡ count_by is_open_request s.all.items
   pub closing : IsSetOf (λ (r : Request). is_closing r.place) s.all.items s.closing
+  pub noted : IsNoted s.all.items s.arrivals

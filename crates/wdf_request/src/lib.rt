@@ -1,6 +1,7 @@
 //! The requests: where each is, whether it is cancelable, and what is kept of it.
 #![tactic(auto)]
 
+mod arrivals;
 mod change;
 mod counts;
 mod keys;

@@ -8,6 +8,7 @@ ghost use Rattle.wdf_model.specs.rules.Starts.{is_unfinished_at};
 ghost use Rattle.wdf_request.specs.Closing.{closing_requests};
 ghost use Rattle.wdf_request.specs.Counts.{is_at};
 
+use crate::arrivals::Arrivals;
 use crate::change::{
     NO_REQUEST, answer_of_mark, cancelled, forgotten, marked, moved, unmarked, with_mark,
 };
@@ -15,7 +16,7 @@ use crate::counts::Counts;
 use crate::keys::{is_closing, open_flag, returning_queue, sent_target, unfinished_device};
 use std::alloc::Global;
 use std::marker::Model;
-use wdf_base::{Mark, Memory, ObjectId, Place, RequestInfo, Status};
+use wdf_base::{Mark, Memory, ObjectId, Place, Plan, RequestInfo, Status};
 use wdf_maps::{entry_at, object_at, put_at};
 use wdf_model::{EVENTS, OBJECTS, Request};
 use wdf_sets::IdSet;
@@ -38,6 +39,8 @@ pub struct Requests {
     open_count: u32,
     /// Those that the framework will complete.
     closing: IdSet,
+    /// Which each arrival made.
+    arrivals: Arrivals,
 }
 
 impl Model for Requests {
@@ -53,8 +56,8 @@ impl Model for Requests {
 }
 
 impl Requests {
-    /// No request yet. It takes all memory that the requests of a run need.
-    pub fn make(alloc: Global) -> Result<Requests, Memory>
+    /// No request yet. It takes all memory that the requests of the plan's run need.
+    pub fn make(alloc: Global, plan: &Plan) -> Result<Requests, Memory>
         ensures { IfOk result (λ made. made ≡ parts.no_requests) }
     {
         Ok(Requests {
@@ -65,6 +68,7 @@ impl Requests {
             unfinished: Counts::make(alloc)?,
             open_count: 0,
             closing: IdSet::make(alloc, OBJECTS)?,
+            arrivals: Arrivals::make(alloc, plan)?,
         })
     }
 
@@ -118,9 +122,28 @@ impl Requests {
         k > 0 && info.agent == agent && info.arrival == k
     }
 
-    /// The request of an agent's arrival with this number, from 1, if that made one. It goes over
-    /// the requests.
+    /// The request of an agent's arrival with this number, from 1, if that made one. Only where an
+    /// agent had more arrivals than its lines give, or one number twice, it goes over the requests.
     pub fn arrival_of(&self, agent: u16, k: u32) -> Option<ObjectId>
+        ensures { option_map (λ r. r.0) result ≡ parts.arrival_of self.now agent k }
+    {
+        if !self.arrivals.is_sure(agent, k) {
+            return self.find_arrival(agent, k);
+        }
+        let slot = self.arrivals.slot(agent, k);
+        if slot == 0 {
+            return None;
+        }
+        let r = ObjectId(slot - 1);
+        if self.is_arrival(agent, k, r) {
+            Some(r)
+        } else {
+            None
+        }
+    }
+
+    /// The same, over all requests.
+    fn find_arrival(&self, agent: u16, k: u32) -> Option<ObjectId>
         ensures { option_map (λ r. r.0) result ≡ parts.arrival_of self.now agent k }
     {
         for id in 0..self.len() {
@@ -217,6 +240,8 @@ impl Requests {
             .moves(unfinished_device(old), unfinished_device(request));
         self.open_count = self.open_count + open_flag(request) - open_flag(old);
         self.closing.put(r.0, is_closing(request.place));
+        let info = &request.info;
+        self.arrivals.note(info.agent, info.arrival, r.0);
         put_at(&mut self.all, NO_REQUEST, r.0, request);
     }
 

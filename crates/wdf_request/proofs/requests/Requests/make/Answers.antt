@@ -5,6 +5,7 @@ use Rattle.wdf_model.specs.parts.Requests.{is_closing}
 use Rattle.wdf_request.specs.Keys.{returning_queue, sent_target, unfinished_device}
 use Rattle.wdf_request.proofs.Counting.{none_counted}
 use Rattle.wdf_request.proofs.Members.{empty_set}
+use Rattle.wdf_request.proofs.Noting.{none_noted}
 use Rattle.wdf_request.proofs.requests.Requests.make.Goals as goal
 
 pub invariant_of-result : goal.invariant_of-result
@@ -18,6 +19,7 @@ invariant_of-result c =
       unfinished = rw (none, c.in_ok-make-3.ensures) (none_counted unfinished_device);
       open_count = rw none refl;
       closing = rw none (empty_set (λ (r : Request). is_closing r.place) 204800 _ refl (lit≤ tt) c.in_ok-make-4.ensures);
+      noted = rw none (none_noted _);
     }
 
 pub returns : goal.returns

@@ -9,6 +9,7 @@ use Rattle.wdf_model.proofs.Maps.{put_short, put_within}
 use Rattle.wdf_request.specs.Keys.{returning_queue, sent_target, unfinished_device}
 use Rattle.wdf_request.proofs.Counting.{count_put, counted_put}
 use Rattle.wdf_request.proofs.Members.{set_put}
+use Rattle.wdf_request.proofs.Noting.{noted_put}
 use Rattle.wdf_request.proofs.requests.Requests.write.Goals as goal
 
 pub invariant_of-self : goal.invariant_of-self
@@ -36,6 +37,7 @@ invariant_of-self c =
           (counted_put unfinished_device no_request all c.self.inside.unfinished r c.args.request refl kept.unfinished);
       open_count = rw (put, c.open_flag.ensures, c.open_flag-2.ensures, old, kept.open_count) (omega arith);
       closing = rw (put, c.put.ensures, c.is_closing.ensures) (set_put (λ (x : Request). is_closing x.place) all c.self.inside.closing r c.args.request h kept.closing);
+      noted = rw (put, c.note.ensures) (noted_put all c.self.inside.arrivals r c.args.request kept.noted);
     }
 
 pub overflow_sub-self : goal.overflow_sub-self

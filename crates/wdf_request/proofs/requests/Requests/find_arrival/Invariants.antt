@@ -2,7 +2,7 @@
 use Rattle.std.proofs.Common.{◌≡◌, ◌-◌, length, find}
 use Rattle.std.specs.List.{range_with_len}
 use Rattle.wdf_model.specs.parts.Requests.{arrival_of, is_arrival}
-use Rattle.wdf_request.proofs.requests.Requests.arrival_of.Given as goal
+use Rattle.wdf_request.proofs.requests.Requests.find_arrival.Given as goal
 
 abbrev pub invariant-loop-id : goal.invariant-loop-id
 invariant-loop-id l =
