@@ -1,3 +1,4 @@
 pub mod DpcLists
+pub mod LatestTick
 pub mod QueuedWork
 pub mod TimersThatFire

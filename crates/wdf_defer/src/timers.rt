@@ -1,7 +1,8 @@
-ghost use Rattle.std.specs.Prelude.{◌≡◌, ◌+◌, ◌<◌, ◌^◌, IfOk, IfSome, Some, length, map, nat_lt, slice_get};
+ghost use Rattle.std.specs.Prelude.{◌≡◌, ◌+◌, ◌<◌, ◌^◌, IfOk, IfSome, Some, length, map, slice_get, true};
 ghost use Rattle.wdf_model.specs.parts.Deferred.Timers as timers;
-ghost use Rattle.std.specs.List.{list_any};
 ghost use Rattle.wdf_model.specs.Tables as tables;
+ghost use Rattle.wdf_rising.specs.Places.{rises, with_entry};
+ghost use Rattle.wdf_defer.specs.Ticks.{Replaces, due_tick, latest_of, timer_id};
 
 use std::alloc::Global;
 use std::marker::Model;
@@ -13,9 +14,11 @@ use wdf_rising::Rising;
 const LONGEST: u64 = 1_000_000;
 
 /// The queued timers. All calls but [`Timers::make`] take no memory.
-#[derive(Debug, Drop)]
+#[derive(Drop)]
 pub struct Timers {
     queued: Rising<Timed>,
+    /// The greatest due tick of the queued timers, 0 where there is none.
+    latest: u64,
 }
 
 impl Model for Timers {
@@ -40,11 +43,38 @@ fn lesser(least: Option<u64>, tick: u64) -> u64
     }
 }
 
-/// Whether one of these timers is due later than now.
-fn is_any_later(queued: &[Timed], now: u64) -> bool
-    ensures { result ≡ list_any (λ t. nat_lt now t.tick) queued.now }
+/// The greatest due tick of these timers, 0 where there is none.
+fn latest_tick(queued: &[Timed]) -> u64
+    ensures { result ≡ latest_of queued.now }
 {
-    queued.iter().any(|timed| now < timed.tick)
+    let mut latest = 0;
+    for timed in queued {
+        latest = timed.tick.max(latest);
+    }
+    latest
+}
+
+/// The greatest due tick, where it was `latest` before one due tick went and another one came. The
+/// timers are looked at only where the one that went was the greatest, and the one that came is less.
+fn latest_after(queued: &[Timed], latest: u64, went: u64, came: u64) -> u64
+    requires { Replaces latest went came (latest_of queued.now) }
+    ensures { result ≡ latest_of queued.now }
+{
+    if came < went && went == latest {
+        latest_tick(queued)
+    } else {
+        latest.max(came)
+    }
+}
+
+/// The due tick of a timer, 0 where it isn't queued.
+fn tick_of(timed: Option<Timed>) -> u64
+    ensures { result ≡ due_tick timed }
+{
+    match timed {
+        Some(timed) => timed.tick,
+        None => 0,
+    }
 }
 
 /// The least due tick of these timers.
@@ -65,6 +95,7 @@ impl Timers {
     {
         Ok(Timers {
             queued: Rising::make(alloc, OBJECTS)?,
+            latest: 0,
         })
     }
 
@@ -87,14 +118,14 @@ impl Timers {
     pub fn is_queued(&self, o: ObjectId) -> bool
         ensures { result ≡ timers.is_timer_queued self.now o.0 }
     {
-        self.queued.get(o).is_some()
+        self.timed_of(o).is_some()
     }
 
     /// Whether the timer is queued and its due tick is reached.
     pub fn due(&self, o: ObjectId, now: u64) -> bool
         ensures { result ≡ timers.timer_due self.now o.0 now }
     {
-        match self.queued.get(o) {
+        match self.timed_of(o) {
             Some(timed) => timed.tick <= now,
             None => false,
         }
@@ -111,7 +142,28 @@ impl Timers {
     pub fn any_later(&self, now: u64) -> bool
         ensures { result ≡ timers.any_later_timer self.now now }
     {
-        is_any_later(self.queued.as_slice(), now)
+        now < self.latest
+    }
+
+    /// The timer with its due tick, where it is queued.
+    fn timed_of(&self, o: ObjectId) -> Option<Timed>
+        ensures timed { result ≡ timers.timed_of self.now o.0 }
+        ensures object { IfSome result (λ t. t.timer.0 < OBJECTS) }
+        ensures rising { rises timer_id 0 OBJECTS self.now.queued ≡ true }
+    {
+        self.queued.get(o)
+    }
+
+    /// Queues a timer with its due tick, or gives it this one. The answer says whether it was queued.
+    fn put(&mut self, timed: Timed) -> bool
+        requires { timed.timer.0 < OBJECTS }
+        ensures answer { result ≡ timers.is_timer_queued self.old timed.timer.0 }
+        ensures done { self.new.queued ≡ with_entry timer_id timed self.old.queued }
+    {
+        let went = tick_of(self.queued.get(timed.timer));
+        let was_queued = self.queued.put(timed);
+        self.latest = latest_after(self.queued.as_slice(), self.latest, went, timed.tick);
+        was_queued
     }
 
     /// Queues the timer anew: it is due after this many ticks, or after the most ticks that a timer
@@ -122,7 +174,7 @@ impl Timers {
         ensures answer { result ≡ timers.is_timer_queued self.old o.0 }
         ensures done { self.new ≡ timers.start self.old o.0 now ticks }
     {
-        self.queued.put(Timed {
+        self.put(Timed {
             timer: o,
             tick: now + ticks.min(LONGEST),
         })
@@ -133,7 +185,10 @@ impl Timers {
         ensures answer { result ≡ timers.is_timer_queued self.old o.0 }
         ensures done { self.new ≡ timers.stop self.old o.0 }
     {
-        self.queued.remove(o)
+        let went = tick_of(self.queued.get(o));
+        let was_queued = self.queued.remove(o);
+        self.latest = latest_after(self.queued.as_slice(), self.latest, went, 0);
+        was_queued
     }
 
     /// EvtTimerFunc of the timer starts. A timer without a period leaves the queue. The due tick of
@@ -142,15 +197,16 @@ impl Timers {
         requires { IfSome (timers.timed_of self.old o.0) (λ t. t.tick + period < 2 ^ 64) }
         ensures { self.new ≡ timers.fired self.old o.0 period }
     {
-        if let Some(timed) = self.queued.get(o) {
-            if period == 0 {
-                self.queued.remove(o);
-            } else {
-                self.queued.put(Timed {
-                    tick: timed.tick + period,
-                    ..timed
-                });
-            }
+        let Some(timed) = self.timed_of(o) else {
+            return;
+        };
+        if period == 0 {
+            self.stop(o);
+        } else {
+            self.put(Timed {
+                tick: timed.tick + period,
+                ..timed
+            });
         }
     }
 }

@@ -11,14 +11,6 @@ pub trait Entry: Copy {
         ensures { result ≡ id self.now };
 }
 
-impl Entry for u32 {
-    ghost id = { λ n. n };
-
-    fn id(&self) -> u32 {
-        *self
-    }
-}
-
 impl Entry for Timed {
     ghost id = { λ t. t.timer.0 };
 

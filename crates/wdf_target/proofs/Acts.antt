@@ -1,5 +1,5 @@
 -- What the acts on the targets leave, of the targets and of what is kept by request.
-use Rattle.std.proofs.Common.{if◌then◌else◌, ◌≡◌, ◌≢◌, ℕ, zero, suc, ◌<◌, Bool, true, false, not, nat_lt, ◌&&◌, List, [], ◌∷◌, length, slice_set, slice_index_or, get_or-set_same, ltb-true, ltb-false, Option, Some, None, refl, sym, ap, ◌∙◌, subst, arith}
+use Rattle.std.proofs.Common.{if◌then◌else◌, ◌≡◌, ◌≢◌, ℕ, zero, suc, ◌<◌, Bool, true, false, not, nat_lt, ◌&&◌, List, [], ◌∷◌, length, slice_set, slice_index_or, get_or-set_same, ltb-true, ltb-false, Option, Some, None, is_some, refl, sym, ap, ◌∙◌, subst, arith}
 use Rattle.std.specs.Option.{option_map}
 use Rattle.wdf_base.specs.declared.value.Status.{Status}
 use Rattle.wdf_model.specs.Tables.{entry, put}
@@ -96,13 +96,13 @@ done_done T ts rs r status s new e k there is =
 
 -- ---- a request is sent
 
-nothing_kept_by : (e : Option Sent) → option_map (λ s. s.sending) e ≡ None → e ≡ None
+nothing_kept_by : (e : Option Sent) → is_some (option_map (λ s. s.sending) e) ≡ false → e ≡ None
 nothing_kept_by None h = refl
 nothing_kept_by (Some s) h = absurd (let z : ⊥ = cc in z)
 
-pub nothing_kept : (T : Targets) (ts : List Target) (rs : List (Option Sent)) (r : ℕ) → record { targets = ts } ≡ T → IsKept ts rs → sending_of T r ≡ None → entry None rs r ≡ None
+pub nothing_kept : (T : Targets) (ts : List Target) (rs : List (Option Sent)) (r : ℕ) → record { targets = ts } ≡ T → IsKept ts rs → is_some (sending_of T r) ≡ false → entry None rs r ≡ None
 nothing_kept T ts rs r e k free =
-    nothing_kept_by (entry None rs r) (sym (found_kept ts rs r (entry None rs r) k refl) ∙ (ap (λ U. sending_of U r) e ∙ free))
+    nothing_kept_by (entry None rs r) (ap is_some (sym (found_kept ts rs r (entry None rs r) k refl)) ∙ (ap (λ U. is_some (sending_of U r)) e ∙ free))
 
 pub send_moves : (ts : List Target) (rs : List (Option Sent)) (t r : ℕ) (forget : Bool) (new : Target) (after : Sent) → IsKept ts rs → t < length ts → entry None rs r ≡ None
     → new ≡ record (entry no_target ts t) { sent = sending_in_order (new_sending r forget) (entry no_target ts t).sent } → after.target.0 ≡ t → after.sending ≡ new_sending r forget

@@ -1,4 +1,4 @@
-ghost use Rattle.std.specs.Prelude.{◌≡◌, ◌<◌, ◌≤◌, IfOk, None, Some, if◌then◌else◌, length, slice_get};
+ghost use Rattle.std.specs.Prelude.{◌≡◌, ◌<◌, ◌≤◌, IfOk, None, Some, false, if◌then◌else◌, is_some, length, slice_get};
 ghost use Rattle.wdf_model.specs.Plans.{target_of};
 ghost use Rattle.wdf_model.specs.parts.Targets as targets;
 ghost use Rattle.wdf_target.specs.Left.{left};
@@ -132,6 +132,13 @@ impl Targets {
         }
     }
 
+    /// Whether a target holds the request.
+    pub fn is_sent(&self, r: ObjectId) -> bool
+        ensures { result ≡ is_some (targets.sending_of self.now r.0) }
+    {
+        self.sending_of(r).is_some()
+    }
+
     /// Whether a target holds the request, and it doesn't come back to the driver.
     pub fn is_forgotten(&self, r: ObjectId) -> bool
         ensures { result ≡ targets.is_forgotten self.now r.0 }
@@ -165,11 +172,11 @@ impl Targets {
         }
     }
 
-    /// Sends a request to a target, to come back or not. The answer is `false`, and nothing changes,
+    /// Sends a request, which no target holds, to a target, to come back or not. The answer is `false`, and nothing changes,
     /// exactly where the target takes no more. (KMDF; own)
     pub fn send(&mut self, t: ObjectId, r: ObjectId, forget: bool) -> bool
         requires there { r.0 < OBJECTS }
-        requires free { targets.sending_of self.old r.0 ≡ None }
+        requires free { is_some (targets.sending_of self.old r.0) ≡ false }
         ensures answer { result ≡ targets.takes_more self.old t.0 }
         ensures done { self.new ≡ (if result then targets.send self.old t.0 r.0 forget else self.old) }
         ensures size { length self.new.targets ≡ length self.old.targets }
