@@ -19,7 +19,7 @@ use Rattle.wdf_tree.specs.GoFirst.{go_first, lesser_of}
 use Rattle.wdf_tree.specs.Inside.{EndsAlone, ends_alone}
 use Rattle.wdf_tree.specs.Kin.{HoldsKin, is_kin, is_waiting, places, is_left}
 use Rattle.wdf_tree.proofs.Children.{same_place, left_children}
-use Rattle.wdf_tree.proofs.Standing.{all_of_entry, asked_stands}
+use Rattle.wdf_tree.proofs.Kept.{all_of_entry, asked_stands}
 use Rattle.wdf_tree.proofs.Kin.{places_by_ids, off_before, place_on}
 
 -- ---- rising ids
@@ -203,7 +203,7 @@ first_of_both T o cleaned asked waits there =
     ∙ least_of_two 0 0 mine (filter (nat_lt o) ours) (places_rise (is_kin is_waiting o) 0 T.nodes) (filter_rises (nat_lt o) 0 ours (places_rise (is_kin is_waiting (parent_of T o)) 0 T.nodes))
     ∙ ap (lesser_of (first_of mine)) (sym (after_places (is_kin is_waiting (parent_of T o)) 0 T.nodes o o (omega arith) there passes)))
 
--- what stands under a parent that was asked, and isn't cleaned up, waits
+-- what is under a parent that was asked, and isn't cleaned up, waits
 pub waits_under_asked : (ns : List Node) (o : ℕ) → EndsAlone ns → o < length ns → is_cleaned (entry gone ns o).life ≡ false
     → is_asked (entry gone ns (entry gone ns o).parent.0).life ≡ true → is_waiting (entry gone ns o).life ≡ true
 waits_under_asked ns o ends there cleaned asked = by_life (entry gone ns o).life refl cleaned

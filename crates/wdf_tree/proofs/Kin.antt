@@ -4,7 +4,7 @@ use Rattle.std.proofs.Common.{if◌then◌else◌, ◌==◌, not, Bool, true, fa
 use Rattle.std.specs.Prelude.{slice_set}
 use Rattle.std.specs.List.{list_all, range_with_len}
 use Rattle.std.proofs.lemmas.Bool.{and_right, cases_lt, eqb-true, eqb-false, eq-eqb, ne_eqb, lt-ltb, le-ltb}
-use Rattle.std.proofs.lemmas.List.{append-nil}
+use Rattle.std.proofs.lemmas.List.{append-nil, length-map, length-replicate, get_or-set_same}
 use Rattle.wdf_base.specs.declared.object.Life.{Life}
 use Rattle.wdf_ilist.specs.Family.{Family, is_on, first_of, is_on_any, last_of, list_at, without}
 use Rattle.wdf_ilist.proofs.Items.{without_off}
@@ -13,7 +13,7 @@ use Rattle.wdf_model.specs.Tables.{entry, same_id}
 use Rattle.wdf_model.specs.declared.entries.Node.{Node}
 use Rattle.wdf_model.specs.declared.room.TheConstants.{OBJECTS}
 use Rattle.wdf_model.specs.parts.Tree.{gone}
-use Rattle.wdf_model.proofs.Maps.{entry_past, entry_set_other}
+use Rattle.wdf_model.proofs.Maps.{entry_past, entry_set_other, as_long}
 use Rattle.wdf_tree.specs.Kin.{HoldsKin, is_kin, joined, places}
 
 -- ---- places
@@ -171,24 +171,6 @@ places_by_ids p all (n ∷ ns) k e =
 
 -- ---- families
 
-list_set_same : (ls : List (List ℕ)) (q : ℕ) (xs : List ℕ) → q < length ls → list_at (slice_set ls q xs) q ≡ xs
-list_set_same [] q xs h = absurd (omega arith)
-list_set_same (l ∷ ls) zero xs h = refl
-list_set_same (l ∷ ls) (suc q) xs h = list_set_same ls q xs (omega arith)
-
-length_set : {T : Type 0} (xs : List T) (k : ℕ) (x : T) → length (slice_set xs k x) ≡ length xs
-length_set [] k x = refl
-length_set (y ∷ ys) zero x = refl
-length_set (y ∷ ys) (suc k) x = ap suc (length_set ys k x)
-
-length_each : (f : List ℕ → List ℕ) (ls : List (List ℕ)) → length (map f ls) ≡ length ls
-length_each f [] = refl
-length_each f (l ∷ ls) = ap suc (length_each f ls)
-
-length_copies : (n : ℕ) (xs : List ℕ) → length (replicate n xs) ≡ n
-length_copies zero xs = refl
-length_copies (suc n) xs = ap suc (length_copies n xs)
-
 empty_copies : (n q : ℕ) → list_at (replicate n []) q ≡ []
 empty_copies zero q = refl
 empty_copies (suc n) zero = refl
@@ -197,7 +179,7 @@ empty_copies (suc n) (suc q) = empty_copies n q
 -- empty lists, where only the id 0 is there
 pub holds_none : (test : Life → Bool) (n : ℕ) → n ≡ OBJECTS → test gone.life ≡ false → HoldsKin test (gone ∷ []) (record { lists = replicate n []; items = n })
 holds_none test n e t = record {
-  as_many = length_copies n [] ∙ e;
+  as_many = length-replicate n [] ∙ e;
   room = e;
   kin = λ q h. empty_copies n q ∙ sym (place_off (is_kin test q) 0 gone [] (blank q));
 }
@@ -234,7 +216,7 @@ holds_joined test ns n family h t = by_parent (cases_lt n.parent.0 OBJECTS)
     at q below true e there =
         let same : n.parent.0 ≡ q = eqb-true n.parent.0 q e in
         ap (λ z. list_at (slice_set family.lists z (list_at family.lists z ++ length ns ∷ [])) q) same
-        ∙ list_set_same family.lists q (list_at family.lists q ++ length ns ∷ []) (let many = h.as_many in omega arith)
+        ∙ get_or-set_same family.lists q (list_at family.lists q ++ length ns ∷ []) [] (let many = h.as_many in omega arith)
         ∙ ap (λ xs. xs ++ length ns ∷ []) (h.kin q below)
         ∙ sym (grown q ∙ rw (mine q same, last) refl)
     at q below false e there =
@@ -245,7 +227,7 @@ holds_joined test ns n family h t = by_parent (cases_lt n.parent.0 OBJECTS)
 
     by_parent : (n.parent.0 < OBJECTS) ⊎ (OBJECTS ≤ n.parent.0) → HoldsKin test (ns ++ n ∷ []) (joined family n.parent.0 (length ns))
     by_parent (inl there) = rw (lt-ltb n.parent.0 OBJECTS there) (record {
-      as_many = length_set family.lists n.parent.0 (list_at family.lists n.parent.0 ++ length ns ∷ []) ∙ h.as_many;
+      as_many = as_long family.lists n.parent.0 (list_at family.lists n.parent.0 ++ length ns ∷ []) ∙ h.as_many;
       room = h.room;
       kin = λ q below. at q below (n.parent.0 == q) refl there;
     })
@@ -279,7 +261,7 @@ holds_off test ns family o m h was is = record {
 pub holds_without : (test : Life → Bool) (ns : List Node) (family : Family) (o : ℕ) (m : Node) → HoldsKin test ns family → test m.life ≡ false
     → HoldsKin test (slice_set ns o m) (record family { lists = map (without o) family.lists })
 holds_without test ns family o m h t = record {
-  as_many = length_each (without o) family.lists ∙ h.as_many;
+  as_many = length-map family.lists (without o) ∙ h.as_many;
   room = h.room;
   kin = λ q below.
       map_at (without o) family.lists q refl ∙ ap (without o) (h.kin q below)

@@ -1,5 +1,5 @@
 pub mod Kin
-pub mod Standing
+pub mod Kept
 pub mod Marks
 pub mod Children
 pub mod Walks

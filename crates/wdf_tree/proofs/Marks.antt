@@ -13,7 +13,7 @@ use Rattle.wdf_tree.specs.Inside.{EndsAlone, ends_alone}
 use Rattle.wdf_tree.specs.Kin.{is_kin, is_left, places}
 use Rattle.wdf_tree.proofs.Children.{all_same, is_gone_under, no_child_or_gone}
 use Rattle.wdf_tree.proofs.Kin.{first_place, no_first_place}
-use Rattle.wdf_tree.proofs.Standing.{no_child}
+use Rattle.wdf_tree.proofs.Kept.{no_child}
 
 -- what was marked stays
 front_marks : (o : ℕ) (before : List Bool) (ns : List Node) (x : ℕ) → x < length before → entry false (below_marks o before ns) x ≡ entry false before x

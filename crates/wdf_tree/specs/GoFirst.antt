@@ -7,8 +7,8 @@ use Rattle.wdf_model.specs.parts.Tree.{Tree, children, is_asked, is_cleaned, is_
 abbrev pub siblings_first : Tree → ℕ → List ℕ
 siblings_first T o = if is_asked (life_of T (parent_of T o)) then younger_siblings T o else []
 
--- before its end the children that are left; before its cleanup the children and the younger siblings whose
--- cleanup is still to come
+-- once an object is cleaned up, the children that are left; before that the children and the younger siblings
+-- whose cleanup is still to come
 abbrev pub go_first : Tree → ℕ → List ℕ
 go_first T o =
     if is_cleaned (life_of T o) then children T o

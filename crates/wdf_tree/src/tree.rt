@@ -9,13 +9,13 @@ use wdf_base::ObjectId;
 use wdf_ilist::Links;
 use wdf_model::Node;
 
-/// The objects of the machine: what they are, who stands above whom, and how far the deletion of
-/// each has come. An object that is gone keeps its id.
+/// The objects of the machine: what they are, who is above whom, and how far the deletion of each
+/// has come. An object that is gone keeps its id.
 ///
 /// Contracts see wdf_model's record of the tree. Every call but [`Tree::make`] takes no memory.
 #[derive(Drop)]
 pub struct Tree {
-    /// The most counted objects that stand at one time.
+    /// The most counted objects at one time.
     limit: u32,
     /// The objects by id. The id 0 is none.
     nodes: Vec<Node>,
@@ -46,6 +46,6 @@ impl Model for Tree {
 pub enum CreateRefusal {
     /// The parent isn't live.
     ParentDeleted,
-    /// As many counted objects stand as the plan allows.
+    /// There are as many counted objects as the plan allows.
     Full,
 }

@@ -1,4 +1,4 @@
-//! What is kept of one object: references, context cells, and which callbacks of its end started.
+//! What is kept of one object: references, context cells, and which callbacks of its deletion started.
 
 ghost use Rattle.std.specs.Prelude.{◌≡◌, ◌<◌, length, nat_lt};
 ghost use Rattle.wdf_model.specs.parts.Tree as tree;
@@ -9,7 +9,7 @@ use wdf_model::{CELLS, EVENTS};
 
 impl Tree {
     /// The driver takes a reference to an object.
-    #[tactic(auto, using(crate::proofs::Standing::kept_by_set, crate::proofs::Standing::few_of_one, wdf_model::proofs::Maps::put_within))]
+    #[tactic(auto, using(crate::proofs::Kept::few_of_one, wdf_model::proofs::Maps::put_within))]
     pub fn reference(&mut self, o: ObjectId)
         requires there { o.0 < length self.old.nodes }
         requires room { tree.references_in self.old < EVENTS }
@@ -22,7 +22,7 @@ impl Tree {
 
     /// The driver gives a reference to an object back. `false`, and nothing changes, where it holds
     /// none.
-    #[tactic(auto, using(crate::proofs::Standing::kept_by_set, wdf_model::proofs::Maps::put_within, wdf_model::proofs::Maps::set_as_it_was))]
+    #[tactic(auto, using(wdf_model::proofs::Maps::put_within))]
     pub fn dereference(&mut self, o: ObjectId) -> bool
         requires there { o.0 < length self.old.nodes }
         ensures answer { result ≡ nat_lt 0 (tree.references_of self.old o.0) }
@@ -35,7 +35,7 @@ impl Tree {
     }
 
     /// Notes that the cleanup or the destroy callback of an object has started; others aren't noted.
-    #[tactic(auto, using(crate::proofs::Standing::kept_by_set, wdf_model::proofs::Maps::put_within, wdf_model::proofs::Maps::set_as_it_was))]
+    #[tactic(auto, using(wdf_model::proofs::Maps::put_within, wdf_model::proofs::Maps::set_as_it_was))]
     pub fn note_start(&mut self, o: ObjectId, callback: Callback)
         requires there { o.0 < length self.old.nodes }
         ensures done { self.new ≡ tree.note_start self.old o.0 callback }
@@ -49,7 +49,7 @@ impl Tree {
     }
 
     /// Writes a context cell of an object.
-    #[tactic(auto, using(crate::proofs::Standing::kept_by_set, wdf_model::proofs::Maps::put_within, wdf_model::proofs::Maps::set_as_it_was))]
+    #[tactic(auto, using(wdf_model::proofs::Maps::put_within))]
     pub fn set(&mut self, o: ObjectId, k: u8, v: Value)
         requires there { o.0 < length self.old.nodes }
         requires cell { k < CELLS }

@@ -1,4 +1,4 @@
-//! How objects end: a deletion is asked, the cleanup is done, and the object is destroyed.
+//! Deletions: a deletion is asked, the cleanup is done, and the object is destroyed.
 
 ghost use Rattle.std.specs.Prelude.{◌≡◌, ◌+◌, ◌-◌, ◌<◌, ◌≤◌, ◌==◌, ◌||◌, ℕ, IfSome, IsTrue, drop, false, find, length, nat_lt, option_map};
 ghost use Rattle.std.specs.List.{list_all, range_with_len};
@@ -21,7 +21,7 @@ fn is_id(found: Option<u32>, id: u32) -> bool
 
 impl Tree {
     /// Asks the deletion of one object, if it is live.
-    #[tactic(auto, using(crate::proofs::Standing::kept_by_set, wdf_model::proofs::Maps::put_within, wdf_model::proofs::Maps::set_as_it_was))]
+    #[tactic(auto, using(wdf_model::proofs::Maps::put_within, wdf_model::proofs::Maps::set_as_it_was))]
     pub fn ask_one(&mut self, o: ObjectId)
         requires there { o.0 < length self.old.nodes }
         ensures done { self.new ≡ tree.ask_one self.old o.0 }
@@ -145,7 +145,7 @@ impl Tree {
     /// Whether the cleanup of an object may come, by lives alone: its deletion was asked, no child
     /// waits for cleanup, and, where the deletion of its parent was asked too, no younger sibling
     /// does (own).
-    #[tactic(auto, using(crate::proofs::Standing::there_if_asked, crate::proofs::Standing::asked_as_same))]
+    #[tactic(auto, using(crate::proofs::Kept::there_if_asked, crate::proofs::Kept::asked_as_same))]
     pub fn may_clean(&self, o: ObjectId) -> bool
         ensures { result ≡ tree.may_clean self.now o.0 }
     {
@@ -156,7 +156,7 @@ impl Tree {
     }
 
     /// The cleanup of an object is done.
-    #[tactic(auto, using(crate::proofs::Standing::kept_by_set, crate::proofs::Standing::there_if_asked, wdf_model::proofs::Maps::put_within))]
+    #[tactic(auto, using(crate::proofs::Kept::there_if_asked, wdf_model::proofs::Maps::put_within))]
     pub fn clean(&mut self, o: ObjectId)
         requires asked { IsTrue (tree.is_asked (tree.life_of self.old o.0)) }
         ensures done { self.new ≡ tree.clean self.old o.0 }
@@ -166,17 +166,17 @@ impl Tree {
         let _list = self.waiting.unlink(o.0);
     }
 
-    /// Whether an object may end, by the tree alone: its cleanup is done, no reference is held, and
-    /// no child is left (KMDF).
-    #[tactic(auto, using(crate::proofs::Standing::there_if_cleaned, crate::proofs::Standing::cleaned_as_same))]
+    /// Whether an object may be destroyed, by the tree alone: its cleanup is done, no reference is
+    /// held, and no child is left (KMDF).
+    #[tactic(auto, using(crate::proofs::Kept::there_if_cleaned, crate::proofs::Kept::cleaned_as_same))]
     pub fn may_destroy(&self, o: ObjectId) -> bool
         ensures { result ≡ tree.may_destroy self.now o.0 }
     {
         self.life(o) == Life::Cleaned && self.references(o) == 0 && self.has_no_child(o)
     }
 
-    /// An object ends, and nothing of it is kept.
-    #[tactic(auto, using(crate::proofs::Standing::kept_by_end, crate::proofs::Standing::there_if_cleaned, crate::proofs::Standing::few_counted, wdf_model::proofs::Maps::put_within))]
+    /// An object is destroyed, and nothing of it is kept.
+    #[tactic(auto, using(crate::proofs::Kept::there_if_cleaned, wdf_model::proofs::Maps::put_within))]
     pub fn destroy(&mut self, o: ObjectId)
         requires may { IsTrue (tree.may_destroy self.old o.0) }
         ensures done { self.new ≡ tree.destroy self.old o.0 }

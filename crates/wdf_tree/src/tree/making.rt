@@ -100,7 +100,6 @@ impl Tree {
     }
 
     /// The tree with no object, and with room for as many.
-    #[tactic(auto, using(crate::proofs::Standing::kept_at_first))]
     fn empty(alloc: Global, limit: u32, room: u32) -> Result<Tree, Memory>
         requires { room ≡ OBJECTS }
         ensures { IfOk result (λ made. made ≡ record { limit = limit; nodes = tree.gone ∷ [] }) }
@@ -120,7 +119,7 @@ impl Tree {
     }
 
     /// The nearest device of an object that is about to come into the tree: itself, if it is one.
-    #[tactic(auto, using(crate::proofs::Standing::nearest_length))]
+    #[tactic(auto, using(crate::proofs::Kept::nearest_length))]
     fn nearest_for(&self, node: &Node) -> ObjectId
         ensures { result.0 ≡ tree.own_device (tree.nearest_devices [] self.now.nodes) (length self.now.nodes) node.now }
     {
@@ -132,7 +131,7 @@ impl Tree {
     }
 
     /// A live object comes into the tree, with the next id.
-    #[tactic(auto, using(crate::proofs::Standing::kept_by_push, crate::proofs::Standing::few_counts, crate::proofs::Kin::next_is_free))]
+    #[tactic(auto, using(crate::proofs::Kept::few_counts))]
     fn enter(&mut self, node: Node)
         requires room { length self.old.nodes < OBJECTS }
         requires live { tree.is_live node.life ≡ true }
@@ -148,8 +147,8 @@ impl Tree {
     }
 
     /// An object is made by a call, and is live. It is refused under a parent that isn't live
-    /// (KMDF), and else where as many counted objects stand as the plan allows (own); then nothing
-    /// changes.
+    /// (KMDF), and else where there are as many counted objects as the plan allows (own); then
+    /// nothing changes.
     pub fn create(
         &mut self,
         kind: Kind,

@@ -34,8 +34,8 @@ impl Tree {
         lesser(child, self.waiting.after(o.0))
     }
 
-    /// The least object that has to go before this one: before its end a child that is left, and
-    /// before its cleanup a child or, where the deletion of the parent was asked too, a younger
+    /// The least object that has to go before this one: once it is cleaned up, a child that is left,
+    /// and before that a child or, where the deletion of the parent was asked too, a younger
     /// sibling whose cleanup is still to come. (own)
     pub fn goes_first(&self, o: ObjectId) -> Option<ObjectId>
         requires there { o.0 < length self.now.nodes }

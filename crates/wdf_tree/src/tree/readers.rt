@@ -146,7 +146,7 @@ impl Tree {
         }
     }
 
-    /// Whether as many counted objects stand as the plan allows. (own)
+    /// Whether there are as many counted objects as the plan allows. (own)
     pub fn is_full(&self) -> bool
         ensures { result ≡ tree.is_full self.now }
     {

@@ -6,7 +6,7 @@ use Rattle.wdf_model.specs.parts.Tree.{Tree, parent_of}
 use Rattle.wdf_tree.specs.Kin.{is_kin, is_waiting, places}
 use Rattle.std.proofs.Common.{List}
 use Rattle.wdf_tree.proofs.Children.{last_waiting}
-use Rattle.wdf_tree.proofs.Standing.{there_if_asked}
+use Rattle.wdf_tree.proofs.Kept.{there_if_asked}
 use Rattle.wdf_tree.proofs.tree.Tree.are_younger_clean.Goals as goal
 
 pub returns : goal.returns

@@ -4,7 +4,7 @@ use Rattle.wdf_base.specs.Same.{same_life}
 use Rattle.wdf_model.specs.Tables.{entry}
 use Rattle.wdf_model.specs.declared.entries.Node.{Node}
 use Rattle.wdf_model.specs.parts.Tree.{Tree, gone, life_of}
-use Rattle.wdf_tree.proofs.Standing.{kept_by_write, live_stands, read_entry}
+use Rattle.wdf_tree.proofs.Kept.{kept_by_write, live_stands, read_entry}
 use Rattle.wdf_tree.proofs.tree.Tree.ask_one.Goals as goal
 
 pub invariant_of-self : goal.invariant_of-self

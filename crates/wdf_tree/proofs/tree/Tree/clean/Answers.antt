@@ -2,7 +2,7 @@ use Rattle.std.proofs.Common.{◌≡◌, true, refl, sym, ap, ◌∙◌}
 use Rattle.wdf_model.specs.Tables.{entry}
 use Rattle.wdf_model.specs.declared.entries.Node.{Node}
 use Rattle.wdf_model.specs.parts.Tree.{Tree, gone, is_asked, life_of}
-use Rattle.wdf_tree.proofs.Standing.{asked_stands, kept_by_cleanup, read_entry, there_if_asked}
+use Rattle.wdf_tree.proofs.Kept.{asked_stands, kept_by_cleanup, read_entry, there_if_asked}
 use Rattle.wdf_tree.proofs.tree.Tree.clean.Goals as goal
 
 pub invariant_of-self : goal.invariant_of-self

@@ -1,6 +1,6 @@
 use Rattle.std.proofs.Common.{length, refl, ap, arith}
 use Rattle.wdf_model.specs.parts.Tree.{Tree}
-use Rattle.wdf_tree.proofs.Standing.{kept_by_write}
+use Rattle.wdf_tree.proofs.Kept.{kept_by_write}
 use Rattle.wdf_tree.proofs.tree.Tree.dereference.Goals as goal
 
 pub invariant_of-self : goal.invariant_of-self

@@ -1,5 +1,5 @@
 use Rattle.std.proofs.Common.{refl, arith}
-use Rattle.wdf_tree.proofs.Standing.{devices_as_many, few_counted, kept_by_end, may_end, there_if_cleaned}
+use Rattle.wdf_tree.proofs.Kept.{devices_as_many, few_counted, kept_by_end, may_end, there_if_cleaned}
 use Rattle.wdf_tree.proofs.tree.Tree.destroy.Goals as goal
 
 pub overflow_sub-self : goal.overflow_sub-self

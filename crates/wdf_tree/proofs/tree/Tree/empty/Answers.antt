@@ -1,6 +1,6 @@
 use Rattle.std.proofs.Common.{◌≡◌, [], ◌∷◌, refl, ◌∙◌, arith}
 use Rattle.wdf_model.specs.parts.Tree.{gone}
-use Rattle.wdf_tree.proofs.Standing.{kept_at_first}
+use Rattle.wdf_tree.proofs.Kept.{kept_at_first}
 use Rattle.wdf_tree.proofs.tree.Tree.empty.Goals as goal
 
 pub invariant_of-result : goal.invariant_of-result

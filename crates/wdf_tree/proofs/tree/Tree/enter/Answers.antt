@@ -2,7 +2,7 @@ use Rattle.std.proofs.Common.{◌≡◌, [], length, sym, ap, ◌∙◌, arith}
 use Rattle.wdf_model.specs.parts.Tree.{Tree, nearest_devices, own_device}
 use Rattle.wdf_tree.specs.Kin.{is_left, is_waiting}
 use Rattle.wdf_tree.proofs.Kin.{next_is_free}
-use Rattle.wdf_tree.proofs.Standing.{devices_as_many, kept_by_push}
+use Rattle.wdf_tree.proofs.Kept.{devices_as_many, kept_by_push}
 use Rattle.wdf_tree.proofs.tree.Tree.enter.Goals as goal
 
 pub push_reserved-requires-2 : goal.push_reserved-requires-2

@@ -9,7 +9,7 @@ use Rattle.wdf_tree.specs.Kin.{HoldsKin, is_kin, is_left, is_waiting, places}
 use Rattle.wdf_tree.specs.GoFirst.{lesser_of}
 use Rattle.wdf_tree.specs.Inside.{EndsAlone}
 use Rattle.wdf_tree.proofs.Firsts.{first_child, first_left, first_of_both, list_of_waiting, waits_under_asked}
-use Rattle.wdf_tree.proofs.Standing.{asked_as_same, cleaned_as_same, there_if_asked}
+use Rattle.wdf_tree.proofs.Kept.{asked_as_same, cleaned_as_same, there_if_asked}
 use Rattle.wdf_tree.proofs.tree.Tree.first_id.Goals as goal
 
 pub returns-then-eq : goal.returns-then-eq

@@ -2,7 +2,7 @@ use Rattle.std.proofs.Common.{◌<◌, ◌==◌, sym, ap, ◌∙◌, arith, ◌�
 use Rattle.wdf_model.specs.parts.Tree.{Tree, is_live, life_of, is_below}
 use Rattle.std.proofs.lemmas.Bool.{ne_eqb, or_from}
 use Rattle.wdf_tree.proofs.Walks.{next_is_later}
-use Rattle.wdf_tree.proofs.Standing.{none_live}
+use Rattle.wdf_tree.proofs.Kept.{none_live}
 use Rattle.wdf_tree.proofs.tree.Tree.next_below.Goals as goal
 use Rattle.wdf_tree.proofs.tree.Tree.next_below.Goals.{else-after-o-via-then-after-o+else-o-first, else-after-o-via-else-after-o}
 

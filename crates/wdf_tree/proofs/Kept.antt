@@ -3,7 +3,8 @@ use Rattle.std.proofs.Common.{map, replicate, ◌==◌, ◌&&◌, not, Bool, tru
 use Rattle.std.specs.Prelude.{slice_index_or, slice_set}
 use Rattle.std.specs.List.{list_all}
 use Rattle.std.proofs.lemmas.Bool.{and_parts, and_from, eq-eqb, eqb-true, false≢true, not-true}
-use Rattle.std.proofs.lemmas.List.{length_push, length-map, map-append, map-set}
+use Rattle.std.proofs.lemmas.List.{length_push, length-map, map-append, map-set, get_or_read, set-append_left}
+use Rattle.std.proofs.Math.Seq.{set-append_seam}
 use Rattle.std.proofs.lemmas.List.Sums.{count_by-le-length, sum_by-set, sum_by_push, get_or-le-sum_by, sum-map}
 use Rattle.std.proofs.lemmas.List.Folds.{list_all-append}
 use Rattle.wdf_base.specs.declared.ids.ObjectId.{ObjectId}
@@ -162,9 +163,7 @@ kept_by_set {ns} {ds} {count} {r} {s} {kin} {waiting} o m kin' waiting' h there 
 
 -- an element that was read is the entry
 pub read_entry : {T : Type 0} (blank : T) (xs : List T) (o : ℕ) (x : T) → o < length xs → x ≡ slice_index_or xs o x → entry blank xs o ≡ x
-read_entry blank [] o x h e = absurd (omega arith)
-read_entry blank (y ∷ ys) zero x h e = sym e
-read_entry blank (y ∷ ys) (suc o) x h e = read_entry blank ys o x (omega arith) e
+read_entry blank xs o x h e = sym (get_or_read xs o x h e blank)
 
 stays_read : (ns : List Node) (o : ℕ) (n m : Node) → o < length ns → n ≡ slice_index_or ns o n → Stays n m → Stays (entry gone ns o) m
 stays_read ns o n m there read stays =
@@ -193,15 +192,6 @@ kept_by_cleanup {ns} {ds} {count} {r} {s} {kin} {waiting} o n m h there read sta
 
 -- ---- an end
 
-set_in_front : {T : Type 0} (xs ys : List T) (k : ℕ) (x : T) → k < length xs → slice_set (xs ++ ys) k x ≡ slice_set xs k x ++ ys
-set_in_front [] ys k x h = absurd (omega arith)
-set_in_front (y ∷ xs) ys zero x h = refl
-set_in_front (y ∷ xs) ys (suc k) x h = ap (λ zs. y ∷ zs) (set_in_front xs ys k x (omega arith))
-
-set_last : {T : Type 0} (xs : List T) (y x : T) → slice_set (xs ++ y ∷ []) (length xs) x ≡ xs ++ x ∷ []
-set_last [] y x = refl
-set_last (z ∷ xs) y x = ap (λ zs. z ∷ zs) (set_last xs y x)
-
 -- where nothing is a child of o, another nearest device of o is that of no other
 apart_at : (before : List ℕ) (ns : List Node) (o d : ℕ) → o < length before → list_all (λ (n : Node). not (n.parent.0 == o)) ns ≡ true
     → nearest_devices (slice_set before o d) ns ≡ slice_set (nearest_devices before ns) o d
@@ -213,7 +203,7 @@ apart_at before (n ∷ ns) o d there h =
     = rw (as_long before o d, entry_set_other 1 before o n.parent.0 d other) refl in
     let one = own_device before (length before) n in
     ap (λ x. nearest_devices (slice_set before o d ++ x ∷ []) ns) here
-    ∙ ap (λ xs. nearest_devices xs ns) (sym (set_in_front before (one ∷ []) o d there))
+    ∙ ap (λ xs. nearest_devices xs ns) (sym (set-append_left before (one ∷ []) o d there))
     ∙ apart_at (before ++ one ∷ []) ns o d (let more = length_push before one in omega arith) both.1
 
 -- the nearest devices where an object with no child has ended, and the id 0 has the driver object
@@ -224,7 +214,7 @@ nearest_ended before (n ∷ ns) zero at e there h =
     let both = and_parts (not (n.parent.0 == at)) (list_all (λ (m : Node). not (m.parent.0 == at)) ns) h in
     let place : at ≡ length (1 ∷ before) = omega arith in
     let one = own_device (1 ∷ before) (length (1 ∷ before)) n in
-    ap (λ xs. nearest_devices xs ns) (sym (set_last (1 ∷ before) one 1) ∙ ap (λ k. slice_set ((1 ∷ before) ++ one ∷ []) k 1) (sym place))
+    ap (λ xs. nearest_devices xs ns) (sym (set-append_seam (1 ∷ before) one [] 1) ∙ ap (λ k. slice_set ((1 ∷ before) ++ one ∷ []) k 1) (sym place))
     ∙ apart_at ((1 ∷ before) ++ one ∷ []) ns at 1 (let more = length_push (1 ∷ before) one in omega arith) both.1
 nearest_ended before (n ∷ ns) (suc o) at e there h =
     let both = and_parts (not (n.parent.0 == at)) (list_all (λ (m : Node). not (m.parent.0 == at)) ns) h in
