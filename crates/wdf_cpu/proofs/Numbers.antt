@@ -1,4 +1,4 @@
--- Lists of numbers in which each stands once, and lists in order.
+-- Lists of numbers in which each is once, and lists in order.
 use Rattle.std.proofs.Common.{◌≡◌, ◌≢◌, ℕ, zero, suc, ◌+◌, ◌==◌, ◌≤◌, nat_lt, Bool, true, false, not, List, [], ◌∷◌, inl, inr, length, count_by, refl, ap, sym, ◌∙◌, arith}
 use Rattle.std.specs.List.{insert, position_or_len}
 use Rattle.std.proofs.lemmas.List.Sums.{length-filter}
@@ -6,7 +6,7 @@ use Rattle.std.proofs.lemmas.List.Filters.{length-filter_both}
 use Rattle.wdf_model.specs.Tables.{contains, flag, in_order, without}
 use Rattle.wdf_model.proofs.Counts.{at_head, equal, filter_less, it_leaves, one_or_two, others_stay}
 
--- what a list doesn't contain stands in it no time
+-- what a list does not contain is in it no time
 absent_from_by : (f x : ℕ) (xs : List ℕ) (b : Bool) → (x == f) ≡ b → contains f (x ∷ xs) ≡ false → (contains f xs ≡ false → count_by (λ y. y == f) xs ≡ 0) → count_by (λ y. y == f) (x ∷ xs) ≡ 0
 absent_from_by f x xs true e h rest = absurd (let z : true ≡ false = rw e at h in let y : ⊥ = cc in y)
 absent_from_by f x xs false e h rest = let a = at_head f x xs in let no : flag (x == f) ≡ 0 = ap flag e in let r = rest (rw e at h) in omega arith

@@ -13,7 +13,7 @@ use wdf_model::{FRAMES, OBJECTS};
 
 impl Cpus {
     /// How many frames run or are parked.
-    pub fn frame_count(&self) -> usize
+    pub fn live_len(&self) -> usize
         ensures value { result ≡ length (cpus.all_frames self.now) }
         ensures small { result ≤ FRAMES }
     {
@@ -21,7 +21,7 @@ impl Cpus {
     }
 
     /// The frame at a place: those of each processor from its top on, then the parked ones.
-    pub fn frame_at(&self, place: usize) -> FrameId
+    pub fn live_at(&self, place: usize) -> FrameId
         requires { place < length (cpus.all_frames self.now) }
         ensures { slice_get (cpus.all_frames self.now) place ≡ Some result.0 }
     {
@@ -75,8 +75,8 @@ impl Cpus {
     fn any(&self, asked: Asked) -> bool
         ensures { result ≡ list_any (λ f. answers asked (cpus.frame_of self.now f)) (cpus.all_frames self.now) }
     {
-        for place in 0..self.frame_count() {
-            if asked.is_so(self.frame(self.frame_at(place))) {
+        for place in 0..self.live_len() {
+            if asked.is_so(self.frame(self.live_at(place))) {
                 return true;
             }
         }
@@ -88,8 +88,8 @@ impl Cpus {
         ensures { result ≡ count_by (λ f. answers asked (cpus.frame_of self.now f)) (cpus.all_frames self.now) }
     {
         let mut count = 0;
-        for place in 0..self.frame_count() {
-            if asked.is_so(self.frame(self.frame_at(place))) {
+        for place in 0..self.live_len() {
+            if asked.is_so(self.frame(self.live_at(place))) {
                 count += 1;
             }
         }

@@ -9,7 +9,7 @@ use wdf_maps::entry_at;
 
 impl Cpus {
     /// How many processors there are.
-    pub fn len(&self) -> usize
+    pub fn cpu_len(&self) -> usize
         ensures { result ≡ length self.now.stacks }
     {
         self.stacks.len()
@@ -61,6 +61,20 @@ impl Cpus {
         ensures { option_map (λ f. f.0) result ≡ slice_get self.now.parked place }
     {
         self.parked.get(place).copied().map(FrameId)
+    }
+
+    /// How many numbers there are up to the greatest that a frame had, from 0.
+    pub fn frame_len(&self) -> usize
+        ensures { result ≡ length self.now.frames }
+    {
+        self.frames.len()
+    }
+
+    /// How many levels are held.
+    pub fn level_len(&self) -> usize
+        ensures { result ≡ length self.now.levels }
+    {
+        self.levels.len()
     }
 
     /// A frame; a blank one for a number that none has.

@@ -3,7 +3,7 @@ ghost use Rattle.wdf_model.specs.parts.Interrupts as interrupts;
 
 use std::alloc::Global;
 use std::marker::Model;
-use wdf_base::{Memory, ObjectId};
+use wdf_base::{Memory, ObjectId, Plan};
 use wdf_maps::{entry_at, put_at};
 use wdf_model::OBJECTS;
 
@@ -28,7 +28,7 @@ impl Model for Interrupts {
 
 impl Interrupts {
     /// No interrupt is enabled. It takes all the memory that the interrupts of a run need.
-    pub fn make(alloc: Global) -> Result<Interrupts, Memory>
+    pub fn make(alloc: Global, _plan: &Plan) -> Result<Interrupts, Memory>
         ensures { IfOk result (λ i. i ≡ interrupts.no_interrupts) }
     {
         Ok(Interrupts {

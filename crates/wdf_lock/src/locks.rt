@@ -6,7 +6,7 @@ use crate::held::{count_call, drop_holds, find_hold, uncount_call};
 use crate::holders::{Holders, lock_id};
 use std::alloc::Global;
 use std::marker::Model;
-use wdf_base::{FrameId, LockRef, Memory};
+use wdf_base::{FrameId, LockRef, Memory, Plan};
 use wdf_maps::entry_at;
 use wdf_model::{EVENTS, FRAMES, Held, OBJECTS};
 
@@ -35,7 +35,7 @@ impl Model for Locks {
 
 impl Locks {
     /// No lock is held. It takes all the memory that the locks of a run need.
-    pub fn make(alloc: Global) -> Result<Locks, Memory>
+    pub fn make(alloc: Global, _plan: &Plan) -> Result<Locks, Memory>
         ensures { IfOk result (λ l. l ≡ locks.no_locks) }
     {
         Ok(Locks {
@@ -43,6 +43,13 @@ impl Locks {
             holders: Holders::make(alloc)?,
             calls: Vec::with_capacity(alloc, FRAMES as usize)?,
         })
+    }
+
+    /// How many locks are held.
+    pub fn held_len(&self) -> usize
+        ensures { result ≡ length self.now.held }
+    {
+        self.held.len()
     }
 
     /// The hold of a lock; None where it is free.

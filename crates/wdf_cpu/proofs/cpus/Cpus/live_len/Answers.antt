@@ -3,7 +3,7 @@ use Rattle.std.proofs.Common.{◌≡◌, length, arith, length-append}
 use Rattle.wdf_cpu.specs.Kept.{cpus_in}
 use Rattle.wdf_cpu.proofs.Live.{few_frames}
 use Rattle.wdf_cpu.proofs.Places.{stacked}
-use Rattle.wdf_cpu.proofs.cpus.Cpus.frame_count.Goals as goal
+use Rattle.wdf_cpu.proofs.cpus.Cpus.live_len.Goals as goal
 
 pub frames_on-requires : goal.frames_on-requires
 frames_on-requires c =

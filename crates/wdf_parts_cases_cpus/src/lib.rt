@@ -1,0 +1,15 @@
+//! Tests of the processors, the locks and the interrupts, by hand-made cases.
+#![tactic(auto)]
+
+#[cfg(test)]
+mod frames;
+#[cfg(test)]
+mod interrupts;
+#[cfg(test)]
+mod levels;
+#[cfg(test)]
+mod locks;
+#[cfg(test)]
+mod running;
+#[cfg(test)]
+mod scopes;
