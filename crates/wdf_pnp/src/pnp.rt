@@ -36,6 +36,13 @@ impl Pnp {
         Ok(Pnp { devices })
     }
 
+    /// How many ids of devices there are, from 0.
+    pub fn device_len(&self) -> usize
+        ensures { result ≡ length self.now.devices }
+    {
+        self.devices.len()
+    }
+
     /// The next step of a device, `None` where none is left.
     pub fn next_step(&self, d: ObjectId) -> Option<Step>
         ensures { result ≡ definition.next_step self.now d.0 }

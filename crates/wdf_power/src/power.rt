@@ -109,6 +109,13 @@ impl Power {
         })
     }
 
+    /// How many ids of devices there are, from 0.
+    pub fn device_len(&self) -> usize
+        ensures { result ≡ length self.now.devices }
+    {
+        self.devices.len()
+    }
+
     /// The power of a device.
     fn device(&self, d: ObjectId) -> DevicePower
         ensures { result ≡ definition.device_power self.now d.0 }
