@@ -34,8 +34,8 @@ find_only p a (suc n) s only within =
     only_by p a (suc n) s (p a) (find p (range_with_len (a + 1) n)) refl
     (λ e. only a (omega arith) (omega arith) e)
     (λ e. find_only p (a + 1) n s (λ r h k e2. only r (omega arith) (omega arith) e2)
-        (λ e2. let w = within e2 in
-            let low : a ≤ s = w.0 in
-            let high : s < a + suc n = w.1 in
-            let other : a ≡ s → ⊥ = λ same. (let clash : p a ≡ true = ap p same ∙ e2 in let z : ⊥ = cc in z) in
-            (omega arith, omega arith)))
+    (λ e2. let w = within e2 in
+    let low : a ≤ s = w.0 in
+    let high : s < a + suc n = w.1 in
+    let other : a ≡ s → ⊥ = λ same. (let clash : p a ≡ true = ap p same ∙ e2 in let z : ⊥ = cc in z) in
+    (omega arith, omega arith)))

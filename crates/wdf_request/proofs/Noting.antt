@@ -1,7 +1,6 @@
 -- The rows of arrivals, after an entry was written, and what they say.
-use Rattle.std.proofs.Common.{if◌then◌else◌, ℕ, zero, suc, ◌≡◌, ◌≢◌, ◌⊎◌, ◌+◌, ◌<◌, ◌≤◌, ◌==◌, nat_lt, Bool, true, false, not, ◌&&◌, ◌||◌, List, [], ◌∷◌, Option, Some, None, length, length-set, slice_set, get_or-set_same, refl, ap, sym, ◌∙◌, inl, inr, arith}
-use Rattle.std.specs.List.{find, range_with_len}
-use Rattle.std.proofs.lemmas.Bool.{cases_eq, eqb-true, eqb-false, or_parts, not-false}
+use Rattle.std.proofs.Common.{if◌then◌else◌, ℕ, suc, ◌≡◌, ◌≢◌, ◌⊎◌, ◌+◌, ◌<◌, ◌≤◌, ◌==◌, nat_lt, Bool, true, false, not, ◌||◌, List, [], length, length-set, slice_set, get_or-set_same, refl, ap, sym, ◌∙◌, inl, inr, arith}
+use Rattle.std.proofs.lemmas.Bool.{cases_eq, eqb-true}
 use Rattle.std.proofs.lemmas.Bool.Decides.{nat_tests}
 use Rattle.wdf_model.specs.declared.entries.Request.{Request}
 use Rattle.wdf_model.specs.Tables.{entry, put}
@@ -77,10 +76,10 @@ free_noted all rows r new are has free =
     said all (with_slot rows agent k (r + 1)) r new
     (λ some there. slot_same rows agent k (r + 1) has ∙ omega arith)
     (λ y other some there.
-        let was = are.at y some (rw (places_stay rows agent k (r + 1) (entry no_request all y).info.agent (entry no_request all y).info.arrival has) at there) in
-        slot_other rows agent k (r + 1) (entry no_request all y).info.agent (entry no_request all y).info.arrival has (cases_eq (entry no_request all y).info.agent agent) (cases_eq (entry no_request all y).info.arrival k)
-        (λ none. absurd (let z : suc y ≡ 0 = sym was ∙ none in omega arith)) free
-        ∙ was)
+    let was = are.at y some (rw (places_stay rows agent k (r + 1) (entry no_request all y).info.agent (entry no_request all y).info.arrival has) at there) in
+    slot_other rows agent k (r + 1) (entry no_request all y).info.agent (entry no_request all y).info.arrival has (cases_eq (entry no_request all y).info.agent agent) (cases_eq (entry no_request all y).info.arrival k)
+    (λ none. absurd (let z : suc y ≡ 0 = sym was ∙ none in omega arith)) free
+    ∙ was)
 
 -- the rows stay
 rows_stay : (all : List Request) (rows : List (List ℕ)) (r : ℕ) (new : Request) → AreNoted all rows → Says rows new.info.agent new.info.arrival r → AreNoted (put no_request all r new) rows
