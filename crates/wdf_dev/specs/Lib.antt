@@ -1,2 +1,4 @@
-pub mod App
+pub mod Actions
 pub mod Agents
+pub mod Least
+pub mod Owners

@@ -3,6 +3,7 @@
 use Rattle.std.proofs.Common.{ℕ, zero, suc, ◌≡◌, ◌≢◌, ◌⊎◌, ◌+◌, ◌<◌, ◌==◌, nat_lt, Bool, true, false, cond, List, [], ◌∷◌, length, map, drop, slice_set, length-set, get_or-set_same, get_or-set_other, Some, None, is_some, refl, sym, subst, ap, ◌∙◌, inl, inr, arith}
 use Rattle.std.specs.List.{position_or_len}
 use Rattle.std.proofs.lemmas.Bool.{eq-eqb, cases_eq, lt-ltb, or_right, or_parts}
+use Rattle.std.proofs.lemmas.List.Quantifiers.{position-Some}
 use Rattle.std.proofs.lemmas.Bool.Decides.{nat_tests}
 use Rattle.std.proofs.lemmas.List.{ext_get_or, length-map}
 use Rattle.wdf_ilist.specs.Family.{Family, is_on, is_on_any, list_at, list_of, without, first_of, are_distinct, AreApart}
@@ -59,6 +60,10 @@ list_of_none x ls off = rw (first_place x ls, off) refl
 
 pub list_of_first : (x : ℕ) (ls : List (List ℕ)) (q : ℕ) → is_on x (list_at ls q) ≡ true → ((p : ℕ) → p < q → is_on x (list_at ls p) ≡ false) → list_of x ls ≡ Some q
 list_of_first x ls q on before = rw (first_place x ls, on_any x ls q on) (ap Some (position_at x ls q on before))
+
+-- the list of an item has it
+pub on_list_of : (x : ℕ) (ls : List (List ℕ)) (q : ℕ) → list_of x ls ≡ Some q → is_on x (list_at ls q) ≡ true
+on_list_of x ls q e = (position-Some (is_on x) ls q [] e).1
 
 -- ---- the first item
 
@@ -120,3 +125,11 @@ one_leaves family x q a on =
 pub first_pops : (family : Family) (x q : ℕ) → AreApart family → first_of (list_at family.lists q) ≡ Some x → map (without x) family.lists ≡ slice_set family.lists q (drop 1 (list_at family.lists q))
 first_pops family x q a first =
     one_leaves family x q a (first_is_on x (list_at family.lists q) first) ∙ ap (slice_set family.lists q) (first_leaves x (list_at family.lists q) (a.once q) first)
+
+-- the list that has an item is its list
+pub list_of_on : (family : Family) (x q : ℕ) → AreApart family → is_on x (list_at family.lists q) ≡ true → list_of x family.lists ≡ Some q
+list_of_on family x q a on = list_of_first x family.lists q on (λ p h. before p h (is_on x (list_at family.lists p)) refl)
+  where
+    before : (p : ℕ) → p < q → (b : Bool) → is_on x (list_at family.lists p) ≡ b → is_on x (list_at family.lists p) ≡ false
+    before p h true e = absurd (let same : p ≡ q = a.apart x p q e on in omega arith)
+    before p h false e = e

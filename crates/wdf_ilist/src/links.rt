@@ -8,7 +8,8 @@ use std::marker::Model;
 use wdf_base::Memory;
 
 /// A family of lists of items. Lists and items have numbers from 0, and an item is on at most one
-/// list. Each call but [`Links::make`] takes no memory and constant time.
+/// list. Each call but [`Links::make`] takes no memory and constant time; the first use of a list
+/// or an item also writes the places before its own, each once.
 ///
 /// Contracts see a record: `lists`, a list of items for each number, and `items`, how many items
 /// there are.
@@ -31,8 +32,8 @@ impl Model for Links {
 }
 
 impl Links {
-    /// As many empty lists, and items on none of them. All memory is taken here, and it is written
-    /// only as far as lists and items are used. On [`Memory`] nothing is made.
+    /// As many empty lists, and as many items, each on none of them. All memory is taken here, and
+    /// it is written only as far as lists and items are used. On [`Memory`] nothing is made.
     pub fn make(alloc: Global, lists: u32, items: u32) -> Result<Links, Memory>
         requires lists { lists < 2 ^ 31 }
         requires items { items < 2 ^ 31 }

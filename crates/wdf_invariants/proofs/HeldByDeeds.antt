@@ -1,8 +1,10 @@
 -- Each deed that fits keeps what is held in step with what is counted and noted of it: a line for each.
-use Rattle.std.proofs.Common.{if◌then◌else◌, ◌≡◌, ◌≢◌, ℕ, ◌==◌, ◌≤◌, Bool, true, false, ◌&&◌, List, [], ◌∷◌, ◌++◌, ◌⊎◌, inl, inr, is_some, fold, count_by, refl, ap, sym, subst, ◌∙◌, arith}
+use Rattle.std.proofs.Common.{map, Option, Some, None, is_none, option_map, length, ◌||◌, if◌then◌else◌, ◌≡◌, ◌≢◌, ℕ, ◌==◌, ◌≤◌, Bool, true, false, ◌&&◌, List, [], ◌∷◌, ◌++◌, ◌⊎◌, inl, inr, is_some, fold, count_by, refl, ap, sym, subst, ◌∙◌, arith}
+use Rattle.std.proofs.lemmas.List.{length-map}
 use Rattle.std.proofs.lemmas.Bool.{cases_Bool}
 use Rattle.wdf_base.specs.declared.plan.Plan.{Plan}
 use Rattle.wdf_base.specs.declared.object.Mark.TheVariants as mark
+use Rattle.wdf_base.specs.declared.ids.ObjectId.{ObjectId}
 use Rattle.wdf_base.specs.declared.object.Place.{Place}
 use Rattle.wdf_base.specs.declared.object.Place.TheVariants as place
 use Rattle.wdf_base.specs.declared.object.RequestInfo.{RequestInfo}
@@ -14,28 +16,29 @@ use Rattle.wdf_base.specs.declared.value.Status.TheVariants as status
 use Rattle.wdf_model.specs.declared.enums.Mode.TheVariants as mode
 use Rattle.wdf_model.specs.declared.entries.Request.{Request}
 use Rattle.wdf_model.specs.declared.entries.Holding.{Holding}
+use Rattle.wdf_model.specs.Plans.{managed_queues, queues_of}
 use Rattle.wdf_model.specs.Tables.{ids_of, flag}
 use Rattle.wdf_model.specs.parts.Tree.{nearest_device, next_id}
-use Rattle.wdf_model.specs.parts.Requests.{cancelled, is_marked, is_owned, is_queued_in, is_returning_to, is_sent, made_info, marked, moved, place_of, request_of, unmarked, with_mark}
+use Rattle.wdf_model.specs.parts.Requests.{cancelled, is_marked, is_owned, is_queued_in, is_returning_to, is_sent, made_info, marked, moved, place_of, request_of, unmarked, with_mark, Requests, forgotten, is_done, is_over, no_request, closed_at, is_in}
 use Rattle.wdf_model.specs.parts.Requests as requests
 use Rattle.wdf_model.specs.parts.Queues as queues
-use Rattle.wdf_model.specs.parts.Queues.{waiting_in}
+use Rattle.wdf_model.specs.parts.Queues.{waiting_in, Queues, held_count}
 use Rattle.wdf_model.specs.parts.Control as control
-use Rattle.wdf_model.specs.parts.Targets.{is_forgotten, is_undone, routine_due}
+use Rattle.wdf_model.specs.parts.Targets.{is_forgotten, is_undone, routine_due, Targets}
 use Rattle.wdf_model.specs.parts.Power.{Power, advance_stage, holding_of, is_held_at, no_holding, wake_holdings, with_up, woken}
 use Rattle.wdf_model.specs.parts.Power as power
 use Rattle.wdf_model.specs.State.{State, held_at, withdrawn_place}
-use Rattle.wdf_model.specs.rules.Deeds.{Deed, Make_request, Arrive, Ask_deletion, Present, Receive, Requeue, Forward, Give_back, Withdraw, Mark_request, Unmark_request, Cancel_request, Take_cancel, Send_request, Finish_sending, Come_back, Complete_request, Purge_queue, Close_returning, Stop_target, Start_target, Advance_power, Acknowledge, Ask_stop, Resume, arrive_at, ask_objects, close_one, do_deed, do_deeds, give_up, queued, withdraw}
+use Rattle.wdf_model.specs.rules.Deeds.{Deed, Make_request, Arrive, Ask_deletion, Present, Receive, Requeue, Forward, Give_back, Withdraw, Mark_request, Unmark_request, Cancel_request, Take_cancel, Send_request, Finish_sending, Come_back, Complete_request, Purge_queue, Close_device, Close_returning, Stop_target, Start_target, Advance_power, Acknowledge, Ask_stop, Resume, arrive_at, ask_objects, close_queue, close_returning, do_deed, do_deeds, give_up, queued, withdraw, End_life}
 use Rattle.wdf_model.specs.rules.Calls.{may_send}
 use Rattle.wdf_model.specs.laws.Fits.{all_fit, fits, is_arrival_place}
 use Rattle.wdf_model.proofs.Tests.{both_left, both_right}
-use Rattle.wdf_model.proofs.Maps.{entry_map}
+use Rattle.wdf_model.proofs.Maps.{entry_map, as_long, entry_set_other, set_read}
 use Rattle.wdf_model.proofs.Deletion.{asking_deletes}
 use Rattle.wdf_model.proofs.Counts.{at_head, equal, one_or_two}
 use Rattle.wdf_model.proofs.KeptByDeeds.{deed_keeps}
 use Rattle.wdf_model.proofs.KeptMoves.{request_elsewhere, request_here}
 use Rattle.wdf_invariants.proofs.Forgotten.{stops_other}
-use Rattle.wdf_invariants.proofs.Holding.{HoldsIn, held_by, holds_alike}
+use Rattle.wdf_invariants.proofs.Holding.{HoldsIn, held_by, holds_alike, holder, Holds}
 use Rattle.wdf_invariants.proofs.Releases.{gives_up, same_holding}
 use Rattle.wdf_invariants.proofs.HeldPlaces.{marked_held, unmarked_held, withdrawn_unheld}
 use Rattle.wdf_invariants.proofs.HeldMoves.{Placed, away, away_cancelled, came_back, completed, entered_unheld, finished, gone_by, gone_cancelled, marks_hold, presented, received, sent_for_good, sent_to_return}
@@ -88,14 +91,34 @@ waiting_unheld S q x k more = elim (cases_Bool (is_queued_in q (place_of S.reque
   | inr e ↦ absurd (let is = k.queued q x in let no_ : flag (is_queued_in q (place_of S.requests x)) ≡ 0 = ap flag e in omega arith)
 ]
 
-closes_one : {A : Type 0} (plan : Plan) (q : ℕ) (S : State A) (r : ℕ) (b : Bool) → is_returning_to q (place_of S.requests r) ≡ b → HoldsIn plan S
-    → HoldsIn plan (if b then record S { requests = requests.move_to S.requests r (place.Closing status.Cancelled) } else S)
-closes_one plan q S r false e h = h
-closes_one plan q S r true e h = away r (place.Closing status.Cancelled) h (returning_unheld (is_forgotten S.targets r) q (place_of S.requests r) e) refl (λ p. refl)
+-- ---- requests that are to be completed with CANCELLED
 
-all_closed : {A : Type 0} (plan : Plan) (q : ℕ) (rs : List ℕ) (S : State A) → HoldsIn plan S → HoldsIn plan (fold (close_one q) S rs)
-all_closed plan q [] S h = h
-all_closed plan q (r ∷ rs) S h = all_closed plan q rs (close_one q S r) (closes_one plan q S r (is_returning_to q (place_of S.requests r)) refl h)
+-- what is in a queue isn't held, and isn't held then
+inside_unheld : (away : Bool) (q : ℕ) (p : Place) → is_in q p ≡ true → held_at away p ≡ false
+inside_unheld away q (place.Queued r) h = refl
+inside_unheld away q (place.Returning r) h = refl
+inside_unheld away q (place.Closing s) h = refl
+inside_unheld away q place.Owned h = absurd (let z : ⊥ = cc in z)
+inside_unheld away q (place.Sent t) h = absurd (let z : ⊥ = cc in z)
+inside_unheld away q place.Done h = refl
+
+closed_by : (away : Bool) (x : Request) (b : Bool) → (b ≡ true → held_at away x.place ≡ false) → held_by away (if b then moved (place.Closing status.Cancelled) x else x) ≡ held_by away x
+closed_by away x true unheld = let no_ = unheld refl in rw no_ refl
+closed_by away x false unheld = refl
+
+closed_holds : {plan : Plan} {R : Requests} {Q Q' : Queues} {T : Targets} {P : Power} (here : Place → Bool) → here place.Done ≡ false → ((away : Bool) (p : Place) → here p ≡ true → held_at away p ≡ false)
+    → Holds plan R Q T P → ((q : ℕ) → held_count Q' q ≡ held_count Q q) → Holds plan (record R { all = map (closed_at here) R.all }) Q' T P
+closed_holds {R = R} {T = T} here done unheld h counts = holds_alike h
+    (λ x. ap (held_by (is_forgotten T x)) (entry_map no_request R.all (closed_at here) x (rw done refl)) ∙ closed_by (is_forgotten T x) (request_of R x) (here (request_of R x).place) (unheld (is_forgotten T x) (request_of R x).place))
+    (let long = length-map R.all (closed_at here) in omega arith) counts (λ x. refl)
+
+all_returning_closed : {A : Type 0} (plan : Plan) (qs : List ℕ) (S : State A) → HoldsIn plan S → HoldsIn plan (fold close_returning S qs)
+all_returning_closed plan [] S h = h
+all_returning_closed plan (q ∷ qs) S h = all_returning_closed plan qs (close_returning S q) (closed_holds (is_returning_to q) refl (λ away p e. returning_unheld away q p e) h (λ x. refl))
+
+all_queues_closed : {A : Type 0} (plan : Plan) (qs : List ℕ) (S : State A) → HoldsIn plan S → HoldsIn plan (fold close_queue S qs)
+all_queues_closed plan [] S h = h
+all_queues_closed plan (q ∷ qs) S h = all_queues_closed plan qs (close_queue S q) (closed_holds (is_in q) refl (λ away p e. inside_unheld away q p e) h (λ x. refl))
 
 -- ---- power
 
@@ -131,6 +154,27 @@ sends_it : {A : Type 0} (plan : Plan) (S : State A) (r t : ℕ) (forget : Bool) 
 sends_it plan S r t true k h owned = sent_for_good S (give_up S r) r t k h (gives_up plan S r h) owned
 sends_it plan S r t false k h owned = sent_to_return S r t k h owned
 
+-- ---- an object is destroyed
+
+-- what the framework is done with isn't held
+over_unheld : (away : Bool) (p : Place) (from : Option ObjectId) → (is_done p || (is_owned p && is_none from)) ≡ true → (if held_at away p then option_map (λ o. o.0) from else None) ≡ None
+over_unheld away place.Done from h = refl
+over_unheld away place.Owned None h = refl
+over_unheld away place.Owned (Some o) h = absurd (let z : ⊥ = cc in z)
+over_unheld away (place.Queued q) from h = absurd (let z : ⊥ = cc in z)
+over_unheld away (place.Returning q) from h = absurd (let z : ⊥ = cc in z)
+over_unheld away (place.Closing s) from h = absurd (let z : ⊥ = cc in z)
+over_unheld away (place.Sent t) from h = absurd (let z : ⊥ = cc in z)
+
+forgotten_unheld : (away : Bool) (q : Request) (b : Bool) → is_over q ≡ b → held_by away (if b then no_request else q) ≡ held_by away q
+forgotten_unheld away q true e = sym (over_unheld away q.place q.info.origin e)
+forgotten_unheld away q false e = refl
+
+forgotten_holder : (R : Requests) (T : Targets) (o x : ℕ) → (x ≡ o) ⊎ (x ≢ o) → holder (requests.forget R o) T x ≡ holder R T x
+forgotten_holder R T o x (inl e) =
+    rw e (ap (held_by (is_forgotten T o)) (set_read no_request forgotten R.all o refl) ∙ forgotten_unheld (is_forgotten T o) (request_of R o) (is_over (request_of R o)) refl)
+forgotten_holder R T o x (inr n) = ap (held_by (is_forgotten T x)) (entry_set_other no_request R.all o x (forgotten (request_of R o)) n)
+
 pub deed_holds : {A : Type 0} (plan : Plan) (d : Deed) (S : State A) → fits plan d S ≡ true → Placed S → HoldsIn plan S → HoldsIn plan (do_deed plan d S)
 deed_holds plan (Make_request class parent) S f k h = entered_unheld S place.Owned (made_info (nearest_device S.tree parent)) k h (λ forgotten. refl) (λ p. refl)
 deed_holds plan (Arrive device info p) S f k h = arrives_there plan S device info p k h (both_right _ (is_arrival_place p) f)
@@ -152,7 +196,9 @@ deed_holds plan (Finish_sending r s) S f k h = finished S r s h (both_left (is_s
 deed_holds plan (Come_back r) S f k h = came_back S r h (both_left (is_sent (place_of S.requests r)) (is_some (routine_due S.targets r)) f) (both_right (is_sent (place_of S.requests r)) (is_some (routine_due S.targets r)) f)
 deed_holds plan (Complete_request r) S f k h = deleted plan (record (give_up S r) { requests = requests.complete S.requests r }) r (completed S (give_up S r) r h (gives_up plan S r h))
 deed_holds plan (Purge_queue q) S f k h = all_withdrawn plan q (waiting_in S.queues q) (record S { control = control.set_mode S.control q mode.Purged }) h (λ x more. waiting_unheld S q x k more)
-deed_holds plan (Close_returning q) S f k h = all_closed plan q (ids_of S.requests.all) S h
+deed_holds plan (Close_returning d) S f k h = all_returning_closed plan (managed_queues plan d) S h
+deed_holds plan (Close_device d) S f k h = all_queues_closed plan (queues_of plan d) (record S { control = control.shut S.control d }) h
+deed_holds plan (End_life o) S f k h = holds_alike h (λ x. forgotten_holder S.requests S.targets o x (one_or_two x o)) (let e = as_long S.requests.all o (forgotten (request_of S.requests o)) in omega arith) (λ q. refl) (λ x. refl)
 deed_holds plan (Advance_power d s) S f k h = holds_alike h (λ x. refl) (omega arith) (λ q. refl) (λ x. step_queue S.power d s x)
 deed_holds plan (Acknowledge r) S f k h = holds_alike h (λ x. refl) (omega arith) (λ q. refl) (λ x. same_holding S.power r x (λ y. record y { acknowledged = true }) (λ y. refl))
 deed_holds plan (Ask_stop r) S f k h = holds_alike h (λ x. refl) (omega arith) (λ q. refl) (λ x. same_holding S.power r x (λ y. record y { stop_asked = true }) (λ y. refl))

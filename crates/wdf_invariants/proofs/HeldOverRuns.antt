@@ -40,8 +40,8 @@ none_counted : (a n : ℕ) → count_by (λ (r : ℕ). false) (range_with_len a 
 none_counted a zero = refl
 none_counted a (suc n) = none_counted (a + 1) n
 
-opening_holds : {A : Type 0} (m : Meaning A) (plan : Plan) → HoldsIn plan (opening m plan)
-opening_holds m plan = record {
+opening_holds : {A : Type 0} (plan : Plan) (m : Meaning A) → HoldsIn plan (opening plan m)
+opening_holds plan m = record {
   counts = λ q n within. queues_open (declared_ids plan) q ∙ sym (none_counted 0 n);
   holdings = λ r. refl;
 }
@@ -68,14 +68,14 @@ one_event_more plan m S offered e (inr t) k h = subst (λ x. HoldsIn plan (after
 
 -- ---- each place of a run
 
-holds_at_first : {A : Type 0} (m : Meaning A) (plan : Plan) → HoldsIn plan (state_after m plan [])
+holds_at_first : {A : Type 0} (plan : Plan) (m : Meaning A) → HoldsIn plan (state_after plan m [])
 unfolding state_after
-holds_at_first m plan = opening_holds m plan
+holds_at_first plan m = opening_holds plan m
 
-pub holds_at_each : {A : Type 0} (m : Meaning A) (plan : Plan) (run : List Event) → IsRunOf m plan run → (n : ℕ) → HoldsIn plan (state_after m plan (take n run))
-holds_at_each m plan run is_run n = along_run (λ es. HoldsIn plan (state_after m plan es)) (ready m plan) run (holds_at_first m plan)
-    (λ before e place so_far held at. subst (λ T. HoldsIn plan T) (sym (state_goes_on m plan before e))
-    (one_event_more plan m (state_after m plan before) (ready m plan before) e (follows m plan before place e at) (placed (state_after m plan before) (history_now m plan before so_far).kept) held))
+pub holds_at_each : {A : Type 0} (plan : Plan) (m : Meaning A) (run : List Event) → IsRunOf plan m run → (n : ℕ) → HoldsIn plan (state_after plan m (take n run))
+holds_at_each plan m run is_run n = along_run (λ es. HoldsIn plan (state_after plan m es)) (ready plan m) run (holds_at_first plan m)
+    (λ before e place so_far held at. subst (λ T. HoldsIn plan T) (sym (state_goes_on plan m before e))
+    (one_event_more plan m (state_after plan m before) (ready plan m before) e (follows plan m before place e at) (placed (state_after plan m before) (history_now plan m before so_far).kept) held))
     is_run n
 
 -- ---- the laws
@@ -112,11 +112,11 @@ named : {A : Type 0} (plan : Plan) (S : State A) → HoldsIn plan S → (r : ℕ
 named plan S h r = h.holdings r ∙ named_by plan (is_with_driver S r) (origin_of S.requests r)
 
 pub held_agrees_at_each : {A : Type 0} → AtEachPlace {A = A} held_agrees
-held_agrees_at_each m plan run is_run n =
-    let S = state_after m plan (take n run) in
-    each_passes (λ q. held_count S.queues q == length (held_from S q)) (λ q. equal (held_count S.queues q) (length (held_from S q)) (held_number plan S (holds_at_each m plan run is_run n) q)) (declared_ids plan)
+held_agrees_at_each plan m run is_run n =
+    let S = state_after plan m (take n run) in
+    each_passes (λ q. held_count S.queues q == length (held_from S q)) (λ q. equal (held_count S.queues q) (length (held_from S q)) (held_number plan S (holds_at_each plan m run is_run n) q)) (declared_ids plan)
 
 pub holdings_agree_at_each : {A : Type 0} → AtEachPlace {A = A} holdings_agree
-holdings_agree_at_each m plan run is_run n =
-    let S = state_after m plan (take n run) in
-    each_passes (λ r. (holding_of S.power r).queue.0 == holding_queue plan S r) (λ r. equal (holding_of S.power r).queue.0 (holding_queue plan S r) (named plan S (holds_at_each m plan run is_run n) r)) (ids_of S.tree.nodes)
+holdings_agree_at_each plan m run is_run n =
+    let S = state_after plan m (take n run) in
+    each_passes (λ r. (holding_of S.power r).queue.0 == holding_queue plan S r) (λ r. equal (holding_of S.power r).queue.0 (holding_queue plan S r) (named plan S (holds_at_each plan m run is_run n) r)) (ids_of S.tree.nodes)

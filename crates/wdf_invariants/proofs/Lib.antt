@@ -22,3 +22,5 @@ pub mod NextFrames
 pub mod StepEvents
 pub mod StepTable
 pub mod StepsOverRuns
+pub mod DeclaredOverRuns
+pub mod WaitsOverRuns

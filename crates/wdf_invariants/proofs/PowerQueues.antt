@@ -11,7 +11,7 @@ use Rattle.wdf_base.specs.declared.object.Place.TheVariants as place
 use Rattle.wdf_base.specs.declared.value.Status.TheVariants as status
 use Rattle.wdf_model.specs.declared.enums.Mode.TheVariants as mode
 use Rattle.wdf_model.specs.Tables.{ids_of}
-use Rattle.wdf_model.specs.Plans.{is_managed}
+use Rattle.wdf_model.specs.Plans.{is_managed, managed_queues, queues_of}
 use Rattle.wdf_model.specs.parts.Requests as requests
 use Rattle.wdf_model.specs.parts.Requests.{is_returning_to, place_of}
 use Rattle.wdf_model.specs.parts.Queues.{Queues, waiting_in}
@@ -19,7 +19,7 @@ use Rattle.wdf_model.specs.parts.Control as control
 use Rattle.wdf_model.specs.parts.Power.{Power, advance_stage, holding_of, is_held, opening_power}
 use Rattle.wdf_model.specs.parts.Power as power
 use Rattle.wdf_model.specs.State.{State, is_with_driver}
-use Rattle.wdf_model.specs.rules.Deeds.{Deed, Arrive, Ask_deletion, Present, Receive, Requeue, Forward, Give_back, Send_request, Complete_request, Purge_queue, Close_returning, Advance_power, arrive_at, ask_objects, close_one, do_deed, do_deeds, give_up, give_up_if, release_power, withdraw}
+use Rattle.wdf_model.specs.rules.Deeds.{Deed, Arrive, Ask_deletion, Present, Receive, Requeue, Forward, Give_back, Send_request, Complete_request, Purge_queue, Close_device, Close_returning, Advance_power, arrive_at, ask_objects, close_queue, close_returning, do_deed, do_deeds, give_up, give_up_if, release_power, withdraw}
 use Rattle.wdf_base.specs.declared.object.Place.{Place}
 use Rattle.wdf_base.specs.declared.object.RequestInfo.{RequestInfo}
 use Rattle.wdf_model.specs.rules.Steps.{deeds}
@@ -56,13 +56,13 @@ withdrawn_queues : {A : Type 0} (plan : Plan) (q : ℕ) (rs : List ℕ) (S : Sta
 withdrawn_queues plan q [] S = refl
 withdrawn_queues plan q (r ∷ rs) S = withdrawn_queues plan q rs (withdraw plan q S r)
 
-closed_queues : {A : Type 0} (S : State A) (r : ℕ) (b : Bool) → (if b then record S { requests = requests.move_to S.requests r (place.Closing status.Cancelled) } else S).power.queues ≡ S.power.queues
-closed_queues S r true = refl
-closed_queues S r false = refl
+returning_queues : {A : Type 0} (qs : List ℕ) (S : State A) → (fold close_returning S qs).power.queues ≡ S.power.queues
+returning_queues [] S = refl
+returning_queues (q ∷ qs) S = returning_queues qs (close_returning S q)
 
-all_closed_queues : {A : Type 0} (q : ℕ) (rs : List ℕ) (S : State A) → (fold (close_one q) S rs).power.queues ≡ S.power.queues
-all_closed_queues q [] S = refl
-all_closed_queues q (r ∷ rs) S = all_closed_queues q rs (close_one q S r) ∙ closed_queues S r (is_returning_to q (place_of S.requests r))
+closed_queues : {A : Type 0} (qs : List ℕ) (S : State A) → (fold close_queue S qs).power.queues ≡ S.power.queues
+closed_queues [] S = refl
+closed_queues (q ∷ qs) S = closed_queues qs (close_queue S q)
 
 stage_queues : (P : Power) (d : ℕ) (s : Stage) → (advance_stage P d s).queues ≡ P.queues
 stage_queues P d stage.Hardware = refl
@@ -92,7 +92,8 @@ deed_queues plan (Give_back r q) S = gives_up_queues S r
 deed_queues plan (Send_request r t forget) S = sent_queues S r forget
 deed_queues plan (Complete_request r) S = deleted_queues (record (give_up S r) { requests = requests.complete S.requests r }) r ∙ gives_up_queues S r
 deed_queues plan (Purge_queue q) S = withdrawn_queues plan q (waiting_in S.queues q) (record S { control = control.set_mode S.control q mode.Purged })
-deed_queues plan (Close_returning q) S = all_closed_queues q (ids_of S.requests.all) S
+deed_queues plan (Close_returning d) S = returning_queues (managed_queues plan d) S
+deed_queues plan (Close_device d) S = closed_queues (queues_of plan d) (record S { control = control.shut S.control d })
 deed_queues plan (Advance_power d s) S = step_queues S.power d s
 deed_queues plan _ S = refl
 
@@ -100,11 +101,11 @@ deeds_queues : {A : Type 0} (plan : Plan) (ds : List Deed) (S : State A) → (do
 deeds_queues plan [] S = refl
 deeds_queues plan (d ∷ ds) S = deeds_queues plan ds (do_deed plan d S) ∙ deed_queues plan d S
 
-first_queues : {A : Type 0} (m : Meaning A) (plan : Plan) → (state_after m plan []).power.queues ≡ (opening_power plan).queues
+first_queues : {A : Type 0} (plan : Plan) (m : Meaning A) → (state_after plan m []).power.queues ≡ (opening_power plan).queues
 unfolding state_after
-first_queues m plan = refl
+first_queues plan m = refl
 
-pub queues_at_each : {A : Type 0} (m : Meaning A) (plan : Plan) (run : List Event) → IsRunOf m plan run → (n : ℕ) → (state_after m plan (take n run)).power.queues ≡ (opening_power plan).queues
-queues_at_each {A} m plan run is_run n = along_run (λ es. (state_after m plan es).power.queues ≡ (opening_power plan).queues) (ready m plan) run (first_queues m plan)
-    (λ before e place so_far held at. ap (λ (T : State A). T.power.queues) (state_goes_on m plan before e) ∙ deeds_queues plan (deeds plan (state_after m plan before) e) (state_after m plan before) ∙ held)
+pub queues_at_each : {A : Type 0} (plan : Plan) (m : Meaning A) (run : List Event) → IsRunOf plan m run → (n : ℕ) → (state_after plan m (take n run)).power.queues ≡ (opening_power plan).queues
+queues_at_each {A} plan m run is_run n = along_run (λ es. (state_after plan m es).power.queues ≡ (opening_power plan).queues) (ready plan m) run (first_queues plan m)
+    (λ before e place so_far held at. ap (λ (T : State A). T.power.queues) (state_goes_on plan m before e) ∙ deeds_queues plan (deeds plan (state_after plan m before) e) (state_after plan m before) ∙ held)
     is_run n

@@ -24,7 +24,7 @@ use Rattle.wdf_model.specs.rules.Deeds.{Advance_power, Deed, End_life, Go_on, Ta
 use Rattle.wdf_model.specs.rules.Script.{intent_of}
 use Rattle.wdf_model.specs.rules.Calls.{outcome, second_deeds}
 use Rattle.wdf_model.specs.rules.Starts.{callback_over, destroy_ready, may_pass, may_start, stage_deeds, stage_effect, stage_ready, step_ready}
-use Rattle.wdf_model.specs.rules.Steps.{answered, by_top, deeds, did_deeds, goes_on, is_proper_if_any, may, may_park, may_unpark, spending, stepped, wait_is_over, waiting, waiting_deeds, waits_on, woke_deeds}
+use Rattle.wdf_model.specs.rules.Steps.{answered, by_top, deeds, did_deeds, goes_on, is_proper_if_any, may, may_park, may_unpark, spending, stepped, wait_is_over, waiting, waiting_deeds, waits_on, woke_deeds, is_cpu}
 use Rattle.wdf_model.specs.laws.Fits.{all_fit, fits}
 use Rattle.wdf_model.proofs.Tests.{both_left, both_right}
 use Rattle.wdf_model.proofs.OwnEvents.{IsDid, IsWaiting, IsWoke, did_tells, end_tells, waiting_tells, woke_tells}
@@ -117,7 +117,7 @@ stays plan S ds still fit h = deeds_stay plan ds S S.number S.number (S.number +
 
 each_event : {A : Type 0} (plan : Plan) (m : Meaning A) (S : State A) (e : Event) → may plan m S e ≡ true → Keeps plan S (deeds plan S e)
 each_event plan m S (event.Start k c o r) may_come fit h =
-    starts plan m S k.0 c o r (both_right (is_proper plan S o && is_proper_if_any plan S r) (may_start plan m S k.0 c o.id.0 r) may_come) fit h
+    starts plan m S k.0 c o r (both_right (is_cpu plan k && is_proper plan S o && is_proper_if_any plan S r) (may_start plan m S k.0 c o.id.0 r) may_come) fit h
 each_event plan m S (event.Local k line) may_come fit h = moves plan S (λ a. stepped a (intent_of plan a)) S.number S.number (S.number + 1) (top S.cpus k.0) (omega arith) (λ a. stepped_kept a (intent_of plan a)) h
 each_event plan m S (event.Log k v) may_come fit h = moves plan S (λ a. goes_on plan a) S.number S.number (S.number + 1) (top S.cpus k.0) (omega arith) (λ a. goes_on_kept plan a) h
 each_event plan m S (event.Spend k n) may_come fit h = moves plan S (λ a. spending plan S a n) S.number S.number (S.number + 1) (top S.cpus k.0) (omega arith)
@@ -127,7 +127,7 @@ each_event plan m S (event.Did k c v) may_come fit h = did_keeps plan S k.0 c v 
 each_event plan m S (event.Waiting k c) may_come fit h = waiting_keeps plan S k.0 c (waiting_tells plan m S k c may_come) fit h
 each_event plan m S (event.Woke k c v) may_come fit h = woke_keeps plan S k.0 c v (woke_tells plan m S k c v may_come) fit h
 each_event plan m S (event.Park k f) may_come fit h = parks_it plan S k.0 f.0 may_come h
-each_event plan m S (event.Unpark k f) may_come fit h = comes_back plan S k.0 f.0 may_come h
+each_event plan m S (event.Unpark k f) may_come fit h = comes_back plan S k.0 f.0 (both_right (is_cpu plan k) (may_unpark S k.0 f.0) may_come) h
 each_event plan m S (event.End k c o v) may_come fit h = ends plan S k.0 c o v (end_tells plan m S k c o v may_come) S.number h fit
 each_event plan m S (event.Fault k x line) may_come fit h = stays plan S [] refl refl h
 each_event plan m S (event.Stage d s i) may_come fit h = stage_keeps plan S d.id.0 s i (both_right (is_proper plan S d) (may_pass plan S d.id.0 s i) may_come) fit h

@@ -6,6 +6,8 @@ use Rattle.wdf_base.specs.declared.plan.Plan.{Plan}
 use Rattle.wdf_base.specs.declared.declared.Declared.{Declared}
 use Rattle.wdf_base.specs.declared.declared.DeviceInfo.{DeviceInfo}
 use Rattle.wdf_base.specs.declared.event.Event.{Event}
+use Rattle.wdf_base.specs.declared.event.Event.TheVariants as event
+use Rattle.wdf_model.specs.laws.OverRuns.{FramesAgree}
 use Rattle.wdf_model.specs.Tables.{entry, flag}
 use Rattle.wdf_model.specs.Plans.{declared_ids, device_of, devices_of}
 use Rattle.wdf_model.specs.parts.Tree.{declared_node, gone, is_gone, life_of, opening_tree, parent_of}
@@ -53,8 +55,8 @@ opening_hollow : (plan : Plan) (o : ℕ) → is_gone (life_of (opening_tree plan
 opening_hollow plan zero h = refl
 opening_hollow plan (suc o) h = declared_stand plan.declared o h
 
-opening_steps : {A : Type 0} (m : Meaning A) (plan : Plan) → StepsIn 0 0 (opening m plan)
-opening_steps m plan = record {
+opening_steps : {A : Type 0} (plan : Plan) (m : Meaning A) → StepsIn 0 0 (opening plan m)
+opening_steps plan m = record {
   number = refl;
   framed = record {
     once = λ f. let e = no_frames plan (λ x. x == f) in omega arith;
@@ -78,18 +80,18 @@ told_more m e N S h =
 
 one_event_more : {A : Type 0} (plan : Plan) (m : Meaning A) (S : State A) (offered : List Event) (e : Event) → (may plan m S e ≡ true) ⊎ IsTick m S offered e → StepsNow S → StepsNow (after plan m S e)
 one_event_more plan m S offered e (inl may_come) h = told_more m e S.number (do_deeds plan (deeds plan S e) S) (event_keeps_steps plan m S e may_come h)
-one_event_more plan m S offered e (inr t) h = subst (λ x. StepsNow (after plan m S x)) (sym t.tick) (told_more m _ S.number _ (tick_keeps_steps plan S (S.clock + 1) h))
+one_event_more plan m S offered e (inr t) h = subst (λ x. StepsNow (after plan m S x)) (sym t.tick) (told_more m (event.Tick (S.clock + 1)) S.number _ (tick_keeps_steps plan S (S.clock + 1) h))
 
 -- ---- each place of a run
 
-steps_at_first : {A : Type 0} (m : Meaning A) (plan : Plan) → StepsNow (state_after m plan [])
+steps_at_first : {A : Type 0} (plan : Plan) (m : Meaning A) → StepsNow (state_after plan m [])
 unfolding state_after
-steps_at_first m plan = opening_steps m plan
+steps_at_first plan m = opening_steps plan m
 
-steps_at_each : {A : Type 0} (m : Meaning A) (plan : Plan) (run : List Event) → IsRunOf m plan run → (n : ℕ) → StepsNow (state_after m plan (take n run))
-steps_at_each m plan run is_run n = along_run (λ es. StepsNow (state_after m plan es)) (ready m plan) run (steps_at_first m plan)
-    (λ before e place so_far held at. subst (λ T. StepsNow T) (sym (state_goes_on m plan before e))
-    (one_event_more plan m (state_after m plan before) (ready m plan before) e (follows m plan before place e at) held))
+steps_at_each : {A : Type 0} (plan : Plan) (m : Meaning A) (run : List Event) → IsRunOf plan m run → (n : ℕ) → StepsNow (state_after plan m (take n run))
+steps_at_each plan m run is_run n = along_run (λ es. StepsNow (state_after plan m es)) (ready plan m) run (steps_at_first plan m)
+    (λ before e place so_far held at. subst (λ T. StepsNow T) (sym (state_goes_on plan m before e))
+    (one_event_more plan m (state_after plan m before) (ready plan m before) e (follows plan m before place e at) held))
     is_run n
 
 -- ---- the law
@@ -99,9 +101,14 @@ flag_by true = refl
 flag_by false = refl
 
 pub steps_agree_at_each : {A : Type 0} → AtEachPlace {A = A} steps_agree
-steps_agree_at_each m plan run is_run n =
-    let S = state_after m plan (take n run) in
+steps_agree_at_each plan m run is_run n =
+    let S = state_after plan m (take n run) in
     each_passes (λ d. count_by (λ f. is_step_frame d (frame_of S.cpus f)) (all_frames S.cpus) == (if is_running_step S.pnp d then 1 else 0))
     (λ d. equal (count_by (λ f. is_step_frame d (frame_of S.cpus f)) (all_frames S.cpus)) (if is_running_step S.pnp d then 1 else 0)
-    ((steps_at_each m plan run is_run n).stepping.steps d ∙ flag_by (is_running_step S.pnp d)))
+    ((steps_at_each plan m run is_run n).stepping.steps d ∙ flag_by (is_running_step S.pnp d)))
     (devices_of plan)
+
+pub frames_agree_at_each : {A : Type 0} (plan : Plan) (m : Meaning A) (run : List Event) → IsRunOf plan m run → (n : ℕ) → FramesAgree (state_after plan m (take n run))
+frames_agree_at_each plan m run is_run n =
+    let framed = (steps_at_each plan m run is_run n).framed in
+    record { once = framed.once; numbered = framed.old; device = framed.known; object = framed.there }

@@ -1,5 +1,6 @@
 -- What still deeds keep of frames, steps and the tree.
 use Rattle.std.proofs.Common.{if◌then◌else◌, ◌≡◌, ◌≢◌, ℕ, ◌+◌, ◌-◌, Bool, true, false, ◌&&◌, List, [], ◌∷◌, ◌⊎◌, inl, inr, is_some, fold, slice_set, refl, ap, sym, subst, ◌∙◌}
+use Rattle.wdf_base.specs.declared.ids.ObjectId.{ObjectId}
 use Rattle.wdf_base.specs.declared.plan.Plan.{Plan}
 use Rattle.wdf_base.specs.declared.object.Kind.TheVariants as kind
 use Rattle.wdf_base.specs.declared.object.Life.{Life}
@@ -14,9 +15,10 @@ use Rattle.wdf_base.specs.declared.value.Status.TheVariants as status
 use Rattle.wdf_model.specs.declared.enums.Mode.TheVariants as mode
 use Rattle.wdf_model.specs.declared.entries.Node.{Node}
 use Rattle.wdf_model.specs.declared.entries.Running.{Running}
+use Rattle.wdf_model.specs.Plans.{managed_queues, queues_of}
 use Rattle.wdf_model.specs.Tables.{change_at, ids_of}
 use Rattle.wdf_model.specs.parts.Tree.{children, is_past_cleanup, Tree, is_asked, is_gone, is_live, life_of, may_clean, node_of, noted, subtree, with_life}
-use Rattle.wdf_model.specs.parts.Cpus.{Cpus, frame_of, less_one, no_frame, running}
+use Rattle.wdf_model.specs.parts.Cpus.{Cpus, frame_of, no_frame, running}
 use Rattle.wdf_model.specs.parts.Queues.{Queues, waiting_in}
 use Rattle.wdf_model.specs.parts.Control as control
 use Rattle.wdf_model.specs.parts.Power.{Power}
@@ -27,7 +29,7 @@ use Rattle.wdf_model.specs.parts.Pnp as pnp
 use Rattle.std.specs.List.{list_all}
 use Rattle.wdf_model.specs.State.{State, is_with_driver, nothing_at}
 use Rattle.wdf_model.specs.rules.Starts.{clean_ready, is_finished, is_unused}
-use Rattle.wdf_model.specs.rules.Deeds.{Deed, Create, Make_request, Arrive, Ask_deletion, Refer, Unrefer, Write_cell, Note, Clean_up, Raise, Lower, Requeue, Forward, Give_back, Send_request, Complete_request, Purge_queue, Close_returning, Ask_device, Push_frame, Go_on, Pop_frame, Park_frame, Unpark_frame, Take_step, End_step, End_life, arrive_at, ask_object, close_one, do_deed, do_deeds, give_up, give_up_if, withdraw}
+use Rattle.wdf_model.specs.rules.Deeds.{Deed, Create, Make_request, Arrive, Ask_deletion, Refer, Unrefer, Write_cell, Note, Clean_up, Raise, Lower, Requeue, Forward, Give_back, Send_request, Complete_request, Purge_queue, Close_device, Close_returning, Ask_device, Push_frame, Go_on, Pop_frame, Park_frame, Unpark_frame, Take_step, End_step, End_life, arrive_at, ask_object, close_queue, close_returning, do_deed, do_deeds, give_up, give_up_if, withdraw}
 use Rattle.wdf_model.specs.laws.Fits.{all_fit, fits}
 use Rattle.wdf_model.proofs.Maps.{entry_put_other, entry_put_same}
 use Rattle.wdf_model.proofs.Tests.{both_left, both_right}
@@ -106,17 +108,13 @@ all_withdrawn : {A : Type 0} (plan : Plan) (q : ℕ) (rs : List ℕ) (S : State 
 all_withdrawn plan q [] S = still_same S
 all_withdrawn plan q (r ∷ rs) S = let k = all_withdrawn plan q rs (withdraw plan q S r) in record { number = k.number; stacks = k.stacks; parked = k.parked; frames = k.frames; running = k.running; tree = k.tree }
 
-closed_one : {A : Type 0} (S : State A) (r : ℕ) (b : Bool) → Still S (if b then record S { requests = requests.move_to S.requests r (place.Closing status.Cancelled) } else S)
-closed_one S r true = record { number = refl; stacks = refl; parked = refl; frames = λ f. refl; running = λ d. refl; tree = tree_same S.tree }
-closed_one S r false = still_same S
+all_returning_closed : {A : Type 0} (qs : List ℕ) (S : State A) → Still S (fold close_returning S qs)
+all_returning_closed [] S = still_same S
+all_returning_closed (q ∷ qs) S = let k = all_returning_closed qs (close_returning S q) in record { number = k.number; stacks = k.stacks; parked = k.parked; frames = k.frames; running = k.running; tree = k.tree }
 
-all_closed : {A : Type 0} (q : ℕ) (rs : List ℕ) (S : State A) → Still S (fold (close_one q) S rs)
-all_closed q [] S = still_same S
-all_closed q (r ∷ rs) S = still_then S (close_one q S r) _ (closed_one S r (is_returning_to q (place_of S.requests r))) (all_closed q rs (close_one q S r))
-
-level_frames : (C : Cpus) (f x : ℕ) (g : Running → Running) → ((r : Running) → (g r).frame ≡ r.frame) → (x ≡ f) ⊎ (x ≢ f) → frame_of (record C { frames = change_at no_frame C.frames f g }) x ≡ frame_of C x
-level_frames C f x g same (inl e) = rw e (ap (λ (r : Running). r.frame) (entry_put_same no_frame C.frames f (g (running C f))) ∙ same (running C f))
-level_frames C f x g same (inr n) = ap (λ (r : Running). r.frame) (entry_put_other no_frame C.frames f x (g (running C f)) n)
+all_queues_closed : {A : Type 0} (qs : List ℕ) (S : State A) → Still S (fold close_queue S qs)
+all_queues_closed [] S = still_same S
+all_queues_closed (q ∷ qs) S = let k = all_queues_closed qs (close_queue S q) in record { number = k.number; stacks = k.stacks; parked = k.parked; frames = k.frames; running = k.running; tree = k.tree }
 
 asked_running : (Q : Pnp) (d x : ℕ) (a : Ask) → (x ≡ d) ⊎ (x ≢ d) → is_running_step (pnp.ask Q d a) x ≡ is_running_step Q x
 asked_running Q d x a (inl e) = rw e (ap (λ (q : Sequence). is_some q.running) (entry_put_same no_sequence Q.devices d (record (sequence_of Q d) { left = steps_for (sequence_of Q d).steps (sequence_of Q d).ever_working (sequence_of Q d).phase a })))
@@ -139,11 +137,11 @@ deed_still plan (Ask_deletion o) S h f = all_asked (subtree S.tree o) S
 deed_still plan (Refer o) S h f = by_tree S _ (tree_changes S.tree o (λ n. record n { references = n.references + 1 }) (λ n. refl) (λ n. refl) refl)
 deed_still plan (Unrefer o) S h f = by_tree S _ (tree_changes S.tree o (λ n. record n { references = n.references - 1 }) (λ n. refl) (λ n. refl) refl)
 deed_still plan (Write_cell o c v) S h f = by_tree S _ (tree_changes S.tree o (λ n. record n { cells = slice_set n.cells c v }) (λ n. refl) (λ n. refl) refl)
-deed_still plan (Note o c) S h f = by_tree S _ (tree_changes S.tree o (noted c) (λ n. (noted_kept c n).0) (λ n. (noted_kept c n).1) (noted_kept c (node_of S.tree o)).2)
+deed_still plan (Note o c) S h f = by_tree S _ (tree_changes S.tree o (noted c) (λ n. (noted_kept c n).0) (λ n. ap (λ (p : ObjectId). p.0) (noted_kept c n).1) (noted_kept c (node_of S.tree o)).2)
 deed_still plan (Clean_up o) S h f = by_tree S _ (tree_changes S.tree o (with_life life.Cleaned) (λ n. refl) (λ n. refl)
     (sym (asked_there (life_of S.tree o) (asked_at S o f))))
-deed_still plan (Raise g level) S h f = record { number = refl; stacks = refl; parked = refl; frames = λ x. level_frames S.cpus g x (λ r. record r { levels = level ∷ r.levels }) (λ r. refl) (one_or_two x g); running = λ d. refl; tree = tree_same S.tree }
-deed_still plan (Lower g level) S h f = record { number = refl; stacks = refl; parked = refl; frames = λ x. level_frames S.cpus g x (λ r. record r { levels = less_one level r.levels }) (λ r. refl) (one_or_two x g); running = λ d. refl; tree = tree_same S.tree }
+deed_still plan (Raise g level) S h f = record { number = refl; stacks = refl; parked = refl; frames = λ x. refl; running = λ d. refl; tree = tree_same S.tree }
+deed_still plan (Lower g level) S h f = record { number = refl; stacks = refl; parked = refl; frames = λ x. refl; running = λ d. refl; tree = tree_same S.tree }
 deed_still plan (Requeue r q) S h f = let k = gives_up S r in record { number = k.number; stacks = k.stacks; parked = k.parked; frames = k.frames; running = k.running; tree = k.tree }
 deed_still plan (Forward r q) S h f = let k = gives_up S r in record { number = k.number; stacks = k.stacks; parked = k.parked; frames = k.frames; running = k.running; tree = k.tree }
 deed_still plan (Give_back r q) S h f = let k = gives_up S r in record { number = k.number; stacks = k.stacks; parked = k.parked; frames = k.frames; running = k.running; tree = k.tree }
@@ -153,7 +151,8 @@ deed_still plan (Complete_request r) S h f =
     still_then S (record (give_up S r) { requests = requests.complete S.requests r }) _ (record { number = k.number; stacks = k.stacks; parked = k.parked; frames = k.frames; running = k.running; tree = k.tree })
     (all_asked (subtree (give_up S r).tree r) (record (give_up S r) { requests = requests.complete S.requests r }))
 deed_still plan (Purge_queue q) S h f = let k = all_withdrawn plan q (waiting_in S.queues q) (record S { control = control.set_mode S.control q mode.Purged }) in record { number = k.number; stacks = k.stacks; parked = k.parked; frames = k.frames; running = k.running; tree = k.tree }
-deed_still plan (Close_returning q) S h f = all_closed q (ids_of S.requests.all) S
+deed_still plan (Close_returning d) S h f = all_returning_closed (managed_queues plan d) S
+deed_still plan (Close_device d) S h f = let k = all_queues_closed (queues_of plan d) (record S { control = control.shut S.control d }) in record { number = k.number; stacks = k.stacks; parked = k.parked; frames = k.frames; running = k.running; tree = k.tree }
 deed_still plan (Ask_device d a) S h f = record { number = refl; stacks = refl; parked = refl; frames = λ x. refl; running = λ x. asked_running S.pnp d x a (one_or_two x d); tree = tree_same S.tree }
 deed_still plan (Push_frame cpu f frame level) S h k = absurd (let z : ⊥ = cc in z)
 deed_still plan (Go_on f frame) S h k = absurd (let z : ⊥ = cc in z)

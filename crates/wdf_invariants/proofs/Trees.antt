@@ -42,7 +42,7 @@ tree_then T U V a b = record {
 -- ---- one object changes
 
 module _ (T : Tree) (o : ℕ) (f : Node → Node) where
-  node_alike : ((n : Node) → (f n).kind ≡ n.kind) → ((n : Node) → (f n).parent ≡ n.parent.0) → (i : ℕ) → (i ≡ o) ⊎ (i ≢ o) → Alike (λ _. Unit {0}) (entry gone T.nodes i) (entry gone (with_node T o f).nodes i)
+  node_alike : ((n : Node) → (f n).kind ≡ n.kind) → ((n : Node) → (f n).parent.0 ≡ n.parent.0) → (i : ℕ) → (i ≡ o) ⊎ (i ≢ o) → Alike (λ _. Unit {0}) (entry gone T.nodes i) (entry gone (with_node T o f).nodes i)
   node_alike kinds parents i (inl e) = rw e (record {
     device = ap (λ (n : Node). same_kind n.kind kind.Device) (entry_put_same gone T.nodes o (f (node_of T o))) ∙ ap (λ k. same_kind k kind.Device) (kinds (node_of T o));
     parent = ap (λ (n : Node). n.parent.0) (entry_put_same gone T.nodes o (f (node_of T o))) ∙ parents (node_of T o);
@@ -54,7 +54,7 @@ module _ (T : Tree) (o : ℕ) (f : Node → Node) where
     fine = tt;
   }
 
-  node_hollow : Rooted T → ((n : Node) → (f n).parent ≡ n.parent.0) → is_gone (f (node_of T o)).life ≡ is_gone (node_of T o).life → (i : ℕ) → (i ≡ o) ⊎ (i ≢ o) → is_gone (life_of (with_node T o f) i) ≡ true → parent_of (with_node T o f) i ≡ 0
+  node_hollow : Rooted T → ((n : Node) → (f n).parent.0 ≡ n.parent.0) → is_gone (f (node_of T o)).life ≡ is_gone (node_of T o).life → (i : ℕ) → (i ≡ o) ⊎ (i ≢ o) → is_gone (life_of (with_node T o f) i) ≡ true → parent_of (with_node T o f) i ≡ 0
   node_hollow r parents lives i (inl e) h =
       let was : is_gone (life_of T o) ≡ true = sym lives ∙ sym (ap (λ (n : Node). is_gone n.life) (entry_put_same gone T.nodes o (f (node_of T o)))) ∙ rw e at h in
       rw e (ap (λ (n : Node). n.parent.0) (entry_put_same gone T.nodes o (f (node_of T o))) ∙ parents (node_of T o) ∙ r.hollow o was)
@@ -65,7 +65,7 @@ module _ (T : Tree) (o : ℕ) (f : Node → Node) where
   node_root r lives (inl e) = subst (λ y. is_gone (life_of (with_node T o f) y) ≡ true) (sym e) (ap (λ (n : Node). is_gone n.life) (entry_put_same gone T.nodes o (f (node_of T o))) ∙ lives ∙ subst (λ i. is_gone (life_of T i) ≡ true) e r.root)
   node_root r lives (inr n) = ap (λ (m : Node). is_gone m.life) (entry_put_other gone T.nodes o 0 (f (node_of T o)) n) ∙ r.root
 
-  pub tree_changes : ((n : Node) → (f n).kind ≡ n.kind) → ((n : Node) → (f n).parent ≡ n.parent.0) → is_gone (f (node_of T o)).life ≡ is_gone (node_of T o).life → TreeStays T (with_node T o f)
+  pub tree_changes : ((n : Node) → (f n).kind ≡ n.kind) → ((n : Node) → (f n).parent.0 ≡ n.parent.0) → is_gone (f (node_of T o)).life ≡ is_gone (node_of T o).life → TreeStays T (with_node T o f)
   tree_changes kinds parents lives =
       let more = put_long gone T.nodes o (f (node_of T o)) in
       record {

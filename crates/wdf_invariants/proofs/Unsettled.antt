@@ -51,11 +51,11 @@ entry_of_range blank f a (suc n) zero h = ap f (let e : a ≡ a + 0 = omega arit
 entry_of_range blank f a (suc n) (suc k) h = entry_of_range blank f (a + 1) n k (omega arith) ∙ ap f (let e : (a + 1) + k ≡ a + suc k = omega arith in e)
 
 -- what power knows of a power-managed queue
-known : (plan : Plan) (P : Power) (d o : ℕ) → P.queues ≡ (opening_power plan).queues → is_managed plan o ≡ true → ((queue_power P o).device == d) ≡ is_queue_of d (queue_of plan o)
+known : (plan : Plan) (P : Power) (d o : ℕ) → P.queues ≡ (opening_power plan).queues → is_managed plan o ≡ true → ((queue_power P o).device.0 == d) ≡ is_queue_of d (queue_of plan o)
 known plan P d o same h =
     let inside = managed_within plan o (declared_of plan o) refl h in
     let it : queue_power P o ≡ opening_queue_power plan o = ap (λ qs. entry no_queue_power qs o) same ∙ entry_of_range no_queue_power (opening_queue_power plan) 0 (suc (length plan.declared)) o inside.1 ∙ ap (opening_queue_power plan) (let e : 0 + o ≡ o = omega arith in e) in
-    ap (λ q. q.device == d) it ∙ device_by d (queue_of plan o) h
+    ap (λ q. q.device.0 == d) it ∙ device_by d (queue_of plan o) h
 
 -- ---- one request
 
@@ -66,7 +66,7 @@ unsettled_by plan d open_ (Some o) = is_queue_of d (queue_of plan o) && (is_mana
 
 -- by its holding
 abbrev by_queue : Power → ℕ → Bool → ℕ → Bool
-by_queue P d open_ q = nat_lt 0 q && (queue_power P q).device == d && open_
+by_queue P d open_ q = nat_lt 0 q && (queue_power P q).device.0 == d && open_
 
 positive_id : (o : ℕ) → 0 < o → nat_lt 0 o ≡ true
 positive_id o h = grind (arith, nat_tests)
@@ -213,7 +213,7 @@ module _ {A : Type 0} (plan : Plan) (S : State A) (h : HoldsIn plan S) (same : S
 -- ---- the law
 
 pub unsettled_agrees_at_each : {A : Type 0} → AtEachPlace {A = A} unsettled_agrees
-unsettled_agrees_at_each m plan run is_run n =
-    let S = state_after m plan (take n run) in
+unsettled_agrees_at_each plan m run is_run n =
+    let S = state_after plan m (take n run) in
     each_passes (λ d. length (unsettled S.power d) == length (unsettled_of plan S d) && list_all (λ r. contains r (unsettled S.power d)) (unsettled_of plan S d))
-    (λ d. unsettled_match plan S (holds_at_each m plan run is_run n) (queues_at_each m plan run is_run n) d) (devices_of plan)
+    (λ d. unsettled_match plan S (holds_at_each plan m run is_run n) (queues_at_each plan m run is_run n) d) (devices_of plan)

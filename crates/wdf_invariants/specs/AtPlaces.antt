@@ -8,4 +8,4 @@ use Rattle.wdf_model.specs.rules.Ready.{IsRunOf, state_after}
 
 -- the state at each place of every run of each plan passes a test
 abbrev pub AtEachPlace : {A : Type 0} → (Plan → State A → Bool) → Type 0
-AtEachPlace {A} test = (m : Meaning A) (plan : Plan) (run : List Event) → IsRunOf m plan run → (n : ℕ) → test plan (state_after m plan (take n run)) ≡ true
+AtEachPlace {A} test = (plan : Plan) (m : Meaning A) (run : List Event) → IsRunOf plan m run → (n : ℕ) → test plan (state_after plan m (take n run)) ≡ true

@@ -24,3 +24,8 @@ abbrev pub Gains : Option (List ℕ) → Option (List ℕ) → List ℕ → Type
 Gains None after bytes = ⊤
 Gains (Some written) None bytes = ⊥
 Gains (Some written) (Some more) bytes = more ≡ written ++ bytes
+
+-- The last call of a sink failed, and none before it did: so it wasn't tried again. `refused` says what a
+-- failed call does to the sink.
+abbrev pub EndsRefused : {K : Type 0} → (K → K → Type 0) → (K → ℕ) → K → K → Type 0
+EndsRefused {K} refused faults old new = (last : K) × refused last new × (faults last ≡ faults old)

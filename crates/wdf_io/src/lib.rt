@@ -2,7 +2,8 @@
 #![tactic(auto)]
 
 ghost use Rattle.std.specs.Prelude.{◌≡◌, ℕ, ◌<◌, ◌≤◌, ◌↔◌, ◌++◌, Option, List, [], length, take, IfOk, IfSome, IsOk, OnOk, OnErr};
-ghost use Rattle.wdf_io.specs.Outside.{Rose, Takes, Gains};
+ghost use Rattle.std.specs.Io.KnownBytes.{Keeps};
+ghost use Rattle.wdf_io.specs.Outside.{Rose, Takes, Gains, EndsRefused};
 
 mod calls;
 mod mem_sink;
@@ -39,7 +40,7 @@ pub trait Source {
         ensures taken { IfOk result (λ n. Takes (left self.old) (left self.new) (take n buf.new)) }
         ensures end { IfOk result (λ n. IfSome (left self.old) (λ bytes. (n ≡ 0) ↔ (bytes ≡ []))) }
         ensures quiet { OnOk result (faults self.new ≡ faults self.old) }
-        ensures untouched { OnErr result (left self.new ≡ left self.old) }
+        ensures untouched { OnErr result (Keeps (left self.old) (left self.new)) }
         ensures rose { OnErr result (Rose (faults self.old) (faults self.new)) }
         ensures never_falls { faults self.old ≤ faults self.new };
 }
@@ -52,6 +53,9 @@ pub trait Sink {
     // How often a call failed. It never falls.
     ghost faults: { Self → ℕ };
 
+    // A failed call brought the sink from the one to the other.
+    ghost refused: { Self → Self → Type 0 };
+
     /// Appends the front of `piece` and answers how many bytes that were, at least one.
     ///
     /// # Errors
@@ -63,7 +67,8 @@ pub trait Sink {
         ensures within { IfOk result (λ n. n ≤ length piece.now) }
         ensures gained { IfOk result (λ n. Gains (written self.old) (written self.new) (take n piece.now)) }
         ensures quiet { OnOk result (faults self.new ≡ faults self.old) }
-        ensures untouched { OnErr result (written self.new ≡ written self.old) }
+        ensures untouched { OnErr result (Keeps (written self.old) (written self.new)) }
+        ensures refused { OnErr result (refused self.old self.new) }
         ensures rose { OnErr result (Rose (faults self.old) (faults self.new)) }
         ensures never_falls { faults self.old ≤ faults self.new };
 }
@@ -81,6 +86,7 @@ pub fn write_all<K: Sink>(sink: &mut K, piece: &[u8]) -> Result<(), Failed>
     ensures quiet { OnOk result (K.faults sink.new ≡ K.faults sink.old) }
     ensures rose { OnErr result (Rose (K.faults sink.old) (K.faults sink.new)) }
     ensures never_falls { K.faults sink.old ≤ K.faults sink.new }
+    ensures not_again { OnErr result (EndsRefused K.refused K.faults sink.old sink.new) }
 {
     let mut done = 0;
     while done < piece.len() {

@@ -54,6 +54,8 @@ impl Sink for MemSink {
 
     ghost faults = { λ s. s.calls.faults };
 
+    ghost refused = { λ before after. after ≡ after_refusing before };
+
     fn write(&mut self, piece: &[u8]) -> Result<usize, Failed>
         requires { 0 < length piece.now }
         ensures fails { IsErr result ↔ (NextFails self.old.calls ⊎ (length self.old.written ≡ self.old.room)) }

@@ -39,10 +39,10 @@ use Rattle.wdf_model.specs.parts.Locks.{lock_of_callback}
 use Rattle.wdf_model.specs.parts.Queues.{front}
 use Rattle.wdf_model.specs.parts.Requests.{arrival_of, is_cancelled, mark_answer, place_of}
 use Rattle.wdf_model.specs.State.{State, declared_in, object_in, queue_delivers}
-use Rattle.wdf_model.specs.rules.Deeds.{Acknowledge, Close_returning, Deed, Enqueue_dpc, Enqueue_work, Forward, Give_back, Go_on, Mark_request, Pop_frame, Push_frame, Register_queue, Requeue, Send_request, Start_timer}
+use Rattle.wdf_model.specs.rules.Deeds.{Acknowledge, Deed, Enqueue_dpc, Enqueue_work, Forward, Give_back, Go_on, Mark_request, Pop_frame, Push_frame, Register_queue, Requeue, Send_request, Start_timer}
 use Rattle.wdf_model.specs.rules.Faults.{arg_is}
 use Rattle.wdf_model.specs.rules.Calls.{Outcome, acknowledge_outcome, class_in, create_outcome, creation, forward_outcome, forwards_nowhere, mark_outcome, may_send, new_handle, number, number_in, origin_or_none, outcome, requeue_outcome, retrieve_front, retrieve_outcome, refused, second_deeds, send_outcome, success}
-use Rattle.wdf_model.specs.rules.Starts.{close_queue, effect, effect_for, end_of_step, new_frame, next_number, release_if_any, stage_effect, start_effect, take_if_any}
+use Rattle.wdf_model.specs.rules.Starts.{effect, effect_for, end_of_step, new_frame, next_number, release_if_any, stage_effect, start_effect, take_if_any}
 use Rattle.wdf_model.specs.rules.Posts.{cancel_at, cancel_deeds, in_reach, post_deeds}
 use Rattle.wdf_model.specs.rules.Steps.{answered, deeds, did_deeds, goes_on, spending, stepped, waiting, waiting_deeds, woke_deeds}
 use Rattle.wdf_model.specs.laws.OverRuns.{is_arrival_post}
@@ -163,19 +163,11 @@ step_none : {A : Type 0} (plan : Plan) (S : State A) (k : Rank) (c : Callback) (
 step_none plan S rank.Sequence c o v = refl
 step_none plan S _ c o v = refl
 
-closing_none : (qs : List ℕ) → none_arrives (map Close_returning qs) ≡ true
-closing_none [] = refl
-closing_none (q ∷ qs) = closing_none qs
-
-shutting_none : (qs : List ℕ) → none_arrives (flat_map close_queue qs) ≡ true
-shutting_none [] = refl
-shutting_none (q ∷ qs) = none_behind (close_queue q) (flat_map close_queue qs) refl (shutting_none qs)
-
 stage_none : (plan : Plan) (d : ℕ) (s : Stage) (i : Option Handle) → none_arrives (stage_effect plan d s i) ≡ true
 stage_none plan d stage.Enabled i = refl
 stage_none plan d stage.Disabled i = refl
-stage_none plan d stage.QueuesDown i = closing_none (managed_queues plan d)
-stage_none plan d stage.Closed i = shutting_none (queues_of plan d)
+stage_none plan d stage.QueuesDown i = refl
+stage_none plan d stage.Closed i = refl
 stage_none plan d stage.Removed i = refl
 stage_none plan d _ i = refl
 

@@ -18,9 +18,8 @@ use Rattle.wdf_model.specs.Plans.{callback_irql}
 use Rattle.wdf_model.specs.parts.Locks.{is_free_if_any, lock_of_callback}
 use Rattle.wdf_model.specs.State.{State, declares_in, declared_in, is_proper}
 use Rattle.wdf_model.specs.rules.Starts.{is_ready_for, level_fits, life_fits, may_start}
-use Rattle.wdf_model.specs.rules.Deeds.{Deed, Go_on, do_deeds, counted}
-use Rattle.wdf_model.specs.rules.Steps.{goes_on, stepped, after, is_proper_if_any, may}
-use Rattle.wdf_model.specs.agents.{Agent, Manager, App, Device, Target, agent_after, agents}
+use Rattle.wdf_model.specs.rules.Deeds.{Deed, Go_on, do_deeds, counted, told}
+use Rattle.wdf_model.specs.rules.Steps.{goes_on, stepped, after, is_proper_if_any, may, is_cpu}
 use Rattle.wdf_model.specs.rules.Script.{intent_of}
 use Rattle.wdf_model.specs.rules.Ready.{ready, state_after}
 use Rattle.wdf_model.specs.laws.FactsOfEvents.{IsTick, MovesOnlyFrame, touches_gone}
@@ -30,27 +29,10 @@ use Rattle.wdf_model.proofs.Follows.{follows}
 
 -- ---- a step inside a frame
 
--- an event that no agent of the program heeds
-heedless : (es : Event) → ((a : Agent) → agent_after a es ≡ a) → (all : List Agent) → map (λ a. agent_after a es) all ≡ all
-heedless e h [] = refl
-heedless e h (a ∷ rest) = let one : agent_after a e ≡ a = h a in let others : map (λ x. agent_after x e) rest ≡ rest = heedless e h rest in cc
-
-no_agent_heeds_local : (cpu : Cpu) (line : ℕ) (a : Agent) → agent_after a (event.Local cpu line) ≡ a
-no_agent_heeds_local cpu line (Manager p) = refl
-no_agent_heeds_local cpu line (App p) = refl
-no_agent_heeds_local cpu line (Device h) = refl
-no_agent_heeds_local cpu line (Target t) = refl
-
-no_agent_heeds_log : (cpu : Cpu) (v : Value) (a : Agent) → agent_after a (event.Log cpu v) ≡ a
-no_agent_heeds_log cpu v (Manager p) = refl
-no_agent_heeds_log cpu v (App p) = refl
-no_agent_heeds_log cpu v (Device h) = refl
-no_agent_heeds_log cpu v (Target t) = refl
-
--- the deeds of one frame that goes on
-frame_moves : (plan : Plan) (S : State Agent) (e : Event) (f : ℕ) (frame : Frame) → map (λ a. agent_after a e) S.agents ≡ S.agents
-    → MovesOnlyFrame f S (counted agents e (do_deeds plan (Go_on f frame ∷ []) S))
-frame_moves plan S e f frame same = record {
+-- the deeds of one frame that goes on, where no agent hears of the event
+frame_moves : {A : Type 0} (plan : Plan) (m : Meaning A) (S : State A) (e : Event) (f : ℕ) (frame : Frame) → told m e S.agents ≡ S.agents
+    → MovesOnlyFrame f S (counted m e (do_deeds plan (Go_on f frame ∷ []) S))
+frame_moves plan m S e f frame same = record {
   rest = rw same refl;
   stacks = refl;
   parked = refl;
@@ -59,22 +41,22 @@ frame_moves plan S e f frame same = record {
   levels = refl;
 }
 
-top_moves : (plan : Plan) (S : State Agent) (e : Event) (next : ℕ → Frame → Frame) (f : ℕ) (there : Option ℕ) → there ≡ Some f
-    → map (λ a. agent_after a e) S.agents ≡ S.agents
-    → MovesOnlyFrame f S (counted agents e (do_deeds plan (elim there as (λ _. List Deed) [ None ↦ [] | Some g ↦ Go_on g (next g (frame_of S.cpus g)) ∷ [] ]) S))
-top_moves plan S e next f None h same = absurd (let z : ⊥ = cc in z)
-top_moves plan S e next f (Some g) h same =
-    let one : f ≡ g = cc in rw one (frame_moves plan S e g (next g (frame_of S.cpus g)) same)
+top_moves : {A : Type 0} (plan : Plan) (m : Meaning A) (S : State A) (e : Event) (next : ℕ → Frame → Frame) (f : ℕ) (there : Option ℕ) → there ≡ Some f
+    → told m e S.agents ≡ S.agents
+    → MovesOnlyFrame f S (counted m e (do_deeds plan (elim there as (λ _. List Deed) [ None ↦ [] | Some g ↦ Go_on g (next g (frame_of S.cpus g)) ∷ [] ]) S))
+top_moves plan m S e next f None h same = absurd (let z : ⊥ = cc in z)
+top_moves plan m S e next f (Some g) h same =
+    let one : f ≡ g = cc in rw one (frame_moves plan m S e g (next g (frame_of S.cpus g)) same)
 
-pub local_moves_frame : (plan : Plan) (S : State Agent) (cpu : Cpu) (line f : ℕ) → top S.cpus cpu.0 ≡ Some f
-    → MovesOnlyFrame f S (after plan agents S (event.Local cpu line))
-local_moves_frame plan S cpu line f h =
-    top_moves plan S (event.Local cpu line) (λ f frame. stepped frame (intent_of plan frame)) f (top S.cpus cpu.0) h (heedless (event.Local cpu line) (no_agent_heeds_local cpu line) S.agents)
+pub local_moves_frame : {A : Type 0} (plan : Plan) (m : Meaning A) (S : State A) (cpu : Cpu) (line f : ℕ) → top S.cpus cpu.0 ≡ Some f
+    → MovesOnlyFrame f S (after plan m S (event.Local cpu line))
+local_moves_frame plan m S cpu line f h =
+    top_moves plan m S (event.Local cpu line) (λ f frame. stepped frame (intent_of plan frame)) f (top S.cpus cpu.0) h refl
 
-pub log_moves_frame : (plan : Plan) (S : State Agent) (cpu : Cpu) (v : Value) (f : ℕ) → top S.cpus cpu.0 ≡ Some f
-    → MovesOnlyFrame f S (after plan agents S (event.Log cpu v))
-log_moves_frame plan S cpu v f h =
-    top_moves plan S (event.Log cpu v) (λ f frame. goes_on plan frame) f (top S.cpus cpu.0) h (heedless (event.Log cpu v) (no_agent_heeds_log cpu v) S.agents)
+pub log_moves_frame : {A : Type 0} (plan : Plan) (m : Meaning A) (S : State A) (cpu : Cpu) (v : Value) (f : ℕ) → top S.cpus cpu.0 ≡ Some f
+    → MovesOnlyFrame f S (after plan m S (event.Log cpu v))
+log_moves_frame plan m S cpu v f h =
+    top_moves plan m S (event.Log cpu v) (λ f frame. goes_on plan frame) f (top S.cpus cpu.0) h refl
 
 -- ---- what is named isn't gone
 
@@ -108,25 +90,25 @@ started_is_there plan m S cpu c o r h =
 
 allowed_is_there : {A : Type 0} (plan : Plan) (m : Meaning A) (S : State A) (e : Event) → may plan m S e ≡ true → touches_gone S.tree e ≡ false
 allowed_is_there plan m S (event.Start cpu c o r) h =
-    started_is_there plan m S cpu.0 c o.id.0 r (both_right (is_proper plan S o && is_proper_if_any plan S r) (may_start plan m S cpu.0 c o.id.0 r) h)
+    started_is_there plan m S cpu.0 c o.id.0 r (both_right (is_cpu plan cpu && is_proper plan S o && is_proper_if_any plan S r) (may_start plan m S cpu.0 c o.id.0 r) h)
 allowed_is_there plan m S (event.Cleanup o) h = asked_is_there (life_of S.tree o.id.0) (grind arith)
 allowed_is_there plan m S (event.Destroy o) h = cleaned_is_there (life_of S.tree o.id.0) (search (both_left, both_right))
 allowed_is_there plan m S _ h = refl
 
-pub nothing_gone_is_touched : {A : Type 0} (m : Meaning A) (plan : Plan) (run : List Event) (k : ℕ) (e : Event)
-    → slice_get (ready m plan run) k ≡ Some e → touches_gone (state_after m plan run).tree e ≡ false
-nothing_gone_is_touched m plan run k e h =
-    elim (follows m plan run k e h) [
-      | inl p ↦ allowed_is_there plan m (state_after m plan run) e p
+pub nothing_gone_is_touched : {A : Type 0} (plan : Plan) (m : Meaning A) (run : List Event) (k : ℕ) (e : Event)
+    → slice_get (ready plan m run) k ≡ Some e → touches_gone (state_after plan m run).tree e ≡ false
+nothing_gone_is_touched plan m run k e h =
+    elim (follows plan m run k e h) [
+      | inl p ↦ allowed_is_there plan m (state_after plan m run) e p
       | inr t ↦ rw t.tick refl
     ]
 
 -- ---- the clock
 
-pub tick_is_alone : {A : Type 0} (m : Meaning A) (plan : Plan) (run : List Event) (k time : ℕ) → slice_get (ready m plan run) k ≡ Some (event.Tick time)
-    → IsTick m (state_after m plan run) (ready m plan run) (event.Tick time)
-tick_is_alone m plan run k time h =
-    elim (follows m plan run k (event.Tick time) h) [
+pub tick_is_alone : {A : Type 0} (plan : Plan) (m : Meaning A) (run : List Event) (k time : ℕ) → slice_get (ready plan m run) k ≡ Some (event.Tick time)
+    → IsTick m (state_after plan m run) (ready plan m run) (event.Tick time)
+tick_is_alone plan m run k time h =
+    elim (follows plan m run k (event.Tick time) h) [
       | inl p ↦ absurd (let z : ⊥ = cc in z)
       | inr t ↦ t
     ]

@@ -26,7 +26,7 @@ use Rattle.wdf_model.specs.parts.Queues.{front}
 use Rattle.wdf_model.specs.parts.Control.{accepts, is_purged, mode_of}
 use Rattle.wdf_model.specs.State.{State, object_in, queue_delivers}
 use Rattle.wdf_model.specs.rules.Deeds.{Deed, do_deed, do_deeds, Forward, Give_back, Mark_request, Requeue, Send_request}
-use Rattle.wdf_model.specs.rules.Faults.{View, is_request_kind, any_argument, call_faults, forgets_made, is_wrong_kind}
+use Rattle.wdf_model.specs.rules.Faults.{View, is_request_kind, any_argument, call_faults, forgets_made, is_wrong_kind, is_never_deleted}
 use Rattle.wdf_model.specs.rules.Calls.{Outcome, create_outcome, creation, forward_outcome, forwards_nowhere, mark_outcome, may_send, new_handle, number, origin_or_none, refused, requeue_outcome, retrieve_front, retrieve_outcome, send_outcome, success}
 use Rattle.wdf_model.specs.laws.Fits.{all_fit, fits, is_given}
 use Rattle.wdf_model.proofs.Tests.{alone, both, both_left, both_right, either_false, itself, not_false, second}
@@ -84,25 +84,25 @@ given S r owned k = both (is_owned (place_of S.requests r)) (same_kind (kind_of 
 
 -- ---- objects are made
 
-class_isnt_arrived : (c : Option ClassInfo) → same_kind (unwrap_or (option_map class_kind c) kind.General) kind.Request ≡ false
-class_isnt_arrived None = refl
-class_isnt_arrived (Some (class.Plain name plain.Object)) = refl
-class_isnt_arrived (Some (class.Plain name plain.SpinLock)) = refl
-class_isnt_arrived (Some (class.Plain name plain.WaitLock)) = refl
-class_isnt_arrived (Some (class.Plain name plain.Request)) = refl
-class_isnt_arrived (Some (class.Deferred name deferred.Dpc parent s period)) = refl
-class_isnt_arrived (Some (class.Deferred name deferred.Timer parent s period)) = refl
-class_isnt_arrived (Some (class.Deferred name deferred.WorkItem parent s period)) = refl
+class_is_deleted : (c : Option ClassInfo) → is_never_deleted (unwrap_or (option_map class_kind c) kind.General) ≡ false
+class_is_deleted None = refl
+class_is_deleted (Some (class.Plain name plain.Object)) = refl
+class_is_deleted (Some (class.Plain name plain.SpinLock)) = refl
+class_is_deleted (Some (class.Plain name plain.WaitLock)) = refl
+class_is_deleted (Some (class.Plain name plain.Request)) = refl
+class_is_deleted (Some (class.Deferred name deferred.Dpc parent s period)) = refl
+class_is_deleted (Some (class.Deferred name deferred.Timer parent s period)) = refl
+class_is_deleted (Some (class.Deferred name deferred.WorkItem parent s period)) = refl
 
-creation_fits : {A : Type 0} (plan : Plan) (S : State A) (k : Kind) (class parent : ℕ) → same_kind k kind.Request ≡ false
+creation_fits : {A : Type 0} (plan : Plan) (S : State A) (k : Kind) (class parent : ℕ) → is_never_deleted k ≡ false
     → is_live (life_of S.tree parent) ≡ true → is_full S.tree ≡ false → all_fit plan (creation k class parent ∷ []) S ≡ true
-creation_fits plan S kind.Made class parent k live room = rw (live, room) refl
 creation_fits plan S kind.Request class parent k live room = absurd (let z : ⊥ = cc in z)
-creation_fits plan S kind.Driver class parent k live room = rw (live, room) refl
-creation_fits plan S kind.Device class parent k live room = rw (live, room) refl
-creation_fits plan S kind.Queue class parent k live room = rw (live, room) refl
-creation_fits plan S kind.Interrupt class parent k live room = rw (live, room) refl
-creation_fits plan S kind.Target class parent k live room = rw (live, room) refl
+creation_fits plan S kind.Driver class parent k live room = absurd (let z : ⊥ = cc in z)
+creation_fits plan S kind.Device class parent k live room = absurd (let z : ⊥ = cc in z)
+creation_fits plan S kind.Queue class parent k live room = absurd (let z : ⊥ = cc in z)
+creation_fits plan S kind.Interrupt class parent k live room = absurd (let z : ⊥ = cc in z)
+creation_fits plan S kind.Target class parent k live room = absurd (let z : ⊥ = cc in z)
+creation_fits plan S kind.Made class parent k live room = rw (live, room) refl
 creation_fits plan S kind.Dpc class parent k live room = rw (live, room) refl
 creation_fits plan S kind.Timer class parent k live room = rw (live, room) refl
 creation_fits plan S kind.WorkItem class parent k live room = rw (live, room) refl
@@ -117,7 +117,7 @@ create_fits plan S class parent =
     (λ dead. refl)
     (λ live. either_fits plan S (is_full S.tree) (refused status.InsufficientResources) (record { answer = Obj (new_handle plan S class); deeds = creation (kind_of_class plan class) class parent ∷ [] })
     (λ full. refl)
-    (λ room. creation_fits plan S (kind_of_class plan class) class parent (class_isnt_arrived (slice_get plan.classes class)) (not_false (is_live (life_of S.tree parent)) live) room))
+    (λ room. creation_fits plan S (kind_of_class plan class) class parent (class_is_deleted (slice_get plan.classes class)) (not_false (is_live (life_of S.tree parent)) live) room))
 
 -- ---- requests
 

@@ -42,12 +42,12 @@ use Rattle.wdf_model.specs.parts.Requests.{arrival_of, is_closing, is_done, is_s
 use Rattle.wdf_model.specs.parts.Control.{accepts}
 use Rattle.wdf_model.specs.parts.Pnp.{is_running_step, next_step}
 use Rattle.wdf_model.specs.State.{State, declared_in, declares_in, is_proper, is_with_driver}
-use Rattle.wdf_model.specs.rules.Deeds.{Arrive, Close_returning, Count_arrival, Deed, Go_on, Pop_frame, Push_frame, do_deed, do_deeds}
+use Rattle.wdf_model.specs.rules.Deeds.{Arrive, Count_arrival, Deed, Go_on, Pop_frame, Push_frame, do_deed, do_deeds}
 use Rattle.wdf_model.specs.rules.Script.{intent_of}
-use Rattle.wdf_model.specs.rules.Calls.{is_met, outcome, second_deeds}
-use Rattle.wdf_model.specs.rules.Starts.{callback_over, clean_ready, close_queue, destroy_ready, effect, effect_for, end_deeds, end_of_step, is_ready_for, level_fits, life_fits, may_pass, may_start, new_frame, next_number, rank_ready, rank_ready_for, release_if_any, stage_deeds, stage_effect, stage_ready, start_deeds, start_effect, step_of, step_ready, take_if_any}
+use Rattle.wdf_model.specs.rules.Calls.{is_met, outcome, second_deeds, is_met_then}
+use Rattle.wdf_model.specs.rules.Starts.{callback_over, clean_ready, destroy_ready, effect, effect_for, end_deeds, end_of_step, is_ready_for, level_fits, life_fits, may_pass, may_start, new_frame, next_number, rank_ready, rank_ready_for, release_if_any, stage_deeds, stage_effect, stage_ready, start_deeds, start_effect, step_of, step_ready, take_if_any}
 use Rattle.wdf_model.specs.rules.Posts.{arrival_deeds, arrival_info, arrival_place, cancel_at, cancel_deeds, due_of, in_reach, is_data, may_finish, place_if_any, place_in_queue, post_answer, post_deeds, post_fits, takes_empty}
-use Rattle.wdf_model.specs.rules.Steps.{answered, by_top, did_deeds, goes_on, spending, stepped, waiting, waiting_deeds, woke_deeds, deeds, is_closing_with, is_own_event, is_proper_if_any, may}
+use Rattle.wdf_model.specs.rules.Steps.{answered, by_top, did_deeds, goes_on, spending, stepped, waiting, waiting_deeds, woke_deeds, deeds, is_closing_with, is_own_event, is_proper_if_any, may, is_cpu}
 use Rattle.wdf_model.specs.laws.Fits.{all_fit, is_arrival_place}
 use Rattle.wdf_model.proofs.Tests.{alone, both, both_left, both_right, either_false, first, itself}
 use Rattle.wdf_model.proofs.OwnEvents.{IsDid, IsWaiting, IsWoke, did_tells, waiting_tells, woke_tells}
@@ -138,6 +138,14 @@ second_fits plan T f call.WdfWaitLockAcquire n a b x h = alone _ h
 second_fits plan T f call.WdfInterruptAcquireLock n a b x h = alone _ h
 second_fits plan T f _ n a b x h = refl
 
+-- the first part of an acquire leaves the lock alone
+second_fits_then : {A : Type 0} (plan : Plan) (S : State A) (cpu f : ℕ) (k : CallKind) (n : ℕ) (a b x : Arg) → is_met_then plan S (record { kind = k; count = n; a = a; b = b; c = x }) ≡ true
+    → all_fit plan (second_deeds f (record { kind = k; count = n; a = a; b = b; c = x })) (do_deeds plan (outcome plan S cpu f (record { kind = k; count = n; a = a; b = b; c = x })).deeds S) ≡ true
+second_fits_then plan S cpu f call.WdfSpinLockAcquire n a b x h = alone _ h
+second_fits_then plan S cpu f call.WdfWaitLockAcquire n a b x h = alone _ h
+second_fits_then plan S cpu f call.WdfInterruptAcquireLock n a b x h = alone _ h
+second_fits_then plan S cpu f _ n a b x h = refl
+
 by_there : {A : Type 0} (S : State A) (f : ℕ) (ds : ℕ → Frame → List Deed) (there : Option ℕ) → there ≡ Some f
     → (elim there as (λ _. List Deed) [ None ↦ [] | Some g ↦ ds g (frame_of S.cpus g) ]) ≡ ds f (frame_of S.cpus f)
 by_there S f ds None h = absurd (let z : ⊥ = cc in z)
@@ -159,7 +167,7 @@ did_fits plan m S k c v h =
     (fit_behind plan ((outcome plan S k.0 d.frame c).deeds ++ second_deeds d.frame c) (Go_on d.frame (answered plan (frame_of S.cpus d.frame) v) ∷ []) S
     (fit_behind plan (outcome plan S k.0 d.frame c).deeds (second_deeds d.frame c) S
     (outcome_fits plan S k.0 d.frame c.kind c.count c.a c.b c.c d.about.clean)
-    (second_fits plan (do_deeds plan (outcome plan S k.0 d.frame c).deeds S) d.frame c.kind c.count c.a c.b c.c d.met))
+    (second_fits_then plan S k.0 d.frame c.kind c.count c.a c.b c.c d.met))
     refl)
 
 waiting_fits : {A : Type 0} (plan : Plan) (m : Meaning A) (S : State A) (k : Cpu) (c : Call) → is_own_event plan m S k (event.Waiting k c) ≡ true
@@ -197,24 +205,16 @@ end_fits plan S cpu c o v =
     (releasing_fits plan S (lock_of_callback plan c o (declared_in plan S o)))
     (step_ends plan S (do_deed plan (Pop_frame cpu) (do_deeds plan (release_if_any (lock_of_callback plan c o (declared_in plan S o))) S)) (row_of c).rank c o v)
 
-closing_fits : {A : Type 0} (plan : Plan) (qs : List ℕ) (S : State A) → all_fit plan (map Close_returning qs) S ≡ true
-closing_fits plan [] S = refl
-closing_fits plan (q ∷ qs) S = closing_fits plan qs (do_deed plan (Close_returning q) S)
-
-shutting_fits : {A : Type 0} (plan : Plan) (qs : List ℕ) (S : State A) → all_fit plan (flat_map close_queue qs) S ≡ true
-shutting_fits plan [] S = refl
-shutting_fits plan (q ∷ qs) S = fit_behind plan (close_queue q) (flat_map close_queue qs) S refl (shutting_fits plan qs (do_deeds plan (close_queue q) S))
-
 stage_effect_fits : {A : Type 0} (plan : Plan) (d : ℕ) (s : Stage) (i : Option Handle) (S : State A) → all_fit plan (stage_effect plan d s i) S ≡ true
 stage_effect_fits plan d stage.Hardware i S = refl
 stage_effect_fits plan d stage.NoHardware i S = refl
 stage_effect_fits plan d stage.Enabled i S = refl
 stage_effect_fits plan d stage.Disabled i S = refl
 stage_effect_fits plan d stage.QueuesUp i S = refl
-stage_effect_fits plan d stage.QueuesDown i S = closing_fits plan (managed_queues plan d) S
+stage_effect_fits plan d stage.QueuesDown i S = refl
 stage_effect_fits plan d stage.Settled i S = refl
 stage_effect_fits plan d stage.Quiet i S = refl
-stage_effect_fits plan d stage.Closed i S = shutting_fits plan (queues_of plan d) _
+stage_effect_fits plan d stage.Closed i S = refl
 stage_effect_fits plan d stage.Working i S = refl
 stage_effect_fits plan d stage.Sleeping i S = refl
 stage_effect_fits plan d stage.Removed i S = refl
@@ -299,7 +299,7 @@ post_deeds_fit plan S agent (post.Done r s) h = finish_fits plan S (target_of_ag
 
 pub event_fits : {A : Type 0} (plan : Plan) (m : Meaning A) (S : State A) (e : Event) → may plan m S e ≡ true → all_fit plan (deeds plan S e) S ≡ true
 event_fits plan m S (event.Start k c o r) h =
-    start_fits plan m S k.0 c o r (both_right (is_proper plan S o && is_proper_if_any plan S r) (may_start plan m S k.0 c o.id.0 r) h)
+    start_fits plan m S k.0 c o r (both_right (is_cpu plan k && is_proper plan S o && is_proper_if_any plan S r) (may_start plan m S k.0 c o.id.0 r) h)
 event_fits plan m S (event.Local k line) h = moving_fits plan S (λ f frame. stepped frame (intent_of plan frame)) (top S.cpus k.0)
 event_fits plan m S (event.Log k v) h = moving_fits plan S (λ f frame. goes_on plan frame) (top S.cpus k.0)
 event_fits plan m S (event.Spend k n) h = moving_fits plan S (λ f frame. spending plan S frame n) (top S.cpus k.0)

@@ -47,17 +47,17 @@ in_unless plan m S None k e h = in_ready_in plan m S k e h
 in_unless plan m S (Some x) k e h = absurd (let z : ⊥ = cc in z)
 
 -- what may follow the events of a run
-pub follows : {A : Type 0} (m : Meaning A) (plan : Plan) (run : List Event) (k : ℕ) (e : Event)
-    → slice_get (ready m plan run) k ≡ Some e
-    → (may plan m (state_after m plan run) e ≡ true) ⊎ IsTick m (state_after m plan run) (ready m plan run) e
+pub follows : {A : Type 0} (plan : Plan) (m : Meaning A) (run : List Event) (k : ℕ) (e : Event)
+    → slice_get (ready plan m run) k ≡ Some e
+    → (may plan m (state_after plan m run) e ≡ true) ⊎ IsTick m (state_after plan m run) (ready plan m run) e
 unfolding ready
-follows m plan run k e h = in_unless plan m (state_after m plan run) (last_fault run) k e h
+follows plan m run k e h = in_unless plan m (state_after plan m run) (last_fault run) k e h
 
 -- the state after one event more
-pub state_goes_on : {A : Type 0} (m : Meaning A) (plan : Plan) (run : List Event) (e : Event)
-    → state_after m plan (run ++ e ∷ []) ≡ after plan m (state_after m plan run) e
+pub state_goes_on : {A : Type 0} (plan : Plan) (m : Meaning A) (run : List Event) (e : Event)
+    → state_after plan m (run ++ e ∷ []) ≡ after plan m (state_after plan m run) e
 unfolding state_after
-state_goes_on m plan run e = fold-append (after plan m) (opening m plan) run (e ∷ [])
+state_goes_on plan m run e = fold-append (after plan m) (opening plan m) run (e ∷ [])
 
 pub last_fault_of : (run : List Event) (e : Event) → last_fault (run ++ e ∷ []) ≡ fault_in e
 last_fault_of run e =
@@ -66,7 +66,7 @@ last_fault_of run e =
     rw (last, here) refl
 
 -- after a fault nothing may follow
-pub fault_ends : {A : Type 0} (m : Meaning A) (plan : Plan) (run : List Event) (cpu : Cpu) (x : Fault) (line : ℕ)
-    → ready m plan (run ++ event.Fault cpu x line ∷ []) ≡ []
+pub fault_ends : {A : Type 0} (plan : Plan) (m : Meaning A) (run : List Event) (cpu : Cpu) (x : Fault) (line : ℕ)
+    → ready plan m (run ++ event.Fault cpu x line ∷ []) ≡ []
 unfolding ready
-fault_ends m plan run cpu x line = rw (last_fault_of run (event.Fault cpu x line)) refl
+fault_ends plan m run cpu x line = rw (last_fault_of run (event.Fault cpu x line)) refl

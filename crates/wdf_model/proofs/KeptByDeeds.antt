@@ -1,5 +1,6 @@
 -- Each deed that fits keeps places, lines, targets and kinds in step: a line for each.
-use Rattle.std.proofs.Common.{is_none, if◌then◌else◌, ◌≡◌, ◌≢◌, ℕ, suc, ◌+◌, ◌-◌, ◌==◌, ◌≤◌, nat_lt, Bool, true, false, not, ◌&&◌, ◌||◌, List, [], ◌∷◌, ◌++◌, ◌⊎◌, inl, inr, Option, Some, None, is_some, slice_set, fold, length, count_by, refl, ap, sym, subst, ◌∙◌, arith, length-append}
+use Rattle.std.proofs.Common.{map, is_none, if◌then◌else◌, ◌≡◌, ◌≢◌, ℕ, suc, ◌+◌, ◌-◌, ◌==◌, ◌≤◌, nat_lt, Bool, true, false, not, ◌&&◌, ◌||◌, List, [], ◌∷◌, ◌++◌, ◌⊎◌, inl, inr, Option, Some, None, is_some, slice_set, fold, length, count_by, refl, ap, sym, subst, ◌∙◌, arith, length-append}
+use Rattle.std.proofs.lemmas.List.{length-map}
 use Rattle.std.proofs.lemmas.Bool.{cases_Bool, or_cases}
 use Rattle.std.specs.List.{list_all}
 use Rattle.wdf_base.specs.declared.plan.Plan.{Plan}
@@ -17,10 +18,11 @@ use Rattle.wdf_model.specs.declared.enums.Mode.TheVariants as mode
 use Rattle.wdf_model.specs.declared.entries.Node.{Node}
 use Rattle.wdf_model.specs.declared.entries.Request.{Request}
 use Rattle.wdf_model.specs.declared.entries.Sending.{Sending}
+use Rattle.wdf_model.specs.Plans.{managed_queues, queues_of}
 use Rattle.wdf_model.specs.Tables.{ids_of, flag}
 use Rattle.wdf_model.specs.parts.Tree.{Tree, gone, is_full, is_live, kind_of, life_of, nearest_device, new_node, next_id, node_of, noted, subtree, with_life, with_node}
 use Rattle.wdf_model.specs.parts.Tree as tree
-use Rattle.wdf_model.specs.parts.Requests.{Requests, cancelled, has_arrived, is_closing, is_done, is_due, mark_of, is_marked, is_owned, is_queued_in, is_returning_to, is_sent, is_sent_to, made_info, marked, moved, place_of, unmarked, with_mark, is_over, no_request, request_of}
+use Rattle.wdf_model.specs.parts.Requests.{Requests, cancelled, has_arrived, is_closing, is_done, is_due, mark_of, is_marked, is_owned, is_queued_in, is_returning_to, is_sent, is_sent_to, made_info, marked, moved, place_of, unmarked, with_mark, is_over, no_request, request_of, closed_at, is_in}
 use Rattle.wdf_model.specs.parts.Requests as requests
 use Rattle.wdf_base.specs.declared.object.Mark.TheVariants as mark
 use Rattle.wdf_model.specs.parts.Queues.{Queues, waiting_in}
@@ -31,17 +33,17 @@ use Rattle.wdf_model.specs.parts.Targets.{Target, Targets, is_forgotten, is_undo
 use Rattle.wdf_model.specs.parts.Targets as targets
 use Rattle.wdf_model.specs.parts.Power.{Power}
 use Rattle.wdf_model.specs.State.{State, held_at, is_with_driver, withdrawn_place}
-use Rattle.wdf_model.specs.rules.Deeds.{Deed, Create, Make_request, Arrive, Ask_deletion, Refer, Unrefer, Write_cell, Note, Clean_up, End_life, Present, Receive, Requeue, Forward, Give_back, Withdraw, Mark_request, Unmark_request, Cancel_request, Take_cancel, Send_request, Finish_sending, Come_back, Complete_request, Purge_queue, Close_returning, Stop_target, Start_target, arrive_at, ask_object, ask_objects, close_one, do_deed, do_deeds, give_up, give_up_if, queued, release_line, withdraw}
-use Rattle.wdf_model.specs.rules.Faults.{is_request_kind}
+use Rattle.wdf_model.specs.rules.Deeds.{Deed, Create, Make_request, Arrive, Ask_deletion, Refer, Unrefer, Write_cell, Note, Clean_up, End_life, Present, Receive, Requeue, Forward, Give_back, Withdraw, Mark_request, Unmark_request, Cancel_request, Take_cancel, Send_request, Finish_sending, Come_back, Complete_request, Purge_queue, Close_device, Close_returning, Stop_target, Start_target, arrive_at, ask_object, ask_objects, close_queue, close_returning, do_deed, do_deeds, give_up, give_up_if, queued, release_line, withdraw}
+use Rattle.wdf_model.specs.rules.Faults.{is_request_kind, is_never_deleted}
 use Rattle.wdf_model.specs.rules.Calls.{may_send}
 use Rattle.wdf_model.specs.laws.Fits.{all_fit, fits, is_arrival_place, is_given, is_reached}
-use Rattle.wdf_model.proofs.Tests.{both_left, both_right, not_true}
+use Rattle.wdf_model.proofs.Tests.{both_left, both_right, not_true, either_false}
 use Rattle.wdf_model.proofs.Sames.{kind_decides}
-use Rattle.wdf_model.proofs.Maps.{entry_before, entry_last, entry_put_other, entry_put_same, put_long, entry_blanked, entry_set_other, set_as_it_was, as_long}
+use Rattle.wdf_model.proofs.Maps.{entry_before, entry_last, entry_put_other, entry_put_same, put_long, entry_blanked, entry_set_other, set_as_it_was, as_long, entry_map}
 use Rattle.wdf_model.proofs.Deletion.{object_live, object_off}
 use Rattle.wdf_model.proofs.Counts.{at_head, equal, one_or_two, both_fewer}
-use Rattle.wdf_model.proofs.Kept.{Kept, arrived, is_made_place, forgets, is_request, kept_by_move, sends}
-use Rattle.wdf_model.proofs.KeptMoves.{Enters, arrived_within, enter_line, enters_others, enters_once, head_enters, is_still, marks_change, present_front, request_here, request_elsewhere, same_lines, same_targets, same_tree, still_move, tail_enters, target_elsewhere, target_here, withdraw_from_line, within, still_unqueued, still_unsent}
+use Rattle.wdf_model.proofs.Kept.{Kept, arrived, is_made_place, forgets, is_request, kept_by_move, sends, stands}
+use Rattle.wdf_model.proofs.KeptMoves.{Enters, arrived_within, enter_line, enters_others, enters_once, head_enters, is_still, marks_change, present_front, request_here, request_elsewhere, same_lines, same_targets, same_tree, still_move, tail_enters, target_elsewhere, target_here, withdraw_from_line, within, still_unqueued, still_unsent, queue_elsewhere, queue_here, queued_once}
 use Rattle.wdf_model.proofs.KeptTargets.{come_back, finish_sending, new_request, nowhere_yet, send_request}
 
 -- the invariant in a state
@@ -290,17 +292,107 @@ purged : {A : Type 0} {F B : ℕ → Bool} (plan : Plan) (S T : State A) (q : �
 purged plan S T q k kt same = all_withdrawn plan q (waiting_in S.queues q) T kt
     (λ x more. ap (λ (R : Requests). is_made_place (place_of R x)) same ∙ queued_unmade q (place_of S.requests x) (waits_queued S q x k more))
 
-closes_one : {A : Type 0} {F B : ℕ → Bool} (q : ℕ) (S : State A) (r : ℕ) (b : Bool) → is_returning_to q (place_of S.requests r) ≡ b → KeptIn F B S
-    → KeptIn F B (if b then record S { requests = requests.move_to S.requests r (place.Closing status.Cancelled) } else S)
-closes_one q S r false e k = k
-closes_one q S r true e k =
-    let is = returning_undone q (place_of S.requests r) e in
-    still_move r (place.Closing status.Cancelled) k is.0 is.1 refl
-    (λ n. absurd (let came : arrived S.requests r ≡ true = came_by_place r k is.2 in let z : ⊥ = cc in z))
+-- ---- requests that are to be completed with CANCELLED
 
-all_closed : {A : Type 0} {F B : ℕ → Bool} (q : ℕ) (rs : List ℕ) (S : State A) → KeptIn F B S → KeptIn F B (fold (close_one q) S rs)
-all_closed q [] S k = k
-all_closed q (r ∷ rs) S k = all_closed q rs (close_one q S r) (closes_one q S r (is_returning_to q (place_of S.requests r)) refl k)
+-- a test that passes only where a request is in a queue
+record Inside (here : Place → Bool) : Type 0 where
+  pub done : here place.Done ≡ false
+  pub unmade : (p : Place) → here p ≡ true → is_made_place p ≡ false
+
+-- where a request is then
+abbrev closed_place : (Place → Bool) → Place → Place
+closed_place here p = if here p then place.Closing status.Cancelled else p
+
+closed_by : (q : Request) (b : Bool) → ((if b then moved (place.Closing status.Cancelled) q else q).place ≡ (if b then place.Closing status.Cancelled else q.place)) × (has_arrived (if b then moved (place.Closing status.Cancelled) q else q) ≡ has_arrived q)
+closed_by q true = (refl, refl)
+closed_by q false = (refl, refl)
+
+module _ (here : Place → Bool) (it : Inside here) where
+  closed_blank : closed_at here no_request ≡ no_request
+  closed_blank = rw it.done refl
+
+  closed_entry : (R : Requests) (x : ℕ) → request_of (record R { all = map (closed_at here) R.all }) x ≡ closed_at here (request_of R x)
+  closed_entry R x = entry_map no_request R.all (closed_at here) x closed_blank
+
+  place_closed : (R : Requests) (x : ℕ) → place_of (record R { all = map (closed_at here) R.all }) x ≡ closed_place here (place_of R x)
+  place_closed R x = ap (λ (q : Request). q.place) (closed_entry R x) ∙ (closed_by (request_of R x) (here (place_of R x))).0
+
+  arrived_closed : (R : Requests) (x : ℕ) → arrived (record R { all = map (closed_at here) R.all }) x ≡ arrived R x
+  arrived_closed R x = ap has_arrived (closed_entry R x) ∙ (closed_by (request_of R x) (here (place_of R x))).1
+
+  sent_closed : (t : ℕ) (p : Place) (b : Bool) → here p ≡ b → is_sent_to t p ≡ is_sent_to t (if b then place.Closing status.Cancelled else p)
+  sent_closed t p true e = unmade_unsent t p (it.unmade p e)
+  sent_closed t p false e = refl
+
+  made_closed : (p : Place) (b : Bool) → here p ≡ b → is_made_place p ≡ true → is_made_place (if b then place.Closing status.Cancelled else p) ≡ true
+  made_closed p true e h = absurd (let no_ = it.unmade p e in let z : ⊥ = cc in z)
+  made_closed p false e h = h
+
+  done_closed : (p : Place) (b : Bool) → here p ≡ b → is_done p ≡ true → is_done (if b then place.Closing status.Cancelled else p) ≡ true
+  done_closed p true e h = absurd (let no_ = unmade_undone p (it.unmade p e) in let z : ⊥ = cc in z)
+  done_closed p false e h = h
+
+  closes : {F B : ℕ → Bool} {R : Requests} {Q Q' : Queues} {T : Targets} {N : Tree} → Kept F B R Q T N
+      → ((q x : ℕ) → stands Q' q x ≡ flag (is_queued_in q (closed_place here (place_of R x)))) → Kept F B (record R { all = map (closed_at here) R.all }) Q' T N
+  closes {F} {B} {R} {Q} {Q'} {T} {N} k queued_ = record {
+    queued = λ q x. queued_ q x ∙ sym (ap (λ p. flag (is_queued_in q p)) (place_closed R x));
+    sent = λ t x. k.sent t x ∙ ap flag (sent_closed t (place_of R x) (here (place_of R x)) refl) ∙ sym (ap (λ p. flag (is_sent_to t p)) (place_closed R x));
+    room = let room = k.room in let long = length-map R.all (closed_at here) in omega arith;
+    kinds = λ x h. arrived_closed R x ∙ k.kinds x h;
+    made = λ x h. ap is_made_place (place_closed R x) ∙ made_closed (place_of R x) (here (place_of R x)) refl (k.made x (sym (arrived_closed R x) ∙ h));
+    returns = λ t x h. k.returns t x (sym (arrived_closed R x) ∙ h);
+    ended = λ x h. ap is_done (place_closed R x) ∙ done_closed (place_of R x) (here (place_of R x)) refl (k.ended x h);
+    numbered = k.numbered;
+    begun = λ x h. k.begun x (sym (arrived_closed R x) ∙ h);
+  }
+
+returning_inside : (q : ℕ) → Inside (is_returning_to q)
+returning_inside q = record { done = refl; unmade = λ p h. (returning_undone q p h).2 }
+
+in_unmade : (q : ℕ) (p : Place) → is_in q p ≡ true → is_made_place p ≡ false
+in_unmade q p h = elim (or_cases (is_queued_in q p) (is_returning_to q p) h) [
+  | inl e ↦ queued_unmade q p e
+  | inr e ↦ (returning_undone q p e).2
+]
+
+in_inside : (q : ℕ) → Inside (is_in q)
+in_inside q = record { done = refl; unmade = in_unmade q }
+
+-- what returns is queued nowhere, before and after
+returning_unqueued : (q p : ℕ) (x : Place) (b : Bool) → is_returning_to p x ≡ b → is_queued_in q x ≡ is_queued_in q (if b then place.Closing status.Cancelled else x)
+returning_unqueued q p x true e = still_unqueued q x (returning_undone p x e).1
+returning_unqueued q p x false e = refl
+
+returning_closed : {A : Type 0} {F B : ℕ → Bool} (S : State A) (q : ℕ) → KeptIn F B S → KeptIn F B (close_returning S q)
+returning_closed S q k = closes (is_returning_to q) (returning_inside q) k (λ p x. k.queued p x ∙ ap flag (returning_unqueued p q (place_of S.requests x) (is_returning_to q (place_of S.requests x)) refl))
+
+all_returning_closed : {A : Type 0} {F B : ℕ → Bool} (qs : List ℕ) (S : State A) → KeptIn F B S → KeptIn F B (fold close_returning S qs)
+all_returning_closed [] S k = k
+all_returning_closed (q ∷ qs) S k = all_returning_closed qs (close_returning S q) (returning_closed S q k)
+
+-- nothing is queued in a queue that is closed, and elsewhere what was
+closed_here : (q : ℕ) (x : Place) (b : Bool) → is_in q x ≡ b → is_queued_in q (if b then place.Closing status.Cancelled else x) ≡ false
+closed_here q x true e = refl
+closed_here q x false e = (either_false (is_queued_in q x) (is_returning_to q x) e).0
+
+closed_elsewhere : (q p : ℕ) (x : Place) (b : Bool) → p ≢ q → is_in q x ≡ b → is_queued_in p x ≡ is_queued_in p (if b then place.Closing status.Cancelled else x)
+closed_elsewhere q p x false n e = refl
+closed_elsewhere q p x true n e = elim (or_cases (is_queued_in q x) (is_returning_to q x) e) [
+  | inl h ↦ queued_once q p x h n
+  | inr h ↦ still_unqueued p x (returning_undone q x h).1
+]
+
+queue_closed : {A : Type 0} {F B : ℕ → Bool} (S : State A) (q : ℕ) → KeptIn F B S → KeptIn F B (close_queue S q)
+queue_closed S q k = closes (is_in q) (in_inside q) k (λ p x. elim (one_or_two p q) [
+  | inl e ↦ rw e (ap (λ (ws : List ℕ). count_by (λ y. y == x) ws) (queue_here S.queues q (λ _. [])) ∙ sym (ap flag (closed_here q (place_of S.requests x) (is_in q (place_of S.requests x)) refl)))
+  | inr n ↦
+      ap (λ (ws : List ℕ). count_by (λ y. y == x) ws) (queue_elsewhere S.queues q p (λ _. []) n) ∙ k.queued p x
+      ∙ ap flag (closed_elsewhere q p (place_of S.requests x) (is_in q (place_of S.requests x)) n refl)
+])
+
+all_queues_closed : {A : Type 0} {F B : ℕ → Bool} (qs : List ℕ) (S : State A) → KeptIn F B S → KeptIn F B (fold close_queue S qs)
+all_queues_closed [] S k = k
+all_queues_closed (q ∷ qs) S k = all_queues_closed qs (close_queue S q) (queue_closed S q k)
 
 -- ---- the marks of a request
 
@@ -409,7 +501,7 @@ is_arrival _ = false
 pub deed_keeps : {A : Type 0} {F B : ℕ → Bool} (plan : Plan) (d : Deed) (S : State A) → fits plan d S ≡ true → (is_arrival d ≡ true → B (next_id S.tree) ≡ true) → KeptIn F B S
     → KeptIn F B (do_deed plan d S)
 deed_keeps plan (Create what class parent) S f b k =
-    object_made what class parent k (not_true (is_request_kind what) (both_right (is_live (life_of S.tree parent) && not (is_full S.tree)) (not (is_request_kind what)) f))
+    object_made what class parent k (not_true (is_request_kind what) (both_right (is_live (life_of S.tree parent) && not (is_full S.tree)) (not (is_request_kind what)) (both_left (is_live (life_of S.tree parent) && not (is_full S.tree) && not (is_request_kind what)) (not (is_never_deleted what)) f)))
 deed_keeps plan (Make_request class parent) S f b k =
     new_request kind.Made class parent place.Owned (made_info (nearest_device S.tree parent)) k (λ t. refl) (λ e. absurd (let z : ⊥ = cc in z)) (λ _. refl) (λ e. absurd (let z : ⊥ = cc in z))
     (λ o x n. refl) (λ o. nowhere_yet k o)
@@ -451,7 +543,8 @@ deed_keeps plan (Come_back r) S f b k = come_back r k (both_left (is_sent (place
 deed_keeps plan (Complete_request r) S f b k =
     asked (record (give_up S r) { requests = requests.move_to S.requests r place.Done }) r (completes_it S (give_up S r) r (gives_up S r) k f)
 deed_keeps plan (Purge_queue q) S f b k = purged plan S (record S { control = control.set_mode S.control q mode.Purged }) q k k refl
-deed_keeps plan (Close_returning q) S f b k = all_closed q (ids_of S.requests.all) S k
+deed_keeps plan (Close_returning d) S f b k = all_returning_closed (managed_queues plan d) S k
+deed_keeps plan (Close_device d) S f b k = all_queues_closed (queues_of plan d) (record S { control = control.shut S.control d }) k
 deed_keeps plan (Stop_target t) S f b k = same_targets k (λ u. stopped_target S.targets t u true)
 deed_keeps plan (Start_target t) S f b k = same_targets k (λ u. stopped_target S.targets t u false)
 deed_keeps plan _ S f b k = k

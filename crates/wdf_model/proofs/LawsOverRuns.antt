@@ -87,8 +87,8 @@ none_at_opening : (plan : Plan) (r : ℕ) → same_kind (kind_of (opening_tree p
 none_at_opening plan zero = refl
 none_at_opening plan (suc r) = none_declared plan.declared r
 
-opening_kept : {A : Type 0} (m : Meaning A) (plan : Plan) (F B : ℕ → Bool) → ((r : ℕ) → F r ≡ false) → KeptIn F B (opening m plan)
-opening_kept m plan F B none = record {
+opening_kept : {A : Type 0} (plan : Plan) (m : Meaning A) (F B : ℕ → Bool) → ((r : ℕ) → F r ≡ false) → KeptIn F B (opening plan m)
+opening_kept plan m F B none = record {
   queued = λ q r. ap (λ (ws : List ℕ). count_by (λ x. x == r) ws) (queues_open (declared_ids plan) q);
   sent = λ t r. rw (targets_open plan (declared_ids plan) t) refl;
   room = omega arith;
@@ -277,14 +277,14 @@ step_by_either plan m run S offered e (inr t) k = subst (λ x. History (run ++ x
 
 -- ---- each place of a run
 
-history_opens : {A : Type 0} (m : Meaning A) (plan : Plan) → History [] (state_after m plan [])
+history_opens : {A : Type 0} (plan : Plan) (m : Meaning A) → History [] (state_after plan m [])
 unfolding state_after
-history_opens m plan = record { kept = opening_kept m plan (λ r. nat_le 1 (count_by (completes r) [])) (λ r. list_any (arrives r) []) (λ r. refl); once = λ r. omega arith }
+history_opens plan m = record { kept = opening_kept plan m (λ r. nat_le 1 (count_by (completes r) [])) (λ r. list_any (arrives r) []) (λ r. refl); once = λ r. omega arith }
 
-pub history : {A : Type 0} (m : Meaning A) (plan : Plan) (run : List Event) → IsRunOf m plan run → (n : ℕ) → History (take n run) (state_after m plan (take n run))
-history m plan run is_run n = along_run (λ es. History es (state_after m plan es)) (ready m plan) run (history_opens m plan)
-    (λ before e place _ held at. subst (λ T. History (before ++ e ∷ []) T) (sym (state_goes_on m plan before e))
-    (step_by_either plan m before (state_after m plan before) (ready m plan before) e (follows m plan before place e at) held))
+pub history : {A : Type 0} (plan : Plan) (m : Meaning A) (run : List Event) → IsRunOf plan m run → (n : ℕ) → History (take n run) (state_after plan m (take n run))
+history plan m run is_run n = along_run (λ es. History es (state_after plan m es)) (ready plan m) run (history_opens plan m)
+    (λ before e place _ held at. subst (λ T. History (before ++ e ∷ []) T) (sym (state_goes_on plan m before e))
+    (step_by_either plan m before (state_after plan m before) (ready plan m before) e (follows plan m before place e at) held))
     is_run n
 
 take_all : {T : Type 0} (xs : List T) → take (length xs) xs ≡ xs
@@ -292,26 +292,26 @@ take_all [] = refl
 take_all (x ∷ xs) = ap (λ ys. x ∷ ys) (take_all xs)
 
 -- at the end of a run
-pub history_now : {A : Type 0} (m : Meaning A) (plan : Plan) (run : List Event) → IsRunOf m plan run → History run (state_after m plan run)
-history_now m plan run is_run = subst (λ es. History es (state_after m plan es)) (take_all run) (history m plan run is_run (length run))
+pub history_now : {A : Type 0} (plan : Plan) (m : Meaning A) (run : List Event) → IsRunOf plan m run → History run (state_after plan m run)
+history_now plan m run is_run = subst (λ es. History es (state_after plan m es)) (take_all run) (history plan m run is_run (length run))
 
 -- ---- the laws
 
-pub places_agree : {A : Type 0} (m : Meaning A) (plan : Plan) (run : List Event) → IsRunOf m plan run → (n : ℕ) → PlacesAgree (state_after m plan (take n run))
-places_agree m plan run is_run n = let k = (history m plan run is_run n).kept in record { queued = k.queued; sent = k.sent }
+pub places_agree : {A : Type 0} (plan : Plan) (m : Meaning A) (run : List Event) → IsRunOf plan m run → (n : ℕ) → PlacesAgree (state_after plan m (take n run))
+places_agree plan m run is_run n = let k = (history plan m run is_run n).kept in record { queued = k.queued; sent = k.sent }
 
-comes_after : {A : Type 0} (m : Meaning A) (plan : Plan) (run : List Event) (k r : ℕ) (e : Event) → History (take k run) (state_after m plan (take k run))
-    → (place : ℕ) × (slice_get (ready m plan (take k run)) place ≡ Some e) → completes r e ≡ true → list_any (arrives r) (take k run) ≡ true
-comes_after m plan run k r e h at c = elim (follows m plan (take k run) at.0 e at.1) [
-  | inl p ↦ h.kept.begun r (not_yet plan (state_after m plan (take k run)) e r (completing plan m (state_after m plan (take k run)) e r p c) h.kept).1
+comes_after : {A : Type 0} (plan : Plan) (m : Meaning A) (run : List Event) (k r : ℕ) (e : Event) → History (take k run) (state_after plan m (take k run))
+    → (place : ℕ) × (slice_get (ready plan m (take k run)) place ≡ Some e) → completes r e ≡ true → list_any (arrives r) (take k run) ≡ true
+comes_after plan m run k r e h at c = elim (follows plan m (take k run) at.0 e at.1) [
+  | inl p ↦ h.kept.begun r (not_yet plan (state_after plan m (take k run)) e r (completing plan m (state_after plan m (take k run)) e r p c) h.kept).1
   | inr t ↦ absurd (let never : completes r e ≡ false = rw t.tick refl in let z : ⊥ = cc in z)
 ]
 
-pub completed_once : {A : Type 0} (m : Meaning A) (plan : Plan) (run : List Event) → IsRunOf m plan run → CompletedOnce run
+pub completed_once : {A : Type 0} (plan : Plan) (m : Meaning A) (run : List Event) → IsRunOf plan m run → CompletedOnce run
 unfolding IsRun
-completed_once m plan run is_run = record {
-  once = (history_now m plan run is_run).once;
-  after = λ k r e at c. comes_after m plan run k r e (history m plan run is_run k) (is_run k e at) c;
+completed_once plan m run is_run = record {
+  once = (history_now plan m run is_run).once;
+  after = λ k r e at c. comes_after plan m run k r e (history plan m run is_run k) (is_run k e at) c;
 }
 
 done_by : {A : Type 0} {F B : ℕ → Bool} (plan : Plan) (m : Meaning A) (S : State A) (offered : List Event) (e : Event) (r : ℕ) → (may plan m S e ≡ true) ⊎ IsTick m S offered e → KeptIn F B S
@@ -322,8 +322,8 @@ done_by plan m S offered e r (inl h) k inside d =
 done_by plan m S offered e r (inr t) k inside d = subst (λ x. is_done (place_of (after plan m S x).requests r) ≡ true) (sym t.tick) d
 
 -- what is Done stays Done
-pub done_stays_done : {A : Type 0} (m : Meaning A) (plan : Plan) (run : List Event) (k : ℕ) (e : Event) (r : ℕ) → IsRunOf m plan run → slice_get (ready m plan run) k ≡ Some e
-    → r < next_id (state_after m plan run).tree → is_done (place_of (state_after m plan run).requests r) ≡ true → is_done (place_of (state_after m plan (run ++ e ∷ [])).requests r) ≡ true
-done_stays_done {A} m plan run k e r is_run at inside d =
-    ap (λ (T : State A). is_done (place_of T.requests r)) (state_goes_on m plan run e)
-    ∙ done_by plan m (state_after m plan run) (ready m plan run) e r (follows m plan run k e at) (history_now m plan run is_run).kept inside d
+pub done_stays_done : {A : Type 0} (plan : Plan) (m : Meaning A) (run : List Event) (k : ℕ) (e : Event) (r : ℕ) → IsRunOf plan m run → slice_get (ready plan m run) k ≡ Some e
+    → r < next_id (state_after plan m run).tree → is_done (place_of (state_after plan m run).requests r) ≡ true → is_done (place_of (state_after plan m (run ++ e ∷ [])).requests r) ≡ true
+done_stays_done {A} plan m run k e r is_run at inside d =
+    ap (λ (T : State A). is_done (place_of T.requests r)) (state_goes_on plan m run e)
+    ∙ done_by plan m (state_after plan m run) (ready plan m run) e r (follows plan m run k e at) (history_now plan m run is_run).kept inside d

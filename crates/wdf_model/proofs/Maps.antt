@@ -99,6 +99,12 @@ entry_set_other blank (x ∷ xs) zero (suc other) new h = refl
 entry_set_other blank (x ∷ xs) (suc id) zero new h = refl
 entry_set_other blank (x ∷ xs) (suc id) (suc other) new h = entry_set_other blank xs id other new (λ e. h (ap suc e))
 
+-- what is read after an entry was changed by what leaves the blank entry alone, in or out of the list
+pub set_read : {T : Type 0} (blank : T) (g : T → T) (xs : List T) (id : ℕ) → g blank ≡ blank → entry blank (slice_set xs id (g (entry blank xs id))) id ≡ g (entry blank xs id)
+set_read blank g [] id e = sym e
+set_read blank g (x ∷ xs) zero e = refl
+set_read blank g (x ∷ xs) (suc id) e = set_read blank g xs id e
+
 pub set_as_it_was : {T : Type 0} (blank : T) (xs : List T) (id : ℕ) → slice_set xs id (entry blank xs id) ≡ xs
 set_as_it_was blank [] id = refl
 set_as_it_was blank (x ∷ xs) zero = refl

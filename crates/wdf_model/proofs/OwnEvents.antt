@@ -22,7 +22,7 @@ use Rattle.wdf_model.specs.State.{State}
 use Rattle.wdf_model.specs.rules.Deeds.{do_deeds}
 use Rattle.wdf_model.specs.rules.Script.{intent_of}
 use Rattle.wdf_model.specs.rules.Faults.{View, fault_of, holds_of}
-use Rattle.wdf_model.specs.rules.Calls.{is_met, outcome}
+use Rattle.wdf_model.specs.rules.Calls.{is_met, outcome, is_met_then}
 use Rattle.wdf_model.specs.rules.Steps.{cpu_of, event_of_frame, event_of_top, fault_event, intent_event, is_own_event, own_event, spends, view_of}
 use Rattle.wdf_model.proofs.Sames.{did_same, end_same, waiting_same, woke_same}
 
@@ -70,12 +70,12 @@ pub record IsDid {A : Type 0} (plan : Plan) (S : State A) (cpu : ℕ) (c : Call)
   pub frame : ℕ
   pub about : IsAbout plan S cpu frame (intent.Do c)
   pub answer : v ≡ (outcome plan S cpu frame c).answer
-  pub met : is_met (do_deeds plan (outcome plan S cpu frame c).deeds S) c ≡ true
+  pub met : is_met_then plan S c ≡ true
 
 pub record IsWaiting {A : Type 0} (plan : Plan) (S : State A) (cpu : ℕ) (c : Call) : Type 0 where
   pub frame : ℕ
   pub about : IsAbout plan S cpu frame (intent.Do c)
-  pub unmet : is_met (do_deeds plan (outcome plan S cpu frame c).deeds S) c ≡ false
+  pub unmet : is_met_then plan S c ≡ false
 
 pub record IsWoke {A : Type 0} (S : State A) (cpu : ℕ) (c : Call) (v : Value) : Type 0 where
   pub frame : ℕ
@@ -102,7 +102,7 @@ told_if : {A : Type 0} (plan : Plan) (S : State A) (cpu : ℕ) (e x : Event) →
 told_if plan S cpu e x t h = let same : x ≡ e = cc in subst (λ y. Told plan S cpu y) same t
 
 told_by_call : {A : Type 0} (plan : Plan) (S : State A) (cpu f : ℕ) (e : Event) (c : Call) (b : Bool)
-    → IsAbout plan S cpu f (intent.Do c) → is_met (do_deeds plan (outcome plan S cpu f c).deeds S) c ≡ b
+    → IsAbout plan S cpu f (intent.Do c) → is_met_then plan S c ≡ b
     → Some (if b then event.Did (cpu_of cpu) c (outcome plan S cpu f c).answer else event.Waiting (cpu_of cpu) c) ≡ Some e → Told plan S cpu e
 told_by_call plan S cpu f e c true a m h =
     told_if plan S cpu e (event.Did (cpu_of cpu) c (outcome plan S cpu f c).answer) (record { frame = f; about = a; answer = refl; met = m }) h
@@ -116,7 +116,7 @@ told_by_intent plan m S cpu f e (intent.Log v) a h = told_if plan S cpu e _ tt h
 told_by_intent plan m S cpu f e (intent.Spend n) a h = told_if plan S cpu e _ tt h
 told_by_intent plan m S cpu f e (intent.Get k) a h = told_if plan S cpu e _ tt h
 told_by_intent plan m S cpu f e (intent.Put k v) a h = told_if plan S cpu e _ tt h
-told_by_intent plan m S cpu f e (intent.Do c) a h = told_by_call plan S cpu f e c (is_met (do_deeds plan (outcome plan S cpu f c).deeds S) c) a refl h
+told_by_intent plan m S cpu f e (intent.Do c) a h = told_by_call plan S cpu f e c (is_met_then plan S c) a refl h
 told_by_intent plan m S cpu f e (intent.Return v) a h =
     told_if plan S cpu e (event.End (cpu_of cpu) (frame_of S.cpus f).callback (frame_of S.cpus f).object v) (record { frame = f; about = a; callback = refl; object = refl }) h
 told_by_intent plan m S cpu f e intent.Broken a h = told_if plan S cpu e _ tt h

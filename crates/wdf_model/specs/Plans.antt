@@ -61,7 +61,7 @@ interrupt_of plan id = as_interrupt (declared_of plan id)
 abbrev pub target_of : Plan → ℕ → Option TargetInfo
 target_of plan id = as_target (declared_of plan id)
 
--- the ids of the driver object and of what is declared, behind the id 0 that no object has
+-- the ids of the driver object and of what is declared, after the id 0 that no object has
 abbrev pub declared_ids : Plan → List ℕ
 declared_ids plan = range_with_len 0 (suc (length plan.declared))
 
@@ -244,7 +244,7 @@ period_of plan c = unwrap_or (option_map class_period (slice_get plan.classes c)
 abbrev pub agent_count : Plan → ℕ
 agent_count plan = 1 + length plan.agents
 
--- how many agents stand before the devices
+-- how many agents come before the devices
 abbrev pub first_device_agent : Plan → ℕ
 first_device_agent plan = 1 + app_count plan
 

@@ -2,7 +2,7 @@
 -- to the list of the events that may come next, in their order. (own)
 use Rattle.std.specs.Prelude.{ℕ, ◌≡◌, ◌+◌, ◌%◌, Bool, List, [], ◌++◌, length, take, slice_get, slice_index, position, Option, Some}
 
--- Each event of a run stands, at some place, in what may follow the events before it.
+-- Each event of a run is, at some place, in what may follow the events before it.
 unfoldable pub IsRun : {E : Type 0} → (List E → List E) → List E → Type 0
 IsRun {E} ready run = (k : ℕ) (event : E) → slice_get run k ≡ Some event → (place : ℕ) × (slice_get (ready (take k run)) place ≡ Some event)
 
@@ -10,7 +10,7 @@ IsRun {E} ready run = (k : ℕ) (event : E) → slice_get run k ≡ Some event �
 abbrev pub picked_place : List ℕ → ℕ → ℕ → ℕ
 picked_place picks turn count = slice_index picks turn % count
 
--- After the events of start, each event of the run stands at the place that is picked for its turn.
+-- After the events of start, each event of the run is at the place that is picked for its turn.
 unfoldable pub IsPickedFrom : {E : Type 0} → (List E → List E) → List ℕ → List E → List E → Type 0
 IsPickedFrom {E} ready picks start run = (turn : ℕ) (event : E) → slice_get run (length start + turn) ≡ Some event → slice_get (ready (take (length start + turn) run)) (picked_place picks turn (length (ready (take (length start + turn) run)))) ≡ Some event
 
@@ -23,6 +23,6 @@ pub record Picked {E : Type 0} (ready : List E → List E) (picks : List ℕ) (s
   -- nothing may follow it
   pub ends : ready run ≡ []
 
--- The least place of an event of an actor, in what may follow; the test tells the actor's events.
+-- The least place of an event of an actor, in what may follow; the test picks the actor's events.
 abbrev pub place_for : {E : Type 0} → (E → Bool) → List E → Option ℕ
 place_for by_actor events = position by_actor events

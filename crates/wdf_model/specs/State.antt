@@ -56,12 +56,12 @@ pub record State (A : Type 0) : Type 0 where
   pub number : ℕ
 
 -- the agents as they are at the opening
-abbrev pub opening_agents : {A : Type 0} → Meaning A → Plan → List A
-opening_agents m plan = map (m.begin plan) (range_with_len 0 (agent_count plan))
+abbrev pub opening_agents : {A : Type 0} → Plan → Meaning A → List A
+opening_agents plan m = map (m.begin plan) (range_with_len 0 (agent_count plan))
 
 -- The opening: what is declared lives, working devices are powered up, and nothing runs or waits.
-abbrev pub opening : {A : Type 0} → Meaning A → Plan → State A
-opening m plan = record {
+abbrev pub opening : {A : Type 0} → Plan → Meaning A → State A
+opening plan m = record {
   tree = opening_tree plan;
   cpus = opening_cpus plan;
   locks = no_locks;
@@ -75,7 +75,7 @@ opening m plan = record {
   work_items = no_work_items;
   timers = no_timers;
   targets = opening_targets plan;
-  agents = opening_agents m plan;
+  agents = opening_agents plan m;
   arrivals = [];
   clock = 0;
   number = 0;

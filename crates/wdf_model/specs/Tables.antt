@@ -1,6 +1,6 @@
 -- Maps by id, and lists of ids in order. A map is a list of entries by id; what was never written is
 -- the blank entry of its map. No object has the id 0.
-use Rattle.std.specs.Prelude.{if◌then◌else◌, ℕ, zero, suc, Bool, true, false, ◌==◌, nat_lt, nat_le, not, List, [], ◌∷◌, length, filter, Option, Some, None, fold, slice_index_or}
+use Rattle.std.specs.Prelude.{if◌then◌else◌, ℕ, zero, suc, min, ◌+◌, ◌-◌, ◌^◌, Bool, true, false, ◌==◌, nat_lt, nat_le, not, List, [], ◌∷◌, length, filter, Option, Some, None, fold, slice_index_or}
 use Rattle.std.specs.List.{list_any, range_with_len}
 
 -- the entry of an id
@@ -51,6 +51,14 @@ least ns = fold lesser None ns
 abbrev pub same_id : Option ℕ → ℕ → Bool
 same_id None id = false
 same_id (Some other) id = other == id
+
+-- own: the last tick that a clock of 64 bits shows; a tick past it is this one
+abbrev pub LAST_TICK : ℕ
+LAST_TICK = 2 ^ 64 - 1
+
+-- a tick that is so much later
+abbrev pub tick_after : ℕ → ℕ → ℕ
+tick_after now more = min (now + more) LAST_TICK
 
 -- 1 for true, 0 for false
 abbrev pub flag : Bool → ℕ

@@ -1,6 +1,7 @@
 use crate::Mode;
 use wdf_base::{
-    Frame, FrameId, Irql, Kind, Life, LockRef, ObjectId, Place, RequestInfo, Status, Value,
+    Action, Frame, FrameId, Handle, Irql, Kind, Life, LockRef, ObjectId, Place, RequestInfo,
+    Status, Value, WhenLine,
 };
 
 /// How many context cells an object has. (own)
@@ -113,4 +114,26 @@ pub struct Sending {
     pub forgotten: bool,
     /// The status with which the target is done with it.
     pub outcome: Option<Status>,
+}
+
+/// What a device does by a line of the text.
+#[derive(Clone, Copy, Debug, PartialEq, Eq)]
+pub struct DeviceAction {
+    pub action: Action,
+    /// What brings it about, none for one with `at`.
+    pub trigger: Option<WhenLine>,
+    /// The tick at which it is due, if it is to come.
+    pub tick: Option<u64>,
+    /// The number of its line in the text.
+    pub line: u32,
+}
+
+/// A request that a target has, as its agent knows it.
+#[derive(Clone, Copy, Debug, PartialEq, Eq)]
+pub struct SentRequest {
+    pub request: Handle,
+    /// The tick at which it is due.
+    pub tick: u64,
+    /// Whether it was cancelled, or the target was told to cancel it.
+    pub told: bool,
 }

@@ -19,7 +19,7 @@ pub enum Phase {
     Removed,
 }
 
-/// Candidates that stand together in the order of what may follow. Each has places, from 0.
+/// Candidates that come together in the order of what may follow. Each has places, from 0.
 #[derive(Clone, Copy, Debug, PartialEq, Eq)]
 pub enum Group {
     /// The top frame's own event on a processor.
@@ -39,7 +39,7 @@ pub enum Group {
     Completions,
     /// The cleanups, a place for each id.
     Cleanups,
-    /// The ends of objects, a place for each id.
+    /// The destructions of objects, a place for each id.
     Destroys,
     /// The posts, a place for each agent.
     Posts,

@@ -9,39 +9,38 @@ ghost use Rattle.wdf_model.specs.parts.Cpus.{top};
 ghost use Rattle.wdf_model.specs.State.{State};
 ghost use Rattle.wdf_model.specs.rules.Steps.{after};
 ghost use Rattle.wdf_base.specs.declared.event.Fault.{Fault};
-ghost use Rattle.wdf_model.specs.rules.Deeds.{Ask_deletion, do_deed};
+ghost use Rattle.wdf_model.specs.rules.Deeds.{Ask_deletion, Deed, counted, do_deed, do_deeds};
 ghost use Rattle.wdf_model.specs.rules.Ready.{ready, state_after};
-ghost use Rattle.wdf_model.specs.agents.{Agent, agents};
 ghost use Rattle.wdf_model.specs.laws.FactsOfEvents.{IsTick, MovesOnlyFrame, touches_gone};
 
 /// A Local or a Log of a processor's top frame changes nothing but what the script keeps in that frame:
 /// no agent hears of it, and no other part, frame, stack or level changes.
 #[tactic(auto, using(crate::proofs::FactsOfEvents::local_moves_frame, crate::proofs::FactsOfEvents::log_moves_frame))]
-pub fn steps_inside_a_frame()
-    ensures local { (plan : Plan) (S : State Agent) (cpu : Cpu) (line f : ℕ) → top S.cpus cpu.0 ≡ Some f
-        → MovesOnlyFrame f S (after plan agents S (event.Local cpu line)) }
-    ensures log { (plan : Plan) (S : State Agent) (cpu : Cpu) (v : Value) (f : ℕ) → top S.cpus cpu.0 ≡ Some f
-        → MovesOnlyFrame f S (after plan agents S (event.Log cpu v)) }
+pub fn steps_inside_a_frame<A>()
+    ensures local { (plan : Plan) (m : Meaning A) (S : State A) (cpu : Cpu) (line f : ℕ) → top S.cpus cpu.0 ≡ Some f
+        → MovesOnlyFrame f S (after plan m S (event.Local cpu line)) }
+    ensures log { (plan : Plan) (m : Meaning A) (S : State A) (cpu : Cpu) (v : Value) (f : ℕ) → top S.cpus cpu.0 ≡ Some f
+        → MovesOnlyFrame f S (after plan m S (event.Log cpu v)) }
 {}
 
 /// No start, cleanup or end that may follow names an object that is gone.
 #[tactic(auto, using(crate::proofs::FactsOfEvents::nothing_gone_is_touched))]
 pub fn nothing_gone_is_touched<A>()
-    ensures { (m : Meaning A) (plan : Plan) (run : List Event) (k : ℕ) (e : Event) → slice_get (ready m plan run) k ≡ Some e
-        → touches_gone (state_after m plan run).tree e ≡ false }
+    ensures { (plan : Plan) (m : Meaning A) (run : List Event) (k : ℕ) (e : Event) → slice_get (ready plan m run) k ≡ Some e
+        → touches_gone (state_after plan m run).tree e ≡ false }
 {}
 
 /// Time passes only where nothing else may follow and something waits for it.
 pub fn time_passes_alone<A>()
-    ensures { (m : Meaning A) (plan : Plan) (run : List Event) (k time : ℕ) → slice_get (ready m plan run) k ≡ Some (event.Tick time)
-        → IsTick m (state_after m plan run) (ready m plan run) (event.Tick time) }
+    ensures { (plan : Plan) (m : Meaning A) (run : List Event) (k time : ℕ) → slice_get (ready plan m run) k ≡ Some (event.Tick time)
+        → IsTick m (state_after plan m run) (ready plan m run) (event.Tick time) }
 {}
 
 /// Nothing follows a fault.
 #[tactic(auto, using(crate::proofs::Follows::fault_ends))]
 pub fn fault_ends_the_run<A>()
-    ensures { (m : Meaning A) (plan : Plan) (run : List Event) (cpu : Cpu) (x : Fault) (line : ℕ)
-        → ready m plan (run ++ event.Fault cpu x line ∷ []) ≡ [] }
+    ensures { (plan : Plan) (m : Meaning A) (run : List Event) (cpu : Cpu) (x : Fault) (line : ℕ)
+        → ready plan m (run ++ event.Fault cpu x line ∷ []) ≡ [] }
 {}
 
 /// To ask the deletion of an object twice is to ask it once.
@@ -49,4 +48,10 @@ pub fn fault_ends_the_run<A>()
 pub fn deletion_is_asked_once<A>()
     ensures { (plan : Plan) (S : State A) (o : ℕ)
         → do_deed plan (Ask_deletion o) (do_deed plan (Ask_deletion o) S) ≡ do_deed plan (Ask_deletion o) S }
+{}
+
+/// To count an event, and let the agents hear of it, before its deeds or after them is the same.
+#[tactic(auto, using(crate::proofs::Counting::counted_first))]
+pub fn counting_commutes<A>()
+    ensures { (plan : Plan) (m : Meaning A) (ds : List Deed) (e : Event) (S : State A) → do_deeds plan ds (counted m e S) ≡ counted m e (do_deeds plan ds S) }
 {}

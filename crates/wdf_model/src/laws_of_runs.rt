@@ -15,21 +15,21 @@ pub fn each_event_fits<A>()
     ensures { (plan : Plan) (m : Meaning A) (S : State A) (e : Event) → may plan m S e ≡ true → all_fit plan (deeds plan S e) S ≡ true }
 {}
 
-/// At each place of every run a request is Queued exactly where it stands in that queue's line, once, and
+/// At each place of every run a request is Queued exactly where it waits in that queue, once, and
 /// Sent exactly where that target has it, once.
 pub fn places_agree<A>()
-    ensures { (m : Meaning A) (plan : Plan) (run : List Event) → IsRunOf m plan run → (n : ℕ) → PlacesAgree (state_after m plan (take n run)) }
+    ensures { (plan : Plan) (m : Meaning A) (run : List Event) → IsRunOf plan m run → (n : ℕ) → PlacesAgree (state_after plan m (take n run)) }
 {}
 
 /// In every run no request is completed twice, and none before it arrives.
 pub fn completed_once<A>()
-    ensures { (m : Meaning A) (plan : Plan) (run : List Event) → IsRunOf m plan run → CompletedOnce run }
+    ensures { (plan : Plan) (m : Meaning A) (run : List Event) → IsRunOf plan m run → CompletedOnce run }
 {}
 
 /// In every run a request that is Done stays Done, whatever event follows.
 pub fn done_stays_done<A>()
-    ensures { (m : Meaning A) (plan : Plan) (run : List Event) (k : ℕ) (e : Event) (r : ℕ) → IsRunOf m plan run
-        → slice_get (ready m plan run) k ≡ Some e → r < next_id (state_after m plan run).tree
-        → is_done (place_of (state_after m plan run).requests r) ≡ true
-        → is_done (place_of (state_after m plan (run ++ e ∷ [])).requests r) ≡ true }
+    ensures { (plan : Plan) (m : Meaning A) (run : List Event) (k : ℕ) (e : Event) (r : ℕ) → IsRunOf plan m run
+        → slice_get (ready plan m run) k ≡ Some e → r < next_id (state_after plan m run).tree
+        → is_done (place_of (state_after plan m run).requests r) ≡ true
+        → is_done (place_of (state_after plan m (run ++ e ∷ [])).requests r) ≡ true }
 {}

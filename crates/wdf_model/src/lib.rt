@@ -12,8 +12,8 @@ mod room;
 pub mod worked;
 
 pub use entries::{
-    CELLS, DevicePower, Held, HeldLevel, Holding, Node, QueueControl, QueuePower, Request, Running,
-    Sending, Timed,
+    CELLS, DeviceAction, DevicePower, Held, HeldLevel, Holding, Node, QueueControl, QueuePower,
+    Request, Running, Sending, SentRequest, Timed,
 };
 pub use enums::{Group, Mode, Phase};
 pub use room::{EVENTS, FRAMES, OBJECTS};

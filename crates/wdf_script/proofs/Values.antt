@@ -1,121 +1,94 @@
--- The list of the nodes' values, read at one node: the values of its operands stand in it already.
-use Rattle.std.proofs.Common.{◌≡◌, ℕ, ◌+◌, ◌<◌, ◌≤◌, List, [], ◌∷◌, ◌++◌, length, take, drop, Option, Some, None, get_or, slice_get, IsTrue, IsSome, refl, sym, ap, ◌∙◌, arith, length-append, length-take, length-take-le}
-use Rattle.std.proofs.lemmas.List.{take-append-drop, take_more, get_or_past, get_or_append_left}
-use Rattle.std.proofs.lemmas.Option.{slice_get_within, get_or_from_slice_get}
-use Rattle.std.proofs.Math.Seq.{get_or-append_seam}
+-- The value of an expression, by the values of its operands.
+use Rattle.std.proofs.Common.{if◌then◌else◌, ◌≡◌, ℕ, zero, suc, ◌<◌, ◌≤◌, nat_lt, Bool, true, false, ◌&&◌, length, Option, Some, None, slice_get, IsTrue, IsSome, refl, sym, ap, ◌∙◌, arith}
+use Rattle.std.proofs.lemmas.Bool.Decides.{nat_tests}
+use Rattle.std.proofs.lemmas.Option.{slice_get_past}
 use Rattle.wdf_base.specs.declared.plan.Plan.{Plan}
 use Rattle.wdf_base.specs.declared.frame.Frame.{Frame}
 use Rattle.wdf_base.specs.declared.value.Value.{Value}
 use Rattle.wdf_base.specs.declared.script.ExprNode.{ExprNode}
 use Rattle.wdf_base.specs.declared.script.ExprNode.TheVariants as node
 use Rattle.wdf_base.specs.declared.script.Operator.{Operator}
-use Rattle.wdf_model.specs.rules.Script.{value_of, value_at, values_after, node_value, operands_by}
+use Rattle.wdf_model.specs.rules.Script.{value_of, value_to, node_value, operands_by}
 use Rattle.wdf_script.specs.Errors.{is_atom}
-use Rattle.wdf_model.proofs.Runs.{take-take-below}
 
--- nodes in two parts: the second part begins with the values of the first
-pub values-append : (f : Frame) (before : List (Option Value)) (xs ys : List ExprNode)
-    → values_after f before (xs ++ ys) ≡ values_after f (values_after f before xs) ys
-values-append f before [] ys = refl
-values-append f before (x ∷ xs) ys = values-append f (before ++ node_value f before x ∷ []) xs ys
+-- ---- what is below
 
--- one value a node
-pub length-values : (f : Frame) (before : List (Option Value)) (xs : List ExprNode)
-    → length (values_after f before xs) ≡ length before + length xs
-length-values f before [] = omega arith
-length-values f before (x ∷ xs) =
-    omega (arith, length-values f (before ++ node_value f before x ∷ []) xs, length-append before (node_value f before x ∷ []))
+below : (a b : ℕ) → a < b → nat_lt a b ≡ true
+below a b h = grind (arith, nat_tests)
 
--- the values that stand already stay
-pub values-keep : (f : Frame) (before : List (Option Value)) (xs : List ExprNode) (k : ℕ) → k < length before
-    → value_at (values_after f before xs) k ≡ value_at before k
-values-keep f before [] k h = refl
-values-keep f before (x ∷ xs) k h =
-    let more : k < length (before ++ node_value f before x ∷ []) = omega (arith, length-append before (node_value f before x ∷ [])) in
-    values-keep f (before ++ node_value f before x ∷ []) xs k more
-    ∙ get_or_append_left before (node_value f before x ∷ []) None k h
+not_below : (a b : ℕ) → b ≤ a → nat_lt a b ≡ false
+not_below a b h = grind (arith, nat_tests)
 
--- the values of the first nodes of a plan
-abbrev pub values_before : Plan → Frame → ℕ → List (Option Value)
-values_before plan f e = values_after f [] (take e plan.exprs)
+is_below : (a b : ℕ) → nat_lt a b ≡ true → a < b
+is_below a b h = grind (arith, nat_tests)
 
-pub length-before : (plan : Plan) (f : Frame) (e : ℕ) → e ≤ length plan.exprs → length (values_before plan f e) ≡ e
-length-before plan f e h =
-    omega (arith, length-values f [] (take e plan.exprs), length-take-le e plan.exprs h)
+-- ---- deep enough is deep enough
+
+both_same : (of other : ℕ → Option Value) (op : Operator) (e left right : ℕ) (a b : Bool) → nat_lt left e ≡ a → nat_lt right e ≡ b → ((k : ℕ) → k < e → of k ≡ other k)
+    → (if a && b then operands_by op (of left) (of right) else None) ≡ (if a && b then operands_by op (other left) (other right) else None)
+both_same of other op e left right true true h k same = rw (same left (is_below left e h), same right (is_below right e k)) refl
+both_same of other op e left right true false h k same = refl
+both_same of other op e left right false b h k same = refl
+
+same_node : (f : Frame) (of other : ℕ → Option Value) (e : ℕ) (n : Option ExprNode) → ((k : ℕ) → k < e → of k ≡ other k) → node_value f of e n ≡ node_value f other e n
+same_node f of other e None same = refl
+same_node f of other e (Some (node.Number n)) same = refl
+same_node f of other e (Some (node.Variable v)) same = refl
+same_node f of other e (Some (node.Object h)) same = refl
+same_node f of other e (Some (node.Literal s)) same = refl
+same_node f of other e (Some (node.Context word)) same = refl
+same_node f of other e (Some (node.Binary op left right)) same = both_same of other op e left right (nat_lt left e) (nat_lt right e) refl refl same
+
+enough : (n m : ℕ) (plan : Plan) (f : Frame) (e : ℕ) → e < n → e < m → value_to n plan f e ≡ value_to m plan f e
+enough zero m plan f e h k = absurd (omega arith)
+enough (suc n) zero plan f e h k = absurd (omega arith)
+enough (suc n) (suc m) plan f e h k = same_node f (value_to n plan f) (value_to m plan f) e (slice_get plan.exprs e) (λ x less. enough n m plan f x (omega arith) (omega arith))
+
+-- ---- one node
+
+-- the value of a node, by the values of expressions
+pub value-node : (plan : Plan) (f : Frame) (e : ℕ) (n : ExprNode) → slice_get plan.exprs e ≡ Some n → value_of plan f e ≡ node_value f (value_of plan f) e (Some n)
+unfolding value_of
+value-node plan f e n here =
+    ap (node_value f (value_to e plan f) e) here
+    ∙ same_node f (value_to e plan f) (λ k. value_to (suc k) plan f k) e (Some n) (λ k less. enough e (suc k) plan f k less (omega arith))
 
 -- a node that is not there has no value
 pub value-past : (plan : Plan) (f : Frame) (e : ℕ) → length plan.exprs ≤ e → value_of plan f e ≡ None
 unfolding value_of
-value-past plan f e h =
-    get_or_past (values_after f [] (take (e + 1) plan.exprs)) e None
-    (omega (arith, length-values f [] (take (e + 1) plan.exprs), length-take (e + 1) plan.exprs))
-
--- the value of a node is its own, by the values of the nodes before it
-pub value-node : (plan : Plan) (f : Frame) (e : ℕ) (n : ExprNode) → slice_get plan.exprs e ≡ Some n
-    → value_of plan f e ≡ node_value f (values_before plan f e) n
-unfolding value_of
-value-node plan f e n here =
-    let within : e < length plan.exprs = slice_get_within plan.exprs e n here in
-    let is : get_or plan.exprs e n ≡ n = get_or_from_slice_get plan.exprs e n n here in
-    let long : length (values_before plan f e) ≡ e = length-before plan f e (omega arith) in
-    let grown : take (e + 1) plan.exprs ≡ take e plan.exprs ++ n ∷ [] = rw is at (take_more plan.exprs e n within) in
-    let last : value_at (values_before plan f e ++ node_value f (values_before plan f e) n ∷ []) (length (values_before plan f e)) ≡ node_value f (values_before plan f e) n =
-    get_or-append_seam (values_before plan f e) (node_value f (values_before plan f e) n) [] None in
-    rw (grown, values-append f [] (take e plan.exprs) (n ∷ [])) (rw long at last)
-
--- the value of an operand, which stands before its operator
-pub value-operand : (plan : Plan) (f : Frame) (e k : ℕ) → e ≤ length plan.exprs → k < e
-    → value_at (values_before plan f e) k ≡ value_of plan f k
-unfolding value_of
-value-operand plan f e k within h =
-    let front : take (k + 1) plan.exprs ++ drop (k + 1) (take e plan.exprs) ≡ take e plan.exprs =
-    rw (take-take-below plan.exprs e (k + 1) (omega arith)) at (take-append-drop (k + 1) (take e plan.exprs)) in
-    let long : k < length (values_before plan f (k + 1)) = omega (arith, length-before plan f (k + 1) (omega arith)) in
-    ap (λ ns. value_at (values_after f [] ns) k) (sym front)
-    ∙ ap (λ vs. value_at vs k) (values-append f [] (take (k + 1) plan.exprs) (drop (k + 1) (take e plan.exprs)))
-    ∙ values-keep f (values_before plan f (k + 1)) (drop (k + 1) (take e plan.exprs)) k long
-
--- what does not stand before its operator has no value there
-pub no-operand : (plan : Plan) (f : Frame) (e k : ℕ) → e ≤ length plan.exprs → e ≤ k
-    → value_at (values_before plan f e) k ≡ None
-no-operand plan f e k within h =
-    get_or_past (values_before plan f e) k None (omega (arith, length-before plan f e within))
+value-past plan f e h = ap (node_value f (value_to e plan f) e) (slice_get_past plan.exprs e h)
 
 -- the value of an operator's node, by the values of its operands
 pub operator_of_operands : (plan : Plan) (f : Frame) (e left right : ℕ) (op : Operator)
     → slice_get plan.exprs e ≡ Some (node.Binary op left right) → left < e → right < e
     → value_of plan f e ≡ operands_by op (value_of plan f left) (value_of plan f right)
-operator_of_operands plan f e left right op here before before' =
-    let within : e < length plan.exprs = slice_get_within plan.exprs e (node.Binary op left right) here in
-    rw (value-node plan f e (node.Binary op left right) here, value-operand plan f e left (omega arith) before, value-operand plan f e right (omega arith) before') refl
+operator_of_operands plan f e left right op here before before' = rw (value-node plan f e (node.Binary op left right) here, below left e before, below right e before') refl
 
--- an operand that does not stand before its operator leaves no value
-pub none-right : (op : Operator) (v : Option Value) → operands_by op v None ≡ None
-none-right op None = refl
-none-right op (Some v) = refl
+-- an operand that isn't before its operator leaves no value
+no_left : (a b : Bool) (v : Option Value) → a ≡ false → (if a && b then v else None) ≡ None
+no_left a b v h = rw h refl
+
+no_right : (a b : Bool) (v : Option Value) → b ≡ false → (if a && b then v else None) ≡ None
+no_right true b v h = rw h refl
+no_right false b v h = refl
 
 pub value-left-late : (plan : Plan) (f : Frame) (e left right : ℕ) (op : Operator)
     → slice_get plan.exprs e ≡ Some (node.Binary op left right) → e ≤ left → value_of plan f e ≡ None
-value-left-late plan f e left right op here late =
-    let within : e < length plan.exprs = slice_get_within plan.exprs e (node.Binary op left right) here in
-    rw (value-node plan f e (node.Binary op left right) here, no-operand plan f e left (omega arith) late) refl
+value-left-late plan f e left right op here late = value-node plan f e (node.Binary op left right) here ∙ no_left (nat_lt left e) (nat_lt right e) _ (not_below left e late)
 
 pub value-right-late : (plan : Plan) (f : Frame) (e left right : ℕ) (op : Operator)
     → slice_get plan.exprs e ≡ Some (node.Binary op left right) → e ≤ right → value_of plan f e ≡ None
-value-right-late plan f e left right op here late =
-    let within : e < length plan.exprs = slice_get_within plan.exprs e (node.Binary op left right) here in
-    rw (value-node plan f e (node.Binary op left right) here, no-operand plan f e right (omega arith) late) (none-right op (value_at (values_before plan f e) left))
+value-right-late plan f e left right op here late = value-node plan f e (node.Binary op left right) here ∙ no_right (nat_lt left e) (nat_lt right e) _ (not_below right e late)
 
 -- an atom has a value
-pub atom-value : (f : Frame) (before : List (Option Value)) (n : ExprNode) → IsTrue (is_atom n) → IsSome (node_value f before n)
-atom-value f before (node.Number n) atom = refl
-atom-value f before (node.Variable v) atom = refl
-atom-value f before (node.Object h) atom = refl
-atom-value f before (node.Literal s) atom = refl
-atom-value f before (node.Context word) atom = refl
-atom-value f before (node.Binary op left right) atom = absurd (let z : ⊥ = cc in z)
+atom-value : (f : Frame) (of : ℕ → Option Value) (e : ℕ) (n : ExprNode) → IsTrue (is_atom n) → IsSome (node_value f of e (Some n))
+atom-value f of e (node.Number n) atom = refl
+atom-value f of e (node.Variable v) atom = refl
+atom-value f of e (node.Object h) atom = refl
+atom-value f of e (node.Literal s) atom = refl
+atom-value f of e (node.Context word) atom = refl
+atom-value f of e (node.Binary op left right) atom = absurd (let z : ⊥ = cc in z)
 
 pub atom_has_value : (plan : Plan) (f : Frame) (e : ℕ) (n : ExprNode) → slice_get plan.exprs e ≡ Some n → IsTrue (is_atom n)
     → IsSome (value_of plan f e)
-atom_has_value plan f e n here atom =
-    rw (value-node plan f e n here) (atom-value f (values_before plan f e) n atom)
+atom_has_value plan f e n here atom = rw (value-node plan f e n here) (atom-value f (value_of plan f) e n atom)

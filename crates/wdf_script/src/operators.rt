@@ -1,5 +1,6 @@
 //! Operators of expressions, on numbers and on values.
 ghost use Rattle.std.specs.Prelude.{◌≡◌};
+ghost use Rattle.wdf_model.specs.Tables.{flag};
 ghost use Rattle.wdf_model.specs.rules.Script as script;
 
 use wdf_base::{Operator, Value};
@@ -7,7 +8,7 @@ use wdf_same::same_value;
 
 // A comparison gives 1 or 0.
 fn flag(holds: bool) -> u64
-    ensures { result ≡ script.flag holds }
+    ensures { result ≡ flag holds }
 {
     if holds { 1 } else { 0 }
 }

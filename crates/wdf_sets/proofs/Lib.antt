@@ -1,3 +1,4 @@
 pub mod Ranks
 mod Ones
 mod Passing
+mod Changes

@@ -2,7 +2,7 @@
 use Rattle.std.proofs.Common.{ℕ, zero, suc, ◌≡◌, ◌⊎◌, ◌+◌, ◌-◌, ◌<◌, ◌≤◌, Bool, true, false, cond, List, [], ◌∷◌, ◌++◌, length, take, slice_set, Some, None, slice_get, refl, sym, subst, ap, ◌∙◌, inl, inr, arith}
 use Rattle.std.specs.List.{count_by, filter, range_with_len}
 use Rattle.std.proofs.lemmas.Bool.{cases_lt}
-use Rattle.std.proofs.lemmas.List.{append_assoc, length_push, take_all}
+use Rattle.std.proofs.lemmas.List.{append_assoc, get_or_past, length_push, take_all}
 use Rattle.std.proofs.lemmas.List.Sums.{count_by_more_yes, count_by_more_no, sum_by-cons}
 use Rattle.wdf_sets.specs.Members.{is_in, members, rank}
 
@@ -167,3 +167,27 @@ found_by bits x k false e low high = absurd (omega arith)
 -- the member with as many before it, by the ranks around it
 pub member_between : (bits : List Bool) (x k : ℕ) → x < length bits → rank x bits ≤ k → k < rank (x + 1) bits → slice_get (members bits) k ≡ Some x
 member_between bits x k h low high = found_by bits x k (is_in x bits) refl low (let e : rank (x + 1) bits ≡ rank x bits + one (is_in x bits) = rank_more bits x h in omega arith)
+
+-- ---- the members of a set that says where a test is met
+
+none_from : (p : ℕ → Bool) (a n : ℕ) → ((x : ℕ) → a ≤ x → p x ≡ false) → filter p (range_with_len a n) ≡ []
+none_from p a zero no_more = refl
+none_from p a (suc n) no_more = rw (no_more a (omega arith)) (none_from p (a + 1) n (λ x h. no_more x (omega arith)))
+
+-- a longer range adds none
+none_past : (p : ℕ → Bool) (a n m : ℕ) → n ≤ m → ((x : ℕ) → a + n ≤ x → p x ≡ false) → filter p (range_with_len a m) ≡ filter p (range_with_len a n)
+none_past p a zero m h no_more = none_from p a m (λ x l. no_more x (omega arith))
+none_past p a (suc n) zero h no_more = absurd (omega arith)
+none_past p a (suc n) (suc m) h no_more = ap (λ xs. cond (p a) (a ∷ xs) xs) (none_past p (a + 1) n m (omega arith) (λ x l. no_more x (omega arith)))
+
+same_filter : (p q : ℕ → Bool) (a n : ℕ) → ((x : ℕ) → p x ≡ q x) → filter p (range_with_len a n) ≡ filter q (range_with_len a n)
+same_filter p q a zero e = refl
+same_filter p q a (suc n) e = rw (e a, same_filter p q (a + 1) n e) refl
+
+-- the rising ids below a bound that meet a test, where each bit says whether its id meets it and none past the bound does
+pub members_where : (bits : List Bool) (p : ℕ → Bool) (n : ℕ) → ((x : ℕ) → is_in x bits ≡ p x) → ((x : ℕ) → n ≤ x → p x ≡ false) → members bits ≡ filter p (range_with_len 0 n)
+members_where bits p n e past = same_filter (λ x. is_in x bits) p 0 (length bits) e ∙ by_length (cases_lt (length bits) n)
+  where
+    by_length : (length bits < n) ⊎ (n ≤ length bits) → filter p (range_with_len 0 (length bits)) ≡ filter p (range_with_len 0 n)
+    by_length (inl shorter) = sym (none_past p 0 (length bits) n (omega arith) (λ x h. sym (e x) ∙ get_or_past bits x false (omega arith)))
+    by_length (inr longer) = none_past p 0 n (length bits) longer (λ x h. past x (omega arith))

@@ -1,7 +1,6 @@
 -- When each status comes, a lemma for each of the top call's clauses.
-use Rattle.std.proofs.Common.{ℕ, ◌≡◌, ◌+◌, ◌⊎◌, inl, inr, Bool, true, false, IsTrue, List, [], length, Option, Some, None, refl, sym, ap, ◌∙◌, arith, ◌≢◌}
+use Rattle.std.proofs.Common.{ℕ, ◌≡◌, ◌+◌, ◌⊎◌, inl, inr, true, false, IsTrue, List, Option, Some, None, refl, sym, ◌∙◌, arith, ◌≢◌}
 use Rattle.wdf_base.specs.declared.plan.Plan.{Plan}
-use Rattle.wdf_base.specs.declared.event.Event.{Event}
 use Rattle.wdf_base.specs.declared.event.Ending.{Ending}
 use Rattle.wdf_base.specs.declared.event.Ending.TheVariants as ending
 use Rattle.wdf_base.specs.declared.event.Fault.{Fault}
@@ -13,7 +12,7 @@ use Rattle.wdf_plan.specs.Plans.{plan_of}
 use Rattle.wdf_top.specs.declared.input.TheConstants.{INPUT_LIMIT}
 use Rattle.wdf_top.specs.declared.words.Form.{Form}
 use Rattle.wdf_top.specs.declared.words.Form.TheVariants.{Check, Order, Seed, Replay, Gen, Load}
-use Rattle.wdf_top.specs.Answers.{Writing, Answers, HasNoScene, HasNoPlan, HasPlan, IsTraceOf, writes_run, writes_scene, status_of, text_of}
+use Rattle.wdf_top.specs.Answers.{Writing, Answers, HasNoScene, HasNoPlan, HasPlan, IsTraceOf, writes_run, writes_scene, status_of}
 use Rattle.wdf_top.specs.Causes.{WroteRun, is_later, is_reading}
 use Rattle.wdf_top.specs.Input.{TakesAll, TakesCount}
 use Rattle.wdf_top.specs.Refusals.{no_memory_line}

@@ -1,9 +1,8 @@
 -- What a form that reads tells, from what was read and from what became of the plan.
-use Rattle.std.proofs.Common.{ℕ, ◌≡◌, ◌+◌, ◌≤◌, ◌⊎◌, inl, inr, IsTrue, List, [], length, Option, Some, None, refl, sym, ap, ◌∙◌, arith}
+use Rattle.std.proofs.Common.{ℕ, ◌≡◌, ◌≤◌, ◌⊎◌, inl, inr, List, [], length, Option, Some, None, refl, sym, ◌∙◌, arith}
 use Rattle.std.proofs.lemmas.List.{append-nil}
 use Rattle.wdf_scene.specs.declared.scene.Scene.{Scene}
 use Rattle.wdf_base.specs.declared.plan.Plan.{Plan}
-use Rattle.wdf_io.specs.Outside.{Takes}
 use Rattle.wdf_parse.specs.declared.refusal.ParseRefusal.TheVariants as parse
 use Rattle.wdf_parse.specs.Canonical.{canonical_text}
 use Rattle.wdf_parse.specs.StandsFor.{StandsFor}
@@ -14,7 +13,7 @@ use Rattle.wdf_plan.specs.Plans.{plan_of}
 use Rattle.wdf_top.specs.declared.input.TheConstants.{INPUT_LIMIT}
 use Rattle.wdf_top.specs.declared.refusal.Refusal.{Refusal}
 use Rattle.wdf_top.specs.declared.refusal.Refusal.TheVariants.{ReadFault, TooLarge, NoMemory, NoScene, NoPlan}
-use Rattle.wdf_top.specs.Answers.{Writing, Answers, HasPlan, HasNoPlan, IsRunDue, writes_run, writes_scene}
+use Rattle.wdf_top.specs.Answers.{Writing, HasPlan, IsRunDue, writes_run}
 use Rattle.wdf_top.specs.Causes.{IsCause}
 use Rattle.wdf_top.specs.Input.{TakesAll, TakesAtMost}
 use Rattle.wdf_top.specs.Refusals.{refusal_line, refusal_status, parse_line, plan_line, read_fault_line, too_large_line, no_memory_line}

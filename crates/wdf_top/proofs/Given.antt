@@ -1,9 +1,9 @@
 -- What a form that reads answers to its input.
-use Rattle.std.proofs.Common.{ℕ, ◌≡◌, ◌+◌, ◌<◌, ◌≤◌, ◌⊎◌, inl, inr, ◌++◌, IsTrue, false, List, [], length, Option, Some, None, Err, refl, sym, ap, ◌∙◌, arith, length-append, ◌≢◌}
+use Rattle.std.proofs.Common.{ℕ, ◌≡◌, ◌+◌, ◌<◌, ◌≤◌, ◌⊎◌, inl, inr, ◌++◌, IsTrue, false, List, [], length, Option, Some, None, sym, ap, ◌∙◌, arith, length-append, ◌≢◌}
 use Rattle.std.proofs.lemmas.List.{append-nil}
 use Rattle.wdf_base.specs.declared.plan.Plan.{Plan}
 use Rattle.wdf_scene.specs.declared.scene.Scene.{Scene}
-use Rattle.wdf_io.specs.Outside.{Gains, Takes, Rose}
+use Rattle.wdf_io.specs.Outside.{Gains, Takes}
 use Rattle.wdf_parse.proofs.Uniqueness.{one_stands}
 use Rattle.wdf_parse.specs.StandsFor.{StandsFor}
 use Rattle.wdf_plan.specs.declared.refusal.PlanRefusal.{PlanRefusal}
@@ -13,9 +13,9 @@ use Rattle.wdf_top.specs.declared.input.TheConstants.{INPUT_LIMIT}
 use Rattle.wdf_top.specs.Answers.{Writing, Answers, HasNoScene, HasNoPlan, HasPlan, writes_run, writes_scene}
 use Rattle.wdf_top.specs.Causes.{IsGiven, Stayed, Unhindered}
 use Rattle.wdf_top.specs.Input.{TakesAll, TakesAtMost, TakesCount, UsesUp}
-use Rattle.wdf_top.specs.Said.{Sinking, Says, IsCutShort}
+use Rattle.wdf_top.specs.Said.{Sinking, IsCutShort}
 use Rattle.wdf_core.specs.Served.{is_served}
-use Rattle.wdf_top.specs.Top.{Sourcing, IsAnswered, IsReadDue, IsRead, Tells, Usage, Canonical, Run, Later, Service}
+use Rattle.wdf_top.specs.Top.{Sourcing, IsAnswered, IsReadDue, Tells, Usage, Canonical, Run, Later, Service}
 use Rattle.wdf_top.proofs.Due.{ToldBy}
 
 -- ---- what was read

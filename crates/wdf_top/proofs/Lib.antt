@@ -5,3 +5,6 @@ pub mod Causes
 pub mod Ended
 pub mod Messages
 pub mod Writing
+pub mod Sinks
+pub mod Taken
+pub mod Serving

@@ -1,5 +1,5 @@
 -- The word of a limit is short.
-use Rattle.std.proofs.Common.{ℕ, ◌≤◌, length, lit≤}
+use Rattle.std.proofs.Common.{◌≤◌, length, lit≤}
 use Rattle.wdf_plan.specs.declared.limit.Limit.{Limit}
 use Rattle.wdf_plan.specs.declared.limit.Limit.TheVariants as limit
 use Rattle.wdf_plan.specs.Limits.{limit_word}

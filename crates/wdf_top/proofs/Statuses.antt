@@ -1,18 +1,16 @@
 -- Which statuses each form of words may answer, and what they come from.
 use Rattle.std.proofs.Common.{ℕ, ◌≡◌, ◌==◌, ◌||◌, ◌⊎◌, inl, inr, Bool, true, false, IsTrue, List, Option, Some, None, refl, sym, ap, ◌∙◌, arith, ◌≢◌}
-use Rattle.wdf_base.specs.declared.plan.Plan.{Plan}
 use Rattle.wdf_base.specs.declared.event.Ending.{Ending}
 use Rattle.wdf_base.specs.declared.event.Ending.TheVariants as ending
 use Rattle.wdf_scene.specs.declared.scene.Scene.{Scene}
-use Rattle.wdf_io.specs.Outside.{Gains, Rose}
+use Rattle.wdf_io.specs.Outside.{Rose}
 use Rattle.wdf_parse.specs.StandsFor.{StandsFor}
 use Rattle.wdf_top.specs.declared.words.Form.{Form}
 use Rattle.wdf_top.specs.declared.words.Form.TheVariants.{Check, Order, Seed, Replay, Gen, Load}
-use Rattle.wdf_top.specs.Answers.{Writing, Answers, IsRunDue, writes_run, writes_scene, status_of}
+use Rattle.wdf_top.specs.Answers.{Writing, Answers, writes_run, writes_scene, status_of}
 use Rattle.wdf_top.specs.Causes.{is_reading, is_status}
-use Rattle.wdf_top.specs.Said.{Sinking, Says, IsCutShort}
-use Rattle.wdf_top.specs.Top.{Sourcing, IsDue, IsAnswered, IsReadDue, Service, Tells, Usage, Canonical, Run, Later, service_of}
-use Rattle.wdf_top.proofs.Due.{ToldBy}
+use Rattle.wdf_top.specs.Said.{Sinking, IsCutShort}
+use Rattle.wdf_top.specs.Top.{Sourcing, IsDue, IsReadDue, Service, Tells, Usage, Canonical, Run, Later, service_of}
 
 -- ---- tests of statuses
 
@@ -118,7 +116,7 @@ due_listed Run s text status h = due_fits is_status writes_run (run_fits is_stat
 due_listed Later s text status h = rw h.2 refl
 
 -- what is due for words never has the status of a sink that failed
-due_no_sink : (v : Service) (s : Sourcing) (text : List ℕ) (status : ℕ) → IsDue v s text status → status ≡ 13 → ⊥
+pub due_no_sink : (v : Service) (s : Sourcing) (text : List ℕ) (status : ℕ) → IsDue v s text status → status ≡ 13 → ⊥
 due_no_sink Usage s text status h same = omega (arith, h.2)
 due_no_sink Canonical s text status h same = differs is_check_status 13 status refl (check_status s text status h) same
 due_no_sink Run s text status h same = differs is_order_status 13 status refl (order_status s text status h) same

@@ -1,5 +1,5 @@
 -- Lemmas on what a sink gains, and on the lines of a run.
-use Rattle.std.proofs.Common.{ℕ, zero, suc, ◌≡◌, ◌+◌, ◌<◌, ◌≤◌, List, [], ◌∷◌, ◌++◌, length, take, Option, Some, None, ◌⊎◌, inl, inr, refl, sym, ap, subst, ◌∙◌, arith, codes, length-append, append_assoc, slice_get}
+use Rattle.std.proofs.Common.{ℕ, zero, suc, ◌≡◌, ◌+◌, ◌<◌, ◌≤◌, List, [], ◌∷◌, ◌++◌, length, take, Option, Some, None, ◌⊎◌, inl, inr, refl, sym, ap, subst, ◌∙◌, arith, codes, length-append, append_assoc, slice_get, le_of_lt}
 use Rattle.std.proofs.lemmas.List.{append-nil}
 use Rattle.std.proofs.Math.Seq.{take-append-add}
 use Rattle.std.proofs.lemmas.List.{take-append-le}
@@ -95,5 +95,5 @@ cut_behind a b c first before after front piece rest text gained low high cut te
   rose = rose_later first before after low high cut.rose;
   size = length front + cut.size;
   within = omega (arith, ap length text_is, length-append (front ++ piece) rest, length-append front piece, cut.within);
-  front = rw (text_is, front_behind front piece rest cut.size cut.within) (gains_more a b c front (take cut.size piece) gained cut.front);
+  front = rw (text_is, front_behind front piece rest cut.size (le_of_lt cut.within)) (gains_more a b c front (take cut.size piece) gained cut.front);
 }

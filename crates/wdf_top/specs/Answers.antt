@@ -1,5 +1,5 @@
 -- What an input is answered: which text is to be written, and with which status. (own)
-use Rattle.std.specs.Prelude.{◌++◌, ℕ, ◌≡◌, ◌⊎◌, IsTrue, List, [], length, codes, Option, None, Some, false, Err}
+use Rattle.std.specs.Prelude.{◌++◌, ℕ, ◌≡◌, ◌⊎◌, IsTrue, List, [], length, codes, None, Some, false, Err}
 use Rattle.wdf_base.specs.declared.plan.Plan.{Plan}
 use Rattle.wdf_base.specs.declared.event.Event.{Event}
 use Rattle.wdf_base.specs.declared.event.Ending.{Ending}

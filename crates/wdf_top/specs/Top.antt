@@ -1,5 +1,5 @@
 -- What the program answers and what it writes, for each form of words. (own)
-use Rattle.std.specs.Prelude.{ℕ, ◌≡◌, ◌≤◌, ◌+◌, ◌⊎◌, ◌==◌, ◌||◌, Bool, true, false, List, length, codes, Option, None, Some}
+use Rattle.std.specs.Prelude.{ℕ, ◌≡◌, ◌≤◌, ◌+◌, ◌⊎◌, List, length, codes, Option, None, Some}
 use Rattle.wdf_io.specs.Outside.{Rose}
 use Rattle.wdf_base.specs.declared.plan.Plan.{Plan}
 use Rattle.wdf_top.specs.declared.words.Form.{Form}
@@ -9,6 +9,7 @@ use Rattle.wdf_top.specs.Answers.{Writing, Answers, writes_run, writes_scene, Is
 use Rattle.wdf_top.specs.Input.{TakesAll, TakesCount, TakesAtMost}
 use Rattle.wdf_top.specs.Refusals.{read_fault_line, too_large_line, no_memory_line}
 use Rattle.wdf_top.specs.Said.{Sinking, Says}
+use Rattle.wdf_top.specs.Words.{Arguments, form_of_words, words_behind}
 
 abbrev pub usage_line : List ℕ
 usage_line = codes "usage: kmdfsim check | order | seed N | run | replay | gen N | load N\n"
@@ -86,3 +87,10 @@ Tells service s k answer = (text : List ℕ) × (status : ℕ) × IsDue service 
 -- What becomes of a plan: what is due for it, or the line that memory is wanting; or a front of either.
 abbrev pub TellsPlan : Plan → Sinking → ℕ → Type 0
 TellsPlan plan k answer = (text : List ℕ) × (status : ℕ) × (IsRunDue plan text status ⊎ ((text ≡ no_memory_line) × (status ≡ 15))) × Says k text status answer
+
+-- What the program does for its arguments: what the top call does for the words behind its name; or memory for the
+-- words is refused, nothing is read, and that is told.
+abbrev pub Serves : Arguments → Sourcing → Sinking → ℕ → Type 0
+Serves arguments s k answer =
+    Tells (service_of (form_of_words (words_behind arguments))) s k answer
+    ⊎ (IsUnread s × Says k no_memory_line 15 answer)

@@ -1,5 +1,6 @@
 //! Reading the whole input.
 ghost use Rattle.std.specs.Prelude.{◌≡◌, ◌≢◌, ◌+◌, ◌≤◌, ◌<◌, ℕ, length, vec_len, vec_capacity, IfOk, IfErr, OnOk, OnErr};
+ghost use Rattle.std.specs.Io.KnownBytes.{Keeps};
 ghost use Rattle.wdf_io.specs.Outside.{Rose};
 ghost use Rattle.wdf_top.specs.Input.{UsesUp, TakesAll, ReadsInto, TakesCount, TakesAtMost};
 
@@ -41,6 +42,7 @@ impl From<AllocError> for InputError {
 ///
 /// `Fault` where a read failed, `TooLarge` where byte `INPUT_LIMIT + 1` was read, `Memory` where
 /// memory for the text was refused.
+#[tactic(auto, using(crate::proofs::Taken::at_most_kept))]
 pub fn read_whole<S: Source>(alloc: Global, source: &mut S) -> Result<Vec<u8>, InputError>
     ensures text { IfOk result (λ text. TakesAll (S.left source.old) (S.left source.new) text.items) }
     ensures small { IfOk result (λ text. vec_len text ≤ INPUT_LIMIT) }
@@ -65,6 +67,7 @@ pub fn read_whole<S: Source>(alloc: Global, source: &mut S) -> Result<Vec<u8>, I
 }
 
 /// Reads once, behind the text that is there, and answers how many bytes came: 0 at the end.
+#[tactic(auto, using(wdf_io::proofs::Pieces::keeps_same))]
 fn read_piece<S: Source>(
     source: &mut S,
     piece: &mut [u8; PIECE],
@@ -75,7 +78,7 @@ fn read_piece<S: Source>(
     ensures count { IfOk result (λ n. vec_len text.new ≡ vec_len text.old + n) }
     ensures within { vec_len text.new ≤ INPUT_LIMIT + 1 }
     ensures end { IfOk result (λ n. n ≡ 0 → UsesUp (S.left source.old) (S.left source.new)) }
-    ensures untouched { OnErr result (S.left source.new ≡ S.left source.old) }
+    ensures untouched { OnErr result (Keeps (S.left source.old) (S.left source.new)) }
     ensures never_large { result ≢ Err InputError.TooLarge }
 
     ensures fault { result ≡ Err InputError.Fault → Rose (S.faults source.old) (S.faults source.new) }

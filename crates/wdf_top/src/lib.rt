@@ -5,6 +5,7 @@ mod input;
 mod laws;
 mod message;
 mod order;
+mod program;
 mod refusal;
 mod say;
 mod scenario;
@@ -13,6 +14,7 @@ mod trace;
 mod words;
 
 pub use laws::plans_of_texts_are_resolved;
+pub use program::serve;
 pub use top::top_plain;
 
 #[cfg(test)]

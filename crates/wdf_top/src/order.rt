@@ -1,5 +1,6 @@
 //! The form `order`: the run of a plan.
 ghost use Rattle.std.specs.Prelude.{◌≡◌, [], IfOk, IsTrue};
+ghost use Rattle.wdf_io.specs.Outside.{EndsRefused};
 ghost use Rattle.wdf_model.specs.Runs.{Picked};
 ghost use Rattle.wdf_core.specs.Machine.{ready};
 ghost use Rattle.wdf_dev.specs.Agents.{agent_meaning};
@@ -22,6 +23,7 @@ pub fn order_plan<K: Sink>(alloc: Global, plan: Plan, sink: &mut K) -> u8
     ensures told { TellsPlan plan
         (sinking (K.written sink.old) (K.written sink.new) (K.faults sink.old) (K.faults sink.new))
         result }
+    ensures not_again { result ≡ 13 → EndsRefused K.refused K.faults sink.old sink.new }
 {
     if !is_served(&plan) {
         return say_not_built(sink);

@@ -1,4 +1,5 @@
-ghost use Rattle.std.specs.Prelude.{◌≡◌, ◌≤◌};
+ghost use Rattle.std.specs.Prelude.{◌≡◌, ◌≢◌, ◌≤◌};
+ghost use Rattle.wdf_io.specs.Outside.{EndsRefused};
 ghost use Rattle.wdf_top.specs.Answers.{not_built_line};
 ghost use Rattle.wdf_top.specs.Refusals.{refusal_line, refusal_status};
 ghost use Rattle.wdf_top.specs.Said.{Says, sinking};
@@ -19,6 +20,7 @@ const NOT_BUILT_STATUS: u8 = 16;
 pub fn say<K: Sink>(sink: &mut K, text: &[u8], status: u8) -> u8
     ensures said { Says (sinking (K.written sink.old) (K.written sink.new) (K.faults sink.old) (K.faults sink.new)) text.now status result }
     ensures never_falls { K.faults sink.old ≤ K.faults sink.new }
+    ensures not_again { status ≢ 13 → result ≡ 13 → EndsRefused K.refused K.faults sink.old sink.new }
 {
     match write_all(sink, text) {
         Ok(()) => status,
@@ -28,14 +30,17 @@ pub fn say<K: Sink>(sink: &mut K, text: &[u8], status: u8) -> u8
 
 /// Writes the line of what isn't built yet, and answers its status.
 pub fn say_not_built<K: Sink>(sink: &mut K) -> u8
-    ensures { Says (sinking (K.written sink.old) (K.written sink.new) (K.faults sink.old) (K.faults sink.new)) not_built_line 16 result }
+    ensures said { Says (sinking (K.written sink.old) (K.written sink.new) (K.faults sink.old) (K.faults sink.new)) not_built_line 16 result }
+    ensures not_again { result ≡ 13 → EndsRefused K.refused K.faults sink.old sink.new }
 {
     say(sink, NOT_BUILT, NOT_BUILT_STATUS)
 }
 
 /// Writes the line of a refusal, and answers its status.
+#[tactic(auto, using(crate::proofs::Sinks::refusal_no_sink))]
 pub fn tell<K: Sink>(sink: &mut K, refusal: Refusal) -> u8
-    ensures { Says (sinking (K.written sink.old) (K.written sink.new) (K.faults sink.old) (K.faults sink.new)) (refusal_line refusal) (refusal_status refusal) result }
+    ensures said { Says (sinking (K.written sink.old) (K.written sink.new) (K.faults sink.old) (K.faults sink.new)) (refusal_line refusal) (refusal_status refusal) result }
+    ensures not_again { result ≡ 13 → EndsRefused K.refused K.faults sink.old sink.new }
 {
     let line = refusal.line();
     say(sink, line.bytes(), refusal.status())

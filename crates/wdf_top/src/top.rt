@@ -3,7 +3,7 @@ ghost use Rattle.std.specs.Prelude.{◌≡◌, ◌≢◌, ◌≤◌, ◌<◌, �
 ghost use Rattle.wdf_base.specs.declared.plan.Plan.{Plan};
 ghost use Rattle.wdf_base.specs.declared.event.Ending.TheVariants as ending;
 ghost use Rattle.wdf_base.specs.declared.event.Fault.{Fault};
-ghost use Rattle.wdf_io.specs.Outside.{Rose, Gains};
+ghost use Rattle.wdf_io.specs.Outside.{Rose, Gains, EndsRefused};
 ghost use Rattle.wdf_plan.specs.declared.refusal.PlanRefusal.{PlanRefusal};
 ghost use Rattle.wdf_top.specs.Answers.{Orders, Checks, HasNoScene, HasNoPlan, HasPlan};
 ghost use Rattle.wdf_top.specs.Causes.{is_reading, is_later, is_status, Stayed, IsGiven, Unhindered, WroteRun};
@@ -124,6 +124,21 @@ pub fn top_plain<S: Source, K: Sink>(
         × IsDue (service_of (form_of_words (map string_bytes words.now)))
         (sourcing (S.left source.old) (S.left source.new) (S.faults source.old) (S.faults source.new)) text status
         × IsCutShort (sinking (K.written sink.old) (K.written sink.new) (K.faults sink.old) (K.faults sink.new)) text }
+    // 13 exactly: where a write failed, less than the whole text was written and the status is 13; where none failed
+    // the whole text was written and the status isn't 13. A sink isn't tried again after its failure.
+    ensures failed_write { K.faults sink.old < K.faults sink.new → (result ≡ 13) × ((text : List ℕ) × (status : ℕ)
+        × IsDue (service_of (form_of_words (map string_bytes words.now)))
+        (sourcing (S.left source.old) (S.left source.new) (S.faults source.old) (S.faults source.new)) text status
+        × IsCutShort (sinking (K.written sink.old) (K.written sink.new) (K.faults sink.old) (K.faults sink.new)) text) }
+    ensures no_failed_write { Stayed (K.faults sink.old) (K.faults sink.new) → (result ≢ 13) × ((text : List ℕ)
+        × IsDue (service_of (form_of_words (map string_bytes words.now)))
+        (sourcing (S.left source.old) (S.left source.new) (S.faults source.old) (S.faults source.new)) text result
+        × Gains (K.written sink.old) (K.written sink.new) text) }
+    ensures whole_text { result ≢ 13 → (K.faults sink.new ≡ K.faults sink.old) × ((text : List ℕ)
+        × IsDue (service_of (form_of_words (map string_bytes words.now)))
+        (sourcing (S.left source.old) (S.left source.new) (S.faults source.old) (S.faults source.new)) text result
+        × Gains (K.written sink.old) (K.written sink.new) text) }
+    ensures not_again { result ≡ 13 → EndsRefused K.refused K.faults sink.old sink.new }
     ensures too_large_only { result ≡ 14 → TakesCount (S.left source.old) (S.left source.new) 1048577 }
     ensures too_large_always { (input : List ℕ) → S.left source.old ≡ Some input
         → TakesCount (S.left source.old) (S.left source.new) 1048577 → (result ≡ 14) ⊎ (result ≡ 13) }
@@ -143,6 +158,7 @@ fn answer<S: Source, K: Sink>(alloc: Global, form: Option<Form>, source: &mut S,
         (sourcing (S.left source.old) (S.left source.new) (S.faults source.old) (S.faults source.new))
         (sinking (K.written sink.old) (K.written sink.new) (K.faults sink.old) (K.faults sink.new))
         result }
+    ensures not_again { result ≡ 13 → EndsRefused K.refused K.faults sink.old sink.new }
 {
     match form {
         None => say(sink, USAGE, USAGE_STATUS),
@@ -158,6 +174,7 @@ fn check<S: Source, K: Sink>(alloc: Global, source: &mut S, sink: &mut K) -> u8
         (sourcing (S.left source.old) (S.left source.new) (S.faults source.old) (S.faults source.new))
         (sinking (K.written sink.old) (K.written sink.new) (K.faults sink.old) (K.faults sink.new))
         result }
+    ensures not_again { result ≡ 13 → EndsRefused K.refused K.faults sink.old sink.new }
 {
     match read_canonical(alloc, source) {
         Ok(text) => say(sink, &text, 0),
@@ -171,6 +188,7 @@ fn order<S: Source, K: Sink>(alloc: Global, source: &mut S, sink: &mut K) -> u8
         (sourcing (S.left source.old) (S.left source.new) (S.faults source.old) (S.faults source.new))
         (sinking (K.written sink.old) (K.written sink.new) (K.faults sink.old) (K.faults sink.new))
         result }
+    ensures not_again { result ≡ 13 → EndsRefused K.refused K.faults sink.old sink.new }
 {
     match read_plan(alloc, source) {
         Ok(plan) => order_plan(alloc, plan, sink),

@@ -1,6 +1,6 @@
 //! Writing the trace of a run.
 ghost use Rattle.std.specs.Prelude.{◌≡◌, ◌≢◌, ◌+◌, ◌<◌, ◌≤◌, ◌++◌, length, codes, OnOk, OnErr};
-ghost use Rattle.wdf_io.specs.Outside.{Gains};
+ghost use Rattle.wdf_io.specs.Outside.{Gains, EndsRefused};
 ghost use Rattle.wdf_core.specs.Machine.{ending_of};
 ghost use Rattle.wdf_trace.specs.Lines.{line_text, lines_from};
 ghost use Rattle.wdf_top.specs.Said.{Says, IsCutShort, sinking};
@@ -17,7 +17,9 @@ fn write_line<K: Sink>(sink: &mut K, mut line: Line) -> Result<(), Failed>
     requires { length line < LINE_LIMIT }
     ensures whole { OnOk result (Gains (K.written sink.old) (K.written sink.new) (line ++ codes "\n")) }
     ensures cut { OnErr result (IsCutShort (sinking (K.written sink.old) (K.written sink.new) (K.faults sink.old) (K.faults sink.new)) (line ++ codes "\n")) }
+    ensures quiet { OnOk result (K.faults sink.new ≡ K.faults sink.old) }
     ensures never_falls { K.faults sink.old ≤ K.faults sink.new }
+    ensures not_again { OnErr result (EndsRefused K.refused K.faults sink.old sink.new) }
 {
     line.push_line_feed();
     write_all(sink, line.bytes())
@@ -32,7 +34,9 @@ fn write_event<K: Sink>(
 ) -> Result<(), Failed>
     ensures whole { OnOk result (Gains (K.written sink.old) (K.written sink.new) (line_text plan.now number event.now ++ codes "\n")) }
     ensures cut { OnErr result (IsCutShort (sinking (K.written sink.old) (K.written sink.new) (K.faults sink.old) (K.faults sink.new)) (line_text plan.now number event.now ++ codes "\n")) }
+    ensures quiet { OnOk result (K.faults sink.new ≡ K.faults sink.old) }
     ensures never_falls { K.faults sink.old ≤ K.faults sink.new }
+    ensures not_again { OnErr result (EndsRefused K.refused K.faults sink.old sink.new) }
 {
     write_line(sink, line_of(plan, number, event))
 }
@@ -41,7 +45,9 @@ fn write_event<K: Sink>(
 fn write_events<A: Agent, K: Sink>(core: &Core<A>, sink: &mut K) -> Result<(), Failed>
     ensures whole { OnOk result (Gains (K.written sink.old) (K.written sink.new) (lines_from core.now.plan 1 core.now.journal)) }
     ensures cut { OnErr result (IsCutShort (sinking (K.written sink.old) (K.written sink.new) (K.faults sink.old) (K.faults sink.new)) (lines_from core.now.plan 1 core.now.journal)) }
+    ensures quiet { OnOk result (K.faults sink.new ≡ K.faults sink.old) }
     ensures never_falls { K.faults sink.old ≤ K.faults sink.new }
+    ensures not_again { OnErr result (EndsRefused K.refused K.faults sink.old sink.new) }
 {
     for k in 0..core.journal_len() {
         let event = core.journal_at(k);
@@ -55,12 +61,14 @@ fn write_events<A: Agent, K: Sink>(core: &Core<A>, sink: &mut K) -> Result<(), F
 
 /// Writes the trace of a run that has ended, and answers the status of its ending, or
 /// [`SINK_FAULT`] where the sink fails. It takes no memory.
+#[tactic(auto, using(crate::proofs::Sinks::ending_no_sink, crate::proofs::Sinks::ends_later))]
 pub fn write_run<A: Agent, K: Sink>(core: &Core<A>, sink: &mut K) -> u8
     requires { ending_of A.meaning core.now.plan core.now.journal ≢ Ending.Running }
     ensures said { Says (sinking (K.written sink.old) (K.written sink.new) (K.faults sink.old) (K.faults sink.new))
         (text_of core.now.plan core.now.journal (length core.now.journal) (ending_of A.meaning core.now.plan core.now.journal))
         (status_of (ending_of A.meaning core.now.plan core.now.journal)) result }
     ensures never_falls { K.faults sink.old ≤ K.faults sink.new }
+    ensures not_again { result ≡ 13 → EndsRefused K.refused K.faults sink.old sink.new }
 {
     let ending = core.ending();
     match write_events(core, sink) {

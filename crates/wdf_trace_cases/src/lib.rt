@@ -1,7 +1,9 @@
-//! Tests of trace lines over worked runs: each line of a run's trace is read against the plan of its scenario, and
-//! written again as it stands.
+//! Tests over the traces of worked runs. Each line is read against the plan of its scenario, and written again as it is.
+//! The agents of the plan, fed the run's events, have each post due that the run has.
 #![tactic(auto)]
 
+#[cfg(test)]
+mod agents;
 #[cfg(test)]
 mod others;
 #[cfg(test)]

@@ -4,7 +4,7 @@ ghost use Rattle.wdf_base.specs.declared.event.Ending.TheVariants as ending;
 ghost use Rattle.wdf_worked.specs.Shown.{IsShown};
 ghost use Rattle.wdf_worked.specs.RunsOfPower.{deleted_timer_plan, deleted_timer_events, failed_start_plan, failed_start_events, leaked_reference_plan, leaked_reference_events, leaked_reference_waits, never_acknowledged_plan, never_acknowledged_events, never_acknowledged_waits, removed_plan, removed_events, sleep_and_wake_plan, sleep_and_wake_events};
 
-/// A timer's callback deletes its own timer, which is cleaned and ends with its callbacks.
+/// A timer's callback deletes its own timer, which is cleaned and destroyed with its callbacks.
 pub fn deleted_timer()
     ensures { IsShown deleted_timer_plan deleted_timer_events ending.Finished [] }
 {}

@@ -9,7 +9,7 @@ pub fn blocked_dpc()
     ensures { IsShown blocked_dpc_plan blocked_dpc_events ending.Stuck blocked_dpc_waits }
 {}
 
-/// Two work items take two wait locks in opposite order: the run is stuck, each frame behind the
+/// Two work items take two wait locks in opposite order: the run is stuck, each frame waiting for the
 /// other's lock.
 pub fn deadlock()
     ensures { IsShown deadlock_plan deadlock_events ending.Stuck deadlock_waits }

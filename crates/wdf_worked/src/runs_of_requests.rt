@@ -26,7 +26,7 @@ pub fn one_read()
     ensures { IsShown one_read_plan one_read_events ending.Finished [] }
 {}
 
-/// A purge that waits: what stands in a manual queue goes back through `EvtIoCanceledOnQueue`, and the
+/// A purge that waits: what waits in a manual queue goes back through `EvtIoCanceledOnQueue`, and the
 /// work item goes on when all of it is completed.
 pub fn purged()
     ensures { IsShown purged_plan purged_events ending.Finished [] }

@@ -1,6 +1,6 @@
--- What the parts of a state keep of one another, as tests. A part counts or notes what others tell in
+-- What the parts of a state keep of one another, as tests. A part counts or notes what others say in
 -- full: how many requests are held from a queue, the levels of a frame's locks, which step's callback
--- runs. Each test says that it agrees with what it stands for; every state of a run passes them.
+-- runs. Each test says that it agrees with what it counts or notes; every state of a run passes them.
 use Rattle.std.specs.Prelude.{if◌then◌else◌, ℕ, max, Bool, true, false, ◌==◌, not, ◌&&◌, List, [], ◌∷◌, ◌++◌, length, map, filter, fold, count_by, Option, Some, None}
 use Rattle.std.specs.Bool.{beq}
 use Rattle.std.specs.List.{flat_map, list_all, list_any, range_with_len}
@@ -30,27 +30,22 @@ use Rattle.wdf_model.specs.rules.Faults.{is_acquire}
 
 -- ---- the level of a processor, by the locks that its top frame holds or spins for (KMDF)
 
-abbrev pub level_of_kind : Plan → ℕ → Kind → ℕ
-level_of_kind plan o kind.SpinLock = 2
-level_of_kind plan o kind.Interrupt = interrupt_level plan o
-level_of_kind plan o _ = 0
-
-abbrev pub level_of_lock : Plan → Tree → LockRef → ℕ
-level_of_lock plan T (lock.Object o) = level_of_kind plan o.0 (kind_of T o.0)
-level_of_lock plan T _ = 0
+abbrev pub level_of_lock : {A : Type 0} → Plan → State A → LockRef → ℕ
+level_of_lock plan S (lock.Object o) = lock_level plan S o.0
+level_of_lock plan S _ = 0
 
 abbrev pub levels_held : {A : Type 0} → Plan → State A → ℕ → List ℕ
-levels_held plan S f = map (λ (h : Held). level_of_lock plan S.tree h.lock) (filter (λ h. h.frame.0 == f) S.locks.held)
+levels_held plan S f = map (λ (h : Held). level_of_lock plan S h.lock) (filter (λ h. h.frame.0 == f) S.locks.held)
 
 -- the lock that a pending call asks for
-abbrev pub level_awaited : Plan → Option Pending → List ℕ
-level_awaited plan None = []
-level_awaited plan (Some p) = if is_acquire p.call.kind then lock_level plan p.call.kind (object_in p.call.a) ∷ [] else []
+abbrev pub level_awaited : {A : Type 0} → Plan → State A → Option Pending → List ℕ
+level_awaited plan S None = []
+level_awaited plan S (Some p) = if is_acquire p.call.kind then lock_level plan S (object_in p.call.a) ∷ [] else []
 
 abbrev pub level_by_locks : {A : Type 0} → Plan → State A → Option ℕ → ℕ
 level_by_locks plan S None = 0
 level_by_locks plan S (Some f) =
-    fold max (running S.cpus f).level.0 (levels_held plan S f ++ level_awaited plan (frame_of S.cpus f).pending)
+    fold max (running S.cpus f).level.0 (levels_held plan S f ++ level_awaited plan S (frame_of S.cpus f).pending)
 
 abbrev pub levels_agree : {A : Type 0} → Plan → State A → Bool
 levels_agree plan S =
@@ -80,9 +75,9 @@ abbrev pub unsettled_agrees : {A : Type 0} → Plan → State A → Bool
 unsettled_agrees plan S =
     list_all (λ d. length (unsettled S.power d) == length (unsettled_of plan S d) && list_all (λ r. contains r (unsettled S.power d)) (unsettled_of plan S d)) (devices_of plan)
 
--- ---- lines, targets and steps
+-- ---- queues, targets and steps
 
--- a request is Queued exactly where it stands in the queue's line, once
+-- a request is Queued exactly where it waits in that queue, once
 abbrev pub lines_agree : {A : Type 0} → Plan → State A → Bool
 lines_agree plan S =
     list_all (λ q. list_all (λ r. count_by (λ x. x == r) (waiting_in S.queues q) == (if is_queued_in q (place_of S.requests r) then 1 else 0)) (ids_of S.tree.nodes)) (declared_ids plan)

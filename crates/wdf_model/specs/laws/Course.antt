@@ -9,14 +9,14 @@ use Rattle.wdf_base.specs.declared.wait.WaitLine.{WaitLine}
 use Rattle.wdf_model.specs.State.{State, opening}
 use Rattle.wdf_model.specs.rules.Steps.{after}
 use Rattle.wdf_model.specs.rules.Ready.{IsPickedRun, ready_in, fault_in, unless_fault, ending_by, ending_of}
-use Rattle.wdf_model.specs.agents.{Agent, agents}
+use Rattle.wdf_model.specs.agents.AnyAgent.{AnyAgent, agents}
 use Rattle.wdf_model.specs.rules.Waits.{if_stuck, wait_lines}
 
--- a run so far: its events, the state after them, what may follow, and how it stands
+-- a run so far: its events, the state after them, what may follow, and how it ends
 pub record Course : Type 0 where
   pub plan : Plan
   pub events : List Event
-  pub state : State Agent
+  pub state : State AnyAgent
   pub ending : Ending
 
 abbrev pub events_of : Course → List Event
@@ -28,29 +28,29 @@ ending_at c = c.ending
 abbrev pub waits_at : Course → List WaitLine
 waits_at c = if_stuck c.ending (wait_lines c.plan agents c.state)
 
-abbrev pub stopped : Plan → List Event → State Agent → Option Fault → Course
+abbrev pub stopped : Plan → List Event → State AnyAgent → Option Fault → Course
 stopped plan events S x = record { plan = plan; events = events; state = S; ending = ending_by plan agents S x (unless_fault x (ready_in plan agents S)) }
 
 -- a run with the picked event, if there is one
-abbrev pub with_picked : (List Event → State Agent → Option Fault → Course) → Plan → List Event → State Agent → Option Fault → Option Event → Course
+abbrev pub with_picked : (List Event → State AnyAgent → Option Fault → Course) → Plan → List Event → State AnyAgent → Option Fault → Option Event → Course
 with_picked next plan events S x None = stopped plan events S x
 with_picked next plan events S x (Some e) = next (events ++ e ∷ []) (after plan agents S e) (fault_in e)
 
 abbrev pub pick : List ℕ → List Event → Option Event
 pick picks ready = slice_get ready (slice_index picks 0 % length ready)
 
-abbrev pub run_from : ℕ → Plan → List ℕ → List Event → State Agent → Option Fault → Course
+abbrev pub run_from : ℕ → Plan → List ℕ → List Event → State AnyAgent → Option Fault → Course
 run_from zero plan picks events S x = stopped plan events S x
 run_from (suc turns) plan picks events S x =
     with_picked (run_from turns plan (drop 1 picks)) plan events S x (pick picks (unless_fault x (ready_in plan agents S)))
 
 -- the run of the plan's picks, with at most so many events
 unfoldable pub run_by : Plan → ℕ → Course
-run_by plan turns = run_from turns plan plan.picks [] (opening agents plan) None
+run_by plan turns = run_from turns plan plan.picks [] (opening plan agents) None
 
 -- ---- worked runs
 
 -- these events are the run that the plan's picks determine, from its opening to where nothing may follow, and this is how it ends
 pub record IsWorked (plan : Plan) (events : List Event) (ending : Ending) : Type 0 where
-  pub run : IsPickedRun agents plan plan.picks events
-  pub ends : ending_of agents plan events ≡ ending
+  pub run : IsPickedRun plan agents plan.picks events
+  pub ends : ending_of plan agents events ≡ ending

@@ -18,7 +18,7 @@ pub record MovesOnlyFrame {A : Type 0} (f : ℕ) (old new : State A) : Type 0 wh
   pub level : (running new.cpus f).level ≡ (running old.cpus f).level
   pub levels : new.cpus.levels ≡ old.cpus.levels
 
--- an event starts a callback on an object that is gone, cleans one up or ends one
+-- an event starts a callback on an object that is gone, cleans one up or destroys one
 abbrev pub touches_gone : Tree → Event → Bool
 touches_gone T (event.Start cpu c o r) = is_gone (life_of T o.id.0)
 touches_gone T (event.Cleanup o) = is_gone (life_of T o.id.0)

@@ -1,4 +1,4 @@
--- What holds where a deed is done: for each deed the test that stands before it in every run, whatever
+-- What holds where a deed is done: for each deed the test that holds before it in every run, whatever
 -- the agents are. The laws over all runs rest on these alone.
 use Rattle.std.specs.Prelude.{ℕ, Bool, true, false, nat_lt, not, ◌&&◌, ◌||◌, List, [], ◌∷◌, is_some}
 use Rattle.wdf_base.specs.declared.plan.Plan.{Plan}
@@ -17,7 +17,7 @@ use Rattle.wdf_model.specs.parts.Pnp.{busy, is_running_step, next_step}
 use Rattle.wdf_model.specs.parts.Targets.{is_undone, routine_due}
 use Rattle.wdf_model.specs.State.{State, is_with_driver}
 use Rattle.wdf_model.specs.rules.Deeds.{Deed, do_deed, Create, Make_request, Arrive, Unrefer, Note, Clean_up, End_life, Take_lock, Present, Receive, Requeue, Forward, Give_back, Withdraw, Mark_request, Unmark_request, Cancel_request, Take_cancel, Send_request, Finish_sending, Come_back, Complete_request, Acknowledge, Ask_stop, Resume, Ask_device, Take_step}
-use Rattle.wdf_model.specs.rules.Faults.{is_request_kind}
+use Rattle.wdf_model.specs.rules.Faults.{is_never_deleted, is_request_kind}
 use Rattle.wdf_model.specs.rules.Calls.{may_send}
 use Rattle.wdf_model.specs.rules.Starts.{clean_ready, destroy_ready}
 
@@ -31,7 +31,7 @@ is_arrival_place _ = false
 abbrev pub is_given : {A : Type 0} → State A → ℕ → Bool
 is_given S r = is_owned (place_of S.requests r) && same_kind (kind_of S.tree r) kind.Request
 
--- a request that isn't in a line, and isn't completed or about to be
+-- a request that isn't in a queue, and isn't completed or about to be
 abbrev pub is_reached : Place → Bool
 is_reached (place.Returning q) = true
 is_reached place.Owned = true
@@ -39,8 +39,8 @@ is_reached (place.Sent t) = true
 is_reached _ = false
 
 abbrev pub fits : {A : Type 0} → Plan → Deed → State A → Bool
--- an object is made under a live parent while there is room, and is no request
-fits plan (Create k class parent) S = is_live (life_of S.tree parent) && not (is_full S.tree) && not (is_request_kind k)
+-- an object is made under a live parent while there is room, and is no request and nothing that is declared
+fits plan (Create k class parent) S = is_live (life_of S.tree parent) && not (is_full S.tree) && not (is_request_kind k) && not (is_never_deleted k)
 fits plan (Make_request class parent) S = is_live (life_of S.tree parent) && not (is_full S.tree)
 -- a request arrives at a live device, with a number of its own, and waits or is closing
 fits plan (Arrive device info p) S = is_live (life_of S.tree device) && nat_lt 0 info.arrival && is_arrival_place p

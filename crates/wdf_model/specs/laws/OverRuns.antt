@@ -1,7 +1,12 @@
 -- What is so at each place of every run, whatever the plan and the agents are.
-use Rattle.std.specs.Prelude.{ℕ, ◌≡◌, ◌≤◌, ◌==◌, Bool, true, false, ◌&&◌, List, count_by, take, Option, Some, None, slice_get}
+use Rattle.std.specs.Prelude.{ℕ, ◌≡◌, ◌≤◌, ◌<◌, ◌==◌, length, Bool, true, false, ◌&&◌, List, count_by, take, Option, Some, None, slice_get, option_and_then}
 use Rattle.std.specs.List.{list_any}
+use Rattle.wdf_base.specs.declared.plan.Plan.{Plan}
 use Rattle.wdf_base.specs.declared.ids.Handle.{Handle}
+use Rattle.wdf_base.specs.declared.object.Kind.{Kind}
+use Rattle.wdf_base.specs.declared.object.Kind.TheVariants as kind
+use Rattle.wdf_base.specs.Kinds.{declared_kind}
+use Rattle.wdf_base.specs.Plan.{declared_of}
 use Rattle.wdf_base.specs.declared.call.CallKind.TheVariants as call
 use Rattle.wdf_base.specs.declared.event.Event.{Event}
 use Rattle.wdf_base.specs.declared.event.Event.TheVariants as event
@@ -9,15 +14,37 @@ use Rattle.wdf_base.specs.declared.event.Post.{Post}
 use Rattle.wdf_base.specs.declared.event.Post.TheVariants as post
 use Rattle.wdf_base.specs.Same.{same_call_kind}
 use Rattle.wdf_model.specs.Tables.{flag}
+use Rattle.wdf_model.specs.parts.Tree.{kind_of, nearest_device}
+use Rattle.wdf_model.specs.parts.Cpus.{all_frames, frame_of}
 use Rattle.wdf_model.specs.parts.Requests.{is_queued_in, is_sent_to, place_of}
 use Rattle.wdf_model.specs.parts.Queues.{waiting_in}
 use Rattle.wdf_model.specs.parts.Targets.{the_target}
 use Rattle.wdf_model.specs.State.{State, object_in}
 
--- A request is Queued exactly where it stands in that queue's line, once, and Sent exactly where that target has it, once.
+-- the kinds that only the scenario declares
+abbrev pub is_declared_kind : Kind → Bool
+is_declared_kind kind.Driver = true
+is_declared_kind kind.Device = true
+is_declared_kind kind.Queue = true
+is_declared_kind kind.Interrupt = true
+is_declared_kind kind.Target = true
+is_declared_kind _ = false
+
+-- A request is Queued exactly where it waits in that queue, once, and Sent exactly where that target has it, once.
 pub record PlacesAgree {A : Type 0} (S : State A) : Type 0 where
   pub queued : (q r : ℕ) → count_by (λ x. x == r) (waiting_in S.queues q) ≡ flag (is_queued_in q (place_of S.requests r))
   pub sent : (t r : ℕ) → count_by (λ s. s.request.0 == r) (the_target S.targets t).sent ≡ flag (is_sent_to t (place_of S.requests r))
+
+-- An object of a kind that only the scenario declares is a declared one, of that kind.
+pub record DeclaredAgree {A : Type 0} (plan : Plan) (S : State A) : Type 0 where
+  pub declared : (o : ℕ) → is_declared_kind (kind_of S.tree o) ≡ true → option_and_then declared_kind (declared_of plan o) ≡ Some (kind_of S.tree o)
+
+-- Each frame is there once, on a processor or parked; its number is that of an event of the run; and it knows the nearest device of its object.
+pub record FramesAgree {A : Type 0} (S : State A) : Type 0 where
+  pub once : (f : ℕ) → count_by (λ x. x == f) (all_frames S.cpus) ≤ 1
+  pub numbered : (f : ℕ) → 1 ≤ count_by (λ x. x == f) (all_frames S.cpus) → f ≤ S.number
+  pub device : (f : ℕ) → 1 ≤ count_by (λ x. x == f) (all_frames S.cpus) → (frame_of S.cpus f).device.id.0 ≡ nearest_device S.tree (frame_of S.cpus f).object.id.0
+  pub object : (f : ℕ) → 1 ≤ count_by (λ x. x == f) (all_frames S.cpus) → (frame_of S.cpus f).object.id.0 < length S.tree.nodes
 
 -- an event completes a request: the driver's call, or the framework
 abbrev pub completes : ℕ → Event → Bool

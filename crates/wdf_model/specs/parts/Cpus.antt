@@ -26,7 +26,7 @@ pub record Cpus : Type 0 where
 abbrev pub no_handle : Handle
 no_handle = record { id = record { 0 = 0 }; name = 0 }
 
--- the frame that stands where none is
+-- the frame where none is
 abbrev pub blank_frame : Frame
 blank_frame = record {
   callback = callback.EvtDestroyCallback;
@@ -100,9 +100,6 @@ is_running C c device =
     list_any (λ f. same_callback (frame_of C f).callback c && (frame_of C f).device.id.0 == device) (all_frames C)
 
 -- ---- acts
-
-abbrev pub with_stack : Cpus → ℕ → List ℕ → Cpus
-with_stack C cpu fs = record C { stacks = put [] C.stacks cpu fs }
 
 -- a frame begins on a processor
 abbrev pub push : Cpus → ℕ → ℕ → Frame → ℕ → Cpus

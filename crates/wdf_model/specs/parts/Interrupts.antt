@@ -9,7 +9,7 @@ pub record Interrupts : Type 0 where
 abbrev pub is_enabled : Interrupts → ℕ → Bool
 is_enabled I i = entry false I.enabled i
 
--- the service routine is due: the line is 1 and the interrupt is enabled
+-- the service routine is due: its level line is 1 and it is enabled
 abbrev pub isr_due : Interrupts → ℕ → Bool → Bool
 isr_due I i line = line && is_enabled I i
 

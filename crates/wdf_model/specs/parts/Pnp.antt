@@ -106,7 +106,7 @@ tail_steps p ever = run p callback.EvtDeviceReleaseHardware ++ end_steps p ever
 abbrev pub steps_off : DeviceSteps → Bool → Ask → List Step
 -- own: its hardware, and the first power-up
 steps_off p ever asks.Start = hard_steps p ++ up_steps p ever
--- own: it ends without ever having worked
+-- own: it is removed without ever having worked
 steps_off p ever asks.Remove = pass stage.Closed ++ pass stage.Removed
 steps_off p ever asks.Surprise = pass stage.Closed ++ pass stage.Removed
 steps_off p ever _ = []
@@ -163,7 +163,7 @@ is_running_step Q d = is_some (running_step Q d)
 abbrev pub busy : Pnp → ℕ → Bool
 busy Q d = is_running_step Q d || not (length (steps_left Q d) == 0)
 
--- `queues_up` is what stands before this step in the list Up
+-- `queues_up` is what comes before this step in the list Up
 abbrev pub follows_up : Sequence → Option Step → Bool
 follows_up q (Some (step.Run c i)) = same_callback c callback.EvtDeviceSelfManagedIoInit || same_callback c callback.EvtDeviceSelfManagedIoRestart
 follows_up q (Some (step.Pass stage.Working i)) = length (run q.steps (self_managed_start q.ever_working)) == 0
@@ -203,14 +203,14 @@ taken Q d = with_sequence Q d taken_step
 abbrev pub is_success : Value → Bool
 is_success v = same_value v (Stat status.Success)
 
--- what is left after a callback that failed: a refused query empties the list; a failed start ends the device
+-- what is left after a callback that failed: a refused query empties the list; a failed start removes the device
 abbrev pub left_after_failure : Sequence → Callback → List Step
 -- own: a refused query leaves the device as it was
 left_after_failure q callback.EvtDeviceQueryStop = []
 left_after_failure q callback.EvtDeviceQueryRemove = []
--- own: a device that can't prepare its hardware ends, and has none to release
+-- own: a device that can't prepare its hardware is removed, and has none to release
 left_after_failure q callback.EvtDevicePrepareHardware = end_steps q.steps q.ever_working
--- own: a device that can't power up ends
+-- own: a device that can't power up is removed
 left_after_failure q callback.EvtDeviceD0Entry = tail_steps q.steps q.ever_working
 left_after_failure q _ = q.left
 
@@ -249,10 +249,6 @@ device_steps plan d = record {
   callbacks = filter (λ c. declares plan c d) DEVICE_CALLBACKS;
   interrupts = map (interrupt_steps plan) (interrupts_of plan d);
 }
-
--- the steps that a post gives a device of the plan, in a phase
-abbrev pub steps_of : Plan → ℕ → Bool → Phase → Ask → List Step
-steps_of plan d ever phase a = steps_for (device_steps plan d) ever phase a
 
 -- own: a working device was powered up, without callbacks
 abbrev pub opening_phase : Bool → Phase

@@ -134,7 +134,7 @@ advance P d (step.Pass s i) = advance_stage P d s
 
 -- ---- the opening
 
--- own: a working device stands as if a power-up without callbacks had ended
+-- own: a working device is as if a power-up without callbacks had ended
 abbrev pub opening_device_power : Option DeviceInfo → DevicePower
 opening_device_power None = no_device_power
 opening_device_power (Some d) = record { up = d.working; hardware = d.working }

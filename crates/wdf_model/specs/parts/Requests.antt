@@ -1,5 +1,5 @@
 -- The requests: places, marks, and what is kept of each. (KMDF, but for what is marked own)
-use Rattle.std.specs.Prelude.{if◌then◌else◌, ℕ, ◌+◌, Bool, true, false, ◌==◌, nat_lt, ◌&&◌, ◌||◌, List, [], find, slice_set, Option, Some, None, is_none, option_map}
+use Rattle.std.specs.Prelude.{if◌then◌else◌, ℕ, ◌+◌, Bool, true, false, ◌==◌, nat_lt, ◌&&◌, ◌||◌, List, [], find, map, slice_set, Option, Some, None, is_none, option_map}
 use Rattle.wdf_base.specs.declared.ids.ObjectId.{ObjectId}
 use Rattle.wdf_base.specs.declared.value.Status.{Status}
 use Rattle.wdf_base.specs.declared.value.Status.TheVariants as status
@@ -185,6 +185,21 @@ take_cancel R r = with_request R r (with_mark marks.Taken)
 
 abbrev pub complete : Requests → ℕ → Requests
 complete R r = move_to R r place.Done
+
+-- a request at one of some places is to be completed with CANCELLED
+abbrev pub closed_at : (Place → Bool) → Request → Request
+closed_at here r = if here r.place then moved (place.Closing status.Cancelled) r else r
+
+-- what returns to a queue is to be completed with CANCELLED
+abbrev pub close_returning : Requests → ℕ → Requests
+close_returning R q = record R { all = map (closed_at (is_returning_to q)) R.all }
+
+abbrev pub is_in : ℕ → Place → Bool
+is_in q p = is_queued_in q p || is_returning_to q p
+
+-- what waits in a queue or returns to it is to be completed with CANCELLED
+abbrev pub close : Requests → ℕ → Requests
+close R q = record R { all = map (closed_at (is_in q)) R.all }
 
 -- a request that the framework is done with: completed, or made by the driver and given to nobody
 abbrev pub is_over : Request → Bool

@@ -47,9 +47,6 @@ is_forgotten_sending (Some s) = s.forgotten
 abbrev pub is_forgotten : Targets → ℕ → Bool
 is_forgotten T r = is_forgotten_sending (sending_of T r)
 
-abbrev pub outcome_of : Sending → Option Status
-outcome_of s = s.outcome
-
 abbrev pub is_at_target : Option Status → Bool
 is_at_target None = true
 is_at_target (Some s) = false

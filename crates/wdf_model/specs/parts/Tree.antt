@@ -21,7 +21,7 @@ use Rattle.wdf_model.specs.Plans.{name_of_class}
 use Rattle.wdf_model.specs.declared.entries.Node.{Node}
 
 pub record Tree : Type 0 where
-  -- the most counted objects that stand at one time
+  -- the most counted objects at one time
   pub limit : ℕ
   -- the objects by id; the id 0 is none
   pub nodes : List Node
@@ -141,7 +141,7 @@ name_as plan (Some d) = unwrap_or (declared_name d) 0
 abbrev pub handle_of : Plan → Tree → ℕ → Handle
 handle_of plan T o = record { id = record { 0 = o }; name = name_as plan (declared_as plan T o) }
 
--- ---- who stands above whom
+-- ---- who is above whom
 
 -- the nearest devices of the objects, from those before them: itself for a device, else its parent's, else the driver object
 abbrev pub own_device : List ℕ → ℕ → Node → ℕ
@@ -231,7 +231,7 @@ ask_delete T o = fold ask_one T (subtree T o)
 abbrev pub clean : Tree → ℕ → Tree
 clean T o = with_node T o (with_life life.Cleaned)
 
--- an object ends, and nothing of it is kept
+-- an object is destroyed, and nothing of it is kept
 abbrev pub destroy : Tree → ℕ → Tree
 destroy T o = with_node T o (λ _. gone)
 

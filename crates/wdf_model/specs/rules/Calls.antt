@@ -20,18 +20,18 @@ use Rattle.wdf_model.specs.declared.enums.Mode.TheVariants as mode
 use Rattle.wdf_model.specs.declared.entries.Request.{Request}
 use Rattle.wdf_model.specs.Tables.{flag}
 use Rattle.wdf_model.specs.Plans.{declares, device_of_queue, has_handler, interrupt_level, is_manual_queue, is_parallel_queue, kind_of_class, name_of_class, parent_of_class}
-use Rattle.wdf_model.specs.parts.Tree.{life_of, is_live, is_full, next_id, cell_of}
+use Rattle.wdf_model.specs.parts.Tree.{life_of, is_live, is_full, next_id, cell_of, kind_of}
 use Rattle.wdf_model.specs.parts.Cpus.{nobody_on}
 use Rattle.wdf_model.specs.parts.Locks.{object_lock, is_free_lock}
 use Rattle.wdf_model.specs.parts.Requests.{info_of, origin_of, is_cancelled, is_returning_to, mark_answer, unmark_answer}
-use Rattle.wdf_model.specs.parts.Queues.{front, held_count, is_empty_queue}
+use Rattle.wdf_model.specs.parts.Queues.{front, held_count, is_empty_queue, waiting_in}
 use Rattle.wdf_model.specs.parts.Control.{accepts, mode_of, is_purged}
 use Rattle.wdf_model.specs.parts.Interrupts.{is_enabled}
 use Rattle.wdf_model.specs.parts.Deferred.Dpcs.{is_dpc_queued}
 use Rattle.wdf_model.specs.parts.Deferred.WorkItems.{is_work_queued}
 use Rattle.wdf_model.specs.parts.Deferred.Timers.{is_timer_queued}
 use Rattle.wdf_model.specs.parts.Targets.{takes_more, is_undone}
-use Rattle.wdf_model.specs.State.{State, object_in, queue_delivers, nothing_at, handle_in}
+use Rattle.wdf_model.specs.State.{State, object_in, queue_delivers, nothing_at, handle_in, returns_to}
 use Rattle.wdf_model.specs.rules.Deeds.{Deed, Create, Make_request, Ask_deletion, Refer, Unrefer, Write_cell, Raise, Lower, Take_lock, Release_lock, Present, Requeue, Forward, Give_back, Mark_request, Unmark_request, Send_request, Complete_request, Set_mode, Purge_queue, Register_queue, Acknowledge, Enqueue_dpc, Cancel_dpc, Enqueue_work, Start_timer, Stop_timer, Stop_target, Start_target}
 use Rattle.wdf_model.specs.rules.Faults.{arg_is}
 
@@ -49,10 +49,6 @@ value_in (Class c) = Num 0
 abbrev pub number_in : Arg → ℕ
 number_in (Val (Num n)) = n
 number_in _ = 0
-
-abbrev pub status_in : Arg → Status
-status_in (Val (Stat s)) = s
-status_in _ = status.Success
 
 abbrev pub class_in : Arg → ℕ
 class_in (Class c) = c
@@ -166,13 +162,14 @@ work_outcome S o = if is_live (life_of S.tree o) then success (Enqueue_work o �
 
 -- ---- locks
 
--- the level of the lock that a call acquires or releases (KMDF)
-abbrev pub lock_level : Plan → CallKind → ℕ → ℕ
-lock_level plan call.WdfSpinLockAcquire o = 2
-lock_level plan call.WdfSpinLockRelease o = 2
-lock_level plan call.WdfInterruptAcquireLock o = interrupt_level plan o
-lock_level plan call.WdfInterruptReleaseLock o = interrupt_level plan o
-lock_level plan _ o = 0
+-- the level of an object's lock, by its kind (KMDF)
+abbrev pub level_of_kind : Plan → ℕ → Kind → ℕ
+level_of_kind plan o kind.SpinLock = 2
+level_of_kind plan o kind.Interrupt = interrupt_level plan o
+level_of_kind plan o _ = 0
+
+abbrev pub lock_level : {A : Type 0} → Plan → State A → ℕ → ℕ
+lock_level plan S o = level_of_kind plan o (kind_of S.tree o)
 
 -- a frame has the level of a lock while it holds it, and while it spins for it
 abbrev pub acquire_outcome : ℕ → ℕ → Outcome
@@ -210,17 +207,17 @@ outcome plan S cpu f c = elim c.kind as (λ _. Outcome) [
   -- own: a context cell takes a value
   | call.SetContext ↦ success (Write_cell (object_in c.a) (number_in c.b) (value_in c.c) ∷ [])
   -- KMDF: waits on its processor at DISPATCH_LEVEL until the lock is free
-  | call.WdfSpinLockAcquire ↦ acquire_outcome f (lock_level plan c.kind (object_in c.a))
+  | call.WdfSpinLockAcquire ↦ acquire_outcome f (lock_level plan S (object_in c.a))
   -- KMDF: the lock is free
-  | call.WdfSpinLockRelease ↦ release_outcome f (object_in c.a) (lock_level plan c.kind (object_in c.a))
+  | call.WdfSpinLockRelease ↦ release_outcome f (object_in c.a) (lock_level plan S (object_in c.a))
   -- KMDF: waits until the lock is free
-  | call.WdfWaitLockAcquire ↦ acquire_outcome f (lock_level plan c.kind (object_in c.a))
+  | call.WdfWaitLockAcquire ↦ acquire_outcome f (lock_level plan S (object_in c.a))
   -- KMDF: the lock is free
-  | call.WdfWaitLockRelease ↦ release_outcome f (object_in c.a) (lock_level plan c.kind (object_in c.a))
+  | call.WdfWaitLockRelease ↦ release_outcome f (object_in c.a) (lock_level plan S (object_in c.a))
   -- KMDF: waits on its processor at the interrupt's level; for a passive interrupt at level 0
-  | call.WdfInterruptAcquireLock ↦ acquire_outcome f (lock_level plan c.kind (object_in c.a))
+  | call.WdfInterruptAcquireLock ↦ acquire_outcome f (lock_level plan S (object_in c.a))
   -- KMDF: the lock is free
-  | call.WdfInterruptReleaseLock ↦ release_outcome f (object_in c.a) (lock_level plan c.kind (object_in c.a))
+  | call.WdfInterruptReleaseLock ↦ release_outcome f (object_in c.a) (lock_level plan S (object_in c.a))
   -- KMDF: the request is done; it and what is below it are deleted
   | call.WdfRequestComplete ↦ success (Complete_request (object_in c.a) ∷ [])
   -- KMDF: cancelable, or CANCELLED where it is cancelled; own: INVALID_DEVICE_REQUEST without an EvtRequestCancel
@@ -310,6 +307,19 @@ is_met S c = elim c.kind as (λ _. Bool) [
   -- KMDF: nothing is sent to the target, unless it is left there
   | call.WdfIoTargetStop ↦ arg_is c.b 2 || nothing_at S (object_in c.a)
   | _ ↦ true
+]
+
+-- what a purge of a queue makes return to it: a waiting request that the driver had before
+abbrev pub purge_returns : {A : Type 0} → Plan → State A → ℕ → Bool
+purge_returns plan S q = returns_to plan S q && list_any (λ r. (info_of S.requests r).received) (waiting_in S.queues q)
+
+-- whether the wait of a call is over once its first part is done, said of the state before it
+abbrev pub is_met_then : {A : Type 0} → Plan → State A → Call → Bool
+is_met_then plan S c = elim c.kind as (λ _. Bool) [
+  -- KMDF: its purge makes nothing return either
+  | call.WdfIoQueuePurgeSynchronously ↦ is_met S c && not (purge_returns plan S (object_in c.a))
+  -- the first part of another call leaves alone what it waits for
+  | _ ↦ is_met S c
 ]
 
 -- what is done when the wait of frame f's call is over: a lock is taken

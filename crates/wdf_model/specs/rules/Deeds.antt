@@ -16,11 +16,12 @@ use Rattle.wdf_base.specs.declared.call.Callback.{Callback}
 use Rattle.wdf_base.specs.declared.event.Ask.{Ask}
 use Rattle.wdf_base.specs.declared.event.Step.{Step}
 use Rattle.wdf_base.specs.declared.event.Event.{Event}
+use Rattle.wdf_base.specs.declared.event.Event.TheVariants as event
 use Rattle.wdf_base.specs.declared.frame.Frame.{Frame}
 use Rattle.wdf_model.specs.declared.enums.Mode.{Mode}
 use Rattle.wdf_model.specs.declared.enums.Mode.TheVariants as mode
 use Rattle.wdf_model.specs.Tables.{change_at, ids_of}
-use Rattle.wdf_model.specs.Plans.{is_managed}
+use Rattle.wdf_model.specs.Plans.{is_managed, queues_of, managed_queues}
 use Rattle.wdf_model.specs.parts.Tree.{life_of, is_live, next_id, nearest_device, subtree}
 use Rattle.wdf_model.specs.parts.Tree as tree
 use Rattle.wdf_model.specs.parts.Cpus as cpus
@@ -59,7 +60,7 @@ pub data Deed : Type 0 where
   Write_cell : (o k : ℕ) (v : Value) → Deed
   -- a cleanup or destroy callback of an object starts
   Note : (o : ℕ) (c : Callback) → Deed
-  -- the cleanup of an object is done; an object ends
+  -- the cleanup of an object is done; an object is destroyed
   Clean_up : (o : ℕ) → Deed
   End_life : (o : ℕ) → Deed
   -- a frame begins on a processor
@@ -102,10 +103,10 @@ pub data Deed : Type 0 where
   Set_mode : (q : ℕ) (m : Mode) → Deed
   -- the same, and what waits is cancelled in the queue
   Purge_queue : (q : ℕ) → Deed
-  -- what returns from a queue is to be completed with CANCELLED
-  Close_returning : (q : ℕ) → Deed
-  -- a device is closed
-  Shut_device : (d : ℕ) → Deed
+  -- a device's queues lose power: what returns to a power-managed one is to be completed with CANCELLED
+  Close_returning : (d : ℕ) → Deed
+  -- a device is closed: what waits in its queues or returns to them is to be completed with CANCELLED
+  Close_device : (d : ℕ) → Deed
   -- notification is registered or not; EvtIoQueueState starts
   Register_queue : (q : ℕ) (on : Bool) → Deed
   Notify_queue : (q : ℕ) → Deed
@@ -197,13 +198,17 @@ enter_at_head S q r = record S {
 abbrev pub cancel_in : {A : Type 0} → Plan → State A → ℕ → ℕ → State A
 cancel_in plan S q r = record S { requests = requests.move_to (requests.cancel S.requests r) r (withdrawn_place plan S q r) }
 
--- a waiting request is: it leaves the line
+-- a waiting request is: it leaves the queue
 abbrev pub withdraw : {A : Type 0} → Plan → ℕ → State A → ℕ → State A
 withdraw plan q S r = cancel_in plan (record S { queues = queues.take_cancelled S.queues r }) q r
 
--- a request that returns from a queue is to be completed with CANCELLED
-abbrev pub close_one : {A : Type 0} → ℕ → State A → ℕ → State A
-close_one q S r = if is_returning_to q (place_of S.requests r) then with_place S r (place.Closing status.Cancelled) else S
+-- what returns to a queue is to be completed with CANCELLED
+abbrev pub close_returning : {A : Type 0} → State A → ℕ → State A
+close_returning S q = record S { requests = requests.close_returning S.requests q }
+
+-- what waits in a queue or returns to it is to be completed with CANCELLED
+abbrev pub close_queue : {A : Type 0} → State A → ℕ → State A
+close_queue S q = record S { queues = queues.clear S.queues q; requests = requests.close S.requests q }
 
 -- a sent request that doesn't come back is no longer held
 abbrev pub give_up_if : {A : Type 0} → Bool → State A → ℕ → State A
@@ -278,8 +283,8 @@ do_deed plan (Come_back r) S = with_place (record S { targets = targets.back S.t
 do_deed plan (Complete_request r) S = ask_objects (record (give_up S r) { requests = requests.complete S.requests r }) r
 do_deed plan (Set_mode q m) S = record S { control = control.set_mode S.control q m }
 do_deed plan (Purge_queue q) S = fold (withdraw plan q) (record S { control = control.set_mode S.control q mode.Purged }) (waiting_in S.queues q)
-do_deed plan (Close_returning q) S = fold (close_one q) S (ids_of S.requests.all)
-do_deed plan (Shut_device d) S = record S { control = control.shut S.control d }
+do_deed plan (Close_returning d) S = fold close_returning S (managed_queues plan d)
+do_deed plan (Close_device d) S = fold close_queue (record S { control = control.shut S.control d }) (queues_of plan d)
 do_deed plan (Register_queue q on) S = record S { control = control.notify S.control q on }
 do_deed plan (Notify_queue q) S = record S { control = control.notified S.control q }
 do_deed plan (Advance_power d s) S = record S { power = power.advance S.power d s }
@@ -308,6 +313,12 @@ abbrev pub do_deeds : {A : Type 0} → Plan → List Deed → State A → State 
 do_deeds plan [] S = S
 do_deeds plan (d ∷ ds) S = do_deeds plan ds (do_deed plan d S)
 
--- each agent is told of the event, and it is counted
+-- own: each agent hears of an event, but for what stays inside a frame
+abbrev pub told : {A : Type 0} → Meaning A → Event → List A → List A
+told m (event.Local cpu line) agents = agents
+told m (event.Log cpu v) agents = agents
+told m e agents = map (λ a. m.fold a e) agents
+
+-- the agents hear of an event, and it is counted
 abbrev pub counted : {A : Type 0} → Meaning A → Event → State A → State A
-counted m event S = record S { agents = map (λ a. m.fold a event) S.agents; number = S.number + 1 }
+counted m e S = record S { agents = told m e S.agents; number = S.number + 1 }

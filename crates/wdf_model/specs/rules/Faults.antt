@@ -1,5 +1,5 @@
 -- The faults of a driver: for each a test of what a frame is about to do, in a view of the state. The
--- names are own; the rules behind them are KMDF's, but for the script errors.
+-- names are own; the rules are KMDF's, but for the script errors.
 use Rattle.std.specs.Prelude.{if◌then◌else◌, ℕ, Bool, true, false, ◌==◌, nat_lt, not, ◌&&◌, ◌||◌, find, Option, Some, None}
 use Rattle.wdf_base.specs.declared.ids.Handle.{Handle}
 use Rattle.wdf_base.specs.declared.value.Value.{Value}
@@ -41,7 +41,7 @@ pub record View : Type 0 where
   pub number : ℕ
   -- the level of its processor
   pub irql : ℕ
-  -- what is told of an object
+  -- of an object
   pub life : ℕ → Life
   pub kind : ℕ → Kind
   pub references : ℕ → ℕ
@@ -49,7 +49,7 @@ pub record View : Type 0 where
   pub level_of : ℕ → ℕ
   -- the scope lock that the callbacks of an object need
   pub scope : ℕ → Option LockRef
-  -- what is told of a request
+  -- of a request
   pub place : ℕ → Place
   pub origin : ℕ → Option ℕ
   pub mark : ℕ → Mark

@@ -68,7 +68,7 @@ groups plan =
 
 -- ---- how many places each has
 
--- the id behind those of the declared objects
+-- the id after those of the declared objects
 abbrev pub declared_end : Plan → ℕ
 declared_end plan = suc (length plan.declared)
 

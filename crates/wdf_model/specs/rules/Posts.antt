@@ -17,7 +17,7 @@ use Rattle.wdf_base.specs.declared.event.Post.TheVariants as post
 use Rattle.wdf_base.specs.Same.{same_handle, same_option, same_post}
 use Rattle.wdf_base.specs.Resolved.{is_handle, action_fits}
 use Rattle.wdf_model.specs.Tables.{entry}
-use Rattle.wdf_model.specs.Plans.{device_of_agent, target_of_agent, has_handler, is_app, is_manual_queue, queue_for, queue_of}
+use Rattle.wdf_model.specs.Plans.{device_of_agent, target_of_agent, has_handler, is_manual_queue, queue_for, queue_of}
 use Rattle.wdf_model.specs.parts.Tree.{life_of, is_live, next_id}
 use Rattle.wdf_model.specs.parts.Requests.{arrival_of, is_closing, is_done, is_sent_to, place_of}
 use Rattle.wdf_model.specs.parts.Control.{accepts}
@@ -95,7 +95,7 @@ in_reach S r = if is_done (place_of S.requests r) || is_closing (place_of S.requ
 abbrev pub cancel_reaches : {A : Type 0} → State A → ℕ → ℕ → Option ℕ
 cancel_reaches S agent k = option_and_then (in_reach S) (arrival_of S.requests agent k)
 
--- KMDF: a waiting request is cancelled in its queue; of another only the mark tells
+-- KMDF: a waiting request is cancelled in its queue; of another only the mark changes
 abbrev pub cancel_at : Place → ℕ → List Deed
 cancel_at (place.Queued q) r = Withdraw q.0 r ∷ []
 cancel_at _ r = Cancel_request r ∷ []
@@ -133,8 +133,8 @@ post_deeds plan S agent (post.Act action) = []
 -- own: the target is done with it
 post_deeds plan S agent (post.Done request s) = Finish_sending request.id.0 s ∷ []
 
-abbrev pub may_arrive : {A : Type 0} → Plan → State A → ℕ → Handle → Bool
-may_arrive plan S agent device = is_app plan agent && is_handle plan kind.Device device && nat_lt S.requests.arrived ARRIVALS
+abbrev pub may_arrive : {A : Type 0} → Plan → State A → Handle → Bool
+may_arrive plan S device = is_handle plan kind.Device device && nat_lt S.requests.arrived ARRIVALS
 
 -- this agent is the target to which the request is sent, and the request isn't done
 abbrev pub may_finish : {A : Type 0} → Plan → State A → Option ℕ → Handle → Bool
@@ -143,14 +143,14 @@ may_finish plan S (Some t) request = is_proper plan S request && is_sent_to t (p
 
 -- the form of a post fits its agent, and its names are the plan's
 abbrev pub post_fits : {A : Type 0} → Plan → State A → ℕ → Post → Bool
--- own: an app posts requests and cancels
-post_fits plan S agent (post.Read device length) = may_arrive plan S agent device
-post_fits plan S agent (post.Write device length) = may_arrive plan S agent device
-post_fits plan S agent (post.Control device code length) = may_arrive plan S agent device
-post_fits plan S agent (post.Cancel k) = is_app plan agent
+-- own: any agent posts requests, and cancels of its own
+post_fits plan S agent (post.Read device length) = may_arrive plan S device
+post_fits plan S agent (post.Write device length) = may_arrive plan S device
+post_fits plan S agent (post.Control device code length) = may_arrive plan S device
+post_fits plan S agent (post.Cancel k) = true
 -- own: the Plug and Play manager asks while the device has no step left and no running device callback
 post_fits plan S agent (post.Ask a device) = agent == 0 && is_handle plan kind.Device device && not (busy S.pnp device.id.0)
--- own: a device acts on its own registers and lines
+-- own: a device acts on its own registers and level lines
 post_fits plan S agent (post.Act action) = action_fits plan (device_of_agent plan agent) action
 -- own: a target is done with what is sent to it
 post_fits plan S agent (post.Done request s) = may_finish plan S (target_of_agent plan agent) request

@@ -63,20 +63,20 @@ unless_fault None es = es
 unless_fault (Some x) es = []
 
 -- the state after the events of a run, from its opening
-unfoldable pub state_after : {A : Type 0} → Meaning A → Plan → List Event → State A
-state_after m plan run = fold (after plan m) (opening m plan) run
+unfoldable pub state_after : {A : Type 0} → Plan → Meaning A → List Event → State A
+state_after plan m run = fold (after plan m) (opening plan m) run
 
 -- what may follow the events of a run
-unfoldable pub ready : {A : Type 0} → Meaning A → Plan → List Event → List Event
-ready m plan run = unless_fault (last_fault run) (ready_in plan m (state_after m plan run))
+unfoldable pub ready : {A : Type 0} → Plan → Meaning A → List Event → List Event
+ready plan m run = unless_fault (last_fault run) (ready_in plan m (state_after plan m run))
 
--- a run of a plan: each event stands in what may follow the events before it
-abbrev pub IsRunOf : {A : Type 0} → Meaning A → Plan → List Event → Type 0
-IsRunOf m plan run = IsRun (ready m plan) run
+-- a run of a plan: each event is in what may follow the events before it
+abbrev pub IsRunOf : {A : Type 0} → Plan → Meaning A → List Event → Type 0
+IsRunOf plan m run = IsRun (ready plan m) run
 
 -- the run that picks determine, from the opening to where nothing may follow
-abbrev pub IsPickedRun : {A : Type 0} → Meaning A → Plan → List ℕ → List Event → Type 0
-IsPickedRun m plan picks run = Picked (ready m plan) picks [] run
+abbrev pub IsPickedRun : {A : Type 0} → Plan → Meaning A → List ℕ → List Event → Type 0
+IsPickedRun plan m picks run = Picked (ready plan m) picks [] run
 
 -- ---- what is open
 
@@ -132,5 +132,5 @@ abbrev pub ending_by : {A : Type 0} → Plan → Meaning A → State A → Optio
 ending_by plan m S x (e ∷ es) = ending.Running
 ending_by plan m S x [] = final_ending plan m S x
 
-unfoldable pub ending_of : {A : Type 0} → Meaning A → Plan → List Event → Ending
-ending_of m plan run = ending_by plan m (state_after m plan run) (last_fault run) (ready m plan run)
+unfoldable pub ending_of : {A : Type 0} → Plan → Meaning A → List Event → Ending
+ending_of plan m run = ending_by plan m (state_after plan m run) (last_fault run) (ready plan m run)

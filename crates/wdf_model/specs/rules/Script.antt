@@ -1,6 +1,6 @@
--- Scripts: what the statement does at which a frame stands, with its expressions evaluated.
+-- Scripts: what the next statement of a frame does, with its expressions evaluated.
 -- The statements, the expressions and their limits are this project's own.
-use Rattle.std.specs.Prelude.{if◌then◌else◌, ℕ, ◌+◌, ◌-◌, ◌*◌, ◌/◌, ◌%◌, ◌^◌, Bool, true, false, ◌==◌, nat_lt, nat_le, not, List, [], ◌∷◌, ◌++◌, take, Option, Some, None, unwrap_or, option_map, slice_get, slice_index_or, bit_and, bit_or, bit_xor}
+use Rattle.std.specs.Prelude.{if◌then◌else◌, ℕ, ◌+◌, ◌-◌, ◌*◌, ◌/◌, ◌%◌, ◌^◌, Bool, true, false, ◌==◌, nat_lt, nat_le, not, List, [], ◌∷◌, ◌++◌, take, Option, Some, None, unwrap_or, option_map, slice_get, slice_index_or, bit_and, bit_or, bit_xor, zero, suc, ◌&&◌}
 use Rattle.wdf_base.specs.declared.plan.Plan.{Plan}
 use Rattle.wdf_base.specs.declared.ids.Handle.{Handle}
 use Rattle.wdf_base.specs.declared.value.Value.{Value}
@@ -88,27 +88,24 @@ context_value f context.RequestLength = Num f.length
 context_value f context.RequestCode = Num f.code
 context_value f context.CompletionStatus = Stat f.status
 
--- the value of a node that is there
-abbrev pub value_at : List (Option Value) → ℕ → Option Value
-value_at values e = slice_index_or values e None
+-- the value of a node, by those of its operands, whose numbers are less; none where there is a script error
+abbrev pub node_value : Frame → (ℕ → Option Value) → ℕ → Option ExprNode → Option Value
+node_value f operand e None = None
+node_value f operand e (Some (node.Number n)) = Some (Num n)
+node_value f operand e (Some (node.Variable v)) = Some (slice_index_or f.variables v (Num 0))
+node_value f operand e (Some (node.Object h)) = Some (Obj h)
+node_value f operand e (Some (node.Literal s)) = Some (Stat s)
+node_value f operand e (Some (node.Context word)) = Some (context_value f word)
+node_value f operand e (Some (node.Binary op left right)) = if nat_lt left e && nat_lt right e then operands_by op (operand left) (operand right) else None
 
--- the value of a node, from those of the nodes before it; none where there is a script error
-abbrev pub node_value : Frame → List (Option Value) → ExprNode → Option Value
-node_value f before (node.Number n) = Some (Num n)
-node_value f before (node.Variable v) = Some (slice_index_or f.variables v (Num 0))
-node_value f before (node.Object h) = Some (Obj h)
-node_value f before (node.Literal s) = Some (Stat s)
-node_value f before (node.Context word) = Some (context_value f word)
-node_value f before (node.Binary op left right) = operands_by op (value_at before left) (value_at before right)
-
--- the values of the nodes in their order: an operand's number is less than its operator's
-abbrev pub values_after : Frame → List (Option Value) → List ExprNode → List (Option Value)
-values_after f before [] = before
-values_after f before (n ∷ ns) = values_after f (before ++ node_value f before n ∷ []) ns
+-- the value of a node whose operands go no deeper than this
+abbrev pub value_to : ℕ → Plan → Frame → ℕ → Option Value
+value_to zero plan f e = None
+value_to (suc depth) plan f e = node_value f (value_to depth plan f) e (slice_get plan.exprs e)
 
 -- the value of expression e in a frame, none where it has a zero divisor or a value of the wrong kind
 unfoldable pub value_of : Plan → Frame → ℕ → Option Value
-value_of plan f e = value_at (values_after f [] (take (e + 1) plan.exprs)) e
+value_of plan f e = value_to (suc e) plan f e
 
 -- ---- statements
 
@@ -173,7 +170,7 @@ call_of plan f k a b c = record {
 abbrev pub runs_left : Frame → ℕ → ℕ
 runs_left f depth = slice_index_or f.counters depth 0
 
--- what an act of a frame does, where the statement behind it is `next`
+-- what an act of a frame does, where the statement after it is `next`
 abbrev pub act_intent : Plan → Frame → ℕ → Act → Intent
 act_intent plan f next (act.Let variable e) = let_intent variable next (value_of plan f e)
 act_intent plan f next (act.Call k into a b c) = intent.Do (call_of plan f k a b c)
@@ -191,15 +188,15 @@ abbrev pub intent_at : Plan → Frame → Option Statement → Intent
 intent_at plan f None = intent.Return (Stat status.Success)
 intent_at plan f (Some s) = act_intent plan f s.next s.act
 
--- the statement at which a frame stands, none at the callback's end
+-- the next statement of a frame, none at the callback's end
 abbrev pub statement_at : Plan → Frame → Option Statement
 statement_at plan f = slice_get (statements_of plan f.script) f.at
 
--- what the statement does at which a frame stands
+-- what the next statement of a frame does
 abbrev pub intent_of : Plan → Frame → Intent
 intent_of plan f = intent_at plan f (statement_at plan f)
 
--- the line of that statement; behind the last one the line of the callback's `on`
+-- the line of that statement; after the last one the line of the callback's `on`
 abbrev pub line_of_statement : ℕ → Option Statement → ℕ
 line_of_statement end None = end
 line_of_statement end (Some s) = s.line

@@ -1,4 +1,4 @@
--- Starts of callbacks, steps of sequences, cleanups and ends: when each may come, and what it does.
+-- Starts of callbacks, steps of sequences, cleanups and destructions: when each may come, and what it does.
 -- (KMDF, but for what is marked own)
 use Rattle.std.specs.Prelude.{if◌then◌else◌, ℕ, ◌+◌, Bool, true, false, ◌==◌, nat_lt, not, ◌&&◌, ◌||◌, List, [], ◌∷◌, ◌++◌, length, map, filter, replicate, Option, Some, None, is_some, unwrap_or, slice_get, option_map}
 use Rattle.std.specs.List.{list_any, list_all, flat_map}
@@ -39,7 +39,7 @@ use Rattle.wdf_model.specs.parts.Deferred.WorkItems.{is_work_queued}
 use Rattle.wdf_model.specs.parts.Deferred.Timers.{timer_due}
 use Rattle.wdf_model.specs.parts.Targets.{routine_due}
 use Rattle.wdf_model.specs.State.{State, declared_in, declares_in, handle_in, is_held_from, is_locked, is_waited_for, nothing_at, queue_delivers, script_in}
-use Rattle.wdf_model.specs.rules.Deeds.{Deed, Ask_deletion, Note, Push_frame, Pop_frame, Take_lock, Release_lock, Present, Receive, Take_cancel, Come_back, Purge_queue, Close_returning, Shut_device, Notify_queue, Advance_power, Ask_stop, Resume, Take_step, End_step, Enable_interrupt, Disable_interrupt, Take_dpc, Cancel_work, Fire_timer}
+use Rattle.wdf_model.specs.rules.Deeds.{Deed, Ask_deletion, Note, Push_frame, Pop_frame, Take_lock, Release_lock, Present, Receive, Take_cancel, Come_back, Close_returning, Close_device, Notify_queue, Advance_power, Ask_stop, Resume, Take_step, End_step, Enable_interrupt, Disable_interrupt, Take_dpc, Cancel_work, Fire_timer}
 
 -- ---- what agents show
 
@@ -47,11 +47,11 @@ abbrev pub value_of_agent : {A : Type 0} → Meaning A → Option A → ℕ → 
 value_of_agent m None what = 0
 value_of_agent m (Some a) what = m.value a what
 
--- a register, or an interrupt's line, as the agent of its device shows it
+-- a register, or an interrupt's level line, as the agent of its device shows it
 abbrev pub shown : {A : Type 0} → Plan → Meaning A → State A → ℕ → ℕ → ℕ
 shown plan m S device what = value_of_agent m (slice_get S.agents (agent_of_device plan device)) what
 
--- the number by which an agent shows an interrupt's line
+-- the number by which an agent shows an interrupt's level line
 abbrev pub line_number : ℕ → ℕ
 line_number i = 64 + i
 
@@ -86,7 +86,7 @@ callback_over plan S c o = not (declares_in plan S c o) || started S.tree o c
 
 -- ---- steps of sequences
 
--- the wait of the step behind `queues_up`: no resume is due, and no EvtIoResume runs
+-- the wait of the step after `queues_up`: no resume is due, and no EvtIoResume runs
 abbrev pub resumes_over : {A : Type 0} → State A → ℕ → Bool
 resumes_over S d = not (any_resume_due S.power d) && not (is_running S.cpus callback.EvtIoResume d)
 
@@ -136,10 +136,6 @@ stage_ready plan S d _ i = true
 abbrev pub may_pass : {A : Type 0} → Plan → State A → ℕ → Stage → Option Handle → Bool
 may_pass plan S d s i = step_ready S d (step.Pass s i) && stage_ready plan S d s i
 
--- a queue of a closed device is Purged, and nothing returns from it
-abbrev pub close_queue : ℕ → List Deed
-close_queue q = Purge_queue q ∷ Close_returning q ∷ []
-
 -- what a stage does beside power and phase
 abbrev pub stage_effect : Plan → ℕ → Stage → Option Handle → List Deed
 -- own: the interrupt is put on the list of enabled ones
@@ -147,9 +143,9 @@ stage_effect plan d stage.Enabled i = Enable_interrupt (handle_id i) ∷ []
 -- own: and taken off it
 stage_effect plan d stage.Disabled i = Disable_interrupt (handle_id i) ∷ []
 -- own: what returns from a power-managed queue is to be completed with CANCELLED
-stage_effect plan d stage.QueuesDown i = map Close_returning (managed_queues plan d)
+stage_effect plan d stage.QueuesDown i = Close_returning d ∷ []
 -- own: the device's queues are Purged for good, and what waits in them or returns is to be completed with CANCELLED
-stage_effect plan d stage.Closed i = Shut_device d ∷ flat_map close_queue (queues_of plan d)
+stage_effect plan d stage.Closed i = Close_device d ∷ []
 -- own: the device's deletion is asked
 stage_effect plan d stage.Removed i = Ask_deletion d ∷ []
 stage_effect plan d _ i = []
@@ -197,7 +193,7 @@ rank_ready_for plan S _ c o r = false
 
 -- when the other callbacks of a rank start
 abbrev pub rank_ready : {A : Type 0} → Plan → Meaning A → State A → Rank → ℕ → Callback → ℕ → Bool
--- KMDF: the interrupt's line is 1, and it is enabled
+-- KMDF: the interrupt's level line is 1, and it is enabled
 rank_ready plan m S rank.Isr cpu c o = isr_due S.interrupts o (line_is_up plan m S o)
 -- KMDF: it is the first in this processor's list
 rank_ready plan m S rank.Deferred cpu c o = same_id (dpc_head S.dpcs cpu) o
@@ -316,7 +312,7 @@ start_deeds plan S cpu c o r =
 
 -- ---- ends
 
--- a step of a sequence tells its result
+-- a step of a sequence gives its result
 abbrev pub end_of_step : {A : Type 0} → Plan → State A → Rank → Callback → ℕ → Value → List Deed
 end_of_step plan S rank.Sequence c o v = End_step (nearest_device S.tree o) (step_of plan S c o) v ∷ []
 end_of_step plan S _ c o v = []

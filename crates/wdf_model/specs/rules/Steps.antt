@@ -37,7 +37,7 @@ use Rattle.wdf_model.specs.rules.Script.{intent_of, line_of, statement_at}
 use Rattle.wdf_model.specs.State.{State, declared_in, is_proper, is_with_driver}
 use Rattle.wdf_model.specs.rules.Deeds.{Deed, do_deeds, counted, Go_on, Park_frame, Unpark_frame, Complete_request, Clean_up, End_life, Pass_tick}
 use Rattle.wdf_model.specs.rules.Faults.{View, fault_of}
-use Rattle.wdf_model.specs.rules.Calls.{Outcome, outcome, is_met, second_deeds}
+use Rattle.wdf_model.specs.rules.Calls.{Outcome, outcome, is_met, second_deeds, is_met_then}
 use Rattle.wdf_model.specs.rules.Starts.{callback_over, clean_ready, destroy_ready, end_deeds, may_pass, may_start, shown, stage_deeds, start_deeds}
 use Rattle.wdf_model.specs.rules.Posts.{may_post, post_deeds}
 
@@ -68,10 +68,10 @@ view_of plan S cpu f = record {
 abbrev pub cpu_of : ℕ → Cpu
 cpu_of cpu = record { 0 = cpu }
 
--- a call without a fault is answered, or waits where its condition isn't met after its first part
+-- a call without a fault is answered, or waits where its condition isn't met once its first part is done
 abbrev pub call_event : {A : Type 0} → Plan → State A → ℕ → Call → Outcome → Event
 call_event plan S cpu c o =
-    if is_met (do_deeds plan o.deeds S) c then event.Did (cpu_of cpu) c o.answer else event.Waiting (cpu_of cpu) c
+    if is_met_then plan S c then event.Did (cpu_of cpu) c o.answer else event.Waiting (cpu_of cpu) c
 
 -- the event of an intent without a fault
 abbrev pub intent_event : {A : Type 0} → Plan → Meaning A → State A → ℕ → ℕ → Frame → Intent → Event
@@ -146,9 +146,13 @@ abbrev pub is_proper_if_any : {A : Type 0} → Plan → State A → Option Handl
 is_proper_if_any plan S None = true
 is_proper_if_any plan S (Some h) = is_proper plan S h
 
+-- a processor of the plan
+abbrev pub is_cpu : Plan → Cpu → Bool
+is_cpu plan cpu = nat_lt cpu.0 plan.cpus
+
 abbrev pub may : {A : Type 0} → Plan → Meaning A → State A → Event → Bool
 -- a callback starts by its row of the table of callbacks
-may plan m S (event.Start cpu c o r) = is_proper plan S o && is_proper_if_any plan S r && may_start plan m S cpu.0 c o.id.0 r
+may plan m S (event.Start cpu c o r) = is_cpu plan cpu && is_proper plan S o && is_proper_if_any plan S r && may_start plan m S cpu.0 c o.id.0 r
 -- a frame's event is the one of its statement, its fault, its end or its waking
 may plan m S (event.Local cpu line) = is_own_event plan m S cpu (event.Local cpu line)
 may plan m S (event.Log cpu v) = is_own_event plan m S cpu (event.Log cpu v)
@@ -161,12 +165,12 @@ may plan m S (event.End cpu c o v) = is_own_event plan m S cpu (event.End cpu c 
 may plan m S (event.Fault cpu x line) = is_own_event plan m S cpu (event.Fault cpu x line)
 -- own: a frame leaves its processor, and comes back
 may plan m S (event.Park cpu f) = may_park S cpu.0 f.0
-may plan m S (event.Unpark cpu f) = may_unpark S cpu.0 f.0
+may plan m S (event.Unpark cpu f) = is_cpu plan cpu && may_unpark S cpu.0 f.0
 -- a stage is the device's next step, and its wait is over
 may plan m S (event.Stage d s i) = is_proper plan S d && may_pass plan S d.id.0 s i
 -- the framework completes what is Closing, with its status
 may plan m S (event.Complete r s) = is_proper plan S r && is_closing_with (place_of S.requests r.id.0) s
--- a cleanup and an end come by the rules of the tree, behind their callbacks
+-- a cleanup and a destruction come by the rules of the tree, after their callbacks
 may plan m S (event.Cleanup o) = is_proper plan S o && clean_ready S o.id.0 && callback_over plan S callback.EvtCleanupCallback o.id.0
 may plan m S (event.Destroy o) = is_proper plan S o && destroy_ready S o.id.0 && callback_over plan S callback.EvtDestroyCallback o.id.0
 may plan m S (event.Posted agent p answer) = may_post plan m S agent p answer
@@ -246,7 +250,7 @@ deeds plan S (event.Start cpu c o r) = start_deeds plan S cpu.0 c o r
 deeds plan S (event.Local cpu line) = by_top S cpu.0 (λ f frame. Go_on f (stepped frame (intent_of plan frame)) ∷ [])
 deeds plan S (event.Log cpu v) = by_top S cpu.0 (λ f frame. Go_on f (goes_on plan frame) ∷ [])
 deeds plan S (event.Spend cpu n) = by_top S cpu.0 (λ f frame. Go_on f (spending plan S frame n) ∷ [])
--- the register and the device's lines are its agent's
+-- the register and the device's level lines are its agent's
 deeds plan S (event.Register cpu a k v) = by_top S cpu.0 (λ f frame. Go_on f (answered plan frame (Num v)) ∷ [])
 -- the effect of the call's first part, and of the second where nothing is to be waited for
 deeds plan S (event.Did cpu c v) = by_top S cpu.0 (did_deeds plan S cpu.0 c v)
@@ -272,6 +276,6 @@ deeds plan S (event.Posted agent p answer) = post_deeds plan S agent p
 -- own: the clock is one more
 deeds plan S (event.Tick time) = Pass_tick ∷ []
 
--- the state after an event: its deeds are done, each agent is told of it, and it is counted
+-- the state after an event: its deeds are done, the agents hear of it, and it is counted
 abbrev pub after : {A : Type 0} → Plan → Meaning A → State A → Event → State A
 after plan m S e = counted m e (do_deeds plan (deeds plan S e) S)

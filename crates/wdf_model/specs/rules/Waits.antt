@@ -150,7 +150,7 @@ frames_in_order S = filter (λ f. contains f (all_frames S.cpus)) (ids_of S.cpus
 
 -- ---- requests
 
--- the requests ahead of one in a line
+-- the requests ahead of one in a queue
 abbrev pub ahead : {A : Type 0} → State A → ℕ → ℕ → List ℕ
 ahead S q r = take_while (λ x. not (x == r)) (waiting_in S.queues q)
 
@@ -202,11 +202,11 @@ queues_to_resume plan S d = filter (λ q. nat_lt 0 (length (resumes_at plan S q)
 abbrev pub scope_holders : {A : Type 0} → Plan → State A → List ℕ → List ℕ
 scope_holders plan S queues = flat_map (λ q. holders_of S (scope_of plan callback.EvtIoResume q (declared_in plan S q))) queues
 
--- what keeps the step behind `queues_up`: EvtIoResume runs, or its scope lock is held
+-- what keeps the step after `queues_up`: EvtIoResume runs, or its scope lock is held
 abbrev pub resume_frames : {A : Type 0} → Plan → State A → ℕ → List ℕ
 resume_frames plan S d = frames_where S (runs_step d callback.EvtIoResume) ++ scope_holders plan S (queues_to_resume plan S d)
 
--- the processors in whose list a DPC of the device stands
+-- the processors in whose list a DPC of the device is
 abbrev pub has_dpc_of : {A : Type 0} → Plan → State A → ℕ → ℕ → Bool
 has_dpc_of plan S d cpu = list_any (λ i. contains i (dpcs_of S.dpcs cpu)) (interrupts_of plan d)
 
@@ -256,7 +256,7 @@ step_cause plan S d (step.Run c i) =
 step_cause plan S d (step.Pass s i) =
     first_cause (by_request plan S (stage_requests plan S d s) ∷ by_frame (stage_frames plan S d s i) ∷ cause_if (stage_cpus plan S d s) cause.NoCpu ∷ [])
 
--- the step behind `queues_up` waits for resumes first
+-- the step after `queues_up` waits for resumes first
 abbrev pub resumes_cause : {A : Type 0} → Plan → State A → ℕ → Option Cause
 resumes_cause plan S d =
     if follows_queues_up S.pnp d then first_cause (by_frame (resume_frames plan S d) ∷ cause_if (resume_cpus plan S d) cause.NoCpu ∷ [])
@@ -343,7 +343,7 @@ object_line plan S o = record { thing = thing.Leaving (handle_in plan S o); caus
 
 -- ---- deferred work
 
--- the processor in whose list a DPC stands
+-- the processor in whose list a DPC is
 abbrev pub cpu_of_dpc : {A : Type 0} → Plan → State A → ℕ → ℕ
 cpu_of_dpc plan S o = unwrap_or (find (λ cpu. contains o (dpcs_of S.dpcs cpu)) (all_cpus plan)) 0
 
@@ -394,5 +394,5 @@ if_stuck ending.Stuck ls = ls
 if_stuck _ ls = []
 
 -- the wait list of a run
-unfoldable pub wait_list : {A : Type 0} → Meaning A → Plan → List Event → List WaitLine
-wait_list m plan run = if_stuck (ending_of m plan run) (wait_lines plan m (state_after m plan run))
+unfoldable pub wait_list : {A : Type 0} → Plan → Meaning A → List Event → List WaitLine
+wait_list plan m run = if_stuck (ending_of plan m run) (wait_lines plan m (state_after plan m run))

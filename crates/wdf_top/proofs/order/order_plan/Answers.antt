@@ -1,5 +1,4 @@
 -- What becomes of a plan that isn't served, of one whose run was made, and of one for which memory is wanting.
-use Rattle.std.proofs.Common.{inl, inr, refl, sym}
 use Rattle.wdf_dev.specs.Agents.{agent_meaning}
 use Rattle.wdf_top.proofs.Ended.{has_ended}
 use Rattle.wdf_top.proofs.order.order_plan.Goals as goal

@@ -1,9 +1,9 @@
 -- The clauses of the top call, each from what is told.
-use Rattle.std.proofs.Common.{inl, inr, sym}
+use Rattle.std.proofs.Common.{inl, inr}
 use Rattle.wdf_top.specs.Answers.{writes_run, writes_scene}
-use Rattle.wdf_top.specs.Top.{service_of}
 use Rattle.wdf_top.proofs.Causes as cause
 use Rattle.wdf_top.proofs.Given as given
+use Rattle.wdf_top.proofs.Sinks as sink
 use Rattle.wdf_top.proofs.Statuses as status
 use Rattle.wdf_top.proofs.top.top_plain.Goals as goal
 
@@ -89,6 +89,15 @@ returns-clause-write_fault g c = status.sink_rose _ _ _ c.answer.result c.answer
 
 pub returns-clause-front : goal.returns-clause-front
 returns-clause-front g c = status.front_written _ _ _ c.answer.result (rw c.form_of.ensures at c.answer.ensures.told)
+
+pub returns-clause-failed_write : goal.returns-clause-failed_write
+returns-clause-failed_write g c = sink.failed_write _ _ _ c.answer.result (rw c.form_of.ensures at c.answer.ensures.told)
+
+pub returns-clause-no_failed_write : goal.returns-clause-no_failed_write
+returns-clause-no_failed_write g c = sink.no_failed_write _ _ _ c.answer.result (rw c.form_of.ensures at c.answer.ensures.told)
+
+pub returns-clause-whole_text : goal.returns-clause-whole_text
+returns-clause-whole_text g c = sink.whole_text _ _ _ c.answer.result (rw c.form_of.ensures at c.answer.ensures.told)
 
 pub returns-clause-too_large_only : goal.returns-clause-too_large_only
 returns-clause-too_large_only g c = cause.large_only _ _ _ c.answer.result c.answer.ensures.told

@@ -1,7 +1,8 @@
 -- A line that was cut short leaves a front of all lines; a whole line is one line more.
-use Rattle.std.proofs.Common.{◌+◌, ◌++◌, ◌≤◌, arith, codes, take}
+use Rattle.std.proofs.Common.{◌+◌, ◌++◌, ◌∙◌, arith, codes, take}
 use Rattle.wdf_trace.specs.Lines.{line_text, lines_from}
 use Rattle.wdf_top.proofs.Writing.{cut_behind, lines_at, lines_more, gains_more}
+use Rattle.wdf_top.proofs.Sinks.{ends_later}
 use Rattle.wdf_top.proofs.trace.write_events.Goals as goal
 
 pub returns-in-Err-clause-cut : goal.returns-in-Err-clause-cut
@@ -13,7 +14,11 @@ returns-in-Err-clause-cut g c =
     (lines_from c.args.core.now.plan 1 (take c.loop-k.k c.args.core.now.journal))
     (line_text c.args.core.now.plan (c.loop-k.k + 1) c.journal_at-event.result ++ codes "\n")
     at.0 (lines_from c.args.core.now.plan 1 c.args.core.now.journal)
-    c.loop-k.invariant.gained c.loop-k.invariant.faults c.in-Err.ensures.never_falls cut at.1
+    c.loop-k.invariant.gained (omega (arith, c.loop-k.invariant.quiet)) c.in-Err.ensures.never_falls cut at.1
+
+pub returns-in-Err-clause-not_again : goal.returns-in-Err-clause-not_again
+returns-in-Err-clause-not_again g c =
+    ends_later g.K.Sink.refused g.K.Sink.faults c.args.sink.now c.loop-k.sink c.write_event.new.sink c.loop-k.invariant.quiet c.in-Err.ensures.not_again
 
 pub loop-k-preserved : goal.loop-k-preserved
 loop-k-preserved g c =
@@ -25,5 +30,5 @@ loop-k-preserved g c =
           (lines_from c.args.core.now.plan 1 (take c.loop-k.k c.args.core.now.journal))
           (line_text c.args.core.now.plan (c.loop-k.k + 1) c.journal_at-event.result ++ codes "\n")
           c.loop-k.invariant.gained whole);
-      faults = omega (arith, c.loop-k.invariant.faults, c.in-Ok.ensures.never_falls);
+      quiet = c.in-Ok.ensures.quiet ∙ c.loop-k.invariant.quiet;
     }

@@ -1,5 +1,5 @@
--- The lines of the events before this one were written, and no fault was forgotten.
-use Rattle.std.proofs.Common.{◌≤◌, take}
+-- The lines of the events before this one were written, and no write failed.
+use Rattle.std.proofs.Common.{◌≡◌, take}
 use Rattle.wdf_io.specs.Outside.{Gains}
 use Rattle.wdf_trace.specs.Lines.{lines_from}
 use Rattle.wdf_top.proofs.trace.write_events.Given as goal
@@ -7,5 +7,5 @@ use Rattle.wdf_top.proofs.trace.write_events.Given as goal
 abbrev pub invariant-loop-k : goal.invariant-loop-k
 invariant-loop-k g l = record {
   gained : Gains (g.K.Sink.written l.initial.sink) (g.K.Sink.written l.sink) (lines_from l.core.plan 1 (take l.k l.core.journal));
-  faults : g.K.Sink.faults l.initial.sink ≤ g.K.Sink.faults l.sink;
+  quiet : g.K.Sink.faults l.sink ≡ g.K.Sink.faults l.initial.sink;
 }

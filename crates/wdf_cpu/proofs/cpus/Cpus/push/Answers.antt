@@ -1,0 +1,38 @@
+-- The new frame is counted, and there is room for it.
+use Rattle.std.proofs.Common.{◌≡◌, false, arith}
+use Rattle.wdf_model.specs.Tables.{contains}
+use Rattle.wdf_model.specs.parts.Cpus.{all_frames}
+use Rattle.wdf_cpu.specs.Kept.{cpus_in}
+use Rattle.wdf_cpu.proofs.Keeping.{kept_push, on_fits, waits_fit}
+use Rattle.wdf_cpu.proofs.Live.{room_to_push}
+use Rattle.wdf_cpu.proofs.Numbers.{absent_from}
+use Rattle.wdf_cpu.proofs.cpus.Cpus.push.Goals as goal
+
+pub swap-requires-clause-fits : goal.swap-requires-clause-fits
+swap-requires-clause-fits c = on_fits c.self.inside c.self.invariant
+
+pub swap-requires-2-clause-fits : goal.swap-requires-2-clause-fits
+swap-requires-2-clause-fits c = waits_fit c.self.inside c.self.invariant
+
+pub push_on-requires-clause-room : goal.push_on-requires-clause-room
+push_on-requires-clause-room c =
+    let a = c.self.inside in
+    let fresh : contains c.args.f.0 (all_frames (cpus_in a)) ≡ false = cc in
+    room_to_push (cpus_in a) a.live.items c.args.cpu.0 c.args.f.0 (absent_from c.args.f.0 (all_frames (cpus_in a)) fresh) c.requires.room c.self.invariant.kept.live
+
+pub invariant_of-self : goal.invariant_of-self
+invariant_of-self c =
+    let a = c.self.inside in
+    let h = c.self.invariant in
+    let fresh : contains c.args.f.0 (all_frames (cpus_in a)) ≡ false = cc in
+    record {
+      frames_room = omega arith;
+      live_room = omega arith;
+      peaks_room = omega arith;
+      parked_room = h.parked_room;
+      levels_room = h.levels_room;
+      blank = h.blank;
+      kept = rw (c.put_at.ensures.entries, c.push_on.ensures.pushed, c.put_at-2.ensures.entries, c.put_at-3.ensures.entries)
+          (kept_push (cpus_in a) a.live.items a.peaks.items a.on a.waits c.args.cpu.0 c.args.f.0 c.args.frame c.args.level.0 c.peak_of.result.0 c.swap.new.self c.swap-2.new.self
+          c.requires.room fresh c.peak_of.ensures (rw c.object_key.ensures at c.swap.ensures) (rw c.wait_key.ensures at c.swap-2.ensures) h.kept);
+    }

@@ -1,0 +1,4 @@
+pub mod Keys
+pub mod Levels
+pub mod Asked
+pub mod Kept

@@ -1,0 +1,120 @@
+//! What begins, goes on, ends, parks and comes back.
+ghost use Rattle.std.specs.Prelude.{◌≡◌, ◌<◌, false, true, length, IsSome, Some, vec_capacity};
+ghost use Rattle.std.specs.Option.{option_map};
+ghost use Rattle.wdf_model.specs.Tables.{change_at, contains};
+ghost use Rattle.wdf_model.specs.declared.entries.Running.{Running};
+ghost use Rattle.wdf_model.specs.parts.Cpus as cpus;
+ghost use Rattle.wdf_model.specs.parts.Cpus.{no_frame};
+
+use crate::cpus::{Cpus, NO_FRAME, object_key, wait_key};
+use crate::levels::{drop_level, drop_levels, peak_of};
+use crate::rising::{drop_number, insert_number};
+use crate::stack::{pop_from, push_on};
+use wdf_base::{Cpu, Frame, FrameId, Irql};
+use wdf_maps::{entry_at, put_at};
+use wdf_model::{EVENTS, FRAMES, HeldLevel, Running};
+
+impl Cpus {
+    /// A frame begins on a processor, on top.
+    pub fn push(&mut self, cpu: Cpu, f: FrameId, frame: Frame, level: Irql)
+        requires there { cpu.0 < length self.old.stacks }
+        requires room { f.0 < FRAMES }
+        requires fresh { contains f.0 (cpus.all_frames self.old) ≡ false }
+        ensures done { self.new ≡ cpus.push self.old cpu.0 f.0 frame level.0 }
+        ensures size { length self.new.stacks ≡ length self.old.stacks }
+    {
+        self.on.swap(None, object_key(&frame));
+        self.waits.swap(None, wait_key(&frame));
+        put_at(&mut self.frames, NO_FRAME, f.0, Running { frame, level });
+        put_at(&mut self.live, false, f.0, true);
+        put_at(&mut self.peaks, 0, f.0, peak_of(&self.levels, f, level).0);
+        push_on(&mut self.stacks, cpu, f.0);
+    }
+
+    /// A frame goes on: what it is from now on.
+    pub fn change(&mut self, f: FrameId, frame: Frame)
+        requires there { f.0 < length self.old.frames }
+        ensures done { self.new ≡ cpus.change self.old f.0 frame }
+        ensures frames { length self.new.frames ≡ length self.old.frames }
+    {
+        let live = entry_at(&self.live, false, f.0);
+        let object = object_key(&self.frames[f.0 as usize].frame);
+        let awaited = wait_key(&self.frames[f.0 as usize].frame);
+        self.on.swap_if(live, object, object_key(&frame));
+        self.waits.swap_if(live, awaited, wait_key(&frame));
+        set_frame(&mut self.frames, f, frame);
+    }
+
+    /// A frame holds a level more.
+    pub fn raise(&mut self, f: FrameId, level: Irql)
+        requires there { f.0 < FRAMES }
+        requires room { length self.old.levels < EVENTS }
+        ensures { self.new ≡ cpus.raise self.old f.0 level.0 }
+    {
+        let peak = entry_at(&self.peaks, 0, f.0);
+        put_at(&mut self.peaks, 0, f.0, peak.max(level.0));
+        self.levels
+            .push_front_reserved(HeldLevel { frame: f, level });
+    }
+
+    /// A frame holds a level less. Nothing changes where it doesn't hold it.
+    pub fn lower(&mut self, f: FrameId, level: Irql)
+        requires there { f.0 < FRAMES }
+        ensures { self.new ≡ cpus.lower self.old f.0 level.0 }
+    {
+        drop_level(&mut self.levels, f, level);
+        let own = entry_at(&self.frames, NO_FRAME, f.0).level;
+        put_at(&mut self.peaks, 0, f.0, peak_of(&self.levels, f, own).0);
+    }
+
+    /// The top frame of a processor ends. The levels that it holds are gone with it.
+    pub fn pop(&mut self, cpu: Cpu) -> Frame
+        requires there { cpu.0 < length self.old.stacks }
+        requires running { IsSome (cpus.top self.old cpu.0) }
+        ensures frame { option_map (cpus.frame_of self.old) (cpus.top self.old cpu.0) ≡ Some result }
+        ensures done { self.new ≡ cpus.pop self.old cpu.0 }
+        ensures size { length self.new.stacks ≡ length self.old.stacks }
+    {
+        let f = FrameId(pop_from(&mut self.stacks, cpu).unwrap());
+        let frame = entry_at(&self.frames, NO_FRAME, f.0).frame;
+        self.on.swap(object_key(&frame), None);
+        self.waits.swap(wait_key(&frame), None);
+        put_at(&mut self.frames, NO_FRAME, f.0, NO_FRAME);
+        put_at(&mut self.live, false, f.0, false);
+        put_at(&mut self.peaks, 0, f.0, 0);
+        drop_levels(&mut self.levels, f);
+        frame
+    }
+
+    /// The top frame of a processor, which waits, leaves it. Nothing changes where there is none. (own)
+    pub fn park(&mut self, cpu: Cpu)
+        requires there { cpu.0 < length self.old.stacks }
+        ensures done { self.new ≡ cpus.park self.old cpu.0 }
+        ensures size { length self.new.stacks ≡ length self.old.stacks }
+    {
+        if let Some(f) = pop_from(&mut self.stacks, cpu) {
+            insert_number(&mut self.parked, f);
+        }
+    }
+
+    /// A parked frame comes back to a processor, on top. (own)
+    pub fn unpark(&mut self, cpu: Cpu, f: FrameId)
+        requires there { cpu.0 < length self.old.stacks }
+        requires parked { contains f.0 self.old.parked ≡ true }
+        ensures done { self.new ≡ cpus.unpark self.old cpu.0 f.0 }
+        ensures size { length self.new.stacks ≡ length self.old.stacks }
+    {
+        drop_number(&mut self.parked, f.0);
+        push_on(&mut self.stacks, cpu, f.0);
+    }
+}
+
+/// Writes what a frame is; its level stays.
+fn set_frame(frames: &mut Vec<Running>, f: FrameId, frame: Frame)
+    requires { f.0 < length frames.old.items }
+    ensures changed { frames.new.items ≡ change_at no_frame frames.old.items f.0 (λ (r : Running). record r { frame = frame }) }
+    ensures size { length frames.new.items ≡ length frames.old.items }
+    ensures capacity { vec_capacity frames.new ≡ vec_capacity frames.old }
+{
+    frames[f.0 as usize].frame = frame;
+}

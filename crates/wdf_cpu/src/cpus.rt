@@ -1,0 +1,135 @@
+ghost use Rattle.std.specs.Prelude.{◌≡◌, [], length, replicate, IfOk};
+ghost use Rattle.std.specs.Option.{option_map};
+ghost use Rattle.wdf_model.specs.parts.Cpus.{opening_cpus, no_frame};
+ghost use Rattle.wdf_model.specs.State.{object_in};
+ghost use Rattle.wdf_cpu.specs.Keys.{object_key, wait_key};
+
+use crate::stack::Stack;
+use crate::tally::Tally;
+use std::alloc::Global;
+use std::collections::VecDeque;
+use std::marker::Model;
+use wdf_base::{
+    Arg, Callback, Frame, Handle, Irql, Memory, ObjectId, Plan, Status, VARIABLES, Value,
+};
+use wdf_model::{EVENTS, FRAMES, HeldLevel, Running};
+
+/// The handle of no object.
+const NO_HANDLE: Handle = Handle {
+    id: ObjectId(0),
+    name: 0,
+};
+
+/// What stands for a frame that isn't there.
+pub(crate) const NO_FRAME: Running = Running {
+    frame: Frame {
+        callback: Callback::EvtDestroyCallback,
+        object: NO_HANDLE,
+        device: NO_HANDLE,
+        request: None,
+        length: 0,
+        code: 0,
+        status: Status::Success,
+        script: 0,
+        at: 0,
+        variables: [Value::Num(0); VARIABLES],
+        counters: [0; VARIABLES],
+        until: 0,
+        pending: None,
+    },
+    level: Irql(0),
+};
+
+/// The processors, their frames and the frames that are parked.
+#[derive(Debug, Drop)]
+pub struct Cpus {
+    /// The frames by number.
+    pub(crate) frames: Vec<Running>,
+    /// The frames of each processor.
+    pub(crate) stacks: Vec<Stack>,
+    /// The numbers of the frames that left their processor, rising.
+    pub(crate) parked: Vec<u32>,
+    /// The levels that frames hold, the latest first.
+    pub(crate) levels: VecDeque<HeldLevel>,
+    /// Whether a frame runs or is parked, by number.
+    pub(crate) live: Vec<bool>,
+    /// The level of each frame, by number.
+    pub(crate) peaks: Vec<u8>,
+    /// How many frames run on an object.
+    pub(crate) on: Tally,
+    /// How many frames wait for an object.
+    pub(crate) waits: Tally,
+    /// What a number says that is no frame's.
+    pub(crate) blank: Frame,
+}
+
+impl Model for Cpus {
+    ghost use Rattle.wdf_model.specs.parts.Cpus.{Cpus as Processors};
+
+    ghost Value = { Processors };
+
+    ghost use Rattle.wdf_cpu.specs.Kept.{cpus_in, IsSound};
+
+    ghost view = { cpus_in };
+
+    ghost invariant = { IsSound };
+}
+
+impl Cpus {
+    /// The processors at the opening of the plan's run: each is empty. It takes all the memory that
+    /// they need.
+    pub fn make(alloc: Global, plan: &Plan) -> Result<Cpus, Memory>
+        ensures { IfOk result (λ c. c ≡ opening_cpus plan.now) }
+    {
+        Ok(Cpus {
+            frames: Vec::with_capacity(alloc, FRAMES as usize)?,
+            stacks: empty_stacks(alloc, plan.cpus())?,
+            parked: Vec::with_capacity(alloc, FRAMES as usize)?,
+            levels: VecDeque::with_capacity(alloc, EVENTS as usize)?,
+            live: Vec::with_capacity(alloc, FRAMES as usize)?,
+            peaks: Vec::with_capacity(alloc, FRAMES as usize)?,
+            on: Tally::make(alloc)?,
+            waits: Tally::make(alloc)?,
+            blank: NO_FRAME.frame,
+        })
+    }
+}
+
+/// The stacks of processors that are empty.
+fn empty_stacks(alloc: Global, cpus: u8) -> Result<Vec<Stack>, Memory>
+    ensures { IfOk result (λ stacks. stacks.items ≡ replicate cpus []) }
+{
+    let mut stacks = Vec::with_capacity(alloc, usize::from(cpus))?;
+    for _cpu in 0..cpus {
+        match Stack::make(alloc) {
+            Ok(stack) => stacks.push_reserved(stack),
+            Err(memory) => return Err(memory),
+        }
+    }
+    Ok(stacks)
+}
+
+/// The object of a frame.
+pub(crate) fn object_key(frame: &Frame) -> Option<ObjectId>
+    ensures { option_map (λ o. o.0) result ≡ object_key frame.now }
+{
+    Some(frame.object.id)
+}
+
+/// The object for which a frame waits: the first argument of its call, the id 0 where that is none.
+pub(crate) fn wait_key(frame: &Frame) -> Option<ObjectId>
+    ensures { option_map (λ o. o.0) result ≡ wait_key frame.now }
+{
+    let pending = frame.pending?;
+    Some(object_in(pending.call.a))
+}
+
+/// The object that an argument names, the id 0 where it is none.
+fn object_in(arg: Arg) -> ObjectId
+    ensures { result.0 ≡ object_in arg }
+{
+    match arg {
+        Arg::Val(Value::Obj(handle)) => handle.id,
+        _ => ObjectId(0),
+    }
+}

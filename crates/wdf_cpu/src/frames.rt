@@ -1,0 +1,125 @@
+//! All frames, running and parked.
+ghost use Rattle.std.specs.Prelude.{◌≡◌, ◌+◌, ◌<◌, ◌≤◌, ◌++◌, length, count_by, slice_get, Some, nat_lt};
+ghost use Rattle.std.specs.List.{flat_map, list_any};
+ghost use Rattle.wdf_model.specs.State.{waits_for};
+ghost use Rattle.wdf_model.specs.parts.Cpus as cpus;
+ghost use Rattle.wdf_cpu.specs.Asked.{answers};
+
+use crate::asked::Asked;
+use crate::cpus::Cpus;
+use crate::stack::Stack;
+use wdf_base::{Callback, FrameId, ObjectId};
+use wdf_model::{FRAMES, OBJECTS};
+
+impl Cpus {
+    /// How many frames run or are parked.
+    pub fn frame_count(&self) -> usize
+        ensures value { result ≡ length (cpus.all_frames self.now) }
+        ensures small { result ≤ FRAMES }
+    {
+        frames_on(&self.stacks) + self.parked.len()
+    }
+
+    /// The frame at a place: those of each processor from its top on, then the parked ones.
+    pub fn frame_at(&self, place: usize) -> FrameId
+        requires { place < length (cpus.all_frames self.now) }
+        ensures { slice_get (cpus.all_frames self.now) place ≡ Some result.0 }
+    {
+        FrameId(frame_in(&self.stacks, &self.parked, place))
+    }
+
+    /// How many frames run on an object.
+    pub fn on(&self, o: ObjectId) -> u32
+        ensures { result ≡ cpus.frames_on self.now o.0 }
+    {
+        if o.0 < OBJECTS {
+            self.on.of(o)
+        } else {
+            self.count(Asked::On(o))
+        }
+    }
+
+    /// Whether no frame runs on an object.
+    pub fn nobody_on(&self, o: ObjectId) -> bool
+        ensures { result ≡ cpus.nobody_on self.now o.0 }
+    {
+        self.on(o) == 0
+    }
+
+    /// Whether a frame waits for an object: it is the first argument of the call that waits.
+    pub fn is_waited_for(&self, o: ObjectId) -> bool
+        ensures { result ≡ list_any (λ f. waits_for o.0 (cpus.frame_of self.now f).pending) (cpus.all_frames self.now) }
+    {
+        if o.0 < OBJECTS {
+            self.waits.of(o) != 0
+        } else {
+            self.any(Asked::WaitsFor(o))
+        }
+    }
+
+    /// Whether a frame of this callback runs on a device, or on what has it as nearest device.
+    pub fn is_running(&self, callback: Callback, device: ObjectId) -> bool
+        ensures { result ≡ cpus.is_running self.now callback device.0 }
+    {
+        self.any(Asked::Runs(callback, device))
+    }
+
+    /// Whether a frame spends at this tick.
+    pub fn any_spends(&self, time: u64) -> bool
+        ensures { result ≡ list_any (λ f. nat_lt time (cpus.frame_of self.now f).until) (cpus.all_frames self.now) }
+    {
+        self.any(Asked::SpendsAt(time))
+    }
+
+    /// Whether it is so of a frame.
+    fn any(&self, asked: Asked) -> bool
+        ensures { result ≡ list_any (λ f. answers asked (cpus.frame_of self.now f)) (cpus.all_frames self.now) }
+    {
+        for place in 0..self.frame_count() {
+            if asked.is_so(self.frame(self.frame_at(place))) {
+                return true;
+            }
+        }
+        false
+    }
+
+    /// Of how many frames it is so.
+    fn count(&self, asked: Asked) -> u32
+        ensures { result ≡ count_by (λ f. answers asked (cpus.frame_of self.now f)) (cpus.all_frames self.now) }
+    {
+        let mut count = 0;
+        for place in 0..self.frame_count() {
+            if asked.is_so(self.frame(self.frame_at(place))) {
+                count += 1;
+            }
+        }
+        count
+    }
+}
+
+/// How many frames are on processors.
+fn frames_on(stacks: &[Stack]) -> usize
+    requires { length (flat_map (λ fs. fs) stacks.now) ≤ FRAMES }
+    ensures { result ≡ length (flat_map (λ fs. fs) stacks.now) }
+{
+    let mut total = 0;
+    for stack in stacks {
+        total += stack.len();
+    }
+    total
+}
+
+/// The frame at a place: those of each processor from its top on, then the parked ones.
+fn frame_in(stacks: &[Stack], parked: &[u32], place: usize) -> u32
+    requires { place < length (flat_map (λ fs. fs) stacks.now ++ parked.now) }
+    ensures { slice_get (flat_map (λ fs. fs) stacks.now ++ parked.now) place ≡ Some result }
+{
+    let mut left = place;
+    for stack in stacks {
+        if left < stack.len() {
+            return stack.get(left);
+        }
+        left -= stack.len();
+    }
+    parked[left]
+}

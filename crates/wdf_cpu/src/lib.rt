@@ -1,0 +1,14 @@
+//! The processors of a run: which callbacks run or wait where, and how high.
+#![tactic(auto)]
+
+mod acts;
+mod asked;
+mod cpus;
+mod frames;
+mod levels;
+mod readers;
+mod rising;
+mod stack;
+mod tally;
+
+pub use cpus::Cpus;

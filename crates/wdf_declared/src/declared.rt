@@ -1,0 +1,56 @@
+ghost use Rattle.std.specs.Prelude.{◌≡◌};
+ghost use Rattle.wdf_base.specs.Plan.{declared_of};
+ghost use Rattle.wdf_model.specs.Plans as plans;
+
+use wdf_base::{Callback, Declared, DeviceInfo, InterruptInfo, ObjectId, Plan, QueueInfo};
+
+/// What is declared under an id: `None` for the id 0, and for one that is past the declared ones.
+fn declared_at(plan: &Plan, o: ObjectId) -> Option<Declared>
+    ensures { result ≡ declared_of plan.now o.0 }
+{
+    if o.0 == 0 {
+        None
+    } else {
+        plan.declared.as_slice().get(o.0 as usize - 1).copied()
+    }
+}
+
+/// The device with this id, if it is one's.
+pub fn device_of(plan: &Plan, o: ObjectId) -> Option<DeviceInfo>
+    ensures { result ≡ plans.device_of plan.now o.0 }
+{
+    match declared_at(plan, o) {
+        Some(Declared::Device(device)) => Some(device),
+        _ => None,
+    }
+}
+
+/// The queue with this id, if it is one's.
+pub fn queue_of(plan: &Plan, o: ObjectId) -> Option<QueueInfo>
+    ensures { result ≡ plans.queue_of plan.now o.0 }
+{
+    match declared_at(plan, o) {
+        Some(Declared::Queue(queue)) => Some(queue),
+        _ => None,
+    }
+}
+
+/// The interrupt with this id, if it is one's.
+pub fn interrupt_of(plan: &Plan, o: ObjectId) -> Option<InterruptInfo>
+    ensures { result ≡ plans.interrupt_of plan.now o.0 }
+{
+    match declared_at(plan, o) {
+        Some(Declared::Interrupt(interrupt)) => Some(interrupt),
+        _ => None,
+    }
+}
+
+/// Whether a declared object declares a callback. It looks through the plan's scripts.
+pub fn declares(plan: &Plan, callback: Callback, o: ObjectId) -> bool
+    ensures { result ≡ plans.declares plan.now callback o.0 }
+{
+    match declared_at(plan, o) {
+        Some(object) => plan.script(callback, object).is_some(),
+        None => false,
+    }
+}

@@ -1,0 +1,4 @@
+pub mod DpcLists
+pub mod LatestTick
+pub mod QueuedWork
+pub mod TimersThatFire

@@ -1,0 +1,4 @@
+pub mod Dpcs
+pub mod Ticks
+pub mod Timers
+pub mod WorkItems

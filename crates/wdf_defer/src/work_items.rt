@@ -1,0 +1,96 @@
+ghost use Rattle.std.specs.Prelude.{◌≡◌, ◌<◌, ◌≤◌, ◌^◌, IfOk, Some, [], length, not, slice_get};
+ghost use Rattle.wdf_model.specs.parts.Deferred.WorkItems as work_items;
+ghost use Rattle.wdf_sets.specs.Members.{members};
+
+use std::alloc::Global;
+use std::marker::Model;
+use wdf_base::{Memory, ObjectId, Plan};
+use wdf_model::OBJECTS;
+use wdf_sets::IdSet;
+
+/// The queued work items. All calls but [`WorkItems::make`] take no memory.
+#[derive(Drop)]
+pub struct WorkItems {
+    queued: IdSet,
+}
+
+impl Model for WorkItems {
+    ghost use Rattle.wdf_model.specs.parts.Deferred.WorkItems.{WorkItems};
+
+    ghost Value = { WorkItems };
+
+    ghost use Rattle.wdf_defer.specs.WorkItems.{work_items_in, HasWorkItems};
+
+    ghost view = { work_items_in };
+
+    ghost invariant = { HasWorkItems };
+}
+
+/// The empty set of ids below a bound.
+fn empty_set(alloc: Global, bound: u32) -> Result<IdSet, Memory>
+    requires { bound < 2 ^ 31 }
+    ensures members { IfOk result (λ set. members set ≡ []) }
+    ensures room { IfOk result (λ set. bound ≤ length set) }
+{
+    Ok(IdSet::make(alloc, bound)?)
+}
+
+impl WorkItems {
+    /// No work item is queued. On [`Memory`] nothing is made.
+    pub fn make(alloc: Global, _plan: &Plan) -> Result<WorkItems, Memory>
+        ensures { IfOk result (λ made. made ≡ work_items.no_work_items) }
+    {
+        Ok(WorkItems {
+            queued: empty_set(alloc, OBJECTS)?,
+        })
+    }
+
+    /// How many work items are queued.
+    pub fn len(&self) -> u32
+        ensures { result ≡ length self.now.queued }
+    {
+        self.queued.len()
+    }
+
+    /// The k-th queued work item, by rising id from 0.
+    pub fn at(&self, k: u32) -> ObjectId
+        requires { k < length self.now.queued }
+        ensures { slice_get self.now.queued k ≡ Some result.0 }
+    {
+        ObjectId(self.queued.at(k).unwrap())
+    }
+
+    /// Whether the work item is queued.
+    pub fn queued(&self, o: ObjectId) -> bool
+        ensures { result ≡ work_items.is_work_queued self.now o.0 }
+    {
+        self.queued.contains(o.0)
+    }
+
+    /// Queues the work item. The answer is `false`, and nothing changes, exactly where it is queued
+    /// already. (KMDF)
+    pub fn enqueue(&mut self, o: ObjectId) -> bool
+        requires { o.0 < OBJECTS }
+        ensures answer { result ≡ not (work_items.is_work_queued self.old o.0) }
+        ensures done { self.new ≡ work_items.enqueue self.old o.0 }
+    {
+        if self.queued(o) {
+            return false;
+        }
+        self.queued.put(o.0, true);
+        true
+    }
+
+    /// Takes the work item out of the queue. The answer is `false`, and nothing changes, exactly
+    /// where it isn't queued.
+    pub fn cancel(&mut self, o: ObjectId) -> bool
+        ensures answer { result ≡ work_items.is_work_queued self.old o.0 }
+        ensures done { self.new ≡ work_items.cancel self.old o.0 }
+    {
+        if !self.queued(o) {
+            return false;
+        }
+        self.queued.put(o.0, false);
+        true
+    }
+}

@@ -1,0 +1,4 @@
+pub mod Acting
+pub mod Gathering
+pub mod Mapping
+pub mod Owning

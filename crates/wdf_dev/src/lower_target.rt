@@ -1,0 +1,328 @@
+ghost use Rattle.std.specs.Prelude.{◌≡◌, ◌==◌, map, filter, not, vec_capacity, IfOk};
+ghost use Rattle.wdf_model.specs.declared.entries.SentRequest.{SentRequest};
+ghost use Rattle.std.specs.List.{filter_map};
+ghost use Rattle.wdf_model.specs.Plans as plans;
+ghost use Rattle.wdf_model.specs.Tables as tables;
+ghost use Rattle.wdf_model.specs.agents.LowerTarget as target;
+ghost use Rattle.wdf_model.specs.State as state;
+ghost use Rattle.wdf_model.specs.rules.Faults as faults;
+
+use crate::least::lesser_if;
+use std::alloc::Global;
+use std::marker::Model;
+use wdf_base::{
+    Arg, Call, CallKind, Declared, Event, Handle, Memory, ObjectId, Plan, Post, Status, TargetInfo,
+    Value, same_object_id,
+};
+use wdf_model::SentRequest;
+use wdf_same::same_value;
+
+/// The driver below: it keeps what is sent to it in order, each for a stated time. (own)
+#[derive(Debug, Drop)]
+pub struct LowerTarget {
+    /// Its number among the agents.
+    agent: u16,
+    /// The target object.
+    target: ObjectId,
+    /// The ticks that a request takes.
+    delay: u64,
+    /// The status with which a request is done.
+    status: Status,
+    /// The most requests that it keeps.
+    depth: u64,
+    /// What it keeps, in the order of the sends.
+    sent: Vec<SentRequest>,
+    /// The tick that the clock shows.
+    clock: u64,
+}
+
+impl Model for LowerTarget {
+    ghost use Rattle.std.specs.Prelude.{◌≤◌, vec_capacity};
+    ghost use Rattle.wdf_model.specs.agents.LowerTarget.{LowerTarget};
+
+    ghost Value = { LowerTarget };
+
+    ghost view = { λ s. record { agent = s.agent; target = s.target.0; delay = s.delay; status = s.status; depth = s.depth; sent = s.sent.items; clock = s.clock } };
+
+    ghost invariant = { λ s. s.depth ≤ vec_capacity s.sent };
+}
+
+/// The object that an argument names.
+fn handle_in(argument: Arg) -> Option<Handle>
+    ensures { result ≡ target.handle_in_arg argument }
+{
+    match argument {
+        Arg::Val(Value::Obj(handle)) => Some(handle),
+        _ => None,
+    }
+}
+
+/// Whether a request is due: some ticks after its send, and at once where it is to be cancelled.
+fn is_due(now: u64, sent: &SentRequest) -> bool
+    ensures { result ≡ target.is_due_sent now sent.now }
+{
+    sent.told || sent.tick <= now
+}
+
+/// The object that an argument names, the id 0 where it names none.
+fn object_in(argument: Arg) -> ObjectId
+    ensures { result.0 ≡ state.object_in argument }
+{
+    handle_in(argument).map_or(ObjectId(0), |handle| handle.id)
+}
+
+/// Whether an argument names this target.
+fn names(argument: Arg, o: ObjectId) -> bool
+    ensures { result ≡ (state.object_in argument == o.0) }
+{
+    same_object_id(object_in(argument), o)
+}
+
+/// Whether an argument is the number 0.
+fn is_zero(argument: Arg) -> bool
+    ensures { result ≡ faults.arg_is argument 0 }
+{
+    matches!(argument, Arg::Val(Value::Num(0)))
+}
+
+/// A request as it is to be cancelled, if it is this one.
+fn told_one(sent: SentRequest, r: ObjectId) -> SentRequest
+    ensures { result ≡ target.told_one r.0 sent }
+{
+    SentRequest {
+        told: sent.told || same_object_id(sent.request.id, r),
+        ..sent
+    }
+}
+
+/// The target is told to cancel a request, if it is there.
+fn tell_one(sent: &mut [SentRequest], r: ObjectId)
+    ensures { sent.new ≡ map (target.told_one r.0) sent.old }
+{
+    for k in 0..sent.len() {
+        sent[k] = told_one(sent[k], r);
+    }
+}
+
+/// The target is told to cancel all that is there.
+fn tell_all(sent: &mut [SentRequest])
+    ensures { sent.new ≡ map target.told_any sent.old }
+{
+    for k in 0..sent.len() {
+        sent[k] = SentRequest {
+            told: true,
+            ..sent[k]
+        };
+    }
+}
+
+/// The tick at which a request is due later, none where it is due.
+fn later(now: u64, sent: &SentRequest) -> Option<u64>
+    ensures { result ≡ target.later_sent now sent.now }
+{
+    if is_due(now, sent) {
+        None
+    } else {
+        Some(sent.tick)
+    }
+}
+
+/// The least of the ticks at which requests are due later.
+fn least_later(now: u64, sent: &[SentRequest]) -> Option<u64>
+    ensures { result ≡ tables.least (filter_map (target.later_sent now) sent.now) }
+{
+    let mut least = None;
+    for k in 0..sent.len() {
+        least = lesser_if(least, later(now, &sent[k]));
+    }
+    least
+}
+
+/// Takes a request away.
+fn drop_request(sent: &mut Vec<SentRequest>, r: ObjectId)
+    ensures items { sent.new.items ≡ filter (λ (s : SentRequest). not (s.request.id.0 == r.0)) sent.old.items }
+    ensures capacity { vec_capacity sent.new ≡ vec_capacity sent.old }
+{
+    sent.retain(|request| !same_object_id(request.request.id, r));
+}
+
+/// The target with this id, if it is one's.
+fn info_of(plan: &Plan, o: ObjectId) -> Option<TargetInfo>
+    ensures { result ≡ plans.target_of plan.now o.0 }
+{
+    if o.0 == 0 {
+        return None;
+    }
+    match plan.declared.as_slice().get(o.0 as usize - 1) {
+        Some(Declared::Target(info)) => Some(*info),
+        _ => None,
+    }
+}
+
+impl LowerTarget {
+    /// The agent of a declared target, with nothing sent to it. One that isn't declared takes
+    /// nothing.
+    pub fn make(alloc: Global, plan: &Plan, o: ObjectId, agent: u16) -> Result<LowerTarget, Memory>
+        ensures { IfOk result (λ made. made ≡ target.target_at plan.now o.0 agent) }
+    {
+        let (delay, status, depth) = match info_of(plan, o) {
+            Some(info) => (info.delay, info.status, info.depth),
+            None => (0, Status::Success, 0),
+        };
+        let Ok(room) = usize::try_from(depth) else {
+            return Err(Memory);
+        };
+        Ok(LowerTarget {
+            agent,
+            target: o,
+            delay,
+            status,
+            depth,
+            sent: Vec::with_capacity(alloc, room)?,
+            clock: 0,
+        })
+    }
+
+    /// Takes notice of an event of the run.
+    pub fn feed(&mut self, event: &Event)
+        ensures { self.new ≡ target.target_after self.old event.now }
+    {
+        match event {
+            Event::Did { call, answer, .. } => self.note_call(call, *answer),
+            Event::Waiting { call, .. } => self.note_wait(call),
+            Event::Posted {
+                agent,
+                post,
+                answer,
+            } => self.note_post(*agent, post, *answer),
+            Event::Tick { time } => self.clock = *time,
+            _ => {}
+        }
+    }
+
+    /// Takes notice of a call that was answered.
+    fn note_call(&mut self, call: &Call, answer: Value)
+        ensures { self.new ≡ target.target_called self.old call.now answer }
+    {
+        match call.kind {
+            CallKind::WdfRequestSend => self.note_send(call, answer),
+            CallKind::WdfRequestCancelSentRequest => self.note_cancel(call, answer),
+            CallKind::WdfIoTargetStop => self.note_stop(call),
+            _ => {}
+        }
+    }
+
+    /// Takes notice of a call that waits.
+    fn note_wait(&mut self, call: &Call)
+        ensures { self.new ≡ target.target_awaited self.old call.now }
+    {
+        if matches!(call.kind, CallKind::WdfIoTargetStop) {
+            self.note_stop(call);
+        }
+    }
+
+    /// A request was sent, if it was to this target and went.
+    fn note_send(&mut self, call: &Call, answer: Value)
+        ensures { self.new ≡ target.send_called self.old call.now answer }
+    {
+        if names(call.b, self.target) && same_value(answer, Value::Num(1)) {
+            self.keep(handle_in(call.a));
+        }
+    }
+
+    /// The driver asked for the cancel of a request that is at its target.
+    fn note_cancel(&mut self, call: &Call, answer: Value)
+        ensures { self.new ≡ target.cancel_called self.old call.now answer }
+    {
+        if same_value(answer, Value::Num(1)) {
+            self.cancel(object_in(call.a));
+        }
+    }
+
+    /// The driver stopped a target; the action 0 cancels what was sent to it.
+    fn note_stop(&mut self, call: &Call)
+        ensures { self.new ≡ target.stop_called self.old call.now }
+    {
+        if names(call.a, self.target) && is_zero(call.b) {
+            self.cancel_all();
+        }
+    }
+
+    /// Takes notice of a post: its own says that a request is done, a cancel may reach what it keeps.
+    fn note_post(&mut self, agent: u16, post: &Post, answer: Option<Handle>)
+        ensures { self.new ≡ target.target_posted self.old agent post.now answer }
+    {
+        match post {
+            Post::Done { request, .. } => {
+                if agent == self.agent {
+                    self.let_go(request.id);
+                }
+            }
+            Post::Cancel { .. } => {
+                if let Some(request) = answer {
+                    self.cancel(request.id);
+                }
+            }
+            _ => {}
+        }
+    }
+
+    /// Keeps one request more, while it keeps fewer than its depth.
+    fn keep(&mut self, request: Option<Handle>)
+        ensures { self.new ≡ target.with_sent self.old request }
+    {
+        if let Some(request) = request {
+            if (self.sent.len() as u64) < self.depth {
+                self.sent.push_reserved(SentRequest {
+                    request,
+                    tick: self.clock.saturating_add(self.delay),
+                    told: false,
+                });
+            }
+        }
+    }
+
+    /// A request is to be cancelled, if it is here.
+    fn cancel(&mut self, r: ObjectId)
+        ensures { self.new ≡ target.told self.old r.0 }
+    {
+        tell_one(self.sent.as_mut_slice(), r);
+    }
+
+    /// All that is here is to be cancelled.
+    fn cancel_all(&mut self)
+        ensures { self.new ≡ target.told_all self.old }
+    {
+        tell_all(self.sent.as_mut_slice());
+    }
+
+    /// A request is here no more.
+    fn let_go(&mut self, r: ObjectId)
+        ensures { self.new ≡ target.without_request self.old r.0 }
+    {
+        drop_request(&mut self.sent, r);
+    }
+
+    /// The first request that is due, as done with its status, or with CANCELLED.
+    pub fn due(&self) -> Option<Post>
+        ensures { result ≡ target.target_due self.now }
+    {
+        let now = self.clock;
+        let sent = self.sent.iter().find(|sent| is_due(now, sent))?;
+        Some(Post::Done {
+            request: sent.request,
+            status: if sent.told {
+                Status::Cancelled
+            } else {
+                self.status
+            },
+        })
+    }
+
+    /// The least later tick at which a request is due.
+    pub fn next_time(&self) -> Option<u64>
+        ensures { result ≡ target.target_next self.now }
+    {
+        least_later(self.clock, self.sent.as_slice())
+    }
+}

@@ -1,0 +1,3 @@
+pub mod SameLocks
+pub mod Finding
+pub mod Keeping

@@ -1,0 +1,24 @@
+-- Tests of holds, and the counts of those by calls.
+use Rattle.std.specs.Prelude.{ℕ, Bool, false, ◌==◌, ◌&&◌, ◌-◌, List, Option, Some, None}
+use Rattle.wdf_base.specs.declared.object.LockRef.{LockRef}
+use Rattle.wdf_base.specs.Same.{same_lock}
+use Rattle.wdf_model.specs.declared.entries.Held.{Held}
+use Rattle.wdf_model.specs.Tables.{entry, flag, put}
+
+-- a hold of a lock
+abbrev pub is_of : LockRef → Held → Bool
+is_of l h = same_lock h.lock l
+
+-- a hold of a frame's, by a call
+abbrev pub is_call_of : ℕ → Held → Bool
+is_call_of f h = (h.frame.0 == f) && h.by_call
+
+-- whether there is a hold, and it passes
+abbrev pub passes : (Held → Bool) → Option Held → Bool
+passes test None = false
+passes test (Some h) = test h
+
+-- the counts without this hold
+abbrev pub uncounted : Option Held → List ℕ → List ℕ
+uncounted None counts = counts
+uncounted (Some h) counts = put 0 counts h.frame.0 (entry 0 counts h.frame.0 - flag h.by_call)

@@ -1,0 +1,4 @@
+pub mod Holders
+pub mod InHolders
+pub mod Holds
+pub mod Kept

@@ -1,0 +1,12 @@
+-- One device's sequence is changed.
+use Rattle.std.proofs.Common.{length, ap, arith}
+use Rattle.wdf_model.specs.parts.Pnp.{steps_for}
+use Rattle.wdf_pnp.proofs.Devices.{sequence_changed}
+use Rattle.wdf_pnp.proofs.pnp.Pnp.ask.Goals as goal
+
+pub returns-clause-done : goal.returns-clause-done
+returns-clause-done c =
+    let long = ap (λ Q. length Q.devices) c.self.view_is in
+    rw (← c.self.view_is)
+    (sequence_changed (record { devices = c.self.inside.devices.items }) c.args.d.0 (λ q. record q { left = steps_for q.steps q.ever_working q.phase c.args.ask })
+    c.index_mut-device.result.now c.ask.new.self (omega (arith, long)) c.index_mut-device.ensures.value c.ask.ensures)

@@ -1,0 +1,6 @@
+pub mod Tallies
+pub mod Readers
+pub mod Waking
+pub mod Least
+pub mod Members
+pub mod Held

@@ -1,0 +1,9 @@
+//! Power: which devices have their queues up and their hardware, and how far the requests that the
+//! driver holds from power-managed queues have come.
+#![tactic(auto)]
+
+mod opening;
+mod power;
+mod tally;
+
+pub use power::Power;

@@ -1,0 +1,66 @@
+//! The power of devices and queues at the opening of a plan's run.
+
+ghost use Rattle.std.specs.Prelude.{◌≡◌, ◌<◌, ◌^◌, IfOk, map};
+ghost use Rattle.wdf_model.specs.Plans as plans;
+ghost use Rattle.wdf_model.specs.parts.Power as definition;
+ghost use Rattle.wdf_power.specs.Power.{opening_device_at};
+
+use std::alloc::Global;
+use wdf_base::{Callback, Memory, ObjectId, Plan};
+use wdf_declared::{declares, device_of, queue_of};
+use wdf_model::{DevicePower, QueuePower};
+
+/// The power of an id as a device: one that works has its queues up and its hardware.
+fn device_power(plan: &Plan, id: usize) -> DevicePower
+    requires { id < 2 ^ 32 }
+    ensures { result ≡ opening_device_at plan.now id }
+{
+    let working = match device_of(plan, ObjectId(id as u32)) {
+        Some(device) => device.working,
+        None => false,
+    };
+    DevicePower {
+        up: working,
+        hardware: working,
+    }
+}
+
+/// The power of devices, by id.
+pub(crate) fn opening_devices(alloc: Global, plan: &Plan) -> Result<Vec<DevicePower>, Memory>
+    ensures { IfOk result (λ devices. devices.items ≡ map (opening_device_at plan.now) (plans.declared_ids plan.now)) }
+{
+    let count = 1 + plan.declared_len() as usize;
+    let mut devices = Vec::with_capacity(alloc, count)?;
+    for id in 0..count {
+        devices.push(device_power(plan, id))?;
+    }
+    Ok(devices)
+}
+
+/// The power of an id as a queue.
+fn queue_power(plan: &Plan, id: usize) -> QueuePower
+    requires { id < 2 ^ 32 }
+    ensures { result ≡ definition.opening_queue_power plan.now id }
+{
+    let q = ObjectId(id as u32);
+    let device = match queue_of(plan, q) {
+        Some(queue) => queue.device,
+        None => ObjectId(0),
+    };
+    QueuePower {
+        device,
+        resumes: declares(plan, Callback::EvtIoResume, q),
+    }
+}
+
+/// The power of queues, by id.
+pub(crate) fn opening_queues(alloc: Global, plan: &Plan) -> Result<Vec<QueuePower>, Memory>
+    ensures { IfOk result (λ queues. queues.items ≡ map (definition.opening_queue_power plan.now) (plans.declared_ids plan.now)) }
+{
+    let count = 1 + plan.declared_len() as usize;
+    let mut queues = Vec::with_capacity(alloc, count)?;
+    for id in 0..count {
+        queues.push(queue_power(plan, id))?;
+    }
+    Ok(queues)
+}

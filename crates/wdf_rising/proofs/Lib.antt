@@ -1,0 +1,2 @@
+pub mod PlacesOfKeys
+pub mod EntriesById

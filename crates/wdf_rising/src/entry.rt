@@ -1,0 +1,28 @@
+ghost use Rattle.std.specs.Prelude.{◌≡◌, ℕ};
+
+use wdf_model::{Sending, Timed};
+
+/// What a list has by rising id.
+pub trait Entry: Copy {
+    ghost id: { Self → ℕ };
+
+    /// The id of the entry's object.
+    fn id(&self) -> u32
+        ensures { result ≡ id self.now };
+}
+
+impl Entry for Timed {
+    ghost id = { λ t. t.timer.0 };
+
+    fn id(&self) -> u32 {
+        self.timer.0
+    }
+}
+
+impl Entry for Sending {
+    ghost id = { λ s. s.request.0 };
+
+    fn id(&self) -> u32 {
+        self.request.0
+    }
+}

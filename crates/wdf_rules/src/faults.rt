@@ -1,0 +1,83 @@
+ghost use Rattle.std.specs.Prelude.{◌≡◌};
+ghost use Rattle.wdf_model.specs.rules.Faults as faults;
+
+use crate::arguments::{any_script_error, any_stale, any_wrong_kind, object_in};
+use crate::groups::{
+    forgets_made, gives_up, greatest_level, holds_lock, holds_scope, is_acquire, is_due, is_marked,
+    is_never_deleted, is_not_owned, is_release, is_stop_of, waits_for_others,
+};
+use crate::view::View;
+use wdf_base::{Call, CallKind, FAULTS, Fault, Intent, LockRef, same_object_id};
+use wdf_same::same_call_kind;
+
+/// Whether a fault's row holds of a call.
+fn call_faults<V: View>(view: &V, call: &Call, fault: Fault) -> bool
+    ensures { result ≡ faults.call_faults (V.seen view.now) call.now fault }
+{
+    let object = object_in(call.a);
+    match fault {
+        Fault::StaleHandle => any_stale(view, call),
+        Fault::WrongKind => any_wrong_kind(view, call) || forgets_made(view, call),
+        Fault::IrqlTooHigh => greatest_level(view, call) < view.irql().0,
+        Fault::NotOwned => is_not_owned(view, call, object),
+        Fault::CompleteWhileMarked => gives_up(call) && is_marked(view.mark(object)),
+        Fault::CompleteBeforeCancelCallback => gives_up(call) && is_due(view.mark(object)),
+        Fault::MarkedTwice => {
+            same_call_kind(call.kind, CallKind::WdfRequestMarkCancelableEx)
+                && (is_marked(view.mark(object)) || is_due(view.mark(object)))
+        }
+        Fault::AckOutsideStop => {
+            same_call_kind(call.kind, CallKind::WdfRequestStopAcknowledge)
+                && (!is_stop_of(view, object) || view.acknowledged(object))
+        }
+        Fault::NoReferenceHeld => {
+            same_call_kind(call.kind, CallKind::WdfObjectDereference)
+                && view.references(object) == 0
+        }
+        Fault::DeleteNotAllowed => {
+            same_call_kind(call.kind, CallKind::WdfObjectDelete)
+                && is_never_deleted(view.kind(object))
+        }
+        Fault::LockHeldAlready => {
+            is_acquire(call.kind) && holds_lock(view, LockRef::Object(object))
+        }
+        Fault::LockNotHeld => is_release(call.kind) && !view.by_call(LockRef::Object(object)),
+        Fault::ReturnHoldingLock | Fault::HardwareReleased => false,
+        Fault::SyncInOwnScope => {
+            waits_for_others(call)
+                && (same_object_id(view.frame().object.id, object) || holds_scope(view, object))
+        }
+        Fault::ScriptError => any_script_error(call),
+    }
+}
+
+/// Whether a fault's row holds of what a frame is about to do.
+fn holds_of<V: View>(view: &V, intent: &Intent, fault: Fault) -> bool
+    ensures { result ≡ faults.holds_of (V.seen view.now) intent.now fault }
+{
+    match intent {
+        Intent::Do(call) => call_faults(view, call, fault),
+        Intent::Return(_) => {
+            matches!(fault, Fault::ReturnHoldingLock) && view.held_by_call() > 0
+        }
+        Intent::Get(register) => {
+            matches!(fault, Fault::HardwareReleased) && !view.hardware(*register)
+        }
+        Intent::Put { register, .. } => {
+            matches!(fault, Fault::HardwareReleased) && !view.hardware(*register)
+        }
+        Intent::Broken => matches!(fault, Fault::ScriptError),
+        Intent::Local { .. } | Intent::Log(_) | Intent::Spend(_) => false,
+    }
+}
+
+/// The fault of what a frame is about to do: the first row of the table that holds, none where none
+/// does. (The names are own; the rules are KMDF's, but for the script errors.)
+pub fn fault_of<V: View>(view: &V, intent: &Intent) -> Option<Fault>
+    ensures { result ≡ faults.fault_of (V.seen view.now) intent.now }
+{
+    FAULTS
+        .iter()
+        .copied()
+        .find(|fault| holds_of(view, intent, *fault))
+}

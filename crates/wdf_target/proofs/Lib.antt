@@ -1,0 +1,4 @@
+pub mod Sendings
+pub mod Kept
+pub mod Acts
+pub mod Openings

@@ -1,0 +1,4 @@
+pub mod Left
+pub mod Opened
+pub mod Target
+pub mod Targets

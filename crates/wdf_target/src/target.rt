@@ -1,0 +1,121 @@
+ghost use Rattle.std.specs.Prelude.{◌≡◌, ◌<◌, ◌&&◌, IfOk, None, Some, [], length, nat_lt, not, slice_get};
+ghost use Rattle.wdf_model.specs.parts.Targets as targets;
+ghost use Rattle.wdf_rising.specs.Places.{entry_of};
+ghost use Rattle.wdf_target.specs.Target.{request_id, finished};
+
+use std::alloc::Global;
+use std::marker::Model;
+use wdf_base::{Memory, ObjectId, Status, TargetInfo};
+use wdf_model::{OBJECTS, Sending};
+use wdf_rising::Rising;
+
+/// An I/O target. For an object that is none it is stopped, and holds nothing.
+#[derive(Drop)]
+pub(crate) struct Target {
+    /// The most requests that it holds.
+    depth: u64,
+    stopped: bool,
+    sent: Rising<Sending>,
+}
+
+impl Model for Target {
+    ghost use Rattle.wdf_model.specs.parts.Targets.{Target};
+
+    ghost Value = { Target };
+
+    ghost use Rattle.wdf_target.specs.Target.{target_in, HasTarget};
+
+    ghost view = { target_in };
+
+    ghost invariant = { HasTarget };
+}
+
+impl Target {
+    /// A target that has nothing. On [`Memory`] nothing is made.
+    fn make(alloc: Global, depth: u64, stopped: bool) -> Result<Target, Memory>
+        ensures { IfOk result (λ made. made ≡ record { depth = depth; stopped = stopped; sent = [] }) }
+    {
+        Ok(Target {
+            depth,
+            stopped,
+            sent: Rising::make(alloc, depth.min(u64::from(OBJECTS)) as u32)?,
+        })
+    }
+
+    /// A declared target as it is at the opening. On [`Memory`] nothing is made.
+    pub(crate) fn open(alloc: Global, info: Option<TargetInfo>) -> Result<Target, Memory>
+        ensures { IfOk result (λ made. made ≡ targets.opening_target info) }
+    {
+        match info {
+            Some(info) => Target::make(alloc, info.depth, false),
+            None => Target::make(alloc, 0, true),
+        }
+    }
+
+    /// How many requests it holds.
+    pub(crate) fn len(&self) -> u32
+        ensures { result ≡ length self.now.sent }
+    {
+        self.sent.len()
+    }
+
+    /// The k-th request that it holds, by rising id from 0.
+    pub(crate) fn at(&self, k: u32) -> Sending
+        requires { k < length self.now.sent }
+        ensures { slice_get self.now.sent k ≡ Some result }
+    {
+        self.sent.at(k)
+    }
+
+    /// Whether it takes one more request.
+    pub(crate) fn takes_more(&self) -> bool
+        ensures { result ≡ (not self.now.stopped && nat_lt (length self.now.sent) self.now.depth) }
+    {
+        !self.stopped && u64::from(self.sent.len()) < self.depth
+    }
+
+    /// It takes no more requests, or takes them again.
+    pub(crate) fn set_stopped(&mut self, stopped: bool)
+        ensures { self.new ≡ record self.old { stopped = stopped } }
+    {
+        self.stopped = stopped;
+    }
+
+    /// Takes one more request, to come back or not.
+    pub(crate) fn add(&mut self, r: ObjectId, forget: bool)
+        requires there { r.0 < OBJECTS }
+        requires free { entry_of request_id self.old.sent r.0 ≡ None }
+        requires room { length self.old.sent < self.old.depth }
+        ensures { self.new ≡ record self.old { sent = targets.sending_in_order (targets.new_sending r.0 forget) self.old.sent } }
+    {
+        self.sent.put(Sending {
+            request: r,
+            forgotten: forget,
+            outcome: None,
+        });
+    }
+
+    /// It is done with a request. One that is forgotten leaves.
+    pub(crate) fn finish(&mut self, r: ObjectId, status: Status)
+        ensures done { self.new ≡ targets.target_done r.0 status self.old }
+        ensures it { entry_of request_id self.new.sent r.0 ≡ finished status (entry_of request_id self.old.sent r.0) }
+    {
+        if let Some(sending) = self.sent.get(r) {
+            if sending.forgotten {
+                self.sent.remove(r);
+            } else {
+                self.sent.put(Sending {
+                    outcome: Some(status),
+                    ..sending
+                });
+            }
+        }
+    }
+
+    /// Lets a request go.
+    pub(crate) fn remove(&mut self, r: ObjectId)
+        ensures { self.new ≡ targets.without_sending r.0 self.old }
+    {
+        self.sent.remove(r);
+    }
+}

@@ -1,0 +1,248 @@
+ghost use Rattle.std.specs.Prelude.{◌≡◌, ◌<◌, ◌≤◌, IfOk, None, Some, false, if◌then◌else◌, is_some, length, slice_get};
+ghost use Rattle.wdf_model.specs.Plans.{target_of};
+ghost use Rattle.wdf_model.specs.parts.Targets as targets;
+ghost use Rattle.wdf_target.specs.Left.{left};
+
+use crate::target::Target;
+use std::alloc::Global;
+use std::marker::Model;
+use wdf_base::{Declared, Memory, ObjectId, Plan, Status, TargetInfo};
+use wdf_maps::{entry_at, put_at};
+use wdf_model::{OBJECTS, Sending};
+
+/// What is kept of a request that is sent.
+#[derive(Clone, Copy)]
+struct Sent {
+    target: ObjectId,
+    sending: Sending,
+}
+
+/// The I/O targets: which are stopped, and what is sent to each. What is sent is kept by request too,
+/// so that no call but [`Targets::make`] looks at more than one target, or takes memory.
+#[derive(Drop)]
+pub struct Targets {
+    /// By id, for the driver object and the declared objects.
+    targets: Vec<Target>,
+    /// By request.
+    requests: Vec<Option<Sent>>,
+}
+
+impl Model for Targets {
+    ghost use Rattle.wdf_model.specs.parts.Targets.{Targets};
+
+    ghost Value = { Targets };
+
+    ghost use Rattle.wdf_target.specs.Targets.{targets_in, HasTargets};
+
+    ghost view = { targets_in };
+
+    ghost invariant = { HasTargets };
+}
+
+/// What the plan says of a target.
+fn info_of(plan: &Plan, id: u32) -> Option<TargetInfo>
+    ensures { result ≡ target_of plan.now id }
+{
+    if id == 0 || id > plan.declared_len() {
+        return None;
+    }
+    match plan.declared(ObjectId(id)) {
+        Declared::Target(info) => Some(info),
+        _ => None,
+    }
+}
+
+/// What is left of a request with which its target is done: nothing of a forgotten one.
+fn finished(sent: Sent, status: Status) -> Option<Sent>
+    ensures { result ≡ left status sent }
+{
+    if sent.sending.forgotten {
+        return None;
+    }
+    Some(Sent {
+        sending: Sending {
+            outcome: Some(status),
+            ..sent.sending
+        },
+        ..sent
+    })
+}
+
+/// The targets as they are at the opening.
+fn open(alloc: Global, plan: &Plan) -> Result<Vec<Target>, Memory>
+    ensures { IfOk result (λ made. made.items ≡ (targets.opening_targets plan.now).targets) }
+{
+    let ids = plan.declared_len() as usize + 1;
+    let mut all = Vec::with_capacity(alloc, ids)?;
+    for id in 0..ids {
+        match Target::open(alloc, info_of(plan, id as u32)) {
+            Ok(target) => all.push_reserved(target),
+            Err(memory) => return Err(memory),
+        }
+    }
+    Ok(all)
+}
+
+impl Targets {
+    /// The declared targets, which are started and have nothing. On [`Memory`] nothing is made.
+    pub fn make(alloc: Global, plan: &Plan) -> Result<Targets, Memory>
+        ensures { IfOk result (λ made. made ≡ targets.opening_targets plan.now) }
+    {
+        Ok(Targets {
+            targets: open(alloc, plan)?,
+            requests: Vec::with_capacity(alloc, OBJECTS as usize)?,
+        })
+    }
+
+    /// How many requests a target holds.
+    pub fn pending(&self, t: ObjectId) -> u32
+        ensures { result ≡ targets.pending self.now t.0 }
+    {
+        match self.targets.get(t.0 as usize) {
+            Some(target) => target.len(),
+            None => 0,
+        }
+    }
+
+    /// Whether a send to the target succeeds: it isn't stopped, and holds less than its depth. (own)
+    pub fn takes_more(&self, t: ObjectId) -> bool
+        ensures { result ≡ targets.takes_more self.now t.0 }
+    {
+        match self.targets.get(t.0 as usize) {
+            Some(target) => target.takes_more(),
+            None => false,
+        }
+    }
+
+    /// The k-th request that a target holds, by rising id from 0.
+    pub fn sent_at(&self, t: ObjectId, k: u32) -> Sending
+        requires { k < targets.pending self.now t.0 }
+        ensures { slice_get (targets.the_target self.now t.0).sent k ≡ Some result }
+    {
+        self.targets[t.0 as usize].at(k)
+    }
+
+    /// What is kept of a request that a target holds.
+    fn sending_of(&self, r: ObjectId) -> Option<Sending>
+        ensures { result ≡ targets.sending_of self.now r.0 }
+    {
+        match entry_at(self.requests.as_slice(), None, r.0) {
+            Some(sent) => Some(sent.sending),
+            None => None,
+        }
+    }
+
+    /// Whether a target holds the request.
+    pub fn is_sent(&self, r: ObjectId) -> bool
+        ensures { result ≡ is_some (targets.sending_of self.now r.0) }
+    {
+        self.sending_of(r).is_some()
+    }
+
+    /// Whether a target holds the request, and it doesn't come back to the driver.
+    pub fn is_forgotten(&self, r: ObjectId) -> bool
+        ensures { result ≡ targets.is_forgotten self.now r.0 }
+    {
+        match self.sending_of(r) {
+            Some(sending) => sending.forgotten,
+            None => false,
+        }
+    }
+
+    /// Whether a target holds the request, and isn't done with it.
+    pub fn is_undone(&self, r: ObjectId) -> bool
+        ensures { result ≡ targets.is_undone self.now r.0 }
+    {
+        match self.sending_of(r) {
+            Some(sending) => sending.outcome.is_none(),
+            None => false,
+        }
+    }
+
+    /// The status with which the completion routine of the request is due: `None` exactly where no
+    /// target is done with the request, or it is forgotten.
+    pub fn routine_due(&self, r: ObjectId) -> Option<Status>
+        ensures { result ≡ targets.routine_due self.now r.0 }
+    {
+        let sending = self.sending_of(r)?;
+        if sending.forgotten {
+            None
+        } else {
+            sending.outcome
+        }
+    }
+
+    /// Sends a request, which no target holds, to a target, to come back or not. The answer is `false`, and nothing changes,
+    /// exactly where the target takes no more. (KMDF; own)
+    pub fn send(&mut self, t: ObjectId, r: ObjectId, forget: bool) -> bool
+        requires there { r.0 < OBJECTS }
+        requires free { is_some (targets.sending_of self.old r.0) ≡ false }
+        ensures answer { result ≡ targets.takes_more self.old t.0 }
+        ensures done { self.new ≡ (if result then targets.send self.old t.0 r.0 forget else self.old) }
+        ensures size { length self.new.targets ≡ length self.old.targets }
+    {
+        if !self.takes_more(t) {
+            return false;
+        }
+        let sending = Sending {
+            request: r,
+            forgotten: forget,
+            outcome: None,
+        };
+        let target = &mut self.targets[t.0 as usize];
+        target.add(r, forget);
+        put_at(
+            &mut self.requests,
+            None,
+            r.0,
+            Some(Sent { target: t, sending }),
+        );
+        true
+    }
+
+    /// The target is done with a request. One that is forgotten leaves the target. (KMDF)
+    pub fn done(&mut self, r: ObjectId, status: Status)
+        ensures done { self.new ≡ targets.done self.old r.0 status }
+        ensures size { length self.new.targets ≡ length self.old.targets }
+    {
+        let Some(sent) = entry_at(self.requests.as_slice(), None, r.0) else {
+            return;
+        };
+        let target = &mut self.targets[sent.target.0 as usize];
+        target.finish(r, status);
+        self.requests[r.0 as usize] = finished(sent, status);
+    }
+
+    /// The completion routine of a request starts: the request leaves its target.
+    pub fn back(&mut self, r: ObjectId)
+        ensures done { self.new ≡ targets.back self.old r.0 }
+        ensures size { length self.new.targets ≡ length self.old.targets }
+    {
+        let Some(sent) = entry_at(self.requests.as_slice(), None, r.0) else {
+            return;
+        };
+        let target = &mut self.targets[sent.target.0 as usize];
+        target.remove(r);
+        self.requests[r.0 as usize] = None;
+    }
+
+    /// The target takes no more requests. (KMDF)
+    pub fn stop(&mut self, t: ObjectId)
+        requires { t.0 < length self.old.targets }
+        ensures done { self.new ≡ targets.stop self.old t.0 }
+        ensures size { length self.new.targets ≡ length self.old.targets }
+    {
+        let target = &mut self.targets[t.0 as usize];
+        target.set_stopped(true);
+    }
+
+    /// The target takes requests again. (KMDF)
+    pub fn start(&mut self, t: ObjectId)
+        requires { t.0 < length self.old.targets }
+        ensures done { self.new ≡ targets.start self.old t.0 }
+        ensures size { length self.new.targets ≡ length self.old.targets }
+    {
+        let target = &mut self.targets[t.0 as usize];
+        target.set_stopped(false);
+    }
+}

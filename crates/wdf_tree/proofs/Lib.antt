@@ -1,0 +1,6 @@
+pub mod Kin
+pub mod Kept
+pub mod Marks
+pub mod Children
+pub mod Walks
+pub mod Firsts

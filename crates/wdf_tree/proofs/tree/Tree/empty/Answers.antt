@@ -1,0 +1,12 @@
+use Rattle.std.proofs.Common.{◌≡◌, [], ◌∷◌, refl, ◌∙◌, arith}
+use Rattle.wdf_model.specs.parts.Tree.{gone}
+use Rattle.wdf_tree.proofs.Kept.{kept_at_first}
+use Rattle.wdf_tree.proofs.tree.Tree.empty.Goals as goal
+
+pub invariant_of-result : goal.invariant_of-result
+invariant_of-result c =
+    let nodes : c.push_reserved.new.self.items ≡ gone ∷ [] = c.push_reserved.ensures.items ∙ rw (c.in_ok-nodes.ensures.items, c.gone.ensures) refl in
+    let devices : c.push_reserved-2.new.self.items ≡ record { 0 = 1 } ∷ [] = c.push_reserved-2.ensures.items ∙ rw c.in_ok-devices.ensures.items refl in
+    let room = c.push_reserved.ensures.capacity in
+    let more = c.push_reserved-2.ensures.capacity in
+    kept_at_first _ _ _ _ c.args.room _ _ nodes devices (omega (arith, c.in_ok-nodes.ensures.exact)) (omega (arith, c.in_ok-devices.ensures.exact)) c.requires c.in_ok-make.ensures c.in_ok-make-2.ensures

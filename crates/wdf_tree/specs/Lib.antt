@@ -1,0 +1,4 @@
+pub mod Inside
+pub mod Refusal
+pub mod Kin
+pub mod GoFirst

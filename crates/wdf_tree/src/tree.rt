@@ -1,0 +1,51 @@
+mod acts;
+mod deletion;
+mod making;
+mod order;
+mod readers;
+
+use std::marker::Model;
+use wdf_base::ObjectId;
+use wdf_ilist::Links;
+use wdf_model::Node;
+
+/// The objects of the machine: what they are, who is above whom, and how far the deletion of each
+/// has come. An object that is gone keeps its id.
+///
+/// Contracts see wdf_model's record of the tree. Every call but [`Tree::make`] takes no memory.
+#[derive(Drop)]
+pub struct Tree {
+    /// The most counted objects at one time.
+    limit: u32,
+    /// The objects by id. The id 0 is none.
+    nodes: Vec<Node>,
+    /// The nearest device at or above each object, or the driver object.
+    devices: Vec<ObjectId>,
+    /// How many counted objects there are.
+    count: u32,
+    /// The children of each object that are left, by rising ids.
+    children: Links,
+    /// The children of each object whose cleanup is still to come, by rising ids.
+    waiting: Links,
+}
+
+impl Model for Tree {
+    ghost use Rattle.wdf_model.specs.parts.Tree as tree;
+
+    ghost Value = { tree.Tree };
+
+    ghost use Rattle.wdf_tree.specs.Inside.{tree_in, IsSound};
+
+    ghost view = { tree_in };
+
+    ghost invariant = { IsSound };
+}
+
+/// Why no object was made.
+#[derive(Clone, Copy, Debug, PartialEq, Eq)]
+pub enum CreateRefusal {
+    /// The parent isn't live.
+    ParentDeleted,
+    /// There are as many counted objects as the plan allows.
+    Full,
+}

@@ -1,0 +1,190 @@
+//! Deletions: a deletion is asked, the cleanup is done, and the object is destroyed.
+
+ghost use Rattle.std.specs.Prelude.{◌≡◌, ◌+◌, ◌-◌, ◌<◌, ◌≤◌, ◌==◌, ◌||◌, ℕ, IfSome, IsTrue, drop, false, find, length, nat_lt, option_map};
+ghost use Rattle.std.specs.List.{list_all, range_with_len};
+ghost use Rattle.wdf_model.specs.Tables.{same_id};
+ghost use Rattle.wdf_model.specs.parts.Tree as tree;
+
+use super::Tree;
+use super::making::{DRIVER, counted, gone};
+use wdf_base::{Life, ObjectId};
+
+/// Whether an id was found, and it is this one.
+fn is_id(found: Option<u32>, id: u32) -> bool
+    ensures { result ≡ same_id found id }
+{
+    match found {
+        Some(other) => other == id,
+        None => false,
+    }
+}
+
+impl Tree {
+    /// Asks the deletion of one object, if it is live.
+    #[tactic(auto, using(wdf_model::proofs::Maps::put_within, wdf_model::proofs::Maps::set_as_it_was))]
+    pub fn ask_one(&mut self, o: ObjectId)
+        requires there { o.0 < length self.old.nodes }
+        ensures done { self.new ≡ tree.ask_one self.old o.0 }
+        ensures size { length self.new.nodes ≡ length self.old.nodes }
+    {
+        if self.life(o) == Life::Live {
+            self.nodes[o.0 as usize].life = Life::Asked;
+        }
+    }
+
+    /// Whether an object is below another, by one or more steps from child to parent.
+    #[tactic(auto, using(crate::proofs::Marks::below_by_parent))]
+    pub fn is_below(&self, o: ObjectId, below: ObjectId) -> bool
+        ensures { result ≡ tree.is_below self.now o.0 below.0 }
+    {
+        if below.0 >= self.len() {
+            return false;
+        }
+        let mut at = below;
+        'up: loop {
+            let parent = self.parent(at);
+            if parent.0 == o.0 {
+                return true;
+            }
+            if parent.0 >= at.0 {
+                return false;
+            }
+            at = parent;
+        }
+    }
+
+    /// An id before which nothing is below an object: that of its first child.
+    fn first_below(&self, o: ObjectId) -> u32
+        ensures before { (x : ℕ) → x < result → tree.is_below self.now o.0 x ≡ false }
+        ensures there { 0 < result → o.0 < length self.now.nodes }
+    {
+        if o.0 == 0 || o.0 >= self.len() {
+            return 0;
+        }
+        match self.children.front(o.0) {
+            Some(child) => child,
+            None => self.len(),
+        }
+    }
+
+    /// The least id from `first` on in the subtree of an object.
+    #[tactic(auto, using(crate::proofs::Walks::ids_from))]
+    fn next_from(&self, o: ObjectId, first: u32) -> Option<ObjectId>
+        ensures next { option_map (λ x. x.0) result
+            ≡ find (λ x. x == o.0 || tree.is_below self.now o.0 x) (range_with_len first (length self.now.nodes - first)) }
+        ensures above { IfSome result (λ x. first ≤ x.0) }
+        ensures there { IfSome result (λ x. x.0 < length self.now.nodes) }
+    {
+        for x in first..self.len() {
+            if x == o.0 || self.is_below(o, ObjectId(x)) {
+                return Some(ObjectId(x));
+            }
+        }
+        None
+    }
+
+    /// The least id above `after` in the subtree of an object, which is that object and what is
+    /// below it. So the subtree is walked by rising ids, from the id 0, which is no object.
+    #[tactic(auto, using(crate::proofs::Walks::next_is_self, crate::proofs::Walks::next_after, crate::proofs::Walks::none_past))]
+    pub fn next_below(&self, o: ObjectId, after: ObjectId) -> Option<ObjectId>
+        ensures next { option_map (λ x. x.0) result ≡ find (nat_lt after.0) (tree.subtree self.now o.0) }
+        ensures above { IfSome result (λ x. after.0 < x.0) }
+        ensures there { IfSome result (λ x. x.0 < length self.now.nodes) }
+        ensures none { tree.is_live (tree.life_of self.now 0) ≡ false }
+    {
+        if after.0 as usize >= self.nodes.len() {
+            return None;
+        }
+        let first = self.first_below(o);
+        if after.0 < o.0 && o.0 < first {
+            return Some(o);
+        }
+        self.next_from(o, first.max(after.0 + 1))
+    }
+
+    /// Asks the deletion of an object and of what is below it (KMDF): of each that is live.
+    pub fn ask_delete(&mut self, o: ObjectId)
+        ensures done { self.new ≡ tree.ask_delete self.old o.0 }
+        ensures size { length self.new.nodes ≡ length self.old.nodes }
+    {
+        let mut at = ObjectId(0);
+        'walk: while let Some(next) = self.next_below(o, at) {
+            self.ask_one(next);
+            at = next;
+        }
+    }
+
+    /// Whether no child of an object is left.
+    #[tactic(auto, using(crate::proofs::Children::left_children))]
+    fn has_no_child(&self, o: ObjectId) -> bool
+        requires there { o.0 < length self.now.nodes }
+        ensures { result ≡ (length (tree.children self.now o.0) == 0) }
+    {
+        self.children.is_empty(o.0)
+    }
+
+    /// Whether each child of an object has been cleaned up.
+    #[tactic(auto, using(crate::proofs::Children::no_waiting_child))]
+    fn are_children_clean(&self, o: ObjectId) -> bool
+        requires there { o.0 < length self.now.nodes }
+        ensures { result ≡ list_all (λ x. tree.is_past_cleanup (tree.life_of self.now x)) (tree.children self.now o.0) }
+    {
+        self.waiting.is_empty(o.0)
+    }
+
+    /// Whether each younger sibling of an object whose deletion was asked has been cleaned up.
+    #[tactic(auto, using(crate::proofs::Children::last_waiting))]
+    fn are_younger_clean(&self, o: ObjectId) -> bool
+        requires asked { IsTrue (tree.is_asked (tree.life_of self.now o.0)) }
+        requires parent { IsTrue (tree.is_asked (tree.life_of self.now (tree.parent_of self.now o.0))) }
+        ensures { result ≡ list_all (λ x. tree.is_past_cleanup (tree.life_of self.now x)) (tree.younger_siblings self.now o.0) }
+    {
+        is_id(self.waiting.back(self.parent(o).0), o.0)
+    }
+
+    /// Whether the cleanup of an object may come, by lives alone: its deletion was asked, no child
+    /// waits for cleanup, and, where the deletion of its parent was asked too, no younger sibling
+    /// does (own).
+    #[tactic(auto, using(crate::proofs::Kept::there_if_asked, crate::proofs::Kept::asked_as_same))]
+    pub fn may_clean(&self, o: ObjectId) -> bool
+        ensures { result ≡ tree.may_clean self.now o.0 }
+    {
+        if self.life(o) != Life::Asked || !self.are_children_clean(o) {
+            return false;
+        }
+        self.life(self.parent(o)) != Life::Asked || self.are_younger_clean(o)
+    }
+
+    /// The cleanup of an object is done.
+    #[tactic(auto, using(crate::proofs::Kept::there_if_asked, wdf_model::proofs::Maps::put_within))]
+    pub fn clean(&mut self, o: ObjectId)
+        requires asked { IsTrue (tree.is_asked (tree.life_of self.old o.0)) }
+        ensures done { self.new ≡ tree.clean self.old o.0 }
+        ensures size { length self.new.nodes ≡ length self.old.nodes }
+    {
+        self.nodes[o.0 as usize].life = Life::Cleaned;
+        let _list = self.waiting.unlink(o.0);
+    }
+
+    /// Whether an object may be destroyed, by the tree alone: its cleanup is done, no reference is
+    /// held, and no child is left (KMDF).
+    #[tactic(auto, using(crate::proofs::Kept::there_if_cleaned, crate::proofs::Kept::cleaned_as_same))]
+    pub fn may_destroy(&self, o: ObjectId) -> bool
+        ensures { result ≡ tree.may_destroy self.now o.0 }
+    {
+        self.life(o) == Life::Cleaned && self.references(o) == 0 && self.has_no_child(o)
+    }
+
+    /// An object is destroyed, and nothing of it is kept.
+    #[tactic(auto, using(crate::proofs::Kept::there_if_cleaned, wdf_model::proofs::Maps::put_within))]
+    pub fn destroy(&mut self, o: ObjectId)
+        requires may { IsTrue (tree.may_destroy self.old o.0) }
+        ensures done { self.new ≡ tree.destroy self.old o.0 }
+        ensures size { length self.new.nodes ≡ length self.old.nodes }
+    {
+        self.count -= counted(&self.nodes[o.0 as usize]);
+        self.nodes[o.0 as usize] = gone();
+        self.devices[o.0 as usize] = DRIVER;
+        let _list = self.children.unlink(o.0);
+    }
+}

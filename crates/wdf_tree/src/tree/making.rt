@@ -1,0 +1,183 @@
+//! How objects come to be: those that the plan declares, those that calls make, and requests.
+
+ghost use Rattle.std.specs.Prelude.{◌≡◌, ◌<◌, ◌++◌, ◌∷◌, [], IfOk, if◌then◌else◌, true, false, is_ok, length};
+ghost use Rattle.wdf_model.specs.parts.Tree as tree;
+ghost use Rattle.wdf_ilist.specs.Family.{is_on_any};
+ghost use Rattle.wdf_tree.specs.Kin.{joined};
+ghost use Rattle.wdf_tree.specs.Refusal.{create_answer};
+
+use super::{CreateRefusal, Tree};
+use std::alloc::Global;
+use wdf_base::{Declared, Kind, Life, Memory, ObjectId, Plan, Value};
+use wdf_ilist::Links;
+use wdf_model::{CELLS, Node, OBJECTS};
+
+/// The driver object.
+pub(super) const DRIVER: ObjectId = ObjectId(1);
+
+/// What is kept of an object that is gone.
+pub(super) fn gone() -> Node
+    ensures { result ≡ tree.gone }
+{
+    Node {
+        life: Life::Gone,
+        kind: Kind::General,
+        class: 0,
+        parent: ObjectId(0),
+        references: 0,
+        cells: [Value::Num(0); CELLS],
+        cleanup_started: false,
+        destroy_started: false,
+    }
+}
+
+/// An object as it is made.
+fn new_node(kind: Kind, class: u16, parent: ObjectId) -> Node
+    ensures { result ≡ tree.new_node kind class parent.0 }
+{
+    Node {
+        life: Life::Live,
+        kind,
+        class,
+        parent,
+        references: 0,
+        cells: [Value::Num(0); CELLS],
+        cleanup_started: false,
+        destroy_started: false,
+    }
+}
+
+/// An object that the plan declares. Its parent is its device, and the parent of a device is the
+/// driver object.
+fn declared_node(declared: &Declared) -> Node
+    ensures { result ≡ tree.declared_node declared.now }
+{
+    let parent = match declared {
+        Declared::Driver | Declared::OfClass(_) => ObjectId(0),
+        Declared::Device(_) => DRIVER,
+        Declared::Queue(queue) => queue.device,
+        Declared::Interrupt(interrupt) => interrupt.device,
+        Declared::Target(target) => target.device,
+    };
+    new_node(declared.kind().unwrap_or(Kind::General), 0, parent)
+}
+
+/// What an object counts against the limit: all but arrived requests count, while they aren't gone.
+pub(super) fn counted(node: &Node) -> u32
+    ensures { result ≡ (if tree.counts node.now then 1 else 0) }
+{
+    if node.life != Life::Gone && node.kind != Kind::Request {
+        1
+    } else {
+        0
+    }
+}
+
+/// Puts an object at the end of the list of its parent's children, if there is such a list.
+fn join(family: &mut Links, parent: ObjectId, id: u32)
+    requires known { length family.old.lists ≡ OBJECTS }
+    requires within { id < family.old.items }
+    requires free { is_on_any id family.old.lists ≡ false }
+    ensures { family.new ≡ joined family.old parent.0 id }
+{
+    if parent.0 < OBJECTS {
+        family.push_back(parent.0, id);
+    }
+}
+
+impl Tree {
+    /// The tree at the opening of the plan's run: the driver object and the declared ones, all live.
+    /// It takes the room for all objects that a run can make.
+    pub fn make(alloc: Global, plan: &Plan) -> Result<Tree, Memory>
+        requires { length plan.now.declared < OBJECTS }
+        ensures opening { IfOk result (λ made. made ≡ tree.opening_tree plan.now) }
+    {
+        let mut tree = Tree::empty(alloc, plan.objects(), OBJECTS)?;
+        for declared in plan.declared.as_slice() {
+            tree.enter(declared_node(declared));
+        }
+        Ok(tree)
+    }
+
+    /// The tree with no object, and with room for as many.
+    fn empty(alloc: Global, limit: u32, room: u32) -> Result<Tree, Memory>
+        requires { room ≡ OBJECTS }
+        ensures { IfOk result (λ made. made ≡ record { limit = limit; nodes = tree.gone ∷ [] }) }
+    {
+        let mut nodes = Vec::with_capacity(alloc, room as usize)?;
+        let mut devices = Vec::with_capacity(alloc, room as usize)?;
+        nodes.push_reserved(gone());
+        devices.push_reserved(DRIVER);
+        Ok(Tree {
+            limit,
+            nodes,
+            devices,
+            count: 0,
+            children: Links::make(alloc, room, room)?,
+            waiting: Links::make(alloc, room, room)?,
+        })
+    }
+
+    /// The nearest device of an object that is about to come into the tree: itself, if it is one.
+    #[tactic(auto, using(crate::proofs::Kept::nearest_length))]
+    fn nearest_for(&self, node: &Node) -> ObjectId
+        ensures { result.0 ≡ tree.own_device (tree.nearest_devices [] self.now.nodes) (length self.now.nodes) node.now }
+    {
+        if node.kind == Kind::Device {
+            self.next_id()
+        } else {
+            self.device(node.parent)
+        }
+    }
+
+    /// A live object comes into the tree, with the next id.
+    #[tactic(auto, using(crate::proofs::Kept::few_counts))]
+    fn enter(&mut self, node: Node)
+        requires room { length self.old.nodes < OBJECTS }
+        requires live { tree.is_live node.life ≡ true }
+        ensures { self.new ≡ record self.old { nodes = self.old.nodes ++ node ∷ [] } }
+    {
+        let device = self.nearest_for(&node);
+        let id = self.len();
+        self.count += counted(&node);
+        join(&mut self.children, node.parent, id);
+        join(&mut self.waiting, node.parent, id);
+        self.nodes.push_reserved(node);
+        self.devices.push_reserved(device);
+    }
+
+    /// An object is made by a call, and is live. It is refused under a parent that isn't live
+    /// (KMDF), and else where there are as many counted objects as the plan allows (own); then
+    /// nothing changes.
+    pub fn create(
+        &mut self,
+        kind: Kind,
+        class: u16,
+        parent: ObjectId,
+    ) -> Result<ObjectId, CreateRefusal>
+        requires room { length self.old.nodes < OBJECTS }
+        ensures answer { result ≡ create_answer self.old parent.0 }
+        ensures done { self.new ≡ (if is_ok result then tree.create self.old kind class parent.0 else self.old) }
+    {
+        if self.life(parent) != Life::Live {
+            return Err(CreateRefusal::ParentDeleted);
+        }
+        if self.is_full() {
+            return Err(CreateRefusal::Full);
+        }
+        let id = self.next_id();
+        self.enter(new_node(kind, class, parent));
+        Ok(id)
+    }
+
+    /// A request arrives at a device, and is live. It counts against no limit. (own)
+    pub fn arrive(&mut self, device: ObjectId) -> ObjectId
+        requires room { length self.old.nodes < OBJECTS }
+        ensures id { result.0 ≡ tree.next_id self.old }
+        ensures done { self.new ≡ tree.arrive self.old device.0 }
+    {
+        let id = self.next_id();
+        self.enter(new_node(Kind::Request, 0, device));
+        id
+    }
+}

@@ -1,0 +1,46 @@
+//! What has to go before an object, for the list of what a stuck run waits for.
+
+ghost use Rattle.std.specs.Prelude.{◌≡◌, ◌<◌, length, option_map};
+ghost use Rattle.wdf_model.specs.Tables.{least};
+ghost use Rattle.wdf_tree.specs.GoFirst.{go_first, lesser_of};
+
+use super::Tree;
+use wdf_base::{Life, ObjectId};
+
+/// The least of what was found.
+fn lesser(one: Option<u32>, other: Option<u32>) -> Option<u32>
+    ensures { result ≡ lesser_of one other }
+{
+    match (one, other) {
+        (Some(a), Some(b)) if a > b => Some(b),
+        (None, found) => found,
+        (found, _) => found,
+    }
+}
+
+impl Tree {
+    /// The id of the least object that has to go before this one.
+    fn first_id(&self, o: ObjectId) -> Option<u32>
+        requires there { o.0 < length self.now.nodes }
+        ensures { result ≡ least (go_first self.now o.0) }
+    {
+        if self.life(o) == Life::Cleaned {
+            return self.children.front(o.0);
+        }
+        let child = self.waiting.front(o.0);
+        if self.life(self.parent(o)) != Life::Asked {
+            return child;
+        }
+        lesser(child, self.waiting.after(o.0))
+    }
+
+    /// The least object that has to go before this one: once it is cleaned up, a child that is left,
+    /// and before that a child or, where the deletion of the parent was asked too, a younger
+    /// sibling whose cleanup is still to come. (own)
+    pub fn goes_first(&self, o: ObjectId) -> Option<ObjectId>
+        requires there { o.0 < length self.now.nodes }
+        ensures { option_map (λ x. x.0) result ≡ least (go_first self.now o.0) }
+    {
+        self.first_id(o).map(ObjectId)
+    }
+}

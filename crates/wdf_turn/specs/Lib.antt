@@ -1,0 +1,5 @@
+pub mod Notes
+pub mod Tokens
+pub mod Story
+pub mod Turns
+pub mod Lending

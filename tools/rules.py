@@ -1,0 +1,155 @@
+#!/usr/bin/env python3
+"""Writes docs/RULES.md from tools/rules.txt, or with --check says whether it is what would be written.
+
+tools/rules.txt has a rule a line: its words, a bar, and the definitions that state it, with commas between them. A
+definition is a name of crates/wdf_model, or of the crate that stands in brackets after it; other brackets name a row.
+Each definition has to exist. The script adds the functions whose contracts cite it (code), the laws over it (functions
+without a body in wdf_model and wdf_invariants), and the must-fail edits inside the code.
+"""
+
+import re
+import sys
+from pathlib import Path
+
+ROOT = Path(__file__).resolve().parent.parent
+CRATES = ROOT / "crates"
+RULES = ROOT / "tools" / "rules.txt"
+PAGE = ROOT / "docs" / "RULES.md"
+LAW_CRATES = {"wdf_model", "wdf_invariants", "wdf_worked"}
+
+HEAD = """# The rules of the machine, and where each is kept
+
+`tools/rules.py` writes this page from `tools/rules.txt` and checks it in the gate: each definition named here exists.
+Definitions are in `crates/wdf_model/specs` unless a crate is named. Code is a function whose contract cites the
+definition; a law is a function without a body that speaks of it; an edit is a wrong body that the prover refuses.
+`docs/MACHINE.md` explains the rules to a driver writer.
+"""
+
+DEFINITION = re.compile(r"^(?:(?:abbrev|unfoldable)(?: pub)?|pub)? ?([A-Za-z_][A-Za-z0-9_']*) :", re.M)
+TYPE = re.compile(r"^pub (?:record|data) ([A-Za-z_][A-Za-z0-9_']*)", re.M)
+MEMBER = re.compile(r"^  (?:pub )?([A-Za-z_][A-Za-z0-9_']*) :", re.M)
+RUST = re.compile(r"^\s*(?:pub )?(?:struct|enum|fn|const|trait) ([A-Za-z_][A-Za-z0-9_]*)", re.M)
+VARIANT = re.compile(r"^    (?:pub )?([A-Za-z][A-Za-z0-9_]*)\s*[,({:]", re.M)
+FUNCTION = re.compile(r"^\s*(?:pub )?(?:const )?fn ([a-z_][a-z0-9_]*)")
+WORD = re.compile(r"[A-Za-z_][A-Za-z0-9_']*")
+
+
+def sources(crate, suffix):
+    """The files of a crate, but for what was built."""
+    return [p for p in sorted((CRATES / crate).rglob("*" + suffix)) if "out" not in p.relative_to(CRATES).parts]
+
+
+def names_of(crate):
+    """What a crate defines: definitions, types, fields and variants."""
+    names = set()
+    for path in sources(crate, ".antt"):
+        if "specs" in path.relative_to(CRATES).parts:
+            text = path.read_text()
+            for form in (DEFINITION, TYPE, MEMBER):
+                names.update(form.findall(text))
+    for path in sources(crate, ".rt"):
+        text = path.read_text()
+        for form in (RUST, VARIANT):
+            names.update(form.findall(text))
+    return names
+
+
+def functions_of(path):
+    """The functions of a file: name, contract, first and last line."""
+    lines = path.read_text().split("\n")
+    starts = [k for k, line in enumerate(lines) if FUNCTION.match(line)]
+    for k, start in enumerate(starts):
+        end = starts[k + 1] if k + 1 < len(starts) else len(lines)
+        contract = []
+        for line in lines[start + 1 : end]:
+            if line.strip() in ("{", "{}"):
+                break
+            contract.append(line)
+        yield FUNCTION.match(lines[start]).group(1), "\n".join(contract), start, end
+
+
+def gather():
+    """The functions by the words of their contracts, and the edits by the functions in which they are."""
+    code, laws, edits = {}, {}, {}
+    for folder in sorted(p for p in CRATES.iterdir() if p.is_dir()):
+        crate = folder.name
+        for path in sources(crate, ".rt"):
+            text = path.read_text()
+            speaks = "wdf_model.specs" in text
+            for name, contract, start, end in functions_of(path):
+                lines = text.split("\n")[start:end]
+                key = f"{crate}::{name}"
+                for edit in sorted(folder.glob("must-fail/*.edit")):
+                    told = edit.read_text().split("\n")
+                    if told[0] == f"file: {path.relative_to(folder)}" and any(told[1][5:] in line for line in lines):
+                        edits.setdefault(key, []).append(edit.stem)
+                if not speaks or "tests" in path.parts:
+                    continue
+                table = laws if crate in LAW_CRATES else code
+                for word in set(WORD.findall(contract)):
+                    table.setdefault(word, []).append(key)
+    return code, laws, edits
+
+
+def parsed(text):
+    """The rules by subject: words, and definitions as (name, remark)."""
+    subject = None
+    for number, line in enumerate(text.split("\n"), 1):
+        if not line or line.startswith("#"):
+            continue
+        if "|" not in line:
+            subject = line
+            yield number, subject, None, None
+            continue
+        words, told = (part.strip() for part in line.rsplit("|", 1))
+        found = [re.fullmatch(r"([A-Za-z_.']+)(?: \(([^)]*)\))?", d.strip()) for d in told.split(",") if d.strip()]
+        if None in found:
+            sys.exit(f"{RULES.name}, line {number}: can't be read: {told}")
+        yield number, subject, words, [(m.group(1), m.group(2)) for m in found]
+
+
+def several(items, most=3):
+    """The first few of a list, as code words."""
+    items = sorted(set(items))
+    shown = ", ".join(f"`{item}`" for item in items[:most])
+    return shown + (f" and {len(items) - most} more" if len(items) > most else "")
+
+
+def page():
+    """The page, or an end of the script where a name doesn't exist."""
+    known = {}
+    code, laws, edits = gather()
+    out, wrong = [HEAD], []
+    for number, subject, words, definitions in parsed(RULES.read_text()):
+        if words is None:
+            out.append(f"\n## {subject}\n\n| rule | definition | code | law | edit |\n|---|---|---|---|---|")
+            continue
+        told, by_code, by_law = [], [], []
+        for name, remark in definitions:
+            crate = remark if remark and (CRATES / remark).is_dir() else "wdf_model"
+            last = name.split(".")[-1]
+            if crate not in known:
+                known[crate] = names_of(crate)
+            if last not in known[crate]:
+                wrong.append(f"{RULES.name}, line {number}: {crate} has no {name}")
+            told.append(f"`{name}`" + (f" ({remark})" if remark else ""))
+            by_code += code.get(last, [])
+            by_law += laws.get(last, [])
+        by_edit = [edit for key in by_code for edit in edits.get(key, [])]
+        out.append(f"| {words} | {', '.join(told)} | {several(by_code)} | {several(by_law)} | {several(by_edit)} |")
+    if wrong:
+        sys.exit("\n".join(wrong))
+    return "\n".join(out) + "\n"
+
+
+def main():
+    text = page()
+    if "--check" in sys.argv[1:]:
+        if not PAGE.exists() or PAGE.read_text() != text:
+            sys.exit("docs/RULES.md isn't what tools/rules.py writes: run it")
+    else:
+        PAGE.write_text(text)
+
+
+if __name__ == "__main__":
+    main()
