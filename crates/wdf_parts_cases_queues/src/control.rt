@@ -13,22 +13,28 @@ fn opening(alloc: Global) -> Result<Control, Memory>
     Control::make(alloc, &plan(alloc)?)
 }
 
+/// The control after a call on the parallel queue.
+fn in_mode(alloc: Global, mode: Mode) -> Result<Control, Memory> {
+    let mut control = opening(alloc)?;
+    match mode {
+        Mode::Started => control.start(PARALLEL),
+        Mode::Stopped => control.stop(PARALLEL),
+        Mode::Drained => control.drain(PARALLEL),
+        Mode::Purged => control.purge(PARALLEL),
+    }
+    Ok(control)
+}
+
 /// A queue accepts in Started and Stopped, and delivers in Started and Drained where it has power.
 #[test]
 fn modes_accept_and_deliver(rt: HostRuntime) -> Result<(), Fail> {
-    let mut control = opening(rt.alloc())?;
     for (mode, accepts, delivers) in [
         (Mode::Started, true, true),
         (Mode::Stopped, true, false),
         (Mode::Drained, false, true),
         (Mode::Purged, false, false),
     ] {
-        match mode {
-            Mode::Started => control.start(PARALLEL),
-            Mode::Stopped => control.stop(PARALLEL),
-            Mode::Drained => control.drain(PARALLEL),
-            Mode::Purged => control.purge(PARALLEL),
-        }
+        let control = in_mode(rt.alloc(), mode)?;
         assert_eq!(rt; control.mode_of(PARALLEL), mode);
         assert_eq!(rt; control.accepts(PARALLEL), accepts);
         assert_eq!(rt; control.delivers(PARALLEL, true), delivers);

@@ -37,14 +37,22 @@ fn requeue(queues: &mut Queues, q: ObjectId, id: u16)
     }
 }
 
+/// Three requests wait in the manual queue.
+fn with_three(alloc: Global) -> Result<Queues, Memory>
+    ensures { IfOk result (λ queues. length queues.dispatch ≡ 6) }
+{
+    let mut queues = opening(alloc)?;
+    enter(&mut queues, MANUAL, 10);
+    enter(&mut queues, MANUAL, 11);
+    enter(&mut queues, MANUAL, 12);
+    Ok(queues)
+}
+
 #[test]
 fn requests_wait_in_order(rt: HostRuntime) -> Result<(), Fail> {
-    let mut queues = opening(rt.alloc())?;
-    assert!(rt; queues.is_empty(MANUAL));
-    assert_eq!(rt; queues.head(MANUAL), None);
-    for id in [10, 11, 12] {
-        enter(&mut queues, MANUAL, id);
-    }
+    let mut queues = with_three(rt.alloc())?;
+    assert!(rt; queues.is_empty(PARALLEL));
+    assert_eq!(rt; queues.head(PARALLEL), None);
     requeue(&mut queues, MANUAL, 13);
     assert_eq!(rt; queues.len(MANUAL), 4);
     for (k, id) in [(0, 13), (1, 10), (2, 11), (3, 12)] {
@@ -60,10 +68,7 @@ fn requests_wait_in_order(rt: HostRuntime) -> Result<(), Fail> {
 /// A cancelled request leaves its list, and the others keep their order.
 #[test]
 fn a_cancelled_request_leaves(rt: HostRuntime) -> Result<(), Fail> {
-    let mut queues = opening(rt.alloc())?;
-    for id in [10, 11, 12] {
-        enter(&mut queues, MANUAL, id);
-    }
+    let mut queues = with_three(rt.alloc())?;
     assert!(rt; queues.take_cancelled(ObjectId(11)));
     assert!(rt; !queues.take_cancelled(ObjectId(11)));
     assert!(rt; !queues.is_waiting(ObjectId(11)));

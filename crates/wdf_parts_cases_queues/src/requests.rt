@@ -1,6 +1,7 @@
 use crate::plans::plan;
 use std::test::Fail;
 use wdf_base::{Mark, ObjectId, Place, RequestForm, RequestInfo, Status};
+use wdf_model::{EVENTS, OBJECTS};
 use wdf_request::Requests;
 
 const QUEUE: ObjectId = ObjectId(3);
@@ -206,6 +207,13 @@ fn counts_follow(rt: HostRuntime) -> Result<(), Fail> {
     Ok(())
 }
 
+/// A request arrives with a number, if there is room.
+fn arrives(requests: &mut Requests, id: ObjectId, arrival: u32) {
+    if id.0 < OBJECTS && requests.arrived() < EVENTS {
+        requests.arrive(id, Place::Queued(QUEUE), RequestInfo { arrival, ..READ });
+    }
+}
+
 /// A request is found by its number among the agent's arrivals, until it is forgotten; also past
 /// the agent's lines, and where a number came twice.
 #[test]
@@ -214,8 +222,7 @@ fn arrivals_are_found(rt: HostRuntime) -> Result<(), Fail> {
     let mut requests = Requests::make(rt.alloc(), &plan)?;
     requests.arrive(REQUEST, Place::Queued(QUEUE), READ);
     for (arrival, id) in [(1, 11), (9, 12), (1, 13)] {
-        let info = RequestInfo { arrival, ..READ };
-        requests.arrive(ObjectId(id), Place::Queued(QUEUE), info);
+        arrives(&mut requests, ObjectId(id), arrival);
         assert_eq!(rt; requests.arrival_of(0, 2), Some(REQUEST));
     }
     assert_eq!(rt; requests.arrival_of(0, 1), Some(ObjectId(11)));
