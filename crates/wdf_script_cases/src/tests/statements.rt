@@ -1,4 +1,3 @@
-use crate::next;
 use crate::tests::{
     DEVICE, DRIVER, FRAME, QUEUE, REQUEST, SUCCESS, TARGET, add, nodes_of, plan_of,
 };
@@ -9,6 +8,7 @@ use wdf_base::{
     Act, Callback, Change, ContextWord, ExprNode, Frame, Intent, Items, MANY, Memory, Operator,
     Statement, Status, Value,
 };
+use wdf_script::next;
 
 /// The nodes of the statements below.
 static NODES: [ExprNode; 22] = [

@@ -1,4 +1,3 @@
-use crate::next;
 use crate::tests::{FRAME, QUEUE, add, plan_of};
 use std::alloc::Global;
 use std::process::Abort;
@@ -7,6 +6,7 @@ use wdf_base::{
     Act, ContextWord, ExprNode, Intent, Items, MANY, Memory, Operator, Plan, Statement, Status,
     Value,
 };
+use wdf_script::next;
 
 /// A row: two atoms and an operator between them, and what `log` makes of it.
 type Operation = (ExprNode, Operator, ExprNode, Intent);

@@ -1,10 +1,10 @@
 //! The lines of endings and of wait lists.
-use crate::test_plan::{self, plan};
-use crate::*;
+use crate::plan::{L, REQ, X, Y, plan};
 use std::test::Fail;
 use wdf_base::{
     Callback, Cause, Ending, Fault, FrameId, Handle, ObjectId, OpenThing, Stage, Step, WaitLine,
 };
+use wdf_trace::{ending_line, reads_as_ending, reads_as_wait, wait_line};
 
 const D: Handle = Handle {
     id: ObjectId(2),
@@ -47,27 +47,27 @@ const REQ: Handle = Handle {
 /// Objects of the worked runs.
 const REQ_4: Handle = Handle {
     id: ObjectId(4),
-    name: test_plan::REQ,
+    name: REQ,
 };
 
 const X_5: Handle = Handle {
     id: ObjectId(5),
-    name: test_plan::X,
+    name: X,
 };
 
 const Y_6: Handle = Handle {
     id: ObjectId(6),
-    name: test_plan::Y,
+    name: Y,
 };
 
 const L_3: Handle = Handle {
     id: ObjectId(3),
-    name: test_plan::L,
+    name: L,
 };
 
 const L_4: Handle = Handle {
     id: ObjectId(4),
-    name: test_plan::L,
+    name: L,
 };
 
 /// Endings after some events.

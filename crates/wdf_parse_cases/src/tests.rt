@@ -1,6 +1,6 @@
-use super::*;
 use std::alloc::Global;
 use std::test::Fail;
+use wdf_parse::{ParseRefusal, TEXT_LIMIT, parse, print};
 
 /// The refusal of a text, if it has one.
 fn refusal_of(alloc: Global, text: &[u8]) -> Option<ParseRefusal> {

@@ -1,6 +1,5 @@
 //! Lines of callbacks, most of them from traces of the worked runs.
-use crate::test_plan::*;
-use crate::*;
+use crate::plan::*;
 use std::process::Abort;
 use std::test::Fail;
 use wdf_base::Callback::*;

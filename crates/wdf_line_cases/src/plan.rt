@@ -1,5 +1,4 @@
 //! The plan of the tests, with names and ids like those of the worked runs.
-use crate::*;
 use std::alloc::Global;
 use std::process::Abort;
 use wdf_base::{
@@ -7,6 +6,7 @@ use wdf_base::{
     FEW, Handle, InterruptInfo, Irql, Items, MANY, Memory, Name, ObjectId, PlainKind, Plan,
     QueueInfo, RegisterInfo, Scope, Serves, Status, TargetInfo,
 };
+use wdf_trace::{line_of, read_line};
 
 /// The declared names behind `driver` and `req`, from name 2 on.
 const NAMES: [&str; 20] = [

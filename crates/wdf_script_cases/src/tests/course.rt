@@ -1,10 +1,10 @@
 use crate::tests::{FRAME, SUCCESS, add, nodes_of, plan_of};
-use crate::{line_of, next, statement_at, value_of};
 use std::alloc::Global;
 use std::test::Fail;
 use wdf_base::{
     Act, Change, ExprNode, Frame, Intent, Items, MANY, Memory, Operator, Plan, Statement, Value,
 };
+use wdf_script::{line_of, next, statement_at, value_of};
 
 /// `2`, then `x`, `1` and `( x + 1 )`, then `x`, `2` and `( x == 2 )`, then `99`.
 static COURSE_NODES: [ExprNode; 8] = [

@@ -1,11 +1,11 @@
-use crate::test_plan::{plan, show};
-use crate::*;
+use crate::plan::{plan, show};
 use std::process::Abort;
 use std::test::Fail;
 use wdf_base::{
     Access, Action, Arg, Ask, Call, CallKind, Callback, Cpu, Event, Fault, FrameId, Handle,
     ObjectId, Plan, Post, Stage, Status, Value,
 };
+use wdf_trace::read_line;
 
 const DRIVER: Handle = Handle {
     id: ObjectId(1),
