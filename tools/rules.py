@@ -42,7 +42,6 @@ LAW_CRATES = {
     "wdf_power_laws",
     "wdf_queue_power_laws",
     "wdf_interrupt_laws",
-    "wdf_queue_power_laws",
     "wdf_request_laws",
     "wdf_held_laws",
     "wdf_state_laws",
@@ -64,9 +63,10 @@ definition; a law is a function without a body that speaks of it; an edit is a w
 DEFINITION = re.compile(r"^(?:(?:abbrev|unfoldable)(?: pub)?|pub)? ?([A-Za-z_][A-Za-z0-9_']*) :", re.M)
 TYPE = re.compile(r"^pub (?:record|data) ([A-Za-z_][A-Za-z0-9_']*)", re.M)
 MEMBER = re.compile(r"^  (?:pub )?([A-Za-z_][A-Za-z0-9_']*) :", re.M)
-RUST = re.compile(r"^\s*(?:pub )?(?:struct|enum|fn|const|trait) ([A-Za-z_][A-Za-z0-9_]*)", re.M)
+VISIBLE = r"(?:pub(?:\((?:crate|super)\))? )?"
+RUST = re.compile(rf"^\s*{VISIBLE}(?:struct|enum|fn|const|trait) ([A-Za-z_][A-Za-z0-9_]*)", re.M)
 VARIANT = re.compile(r"^    (?:pub )?([A-Za-z][A-Za-z0-9_]*)\s*[,({:]", re.M)
-FUNCTION = re.compile(r"^\s*(?:pub )?(?:const )?fn ([a-z_][a-z0-9_]*)")
+FUNCTION = re.compile(rf"^\s*{VISIBLE}(?:const )?fn ([a-z_][a-z0-9_]*)")
 WORD = re.compile(r"(?:([A-Za-z_][A-Za-z0-9_']*)\.)?([A-Za-z_][A-Za-z0-9_']*)")
 USE = re.compile(r"^ *ghost use Rattle\.(\w+)\.specs[A-Za-z0-9_.']*?(?:\.\{([^}]*)\}| as (\w+));", re.M)
 
@@ -166,9 +166,9 @@ def parsed(text):
         yield number, subject, words, [(m.group(1), m.group(2)) for m in found]
 
 
-def several(items, most=3):
-    """The first few of a list, as code words."""
-    items = sorted(set(items))
+def several(items, definitions=(), most=3):
+    """The first few of a list, as code words: first those that have the name of a definition."""
+    items = sorted(set(items), key=lambda item: (item.split("::")[-1] not in definitions, item))
     shown = ", ".join(f"`{item}`" for item in items[:most])
     return shown + (f" and {len(items) - most} more" if len(items) > most else "")
 
@@ -182,10 +182,11 @@ def page():
         if words is None:
             out.append(f"\n## {subject}\n\n| rule | definition | code | law | edit |\n|---|---|---|---|---|")
             continue
-        told, by_code, by_law = [], [], []
+        told, by_code, by_law, lasts = [], [], [], set()
         for name, remark in definitions:
             crate = remark if remark and (CRATES / remark).is_dir() else "wdf_model"
             last = name.split(".")[-1]
+            lasts.add(last)
             if crate not in known:
                 known[crate] = names_of(crate)
             if last not in known[crate]:
@@ -194,7 +195,7 @@ def page():
             by_code += code.get((crate, last), [])
             by_law += laws.get((crate, last), [])
         by_edit = [edit for key in by_code for edit in edits.get(key, [])]
-        out.append(f"| {words} | {', '.join(told)} | {several(by_code)} | {several(by_law)} | {several(by_edit)} |")
+        out.append(f"| {words} | {', '.join(told)} | {several(by_code, lasts)} | {several(by_law)} | {several(by_edit)} |")
     if wrong:
         sys.exit("\n".join(wrong))
     return "\n".join(out) + "\n"
