@@ -1,5 +1,6 @@
 //! The lines of endings and of wait lists.
-use crate::plan::{L, REQ, X, Y, plan};
+use crate::plan as names;
+use crate::plan::plan;
 use std::test::Fail;
 use wdf_base::{
     Callback, Cause, Ending, Fault, FrameId, Handle, ObjectId, OpenThing, Stage, Step, WaitLine,
@@ -47,27 +48,27 @@ const REQ: Handle = Handle {
 /// Objects of the worked runs.
 const REQ_4: Handle = Handle {
     id: ObjectId(4),
-    name: REQ,
+    name: names::REQ,
 };
 
 const X_5: Handle = Handle {
     id: ObjectId(5),
-    name: X,
+    name: names::X,
 };
 
 const Y_6: Handle = Handle {
     id: ObjectId(6),
-    name: Y,
+    name: names::Y,
 };
 
 const L_3: Handle = Handle {
     id: ObjectId(3),
-    name: L,
+    name: names::L,
 };
 
 const L_4: Handle = Handle {
     id: ObjectId(4),
-    name: L,
+    name: names::L,
 };
 
 /// Endings after some events.
