@@ -6,9 +6,8 @@ Not part of the gate. Prove and build the program first (`rt ci`), then from the
     python3 bench/resolve.py [PROGRAM]
 
 Each scenario fills limits: 4,096 statements, 4,096 posts, 256 apps, 256 classes, 64 registers, 4,096
-objects. `check` reads, parses, resolves and prints it; `order` reads, parses and resolves it, and answers that
-the plan isn't served; with an open block at its end it is read and parsed alone. So the differences tell
-what `resolve` takes. The last scenarios are refused at their end, after a search through them. Figures are of
+objects. `check` reads, parses, resolves and prints it; with an open block at its end it is read and parsed
+alone. So the difference says what `resolve` and `print` take. The last scenarios are refused at their end, after a search through them. Figures are of
 the best of five runs: seconds of the processor, and the most memory of the process in MB.
 """
 
@@ -133,11 +132,10 @@ def main():
     for name, lines in ACCEPTED.items():
         text = text_of(name, lines)
         whole, most = best(program, "check", text, 0)
-        resolved, _ = best(program, "order", text, 16)
         parsed, _ = best(program, "check", text + OPEN, 10)
         print(
             f"{name}: {len(text)} bytes, {most:.0f} MB, check {whole:.3f} s: read and parsed "
-            f"{parsed:.3f} s, resolved {resolved - parsed:.3f} s"
+            f"{parsed:.3f} s, resolved and printed {whole - parsed:.3f} s"
         )
     for name, lines in REFUSED.items():
         text = text_of(name, lines)

@@ -1,13 +1,14 @@
 #!/usr/bin/env python3
 """Runs the program on each example of docs/SCENARIO.md and on each file of examples/.
 
-    python3 tools/check_examples.py [PROGRAM]
+    python3 tools/check_examples.py [PROGRAM [SEEDS]]
 
 Each must be accepted by `check`, and what `check` writes must be left as it is by another `check`. A
 fenced block `kmdf` of the guide is a whole scenario; `kmdf blocks`, `kmdf device` and `kmdf statements`
-are put where such lines stand, with the declarations below. A block `trace` is the run that `order`
-writes for the example before it. A file of examples/ whose first comment names `kmdfsim order` must
-also run to its end.
+are put where such lines belong, with the declarations below. A block `trace` is the run that `order`
+writes for the example before it. Each file of examples/ must also run to its end, with the status that its
+first comment names (`the status 4`), or with 0. What `order` writes of a file, and what `seed N` writes for each N
+below SEEDS (3 where it isn't named), must be accepted by `replay`.
 """
 
 import os
@@ -43,13 +44,17 @@ on EvtRequestCompletion
 end
 end
 """
-# What stands around the lines of an example.
+# What is around the lines of an example.
 AROUND = {
     "": ("", ""),
     "blocks": (HEAD, ""),
     "device": (HEAD + "device D\n", "end\n"),
     "statements": (HEAD + DECLARED + "on EvtDeviceD0Entry\n", "end\nend\n"),
 }
+STATUS = re.compile(r"the status (\d+)")
+# The line of how a run ended, and the status that goes with it.
+ENDING = re.compile(r"^(finished|fault|stuck|limit) \d+$", re.MULTILINE)
+STATUSES = {"finished": 0, "fault": 3, "stuck": 4, "limit": 5}
 FENCED = re.compile(r"^```(kmdf|trace)(?: (\w+))?\n(.*?)^```$", re.MULTILINE | re.DOTALL)
 
 
@@ -65,9 +70,9 @@ def examples(guide):
             yield line, "order", text
 
 
-def call(program, word, text):
+def call(program, words, text):
     """The status that the program ends with, and what it writes."""
-    done = subprocess.run([program, word], input=text.encode(), stdout=subprocess.PIPE, timeout=60)
+    done = subprocess.run([program, *words.split()], input=text.encode(), stdout=subprocess.PIPE, timeout=60)
     return done.returncode, done.stdout.decode()
 
 
@@ -92,13 +97,24 @@ def check_guide(program):
             scenario = text
             fault = check(program, text)
         else:
-            fault = None if call(program, word, scenario) == (0, text) else "another run"
+            due = STATUSES[ENDING.search(text).group(1)], text
+            fault = None if call(program, word, scenario) == due else "another run"
         if fault:
             faults.append(f"{GUIDE}:{line}: {fault}")
     return faults, count
 
 
-def check_files(program):
+def replayed(program, text, seeds):
+    """The first form of words of which `replay` doesn't accept the trace, if there is one."""
+    for words in ("order", *(f"seed {seed}" for seed in range(seeds))):
+        trace = call(program, words, text)[1]
+        status, verdict = call(program, "replay", f"{text}trace\n{trace}")
+        if status != 0 or not verdict.startswith("accepted "):
+            return f"replay of {words}: {verdict.strip()}"
+    return None
+
+
+def check_files(program, seeds):
     """The same for the files of examples/."""
     faults = []
     folder = os.path.join(ROOT, "examples")
@@ -107,9 +123,11 @@ def check_files(program):
         with open(os.path.join(folder, name), encoding="utf-8") as file:
             text = file.read()
         fault = check(program, text)
-        comment = text.split("\ncpus")[0]
-        if not fault and "kmdfsim order" in comment and call(program, "order", text)[0] != 0:
-            fault = "the run doesn't finish"
+        named = STATUS.search(text.split("\ncpus")[0])
+        due = int(named.group(1)) if named else 0
+        if not fault:
+            status = call(program, "order", text)[0]
+            fault = f"the run ends with {status}" if status != due else replayed(program, text, seeds)
         if fault:
             faults.append(f"examples/{name}: {fault}")
     return faults, len(names)
@@ -120,7 +138,7 @@ def main():
     if not os.path.exists(program):
         sys.exit(f"{program} isn't there: build the program first (./kmdfsim check < examples/first-read.kmdf)")
     guide_faults, guide_count = check_guide(program)
-    file_faults, file_count = check_files(program)
+    file_faults, file_count = check_files(program, int(sys.argv[2]) if len(sys.argv) > 2 else 3)
     faults = guide_faults + file_faults
     for fault in faults:
         print(fault)

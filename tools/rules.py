@@ -2,9 +2,10 @@
 """Writes docs/RULES.md from tools/rules.txt, or with --check says whether it is what would be written.
 
 tools/rules.txt has a rule a line: its words, a bar, and the definitions that state it, with commas between them. A
-definition is a name of crates/wdf_model, or of the crate that stands in brackets after it; other brackets name a row.
-Each definition has to exist. The script adds the functions whose contracts cite it (code), the laws over it (functions
-without a body in wdf_model and wdf_invariants), and the must-fail edits inside the code.
+definition is a name of crates/wdf_model, or of the crate in brackets after it; other brackets name a row. Each definition
+has to exist. The script adds the functions whose contracts cite it (code), the laws over it (functions without a body in
+the crates of laws), and the must-fail edits inside the code. A contract cites a definition where its file imports that
+name from the definition's crate, or says it after the name of a module of that crate.
 """
 
 import re
@@ -15,7 +16,41 @@ ROOT = Path(__file__).resolve().parent.parent
 CRATES = ROOT / "crates"
 RULES = ROOT / "tools" / "rules.txt"
 PAGE = ROOT / "docs" / "RULES.md"
-LAW_CRATES = {"wdf_model", "wdf_invariants", "wdf_worked"}
+LAW_CRATES = {
+    "wdf_model",
+    "wdf_invariants",
+    "wdf_agreements",
+    "wdf_blame",
+    "wdf_blame_causes",
+    "wdf_blame_whole",
+    "wdf_blame_cases",
+    "wdf_room",
+    "wdf_ready_once",
+    "wdf_run_lines",
+    "wdf_run_texts",
+    "wdf_plan_events",
+    "wdf_frame_events",
+    "wdf_fitting_agents",
+    "wdf_fitting_plans",
+    "wdf_plan_laws",
+    "wdf_text_laws",
+    "wdf_replay_laws",
+    "wdf_gen_laws",
+    "wdf_trace_laws",
+    "wdf_family_laws",
+    "wdf_scope_laws",
+    "wdf_power_laws",
+    "wdf_queue_power_laws",
+    "wdf_interrupt_laws",
+    "wdf_request_laws",
+    "wdf_held_laws",
+    "wdf_state_laws",
+    "wdf_settled_laws",
+    "wdf_steps_laws",
+    "wdf_kept_laws",
+    "wdf_laws_cases",
+    "wdf_worked",
+}
 
 HEAD = """# The rules of the machine, and where each is kept
 
@@ -28,10 +63,12 @@ definition; a law is a function without a body that speaks of it; an edit is a w
 DEFINITION = re.compile(r"^(?:(?:abbrev|unfoldable)(?: pub)?|pub)? ?([A-Za-z_][A-Za-z0-9_']*) :", re.M)
 TYPE = re.compile(r"^pub (?:record|data) ([A-Za-z_][A-Za-z0-9_']*)", re.M)
 MEMBER = re.compile(r"^  (?:pub )?([A-Za-z_][A-Za-z0-9_']*) :", re.M)
-RUST = re.compile(r"^\s*(?:pub )?(?:struct|enum|fn|const|trait) ([A-Za-z_][A-Za-z0-9_]*)", re.M)
+VISIBLE = r"(?:pub(?:\((?:crate|super)\))? )?"
+RUST = re.compile(rf"^\s*{VISIBLE}(?:struct|enum|fn|const|trait) ([A-Za-z_][A-Za-z0-9_]*)", re.M)
 VARIANT = re.compile(r"^    (?:pub )?([A-Za-z][A-Za-z0-9_]*)\s*[,({:]", re.M)
-FUNCTION = re.compile(r"^\s*(?:pub )?(?:const )?fn ([a-z_][a-z0-9_]*)")
-WORD = re.compile(r"[A-Za-z_][A-Za-z0-9_']*")
+FUNCTION = re.compile(rf"^\s*{VISIBLE}(?:const )?fn ([a-z_][a-z0-9_]*)")
+WORD = re.compile(r"(?:([A-Za-z_][A-Za-z0-9_']*)\.)?([A-Za-z_][A-Za-z0-9_']*)")
+USE = re.compile(r"^ *ghost use Rattle\.(\w+)\.specs[A-Za-z0-9_.']*?(?:\.\{([^}]*)\}| as (\w+));", re.M)
 
 
 def sources(crate, suffix):
@@ -54,6 +91,26 @@ def names_of(crate):
     return names
 
 
+def imports_of(text):
+    """What a file imports: the crate of each name, and the crate of each module by the name it has there."""
+    names, modules = {}, {}
+    for crate, inside, module in USE.findall(text):
+        if module:
+            modules[module] = crate
+        for name in inside.split(","):
+            names[name.split(" as ")[0].strip()] = crate
+    return names, modules
+
+
+def cited(contract, names, modules):
+    """The definitions that a contract cites, each with its crate."""
+    for module, name in WORD.findall(contract):
+        if module in modules:
+            yield modules[module], name
+        elif not module and name in names:
+            yield names[name], name
+
+
 def functions_of(path):
     """The functions of a file: name, contract, first and last line."""
     lines = path.read_text().split("\n")
@@ -69,13 +126,13 @@ def functions_of(path):
 
 
 def gather():
-    """The functions by the words of their contracts, and the edits by the functions in which they are."""
+    """The functions by the definitions that their contracts cite, and the edits by the functions in which they are."""
     code, laws, edits = {}, {}, {}
     for folder in sorted(p for p in CRATES.iterdir() if p.is_dir()):
         crate = folder.name
         for path in sources(crate, ".rt"):
             text = path.read_text()
-            speaks = "wdf_model.specs" in text
+            names, modules = imports_of(text)
             for name, contract, start, end in functions_of(path):
                 lines = text.split("\n")[start:end]
                 key = f"{crate}::{name}"
@@ -83,11 +140,12 @@ def gather():
                     told = edit.read_text().split("\n")
                     if told[0] == f"file: {path.relative_to(folder)}" and any(told[1][5:] in line for line in lines):
                         edits.setdefault(key, []).append(edit.stem)
-                if not speaks or "tests" in path.parts:
+                is_test = "tests" in path.parts or ("_cases" in crate and crate not in LAW_CRATES)
+                if is_test:
                     continue
                 table = laws if crate in LAW_CRATES else code
-                for word in set(WORD.findall(contract)):
-                    table.setdefault(word, []).append(key)
+                for definition in set(cited(contract, names, modules)):
+                    table.setdefault(definition, []).append(key)
     return code, laws, edits
 
 
@@ -108,9 +166,9 @@ def parsed(text):
         yield number, subject, words, [(m.group(1), m.group(2)) for m in found]
 
 
-def several(items, most=3):
-    """The first few of a list, as code words."""
-    items = sorted(set(items))
+def several(items, definitions=(), most=3):
+    """The first few of a list, as code words: first those that have the name of a definition."""
+    items = sorted(set(items), key=lambda item: (item.split("::")[-1] not in definitions, item))
     shown = ", ".join(f"`{item}`" for item in items[:most])
     return shown + (f" and {len(items) - most} more" if len(items) > most else "")
 
@@ -124,19 +182,20 @@ def page():
         if words is None:
             out.append(f"\n## {subject}\n\n| rule | definition | code | law | edit |\n|---|---|---|---|---|")
             continue
-        told, by_code, by_law = [], [], []
+        told, by_code, by_law, lasts = [], [], [], set()
         for name, remark in definitions:
             crate = remark if remark and (CRATES / remark).is_dir() else "wdf_model"
             last = name.split(".")[-1]
+            lasts.add(last)
             if crate not in known:
                 known[crate] = names_of(crate)
             if last not in known[crate]:
                 wrong.append(f"{RULES.name}, line {number}: {crate} has no {name}")
             told.append(f"`{name}`" + (f" ({remark})" if remark else ""))
-            by_code += code.get(last, [])
-            by_law += laws.get(last, [])
+            by_code += code.get((crate, last), [])
+            by_law += laws.get((crate, last), [])
         by_edit = [edit for key in by_code for edit in edits.get(key, [])]
-        out.append(f"| {words} | {', '.join(told)} | {several(by_code)} | {several(by_law)} | {several(by_edit)} |")
+        out.append(f"| {words} | {', '.join(told)} | {several(by_code, lasts)} | {several(by_law)} | {several(by_edit)} |")
     if wrong:
         sys.exit("\n".join(wrong))
     return "\n".join(out) + "\n"

@@ -3,8 +3,8 @@
 
     python3 tools/runs_to_tests.py
 
-For each folder SUBJECT of tools/runs it writes crates/wdf_trace_cases/src/SUBJECT.rt: of each run its name,
-its scenario and its trace as they stand in NAME.scn and NAME.out, how many events the trace has and how it
+For each folder SUBJECT of tools/runs it writes crates/wdf_worked_texts/src/SUBJECT.rt: of each run its name,
+its scenario and its trace as they are in NAME.scn and NAME.out, how many events the trace has and how it
 ends. No text is changed. A file's layout is that of `rt fmt`.
 """
 import os
@@ -13,7 +13,7 @@ import sys
 
 ROOT = os.path.dirname(os.path.dirname(os.path.abspath(__file__)))
 RUNS = os.path.join(ROOT, "tools", "runs")
-CRATE = os.path.join(ROOT, "crates", "wdf_trace_cases", "src")
+CRATE = os.path.join(ROOT, "crates", "wdf_worked_texts", "src")
 
 ENDING = re.compile(r"^(finished|limit|fault|stuck) (\d+)$", re.MULTILINE)
 FAULT = re.compile(r" fault (\w+) \d+\n(?=fault )")
@@ -23,12 +23,12 @@ def read(path):
     with open(path, encoding="ascii") as file:
         text = file.read()
     if re.search(r'["\\\r]', text) or not text.endswith("\n"):
-        sys.exit(f"{path} can't stand in a literal as it is")
+        sys.exit(f"{path} can't be put in a literal as it is")
     return text
 
 
 def ending(trace):
-    """The number of events and the ending, as its line and the last event tell them."""
+    """The number of events and the ending, as its line and the last event say them."""
     word, events = ENDING.search(trace).groups()
     kind = word.capitalize()
     if word == "fault":

@@ -4,9 +4,10 @@
     tools/scene_to_plan.py specs tools/runs/power/*.scn > crates/wdf_worked/specs/RunsOfPower.antt
     tools/scene_to_plan.py proofs tools/runs/power/*.scn > crates/wdf_worked/proofs/RunsOfPower.antt
 
-Each argument behind the first is the path of a scenario `NAME.scn` with its trace beside it in `NAME.out`;
+Each argument after the first is the path of a scenario `NAME.scn` with its trace beside it in `NAME.out`;
 NAME names the run. `specs` gives the plan, the events and the wait list of each, `proofs` that the definitions
-of wdf_model compute them. What it writes still has to go through `rt tidy` in crates/wdf_worked. It serves
+of wdf_model compute them. What it writes still has to go through `rt tidy` in crates/wdf_worked. For
+tools/stuck, which crates/wdf_blame_cases has, the names of the modules are changed by hand. It serves
 the worked runs alone: what the program reads is read by its own parser.
 """
 import os
@@ -559,8 +560,8 @@ PROOFS_HEAD = """-- Worked runs, computed from the definitions. Made by tools/sc
 use Rattle.std.proofs.Common.{[], refl}
 use Rattle.wdf_base.specs.declared.event.Ending.TheVariants as ending
 use Rattle.wdf_base.specs.declared.event.Fault.TheVariants as fault
-use Rattle.wdf_model.specs.Course.{run_by}
-use Rattle.wdf_model.specs.Script.{value_of}
+use Rattle.wdf_model.specs.laws.Course.{run_by}
+use Rattle.wdf_model.specs.rules.Script.{value_of}
 use Rattle.wdf_model.proofs.Course.{worked_of}
 use Rattle.wdf_worked.specs.Shown.{IsShown, is_kept}
 use Rattle.wdf_worked.proofs.Ended.{over}

@@ -5,11 +5,19 @@
 use std::env;
 use std::process::ExitCode;
 use wdf_io::{ReadSource, WriteSink};
-use wdf_top::serve;
+use wdf_serve::{OpenGate, serve};
 
 /// Serves the program's arguments over its input and its output, and ends with the status that is answered.
 fn main(rt: HostRuntime) -> ExitCode {
     let mut source = ReadSource::new(rt.stdin());
     let mut sink = WriteSink::new(rt.stdout());
-    ExitCode::from(serve(rt.alloc(), env::args(&rt), &mut source, &mut sink))
+    let status = serve(
+        &rt,
+        rt.alloc(),
+        env::args(&rt),
+        &mut source,
+        &mut sink,
+        &OpenGate,
+    );
+    ExitCode::from(status)
 }

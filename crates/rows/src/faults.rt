@@ -1,7 +1,11 @@
 //! Sources that fail, sinks that fail, and inputs that are too large.
 use crate::call::{Outside, Row, STEADY, call, try_rows};
+use crate::loads::ALL_DONE;
 use crate::reads::{ONE_READ, ONE_READ_RUN, TWO_READS_AT_ONCE, TWO_READS_AT_ONCE_RUN};
 use crate::refusals::USAGE;
+use crate::replays::WHOLE;
+use crate::requests::{KEPT, KEPT_RUN};
+use crate::seeds::{BY_SEED_9, FOUR_APPS};
 use std::alloc::Global;
 use std::process::Abort;
 use std::test::Fail;
@@ -11,11 +15,18 @@ const INPUT_LIMIT: usize = 1_048_576;
 
 #[test]
 fn a_failed_read_is_told(rt: HostRuntime) -> Result<(), Fail> {
-    let rows: [Row; 2] = [
+    let rows: [Row; 3] = [
         Row {
             name: "a run",
             words: "order",
             input: ONE_READ,
+            status: 12,
+            text: b"read fault\n",
+        },
+        Row {
+            name: "a run by a seed",
+            words: "seed 9",
+            input: FOUR_APPS,
             status: 12,
             text: b"read fault\n",
         },
@@ -104,7 +115,7 @@ struct Pieces {
     writes: u64,
 }
 
-static WRITES: [Pieces; 4] = [
+static WRITES: [Pieces; 8] = [
     // Twelve events and the ending.
     Pieces {
         row: Row {
@@ -116,6 +127,38 @@ static WRITES: [Pieces; 4] = [
         },
         writes: 13,
     },
+    // Three events, the ending and a line of the wait list.
+    Pieces {
+        row: Row {
+            name: "a stuck run",
+            words: "order",
+            input: KEPT,
+            status: 4,
+            text: KEPT_RUN,
+        },
+        writes: 5,
+    },
+    // Four events and the ending.
+    Pieces {
+        row: Row {
+            name: "a run by a seed",
+            words: "seed 9",
+            input: FOUR_APPS,
+            status: 0,
+            text: BY_SEED_9,
+        },
+        writes: 5,
+    },
+    Pieces {
+        row: Row {
+            name: "a summary",
+            words: "load 3",
+            input: b"",
+            status: 0,
+            text: ALL_DONE,
+        },
+        writes: 1,
+    },
     Pieces {
         row: Row {
             name: "a text",
@@ -123,6 +166,16 @@ static WRITES: [Pieces; 4] = [
             input: ONE_READ,
             status: 0,
             text: ONE_READ,
+        },
+        writes: 1,
+    },
+    Pieces {
+        row: Row {
+            name: "a verdict",
+            words: "replay",
+            input: WHOLE,
+            status: 0,
+            text: b"accepted finished 12\n",
         },
         writes: 1,
     },

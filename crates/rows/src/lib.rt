@@ -8,6 +8,22 @@ mod canonical;
 #[cfg(test)]
 mod faults;
 #[cfg(test)]
+mod generated;
+#[cfg(test)]
+mod loads;
+#[cfg(test)]
+mod objects;
+#[cfg(test)]
+mod processors;
+#[cfg(test)]
 mod reads;
 #[cfg(test)]
 mod refusals;
+#[cfg(test)]
+mod replays;
+#[cfg(test)]
+mod requests;
+#[cfg(test)]
+mod seeds;
+#[cfg(test)]
+mod worked;

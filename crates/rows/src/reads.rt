@@ -1,5 +1,6 @@
 //! Runs of apps that read from a device whose queue completes each read.
 use crate::call::{Outside, Row, STEADY, try_rows};
+use crate::seeds::{BY_SEED_9, FOUR_APPS};
 use std::test::Fail;
 
 /// One app reads once.
@@ -173,9 +174,20 @@ at 0 read D 16\n\
 end\n\
 ";
 
+const LOGS_FIRST_RUN: &[u8] = b"\
+1 A read D.2 16 -> req.4\n\
+2 cpu0 start EvtIoRead Q.3 req.4\n\
+3 cpu0 log 16\n\
+4 cpu0 call WdfRequestComplete req.4 SUCCESS -> SUCCESS\n\
+5 cpu0 end EvtIoRead Q.3 SUCCESS\n\
+6 fw cleanup req.4\n\
+7 fw destroy req.4\n\
+finished 7\n\
+";
+
 #[test]
 fn a_run_is_the_picked_one(rt: HostRuntime) -> Result<(), Fail> {
-    let rows: [Row; 5] = [
+    let rows: [Row; 7] = [
         Row {
             name: "one read",
             words: "order",
@@ -205,6 +217,20 @@ fn a_run_is_the_picked_one(rt: HostRuntime) -> Result<(), Fail> {
             text: FOUR_EVENTS_RUN,
         },
         Row {
+            name: "two processors",
+            words: "order",
+            input: TWO_PROCESSORS,
+            status: 0,
+            text: ONE_READ_RUN,
+        },
+        Row {
+            name: "a log",
+            words: "order",
+            input: LOGS_FIRST,
+            status: 0,
+            text: LOGS_FIRST_RUN,
+        },
+        Row {
             name: "nothing",
             words: "order",
             input: NOTHING,
@@ -217,33 +243,21 @@ fn a_run_is_the_picked_one(rt: HostRuntime) -> Result<(), Fail> {
 
 #[test]
 fn a_text_may_come_byte_by_byte(rt: HostRuntime) -> Result<(), Fail> {
-    let rows: [Row; 1] = [Row {
-        name: "one read",
-        words: "order",
-        input: ONE_READ,
-        status: 0,
-        text: ONE_READ_RUN,
-    }];
-    try_rows(&rt, rt.alloc(), Outside { piece: 1, ..STEADY }, &rows)
-}
-
-#[test]
-fn other_plans_are_not_built(rt: HostRuntime) -> Result<(), Fail> {
     let rows: [Row; 2] = [
         Row {
-            name: "two processors",
+            name: "one read",
             words: "order",
-            input: TWO_PROCESSORS,
-            status: 16,
-            text: b"not built\n",
+            input: ONE_READ,
+            status: 0,
+            text: ONE_READ_RUN,
         },
         Row {
-            name: "a log",
-            words: "order",
-            input: LOGS_FIRST,
-            status: 16,
-            text: b"not built\n",
+            name: "four apps by a seed",
+            words: "seed 9",
+            input: FOUR_APPS,
+            status: 0,
+            text: BY_SEED_9,
         },
     ];
-    try_rows(&rt, rt.alloc(), STEADY, &rows)
+    try_rows(&rt, rt.alloc(), Outside { piece: 1, ..STEADY }, &rows)
 }

@@ -218,49 +218,29 @@ fn no_plan(rt: HostRuntime) -> Result<(), Fail> {
 
 #[test]
 fn no_form_of_words(rt: HostRuntime) -> Result<(), Fail> {
-    let rows: [Row; 6] = [
-        Row {
-            name: "no word",
-            words: "",
+    for words in [
+        "",
+        "run",
+        "--help",
+        "check check",
+        "order 1",
+        "seed",
+        "load",
+        "load 1 2",
+        "replay 1",
+        "seed -1",
+        "seed 1 2",
+        "seed 18446744073709551616",
+        "seed 000000000000000000007",
+    ] {
+        let row = Row {
+            name: words,
+            words,
             input: b"",
             status: 2,
             text: USAGE,
-        },
-        Row {
-            name: "threads, which the plain call doesn't serve",
-            words: "run",
-            input: b"",
-            status: 2,
-            text: USAGE,
-        },
-        Row {
-            name: "a word too many",
-            words: "check check",
-            input: b"",
-            status: 2,
-            text: USAGE,
-        },
-        Row {
-            name: "a seed without its number",
-            words: "seed",
-            input: b"",
-            status: 2,
-            text: USAGE,
-        },
-        Row {
-            name: "a seed above 64 bits",
-            words: "seed 18446744073709551616",
-            input: b"",
-            status: 2,
-            text: USAGE,
-        },
-        Row {
-            name: "a request for help",
-            words: "--help",
-            input: b"",
-            status: 2,
-            text: USAGE,
-        },
-    ];
-    try_rows(&rt, rt.alloc(), STEADY, &rows)
+        };
+        try_rows(&rt, rt.alloc(), STEADY, &[row])?;
+    }
+    Ok(())
 }

@@ -1,24 +1,47 @@
-ghost use Rattle.std.specs.Prelude.{◌≡◌, ◌<◌, ◌≤◌, ◌^◌, ◌++◌, ◌∷◌, [], IfOk, IsTrue, Some, length, slice_get};
+ghost use Rattle.std.specs.Prelude.{◌≡◌, ◌<◌, ◌≤◌, ◌+◌, ◌^◌, ◌++◌, ◌∷◌, [], IfOk, None, Some, length, slice_get, true, vec_capacity};
+ghost use Rattle.wdf_base.specs.Resolved.{IsResolved};
 ghost use Rattle.wdf_base.specs.declared.event.Event.{Event};
-ghost use Rattle.wdf_model.specs.Runs.{IsRun, place_for};
-ghost use Rattle.wdf_core.specs.State.{agents_of};
-ghost use Rattle.wdf_core.specs.Machine.{ready, ending_of};
-ghost use Rattle.wdf_core.specs.Course.{is_by as is_step_of};
-ghost use Rattle.wdf_core.specs.Served.{is_served};
-ghost use Rattle.wdf_core.specs.Ready.{events_left};
+ghost use Rattle.wdf_base.specs.declared.event.Event.TheVariants as event;
+ghost use Rattle.wdf_model.specs.Runs.{place_for};
+ghost use Rattle.wdf_model.specs.State.{opening_agents};
+ghost use Rattle.wdf_model.specs.rules.Ready.{IsRunOf, allowed, ending_of, ending_without_fault, last_fault, ready, state_after, waits_for_time};
+ghost use Rattle.wdf_model.specs.rules.Waits.{wait_list};
+ghost use Rattle.wdf_core.specs.Course.{IsUnderWay};
+ghost use Rattle.wdf_core.specs.Going.{goes_on};
+ghost use Rattle.wdf_ready.specs.Actors.{is_by as is_step_of};
 
-use crate::actor::is_by;
-use crate::parts::Parts;
-use crate::ready::{Ready, ready_len};
 use std::alloc::Global;
 use std::marker::Model;
-use wdf_base::{Actor, Agent, Ending, Event, Memory, Plan};
+use wdf_base::{Actor, Agent, Ending, Event, Fault, Memory, Plan, WaitLine};
+use wdf_model::Group;
+use wdf_parts::Parts;
+use wdf_plans::IndexedPlan;
+use wdf_ready::{allowed_at, allowed_len, first_by, groups_of, is_by, is_open, waits_for_time};
+use wdf_steps::step;
+use wdf_waits::{wait_line_at, wait_lines_len};
+
+/// The state of no events.
+fn opening_parts<A: Agent>(
+    alloc: Global,
+    plan: &IndexedPlan,
+    agents: Vec<A>,
+) -> Result<Parts<A>, Memory>
+    requires resolved { IsResolved plan.now }
+    requires agents { agents.items ≡ opening_agents plan.now A.meaning }
+    ensures { IfOk result (λ parts. parts ≡ state_after plan.now A.meaning []) }
+{
+    Parts::make(alloc, plan, agents)
+}
 
 /// The machine of one run: its plan, the events so far, and what may follow them.
+///
+/// Contracts see the plan and the events. No call but [`Core::make`] takes memory.
 #[derive(Drop)]
 pub struct Core<A: Agent> {
-    plan: Plan,
+    plan: IndexedPlan,
     parts: Parts<A>,
+    /// The groups of candidates, in their order.
+    groups: Vec<Group>,
     journal: Vec<Event>,
 }
 
@@ -30,79 +53,196 @@ impl<A: Agent> Model for Core<A> {
 
     ghost view = { λ c. record { plan = c.plan; journal = c.journal.items } };
 
-    ghost invariant = { λ c. IsUnderWay A.meaning c.plan c.journal.items c.parts (vec_capacity c.journal) };
+    ghost invariant = { λ c. IsUnderWay A.meaning c.plan c.journal.items c.parts c.groups.items (vec_capacity c.journal) };
 }
 
 impl<A: Agent> Core<A> {
-    /// The opening of the plan's run, with these agents. It takes all the memory that the run
-    /// needs. On [`Memory`] the plan and the agents are dropped.
-    #[tactic(auto, using(wdf_model::proofs::Runs::run_opens, crate::proofs::Bounds::served_limit, crate::proofs::Bounds::served_objects), unfolding(crate::specs::Machine::state_after))]
+    /// The opening of the plan's run, with these agents. It takes all the memory that the run needs. On
+    /// [`Memory`] the plan and the agents are dropped.
     pub fn make(alloc: Global, plan: Plan, agents: Vec<A>) -> Result<Core<A>, Memory>
-        requires served { IsTrue (is_served plan) }
-        requires agents { agents.items ≡ agents_of A.meaning plan }
+        requires resolved { IsResolved plan }
+        requires agents { agents.items ≡ opening_agents plan A.meaning }
         ensures plan { IfOk result (λ core. core.plan ≡ plan) }
         ensures journal { IfOk result (λ core. core.journal ≡ []) }
     {
-        let parts = Parts::make(alloc, &plan, agents)?;
-        let journal = Vec::with_capacity(alloc, plan.limit as usize)?;
-        Ok(Core {
+        let plan = IndexedPlan::make(alloc, plan)?;
+        let groups = groups_of(alloc, &plan)?;
+        let journal = Vec::with_capacity(alloc, plan.plan().limit() as usize)?;
+        let parts = opening_parts(alloc, &plan, agents)?;
+        Ok(Core::begun(plan, parts, groups, journal))
+    }
+
+    /// The core of an opening.
+    fn begun(plan: IndexedPlan, parts: Parts<A>, groups: Vec<Group>, journal: Vec<Event>) -> Core<A>
+        requires under_way { IsUnderWay A.meaning plan [] parts groups.items (vec_capacity journal) }
+        requires empty { journal.items ≡ [] }
+        ensures plan { result.plan ≡ plan }
+        ensures journal { result.journal ≡ [] }
+    {
+        Core {
             plan,
             parts,
+            groups,
             journal,
-        })
+        }
     }
 
-    /// The events that may follow.
-    fn ready(&self) -> Ready<'_, A>
-        ensures events { events_left A.meaning result.plan.now result.parts.now result.group result.place ≡ ready A.meaning self.now.plan self.now.journal }
-        ensures room { 0 < length (events_left A.meaning result.plan.now result.parts.now result.group result.place) → length self.now.journal < self.now.plan.limit }
-        ensures few { length (events_left A.meaning result.plan.now result.parts.now result.group result.place) < 2 ^ 32 }
+    /// Whether the run may go on: its last event is no fault, and it has fewer events than its limit.
+    fn goes_on(&self) -> bool
+        ensures { result ≡ goes_on self.now.plan self.now.journal }
     {
-        Ready::new(&self.plan, &self.parts)
+        self.last_fault().is_none() && self.journal.len() < self.plan.plan().limit() as usize
     }
 
-    /// How many events may follow: 0 at the limit of events.
+    /// The fault that is the last event, if it is one.
+    fn last_fault(&self) -> Option<Fault>
+        ensures { result ≡ last_fault self.now.journal }
+    {
+        match self.journal.last() {
+            Some(Event::Fault { fault, .. }) => Some(*fault),
+            _ => None,
+        }
+    }
+
+    /// How many events may come in the state at hand, time aside.
+    fn allowed_len(&self) -> usize
+        requires { goes_on self.now.plan self.now.journal ≡ true }
+        ensures length { result ≡ length (allowed self.now.plan A.meaning (state_after self.now.plan A.meaning self.now.journal)) }
+        ensures small { result < 2 ^ 60 }
+    {
+        allowed_len(&self.plan, &self.parts, &self.groups)
+    }
+
+    /// The k-th of these events; `None` exactly where there are fewer.
+    fn allowed_at(&self, k: usize) -> Option<Event>
+        requires { goes_on self.now.plan self.now.journal ≡ true }
+        ensures { result ≡ slice_get (allowed self.now.plan A.meaning (state_after self.now.plan A.meaning self.now.journal)) k }
+    {
+        allowed_at(&self.plan, &self.parts, &self.groups, k)
+    }
+
+    /// The place of the first of them of an actor; `None` exactly where there is none.
+    fn allowed_for(&self, actor: Actor) -> Option<usize>
+        requires { goes_on self.now.plan self.now.journal ≡ true }
+        ensures { result ≡ place_for (is_step_of actor) (allowed self.now.plan A.meaning (state_after self.now.plan A.meaning self.now.journal)) }
+    {
+        first_by(&self.plan, &self.parts, &self.groups, actor)
+    }
+
+    /// Whether something waits for time.
+    fn waits_for_time(&self) -> bool
+        ensures { result ≡ waits_for_time A.meaning (state_after self.now.plan A.meaning self.now.journal) }
+    {
+        waits_for_time(&self.parts)
+    }
+
+    /// The next tick of the clock.
+    fn tick(&self) -> Event
+        requires { goes_on self.now.plan self.now.journal ≡ true }
+        ensures { result ≡ event.Tick ((state_after self.now.plan A.meaning self.now.journal).clock + 1) }
+    {
+        Event::Tick {
+            time: self.parts.now() + 1,
+        }
+    }
+
+    /// How many events may follow: none after a fault and at the limit of events.
     pub fn ready_len(&self) -> usize
-        ensures length { result ≡ length (ready A.meaning self.now.plan self.now.journal) }
+        ensures length { result ≡ length (ready self.now.plan A.meaning self.now.journal) }
         ensures room { 0 < result → length self.now.journal < self.now.plan.limit }
     {
-        ready_len(&self.plan, &self.parts)
+        let _ = &self.plan;
+        if !self.goes_on() {
+            return 0;
+        }
+        let count = self.allowed_len();
+        if count > 0 {
+            count
+        } else if self.waits_for_time() {
+            1
+        } else {
+            0
+        }
     }
 
     /// The k-th of the events that may follow.
     pub fn ready_at(&self, k: usize) -> Event
-        requires { k < length (ready A.meaning self.now.plan self.now.journal) }
-        ensures { slice_get (ready A.meaning self.now.plan self.now.journal) k ≡ Some result }
+        requires { k < length (ready self.now.plan A.meaning self.now.journal) }
+        ensures { slice_get (ready self.now.plan A.meaning self.now.journal) k ≡ Some result }
     {
-        self.ready().nth(k).unwrap()
+        let _ = &self.plan;
+        match self.allowed_at(k) {
+            Some(event) => event,
+            None => self.tick(),
+        }
     }
 
-    /// The least place of an event of this actor among the events that may follow.
+    /// The least place of an event of this actor among the events that may follow; `None` exactly where
+    /// there is none.
     pub fn first_for(&self, actor: Actor) -> Option<usize>
-        ensures { result ≡ place_for (is_step_of actor) (ready A.meaning self.now.plan self.now.journal) }
+        ensures { result ≡ place_for (is_step_of actor) (ready self.now.plan A.meaning self.now.journal) }
     {
-        self.ready().position(|event| is_by(&event, actor))
+        let _ = &self.plan;
+        if !self.goes_on() {
+            return None;
+        }
+        match self.allowed_for(actor) {
+            Some(place) => Some(place),
+            None => self.tick_for(actor),
+        }
+    }
+
+    /// The place of the next tick, where it may follow and is this actor's, who has no other event.
+    fn tick_for(&self, actor: Actor) -> Option<usize>
+        requires going { goes_on self.now.plan self.now.journal ≡ true }
+        requires none { place_for (is_step_of actor) (allowed self.now.plan A.meaning (state_after self.now.plan A.meaning self.now.journal)) ≡ None }
+        ensures { result ≡ place_for (is_step_of actor) (ready self.now.plan A.meaning self.now.journal) }
+    {
+        let _ = &self.plan;
+        if !is_by(&self.tick(), actor) {
+            return None;
+        }
+        if self.allowed_len() > 0 || !self.waits_for_time() {
+            return None;
+        }
+        Some(0)
     }
 
     /// Goes on by the k-th of the events that may follow. It takes no memory.
     pub fn apply(&mut self, k: usize)
-        requires { k < length (ready A.meaning self.old.plan self.old.journal) }
+        requires { k < length (ready self.old.plan A.meaning self.old.journal) }
         ensures plan { self.new.plan ≡ self.old.plan }
-        ensures journal { (event : Event) × (slice_get (ready A.meaning self.old.plan self.old.journal) k ≡ Some event) × (self.new.journal ≡ self.old.journal ++ event ∷ []) }
+        ensures journal { (event : Event) × (slice_get (ready self.old.plan A.meaning self.old.journal) k ≡ Some event) × (self.new.journal ≡ self.old.journal ++ event ∷ []) }
     {
         let event = self.ready_at(k);
-        self.parts.step(&self.plan, &event);
+        step(&self.plan, &mut self.parts, &event);
         self.journal.push_reserved(event);
     }
 
     /// How the run stands: [`Ending::Running`] where an event may follow.
     pub fn ending(&self) -> Ending
-        ensures { result ≡ ending_of A.meaning self.now.plan self.now.journal }
+        ensures { result ≡ ending_of self.now.plan A.meaning self.now.journal }
     {
-        if self.ready().next().is_some() {
-            Ending::Running
+        let _ = &self.plan;
+        if self.ready_len() > 0 {
+            return Ending::Running;
+        }
+        match self.last_fault() {
+            Some(fault) => Ending::Fault(fault),
+            None => self.ending_without_fault(),
+        }
+    }
+
+    /// How the run ends without a fault, where nothing may follow.
+    fn ending_without_fault(&self) -> Ending
+        ensures { result ≡ ending_without_fault self.now.plan A.meaning (state_after self.now.plan A.meaning self.now.journal) }
+    {
+        if self.plan.plan().limit() <= self.parts.number() {
+            Ending::Limit
+        } else if is_open(&self.plan, &self.parts) {
+            Ending::Stuck
         } else {
-            self.parts.ending(&self.plan)
+            Ending::Finished
         }
     }
 
@@ -110,14 +250,14 @@ impl<A: Agent> Core<A> {
     pub fn plan(&self) -> &Plan
         ensures { result.now ≡ self.now.plan }
     {
-        &self.plan
+        self.plan.plan()
     }
 
     /// How many events there were. They are a run.
     pub fn journal_len(&self) -> usize
         ensures length { result ≡ length self.now.journal }
         ensures within { result ≤ self.now.plan.limit }
-        ensures run { IsRun (ready A.meaning self.now.plan) self.now.journal }
+        ensures run { IsRunOf self.now.plan A.meaning self.now.journal }
     {
         self.journal.len()
     }
@@ -128,5 +268,24 @@ impl<A: Agent> Core<A> {
         ensures { slice_get self.now.journal k ≡ Some result }
     {
         self.journal[k]
+    }
+
+    /// How many lines the wait list has: none unless the run is stuck.
+    pub fn wait_len(&self) -> usize
+        ensures { result ≡ length (wait_list self.now.plan A.meaning self.now.journal) }
+    {
+        let _ = &self.plan;
+        match self.ending() {
+            Ending::Stuck => wait_lines_len(&self.plan, &self.parts),
+            _ => 0,
+        }
+    }
+
+    /// The k-th line of the wait list: who waits, and why.
+    pub fn wait_at(&self, k: usize) -> WaitLine
+        requires { k < length (wait_list self.now.plan A.meaning self.now.journal) }
+        ensures { slice_get (wait_list self.now.plan A.meaning self.now.journal) k ≡ Some result }
+    {
+        wait_line_at(&self.plan, &self.parts, k)
     }
 }

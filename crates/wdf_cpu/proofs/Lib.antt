@@ -6,3 +6,4 @@ pub mod Peaks
 pub mod Keeping
 pub mod Places
 pub mod Counting
+pub mod Leasts

@@ -2,3 +2,4 @@ pub mod Keys
 pub mod Levels
 pub mod Asked
 pub mod Kept
+pub mod Leasts

@@ -6,6 +6,7 @@ mod asked;
 mod cpus;
 mod frames;
 mod levels;
+mod order;
 mod readers;
 mod rising;
 mod stack;

@@ -63,6 +63,13 @@ impl Cpus {
         self.parked.get(place).copied().map(FrameId)
     }
 
+    /// Whether a frame is parked.
+    pub fn is_parked(&self, f: FrameId) -> bool
+        ensures { result ≡ contains f.0 self.now.parked }
+    {
+        self.parked.iter().any(|other| *other == f.0)
+    }
+
     /// How many numbers there are up to the greatest that a frame had, from 0.
     pub fn frame_len(&self) -> usize
         ensures { result ≡ length self.now.frames }

@@ -1,13 +1,12 @@
 -- Lists that are gathered item by item.
-use Rattle.std.proofs.Common.{◌≡◌, ℕ, suc, ◌+◌, ◌<◌, ◌≤◌, ◌⊎◌, inl, inr, Bool, true, false, length, slice_index_or, sym, subst, arith, List, [], ◌∷◌, ◌++◌, Option, Some, None, map, fold, take, slice_get, refl, ap, ◌∙◌}
-use Rattle.std.specs.List.{filter_map, insert, position_or_len}
+use Rattle.std.proofs.Common.{◌≡◌, ℕ, suc, ◌+◌, ◌<◌, ◌≤◌, ◌⊎◌, inl, inr, Bool, true, false, length, slice_index_or, sym, subst, arith, List, [], ◌∷◌, ◌++◌, Some, map, fold, take, slice_get, refl, ap, ◌∙◌}
+use Rattle.std.specs.List.{insert, position_or_len}
 use Rattle.std.proofs.lemmas.Bool.{cases_lt}
 use Rattle.std.proofs.lemmas.List.Sums.{position_or_len_is}
 use Rattle.wdf_model.specs.declared.entries.DeviceAction.{DeviceAction}
 use Rattle.wdf_model.specs.agents.Device.{among}
 use Rattle.wdf_dev.specs.Actions.{comes_after}
 use Rattle.wdf_dev.proofs.Mapping.{there}
-use Rattle.std.proofs.lemmas.List.Elements.{filter_map-append}
 use Rattle.wdf_model.proofs.Runs.{take_next}
 
 map_last : {S T : Type 0} (f : S → T) (xs : List S) (x : S) → map f (xs ++ x ∷ []) ≡ map f xs ++ f x ∷ []
@@ -16,16 +15,6 @@ map_last f (y ∷ ys) x = ap (λ zs. f y ∷ zs) (map_last f ys x)
 
 pub one_more_mapped : {S T : Type 0} (f : S → T) (xs : List S) (k : ℕ) (x : S) → slice_get xs k ≡ Some x → map f (take (suc k) xs) ≡ map f (take k xs) ++ f x ∷ []
 one_more_mapped f xs k x h = ap (map f) (take_next xs k x h) ∙ map_last f (take k xs) x
-
-pub kept : {S T : Type 0} (f : S → Option T) (xs : List S) (k : ℕ) (x : S) (y : T) → slice_get xs k ≡ Some x → f x ≡ Some y → filter_map f (take (suc k) xs) ≡ filter_map f (take k xs) ++ y ∷ []
-kept f xs k x y h e = rw (take_next xs k x h, filter_map-append, e) refl
-
-pub append_none : {T : Type 0} (xs : List T) → xs ++ [] ≡ xs
-append_none [] = refl
-append_none (x ∷ xs) = ap (λ zs. x ∷ zs) (append_none xs)
-
-pub passed : {S T : Type 0} (f : S → Option T) (xs : List S) (k : ℕ) (x : S) → slice_get xs k ≡ Some x → f x ≡ None → filter_map f (take (suc k) xs) ≡ filter_map f (take k xs)
-passed f xs k x h e = rw (take_next xs k x h, filter_map-append, e) (append_none (filter_map f (take k xs)))
 
 pub fold_last : {S T : Type 0} (g : S → T → S) (z : S) (xs : List T) (x : T) → fold g z (xs ++ x ∷ []) ≡ g (fold g z xs) x
 fold_last g z [] x = refl

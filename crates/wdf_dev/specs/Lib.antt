@@ -1,4 +1,3 @@
 pub mod Actions
 pub mod Agents
 pub mod Least
-pub mod Owners

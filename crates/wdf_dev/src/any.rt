@@ -2,16 +2,16 @@ ghost use Rattle.std.specs.Prelude.{◌≡◌, ◌+◌, ◌-◌, ◌≤◌, leng
 ghost use Rattle.std.specs.List.{range_with_len};
 ghost use Rattle.wdf_model.specs.Plans.{devices_of, targets_of};
 ghost use Rattle.wdf_dev.specs.Agents.{agent_at, agent_meaning, device_or_target};
-ghost use Rattle.wdf_dev.specs.Owners.{names_of};
-ghost use Rattle.wdf_dev.specs.declared.owners.Owner.TheVariants as owner;
+ghost use Rattle.wdf_plans.specs.Owners.{names_of};
+ghost use Rattle.wdf_plans.specs.declared.owners.Owner.TheVariants as owner;
 
 use crate::app::App;
 use crate::device::Device;
 use crate::lower_target::LowerTarget;
-use crate::owners::{Owner, ids_of};
 use crate::pnp_manager::PnpManager;
 use std::alloc::Global;
 use wdf_base::{Agent, Event, Memory, ObjectId, Plan, Post};
+use wdf_plans::{Owner, ids_of};
 
 /// An agent of a run, of any kind.
 #[derive(Debug, Drop)]

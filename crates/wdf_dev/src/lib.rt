@@ -8,7 +8,6 @@ mod device_lines;
 mod laws;
 mod least;
 mod lower_target;
-mod owners;
 mod pnp_manager;
 
 pub use any::{AnyAgent, agents};
@@ -16,5 +15,4 @@ pub use app::App;
 pub use device::Device;
 pub use laws::agents_are_the_models;
 pub use lower_target::LowerTarget;
-pub use owners::Owner;
 pub use pnp_manager::PnpManager;

@@ -1,4 +1,4 @@
-ghost use Rattle.std.specs.Prelude.{◌≡◌, ◌<◌, IfOk};
+ghost use Rattle.std.specs.Prelude.{◌≡◌, ◌<◌, IfOk, IsTrue};
 ghost use Rattle.wdf_model.specs.parts.Interrupts as interrupts;
 
 use std::alloc::Global;
@@ -15,7 +15,7 @@ pub struct Interrupts {
 }
 
 impl Model for Interrupts {
-    ghost use Rattle.std.specs.Prelude.{◌≤◌, vec_capacity};
+    ghost use Rattle.std.specs.Prelude.{◌≤◌, length, vec_capacity};
     ghost use Rattle.wdf_model.specs.declared.room.TheConstants.{OBJECTS};
     ghost use Rattle.wdf_model.specs.parts.Interrupts.{Interrupts as Enabled};
 
@@ -23,7 +23,7 @@ impl Model for Interrupts {
 
     ghost view = { λ a. record { enabled = a.enabled.items } };
 
-    ghost invariant = { λ a. OBJECTS ≤ vec_capacity a.enabled };
+    ghost invariant = { λ a. record { room : OBJECTS ≤ vec_capacity a.enabled; within : length a.enabled.items ≤ OBJECTS } };
 }
 
 impl Interrupts {
@@ -38,7 +38,8 @@ impl Interrupts {
 
     /// Whether an interrupt is enabled.
     pub fn is_enabled(&self, i: ObjectId) -> bool
-        ensures { result ≡ interrupts.is_enabled self.now i.0 }
+        ensures value { result ≡ interrupts.is_enabled self.now i.0 }
+        ensures there { IsTrue result → i.0 < OBJECTS }
     {
         entry_at(&self.enabled, false, i.0)
     }
@@ -52,6 +53,7 @@ impl Interrupts {
     }
 
     /// An interrupt is enabled.
+    #[tactic(auto, using(wdf_model::proofs::Maps::put_short))]
     pub fn enable(&mut self, i: ObjectId)
         requires room { i.0 < OBJECTS }
         ensures { self.new ≡ interrupts.enable self.old i.0 }
@@ -60,6 +62,7 @@ impl Interrupts {
     }
 
     /// An interrupt is disabled.
+    #[tactic(auto, using(wdf_model::proofs::Maps::put_short))]
     pub fn disable(&mut self, i: ObjectId)
         requires room { i.0 < OBJECTS }
         ensures { self.new ≡ interrupts.disable self.old i.0 }

@@ -26,6 +26,3 @@ pub use laws::{
 pub use parsing::{TEXT_LIMIT, parse};
 pub use printing::print;
 pub use refusal::ParseRefusal;
-
-#[cfg(test)]
-mod tests;

@@ -57,22 +57,29 @@ held_with false passes device d = refl
 held_with true true device d = sym (and-true (device.0 == d))
 held_with true false device d = sym (and-false (device.0 == d))
 
-pub unsettled_counted : (P : definition.Power) (counts : List ℕ) (d : ℕ) → Tallies P.holdings (unsettled_at P.queues) counts → d < length counts
-    → slice_index counts d ≡ length (definition.unsettled P d)
-unsettled_counted P counts d sound within =
+-- the requests that are held at a device and aren't acknowledged are the unsettled ones
+pub unsettled_found : (P : definition.Power) (d : ℕ) → count_by (λ h. is_of d (unsettled_at P.queues h)) P.holdings ≡ length (definition.unsettled P d)
+unsettled_found P d =
     let ids = range_with_len 0 (length P.holdings) in
     let p : Holding → Bool = definition.is_unsettled_at P d in
-    let e : slice_index counts d ≡ count_by (λ h. is_of d (unsettled_at P.queues h)) P.holdings = sound d within in
     let f : count_by (λ h. is_of d (unsettled_at P.queues h)) P.holdings ≡ count_by p P.holdings =
     count_alike (λ h. is_of d (unsettled_at P.queues h)) p (λ h. held_with (definition.is_held h) (not h.acknowledged) (device_at P.queues h) d) P.holdings in
     let g : count_by (λ r. p (definition.holding_of P r)) ids ≡ count_by p P.holdings =
     count_ids p definition.no_holding P.holdings (definition.holding_of P) 0 (λ k. let z : 0 + k ≡ k = omega arith in ap (definition.holding_of P) z) in
-    e ∙ f ∙ sym g ∙ sym (length-filter (λ r. p (definition.holding_of P r)) ids)
+    f ∙ sym g ∙ sym (length-filter (λ r. p (definition.holding_of P r)) ids)
+
+pub unsettled_counted : (P : definition.Power) (counts : List ℕ) (d : ℕ) → Tallies P.holdings (unsettled_at P.queues) counts → d < length counts
+    → slice_index counts d ≡ length (definition.unsettled P d)
+unsettled_counted P counts d sound within = sound d within ∙ unsettled_found P d
+
+-- a resume is due for some request exactly where one is found that is held with it
+pub due_found : (P : definition.Power) (d : ℕ) → list_any (λ h. is_of d (due_at P.queues h)) P.holdings ≡ definition.any_resume_due P d
+due_found P d =
+    any_alike (λ h. is_of d (due_at P.queues h)) (λ h. definition.is_held_at P d h && h.resume_due) (λ h. held_with (definition.is_held h) h.resume_due (device_at P.queues h) d) P.holdings
 
 pub due_counted : (P : definition.Power) (counts : List ℕ) (d : ℕ) → Tallies P.holdings (due_at P.queues) counts → d < length counts
     → nat_lt 0 (slice_index counts d) ≡ definition.any_resume_due P d
 due_counted P counts d sound within =
     let p : Holding → Bool = λ h. is_of d (due_at P.queues h) in
-    let q : Holding → Bool = λ h. definition.is_held_at P d h && h.resume_due in
     let e : slice_index counts d ≡ count_by p P.holdings = sound d within in
-    ap (nat_lt 0) e ∙ any_counted p P.holdings ∙ any_alike p q (λ h. held_with (definition.is_held h) h.resume_due (device_at P.queues h) d) P.holdings
+    ap (nat_lt 0) e ∙ any_counted p P.holdings ∙ due_found P d

@@ -1,4 +1,5 @@
-ghost use Rattle.std.specs.Prelude.{◌≡◌, ◌<◌, IfOk, length, option_map};
+ghost use Rattle.std.specs.Prelude.{◌≡◌, ◌<◌, ◌≤◌, IfOk, count_by, length, option_map};
+ghost use Rattle.std.specs.List.{list_any};
 ghost use Rattle.wdf_model.specs.Tables.{entry, least, put};
 ghost use Rattle.wdf_model.specs.parts.Power as definition;
 ghost use Rattle.wdf_power.specs.Power as kept;
@@ -88,6 +89,36 @@ fn due_at(queues: &[QueuePower], holding: &Holding) -> Option<ObjectId>
         Some(entry_at(queues, NO_QUEUE_POWER, holding.queue.0).device)
     } else {
         None
+    }
+}
+
+/// Whether a resume is due for some request of a device, by a look at all of them.
+fn some_due(queues: &[QueuePower], holdings: &[Holding], d: ObjectId) -> bool
+    ensures { result ≡ list_any (λ h. kept.is_of d.0 (kept.due_at queues.now h)) holdings.now }
+{
+    holdings
+        .iter()
+        .any(|holding| is_of(d, due_at(queues, holding)))
+}
+
+/// How many requests of a device are held and not acknowledged, by a look at all of them.
+fn count_unsettled(queues: &[QueuePower], holdings: &[Holding], d: ObjectId) -> usize
+    ensures value { result ≡ count_by (λ h. kept.is_of d.0 (kept.unsettled_at queues.now h)) holdings.now }
+    ensures small { result ≤ length holdings.now }
+{
+    holdings
+        .iter()
+        .filter(|holding| is_of(d, unsettled_at(queues, holding)))
+        .count()
+}
+
+/// Whether a device is there, and it is this one.
+fn is_of(d: ObjectId, device: Option<ObjectId>) -> bool
+    ensures { result ≡ kept.is_of d.0 device }
+{
+    match device {
+        Some(device) => device.0 == d.0,
+        None => false,
     }
 }
 
@@ -257,10 +288,13 @@ impl Power {
     /// How many requests the driver holds from power-managed queues of a device without having
     /// acknowledged them. (own, after KMDF)
     pub fn unsettled(&self, d: ObjectId) -> u32
-        requires there { d.0 < length self.now.devices }
         ensures { result ≡ length (definition.unsettled self.now d.0) }
     {
-        self.unsettled.count(d)
+        if (d.0 as usize) < self.devices.len() {
+            self.unsettled.count(d)
+        } else {
+            count_unsettled(&self.queues, &self.holdings, d) as u32
+        }
     }
 
     /// Whether a request is held from a power-managed queue of a device, and isn't acknowledged.
@@ -288,10 +322,13 @@ impl Power {
 
     /// Whether a resume is due for some request of a device. (KMDF: EvtIoResume)
     pub fn any_resume_due(&self, d: ObjectId) -> bool
-        requires there { d.0 < length self.now.devices }
         ensures { result ≡ definition.any_resume_due self.now d.0 }
     {
-        0 < self.due.count(d)
+        if (d.0 as usize) < self.devices.len() {
+            0 < self.due.count(d)
+        } else {
+            some_due(&self.queues, &self.holdings, d)
+        }
     }
 }
 

@@ -8,6 +8,8 @@ ghost use Rattle.wdf_model.specs.rules.Starts.{is_unfinished_at};
 ghost use Rattle.wdf_request.specs.Closing.{closing_requests};
 ghost use Rattle.wdf_request.specs.Counts.{is_at};
 
+mod closing;
+
 use crate::arrivals::Arrivals;
 use crate::change::{
     NO_REQUEST, answer_of_mark, cancelled, forgotten, marked, moved, unmarked, with_mark,

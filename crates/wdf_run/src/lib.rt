@@ -1,10 +1,14 @@
 //! Runs of the machine to their ends.
 #![tactic(auto)]
 
-ghost use Rattle.std.specs.Prelude.{◌≡◌, ◌<◌};
-ghost use Rattle.wdf_model.specs.Runs.{Picked, picked_place};
-ghost use Rattle.wdf_core.specs.Machine.{ready};
+mod picks;
 
+ghost use Rattle.std.specs.Prelude.{◌≡◌, ◌<◌, ◌%◌, ℕ, List, slice_index};
+ghost use Rattle.wdf_model.specs.Runs.{Picked};
+ghost use Rattle.wdf_model.specs.rules.Ready.{ready};
+ghost use Rattle.wdf_run.specs.Seeds.{seed_words};
+
+use crate::picks::{Listed, Picks, Seeded};
 use wdf_base::Agent;
 use wdf_core::Core;
 
@@ -12,25 +16,43 @@ use wdf_core::Core;
 /// no memory.
 pub fn run_order<A: Agent>(core: &mut Core<A>, picks: &[u64])
     ensures plan { core.new.plan ≡ core.old.plan }
-    ensures picked { Picked (ready A.meaning core.old.plan) picks.now core.old.journal core.new.journal }
+    ensures picked { Picked (ready core.old.plan A.meaning) picks.now core.old.journal core.new.journal }
 {
-    let start = core.journal_len();
+    run_by(core, &mut Listed::new(picks));
+}
+
+/// Goes on from the journal by the words of `SplitMix64::seed_from_u64(seed)`, first to last, until no
+/// step may follow. A run has no more events than its limit, so it asks for no more words. It takes no
+/// memory.
+pub fn run_seed<A: Agent>(core: &mut Core<A>, seed: u64)
+    ensures plan { core.new.plan ≡ core.old.plan }
+    ensures picked { Picked (ready core.old.plan A.meaning) (seed_words seed core.old.plan.limit) core.old.journal core.new.journal }
+{
+    run_by(core, &mut Seeded::new(seed));
+}
+
+/// Goes on from the journal by the picks of a source, one a turn, until no step may follow.
+fn run_by<A: Agent, P: Picks>(core: &mut Core<A>, source: &mut P)
+    ensures plan { core.new.plan ≡ core.old.plan }
+    // It is the run that each list picks which has the source's pick for each turn that a run may have.
+    ensures picked { (picks : List ℕ) → ((turn : ℕ) → turn < core.old.plan.limit → slice_index picks turn ≡ P.pick source.old turn)
+        → Picked (ready core.old.plan A.meaning) picks core.old.journal core.new.journal }
+{
     loop {
         let count = core.ready_len();
         if count == 0 {
             return;
         }
-        let turn = core.journal_len() - start;
-        core.apply(place_at(picks, turn, count));
+        let pick = source.next_pick();
+        core.apply(place_of(pick, count));
     }
 }
 
-/// The place that the pick of a turn names among so many events.
-fn place_at(picks: &[u64], turn: usize, count: usize) -> usize
+/// The place that a pick names among so many events.
+fn place_of(pick: u64, count: usize) -> usize
     requires { 0 < count }
-    ensures place { result ≡ picked_place picks.now turn count }
+    ensures place { result ≡ pick % count }
     ensures below { result < count }
 {
-    let pick = picks.get(turn).copied().unwrap_or(0);
     (pick % count as u64) as usize
 }

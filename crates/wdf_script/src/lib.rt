@@ -10,6 +10,3 @@ mod statements;
 
 pub use expressions::value_of;
 pub use statements::{line_of, next, statement_at};
-
-#[cfg(test)]
-mod tests;

@@ -3,8 +3,7 @@ pub mod Given
 pub mod Statuses
 pub mod Causes
 pub mod Ended
-pub mod Messages
-pub mod Writing
+pub mod Judged
+pub mod Lines
 pub mod Sinks
-pub mod Taken
-pub mod Serving
+pub mod Resolving

@@ -1,15 +1,13 @@
 -- What an input is answered: which text is to be written, and with which status. (own)
-use Rattle.std.specs.Prelude.{◌++◌, ℕ, ◌≡◌, ◌⊎◌, IsTrue, List, [], length, codes, None, Some, false, Err}
+use Rattle.std.specs.Prelude.{◌++◌, ℕ, ◌≡◌, ◌⊎◌, List, length, codes, decimal, None, Some, Err}
 use Rattle.wdf_base.specs.declared.plan.Plan.{Plan}
 use Rattle.wdf_base.specs.declared.event.Event.{Event}
 use Rattle.wdf_base.specs.declared.event.Ending.{Ending}
-use Rattle.wdf_base.specs.declared.event.Ending.TheVariants as ending
 use Rattle.wdf_scene.specs.declared.scene.Scene.{Scene}
-use Rattle.wdf_model.specs.Runs.{Picked}
-use Rattle.wdf_core.specs.Machine.{ready, ending_of}
+use Rattle.wdf_model.specs.rules.Ready.{ending_of, IsPickedRun}
 use Rattle.wdf_dev.specs.Agents.{agent_meaning}
-use Rattle.wdf_trace.specs.Lines.{lines_from}
 use Rattle.wdf_trace.specs.Endings.{ending_text}
+use Rattle.wdf_run.specs.Seeds.{seed_words}
 use Rattle.wdf_parse.specs.declared.refusal.ParseRefusal.{ParseRefusal}
 use Rattle.wdf_parse.specs.Canonical.{canonical_text}
 use Rattle.wdf_parse.specs.StandsFor.{StandsFor}
@@ -17,11 +15,19 @@ use Rattle.wdf_parse.specs.Texts.{reading}
 use Rattle.wdf_plan.specs.declared.refusal.PlanRefusal.{PlanRefusal}
 use Rattle.wdf_plan.specs.First.{first_refusal}
 use Rattle.wdf_plan.specs.Plans.{plan_of}
-use Rattle.wdf_core.specs.Served.{is_served}
-use Rattle.wdf_top.specs.Refusals.{parse_line, plan_line}
-
-abbrev pub not_built_line : List ℕ
-not_built_line = codes "not built\n"
+use Rattle.wdf_gen.specs.Generated.{generated}
+use Rattle.wdf_replay.specs.declared.verdict.Verdict.{Verdict}
+use Rattle.wdf_replay.specs.declared.verdict.Verdict.TheVariants as verdicts
+use Rattle.wdf_replay.specs.declared.verdict.Why.{Why}
+use Rattle.wdf_replay.specs.declared.verdict.Why.TheVariants as why
+use Rattle.wdf_replay.specs.Texts.{text_of}
+use Rattle.wdf_replay.specs.Verdicts as verdict
+use Rattle.wdf_say.specs.Endings.{status_of}
+use Rattle.wdf_say.specs.Refusals.{parse_line, plan_line}
+use Rattle.wdf_split.specs.Inputs.{scenario_in, trace_in}
+use Rattle.wdf_summary.specs.Counts.{summary_text}
+use Rattle.wdf_top.specs.declared.run.Picks.{Picks}
+use Rattle.wdf_top.specs.declared.run.Picks.TheVariants.{Listed, Seeded}
 
 -- ---- the input's scene and plan
 
@@ -39,61 +45,117 @@ HasPlan input plan = (scene : Scene) × StandsFor input scene × (first_refusal 
 
 -- ---- runs
 
--- the status of a run that ended so; a run that goes on has none
-abbrev pub status_of : Ending → ℕ
-status_of ending.Running = 0
-status_of ending.Finished = 0
-status_of (ending.Fault f) = 3
-status_of ending.Stuck = 4
-status_of ending.Limit = 5
+-- the picks of a plan's run: those of its `order` block, or the words of a seed, one for each event that a run may have
+abbrev pub picks_of : Picks → Plan → List ℕ
+picks_of Listed plan = plan.picks
+picks_of (Seeded seed) plan = seed_words seed plan.limit
 
--- The text of a whole run: a line for each event, and the ending's line.
-abbrev pub text_of : Plan → List Event → ℕ → Ending → List ℕ
-text_of plan run events e = lines_from plan 1 run ++ (ending_text events e ++ codes "\n")
-
--- The trace of the run that the plan's picks make from its opening.
-pub record IsTraceOf (plan : Plan) (text : List ℕ) (status : ℕ) : Type 0 where
+-- The trace of the run that these picks make from the plan's opening.
+pub record IsTraceOf (plan : Plan) (picks : List ℕ) (text : List ℕ) (status : ℕ) : Type 0 where
   pub run : List Event
-  pub picked : Picked (ready agent_meaning plan) plan.picks [] run
-  pub text_is : text ≡ text_of plan run (length run) (ending_of agent_meaning plan run)
-  pub status_is : status ≡ status_of (ending_of agent_meaning plan run)
+  pub picked : IsPickedRun plan agent_meaning picks run
+  pub text_is : text ≡ text_of plan agent_meaning run
+  pub status_is : status ≡ status_of (ending_of plan agent_meaning run)
+
+-- The summary of the run that the words of a number make of the plan of its generated scenario.
+pub record IsSummaryOf (n : ℕ) (text : List ℕ) (status : ℕ) : Type 0 where
+  pub run : List Event
+  pub picked : IsPickedRun (plan_of (generated n)) agent_meaning (picks_of (Seeded n) (plan_of (generated n))) run
+  pub text_is : text ≡ summary_text run (ending_of (plan_of (generated n)) agent_meaning run)
+  pub status_is : status ≡ status_of (ending_of (plan_of (generated n)) agent_meaning run)
+
+-- ---- verdicts
+
+-- the word of a reason
+abbrev pub why_word : Why → List ℕ
+why_word why.NotALine = codes "NotALine"
+why_word why.NotReady = codes "NotReady"
+why_word why.WrongEnding = codes "WrongEnding"
+why_word why.Missing = codes "Missing"
+
+-- the line of a trace that is accepted: it has so many events and ended so
+abbrev pub accepted_line : ℕ → Ending → List ℕ
+accepted_line events e = codes "accepted " ++ ending_text events e ++ codes "\n"
+
+-- the line of a trace of which this line is refused
+abbrev pub refused_line : ℕ → Why → List ℕ
+refused_line line y = codes "refused at line " ++ decimal line ++ codes ": " ++ why_word y ++ codes "\n"
+
+-- the line of a verdict, where an accepted trace has so many events
+abbrev pub verdict_line : ℕ → Verdict → List ℕ
+verdict_line events (verdicts.Accepted e) = accepted_line events e
+verdict_line events (verdicts.RefusedAt line y) = refused_line line y
+
+abbrev pub verdict_status : Verdict → ℕ
+verdict_status (verdicts.Accepted e) = 0
+verdict_status (verdicts.RefusedAt line y) = 6
+
+-- the trace is accepted: it is the text of a run of the plan that has ended so
+abbrev pub IsAcceptedWith : Plan → List ℕ → List ℕ → ℕ → Type 0
+IsAcceptedWith plan trace text status =
+    (e : Ending) × (accepted : verdict.IsAccepted plan agent_meaning trace e) × (text ≡ accepted_line (length accepted.run) e) × (status ≡ 0)
+
+-- the trace is refused at this line, its first bad one, for this reason
+abbrev pub IsRefusedWith : Plan → List ℕ → List ℕ → ℕ → Type 0
+IsRefusedWith plan trace text status =
+    (line : ℕ) × (y : Why) × verdict.IsRefused plan agent_meaning trace line y × (text ≡ refused_line line y) × (status ≡ 6)
+
+-- The line of the verdict on a trace, and its status.
+abbrev pub IsVerdict : Plan → List ℕ → List ℕ → ℕ → Type 0
+IsVerdict plan trace text status = IsAcceptedWith plan trace text status ⊎ IsRefusedWith plan trace text status
 
 -- ---- answers
 
--- why the input has no plan: 10 where no scene stands for it, 11 where the scene has no plan
+-- why a scenario has no plan: 10 where no scene stands for it, 11 where the scene has no plan
 abbrev pub IsRefused : List ℕ → List ℕ → ℕ → Type 0
 IsRefused input text status =
     ((refusal : ParseRefusal) × HasNoScene input × (reading input ≡ Err refusal) × (text ≡ parse_line refusal) × (status ≡ 10))
     ⊎ ((refusal : PlanRefusal) × HasNoPlan input refusal × (text ≡ plan_line refusal) × (status ≡ 11))
 
--- what a form of words writes for a scene that stands for the input and has a plan
+-- what a form of words writes for a scene that stands for the scenario and has a plan
 abbrev pub Writing : Type 1
-Writing = (input : List ℕ) (scene : Scene) → StandsFor input scene → List ℕ → ℕ → Type 0
+Writing = (scenario : List ℕ) (scene : Scene) → StandsFor scenario scene → List ℕ → ℕ → Type 0
 
--- what an input is answered: why it has no plan, or what is written for its scene
-abbrev pub Answers : Writing → List ℕ → List ℕ → ℕ → Type 0
-Answers writes input text status =
-    IsRefused input text status
-    ⊎ ((scene : Scene) × (stands : StandsFor input scene) × (first_refusal scene ≡ None) × writes input scene stands text status)
+-- how a form of words answers an input: which part of it is the scenario, and what is written for its scene
+pub record Answering : Type 1 where
+  pub scenario : List ℕ → List ℕ
+  pub writes : List ℕ → Writing
 
--- what becomes of a plan: the trace of its run where it is served, else `not built`
-abbrev pub IsRunDue : Plan → List ℕ → ℕ → Type 0
-IsRunDue plan text status =
-    (IsTrue (is_served plan) × IsTraceOf plan text status)
-    ⊎ ((is_served plan ≡ false) × (text ≡ not_built_line) × (status ≡ 16))
+-- what an input is answered: why its scenario has no plan, or what is written for the scene
+abbrev pub Answers : Answering → List ℕ → List ℕ → ℕ → Type 0
+Answers a input text status =
+    IsRefused (a.scenario input) text status
+    ⊎ ((scene : Scene) × (stands : StandsFor (a.scenario input) scene) × (first_refusal scene ≡ None) × a.writes input (a.scenario input) scene stands text status)
 
--- `order` writes the trace of the scene's plan
-abbrev pub writes_run : Writing
-writes_run input scene stands text status = IsRunDue (plan_of scene) text status
+-- `order` and `seed N` write the trace of the scene's plan
+abbrev pub running : Picks → Answering
+running picks = record {
+  scenario = λ input. input;
+  writes = λ input scenario scene stands text status. IsTraceOf (plan_of scene) (picks_of picks (plan_of scene)) text status;
+}
 
 -- `check` writes the scene in canonical form
-abbrev pub writes_scene : Writing
-writes_scene input scene stands text status = (text ≡ canonical_text scene.version stands.ws) × (status ≡ 0)
+abbrev pub checking : Answering
+checking = record {
+  scenario = λ input. input;
+  writes = λ input scenario scene stands text status. (text ≡ canonical_text scene.version stands.ws) × (status ≡ 0);
+}
 
--- What `order` answers to an input.
-abbrev pub Orders : List ℕ → List ℕ → ℕ → Type 0
-Orders = Answers writes_run
+-- `replay` writes the verdict on the trace after the first line `trace`
+abbrev pub judging : Answering
+judging = record {
+  scenario = scenario_in;
+  writes = λ input scenario scene stands text status. IsVerdict (plan_of scene) (trace_in input) text status;
+}
+
+-- What `order` and `seed N` answer to an input.
+abbrev pub Runs : Picks → List ℕ → List ℕ → ℕ → Type 0
+Runs picks = Answers (running picks)
 
 -- What `check` answers to an input.
 abbrev pub Checks : List ℕ → List ℕ → ℕ → Type 0
-Checks = Answers writes_scene
+Checks = Answers checking
+
+-- What `replay` answers to an input.
+abbrev pub Judges : List ℕ → List ℕ → ℕ → Type 0
+Judges = Answers judging

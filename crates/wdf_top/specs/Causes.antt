@@ -1,26 +1,34 @@
 -- When each status comes. (own)
-use Rattle.std.specs.Prelude.{ℕ, ◌≡◌, ◌≤◌, ◌+◌, ◌⊎◌, ◌==◌, ◌||◌, Bool, true, false, List, [], length, Option, None, Some}
+use Rattle.std.specs.Prelude.{ℕ, ◌≡◌, ◌≤◌, ◌+◌, ◌⊎◌, ◌==◌, ◌||◌, Bool, true, false, List, length, Option, None, Some}
 use Rattle.wdf_base.specs.declared.plan.Plan.{Plan}
 use Rattle.wdf_base.specs.declared.event.Event.{Event}
 use Rattle.wdf_base.specs.declared.event.Ending.{Ending}
 use Rattle.wdf_scene.specs.declared.scene.Scene.{Scene}
-use Rattle.wdf_model.specs.Runs.{Picked}
-use Rattle.wdf_core.specs.Machine.{ready, ending_of}
+use Rattle.wdf_model.specs.rules.Ready.{ending_of, IsPickedRun}
 use Rattle.wdf_dev.specs.Agents.{agent_meaning}
 use Rattle.wdf_parse.specs.StandsFor.{StandsFor}
 use Rattle.wdf_parse.specs.Texts.{IsRefusalOf, reading}
 use Rattle.wdf_parse.specs.Laws.{IsNoScene}
 use Rattle.wdf_plan.specs.declared.refusal.PlanRefusal.TheVariants as plan
 use Rattle.wdf_plan.specs.First.{first_refusal}
+use Rattle.wdf_plan.specs.Plans.{plan_of}
+use Rattle.wdf_gen.specs.Generated.{generated}
+use Rattle.wdf_replay.specs.declared.verdict.Why.{Why}
+use Rattle.wdf_replay.specs.Texts.{text_of}
+use Rattle.wdf_replay.specs.Verdicts as verdict
+use Rattle.wdf_split.specs.Inputs.{scenario_in, trace_in}
+use Rattle.wdf_summary.specs.Counts.{summary_text}
 use Rattle.wdf_io.specs.Outside.{Rose, Gains}
 use Rattle.wdf_top.specs.declared.words.Form.{Form}
 use Rattle.wdf_top.specs.declared.words.Form.TheVariants.{Check, Order, Seed, Replay, Gen, Load}
-use Rattle.wdf_top.specs.declared.input.TheConstants.{INPUT_LIMIT}
-use Rattle.wdf_top.specs.declared.refusal.Refusal.{Refusal}
-use Rattle.wdf_top.specs.declared.refusal.Refusal.TheVariants.{ReadFault, TooLarge, NoMemory, NoScene, NoPlan}
-use Rattle.wdf_top.specs.Answers.{HasPlan, text_of}
-use Rattle.wdf_top.specs.Input.{TakesAll, TakesCount, TakesAtMost}
-use Rattle.wdf_top.specs.Said.{Sinking}
+use Rattle.wdf_input.specs.declared.input.TheConstants.{INPUT_LIMIT}
+use Rattle.wdf_say.specs.declared.refusal.Refusal.{Refusal}
+use Rattle.wdf_say.specs.declared.refusal.Refusal.TheVariants.{ReadFault, TooLarge, NoMemory, NoScene, NoPlan}
+use Rattle.wdf_top.specs.declared.run.Picks.{Picks}
+use Rattle.wdf_top.specs.declared.run.Picks.TheVariants.{Listed, Seeded}
+use Rattle.wdf_top.specs.Answers.{HasPlan, picks_of, accepted_line, refused_line}
+use Rattle.wdf_input.specs.Input.{TakesAll, TakesCount, TakesAtMost}
+use Rattle.wdf_say.specs.Said.{Sinking}
 use Rattle.wdf_top.specs.Top.{Sourcing, IsRead}
 
 -- ---- forms of words
@@ -30,26 +38,26 @@ abbrev pub is_reading : Option Form → Bool
 is_reading None = false
 is_reading (Some Check) = true
 is_reading (Some Order) = true
-is_reading (Some (Seed n)) = false
-is_reading (Some Replay) = false
+is_reading (Some (Seed n)) = true
+is_reading (Some Replay) = true
 is_reading (Some (Gen n)) = false
 is_reading (Some (Load n)) = false
 
--- the words are a form that isn't built
-abbrev pub is_later : Option Form → Bool
-is_later None = false
-is_later (Some Check) = false
-is_later (Some Order) = false
-is_later (Some (Seed n)) = true
-is_later (Some Replay) = true
-is_later (Some (Gen n)) = true
-is_later (Some (Load n)) = true
+-- what picks the events of a run, where the words are a form that writes one
+abbrev pub picks_for : Option Form → Option Picks
+picks_for None = None
+picks_for (Some Check) = None
+picks_for (Some Order) = Some Listed
+picks_for (Some (Seed n)) = Some (Seeded n)
+picks_for (Some Replay) = None
+picks_for (Some (Gen n)) = None
+picks_for (Some (Load n)) = None
 
 -- ---- statuses
 
 -- the statuses that the program may end with
 abbrev pub is_status : ℕ → Bool
-is_status n = n == 0 || n == 2 || n == 3 || n == 4 || n == 5 || n == 10 || n == 11 || n == 12 || n == 13 || n == 14 || n == 15 || n == 16
+is_status n = n == 0 || n == 2 || n == 3 || n == 4 || n == 5 || n == 6 || n == 10 || n == 11 || n == 12 || n == 13 || n == 14 || n == 15
 
 -- a count that didn't rise in a call
 abbrev pub Stayed : ℕ → ℕ → Type 0
@@ -65,23 +73,70 @@ pub record IsGiven (s : Sourcing) (input : List ℕ) : Type 0 where
 abbrev pub Unhindered : ℕ → ℕ → Type 0
 Unhindered status answer = (answer ≡ status) ⊎ ((answer ≡ 13) ⊎ (answer ≡ 15))
 
--- the whole input was read, its plan's picks made a run that ended so, and its trace was written
-pub record WroteRun (s : Sourcing) (k : Sinking) (e : Ending) : Type 0 where
+-- the whole input was read, these picks made a run of its plan that ended so, and its trace was written
+pub record WroteRun (picks : Picks) (s : Sourcing) (k : Sinking) (e : Ending) : Type 0 where
   pub input : List ℕ
   pub whole : TakesAll s.before s.after input
   pub plan : Plan
   pub stands : HasPlan input plan
   pub run : List Event
-  pub picked : Picked (ready agent_meaning plan) plan.picks [] run
-  pub ends : ending_of agent_meaning plan run ≡ e
-  pub written : Gains k.before k.after (text_of plan run (length run) e)
+  pub picked : IsPickedRun plan agent_meaning (picks_of picks plan) run
+  pub ends : ending_of plan agent_meaning run ≡ e
+  pub written : Gains k.before k.after (text_of plan agent_meaning run)
+
+-- the words of a number made a run of the plan of its generated scenario that ended so, and its summary was written
+pub record WroteSummary (n : ℕ) (k : Sinking) (e : Ending) : Type 0 where
+  pub run : List Event
+  pub picked : IsPickedRun (plan_of (generated n)) agent_meaning (picks_of (Seeded n) (plan_of (generated n))) run
+  pub ends : ending_of (plan_of (generated n)) agent_meaning run ≡ e
+  pub written : Gains k.before k.after (summary_text run e)
+
+-- the words are a form that writes a run, and the trace of one was written that ended so; or they are `load N`, and the
+-- summary of such a run was written
+abbrev pub WroteFor : Option Form → Sourcing → Sinking → Ending → Type 0
+WroteFor form s k e =
+    ((picks : Picks) × (picks_for form ≡ Some picks) × WroteRun picks s k e)
+    ⊎ ((n : ℕ) × (form ≡ Some (Load n)) × WroteSummary n k e)
+
+-- the whole input was read, a plan stands for its scenario, and its trace is the text of a run that ended so
+pub record WroteAccepted (s : Sourcing) (k : Sinking) : Type 0 where
+  pub input : List ℕ
+  pub whole : TakesAll s.before s.after input
+  pub plan : Plan
+  pub stands : HasPlan (scenario_in input) plan
+  pub ending : Ending
+  pub accepted : verdict.IsAccepted plan agent_meaning (trace_in input) ending
+  pub written : Gains k.before k.after (accepted_line (length accepted.run) ending)
+
+-- the whole input was read, a plan stands for its scenario, and this line of its trace is the first bad one, for this reason
+pub record WroteRefused (s : Sourcing) (k : Sinking) : Type 0 where
+  pub input : List ℕ
+  pub whole : TakesAll s.before s.after input
+  pub plan : Plan
+  pub stands : HasPlan (scenario_in input) plan
+  pub line : ℕ
+  pub why : Why
+  pub refused : verdict.IsRefused plan agent_meaning (trace_in input) line why
+  pub written : Gains k.before k.after (refused_line line why)
 
 -- ---- refusals
 
--- when a refusal comes
-abbrev pub IsCause : Sourcing → Refusal → Type 0
-IsCause s ReadFault = Rose s.faults_before s.faults_after × TakesAtMost s.before s.after INPUT_LIMIT
-IsCause s TooLarge = TakesCount s.before s.after (INPUT_LIMIT + 1) × (s.faults_after ≡ s.faults_before)
-IsCause s NoMemory = (s.faults_after ≡ s.faults_before) × TakesAtMost s.before s.after INPUT_LIMIT
-IsCause s (NoScene refusal) = (input : List ℕ) × IsRead s input × IsRefusalOf (reading input) refusal × IsNoScene input refusal
-IsCause s (NoPlan refusal) = (input : List ℕ) × (scene : Scene) × IsRead s input × StandsFor input scene × ((refusal ≡ plan.Memory) ⊎ (first_refusal scene ≡ Some refusal))
+-- when a refusal comes, where this part of the input is the scenario
+abbrev pub IsCause : (List ℕ → List ℕ) → Sourcing → Refusal → Type 0
+IsCause part s ReadFault = Rose s.faults_before s.faults_after × TakesAtMost s.before s.after INPUT_LIMIT
+IsCause part s TooLarge = TakesCount s.before s.after (INPUT_LIMIT + 1) × (s.faults_after ≡ s.faults_before)
+IsCause part s NoMemory = (s.faults_after ≡ s.faults_before) × TakesAtMost s.before s.after INPUT_LIMIT
+IsCause part s (NoScene refusal) = (input : List ℕ) × IsRead s input × IsRefusalOf (reading (part input)) refusal × IsNoScene (part input) refusal
+IsCause part s (NoPlan refusal) = (input : List ℕ) × (scene : Scene) × IsRead s input × StandsFor (part input) scene × ((refusal ≡ plan.Memory) ⊎ (first_refusal scene ≡ Some refusal))
+
+-- why a text has no plan
+abbrev pub IsTextCause : List ℕ → Refusal → Type 0
+IsTextCause text ReadFault = ⊥
+IsTextCause text TooLarge = ⊥
+IsTextCause text NoMemory = ⊥
+IsTextCause text (NoScene refusal) = IsRefusalOf (reading text) refusal × IsNoScene text refusal
+IsTextCause text (NoPlan refusal) = (scene : Scene) × StandsFor text scene × ((refusal ≡ plan.Memory) ⊎ (first_refusal scene ≡ Some refusal))
+
+-- the whole of an input is its scenario
+abbrev pub all_of : List ℕ → List ℕ
+all_of input = input

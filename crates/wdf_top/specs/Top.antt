@@ -1,15 +1,19 @@
 -- What the program answers and what it writes, for each form of words. (own)
 use Rattle.std.specs.Prelude.{ℕ, ◌≡◌, ◌≤◌, ◌+◌, ◌⊎◌, List, length, codes, Option, None, Some}
 use Rattle.wdf_io.specs.Outside.{Rose}
+use Rattle.wdf_parse.specs.Printing.{printed}
+use Rattle.wdf_gen.specs.Generated.{generated}
 use Rattle.wdf_base.specs.declared.plan.Plan.{Plan}
 use Rattle.wdf_top.specs.declared.words.Form.{Form}
 use Rattle.wdf_top.specs.declared.words.Form.TheVariants.{Check, Order, Seed, Replay, Gen, Load}
-use Rattle.wdf_top.specs.declared.input.TheConstants.{INPUT_LIMIT}
-use Rattle.wdf_top.specs.Answers.{Writing, Answers, writes_run, writes_scene, IsRunDue, not_built_line}
-use Rattle.wdf_top.specs.Input.{TakesAll, TakesCount, TakesAtMost}
-use Rattle.wdf_top.specs.Refusals.{read_fault_line, too_large_line, no_memory_line}
-use Rattle.wdf_top.specs.Said.{Sinking, Says}
-use Rattle.wdf_top.specs.Words.{Arguments, form_of_words, words_behind}
+use Rattle.wdf_top.specs.declared.run.Picks.{Picks}
+use Rattle.wdf_top.specs.declared.run.Picks.TheVariants.{Listed, Seeded}
+use Rattle.wdf_input.specs.declared.input.TheConstants.{INPUT_LIMIT}
+use Rattle.wdf_top.specs.Answers.{Answering, Answers, running, checking, judging, IsTraceOf, IsVerdict, IsSummaryOf}
+use Rattle.wdf_input.specs.Input.{TakesAll, TakesCount, TakesAtMost}
+use Rattle.wdf_say.specs.Refusals.{read_fault_line, too_large_line, no_memory_line}
+use Rattle.wdf_say.specs.Said.{Sinking, Says}
+use Rattle.wdf_split.specs.Inputs.{scenario_in}
 
 abbrev pub usage_line : List ℕ
 usage_line = codes "usage: kmdfsim check | order | seed N | run | replay | gen N | load N\n"
@@ -34,8 +38,8 @@ abbrev pub IsRead : Sourcing → List ℕ → Type 0
 IsRead s input = TakesAll s.before s.after input × (length input ≤ INPUT_LIMIT) × (s.faults_after ≡ s.faults_before)
 
 -- the whole input was read, and this is its answer
-abbrev pub IsAnswered : Writing → Sourcing → List ℕ → ℕ → Type 0
-IsAnswered writes s text status = (input : List ℕ) × IsRead s input × Answers writes input text status
+abbrev pub IsAnswered : Answering → Sourcing → List ℕ → ℕ → Type 0
+IsAnswered a s text status = (input : List ℕ) × IsRead s input × Answers a input text status
 
 -- a byte past the limit was read, and none behind it
 abbrev pub IsTooLarge : Sourcing → List ℕ → ℕ → Type 0
@@ -50,8 +54,8 @@ abbrev pub IsOutOfMemory : Sourcing → List ℕ → ℕ → Type 0
 IsOutOfMemory s text status = (s.faults_after ≡ s.faults_before) × TakesAtMost s.before s.after INPUT_LIMIT × (text ≡ no_memory_line) × (status ≡ 15)
 
 -- what a form that reads its input is to write, with its status
-abbrev pub IsReadDue : Writing → Sourcing → List ℕ → ℕ → Type 0
-IsReadDue writes s text status = IsAnswered writes s text status ⊎ (IsTooLarge s text status ⊎ (IsReadFault s text status ⊎ IsOutOfMemory s text status))
+abbrev pub IsReadDue : Answering → Sourcing → List ℕ → ℕ → Type 0
+IsReadDue a s text status = IsAnswered a s text status ⊎ (IsTooLarge s text status ⊎ (IsReadFault s text status ⊎ IsOutOfMemory s text status))
 
 -- what a form of words asks for
 pub data Service : Type 0 where
@@ -59,38 +63,66 @@ pub data Service : Type 0 where
   Usage : Service
   -- the input's scene in canonical form
   Canonical : Service
-  -- the run of the input's plan
-  Run : Service
-  -- a form that isn't built
-  Later : Service
+  -- the run that these picks make of the input's plan
+  Run : Picks → Service
+  -- the verdict on the input's trace
+  Judgement : Service
+  -- the scenario that a number generates
+  Scenario : ℕ → Service
+  -- the summary of its run by the number's words
+  Summary : ℕ → Service
 
 abbrev pub service_of : Option Form → Service
 service_of None = Usage
 service_of (Some Check) = Canonical
-service_of (Some Order) = Run
-service_of (Some (Seed n)) = Later
-service_of (Some Replay) = Later
-service_of (Some (Gen n)) = Later
-service_of (Some (Load n)) = Later
+service_of (Some Order) = Run Listed
+service_of (Some (Seed n)) = Run (Seeded n)
+service_of (Some Replay) = Judgement
+service_of (Some (Gen n)) = Scenario n
+service_of (Some (Load n)) = Summary n
+
+-- the scenario in an input: for `replay` the bytes before its first line `trace`, else all
+abbrev pub scenario_by : Service → List ℕ → List ℕ
+scenario_by Judgement input = scenario_in input
+scenario_by Usage input = input
+scenario_by Canonical input = input
+scenario_by (Run picks) input = input
+scenario_by (Scenario n) input = input
+scenario_by (Summary n) input = input
+
+-- the text of the scenario that a number generates, or the line that memory is wanting
+abbrev pub IsScenario : ℕ → List ℕ → ℕ → Type 0
+IsScenario n text status = ((text ≡ printed (generated n)) × (status ≡ 0)) ⊎ ((text ≡ no_memory_line) × (status ≡ 15))
+
+-- the summary of a generated scenario's run, or the line that memory is wanting
+abbrev pub IsSummary : ℕ → List ℕ → ℕ → Type 0
+IsSummary n text status = IsSummaryOf n text status ⊎ ((text ≡ no_memory_line) × (status ≡ 15))
 
 -- What is to be written for a form of words, with its status.
 abbrev pub IsDue : Service → Sourcing → List ℕ → ℕ → Type 0
 IsDue Usage s text status = IsUnread s × (text ≡ usage_line) × (status ≡ 2)
-IsDue Canonical s text status = IsReadDue writes_scene s text status
-IsDue Run s text status = IsReadDue writes_run s text status
-IsDue Later s text status = IsUnread s × (text ≡ not_built_line) × (status ≡ 16)
+IsDue Canonical s text status = IsReadDue checking s text status
+IsDue (Run picks) s text status = IsReadDue (running picks) s text status
+IsDue Judgement s text status = IsReadDue judging s text status
+IsDue (Scenario n) s text status = IsUnread s × IsScenario n text status
+IsDue (Summary n) s text status = IsUnread s × IsSummary n text status
 
 -- What the program answers and what it writes: the text that is due, with its status, or a front of it.
 abbrev pub Tells : Service → Sourcing → Sinking → ℕ → Type 0
 Tells service s k answer = (text : List ℕ) × (status : ℕ) × IsDue service s text status × Says k text status answer
 
--- What becomes of a plan: what is due for it, or the line that memory is wanting; or a front of either.
-abbrev pub TellsPlan : Plan → Sinking → ℕ → Type 0
-TellsPlan plan k answer = (text : List ℕ) × (status : ℕ) × (IsRunDue plan text status ⊎ ((text ≡ no_memory_line) × (status ≡ 15))) × Says k text status answer
+-- What becomes of a plan: the trace of the run that these picks make of it, or the line that memory is wanting; or a front of either.
+abbrev pub TellsPlan : Plan → List ℕ → Sinking → ℕ → Type 0
+TellsPlan plan picks k answer = (text : List ℕ) × (status : ℕ) × (IsTraceOf plan picks text status ⊎ ((text ≡ no_memory_line) × (status ≡ 15))) × Says k text status answer
 
--- What the program does for its arguments: what the top call does for the words behind its name; or memory for the
--- words is refused, nothing is read, and that is told.
-abbrev pub Serves : Arguments → Sourcing → Sinking → ℕ → Type 0
-Serves arguments s k answer =
-    Tells (service_of (form_of_words (words_behind arguments))) s k answer
-    ⊎ (IsUnread s × Says k no_memory_line 15 answer)
+-- What becomes of a trace: the line of the verdict, or the line that memory is wanting; or a front of either.
+abbrev pub TellsVerdict : Plan → List ℕ → Sinking → ℕ → Type 0
+TellsVerdict plan trace k answer = (text : List ℕ) × (status : ℕ) × (IsVerdict plan trace text status ⊎ ((text ≡ no_memory_line) × (status ≡ 15))) × Says k text status answer
+
+-- What becomes of a number that generates a scenario: its text, or the line that memory is wanting; or a front of either.
+abbrev pub TellsScenario : ℕ → Sinking → ℕ → Type 0
+TellsScenario n k answer = (text : List ℕ) × (status : ℕ) × IsScenario n text status × Says k text status answer
+
+-- What becomes of a number whose scenario is run: the summary, or the line that memory is wanting; or a front of either.
+abbrev pub TellsSummary : ℕ → Sinking → ℕ → Type 0
+TellsSummary n k answer = (text : List ℕ) × (status : ℕ) × IsSummary n text status × Says k text status answer

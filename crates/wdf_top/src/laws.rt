@@ -1,10 +1,28 @@
-//! What holds of each text that has a plan. The function does nothing: its contract is the law.
-ghost use Rattle.std.specs.Prelude.{ℕ, List};
+//! What holds of each text that has a plan, and of each trace. The functions do nothing: their contracts are the laws.
+ghost use Rattle.std.specs.Prelude.{◌≡◌, ◌≢◌, ℕ, List};
 ghost use Rattle.wdf_base.specs.declared.plan.Plan.{Plan};
+ghost use Rattle.wdf_base.specs.declared.event.Event.{Event};
+ghost use Rattle.wdf_base.specs.declared.event.Ending.TheVariants as ending;
 ghost use Rattle.wdf_base.specs.Resolved.{IsResolved};
-ghost use Rattle.wdf_top.specs.Answers.{HasPlan};
+ghost use Rattle.wdf_model.specs.rules.Ready.{ending_of, IsRunOf};
+ghost use Rattle.wdf_dev.specs.Agents.{agent_meaning};
+ghost use Rattle.wdf_replay.specs.Texts.{text_of};
+ghost use Rattle.wdf_top.specs.Answers.{HasPlan, IsTraceOf};
 
 /// The plan of each text is resolved. So by the laws of `wdf_trace` each line of its traces tells one event.
 pub fn plans_of_texts_are_resolved()
     ensures { (input : List ℕ) (plan : Plan) → HasPlan input plan → IsResolved plan }
+{}
+
+/// A trace is the text of a run of the written machine, from the opening to where nothing may follow.
+pub fn traces_are_of_runs()
+    ensures { (plan : Plan) (picks text : List ℕ) (status : ℕ) → IsTraceOf plan picks text status
+        → (run : List Event) × IsRunOf plan agent_meaning run × (ending_of plan agent_meaning run ≢ ending.Running)
+        × (text ≡ text_of plan agent_meaning run) }
+{}
+
+/// A plan and its picks have one trace, with one status.
+pub fn one_trace_a_plan()
+    ensures { (plan : Plan) (picks text other : List ℕ) (status another : ℕ) → IsTraceOf plan picks text status → IsTraceOf plan picks other another
+        → (text ≡ other) × (status ≡ another) }
 {}

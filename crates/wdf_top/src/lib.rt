@@ -1,21 +1,14 @@
 //! The top call: words and bytes in, bytes and a status out.
 #![tactic(auto)]
 
-mod input;
+mod generated;
 mod laws;
-mod message;
-mod order;
-mod program;
-mod refusal;
-mod say;
+mod load;
+mod run;
 mod scenario;
 mod top;
-mod trace;
+mod verdict;
 mod words;
 
-pub use laws::plans_of_texts_are_resolved;
-pub use program::serve;
+pub use laws::{one_trace_a_plan, plans_of_texts_are_resolved, traces_are_of_runs};
 pub use top::top_plain;
-
-#[cfg(test)]
-mod tests;

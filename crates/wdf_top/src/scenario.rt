@@ -5,21 +5,22 @@ ghost use Rattle.wdf_parse.specs.Canonical.{canonical_text};
 ghost use Rattle.wdf_parse.specs.StandsFor.{StandsFor};
 ghost use Rattle.wdf_plan.specs.First.{first_refusal};
 ghost use Rattle.wdf_top.specs.Answers.{HasPlan};
-ghost use Rattle.wdf_top.specs.Causes.{IsCause};
+ghost use Rattle.wdf_split.specs.Inputs.{scenario_in};
+ghost use Rattle.wdf_top.specs.Causes.{all_of, IsCause, IsTextCause};
 ghost use Rattle.wdf_top.specs.Top.{IsRead, sourcing};
 
-use crate::input::read_whole;
-use crate::refusal::Refusal;
 use std::alloc::Global;
 use wdf_base::Plan;
+use wdf_input::read_whole;
 use wdf_io::Source;
-use wdf_parse::{parse, print};
+use wdf_parse::{TEXT_LIMIT, parse, print};
 use wdf_plan::resolve;
+use wdf_say::Refusal;
 
 /// Reads the whole input and resolves its scene.
 pub fn read_plan<S: Source>(alloc: Global, source: &mut S) -> Result<Plan, Refusal>
     ensures plan { IfOk result (λ plan. (input : List ℕ) × IsRead (sourcing (S.left source.old) (S.left source.new) (S.faults source.old) (S.faults source.new)) input × HasPlan input plan) }
-    ensures cause { IfErr result (λ refusal. IsCause (sourcing (S.left source.old) (S.left source.new) (S.faults source.old) (S.faults source.new)) refusal) }
+    ensures cause { IfErr result (λ refusal. IsCause all_of (sourcing (S.left source.old) (S.left source.new) (S.faults source.old) (S.faults source.new)) refusal) }
 {
     let text = read_whole(alloc, source)?;
     let scene = parse(alloc, &text)?;
@@ -30,11 +31,31 @@ pub fn read_plan<S: Source>(alloc: Global, source: &mut S) -> Result<Plan, Refus
 /// Reads the whole input, whose scene has a plan, and prints the scene in canonical form.
 pub fn read_canonical<S: Source>(alloc: Global, source: &mut S) -> Result<Vec<u8>, Refusal>
     ensures text { IfOk result (λ text. (input : List ℕ) × (scene : Scene) × (stands : StandsFor input scene) × IsRead (sourcing (S.left source.old) (S.left source.new) (S.faults source.old) (S.faults source.new)) input × (first_refusal scene ≡ None) × (text.items ≡ canonical_text scene.version stands.ws)) }
-    ensures cause { IfErr result (λ refusal. IsCause (sourcing (S.left source.old) (S.left source.new) (S.faults source.old) (S.faults source.new)) refusal) }
+    ensures cause { IfErr result (λ refusal. IsCause all_of (sourcing (S.left source.old) (S.left source.new) (S.faults source.old) (S.faults source.new)) refusal) }
 {
     let text = read_whole(alloc, source)?;
     let scene = parse(alloc, &text)?;
     let _plan = resolve(alloc, &scene)?;
     let canonical = print(alloc, &scene)?;
     Ok(canonical)
+}
+
+/// Reads the whole input.
+pub fn read_input<S: Source>(alloc: Global, source: &mut S) -> Result<Vec<u8>, Refusal>
+    ensures text { IfOk result (λ text. IsRead (sourcing (S.left source.old) (S.left source.new) (S.faults source.old) (S.faults source.new)) text.items) }
+    ensures cause { IfErr result (λ refusal. IsCause scenario_in (sourcing (S.left source.old) (S.left source.new) (S.faults source.old) (S.faults source.new)) refusal) }
+{
+    let text = read_whole(alloc, source)?;
+    Ok(text)
+}
+
+/// The plan of a text's scene.
+pub fn plan_of_text(alloc: Global, text: &[u8]) -> Result<Plan, Refusal>
+    requires { length text.now ≤ TEXT_LIMIT }
+    ensures plan { IfOk result (HasPlan text.now) }
+    ensures cause { IfErr result (IsTextCause text.now) }
+{
+    let scene = parse(alloc, text)?;
+    let plan = resolve(alloc, &scene)?;
+    Ok(plan)
 }

@@ -77,39 +77,3 @@ fn number_word(word: &[u8]) -> Option<u64>
         None
     }
 }
-
-#[cfg(test)]
-mod tests {
-    use super::*;
-    use std::test::Fail;
-
-    #[test]
-    fn knows_its_words(rt: HostRuntime) -> Result<(), Fail> {
-        let alloc = rt.alloc();
-        for (line, form) in [
-            ("check", Some(Form::Check)),
-            ("order", Some(Form::Order)),
-            ("seed 7", Some(Form::Seed(7))),
-            ("seed 00000000000000000007", Some(Form::Seed(7))),
-            ("replay", Some(Form::Replay)),
-            ("gen 18446744073709551615", Some(Form::Gen(u64::MAX))),
-            ("load 0", Some(Form::Load(0))),
-            ("", None),
-            ("run", None),
-            ("--help", None),
-            ("order 1", None),
-            ("seed", None),
-            ("seed -1", None),
-            ("seed 18446744073709551616", None),
-            ("seed 000000000000000000007", None),
-            ("seed 1 2", None),
-        ] {
-            let mut words = Vec::new(alloc);
-            for word in line.split_whitespace() {
-                words.push(String::from_str(alloc, word)?)?;
-            }
-            assert_eq!(rt; form_of(words.as_slice()), form, "at {line:?}");
-        }
-        Ok(())
-    }
-}

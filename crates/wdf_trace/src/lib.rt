@@ -18,16 +18,3 @@ pub use line::{LINE_LIMIT, Line};
 pub use lines::line_of;
 pub use read::{one_event_a_line, read_line};
 pub use waits::{reads_as_ending, reads_as_wait};
-
-#[cfg(test)]
-mod test_callbacks;
-#[cfg(test)]
-mod test_calls;
-#[cfg(test)]
-mod test_endings;
-#[cfg(test)]
-mod test_events;
-#[cfg(test)]
-mod test_plan;
-#[cfg(test)]
-mod tests;

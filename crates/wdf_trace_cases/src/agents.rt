@@ -1,11 +1,11 @@
-use crate::worked::{Worked, plan_of};
-use crate::{power, processors, requests, serial, targets};
+use crate::worked::plan_of;
 use std::alloc::Global;
 use std::process::Abort;
 use std::test::Fail;
 use wdf_base::{Access, Agent, Event};
 use wdf_dev::{AnyAgent, agents};
 use wdf_trace::read_line;
+use wdf_worked_texts::{Worked, power, processors, requests, serial, targets};
 
 /// The greatest of what the agents show; one that hasn't the register or the line shows 0.
 fn shown(all: &[AnyAgent], what: u32) -> u64 {

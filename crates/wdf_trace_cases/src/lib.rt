@@ -7,16 +7,6 @@ mod agents;
 #[cfg(test)]
 mod others;
 #[cfg(test)]
-mod power;
-#[cfg(test)]
-mod processors;
-#[cfg(test)]
-mod requests;
-#[cfg(test)]
-mod serial;
-#[cfg(test)]
-mod targets;
-#[cfg(test)]
 mod tests;
 #[cfg(test)]
 mod waits;

@@ -1,7 +1,7 @@
-use crate::serial;
 use crate::worked::plan_of;
 use std::test::Fail;
 use wdf_trace::{read_line, reads_as_ending, reads_as_wait};
+use wdf_worked_texts::serial;
 
 /// Lines of the serial port's run, and beside each a text that is no line.
 static OTHERS: [(&str, &str); 22] = [

@@ -1,11 +1,11 @@
 use crate::waits::WAITS;
-use crate::worked::{Worked, plan_of};
-use crate::{power, processors, requests, serial, targets};
+use crate::worked::plan_of;
 use std::alloc::Global;
 use std::process::Abort;
 use std::test::Fail;
 use wdf_base::{Ending, Plan};
 use wdf_trace::{ending_line, line_of, read_line, reads_as_ending, reads_as_wait, wait_line};
+use wdf_worked_texts::{Worked, power, processors, requests, serial, targets};
 
 /// Each event's line is read with its number, from 1 on, and written from what is read.
 fn show_events(rt: &impl Abort, plan: &Plan, run: &Worked) -> Result<(), Fail> {

@@ -250,11 +250,12 @@ there_if_cleaned (n ∷ ns) (suc o) h = let there = there_if_cleaned ns o h in o
 
 -- what is live is not gone, and its cleanup is still to come
 pub record IsLiving (l : Life) : Type 0 where
+  pub live : is_live l ≡ true
   pub gone : is_gone l ≡ false
   pub waits : is_past_cleanup l ≡ false
 
 pub live_stands : (l : Life) → same_life l life.Live ≡ true → IsLiving l
-live_stands life.Live h = record { gone = refl; waits = refl }
+live_stands life.Live h = record { live = refl; gone = refl; waits = refl }
 live_stands life.Asked h = absurd (false≢true h)
 live_stands life.Cleaned h = absurd (false≢true h)
 live_stands life.Gone h = absurd (false≢true h)

@@ -1,5 +1,6 @@
 pub mod Kin
 pub mod Kept
+pub mod Leaving
 pub mod Marks
 pub mod Children
 pub mod Walks

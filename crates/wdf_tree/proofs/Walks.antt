@@ -128,7 +128,7 @@ asked_keeps n = by_life (is_live n.life) refl
     by_life false e = rw e refl
 
 -- the subtree stays where one object is asked
-subtree_asked : (T : Tree) (o x : ℕ) → x < length T.nodes → subtree (ask_one T x) o ≡ subtree T o
+pub subtree_asked : (T : Tree) (o x : ℕ) → x < length T.nodes → subtree (ask_one T x) o ≡ subtree T o
 subtree_asked T o x h =
     let m = asked_if_live (node_of T x) in
     let set : (ask_one T x).nodes ≡ slice_set T.nodes x m = put_within gone T.nodes x m h in

@@ -1,3 +1,4 @@
+pub mod Leaving
 pub mod Inside
 pub mod Refusal
 pub mod Kin

@@ -1,5 +1,6 @@
 mod acts;
 mod deletion;
+mod leaving;
 mod making;
 mod order;
 mod readers;
@@ -8,6 +9,7 @@ use std::marker::Model;
 use wdf_base::ObjectId;
 use wdf_ilist::Links;
 use wdf_model::Node;
+use wdf_sets::IdSet;
 
 /// The objects of the machine: what they are, who is above whom, and how far the deletion of each
 /// has come. An object that is gone keeps its id.
@@ -27,6 +29,10 @@ pub struct Tree {
     children: Links,
     /// The children of each object whose cleanup is still to come, by rising ids.
     waiting: Links,
+    /// The objects whose deletion was asked, and whose cleanup is still to come.
+    asked: IdSet,
+    /// The objects that are cleaned up, and aren't destroyed yet.
+    cleaned: IdSet,
 }
 
 impl Model for Tree {

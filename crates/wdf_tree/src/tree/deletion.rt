@@ -29,6 +29,7 @@ impl Tree {
     {
         if self.life(o) == Life::Live {
             self.nodes[o.0 as usize].life = Life::Asked;
+            self.asked.put(o.0, true);
         }
     }
 
@@ -164,6 +165,8 @@ impl Tree {
     {
         self.nodes[o.0 as usize].life = Life::Cleaned;
         let _list = self.waiting.unlink(o.0);
+        self.asked.put(o.0, false);
+        self.cleaned.put(o.0, true);
     }
 
     /// Whether an object may be destroyed, by the tree alone: its cleanup is done, no reference is
@@ -186,5 +189,6 @@ impl Tree {
         self.nodes[o.0 as usize] = gone();
         self.devices[o.0 as usize] = DRIVER;
         let _list = self.children.unlink(o.0);
+        self.cleaned.put(o.0, false);
     }
 }

@@ -11,6 +11,7 @@ use std::alloc::Global;
 use wdf_base::{Declared, Kind, Life, Memory, ObjectId, Plan, Value};
 use wdf_ilist::Links;
 use wdf_model::{CELLS, Node, OBJECTS};
+use wdf_sets::IdSet;
 
 /// The driver object.
 pub(super) const DRIVER: ObjectId = ObjectId(1);
@@ -115,6 +116,8 @@ impl Tree {
             count: 0,
             children: Links::make(alloc, room, room)?,
             waiting: Links::make(alloc, room, room)?,
+            asked: IdSet::make(alloc, room)?,
+            cleaned: IdSet::make(alloc, room)?,
         })
     }
 

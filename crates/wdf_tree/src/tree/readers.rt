@@ -1,6 +1,7 @@
 //! What is read of one object, and of the tree as a whole. What was never made is gone.
 
-ghost use Rattle.std.specs.Prelude.{◌≡◌, ◌<◌, length};
+ghost use Rattle.std.specs.Prelude.{◌≡◌, length, slice_index_or};
+ghost use Rattle.wdf_base.specs.declared.value.Value.TheVariants.{Num};
 ghost use Rattle.wdf_base.specs.Plan.{declared_of};
 ghost use Rattle.wdf_model.specs.Plans as plans;
 ghost use Rattle.wdf_model.specs.parts.Tree as tree;
@@ -8,7 +9,6 @@ ghost use Rattle.wdf_model.specs.parts.Tree as tree;
 use super::Tree;
 use super::making::DRIVER;
 use wdf_base::{Callback, Declared, Handle, Kind, Life, ObjectId, Plan, Value};
-use wdf_model::CELLS;
 
 /// The number of the name of requests.
 const REQUEST_NAME: u32 = 1;
@@ -43,6 +43,16 @@ fn name_as(plan: &Plan, declared: Option<Declared>) -> u32
         None => REQUEST_NAME,
         Some(Declared::OfClass(class)) => name_of_class(plan, class),
         Some(object) => object.name().unwrap_or(0),
+    }
+}
+
+/// The value at a place, the number 0 past the end.
+fn value_at(values: &[Value], k: u64) -> Value
+    ensures { result ≡ slice_index_or values.now k (Num 0) }
+{
+    match values.get(k as usize) {
+        Some(value) => *value,
+        None => Value::Num(0),
     }
 }
 
@@ -121,13 +131,12 @@ impl Tree {
         }
     }
 
-    /// What a context cell of an object holds.
-    pub fn get(&self, o: ObjectId, k: u8) -> Value
-        requires { k < CELLS }
+    /// What a context cell of an object holds; the number 0 for a cell that isn't there.
+    pub fn get(&self, o: ObjectId, k: u64) -> Value
         ensures { result ≡ tree.cell_of self.now o.0 k }
     {
         match self.nodes.get(o.0 as usize) {
-            Some(node) => node.cells[k as usize],
+            Some(node) => value_at(&node.cells, k),
             None => Value::Num(0),
         }
     }

@@ -1,6 +1,6 @@
 -- What `check` tells, of a scene and of a refusal.
 use Rattle.std.proofs.Common.{arith}
-use Rattle.wdf_top.specs.Answers.{writes_scene}
+use Rattle.wdf_top.specs.Answers.{checking}
 use Rattle.wdf_top.proofs.Due.{check_told, refusal_told}
 use Rattle.wdf_top.proofs.top.check.Goals as goal
 
@@ -12,6 +12,6 @@ returns-in-Ok g c = record {
 
 pub returns-in-Err : goal.returns-in-Err
 returns-in-Err g c = record {
-  told = refusal_told writes_scene _ _ c.in-Err.refusal _ c.in-Err.ensures.cause c.tell.ensures.said;
+  told = refusal_told checking _ _ c.in-Err.refusal _ c.in-Err.ensures.cause c.tell.ensures.said;
   not_again = c.tell.ensures.not_again;
 }

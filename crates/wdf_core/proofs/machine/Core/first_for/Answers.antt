@@ -1,13 +1,16 @@
--- The iterator gives the events that may follow, one after another.
-use Rattle.std.proofs.Common.{rules, tests}
-use Rattle.std.proofs.lemmas.Iterator.Consumers.{YieldsList-from_first}
-use Rattle.std.proofs.lemmas.Iterator.Search.{position_from_yields_List}
-use Rattle.wdf_core.specs.Course.{is_by}
-use Rattle.wdf_core.specs.Ready.{events_left}
+-- The first of what may come, or else the next tick.
+use Rattle.std.proofs.Common.{◌≡◌, true, false, sym, ◌∙◌}
+use Rattle.wdf_ready.specs.Actors.{is_by}
+use Rattle.wdf_core.specs.Going.{goes_on}
+use Rattle.wdf_core.proofs.Journal.{first_stopped, first_there}
 use Rattle.wdf_core.proofs.machine.Core.first_for.Goals as goal
 
-pub returns : goal.returns
-returns g c =
-    position_from_yields_List (is_by c.args.actor) c.position.new.self _ c.position.result c.position.ensures.ran
-    (YieldsList-from_first (λ event. event) (λ s. events_left g.A.Agent.meaning s.plan.now s.parts.now s.group s.place) {s = c.ready.result} _ c.ready.ensures.events)
-    (λ event b q k. search (rules, tests))
+pub returns-then-not-goes_on : goal.returns-then-not-goes_on
+returns-then-not-goes_on g c =
+    let stopped : goes_on c.self.inside.plan c.self.inside.journal.items ≡ false = (sym (rw (← c.self.view_is) at c.goes_on.ensures)) ∙ c.if-not-goes_on.true in
+    rw (← c.self.view_is) (first_stopped g.A.Agent.meaning c.self.inside.plan c.self.inside.journal.items c.self.inside.parts c.self.inside.groups.items _ c.self.invariant (is_by c.args.actor) stopped)
+
+pub returns-in-Some : goal.returns-in-Some
+returns-in-Some g c =
+    let going : goes_on c.self.inside.plan c.self.inside.journal.items ≡ true = (sym (rw (← c.self.view_is) at c.goes_on.ensures)) ∙ c.if-not-goes_on.false in
+    rw (← c.self.view_is) (first_there g.A.Agent.meaning c.self.inside.plan c.self.inside.journal.items c.self.inside.parts c.self.inside.groups.items _ c.self.invariant (is_by c.args.actor) c.in-Some.place going (sym (rw (← c.self.view_is) at c.allowed_for.ensures) ∙ c.in-Some.is))

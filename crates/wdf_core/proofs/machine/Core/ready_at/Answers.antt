@@ -1,15 +1,25 @@
--- The iterator gives the events that may follow, one after another.
-use Rattle.std.proofs.Common.{◌≡◌, sym, slice_get}
-use Rattle.std.specs.Option.{option_map}
-use Rattle.std.proofs.lemmas.Iterator.Consumers.{nth_from_yields_List, YieldsList-from_first}
-use Rattle.wdf_base.specs.declared.event.Event.{Event}
-use Rattle.wdf_core.specs.Machine.{ready}
-use Rattle.wdf_core.specs.Ready.{events_left}
+-- What may come at the place, or else the next tick.
+use Rattle.std.proofs.Common.{◌<◌, ap, sym, ◌∙◌, arith, length, Some}
+use Rattle.wdf_model.specs.rules.Ready.{ready}
+use Rattle.wdf_core.proofs.Journal.{found_at, goes, tick_at}
 use Rattle.wdf_core.proofs.machine.Core.ready_at.Goals as goal
 
-pub returns : goal.returns
-returns g c =
-    let reads : option_map (λ (event : Event). event) c.nth.result ≡ slice_get (ready g.A.Agent.meaning c.args.self.now.plan c.args.self.now.journal) c.args.k =
-    nth_from_yields_List c.nth.result c.nth.new.self c.args.k c.nth.ensures.ran
-    (YieldsList-from_first (λ event. event) (λ s. events_left g.A.Agent.meaning s.plan.now s.parts.now s.group s.place) _ c.ready.ensures.events) in
-    sym (rw c.unwrap.ensures at reads)
+pub allowed_at-requires : goal.allowed_at-requires
+allowed_at-requires g c =
+    let below : c.args.k < length (ready c.self.inside.plan g.A.Agent.meaning c.self.inside.journal.items) = rw (← c.self.view_is) at c.requires in
+    rw (← c.self.view_is) (goes g.A.Agent.meaning c.self.inside.plan c.self.inside.journal.items c.self.inside.parts c.self.inside.groups.items _ c.self.invariant (omega arith))
+
+pub tick-requires : goal.tick-requires
+tick-requires g c =
+    let below : c.args.k < length (ready c.self.inside.plan g.A.Agent.meaning c.self.inside.journal.items) = rw (← c.self.view_is) at c.requires in
+    rw (← c.self.view_is) (goes g.A.Agent.meaning c.self.inside.plan c.self.inside.journal.items c.self.inside.parts c.self.inside.groups.items _ c.self.invariant (omega arith))
+
+pub returns-in-Some : goal.returns-in-Some
+returns-in-Some g c =
+    let below : c.args.k < length (ready c.self.inside.plan g.A.Agent.meaning c.self.inside.journal.items) = rw (← c.self.view_is) at c.requires in
+    rw (← c.self.view_is) (found_at g.A.Agent.meaning c.self.inside.plan c.self.inside.journal.items c.self.inside.parts c.self.inside.groups.items _ c.self.invariant c.args.k c.in-Some.event below (sym (rw (← c.self.view_is) at c.in-Some.ensures)))
+
+pub returns-in-None : goal.returns-in-None
+returns-in-None g c =
+    let below : c.args.k < length (ready c.self.inside.plan g.A.Agent.meaning c.self.inside.journal.items) = rw (← c.self.view_is) at c.requires in
+    rw (← c.self.view_is) (tick_at g.A.Agent.meaning c.self.inside.plan c.self.inside.journal.items c.self.inside.parts c.self.inside.groups.items _ c.self.invariant c.args.k below (sym (rw (← c.self.view_is) at c.in-None.ensures)) ∙ ap Some (sym (rw (← c.self.view_is) at c.tick.ensures)))

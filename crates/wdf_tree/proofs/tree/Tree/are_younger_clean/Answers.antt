@@ -17,7 +17,7 @@ returns c =
     let view : c.self.inside.nodes.items ≡ c.args.self.now.nodes = ap (λ (t : Tree). t.nodes) c.self.view_is in
     let few = ap (λ (ns : List Node). length ns) view in
     let kin : list_at c.self.inside.waiting.lists parent ≡ places (is_kin is_waiting parent) 0 c.args.self.now.nodes
-    = c.self.invariant.waiting_kin.kin parent (omega arith) ∙ ap (places (is_kin is_waiting parent) 0) view in
+    = c.self.invariant.kept.waiting_kin.kin parent (omega arith) ∙ ap (places (is_kin is_waiting parent) 0) view in
     c.is_id.ensures
     ∙ ap (λ found. same_id found c.args.o.0) (c.back.ensures ∙ ap (λ q. last_of (list_at c.self.inside.waiting.lists q)) c.parent.ensures ∙ ap last_of kin)
     ∙ last_waiting c.args.self.now c.args.o.0 there c.requires.asked

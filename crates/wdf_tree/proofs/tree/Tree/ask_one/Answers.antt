@@ -3,8 +3,9 @@ use Rattle.wdf_base.specs.declared.object.Life.TheVariants as life
 use Rattle.wdf_base.specs.Same.{same_life}
 use Rattle.wdf_model.specs.Tables.{entry}
 use Rattle.wdf_model.specs.declared.entries.Node.{Node}
-use Rattle.wdf_model.specs.parts.Tree.{Tree, gone, life_of}
+use Rattle.wdf_model.specs.parts.Tree.{Tree, gone, is_live, life_of}
 use Rattle.wdf_tree.proofs.Kept.{kept_by_write, live_stands, read_entry}
+use Rattle.wdf_tree.proofs.Leaving.{leaving_by_ask}
 use Rattle.wdf_tree.proofs.tree.Tree.ask_one.Goals as goal
 
 pub invariant_of-self : goal.invariant_of-self
@@ -15,4 +16,7 @@ invariant_of-self c =
     let same : same_life c.life.result life.Live ≡ true = sym c.eq.ensures ∙ c.if-eq.true in
     let whose : c.index_mut.result.now.life ≡ c.life.result = sym read ∙ ap (λ (t : Tree). life_of t c.args.o.0) c.self.view_is ∙ sym c.life.ensures in
     let stays = live_stands c.index_mut.result.now.life (rw whose same) in
-    kept_by_write _ c.index_mut.result.now _ c.self.invariant there c.index_mut.ensures.value (record { kind = refl; parent = refl; gone = sym stays.gone }) (sym stays.waits)
+    record {
+      kept = kept_by_write _ c.index_mut.result.now _ c.self.invariant.kept there c.index_mut.ensures.value (record { kind = refl; parent = refl; gone = sym stays.gone }) (sym stays.waits);
+      leaving = rw c.put.ensures (leaving_by_ask _ _ c.self.invariant.leaving c.self.invariant.kept.few there (ap is_live read ∙ stays.live) refl);
+    }

@@ -3,6 +3,7 @@ use Rattle.wdf_model.specs.Tables.{entry}
 use Rattle.wdf_model.specs.declared.entries.Node.{Node}
 use Rattle.wdf_model.specs.parts.Tree.{Tree, gone, is_asked, life_of}
 use Rattle.wdf_tree.proofs.Kept.{asked_stands, kept_by_cleanup, read_entry, there_if_asked}
+use Rattle.wdf_tree.proofs.Leaving.{leaving_by_cleanup}
 use Rattle.wdf_tree.proofs.tree.Tree.clean.Goals as goal
 
 pub invariant_of-self : goal.invariant_of-self
@@ -11,5 +12,8 @@ invariant_of-self c =
     let there = there_if_asked c.self.inside.nodes.items c.args.o.0 asked in
     let read = ap (λ (n : Node). is_asked n.life) (read_entry gone c.self.inside.nodes.items c.args.o.0 c.index_mut.result.now there c.index_mut.ensures.value) in
     let stays = asked_stands c.index_mut.result.now.life (sym read ∙ asked) in
-    rw c.unlink-list.ensures.gone
-    (kept_by_cleanup _ c.index_mut.result.now _ c.self.invariant there c.index_mut.ensures.value (record { kind = refl; parent = refl; gone = sym stays }) refl)
+    record {
+      kept = rw c.unlink-list.ensures.gone
+          (kept_by_cleanup _ c.index_mut.result.now _ c.self.invariant.kept there c.index_mut.ensures.value (record { kind = refl; parent = refl; gone = sym stays }) refl);
+      leaving = rw (c.put.ensures, c.put-2.ensures) (leaving_by_cleanup _ _ c.self.invariant.leaving c.self.invariant.kept.few there refl);
+    }

@@ -1,6 +1,8 @@
-use Rattle.std.proofs.Common.{◌≡◌, [], ◌∷◌, refl, ◌∙◌, arith}
+use Rattle.std.proofs.Common.{◌≡◌, [], ◌∷◌, refl, ◌*◌, ◌∙◌, arith, lit≤}
+use Rattle.std.specs.Int.{div_ceil}
 use Rattle.wdf_model.specs.parts.Tree.{gone}
 use Rattle.wdf_tree.proofs.Kept.{kept_at_first}
+use Rattle.wdf_tree.proofs.Leaving.{leaving_at_first}
 use Rattle.wdf_tree.proofs.tree.Tree.empty.Goals as goal
 
 pub invariant_of-result : goal.invariant_of-result
@@ -9,4 +11,7 @@ invariant_of-result c =
     let devices : c.push_reserved-2.new.self.items ≡ record { 0 = 1 } ∷ [] = c.push_reserved-2.ensures.items ∙ rw c.in_ok-devices.ensures.items refl in
     let room = c.push_reserved.ensures.capacity in
     let more = c.push_reserved-2.ensures.capacity in
-    kept_at_first _ _ _ _ c.args.room _ _ nodes devices (omega (arith, c.in_ok-nodes.ensures.exact)) (omega (arith, c.in_ok-devices.ensures.exact)) c.requires c.in_ok-make.ensures c.in_ok-make-2.ensures
+    record {
+      kept = kept_at_first _ _ _ _ c.args.room _ _ nodes devices (omega (arith, c.in_ok-nodes.ensures.exact)) (omega (arith, c.in_ok-devices.ensures.exact)) c.requires c.in_ok-make.ensures c.in_ok-make-2.ensures;
+      leaving = leaving_at_first _ (4096 * div_ceil c.args.room 4096) _ _ nodes (rw c.requires (lit≤ tt)) c.in_ok-make-3.ensures c.in_ok-make-4.ensures;
+    }

@@ -3,24 +3,28 @@ use Rattle.wdf_model.specs.parts.Tree.{Tree, nearest_devices, own_device}
 use Rattle.wdf_tree.specs.Kin.{is_left, is_waiting}
 use Rattle.wdf_tree.proofs.Kin.{next_is_free}
 use Rattle.wdf_tree.proofs.Kept.{devices_as_many, kept_by_push}
+use Rattle.wdf_tree.proofs.Leaving.{leaving_by_push}
 use Rattle.wdf_tree.proofs.tree.Tree.enter.Goals as goal
 
 pub push_reserved-requires-2 : goal.push_reserved-requires-2
-push_reserved-requires-2 c = let e = devices_as_many c.self.invariant in let f = ap (λ (t : Tree). length t.nodes) c.self.view_is in omega arith
+push_reserved-requires-2 c = let e = devices_as_many c.self.invariant.kept in let f = ap (λ (t : Tree). length t.nodes) c.self.view_is in omega arith
 
 pub invariant_of-self : goal.invariant_of-self
 invariant_of-self c =
     let view : length c.self.inside.nodes.items ≡ length c.args.self.now.nodes = ap (λ (t : Tree). length t.nodes) c.self.view_is in
-    rw (c.push_reserved.ensures.items, c.push_reserved-2.ensures.items, c.push_reserved.ensures.capacity, c.push_reserved-2.ensures.capacity, c.counted.ensures, c.join.ensures, c.join-2.ensures)
-    (kept_by_push c.args.node c.nearest_for-device.result c.len-id.result c.self.invariant (omega arith) c.requires.live
-    (c.nearest_for-device.ensures ∙ ap (λ (t : Tree). own_device (nearest_devices [] t.nodes) (length t.nodes) c.args.node) (sym c.self.view_is)) (omega arith))
+    record {
+      kept = rw (c.push_reserved.ensures.items, c.push_reserved-2.ensures.items, c.push_reserved.ensures.capacity, c.push_reserved-2.ensures.capacity, c.counted.ensures, c.join.ensures, c.join-2.ensures)
+          (kept_by_push c.args.node c.nearest_for-device.result c.len-id.result c.self.invariant.kept (omega arith) c.requires.live
+          (c.nearest_for-device.ensures ∙ ap (λ (t : Tree). own_device (nearest_devices [] t.nodes) (length t.nodes) c.args.node) (sym c.self.view_is)) (omega arith));
+      leaving = rw c.push_reserved.ensures.items (leaving_by_push c.args.node c.self.invariant.leaving c.requires.live);
+    }
 
 pub join-requires-clause-free : goal.join-requires-clause-free
 join-requires-clause-free c =
     let view : length c.self.inside.nodes.items ≡ length c.args.self.now.nodes = ap (λ (t : Tree). length t.nodes) c.self.view_is in
-    rw (c.len-id.ensures, ← view) (next_is_free is_left c.self.inside.nodes.items c.self.inside.children c.self.invariant.kin)
+    rw (c.len-id.ensures, ← view) (next_is_free is_left c.self.inside.nodes.items c.self.inside.children c.self.invariant.kept.kin)
 
 pub join-requires-2-clause-free : goal.join-requires-2-clause-free
 join-requires-2-clause-free c =
     let view : length c.self.inside.nodes.items ≡ length c.args.self.now.nodes = ap (λ (t : Tree). length t.nodes) c.self.view_is in
-    rw (c.len-id.ensures, ← view) (next_is_free is_waiting c.self.inside.nodes.items c.self.inside.waiting c.self.invariant.waiting_kin)
+    rw (c.len-id.ensures, ← view) (next_is_free is_waiting c.self.inside.nodes.items c.self.inside.waiting c.self.invariant.kept.waiting_kin)

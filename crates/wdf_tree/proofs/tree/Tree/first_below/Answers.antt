@@ -12,15 +12,15 @@ returns-in-Some-clause-before c =
     let T : Tree = record { limit = c.self.inside.limit; nodes = c.self.inside.nodes.items } in
     let view : length c.self.inside.nodes.items ≡ length c.args.self.now.nodes = ap (λ (t : Tree). length t.nodes) c.self.view_is in
     let some : 0 < c.args.o.0 = omega arith in
-    let kin : list_at c.self.inside.children.lists c.args.o.0 ≡ places (is_kin is_left c.args.o.0) 0 c.self.inside.nodes.items = c.self.invariant.kin.kin c.args.o.0 (omega arith) in
+    let kin : list_at c.self.inside.children.lists c.args.o.0 ≡ places (is_kin is_left c.args.o.0) 0 c.self.inside.nodes.items = c.self.invariant.kept.kin.kin c.args.o.0 (omega arith) in
     let first : first_of (places (is_kin is_left c.args.o.0) 0 c.self.inside.nodes.items) ≡ Some c.in-Some.child = ap first_of (sym kin) ∙ sym c.in-Some.ensures.first in
-    λ x less. ap (λ (t : Tree). is_below t c.args.o.0 x) (sym c.self.view_is) ∙ none_before_child T c.args.o.0 c.in-Some.child x c.self.invariant.ends some first less
+    λ x less. ap (λ (t : Tree). is_below t c.args.o.0 x) (sym c.self.view_is) ∙ none_before_child T c.args.o.0 c.in-Some.child x c.self.invariant.kept.ends some first less
 
 pub returns-in-None-clause-before : goal.returns-in-None-clause-before
 returns-in-None-clause-before c =
     let T : Tree = record { limit = c.self.inside.limit; nodes = c.self.inside.nodes.items } in
     let view : length c.self.inside.nodes.items ≡ length c.args.self.now.nodes = ap (λ (t : Tree). length t.nodes) c.self.view_is in
     let some : 0 < c.args.o.0 = omega arith in
-    let kin : list_at c.self.inside.children.lists c.args.o.0 ≡ places (is_kin is_left c.args.o.0) 0 c.self.inside.nodes.items = c.self.invariant.kin.kin c.args.o.0 (omega arith) in
+    let kin : list_at c.self.inside.children.lists c.args.o.0 ≡ places (is_kin is_left c.args.o.0) 0 c.self.inside.nodes.items = c.self.invariant.kept.kin.kin c.args.o.0 (omega arith) in
     let first : first_of (places (is_kin is_left c.args.o.0) 0 c.self.inside.nodes.items) ≡ None = ap first_of (sym kin) ∙ sym c.in-None.ensures.first in
-    λ x less. ap (λ (t : Tree). is_below t c.args.o.0 x) (sym c.self.view_is) ∙ none_without_child T c.args.o.0 x c.self.invariant.ends some first (omega arith)
+    λ x less. ap (λ (t : Tree). is_below t c.args.o.0 x) (sym c.self.view_is) ∙ none_without_child T c.args.o.0 x c.self.invariant.kept.ends some first (omega arith)

@@ -19,7 +19,7 @@ returns-then-eq c =
     let view : c.self.inside.nodes.items ≡ V.nodes = ap (λ (t : Tree). t.nodes) c.self.view_is in
     let few = ap (λ (ns : List Node). length ns) view in
     let cleaned : is_cleaned (life_of V o) ≡ true = ap is_cleaned (sym c.life.ensures) ∙ sym (cleaned_as_same c.life.result) ∙ sym c.eq.ensures ∙ c.if-eq.true in
-    let kids : list_at c.self.inside.children.lists o ≡ places (is_kin is_left o) 0 V.nodes = c.self.invariant.kin.kin o (omega arith) ∙ ap (places (is_kin is_left o) 0) view in
+    let kids : list_at c.self.inside.children.lists o ≡ places (is_kin is_left o) 0 V.nodes = c.self.invariant.kept.kin.kin o (omega arith) ∙ ap (places (is_kin is_left o) 0) view in
     c.front.ensures.first ∙ ap first_of kids ∙ sym (first_left V o cleaned)
 
 pub returns-then-ne : goal.returns-then-ne
@@ -29,7 +29,7 @@ returns-then-ne c =
     let view : c.self.inside.nodes.items ≡ V.nodes = ap (λ (t : Tree). t.nodes) c.self.view_is in
     let few = ap (λ (ns : List Node). length ns) view in
     let cleaned : is_cleaned (life_of V o) ≡ false = ap is_cleaned (sym c.life.ensures) ∙ sym (cleaned_as_same c.life.result) ∙ sym c.eq.ensures ∙ c.if-eq.false in
-    let mine : list_at c.self.inside.waiting.lists o ≡ places (is_kin is_waiting o) 0 V.nodes = c.self.invariant.waiting_kin.kin o (omega arith) ∙ ap (places (is_kin is_waiting o) 0) view in
+    let mine : list_at c.self.inside.waiting.lists o ≡ places (is_kin is_waiting o) 0 V.nodes = c.self.invariant.kept.waiting_kin.kin o (omega arith) ∙ ap (places (is_kin is_waiting o) 0) view in
     let parent : parent_of V o ≡ c.parent.result.0 = sym c.parent.ensures in
     let whose : life_of V (parent_of V o) ≡ c.life-2.result = ap (life_of V) parent ∙ sym c.life-2.ensures in
     let asked : is_asked (life_of V (parent_of V o)) ≡ false = ap is_asked whose ∙ sym (asked_as_same c.life-2.result) ∙ not-true (same_life c.life-2.result life.Asked) (sym c.ne.ensures ∙ c.if-ne.true) in
@@ -42,12 +42,12 @@ returns c =
     let view : c.self.inside.nodes.items ≡ V.nodes = ap (λ (t : Tree). t.nodes) c.self.view_is in
     let few = ap (λ (ns : List Node). length ns) view in
     let cleaned : is_cleaned (life_of V o) ≡ false = ap is_cleaned (sym c.life.ensures) ∙ sym (cleaned_as_same c.life.result) ∙ sym c.eq.ensures ∙ c.if-eq.false in
-    let mine : list_at c.self.inside.waiting.lists o ≡ places (is_kin is_waiting o) 0 V.nodes = c.self.invariant.waiting_kin.kin o (omega arith) ∙ ap (places (is_kin is_waiting o) 0) view in
+    let mine : list_at c.self.inside.waiting.lists o ≡ places (is_kin is_waiting o) 0 V.nodes = c.self.invariant.kept.waiting_kin.kin o (omega arith) ∙ ap (places (is_kin is_waiting o) 0) view in
     let parent : parent_of V o ≡ c.parent.result.0 = sym c.parent.ensures in
     let whose : life_of V (parent_of V o) ≡ c.life-2.result = ap (life_of V) parent ∙ sym c.life-2.ensures in
     let asked : is_asked (life_of V (parent_of V o)) ≡ true = ap is_asked whose ∙ sym (asked_as_same c.life-2.result) ∙ not-false (same_life c.life-2.result life.Asked) (sym c.ne.ensures ∙ c.if-ne.false) in
-    let kin = subst (λ ns. HoldsKin is_waiting ns c.self.inside.waiting) view c.self.invariant.waiting_kin in
-    let waits = waits_under_asked V.nodes o (subst EndsAlone view c.self.invariant.ends) c.requires.there cleaned asked in
+    let kin = subst (λ ns. HoldsKin is_waiting ns c.self.inside.waiting) view c.self.invariant.kept.waiting_kin in
+    let waits = waits_under_asked V.nodes o (subst EndsAlone view c.self.invariant.kept.ends) c.requires.there cleaned asked in
     let above = there_if_asked V.nodes (parent_of V o) asked in
     let listed : list_of o c.self.inside.waiting.lists ≡ Some (parent_of V o) = list_of_waiting V.nodes c.self.inside.waiting o (parent_of V o) kin c.requires.there (omega arith) (omega arith) refl waits in
     let ours : list_at c.self.inside.waiting.lists (parent_of V o) ≡ places (is_kin is_waiting (parent_of V o)) 0 V.nodes = kin.kin (parent_of V o) (omega arith) in

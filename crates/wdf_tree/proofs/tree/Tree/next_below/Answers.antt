@@ -7,10 +7,10 @@ use Rattle.wdf_tree.proofs.tree.Tree.next_below.Goals as goal
 use Rattle.wdf_tree.proofs.tree.Tree.next_below.Goals.{else-after-o-via-then-after-o+else-o-first, else-after-o-via-else-after-o}
 
 pub returns-then-after-len-clause-none : goal.returns-then-after-len-clause-none
-returns-then-after-len-clause-none c = ap (λ (t : Tree). is_live (life_of t 0)) (sym c.self.view_is) ∙ none_live c.self.invariant
+returns-then-after-len-clause-none c = ap (λ (t : Tree). is_live (life_of t 0)) (sym c.self.view_is) ∙ none_live c.self.invariant.kept
 
 pub returns-clause-none : goal.returns-clause-none
-returns-clause-none c = ap (λ (t : Tree). is_live (life_of t 0)) (sym c.self.view_is) ∙ none_live c.self.invariant
+returns-clause-none c = ap (λ (t : Tree). is_live (life_of t 0)) (sym c.self.view_is) ∙ none_live c.self.invariant.kept
 
 pub returns-clause-next : goal.returns-clause-next
 returns-clause-next c =

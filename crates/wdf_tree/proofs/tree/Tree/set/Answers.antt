@@ -1,7 +1,14 @@
-use Rattle.std.proofs.Common.{length, refl, ap, arith}
+use Rattle.std.proofs.Common.{◌<◌, length, refl, ap, arith}
 use Rattle.wdf_model.specs.parts.Tree.{Tree}
 use Rattle.wdf_tree.proofs.Kept.{kept_by_write}
+use Rattle.wdf_tree.proofs.Leaving.{leaving_by_write}
 use Rattle.wdf_tree.proofs.tree.Tree.set.Goals as goal
 
 pub invariant_of-self : goal.invariant_of-self
-invariant_of-self c = kept_by_write _ c.index_mut.result.now _ c.self.invariant (let e = ap (λ (t : Tree). length t.nodes) c.self.view_is in omega arith) c.index_mut.ensures.value (record { kind = refl; parent = refl; gone = refl }) refl
+invariant_of-self c =
+    let there : c.args.o.0 < length c.self.inside.nodes.items = let e = ap (λ (t : Tree). length t.nodes) c.self.view_is in omega arith in
+    let read = c.index_mut.ensures.value in
+    record {
+      kept = kept_by_write _ c.index_mut.result.now _ c.self.invariant.kept there read (record { kind = refl; parent = refl; gone = refl }) refl;
+      leaving = leaving_by_write _ c.index_mut.result.now _ c.self.invariant.leaving there read refl;
+    }

@@ -1,0 +1,197 @@
+-- Deferred work that is queued is of an object that is live, at each place of every run.
+use Rattle.std.proofs.Common.{◌≡◌, ◌≢◌, ℕ, zero, suc, ◌+◌, ◌-◌, Bool, true, false, ◌||◌, List, [], ◌∷◌, inl, inr, is_some, fold, slice_set, replicate, take, refl, sym, ap, subst, ◌∙◌, arith}
+use Rattle.std.specs.List.{list_any}
+use Rattle.std.proofs.lemmas.Bool.{or_cases}
+use Rattle.wdf_base.specs.Meaning.{Meaning}
+use Rattle.wdf_base.specs.declared.plan.Plan.{Plan}
+use Rattle.wdf_base.specs.declared.event.Event.{Event}
+use Rattle.wdf_base.specs.declared.object.Kind.{Kind}
+use Rattle.wdf_base.specs.declared.object.Kind.TheVariants as kind
+use Rattle.wdf_base.specs.declared.object.Life.{Life}
+use Rattle.wdf_base.specs.declared.object.Life.TheVariants as life
+use Rattle.wdf_base.specs.declared.object.Place.{Place}
+use Rattle.wdf_base.specs.declared.object.Place.TheVariants as place
+use Rattle.wdf_base.specs.declared.object.RequestInfo.{RequestInfo}
+use Rattle.wdf_base.specs.declared.call.Callback.{Callback}
+use Rattle.wdf_base.specs.declared.call.Callback.TheVariants as callback
+use Rattle.wdf_model.specs.declared.enums.Mode.TheVariants as mode
+use Rattle.wdf_model.specs.declared.entries.Node.{Node}
+use Rattle.wdf_model.specs.Tables.{contains}
+use Rattle.wdf_model.specs.Plans.{interrupt_of, managed_queues, queues_of}
+use Rattle.wdf_model.specs.parts.Tree.{Tree, gone, is_asked, is_cleaned, is_live, life_of, may_destroy, new_node, next_id, node_of, noted, subtree, with_life, with_node}
+use Rattle.wdf_model.specs.parts.Tree as tree
+use Rattle.wdf_model.specs.parts.Requests as requests
+use Rattle.wdf_model.specs.parts.Queues.{waiting_in}
+use Rattle.wdf_model.specs.parts.Control as control
+use Rattle.wdf_model.specs.parts.Deferred.Dpcs.{Dpcs, is_dpc_queued}
+use Rattle.wdf_model.specs.parts.Deferred.WorkItems.{WorkItems, is_work_queued}
+use Rattle.wdf_model.specs.parts.Deferred.Timers.{Timers, is_timer_queued}
+use Rattle.wdf_model.specs.State.{State}
+use Rattle.wdf_model.specs.rules.Deeds.{Deed, Create, Make_request, Arrive, Ask_deletion, Refer, Unrefer, Write_cell, Note, Clean_up, End_life, Requeue, Forward, Give_back, Send_request, Complete_request, Purge_queue, Close_returning, Close_device, Enqueue_dpc, Cancel_dpc, Take_dpc, Enqueue_work, Cancel_work, Start_timer, Stop_timer, Fire_timer, arrive_at, ask_object, do_deed, give_up}
+use Rattle.wdf_model.specs.rules.Ready.{IsRunOf, state_after}
+use Rattle.wdf_model.specs.laws.Fits.{fits}
+use Rattle.wdf_model.proofs.Tests.{both_left, first, second}
+use Rattle.wdf_model.proofs.Maps.{entry_before, entry_past, entry_put_other}
+use Rattle.wdf_model.proofs.Deletion.{object_live, object_off}
+use Rattle.wdf_agreements.specs.Agreements.{WorkIsLive}
+use Rattle.wdf_agreements.proofs.Stays.{gives_up, gives_up_if, queues_closed, returns_closed, withdraws}
+use Rattle.wdf_agreements.proofs.Lists.{reads_same}
+use Rattle.wdf_agreements.proofs.Queued.{dpc_cancelled, dpc_enqueued, dpc_taken, timer_fired, timer_started, timer_stopped, work_cancelled, work_enqueued}
+use Rattle.wdf_agreements.proofs.Sound.{Sound}
+use Rattle.wdf_agreements.proofs.SoundRuns.{sound_place}
+
+-- the objects and the queues of deferred work
+pub record Work : Type 0 where
+  pub tree : Tree
+  pub dpcs : Dpcs
+  pub items : WorkItems
+  pub timers : Timers
+
+abbrev pub work_of : {A : Type 0} → State A → Work
+work_of S = record { tree = S.tree; dpcs = S.dpcs; items = S.work_items; timers = S.timers }
+
+pub record Deferring (plan : Plan) (w : Work) : Type 0 where
+  pub dpcs : (o : ℕ) → is_dpc_queued w.dpcs o ≡ true → (is_live (life_of w.tree o) || is_some (interrupt_of plan o)) ≡ true
+  pub items : (o : ℕ) → is_work_queued w.items o ≡ true → is_live (life_of w.tree o) ≡ true
+  pub timers : (o : ℕ) → is_timer_queued w.timers o ≡ true → is_live (life_of w.tree o) ≡ true
+
+-- ---- the objects change
+
+or_still : (a b c : Bool) → (a ≡ true → b ≡ true) → (a || c) ≡ true → (b || c) ≡ true
+or_still a b c h k = elim (or_cases a c k) [
+  | inl e ↦ first b c (h e)
+  | inr e ↦ second b c e
+]
+
+tree_changes : (plan : Plan) (w : Work) (T : Tree) → ((x : ℕ) → is_live (life_of w.tree x) ≡ true → is_live (life_of T x) ≡ true) → Deferring plan w → Deferring plan (record w { tree = T })
+tree_changes plan w T still k = record {
+  dpcs = λ o h. or_still (is_live (life_of w.tree o)) (is_live (life_of T o)) (is_some (interrupt_of plan o)) (still o) (k.dpcs o h);
+  items = λ o h. still o (k.items o h);
+  timers = λ o h. still o (k.timers o h);
+}
+
+live_same : (T : Tree) (o : ℕ) (f : Node → Node) → is_live (f (node_of T o)).life ≡ is_live (life_of T o) → (x : ℕ) → is_live (life_of T x) ≡ true → is_live (life_of (with_node T o f) x) ≡ true
+live_same T o f lives x h = reads_same (λ n. is_live n.life) T o f lives x ∙ h
+
+live_made : (T : Tree) (k : Kind) (class parent x : ℕ) → is_live (life_of T x) ≡ true → is_live (life_of (tree.create T k class parent) x) ≡ true
+live_made T k class parent x h =
+    let apart : x ≢ next_id T = λ e. let past : is_live (life_of T x) ≡ false = rw e (ap (λ (n : Node). is_live n.life) (entry_past gone T.nodes (next_id T) (omega arith))) in let z : ⊥ = cc in z in
+    ap (λ (n : Node). is_live n.life) (entry_before gone T.nodes (new_node k class parent) x apart) ∙ h
+
+-- ---- a deletion is asked: what isn't live leaves its queue
+
+asked_one : {A : Type 0} (plan : Plan) (S : State A) (x : ℕ) (b : Bool) → is_live (life_of S.tree x) ≡ b → Deferring plan (work_of S) → Deferring plan (work_of (ask_object S x))
+asked_one {A} plan S x true e k =
+    let other = λ (o : ℕ) (n : o ≢ x) (h : is_live (life_of S.tree o) ≡ true). ap (λ (m : Node). is_live m.life) (entry_put_other gone S.tree.nodes x o (with_life life.Asked (node_of S.tree x)) n) ∙ h in
+    subst (λ (U : State A). Deferring plan (work_of U)) (sym (object_live S x e)) (record {
+      dpcs = λ o h. let q = dpc_cancelled S.dpcs x o h in or_still (is_live (life_of S.tree o)) (is_live (life_of (with_node S.tree x (with_life life.Asked)) o)) (is_some (interrupt_of plan o)) (other o q.1) (k.dpcs o q.0);
+      items = λ o h. let q = work_cancelled S.work_items x o h in other o q.1 (k.items o q.0);
+      timers = λ o h. let q = timer_stopped S.timers x o h in other o q.1 (k.timers o q.0);
+    })
+asked_one {A} plan S x false e k = subst (λ (U : State A). Deferring plan (work_of U)) (sym (object_off S x e)) k
+
+all_asked : {A : Type 0} (plan : Plan) (xs : List ℕ) (S : State A) → Deferring plan (work_of S) → Deferring plan (work_of (fold ask_object S xs))
+all_asked plan [] S k = k
+all_asked plan (x ∷ xs) S k = all_asked plan xs (ask_object S x) (asked_one plan S x (is_live (life_of S.tree x)) refl k)
+
+-- ---- each deed
+
+noted_life : (c : Callback) (n : Node) → (noted c n).life ≡ n.life
+noted_life callback.EvtCleanupCallback n = refl
+noted_life callback.EvtDestroyCallback n = refl
+noted_life _ n = refl
+
+asked_off : (l : Life) → is_asked l ≡ true → false ≡ is_live l
+asked_off life.Asked h = refl
+asked_off life.Live h = absurd (let z : ⊥ = cc in z)
+asked_off life.Cleaned h = refl
+asked_off life.Gone h = refl
+
+cleaned_off : (l : Life) → is_cleaned l ≡ true → false ≡ is_live l
+cleaned_off life.Cleaned h = refl
+cleaned_off life.Live h = absurd (let z : ⊥ = cc in z)
+cleaned_off life.Asked h = refl
+cleaned_off life.Gone h = refl
+
+arrived : {A : Type 0} (S : State A) (device : ℕ) (info : RequestInfo) (p : Place) → work_of (arrive_at S device info p) ≡ record (work_of S) { tree = tree.arrive S.tree device }
+arrived S device info (place.Queued q) = refl
+arrived S device info _ = refl
+
+same_work : (plan : Plan) (v w : Work) → w ≡ v → Deferring plan v → Deferring plan w
+same_work plan v w e k = subst (Deferring plan) (sym e) k
+
+deferring_by : {A : Type 0} (plan : Plan) (d : Deed) (S : State A) → fits plan d S ≡ true → Sound plan d S → Deferring plan (work_of S) → Deferring plan (work_of (do_deed plan d S))
+deferring_by plan (Create k class parent) S f s q = tree_changes plan (work_of S) (tree.create S.tree k class parent) (live_made S.tree k class parent) q
+deferring_by plan (Make_request class parent) S f s q = tree_changes plan (work_of S) (tree.create S.tree kind.Made class parent) (live_made S.tree kind.Made class parent) q
+deferring_by plan (Arrive device info p) S f s q = same_work plan _ _ (arrived S device info p) (tree_changes plan (work_of S) (tree.arrive S.tree device) (live_made S.tree kind.Request 0 device) q)
+deferring_by plan (Ask_deletion o) S f s q = all_asked plan (subtree S.tree o) S q
+deferring_by plan (Refer o) S f s q = tree_changes plan (work_of S) _ (live_same S.tree o (λ m. record m { references = m.references + 1 }) refl) q
+deferring_by plan (Unrefer o) S f s q = tree_changes plan (work_of S) _ (live_same S.tree o (λ m. record m { references = m.references - 1 }) refl) q
+deferring_by plan (Write_cell o k v) S f s q = tree_changes plan (work_of S) _ (live_same S.tree o (λ m. record m { cells = slice_set m.cells k v }) refl) q
+deferring_by plan (Note o c) S f s q = tree_changes plan (work_of S) _ (live_same S.tree o (noted c) (ap is_live (noted_life c (node_of S.tree o)))) q
+deferring_by plan (Clean_up o) S f s q =
+    let asked : is_asked (life_of S.tree o) ≡ true = search both_left in
+    tree_changes plan (work_of S) _ (live_same S.tree o (with_life life.Cleaned) (asked_off (life_of S.tree o) asked)) q
+deferring_by plan (End_life o) S f s q =
+    let done : is_cleaned (life_of S.tree o) ≡ true = search both_left in
+    tree_changes plan (work_of S) _ (live_same S.tree o (λ _. gone) (cleaned_off (life_of S.tree o) done)) q
+deferring_by plan (Requeue r p) S f s q = same_work plan _ _ (gives_up work_of (λ S Q R P. refl) S r) q
+deferring_by plan (Forward r p) S f s q = same_work plan _ _ (gives_up work_of (λ S Q R P. refl) S r) q
+deferring_by plan (Give_back r p) S f s q = same_work plan _ _ (gives_up work_of (λ S Q R P. refl) S r) q
+deferring_by plan (Send_request r t forget) S f s q = same_work plan _ _ (gives_up_if work_of (λ S Q R P. refl) S forget r) q
+deferring_by plan (Complete_request r) S f s q =
+    all_asked plan (subtree (give_up S r).tree r) (record (give_up S r) { requests = requests.complete S.requests r }) (same_work plan _ _ (gives_up work_of (λ S Q R P. refl) S r) q)
+deferring_by plan (Purge_queue p) S f s q = same_work plan _ _ (withdraws work_of (λ S Q R P. refl) plan p (waiting_in S.queues p) (record S { control = control.set_mode S.control p mode.Purged })) q
+deferring_by plan (Close_returning d) S f s q = same_work plan _ _ (returns_closed work_of (λ S Q R P. refl) (managed_queues plan d) S) q
+deferring_by plan (Close_device d) S f s q = same_work plan _ _ (queues_closed work_of (λ S Q R P. refl) (queues_of plan d) (record S { control = control.shut S.control d })) q
+deferring_by plan (Enqueue_dpc cpu o) S f s q = record {
+  dpcs = λ x h. elim (dpc_enqueued S.dpcs cpu o x h) [
+    | inl e ↦ q.dpcs x e
+    | inr e ↦ rw e s
+  ];
+  items = q.items;
+  timers = q.timers;
+}
+deferring_by plan (Cancel_dpc o) S f s q = record { dpcs = λ x h. q.dpcs x (dpc_cancelled S.dpcs o x h).0; items = q.items; timers = q.timers }
+deferring_by plan (Take_dpc cpu) S f s q = record { dpcs = λ x h. q.dpcs x (dpc_taken S.dpcs cpu x h); items = q.items; timers = q.timers }
+deferring_by plan (Enqueue_work o) S f s q = record {
+  dpcs = q.dpcs;
+  items = λ x h. elim (work_enqueued S.work_items o x h) [
+    | inl e ↦ q.items x e
+    | inr e ↦ rw e s
+  ];
+  timers = q.timers;
+}
+deferring_by plan (Cancel_work o) S f s q = record { dpcs = q.dpcs; items = λ x h. q.items x (work_cancelled S.work_items o x h).0; timers = q.timers }
+deferring_by plan (Start_timer o ticks) S f s q = record {
+  dpcs = q.dpcs;
+  items = q.items;
+  timers = λ x h. elim (timer_started S.timers o S.clock ticks x h) [
+    | inl e ↦ q.timers x e
+    | inr e ↦ rw e s
+  ];
+}
+deferring_by plan (Stop_timer o) S f s q = record { dpcs = q.dpcs; items = q.items; timers = λ x h. q.timers x (timer_stopped S.timers o x h).0 }
+deferring_by plan (Fire_timer o period) S f s q = record { dpcs = q.dpcs; items = q.items; timers = λ x h. q.timers x (timer_fired S.timers o period x h) }
+deferring_by plan _ S f s q = q
+
+-- ---- each place of a run
+
+none_queued : (x n : ℕ) → list_any (contains x) (replicate n []) ≡ true → ⊥
+none_queued x zero h = let z : ⊥ = cc in z
+none_queued x (suc n) h = none_queued x n h
+
+pub deferring_at_each : {A : Type 0} (plan : Plan) (m : Meaning A) (run : List Event) → IsRunOf plan m run → (n : ℕ) → Deferring plan (work_of (state_after plan m (take n run)))
+deferring_at_each {A} plan m run is_run n = sound_place plan m (λ (S : State A). Deferring plan (work_of S))
+    (record { dpcs = λ o h. absurd (none_queued o plan.cpus h); items = λ o h. absurd (let z : ⊥ = cc in z); timers = λ o h. absurd (let z : ⊥ = cc in z) })
+    (deferring_by plan) (λ e S q. q) run is_run n
+
+not_interrupt : (a : Bool) (i : Bool) → i ≡ false → (a || i) ≡ true → a ≡ true
+not_interrupt true i n h = refl
+not_interrupt false i n h = absurd (let z : ⊥ = cc in z)
+
+pub work_is_live_at_each : {A : Type 0} (plan : Plan) (m : Meaning A) (run : List Event) → IsRunOf plan m run → (n : ℕ) → WorkIsLive plan (state_after plan m (take n run))
+work_is_live_at_each plan m run is_run n =
+    let S = state_after plan m (take n run) in
+    let q = deferring_at_each plan m run is_run n in
+    record { dpcs = λ o n h. not_interrupt (is_live (life_of S.tree o)) (is_some (interrupt_of plan o)) n (q.dpcs o h); items = q.items; timers = q.timers }

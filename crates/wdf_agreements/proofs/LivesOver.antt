@@ -1,0 +1,330 @@
+-- What is live has a live parent, at each place of every run of a resolved plan.
+use Rattle.std.proofs.Common.{if◌then◌else◌, ◌≡◌, ◌≢◌, ℕ, zero, suc, ◌+◌, ◌-◌, ◌==◌, ◌<◌, ◌≤◌, nat_lt, Bool, true, false, ◌&&◌, ◌||◌, List, [], ◌∷◌, ◌++◌, ◌⊎◌, inl, inr, length, map, filter, fold, slice_set, take, refl, sym, ap, subst, ◌∙◌, arith, length-append}
+use Rattle.std.specs.List.{range_with_len}
+use Rattle.std.proofs.lemmas.Bool.{cases_Bool, eqb-true}
+use Rattle.wdf_base.specs.Meaning.{Meaning}
+use Rattle.wdf_base.specs.Resolved.{IsResolved, in_order, objects_in_order}
+use Rattle.wdf_base.specs.declared.plan.Plan.{Plan}
+use Rattle.wdf_base.specs.declared.event.Event.{Event}
+use Rattle.wdf_base.specs.declared.object.Kind.{Kind}
+use Rattle.wdf_base.specs.declared.object.Kind.TheVariants as kind
+use Rattle.wdf_base.specs.declared.object.Life.{Life}
+use Rattle.wdf_base.specs.declared.object.Life.TheVariants as life
+use Rattle.wdf_base.specs.declared.object.Place.{Place}
+use Rattle.wdf_base.specs.declared.object.Place.TheVariants as place
+use Rattle.wdf_base.specs.declared.object.RequestInfo.{RequestInfo}
+use Rattle.wdf_base.specs.declared.call.Callback.{Callback}
+use Rattle.wdf_base.specs.declared.call.Callback.TheVariants as callback
+use Rattle.wdf_base.specs.declared.declared.Declared.{Declared}
+use Rattle.wdf_base.specs.declared.declared.Declared.TheVariants as declared
+use Rattle.wdf_model.specs.declared.enums.Mode.TheVariants as mode
+use Rattle.wdf_model.specs.declared.entries.Node.{Node}
+use Rattle.wdf_model.specs.Tables.{contains, entry}
+use Rattle.wdf_model.specs.Plans.{managed_queues, queues_of}
+use Rattle.wdf_model.specs.parts.Tree.{Tree, below_marks, declared_node, gone, is_asked, is_cleaned, is_live, life_of, new_node, next_id, node_of, noted, opening_tree, parent_of, subtree, with_life, with_node}
+use Rattle.wdf_model.specs.parts.Tree as tree
+use Rattle.wdf_model.specs.parts.Requests as requests
+use Rattle.wdf_model.specs.parts.Queues.{waiting_in}
+use Rattle.wdf_model.specs.parts.Control as control
+use Rattle.wdf_model.specs.State.{State}
+use Rattle.wdf_model.specs.rules.Deeds.{Deed, Create, Make_request, Arrive, Ask_deletion, Refer, Unrefer, Write_cell, Note, Clean_up, End_life, Requeue, Forward, Give_back, Send_request, Complete_request, Purge_queue, Close_returning, Close_device, arrive_at, ask_object, ask_objects, do_deed, give_up}
+use Rattle.wdf_model.specs.rules.Steps.{deeds}
+use Rattle.wdf_model.specs.rules.Ready.{IsRunOf, state_after}
+use Rattle.wdf_model.specs.laws.Fits.{fits}
+use Rattle.wdf_model.proofs.Tests.{both_left, both_right, first, second}
+use Rattle.wdf_model.proofs.Maps.{entry_before, entry_last, entry_put_other, entry_put_same}
+use Rattle.wdf_model.proofs.Counts.{equal, not_equal, one_or_two}
+use Rattle.wdf_model.proofs.Deletion.{object_live, object_off}
+use Rattle.wdf_model.proofs.FitsOfEvents.{event_fits}
+use Rattle.wdf_agreements.specs.Agreements.{LivesAgree}
+use Rattle.wdf_agreements.proofs.Keeping.{deeds_keep, each_place}
+use Rattle.wdf_agreements.proofs.Stays.{gives_up, gives_up_if, queues_closed, returns_closed, withdraws}
+use Rattle.wdf_agreements.proofs.Lists.{inside, reads_same}
+use Rattle.wdf_agreements.proofs.Queued.{any_filtered, any_none}
+
+-- what is live has a live parent, or none, and that is older
+pub record Lives (T : Tree) : Type 0 where
+  pub above : (x : ℕ) → is_live (life_of T x) ≡ true → parent_of T x ≢ 0 → is_live (life_of T (parent_of T x)) ≡ true
+  pub older : (x : ℕ) → is_live (life_of T x) ≡ true → parent_of T x < x
+
+lives_same : (T U : Tree) → ((x : ℕ) → is_live (life_of U x) ≡ is_live (life_of T x)) → ((x : ℕ) → is_live (life_of U x) ≡ true → parent_of U x ≡ parent_of T x) → Lives T → Lives U
+lives_same T U same parents k = record {
+  above = λ x h n.
+      let p = parents x h in
+      ap (λ y. is_live (life_of U y)) p ∙ same (parent_of T x) ∙ k.above x (sym (same x) ∙ h) (λ z. n (p ∙ z));
+  older = λ x h. let p = parents x h in let o = k.older x (sym (same x) ∙ h) in omega arith;
+}
+
+object_changes : (T : Tree) (o : ℕ) (f : Node → Node) → is_live (f (node_of T o)).life ≡ is_live (life_of T o) → (f (node_of T o)).parent.0 ≡ parent_of T o → Lives T → Lives (with_node T o f)
+object_changes T o f lives parent = lives_same T (with_node T o f) (reads_same (λ n. is_live n.life) T o f lives) (λ x h. reads_same (λ n. n.parent.0) T o f parent x)
+
+-- ---- an object is made
+
+live_inside : (T : Tree) (x : ℕ) → is_live (life_of T x) ≡ true → x < length T.nodes
+live_inside T x h = inside gone (λ n. is_live n.life) T.nodes x refl h
+
+object_made : (T : Tree) (k : Kind) (class parent : ℕ) → is_live (life_of T parent) ≡ true → Lives T → Lives (tree.create T k class parent)
+object_made T k class parent live q =
+    let U : Tree = tree.create T k class parent in
+    let n : Node = new_node k class parent in
+    let here : node_of U (next_id T) ≡ n = entry_last gone T.nodes n in
+    let there = λ (x : ℕ) (d : x ≢ next_id T). entry_before gone T.nodes n x d in
+    let old = λ (x : ℕ) (h : is_live (life_of T x) ≡ true). (let within = live_inside T x h in ap (λ (m : Node). is_live m.life) (there x (λ e. let z : ⊥ = omega arith in z)) ∙ h) in
+    record {
+      above = λ x h up. elim (one_or_two x (next_id T)) [
+        | inl e ↦ let p : parent_of U x ≡ parent = ap (parent_of U) e ∙ ap (λ (m : Node). m.parent.0) here in ap (λ y. is_live (life_of U y)) p ∙ old parent live
+        | inr d ↦
+            let p : parent_of U x ≡ parent_of T x = ap (λ (m : Node). m.parent.0) (there x d) in
+            let was : is_live (life_of T x) ≡ true = sym (ap (λ (m : Node). is_live m.life) (there x d)) ∙ h in
+            ap (λ y. is_live (life_of U y)) p ∙ old (parent_of T x) (q.above x was (λ z. up (p ∙ z)))
+      ];
+      older = λ x h. elim (one_or_two x (next_id T)) [
+        | inl e ↦ let p : parent_of U x ≡ parent = ap (parent_of U) e ∙ ap (λ (m : Node). m.parent.0) here in let within = live_inside T parent live in omega arith
+        | inr d ↦
+            let p : parent_of U x ≡ parent_of T x = ap (λ (m : Node). m.parent.0) (there x d) in
+            let was : is_live (life_of T x) ≡ true = sym (ap (λ (m : Node). is_live m.life) (there x d)) ∙ h in
+            let o = q.older x was in omega arith
+      ];
+    }
+
+-- ---- what is below an object
+
+marks_stay : (o : ℕ) (before : List Bool) (ns : List Node) (j : ℕ) → j < length before → entry false (below_marks o before ns) j ≡ entry false before j
+marks_stay o before [] j h = refl
+marks_stay o before (n ∷ ns) j h =
+    let b : Bool = n.parent.0 == o || entry false before n.parent.0 in
+    let more = length-append before (b ∷ []) in
+    marks_stay o (before ++ b ∷ []) ns j (omega arith) ∙ entry_before false before b j (λ e. let z : ⊥ = omega arith in z)
+
+marks_at : (o : ℕ) (before : List Bool) (ns : List Node) (i : ℕ) → i < length ns → (entry gone ns i).parent.0 < length before + i
+    → entry false (below_marks o before ns) (length before + i) ≡ ((entry gone ns i).parent.0 == o || entry false (below_marks o before ns) (entry gone ns i).parent.0)
+marks_at o before [] i within h = absurd (omega arith)
+marks_at o before (n ∷ ns) zero within h =
+    let b : Bool = n.parent.0 == o || entry false before n.parent.0 in
+    let more = length-append before (b ∷ []) in
+    let at : length before + 0 ≡ length before = omega arith in
+    let stays : entry false (below_marks o before (n ∷ ns)) n.parent.0 ≡ entry false before n.parent.0 = marks_stay o before (n ∷ ns) n.parent.0 (omega arith) in
+    rw at (marks_stay o (before ++ b ∷ []) ns (length before) (omega arith) ∙ entry_last false before b ∙ ap (λ c. n.parent.0 == o || c) (sym stays))
+marks_at o before (n ∷ ns) (suc i) within h =
+    let b : Bool = n.parent.0 == o || entry false before n.parent.0 in
+    let more = length-append before (b ∷ []) in
+    let at : length before + suc i ≡ length (before ++ b ∷ []) + i = omega arith in
+    rw at (marks_at o (before ++ b ∷ []) ns i (omega arith) (omega arith))
+
+abbrev is_asked_with : Tree → ℕ → ℕ → Bool
+is_asked_with T o x = x == o || entry false (below_marks o [] T.nodes) x
+
+-- an object whose parent is in a subtree is in it
+asked_below : (T : Tree) (o x : ℕ) → x < length T.nodes → parent_of T x < x → is_asked_with T o (parent_of T x) ≡ true → is_asked_with T o x ≡ true
+asked_below T o x within older h =
+    let nil : List Bool = [] in
+    let start : length nil + x ≡ x = omega arith in
+    let marks = marks_at o nil T.nodes x within (omega arith) in
+    second (x == o) (entry false (below_marks o [] T.nodes) x) (sym (ap (entry false (below_marks o [] T.nodes)) start) ∙ marks ∙ h)
+
+kept_by_first : (q : ℕ → Bool) (x a : ℕ) (ids : List ℕ) (b : Bool) → q a ≡ b → (a ≡ x) ⊎ (a ≢ x) → q x ≡ true → (a ≢ x → contains x (filter q ids) ≡ true) → contains x (if b then a ∷ filter q ids else filter q ids) ≡ true
+kept_by_first q x a ids true e (inl same) h rest = first (a == x) (contains x (filter q ids)) (equal a x same)
+kept_by_first q x a ids true e (inr other) h rest = second (a == x) (contains x (filter q ids)) (rest other)
+kept_by_first q x a ids false e (inl same) h rest = absurd (let off : q x ≡ false = sym (ap q same) ∙ e in let z : ⊥ = cc in z)
+kept_by_first q x a ids false e (inr other) h rest = rest other
+
+kept_there : (q : ℕ → Bool) (x a n : ℕ) → a ≤ x → x < a + n → q x ≡ true → contains x (filter q (range_with_len a n)) ≡ true
+kept_there q x a zero low high h = absurd (omega arith)
+kept_there q x a (suc n) low high h = kept_by_first q x a (range_with_len (a + 1) n) (q a) refl (one_or_two a x) h (λ other. kept_there q x (a + 1) n (omega arith) (omega arith) h)
+
+passes : (q : ℕ → Bool) (x : ℕ) (ids : List ℕ) → contains x (filter q ids) ≡ true → q x ≡ true
+passes q x ids h = elim (cases_Bool (q x)) [
+  | inl e ↦ e
+  | inr e ↦ absurd (any_none (λ y. (y == x) && q y) ids
+      (λ y f. let same : y ≡ x = eqb-true y x (both_left (y == x) (q y) f) in let on : q y ≡ true = both_right (y == x) (q y) f in let off : q y ≡ false = ap q same ∙ e in let z : ⊥ = cc in z)
+      (any_filtered (λ y. y == x) q ids h))
+]
+
+closed_below : (T : Tree) (o x : ℕ) → is_live (life_of T x) ≡ true → Lives T → contains (parent_of T x) (subtree T o) ≡ true → contains x (subtree T o) ≡ true
+closed_below T o x live k h =
+    let within = live_inside T x live in
+    kept_there (is_asked_with T o) x 0 (length T.nodes) (omega arith) (omega arith)
+    (asked_below T o x within (k.older x live) (passes (is_asked_with T o) (parent_of T x) (range_with_len 0 (length T.nodes)) h))
+
+-- ---- a deletion is asked
+
+off_then : {A : Type 0} (S : State A) (x : ℕ) (b : Bool) → is_live (life_of S.tree x) ≡ b → is_live (life_of (ask_object S x).tree x) ≡ false
+off_then S x true h = rw (object_live S x h) (ap (λ (n : Node). is_live n.life) (entry_put_same gone S.tree.nodes x (with_life life.Asked (node_of S.tree x))))
+off_then S x false h = rw (object_off S x h) h
+
+others_then : {A : Type 0} (S : State A) (x y : ℕ) (b : Bool) → is_live (life_of S.tree x) ≡ b → y ≢ x → node_of (ask_object S x).tree y ≡ node_of S.tree y
+others_then S x y true h n = rw (object_live S x h) (entry_put_other gone S.tree.nodes x y (with_life life.Asked (node_of S.tree x)) n)
+others_then S x y false h n = rw (object_off S x h) refl
+
+or_not : (a b : Bool) → a ≡ false → b ≡ false → (a || b) ≡ false
+or_not false b h k = k
+or_not true b h k = absurd (let z : ⊥ = cc in z)
+
+not_first : (x y : ℕ) (xs : List ℕ) → contains y (x ∷ xs) ≡ false → (y ≢ x) × (contains y xs ≡ false)
+not_first x y xs h = elim (cases_Bool (x == y)) [
+  | inl e ↦ absurd (let k : contains y (x ∷ xs) ≡ true = first (x == y) (contains y xs) e in let z : ⊥ = cc in z)
+  | inr e ↦ ((λ same. let k : (x == y) ≡ true = equal x y (sym same) in let z : ⊥ = cc in z), rest (contains y xs) refl)
+]
+  where
+    rest : (b : Bool) → contains y xs ≡ b → b ≡ false
+    rest true e = absurd (let k : contains y (x ∷ xs) ≡ true = second (x == y) (contains y xs) e in let z : ⊥ = cc in z)
+    rest false e = refl
+
+-- what isn't asked stays
+unasked_stays : {A : Type 0} (xs : List ℕ) (S : State A) (y : ℕ) → contains y xs ≡ false → node_of (fold ask_object S xs).tree y ≡ node_of S.tree y
+unasked_stays [] S y h = refl
+unasked_stays (x ∷ xs) S y h = let k = not_first x y xs h in unasked_stays xs (ask_object S x) y k.1 ∙ others_then S x y (is_live (life_of S.tree x)) refl k.0
+
+-- what is live still wasn't asked
+live_unasked : {A : Type 0} (xs : List ℕ) (S : State A) (y : ℕ) → is_live (life_of (fold ask_object S xs).tree y) ≡ true → (contains y xs ≡ false) × (node_of (fold ask_object S xs).tree y ≡ node_of S.tree y)
+live_unasked [] S y h = (refl, refl)
+live_unasked (x ∷ xs) S y h =
+    let k = live_unasked xs (ask_object S x) y h in
+    let n : y ≢ x = λ e. (
+    let off : is_live (life_of (ask_object S x).tree y) ≡ false = ap (λ z. is_live (life_of (ask_object S x).tree z)) e ∙ off_then S x (is_live (life_of S.tree x)) refl in
+    let on : is_live (life_of (ask_object S x).tree y) ≡ true = sym (ap (λ (m : Node). is_live m.life) k.1) ∙ h in
+    let z : ⊥ = cc in z) in
+    (or_not (x == y) (contains y xs) (not_equal x y (λ e. n (sym e))) k.0, k.1 ∙ others_then S x y (is_live (life_of S.tree x)) refl n)
+
+asked : {A : Type 0} (S : State A) (o : ℕ) → Lives S.tree → Lives (ask_objects S o).tree
+asked S o k =
+    let U : Tree = (ask_objects S o).tree in
+    let T : Tree = S.tree in
+    record {
+      above = λ x h up.
+          let l = live_unasked (subtree T o) S x h in
+          let was : is_live (life_of T x) ≡ true = sym (ap (λ (m : Node). is_live m.life) l.1) ∙ h in
+          let p : parent_of U x ≡ parent_of T x = ap (λ (m : Node). m.parent.0) l.1 in
+          let off : contains (parent_of T x) (subtree T o) ≡ false = elim (cases_Bool (contains (parent_of T x) (subtree T o))) [
+            | inl e ↦ absurd (let on : contains x (subtree T o) ≡ true = closed_below T o x was k e in let no_ = l.0 in let z : ⊥ = cc in z)
+            | inr e ↦ e
+          ] in
+          ap (λ y. is_live (life_of U y)) p ∙ ap (λ (m : Node). is_live m.life) (unasked_stays (subtree T o) S (parent_of T x) off) ∙ k.above x was (λ z. up (p ∙ z));
+      older = λ x h.
+          let l = live_unasked (subtree T o) S x h in
+          let was : is_live (life_of T x) ≡ true = sym (ap (λ (m : Node). is_live m.life) l.1) ∙ h in
+          let p : parent_of U x ≡ parent_of T x = ap (λ (m : Node). m.parent.0) l.1 in
+          let older = k.older x was in omega arith;
+    }
+
+-- ---- each deed
+
+noted_kept : (c : Callback) (n : Node) → ((noted c n).life ≡ n.life) × ((noted c n).parent.0 ≡ n.parent.0)
+noted_kept callback.EvtCleanupCallback n = (refl, refl)
+noted_kept callback.EvtDestroyCallback n = (refl, refl)
+noted_kept _ n = (refl, refl)
+
+asked_off : (l : Life) → is_asked l ≡ true → false ≡ is_live l
+asked_off life.Asked h = refl
+asked_off life.Live h = absurd (let z : ⊥ = cc in z)
+asked_off life.Cleaned h = refl
+asked_off life.Gone h = refl
+
+cleaned_off : (l : Life) → is_cleaned l ≡ true → false ≡ is_live l
+cleaned_off life.Cleaned h = refl
+cleaned_off life.Live h = absurd (let z : ⊥ = cc in z)
+cleaned_off life.Asked h = refl
+cleaned_off life.Gone h = refl
+
+ended : (T : Tree) (o : ℕ) → is_cleaned (life_of T o) ≡ true → Lives T → Lives (tree.destroy T o)
+ended T o done = lives_same T (tree.destroy T o) (reads_same (λ n. is_live n.life) T o (λ _. gone) (cleaned_off (life_of T o) done))
+    (λ x h. elim (one_or_two x o) [
+      | inl e ↦ absurd (let off : is_live (life_of (tree.destroy T o) x) ≡ false = rw e (ap (λ (n : Node). is_live n.life) (entry_put_same gone T.nodes o gone)) in let z : ⊥ = cc in z)
+      | inr n ↦ ap (λ (m : Node). m.parent.0) (entry_put_other gone T.nodes o x gone n)
+    ])
+
+same_tree : (T U : Tree) → U ≡ T → Lives T → Lives U
+same_tree T U e q = subst Lives (sym e) q
+
+arrived : {A : Type 0} (S : State A) (device : ℕ) (info : RequestInfo) (p : Place) → (arrive_at S device info p).tree ≡ tree.arrive S.tree device
+arrived S device info (place.Queued q) = refl
+arrived S device info _ = refl
+
+abbrev tree_of : {A : Type 0} → State A → Tree
+tree_of S = S.tree
+
+lives_by : {A : Type 0} (plan : Plan) (d : Deed) (S : State A) → fits plan d S ≡ true → Lives S.tree → Lives (do_deed plan d S).tree
+lives_by plan (Create k class parent) S f q = object_made S.tree k class parent (search both_left) q
+lives_by plan (Make_request class parent) S f q = object_made S.tree kind.Made class parent (search both_left) q
+lives_by plan (Arrive device info p) S f q = same_tree _ _ (arrived S device info p) (object_made S.tree kind.Request 0 device (search both_left) q)
+lives_by plan (Ask_deletion o) S f q = asked S o q
+lives_by plan (Refer o) S f q = object_changes S.tree o (λ n. record n { references = n.references + 1 }) refl refl q
+lives_by plan (Unrefer o) S f q = object_changes S.tree o (λ n. record n { references = n.references - 1 }) refl refl q
+lives_by plan (Write_cell o k v) S f q = object_changes S.tree o (λ n. record n { cells = slice_set n.cells k v }) refl refl q
+lives_by plan (Note o c) S f q = let k = noted_kept c (node_of S.tree o) in object_changes S.tree o (noted c) (ap is_live k.0) k.1 q
+lives_by plan (Clean_up o) S f q =
+    let waits : is_asked (life_of S.tree o) ≡ true = search both_left in
+    object_changes S.tree o (with_life life.Cleaned) (asked_off (life_of S.tree o) waits) refl q
+lives_by plan (End_life o) S f q = let done : is_cleaned (life_of S.tree o) ≡ true = search both_left in ended S.tree o done q
+lives_by plan (Requeue r p) S f q = same_tree _ _ (gives_up tree_of (λ S Q R P. refl) S r) q
+lives_by plan (Forward r p) S f q = same_tree _ _ (gives_up tree_of (λ S Q R P. refl) S r) q
+lives_by plan (Give_back r p) S f q = same_tree _ _ (gives_up tree_of (λ S Q R P. refl) S r) q
+lives_by plan (Send_request r t forget) S f q = same_tree _ _ (gives_up_if tree_of (λ S Q R P. refl) S forget r) q
+lives_by plan (Complete_request r) S f q = asked (record (give_up S r) { requests = requests.complete S.requests r }) r (same_tree _ _ (gives_up tree_of (λ S Q R P. refl) S r) q)
+lives_by plan (Purge_queue p) S f q = same_tree _ _ (withdraws tree_of (λ S Q R P. refl) plan p (waiting_in S.queues p) (record S { control = control.set_mode S.control p mode.Purged })) q
+lives_by plan (Close_returning d) S f q = same_tree _ _ (returns_closed tree_of (λ S Q R P. refl) (managed_queues plan d) S) q
+lives_by plan (Close_device d) S f q = same_tree _ _ (queues_closed tree_of (λ S Q R P. refl) (queues_of plan d) (record S { control = control.shut S.control d })) q
+lives_by plan _ S f q = q
+
+-- ---- the opening of a resolved plan
+
+rest_of : (id device d : ℕ) (ds : List Declared) → (nat_lt 0 device && (d == device) && in_order (suc id) device ds) ≡ true → (d ≡ device) × (in_order (suc id) device ds ≡ true)
+rest_of id device d ds h = (
+  eqb-true d device (both_right (nat_lt 0 device) (d == device) (both_left (nat_lt 0 device && (d == device)) (in_order (suc id) device ds) h)),
+  both_right (nat_lt 0 device && (d == device)) (in_order (suc id) device ds) h,
+)
+
+parents_older : (id device : ℕ) (ds : List Declared) (k : ℕ) → in_order id device ds ≡ true → device < id → 1 < id → is_live (entry gone (map declared_node ds) k).life ≡ true → (entry gone (map declared_node ds) k).parent.0 < id + k
+parents_older id device [] k h d one live = absurd (let z : ⊥ = cc in z)
+parents_older id device (declared.Driver ∷ ds) k h d one live = absurd (let z : ⊥ = cc in z)
+parents_older id device (declared.OfClass c ∷ ds) k h d one live = absurd (let z : ⊥ = cc in z)
+parents_older id device (declared.Device x ∷ ds) zero h d one live = omega arith
+parents_older id device (declared.Device x ∷ ds) (suc k) h d one live = let rest = parents_older (suc id) id ds k h (omega arith) (omega arith) live in omega arith
+parents_older id device (declared.Queue x ∷ ds) zero h d one live = let e = (rest_of id device x.device.0 ds h).0 in omega arith
+parents_older id device (declared.Queue x ∷ ds) (suc k) h d one live = let rest = parents_older (suc id) device ds k (rest_of id device x.device.0 ds h).1 (omega arith) (omega arith) live in omega arith
+parents_older id device (declared.Interrupt x ∷ ds) zero h d one live = let e = (rest_of id device x.device.0 ds h).0 in omega arith
+parents_older id device (declared.Interrupt x ∷ ds) (suc k) h d one live = let rest = parents_older (suc id) device ds k (rest_of id device x.device.0 ds h).1 (omega arith) (omega arith) live in omega arith
+parents_older id device (declared.Target x ∷ ds) zero h d one live = let e = (rest_of id device x.device.0 ds h).0 in omega arith
+parents_older id device (declared.Target x ∷ ds) (suc k) h d one live = let rest = parents_older (suc id) device ds k (rest_of id device x.device.0 ds h).1 (omega arith) (omega arith) live in omega arith
+
+all_older : (ds : List Declared) (k : ℕ) → objects_in_order ds ≡ true → is_live (entry gone (map declared_node ds) k).life ≡ true → (entry gone (map declared_node ds) k).parent.0 < suc k
+all_older [] k h live = absurd (let z : ⊥ = cc in z)
+all_older (declared.Driver ∷ ds) zero h live = omega arith
+all_older (declared.Driver ∷ ds) (suc k) h live = let rest = parents_older 2 0 ds k h (omega arith) (omega arith) live in omega arith
+all_older (declared.Device x ∷ ds) k h live = absurd (let z : ⊥ = cc in z)
+all_older (declared.Queue x ∷ ds) k h live = absurd (let z : ⊥ = cc in z)
+all_older (declared.Interrupt x ∷ ds) k h live = absurd (let z : ⊥ = cc in z)
+all_older (declared.Target x ∷ ds) k h live = absurd (let z : ⊥ = cc in z)
+all_older (declared.OfClass x ∷ ds) k h live = absurd (let z : ⊥ = cc in z)
+
+all_live : (ds : List Declared) (k : ℕ) → k < length (map declared_node ds) → is_live (entry gone (map declared_node ds) k).life ≡ true
+all_live [] k h = absurd (omega arith)
+all_live (d ∷ ds) zero h = refl
+all_live (d ∷ ds) (suc k) h = all_live ds k (omega arith)
+
+live_if_there : (plan : Plan) (x : ℕ) → x ≢ 0 → x < suc (length (map declared_node plan.declared)) → is_live (life_of (opening_tree plan) x) ≡ true
+live_if_there plan zero n h = absurd (n refl)
+live_if_there plan (suc k) n h = all_live plan.declared k (omega arith)
+
+older_at_first : (plan : Plan) → objects_in_order plan.declared ≡ true → (x : ℕ) → is_live (life_of (opening_tree plan) x) ≡ true → parent_of (opening_tree plan) x < x
+older_at_first plan order zero h = absurd (let z : ⊥ = cc in z)
+older_at_first plan order (suc k) h = all_older plan.declared k order h
+
+opens : (plan : Plan) → objects_in_order plan.declared ≡ true → Lives (opening_tree plan)
+opens plan order = record {
+  above = λ x h n.
+      let within = live_inside (opening_tree plan) x h in
+      let older = older_at_first plan order x h in
+      live_if_there plan (parent_of (opening_tree plan) x) n (omega arith);
+  older = older_at_first plan order;
+}
+
+-- ---- each place of a run
+
+pub lives_at_each : {A : Type 0} (plan : Plan) (m : Meaning A) (run : List Event) → IsResolved plan → IsRunOf plan m run → (n : ℕ) → Lives (state_after plan m (take n run)).tree
+lives_at_each {A} plan m run resolved is_run n = each_place plan m (λ (S : State A). Lives S.tree) (opens plan resolved.in_order)
+    (λ S e known may_come q. deeds_keep plan (λ (U : State A). Lives U.tree) (lives_by plan) (deeds plan S e) S (event_fits plan m S e may_come) q)
+    (λ S time q. q) run is_run n
+
+pub lives_agree_at_each : {A : Type 0} (plan : Plan) (m : Meaning A) (run : List Event) → IsResolved plan → IsRunOf plan m run → (n : ℕ) → LivesAgree (state_after plan m (take n run))
+lives_agree_at_each plan m run resolved is_run n = record { above = (lives_at_each plan m run resolved is_run n).above }

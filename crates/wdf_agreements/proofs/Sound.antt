@@ -1,0 +1,69 @@
+-- What is so where a deed is done, beside what fits: of deferred work, of frames and their locks, and of queues and devices.
+use Rattle.std.proofs.Common.{if◌then◌else◌, ◌≡◌, ◌≢◌, refl, ℕ, ◌==◌, ◌≤◌, Bool, true, false, ◌||◌, List, [], ◌∷◌, ◌++◌, ◌⊎◌, Option, Some, None, is_some, count_by}
+use Rattle.std.specs.Prelude.{⊤}
+use Rattle.wdf_base.specs.declared.plan.Plan.{Plan}
+use Rattle.wdf_base.specs.declared.object.LockRef.{LockRef}
+use Rattle.wdf_base.specs.declared.object.Place.{Place}
+use Rattle.wdf_base.specs.declared.object.Place.TheVariants as place
+use Rattle.wdf_model.specs.declared.entries.Held.{Held}
+use Rattle.wdf_model.specs.Plans.{device_of_queue, interrupt_of}
+use Rattle.wdf_model.specs.parts.Tree.{is_gone, is_live, life_of}
+use Rattle.wdf_model.specs.parts.Cpus.{frame_of, top}
+use Rattle.wdf_model.specs.parts.Locks.{lock_of_callback}
+use Rattle.wdf_model.specs.parts.Requests.{info_of}
+use Rattle.wdf_model.specs.State.{State, declared_in}
+use Rattle.wdf_model.specs.rules.Deeds.{Deed, Arrive, Push_frame, Go_on, Pop_frame, Park_frame, Unpark_frame, Take_lock, Requeue, Forward, Give_back, Enqueue_dpc, Enqueue_work, Start_timer, do_deed, do_deeds}
+use Rattle.wdf_model.specs.rules.Calls.{Outcome, origin_or_none}
+use Rattle.wdf_invariants.proofs.Framed.{on}
+use Rattle.wdf_invariants.proofs.FrameMoves.{FrameKept}
+use Rattle.wdf_agreements.proofs.Lists.{Each}
+
+-- the lock that a frame took at its start, if any
+abbrev pub lock_of_frame : {A : Type 0} → Plan → State A → ℕ → Option LockRef
+lock_of_frame plan S f = lock_of_callback plan (frame_of S.cpus f).callback (frame_of S.cpus f).object.id.0 (declared_in plan S (frame_of S.cpus f).object.id.0)
+
+-- a queue in which a request that arrives waits is its device's
+abbrev pub WaitsAt : Plan → Place → ℕ → Type 0
+WaitsAt plan (place.Queued q) device = device_of_queue plan q.0 ≡ device
+WaitsAt plan (place.Returning q) device = ⊥
+WaitsAt plan (place.Closing s) device = ⊤
+WaitsAt plan place.Owned device = ⊥
+WaitsAt plan (place.Sent t) device = ⊥
+WaitsAt plan place.Done device = ⊥
+
+abbrev pub Sound : {A : Type 0} → Plan → Deed → State A → Type 0
+-- what arrives is of the device at which it arrives
+Sound plan (Arrive device info p) S = (info.device.0 ≡ device) × (info.origin ≡ None) × WaitsAt plan p device
+-- a frame begins on an object that isn't gone, and has a number of its own
+Sound plan (Push_frame cpu f frame level) S = (is_gone (life_of S.tree frame.object.id.0) ≡ false) × (on S.cpus f ≡ 0)
+-- a frame that goes on keeps its callback and its object
+Sound plan (Go_on f next) S = FrameKept (frame_of S.cpus f) next
+-- the frame that ends, or parks, is there, and one that ends holds no lock; one that comes back is parked, once
+Sound plan (Pop_frame cpu) S = (f : ℕ) × (top S.cpus cpu ≡ Some f) × (on S.cpus f ≤ 1) × Each (λ (h : Held). h.frame.0 ≢ f) S.locks.held
+Sound plan (Park_frame cpu) S = (f : ℕ) × (top S.cpus cpu ≡ Some f)
+Sound plan (Unpark_frame cpu f) S = count_by (λ y. y == f) S.cpus.parked ≡ 1
+-- a lock is taken by a frame that is there, by its start or by a call
+Sound plan (Take_lock l f by_call) S = (1 ≤ on S.cpus f) × (by_call ≡ false → lock_of_frame plan S f ≡ Some l)
+-- a request goes back to the queue that it came from, or on to one of its device
+Sound plan (Requeue r q) S = origin_or_none S r ≡ q
+Sound plan (Forward r q) S = device_of_queue plan q ≡ (info_of S.requests r).device.0
+Sound plan (Give_back r q) S = (origin_or_none S r ≡ q) ⊎ (device_of_queue plan q ≡ (info_of S.requests r).device.0)
+-- what is queued is live, or an interrupt
+Sound plan (Enqueue_dpc cpu o) S = (is_live (life_of S.tree o) || is_some (interrupt_of plan o)) ≡ true
+Sound plan (Enqueue_work o) S = is_live (life_of S.tree o) ≡ true
+Sound plan (Start_timer o ticks) S = is_live (life_of S.tree o) ≡ true
+Sound plan _ S = ⊤
+
+-- each of some deeds is so where it is done
+abbrev pub AllSound : {A : Type 0} → Plan → List Deed → State A → Type 0
+AllSound plan [] S = ⊤
+AllSound plan (d ∷ ds) S = Sound plan d S × AllSound plan ds (do_deed plan d S)
+
+pub sound_behind : {A : Type 0} (plan : Plan) (ds es : List Deed) (S : State A) → AllSound plan ds S → AllSound plan es (do_deeds plan ds S) → AllSound plan (ds ++ es) S
+sound_behind plan [] es S h k = k
+sound_behind plan (d ∷ ds) es S h k = (h.0, sound_behind plan ds es (do_deed plan d S) h.1 k)
+
+pub either_sound : {A : Type 0} (plan : Plan) (S : State A) (b : Bool) (x y : Outcome) → (b ≡ true → AllSound plan x.deeds S) → (b ≡ false → AllSound plan y.deeds S)
+    → AllSound plan (if b then x else y).deeds S
+either_sound plan S true x y h k = h refl
+either_sound plan S false x y h k = k refl

@@ -1,0 +1,12 @@
+pub mod Members
+pub mod Endings
+pub mod Finished
+pub mod Listed
+pub mod Gives
+pub mod Forms
+pub mod Objects
+pub mod Told
+pub mod Needs
+pub mod Tops
+pub mod Works
+pub mod Stages

@@ -1,0 +1,250 @@
+-- A stage that a device waits for always has a cause, and so has each line of which that is said.
+use Rattle.wdf_blame.proofs.Works.{work_named}
+use Rattle.std.proofs.Common.{if◌then◌else◌, ◌≡◌, inl, inr, ℕ, zero, suc, ◌+◌, ◌==◌, ◌<◌, slice_get, Bool, true, false, not, ◌&&◌, ◌||◌, nat_lt, List, [], ◌∷◌, ◌++◌, Option, Some, None, is_some, filter, map, length, refl, sym, ap, subst, ◌∙◌, arith, rules}
+use Rattle.std.specs.Prelude.{filter_map}
+use Rattle.std.specs.List.{flat_map, list_all, list_any, range_with_len}
+use Rattle.std.proofs.lemmas.Option.{same_Some}
+use Rattle.wdf_base.specs.declared.plan.Plan.{Plan}
+use Rattle.wdf_base.specs.declared.object.Place.{Place}
+use Rattle.wdf_base.specs.declared.object.Place.TheVariants as place
+use Rattle.wdf_base.specs.declared.wait.Cause.TheVariants as cause
+use Rattle.wdf_base.specs.declared.wait.OpenThing.TheVariants as thing
+use Rattle.wdf_base.specs.declared.wait.WaitLine.{WaitLine}
+use Rattle.wdf_model.specs.Tables.{ids_of}
+use Rattle.wdf_model.specs.parts.Cpus.{all_frames, is_on}
+use Rattle.wdf_model.specs.parts.Locks.{hold_of, holder, object_lock}
+use Rattle.wdf_model.specs.parts.Requests.{is_sent_to, place_of}
+use Rattle.wdf_model.specs.State.{State, held_from, handle_in}
+use Rattle.wdf_model.specs.rules.Waits.{by_frame, cause_if, frame_line, number_of, object_line, request_line}
+use Rattle.wdf_model.proofs.Tests.{both, both_left, both_right, first, itself}
+use Rattle.wdf_blame.proofs.Members.{Each, Has}
+use Rattle.wdf_blame.proofs.Gives.{IfThere, has_kept}
+use Rattle.wdf_base.specs.Meaning.{Meaning}
+use Rattle.wdf_base.specs.declared.event.Event.{Event}
+use Rattle.wdf_base.specs.declared.event.Event.TheVariants as event
+use Rattle.wdf_model.specs.declared.enums.Group.TheVariants as group
+use Rattle.wdf_model.specs.parts.Tree.{next_id}
+use Rattle.wdf_model.specs.parts.Cpus.{nobody_on}
+use Rattle.wdf_model.specs.State.{is_proper, nothing_at}
+use Rattle.wdf_model.specs.rules.Groups.{candidate, candidates}
+use Rattle.wdf_model.specs.rules.Steps.{may}
+use Rattle.wdf_model.specs.rules.Waits.{first_cause}
+use Rattle.wdf_blame.specs.Caused.{names_a_cause}
+use Rattle.wdf_blame.proofs.Members.{has_range}
+use Rattle.wdf_blame.proofs.Endings.{AtRest, may_not}
+use Rattle.wdf_base.specs.declared.ids.Handle.{Handle}
+use Rattle.wdf_base.specs.Same.{same_handle, same_option, same_stage, same_step}
+use Rattle.wdf_model.proofs.Sames.{handle_decides}
+use Rattle.wdf_base.specs.declared.event.Ending.TheVariants as ending
+use Rattle.wdf_base.specs.declared.event.Post.{Post}
+use Rattle.wdf_base.specs.declared.event.Post.TheVariants as post
+use Rattle.wdf_base.specs.declared.event.Stage.{Stage}
+use Rattle.wdf_base.specs.declared.event.Stage.TheVariants as stage
+use Rattle.wdf_base.specs.declared.event.Step.{Step}
+use Rattle.wdf_base.specs.declared.event.Step.TheVariants as step
+use Rattle.std.specs.Bool.{Decides}
+use Rattle.wdf_model.specs.declared.entries.Request.{Request}
+use Rattle.wdf_model.specs.Tables.{entry}
+use Rattle.wdf_model.specs.Plans.{device_of, devices_of, managed_queues}
+use Rattle.wdf_model.specs.parts.Requests.{no_request, request_of}
+use Rattle.wdf_model.specs.parts.Power.{unsettled}
+use Rattle.wdf_model.specs.parts.Pnp.{follows_queues_up, is_running_step, next_step, running_step, steps_left}
+use Rattle.wdf_model.specs.rules.Posts.{due_of}
+use Rattle.wdf_model.specs.parts.Queues.{held_count}
+use Rattle.wdf_model.specs.rules.Ready.{IsRunOf, ending_of, is_leaving, is_open_post, open_devices, open_objects, open_requests, open_work, state_after, is_open_work}
+use Rattle.wdf_model.specs.rules.Starts.{handle_id, is_drained, is_unfinished_at, may_pass, resumes_over, stage_ready, step_ready, targets_at}
+use Rattle.wdf_model.specs.rules.Groups.{declared_end}
+use Rattle.wdf_model.specs.rules.Waits.{asking_line, by_request, deferred_line, device_line, frames_in_order, next_step_line, resumes_cause, sequence_line, stage_cpus, stage_frames, stage_requests, step_cause, wait_lines, wait_list}
+use Rattle.wdf_blame.specs.Caused.{is_stage}
+use Rattle.wdf_blame.proofs.Members.{none_passes}
+use Rattle.wdf_blame.proofs.Endings.{at_rest, stuck_lines}
+use Rattle.wdf_blame.proofs.Gives.{each_behind}
+use Rattle.wdf_blame.proofs.Tops.{frame_named, held_now}
+use Rattle.wdf_blame.proofs.Needs.{front_none, framework_group, none_first, none_least, none_there, object_named, placed_at, some_or, unheld, free_hold}
+
+-- ---- lists
+
+settled_by : {A : Type 0} (S : State A) (qs : List ℕ) → flat_map (λ q. filter (is_on S.cpus q) (all_frames S.cpus)) qs ≡ [] → list_all (nobody_on S.cpus) qs ≡ true
+settled_by S [] h = refl
+settled_by S (q ∷ qs) h =
+    let parts = front_none (filter (is_on S.cpus q) (all_frames S.cpus)) (flat_map (λ x. filter (is_on S.cpus x) (all_frames S.cpus)) qs) h in
+    both (nobody_on S.cpus q) (list_all (nobody_on S.cpus) qs) (none_there S q parts.0) (settled_by S qs parts.1)
+
+no_entry : {T : Type 0} (blank : T) (p : T → Bool) (xs : List T) → ((x : ℕ) → x < length xs → p (entry blank xs x) ≡ false) → list_any p xs ≡ false
+no_entry blank p [] h = refl
+no_entry blank p (x ∷ xs) h = rw (h 0 (omega arith)) (no_entry blank p xs (λ k low. h (suc k) (omega arith)))
+
+neither : (a b : Bool) → (a || b) ≡ false → (a ≡ false) × (b ≡ false)
+neither true b h = absurd (let z : ⊥ = cc in z)
+neither false b h = (refl, h)
+
+none_of : (p : ℕ → Bool) (xs : List ℕ) → list_any p xs ≡ false → (x : ℕ) → Has x xs → p x ≡ false
+none_of p [] h x k = absurd k
+none_of p (y ∷ ys) h x (inl e) = ap p e ∙ (neither (p y) (list_any p ys) h).0
+none_of p (y ∷ ys) h x (inr k) = none_of p ys (neither (p y) (list_any p ys) h).1 x k
+
+each_one : (p : ℕ → Bool) (xs : List ℕ) → ((x : ℕ) → Has x xs → p x ≡ true) → list_all p xs ≡ true
+each_one p [] h = refl
+each_one p (x ∷ xs) h = both (p x) (list_all p xs) (h x (inl refl)) (each_one p xs (λ y k. h y (inr k)))
+
+-- ---- stages
+
+stage_decides : (a b : Stage) → Decides (same_stage a b) (a ≡ b)
+stage_decides a b = search rules
+
+handle_itself : (i : Option Handle) → same_option same_handle i i ≡ true
+handle_itself None = refl
+handle_itself (Some h) = (handle_decides h h).1 refl
+
+stage_itself : (s : Stage) (i : Option Handle) → same_step (step.Pass s i) (step.Pass s i) ≡ true
+stage_itself s i = both (same_stage s s) (same_option same_handle i i) ((stage_decides s s).1 refl) (handle_itself i)
+
+drained_by : {A : Type 0} (plan : Plan) (S : State A) (d : ℕ) → stage_requests plan S d stage.Removed ≡ [] → is_drained plan S d ≡ true
+drained_by plan S d h =
+    let none : (r : ℕ) → r < length S.requests.all → (is_unfinished_at d (request_of S.requests r) ≡ false) × (list_any (λ t. is_sent_to t (place_of S.requests r)) (targets_at plan d) ≡ false) =
+    λ r low. neither (is_unfinished_at d (request_of S.requests r)) (list_any (λ t. is_sent_to t (place_of S.requests r)) (targets_at plan d))
+    (none_passes (λ x. is_unfinished_at d (request_of S.requests x) || list_any (λ t. is_sent_to t (place_of S.requests x)) (targets_at plan d)) (ids_of S.requests.all) h r (has_range r 0 (length S.requests.all) (omega arith) (omega arith))) in
+    both (not (list_any (is_unfinished_at d) S.requests.all)) (list_all (nothing_at S) (targets_at plan d))
+    (ap not (no_entry no_request (is_unfinished_at d) S.requests.all (λ r low. (none r low).0)))
+    (each_one (nothing_at S) (targets_at plan d)
+    (λ t there. ap not (no_entry no_request (λ (r : Request). is_sent_to t r.place) S.requests.all (λ r low. none_of (λ u. is_sent_to u (place_of S.requests r)) (targets_at plan d) (none r low).1 t there))))
+
+ready_by : {A : Type 0} (plan : Plan) (S : State A) (d : ℕ) (s : Stage) (i : Option Handle) → is_stage (step.Pass s i) ≡ true → stage_requests plan S d s ≡ [] → stage_frames plan S d s i ≡ [] → stage_ready plan S d s i ≡ true
+ready_by plan S d stage.Settled i is rs fs = both (length (unsettled S.power d) == 0) (list_all (nobody_on S.cpus) (managed_queues plan d)) (rw rs refl) (settled_by S (managed_queues plan d) fs)
+ready_by plan S d stage.Disabled i is rs fs = free_hold (hold_of S.locks (object_lock (handle_id i))) (unheld (holder S.locks (object_lock (handle_id i))) fs)
+ready_by plan S d stage.Removed i is rs fs = drained_by plan S d rs
+ready_by plan S d stage.Quiet i is rs fs = absurd (let z : ⊥ = cc in z)
+ready_by plan S d _ i is rs fs = refl
+
+stage_waits : {A : Type 0} (plan : Plan) (m : Meaning A) (S : State A) → AtRest plan m S true → (d : ℕ) (s : Stage) (i : Option Handle) → d < declared_end plan → next_step S.pnp d ≡ Some (step.Pass s i)
+    → is_stage (step.Pass s i) ≡ true → not (is_running_step S.pnp d) ≡ true → not (follows_queues_up S.pnp d) ≡ true → step_cause plan S d (step.Pass s i) ≡ None → ⊥
+stage_waits plan m S rest d s i low next is calm early h =
+    let e0 : Event = event.Stage (handle_in plan S d) s i in
+    let one = none_first (by_request plan S (stage_requests plan S d s)) (by_frame (stage_frames plan S d s i) ∷ cause_if (stage_cpus plan S d s) cause.NoCpu ∷ []) h in
+    let two = none_first (by_frame (stage_frames plan S d s i)) (cause_if (stage_cpus plan S d s) cause.NoCpu ∷ []) one.1 in
+    let rs = none_least (λ r. cause.ByRequest (handle_in plan S r)) (stage_requests plan S d s) one.0 in
+    let fs = none_least (λ f. cause.ByFrame (number_of f)) (stage_frames plan S d s i) two.0 in
+    let here : candidate plan m S group.Stages d ≡ Some e0 = rw next refl in
+    let offered : Has e0 (candidates plan m S) = framework_group plan m S group.Stages e0 (inl refl) (placed_at plan m S group.Stages (declared_end plan) d e0 low here) in
+    let no : may plan m S e0 ≡ false = may_not plan m S true e0 rest offered in
+    let same_next : same_option same_step (next_step S.pnp d) (Some (step.Pass s i)) ≡ true = rw next (stage_itself s i) in
+    let stepping : step_ready S d (step.Pass s i) ≡ true =
+    three (same_option same_step (next_step S.pnp d) (Some (step.Pass s i))) (not (is_running_step S.pnp d)) (not (follows_queues_up S.pnp d) || resumes_over S d) same_next calm (first (not (follows_queues_up S.pnp d)) (resumes_over S d) early) in
+    let yes : may plan m S e0 ≡ true =
+    both (is_proper plan S (handle_in plan S d)) (may_pass plan S d s i) (itself (handle_in plan S d).name) (both (step_ready S d (step.Pass s i)) (stage_ready plan S d s i) stepping (ready_by plan S d s i is rs fs)) in
+    let z : ⊥ = cc in z
+  where
+    three : (a b c : Bool) → a ≡ true → b ≡ true → c ≡ true → (a && b && c) ≡ true
+    three a b c h k l = both (a && b) c (both a b h k) l
+
+-- ---- the lines
+
+abbrev Named : {A : Type 0} → Plan → State A → WaitLine → Type 0
+Named plan S l = names_a_cause plan S l.thing ≡ true → is_some l.cause ≡ true
+
+stage_named : {A : Type 0} (plan : Plan) (m : Meaning A) (S : State A) → AtRest plan m S true → (d : ℕ) (s : Step) → d < declared_end plan → next_step S.pnp d ≡ Some s → Named plan S (next_step_line plan S d s)
+stage_named plan m S rest d (step.Run c i) low next h = absurd (let z : ⊥ = cc in z)
+stage_named plan m S rest d (step.Pass s i) low next h =
+    let front = both_left (is_stage (step.Pass s i) && not (is_running_step S.pnp d)) (not (follows_queues_up S.pnp d)) h in
+    some_or (first_cause (resumes_cause plan S d ∷ step_cause plan S d (step.Pass s i) ∷ []))
+    (λ none.
+    let parts = none_first (resumes_cause plan S d) (step_cause plan S d (step.Pass s i) ∷ []) none in
+    stage_waits plan m S rest d s i low next (both_left (is_stage (step.Pass s i)) (not (is_running_step S.pnp d)) front) (both_right (is_stage (step.Pass s i)) (not (is_running_step S.pnp d)) front)
+    (both_right (is_stage (step.Pass s i) && not (is_running_step S.pnp d)) (not (follows_queues_up S.pnp d)) h)
+    (none_first (step_cause plan S d (step.Pass s i)) [] parts.1).0)
+
+running_off : (a c : Bool) (s : Option Step) (t : Step) → s ≡ Some t → (a && not (is_some s) && c) ≡ true → ⊥
+running_off true c None t e h = let z : ⊥ = cc in z
+running_off true c (Some u) t e h = let z : ⊥ = cc in z
+running_off false c s t e h = let z : ⊥ = cc in z
+
+device_named : {A : Type 0} (plan : Plan) (m : Meaning A) (S : State A) → AtRest plan m S true → (d : ℕ) → d < declared_end plan → (now next : Option Step) → running_step S.pnp d ≡ now → next_step S.pnp d ≡ next → IfThere (Named plan S) (sequence_line plan S d now next)
+device_named plan m S rest d low (Some s) next e k = λ h. absurd (running_off (is_stage s) (not (follows_queues_up S.pnp d)) (running_step S.pnp d) s e h)
+device_named plan m S rest d low None (Some s) e k = stage_named plan m S rest d s low k
+device_named plan m S rest d low None None e k = tt
+
+in_range : (x a n : ℕ) → Has x (range_with_len a n) → x < a + n
+in_range x a zero h = absurd h
+in_range x a (suc n) (inl e) = omega arith
+in_range x a (suc n) (inr h) = let less : x < (a + 1) + n = in_range x (a + 1) n h in omega arith
+
+mapped_in : {T U : Type 0} (P : U → Type 0) (f : T → U) (xs : List T) → ((x : T) → Has x xs → P (f x)) → Each P (map f xs)
+mapped_in P f [] h = tt
+mapped_in P f (x ∷ xs) h = (h x (inl refl), mapped_in P f xs (λ y k. h y (inr k)))
+
+chosen_by : {T U : Type 0} (P : U → Type 0) (f : T → Option U) (x : T) (xs : List T) (o : Option U) → f x ≡ o → IfThere P o → Each P (filter_map f xs) → Each P (filter_map f (x ∷ xs))
+chosen_by P f x xs None e h rest = rw e rest
+chosen_by P f x xs (Some y) e h rest = rw e (h, rest)
+
+chosen_in : {T U : Type 0} (P : U → Type 0) (f : T → Option U) (xs : List T) → ((x : T) → Has x xs → IfThere P (f x)) → Each P (filter_map f xs)
+chosen_in P f [] h = tt
+chosen_in P f (x ∷ xs) h = chosen_by P f x xs (f x) refl (h x (inl refl)) (chosen_in P f xs (λ y k. h y (inr k)))
+
+devices_named : {A : Type 0} (plan : Plan) (m : Meaning A) (S : State A) → AtRest plan m S true → Each (Named plan S) (filter_map (device_line plan S) (open_devices plan S))
+devices_named plan m S rest =
+    chosen_in (Named plan S) (device_line plan S) (open_devices plan S)
+    (λ d there.
+    let kept = has_kept (λ x. nat_lt 0 (length (steps_left S.pnp x))) d (devices_of plan) there in
+    let low : d < 0 + declared_end plan = in_range d 0 (declared_end plan) (has_kept (λ x. is_some (device_of plan x)) d (range_with_len 0 (declared_end plan)) kept.1).1 in
+    device_named plan m S rest d (omega arith) (running_step S.pnp d) (next_step S.pnp d) refl refl)
+
+objects_named : {A : Type 0} (plan : Plan) (m : Meaning A) (S : State A) → AtRest plan m S true → Each (Named plan S) (map (object_line plan S) (open_objects S))
+objects_named plan m S rest =
+    mapped_in (Named plan S) (object_line plan S) (open_objects S)
+    (λ o there.
+    let kept = has_kept (is_leaving S) o (ids_of S.tree.nodes) there in
+    let low : o < 0 + next_id S.tree = in_range o 0 (next_id S.tree) kept.1 in
+    object_named plan m S rest o (omega arith) kept.0)
+
+request_unnamed : {A : Type 0} (plan : Plan) (S : State A) (r : ℕ) (p : Place) → IfThere (Named plan S) (request_line plan S r p)
+request_unnamed plan S r place.Owned = λ h. absurd (let z : ⊥ = cc in z)
+request_unnamed plan S r (place.Sent t) = λ h. absurd (let z : ⊥ = cc in z)
+request_unnamed plan S r (place.Queued q) = λ h. absurd (let z : ⊥ = cc in z)
+request_unnamed plan S r (place.Returning q) = λ h. absurd (let z : ⊥ = cc in z)
+request_unnamed plan S r (place.Closing s) = tt
+request_unnamed plan S r place.Done = tt
+
+asking_by : {A : Type 0} (plan : Plan) (S : State A) (l : WaitLine) (b : Bool) → Named plan S l → Each (Named plan S) (if b then l ∷ [] else [])
+asking_by plan S l true h = (h, tt)
+asking_by plan S l false h = tt
+
+asking_unnamed : {A : Type 0} (plan : Plan) (S : State A) (p : Option Post) → Each (Named plan S) (asking_line S p)
+asking_unnamed plan S (Some (post.Ask a device)) = asking_by plan S (record { thing = thing.Asking device; cause = None }) (is_open_post S (Some (post.Ask a device))) (λ h. absurd (let z : ⊥ = cc in z))
+asking_unnamed plan S None = tt
+asking_unnamed plan S (Some (post.Read d n)) = tt
+asking_unnamed plan S (Some (post.Write d n)) = tt
+asking_unnamed plan S (Some (post.Control d c n)) = tt
+asking_unnamed plan S (Some (post.Cancel k)) = tt
+asking_unnamed plan S (Some (post.Act a)) = tt
+asking_unnamed plan S (Some (post.Done r t)) = tt
+
+lines_named : {A : Type 0} (plan : Plan) (m : Meaning A) (S : State A) → AtRest plan m S true → ((q : ℕ) → held_count S.queues q ≡ length (held_from S q)) → Each (Named plan S) (wait_lines plan m S)
+lines_named plan m S rest held =
+    let frames : List WaitLine = map (frame_line plan S) (frames_in_order S) in
+    let requests : List WaitLine = filter_map (λ r. request_line plan S r (place_of S.requests r)) (open_requests S) in
+    let devices : List WaitLine = filter_map (device_line plan S) (open_devices plan S) in
+    let objects : List WaitLine = map (object_line plan S) (open_objects S) in
+    let work : List WaitLine = map (deferred_line plan S) (open_work S) in
+    let asking : List WaitLine = asking_line S (due_of m S 0) in
+    each_behind (Named plan S) (frames ++ requests ++ devices ++ objects ++ work) asking
+    (each_behind (Named plan S) (frames ++ requests ++ devices ++ objects) work
+    (each_behind (Named plan S) (frames ++ requests ++ devices) objects
+    (each_behind (Named plan S) (frames ++ requests) devices
+    (each_behind (Named plan S) frames requests
+    (mapped_in (Named plan S) (frame_line plan S) (frames_in_order S) (λ f there h. frame_named plan m S rest held f h))
+    (chosen_in (Named plan S) (λ r. request_line plan S r (place_of S.requests r)) (open_requests S) (λ r there. request_unnamed plan S r (place_of S.requests r))))
+    (devices_named plan m S rest))
+    (objects_named plan m S rest))
+    (mapped_in (Named plan S) (deferred_line plan S) (open_work S) (λ o there h. work_named plan m S rest o (has_kept (is_open_work S) o (ids_of S.tree.nodes) there).0 h)))
+    (asking_unnamed plan S (due_of m S 0))
+
+each_at : {T : Type 0} (P : T → Type 0) (xs : List T) (k : ℕ) (x : T) → Each P xs → slice_get xs k ≡ Some x → P x
+each_at P [] k x e h = absurd (let z : ⊥ = cc in z)
+each_at P (y ∷ ys) zero x e h = subst P (same_Some y x h) e.0
+each_at P (y ∷ ys) (suc k) x e h = each_at P ys k x e.1 h
+
+pub line_named : {A : Type 0} (plan : Plan) (m : Meaning A) (run : List Event) → IsRunOf plan m run → ending_of plan m run ≡ ending.Stuck → (k : ℕ) (l : WaitLine)
+    → slice_get (wait_list plan m run) k ≡ Some l → names_a_cause plan (state_after plan m run) l.thing ≡ true → is_some l.cause ≡ true
+line_named plan m run is_run ends k l h =
+    each_at (Named plan (state_after plan m run)) (wait_lines plan m (state_after plan m run)) k l (lines_named plan m (state_after plan m run) (at_rest plan m run true ends) (held_now plan m run is_run))
+    (ap (λ ls. slice_get ls k) (sym (stuck_lines plan m run ends)) ∙ h)

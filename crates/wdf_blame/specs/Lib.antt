@@ -1,0 +1,4 @@
+pub mod Open
+pub mod Left
+pub mod Causes
+pub mod Caused

@@ -1,0 +1,83 @@
+-- Stuck runs, computed from the definitions. Made by tools/scene_to_plan.py.
+use Rattle.std.proofs.Common.{◌≢◌, refl}
+use Rattle.wdf_base.specs.declared.event.Ending.TheVariants as ending
+use Rattle.wdf_model.specs.laws.Course.{run_by}
+use Rattle.wdf_model.specs.rules.Script.{value_of}
+use Rattle.wdf_model.proofs.Course.{worked_of}
+use Rattle.wdf_worked.specs.Shown.{IsShown, is_kept}
+use Rattle.wdf_blame_cases.specs.StuckRuns.{callback_of_a_step_plan, callback_of_a_step_events, callback_of_a_step_waits, cannot_return_plan, cannot_return_events, cannot_return_waits, child_with_a_reference_plan, child_with_a_reference_events, child_with_a_reference_waits, deleted_while_it_runs_plan, deleted_while_it_runs_events, deleted_while_it_runs_waits, flush_of_what_is_kept_plan, flush_of_what_is_kept_events, flush_of_what_is_kept_waits, flush_of_what_runs_plan, flush_of_what_runs_events, flush_of_what_runs_waits, full_and_behind_plan, full_and_behind_events, full_and_behind_waits, stopped_plan, stopped_events, stopped_waits, unpowered_and_manual_plan, unpowered_and_manual_events, unpowered_and_manual_waits}
+
+stuck_is_over : ending.Stuck ≢ ending.Running
+stuck_is_over h = let z : ⊥ = cc in z
+
+pub callback_of_a_step : IsShown callback_of_a_step_plan callback_of_a_step_events ending.Stuck callback_of_a_step_waits
+unfolding run_by value_of is_kept
+callback_of_a_step = record {
+  worked = worked_of callback_of_a_step_plan 7 callback_of_a_step_events ending.Stuck refl refl stuck_is_over;
+  agree = refl;
+  stuck = refl;
+}
+
+pub cannot_return : IsShown cannot_return_plan cannot_return_events ending.Stuck cannot_return_waits
+unfolding run_by value_of is_kept
+cannot_return = record {
+  worked = worked_of cannot_return_plan 19 cannot_return_events ending.Stuck refl refl stuck_is_over;
+  agree = refl;
+  stuck = refl;
+}
+
+pub child_with_a_reference : IsShown child_with_a_reference_plan child_with_a_reference_events ending.Stuck child_with_a_reference_waits
+unfolding run_by value_of is_kept
+child_with_a_reference = record {
+  worked = worked_of child_with_a_reference_plan 12 child_with_a_reference_events ending.Stuck refl refl stuck_is_over;
+  agree = refl;
+  stuck = refl;
+}
+
+pub deleted_while_it_runs : IsShown deleted_while_it_runs_plan deleted_while_it_runs_events ending.Stuck deleted_while_it_runs_waits
+unfolding run_by value_of is_kept
+deleted_while_it_runs = record {
+  worked = worked_of deleted_while_it_runs_plan 13 deleted_while_it_runs_events ending.Stuck refl refl stuck_is_over;
+  agree = refl;
+  stuck = refl;
+}
+
+pub flush_of_what_is_kept : IsShown flush_of_what_is_kept_plan flush_of_what_is_kept_events ending.Stuck flush_of_what_is_kept_waits
+unfolding run_by value_of is_kept
+flush_of_what_is_kept = record {
+  worked = worked_of flush_of_what_is_kept_plan 11 flush_of_what_is_kept_events ending.Stuck refl refl stuck_is_over;
+  agree = refl;
+  stuck = refl;
+}
+
+pub flush_of_what_runs : IsShown flush_of_what_runs_plan flush_of_what_runs_events ending.Stuck flush_of_what_runs_waits
+unfolding run_by value_of is_kept
+flush_of_what_runs = record {
+  worked = worked_of flush_of_what_runs_plan 10 flush_of_what_runs_events ending.Stuck refl refl stuck_is_over;
+  agree = refl;
+  stuck = refl;
+}
+
+pub full_and_behind : IsShown full_and_behind_plan full_and_behind_events ending.Stuck full_and_behind_waits
+unfolding run_by value_of is_kept
+full_and_behind = record {
+  worked = worked_of full_and_behind_plan 5 full_and_behind_events ending.Stuck refl refl stuck_is_over;
+  agree = refl;
+  stuck = refl;
+}
+
+pub stopped : IsShown stopped_plan stopped_events ending.Stuck stopped_waits
+unfolding run_by value_of is_kept
+stopped = record {
+  worked = worked_of stopped_plan 9 stopped_events ending.Stuck refl refl stuck_is_over;
+  agree = refl;
+  stuck = refl;
+}
+
+pub unpowered_and_manual : IsShown unpowered_and_manual_plan unpowered_and_manual_events ending.Stuck unpowered_and_manual_waits
+unfolding run_by value_of is_kept
+unpowered_and_manual = record {
+  worked = worked_of unpowered_and_manual_plan 2 unpowered_and_manual_events ending.Stuck refl refl stuck_is_over;
+  agree = refl;
+  stuck = refl;
+}

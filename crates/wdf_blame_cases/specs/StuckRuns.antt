@@ -1,0 +1,511 @@
+-- Stuck runs: the plan of each, its events, and what it waits for. Made by
+-- tools/scene_to_plan.py from the scenarios and traces of tools/stuck.
+use Rattle.std.specs.Prelude.{List, [], ◌∷◌, Some, None, true, false, codes}
+use Rattle.wdf_base.specs.declared.declared.Declared.TheVariants as declared
+use Rattle.wdf_base.specs.declared.declared.ClassInfo.TheVariants as class
+use Rattle.wdf_base.specs.declared.declared.PlainKind.TheVariants as plain
+use Rattle.wdf_base.specs.declared.declared.DeferredKind.TheVariants as deferred
+use Rattle.wdf_base.specs.declared.declared.Scope.TheVariants as scope
+use Rattle.wdf_base.specs.declared.declared.ExecutionLevel.TheVariants as level
+use Rattle.wdf_base.specs.declared.declared.DispatchKind.TheVariants as dispatch
+use Rattle.wdf_base.specs.declared.event.Ask.TheVariants as ask
+use Rattle.wdf_base.specs.declared.event.Post.TheVariants as post
+use Rattle.wdf_base.specs.declared.event.Stage.TheVariants as stage
+use Rattle.wdf_base.specs.declared.event.Event.{Event}
+use Rattle.wdf_base.specs.declared.event.Event.TheVariants as event
+use Rattle.wdf_base.specs.declared.script.ExprNode.TheVariants as node
+use Rattle.wdf_base.specs.declared.script.ContextWord.TheVariants as context
+use Rattle.wdf_base.specs.declared.script.ArgNode.TheVariants as arg
+use Rattle.wdf_base.specs.declared.script.Act.TheVariants as act
+use Rattle.wdf_base.specs.declared.call.Arg.TheVariants.{Val, Class}
+use Rattle.wdf_base.specs.declared.call.CallKind.TheVariants as call
+use Rattle.wdf_base.specs.declared.call.Callback.TheVariants as callback
+use Rattle.wdf_base.specs.declared.value.Status.TheVariants as status
+use Rattle.wdf_base.specs.declared.value.Value.TheVariants.{Num, Obj, Stat}
+use Rattle.wdf_base.specs.declared.plan.Plan.{Plan}
+use Rattle.wdf_base.specs.declared.event.Step.TheVariants as step
+use Rattle.wdf_base.specs.declared.wait.OpenThing.TheVariants as thing
+use Rattle.wdf_base.specs.declared.wait.Cause.TheVariants as cause
+use Rattle.wdf_base.specs.declared.wait.WaitLine.{WaitLine}
+use Rattle.wdf_worked.specs.Writing.{h, p, f, c, at, s, line}
+
+abbrev pub callback_of_a_step_plan : Plan
+callback_of_a_step_plan = record {
+  cpus = 1;
+  limit = 100;
+  objects = 16;
+  names = (codes "driver") ∷ (codes "req") ∷ (codes "D") ∷ (codes "Q") ∷ (codes "A") ∷ [];
+  declared = (declared.Driver)
+      ∷ (declared.Device (record { name = 2; working = false; scope = scope.Unscoped; level = level.Dispatch }))
+      ∷ (declared.Queue (record { name = 3; device = record { 0 = 2 }; dispatch = dispatch.Sequential; serves = record { rest = true; read = false; write = false; control = false }; powered = true; zero = false; scope = scope.Unscoped; level = level.Dispatch }))
+      ∷ [];
+  classes = [];
+  registers = [];
+  whens = [];
+  pnp = (at 19 1 (post.Ask ask.Start (h 2 2))) ∷ (at 20 1 (post.Ask ask.Sleep (h 2 2))) ∷ [];
+  agents = (record { name = 4; posts = (at 16 0 (post.Read (h 2 2) 1)) ∷ [] })
+      ∷ (record { name = 2; posts = [] })
+      ∷ [];
+  exprs = (node.Context context.OwnRequest) ∷ (node.Literal status.Success) ∷ (node.Object (h 3 3)) ∷ [];
+  scripts = (record {
+    callback = callback.EvtIoRead;
+    owner = declared.Queue (record { name = 3; device = record { 0 = 2 }; dispatch = dispatch.Sequential; serves = record { rest = true; read = false; write = false; control = false }; powered = true; zero = false; scope = scope.Unscoped; level = level.Dispatch });
+    line = 7;
+    statements = s 8 1 (act.Call call.WdfRequestComplete None (arg.Expression 0) (arg.Expression 1) arg.NoArgument)
+        ∷ [];
+  })
+      ∷ (record {
+        callback = callback.EvtDeviceD0Entry;
+        owner = declared.Device (record { name = 2; working = false; scope = scope.Unscoped; level = level.Dispatch });
+        line = 11;
+        statements = s 12 1 (act.Call call.WdfIoQueueDrainSynchronously None (arg.Expression 2) arg.NoArgument arg.NoArgument)
+            ∷ [];
+      })
+      ∷ [];
+  picks = [];
+}
+
+abbrev pub callback_of_a_step_events : List Event
+callback_of_a_step_events = event.Posted 1 (post.Read (h 2 2) 1) (Some (h 4 1))
+    ∷ event.Tick 1
+    ∷ event.Posted 0 (post.Ask ask.Start (h 2 2)) None
+    ∷ event.Stage (h 2 2) stage.Hardware None
+    ∷ event.Start (p 0) callback.EvtDeviceD0Entry (h 2 2) None
+    ∷ event.Waiting (p 0) (c call.WdfIoQueueDrainSynchronously 1 (Val (Obj (h 3 3))) (Val (Num 0)) (Val (Num 0)))
+    ∷ event.Park (p 0) (f 5)
+    ∷ []
+
+abbrev pub callback_of_a_step_waits : List WaitLine
+callback_of_a_step_waits = (line (thing.Waiting (f 5) callback.EvtDeviceD0Entry (h 2 2)) (Some (cause.ByRequest (h 4 1)))) ∷ (line (thing.Queued (h 4 1) (h 3 3)) (Some (cause.Unpowered))) ∷ (line (thing.Sequence (h 2 2) (step.Run callback.EvtDeviceD0Entry None)) (Some (cause.ByFrame (f 5)))) ∷ (line (thing.Asking (h 2 2)) None) ∷ []
+
+abbrev pub cannot_return_plan : Plan
+cannot_return_plan = record {
+  cpus = 2;
+  limit = 100;
+  objects = 16;
+  names = (codes "driver") ∷ (codes "req") ∷ (codes "Lock") ∷ (codes "Purge") ∷ (codes "D") ∷ (codes "Kept") ∷ (codes "Writes") ∷ (codes "A") ∷ (codes "B") ∷ [];
+  declared = (declared.Driver)
+      ∷ (declared.Device (record { name = 4; working = true; scope = scope.PerDevice; level = level.Passive }))
+      ∷ (declared.Queue (record { name = 5; device = record { 0 = 2 }; dispatch = dispatch.Manual; serves = record { rest = false; read = true; write = false; control = false }; powered = true; zero = false; scope = scope.PerDevice; level = level.Passive }))
+      ∷ (declared.Queue (record { name = 6; device = record { 0 = 2 }; dispatch = dispatch.Sequential; serves = record { rest = false; read = false; write = true; control = false }; powered = true; zero = false; scope = scope.PerDevice; level = level.Passive }))
+      ∷ [];
+  classes = (class.Plain 2 plain.WaitLock) ∷ (class.Deferred 3 deferred.WorkItem (record { 0 = 2 }) false 0) ∷ [];
+  registers = [];
+  whens = [];
+  pnp = [];
+  agents = (record { name = 7; posts = (at 40 0 (post.Read (h 2 4) 16)) ∷ [] })
+      ∷ (record { name = 8; posts = (at 43 1 (post.Write (h 2 4) 16)) ∷ [] })
+      ∷ (record { name = 4; posts = [] })
+      ∷ [];
+  exprs = (node.Context context.NearestDevice) ∷ (node.Number 0) ∷ (node.Variable 0) ∷ (node.Object (h 3 5)) ∷ (node.Variable 0) ∷ (node.Context context.OwnRequest) ∷ (node.Literal status.Cancelled) ∷ (node.Context context.NearestDevice) ∷ (node.Context context.NearestDevice) ∷ (node.Number 0) ∷ (node.Variable 0) ∷ (node.Object (h 3 5)) ∷ (node.Variable 1) ∷ (node.Variable 2) ∷ (node.Number 1) ∷ (node.Variable 0) ∷ (node.Variable 0) ∷ (node.Context context.OwnRequest) ∷ (node.Literal status.Success) ∷ [];
+  scripts = (record {
+    callback = callback.EvtWorkItem;
+    owner = declared.OfClass 1;
+    line = 7;
+    statements = s 8 1 (act.Call call.GetContext (Some 0) (arg.Expression 0) (arg.Expression 1) arg.NoArgument)
+        ∷ s 9 2 (act.Call call.WdfWaitLockAcquire None (arg.Expression 2) arg.NoArgument arg.NoArgument)
+        ∷ s 10 3 (act.Call call.WdfIoQueuePurgeSynchronously None (arg.Expression 3) arg.NoArgument arg.NoArgument)
+        ∷ s 11 4 (act.Call call.WdfWaitLockRelease None (arg.Expression 4) arg.NoArgument arg.NoArgument)
+        ∷ [];
+  })
+      ∷ (record {
+        callback = callback.EvtIoCanceledOnQueue;
+        owner = declared.Queue (record { name = 5; device = record { 0 = 2 }; dispatch = dispatch.Manual; serves = record { rest = false; read = true; write = false; control = false }; powered = true; zero = false; scope = scope.PerDevice; level = level.Passive });
+        line = 19;
+        statements = s 20 1 (act.Call call.WdfRequestComplete None (arg.Expression 5) (arg.Expression 6) arg.NoArgument)
+            ∷ [];
+      })
+      ∷ (record {
+        callback = callback.EvtIoWrite;
+        owner = declared.Queue (record { name = 6; device = record { 0 = 2 }; dispatch = dispatch.Sequential; serves = record { rest = false; read = false; write = true; control = false }; powered = true; zero = false; scope = scope.PerDevice; level = level.Passive });
+        line = 25;
+        statements = s 26 1 (act.Call call.WdfWaitLockCreate (Some 0) (arg.OfClass 0) (arg.Expression 7) arg.NoArgument)
+            ∷ s 27 2 (act.Call call.SetContext None (arg.Expression 8) (arg.Expression 9) (arg.Expression 10))
+            ∷ s 28 3 (act.Call call.WdfIoQueueRetrieveNextRequest (Some 1) (arg.Expression 11) arg.NoArgument arg.NoArgument)
+            ∷ s 29 4 (act.Call call.WdfRequestRequeue None (arg.Expression 12) arg.NoArgument arg.NoArgument)
+            ∷ s 30 5 (act.Call call.WdfWorkItemCreate (Some 2) (arg.OfClass 1) arg.NoArgument arg.NoArgument)
+            ∷ s 31 6 (act.Call call.WdfWorkItemEnqueue None (arg.Expression 13) arg.NoArgument arg.NoArgument)
+            ∷ s 32 7 (act.Spend 14)
+            ∷ s 33 8 (act.Call call.WdfWaitLockAcquire None (arg.Expression 15) arg.NoArgument arg.NoArgument)
+            ∷ s 34 9 (act.Call call.WdfWaitLockRelease None (arg.Expression 16) arg.NoArgument arg.NoArgument)
+            ∷ s 35 10 (act.Call call.WdfRequestComplete None (arg.Expression 17) (arg.Expression 18) arg.NoArgument)
+            ∷ [];
+      })
+      ∷ [];
+  picks = [];
+}
+
+abbrev pub cannot_return_events : List Event
+cannot_return_events = event.Posted 1 (post.Read (h 2 4) 16) (Some (h 5 1))
+    ∷ event.Tick 1
+    ∷ event.Posted 2 (post.Write (h 2 4) 16) (Some (h 6 1))
+    ∷ event.Start (p 0) callback.EvtIoWrite (h 4 6) (Some (h 6 1))
+    ∷ event.Did (p 0) (c call.WdfWaitLockCreate 2 (Class 0) (Val (Obj (h 2 4))) (Val (Num 0))) (Obj (h 7 2))
+    ∷ event.Did (p 0) (c call.SetContext 3 (Val (Obj (h 2 4))) (Val (Num 0)) (Val (Obj (h 7 2)))) (Stat status.Success)
+    ∷ event.Did (p 0) (c call.WdfIoQueueRetrieveNextRequest 1 (Val (Obj (h 3 5))) (Val (Num 0)) (Val (Num 0))) (Obj (h 5 1))
+    ∷ event.Did (p 0) (c call.WdfRequestRequeue 1 (Val (Obj (h 5 1))) (Val (Num 0)) (Val (Num 0))) (Stat status.Success)
+    ∷ event.Did (p 0) (c call.WdfWorkItemCreate 1 (Class 1) (Val (Num 0)) (Val (Num 0))) (Obj (h 8 3))
+    ∷ event.Did (p 0) (c call.WdfWorkItemEnqueue 1 (Val (Obj (h 8 3))) (Val (Num 0)) (Val (Num 0))) (Stat status.Success)
+    ∷ event.Spend (p 0) 1
+    ∷ event.Start (p 1) callback.EvtWorkItem (h 8 3) None
+    ∷ event.Did (p 1) (c call.GetContext 2 (Val (Obj (h 2 4))) (Val (Num 0)) (Val (Num 0))) (Obj (h 7 2))
+    ∷ event.Did (p 1) (c call.WdfWaitLockAcquire 1 (Val (Obj (h 7 2))) (Val (Num 0)) (Val (Num 0))) (Stat status.Success)
+    ∷ event.Waiting (p 1) (c call.WdfIoQueuePurgeSynchronously 1 (Val (Obj (h 3 5))) (Val (Num 0)) (Val (Num 0)))
+    ∷ event.Park (p 1) (f 12)
+    ∷ event.Tick 2
+    ∷ event.Waiting (p 0) (c call.WdfWaitLockAcquire 1 (Val (Obj (h 7 2))) (Val (Num 0)) (Val (Num 0)))
+    ∷ event.Park (p 0) (f 4)
+    ∷ []
+
+abbrev pub cannot_return_waits : List WaitLine
+cannot_return_waits = (line (thing.Waiting (f 4) callback.EvtIoWrite (h 4 6)) (Some (cause.ByLock (h 7 2) (f 12)))) ∷ (line (thing.Waiting (f 12) callback.EvtWorkItem (h 8 3)) (Some (cause.ByRequest (h 5 1)))) ∷ (line (thing.Returning (h 5 1) (h 3 5)) (Some (cause.ScopeHeld))) ∷ (line (thing.Owned (h 6 1)) None) ∷ []
+
+abbrev pub child_with_a_reference_plan : Plan
+child_with_a_reference_plan = record {
+  cpus = 1;
+  limit = 100;
+  objects = 16;
+  names = (codes "driver") ∷ (codes "req") ∷ (codes "P") ∷ (codes "C") ∷ (codes "D") ∷ (codes "Q") ∷ (codes "A") ∷ [];
+  declared = (declared.Driver)
+      ∷ (declared.Device (record { name = 4; working = true; scope = scope.Unscoped; level = level.Dispatch }))
+      ∷ (declared.Queue (record { name = 5; device = record { 0 = 2 }; dispatch = dispatch.Sequential; serves = record { rest = true; read = false; write = false; control = false }; powered = true; zero = false; scope = scope.Unscoped; level = level.Dispatch }))
+      ∷ [];
+  classes = (class.Plain 2 plain.Object) ∷ (class.Plain 3 plain.Object) ∷ [];
+  registers = [];
+  whens = [];
+  pnp = [];
+  agents = (record { name = 6; posts = (at 21 0 (post.Read (h 2 4) 1)) ∷ [] })
+      ∷ (record { name = 4; posts = [] })
+      ∷ [];
+  exprs = (node.Context context.NearestDevice) ∷ (node.Variable 0) ∷ (node.Variable 1) ∷ (node.Variable 0) ∷ (node.Context context.OwnRequest) ∷ (node.Literal status.Success) ∷ [];
+  scripts = (record {
+    callback = callback.EvtIoRead;
+    owner = declared.Queue (record { name = 5; device = record { 0 = 2 }; dispatch = dispatch.Sequential; serves = record { rest = true; read = false; write = false; control = false }; powered = true; zero = false; scope = scope.Unscoped; level = level.Dispatch });
+    line = 11;
+    statements = s 12 1 (act.Call call.WdfObjectCreate (Some 0) (arg.OfClass 0) (arg.Expression 0) arg.NoArgument)
+        ∷ s 13 2 (act.Call call.WdfObjectCreate (Some 1) (arg.OfClass 1) (arg.Expression 1) arg.NoArgument)
+        ∷ s 14 3 (act.Call call.WdfObjectReference None (arg.Expression 2) arg.NoArgument arg.NoArgument)
+        ∷ s 15 4 (act.Call call.WdfObjectDelete None (arg.Expression 3) arg.NoArgument arg.NoArgument)
+        ∷ s 16 5 (act.Call call.WdfRequestComplete None (arg.Expression 4) (arg.Expression 5) arg.NoArgument)
+        ∷ [];
+  })
+      ∷ [];
+  picks = [];
+}
+
+abbrev pub child_with_a_reference_events : List Event
+child_with_a_reference_events = event.Posted 1 (post.Read (h 2 4) 1) (Some (h 4 1))
+    ∷ event.Start (p 0) callback.EvtIoRead (h 3 5) (Some (h 4 1))
+    ∷ event.Did (p 0) (c call.WdfObjectCreate 2 (Class 0) (Val (Obj (h 2 4))) (Val (Num 0))) (Obj (h 5 2))
+    ∷ event.Did (p 0) (c call.WdfObjectCreate 2 (Class 1) (Val (Obj (h 5 2))) (Val (Num 0))) (Obj (h 6 3))
+    ∷ event.Did (p 0) (c call.WdfObjectReference 1 (Val (Obj (h 6 3))) (Val (Num 0)) (Val (Num 0))) (Stat status.Success)
+    ∷ event.Did (p 0) (c call.WdfObjectDelete 1 (Val (Obj (h 5 2))) (Val (Num 0)) (Val (Num 0))) (Stat status.Success)
+    ∷ event.Did (p 0) (c call.WdfRequestComplete 2 (Val (Obj (h 4 1))) (Val (Stat status.Success)) (Val (Num 0))) (Stat status.Success)
+    ∷ event.End (p 0) callback.EvtIoRead (h 3 5) (Stat status.Success)
+    ∷ event.Cleanup (h 4 1)
+    ∷ event.Cleanup (h 6 3)
+    ∷ event.Cleanup (h 5 2)
+    ∷ event.Destroy (h 4 1)
+    ∷ []
+
+abbrev pub child_with_a_reference_waits : List WaitLine
+child_with_a_reference_waits = (line (thing.Leaving (h 5 2)) (Some (cause.ByChild (h 6 3)))) ∷ (line (thing.Leaving (h 6 3)) (Some (cause.References 1))) ∷ []
+
+abbrev pub deleted_while_it_runs_plan : Plan
+deleted_while_it_runs_plan = record {
+  cpus = 1;
+  limit = 100;
+  objects = 16;
+  names = (codes "driver") ∷ (codes "req") ∷ (codes "W") ∷ (codes "D") ∷ (codes "M") ∷ (codes "Q") ∷ (codes "A") ∷ [];
+  declared = (declared.Driver)
+      ∷ (declared.Device (record { name = 3; working = true; scope = scope.Unscoped; level = level.Passive }))
+      ∷ (declared.Queue (record { name = 4; device = record { 0 = 2 }; dispatch = dispatch.Manual; serves = record { rest = false; read = false; write = true; control = false }; powered = true; zero = false; scope = scope.Unscoped; level = level.Passive }))
+      ∷ (declared.Queue (record { name = 5; device = record { 0 = 2 }; dispatch = dispatch.Sequential; serves = record { rest = false; read = true; write = false; control = false }; powered = true; zero = false; scope = scope.Unscoped; level = level.Passive }))
+      ∷ [];
+  classes = (class.Deferred 2 deferred.WorkItem (record { 0 = 2 }) false 0) ∷ [];
+  registers = [];
+  whens = [];
+  pnp = [];
+  agents = (record { name = 6; posts = (at 25 0 (post.Write (h 2 3) 1)) ∷ (at 26 0 (post.Read (h 2 3) 1)) ∷ [] })
+      ∷ (record { name = 3; posts = [] })
+      ∷ [];
+  exprs = (node.Context context.OwnObject) ∷ (node.Object (h 3 4)) ∷ (node.Variable 0) ∷ (node.Context context.OwnRequest) ∷ (node.Literal status.Success) ∷ [];
+  scripts = (record {
+    callback = callback.EvtWorkItem;
+    owner = declared.OfClass 0;
+    line = 5;
+    statements = s 6 1 (act.Call call.WdfObjectDelete None (arg.Expression 0) arg.NoArgument arg.NoArgument)
+        ∷ s 7 2 (act.Call call.WdfIoQueueDrainSynchronously None (arg.Expression 1) arg.NoArgument arg.NoArgument)
+        ∷ [];
+  })
+      ∷ (record {
+        callback = callback.EvtIoRead;
+        owner = declared.Queue (record { name = 5; device = record { 0 = 2 }; dispatch = dispatch.Sequential; serves = record { rest = false; read = true; write = false; control = false }; powered = true; zero = false; scope = scope.Unscoped; level = level.Passive });
+        line = 17;
+        statements = s 18 1 (act.Call call.WdfWorkItemCreate (Some 0) (arg.OfClass 0) arg.NoArgument arg.NoArgument)
+            ∷ s 19 2 (act.Call call.WdfWorkItemEnqueue None (arg.Expression 2) arg.NoArgument arg.NoArgument)
+            ∷ s 20 3 (act.Call call.WdfRequestComplete None (arg.Expression 3) (arg.Expression 4) arg.NoArgument)
+            ∷ [];
+      })
+      ∷ [];
+  picks = [];
+}
+
+abbrev pub deleted_while_it_runs_events : List Event
+deleted_while_it_runs_events = event.Posted 1 (post.Write (h 2 3) 1) (Some (h 5 1))
+    ∷ event.Posted 1 (post.Read (h 2 3) 1) (Some (h 6 1))
+    ∷ event.Start (p 0) callback.EvtIoRead (h 4 5) (Some (h 6 1))
+    ∷ event.Did (p 0) (c call.WdfWorkItemCreate 1 (Class 0) (Val (Num 0)) (Val (Num 0))) (Obj (h 7 2))
+    ∷ event.Did (p 0) (c call.WdfWorkItemEnqueue 1 (Val (Obj (h 7 2))) (Val (Num 0)) (Val (Num 0))) (Stat status.Success)
+    ∷ event.Did (p 0) (c call.WdfRequestComplete 2 (Val (Obj (h 6 1))) (Val (Stat status.Success)) (Val (Num 0))) (Stat status.Success)
+    ∷ event.End (p 0) callback.EvtIoRead (h 4 5) (Stat status.Success)
+    ∷ event.Start (p 0) callback.EvtWorkItem (h 7 2) None
+    ∷ event.Did (p 0) (c call.WdfObjectDelete 1 (Val (Obj (h 7 2))) (Val (Num 0)) (Val (Num 0))) (Stat status.Success)
+    ∷ event.Waiting (p 0) (c call.WdfIoQueueDrainSynchronously 1 (Val (Obj (h 3 4))) (Val (Num 0)) (Val (Num 0)))
+    ∷ event.Park (p 0) (f 8)
+    ∷ event.Cleanup (h 6 1)
+    ∷ event.Destroy (h 6 1)
+    ∷ []
+
+abbrev pub deleted_while_it_runs_waits : List WaitLine
+deleted_while_it_runs_waits = (line (thing.Waiting (f 8) callback.EvtWorkItem (h 7 2)) (Some (cause.ByRequest (h 5 1)))) ∷ (line (thing.Queued (h 5 1) (h 3 4)) (Some (cause.Manual))) ∷ (line (thing.Leaving (h 7 2)) (Some (cause.ByFrame (f 8)))) ∷ []
+
+abbrev pub flush_of_what_is_kept_plan : Plan
+flush_of_what_is_kept_plan = record {
+  cpus = 1;
+  limit = 100;
+  objects = 16;
+  names = (codes "driver") ∷ (codes "req") ∷ (codes "W") ∷ (codes "D") ∷ (codes "M") ∷ (codes "Q") ∷ (codes "F") ∷ (codes "A") ∷ [];
+  declared = (declared.Driver)
+      ∷ (declared.Device (record { name = 3; working = true; scope = scope.PerDevice; level = level.Passive }))
+      ∷ (declared.Queue (record { name = 4; device = record { 0 = 2 }; dispatch = dispatch.Manual; serves = record { rest = false; read = false; write = false; control = true }; powered = true; zero = false; scope = scope.Unscoped; level = level.Passive }))
+      ∷ (declared.Queue (record { name = 5; device = record { 0 = 2 }; dispatch = dispatch.Sequential; serves = record { rest = false; read = true; write = false; control = false }; powered = true; zero = false; scope = scope.PerDevice; level = level.Passive }))
+      ∷ (declared.Queue (record { name = 6; device = record { 0 = 2 }; dispatch = dispatch.Sequential; serves = record { rest = false; read = false; write = true; control = false }; powered = true; zero = false; scope = scope.Unscoped; level = level.Passive }))
+      ∷ [];
+  classes = (class.Deferred 2 deferred.WorkItem (record { 0 = 2 }) true 0) ∷ [];
+  registers = [];
+  whens = [];
+  pnp = [];
+  agents = (record { name = 7; posts = (at 33 0 (post.Control (h 2 3) 1 0)) ∷ (at 34 0 (post.Read (h 2 3) 1)) ∷ (at 35 0 (post.Write (h 2 3) 1)) ∷ [] })
+      ∷ (record { name = 3; posts = [] })
+      ∷ [];
+  exprs = (node.Object (h 3 4)) ∷ (node.Variable 0) ∷ (node.Variable 0) ∷ [];
+  scripts = (record {
+    callback = callback.EvtWorkItem;
+    owner = declared.OfClass 0;
+    line = 6;
+    statements = [];
+  })
+      ∷ (record {
+        callback = callback.EvtIoRead;
+        owner = declared.Queue (record { name = 5; device = record { 0 = 2 }; dispatch = dispatch.Sequential; serves = record { rest = false; read = true; write = false; control = false }; powered = true; zero = false; scope = scope.PerDevice; level = level.Passive });
+        line = 18;
+        statements = s 19 1 (act.Call call.WdfIoQueueDrainSynchronously None (arg.Expression 0) arg.NoArgument arg.NoArgument)
+            ∷ [];
+      })
+      ∷ (record {
+        callback = callback.EvtIoWrite;
+        owner = declared.Queue (record { name = 6; device = record { 0 = 2 }; dispatch = dispatch.Sequential; serves = record { rest = false; read = false; write = true; control = false }; powered = true; zero = false; scope = scope.Unscoped; level = level.Passive });
+        line = 25;
+        statements = s 26 1 (act.Call call.WdfWorkItemCreate (Some 0) (arg.OfClass 0) arg.NoArgument arg.NoArgument)
+            ∷ s 27 2 (act.Call call.WdfWorkItemEnqueue None (arg.Expression 1) arg.NoArgument arg.NoArgument)
+            ∷ s 28 3 (act.Call call.WdfWorkItemFlush None (arg.Expression 2) arg.NoArgument arg.NoArgument)
+            ∷ [];
+      })
+      ∷ [];
+  picks = [];
+}
+
+abbrev pub flush_of_what_is_kept_events : List Event
+flush_of_what_is_kept_events = event.Posted 1 (post.Control (h 2 3) 1 0) (Some (h 6 1))
+    ∷ event.Posted 1 (post.Read (h 2 3) 1) (Some (h 7 1))
+    ∷ event.Start (p 0) callback.EvtIoRead (h 4 5) (Some (h 7 1))
+    ∷ event.Waiting (p 0) (c call.WdfIoQueueDrainSynchronously 1 (Val (Obj (h 3 4))) (Val (Num 0)) (Val (Num 0)))
+    ∷ event.Park (p 0) (f 3)
+    ∷ event.Posted 1 (post.Write (h 2 3) 1) (Some (h 8 1))
+    ∷ event.Start (p 0) callback.EvtIoWrite (h 5 6) (Some (h 8 1))
+    ∷ event.Did (p 0) (c call.WdfWorkItemCreate 1 (Class 0) (Val (Num 0)) (Val (Num 0))) (Obj (h 9 2))
+    ∷ event.Did (p 0) (c call.WdfWorkItemEnqueue 1 (Val (Obj (h 9 2))) (Val (Num 0)) (Val (Num 0))) (Stat status.Success)
+    ∷ event.Waiting (p 0) (c call.WdfWorkItemFlush 1 (Val (Obj (h 9 2))) (Val (Num 0)) (Val (Num 0)))
+    ∷ event.Park (p 0) (f 7)
+    ∷ []
+
+abbrev pub flush_of_what_is_kept_waits : List WaitLine
+flush_of_what_is_kept_waits = (line (thing.Waiting (f 3) callback.EvtIoRead (h 4 5)) (Some (cause.ByRequest (h 6 1)))) ∷ (line (thing.Waiting (f 7) callback.EvtIoWrite (h 5 6)) (Some (cause.ByWork (h 9 2)))) ∷ (line (thing.Queued (h 6 1) (h 3 4)) (Some (cause.Manual))) ∷ (line (thing.Owned (h 7 1)) None) ∷ (line (thing.Owned (h 8 1)) None) ∷ (line (thing.Deferred (h 9 2)) (Some (cause.ScopeHeld))) ∷ []
+
+abbrev pub flush_of_what_runs_plan : Plan
+flush_of_what_runs_plan = record {
+  cpus = 1;
+  limit = 100;
+  objects = 16;
+  names = (codes "driver") ∷ (codes "req") ∷ (codes "W") ∷ (codes "D") ∷ (codes "M") ∷ (codes "Q") ∷ (codes "A") ∷ [];
+  declared = (declared.Driver)
+      ∷ (declared.Device (record { name = 3; working = true; scope = scope.Unscoped; level = level.Passive }))
+      ∷ (declared.Queue (record { name = 4; device = record { 0 = 2 }; dispatch = dispatch.Manual; serves = record { rest = false; read = false; write = true; control = false }; powered = true; zero = false; scope = scope.Unscoped; level = level.Passive }))
+      ∷ (declared.Queue (record { name = 5; device = record { 0 = 2 }; dispatch = dispatch.Sequential; serves = record { rest = false; read = true; write = false; control = false }; powered = true; zero = false; scope = scope.Unscoped; level = level.Passive }))
+      ∷ [];
+  classes = (class.Deferred 2 deferred.WorkItem (record { 0 = 2 }) false 0) ∷ [];
+  registers = [];
+  whens = [];
+  pnp = [];
+  agents = (record { name = 6; posts = (at 24 0 (post.Write (h 2 3) 1)) ∷ (at 25 0 (post.Read (h 2 3) 1)) ∷ [] })
+      ∷ (record { name = 3; posts = [] })
+      ∷ [];
+  exprs = (node.Object (h 3 4)) ∷ (node.Variable 0) ∷ (node.Variable 0) ∷ [];
+  scripts = (record {
+    callback = callback.EvtWorkItem;
+    owner = declared.OfClass 0;
+    line = 5;
+    statements = s 6 1 (act.Call call.WdfIoQueueDrainSynchronously None (arg.Expression 0) arg.NoArgument arg.NoArgument)
+        ∷ [];
+  })
+      ∷ (record {
+        callback = callback.EvtIoRead;
+        owner = declared.Queue (record { name = 5; device = record { 0 = 2 }; dispatch = dispatch.Sequential; serves = record { rest = false; read = true; write = false; control = false }; powered = true; zero = false; scope = scope.Unscoped; level = level.Passive });
+        line = 16;
+        statements = s 17 1 (act.Call call.WdfWorkItemCreate (Some 0) (arg.OfClass 0) arg.NoArgument arg.NoArgument)
+            ∷ s 18 2 (act.Call call.WdfWorkItemEnqueue None (arg.Expression 1) arg.NoArgument arg.NoArgument)
+            ∷ s 19 3 (act.Call call.WdfWorkItemFlush None (arg.Expression 2) arg.NoArgument arg.NoArgument)
+            ∷ [];
+      })
+      ∷ [];
+  picks = [];
+}
+
+abbrev pub flush_of_what_runs_events : List Event
+flush_of_what_runs_events = event.Posted 1 (post.Write (h 2 3) 1) (Some (h 5 1))
+    ∷ event.Posted 1 (post.Read (h 2 3) 1) (Some (h 6 1))
+    ∷ event.Start (p 0) callback.EvtIoRead (h 4 5) (Some (h 6 1))
+    ∷ event.Did (p 0) (c call.WdfWorkItemCreate 1 (Class 0) (Val (Num 0)) (Val (Num 0))) (Obj (h 7 2))
+    ∷ event.Did (p 0) (c call.WdfWorkItemEnqueue 1 (Val (Obj (h 7 2))) (Val (Num 0)) (Val (Num 0))) (Stat status.Success)
+    ∷ event.Waiting (p 0) (c call.WdfWorkItemFlush 1 (Val (Obj (h 7 2))) (Val (Num 0)) (Val (Num 0)))
+    ∷ event.Park (p 0) (f 3)
+    ∷ event.Start (p 0) callback.EvtWorkItem (h 7 2) None
+    ∷ event.Waiting (p 0) (c call.WdfIoQueueDrainSynchronously 1 (Val (Obj (h 3 4))) (Val (Num 0)) (Val (Num 0)))
+    ∷ event.Park (p 0) (f 8)
+    ∷ []
+
+abbrev pub flush_of_what_runs_waits : List WaitLine
+flush_of_what_runs_waits = (line (thing.Waiting (f 3) callback.EvtIoRead (h 4 5)) (Some (cause.ByFrame (f 8)))) ∷ (line (thing.Waiting (f 8) callback.EvtWorkItem (h 7 2)) (Some (cause.ByRequest (h 5 1)))) ∷ (line (thing.Queued (h 5 1) (h 3 4)) (Some (cause.Manual))) ∷ (line (thing.Owned (h 6 1)) None) ∷ []
+
+abbrev pub full_and_behind_plan : Plan
+full_and_behind_plan = record {
+  cpus = 1;
+  limit = 100;
+  objects = 16;
+  names = (codes "driver") ∷ (codes "req") ∷ (codes "D") ∷ (codes "Q") ∷ (codes "A") ∷ [];
+  declared = (declared.Driver)
+      ∷ (declared.Device (record { name = 2; working = true; scope = scope.Unscoped; level = level.Dispatch }))
+      ∷ (declared.Queue (record { name = 3; device = record { 0 = 2 }; dispatch = dispatch.Sequential; serves = record { rest = true; read = false; write = false; control = false }; powered = true; zero = false; scope = scope.Unscoped; level = level.Dispatch }))
+      ∷ [];
+  classes = [];
+  registers = [];
+  whens = [];
+  pnp = [];
+  agents = (record { name = 4; posts = (at 12 0 (post.Read (h 2 2) 1)) ∷ (at 13 0 (post.Read (h 2 2) 1)) ∷ (at 14 0 (post.Read (h 2 2) 1)) ∷ [] })
+      ∷ (record { name = 2; posts = [] })
+      ∷ [];
+  exprs = [];
+  scripts = (record {
+    callback = callback.EvtIoRead;
+    owner = declared.Queue (record { name = 3; device = record { 0 = 2 }; dispatch = dispatch.Sequential; serves = record { rest = true; read = false; write = false; control = false }; powered = true; zero = false; scope = scope.Unscoped; level = level.Dispatch });
+    line = 7;
+    statements = [];
+  })
+      ∷ [];
+  picks = [];
+}
+
+abbrev pub full_and_behind_events : List Event
+full_and_behind_events = event.Posted 1 (post.Read (h 2 2) 1) (Some (h 4 1))
+    ∷ event.Start (p 0) callback.EvtIoRead (h 3 3) (Some (h 4 1))
+    ∷ event.End (p 0) callback.EvtIoRead (h 3 3) (Stat status.Success)
+    ∷ event.Posted 1 (post.Read (h 2 2) 1) (Some (h 5 1))
+    ∷ event.Posted 1 (post.Read (h 2 2) 1) (Some (h 6 1))
+    ∷ []
+
+abbrev pub full_and_behind_waits : List WaitLine
+full_and_behind_waits = (line (thing.Owned (h 4 1)) None) ∷ (line (thing.Queued (h 5 1) (h 3 3)) (Some (cause.Full))) ∷ (line (thing.Queued (h 6 1) (h 3 3)) (Some (cause.Behind (h 5 1)))) ∷ []
+
+abbrev pub stopped_plan : Plan
+stopped_plan = record {
+  cpus = 1;
+  limit = 100;
+  objects = 16;
+  names = (codes "driver") ∷ (codes "req") ∷ (codes "D") ∷ (codes "Q") ∷ (codes "A") ∷ [];
+  declared = (declared.Driver)
+      ∷ (declared.Device (record { name = 2; working = true; scope = scope.Unscoped; level = level.Dispatch }))
+      ∷ (declared.Queue (record { name = 3; device = record { 0 = 2 }; dispatch = dispatch.Sequential; serves = record { rest = true; read = false; write = false; control = false }; powered = true; zero = false; scope = scope.Unscoped; level = level.Dispatch }))
+      ∷ [];
+  classes = [];
+  registers = [];
+  whens = [];
+  pnp = [];
+  agents = (record { name = 4; posts = (at 14 0 (post.Read (h 2 2) 1)) ∷ (at 15 1 (post.Read (h 2 2) 1)) ∷ [] })
+      ∷ (record { name = 2; posts = [] })
+      ∷ [];
+  exprs = (node.Context context.OwnObject) ∷ (node.Context context.OwnRequest) ∷ (node.Literal status.Success) ∷ [];
+  scripts = (record {
+    callback = callback.EvtIoRead;
+    owner = declared.Queue (record { name = 3; device = record { 0 = 2 }; dispatch = dispatch.Sequential; serves = record { rest = true; read = false; write = false; control = false }; powered = true; zero = false; scope = scope.Unscoped; level = level.Dispatch });
+    line = 7;
+    statements = s 8 1 (act.Call call.WdfIoQueueStop None (arg.Expression 0) arg.NoArgument arg.NoArgument)
+        ∷ s 9 2 (act.Call call.WdfRequestComplete None (arg.Expression 1) (arg.Expression 2) arg.NoArgument)
+        ∷ [];
+  })
+      ∷ [];
+  picks = [];
+}
+
+abbrev pub stopped_events : List Event
+stopped_events = event.Posted 1 (post.Read (h 2 2) 1) (Some (h 4 1))
+    ∷ event.Start (p 0) callback.EvtIoRead (h 3 3) (Some (h 4 1))
+    ∷ event.Did (p 0) (c call.WdfIoQueueStop 1 (Val (Obj (h 3 3))) (Val (Num 0)) (Val (Num 0))) (Stat status.Success)
+    ∷ event.Did (p 0) (c call.WdfRequestComplete 2 (Val (Obj (h 4 1))) (Val (Stat status.Success)) (Val (Num 0))) (Stat status.Success)
+    ∷ event.End (p 0) callback.EvtIoRead (h 3 3) (Stat status.Success)
+    ∷ event.Cleanup (h 4 1)
+    ∷ event.Destroy (h 4 1)
+    ∷ event.Tick 1
+    ∷ event.Posted 1 (post.Read (h 2 2) 1) (Some (h 5 1))
+    ∷ []
+
+abbrev pub stopped_waits : List WaitLine
+stopped_waits = (line (thing.Queued (h 5 1) (h 3 3)) (Some (cause.Stopped))) ∷ []
+
+abbrev pub unpowered_and_manual_plan : Plan
+unpowered_and_manual_plan = record {
+  cpus = 1;
+  limit = 100;
+  objects = 16;
+  names = (codes "driver") ∷ (codes "req") ∷ (codes "D") ∷ (codes "Q") ∷ (codes "M") ∷ (codes "A") ∷ [];
+  declared = (declared.Driver)
+      ∷ (declared.Device (record { name = 2; working = false; scope = scope.Unscoped; level = level.Dispatch }))
+      ∷ (declared.Queue (record { name = 3; device = record { 0 = 2 }; dispatch = dispatch.Sequential; serves = record { rest = true; read = false; write = false; control = false }; powered = true; zero = false; scope = scope.Unscoped; level = level.Dispatch }))
+      ∷ (declared.Queue (record { name = 4; device = record { 0 = 2 }; dispatch = dispatch.Manual; serves = record { rest = false; read = false; write = true; control = false }; powered = false; zero = false; scope = scope.Unscoped; level = level.Dispatch }))
+      ∷ [];
+  classes = [];
+  registers = [];
+  whens = [];
+  pnp = [];
+  agents = (record { name = 5; posts = (at 17 0 (post.Read (h 2 2) 1)) ∷ (at 18 0 (post.Write (h 2 2) 1)) ∷ [] })
+      ∷ (record { name = 2; posts = [] })
+      ∷ [];
+  exprs = (node.Context context.OwnRequest) ∷ (node.Literal status.Success) ∷ [];
+  scripts = (record {
+    callback = callback.EvtIoRead;
+    owner = declared.Queue (record { name = 3; device = record { 0 = 2 }; dispatch = dispatch.Sequential; serves = record { rest = true; read = false; write = false; control = false }; powered = true; zero = false; scope = scope.Unscoped; level = level.Dispatch });
+    line = 7;
+    statements = s 8 1 (act.Call call.WdfRequestComplete None (arg.Expression 0) (arg.Expression 1) arg.NoArgument)
+        ∷ [];
+  })
+      ∷ [];
+  picks = [];
+}
+
+abbrev pub unpowered_and_manual_events : List Event
+unpowered_and_manual_events = event.Posted 1 (post.Read (h 2 2) 1) (Some (h 5 1))
+    ∷ event.Posted 1 (post.Write (h 2 2) 1) (Some (h 6 1))
+    ∷ []
+
+abbrev pub unpowered_and_manual_waits : List WaitLine
+unpowered_and_manual_waits = (line (thing.Queued (h 5 1) (h 3 3)) (Some (cause.Unpowered))) ∷ (line (thing.Queued (h 6 1) (h 4 4)) (Some (cause.Manual))) ∷ []

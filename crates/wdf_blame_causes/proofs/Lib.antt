@@ -1,0 +1,10 @@
+pub mod Apt
+pub mod AptCalls
+pub mod AptEvents
+pub mod Parked
+pub mod Taken
+pub mod Presents
+pub mod Dpcs
+pub mod Steps
+pub mod Lines
+pub mod Works

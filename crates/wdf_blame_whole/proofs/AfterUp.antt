@@ -1,0 +1,263 @@
+-- The line of a device whose next step comes right after `queues_up` always has a cause: a resume could start, or the step.
+use Rattle.std.proofs.Common.{if◌then◌else◌, ◌≡◌, ◌≢◌, inl, inr, ℕ, suc, ◌+◌, ◌==◌, ◌<◌, Bool, true, false, not, ◌&&◌, ◌||◌, nat_lt, List, [], ◌∷◌, Option, Some, None, is_some, length, map, refl, sym, ap, subst, ◌∙◌, arith}
+use Rattle.std.specs.Prelude.{option_and_then}
+use Rattle.std.specs.List.{flat_map, list_any}
+use Rattle.std.proofs.lemmas.Bool.{cases_Bool, eqb-true}
+use Rattle.wdf_base.specs.Meaning.{Meaning}
+use Rattle.wdf_base.specs.Callbacks.{row_of}
+use Rattle.wdf_base.specs.Plan.{declared_of}
+use Rattle.wdf_base.specs.Same.{same_callback, same_handle, same_kind, same_option, same_stage, same_step}
+use Rattle.wdf_base.specs.declared.plan.Plan.{Plan}
+use Rattle.wdf_base.specs.declared.ids.Handle.{Handle}
+use Rattle.wdf_base.specs.declared.declared.Declared.TheVariants as declared
+use Rattle.wdf_base.specs.declared.object.Kind.TheVariants as kind
+use Rattle.wdf_base.specs.declared.object.LockRef.{LockRef}
+use Rattle.wdf_base.specs.declared.object.Place.{Place}
+use Rattle.wdf_base.specs.declared.object.Place.TheVariants as place
+use Rattle.wdf_base.specs.declared.call.Callback.{Callback}
+use Rattle.wdf_base.specs.declared.call.Callback.TheVariants as callback
+use Rattle.wdf_base.specs.declared.rank.Rank.{Rank}
+use Rattle.wdf_base.specs.declared.rank.Rank.TheVariants as rank
+use Rattle.wdf_base.specs.declared.event.Event.{Event}
+use Rattle.wdf_base.specs.declared.event.Event.TheVariants as event
+use Rattle.wdf_base.specs.declared.event.Stage.TheVariants as stage
+use Rattle.wdf_base.specs.declared.event.Step.{Step}
+use Rattle.wdf_base.specs.declared.event.Step.TheVariants as step
+use Rattle.wdf_base.specs.declared.wait.Cause.TheVariants as cause
+use Rattle.wdf_model.specs.declared.enums.Group.TheVariants as group
+use Rattle.wdf_model.specs.declared.entries.Holding.{Holding}
+use Rattle.wdf_model.specs.declared.entries.Request.{Request}
+use Rattle.wdf_model.specs.Tables.{entry, ids_of, same_id}
+use Rattle.wdf_model.specs.Plans.{as_queue, callback_irql, declared_ids, declares, device_of, device_of_queue, is_managed, is_queue_of, managed_queues, queue_level, queue_of, queues_of, script_on}
+use Rattle.wdf_model.specs.parts.Tree.{is_live, kind_of, life_of, made_as, nearest_device, node_of}
+use Rattle.wdf_model.specs.parts.Cpus.{all_frames, frame_of, is_running}
+use Rattle.wdf_model.specs.parts.Locks.{is_free_if_any, lock_of_callback, scope_of}
+use Rattle.wdf_model.specs.parts.Power.{any_resume_due, holding_of, is_held, is_held_at, no_holding, queue_power, resume_due}
+use Rattle.wdf_model.specs.parts.Pnp.{follows_queues_up, follows_up, is_running_step, next_step, sequence_of}
+use Rattle.wdf_model.specs.parts.Requests.{is_done, no_request, origin_of, place_of}
+use Rattle.wdf_model.specs.parts.Targets.{is_forgotten}
+use Rattle.wdf_model.specs.State.{State, declared_in, declares_in, handle_in, held_at, held_from, is_held_from, is_proper, is_with_driver}
+use Rattle.wdf_model.specs.laws.Agreement.{is_sequence, managed_origin}
+use Rattle.wdf_model.specs.rules.Groups.{candidate, candidates, declared_end, groups_of_rank, queues_in, RANKS, start_of_step, starts, starts_for}
+use Rattle.wdf_model.specs.rules.Starts.{interrupt_of_step, is_ready_for, level_fits, life_fits, may_pass, may_start, rank_ready, resumes_over, stage_ready, step_of, step_ready}
+use Rattle.wdf_model.specs.rules.Steps.{may}
+use Rattle.wdf_model.specs.rules.Waits.{by_frame, cause_if, first_cause, frames_where, holders_of, no_cpu, number_of, object_of_step, queues_to_resume, resume_cpus, resume_frames, resumes_at, resumes_cause, runs_step, scope_holders, step_cause}
+use Rattle.wdf_model.proofs.Tests.{both, both_left, both_right, itself, second}
+use Rattle.wdf_model.proofs.Sames.{callback_decides, handle_decides, kind_decides}
+use Rattle.wdf_invariants.proofs.Holding.{HoldsIn, holder}
+use Rattle.wdf_invariants.proofs.HeldOverRuns.{from_by}
+use Rattle.wdf_invariants.proofs.StillFrames.{live_there}
+use Rattle.wdf_agreements.proofs.Lists.{inside}
+use Rattle.wdf_blame.proofs.Members.{Has, has_flat, has_range}
+use Rattle.wdf_blame.proofs.Endings.{AtRest, may_not}
+use Rattle.wdf_blame.proofs.Needs.{below_cpus, cpu_group, five, framework_group, free_one, front_none, no_count, none_first, none_if, none_least, placed_at, proper_start}
+use Rattle.wdf_blame_causes.specs.Starts.{has_callback, step_may_run}
+use Rattle.wdf_blame_causes.proofs.Dpcs.{free_by_none}
+use Rattle.wdf_blame_causes.proofs.Presents.{declared_within, kept_has, queue_there}
+use Rattle.wdf_queue_power_laws.proofs.Resuming.{device_noted, noted}
+use Rattle.wdf_blame_whole.specs.Standing.{is_live_device, is_part, is_part_of}
+use Rattle.wdf_blame_whole.proofs.Standing.{Stands}
+use Rattle.wdf_blame_whole.proofs.Coming.{Facts}
+use Rattle.wdf_blame_whole.proofs.Queues.{queue_is}
+use Rattle.wdf_blame_whole.proofs.Resumes.{Resumable}
+
+-- ---- lists
+
+none_gathered : {T : Type 0} (f : ℕ → List T) (x : ℕ) (xs : List ℕ) → Has x xs → flat_map f xs ≡ [] → f x ≡ []
+none_gathered f x [] h e = absurd h
+none_gathered f x (y ∷ ys) (inl s) e = ap f s ∙ (front_none (f y) (flat_map f ys) e).0
+none_gathered f x (y ∷ ys) (inr h) e = none_gathered f x ys h (front_none (f y) (flat_map f ys) e).1
+
+neither : (a b : Bool) → (a || b) ≡ false → (a ≡ false) × (b ≡ false)
+neither true b h = absurd (let z : ⊥ = cc in z)
+neither false b h = (refl, h)
+
+none_any : (p : ℕ → Bool) (x : ℕ) (xs : List ℕ) → Has x xs → list_any p xs ≡ false → p x ≡ false
+none_any p x [] h e = absurd h
+none_any p x (y ∷ ys) (inl s) e = ap p s ∙ (neither (p y) (list_any p ys) e).0
+none_any p x (y ∷ ys) (inr h) e = none_any p x ys h (neither (p y) (list_any p ys) e).1
+
+has_image : {T U : Type 0} (f : T → U) (x : T) (xs : List T) → Has x xs → Has (f x) (map f xs)
+has_image f x [] h = h
+has_image f x (y ∷ ys) (inl e) = inl (ap f e)
+has_image f x (y ∷ ys) (inr h) = inr (has_image f x ys h)
+
+not_empty : (x : ℕ) (xs : List ℕ) → Has x xs → nat_lt 0 (length xs) ≡ true
+not_empty x [] h = absurd h
+not_empty x (y ∷ ys) h = below_cpus 0 (suc (length ys)) (omega arith)
+
+any_place_by : {T : Type 0} (blank : T) (p : T → Bool) (x : T) (xs : List T) (b : Bool) → p x ≡ b → list_any p (x ∷ xs) ≡ true → (list_any p xs ≡ true → (k : ℕ) × (p (entry blank xs k) ≡ true)) → (k : ℕ) × (p (entry blank (x ∷ xs) k) ≡ true)
+any_place_by blank p x xs true e h rest = (0, e)
+any_place_by blank p x xs false e h rest = let more = rest (rw e at h) in (suc more.0, more.1)
+
+any_place : {T : Type 0} (blank : T) (p : T → Bool) (xs : List T) → list_any p xs ≡ true → (k : ℕ) × (p (entry blank xs k) ≡ true)
+any_place blank p [] h = absurd (let z : ⊥ = cc in z)
+any_place blank p (x ∷ xs) h = any_place_by blank p x xs (p x) refl h (any_place blank p xs)
+
+-- ---- a step that waits for no resume
+
+handle_itself : (i : Option Handle) → same_option same_handle i i ≡ true
+handle_itself None = refl
+handle_itself (Some h) = (handle_decides h h).1 refl
+
+lives : {A : Type 0} (S : State A) (c : Callback) (o : ℕ) → is_sequence (row_of c).rank ≡ true → is_live (life_of S.tree o) ≡ true → life_fits S c o ≡ true
+lives S callback.EvtCleanupCallback o is h = absurd (let z : ⊥ = cc in z)
+lives S callback.EvtDestroyCallback o is h = absurd (let z : ⊥ = cc in z)
+lives S _ o is h = h
+
+sequence_is : (k : Rank) → is_sequence k ≡ true → k ≡ rank.Sequence
+sequence_is rank.Sequence h = refl
+sequence_is _ h = absurd (let z : ⊥ = cc in z)
+
+begins_at : {A : Type 0} (plan : Plan) (S : State A) (cpu d : ℕ) (c : Callback) (i : Option Handle) → start_of_step plan S cpu d (step.Run c i) ≡ Some (starts plan S cpu c (object_of_step d i))
+begins_at plan S cpu d c None = refl
+begins_at plan S cpu d c (Some i) = refl
+
+same_interrupt : (a b : Option Handle) → same_option same_handle a b ≡ true → a ≡ b
+same_interrupt None None e = refl
+same_interrupt (Some x) (Some y) e = ap Some ((handle_decides x y).0 e)
+same_interrupt None (Some y) e = absurd (let z : ⊥ = cc in z)
+same_interrupt (Some x) None e = absurd (let z : ⊥ = cc in z)
+
+three : (a b c : Bool) → a ≡ true → b ≡ true → c ≡ true → (a && b && c) ≡ true
+three a b c h k l = both (a && b) c (both a b h k) l
+
+module _ {A : Type 0} (plan : Plan) (m : Meaning A) (S : State A) (rest : AtRest plan m S true) (d : ℕ) (low : d < declared_end plan) (calm : not (is_running_step S.pnp d) ≡ true) where
+  ready_by : (s : Step) → same_step s s ≡ true → next_step S.pnp d ≡ Some s → resumes_over S d ≡ true → step_ready S d s ≡ true
+  ready_by s same next over =
+      three (same_option same_step (next_step S.pnp d) (Some s)) (not (is_running_step S.pnp d)) (not (follows_queues_up S.pnp d) || resumes_over S d) (rw next same) calm (second (not (follows_queues_up S.pnp d)) (resumes_over S d) over)
+
+  stage_comes : (i : Option Handle) → next_step S.pnp d ≡ Some (step.Pass stage.Working i) → resumes_over S d ≡ true → ⊥
+  stage_comes i next over =
+      let e0 : Event = event.Stage (handle_in plan S d) stage.Working i in
+      let here : candidate plan m S group.Stages d ≡ Some e0 = rw next refl in
+      let offered : Has e0 (candidates plan m S) = framework_group plan m S group.Stages e0 (inl refl) (placed_at plan m S group.Stages (declared_end plan) d e0 low here) in
+      let no_ : may plan m S e0 ≡ false = may_not plan m S true e0 rest offered in
+      let same : same_step (step.Pass stage.Working i) (step.Pass stage.Working i) ≡ true = both (same_stage stage.Working stage.Working) (same_option same_handle i i) refl (handle_itself i) in
+      let yes_ : may plan m S e0 ≡ true =
+      both (is_proper plan S (handle_in plan S d)) (may_pass plan S d stage.Working i) (itself (handle_in plan S d).name)
+      (both (step_ready S d (step.Pass stage.Working i)) (stage_ready plan S d stage.Working i) (ready_by (step.Pass stage.Working i) same next over) refl) in
+      let z : ⊥ = cc in z
+
+  callback_comes : (c : Callback) (i : Option Handle) → next_step S.pnp d ≡ Some (step.Run c i) → resumes_over S d ≡ true → step_may_run plan S d (step.Run c i) ≡ true → step_cause plan S d (step.Run c i) ≡ None → ⊥
+  callback_comes c i next over may_be h =
+      let o : ℕ = object_of_step d i in
+      let lock : Option LockRef = lock_of_callback plan c o (declared_in plan S o) in
+      let one = none_first (by_frame (holders_of S lock)) (cause_if (no_cpu plan S (callback_irql plan c o)) cause.NoCpu ∷ []) h in
+      let two = none_first (cause_if (no_cpu plan S (callback_irql plan c o)) cause.NoCpu) [] one.1 in
+      let free : is_free_if_any S.locks lock ≡ true = free_by_none S lock (none_least (λ f. cause.ByFrame (number_of f)) (holders_of S lock) one.0) in
+      let left = free_one (λ cpu. level_fits S cpu (callback_irql plan c o)) 0 plan.cpus (none_if (no_cpu plan S (callback_irql plan c o)) cause.NoCpu two.0) in
+      let cpu : ℕ = left.0 in
+      let under : cpu < 0 + plan.cpus = left.1 in
+      let within : cpu < plan.cpus = omega arith in
+      let e : Event = starts plan S cpu c o in
+      let same : same_option same_handle (interrupt_of_step plan S o) i ≡ true = both_right (has_callback plan S c o && is_sequence (row_of c).rank && nearest_device S.tree o == d) (same_option same_handle (interrupt_of_step plan S o) i) may_be in
+      let before : (has_callback plan S c o && is_sequence (row_of c).rank && nearest_device S.tree o == d) ≡ true = both_left (has_callback plan S c o && is_sequence (row_of c).rank && nearest_device S.tree o == d) (same_option same_handle (interrupt_of_step plan S o) i) may_be in
+      let near : nearest_device S.tree o ≡ d = eqb-true (nearest_device S.tree o) d (both_right (has_callback plan S c o && is_sequence (row_of c).rank) (nearest_device S.tree o == d) before) in
+      let run : (has_callback plan S c o && is_sequence (row_of c).rank) ≡ true = both_left (has_callback plan S c o && is_sequence (row_of c).rank) (nearest_device S.tree o == d) before in
+      let is : is_sequence (row_of c).rank ≡ true = both_right (has_callback plan S c o) (is_sequence (row_of c).rank) run in
+      let can : has_callback plan S c o ≡ true = both_left (has_callback plan S c o) (is_sequence (row_of c).rank) run in
+      let live : is_live (life_of S.tree o) ≡ true = both_left (is_live (life_of S.tree o)) (declares_in plan S c o) can in
+      let has : declares_in plan S c o ≡ true = both_right (is_live (life_of S.tree o)) (declares_in plan S c o) can in
+      let next_is : step_of plan S c o ≡ step.Run c i = ap (step.Run c) (same_interrupt (interrupt_of_step plan S o) i same) in
+      let ready_at : step_ready S d (step.Run c i) ≡ true = ready_by (step.Run c i) (both (same_callback c c) (same_option same_handle i i) ((callback_decides c c).1 refl) (handle_itself i)) next over in
+      let ready : step_ready S (nearest_device S.tree o) (step_of plan S c o) ≡ true = ap (λ x. step_ready S x (step_of plan S c o)) near ∙ ap (step_ready S d) next_is ∙ ready_at in
+      let ranked : is_ready_for plan m S cpu c o None ≡ true = ap (λ k. rank_ready plan m S k cpu c o) (sequence_is (row_of c).rank is) ∙ ready in
+      let at : option_and_then (start_of_step plan S cpu d) (next_step S.pnp d) ≡ Some e = ap (option_and_then (start_of_step plan S cpu d)) next ∙ begins_at plan S cpu d c i in
+      let offered : Has e (candidates plan m S) =
+      cpu_group plan m S cpu (group.Starts cpu rank.Sequence) e within
+      (inr (inr (inr (has_flat (groups_of_rank plan cpu) rank.Sequence (group.Starts cpu rank.Sequence) RANKS (inr (inr (inr (inr (inr (inr (inr (inr (inr (inr (inl refl))))))))))) (inl refl)))))
+      (placed_at plan m S (group.Starts cpu rank.Sequence) (declared_end plan) d e low at) in
+      let no_ : may plan m S e ≡ false = may_not plan m S true e rest offered in
+      let comes : may plan m S e ≡ true =
+      proper_start (nat_lt cpu plan.cpus) (is_proper plan S (handle_in plan S o)) true (may_start plan m S cpu c o None) (below_cpus cpu plan.cpus within) (itself (handle_in plan S o).name) refl
+      (five (declares_in plan S c o) (life_fits S c o) (level_fits S cpu (callback_irql plan c o)) (is_free_if_any S.locks lock) (is_ready_for plan m S cpu c o None)
+      has (lives S c o is live) left.2 free ranked) in
+      let z : ⊥ = cc in z
+
+  -- the step right after `queues_up`
+  step_comes : (s : Step) → next_step S.pnp d ≡ Some s → follows_up (sequence_of S.pnp d) (Some s) ≡ true → resumes_over S d ≡ true → step_may_run plan S d s ≡ true → step_cause plan S d s ≡ None → ⊥
+  step_comes (step.Run c i) next after over may_be none = callback_comes c i next over may_be none
+  step_comes (step.Pass stage.Working i) next after over may_be none = stage_comes i next over
+  step_comes (step.Pass _ i) next after over may_be none = let z : ⊥ = cc in z
+
+-- ---- a resume that is due
+
+managed_by : (plan : Plan) (o : Option ℕ) (q : ℕ) → managed_origin plan o ≡ q → nat_lt 0 q ≡ true → (is_managed plan q ≡ true) × (same_id o q ≡ true)
+managed_by plan None q e h = absurd (let off : nat_lt 0 q ≡ false = ap (nat_lt 0) (sym e) in let z : ⊥ = cc in z)
+managed_by plan (Some p) q e h = by (is_managed plan p) refl
+  where
+    by : (b : Bool) → is_managed plan p ≡ b → (is_managed plan q ≡ true) × (same_id (Some p) q ≡ true)
+    by true k = let same : p ≡ q = (let t : (if is_managed plan p then p else 0) ≡ q = e in rw k at t) in (subst (λ y. is_managed plan y ≡ true) same k, ap (λ y. y == q) same ∙ itself q)
+    by false k = absurd (let z_ : 0 ≡ q = (let t : (if is_managed plan p then p else 0) ≡ q = e in rw k at t) in let off : nat_lt 0 q ≡ false = ap (nat_lt 0) (sym z_) in let z : ⊥ = cc in z)
+
+held_undone : (forgotten : Bool) (p : Place) → held_at forgotten p ≡ true → not (is_done p) ≡ true
+held_undone forgotten place.Done h = absurd (let z : ⊥ = cc in z)
+held_undone forgotten _ h = refl
+
+module _ {A : Type 0} (plan : Plan) (m : Meaning A) (S : State A) (rest : AtRest plan m S true) (facts : Facts plan S) (k : Stands plan S) (resumable : Resumable plan S) (holds : HoldsIn plan S) (d : ℕ) (dev : is_live_device plan S d ≡ true) where
+  resume_comes : scope_holders plan S (queues_to_resume plan S d) ≡ [] → resume_cpus plan S d ≡ false → (r : ℕ) → is_held_at S.power d (holding_of S.power r) ≡ true → resume_due S.power r ≡ true → ⊥
+  resume_comes unheld cpus r held due =
+      let q : ℕ = noted S.power r in
+      let h : Holding = holding_of S.power r in
+      let there : is_held h ≡ true = both_left (is_held h) ((queue_power S.power q).device.0 == d) held in
+      let at : device_of_queue plan q ≡ d = sym (device_noted plan S.power q resumable.queues) ∙ eqb-true (queue_power S.power q).device.0 d (both_right (is_held h) ((queue_power S.power q).device.0 == d) held) in
+      let from = managed_by plan (holder S.requests S.targets r) q (sym (holds.holdings r)) there in
+      let held_ : is_held_from S q r ≡ true = from_by (is_with_driver S r) (origin_of S.requests r) q ∙ from.1 in
+      let has : declares plan callback.EvtIoResume q ≡ true = resumable.due r (both (is_held h) (resume_due S.power r) there due) in
+      let is : is_some (device_of plan d) ≡ true = both_left (is_some (device_of plan d)) (is_live (life_of S.tree d)) dev in
+      let up : is_live (life_of S.tree d) ≡ true = both_right (is_some (device_of plan d)) (is_live (life_of S.tree d)) dev in
+      let no_zero : d ≢ 0 = λ z_. (let off : is_some (device_of plan d) ≡ false = ap (λ y. is_some (device_of plan y)) z_ in let z : ⊥ = cc in z) in
+      let i = queue_is plan q d (declared_of plan q) refl at no_zero in
+      let part : is_part_of plan d q ≡ true = both (is_part d (declared_of plan q)) (is_some (device_of plan d)) (ap (is_part d) i.1 ∙ (ap (λ y. y == d) i.2 ∙ itself d)) is in
+      let live : is_live (life_of S.tree q) ≡ true = k.parts d q part up in
+      let kind_ : kind_of S.tree q ≡ kind.Queue = (facts.declared q (declared.Queue i.0) i.1 (live_there (life_of S.tree q) live)).1 in
+      let is_queue : same_kind (kind_of S.tree q) kind.Queue ≡ true = (kind_decides (kind_of S.tree q) kind.Queue).1 kind_ in
+      let told : declared_in plan S q ≡ declared_of plan q = ap (made_as plan (node_of S.tree q) q) kind_ in
+      let runs : declares_in plan S callback.EvtIoResume q ≡ true = ap (λ y. is_some (script_on plan callback.EvtIoResume y)) told ∙ has in
+      let inside_ : q < declared_end plan = declared_within plan q (ap is_some i.1) in
+      let ids : Has q (declared_ids plan) = has_range q 0 (declared_end plan) (omega arith) (omega arith) in
+      let its : Has q (queues_of plan d) = kept_has (λ y. is_queue_of d (queue_of plan y)) q (declared_ids plan) ids (ap (λ o. is_queue_of d (as_queue o)) i.1 ∙ (ap (λ y. y == d) i.2 ∙ itself d)) in
+      let managed : Has q (managed_queues plan d) = kept_has (is_managed plan) q (queues_of plan d) its from.0 in
+      let low : r < length S.requests.all = inside no_request (λ (e : Request). not (is_done e.place)) S.requests.all r refl (held_undone (is_forgotten S.targets r) (place_of S.requests r) (both_right (same_id (origin_of S.requests r) q) (is_with_driver S r) held_)) in
+      let all : Has r (ids_of S.requests.all) = has_range r 0 (length S.requests.all) (omega arith) (omega arith) in
+      let holding_ : Has r (held_from S q) = kept_has (is_held_from S q) r (ids_of S.requests.all) all held_ in
+      let resuming : Has r (resumes_at plan S q) = kept_has (resume_due S.power) r (held_from S q) holding_ due in
+      let there_q : Has q (queues_to_resume plan S d) = kept_has (λ y. nat_lt 0 (length (resumes_at plan S y))) q (managed_queues plan d) managed (not_empty r (resumes_at plan S q) resuming) in
+      let lock : Option LockRef = scope_of plan callback.EvtIoResume q (declared_in plan S q) in
+      let free : is_free_if_any S.locks lock ≡ true = free_by_none S lock (none_gathered (λ y. holders_of S (scope_of plan callback.EvtIoResume y (declared_in plan S y))) q (queues_to_resume plan S d) there_q unheld) in
+      let left = free_one (λ cpu. level_fits S cpu (queue_level plan q)) 0 plan.cpus (none_any (λ y. no_cpu plan S (queue_level plan y)) q (queues_to_resume plan S d) there_q cpus) in
+      let under : left.0 < 0 + plan.cpus = left.1 in
+      let within : left.0 < plan.cpus = omega arith in
+      let e : Event = starts_for plan S left.0 callback.EvtIoResume q r in
+      let offered : Has e (candidates plan m S) =
+      cpu_group plan m S left.0 (group.StartsFor left.0 rank.Resume q) e within
+      (inr (inr (inr (has_flat (groups_of_rank plan left.0) rank.Resume (group.StartsFor left.0 rank.Resume q) RANKS (inr (inr (inr (inr (inr (inr (inr (inl refl)))))))) (has_image (λ o. group.StartsFor left.0 rank.Resume o) q (queues_in plan) (queue_there plan S q facts.known.known.declared is_queue))))))
+      (rw has (placed_at plan m S (group.StartsFor left.0 rank.Resume q) (length S.requests.all) r e low refl)) in
+      let no_ : may plan m S e ≡ false = may_not plan m S true e rest offered in
+      let comes : may plan m S e ≡ true =
+      proper_start (nat_lt left.0 plan.cpus) (is_proper plan S (handle_in plan S q)) (is_proper plan S (handle_in plan S r)) (may_start plan m S left.0 callback.EvtIoResume q (Some (handle_in plan S r)))
+      (below_cpus left.0 plan.cpus within) (itself (handle_in plan S q).name) (itself (handle_in plan S r).name)
+      (five (declares_in plan S callback.EvtIoResume q) (is_live (life_of S.tree q)) (level_fits S left.0 (queue_level plan q)) (is_free_if_any S.locks lock) (resume_due S.power r && is_held_from S q r)
+      runs live left.2 free (both (resume_due S.power r) (is_held_from S q r) due held_)) in
+      let z : ⊥ = cc in z
+
+  pub after_up_waits : d < declared_end plan → not (is_running_step S.pnp d) ≡ true → (s : Step) → next_step S.pnp d ≡ Some s → follows_queues_up S.pnp d ≡ true → step_may_run plan S d s ≡ true → first_cause (resumes_cause plan S d ∷ step_cause plan S d s ∷ []) ≡ None → ⊥
+  after_up_waits low calm s next after may_be none =
+      let parts = none_first (resumes_cause plan S d) (step_cause plan S d s ∷ []) none in
+      let resumes : first_cause (by_frame (resume_frames plan S d) ∷ cause_if (resume_cpus plan S d) cause.NoCpu ∷ []) ≡ None = (let t : resumes_cause plan S d ≡ None = parts.0 in rw after at t) in
+      let one = none_first (by_frame (resume_frames plan S d)) (cause_if (resume_cpus plan S d) cause.NoCpu ∷ []) resumes in
+      let two = none_first (cause_if (resume_cpus plan S d) cause.NoCpu) [] one.1 in
+      let fs : resume_frames plan S d ≡ [] = none_least (λ f. cause.ByFrame (number_of f)) (resume_frames plan S d) one.0 in
+      let lists = front_none (frames_where S (runs_step d callback.EvtIoResume)) (scope_holders plan S (queues_to_resume plan S d)) fs in
+      let cpus : resume_cpus plan S d ≡ false = none_if (resume_cpus plan S d) cause.NoCpu two.0 in
+      let over : is_running S.cpus callback.EvtIoResume d ≡ false = no_count (λ f. runs_step d callback.EvtIoResume (frame_of S.cpus f)) (all_frames S.cpus) lists.0 in
+      let last : step_cause plan S d s ≡ None = (none_first (step_cause plan S d s) [] parts.1).0 in
+      elim (cases_Bool (any_resume_due S.power d)) as (λ _. ⊥) [
+        | inl due ↦
+            let r = any_place no_holding (λ (h : Holding). is_held_at S.power d h && h.resume_due) S.power.holdings due in
+            resume_comes lists.1 cpus r.0 (both_left (is_held_at S.power d (holding_of S.power r.0)) (resume_due S.power r.0) r.1) (both_right (is_held_at S.power d (holding_of S.power r.0)) (resume_due S.power r.0) r.1)
+        | inr none_due ↦
+            step_comes plan m S rest d low calm s next (ap (follows_up (sequence_of S.pnp d)) (sym next) ∙ after)
+            (both (not (any_resume_due S.power d)) (not (is_running S.cpus callback.EvtIoResume d)) (ap not none_due) (ap not over)) may_be last
+      ]

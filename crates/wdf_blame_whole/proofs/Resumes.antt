@@ -1,0 +1,168 @@
+-- A resume is due only for a request that is held from a queue with EvtIoResume, at each place of every run.
+use Rattle.std.proofs.Common.{if◌then◌else◌, ◌≡◌, ℕ, zero, suc, ◌+◌, ◌≤◌, Bool, true, false, ◌&&◌, List, [], ◌∷◌, None, fold, length, map, take, refl, sym, ap, subst, ◌∙◌, arith}
+use Rattle.std.specs.List.{range_with_len}
+use Rattle.std.proofs.lemmas.Option.{slice_get_past}
+use Rattle.wdf_base.specs.Meaning.{Meaning}
+use Rattle.wdf_base.specs.Plan.{declared_of}
+use Rattle.wdf_base.specs.declared.plan.Plan.{Plan}
+use Rattle.wdf_base.specs.declared.call.Callback.TheVariants as callback
+use Rattle.wdf_base.specs.declared.event.Event.{Event}
+use Rattle.wdf_base.specs.declared.event.Stage.{Stage}
+use Rattle.wdf_base.specs.declared.event.Stage.TheVariants as stage
+use Rattle.wdf_base.specs.declared.event.Step.TheVariants as step
+use Rattle.wdf_base.specs.declared.object.Place.{Place}
+use Rattle.wdf_base.specs.declared.object.Place.TheVariants as place
+use Rattle.wdf_base.specs.declared.object.RequestInfo.{RequestInfo}
+use Rattle.wdf_model.specs.declared.enums.Mode.TheVariants as mode
+use Rattle.wdf_model.specs.declared.entries.Holding.{Holding}
+use Rattle.wdf_model.specs.declared.entries.QueuePower.{QueuePower}
+use Rattle.wdf_model.specs.Tables.{entry}
+use Rattle.wdf_model.specs.Plans.{declares, is_managed, managed_queues, queues_of}
+use Rattle.wdf_model.specs.parts.Tree.{subtree}
+use Rattle.wdf_model.specs.parts.Requests as requests
+use Rattle.wdf_model.specs.parts.Queues.{waiting_in}
+use Rattle.wdf_model.specs.parts.Control as control
+use Rattle.wdf_model.specs.parts.Power.{Power, advance_stage, holding_of, is_held, is_held_at, no_holding, no_queue_power, opening_power, opening_queue_power, queue_power, with_up, woken}
+use Rattle.wdf_model.specs.parts.Power as power
+use Rattle.wdf_model.specs.State.{State, is_with_driver}
+use Rattle.wdf_model.specs.rules.Deeds.{Deed, Arrive, Ask_deletion, Present, Receive, Requeue, Forward, Give_back, Send_request, Complete_request, Purge_queue, Close_returning, Close_device, Advance_power, arrive_at, close_queue, close_returning, do_deed, give_up, give_up_if, withdraw}
+use Rattle.wdf_model.specs.rules.Ready.{IsRunOf, state_after}
+use Rattle.wdf_model.proofs.Maps.{entry_map}
+use Rattle.wdf_model.proofs.Tests.{both_right}
+use Rattle.wdf_agreements.proofs.SoundRuns.{sound_place}
+use Rattle.wdf_agreements.proofs.Stays.{asks_all}
+use Rattle.wdf_queue_power_laws.proofs.Resuming.{is_advance, is_resuming, none_more_by, noted}
+
+-- ---- what power notes of queues stays
+
+held_by : (P : Power) (r q : ℕ) (b : Bool) → (if b then power.held_more P r q else P).queues ≡ P.queues
+held_by P r q true = refl
+held_by P r q false = refl
+
+released_by : (P : Power) (r : ℕ) (b : Bool) → (if b then power.held_less P r else P).queues ≡ P.queues
+released_by P r true = refl
+released_by P r false = refl
+
+given_by : {A : Type 0} (S U : State A) (b : Bool) → U.power.queues ≡ S.power.queues → (if b then U else S).power.queues ≡ S.power.queues
+given_by S U true h = h
+given_by S U false h = refl
+
+given : {A : Type 0} (S : State A) (r : ℕ) → (give_up S r).power.queues ≡ S.power.queues
+given S r = given_by S _ (is_with_driver S r) (released_by S.power r (is_held (holding_of S.power r)))
+
+given_if : {A : Type 0} (S : State A) (forget : Bool) (r : ℕ) → (give_up_if forget S r).power.queues ≡ S.power.queues
+given_if S true r = given S r
+given_if S false r = refl
+
+withdrawn : {A : Type 0} (plan : Plan) (q : ℕ) (rs : List ℕ) (S : State A) → (fold (withdraw plan q) S rs).power ≡ S.power
+withdrawn plan q [] S = refl
+withdrawn plan q (r ∷ rs) S = withdrawn plan q rs (withdraw plan q S r)
+
+returned : {A : Type 0} (qs : List ℕ) (S : State A) → (fold close_returning S qs).power ≡ S.power
+returned [] S = refl
+returned (q ∷ qs) S = returned qs (close_returning S q)
+
+closed : {A : Type 0} (qs : List ℕ) (S : State A) → (fold close_queue S qs).power ≡ S.power
+closed [] S = refl
+closed (q ∷ qs) S = closed qs (close_queue S q)
+
+arrived : {A : Type 0} (S : State A) (device : ℕ) (info : RequestInfo) (p : Place) → (arrive_at S device info p).power ≡ S.power
+arrived S device info (place.Queued q) = refl
+arrived S device info _ = refl
+
+advanced : (P : Power) (d : ℕ) (s : Stage) → (advance_stage P d s).queues ≡ P.queues
+advanced P d stage.Hardware = refl
+advanced P d stage.NoHardware = refl
+advanced P d stage.QueuesUp = refl
+advanced P d stage.QueuesDown = refl
+advanced P d _ = refl
+
+abbrev power_of : {A : Type 0} → State A → Power
+power_of S = S.power
+
+still_noted : {A : Type 0} (plan : Plan) (d : Deed) (S : State A) → (do_deed plan d S).power.queues ≡ S.power.queues
+still_noted plan (Present q r) S = held_by S.power r q (is_managed plan q)
+still_noted plan (Receive q r) S = held_by S.power r q (is_managed plan q)
+still_noted plan (Requeue r q) S = given S r
+still_noted plan (Forward r q) S = given S r
+still_noted plan (Give_back r q) S = given S r
+still_noted plan (Send_request r t forget) S = given_if S forget r
+still_noted plan (Complete_request r) S =
+    ap (λ (P : Power). P.queues) (asks_all power_of (λ S T D W U. refl) (subtree (give_up S r).tree r) (record (give_up S r) { requests = requests.complete S.requests r })) ∙ given S r
+still_noted plan (Arrive device info p) S = ap (λ (P : Power). P.queues) (arrived S device info p)
+still_noted plan (Ask_deletion o) S = ap (λ (P : Power). P.queues) (asks_all power_of (λ S T D W U. refl) (subtree S.tree o) S)
+still_noted plan (Purge_queue q) S = ap (λ (P : Power). P.queues) (withdrawn plan q (waiting_in S.queues q) (record S { control = control.set_mode S.control q mode.Purged }))
+still_noted plan (Close_returning d) S = ap (λ (P : Power). P.queues) (returned (managed_queues plan d) S)
+still_noted plan (Close_device d) S = ap (λ (P : Power). P.queues) (closed (queues_of plan d) (record S { control = control.shut S.control d }))
+still_noted plan (Advance_power d (step.Run c i)) S = refl
+still_noted plan (Advance_power d (step.Pass s i)) S = advanced S.power d s
+still_noted plan _ S = refl
+
+-- ---- power notes of each queue whether it has EvtIoResume
+
+of_range : {T : Type 0} (blank : T) (f : ℕ → T) (a n k : ℕ) → ((x : ℕ) → a + n ≤ x → f x ≡ blank) → entry blank (map f (range_with_len a n)) k ≡ f (a + k)
+of_range blank f a zero k past = sym (past (a + k) (omega arith))
+of_range blank f a (suc n) zero past = let e : a ≡ a + 0 = omega arith in ap f e
+of_range blank f a (suc n) (suc k) past = let e : (a + 1) + k ≡ a + suc k = omega arith in of_range blank f (a + 1) n k (λ x h. past x (omega arith)) ∙ ap f e
+
+undeclared : (plan : Plan) (q : ℕ) → suc (length plan.declared) ≤ q → declared_of plan q ≡ None
+undeclared plan zero h = absurd (omega arith)
+undeclared plan (suc k) h = slice_get_past plan.declared k (omega arith)
+
+blank_queue : (plan : Plan) (q : ℕ) → declared_of plan q ≡ None → opening_queue_power plan q ≡ no_queue_power
+blank_queue plan q e = rw e refl
+
+resumes_noted : (plan : Plan) (P : Power) (q : ℕ) → P.queues ≡ (opening_power plan).queues → (queue_power P q).resumes ≡ declares plan callback.EvtIoResume q
+resumes_noted plan P q same =
+    let e : 0 + q ≡ q = omega arith in
+    ap (λ qs. (entry no_queue_power qs q).resumes) same
+    ∙ ap (λ (y : QueuePower). y.resumes) (of_range no_queue_power (opening_queue_power plan) 0 (suc (length plan.declared)) q (λ x h. blank_queue plan x (undeclared plan x (omega arith))))
+    ∙ ap (declares plan callback.EvtIoResume) e
+
+-- ---- the property
+
+pub record Resumable {A : Type 0} (plan : Plan) (S : State A) : Type 0 where
+  pub queues : S.power.queues ≡ (opening_power plan).queues
+  pub due : (x : ℕ) → is_resuming (holding_of S.power x) ≡ true → declares plan callback.EvtIoResume (noted S.power x) ≡ true
+
+woken_by : (plan : Plan) (P : Power) (d : ℕ) (h : Holding) (b : Bool) → P.queues ≡ (opening_power plan).queues → is_held_at (with_up P d true) d h ≡ b → (is_resuming h ≡ true → declares plan callback.EvtIoResume h.queue.0 ≡ true)
+    → is_resuming (woken (with_up P d true) d h) ≡ true → declares plan callback.EvtIoResume (woken (with_up P d true) d h).queue.0 ≡ true
+woken_by plan P d h true same e old due =
+    let t : (is_held h && (queue_power (with_up P d true) h.queue.0).resumes) ≡ true = rw e at due in
+    let is : (queue_power P h.queue.0).resumes ≡ true = both_right (is_held h) (queue_power (with_up P d true) h.queue.0).resumes t in
+    let has : declares plan callback.EvtIoResume h.queue.0 ≡ true = sym (resumes_noted plan P h.queue.0 same) ∙ is in
+    rw e has
+woken_by plan P d h false same e old due =
+    let t : is_resuming h ≡ true = rw e at due in
+    rw e (old t)
+
+up_due : (plan : Plan) (P : Power) (d x : ℕ) → P.queues ≡ (opening_power plan).queues → ((y : ℕ) → is_resuming (holding_of P y) ≡ true → declares plan callback.EvtIoResume (noted P y) ≡ true)
+    → is_resuming (holding_of (advance_stage P d stage.QueuesUp) x) ≡ true → declares plan callback.EvtIoResume (noted (advance_stage P d stage.QueuesUp) x) ≡ true
+up_due plan P d x same old due =
+    let U : Power = with_up P d true in
+    let e : holding_of (advance_stage P d stage.QueuesUp) x ≡ woken U d (holding_of P x) = entry_map no_holding P.holdings (woken U d) x refl in
+    subst (λ (h : Holding). declares plan callback.EvtIoResume h.queue.0 ≡ true) (sym e)
+    (woken_by plan P d (holding_of P x) (is_held_at U d (holding_of P x)) same refl (old x) (sym (ap is_resuming e) ∙ due))
+
+stage_due : (plan : Plan) (P : Power) (d : ℕ) (s : Stage) (x : ℕ) → P.queues ≡ (opening_power plan).queues → ((y : ℕ) → is_resuming (holding_of P y) ≡ true → declares plan callback.EvtIoResume (noted P y) ≡ true)
+    → is_resuming (holding_of (advance_stage P d s) x) ≡ true → declares plan callback.EvtIoResume (noted (advance_stage P d s) x) ≡ true
+stage_due plan P d stage.QueuesUp x same old due = up_due plan P d x same old due
+stage_due plan P d stage.Hardware x same old due = old x due
+stage_due plan P d stage.NoHardware x same old due = old x due
+stage_due plan P d stage.QueuesDown x same old due = old x due
+stage_due plan P d _ x same old due = old x due
+
+others_due : {A : Type 0} (plan : Plan) (d : Deed) (S : State A) → is_advance d ≡ false → Resumable plan S → (x : ℕ) → is_resuming (holding_of (do_deed plan d S).power x) ≡ true → declares plan callback.EvtIoResume (noted (do_deed plan d S).power x) ≡ true
+others_due plan d S none k x due = let old = none_more_by plan d S none x due in ap (declares plan callback.EvtIoResume) old.1 ∙ k.due x old.0
+
+due_by : {A : Type 0} (plan : Plan) (d : Deed) (S : State A) → Resumable plan S → (x : ℕ) → is_resuming (holding_of (do_deed plan d S).power x) ≡ true → declares plan callback.EvtIoResume (noted (do_deed plan d S).power x) ≡ true
+due_by plan (Advance_power d (step.Run c i)) S k x due = k.due x due
+due_by plan (Advance_power d (step.Pass s i)) S k x due = stage_due plan S.power d s x k.queues k.due due
+due_by plan d S k x due = others_due plan d S refl k x due
+
+resumable_by : {A : Type 0} (plan : Plan) (d : Deed) (S : State A) → Resumable plan S → Resumable plan (do_deed plan d S)
+resumable_by plan d S k = record { queues = still_noted plan d S ∙ k.queues; due = due_by plan d S k }
+
+pub resumable_at_each : {A : Type 0} (plan : Plan) (m : Meaning A) (run : List Event) → IsRunOf plan m run → (n : ℕ) → Resumable plan (state_after plan m (take n run))
+resumable_at_each {A} plan m run is_run n = sound_place plan m (λ (S : State A). Resumable plan S) (record { queues = refl; due = λ x h. absurd (let z : ⊥ = cc in z) })
+    (λ d S f s k. resumable_by plan d S k) (λ e S k. record { queues = k.queues; due = k.due }) run is_run n

@@ -1,0 +1,6 @@
+//! Tests of the checker of the laws of a trace: it finds nothing in the events of the worked runs, and the first broken law
+//! where one is broken.
+#![tactic(auto)]
+
+#[cfg(test)]
+mod tests;

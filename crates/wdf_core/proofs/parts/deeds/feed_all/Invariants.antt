@@ -1,6 +1,0 @@
--- The agents before the index were told, and the others stand as they were.
-use Rattle.std.proofs.Common.{◌≡◌, ◌++◌, map, take, drop}
-use Rattle.wdf_core.proofs.parts.deeds.feed_all.Given as goal
-
-abbrev pub invariant-loop-agent : goal.invariant-loop-agent
-invariant-loop-agent g l = l.agents ≡ map (λ a. g.A.Agent.meaning.fold a l.event) (take l.agent-index l.initial.agents) ++ drop l.agent-index l.initial.agents

@@ -1,0 +1,27 @@
+//! The generated scenario: a large valid input, of which a number picks the reads.
+#![tactic(auto)]
+
+ghost use Rattle.std.specs.Prelude.{◌≡◌, IfOk};
+ghost use Rattle.wdf_gen.specs.Generated.{generated};
+
+mod reads;
+mod writer;
+
+use crate::writer::Writer;
+use std::alloc::Global;
+use wdf_base::{Memory, Name};
+use wdf_scene::Scene;
+
+/// The scene that `n` gives: two devices, and 2,900 reads from them by the words of the seed `n`. Its
+/// lines have the numbers of its canonical text. An error is want of memory.
+pub fn generate(alloc: Global, n: u64) -> Result<Scene, Memory>
+    ensures { IfOk result (λ scene. scene ≡ generated n) }
+{
+    let mut writer = Writer::new(alloc);
+    writer.add_head()?;
+    writer.add_app(Name::new(b"A0"), 0, n)?;
+    writer.add_app(Name::new(b"A1"), 1, n)?;
+    writer.add_app(Name::new(b"A2"), 2, n)?;
+    writer.add_app(Name::new(b"A3"), 3, n)?;
+    Ok(writer.finish())
+}

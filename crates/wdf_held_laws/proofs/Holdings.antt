@@ -1,0 +1,144 @@
+-- From which power-managed queue the driver holds a request, as power notes it: what leaves that as it is, and what the
+-- deeds do that take a request from a queue or give it up.
+use Rattle.std.proofs.Common.{◌≡◌, ◌≢◌, ℕ, Bool, true, false, not, List, [], ◌∷◌, fold, refl, sym, ap, subst, ◌∙◌}
+use Rattle.std.specs.List.{list_all}
+use Rattle.wdf_base.specs.declared.plan.Plan.{Plan}
+use Rattle.wdf_base.specs.declared.object.Place.{Place}
+use Rattle.wdf_base.specs.declared.object.Place.TheVariants as place
+use Rattle.wdf_base.specs.declared.object.RequestInfo.{RequestInfo}
+use Rattle.wdf_base.specs.declared.event.Stage.{Stage}
+use Rattle.wdf_base.specs.declared.event.Stage.TheVariants as stage
+use Rattle.wdf_base.specs.declared.event.Step.{Step}
+use Rattle.wdf_base.specs.declared.event.Step.TheVariants as step
+use Rattle.wdf_model.specs.declared.enums.Mode.TheVariants as mode
+use Rattle.wdf_model.specs.declared.entries.Holding.{Holding}
+use Rattle.wdf_model.specs.Plans.{managed_queues, queues_of}
+use Rattle.wdf_model.specs.parts.Tree.{subtree}
+use Rattle.wdf_model.specs.parts.Queues.{waiting_in}
+use Rattle.wdf_model.specs.parts.Control as control
+use Rattle.wdf_model.specs.parts.Requests as requests
+use Rattle.wdf_model.specs.parts.Power.{Power, advance_stage, holding_of, is_held_at, wake_holdings, with_up, woken}
+use Rattle.wdf_model.specs.parts.Power as power
+use Rattle.wdf_model.specs.State.{State}
+use Rattle.wdf_model.specs.rules.Deeds.{Deed, Arrive, Ask_deletion, Acknowledge, Advance_power, Ask_stop, Close_device, Close_returning, Complete_request, Forward, Give_back, Present, Purge_queue, Receive, Requeue, Resume, Send_request, arrive_at, close_queue, close_returning, do_deed, do_deeds, give_up, withdraw}
+use Rattle.wdf_model.proofs.Tests.{both_left, both_right, not_true}
+use Rattle.wdf_model.proofs.Maps.{entry_map}
+use Rattle.wdf_agreements.proofs.Stays.{asks_all}
+use Rattle.wdf_invariants.proofs.Holding.{HoldsIn}
+use Rattle.wdf_invariants.proofs.Releases.{Notes, gives_up, holding_elsewhere, holding_here, same_holding}
+
+-- the queue that is noted for a request, 0 for none
+abbrev pub noted : Power → ℕ → ℕ
+noted P r = (holding_of P r).queue.0
+
+-- the notes stay
+abbrev pub NotesStay : Power → Power → Type 0
+NotesStay P O = (x : ℕ) → noted O x ≡ noted P x
+
+abbrev pub power_of : {A : Type 0} → State A → Power
+power_of S = S.power
+
+pub notes_same : (P O : Power) → O ≡ P → NotesStay P O
+notes_same P O e x = ap (λ (Q : Power). noted Q x) e
+
+-- ---- deeds that leave the notes
+
+woken_by : (P : Power) (d : ℕ) (h : Holding) (b : Bool) → is_held_at P d h ≡ b → (woken P d h).queue.0 ≡ h.queue.0
+woken_by P d h true e = rw e refl
+woken_by P d h false e = rw e refl
+
+woken_notes : (P : Power) (d : ℕ) → NotesStay P (wake_holdings P d)
+woken_notes P d x = ap (λ (h : Holding). h.queue.0) (entry_map power.no_holding P.holdings (woken P d) x refl) ∙ woken_by P d (holding_of P x) (is_held_at P d (holding_of P x)) refl
+
+stage_notes : (P : Power) (d : ℕ) (s : Stage) → NotesStay P (advance_stage P d s)
+stage_notes P d stage.Hardware x = refl
+stage_notes P d stage.NoHardware x = refl
+stage_notes P d stage.QueuesUp x = woken_notes (with_up P d true) d x
+stage_notes P d stage.QueuesDown x = refl
+stage_notes P d _ x = refl
+
+step_notes : (P : Power) (d : ℕ) (s : Step) → NotesStay P (power.advance P d s)
+step_notes P d (step.Run c i) x = refl
+step_notes P d (step.Pass s i) x = stage_notes P d s x
+
+pub withdrawn_power : {A : Type 0} (plan : Plan) (q : ℕ) (rs : List ℕ) (S : State A) → (fold (withdraw plan q) S rs).power ≡ S.power
+withdrawn_power plan q [] S = refl
+withdrawn_power plan q (r ∷ rs) S = withdrawn_power plan q rs (withdraw plan q S r)
+
+pub returning_power : {A : Type 0} (qs : List ℕ) (S : State A) → (fold close_returning S qs).power ≡ S.power
+returning_power [] S = refl
+returning_power (q ∷ qs) S = returning_power qs (close_returning S q)
+
+pub closed_power : {A : Type 0} (qs : List ℕ) (S : State A) → (fold close_queue S qs).power ≡ S.power
+closed_power [] S = refl
+closed_power (q ∷ qs) S = closed_power qs (close_queue S q)
+
+pub arrived_power : {A : Type 0} (S : State A) (device : ℕ) (info : RequestInfo) (p : Place) → (arrive_at S device info p).power ≡ S.power
+arrived_power S device info (place.Queued q) = refl
+arrived_power S device info _ = refl
+
+-- a deed that takes a request from a queue, gives one up, or acknowledges one
+abbrev pub is_holding : Deed → Bool
+is_holding (Present q r) = true
+is_holding (Receive q r) = true
+is_holding (Requeue r q) = true
+is_holding (Forward r q) = true
+is_holding (Give_back r q) = true
+is_holding (Send_request r t forget) = forget
+is_holding (Complete_request r) = true
+is_holding (Acknowledge r) = true
+is_holding _ = false
+
+pub deed_notes : {A : Type 0} (plan : Plan) (d : Deed) (S : State A) → is_holding d ≡ false → NotesStay S.power (do_deed plan d S).power
+deed_notes plan (Present q r) S h = absurd (let z : ⊥ = cc in z)
+deed_notes plan (Receive q r) S h = absurd (let z : ⊥ = cc in z)
+deed_notes plan (Requeue r q) S h = absurd (let z : ⊥ = cc in z)
+deed_notes plan (Forward r q) S h = absurd (let z : ⊥ = cc in z)
+deed_notes plan (Give_back r q) S h = absurd (let z : ⊥ = cc in z)
+deed_notes plan (Complete_request r) S h = absurd (let z : ⊥ = cc in z)
+deed_notes plan (Send_request r t true) S h = absurd (let z : ⊥ = cc in z)
+deed_notes plan (Send_request r t false) S h = λ x. refl
+deed_notes plan (Arrive device info p) S h = notes_same _ _ (arrived_power S device info p)
+deed_notes plan (Ask_deletion o) S h = notes_same _ _ (asks_all power_of (λ S T D W U. refl) (subtree S.tree o) S)
+deed_notes plan (Purge_queue q) S h = notes_same _ _ (withdrawn_power plan q (waiting_in S.queues q) (record S { control = control.set_mode S.control q mode.Purged }))
+deed_notes plan (Close_returning d) S h = notes_same _ _ (returning_power (managed_queues plan d) S)
+deed_notes plan (Close_device d) S h = notes_same _ _ (closed_power (queues_of plan d) (record S { control = control.shut S.control d }))
+deed_notes plan (Advance_power d s) S h = step_notes S.power d s
+deed_notes plan (Acknowledge r) S h = absurd (let z : ⊥ = cc in z)
+deed_notes plan (Ask_stop r) S h = λ x. same_holding S.power r x (λ y. record y { stop_asked = true }) (λ y. refl)
+deed_notes plan (Resume r) S h = λ x. same_holding S.power r x (λ y. record y { resume_due = false }) (λ y. refl)
+deed_notes plan _ S h = λ x. refl
+
+abbrev pub none_holds : List Deed → Bool
+none_holds ds = list_all (λ d. not (is_holding d)) ds
+
+pub deeds_note : {A : Type 0} (plan : Plan) (ds : List Deed) (S : State A) → none_holds ds ≡ true → NotesStay S.power (do_deeds plan ds S).power
+deeds_note plan [] S h x = refl
+deeds_note plan (d ∷ ds) S h x =
+    deeds_note plan ds (do_deed plan d S) (both_right (not (is_holding d)) (none_holds ds) h) x
+    ∙ deed_notes plan d S (not_true (is_holding d) (both_left (not (is_holding d)) (none_holds ds) h)) x
+
+pub acknowledged_notes : (P : Power) (r : ℕ) → NotesStay P (power.acknowledge P r)
+acknowledged_notes P r x = same_holding P r x (λ y. record y { acknowledged = true }) (λ y. refl)
+
+-- ---- deeds that change them
+
+-- the note of one request changes
+pub record NotesChange (P O : Power) (r n : ℕ) : Type 0 where
+  pub here : noted O r ≡ n
+  pub others : (x : ℕ) → x ≢ r → noted O x ≡ noted P x
+
+pub taken_notes : (P : Power) (q r : ℕ) → NotesChange P (power.held_more P r q) r q
+taken_notes P q r = record {
+  here = ap (λ (h : Holding). h.queue.0) (holding_here P r (λ _. record { queue = record { 0 = q }; acknowledged = false; stop_asked = false; resume_due = false }));
+  others = λ x n. ap (λ (h : Holding). h.queue.0) (holding_elsewhere P r x (λ _. record { queue = record { 0 = q }; acknowledged = false; stop_asked = false; resume_due = false }) n);
+}
+
+pub given_notes : {A : Type 0} (plan : Plan) (S : State A) (r : ℕ) → HoldsIn plan S → NotesChange S.power (give_up S r).power r 0
+given_notes plan S r h = let notes : Notes S.power (give_up S r).power r 0 = (gives_up plan S r h).notes in record { here = notes.here; others = notes.others }
+
+pub completed_power : {A : Type 0} (plan : Plan) (S : State A) (r : ℕ) → (do_deed plan (Complete_request r) S).power ≡ (give_up S r).power
+completed_power plan S r = asks_all power_of (λ S T D W U. refl) (subtree (give_up S r).tree r) (record (give_up S r) { requests = requests.complete S.requests r })
+
+pub completed_notes : {A : Type 0} (plan : Plan) (S : State A) (r : ℕ) → HoldsIn plan S → NotesChange S.power (do_deed plan (Complete_request r) S).power r 0
+completed_notes plan S r h = subst (λ (O : Power). NotesChange S.power O r 0) (sym (completed_power plan S r)) (given_notes plan S r h)

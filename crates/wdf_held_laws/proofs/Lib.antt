@@ -1,0 +1,7 @@
+pub mod Holdings
+pub mod HeldAsTold
+pub mod HeldByCalls
+pub mod HoldingsOverRuns
+pub mod Settled
+pub mod StillAcked
+pub mod AckedAsTold

@@ -1,0 +1,2 @@
+mod Upwards
+mod Numbers

@@ -1,0 +1,164 @@
+-- Walks over ids: the deletion of a subtree, and what is done to the queues of a device.
+use Rattle.std.proofs.Common.{if◌then◌else◌, ◌==◌, ◌||◌, Bool, true, false, ◌≡◌, ℕ, zero, suc, ◌+◌, ◌<◌, ◌≤◌, List, [], ◌∷◌, ◌++◌, length, filter, find, fold, map, count_by, Some, None, refl, ap, sym, ◌∙◌, arith, append-nil, eq-eqb, ◌&&◌}
+use Rattle.std.specs.Prelude.{nat_lt}
+use Rattle.std.specs.List.{range_with_len}
+use Rattle.std.proofs.lemmas.List.Elements.{filter-append}
+use Rattle.std.proofs.lemmas.List.Sums.{fold-append}
+use Rattle.wdf_base.specs.declared.plan.Plan.{Plan}
+use Rattle.wdf_model.specs.Tables.{entry, first_of_list, without}
+use Rattle.wdf_model.specs.parts.Queues.{front, waiting_in}
+use Rattle.wdf_model.specs.parts.Tree.{Tree, ask_one, is_below, is_live, life_of, subtree}
+use Rattle.wdf_model.specs.parts.Deferred.Dpcs as dpcs
+use Rattle.wdf_model.specs.parts.Deferred.WorkItems as work_items
+use Rattle.wdf_model.specs.parts.Deferred.Timers as timers
+use Rattle.wdf_model.specs.State.{State}
+use Rattle.wdf_model.specs.rules.Deeds.{ask_object, ask_objects, withdraw}
+use Rattle.wdf_model.proofs.Counts.{count_no, count_yes}
+use Rattle.wdf_model.proofs.Deletion.{object_off}
+use Rattle.wdf_tree.proofs.Walks.{subtree_asked, walk_begins, walk_goes_on}
+
+first_of : {T : Type 0} (b : Bool) (x y : T) → b ≡ true → (if b then x else y) ≡ x
+first_of true x y e = refl
+first_of false x y e = absurd (let z : ⊥ = cc in z)
+
+asked_tree : {A : Type 0} (S : State A) (x : ℕ) → is_live (life_of S.tree x) ≡ true → (ask_object S x).tree ≡ ask_one S.tree x
+asked_tree {A} S x e =
+    ap (λ (T : State A). T.tree) (first_of (is_live (life_of S.tree x))
+    (record S { tree = ask_one S.tree x; dpcs = dpcs.cancel S.dpcs x; work_items = work_items.cancel S.work_items x; timers = timers.stop S.timers x }) S e)
+
+-- the subtree stays where the deletion of one object is asked
+subtree_kept_by : {A : Type 0} (S : State A) (o x : ℕ) (b : Bool) → is_live (life_of S.tree x) ≡ b → x < length S.tree.nodes → subtree (ask_object S x).tree o ≡ subtree S.tree o
+subtree_kept_by S o x true e h = ap (λ (T : Tree). subtree T o) (asked_tree S x e) ∙ subtree_asked S.tree o x h
+subtree_kept_by S o x false e h = rw e refl
+
+pub asks_begin : {A : Type 0} (S : State A) (o : ℕ) → is_live (life_of S.tree 0) ≡ false → fold ask_object S (filter (nat_lt 0) (subtree S.tree o)) ≡ ask_objects S o
+asks_begin S o off = walk_begins ask_object S (λ x. x == o || is_below S.tree o x) (length S.tree.nodes) (object_off S 0 off)
+
+pub asks_go_on : {A : Type 0} (S : State A) (o a x : ℕ) → find (nat_lt a) (subtree S.tree o) ≡ Some x → x < length S.tree.nodes
+    → fold ask_object S (filter (nat_lt a) (subtree S.tree o)) ≡ fold ask_object (ask_object S x) (filter (nat_lt x) (subtree (ask_object S x).tree o))
+asks_go_on S o a x e h =
+    ap (fold ask_object S) (walk_goes_on a (λ y. y == o || is_below S.tree o y) 0 (length S.tree.nodes) x e)
+    ∙ ap (λ xs. fold ask_object (ask_object S x) (filter (nat_lt x) xs)) (sym (subtree_kept_by S o x (is_live (life_of S.tree x)) refl h))
+
+-- ---- loops over the ids of what is declared
+
+range_more : (a n : ℕ) → range_with_len a (suc n) ≡ range_with_len a n ++ (a + n) ∷ []
+range_more a zero = let e : a + 0 ≡ a = omega arith in rw e refl
+range_more a (suc n) = let e : a + 1 + n ≡ a + suc n = omega arith in ap (λ xs. a ∷ xs) (range_more (a + 1) n ∙ ap (λ x. range_with_len (a + 1) n ++ x ∷ []) e)
+
+range_zero : (n : ℕ) → range_with_len 0 (suc n) ≡ range_with_len 0 n ++ n ∷ []
+range_zero n = let e : 0 + n ≡ n = omega arith in range_more 0 n ∙ ap (λ x. range_with_len 0 n ++ x ∷ []) e
+
+last_kept : (p : ℕ → Bool) (xs : List ℕ) (x : ℕ) → p x ≡ true → filter p (xs ++ x ∷ []) ≡ filter p xs ++ x ∷ []
+last_kept p xs x e = filter-append p xs (x ∷ []) ∙ rw e refl
+
+last_dropped : (p : ℕ → Bool) (xs : List ℕ) (x : ℕ) → p x ≡ false → filter p (xs ++ x ∷ []) ≡ filter p xs
+last_dropped p xs x e = filter-append p xs (x ∷ []) ∙ rw e (append-nil (filter p xs))
+
+-- one id more passes the test, and is folded in
+pub fold_kept : {S : Type 0} (f : S → ℕ → S) (s : S) (p : ℕ → Bool) (n : ℕ) → p n ≡ true → fold f s (filter p (range_with_len 0 (n + 1))) ≡ f (fold f s (filter p (range_with_len 0 n))) n
+fold_kept f s p n e =
+    let a : n + 1 ≡ suc n = omega arith in
+    rw a (ap (λ xs. fold f s (filter p xs)) (range_zero n) ∙ ap (fold f s) (last_kept p (range_with_len 0 n) n e) ∙ fold-append f s (filter p (range_with_len 0 n)) (n ∷ []))
+
+-- one id more fails it, and is passed over
+pub fold_passed : {S : Type 0} (f : S → ℕ → S) (s : S) (p : ℕ → Bool) (n : ℕ) → p n ≡ false → fold f s (filter p (range_with_len 0 (n + 1))) ≡ fold f s (filter p (range_with_len 0 n))
+fold_passed f s p n e =
+    let a : n + 1 ≡ suc n = omega arith in
+    rw a (ap (λ xs. fold f s (filter p xs)) (range_zero n) ∙ ap (fold f s) (last_dropped p (range_with_len 0 n) n e))
+
+-- two tests in turn are both at once
+twice_by : (p q : ℕ → Bool) (x : ℕ) (xs : List ℕ) (b : Bool) → p x ≡ b → filter q (filter p xs) ≡ filter (λ y. p y && q y) xs → filter q (filter p (x ∷ xs)) ≡ filter (λ y. p y && q y) (x ∷ xs)
+twice_by p q x xs true e rest = rw e (kept_by (q x) refl)
+  where
+    kept_by : (d : Bool) → q x ≡ d → filter q (x ∷ filter p xs) ≡ (if q x then x ∷ filter (λ y. p y && q y) xs else filter (λ y. p y && q y) xs)
+    kept_by true f = rw f (ap (λ ys. x ∷ ys) rest)
+    kept_by false f = rw f rest
+twice_by p q x xs false e rest = rw e rest
+
+both_at_once : (p q : ℕ → Bool) (xs : List ℕ) → filter q (filter p xs) ≡ filter (λ y. p y && q y) xs
+both_at_once p q [] = refl
+both_at_once p q (x ∷ xs) = twice_by p q x xs (p x) refl (both_at_once p q xs)
+
+pub fold_twice : {S : Type 0} (f : S → ℕ → S) (s : S) (p q : ℕ → Bool) (xs : List ℕ) → fold f s (filter q (filter p xs)) ≡ fold f s (filter (λ y. p y && q y) xs)
+fold_twice f s p q xs = ap (fold f s) (both_at_once p q xs)
+
+-- ---- a purge
+
+without_entry : (r : ℕ) (xs : List (List ℕ)) (q : ℕ) → entry [] (map (without r) xs) q ≡ without r (entry [] xs q)
+without_entry r [] q = refl
+without_entry r (x ∷ xs) zero = refl
+without_entry r (x ∷ xs) (suc q) = without_entry r xs q
+
+is_itself : (r : ℕ) → (r == r) ≡ true
+is_itself r = eq-eqb r r refl
+
+-- what is no longer there leaves nothing out
+left_out_by : (r x : ℕ) (xs : List ℕ) (b : Bool) → (x == r) ≡ b → count_by (λ y. y == r) (x ∷ xs) ≡ 0 → (count_by (λ y. y == r) xs ≡ 0 → without r xs ≡ xs) → without r (x ∷ xs) ≡ x ∷ xs
+left_out_by r x xs true e h rest = absurd (let k = count_yes (λ y. y == r) x xs e in omega arith)
+left_out_by r x xs false e h rest = rw e (ap (λ ys. x ∷ ys) (rest (let k = count_no (λ y. y == r) x xs e in omega arith)))
+
+nothing_left_out : (r : ℕ) (xs : List ℕ) → count_by (λ y. y == r) xs ≡ 0 → without r xs ≡ xs
+nothing_left_out r [] e = refl
+nothing_left_out r (x ∷ xs) e = left_out_by r x xs (x == r) refl e (nothing_left_out r xs)
+
+first_left_out : (r : ℕ) (xs : List ℕ) → count_by (λ y. y == r) (r ∷ xs) ≤ 1 → without r (r ∷ xs) ≡ xs
+first_left_out r xs h =
+    let k = count_yes (λ y. y == r) r xs (is_itself r) in
+    let none : count_by (λ y. y == r) xs ≡ 0 = omega arith in
+    rw (is_itself r) (nothing_left_out r xs none)
+
+fewer_by : (y x : ℕ) (xs ys : List ℕ) (d : Bool) → (x == y) ≡ d → count_by (λ z. z == y) ys ≤ count_by (λ z. z == y) xs → count_by (λ z. z == y) (x ∷ ys) ≤ count_by (λ z. z == y) (x ∷ xs)
+fewer_by y x xs ys true e h = let a = count_yes (λ z. z == y) x xs e in let b = count_yes (λ z. z == y) x ys e in omega arith
+fewer_by y x xs ys false e h = let a = count_no (λ z. z == y) x xs e in let b = count_no (λ z. z == y) x ys e in omega arith
+
+more_by : (y x : ℕ) (xs : List ℕ) (d : Bool) → (x == y) ≡ d → count_by (λ z. z == y) xs ≤ count_by (λ z. z == y) (x ∷ xs)
+more_by y x xs true e = let a = count_yes (λ z. z == y) x xs e in omega arith
+more_by y x xs false e = let a = count_no (λ z. z == y) x xs e in omega arith
+
+fewer_then : (r y x : ℕ) (xs : List ℕ) (b : Bool) → (x == r) ≡ b → count_by (λ z. z == y) (without r xs) ≤ count_by (λ z. z == y) xs → count_by (λ z. z == y) (without r (x ∷ xs)) ≤ count_by (λ z. z == y) (x ∷ xs)
+fewer_then r y x xs true e h = rw e (let more = more_by y x xs (x == y) refl in omega arith)
+fewer_then r y x xs false e h = rw e (fewer_by y x xs (without r xs) (x == y) refl h)
+
+fewer : (r y : ℕ) (xs : List ℕ) → count_by (λ z. z == y) (without r xs) ≤ count_by (λ z. z == y) xs
+fewer r y [] = omega arith
+fewer r y (x ∷ xs) = fewer_then r y x xs (x == r) refl (fewer r y xs)
+
+-- what waits once the front is withdrawn
+module _ {A : Type 0} (plan : Plan) (S : State A) (q r : ℕ) where
+  waiting_then : waiting_in (withdraw plan q S r).queues q ≡ without r (waiting_in S.queues q)
+  waiting_then = without_entry r S.queues.waiting q
+
+  by_front : (xs : List ℕ) → waiting_in S.queues q ≡ xs → first_of_list xs ≡ Some r → count_by (λ x. x == r) (waiting_in S.queues q) ≤ 1
+      → (rest : List ℕ) × (waiting_in S.queues q ≡ r ∷ rest) × (waiting_in (withdraw plan q S r).queues q ≡ rest)
+  by_front [] e h once = absurd (let z : ⊥ = cc in z)
+  by_front (x ∷ xs) e h once =
+      let same : x ≡ r = cc in
+      let is : waiting_in S.queues q ≡ r ∷ xs = e ∙ ap (λ y. y ∷ xs) same in
+      (xs, is, waiting_then ∙ ap (without r) is ∙ first_left_out r xs (rw is at once))
+
+  pub purge_goes_on : front S.queues q ≡ Some r → count_by (λ x. x == r) (waiting_in S.queues q) ≤ 1
+      → fold (withdraw plan q) (withdraw plan q S r) (waiting_in (withdraw plan q S r).queues q) ≡ fold (withdraw plan q) S (waiting_in S.queues q)
+  purge_goes_on h once =
+      let (rest, is, later) = by_front (waiting_in S.queues q) refl h once in
+      ap (fold (withdraw plan q) (withdraw plan q S r)) later ∙ sym (ap (fold (withdraw plan q) S) is)
+
+  pub fewer_wait : front S.queues q ≡ Some r → count_by (λ x. x == r) (waiting_in S.queues q) ≤ 1
+      → length (waiting_in (withdraw plan q S r).queues q) < length (waiting_in S.queues q)
+  fewer_wait h once =
+      let (rest, is, later) = by_front (waiting_in S.queues q) refl h once in
+      rw (is, later) (omega arith)
+
+  pub counted_then : (y : ℕ) → count_by (λ x. x == y) (waiting_in (withdraw plan q S r).queues q) ≤ count_by (λ x. x == y) (waiting_in S.queues q)
+  counted_then y = rw waiting_then (fewer r y (waiting_in S.queues q))
+
+  pub front_waits : front S.queues q ≡ Some r → 1 ≤ count_by (λ x. x == r) (waiting_in S.queues q)
+  front_waits h = by_list (waiting_in S.queues q) h
+    where
+      by_list : (xs : List ℕ) → first_of_list xs ≡ Some r → 1 ≤ count_by (λ x. x == r) xs
+      by_list [] e = absurd (let z : ⊥ = cc in z)
+      by_list (x ∷ xs) e = let same : x ≡ r = cc in let k = count_yes (λ z. z == r) x xs (ap (λ z. z == r) same ∙ is_itself r) in omega arith
+
+pub nothing_waits : (xs : List ℕ) → first_of_list xs ≡ None → xs ≡ []
+nothing_waits [] e = refl
+nothing_waits (x ∷ xs) e = absurd (let z : ⊥ = cc in z)

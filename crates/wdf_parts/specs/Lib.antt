@@ -1,0 +1,3 @@
+pub mod Deed
+pub mod Inside
+pub mod List

@@ -1,0 +1,91 @@
+//! What is done to the queues of a device, or to all that waits in one.
+ghost use Rattle.std.specs.Prelude.{◌≡◌, ◌<◌, ◌&&◌, length, fold, option_map};
+ghost use Rattle.wdf_model.specs.Plans as plans;
+ghost use Rattle.wdf_model.specs.parts.Control as control;
+ghost use Rattle.wdf_model.specs.parts.Queues as queues_of_state;
+ghost use Rattle.wdf_model.specs.rules.Deeds as deeds;
+ghost use Rattle.wdf_room.specs.Room.{MayPurge};
+
+use crate::parts::Parts;
+use wdf_base::{Agent, ObjectId};
+use wdf_model::Mode;
+use wdf_plans::IndexedPlan;
+
+impl<A: Agent> Parts<A> {
+    /// The front of a queue.
+    fn head(&self, q: ObjectId) -> Option<ObjectId>
+        ensures { option_map (λ r. r.0) result ≡ queues_of_state.front self.now.queues q.0 }
+    {
+        self.queues.head(q)
+    }
+
+    /// A control call of a queue.
+    pub(crate) fn set_mode(&mut self, q: ObjectId, mode: Mode)
+        requires { q.0 < length self.old.control.controls }
+        ensures { self.new ≡ record self.old { control = control.set_mode self.old.control q.0 mode } }
+    {
+        self.control.set_mode(q, mode);
+    }
+
+    /// A queue is purged: what waits in it is cancelled in it, from the front on. (KMDF)
+    pub(crate) fn purge(&mut self, plan: &IndexedPlan, q: ObjectId)
+        requires { MayPurge self.old q.0 }
+        ensures { self.new ≡ deeds.do_deed plan.now (deeds.Purge_queue q.0) self.old }
+    {
+        self.set_mode(q, Mode::Purged);
+        'waiting: while let Some(r) = self.head(q) {
+            self.withdraw(plan, q, r);
+        }
+    }
+
+    /// What returns to a queue is to be completed with CANCELLED.
+    fn close_returning_to(&mut self, q: ObjectId)
+        ensures { self.new ≡ deeds.close_returning self.old q.0 }
+    {
+        self.requests.close_returning(q);
+    }
+
+    /// A device's queues lose power: what returns to a power-managed one is to be completed with
+    /// CANCELLED.
+    #[tactic(auto, using(crate::proofs::Walks::fold_twice))]
+    pub(crate) fn close_returning(&mut self, plan: &IndexedPlan, device: ObjectId)
+        ensures { self.new ≡ fold deeds.close_returning self.old (plans.managed_queues plan.now device.0) }
+    {
+        for k in 0..plan.declared_len() {
+            let q = ObjectId(k + 1);
+            if is_managed_queue_of(plan, device, q) {
+                self.close_returning_to(q);
+            }
+        }
+    }
+
+    /// What waits in a queue or returns to it is to be completed with CANCELLED.
+    fn close_queue(&mut self, q: ObjectId)
+        requires { q.0 < length self.old.queues.dispatch }
+        ensures done { self.new ≡ deeds.close_queue self.old q.0 }
+        ensures size { length self.new.queues.dispatch ≡ length self.old.queues.dispatch }
+    {
+        self.queues.clear(q);
+        self.requests.close(q);
+    }
+
+    /// What waits in the queues of a device or returns to them is to be completed with CANCELLED.
+    pub(crate) fn close_queues(&mut self, plan: &IndexedPlan, device: ObjectId)
+        requires { length plan.now.declared < length self.old.queues.dispatch }
+        ensures { self.new ≡ fold deeds.close_queue self.old (plans.queues_of plan.now device.0) }
+    {
+        for k in 0..plan.declared_len() {
+            let q = ObjectId(k + 1);
+            if plan.is_queue_of(device, q) {
+                self.close_queue(q);
+            }
+        }
+    }
+}
+
+/// Whether an id is that of a power-managed queue of a device.
+fn is_managed_queue_of(plan: &IndexedPlan, device: ObjectId, q: ObjectId) -> bool
+    ensures { result ≡ (plans.is_queue_of device.0 (plans.queue_of plan.now q.0) && plans.is_managed plan.now q.0) }
+{
+    plan.is_queue_of(device, q) && plan.is_managed(q)
+}

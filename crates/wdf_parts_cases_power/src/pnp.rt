@@ -1,0 +1,348 @@
+//! The lists of steps, and what a failure makes of them.
+use crate::plans::*;
+use std::test::Fail;
+use wdf_base::*;
+use wdf_model::Phase;
+use wdf_pnp::Pnp;
+
+/// What happens to the device.
+#[derive(Clone, Copy, Debug)]
+enum Act {
+    /// A post of the Plug and Play manager.
+    Asked(Ask),
+    /// These stages are passed.
+    Passes(&'static [Stage]),
+    /// This callback of the device runs, and ends with SUCCESS.
+    Runs(Callback),
+    /// Both interrupts are enabled: first the one with EvtInterruptDisable, then the other.
+    Enables,
+    /// Both are disabled, in reverse order.
+    Disables,
+    /// This callback runs, and ends with UNSUCCESSFUL.
+    Fails(Callback),
+    /// So many steps are left.
+    Left(usize),
+    /// Whether the next step is the one after `queues_up`.
+    FollowsQueuesUp(bool),
+}
+
+/// What happens to a device that is off, and the phase in which it then rests.
+struct Case {
+    acts: &'static [Act],
+    phase: Phase,
+}
+
+const HARD: Act = Act::Passes(&[Stage::Hardware]);
+
+const PREPARED: Act = Act::Runs(Callback::EvtDevicePrepareHardware);
+
+const ENTERED: Act = Act::Runs(Callback::EvtDeviceD0Entry);
+
+const QUEUES_UP: Act = Act::Passes(&[Stage::QueuesUp]);
+
+const BEGUN: Act = Act::Runs(Callback::EvtDeviceSelfManagedIoInit);
+
+const WORKING: Act = Act::Passes(&[Stage::Working]);
+
+const QUEUES_DOWN: Act = Act::Passes(&[Stage::QueuesDown, Stage::Settled]);
+
+const QUIET: Act = Act::Passes(&[Stage::Quiet]);
+
+const LEFT: Act = Act::Runs(Callback::EvtDeviceD0Exit);
+
+const RELEASED: Act = Act::Runs(Callback::EvtDeviceReleaseHardware);
+
+const REMOVED: Act = Act::Passes(&[Stage::NoHardware, Stage::Closed, Stage::Removed]);
+
+static CASES: [Case; 9] = [
+    // nothing was asked
+    Case {
+        acts: &[],
+        phase: Phase::Off,
+    },
+    // start, sleep, wake; a second start or wake changes nothing
+    Case {
+        acts: &[
+            Act::Asked(Ask::Start),
+            Act::Left(10),
+            HARD,
+            PREPARED,
+            ENTERED,
+            Act::Enables,
+            Act::FollowsQueuesUp(false),
+            QUEUES_UP,
+            Act::FollowsQueuesUp(true),
+            BEGUN,
+            Act::FollowsQueuesUp(false),
+            WORKING,
+            Act::Asked(Ask::Start),
+            Act::Asked(Ask::Wake),
+            Act::Asked(Ask::Sleep),
+            Act::Left(8),
+            QUEUES_DOWN,
+            Act::Disables,
+            QUIET,
+            LEFT,
+            Act::Passes(&[Stage::Sleeping]),
+            Act::Asked(Ask::Wake),
+            ENTERED,
+            Act::Enables,
+            QUEUES_UP,
+            Act::FollowsQueuesUp(true),
+            WORKING,
+        ],
+        phase: Phase::Working,
+    },
+    // a rebalance that is refused, and one that isn't
+    Case {
+        acts: &[
+            Act::Asked(Ask::Start),
+            HARD,
+            PREPARED,
+            ENTERED,
+            Act::Enables,
+            QUEUES_UP,
+            BEGUN,
+            WORKING,
+            Act::Asked(Ask::Rebalance),
+            Act::Fails(Callback::EvtDeviceQueryStop),
+            Act::Asked(Ask::Rebalance),
+            Act::Runs(Callback::EvtDeviceQueryStop),
+            QUEUES_DOWN,
+            Act::Disables,
+            QUIET,
+            LEFT,
+            RELEASED,
+            Act::Passes(&[Stage::NoHardware, Stage::Hardware]),
+            PREPARED,
+            ENTERED,
+            Act::Enables,
+            QUEUES_UP,
+            WORKING,
+        ],
+        phase: Phase::Working,
+    },
+    // a removal after a power-down; a removed device stays so
+    Case {
+        acts: &[
+            Act::Asked(Ask::Start),
+            HARD,
+            PREPARED,
+            ENTERED,
+            Act::Enables,
+            QUEUES_UP,
+            BEGUN,
+            WORKING,
+            Act::Asked(Ask::Remove),
+            Act::Runs(Callback::EvtDeviceQueryRemove),
+            QUEUES_DOWN,
+            Act::Disables,
+            QUIET,
+            LEFT,
+            RELEASED,
+            REMOVED,
+            Act::Asked(Ask::Start),
+        ],
+        phase: Phase::Removed,
+    },
+    // a sleeping device is removed without power, and isn't asked
+    Case {
+        acts: &[
+            Act::Asked(Ask::Start),
+            HARD,
+            PREPARED,
+            ENTERED,
+            Act::Enables,
+            QUEUES_UP,
+            BEGUN,
+            WORKING,
+            Act::Asked(Ask::Sleep),
+            QUEUES_DOWN,
+            Act::Disables,
+            QUIET,
+            LEFT,
+            Act::Passes(&[Stage::Sleeping]),
+            Act::Asked(Ask::Surprise),
+            RELEASED,
+            REMOVED,
+        ],
+        phase: Phase::Removed,
+    },
+    // no hardware: there is nothing to release
+    Case {
+        acts: &[
+            Act::Asked(Ask::Start),
+            HARD,
+            Act::Fails(Callback::EvtDevicePrepareHardware),
+            REMOVED,
+        ],
+        phase: Phase::Removed,
+    },
+    // no power: no interrupt was enabled
+    Case {
+        acts: &[
+            Act::Asked(Ask::Start),
+            HARD,
+            PREPARED,
+            Act::Fails(Callback::EvtDeviceD0Entry),
+            RELEASED,
+            REMOVED,
+        ],
+        phase: Phase::Removed,
+    },
+    // a device that is off is removed at once
+    Case {
+        acts: &[
+            Act::Asked(Ask::Sleep),
+            Act::Asked(Ask::Remove),
+            Act::Passes(&[Stage::Closed, Stage::Removed]),
+        ],
+        phase: Phase::Removed,
+    },
+    // the results of other callbacks are ignored
+    Case {
+        acts: &[
+            Act::Asked(Ask::Start),
+            HARD,
+            PREPARED,
+            ENTERED,
+            Act::Enables,
+            QUEUES_UP,
+            Act::Fails(Callback::EvtDeviceSelfManagedIoInit),
+            WORKING,
+        ],
+        phase: Phase::Working,
+    },
+];
+
+const FIRST_HANDLE: Option<Handle> = Some(Handle { id: FIRST, name: 3 });
+
+const SECOND_HANDLE: Option<Handle> = Some(Handle {
+    id: SECOND,
+    name: 4,
+});
+
+static ENABLES: [Step; 4] = [
+    Step::Run {
+        callback: Callback::EvtInterruptEnable,
+        interrupt: FIRST_HANDLE,
+    },
+    Step::Pass {
+        stage: Stage::Enabled,
+        interrupt: FIRST_HANDLE,
+    },
+    Step::Run {
+        callback: Callback::EvtInterruptEnable,
+        interrupt: SECOND_HANDLE,
+    },
+    Step::Pass {
+        stage: Stage::Enabled,
+        interrupt: SECOND_HANDLE,
+    },
+];
+
+static DISABLES: [Step; 3] = [
+    Step::Pass {
+        stage: Stage::Disabled,
+        interrupt: SECOND_HANDLE,
+    },
+    Step::Pass {
+        stage: Stage::Disabled,
+        interrupt: FIRST_HANDLE,
+    },
+    Step::Run {
+        callback: Callback::EvtInterruptDisable,
+        interrupt: FIRST_HANDLE,
+    },
+];
+
+/// Takes the next step, whose callback ends with a status; whether it is this one.
+fn takes(pnp: &mut Pnp, step: Step, status: Status) -> bool {
+    let is_next = pnp.next_step(DEVICE) == Some(step) && pnp.busy(DEVICE);
+    if !is_next || pnp.device_len() <= DEVICE.0 as usize {
+        return false;
+    }
+    pnp.taken(DEVICE);
+    let running = pnp.running_step(DEVICE);
+    match step {
+        Step::Run { .. } => {
+            pnp.ended(DEVICE, step, Value::Stat(status));
+            running == Some(step) && !pnp.is_running_step(DEVICE)
+        }
+        Step::Pass { .. } => running.is_none(),
+    }
+}
+
+/// Takes these steps.
+fn takes_all(pnp: &mut Pnp, steps: &[Step]) -> bool {
+    for step in steps {
+        if !takes(pnp, *step, Status::Success) {
+            return false;
+        }
+    }
+    true
+}
+
+/// Passes these stages.
+fn passes(pnp: &mut Pnp, stages: &[Stage]) -> bool {
+    for stage in stages {
+        let step = Step::Pass {
+            stage: *stage,
+            interrupt: None,
+        };
+        if !takes(pnp, step, Status::Success) {
+            return false;
+        }
+    }
+    true
+}
+
+/// Runs a callback of the device.
+fn runs(pnp: &mut Pnp, callback: Callback, status: Status) -> bool {
+    let step = Step::Run {
+        callback,
+        interrupt: None,
+    };
+    takes(pnp, step, status)
+}
+
+/// A post comes, if no sequence is under way.
+fn asked(pnp: &mut Pnp, ask: Ask) -> bool {
+    if pnp.busy(DEVICE) || pnp.device_len() <= DEVICE.0 as usize {
+        return false;
+    }
+    pnp.ask(DEVICE, ask);
+    true
+}
+
+/// Does an act; whether it comes as told.
+fn does(pnp: &mut Pnp, act: Act) -> bool {
+    match act {
+        Act::Asked(ask) => asked(pnp, ask),
+        Act::Passes(stages) => passes(pnp, stages),
+        Act::Runs(callback) => runs(pnp, callback, Status::Success),
+        Act::Fails(callback) => runs(pnp, callback, Status::Unsuccessful),
+        Act::Enables => takes_all(pnp, &ENABLES),
+        Act::Disables => takes_all(pnp, &DISABLES),
+        Act::Left(steps) => pnp.steps_left(DEVICE) == steps,
+        Act::FollowsQueuesUp(follows) => pnp.follows_queues_up(DEVICE) == follows,
+    }
+}
+
+#[test]
+fn sequences_come_as_told(rt: HostRuntime) -> Result<(), Fail> {
+    let plan = with_interrupts(rt.alloc())?;
+    for case in &CASES {
+        let mut pnp = Pnp::make(rt.alloc(), &plan)?;
+        for act in case.acts {
+            assert!(rt; does(&mut pnp, *act), "{:?}", act);
+        }
+        assert_eq!(rt; pnp.next_step(DEVICE), None);
+        assert_eq!(rt; pnp.steps_left(DEVICE), 0);
+        assert!(rt; !pnp.busy(DEVICE));
+        assert_eq!(rt; pnp.phase(DEVICE), case.phase);
+        assert_eq!(rt; pnp.phase(DRIVER), Phase::Removed);
+        assert_eq!(rt; pnp.next_step(ObjectId(77)), None);
+    }
+    Ok(())
+}

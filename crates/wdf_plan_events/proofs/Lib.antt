@@ -1,0 +1,3 @@
+pub mod OfPlan
+pub mod Posting
+pub mod ProperNames

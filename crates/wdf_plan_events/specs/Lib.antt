@@ -1,0 +1,2 @@
+pub mod Framework
+pub mod PostNumbers

@@ -1,0 +1,11 @@
+pub mod AgentLines
+pub mod BlockLines
+pub mod FittingNumbers
+pub mod HeadLines
+pub mod ItemLines
+pub mod NameTexts
+pub mod NodeLines
+pub mod Pairs
+pub mod PeriodLines
+pub mod ScriptLines
+pub mod StatementLines

@@ -1,0 +1,79 @@
+//! What the plan of a text is: written out again with names in place of the numbers of names, it is the lines of
+//! the text. The functions do nothing: their contracts are the laws. `specs/WrittenOut.antt` has a line form for
+//! each item of a plan, and `specs/Told.antt` says which lines of the scene these are.
+#![tactic(auto)]
+
+ghost use Rattle.std.specs.Prelude.{◌≡◌, ◌∷◌, List, None, Some, codes, map, take};
+ghost use Rattle.std.specs.List.{flat_map};
+ghost use Rattle.wdf_scene.specs.declared.scene.Scene.{Scene};
+ghost use Rattle.wdf_scene.specs.Written.{IsScene};
+ghost use Rattle.wdf_plan.specs.First.{first_refusal};
+ghost use Rattle.wdf_plan.specs.Forms.{is_class, is_object, is_register};
+ghost use Rattle.wdf_plan.specs.Placed.{placed};
+ghost use Rattle.wdf_plan.specs.Plans.{plan_of};
+ghost use Rattle.wdf_plan_laws.specs.Fitting.{NumbersFit};
+ghost use Rattle.wdf_plan_laws.specs.Told.{AreAgentsTold, AreNodesTold, Each, forms_that, is_ask, is_on, is_when, IsCallbackTold, IsPeriodTold, lines_that, names_declared, Paired, placed_that};
+ghost use Rattle.wdf_plan_laws.specs.WrittenOut as written;
+
+/// The names of a plan are `driver`, `req`, and the names that the lines declare, in the order of the text.
+pub fn names_are_those_declared()
+    ensures { (scene : Scene) → (plan_of scene).names ≡ codes "driver" ∷ codes "req" ∷ names_declared scene.lines }
+{}
+
+/// The first three lines are `cpus`, `limit` and `objects`, with the plan's numbers.
+pub fn heads_are_written()
+    ensures { (scene : Scene) → IsScene scene → written.head_lines (plan_of scene) ≡ take 3 (map (λ l. l.form) scene.lines) }
+{}
+
+/// Of a scene in which nothing is refused: the objects of the plan after the driver object, its classes and its
+/// registers are those of the lines that declare them, in the order of the text, each with its name and its
+/// numbers. A class names its parent.
+pub fn declarations_are_written()
+    ensures objects { (scene : Scene) → first_refusal scene ≡ None → map (written.object_line (plan_of scene)) (plan_of scene).declared ≡ None ∷ map Some (forms_that is_object scene.lines) }
+    ensures classes { (scene : Scene) → first_refusal scene ≡ None → map (written.class_line (plan_of scene)) (plan_of scene).classes ≡ forms_that is_class scene.lines }
+    ensures registers { (scene : Scene) → first_refusal scene ≡ None → map (written.register_line (plan_of scene)) (plan_of scene).registers ≡ forms_that is_register scene.lines }
+{}
+
+/// Of a scene that stands for a text: the period of a dpc, timer or workitem class of the plan is the number of the
+/// first `period` line in the block of its line, or 0 where there is none.
+pub fn periods_are_written()
+    ensures { (scene : Scene) → IsScene scene → Paired (IsPeriodTold scene) (placed_that is_class scene) (plan_of scene).classes }
+{}
+
+/// Of a scene in which nothing is refused: the `when` lines of the plan, and what its Plug and Play manager posts,
+/// are the text's lines of these forms, in their order, each with its number, its names and its numbers.
+pub fn whens_and_asks_are_written()
+    ensures whens { (scene : Scene) → first_refusal scene ≡ None → map (written.when_line (plan_of scene)) (plan_of scene).whens ≡ lines_that is_when scene.lines }
+    ensures asks { (scene : Scene) → first_refusal scene ≡ None → map (written.post_line (plan_of scene)) (plan_of scene).pnp ≡ map Some (lines_that is_ask scene.lines) }
+{}
+
+/// Of a scene that stands for a text, and in which nothing is refused: the agents of the plan are the apps, the
+/// devices and the targets of the lines, in their order and with their names, and each posts what the lines with
+/// `at` say that stand in its block.
+pub fn agents_are_written()
+    ensures { (scene : Scene) → IsScene scene → first_refusal scene ≡ None → AreAgentsTold (plan_of scene) scene }
+{}
+
+/// Of such a scene: the callbacks of the plan are those of the `on` lines, in their order, each on what its block
+/// declares; and its statements are the statement lines of its own block, in their order, with their variables,
+/// registers, classes and expressions. The end of a `repeat` has a statement and no line of its own.
+pub fn callbacks_are_written()
+    ensures { (scene : Scene) → IsScene scene → first_refusal scene ≡ None → Paired (IsCallbackTold (plan_of scene) scene) (placed_that is_on scene) (plan_of scene).scripts }
+{}
+
+/// Of such a scene: each node of an expression of the plan is the scene's node with the same number. A name is
+/// that of the variable of its callback, or of the object, for which the plan has a number.
+pub fn expressions_are_written()
+    ensures { (scene : Scene) → IsScene scene → first_refusal scene ≡ None → Each (AreNodesTold (plan_of scene) scene) (placed scene) }
+{}
+
+/// The picks of the plan are the numbers of the `picks` lines, one after another.
+pub fn picks_are_written()
+    ensures { (scene : Scene) → (plan_of scene).picks ≡ flat_map (λ l. l.picks) scene.lines }
+{}
+
+/// Of a scene that stands for a text, and in which nothing is refused: the numbers that the plan keeps in 8, 16 or 32
+/// bits are within the limits of a scenario, and those that no limit bounds are at most the number of its lines.
+pub fn numbers_fit_their_types()
+    ensures { (scene : Scene) → IsScene scene → first_refusal scene ≡ None → NumbersFit scene }
+{}

@@ -1,0 +1,144 @@
+ghost use Rattle.std.specs.Prelude.{◌≡◌, length, slice_get, IfOk};
+ghost use Rattle.wdf_base.specs.Plan.{declared_of};
+ghost use Rattle.wdf_model.specs.Plans as plans;
+ghost use Rattle.wdf_model.specs.rules.Groups as groups;
+
+use crate::owners::{Owner, ids_of};
+use std::alloc::Global;
+use std::marker::Model;
+use wdf_base::{
+    ClassInfo, Declared, DeviceInfo, InterruptInfo, Memory, ObjectId, Plan, QueueInfo, TargetInfo,
+};
+
+/// A plan, with tables over it that are made once, so that what is asked at each event is found without a
+/// search through all that is declared.
+///
+/// Contracts see the plan. No call but [`IndexedPlan::make`] takes memory.
+#[derive(Drop)]
+pub struct IndexedPlan {
+    pub(crate) plan: Plan,
+    /// The ids of the devices, rising.
+    pub(crate) devices: Vec<u32>,
+    /// The ids of the targets, rising.
+    pub(crate) targets: Vec<u32>,
+}
+
+impl Model for IndexedPlan {
+    ghost use Rattle.std.specs.Prelude.{◌≡◌, length};
+    ghost use Rattle.wdf_base.specs.declared.plan.Plan.{Plan};
+    ghost use Rattle.wdf_plans.specs.Owners.{names_of};
+    ghost use Rattle.wdf_plans.specs.declared.owners.Owner.TheVariants as owner;
+
+    ghost Value = { Plan };
+
+    ghost use Rattle.wdf_model.specs.Plans as plans;
+
+    ghost view = { λ p. p.plan };
+
+    ghost invariant = { λ p. record { devices : p.devices.items ≡ plans.devices_of p.plan; targets : p.targets.items ≡ plans.targets_of p.plan; device_names : length p.devices.items ≡ length (names_of owner.Device p.plan); target_names : length p.targets.items ≡ length (names_of owner.Target p.plan) } };
+}
+
+impl IndexedPlan {
+    /// The plan with its tables. On [`Memory`] the plan is dropped.
+    pub fn make(alloc: Global, plan: Plan) -> Result<IndexedPlan, Memory>
+        ensures { IfOk result (λ made. made ≡ plan) }
+    {
+        let devices = ids_of(alloc, &plan, Owner::Device)?;
+        let targets = ids_of(alloc, &plan, Owner::Target)?;
+        Ok(IndexedPlan {
+            plan,
+            devices,
+            targets,
+        })
+    }
+
+    /// The plan alone.
+    pub fn plan(&self) -> &Plan
+        ensures { result.now ≡ self.now }
+    {
+        &self.plan
+    }
+
+    /// What is declared under an id: `None` for the id 0, and for one that is past the declared ones.
+    pub fn declared(&self, o: ObjectId) -> Option<Declared>
+        ensures { result ≡ declared_of self.now o.0 }
+    {
+        declared_at(&self.plan, o)
+    }
+
+    /// How many objects are declared, the driver object among them. Their ids count from 1.
+    pub fn declared_len(&self) -> u32
+        ensures { result ≡ length self.now.declared }
+    {
+        self.plan.declared_len()
+    }
+
+    /// The id after those of the driver object and of what is declared.
+    pub fn declared_end(&self) -> usize
+        ensures { result ≡ groups.declared_end self.now }
+    {
+        self.declared_len() as usize + 1
+    }
+
+    /// The device with this id, if it is one's.
+    pub fn device_of(&self, o: ObjectId) -> Option<DeviceInfo>
+        ensures { result ≡ plans.device_of self.now o.0 }
+    {
+        match self.declared(o) {
+            Some(Declared::Device(device)) => Some(device),
+            _ => None,
+        }
+    }
+
+    /// The queue with this id, if it is one's.
+    pub fn queue_of(&self, o: ObjectId) -> Option<QueueInfo>
+        ensures { result ≡ plans.queue_of self.now o.0 }
+    {
+        match self.declared(o) {
+            Some(Declared::Queue(queue)) => Some(queue),
+            _ => None,
+        }
+    }
+
+    /// The interrupt with this id, if it is one's.
+    pub fn interrupt_of(&self, o: ObjectId) -> Option<InterruptInfo>
+        ensures { result ≡ plans.interrupt_of self.now o.0 }
+    {
+        match self.declared(o) {
+            Some(Declared::Interrupt(interrupt)) => Some(interrupt),
+            _ => None,
+        }
+    }
+
+    /// The target with this id, if it is one's.
+    pub fn target_of(&self, o: ObjectId) -> Option<TargetInfo>
+        ensures { result ≡ plans.target_of self.now o.0 }
+    {
+        match self.declared(o) {
+            Some(Declared::Target(target)) => Some(target),
+            _ => None,
+        }
+    }
+
+    /// The class with a number, if there is one.
+    pub fn class_at(&self, class: u16) -> Option<ClassInfo>
+        ensures { result ≡ slice_get self.now.classes class }
+    {
+        self.plan
+            .classes
+            .as_slice()
+            .get(usize::from(class))
+            .copied()
+    }
+}
+
+/// What is declared under an id.
+fn declared_at(plan: &Plan, o: ObjectId) -> Option<Declared>
+    ensures { result ≡ declared_of plan.now o.0 }
+{
+    if o.0 == 0 {
+        None
+    } else {
+        plan.declared.as_slice().get(o.0 as usize - 1).copied()
+    }
+}

@@ -1,0 +1,13 @@
+//! A plan with tables over it, and what it says of its queues, interrupts, classes, callbacks and agents, by
+//! id and by number: what the rules of the machine ask.
+#![tactic(auto)]
+
+mod agents;
+mod callbacks;
+mod classes;
+mod indexed;
+mod owners;
+mod queues;
+
+pub use indexed::IndexedPlan;
+pub use owners::{Owner, ids_of};

@@ -1,0 +1,137 @@
+//! Requests that arrive. (KMDF, but for what is marked own)
+ghost use Rattle.std.specs.Prelude.{◌≡◌, ◌+◌, ◌<◌, ◌^◌};
+ghost use Rattle.wdf_model.specs.Tables.{entry};
+ghost use Rattle.wdf_model.specs.parts.Tree.{is_live, life_of};
+ghost use Rattle.wdf_model.specs.rules.Posts as posts;
+
+use wdf_base::{Agent, Handle, Life, Mark, ObjectId, Place, RequestForm, RequestInfo, Status};
+use wdf_parts::{Deed, Deeds, Parts};
+use wdf_plans::IndexedPlan;
+
+/// The number of the name that a request which arrives prints as: `req`.
+const REQUEST_NAME: u32 = 1;
+
+fn is_data(form: RequestForm) -> bool
+    ensures { result ≡ posts.is_data form }
+{
+    match form {
+        RequestForm::Read | RequestForm::Write => true,
+        RequestForm::Control => false,
+    }
+}
+
+/// The place of a request that arrives for a queue: it is completed at once where the queue doesn't
+/// accept, where the queue takes no request of no length, or where the queue has no handler for it; else
+/// it waits. (KMDF)
+fn place_in_queue<A: Agent>(
+    plan: &IndexedPlan,
+    parts: &Parts<A>,
+    form: RequestForm,
+    length: u64,
+    q: ObjectId,
+) -> Place
+    ensures { result ≡ posts.place_in_queue plan.now parts.now form length q.0 }
+{
+    if !parts.control().accepts(q) {
+        Place::Closing(Status::InvalidDeviceState)
+    } else if is_data(form) && length == 0 && !plan.takes_empty(q) {
+        Place::Closing(Status::Success)
+    } else if !(plan.is_manual_queue(q) || plan.has_handler(q, form)) {
+        Place::Closing(Status::InvalidDeviceRequest)
+    } else {
+        Place::Queued(q)
+    }
+}
+
+/// The place of a request that arrives at a device; one that no queue is for is completed at once.
+/// (KMDF)
+fn arrival_place<A: Agent>(
+    plan: &IndexedPlan,
+    parts: &Parts<A>,
+    form: RequestForm,
+    length: u64,
+    device: ObjectId,
+) -> Place
+    ensures { result ≡ posts.arrival_place plan.now parts.now form length device.0 }
+{
+    match plan.queue_for(device, form) {
+        Some(q) => place_in_queue(plan, parts, form, length, q),
+        None => Place::Closing(Status::InvalidDeviceRequest),
+    }
+}
+
+/// What is kept of a request that arrives: arrivals are numbered for each agent from 1.
+fn arrival_info<A: Agent>(
+    parts: &Parts<A>,
+    agent: u16,
+    form: RequestForm,
+    length: u64,
+    code: u64,
+    device: ObjectId,
+) -> RequestInfo
+    requires { entry 0 parts.now.arrivals agent + 1 < 2 ^ 32 }
+    ensures { result ≡ posts.arrival_info parts.now agent form length code device.0 }
+{
+    RequestInfo {
+        device,
+        form,
+        length,
+        code,
+        origin: None,
+        agent,
+        arrival: parts.arrivals(agent) + 1,
+        mark: Mark::Unmarked,
+        cancelled: false,
+        received: false,
+    }
+}
+
+fn is_live<A: Agent>(parts: &Parts<A>, o: ObjectId) -> bool
+    ensures { result ≡ is_live (life_of parts.now.tree o.0) }
+{
+    matches!(parts.tree().life(o), Life::Live)
+}
+
+/// The request that an arrival makes; a device that isn't live takes none.
+pub(crate) fn arrival_answer<A: Agent>(parts: &Parts<A>, device: ObjectId) -> Option<Handle>
+    ensures { result ≡ posts.arrival_answer parts.now device.0 }
+{
+    if is_live(parts, device) {
+        Some(Handle {
+            id: parts.tree().next_id(),
+            name: REQUEST_NAME,
+        })
+    } else {
+        None
+    }
+}
+
+/// What an arrival does: it is counted, and a live device has a request more.
+pub(crate) fn arrival_deeds<A: Agent>(
+    plan: &IndexedPlan,
+    parts: &Parts<A>,
+    agent: u16,
+    form: RequestForm,
+    length: u64,
+    code: u64,
+    device: ObjectId,
+) -> Deeds
+    requires { entry 0 parts.now.arrivals agent + 1 < 2 ^ 32 }
+    ensures { result ≡ posts.arrival_deeds plan.now parts.now agent form length code device.0 }
+{
+    let counted = Deed::CountArrival { agent };
+    if is_live(parts, device) {
+        let info = arrival_info(parts, agent, form, length, code, device);
+        let place = arrival_place(plan, parts, form, length, device);
+        Deeds::two(
+            counted,
+            Deed::Arrive {
+                device,
+                info,
+                place,
+            },
+        )
+    } else {
+        Deeds::one(counted)
+    }
+}

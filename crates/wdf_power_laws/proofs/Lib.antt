@@ -1,0 +1,15 @@
+pub mod Standings
+pub mod Lists
+pub mod Begun
+pub mod Tellings
+pub mod Holding
+pub mod Passing
+pub mod Unmoved
+pub mod Declares
+pub mod Happens
+pub mod Calm
+pub mod Frames
+pub mod Events
+pub mod Runs
+pub mod Laws
+pub mod Isrs

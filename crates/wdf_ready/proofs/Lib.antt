@@ -1,0 +1,5 @@
+pub mod Grouping
+pub mod Places
+pub mod Skips
+pub mod Passing
+pub mod AnyOf

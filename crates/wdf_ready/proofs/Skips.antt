@@ -1,0 +1,185 @@
+-- What is passed over without a look: requests that aren't closing, objects that aren't asked or cleaned.
+use Rattle.std.proofs.Common.{if◌then◌else◌, Bool, true, false, ◌&&◌, ℕ, zero, suc, ◌≡◌, ◌+◌, ◌-◌, ◌<◌, ◌≤◌, ◌^◌, List, [], ◌∷◌, filter, find, Option, Some, None, MatchOption, refl, sym, ap, subst, ◌∙◌, arith}
+use Rattle.std.specs.Prelude.{nat_le}
+use Rattle.std.specs.Option.{option_and_then}
+use Rattle.std.specs.List.{range_with_len}
+use Rattle.std.proofs.lemmas.Bool.{le-leb, leb-true, leb-false}
+use Rattle.wdf_base.specs.Meaning.{Meaning}
+use Rattle.wdf_base.specs.declared.event.Event.{Event}
+use Rattle.wdf_base.specs.declared.event.Event.TheVariants as event
+use Rattle.wdf_base.specs.declared.object.Place.{Place}
+use Rattle.wdf_base.specs.declared.object.Place.TheVariants as place
+use Rattle.wdf_base.specs.declared.call.Callback.TheVariants as callback
+use Rattle.wdf_base.specs.declared.plan.Plan.{Plan}
+use Rattle.wdf_model.specs.declared.enums.Group.{Group}
+use Rattle.wdf_model.specs.declared.enums.Group.TheVariants as group
+use Rattle.wdf_model.specs.Tables.{ids_of}
+use Rattle.wdf_model.specs.parts.Tree.{is_asked, is_cleaned, life_of}
+use Rattle.wdf_model.specs.parts.Requests.{is_closing, place_of}
+use Rattle.wdf_model.specs.State.{State, handle_in, is_proper}
+use Rattle.wdf_model.specs.rules.Starts.{callback_over, clean_ready, destroy_ready}
+use Rattle.wdf_model.specs.rules.Steps.{may}
+use Rattle.wdf_model.specs.rules.Groups.{completion_at, places_in}
+use Rattle.wdf_request.specs.Closing.{closing_requests}
+use Rattle.wdf_ready.specs.Search.{Skips, offered, offered_from}
+use Rattle.wdf_ready.proofs.Places.{all_passed, past}
+
+-- ---- what a search over ids found
+
+-- an id that passes a test is the first one from a on
+record First (q : ℕ → Bool) (a n x : ℕ) : Type 0 where
+  from : a ≤ x
+  within : x < a + n
+  passes : q x ≡ true
+  before : (p : ℕ) → a ≤ p → p < x → q p ≡ false
+
+above_by : (a p : ℕ) → nat_le p a ≡ false → a ≤ p → a + 1 ≤ p
+above_by a p f above = let not_le = leb-false p a f in omega arith
+
+first_in_by : (q : ℕ → Bool) (a n x : ℕ) (b : Bool) → q a ≡ b → find q (range_with_len a (suc n)) ≡ Some x → (find q (range_with_len (a + 1) n) ≡ Some x → First q (a + 1) n x) → First q a (suc n) x
+first_in_by q a n x true e h rest =
+    let found = rw e at h in
+    let same : a ≡ x = cc in
+    rw (← same) (record { from = omega arith; within = omega arith; passes = e; before = λ p above below. absurd (omega arith) })
+first_in_by q a n x false e h rest =
+    let k : First q (a + 1) n x = rest (rw e at h) in
+    let after = k.from in
+    let below = k.within in
+    record { from = omega arith; within = omega arith; passes = k.passes; before = λ p above under. before_by p (nat_le p a) refl above under k }
+  where
+    before_by : (p : ℕ) (c : Bool) → nat_le p a ≡ c → a ≤ p → p < x → First q (a + 1) n x → q p ≡ false
+    before_by p true f above under k = let le = leb-true p a f in let same : a ≡ p = omega arith in rw (← same) e
+    before_by p false f above under k = k.before p (above_by a p f above) under
+
+first_in : (q : ℕ → Bool) (a n x : ℕ) → find q (range_with_len a n) ≡ Some x → First q a n x
+first_in q a zero x h = absurd (let z : ⊥ = cc in z)
+first_in q a (suc n) x h = first_in_by q a n x (q a) refl h (first_in q (a + 1) n x)
+
+none_in_by : (q : ℕ → Bool) (a n : ℕ) (b : Bool) → q a ≡ b → find q (range_with_len a (suc n)) ≡ None → (find q (range_with_len (a + 1) n) ≡ None → (p : ℕ) → a + 1 ≤ p → p < a + 1 + n → q p ≡ false)
+    → (p : ℕ) (c : Bool) → nat_le p a ≡ c → a ≤ p → p < a + suc n → q p ≡ false
+none_in_by q a n true e h rest p c f above below = let found = rw e at h in absurd (let z : ⊥ = cc in z)
+none_in_by q a n false e h rest p true f above below = let le = leb-true p a f in let same : a ≡ p = omega arith in rw (← same) e
+none_in_by q a n false e h rest p false f above below = let not_le = leb-false p a f in rest (rw e at h) p (omega arith) (omega arith)
+
+none_in : (q : ℕ → Bool) (a n : ℕ) → find q (range_with_len a n) ≡ None → (p : ℕ) → a ≤ p → p < a + n → q p ≡ false
+none_in q a zero h p above below = absurd (omega arith)
+none_in q a (suc n) h p above below = none_in_by q a n (q a) refl h (none_in q (a + 1) n) p (nat_le p a) refl above below
+
+find_filter_by : (p q : ℕ → Bool) (x : ℕ) (xs : List ℕ) (b : Bool) → q x ≡ b → find p (filter q xs) ≡ find (λ y. p y && q y) xs → find p (filter q (x ∷ xs)) ≡ find (λ y. p y && q y) (x ∷ xs)
+find_filter_by p q x xs true e rest = rw e (kept (p x) refl)
+  where
+    kept : (c : Bool) → p x ≡ c → find p (x ∷ filter q xs) ≡ (if p x && true then Some x else find (λ y. p y && q y) xs)
+    kept true f = rw f refl
+    kept false f = rw f rest
+find_filter_by p q x xs false e rest = rw e (dropped (p x))
+  where
+    dropped : (c : Bool) → find p (filter q xs) ≡ (if c && false then Some x else find (λ y. p y && q y) xs)
+    dropped true = rest
+    dropped false = rest
+
+find_filter : (p q : ℕ → Bool) (xs : List ℕ) → find p (filter q xs) ≡ find (λ y. p y && q y) xs
+find_filter p q [] = refl
+find_filter p q (x ∷ xs) = find_filter_by p q x xs (q x) refl (find_filter p q xs)
+
+-- ---- what is skipped
+
+right_false : (a b : Bool) → a ≡ true → (a && b) ≡ false → b ≡ false
+right_false true b e h = h
+right_false false b e h = absurd (let z : ⊥ = cc in z)
+
+left_true : (a b : Bool) → (a && b) ≡ true → a ≡ true
+left_true true b h = refl
+left_true false b h = absurd (let z : ⊥ = cc in z)
+
+module _ {A : Type 0} (plan : Plan) (m : Meaning A) (S : State A) (g : Group) (test : ℕ → Bool) (none : (p : ℕ) → test p ≡ false → offered plan m S g p ≡ None) where
+  skips_by : (from x : ℕ) → places_in plan S g ≤ 2 ^ 32 → find (λ o. nat_le from o && test o) (range_with_len 0 (places_in plan S g)) ≡ Some x → Skips plan m S g from x
+  skips_by from x few h =
+      let k : First (λ o. nat_le from o && test o) 0 (places_in plan S g) x = first_in (λ o. nat_le from o && test o) 0 (places_in plan S g) x h in
+      let within = k.within in
+      let above : from ≤ x = leb-true from x (left_true (nat_le from x) (test x) k.passes) in
+      let more : from + (x - from) ≡ x = omega arith in
+      record {
+        passed = all_passed plan m S g from (x - from) (omega arith)
+            (λ p over under. none p (right_false (nat_le from p) (test p) (le-leb from p over) (k.before p (omega arith) (omega arith)))) ∙ ap (offered_from plan m S g) more;
+        after = above;
+        within = omega arith;
+        small = omega arith;
+      }
+
+  ends_by : (from : ℕ) → from < places_in plan S g → find (λ o. nat_le from o && test o) (range_with_len 0 (places_in plan S g)) ≡ None → offered_from plan m S g from ≡ []
+  ends_by from below h =
+      let more : from + (places_in plan S g - from) ≡ places_in plan S g = omega arith in
+      all_passed plan m S g from (places_in plan S g - from) (omega arith)
+      (λ p over under. none p (right_false (nat_le from p) (test p) (le-leb from p over) (none_in (λ o. nat_le from o && test o) 0 (places_in plan S g) h p (omega arith) (omega arith))))
+      ∙ ap (offered_from plan m S g) more ∙ past plan m S g (places_in plan S g) (omega arith)
+
+module _ {A : Type 0} (plan : Plan) (m : Meaning A) (S : State A) where
+  closing_none : (r : ℕ) (p : Place) → is_closing p ≡ false → completion_at plan S r p ≡ None
+  closing_none r (place.Closing s) h = absurd (let z : ⊥ = cc in z)
+  closing_none r _ h = refl
+
+  no_completion : (r : ℕ) → is_closing (place_of S.requests r) ≡ false → offered plan m S group.Completions r ≡ None
+  no_completion r h = ap (option_and_then (λ e. if may plan m S e then Some e else None)) (closing_none r (place_of S.requests r) h)
+
+  not_allowed : (e : Event) (b : Bool) → may plan m S e ≡ b → b ≡ false → (if may plan m S e then Some e else None) ≡ None
+  not_allowed e true h k = absurd (let z : ⊥ = cc in z)
+  not_allowed e false h k = rw h refl
+
+  never : (p q r : Bool) → q ≡ false → (p && q && r) ≡ false
+  never true q r h = rw h refl
+  never false q r h = refl
+
+  no_cleanup : (o : ℕ) → is_asked (life_of S.tree o) ≡ false → offered plan m S group.Cleanups o ≡ None
+  no_cleanup o h =
+      let unready : clean_ready S o ≡ false = rw h refl in
+      not_allowed (event.Cleanup (handle_in plan S o)) (may plan m S (event.Cleanup (handle_in plan S o))) refl
+      (never (is_proper plan S (handle_in plan S o)) (clean_ready S o) (callback_over plan S callback.EvtCleanupCallback o) unready)
+
+  no_destroy : (o : ℕ) → is_cleaned (life_of S.tree o) ≡ false → offered plan m S group.Destroys o ≡ None
+  no_destroy o h =
+      let unready : destroy_ready S o ≡ false = rw h refl in
+      not_allowed (event.Destroy (handle_in plan S o)) (may plan m S (event.Destroy (handle_in plan S o))) refl
+      (never (is_proper plan S (handle_in plan S o)) (destroy_ready S o) (callback_over plan S callback.EvtDestroyCallback o) unready)
+
+  pub skips_completions : (from x : ℕ) → places_in plan S group.Completions ≤ 2 ^ 32 → find (nat_le from) (closing_requests S.requests) ≡ Some x → Skips plan m S group.Completions from x
+  skips_completions from x few h =
+      skips_by plan m S group.Completions (λ r. is_closing (place_of S.requests r)) no_completion from x few
+      (sym (find_filter (nat_le from) (λ r. is_closing (place_of S.requests r)) (ids_of S.requests.all)) ∙ h)
+
+  pub ends_completions : (from : ℕ) → from < places_in plan S group.Completions → find (nat_le from) (closing_requests S.requests) ≡ None → offered_from plan m S group.Completions from ≡ []
+  ends_completions from below h =
+      ends_by plan m S group.Completions (λ r. is_closing (place_of S.requests r)) no_completion from below
+      (sym (find_filter (nat_le from) (λ r. is_closing (place_of S.requests r)) (ids_of S.requests.all)) ∙ h)
+
+  pub skips_cleanups : (from x : ℕ) → places_in plan S group.Cleanups ≤ 2 ^ 32 → find (λ o. nat_le from o && is_asked (life_of S.tree o)) (ids_of S.tree.nodes) ≡ Some x → Skips plan m S group.Cleanups from x
+  skips_cleanups from x few h = skips_by plan m S group.Cleanups (λ o. is_asked (life_of S.tree o)) no_cleanup from x few h
+
+  pub ends_cleanups : (from : ℕ) → from < places_in plan S group.Cleanups → find (λ o. nat_le from o && is_asked (life_of S.tree o)) (ids_of S.tree.nodes) ≡ None → offered_from plan m S group.Cleanups from ≡ []
+  ends_cleanups from below h = ends_by plan m S group.Cleanups (λ o. is_asked (life_of S.tree o)) no_cleanup from below h
+
+  pub skips_destroys : (from x : ℕ) → places_in plan S group.Destroys ≤ 2 ^ 32 → find (λ o. nat_le from o && is_cleaned (life_of S.tree o)) (ids_of S.tree.nodes) ≡ Some x → Skips plan m S group.Destroys from x
+  skips_destroys from x few h = skips_by plan m S group.Destroys (λ o. is_cleaned (life_of S.tree o)) no_destroy from x few h
+
+  pub ends_destroys : (from : ℕ) → from < places_in plan S group.Destroys → find (λ o. nat_le from o && is_cleaned (life_of S.tree o)) (ids_of S.tree.nodes) ≡ None → offered_from plan m S group.Destroys from ≡ []
+  ends_destroys from below h = ends_by plan m S group.Destroys (λ o. is_cleaned (life_of S.tree o)) no_destroy from below h
+
+  -- what is found, or that nothing is
+  by_option : (g : Group) (from : ℕ) (o found : Option ℕ) → found ≡ o → (found ≡ None → offered_from plan m S g from ≡ []) → ((x : ℕ) → found ≡ Some x → Skips plan m S g from x)
+      → MatchOption o (offered_from plan m S g from ≡ []) (λ x. Skips plan m S g from x)
+  by_option g from None found e none some = none e
+  by_option g from (Some x) found e none some = some x e
+
+  pub completions_answer : (g : Group) (from : ℕ) (o : Option ℕ) → group.Completions ≡ g → from < places_in plan S g → places_in plan S g ≤ 2 ^ 32 → find (nat_le from) (closing_requests S.requests) ≡ o
+      → MatchOption o (offered_from plan m S g from ≡ []) (λ x. Skips plan m S g from x)
+  completions_answer g from o is = subst (λ h. from < places_in plan S h → places_in plan S h ≤ 2 ^ 32 → find (nat_le from) (closing_requests S.requests) ≡ o → MatchOption o (offered_from plan m S h from ≡ []) (λ x. Skips plan m S h from x)) is
+      (λ below few e. by_option group.Completions from o (find (nat_le from) (closing_requests S.requests)) e (ends_completions from below) (λ x h. skips_completions from x few h))
+
+  pub cleanups_answer : (g : Group) (from : ℕ) (o : Option ℕ) → group.Cleanups ≡ g → from < places_in plan S g → places_in plan S g ≤ 2 ^ 32 → find (λ x. nat_le from x && is_asked (life_of S.tree x)) (ids_of S.tree.nodes) ≡ o
+      → MatchOption o (offered_from plan m S g from ≡ []) (λ x. Skips plan m S g from x)
+  cleanups_answer g from o is = subst (λ h. from < places_in plan S h → places_in plan S h ≤ 2 ^ 32 → find (λ x. nat_le from x && is_asked (life_of S.tree x)) (ids_of S.tree.nodes) ≡ o → MatchOption o (offered_from plan m S h from ≡ []) (λ x. Skips plan m S h from x)) is
+      (λ below few e. by_option group.Cleanups from o (find (λ x. nat_le from x && is_asked (life_of S.tree x)) (ids_of S.tree.nodes)) e (ends_cleanups from below) (λ x h. skips_cleanups from x few h))
+
+  pub destroys_answer : (g : Group) (from : ℕ) (o : Option ℕ) → group.Destroys ≡ g → from < places_in plan S g → places_in plan S g ≤ 2 ^ 32 → find (λ x. nat_le from x && is_cleaned (life_of S.tree x)) (ids_of S.tree.nodes) ≡ o
+      → MatchOption o (offered_from plan m S g from ≡ []) (λ x. Skips plan m S g from x)
+  destroys_answer g from o is = subst (λ h. from < places_in plan S h → places_in plan S h ≤ 2 ^ 32 → find (λ x. nat_le from x && is_cleaned (life_of S.tree x)) (ids_of S.tree.nodes) ≡ o → MatchOption o (offered_from plan m S h from ≡ []) (λ x. Skips plan m S h from x)) is
+      (λ below few e. by_option group.Destroys from o (find (λ x. nat_le from x && is_cleaned (life_of S.tree x)) (ids_of S.tree.nodes)) e (ends_destroys from below) (λ x h. skips_destroys from x few h))

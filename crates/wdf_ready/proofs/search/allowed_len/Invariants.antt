@@ -1,0 +1,11 @@
+-- The groups so far were passed.
+use Rattle.std.proofs.Common.{◌*◌, ◌≤◌, ◌^◌, drop}
+use Rattle.wdf_ready.specs.Search.{events_of}
+use Rattle.wdf_ready.proofs.Passing.{Passed}
+use Rattle.wdf_ready.proofs.search.allowed_len.Given as goal
+
+abbrev pub invariant-loop-group : goal.invariant-loop-group
+invariant-loop-group g l = record {
+  passed : Passed (events_of l.plan g.A.Agent.meaning l.parts l.all) (events_of l.plan g.A.Agent.meaning l.parts (drop l.group-index l.all)) l.count;
+  few : l.count ≤ l.group-index * 2 ^ 32;
+}

@@ -1,0 +1,453 @@
+//! The candidates of each group, by place.
+ghost use Rattle.std.specs.Prelude.{◌≡◌, ◌<◌, ◌≤◌, ◌^◌, length, slice_get, option_map};
+ghost use Rattle.wdf_base.specs.declared.rank.Rank.TheVariants as rank;
+ghost use Rattle.wdf_model.specs.declared.enums.Group.TheVariants as group;
+ghost use Rattle.wdf_model.specs.rules.Groups as groups;
+ghost use Rattle.wdf_model.specs.parts.Cpus as cpus;
+ghost use Rattle.wdf_model.specs.parts.Targets as targets;
+
+use wdf_base::{Agent, Callback, Cpu, Event, Kind, ObjectId, Place, Rank, Step, same_callback};
+use wdf_model::Group;
+use wdf_parts::Parts;
+use wdf_plans::IndexedPlan;
+use wdf_posts::{due_of, post_answer};
+use wdf_steps::own_event;
+
+/// The start of a callback on an object.
+fn starts<A: Agent>(
+    plan: &IndexedPlan,
+    parts: &Parts<A>,
+    cpu: Cpu,
+    callback: Callback,
+    o: ObjectId,
+) -> Event
+    ensures { result ≡ groups.starts plan.now parts.now cpu.0 callback o.0 }
+{
+    Event::Start {
+        cpu,
+        callback,
+        object: parts.handle_in(plan, o),
+        request: None,
+    }
+}
+
+/// The start of a callback on an object for a request.
+fn starts_for<A: Agent>(
+    plan: &IndexedPlan,
+    parts: &Parts<A>,
+    cpu: Cpu,
+    callback: Callback,
+    o: ObjectId,
+    r: ObjectId,
+) -> Event
+    ensures { result ≡ groups.starts_for plan.now parts.now cpu.0 callback o.0 r.0 }
+{
+    Event::Start {
+        cpu,
+        callback,
+        object: parts.handle_in(plan, o),
+        request: Some(parts.handle_in(plan, r)),
+    }
+}
+
+/// The function of a queued DPC, or of an interrupt's.
+fn dpc_function(kind: Kind) -> Callback
+    ensures { result ≡ groups.dpc_function kind }
+{
+    match kind {
+        Kind::Interrupt => Callback::EvtInterruptDpc,
+        _ => Callback::EvtDpcFunc,
+    }
+}
+
+/// The service routine of an interrupt.
+fn isr_start<A: Agent>(plan: &IndexedPlan, parts: &Parts<A>, cpu: Cpu, i: ObjectId) -> Option<Event>
+    ensures { result ≡ groups.start_at plan.now parts.now cpu.0 rank.Isr i.0 }
+{
+    if plan.interrupt_of(i).is_some() {
+        Some(starts(plan, parts, cpu, Callback::EvtInterruptIsr, i))
+    } else {
+        None
+    }
+}
+
+/// The first DPC of a processor.
+fn dpc_start<A: Agent>(
+    plan: &IndexedPlan,
+    parts: &Parts<A>,
+    cpu: Cpu,
+    place: usize,
+) -> Option<Event>
+    ensures { result ≡ groups.start_at plan.now parts.now cpu.0 rank.Deferred place }
+{
+    let o = parts.dpcs().head(cpu)?;
+    let callback = dpc_function(parts.tree().kind(o));
+    Some(starts(plan, parts, cpu, callback, o))
+}
+
+/// A queued timer, by its place.
+fn timer_start<A: Agent>(
+    plan: &IndexedPlan,
+    parts: &Parts<A>,
+    cpu: Cpu,
+    place: usize,
+) -> Option<Event>
+    requires { place < length parts.now.timers.queued }
+    ensures { result ≡ groups.start_at plan.now parts.now cpu.0 rank.Timed place }
+{
+    let _timers = parts.timers().len();
+    let timed = parts.timers().at(place as u32);
+    Some(starts(plan, parts, cpu, Callback::EvtTimerFunc, timed.timer))
+}
+
+/// A queue's notification.
+fn notification_start<A: Agent>(
+    plan: &IndexedPlan,
+    parts: &Parts<A>,
+    cpu: Cpu,
+    q: ObjectId,
+) -> Option<Event>
+    ensures { result ≡ groups.start_at plan.now parts.now cpu.0 rank.QueueState q.0 }
+{
+    if plan.queue_of(q).is_some() {
+        Some(starts(plan, parts, cpu, Callback::EvtIoQueueState, q))
+    } else {
+        None
+    }
+}
+
+/// The front request of a queue, by its handler.
+fn front_start<A: Agent>(
+    plan: &IndexedPlan,
+    parts: &Parts<A>,
+    cpu: Cpu,
+    q: ObjectId,
+) -> Option<Event>
+    ensures { result ≡ groups.start_at plan.now parts.now cpu.0 rank.Handler q.0 }
+{
+    let r = parts.queues().head(q)?;
+    let callback = plan.handler_for(q, parts.requests().info(r).form)?;
+    Some(starts_for(plan, parts, cpu, callback, q, r))
+}
+
+/// The start of a step's callback.
+fn start_of_step<A: Agent>(
+    plan: &IndexedPlan,
+    parts: &Parts<A>,
+    cpu: Cpu,
+    d: ObjectId,
+    step: Step,
+) -> Option<Event>
+    ensures { result ≡ groups.start_of_step plan.now parts.now cpu.0 d.0 step }
+{
+    match step {
+        Step::Run {
+            callback,
+            interrupt: None,
+        } => Some(starts(plan, parts, cpu, callback, d)),
+        Step::Run {
+            callback,
+            interrupt: Some(interrupt),
+        } => Some(starts(plan, parts, cpu, callback, interrupt.id)),
+        Step::Pass { .. } => None,
+    }
+}
+
+/// The next step of a device, where it is a callback.
+fn step_start<A: Agent>(
+    plan: &IndexedPlan,
+    parts: &Parts<A>,
+    cpu: Cpu,
+    d: ObjectId,
+) -> Option<Event>
+    ensures { result ≡ groups.start_at plan.now parts.now cpu.0 rank.Sequence d.0 }
+{
+    start_of_step(plan, parts, cpu, d, parts.pnp().next_step(d)?)
+}
+
+/// A queued work item, by its place.
+fn work_start<A: Agent>(
+    plan: &IndexedPlan,
+    parts: &Parts<A>,
+    cpu: Cpu,
+    place: usize,
+) -> Option<Event>
+    requires { place < length parts.now.work_items.queued }
+    ensures { result ≡ groups.start_at plan.now parts.now cpu.0 rank.Work place }
+{
+    let _work_items = parts.work_items().len();
+    let o = parts.work_items().at(place as u32);
+    Some(starts(plan, parts, cpu, Callback::EvtWorkItem, o))
+}
+
+/// The candidate among the starts of a rank at a place.
+pub(crate) fn start_at<A: Agent>(
+    plan: &IndexedPlan,
+    parts: &Parts<A>,
+    cpu: Cpu,
+    rank: Rank,
+    place: usize,
+) -> Option<Event>
+    requires within { place < groups.places_of_rank plan.now parts.now rank }
+    requires small { place < 2 ^ 32 }
+    ensures { result ≡ groups.start_at plan.now parts.now cpu.0 rank place }
+{
+    let id = ObjectId(place as u32);
+    match rank {
+        Rank::Isr => isr_start(plan, parts, cpu, id),
+        Rank::Deferred => dpc_start(plan, parts, cpu, place),
+        Rank::Timed => timer_start(plan, parts, cpu, place),
+        Rank::QueueState => notification_start(plan, parts, cpu, id),
+        Rank::Handler => front_start(plan, parts, cpu, id),
+        Rank::Sequence => step_start(plan, parts, cpu, id),
+        Rank::Work => work_start(plan, parts, cpu, place),
+        Rank::Cleanup => Some(starts(plan, parts, cpu, Callback::EvtCleanupCallback, id)),
+        Rank::Destroy => Some(starts(plan, parts, cpu, Callback::EvtDestroyCallback, id)),
+        Rank::Completion | Rank::Cancel | Rank::CanceledOnQueue | Rank::Stop | Rank::Resume => None,
+    }
+}
+
+/// The callback of a rank for requests, other than the handlers.
+pub(crate) fn callback_for(rank: Rank) -> Callback
+    ensures { result ≡ groups.callback_for rank }
+{
+    match rank {
+        Rank::Cancel => Callback::EvtRequestCancel,
+        Rank::CanceledOnQueue => Callback::EvtIoCanceledOnQueue,
+        Rank::Stop => Callback::EvtIoStop,
+        Rank::Resume => Callback::EvtIoResume,
+        _ => Callback::EvtRequestCompletion,
+    }
+}
+
+/// The completion routine of what is sent to a target, by its place.
+fn completion_start<A: Agent>(
+    plan: &IndexedPlan,
+    parts: &Parts<A>,
+    cpu: Cpu,
+    t: ObjectId,
+    place: usize,
+) -> Option<Event>
+    requires { place < length (targets.the_target parts.now.targets t.0).sent }
+    ensures { result ≡ groups.start_for plan.now parts.now cpu.0 rank.Completion t.0 place }
+{
+    let _sent = parts.targets().pending(t);
+    let sending = parts.targets().sent_at(t, place as u32);
+    Some(starts_for(
+        plan,
+        parts,
+        cpu,
+        Callback::EvtRequestCompletion,
+        t,
+        sending.request,
+    ))
+}
+
+/// The candidate among the starts of a rank for the requests of an object at a place.
+pub(crate) fn start_for<A: Agent>(
+    plan: &IndexedPlan,
+    parts: &Parts<A>,
+    cpu: Cpu,
+    rank: Rank,
+    o: ObjectId,
+    place: usize,
+) -> Option<Event>
+    requires within { place < groups.places_for plan.now parts.now rank o.0 }
+    requires small { place < 2 ^ 32 }
+    ensures { result ≡ groups.start_for plan.now parts.now cpu.0 rank o.0 place }
+{
+    match rank {
+        Rank::Completion => completion_start(plan, parts, cpu, o, place),
+        _ => Some(starts_for(
+            plan,
+            parts,
+            cpu,
+            callback_for(rank),
+            o,
+            ObjectId(place as u32),
+        )),
+    }
+}
+
+/// The next step of a device, where it is a stage.
+pub(crate) fn stage_at<A: Agent>(plan: &IndexedPlan, parts: &Parts<A>, d: ObjectId) -> Option<Event>
+    ensures { result ≡ groups.candidate plan.now A.meaning parts.now group.Stages d.0 }
+{
+    match parts.pnp().next_step(d)? {
+        Step::Pass { stage, interrupt } => Some(Event::Stage {
+            device: parts.handle_in(plan, d),
+            stage,
+            interrupt,
+        }),
+        Step::Run { .. } => None,
+    }
+}
+
+/// The completion of a request by the framework.
+pub(crate) fn completion_at<A: Agent>(
+    plan: &IndexedPlan,
+    parts: &Parts<A>,
+    r: ObjectId,
+) -> Option<Event>
+    ensures { result ≡ groups.candidate plan.now A.meaning parts.now group.Completions r.0 }
+{
+    match parts.requests().place(r) {
+        Place::Closing(status) => Some(Event::Complete {
+            request: parts.handle_in(plan, r),
+            status,
+        }),
+        _ => None,
+    }
+}
+
+/// What an agent posts now.
+pub(crate) fn posted_at<A: Agent>(plan: &IndexedPlan, parts: &Parts<A>, agent: u16) -> Option<Event>
+    ensures { result ≡ groups.candidate plan.now A.meaning parts.now group.Posts agent }
+{
+    let post = due_of(parts, agent)?;
+    Some(Event::Posted {
+        agent,
+        post,
+        answer: post_answer(plan, parts, agent, &post),
+    })
+}
+
+/// The candidate of a group at a place.
+pub(crate) fn candidate<A: Agent>(
+    plan: &IndexedPlan,
+    parts: &Parts<A>,
+    group: Group,
+    place: usize,
+) -> Option<Event>
+    requires within { place < groups.places_in plan.now parts.now group }
+    requires small { place < 2 ^ 32 }
+    requires agents { length parts.now.agents ≤ 2 ^ 16 }
+    ensures { result ≡ groups.candidate plan.now A.meaning parts.now group place }
+{
+    let id = ObjectId(place as u32);
+    match group {
+        Group::OwnEvent { cpu } => own_event(plan, parts, Cpu(cpu)),
+        Group::Parks { cpu } => parks(parts, Cpu(cpu)),
+        Group::Unparks { cpu } => unparks(parts, Cpu(cpu), place),
+        Group::Starts { cpu, rank } => start_at(plan, parts, Cpu(cpu), rank, place),
+        Group::StartsFor { cpu, rank, object } => {
+            start_for(plan, parts, Cpu(cpu), rank, ObjectId(object), place)
+        }
+        Group::Stages => stage_at(plan, parts, id),
+        Group::Completions => completion_at(plan, parts, id),
+        Group::Cleanups => Some(Event::Cleanup {
+            object: parts.handle_in(plan, id),
+        }),
+        Group::Destroys => Some(Event::Destroy {
+            object: parts.handle_in(plan, id),
+        }),
+        Group::Posts => posted_at(plan, parts, place as u16),
+    }
+}
+
+/// The top frame leaves a processor.
+fn parks<A: Agent>(parts: &Parts<A>, cpu: Cpu) -> Option<Event>
+    ensures { result ≡ option_map (groups.parks cpu.0) (cpus.top parts.now.cpus cpu.0) }
+{
+    let frame = parts.cpus().top(cpu)?;
+    Some(Event::Park { cpu, frame })
+}
+
+/// A parked frame comes back to a processor, by its place.
+fn unparks<A: Agent>(parts: &Parts<A>, cpu: Cpu, place: usize) -> Option<Event>
+    ensures { result ≡ option_map (groups.unparks cpu.0) (slice_get parts.now.cpus.parked place) }
+{
+    let frame = parts.cpus().parked_at(place)?;
+    Some(Event::Unpark { cpu, frame })
+}
+
+/// How many places a group has.
+pub(crate) fn places_in<A: Agent>(plan: &IndexedPlan, parts: &Parts<A>, group: Group) -> usize
+    requires agents { length parts.now.agents ≤ 2 ^ 16 }
+    ensures value { result ≡ groups.places_in plan.now parts.now group }
+    ensures small { result ≤ 2 ^ 32 }
+{
+    match group {
+        Group::OwnEvent { .. } | Group::Parks { .. } => 1,
+        Group::Unparks { .. } => parked_len(parts),
+        Group::Starts { rank, .. } => places_of_rank(plan, parts, rank),
+        Group::StartsFor { rank, object, .. } => places_for(plan, parts, rank, ObjectId(object)),
+        Group::Stages => declared_end(plan),
+        Group::Completions => parts.requests().len() as usize,
+        Group::Cleanups | Group::Destroys => parts.tree().len() as usize,
+        Group::Posts => parts.agent_len(),
+    }
+}
+
+/// The id after those of what is declared.
+pub(crate) fn declared_end(plan: &IndexedPlan) -> usize
+    ensures value { result ≡ groups.declared_end plan.now }
+    ensures small { result ≤ 2 ^ 32 }
+{
+    let _declared = plan.declared_len();
+    plan.declared_end()
+}
+
+/// How many frames are parked.
+fn parked_len<A: Agent>(parts: &Parts<A>) -> usize
+    ensures value { result ≡ length parts.now.cpus.parked }
+    ensures small { result ≤ 2 ^ 32 }
+{
+    let _live = parts.cpus().live_len();
+    parts.cpus().parked_len()
+}
+
+/// Whether a callback is declared on some object.
+fn is_declared_somewhere(plan: &IndexedPlan, callback: Callback) -> bool
+    ensures { result ≡ groups.is_declared_somewhere plan.now callback }
+{
+    plan.plan()
+        .scripts
+        .as_slice()
+        .iter()
+        .any(|script| same_callback(script.callback, callback))
+}
+
+/// How many places the starts of a rank have; a callback that nothing declares has none.
+fn places_of_rank<A: Agent>(plan: &IndexedPlan, parts: &Parts<A>, rank: Rank) -> usize
+    ensures value { result ≡ groups.places_of_rank plan.now parts.now rank }
+    ensures small { result ≤ 2 ^ 32 }
+{
+    match rank {
+        Rank::Deferred => 1,
+        Rank::Timed => parts.timers().len() as usize,
+        Rank::Work => parts.work_items().len() as usize,
+        Rank::Cleanup => places_if(plan, Callback::EvtCleanupCallback, parts.tree().len()),
+        Rank::Destroy => places_if(plan, Callback::EvtDestroyCallback, parts.tree().len()),
+        _ => declared_end(plan),
+    }
+}
+
+/// So many places, where something declares the callback.
+fn places_if(plan: &IndexedPlan, callback: Callback, places: u32) -> usize
+    ensures value { result ≡ groups.places_if (groups.is_declared_somewhere plan.now callback) places }
+    ensures small { result ≤ 2 ^ 32 }
+{
+    if is_declared_somewhere(plan, callback) {
+        places as usize
+    } else {
+        0
+    }
+}
+
+/// How many places the starts of a rank for the requests of an object have.
+fn places_for<A: Agent>(plan: &IndexedPlan, parts: &Parts<A>, rank: Rank, o: ObjectId) -> usize
+    ensures value { result ≡ groups.places_for plan.now parts.now rank o.0 }
+    ensures small { result ≤ 2 ^ 32 }
+{
+    match rank {
+        Rank::Completion => parts.targets().pending(o) as usize,
+        _ => {
+            if plan.declares(callback_for(rank), o) {
+                parts.requests().len() as usize
+            } else {
+                0
+            }
+        }
+    }
+}

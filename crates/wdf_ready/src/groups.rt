@@ -1,0 +1,135 @@
+//! The groups of candidates of a run, in the order in which candidates come. (own)
+ghost use Rattle.std.specs.Prelude.{◌≡◌, ◌∷◌, ◌++◌, [], IfOk, OnOk};
+ghost use Rattle.std.specs.List.{flat_map, range_with_len};
+ghost use Rattle.wdf_model.specs.rules.Groups as groups;
+ghost use Rattle.wdf_model.specs.Plans as plans;
+
+use std::alloc::Global;
+use wdf_base::{Memory, ObjectId, Rank};
+use wdf_model::Group;
+use wdf_plans::IndexedPlan;
+
+/// The ranks of callbacks, in the order of their starts. (own)
+const RANKS: [Rank; 14] = [
+    Rank::Isr,
+    Rank::Deferred,
+    Rank::Timed,
+    Rank::Completion,
+    Rank::Cancel,
+    Rank::CanceledOnQueue,
+    Rank::Stop,
+    Rank::Resume,
+    Rank::QueueState,
+    Rank::Handler,
+    Rank::Sequence,
+    Rank::Work,
+    Rank::Cleanup,
+    Rank::Destroy,
+];
+
+/// The groups of candidates of a plan's run, in the order in which candidates come.
+pub fn groups_of(alloc: Global, plan: &IndexedPlan) -> Result<Vec<Group>, Memory>
+    ensures groups { IfOk result (λ made. made.items ≡ groups.groups plan.now) }
+{
+    let mut made = Vec::new(alloc);
+    push_processors(&mut made, plan)?;
+    made.push(Group::Stages)?;
+    made.push(Group::Completions)?;
+    made.push(Group::Cleanups)?;
+    made.push(Group::Destroys)?;
+    made.push(Group::Posts)?;
+    Ok(made)
+}
+
+/// Pushes the groups of each processor.
+fn push_processors(made: &mut Vec<Group>, plan: &IndexedPlan) -> Result<(), Memory>
+    ensures { OnOk result (made.new.items ≡ made.old.items ++ flat_map (groups.groups_of_cpu plan.now) (range_with_len 0 plan.now.cpus)) }
+{
+    for cpu in 0..plan.plan().cpus() {
+        match push_processor(made, plan, cpu) {
+            Ok(()) => {}
+            Err(error) => return Err(error),
+        }
+    }
+    Ok(())
+}
+
+/// Pushes the groups of a processor: its top frame's event, its leaving, those that come back, and the
+/// starts by rank.
+fn push_processor(made: &mut Vec<Group>, plan: &IndexedPlan, cpu: u8) -> Result<(), Memory>
+    ensures { OnOk result (made.new.items ≡ made.old.items ++ groups.groups_of_cpu plan.now cpu) }
+{
+    made.push(Group::OwnEvent { cpu })?;
+    made.push(Group::Parks { cpu })?;
+    made.push(Group::Unparks { cpu })?;
+    push_ranks(made, plan, cpu)
+}
+
+/// Pushes the starts on a processor, by rank.
+fn push_ranks(made: &mut Vec<Group>, plan: &IndexedPlan, cpu: u8) -> Result<(), Memory>
+    ensures { OnOk result (made.new.items ≡ made.old.items ++ flat_map (groups.groups_of_rank plan.now cpu) groups.RANKS) }
+{
+    for rank in &RANKS {
+        match push_rank(made, plan, cpu, *rank) {
+            Ok(()) => {}
+            Err(error) => return Err(error),
+        }
+    }
+    Ok(())
+}
+
+/// Pushes the starts of a rank on a processor.
+fn push_rank(made: &mut Vec<Group>, plan: &IndexedPlan, cpu: u8, rank: Rank) -> Result<(), Memory>
+    ensures { OnOk result (made.new.items ≡ made.old.items ++ groups.groups_of_rank plan.now cpu rank) }
+{
+    match rank {
+        Rank::Completion => push_for_targets(made, plan, cpu, rank),
+        Rank::Cancel | Rank::CanceledOnQueue | Rank::Stop | Rank::Resume => {
+            push_for_queues(made, plan, cpu, rank)
+        }
+        _ => push(made, Group::Starts { cpu, rank }),
+    }
+}
+
+/// Pushes the starts of a rank for the requests of each target.
+fn push_for_targets(
+    made: &mut Vec<Group>,
+    plan: &IndexedPlan,
+    cpu: u8,
+    rank: Rank,
+) -> Result<(), Memory>
+    ensures { OnOk result (made.new.items ≡ made.old.items ++ groups.groups_for cpu rank (plans.targets_of plan.now)) }
+{
+    for k in 0..plan.declared_len() {
+        let object = k + 1;
+        if plan.target_of(ObjectId(object)).is_some() {
+            made.push(Group::StartsFor { cpu, rank, object })?;
+        }
+    }
+    Ok(())
+}
+
+/// Pushes the starts of a rank for the requests of each queue.
+fn push_for_queues(
+    made: &mut Vec<Group>,
+    plan: &IndexedPlan,
+    cpu: u8,
+    rank: Rank,
+) -> Result<(), Memory>
+    ensures { OnOk result (made.new.items ≡ made.old.items ++ groups.groups_for cpu rank (groups.queues_in plan.now)) }
+{
+    for k in 0..plan.declared_len() {
+        let object = k + 1;
+        if plan.queue_of(ObjectId(object)).is_some() {
+            made.push(Group::StartsFor { cpu, rank, object })?;
+        }
+    }
+    Ok(())
+}
+
+fn push(made: &mut Vec<Group>, group: Group) -> Result<(), Memory>
+    ensures { OnOk result (made.new.items ≡ made.old.items ++ group ∷ []) }
+{
+    made.push(group)?;
+    Ok(())
+}

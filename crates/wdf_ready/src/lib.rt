@@ -1,0 +1,14 @@
+//! What may follow in a state: the candidates of each group, in their order, and the search over them;
+//! what is open there, and what waits for time.
+#![tactic(auto)]
+
+mod actor;
+mod candidates;
+mod endings;
+mod groups;
+mod search;
+
+pub use actor::is_by;
+pub use endings::{is_open, waits_for_time};
+pub use groups::groups_of;
+pub use search::{allowed_at, allowed_len, first_by};

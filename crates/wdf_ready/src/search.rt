@@ -1,0 +1,194 @@
+//! The search over the groups and their places.
+ghost use Rattle.std.specs.Prelude.{◌≡◌, ◌+◌, ◌<◌, ◌≤◌, ◌^◌, [], Some, None, length, position, slice_get, option_map, MatchOption, MatchResult};
+ghost use Rattle.wdf_model.specs.rules.Groups as groups;
+ghost use Rattle.wdf_ready.specs.Actors as actors;
+ghost use Rattle.wdf_ready.specs.Search as search;
+
+use crate::actor::is_by;
+use crate::candidates::{candidate, places_in};
+use wdf_base::{Actor, Agent, Event, ObjectId};
+use wdf_model::Group;
+use wdf_parts::Parts;
+use wdf_plans::IndexedPlan;
+use wdf_steps::may;
+
+/// The candidate of a group at a place, if it may come.
+fn offered<A: Agent>(
+    plan: &IndexedPlan,
+    parts: &Parts<A>,
+    group: Group,
+    place: usize,
+) -> Option<Event>
+    requires within { place < groups.places_in plan.now parts.now group }
+    requires small { place < 2 ^ 32 }
+    requires agents { length parts.now.agents ≤ 2 ^ 16 }
+    ensures { result ≡ search.offered plan.now A.meaning parts.now group place }
+{
+    let event = candidate(plan, parts, group, place)?;
+    if may(plan, parts, &event) {
+        Some(event)
+    } else {
+        None
+    }
+}
+
+/// The first place from one on whose candidate may come, as far as a look at what is closing, asked or
+/// cleaned says.
+#[tactic(auto, using(crate::proofs::Skips::skips_completions, crate::proofs::Skips::skips_cleanups, crate::proofs::Skips::skips_destroys))]
+fn next_place<A: Agent>(
+    plan: &IndexedPlan,
+    parts: &Parts<A>,
+    group: Group,
+    from: usize,
+) -> Option<usize>
+    requires agents { length parts.now.agents ≤ 2 ^ 16 }
+    requires small { from ≤ 2 ^ 32 }
+    ensures { MatchOption result (search.offered_from plan.now A.meaning parts.now group from ≡ [])
+        (λ place. search.Skips plan.now A.meaning parts.now group from place) }
+{
+    if from >= places_in(plan, parts, group) {
+        return None;
+    }
+    match group {
+        Group::Completions => place_of(parts.requests().next_closing(ObjectId(from as u32))),
+        Group::Cleanups => place_of(parts.tree().asked_from(ObjectId(from as u32))),
+        Group::Destroys => place_of(parts.tree().cleaned_from(ObjectId(from as u32))),
+        _ => Some(from),
+    }
+}
+
+/// An id as a place.
+fn place_of(id: Option<ObjectId>) -> Option<usize>
+    ensures { result ≡ option_map (λ o. o.0) id }
+{
+    match id {
+        Some(id) => Some(id.0 as usize),
+        None => None,
+    }
+}
+
+/// How many events may come of a group's places.
+fn offered_len<A: Agent>(plan: &IndexedPlan, parts: &Parts<A>, group: Group) -> usize
+    requires agents { length parts.now.agents ≤ 2 ^ 16 }
+    ensures length { result ≡ length (search.offered_from plan.now A.meaning parts.now group 0) }
+    ensures small { result ≤ 2 ^ 32 }
+{
+    let mut count = 0;
+    let mut at = 0;
+    'search: while let Some(place) = next_place(plan, parts, group, at) {
+        if offered(plan, parts, group, place).is_some() {
+            count += 1;
+        }
+        at = place + 1;
+    }
+    count
+}
+
+/// The k-th of the events that may come of a group's places, or how many places of a list are left after
+/// them.
+fn offered_at<A: Agent>(
+    plan: &IndexedPlan,
+    parts: &Parts<A>,
+    group: Group,
+    k: usize,
+) -> Result<Event, usize>
+    requires agents { length parts.now.agents ≤ 2 ^ 16 }
+    ensures { MatchResult result (λ event. slice_get (search.offered_from plan.now A.meaning parts.now group 0) k ≡ Some event)
+        (λ rest. length (search.offered_from plan.now A.meaning parts.now group 0) + rest ≡ k) }
+{
+    let mut left = k;
+    let mut at = 0;
+    'search: while let Some(place) = next_place(plan, parts, group, at) {
+        if let Some(event) = offered(plan, parts, group, place) {
+            if left == 0 {
+                return Ok(event);
+            }
+            left -= 1;
+        }
+        at = place + 1;
+    }
+    Err(left)
+}
+
+/// How many events may come of all these groups.
+pub fn allowed_len<A: Agent>(plan: &IndexedPlan, parts: &Parts<A>, all: &[Group]) -> usize
+    requires agents { length parts.now.agents ≤ 2 ^ 16 }
+    requires few { length all.now < 2 ^ 20 }
+    ensures length { result ≡ length (search.events_of plan.now A.meaning parts.now all.now) }
+    ensures small { result < 2 ^ 60 }
+{
+    let mut count = 0;
+    for group in all {
+        count += offered_len(plan, parts, *group);
+    }
+    count
+}
+
+/// The k-th of the events that may come of all these groups; `None` exactly where there are fewer.
+pub fn allowed_at<A: Agent>(
+    plan: &IndexedPlan,
+    parts: &Parts<A>,
+    all: &[Group],
+    k: usize,
+) -> Option<Event>
+    requires { length parts.now.agents ≤ 2 ^ 16 }
+    ensures { result ≡ slice_get (search.events_of plan.now A.meaning parts.now all.now) k }
+{
+    let mut left = k;
+    for group in all {
+        match offered_at(plan, parts, *group, left) {
+            Ok(event) => return Some(event),
+            Err(rest) => left = rest,
+        }
+    }
+    None
+}
+
+/// The first event of an actor among those that may come of a group's places, by its place among them; or how
+/// many may come, none of which is the actor's.
+fn first_in<A: Agent>(
+    plan: &IndexedPlan,
+    parts: &Parts<A>,
+    group: Group,
+    actor: Actor,
+) -> Result<usize, usize>
+    requires agents { length parts.now.agents ≤ 2 ^ 16 }
+    ensures first { MatchResult result (search.IsFirst (actors.is_by actor) (search.offered_from plan.now A.meaning parts.now group 0))
+        (search.HasNone (actors.is_by actor) (search.offered_from plan.now A.meaning parts.now group 0)) }
+    ensures small { MatchResult result (λ place. place ≤ 2 ^ 32) (λ count. count ≤ 2 ^ 32) }
+{
+    let mut count = 0;
+    let mut at = 0;
+    'search: while let Some(place) = next_place(plan, parts, group, at) {
+        if let Some(event) = offered(plan, parts, group, place) {
+            if is_by(&event, actor) {
+                return Ok(count);
+            }
+            count += 1;
+        }
+        at = place + 1;
+    }
+    Err(count)
+}
+
+/// The place of the first event of an actor among those that may come of all these groups; `None` exactly
+/// where there is none.
+pub fn first_by<A: Agent>(
+    plan: &IndexedPlan,
+    parts: &Parts<A>,
+    all: &[Group],
+    actor: Actor,
+) -> Option<usize>
+    requires agents { length parts.now.agents ≤ 2 ^ 16 }
+    requires few { length all.now < 2 ^ 20 }
+    ensures { result ≡ position (actors.is_by actor) (search.events_of plan.now A.meaning parts.now all.now) }
+{
+    let mut before = 0;
+    for group in all {
+        match first_in(plan, parts, *group, actor) {
+            Ok(place) => return Some(before + place),
+            Err(count) => before += count,
+        }
+    }
+    None
+}

@@ -1,0 +1,5 @@
+pub mod Cutting
+pub mod RunLines
+pub mod Replayed
+pub mod Taken
+pub mod Complete

@@ -1,0 +1,12 @@
+pub mod Happened
+pub mod Quiet
+pub mod Marks
+pub mod Gives
+pub mod FirstParts
+pub mod Cancels
+pub mod CancelsOverRuns
+pub mod Lines
+pub mod Standing
+pub mod Entries
+pub mod Orders
+pub mod Turns

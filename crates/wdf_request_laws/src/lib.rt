@@ -1,0 +1,22 @@
+//! Laws of a trace on requests, which every run of the written machine keeps, whatever the plan and the agents are.
+#![tactic(auto)]
+
+ghost use Rattle.std.specs.Prelude.{◌≡◌, ℕ, true, List, Some, slice_get, take};
+ghost use Rattle.wdf_base.specs.Meaning.{Meaning};
+ghost use Rattle.wdf_base.specs.declared.plan.Plan.{Plan};
+ghost use Rattle.wdf_base.specs.declared.event.Event.{Event};
+ghost use Rattle.wdf_model.specs.rules.Ready.{IsRunOf};
+ghost use Rattle.wdf_laws.specs.Laws.{law_7, law_8};
+
+/// In every run, EvtRequestCancel begins once for a request, and only for one that was cancelled while it was marked.
+pub fn runs_cancel_once<A>()
+    ensures { (plan : Plan) (m : Meaning A) (run : List Event) (k : ℕ) (e : Event) → IsRunOf plan m run
+        → slice_get run k ≡ Some e → law_7 (take k run) e ≡ true }
+{}
+
+/// In every run, a queue presents from its head: who entered at the head before who entered at the tail, the later of
+/// two at the head first, and the earlier of two at the tail first.
+pub fn runs_present_in_turn<A>()
+    ensures { (plan : Plan) (m : Meaning A) (run : List Event) (k : ℕ) (e : Event) → IsRunOf plan m run
+        → slice_get run k ≡ Some e → law_8 (take k run) e ≡ true }
+{}

@@ -1,0 +1,4 @@
+pub mod Cut
+pub mod OneRun
+pub mod TableWords
+pub mod Unfed

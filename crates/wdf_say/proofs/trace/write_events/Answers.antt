@@ -1,0 +1,34 @@
+-- A line that was cut short leaves a front of all lines; a whole line is one line more.
+use Rattle.std.proofs.Common.{◌+◌, ◌++◌, ◌∙◌, arith, codes, take}
+use Rattle.wdf_trace.specs.Lines.{line_text, lines_from}
+use Rattle.wdf_say.proofs.Writing.{cut_behind, lines_at, lines_more, gains_more}
+use Rattle.wdf_say.proofs.Sinks.{ends_later}
+use Rattle.wdf_say.proofs.trace.write_events.Goals as goal
+
+pub returns-in-Err-clause-cut : goal.returns-in-Err-clause-cut
+returns-in-Err-clause-cut g c =
+    let at = lines_at c.args.core.now.plan c.args.core.now.journal c.journal_at-event.result c.loop-k.k c.journal_at-event.ensures in
+    let cut = rw c.plan.ensures at c.in-Err.ensures.cut in
+    cut_behind (g.K.Sink.written c.args.sink.now) (g.K.Sink.written c.loop-k.sink) (g.K.Sink.written c.write_event.new.sink)
+    (g.K.Sink.faults c.args.sink.now) (g.K.Sink.faults c.loop-k.sink) (g.K.Sink.faults c.write_event.new.sink)
+    (lines_from c.args.core.now.plan 1 (take c.loop-k.k c.args.core.now.journal))
+    (line_text c.args.core.now.plan (c.loop-k.k + 1) c.journal_at-event.result ++ codes "\n")
+    at.0 (lines_from c.args.core.now.plan 1 c.args.core.now.journal)
+    c.loop-k.invariant.gained (omega (arith, c.loop-k.invariant.quiet)) c.in-Err.ensures.never_falls cut at.1
+
+pub returns-in-Err-clause-not_again : goal.returns-in-Err-clause-not_again
+returns-in-Err-clause-not_again g c =
+    ends_later g.K.Sink.refused g.K.Sink.faults c.args.sink.now c.loop-k.sink c.write_event.new.sink c.loop-k.invariant.quiet c.in-Err.ensures.not_again
+
+pub loop-k-preserved : goal.loop-k-preserved
+loop-k-preserved g c =
+    let more = lines_more c.args.core.now.plan c.args.core.now.journal c.journal_at-event.result c.loop-k.k c.journal_at-event.ensures in
+    let whole = rw c.plan.ensures at c.in-Ok.ensures.whole in
+    record {
+      gained = rw more
+          (gains_more (g.K.Sink.written c.args.sink.now) (g.K.Sink.written c.loop-k.sink) (g.K.Sink.written c.write_event.new.sink)
+          (lines_from c.args.core.now.plan 1 (take c.loop-k.k c.args.core.now.journal))
+          (line_text c.args.core.now.plan (c.loop-k.k + 1) c.journal_at-event.result ++ codes "\n")
+          c.loop-k.invariant.gained whole);
+      quiet = c.in-Ok.ensures.quiet ∙ c.loop-k.invariant.quiet;
+    }

@@ -1,0 +1,11 @@
+-- The lines of the events before this one were written, and no write failed.
+use Rattle.std.proofs.Common.{◌≡◌, take}
+use Rattle.wdf_io.specs.Outside.{Gains}
+use Rattle.wdf_trace.specs.Lines.{lines_from}
+use Rattle.wdf_say.proofs.trace.write_events.Given as goal
+
+abbrev pub invariant-loop-k : goal.invariant-loop-k
+invariant-loop-k g l = record {
+  gained : Gains (g.K.Sink.written l.initial.sink) (g.K.Sink.written l.sink) (lines_from l.core.plan 1 (take l.k l.core.journal));
+  quiet : g.K.Sink.faults l.sink ≡ g.K.Sink.faults l.initial.sink;
+}

@@ -1,0 +1,4 @@
+pub mod Stacks
+pub mod Holding
+pub mod Frames
+pub mod Scopes

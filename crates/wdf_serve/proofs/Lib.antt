@@ -1,0 +1,6 @@
+pub mod Forms
+pub mod Telling
+pub mod Statuses
+pub mod Ended
+pub mod Clauses
+pub mod Serving

@@ -1,0 +1,34 @@
+-- What the program does for its arguments. (own)
+use Rattle.std.specs.Prelude.{ℕ, ◌≡◌, ◌⊎◌, List, [], map, drop, string_bytes, Result, Ok, Err}
+use Rattle.std.specs.IoError.{error_kind}
+use Rattle.std.specs.Vec.Iter.{into_iter_items}
+use Rattle.std.specs.declared.alloc.Global.{Global}
+use Rattle.std.specs.declared.io.Error.{Error}
+use Rattle.std.specs.declared.io.ErrorKind.TheVariants.{OutOfMemory}
+use Rattle.std.specs.declared.string.String.{String}
+use Rattle.std.specs.declared.vec.IntoIter.{IntoIter}
+use Rattle.wdf_say.specs.Refusals.{no_memory_line}
+use Rattle.wdf_say.specs.Said.{Sinking, Says}
+use Rattle.wdf_serve.specs.Told.{TellsWords}
+use Rattle.wdf_top.specs.Top.{Sourcing, IsUnread}
+
+-- the arguments, as the system gives them: the first is the program's name
+abbrev pub Arguments : Type 0
+Arguments = Result (IntoIter (String Global) Global) Error
+
+-- the words behind the program's name; none where the system can't give the arguments
+abbrev pub words_behind : Arguments → List (List ℕ)
+words_behind (Ok arguments) = map string_bytes (drop 1 (into_iter_items arguments))
+words_behind (Err error) = []
+
+-- the system had no memory for the arguments
+abbrev pub LacksMemory : Arguments → Type 0
+LacksMemory (Ok arguments) = ⊥
+LacksMemory (Err error) = error_kind error ≡ OutOfMemory
+
+-- What the program does for its arguments: what the top call does for the words behind its name; or memory for the
+-- words is refused, nothing is read, and that is told.
+abbrev pub Serves : Arguments → Sourcing → Sinking → ℕ → Type 0
+Serves arguments s k answer =
+    TellsWords (words_behind arguments) s k answer
+    ⊎ (IsUnread s × Says k no_memory_line 15 answer)

@@ -1,0 +1,100 @@
+//! The scenarios of the tests.
+
+/// Two queues under one device's lock, on two processors, with as many events as there may be.
+pub const DEVICE_SCOPE: &[u8] = b"\
+cpus 2\n\
+limit 200000\n\
+objects 16\n\
+device D working\n\
+scope device\n\
+queue R sequential\n\
+for read\n\
+on EvtIoRead\n\
+spend 1\n\
+call WdfRequestComplete request SUCCESS\n\
+end\n\
+end\n\
+queue W sequential\n\
+for write\n\
+on EvtIoWrite\n\
+call WdfRequestComplete request SUCCESS\n\
+end\n\
+end\n\
+end\n\
+app A\n\
+at 0 read D 8\n\
+at 0 write D 8\n\
+end\n\
+";
+
+/// One app reads once: six events and the ending, whoever comes first.
+pub const ONE_READ: &[u8] = b"\
+cpus 1\n\
+limit 100\n\
+objects 16\n\
+device D working\n\
+queue Q sequential\n\
+default\n\
+on EvtIoRead\n\
+call WdfRequestComplete request SUCCESS\n\
+end\n\
+end\n\
+end\n\
+app A\n\
+at 0 read D 16\n\
+end\n\
+";
+
+/// The driver keeps the read: three events, the ending and a line of the wait list.
+pub const KEPT: &[u8] = b"\
+cpus 1\n\
+limit 100\n\
+objects 16\n\
+device D working\n\
+queue Q sequential\n\
+default\n\
+on EvtIoRead\n\
+end\n\
+end\n\
+end\n\
+app A\n\
+at 0 read D 16\n\
+end\n\
+";
+
+/// The driver completes the read twice: a fault, whoever comes first. Its event is the fourth where the request is still
+/// there, and the fifth where the framework has cleaned it up.
+pub const TWICE: &[u8] = b"\
+cpus 1\n\
+limit 100\n\
+objects 16\n\
+device D working\n\
+queue Q sequential\n\
+default\n\
+on EvtIoRead\n\
+call WdfRequestComplete request SUCCESS\n\
+call WdfRequestComplete request SUCCESS\n\
+end\n\
+end\n\
+end\n\
+app A\n\
+at 0 read D 16\n\
+end\n\
+";
+
+/// An interrupt that nobody lowers: its routine starts again and again, up to the limit.
+pub const SPINNING: &[u8] = b"\
+cpus 1\n\
+limit 50\n\
+objects 16\n\
+device D\n\
+at 0 raise I\n\
+interrupt I 5\n\
+on EvtInterruptIsr\n\
+end\n\
+end\n\
+end\n\
+pnp\n\
+at 0 start D\n\
+end\n\
+";

@@ -1,0 +1,12 @@
+pub mod Never
+pub mod Along
+pub mod Queues
+pub mod Near
+pub mod Returning
+pub mod Moves
+pub mod ReturnsUp
+pub mod Course
+pub mod Takes
+pub mod Stops
+pub mod Acks
+pub mod Laws

@@ -1,0 +1,250 @@
+-- At each place of a run, a request returns to a power-managed queue only while the queues of its device are up.
+use Rattle.std.proofs.Common.{if◌then◌else◌, ◌≡◌, ◌≢◌, ℕ, Bool, true, false, not, ◌||◌, List, [], ◌∷◌, ◌++◌, inl, inr, Option, Some, None, fold, refl, sym, ap, subst, ◌∙◌}
+use Rattle.std.specs.List.{list_all}
+use Rattle.std.proofs.lemmas.Bool.{cases_Bool}
+use Rattle.wdf_base.specs.Meaning.{Meaning}
+use Rattle.wdf_base.specs.declared.ids.Handle.{Handle}
+use Rattle.wdf_base.specs.declared.plan.Plan.{Plan}
+use Rattle.wdf_base.specs.declared.value.Value.{Value}
+use Rattle.wdf_base.specs.declared.call.Callback.{Callback}
+use Rattle.wdf_base.specs.declared.rank.Rank.{Rank}
+use Rattle.wdf_base.specs.declared.rank.Rank.TheVariants as rank
+use Rattle.wdf_base.specs.declared.event.Event.{Event}
+use Rattle.wdf_base.specs.declared.event.Event.TheVariants as event
+use Rattle.wdf_base.specs.declared.event.Post.TheVariants as post
+use Rattle.wdf_base.specs.declared.event.Stage.{Stage}
+use Rattle.wdf_base.specs.declared.event.Stage.TheVariants as stage
+use Rattle.wdf_base.specs.declared.event.Step.TheVariants as step
+use Rattle.wdf_base.specs.declared.value.Status.TheVariants as status
+use Rattle.wdf_base.specs.declared.object.Place.TheVariants as place
+use Rattle.wdf_base.specs.Callbacks.{row_of}
+use Rattle.wdf_model.specs.declared.entries.Request.{Request}
+use Rattle.wdf_model.specs.Tables.{entry}
+use Rattle.wdf_model.specs.Plans.{callback_irql, device_of_queue, is_managed, managed_queues, queues_of}
+use Rattle.wdf_model.specs.parts.Tree.{subtree}
+use Rattle.wdf_model.specs.parts.Locks.{lock_of_callback}
+use Rattle.wdf_model.specs.parts.Requests.{closed_at, is_returning_to, moved, no_request, place_of, request_of}
+use Rattle.wdf_model.specs.parts.Control as control
+use Rattle.wdf_model.specs.parts.Power.{Power, advance_stage, no_device_power}
+use Rattle.wdf_model.specs.State.{State, declared_in, is_powered}
+use Rattle.wdf_model.specs.rules.Deeds.{Deed, Advance_power, Ask_device, Disable_interrupt, Enable_interrupt, End_step, Pop_frame, Push_frame, Take_step, close_returning, do_deed, do_deeds}
+use Rattle.wdf_model.specs.rules.Starts.{effect, effect_for, end_deeds, end_of_step, new_frame, next_number, release_if_any, stage_deeds, start_deeds, start_effect, take_if_any}
+use Rattle.wdf_model.specs.rules.Steps.{deeds, may}
+use Rattle.wdf_model.specs.laws.Fits.{all_fit, fits}
+use Rattle.wdf_model.proofs.Maps.{entry_map, entry_put_other, entry_put_same}
+use Rattle.wdf_model.proofs.Tests.{both, both_left, both_right, not_true}
+use Rattle.wdf_model.proofs.Counts.{one_or_two}
+use Rattle.wdf_model.proofs.FitsOfEvents.{event_fits}
+use Rattle.wdf_agreements.proofs.Sound.{AllSound, Sound}
+use Rattle.wdf_agreements.proofs.SoundRuns.{KnownAll, all_sound}
+use Rattle.wdf_agreements.proofs.Stays.{asks_all}
+use Rattle.wdf_power_laws.proofs.Unmoved.{is_moving, none_moves, releasing_none, taking_none}
+use Rattle.wdf_power_laws.proofs.Calm.{deeds_calm}
+use Rattle.wdf_settled_laws.proofs.Queues.{of_device, of_each}
+use Rattle.wdf_settled_laws.proofs.Moves.{by_kind}
+use Rattle.wdf_settled_laws.proofs.Returning.{Comes, all_closed, all_returning, by_deed, comes_same, powered_same, requests_of}
+
+abbrev pub ReturnsUp : {A : Type 0} → Plan → State A → Type 0
+ReturnsUp plan S = (r q : ℕ) → is_returning_to q (place_of S.requests r) ≡ true → is_powered plan S q ≡ true
+
+-- ---- deeds that leave the power of devices
+
+abbrev is_power : Deed → Bool
+is_power (Advance_power d s) = true
+is_power _ = false
+
+abbrev none_power : List Deed → Bool
+none_power ds = list_all (λ d. not (is_power d)) ds
+
+power_moves : (d : Deed) → not (is_moving d) ≡ true → not (is_power d) ≡ true
+power_moves (Advance_power d s) h = absurd (let z : ⊥ = cc in z)
+power_moves _ h = refl
+
+calm_power : (ds : List Deed) → none_moves ds ≡ true → none_power ds ≡ true
+calm_power [] h = refl
+calm_power (d ∷ ds) h = both (not (is_power d)) (none_power ds) (power_moves d (both_left (not (is_moving d)) (none_moves ds) h)) (calm_power ds (both_right (not (is_moving d)) (none_moves ds) h))
+
+power_behind : (ds es : List Deed) → none_power ds ≡ true → none_power es ≡ true → none_power (ds ++ es) ≡ true
+power_behind [] es h k = k
+power_behind (d ∷ ds) es h k = both (not (is_power d)) (none_power (ds ++ es)) (both_left (not (is_power d)) (none_power ds) h) (power_behind ds es (both_right (not (is_power d)) (none_power ds) h) k)
+
+devices_same : {A : Type 0} (plan : Plan) (d : Deed) (S : State A) → is_power d ≡ false → Sound plan d S → (do_deed plan d S).power.devices ≡ S.power.devices
+devices_same plan (Advance_power d s) S h sound = absurd (let z : ⊥ = cc in z)
+devices_same plan (Push_frame cpu f frame level) S h sound = refl
+devices_same plan (Ask_device d a) S h sound = refl
+devices_same plan (Take_step d) S h sound = refl
+devices_same plan (End_step d s v) S h sound = refl
+devices_same plan (Enable_interrupt i) S h sound = refl
+devices_same plan (Disable_interrupt i) S h sound = refl
+devices_same plan d S h sound = (deeds_calm plan (d ∷ []) S refl (sound, tt)).devices
+
+either_is : (x y : Bool) → (x || y) ≡ true → (x ≡ true → y ≡ true) → y ≡ true
+either_is true y h k = k refl
+either_is false y h k = h
+
+module _ {A : Type 0} (plan : Plan) where
+  deed_returns : (d : Deed) (S : State A) → is_power d ≡ false → fits plan d S ≡ true → Sound plan d S → ReturnsUp plan S → ReturnsUp plan (do_deed plan d S)
+  deed_returns d S none fit sound k r q h =
+      powered_same plan S (do_deed plan d S) (devices_same plan d S none sound) q
+      ∙ either_is (is_returning_to q (place_of S.requests r)) (is_powered plan S q) (by_deed plan S d fit r q h) (k r q)
+
+  deeds_return : (ds : List Deed) (S : State A) → none_power ds ≡ true → all_fit plan ds S ≡ true → AllSound plan ds S → ReturnsUp plan S → ReturnsUp plan (do_deeds plan ds S)
+  deeds_return [] S none fit sound k = k
+  deeds_return (d ∷ ds) S none fit sound k =
+      deeds_return ds (do_deed plan d S) (both_right (not (is_power d)) (none_power ds) none) (both_right (fits plan d S) (all_fit plan ds (do_deed plan d S)) fit) sound.1
+      (deed_returns d S (not_true (is_power d) (both_left (not (is_power d)) (none_power ds) none)) (both_left (fits plan d S) (all_fit plan ds (do_deed plan d S)) fit) sound.0 k)
+
+-- ---- starts and ends
+
+effect_for_power : (k : Rank) (o r : ℕ) → none_power (effect_for k o r) ≡ true
+effect_for_power rank.Completion o r = refl
+effect_for_power rank.Cancel o r = refl
+effect_for_power rank.CanceledOnQueue o r = refl
+effect_for_power rank.Stop o r = refl
+effect_for_power rank.Resume o r = refl
+effect_for_power rank.Handler o r = refl
+effect_for_power _ o r = refl
+
+effect_power : {A : Type 0} (plan : Plan) (S : State A) (k : Rank) (cpu : ℕ) (c : Callback) (o : ℕ) → none_power (effect plan S k cpu c o) ≡ true
+effect_power plan S rank.Deferred cpu c o = refl
+effect_power plan S rank.Timed cpu c o = refl
+effect_power plan S rank.QueueState cpu c o = refl
+effect_power plan S rank.Sequence cpu c o = refl
+effect_power plan S rank.Work cpu c o = refl
+effect_power plan S rank.Cleanup cpu c o = refl
+effect_power plan S rank.Destroy cpu c o = refl
+effect_power plan S _ cpu c o = refl
+
+start_effect_power : {A : Type 0} (plan : Plan) (S : State A) (cpu : ℕ) (c : Callback) (o : ℕ) (r : Option Handle) → none_power (start_effect plan S cpu c o r) ≡ true
+start_effect_power plan S cpu c o None = effect_power plan S (row_of c).rank cpu c o
+start_effect_power plan S cpu c o (Some r) = effect_for_power (row_of c).rank o r.id.0
+
+start_power : {A : Type 0} (plan : Plan) (S : State A) (cpu : ℕ) (c : Callback) (o : Handle) (r : Option Handle) → none_power (start_deeds plan S cpu c o r) ≡ true
+start_power plan S cpu c o r =
+    let takes : List Deed = take_if_any (next_number S) (lock_of_callback plan c o.id.0 (declared_in plan S o.id.0)) in
+    power_behind (start_effect plan S cpu c o.id.0 r) (Push_frame cpu (next_number S) (new_frame plan S c o r) (callback_irql plan c o.id.0) ∷ takes) (start_effect_power plan S cpu c o.id.0 r)
+    (calm_power takes (taking_none (next_number S) (lock_of_callback plan c o.id.0 (declared_in plan S o.id.0))))
+
+step_power : {A : Type 0} (plan : Plan) (S : State A) (cpu : ℕ) (k : Rank) (c : Callback) (o : ℕ) (v : Value) → none_power (Pop_frame cpu ∷ end_of_step plan S k c o v) ≡ true
+step_power plan S cpu rank.Sequence c o v = refl
+step_power plan S cpu _ c o v = refl
+
+end_power : {A : Type 0} (plan : Plan) (S : State A) (cpu : ℕ) (c : Callback) (o : ℕ) (v : Value) → none_power (end_deeds plan S cpu c o v) ≡ true
+end_power plan S cpu c o v =
+    power_behind (release_if_any (lock_of_callback plan c o (declared_in plan S o))) (Pop_frame cpu ∷ end_of_step plan S (row_of c).rank c o v)
+    (calm_power (release_if_any (lock_of_callback plan c o (declared_in plan S o))) (releasing_none (lock_of_callback plan c o (declared_in plan S o)))) (step_power plan S cpu (row_of c).rank c o v)
+
+-- ---- stages
+
+abbrev never : ℕ → Bool
+never q = false
+
+never_is : (b : Bool) (q : ℕ) → (b || never q) ≡ true → b ≡ true
+never_is true q h = refl
+never_is false q h = absurd (let n : false ≡ true = h in let z : ⊥ = cc in z)
+
+closed_not : (q : ℕ) (e : Request) (b : Bool) → is_returning_to q e.place ≡ b → is_returning_to q (if b then moved (place.Closing status.Cancelled) e else e).place ≡ false
+closed_not q e true h = refl
+closed_not q e false h = h
+
+closed_one : {A : Type 0} (S : State A) (q r : ℕ) → is_returning_to q (place_of (close_returning S q).requests r) ≡ false
+closed_one S q r =
+    ap (λ (e : Request). is_returning_to q e.place) (entry_map no_request S.requests.all (closed_at (is_returning_to q)) r refl)
+    ∙ closed_not q (request_of S.requests r) (is_returning_to q (place_of S.requests r)) refl
+
+-- nothing returns to a queue to which what returns was closed
+closed_all : {A : Type 0} (qs : List ℕ) (S : State A) (r : ℕ) → list_all (λ q. not (is_returning_to q (place_of (fold close_returning S qs).requests r))) qs ≡ true
+closed_all [] S r = refl
+closed_all (q ∷ qs) S r =
+    both (not (is_returning_to q (place_of (fold close_returning (close_returning S q) qs).requests r))) _
+    (elim (cases_Bool (is_returning_to q (place_of (fold close_returning (close_returning S q) qs).requests r))) [
+      | inr off ↦ rw off refl
+      | inl on ↦
+          absurd (let was : is_returning_to q (place_of (close_returning S q).requests r) ≡ true = never_is (is_returning_to q (place_of (close_returning S q).requests r)) q (all_returning never qs (close_returning S q) r q on) in
+          let off : is_returning_to q (place_of (close_returning S q).requests r) ≡ false = closed_one S q r in
+          let z : ⊥ = cc in z)
+    ])
+    (closed_all qs (close_returning S q) r)
+
+stage_comes : {A : Type 0} (plan : Plan) (S : State A) (n : ℕ) (s : Stage) (j : Option Handle) → Comes never S.requests (do_deeds plan (stage_deeds plan n s j) S).requests
+stage_comes plan S n stage.QueuesDown j = all_returning never (managed_queues plan n) (do_deed plan (Advance_power n (step.Pass stage.QueuesDown j)) (do_deed plan (Take_step n) S))
+stage_comes {A} plan S n stage.Closed j =
+    let T : State A = do_deed plan (Advance_power n (step.Pass stage.Closed j)) (do_deed plan (Take_step n) S) in
+    all_closed never (queues_of plan n) (record T { control = control.shut T.control n })
+stage_comes plan S n stage.Removed j =
+    comes_same never S.requests _ (asks_all requests_of (λ S T D W U. refl) (subtree S.tree n) (do_deed plan (Advance_power n (step.Pass stage.Removed j)) (do_deed plan (Take_step n) S)))
+stage_comes plan S n stage.Enabled j = comes_same never S.requests _ refl
+stage_comes plan S n stage.Disabled j = comes_same never S.requests _ refl
+stage_comes plan S n _ j = comes_same never S.requests _ refl
+
+abbrev is_lowering : Stage → Bool
+is_lowering stage.QueuesDown = true
+is_lowering _ = false
+
+abbrev up_in : Power → ℕ → Bool
+up_in P d = (entry no_device_power P.devices d).up
+
+raised : (P : Power) (n : ℕ) (s : Stage) → is_lowering s ≡ false → (d : ℕ) → up_in P d ≡ true → up_in (advance_stage P n s) d ≡ true
+raised P n stage.QueuesDown low d h = absurd (let z : ⊥ = cc in z)
+raised P n stage.Hardware low d h = elim (one_or_two d n) [
+  | inl e ↦ rw e (ap (λ p. p.up) (entry_put_same no_device_power P.devices n (record (entry no_device_power P.devices n) { hardware = true })) ∙ subst (λ y. up_in P y ≡ true) e h)
+  | inr x ↦ ap (λ p. p.up) (entry_put_other no_device_power P.devices n d (record (entry no_device_power P.devices n) { hardware = true }) x) ∙ h
+]
+raised P n stage.NoHardware low d h = elim (one_or_two d n) [
+  | inl e ↦ rw e (ap (λ p. p.up) (entry_put_same no_device_power P.devices n (record (entry no_device_power P.devices n) { hardware = false })) ∙ subst (λ y. up_in P y ≡ true) e h)
+  | inr x ↦ ap (λ p. p.up) (entry_put_other no_device_power P.devices n d (record (entry no_device_power P.devices n) { hardware = false }) x) ∙ h
+]
+raised P n stage.QueuesUp low d h = elim (one_or_two d n) [
+  | inl e ↦ rw e (ap (λ p. p.up) (entry_put_same no_device_power P.devices n (record (entry no_device_power P.devices n) { up = true })))
+  | inr x ↦ ap (λ p. p.up) (entry_put_other no_device_power P.devices n d (record (entry no_device_power P.devices n) { up = true }) x) ∙ h
+]
+raised P n _ low d h = h
+
+or_second : (a b c : Bool) → (b ≡ true → c ≡ true) → (a || b) ≡ true → (a || c) ≡ true
+or_second true b c h k = refl
+or_second false b c h k = h k
+
+module _ {A : Type 0} (plan : Plan) (S : State A) (n : ℕ) (j : Option Handle) (k : ReturnsUp plan S) where
+  stage_raises : (s : Stage) → is_lowering s ≡ false → (do_deeds plan (stage_deeds plan n s j) S).power.devices ≡ (advance_stage S.power n s).devices → ReturnsUp plan (do_deeds plan (stage_deeds plan n s j) S)
+  stage_raises s low same r q h =
+      let was : is_returning_to q (place_of S.requests r) ≡ true = never_is (is_returning_to q (place_of S.requests r)) q (stage_comes plan S n s j r q h) in
+      ap (λ D. not (is_managed plan q) || (entry no_device_power D (device_of_queue plan q)).up) same
+      ∙ or_second (not (is_managed plan q)) (up_in S.power (device_of_queue plan q)) (up_in (advance_stage S.power n s) (device_of_queue plan q)) (raised S.power n s low (device_of_queue plan q)) (k r q was)
+
+  stage_lowers : (do_deeds plan (stage_deeds plan n stage.QueuesDown j) S).power.devices ≡ (advance_stage S.power n stage.QueuesDown).devices → ReturnsUp plan (do_deeds plan (stage_deeds plan n stage.QueuesDown j) S)
+  stage_lowers same r q h =
+      let U : State A = do_deeds plan (stage_deeds plan n stage.QueuesDown j) S in
+      let was : is_returning_to q (place_of S.requests r) ≡ true = never_is (is_returning_to q (place_of S.requests r)) q (stage_comes plan S n stage.QueuesDown j r q h) in
+      ap (λ D. not (is_managed plan q) || (entry no_device_power D (device_of_queue plan q)).up) same
+      ∙ elim (cases_Bool (is_managed plan q)) [
+        | inr off ↦ rw off refl
+        | inl on ↦ or_second (not (is_managed plan q)) (up_in S.power (device_of_queue plan q)) (up_in (advance_stage S.power n stage.QueuesDown) (device_of_queue plan q))
+            (λ up. ap (λ p. p.up) (entry_put_other no_device_power S.power.devices n (device_of_queue plan q) (record (entry no_device_power S.power.devices n) { up = false }) (elsewhere on)) ∙ up) (k r q was)
+      ]
+    where
+      elsewhere : is_managed plan q ≡ true → device_of_queue plan q ≢ n
+      elsewhere on e =
+          let T : State A = do_deed plan (Advance_power n (step.Pass stage.QueuesDown j)) (do_deed plan (Take_step n) S) in
+          let closed : not (is_returning_to q (place_of (fold close_returning T (managed_queues plan n)).requests r)) ≡ true
+          = of_each plan n q (λ x. not (is_returning_to x (place_of (fold close_returning T (managed_queues plan n)).requests r))) (of_device plan n q on e) (closed_all (managed_queues plan n) T r) in
+          let z : false ≡ true = sym (not_true (is_returning_to q (place_of (fold close_returning T (managed_queues plan n)).requests r)) closed) ∙ h in
+          let y : ⊥ = cc in y
+
+  stage_returns : (s : Stage) → (do_deeds plan (stage_deeds plan n s j) S).power.devices ≡ (advance_stage S.power n s).devices → ReturnsUp plan (do_deeds plan (stage_deeds plan n s j) S)
+  stage_returns stage.QueuesDown same = stage_lowers same
+  stage_returns s same = stage_raises s refl same
+
+-- ---- events
+
+module _ {A : Type 0} (plan : Plan) (m : Meaning A) (S : State A) (known : KnownAll plan S) (k : ReturnsUp plan S)
+    (devices : (n : Handle) (s : Stage) (j : Option Handle) → may plan m S (event.Stage n s j) ≡ true → (do_deeds plan (stage_deeds plan n.id.0 s j) S).power.devices ≡ (advance_stage S.power n.id.0 s).devices) where
+  returns_by : (e : Event) → none_power (deeds plan S e) ≡ true → may plan m S e ≡ true → ReturnsUp plan (do_deeds plan (deeds plan S e) S)
+  returns_by e none h = deeds_return plan (deeds plan S e) S none (event_fits plan m S e h) (all_sound plan m S e known h) k
+
+  pub returns_after : (e : Event) → may plan m S e ≡ true → ReturnsUp plan (do_deeds plan (deeds plan S e) S)
+  returns_after = by_kind plan S (λ e. may plan m S e ≡ true → ReturnsUp plan (do_deeds plan (deeds plan S e) S))
+      (λ e none quiet_ h. returns_by e (calm_power (deeds plan S e) none) h)
+      (λ cpu c o r h. returns_by (event.Start cpu c o r) (start_power plan S cpu.0 c o r) h)
+      (λ cpu c o v h. returns_by (event.End cpu c o v) (end_power plan S cpu.0 c o.id.0 v) h)
+      (λ n s j h. stage_returns plan S n.id.0 j k s (devices n s j h))
+      (λ agent a device answer h. returns_by (event.Posted agent (post.Ask a device) answer) refl h)

@@ -1,0 +1,22 @@
+//! Starts and ends of callbacks, steps of Plug and Play and power sequences, cleanups and ends of
+//! objects: when each may come, and what it does. (KMDF, but for what is marked own)
+#![tactic(auto)]
+
+mod checks;
+mod deeds;
+mod drained;
+mod lines;
+mod objects;
+mod ranks;
+mod sequences;
+mod settled;
+mod starts;
+
+pub use deeds::{end_deeds, new_frame, start_deeds};
+pub use drained::is_drained;
+pub use lines::shown;
+pub use objects::{callback_over, clean_ready, destroy_ready, is_finished, is_unused};
+pub use ranks::{is_ready_for, rank_ready, rank_ready_for};
+pub use sequences::{may_pass, resumes_over, stage_deeds, stage_ready, step_of, step_ready};
+pub use settled::{is_quiet, is_settled};
+pub use starts::{level_fits, life_fits, may_start};

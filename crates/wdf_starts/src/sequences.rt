@@ -1,0 +1,127 @@
+//! Steps of Plug and Play and power sequences: when a step may come, and what a stage does.
+ghost use Rattle.std.specs.Prelude.{◌≡◌, map};
+ghost use Rattle.std.specs.Option.{option_to_list};
+ghost use Rattle.wdf_base.specs.declared.plan.Plan.{Plan};
+ghost use Rattle.wdf_model.specs.rules.Starts as starts;
+ghost use Rattle.wdf_parts.specs.Deed.{as_deed};
+
+use crate::checks::{handle_id, is_step};
+use crate::drained::is_drained;
+use crate::settled::{is_quiet, is_settled};
+use wdf_base::{Agent, Callback, Handle, LockRef, ObjectId, Stage, Step};
+use wdf_parts::{Deed, Deeds, Parts};
+use wdf_plans::IndexedPlan;
+
+/// Whether the step after `queues_up` needn't wait: no resume is due, and no EvtIoResume runs.
+pub fn resumes_over<A: Agent>(parts: &Parts<A>, d: ObjectId) -> bool
+    ensures { result ≡ starts.resumes_over parts.now d.0 }
+{
+    !parts.power().any_resume_due(d) && !parts.cpus().is_running(Callback::EvtIoResume, d)
+}
+
+/// Whether a step of a device may come: it is the next one, the callback before it has ended, and it
+/// waits for resumes where it must. (own)
+pub fn step_ready<A: Agent>(parts: &Parts<A>, d: ObjectId, step: Step) -> bool
+    ensures { result ≡ starts.step_ready parts.now d.0 step }
+{
+    is_step(parts.pnp().next_step(d), step)
+        && !parts.pnp().is_running_step(d)
+        && (!parts.pnp().follows_queues_up(d) || resumes_over(parts, d))
+}
+
+/// Whether what a stage waits for is so: acknowledgements, a free lock, no EvtInterruptDpc, or no
+/// request left. (own)
+pub fn stage_ready<A: Agent>(
+    plan: &IndexedPlan,
+    parts: &Parts<A>,
+    d: ObjectId,
+    stage: Stage,
+    interrupt: Option<Handle>,
+) -> bool
+    ensures { result ≡ starts.stage_ready plan.now parts.now d.0 stage interrupt }
+{
+    match stage {
+        Stage::Settled => is_settled(plan, parts, d),
+        Stage::Disabled => parts.locks().is_free(LockRef::Object(handle_id(interrupt))),
+        Stage::Quiet => is_quiet(plan, parts, d),
+        Stage::Removed => is_drained(plan, parts, d),
+        _ => true,
+    }
+}
+
+/// Whether a device may pass a stage.
+pub fn may_pass<A: Agent>(
+    plan: &IndexedPlan,
+    parts: &Parts<A>,
+    d: ObjectId,
+    stage: Stage,
+    interrupt: Option<Handle>,
+) -> bool
+    ensures { result ≡ starts.may_pass plan.now parts.now d.0 stage interrupt }
+{
+    step_ready(parts, d, Step::Pass { stage, interrupt })
+        && stage_ready(plan, parts, d, stage, interrupt)
+}
+
+/// What a stage does beside power and phase. (own)
+fn stage_effect(d: ObjectId, stage: Stage, interrupt: Option<Handle>) -> Option<Deed>
+    ensures { (plan : Plan) → map as_deed (option_to_list result) ≡ starts.stage_effect plan d.0 stage interrupt }
+{
+    match stage {
+        Stage::Enabled => Some(Deed::EnableInterrupt {
+            interrupt: handle_id(interrupt),
+        }),
+        Stage::Disabled => Some(Deed::DisableInterrupt {
+            interrupt: handle_id(interrupt),
+        }),
+        Stage::QueuesDown => Some(Deed::CloseReturning { device: d }),
+        Stage::Closed => Some(Deed::CloseDevice { device: d }),
+        Stage::Removed => Some(Deed::AskDeletion { object: d }),
+        _ => None,
+    }
+}
+
+/// What passing a stage does: the step is taken, power follows it, and the stage has its effect. (own)
+pub fn stage_deeds(
+    _plan: &IndexedPlan,
+    d: ObjectId,
+    stage: Stage,
+    interrupt: Option<Handle>,
+) -> Deeds
+    ensures { result ≡ starts.stage_deeds _plan.now d.0 stage interrupt }
+{
+    Deeds::three(
+        Some(Deed::TakeStep { device: d }),
+        Some(Deed::AdvancePower {
+            device: d,
+            step: Step::Pass { stage, interrupt },
+        }),
+        stage_effect(d, stage, interrupt),
+    )
+}
+
+/// The interrupt of a step's callback; none where the device itself is its object.
+fn interrupt_of_step<A: Agent>(plan: &IndexedPlan, parts: &Parts<A>, o: ObjectId) -> Option<Handle>
+    ensures { result ≡ starts.interrupt_of_step plan.now parts.now o.0 }
+{
+    if plan.interrupt_of(o).is_some() {
+        Some(parts.handle_in(plan, o))
+    } else {
+        None
+    }
+}
+
+/// A callback as the step that it is.
+pub fn step_of<A: Agent>(
+    plan: &IndexedPlan,
+    parts: &Parts<A>,
+    callback: Callback,
+    o: ObjectId,
+) -> Step
+    ensures { result ≡ starts.step_of plan.now parts.now callback o.0 }
+{
+    Step::Run {
+        callback,
+        interrupt: interrupt_of_step(plan, parts, o),
+    }
+}

@@ -1,0 +1,24 @@
+//! Laws over all runs of the machine: which steps a device has left, and which requests it holds while its queues are down.
+#![tactic(auto)]
+
+ghost use Rattle.std.specs.Prelude.{ℕ, List, take};
+ghost use Rattle.wdf_base.specs.Meaning.{Meaning};
+ghost use Rattle.wdf_base.specs.Resolved.{IsResolved};
+ghost use Rattle.wdf_base.specs.declared.plan.Plan.{Plan};
+ghost use Rattle.wdf_base.specs.declared.event.Event.{Event};
+ghost use Rattle.wdf_model.specs.rules.Ready.{IsRunOf, state_after};
+ghost use Rattle.wdf_steps_laws.specs.Courses.{StepsComeFromLists};
+ghost use Rattle.wdf_steps_laws.specs.Settled.{NothingUnsettled};
+
+/// At each place of every run of a resolved plan, the step of a device whose callback runs, if there is one, followed by
+/// the steps left, is the end of one of the lists that the machine gives for its phase, or of the tail after a failure.
+pub fn steps_come_from_lists<A>()
+    ensures { (plan : Plan) (m : Meaning A) (run : List Event) → IsResolved plan → IsRunOf plan m run → (n : ℕ) → StepsComeFromLists (state_after plan m (take n run)) }
+{}
+
+/// At each place of every run of a resolved plan, where the queues of a device are down and its next step isn't `settled`,
+/// the driver holds no request from its power-managed queues that isn't acknowledged. So it is from `settled` to the next
+/// `queues_up`.
+pub fn nothing_unsettled<A>()
+    ensures { (plan : Plan) (m : Meaning A) (run : List Event) → IsResolved plan → IsRunOf plan m run → (n : ℕ) → NothingUnsettled (state_after plan m (take n run)) }
+{}

@@ -1,0 +1,4 @@
+pub mod Backward
+pub mod Columns
+pub mod Onward
+pub mod Readers

@@ -1,0 +1,15 @@
+-- The plan of each generated scenario is resolved.
+use Rattle.std.proofs.Common.{refl}
+use Rattle.wdf_base.specs.Resolved.{IsResolved}
+use Rattle.wdf_gen.specs.Generated.{generated}
+use Rattle.wdf_gen_laws.proofs.Plans.{generated_accepted}
+use Rattle.wdf_gen_laws.proofs.Texts.{generated_stands}
+use Rattle.wdf_parse.specs.Printing.{printed}
+use Rattle.wdf_plan.specs.Plans.{plan_of}
+use Rattle.wdf_top.proofs.Resolving.{text_plan_resolved}
+use Rattle.wdf_top.proofs.load.run_generated.Goals as goal
+
+pub run_seeded-requires : goal.run_seeded-requires
+run_seeded-requires c =
+    let n = c.args.number in
+    rw c.in_ok-plan.ensures (text_plan_resolved (printed (generated n)) (plan_of (generated n)) (generated n, generated_stands n, generated_accepted n, refl))

@@ -1,0 +1,202 @@
+-- What is cleaned had its cleanup: at each place of every run.
+use Rattle.std.proofs.Common.{◌≡◌, ℕ, zero, suc, ◌+◌, ◌-◌, Bool, true, false, not, ◌||◌, List, [], ◌∷◌, ◌++◌, inl, inr, Some, map, fold, slice_get, slice_set, take, refl, sym, ap, subst, ◌∙◌, arith}
+use Rattle.wdf_base.specs.Meaning.{Meaning}
+use Rattle.wdf_base.specs.declared.ids.Handle.{Handle}
+use Rattle.wdf_base.specs.declared.plan.Plan.{Plan}
+use Rattle.wdf_base.specs.declared.event.Event.{Event}
+use Rattle.wdf_base.specs.declared.event.Event.TheVariants as event
+use Rattle.wdf_base.specs.declared.declared.Declared.{Declared}
+use Rattle.wdf_base.specs.declared.object.Kind.{Kind}
+use Rattle.wdf_base.specs.declared.object.Kind.TheVariants as kind
+use Rattle.wdf_base.specs.declared.object.Life.{Life}
+use Rattle.wdf_base.specs.declared.object.Life.TheVariants as life
+use Rattle.wdf_base.specs.declared.object.Place.{Place}
+use Rattle.wdf_base.specs.declared.object.Place.TheVariants as place
+use Rattle.wdf_base.specs.declared.object.RequestInfo.{RequestInfo}
+use Rattle.wdf_base.specs.declared.call.Callback.{Callback}
+use Rattle.wdf_base.specs.declared.call.Callback.TheVariants as callback
+use Rattle.wdf_model.specs.declared.enums.Mode.TheVariants as mode
+use Rattle.wdf_model.specs.declared.entries.Node.{Node}
+use Rattle.wdf_model.specs.Tables.{entry}
+use Rattle.wdf_model.specs.Plans.{managed_queues, queues_of}
+use Rattle.wdf_model.specs.parts.Tree.{Tree, declared_node, gone, is_cleaned, is_live, life_of, new_node, next_id, node_of, noted, opening_tree, subtree, with_life, with_node}
+use Rattle.wdf_model.specs.parts.Tree as tree
+use Rattle.wdf_model.specs.parts.Requests as requests
+use Rattle.wdf_model.specs.parts.Queues.{waiting_in}
+use Rattle.wdf_model.specs.parts.Control as control
+use Rattle.wdf_model.specs.State.{State}
+use Rattle.wdf_model.specs.rules.Deeds.{Deed, Create, Make_request, Arrive, Ask_deletion, Refer, Unrefer, Write_cell, Note, Clean_up, End_life, Requeue, Forward, Give_back, Send_request, Complete_request, Purge_queue, Close_returning, Close_device, arrive_at, ask_object, do_deed, do_deeds, give_up}
+use Rattle.wdf_model.specs.rules.Steps.{after, deeds, may}
+use Rattle.wdf_model.specs.rules.Ready.{IsRunOf, ready, state_after}
+use Rattle.wdf_model.proofs.Runs.{along_run}
+use Rattle.wdf_model.proofs.Follows.{state_goes_on}
+use Rattle.wdf_model.proofs.Tests.{both_left, both_right, not_true}
+use Rattle.wdf_model.proofs.Maps.{entry_before, entry_last, entry_past, entry_put_other, entry_put_same}
+use Rattle.wdf_model.proofs.Counts.{equal, one_or_two}
+use Rattle.wdf_model.proofs.Deletion.{object_live, object_off}
+use Rattle.wdf_agreements.proofs.Stays.{gives_up, gives_up_if, queues_closed, returns_closed, withdraws}
+use Rattle.wdf_agreements.proofs.Lists.{reads_same}
+use Rattle.wdf_laws.specs.declared.sign.Sign.TheVariants as sign
+use Rattle.wdf_laws.specs.Signs.{shows}
+use Rattle.wdf_laws.specs.Words.{ever}
+use Rattle.wdf_trace_laws.proofs.Words.{ever_next}
+use Rattle.wdf_trace_laws.proofs.Untouched.{event_none, is_cleanup, is_cleanup_event, none_cleans}
+use Rattle.wdf_trace_laws.proofs.Ends.{comes, ends}
+
+-- C tells each object that is cleaned
+abbrev pub Seen : (ℕ → Bool) → Tree → Type 0
+Seen C T = (x : ℕ) → is_cleaned (life_of T x) ≡ true → C x ≡ true
+
+object_changes : (C : ℕ → Bool) (T : Tree) (o : ℕ) (f : Node → Node) → is_cleaned (f (node_of T o)).life ≡ is_cleaned (life_of T o) → Seen C T → Seen C (with_node T o f)
+object_changes C T o f same k x h = k x (sym (reads_same (λ n. is_cleaned n.life) T o f same x) ∙ h)
+
+unmade : (T : Tree) (k : Kind) (class parent : ℕ) (x : ℕ) → is_cleaned (life_of (tree.create T k class parent) x) ≡ is_cleaned (life_of T x)
+unmade T k class parent x = elim (one_or_two x (next_id T)) [
+  | inl e ↦
+      let new : is_cleaned (life_of (tree.create T k class parent) (next_id T)) ≡ false = ap (λ (n : Node). is_cleaned n.life) (entry_last gone T.nodes (new_node k class parent)) in
+      let old : is_cleaned (life_of T (next_id T)) ≡ false = ap (λ (n : Node). is_cleaned n.life) (entry_past gone T.nodes (next_id T) (omega arith)) in
+      rw e (new ∙ sym old)
+  | inr n ↦ ap (λ (m : Node). is_cleaned m.life) (entry_before gone T.nodes (new_node k class parent) x n)
+]
+
+object_made : (C : ℕ → Bool) (T : Tree) (k : Kind) (class parent : ℕ) → Seen C T → Seen C (tree.create T k class parent)
+object_made C T k class parent q x h = q x (sym (unmade T k class parent x) ∙ h)
+
+live_uncleaned : (l : Life) → is_live l ≡ true → is_cleaned l ≡ false
+live_uncleaned life.Live h = refl
+live_uncleaned life.Asked h = refl
+live_uncleaned life.Cleaned h = absurd (let z : ⊥ = cc in z)
+live_uncleaned life.Gone h = refl
+
+asked_one : {A : Type 0} (C : ℕ → Bool) (S : State A) (x : ℕ) (b : Bool) → is_live (life_of S.tree x) ≡ b → Seen C S.tree → Seen C (ask_object S x).tree
+asked_one {A} C S x true e q = subst (λ (U : State A). Seen C U.tree) (sym (object_live S x e)) (object_changes C S.tree x (with_life life.Asked) (sym (live_uncleaned (life_of S.tree x) e)) q)
+asked_one {A} C S x false e q = subst (λ (U : State A). Seen C U.tree) (sym (object_off S x e)) q
+
+all_asked : {A : Type 0} (C : ℕ → Bool) (xs : List ℕ) (S : State A) → Seen C S.tree → Seen C (fold ask_object S xs).tree
+all_asked C [] S q = q
+all_asked C (x ∷ xs) S q = all_asked C xs (ask_object S x) (asked_one C S x (is_live (life_of S.tree x)) refl q)
+
+ended : (C : ℕ → Bool) (T : Tree) (o : ℕ) → Seen C T → Seen C (tree.destroy T o)
+ended C T o q x h = elim (one_or_two x o) [
+  | inl e ↦ absurd (let here : is_cleaned (life_of (tree.destroy T o) x) ≡ false = rw e (ap (λ (n : Node). is_cleaned n.life) (entry_put_same gone T.nodes o gone)) in let z : ⊥ = cc in z)
+  | inr n ↦ q x (sym (ap (λ (m : Node). is_cleaned m.life) (entry_put_other gone T.nodes o x gone n)) ∙ h)
+]
+
+noted_kept : (c : Callback) (n : Node) → (noted c n).life ≡ n.life
+noted_kept callback.EvtCleanupCallback n = refl
+noted_kept callback.EvtDestroyCallback n = refl
+noted_kept _ n = refl
+
+same_tree : (C : ℕ → Bool) (T U : Tree) → U ≡ T → Seen C T → Seen C U
+same_tree C T U e q = subst (Seen C) (sym e) q
+
+arrived : {A : Type 0} (S : State A) (device : ℕ) (info : RequestInfo) (p : Place) → (arrive_at S device info p).tree ≡ tree.arrive S.tree device
+arrived S device info (place.Queued q) = refl
+arrived S device info _ = refl
+
+abbrev tree_of : {A : Type 0} → State A → Tree
+tree_of S = S.tree
+
+deed_keeps : {A : Type 0} (C : ℕ → Bool) (plan : Plan) (d : Deed) (S : State A) → is_cleanup d ≡ false → Seen C S.tree → Seen C (do_deed plan d S).tree
+deed_keeps C plan (Create k class parent) S f q = object_made C S.tree k class parent q
+deed_keeps C plan (Make_request class parent) S f q = object_made C S.tree kind.Made class parent q
+deed_keeps C plan (Arrive device info p) S f q = same_tree C _ _ (arrived S device info p) (object_made C S.tree kind.Request 0 device q)
+deed_keeps C plan (Ask_deletion o) S f q = all_asked C (subtree S.tree o) S q
+deed_keeps C plan (Refer o) S f q = object_changes C S.tree o (λ n. record n { references = n.references + 1 }) refl q
+deed_keeps C plan (Unrefer o) S f q = object_changes C S.tree o (λ n. record n { references = n.references - 1 }) refl q
+deed_keeps C plan (Write_cell o k v) S f q = object_changes C S.tree o (λ n. record n { cells = slice_set n.cells k v }) refl q
+deed_keeps C plan (Note o c) S f q = object_changes C S.tree o (noted c) (ap is_cleaned (noted_kept c (node_of S.tree o))) q
+deed_keeps C plan (Clean_up o) S f q = absurd (let z : ⊥ = cc in z)
+deed_keeps C plan (End_life o) S f q = ended C S.tree o q
+deed_keeps C plan (Requeue r p) S f q = same_tree C _ _ (gives_up tree_of (λ S Q R P. refl) S r) q
+deed_keeps C plan (Forward r p) S f q = same_tree C _ _ (gives_up tree_of (λ S Q R P. refl) S r) q
+deed_keeps C plan (Give_back r p) S f q = same_tree C _ _ (gives_up tree_of (λ S Q R P. refl) S r) q
+deed_keeps C plan (Send_request r t forget) S f q = same_tree C _ _ (gives_up_if tree_of (λ S Q R P. refl) S forget r) q
+deed_keeps C plan (Complete_request r) S f q =
+    all_asked C (subtree (give_up S r).tree r) (record (give_up S r) { requests = requests.complete S.requests r }) (same_tree C _ _ (gives_up tree_of (λ S Q R P. refl) S r) q)
+deed_keeps C plan (Purge_queue p) S f q = same_tree C _ _ (withdraws tree_of (λ S Q R P. refl) plan p (waiting_in S.queues p) (record S { control = control.set_mode S.control p mode.Purged })) q
+deed_keeps C plan (Close_returning d) S f q = same_tree C _ _ (returns_closed tree_of (λ S Q R P. refl) (managed_queues plan d) S) q
+deed_keeps C plan (Close_device d) S f q = same_tree C _ _ (queues_closed tree_of (λ S Q R P. refl) (queues_of plan d) (record S { control = control.shut S.control d })) q
+deed_keeps C plan _ S f q = q
+
+deeds_keep : {A : Type 0} (C : ℕ → Bool) (plan : Plan) (ds : List Deed) (S : State A) → none_cleans ds ≡ true → Seen C S.tree → Seen C (do_deeds plan ds S).tree
+deeds_keep C plan [] S n q = q
+deeds_keep C plan (d ∷ ds) S n q =
+    deeds_keep C plan ds (do_deed plan d S) (both_right (not (is_cleanup d)) (none_cleans ds) n)
+    (deed_keeps C plan d S (not_true (is_cleanup d) (both_left (not (is_cleanup d)) (none_cleans ds) n)) q)
+
+-- ---- each place of a run
+
+more_told : (C D : ℕ → Bool) (T : Tree) → ((x : ℕ) → C x ≡ true → D x ≡ true) → Seen C T → Seen D T
+more_told C D T more k x h = more x (k x h)
+
+still : (a b : Bool) → a ≡ true → (a || b) ≡ true
+still true b h = refl
+still false b h = absurd (let z : ⊥ = cc in z)
+
+now_ : (a b : Bool) → b ≡ true → (a || b) ≡ true
+now_ true b h = refl
+now_ false b h = h
+
+told_still : (es : List Event) (e : Event) (x : ℕ) → ever (sign.Cleaned x) es ≡ true → ever (sign.Cleaned x) (es ++ e ∷ []) ≡ true
+told_still es e x h = ever_next (sign.Cleaned x) es e ∙ still (ever (sign.Cleaned x) es) (shows (sign.Cleaned x) e) h
+
+told_now : (es : List Event) (e : Event) (x : ℕ) → shows (sign.Cleaned x) e ≡ true → ever (sign.Cleaned x) (es ++ e ∷ []) ≡ true
+told_now es e x h = ever_next (sign.Cleaned x) es e ∙ now_ (ever (sign.Cleaned x) es) (shows (sign.Cleaned x) e) h
+
+abbrev pub AllSeen : {A : Type 0} → List Event → State A → Type 0
+AllSeen es S = Seen (λ x. ever (sign.Cleaned x) es) S.tree
+
+cleanup_seen : {A : Type 0} (plan : Plan) (m : Meaning A) (es : List Event) (S : State A) (o : Handle) → AllSeen es S → AllSeen (es ++ event.Cleanup o ∷ []) (after plan m S (event.Cleanup o))
+cleanup_seen plan m es S o k x h = elim (one_or_two x o.id.0) [
+  | inl e ↦ told_now es (event.Cleanup o) x (equal o.id.0 x (sym e))
+  | inr n ↦ told_still es (event.Cleanup o) x (k x (sym (ap (λ (a : Node). is_cleaned a.life) (entry_put_other gone S.tree.nodes o.id.0 x (with_life life.Cleaned (node_of S.tree o.id.0)) n)) ∙ h))
+]
+
+other_seen : {A : Type 0} (plan : Plan) (m : Meaning A) (es : List Event) (S : State A) (e : Event) → is_cleanup_event e ≡ false → AllSeen es S → AllSeen (es ++ e ∷ []) (after plan m S e)
+other_seen plan m es S e none k =
+    more_told (λ x. ever (sign.Cleaned x) es) (λ x. ever (sign.Cleaned x) (es ++ e ∷ [])) (after plan m S e).tree (told_still es e)
+    (deeds_keep (λ x. ever (sign.Cleaned x) es) plan (deeds plan S e) S (event_none plan S e none) k)
+
+each_seen : {A : Type 0} (plan : Plan) (m : Meaning A) (es : List Event) (S : State A) (e : Event) → AllSeen es S → AllSeen (es ++ e ∷ []) (after plan m S e)
+each_seen plan m es S (event.Cleanup o) k = cleanup_seen plan m es S o k
+each_seen plan m es S (event.Start cpu c o r) k = other_seen plan m es S (event.Start cpu c o r) refl k
+each_seen plan m es S (event.Local cpu line) k = other_seen plan m es S (event.Local cpu line) refl k
+each_seen plan m es S (event.Log cpu v) k = other_seen plan m es S (event.Log cpu v) refl k
+each_seen plan m es S (event.Spend cpu n) k = other_seen plan m es S (event.Spend cpu n) refl k
+each_seen plan m es S (event.Register cpu a b v) k = other_seen plan m es S (event.Register cpu a b v) refl k
+each_seen plan m es S (event.Did cpu c v) k = other_seen plan m es S (event.Did cpu c v) refl k
+each_seen plan m es S (event.Waiting cpu c) k = other_seen plan m es S (event.Waiting cpu c) refl k
+each_seen plan m es S (event.Woke cpu c v) k = other_seen plan m es S (event.Woke cpu c v) refl k
+each_seen plan m es S (event.Park cpu f) k = other_seen plan m es S (event.Park cpu f) refl k
+each_seen plan m es S (event.Unpark cpu f) k = other_seen plan m es S (event.Unpark cpu f) refl k
+each_seen plan m es S (event.End cpu c o v) k = other_seen plan m es S (event.End cpu c o v) refl k
+each_seen plan m es S (event.Fault cpu f line) k = other_seen plan m es S (event.Fault cpu f line) refl k
+each_seen plan m es S (event.Stage d s i) k = other_seen plan m es S (event.Stage d s i) refl k
+each_seen plan m es S (event.Complete q s) k = other_seen plan m es S (event.Complete q s) refl k
+each_seen plan m es S (event.Destroy o) k = other_seen plan m es S (event.Destroy o) refl k
+each_seen plan m es S (event.Posted agent p answer) k = other_seen plan m es S (event.Posted agent p answer) refl k
+each_seen plan m es S (event.Tick t) k = other_seen plan m es S (event.Tick t) refl k
+
+no_cleaned : (ds : List Declared) (x : ℕ) → is_cleaned (entry gone (map declared_node ds) x).life ≡ false
+no_cleaned [] x = refl
+no_cleaned (d ∷ ds) zero = refl
+no_cleaned (d ∷ ds) (suc x) = no_cleaned ds x
+
+none_cleaned : (plan : Plan) (x : ℕ) → is_cleaned (life_of (opening_tree plan) x) ≡ false
+none_cleaned plan zero = refl
+none_cleaned plan (suc x) = no_cleaned plan.declared x
+
+seen_opens : {A : Type 0} (plan : Plan) (m : Meaning A) → AllSeen [] (state_after plan m [])
+unfolding state_after
+seen_opens plan m x h = absurd (let never = none_cleaned plan x in let z : ⊥ = cc in z)
+
+pub seen_at_each : {A : Type 0} (plan : Plan) (m : Meaning A) (run : List Event) → IsRunOf plan m run → (n : ℕ) → AllSeen (take n run) (state_after plan m (take n run))
+seen_at_each plan m run is_run n = along_run (λ es. AllSeen es (state_after plan m es)) (ready plan m) run (seen_opens plan m)
+    (λ before e place _ held at. subst (λ T. AllSeen (before ++ e ∷ []) T) (sym (state_goes_on plan m before e)) (each_seen plan m before (state_after plan m before) e held))
+    is_run n
+
+pub ends_after_cleanup : {A : Type 0} (plan : Plan) (m : Meaning A) (run : List Event) (k : ℕ) (o : Handle) → IsRunOf plan m run → slice_get run k ≡ Some (event.Destroy o) → ever (sign.Cleaned o.id.0) (take k run) ≡ true
+ends_after_cleanup plan m run k o is_run at =
+    let h : may plan m (state_after plan m (take k run)) (event.Destroy o) ≡ true = comes plan m run k (event.Destroy o) is_run at (λ time e. let z : ⊥ = cc in z) in
+    seen_at_each plan m run is_run k o.id.0 (ends plan m (state_after plan m (take k run)) o h)

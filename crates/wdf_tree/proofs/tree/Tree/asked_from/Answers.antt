@@ -1,0 +1,10 @@
+-- The members of the set are those objects.
+use Rattle.std.proofs.Common.{refl}
+use Rattle.wdf_model.specs.parts.Tree.{is_asked}
+use Rattle.wdf_tree.proofs.Leaving.{first_passing}
+use Rattle.wdf_tree.proofs.tree.Tree.asked_from.Goals as goal
+
+pub returns : goal.returns
+returns c =
+    rw (c.object_at.ensures, c.from.ensures, ← c.self.view_is)
+    (first_passing is_asked c.self.inside.nodes.items c.self.inside.asked c.args.from.0 refl c.self.invariant.kept.few c.self.invariant.leaving.asked)

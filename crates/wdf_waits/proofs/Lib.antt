@@ -1,0 +1,9 @@
+pub mod Ranges
+pub mod Searches
+pub mod OnCpus
+pub mod OnDeclared
+pub mod OnFrames
+pub mod OnRequests
+pub mod Sections
+pub mod Rows
+pub mod OnLines

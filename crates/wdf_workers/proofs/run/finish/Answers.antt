@@ -1,0 +1,10 @@
+-- The run goes on from the state's journal, and has ended.
+use Rattle.std.proofs.Common.{sym}
+use Rattle.wdf_workers.proofs.Endings.{has_ended}
+use Rattle.wdf_workers.proofs.run.finish.Goals as goal
+
+pub returns-clause-journal : goal.returns-clause-journal
+returns-clause-journal g c = (c.run_order.ensures.picked.begins.0, sym c.run_order.ensures.picked.begins.1)
+
+pub returns-clause-ended : goal.returns-clause-ended
+returns-clause-ended g c = has_ended c.args.state.core.plan g.A.Agent.meaning _ c.run_order.ensures.picked.ends

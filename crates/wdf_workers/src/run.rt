@@ -1,0 +1,58 @@
+//! A run by processors as threads.
+ghost use Rattle.std.specs.Prelude.{◌≡◌, ◌≢◌, IfOk};
+ghost use mathlib.Core.List.{IsPrefix};
+ghost use Rattle.wdf_base.specs.declared.event.Ending.TheVariants as ending;
+ghost use Rattle.wdf_model.specs.rules.Ready.{IsRunOf, ending_of};
+
+use crate::shared::share;
+use crate::state::RunState;
+use crate::worker::Shift;
+use std::alloc::Global;
+use std::thread::Threads;
+use wdf_base::{Agent, Memory};
+use wdf_core::Core;
+use wdf_run::run_order;
+use wdf_turn::Gate;
+
+/// How many turns each worker has for each event that the run may have.
+const TURNS_AN_EVENT: u32 = 4;
+
+/// Goes on from the journal by workers, until no step may follow: one for each processor, one for the
+/// framework and the clock, and one for all agents. Each has a thread of its own where one can be made.
+/// What they leave is finished here, always by the first event that may follow.
+///
+/// # Errors
+///
+/// [`Memory`], with the core dropped, where memory for the seats was refused. Nothing has run then.
+pub fn run_threads<R: Threads + Sync, A: Agent + Send, G: Gate + Sync>(
+    rt: &R,
+    alloc: Global,
+    core: Core<A>,
+    gate: &G,
+) -> Result<Core<A>, Memory>
+    ensures plan { IfOk result (λ after. after.plan ≡ core.plan) }
+    ensures journal { IfOk result (λ after. IsPrefix core.journal after.journal) }
+    // Each of its events could follow those before it.
+    ensures run { IfOk result (λ after. IsRunOf core.plan A.meaning after.journal) }
+    ensures ended { IfOk result (λ after. ending_of core.plan A.meaning after.journal ≢ ending.Running) }
+{
+    let shift = Shift {
+        processors: core.plan().cpus(),
+        turns: core.plan().limit().saturating_mul(TURNS_AN_EVENT),
+    };
+    let state = share(rt, alloc, RunState { core }, shift, gate)?;
+    Ok(finish(state))
+}
+
+/// Takes the first event that may follow, until none may.
+fn finish<A: Agent>(state: RunState<A>) -> Core<A>
+    ensures plan { result.plan ≡ state.core.plan }
+    ensures journal { IsPrefix state.core.journal result.journal }
+    ensures run { IsRunOf state.core.plan A.meaning result.journal }
+    ensures ended { ending_of state.core.plan A.meaning result.journal ≢ ending.Running }
+{
+    let RunState { mut core } = state;
+    run_order(&mut core, &[]);
+    let _events = core.journal_len();
+    core
+}

@@ -1,0 +1,77 @@
+//! What a worker does.
+ghost use Rattle.std.specs.Prelude.{◌≡◌, ◌<◌, ℕ, All, length, slice_index_or};
+ghost use Rattle.wdf_workers.specs.Rows.{IsIdleSeat, IsSameSeat};
+
+use crate::crew::{Crew, crew_of};
+use crate::state::Advance;
+use std::thread;
+use std::thread::Threads;
+use wdf_turn::{Attempt, Gate, Seat, Turn};
+
+/// What all workers of a run know: how many processors the machine has, and how many turns each has.
+#[derive(Clone, Copy, Debug)]
+pub struct Shift {
+    pub processors: u8,
+    pub turns: u32,
+}
+
+/// A turn: one try to take the value, one event at most, and the value goes back. Answers false only where
+/// nothing may follow.
+fn take_turn<T: Advance>(turn: &Turn<T>, seat: &mut Seat<T>, crew: Crew) -> bool
+    requires { IsIdleSeat turn.now seat.old }
+    ensures idle { IsIdleSeat turn.now seat.new }
+    ensures same { IsSameSeat seat.old seat.new }
+{
+    match turn.try_take(seat) {
+        Attempt::Busy(_) => true,
+        Attempt::Taken(mut held) => {
+            let goes_on = held.value_mut().advance(crew);
+            turn.give(seat, held);
+            goes_on
+        }
+    }
+}
+
+/// All turns of a worker, or fewer where nothing may follow any more. It passes the gate before each.
+fn work<T: Advance, G: Gate>(
+    turn: &Turn<T>,
+    seat: &mut Seat<T>,
+    worker: usize,
+    shift: Shift,
+    gate: &G,
+)
+    requires { IsIdleSeat turn.now seat.old }
+    ensures idle { IsIdleSeat turn.now seat.new }
+    ensures same { IsSameSeat seat.old seat.new }
+{
+    let crew = crew_of(worker, shift.processors);
+    let number = u32::try_from(worker).unwrap_or(u32::MAX);
+    for k in 0..shift.turns {
+        gate.pass(number, k);
+        if !take_turn(turn, seat, crew) {
+            return;
+        }
+    }
+}
+
+/// Has each seat's worker do its turns, in a thread of its own where one can be made.
+pub fn work_all<R: Threads + Sync, T: Advance + Send, G: Gate + Sync>(
+    rt: &R,
+    turn: &Turn<T>,
+    seats: &mut [Seat<T>],
+    shift: Shift,
+    gate: &G,
+)
+    requires some { 0 < length seats.old }
+    requires idle { All (IsIdleSeat turn.now) seats.old }
+    ensures count { length seats.new ≡ length seats.old }
+    ensures each { (k : ℕ) (d : _) → k < length seats.old → IsIdleSeat turn.now (slice_index_or seats.new k d)
+        × IsSameSeat (slice_index_or seats.old k d) (slice_index_or seats.new k d) }
+{
+    let workers = seats.len();
+    let each = |worker: usize, seat: &mut Seat<T>|
+        requires { IsIdleSeat turn.now seat.now }
+        ensures { IsIdleSeat turn.entry.now seat.exit.now × IsSameSeat seat.entry.now seat.exit.now }
+    { work(turn, seat, worker, shift, gate) };
+    thread::for_each_mut(rt, seats, workers, &each);
+}
