@@ -2,11 +2,14 @@
 ghost use Rattle.std.specs.Prelude.{◌≡◌, ◌+◌, ◌<◌, ◌≤◌, ◌^◌, [], Some, None, length, position, slice_get, option_map, MatchOption, MatchResult};
 ghost use Rattle.wdf_model.specs.rules.Groups as groups;
 ghost use Rattle.wdf_ready.specs.Actors as actors;
+ghost use Rattle.wdf_ready.specs.Idle as idle;
 ghost use Rattle.wdf_ready.specs.Search as search;
 
 use crate::actor::is_by;
 use crate::candidates::{candidate, places_in};
-use wdf_base::{Actor, Agent, Event, ObjectId};
+use crate::due::next_due;
+use crate::idle::is_idle;
+use wdf_base::{Actor, Agent, Event, ObjectId, Rank};
 use wdf_model::Group;
 use wdf_parts::Parts;
 use wdf_plans::IndexedPlan;
@@ -32,8 +35,20 @@ fn offered<A: Agent>(
     }
 }
 
-/// The first place from one on whose candidate may come, as far as a look at what is closing, asked or
-/// cleaned says.
+/// The first id from one on that a rank's callback may start on, as far as its life says.
+fn next_start<A: Agent>(parts: &Parts<A>, rank: Rank, from: usize) -> Option<usize>
+    requires { from < 2 ^ 32 }
+    ensures { result ≡ idle.next_start parts.now rank from }
+{
+    match rank {
+        Rank::Cleanup => place_of(parts.tree().asked_from(ObjectId(from as u32))),
+        Rank::Destroy => place_of(parts.tree().cleaned_from(ObjectId(from as u32))),
+        _ => Some(from),
+    }
+}
+
+/// The first place from one on whose candidate may come, as far as a look at levels and counts, and at what is due,
+/// closing, asked or cleaned says.
 #[tactic(auto, using(crate::proofs::Skips::skips_completions, crate::proofs::Skips::skips_cleanups, crate::proofs::Skips::skips_destroys))]
 fn next_place<A: Agent>(
     plan: &IndexedPlan,
@@ -46,10 +61,18 @@ fn next_place<A: Agent>(
     ensures { MatchOption result (search.offered_from plan.now A.meaning parts.now group from ≡ [])
         (λ place. search.Skips plan.now A.meaning parts.now group from place) }
 {
-    if from >= places_in(plan, parts, group) {
+    if is_idle(plan, parts, group) {
+        return None;
+    }
+    let end = places_in(plan, parts, group);
+    if from >= end {
         return None;
     }
     match group {
+        Group::Starts { rank, .. } => next_start(parts, rank, from),
+        Group::StartsFor { rank, object, .. } => {
+            next_due(plan, parts, rank, ObjectId(object), from, end)
+        }
         Group::Completions => place_of(parts.requests().next_closing(ObjectId(from as u32))),
         Group::Cleanups => place_of(parts.tree().asked_from(ObjectId(from as u32))),
         Group::Destroys => place_of(parts.tree().cleaned_from(ObjectId(from as u32))),
