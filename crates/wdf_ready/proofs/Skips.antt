@@ -24,7 +24,7 @@ use Rattle.wdf_model.specs.rules.Starts.{callback_over, clean_ready, destroy_rea
 use Rattle.wdf_model.specs.rules.Steps.{may}
 use Rattle.wdf_model.specs.rules.Groups.{completion_at, is_declared_somewhere, places_for, places_if, places_in}
 use Rattle.wdf_request.specs.Closing.{closing_requests}
-use Rattle.wdf_ready.specs.Idle.{IsNext, NoneFrom, is_due_at, is_idle, next_start}
+use Rattle.wdf_ready.specs.Idle.{IsNext, NoneFrom, is_due_at, is_idle, next_start, search_len}
 use Rattle.wdf_ready.specs.Search.{Skips, offered, offered_from}
 use Rattle.wdf_ready.proofs.NotOffered.{idle_offers_none, no_cleanup_start, no_destroy_start, not_due}
 use Rattle.wdf_ready.proofs.Places.{all_passed, past}
@@ -136,13 +136,32 @@ module _ {A : Type 0} (plan : Plan) (m : Meaning A) (S : State A) (g : Group) (t
       all_passed plan m S g from (places_in plan S g - from) (omega arith) (λ p over under. none p (h p over (omega arith)))
       ∙ ap (offered_from plan m S g) more ∙ past plan m S g (places_in plan S g) (omega arith)
 
+-- a place below the end of those that a search goes over, which is that of the group's
+pub record Searched {A : Type 0} (plan : Plan) (S : State A) (g : Group) (from end : ℕ) : Type 0 where
+  pub is : end ≡ places_in plan S g
+  pub below : from < places_in plan S g
+  pub few : places_in plan S g ≤ 2 ^ 32
+
 module _ {A : Type 0} (plan : Plan) (m : Meaning A) (S : State A) where
   idle_by : (g : Group) (from : ℕ) (b : Bool) → nat_lt from (places_in plan S g) ≡ b → is_idle plan S g ≡ true → offered_from plan m S g from ≡ []
   idle_by g from true e idle = next_ends plan m S g (λ _. false) (λ p _. idle_offers_none plan m S g p idle) from (ltb-true from (places_in plan S g) e) (λ p over under. refl)
   idle_by g from false e idle = past plan m S g from (ltb-false from (places_in plan S g) e)
 
-  pub idle_answer : (g : Group) (from : ℕ) → is_idle plan S g ≡ true → offered_from plan m S g from ≡ []
-  idle_answer g from idle = idle_by g from (nat_lt from (places_in plan S g)) refl idle
+  over_by : (g : Group) (from end : ℕ) (b : Bool) → is_idle plan S g ≡ b → end ≡ (if b then 0 else places_in plan S g) → end ≤ from → offered_from plan m S g from ≡ []
+  over_by g from end true e all over = idle_by g from (nat_lt from (places_in plan S g)) refl e
+  over_by g from end false e all over = past plan m S g from (omega arith)
+
+  -- past the places that a search goes over nothing may come
+  pub search_over : (g : Group) (from end : ℕ) → end ≡ search_len plan S g → end ≤ from → offered_from plan m S g from ≡ []
+  search_over g from end = over_by g from end (is_idle plan S g) refl
+
+  searched_by : (g : Group) (from end : ℕ) (b : Bool) → end ≡ (if b then 0 else places_in plan S g) → from < end → end ≤ 2 ^ 32 → Searched plan S g from end
+  searched_by g from end true all below few = absurd (omega arith)
+  searched_by g from end false all below few = record { is = all; below = omega arith; few = omega arith }
+
+  -- where a search goes over some places, it goes over all of the group
+  pub searched : (g : Group) (from end : ℕ) → end ≡ search_len plan S g → from < end → end ≤ 2 ^ 32 → Searched plan S g from end
+  searched g from end = searched_by g from end (is_idle plan S g)
 
   closing_none : (r : ℕ) (p : Place) → is_closing p ≡ false → completion_at plan S r p ≡ None
   closing_none r (place.Closing s) h = absurd (let z : ⊥ = cc in z)
@@ -171,26 +190,26 @@ module _ {A : Type 0} (plan : Plan) (m : Meaning A) (S : State A) where
       not_allowed (event.Destroy (handle_in plan S o)) (may plan m S (event.Destroy (handle_in plan S o))) refl
       (never (is_proper plan S (handle_in plan S o)) (destroy_ready S o) (callback_over plan S callback.EvtDestroyCallback o) unready)
 
-  pub skips_completions : (from x : ℕ) → places_in plan S group.Completions ≤ 2 ^ 32 → find (nat_le from) (closing_requests S.requests) ≡ Some x → Skips plan m S group.Completions from x
+  skips_completions : (from x : ℕ) → places_in plan S group.Completions ≤ 2 ^ 32 → find (nat_le from) (closing_requests S.requests) ≡ Some x → Skips plan m S group.Completions from x
   skips_completions from x few h =
       skips_by plan m S group.Completions (λ r. is_closing (place_of S.requests r)) no_completion from x few
       (sym (find_filter (nat_le from) (λ r. is_closing (place_of S.requests r)) (ids_of S.requests.all)) ∙ h)
 
-  pub ends_completions : (from : ℕ) → from < places_in plan S group.Completions → find (nat_le from) (closing_requests S.requests) ≡ None → offered_from plan m S group.Completions from ≡ []
+  ends_completions : (from : ℕ) → from < places_in plan S group.Completions → find (nat_le from) (closing_requests S.requests) ≡ None → offered_from plan m S group.Completions from ≡ []
   ends_completions from below h =
       ends_by plan m S group.Completions (λ r. is_closing (place_of S.requests r)) no_completion from below
       (sym (find_filter (nat_le from) (λ r. is_closing (place_of S.requests r)) (ids_of S.requests.all)) ∙ h)
 
-  pub skips_cleanups : (from x : ℕ) → places_in plan S group.Cleanups ≤ 2 ^ 32 → find (λ o. nat_le from o && is_asked (life_of S.tree o)) (ids_of S.tree.nodes) ≡ Some x → Skips plan m S group.Cleanups from x
+  skips_cleanups : (from x : ℕ) → places_in plan S group.Cleanups ≤ 2 ^ 32 → find (λ o. nat_le from o && is_asked (life_of S.tree o)) (ids_of S.tree.nodes) ≡ Some x → Skips plan m S group.Cleanups from x
   skips_cleanups from x few h = skips_by plan m S group.Cleanups (λ o. is_asked (life_of S.tree o)) no_cleanup from x few h
 
-  pub ends_cleanups : (from : ℕ) → from < places_in plan S group.Cleanups → find (λ o. nat_le from o && is_asked (life_of S.tree o)) (ids_of S.tree.nodes) ≡ None → offered_from plan m S group.Cleanups from ≡ []
+  ends_cleanups : (from : ℕ) → from < places_in plan S group.Cleanups → find (λ o. nat_le from o && is_asked (life_of S.tree o)) (ids_of S.tree.nodes) ≡ None → offered_from plan m S group.Cleanups from ≡ []
   ends_cleanups from below h = ends_by plan m S group.Cleanups (λ o. is_asked (life_of S.tree o)) no_cleanup from below h
 
-  pub skips_destroys : (from x : ℕ) → places_in plan S group.Destroys ≤ 2 ^ 32 → find (λ o. nat_le from o && is_cleaned (life_of S.tree o)) (ids_of S.tree.nodes) ≡ Some x → Skips plan m S group.Destroys from x
+  skips_destroys : (from x : ℕ) → places_in plan S group.Destroys ≤ 2 ^ 32 → find (λ o. nat_le from o && is_cleaned (life_of S.tree o)) (ids_of S.tree.nodes) ≡ Some x → Skips plan m S group.Destroys from x
   skips_destroys from x few h = skips_by plan m S group.Destroys (λ o. is_cleaned (life_of S.tree o)) no_destroy from x few h
 
-  pub ends_destroys : (from : ℕ) → from < places_in plan S group.Destroys → find (λ o. nat_le from o && is_cleaned (life_of S.tree o)) (ids_of S.tree.nodes) ≡ None → offered_from plan m S group.Destroys from ≡ []
+  ends_destroys : (from : ℕ) → from < places_in plan S group.Destroys → find (λ o. nat_le from o && is_cleaned (life_of S.tree o)) (ids_of S.tree.nodes) ≡ None → offered_from plan m S group.Destroys from ≡ []
   ends_destroys from below h = ends_by plan m S group.Destroys (λ o. is_cleaned (life_of S.tree o)) no_destroy from below h
 
   -- what is found, or that nothing is
@@ -217,7 +236,7 @@ module _ {A : Type 0} (plan : Plan) (m : Meaning A) (S : State A) where
   -- ---- starts
 
   -- a place is the next one
-  stays : (g : Group) (from : ℕ) → from < places_in plan S g → places_in plan S g ≤ 2 ^ 32 → Skips plan m S g from from
+  pub stays : (g : Group) (from : ℕ) → from < places_in plan S g → places_in plan S g ≤ 2 ^ 32 → Skips plan m S g from from
   stays g from below few = record { passed = refl; after = omega arith; within = below; small = omega arith }
 
   -- a callback that is declared somewhere has a place for each id

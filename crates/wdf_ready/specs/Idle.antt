@@ -1,6 +1,6 @@
 -- When nothing may come of a group, as levels and counts say without a look at its places; and of which places of a
 -- group for requests something may come. (own)
-use Rattle.std.specs.Prelude.{ℕ, Bool, true, false, not, ◌&&◌, ◌≡◌, ◌<◌, ◌≤◌, nat_le, Option, Some, None, find, slice_get}
+use Rattle.std.specs.Prelude.{if◌then◌else◌, ℕ, Bool, true, false, not, ◌&&◌, ◌≡◌, ◌<◌, ◌≤◌, nat_le, Option, Some, None, find, slice_get}
 use Rattle.std.specs.List.{list_any}
 use Rattle.wdf_base.specs.Callbacks.{row_of}
 use Rattle.wdf_base.specs.Same.{same_option, same_step}
@@ -23,7 +23,7 @@ use Rattle.wdf_model.specs.parts.Pnp.{next_step}
 use Rattle.wdf_model.specs.parts.Requests.{is_returning_to}
 use Rattle.wdf_model.specs.parts.Targets.{the_target}
 use Rattle.wdf_model.specs.parts.Tree.{is_asked, is_cleaned, life_of, nearest_device}
-use Rattle.wdf_model.specs.rules.Groups.{callback_for}
+use Rattle.wdf_model.specs.rules.Groups.{callback_for, places_in}
 use Rattle.wdf_model.specs.rules.Starts.{level_fits, rank_ready_for}
 
 -- ---- levels
@@ -66,6 +66,10 @@ is_idle plan S (group.Unparks cpu) = not (is_empty_cpu S.cpus cpu)
 is_idle plan S (group.Starts cpu r) = is_too_high S cpu (highest_level r)
 is_idle plan S (group.StartsFor cpu r o) = not (level_fits S cpu (callback_irql plan (callback_for r) o) && can_be_due plan S r o)
 is_idle plan S _ = false
+
+-- how many places of a group a search goes over: none of an idle one
+abbrev pub search_len : {A : Type 0} → Plan → State A → Group → ℕ
+search_len plan S g = if is_idle plan S g then 0 else places_in plan S g
 
 -- ---- places at which something may come
 

@@ -47,24 +47,33 @@ fn next_start<A: Agent>(parts: &Parts<A>, rank: Rank, from: usize) -> Option<usi
     }
 }
 
-/// The first place from one on whose candidate may come, as far as a look at levels and counts, and at what is due,
-/// closing, asked or cleaned says.
-#[tactic(auto, using(crate::proofs::Skips::skips_completions, crate::proofs::Skips::skips_cleanups, crate::proofs::Skips::skips_destroys))]
+/// How many places of a group a search goes over: none of an idle one.
+fn search_len<A: Agent>(plan: &IndexedPlan, parts: &Parts<A>, group: Group) -> usize
+    requires agents { length parts.now.agents ≤ 2 ^ 16 }
+    ensures value { result ≡ idle.search_len plan.now parts.now group }
+    ensures small { result ≤ 2 ^ 32 }
+{
+    if is_idle(plan, parts, group) {
+        0
+    } else {
+        places_in(plan, parts, group)
+    }
+}
+
+/// The first place from one on, of so many that a search goes over, whose candidate may come, as far as a look at
+/// what is due, closing, asked or cleaned says.
 fn next_place<A: Agent>(
     plan: &IndexedPlan,
     parts: &Parts<A>,
     group: Group,
     from: usize,
+    end: usize,
 ) -> Option<usize>
-    requires agents { length parts.now.agents ≤ 2 ^ 16 }
-    requires small { from ≤ 2 ^ 32 }
+    requires all { end ≡ idle.search_len plan.now parts.now group }
+    requires few { end ≤ 2 ^ 32 }
     ensures { MatchOption result (search.offered_from plan.now A.meaning parts.now group from ≡ [])
         (λ place. search.Skips plan.now A.meaning parts.now group from place) }
 {
-    if is_idle(plan, parts, group) {
-        return None;
-    }
-    let end = places_in(plan, parts, group);
     if from >= end {
         return None;
     }
@@ -97,8 +106,9 @@ fn offered_len<A: Agent>(plan: &IndexedPlan, parts: &Parts<A>, group: Group) -> 
     ensures small { result ≤ 2 ^ 32 }
 {
     let mut count = 0;
+    let end = search_len(plan, parts, group);
     let mut at = 0;
-    'search: while let Some(place) = next_place(plan, parts, group, at) {
+    'search: while let Some(place) = next_place(plan, parts, group, at, end) {
         if offered(plan, parts, group, place).is_some() {
             count += 1;
         }
@@ -120,8 +130,9 @@ fn offered_at<A: Agent>(
         (λ rest. length (search.offered_from plan.now A.meaning parts.now group 0) + rest ≡ k) }
 {
     let mut left = k;
+    let end = search_len(plan, parts, group);
     let mut at = 0;
-    'search: while let Some(place) = next_place(plan, parts, group, at) {
+    'search: while let Some(place) = next_place(plan, parts, group, at, end) {
         if let Some(event) = offered(plan, parts, group, place) {
             if left == 0 {
                 return Ok(event);
@@ -181,8 +192,9 @@ fn first_in<A: Agent>(
     ensures small { MatchResult result (λ place. place ≤ 2 ^ 32) (λ count. count ≤ 2 ^ 32) }
 {
     let mut count = 0;
+    let end = search_len(plan, parts, group);
     let mut at = 0;
-    'search: while let Some(place) = next_place(plan, parts, group, at) {
+    'search: while let Some(place) = next_place(plan, parts, group, at, end) {
         if let Some(event) = offered(plan, parts, group, place) {
             if is_by(&event, actor) {
                 return Ok(count);
