@@ -1,5 +1,6 @@
 pub mod Grouping
 pub mod Places
+pub mod NotOffered
 pub mod Skips
 pub mod Passing
 pub mod AnyOf

@@ -1,9 +1,10 @@
--- What is passed over without a look: requests that aren't closing, objects that aren't asked or cleaned.
+-- What is passed over without a look: idle groups, requests that aren't closing or for which no callback is due, objects
+-- that aren't asked or cleaned.
 use Rattle.std.proofs.Common.{if◌then◌else◌, Bool, true, false, ◌&&◌, ℕ, zero, suc, ◌≡◌, ◌+◌, ◌-◌, ◌<◌, ◌≤◌, ◌^◌, List, [], ◌∷◌, filter, find, Option, Some, None, MatchOption, refl, sym, ap, subst, ◌∙◌, arith}
-use Rattle.std.specs.Prelude.{nat_le}
+use Rattle.std.specs.Prelude.{nat_le, nat_lt}
 use Rattle.std.specs.Option.{option_and_then}
 use Rattle.std.specs.List.{range_with_len}
-use Rattle.std.proofs.lemmas.Bool.{le-leb, leb-true, leb-false}
+use Rattle.std.proofs.lemmas.Bool.{le-leb, leb-true, leb-false, ltb-false, ltb-true}
 use Rattle.wdf_base.specs.Meaning.{Meaning}
 use Rattle.wdf_base.specs.declared.event.Event.{Event}
 use Rattle.wdf_base.specs.declared.event.Event.TheVariants as event
@@ -11,17 +12,21 @@ use Rattle.wdf_base.specs.declared.object.Place.{Place}
 use Rattle.wdf_base.specs.declared.object.Place.TheVariants as place
 use Rattle.wdf_base.specs.declared.call.Callback.TheVariants as callback
 use Rattle.wdf_base.specs.declared.plan.Plan.{Plan}
+use Rattle.wdf_base.specs.declared.rank.Rank.{Rank}
+use Rattle.wdf_base.specs.declared.rank.Rank.TheVariants as rank
 use Rattle.wdf_model.specs.declared.enums.Group.{Group}
 use Rattle.wdf_model.specs.declared.enums.Group.TheVariants as group
 use Rattle.wdf_model.specs.Tables.{ids_of}
-use Rattle.wdf_model.specs.parts.Tree.{is_asked, is_cleaned, life_of}
+use Rattle.wdf_model.specs.parts.Tree.{is_asked, is_cleaned, life_of, next_id}
 use Rattle.wdf_model.specs.parts.Requests.{is_closing, place_of}
 use Rattle.wdf_model.specs.State.{State, handle_in, is_proper}
 use Rattle.wdf_model.specs.rules.Starts.{callback_over, clean_ready, destroy_ready}
 use Rattle.wdf_model.specs.rules.Steps.{may}
-use Rattle.wdf_model.specs.rules.Groups.{completion_at, places_in}
+use Rattle.wdf_model.specs.rules.Groups.{completion_at, is_declared_somewhere, places_for, places_if, places_in}
 use Rattle.wdf_request.specs.Closing.{closing_requests}
+use Rattle.wdf_ready.specs.Idle.{IsNext, NoneFrom, is_due_at, is_idle, next_start, search_len}
 use Rattle.wdf_ready.specs.Search.{Skips, offered, offered_from}
+use Rattle.wdf_ready.proofs.NotOffered.{idle_offers_none, no_cleanup_start, no_destroy_start, not_due}
 use Rattle.wdf_ready.proofs.Places.{all_passed, past}
 
 -- ---- what a search over ids found
@@ -113,7 +118,51 @@ module _ {A : Type 0} (plan : Plan) (m : Meaning A) (S : State A) (g : Group) (t
       (λ p over under. none p (right_false (nat_le from p) (test p) (le-leb from p over) (none_in (λ o. nat_le from o && test o) 0 (places_in plan S g) h p (omega arith) (omega arith))))
       ∙ ap (offered_from plan m S g) more ∙ past plan m S g (places_in plan S g) (omega arith)
 
+  next_skips : (from x : ℕ) → places_in plan S g ≤ 2 ^ 32 → IsNext test from (places_in plan S g) x → Skips plan m S g from x
+  next_skips from x few h =
+      let after = h.after in
+      let within = h.within in
+      let more : from + (x - from) ≡ x = omega arith in
+      record {
+        passed = all_passed plan m S g from (x - from) (omega arith) (λ p over under. none p (h.before p over (omega arith))) ∙ ap (offered_from plan m S g) more;
+        after = after;
+        within = within;
+        small = omega arith;
+      }
+
+  next_ends : (from : ℕ) → from < places_in plan S g → NoneFrom test from (places_in plan S g) → offered_from plan m S g from ≡ []
+  next_ends from below h =
+      let more : from + (places_in plan S g - from) ≡ places_in plan S g = omega arith in
+      all_passed plan m S g from (places_in plan S g - from) (omega arith) (λ p over under. none p (h p over (omega arith)))
+      ∙ ap (offered_from plan m S g) more ∙ past plan m S g (places_in plan S g) (omega arith)
+
+-- a place below the end of those that a search goes over, which is that of the group's
+pub record Searched {A : Type 0} (plan : Plan) (S : State A) (g : Group) (from end : ℕ) : Type 0 where
+  pub is : end ≡ places_in plan S g
+  pub below : from < places_in plan S g
+  pub few : places_in plan S g ≤ 2 ^ 32
+
 module _ {A : Type 0} (plan : Plan) (m : Meaning A) (S : State A) where
+  idle_by : (g : Group) (from : ℕ) (b : Bool) → nat_lt from (places_in plan S g) ≡ b → is_idle plan S g ≡ true → offered_from plan m S g from ≡ []
+  idle_by g from true e idle = next_ends plan m S g (λ _. false) (λ p _. idle_offers_none plan m S g p idle) from (ltb-true from (places_in plan S g) e) (λ p over under. refl)
+  idle_by g from false e idle = past plan m S g from (ltb-false from (places_in plan S g) e)
+
+  over_by : (g : Group) (from end : ℕ) (b : Bool) → is_idle plan S g ≡ b → end ≡ (if b then 0 else places_in plan S g) → end ≤ from → offered_from plan m S g from ≡ []
+  over_by g from end true e all over = idle_by g from (nat_lt from (places_in plan S g)) refl e
+  over_by g from end false e all over = past plan m S g from (omega arith)
+
+  -- past the places that a search goes over nothing may come
+  pub search_over : (g : Group) (from end : ℕ) → end ≡ search_len plan S g → end ≤ from → offered_from plan m S g from ≡ []
+  search_over g from end = over_by g from end (is_idle plan S g) refl
+
+  searched_by : (g : Group) (from end : ℕ) (b : Bool) → end ≡ (if b then 0 else places_in plan S g) → from < end → end ≤ 2 ^ 32 → Searched plan S g from end
+  searched_by g from end true all below few = absurd (omega arith)
+  searched_by g from end false all below few = record { is = all; below = omega arith; few = omega arith }
+
+  -- where a search goes over some places, it goes over all of the group
+  pub searched : (g : Group) (from end : ℕ) → end ≡ search_len plan S g → from < end → end ≤ 2 ^ 32 → Searched plan S g from end
+  searched g from end = searched_by g from end (is_idle plan S g)
+
   closing_none : (r : ℕ) (p : Place) → is_closing p ≡ false → completion_at plan S r p ≡ None
   closing_none r (place.Closing s) h = absurd (let z : ⊥ = cc in z)
   closing_none r _ h = refl
@@ -141,26 +190,26 @@ module _ {A : Type 0} (plan : Plan) (m : Meaning A) (S : State A) where
       not_allowed (event.Destroy (handle_in plan S o)) (may plan m S (event.Destroy (handle_in plan S o))) refl
       (never (is_proper plan S (handle_in plan S o)) (destroy_ready S o) (callback_over plan S callback.EvtDestroyCallback o) unready)
 
-  pub skips_completions : (from x : ℕ) → places_in plan S group.Completions ≤ 2 ^ 32 → find (nat_le from) (closing_requests S.requests) ≡ Some x → Skips plan m S group.Completions from x
+  skips_completions : (from x : ℕ) → places_in plan S group.Completions ≤ 2 ^ 32 → find (nat_le from) (closing_requests S.requests) ≡ Some x → Skips plan m S group.Completions from x
   skips_completions from x few h =
       skips_by plan m S group.Completions (λ r. is_closing (place_of S.requests r)) no_completion from x few
       (sym (find_filter (nat_le from) (λ r. is_closing (place_of S.requests r)) (ids_of S.requests.all)) ∙ h)
 
-  pub ends_completions : (from : ℕ) → from < places_in plan S group.Completions → find (nat_le from) (closing_requests S.requests) ≡ None → offered_from plan m S group.Completions from ≡ []
+  ends_completions : (from : ℕ) → from < places_in plan S group.Completions → find (nat_le from) (closing_requests S.requests) ≡ None → offered_from plan m S group.Completions from ≡ []
   ends_completions from below h =
       ends_by plan m S group.Completions (λ r. is_closing (place_of S.requests r)) no_completion from below
       (sym (find_filter (nat_le from) (λ r. is_closing (place_of S.requests r)) (ids_of S.requests.all)) ∙ h)
 
-  pub skips_cleanups : (from x : ℕ) → places_in plan S group.Cleanups ≤ 2 ^ 32 → find (λ o. nat_le from o && is_asked (life_of S.tree o)) (ids_of S.tree.nodes) ≡ Some x → Skips plan m S group.Cleanups from x
+  skips_cleanups : (from x : ℕ) → places_in plan S group.Cleanups ≤ 2 ^ 32 → find (λ o. nat_le from o && is_asked (life_of S.tree o)) (ids_of S.tree.nodes) ≡ Some x → Skips plan m S group.Cleanups from x
   skips_cleanups from x few h = skips_by plan m S group.Cleanups (λ o. is_asked (life_of S.tree o)) no_cleanup from x few h
 
-  pub ends_cleanups : (from : ℕ) → from < places_in plan S group.Cleanups → find (λ o. nat_le from o && is_asked (life_of S.tree o)) (ids_of S.tree.nodes) ≡ None → offered_from plan m S group.Cleanups from ≡ []
+  ends_cleanups : (from : ℕ) → from < places_in plan S group.Cleanups → find (λ o. nat_le from o && is_asked (life_of S.tree o)) (ids_of S.tree.nodes) ≡ None → offered_from plan m S group.Cleanups from ≡ []
   ends_cleanups from below h = ends_by plan m S group.Cleanups (λ o. is_asked (life_of S.tree o)) no_cleanup from below h
 
-  pub skips_destroys : (from x : ℕ) → places_in plan S group.Destroys ≤ 2 ^ 32 → find (λ o. nat_le from o && is_cleaned (life_of S.tree o)) (ids_of S.tree.nodes) ≡ Some x → Skips plan m S group.Destroys from x
+  skips_destroys : (from x : ℕ) → places_in plan S group.Destroys ≤ 2 ^ 32 → find (λ o. nat_le from o && is_cleaned (life_of S.tree o)) (ids_of S.tree.nodes) ≡ Some x → Skips plan m S group.Destroys from x
   skips_destroys from x few h = skips_by plan m S group.Destroys (λ o. is_cleaned (life_of S.tree o)) no_destroy from x few h
 
-  pub ends_destroys : (from : ℕ) → from < places_in plan S group.Destroys → find (λ o. nat_le from o && is_cleaned (life_of S.tree o)) (ids_of S.tree.nodes) ≡ None → offered_from plan m S group.Destroys from ≡ []
+  ends_destroys : (from : ℕ) → from < places_in plan S group.Destroys → find (λ o. nat_le from o && is_cleaned (life_of S.tree o)) (ids_of S.tree.nodes) ≡ None → offered_from plan m S group.Destroys from ≡ []
   ends_destroys from below h = ends_by plan m S group.Destroys (λ o. is_cleaned (life_of S.tree o)) no_destroy from below h
 
   -- what is found, or that nothing is
@@ -183,3 +232,52 @@ module _ {A : Type 0} (plan : Plan) (m : Meaning A) (S : State A) where
       → MatchOption o (offered_from plan m S g from ≡ []) (λ x. Skips plan m S g from x)
   destroys_answer g from o is = subst (λ h. from < places_in plan S h → places_in plan S h ≤ 2 ^ 32 → find (λ x. nat_le from x && is_cleaned (life_of S.tree x)) (ids_of S.tree.nodes) ≡ o → MatchOption o (offered_from plan m S h from ≡ []) (λ x. Skips plan m S h from x)) is
       (λ below few e. by_option group.Destroys from o (find (λ x. nat_le from x && is_cleaned (life_of S.tree x)) (ids_of S.tree.nodes)) e (ends_destroys from below) (λ x h. skips_destroys from x few h))
+
+  -- ---- starts
+
+  -- a place is the next one
+  pub stays : (g : Group) (from : ℕ) → from < places_in plan S g → places_in plan S g ≤ 2 ^ 32 → Skips plan m S g from from
+  stays g from below few = record { passed = refl; after = omega arith; within = below; small = omega arith }
+
+  -- a callback that is declared somewhere has a place for each id
+  declared_places : (b : Bool) (n from : ℕ) → from < places_if b n → places_if b n ≡ n
+  declared_places true n from h = refl
+  declared_places false n from h = absurd (omega arith)
+
+  start_answer_by : (cpu : ℕ) (r : Rank) (from : ℕ) (o : Option ℕ) → from < places_in plan S (group.Starts cpu r) → places_in plan S (group.Starts cpu r) ≤ 2 ^ 32 → next_start S r from ≡ o
+      → MatchOption o (offered_from plan m S (group.Starts cpu r) from ≡ []) (λ x. Skips plan m S (group.Starts cpu r) from x)
+  start_answer_by cpu rank.Cleanup from o below few e =
+      let all = ap (λ n. find (λ x. nat_le from x && is_asked (life_of S.tree x)) (range_with_len 0 n)) (declared_places (is_declared_somewhere plan callback.EvtCleanupCallback) (next_id S.tree) from below) in
+      by_option (group.Starts cpu rank.Cleanup) from o (next_start S rank.Cleanup from) e
+      (λ h. ends_by plan m S (group.Starts cpu rank.Cleanup) (λ x. is_asked (life_of S.tree x)) (no_cleanup_start plan m S cpu) from below (all ∙ h))
+      (λ x h. skips_by plan m S (group.Starts cpu rank.Cleanup) (λ y. is_asked (life_of S.tree y)) (no_cleanup_start plan m S cpu) from x few (all ∙ h))
+  start_answer_by cpu rank.Destroy from o below few e =
+      let all = ap (λ n. find (λ x. nat_le from x && is_cleaned (life_of S.tree x)) (range_with_len 0 n)) (declared_places (is_declared_somewhere plan callback.EvtDestroyCallback) (next_id S.tree) from below) in
+      by_option (group.Starts cpu rank.Destroy) from o (next_start S rank.Destroy from) e
+      (λ h. ends_by plan m S (group.Starts cpu rank.Destroy) (λ x. is_cleaned (life_of S.tree x)) (no_destroy_start plan m S cpu) from below (all ∙ h))
+      (λ x h. skips_by plan m S (group.Starts cpu rank.Destroy) (λ y. is_cleaned (life_of S.tree y)) (no_destroy_start plan m S cpu) from x few (all ∙ h))
+  start_answer_by cpu r from o below few e =
+      subst (λ p. MatchOption p (offered_from plan m S (group.Starts cpu r) from ≡ []) (λ x. Skips plan m S (group.Starts cpu r) from x)) e (stays (group.Starts cpu r) from below few)
+
+  pub start_answer : (g : Group) (cpu : ℕ) (r : Rank) (from : ℕ) (o : Option ℕ) → group.Starts cpu r ≡ g → from < places_in plan S g → places_in plan S g ≤ 2 ^ 32 → next_start S r from ≡ o
+      → MatchOption o (offered_from plan m S g from ≡ []) (λ x. Skips plan m S g from x)
+  start_answer g cpu r from o is =
+      subst (λ h. from < places_in plan S h → places_in plan S h ≤ 2 ^ 32 → next_start S r from ≡ o → MatchOption o (offered_from plan m S h from ≡ []) (λ x. Skips plan m S h from x)) is (start_answer_by cpu r from o)
+
+  due_answer_by : (cpu : ℕ) (r : Rank) (q from : ℕ) (o : Option ℕ) → from < places_in plan S (group.StartsFor cpu r q) → places_in plan S (group.StartsFor cpu r q) ≤ 2 ^ 32
+      → MatchOption o (NoneFrom (is_due_at plan S r q) from (places_for plan S r q)) (λ x. IsNext (is_due_at plan S r q) from (places_for plan S r q) x)
+      → MatchOption o (offered_from plan m S (group.StartsFor cpu r q) from ≡ []) (λ x. Skips plan m S (group.StartsFor cpu r q) from x)
+  due_answer_by cpu r q from None below few h = next_ends plan m S (group.StartsFor cpu r q) (is_due_at plan S r q) (not_due plan m S cpu r q) from below h
+  due_answer_by cpu r q from (Some x) below few h = next_skips plan m S (group.StartsFor cpu r q) (is_due_at plan S r q) (not_due plan m S cpu r q) from x few h
+
+  pub due_answer : (g : Group) (cpu : ℕ) (r : Rank) (q from end : ℕ) (o : Option ℕ) → group.StartsFor cpu r q ≡ g → end ≡ places_in plan S g → from < end → end ≤ 2 ^ 32
+      → MatchOption o (NoneFrom (is_due_at plan S r q) from end) (λ x. IsNext (is_due_at plan S r q) from end x) → MatchOption o (offered_from plan m S g from ≡ []) (λ x. Skips plan m S g from x)
+  due_answer g cpu r q from end o is =
+      subst
+      (λ h. end ≡ places_in plan S h → from < end → end ≤ 2 ^ 32
+      → MatchOption o (NoneFrom (is_due_at plan S r q) from end) (λ x. IsNext (is_due_at plan S r q) from end x) → MatchOption o (offered_from plan m S h from ≡ []) (λ x. Skips plan m S h from x))
+      is
+      (λ all. subst
+      (λ n. from < n → n ≤ 2 ^ 32
+      → MatchOption o (NoneFrom (is_due_at plan S r q) from n) (λ x. IsNext (is_due_at plan S r q) from n x) → MatchOption o (offered_from plan m S (group.StartsFor cpu r q) from ≡ []) (λ x. Skips plan m S (group.StartsFor cpu r q) from x))
+      (sym all) (due_answer_by cpu r q from o))

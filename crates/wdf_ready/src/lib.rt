@@ -4,8 +4,10 @@
 
 mod actor;
 mod candidates;
+mod due;
 mod endings;
 mod groups;
+mod idle;
 mod search;
 
 pub use actor::is_by;

@@ -2,11 +2,14 @@
 ghost use Rattle.std.specs.Prelude.{◌≡◌, ◌+◌, ◌<◌, ◌≤◌, ◌^◌, [], Some, None, length, position, slice_get, option_map, MatchOption, MatchResult};
 ghost use Rattle.wdf_model.specs.rules.Groups as groups;
 ghost use Rattle.wdf_ready.specs.Actors as actors;
+ghost use Rattle.wdf_ready.specs.Idle as idle;
 ghost use Rattle.wdf_ready.specs.Search as search;
 
 use crate::actor::is_by;
 use crate::candidates::{candidate, places_in};
-use wdf_base::{Actor, Agent, Event, ObjectId};
+use crate::due::next_due;
+use crate::idle::is_idle;
+use wdf_base::{Actor, Agent, Event, ObjectId, Rank};
 use wdf_model::Group;
 use wdf_parts::Parts;
 use wdf_plans::IndexedPlan;
@@ -32,24 +35,53 @@ fn offered<A: Agent>(
     }
 }
 
-/// The first place from one on whose candidate may come, as far as a look at what is closing, asked or
-/// cleaned says.
-#[tactic(auto, using(crate::proofs::Skips::skips_completions, crate::proofs::Skips::skips_cleanups, crate::proofs::Skips::skips_destroys))]
+/// The first id from one on that a rank's callback may start on, as far as its life says.
+fn next_start<A: Agent>(parts: &Parts<A>, rank: Rank, from: usize) -> Option<usize>
+    requires { from < 2 ^ 32 }
+    ensures { result ≡ idle.next_start parts.now rank from }
+{
+    match rank {
+        Rank::Cleanup => place_of(parts.tree().asked_from(ObjectId(from as u32))),
+        Rank::Destroy => place_of(parts.tree().cleaned_from(ObjectId(from as u32))),
+        _ => Some(from),
+    }
+}
+
+/// How many places of a group a search goes over: none of an idle one.
+fn search_len<A: Agent>(plan: &IndexedPlan, parts: &Parts<A>, group: Group) -> usize
+    requires agents { length parts.now.agents ≤ 2 ^ 16 }
+    ensures value { result ≡ idle.search_len plan.now parts.now group }
+    ensures small { result ≤ 2 ^ 32 }
+{
+    if is_idle(plan, parts, group) {
+        0
+    } else {
+        places_in(plan, parts, group)
+    }
+}
+
+/// The first place from one on, of so many that a search goes over, whose candidate may come, as far as a look at
+/// what is due, closing, asked or cleaned says.
 fn next_place<A: Agent>(
     plan: &IndexedPlan,
     parts: &Parts<A>,
     group: Group,
     from: usize,
+    end: usize,
 ) -> Option<usize>
-    requires agents { length parts.now.agents ≤ 2 ^ 16 }
-    requires small { from ≤ 2 ^ 32 }
+    requires all { end ≡ idle.search_len plan.now parts.now group }
+    requires few { end ≤ 2 ^ 32 }
     ensures { MatchOption result (search.offered_from plan.now A.meaning parts.now group from ≡ [])
         (λ place. search.Skips plan.now A.meaning parts.now group from place) }
 {
-    if from >= places_in(plan, parts, group) {
+    if from >= end {
         return None;
     }
     match group {
+        Group::Starts { rank, .. } => next_start(parts, rank, from),
+        Group::StartsFor { rank, object, .. } => {
+            next_due(plan, parts, rank, ObjectId(object), from, end)
+        }
         Group::Completions => place_of(parts.requests().next_closing(ObjectId(from as u32))),
         Group::Cleanups => place_of(parts.tree().asked_from(ObjectId(from as u32))),
         Group::Destroys => place_of(parts.tree().cleaned_from(ObjectId(from as u32))),
@@ -74,8 +106,9 @@ fn offered_len<A: Agent>(plan: &IndexedPlan, parts: &Parts<A>, group: Group) -> 
     ensures small { result ≤ 2 ^ 32 }
 {
     let mut count = 0;
+    let end = search_len(plan, parts, group);
     let mut at = 0;
-    'search: while let Some(place) = next_place(plan, parts, group, at) {
+    'search: while let Some(place) = next_place(plan, parts, group, at, end) {
         if offered(plan, parts, group, place).is_some() {
             count += 1;
         }
@@ -97,8 +130,9 @@ fn offered_at<A: Agent>(
         (λ rest. length (search.offered_from plan.now A.meaning parts.now group 0) + rest ≡ k) }
 {
     let mut left = k;
+    let end = search_len(plan, parts, group);
     let mut at = 0;
-    'search: while let Some(place) = next_place(plan, parts, group, at) {
+    'search: while let Some(place) = next_place(plan, parts, group, at, end) {
         if let Some(event) = offered(plan, parts, group, place) {
             if left == 0 {
                 return Ok(event);
@@ -158,8 +192,9 @@ fn first_in<A: Agent>(
     ensures small { MatchResult result (λ place. place ≤ 2 ^ 32) (λ count. count ≤ 2 ^ 32) }
 {
     let mut count = 0;
+    let end = search_len(plan, parts, group);
     let mut at = 0;
-    'search: while let Some(place) = next_place(plan, parts, group, at) {
+    'search: while let Some(place) = next_place(plan, parts, group, at, end) {
         if let Some(event) = offered(plan, parts, group, place) {
             if is_by(&event, actor) {
                 return Ok(count);

@@ -1,0 +1,102 @@
+-- When nothing may come of a group, as levels and counts say without a look at its places; and of which places of a
+-- group for requests something may come. (own)
+use Rattle.std.specs.Prelude.{if◌then◌else◌, ℕ, Bool, true, false, not, ◌&&◌, ◌≡◌, ◌<◌, ◌≤◌, nat_le, Option, Some, None, find, slice_get}
+use Rattle.std.specs.List.{list_any}
+use Rattle.wdf_base.specs.Callbacks.{row_of}
+use Rattle.wdf_base.specs.Same.{same_option, same_step}
+use Rattle.wdf_base.specs.declared.plan.Plan.{Plan}
+use Rattle.wdf_base.specs.declared.ids.Irql.{Irql}
+use Rattle.wdf_base.specs.declared.call.Callback.TheVariants as callback
+use Rattle.wdf_base.specs.declared.event.Stage.TheVariants as stage
+use Rattle.wdf_base.specs.declared.event.Step.TheVariants as step
+use Rattle.wdf_base.specs.declared.rank.Rank.{Rank}
+use Rattle.wdf_base.specs.declared.rank.Rank.TheVariants as rank
+use Rattle.wdf_model.specs.declared.entries.Request.{Request}
+use Rattle.wdf_model.specs.declared.entries.Sending.{Sending}
+use Rattle.wdf_model.specs.declared.enums.Group.{Group}
+use Rattle.wdf_model.specs.declared.enums.Group.TheVariants as group
+use Rattle.wdf_model.specs.Plans.{callback_irql, is_managed}
+use Rattle.wdf_model.specs.State.{State}
+use Rattle.wdf_model.specs.Tables.{ids_of}
+use Rattle.wdf_model.specs.parts.Cpus.{is_empty_cpu}
+use Rattle.wdf_model.specs.parts.Pnp.{next_step}
+use Rattle.wdf_model.specs.parts.Requests.{is_returning_to}
+use Rattle.wdf_model.specs.parts.Targets.{the_target}
+use Rattle.wdf_model.specs.parts.Tree.{is_asked, is_cleaned, life_of, nearest_device}
+use Rattle.wdf_model.specs.rules.Groups.{callback_for, places_in}
+use Rattle.wdf_model.specs.rules.Starts.{level_fits, rank_ready_for}
+
+-- ---- levels
+
+-- the highest level of a rank's callbacks, none where it is that of an interrupt
+abbrev pub highest_level : Rank → Option Irql
+highest_level rank.Isr = None
+highest_level rank.Sequence = None
+highest_level rank.Work = Some (record { 0 = 0 })
+highest_level rank.Cleanup = Some (record { 0 = 0 })
+highest_level rank.Destroy = Some (record { 0 = 0 })
+highest_level _ = Some (record { 0 = 2 })
+
+-- no callback of up to this level may start on a processor
+abbrev pub is_too_high : {A : Type 0} → State A → ℕ → Option Irql → Bool
+is_too_high S cpu None = false
+is_too_high S cpu (Some level) = not (level_fits S cpu level.0)
+
+-- ---- what a queue's requests wait for
+
+-- the next step of a device is that its power-managed queues have settled
+abbrev pub settles_next : {A : Type 0} → State A → ℕ → Bool
+settles_next S d = same_option same_step (next_step S.pnp d) (Some (step.Pass stage.Settled None))
+
+-- a queue is power-managed, and its device is between `queues_down` and `settled`
+abbrev pub is_stopping : {A : Type 0} → Plan → State A → ℕ → Bool
+is_stopping plan S q = is_managed plan q && settles_next S (nearest_device S.tree q)
+
+-- a callback of a rank for requests can be due on an object
+abbrev pub can_be_due : {A : Type 0} → Plan → State A → Rank → ℕ → Bool
+can_be_due plan S rank.CanceledOnQueue q = list_any (λ (r : Request). is_returning_to q r.place) S.requests.all
+can_be_due plan S rank.Stop q = is_stopping plan S q
+can_be_due plan S _ o = true
+
+-- ---- groups
+
+-- nothing may come of a group
+abbrev pub is_idle : {A : Type 0} → Plan → State A → Group → Bool
+is_idle plan S (group.Unparks cpu) = not (is_empty_cpu S.cpus cpu)
+is_idle plan S (group.Starts cpu r) = is_too_high S cpu (highest_level r)
+is_idle plan S (group.StartsFor cpu r o) = not (level_fits S cpu (callback_irql plan (callback_for r) o) && can_be_due plan S r o)
+is_idle plan S _ = false
+
+-- how many places of a group a search goes over: none of an idle one
+abbrev pub search_len : {A : Type 0} → Plan → State A → Group → ℕ
+search_len plan S g = if is_idle plan S g then 0 else places_in plan S g
+
+-- ---- places at which something may come
+
+-- the first id from one on that a rank's callback may start on, as far as its life says: a cleanup callback on what is
+-- Asked, a destroy callback on what is cleaned, another on any
+abbrev pub next_start : {A : Type 0} → State A → Rank → ℕ → Option ℕ
+next_start S rank.Cleanup from = find (λ o. nat_le from o && is_asked (life_of S.tree o)) (ids_of S.tree.nodes)
+next_start S rank.Destroy from = find (λ o. nat_le from o && is_cleaned (life_of S.tree o)) (ids_of S.tree.nodes)
+next_start S _ from = Some from
+
+-- the completion routine of what is sent to a target is due
+abbrev pub is_sending_due : {A : Type 0} → Plan → State A → ℕ → Option Sending → Bool
+is_sending_due plan S t None = false
+is_sending_due plan S t (Some s) = rank_ready_for plan S rank.Completion callback.EvtRequestCompletion t s.request.0
+
+-- a callback of a rank is due on an object for the request at a place
+abbrev pub is_due_at : {A : Type 0} → Plan → State A → Rank → ℕ → ℕ → Bool
+is_due_at plan S rank.Completion t k = is_sending_due plan S t (slice_get (the_target S.targets t).sent k)
+is_due_at plan S r q k = rank_ready_for plan S (row_of (callback_for r)).rank (callback_for r) q k
+
+-- no place from one on below an end passes a test
+abbrev pub NoneFrom : (ℕ → Bool) → ℕ → ℕ → Type 0
+NoneFrom test from end = (place : ℕ) → from ≤ place → place < end → test place ≡ false
+
+-- the first such place that does
+pub record IsNext (test : ℕ → Bool) (from end place : ℕ) : Type 0 where
+  pub after : from ≤ place
+  pub within : place < end
+  pub passes : test place ≡ true
+  pub before : NoneFrom test from place

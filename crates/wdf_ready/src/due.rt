@@ -1,0 +1,67 @@
+//! The places of the groups for requests at which a callback is due.
+ghost use Rattle.std.specs.Prelude.{◌≡◌, ◌<◌, ◌≤◌, ◌^◌, length, MatchOption};
+ghost use Rattle.wdf_base.specs.declared.rank.Rank.TheVariants as rank;
+ghost use Rattle.wdf_model.specs.parts.Targets as targets;
+ghost use Rattle.wdf_model.specs.rules.Groups as groups;
+ghost use Rattle.wdf_ready.specs.Idle as idle;
+
+use crate::candidates::callback_for;
+use wdf_base::{Agent, Callback, ObjectId, Rank};
+use wdf_parts::Parts;
+use wdf_plans::IndexedPlan;
+use wdf_starts::rank_ready_for;
+
+/// Whether the completion routine of what is sent to a target is due, by its place.
+fn is_routine_due<A: Agent>(plan: &IndexedPlan, parts: &Parts<A>, t: ObjectId, place: usize) -> bool
+    requires { place < length (targets.the_target parts.now.targets t.0).sent }
+    ensures { result ≡ idle.is_due_at plan.now parts.now rank.Completion t.0 place }
+{
+    let _sent = parts.targets().pending(t);
+    let sending = parts.targets().sent_at(t, place as u32);
+    let callback = Callback::EvtRequestCompletion;
+    rank_ready_for(plan, parts, Rank::Completion, callback, t, sending.request)
+}
+
+/// Whether a callback of a rank is due on an object for the request at a place.
+fn is_due_at<A: Agent>(
+    plan: &IndexedPlan,
+    parts: &Parts<A>,
+    rank: Rank,
+    object: ObjectId,
+    place: usize,
+) -> bool
+    requires within { place < groups.places_for plan.now parts.now rank object.0 }
+    requires small { place < 2 ^ 32 }
+    ensures { result ≡ idle.is_due_at plan.now parts.now rank object.0 place }
+{
+    match rank {
+        Rank::Completion => is_routine_due(plan, parts, object, place),
+        _ => {
+            let callback = callback_for(rank);
+            let request = ObjectId(place as u32);
+            rank_ready_for(plan, parts, callback.row().rank, callback, object, request)
+        }
+    }
+}
+
+/// The first place from one on below an end at which a callback of a rank is due on an object.
+pub(crate) fn next_due<A: Agent>(
+    plan: &IndexedPlan,
+    parts: &Parts<A>,
+    rank: Rank,
+    object: ObjectId,
+    from: usize,
+    end: usize,
+) -> Option<usize>
+    requires within { end ≤ groups.places_for plan.now parts.now rank object.0 }
+    requires small { end ≤ 2 ^ 32 }
+    ensures { MatchOption result (idle.NoneFrom (idle.is_due_at plan.now parts.now rank object.0) from end)
+        (λ place. idle.IsNext (idle.is_due_at plan.now parts.now rank object.0) from end place) }
+{
+    for place in from..end {
+        if is_due_at(plan, parts, rank, object, place) {
+            return Some(place);
+        }
+    }
+    None
+}
