@@ -11,6 +11,4 @@ mod verdict;
 mod words;
 
 pub use laws::{one_trace_a_plan, plans_of_texts_are_resolved, traces_are_of_runs};
-pub use run::opening;
-pub use scenario::read_plan;
 pub use top::top_plain;
