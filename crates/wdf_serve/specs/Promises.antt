@@ -31,7 +31,6 @@ use Rattle.wdf_top.specs.declared.words.Form.TheVariants.{Check, Replay, Gen, Lo
 pub record Promises (words : List (List ℕ)) (s : Sourcing) (k : Sinking) (answer : ℕ) : Type 0 where
   -- Which text is due with which status. It is written whole, or the sink fails and a front of it is written.
   pub told : TellsWords words s k answer
-
   -- For `order`, `seed N` and `run`, 0, 3, 4 and 5 come only where what was written is the text of a run of the written
   -- machine from the opening of the whole input's plan. That run has ended, the status is its ending's, and it keeps the
   -- nine laws of a trace.
@@ -41,68 +40,63 @@ pub record Promises (words : List (List ℕ)) (s : Sourcing) (k : Sinking) (answ
   pub fault : IsTrue (writes_run words) → answer ≡ 3 → (f : Fault) × WroteRunTo s k 3 (ending.Fault f)
   pub stuck : IsTrue (writes_run words) → answer ≡ 4 → WroteRunTo s k 4 ending.Stuck
   pub limit : IsTrue (writes_run words) → answer ≡ 5 → WroteRunTo s k 5 ending.Limit
-
   -- For `run`, an input that is told and within the limit, and counts of faults that don't rise: what is written is why
   -- the input has no plan, or the text of some run of the plan that has ended, with its ending's status; or the answer is
   -- out of memory.
   pub threads : is_run words ≡ true → (input : List ℕ) → IsGiven s input → Stayed k.faults_before k.faults_after
-    → (answer ≡ 15) ⊎ ((text : List ℕ) × RunsByThreads input text answer × Gains k.before k.after text)
+      → (answer ≡ 15) ⊎ ((text : List ℕ) × RunsByThreads input text answer × Gains k.before k.after text)
   -- So for each plan that stands for the input, a run of it is made and its text is written.
   pub threads_run : is_run words ≡ true → (input : List ℕ) → IsGiven s input → Stayed k.faults_before k.faults_after
-    → (plan : Plan) → HasPlan input plan
-    → (answer ≡ 15) ⊎ ((text : List ℕ) × IsSomeTrace plan text answer × Gains k.before k.after text)
+      → (plan : Plan) → HasPlan input plan
+      → (answer ≡ 15) ⊎ ((text : List ℕ) × IsSomeTrace plan text answer × Gains k.before k.after text)
   -- For `order` and `seed N`, likewise: the trace of the run that the plan's picks, or the words of the seed, make of it.
   pub runs : (picks : Picks) → picks_for (form_of_words words) ≡ Some picks
-    → (input : List ℕ) → IsGiven s input → Stayed k.faults_before k.faults_after
-    → (answer ≡ 15) ⊎ ((text : List ℕ) × Runs picks input text answer × Gains k.before k.after text)
+      → (input : List ℕ) → IsGiven s input → Stayed k.faults_before k.faults_after
+      → (answer ≡ 15) ⊎ ((text : List ℕ) × Runs picks input text answer × Gains k.before k.after text)
   pub run : (picks : Picks) → picks_for (form_of_words words) ≡ Some picks
-    → (input : List ℕ) → IsGiven s input → Stayed k.faults_before k.faults_after
-    → (plan : Plan) → HasPlan input plan
-    → (answer ≡ 15) ⊎ ((text : List ℕ) × IsTraceOf plan (picks_of picks plan) text answer × Gains k.before k.after text)
+      → (input : List ℕ) → IsGiven s input → Stayed k.faults_before k.faults_after
+      → (plan : Plan) → HasPlan input plan
+      → (answer ≡ 15) ⊎ ((text : List ℕ) × IsTraceOf plan (picks_of picks plan) text answer × Gains k.before k.after text)
   -- For `check`, likewise: why the input has no plan, or its scene in canonical form.
   pub check : form_of_words words ≡ Some Check → (input : List ℕ) → IsGiven s input → Stayed k.faults_before k.faults_after
-    → (answer ≡ 15) ⊎ ((text : List ℕ) × Checks input text answer × Gains k.before k.after text)
-
+      → (answer ≡ 15) ⊎ ((text : List ℕ) × Checks input text answer × Gains k.before k.after text)
   -- For `replay`, likewise: why the scenario before the first line `trace` has no plan, or the verdict on the trace after
   -- that line.
   pub judged : form_of_words words ≡ Some Replay → (input : List ℕ) → IsGiven s input → Stayed k.faults_before k.faults_after
-    → (answer ≡ 15) ⊎ ((text : List ℕ) × Judges input text answer × Gains k.before k.after text)
+      → (answer ≡ 15) ⊎ ((text : List ℕ) × Judges input text answer × Gains k.before k.after text)
   pub verdict : form_of_words words ≡ Some Replay → (input : List ℕ) → IsGiven s input → Stayed k.faults_before k.faults_after
-    → (plan : Plan) → HasPlan (scenario_in input) plan
-    → (answer ≡ 15) ⊎ ((text : List ℕ) × IsVerdict plan (trace_in input) text answer × Gains k.before k.after text)
+      → (plan : Plan) → HasPlan (scenario_in input) plan
+      → (answer ≡ 15) ⊎ ((text : List ℕ) × IsVerdict plan (trace_in input) text answer × Gains k.before k.after text)
   -- Without a trace its first line is missing.
   pub no_trace : form_of_words words ≡ Some Replay → (input : List ℕ) → IsGiven s input → Stayed k.faults_before k.faults_after
-    → (plan : Plan) → HasPlan (scenario_in input) plan → trace_in input ≡ []
-    → (answer ≡ 15) ⊎ ((answer ≡ 6) × Gains k.before k.after (refused_line 1 why.Missing))
+      → (plan : Plan) → HasPlan (scenario_in input) plan → trace_in input ≡ []
+      → (answer ≡ 15) ⊎ ((answer ≡ 6) × Gains k.before k.after (refused_line 1 why.Missing))
   -- 6 comes exactly where a line of the trace is bad, and tells the first such line with its reason.
   pub bad_line_only : answer ≡ 6 → (form_of_words words ≡ Some Replay) × WroteRefused s k
   pub bad_line_always : form_of_words words ≡ Some Replay → (input : List ℕ) → IsGiven s input
-    → (plan : Plan) → HasPlan (scenario_in input) plan
-    → (line : ℕ) (y : Why) → IsRefused plan agent_meaning (trace_in input) line y → Unhindered 6 answer
+      → (plan : Plan) → HasPlan (scenario_in input) plan
+      → (line : ℕ) (y : Why) → IsRefused plan agent_meaning (trace_in input) line y → Unhindered 6 answer
   -- For `replay`, 0 comes only where the trace is the text of a run that has ended. The lines of each run that has ended
   -- and whose events are of the plan are accepted.
   pub accepted_only : form_of_words words ≡ Some Replay → answer ≡ 0 → WroteAccepted s k
   pub accepted_always : form_of_words words ≡ Some Replay → (input : List ℕ) → IsGiven s input
-    → (plan : Plan) → HasPlan (scenario_in input) plan
-    → (run : List Event) → IsWhole plan agent_meaning (trace_in input) run → Unhindered 0 answer
-
+      → (plan : Plan) → HasPlan (scenario_in input) plan
+      → (run : List Event) → IsWhole plan agent_meaning (trace_in input) run → Unhindered 0 answer
   -- `gen N` writes the text of the scenario that N generates, and `load N` the summary of its run by the words of N; or the
   -- answer is out of memory.
   pub generated : (n : ℕ) → form_of_words words ≡ Some (Gen n) → Stayed k.faults_before k.faults_after
-    → (answer ≡ 15) ⊎ ((answer ≡ 0) × Gains k.before k.after (printed (scenario.generated n)))
+      → (answer ≡ 15) ⊎ ((answer ≡ 0) × Gains k.before k.after (printed (scenario.generated n)))
   pub summed : (n : ℕ) → form_of_words words ≡ Some (Load n) → Stayed k.faults_before k.faults_after
-    → (answer ≡ 15) ⊎ ((text : List ℕ) × IsSummaryOf n text answer × Gains k.before k.after text)
+      → (answer ≡ 15) ⊎ ((text : List ℕ) × IsSummaryOf n text answer × Gains k.before k.after text)
   -- For `load N`, 3, 4 and 5 come only where the summary of a run was written that ended so.
   pub summed_fault : (n : ℕ) → form_of_words words ≡ Some (Load n) → answer ≡ 3 → (f : Fault) × WroteSummary n k (ending.Fault f)
   pub summed_stuck : (n : ℕ) → form_of_words words ≡ Some (Load n) → answer ≡ 4 → WroteSummary n k ending.Stuck
   pub summed_limit : (n : ℕ) → form_of_words words ≡ Some (Load n) → answer ≡ 5 → WroteSummary n k ending.Limit
-
   -- An answer to an input comes only where the input was read to its end.
   pub whole_input : IsTrue (reads_input words) → answer ≢ 12 → answer ≢ 13 → answer ≢ 14 → answer ≢ 15 → UsesUp s.before s.after
   -- Only `check`, `order`, `seed N`, `run` and `replay` read, and no more than one byte past the limit.
   pub unread : reads_input words ≡ false → (s.after ≡ s.before) × (s.faults_after ≡ s.faults_before)
   pub no_further : IsTrue (reads_input words) → TakesAtMost s.before s.after 1048577
-
   -- 2 comes exactly where the words are neither `run` nor one of the other forms, unless the sink fails.
   pub usage_only : answer ≡ 2 → (is_run words ≡ false) × (form_of_words words ≡ None)
   pub usage_always : is_run words ≡ false → form_of_words words ≡ None → (answer ≡ 2) ⊎ (answer ≡ 13)
@@ -112,7 +106,7 @@ pub record Promises (words : List (List ℕ)) (s : Sourcing) (k : Sinking) (answ
   -- 11 comes exactly where a scene stands for the scenario and has no plan.
   pub no_plan_only : answer ≡ 11 → (input : List ℕ) × (refusal : PlanRefusal) × TakesAll s.before s.after input × HasNoPlan (scenario_for words input) refusal
   pub no_plan_always : IsTrue (reads_input words) → (input : List ℕ) → IsGiven s input
-    → (refusal : PlanRefusal) → HasNoPlan (scenario_for words input) refusal → Unhindered 11 answer
+      → (refusal : PlanRefusal) → HasNoPlan (scenario_for words input) refusal → Unhindered 11 answer
   -- 12 comes only where a read failed.
   pub read_fault : answer ≡ 12 → Rose s.faults_before s.faults_after
   -- 13 exactly: where a write failed, less than the whole text was written and the status is 13. Where none failed the whole
@@ -125,7 +119,7 @@ pub record Promises (words : List (List ℕ)) (s : Sourcing) (k : Sinking) (answ
   pub too_large_only : answer ≡ 14 → TakesCount s.before s.after 1048577
   pub too_large_always : (input : List ℕ) → s.before ≡ Some input → TakesCount s.before s.after 1048577 → (answer ≡ 14) ⊎ (answer ≡ 13)
   pub large_input : IsTrue (reads_input words) → (input : List ℕ) → s.before ≡ Some input → 1048576 < length input
-    → Stayed s.faults_before s.faults_after → Unhindered 14 answer
+      → Stayed s.faults_before s.faults_after → Unhindered 14 answer
   -- Out of memory is told before a byte of a trace is written.
   pub memory_first : answer ≡ 15 → Gains k.before k.after no_memory_line
   -- No other status comes.
