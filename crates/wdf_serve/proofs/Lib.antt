@@ -3,4 +3,5 @@ pub mod Telling
 pub mod Statuses
 pub mod Ended
 pub mod Clauses
+pub mod Promised
 pub mod Serving

@@ -1,4 +1,5 @@
 pub mod Words
 pub mod Runs
 pub mod Told
+pub mod Promises
 pub mod Serving

@@ -35,7 +35,7 @@ threading = record {
 abbrev pub RunsByThreads : List ℕ → List ℕ → ℕ → Type 0
 RunsByThreads = Answers threading
 
--- What becomes of a plan: the text of some run of it, or the line that memory is wanting; or a front of either.
+-- What becomes of a plan: the text of some run of it, or the line `out of memory`; or a front of either.
 abbrev pub TellsSomeRun : Plan → Sinking → ℕ → Type 0
 TellsSomeRun plan k answer = (text : List ℕ) × (status : ℕ) × (IsSomeTrace plan text status ⊎ ((text ≡ no_memory_line) × (status ≡ 15))) × Says k text status answer
 

@@ -9,26 +9,26 @@ use Rattle.std.specs.declared.string.String.{String}
 use Rattle.std.specs.declared.vec.IntoIter.{IntoIter}
 use Rattle.wdf_say.specs.Refusals.{no_memory_line}
 use Rattle.wdf_say.specs.Said.{Sinking, Says}
-use Rattle.wdf_serve.specs.Told.{TellsWords}
+use Rattle.wdf_serve.specs.Promises.{Promises}
 use Rattle.wdf_top.specs.Top.{Sourcing, IsUnread}
 
 -- the arguments, as the system gives them: the first is the program's name
 abbrev pub Arguments : Type 0
 Arguments = Result (IntoIter (String Global) Global) Error
 
--- the words behind the program's name; none where the system can't give the arguments
-abbrev pub words_behind : Arguments → List (List ℕ)
-words_behind (Ok arguments) = map string_bytes (drop 1 (into_iter_items arguments))
-words_behind (Err error) = []
+-- the words after the program's name; none where the system can't give the arguments
+abbrev pub words_after_name : Arguments → List (List ℕ)
+words_after_name (Ok arguments) = map string_bytes (drop 1 (into_iter_items arguments))
+words_after_name (Err error) = []
 
 -- the system had no memory for the arguments
 abbrev pub LacksMemory : Arguments → Type 0
 LacksMemory (Ok arguments) = ⊥
 LacksMemory (Err error) = error_kind error ≡ OutOfMemory
 
--- What the program does for its arguments: what the top call does for the words behind its name; or memory for the
--- words is refused, nothing is read, and that is told.
+-- What the program does for its arguments: it keeps what the top call promises for the words after its name; or memory
+-- for the words is refused, nothing is read, and that is told.
 abbrev pub Serves : Arguments → Sourcing → Sinking → ℕ → Type 0
 Serves arguments s k answer =
-    TellsWords (words_behind arguments) s k answer
+    Promises (words_after_name arguments) s k answer
     ⊎ (IsUnread s × Says k no_memory_line 15 answer)

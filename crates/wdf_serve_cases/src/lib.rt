@@ -5,6 +5,7 @@
 mod call;
 #[cfg(test)]
 mod faults;
+mod fed;
 mod holds;
 #[cfg(test)]
 mod texts;
@@ -13,4 +14,5 @@ mod words;
 #[cfg(test)]
 mod workers;
 
-pub use holds::{TwoEnter, Watch};
+pub use fed::{CountedAgent, counted};
+pub use holds::{TwoEnter, UntilHeard, Watch};

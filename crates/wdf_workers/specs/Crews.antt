@@ -1,5 +1,5 @@
 -- Whose events a worker takes, and what its turn makes of the run.
-use Rattle.std.specs.Prelude.{◌≡◌, Bool, true, false, ◌||◌, List, [], ◌∷◌, ◌++◌, Some, slice_get, MatchOption}
+use Rattle.std.specs.Prelude.{◌≡◌, ℕ, Bool, true, false, ◌||◌, List, [], ◌∷◌, ◌++◌, Option, Some, None, slice_get, MatchOption}
 use Rattle.wdf_base.specs.declared.event.Event.{Event}
 use Rattle.wdf_base.specs.declared.event.Event.TheVariants as event
 use Rattle.wdf_base.specs.declared.event.Actor.TheVariants as actor
@@ -7,6 +7,8 @@ use Rattle.wdf_model.specs.Runs.{place_for}
 use Rattle.wdf_ready.specs.Actors.{is_by}
 use Rattle.wdf_workers.specs.declared.crew.Crew.{Crew}
 use Rattle.wdf_workers.specs.declared.crew.Crew.TheVariants.{Processor, Framework, Agents}
+use Rattle.wdf_workers.specs.declared.state.Progress.{Progress}
+use Rattle.wdf_workers.specs.declared.state.Progress.TheVariants.{Added, Waits, Over}
 
 -- a post of some agent
 abbrev pub is_post : Event → Bool
@@ -23,3 +25,12 @@ takes_of Agents e = is_post e
 abbrev pub Advances : (List Event → List Event) → Crew → List Event → List Event → Type 0
 Advances ready crew old new = MatchOption (place_for (takes_of crew) (ready old)) (new ≡ old)
     (λ place. (e : Event) × (slice_get (ready old) place ≡ Some e) × (new ≡ old ++ e ∷ []))
+
+abbrev pub progress_where : List Event → Option ℕ → Progress
+progress_where events (Some place) = Added
+progress_where [] None = Over
+progress_where (e ∷ events) None = Waits
+
+-- what a turn comes to, by the events that may follow: one of them is the crew's, none is there, or none is the crew's
+abbrev pub progress_of : Crew → List Event → Progress
+progress_of crew events = progress_where events (place_for (takes_of crew) events)

@@ -11,4 +11,4 @@ mod worker;
 
 pub use crew::Crew;
 pub use run::run_threads;
-pub use state::{Advance, RunState};
+pub use state::{Advance, Progress, RunState};

@@ -1,18 +1,29 @@
 //! What the workers share.
-ghost use Rattle.std.specs.Prelude.{◌≡◌, length, nat_lt};
+ghost use Rattle.std.specs.Prelude.{◌≡◌};
 ghost use Rattle.wdf_model.specs.rules.Ready.{ready};
 ghost use Rattle.wdf_turn.specs.Tokens.{IsGrown};
-ghost use Rattle.wdf_workers.specs.Crews.{Advances};
+ghost use Rattle.wdf_workers.specs.Crews.{Advances, progress_of};
 
 use crate::crew::{Crew, first_of};
 use wdf_base::{Agent, Event, Plan};
 use wdf_core::Core;
 use wdf_turn::Chronicle;
 
+/// What a worker's turn comes to.
+#[derive(Clone, Copy, Debug, PartialEq, Eq)]
+pub enum Progress {
+    /// An event was added to the history.
+    Added,
+    /// Nothing was added: other workers' events alone may follow, or another worker has the value.
+    Waits,
+    /// Nothing may follow any more.
+    Over,
+}
+
 /// A history that workers carry on, each by the events of its crew.
 pub trait Advance: Chronicle {
-    /// Adds one event at most to the history. Answers false only where nothing may follow.
-    fn advance(&mut self, crew: Crew) -> bool
+    /// Adds one event at most to the history, and says what that comes to.
+    fn advance(&mut self, crew: Crew) -> Progress
         ensures root { Self.root self.new ≡ Self.root self.old }
         ensures grown { IsGrown (Self.events self.old) (Self.events self.new) };
 }
@@ -40,24 +51,24 @@ impl<A: Agent> Chronicle for RunState<A> {
 }
 
 impl<A: Agent> Advance for RunState<A> {
-    fn advance(&mut self, crew: Crew) -> bool {
+    fn advance(&mut self, crew: Crew) -> Progress {
         take_first(&mut self.core, crew)
     }
 }
 
-/// Takes the crew's first event among those that may follow, if there is one. Answers whether any event
-/// may follow.
-fn take_first<A: Agent>(core: &mut Core<A>, crew: Crew) -> bool
+/// Takes the crew's first event among those that may follow, if there is one, and says what that comes to.
+fn take_first<A: Agent>(core: &mut Core<A>, crew: Crew) -> Progress
     ensures plan { core.new.plan ≡ core.old.plan }
     ensures journal { Advances (ready core.old.plan A.meaning) crew core.old.journal core.new.journal }
-    ensures going { result ≡ nat_lt 0 (length (ready core.old.plan A.meaning core.old.journal)) }
+    ensures progress { result ≡ progress_of crew (ready core.old.plan A.meaning core.old.journal) }
     ensures grown { IsGrown core.old.journal core.new.journal }
 {
-    if core.ready_len() == 0 {
-        return false;
+    match first_of(core, crew) {
+        Some(place) => {
+            core.apply(place);
+            Progress::Added
+        }
+        None if core.ready_len() == 0 => Progress::Over,
+        None => Progress::Waits,
     }
-    if let Some(place) = first_of(core, crew) {
-        core.apply(place);
-    }
-    true
 }

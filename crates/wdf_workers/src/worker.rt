@@ -3,7 +3,7 @@ ghost use Rattle.std.specs.Prelude.{◌≡◌, ◌<◌, ℕ, All, length, slice_
 ghost use Rattle.wdf_workers.specs.Rows.{IsIdleSeat, IsSameSeat};
 
 use crate::crew::{Crew, crew_of};
-use crate::state::Advance;
+use crate::state::{Advance, Progress};
 use std::thread;
 use std::thread::Threads;
 use wdf_turn::{Attempt, Gate, Seat, Turn};
@@ -15,20 +15,54 @@ pub struct Shift {
     pub turns: u32,
 }
 
-/// A turn: one try to take the value, one event at most, and the value goes back. Answers false only where
-/// nothing may follow.
-fn take_turn<T: Advance>(turn: &Turn<T>, seat: &mut Seat<T>, crew: Crew) -> bool
+/// How often a worker whose turn added nothing looks whether the history has grown, before its next turn.
+const LOOKS: u32 = 1000;
+
+/// A turn: one try to take the value, one event at most, and the value goes back.
+fn take_turn<T: Advance>(turn: &Turn<T>, seat: &mut Seat<T>, crew: Crew) -> Progress
     requires { IsIdleSeat turn.now seat.old }
     ensures idle { IsIdleSeat turn.now seat.new }
     ensures same { IsSameSeat seat.old seat.new }
 {
     match turn.try_take(seat) {
-        Attempt::Busy(_) => true,
+        Attempt::Busy(_) => Progress::Waits,
         Attempt::Taken(mut held) => {
-            let goes_on = held.value_mut().advance(crew);
+            let progress = held.value_mut().advance(crew);
             turn.give(seat, held);
-            goes_on
+            progress
         }
+    }
+}
+
+/// Lets other threads run until the history is longer than this, or until it was looked at so many times. So a worker
+/// that has nothing to do keeps the value from no other, and doesn't use its turns up.
+fn await_growth<T: Advance>(turn: &Turn<T>, seat: &mut Seat<T>, length: u64)
+    requires { IsIdleSeat turn.now seat.old }
+    ensures idle { IsIdleSeat turn.now seat.new }
+    ensures same { IsSameSeat seat.old seat.new }
+{
+    for _look in 0..LOOKS {
+        thread::yield_now();
+        if turn.seen(seat) > length {
+            return;
+        }
+    }
+}
+
+/// A turn, and after one that added nothing the wait for the next. Answers false only where nothing may follow.
+fn turn_and_wait<T: Advance>(turn: &Turn<T>, seat: &mut Seat<T>, crew: Crew) -> bool
+    requires { IsIdleSeat turn.now seat.old }
+    ensures idle { IsIdleSeat turn.now seat.new }
+    ensures same { IsSameSeat seat.old seat.new }
+{
+    let length = turn.seen(seat);
+    match take_turn(turn, seat, crew) {
+        Progress::Added => true,
+        Progress::Waits => {
+            await_growth(turn, seat, length);
+            true
+        }
+        Progress::Over => false,
     }
 }
 
@@ -48,7 +82,7 @@ fn work<T: Advance, G: Gate>(
     let number = u32::try_from(worker).unwrap_or(u32::MAX);
     for k in 0..shift.turns {
         gate.pass(number, k);
-        if !take_turn(turn, seat, crew) {
+        if !turn_and_wait(turn, seat, crew) {
             return;
         }
     }

@@ -1,9 +1,9 @@
--- What is collected is what stands behind the first argument.
+-- What is collected is what stands after the first argument.
 use Rattle.std.proofs.Common.{ap, ◌∙◌}
 use Rattle.std.proofs.lemmas.Iterator.{items_from_collect}
 use Rattle.std.proofs.lemmas.Iterator.Adapters.{YieldsList-from_skip, YieldsList-from_vec}
 use Rattle.std.specs.Vec.Iter.{into_iter_items}
-use Rattle.wdf_serve.proofs.program.behind_name.Goals as goal
+use Rattle.wdf_serve.proofs.program.after_name.Goals as goal
 
 pub returns : goal.returns
 returns c =
