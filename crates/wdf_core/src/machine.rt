@@ -219,7 +219,7 @@ impl<A: Agent> Core<A> {
         self.journal.push_reserved(event);
     }
 
-    /// How the run stands: [`Ending::Running`] where an event may follow.
+    /// How the run ended: [`Ending::Running`] where an event may follow.
     pub fn ending(&self) -> Ending
         ensures { result ≡ ending_of self.now.plan A.meaning self.now.journal }
     {

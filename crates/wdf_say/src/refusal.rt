@@ -9,16 +9,16 @@ use wdf_input::InputError;
 use wdf_parse::ParseRefusal;
 use wdf_plan::{Limit, PlanRefusal};
 
-/// The line of want of memory.
+/// The line of out of memory.
 const NO_MEMORY: &[u8] = b"out of memory\n";
 
-/// The status of want of memory.
+/// The status of out of memory.
 const NO_MEMORY_STATUS: u8 = 15;
 
-/// What stands before the line's number where a text is no scene.
+/// What is written before the line's number where a text is no scene.
 const PARSE: &[u8] = b"parse refused at line ";
 
-/// What stands before the line's number where a scene has no plan.
+/// What is written before the line's number where a scene has no plan.
 const PLAN: &[u8] = b"plan refused at line ";
 
 /// Why an input has no plan.
@@ -28,11 +28,11 @@ pub enum Refusal {
     ReadFault,
     /// The input has more bytes than an input may have.
     TooLarge,
-    /// Want of memory.
+    /// Out of memory.
     NoMemory,
-    /// No scene stands for the input; or want of memory.
+    /// No scene stands for the input; or out of memory.
     NoScene(ParseRefusal),
-    /// The input's scene has no plan; or want of memory.
+    /// The input's scene has no plan; or out of memory.
     NoPlan(PlanRefusal),
 }
 

@@ -54,7 +54,7 @@ fn is_idle(text: &[u8]) -> bool
     }
 }
 
-/// What stands after the word `trace` at a text's front; `None` exactly where that word isn't there.
+/// What comes after the word `trace` at a text's front; `None` exactly where that word isn't there.
 fn after_word(text: &[u8]) -> Option<&[u8]>
     ensures found { IfSome result (λ rest. text.now ≡ codes "trace" ++ rest.now) }
     ensures none { IfNone result ((rest : List ℕ) → text.now ≢ codes "trace" ++ rest) }

@@ -10,7 +10,7 @@ use wdf_replay::line_at;
 pub struct Parts {
     /// How many bytes the scenario has.
     pub scenario: usize,
-    /// How many bytes stand before the trace.
+    /// How many bytes come before the trace.
     pub trace: usize,
 }
 

@@ -69,7 +69,7 @@ pub record IsGiven (s : Sourcing) (input : List ℕ) : Type 0 where
   pub small : length input ≤ INPUT_LIMIT
   pub stayed : Stayed s.faults_before s.faults_after
 
--- this status is answered, unless the sink failed or memory is wanting
+-- this status is answered, unless the sink failed or the answer is out of memory
 abbrev pub Unhindered : ℕ → ℕ → Type 0
 Unhindered status answer = (answer ≡ status) ⊎ ((answer ≡ 13) ⊎ (answer ≡ 15))
 

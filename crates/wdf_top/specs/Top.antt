@@ -41,7 +41,7 @@ IsRead s input = TakesAll s.before s.after input × (length input ≤ INPUT_LIMI
 abbrev pub IsAnswered : Answering → Sourcing → List ℕ → ℕ → Type 0
 IsAnswered a s text status = (input : List ℕ) × IsRead s input × Answers a input text status
 
--- a byte past the limit was read, and none behind it
+-- a byte past the limit was read, and none after it
 abbrev pub IsTooLarge : Sourcing → List ℕ → ℕ → Type 0
 IsTooLarge s text status = TakesCount s.before s.after (INPUT_LIMIT + 1) × (s.faults_after ≡ s.faults_before) × (text ≡ too_large_line) × (status ≡ 14)
 
@@ -49,7 +49,7 @@ IsTooLarge s text status = TakesCount s.before s.after (INPUT_LIMIT + 1) × (s.f
 abbrev pub IsReadFault : Sourcing → List ℕ → ℕ → Type 0
 IsReadFault s text status = Rose s.faults_before s.faults_after × TakesAtMost s.before s.after INPUT_LIMIT × (text ≡ read_fault_line) × (status ≡ 12)
 
--- memory was wanting
+-- out of memory
 abbrev pub IsOutOfMemory : Sourcing → List ℕ → ℕ → Type 0
 IsOutOfMemory s text status = (s.faults_after ≡ s.faults_before) × TakesAtMost s.before s.after INPUT_LIMIT × (text ≡ no_memory_line) × (status ≡ 15)
 
@@ -90,11 +90,11 @@ scenario_by (Run picks) input = input
 scenario_by (Scenario n) input = input
 scenario_by (Summary n) input = input
 
--- the text of the scenario that a number generates, or the line that memory is wanting
+-- the text of the scenario that a number generates, or the line `out of memory`
 abbrev pub IsScenario : ℕ → List ℕ → ℕ → Type 0
 IsScenario n text status = ((text ≡ printed (generated n)) × (status ≡ 0)) ⊎ ((text ≡ no_memory_line) × (status ≡ 15))
 
--- the summary of a generated scenario's run, or the line that memory is wanting
+-- the summary of a generated scenario's run, or the line `out of memory`
 abbrev pub IsSummary : ℕ → List ℕ → ℕ → Type 0
 IsSummary n text status = IsSummaryOf n text status ⊎ ((text ≡ no_memory_line) × (status ≡ 15))
 
@@ -111,18 +111,18 @@ IsDue (Summary n) s text status = IsUnread s × IsSummary n text status
 abbrev pub Tells : Service → Sourcing → Sinking → ℕ → Type 0
 Tells service s k answer = (text : List ℕ) × (status : ℕ) × IsDue service s text status × Says k text status answer
 
--- What becomes of a plan: the trace of the run that these picks make of it, or the line that memory is wanting; or a front of either.
+-- What becomes of a plan: the trace of the run that these picks make of it, or the line `out of memory`; or a front of either.
 abbrev pub TellsPlan : Plan → List ℕ → Sinking → ℕ → Type 0
 TellsPlan plan picks k answer = (text : List ℕ) × (status : ℕ) × (IsTraceOf plan picks text status ⊎ ((text ≡ no_memory_line) × (status ≡ 15))) × Says k text status answer
 
--- What becomes of a trace: the line of the verdict, or the line that memory is wanting; or a front of either.
+-- What becomes of a trace: the line of the verdict, or the line `out of memory`; or a front of either.
 abbrev pub TellsVerdict : Plan → List ℕ → Sinking → ℕ → Type 0
 TellsVerdict plan trace k answer = (text : List ℕ) × (status : ℕ) × (IsVerdict plan trace text status ⊎ ((text ≡ no_memory_line) × (status ≡ 15))) × Says k text status answer
 
--- What becomes of a number that generates a scenario: its text, or the line that memory is wanting; or a front of either.
+-- What becomes of a number that generates a scenario: its text, or the line `out of memory`; or a front of either.
 abbrev pub TellsScenario : ℕ → Sinking → ℕ → Type 0
 TellsScenario n k answer = (text : List ℕ) × (status : ℕ) × IsScenario n text status × Says k text status answer
 
--- What becomes of a number whose scenario is run: the summary, or the line that memory is wanting; or a front of either.
+-- What becomes of a number whose scenario is run: the summary, or the line `out of memory`; or a front of either.
 abbrev pub TellsSummary : ℕ → Sinking → ℕ → Type 0
 TellsSummary n k answer = (text : List ℕ) × (status : ℕ) × IsSummary n text status × Says k text status answer

@@ -16,7 +16,7 @@ form_of_word word =
     else (if bytes_eq word (codes "replay") then Some Replay
     else None))
 
--- the form of a word with a number behind it
+-- the form of a word with a number after it
 abbrev pub form_with_number : List ℕ → ℕ → Option Form
 form_with_number word n =
     if bytes_eq word (codes "seed") then Some (Seed n)

@@ -13,7 +13,7 @@ use wdf_io::Sink;
 use wdf_parse::print;
 use wdf_say::{Refusal, say, tell};
 
-/// Writes the scenario that a number generates, or tells that memory is wanting.
+/// Writes the scenario that a number generates, or the line `out of memory`.
 pub fn tell_generated<K: Sink>(alloc: Global, number: u64, sink: &mut K) -> u8
     ensures told { TellsScenario number
         (sinking (K.written sink.old) (K.written sink.new) (K.faults sink.old) (K.faults sink.new))

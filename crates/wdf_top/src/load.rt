@@ -21,7 +21,7 @@ use wdf_say::{Refusal, say, status_of, tell};
 use wdf_summary::summary;
 
 /// Runs the scenario that a number generates by the words of the same number, and writes the summary of the
-/// run, or tells that memory is wanting.
+/// run, or the line `out of memory`.
 pub fn tell_summary<K: Sink>(alloc: Global, number: u64, sink: &mut K) -> u8
     ensures told { TellsSummary number
         (sinking (K.written sink.old) (K.written sink.new) (K.faults sink.old) (K.faults sink.new))
@@ -43,7 +43,7 @@ fn run_generated(alloc: Global, number: u64) -> Result<Core<AnyAgent>, Memory>
     run_seeded(alloc, plan, number)
 }
 
-/// The plan of the scenario that a number generates. Each such scenario has one, so only memory can be wanting.
+/// The plan of the scenario that a number generates. Each such scenario has one, so the only error is out of memory.
 fn plan_of_number(alloc: Global, number: u64) -> Result<Plan, Memory>
     ensures { IfOk result (λ plan. plan ≡ plan_of (generated number)) }
 {

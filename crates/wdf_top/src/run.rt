@@ -26,7 +26,7 @@ pub enum Picks {
     Seeded(u64),
 }
 
-/// Runs a plan and writes the trace, or tells that memory is wanting.
+/// Runs a plan and writes the trace, or the line `out of memory`.
 pub fn tell_run<K: Sink>(alloc: Global, plan: Plan, picks: Picks, sink: &mut K) -> u8
     requires { IsResolved plan }
     ensures told { TellsPlan plan (picks_of picks plan)

@@ -39,7 +39,7 @@ const USAGE: &[u8] = b"usage: kmdfsim check | order | seed N | run | replay | ge
 /// The status of words of no form.
 const USAGE_STATUS: u8 = 2;
 
-/// Serves the words that stand behind the program's name, and answers the status to end with. It
+/// Serves the words after the program's name, and answers the status to end with. It
 /// always returns.
 ///
 /// `check` reads a scenario from the source and writes it in canonical form to the sink. `order` reads a
@@ -62,7 +62,7 @@ const USAGE_STATUS: u8 = 2;
 /// | 12 | a read failed |
 /// | 13 | a write failed; a front of the text was written |
 /// | 14 | the input has more than 1,048,576 bytes |
-/// | 15 | want of memory |
+/// | 15 | out of memory |
 pub fn top_plain<S: Source, K: Sink>(
     alloc: Global,
     words: &[String],
@@ -77,7 +77,7 @@ pub fn top_plain<S: Source, K: Sink>(
 
     // For `order` and `seed N`, an input that is told and within the limit, and counts of faults that don't rise: what is
     // written is why the input has no plan, or the trace of the run that the plan's picks, or the words of the seed,
-    // make of it, with its ending's status; unless memory is wanting.
+    // make of it, with its ending's status; or the answer is out of memory.
     ensures runs { (picks : Picks) → picks_for (form_of_words (map string_bytes words.now)) ≡ Some picks
         → (input : List ℕ) → IsGiven (sourcing (S.left source.old) (S.left source.new) (S.faults source.old) (S.faults source.new)) input
         → Stayed (K.faults sink.old) (K.faults sink.new)
@@ -111,12 +111,12 @@ pub fn top_plain<S: Source, K: Sink>(
         → Stayed (K.faults sink.old) (K.faults sink.new)
         → (plan : Plan) → HasPlan (scenario_in input) plan → trace_in input ≡ []
         → (result ≡ 15) ⊎ ((result ≡ 6) × Gains (K.written sink.old) (K.written sink.new) (refused_line 1 why.Missing)) }
-    // `gen N` writes the text of the scenario that N generates, unless memory is wanting.
+    // `gen N` writes the text of the scenario that N generates; or the answer is out of memory.
     ensures generated { (n : ℕ) → form_of_words (map string_bytes words.now) ≡ Some (Gen n)
         → Stayed (K.faults sink.old) (K.faults sink.new)
         → (result ≡ 15) ⊎ ((result ≡ 0) × Gains (K.written sink.old) (K.written sink.new) (printed (generated n))) }
     // `load N` writes the summary of the run that the words of N make of that scenario's plan, with its ending's status,
-    // unless memory is wanting.
+    // or the answer is out of memory.
     ensures summed { (n : ℕ) → form_of_words (map string_bytes words.now) ≡ Some (Load n)
         → Stayed (K.faults sink.old) (K.faults sink.new)
         → (result ≡ 15) ⊎ ((text : List ℕ) × IsSummaryOf n text result × Gains (K.written sink.old) (K.written sink.new) text) }
@@ -173,7 +173,7 @@ pub fn top_plain<S: Source, K: Sink>(
         → WroteFor (form_of_words (map string_bytes words.now)) (sourcing (S.left source.old) (S.left source.new) (S.faults source.old) (S.faults source.new))
         (sinking (K.written sink.old) (K.written sink.new) (K.faults sink.old) (K.faults sink.new)) ending.Limit }
 
-    // Only `check`, `order`, `seed N` and `replay` read, and nothing past the byte behind the limit.
+    // Only `check`, `order`, `seed N` and `replay` read, and no more than one byte past the limit.
     ensures unread { is_reading (form_of_words (map string_bytes words.now)) ≡ false
         → (S.left source.new ≡ S.left source.old) × (S.faults source.new ≡ S.faults source.old) }
     ensures no_further { IsTrue (is_reading (form_of_words (map string_bytes words.now))) → TakesAtMost (S.left source.old) (S.left source.new) 1048577 }
@@ -206,7 +206,7 @@ pub fn top_plain<S: Source, K: Sink>(
     ensures large_input { IsTrue (is_reading (form_of_words (map string_bytes words.now)))
         → (input : List ℕ) → S.left source.old ≡ Some input → 1048576 < length input
         → Stayed (S.faults source.old) (S.faults source.new) → Unhindered 14 result }
-    // Want of memory is told before a byte of a trace is written.
+    // Out of memory is told before a byte of a trace is written.
     ensures memory_first { result ≡ 15 → Gains (K.written sink.old) (K.written sink.new) no_memory_line }
     ensures listed { IsTrue (is_status result) }
 {

@@ -84,7 +84,7 @@ fn judge_trace<K: Sink>(core: &mut Core<AnyAgent>, trace: &[u8], sink: &mut K) -
     say_verdict(core.journal_len(), verdict, sink)
 }
 
-/// Writes the verdict on a trace, by a run from the plan's opening, or tells that memory is wanting. All memory is
+/// Writes the verdict on a trace, by a run from the plan's opening, or the line `out of memory`. All memory is
 /// taken before the first line is read.
 fn tell_verdict<K: Sink>(alloc: Global, plan: Plan, trace: &[u8], sink: &mut K) -> u8
     requires { IsResolved plan }
