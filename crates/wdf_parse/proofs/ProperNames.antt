@@ -1,5 +1,5 @@
 -- A scene that stands for a text declares names of the language.
-use Rattle.std.proofs.Common.{◌≡◌, ℕ, suc, ◌+◌, Bool, true, false, cond, ◌&&◌, ◌||◌, List, [], ◌∷◌, ◌++◌, map, length, Option, Some, None, option_map, Result, Ok, Err, refl, ap, ◌∙◌, sym, subst}
+use Rattle.std.proofs.Common.{◌≡◌, ℕ, suc, ◌+◌, Bool, true, false, cond, ◌&&◌, ◌||◌, List, [], ◌∷◌, ◌++◌, map, length, Option, Some, None, option_map, Result, Ok, Err, IfOk, refl, ap, ◌∙◌, sym, subst}
 use Rattle.std.specs.Prelude.{◌==◌, nat_le}
 use Rattle.std.specs.Char.{is_ascii_alphabetic, is_ascii_alphanumeric}
 use Rattle.std.specs.Int.{is_in_range}
@@ -139,3 +139,8 @@ stands_properly text s h =
 
 pub stands_scene : (text : List ℕ) (s : Scene) → StandsFor text s → IsScene s
 stands_scene text s h = record { ws = h.ws; is = h.is; lines = h.lines }
+
+-- so has the scene that was read
+pub formed_if : {E : Type 0} (text : List ℕ) (r : Result Scene E) → IfOk r (StandsFor text) → IfOk r (λ s. IsScene s)
+formed_if text (Ok s) h = stands_scene text s h
+formed_if text (Err e) h = tt

@@ -1,5 +1,6 @@
 //! A text is read to its scene, or to its first refusal.
 ghost use Rattle.std.specs.Prelude.{◌≡◌, ℕ, ◌+◌, ◌<◌, ◌≤◌, [], length, IfOk, OnOk, IfErr, Ok};
+ghost use Rattle.wdf_scene.specs.Written.{IsScene};
 ghost use Rattle.wdf_parse.specs.Tokens.{lines_of};
 ghost use Rattle.wdf_parse.specs.StandsFor.{StandsFor};
 ghost use Rattle.wdf_parse.specs.Laws.{IsNoScene};
@@ -60,6 +61,7 @@ pub fn parse(alloc: Global, text: &[u8]) -> Result<Scene, ParseRefusal>
     requires { length text.now ≤ TEXT_LIMIT }
     ensures stands { IfOk result (StandsFor text.now) }
     ensures scene { IfOk result (λ scene. texts.reading text.now ≡ Ok scene) }
+    ensures formed { IfOk result (λ scene. IsScene scene) }
 
     // Want of memory aside, an error is the first refusal, and no scene stands for the text.
     ensures refused { IfErr result (texts.IsRefusalOf (texts.reading text.now)) }

@@ -4,11 +4,7 @@ use Rattle.std.specs.Prelude.{option_and_then, option_map}
 use Rattle.std.specs.Option.{option_or, is_some}
 use Rattle.std.specs.List.{filter_map, cons_option, list_all, list_any}
 use Rattle.wdf_plan.specs.First.{first_some}
-
--- each item has the property
-abbrev pub Every : {T : Type 0} → (T → Type 0) → List T → Type 0
-Every P [] = Unit {0}
-Every P (x ∷ xs) = P x × Every P xs
+pub use Rattle.wdf_plan.specs.Fitting.{Every}
 
 first_step : {T : Type 0} (a b : Option T) → option_or a b ≡ None → (a ≡ None) × (b ≡ None)
 first_step None b e = (refl, e)
@@ -38,6 +34,11 @@ some_has P a b e h = let same : a ≡ b = cc in subst P same h
 pub every_append : {T : Type 0} (P : T → Type 0) (xs ys : List T) → Every P xs → Every P ys → Every P (xs ++ ys)
 every_append P [] ys h g = g
 every_append P (x ∷ xs) ys h g = (h.0, every_append P xs ys h.1 g)
+
+-- what holds of anything
+pub every_any : {T : Type 0} (P : T → Type 0) → ((x : T) → P x) → (xs : List T) → Every P xs
+every_any P f [] = tt
+every_any P f (x ∷ xs) = (f x, every_any P f xs)
 
 -- what follows of each item
 pub every_map : {T : Type 0} (P Q : T → Type 0) → ((x : T) → P x → Q x) → (xs : List T) → Every P xs → Every Q xs

@@ -4,11 +4,11 @@ use Rattle.wdf_scene.specs.declared.scene.Scene.{Scene}
 use Rattle.wdf_plan.specs.declared.declaration.Declaration.{Declaration}
 use Rattle.wdf_plan.specs.declared.placed.Placed.{Placed}
 use Rattle.wdf_plan.specs.declared.refusal.PlanRefusal.{PlanRefusal}
-use Rattle.wdf_plan.specs.Declarations.{declarations, declared_on}
+use Rattle.wdf_plan.specs.Declarations.{declarations}
 use Rattle.wdf_plan.specs.First.{refused, refused_at, first_refusal}
 use Rattle.wdf_plan.specs.Placed.{placed}
 use Rattle.wdf_plan.specs.Variables.{variables_at, variables_in}
-use Rattle.wdf_plan.proofs.Gather.{IsGathered, IsSought, seek_more, seek_found}
+use Rattle.wdf_plan.proofs.Gather.{IsSought, seek_more, seek_found}
 
 -- no line before these was refused, and the variables are this callback's
 pub record IsUnderway (scene : Scene) (rest : List Placed) (callback : Option ℕ) (variables : List (List ℕ)) : Type 0 where
@@ -37,7 +37,3 @@ underway_more scene names rest rest' callback variables variables' p o u declare
 pub underway_found : (scene : Scene) (names : List Declaration) (rest rest' : List Placed) (callback : Option ℕ) (variables variables' : List (List ℕ)) (p : Placed) (o : Option PlanRefusal) (r : PlanRefusal) → IsUnderway scene rest callback variables → names ≡ declarations scene → rest ≡ p ∷ rest' → variables' ≡ variables_in scene p.stand.callback → o ≡ refused scene names variables' p → o ≡ Some r → Some r ≡ first_refusal scene
 underway_found scene names rest rest' callback variables variables' p o r u declares next own is found =
     seek_found (refused_at scene) rest rest' (first_refusal scene) o p r u.sought next (here scene names variables' p o declares own is) found
-
-pub declared_begins : (scene : Scene) (rest : List Placed) (names : List Declaration) → names ≡ [] → rest ≡ placed scene → IsGathered declared_on rest names (declarations scene)
-unfolding declarations
-declared_begins scene rest names none' all = record { is = rw (none', all) refl }

@@ -4,6 +4,7 @@ use Rattle.std.specs.Option.{option_to_list}
 use Rattle.std.specs.List.{filter_map, cons_option}
 use Rattle.std.proofs.lemmas.List.{append-nil}
 use Rattle.wdf_plan.specs.First.{first_some}
+use Rattle.wdf_plan.specs.Fitting.{Every}
 
 -- what was gathered, and what is still to come
 pub record IsGathered {P T : Type 0} (f : P → Option T) (rest : List P) (so_far whole : List T) : Type 0 where
@@ -13,6 +14,11 @@ pub record IsGathered {P T : Type 0} (f : P → Option T) (rest : List P) (so_fa
 pub cons-append : {T : Type 0} (xs ys : List T) (o : Option T) → xs ++ cons_option o ys ≡ (xs ++ option_to_list o) ++ ys
 cons-append xs ys None = ap (λ zs. zs ++ ys) (sym (append-nil xs))
 cons-append xs ys (Some x) = sym (append_assoc xs (x ∷ []) ys)
+
+-- and what is to hold of each item still to come
+pub record IsGathering {P T : Type 0} (f : P → Option T) (R : P → Type 0) (rest : List P) (so_far whole : List T) : Type 0 where
+  pub gathered : IsGathered f rest so_far whole
+  pub fit : Every R rest
 
 -- nothing was found so far
 pub record IsSought {P T : Type 0} (f : P → Option T) (rest : List P) (answer : Option T) : Type 0 where

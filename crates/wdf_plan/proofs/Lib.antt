@@ -16,6 +16,7 @@ pub mod Distinct
 pub mod Every
 pub mod ExprFacts
 pub mod Firsts
+pub mod Fitting
 pub mod Flows
 pub mod FreeNames
 pub mod Gather
@@ -26,6 +27,7 @@ pub mod Heads
 pub mod Heritages
 pub mod InCallbacks
 pub mod Inside
+pub mod ItemFits
 pub mod Lookups
 pub mod Making
 pub mod Naming
@@ -46,8 +48,10 @@ pub mod PostCounts
 pub mod PostFacts
 pub mod Reaching
 pub mod Rising
+pub mod Rooms
 pub mod SameOwners
 pub mod Scans
+pub mod SceneFits
 pub mod ScriptFacts
 pub mod ScriptNames
 pub mod Shares

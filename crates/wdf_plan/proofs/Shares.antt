@@ -1,6 +1,7 @@
 -- Each agent's share of all posts is what the lines of its block post.
-use Rattle.std.proofs.Common.{◌≡◌, ℕ, ◌+◌, ◌<◌, Bool, true, false, cond, List, [], ◌∷◌, ◌++◌, take, length, get_or, Option, Some, None, refl, ap, add-one}
+use Rattle.std.proofs.Common.{◌≡◌, ℕ, ◌+◌, ◌<◌, arith, Bool, true, false, cond, List, [], ◌∷◌, ◌++◌, take, length, get_or, Option, Some, None, refl, ap, add-one}
 use Rattle.std.proofs.Math.Seq.{take-suc}
+use Rattle.std.proofs.lemmas.List.{length-take-le}
 use Rattle.std.proofs.lemmas.List.Elements.{filter_map-append}
 use Rattle.std.specs.Option.{option_to_list}
 use Rattle.std.specs.Prelude.{option_and_then, ◌==◌}
@@ -18,6 +19,7 @@ use Rattle.wdf_plan.specs.Parts.{agent, app_post, app_post_in, app_agent, device
 use Rattle.wdf_plan.specs.Placed.{placed}
 use Rattle.wdf_plan.specs.Posts.{posted, app_posted, device_posted, post_in, app_with, device_with}
 use Rattle.wdf_plan.proofs.Every.{composed}
+use Rattle.wdf_plan.proofs.Fitting.{gathered_few}
 
 none_in : {T : Type 0} (t : Bool) → None ≡ cond {A = Option T} t None None
 none_in true = refl
@@ -62,3 +64,11 @@ as_list (Some x) = refl
 pub share_more : (b : ℕ) (all : List Posted) (k : ℕ) (d : Posted) (so_far so_far' : List PostLine) (o : Option PostLine) → k < length all → so_far ≡ filter_map (post_in b) (take k all) → o ≡ post_in b (get_or all k d) → so_far' ≡ so_far ++ option_to_list o → so_far' ≡ filter_map (post_in b) (take (k + 1) all)
 share_more b all k d so_far so_far' o h e is grown =
     rw (add-one, take-suc all k d h, filter_map-append, grown, e, is, ← as_list (post_in b (get_or all k d))) refl
+
+-- and there is room for it
+pub share_room : (b : ℕ) (all : List Posted) (k : ℕ) (d : Posted) (so_far : List PostLine) (o : Option PostLine) (n : ℕ) → k < length all → so_far ≡ filter_map (post_in b) (take k all) → o ≡ post_in b (get_or all k d) → length all < n → length (so_far ++ option_to_list o) < n
+share_room b all k d so_far o n h e is few =
+    let next : so_far ++ option_to_list o ≡ filter_map (post_in b) (take (k + 1) all) = share_more b all k d so_far (so_far ++ option_to_list o) o h e is refl in
+    let fewer = gathered_few (post_in b) (take (k + 1) all) in
+    let long : length (take (k + 1) all) ≡ k + 1 = length-take-le (k + 1) all (omega (arith, h)) in
+    rw next (omega (arith, fewer, long, h, few))

@@ -2,6 +2,7 @@ pub mod Attribute
 pub mod Blocks
 pub mod Declarations
 pub mod First
+pub mod Fitting
 pub mod Flow
 pub mod Forms
 pub mod Heritage

@@ -1,5 +1,5 @@
 //! The agents of a plan and what their lines post.
-ghost use Rattle.std.specs.Prelude.{◌≡◌, IfOk, Some};
+ghost use Rattle.std.specs.Prelude.{◌≡◌, ◌<◌, ◌^◌, length, IfOk, Some};
 ghost use Rattle.wdf_plan.specs.Parts as parts;
 ghost use Rattle.wdf_plan.specs.Posts as shares;
 
@@ -10,7 +10,7 @@ use crate::part::Part;
 use crate::placed::Placed;
 use crate::posts::{Posted, posts_in, with_block};
 use std::alloc::Global;
-use wdf_base::{AgentInfo, Items, Memory, Post, PostLine};
+use wdf_base::{AgentInfo, Items, MANY, Memory, Post, PostLine};
 use wdf_scene::SceneLine;
 
 fn post_at(number: u32, tick: u64, post: Post) -> Option<PostLine>
@@ -24,21 +24,21 @@ fn post_at(number: u32, tick: u64, post: Post) -> Option<PostLine>
 }
 
 #[tactic(auto, unfolding(crate::specs::Parts::pnp_post))]
-fn pnp_post(names: &Names, number: u32, form: &SceneLine) -> Result<Option<PostLine>, Memory>
-    ensures { IfOk result (λ o. o ≡ parts.pnp_post names.now number form.now) }
+fn pnp_post(names: &Names, number: u32, form: &SceneLine) -> Option<PostLine>
+    ensures { result ≡ parts.pnp_post names.now number form.now }
 {
     match form {
         SceneLine::AtAsk { tick, ask, device } => {
-            let device = handle_of(names, device, Wanted::Device)?;
-            Ok(post_at(number, *tick, Post::Ask { ask: *ask, device }))
+            let device = handle_of(names, device, Wanted::Device);
+            post_at(number, *tick, Post::Ask { ask: *ask, device })
         }
-        _ => Ok(None),
+        _ => None,
     }
 }
 
 #[tactic(auto, unfolding(crate::specs::Parts::app_post))]
-fn app_post(names: &Names, number: u32, form: &SceneLine) -> Result<Option<PostLine>, Memory>
-    ensures { IfOk result (λ o. o ≡ parts.app_post names.now number form.now) }
+fn app_post(names: &Names, number: u32, form: &SceneLine) -> Option<PostLine>
+    ensures { result ≡ parts.app_post names.now number form.now }
 {
     match form {
         SceneLine::AtRead {
@@ -46,30 +46,30 @@ fn app_post(names: &Names, number: u32, form: &SceneLine) -> Result<Option<PostL
             device,
             length,
         } => {
-            let device = handle_of(names, device, Wanted::Device)?;
-            Ok(post_at(
+            let device = handle_of(names, device, Wanted::Device);
+            post_at(
                 number,
                 *tick,
                 Post::Read {
                     device,
                     length: *length,
                 },
-            ))
+            )
         }
         SceneLine::AtWrite {
             tick,
             device,
             length,
         } => {
-            let device = handle_of(names, device, Wanted::Device)?;
-            Ok(post_at(
+            let device = handle_of(names, device, Wanted::Device);
+            post_at(
                 number,
                 *tick,
                 Post::Write {
                     device,
                     length: *length,
                 },
-            ))
+            )
         }
         SceneLine::AtControl {
             tick,
@@ -77,8 +77,8 @@ fn app_post(names: &Names, number: u32, form: &SceneLine) -> Result<Option<PostL
             code,
             length,
         } => {
-            let device = handle_of(names, device, Wanted::Device)?;
-            Ok(post_at(
+            let device = handle_of(names, device, Wanted::Device);
+            post_at(
                 number,
                 *tick,
                 Post::Control {
@@ -86,12 +86,12 @@ fn app_post(names: &Names, number: u32, form: &SceneLine) -> Result<Option<PostL
                     code: *code,
                     length: *length,
                 },
-            ))
+            )
         }
         SceneLine::AtCancel { tick, request } => {
-            Ok(post_at(number, *tick, Post::Cancel { arrival: *request }))
+            post_at(number, *tick, Post::Cancel { arrival: *request })
         }
-        _ => Ok(None),
+        _ => None,
     }
 }
 
@@ -101,15 +101,15 @@ fn device_post(
     number: u32,
     device: Option<u32>,
     form: &SceneLine,
-) -> Result<Option<PostLine>, Memory>
-    ensures { IfOk result (λ o. o ≡ parts.device_post names.now number device form.now) }
+) -> Option<PostLine>
+    ensures { result ≡ parts.device_post names.now number device form.now }
 {
     match form {
         SceneLine::At { tick, action } => {
-            let action = action_of(names, device, action)?;
-            Ok(post_at(number, *tick, Post::Act { action }))
+            let action = action_of(names, device, action);
+            post_at(number, *tick, Post::Act { action })
         }
-        _ => Ok(None),
+        _ => None,
     }
 }
 
@@ -124,8 +124,10 @@ impl Part for PnpPosts<'_> {
 
     ghost part = { λ s p. parts.pnp_post s.names.now p.number p.form };
 
+    ghost fits = { λ s p. Unit {0} };
+
     fn take(&self, line: &Placed) -> Result<Option<PostLine>, Memory> {
-        pnp_post(self.names, line.number, &line.form)
+        Ok(pnp_post(self.names, line.number, &line.form))
     }
 }
 
@@ -140,8 +142,10 @@ impl Part for AppPosts<'_> {
 
     ghost part = { λ s. shares.app_posted s.names.now };
 
+    ghost fits = { λ s p. Unit {0} };
+
     fn take(&self, line: &Placed) -> Result<Option<Posted>, Memory> {
-        let post = app_post(self.names, line.number, &line.form)?;
+        let post = app_post(self.names, line.number, &line.form);
         Ok(with_block(line.stand.block, post))
     }
 }
@@ -157,8 +161,10 @@ impl Part for DevicePosts<'_> {
 
     ghost part = { λ s. shares.device_posted s.names.now };
 
+    ghost fits = { λ s p. Unit {0} };
+
     fn take(&self, line: &Placed) -> Result<Option<Posted>, Memory> {
-        let post = device_post(self.names, line.number, line.stand.device, &line.form)?;
+        let post = device_post(self.names, line.number, line.stand.device, &line.form);
         Ok(with_block(line.stand.block, post))
     }
 }
@@ -171,11 +177,12 @@ fn app_agent(
     placed: &Placed,
     form: &SceneLine,
 ) -> Result<Option<AgentInfo>, Memory>
+    requires { length posts.now < 2 ^ 32 }
     ensures { IfOk result (λ o. o ≡ shares.app_with names.now posts.now placed.now form.now) }
 {
     match form {
         SceneLine::App { name } => {
-            let name = name_number(names, name)?;
+            let name = name_number(names, name);
             let posts = posts_in(alloc, posts, placed.at)?;
             Ok(Some(AgentInfo { name, posts }))
         }
@@ -188,7 +195,7 @@ fn app_agent(
 pub struct Apps<'a> {
     pub alloc: Global,
     pub names: &'a Names,
-    pub posts: &'a [Posted],
+    pub posts: &'a Items<Posted, MANY>,
 }
 
 impl Part for Apps<'_> {
@@ -196,8 +203,16 @@ impl Part for Apps<'_> {
 
     ghost part = { λ s p. shares.app_with s.names.now s.posts.now p p.form };
 
+    ghost fits = { λ s p. Unit {0} };
+
     fn take(&self, line: &Placed) -> Result<Option<AgentInfo>, Memory> {
-        app_agent(self.alloc, self.names, self.posts, line, &line.form)
+        app_agent(
+            self.alloc,
+            self.names,
+            self.posts.as_slice(),
+            line,
+            &line.form,
+        )
     }
 }
 
@@ -209,11 +224,12 @@ fn device_agent(
     placed: &Placed,
     form: &SceneLine,
 ) -> Result<Option<AgentInfo>, Memory>
+    requires { length posts.now < 2 ^ 32 }
     ensures { IfOk result (λ o. o ≡ shares.device_with names.now posts.now placed.now form.now) }
 {
     match form {
         SceneLine::Device { name, .. } => {
-            let name = name_number(names, name)?;
+            let name = name_number(names, name);
             let posts = posts_in(alloc, posts, placed.at)?;
             Ok(Some(AgentInfo { name, posts }))
         }
@@ -226,7 +242,7 @@ fn device_agent(
 pub struct Devices<'a> {
     pub alloc: Global,
     pub names: &'a Names,
-    pub posts: &'a [Posted],
+    pub posts: &'a Items<Posted, MANY>,
 }
 
 impl Part for Devices<'_> {
@@ -234,8 +250,16 @@ impl Part for Devices<'_> {
 
     ghost part = { λ s p. shares.device_with s.names.now s.posts.now p p.form };
 
+    ghost fits = { λ s p. Unit {0} };
+
     fn take(&self, line: &Placed) -> Result<Option<AgentInfo>, Memory> {
-        device_agent(self.alloc, self.names, self.posts, line, &line.form)
+        device_agent(
+            self.alloc,
+            self.names,
+            self.posts.as_slice(),
+            line,
+            &line.form,
+        )
     }
 }
 
@@ -245,7 +269,7 @@ fn target_agent(alloc: Global, names: &Names, form: &SceneLine) -> Result<Option
 {
     match form {
         SceneLine::Target { name, .. } => {
-            let name = name_number(names, name)?;
+            let name = name_number(names, name);
             let posts = Items::new(alloc);
             Ok(Some(AgentInfo { name, posts }))
         }
@@ -264,6 +288,8 @@ impl Part for Targets<'_> {
     type Item = AgentInfo;
 
     ghost part = { λ s p. parts.target_agent s.names.now p.form };
+
+    ghost fits = { λ s p. Unit {0} };
 
     fn take(&self, line: &Placed) -> Result<Option<AgentInfo>, Memory> {
         target_agent(self.alloc, self.names, &line.form)

@@ -1,7 +1,9 @@
-ghost use Rattle.std.specs.Prelude.{◌≡◌, ◌++◌, IfOk, OnOk};
+ghost use Rattle.std.specs.Prelude.{◌≡◌, ◌++◌, ◌+◌, ◌<◌, ◌^◌, length, IfOk, IfSome, OnOk};
 ghost use Rattle.std.specs.Option.{option_to_list};
 ghost use Rattle.wdf_plan.specs.Declarations.{declarations};
 ghost use Rattle.wdf_plan.specs.First as spec;
+ghost use Rattle.wdf_plan.specs.Fitting.{HasFitOrder};
+ghost use Rattle.wdf_scene.specs.Written.{IsScene};
 
 use crate::declaration::{Declaration, declared_by};
 use crate::heritage::Heritage;
@@ -51,6 +53,8 @@ fn refused(
 }
 
 fn add_declared(names: &mut Names, found: Option<Declaration>) -> Result<(), Memory>
+    requires order { IfSome found HasFitOrder }
+    requires room { length names.old + 3 < 2 ^ 32 }
     ensures { OnOk result (names.new ≡ names.old ++ option_to_list found) }
 {
     match found {
@@ -61,8 +65,10 @@ fn add_declared(names: &mut Names, found: Option<Declaration>) -> Result<(), Mem
 
 /// The declarations of a scene.
 pub fn declared(alloc: Global, scene: &Scene) -> Result<Names, Memory>
+    requires { IsScene scene.now }
     ensures { IfOk result (λ n. n ≡ declarations scene.now) }
 {
+    let _lines = scene.lines.as_slice();
     let mut names = Names::new(alloc);
     let mut walk = Walk::new(scene);
     while let Some(placed) = walk.next() {

@@ -80,6 +80,8 @@ impl Part for Kept<'_> {
 
     ghost part = { λ s. spec.kept_of s.scene.now };
 
+    ghost fits = { λ s p. Unit {0} };
+
     #[tactic(auto, unfolding(crate::specs::Heritage::kept_of))]
     fn take(&self, line: &Placed) -> Result<Option<Option<Given>>, Memory> {
         if is_device(&line.form) {
@@ -101,6 +103,7 @@ impl<'a> Heritage<'a> {
     pub fn new(alloc: Global, scene: &'a Scene) -> Result<Heritage<'a>, Memory>
         ensures { IfOk result (λ h. h ≡ scene.now) }
     {
+        let _lines = scene.lines.as_slice();
         let devices = gather(alloc, scene, &Kept { scene })?;
         Ok(Heritage {
             scene,

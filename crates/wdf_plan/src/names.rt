@@ -1,9 +1,10 @@
-ghost use Rattle.std.specs.Prelude.{◌≡◌, ◌++◌, ◌∷◌, [], is_ok, if◌then◌else◌, position, find, drop, IfSome, ◌<◌, ◌^◌, length, option_map, List, ℕ, OnOk, OnErr, slice_get};
+ghost use Rattle.std.specs.Prelude.{◌≡◌, ◌++◌, ◌∷◌, [], ◌+◌, is_ok, if◌then◌else◌, position, find, drop, IfSome, ◌<◌, ◌^◌, length, option_map, List, ℕ, OnOk, OnErr, slice_get};
 ghost use Rattle.indexmap.specs.IndexMap.{get, IsUnchanged};
 ghost use Rattle.wdf_plan.specs.Names.{or_last, place_from};
 ghost use Rattle.std.specs.List.{list_any};
 ghost use Rattle.std.specs.Str.{bytes_eq};
 ghost use Rattle.wdf_plan.specs.Declarations as spec;
+ghost use Rattle.wdf_plan.specs.Fitting.{HasFitOrder};
 
 use crate::declaration::{Declaration, Wanted};
 use indexmap::IndexMap;
@@ -22,13 +23,14 @@ pub struct Names {
 impl Model for Names {
     ghost use Rattle.std.specs.Prelude.{List};
     ghost use Rattle.wdf_plan.specs.declared.declaration.Declaration.{Declaration};
+    ghost use Rattle.wdf_plan.specs.Fitting.{AreNumbered};
     ghost use Rattle.wdf_plan.specs.Names.{IsIndexed};
 
     ghost Value = { List Declaration };
 
     ghost view = { λ n. n.declarations.items };
 
-    ghost invariant = { λ n. IsIndexed n.first n.declarations.items };
+    ghost invariant = { λ n. IsIndexed n.first n.declarations.items × AreNumbered n.declarations.items };
 }
 
 impl Names {
@@ -44,12 +46,11 @@ impl Names {
 
     /// Adds a declaration behind the others. On want of memory they stay as they were.
     pub fn add(&mut self, declaration: Declaration) -> Result<(), Memory>
+        requires order { HasFitOrder declaration }
+        requires room { length self.old + 3 < 2 ^ 32 }
         ensures { self.new ≡ (if is_ok result then self.old ++ declaration ∷ [] else self.old) }
     {
         let at = self.declarations.as_slice().len();
-        if at >= u32::MAX as usize {
-            return Err(Memory);
-        }
         self.declarations.reserve(1)?;
         note(&mut self.first, declaration.name, at as u32)?;
         self.declarations.push_reserved(declaration);
@@ -58,7 +59,8 @@ impl Names {
 
     /// The declarations in the order of their lines.
     pub fn as_slice(&self) -> &[Declaration]
-        ensures { result.now ≡ self.now }
+        ensures value { result.now ≡ self.now }
+        ensures small { length result.now + 2 < 2 ^ 32 }
     {
         self.declarations.as_slice()
     }
@@ -75,14 +77,16 @@ impl Names {
 
     /// The place of the first declaration of a name.
     pub fn place(&self, name: &Name) -> Option<u32>
-        ensures { result ≡ place_from (spec.has_name name.now) 0 self.now }
+        ensures value { result ≡ place_from (spec.has_name name.now) 0 self.now }
+        ensures small { IfSome result (λ k. k + 2 < 2 ^ 32) }
     {
         self.first.get(name).copied()
     }
 
     /// The first declaration of a name that is what a place in the text needs.
     pub fn found(&self, name: &Name, wanted: Wanted) -> Option<Declaration>
-        ensures { result ≡ spec.found self.now name.now wanted }
+        ensures value { result ≡ spec.found self.now name.now wanted }
+        ensures small { IfSome result HasFitOrder }
     {
         match self.first.get(name) {
             Some(at) => found_from(self.declarations.as_slice(), *at as usize, name, wanted),

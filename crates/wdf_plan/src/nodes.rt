@@ -1,6 +1,7 @@
 //! The nodes of the expressions of a plan, and its picks.
-ghost use Rattle.std.specs.Prelude.{◌≡◌, ◌++◌, ◌∷◌, [], ◌-◌, IfOk, OnOk, take, drop, map};
+ghost use Rattle.std.specs.Prelude.{◌≡◌, ◌++◌, ◌∷◌, [], ◌+◌, ◌-◌, ◌<◌, ◌^◌, length, IfOk, OnOk, take, drop, map};
 ghost use Rattle.std.specs.List.{flat_map};
+ghost use Rattle.wdf_plan.specs.Fitting.{Every, IsFitNode};
 ghost use Rattle.wdf_plan.specs.Parts.{line_picks};
 ghost use Rattle.wdf_plan.specs.Placed.{placed};
 ghost use Rattle.wdf_plan.specs.Scripts as scripts;
@@ -8,7 +9,6 @@ ghost use Rattle.wdf_plan.specs.Variables.{variables_at};
 
 use crate::forms::nodes_end;
 use crate::names::Names;
-use crate::numbers::add;
 use crate::placed::Placed;
 use crate::scripts::node_of;
 use crate::variables::{Variables, entered};
@@ -23,10 +23,11 @@ fn add_node(
     node: &SceneExpr,
     nodes: &mut Items<ExprNode, MANY>,
 ) -> Result<(), Memory>
+    requires fits { IsFitNode (scripts.node_of names.now variables.now node.now) }
+    requires room { length nodes.old + 1 < 2 ^ 32 }
     ensures { OnOk result (nodes.new ≡ nodes.old ++ scripts.node_of names.now variables.now node.now ∷ []) }
 {
-    let node = node_of(names, variables, node)?;
-    add(nodes, node)
+    nodes.push(node_of(names, variables, node))
 }
 
 fn add_nodes(
@@ -35,6 +36,8 @@ fn add_nodes(
     all: &[SceneExpr],
     nodes: &mut Items<ExprNode, MANY>,
 ) -> Result<(), Memory>
+    requires fit { Every IsFitNode (map (scripts.node_of names.now variables.now) all.now) }
+    requires room { length (nodes.old ++ map (scripts.node_of names.now variables.now) all.now) < 2 ^ 32 }
     ensures { OnOk result (nodes.new ≡ nodes.old ++ map (scripts.node_of names.now variables.now) all.now) }
 {
     for node in all {
@@ -62,7 +65,9 @@ fn add_line(
     placed: &Placed,
     nodes: &mut Items<ExprNode, MANY>,
 ) -> Result<(), Memory>
-    requires { variables.now ≡ variables_at scene.now placed.now }
+    requires own { variables.now ≡ variables_at scene.now placed.now }
+    requires fit { Every IsFitNode (scripts.nodes_on scene.now names.now placed.now) }
+    requires room { length (nodes.old ++ scripts.nodes_on scene.now names.now placed.now) < 2 ^ 32 }
     ensures { OnOk result (nodes.new ≡ nodes.old ++ scripts.nodes_on scene.now names.now placed.now) }
 {
     let from = placed.counts.nodes;
@@ -81,6 +86,8 @@ pub fn all_nodes(
     scene: &Scene,
     names: &Names,
 ) -> Result<Items<ExprNode, MANY>, Memory>
+    requires fit { Every IsFitNode (flat_map (scripts.nodes_on scene.now names.now) (placed scene.now)) }
+    requires room { length (flat_map (scripts.nodes_on scene.now names.now) (placed scene.now)) < 2 ^ 32 }
     ensures { IfOk result (λ n. n ≡ flat_map (scripts.nodes_on scene.now names.now) (placed scene.now)) }
 {
     let mut nodes = Items::new(alloc);
@@ -103,10 +110,11 @@ pub fn all_nodes(
 }
 
 fn add_picks(all: &[u64], picks: &mut Items<u64, MANY>) -> Result<(), Memory>
+    requires { length (picks.old ++ all.now) < 2 ^ 32 }
     ensures { OnOk result (picks.new ≡ picks.old ++ all.now) }
 {
     for pick in all {
-        match add(picks, *pick) {
+        match picks.push(*pick) {
             Ok(()) => {}
             Err(error) => return Err(error),
         }
@@ -116,6 +124,7 @@ fn add_picks(all: &[u64], picks: &mut Items<u64, MANY>) -> Result<(), Memory>
 
 /// The numbers behind `picks` of all lines.
 pub fn all_picks(alloc: Global, lines: &[NumberedLine]) -> Result<Items<u64, MANY>, Memory>
+    requires { length (flat_map line_picks lines.now) < 2 ^ 32 }
     ensures { IfOk result (λ p. p ≡ flat_map line_picks lines.now) }
 {
     let mut picks = Items::new(alloc);

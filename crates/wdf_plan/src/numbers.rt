@@ -1,5 +1,5 @@
-//! The numbers that stand for names in a plan. A number that fits no 32 bits is want of memory.
-ghost use Rattle.std.specs.Prelude.{◌≡◌, ◌++◌, ◌∷◌, [], IfOk, OnOk};
+//! The numbers that stand for names in a plan.
+ghost use Rattle.std.specs.Prelude.{◌≡◌, ◌++◌, ◌+◌, ◌<◌, ◌^◌, length, IfSome, OnOk};
 ghost use Rattle.std.specs.Option.{option_to_list};
 ghost use Rattle.wdf_plan.specs.Numbers as spec;
 
@@ -9,28 +9,27 @@ use wdf_base::{Action, Handle, Items, Memory, Name, ObjectId};
 use wdf_scene::SceneAction;
 
 /// The id of the object before which so many were declared.
-pub fn id_of(order: u32) -> Result<ObjectId, Memory>
-    ensures { IfOk result (λ o. o ≡ spec.id_of order) }
+pub fn id_of(order: u32) -> ObjectId
+    requires { order + 2 < 2 ^ 32 }
+    ensures { result ≡ spec.id_of order }
 {
-    match order.checked_add(2) {
-        Some(id) => Ok(ObjectId(id)),
-        None => Err(Memory),
-    }
+    ObjectId(order + 2)
 }
 
-fn numbered(place: Option<u32>) -> Result<u32, Memory>
-    ensures { IfOk result (λ n. n ≡ spec.numbered place) }
+fn numbered(place: Option<u32>) -> u32
+    requires { IfSome place (λ k. k + 2 < 2 ^ 32) }
+    ensures { result ≡ spec.numbered place }
 {
     match place {
-        Some(place) => place.checked_add(2).ok_or(Memory),
-        None => Ok(0),
+        Some(place) => place + 2,
+        None => 0,
     }
 }
 
 /// The number of a declared name.
 #[tactic(auto, unfolding(crate::specs::Numbers::name_number))]
-pub fn name_number(names: &Names, name: &Name) -> Result<u32, Memory>
-    ensures { IfOk result (λ n. n ≡ spec.name_number names.now name.now) }
+pub fn name_number(names: &Names, name: &Name) -> u32
+    ensures { result ≡ spec.name_number names.now name.now }
 {
     numbered(names.place(name))
 }
@@ -38,7 +37,8 @@ pub fn name_number(names: &Names, name: &Name) -> Result<u32, Memory>
 /// The number among the registers, the classes or the objects of what a name stands for.
 #[tactic(auto, unfolding(crate::specs::Numbers::number_of))]
 pub fn number_of(names: &Names, name: &Name, wanted: Wanted) -> u32
-    ensures { result ≡ spec.number_of names.now name.now wanted }
+    ensures value { result ≡ spec.number_of names.now name.now wanted }
+    ensures small { result + 2 < 2 ^ 32 }
 {
     match names.found(name, wanted) {
         Some(declaration) => declaration.order,
@@ -48,58 +48,45 @@ pub fn number_of(names: &Names, name: &Name, wanted: Wanted) -> u32
 
 /// The object that a name stands for.
 #[tactic(auto, unfolding(crate::specs::Numbers::handle_of))]
-pub fn handle_of(names: &Names, name: &Name, wanted: Wanted) -> Result<Handle, Memory>
-    ensures { IfOk result (λ h. h ≡ spec.handle_of names.now name.now wanted) }
+pub fn handle_of(names: &Names, name: &Name, wanted: Wanted) -> Handle
+    ensures { result ≡ spec.handle_of names.now name.now wanted }
 {
-    let id = id_of(number_of(names, name, wanted))?;
-    let name = name_number(names, name)?;
-    Ok(Handle { id, name })
+    Handle {
+        id: id_of(number_of(names, name, wanted)),
+        name: name_number(names, name),
+    }
 }
 
 /// What the device with this line does.
 #[tactic(auto, unfolding(crate::specs::Numbers::action_of))]
-pub fn action_of(names: &Names, device: Option<u32>, action: &SceneAction) -> Result<Action, Memory>
-    ensures { IfOk result (λ a. a ≡ spec.action_of names.now device action.now) }
+pub fn action_of(names: &Names, device: Option<u32>, action: &SceneAction) -> Action
+    ensures { result ≡ spec.action_of names.now device action.now }
 {
     match action {
-        SceneAction::Set { register, value } => Ok(Action::Set {
+        SceneAction::Set { register, value } => Action::Set {
             register: number_of(names, register, Wanted::RegisterOf(device)),
             value: *value,
-        }),
-        SceneAction::Raise { interrupt } => {
-            let interrupt = handle_of(names, interrupt, Wanted::InterruptOf(device))?;
-            Ok(Action::Raise { interrupt })
-        }
-        SceneAction::Lower { interrupt } => {
-            let interrupt = handle_of(names, interrupt, Wanted::InterruptOf(device))?;
-            Ok(Action::Lower { interrupt })
-        }
+        },
+        SceneAction::Raise { interrupt } => Action::Raise {
+            interrupt: handle_of(names, interrupt, Wanted::InterruptOf(device)),
+        },
+        SceneAction::Lower { interrupt } => Action::Lower {
+            interrupt: handle_of(names, interrupt, Wanted::InterruptOf(device)),
+        },
     }
 }
 
-/// Adds an item at the end, if there is one. A full list is want of memory.
+/// Adds an item at the end, if there is one.
 pub fn add_found<T: Drop, const CEILING: u64>(
     items: &mut Items<T, CEILING>,
     found: Option<T>,
 ) -> Result<(), Memory>
+    requires many { length (items.old ++ option_to_list found) < 2 ^ 32 }
+    requires room { length (items.old ++ option_to_list found) < CEILING }
     ensures { OnOk result (items.new ≡ items.old ++ option_to_list found) }
 {
     match found {
-        Some(item) => add(items, item),
+        Some(item) => items.push(item),
         None => Ok(()),
     }
-}
-
-/// Adds an item at the end. A full list is want of memory.
-pub fn add<T: Drop, const CEILING: u64>(
-    items: &mut Items<T, CEILING>,
-    item: T,
-) -> Result<(), Memory>
-    ensures { OnOk result (items.new ≡ items.old ++ item ∷ []) }
-{
-    let len = u64::from(items.len());
-    if len + 1 >= CEILING || len + 1 > u64::from(u32::MAX) {
-        return Err(Memory);
-    }
-    items.push(item)
 }

@@ -1,5 +1,6 @@
 //! The objects, classes and registers of a plan, and what devices do.
-ghost use Rattle.std.specs.Prelude.{◌≡◌, IfOk};
+ghost use Rattle.std.specs.Prelude.{◌≡◌, ◌+◌, ◌<◌, ◌^◌, IfSome};
+ghost use Rattle.wdf_plan.specs.Fitting.{IsFitDeclared};
 ghost use Rattle.wdf_plan.specs.Parts as parts;
 
 use crate::attribute::Attribute;
@@ -23,17 +24,17 @@ fn device_info(
     line: u32,
     name: &Name,
     working: bool,
-) -> Result<DeviceInfo, Memory>
-    ensures { IfOk result (λ d. d ≡ parts.device_info heritage.now names.now line name.now working) }
+) -> DeviceInfo
+    ensures { result ≡ parts.device_info heritage.now names.now line name.now working }
 {
-    let name = name_number(names, name)?;
+    let name = name_number(names, name);
     let effective = heritage.effective(line, None);
-    Ok(DeviceInfo {
+    DeviceInfo {
         name,
         working,
         scope: effective.scope,
         level: effective.level,
-    })
+    }
 }
 
 #[tactic(auto, unfolding(crate::specs::Parts::serves))]
@@ -56,14 +57,15 @@ fn queue_info(
     line: u32,
     name: &Name,
     dispatch: DispatchKind,
-) -> Result<QueueInfo, Memory>
-    ensures { IfOk result (λ q. q ≡ parts.queue_info heritage.now names.now placed.now.stand.device placed.now.counts.device line name.now dispatch) }
+) -> QueueInfo
+    requires { placed.now.counts.device + 2 < 2 ^ 32 }
+    ensures { result ≡ parts.queue_info heritage.now names.now placed.now.stand.device placed.now.counts.device line name.now dispatch }
 {
-    let name = name_number(names, name)?;
-    let device = id_of(placed.counts.device)?;
+    let name = name_number(names, name);
+    let device = id_of(placed.counts.device);
     let scene = heritage.scene();
     let effective = heritage.effective(line, placed.stand.device);
-    Ok(QueueInfo {
+    QueueInfo {
         name,
         device,
         dispatch,
@@ -72,41 +74,33 @@ fn queue_info(
         zero: has_given(scene, line, Attribute::Zero),
         scope: effective.scope,
         level: effective.level,
-    })
+    }
 }
 
-fn irql_of(level: InterruptLevel) -> Result<Irql, Memory>
-    ensures { IfOk result (λ l. l ≡ parts.irql_of level) }
+fn irql_of(level: InterruptLevel) -> Irql
+    requires { (parts.irql_of level).0 < 2 ^ 8 }
+    ensures { result ≡ parts.irql_of level }
 {
     match level {
-        // A level above 12 was refused.
-        InterruptLevel::Numbered(level) => {
-            if level > 12 {
-                return Err(Memory);
-            }
-            Ok(Irql(level as u8))
-        }
-        InterruptLevel::AtPassive => Ok(Irql(0)),
+        InterruptLevel::Numbered(level) => Irql(level as u8),
+        InterruptLevel::AtPassive => Irql(0),
     }
 }
 
 #[tactic(auto, unfolding(crate::specs::Parts::interrupt_info))]
-fn interrupt_info(
-    names: &Names,
-    device: u32,
-    name: &Name,
-    level: InterruptLevel,
-) -> Result<InterruptInfo, Memory>
-    ensures { IfOk result (λ i. i ≡ parts.interrupt_info names.now device name.now level) }
+fn interrupt_info(names: &Names, device: u32, name: &Name, level: InterruptLevel) -> InterruptInfo
+    requires device { device + 2 < 2 ^ 32 }
+    requires level { (parts.irql_of level).0 < 2 ^ 8 }
+    ensures { result ≡ parts.interrupt_info names.now device name.now level }
 {
-    let name = name_number(names, name)?;
-    let device = id_of(device)?;
-    let level = irql_of(level)?;
-    Ok(InterruptInfo {
+    let name = name_number(names, name);
+    let device = id_of(device);
+    let level = irql_of(level);
+    InterruptInfo {
         name,
         device,
         level,
-    })
+    }
 }
 
 #[tactic(auto, unfolding(crate::specs::Parts::target_info))]
@@ -117,18 +111,19 @@ fn target_info(
     delay: u64,
     status: Status,
     depth: u64,
-) -> Result<TargetInfo, Memory>
-    ensures { IfOk result (λ t. t ≡ parts.target_info names.now device name.now delay status depth) }
+) -> TargetInfo
+    requires { device + 2 < 2 ^ 32 }
+    ensures { result ≡ parts.target_info names.now device name.now delay status depth }
 {
-    let name = name_number(names, name)?;
-    let device = id_of(device)?;
-    Ok(TargetInfo {
+    let name = name_number(names, name);
+    let device = id_of(device);
+    TargetInfo {
         name,
         device,
         delay,
         status,
         depth,
-    })
+    }
 }
 
 /// The object that line `line` declares, where `placed` is this line or stands in its block.
@@ -139,33 +134,29 @@ pub fn object_of(
     placed: &Placed,
     line: u32,
     form: &SceneLine,
-) -> Result<Option<Declared>, Memory>
-    ensures { IfOk result (λ o. o ≡ parts.object_of heritage.now names.now placed.now line form.now) }
+) -> Option<Declared>
+    requires device { placed.now.counts.device + 2 < 2 ^ 32 }
+    requires fits { IfSome (parts.object_of heritage.now names.now placed.now line form.now) IsFitDeclared }
+    ensures { result ≡ parts.object_of heritage.now names.now placed.now line form.now }
 {
     let device = placed.counts.device;
     match form {
-        SceneLine::Device { name, working } => {
-            let info = device_info(heritage, names, line, name, *working)?;
-            Ok(Some(Declared::Device(info)))
-        }
-        SceneLine::Queue { name, dispatch } => {
-            let info = queue_info(heritage, names, placed, line, name, *dispatch)?;
-            Ok(Some(Declared::Queue(info)))
-        }
-        SceneLine::Interrupt { name, level } => {
-            let info = interrupt_info(names, device, name, *level)?;
-            Ok(Some(Declared::Interrupt(info)))
-        }
+        SceneLine::Device { name, working } => Some(Declared::Device(device_info(
+            heritage, names, line, name, *working,
+        ))),
+        SceneLine::Queue { name, dispatch } => Some(Declared::Queue(queue_info(
+            heritage, names, placed, line, name, *dispatch,
+        ))),
+        SceneLine::Interrupt { name, level } => Some(Declared::Interrupt(interrupt_info(
+            names, device, name, *level,
+        ))),
         SceneLine::Target {
             name,
             delay,
             status,
             depth,
-        } => {
-            let info = target_info(names, device, name, *delay, *status, *depth)?;
-            Ok(Some(Declared::Target(info)))
-        }
-        _ => Ok(None),
+        } => Some(Declared::Target(target_info(names, device, name, *delay, *status, *depth))),
+        _ => None,
     }
 }
 
@@ -181,13 +172,16 @@ impl Part for Objects<'_> {
 
     ghost part = { λ s. parts.object_on s.heritage.now s.names.now };
 
+    ghost fits = { λ s p. (p.counts.device + 2 < 2 ^ 32) × IfSome (parts.object_on s.heritage.now s.names.now p) IsFitDeclared };
+
     fn take(&self, line: &Placed) -> Result<Option<Declared>, Memory> {
-        object_of(self.heritage, self.names, line, line.at, &line.form)
+        Ok(object_of(self.heritage, self.names, line, line.at, &line.form))
     }
 }
 
 fn parent_order(names: &Names, parent: &Option<Name>) -> u32
-    ensures { result ≡ parts.parent_order names.now parent.now }
+    ensures value { result ≡ parts.parent_order names.now parent.now }
+    ensures small { result + 2 < 2 ^ 32 }
 {
     match parent {
         Some(name) => number_of(names, name, Wanted::Parent),
@@ -206,31 +200,22 @@ fn period_of(scene: &Scene, line: u32) -> u64
 }
 
 #[tactic(auto, unfolding(crate::specs::Parts::class_on))]
-fn class_on(
-    scene: &Scene,
-    names: &Names,
-    placed: &Placed,
-    form: &SceneLine,
-) -> Result<Option<ClassInfo>, Memory>
-    ensures { IfOk result (λ o. o ≡ parts.class_on scene.now names.now placed.now form.now) }
+fn class_on(scene: &Scene, names: &Names, placed: &Placed, form: &SceneLine) -> Option<ClassInfo>
+    ensures { result ≡ parts.class_on scene.now names.now placed.now form.now }
 {
     match form {
-        SceneLine::Class { name, kind } => {
-            let name = name_number(names, name)?;
-            Ok(Some(ClassInfo::Plain { name, kind: *kind }))
-        }
-        SceneLine::DeferredClass { name, kind, parent } => {
-            let name = name_number(names, name)?;
-            let parent = id_of(parent_order(names, parent))?;
-            Ok(Some(ClassInfo::Deferred {
-                name,
-                kind: *kind,
-                parent,
-                serialize: has_given(scene, placed.at, Attribute::Serialize),
-                period: period_of(scene, placed.at),
-            }))
-        }
-        _ => Ok(None),
+        SceneLine::Class { name, kind } => Some(ClassInfo::Plain {
+            name: name_number(names, name),
+            kind: *kind,
+        }),
+        SceneLine::DeferredClass { name, kind, parent } => Some(ClassInfo::Deferred {
+            name: name_number(names, name),
+            kind: *kind,
+            parent: id_of(parent_order(names, parent)),
+            serialize: has_given(scene, placed.at, Attribute::Serialize),
+            period: period_of(scene, placed.at),
+        }),
+        _ => None,
     }
 }
 
@@ -246,30 +231,25 @@ impl Part for Classes<'_> {
 
     ghost part = { λ s p. parts.class_on s.scene.now s.names.now p p.form };
 
+    ghost fits = { λ s p. Unit {0} };
+
     fn take(&self, line: &Placed) -> Result<Option<ClassInfo>, Memory> {
-        class_on(self.scene, self.names, line, &line.form)
+        Ok(class_on(self.scene, self.names, line, &line.form))
     }
 }
 
 #[tactic(auto, unfolding(crate::specs::Parts::register_on))]
-fn register_on(
-    names: &Names,
-    placed: &Placed,
-    form: &SceneLine,
-) -> Result<Option<RegisterInfo>, Memory>
-    ensures { IfOk result (λ o. o ≡ parts.register_on names.now placed.now form.now) }
+fn register_on(names: &Names, placed: &Placed, form: &SceneLine) -> Option<RegisterInfo>
+    requires { placed.now.counts.device + 2 < 2 ^ 32 }
+    ensures { result ≡ parts.register_on names.now placed.now form.now }
 {
     match form {
-        SceneLine::Register { name, value } => {
-            let name = name_number(names, name)?;
-            let device = id_of(placed.counts.device)?;
-            Ok(Some(RegisterInfo {
-                name,
-                device,
-                value: *value,
-            }))
-        }
-        _ => Ok(None),
+        SceneLine::Register { name, value } => Some(RegisterInfo {
+            name: name_number(names, name),
+            device: id_of(placed.counts.device),
+            value: *value,
+        }),
+        _ => None,
     }
 }
 
@@ -284,19 +264,16 @@ impl Part for Registers<'_> {
 
     ghost part = { λ s p. parts.register_on s.names.now p p.form };
 
+    ghost fits = { λ s p. p.counts.device + 2 < 2 ^ 32 };
+
     fn take(&self, line: &Placed) -> Result<Option<RegisterInfo>, Memory> {
-        register_on(self.names, line, &line.form)
+        Ok(register_on(self.names, line, &line.form))
     }
 }
 
 #[tactic(auto, unfolding(crate::specs::Parts::when_on))]
-fn when_on(
-    names: &Names,
-    number: u32,
-    device: Option<u32>,
-    form: &SceneLine,
-) -> Result<Option<WhenLine>, Memory>
-    ensures { IfOk result (λ o. o ≡ parts.when_on names.now number device form.now) }
+fn when_on(names: &Names, number: u32, device: Option<u32>, form: &SceneLine) -> Option<WhenLine>
+    ensures { result ≡ parts.when_on names.now number device form.now }
 {
     match form {
         SceneLine::When {
@@ -304,17 +281,14 @@ fn when_on(
             register,
             action,
             after,
-        } => {
-            let action = action_of(names, device, action)?;
-            Ok(Some(WhenLine {
-                access: *access,
-                register: number_of(names, register, Wanted::RegisterOf(device)),
-                action,
-                after: *after,
-                line: number,
-            }))
-        }
-        _ => Ok(None),
+        } => Some(WhenLine {
+            access: *access,
+            register: number_of(names, register, Wanted::RegisterOf(device)),
+            action: action_of(names, device, action),
+            after: *after,
+            line: number,
+        }),
+        _ => None,
     }
 }
 
@@ -329,7 +303,9 @@ impl Part for Whens<'_> {
 
     ghost part = { λ s p. parts.when_on s.names.now p.number p.stand.device p.form };
 
+    ghost fits = { λ s p. Unit {0} };
+
     fn take(&self, line: &Placed) -> Result<Option<WhenLine>, Memory> {
-        when_on(self.names, line.number, line.stand.device, &line.form)
+        Ok(when_on(self.names, line.number, line.stand.device, &line.form))
     }
 }

@@ -1,8 +1,9 @@
 //! A list of the plan, made line by line.
-ghost use Rattle.std.specs.Prelude.{◌≡◌, ◌++◌, ◌<◌, IfOk, OnOk, Option};
+ghost use Rattle.std.specs.Prelude.{◌≡◌, ◌++◌, ◌<◌, ◌^◌, length, IfOk, OnOk, Option};
 ghost use Rattle.std.specs.Option.{option_to_list};
 ghost use Rattle.wdf_plan.specs.declared.placed.Placed.{Placed};
 ghost use Rattle.std.specs.List.{filter_map};
+ghost use Rattle.wdf_plan.specs.Fitting.{Every};
 ghost use Rattle.wdf_plan.specs.Placed.{placed};
 
 use crate::numbers::add_found;
@@ -18,8 +19,12 @@ pub trait Part {
 
     ghost part: { Self → Placed → Option Self.Item };
 
+    // What is to hold of each line, so that its numbers fit their types.
+    ghost fits: { Self → Placed → Type 0 };
+
     /// What the list has of a line, if it has something of it.
     fn take(&self, line: &Placed) -> Result<Option<Self::Item>, Memory>
+        requires { fits self.now line.now }
         ensures { IfOk result (λ o. o ≡ part self.now line.now) };
 }
 
@@ -29,6 +34,9 @@ pub fn gather_behind<P: Part, const CEILING: u64>(
     part: &P,
     items: &mut Items<P::Item, CEILING>,
 ) -> Result<(), Memory>
+    requires fit { Every (P.fits part.now) (placed scene.now) }
+    requires many { length (items.old ++ filter_map (P.part part.now) (placed scene.now)) < 2 ^ 32 }
+    requires room { length (items.old ++ filter_map (P.part part.now) (placed scene.now)) < CEILING }
     ensures { OnOk result (items.new ≡ items.old ++ filter_map (P.part part.now) (placed scene.now)) }
 {
     let mut walk = Walk::new(scene);
@@ -47,7 +55,9 @@ pub fn gather<P: Part, const CEILING: u64>(
     scene: &Scene,
     part: &P,
 ) -> Result<Items<P::Item, CEILING>, Memory>
-    requires { 0 < CEILING }
+    requires fit { Every (P.fits part.now) (placed scene.now) }
+    requires many { length (filter_map (P.part part.now) (placed scene.now)) < 2 ^ 32 }
+    requires room { length (filter_map (P.part part.now) (placed scene.now)) < CEILING }
     ensures { IfOk result (λ v. v ≡ filter_map (P.part part.now) (placed scene.now)) }
 {
     let mut items = Items::new(alloc);
@@ -60,6 +70,9 @@ fn take_into<P: Part, const CEILING: u64>(
     line: &Placed,
     items: &mut Items<P::Item, CEILING>,
 ) -> Result<(), Memory>
+    requires fits { P.fits part.now line.now }
+    requires many { length (items.old ++ option_to_list (P.part part.now line.now)) < 2 ^ 32 }
+    requires room { length (items.old ++ option_to_list (P.part part.now line.now)) < CEILING }
     ensures { OnOk result (items.new ≡ items.old ++ option_to_list (P.part part.now line.now)) }
 {
     let found = part.take(line)?;

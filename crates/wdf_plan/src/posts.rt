@@ -1,5 +1,5 @@
 //! The posts of all lines, each with its block, so that no agent looks at the lines of another.
-ghost use Rattle.std.specs.Prelude.{◌≡◌, IfOk};
+ghost use Rattle.std.specs.Prelude.{◌≡◌, ◌<◌, ◌^◌, length, IfOk};
 ghost use Rattle.std.specs.List.{filter_map};
 ghost use Rattle.wdf_plan.specs.Posts as spec;
 
@@ -39,6 +39,7 @@ fn post_in(posted: &Posted, block: u32) -> Option<PostLine>
 
 /// The posts of one block, in the order of their lines.
 pub fn posts_in(alloc: Global, all: &[Posted], block: u32) -> Result<Items<PostLine, MANY>, Memory>
+    requires { length all.now < 2 ^ 32 }
     ensures { IfOk result (λ v. v ≡ filter_map (spec.post_in block) all.now) }
 {
     let mut posts = Items::new(alloc);

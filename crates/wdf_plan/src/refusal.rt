@@ -23,7 +23,7 @@ pub enum PlanRefusal {
     /// A class needs a device or a queue as its parent.
     #[error("line {line}: no parent")]
     NoParent { line: u32 },
-    /// Memory is wanting, or a number doesn't fit its type in the plan.
+    /// Memory is wanting.
     #[error("out of memory")]
     Memory,
 }

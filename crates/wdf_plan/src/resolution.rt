@@ -1,11 +1,12 @@
 //! The plan of a scene, or the first reason why it has none.
-ghost use Rattle.std.specs.Prelude.{◌≡◌, ◌++◌, ◌∷◌, [], ◌⊎◌, IfOk, IfErr, OnOk, Option, Some, None, MatchResult, codes, map};
+ghost use Rattle.std.specs.Prelude.{◌≡◌, ◌++◌, ◌∷◌, [], ◌⊎◌, ◌+◌, ◌<◌, ◌^◌, length, IfOk, IfErr, OnOk, Option, Some, None, MatchResult, codes, map};
 ghost use Rattle.wdf_base.specs.Resolved.{IsResolved};
 ghost use Rattle.wdf_scene.specs.Naming.{HasProperNames};
 ghost use Rattle.wdf_scene.specs.Written.{IsScene};
 ghost use Rattle.wdf_plan.specs.Blocks.{form_at};
 ghost use Rattle.wdf_plan.specs.Declarations.{declarations};
 ghost use Rattle.wdf_plan.specs.First as first;
+ghost use Rattle.wdf_plan.specs.Fitting.{CanPlan};
 ghost use Rattle.wdf_plan.specs.Plans as plans;
 
 use crate::agents::{AppPosts, Apps, DevicePosts, Devices, PnpPosts, Targets};
@@ -15,7 +16,6 @@ use crate::first::{declared, first_refusal};
 use crate::heritage::Heritage;
 use crate::names::Names;
 use crate::nodes::{all_nodes, all_picks};
-use crate::numbers::add;
 use crate::objects::{Classes, Objects, Registers, Whens};
 use crate::part::{gather, gather_behind};
 use crate::posts::Posted;
@@ -37,36 +37,21 @@ fn header_in(form: &SceneLine) -> u64
     }
 }
 
-// A number that was refused above 200,000.
-fn header_at(scene: &Scene, at: u32) -> Result<u32, Memory>
-    ensures { IfOk result (λ n. n ≡ plans.header_of (form_at scene.now at)) }
+fn header_at(scene: &Scene, at: u32) -> u64
+    ensures { result ≡ plans.header_of (form_at scene.now at) }
 {
-    let number = match form_at(scene, at) {
+    match form_at(scene, at) {
         Some(form) => header_in(&form),
         None => 0,
-    };
-    if number > 200_000 {
-        return Err(Memory);
     }
-    Ok(number as u32)
-}
-
-// A number that was refused above 8.
-fn cpus_at(scene: &Scene, at: u32) -> Result<u8, Memory>
-    ensures { IfOk result (λ n. n ≡ plans.header_of (form_at scene.now at)) }
-{
-    let number = header_at(scene, at)?;
-    if number > 8 {
-        return Err(Memory);
-    }
-    Ok(number as u8)
 }
 
 fn add_names(all: &[Declaration], names: &mut Items<Name, MANY>) -> Result<(), Memory>
+    requires { length names.old + length all.now < 2 ^ 32 }
     ensures { OnOk result (names.new ≡ names.old ++ map plans.name_in all.now) }
 {
     for declaration in all {
-        match add(names, declaration.name) {
+        match names.push(declaration.name) {
             Ok(()) => {}
             Err(error) => return Err(error),
         }
@@ -75,11 +60,12 @@ fn add_names(all: &[Declaration], names: &mut Items<Name, MANY>) -> Result<(), M
 }
 
 fn all_names(alloc: Global, all: &[Declaration]) -> Result<Items<Name, MANY>, Memory>
+    requires { length all.now + 2 < 2 ^ 32 }
     ensures { IfOk result (λ n. n ≡ codes "driver" ∷ codes "req" ∷ map plans.name_in all.now) }
 {
     let mut names = Items::new(alloc);
-    add(&mut names, Name::new("driver".as_bytes()))?;
-    add(&mut names, Name::new("req".as_bytes()))?;
+    names.push(Name::new("driver".as_bytes()))?;
+    names.push(Name::new("req".as_bytes()))?;
     add_names(all, &mut names)?;
     Ok(names)
 }
@@ -89,15 +75,17 @@ fn all_objects(
     heritage: &Heritage,
     names: &Names,
 ) -> Result<Items<Declared, MANY>, Memory>
+    requires { CanPlan heritage.now names.now }
     ensures { IfOk result (λ d. d ≡ plans.all_objects heritage.now names.now) }
 {
     let mut objects = Items::new(alloc);
-    add(&mut objects, Declared::Driver)?;
+    objects.push(Declared::Driver)?;
     gather_behind(heritage.scene(), &Objects { heritage, names }, &mut objects)?;
     Ok(objects)
 }
 
 fn all_agents(alloc: Global, scene: &Scene, names: &Names) -> Result<Items<AgentInfo, FEW>, Memory>
+    requires { CanPlan scene.now names.now }
     ensures { IfOk result (λ a. a ≡ plans.all_agents scene.now names.now) }
 {
     let mut agents = Items::new(alloc);
@@ -105,14 +93,14 @@ fn all_agents(alloc: Global, scene: &Scene, names: &Names) -> Result<Items<Agent
     let apps = Apps {
         alloc,
         names,
-        posts: posts.as_slice(),
+        posts: &posts,
     };
     gather_behind(scene, &apps, &mut agents)?;
     let posts: Items<Posted, MANY> = gather(alloc, scene, &DevicePosts { names })?;
     let devices = Devices {
         alloc,
         names,
-        posts: posts.as_slice(),
+        posts: &posts,
     };
     gather_behind(scene, &devices, &mut agents)?;
     gather_behind(scene, &Targets { alloc, names }, &mut agents)?;
@@ -120,12 +108,13 @@ fn all_agents(alloc: Global, scene: &Scene, names: &Names) -> Result<Items<Agent
 }
 
 fn plan_with(alloc: Global, heritage: &Heritage, names: &Names) -> Result<Plan, Memory>
+    requires { CanPlan heritage.now names.now }
     ensures { IfOk result (λ p. p ≡ plans.plan_with heritage.now names.now) }
 {
     let scene = heritage.scene();
-    let cpus = cpus_at(scene, 0)?;
-    let limit = header_at(scene, 1)?;
-    let objects = header_at(scene, 2)?;
+    let cpus = header_at(scene, 0) as u8;
+    let limit = header_at(scene, 1) as u32;
+    let objects = header_at(scene, 2) as u32;
     let all = all_names(alloc, names.as_slice())?;
     let declared = all_objects(alloc, heritage, names)?;
     let classes = gather(alloc, scene, &Classes { scene, names })?;
@@ -164,8 +153,11 @@ fn plan_with(alloc: Global, heritage: &Heritage, names: &Names) -> Result<Plan, 
 // The plan of a scene or its first refusal.
 #[tactic(auto, unfolding(crate::specs::Plans::plan_of))]
 fn outcome(alloc: Global, scene: &Scene) -> Result<Result<Plan, PlanRefusal>, Memory>
+    requires { IsScene scene.now }
     ensures { IfOk result (λ r. MatchResult r (λ p. (first.first_refusal scene.now ≡ None) × (p ≡ plans.plan_of scene.now)) (λ e. first.first_refusal scene.now ≡ Some e)) }
 {
+    let _lines = scene.lines.as_slice();
+    let _nodes = scene.exprs.as_slice();
     let names = declared(alloc, scene)?;
     let heritage = Heritage::new(alloc, scene)?;
     match first_refusal(alloc, &heritage, &names)? {
@@ -177,20 +169,21 @@ fn outcome(alloc: Global, scene: &Scene) -> Result<Result<Plan, PlanRefusal>, Me
     }
 }
 
-/// The plan of a scene: its names replaced by numbers. Of a scene that stands for a text the plan is resolved:
-/// each number is in its range and stands for what its place needs.
+/// The plan of a scene that has a text: its names replaced by numbers. Where its names are those of a text too, the
+/// plan is resolved: each number is in its range and stands for what its place needs. That each number fits its type
+/// is proved of the scenes in which nothing is refused, so no number is turned away for its size.
 ///
 /// # Errors
 ///
 /// Where a line of the scene is refused, the refusal of the first such line, and of several there the
-/// first in the order of [`PlanRefusal`]; and [`PlanRefusal::Memory`] where memory is wanting, or a number
-/// doesn't fit its type.
+/// first in the order of [`PlanRefusal`]; and [`PlanRefusal::Memory`] where memory is wanting.
 pub fn resolve(alloc: Global, scene: &Scene) -> Result<Plan, PlanRefusal>
+    requires { IsScene scene.now }
     ensures plan { IfOk result (λ p. p ≡ plans.plan_of scene.now) }
     ensures accepted { OnOk result (first.first_refusal scene.now ≡ None) }
     ensures refused { IfErr result (λ e. (e ≡ PlanRefusal.Memory) ⊎ (first.first_refusal scene.now ≡ Some e)) }
-    // For a scene that stands for a text.
-    ensures resolved { IsScene scene.now → HasProperNames scene.now → IfOk result (λ p. IsResolved p) }
+    // For a scene whose names are those of a text.
+    ensures resolved { HasProperNames scene.now → IfOk result (λ p. IsResolved p) }
 {
     match outcome(alloc, scene) {
         Ok(answer) => answer,

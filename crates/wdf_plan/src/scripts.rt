@@ -1,6 +1,7 @@
 //! Expressions, statements and scripts with numbers.
-ghost use Rattle.std.specs.Prelude.{◌≡◌, ◌++◌, ◌∷◌, [], ◌+◌, ◌-◌, ◌<◌, ◌≤◌, ◌^◌, IfOk, OnOk, length, drop, take, map, count_by, Some};
+ghost use Rattle.std.specs.Prelude.{◌≡◌, ◌++◌, ◌∷◌, [], ◌+◌, ◌-◌, ◌<◌, ◌≤◌, ◌^◌, IfOk, IfSome, OnOk, length, drop, take, map, count_by, Some};
 ghost use Rattle.std.specs.List.{flat_map};
+ghost use Rattle.wdf_plan.specs.Fitting.{IsFitAct, IsFitArgument, IsFitNode, IsFitPlace, IsFitStatement};
 ghost use Rattle.wdf_plan.specs.Placed.{placed};
 ghost use Rattle.wdf_plan.specs.Scripts as scripts;
 
@@ -14,79 +15,54 @@ use std::alloc::Global;
 use wdf_base::{Act, ArgNode, ExprNode, Memory, Name, Sort, Statement};
 use wdf_scene::{NumberedLine, SceneArg, SceneExpr, SceneLine};
 
-// A number that fits 8 bits where nothing was refused.
-fn byte(number: u64) -> Result<u8, Memory>
-    ensures { IfOk result (λ n. n ≡ number) }
-{
-    if number > 255 {
-        return Err(Memory);
-    }
-    Ok(number as u8)
-}
-
-// A number of statements.
-fn word(number: u64) -> Result<u32, Memory>
-    ensures { IfOk result (λ n. n ≡ number) }
-{
-    if number > u64::from(u32::MAX) {
-        return Err(Memory);
-    }
-    Ok(number as u32)
-}
-
-fn named_node(names: &Names, name: &Name, variable: Option<u64>) -> Result<ExprNode, Memory>
-    ensures { IfOk result (λ n. n ≡ scripts.named_node names.now name.now variable) }
+fn named_node(names: &Names, name: &Name, variable: Option<u64>) -> ExprNode
+    requires { IsFitNode (scripts.named_node names.now name.now variable) }
+    ensures { result ≡ scripts.named_node names.now name.now variable }
 {
     match variable {
-        Some(number) => {
-            let number = byte(number)?;
-            Ok(ExprNode::Variable(number))
-        }
-        None => {
-            let object = handle_of(names, name, Wanted::Object)?;
-            Ok(ExprNode::Object(object))
-        }
+        Some(number) => ExprNode::Variable(number as u8),
+        None => ExprNode::Object(handle_of(names, name, Wanted::Object)),
     }
 }
 
 /// A node with numbers in place of names.
 #[tactic(auto, unfolding(crate::specs::Scripts::node_of))]
-pub fn node_of(names: &Names, variables: &Variables, node: &SceneExpr) -> Result<ExprNode, Memory>
-    ensures { IfOk result (λ n. n ≡ scripts.node_of names.now variables.now node.now) }
+pub fn node_of(names: &Names, variables: &Variables, node: &SceneExpr) -> ExprNode
+    requires { IsFitNode (scripts.node_of names.now variables.now node.now) }
+    ensures { result ≡ scripts.node_of names.now variables.now node.now }
 {
     match node {
-        SceneExpr::Number(number) => Ok(ExprNode::Number(*number)),
+        SceneExpr::Number(number) => ExprNode::Number(*number),
         SceneExpr::Named(name) => named_node(names, name, variables.number(name)),
-        SceneExpr::Literal(status) => Ok(ExprNode::Literal(*status)),
-        SceneExpr::Context(word) => Ok(ExprNode::Context(*word)),
+        SceneExpr::Literal(status) => ExprNode::Literal(*status),
+        SceneExpr::Context(word) => ExprNode::Context(*word),
         SceneExpr::Binary {
             operator,
             left,
             right,
-        } => Ok(ExprNode::Binary {
+        } => ExprNode::Binary {
             operator: *operator,
             left: *left,
             right: *right,
-        }),
+        },
     }
 }
 
 #[tactic(auto, unfolding(crate::specs::Scripts::variable_of))]
-fn variable_of(variables: &Variables, name: &Name) -> Result<u8, Memory>
-    ensures { IfOk result (λ n. n ≡ scripts.variable_of variables.now name.now) }
+fn variable_of(variables: &Variables, name: &Name) -> u8
+    requires { scripts.variable_of variables.now name.now < 2 ^ 8 }
+    ensures { result ≡ scripts.variable_of variables.now name.now }
 {
-    byte(variables.number(name).unwrap_or(0))
+    variables.number(name).unwrap_or(0) as u8
 }
 
-fn answer_place(variables: &Variables, into: &Option<Name>) -> Result<Option<u8>, Memory>
-    ensures { IfOk result (λ n. n ≡ scripts.answer_place variables.now into.now) }
+fn answer_place(variables: &Variables, into: &Option<Name>) -> Option<u8>
+    requires { IsFitPlace (scripts.answer_place variables.now into.now) }
+    ensures { result ≡ scripts.answer_place variables.now into.now }
 {
     match into {
-        Some(name) => {
-            let variable = variable_of(variables, name)?;
-            Ok(Some(variable))
-        }
-        None => Ok(None),
+        Some(name) => Some(variable_of(variables, name)),
+        None => None,
     }
 }
 
@@ -100,42 +76,28 @@ fn class_number(names: &Names, sort: Sort, name: &Name) -> u32
     }
 }
 
-// A number of a class.
-pub fn class_word(number: u32) -> Result<u16, Memory>
-    ensures { IfOk result (λ n. n ≡ number) }
-{
-    if number > 65535 {
-        return Err(Memory);
-    }
-    Ok(number as u16)
-}
-
 #[tactic(auto, unfolding(crate::specs::Scripts::argument_of))]
-fn argument_of(names: &Names, sort: Sort, arg: &SceneArg) -> Result<ArgNode, Memory>
-    ensures { IfOk result (λ a. a ≡ scripts.argument_of names.now sort arg.now) }
+fn argument_of(names: &Names, sort: Sort, arg: &SceneArg) -> ArgNode
+    requires { IsFitArgument (scripts.argument_of names.now sort arg.now) }
+    ensures { result ≡ scripts.argument_of names.now sort arg.now }
 {
     match arg {
-        SceneArg::NoArgument => Ok(ArgNode::NoArgument),
-        SceneArg::Expression(e) => Ok(ArgNode::Expression(*e)),
-        SceneArg::OfClass(name) => {
-            let class = class_word(class_number(names, sort, name))?;
-            Ok(ArgNode::OfClass(class))
-        }
+        SceneArg::NoArgument => ArgNode::NoArgument,
+        SceneArg::Expression(e) => ArgNode::Expression(*e),
+        SceneArg::OfClass(name) => ArgNode::OfClass(class_number(names, sort, name) as u16),
     }
 }
 
 #[tactic(auto, unfolding(crate::specs::Scripts::plain_act))]
-fn plain_act(names: &Names, variables: &Variables, form: &SceneLine) -> Result<Option<Act>, Memory>
-    ensures { IfOk result (λ a. a ≡ scripts.plain_act names.now variables.now form.now) }
+fn plain_act(names: &Names, variables: &Variables, form: &SceneLine) -> Option<Act>
+    requires { IfSome (scripts.plain_act names.now variables.now form.now) IsFitAct }
+    ensures { result ≡ scripts.plain_act names.now variables.now form.now }
 {
     match form {
-        SceneLine::Let { variable, value } => {
-            let variable = variable_of(variables, variable)?;
-            Ok(Some(Act::Let {
-                variable,
-                value: *value,
-            }))
-        }
+        SceneLine::Let { variable, value } => Some(Act::Let {
+            variable: variable_of(variables, variable),
+            value: *value,
+        }),
         SceneLine::Call {
             kind,
             into,
@@ -144,33 +106,26 @@ fn plain_act(names: &Names, variables: &Variables, form: &SceneLine) -> Result<O
             c,
         } => {
             let signature = kind.signature();
-            let into = answer_place(variables, into)?;
-            let a = argument_of(names, signature.a, a)?;
-            let b = argument_of(names, signature.b, b)?;
-            let c = argument_of(names, signature.c, c)?;
-            Ok(Some(Act::Call {
+            Some(Act::Call {
                 kind: *kind,
-                into,
-                a,
-                b,
-                c,
-            }))
+                into: answer_place(variables, into),
+                a: argument_of(names, signature.a, a),
+                b: argument_of(names, signature.b, b),
+                c: argument_of(names, signature.c, c),
+            })
         }
-        SceneLine::Get { variable, register } => {
-            let variable = variable_of(variables, variable)?;
-            Ok(Some(Act::Get {
-                variable,
-                register: number_of(names, register, Wanted::Register),
-            }))
-        }
-        SceneLine::Put { register, value } => Ok(Some(Act::Put {
+        SceneLine::Get { variable, register } => Some(Act::Get {
+            variable: variable_of(variables, variable),
+            register: number_of(names, register, Wanted::Register),
+        }),
+        SceneLine::Put { register, value } => Some(Act::Put {
             register: number_of(names, register, Wanted::Register),
             value: *value,
-        })),
-        SceneLine::Spend { ticks } => Ok(Some(Act::Spend { ticks: *ticks })),
-        SceneLine::Log { value } => Ok(Some(Act::Log { value: *value })),
-        SceneLine::Return { value } => Ok(Some(Act::Return { value: *value })),
-        _ => Ok(None),
+        }),
+        SceneLine::Spend { ticks } => Some(Act::Spend { ticks: *ticks }),
+        SceneLine::Log { value } => Some(Act::Log { value: *value }),
+        SceneLine::Return { value } => Some(Act::Return { value: *value }),
+        _ => None,
     }
 }
 
@@ -184,10 +139,11 @@ fn is_loop(block: &Nest) -> bool
 }
 
 #[tactic(auto, unfolding(crate::specs::Scripts::loops))]
-fn loops(blocks: &[Nest]) -> Result<u8, Memory>
-    ensures { IfOk result (λ n. n ≡ scripts.loops blocks.now) }
+fn loops(blocks: &[Nest]) -> u8
+    requires { scripts.loops blocks.now < 2 ^ 8 }
+    ensures { result ≡ scripts.loops blocks.now }
 {
-    byte(count_loops(blocks) as u64)
+    count_loops(blocks) as u8
 }
 
 fn count_loops(blocks: &[Nest]) -> usize
@@ -202,26 +158,26 @@ fn outer(blocks: &[Nest]) -> &[Nest]
     &blocks[..blocks.len().saturating_sub(1)]
 }
 
-fn again(blocks: &[Nest], innermost: Option<Nest>) -> Result<Option<Act>, Memory>
-    ensures { IfOk result (λ a. a ≡ scripts.again blocks.now innermost) }
+fn again(blocks: &[Nest], innermost: Option<Nest>) -> Option<Act>
+    requires { IfSome (scripts.again blocks.now innermost) IsFitAct }
+    ensures { result ≡ scripts.again blocks.now innermost }
 {
     match innermost {
         Some(block) => again_at(blocks, block),
-        None => Ok(None),
+        None => None,
     }
 }
 
-fn again_at(blocks: &[Nest], innermost: Nest) -> Result<Option<Act>, Memory>
-    ensures { IfOk result (λ a. a ≡ scripts.again blocks.now (Some innermost)) }
+fn again_at(blocks: &[Nest], innermost: Nest) -> Option<Act>
+    requires { IfSome (scripts.again blocks.now (Some innermost)) IsFitAct }
+    ensures { result ≡ scripts.again blocks.now (Some innermost) }
 {
     match innermost {
-        Nest::Loop { line: _, number } => {
-            let depth = loops(outer(blocks))?;
-            let before = word(number)?;
-            let body = word(u64::from(before) + 1)?;
-            Ok(Some(Act::Again { depth, body }))
-        }
-        Nest::Branch => Ok(None),
+        Nest::Loop { line: _, number } => Some(Act::Again {
+            depth: loops(outer(blocks)),
+            body: (number + 1) as u32,
+        }),
+        Nest::Branch => None,
     }
 }
 
@@ -269,20 +225,22 @@ fn start(number: u64, skipping: u64) -> Course
     }
 }
 
-fn beyond(blocks: &[Nest], number: u64, lines: &[NumberedLine], from: u32) -> Result<u32, Memory>
+fn beyond(blocks: &[Nest], number: u64, lines: &[NumberedLine], from: u32) -> u32
     requires lines { length lines.now < 2 ^ 32 }
     requires number { number < 2 ^ 40 }
-    ensures { IfOk result (λ n. n ≡ scripts.beyond blocks.now number (drop from lines.now)) }
+    requires fits { scripts.beyond blocks.now number (drop from lines.now) < 2 ^ 32 }
+    ensures { result ≡ scripts.beyond blocks.now number (drop from lines.now) }
 {
-    word(reach(blocks, start(number, 1), lines, from))
+    reach(blocks, start(number, 1), lines, from) as u32
 }
 
-fn onward(blocks: &[Nest], number: u64, lines: &[NumberedLine], from: u32) -> Result<u32, Memory>
+fn onward(blocks: &[Nest], number: u64, lines: &[NumberedLine], from: u32) -> u32
     requires lines { length lines.now < 2 ^ 32 }
     requires number { number < 2 ^ 40 }
-    ensures { IfOk result (λ n. n ≡ scripts.onward blocks.now number (drop from lines.now)) }
+    requires fits { scripts.onward blocks.now number (drop from lines.now) < 2 ^ 32 }
+    ensures { result ≡ scripts.onward blocks.now number (drop from lines.now) }
 {
-    word(reach(blocks, start(number, 0), lines, from))
+    reach(blocks, start(number, 0), lines, from) as u32
 }
 
 /// What stands round a statement: the open blocks before and behind its line, its number, and the
@@ -297,33 +255,22 @@ pub struct Round<'a> {
 }
 
 #[tactic(auto, unfolding(crate::specs::Scripts::act_on))]
-fn act_on(
-    names: &Names,
-    variables: &Variables,
-    round: &Round,
-    form: &SceneLine,
-) -> Result<Option<Act>, Memory>
+fn act_on(names: &Names, variables: &Variables, round: &Round, form: &SceneLine) -> Option<Act>
     requires lines { length round.now.lines.now < 2 ^ 32 }
     requires number { round.now.number < 2 ^ 32 }
-    ensures { IfOk result (λ a. a ≡ scripts.act_on names.now variables.now round.now.blocks.now round.now.behind.now round.now.number form.now (drop round.now.from round.now.lines.now)) }
+    requires fits { IfSome (scripts.act_on names.now variables.now round.now.blocks.now round.now.behind.now round.now.number form.now (drop round.now.from round.now.lines.now)) IsFitAct }
+    ensures { result ≡ scripts.act_on names.now variables.now round.now.blocks.now round.now.behind.now round.now.number form.now (drop round.now.from round.now.lines.now) }
 {
     match form {
-        SceneLine::If { test } => {
-            let otherwise = beyond(round.behind, round.number + 1, round.lines, round.from)?;
-            Ok(Some(Act::If {
-                test: *test,
-                otherwise,
-            }))
-        }
-        SceneLine::Repeat { count } => {
-            let depth = loops(round.blocks)?;
-            let past = beyond(round.behind, round.number + 2, round.lines, round.from)?;
-            Ok(Some(Act::Repeat {
-                count: *count,
-                depth,
-                past,
-            }))
-        }
+        SceneLine::If { test } => Some(Act::If {
+            test: *test,
+            otherwise: beyond(round.behind, round.number + 1, round.lines, round.from),
+        }),
+        SceneLine::Repeat { count } => Some(Act::Repeat {
+            count: *count,
+            depth: loops(round.blocks),
+            past: beyond(round.behind, round.number + 2, round.lines, round.from),
+        }),
         SceneLine::End => again(round.blocks, nest_at(round.blocks, 0)),
         _ => plain_act(names, variables, form),
     }
@@ -358,22 +305,19 @@ pub fn statement_on(
     variables: &Variables,
     round: &Round,
     line: &NumberedLine,
-) -> Result<Option<Statement>, Memory>
+) -> Option<Statement>
     requires lines { length round.now.lines.now < 2 ^ 32 }
     requires number { round.now.number < 2 ^ 32 }
-    ensures { IfOk result (λ s. s ≡ scripts.statement_on names.now variables.now round.now.blocks.now round.now.behind.now round.now.number line.now (drop round.now.from round.now.lines.now)) }
+    requires fits { IfSome (scripts.statement_on names.now variables.now round.now.blocks.now round.now.behind.now round.now.number line.now (drop round.now.from round.now.lines.now)) IsFitStatement }
+    ensures { result ≡ scripts.statement_on names.now variables.now round.now.blocks.now round.now.behind.now round.now.number line.now (drop round.now.from round.now.lines.now) }
 {
-    let act = act_on(names, variables, round, &line.form)?;
-    match act {
-        Some(act) => {
-            let next = onward(round.behind, round.number + 1, round.lines, round.from)?;
-            Ok(Some(Statement {
-                line: told_line(round.blocks, line.number, &line.form),
-                next,
-                act,
-            }))
-        }
-        None => Ok(None),
+    match act_on(names, variables, round, &line.form) {
+        Some(act) => Some(Statement {
+            line: told_line(round.blocks, line.number, &line.form),
+            next: onward(round.behind, round.number + 1, round.lines, round.from),
+            act,
+        }),
+        None => None,
     }
 }
 

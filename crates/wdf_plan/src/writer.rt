@@ -1,7 +1,8 @@
 //! The scripts of a plan and the nodes of its expressions.
-ghost use Rattle.std.specs.Prelude.{◌≡◌, ◌++◌, [], ◌<◌, ◌^◌, ◌-◌, suc, IfOk, OnOk, length, drop, take, map};
+ghost use Rattle.std.specs.Prelude.{◌≡◌, ◌++◌, [], ◌+◌, ◌<◌, ◌^◌, ◌-◌, suc, IfOk, IfSome, OnOk, length, drop, take, map};
 ghost use Rattle.std.specs.List.{flat_map};
 ghost use Rattle.std.specs.Option.{option_to_list};
+ghost use Rattle.wdf_plan.specs.Fitting.{Every, IsFitDeclared, IsFitScript, IsFitStatement};
 ghost use Rattle.wdf_plan.specs.Placed.{placed};
 ghost use Rattle.wdf_plan.specs.Scripts as scripts;
 
@@ -14,7 +15,7 @@ use crate::numbers::{add_found, number_of};
 use crate::objects::object_of;
 use crate::part::Part;
 use crate::placed::Placed;
-use crate::scripts::{Round, blocks_behind, class_word, ends_callback, statement_on};
+use crate::scripts::{Round, blocks_behind, ends_callback, statement_on};
 use crate::variables::{Variables, variables_of};
 use std::alloc::Global;
 use wdf_base::{Declared, Items, MANY, Memory, Script, Statement};
@@ -29,10 +30,11 @@ fn add_statement(
 ) -> Result<(), Memory>
     requires lines { length round.now.lines.now < 2 ^ 32 }
     requires number { round.now.number < 2 ^ 32 }
+    requires fits { IfSome (scripts.statement_on names.now variables.now round.now.blocks.now round.now.behind.now round.now.number line.now (drop round.now.from round.now.lines.now)) IsFitStatement }
+    requires room { length (statements.old ++ option_to_list (scripts.statement_on names.now variables.now round.now.blocks.now round.now.behind.now round.now.number line.now (drop round.now.from round.now.lines.now))) < 2 ^ 32 }
     ensures { OnOk result (statements.new ≡ statements.old ++ option_to_list (scripts.statement_on names.now variables.now round.now.blocks.now round.now.behind.now round.now.number line.now (drop round.now.from round.now.lines.now))) }
 {
-    let found = statement_on(names, variables, round, line)?;
-    add_found(statements, found)
+    add_found(statements, statement_on(names, variables, round, line))
 }
 
 fn statements_from(
@@ -42,7 +44,9 @@ fn statements_from(
     lines: &[NumberedLine],
     from: u32,
 ) -> Result<Items<Statement, MANY>, Memory>
-    requires { length lines.now < 2 ^ 32 }
+    requires lines { length lines.now < 2 ^ 32 }
+    requires fit { Every IsFitStatement (scripts.statements_from names.now variables.now [] 0 (drop from lines.now)) }
+    requires room { length (scripts.statements_from names.now variables.now [] 0 (drop from lines.now)) < 2 ^ 32 }
     ensures { IfOk result (λ s. s ≡ scripts.statements_from names.now variables.now [] 0 (drop from lines.now)) }
 {
     let mut statements = Items::new(alloc);
@@ -88,6 +92,8 @@ pub fn statements_of(
     names: &Names,
     callback: u32,
 ) -> Result<Items<Statement, MANY>, Memory>
+    requires fit { Every IsFitStatement (scripts.statements_of scene.now names.now callback) }
+    requires room { length (scripts.statements_of scene.now names.now callback) < 2 ^ 32 }
     ensures { IfOk result (λ s. s ≡ scripts.statements_of scene.now names.now callback) }
 {
     let variables = variables_of(alloc, scene, callback)?;
@@ -106,18 +112,18 @@ fn block_owner(
     placed: &Placed,
     block: u32,
     form: &SceneLine,
-) -> Result<Option<Declared>, Memory>
-    ensures { IfOk result (λ o. o ≡ scripts.block_owner heritage.now names.now placed.now block form.now) }
+) -> Option<Declared>
+    requires device { placed.now.counts.device + 2 < 2 ^ 32 }
+    requires fits { IfSome (scripts.block_owner heritage.now names.now placed.now block form.now) IsFitDeclared }
+    ensures { result ≡ scripts.block_owner heritage.now names.now placed.now block form.now }
 {
     match form {
-        SceneLine::Class { name, kind } => {
-            let class = class_word(number_of(names, name, Wanted::ClassOf(kind.kind())))?;
-            Ok(Some(Declared::OfClass(class)))
-        }
-        SceneLine::DeferredClass { name, kind, .. } => {
-            let class = class_word(number_of(names, name, Wanted::ClassOf(kind.kind())))?;
-            Ok(Some(Declared::OfClass(class)))
-        }
+        SceneLine::Class { name, kind } => Some(Declared::OfClass(
+            number_of(names, name, Wanted::ClassOf(kind.kind())) as u16,
+        )),
+        SceneLine::DeferredClass { name, kind, .. } => Some(Declared::OfClass(
+            number_of(names, name, Wanted::ClassOf(kind.kind())) as u16,
+        )),
         _ => object_of(heritage, names, placed, block, form),
     }
 }
@@ -128,15 +134,17 @@ fn owner_of(
     names: &Names,
     placed: &Placed,
     block: Option<u32>,
-) -> Result<Option<Declared>, Memory>
-    ensures { IfOk result (λ o. o ≡ scripts.owner_of heritage.now names.now placed.now block) }
+) -> Option<Declared>
+    requires device { placed.now.counts.device + 2 < 2 ^ 32 }
+    requires fits { IfSome (scripts.owner_of heritage.now names.now placed.now block) IsFitDeclared }
+    ensures { result ≡ scripts.owner_of heritage.now names.now placed.now block }
 {
     match block {
         Some(block) => match form_at(heritage.scene(), block) {
             Some(form) => block_owner(heritage, names, placed, block, &form),
-            None => Ok(None),
+            None => None,
         },
-        None => Ok(None),
+        None => None,
     }
 }
 
@@ -148,12 +156,13 @@ fn script_on(
     placed: &Placed,
     form: &SceneLine,
 ) -> Result<Option<Script>, Memory>
+    requires device { placed.now.counts.device + 2 < 2 ^ 32 }
+    requires fits { IfSome (scripts.script_on heritage.now names.now placed.now form.now) IsFitScript }
     ensures { IfOk result (λ s. s ≡ scripts.script_on heritage.now names.now placed.now form.now) }
 {
     match form {
         SceneLine::On { callback } => {
-            let owner = owner_of(heritage, names, placed, placed.stand.block)?;
-            match owner {
+            match owner_of(heritage, names, placed, placed.stand.block) {
                 Some(owner) => {
                     let statements = statements_of(alloc, heritage.scene(), names, placed.at)?;
                     Ok(Some(Script {
@@ -182,6 +191,8 @@ impl Part for Scripts<'_> {
     type Item = Script;
 
     ghost part = { λ s p. scripts.script_on s.heritage.now s.names.now p p.form };
+
+    ghost fits = { λ s p. (p.counts.device + 2 < 2 ^ 32) × IfSome (scripts.script_on s.heritage.now s.names.now p p.form) IsFitScript };
 
     fn take(&self, line: &Placed) -> Result<Option<Script>, Memory> {
         script_on(self.alloc, self.heritage, self.names, line, &line.form)
