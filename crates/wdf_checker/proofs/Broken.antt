@@ -1,5 +1,5 @@
 -- The least law that an event breaks, by what was read of those before.
-use Rattle.std.proofs.Common.{◌≡◌, ℕ, ◌+◌, List, take, slice_get, Option, Some, refl, sym, ap, ◌∙◌}
+use Rattle.std.proofs.Common.{◌≡◌, ℕ, List, take, slice_get, Option, Some, sym, ap, ◌∙◌}
 use Rattle.wdf_base.specs.declared.plan.Plan.{Plan}
 use Rattle.wdf_base.specs.declared.event.Event.{Event}
 use Rattle.wdf_laws.specs.First.{broken_by, broken_in, broken_at}

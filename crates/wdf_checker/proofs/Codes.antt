@@ -1,12 +1,11 @@
 -- What is noted at the code of a sign.
-use Rattle.std.proofs.Common.{◌≡◌, ℕ, Bool, true, false, ◌&&◌, ◌||◌, cond, if◌then◌else◌, nat_eq, List, [], ◌∷◌, Option, Some, None, refl, sym, ap, ◌∙◌}
+use Rattle.std.proofs.Common.{◌≡◌, ℕ, Bool, true, false, ◌&&◌, ◌||◌, cond, if◌then◌else◌, nat_eq, List, [], ◌∷◌, Option, Some, None, refl, ap, ◌∙◌}
 use Rattle.std.specs.Cmp.Lexicographic.{pointwise}
 use Rattle.wdf_base.specs.declared.event.Event.{Event}
 use Rattle.wdf_laws.specs.declared.sign.Sign.{Sign}
 use Rattle.wdf_laws.specs.declared.sign.Sign.TheVariants as sign
 use Rattle.wdf_laws.specs.declared.sign.Taking.{Taking}
-use Rattle.wdf_laws.specs.Events.{is_id}
-use Rattle.wdf_laws.specs.Signs.{shows, is_taking_of}
+use Rattle.wdf_laws.specs.Signs.{shows}
 use Rattle.wdf_checker.specs.Maps.{or_zero}
 use Rattle.wdf_checker.specs.Codes.{code_of, is_single, is_pair, noted, noted_pair, noted_all}
 

@@ -1,5 +1,5 @@
 -- Numbers that are put at an id.
-use Rattle.std.proofs.Common.{◌≡◌, ℕ, ◌+◌, Bool, true, false, not, nat_eq, cond, if◌then◌else◌, max, Option, Some, None, refl, sym, ap, ◌∙◌, arith}
+use Rattle.std.proofs.Common.{◌≡◌, ℕ, ◌+◌, Bool, true, false, not, nat_eq, if◌then◌else◌, max, Option, Some, refl, ap, arith}
 use Rattle.std.proofs.lemmas.Bool.Decides.{nat_tests}
 use Rattle.wdf_laws.specs.Events.{is_id, where_so}
 use Rattle.wdf_checker.specs.declared.shown.Shown.{Shown}

@@ -1,7 +1,7 @@
 -- What is kept of the events, one event more.
-use Rattle.std.proofs.Common.{◌≡◌, ℕ, zero, suc, ◌+◌, ◌<◌, ◌≤◌, ◌^◌, Bool, true, false, not, ◌&&◌, cond, if◌then◌else◌, nat_eq, count_by, List, [], ◌∷◌, ◌++◌, length, take, slice_get, Option, Some, None, refl, sym, ap, ◌∙◌, subst, arith}
+use Rattle.std.proofs.Common.{◌≡◌, ℕ, suc, ◌+◌, ◌≤◌, Bool, true, false, if◌then◌else◌, nat_eq, count_by, List, [], length, take, slice_get, Option, Some, None, refl, sym, ap, ◌∙◌, arith}
 use Rattle.std.specs.Cmp.Lexicographic.{pointwise}
-use Rattle.std.specs.HashMap.{HashMap, get}
+use Rattle.std.specs.HashMap.{get}
 use Rattle.std.specs.Map.{lookup}
 use Rattle.std.proofs.lemmas.List.{length-take}
 use Rattle.std.proofs.lemmas.List.Sums.{count_by-le-length}
@@ -19,8 +19,8 @@ use Rattle.wdf_laws.specs.Words.{times, stands}
 use Rattle.wdf_model.proofs.Runs.{take_next}
 use Rattle.wdf_checker.specs.declared.signs.Signs.{Signs}
 use Rattle.wdf_checker.specs.declared.lists.Lists.{Lists}
-use Rattle.wdf_checker.specs.Last.{shows_in, last, stood}
-use Rattle.wdf_checker.specs.Maps.{or_zero, or_false, or_empty, number_at, flag_at, group_at, put_at, counted}
+use Rattle.wdf_checker.specs.Last.{last, stood}
+use Rattle.wdf_checker.specs.Maps.{or_zero, or_false, or_empty, number_at, group_at, put_at, counted}
 use Rattle.wdf_checker.specs.Codes.{code_of, number_in, noted_all}
 use Rattle.wdf_checker.specs.Groups.{with_arrival, arrived_for, with_taking, takings_for}
 use Rattle.wdf_checker.specs.Order.{shown_by, with_entry, tail_entry, with_number, tail_number, with_head, heads}

@@ -1,5 +1,5 @@
 -- A request is presented in its turn, by what its queue has presented.
-use Rattle.std.proofs.Common.{◌≡◌, ℕ, zero, suc, ◌+◌, ◌<◌, ◌≤◌, Bool, true, false, not, ◌==◌, ◌&&◌, ◌||◌, if◌then◌else◌, nat_lt, nat_le, nat_eq, max, ◌⊎◌, inl, inr, List, [], ◌∷◌, ◌++◌, length, take, drop, slice_get, Option, Some, None, refl, sym, ap, ◌∙◌, arith}
+use Rattle.std.proofs.Common.{◌≡◌, ℕ, zero, suc, ◌+◌, ◌<◌, ◌≤◌, Bool, true, false, not, ◌==◌, ◌&&◌, ◌||◌, if◌then◌else◌, nat_lt, nat_le, nat_eq, max, ◌⊎◌, inl, inr, List, [], ◌∷◌, length, take, drop, slice_get, Option, Some, None, refl, sym, ap, ◌∙◌, arith}
 use Rattle.std.specs.List.{list_any}
 use Rattle.std.proofs.lemmas.Bool.{cases_lt}
 use Rattle.std.proofs.lemmas.Bool.Decides.{nat_tests}
@@ -11,14 +11,13 @@ use Rattle.wdf_laws.specs.declared.sign.Sign.{Sign}
 use Rattle.wdf_laws.specs.declared.sign.Sign.TheVariants as sign
 use Rattle.wdf_laws.specs.declared.sign.Taking.{Taking}
 use Rattle.wdf_laws.specs.Signs.{shows}
-use Rattle.wdf_laws.specs.Words.{came_step, ever, stands, followed}
+use Rattle.wdf_laws.specs.Words.{ever}
 use Rattle.wdf_laws.specs.Events.{is_id, where_so}
-use Rattle.wdf_laws.specs.Laws.{came_at_head, is_in_order, waited, is_in_turn, presented_in, presented_at, all_in_turn, is_presented_in_turn}
+use Rattle.wdf_laws.specs.Laws.{came_at_head, is_in_order, waited, is_in_turn, presented_in, all_in_turn, is_presented_in_turn}
 use Rattle.wdf_model.proofs.Runs.{take_next, slice_get-take}
 use Rattle.wdf_checker.specs.declared.shown.Shown.{Shown}
 use Rattle.wdf_checker.specs.Last.{shows_in, last}
-use Rattle.wdf_checker.specs.Maps.{added_at}
-use Rattle.wdf_checker.specs.Order.{shown_by, shown_at, tail_queue, head_queue, with_entry, tail_entry, with_number, tail_number, with_head, heads, covers, is_next}
+use Rattle.wdf_checker.specs.Order.{shown_by, with_entry, tail_entry, with_number, tail_number, with_head, heads, covers, is_next}
 use Rattle.wdf_checker.specs.Past.{Read, before}
 use Rattle.wdf_checker.proofs.Words.{take_same, ever_next, ever_last, stands_last, last_within}
 
@@ -94,7 +93,7 @@ unfolding last
 head_below r all zero = omega arith
 head_below r all (suc k) =
     head_case (shows_in (sign.AtHead r) (slice_get all k)) (shows_in (sign.Entry r) (slice_get all k)) k (last (sign.AtHead r) all k) (last (sign.Entry r) all k) (shows_entry r (slice_get all k))
-      (last_within (sign.AtHead r) all k) (head_below r all k)
+    (last_within (sign.AtHead r) all k) (head_below r all k)
 
 -- whether the last entry was at the head, where no entry came since
 head_kept : (r : ℕ) (all : List Event) (k n : ℕ) → k ≤ n → last (sign.Entry r) all n ≤ k → came_at_head (take k all) r ≡ came_at_head (take n all) r
@@ -115,31 +114,31 @@ is_turn k entry earlier at_head earlier_at_head =
 
 waited_after : (k entry earlier at : ℕ) (at_head earlier_at_head was : Bool) → k < entry
     → (not (nat_lt 0 earlier && nat_lt 0 at && not (nat_lt k entry))
-       || (if earlier_at_head then (not was || (nat_lt 0 at && not (nat_lt 0 at && nat_le earlier at))) else (not was && (nat_lt 0 earlier && not (nat_lt 0 earlier && nat_le at earlier)))))
-      ≡ is_turn k entry earlier at_head earlier_at_head
+    || (if earlier_at_head then (not was || (nat_lt 0 at && not (nat_lt 0 at && nat_le earlier at))) else (not was && (nat_lt 0 earlier && not (nat_lt 0 earlier && nat_le at earlier)))))
+    ≡ is_turn k entry earlier at_head earlier_at_head
 waited_after k entry earlier at at_head earlier_at_head was h = grind (arith, nat_tests)
 
 waited_before : (k entry earlier : ℕ) (at_head earlier_at_head : Bool) → entry ≤ k
     → (not (nat_lt 0 earlier && nat_lt 0 entry && not (nat_lt k entry))
-       || (if earlier_at_head then (not at_head || (nat_lt 0 entry && not (nat_lt 0 entry && nat_le earlier entry))) else (not at_head && (nat_lt 0 earlier && not (nat_lt 0 earlier && nat_le entry earlier)))))
-      ≡ is_turn k entry earlier at_head earlier_at_head
+    || (if earlier_at_head then (not at_head || (nat_lt 0 entry && not (nat_lt 0 entry && nat_le earlier entry))) else (not at_head && (nat_lt 0 earlier && not (nat_lt 0 earlier && nat_le entry earlier)))))
+    ≡ is_turn k entry earlier at_head earlier_at_head
 waited_before k entry earlier at_head earlier_at_head h = grind (arith, nat_tests)
 
 turn_case : (k entry earlier at : ℕ) (at_head earlier_at_head was : Bool) → (k < entry) ⊎ (entry ≤ k) → (entry ≤ k → at ≡ entry) → (entry ≤ k → was ≡ at_head)
     → (not (nat_lt 0 earlier && nat_lt 0 at && not (nat_lt k entry))
-       || (if earlier_at_head then (not was || (nat_lt 0 at && not (nat_lt 0 at && nat_le earlier at))) else (not was && (nat_lt 0 earlier && not (nat_lt 0 earlier && nat_le at earlier)))))
-      ≡ is_turn k entry earlier at_head earlier_at_head
+    || (if earlier_at_head then (not was || (nat_lt 0 at && not (nat_lt 0 at && nat_le earlier at))) else (not was && (nat_lt 0 earlier && not (nat_lt 0 earlier && nat_le at earlier)))))
+    ≡ is_turn k entry earlier at_head earlier_at_head
 turn_case k entry earlier at at_head earlier_at_head was (inl h) same same_head = waited_after k entry earlier at at_head earlier_at_head was h
 turn_case k entry earlier at at_head earlier_at_head was (inr h) same same_head = rw (same h, same_head h) (waited_before k entry earlier at_head earlier_at_head h)
 
 -- of the same queue
 turn_is : (all : List Event) (k n : ℕ) (r r2 : ℕ) → k ≤ n
     → (not (waited (take k all) (drop k (take n all)) r r2) || is_in_order (take k all) r r2)
-      ≡ is_turn k (last (sign.Entry r2) all n) (last (sign.Entry r) all k) (came_at_head (take n all) r2) (came_at_head (take k all) r)
+    ≡ is_turn k (last (sign.Entry r2) all n) (last (sign.Entry r) all k) (came_at_head (take n all) r2) (came_at_head (take k all) r)
 turn_is all k n r r2 h =
     rw (ever_last (sign.Entry r) all k, ever_last (sign.Entry r2) all k, ever_after (sign.Entry r2) all k n h, stands_last (sign.Entry r2) (sign.Entry r) all k, stands_last (sign.Entry r) (sign.Entry r2) all k)
-      (turn_case k (last (sign.Entry r2) all n) (last (sign.Entry r) all k) (last (sign.Entry r2) all k) (came_at_head (take n all) r2) (came_at_head (take k all) r) (came_at_head (take k all) r2)
-        (cases_lt k (last (sign.Entry r2) all n)) (last_kept (sign.Entry r2) all k n h) (head_kept r2 all k n h))
+    (turn_case k (last (sign.Entry r2) all n) (last (sign.Entry r) all k) (last (sign.Entry r2) all k) (came_at_head (take n all) r2) (came_at_head (take k all) r) (came_at_head (take k all) r2)
+    (cases_lt k (last (sign.Entry r2) all n)) (last_kept (sign.Entry r2) all k n h) (head_kept r2 all k n h))
 
 -- ---- what a queue has presented, one presentation more
 
@@ -167,7 +166,7 @@ tail_tail k entry earlier te h0 h1 = grind (arith, nat_tests)
 -- a presentation of a request that had entered, from this queue or not
 shown_case : (q k entry te tn queue earlier : ℕ) (at_head hk b : Bool) (hs : List Shown) → nat_eq queue q ≡ b → 0 < earlier → earlier ≤ k → tn ≤ k
     → let s : Shown = record { queue = queue; at_head = hk; entry = earlier; number = k + 1 } in
-      next_by entry at_head (with_entry q (Some s) te) (with_number q (Some s) tn) (with_head q (Some s) hs) ≡ (next_by entry at_head te tn hs && (not b || is_turn k entry earlier at_head hk))
+    next_by entry at_head (with_entry q (Some s) te) (with_number q (Some s) tn) (with_head q (Some s) hs) ≡ (next_by entry at_head te tn hs && (not b || is_turn k entry earlier at_head hk))
 shown_case q k entry te tn queue earlier true true true hs h h0 h1 h2 =
     rw h (ap (λ c. (entry == 0) || (nat_le tn entry && not c)) (list_any-append (covers entry) hs _) ∙ head_head k entry earlier tn (list_any (covers entry) hs) h0)
 shown_case q k entry te tn queue earlier false true true hs h h0 h1 h2 = head_tail k entry earlier te
@@ -184,8 +183,8 @@ unseen b hk at_head k entry earlier h = grind (arith, nat_tests)
 
 seen_case : (all : List Event) (q k entry te tn : ℕ) (at_head b seen : Bool) (t : Taking) (hs : List Shown) → nat_eq t.queue q ≡ b → nat_lt 0 (last (sign.Entry t.request) all k) ≡ seen → last (sign.Entry t.request) all k ≤ k → tn ≤ k
     → let o : Option Shown = if seen then Some (record { queue = t.queue; at_head = came_at_head (take k all) t.request; entry = last (sign.Entry t.request) all k; number = k + 1 }) else None in
-      next_by entry at_head (with_entry q o te) (with_number q o tn) (with_head q o hs)
-      ≡ (next_by entry at_head te tn hs && (not b || is_turn k entry (last (sign.Entry t.request) all k) at_head (came_at_head (take k all) t.request)))
+    next_by entry at_head (with_entry q o te) (with_number q o tn) (with_head q o hs)
+    ≡ (next_by entry at_head te tn hs && (not b || is_turn k entry (last (sign.Entry t.request) all k) at_head (came_at_head (take k all) t.request)))
 seen_case all q k entry te tn at_head b true t hs h seen h1 h2 =
     let h0 : 0 < last (sign.Entry t.request) all k = grind (arith, nat_tests) in
     shown_case q k entry te tn t.queue (last (sign.Entry t.request) all k) at_head (came_at_head (take k all) t.request) b hs h h0 h1 h2
@@ -195,15 +194,15 @@ seen_case all q k entry te tn at_head b false t hs h seen h1 h2 =
 -- the test of one presentation, by its queue
 queue_case : (all : List Event) (k n : ℕ) (t later : Taking) (b : Bool) → nat_eq t.queue later.queue ≡ b → k ≤ n
     → (not b || is_turn k (last (sign.Entry later.request) all n) (last (sign.Entry t.request) all k) (came_at_head (take n all) later.request) (came_at_head (take k all) t.request))
-      ≡ is_in_turn (take k all) (drop k (take n all)) later (Some t)
+    ≡ is_in_turn (take k all) (drop k (take n all)) later (Some t)
 queue_case all k n t later true h le = rw h (sym (turn_is all k n t.request later.request le))
 queue_case all k n t later false h le = rw h refl
 
 next_in : (all : List Event) (k n te tn : ℕ) (later : Taking) (hs : List Shown) (p : Option Taking) → k ≤ n → tn ≤ k
     → let entry : ℕ = last (sign.Entry later.request) all n in
-      let at_head : Bool = came_at_head (take n all) later.request in
-      next_by entry at_head (with_entry later.queue (shown_by all k p) te) (with_number later.queue (shown_by all k p) tn) (with_head later.queue (shown_by all k p) hs)
-      ≡ (next_by entry at_head te tn hs && is_in_turn (take k all) (drop k (take n all)) later p)
+    let at_head : Bool = came_at_head (take n all) later.request in
+    next_by entry at_head (with_entry later.queue (shown_by all k p) te) (with_number later.queue (shown_by all k p) tn) (with_head later.queue (shown_by all k p) hs)
+    ≡ (next_by entry at_head te tn hs && is_in_turn (take k all) (drop k (take n all)) later p)
 next_in all k n te tn later hs None le h = sym (and_true _)
 next_in all k n te tn later hs (Some t) le h =
     seen_case all later.queue k (last (sign.Entry later.request) all n) te tn (came_at_head (take n all) later.request) (nat_eq t.queue later.queue) (nat_lt 0 (last (sign.Entry t.request) all k)) t hs refl refl (last_within (sign.Entry t.request) all k) h

@@ -1,5 +1,5 @@
 -- Lists that the first events of a list make: the requests of a device, the takings, the children of an object.
-use Rattle.std.specs.Prelude.{if◌then◌else◌, ℕ, zero, suc, ◌+◌, ◌==◌, List, [], ◌∷◌, ◌++◌, length, slice_get, Option, Some, None}
+use Rattle.std.specs.Prelude.{if◌then◌else◌, ℕ, zero, suc, ◌+◌, List, [], length, slice_get, Option, Some, None}
 use Rattle.wdf_base.specs.declared.plan.Plan.{Plan}
 use Rattle.wdf_base.specs.declared.declared.QueueInfo.{QueueInfo}
 use Rattle.wdf_base.specs.declared.event.Event.{Event}

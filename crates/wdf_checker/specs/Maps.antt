@@ -1,5 +1,5 @@
 -- What is kept by id, and what an act on it keeps.
-use Rattle.std.specs.Prelude.{if◌then◌else◌, ℕ, ◌+◌, Bool, true, false, nat_eq, List, [], ◌∷◌, ◌++◌, Option, Some, None, Vec}
+use Rattle.std.specs.Prelude.{if◌then◌else◌, ℕ, ◌+◌, Bool, false, nat_eq, List, [], ◌∷◌, ◌++◌, Option, Some, None, Vec}
 use Rattle.std.specs.HashMap.{HashMap, get}
 use Rattle.wdf_laws.specs.Events.{is_id}
 

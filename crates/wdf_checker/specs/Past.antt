@@ -1,6 +1,6 @@
 -- The events that were read so far, of a whole list, and what is kept of them.
 use Rattle.std.specs.Prelude.{◌≡◌, ◌≤◌, ℕ, Bool, false, List, length, take, Option, Some, None, Vec}
-use Rattle.std.specs.HashMap.{HashMap, get}
+use Rattle.std.specs.HashMap.{HashMap}
 use Rattle.wdf_base.specs.declared.plan.Plan.{Plan}
 use Rattle.wdf_base.specs.declared.declared.InterruptInfo.{InterruptInfo}
 use Rattle.wdf_base.specs.declared.event.Event.{Event}

@@ -2,10 +2,10 @@
 ghost use Rattle.std.specs.Prelude.{◌≡◌, ◌+◌, ◌<◌, ◌^◌, filter, length, position, IfSome, OnOk};
 ghost use Rattle.wdf_laws.specs.Frames as frames;
 
-use wdf_laws::{Begun, Stacked};
 use std::alloc::Global;
 use std::marker::Model;
 use wdf_base::{Event, Memory};
+use wdf_laws::{Begun, Stacked};
 
 /// The frames after the events so far.
 #[derive(Drop)]

@@ -4,11 +4,11 @@ ghost use Rattle.wdf_laws.specs.Events as told;
 ghost use Rattle.wdf_model.specs.Plans as plans;
 ghost use Rattle.wdf_model.specs.rules.Faults as faults;
 
-use wdf_laws::{Taking, Told};
 use wdf_base::{
     Arg, Call, CallKind, Callback, ClassInfo, Event, Handle, Plan, Post, Rank, Stage, Status,
     Value, same_callback, same_status,
 };
+use wdf_laws::{Taking, Told};
 use wdf_same::{same_call_kind, same_stage};
 
 /// Whether an id is this one.

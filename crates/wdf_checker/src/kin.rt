@@ -188,12 +188,7 @@ impl<'a> Kin<'a> {
         ensures { OnOk result ((o : ℕ) → maps.group_at children.new o ≡ groups.with_child self.now.plan self.now.all o (told.told self.now.plan event.now) (maps.group_at children.old o)) }
     {
         match told(self.plan, event) {
-            Some(t) => add(
-                alloc,
-                children,
-                Some(self.parent_of(t.object)),
-                t.object,
-            ),
+            Some(t) => add(alloc, children, Some(self.parent_of(t.object)), t.object),
             None => Ok(()),
         }
     }

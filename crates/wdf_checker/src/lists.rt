@@ -68,13 +68,7 @@ fn manager(queue: Option<QueueInfo>) -> Option<u32>
     ensures { result ≡ groups.manager queue }
 {
     match queue {
-        Some(q) => {
-            if q.powered {
-                Some(q.device.0)
-            } else {
-                None
-            }
-        }
+        Some(q) => { if q.powered { Some(q.device.0) } else { None } }
         None => None,
     }
 }

@@ -36,15 +36,11 @@ fn is_next(past: &Past, queue: u32, entry: usize, at_head: bool) -> bool
         })
 }
 
-
 fn is_in_turn(past: &Past, later: Taking) -> bool
     ensures { result ≡ laws.is_presented_in_turn (before past.now) (Some later) }
 {
     let entry = past.last(Sign::Entry(later.request));
-    let at_head = past.stands(
-        Sign::AtHead(later.request),
-        Sign::Entry(later.request),
-    );
+    let at_head = past.stands(Sign::AtHead(later.request), Sign::Entry(later.request));
     is_next(past, later.queue, entry, at_head)
 }
 

@@ -242,10 +242,7 @@ impl<'a> Past<'a> {
     {
         let entry = self.last(Sign::Entry(taking.request));
         if entry > 0 {
-            let at_head = self.stands(
-                Sign::AtHead(taking.request),
-                Sign::Entry(taking.request),
-            );
+            let at_head = self.stands(Sign::AtHead(taking.request), Sign::Entry(taking.request));
             Some(Shown {
                 queue: taking.queue,
                 at_head,

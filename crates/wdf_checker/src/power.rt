@@ -68,12 +68,7 @@ fn is_alone(frames: &Frames, level: u8, cpu: u8, interrupt: u32) -> bool
         && (!(level == 0) || !any_on(cpu, frames.stacks()))
 }
 
-fn enabled_row(
-    past: &Past,
-    callback: Callback,
-    interrupt: u32,
-    device: u32,
-) -> bool
+fn enabled_row(past: &Past, callback: Callback, interrupt: u32, device: u32) -> bool
     requires { device_of_interrupt past.now.plan (Some interrupt) ≡ Some device }
     ensures { result ≡ laws.enabled_row past.now.plan (before past.now) callback interrupt device }
 {
@@ -178,9 +173,7 @@ fn has_power(past: &Past, queue: Option<QueueInfo>) -> bool
     ensures { result ≡ laws.has_power past.now.plan (before past.now) queue }
 {
     match queue {
-        Some(q) => !q.powered
-            || went_up(past, q.device.0)
-            || is_up_from_opening(past, q.device.0),
+        Some(q) => !q.powered || went_up(past, q.device.0) || is_up_from_opening(past, q.device.0),
         None => true,
     }
 }
@@ -212,8 +205,7 @@ fn begun_with_power(past: &Past, event: &Event) -> bool
             object,
             ..
         } => {
-            !is_power_rank(callback.row().rank)
-                || has_power(past, queue_of(past.plan(), object.id))
+            !is_power_rank(callback.row().rank) || has_power(past, queue_of(past.plan(), object.id))
         }
         _ => true,
     }

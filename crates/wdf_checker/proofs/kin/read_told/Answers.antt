@@ -1,5 +1,5 @@
 -- One event more.
-use Rattle.std.proofs.Common.{◌<◌, length, arith}
+use Rattle.std.proofs.Common.{arith}
 use Rattle.wdf_checker.proofs.Telling.{one_event}
 use Rattle.wdf_checker.proofs.kin.read_told.Goals as goal
 

@@ -1,5 +1,5 @@
 -- The declared children, and one event more.
-use Rattle.std.proofs.Common.{◌<◌, length, ap, ◌∙◌, arith}
+use Rattle.std.proofs.Common.{ap, ◌∙◌, arith}
 use Rattle.wdf_checker.specs.Kin.{Whole}
 use Rattle.wdf_checker.proofs.Groups.{none_told, one_child}
 use Rattle.wdf_checker.proofs.kin.Kin.read_children.Goals as goal

@@ -1,5 +1,5 @@
 -- Nothing is kept of no events.
-use Rattle.std.proofs.Common.{◌≤◌, length, arith}
+use Rattle.std.proofs.Common.{arith}
 use Rattle.wdf_checker.proofs.Steps.{signs_none, lists_none}
 use Rattle.wdf_checker.proofs.past.Past.open.Goals as goal
 
