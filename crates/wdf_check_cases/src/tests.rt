@@ -2,7 +2,7 @@ use std::alloc::Global;
 use std::process::Abort;
 use std::test::Fail;
 use wdf_base::{Event, Plan};
-use wdf_laws::check;
+use wdf_checker::check;
 use wdf_parse::{TEXT_LIMIT, parse};
 use wdf_plan::resolve;
 use wdf_trace::read_line;

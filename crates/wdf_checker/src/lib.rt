@@ -1,0 +1,21 @@
+//! The checker of the laws of a trace, in time that grows with the trace.
+//!
+//! It reads the events once, and keeps what the laws' words ask of those before: when each sign came last, and short lists
+//! by device, queue and parent.
+#![tactic(auto)]
+
+mod begun;
+mod checker;
+mod code;
+mod events;
+mod kin;
+mod laws;
+mod lists;
+mod maps;
+mod order;
+mod past;
+mod power;
+mod shown;
+mod signs;
+
+pub use checker::check;

@@ -1,0 +1,13 @@
+//! A presentation.
+
+/// A presentation of a request that had entered a queue.
+#[derive(Clone, Copy, Debug)]
+pub struct Shown {
+    pub queue: u32,
+    /// Its last entry was at the head.
+    pub at_head: bool,
+    /// The number of the event by which it entered last, counted from 1.
+    pub entry: usize,
+    /// The number of the event that presents it.
+    pub number: usize,
+}
