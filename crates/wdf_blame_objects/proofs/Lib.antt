@@ -1,0 +1,5 @@
+pub mod Sendings
+pub mod Arrivals
+pub mod Ended
+pub mod LiveTargets
+pub mod Runs
