@@ -1,5 +1,5 @@
 -- What a deed leaves of requests that arrived: each keeps its device and, while it is there, its parent.
-use Rattle.std.proofs.Common.{if◌then◌else◌, ◌≡◌, ◌≢◌, ℕ, ◌+◌, ◌-◌, Bool, true, false, not, ◌&&◌, List, [], ◌∷◌, ◌⊎◌, inl, inr, fold, map, slice_set, refl, sym, ap, subst, ◌∙◌}
+use Rattle.std.proofs.Common.{if◌then◌else◌, ◌≡◌, ℕ, ◌+◌, ◌-◌, Bool, true, false, not, ◌&&◌, List, [], ◌∷◌, ◌⊎◌, inl, inr, fold, map, slice_set, refl, sym, ap, subst, ◌∙◌}
 use Rattle.wdf_base.specs.declared.plan.Plan.{Plan}
 use Rattle.wdf_base.specs.declared.call.Callback.{Callback}
 use Rattle.wdf_base.specs.declared.call.Callback.TheVariants as callback

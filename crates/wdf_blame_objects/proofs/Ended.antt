@@ -1,5 +1,5 @@
 -- A request that arrived and isn't live any more is done, unless its device goes too: each deed keeps this.
-use Rattle.std.proofs.Common.{◌≡◌, ◌≢◌, ℕ, ◌+◌, ◌==◌, ◌<◌, ◌≤◌, nat_lt, Bool, true, false, not, ◌&&◌, List, inl, inr, fold, length, refl, sym, ap, subst, ◌∙◌, arith, length-append}
+use Rattle.std.proofs.Common.{◌≡◌, ◌≢◌, ℕ, ◌==◌, ◌<◌, nat_lt, true, false, inl, inr, fold, length, refl, sym, ap, subst, ◌∙◌, arith}
 use Rattle.std.proofs.lemmas.Bool.{cases_Bool, eqb-true}
 use Rattle.wdf_base.specs.declared.plan.Plan.{Plan}
 use Rattle.wdf_base.specs.declared.object.Kind.TheVariants as kind
@@ -16,8 +16,8 @@ use Rattle.wdf_model.specs.parts.Requests.{Requests, is_done, moved, no_request,
 use Rattle.wdf_model.specs.parts.Requests as requests
 use Rattle.wdf_model.specs.State.{State}
 use Rattle.wdf_model.specs.rules.Deeds.{Deed, Arrive, Ask_deletion, Complete_request, arrive_at, ask_object, do_deed, give_up}
-use Rattle.wdf_model.specs.laws.Fits.{fits, is_arrival_place}
-use Rattle.wdf_model.proofs.Tests.{both_left, both_right, itself}
+use Rattle.wdf_model.specs.laws.Fits.{fits}
+use Rattle.wdf_model.proofs.Tests.{both_left, itself}
 use Rattle.wdf_model.proofs.Maps.{entry_before, entry_last, entry_put_other, entry_put_same}
 use Rattle.wdf_model.proofs.Counts.{one_or_two}
 use Rattle.wdf_model.proofs.Kept.{is_request}

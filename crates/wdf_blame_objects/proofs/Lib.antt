@@ -3,3 +3,4 @@ pub mod Arrivals
 pub mod Ended
 pub mod LiveTargets
 pub mod Runs
+pub mod Asked

@@ -1,11 +1,10 @@
 -- What is sent to a target is sent to a live target of the plan: each deed keeps this.
-use Rattle.std.proofs.Common.{◌≡◌, ◌≢◌, ℕ, ◌==◌, ◌≤◌, nat_lt, Bool, true, false, not, ◌&&◌, ◌||◌, List, inl, inr, is_some, count_by, fold, filter, map, refl, sym, ap, subst, ◌∙◌, arith}
+use Rattle.std.proofs.Common.{◌≡◌, ◌≢◌, ℕ, ◌==◌, ◌≤◌, nat_lt, Bool, true, false, not, ◌&&◌, ◌||◌, inl, inr, is_some, count_by, fold, refl, sym, ap, subst, ◌∙◌, arith}
 use Rattle.std.specs.List.{list_any}
 use Rattle.std.proofs.lemmas.Bool.{cases_Bool}
 use Rattle.std.proofs.lemmas.Bool.Decides.{nat_tests}
 use Rattle.wdf_base.specs.declared.plan.Plan.{Plan}
 use Rattle.wdf_base.specs.declared.object.Kind.TheVariants as kind
-use Rattle.wdf_base.specs.declared.value.Status.{Status}
 use Rattle.wdf_base.specs.Same.{same_kind}
 use Rattle.wdf_model.specs.declared.entries.Node.{Node}
 use Rattle.wdf_model.specs.declared.entries.Request.{Request}
@@ -21,15 +20,15 @@ use Rattle.wdf_model.specs.rules.Deeds.{Deed, Ask_deletion, Come_back, Complete_
 use Rattle.wdf_model.specs.rules.Calls.{may_send}
 use Rattle.wdf_model.specs.laws.Fits.{fits}
 use Rattle.wdf_model.proofs.Tests.{both_left, both_right, not_true}
-use Rattle.wdf_model.proofs.Counts.{by_request, filter_less, flag_yes, less_left, one_or_two}
+use Rattle.wdf_model.proofs.Counts.{by_request, filter_less, less_left, one_or_two}
 use Rattle.wdf_model.proofs.Kept.{sends}
 use Rattle.wdf_model.proofs.KeptMoves.{target_elsewhere}
 use Rattle.wdf_invariants.proofs.HeldMoves.{Placed}
 use Rattle.wdf_agreements.proofs.Queued.{any_entry}
 use Rattle.wdf_agreements.proofs.Stays.{gives_up}
-use Rattle.wdf_blame_whole.proofs.Standing.{Comes, Removable, asks_none, lives_by}
+use Rattle.wdf_blame_whole.proofs.Standing.{Comes, Removable, lives_by}
 use Rattle.wdf_blame_whole.proofs.Trees.{unasked_stays}
-use Rattle.wdf_blame_objects.proofs.Sendings.{AllFair, all_targets, is_of_targets, one_target, targets_stay}
+use Rattle.wdf_blame_objects.proofs.Sendings.{AllFair, all_targets, one_target, targets_stay}
 
 -- a target of the plan that is live
 abbrev pub is_there : {A : Type 0} → Plan → State A → ℕ → Bool

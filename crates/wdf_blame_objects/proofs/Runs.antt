@@ -1,6 +1,6 @@
 -- At each place of every run of a resolved plan, what is so of requests that arrived, of targets and of what is sent.
-use Rattle.std.proofs.Common.{◌≡◌, ℕ, zero, suc, ◌+◌, ◌==◌, ◌≤◌, nat_lt, Bool, true, false, ◌&&◌, List, [], ◌∷◌, ◌⊎◌, inl, inr, Option, Some, None, is_some, count_by, length, map, take, refl, sym, ap, subst, ◌∙◌, arith}
-use Rattle.std.specs.List.{list_all, range_with_len}
+use Rattle.std.proofs.Common.{◌≡◌, ℕ, zero, suc, ◌+◌, ◌==◌, ◌≤◌, true, false, List, [], ◌∷◌, ◌⊎◌, inl, inr, Option, Some, None, is_some, count_by, length, map, take, refl, ap, ◌∙◌, arith}
+use Rattle.std.specs.List.{range_with_len}
 use Rattle.wdf_base.specs.Meaning.{Meaning}
 use Rattle.wdf_base.specs.Resolved.{IsResolved}
 use Rattle.wdf_base.specs.declared.plan.Plan.{Plan}
@@ -8,7 +8,7 @@ use Rattle.wdf_base.specs.declared.declared.TargetInfo.{TargetInfo}
 use Rattle.wdf_base.specs.declared.event.Event.{Event}
 use Rattle.wdf_model.specs.Tables.{entry}
 use Rattle.wdf_model.specs.Plans.{target_of}
-use Rattle.wdf_model.specs.parts.Targets.{Target, Targets, no_target, opening_target, opening_targets, the_target}
+use Rattle.wdf_model.specs.parts.Targets.{Target, no_target, opening_target, opening_targets, the_target}
 use Rattle.wdf_model.specs.State.{State, opening}
 use Rattle.wdf_model.specs.rules.Deeds.{Deed, do_deed, do_deeds}
 use Rattle.wdf_model.specs.rules.Ready.{IsRunOf, ready, state_after}
@@ -25,7 +25,7 @@ use Rattle.wdf_agreements.proofs.SoundRuns.{all_sound}
 use Rattle.wdf_blame_whole.proofs.Standing.{AllComes, Stands}
 use Rattle.wdf_blame_whole.proofs.Coming.{event_comes}
 use Rattle.wdf_blame_whole.proofs.Runs.{Known, known_now, stands_now}
-use Rattle.wdf_blame_objects.proofs.Sendings.{AllFair, IsFair, fair_by}
+use Rattle.wdf_blame_objects.proofs.Sendings.{AllFair, fair_by}
 use Rattle.wdf_blame_objects.proofs.Ended.{EndsWell, ends_by, placed_then}
 use Rattle.wdf_blame_objects.proofs.LiveTargets.{SentToLive, sent_by}
 

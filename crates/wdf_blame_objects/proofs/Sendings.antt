@@ -1,6 +1,6 @@
 -- What each target has of what was sent to it: each deed keeps that one which doesn't come back isn't done, and that only a
 -- target of the plan has any depth.
-use Rattle.std.proofs.Common.{if◌then◌else◌, ◌≡◌, ℕ, ◌==◌, nat_lt, Bool, true, false, not, ◌&&◌, ◌||◌, List, [], ◌∷◌, inl, inr, Option, Some, None, is_some, filter, fold, map, refl, sym, ap, subst, ◌∙◌}
+use Rattle.std.proofs.Common.{◌≡◌, ℕ, ◌==◌, nat_lt, Bool, true, false, not, ◌&&◌, ◌||◌, List, [], ◌∷◌, inl, inr, is_some, filter, map, refl, sym, ap, subst, ◌∙◌}
 use Rattle.std.specs.List.{list_all}
 use Rattle.wdf_base.specs.declared.plan.Plan.{Plan}
 use Rattle.wdf_base.specs.declared.object.Place.{Place}
@@ -15,14 +15,13 @@ use Rattle.wdf_model.specs.parts.Control as control
 use Rattle.wdf_model.specs.parts.Queues.{waiting_in}
 use Rattle.wdf_model.specs.parts.Requests as requests
 use Rattle.wdf_model.specs.parts.Targets.{Target, Targets, done_sending, is_at_target, new_sending, no_target, sending_in_order, target_done, the_target, with_target, without_sending}
-use Rattle.wdf_model.specs.parts.Targets as targets
 use Rattle.wdf_model.specs.State.{State}
 use Rattle.wdf_model.specs.rules.Deeds.{Deed, Arrive, Ask_deletion, Close_device, Close_returning, Come_back, Complete_request, Finish_sending, Forward, Give_back, Purge_queue, Requeue, Send_request, Start_target, Stop_target, arrive_at, do_deed, give_up}
 use Rattle.wdf_model.proofs.Tests.{both, both_left, both_right}
 use Rattle.wdf_model.proofs.Maps.{entry_map}
 use Rattle.wdf_model.proofs.Counts.{done_asks, left_over, one_or_two}
 use Rattle.wdf_model.proofs.KeptMoves.{target_elsewhere, target_here}
-use Rattle.wdf_agreements.proofs.Stays.{asks_all, gives_up, gives_up_if, queues_closed, returns_closed, withdraws}
+use Rattle.wdf_agreements.proofs.Stays.{asks_all, gives_up, queues_closed, returns_closed, withdraws}
 
 -- ---- the deeds that leave the targets alone
 
