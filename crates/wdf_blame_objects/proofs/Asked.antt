@@ -1,8 +1,8 @@
 -- The line of an object that is being deleted always has a cause.
 use Rattle.std.proofs.Common.{if◌then◌else◌, ◌≡◌, ◌≢◌, ℕ, zero, suc, ◌+◌, ◌==◌, ◌<◌, ◌≤◌, nat_lt, Bool, true, false, not, ◌&&◌, ◌||◌, List, [], ◌∷◌, inl, inr, Option, Some, None, is_some, count_by, find, length, map, slice_get, refl, sym, ap, subst, ◌∙◌, arith}
 use Rattle.std.specs.Prelude.{option_and_then, option_map}
-use Rattle.std.specs.List.{list_all, list_any}
-use Rattle.std.proofs.lemmas.Bool.{cases_Bool, eqb-true}
+use Rattle.std.specs.List.{list_all}
+use Rattle.std.proofs.lemmas.Bool.{eqb-true}
 use Rattle.wdf_base.specs.Meaning.{Meaning}
 use Rattle.wdf_base.specs.Plan.{declared_of}
 use Rattle.wdf_base.specs.Resolved.{IsResolved, declared_complete}
@@ -26,13 +26,12 @@ use Rattle.wdf_base.specs.declared.value.Status.{Status}
 use Rattle.wdf_base.specs.declared.wait.Cause.{Cause}
 use Rattle.wdf_base.specs.declared.wait.Cause.TheVariants as cause
 use Rattle.wdf_base.specs.declared.wait.OpenThing.TheVariants as thing
-use Rattle.wdf_model.specs.declared.entries.Request.{Request}
 use Rattle.wdf_model.specs.declared.entries.Sending.{Sending}
 use Rattle.wdf_model.specs.declared.enums.Group.TheVariants as group
-use Rattle.wdf_model.specs.Tables.{entry, flag, least}
-use Rattle.wdf_model.specs.Plans.{as_target, declared_ids, declares, device_of, script_on, target_of, targets_of}
-use Rattle.wdf_model.specs.parts.Tree.{gone, is_asked, is_cleaned, is_gone, is_live, kind_of, life_of, made_as, next_id, node_of, parent_of, started}
-use Rattle.wdf_model.specs.parts.Requests.{has_arrived, is_done, is_sent, is_sent_to, no_request, place_of, request_of}
+use Rattle.wdf_model.specs.Tables.{flag, least}
+use Rattle.wdf_model.specs.Plans.{as_target, declared_ids, declares, script_on, target_of, targets_of}
+use Rattle.wdf_model.specs.parts.Tree.{gone, is_asked, is_cleaned, is_gone, is_live, kind_of, life_of, made_as, next_id, node_of, started}
+use Rattle.wdf_model.specs.parts.Requests.{is_done, is_sent, is_sent_to, place_of}
 use Rattle.wdf_model.specs.parts.Targets.{Targets, is_at_target, is_undone, is_undone_sending, routine_due, routine_outcome, sending_of, the_target}
 use Rattle.wdf_model.specs.State.{State, declares_in, handle_in, is_proper, nothing_at}
 use Rattle.wdf_model.specs.rules.Groups.{candidates, groups_of_rank, RANKS, starts_for}
@@ -51,10 +50,10 @@ use Rattle.wdf_blame.proofs.Needs.{below_cpus, cpu_group, five, free_one, none_f
 use Rattle.wdf_blame_causes.proofs.Presents.{declared_within, kept_has}
 use Rattle.wdf_blame_whole.proofs.Belonging.{target_found}
 use Rattle.wdf_blame_whole.proofs.Lines.{line_tells}
-use Rattle.wdf_blame_whole.proofs.Runs.{Known, known_now, stands_now}
-use Rattle.wdf_blame_whole.proofs.Standing.{Stands}
+use Rattle.wdf_blame_whole.proofs.Runs.{Known, known_now}
 use Rattle.wdf_blame_objects.proofs.Runs.{GoesWell, goes_well}
 use Rattle.wdf_blame_objects.proofs.Sendings.{comes_or_waits}
+use Rattle.wdf_blame_objects.proofs.Places.{nothing_there, request_done}
 
 -- ---- lists
 
@@ -86,15 +85,6 @@ one_of_all : {T : Type 0} (p : T → Bool) (xs : List T) (k : ℕ) (x : T) → l
 one_of_all p [] k x h e = absurd (let z : ⊥ = cc in z)
 one_of_all p (y ∷ ys) zero x h e = let same : y ≡ x = cc in subst (λ z. p z ≡ true) same (both_left (p y) (list_all p ys) h)
 one_of_all p (y ∷ ys) (suc k) x h e = one_of_all p ys k x (both_right (p y) (list_all p ys) h) e
-
--- where an entry passes, some id's does
-entry_by : {T : Type 0} (blank : T) (p : T → Bool) (x : T) (xs : List T) (b : Bool) → p x ≡ b → list_any p (x ∷ xs) ≡ true → (list_any p xs ≡ true → (r : ℕ) × (p (entry blank xs r) ≡ true)) → (r : ℕ) × (p (entry blank (x ∷ xs) r) ≡ true)
-entry_by blank p x xs true e h rest = (0, e)
-entry_by blank p x xs false e h rest = let k = rest (rw e at h) in (suc k.0, k.1)
-
-entry_of : {T : Type 0} (blank : T) (p : T → Bool) (xs : List T) → list_any p xs ≡ true → (r : ℕ) × (p (entry blank xs r) ≡ true)
-entry_of blank p [] h = absurd (let z : ⊥ = cc in z)
-entry_of blank p (x ∷ xs) h = entry_by blank p x xs (p x) refl h (entry_of blank p xs)
 
 has_image : {T U : Type 0} (f : T → U) (x : T) (xs : List T) → Has x xs → Has (f x) (map f xs)
 has_image f x [] h = h
@@ -162,41 +152,6 @@ module _ {A : Type 0} (plan : Plan) (m : Meaning A) (run : List Event) (resolved
   well : GoesWell plan (state_after plan m run)
   well = goes_well plan m run resolved is_run
 
-  stands : Stands plan (state_after plan m run)
-  stands = stands_now plan m run resolved is_run
-
-  -- ---- an object that isn't live has nothing sent to it
-
-  nothing_there : (o : ℕ) → is_live (life_of S.tree o) ≡ false → nothing_at S o ≡ true
-  nothing_there o off = by (list_any (λ (r : Request). is_sent_to o r.place) S.requests.all) refl
-    where
-      by : (b : Bool) → list_any (λ (r : Request). is_sent_to o r.place) S.requests.all ≡ b → nothing_at S o ≡ true
-      by false e = ap not e
-      by true e = absurd (
-          let r = entry_of no_request (λ (r : Request). is_sent_to o r.place) S.requests.all e in
-          let n = known.placed.sent o r.0 in
-          let one : flag (is_sent_to o (place_of S.requests r.0)) ≡ 1 = ap flag r.1 in
-          let live : is_live (life_of S.tree o) ≡ true = well.sent.lives o r.0 (omega arith) in
-          let z : ⊥ = cc in z)
-
-  -- ---- a request that arrived and isn't live is done
-
-  undone_by : (a b : Bool) → a ≡ true → b ≡ false → (a && not b) ≡ true
-  undone_by true b h e = ap not e
-  undone_by false b h e = absurd (let z : ⊥ = cc in z)
-
-  request_done : (o : ℕ) → is_request S.tree o ≡ true → is_live (life_of S.tree o) ≡ false → is_done (place_of S.requests o) ≡ true
-  request_done o is off = elim (cases_Bool (is_done (place_of S.requests o))) [
-    | inl e ↦ e
-    | inr undone ↦ absurd (
-        let came : has_arrived (request_of S.requests o) ≡ true = known.placed.kinds o is in
-        let d : ℕ = (request_of S.requests o).info.device.0 in
-        let dev : (is_some (device_of plan d) && is_live (life_of S.tree d)) ≡ true = (stands.opened o).1 (undone_by (has_arrived (request_of S.requests o)) (is_done (place_of S.requests o)) came undone) in
-        let live : is_live (life_of S.tree (parent_of S.tree o)) ≡ true = subst (λ y. is_live (life_of S.tree y) ≡ true) (sym (well.ends.owner o is)) (both_right (is_some (device_of plan d)) (is_live (life_of S.tree d)) dev) in
-        let done : is_done (place_of S.requests o) ≡ true = well.ends.ended o is off live in
-        let z : ⊥ = cc in z)
-  ]
-
   -- ---- a request that the driver made and sent
 
   target_is : (t : ℕ) (x : Option TargetInfo) → target_of plan t ≡ x → is_some x ≡ true → (i : TargetInfo) × (declared_of plan t ≡ Some (declared.Target i))
@@ -234,17 +189,17 @@ module _ {A : Type 0} (plan : Plan) (m : Meaning A) (run : List Event) (resolved
       let of_plan : Has t (targets_of plan) = kept_has (λ id. is_some (target_of plan id)) t (declared_ids plan) (has_range t 0 (suc (length plan.declared)) (omega arith) (omega arith)) is in
       let place_low = f.low in
       let here : option_map (λ (s : Sending). starts_for plan S left.0 callback.EvtRequestCompletion t s.request.0) (slice_get (the_target S.targets t).sent f.at) ≡ Some e =
-          ap (option_map (λ (s : Sending). starts_for plan S left.0 callback.EvtRequestCompletion t s.request.0)) f.there ∙ ap (λ r. Some (starts_for plan S left.0 callback.EvtRequestCompletion t r)) (eqb-true f.it.request.0 o f.passes) in
+      ap (option_map (λ (s : Sending). starts_for plan S left.0 callback.EvtRequestCompletion t s.request.0)) f.there ∙ ap (λ r. Some (starts_for plan S left.0 callback.EvtRequestCompletion t r)) (eqb-true f.it.request.0 o f.passes) in
       let offered : Has e (candidates plan m S) =
-          cpu_group plan m S left.0 (group.StartsFor left.0 rank.Completion t) e within
-          (inr (inr (inr (has_flat (groups_of_rank plan left.0) rank.Completion (group.StartsFor left.0 rank.Completion t) RANKS (inr (inr (inr (inl refl)))) (has_image (λ o. group.StartsFor left.0 rank.Completion o) t (targets_of plan) of_plan)))))
-          (placed_at plan m S (group.StartsFor left.0 rank.Completion t) (length (the_target S.targets t).sent) f.at e place_low here) in
+      cpu_group plan m S left.0 (group.StartsFor left.0 rank.Completion t) e within
+      (inr (inr (inr (has_flat (groups_of_rank plan left.0) rank.Completion (group.StartsFor left.0 rank.Completion t) RANKS (inr (inr (inr (inl refl)))) (has_image (λ o. group.StartsFor left.0 rank.Completion o) t (targets_of plan) of_plan)))))
+      (placed_at plan m S (group.StartsFor left.0 rank.Completion t) (length (the_target S.targets t).sent) f.at e place_low here) in
       let no : may plan m S e ≡ false = may_not plan m S true e rest offered in
       let comes : may plan m S e ≡ true =
-          proper_start (nat_lt left.0 plan.cpus) (is_proper plan S (handle_in plan S t)) (is_proper plan S (handle_in plan S o)) (may_start plan m S left.0 callback.EvtRequestCompletion t (Some (handle_in plan S o)))
-          (below_cpus left.0 plan.cpus within) (itself (handle_in plan S t).name) (itself (handle_in plan S o).name)
-          (five (declares_in plan S callback.EvtRequestCompletion t) (is_live (life_of S.tree t)) (level_fits S left.0 2) true (is_sent_to t (place_of S.requests o) && is_some (routine_due S.targets o))
-          (routine_there t i at live) live left.2 refl (both (is_sent_to t (place_of S.requests o)) (is_some (routine_due S.targets o)) there due)) in
+      proper_start (nat_lt left.0 plan.cpus) (is_proper plan S (handle_in plan S t)) (is_proper plan S (handle_in plan S o)) (may_start plan m S left.0 callback.EvtRequestCompletion t (Some (handle_in plan S o)))
+      (below_cpus left.0 plan.cpus within) (itself (handle_in plan S t).name) (itself (handle_in plan S o).name)
+      (five (declares_in plan S callback.EvtRequestCompletion t) (is_live (life_of S.tree t)) (level_fits S left.0 2) true (is_sent_to t (place_of S.requests o) && is_some (routine_due S.targets o))
+      (routine_there t i at live) live left.2 refl (both (is_sent_to t (place_of S.requests o)) (is_some (routine_due S.targets o)) there due)) in
       let z : ⊥ = cc in z
 
   waits_or_due : (T : Targets) (o : ℕ) (s : Sending) → sending_of T o ≡ Some s → comes_or_waits s ≡ true → is_undone T o ≡ false → is_some (routine_due T o) ≡ true
@@ -278,13 +233,13 @@ module _ {A : Type 0} (plan : Plan) (m : Meaning A) (run : List Event) (resolved
       let last = none_first (at_target plan S o) [] d.1 in
       let cpus : object_cpus plan S o ≡ false = none_if (object_cpus plan S o) cause.NoCpu d.0 in
       let shown : (if is_undone S.targets o then Some (cause.AtTarget (handle_in plan S t.0)) else None) ≡ None =
-          sym (ap (λ p. if is_undone S.targets o then option_map (λ x. cause.AtTarget (handle_in plan S x)) (target_of_place p) else None) at) ∙ last.0 in
+      sym (ap (λ p. if is_undone S.targets o then option_map (λ x. cause.AtTarget (handle_in plan S x)) (target_of_place p) else None) at) ∙ last.0 in
       let done : is_undone S.targets o ≡ false = no_target_cause (is_undone S.targets o) (cause.AtTarget (handle_in plan S t.0)) shown in
       let due : is_some (routine_due S.targets o) ≡ true = waits_or_due S.targets o f.it it (one_of_all comes_or_waits (the_target S.targets t.0).sent f.at f.it (well.fair t.0).sent f.there) done in
       let free : no_cpu plan S 2 ≡ false =
-          no_routine_cpu
-          ((clean_ready S o && declares_in plan S callback.EvtCleanupCallback o && not (started S.tree o callback.EvtCleanupCallback)) || (destroy_ready S o && declares_in plan S callback.EvtDestroyCallback o && not (started S.tree o callback.EvtDestroyCallback)))
-          (no_cpu plan S 0) (is_some (routine_due S.targets o)) (no_cpu plan S 2) cpus due in
+      no_routine_cpu
+      ((clean_ready S o && declares_in plan S callback.EvtCleanupCallback o && not (started S.tree o callback.EvtCleanupCallback)) || (destroy_ready S o && declares_in plan S callback.EvtDestroyCallback o && not (started S.tree o callback.EvtDestroyCallback)))
+      (no_cpu plan S 0) (is_some (routine_due S.targets o)) (no_cpu plan S 2) cpus due in
       no_routine o t.0 i.0 i.1 live there due f free
 
   -- ---- the law
@@ -298,7 +253,7 @@ module _ {A : Type 0} (plan : Plan) (m : Meaning A) (run : List Event) (resolved
       either_true false b h = h
 
   request_by : (o : ℕ) (b : Bool) → is_request S.tree o ≡ b → is_live (life_of S.tree o) ≡ false → (not (same_kind (kind_of S.tree o) kind.Request) || is_done (place_of S.requests o)) ≡ true
-  request_by o true e off = rw e (request_done o e off)
+  request_by o true e off = rw e (request_done plan m run resolved is_run o e off)
   request_by o false e off = rw e refl
 
   asked_named : (o : ℕ) → o < next_id S.tree → is_asked (life_of S.tree o) ≡ true → is_some (object_cause plan S o) ≡ true
@@ -306,11 +261,11 @@ module _ {A : Type 0} (plan : Plan) (m : Meaning A) (run : List Event) (resolved
       some_or (object_cause plan S o) (λ none.
       let off : is_live (life_of S.tree o) ≡ false = asked_off (life_of S.tree o) asked in
       let made : (not (same_kind (kind_of S.tree o) kind.Made) || not (is_sent (place_of S.requests o))) ≡ true =
-          made_by o (is_sent (place_of S.requests o)) refl (λ sent. let t = sent_where (place_of S.requests o) sent in sent_waits o t.0 t.1 none) in
+      made_by o (is_sent (place_of S.requests o)) refl (λ sent. let t = sent_where (place_of S.requests o) sent in sent_waits o t.0 t.1 none) in
       let finished : is_finished S o ≡ true =
-          both (not (same_kind (kind_of S.tree o) kind.Request) || is_done (place_of S.requests o)) (not (same_kind (kind_of S.tree o) kind.Made) || not (is_sent (place_of S.requests o))) (request_by o (is_request S.tree o) refl off) made in
+      both (not (same_kind (kind_of S.tree o) kind.Request) || is_done (place_of S.requests o)) (not (same_kind (kind_of S.tree o) kind.Made) || not (is_sent (place_of S.requests o))) (request_by o (is_request S.tree o) refl off) made in
       let named : (is_cleaned (life_of S.tree o) || (is_finished S o && nothing_at S o)) ≡ true =
-          second (is_cleaned (life_of S.tree o)) (is_finished S o && nothing_at S o) (both (is_finished S o) (nothing_at S o) finished (nothing_there o off)) in
+      second (is_cleaned (life_of S.tree o)) (is_finished S o && nothing_at S o) (both (is_finished S o) (nothing_at S o) finished (nothing_there plan m run resolved is_run o off)) in
       let some : is_some (object_cause plan S o) ≡ true = object_named plan m S rest o low (first (is_asked (life_of S.tree o)) (is_cleaned (life_of S.tree o)) asked) named in
       none_some (object_cause plan S o) none some)
 

@@ -3,4 +3,7 @@ pub mod Arrivals
 pub mod Ended
 pub mod LiveTargets
 pub mod Runs
+pub mod Places
 pub mod Asked
+pub mod Spinning
+pub mod Told

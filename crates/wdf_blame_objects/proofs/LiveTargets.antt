@@ -98,7 +98,7 @@ sent_one {A} plan S r t forget f fair k =
     let it = sends_to plan S r t forget f fair in
     let l = lives_by plan (Send_request r t forget) S refl f in
     let other : (u x : ℕ) → u ≢ t → 1 ≤ sends U.targets u x → 1 ≤ sends S.targets u x = λ u x n h.
-        subst (λ (y : Target). 1 ≤ count_by (λ s. s.request.0 == x) y.sent) (target_elsewhere S.targets t u (λ y. record y { sent = sending_in_order (new_sending r forget) y.sent }) n) h in
+    subst (λ (y : Target). 1 ≤ count_by (λ s. s.request.0 == x) y.sent) (target_elsewhere S.targets t u (λ y. record y { sent = sending_in_order (new_sending r forget) y.sent }) n) h in
     record {
       targets = λ u x h. elim (one_or_two u t) [
         | inl e ↦ subst (λ y. is_some (target_of plan y) ≡ true) (sym e) it.0

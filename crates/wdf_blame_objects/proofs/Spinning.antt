@@ -1,0 +1,73 @@
+-- In a stuck run each processor that has a frame spins.
+use Rattle.std.proofs.Common.{◌≡◌, ℕ, ◌==◌, ◌<◌, nat_le, Bool, true, false, ◌&&◌, List, [], ◌∷◌, inl, inr, Option, Some, None, option_map, refl, sym, ap, subst, arith}
+use Rattle.std.proofs.lemmas.Bool.{cases_Bool}
+use Rattle.std.proofs.lemmas.Bool.Decides.{nat_tests}
+use Rattle.wdf_base.specs.Meaning.{Meaning}
+use Rattle.wdf_base.specs.declared.plan.Plan.{Plan}
+use Rattle.wdf_base.specs.declared.event.Event.{Event}
+use Rattle.wdf_base.specs.declared.event.Ending.TheVariants as ending
+use Rattle.wdf_model.specs.declared.enums.Group.TheVariants as group
+use Rattle.wdf_model.specs.Tables.{first_of_list, same_id}
+use Rattle.wdf_model.specs.parts.Cpus.{frame_of, irql, level_of_top, stack_of, top}
+use Rattle.wdf_model.specs.State.{State}
+use Rattle.wdf_model.specs.rules.Groups.{candidates, parks}
+use Rattle.wdf_model.specs.rules.Ready.{IsRunOf, ending_of, state_after}
+use Rattle.wdf_model.specs.rules.Steps.{may, waits_on}
+use Rattle.wdf_model.proofs.Tests.{both, itself}
+use Rattle.wdf_blame.specs.Causes.{is_taken}
+use Rattle.wdf_blame.proofs.Members.{Has}
+use Rattle.wdf_blame.proofs.Endings.{AtRest, at_rest, may_not}
+use Rattle.wdf_blame.proofs.Needs.{cpu_group, placed_at}
+use Rattle.wdf_blame.proofs.Tops.{top_waits}
+use Rattle.wdf_blame_objects.specs.Spinning.{Spins}
+
+same_top : (o : Option ℕ) (f : ℕ) → o ≡ Some f → same_id o f ≡ true
+same_top o f e = subst (λ x. same_id x f ≡ true) (sym e) (itself f)
+
+three : (a b c : Bool) → a ≡ true → b ≡ true → c ≡ true → (a && b && c) ≡ true
+three a b c h k l = both (a && b) c (both a b h k) l
+
+module _ {A : Type 0} (plan : Plan) (m : Meaning A) (S : State A) (rest : AtRest plan m S true) where
+  -- a frame that waits at level 0 leaves its processor
+  no_park : (cpu f : ℕ) → cpu < plan.cpus → top S.cpus cpu ≡ Some f → waits_on S (frame_of S.cpus f).pending ≡ true → (irql S.cpus cpu == 0) ≡ true → ⊥
+  no_park cpu f low at waits free =
+      let e : Event = parks cpu f in
+      let offered : Has e (candidates plan m S) = cpu_group plan m S cpu (group.Parks cpu) e low (inr (inl refl)) (placed_at plan m S (group.Parks cpu) 1 0 e (omega arith) (ap (option_map (parks cpu)) at)) in
+      let no : may plan m S e ≡ false = may_not plan m S true e rest offered in
+      let comes : may plan m S e ≡ true = three (same_id (top S.cpus cpu) f) (irql S.cpus cpu == 0) (waits_on S (frame_of S.cpus f).pending) (same_top (top S.cpus cpu) f at) free waits in
+      let z : ⊥ = cc in z
+
+  spins_by : (cpu f : ℕ) → cpu < plan.cpus → top S.cpus cpu ≡ Some f → Spins S cpu
+  spins_by cpu f low at =
+      let waits = top_waits plan m S rest cpu f low at in
+      record {
+        frame = f;
+        top = at;
+        waits = waits;
+        level = elim (cases_Bool (irql S.cpus cpu == 0)) [
+          | inl e ↦ absurd (no_park cpu f low at waits e)
+          | inr e ↦ e
+        ];
+      }
+
+  -- a processor that is taken has a frame
+  empty_free : (level cpu : ℕ) (fs : List ℕ) (b : Bool) → (level == 0) ≡ b → stack_of S.cpus cpu ≡ fs → first_of_list fs ≡ None → is_taken S level cpu ≡ true → ⊥
+  empty_free level cpu (f ∷ fs) b e at none h = let z : ⊥ = cc in z
+  empty_free level cpu [] true e at none h = absurd (let off : is_taken S level cpu ≡ false = rw (e, at) refl in let z : ⊥ = cc in z)
+  empty_free level cpu [] false e at none h =
+      let ground_ : irql S.cpus cpu ≡ 0 = ap (λ fs. level_of_top S.cpus (first_of_list fs)) at in
+      let high : nat_le level (irql S.cpus cpu) ≡ true = rw e at h in
+      absurd (too_high level (irql S.cpus cpu) e ground_ high)
+    where
+      too_high : (n k : ℕ) → (n == 0) ≡ false → k ≡ 0 → nat_le n k ≡ true → ⊥
+      too_high n k off zero_ high = grind (arith, nat_tests)
+
+  taken_spins : (level cpu : ℕ) → cpu < plan.cpus → is_taken S level cpu ≡ true → Spins S cpu
+  taken_spins level cpu low h = by (top S.cpus cpu) refl
+    where
+      by : (o : Option ℕ) → top S.cpus cpu ≡ o → Spins S cpu
+      by (Some f) e = spins_by cpu f low e
+      by None e = absurd (empty_free level cpu (stack_of S.cpus cpu) (level == 0) refl refl e h)
+
+pub taken_processors_spin : {A : Type 0} (plan : Plan) (m : Meaning A) (run : List Event) → IsRunOf plan m run → ending_of plan m run ≡ ending.Stuck → (level cpu : ℕ) → cpu < plan.cpus → is_taken (state_after plan m run) level cpu ≡ true → Spins (state_after plan m run) cpu
+taken_processors_spin plan m run is_run ends level cpu low h = taken_spins plan m (state_after plan m run) (at_rest plan m run true ends) level cpu low h
