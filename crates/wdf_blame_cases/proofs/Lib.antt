@@ -1,1 +1,3 @@
+mod Over
 pub mod StuckRuns
+pub mod SpinningRuns

@@ -1,1 +1,2 @@
 pub mod StuckRuns
+pub mod SpinningRuns
