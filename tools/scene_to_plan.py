@@ -5,12 +5,14 @@
     tools/scene_to_plan.py proofs tools/runs/power/*.scn > crates/wdf_worked/proofs/RunsOfPower.antt
     tools/scene_to_plan.py specs tools/stuck/*.scn > crates/wdf_blame_cases/specs/StuckRuns.antt
     tools/scene_to_plan.py proofs tools/stuck/*.scn > crates/wdf_blame_cases/proofs/StuckRuns.antt
+    tools/scene_to_plan.py specs tools/silent/*.scn > crates/wdf_blame_cases/specs/SilentRuns.antt
 
 Each argument after the first is the path of a scenario `NAME.scn` with its trace beside it in `NAME.out`;
 NAME names the run. `specs` gives the plan, the events and the wait list of each, `proofs` that the definitions
-of wdf_model compute them. The runs of tools/stuck and tools/spinning are for crates/wdf_blame_cases. What
-it writes still has to go through `rt tidy` in the crate. It serves the worked runs alone: what the program
-reads is read by its own parser.
+of wdf_model compute them. The runs of tools/stuck and tools/spinning are for crates/wdf_blame_cases, and so
+are those of tools/silent, which targets never answer: of these only the specs are written here. What it writes
+still has to go through `rt tidy` in the crate. It serves the worked runs alone: what the program reads is read
+by its own parser.
 """
 import os
 import re
@@ -531,7 +533,7 @@ class Script:
 
 
 # The modules of the stuck runs.
-BLAMED = {"stuck": "wdf_blame_cases.specs.StuckRuns", "spinning": "wdf_blame_cases.specs.SpinningRuns"}
+BLAMED = {name: f"wdf_blame_cases.specs.{name.capitalize()}Runs" for name in ("stuck", "spinning", "silent")}
 
 SPECS_HEAD = """-- Worked runs: the plan of each, its events, and what it waits for where it is stuck. Made by
 -- tools/scene_to_plan.py from the scenarios and traces of FOLDER.

@@ -1,2 +1,4 @@
 pub mod StuckRuns
 pub mod SpinningRuns
+pub mod Silence
+pub mod SilentRuns
