@@ -5,5 +5,6 @@ pub mod LiveTargets
 pub mod Runs
 pub mod Places
 pub mod Asked
+pub mod Calm
 pub mod Spinning
 pub mod Told

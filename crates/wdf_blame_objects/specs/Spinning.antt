@@ -1,18 +1,31 @@
 -- Processors that spin, and steps that wait.
 use Rattle.std.specs.Prelude.{◌≡◌, ℕ, Bool, true, false, ◌==◌, Some}
+use Rattle.wdf_base.specs.declared.call.CallKind.{CallKind}
+use Rattle.wdf_base.specs.declared.call.CallKind.TheVariants as call
+use Rattle.wdf_base.specs.declared.frame.Pending.{Pending}
 use Rattle.wdf_base.specs.declared.event.Stage.{Stage}
 use Rattle.wdf_base.specs.declared.event.Stage.TheVariants as stage
 use Rattle.wdf_base.specs.declared.event.Step.{Step}
 use Rattle.wdf_base.specs.declared.event.Step.TheVariants as step
 use Rattle.wdf_model.specs.parts.Cpus.{frame_of, irql, top}
 use Rattle.wdf_model.specs.State.{State}
-use Rattle.wdf_model.specs.rules.Steps.{waits_on}
+use Rattle.wdf_model.specs.rules.Calls.{is_met}
 
--- the top frame of a processor spins: it waits in a call whose condition isn't met, at a level above 0, so it doesn't leave
+-- the calls that spin: a frame that waits in one has the lock's level, and stays on its processor
+abbrev pub is_spin_call : CallKind → Bool
+is_spin_call call.WdfSpinLockAcquire = true
+is_spin_call call.WdfInterruptAcquireLock = true
+is_spin_call _ = false
+
+-- the top frame of a processor spins: it waits for a spin lock or for an interrupt's lock, which isn't free, at a level above
+-- 0, so it doesn't leave
 pub record Spins {A : Type 0} (S : State A) (cpu : ℕ) : Type 0 where
   pub frame : ℕ
+  pub pending : Pending
   pub top : top S.cpus cpu ≡ Some frame
-  pub waits : waits_on S (frame_of S.cpus frame).pending ≡ true
+  pub waits : (frame_of S.cpus frame).pending ≡ Some pending
+  pub spins : is_spin_call pending.call.kind ≡ true
+  pub unmet : is_met S pending.call ≡ false
   pub level : (irql S.cpus cpu == 0) ≡ false
 
 abbrev pub is_waiting_stage : Stage → Bool
