@@ -23,6 +23,7 @@ LAW_CRATES = {
     "wdf_blame",
     "wdf_blame_causes",
     "wdf_blame_whole",
+    "wdf_blame_objects",
     "wdf_blame_cases",
     "wdf_room",
     "wdf_ready_once",

@@ -3,12 +3,16 @@
 
     tools/scene_to_plan.py specs tools/runs/power/*.scn > crates/wdf_worked/specs/RunsOfPower.antt
     tools/scene_to_plan.py proofs tools/runs/power/*.scn > crates/wdf_worked/proofs/RunsOfPower.antt
+    tools/scene_to_plan.py specs tools/stuck/*.scn > crates/wdf_blame_cases/specs/StuckRuns.antt
+    tools/scene_to_plan.py proofs tools/stuck/*.scn > crates/wdf_blame_cases/proofs/StuckRuns.antt
+    tools/scene_to_plan.py specs tools/silent/*.scn > crates/wdf_blame_cases/specs/SilentRuns.antt
 
 Each argument after the first is the path of a scenario `NAME.scn` with its trace beside it in `NAME.out`;
 NAME names the run. `specs` gives the plan, the events and the wait list of each, `proofs` that the definitions
-of wdf_model compute them. What it writes still has to go through `rt tidy` in crates/wdf_worked. For
-tools/stuck, which crates/wdf_blame_cases has, the names of the modules are changed by hand. It serves
-the worked runs alone: what the program reads is read by its own parser.
+of wdf_model compute them. The runs of tools/stuck and tools/spinning are for crates/wdf_blame_cases, and so
+are those of tools/silent, which targets never answer: of these only the specs are written here. What it writes
+still has to go through `rt tidy` in the crate. It serves the worked runs alone: what the program reads is read
+by its own parser.
 """
 import os
 import re
@@ -373,7 +377,16 @@ class Scene:
             return f"event.Complete {self.printed(w[1])} status.{STATUS[w[2]]}"
         return f"event.{w[0].capitalize()} {self.printed(w[1])}"
 
-    def wait_line(self, text):
+    def interrupt_of_step(self, device, step):
+        """The interrupt of a device's step, which its line doesn't print: the device must have one alone."""
+        if step not in ("enabled", "disabled", "EvtInterruptEnable", "EvtInterruptDisable"):
+            return "None"
+        owner = int(device.split(".")[1])
+        [interrupt] = [o for o in self.objects if o["kind"] == "interrupt" and o["device"] == owner]
+        return f"(Some {self.handle(interrupt['word'])})"
+
+    def wait_line(self, text, deleted):
+        """A line of a wait list. A request that the driver made, sent and deleted has two: the second one is the object's."""
         w = text.split()
         if w[0] == "frame":
             thing = f"thing.Waiting (f {w[1]}) callback.{w[2]} {self.printed(w[3])}"
@@ -382,7 +395,7 @@ class Scene:
             return f"line (thing.Asking {self.printed(w[2])}) None"
         elif w[1] == "owned":
             return f"line (thing.Owned {self.printed(w[0])}) None"
-        elif w[1] == "sent" and w[0].startswith("req."):
+        elif w[1] == "sent" and not deleted:
             return f"line (thing.Sent {self.printed(w[0])} {self.printed(w[2])}) None"
         elif w[1] in ("queued", "returning") and len(w) > 2 and "." in w[2]:
             thing = f"thing.{w[1].capitalize()} {self.printed(w[0])} {self.printed(w[2])}"
@@ -390,10 +403,11 @@ class Scene:
         elif w[1] == "queued":
             thing, cause = f"thing.Deferred {self.printed(w[0])}", w[2:]
         elif len(w) > 2 and w[2] == "waits":
+            interrupt = self.interrupt_of_step(w[0], w[1])
             if w[1] in STAGES:
-                step = f"(step.Pass stage.{STAGES[w[1]]} None)"
+                step = f"(step.Pass stage.{STAGES[w[1]]} {interrupt})"
             else:
-                step = f"(step.Run callback.{w[1]} None)"
+                step = f"(step.Run callback.{w[1]} {interrupt})"
             thing, cause = f"thing.Sequence {self.printed(w[0])} {step}", w[3:]
         else:
             thing, cause = f"thing.Leaving {self.printed(w[0])}", w[1:]
@@ -518,8 +532,11 @@ class Script:
                 f"      statements = {body} }})")
 
 
+# The modules of the stuck runs.
+BLAMED = {name: f"wdf_blame_cases.specs.{name.capitalize()}Runs" for name in ("stuck", "spinning", "silent")}
+
 SPECS_HEAD = """-- Worked runs: the plan of each, its events, and what it waits for where it is stuck. Made by
--- tools/scene_to_plan.py from the scenarios and traces of tools/runs.
+-- tools/scene_to_plan.py from the scenarios and traces of FOLDER.
 use Rattle.std.specs.Prelude.{List, [], ◌∷◌, Some, None, true, false, codes}
 use Rattle.wdf_base.specs.declared.ids.Handle.{Handle}
 use Rattle.wdf_base.specs.declared.declared.Declared.TheVariants as declared
@@ -564,8 +581,11 @@ use Rattle.wdf_model.specs.laws.Course.{run_by}
 use Rattle.wdf_model.specs.rules.Script.{value_of}
 use Rattle.wdf_model.proofs.Course.{worked_of}
 use Rattle.wdf_worked.specs.Shown.{IsShown, is_kept}
-use Rattle.wdf_worked.proofs.Ended.{over}
 """
+
+# Where a run's ending is another than that it goes on.
+OVER = "use Rattle.wdf_worked.proofs.Ended.{over}\n"
+STUCK_OVER = "use Rattle.wdf_blame_cases.proofs.Over.{stuck_is_over}\n"
 
 class Run:
     """A worked run: its scenario, its events, its ending and its wait list."""
@@ -580,7 +600,8 @@ class Run:
         self.ending = "ending." + words[0].capitalize()
         if words[0] == "fault":
             self.ending = "(ending.Fault " + self.events[-1].split()[3] + ")"
-        self.waits = [self.scene.wait_line(x) for x in lines[last + 1:]]
+        waits = lines[last + 1:]
+        self.waits = [self.scene.wait_line(x, x in waits[:k]) for k, x in enumerate(waits)]
 
     def definitions(self):
         return "\n".join([
@@ -594,14 +615,14 @@ class Run:
             f"{self.label}_waits = " + antt_list(self.waits),
         ] if self.waits else []))
 
-    def fact(self):
+    def fact(self, over):
         waits = f"{self.label}_waits" if self.waits else "[]"
         told = f"{self.label}_plan {self.label}_events {self.ending}"
         return "\n".join([
             f"pub {self.label} : IsShown {told} {waits}",
             "unfolding run_by value_of is_kept",
             f"{self.label} = record {{",
-            f"  worked = worked_of {self.label}_plan {len(self.events)} {self.label}_events {self.ending} refl refl (over {self.ending} refl);",
+            f"  worked = worked_of {self.label}_plan {len(self.events)} {self.label}_events {self.ending} refl refl {over.format(self.ending)};",
             "  agree = refl;",
             "  stuck = refl;",
             "}",
@@ -610,13 +631,16 @@ class Run:
 
 def main():
     runs = [Run(path) for path in sys.argv[2:]]
+    folder = os.path.basename(os.path.dirname(sys.argv[2]))
     if sys.argv[1] == "specs":
-        parts = [SPECS_HEAD] + [run.definitions() for run in runs]
+        head = SPECS_HEAD.replace("FOLDER", "tools/" + (folder if folder in BLAMED else "runs"))
+        parts = [head] + [run.definitions() for run in runs]
     else:
-        subject = "RunsOf" + os.path.basename(os.path.dirname(sys.argv[2])).capitalize()
+        module = BLAMED.get(folder, "wdf_worked.specs.RunsOf" + folder.capitalize())
         words = [f"{r.label}_{w}" for r in runs for w in ("plan", "events", "waits") if w != "waits" or r.waits]
-        cited = f"use Rattle.wdf_worked.specs.{subject}.{{{', '.join(words)}}}"
-        parts = [PROOFS_HEAD + cited] + [run.fact() for run in runs]
+        cited = f"use Rattle.{module}.{{{', '.join(words)}}}"
+        used, over = (STUCK_OVER, "stuck_is_over") if folder in BLAMED else (OVER, "(over {} refl)")
+        parts = [PROOFS_HEAD + used + cited] + [run.fact(over) for run in runs]
     print("\n\n".join(parts))
 
 

@@ -1,1 +1,4 @@
+mod Over
 pub mod StuckRuns
+pub mod SpinningRuns
+pub mod SilentRuns

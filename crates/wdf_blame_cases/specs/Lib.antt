@@ -1,1 +1,4 @@
 pub mod StuckRuns
+pub mod SpinningRuns
+pub mod Silence
+pub mod SilentRuns

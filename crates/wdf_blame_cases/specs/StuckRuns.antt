@@ -1,4 +1,4 @@
--- Stuck runs: the plan of each, its events, and what it waits for. Made by
+-- Worked runs: the plan of each, its events, and what it waits for where it is stuck. Made by
 -- tools/scene_to_plan.py from the scenarios and traces of tools/stuck.
 use Rattle.std.specs.Prelude.{List, [], ◌∷◌, Some, None, true, false, codes}
 use Rattle.wdf_base.specs.declared.declared.Declared.TheVariants as declared
@@ -211,6 +211,76 @@ child_with_a_reference_events = event.Posted 1 (post.Read (h 2 4) 1) (Some (h 4 
 abbrev pub child_with_a_reference_waits : List WaitLine
 child_with_a_reference_waits = (line (thing.Leaving (h 5 2)) (Some (cause.ByChild (h 6 3)))) ∷ (line (thing.Leaving (h 6 3)) (Some (cause.References 1))) ∷ []
 
+abbrev pub deleted_while_it_is_held_plan : Plan
+deleted_while_it_is_held_plan = record {
+  cpus = 2;
+  limit = 100;
+  objects = 16;
+  names = (codes "driver") ∷ (codes "req") ∷ (codes "Pair") ∷ (codes "Note") ∷ (codes "Lock") ∷ (codes "D") ∷ (codes "M") ∷ (codes "Q") ∷ (codes "W") ∷ (codes "A") ∷ [];
+  declared = (declared.Driver)
+      ∷ (declared.Device (record { name = 5; working = true; scope = scope.Unscoped; level = level.Passive }))
+      ∷ (declared.Queue (record { name = 6; device = record { 0 = 2 }; dispatch = dispatch.Manual; serves = record { rest = false; read = false; write = false; control = true }; powered = true; zero = false; scope = scope.Unscoped; level = level.Passive }))
+      ∷ (declared.Queue (record { name = 7; device = record { 0 = 2 }; dispatch = dispatch.Sequential; serves = record { rest = false; read = true; write = false; control = false }; powered = true; zero = false; scope = scope.Unscoped; level = level.Passive }))
+      ∷ (declared.Queue (record { name = 8; device = record { 0 = 2 }; dispatch = dispatch.Sequential; serves = record { rest = false; read = false; write = true; control = false }; powered = true; zero = false; scope = scope.Unscoped; level = level.Passive }))
+      ∷ [];
+  classes = (class.Plain 2 plain.Object) ∷ (class.Plain 3 plain.Object) ∷ (class.Plain 4 plain.WaitLock) ∷ [];
+  registers = [];
+  whens = [];
+  pnp = [];
+  agents = (record { name = 9; posts = (at 37 0 (post.Control (h 2 5) 1 0)) ∷ (at 38 0 (post.Read (h 2 5) 1)) ∷ (at 39 0 (post.Write (h 2 5) 1)) ∷ [] })
+      ∷ (record { name = 5; posts = [] })
+      ∷ [];
+  exprs = (node.Context context.NearestDevice) ∷ (node.Variable 0) ∷ (node.Variable 0) ∷ (node.Context context.NearestDevice) ∷ (node.Number 0) ∷ (node.Variable 1) ∷ (node.Number 1) ∷ (node.Variable 0) ∷ (node.Variable 1) ∷ (node.Context context.NearestDevice) ∷ (node.Number 0) ∷ (node.Variable 0) ∷ (node.Object (h 3 6)) ∷ [];
+  scripts = (record {
+    callback = callback.EvtIoRead;
+    owner = declared.Queue (record { name = 7; device = record { 0 = 2 }; dispatch = dispatch.Sequential; serves = record { rest = false; read = true; write = false; control = false }; powered = true; zero = false; scope = scope.Unscoped; level = level.Passive });
+    line = 17;
+    statements = s 18 1 (act.Call call.WdfObjectCreate (Some 0) (arg.OfClass 0) (arg.Expression 0) arg.NoArgument)
+        ∷ s 19 2 (act.Call call.WdfObjectCreate None (arg.OfClass 1) (arg.Expression 1) arg.NoArgument)
+        ∷ s 20 3 (act.Call call.WdfWaitLockCreate (Some 1) (arg.OfClass 2) (arg.Expression 2) arg.NoArgument)
+        ∷ s 21 4 (act.Call call.SetContext None (arg.Expression 3) (arg.Expression 4) (arg.Expression 5))
+        ∷ s 22 5 (act.Spend 6)
+        ∷ s 23 6 (act.Call call.WdfObjectDelete None (arg.Expression 7) arg.NoArgument arg.NoArgument)
+        ∷ s 24 7 (act.Call call.WdfWaitLockAcquire None (arg.Expression 8) arg.NoArgument arg.NoArgument)
+        ∷ [];
+  })
+      ∷ (record {
+        callback = callback.EvtIoWrite;
+        owner = declared.Queue (record { name = 8; device = record { 0 = 2 }; dispatch = dispatch.Sequential; serves = record { rest = false; read = false; write = true; control = false }; powered = true; zero = false; scope = scope.Unscoped; level = level.Passive });
+        line = 29;
+        statements = s 30 1 (act.Call call.GetContext (Some 0) (arg.Expression 9) (arg.Expression 10) arg.NoArgument)
+            ∷ s 31 2 (act.Call call.WdfWaitLockAcquire None (arg.Expression 11) arg.NoArgument arg.NoArgument)
+            ∷ s 32 3 (act.Call call.WdfIoQueueDrainSynchronously None (arg.Expression 12) arg.NoArgument arg.NoArgument)
+            ∷ [];
+      })
+      ∷ [];
+  picks = [];
+}
+
+abbrev pub deleted_while_it_is_held_events : List Event
+deleted_while_it_is_held_events = event.Posted 1 (post.Control (h 2 5) 1 0) (Some (h 6 1))
+    ∷ event.Posted 1 (post.Read (h 2 5) 1) (Some (h 7 1))
+    ∷ event.Start (p 0) callback.EvtIoRead (h 4 7) (Some (h 7 1))
+    ∷ event.Did (p 0) (c call.WdfObjectCreate 2 (Class 0) (Val (Obj (h 2 5))) (Val (Num 0))) (Obj (h 8 2))
+    ∷ event.Did (p 0) (c call.WdfObjectCreate 2 (Class 1) (Val (Obj (h 8 2))) (Val (Num 0))) (Obj (h 9 3))
+    ∷ event.Did (p 0) (c call.WdfWaitLockCreate 2 (Class 2) (Val (Obj (h 8 2))) (Val (Num 0))) (Obj (h 10 4))
+    ∷ event.Did (p 0) (c call.SetContext 3 (Val (Obj (h 2 5))) (Val (Num 0)) (Val (Obj (h 10 4)))) (Stat status.Success)
+    ∷ event.Spend (p 0) 1
+    ∷ event.Posted 1 (post.Write (h 2 5) 1) (Some (h 11 1))
+    ∷ event.Start (p 1) callback.EvtIoWrite (h 5 8) (Some (h 11 1))
+    ∷ event.Did (p 1) (c call.GetContext 2 (Val (Obj (h 2 5))) (Val (Num 0)) (Val (Num 0))) (Obj (h 10 4))
+    ∷ event.Did (p 1) (c call.WdfWaitLockAcquire 1 (Val (Obj (h 10 4))) (Val (Num 0)) (Val (Num 0))) (Stat status.Success)
+    ∷ event.Waiting (p 1) (c call.WdfIoQueueDrainSynchronously 1 (Val (Obj (h 3 6))) (Val (Num 0)) (Val (Num 0)))
+    ∷ event.Park (p 1) (f 10)
+    ∷ event.Tick 1
+    ∷ event.Did (p 0) (c call.WdfObjectDelete 1 (Val (Obj (h 8 2))) (Val (Num 0)) (Val (Num 0))) (Stat status.Success)
+    ∷ event.Waiting (p 0) (c call.WdfWaitLockAcquire 1 (Val (Obj (h 10 4))) (Val (Num 0)) (Val (Num 0)))
+    ∷ event.Park (p 0) (f 3)
+    ∷ []
+
+abbrev pub deleted_while_it_is_held_waits : List WaitLine
+deleted_while_it_is_held_waits = (line (thing.Waiting (f 3) callback.EvtIoRead (h 4 7)) (Some (cause.ByLock (h 10 4) (f 10)))) ∷ (line (thing.Waiting (f 10) callback.EvtIoWrite (h 5 8)) (Some (cause.ByRequest (h 6 1)))) ∷ (line (thing.Queued (h 6 1) (h 3 6)) (Some (cause.Manual))) ∷ (line (thing.Owned (h 7 1)) None) ∷ (line (thing.Owned (h 11 1)) None) ∷ (line (thing.Leaving (h 8 2)) (Some (cause.ByChild (h 9 3)))) ∷ (line (thing.Leaving (h 9 3)) (Some (cause.ByChild (h 10 4)))) ∷ (line (thing.Leaving (h 10 4)) (Some (cause.ByFrame (f 3)))) ∷ []
+
 abbrev pub deleted_while_it_runs_plan : Plan
 deleted_while_it_runs_plan = record {
   cpus = 1;
@@ -269,6 +339,186 @@ deleted_while_it_runs_events = event.Posted 1 (post.Write (h 2 3) 1) (Some (h 5 
 
 abbrev pub deleted_while_it_runs_waits : List WaitLine
 deleted_while_it_runs_waits = (line (thing.Waiting (f 8) callback.EvtWorkItem (h 7 2)) (Some (cause.ByRequest (h 5 1)))) ∷ (line (thing.Queued (h 5 1) (h 3 4)) (Some (cause.Manual))) ∷ (line (thing.Leaving (h 7 2)) (Some (cause.ByFrame (f 8)))) ∷ []
+
+abbrev pub destroyed_never_plan : Plan
+destroyed_never_plan = record {
+  cpus = 1;
+  limit = 100;
+  objects = 16;
+  names = (codes "driver") ∷ (codes "req") ∷ (codes "Note") ∷ (codes "D") ∷ (codes "M") ∷ (codes "Q") ∷ (codes "A") ∷ [];
+  declared = (declared.Driver)
+      ∷ (declared.Device (record { name = 3; working = true; scope = scope.Unscoped; level = level.Dispatch }))
+      ∷ (declared.Queue (record { name = 4; device = record { 0 = 2 }; dispatch = dispatch.Manual; serves = record { rest = false; read = false; write = true; control = false }; powered = true; zero = false; scope = scope.Unscoped; level = level.Dispatch }))
+      ∷ (declared.Queue (record { name = 5; device = record { 0 = 2 }; dispatch = dispatch.Sequential; serves = record { rest = false; read = true; write = false; control = false }; powered = true; zero = false; scope = scope.Unscoped; level = level.Dispatch }))
+      ∷ [];
+  classes = (class.Plain 2 plain.Object) ∷ [];
+  registers = [];
+  whens = [];
+  pnp = [];
+  agents = (record { name = 6; posts = (at 23 0 (post.Write (h 2 3) 1)) ∷ (at 24 0 (post.Read (h 2 3) 1)) ∷ [] })
+      ∷ (record { name = 3; posts = [] })
+      ∷ [];
+  exprs = (node.Object (h 3 4)) ∷ (node.Context context.NearestDevice) ∷ (node.Variable 0) ∷ (node.Context context.OwnRequest) ∷ (node.Literal status.Success) ∷ [];
+  scripts = (record {
+    callback = callback.EvtDestroyCallback;
+    owner = declared.OfClass 0;
+    line = 5;
+    statements = s 6 1 (act.Call call.WdfIoQueueDrainSynchronously None (arg.Expression 0) arg.NoArgument arg.NoArgument)
+        ∷ [];
+  })
+      ∷ (record {
+        callback = callback.EvtIoRead;
+        owner = declared.Queue (record { name = 5; device = record { 0 = 2 }; dispatch = dispatch.Sequential; serves = record { rest = false; read = true; write = false; control = false }; powered = true; zero = false; scope = scope.Unscoped; level = level.Dispatch });
+        line = 15;
+        statements = s 16 1 (act.Call call.WdfObjectCreate (Some 0) (arg.OfClass 0) (arg.Expression 1) arg.NoArgument)
+            ∷ s 17 2 (act.Call call.WdfObjectDelete None (arg.Expression 2) arg.NoArgument arg.NoArgument)
+            ∷ s 18 3 (act.Call call.WdfRequestComplete None (arg.Expression 3) (arg.Expression 4) arg.NoArgument)
+            ∷ [];
+      })
+      ∷ [];
+  picks = [];
+}
+
+abbrev pub destroyed_never_events : List Event
+destroyed_never_events = event.Posted 1 (post.Write (h 2 3) 1) (Some (h 5 1))
+    ∷ event.Posted 1 (post.Read (h 2 3) 1) (Some (h 6 1))
+    ∷ event.Start (p 0) callback.EvtIoRead (h 4 5) (Some (h 6 1))
+    ∷ event.Did (p 0) (c call.WdfObjectCreate 2 (Class 0) (Val (Obj (h 2 3))) (Val (Num 0))) (Obj (h 7 2))
+    ∷ event.Did (p 0) (c call.WdfObjectDelete 1 (Val (Obj (h 7 2))) (Val (Num 0)) (Val (Num 0))) (Stat status.Success)
+    ∷ event.Did (p 0) (c call.WdfRequestComplete 2 (Val (Obj (h 6 1))) (Val (Stat status.Success)) (Val (Num 0))) (Stat status.Success)
+    ∷ event.End (p 0) callback.EvtIoRead (h 4 5) (Stat status.Success)
+    ∷ event.Cleanup (h 6 1)
+    ∷ event.Cleanup (h 7 2)
+    ∷ event.Start (p 0) callback.EvtDestroyCallback (h 7 2) None
+    ∷ event.Waiting (p 0) (c call.WdfIoQueueDrainSynchronously 1 (Val (Obj (h 3 4))) (Val (Num 0)) (Val (Num 0)))
+    ∷ event.Park (p 0) (f 10)
+    ∷ event.Destroy (h 6 1)
+    ∷ []
+
+abbrev pub destroyed_never_waits : List WaitLine
+destroyed_never_waits = (line (thing.Waiting (f 10) callback.EvtDestroyCallback (h 7 2)) (Some (cause.ByRequest (h 5 1)))) ∷ (line (thing.Queued (h 5 1) (h 3 4)) (Some (cause.Manual))) ∷ (line (thing.Leaving (h 7 2)) (Some (cause.ByFrame (f 10)))) ∷ []
+
+abbrev pub disabled_waits_for_a_frame_plan : Plan
+disabled_waits_for_a_frame_plan = record {
+  cpus = 1;
+  limit = 100;
+  objects = 16;
+  names = (codes "driver") ∷ (codes "req") ∷ (codes "D") ∷ (codes "M") ∷ (codes "Q") ∷ (codes "I") ∷ (codes "A") ∷ [];
+  declared = (declared.Driver)
+      ∷ (declared.Device (record { name = 2; working = false; scope = scope.Unscoped; level = level.Passive }))
+      ∷ (declared.Queue (record { name = 3; device = record { 0 = 2 }; dispatch = dispatch.Manual; serves = record { rest = false; read = false; write = true; control = false }; powered = false; zero = false; scope = scope.Unscoped; level = level.Passive }))
+      ∷ (declared.Queue (record { name = 4; device = record { 0 = 2 }; dispatch = dispatch.Parallel 2; serves = record { rest = false; read = true; write = false; control = false }; powered = false; zero = false; scope = scope.Unscoped; level = level.Passive }))
+      ∷ (declared.Interrupt (record { name = 5; device = record { 0 = 2 }; level = record { 0 = 0 } }))
+      ∷ [];
+  classes = [];
+  registers = [];
+  whens = [];
+  pnp = (at 30 0 (post.Ask ask.Start (h 2 2))) ∷ (at 31 1 (post.Ask ask.Sleep (h 2 2))) ∷ [];
+  agents = (record { name = 6; posts = (at 25 0 (post.Write (h 2 2) 1)) ∷ (at 26 0 (post.Read (h 2 2) 1)) ∷ (at 27 0 (post.Read (h 2 2) 1)) ∷ [] })
+      ∷ (record { name = 2; posts = [] })
+      ∷ [];
+  exprs = (node.Object (h 5 5)) ∷ (node.Object (h 3 3)) ∷ [];
+  scripts = (record {
+    callback = callback.EvtIoRead;
+    owner = declared.Queue (record { name = 4; device = record { 0 = 2 }; dispatch = dispatch.Parallel 2; serves = record { rest = false; read = true; write = false; control = false }; powered = false; zero = false; scope = scope.Unscoped; level = level.Passive });
+    line = 14;
+    statements = s 15 1 (act.Call call.WdfInterruptAcquireLock None (arg.Expression 0) arg.NoArgument arg.NoArgument)
+        ∷ s 16 2 (act.Call call.WdfIoQueueDrainSynchronously None (arg.Expression 1) arg.NoArgument arg.NoArgument)
+        ∷ [];
+  })
+      ∷ (record {
+        callback = callback.EvtInterruptIsr;
+        owner = declared.Interrupt (record { name = 5; device = record { 0 = 2 }; level = record { 0 = 0 } });
+        line = 20;
+        statements = [];
+      })
+      ∷ [];
+  picks = [];
+}
+
+abbrev pub disabled_waits_for_a_frame_events : List Event
+disabled_waits_for_a_frame_events = event.Posted 0 (post.Ask ask.Start (h 2 2)) None
+    ∷ event.Stage (h 2 2) stage.Hardware None
+    ∷ event.Stage (h 2 2) stage.Enabled (Some (h 5 5))
+    ∷ event.Stage (h 2 2) stage.QueuesUp None
+    ∷ event.Stage (h 2 2) stage.Working None
+    ∷ event.Posted 1 (post.Write (h 2 2) 1) (Some (h 6 1))
+    ∷ event.Posted 1 (post.Read (h 2 2) 1) (Some (h 7 1))
+    ∷ event.Start (p 0) callback.EvtIoRead (h 4 4) (Some (h 7 1))
+    ∷ event.Did (p 0) (c call.WdfInterruptAcquireLock 1 (Val (Obj (h 5 5))) (Val (Num 0)) (Val (Num 0))) (Stat status.Success)
+    ∷ event.Waiting (p 0) (c call.WdfIoQueueDrainSynchronously 1 (Val (Obj (h 3 3))) (Val (Num 0)) (Val (Num 0)))
+    ∷ event.Park (p 0) (f 8)
+    ∷ event.Posted 1 (post.Read (h 2 2) 1) (Some (h 8 1))
+    ∷ event.Start (p 0) callback.EvtIoRead (h 4 4) (Some (h 8 1))
+    ∷ event.Waiting (p 0) (c call.WdfInterruptAcquireLock 1 (Val (Obj (h 5 5))) (Val (Num 0)) (Val (Num 0)))
+    ∷ event.Park (p 0) (f 13)
+    ∷ event.Tick 1
+    ∷ event.Posted 0 (post.Ask ask.Sleep (h 2 2)) None
+    ∷ event.Stage (h 2 2) stage.QueuesDown None
+    ∷ event.Stage (h 2 2) stage.Settled None
+    ∷ []
+
+abbrev pub disabled_waits_for_a_frame_waits : List WaitLine
+disabled_waits_for_a_frame_waits = (line (thing.Waiting (f 8) callback.EvtIoRead (h 4 4)) (Some (cause.ByRequest (h 6 1)))) ∷ (line (thing.Waiting (f 13) callback.EvtIoRead (h 4 4)) (Some (cause.ByLock (h 5 5) (f 8)))) ∷ (line (thing.Queued (h 6 1) (h 3 3)) (Some (cause.Manual))) ∷ (line (thing.Owned (h 7 1)) None) ∷ (line (thing.Owned (h 8 1)) None) ∷ (line (thing.Sequence (h 2 2) (step.Pass stage.Disabled (Some (h 5 5)))) (Some (cause.ByFrame (f 8)))) ∷ []
+
+abbrev pub enable_waits_for_a_frame_plan : Plan
+enable_waits_for_a_frame_plan = record {
+  cpus = 1;
+  limit = 100;
+  objects = 16;
+  names = (codes "driver") ∷ (codes "req") ∷ (codes "D") ∷ (codes "M") ∷ (codes "Q") ∷ (codes "I") ∷ (codes "A") ∷ [];
+  declared = (declared.Driver)
+      ∷ (declared.Device (record { name = 2; working = false; scope = scope.Unscoped; level = level.Passive }))
+      ∷ (declared.Queue (record { name = 3; device = record { 0 = 2 }; dispatch = dispatch.Manual; serves = record { rest = false; read = false; write = true; control = false }; powered = false; zero = false; scope = scope.Unscoped; level = level.Passive }))
+      ∷ (declared.Queue (record { name = 4; device = record { 0 = 2 }; dispatch = dispatch.Sequential; serves = record { rest = false; read = true; write = false; control = false }; powered = false; zero = false; scope = scope.Unscoped; level = level.Passive }))
+      ∷ (declared.Interrupt (record { name = 5; device = record { 0 = 2 }; level = record { 0 = 0 } }))
+      ∷ [];
+  classes = [];
+  registers = [];
+  whens = [];
+  pnp = (at 31 1 (post.Ask ask.Start (h 2 2))) ∷ [];
+  agents = (record { name = 6; posts = (at 27 0 (post.Write (h 2 2) 1)) ∷ (at 28 0 (post.Read (h 2 2) 1)) ∷ [] })
+      ∷ (record { name = 2; posts = [] })
+      ∷ [];
+  exprs = (node.Object (h 5 5)) ∷ (node.Object (h 3 3)) ∷ [];
+  scripts = (record {
+    callback = callback.EvtIoRead;
+    owner = declared.Queue (record { name = 4; device = record { 0 = 2 }; dispatch = dispatch.Sequential; serves = record { rest = false; read = true; write = false; control = false }; powered = false; zero = false; scope = scope.Unscoped; level = level.Passive });
+    line = 14;
+    statements = s 15 1 (act.Call call.WdfInterruptAcquireLock None (arg.Expression 0) arg.NoArgument arg.NoArgument)
+        ∷ s 16 2 (act.Call call.WdfIoQueueDrainSynchronously None (arg.Expression 1) arg.NoArgument arg.NoArgument)
+        ∷ [];
+  })
+      ∷ (record {
+        callback = callback.EvtInterruptIsr;
+        owner = declared.Interrupt (record { name = 5; device = record { 0 = 2 }; level = record { 0 = 0 } });
+        line = 20;
+        statements = [];
+      })
+      ∷ (record {
+        callback = callback.EvtInterruptEnable;
+        owner = declared.Interrupt (record { name = 5; device = record { 0 = 2 }; level = record { 0 = 0 } });
+        line = 22;
+        statements = [];
+      })
+      ∷ [];
+  picks = [];
+}
+
+abbrev pub enable_waits_for_a_frame_events : List Event
+enable_waits_for_a_frame_events = event.Posted 1 (post.Write (h 2 2) 1) (Some (h 6 1))
+    ∷ event.Posted 1 (post.Read (h 2 2) 1) (Some (h 7 1))
+    ∷ event.Start (p 0) callback.EvtIoRead (h 4 4) (Some (h 7 1))
+    ∷ event.Did (p 0) (c call.WdfInterruptAcquireLock 1 (Val (Obj (h 5 5))) (Val (Num 0)) (Val (Num 0))) (Stat status.Success)
+    ∷ event.Waiting (p 0) (c call.WdfIoQueueDrainSynchronously 1 (Val (Obj (h 3 3))) (Val (Num 0)) (Val (Num 0)))
+    ∷ event.Park (p 0) (f 3)
+    ∷ event.Tick 1
+    ∷ event.Posted 0 (post.Ask ask.Start (h 2 2)) None
+    ∷ event.Stage (h 2 2) stage.Hardware None
+    ∷ []
+
+abbrev pub enable_waits_for_a_frame_waits : List WaitLine
+enable_waits_for_a_frame_waits = (line (thing.Waiting (f 3) callback.EvtIoRead (h 4 4)) (Some (cause.ByRequest (h 6 1)))) ∷ (line (thing.Queued (h 6 1) (h 3 3)) (Some (cause.Manual))) ∷ (line (thing.Owned (h 7 1)) None) ∷ (line (thing.Sequence (h 2 2) (step.Run callback.EvtInterruptEnable (Some (h 5 5)))) (Some (cause.ByFrame (f 3)))) ∷ []
 
 abbrev pub flush_of_what_is_kept_plan : Plan
 flush_of_what_is_kept_plan = record {
@@ -426,6 +676,314 @@ full_and_behind_events = event.Posted 1 (post.Read (h 2 2) 1) (Some (h 4 1))
 
 abbrev pub full_and_behind_waits : List WaitLine
 full_and_behind_waits = (line (thing.Owned (h 4 1)) None) ∷ (line (thing.Queued (h 5 1) (h 3 3)) (Some (cause.Full))) ∷ (line (thing.Queued (h 6 1) (h 3 3)) (Some (cause.Behind (h 5 1)))) ∷ []
+
+abbrev pub queued_while_it_runs_plan : Plan
+queued_while_it_runs_plan = record {
+  cpus = 1;
+  limit = 100;
+  objects = 16;
+  names = (codes "driver") ∷ (codes "req") ∷ (codes "Work") ∷ (codes "D") ∷ (codes "M") ∷ (codes "Q") ∷ (codes "A") ∷ [];
+  declared = (declared.Driver)
+      ∷ (declared.Device (record { name = 3; working = true; scope = scope.Unscoped; level = level.Passive }))
+      ∷ (declared.Queue (record { name = 4; device = record { 0 = 2 }; dispatch = dispatch.Manual; serves = record { rest = false; read = false; write = true; control = false }; powered = true; zero = false; scope = scope.Unscoped; level = level.Passive }))
+      ∷ (declared.Queue (record { name = 5; device = record { 0 = 2 }; dispatch = dispatch.Sequential; serves = record { rest = false; read = true; write = false; control = false }; powered = true; zero = false; scope = scope.Unscoped; level = level.Passive }))
+      ∷ [];
+  classes = (class.Deferred 2 deferred.WorkItem (record { 0 = 2 }) false 0) ∷ [];
+  registers = [];
+  whens = [];
+  pnp = [];
+  agents = (record { name = 6; posts = (at 25 0 (post.Write (h 2 3) 1)) ∷ (at 26 0 (post.Read (h 2 3) 1)) ∷ [] })
+      ∷ (record { name = 3; posts = [] })
+      ∷ [];
+  exprs = (node.Context context.OwnObject) ∷ (node.Object (h 3 4)) ∷ (node.Variable 0) ∷ (node.Context context.OwnRequest) ∷ (node.Literal status.Success) ∷ [];
+  scripts = (record {
+    callback = callback.EvtWorkItem;
+    owner = declared.OfClass 0;
+    line = 5;
+    statements = s 6 1 (act.Call call.WdfWorkItemEnqueue None (arg.Expression 0) arg.NoArgument arg.NoArgument)
+        ∷ s 7 2 (act.Call call.WdfIoQueueDrainSynchronously None (arg.Expression 1) arg.NoArgument arg.NoArgument)
+        ∷ [];
+  })
+      ∷ (record {
+        callback = callback.EvtIoRead;
+        owner = declared.Queue (record { name = 5; device = record { 0 = 2 }; dispatch = dispatch.Sequential; serves = record { rest = false; read = true; write = false; control = false }; powered = true; zero = false; scope = scope.Unscoped; level = level.Passive });
+        line = 17;
+        statements = s 18 1 (act.Call call.WdfWorkItemCreate (Some 0) (arg.OfClass 0) arg.NoArgument arg.NoArgument)
+            ∷ s 19 2 (act.Call call.WdfWorkItemEnqueue None (arg.Expression 2) arg.NoArgument arg.NoArgument)
+            ∷ s 20 3 (act.Call call.WdfRequestComplete None (arg.Expression 3) (arg.Expression 4) arg.NoArgument)
+            ∷ [];
+      })
+      ∷ [];
+  picks = [];
+}
+
+abbrev pub queued_while_it_runs_events : List Event
+queued_while_it_runs_events = event.Posted 1 (post.Write (h 2 3) 1) (Some (h 5 1))
+    ∷ event.Posted 1 (post.Read (h 2 3) 1) (Some (h 6 1))
+    ∷ event.Start (p 0) callback.EvtIoRead (h 4 5) (Some (h 6 1))
+    ∷ event.Did (p 0) (c call.WdfWorkItemCreate 1 (Class 0) (Val (Num 0)) (Val (Num 0))) (Obj (h 7 2))
+    ∷ event.Did (p 0) (c call.WdfWorkItemEnqueue 1 (Val (Obj (h 7 2))) (Val (Num 0)) (Val (Num 0))) (Stat status.Success)
+    ∷ event.Did (p 0) (c call.WdfRequestComplete 2 (Val (Obj (h 6 1))) (Val (Stat status.Success)) (Val (Num 0))) (Stat status.Success)
+    ∷ event.End (p 0) callback.EvtIoRead (h 4 5) (Stat status.Success)
+    ∷ event.Start (p 0) callback.EvtWorkItem (h 7 2) None
+    ∷ event.Did (p 0) (c call.WdfWorkItemEnqueue 1 (Val (Obj (h 7 2))) (Val (Num 0)) (Val (Num 0))) (Stat status.Success)
+    ∷ event.Waiting (p 0) (c call.WdfIoQueueDrainSynchronously 1 (Val (Obj (h 3 4))) (Val (Num 0)) (Val (Num 0)))
+    ∷ event.Park (p 0) (f 8)
+    ∷ event.Cleanup (h 6 1)
+    ∷ event.Destroy (h 6 1)
+    ∷ []
+
+abbrev pub queued_while_it_runs_waits : List WaitLine
+queued_while_it_runs_waits = (line (thing.Waiting (f 8) callback.EvtWorkItem (h 7 2)) (Some (cause.ByRequest (h 5 1)))) ∷ (line (thing.Queued (h 5 1) (h 3 4)) (Some (cause.Manual))) ∷ (line (thing.Deferred (h 7 2)) (Some (cause.ByFrame (f 8)))) ∷ []
+
+abbrev pub quiet_waits_for_a_frame_plan : Plan
+quiet_waits_for_a_frame_plan = record {
+  cpus = 1;
+  limit = 100;
+  objects = 16;
+  names = (codes "driver") ∷ (codes "req") ∷ (codes "Call") ∷ (codes "Clock") ∷ (codes "D") ∷ (codes "M") ∷ (codes "Q") ∷ (codes "W") ∷ (codes "I") ∷ (codes "A") ∷ [];
+  declared = (declared.Driver)
+      ∷ (declared.Device (record { name = 4; working = false; scope = scope.PerDevice; level = level.Dispatch }))
+      ∷ (declared.Queue (record { name = 5; device = record { 0 = 2 }; dispatch = dispatch.Manual; serves = record { rest = false; read = false; write = false; control = true }; powered = false; zero = false; scope = scope.Unscoped; level = level.Dispatch }))
+      ∷ (declared.Queue (record { name = 6; device = record { 0 = 2 }; dispatch = dispatch.Sequential; serves = record { rest = false; read = true; write = false; control = false }; powered = false; zero = false; scope = scope.PerDevice; level = level.Passive }))
+      ∷ (declared.Queue (record { name = 7; device = record { 0 = 2 }; dispatch = dispatch.Sequential; serves = record { rest = false; read = false; write = true; control = false }; powered = false; zero = false; scope = scope.PerDevice; level = level.Dispatch }))
+      ∷ (declared.Interrupt (record { name = 8; device = record { 0 = 2 }; level = record { 0 = 5 } }))
+      ∷ [];
+  classes = (class.Deferred 2 deferred.Dpc (record { 0 = 2 }) true 0) ∷ (class.Deferred 3 deferred.Timer (record { 0 = 2 }) true 0) ∷ [];
+  registers = [];
+  whens = [];
+  pnp = (at 53 0 (post.Ask ask.Start (h 2 4))) ∷ (at 54 1 (post.Ask ask.Sleep (h 2 4))) ∷ [];
+  agents = (record { name = 9; posts = (at 48 0 (post.Control (h 2 4) 1 0)) ∷ (at 49 0 (post.Read (h 2 4) 1)) ∷ (at 50 1 (post.Write (h 2 4) 1)) ∷ [] })
+      ∷ (record { name = 4; posts = [] })
+      ∷ [];
+  exprs = (node.Variable 0) ∷ (node.Object (h 6 8)) ∷ (node.Variable 1) ∷ (node.Number 1) ∷ (node.Object (h 3 5)) ∷ [];
+  scripts = (record {
+    callback = callback.EvtDpcFunc;
+    owner = declared.OfClass 0;
+    line = 6;
+    statements = [];
+  })
+      ∷ (record {
+        callback = callback.EvtTimerFunc;
+        owner = declared.OfClass 1;
+        line = 11;
+        statements = [];
+      })
+      ∷ (record {
+        callback = callback.EvtIoRead;
+        owner = declared.Queue (record { name = 6; device = record { 0 = 2 }; dispatch = dispatch.Sequential; serves = record { rest = false; read = true; write = false; control = false }; powered = false; zero = false; scope = scope.PerDevice; level = level.Passive });
+        line = 25;
+        statements = s 26 1 (act.Call call.WdfDpcCreate (Some 0) (arg.OfClass 0) arg.NoArgument arg.NoArgument)
+            ∷ s 27 2 (act.Call call.WdfDpcEnqueue None (arg.Expression 0) arg.NoArgument arg.NoArgument)
+            ∷ s 28 3 (act.Call call.WdfInterruptQueueDpcForIsr None (arg.Expression 1) arg.NoArgument arg.NoArgument)
+            ∷ s 29 4 (act.Call call.WdfTimerCreate (Some 1) (arg.OfClass 1) arg.NoArgument arg.NoArgument)
+            ∷ s 30 5 (act.Call call.WdfTimerStart None (arg.Expression 2) (arg.Expression 3) arg.NoArgument)
+            ∷ s 31 6 (act.Call call.WdfIoQueueDrainSynchronously None (arg.Expression 4) arg.NoArgument arg.NoArgument)
+            ∷ [];
+      })
+      ∷ (record {
+        callback = callback.EvtIoWrite;
+        owner = declared.Queue (record { name = 7; device = record { 0 = 2 }; dispatch = dispatch.Sequential; serves = record { rest = false; read = false; write = true; control = false }; powered = false; zero = false; scope = scope.PerDevice; level = level.Dispatch });
+        line = 37;
+        statements = [];
+      })
+      ∷ (record {
+        callback = callback.EvtInterruptIsr;
+        owner = declared.Interrupt (record { name = 8; device = record { 0 = 2 }; level = record { 0 = 5 } });
+        line = 41;
+        statements = [];
+      })
+      ∷ (record {
+        callback = callback.EvtInterruptDpc;
+        owner = declared.Interrupt (record { name = 8; device = record { 0 = 2 }; level = record { 0 = 5 } });
+        line = 43;
+        statements = [];
+      })
+      ∷ [];
+  picks = [];
+}
+
+abbrev pub quiet_waits_for_a_frame_events : List Event
+quiet_waits_for_a_frame_events = event.Posted 0 (post.Ask ask.Start (h 2 4)) None
+    ∷ event.Stage (h 2 4) stage.Hardware None
+    ∷ event.Stage (h 2 4) stage.Enabled (Some (h 6 8))
+    ∷ event.Stage (h 2 4) stage.QueuesUp None
+    ∷ event.Stage (h 2 4) stage.Working None
+    ∷ event.Posted 1 (post.Control (h 2 4) 1 0) (Some (h 7 1))
+    ∷ event.Posted 1 (post.Read (h 2 4) 1) (Some (h 8 1))
+    ∷ event.Start (p 0) callback.EvtIoRead (h 4 6) (Some (h 8 1))
+    ∷ event.Did (p 0) (c call.WdfDpcCreate 1 (Class 0) (Val (Num 0)) (Val (Num 0))) (Obj (h 9 2))
+    ∷ event.Did (p 0) (c call.WdfDpcEnqueue 1 (Val (Obj (h 9 2))) (Val (Num 0)) (Val (Num 0))) (Num 1)
+    ∷ event.Did (p 0) (c call.WdfInterruptQueueDpcForIsr 1 (Val (Obj (h 6 8))) (Val (Num 0)) (Val (Num 0))) (Num 1)
+    ∷ event.Did (p 0) (c call.WdfTimerCreate 1 (Class 1) (Val (Num 0)) (Val (Num 0))) (Obj (h 10 3))
+    ∷ event.Did (p 0) (c call.WdfTimerStart 2 (Val (Obj (h 10 3))) (Val (Num 1)) (Val (Num 0))) (Num 0)
+    ∷ event.Waiting (p 0) (c call.WdfIoQueueDrainSynchronously 1 (Val (Obj (h 3 5))) (Val (Num 0)) (Val (Num 0)))
+    ∷ event.Park (p 0) (f 8)
+    ∷ event.Tick 1
+    ∷ event.Posted 0 (post.Ask ask.Sleep (h 2 4)) None
+    ∷ event.Stage (h 2 4) stage.QueuesDown None
+    ∷ event.Stage (h 2 4) stage.Settled None
+    ∷ event.Stage (h 2 4) stage.Disabled (Some (h 6 8))
+    ∷ event.Posted 1 (post.Write (h 2 4) 1) (Some (h 11 1))
+    ∷ []
+
+abbrev pub quiet_waits_for_a_frame_waits : List WaitLine
+quiet_waits_for_a_frame_waits = (line (thing.Waiting (f 8) callback.EvtIoRead (h 4 6)) (Some (cause.ByRequest (h 7 1)))) ∷ (line (thing.Queued (h 7 1) (h 3 5)) (Some (cause.Manual))) ∷ (line (thing.Owned (h 8 1)) None) ∷ (line (thing.Queued (h 11 1) (h 5 7)) (Some (cause.ScopeHeld))) ∷ (line (thing.Sequence (h 2 4) (step.Pass stage.Quiet None)) (Some (cause.ByFrame (f 8)))) ∷ (line (thing.Deferred (h 6 8)) (Some (cause.ScopeHeld))) ∷ (line (thing.Deferred (h 9 2)) (Some (cause.ScopeHeld))) ∷ (line (thing.Deferred (h 10 3)) (Some (cause.ScopeHeld))) ∷ []
+
+abbrev pub removed_waits_for_a_request_plan : Plan
+removed_waits_for_a_request_plan = record {
+  cpus = 1;
+  limit = 100;
+  objects = 16;
+  names = (codes "driver") ∷ (codes "req") ∷ (codes "D") ∷ (codes "Q") ∷ (codes "A") ∷ [];
+  declared = (declared.Driver)
+      ∷ (declared.Device (record { name = 2; working = false; scope = scope.Unscoped; level = level.Dispatch }))
+      ∷ (declared.Queue (record { name = 3; device = record { 0 = 2 }; dispatch = dispatch.Sequential; serves = record { rest = true; read = false; write = false; control = false }; powered = false; zero = false; scope = scope.Unscoped; level = level.Dispatch }))
+      ∷ [];
+  classes = [];
+  registers = [];
+  whens = [];
+  pnp = (at 16 1 (post.Ask ask.Remove (h 2 2))) ∷ [];
+  agents = (record { name = 4; posts = (at 13 0 (post.Read (h 2 2) 1)) ∷ [] })
+      ∷ (record { name = 2; posts = [] })
+      ∷ [];
+  exprs = [];
+  scripts = (record {
+    callback = callback.EvtIoRead;
+    owner = declared.Queue (record { name = 3; device = record { 0 = 2 }; dispatch = dispatch.Sequential; serves = record { rest = true; read = false; write = false; control = false }; powered = false; zero = false; scope = scope.Unscoped; level = level.Dispatch });
+    line = 8;
+    statements = [];
+  })
+      ∷ [];
+  picks = [];
+}
+
+abbrev pub removed_waits_for_a_request_events : List Event
+removed_waits_for_a_request_events = event.Posted 1 (post.Read (h 2 2) 1) (Some (h 4 1))
+    ∷ event.Start (p 0) callback.EvtIoRead (h 3 3) (Some (h 4 1))
+    ∷ event.End (p 0) callback.EvtIoRead (h 3 3) (Stat status.Success)
+    ∷ event.Tick 1
+    ∷ event.Posted 0 (post.Ask ask.Remove (h 2 2)) None
+    ∷ event.Stage (h 2 2) stage.Closed None
+    ∷ []
+
+abbrev pub removed_waits_for_a_request_waits : List WaitLine
+removed_waits_for_a_request_waits = (line (thing.Owned (h 4 1)) None) ∷ (line (thing.Sequence (h 2 2) (step.Pass stage.Removed None)) (Some (cause.ByRequest (h 4 1)))) ∷ []
+
+abbrev pub resume_never_ends_plan : Plan
+resume_never_ends_plan = record {
+  cpus = 1;
+  limit = 100;
+  objects = 16;
+  names = (codes "driver") ∷ (codes "req") ∷ (codes "D") ∷ (codes "M") ∷ (codes "Q") ∷ (codes "A") ∷ [];
+  declared = (declared.Driver)
+      ∷ (declared.Device (record { name = 2; working = true; scope = scope.Unscoped; level = level.Passive }))
+      ∷ (declared.Queue (record { name = 3; device = record { 0 = 2 }; dispatch = dispatch.Manual; serves = record { rest = false; read = false; write = true; control = false }; powered = false; zero = false; scope = scope.Unscoped; level = level.Passive }))
+      ∷ (declared.Queue (record { name = 4; device = record { 0 = 2 }; dispatch = dispatch.Sequential; serves = record { rest = false; read = true; write = false; control = false }; powered = true; zero = false; scope = scope.Unscoped; level = level.Passive }))
+      ∷ [];
+  classes = [];
+  registers = [];
+  whens = [];
+  pnp = (at 27 1 (post.Ask ask.Sleep (h 2 2))) ∷ (at 28 2 (post.Ask ask.Wake (h 2 2))) ∷ [];
+  agents = (record { name = 5; posts = (at 23 0 (post.Write (h 2 2) 1)) ∷ (at 24 0 (post.Read (h 2 2) 1)) ∷ [] })
+      ∷ (record { name = 2; posts = [] })
+      ∷ [];
+  exprs = (node.Context context.OwnRequest) ∷ (node.Number 0) ∷ (node.Object (h 3 3)) ∷ [];
+  scripts = (record {
+    callback = callback.EvtIoRead;
+    owner = declared.Queue (record { name = 4; device = record { 0 = 2 }; dispatch = dispatch.Sequential; serves = record { rest = false; read = true; write = false; control = false }; powered = true; zero = false; scope = scope.Unscoped; level = level.Passive });
+    line = 12;
+    statements = [];
+  })
+      ∷ (record {
+        callback = callback.EvtIoStop;
+        owner = declared.Queue (record { name = 4; device = record { 0 = 2 }; dispatch = dispatch.Sequential; serves = record { rest = false; read = true; write = false; control = false }; powered = true; zero = false; scope = scope.Unscoped; level = level.Passive });
+        line = 14;
+        statements = s 15 1 (act.Call call.WdfRequestStopAcknowledge None (arg.Expression 0) (arg.Expression 1) arg.NoArgument)
+            ∷ [];
+      })
+      ∷ (record {
+        callback = callback.EvtIoResume;
+        owner = declared.Queue (record { name = 4; device = record { 0 = 2 }; dispatch = dispatch.Sequential; serves = record { rest = false; read = true; write = false; control = false }; powered = true; zero = false; scope = scope.Unscoped; level = level.Passive });
+        line = 17;
+        statements = s 18 1 (act.Call call.WdfIoQueueDrainSynchronously None (arg.Expression 2) arg.NoArgument arg.NoArgument)
+            ∷ [];
+      })
+      ∷ [];
+  picks = [];
+}
+
+abbrev pub resume_never_ends_events : List Event
+resume_never_ends_events = event.Posted 1 (post.Write (h 2 2) 1) (Some (h 5 1))
+    ∷ event.Posted 1 (post.Read (h 2 2) 1) (Some (h 6 1))
+    ∷ event.Start (p 0) callback.EvtIoRead (h 4 4) (Some (h 6 1))
+    ∷ event.End (p 0) callback.EvtIoRead (h 4 4) (Stat status.Success)
+    ∷ event.Tick 1
+    ∷ event.Posted 0 (post.Ask ask.Sleep (h 2 2)) None
+    ∷ event.Stage (h 2 2) stage.QueuesDown None
+    ∷ event.Start (p 0) callback.EvtIoStop (h 4 4) (Some (h 6 1))
+    ∷ event.Did (p 0) (c call.WdfRequestStopAcknowledge 2 (Val (Obj (h 6 1))) (Val (Num 0)) (Val (Num 0))) (Stat status.Success)
+    ∷ event.End (p 0) callback.EvtIoStop (h 4 4) (Stat status.Success)
+    ∷ event.Stage (h 2 2) stage.Settled None
+    ∷ event.Stage (h 2 2) stage.Sleeping None
+    ∷ event.Tick 2
+    ∷ event.Posted 0 (post.Ask ask.Wake (h 2 2)) None
+    ∷ event.Stage (h 2 2) stage.QueuesUp None
+    ∷ event.Start (p 0) callback.EvtIoResume (h 4 4) (Some (h 6 1))
+    ∷ event.Waiting (p 0) (c call.WdfIoQueueDrainSynchronously 1 (Val (Obj (h 3 3))) (Val (Num 0)) (Val (Num 0)))
+    ∷ event.Park (p 0) (f 16)
+    ∷ []
+
+abbrev pub resume_never_ends_waits : List WaitLine
+resume_never_ends_waits = (line (thing.Waiting (f 16) callback.EvtIoResume (h 4 4)) (Some (cause.ByRequest (h 5 1)))) ∷ (line (thing.Queued (h 5 1) (h 3 3)) (Some (cause.Manual))) ∷ (line (thing.Owned (h 6 1)) None) ∷ (line (thing.Sequence (h 2 2) (step.Pass stage.Working None)) (Some (cause.ByFrame (f 16)))) ∷ []
+
+abbrev pub settled_waits_for_a_frame_plan : Plan
+settled_waits_for_a_frame_plan = record {
+  cpus = 1;
+  limit = 100;
+  objects = 16;
+  names = (codes "driver") ∷ (codes "req") ∷ (codes "D") ∷ (codes "M") ∷ (codes "Q") ∷ (codes "A") ∷ [];
+  declared = (declared.Driver)
+      ∷ (declared.Device (record { name = 2; working = true; scope = scope.Unscoped; level = level.Passive }))
+      ∷ (declared.Queue (record { name = 3; device = record { 0 = 2 }; dispatch = dispatch.Manual; serves = record { rest = false; read = false; write = true; control = false }; powered = true; zero = false; scope = scope.Unscoped; level = level.Passive }))
+      ∷ (declared.Queue (record { name = 4; device = record { 0 = 2 }; dispatch = dispatch.Sequential; serves = record { rest = false; read = true; write = false; control = false }; powered = true; zero = false; scope = scope.Unscoped; level = level.Passive }))
+      ∷ [];
+  classes = [];
+  registers = [];
+  whens = [];
+  pnp = (at 22 1 (post.Ask ask.Sleep (h 2 2))) ∷ [];
+  agents = (record { name = 5; posts = (at 18 0 (post.Write (h 2 2) 1)) ∷ (at 19 0 (post.Read (h 2 2) 1)) ∷ [] })
+      ∷ (record { name = 2; posts = [] })
+      ∷ [];
+  exprs = (node.Context context.OwnRequest) ∷ (node.Literal status.Success) ∷ (node.Object (h 3 3)) ∷ [];
+  scripts = (record {
+    callback = callback.EvtIoRead;
+    owner = declared.Queue (record { name = 4; device = record { 0 = 2 }; dispatch = dispatch.Sequential; serves = record { rest = false; read = true; write = false; control = false }; powered = true; zero = false; scope = scope.Unscoped; level = level.Passive });
+    line = 11;
+    statements = s 12 1 (act.Call call.WdfRequestComplete None (arg.Expression 0) (arg.Expression 1) arg.NoArgument)
+        ∷ s 13 2 (act.Call call.WdfIoQueueDrainSynchronously None (arg.Expression 2) arg.NoArgument arg.NoArgument)
+        ∷ [];
+  })
+      ∷ [];
+  picks = [];
+}
+
+abbrev pub settled_waits_for_a_frame_events : List Event
+settled_waits_for_a_frame_events = event.Posted 1 (post.Write (h 2 2) 1) (Some (h 5 1))
+    ∷ event.Posted 1 (post.Read (h 2 2) 1) (Some (h 6 1))
+    ∷ event.Start (p 0) callback.EvtIoRead (h 4 4) (Some (h 6 1))
+    ∷ event.Did (p 0) (c call.WdfRequestComplete 2 (Val (Obj (h 6 1))) (Val (Stat status.Success)) (Val (Num 0))) (Stat status.Success)
+    ∷ event.Waiting (p 0) (c call.WdfIoQueueDrainSynchronously 1 (Val (Obj (h 3 3))) (Val (Num 0)) (Val (Num 0)))
+    ∷ event.Park (p 0) (f 3)
+    ∷ event.Cleanup (h 6 1)
+    ∷ event.Destroy (h 6 1)
+    ∷ event.Tick 1
+    ∷ event.Posted 0 (post.Ask ask.Sleep (h 2 2)) None
+    ∷ event.Stage (h 2 2) stage.QueuesDown None
+    ∷ []
+
+abbrev pub settled_waits_for_a_frame_waits : List WaitLine
+settled_waits_for_a_frame_waits = (line (thing.Waiting (f 3) callback.EvtIoRead (h 4 4)) (Some (cause.ByRequest (h 5 1)))) ∷ (line (thing.Queued (h 5 1) (h 3 3)) (Some (cause.Unpowered))) ∷ (line (thing.Sequence (h 2 2) (step.Pass stage.Settled None)) (Some (cause.ByFrame (f 3)))) ∷ []
 
 abbrev pub stopped_plan : Plan
 stopped_plan = record {

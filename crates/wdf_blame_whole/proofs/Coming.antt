@@ -1,5 +1,5 @@
 -- What each event of a run asks for may go: a device that is removed, what the driver may delete, a request that is completed.
-use Rattle.std.proofs.Common.{if◌then◌else◌, ◌≡◌, ◌≢◌, ℕ, ◌<◌, ◌≤◌, Bool, true, false, not, ◌&&◌, ◌||◌, List, [], ◌∷◌, ◌++◌, inl, inr, Option, Some, None, is_some, drop, length, option_and_then, slice_get, unwrap_or, refl, sym, ap, subst, ◌∙◌, arith}
+use Rattle.std.proofs.Common.{if◌then◌else◌, ◌≡◌, ◌≢◌, ℕ, suc, ◌+◌, ◌<◌, ◌≤◌, Bool, true, false, not, ◌&&◌, ◌||◌, List, [], ◌∷◌, ◌++◌, inl, inr, Option, Some, None, is_some, drop, length, option_and_then, slice_get, unwrap_or, refl, sym, ap, subst, ◌∙◌, arith}
 use Rattle.std.specs.List.{list_all, list_any}
 use Rattle.std.proofs.lemmas.Bool.{cases_Bool, eqb-true, or_cases}
 use Rattle.wdf_base.specs.Meaning.{Meaning}
@@ -16,6 +16,8 @@ use Rattle.wdf_base.specs.declared.signature.Sort.TheVariants as sort
 use Rattle.wdf_base.specs.declared.declared.Declared.{Declared}
 use Rattle.wdf_base.specs.declared.declared.Declared.TheVariants as declared
 use Rattle.wdf_base.specs.declared.declared.InterruptInfo.{InterruptInfo}
+use Rattle.wdf_base.specs.declared.declared.TargetInfo.{TargetInfo}
+use Rattle.wdf_base.specs.declared.object.Kind.{Kind}
 use Rattle.wdf_base.specs.declared.object.Kind.TheVariants as kind
 use Rattle.wdf_base.specs.declared.object.LockRef.{LockRef}
 use Rattle.wdf_base.specs.declared.object.Place.{Place}
@@ -43,7 +45,7 @@ use Rattle.wdf_base.specs.declared.event.Step.{Step}
 use Rattle.wdf_base.specs.declared.event.Step.TheVariants as step
 use Rattle.wdf_base.specs.declared.frame.Frame.{Frame}
 use Rattle.wdf_model.specs.Tables.{contains, flag}
-use Rattle.wdf_model.specs.Plans.{as_device, as_interrupt, callback_irql, declares, device_of, interrupt_of, is_manual_queue, parent_of_class}
+use Rattle.wdf_model.specs.Plans.{as_device, as_interrupt, callback_irql, declares, device_of, interrupt_of, is_manual_queue, is_target_of, parent_of_class, target_of}
 use Rattle.wdf_model.specs.parts.Tree.{gone, is_cleaned, is_gone, is_live, kind_of, life_of, nearest_device, parent_of, subtree}
 use Rattle.wdf_model.specs.parts.Cpus.{frame_of, top}
 use Rattle.wdf_model.specs.parts.Locks.{lock_of_callback}
@@ -64,7 +66,7 @@ use Rattle.wdf_model.specs.rules.Steps.{answered, by_top, deeds, did_deeds, goes
 use Rattle.wdf_model.specs.laws.Agreement.{is_sequence}
 use Rattle.wdf_model.specs.laws.OverRuns.{is_declared_kind}
 use Rattle.wdf_model.specs.laws.Fits.{is_given}
-use Rattle.wdf_model.proofs.Tests.{both, both_left, both_right, either_false, first, not_true, second}
+use Rattle.wdf_model.proofs.Tests.{both, both_left, both_right, either_false, first, itself, not_true, second}
 use Rattle.wdf_model.proofs.Maps.{entry_put_same}
 use Rattle.wdf_model.proofs.Counts.{one_or_two}
 use Rattle.wdf_model.proofs.Fits.{first_kind, wrong_kind_of_first}
@@ -77,7 +79,7 @@ use Rattle.wdf_invariants.proofs.StillFrames.{live_there}
 use Rattle.wdf_room.specs.Kept.{table_size}
 use Rattle.wdf_agreements.proofs.LevelEvents.{stale_first}
 use Rattle.wdf_agreements.proofs.LivesOver.{Lives}
-use Rattle.wdf_agreements.proofs.Lists.{inside}
+use Rattle.wdf_agreements.proofs.Lists.{all_of_kept, inside}
 use Rattle.wdf_agreements.proofs.Queued.{any_entry}
 use Rattle.wdf_agreements.proofs.SoundEvents.{top_on}
 use Rattle.wdf_agreements.proofs.SoundRuns.{KnownAll}
@@ -88,6 +90,7 @@ use Rattle.wdf_power_laws.proofs.Isrs.{as_found}
 use Rattle.wdf_power_laws.proofs.Happens.{found_pass, not_running}
 use Rattle.wdf_blame_whole.specs.Standing.{IsOver, is_live_device, is_part, is_part_of}
 use Rattle.wdf_blame_whole.proofs.Trees.{first_out, parent_in}
+use Rattle.wdf_blame_whole.proofs.Belonging.{device_of_target, target_found}
 use Rattle.wdf_blame_whole.proofs.Lasting.{Lasts, last_step}
 use Rattle.wdf_blame_whole.proofs.Standing.{AllComes, Removable, Stands, defers, ready_in}
 use Rattle.wdf_blame_whole.proofs.Plains.{acknowledge_plain, all_plain, cancel_of_plain, comes_behind, create_plain, either_plain, forward_plain, mark_plain, plain_behind, plain_comes, requeue_plain, retrieve_plain, second_plain, send_plain, start_effect_plain, taking_plain}
@@ -118,7 +121,7 @@ some_declared : (ds : List Declared) → slice_get ds 0 ≡ Some declared.Driver
 some_declared [] h = absurd (let z : ⊥ = cc in z)
 some_declared (d ∷ ds) h = omega arith
 
--- a queue or an interrupt of a device
+-- a queue, an interrupt or a target of a device
 record IsPart (plan : Plan) (d x : ℕ) : Type 0 where
   info : Declared
   is : declared_of plan x ≡ Some info
@@ -129,9 +132,9 @@ record IsPart (plan : Plan) (d x : ℕ) : Type 0 where
 part_by : (plan : Plan) (d x : ℕ) (o : Option Declared) → declared_of plan x ≡ o → is_part d o ≡ true → IsPart plan d x
 part_by plan d x (Some (declared.Queue q)) e h = record { info = declared.Queue q; is = e; parent = eqb-true q.device.0 d h; kept = refl; other = refl }
 part_by plan d x (Some (declared.Interrupt i)) e h = record { info = declared.Interrupt i; is = e; parent = eqb-true i.device.0 d h; kept = refl; other = refl }
+part_by plan d x (Some (declared.Target t)) e h = record { info = declared.Target t; is = e; parent = eqb-true t.device.0 d h; kept = refl; other = refl }
 part_by plan d x (Some declared.Driver) e h = absurd (let z : ⊥ = cc in z)
 part_by plan d x (Some (declared.Device y)) e h = absurd (let z : ⊥ = cc in z)
-part_by plan d x (Some (declared.Target t)) e h = absurd (let z : ⊥ = cc in z)
 part_by plan d x (Some (declared.OfClass c)) e h = absurd (let z : ⊥ = cc in z)
 part_by plan d x None e h = absurd (let z : ⊥ = cc in z)
 
@@ -144,9 +147,10 @@ record IsDevice (plan : Plan) (d : ℕ) : Type 0 where
   is : declared_of plan d ≡ Some info
   parent : declared_parent info ≡ 1
   kept : is_never_deleted (unwrap_or (declared_kind info) kind.General) ≡ true
+  kind : same_kind (unwrap_or (declared_kind info) kind.General) kind.Request ≡ false
 
 device_by : (plan : Plan) (d : ℕ) (o : Option Declared) → declared_of plan d ≡ o → is_some (device_of plan d) ≡ true → IsDevice plan d
-device_by plan d (Some (declared.Device y)) e h = record { info = declared.Device y; is = e; parent = refl; kept = refl }
+device_by plan d (Some (declared.Device y)) e h = record { info = declared.Device y; is = e; parent = refl; kept = refl; kind = refl }
 device_by plan d (Some (declared.Queue y)) e h = absurd (let off : is_some (device_of plan d) ≡ false = rw e refl in let z : ⊥ = cc in z)
 device_by plan d (Some (declared.Interrupt y)) e h = absurd (let off : is_some (device_of plan d) ≡ false = rw e refl in let z : ⊥ = cc in z)
 device_by plan d (Some declared.Driver) e h = absurd (let off : is_some (device_of plan d) ≡ false = rw e refl in let z : ⊥ = cc in z)
@@ -167,7 +171,7 @@ module _ {A : Type 0} (plan : Plan) (S : State A) (resolved : IsResolved plan) (
   parent_there : (o x : ℕ) → is_live (life_of S.tree x) ≡ true → contains x (subtree S.tree o) ≡ true → x ≢ o → contains (parent_of S.tree x) (subtree S.tree o) ≡ true
   parent_there o x live in_ n = parent_in S.tree o x (live_within x live) (facts.lives.older x live) in_ n
 
-  -- with a queue or an interrupt goes its device
+  -- with a queue, an interrupt or a target goes its device
   parts_go : (o : ℕ) → ((d : ℕ) → is_part_of plan d o ≡ true → is_live (life_of S.tree o) ≡ true → ⊥) → (d x : ℕ) → is_part_of plan d x ≡ true → is_live (life_of S.tree x) ≡ true → contains x (subtree S.tree o) ≡ true
       → contains d (subtree S.tree o) ≡ true
   parts_go o no_part d x is live in_ =
@@ -194,11 +198,30 @@ module _ {A : Type 0} (plan : Plan) (S : State A) (resolved : IsResolved plan) (
             first_out S.tree o k.root.parent no_zero first_)
       ]
 
+  abbrev PartsGo : ℕ → Type 0
+  PartsGo o = (d x : ℕ) → is_part_of plan d x ≡ true → is_live (life_of S.tree x) ≡ true → contains x (subtree S.tree o) ≡ true → contains d (subtree S.tree o) ≡ true
+
+  -- nothing is at a target that goes, where nothing is at those of a device that goes
+  targets_go : (o : ℕ) → PartsGo o → ((d t : ℕ) → is_live_device plan S d ≡ true → contains d (subtree S.tree o) ≡ true → is_target_of d (target_of plan t) ≡ true → nothing_at S t ≡ true)
+      → (t : ℕ) (x : Option TargetInfo) → target_of plan t ≡ x → is_some x ≡ true → is_live (life_of S.tree t) ≡ true → contains t (subtree S.tree o) ≡ true → nothing_at S t ≡ true
+  targets_go o parts none t None e is live in_ = absurd (let z : ⊥ = cc in z)
+  targets_go o parts none t (Some i) e is live in_ =
+      let d : ℕ = i.device.0 in
+      let at : declared_of plan t ≡ Some (declared.Target i) = target_found (declared_of plan t) i e in
+      let dev : is_some (device_of plan d) ≡ true = device_of_target plan resolved t i e in
+      let part : is_part_of plan d t ≡ true = both (is_part d (declared_of plan t)) (is_some (device_of plan d)) (ap (is_part d) at ∙ itself d) dev in
+      let up : parent_of S.tree t ≡ d = (facts.declared t (declared.Target i) at (live_there (life_of S.tree t) live)).0 in
+      let some : parent_of S.tree t ≢ 0 = λ z. (let none_ : is_some (device_of plan 0) ≡ true = subst (λ y. is_some (device_of plan y) ≡ true) (sym up ∙ z) dev in let y : ⊥ = cc in y) in
+      let above : is_live (life_of S.tree d) ≡ true = subst (λ y. is_live (life_of S.tree y) ≡ true) up (facts.lives.above t live some) in
+      none d t (both (is_some (device_of plan d)) (is_live (life_of S.tree d)) dev above) (parts d t part live in_) (ap (is_target_of d) e ∙ itself d)
+
   -- an object that is no declared one
   removes_made : (o : ℕ) → o ≢ 0 → o ≢ 1 → ((d : ℕ) → is_part_of plan d o ≡ true → is_live (life_of S.tree o) ≡ true → ⊥) → (is_live_device plan S o ≡ true → ⊥) → Removable plan S o
   removes_made o no_zero no_one no_part no_device = record {
     parts = parts_go o no_part;
     devices = λ d live in_. absurd (no_device (subst (λ y. is_live_device plan S y ≡ true) (device_alone o d no_zero no_one live in_) live));
+    targets = λ t is live in_.
+        targets_go o (parts_go o no_part) (λ d u on in_. absurd (no_device (subst (λ y. is_live_device plan S y ≡ true) (device_alone o d no_zero no_one on in_) on))) t (target_of plan t) refl is live in_;
   }
 
   -- what the driver may delete
@@ -259,15 +282,31 @@ module _ {A : Type 0} (plan : Plan) (S : State A) (resolved : IsResolved plan) (
         let z : ⊥ = cc in z)
   ]
 
+  -- nothing is at the targets of a device that is removed
+  empty_at : (d t : ℕ) → is_drained plan S d ≡ true → is_target_of d (target_of plan t) ≡ true → nothing_at S t ≡ true
+  empty_at d t h is =
+      let all : list_all (nothing_at S) (targets_at plan d) ≡ true = both_right (not (list_any (is_unfinished_at d) S.requests.all)) (list_all (nothing_at S) (targets_at plan d)) h in
+      all_of_kept (nothing_at S) (λ x. is_target_of d (target_of plan x)) t 0 (suc (length plan.declared)) (omega arith) (target_low (target_of plan t) refl is) all is
+    where
+      target_low : (x : Option TargetInfo) → target_of plan t ≡ x → is_target_of d x ≡ true → t < 0 + suc (length plan.declared)
+      target_low None e k = absurd (let z : ⊥ = cc in z)
+      target_low (Some i) e k = let w = declared_within plan t (declared.Target i) (target_found (declared_of plan t) i e) in omega arith
+
   removed_over : (q : Sequence) (i : Option Handle) → q.left ≡ step.Pass stage.Removed i ∷ [] → q.running ≡ None → IsOver (taken_step q)
   removed_over q i e idle = rw e (record { phase = refl; left = refl; running = idle })
+
+  next_removed : (d : ℕ) (i : Option Handle) → may_pass plan S d stage.Removed i ≡ true → steps_left S.pnp d ≡ step.Pass stage.Removed i ∷ drop 1 (steps_left S.pnp d)
+  next_removed d i may_come =
+      let ready : step_ready S d (step.Pass stage.Removed i) ≡ true = both_left (step_ready S d (step.Pass stage.Removed i)) (stage_ready plan S d stage.Removed i) may_come in
+      let now : (same_option same_step (next_step S.pnp d) (Some (step.Pass stage.Removed i)) && not (is_running_step S.pnp d)) ≡ true = both_left (same_option same_step (next_step S.pnp d) (Some (step.Pass stage.Removed i)) && not (is_running_step S.pnp d)) _ ready in
+      found_pass (steps_left S.pnp d) stage.Removed i (both_left _ (not (is_running_step S.pnp d)) now)
 
   removes_device : (d : ℕ) (i : Option Handle) → may_pass plan S d stage.Removed i ≡ true → Removable plan (do_deeds plan (Take_step d ∷ Advance_power d (step.Pass stage.Removed i) ∷ []) S) d
   removes_device d i may_come =
       let ready : step_ready S d (step.Pass stage.Removed i) ≡ true = both_left (step_ready S d (step.Pass stage.Removed i)) (stage_ready plan S d stage.Removed i) may_come in
       let drained : is_drained plan S d ≡ true = both_right (step_ready S d (step.Pass stage.Removed i)) (stage_ready plan S d stage.Removed i) may_come in
       let now : (same_option same_step (next_step S.pnp d) (Some (step.Pass stage.Removed i)) && not (is_running_step S.pnp d)) ≡ true = both_left (same_option same_step (next_step S.pnp d) (Some (step.Pass stage.Removed i)) && not (is_running_step S.pnp d)) _ ready in
-      let next : steps_left S.pnp d ≡ step.Pass stage.Removed i ∷ drop 1 (steps_left S.pnp d) = found_pass (steps_left S.pnp d) stage.Removed i (both_left _ (not (is_running_step S.pnp d)) now) in
+      let next : steps_left S.pnp d ≡ step.Pass stage.Removed i ∷ drop 1 (steps_left S.pnp d) = next_removed d i may_come in
       let idle : running_step S.pnp d ≡ None = not_running (running_step S.pnp d) (not_true (is_running_step S.pnp d) (both_right (same_option same_step (next_step S.pnp d) (Some (step.Pass stage.Removed i))) (not (is_running_step S.pnp d)) now)) in
       let none : drop 1 (steps_left S.pnp d) ≡ [] = last_step i (drop 1 (steps_left S.pnp d)) (subst Lasts next (k.lasts d)) in
       let only : steps_left S.pnp d ≡ step.Pass stage.Removed i ∷ [] = next ∙ ap (λ ss. step.Pass stage.Removed i ∷ ss) none in
@@ -279,6 +318,9 @@ module _ {A : Type 0} (plan : Plan) (S : State A) (resolved : IsResolved plan) (
       record {
         parts = parts_go d (λ n is live. part_no (part_is plan n d is) (both_left (is_some (device_of plan d)) (is_live (life_of S.tree d)) dev));
         devices = λ n live in_. (let e : n ≡ d = device_alone d n no_zero no_one live in_ in (subst (λ y. IsOver (sequence_of (pnp.taken S.pnp d) y)) (sym e) over, λ r. ap (λ y. is_unfinished_at y (request_of S.requests r)) e ∙ finished d r drained));
+        targets = λ t is live in_.
+            targets_go d (parts_go d (λ n is live. part_no (part_is plan n d is) (both_left (is_some (device_of plan d)) (is_live (life_of S.tree d)) dev)))
+            (λ n u on in_ of_it. empty_at d u drained (subst (λ y. is_target_of y (target_of plan u) ≡ true) (device_alone d n no_zero no_one on in_) of_it)) t (target_of plan t) refl is live in_;
       }
     where
       one_no : (x : Declared) → Some declared.Driver ≡ Some x → declared_parent x ≡ 1 → ⊥
@@ -286,6 +328,18 @@ module _ {A : Type 0} (plan : Plan) (S : State A) (resolved : IsResolved plan) (
 
       part_no : {n : ℕ} → IsPart plan n d → is_some (device_of plan d) ≡ true → ⊥
       part_no a h = let off : is_some (device_of plan d) ≡ false = ap (λ o. is_some (as_device o)) a.is ∙ a.other in let z : ⊥ = cc in z
+
+  deleted_no_request : (k : Kind) → is_never_deleted k ≡ false → same_kind k kind.Request ≡ false
+  deleted_no_request kind.Request h = absurd (let z : ⊥ = cc in z)
+  deleted_no_request _ h = refl
+
+  -- what is removed is a device
+  removed_no_request : (d : ℕ) (i : Option Handle) → may_pass plan S d stage.Removed i ≡ true → same_kind (kind_of S.tree d) kind.Request ≡ false
+  removed_no_request d i may_come =
+      let next = next_removed d i may_come in
+      let dev : is_live_device plan S d ≡ true = device_at d (step.Pass stage.Removed i) (drop 1 (steps_left S.pnp d)) next in
+      let p = device_is plan d (both_left (is_some (device_of plan d)) (is_live (life_of S.tree d)) dev) in
+      ap (λ k. same_kind k kind.Request) (facts.declared d p.info p.is (live_there (life_of S.tree d) (both_right (is_some (device_of plan d)) (is_live (life_of S.tree d)) dev))).1 ∙ p.kind
 
   -- ---- calls
 
@@ -338,7 +392,7 @@ module _ {A : Type 0} (plan : Plan) (S : State A) (resolved : IsResolved plan) (
   outcome_comes cpu f call.WdfObjectDelete n a b x h =
       let v : View = view_of plan S cpu f in
       let c : Call = made call.WdfObjectDelete n a b x in
-      (removes_deletable (object_in a) (any_there v a (stale_first v c (h fault.StaleHandle)) (wrong_kind_of_first v c (h fault.WrongKind))) (h fault.DeleteNotAllowed), tt)
+      ((removes_deletable (object_in a) (any_there v a (stale_first v c (h fault.StaleHandle)) (wrong_kind_of_first v c (h fault.WrongKind))) (h fault.DeleteNotAllowed), deleted_no_request (kind_of S.tree (object_in a)) (h fault.DeleteNotAllowed)), tt)
   outcome_comes cpu f call.WdfRequestComplete n a b x h =
       let fit : (is_closing (place_of S.requests (object_in a)) || is_given S (object_in a)) ≡ true = both_left (is_closing (place_of S.requests (object_in a)) || is_given S (object_in a)) true (outcome_fits plan S cpu f call.WdfRequestComplete n a b x h) in
       (removes_request (object_in a) (completed_undone (object_in a) fit), tt)
@@ -404,7 +458,7 @@ module _ {A : Type 0} (plan : Plan) (S : State A) (resolved : IsResolved plan) (
   ends_comes cpu (Some l) es h = (tt, (tt, h _ refl))
 
   effects_come : (d : ℕ) (s : Stage) (i : Option Handle) → may_pass plan S d s i ≡ true → AllComes plan (stage_deeds plan d s i) S
-  effects_come d stage.Removed i h = (tt, (tt, (removes_device d i h, tt)))
+  effects_come d stage.Removed i h = (tt, (tt, ((removes_device d i h, removed_no_request d i h), tt)))
   effects_come d stage.Enabled i h = (tt, (tt, (tt, tt)))
   effects_come d stage.Disabled i h = (tt, (tt, (tt, tt)))
   effects_come d stage.QueuesDown i h = (tt, (tt, (tt, tt)))

@@ -2,6 +2,7 @@ pub mod Trees
 pub mod Lasting
 pub mod Opened
 pub mod Standing
+pub mod Belonging
 pub mod Plains
 pub mod Coming
 pub mod Runs

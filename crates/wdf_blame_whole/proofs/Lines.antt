@@ -20,8 +20,8 @@ use Rattle.wdf_model.specs.parts.Requests.{is_queued_in, is_returning_to, place_
 use Rattle.wdf_model.specs.parts.Pnp.{next_step, running_step}
 use Rattle.wdf_model.specs.State.{State}
 use Rattle.wdf_model.specs.rules.Posts.{due_of}
-use Rattle.wdf_model.specs.rules.Ready.{ending_of, is_open_post, is_open_work, open_devices, open_objects, open_requests, open_work, state_after}
-use Rattle.wdf_model.specs.rules.Waits.{asking_line, deferred_line, device_line, first_cause, frame_line, frames_in_order, object_line, request_line, resumes_cause, running_cause, sequence_line, step_cause, wait_lines, wait_list}
+use Rattle.wdf_model.specs.rules.Ready.{ending_of, is_leaving, is_open_post, is_open_work, open_devices, open_objects, open_requests, open_work, state_after}
+use Rattle.wdf_model.specs.rules.Waits.{asking_line, deferred_line, device_line, first_cause, frame_line, frames_in_order, object_cause, object_line, request_line, resumes_cause, running_cause, sequence_line, step_cause, wait_lines, wait_list}
 use Rattle.wdf_model.proofs.Tests.{itself}
 use Rattle.wdf_blame.proofs.Members.{Each, Has}
 use Rattle.wdf_blame.proofs.Endings.{stuck_lines}
@@ -32,10 +32,16 @@ pub data DeviceLine {A : Type 0} (plan : Plan) (S : State A) (d : ℕ) (s : Step
   Runs_it : running_step S.pnp d ≡ Some s → x ≡ running_cause S d s → DeviceLine plan S d s x
   Waits_at : running_step S.pnp d ≡ None → next_step S.pnp d ≡ Some s → x ≡ first_cause (resumes_cause plan S d ∷ step_cause plan S d s ∷ []) → DeviceLine plan S d s x
 
+-- the line of an object that is being deleted
+pub record LeavingLine {A : Type 0} (plan : Plan) (S : State A) (o : ℕ) (x : Option Cause) : Type 0 where
+  pub cause : x ≡ object_cause plan S o
+  pub leaves : is_leaving S o ≡ true
+
 abbrev pub Tells : {A : Type 0} → Plan → State A → OpenThing → Option Cause → Type 0
 Tells plan S (thing.Queued r q) x = is_queued_in q.id.0 (place_of S.requests r.id.0) ≡ true
 Tells plan S (thing.Returning r q) x = is_returning_to q.id.0 (place_of S.requests r.id.0) ≡ true
 Tells plan S (thing.Sequence d s) x = DeviceLine plan S d.id.0 s x
+Tells plan S (thing.Leaving o) x = LeavingLine plan S o.id.0 x
 Tells plan S (thing.Deferred o) x = is_open_work S o.id.0 ≡ true
 Tells plan S _ x = ⊤
 
@@ -90,7 +96,7 @@ module _ {A : Type 0} (plan : Plan) (m : Meaning A) (S : State A) where
       (each_mapped (LineTells plan S) (frame_line plan S) (λ f. tt) (frames_in_order S))
       (each_chosen (LineTells plan S) (λ r. request_line plan S r (place_of S.requests r)) (λ r. request_told r (place_of S.requests r) refl) (open_requests S)))
       (each_chosen (LineTells plan S) (device_line plan S) (λ d. device_told d (running_step S.pnp d) (next_step S.pnp d) refl refl) (open_devices plan S)))
-      (each_mapped (LineTells plan S) (object_line plan S) (λ o. tt) (open_objects S)))
+      (mapped_in (object_line plan S) (open_objects S) (λ o there. record { cause = refl; leaves = (has_kept (is_leaving S) o (ids_of S.tree.nodes) there).0 })))
       (mapped_in (deferred_line plan S) (open_work S) (λ o there. (has_kept (is_open_work S) o (ids_of S.tree.nodes) there).0)))
       (asking_told (due_of m S 0))
 

@@ -1,4 +1,4 @@
--- A live device has its queues and interrupts, only a live device has requests that aren't done, or steps left: each deed
+-- A live device has its queues, interrupts and targets, only a live device has requests that aren't done, or steps left: each deed
 -- keeps this that asks for the deletion of nothing but what may go.
 use Rattle.std.proofs.Common.{◌≡◌, ℕ, ◌+◌, ◌-◌, ◌==◌, ◌<◌, ◌≤◌, Bool, true, false, not, ◌&&◌, ◌||◌, List, [], ◌∷◌, inl, inr, Option, Some, None, is_some, fold, length, slice_set, refl, sym, ap, subst, ◌∙◌, arith}
 use Rattle.std.specs.Prelude.{⊤}
@@ -21,8 +21,8 @@ use Rattle.wdf_model.specs.declared.enums.Mode.TheVariants as mode
 use Rattle.wdf_model.specs.declared.entries.Node.{Node}
 use Rattle.wdf_model.specs.declared.entries.Request.{Request}
 use Rattle.wdf_model.specs.Tables.{contains, first_of_list}
-use Rattle.wdf_model.specs.Plans.{declares, device_of, interrupt_of, managed_queues, queues_of}
-use Rattle.wdf_model.specs.parts.Tree.{Tree, gone, is_asked, is_cleaned, is_gone, is_live, life_of, new_node, next_id, node_of, noted, parent_of, subtree, with_life, with_node}
+use Rattle.wdf_model.specs.Plans.{declares, device_of, interrupt_of, managed_queues, queues_of, target_of}
+use Rattle.wdf_model.specs.parts.Tree.{Tree, gone, is_asked, is_cleaned, is_gone, is_live, kind_of, life_of, new_node, next_id, node_of, noted, parent_of, subtree, with_life, with_node}
 use Rattle.wdf_model.specs.parts.Tree as tree
 use Rattle.wdf_model.specs.parts.Queues.{waiting_in}
 use Rattle.wdf_model.specs.parts.Control as control
@@ -30,7 +30,7 @@ use Rattle.wdf_model.specs.parts.Interrupts.{is_enabled}
 use Rattle.wdf_model.specs.parts.Requests.{Requests, has_arrived, is_done, request_of}
 use Rattle.wdf_model.specs.parts.Requests as requests
 use Rattle.wdf_model.specs.parts.Pnp.{Pnp, Sequence, is_running_step, left_after, next_step, no_sequence, sequence_of, steps_for, steps_left, taken_step, with_sequence}
-use Rattle.wdf_model.specs.State.{State}
+use Rattle.wdf_model.specs.State.{State, nothing_at}
 use Rattle.wdf_model.specs.rules.Deeds.{Deed, Create, Make_request, Arrive, Ask_deletion, Refer, Unrefer, Write_cell, Note, Clean_up, End_life, Requeue, Forward, Give_back, Send_request, Complete_request, Purge_queue, Close_returning, Close_device, Ask_device, Take_step, End_step, Enqueue_dpc, arrive_at, ask_object, ask_objects, do_deed, give_up}
 use Rattle.wdf_model.specs.rules.Starts.{is_unfinished_at}
 use Rattle.wdf_model.specs.laws.Fits.{fits}
@@ -70,11 +70,12 @@ pub record Stands {A : Type 0} (plan : Plan) (S : State A) : Type 0 where
   pub lasts : (d : ℕ) → Lasts (steps_left S.pnp d)
   pub over : (d : ℕ) → is_live_device plan S d ≡ false → IsOver (sequence_of S.pnp d)
 
--- an object may be deleted with what is below it: with a queue or an interrupt its device goes, and a device that goes is
--- over and has no request that isn't done
+-- an object may be deleted with what is below it: with a queue, an interrupt or a target its device goes, a device that
+-- goes is over and has no request that isn't done, and nothing is at a target that goes
 pub record Removable {A : Type 0} (plan : Plan) (S : State A) (o : ℕ) : Type 0 where
   pub parts : (d x : ℕ) → is_part_of plan d x ≡ true → is_live (life_of S.tree x) ≡ true → contains x (subtree S.tree o) ≡ true → contains d (subtree S.tree o) ≡ true
   pub devices : (d : ℕ) → is_live_device plan S d ≡ true → contains d (subtree S.tree o) ≡ true → IsOver (sequence_of S.pnp d) × ((r : ℕ) → is_unfinished_at d (request_of S.requests r) ≡ false)
+  pub targets : (t : ℕ) → is_some (target_of plan t) ≡ true → is_live (life_of S.tree t) ≡ true → contains t (subtree S.tree o) ≡ true → nothing_at S t ≡ true
 
 -- a live object of a kind
 abbrev pub is_ready : Kind → Node → Bool
@@ -87,9 +88,9 @@ ready_in k T x = is_ready k (node_of T x)
 abbrev pub defers : Plan → ℕ → Bool
 defers plan o = is_some (interrupt_of plan o) && declares plan callback.EvtInterruptDpc o
 
--- what is so where a deed is done
+-- what is so where a deed is done; only a request's completion asks for its deletion
 abbrev pub Comes : {A : Type 0} → Plan → Deed → State A → Type 0
-Comes plan (Ask_deletion o) S = Removable plan S o
+Comes plan (Ask_deletion o) S = Removable plan S o × (same_kind (kind_of S.tree o) kind.Request ≡ false)
 Comes plan (Complete_request r) S = Removable plan S r
 Comes plan (Arrive device info p) S = is_some (device_of plan device) ≡ true
 Comes plan (End_step d s v) S = is_running_step S.pnp d ≡ true
@@ -173,12 +174,12 @@ abbrev tree_of : {A : Type 0} → State A → Tree
 tree_of S = S.tree
 
 -- a deed that asks for no deletion
-abbrev asks_none : Deed → Bool
+abbrev pub asks_none : Deed → Bool
 asks_none (Ask_deletion o) = false
 asks_none (Complete_request r) = false
 asks_none _ = true
 
-lives_by : {A : Type 0} (plan : Plan) (d : Deed) (S : State A) → asks_none d ≡ true → fits plan d S ≡ true → LivesStay S.tree (do_deed plan d S).tree
+pub lives_by : {A : Type 0} (plan : Plan) (d : Deed) (S : State A) → asks_none d ≡ true → fits plan d S ≡ true → LivesStay S.tree (do_deed plan d S).tree
 lives_by plan (Ask_deletion o) S n f = absurd (let z : ⊥ = cc in z)
 lives_by plan (Complete_request r) S n f = absurd (let z : ⊥ = cc in z)
 lives_by plan (Create k class parent) S n f = stay_made S.tree k class parent
@@ -370,16 +371,16 @@ roots_asked : {A : Type 0} (xs : List ℕ) (S : State A) → IsRoot S.tree → I
 roots_asked [] S h = h
 roots_asked (x ∷ xs) S h = roots_asked xs (ask_object S x) (root_asked S x (is_live (life_of S.tree x)) refl h)
 
-asks : {A : Type 0} (plan : Plan) (S : State A) (o : ℕ) → fits plan (Ask_deletion o) S ≡ true → table_size plan ≤ length S.tree.nodes → Removable plan S o → Stands plan S → Stands plan (do_deed plan (Ask_deletion o) S)
+asks : {A : Type 0} (plan : Plan) (S : State A) (o : ℕ) → fits plan (Ask_deletion o) S ≡ true → table_size plan ≤ length S.tree.nodes → Comes plan (Ask_deletion o) S → Stands plan S → Stands plan (do_deed plan (Ask_deletion o) S)
 asks {A} plan S o f room c k =
     let W : State A = do_deed plan (Ask_deletion o) S in
     let t : StepsStay S.pnp W.pnp = steps_by plan (Ask_deletion o) S f c in
     record {
       root = roots_asked (subtree S.tree o) S k.root;
-      parts = parts_then plan S S o refl room c k;
-      opened = opened_asked plan (is_device_in plan W.tree) S o (λ r. ((k.opened r).0, keeps_open plan S S o refl room c k r (request_of S.requests r) refl));
+      parts = parts_then plan S S o refl room c.0 k;
+      opened = opened_asked plan (is_device_in plan W.tree) S o (λ r. ((k.opened r).0, keeps_open plan S S o refl room c.0 k r (request_of S.requests r) refl));
       lasts = t.lasts k.lasts;
-      over = λ d h. t.over d (over_then plan S S o refl room c k d h);
+      over = λ d h. t.over d (over_then plan S S o refl room c.0 k d h);
     }
 
 completes : {A : Type 0} (plan : Plan) (S : State A) (r : ℕ) → fits plan (Complete_request r) S ≡ true → table_size plan ≤ length S.tree.nodes → Removable plan S r → Stands plan S → Stands plan (do_deed plan (Complete_request r) S)

@@ -10,10 +10,11 @@ use Rattle.wdf_model.specs.parts.Tree.{is_live, life_of}
 use Rattle.wdf_model.specs.parts.Pnp.{Sequence}
 use Rattle.wdf_model.specs.State.{State}
 
--- a queue, or an interrupt, of this device
+-- a queue, an interrupt or a target of this device
 abbrev pub is_part : ℕ → Option Declared → Bool
 is_part d (Some (declared.Queue q)) = q.device.0 == d
 is_part d (Some (declared.Interrupt i)) = i.device.0 == d
+is_part d (Some (declared.Target t)) = t.device.0 == d
 is_part d _ = false
 
 abbrev pub is_part_of : Plan → ℕ → ℕ → Bool

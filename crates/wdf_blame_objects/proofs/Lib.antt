@@ -1,0 +1,10 @@
+pub mod Sendings
+pub mod Arrivals
+pub mod Ended
+pub mod LiveTargets
+pub mod Runs
+pub mod Places
+pub mod Asked
+pub mod Calm
+pub mod Spinning
+pub mod Told
