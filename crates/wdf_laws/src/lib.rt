@@ -1,15 +1,7 @@
-//! The laws of a trace: what a driver may rely on in every run, told by the events alone, and their checker.
+//! The laws of a trace: what a driver may rely on in every run, told by the events alone. They are definitions, in
+//! `specs/`; here are the plain types of their words. `wdf_checker` finds the first law that a list of events breaks.
 #![tactic(auto)]
 
-mod begun;
-mod checker;
-mod events;
-mod family;
-mod laws;
-mod order;
-mod power;
 mod sign;
-mod words;
 
-pub use checker::check;
 pub use sign::{Begun, Moment, Sign, Stacked, Taking, Told};

@@ -1,2 +1,0 @@
-mod Upwards
-mod Numbers
