@@ -1,5 +1,5 @@
 #!/usr/bin/env python3
-"""Runs the program on each example of docs/SCENARIO.md and on each file of examples/.
+"""Runs the program on each example of docs/SCENARIO.md, on each file of examples/ and on the worked runs of tools/.
 
     python3 tools/check_examples.py [PROGRAM [SEEDS]]
 
@@ -8,7 +8,8 @@ fenced block `kmdf` of the guide is a whole scenario; `kmdf blocks`, `kmdf devic
 are put where such lines belong, with the declarations below. A block `trace` is the run that `order`
 writes for the example before it. Each file of examples/ must also run to its end, with the status that its
 first comment names (`the status 4`), or with 0. What `order` writes of a file, and what `seed N` writes for each N
-below SEEDS (3 where it isn't named), must be accepted by `replay`.
+below SEEDS (3 where it isn't named), must be accepted by `replay`. Of each scenario of tools/runs, tools/stuck and
+tools/spinning `order` must write the trace beside it. Those traces were made by hand or by another program.
 """
 
 import os
@@ -133,16 +134,29 @@ def check_files(program, seeds):
     return faults, len(names)
 
 
+def check_worked(program):
+    """The scenarios of tools/ whose trace isn't the one beside them, and how many there are."""
+    folders = [folder for kind in ("runs", "stuck", "spinning") for folder, _, _ in os.walk(os.path.join(ROOT, "tools", kind))]
+    scenarios = sorted(os.path.join(folder, name) for folder in folders for name in os.listdir(folder) if name.endswith(".scn"))
+    faults = []
+    for path in scenarios:
+        with open(path, encoding="utf-8") as scenario, open(path[:-4] + ".out", encoding="utf-8") as trace:
+            if call(program, "order", scenario.read())[1] != trace.read():
+                faults.append(f"{os.path.relpath(path, ROOT)}: another run")
+    return faults, len(scenarios)
+
+
 def main():
     program = os.path.abspath(sys.argv[1]) if len(sys.argv) > 1 else PROGRAM
     if not os.path.exists(program):
         sys.exit(f"{program} isn't there: build the program first (./kmdfsim check < examples/first-read.kmdf)")
     guide_faults, guide_count = check_guide(program)
     file_faults, file_count = check_files(program, int(sys.argv[2]) if len(sys.argv) > 2 else 3)
-    faults = guide_faults + file_faults
+    worked_faults, worked_count = check_worked(program)
+    faults = guide_faults + file_faults + worked_faults
     for fault in faults:
         print(fault)
-    print(f"{guide_count} examples of the guide, {file_count} files, {len(faults)} faults")
+    print(f"{guide_count} examples of the guide, {file_count} files, {worked_count} worked runs, {len(faults)} faults")
     sys.exit(1 if faults else 0)
 
 
