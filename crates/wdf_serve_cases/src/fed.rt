@@ -3,6 +3,7 @@ ghost use Rattle.std.specs.Prelude.{◌≡◌, IfOk};
 ghost use Rattle.wdf_dev.specs.declared.any.AnyAgent.{AnyAgent};
 
 use std::alloc::Global;
+use std::marker::Model;
 use std::sync::atomic::{AtomicU64, Ordering};
 use wdf_base::{Agent, Event, Memory, Post};
 use wdf_dev::AnyAgent;
@@ -14,7 +15,7 @@ pub struct CountedAgent<'a> {
     heard: &'a AtomicU64,
 }
 
-impl Model for CountedAgent<'_> {
+impl<'a> Model for CountedAgent<'a> {
     ghost Value = { AnyAgent };
 
     ghost view = { λ a. a.agent };
