@@ -48,27 +48,3 @@ impl Gate for TwoEnter<'_> {
         }
     }
 }
-
-/// Holds each worker in its first pass until two workers have entered theirs, and each but the last one, which is that of
-/// all agents, in its second pass until an agent has heard of an event.
-#[derive(Drop)]
-pub struct UntilHeard<'a> {
-    /// What the workers have come to.
-    pub watch: &'a Watch,
-    /// How many events the agents have heard of.
-    pub heard: &'a AtomicU64,
-    /// The number of the worker of all agents.
-    pub agents: u32,
-}
-
-impl Gate for UntilHeard<'_> {
-    fn pass(&self, worker: u32, turn: u32) {
-        if turn == 0 {
-            self.watch.first.fetch_add(1, Ordering::SeqCst);
-            self.watch.hold(&self.watch.first, 2);
-        }
-        if turn == 1 && worker != self.agents {
-            self.watch.hold(self.heard, 1);
-        }
-    }
-}

@@ -5,7 +5,6 @@
 mod call;
 #[cfg(test)]
 mod faults;
-mod fed;
 mod holds;
 #[cfg(test)]
 mod texts;
@@ -14,5 +13,4 @@ mod words;
 #[cfg(test)]
 mod workers;
 
-pub use fed::{CountedAgent, counted};
-pub use holds::{TwoEnter, UntilHeard, Watch};
+pub use holds::{TwoEnter, Watch};
