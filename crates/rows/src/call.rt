@@ -31,7 +31,7 @@ pub const STEADY: Outside = Outside {
 pub struct Row {
     /// A name for it.
     pub name: &'static str,
-    /// The words behind the program's name.
+    /// The words after the program's name.
     pub words: &'static str,
     pub input: &'static [u8],
     /// The status that is due.
@@ -40,7 +40,7 @@ pub struct Row {
     pub text: &'static [u8],
 }
 
-/// The words that stand behind the program's name.
+/// The words that stand after the program's name.
 fn words_of(alloc: Global, words: &str) -> Result<Vec<String>, Fail> {
     let mut all = Vec::new(alloc);
     for word in words.split_whitespace() {

@@ -71,7 +71,7 @@ pub fn queued_while_it_runs()
 {}
 
 /// A callback waits with the lock of the device's scope. The first DPC of its processor needs that, and so do a timer and a
-/// queue: they name `scope`, and so does the interrupt's DPC behind the first. The power-down waits at `quiet` for the frame.
+/// queue: they name `scope`, and so does the interrupt's DPC after the first. The power-down waits at `quiet` for the frame.
 pub fn quiet_waits_for_a_frame()
     ensures { IsShown quiet_waits_for_a_frame_plan quiet_waits_for_a_frame_events ending.Stuck quiet_waits_for_a_frame_waits }
 {}

@@ -13,7 +13,7 @@ use wdf_base::{Memory, Name};
 use wdf_scene::Scene;
 
 /// The scene that `n` gives: two devices, and 2,900 reads from them by the words of the seed `n`. Its
-/// lines have the numbers of its canonical text. An error is want of memory.
+/// lines have the numbers of its canonical text. The one error is that memory is out.
 pub fn generate(alloc: Global, n: u64) -> Result<Scene, Memory>
     ensures { IfOk result (λ scene. scene ≡ generated n) }
 {

@@ -35,7 +35,7 @@ use Rattle.wdf_gen_laws.proofs.Texts.{app_then, apps_of, text_nested}
 abbrev in_app : ℕ → Stand
 in_app b = record { block = Some b; device = None; callback = None; nested = 0 }
 
--- behind the devices, so many apps and so many reads
+-- after the devices, so many apps and so many reads
 abbrev so_far : ℕ → ℕ → Counts
 so_far apps posts = record {
   nodes = 10;

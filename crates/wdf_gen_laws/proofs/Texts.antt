@@ -146,7 +146,7 @@ text_nested ws =
     ∙ append_assoc head_lines a0 (a1 ++ (a2 ++ a3))
     ∙ ap (λ (xs : List Written). head_lines ++ xs) from0
 
--- behind the first three lines, in no block
+-- after the first three lines, in no block
 abbrev between : Position
 between = record { version = 1; headers = 3; blocks = []; driver = false; pnp = false; order = false }
 

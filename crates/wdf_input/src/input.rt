@@ -66,7 +66,7 @@ pub fn read_whole<S: Source>(alloc: Global, source: &mut S) -> Result<Vec<u8>, I
     Err(InputError::TooLarge)
 }
 
-/// Reads once, behind the text that is there, and answers how many bytes came: 0 at the end.
+/// Reads once, after the text that is there, and answers how many bytes came: 0 at the end.
 #[tactic(auto, using(wdf_io::proofs::Pieces::keeps_same))]
 fn read_piece<S: Source>(
     source: &mut S,

@@ -19,7 +19,7 @@ Takes None after bytes = ⊤
 Takes (Some left) None bytes = ⊥
 Takes (Some left) (Some rest) bytes = left ≡ bytes ++ rest
 
--- a sink that tells what was written has the bytes behind what it had
+-- a sink that tells what was written has the bytes after what it had
 abbrev pub Gains : Option (List ℕ) → Option (List ℕ) → List ℕ → Type 0
 Gains None after bytes = ⊤
 Gains (Some written) None bytes = ⊥

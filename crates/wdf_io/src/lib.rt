@@ -29,7 +29,7 @@ pub trait Source {
     ghost faults: { Self → ℕ };
 
     /// Fills the front of `buf` with the next bytes and answers how many: 0 is the end of the input.
-    /// What stands behind them in `buf` is left open.
+    /// What stands after them in `buf` is left open.
     ///
     /// # Errors
     ///

@@ -31,7 +31,7 @@ use Rattle.wdf_model.specs.rules.Calls.{Outcome, create_outcome, creation, forwa
 use Rattle.wdf_model.specs.laws.Fits.{all_fit, fits, is_given}
 use Rattle.wdf_model.proofs.Tests.{alone, both, both_left, both_right, either_false, itself, not_false, second}
 
--- deeds that fit, and others that fit behind them
+-- deeds that fit, and others that fit after them
 pub fit_behind : {A : Type 0} (plan : Plan) (ds es : List Deed) (S : State A) → all_fit plan ds S ≡ true → all_fit plan es (do_deeds plan ds S) ≡ true
     → all_fit plan (ds ++ es) S ≡ true
 fit_behind plan [] es S h k = k

@@ -9,7 +9,7 @@ put_within blank [] id new h = absurd (omega arith)
 put_within blank (x ∷ xs) zero new h = refl
 put_within blank (x ∷ xs) (suc id) new h = ap (λ ys. x ∷ ys) (put_within blank xs id new (omega arith))
 
--- behind the end, blank entries come first
+-- after the end, blank entries come first
 pub put_behind : {T : Type 0} (blank : T) (xs : List T) (more : ℕ) (new : T) → put blank xs (length xs + more) new ≡ xs ++ replicate more blank ++ new ∷ []
 put_behind blank [] zero new = refl
 put_behind {T} blank [] (suc more) new =
@@ -56,7 +56,7 @@ entry_map blank [] g (suc id) e = sym e
 entry_map blank (x ∷ xs) g zero e = refl
 entry_map blank (x ∷ xs) g (suc id) e = entry_map blank xs g id e
 
--- behind the end stand blank entries
+-- after the end stand blank entries
 pub entry_past : {T : Type 0} (blank : T) (xs : List T) (id : ℕ) → length xs ≤ id → entry blank xs id ≡ blank
 entry_past blank [] id h = refl
 entry_past blank (x ∷ xs) zero h = absurd (omega arith)

@@ -72,7 +72,7 @@ form_only : (x : RequestForm) (w : List ℕ) → form_named w ≡ Some x → for
 unfolding form_named
 form_only x w e = form-only x w e
 
--- a form is spelled by its first word and the tokens behind it
+-- a form is spelled by its first word and the tokens after it
 pub record Spells (k : Keyword) (ts : List Token) (f : SceneLine) : Type 0 where
   pub tokens : plain_tokens f ≡ word k ∷ ts
   pub plain : is_plain_form f ≡ true

@@ -36,7 +36,7 @@ forms_from base ws = map (λ l. l.form) (lines_at base ws)
 abbrev are_written : List WrittenLine → Bool
 are_written ws = list_all (λ w. is_written w.written) ws
 
--- what is known of the lines behind
+-- what is known of the lines after
 abbrev Goes : ℕ → List (List ℕ) → Type 0
 Goes number lines = (r : Reader) (ws : List WrittenLine) (p : Position) → token_lines number lines ≡ Some (map spelled_line ws) → are_written ws ≡ true → blocks.after_lines (Some r.place.position) (forms_from (next_node r.builder) ws) ≡ Some p → Forward r number lines ws
 

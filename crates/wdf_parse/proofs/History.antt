@@ -76,7 +76,7 @@ first_not_front (line.Level None) h = absurd (let z : ⊥ = cc in z)
 first_not_front (line.Level (Some l)) h = absurd (let z : ⊥ = cc in z)
 first_not_front _ h = absurd (let z : ⊥ = cc in z)
 
--- what is known of the lines behind
+-- what is known of the lines after
 abbrev Onward : ℕ → List (List ℕ) → Reader → Type 0
 Onward number lines now = (r : Reader) → is_at_front r.place.position ≡ false → after_lines (Ok r) number lines ≡ Ok now → History r number lines now
 
@@ -137,7 +137,7 @@ inside_by r now number l ls (Ok (t ∷ ts)) inside is onward e =
     (λ w _. not_front_moved r.place.position (line_at (next_node r.builder) w) inside) onward
     (ap (λ o. after_lines (or_bad_line number o) (suc number) ls) (sym plain) ∙ e)
 
--- behind the front of a text
+-- after the front of a text
 history : (lines : List (List ℕ)) (number : ℕ) (now : Reader) → Onward number lines now
 unfolding after_line
 history [] number now r inside e = record { ws = []; good = tt; taken = cc; tokens = refl }

@@ -8,7 +8,7 @@ use Rattle.wdf_parse.specs.declared.lexer.TokenFault.{TokenFault}
 use Rattle.wdf_parse.specs.declared.lexer.Piece.{Piece}
 use Rattle.wdf_parse.specs.Tokens.{piece_of, token_at, with_token, tokens_from}
 
--- a reading behind tokens that are read already
+-- a reading after tokens that are read already
 abbrev pub after : List Token → Result (List Token) TokenFault → Result (List Token) TokenFault
 after done (Ok tokens) = Ok (done ++ tokens)
 after done (Err fault) = Err fault
@@ -22,13 +22,13 @@ tokens_from_skip column (suc skip) (b ∷ bytes) =
     let e : suc column + skip ≡ column + suc skip = omega arith in
     tokens_from_skip (suc column) skip bytes ∙ ap (λ n. tokens_from n 0 (drop skip bytes)) e
 
--- the piece in front, and what is read behind it
+-- the piece in front, and what is read after it
 pub tokens_from_head : (column b : ℕ) (rest : List ℕ) (p : Piece) → p ≡ piece_of (b ∷ rest) → tokens_from column 0 (b ∷ rest) ≡ with_token (token_at column p.content) (tokens_from (suc column + (p.size - 1)) 0 (drop (p.size - 1) rest))
 tokens_from_head column b rest p is =
     ap (λ (q : Piece). with_token (token_at column q.content) (tokens_from (suc column) (q.size - 1) rest)) (sym is)
     ∙ ap (with_token (token_at column p.content)) (tokens_from_skip (suc column) (p.size - 1) rest)
 
--- the piece at a place, and what is read behind it
+-- the piece at a place, and what is read after it
 pub tokens_from_piece : (line : List ℕ) (at : ℕ) (p : Piece) → at < length line → p ≡ piece_of (drop at line) → 0 < p.size → tokens_from (at + 1) 0 (drop at line) ≡ with_token (token_at (at + 1) p.content) (tokens_from (at + p.size + 1) 0 (drop (at + p.size) line))
 tokens_from_piece line at p inside is some =
     let cut : drop at line ≡ get_or line at 0 ∷ drop (suc at) line = drop-cons line at 0 inside in
@@ -78,7 +78,7 @@ pub read_up_to_end : (line : List ℕ) (at : ℕ) (done : List Token) → ReadUp
 read_up_to_end line at done before outside =
     before.splits ∙ ap (λ bytes. after done (tokens_from (at + 1) 0 bytes)) (drop_all at line outside) ∙ ap (λ (l : List Token). Ok l) (append-nil done)
 
--- the slice behind a place
+-- the slice after a place
 pub slice_behind : (line : List ℕ) (at : ℕ) → take (length line - at) (drop at line) ≡ drop at line
 slice_behind line at = rw (← length-drop at line) (take-length (drop at line))
 

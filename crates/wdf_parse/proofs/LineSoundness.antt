@@ -121,7 +121,7 @@ tree_spelled (suc d) [] t rest e = absurd (let z : ⊥ = cc in z)
 tree_spelled (suc d) (token.Open ∷ ls) t rest e = left_spelled d t ls rest (read_tree d ls) (tree_spelled d) refl e
 tree_spelled (suc d) (x ∷ ts) t rest e = leaf_spelled (suc d) (x ∷ ts) (atom_in (first_token (x ∷ ts))) t rest refl e
 
--- a line is spelled by its first word and the tokens behind it
+-- a line is spelled by its first word and the tokens after it
 pub record SpellsLine (ts : List Token) (w : Written) : Type 0 where
   pub tokens : written_tokens w ≡ ts
   pub written : is_written w ≡ true

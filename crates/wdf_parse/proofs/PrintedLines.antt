@@ -48,7 +48,7 @@ expr_pair : (d : ℕ) (exprs : List SceneExpr) (e : ℕ) (op : Operator) (x y : 
 unfolding expr_tokens
 expr_pair d exprs e op x y is = ap (found_tokens (node_tokens (expr_tokens d exprs))) is
 
--- tokens behind those of a pair
+-- tokens after those of a pair
 pair_then : (a : Token) (l : List Token) (b : Token) (r : List Token) (c : Token) (rest : List Token) → (a ∷ (l ++ (b ∷ (r ++ c ∷ [])))) ++ rest ≡ a ∷ (l ++ (b ∷ (r ++ (c ∷ rest))))
 pair_then a l b r c rest =
     ap (λ (xs : List Token). a ∷ xs) (append_assoc l (b ∷ (r ++ c ∷ [])) rest ∙ ap (λ (xs : List Token). l ++ (b ∷ xs)) (append_assoc r (c ∷ []) rest))

@@ -6,7 +6,7 @@ use Rattle.std.proofs.lemmas.List.{drop_all}
 use Rattle.std.proofs.lemmas.List.Sums.{take_while-cons}
 use Rattle.wdf_parse.specs.Tokens.{is_inside, lines_of, with_byte}
 
--- the first line of the bytes, and the lines behind its end
+-- the first line of the bytes, and the lines after its end
 abbrev BeginsWith : List ℕ → List ℕ → Type 0
 BeginsWith bytes line = lines_of bytes ≡ line ∷ lines_of (drop (length line + 1) bytes)
 
@@ -32,7 +32,7 @@ first_line b (c ∷ rest) =
     subst (BeginsWith (b ∷ c ∷ rest)) (sym (take_while-cons is_inside b (c ∷ rest)))
     (begins_by_test b (take_while is_inside (c ∷ rest)) (c ∷ rest) (b == 10) refl (λ inside. begins_with_byte b c rest (take_while is_inside (c ∷ rest)) inside (first_line c rest)))
 
--- the line at a place, and the lines behind it
+-- the line at a place, and the lines after it
 pub lines_from : (text : List ℕ) (at : ℕ) → at < length text → lines_of (drop at text) ≡ take_while is_inside (drop at text) ∷ lines_of (drop (at + (length (take_while is_inside (drop at text)) + 1)) text)
 lines_from text at inside =
     let cut : drop at text ≡ get_or text at 0 ∷ drop (suc at) text = drop-cons text at 0 inside in

@@ -16,11 +16,11 @@ length_nodes base (Node op l r) =
     length-append (nodes base l) (nodes (base + size l) r ++ expr.Binary op (root base l) (root (base + size l) r) ∷ [])
     ∙ omega (arith, length_nodes base l, length_nodes (base + size l) r, length-append (nodes (base + size l) r) (expr.Binary op (root base l) (root (base + size l) r) ∷ []))
 
--- nodes behind nodes
+-- nodes after nodes
 pub with_nodes_twice : (s : Scene) (a b : List SceneExpr) → with_nodes (with_nodes s a) b ≡ with_nodes s (a ++ b)
 with_nodes_twice s a b = ap (λ (xs : List SceneExpr). record s { exprs = xs }) (append_assoc s.exprs a b)
 
--- the numbers go on behind what is built
+-- the numbers go on after what is built
 pub next_node_behind : (t : Tree) (old new : Scene) → new ≡ with_nodes old (nodes (next_node old) t) → next_node new ≡ next_node old + size t
 next_node_behind t old new is =
     ap next_node is ∙ length-append old.exprs (nodes (next_node old) t) ∙ ap (λ n. next_node old + n) (length_nodes (next_node old) t)

@@ -61,12 +61,12 @@ abbrev pub form_line : Form → SceneLine
 form_line (form.Line l) = l
 form_line form.Picked = line.Picks
 
--- its picks, where these tokens stand behind the first word
+-- its picks, where these tokens stand after the first word
 abbrev pub form_picks : Form → List Token → List ℕ
 form_picks (form.Line l) ts = []
 form_picks form.Picked ts = map number_in ts
 
--- a line is read, whose tokens behind the first word may be picks
+-- a line is read, whose tokens after the first word may be picks
 pub record BuildsForm (w : Written) (f : Form) (ts : List Token) (old new : Scene) : Type 0 where
   pub line_is : form_line f ≡ line_at (next_node old) w
   pub picks_are : picks_in w ≡ form_picks f ts

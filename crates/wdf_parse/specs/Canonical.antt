@@ -13,7 +13,7 @@ written_text w = line_text (written_tokens w.written)
 unfoldable pub canonical_text : ℕ → List WrittenLine → List ℕ
 canonical_text version ws = version_text version ++ flat_map written_text ws
 
--- the tokens behind another one, without the line's end
+-- the tokens after another one, without the line's end
 abbrev pub rest_bytes : List Token → List ℕ
 rest_bytes [] = []
 rest_bytes (t ∷ ts) = 32 ∷ (token_text t ++ rest_bytes ts)

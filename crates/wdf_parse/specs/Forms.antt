@@ -1,4 +1,4 @@
--- The line forms without expressions: what the tokens behind the first word are.
+-- The line forms without expressions: what the tokens after the first word are.
 use Rattle.std.specs.Prelude.{ℕ, List, [], ◌∷◌, Bool, true, false, Option, Some, None, option_map}
 use Rattle.wdf_base.specs.declared.call.Callback.{Callback}
 use Rattle.wdf_base.specs.declared.declared.DeferredKind.{DeferredKind}
@@ -186,7 +186,7 @@ abbrev pub get_line : List Token → Option SceneLine
 get_line (token.Word x ∷ token.Assign ∷ token.Word r ∷ []) = Some (line.Get x r)
 get_line _ = None
 
--- the line with this first word and these tokens behind it
+-- the line with this first word and these tokens after it
 abbrev pub plain_line : Keyword → List Token → Option SceneLine
 plain_line keyword.Cpus ts = option_map (λ n. line.Cpus n) (one_number ts)
 plain_line keyword.Limit ts = option_map (λ n. line.Limit n) (one_number ts)

@@ -27,7 +27,7 @@ token_text token.Close = codes ")"
 token_text token.Assign = codes "="
 token_text (token.Infix op) = operator_word op
 
--- tokens behind another one, and the line's end
+-- tokens after another one, and the line's end
 abbrev pub rest_text : List Token → List ℕ
 rest_text [] = 10 ∷ []
 rest_text (t ∷ ts) = 32 ∷ (token_text t ++ rest_text ts)

@@ -59,7 +59,7 @@ abbrev pub is_close : Option Token → Bool
 is_close (Some token.Close) = true
 is_close _ = false
 
--- an expression at the front of some tokens, and the tokens behind it
+-- an expression at the front of some tokens, and the tokens after it
 pub data TreeReading : Type 0 where
   NoTree : TreeReading
   TreeBefore : Tree → List Token → TreeReading
@@ -73,7 +73,7 @@ abbrev pub closed_read : Tree → Bool → List Token → TreeReading
 closed_read t false ts = NoTree
 closed_read t true ts = TreeBefore t ts
 
--- what is read behind the operator
+-- what is read after the operator
 abbrev pub right_read : Tree → Operator → TreeReading → TreeReading
 right_read l op NoTree = NoTree
 right_read l op (TreeBefore r ts) = closed_read (Node op l r) (is_close (first_token ts)) (drop 1 ts)
@@ -82,7 +82,7 @@ abbrev pub operator_read : (List Token → TreeReading) → Tree → Option Oper
 operator_read read l None ts = NoTree
 operator_read read l (Some op) ts = right_read l op (read ts)
 
--- what is read behind the parenthesis that opens
+-- what is read after the parenthesis that opens
 abbrev pub left_read : (List Token → TreeReading) → TreeReading → TreeReading
 left_read read NoTree = NoTree
 left_read read (TreeBefore l ts) = operator_read read l (operator_in (first_token ts)) (drop 1 ts)
@@ -130,7 +130,7 @@ abbrev pub single_behind : Option Front → List Token → Option Written
 single_behind None ts = None
 single_behind (Some f) ts = single_of f.head (whole_tree (read_tree 16 (drop f.used ts)))
 
--- an argument of a call, and the tokens behind it
+-- an argument of a call, and the tokens after it
 pub data ArgumentReading : Type 0 where
   NoArgument : ArgumentReading
   ArgumentBefore : Argument → List Token → ArgumentReading
@@ -188,7 +188,7 @@ abbrev pub picks_written : List Token → Option Written
 picks_written [] = None
 picks_written (t ∷ ts) = if list_all is_number (t ∷ ts) then Some (Picked (map number_in (t ∷ ts))) else None
 
--- the line without picks with this first word and these tokens behind it
+-- the line without picks with this first word and these tokens after it
 abbrev pub read_unpicked : Keyword → List Token → Option Written
 read_unpicked keyword.Call ts = call_behind (call_front ts) ts
 read_unpicked keyword.Let ts = single_behind (read_front keyword.Let ts) ts
@@ -200,7 +200,7 @@ read_unpicked keyword.Log ts = single_behind (read_front keyword.Log ts) ts
 read_unpicked keyword.Return ts = single_behind (read_front keyword.Return ts) ts
 read_unpicked k ts = option_map (λ form. Plain form) (plain_line k ts)
 
--- the line with this first word and these tokens behind it
+-- the line with this first word and these tokens after it
 abbrev pub read_by : Keyword → List Token → Option Written
 read_by keyword.Picks ts = picks_written ts
 read_by k ts = read_unpicked k ts

@@ -19,7 +19,7 @@ shifted s number form = record {
   openers = openers_after s.openers number form;
 }
 
--- behind a line that may stand there
+-- after a line that may stand there
 abbrev pub standing_after : Standing → ℕ → SceneLine → Standing
 standing_after s number form = record { position = moved s.position form; openers = openers_after s.openers number form }
 

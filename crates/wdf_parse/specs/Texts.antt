@@ -66,7 +66,7 @@ refused number fault.NotAscii = refusal.NotAscii number
 refused number (fault.BadToken col) = refusal.BadToken number col
 refused number (fault.NumberTooLarge col) = refusal.NumberTooLarge number col
 
--- behind a line: its bytes, then its tokens, then its form; a line without tokens counts, and changes nothing
+-- after a line: its bytes, then its tokens, then its form; a line without tokens counts, and changes nothing
 abbrev pub after_tokens : Reader → ℕ → Result (List Token) TokenFault → Result Reader ParseRefusal
 after_tokens r number (Ok []) = Ok r
 after_tokens r number (Ok (t ∷ ts)) = or_bad_line number (tokens_taken r number (t ∷ ts))
@@ -75,7 +75,7 @@ after_tokens r number (Err f) = Err (refused number f)
 unfoldable pub after_line : Reader → ℕ → List ℕ → Result Reader ParseRefusal
 after_line r number line = after_tokens r number (line_reading line)
 
--- behind some lines, the first of which has this number
+-- after some lines, the first of which has this number
 abbrev pub after_lines : Result Reader ParseRefusal → ℕ → List (List ℕ) → Result Reader ParseRefusal
 after_lines (Err e) number lines = Err e
 after_lines (Ok r) number [] = Ok r
@@ -98,7 +98,7 @@ finished past (Err e) = Err e
 unfoldable pub reading : List ℕ → Result Scene ParseRefusal
 reading text = finished (length (lines_of text) + 1) (after_lines (Ok (opening 1)) 1 (lines_of text))
 
--- an error tells the refusal, or want of memory
+-- an error tells the refusal, or out of memory
 abbrev pub IsRefusalOf : {A : Type 0} → Result A ParseRefusal → ParseRefusal → Type 0
 IsRefusalOf r refusal.Memory = Unit {0}
 IsRefusalOf r e = r ≡ Err e

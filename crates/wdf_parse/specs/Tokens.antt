@@ -25,7 +25,7 @@ is_plain b = b == 9 || b == 10 || b == 13 || (nat_le 32 b && nat_le b 126)
 abbrev pub is_blank : ℕ → Bool
 is_blank b = b == 32 || b == 9 || b == 13
 
--- a byte of a name behind its first letter
+-- a byte of a name after its first letter
 abbrev pub is_name_byte : ℕ → Bool
 is_name_byte b = is_ascii_alphabetic b || is_ascii_digit b || b == 95
 
@@ -79,7 +79,7 @@ mark_token b =
     else (if b == 61 then Some token.Assign
     else option_map token.Infix (operator_of b)))
 
--- the token that a mark and a mark `=` behind it write
+-- the token that a mark and a mark `=` after it write
 abbrev pub pair_token : ℕ → ℕ → Option Token
 pair_token b next =
     if next == 61 then (if b == 61 then Some (token.Infix operator.Equals)
@@ -110,7 +110,7 @@ token_at column (Whole token) = Ok (Some token)
 token_at column Foreign = Err (BadToken column)
 token_at column TooLarge = Err (NumberTooLarge column)
 
--- what is read of a piece, and of the bytes behind it
+-- what is read of a piece, and of the bytes after it
 abbrev pub with_token : Result (Option Token) TokenFault → Result (List Token) TokenFault → Result (List Token) TokenFault
 with_token (Ok None) rest = rest
 with_token (Ok (Some token)) (Ok tokens) = Ok (token ∷ tokens)
@@ -128,7 +128,7 @@ tokens_from column zero (b ∷ bytes) =
 abbrev pub line_reading : List ℕ → Result (List Token) TokenFault
 line_reading line = if list_all is_plain line then tokens_from 1 0 line else Err NotAscii
 
--- what an error says of a reading: nothing for want of memory, else its fault
+-- what an error says of a reading: nothing for out of memory, else its fault
 abbrev pub IsFaultOf : Result (List Token) TokenFault → LexError → Type 0
 IsFaultOf reading (Fault fault) = reading ≡ Err fault
 IsFaultOf reading Memory = Unit {0}

@@ -74,7 +74,7 @@ pub fn read_tree(
     }
 }
 
-/// Reads what stands behind the parenthesis that opens.
+/// Reads what stands after the parenthesis that opens.
 #[cycle(tree)]
 fn read_pair(
     builder: &mut SceneBuilder,

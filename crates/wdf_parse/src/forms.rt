@@ -1,4 +1,4 @@
-//! The line forms without expressions: what the tokens behind the first word are.
+//! The line forms without expressions: what the tokens after the first word are.
 ghost use Rattle.std.specs.Prelude.{◌≡◌};
 ghost use Rattle.wdf_parse.specs.Forms as forms;
 ghost use Rattle.wdf_parse.specs.Keywords.{keyword_of};
@@ -477,7 +477,7 @@ fn get_line(tokens: &[Token]) -> Option<SceneLine>
     }
 }
 
-/// The line without expressions and picks with this first word and these tokens behind it.
+/// The line without expressions and picks with this first word and these tokens after it.
 pub fn plain_line(first: Keyword, rest: &[Token]) -> Option<SceneLine>
     ensures { result ≡ forms.plain_line first rest.now }
 {

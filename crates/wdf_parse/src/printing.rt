@@ -41,7 +41,7 @@ fn push_token(out: &mut Vec<u8>, token: &Token) -> Result<(), Memory>
     }
 }
 
-/// Adds the tokens behind the first of a line, and the line's end.
+/// Adds the tokens after the first of a line, and the line's end.
 fn push_rest(out: &mut Vec<u8>, tokens: &[Token]) -> Result<(), Memory>
     ensures { OnOk result (out.new.items ≡ out.old.items ++ printing.rest_text tokens.now) }
 {

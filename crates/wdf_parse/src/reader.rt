@@ -114,7 +114,7 @@ impl Reader {
         }
     }
 
-    /// Takes a line that is read, if it may stand here, and answers whether. Behind its first word
+    /// Takes a line that is read, if it may stand here, and answers whether. After its first word
     /// stand these tokens.
     fn take_form(&mut self, number: u32, form: &Form, tokens: &[Token]) -> Result<bool, Memory>
         requires lines { length self.old.builder.lines + 1 < 2 ^ 32 }

@@ -23,7 +23,7 @@ pub const EXPRESSION_DEPTH: u8 = 16;
 #[derive(Clone, Copy)]
 struct Front {
     head: StatementHead,
-    /// How many tokens behind the first word belong to it.
+    /// How many tokens after the first word belong to it.
     used: usize,
 }
 
@@ -32,7 +32,7 @@ struct Front {
 pub enum Form {
     /// A line without picks.
     Line(SceneLine),
-    /// The line `picks`; the tokens behind the word are its numbers.
+    /// The line `picks`; the tokens after the word are its numbers.
     Picked,
 }
 
@@ -41,7 +41,7 @@ pub enum Form {
 struct CallFront {
     kind: CallKind,
     into: Option<Name>,
-    /// How many tokens behind the first word belong to it.
+    /// How many tokens after the first word belong to it.
     used: usize,
 }
 
@@ -230,7 +230,7 @@ fn are_numbers(tokens: &[Token]) -> bool
     tokens.iter().all(|token| is_number(token))
 }
 
-/// The line `picks`, if numbers stand behind the word.
+/// The line `picks`, if numbers stand after the word.
 fn picks_form(tokens: &[Token]) -> Option<Form>
     ensures { (s : Scene) → IsFormRead (reading.picks_written tokens.now) result tokens.now s s }
 {
@@ -273,7 +273,7 @@ fn unpicked(line: Option<SceneLine>) -> Option<Form>
     }
 }
 
-/// Reads the line with this first word and these tokens behind it, but for its picks. After an error,
+/// Reads the line with this first word and these tokens after it, but for its picks. After an error,
 /// or None, nothing is said of the scene.
 fn read_by(
     builder: &mut SceneBuilder,

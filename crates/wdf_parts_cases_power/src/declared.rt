@@ -4,7 +4,7 @@ use std::test::Fail;
 use wdf_base::*;
 use wdf_declared::{declares, device_of, interrupt_of, queue_of};
 
-/// The ids of the driver object, of what is declared behind it, and of nothing.
+/// The ids of the driver object, of what is declared after it, and of nothing.
 #[test]
 fn ids_say_what_is_declared(rt: HostRuntime) -> Result<(), Fail> {
     let queues = with_queues(rt.alloc())?;

@@ -1,4 +1,4 @@
--- The agents of a plan are the apps, and behind them the devices and the targets.
+-- The agents of a plan are the apps, and after them the devices and the targets.
 use Rattle.std.proofs.Common.{◌≡◌, ℕ, ◌+◌, ◌-◌, List, ◌++◌, length, Option, refl, ap, sym, ◌∙◌, arith, take, drop, append_assoc}
 use Rattle.std.proofs.lemmas.List.{length-append, take_at, drop_at}
 use Rattle.std.specs.Prelude.{option_and_then}
@@ -48,7 +48,7 @@ target_list scene names =
 less_step : (a d t total d' t' : ℕ) → total ≡ (a + d) + t → d' ≡ d → t' ≡ t → total - (d' + t') ≡ a
 less_step a d t total d' t' all e f = omega arith
 
--- behind the apps come as many agents as names of devices and targets
+-- after the apps come as many agents as names of devices and targets
 pub app_length : (scene : Scene) → app_count (plan_of scene) ≡ length (filter_map (λ p. app_agent scene (declarations scene) p p.form) (placed scene))
 unfolding plan_of plan_with all_agents
 app_length scene =
@@ -82,7 +82,7 @@ apps_are scene =
 abbrev pub agent_on : Scene → Placed → Option AgentInfo
 agent_on scene p = device_agent scene (declarations scene) p p.form
 
--- behind the apps come the agents of the devices and of the targets
+-- after the apps come the agents of the devices and of the targets
 pub agents_behind : (scene : Scene) → drop (app_count (plan_of scene)) (plan_of scene).agents ≡ filter_map (agent_on scene) (placed scene) ++ filter_map (λ p. target_agent (declarations scene) p.form) (placed scene)
 unfolding plan_of plan_with all_agents
 agents_behind scene =

@@ -9,7 +9,7 @@ use Rattle.wdf_plan.specs.declared.placed.Stand.{Stand}
 use Rattle.wdf_plan.specs.Placed.{counted, opened_by, placed_line, placed_from}
 use Rattle.wdf_plan.proofs.Every.{Every, every_map, every_kept, every_both, any_none}
 
--- each item stands so to each one behind it
+-- each item stands so to each one after it
 abbrev pub Pairs : {P : Type 0} → (P → P → Type 0) → List P → Type 0
 Pairs R [] = Unit {0}
 Pairs R (p ∷ ps) = Every (R p) ps × Pairs R ps

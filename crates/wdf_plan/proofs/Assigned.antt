@@ -22,7 +22,7 @@ pub collect_over : (lines : List NumberedLine) (from depth k : ℕ) (names : Lis
 collect_over lines from depth k names l s here is ends =
     rw (s.answer, step lines depth k names l here is, ← ends) refl
 
--- it goes on behind a line
+-- it goes on after a line
 pub collect_more : (lines : List NumberedLine) (from depth depth' k : ℕ) (names names' : List (List ℕ)) (l : NumberedLine) (o : Option (List ℕ)) → IsCollected lines from depth k names → k < length lines → l ≡ get_or lines k l → false ≡ ends_block depth l.form → o ≡ assigned_name l.form → names' ≡ with_assigned names o → depth' ≡ depth_behind depth l.form → IsCollected lines from depth' (k + 1) names'
 collect_more lines from depth depth' k names names' l o s here is ends found grown deep =
     rw (deep, add-one, grown, found) (record {
@@ -37,7 +37,7 @@ collect_end lines from depth k names s past =
     let e : assigned_from names depth (drop k lines) ≡ names = rw (drop_all k lines past) refl in
     sym (s.answer ∙ e)
 
--- a callback that the text ends behind has no variables
+-- the callback in which the text ends has no variables
 pub variables_past : (scene : Scene) (lines : List NumberedLine) (k : ℕ) (names : List (List ℕ)) → lines ≡ scene.lines → length lines ≤ k → names ≡ [] → names ≡ variables scene k
 unfolding variables assigned_from
 variables_past scene lines k names same past none' =

@@ -1,4 +1,4 @@
--- Behind the line that begins a callback stand the callback's lines, with its end among them.
+-- After the line that begins a callback stand the callback's lines, with its end among them.
 use Rattle.std.proofs.Common.{◌≡◌, ◌⊎◌, inl, inr, ℕ, zero, suc, ◌-◌, Bool, true, false, not, nat_lt, List, [], ◌∷◌, map, drop, length, Option, Some, None, refl, ap, ◌∙◌, arith}
 use Rattle.std.specs.Prelude.{◌==◌, IsTrue}
 use Rattle.std.specs.List.{prefix_len}

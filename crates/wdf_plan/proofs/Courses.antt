@@ -29,7 +29,7 @@ way_ends blocks start lines from way k w past =
     let e : reach blocks way (drop k lines) ≡ way.number = rw (drop_all k lines past) refl in
     sym (w.answer ∙ e)
 
--- it goes on behind a line
+-- it goes on after a line
 pub way_goes_on : (blocks : List Nest) (start : Course) (lines : List NumberedLine) (from : ℕ) (way next : Course) (k : ℕ) (l : NumberedLine) → IsOnTheWay blocks start lines from way k → k < length lines → l ≡ get_or lines k l → Some next ≡ passed blocks way l.form → IsNear way next → IsOnTheWay blocks start lines from next (k + 1)
 way_goes_on blocks start lines from way next k l w here is goes near =
     record {

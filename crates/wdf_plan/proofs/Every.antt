@@ -114,7 +114,7 @@ every_both P Q (x ∷ xs) h g = ((h.0, g.0), every_both P Q xs h.1 g.1)
 
 -- ---- places
 
--- what stands at place n behind the first j
+-- what stands at place n after the first j
 pub drop_get : {T : Type 0} (xs : List T) (j n m : ℕ) (x : T) → m ≡ j + n → slice_get xs m ≡ Some x → slice_get (drop j xs) n ≡ Some x
 drop_get [] j n m x i e = absurd (let z : ⊥ = cc in z)
 drop_get (y ∷ ys) zero n m x i e =
@@ -132,7 +132,7 @@ pub every_at_map : {T : Type 0} (P Q : ℕ → T → Type 0) → ((k : ℕ) (x :
 every_at_map P Q f k [] h = tt
 every_at_map P Q f k (x ∷ xs) h = (f k x h.0, every_at_map P Q f (suc k) xs h.1)
 
--- the place of an item behind the first k, with what holds of it there
+-- the place of an item after the first k, with what holds of it there
 pub record HasPlace {T : Type 0} (P : ℕ → T → Type 0) (k : ℕ) (xs : List T) (x : T) : Type 0 where
   pub place : ℕ
   pub is : slice_get xs place ≡ Some x

@@ -25,7 +25,7 @@ here : (scene : Scene) (names : List Declaration) (variables : List (List ℕ)) 
 unfolding refused_at variables_at
 here scene names variables p o declares own is = rw (is, declares, own) refl
 
--- it goes on behind a line that isn't refused
+-- it goes on after a line that isn't refused
 pub underway_more : (scene : Scene) (names : List Declaration) (rest rest' : List Placed) (callback : Option ℕ) (variables variables' : List (List ℕ)) (p : Placed) (o : Option PlanRefusal) → IsUnderway scene rest callback variables → names ≡ declarations scene → rest ≡ p ∷ rest' → variables' ≡ variables_in scene p.stand.callback → o ≡ refused scene names variables' p → o ≡ None → IsUnderway scene rest' p.stand.callback variables'
 underway_more scene names rest rest' callback variables variables' p o u declares next own is none' =
     record {

@@ -76,7 +76,7 @@ entry_own (If h branch closing tail) n = refl
 entry_own (IfElse h first middle second closing tail) n = refl
 entry_own (Repeat h body closing tail) n = refl
 
--- the statements from the lines of a body on are the body's, and then those from behind it
+-- the statements from the lines of a body on are the body's, and then those that follow it
 abbrev Flows : List Declaration → List (List ℕ) → List Nest → ℕ → ℕ → ℕ → Body → List NumberedLine → Type 0
 Flows names variables blocks n m after body rest =
     statements_from names variables blocks n (lines_of body ++ rest) ≡ flow names variables (loops blocks) n after body ++ statements_from names variables blocks m rest
@@ -85,7 +85,7 @@ Flows names variables blocks n m after body rest =
 in_loops : (names : List Declaration) (variables : List (List ℕ)) (blocks : List Nest) (depth n m after : ℕ) (body : Body) (rest : List NumberedLine) → loops blocks ≡ depth → Flows names variables blocks n m after body rest → statements_from names variables blocks n (lines_of body ++ rest) ≡ flow names variables depth n after body ++ statements_from names variables blocks m rest
 in_loops names variables blocks depth n m after body rest e h = h ∙ ap (λ d. flow names variables d n after body ++ statements_from names variables blocks m rest) e
 
--- a body's lines where the way behind it leads to `after`
+-- a body's lines where the way after it leads to `after`
 flows : (names : List Declaration) (variables : List (List ℕ)) (blocks : List Nest) (n m after : ℕ) (body : Body) (rest : List NumberedLine) → n + size body ≡ m → onward blocks m rest ≡ after → Flows names variables blocks n m after body rest
 unfolding lines_of size flow
 flows names variables blocks n m after Empty rest e goes =

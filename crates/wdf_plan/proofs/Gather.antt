@@ -24,7 +24,7 @@ pub record IsGathering {P T : Type 0} (f : P → Option T) (R : P → Type 0) (r
 pub record IsSought {P T : Type 0} (f : P → Option T) (rest : List P) (answer : Option T) : Type 0 where
   pub is : first_some f rest ≡ answer
 
--- the search goes on behind an item that gives nothing
+-- the search goes on after an item that gives nothing
 pub seek_more : {P T : Type 0} (f : P → Option T) (rest rest' : List P) (answer o : Option T) (p : P) → IsSought f rest answer → rest ≡ p ∷ rest' → o ≡ f p → o ≡ None → IsSought f rest' answer
 seek_more f rest rest' answer o p s next found nothing' =
     let e : first_some f (p ∷ rest') ≡ answer = rw next at s.is in

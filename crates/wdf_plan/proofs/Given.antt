@@ -136,7 +136,7 @@ record StandsIn (p : Placed) (b : ℕ) : Type 0 where
   block : p.stand.block ≡ Some b
   no_callback : p.stand.callback ≡ None
 
--- behind the end of a block no line stands in it
+-- after the end of a block no line stands in it
 never_again : (whole : List Placed) (b k : ℕ) (o : Stand) (c : Counts) (stack : List Opener) (ls : List NumberedLine) (n : ℕ) (p : Placed) → b < k → HasNot b stack → AreStacked whole k o c stack ls → slice_get (placed_from k o c ls) n ≡ Some p → StandsIn p b → ⊥
 unfolding placed_from
 never_again whole b k o c stack [] n p h not h' e i = absurd (let z : ⊥ = cc in z)

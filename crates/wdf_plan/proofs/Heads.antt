@@ -21,11 +21,11 @@ lost : (forms : List SceneLine) → after_lines None forms ≡ None
 lost [] = refl
 lost (f ∷ fs) = lost fs
 
--- behind a line that may not stand there no text ends
+-- after a line that may not stand there no text ends
 gone : (forms : List SceneLine) → IsSomeAnd (after_lines None forms) (λ q. IsTrue (is_outside q)) → ⊥
 gone forms h = rw (lost forms) at h
 
--- where a text goes on behind a line, the line may stand there
+-- where a text goes on after a line, the line may stand there
 pub stood : (q : Position) (form : SceneLine) (forms : List SceneLine) (b : Bool) → may_stand q form ≡ b → IsSomeAnd (after_lines (cond b (Some (moved q form)) None) forms) (λ x. IsTrue (is_outside x)) → (may_stand q form ≡ true) × Ends (moved q form) forms
 stood q form forms true e h = (e, h)
 stood q form forms false e h = absurd (gone forms h)
@@ -72,7 +72,7 @@ objects_third v c m (line.Level None) forms h = absurd (gone forms h)
 objects_third v c m (line.Level (Some x)) forms h = absurd (gone forms h)
 objects_third v c m _ forms h = absurd (gone forms h)
 
--- the first three lines, and those behind them
+-- the first three lines, and those after them
 pub record HasHead (v : ℕ) (lines : List NumberedLine) : Type 0 where
   pub first : NumberedLine
   pub second : NumberedLine

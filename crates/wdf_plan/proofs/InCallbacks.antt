@@ -46,7 +46,7 @@ callback_begun whole [] k h e = absurd (let z : ⊥ = cc in z)
 callback_begun whole (x ∷ xs) k h e =
     begun_by whole x xs x.block k refl h.0 e (callback_begun whole xs k h.1)
 
--- ---- behind a line of a callback
+-- ---- after a line of a callback
 
 -- the callback is open at this depth
 pub record IsWithin (o : Stand) (k depth : ℕ) : Type 0 where
@@ -83,7 +83,7 @@ goes_on o k j depth (line.On c) w e s = absurd (let z : ⊥ = cc in z)
 goes_on o k j depth form w e s =
     record { callback = w.callback; nested = as_deep o.nested depth form w.nested (not-true (opens form) s) refl }
 
--- and behind the one that ends it no callback is open
+-- and after the one that ends it no callback is open
 pub leaves : (o : Stand) (k j depth : ℕ) (form : SceneLine) → IsWithin o k depth → ends_block depth form ≡ true → (opened_by o j form).callback ≡ None
 unfolding opened_by is_end
 leaves o k j zero line.End w e =

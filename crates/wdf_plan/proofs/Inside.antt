@@ -99,7 +99,7 @@ no_callback_open xs f e = by_test (in_callback (innermost (map block_of xs))) re
 
 -- ---- the open blocks inside a block
 
--- behind a line inside block x, or in it, that doesn't end it
+-- after a line inside block x, or in it, that doesn't end it
 pub record IsSplit (inner : List Opener) (x : Opener) (outer : List Opener) (k : ℕ) (form : SceneLine) : Type 0 where
   pub within : List Opener
   pub own : Opener
@@ -128,14 +128,14 @@ other_split inner x outer k form None o e is =
 other_split inner x outer k form (Some c) o e is =
     record { within = record { block = c; line = k } ∷ inner; own = x; is = is; depth = rw o refl; line = refl; later = λ h b. (b, h) }
 
--- what is open behind a line
+-- what is open after a line
 pub split : (inner : List Opener) (x : Opener) (outer : List Opener) (k : ℕ) (form : SceneLine) → ends_block (length inner) form ≡ false → IsSplit inner x outer k form
 unfolding is_end
 split inner x outer k line.End e = end_split inner x outer k e
 split inner x outer k line.Else e = else_split inner x outer k
 split inner x outer k form e = other_split inner x outer k form (opened form) refl refl refl
 
--- behind the line that opened the block
+-- after the line that opened the block
 pub behind_opener : (stack : List Opener) (k : ℕ) (form : SceneLine) (b : Block) → opened form ≡ Some b → stack_after stack k form ≡ record { block = b; line = k } ∷ stack
 behind_opener stack k line.End b e = absurd (let z : ⊥ = cc in z)
 behind_opener stack k line.Else b e = absurd (let z : ⊥ = cc in z)

@@ -176,7 +176,7 @@ app_numbers : (scene : Scene) (names : List Declaration) → map agent_name (fil
 app_numbers scene names =
     mapped (λ p. app_agent scene names p p.form) agent_name (number_on names is_app_name) (λ p. app_number scene names p p.form) (placed scene) ∙ sym (by_lines scene names is_app_name)
 
--- ---- the names of the agents behind the apps
+-- ---- the names of the agents after the apps
 
 rest_are : (scene : Scene) → drop (app_count (plan_of scene)) (map agent_name (plan_of scene).agents) ≡ posting_names (plan_of scene)
 unfolding plan_of plan_with all_agents all_objects

@@ -74,7 +74,7 @@ loops_last front x = sum_by_push loop_count front x
 
 -- ---- a line
 
--- the statements and the open blocks behind a line, where the next statement had number n and has number m
+-- the statements and the open blocks after a line, where the next statement had number n and has number m
 pub record IsCounted (blocks behind : List Nest) (n m : ℕ) (form : SceneLine) : Type 0 where
   pub depth : length behind ≡ depth_behind (length blocks) form
   pub number : m + loops behind ≡ n + loops blocks + statements_in form

@@ -38,7 +38,7 @@ number_if num t d = cond (t d) (Some (num d)) None
 abbrev pub numbers_of : (Declaration → ℕ) → (Declaration → Bool) → List Declaration → List ℕ
 numbers_of num t ds = filter_map (number_if num t) ds
 
--- each number is its place behind the first two
+-- each number is its place after the first two
 abbrev pub AreNumbered : (Declaration → ℕ) → ℕ → List Declaration → Type 0
 AreNumbered num k ds = EveryAt (λ i d. num d ≡ i + 2) k ds
 

@@ -29,7 +29,7 @@ unfolding placed counted
 objects_there scene =
     indexed is_object (λ c. c.objects) (object_on scene (declarations scene)) (λ c f n. refl) (λ p. object_tells scene (declarations scene) p p.at p.form) (objects_of scene) [] 0 outside nothing scene.lines refl refl
 
--- in the plan they stand behind the driver and the request
+-- in the plan they stand after the driver and the request
 pub object_place : (scene : Scene) (order : ℕ) → declared_of (plan_of scene) (order + 2) ≡ slice_get (objects_of scene) order
 unfolding plan_of plan_with all_objects
 object_place scene order =

@@ -1,4 +1,4 @@
--- The way behind a statement passes over whole bodies, and leads to the next one that has a statement.
+-- The way after a statement passes over whole bodies, and leads to the next one that has a statement.
 use Rattle.std.proofs.Common.{◌≡◌, ℕ, zero, suc, ◌+◌, ◌-◌, ◌<◌, Bool, true, false, cond, ◌&&◌, nat_lt, List, [], ◌∷◌, ◌++◌, length, Option, Some, None, option_map, slice_get, refl, ap, ◌∙◌, arith, append_assoc}
 use Rattle.std.specs.Prelude.{◌==◌}
 use Rattle.std.proofs.lemmas.Bool.{lt-ltb, le-ltb, ltb-true, ltb-false, ne_eqb}
@@ -220,7 +220,7 @@ past_branch blocks n middle body rest =
 
 -- ---- onward
 
--- the way leads to the first statement of a body, or on from behind it
+-- the way leads to the first statement of a body, or on to what follows it
 pub enter : (blocks : List Nest) (n m after : ℕ) (body : Body) (rest : List NumberedLine) → n + size body ≡ m → onward blocks m rest ≡ after → onward blocks n (lines_of body ++ rest) ≡ entry body n after
 unfolding lines_of size reach passed is_end is_else
 enter blocks n m after Empty rest e h = to_number blocks 0 0 n m rest (omega (arith, e)) ∙ h

@@ -14,7 +14,7 @@ item_behind : {X : Type 0} (front : List X) (x : X) (rest : List X) → slice_ge
 item_behind [] x rest = refl
 item_behind (y ∷ ys) x rest = item_behind ys x rest
 
--- the item behind the first k
+-- the item after the first k
 pub item_there : {X : Type 0} (whole front : List X) (x : X) (rest : List X) (k : ℕ) → whole ≡ front ++ x ∷ rest → length front ≡ k → slice_get whole k ≡ Some x
 item_there whole front x rest k is long = rw (is, ← long) (item_behind front x rest)
 

@@ -122,7 +122,7 @@ pass_line start way next blocks behind n m form h c ends may e =
 
 -- ---- where the statements of a callback end
 
--- the number behind the last statement
+-- the number after the last statement
 abbrev pub end_from : List Declaration → List (List ℕ) → List Nest → ℕ → List NumberedLine → ℕ
 end_from names variables blocks n ls = n + length (statements_from names variables blocks n ls)
 

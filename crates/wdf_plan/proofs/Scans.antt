@@ -36,7 +36,7 @@ depth_less depth n m true e h = omega arith
 depth_less depth n m false true h = omega arith
 depth_less depth n m false false h = omega arith
 
--- it goes on behind a line
+-- it goes on after a line
 pub scan_more : (a : Attribute) (lines : List NumberedLine) (from depth depth' k : ℕ) (l : NumberedLine) → IsScanned a lines from depth k → k < length lines → l ≡ get_or lines k l → false ≡ counts_for a depth l.form → false ≡ ends_block depth l.form → depth' ≡ depth_behind depth l.form → IsScanned a lines from depth' (k + 1)
 scan_more a lines from depth depth' k l s here is counts ends deep =
     rw (deep, add-one) (record {
@@ -49,14 +49,14 @@ scan_more a lines from depth depth' k l s here is counts ends deep =
 pub scan_none : (a : Attribute) (lines : List NumberedLine) (from depth k : ℕ) → IsScanned a lines from depth k → length lines ≤ k → None ≡ given_from a 0 from (drop from lines)
 scan_none a lines from depth k s past = rw (s.answer) (sym (scan_end a lines depth k past))
 
--- a block that the text ends behind is given nothing
+-- the block in which the text ends is given nothing
 pub given_past : (a : Attribute) (scene : Scene) (lines : List NumberedLine) (b : ℕ) → lines ≡ scene.lines → length lines ≤ b → None ≡ given scene b a
 unfolding given
 given_past a scene lines b same past =
     let past' : length scene.lines ≤ suc b = rw (← same) (omega arith) in
     sym (scan_end a scene.lines 0 (suc b) past')
 
--- the search begins behind the line that opens the block
+-- the search begins after the line that opens the block
 pub given_there : (a : Attribute) (scene : Scene) (lines : List NumberedLine) (b : ℕ) (r : Option ℕ) → lines ≡ scene.lines → r ≡ given_from a 0 (b + 1) (drop (b + 1) lines) → r ≡ given scene b a
 unfolding given
 given_there a scene lines b r same e = rw (e, same, add-one) refl

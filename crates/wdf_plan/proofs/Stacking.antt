@@ -1,4 +1,4 @@
--- Each line of a scene stands where the open blocks tell, and behind it the next one does.
+-- Each line of a scene stands where the open blocks tell, and after it the next one does.
 use Rattle.std.proofs.Common.{◌≡◌, ℕ, zero, suc, ◌+◌, ◌-◌, ◌<◌, ◌≤◌, true, false, not, List, [], ◌∷◌, ◌++◌, map, drop, length, Option, Some, None, slice_get, refl, ap, sym, ◌∙◌, arith, append_assoc, length-append}
 use Rattle.std.proofs.lemmas.Bool.{eq-eqb, ne_eqb, and_parts, not-true}
 use Rattle.std.specs.Prelude.{◌==◌, nat_lt}
@@ -20,7 +20,7 @@ use Rattle.wdf_plan.proofs.Heads.{form_of, Ends, stood}
 use Rattle.wdf_plan.proofs.Places.{item_there}
 use Rattle.wdf_plan.proofs.Stacks.{Opener, block_of, pushed, stand_of, stack_after, begun, opens_in, AreBefore, IsOpened, AreOpened, IsStacked, AreStacked, AreFitting, fitting, IsInDevice, none_open, device_open, IsQuiet, quiet, IsInCallback, in_a_callback, owner_quiet}
 
--- ---- behind an `end` the outer block stands as it did
+-- ---- after an `end` the outer block stands as it did
 
 restored : (o : Stand) (c : Option ℕ) (n : ℕ) → o.callback ≡ c → o.nested ≡ n → record o { callback = c; nested = n } ≡ o
 restored o c n e f = rw (← e, ← f) refl

@@ -37,7 +37,7 @@ abbrev pub stand_of : List Opener → Stand
 stand_of [] = outside
 stand_of (x ∷ xs) = pushed x.block x.line (stand_of xs)
 
--- the open blocks behind line k
+-- the open blocks after line k
 abbrev pub with_block : List Opener → ℕ → Option Block → List Opener
 with_block stack k None = stack
 with_block stack k (Some b) = record { block = b; line = k } ∷ stack
@@ -47,7 +47,7 @@ abbrev turned : List Opener → List Opener
 turned [] = []
 turned (x ∷ xs) = record x { block = block.Else } ∷ xs
 
--- what is open behind a line
+-- what is open after a line
 abbrev pub stack_after : List Opener → ℕ → SceneLine → List Opener
 stack_after stack k line.End = drop 1 stack
 stack_after stack k line.Else = turned stack

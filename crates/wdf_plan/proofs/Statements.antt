@@ -103,7 +103,7 @@ beyond_along : (blocks : List Nest) (m k : ℕ) → 0 < length blocks → k ≤ 
 beyond_along blocks m k some' h =
     record { number = h; depth = omega arith; inside = omega arith }
 
--- ways from behind a line lead no further than this
+-- ways on from a line lead no further than this
 Bounded : List Nest → ℕ → List NumberedLine → ℕ → Type 0
 Bounded behind m rest total = (m ≤ total) × ((way : Course) → IsAlong behind way behind m → reach behind way rest ≤ total)
 

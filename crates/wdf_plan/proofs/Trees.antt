@@ -97,7 +97,7 @@ before f ls rest spelled (block.Else ∷ bs) h = ended_before f ls rest spelled 
 before f ls rest spelled (block.Repeat ∷ bs) h = ended_before f ls rest spelled _ h
 before f ls rest spelled (_ ∷ bs) h = absurd h
 
--- a block's body, the line behind it, and then the lines of a body
+-- a block's body, the line after it, and then the lines of a body
 joined : (xs zs more ls rest : List NumberedLine) (l : NumberedLine) → ls ≡ xs ++ l ∷ rest → rest ≡ zs ++ more → ls ≡ (xs ++ l ∷ zs) ++ more
 joined xs zs more ls rest l e f = e ∙ (ap (λ ys. xs ++ l ∷ ys) f ∙ sym (append_assoc xs (l ∷ zs) more))
 
@@ -170,7 +170,7 @@ tree_line bs l (line.Log y) ls e inside picks may h = plain_line bs l ls (rw e r
 tree_line bs l (line.Return y) ls e inside picks may h = plain_line bs l ls (rw e refl) (h inside)
 tree_line bs l _ ls e inside picks may h = absurd (let z : ⊥ = cc in z)
 
--- behind the first three lines a callback's lines are statements, `else` and `end`
+-- after the first three lines a callback's lines are statements, `else` and `end`
 form_in : (v : ℕ) (d p o : Bool) (b : Block) (bs : List Block) (form : SceneLine) → in_callback (Some b) ≡ true → may_stand (record { version = v; headers = 3; blocks = b ∷ bs; driver = d; pnp = p; order = o }) form ≡ true → may_be (b ∷ bs) form ≡ true
 unfolding is_statement
 form_in v d p o b bs line.End h e = refl
@@ -222,7 +222,7 @@ form_of_callback q (b ∷ bs) form is seen inside may =
     ap (λ (n : ℕ). record q { headers = n }) seen ∙ ap (λ (xs : List Block). record q { headers = 3; blocks = xs }) is in
     form_in q.version q.driver q.pnp q.order b bs form (inside_callback b bs inside) (subst (λ r. may_stand r form ≡ true) same may)
 
--- the first three lines stay behind
+-- the first three lines stay after
 still_behind : (q : Position) (form : SceneLine) → q.headers ≡ 3 → may_stand q form ≡ true → (moved q form).headers ≡ 3
 still_behind q (line.Cpus n) seen may = absurd (let no' : (3 == 0) ≡ true = subst (λ h. (h == 0) ≡ true) seen may in let z : ⊥ = cc in z)
 still_behind q (line.Limit n) seen may = absurd (let no' : (3 == 1) ≡ true = subst (λ h. (h == 1) ≡ true) seen may in let z : ⊥ = cc in z)

@@ -56,7 +56,7 @@ unfolding placed_from
 placed_next lines k o c l here is =
     rw (drop-cons lines k l) (rw (← is) refl)
 
--- behind the last line nothing is placed
+-- after the last line nothing is placed
 pub placed_end : (lines : List NumberedLine) (k : ℕ) (o : Stand) (c : Counts) → length lines ≤ k → placed_from k o c (drop k lines) ≡ []
 unfolding placed_from
 placed_end lines k o c h = rw (drop_all k lines h) refl

@@ -39,7 +39,7 @@ writing_ends names vars lines from blocks so_far k w past =
     let e : statements_from names vars blocks (length so_far) (drop k lines) ≡ [] = rw (drop_all k lines past) refl in
     sym (append-nil so_far) ∙ (rw e at w.answer)
 
--- behind these statements comes that of the next line
+-- after these statements comes that of the next line
 pub writing_next : (names : List Declaration) (vars : List (List ℕ)) (lines : List NumberedLine) (from : ℕ) (blocks slice behind slice' : List Nest) (so_far : List Statement) (n k : ℕ) (l : NumberedLine) → IsWritten names vars lines from blocks so_far k → k < length lines → l ≡ get_or lines k l → slice ≡ blocks → false ≡ ends_callback slice l.form → n ≡ length so_far → behind ≡ blocks_behind slice n l.number l.form → slice' ≡ behind → IsNext so_far (statements_from names vars [] 0 (drop from lines)) (statement_on names vars slice slice' n l (drop (k + 1) lines))
 writing_next names vars lines from blocks slice behind slice' so_far n k l w here is same ends count grown same' =
     let ends' : false ≡ ends_callback blocks l.form = rw (← same) ends in
@@ -71,7 +71,7 @@ unfolding statements_of
 statements_there scene names lines vars k (Ok s) same own e = e ∙ rw (own, same, add-one) refl
 statements_there scene names lines vars k (Err x) same own e = tt
 
--- a callback that the text ends behind has none
+-- the callback in which the text ends has none
 pub statements_past : (scene : Scene) (names : List Declaration) (lines : List NumberedLine) (k : ℕ) (s : List Statement) → lines ≡ scene.lines → length lines ≤ k → s ≡ [] → s ≡ statements_of scene names k
 unfolding statements_of statements_from
 statements_past scene names lines k s same past none' =

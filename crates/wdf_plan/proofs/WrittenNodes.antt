@@ -1,4 +1,4 @@
--- Each line of a scene has its own nodes, numbered behind those of the lines before it.
+-- Each line of a scene has its own nodes, numbered after those of the lines before it.
 use Rattle.std.proofs.Common.{◌≡◌, ℕ, suc, ◌+◌, ◌-◌, ◌<◌, ◌≤◌, true, List, [], ◌∷◌, ◌++◌, take, drop, length, refl, ap, sym, subst, ◌∙◌, arith, length-append, drop-drop}
 use Rattle.std.proofs.lemmas.Bool.{and_parts}
 use Rattle.std.proofs.lemmas.List.{drop_at, take-append-le, take_all}

@@ -23,7 +23,7 @@ pub record Opening : Type 0 where
 abbrev pub is_plain : SceneLine → Bool
 is_plain form = is_statement form && not (opens form)
 
--- statements in a row: none, or one and, last, those behind it. An `else` and an `end` are there as their lines' numbers
+-- statements in a row: none, or one and, last, those after it. An `else` and an `end` are there as their lines' numbers
 pub data Body : Type 0 where
   Empty : Body
   -- a statement that opens no block, with its line
@@ -77,13 +77,13 @@ unfoldable pub flow : List Declaration → List (List ℕ) → ℕ → ℕ → �
 flow names variables depth start after Empty = []
 flow names variables depth start after (Plain l is rest) =
     cons_option (plain_statement names variables l (entry rest (start + 1) after)) (flow names variables depth (start + 1) after rest)
--- an `if` goes on to its branch or, where the test fails, to what is behind; so does the branch
+-- an `if` goes on to its branch or, where the test fails, to what is after; so does the branch
 flow names variables depth start after (If h branch closing rest) =
     let behind = start + 1 + size branch in
     let next = entry rest behind after in
     record { line = h.line; next = entry branch (start + 1) next; act = act.If h.expression next }
     ∷ (flow names variables depth (start + 1) next branch ++ flow names variables depth behind after rest)
--- with an `else` it goes on to one of two branches, and both go on to what is behind
+-- with an `else` it goes on to one of two branches, and both go on to what is after
 flow names variables depth start after (IfElse h first middle second closing rest) =
     let other = start + 1 + size first in
     let behind = other + size second in
@@ -99,7 +99,7 @@ flow names variables depth start after (Repeat h body closing rest) =
 
 -- ---- callbacks
 
--- line k begins a callback: behind it stand the lines of a body and an `end`, and the callback's statements are the body's
+-- line k begins a callback: after it stand the lines of a body and an `end`, and the callback's statements are the body's
 pub record HasTree (scene : Scene) (k : ℕ) : Type 0 where
   pub body : Body
   pub closing : ℕ

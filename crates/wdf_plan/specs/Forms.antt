@@ -78,7 +78,7 @@ assigned_name (line.Call k into a b c) = into
 assigned_name (line.Get x r) = Some x
 assigned_name _ = None
 
--- the nodes that end behind an argument, where n stand before it
+-- the nodes that end after an argument, where n stand before it
 unfoldable pub nodes_behind : ℕ → SceneArg → ℕ
 nodes_behind n (arg.Expression e) = suc e
 nodes_behind n _ = n

@@ -14,20 +14,20 @@ use Rattle.wdf_plan.specs.Forms.{is_device, is_object, is_app, is_register, is_c
 abbrev pub outside : Stand
 outside = record { block = None; device = None; callback = None; nested = 0 }
 
--- behind an `end` in a callback
+-- after an `end` in a callback
 abbrev pub closed_in_callback : Stand → Stand
 closed_in_callback o = cond (o.nested == 0) (record o { callback = None }) (record o { nested = o.nested - 1 })
 
--- behind an `end` in no callback: what belongs to a device ends in the device
+-- after an `end` in no callback: what belongs to a device ends in the device
 abbrev pub closed_block : Stand → Stand
 closed_block o = cond (same_option ◌==◌ o.block o.device) outside (record o { block = o.device })
 
--- behind an `end`
+-- after an `end`
 abbrev pub closed : Stand → Stand
 closed o =
     elim o.callback as (λ _. Stand) [ None ↦ closed_block o | Some k ↦ closed_in_callback o ]
 
--- what is open behind line k
+-- what is open after line k
 unfoldable pub opened_by : Stand → ℕ → SceneLine → Stand
 opened_by o k line.Driver = record o { block = Some k }
 opened_by o k (line.Class n c) = record o { block = Some k }

@@ -12,7 +12,7 @@ abbrev pub is_actor_word : List ℕ → Bool
 is_actor_word n =
     bytes_eq n (codes "req") || (bytes_eq n (codes "fw") || (bytes_eq n (codes "clock") || (bytes_eq n (codes "pnp") || bytes_eq n (codes "driver"))))
 
--- `cpu` and digits behind it
+-- `cpu` and digits after it
 abbrev pub is_cpu_with_digits : List ℕ → Bool
 is_cpu_with_digits n =
     bytes_eq (take 3 n) (codes "cpu") && list_all is_ascii_digit (drop 3 n)

@@ -83,7 +83,7 @@ abbrev pub is_branch : Option Nest → Bool
 is_branch (Some nest.Branch) = true
 is_branch _ = false
 
--- how much further a way may be behind one line more
+-- how much further a way may be after one line more
 pub record IsNear (way next : Course) : Type 0 where
   pub left : next.left ≤ way.left + 1
   pub skipping : next.skipping ≤ way.skipping + 1
@@ -112,7 +112,7 @@ reach blocks s [] = s.number
 reach blocks s (l ∷ ls) =
     elim (passed blocks s l.form) as (λ _. ℕ) [ None ↦ s.number | Some t ↦ reach blocks t ls ]
 
--- from behind a statement on, where the next one has this number
+-- from the end of a statement on, where the next one has this number
 abbrev pub onward : List Nest → ℕ → List NumberedLine → ℕ
 onward blocks n rest = reach blocks (record { skipping = 0; left = 0; number = n }) rest
 
@@ -165,19 +165,19 @@ loops blocks = count_by is_loop blocks
 abbrev pub outer : List Nest → List Nest
 outer blocks = take (length blocks - 1) blocks
 
--- the end of a `repeat` goes to the statement behind it again
+-- the end of a `repeat` goes to the statement after it again
 abbrev pub again : List Nest → Option Nest → Option Act
 again blocks (Some (nest.Loop line number)) = Some (act.Again (loops (outer blocks)) (number + 1))
 again blocks _ = None
 
--- the open blocks behind a line, whose statement would have this number
+-- the open blocks after a line, whose statement would have this number
 unfoldable pub blocks_behind : List Nest → ℕ → ℕ → SceneLine → List Nest
 blocks_behind blocks n number (line.If e) = blocks ++ nest.Branch ∷ []
 blocks_behind blocks n number (line.Repeat e) = blocks ++ nest.Loop number n ∷ []
 blocks_behind blocks n number line.End = outer blocks
 blocks_behind blocks n number _ = blocks
 
--- what the statement with number n does, where these blocks are open before its line and behind it, and these lines follow
+-- what the statement with number n does, where these blocks are open before its line and after it, and these lines follow
 unfoldable pub act_on : List Declaration → List (List ℕ) → List Nest → List Nest → ℕ → SceneLine → List NumberedLine → Option Act
 act_on names variables blocks behind n (line.If e) rest =
     Some (act.If e (beyond behind (n + 1) rest))
@@ -203,7 +203,7 @@ statement_on names variables blocks behind n l rest =
       act = a;
     }) (act_on names variables blocks behind n l.form rest)
 
--- the statement of a line, with the blocks that are open behind it
+-- the statement of a line, with the blocks that are open after it
 abbrev pub statement_at : List Declaration → List (List ℕ) → List Nest → ℕ → NumberedLine → List NumberedLine → Option Statement
 statement_at names variables blocks n l rest =
     statement_on names variables blocks (blocks_behind blocks n l.number l.form) n l rest

@@ -16,7 +16,7 @@ abbrev pub with_assigned : List (List ℕ) → Option (List ℕ) → List (List 
 with_assigned names None = names
 with_assigned names (Some n) = with_name names n
 
--- the names, and behind them those that these lines assign before the end of the block
+-- the names, and after them those that these lines assign before the end of the block
 unfoldable pub assigned_from : List (List ℕ) → ℕ → List NumberedLine → List (List ℕ)
 assigned_from names depth [] = names
 assigned_from names depth (l ∷ ls) =

@@ -4,7 +4,7 @@ use Rattle.wdf_scene.specs.declared.line.NumberedLine.{NumberedLine}
 use Rattle.wdf_plan.specs.declared.placed.Stand.{Stand}
 use Rattle.wdf_plan.specs.declared.placed.Counts.{Counts}
 
--- line k is one of the lines or behind them, and nothing was counted more often than there are lines before it
+-- line k is one of the lines or after them, and nothing was counted more often than there are lines before it
 pub record IsWithin (lines : List NumberedLine) (k : ℕ) (o : Stand) (c : Counts) : Type 0 where
   pub lines_fit : length lines < 2 ^ 32
   pub there : k ≤ length lines

@@ -8,7 +8,7 @@ use wdf_scene::{NumberedLine, SceneLine};
 /// A block that is open in a callback.
 #[derive(Clone, Copy, Debug, PartialEq, Eq)]
 pub enum Nest {
-    /// An `if`, before or behind its `else`.
+    /// An `if`, before or after its `else`.
     Branch,
     /// A `repeat` with its line in the text and the number of its statement.
     Loop { line: u32, number: u64 },

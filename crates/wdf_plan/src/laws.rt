@@ -17,7 +17,7 @@ pub fn plans_are_resolved()
     ensures { (scene : Scene) → IsScene scene → HasProperNames scene → first_refusal scene ≡ None → IsResolved (plan_of scene) }
 {}
 
-/// In a scene that stands for a text, the lines behind each line with `on` spell a tree of statements, up to the
+/// In a scene that stands for a text, the lines after each line with `on` spell a tree of statements, up to the
 /// `end` of the callback, and the callback's statements are those of that tree.
 pub fn statements_are_of_trees()
     ensures { (scene : Scene) → IsScene scene → (k : ℕ) (l : NumberedLine) (c : Callback) → slice_get scene.lines k ≡ Some l → l.form ≡ line.On c → HasTree scene k }

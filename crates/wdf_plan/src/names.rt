@@ -44,7 +44,7 @@ impl Names {
         }
     }
 
-    /// Adds a declaration behind the others. On want of memory they stay as they were.
+    /// Adds a declaration after the others. Where memory is out they stay as they were.
     pub fn add(&mut self, declaration: Declaration) -> Result<(), Memory>
         requires order { HasFitOrder declaration }
         requires room { length self.old + 3 < 2 ^ 32 }

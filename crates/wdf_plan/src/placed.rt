@@ -62,7 +62,7 @@ pub fn outside() -> Stand
     }
 }
 
-/// What is open behind an `end`.
+/// What is open after an `end`.
 pub fn closed(stand: Stand) -> Stand
     ensures { result ≡ spec.closed stand }
 {
@@ -94,7 +94,7 @@ fn close_in_callback(stand: Stand) -> Stand
     }
 }
 
-/// What is open behind line `at`.
+/// What is open after line `at`.
 #[tactic(auto, unfolding(crate::specs::Placed::opened_by))]
 pub fn opened_by(stand: Stand, at: u32, form: &SceneLine) -> Stand
     requires { stand.nested + 1 < 2 ^ 32 }

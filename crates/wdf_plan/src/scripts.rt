@@ -181,7 +181,7 @@ fn again_at(blocks: &[Nest], innermost: Nest) -> Option<Act>
     }
 }
 
-/// The open blocks behind a line, whose statement would have this number.
+/// The open blocks after a line, whose statement would have this number.
 #[tactic(auto, unfolding(crate::specs::Scripts::blocks_behind))]
 pub fn blocks_behind(
     alloc: Global,
@@ -243,8 +243,8 @@ fn onward(blocks: &[Nest], number: u64, lines: &[NumberedLine], from: u32) -> u3
     reach(blocks, start(number, 0), lines, from) as u32
 }
 
-/// What stands round a statement: the open blocks before and behind its line, its number, and the
-/// lines behind it.
+/// What stands round a statement: the open blocks before and after its line, its number, and the
+/// lines after it.
 #[derive(Clone, Copy)]
 pub struct Round<'a> {
     pub blocks: &'a [Nest],

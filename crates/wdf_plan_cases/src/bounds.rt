@@ -13,7 +13,7 @@ struct Bound {
     front: &'static str,
     within: &'static str,
     past: &'static str,
-    /// What stands behind it.
+    /// What stands after it.
     back: &'static str,
 }
 
@@ -218,14 +218,14 @@ static NUMBERS: [Bound; 24] = [
 /// Lines that may stand so often, and one more.
 struct Many {
     limit: Limit,
-    /// What stands before them, behind the first three lines.
+    /// What stands before them, after the first three lines.
     front: &'static str,
-    /// The lines, before and behind their number.
+    /// The lines, before and after their number.
     before: &'static str,
     after: &'static str,
     /// How often they may stand.
     bound: u32,
-    /// What is one too many behind them, and its line.
+    /// What is one too many after them, and its line.
     more: &'static str,
     line: u32,
     back: &'static str,
@@ -347,7 +347,7 @@ fn push_lines(text: &mut String, many: &Many) -> Result<(), Memory> {
     Ok(())
 }
 
-/// The scenario with the lines as often as they may stand, and this behind them.
+/// The scenario with the lines as often as they may stand, and this after them.
 fn repeated(alloc: Global, many: &Many, more: &str) -> Result<String, Memory> {
     let mut text = String::new(alloc);
     text.push_str("cpus 1\nlimit 9\nobjects 99\n")?;

@@ -247,7 +247,7 @@ static UNFIT: [(&str, Answer); 29] = [
         "class C object\non EvtCleanupCallback\nend\nend\ndevice D\non EvtDestroyCallback\nend\nend\n",
         Resolved,
     ),
-    // Behind a level or a period that is wrong comes what else is wrong with the line.
+    // After a level or a period that is wrong comes what else is wrong with the line.
     (
         "device D\ninterrupt I 13\nend\nend\n",
         Refused(WrongCallback { line: 5 }),
@@ -324,7 +324,7 @@ static UNFIT: [(&str, Answer); 29] = [
     ),
 ];
 
-/// What becomes of the first three lines and a text behind them.
+/// What becomes of the first three lines and a text after them.
 fn answer_behind(alloc: Global, text: &str) -> Option<Answer> {
     let mut whole = String::new(alloc);
     whole.push_str("cpus 1\nlimit 9\nobjects 99\n").ok()?;

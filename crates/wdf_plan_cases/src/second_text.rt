@@ -10,7 +10,7 @@ use wdf_base::{
 };
 
 /// Three devices: the interrupts, queues and targets of each stand mixed. One app and the most classes
-/// stand before the devices, the other app and two classes behind them.
+/// stand before the devices, the other app and two classes after them.
 const TEXT: &str = "version 2
 # Comments and empty lines count as lines alone.
 cpus 3

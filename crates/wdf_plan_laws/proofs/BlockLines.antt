@@ -117,7 +117,7 @@ inside_step test alone whole inner x outer b p s own true e =
     let line' : a.line ≡ b = sym (ap (λ (y : Opener). y.line) same) ∙ own in
     its_line test b p (alone_told whole (inner ++ x ∷ outer) p s a ∙ ap (λ n. Some n) line')
 
--- ---- behind the block
+-- ---- after the block
 
 not_after : (b : ℕ) (stack : List Opener) (k : ℕ) (form : SceneLine) → b < k → HasNot b stack → HasNot b (stack_after stack k form)
 not_after b [] k line.End h n = tt

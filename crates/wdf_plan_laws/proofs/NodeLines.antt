@@ -82,7 +82,7 @@ same_long : (scene : Scene) (names : List Declaration) (p : Placed) → length (
 unfolding nodes_on
 same_long scene names p = length-map (nodes_of scene p) (node_of names (variables_at scene p))
 
--- behind the nodes of a line stand those of the next
+-- after the nodes of a line stand those of the next
 head_after : (base e : ℕ) (h : StatementHead) → nodes_end base (head_line h e) ≡ suc e
 unfolding nodes_end
 head_after base e (head.Let x) = refl

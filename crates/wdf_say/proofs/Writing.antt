@@ -23,7 +23,7 @@ pub gains_nothing : (a : Option (List ℕ)) → Gains a a []
 gains_nothing None = tt
 gains_nothing (Some a) = sym (append-nil a)
 
--- a front of what comes behind a text is a front of both
+-- a front of what comes after a text is a front of both
 pub front_behind : (xs ys zs : List ℕ) (n : ℕ) → n ≤ length ys → take (length xs + n) ((xs ++ ys) ++ zs) ≡ xs ++ take n ys
 front_behind xs ys zs n h =
     rw (append_assoc, take-append-add xs (ys ++ zs) n, take-append-le n ys zs h) refl

@@ -31,7 +31,7 @@ abbrev pub innermost : List Block → Option Block
 innermost [] = None
 innermost (b ∷ blocks) = Some b
 
--- behind the first three lines and in no block
+-- after the first three lines and in no block
 abbrev pub is_outside : Position → Bool
 is_outside p = p.headers == 3 && is_none (innermost p.blocks)
 
@@ -179,7 +179,7 @@ abbrev pub with_opened : {A : Type 0} → Option A → List A → List A
 with_opened None xs = xs
 with_opened (Some x) xs = x ∷ xs
 
--- the open blocks behind a line
+-- the open blocks after a line
 abbrev pub blocks_after : List Block → SceneLine → List Block
 blocks_after blocks line.End = drop 1 blocks
 blocks_after blocks line.Else = block.Else ∷ drop 1 blocks
@@ -195,15 +195,15 @@ noted p line.Pnp = record p { pnp = true }
 noted p line.Order = record p { order = true }
 noted p _ = p
 
--- the position behind a line that may stand there
+-- the position after a line that may stand there
 abbrev pub moved : Position → SceneLine → Position
 moved p form = record (noted p form) { blocks = blocks_after p.blocks form }
 
--- the position behind a line, if the line may stand there
+-- the position after a line, if the line may stand there
 abbrev pub after_line : Position → SceneLine → Option Position
 after_line p form = if may_stand p form then Some (moved p form) else None
 
--- the position behind some lines, if each may stand where it does
+-- the position after some lines, if each may stand where it does
 abbrev pub after_lines : Option Position → List SceneLine → Option Position
 after_lines p [] = p
 after_lines p (form ∷ forms) = after_lines (option_and_then (λ q. after_line q form) p) forms
@@ -212,7 +212,7 @@ after_lines p (form ∷ forms) = after_lines (option_and_then (λ q. after_line 
 abbrev pub IsWhole : ℕ → List SceneLine → Type 0
 IsWhole version forms = IsSomeAnd (after_lines (Some (front version)) forms) (λ p. IsTrue (is_outside p))
 
--- the lines that opened the blocks that are open, innermost first, behind a line with this number
+-- the lines that opened the blocks that are open, innermost first, after a line with this number
 abbrev pub openers_after : List ℕ → ℕ → SceneLine → List ℕ
 openers_after openers number line.End = drop 1 openers
 openers_after openers number form = with_opened (option_map (λ b. number) (opened form)) openers

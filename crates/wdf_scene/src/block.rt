@@ -14,7 +14,7 @@ pub enum Block {
     On,
     /// `if`, before its `else`.
     If,
-    /// `if`, behind its `else`.
+    /// `if`, after its `else`.
     Else,
     Repeat,
 }

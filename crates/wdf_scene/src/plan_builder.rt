@@ -58,7 +58,7 @@ impl PlanBuilder {
         Ok(number)
     }
 
-    /// Adds the driver object, or behind it a declared object, and answers its id.
+    /// Adds the driver object, or after it a declared object, and answers its id.
     pub fn declared(&mut self, d: Declared) -> Result<ObjectId, Memory>
         requires { length self.old.declared + 1 < 2 ^ 32 }
         ensures number { IfOk result (λ o. o.0 ≡ length self.old.declared + 1) }

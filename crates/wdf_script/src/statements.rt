@@ -102,7 +102,7 @@ fn return_intent(value: Option<Value>) -> Intent
     value.map_or(Intent::Broken, Intent::Return)
 }
 
-// What an act of a frame does, where the statement behind it is `next`.
+// What an act of a frame does, where the statement after it is `next`.
 fn act_intent(plan: &Plan, frame: &Frame, next: u32, act: Act) -> Intent
     ensures { result ≡ script.act_intent plan.now frame.now next act }
 {

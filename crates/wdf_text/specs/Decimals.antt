@@ -1,7 +1,7 @@
 -- The numbers that decimal digits write.
 use Rattle.std.specs.Prelude.{ℕ, ◌+◌, ◌-◌, ◌*◌, ◌^◌, List, [], ◌∷◌, nat_lt, Option, Some, None, if◌then◌else◌}
 
--- the number that digits write behind those of another number
+-- the number that digits write after those of another number
 abbrev pub number_after : ℕ → List ℕ → ℕ
 number_after value [] = value
 number_after value (digit ∷ digits) = number_after (10 * value + (digit - 48)) digits

@@ -3,7 +3,7 @@ ghost use Rattle.std.specs.Prelude.{◌≡◌, ◌+◌, ◌-◌, ◌*◌, ◌^�
 ghost use Rattle.std.specs.Option.{SomeIff};
 ghost use Rattle.wdf_text.specs.Decimals.{small_number};
 
-/// A number with one more digit behind it, if it fits 64 bits.
+/// A number with one more digit after it, if it fits 64 bits.
 fn with_digit(value: u64, digit: u8) -> Option<u64>
     ensures { SomeIff result (10 * value + (digit - 48) < 2 ^ 64) (10 * value + (digit - 48)) }
 {

@@ -82,7 +82,7 @@ drop_less : (n : ℕ) (b : ℕ) (bytes : List ℕ) → 0 < n → drop (n - 1) by
 drop_less zero b bytes h = absurd (omega arith)
 drop_less (suc n) b bytes h = let e : suc n - 1 ≡ n = omega arith in ap (λ m. drop m bytes) e
 
--- behind a piece
+-- after a piece
 past : (column b : ℕ) (bytes : List ℕ) (n : ℕ) → 0 < n → tokens_from (suc column) (n - 1) bytes ≡ tokens_from (column + n) 0 (drop n (b ∷ bytes))
 past column b bytes n h =
     let e : suc column + (n - 1) ≡ column + n = omega arith in

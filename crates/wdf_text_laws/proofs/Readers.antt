@@ -73,7 +73,7 @@ taken_openers (w ∷ ws) r now base e = by_stand (may_stand r.place.position (li
     by_stand true h f =
         f h ∙ ap (λ os. openers_from os (lines_at (base + written_size w.written) ws)) (openers_same r.place.openers w.number w.written (next_node r.builder) base)
 
--- a reader behind lines that are read
+-- a reader after lines that are read
 pub record IsReader (lines : List (List ℕ)) (r : AreRead lines) (now : Reader) : Type 0 where
   pub gives : after_lines (Ok (opening 1)) 1 lines ≡ Ok now
   pub position : now.place.position ≡ r.position

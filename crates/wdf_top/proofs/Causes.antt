@@ -67,7 +67,7 @@ large_only (Scenario m) s k answer told same = absurd (scenario_never m 14 s k a
 large_only Judgement s k answer told same = told_large judging judge_answers s k answer told same
 large_only (Summary m) s k answer told same = absurd (summary_never m 14 s k answer refl (λ h. omega arith) told same)
 
--- the line of want of memory is due with 15
+-- the line of `out of memory` is due with 15
 due_memory : (way : Answering) → AreAnswers way → (s : Sourcing) (text : List ℕ) (status : ℕ) → IsReadDue way s text status → status ≡ 15 → text ≡ no_memory_line
 due_memory way own s text status (inl p) same = absurd (differs is_answer_status 15 status refl (own p.0 text status p.2) same)
 due_memory way own s text status (inr (inl p)) same = absurd (omega (arith, p.3))

@@ -36,7 +36,7 @@ within_limit : (before after : Option (List ℕ)) (input : List ℕ) → TakesAl
 within_limit None after input all small = ([], omega arith, tt)
 within_limit (Some left) after input all small = (input, small, rw all.1 (all.0 ∙ sym (append-nil input)))
 
--- memory was wanting behind the whole input
+-- memory was wanting after the whole input
 wanting : (a : Answering) (s : Sourcing) (k : Sinking) (answer : ℕ) (input : List ℕ) → IsRead s input → Says k no_memory_line 15 answer → ToldBy a s k answer
 wanting a s k answer input is_read said =
     (no_memory_line, 15, inr (inr (inr (is_read.2, within_limit s.before s.after input is_read.0 is_read.1, refl, refl))), said)
@@ -61,7 +61,7 @@ plan_told : (a : Answering) (s : Sourcing) (k : Sinking) (input : List ℕ) (sce
 plan_told a s k input scene refusal answer is_read stands first said =
     (plan_line refusal, 11, inl (input, is_read, inl (inr (refusal, (scene, stands, first), refl, refl))), said)
 
--- the first refusal of a scene, where it isn't want of memory
+-- the first refusal of a scene, where it isn't out of memory
 refusal_is : (scene : Scene) (refusal : PlanRefusal) → (refusal ≡ plan.Memory → ⊥) → (refusal ≡ plan.Memory) ⊎ (first_refusal scene ≡ Some refusal) → first_refusal scene ≡ Some refusal
 refusal_is scene refusal other (inl h) = absurd (other h)
 refusal_is scene refusal other (inr h) = h

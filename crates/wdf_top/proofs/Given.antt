@@ -26,7 +26,7 @@ due_answered way s text status (inr (inl p)) a b c = absurd (b p.3)
 due_answered way s text status (inr (inr (inl p))) a b c = absurd (a p.3)
 due_answered way s text status (inr (inr (inr p))) a b c = absurd (c p.3)
 
--- the answer to the whole input, where neither a fault nor want of memory is answered
+-- the answer to the whole input, where neither a fault nor out of memory is answered
 pub answered : (way : Answering) (s : Sourcing) (k : Sinking) (answer : ℕ) → ToldBy way s k answer → answer ≢ 12 → answer ≢ 13 → answer ≢ 14 → answer ≢ 15
     → (text : List ℕ) × IsAnswered way s text answer × Gains k.before k.after text
 answered way s k answer (text, status, due, inr p) a b c d = absurd (b p.0)

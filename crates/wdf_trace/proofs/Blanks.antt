@@ -40,7 +40,7 @@ lacks_each : (c : ℕ) (w : List ℕ) → Lacks c w → All (λ b. (b == c) ≡ 
 lacks_each c w h =
     All-weaker (λ b. not (b == c) ≡ true) (λ b. (b == c) ≡ false) (λ b. not-true (b == c)) w (AllPass-from_list_all (λ b. not (b == c)) w h.each)
 
--- a word with nothing behind it is the one part
+-- a word with nothing after it is the one part
 pub parts_last : (c : ℕ) (w : List ℕ) → Lacks c w → parts c w ≡ w ∷ []
 parts_last c w h = slice_split_none (λ b. b == c) w (lacks_each c w h)
 

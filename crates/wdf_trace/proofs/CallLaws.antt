@@ -44,7 +44,7 @@ three_at_most plan c v =
 abbrev first_words : Plan → ℕ → Arg → Arg → Arg → List (List ℕ)
 first_words plan n x y z = take n (argument_text plan x ∷ argument_text plan y ∷ argument_text plan z ∷ [])
 
--- the words of a line with these arguments behind its first four words
+-- the words of a line with these arguments after its first four words
 abbrev counted_line : Plan → ℕ → Arg → Arg → Arg → List ℕ → List ℕ → List ℕ → List ℕ → List (List ℕ) → List (List ℕ)
 counted_line plan n x y z number cpu verb name rest = number ∷ cpu ∷ verb ∷ name ∷ (first_words plan n x y z ++ rest)
 
@@ -62,7 +62,7 @@ counted_back plan h (suc (suc (suc zero))) small x y z u v w number cpu verb nam
     (argument_of-argument_text plan h x u, argument_of-argument_text plan h y v, argument_of-argument_text plan h z w)
 counted_back plan h (suc (suc (suc (suc n)))) small x y z u v w number cpu verb name rest = absurd (omega (arith, small))
 
--- the answer stands behind the arguments and an arrow
+-- the answer stands after the arguments and an arrow
 counted_answer : (plan : Plan) (n : ℕ) → n ≤ 3 → (x y z : Arg) (number cpu verb name answer : List ℕ) → word (n + 5) (counted_line plan n x y z number cpu verb name (codes "->" ∷ answer ∷ [])) ≡ answer
 counted_answer plan zero small x y z number cpu verb name answer = refl
 counted_answer plan (suc zero) small x y z number cpu verb name answer = refl

@@ -109,7 +109,7 @@ cause_lacks plan h (Some (cause.AtTarget t)) v = (record { each = refl }, (objec
 
 -- ---- causes
 
--- a word behind some others
+-- a word after some others
 word_past : (pre ws : List (List ℕ)) (i : ℕ) → word (length pre + i) (pre ++ ws) ≡ word i ws
 word_past [] ws i = ap (λ k. word k ws) (zero-add i)
 word_past (p ∷ pre) ws i =

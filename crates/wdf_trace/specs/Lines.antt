@@ -22,7 +22,7 @@ use Rattle.wdf_base.specs.Resolved.{agent_name, register_name, device_name, targ
 use Rattle.wdf_base.specs.Same.{same_option}
 use Rattle.wdf_base.specs.Words.{status_word, callback_word, call_word, fault_word, stage_word, ask_word}
 
--- words, each behind a blank
+-- words, each after a blank
 abbrev pub spaced : List (List ℕ) → List ℕ
 spaced [] = []
 spaced (w ∷ ws) = codes " " ++ (w ++ spaced ws)
@@ -54,7 +54,7 @@ register_text plan r = named plan (option_map register_name (slice_get plan.regi
 abbrev pub is_poster : ℕ → Declared → Bool
 is_poster n d = same_option ◌==◌ (device_name d) (Some n) || same_option ◌==◌ (target_name d) (Some n)
 
--- an id, which counts from 1, behind a dot
+-- an id, which counts from 1, after a dot
 abbrev pub id_text : Option ℕ → List ℕ
 id_text None = []
 id_text (Some k) = codes "." ++ decimal (k + 1)

@@ -71,7 +71,7 @@ kind_in w = unwrap_or (call_of w) call.GetContext
 abbrev pub call_in : Plan → List (List ℕ) → Call
 call_in plan ws = call_with plan (kind_in (word 3 ws)) ws
 
--- the answer of a line with a call, behind its arguments and an arrow
+-- the answer of a line with a call, after its arguments and an arrow
 abbrev pub answer_in : Plan → Call → List (List ℕ) → Value
 answer_in plan call ws = value_of plan (word (call.count + 5) ws)
 

@@ -106,7 +106,7 @@ IsWaitOf plan w = (has_cause w.thing w.cause ≡ true) × IsThingOf plan w.thing
 abbrev pub frame_of : List ℕ → FrameId
 frame_of w = record { 0 = short_of w }
 
--- the cause with this word, whose parts stand behind place k
+-- the cause with this word, whose parts stand after place k
 abbrev pub cause_with : Plan → ℕ → List (List ℕ) → Option CauseWord → Option Cause
 cause_with plan k ws None = None
 cause_with plan k ws (Some cause_word.Frame) = Some (cause.ByFrame (frame_of (word (k + 1) ws)))

@@ -243,7 +243,7 @@ fn push_argument(line: &mut Line, plan: &Plan, argument: Arg)
     }
 }
 
-/// Adds the arguments of a call, each behind a blank.
+/// Adds the arguments of a call, each after a blank.
 fn push_arguments(line: &mut Line, plan: &Plan, call: &Call)
     requires { length line.old + 162 ≤ LINE_LIMIT }
     ensures value { line.new ≡ line.old ++ spaced (argument_words plan.now call.now) }
@@ -260,7 +260,7 @@ fn push_arguments(line: &mut Line, plan: &Plan, call: &Call)
     }
 }
 
-/// Adds the words of a call, each behind a blank.
+/// Adds the words of a call, each after a blank.
 pub fn push_call(line: &mut Line, plan: &Plan, call: &Call)
     requires { length line.old + 203 ≤ LINE_LIMIT }
     ensures value { line.new ≡ line.old ++ spaced (call_word call.now.kind ∷ argument_words plan.now call.now) }

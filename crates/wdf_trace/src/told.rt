@@ -74,7 +74,7 @@ fn call_in(plan: &Plan, text: &[u8]) -> Call
     call_with(plan, kind_in(word(text, 3)), text)
 }
 
-/// The answer of a line with a call, behind its arguments and an arrow.
+/// The answer of a line with a call, after its arguments and an arrow.
 fn answer_in(plan: &Plan, call: &Call, text: &[u8]) -> Value
     ensures { result ≡ answer_in plan.now call.now (words text.now) }
 {

@@ -23,7 +23,7 @@ fn show_events(rt: &impl Abort, plan: &Plan, run: &Worked) -> Result<(), Fail> {
     Ok(())
 }
 
-/// The line behind the events is that of the ending.
+/// The line after the events is that of the ending.
 fn show_ending(rt: &impl Abort, run: &Worked) -> Result<(), Fail> {
     let line = run.trace.lines().nth(run.events).ok_or("no ending")?;
     assert!(rt; reads_as_ending(line.as_bytes()), "{} {line}", run.name);
@@ -37,7 +37,7 @@ fn show_ending(rt: &impl Abort, run: &Worked) -> Result<(), Fail> {
     Ok(())
 }
 
-/// The lines behind the ending's are those of the stated wait lines, in their order.
+/// The lines after the ending's are those of the stated wait lines, in their order.
 fn show_waits(rt: &impl Abort, plan: &Plan, run: &Worked) -> Result<(), Fail> {
     let mut place = run.events;
     for (name, wait) in &WAITS {

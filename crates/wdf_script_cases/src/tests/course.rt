@@ -26,7 +26,7 @@ static COURSE_NODES: [ExprNode; 8] = [
     ExprNode::Number(99),
 ];
 
-/// Behind an `on` at line 10: `repeat 2`, `repeat 2`, `let x = ( x + 1 )`, `end`, `if ( x == 2 )`, `log x`,
+/// After an `on` at line 10: `repeat 2`, `repeat 2`, `let x = ( x + 1 )`, `end`, `if ( x == 2 )`, `log x`,
 /// `else`, `log 99`, `end`, `end`, each on its line.
 static COURSE: [Statement; 8] = [
     Statement {
@@ -108,7 +108,7 @@ fn change(frame: &mut Frame, change: Change) {
     }
 }
 
-/// The frame goes on behind the statement at which it stands.
+/// The frame goes on after the statement at which it stands.
 fn go_on(plan: &Plan, frame: &mut Frame) {
     if let Intent::Local {
         change: changed,

@@ -11,7 +11,7 @@ use wdf_script::next;
 /// A row: two atoms and an operator between them, and what `log` makes of it.
 type Operation = (ExprNode, Operator, ExprNode, Intent);
 
-/// The nodes of an operation, behind others, and the statement that logs it.
+/// The nodes of an operation, after others, and the statement that logs it.
 fn add_operation(
     nodes: &mut Items<ExprNode, MANY>,
     statements: &mut Items<Statement, MANY>,

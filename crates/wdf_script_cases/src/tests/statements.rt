@@ -311,7 +311,7 @@ fn statements_of(alloc: Global, rows: &[(Act, Intent)]) -> Result<Items<Statemen
     Ok(statements)
 }
 
-/// Each row does what it says, one statement a row, and behind them the callback ends with SUCCESS.
+/// Each row does what it says, one statement a row, and after them the callback ends with SUCCESS.
 pub fn check_statements(
     rt: &impl Abort,
     alloc: Global,
