@@ -18,6 +18,7 @@ RULES = ROOT / "tools" / "rules.txt"
 PAGE = ROOT / "docs" / "RULES.md"
 LAW_CRATES = {
     "wdf_model",
+    "wdf_deeds",
     "wdf_invariants",
     "wdf_agreements",
     "wdf_blame",

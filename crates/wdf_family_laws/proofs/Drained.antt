@@ -56,7 +56,8 @@ use Rattle.wdf_laws.specs.Words.{ever}
 use Rattle.wdf_trace_laws.proofs.Words.{ever_next, never_yet}
 use Rattle.wdf_trace_laws.proofs.Completions.{completes_at_each}
 use Rattle.wdf_trace_laws.proofs.Ends.{cleans, cleanup_tells, comes, told_at_each}
-use Rattle.wdf_trace_laws.proofs.Within.{completing, event_within}
+use Rattle.wdf_deeds.specs.MayDo.{completing}
+use Rattle.wdf_deeds.proofs.Walk.{event_may}
 use Rattle.wdf_family_laws.proofs.Families.{Family, family_at_each, one_event, told_later, told_still}
 use Rattle.wdf_family_laws.proofs.Gone.{cleaned_told, ever_now, ever_still}
 use Rattle.wdf_family_laws.proofs.Orders.{all_by, child_gone, cleanup_of, earlier_or_later, ever_later, late_by, makes_at, take_drop}
@@ -91,7 +92,7 @@ by_call plan m S k c v x h is fin = elim (one_or_two x (object_in c.a)) [
 ]
 
 quietly : {A : Type 0} (plan : Plan) (m : Meaning A) (S : State A) (e : Event) (x : ℕ) → may plan m S e ≡ true → completing e ≡ false → finished (after plan m S e).requests x ≡ true → finished S.requests x ≡ true
-quietly plan m S e x h off fin = deeds_finish plan x (deeds plan S e) S (event_fits plan m S e h) (none_complete e (deeds plan S e) x off (event_within plan S e)) fin
+quietly plan m S e x h off fin = deeds_finish plan x (deeds plan S e) S (event_fits plan m S e h) (none_complete e (deeds plan S e) x off (event_may plan S e)) fin
 
 -- a completion doesn't wait
 waits_never : {A : Type 0} (plan : Plan) (S : State A) (c : Call) → is_met_then plan S c ≡ false → (b : Bool) → same_call_kind c.kind call.WdfRequestComplete ≡ b → b ≡ false

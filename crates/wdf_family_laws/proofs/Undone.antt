@@ -28,7 +28,8 @@ use Rattle.wdf_model.proofs.Maps.{entry_map, entry_put_other, entry_put_same, en
 use Rattle.wdf_model.proofs.Counts.{one_or_two}
 use Rattle.wdf_agreements.proofs.Lists.{Each}
 use Rattle.wdf_agreements.proofs.Stays.{asks_all, given, given_if}
-use Rattle.wdf_trace_laws.proofs.Within.{all_within, completing, is_within}
+use Rattle.std.specs.List.{list_all}
+use Rattle.wdf_deeds.specs.MayDo.{completing, may_do}
 
 -- a request that arrived is done
 abbrev pub is_finished_request : Request → Bool
@@ -202,10 +203,10 @@ deeds_finish plan x (d ∷ ds) S f n h =
     (deeds_finish plan x ds (do_deed plan d S) (both_right (fits plan d S) (all_fit plan ds (do_deed plan d S)) f) n.1 h)
 
 -- the deeds of an event that completes nothing
-not_this : (e : Event) (d : Deed) (x : ℕ) → completing e ≡ false → is_within e d ≡ true → Completes d x → ⊥
+not_this : (e : Event) (d : Deed) (x : ℕ) → completing e ≡ false → may_do e d ≡ true → Completes d x → ⊥
 not_this e (CompleteRequest r) x off h at = let z : ⊥ = cc in z
 not_this e _ x off h at = at
 
-pub none_complete : (e : Event) (ds : List Deed) (x : ℕ) → completing e ≡ false → all_within e ds ≡ true → NoneComplete x ds
+pub none_complete : (e : Event) (ds : List Deed) (x : ℕ) → completing e ≡ false → list_all (may_do e) ds ≡ true → NoneComplete x ds
 none_complete e [] x off h = tt
-none_complete e (d ∷ ds) x off h = (not_this e d x off (both_left (is_within e d) (all_within e ds) h), none_complete e ds x off (both_right (is_within e d) (all_within e ds) h))
+none_complete e (d ∷ ds) x off h = (not_this e d x off (both_left (may_do e d) (list_all (may_do e) ds) h), none_complete e ds x off (both_right (may_do e d) (list_all (may_do e) ds) h))

@@ -62,7 +62,7 @@ use Rattle.wdf_power_laws.specs.Steps.{is_for}
 use Rattle.wdf_power_laws.proofs.Holding.{Silent, watch}
 use Rattle.wdf_power_laws.proofs.Standings as standings
 use Rattle.wdf_power_laws.proofs.Passing.{enabling, power_by}
-use Rattle.wdf_power_laws.proofs.Unmoved.{none_behind, none_moves, outcome_none, post_none, releasing_none, second_none, start_effect_none, taking_none}
+use Rattle.wdf_power_laws.proofs.Unmoved.{event_none, none_moves, releasing_none, start_effect_none, taking_none}
 use Rattle.wdf_power_laws.proofs.Declares.{declares_device, is_power_callback, own_device_of}
 use Rattle.wdf_power_laws.proofs.Calm.{Calm, calm_same, deeds_calm, sound_after, sound_before}
 use Rattle.wdf_power_laws.proofs.Frames.{Runs, StepFrames, begun_other, begun_step, frames_kept, is_step, was_step}
@@ -165,10 +165,6 @@ module _ {A : Type 0} (plan : Plan) (m : Meaning A) (S : State A) (es : List Eve
 
     -- ---- callbacks end
 
-    step_none : (x : Rank) (v : Value) → is_sequence x ≡ false → none_moves (PopFrame cpu ∷ end_of_step plan S x c o.id.0 v) ≡ true
-    step_none rank.Sequence v h = absurd (let z : ⊥ = cc in z)
-    step_none _ v h = refl
-
     cpus_same : (l : Option LockRef) → (do_deeds plan (release_if_any l) S).cpus ≡ S.cpus
     cpus_same None = refl
     cpus_same (Some l) = refl
@@ -176,7 +172,7 @@ module _ {A : Type 0} (plan : Plan) (m : Meaning A) (S : State A) (es : List Eve
     ends_other : (v : Value) → is_sequence (row_of c).rank ≡ false → AllSound plan (end_deeds plan S cpu.0 c o.id.0 v) S → Kept plan (do_deeds plan (end_deeds plan S cpu.0 c o.id.0 v) S) (es ++ event.End cpu c o v ∷ [])
     ends_other v other sound =
         quiet plan S es (event.End cpu c o v) (end_deeds plan S cpu.0 c o.id.0 v)
-        (none_behind (release_if_any (lock_of_callback plan c o.id.0 (declared_in plan S o.id.0))) (PopFrame cpu ∷ end_of_step plan S (row_of c).rank c o.id.0 v) (releasing_none (lock_of_callback plan c o.id.0 (declared_in plan S o.id.0))) (step_none (row_of c).rank v other))
+        (event_none plan S (event.End cpu c o v) other)
         sound (λ d i. end_elsewhere cpu c o v d i false (not_entry c other) (λ x. absurd (let z : ⊥ = cc in z))) k
 
     ends_step : (v : Value) → is_sequence (row_of c).rank ≡ true → IsEnd plan S cpu.0 c o v → AllSound plan (end_deeds plan S cpu.0 c o.id.0 v) S → Kept plan (do_deeds plan (end_deeds plan S cpu.0 c o.id.0 v) S) (es ++ event.End cpu c o v ∷ [])
@@ -323,35 +319,13 @@ module _ {A : Type 0} (plan : Plan) (m : Meaning A) (S : State A) (es : List Eve
 
   -- ---- all events
 
-  pub by_top_none : (ds : ℕ → Frame → List Deed) → ((g : ℕ) (frame : Frame) → none_moves (ds g frame) ≡ true) → (there : Option ℕ) → none_moves (elim there as (λ _. List Deed) [ None ↦ [] | Some g ↦ ds g (frame_of S.cpus g) ]) ≡ true
-  by_top_none ds h None = refl
-  by_top_none ds h (Some g) = h g (frame_of S.cpus g)
-
   posts : (agent : ℕ) (p : Post) (answer : Option Handle) → all_fit plan (post_deeds plan S agent p) S ≡ true → AllSound plan (post_deeds plan S agent p) S → Kept plan (do_deeds plan (post_deeds plan S agent p) S) (es ++ event.Posted agent p answer ∷ [])
   posts agent (post.Ask a device) answer fit sound = asks device.id.0 a (event.Posted agent (post.Ask a device) answer) (not_true (busy S.pnp device.id.0) (both_left (not (busy S.pnp device.id.0)) true fit)) (λ d i. record { entered = refl; exit = refl; enabled = refl; disabled = refl; up = refl; down = refl })
-  posts agent (post.Read device length) answer fit sound = quiet plan S es (event.Posted agent (post.Read device length) answer) (post_deeds plan S agent (post.Read device length)) (post_none plan S agent (post.Read device length) refl) sound (λ d i. record { entered = refl; exit = refl; enabled = refl; disabled = refl; up = refl; down = refl }) k
-  posts agent (post.Write device length) answer fit sound = quiet plan S es (event.Posted agent (post.Write device length) answer) (post_deeds plan S agent (post.Write device length)) (post_none plan S agent (post.Write device length) refl) sound (λ d i. record { entered = refl; exit = refl; enabled = refl; disabled = refl; up = refl; down = refl }) k
-  posts agent (post.Control device code length) answer fit sound = quiet plan S es (event.Posted agent (post.Control device code length) answer) (post_deeds plan S agent (post.Control device code length)) (post_none plan S agent (post.Control device code length) refl) sound (λ d i. record { entered = refl; exit = refl; enabled = refl; disabled = refl; up = refl; down = refl }) k
-  posts agent (post.Cancel arrival) answer fit sound = quiet plan S es (event.Posted agent (post.Cancel arrival) answer) (post_deeds plan S agent (post.Cancel arrival)) (post_none plan S agent (post.Cancel arrival) refl) sound (λ d i. record { entered = refl; exit = refl; enabled = refl; disabled = refl; up = refl; down = refl }) k
-  posts agent (post.Act x) answer fit sound = quiet plan S es (event.Posted agent (post.Act x) answer) (post_deeds plan S agent (post.Act x)) (post_none plan S agent (post.Act x) refl) sound (λ d i. record { entered = refl; exit = refl; enabled = refl; disabled = refl; up = refl; down = refl }) k
-  posts agent (post.Done request s) answer fit sound = quiet plan S es (event.Posted agent (post.Done request s) answer) (post_deeds plan S agent (post.Done request s)) (post_none plan S agent (post.Done request s) refl) sound (λ d i. record { entered = refl; exit = refl; enabled = refl; disabled = refl; up = refl; down = refl }) k
+  posts agent p answer fit sound = quiet plan S es (event.Posted agent p answer) (post_deeds plan S agent p) (event_none plan S (event.Posted agent p answer) refl) sound (λ d i. record { entered = refl; exit = refl; enabled = refl; disabled = refl; up = refl; down = refl }) k
 
   pub keeps : (e : Event) → may plan m S e ≡ true → Kept plan (do_deeds plan (deeds plan S e) S) (es ++ e ∷ [])
   keeps (event.Start cpu c o r) h = starts cpu c o r (both_right (is_cpu plan cpu && is_proper plan S o && is_proper_if_any plan S r) (may_start plan m S cpu.0 c o.id.0 r) h) (all_sound plan m S (event.Start cpu c o r) known h)
   keeps (event.End cpu c o v) h = ends_by cpu c o v (is_sequence (row_of c).rank) refl (end_tells plan m S cpu c o v h) (all_sound plan m S (event.End cpu c o v) known h)
   keeps (event.Stage n s j) h = stages n s j (both_right (is_proper plan S n) (may_pass plan S n.id.0 s j) h) (all_sound plan m S (event.Stage n s j) known h)
   keeps (event.Posted agent p answer) h = posts agent p answer (event_fits plan m S (event.Posted agent p answer) h) (all_sound plan m S (event.Posted agent p answer) known h)
-  keeps (event.Local cpu line) h = quiet plan S es (event.Local cpu line) (deeds plan S (event.Local cpu line)) (by_top_none (λ g frame. GoOn (frame_id g) (stepped frame (intent_of plan frame)) ∷ []) (λ g frame. refl) (top S.cpus cpu.0)) (all_sound plan m S (event.Local cpu line) known h) (λ d i. record { entered = refl; exit = refl; enabled = refl; disabled = refl; up = refl; down = refl }) k
-  keeps (event.Log cpu v) h = quiet plan S es (event.Log cpu v) (deeds plan S (event.Log cpu v)) (by_top_none (λ g frame. GoOn (frame_id g) (goes_on plan frame) ∷ []) (λ g frame. refl) (top S.cpus cpu.0)) (all_sound plan m S (event.Log cpu v) known h) (λ d i. record { entered = refl; exit = refl; enabled = refl; disabled = refl; up = refl; down = refl }) k
-  keeps (event.Spend cpu n) h = quiet plan S es (event.Spend cpu n) (deeds plan S (event.Spend cpu n)) (by_top_none (λ g frame. GoOn (frame_id g) (spending plan S frame n) ∷ []) (λ g frame. refl) (top S.cpus cpu.0)) (all_sound plan m S (event.Spend cpu n) known h) (λ d i. record { entered = refl; exit = refl; enabled = refl; disabled = refl; up = refl; down = refl }) k
-  keeps (event.Register cpu a r v) h = quiet plan S es (event.Register cpu a r v) (deeds plan S (event.Register cpu a r v)) (by_top_none (λ g frame. GoOn (frame_id g) (answered plan frame (Num v)) ∷ []) (λ g frame. refl) (top S.cpus cpu.0)) (all_sound plan m S (event.Register cpu a r v) known h) (λ d i. record { entered = refl; exit = refl; enabled = refl; disabled = refl; up = refl; down = refl }) k
-  keeps (event.Did cpu c v) h = quiet plan S es (event.Did cpu c v) (deeds plan S (event.Did cpu c v)) (by_top_none (did_deeds plan S cpu.0 c v) (λ g frame. none_behind ((outcome plan S cpu.0 g c).deeds ++ second_deeds g c) (GoOn (frame_id g) (answered plan frame v) ∷ []) (none_behind (outcome plan S cpu.0 g c).deeds (second_deeds g c) (outcome_none plan S cpu.0 g c.kind c.count c.a c.b c.c) (second_none g c.kind c.count c.a c.b c.c)) refl) (top S.cpus cpu.0)) (all_sound plan m S (event.Did cpu c v) known h) (λ d i. record { entered = refl; exit = refl; enabled = refl; disabled = refl; up = refl; down = refl }) k
-  keeps (event.Waiting cpu c) h = quiet plan S es (event.Waiting cpu c) (deeds plan S (event.Waiting cpu c)) (by_top_none (waiting_deeds plan S cpu.0 c) (λ g frame. none_behind (outcome plan S cpu.0 g c).deeds (GoOn (frame_id g) (waiting frame c (outcome plan S cpu.0 g c).answer) ∷ []) (outcome_none plan S cpu.0 g c.kind c.count c.a c.b c.c) refl) (top S.cpus cpu.0)) (all_sound plan m S (event.Waiting cpu c) known h) (λ d i. record { entered = refl; exit = refl; enabled = refl; disabled = refl; up = refl; down = refl }) k
-  keeps (event.Woke cpu c v) h = quiet plan S es (event.Woke cpu c v) (deeds plan S (event.Woke cpu c v)) (by_top_none (woke_deeds plan c v) (λ g frame. none_behind (second_deeds g c) (GoOn (frame_id g) (answered plan frame v) ∷ []) (second_none g c.kind c.count c.a c.b c.c) refl) (top S.cpus cpu.0)) (all_sound plan m S (event.Woke cpu c v) known h) (λ d i. record { entered = refl; exit = refl; enabled = refl; disabled = refl; up = refl; down = refl }) k
-  keeps (event.Park cpu g) h = quiet plan S es (event.Park cpu g) (deeds plan S (event.Park cpu g)) (refl) (all_sound plan m S (event.Park cpu g) known h) (λ d i. record { entered = refl; exit = refl; enabled = refl; disabled = refl; up = refl; down = refl }) k
-  keeps (event.Unpark cpu g) h = quiet plan S es (event.Unpark cpu g) (deeds plan S (event.Unpark cpu g)) (refl) (all_sound plan m S (event.Unpark cpu g) known h) (λ d i. record { entered = refl; exit = refl; enabled = refl; disabled = refl; up = refl; down = refl }) k
-  keeps (event.Fault cpu x line) h = quiet plan S es (event.Fault cpu x line) (deeds plan S (event.Fault cpu x line)) (refl) (all_sound plan m S (event.Fault cpu x line) known h) (λ d i. record { entered = refl; exit = refl; enabled = refl; disabled = refl; up = refl; down = refl }) k
-  keeps (event.Complete r s) h = quiet plan S es (event.Complete r s) (deeds plan S (event.Complete r s)) (refl) (all_sound plan m S (event.Complete r s) known h) (λ d i. record { entered = refl; exit = refl; enabled = refl; disabled = refl; up = refl; down = refl }) k
-  keeps (event.Cleanup o) h = quiet plan S es (event.Cleanup o) (deeds plan S (event.Cleanup o)) (refl) (all_sound plan m S (event.Cleanup o) known h) (λ d i. record { entered = refl; exit = refl; enabled = refl; disabled = refl; up = refl; down = refl }) k
-  keeps (event.Destroy o) h = quiet plan S es (event.Destroy o) (deeds plan S (event.Destroy o)) (refl) (all_sound plan m S (event.Destroy o) known h) (λ d i. record { entered = refl; exit = refl; enabled = refl; disabled = refl; up = refl; down = refl }) k
-  keeps (event.Tick time) h = quiet plan S es (event.Tick time) (deeds plan S (event.Tick time)) (refl) (all_sound plan m S (event.Tick time) known h) (λ d i. record { entered = refl; exit = refl; enabled = refl; disabled = refl; up = refl; down = refl }) k
+  keeps e h = quiet plan S es e (deeds plan S e) (event_none plan S e refl) (all_sound plan m S e known h) (λ d i. record { entered = refl; exit = refl; enabled = refl; disabled = refl; up = refl; down = refl }) k

@@ -64,7 +64,8 @@ use Rattle.wdf_laws.specs.declared.sign.Stacked.{Stacked}
 use Rattle.wdf_laws.specs.Frames.{Frames, frames_after, frames_step, is_other, no_frames, pushed, top_of, without_ended, without_top}
 use Rattle.wdf_ready_once.proofs.Numbers.{number_is}
 use Rattle.wdf_trace_laws.proofs.Words.{any_weaker, found_counts}
-use Rattle.wdf_trace_laws.proofs.Within.{all_within, event_within, is_end_event, is_park_event, is_start_event, is_unpark_event, is_within, releasing}
+use Rattle.wdf_deeds.specs.MayDo.{is_end, is_park, is_start, is_unpark, may_do, releasing}
+use Rattle.wdf_deeds.proofs.Passing.{event_passes}
 use Rattle.wdf_scope_laws.proofs.Stacks.{popped_apart, popped_here, pushed_apart, pushed_here, told_stack, told_top}
 use Rattle.wdf_scope_laws.proofs.Holding.{Goes, Holds, HoldsBut, Kept, deeds_hold, deeds_stacks, goes_cpus, goes_then, is_moving, is_other_hold, is_own_hold, is_special, none_moves, none_special, not_own, own_holds, release_holds}
 
@@ -91,37 +92,26 @@ agrees_still plan ss bs S U same g h k = record {
 
 -- ---- events by which no frame moves and no lock is given back
 
-unspecial : (e : Event) (d : Deed) → is_start_event e ≡ false → is_end_event e ≡ false → releasing e ≡ false → is_within e d ≡ true → not (is_special d) ≡ true
-unspecial e (PushFrame cpu f frame level) s n r h = absurd (let z : ⊥ = cc in z)
-unspecial e (PopFrame cpu) s n r h = absurd (let z : ⊥ = cc in z)
-unspecial e (ReleaseLock l) s n r h = absurd (let z : ⊥ = cc in z)
-unspecial e _ s n r h = refl
+unspecial : (e : Event) → is_start e ≡ false → is_end e ≡ false → releasing e ≡ false → (d : Deed) → may_do e d ≡ true → not (is_special d) ≡ true
+unspecial e s n r (PushFrame cpu f frame level) h = absurd (let z : ⊥ = cc in z)
+unspecial e s n r (PopFrame cpu) h = absurd (let z : ⊥ = cc in z)
+unspecial e s n r (ReleaseLock l) h = absurd (let z : ⊥ = cc in z)
+unspecial e s n r _ h = refl
 
-all_unspecial : (e : Event) (ds : List Deed) → is_start_event e ≡ false → is_end_event e ≡ false → releasing e ≡ false → all_within e ds ≡ true → none_special ds ≡ true
-all_unspecial e [] s n r h = refl
-all_unspecial e (d ∷ ds) s n r h =
-    both (not (is_special d)) (none_special ds) (unspecial e d s n r (both_left (is_within e d) (all_within e ds) h)) (all_unspecial e ds s n r (both_right (is_within e d) (all_within e ds) h))
+unmoving : (e : Event) → is_start e ≡ false → is_end e ≡ false → is_park e ≡ false → is_unpark e ≡ false → (d : Deed) → may_do e d ≡ true → not (is_moving d) ≡ true
+unmoving e s n p u (PushFrame cpu f frame level) h = absurd (let z : ⊥ = cc in z)
+unmoving e s n p u (PopFrame cpu) h = absurd (let z : ⊥ = cc in z)
+unmoving e s n p u (ParkFrame cpu) h = absurd (let z : ⊥ = cc in z)
+unmoving e s n p u (UnparkFrame cpu f) h = absurd (let z : ⊥ = cc in z)
+unmoving e s n p u _ h = refl
 
-unmoving : (e : Event) (d : Deed) → is_start_event e ≡ false → is_end_event e ≡ false → is_park_event e ≡ false → is_unpark_event e ≡ false → is_within e d ≡ true → not (is_moving d) ≡ true
-unmoving e (PushFrame cpu f frame level) s n p u h = absurd (let z : ⊥ = cc in z)
-unmoving e (PopFrame cpu) s n p u h = absurd (let z : ⊥ = cc in z)
-unmoving e (ParkFrame cpu) s n p u h = absurd (let z : ⊥ = cc in z)
-unmoving e (UnparkFrame cpu f) s n p u h = absurd (let z : ⊥ = cc in z)
-unmoving e _ s n p u h = refl
-
-all_unmoving : (e : Event) (ds : List Deed) → is_start_event e ≡ false → is_end_event e ≡ false → is_park_event e ≡ false → is_unpark_event e ≡ false → all_within e ds ≡ true → none_moves ds ≡ true
-all_unmoving e [] s n p u h = refl
-all_unmoving e (d ∷ ds) s n p u h =
-    both (not (is_moving d)) (none_moves ds) (unmoving e d s n p u (both_left (is_within e d) (all_within e ds) h)) (all_unmoving e ds s n p u (both_right (is_within e d) (all_within e ds) h))
-
-quiet_step : {A : Type 0} (plan : Plan) (m : Meaning A) (ss : List Stacked) (bs : List Begun) (S : State A) (e : Event) → may plan m S e ≡ true → KnownAll plan S → is_start_event e ≡ false → is_end_event e ≡ false → is_park_event e ≡ false → is_unpark_event e ≡ false → releasing e ≡ false
+quiet_step : {A : Type 0} (plan : Plan) (m : Meaning A) (ss : List Stacked) (bs : List Begun) (S : State A) (e : Event) → may plan m S e ≡ true → KnownAll plan S → is_start e ≡ false → is_end e ≡ false → is_park e ≡ false → is_unpark e ≡ false → releasing e ≡ false
     → Agrees plan ss bs S → Agrees plan ss bs (after plan m S e)
 quiet_step {A} plan m ss bs S e h known s n p u r k =
     let ds : List Deed = deeds plan S e in
     let U : State A = do_deeds plan ds S in
-    let within = event_within plan S e in
-    let kept : Kept plan (λ f. ⊥) S U = deeds_hold plan ds S (λ f. ⊥) (event_fits plan m S e h) (all_sound plan m S e known h) (all_unspecial e ds s n r within) known.framing k.holds in
-    let done : Agrees plan ss bs U = agrees_still plan ss bs S U (deeds_stacks plan ds S (all_unmoving e ds s n p u within)) kept.goes kept.holds k in
+    let kept : Kept plan (λ f. ⊥) S U = deeds_hold plan ds S (λ f. ⊥) (event_fits plan m S e h) (all_sound plan m S e known h) (event_passes (λ d. not (is_special d)) plan S e (unspecial e s n r)) known.framing k.holds in
+    let done : Agrees plan ss bs U = agrees_still plan ss bs S U (deeds_stacks plan ds S (event_passes (λ d. not (is_moving d)) plan S e (unmoving e s n p u))) kept.goes kept.holds k in
     record { stacks = done.stacks; begun = done.begun; holds = done.holds }
 
 -- ---- a call gives a lock back

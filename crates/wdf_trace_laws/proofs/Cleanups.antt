@@ -42,7 +42,8 @@ use Rattle.wdf_laws.specs.declared.sign.Sign.TheVariants as sign
 use Rattle.wdf_laws.specs.Signs.{shows}
 use Rattle.wdf_laws.specs.Words.{ever}
 use Rattle.wdf_trace_laws.proofs.Words.{ever_next}
-use Rattle.wdf_trace_laws.proofs.Untouched.{event_none, is_cleanup, is_cleanup_event, none_cleans}
+use Rattle.wdf_deeds.specs.MayDo.{is_cleanup}
+use Rattle.wdf_trace_laws.proofs.Untouched.{cleans, event_none, none_cleans}
 use Rattle.wdf_trace_laws.proofs.Ends.{comes, ends}
 
 -- C tells each object that is cleaned
@@ -99,7 +100,7 @@ arrived S device info _ = refl
 abbrev tree_of : {A : Type 0} → State A → Tree
 tree_of S = S.tree
 
-deed_keeps : {A : Type 0} (C : ℕ → Bool) (plan : Plan) (d : Deed) (S : State A) → is_cleanup d ≡ false → Seen C S.tree → Seen C (do_deed plan d S).tree
+deed_keeps : {A : Type 0} (C : ℕ → Bool) (plan : Plan) (d : Deed) (S : State A) → cleans d ≡ false → Seen C S.tree → Seen C (do_deed plan d S).tree
 deed_keeps C plan (Create k class parent) S f q = object_made C S.tree k class parent.0 q
 deed_keeps C plan (MakeRequest class parent) S f q = object_made C S.tree kind.Made class parent.0 q
 deed_keeps C plan (Arrive device info p) S f q = same_tree C _ _ (arrived S device.0 info p) (object_made C S.tree kind.Request 0 device.0 q)
@@ -124,8 +125,8 @@ deed_keeps C plan _ S f q = q
 deeds_keep : {A : Type 0} (C : ℕ → Bool) (plan : Plan) (ds : List Deed) (S : State A) → none_cleans ds ≡ true → Seen C S.tree → Seen C (do_deeds plan ds S).tree
 deeds_keep C plan [] S n q = q
 deeds_keep C plan (d ∷ ds) S n q =
-    deeds_keep C plan ds (do_deed plan d S) (both_right (not (is_cleanup d)) (none_cleans ds) n)
-    (deed_keeps C plan d S (not_true (is_cleanup d) (both_left (not (is_cleanup d)) (none_cleans ds) n)) q)
+    deeds_keep C plan ds (do_deed plan d S) (both_right (not (cleans d)) (none_cleans ds) n)
+    (deed_keeps C plan d S (not_true (cleans d) (both_left (not (cleans d)) (none_cleans ds) n)) q)
 
 -- ---- each place of a run
 
@@ -155,7 +156,7 @@ cleanup_seen plan m es S o k x h = elim (one_or_two x o.id.0) [
   | inr n ↦ told_still es (event.Cleanup o) x (k x (sym (ap (λ (a : Node). is_cleaned a.life) (entry_put_other gone S.tree.nodes o.id.0 x (with_life life.Cleaned (node_of S.tree o.id.0)) n)) ∙ h))
 ]
 
-other_seen : {A : Type 0} (plan : Plan) (m : Meaning A) (es : List Event) (S : State A) (e : Event) → is_cleanup_event e ≡ false → AllSeen es S → AllSeen (es ++ e ∷ []) (after plan m S e)
+other_seen : {A : Type 0} (plan : Plan) (m : Meaning A) (es : List Event) (S : State A) (e : Event) → is_cleanup e ≡ false → AllSeen es S → AllSeen (es ++ e ∷ []) (after plan m S e)
 other_seen plan m es S e none k =
     more_told (λ x. ever (sign.Cleaned x) es) (λ x. ever (sign.Cleaned x) (es ++ e ∷ [])) (after plan m S e).tree (told_still es e)
     (deeds_keep (λ x. ever (sign.Cleaned x) es) plan (deeds plan S e) S (event_none plan S e none) k)

@@ -6,4 +6,3 @@ pub mod Untouched
 pub mod Cleanups
 pub mod Uncounted
 pub mod References
-pub mod Within
