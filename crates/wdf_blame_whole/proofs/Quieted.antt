@@ -63,7 +63,7 @@ use Rattle.wdf_power_laws.proofs.Frames.{Runs, is_step}
 use Rattle.wdf_power_laws.proofs.Happens.{both_of, found_pass, not_running, taken_pass}
 use Rattle.wdf_power_laws.proofs.Isrs.{as_found, device_of_it}
 use Rattle.wdf_power_laws.proofs.Runs.{steps_agree_at_each}
-use Rattle.wdf_power_laws.proofs.Unmoved.{is_moving, none_behind, none_moves, outcome_none, post_none, second_none}
+use Rattle.wdf_power_laws.proofs.Unmoved.{event_none, is_moving, none_moves}
 use Rattle.wdf_power_laws.specs.Steps.{StepsAndPowerAgree, enabled_says, phase_of}
 use Rattle.wdf_family_laws.proofs.Families.{declared_within}
 use Rattle.wdf_blame_whole.specs.Standing.{IsOver, is_live_device, is_part, is_part_of}
@@ -248,18 +248,9 @@ module _ {A : Type 0} (plan : Plan) (m : Meaning A) (S : State A) (facts : Facts
 
   -- ---- all events
 
-  by_top_none : (ds : ℕ → Frame → List Deed) → ((g : ℕ) (frame : Frame) → none_moves (ds g frame) ≡ true) → (there : Option ℕ) → none_moves (elim there as (λ _. List Deed) [ None ↦ [] | Some g ↦ ds g (frame_of S.cpus g) ]) ≡ true
-  by_top_none ds h None = refl
-  by_top_none ds h (Some g) = h g (frame_of S.cpus g)
-
   posts : (agent : ℕ) (p : Post) → AllServes plan (post_deeds plan S agent p) S
   posts agent (post.Ask a device) = (tt, tt)
-  posts agent (post.Read d n) = none_serves plan (post_deeds plan S agent (post.Read d n)) S (post_none plan S agent (post.Read d n) refl)
-  posts agent (post.Write d n) = none_serves plan (post_deeds plan S agent (post.Write d n)) S (post_none plan S agent (post.Write d n) refl)
-  posts agent (post.Control d c n) = none_serves plan (post_deeds plan S agent (post.Control d c n)) S (post_none plan S agent (post.Control d c n) refl)
-  posts agent (post.Cancel n) = none_serves plan (post_deeds plan S agent (post.Cancel n)) S (post_none plan S agent (post.Cancel n) refl)
-  posts agent (post.Act x) = none_serves plan (post_deeds plan S agent (post.Act x)) S (post_none plan S agent (post.Act x) refl)
-  posts agent (post.Done r s) = none_serves plan (post_deeds plan S agent (post.Done r s)) S (post_none plan S agent (post.Done r s) refl)
+  posts agent p = none_serves plan (post_deeds plan S agent p) S (event_none plan S (event.Posted agent p None) refl)
 
   pub event_serves : (e : Event) → may plan m S e ≡ true → AllServes plan (deeds plan S e) S
   event_serves (event.Start cpu c o r) h = starts cpu.0 c o r (both_right (is_cpu plan cpu && is_proper plan S o && is_proper_if_any plan S r) (may_start plan m S cpu.0 c o.id.0 r) h)
@@ -268,20 +259,7 @@ module _ {A : Type 0} (plan : Plan) (m : Meaning A) (S : State A) (facts : Facts
       ends_by cpu.0 (lock_of_callback plan c o.id.0 (declared_in plan S o.id.0)) (end_of_step plan S (row_of c).rank c o.id.0 v) (λ U e. ending c o v (row_of c).rank U e (step_ends cpu.0 c o v t))
   event_serves (event.Stage n s j) h = effects n.id.0 s j (both_right (is_proper plan S n) (may_pass plan S n.id.0 s j) h)
   event_serves (event.Posted agent p answer) h = posts agent p
-  event_serves (event.Local cpu line) h = none_serves plan _ S (by_top_none (λ g frame. GoOn (frame_id g) (stepped frame (intent_of plan frame)) ∷ []) (λ g frame. refl) (top S.cpus cpu.0))
-  event_serves (event.Log cpu v) h = none_serves plan _ S (by_top_none (λ g frame. GoOn (frame_id g) (goes_on plan frame) ∷ []) (λ g frame. refl) (top S.cpus cpu.0))
-  event_serves (event.Spend cpu n) h = none_serves plan _ S (by_top_none (λ g frame. GoOn (frame_id g) (spending plan S frame n) ∷ []) (λ g frame. refl) (top S.cpus cpu.0))
-  event_serves (event.Register cpu a r v) h = none_serves plan _ S (by_top_none (λ g frame. GoOn (frame_id g) (answered plan frame (Num v)) ∷ []) (λ g frame. refl) (top S.cpus cpu.0))
-  event_serves (event.Did cpu c v) h =
-      none_serves plan _ S (by_top_none (did_deeds plan S cpu.0 c v)
-      (λ g frame. none_behind ((outcome plan S cpu.0 g c).deeds ++ second_deeds g c) (GoOn (frame_id g) (answered plan frame v) ∷ [])
-      (none_behind (outcome plan S cpu.0 g c).deeds (second_deeds g c) (outcome_none plan S cpu.0 g c.kind c.count c.a c.b c.c) (second_none g c.kind c.count c.a c.b c.c)) refl) (top S.cpus cpu.0))
-  event_serves (event.Waiting cpu c) h =
-      none_serves plan _ S (by_top_none (waiting_deeds plan S cpu.0 c)
-      (λ g frame. none_behind (outcome plan S cpu.0 g c).deeds (GoOn (frame_id g) (waiting frame c (outcome plan S cpu.0 g c).answer) ∷ []) (outcome_none plan S cpu.0 g c.kind c.count c.a c.b c.c) refl) (top S.cpus cpu.0))
-  event_serves (event.Woke cpu c v) h =
-      none_serves plan _ S (by_top_none (woke_deeds plan c v) (λ g frame. none_behind (second_deeds g c) (GoOn (frame_id g) (answered plan frame v) ∷ []) (second_none g c.kind c.count c.a c.b c.c) refl) (top S.cpus cpu.0))
-  event_serves e h = calm_serves plan (deeds plan S e) S refl
+  event_serves e h = none_serves plan (deeds plan S e) S (event_none plan S e refl)
 
 -- ---- each place of a run
 

@@ -72,7 +72,7 @@ use Rattle.wdf_power_laws.proofs.Passing.{enabling}
 use Rattle.wdf_power_laws.proofs.Standings.{Standing, Watch, owed, passes, safe}
 use Rattle.wdf_power_laws.proofs.Standings as standings
 use Rattle.wdf_power_laws.proofs.Tellings.{enabled_comes, enabled_stays}
-use Rattle.wdf_power_laws.proofs.Unmoved.{none_behind, none_moves, outcome_none, post_none, releasing_none, second_none, start_effect_none, taking_none}
+use Rattle.wdf_power_laws.proofs.Unmoved.{event_none, none_moves, start_effect_none, taking_none}
 use Rattle.wdf_interrupt_laws.proofs.Queues.{From, deeds_from, event_fine}
 use Rattle.wdf_interrupt_laws.proofs.Quieted.{asked_quieted, ended_quieted, exit_by, is_quieted, not_any, quiet_by, quieted_by, run_quieted}
 
@@ -309,12 +309,8 @@ module _ {A : Type 0} (plan : Plan) (m : Meaning A) (S : State A) (es : List Eve
 
     ends_other : is_sequence (row_of c).rank ≡ false → Serves plan (After en) (es ++ en ∷ [])
     ends_other other = calm en h
-        (none_behind (release_if_any lock_) (PopFrame cpu ∷ end_of_step plan S (row_of c).rank c o.id.0 v) (releasing_none lock_) (no_step (row_of c).rank other))
+        (event_none plan S en other)
         (λ d i. end_elsewhere cpu c o v d i false (not_entry c other) (λ x. absurd (let z : ⊥ = cc in z)))
-      where
-        no_step : (x : Rank) → is_sequence x ≡ false → none_moves (PopFrame cpu ∷ end_of_step plan S x c o.id.0 v) ≡ true
-        no_step rank.Sequence e = absurd (let z : ⊥ = cc in z)
-        no_step _ e = refl
 
     ends_step : is_sequence (row_of c).rank ≡ true → Serves plan (After en) (es ++ en ∷ [])
     ends_step is =
@@ -480,33 +476,11 @@ module _ {A : Type 0} (plan : Plan) (m : Meaning A) (S : State A) (es : List Eve
 
   posts : (agent : ℕ) (p : Post) (answer : Option Handle) → may plan m S (event.Posted agent p answer) ≡ true → Serves plan (After (event.Posted agent p answer)) (es ++ event.Posted agent p answer ∷ [])
   posts agent (post.Ask x device) answer h = asks agent x device answer h
-  posts agent (post.Read device length) answer h = calm (event.Posted agent (post.Read device length) answer) h (post_none plan S agent (post.Read device length) refl) (λ d i. record { entered = refl; exit = refl; enabled = refl; disabled = refl; up = refl; down = refl })
-  posts agent (post.Write device length) answer h = calm (event.Posted agent (post.Write device length) answer) h (post_none plan S agent (post.Write device length) refl) (λ d i. record { entered = refl; exit = refl; enabled = refl; disabled = refl; up = refl; down = refl })
-  posts agent (post.Control device code length) answer h = calm (event.Posted agent (post.Control device code length) answer) h (post_none plan S agent (post.Control device code length) refl) (λ d i. record { entered = refl; exit = refl; enabled = refl; disabled = refl; up = refl; down = refl })
-  posts agent (post.Cancel arrival) answer h = calm (event.Posted agent (post.Cancel arrival) answer) h (post_none plan S agent (post.Cancel arrival) refl) (λ d i. record { entered = refl; exit = refl; enabled = refl; disabled = refl; up = refl; down = refl })
-  posts agent (post.Act x) answer h = calm (event.Posted agent (post.Act x) answer) h (post_none plan S agent (post.Act x) refl) (λ d i. record { entered = refl; exit = refl; enabled = refl; disabled = refl; up = refl; down = refl })
-  posts agent (post.Done request s) answer h = calm (event.Posted agent (post.Done request s) answer) h (post_none plan S agent (post.Done request s) refl) (λ d i. record { entered = refl; exit = refl; enabled = refl; disabled = refl; up = refl; down = refl })
-
-  by_top : (ds : ℕ → Frame → List Deed) → ((g : ℕ) (frame : Frame) → none_moves (ds g frame) ≡ true) → (there : Option ℕ) → none_moves (elim there as (λ _. List Deed) [ None ↦ [] | Some g ↦ ds g (frame_of S.cpus g) ]) ≡ true
-  by_top ds h None = refl
-  by_top ds h (Some g) = h g (frame_of S.cpus g)
+  posts agent p answer h = calm (event.Posted agent p answer) h (event_none plan S (event.Posted agent p answer) refl) (λ d i. record { entered = refl; exit = refl; enabled = refl; disabled = refl; up = refl; down = refl })
 
   pub keeps : (e : Event) → may plan m S e ≡ true → Serves plan (After e) (es ++ e ∷ [])
   keeps (event.Start cpu c o r) h = begins cpu c o r h
   keeps (event.End cpu c o v) h = ends cpu c o v h
   keeps (event.Stage n s j) h = stages n s j h
   keeps (event.Posted agent p answer) h = posts agent p answer h
-  keeps (event.Local cpu line) h = calm (event.Local cpu line) h (by_top (λ g frame. GoOn (frame_id g) (stepped frame (intent_of plan frame)) ∷ []) (λ g frame. refl) (top S.cpus cpu.0)) (λ d i. record { entered = refl; exit = refl; enabled = refl; disabled = refl; up = refl; down = refl })
-  keeps (event.Log cpu v) h = calm (event.Log cpu v) h (by_top (λ g frame. GoOn (frame_id g) (goes_on plan frame) ∷ []) (λ g frame. refl) (top S.cpus cpu.0)) (λ d i. record { entered = refl; exit = refl; enabled = refl; disabled = refl; up = refl; down = refl })
-  keeps (event.Spend cpu n) h = calm (event.Spend cpu n) h (by_top (λ g frame. GoOn (frame_id g) (spending plan S frame n) ∷ []) (λ g frame. refl) (top S.cpus cpu.0)) (λ d i. record { entered = refl; exit = refl; enabled = refl; disabled = refl; up = refl; down = refl })
-  keeps (event.Register cpu a r v) h = calm (event.Register cpu a r v) h (by_top (λ g frame. GoOn (frame_id g) (answered plan frame (Num v)) ∷ []) (λ g frame. refl) (top S.cpus cpu.0)) (λ d i. record { entered = refl; exit = refl; enabled = refl; disabled = refl; up = refl; down = refl })
-  keeps (event.Did cpu c v) h = calm (event.Did cpu c v) h (by_top (did_deeds plan S cpu.0 c v) (λ g frame. none_behind ((outcome plan S cpu.0 g c).deeds ++ second_deeds g c) (GoOn (frame_id g) (answered plan frame v) ∷ []) (none_behind (outcome plan S cpu.0 g c).deeds (second_deeds g c) (outcome_none plan S cpu.0 g c.kind c.count c.a c.b c.c) (second_none g c.kind c.count c.a c.b c.c)) refl) (top S.cpus cpu.0)) (λ d i. record { entered = refl; exit = refl; enabled = refl; disabled = refl; up = refl; down = refl })
-  keeps (event.Waiting cpu c) h = calm (event.Waiting cpu c) h (by_top (waiting_deeds plan S cpu.0 c) (λ g frame. none_behind (outcome plan S cpu.0 g c).deeds (GoOn (frame_id g) (waiting frame c (outcome plan S cpu.0 g c).answer) ∷ []) (outcome_none plan S cpu.0 g c.kind c.count c.a c.b c.c) refl) (top S.cpus cpu.0)) (λ d i. record { entered = refl; exit = refl; enabled = refl; disabled = refl; up = refl; down = refl })
-  keeps (event.Woke cpu c v) h = calm (event.Woke cpu c v) h (by_top (woke_deeds plan c v) (λ g frame. none_behind (second_deeds g c) (GoOn (frame_id g) (answered plan frame v) ∷ []) (second_none g c.kind c.count c.a c.b c.c) refl) (top S.cpus cpu.0)) (λ d i. record { entered = refl; exit = refl; enabled = refl; disabled = refl; up = refl; down = refl })
-  keeps (event.Park cpu g) h = calm (event.Park cpu g) h (refl) (λ d i. record { entered = refl; exit = refl; enabled = refl; disabled = refl; up = refl; down = refl })
-  keeps (event.Unpark cpu g) h = calm (event.Unpark cpu g) h (refl) (λ d i. record { entered = refl; exit = refl; enabled = refl; disabled = refl; up = refl; down = refl })
-  keeps (event.Fault cpu x line) h = calm (event.Fault cpu x line) h (refl) (λ d i. record { entered = refl; exit = refl; enabled = refl; disabled = refl; up = refl; down = refl })
-  keeps (event.Complete r s) h = calm (event.Complete r s) h (refl) (λ d i. record { entered = refl; exit = refl; enabled = refl; disabled = refl; up = refl; down = refl })
-  keeps (event.Cleanup o) h = calm (event.Cleanup o) h (refl) (λ d i. record { entered = refl; exit = refl; enabled = refl; disabled = refl; up = refl; down = refl })
-  keeps (event.Destroy o) h = calm (event.Destroy o) h (refl) (λ d i. record { entered = refl; exit = refl; enabled = refl; disabled = refl; up = refl; down = refl })
-  keeps (event.Tick time) h = calm (event.Tick time) h (refl) (λ d i. record { entered = refl; exit = refl; enabled = refl; disabled = refl; up = refl; down = refl })
+  keeps e h = calm e h (event_none plan S e refl) (λ d i. record { entered = refl; exit = refl; enabled = refl; disabled = refl; up = refl; down = refl })

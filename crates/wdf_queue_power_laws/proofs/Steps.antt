@@ -51,7 +51,7 @@ use Rattle.wdf_invariants.proofs.StepStates.{in_turn}
 use Rattle.wdf_agreements.proofs.Sound.{AllSound, Sound}
 use Rattle.wdf_agreements.proofs.SoundEvents.{top_on}
 use Rattle.wdf_agreements.proofs.SoundRuns.{KnownAll, all_sound}
-use Rattle.wdf_power_laws.proofs.Unmoved.{is_moving, none_behind, none_moves, outcome_none, post_none, releasing_none, second_none, start_effect_none, taking_none}
+use Rattle.wdf_power_laws.proofs.Unmoved.{event_none, is_moving, none_moves, start_effect_none, taking_none}
 use Rattle.wdf_power_laws.proofs.Calm.{Calm, deeds_calm, sound_after, sound_before}
 use Rattle.wdf_power_laws.proofs.Frames.{Runs, StepFrames, is_step}
 use Rattle.wdf_power_laws.proofs.Happens.{found_pass, not_running}
@@ -152,14 +152,10 @@ module _ {A : Type 0} (plan : Plan) (m : Meaning A) (S : State A) (known : Knows
 
     -- ---- callbacks end
 
-    step_none : (x : Rank) (v : Value) → is_sequence x ≡ false → none_moves (PopFrame cpu ∷ end_of_step plan S x c o.id.0 v) ≡ true
-    step_none rank.Sequence v h = absurd (let z : ⊥ = cc in z)
-    step_none _ v h = refl
-
     ends_other : (v : Value) → is_sequence (row_of c).rank ≡ false → AllSound plan (end_deeds plan S cpu.0 c o.id.0 v) S → WithPower plan (do_deeds plan (end_deeds plan S cpu.0 c o.id.0 v) S)
     ends_other v other sound =
         quiet plan (end_deeds plan S cpu.0 c o.id.0 v) S
-        (none_behind (release_if_any (lock_of_callback plan c o.id.0 (declared_in plan S o.id.0))) (PopFrame cpu ∷ end_of_step plan S (row_of c).rank c o.id.0 v) (releasing_none (lock_of_callback plan c o.id.0 (declared_in plan S o.id.0))) (step_none (row_of c).rank v other))
+        (event_none plan S (event.End cpu c o v) other)
         sound k
 
     step_ends : (n : ℕ) (s : Step) (v : Value) (l : Option LockRef) → (IsDue plan S.power n → ⊥) → WithPower plan (do_deeds plan (release_if_any l ++ PopFrame cpu ∷ EndStep (object_id n) s v ∷ []) S)
@@ -256,53 +252,13 @@ module _ {A : Type 0} (plan : Plan) (m : Meaning A) (S : State A) (known : Knows
 
   posts : (agent : ℕ) (p : Post) → all_fit plan (post_deeds plan S agent p) S ≡ true → AllSound plan (post_deeds plan S agent p) S → WithPower plan (do_deeds plan (post_deeds plan S agent p) S)
   posts agent (post.Ask a device) fit sound = asks device.id.0 a (not_true (busy S.pnp device.id.0) (both_left (not (busy S.pnp device.id.0)) true fit))
-  posts agent (post.Read device length) fit sound = quiet plan (post_deeds plan S agent (post.Read device length)) S (post_none plan S agent (post.Read device length) refl) sound k
-  posts agent (post.Write device length) fit sound = quiet plan (post_deeds plan S agent (post.Write device length)) S (post_none plan S agent (post.Write device length) refl) sound k
-  posts agent (post.Control device code length) fit sound = quiet plan (post_deeds plan S agent (post.Control device code length)) S (post_none plan S agent (post.Control device code length) refl) sound k
-  posts agent (post.Cancel arrival) fit sound = quiet plan (post_deeds plan S agent (post.Cancel arrival)) S (post_none plan S agent (post.Cancel arrival) refl) sound k
-  posts agent (post.Act x) fit sound = quiet plan (post_deeds plan S agent (post.Act x)) S (post_none plan S agent (post.Act x) refl) sound k
-  posts agent (post.Done request s) fit sound = quiet plan (post_deeds plan S agent (post.Done request s)) S (post_none plan S agent (post.Done request s) refl) sound k
+  posts agent p fit sound = quiet plan (post_deeds plan S agent p) S (event_none plan S (event.Posted agent p None) refl) sound k
 
   -- ---- all events
-
-  by_top_none : (ds : ℕ → Frame → List Deed) → ((g : ℕ) (frame : Frame) → none_moves (ds g frame) ≡ true) → (there : Option ℕ) → none_moves (elim there as (λ _. List Deed) [ None ↦ [] | Some g ↦ ds g (frame_of S.cpus g) ]) ≡ true
-  by_top_none ds h None = refl
-  by_top_none ds h (Some g) = h g (frame_of S.cpus g)
-
-  -- an event that neither begins nor ends a callback, is no stage and no post
-  abbrev is_plain : Event → Bool
-  is_plain (event.Start cpu c o r) = false
-  is_plain (event.End cpu c o v) = false
-  is_plain (event.Stage n s j) = false
-  is_plain (event.Posted agent p answer) = false
-  is_plain _ = true
-
-  plain_none : (e : Event) → is_plain e ≡ true → none_moves (deeds plan S e) ≡ true
-  plain_none (event.Start cpu c o r) h = absurd (let z : ⊥ = cc in z)
-  plain_none (event.End cpu c o v) h = absurd (let z : ⊥ = cc in z)
-  plain_none (event.Stage n s j) h = absurd (let z : ⊥ = cc in z)
-  plain_none (event.Posted agent p answer) h = absurd (let z : ⊥ = cc in z)
-  plain_none (event.Local cpu line) h = by_top_none (λ g frame. GoOn (frame_id g) (stepped frame (intent_of plan frame)) ∷ []) (λ g frame. refl) (top S.cpus cpu.0)
-  plain_none (event.Log cpu v) h = by_top_none (λ g frame. GoOn (frame_id g) (goes_on plan frame) ∷ []) (λ g frame. refl) (top S.cpus cpu.0)
-  plain_none (event.Spend cpu n) h = by_top_none (λ g frame. GoOn (frame_id g) (spending plan S frame n) ∷ []) (λ g frame. refl) (top S.cpus cpu.0)
-  plain_none (event.Register cpu a r v) h = by_top_none (λ g frame. GoOn (frame_id g) (answered plan frame (Num v)) ∷ []) (λ g frame. refl) (top S.cpus cpu.0)
-  plain_none (event.Did cpu c v) h =
-      by_top_none (did_deeds plan S cpu.0 c v)
-      (λ g frame. none_behind ((outcome plan S cpu.0 g c).deeds ++ second_deeds g c) (GoOn (frame_id g) (answered plan frame v) ∷ [])
-      (none_behind (outcome plan S cpu.0 g c).deeds (second_deeds g c) (outcome_none plan S cpu.0 g c.kind c.count c.a c.b c.c) (second_none g c.kind c.count c.a c.b c.c)) refl) (top S.cpus cpu.0)
-  plain_none (event.Waiting cpu c) h =
-      by_top_none (waiting_deeds plan S cpu.0 c)
-      (λ g frame. none_behind (outcome plan S cpu.0 g c).deeds (GoOn (frame_id g) (waiting frame c (outcome plan S cpu.0 g c).answer) ∷ []) (outcome_none plan S cpu.0 g c.kind c.count c.a c.b c.c) refl) (top S.cpus cpu.0)
-  plain_none (event.Woke cpu c v) h =
-      by_top_none (woke_deeds plan c v) (λ g frame. none_behind (second_deeds g c) (GoOn (frame_id g) (answered plan frame v) ∷ []) (second_none g c.kind c.count c.a c.b c.c) refl) (top S.cpus cpu.0)
-  plain_none _ h = refl
-
-  plain : (e : Event) → is_plain e ≡ true → may plan m S e ≡ true → WithPower plan (do_deeds plan (deeds plan S e) S)
-  plain e is h = quiet plan (deeds plan S e) S (plain_none e is) (all_sound plan m S e known.known h) k
 
   pub keeps : (e : Event) → may plan m S e ≡ true → WithPower plan (do_deeds plan (deeds plan S e) S)
   keeps (event.Start cpu c o r) h = starts cpu c o r (both_right (is_cpu plan cpu && is_proper plan S o && is_proper_if_any plan S r) (may_start plan m S cpu.0 c o.id.0 r) h) (all_sound plan m S (event.Start cpu c o r) known.known h)
   keeps (event.End cpu c o v) h = ends_by cpu c o v (is_sequence (row_of c).rank) refl (end_tells plan m S cpu c o v h) (all_sound plan m S (event.End cpu c o v) known.known h)
   keeps (event.Stage n s j) h = stages n.id.0 s j (both_right (is_proper plan S n) (may_pass plan S n.id.0 s j) h) (all_sound plan m S (event.Stage n s j) known.known h)
   keeps (event.Posted agent p answer) h = posts agent p (event_fits plan m S (event.Posted agent p answer) h) (all_sound plan m S (event.Posted agent p answer) known.known h)
-  keeps e h = plain e refl h
+  keeps e h = quiet plan (deeds plan S e) S (event_none plan S e refl) (all_sound plan m S e known.known h) k

@@ -58,7 +58,7 @@ use Rattle.wdf_laws.specs.declared.sign.Sign.TheVariants as sign
 use Rattle.wdf_laws.specs.Signs.{shows}
 use Rattle.wdf_request_laws.proofs.CancelsOverRuns.{started}
 use Rattle.wdf_request_laws.proofs.FirstParts.{start_reads}
-use Rattle.wdf_power_laws.proofs.Unmoved.{none_behind, none_moves, outcome_none, post_none, releasing_none, second_none, start_effect_none, taking_none}
+use Rattle.wdf_power_laws.proofs.Unmoved.{event_none, none_moves, start_effect_none, taking_none}
 use Rattle.wdf_power_laws.proofs.Calm.{Calm, deeds_calm, sound_after, sound_before}
 use Rattle.wdf_power_laws.proofs.Frames.{Runs}
 use Rattle.wdf_power_laws.proofs.Happens.{found_pass, found_run, not_running}
@@ -73,46 +73,16 @@ NoStage e = (d : ℕ) → (shows (sign.QueuesUp d) e ≡ false) × (shows (sign.
 module _ {A : Type 0} (plan : Plan) (S : State A) (P : Event → Type 0) (calm : (e : Event) → none_moves (deeds plan S e) ≡ true → NoStage e → P e) (starts : (cpu : Cpu) (c : Callback) (o : Handle) (r : Option Handle) → P (event.Start cpu c o r))
     (ends : (cpu : Cpu) (c : Callback) (o : Handle) (v : Value) → P (event.End cpu c o v)) (stages : (n : Handle) (s : Stage) (j : Option Handle) → P (event.Stage n s j))
     (asks : (agent : ℕ) (a : Ask) (device : Handle) (answer : Option Handle) → P (event.Posted agent (post.Ask a device) answer)) where
-  by_top_calm : (e : Event) (cpu : ℕ) (ds : ℕ → Frame → List Deed) → deeds plan S e ≡ (elim (top S.cpus cpu) as (λ _. List Deed) [ None ↦ [] | Some g ↦ ds g (frame_of S.cpus g) ]) → ((g : ℕ) (frame : Frame) → none_moves (ds g frame) ≡ true) → NoStage e → P e
-  by_top_calm e cpu ds is h quiet_ = calm e (ap none_moves is ∙ by_top (top S.cpus cpu)) quiet_
-    where
-      by_top : (there : Option ℕ) → none_moves (elim there as (λ _. List Deed) [ None ↦ [] | Some g ↦ ds g (frame_of S.cpus g) ]) ≡ true
-      by_top None = refl
-      by_top (Some g) = h g (frame_of S.cpus g)
-
-  outcomes : (cpu g : ℕ) (c : Call) (ds : List Deed) → none_moves ds ≡ true → none_moves ((outcome plan S cpu g c).deeds ++ ds) ≡ true
-  outcomes cpu g c ds h = none_behind (outcome plan S cpu g c).deeds ds (outcome_none plan S cpu g c.kind c.count c.a c.b c.c) h
-
   posts : (agent : ℕ) (p : Post) (answer : Option Handle) → P (event.Posted agent p answer)
   posts agent (post.Ask a device) answer = asks agent a device answer
-  posts agent (post.Read device length) answer = calm (event.Posted agent (post.Read device length) answer) (post_none plan S agent (post.Read device length) refl) (λ d. (refl, refl))
-  posts agent (post.Write device length) answer = calm (event.Posted agent (post.Write device length) answer) (post_none plan S agent (post.Write device length) refl) (λ d. (refl, refl))
-  posts agent (post.Control device code length) answer = calm (event.Posted agent (post.Control device code length) answer) (post_none plan S agent (post.Control device code length) refl) (λ d. (refl, refl))
-  posts agent (post.Cancel arrival) answer = calm (event.Posted agent (post.Cancel arrival) answer) (post_none plan S agent (post.Cancel arrival) refl) (λ d. (refl, refl))
-  posts agent (post.Act x) answer = calm (event.Posted agent (post.Act x) answer) (post_none plan S agent (post.Act x) refl) (λ d. (refl, refl))
-  posts agent (post.Done request s) answer = calm (event.Posted agent (post.Done request s) answer) (post_none plan S agent (post.Done request s) refl) (λ d. (refl, refl))
+  posts agent p answer = calm (event.Posted agent p answer) (event_none plan S (event.Posted agent p answer) refl) (λ d. (refl, refl))
 
   pub by_kind : (e : Event) → P e
   by_kind (event.Start cpu c o r) = starts cpu c o r
   by_kind (event.End cpu c o v) = ends cpu c o v
   by_kind (event.Stage n s j) = stages n s j
   by_kind (event.Posted agent p answer) = posts agent p answer
-  by_kind (event.Local cpu line) = by_top_calm (event.Local cpu line) cpu.0 (λ g frame. GoOn (frame_id g) (stepped frame (intent_of plan frame)) ∷ []) refl (λ g frame. refl) (λ d. (refl, refl))
-  by_kind (event.Log cpu v) = by_top_calm (event.Log cpu v) cpu.0 (λ g frame. GoOn (frame_id g) (goes_on plan frame) ∷ []) refl (λ g frame. refl) (λ d. (refl, refl))
-  by_kind (event.Spend cpu n) = by_top_calm (event.Spend cpu n) cpu.0 (λ g frame. GoOn (frame_id g) (spending plan S frame n) ∷ []) refl (λ g frame. refl) (λ d. (refl, refl))
-  by_kind (event.Register cpu a r v) = by_top_calm (event.Register cpu a r v) cpu.0 (λ g frame. GoOn (frame_id g) (answered plan frame (Num v)) ∷ []) refl (λ g frame. refl) (λ d. (refl, refl))
-  by_kind (event.Did cpu c v) =
-      by_top_calm (event.Did cpu c v) cpu.0 (did_deeds plan S cpu.0 c v) refl
-      (λ g frame. none_behind ((outcome plan S cpu.0 g c).deeds ++ second_deeds g c) (GoOn (frame_id g) (answered plan frame v) ∷ []) (outcomes cpu.0 g c (second_deeds g c) (second_none g c.kind c.count c.a c.b c.c)) refl) (λ d. (refl, refl))
-  by_kind (event.Waiting cpu c) = by_top_calm (event.Waiting cpu c) cpu.0 (waiting_deeds plan S cpu.0 c) refl (λ g frame. outcomes cpu.0 g c (GoOn (frame_id g) (waiting frame c (outcome plan S cpu.0 g c).answer) ∷ []) refl) (λ d. (refl, refl))
-  by_kind (event.Woke cpu c v) = by_top_calm (event.Woke cpu c v) cpu.0 (woke_deeds plan c v) refl (λ g frame. none_behind (second_deeds g c) (GoOn (frame_id g) (answered plan frame v) ∷ []) (second_none g c.kind c.count c.a c.b c.c) refl) (λ d. (refl, refl))
-  by_kind (event.Park cpu g) = calm (event.Park cpu g) refl (λ d. (refl, refl))
-  by_kind (event.Unpark cpu g) = calm (event.Unpark cpu g) refl (λ d. (refl, refl))
-  by_kind (event.Fault cpu x line) = calm (event.Fault cpu x line) refl (λ d. (refl, refl))
-  by_kind (event.Complete r s) = calm (event.Complete r s) refl (λ d. (refl, refl))
-  by_kind (event.Cleanup o) = calm (event.Cleanup o) refl (λ d. (refl, refl))
-  by_kind (event.Destroy o) = calm (event.Destroy o) refl (λ d. (refl, refl))
-  by_kind (event.Tick time) = calm (event.Tick time) refl (λ d. (refl, refl))
+  by_kind e = calm e (event_none plan S e refl) (λ d. (refl, refl))
 
 -- ---- what an event does
 
@@ -235,10 +205,6 @@ starts_by plan m S cpu c o (Some r) true is ready sound = absurd (no_step_for pl
 -- ---- ends
 
 module _ {A : Type 0} (plan : Plan) (m : Meaning A) (S : State A) (es : List Event) (resolved : IsResolved plan) (known : KnownAll plan S) (k : Kept plan S es) where
-  step_none : (cpu : ℕ) (c : Callback) (o : ℕ) (x : Rank) (v : Value) → is_sequence x ≡ false → none_moves (PopFrame (cpu_of cpu) ∷ end_of_step plan S x c o v) ≡ true
-  step_none cpu c o rank.Sequence v h = absurd (let z : ⊥ = cc in z)
-  step_none cpu c o _ v h = refl
-
   ended_pnp : (l : Option LockRef) (cpu n : ℕ) (x : Step) (v : Value) → (do_deeds plan (release_if_any l ++ PopFrame (cpu_of cpu) ∷ EndStep (object_id n) x v ∷ []) S).pnp ≡ pnp.ended S.pnp n x v
   ended_pnp None cpu n x v = refl
   ended_pnp (Some l) cpu n x v = refl
@@ -259,7 +225,7 @@ module _ {A : Type 0} (plan : Plan) (m : Meaning A) (S : State A) (es : List Eve
       → Change plan S (do_deeds plan (end_deeds plan S cpu.0 c o.id.0 v) S) (event.End cpu c o v)
   ends_by cpu c o v false is t sound =
       let l : Option LockRef = lock_of_callback plan c o.id.0 (declared_in plan S o.id.0) in
-      calm_change plan S (event.End cpu c o v) (end_deeds plan S cpu.0 c o.id.0 v) (none_behind (release_if_any l) (PopFrame cpu ∷ end_of_step plan S (row_of c).rank c o.id.0 v) (releasing_none l) (step_none cpu.0 c o.id.0 (row_of c).rank v is)) sound (λ d. (refl, refl))
+      calm_change plan S (event.End cpu c o v) (end_deeds plan S cpu.0 c o.id.0 v) (event_none plan S (event.End cpu c o v) is) sound (λ d. (refl, refl))
   ends_by cpu c o v true is t sound =
       let n : ℕ = nearest_device S.tree o.id.0 in
       let x : Step = step_of plan S c o.id.0 in

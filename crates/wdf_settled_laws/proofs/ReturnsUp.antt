@@ -41,10 +41,10 @@ use Rattle.wdf_model.proofs.FitsOfEvents.{event_fits}
 use Rattle.wdf_agreements.proofs.Sound.{AllSound, Sound}
 use Rattle.wdf_agreements.proofs.SoundRuns.{KnownAll, all_sound}
 use Rattle.wdf_agreements.proofs.Stays.{asks_all}
-use Rattle.wdf_power_laws.proofs.Unmoved.{is_moving, none_moves, releasing_none, taking_none}
+use Rattle.wdf_deeds.specs.MayDo.{is_stage, may_do}
+use Rattle.wdf_deeds.proofs.Passing.{event_passes}
 use Rattle.wdf_power_laws.proofs.Calm.{deeds_calm}
 use Rattle.wdf_settled_laws.proofs.Queues.{of_device, of_each}
-use Rattle.wdf_settled_laws.proofs.Moves.{by_kind}
 use Rattle.wdf_settled_laws.proofs.Returning.{Comes, all_closed, all_returning, by_deed, comes_same, powered_same, requests_of}
 
 abbrev pub ReturnsUp : {A : Type 0} → Plan → State A → Type 0
@@ -59,17 +59,9 @@ is_power _ = false
 abbrev none_power : List Deed → Bool
 none_power ds = list_all (λ d. not (is_power d)) ds
 
-power_moves : (d : Deed) → not (is_moving d) ≡ true → not (is_power d) ≡ true
-power_moves (AdvancePower d s) h = absurd (let z : ⊥ = cc in z)
-power_moves _ h = refl
-
-calm_power : (ds : List Deed) → none_moves ds ≡ true → none_power ds ≡ true
-calm_power [] h = refl
-calm_power (d ∷ ds) h = both (not (is_power d)) (none_power ds) (power_moves d (both_left (not (is_moving d)) (none_moves ds) h)) (calm_power ds (both_right (not (is_moving d)) (none_moves ds) h))
-
-power_behind : (ds es : List Deed) → none_power ds ≡ true → none_power es ≡ true → none_power (ds ++ es) ≡ true
-power_behind [] es h k = k
-power_behind (d ∷ ds) es h k = both (not (is_power d)) (none_power (ds ++ es)) (both_left (not (is_power d)) (none_power ds) h) (power_behind ds es (both_right (not (is_power d)) (none_power ds) h) k)
+powerless : (e : Event) → is_stage e ≡ false → (d : Deed) → may_do e d ≡ true → not (is_power d) ≡ true
+powerless e off (AdvancePower d s) h = absurd (let z : ⊥ = cc in z)
+powerless e off _ h = refl
 
 devices_same : {A : Type 0} (plan : Plan) (d : Deed) (S : State A) → is_power d ≡ false → Sound plan d S → (do_deed plan d S).power.devices ≡ S.power.devices
 devices_same plan (AdvancePower d s) S h sound = absurd (let z : ⊥ = cc in z)
@@ -96,46 +88,6 @@ module _ {A : Type 0} (plan : Plan) where
   deeds_return (d ∷ ds) S none fit sound k =
       deeds_return ds (do_deed plan d S) (both_right (not (is_power d)) (none_power ds) none) (both_right (fits plan d S) (all_fit plan ds (do_deed plan d S)) fit) sound.1
       (deed_returns d S (not_true (is_power d) (both_left (not (is_power d)) (none_power ds) none)) (both_left (fits plan d S) (all_fit plan ds (do_deed plan d S)) fit) sound.0 k)
-
--- ---- starts and ends
-
-effect_for_power : (k : Rank) (o r : ℕ) → none_power (effect_for k o r) ≡ true
-effect_for_power rank.Completion o r = refl
-effect_for_power rank.Cancel o r = refl
-effect_for_power rank.CanceledOnQueue o r = refl
-effect_for_power rank.Stop o r = refl
-effect_for_power rank.Resume o r = refl
-effect_for_power rank.Handler o r = refl
-effect_for_power _ o r = refl
-
-effect_power : {A : Type 0} (plan : Plan) (S : State A) (k : Rank) (cpu : ℕ) (c : Callback) (o : ℕ) → none_power (effect plan S k cpu c o) ≡ true
-effect_power plan S rank.Deferred cpu c o = refl
-effect_power plan S rank.Timed cpu c o = refl
-effect_power plan S rank.QueueState cpu c o = refl
-effect_power plan S rank.Sequence cpu c o = refl
-effect_power plan S rank.Work cpu c o = refl
-effect_power plan S rank.Cleanup cpu c o = refl
-effect_power plan S rank.Destroy cpu c o = refl
-effect_power plan S _ cpu c o = refl
-
-start_effect_power : {A : Type 0} (plan : Plan) (S : State A) (cpu : ℕ) (c : Callback) (o : ℕ) (r : Option Handle) → none_power (start_effect plan S cpu c o r) ≡ true
-start_effect_power plan S cpu c o None = effect_power plan S (row_of c).rank cpu c o
-start_effect_power plan S cpu c o (Some r) = effect_for_power (row_of c).rank o r.id.0
-
-start_power : {A : Type 0} (plan : Plan) (S : State A) (cpu : ℕ) (c : Callback) (o : Handle) (r : Option Handle) → none_power (start_deeds plan S cpu c o r) ≡ true
-start_power plan S cpu c o r =
-    let takes : List Deed = take_if_any (next_number S) (lock_of_callback plan c o.id.0 (declared_in plan S o.id.0)) in
-    power_behind (start_effect plan S cpu c o.id.0 r) (PushFrame (cpu_of cpu) (frame_id (next_number S)) (new_frame plan S c o r) (irql_of (callback_irql plan c o.id.0)) ∷ takes) (start_effect_power plan S cpu c o.id.0 r)
-    (calm_power takes (taking_none (next_number S) (lock_of_callback plan c o.id.0 (declared_in plan S o.id.0))))
-
-step_power : {A : Type 0} (plan : Plan) (S : State A) (cpu : ℕ) (k : Rank) (c : Callback) (o : ℕ) (v : Value) → none_power (PopFrame (cpu_of cpu) ∷ end_of_step plan S k c o v) ≡ true
-step_power plan S cpu rank.Sequence c o v = refl
-step_power plan S cpu _ c o v = refl
-
-end_power : {A : Type 0} (plan : Plan) (S : State A) (cpu : ℕ) (c : Callback) (o : ℕ) (v : Value) → none_power (end_deeds plan S cpu c o v) ≡ true
-end_power plan S cpu c o v =
-    power_behind (release_if_any (lock_of_callback plan c o (declared_in plan S o))) (PopFrame (cpu_of cpu) ∷ end_of_step plan S (row_of c).rank c o v)
-    (calm_power (release_if_any (lock_of_callback plan c o (declared_in plan S o))) (releasing_none (lock_of_callback plan c o (declared_in plan S o)))) (step_power plan S cpu (row_of c).rank c o v)
 
 -- ---- stages
 
@@ -241,13 +193,9 @@ module _ {A : Type 0} (plan : Plan) (S : State A) (n : ℕ) (j : Option Handle) 
 
 module _ {A : Type 0} (plan : Plan) (m : Meaning A) (S : State A) (known : KnownAll plan S) (k : ReturnsUp plan S)
     (devices : (n : Handle) (s : Stage) (j : Option Handle) → may plan m S (event.Stage n s j) ≡ true → (do_deeds plan (stage_deeds plan n.id.0 s j) S).power.devices ≡ (advance_stage S.power n.id.0 s).devices) where
-  returns_by : (e : Event) → none_power (deeds plan S e) ≡ true → may plan m S e ≡ true → ReturnsUp plan (do_deeds plan (deeds plan S e) S)
-  returns_by e none h = deeds_return plan (deeds plan S e) S none (event_fits plan m S e h) (all_sound plan m S e known h) k
+  returns_by : (e : Event) → is_stage e ≡ false → may plan m S e ≡ true → ReturnsUp plan (do_deeds plan (deeds plan S e) S)
+  returns_by e off h = deeds_return plan (deeds plan S e) S (event_passes (λ d. not (is_power d)) plan S e (powerless e off)) (event_fits plan m S e h) (all_sound plan m S e known h) k
 
   pub returns_after : (e : Event) → may plan m S e ≡ true → ReturnsUp plan (do_deeds plan (deeds plan S e) S)
-  returns_after = by_kind plan S (λ e. may plan m S e ≡ true → ReturnsUp plan (do_deeds plan (deeds plan S e) S))
-      (λ e none quiet_ h. returns_by e (calm_power (deeds plan S e) none) h)
-      (λ cpu c o r h. returns_by (event.Start cpu c o r) (start_power plan S cpu.0 c o r) h)
-      (λ cpu c o v h. returns_by (event.End cpu c o v) (end_power plan S cpu.0 c o.id.0 v) h)
-      (λ n s j h. stage_returns plan S n.id.0 j k s (devices n s j h))
-      (λ agent a device answer h. returns_by (event.Posted agent (post.Ask a device) answer) refl h)
+  returns_after (event.Stage n s j) h = stage_returns plan S n.id.0 j k s (devices n s j h)
+  returns_after e h = returns_by e refl h

@@ -27,8 +27,8 @@ use Rattle.wdf_base.specs.declared.object.LockRef.{LockRef}
 use Rattle.wdf_base.specs.declared.call.Callback.TheVariants as callback
 use Rattle.wdf_base.specs.declared.event.Post.{Post}
 use Rattle.wdf_base.specs.declared.event.Post.TheVariants as post
-use Rattle.wdf_power_laws.proofs.Unmoved.{is_moving, none_moves}
-use Rattle.wdf_settled_laws.proofs.Moves.{by_kind}
+use Rattle.wdf_power_laws.proofs.Unmoved.{is_moving, is_moving_event, none_moves}
+use Rattle.wdf_power_laws.proofs.Unmoved as unmoved
 use Rattle.wdf_model.specs.declared.enums.Mode.TheVariants as mode
 use Rattle.wdf_model.specs.declared.entries.Holding.{Holding}
 use Rattle.wdf_model.specs.Plans.{callback_irql, is_managed, is_parallel_queue, managed_queues, queues_of}
@@ -321,20 +321,8 @@ module _ {A : Type 0} (plan : Plan) (m : Meaning A) (S : State A) where
   stage_opens n stage.Removed j = before _ S.power _ (still_power S.power _ (asks_all power_of (λ S T D W U. refl) (subtree S.tree n.id.0) (do_deeds plan (TakeStep n.id ∷ []) S)))
   stage_opens n _ j = before _ S.power _ (λ x. still_same (holding_of S.power x) (holding_of S.power x) refl)
 
-  -- an event that moves nothing of devices
-  abbrev is_calm : Event → Bool
-  is_calm (event.Start cpu c o r) = false
-  is_calm (event.End cpu c o v) = false
-  is_calm (event.Stage n s j) = false
-  is_calm (event.Posted agent (post.Ask a device) answer) = false
-  is_calm _ = true
-
-  calm_moves : (e : Event) → is_calm e ≡ true → none_moves (deeds plan S e) ≡ true
-  calm_moves = by_kind plan S (λ e. is_calm e ≡ true → none_moves (deeds plan S e) ≡ true) (λ e none quiet_ h. none) (λ cpu c o r h. absurd (let z : ⊥ = cc in z)) (λ cpu c o v h. absurd (let z : ⊥ = cc in z)) (λ n s j h. absurd (let z : ⊥ = cc in z))
-      (λ agent a device answer h. absurd (let z : ⊥ = cc in z))
-
-  plain : (e : Event) → is_plain e ≡ true → is_calm e ≡ true → Opens e
-  plain e h k = before e S.power (after plan m S e).power (deeds_still plan (deeds plan S e) S (event_none plan S e h) (calm_moves e k))
+  plain : (e : Event) → is_plain e ≡ true → is_moving_event e ≡ false → Opens e
+  plain e h k = before e S.power (after plan m S e).power (deeds_still plan (deeds plan S e) S (event_none plan S e h) (unmoved.event_none plan S e k))
 
   posts : (agent : ℕ) (p : Post) (answer : Option Handle) → Opens (event.Posted agent p answer)
   posts agent (post.Ask a device) answer = before (event.Posted agent (post.Ask a device) answer) S.power S.power (still_power S.power S.power refl)
