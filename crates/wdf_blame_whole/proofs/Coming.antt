@@ -96,7 +96,7 @@ use Rattle.wdf_blame_whole.proofs.Trees.{first_out, parent_in}
 use Rattle.wdf_blame_whole.proofs.Belonging.{device_of_target, target_found}
 use Rattle.wdf_blame_whole.proofs.Lasting.{Lasts, last_step}
 use Rattle.wdf_blame_whole.proofs.Standing.{AllComes, Removable, Stands, defers, ready_in}
-use Rattle.wdf_blame_whole.proofs.Plains.{acknowledge_plain, all_plain, cancel_of_plain, comes_behind, create_plain, either_plain, forward_plain, mark_plain, plain_behind, plain_comes, requeue_plain, retrieve_plain, second_plain, send_plain, start_effect_plain, taking_plain}
+use Rattle.wdf_blame_whole.proofs.Plains.{comes_behind, event_plain, outcome_plain, plain_comes, second_plain}
 
 -- ---- what is known of a state of a run
 
@@ -405,41 +405,12 @@ module _ {A : Type 0} (plan : Plan) (S : State A) (resolved : IsResolved plan) (
   outcome_comes cpu f call.WdfDpcEnqueue n a b x h =
       dpc_comes cpu (object_in a) (is_live (life_of S.tree (object_in a))) (not (is_dpc_queued S.dpcs (object_in a))) refl
       (first_kind (view_of plan S cpu f) kind.Dpc a (wrong_kind_of_first (view_of plan S cpu f) (made call.WdfDpcEnqueue n a b x) (h fault.WrongKind)))
-  outcome_comes cpu f call.WdfObjectCreate n a b x h = plain_comes plan _ S (create_plain plan S (class_in a) (object_in b))
-  outcome_comes cpu f call.WdfSpinLockCreate n a b x h = plain_comes plan _ S (create_plain plan S (class_in a) (object_in b))
-  outcome_comes cpu f call.WdfWaitLockCreate n a b x h = plain_comes plan _ S (create_plain plan S (class_in a) (object_in b))
-  outcome_comes cpu f call.WdfRequestCreate n a b x h = plain_comes plan _ S (create_plain plan S (class_in a) (object_in b))
-  outcome_comes cpu f call.WdfDpcCreate n a b x h = plain_comes plan _ S (create_plain plan S (class_in a) (parent_of_class plan (class_in a)))
-  outcome_comes cpu f call.WdfTimerCreate n a b x h = plain_comes plan _ S (create_plain plan S (class_in a) (parent_of_class plan (class_in a)))
-  outcome_comes cpu f call.WdfWorkItemCreate n a b x h = plain_comes plan _ S (create_plain plan S (class_in a) (parent_of_class plan (class_in a)))
-  outcome_comes cpu f call.WdfRequestMarkCancelableEx n a b x h = plain_comes plan _ S (mark_plain plan S (object_in a))
-  outcome_comes cpu f call.WdfRequestRequeue n a b x h = plain_comes plan _ S (requeue_plain S (object_in a) (origin_or_none S (object_in a)))
-  outcome_comes cpu f call.WdfRequestForwardToIoQueue n a b x h = plain_comes plan _ S (forward_plain plan S (object_in a) (object_in b))
-  outcome_comes cpu f call.WdfRequestStopAcknowledge n a b x h = plain_comes plan _ S (acknowledge_plain S (object_in a) b)
-  outcome_comes cpu f call.WdfRequestSend n a b x h = plain_comes plan _ S (send_plain S (object_in a) (object_in b) (arg_is x 1))
-  outcome_comes cpu f call.WdfIoQueueRetrieveNextRequest n a b x h = plain_comes plan _ S (retrieve_plain plan S (object_in a))
-  outcome_comes cpu f call.WdfIoQueueReadyNotify n a b x h =
-      plain_comes plan _ S (either_plain (is_manual_queue plan (object_in a) && declares plan callback.EvtIoQueueState (object_in a)) (success (RegisterQueue (object_id (object_in a)) (not (arg_is b 0)) ∷ [])) (refused status.InvalidDeviceRequest) refl refl)
-  outcome_comes cpu f call.WdfTimerStart n a b x h =
-      plain_comes plan _ S (either_plain (is_live (life_of S.tree (object_in a))) (number (flag (is_timer_queued S.timers (object_in a))) (StartTimer (object_id (object_in a)) (number_in b) ∷ [])) (number 0 []) refl refl)
-  outcome_comes cpu f call.WdfWorkItemEnqueue n a b x h = plain_comes plan _ S (either_plain (is_live (life_of S.tree (object_in a))) (success (EnqueueWork (object_id (object_in a)) ∷ [])) (success []) refl refl)
-  outcome_comes cpu f c n a b x h = plain_comes plan (outcome plan S cpu f (record { kind = c; count = n; a = a; b = b; c = x })).deeds S refl
+  outcome_comes cpu f c n a b x h = plain_comes plan (outcome plan S cpu f (made c n a b x)).deeds S (outcome_plain plan S cpu f (made c n a b x) refl)
 
   -- ---- events
 
   by_its_top_comes : (cpu f : ℕ) (what : ℕ → Frame → List Deed) → top S.cpus cpu ≡ Some f → AllComes plan (what f (frame_of S.cpus f)) S → AllComes plan (by_top S cpu what) S
   by_its_top_comes cpu f what t h = subst (λ ds. AllComes plan ds S) (sym (by_its_top S cpu f what t)) h
-
-  moving_comes : (next : ℕ → Frame → List Deed) → ((f : ℕ) (frame : Frame) → all_plain (next f frame) ≡ true) → (there : Option ℕ) → AllComes plan (elim there as (λ _. List Deed) [ None ↦ [] | Some f ↦ next f (frame_of S.cpus f) ]) S
-  moving_comes next h None = tt
-  moving_comes next h (Some f) = plain_comes plan (next f (frame_of S.cpus f)) S (h f (frame_of S.cpus f))
-
-  start_comes : (cpu : ℕ) (c : Callback) (o : Handle) (r : Option Handle) → AllComes plan (start_deeds plan S cpu c o r) S
-  start_comes cpu c o r =
-      let l : Option LockRef = lock_of_callback plan c o.id.0 (declared_in plan S o.id.0) in
-      plain_comes plan (start_deeds plan S cpu c o r) S
-      (plain_behind (start_effect plan S cpu c o.id.0 r) (PushFrame (cpu_of cpu) (frame_id (next_number S)) (new_frame plan S c o r) (irql_of (callback_irql plan c o.id.0)) ∷ take_if_any (next_number S) l)
-      (start_effect_plain plan S cpu c o.id.0 r) (taking_plain (next_number S) l))
 
   -- the callback of a step that ends is the one that runs
   step_runs : (cpu : ℕ) (c : Callback) (o : Handle) (v : Value) → IsEnd plan S cpu c o v → is_sequence (row_of c).rank ≡ true → is_running_step S.pnp (nearest_device S.tree o.id.0) ≡ true
@@ -491,41 +462,26 @@ module _ {A : Type 0} (plan : Plan) (S : State A) (resolved : IsResolved plan) (
   post_comes agent (post.Read d length) h = arrival_comes agent form.Read length 0 d h
   post_comes agent (post.Write d length) h = arrival_comes agent form.Write length 0 d h
   post_comes agent (post.Control d code length) h = arrival_comes agent form.Control length code d h
-  post_comes agent (post.Cancel k) h = plain_comes plan _ S (cancel_of_plain S (cancel_reaches S agent k))
-  post_comes agent (post.Ask a device) h = (tt, tt)
-  post_comes agent (post.Act action) h = tt
-  post_comes agent (post.Done r s) h = (tt, tt)
+  post_comes agent p h = plain_comes plan (post_deeds plan S agent p) S (event_plain plan S (event.Posted agent p None) refl)
 
   pub event_comes : (m : Meaning A) (e : Event) → may plan m S e ≡ true → AllComes plan (deeds plan S e) S
-  event_comes m (event.Start c0 c o r) h = start_comes c0.0 c o r
-  event_comes m (event.Local c0 line) h = moving_comes (λ f frame. GoOn (frame_id f) (stepped frame (intent_of plan frame)) ∷ []) (λ f frame. refl) (top S.cpus c0.0)
-  event_comes m (event.Log c0 v) h = moving_comes (λ f frame. GoOn (frame_id f) (goes_on plan frame) ∷ []) (λ f frame. refl) (top S.cpus c0.0)
-  event_comes m (event.Spend c0 n) h = moving_comes (λ f frame. GoOn (frame_id f) (spending plan S frame n) ∷ []) (λ f frame. refl) (top S.cpus c0.0)
-  event_comes m (event.Register c0 a r v) h = moving_comes (λ f frame. GoOn (frame_id f) (answered plan frame (Num v)) ∷ []) (λ f frame. refl) (top S.cpus c0.0)
   event_comes m (event.Did c0 c v) h =
       let d = did_tells plan m S c0 c v h in
       let f : ℕ = d.frame in
       by_its_top_comes c0.0 f (did_deeds plan S c0.0 c v) d.about.top
       (comes_behind plan ((outcome plan S c0.0 f c).deeds ++ second_deeds f c) (GoOn (frame_id f) (answered plan (frame_of S.cpus f) v) ∷ []) S
-      (comes_behind plan (outcome plan S c0.0 f c).deeds (second_deeds f c) S (outcome_comes c0.0 f c.kind c.count c.a c.b c.c d.about.clean) (plain_comes plan (second_deeds f c) _ (second_plain f c.kind c.count c.a c.b c.c))) (tt, tt))
+      (comes_behind plan (outcome plan S c0.0 f c).deeds (second_deeds f c) S (outcome_comes c0.0 f c.kind c.count c.a c.b c.c d.about.clean) (plain_comes plan (second_deeds f c) _ (second_plain f c))) (tt, tt))
   event_comes m (event.Waiting c0 c) h =
       let d = waiting_tells plan m S c0 c h in
       let f : ℕ = d.frame in
       by_its_top_comes c0.0 f (waiting_deeds plan S c0.0 c) d.about.top
       (comes_behind plan (outcome plan S c0.0 f c).deeds (GoOn (frame_id f) (waiting (frame_of S.cpus f) c (outcome plan S c0.0 f c).answer) ∷ []) S (outcome_comes c0.0 f c.kind c.count c.a c.b c.c d.about.clean) (tt, tt))
-  event_comes m (event.Woke c0 c v) h =
-      moving_comes (woke_deeds plan c v) (λ f frame. plain_behind (second_deeds f c) (GoOn (frame_id f) (answered plan frame v) ∷ []) (second_plain f c.kind c.count c.a c.b c.c) refl) (top S.cpus c0.0)
-  event_comes m (event.Park c0 f) h = (tt, tt)
-  event_comes m (event.Unpark c0 f) h = (tt, tt)
   event_comes m (event.End c0 c o v) h =
       let d = end_tells plan m S c0 c o v h in
       ends_comes c0.0 (lock_of_callback plan c o.id.0 (declared_in plan S o.id.0)) (end_of_step plan S (row_of c).rank c o.id.0 v) (λ U e. ending_comes c0.0 c o v (row_of c).rank U e (step_runs c0.0 c o v d))
-  event_comes m (event.Fault c0 x line) h = tt
   event_comes m (event.Stage d s i) h = effects_come d.id.0 s i (both_right (is_proper plan S d) (may_pass plan S d.id.0 s i) h)
   event_comes m (event.Complete r s) h =
       (removes_request r.id.0 (completed_undone r.id.0 (both_left (is_closing (place_of S.requests r.id.0) || is_given S r.id.0) true (event_fits plan m S (event.Complete r s) h))), tt)
-  event_comes m (event.Cleanup o) h = (tt, tt)
-  event_comes m (event.Destroy o) h = (tt, tt)
   event_comes m (event.Posted agent p answer) h =
       post_comes agent p (both_right (same_option same_post (due_of m S agent) (Some p)) (post_fits plan S agent p) (both_left (same_option same_post (due_of m S agent) (Some p) && post_fits plan S agent p) (same_option same_handle (post_answer plan S agent p) answer) h))
-  event_comes m (event.Tick time) h = (tt, tt)
+  event_comes m e h = plain_comes plan (deeds plan S e) S (event_plain plan S e refl)
