@@ -17,7 +17,7 @@ impl Cpus {
         ensures value { result ≡ length (cpus.all_frames self.now) }
         ensures small { result ≤ FRAMES }
     {
-        frames_on(&self.stacks) + self.parked.len()
+        stacked_len(&self.stacks) + self.parked.len()
     }
 
     /// The frame at a place: those of each processor from its top on, then the parked ones.
@@ -29,7 +29,7 @@ impl Cpus {
     }
 
     /// How many frames run on an object.
-    pub fn on(&self, o: ObjectId) -> u32
+    pub fn frames_on(&self, o: ObjectId) -> u32
         ensures { result ≡ cpus.frames_on self.now o.0 }
     {
         if o.0 < OBJECTS {
@@ -43,7 +43,7 @@ impl Cpus {
     pub fn nobody_on(&self, o: ObjectId) -> bool
         ensures { result ≡ cpus.nobody_on self.now o.0 }
     {
-        self.on(o) == 0
+        self.frames_on(o) == 0
     }
 
     /// Whether a frame waits for an object: it is the first argument of the call that waits.
@@ -98,7 +98,7 @@ impl Cpus {
 }
 
 /// How many frames are on processors.
-fn frames_on(stacks: &[Stack]) -> usize
+fn stacked_len(stacks: &[Stack]) -> usize
     requires { length (flat_map (λ fs. fs) stacks.now) ≤ FRAMES }
     ensures { result ≡ length (flat_map (λ fs. fs) stacks.now) }
 {

@@ -10,6 +10,5 @@ mod order;
 mod readers;
 mod rising;
 mod stack;
-mod tally;
 
 pub use cpus::Cpus;

@@ -72,7 +72,7 @@ impl Locks {
     }
 
     /// Whether nobody holds a lock.
-    pub fn is_free(&self, lock: LockRef) -> bool
+    pub fn is_free_lock(&self, lock: LockRef) -> bool
         ensures { result ≡ locks.is_free_lock self.now lock }
     {
         self.hold(lock).is_none()
@@ -83,7 +83,7 @@ impl Locks {
         ensures { result ≡ locks.is_free_if_any self.now lock }
     {
         match lock {
-            Some(lock) => self.is_free(lock),
+            Some(lock) => self.is_free_lock(lock),
             None => true,
         }
     }
