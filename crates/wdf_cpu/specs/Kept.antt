@@ -1,4 +1,4 @@
--- What the processors keep: the state that it stands for, the room, and what is kept beside the state.
+-- What the fields of the processors say: the state that they stand for, the room, and what is kept beside it.
 use Rattle.std.specs.Prelude.{ℕ, ◌≡◌, ◌≤◌, ◌==◌, Bool, false, List, length, count_by, vec_capacity}
 use Rattle.std.specs.VecDeque.{deque_capacity}
 use Rattle.wdf_model.specs.declared.room.TheConstants.{EVENTS, FRAMES}

@@ -20,7 +20,7 @@ const NO_HANDLE: Handle = Handle {
     name: 0,
 };
 
-/// What stands for a frame that isn't there.
+/// The entry of a number that no frame has.
 pub(crate) const NO_FRAME: Running = Running {
     frame: Frame {
         callback: Callback::EvtDestroyCallback,

@@ -2,8 +2,8 @@
 #![tactic(auto)]
 
 mod acts;
-mod asked;
 mod cpus;
+mod frame_test;
 mod frames;
 mod levels;
 mod order;

@@ -10,4 +10,4 @@ returns-then-d-lt-OBJECTS c =
 
 pub returns-else-d-lt-OBJECTS : goal.returns-else-d-lt-OBJECTS
 returns-else-d-lt-OBJECTS c =
-    rw (← c.self.view_is, c.some_due.ensures, c.deref.ensures.value, c.deref-2.ensures.value) (due_found (power_in c.self.inside) c.args.d.0)
+    rw (← c.self.view_is, c.some_due.ensures, c.deref.ensures.value, c.deref-else-d-lt-OBJECTS.ensures.value) (due_found (power_in c.self.inside) c.args.d.0)
