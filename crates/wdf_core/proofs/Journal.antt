@@ -1,5 +1,5 @@
 -- Lemmas on the events so far: what may follow them, how the run stands, and the next one.
-use Rattle.std.proofs.Common.{if◌then◌else◌, Bool, true, false, ◌⊎◌, inl, inr, ◌&&◌, ℕ, zero, suc, ◌≡◌, ◌+◌, ◌<◌, ◌≤◌, ◌^◌, List, [], ◌∷◌, ◌++◌, length, position, Option, Some, None, is_none, is_some, refl, sym, ap, subst, ◌∙◌, arith, length-append, slice_get, nat_lt, nat_le, take}
+use Rattle.std.proofs.Common.{if◌then◌else◌, Bool, true, false, ◌⊎◌, inl, inr, ◌&&◌, ℕ, zero, suc, ◌≡◌, ◌+◌, ◌<◌, ◌≤◌, ◌^◌, List, [], ◌∷◌, ◌++◌, filter, length, position, Option, Some, None, is_none, is_some, refl, sym, ap, subst, ◌∙◌, arith, length-append, slice_get, nat_lt, nat_le, take}
 use Rattle.std.proofs.lemmas.Bool.Decides.{nat_tests}
 use Rattle.std.proofs.lemmas.Bool.{lt-ltb, ltb-true, ltb-false}
 use Rattle.wdf_base.specs.Meaning.{Meaning}
@@ -25,8 +25,9 @@ use Rattle.wdf_room.proofs.Doable.{Fine, agents_few}
 use Rattle.wdf_room.proofs.DoableRuns.{fine_after}
 use Rattle.wdf_room.proofs.RoomLaws.{each_event_is_doable, room_is_kept}
 use Rattle.wdf_steps.proofs.Parts.{number_kept}
-use Rattle.wdf_ready.specs.Search.{events_of}
+use Rattle.wdf_ready.specs.Search.{events_of, has_places}
 use Rattle.wdf_ready.proofs.Grouping.{few_groups}
+use Rattle.wdf_ready.proofs.Kept.{fewer_kept, same_events}
 use Rattle.wdf_model.specs.rules.Waits.{if_stuck, wait_lines, wait_list}
 use Rattle.wdf_model.specs.laws.FactsOfEvents.{IsTick}
 use Rattle.wdf_steps.specs.Clock.{FitsClock}
@@ -83,7 +84,9 @@ module _ {A : Type 0} (m : Meaning A) (plan : Plan) (journal : List Event) (S : 
 
   -- the events that may come are those of the groups
   pub found : events_of plan m S all ≡ allowed plan m (state_after plan m journal)
-  found = ap (λ gs. events_of plan m S gs) u.groups ∙ ap (λ (T : State A). events_of plan m T (groups plan)) u.state ∙ search_finds plan m (state_after plan m journal)
+  found =
+      ap (λ gs. events_of plan m S gs) u.groups ∙ ap (λ (T : State A). events_of plan m T (filter (has_places plan) (groups plan))) u.state
+      ∙ same_events plan m (state_after plan m journal) (groups plan) ∙ search_finds plan m (state_after plan m journal)
 
   take_all : {T : Type 0} (xs : List T) → take (length xs) xs ≡ xs
   take_all [] = refl
@@ -112,7 +115,10 @@ module _ {A : Type 0} (m : Meaning A) (plan : Plan) (journal : List Event) (S : 
   agents_small h = subst (λ (T : State A). length T.agents ≤ 2 ^ 16) (sym u.state) (up_to_by (length (state_after plan m journal).agents) (nat_lt 65536 (length (state_after plan m journal).agents)) refl (agents_few (fine h)))
 
   pub groups_small : length all < 2 ^ 20
-  groups_small = subst (λ gs. length gs < 2 ^ 20) (sym u.groups) (few_groups plan (upper 1 8 plan.cpus u.resolved.cpus) (declared_few plan u.resolved))
+  groups_small =
+      let few = few_groups plan (upper 1 8 plan.cpus u.resolved.cpus) (declared_few plan u.resolved) in
+      let fewer = fewer_kept (has_places plan) (groups plan) in
+      subst (λ gs. length gs < 2 ^ 20) (sym u.groups) (omega arith)
 
   pub clock_fits : goes_on plan journal ≡ true → S.clock + 1 < 2 ^ 64
   clock_fits h =
@@ -360,7 +366,7 @@ none_first (x ∷ xs) h = absurd (let z : ⊥ = cc in z)
 
 -- ---- the opening
 
-pub opens : {A : Type 0} (m : Meaning A) (plan : Plan) (S : State A) (all : List Group) (space : ℕ) → IsResolved plan → S ≡ state_after plan m [] → all ≡ groups plan → plan.limit ≤ space → IsUnderWay m plan [] S all space
+pub opens : {A : Type 0} (m : Meaning A) (plan : Plan) (S : State A) (all : List Group) (space : ℕ) → IsResolved plan → S ≡ state_after plan m [] → all ≡ filter (has_places plan) (groups plan) → plan.limit ≤ space → IsUnderWay m plan [] S all space
 unfolding state_after
 opens m plan S all space resolved state is room = record {
   resolved = resolved;

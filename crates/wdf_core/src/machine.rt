@@ -40,7 +40,7 @@ fn opening_parts<A: Agent>(
 pub struct Core<A: Agent> {
     plan: IndexedPlan,
     parts: Parts<A>,
-    /// The groups of candidates, in their order.
+    /// The groups of candidates that can have places, in their order.
     groups: Vec<Group>,
     journal: Vec<Event>,
 }

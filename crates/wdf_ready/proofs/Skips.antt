@@ -33,11 +33,11 @@ use Rattle.wdf_ready.proofs.Places.{all_passed, past}
 -- ---- what a search over ids found
 
 -- an id that passes a test is the first one from a on
-record First (q : ℕ → Bool) (a n x : ℕ) : Type 0 where
-  from : a ≤ x
-  within : x < a + n
-  passes : q x ≡ true
-  before : (p : ℕ) → a ≤ p → p < x → q p ≡ false
+pub record First (q : ℕ → Bool) (a n x : ℕ) : Type 0 where
+  pub from : a ≤ x
+  pub within : x < a + n
+  pub passes : q x ≡ true
+  pub before : (p : ℕ) → a ≤ p → p < x → q p ≡ false
 
 above_by : (a p : ℕ) → nat_le p a ≡ false → a ≤ p → a + 1 ≤ p
 above_by a p f above = let not_le = leb-false p a f in omega arith
@@ -57,7 +57,7 @@ first_in_by q a n x false e h rest =
     before_by p true f above under k = let le = leb-true p a f in let same : a ≡ p = omega arith in rw (← same) e
     before_by p false f above under k = k.before p (above_by a p f above) under
 
-first_in : (q : ℕ → Bool) (a n x : ℕ) → find q (range_with_len a n) ≡ Some x → First q a n x
+pub first_in : (q : ℕ → Bool) (a n x : ℕ) → find q (range_with_len a n) ≡ Some x → First q a n x
 first_in q a zero x h = absurd (let z : ⊥ = cc in z)
 first_in q a (suc n) x h = first_in_by q a n x (q a) refl h (first_in q (a + 1) n x)
 
@@ -67,7 +67,7 @@ none_in_by q a n true e h rest p c f above below = let found = rw e at h in absu
 none_in_by q a n false e h rest p true f above below = let le = leb-true p a f in let same : a ≡ p = omega arith in rw (← same) e
 none_in_by q a n false e h rest p false f above below = let not_le = leb-false p a f in rest (rw e at h) p (omega arith) (omega arith)
 
-none_in : (q : ℕ → Bool) (a n : ℕ) → find q (range_with_len a n) ≡ None → (p : ℕ) → a ≤ p → p < a + n → q p ≡ false
+pub none_in : (q : ℕ → Bool) (a n : ℕ) → find q (range_with_len a n) ≡ None → (p : ℕ) → a ≤ p → p < a + n → q p ≡ false
 none_in q a zero h p above below = absurd (omega arith)
 none_in q a (suc n) h p above below = none_in_by q a n (q a) refl h (none_in q (a + 1) n) p (nat_le p a) refl above below
 
@@ -83,17 +83,17 @@ find_filter_by p q x xs false e rest = rw e (dropped (p x))
     dropped true = rest
     dropped false = rest
 
-find_filter : (p q : ℕ → Bool) (xs : List ℕ) → find p (filter q xs) ≡ find (λ y. p y && q y) xs
+pub find_filter : (p q : ℕ → Bool) (xs : List ℕ) → find p (filter q xs) ≡ find (λ y. p y && q y) xs
 find_filter p q [] = refl
 find_filter p q (x ∷ xs) = find_filter_by p q x xs (q x) refl (find_filter p q xs)
 
 -- ---- what is skipped
 
-right_false : (a b : Bool) → a ≡ true → (a && b) ≡ false → b ≡ false
+pub right_false : (a b : Bool) → a ≡ true → (a && b) ≡ false → b ≡ false
 right_false true b e h = h
 right_false false b e h = absurd (let z : ⊥ = cc in z)
 
-left_true : (a b : Bool) → (a && b) ≡ true → a ≡ true
+pub left_true : (a b : Bool) → (a && b) ≡ true → a ≡ true
 left_true true b h = refl
 left_true false b h = absurd (let z : ⊥ = cc in z)
 

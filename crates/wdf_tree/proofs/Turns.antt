@@ -1,8 +1,8 @@
 -- The set of the objects whose turn has come: after a change of an object, and what it answers.
-use Rattle.std.proofs.Common.{if◌then◌else◌, ℕ, zero, suc, ◌≡◌, ◌≢◌, ◌⊎◌, ◌+◌, ◌-◌, ◌<◌, ◌≤◌, ◌==◌, nat_le, nat_lt, not, Bool, true, false, ◌&&◌, ◌||◌, List, [], ◌∷◌, ◌++◌, Option, Some, None, map, length, filter, find, slice_get, slice_set, replicate, refl, ap, sym, subst, ◌∙◌, inl, inr, get_or-set_same, get_or-set_other, length-set, arith}
+use Rattle.std.proofs.Common.{if◌then◌else◌, ℕ, ◌≡◌, ◌≢◌, ◌⊎◌, ◌+◌, ◌-◌, ◌<◌, ◌≤◌, ◌==◌, nat_le, nat_lt, not, Bool, true, false, ◌&&◌, ◌||◌, List, [], ◌∷◌, ◌++◌, Option, Some, None, map, length, find, slice_get, slice_set, replicate, refl, ap, sym, subst, ◌∙◌, inl, inr, get_or-set_same, get_or-set_other, length-set, arith}
 use Rattle.std.specs.Prelude.{IfSome, slice_index_or}
-use Rattle.std.specs.List.{list_all, range_with_len}
-use Rattle.std.proofs.lemmas.Bool.{and_right, cases_eq, cases_lt, eq-eqb, eqb-true, false≢true, lt-ltb, le-ltb, ltb-true, ne_eqb}
+use Rattle.std.specs.List.{list_all}
+use Rattle.std.proofs.lemmas.Bool.{and_right, cases_eq, cases_lt, eq-eqb, eqb-true, false≢true, ltb-true, ne_eqb}
 use Rattle.std.proofs.lemmas.List.{length_push, length-replicate}
 use Rattle.wdf_base.specs.declared.object.Life.{Life}
 use Rattle.wdf_base.specs.declared.object.Life.TheVariants as life
@@ -11,11 +11,11 @@ use Rattle.wdf_ilist.proofs.Lists.{map_at}
 use Rattle.wdf_model.specs.Tables.{entry, ids_of, same_id}
 use Rattle.wdf_model.specs.declared.entries.Node.{Node}
 use Rattle.wdf_model.specs.declared.room.TheConstants.{OBJECTS}
-use Rattle.wdf_model.specs.parts.Tree.{Tree, gone, is_asked, is_cleaned, is_gone, is_live, is_past_cleanup, life_of, parent_of, younger_siblings}
+use Rattle.wdf_model.specs.parts.Tree.{Tree, gone, is_asked, is_gone, is_live, is_past_cleanup, life_of, parent_of}
 use Rattle.wdf_model.proofs.Maps.{as_long, entry_before, entry_last, entry_past, entry_set_other}
 use Rattle.wdf_sets.specs.Members.{is_in, members, rank}
 use Rattle.wdf_sets.proofs.Ranks.{members_where}
-use Rattle.wdf_tree.specs.Kin.{HoldsKin, is_kin, is_waiting, joined, places}
+use Rattle.wdf_tree.specs.Kin.{HoldsKin, is_kin, is_waiting, joined}
 use Rattle.wdf_tree.specs.Turns.{AreNoted, HoldsTurns, has_turn, is_turn}
 use Rattle.wdf_tree.proofs.Children.{is_gone_under, last_waiting}
 use Rattle.wdf_tree.proofs.Kept.{MayEnd, all_of_entry, read_entry, there_if_asked}
@@ -171,6 +171,10 @@ turns_by_write {ns} {ls} {bits} o n m h there read same parent = record { room =
     parents : (id : ℕ) → (entry gone (slice_set ns o m) id).parent.0 ≡ (entry gone ns id).parent.0
     parents id = parent_at id (cases_eq id o)
 
+joined_as : (family : Family) (parent id : ℕ) (b : Bool) → nat_lt parent OBJECTS ≡ b
+    → joined family parent id ≡ (if b then record family { lists = slice_set family.lists parent (list_at family.lists parent ++ id ∷ []) } else family)
+joined_as family parent id b e = ap (λ (c : Bool). if c then record family { lists = slice_set family.lists parent (list_at family.lists parent ++ id ∷ []) } else family) e
+
 -- a live object more: the last child of its parent before it may lose its turn
 pub turns_by_push : {ns : List Node} {waiting : Family} {before after : List Bool} (n : Node) (id : ℕ) → HoldsTurns ns waiting.lists before → HoldsKin is_waiting ns waiting → is_live n.life ≡ true → id ≡ length ns
     → AreNoted (is_turn (ns ++ n ∷ []) (joined waiting n.parent.0 id).lists) before after
@@ -192,18 +196,21 @@ turns_by_push {ns} {waiting} {before} {after} n new h kin live next noted siblin
     blank = ap (λ (x : Node). is_asked x.life) (entry_past gone ns (length ns) (omega arith))
 
     lists_other : (q : ℕ) → q ≢ n.parent.0 → (b : Bool) → nat_lt n.parent.0 OBJECTS ≡ b → list_at ks q ≡ list_at waiting.lists q
-    lists_other q other true e = rw e (entry_set_other [] waiting.lists n.parent.0 q (list_at waiting.lists n.parent.0 ++ new ∷ []) other)
-    lists_other q other false e = rw e refl
+    lists_other q other true e =
+        ap (λ (f : Family). list_at f.lists q) (joined_as waiting n.parent.0 new true e)
+        ∙ entry_set_other [] waiting.lists n.parent.0 q (list_at waiting.lists n.parent.0 ++ new ∷ []) other
+    lists_other q other false e = ap (λ (f : Family). list_at f.lists q) (joined_as waiting n.parent.0 new false e)
 
     last_at : (id : ℕ) → id ≢ length ns → (b : Bool) → nat_lt n.parent.0 OBJECTS ≡ b → (c : Bool) → same_id (last_of (list_at waiting.lists n.parent.0)) id ≡ c
         → (last_of (list_at waiting.lists n.parent.0) ≡ Some id) ⊎ (same_id (last_of (list_at waiting.lists n.parent.0)) id ≡ same_id (last_of (list_at ks n.parent.0)) id)
     last_at id apart b e true f = inl (same_id_is (last_of (list_at waiting.lists n.parent.0)) id f)
-    last_at id apart false e false f = inr (rw e refl)
+    last_at id apart false e false f = inr (sym (ap (λ (g : Family). same_id (last_of (list_at g.lists n.parent.0)) id) (joined_as waiting n.parent.0 new false e)))
     last_at id apart true e false f =
         let many = kin.as_many in
         let below : n.parent.0 < OBJECTS = ltb-true n.parent.0 OBJECTS e in
         let list : list_at ks n.parent.0 ≡ list_at waiting.lists n.parent.0 ++ new ∷ []
-        = rw e (get_or-set_same waiting.lists n.parent.0 (list_at waiting.lists n.parent.0 ++ new ∷ []) [] (omega arith)) in
+        = ap (λ (g : Family). list_at g.lists n.parent.0) (joined_as waiting n.parent.0 new true e)
+        ∙ get_or-set_same waiting.lists n.parent.0 (list_at waiting.lists n.parent.0 ++ new ∷ []) [] (omega arith) in
         let differs : new ≢ id = λ z. apart (sym z ∙ next) in
         inr (f ∙ sym (ap (λ xs. same_id (last_of xs) id) list ∙ ap (λ found. same_id found id) (last_push (list_at waiting.lists n.parent.0) new) ∙ ne_eqb new id differs))
 
@@ -250,7 +257,7 @@ pub record IsNotedAt (ms : List Node) (ks : List (List ℕ)) (o : ℕ) (before a
 pub turns_by_ask : {ns : List Node} {waiting : Family} {before after : List Bool} (o : ℕ) (m : Node) → HoldsTurns ns waiting.lists before → HoldsKin is_waiting ns waiting → length ns ≤ OBJECTS → o < length ns
     → IsNotedAt (slice_set ns o m) waiting.lists o before after → HoldsTurns (slice_set ns o m) waiting.lists after
 turns_by_ask {ns} {waiting} {before} {after} o m h kin few there k =
-    turns_noted (omega arith) h k.noted (λ id below. at id below (cases_eq id o) (cases_eq (entry gone ns id).parent.0 o) (length (list_at waiting.lists o) == 0) refl)
+    turns_noted (let same = as_long ns o m in omega arith) h k.noted (λ id below. at id below (cases_eq id o) (cases_eq (entry gone ns id).parent.0 o) (length (list_at waiting.lists o) == 0) refl)
   where
     ms : List Node
     ms = slice_set ns o m
@@ -260,7 +267,7 @@ turns_by_ask {ns} {waiting} {before} {after} o m h kin few there k =
 
     at : (id : ℕ) → id < length ms → (id ≡ o) ⊎ (id ≡ o → ⊥) → ((entry gone ns id).parent.0 ≡ o) ⊎ ((entry gone ns id).parent.0 ≡ o → ⊥) → (b : Bool) → (length (list_at waiting.lists o) == 0) ≡ b
         → (is_in id after ≡ is_turn ms waiting.lists id) ⊎ (is_turn ns waiting.lists id ≡ is_turn ms waiting.lists id)
-    at id below (inl same) either b e = inl (rw same (k.own (omega arith)))
+    at id below (inl same) either b e = inl (rw same (k.own (omega (arith, long))))
     at id below (inr other) (inr apart) b e = inr (turn_kept ns waiting.lists o id m other apart)
     at id below (inr other) (inl child) false e = inl (k.children id below (ap (λ (x : Node). x.parent.0) (entry_set_other gone ns o id m other) ∙ child) e)
     at id below (inr other) (inl child) true e =
@@ -274,7 +281,7 @@ pub turns_by_cleanup : {ns : List Node} {waiting : Family} {before after : List 
     → is_in x after ≡ is_turn (slice_set ns o m) (map (without o) waiting.lists) x)
     → HoldsTurns (slice_set ns o m) (map (without o) waiting.lists) after
 turns_by_cleanup {ns} {waiting} {before} {after} o m h kin few there past k sibling =
-    turns_noted (omega arith) h k.noted (λ id below. at id below (cases_eq id o) (cases_eq (entry gone ns id).parent.0 o))
+    turns_noted (let same = as_long ns o m in omega arith) h k.noted (λ id below. at id below (cases_eq id o) (cases_eq (entry gone ns id).parent.0 o))
   where
     ms : List Node
     ms = slice_set ns o m
@@ -333,7 +340,7 @@ turns_by_cleanup {ns} {waiting} {before} {after} o m h kin few there past k sibl
         inr (no_turn ns ls id (ap (λ (x : Node). is_asked x.life) (sym same) ∙ none) ∙ sym (no_turn ms ks id none))
 
     at : (id : ℕ) → id < length ms → (id ≡ o) ⊎ (id ≡ o → ⊥) → ((entry gone ns id).parent.0 ≡ o) ⊎ ((entry gone ns id).parent.0 ≡ o → ⊥) → (is_in id after ≡ is_turn ms ks id) ⊎ (is_turn ns ls id ≡ is_turn ms ks id)
-    at id below (inl same) either = inl (rw same (k.own (omega arith)))
+    at id below (inl same) either = inl (rw same (k.own (omega (arith, long))))
     at id below (inr other) (inr apart) = changed id below other apart (cases_eq (entry gone ns id).parent.0 (entry gone ns o).parent.0)
     at id below (inr other) (inl child) = child_of id below other child (length (list_at ks o) == 0) refl
 

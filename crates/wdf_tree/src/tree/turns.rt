@@ -98,12 +98,7 @@ pub(super) fn note_around(
 }
 
 /// Notes it of an object, if there is one.
-pub(super) fn note_sibling(
-    turns: &mut IdSet,
-    nodes: &[Node],
-    waiting: &Links,
-    sibling: Option<u32>,
-)
+pub(super) fn note_sibling(turns: &mut IdSet, nodes: &[Node], waiting: &Links, sibling: Option<u32>)
     requires room { length nodes.now ≤ length turns.old }
     ensures noted { AreNoted (is_turn_by nodes.now waiting.now.lists) turns.old turns.new }
     ensures own { IfSome sibling (λ x. x < length nodes.now → is_in x turns.new ≡ is_turn_by nodes.now waiting.now.lists x) }

@@ -18,6 +18,6 @@ invariant_of-self c =
           (kept_by_cleanup _ c.index_mut.result.now _ c.self.invariant.kept there c.index_mut.ensures.value (record { kind = refl; parent = refl; gone = sym stays }) refl);
       leaving = rw (c.put.ensures, c.put-2.ensures) (leaving_by_cleanup _ _ c.self.invariant.leaving c.self.invariant.kept.few there refl);
       turns = turns_after_cleanup _ _ _ _ _ c.unlink-list.ensures.gone c.self.invariant.turns c.self.invariant.kept.waiting_kin c.self.invariant.kept.few there refl
-          (c.parent.ensures ∙ sym (ap (λ (t : Tree). parent_of t c.args.o.0) c.self.view_is)) c.back-last.ensures
+          (c.parent-parent.ensures ∙ sym (ap (λ (t : Tree). parent_of t c.args.o.0) c.self.view_is)) c.back-last.ensures
           (record { noted = rw c.deref.ensures.value at c.note_around.ensures.noted; own = rw c.deref.ensures.value at c.note_around.ensures.own; children = rw c.deref.ensures.value at c.note_around.ensures.children }) (rw c.deref.ensures.value at c.note_around.ensures.sibling);
     }

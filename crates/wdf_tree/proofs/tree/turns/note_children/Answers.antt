@@ -1,6 +1,5 @@
 -- A child more was noted, or the object is none.
-use Rattle.std.proofs.Common.{◌≡◌, ◌<◌, ap, sym, ◌∙◌, length, arith}
-use Rattle.std.proofs.lemmas.Bool.{false≢true}
+use Rattle.std.proofs.Common.{◌<◌, ap, sym, ◌∙◌, length, arith}
 use Rattle.wdf_model.specs.Tables.{entry}
 use Rattle.wdf_model.specs.parts.Tree.{gone}
 use Rattle.wdf_tree.specs.Turns.{is_turn}
