@@ -80,7 +80,7 @@ fn dpc_start<A: Agent>(
 ) -> Option<Event>
     ensures { result ≡ groups.start_at plan.now parts.now cpu.0 rank.Deferred place }
 {
-    let o = parts.dpcs().head(cpu)?;
+    let o = parts.dpcs().dpc_head(cpu)?;
     let callback = dpc_function(parts.tree().kind(o));
     Some(starts(plan, parts, cpu, callback, o))
 }
@@ -125,7 +125,7 @@ fn front_start<A: Agent>(
 ) -> Option<Event>
     ensures { result ≡ groups.start_at plan.now parts.now cpu.0 rank.Handler q.0 }
 {
-    let r = parts.queues().head(q)?;
+    let r = parts.queues().front(q)?;
     let callback = plan.handler_for(q, parts.requests().info(r).form)?;
     Some(starts_for(plan, parts, cpu, callback, q, r))
 }

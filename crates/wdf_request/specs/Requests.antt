@@ -4,9 +4,9 @@ use Rattle.wdf_model.specs.declared.room.TheConstants.{OBJECTS}
 use Rattle.wdf_model.specs.declared.entries.Request.{Request}
 use Rattle.wdf_model.specs.parts.Requests.{Requests, is_closing, is_due}
 use Rattle.wdf_model.specs.rules.Ready.{is_open_request}
+use Rattle.wdf_counts.specs.Counts.{AreCounted}
 use Rattle.wdf_request.specs.Arrivals.{IsNoted}
 use Rattle.wdf_request.specs.Closing.{IsSetOf}
-use Rattle.wdf_request.specs.Counts.{AreCounted}
 use Rattle.wdf_request.specs.Keys.{returning_queue, sent_target, unfinished_device}
 use Rattle.wdf_request.specs.declared.requests.Requests.TheInside.{Inside}
 

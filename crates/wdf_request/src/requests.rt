@@ -5,8 +5,8 @@ ghost use Rattle.wdf_model.specs.parts.Requests as parts;
 ghost use Rattle.wdf_model.specs.parts.Requests.{is_returning_to, is_sent_to, no_request};
 ghost use Rattle.wdf_model.specs.rules.Ready.{is_open_request};
 ghost use Rattle.wdf_model.specs.rules.Starts.{is_unfinished_at};
+ghost use Rattle.wdf_counts.specs.Counts.{is_at};
 ghost use Rattle.wdf_request.specs.Closing.{closing_requests, due_requests};
-ghost use Rattle.wdf_request.specs.Counts.{is_at};
 
 mod closing;
 
@@ -14,13 +14,13 @@ use crate::arrivals::Arrivals;
 use crate::change::{
     NO_REQUEST, answer_of_mark, cancelled, forgotten, marked, moved, unmarked, with_mark,
 };
-use crate::counts::Counts;
 use crate::keys::{
     is_closing, is_due, open_flag, returning_queue, sent_target, unfinished_device,
 };
 use std::alloc::Global;
 use std::marker::Model;
 use wdf_base::{Mark, Memory, ObjectId, Place, Plan, RequestInfo, Status};
+use wdf_counts::Counts;
 use wdf_maps::{entry_at, object_at, put_at};
 use wdf_model::{EVENTS, OBJECTS, Request};
 use wdf_sets::IdSet;
@@ -166,7 +166,7 @@ impl Requests {
         ensures { result ≡ list_any (λ r. is_returning_to q.0 r.place) self.now.all }
     {
         if q.0 < OBJECTS {
-            self.returning.get(q) > 0
+            self.returning.of(q) > 0
         } else {
             self.all
                 .iter()
@@ -179,7 +179,7 @@ impl Requests {
         ensures { result ≡ list_any (λ r. is_sent_to t.0 r.place) self.now.all }
     {
         if t.0 < OBJECTS {
-            self.sent.get(t) > 0
+            self.sent.of(t) > 0
         } else {
             self.all
                 .iter()
@@ -192,7 +192,7 @@ impl Requests {
         ensures { result ≡ list_any (is_unfinished_at device.0) self.now.all }
     {
         if device.0 < OBJECTS {
-            self.unfinished.get(device) > 0
+            self.unfinished.of(device) > 0
         } else {
             self.all
                 .iter()
@@ -202,7 +202,7 @@ impl Requests {
 
     /// Whether some request keeps the run from its end: it arrived and isn't done, or the driver
     /// made it and it is sent.
-    #[tactic(auto, using(crate::proofs::Counting::any_counted))]
+    #[tactic(auto, using(wdf_counts::proofs::Counting::any_counted))]
     pub fn some_open(&self) -> bool
         ensures { result ≡ list_any is_open_request self.now.all }
     {

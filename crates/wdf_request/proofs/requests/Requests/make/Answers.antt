@@ -3,7 +3,7 @@ use Rattle.std.proofs.Common.{refl, lit≤, arith}
 use Rattle.wdf_model.specs.declared.entries.Request.{Request}
 use Rattle.wdf_model.specs.parts.Requests.{is_closing, is_due}
 use Rattle.wdf_request.specs.Keys.{returning_queue, sent_target, unfinished_device}
-use Rattle.wdf_request.proofs.Counting.{none_counted}
+use Rattle.wdf_counts.proofs.Counting.{none_counted}
 use Rattle.wdf_request.proofs.Members.{empty_set}
 use Rattle.wdf_request.proofs.Noting.{none_noted}
 use Rattle.wdf_request.proofs.requests.Requests.make.Goals as goal

@@ -1,12 +1,12 @@
 ghost use Rattle.std.specs.Prelude.{◌≡◌};
-ghost use Rattle.wdf_cpu.specs.Asked.{answers};
+ghost use Rattle.wdf_cpu.specs.FrameTests.{passes};
 
 use crate::cpus::wait_key;
 use wdf_base::{Callback, Frame, ObjectId, same_callback};
 
-/// What is asked of a frame.
+/// A test of a frame.
 #[derive(Clone, Copy, Debug)]
-pub(crate) enum Asked {
+pub(crate) enum FrameTest {
     /// Whether it runs on an object.
     On(ObjectId),
     /// Whether it waits for an object.
@@ -17,19 +17,19 @@ pub(crate) enum Asked {
     Runs(Callback, ObjectId),
 }
 
-impl Asked {
-    /// Whether it is so of a frame.
-    pub(crate) fn is_so(self, frame: &Frame) -> bool
-        ensures { result ≡ answers self frame.now }
+impl FrameTest {
+    /// Whether a frame passes.
+    pub(crate) fn passes(self, frame: &Frame) -> bool
+        ensures { result ≡ passes self frame.now }
     {
         match self {
-            Asked::On(object) => frame.object.id.0 == object.0,
-            Asked::WaitsFor(object) => match wait_key(frame) {
+            FrameTest::On(object) => frame.object.id.0 == object.0,
+            FrameTest::WaitsFor(object) => match wait_key(frame) {
                 Some(awaited) => awaited.0 == object.0,
                 None => false,
             },
-            Asked::SpendsAt(time) => time < frame.until,
-            Asked::Runs(callback, device) => {
+            FrameTest::SpendsAt(time) => time < frame.until,
+            FrameTest::Runs(callback, device) => {
                 same_callback(frame.callback, callback) && frame.device.id.0 == device.0
             }
         }

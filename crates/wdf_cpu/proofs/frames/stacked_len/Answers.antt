@@ -1,7 +1,7 @@
 -- The frames so far are some of all.
 use Rattle.std.proofs.Common.{◌≡◌, length, get_or, ap, arith}
 use Rattle.std.proofs.lemmas.List.Folds.{length-flat_map-take}
-use Rattle.wdf_cpu.proofs.frames.frames_on.Goals as goal
+use Rattle.wdf_cpu.proofs.frames.stacked_len.Goals as goal
 
 pub overflow_add-total : goal.overflow_add-total
 overflow_add-total c =

@@ -15,7 +15,7 @@ use wdf_model::Phase;
 
 /// How far a device has come, and what it has left of its list of steps.
 #[derive(Debug, Drop)]
-pub(crate) struct Device {
+pub(crate) struct Sequence {
     steps: DeviceSteps,
     phase: Phase,
     /// Whether it was ever Working.
@@ -28,7 +28,7 @@ pub(crate) struct Device {
     running: Option<Step>,
 }
 
-impl Model for Device {
+impl Model for Sequence {
     ghost use Rattle.std.specs.Prelude.{◌+◌, ◌*◌, ◌≤◌, drop, length, vec_capacity};
     ghost use Rattle.wdf_model.specs.parts.Pnp as model;
 
@@ -49,18 +49,18 @@ fn is_success(value: Value) -> bool
     }
 }
 
-impl Device {
+impl Sequence {
     /// With no step left, and room for the longest list.
     fn idle(
         alloc: Global,
         steps: DeviceSteps,
         phase: Phase,
         ever_working: bool,
-    ) -> Result<Device, Memory>
+    ) -> Result<Sequence, Memory>
         ensures { IfOk result (λ device. device ≡ record { steps = steps; phase = phase; ever_working = ever_working; left = []; running = None }) }
     {
         let room = 4 * steps.interrupts.len() + 16;
-        Ok(Device {
+        Ok(Sequence {
             steps,
             phase,
             ever_working,
@@ -70,9 +70,9 @@ impl Device {
         })
     }
 
-    /// A device at the opening of the plan's run: one that works stands as if a power-up without
+    /// A device at the opening of the plan's run: one that works is as if a power-up without
     /// callbacks had ended. What is no device has nothing, and is removed. (own)
-    pub(crate) fn make(alloc: Global, plan: &Plan, d: ObjectId) -> Result<Device, Memory>
+    pub(crate) fn make(alloc: Global, plan: &Plan, d: ObjectId) -> Result<Sequence, Memory>
         ensures { IfOk result (λ device. device ≡ sequence_at plan.now d.0) }
     {
         match device_of(plan, d) {
@@ -82,9 +82,9 @@ impl Device {
                 } else {
                     Phase::Off
                 };
-                Device::idle(alloc, device_steps(alloc, plan, d)?, phase, info.working)
+                Sequence::idle(alloc, device_steps(alloc, plan, d)?, phase, info.working)
             }
-            None => Device::idle(alloc, DeviceSteps::none(alloc), Phase::Removed, false),
+            None => Sequence::idle(alloc, DeviceSteps::none(alloc), Phase::Removed, false),
         }
     }
 

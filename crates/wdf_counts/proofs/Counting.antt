@@ -1,30 +1,17 @@
 -- Counts by id, after an entry was written.
-use Rattle.std.proofs.Common.{if◌then◌else◌, ℕ, zero, suc, ◌≡◌, ◌⊎◌, ◌+◌, ◌-◌, ◌<◌, ◌≤◌, ◌==◌, ◌&&◌, ◌||◌, not, nat_lt, Bool, true, false, cond, List, [], ◌∷◌, Option, Some, None, refl, ap, sym, ◌∙◌, inl, inr, zero-add, arith}
+use Rattle.std.proofs.Common.{if◌then◌else◌, ℕ, zero, suc, ◌≡◌, ◌⊎◌, ◌+◌, ◌-◌, ◌^◌, ◌<◌, ◌≤◌, ◌==◌, ◌||◌, nat_lt, Bool, true, false, List, [], ◌∷◌, Option, Some, None, length, refl, ap, sym, ◌∙◌, inl, inr, zero-add, arith}
 use Rattle.std.specs.List.{count_by, list_any}
 use Rattle.std.proofs.lemmas.Bool.{eq-eqb, ne_eqb, cases_eq}
-use Rattle.std.proofs.Math.Bool.{and-true}
 use Rattle.std.proofs.lemmas.Bool.Decides.{nat_tests}
-use Rattle.std.proofs.lemmas.List.Sums.{sum_by-cons}
+use Rattle.std.proofs.lemmas.List.Sums.{count_by-le-length}
 use Rattle.wdf_base.specs.declared.ids.ObjectId.{ObjectId}
 use Rattle.wdf_model.specs.declared.room.TheConstants.{OBJECTS}
 use Rattle.wdf_model.specs.Tables.{entry, put, flag}
+use Rattle.wdf_model.proofs.Counts.{count_cons}
 use Rattle.wdf_model.proofs.Maps.{entry_put_same, entry_put_other}
-use Rattle.wdf_base.specs.declared.object.Place.{Place}
-use Rattle.wdf_base.specs.declared.object.Place.TheVariants as place
-use Rattle.wdf_model.specs.declared.entries.Request.{Request}
-use Rattle.wdf_model.specs.parts.Requests.{has_arrived, is_done, is_returning_to, is_sent_to}
-use Rattle.wdf_model.specs.rules.Starts.{is_unfinished_at}
-use Rattle.wdf_request.specs.Counts.{AreCounted, changed_at, is_at, moved_count}
-use Rattle.wdf_request.specs.Keys.{returning_queue, sent_target, unfinished_device}
+use Rattle.wdf_counts.specs.Counts.{AreCounted, changed_at, count_at, is_at, moved_count}
 
 -- ---- a count at one place
-
-flag_cond : (b : Bool) → cond b 1 0 ≡ flag b
-flag_cond true = refl
-flag_cond false = refl
-
-count_cons : {T : Type 0} (p : T → Bool) (x : T) (xs : List T) → count_by p (x ∷ xs) ≡ flag (p x) + count_by p xs
-count_cons p x xs = sum_by-cons (λ y. cond (p y) 1 0) x xs ∙ ap (λ n. n + count_by p xs) (flag_cond (p x))
 
 -- how a count changes where an entry is written; blank entries don't count
 pub count_put : {T : Type 0} (p : T → Bool) (blank : T) (xs : List T) (id : ℕ) (new : T) → p blank ≡ false
@@ -81,7 +68,7 @@ less_is true n = refl
 less_is false n = omega arith
 
 -- what belonged to one id belongs to another
-at_moved : (counts : List ℕ) (from to : Option ObjectId) (id : ℕ) → id < OBJECTS
+pub at_moved : (counts : List ℕ) (from to : Option ObjectId) (id : ℕ) → id < OBJECTS
     → entry 0 (moved_count counts from to) id ≡ entry 0 counts id + flag (is_at id to) - flag (is_at id from)
 at_moved counts from to id h =
     let more = at_changed counts (λ n. n + 1) to id h ∙ more_is (is_at id to) (entry 0 counts id) in
@@ -121,38 +108,24 @@ pub any_at : {T : Type 0} (key : T → Option ObjectId) (test : T → Bool) (xs 
 any_at key test xs counts id h counted same =
     rw (counted.count id h) (any_counted (λ x. is_at id (key x)) xs ∙ any_same (λ x. is_at id (key x)) test xs same)
 
--- ---- what belongs to an id
-
-pub is_at_queue : (q : ℕ) (p : Place) → is_at q (returning_queue p) ≡ is_returning_to q p
-is_at_queue q (place.Queued o) = refl
-is_at_queue q (place.Returning o) = refl
-is_at_queue q (place.Closing s) = refl
-is_at_queue q place.Owned = refl
-is_at_queue q (place.Sent t) = refl
-is_at_queue q place.Done = refl
-
-pub is_at_target : (t : ℕ) (p : Place) → is_at t (sent_target p) ≡ is_sent_to t p
-is_at_target t (place.Queued o) = refl
-is_at_target t (place.Returning o) = refl
-is_at_target t (place.Closing s) = refl
-is_at_target t place.Owned = refl
-is_at_target t (place.Sent o) = refl
-is_at_target t place.Done = refl
-
-both_by : (device : ObjectId) (d : ℕ) (arrived undone : Bool)
-    → is_at d (if arrived && undone then Some device else None) ≡ (arrived && (device.0 == d) && undone)
-both_by device d true true = sym (and-true (device.0 == d))
-both_by device d true false = sym (none (device.0 == d))
-  where
-    none : (b : Bool) → (b && false) ≡ false
-    none true = refl
-    none false = refl
-both_by device d false undone = refl
-
-pub is_at_device : (d : ℕ) (r : Request) → is_at d (unfinished_device r) ≡ is_unfinished_at d r
-is_at_device d r = both_by r.info.device d (has_arrived r) (not (is_done r.place))
-
 -- ---- no entries
 
 pub none_counted : {T : Type 0} (key : T → Option ObjectId) → AreCounted key [] []
 none_counted key = record { count = λ id h. refl }
+
+-- ---- room for one more
+
+few_at : (counts : List ℕ) (o : ObjectId) (b : Bool) → nat_lt o.0 OBJECTS ≡ b → ((id : ℕ) → id < OBJECTS → entry 0 counts id ≤ OBJECTS) → (if b then entry 0 counts o.0 else 0) ≤ OBJECTS
+few_at counts o true e few = few o.0 (grind (arith, nat_tests))
+few_at counts o false e few = omega arith
+
+-- where no count is greater than the objects that a run can have are many
+pub room_for_one : (counts : List ℕ) (to : Option ObjectId) → ((id : ℕ) → id < OBJECTS → entry 0 counts id ≤ OBJECTS) → count_at counts to + 1 < 2 ^ 32
+room_for_one counts None few = omega arith
+room_for_one counts (Some o) few = let most = few_at counts o (nat_lt o.0 OBJECTS) refl few in omega arith
+
+-- so where the entries are no more than that
+pub room_by_entries : {T : Type 0} (key : T → Option ObjectId) (entries : List T) (counts : List ℕ) (to : Option ObjectId) → length entries ≤ OBJECTS
+    → AreCounted key entries counts → count_at counts to + 1 < 2 ^ 32
+room_by_entries key entries counts to few counted =
+    room_for_one counts to (λ id h. let e = counted.count id h in let most = count_by-le-length (λ x. is_at id (key x)) entries in omega arith)
