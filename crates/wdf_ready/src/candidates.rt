@@ -398,7 +398,7 @@ fn parked_len<A: Agent>(parts: &Parts<A>) -> usize
 }
 
 /// Whether a callback is declared on some object.
-fn is_declared_somewhere(plan: &IndexedPlan, callback: Callback) -> bool
+pub(crate) fn is_declared_somewhere(plan: &IndexedPlan, callback: Callback) -> bool
     ensures { result ≡ groups.is_declared_somewhere plan.now callback }
 {
     plan.plan()

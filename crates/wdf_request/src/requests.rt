@@ -6,7 +6,7 @@ ghost use Rattle.wdf_model.specs.parts.Requests.{is_returning_to, is_sent_to, no
 ghost use Rattle.wdf_model.specs.rules.Ready.{is_open_request};
 ghost use Rattle.wdf_model.specs.rules.Starts.{is_unfinished_at};
 ghost use Rattle.wdf_counts.specs.Counts.{is_at};
-ghost use Rattle.wdf_request.specs.Closing.{closing_requests};
+ghost use Rattle.wdf_request.specs.Closing.{closing_requests, due_requests};
 
 mod closing;
 
@@ -14,7 +14,9 @@ use crate::arrivals::Arrivals;
 use crate::change::{
     NO_REQUEST, answer_of_mark, cancelled, forgotten, marked, moved, unmarked, with_mark,
 };
-use crate::keys::{is_closing, open_flag, returning_queue, sent_target, unfinished_device};
+use crate::keys::{
+    is_closing, is_due, open_flag, returning_queue, sent_target, unfinished_device,
+};
 use std::alloc::Global;
 use std::marker::Model;
 use wdf_base::{Mark, Memory, ObjectId, Place, Plan, RequestInfo, Status};
@@ -41,6 +43,8 @@ pub struct Requests {
     open_count: u32,
     /// Those that the framework will complete.
     closing: IdSet,
+    /// Those for which EvtRequestCancel is due.
+    due: IdSet,
     /// Which each arrival made.
     arrivals: Arrivals,
 }
@@ -70,6 +74,7 @@ impl Requests {
             unfinished: Counts::make(alloc)?,
             open_count: 0,
             closing: IdSet::make(alloc, OBJECTS)?,
+            due: IdSet::make(alloc, OBJECTS)?,
             arrivals: Arrivals::make(alloc, plan)?,
         })
     }
@@ -225,6 +230,13 @@ impl Requests {
         object_at(self.closing.from(from.0))
     }
 
+    /// The first request from an id on for which EvtRequestCancel is due.
+    pub fn next_due(&self, from: ObjectId) -> Option<ObjectId>
+        ensures { option_map (λ r. r.0) result ≡ find (nat_le from.0) (due_requests self.now) }
+    {
+        object_at(self.due.from(from.0))
+    }
+
     /// Writes what is kept of a request.
     fn write(&mut self, r: ObjectId, request: Request)
         requires there { r.0 < max (length self.old.all) OBJECTS }
@@ -242,6 +254,7 @@ impl Requests {
             .moves(unfinished_device(old), unfinished_device(request));
         self.open_count = self.open_count + open_flag(request) - open_flag(old);
         self.closing.put(r.0, is_closing(request.place));
+        self.due.put(r.0, is_due(request.info.mark));
         let info = &request.info;
         self.arrivals.note(info.agent, info.arrival, r.0);
         put_at(&mut self.all, NO_REQUEST, r.0, request);
