@@ -43,8 +43,7 @@ fn has_places(plan: &IndexedPlan, group: Group) -> bool
 {
     match group {
         Group::StartsFor { rank, object, .. } => {
-            matches!(rank, Rank::Completion)
-                || plan.declares(callback_for(rank), ObjectId(object))
+            matches!(rank, Rank::Completion) || plan.declares(callback_for(rank), ObjectId(object))
         }
         Group::Starts { rank, .. } => can_start(plan, rank),
         _ => true,
