@@ -11,16 +11,6 @@ use wdf_base::{
 use wdf_laws::{Taking, Told};
 use wdf_same::{same_call_kind, same_stage};
 
-/// Whether an id is this one.
-pub fn is_id(x: u32, id: Option<u32>) -> bool
-    ensures { result ≡ told.is_id x id }
-{
-    match id {
-        Some(y) => y == x,
-        None => false,
-    }
-}
-
 fn id_in(handle: Option<Handle>) -> Option<u32>
     ensures { result ≡ told.id_in handle }
 {
