@@ -71,6 +71,7 @@ fn where_so(test: bool, id: Option<u32>) -> Option<u32>
     if test { id } else { None }
 }
 
+/// The object that a call of this kind names first.
 pub fn called(kind: CallKind, event: &Event) -> Option<u32>
     ensures { result ≡ told.called kind event.now }
 {
@@ -83,6 +84,7 @@ pub fn called(kind: CallKind, event: &Event) -> Option<u32>
     }
 }
 
+/// The same, where the call answers SUCCESS.
 pub fn called_well(kind: CallKind, event: &Event) -> Option<u32>
     ensures { result ≡ told.called_well kind event.now }
 {
@@ -123,6 +125,7 @@ pub fn begun_for(kind: Callback, event: &Event) -> Option<u32>
     }
 }
 
+/// The object on which this callback ends, with SUCCESS or without.
 pub fn ended_on(kind: Callback, well: bool, event: &Event) -> Option<u32>
     ensures { result ≡ told.ended_on kind well event.now }
 {
@@ -155,6 +158,7 @@ pub fn passed(kind: Stage, event: &Event) -> Option<u32>
     }
 }
 
+/// The interrupt for which this stage is passed.
 pub fn passed_for(kind: Stage, event: &Event) -> Option<u32>
     ensures { result ≡ told.passed_for kind event.now }
 {
@@ -217,6 +221,7 @@ fn cancelled_in(post: &Post, answer: Option<Handle>) -> Option<u32>
     }
 }
 
+/// The request that an app cancels.
 pub fn cancel_posted(event: &Event) -> Option<u32>
     ensures { result ≡ told.cancel_posted event.now }
 {
@@ -316,6 +321,7 @@ fn is_giving_up(call: &Call, answer: Value) -> bool
     }
 }
 
+/// The request that the driver gives up, or that the framework completes.
 pub fn given_up(event: &Event) -> Option<u32>
     ensures { result ≡ told.given_up event.now }
 {
@@ -339,6 +345,7 @@ fn is_heading(call: &Call) -> bool
     }
 }
 
+/// The request that enters a queue at its head.
 pub fn headed(event: &Event) -> Option<u32>
     ensures { result ≡ told.headed event.now }
 {
@@ -348,6 +355,7 @@ pub fn headed(event: &Event) -> Option<u32>
     }
 }
 
+/// The request that enters a queue at its tail: one that was forwarded, or one that arrives.
 pub fn tailed(event: &Event) -> Option<u32>
     ensures { result ≡ told.tailed event.now }
 {
@@ -361,6 +369,7 @@ pub fn tailed(event: &Event) -> Option<u32>
     }
 }
 
+/// The request that is acknowledged and kept while its device loses power.
 pub fn acknowledged(event: &Event) -> Option<u32>
     ensures { result ≡ told.acknowledged event.now }
 {
@@ -383,6 +392,7 @@ fn is_undoing(call: &Call, answer: Value) -> bool
     }
 }
 
+/// The request whose mark as cancelable is undone: it is unmarked, sent, given up or completed.
 pub fn mark_undone(event: &Event) -> Option<u32>
     ensures { result ≡ told.mark_undone event.now }
 {
@@ -396,6 +406,7 @@ pub fn mark_undone(event: &Event) -> Option<u32>
     }
 }
 
+/// The object whose cleanup an event is.
 pub fn cleaned(event: &Event) -> Option<u32>
     ensures { result ≡ told.cleaned event.now }
 {
