@@ -1,5 +1,5 @@
 -- Calls, starts, stages and posts leave the processors and the locks alone, but for what starts or ends frames, and calls on locks.
-use Rattle.std.proofs.Common.{◌≡◌, ℕ, Bool, true, false, ◌||◌, List, Option, refl}
+use Rattle.std.proofs.Common.{◌≡◌, ℕ, Bool, true, false, ◌||◌, List, Option}
 use Rattle.std.specs.List.{list_all}
 use Rattle.wdf_base.specs.declared.plan.Plan.{Plan}
 use Rattle.wdf_base.specs.declared.ids.Handle.{Handle}

@@ -1,5 +1,5 @@
 -- The deeds of each event are apt.
-use Rattle.std.proofs.Common.{if◌then◌else◌, ◌≡◌, ℕ, ◌+◌, ◌==◌, ◌≤◌, Bool, true, false, not, ◌&&◌, List, [], ◌∷◌, ◌++◌, inl, inr, Option, Some, None, is_some, count_by, option_and_then, refl, sym, ap, subst, ◌∙◌, arith}
+use Rattle.std.proofs.Common.{if◌then◌else◌, ◌≡◌, ◌+◌, ◌==◌, ◌≤◌, Bool, true, false, not, ◌&&◌, List, [], ◌∷◌, ◌++◌, inl, inr, Option, Some, None, is_some, count_by, option_and_then, refl, sym, ap, subst, ◌∙◌, arith}
 use Rattle.std.specs.List.{flat_map}
 use Rattle.std.proofs.lemmas.Bool.{cases_Bool, eqb-true}
 use Rattle.wdf_base.specs.Meaning.{Meaning}
@@ -23,13 +23,12 @@ use Rattle.wdf_base.specs.declared.event.Event.TheVariants as event
 use Rattle.wdf_base.specs.declared.event.Post.{Post}
 use Rattle.wdf_base.specs.declared.event.Post.TheVariants as post
 use Rattle.wdf_base.specs.declared.event.Stage.{Stage}
-use Rattle.wdf_base.specs.declared.event.Stage.TheVariants as stage
 use Rattle.wdf_base.specs.declared.frame.Frame.{Frame}
 use Rattle.wdf_base.specs.declared.frame.Pending.{Pending}
 use Rattle.wdf_model.specs.Tables.{contains, flag, same_id}
 use Rattle.wdf_model.specs.Plans.{callback_irql, queue_of, queue_for}
 use Rattle.wdf_model.specs.parts.Tree.{is_live, life_of}
-use Rattle.wdf_model.specs.parts.Cpus.{Cpus, all_frames, frame_of, irql, top}
+use Rattle.wdf_model.specs.parts.Cpus.{Cpus, frame_of, irql, top}
 use Rattle.wdf_model.specs.parts.Cpus as cpus
 use Rattle.wdf_model.specs.parts.Locks.{lock_of_callback}
 use Rattle.wdf_model.specs.parts.Control.{accepts}
@@ -55,7 +54,9 @@ use Rattle.wdf_invariants.proofs.Framed.{on}
 use Rattle.wdf_invariants.proofs.FrameMoves.{none_or_some, parked_once, pop_on}
 use Rattle.wdf_invariants.proofs.StepStates.{fit_before}
 use Rattle.wdf_agreements.proofs.Keeping.{Known}
-use Rattle.wdf_blame_causes.proofs.Apt.{AllApt, IsTaken, all_plain, apt_behind, plain_apt, takes}
+use Rattle.wdf_deeds.proofs.Walk.{plain_stage, plain_start}
+use Rattle.wdf_deeds.proofs.Passing.{PassesBeside, stage_of, stage_passes, start_effect_passes, start_of}
+use Rattle.wdf_blame_causes.proofs.Apt.{AllApt, IsTaken, all_plain, apt_behind, is_plain, plain_apt, takes}
 use Rattle.wdf_blame_causes.proofs.AptCalls.{outcome_apt, second_apt}
 
 -- ---- a frame that isn't parked
@@ -88,28 +89,12 @@ off_by_top C cpu f is_top once = elim (cases_Bool (contains f C.parked)) [
 
 -- ---- starts
 
-effect_for_plain : (k : Rank) (o r : ℕ) → all_plain (effect_for k o r) ≡ true
-effect_for_plain rank.Completion o r = refl
-effect_for_plain rank.Cancel o r = refl
-effect_for_plain rank.CanceledOnQueue o r = refl
-effect_for_plain rank.Stop o r = refl
-effect_for_plain rank.Resume o r = refl
-effect_for_plain rank.Handler o r = refl
-effect_for_plain _ o r = refl
-
-effect_plain : {A : Type 0} (plan : Plan) (S : State A) (k : Rank) (cpu : ℕ) (c : Callback) (o : ℕ) → all_plain (effect plan S k cpu c o) ≡ true
-effect_plain plan S rank.Deferred cpu c o = refl
-effect_plain plan S rank.Timed cpu c o = refl
-effect_plain plan S rank.QueueState cpu c o = refl
-effect_plain plan S rank.Sequence cpu c o = refl
-effect_plain plan S rank.Work cpu c o = refl
-effect_plain plan S rank.Cleanup cpu c o = refl
-effect_plain plan S rank.Destroy cpu c o = refl
-effect_plain plan S _ cpu c o = refl
+effect_still : (c : Callback) → PassesBeside is_plain plain_start (start_of c)
+effect_still c (PushFrame cpu f frame level) h n = absurd (let z : ⊥ = cc in z)
+effect_still c _ h n = cc
 
 start_plain : {A : Type 0} (plan : Plan) (S : State A) (cpu : ℕ) (c : Callback) (o : ℕ) (r : Option Handle) → all_plain (start_effect plan S cpu c o r) ≡ true
-start_plain plan S cpu c o None = effect_plain plan S (row_of c).rank cpu c o
-start_plain plan S cpu c o (Some r) = effect_for_plain (row_of c).rank o r.id.0
+start_plain plan S cpu c o r = start_effect_passes is_plain plan S cpu c o r (effect_still c)
 
 -- and what a start does before its frame begins leaves the parked frames alone
 for_parked : {A : Type 0} (plan : Plan) (S : State A) (k : Rank) (o r : ℕ) → (do_deeds plan (effect_for k o r) S).cpus.parked ≡ S.cpus.parked
@@ -223,13 +208,12 @@ end_apt plan S cpu c o v k d =
     ends_apt plan S cpu d.frame (lock_of_callback plan c o.id.0 (declared_in plan S o.id.0)) (end_of_step plan S (row_of c).rank c o.id.0 v) d.about.top (off_by_top S.cpus cpu d.frame d.about.top (k.frames.once d.frame))
     (step_plain plan S (row_of c).rank c o.id.0 v)
 
+stage_still : (s : Stage) → PassesBeside is_plain plain_stage (stage_of s)
+stage_still s (PushFrame cpu f frame level) h n = h
+stage_still s _ h n = cc
+
 stage_plain : (plan : Plan) (d : ℕ) (s : Stage) (i : Option Handle) → all_plain (stage_effect plan d s i) ≡ true
-stage_plain plan d stage.Enabled i = refl
-stage_plain plan d stage.Disabled i = refl
-stage_plain plan d stage.QueuesDown i = refl
-stage_plain plan d stage.Closed i = refl
-stage_plain plan d stage.Removed i = refl
-stage_plain plan d _ i = refl
+stage_plain plan d s i = stage_passes is_plain plan d s i (stage_still s)
 
 waits_in_call : {A : Type 0} (S : State A) (p : Option Pending) → waits_on S p ≡ true → is_some p ≡ true
 waits_in_call S None h = absurd (let z : ⊥ = cc in z)

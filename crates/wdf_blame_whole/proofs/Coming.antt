@@ -1,5 +1,5 @@
 -- What each event of a run asks for may go: a device that is removed, what the driver may delete, a request that is completed.
-use Rattle.std.proofs.Common.{if◌then◌else◌, ◌≡◌, ◌≢◌, ℕ, suc, ◌+◌, ◌<◌, ◌≤◌, Bool, true, false, not, ◌&&◌, ◌||◌, List, [], ◌∷◌, ◌++◌, inl, inr, Option, Some, None, is_some, drop, length, option_and_then, slice_get, unwrap_or, refl, sym, ap, subst, ◌∙◌, arith}
+use Rattle.std.proofs.Common.{if◌then◌else◌, ◌≡◌, ◌≢◌, suc, ◌+◌, ◌<◌, ◌≤◌, Bool, true, false, not, ◌&&◌, ◌||◌, List, [], ◌∷◌, ◌++◌, inl, inr, Option, Some, None, is_some, drop, length, option_and_then, slice_get, unwrap_or, refl, sym, ap, subst, ◌∙◌, arith}
 use Rattle.std.specs.List.{list_all, list_any}
 use Rattle.std.proofs.lemmas.Bool.{cases_Bool, eqb-true, or_cases}
 use Rattle.wdf_base.specs.Meaning.{Meaning}
@@ -38,34 +38,31 @@ use Rattle.wdf_base.specs.declared.event.Post.{Post}
 use Rattle.wdf_base.specs.declared.event.Post.TheVariants as post
 use Rattle.wdf_base.specs.declared.object.RequestForm.{RequestForm}
 use Rattle.wdf_base.specs.declared.object.RequestForm.TheVariants as form
-use Rattle.wdf_base.specs.declared.value.Status.TheVariants as status
 use Rattle.wdf_base.specs.declared.event.Stage.{Stage}
 use Rattle.wdf_base.specs.declared.event.Stage.TheVariants as stage
 use Rattle.wdf_base.specs.declared.event.Step.{Step}
 use Rattle.wdf_base.specs.declared.event.Step.TheVariants as step
 use Rattle.wdf_base.specs.declared.frame.Frame.{Frame}
-use Rattle.wdf_model.specs.Tables.{contains, flag}
-use Rattle.wdf_model.specs.Plans.{as_device, as_interrupt, callback_irql, declares, device_of, interrupt_of, is_manual_queue, is_target_of, parent_of_class, target_of}
+use Rattle.wdf_model.specs.Tables.{contains}
+use Rattle.wdf_model.specs.Plans.{as_device, as_interrupt, declares, device_of, interrupt_of, is_target_of, target_of}
 use Rattle.wdf_model.specs.parts.Tree.{gone, is_cleaned, is_gone, is_live, kind_of, life_of, nearest_device, parent_of, subtree}
 use Rattle.wdf_model.specs.parts.Cpus.{frame_of, top}
 use Rattle.wdf_model.specs.parts.Locks.{lock_of_callback}
 use Rattle.wdf_model.specs.parts.Interrupts.{is_enabled}
 use Rattle.wdf_model.specs.parts.Deferred.Dpcs.{is_dpc_queued}
-use Rattle.wdf_model.specs.parts.Deferred.Timers.{is_timer_queued}
 use Rattle.wdf_model.specs.parts.Requests.{is_closing, is_done, is_owned, no_request, place_of, request_of}
-use Rattle.wdf_model.specs.parts.Pnp.{Pnp, Sequence, is_running_step, next_step, no_sequence, running_step, sequence_of, steps_left, taken_step}
+use Rattle.wdf_model.specs.parts.Pnp.{Sequence, is_running_step, next_step, no_sequence, running_step, sequence_of, steps_left, taken_step}
 use Rattle.wdf_model.specs.parts.Pnp as pnp
 use Rattle.wdf_model.specs.State.{State, declared_in, is_proper, nothing_at, object_in}
-use Rattle.wdf_model.specs.Ids.{cpu_of, frame_id, irql_of, object_id}
+use Rattle.wdf_model.specs.Ids.{cpu_of, frame_id, object_id}
 use Rattle.wdf_model.specs.declared.deed.Deed.{Deed}
-use Rattle.wdf_model.specs.declared.deed.Deed.TheVariants.{AdvancePower, Arrive, CountArrival, EnqueueWork, EnqueueDpc, GoOn, PopFrame, PushFrame, RegisterQueue, StartTimer, TakeStep}
+use Rattle.wdf_model.specs.declared.deed.Deed.TheVariants.{AdvancePower, Arrive, CountArrival, EnqueueDpc, GoOn, PopFrame, TakeStep}
 use Rattle.wdf_model.specs.rules.Deeds.{do_deeds}
-use Rattle.wdf_model.specs.rules.Faults.{View, arg_is, is_never_deleted, is_stale, is_wrong_kind}
-use Rattle.wdf_model.specs.rules.Script.{intent_of}
-use Rattle.wdf_model.specs.rules.Posts.{arrival_deeds, arrival_info, arrival_place, cancel_reaches, due_of, may_arrive, post_answer, post_deeds, post_fits}
-use Rattle.wdf_model.specs.rules.Calls.{class_in, number, number_in, origin_or_none, outcome, refused, second_deeds, success}
-use Rattle.wdf_model.specs.rules.Starts.{end_of_step, is_drained, is_unfinished_at, may_pass, new_frame, next_number, release_if_any, stage_deeds, stage_ready, start_deeds, start_effect, step_ready, take_if_any, targets_at}
-use Rattle.wdf_model.specs.rules.Steps.{answered, by_top, deeds, did_deeds, goes_on, may, spending, stepped, view_of, waiting, waiting_deeds, woke_deeds}
+use Rattle.wdf_model.specs.rules.Faults.{View, is_never_deleted, is_stale, is_wrong_kind}
+use Rattle.wdf_model.specs.rules.Posts.{arrival_deeds, arrival_info, arrival_place, due_of, may_arrive, post_answer, post_deeds, post_fits}
+use Rattle.wdf_model.specs.rules.Calls.{number, outcome, second_deeds}
+use Rattle.wdf_model.specs.rules.Starts.{end_of_step, is_drained, is_unfinished_at, may_pass, release_if_any, stage_deeds, stage_ready, step_ready, targets_at}
+use Rattle.wdf_model.specs.rules.Steps.{answered, by_top, deeds, did_deeds, may, view_of, waiting, waiting_deeds}
 use Rattle.wdf_model.specs.laws.Agreement.{is_sequence}
 use Rattle.wdf_model.specs.laws.OverRuns.{is_declared_kind}
 use Rattle.wdf_model.specs.laws.Fits.{is_given}

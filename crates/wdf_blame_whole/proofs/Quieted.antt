@@ -1,6 +1,6 @@
 -- At each place of every run of a resolved plan, an interrupt whose DPC is queued is live: it is enabled, or its device
 -- becomes quiet soon.
-use Rattle.std.proofs.Common.{◌≡◌, ℕ, zero, suc, ◌+◌, ◌<◌, ◌≤◌, Bool, true, false, not, ◌&&◌, ◌||◌, List, [], ◌∷◌, ◌++◌, inl, inr, Option, Some, None, is_some, drop, length, map, replicate, refl, sym, ap, subst, ◌∙◌, arith}
+use Rattle.std.proofs.Common.{◌≡◌, zero, suc, ◌+◌, ◌<◌, ◌≤◌, true, false, not, ◌&&◌, ◌||◌, List, [], ◌∷◌, ◌++◌, inl, inr, Option, Some, None, is_some, drop, length, map, replicate, refl, sym, ap, subst, ◌∙◌, arith}
 use Rattle.std.specs.List.{list_all, list_any, range_with_len}
 use Rattle.std.proofs.lemmas.Bool.{cases_Bool, or_cases}
 use Rattle.wdf_base.specs.Meaning.{Meaning}
@@ -11,7 +11,6 @@ use Rattle.wdf_base.specs.Same.{same_option, same_step}
 use Rattle.wdf_base.specs.declared.plan.Plan.{Plan}
 use Rattle.wdf_base.specs.declared.ids.Handle.{Handle}
 use Rattle.wdf_base.specs.declared.value.Value.{Value}
-use Rattle.wdf_base.specs.declared.value.Value.TheVariants.{Num}
 use Rattle.wdf_base.specs.declared.declared.Declared.{Declared}
 use Rattle.wdf_base.specs.declared.declared.DeviceInfo.{DeviceInfo}
 use Rattle.wdf_base.specs.declared.declared.InterruptInfo.{InterruptInfo}
@@ -28,7 +27,6 @@ use Rattle.wdf_base.specs.declared.event.Stage.{Stage}
 use Rattle.wdf_base.specs.declared.event.Stage.TheVariants as stage
 use Rattle.wdf_base.specs.declared.event.Step.{Step}
 use Rattle.wdf_base.specs.declared.event.Step.TheVariants as step
-use Rattle.wdf_base.specs.declared.frame.Frame.{Frame}
 use Rattle.wdf_model.specs.Tables.{contains, entry, first_of_list}
 use Rattle.wdf_model.specs.Plans.{as_interrupt, callback_irql, device_of, interrupt_of, interrupts_of, is_interrupt_of}
 use Rattle.wdf_model.specs.parts.Tree.{is_live, life_of, nearest_device}
@@ -36,21 +34,19 @@ use Rattle.wdf_model.specs.parts.Cpus.{frame_of, is_running, top}
 use Rattle.wdf_model.specs.parts.Locks.{lock_of_callback}
 use Rattle.wdf_model.specs.parts.Interrupts.{is_enabled}
 use Rattle.wdf_model.specs.parts.Deferred.Dpcs.{is_dpc_queued}
-use Rattle.wdf_model.specs.parts.Pnp.{Pnp, Sequence, is_running_step, next_step, no_sequence, opening_sequence, running_step, sequence_of, steps_left, taken_step}
+use Rattle.wdf_model.specs.parts.Pnp.{Sequence, is_running_step, next_step, no_sequence, opening_sequence, running_step, sequence_of, steps_left, taken_step}
 use Rattle.wdf_model.specs.parts.Pnp as pnp
 use Rattle.wdf_model.specs.State.{State, declared_in, is_proper, opening}
 use Rattle.wdf_model.specs.laws.Agreement.{is_sequence}
 use Rattle.wdf_model.specs.laws.Fits.{all_fit, fits}
 use Rattle.wdf_model.specs.Ids.{cpu_of, frame_id, irql_of, object_id}
-use Rattle.wdf_model.specs.rules.Calls.{outcome, second_deeds}
 use Rattle.wdf_model.specs.declared.deed.Deed.{Deed}
-use Rattle.wdf_model.specs.declared.deed.Deed.TheVariants.{AdvancePower, DisableInterrupt, EndStep, GoOn, PopFrame, PushFrame, TakeStep}
+use Rattle.wdf_model.specs.declared.deed.Deed.TheVariants.{AdvancePower, DisableInterrupt, EndStep, PopFrame, PushFrame, TakeStep}
 use Rattle.wdf_model.specs.rules.Deeds.{do_deed, do_deeds}
 use Rattle.wdf_model.specs.rules.Posts.{post_deeds}
 use Rattle.wdf_model.specs.rules.Ready.{IsRunOf, state_after}
-use Rattle.wdf_model.specs.rules.Script.{intent_of}
 use Rattle.wdf_model.specs.rules.Starts.{effect, effect_for, end_of_step, handle_id, is_quiet, is_ready_for, may_pass, may_start, new_frame, next_number, rank_ready, release_if_any, stage_deeds, stage_ready, start_deeds, start_effect, step_of, step_ready, take_if_any}
-use Rattle.wdf_model.specs.rules.Steps.{answered, deeds, did_deeds, goes_on, is_cpu, is_proper_if_any, may, spending, stepped, waiting, waiting_deeds, woke_deeds}
+use Rattle.wdf_model.specs.rules.Steps.{deeds, is_cpu, is_proper_if_any, may}
 use Rattle.wdf_model.proofs.FitsOfEvents.{event_fits}
 use Rattle.wdf_model.proofs.Maps.{entry_put_same}
 use Rattle.wdf_model.proofs.OwnEvents.{IsEnd, end_tells}
@@ -76,37 +72,15 @@ use Rattle.wdf_blame_whole.proofs.Quieting.{AllServes, Quieting, Serves, quietin
 
 -- ---- deeds of which nothing is asked
 
-abbrev is_calm : Deed → Bool
-is_calm (TakeStep d) = false
-is_calm (EndStep d s v) = false
-is_calm (DisableInterrupt i) = false
-is_calm _ = true
-
-abbrev all_calm : List Deed → Bool
-all_calm ds = list_all is_calm ds
-
-calm_one : {A : Type 0} (plan : Plan) (d : Deed) (S : State A) → is_calm d ≡ true → Serves plan d S
+calm_one : {A : Type 0} (plan : Plan) (d : Deed) (S : State A) → not (is_moving d) ≡ true → Serves plan d S
 calm_one plan (TakeStep d) S h = absurd (let z : ⊥ = cc in z)
 calm_one plan (EndStep d s v) S h = absurd (let z : ⊥ = cc in z)
 calm_one plan (DisableInterrupt i) S h = absurd (let z : ⊥ = cc in z)
 calm_one plan _ S h = tt
 
-calm_serves : {A : Type 0} (plan : Plan) (ds : List Deed) (S : State A) → all_calm ds ≡ true → AllServes plan ds S
-calm_serves plan [] S h = tt
-calm_serves plan (d ∷ ds) S h = (calm_one plan d S (both_left (is_calm d) (all_calm ds) h), calm_serves plan ds (do_deed plan d S) (both_right (is_calm d) (all_calm ds) h))
-
-calm_of : (d : Deed) → not (is_moving d) ≡ true → is_calm d ≡ true
-calm_of (TakeStep d) h = absurd (let z : ⊥ = cc in z)
-calm_of (EndStep d s v) h = absurd (let z : ⊥ = cc in z)
-calm_of (DisableInterrupt i) h = absurd (let z : ⊥ = cc in z)
-calm_of _ h = refl
-
-none_calm : (ds : List Deed) → none_moves ds ≡ true → all_calm ds ≡ true
-none_calm [] h = refl
-none_calm (d ∷ ds) h = both (is_calm d) (all_calm ds) (calm_of d (both_left (not (is_moving d)) (none_moves ds) h)) (none_calm ds (both_right (not (is_moving d)) (none_moves ds) h))
-
 none_serves : {A : Type 0} (plan : Plan) (ds : List Deed) (S : State A) → none_moves ds ≡ true → AllServes plan ds S
-none_serves plan ds S h = calm_serves plan ds S (none_calm ds h)
+none_serves plan [] S h = tt
+none_serves plan (d ∷ ds) S h = (calm_one plan d S (both_left (not (is_moving d)) (none_moves ds) h), none_serves plan ds (do_deed plan d S) (both_right (not (is_moving d)) (none_moves ds) h))
 
 serves_behind : {A : Type 0} (plan : Plan) (ds es : List Deed) (S : State A) → AllServes plan ds S → AllServes plan es (do_deeds plan ds S) → AllServes plan (ds ++ es) S
 serves_behind plan [] es S h k = k

@@ -40,7 +40,6 @@ use Rattle.wdf_agreements.proofs.There.{Ends, StaysAt, deed_there}
 use Rattle.wdf_laws.specs.declared.sign.Sign.{Sign}
 use Rattle.wdf_laws.specs.declared.sign.Sign.TheVariants as sign
 use Rattle.wdf_laws.specs.declared.sign.Told.{Told}
-use Rattle.wdf_laws.specs.Events.{told}
 use Rattle.wdf_laws.specs.Family.{first_told}
 use Rattle.wdf_laws.specs.Signs.{shows}
 use Rattle.wdf_laws.specs.Words.{ever}

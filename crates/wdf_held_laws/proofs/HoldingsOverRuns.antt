@@ -1,47 +1,25 @@
 -- At each place of every run, a taking of a request from a power-managed queue stands, with no giving up since, exactly
 -- where the driver holds the request from that queue.
-use Rattle.std.proofs.Common.{if◌then◌else◌, ◌≡◌, ℕ, ◌+◌, ◌==◌, Bool, true, false, not, List, [], ◌∷◌, ◌++◌, ◌⊎◌, inl, inr, Option, Some, None, length, take, refl, sym, ap, subst, ◌∙◌}
+use Rattle.std.proofs.Common.{◌≡◌, ℕ, ◌+◌, ◌==◌, Bool, true, false, not, List, [], ◌∷◌, ◌++◌, ◌⊎◌, inl, inr, Option, Some, None, length, take, refl, sym, ap, subst, ◌∙◌}
 use Rattle.std.proofs.lemmas.Bool.{cases_Bool}
 use Rattle.wdf_base.specs.Meaning.{Meaning}
 use Rattle.wdf_base.specs.declared.ids.Cpu.{Cpu}
-use Rattle.wdf_base.specs.declared.ids.Handle.{Handle}
 use Rattle.wdf_base.specs.declared.plan.Plan.{Plan}
 use Rattle.wdf_base.specs.declared.value.Value.{Value}
-use Rattle.wdf_base.specs.declared.value.Value.TheVariants.{Num}
-use Rattle.wdf_base.specs.declared.rank.Rank.{Rank}
-use Rattle.wdf_base.specs.declared.rank.Rank.TheVariants as rank
-use Rattle.wdf_base.specs.declared.object.Place.{Place}
-use Rattle.wdf_base.specs.declared.object.Place.TheVariants as place
-use Rattle.wdf_base.specs.declared.object.RequestForm.{RequestForm}
-use Rattle.wdf_base.specs.declared.object.RequestForm.TheVariants as form
 use Rattle.wdf_base.specs.declared.call.Arg.{Arg}
 use Rattle.wdf_base.specs.declared.call.Call.{Call}
 use Rattle.wdf_base.specs.declared.call.CallKind.{CallKind}
 use Rattle.wdf_base.specs.declared.call.CallKind.TheVariants as call
-use Rattle.wdf_base.specs.declared.call.Callback.{Callback}
 use Rattle.wdf_base.specs.declared.event.Event.{Event}
 use Rattle.wdf_base.specs.declared.event.Event.TheVariants as event
-use Rattle.wdf_base.specs.declared.event.Post.{Post}
-use Rattle.wdf_base.specs.declared.event.Post.TheVariants as post
-use Rattle.wdf_base.specs.declared.event.Stage.{Stage}
-use Rattle.wdf_base.specs.declared.event.Stage.TheVariants as stage
-use Rattle.wdf_base.specs.Callbacks.{row_of}
 use Rattle.wdf_model.specs.Tables.{same_id}
 use Rattle.wdf_model.specs.Plans.{is_managed}
-use Rattle.wdf_model.specs.parts.Tree.{is_live, life_of}
 use Rattle.wdf_model.specs.parts.Cpus.{frame_of}
-use Rattle.wdf_model.specs.parts.Locks.{lock_of_callback}
-use Rattle.wdf_model.specs.parts.Requests.{place_of}
-use Rattle.wdf_model.specs.State.{State, declared_in}
-use Rattle.wdf_model.specs.Ids.{frame_id, object_id}
+use Rattle.wdf_model.specs.State.{State}
 use Rattle.wdf_model.specs.declared.deed.Deed.{Deed}
-use Rattle.wdf_model.specs.declared.deed.Deed.TheVariants.{Arrive, CountArrival}
 use Rattle.wdf_model.specs.rules.Deeds.{do_deeds}
 use Rattle.wdf_model.specs.rules.Calls.{is_met_then, outcome}
-use Rattle.wdf_model.specs.rules.Starts.{stage_effect}
-use Rattle.wdf_model.specs.rules.Posts.{arrival_info, arrival_place, cancel_at, cancel_deeds, cancel_reaches, post_deeds}
 use Rattle.wdf_model.specs.rules.Steps.{after, deeds, did_deeds, may, waiting_deeds, woke_deeds}
-use Rattle.wdf_model.proofs.Tests.{both, both_left, both_right}
 use Rattle.wdf_model.proofs.Counts.{not_equal}
 use Rattle.wdf_model.proofs.FitsOfEvents.{by_its_top}
 use Rattle.wdf_model.proofs.OwnEvents.{IsDid, IsWaiting, IsWoke, did_tells, waiting_tells, woke_tells}
@@ -51,15 +29,9 @@ use Rattle.wdf_invariants.proofs.Holding.{HoldsIn}
 use Rattle.wdf_laws.specs.declared.sign.Sign.TheVariants as sign
 use Rattle.wdf_laws.specs.Events.{given_up, taken}
 use Rattle.wdf_laws.specs.Words.{stands}
-use Rattle.wdf_base.specs.declared.object.LockRef.{LockRef}
-use Rattle.wdf_base.specs.declared.frame.Frame.{Frame}
-use Rattle.wdf_model.specs.parts.Cpus.{top}
 use Rattle.wdf_model.specs.parts.Requests.{origin_of}
 use Rattle.wdf_model.specs.State.{is_held_from, is_with_driver}
-use Rattle.wdf_model.specs.declared.deed.Deed.TheVariants.{GoOn, PopFrame}
-use Rattle.wdf_model.specs.rules.Script.{intent_of}
-use Rattle.wdf_model.specs.rules.Starts.{end_of_step, release_if_any}
-use Rattle.wdf_model.specs.rules.Steps.{goes_on, spending, stepped, answered}
+use Rattle.wdf_model.specs.declared.deed.Deed.TheVariants.{Present}
 use Rattle.wdf_model.specs.rules.Ready.{IsRunOf, ready, state_after}
 use Rattle.wdf_model.specs.laws.FactsOfEvents.{IsTick}
 use Rattle.wdf_model.proofs.Runs.{along_run}
@@ -67,51 +39,15 @@ use Rattle.wdf_model.proofs.Follows.{follows, state_goes_on}
 use Rattle.wdf_model.proofs.LawsOverRuns.{history_now}
 use Rattle.wdf_invariants.proofs.Holding.{holder}
 use Rattle.wdf_invariants.proofs.HeldOverRuns.{from_by, holds_at_each}
+use Rattle.wdf_deeds.specs.MayDo.{may_do}
+use Rattle.wdf_deeds.proofs.Passing.{event_passes}
 use Rattle.wdf_request_laws.proofs.FirstParts.{did_reads, waiting_reads, woke_reads}
 use Rattle.wdf_held_laws.proofs.Holdings.{completed_notes, deeds_note, is_holding, none_holds}
 use Rattle.wdf_held_laws.proofs.HeldAsTold.{HeldAsTold, give_step, managed_some, silent_step, start_holds}
 use Rattle.wdf_held_laws.proofs.HeldByCalls.{call_notes, did_notes, is_holding_call}
 use Rattle.wdf_request_laws.proofs.Gives.{call_of}
 
--- ---- deeds that take and give up nothing
-
-none_behind : (ds es : List Deed) → none_holds ds ≡ true → none_holds es ≡ true → none_holds (ds ++ es) ≡ true
-none_behind [] es h k = k
-none_behind (d ∷ ds) es h k = both (not (is_holding d)) (none_holds (ds ++ es)) (both_left (not (is_holding d)) (none_holds ds) h) (none_behind ds es (both_right (not (is_holding d)) (none_holds ds) h) k)
-
-stage_none : (plan : Plan) (d : ℕ) (s : Stage) (i : Option Handle) → none_holds (stage_effect plan d s i) ≡ true
-stage_none plan d stage.Enabled i = refl
-stage_none plan d stage.Disabled i = refl
-stage_none plan d stage.QueuesDown i = refl
-stage_none plan d stage.Closed i = refl
-stage_none plan d stage.Removed i = refl
-stage_none plan d _ i = refl
-
-releasing_none : (l : Option LockRef) → none_holds (release_if_any l) ≡ true
-releasing_none None = refl
-releasing_none (Some l) = refl
-
-step_none : {A : Type 0} (plan : Plan) (S : State A) (k : Rank) (c : Callback) (o : ℕ) (v : Value) → none_holds (end_of_step plan S k c o v) ≡ true
-step_none plan S rank.Sequence c o v = refl
-step_none plan S _ c o v = refl
-
-cancel_none : (p : Place) (r : ℕ) → none_holds (cancel_at p r) ≡ true
-cancel_none (place.Queued q) r = refl
-cancel_none _ r = refl
-
-cancel_of_none : {A : Type 0} (S : State A) (r : Option ℕ) → none_holds (cancel_deeds S r) ≡ true
-cancel_of_none S None = refl
-cancel_of_none S (Some r) = cancel_none (place_of S.requests r) r
-
-arrival_none : {A : Type 0} (plan : Plan) (S : State A) (agent : ℕ) (f : RequestForm) (length code device : ℕ) (b : Bool)
-    → none_holds (CountArrival agent ∷ (if b then Arrive (object_id device) (arrival_info S agent f length code device) (arrival_place plan S f length device) ∷ [] else [])) ≡ true
-arrival_none plan S agent f length code device true = refl
-arrival_none plan S agent f length code device false = refl
-
-by_top_none : {A : Type 0} (S : State A) (ds : ℕ → Frame → List Deed) → ((f : ℕ) (frame : Frame) → none_holds (ds f frame) ≡ true) → (there : Option ℕ)
-    → none_holds (elim there as (λ _. List Deed) [ None ↦ [] | Some f ↦ ds f (frame_of S.cpus f) ]) ≡ true
-by_top_none S ds h None = refl
-by_top_none S ds h (Some f) = h f (frame_of S.cpus f)
+-- ---- events that take and give up nothing
 
 pub waits_holding : {A : Type 0} (plan : Plan) (S : State A) (k : CallKind) (n : ℕ) (a b x : Arg) → is_met_then plan S (call_of k n a b x) ≡ false → is_holding_call k ≡ false
 waits_holding plan S call.WdfRequestComplete n a b x h = absurd (let z : ⊥ = cc in z)
@@ -131,36 +67,17 @@ is_plain (event.Woke cpu c v) = false
 is_plain (event.Complete r s) = false
 is_plain _ = true
 
-post_none : {A : Type 0} (plan : Plan) (S : State A) (agent : ℕ) (p : Post) → none_holds (post_deeds plan S agent p) ≡ true
-post_none plan S agent (post.Read device length) = arrival_none plan S agent form.Read length 0 device.id.0 (is_live (life_of S.tree device.id.0))
-post_none plan S agent (post.Write device length) = arrival_none plan S agent form.Write length 0 device.id.0 (is_live (life_of S.tree device.id.0))
-post_none plan S agent (post.Control device code length) = arrival_none plan S agent form.Control length code device.id.0 (is_live (life_of S.tree device.id.0))
-post_none plan S agent (post.Cancel n) = cancel_of_none S (cancel_reaches S agent n)
-post_none plan S agent (post.Ask a device) = refl
-post_none plan S agent (post.Act action) = refl
-post_none plan S agent (post.Done r s) = refl
+event_still : (e : Event) → is_plain e ≡ true → (d : Deed) → may_do e d ≡ true → not (is_holding d) ≡ true
+event_still (event.Start cpu c o r) plain d h = absurd (let z : ⊥ = cc in z)
+event_still (event.Did cpu c v) plain d h = absurd (let z : ⊥ = cc in z)
+event_still (event.Waiting cpu c) plain d h = absurd (let z : ⊥ = cc in z)
+event_still (event.Woke cpu c v) plain d h = absurd (let z : ⊥ = cc in z)
+event_still (event.Complete r s) plain d h = absurd (let z : ⊥ = cc in z)
+event_still e plain (Present q r) h = h
+event_still e plain _ h = cc
 
 pub event_none : {A : Type 0} (plan : Plan) (S : State A) (e : Event) → is_plain e ≡ true → none_holds (deeds plan S e) ≡ true
-event_none plan S (event.Start cpu c o r) h = absurd (let z : ⊥ = cc in z)
-event_none plan S (event.Did cpu c v) h = absurd (let z : ⊥ = cc in z)
-event_none plan S (event.Waiting cpu c) h = absurd (let z : ⊥ = cc in z)
-event_none plan S (event.Woke cpu c v) h = absurd (let z : ⊥ = cc in z)
-event_none plan S (event.Complete r s) h = absurd (let z : ⊥ = cc in z)
-event_none plan S (event.Posted agent p answer) h = post_none plan S agent p
-event_none plan S (event.Local cpu line) h = by_top_none S (λ f frame. GoOn (frame_id f) (stepped frame (intent_of plan frame)) ∷ []) (λ f frame. refl) (top S.cpus cpu.0)
-event_none plan S (event.Log cpu v) h = by_top_none S (λ f frame. GoOn (frame_id f) (goes_on plan frame) ∷ []) (λ f frame. refl) (top S.cpus cpu.0)
-event_none plan S (event.Spend cpu n) h = by_top_none S (λ f frame. GoOn (frame_id f) (spending plan S frame n) ∷ []) (λ f frame. refl) (top S.cpus cpu.0)
-event_none plan S (event.Register cpu a r v) h = by_top_none S (λ f frame. GoOn (frame_id f) (answered plan frame (Num v)) ∷ []) (λ f frame. refl) (top S.cpus cpu.0)
-event_none plan S (event.Park cpu f) h = refl
-event_none plan S (event.Unpark cpu f) h = refl
-event_none plan S (event.End cpu c o v) h =
-    none_behind (release_if_any (lock_of_callback plan c o.id.0 (declared_in plan S o.id.0))) (PopFrame cpu ∷ end_of_step plan S (row_of c).rank c o.id.0 v)
-    (releasing_none (lock_of_callback plan c o.id.0 (declared_in plan S o.id.0))) (step_none plan S (row_of c).rank c o.id.0 v)
-event_none plan S (event.Fault cpu x line) h = refl
-event_none plan S (event.Stage d s i) h = stage_none plan d.id.0 s i
-event_none plan S (event.Cleanup o) h = refl
-event_none plan S (event.Destroy o) h = refl
-event_none plan S (event.Tick time) h = refl
+event_none plan S e plain = event_passes (λ d. not (is_holding d)) plan S e (event_still e plain)
 
 -- ---- every event
 

@@ -1,57 +1,30 @@
 -- What is queued as a DPC: of the deeds of an event, the only ones that queue an interrupt's DPC are those of a call on an
 -- enabled interrupt.
-use Rattle.std.proofs.Common.{if◌then◌else◌, ◌≡◌, ℕ, Bool, true, false, not, ◌&&◌, ◌||◌, List, [], ◌∷◌, ◌++◌, Option, Some, None, option_and_then, refl}
+use Rattle.std.proofs.Common.{if◌then◌else◌, ◌≡◌, Bool, true, false, not, ◌&&◌, ◌||◌, List, [], ◌∷◌, ◌++◌, refl}
 use Rattle.std.specs.List.{list_all}
 use Rattle.wdf_base.specs.declared.plan.Plan.{Plan}
-use Rattle.wdf_base.specs.declared.ids.Handle.{Handle}
-use Rattle.wdf_base.specs.declared.value.Value.{Value}
-use Rattle.wdf_base.specs.declared.value.Value.TheVariants.{Num, Obj, Stat}
-use Rattle.wdf_base.specs.declared.value.Status.TheVariants as status
-use Rattle.wdf_base.specs.declared.object.Kind.{Kind}
 use Rattle.wdf_base.specs.declared.object.Kind.TheVariants as kind
-use Rattle.wdf_base.specs.declared.object.LockRef.{LockRef}
 use Rattle.wdf_base.specs.declared.object.Place.{Place}
-use Rattle.wdf_base.specs.declared.object.RequestForm.{RequestForm}
-use Rattle.wdf_base.specs.declared.object.RequestForm.TheVariants as form
 use Rattle.wdf_base.specs.declared.object.Place.TheVariants as place
 use Rattle.wdf_base.specs.declared.call.Arg.{Arg}
 use Rattle.wdf_base.specs.declared.call.CallKind.{CallKind}
 use Rattle.wdf_base.specs.declared.call.CallKind.TheVariants as call
-use Rattle.wdf_base.specs.declared.call.Callback.{Callback}
-use Rattle.wdf_base.specs.declared.rank.Rank.{Rank}
-use Rattle.wdf_base.specs.declared.rank.Rank.TheVariants as rank
 use Rattle.wdf_base.specs.declared.event.Event.{Event}
 use Rattle.wdf_base.specs.declared.event.Event.TheVariants as event
-use Rattle.wdf_base.specs.declared.event.Post.{Post}
-use Rattle.wdf_base.specs.declared.event.Post.TheVariants as post
-use Rattle.wdf_base.specs.declared.event.Stage.{Stage}
-use Rattle.wdf_base.specs.declared.event.Stage.TheVariants as stage
-use Rattle.wdf_base.specs.declared.frame.Frame.{Frame}
-use Rattle.wdf_base.specs.Callbacks.{row_of}
 use Rattle.wdf_base.specs.Same.{same_call_kind}
 use Rattle.wdf_base.specs.declared.call.Callback.TheVariants as callback
-use Rattle.wdf_model.specs.Tables.{flag}
-use Rattle.wdf_model.specs.Ids.{cpu_of, frame_id, irql_of, object_id}
-use Rattle.wdf_model.specs.rules.Script.{intent_of}
-use Rattle.wdf_model.specs.parts.Tree.{is_full, is_live, life_of}
-use Rattle.wdf_model.specs.parts.Control.{accepts, is_purged, mode_of}
+use Rattle.wdf_model.specs.Ids.{cpu_of, frame_id, object_id}
+use Rattle.wdf_model.specs.parts.Tree.{is_live, life_of}
 use Rattle.wdf_model.specs.parts.Interrupts.{is_enabled}
 use Rattle.wdf_model.specs.parts.Deferred.Dpcs.{is_dpc_queued}
-use Rattle.wdf_model.specs.parts.Deferred.Timers.{is_timer_queued}
-use Rattle.wdf_model.specs.Plans.{declares, is_manual_queue, is_parallel_queue, kind_of_class, callback_irql, parent_of_class}
+use Rattle.wdf_model.specs.Plans.{declares}
 use Rattle.wdf_model.specs.parts.Cpus.{frame_of, top}
-use Rattle.wdf_model.specs.parts.Locks.{lock_of_callback}
-use Rattle.wdf_model.specs.parts.Queues.{front}
-use Rattle.wdf_model.specs.parts.Requests.{arrival_of, is_cancelled, mark_answer, place_of}
-use Rattle.wdf_model.specs.State.{State, declared_in, object_in, queue_delivers}
+use Rattle.wdf_model.specs.State.{State, object_in}
 use Rattle.wdf_model.specs.declared.deed.Deed.{Deed}
-use Rattle.wdf_model.specs.declared.deed.Deed.TheVariants.{Acknowledge, Arrive, CompleteRequest, CountArrival, EnqueueDpc, EnqueueWork, Forward, GiveBack, GoOn, MarkRequest, PopFrame, PushFrame, RegisterQueue, Requeue, SendRequest, StartTimer}
-use Rattle.wdf_model.specs.rules.Faults.{arg_is}
-use Rattle.wdf_model.specs.rules.Calls.{Outcome, acknowledge_outcome, class_in, create_outcome, creation, forward_outcome, forwards_nowhere, mark_outcome, may_send, new_handle, number, number_in, origin_or_none, outcome, requeue_outcome, retrieve_front, retrieve_outcome, refused, second_deeds, send_outcome, success}
-use Rattle.wdf_model.specs.rules.Starts.{effect, effect_for, end_of_step, new_frame, next_number, release_if_any, stage_effect, start_effect, take_if_any}
-use Rattle.wdf_model.specs.rules.Posts.{arrival_info, arrival_place, cancel_at, cancel_deeds, in_reach, post_deeds}
-use Rattle.wdf_model.specs.rules.Steps.{answered, deeds, did_deeds, goes_on, spending, stepped, waiting, waiting_deeds, woke_deeds}
-use Rattle.wdf_model.proofs.Tests.{alone, both, both_left, both_right}
+use Rattle.wdf_model.specs.declared.deed.Deed.TheVariants.{Arrive, CompleteRequest, EnqueueDpc, Forward, GiveBack, GoOn, Requeue, SendRequest}
+use Rattle.wdf_model.specs.rules.Calls.{number, outcome, second_deeds}
+use Rattle.wdf_model.specs.rules.Steps.{answered, deeds, did_deeds, waiting, waiting_deeds}
+use Rattle.wdf_model.proofs.Tests.{alone, both_left, both_right}
 use Rattle.wdf_base.specs.Meaning.{Meaning}
 use Rattle.wdf_base.specs.declared.event.Fault.TheVariants as fault
 use Rattle.wdf_base.specs.Same.{same_kind}

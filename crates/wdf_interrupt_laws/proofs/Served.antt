@@ -1,5 +1,5 @@
 -- An interrupt whose DPC is queued was enabled, its device entered then, and the device's exit hasn't begun since.
-use Rattle.std.proofs.Common.{if◌then◌else◌, ◌≡◌, ◌≢◌, ℕ, ◌==◌, Bool, true, false, not, ◌&&◌, ◌||◌, List, [], ◌∷◌, ◌++◌, inl, inr, Option, Some, None, is_some, drop, length, refl, sym, ap, subst, ◌∙◌, arith}
+use Rattle.std.proofs.Common.{if◌then◌else◌, ◌≡◌, ◌≢◌, ◌==◌, Bool, true, false, not, ◌&&◌, ◌||◌, List, [], ◌∷◌, ◌++◌, inl, inr, Option, Some, None, is_some, drop, length, refl, sym, ap, subst, ◌∙◌, arith}
 use Rattle.std.specs.List.{list_all}
 use Rattle.std.proofs.lemmas.Bool.{cases_Bool, eqb-true, or_cases}
 use Rattle.wdf_base.specs.Meaning.{Meaning}
@@ -11,7 +11,6 @@ use Rattle.wdf_base.specs.declared.plan.Plan.{Plan}
 use Rattle.wdf_base.specs.declared.ids.Cpu.{Cpu}
 use Rattle.wdf_base.specs.declared.ids.Handle.{Handle}
 use Rattle.wdf_base.specs.declared.value.Value.{Value}
-use Rattle.wdf_base.specs.declared.value.Value.TheVariants.{Num}
 use Rattle.wdf_base.specs.declared.object.Kind.TheVariants as kind
 use Rattle.wdf_base.specs.declared.object.LockRef.{LockRef}
 use Rattle.wdf_base.specs.declared.declared.Declared.TheVariants as declared
@@ -31,22 +30,19 @@ use Rattle.wdf_base.specs.declared.event.Step.{Step}
 use Rattle.wdf_base.specs.declared.event.Step.TheVariants as step
 use Rattle.wdf_model.specs.Plans.{callback_irql, device_of, interrupt_of, interrupts_of, is_interrupt_of}
 use Rattle.wdf_model.specs.parts.Tree.{is_gone, is_live, kind_of, life_of, nearest_device}
-use Rattle.wdf_model.specs.parts.Cpus.{frame_of, is_running, top}
-use Rattle.wdf_base.specs.declared.frame.Frame.{Frame}
+use Rattle.wdf_model.specs.parts.Cpus.{is_running}
 use Rattle.wdf_model.specs.Ids.{frame_id, irql_of, object_id}
-use Rattle.wdf_model.specs.rules.Script.{intent_of}
-use Rattle.wdf_model.specs.rules.Calls.{outcome, second_deeds}
 use Rattle.wdf_model.specs.parts.Locks.{lock_of_callback}
 use Rattle.wdf_model.specs.parts.Interrupts.{is_enabled}
 use Rattle.wdf_model.specs.parts.Deferred.Dpcs.{is_dpc_queued}
-use Rattle.wdf_model.specs.parts.Pnp.{Pnp, Sequence, busy, is_running_step, next_step, no_sequence, running_step, sequence_of, steps_for, steps_left}
+use Rattle.wdf_model.specs.parts.Pnp.{Sequence, busy, is_running_step, next_step, no_sequence, running_step, sequence_of, steps_for, steps_left}
 use Rattle.wdf_model.specs.parts.Pnp as pnp
 use Rattle.wdf_model.specs.State.{State, declared_in, declares_in, is_proper}
 use Rattle.wdf_model.specs.declared.deed.Deed.{Deed}
-use Rattle.wdf_model.specs.declared.deed.Deed.TheVariants.{EndStep, GoOn, PopFrame, PushFrame, TakeStep}
+use Rattle.wdf_model.specs.declared.deed.Deed.TheVariants.{EndStep, PopFrame, PushFrame, TakeStep}
 use Rattle.wdf_model.specs.rules.Deeds.{do_deed, do_deeds}
 use Rattle.wdf_model.specs.rules.Starts.{effect, end_of_step, interrupt_of_step, is_ready_for, may_pass, may_start, new_frame, next_number, rank_ready, rank_ready_for, release_if_any, stage_deeds, stage_ready, start_effect, step_of, step_ready, take_if_any}
-use Rattle.wdf_model.specs.rules.Steps.{answered, deeds, did_deeds, goes_on, is_cpu, is_proper_if_any, may, spending, stepped, waiting, waiting_deeds, woke_deeds}
+use Rattle.wdf_model.specs.rules.Steps.{deeds, is_cpu, is_proper_if_any, may}
 use Rattle.wdf_model.specs.laws.Agreement.{is_sequence}
 use Rattle.wdf_model.proofs.Counts.{one_or_two}
 use Rattle.wdf_model.proofs.FitsOfEvents.{event_fits}

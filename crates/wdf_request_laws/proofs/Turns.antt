@@ -1,5 +1,5 @@
 -- A queue presents from its head: each presentation takes the front of a line, and who waited there was in order.
-use Rattle.std.proofs.Common.{if◌then◌else◌, ◌≡◌, ℕ, zero, suc, ◌+◌, ◌==◌, ◌<◌, ◌≤◌, Bool, true, false, not, ◌&&◌, ◌||◌, List, [], ◌∷◌, ◌++◌, inl, inr, Option, Some, None, drop, length, slice_get, take, refl, sym, ap, subst, ◌∙◌, arith}
+use Rattle.std.proofs.Common.{if◌then◌else◌, ◌≡◌, ℕ, zero, suc, ◌==◌, ◌<◌, ◌≤◌, Bool, true, false, not, ◌&&◌, ◌||◌, List, [], ◌∷◌, ◌++◌, inl, inr, Option, Some, None, drop, length, slice_get, take, refl, sym, ap, subst, ◌∙◌, arith}
 use Rattle.std.proofs.lemmas.Bool.{eqb-true}
 use Rattle.std.specs.List.{list_all}
 use Rattle.wdf_base.specs.Meaning.{Meaning}
@@ -47,7 +47,7 @@ use Rattle.wdf_laws.specs.declared.sign.Taking.{Taking}
 use Rattle.wdf_laws.specs.Events.{argument_object, is_handler, pair_of, presented, value_object, where_so}
 use Rattle.wdf_laws.specs.Signs.{shows}
 use Rattle.wdf_laws.specs.Words.{ever}
-use Rattle.wdf_laws.specs.Laws.{all_in_turn, is_in_order, is_in_turn, is_presented_in_turn, law_8, presented_at, presented_in, waited}
+use Rattle.wdf_laws.specs.Laws.{all_in_turn, is_in_order, is_in_turn, is_presented_in_turn, law_8, presented_at, presented_in}
 use Rattle.wdf_request_laws.proofs.Happened.{ever_next}
 use Rattle.wdf_request_laws.proofs.Happened.{comes}
 use Rattle.wdf_request_laws.proofs.FirstParts.{did_reads, start_reads}

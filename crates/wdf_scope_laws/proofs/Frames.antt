@@ -1,6 +1,6 @@
 -- What events tell of frames is what the processors have, and each frame that is there holds its lock: at each place of every
 -- run.
-use Rattle.std.proofs.Common.{◌≡◌, ◌≢◌, ℕ, zero, suc, ◌+◌, ◌==◌, ◌≤◌, Bool, true, false, not, ◌&&◌, List, [], ◌∷◌, ◌++◌, ◌⊎◌, inl, inr, Option, Some, None, count_by, drop, length, option_map, replicate, slice_get, take, refl, sym, ap, subst, ◌∙◌, arith, length-append}
+use Rattle.std.proofs.Common.{◌≡◌, ◌≢◌, zero, suc, ◌+◌, ◌==◌, ◌≤◌, Bool, true, false, not, ◌&&◌, List, [], ◌∷◌, ◌++◌, ◌⊎◌, inl, inr, Option, Some, None, count_by, drop, length, option_map, replicate, slice_get, take, refl, sym, ap, subst, ◌∙◌, arith, length-append}
 use Rattle.std.proofs.lemmas.Bool.{cases_Bool, eqb-true}
 use Rattle.std.proofs.lemmas.Grind.{fold-append}
 use Rattle.wdf_base.specs.Meaning.{Meaning}
@@ -67,7 +67,7 @@ use Rattle.wdf_trace_laws.proofs.Words.{any_weaker, found_counts}
 use Rattle.wdf_deeds.specs.MayDo.{is_end, is_park, is_start, is_unpark, may_do, releasing}
 use Rattle.wdf_deeds.proofs.Passing.{event_passes}
 use Rattle.wdf_scope_laws.proofs.Stacks.{popped_apart, popped_here, pushed_apart, pushed_here, told_stack, told_top}
-use Rattle.wdf_scope_laws.proofs.Holding.{Goes, Holds, HoldsBut, Kept, deeds_hold, deeds_stacks, goes_cpus, goes_then, is_moving, is_other_hold, is_own_hold, is_special, none_moves, none_special, not_own, own_holds, release_holds}
+use Rattle.wdf_scope_laws.proofs.Holding.{Goes, Holds, HoldsBut, Kept, deeds_hold, deeds_stacks, goes_cpus, goes_then, is_moving, is_other_hold, is_own_hold, is_special, none_special, not_own, own_holds, release_holds}
 
 -- a callback that has begun and not ended is that of a frame that is there
 abbrev pub IsBegun : {A : Type 0} → State A → Begun → Type 0
@@ -416,18 +416,7 @@ event_step plan m F S (event.Park k f) h known once n q = park_step plan m F.sta
 event_step plan m F S (event.Unpark k f) h known once n q = unpark_step plan m F.stacks F.begun S k f h known q
 event_step plan m F S (event.Did k c v) h known once n q = did_step plan m F.stacks F.begun S k c.kind c.count c.a c.b c.c v h known once q
 event_step plan m F S (event.Waiting k c) h known once n q = quiet_step plan m F.stacks F.begun S (event.Waiting k c) h known refl refl refl refl (waits_not plan S c.kind c.count c.a c.b c.c (waiting_tells plan m S k c h).unmet) q
-event_step plan m F S (event.Local k line) h known once n q = quiet_step plan m F.stacks F.begun S (event.Local k line) h known refl refl refl refl refl q
-event_step plan m F S (event.Log k v) h known once n q = quiet_step plan m F.stacks F.begun S (event.Log k v) h known refl refl refl refl refl q
-event_step plan m F S (event.Spend k x) h known once n q = quiet_step plan m F.stacks F.begun S (event.Spend k x) h known refl refl refl refl refl q
-event_step plan m F S (event.Register k a b v) h known once n q = quiet_step plan m F.stacks F.begun S (event.Register k a b v) h known refl refl refl refl refl q
-event_step plan m F S (event.Woke k c v) h known once n q = quiet_step plan m F.stacks F.begun S (event.Woke k c v) h known refl refl refl refl refl q
-event_step plan m F S (event.Fault k x line) h known once n q = quiet_step plan m F.stacks F.begun S (event.Fault k x line) h known refl refl refl refl refl q
-event_step plan m F S (event.Stage d s i) h known once n q = quiet_step plan m F.stacks F.begun S (event.Stage d s i) h known refl refl refl refl refl q
-event_step plan m F S (event.Complete r s) h known once n q = quiet_step plan m F.stacks F.begun S (event.Complete r s) h known refl refl refl refl refl q
-event_step plan m F S (event.Cleanup o) h known once n q = quiet_step plan m F.stacks F.begun S (event.Cleanup o) h known refl refl refl refl refl q
-event_step plan m F S (event.Destroy o) h known once n q = quiet_step plan m F.stacks F.begun S (event.Destroy o) h known refl refl refl refl refl q
-event_step plan m F S (event.Posted agent p answer) h known once n q = quiet_step plan m F.stacks F.begun S (event.Posted agent p answer) h known refl refl refl refl refl q
-event_step plan m F S (event.Tick time) h known once n q = quiet_step plan m F.stacks F.begun S (event.Tick time) h known refl refl refl refl refl q
+event_step plan m F S e h known once n q = quiet_step plan m F.stacks F.begun S e h known refl refl refl refl refl q
 
 number_step : (F : Frames) (e : Event) → (frames_step F e).number ≡ F.number + 1
 number_step F (event.Start cpu c o r) = refl

@@ -6,16 +6,13 @@ use Rattle.wdf_base.specs.declared.ids.Cpu.{Cpu}
 use Rattle.wdf_base.specs.declared.ids.Handle.{Handle}
 use Rattle.wdf_base.specs.declared.plan.Plan.{Plan}
 use Rattle.wdf_base.specs.declared.value.Value.{Value}
-use Rattle.wdf_base.specs.declared.value.Value.TheVariants.{Num}
 use Rattle.wdf_base.specs.declared.object.LockRef.{LockRef}
-use Rattle.wdf_base.specs.declared.call.Call.{Call}
 use Rattle.wdf_base.specs.declared.call.Callback.{Callback}
 use Rattle.wdf_base.specs.declared.rank.Rank.{Rank}
 use Rattle.wdf_base.specs.declared.rank.Rank.TheVariants as rank
 use Rattle.wdf_base.specs.declared.event.Ask.{Ask}
 use Rattle.wdf_base.specs.declared.event.Event.{Event}
 use Rattle.wdf_base.specs.declared.event.Event.TheVariants as event
-use Rattle.wdf_base.specs.declared.event.Post.{Post}
 use Rattle.wdf_base.specs.declared.event.Post.TheVariants as post
 use Rattle.wdf_base.specs.declared.event.Stage.{Stage}
 use Rattle.wdf_base.specs.declared.event.Step.{Step}
@@ -34,13 +31,11 @@ use Rattle.wdf_model.specs.parts.Pnp as pnp
 use Rattle.wdf_model.specs.State.{State, declared_in, is_proper}
 use Rattle.wdf_model.specs.Ids.{cpu_of, frame_id, irql_of, object_id}
 use Rattle.wdf_model.specs.declared.deed.Deed.{Deed}
-use Rattle.wdf_model.specs.declared.deed.Deed.TheVariants.{EndStep, GoOn, PopFrame, PushFrame, TakeStep}
+use Rattle.wdf_model.specs.declared.deed.Deed.TheVariants.{EndStep, PopFrame, PushFrame, TakeStep}
 use Rattle.wdf_model.specs.rules.Deeds.{do_deed, do_deeds}
-use Rattle.wdf_model.specs.rules.Script.{intent_of}
-use Rattle.wdf_model.specs.rules.Calls.{outcome, second_deeds}
 use Rattle.wdf_model.specs.rules.Starts.{effect, end_deeds, end_of_step, interrupt_of_step, is_ready_for, may_pass, new_frame, next_number, rank_ready, rank_ready_for, release_if_any, stage_deeds, stage_ready, start_deeds, start_effect, step_of, step_ready, take_if_any}
 use Rattle.wdf_model.specs.rules.Posts.{post_deeds}
-use Rattle.wdf_model.specs.rules.Steps.{answered, deeds, did_deeds, goes_on, may, spending, stepped, waiting, waiting_deeds, woke_deeds}
+use Rattle.wdf_model.specs.rules.Steps.{deeds, may}
 use Rattle.wdf_model.specs.laws.Agreement.{is_sequence}
 use Rattle.wdf_model.specs.laws.Fits.{all_fit}
 use Rattle.wdf_model.proofs.Counts.{one_or_two}
@@ -64,25 +59,9 @@ use Rattle.wdf_power_laws.proofs.Frames.{Runs}
 use Rattle.wdf_power_laws.proofs.Happens.{found_pass, found_run, not_running}
 use Rattle.wdf_power_laws.proofs.Events.{Kept, sequence_is, staged}
 
--- ---- events by what they may move
-
 -- it is no stage at which queues go up or down
 abbrev pub NoStage : Event → Type 0
 NoStage e = (d : ℕ) → (shows (sign.QueuesUp d) e ≡ false) × (shows (sign.QueuesDown d) e ≡ false)
-
-module _ {A : Type 0} (plan : Plan) (S : State A) (P : Event → Type 0) (calm : (e : Event) → none_moves (deeds plan S e) ≡ true → NoStage e → P e) (starts : (cpu : Cpu) (c : Callback) (o : Handle) (r : Option Handle) → P (event.Start cpu c o r))
-    (ends : (cpu : Cpu) (c : Callback) (o : Handle) (v : Value) → P (event.End cpu c o v)) (stages : (n : Handle) (s : Stage) (j : Option Handle) → P (event.Stage n s j))
-    (asks : (agent : ℕ) (a : Ask) (device : Handle) (answer : Option Handle) → P (event.Posted agent (post.Ask a device) answer)) where
-  posts : (agent : ℕ) (p : Post) (answer : Option Handle) → P (event.Posted agent p answer)
-  posts agent (post.Ask a device) answer = asks agent a device answer
-  posts agent p answer = calm (event.Posted agent p answer) (event_none plan S (event.Posted agent p answer) refl) (λ d. (refl, refl))
-
-  pub by_kind : (e : Event) → P e
-  by_kind (event.Start cpu c o r) = starts cpu c o r
-  by_kind (event.End cpu c o v) = ends cpu c o v
-  by_kind (event.Stage n s j) = stages n s j
-  by_kind (event.Posted agent p answer) = posts agent p answer
-  by_kind e = calm e (event_none plan S e refl) (λ d. (refl, refl))
 
 -- ---- what an event does
 
@@ -224,7 +203,6 @@ module _ {A : Type 0} (plan : Plan) (m : Meaning A) (S : State A) (es : List Eve
   ends_by : (cpu : Cpu) (c : Callback) (o : Handle) (v : Value) (b : Bool) → is_sequence (row_of c).rank ≡ b → IsEnd plan S cpu.0 c o v → AllSound plan (end_deeds plan S cpu.0 c o.id.0 v) S
       → Change plan S (do_deeds plan (end_deeds plan S cpu.0 c o.id.0 v) S) (event.End cpu c o v)
   ends_by cpu c o v false is t sound =
-      let l : Option LockRef = lock_of_callback plan c o.id.0 (declared_in plan S o.id.0) in
       calm_change plan S (event.End cpu c o v) (end_deeds plan S cpu.0 c o.id.0 v) (event_none plan S (event.End cpu c o v) is) sound (λ d. (refl, refl))
   ends_by cpu c o v true is t sound =
       let n : ℕ = nearest_device S.tree o.id.0 in
@@ -267,9 +245,8 @@ module _ {A : Type 0} (plan : Plan) (m : Meaning A) (S : State A) (es : List Eve
   -- ---- all events
 
   pub changes : (e : Event) → may plan m S e ≡ true → Change plan S (do_deeds plan (deeds plan S e) S) e
-  changes = by_kind plan S (λ e. may plan m S e ≡ true → Change plan S (do_deeds plan (deeds plan S e) S) e)
-      (λ e none quiet_ h. calm_change plan S e (deeds plan S e) none (all_sound plan m S e known h) quiet_)
-      (λ cpu c o r h. starts_by plan m S cpu c o r (is_sequence (row_of c).rank) refl (started plan m S cpu c o r h) (all_sound plan m S (event.Start cpu c o r) known h))
-      (λ cpu c o v h. ends_by cpu c o v (is_sequence (row_of c).rank) refl (end_tells plan m S cpu c o v h) (all_sound plan m S (event.End cpu c o v) known h))
-      (λ n s j h. stages n s j (both_right (is_proper plan S n) (may_pass plan S n.id.0 s j) h) (all_sound plan m S (event.Stage n s j) known h))
-      (λ agent a device answer h. asks agent a device answer (event_fits plan m S (event.Posted agent (post.Ask a device) answer) h))
+  changes (event.Start cpu c o r) h = starts_by plan m S cpu c o r (is_sequence (row_of c).rank) refl (started plan m S cpu c o r h) (all_sound plan m S (event.Start cpu c o r) known h)
+  changes (event.End cpu c o v) h = ends_by cpu c o v (is_sequence (row_of c).rank) refl (end_tells plan m S cpu c o v h) (all_sound plan m S (event.End cpu c o v) known h)
+  changes (event.Stage n s j) h = stages n s j (both_right (is_proper plan S n) (may_pass plan S n.id.0 s j) h) (all_sound plan m S (event.Stage n s j) known h)
+  changes (event.Posted agent (post.Ask a device) answer) h = asks agent a device answer (event_fits plan m S (event.Posted agent (post.Ask a device) answer) h)
+  changes e h = calm_change plan S e (deeds plan S e) (event_none plan S e refl) (all_sound plan m S e known h) (λ d. (refl, refl))

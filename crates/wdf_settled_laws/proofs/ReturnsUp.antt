@@ -1,37 +1,30 @@
 -- At each place of a run, a request returns to a power-managed queue only while the queues of its device are up.
-use Rattle.std.proofs.Common.{if◌then◌else◌, ◌≡◌, ◌≢◌, ℕ, Bool, true, false, not, ◌||◌, List, [], ◌∷◌, ◌++◌, inl, inr, Option, Some, None, fold, refl, sym, ap, subst, ◌∙◌}
+use Rattle.std.proofs.Common.{if◌then◌else◌, ◌≡◌, ◌≢◌, ℕ, Bool, true, false, not, ◌||◌, List, [], ◌∷◌, inl, inr, Option, fold, refl, sym, ap, subst, ◌∙◌}
 use Rattle.std.specs.List.{list_all}
 use Rattle.std.proofs.lemmas.Bool.{cases_Bool}
 use Rattle.wdf_base.specs.Meaning.{Meaning}
 use Rattle.wdf_base.specs.declared.ids.Handle.{Handle}
 use Rattle.wdf_base.specs.declared.plan.Plan.{Plan}
-use Rattle.wdf_base.specs.declared.value.Value.{Value}
-use Rattle.wdf_base.specs.declared.call.Callback.{Callback}
-use Rattle.wdf_base.specs.declared.rank.Rank.{Rank}
-use Rattle.wdf_base.specs.declared.rank.Rank.TheVariants as rank
 use Rattle.wdf_base.specs.declared.event.Event.{Event}
 use Rattle.wdf_base.specs.declared.event.Event.TheVariants as event
-use Rattle.wdf_base.specs.declared.event.Post.TheVariants as post
 use Rattle.wdf_base.specs.declared.event.Stage.{Stage}
 use Rattle.wdf_base.specs.declared.event.Stage.TheVariants as stage
 use Rattle.wdf_base.specs.declared.event.Step.TheVariants as step
 use Rattle.wdf_base.specs.declared.value.Status.TheVariants as status
 use Rattle.wdf_base.specs.declared.object.Place.TheVariants as place
-use Rattle.wdf_base.specs.Callbacks.{row_of}
 use Rattle.wdf_model.specs.declared.entries.Request.{Request}
 use Rattle.wdf_model.specs.Tables.{entry}
-use Rattle.wdf_model.specs.Plans.{callback_irql, device_of_queue, is_managed, managed_queues, queues_of}
+use Rattle.wdf_model.specs.Plans.{device_of_queue, is_managed, managed_queues, queues_of}
 use Rattle.wdf_model.specs.parts.Tree.{subtree}
-use Rattle.wdf_model.specs.parts.Locks.{lock_of_callback}
 use Rattle.wdf_model.specs.parts.Requests.{closed_at, is_returning_to, moved, no_request, place_of, request_of}
 use Rattle.wdf_model.specs.parts.Control as control
 use Rattle.wdf_model.specs.parts.Power.{Power, advance_stage, no_device_power}
-use Rattle.wdf_model.specs.State.{State, declared_in, is_powered}
-use Rattle.wdf_model.specs.Ids.{cpu_of, frame_id, irql_of, object_id}
+use Rattle.wdf_model.specs.State.{State, is_powered}
+use Rattle.wdf_model.specs.Ids.{object_id}
 use Rattle.wdf_model.specs.declared.deed.Deed.{Deed}
-use Rattle.wdf_model.specs.declared.deed.Deed.TheVariants.{AdvancePower, AskDevice, DisableInterrupt, EnableInterrupt, EndStep, PopFrame, PushFrame, TakeStep}
+use Rattle.wdf_model.specs.declared.deed.Deed.TheVariants.{AdvancePower, AskDevice, DisableInterrupt, EnableInterrupt, EndStep, PushFrame, TakeStep}
 use Rattle.wdf_model.specs.rules.Deeds.{close_returning, do_deed, do_deeds}
-use Rattle.wdf_model.specs.rules.Starts.{effect, effect_for, end_deeds, end_of_step, new_frame, next_number, release_if_any, stage_deeds, start_deeds, start_effect, take_if_any}
+use Rattle.wdf_model.specs.rules.Starts.{stage_deeds}
 use Rattle.wdf_model.specs.rules.Steps.{deeds, may}
 use Rattle.wdf_model.specs.laws.Fits.{all_fit, fits}
 use Rattle.wdf_model.proofs.Maps.{entry_map, entry_put_other, entry_put_same}
