@@ -38,4 +38,3 @@ both_by device d false undone = refl
 
 pub is_at_device : (d : ℕ) (r : Request) → is_at d (unfinished_device r) ≡ is_unfinished_at d r
 is_at_device d r = both_by r.info.device d (has_arrived r) (not (is_done r.place))
-

@@ -14,9 +14,7 @@ use crate::arrivals::Arrivals;
 use crate::change::{
     NO_REQUEST, answer_of_mark, cancelled, forgotten, marked, moved, unmarked, with_mark,
 };
-use crate::keys::{
-    is_closing, is_due, open_flag, returning_queue, sent_target, unfinished_device,
-};
+use crate::keys::{is_closing, is_due, open_flag, returning_queue, sent_target, unfinished_device};
 use std::alloc::Global;
 use std::marker::Model;
 use wdf_base::{Mark, Memory, ObjectId, Place, Plan, RequestInfo, Status};
