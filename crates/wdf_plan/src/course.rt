@@ -256,7 +256,7 @@ fn turn(lines: &[NumberedLine], from: u32, number: u64) -> (u32, u64)
 
 /// The way to be kept of the innermost of these blocks, in which line `from` stands, with the number of the
 /// statement there. The ways of the blocks round it are kept.
-pub fn detour(
+pub fn kept_way(
     blocks: &[Nest],
     detours: &[Detour],
     number: u64,

@@ -5,7 +5,7 @@ ghost use Rattle.wdf_plan.specs.Fitting.{IsFitAct, IsFitArgument, IsFitNode, IsF
 ghost use Rattle.wdf_plan.specs.Placed.{placed};
 ghost use Rattle.wdf_plan.specs.Scripts as scripts;
 
-use crate::course::{Course, Detour, Nest, detour, nest_at, reach};
+use crate::course::{Course, Detour, Nest, kept_way, nest_at, reach};
 use crate::declaration::Wanted;
 use crate::forms::is_end;
 use crate::names::Names;
@@ -278,7 +278,7 @@ fn with_detour(alloc: Global, round: &Round) -> Result<Vec<Detour>, Memory>
     ensures kept { IfOk result (λ v. scripts.AreDetours 0 round.now.behind.now round.now.lines.now v.items) }
     ensures each { IfOk result (λ v. length v.items ≡ length round.now.behind.now) }
 {
-    let own = detour(
+    let own = kept_way(
         round.behind,
         round.detours,
         round.number + 1,

@@ -1,4 +1,6 @@
+use Rattle.std.proofs.Common.{sym, ◌∙◌}
 use Rattle.wdf_plan.proofs.Courses.{way_stops, way_ends, way_goes_on}
+use Rattle.wdf_plan.proofs.Detours.{shortcut_leads}
 use Rattle.wdf_plan.proofs.course.reach.Goals as goal
 
 pub returns-in-None : goal.returns-in-None
