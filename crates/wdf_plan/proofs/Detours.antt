@@ -1,16 +1,17 @@
 -- The ways that are kept of open blocks: they stay right as blocks open and close, and a way that comes to the front of one leads where it leads.
-use Rattle.std.proofs.Common.{◌≡◌, ℕ, zero, suc, ◌+◌, ◌-◌, ◌*◌, ◌<◌, ◌≤◌, Bool, true, false, ◌&&◌, ◌==◌, cond, List, [], ◌∷◌, ◌++◌, length, take, drop, get_or, Option, Some, None, slice_get, refl, ap, sym, subst, ◌∙◌, arith, add-one, length-append}
+use Rattle.std.proofs.Common.{◌≡◌, ℕ, zero, suc, ◌+◌, ◌-◌, ◌*◌, ◌<◌, ◌≤◌, Bool, true, false, ◌&&◌, ◌==◌, cond, List, [], ◌∷◌, ◌++◌, length, take, drop, get_or, Option, Some, None, Result, Ok, Err, IfOk, slice_get, refl, ap, sym, subst, ◌∙◌, arith, length-append}
 use Rattle.std.specs.Prelude.{nat_lt}
 use Rattle.std.proofs.lemmas.Bool.{and_parts, eqb-true, ltb-true}
-use Rattle.std.proofs.lemmas.List.{take_all, take-append-le, take-take, take_more}
+use Rattle.std.proofs.lemmas.List.{length-take-le, take_all, take-append-le, take-take, take_more}
 use Rattle.wdf_scene.specs.declared.line.NumberedLine.{NumberedLine}
 use Rattle.wdf_scene.specs.declared.line.SceneLine.{SceneLine}
+use Rattle.wdf_scene.specs.declared.line.SceneLine.TheVariants as line
 use Rattle.wdf_plan.specs.declared.course.Course.{Course}
 use Rattle.wdf_plan.specs.declared.course.Detour.{Detour}
 use Rattle.wdf_plan.specs.declared.course.Nest.{Nest}
 use Rattle.wdf_plan.specs.declared.course.Nest.TheVariants as nest
 use Rattle.wdf_plan.specs.Blocks.{depth_behind}
-use Rattle.wdf_plan.specs.Scripts.{reach, onward, outer, IsDetour, AreDetours, known_end, shortcut}
+use Rattle.wdf_plan.specs.Scripts.{reach, outer, blocks_behind, IsDetour, AreDetours, known_end, shortcut}
 use Rattle.wdf_plan.proofs.Passing.{way, leave}
 use Rattle.wdf_plan.proofs.Scans.{depth_less}
 
@@ -19,9 +20,10 @@ use Rattle.wdf_plan.proofs.Scans.{depth_less}
 -- one block more
 pub detours_inner : (x : Nest) (blocks : List Nest) (lines : List NumberedLine) (k : ℕ) (ds : List Detour) → k + length ds ≤ length blocks → AreDetours k blocks lines ds → AreDetours k (blocks ++ x ∷ []) lines ds
 detours_inner x blocks lines k [] h d = tt
-detours_inner x blocks lines k (t ∷ ts) h d =
-    (subst (λ bs. IsDetour bs lines t) (sym (take-append-le (suc k) blocks (x ∷ []) (omega arith))) d.0,
-     detours_inner x blocks lines (suc k) ts (omega arith) d.1)
+detours_inner x blocks lines k (t ∷ ts) h d = (
+  subst (λ bs. IsDetour bs lines t) (sym (take-append-le (suc k) blocks (x ∷ []) (omega arith))) d.0,
+  detours_inner x blocks lines (suc k) ts (omega arith) d.1,
+)
 
 -- one way more
 pub detours_more : (blocks : List Nest) (lines : List NumberedLine) (k : ℕ) (ds : List Detour) (t : Detour) → AreDetours k blocks lines ds → IsDetour (take (suc (k + length ds)) blocks) lines t → AreDetours k blocks lines (ds ++ t ∷ [])
@@ -41,13 +43,60 @@ detours_own blocks lines ds t one d own =
 detours_taken : (blocks : List Nest) (lines : List NumberedLine) (k n m : ℕ) (ds : List Detour) → k + n ≤ m → AreDetours k blocks lines ds → AreDetours k (take m blocks) lines (take n ds)
 detours_taken blocks lines k zero m ds h d = tt
 detours_taken blocks lines k (suc n) m [] h d = tt
-detours_taken blocks lines k (suc n) m (t ∷ ts) h d =
-    (subst (λ bs. IsDetour bs lines t) (sym (take-take (suc k) m blocks (omega arith))) d.0,
-     detours_taken blocks lines (suc k) n m ts (omega arith) d.1)
+detours_taken blocks lines k (suc n) m (t ∷ ts) h d = (
+  subst (λ bs. IsDetour bs lines t) (sym (take-take (suc k) m blocks (omega arith))) d.0,
+  detours_taken blocks lines (suc k) n m ts (omega arith) d.1,
+)
 
 pub detours_outer : (blocks : List Nest) (lines : List NumberedLine) (ds : List Detour) → length ds ≡ length blocks → AreDetours 0 blocks lines ds → AreDetours 0 (outer blocks) lines (take (length ds - 1) ds)
 detours_outer blocks lines ds same d =
     detours_taken blocks lines 0 (length ds - 1) (length blocks - 1) ds (omega arith) d
+
+-- ---- the blocks after a line
+
+pub behind_if : (blocks behind : List Nest) (n number e : ℕ) (form : SceneLine) → behind ≡ blocks_behind blocks n number form → form ≡ line.If e → behind ≡ blocks ++ nest.Branch ∷ []
+unfolding blocks_behind
+behind_if blocks behind n number e form is own = is ∙ rw own refl
+
+pub behind_repeat : (blocks behind : List Nest) (n number e : ℕ) (form : SceneLine) → behind ≡ blocks_behind blocks n number form → form ≡ line.Repeat e → behind ≡ blocks ++ nest.Loop number n ∷ []
+unfolding blocks_behind
+behind_repeat blocks behind n number e form is own = is ∙ rw own refl
+
+pub behind_end : (blocks behind : List Nest) (n number : ℕ) (form : SceneLine) → behind ≡ blocks_behind blocks n number form → form ≡ line.End → behind ≡ outer blocks
+unfolding blocks_behind
+behind_end blocks behind n number form is own = is ∙ rw own refl
+
+pub behind_same : (blocks behind : List Nest) (n number : ℕ) (form : SceneLine) → behind ≡ blocks_behind blocks n number form → ((e : ℕ) → form ≡ line.If e → ⊥) → ((e : ℕ) → form ≡ line.Repeat e → ⊥) → (form ≡ line.End → ⊥) → behind ≡ blocks
+unfolding blocks_behind
+behind_same blocks behind n number (line.If e) is no_if no_repeat no_end = absurd (no_if e refl)
+behind_same blocks behind n number (line.Repeat e) is no_if no_repeat no_end = absurd (no_repeat e refl)
+behind_same blocks behind n number line.End is no_if no_repeat no_end = absurd (no_end refl)
+behind_same blocks behind n number form is no_if no_repeat no_end = is
+
+pub kept_inside : (blocks behind : List Nest) (x : Nest) (lines : List NumberedLine) (ds : List Detour) → behind ≡ blocks ++ x ∷ [] → length ds ≡ length blocks → AreDetours 0 blocks lines ds → AreDetours 0 behind lines ds
+kept_inside blocks behind x lines ds is each d =
+    rw is (detours_inner x blocks lines 0 ds (omega (arith, each)) d)
+
+pub one_inside : (blocks behind : List Nest) (x : Nest) (ds : List Detour) → behind ≡ blocks ++ x ∷ [] → length ds ≡ length blocks → length behind ≡ length ds + 1
+one_inside blocks behind x ds is each =
+    let long : length (blocks ++ x ∷ []) ≡ length blocks + 1 = length-append blocks (x ∷ []) in
+    rw is (omega (arith, long, each))
+
+pub kept_outside : {V E : Type 0} (items : V → List Detour) (blocks behind : List Nest) (lines : List NumberedLine) (ds : List Detour) (r : Result V E) → behind ≡ outer blocks → length ds ≡ length blocks → AreDetours 0 blocks lines ds → IfOk r (λ v. items v ≡ take (length ds - 1) ds) → IfOk r (λ v. AreDetours 0 behind lines (items v))
+kept_outside items blocks behind lines ds (Ok v) is each d e =
+    rw (is, e) (detours_outer blocks lines ds each d)
+kept_outside items blocks behind lines ds (Err x) is each d e = tt
+
+pub each_outside : {V E : Type 0} (items : V → List Detour) (blocks behind : List Nest) (ds : List Detour) (r : Result V E) → behind ≡ outer blocks → length ds ≡ length blocks → IfOk r (λ v. items v ≡ take (length ds - 1) ds) → IfOk r (λ v. length (items v) ≡ length behind)
+each_outside items blocks behind ds (Ok v) is each e =
+    let a : length (take (length ds - 1) ds) ≡ length ds - 1 = length-take-le (length ds - 1) ds (omega arith) in
+    let b : length (take (length blocks - 1) blocks) ≡ length blocks - 1 = length-take-le (length blocks - 1) blocks (omega arith) in
+    rw (is, e) (omega (arith, a, b, each))
+each_outside items blocks behind ds (Err x) is each e = tt
+
+pub kept_same : {V E : Type 0} (items : V → List Detour) (blocks behind : List Nest) (lines : List NumberedLine) (ds : List Detour) (r : Result V E) → behind ≡ blocks → length ds ≡ length blocks → AreDetours 0 blocks lines ds → IfOk r (λ v. items v ≡ ds) → IfOk r (λ v. AreDetours 0 behind lines (items v)) × IfOk r (λ v. length (items v) ≡ length behind)
+kept_same items blocks behind lines ds (Ok v) is each d e = (rw (is, e) d, rw (is, e) each)
+kept_same items blocks behind lines ds (Err x) is each d e = (tt, tt)
 
 -- ---- the end of a way that is kept
 
@@ -71,7 +120,7 @@ outside blocks m (suc n) number ls h =
     let far : m + suc n ≡ m + n + 1 = omega arith in
     let one : suc n ≡ n + 1 = omega arith in
     let more : take (m + suc n) blocks ≡ take (m + n) blocks ++ last ∷ [] =
-        ap (λ i. take i blocks) far ∙ take_more blocks (m + n) nest.Branch (omega arith) in
+    ap (λ i. take i blocks) far ∙ take_more blocks (m + n) nest.Branch (omega arith) in
     ap (λ bs. reach bs (way 0 (suc n) number) ls) more
     ∙ (ap (λ i. reach (take (m + n) blocks ++ last ∷ []) (way 0 i number) ls) one
     ∙ (leave (take (m + n) blocks) last (way 0 n number) ls ∙ outside blocks m n number ls (omega arith)))

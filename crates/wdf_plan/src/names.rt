@@ -125,9 +125,7 @@ impl Names {
             wanted,
         });
         match known {
-            Some(at) => {
-                is_wanted_at(self.declarations.as_slice(), *at as usize, name, wanted)
-            }
+            Some(at) => { is_wanted_at(self.declarations.as_slice(), *at as usize, name, wanted) }
             None => false,
         }
     }
@@ -143,11 +141,7 @@ fn is_wanted_at(declarations: &[Declaration], at: usize, name: &Name, wanted: Wa
 }
 
 // Keeps the place of a declaration for each use that it has.
-fn learn(
-    known: &mut IndexMap<Use, u32>,
-    declaration: &Declaration,
-    at: u32,
-) -> Result<(), Memory> {
+fn learn(known: &mut IndexMap<Use, u32>, declaration: &Declaration, at: u32) -> Result<(), Memory> {
     let name = declaration.name;
     let [first, second, third] = declaration.uses();
     known.insert(

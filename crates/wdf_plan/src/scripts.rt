@@ -318,7 +318,8 @@ pub fn detours_behind(
     ensures each { IfOk result (λ v. length v.items ≡ length round.now.behind.now) }
 {
     match &line.form {
-        SceneLine::If { .. } | SceneLine::Repeat { .. } => with_detour(alloc, round),
+        SceneLine::If { .. } => with_detour(alloc, round),
+        SceneLine::Repeat { .. } => with_detour(alloc, round),
         SceneLine::End => copied_detours(alloc, outer_detours(round.detours)),
         _ => copied_detours(alloc, round.detours),
     }
