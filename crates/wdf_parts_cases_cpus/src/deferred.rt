@@ -26,7 +26,7 @@ fn lists(dpcs: &Dpcs, cpu: Cpu, first: Option<ObjectId>, second: Option<ObjectId
     let len = dpcs.len(cpu);
     let at_first = if 0 < len { Some(dpcs.at(cpu, 0)) } else { None };
     let at_second = if 1 < len { Some(dpcs.at(cpu, 1)) } else { None };
-    len < 3 && dpcs.head(cpu) == first && at_first == first && at_second == second
+    len < 3 && dpcs.dpc_head(cpu) == first && at_first == first && at_second == second
 }
 
 /// A DPC is queued last on the processor that queues it, once, and leaves its list at its start or
@@ -46,8 +46,8 @@ fn a_dpc_is_queued_once(rt: HostRuntime) -> Result<(), Fail> {
     assert!(rt; !dpcs.is_on(far, ONE));
     assert!(rt; dpcs.cancel(ONE));
     assert!(rt; !dpcs.cancel(ONE));
-    assert!(rt; !dpcs.is_queued(ONE));
-    assert!(rt; dpcs.is_queued(OTHER));
+    assert!(rt; !dpcs.is_dpc_queued(ONE));
+    assert!(rt; dpcs.is_dpc_queued(OTHER));
     assert_eq!(rt; dpcs.take(cpu), Some(OTHER));
     assert!(rt; lists(&dpcs, cpu, None, None));
     assert!(rt; lists(&dpcs, far, Some(THIRD), None));
@@ -67,8 +67,8 @@ fn a_work_item_is_queued_once(rt: HostRuntime) -> Result<(), Fail> {
     assert_eq!(rt; items.at(0), OTHER);
     assert_eq!(rt; items.at(1), ONE);
     assert!(rt; items.cancel(OTHER));
-    assert!(rt; !items.queued(OTHER));
-    assert!(rt; items.queued(ONE));
+    assert!(rt; !items.is_work_queued(OTHER));
+    assert!(rt; items.is_work_queued(ONE));
     Ok(())
 }
 
@@ -83,7 +83,7 @@ fn fire(timers: &mut Timers, o: ObjectId, now: u64, period: u64) -> bool
     requires now { now < 1000 }
     requires period { period < 1000 }
 {
-    let due = timers.due(o, now);
+    let due = timers.timer_due(o, now);
     if due {
         timers.fired(o, period);
     }
@@ -95,21 +95,21 @@ fn fire(timers: &mut Timers, o: ObjectId, now: u64, period: u64) -> bool
 #[test]
 fn a_timer_is_due_at_its_tick(rt: HostRuntime) -> Result<(), Fail> {
     let mut timers = no_timers(rt.alloc())?;
-    assert_eq!(rt; timers.next_time(), None);
+    assert_eq!(rt; timers.next_timer(), None);
     assert!(rt; !timers.start(ONE, 3, 10));
-    assert!(rt; !timers.due(ONE, 12));
-    assert!(rt; timers.any_later(12));
-    assert!(rt; timers.due(ONE, 13));
-    assert!(rt; !timers.any_later(13));
+    assert!(rt; !timers.timer_due(ONE, 12));
+    assert!(rt; timers.any_later_timer(12));
+    assert!(rt; timers.timer_due(ONE, 13));
+    assert!(rt; !timers.any_later_timer(13));
     assert!(rt; timers.start(ONE, 4, 2));
-    assert!(rt; !timers.any_later(6));
+    assert!(rt; !timers.any_later_timer(6));
     assert!(rt; !timers.start(OTHER, 4, 5));
-    assert_eq!(rt; timers.next_time(), Some(6));
-    assert!(rt; timers.any_later(8));
+    assert_eq!(rt; timers.next_timer(), Some(6));
+    assert!(rt; timers.any_later_timer(8));
     assert!(rt; !fire(&mut timers, ONE, 5, 0));
     assert!(rt; fire(&mut timers, ONE, 6, 0));
-    assert!(rt; !timers.is_queued(ONE));
-    assert_eq!(rt; timers.next_time(), Some(9));
+    assert!(rt; !timers.is_timer_queued(ONE));
+    assert_eq!(rt; timers.next_timer(), Some(9));
     assert!(rt; timers.stop(OTHER));
     assert!(rt; !timers.stop(OTHER));
     assert_eq!(rt; timers.len(), 0);
@@ -124,11 +124,11 @@ fn a_periodic_timer_stays(rt: HostRuntime) -> Result<(), Fail> {
     assert!(rt; !timers.start(ONE, 0, 2));
     assert!(rt; !timers.start(OTHER, 5, u64::MAX));
     assert!(rt; fire(&mut timers, ONE, 4, 7));
-    assert!(rt; timers.is_queued(ONE));
-    assert_eq!(rt; timers.next_time(), Some(9));
+    assert!(rt; timers.is_timer_queued(ONE));
+    assert_eq!(rt; timers.next_timer(), Some(9));
     assert!(rt; timers.stop(ONE));
-    assert!(rt; timers.any_later(1_000_004));
-    assert!(rt; !timers.any_later(1_000_005));
+    assert!(rt; timers.any_later_timer(1_000_004));
+    assert!(rt; !timers.any_later_timer(1_000_005));
     assert_eq!(rt; timers.len(), 1);
     let timed = timers.at(0);
     assert_eq!(rt; timed.timer, OTHER);

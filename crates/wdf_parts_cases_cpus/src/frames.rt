@@ -27,18 +27,18 @@ fn frames_are_counted_on_their_object(rt: HostRuntime) -> Result<(), Fail> {
     assert!(rt; cpus.nobody_on(TIMER));
     assert!(rt; push(&mut cpus, 0, 3, frame(Callback::EvtTimerFunc, TIMER), 2));
     assert!(rt; push(&mut cpus, 1, 5, frame(Callback::EvtTimerFunc, TIMER), 2));
-    assert_eq!(rt; cpus.on(TIMER), 2);
+    assert_eq!(rt; cpus.frames_on(TIMER), 2);
     assert!(rt; cpus.is_running(Callback::EvtTimerFunc, DEVICE));
     assert!(rt; !cpus.is_running(Callback::EvtDpcFunc, DEVICE));
     park(&mut cpus, 0);
-    assert_eq!(rt; cpus.on(TIMER), 2);
+    assert_eq!(rt; cpus.frames_on(TIMER), 2);
     let ended = pop(&mut cpus, 1);
     assert_eq!(rt; ended, Some(frame(Callback::EvtTimerFunc, TIMER)));
     assert_eq!(rt; pop(&mut cpus, 1), None);
-    assert_eq!(rt; cpus.on(TIMER), 1);
+    assert_eq!(rt; cpus.frames_on(TIMER), 1);
     assert!(rt; cpus.is_live(FrameId(3)));
     assert!(rt; !cpus.is_live(FrameId(5)));
-    assert_eq!(rt; cpus.on(ObjectId(4_000_000)), 0);
+    assert_eq!(rt; cpus.frames_on(ObjectId(4_000_000)), 0);
     Ok(())
 }
 

@@ -18,7 +18,7 @@ fn a_lock_is_held_until_it_is_released(rt: HostRuntime) -> Result<(), Fail> {
         (SCOPE, 1, false),
         (LockRef::DeviceScope(ObjectId(7)), 2, true),
     ] {
-        assert!(rt; locks.is_free(lock));
+        assert!(rt; locks.is_free_lock(lock));
         assert!(rt; take(&mut locks, lock, f, by_call));
         assert_eq!(rt; locks.holder(lock), Some(FrameId(f)));
         assert!(rt; !locks.is_free_if_any(Some(lock)));
@@ -41,7 +41,7 @@ fn a_lock_is_held_until_it_is_released(rt: HostRuntime) -> Result<(), Fail> {
 
 /// A frame takes a lock, if it may; whether it may.
 fn take(locks: &mut Locks, lock: LockRef, f: u32, by_call: bool) -> bool {
-    let may = locks.is_free(lock) && f < 9 && locks.held_len() < 9;
+    let may = locks.is_free_lock(lock) && f < 9 && locks.held_len() < 9;
     if may {
         locks.take(lock, FrameId(f), by_call);
     }

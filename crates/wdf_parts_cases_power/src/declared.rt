@@ -2,7 +2,9 @@
 use crate::plans::*;
 use std::test::Fail;
 use wdf_base::*;
-use wdf_declared::{declares, device_of, interrupt_of, queue_of};
+use wdf_declared::{
+    class_at, declared_at, declares, device_of, interrupt_of, name_of_class, queue_of, target_of,
+};
 
 /// The ids of the driver object, of what is declared after it, and of nothing.
 #[test]
@@ -28,6 +30,30 @@ fn ids_say_what_is_declared(rt: HostRuntime) -> Result<(), Fail> {
             interrupt
         );
         assert_eq!(rt; queue_of(&interrupts, o), None);
+    }
+    Ok(())
+}
+
+/// Targets by their ids, and classes by their numbers.
+#[test]
+fn targets_and_classes_are_found(rt: HostRuntime) -> Result<(), Fail> {
+    let plan = with_targets(rt.alloc())?;
+    for (id, target) in [
+        (0, None),
+        (1, None),
+        (2, None),
+        (3, Some(3)),
+        (4, Some(4)),
+        (5, None),
+    ] {
+        let o = ObjectId(id);
+        assert_eq!(rt; target_of(&plan, o).map(|info| info.name), target);
+        assert_eq!(rt; declared_at(&plan, o).is_some(), 0 < id && id < 5);
+    }
+    let plan = with_classes(rt.alloc())?;
+    for (class, name) in [(0, 2), (1, 3), (2, 0)] {
+        assert_eq!(rt; name_of_class(&plan, class), name);
+        assert_eq!(rt; class_at(&plan, class).is_some(), name > 0);
     }
     Ok(())
 }

@@ -113,3 +113,16 @@ pub fn with_targets(alloc: Global) -> Result<Plan, Memory>
     builder.declared(target(4, 1))?;
     Ok(builder.finish())
 }
+
+/// A plan with two classes, and no declared object but the driver object.
+pub fn with_classes(alloc: Global) -> Result<Plan, Memory> {
+    let mut builder = PlanBuilder::new(alloc, 1, 100, 16);
+    builder.declared(Declared::Driver)?;
+    for name in 2..4 {
+        builder.class(ClassInfo::Plain {
+            name,
+            kind: PlainKind::Object,
+        })?;
+    }
+    Ok(builder.finish())
+}

@@ -40,10 +40,10 @@ fn check(rt: &impl Abort, power: &Power, unsettled: u32, due: bool) {
 fn a_working_device_has_power(rt: HostRuntime) -> Result<(), Fail> {
     let plan = with_queues(rt.alloc())?;
     let power = Power::make(rt.alloc(), &plan)?;
-    assert!(rt; power.up(DEVICE));
-    assert!(rt; power.hardware(DEVICE));
-    assert!(rt; !power.up(DRIVER));
-    assert!(rt; !power.up(ObjectId(77)));
+    assert!(rt; power.queues_up(DEVICE));
+    assert!(rt; power.has_hardware(DEVICE));
+    assert!(rt; !power.queues_up(DRIVER));
+    assert!(rt; !power.queues_up(ObjectId(77)));
     check(&rt, &power, 0, false);
     Ok(())
 }
@@ -62,8 +62,8 @@ fn hardware_and_queues_come_and_go(rt: HostRuntime) -> Result<(), Fail> {
     ];
     for (stage, up, hardware) in stages {
         pass(&mut power, stage);
-        assert_eq!(rt; power.up(DEVICE), up);
-        assert_eq!(rt; power.hardware(DEVICE), hardware);
+        assert_eq!(rt; power.queues_up(DEVICE), up);
+        assert_eq!(rt; power.has_hardware(DEVICE), hardware);
     }
     Ok(())
 }
@@ -131,8 +131,8 @@ fn devices_are_apart(rt: HostRuntime) -> Result<(), Fail> {
     assert!(rt; power.stop_was_asked(FAR));
     assert!(rt; !power.resume_due(FAR));
     assert!(rt; !power.any_resume_due(OTHER_DEVICE));
-    assert!(rt; !power.up(OTHER_DEVICE));
-    assert!(rt; !power.hardware(OTHER_DEVICE));
+    assert!(rt; !power.queues_up(OTHER_DEVICE));
+    assert!(rt; !power.has_hardware(OTHER_DEVICE));
     Ok(())
 }
 

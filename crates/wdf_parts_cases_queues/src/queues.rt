@@ -52,7 +52,7 @@ fn with_three(alloc: Global) -> Result<Queues, Memory>
 fn requests_wait_in_order(rt: HostRuntime) -> Result<(), Fail> {
     let mut queues = with_three(rt.alloc())?;
     assert!(rt; queues.is_empty(PARALLEL));
-    assert_eq!(rt; queues.head(PARALLEL), None);
+    assert_eq!(rt; queues.front(PARALLEL), None);
     requeue(&mut queues, MANUAL, 13);
     assert_eq!(rt; queues.len(MANUAL), 4);
     for (k, id) in [(0, 13), (1, 10), (2, 11), (3, 12)] {
@@ -76,7 +76,7 @@ fn a_cancelled_request_leaves(rt: HostRuntime) -> Result<(), Fail> {
     enter(&mut queues, PARALLEL, 11);
     queues.clear(MANUAL);
     assert!(rt; queues.is_empty(MANUAL));
-    assert_eq!(rt; queues.head(PARALLEL), Some(ObjectId(11)));
+    assert_eq!(rt; queues.front(PARALLEL), Some(ObjectId(11)));
     Ok(())
 }
 
@@ -86,18 +86,18 @@ fn a_cancelled_request_leaves(rt: HostRuntime) -> Result<(), Fail> {
 fn what_is_held_counts(rt: HostRuntime) -> Result<(), Fail> {
     let mut queues = opening(rt.alloc())?;
     enter(&mut queues, SEQUENTIAL, 10);
-    assert!(rt; queues.free(SEQUENTIAL));
+    assert!(rt; queues.is_free(SEQUENTIAL));
     assert_eq!(rt; queues.take(SEQUENTIAL), Some(ObjectId(10)));
-    assert_eq!(rt; queues.held(SEQUENTIAL), 1);
-    assert!(rt; !queues.free(SEQUENTIAL));
+    assert_eq!(rt; queues.held_count(SEQUENTIAL), 1);
+    assert!(rt; !queues.is_free(SEQUENTIAL));
     assert_eq!(rt; queues.take(SEQUENTIAL), None);
-    assert_eq!(rt; queues.held(SEQUENTIAL), 1);
+    assert_eq!(rt; queues.held_count(SEQUENTIAL), 1);
     queues.let_go(SEQUENTIAL);
-    assert!(rt; queues.free(SEQUENTIAL));
+    assert!(rt; queues.is_free(SEQUENTIAL));
     queues.hold(PARALLEL);
-    assert!(rt; queues.free(PARALLEL));
+    assert!(rt; queues.is_free(PARALLEL));
     queues.hold(PARALLEL);
-    assert!(rt; !queues.free(PARALLEL));
-    assert!(rt; !queues.free(MANUAL));
+    assert!(rt; !queues.is_free(PARALLEL));
+    assert!(rt; !queues.is_free(MANUAL));
     Ok(())
 }

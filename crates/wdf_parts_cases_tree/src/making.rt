@@ -64,11 +64,11 @@ fn parent_that_is_deleted_comes_before_full(rt: HostRuntime) -> Result<(), Fail>
 fn cells_and_callbacks_are_kept(rt: HostRuntime) -> Result<(), Fail> {
     let plan = plan(rt.alloc(), 8)?;
     let mut tree = opening(rt.alloc(), &plan)?;
-    assert_eq!(rt; tree.get(QUEUE, 7), Value::Num(0));
+    assert_eq!(rt; tree.cell_of(QUEUE, 7), Value::Num(0));
     set_last(&mut tree, QUEUE, Value::Stat(Status::Cancelled));
-    assert_eq!(rt; tree.get(QUEUE, 7), Value::Stat(Status::Cancelled));
-    assert_eq!(rt; tree.get(QUEUE, 6), Value::Num(0));
-    assert_eq!(rt; tree.get(DEVICE, 7), Value::Num(0));
+    assert_eq!(rt; tree.cell_of(QUEUE, 7), Value::Stat(Status::Cancelled));
+    assert_eq!(rt; tree.cell_of(QUEUE, 6), Value::Num(0));
+    assert_eq!(rt; tree.cell_of(DEVICE, 7), Value::Num(0));
     start(&mut tree, DEVICE, Callback::EvtCleanupCallback);
     assert!(rt; tree.started(DEVICE, Callback::EvtCleanupCallback));
     assert!(rt; !tree.started(DEVICE, Callback::EvtDestroyCallback));
