@@ -48,6 +48,7 @@ module _ {A : Type 0} (plan : Plan) (S : State A) (q from at end : ℕ) (none : 
   pub no_cancel_before : (x : ℕ) → find (nat_le at) (due_requests S.requests) ≡ Some x → (at ≤ x) × NoneFrom (is_due_at plan S rank.Cancel q) from x
   no_cancel_before x h =
       let found = sym (find_filter (nat_le at) (λ r. is_due (mark_of S.requests r)) (ids_of S.requests.all)) ∙ h in
-      let k : First (λ o. nat_le at o && is_due (mark_of S.requests o)) 0 (length S.requests.all) x = first_in (λ o. nat_le at o && is_due (mark_of S.requests o)) 0 (length S.requests.all) x found in
-      (leb-true at x (left_true (nat_le at x) (is_due (mark_of S.requests x)) k.passes),
-      further x (λ p after below. right_false (nat_le at p) (is_due (mark_of S.requests p)) (le-leb at p after) (k.before p (omega arith) below)))
+      let k : First (λ o. nat_le at o && is_due (mark_of S.requests o)) 0 (length S.requests.all) x = first_in (λ o. nat_le at o && is_due (mark_of S.requests o)) 0 (length S.requests.all) x found in (
+        leb-true at x (left_true (nat_le at x) (is_due (mark_of S.requests x)) k.passes),
+        further x (λ p after below. right_false (nat_le at p) (is_due (mark_of S.requests p)) (le-leb at p after) (k.before p (omega arith) below)),
+      )

@@ -11,16 +11,6 @@ use wdf_base::{
 use wdf_laws::{Taking, Told};
 use wdf_same::{same_call_kind, same_stage};
 
-/// Whether an id is this one.
-pub fn is_id(x: u32, id: Option<u32>) -> bool
-    ensures { result ≡ told.is_id x id }
-{
-    match id {
-        Some(y) => y == x,
-        None => false,
-    }
-}
-
 fn id_in(handle: Option<Handle>) -> Option<u32>
     ensures { result ≡ told.id_in handle }
 {
@@ -81,6 +71,7 @@ fn where_so(test: bool, id: Option<u32>) -> Option<u32>
     if test { id } else { None }
 }
 
+/// The object that a call of this kind names first.
 pub fn called(kind: CallKind, event: &Event) -> Option<u32>
     ensures { result ≡ told.called kind event.now }
 {
@@ -93,6 +84,7 @@ pub fn called(kind: CallKind, event: &Event) -> Option<u32>
     }
 }
 
+/// The same, where the call answers SUCCESS.
 pub fn called_well(kind: CallKind, event: &Event) -> Option<u32>
     ensures { result ≡ told.called_well kind event.now }
 {
@@ -133,6 +125,7 @@ pub fn begun_for(kind: Callback, event: &Event) -> Option<u32>
     }
 }
 
+/// The object on which this callback ends, with SUCCESS or without.
 pub fn ended_on(kind: Callback, well: bool, event: &Event) -> Option<u32>
     ensures { result ≡ told.ended_on kind well event.now }
 {
@@ -165,6 +158,7 @@ pub fn passed(kind: Stage, event: &Event) -> Option<u32>
     }
 }
 
+/// The interrupt for which this stage is passed.
 pub fn passed_for(kind: Stage, event: &Event) -> Option<u32>
     ensures { result ≡ told.passed_for kind event.now }
 {
@@ -227,6 +221,7 @@ fn cancelled_in(post: &Post, answer: Option<Handle>) -> Option<u32>
     }
 }
 
+/// The request that an app cancels.
 pub fn cancel_posted(event: &Event) -> Option<u32>
     ensures { result ≡ told.cancel_posted event.now }
 {
@@ -326,6 +321,7 @@ fn is_giving_up(call: &Call, answer: Value) -> bool
     }
 }
 
+/// The request that the driver gives up, or that the framework completes.
 pub fn given_up(event: &Event) -> Option<u32>
     ensures { result ≡ told.given_up event.now }
 {
@@ -349,6 +345,7 @@ fn is_heading(call: &Call) -> bool
     }
 }
 
+/// The request that enters a queue at its head.
 pub fn headed(event: &Event) -> Option<u32>
     ensures { result ≡ told.headed event.now }
 {
@@ -358,6 +355,7 @@ pub fn headed(event: &Event) -> Option<u32>
     }
 }
 
+/// The request that enters a queue at its tail: one that was forwarded, or one that arrives.
 pub fn tailed(event: &Event) -> Option<u32>
     ensures { result ≡ told.tailed event.now }
 {
@@ -371,6 +369,7 @@ pub fn tailed(event: &Event) -> Option<u32>
     }
 }
 
+/// The request that is acknowledged and kept while its device loses power.
 pub fn acknowledged(event: &Event) -> Option<u32>
     ensures { result ≡ told.acknowledged event.now }
 {
@@ -393,6 +392,7 @@ fn is_undoing(call: &Call, answer: Value) -> bool
     }
 }
 
+/// The request whose mark as cancelable is undone: it is unmarked, sent, given up or completed.
 pub fn mark_undone(event: &Event) -> Option<u32>
     ensures { result ≡ told.mark_undone event.now }
 {
@@ -406,6 +406,7 @@ pub fn mark_undone(event: &Event) -> Option<u32>
     }
 }
 
+/// The object whose cleanup an event is.
 pub fn cleaned(event: &Event) -> Option<u32>
     ensures { result ≡ told.cleaned event.now }
 {
