@@ -7,8 +7,9 @@ Not part of the gate. Prove and build the program first (`rt ci`), then from the
 
 Each scenario fills limits: 4,096 statements, 4,096 posts, 256 apps, 256 classes, 64 registers, 4,096
 objects. `check` reads, parses, resolves and prints it; with an open block at its end it is read and parsed
-alone. So the difference says what `resolve` and `print` take. The last scenarios are refused at their end, after a search through them. Figures are of
-the best of five runs: seconds of the processor, and the most memory of the process in MB.
+alone. So the difference says what `resolve` and `print` take. The last scenarios are refused at their end,
+after a search through them. Figures are of the best of five runs: seconds of the processor, and the most
+memory of the process in MB.
 """
 
 import sys
