@@ -1,5 +1,5 @@
 -- The groups that can have places: one more of the loop, how many there are, and that the others offer nothing.
-use Rattle.std.proofs.Common.{◌≡◌, ℕ, zero, suc, ◌+◌, ◌-◌, ◌<◌, ◌≤◌, Bool, true, false, List, [], ◌∷◌, ◌++◌, filter, get_or, length, take, refl, sym, ap, ◌∙◌, arith}
+use Rattle.std.proofs.Common.{◌≡◌, ℕ, ◌+◌, ◌<◌, ◌≤◌, Bool, true, false, List, [], ◌∷◌, ◌++◌, filter, get_or, length, take, refl, sym, ap, ◌∙◌, arith}
 use Rattle.std.proofs.lemmas.List.{take_more}
 use Rattle.std.proofs.lemmas.List.Elements.{filter-append}
 use Rattle.wdf_base.specs.Meaning.{Meaning}
@@ -32,12 +32,6 @@ module _ (p : Group → Bool) (gs : List Group) (k : ℕ) (g : Group) (kept : Li
   next_left e =
       let this : filter p (get_or gs k g ∷ []) ≡ [] = rw e refl in
       so_far ∙ sym (ap (filter p) (take_more gs k g there) ∙ filter-append p (take k gs) (get_or gs k g ∷ []) ∙ ap (λ xs. filter p (take k gs) ++ xs) this ∙ append_nothing (filter p (take k gs)))
-
-pub all_taken : (gs : List Group) (k : ℕ) → length gs ≤ k → take k gs ≡ gs
-all_taken [] zero h = refl
-all_taken [] (suc k) h = refl
-all_taken (g ∷ gs) zero h = absurd (omega arith)
-all_taken (g ∷ gs) (suc k) h = ap (λ xs. g ∷ xs) (all_taken gs k (omega arith))
 
 -- ---- how many there are
 
