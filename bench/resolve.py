@@ -7,10 +7,10 @@ Not part of the gate. Prove and build the program first (`rt ci`), then from the
 
 Each scenario fills limits: 4,096 statements, 4,096 posts, 256 apps, 256 classes, 64 registers, 4,096
 objects. `check` reads, parses, resolves and prints it; with an open block at its end it is read and parsed
-alone. So the difference says what `resolve` and `print` take. The growing scenarios are of shapes that ask for a long search, each at
-several sizes: what is told of each is by which power of the text's length the time grows that `check` takes beyond that of the
-smallest scenario. It should be at most 1.2. Figures are of the best of five runs: seconds of the processor, and the most memory
-of the process in MB.
+alone. So the difference says what `resolve` and `print` take. The growing scenarios are of shapes that ask for a
+long search, each at several sizes. A row says by which power of the text's length the time grows that `check`
+takes beyond that of the smallest scenario; it should be at most 1.2. Figures are of the best of five runs:
+seconds of the processor, and the most memory of the process in MB.
 """
 
 import math

@@ -1,12 +1,12 @@
 #!/usr/bin/env python3
 """Gives the built program hostile texts, and says which of them it doesn't answer as it should.
 
-    python3 tools/hostile.py [--jobs N] [--program PROGRAM] FROM TO
+    python3 tools/hostile.py [--jobs N] [--program PROGRAM] [--keep FOLDER] FROM TO
 
 The texts are: every front of each scenario in examples/ and every change of one of its bytes (to a byte that
 the seed picks), and for each seed from FROM to TO random tokens in random order and random lines of the examples;
 and, once, lines repeated up to each limit and one past it, and a text of the greatest length of one line, of `(`,
-of `else`, of names that differ in their last letter, of one comment, of arbitrary bytes, of a name that is declared
+of `else`, of names that differ in their last digits, of one comment, of arbitrary bytes, of a name that is declared
 again and again and used, and texts that ask for the same long search again and again.
 
 Each text must be answered by `check` and by `order` with a status of the table in README, in one line where it is
