@@ -25,7 +25,10 @@ use Rattle.wdf_model.specs.parts.Queues.{waiting_in}
 use Rattle.wdf_model.specs.parts.Control as control
 use Rattle.wdf_model.specs.parts.Targets.{is_forgotten}
 use Rattle.wdf_model.specs.State.{State, withdrawn_place}
-use Rattle.wdf_model.specs.rules.Deeds.{Deed, Make_request, Arrive, Count_arrival, Ask_deletion, End_life, Present, Receive, Requeue, Forward, Give_back, Withdraw, Mark_request, Unmark_request, Cancel_request, Take_cancel, Send_request, Finish_sending, Come_back, Complete_request, Purge_queue, Close_returning, Close_device, arrive_at, close_queue, close_returning, do_deed, do_deeds, finished_at, give_up, queued, withdraw}
+use Rattle.wdf_model.specs.Ids.{object_id}
+use Rattle.wdf_model.specs.declared.deed.Deed.{Deed}
+use Rattle.wdf_model.specs.declared.deed.Deed.TheVariants.{MakeRequest, Arrive, CountArrival, AskDeletion, EndLife, Present, Receive, Requeue, Forward, GiveBack, Withdraw, MarkRequest, UnmarkRequest, CancelRequest, TakeCancel, SendRequest, FinishSending, ComeBack, CompleteRequest, PurgeQueue, CloseReturning, CloseDevice}
+use Rattle.wdf_model.specs.rules.Deeds.{arrive_at, close_queue, close_returning, do_deed, do_deeds, finished_at, give_up, queued, withdraw}
 use Rattle.wdf_model.specs.rules.Posts.{arrival_info, arrival_place}
 use Rattle.wdf_model.specs.rules.Steps.{deeds}
 use Rattle.wdf_model.specs.rules.Ready.{IsRunOf, state_after}
@@ -178,28 +181,28 @@ all_closed (q ∷ qs) S = stay_then S.requests (close_queue S q).requests (fold 
 
 numbers_by : {A : Type 0} (plan : Plan) (d : Deed) (S : State A) → is_arrival d ≡ false → NumbersStay S.requests (do_deed plan d S).requests
 numbers_by plan (Arrive device info p) S h = absurd (let z : ⊥ = cc in z)
-numbers_by plan (Make_request class parent) S h = makes S.requests (next_id S.tree) (nearest_device S.tree parent)
-numbers_by plan (Ask_deletion o) S h = stay_same _ _ (asks_all requests_of (λ S T D W U. refl) (subtree S.tree o) S)
-numbers_by plan (End_life o) S h = forgets S.requests o
-numbers_by plan (Present q r) S h = moves S.requests r place.Owned
-numbers_by plan (Receive q r) S h = moves S.requests r place.Owned
-numbers_by plan (Requeue r q) S h = then_moves _ _ r (queued q) (given requests_of (λ S Q P. refl) S r)
-numbers_by plan (Forward r q) S h = then_moves _ _ r (queued q) (given requests_of (λ S Q P. refl) S r)
-numbers_by plan (Give_back r q) S h = then_cancels _ _ r (withdrawn_place plan (give_up S r) q r) (given requests_of (λ S Q P. refl) S r)
-numbers_by plan (Withdraw q r) S h = then_cancels S.requests S.requests r (withdrawn_place plan S q r) refl
-numbers_by plan (Mark_request r) S h = let k = marked_same (request_of S.requests r) in one_changes S.requests r marked k.0 k.1
-numbers_by plan (Unmark_request r) S h = let k = unmarked_by (request_of S.requests r) (is_marked (request_of S.requests r).info.mark) in one_changes S.requests r unmarked k.0 k.1
-numbers_by plan (Cancel_request r) S h = cancels S.requests r
-numbers_by plan (Take_cancel r) S h = one_changes S.requests r (with_mark marks.Taken) refl refl
-numbers_by plan (Send_request r t forget) S h = then_moves _ _ r (place.Sent (record { 0 = t })) (given_if requests_of (λ S Q P. refl) S forget r)
-numbers_by plan (Finish_sending r s) S h = moves S.requests r (finished_at (is_forgotten S.targets r) s (place_of S.requests r))
-numbers_by plan (Come_back r) S h = moves S.requests r place.Owned
-numbers_by plan (Complete_request r) S h =
-    stay_then S.requests (requests.complete S.requests r) (do_deed plan (Complete_request r) S).requests (moves S.requests r place.Done)
-    (stay_same (requests.complete S.requests r) (do_deed plan (Complete_request r) S).requests (asks_all requests_of (λ S T D W U. refl) (subtree (give_up S r).tree r) (record (give_up S r) { requests = requests.complete S.requests r })))
-numbers_by plan (Purge_queue q) S h = all_withdrawn plan q (waiting_in S.queues q) (record S { control = control.set_mode S.control q mode.Purged })
-numbers_by plan (Close_returning d) S h = all_returning (managed_queues plan d) S
-numbers_by plan (Close_device d) S h = all_closed (queues_of plan d) (record S { control = control.shut S.control d })
+numbers_by plan (MakeRequest class parent) S h = makes S.requests (next_id S.tree) (nearest_device S.tree parent.0)
+numbers_by plan (AskDeletion o) S h = stay_same _ _ (asks_all requests_of (λ S T D W U. refl) (subtree S.tree o.0) S)
+numbers_by plan (EndLife o) S h = forgets S.requests o.0
+numbers_by plan (Present q r) S h = moves S.requests r.0 place.Owned
+numbers_by plan (Receive q r) S h = moves S.requests r.0 place.Owned
+numbers_by plan (Requeue r q) S h = then_moves _ _ r.0 (queued q.0) (given requests_of (λ S Q P. refl) S r.0)
+numbers_by plan (Forward r q) S h = then_moves _ _ r.0 (queued q.0) (given requests_of (λ S Q P. refl) S r.0)
+numbers_by plan (GiveBack r q) S h = then_cancels _ _ r.0 (withdrawn_place plan (give_up S r.0) q.0 r.0) (given requests_of (λ S Q P. refl) S r.0)
+numbers_by plan (Withdraw q r) S h = then_cancels S.requests S.requests r.0 (withdrawn_place plan S q.0 r.0) refl
+numbers_by plan (MarkRequest r) S h = let k = marked_same (request_of S.requests r.0) in one_changes S.requests r.0 marked k.0 k.1
+numbers_by plan (UnmarkRequest r) S h = let k = unmarked_by (request_of S.requests r.0) (is_marked (request_of S.requests r.0).info.mark) in one_changes S.requests r.0 unmarked k.0 k.1
+numbers_by plan (CancelRequest r) S h = cancels S.requests r.0
+numbers_by plan (TakeCancel r) S h = one_changes S.requests r.0 (with_mark marks.Taken) refl refl
+numbers_by plan (SendRequest r t forget) S h = then_moves _ _ r.0 (place.Sent (record { 0 = t.0 })) (given_if requests_of (λ S Q P. refl) S forget r.0)
+numbers_by plan (FinishSending r s) S h = moves S.requests r.0 (finished_at (is_forgotten S.targets r.0) s (place_of S.requests r.0))
+numbers_by plan (ComeBack r) S h = moves S.requests r.0 place.Owned
+numbers_by plan (CompleteRequest r) S h =
+    stay_then S.requests (requests.complete S.requests r.0) (do_deed plan (CompleteRequest r) S).requests (moves S.requests r.0 place.Done)
+    (stay_same (requests.complete S.requests r.0) (do_deed plan (CompleteRequest r) S).requests (asks_all requests_of (λ S T D W U. refl) (subtree (give_up S r.0).tree r.0) (record (give_up S r.0) { requests = requests.complete S.requests r.0 })))
+numbers_by plan (PurgeQueue q) S h = all_withdrawn plan q.0 (waiting_in S.queues q.0) (record S { control = control.set_mode S.control q.0 mode.Purged })
+numbers_by plan (CloseReturning d) S h = all_returning (managed_queues plan d.0) S
+numbers_by plan (CloseDevice d) S h = all_closed (queues_of plan d.0) (record S { control = control.shut S.control d.0 })
 numbers_by plan _ S h = λ x. inl (refl, refl)
 
 -- ---- the counts of arrivals
@@ -220,17 +223,17 @@ same_counts xs ys a e = let same : entry 0 ys a ≡ entry 0 xs a = ap (λ zs. en
 
 counts_by : {A : Type 0} (plan : Plan) (d : Deed) (S : State A) → is_arrival d ≡ false → (a : ℕ) → entry 0 S.arrivals a ≤ entry 0 (do_deed plan d S).arrivals a
 counts_by plan (Arrive device info p) S h a = absurd (let z : ⊥ = cc in z)
-counts_by plan (Count_arrival agent) S h a = grows S.arrivals agent a
-counts_by plan (Ask_deletion o) S h a = same_counts _ _ a (asks_all arrivals_of (λ S T D W U. refl) (subtree S.tree o) S)
-counts_by plan (Requeue r p) S f a = same_counts _ _ a (gives_up arrivals_of (λ S Q R P. refl) S r)
-counts_by plan (Forward r p) S f a = same_counts _ _ a (gives_up arrivals_of (λ S Q R P. refl) S r)
-counts_by plan (Give_back r p) S f a = same_counts _ _ a (gives_up arrivals_of (λ S Q R P. refl) S r)
-counts_by plan (Send_request r t forget) S f a = same_counts _ _ a (gives_up_if arrivals_of (λ S Q R P. refl) S forget r)
-counts_by plan (Complete_request r) S f a =
-    same_counts _ _ a (asks_all arrivals_of (λ S T D W U. refl) (subtree (give_up S r).tree r) (record (give_up S r) { requests = requests.complete S.requests r }) ∙ gives_up arrivals_of (λ S Q R P. refl) S r)
-counts_by plan (Purge_queue p) S f a = same_counts _ _ a (withdraws arrivals_of (λ S Q R P. refl) plan p (waiting_in S.queues p) (record S { control = control.set_mode S.control p mode.Purged }))
-counts_by plan (Close_returning d) S f a = same_counts _ _ a (returns_closed arrivals_of (λ S Q R P. refl) (managed_queues plan d) S)
-counts_by plan (Close_device d) S f a = same_counts _ _ a (queues_closed arrivals_of (λ S Q R P. refl) (queues_of plan d) (record S { control = control.shut S.control d }))
+counts_by plan (CountArrival agent) S h a = grows S.arrivals agent a
+counts_by plan (AskDeletion o) S h a = same_counts _ _ a (asks_all arrivals_of (λ S T D W U. refl) (subtree S.tree o.0) S)
+counts_by plan (Requeue r p) S f a = same_counts _ _ a (gives_up arrivals_of (λ S Q R P. refl) S r.0)
+counts_by plan (Forward r p) S f a = same_counts _ _ a (gives_up arrivals_of (λ S Q R P. refl) S r.0)
+counts_by plan (GiveBack r p) S f a = same_counts _ _ a (gives_up arrivals_of (λ S Q R P. refl) S r.0)
+counts_by plan (SendRequest r t forget) S f a = same_counts _ _ a (gives_up_if arrivals_of (λ S Q R P. refl) S forget r.0)
+counts_by plan (CompleteRequest r) S f a =
+    same_counts _ _ a (asks_all arrivals_of (λ S T D W U. refl) (subtree (give_up S r.0).tree r.0) (record (give_up S r.0) { requests = requests.complete S.requests r.0 }) ∙ gives_up arrivals_of (λ S Q R P. refl) S r.0)
+counts_by plan (PurgeQueue p) S f a = same_counts _ _ a (withdraws arrivals_of (λ S Q R P. refl) plan p.0 (waiting_in S.queues p.0) (record S { control = control.set_mode S.control p.0 mode.Purged }))
+counts_by plan (CloseReturning d) S f a = same_counts _ _ a (returns_closed arrivals_of (λ S Q R P. refl) (managed_queues plan d.0) S)
+counts_by plan (CloseDevice d) S f a = same_counts _ _ a (queues_closed arrivals_of (λ S Q R P. refl) (queues_of plan d.0) (record S { control = control.shut S.control d.0 }))
 counts_by plan _ S h a = omega arith
 
 -- ---- events
@@ -290,15 +293,15 @@ arrives_next R counts r agent p info a n k =
     }
 
 arrival_by : {A : Type 0} (plan : Plan) (S : State A) (agent : ℕ) (f : RequestForm) (length code device : ℕ) (b : Bool) → NumberedIn S
-    → NumberedIn (do_deeds plan (Count_arrival agent ∷ (if b then Arrive device (arrival_info S agent f length code device) (arrival_place plan S f length device) ∷ [] else [])) S)
+    → NumberedIn (do_deeds plan (CountArrival agent ∷ (if b then Arrive (object_id device) (arrival_info S agent f length code device) (arrival_place plan S f length device) ∷ [] else [])) S)
 arrival_by {A} plan S agent f length code device true k =
-    let T = do_deed plan (Count_arrival agent) S in
+    let T = do_deed plan (CountArrival agent) S in
     let info : RequestInfo = arrival_info S agent f length code device in
     let p : Place = arrival_place plan S f length device in
     let e = came T device info p in
     subst (λ (R : Requests). Numbered R (arrive_at T device info p).arrivals) (sym e.0)
     (subst (λ (counts : List ℕ). Numbered (requests.arrive T.requests (next_id T.tree) p info) counts) (sym e.1) (arrives_next S.requests S.arrivals (next_id T.tree) agent p info refl refl k))
-arrival_by plan S agent f length code device false k = deeds_number plan (Count_arrival agent ∷ []) S refl k
+arrival_by plan S agent f length code device false k = deeds_number plan (CountArrival agent ∷ []) S refl k
 
 arrival_event : {A : Type 0} (plan : Plan) (S : State A) (e : Event) → is_arrival_event e ≡ true → NumberedIn S → NumberedIn (do_deeds plan (deeds plan S e) S)
 arrival_event plan S (event.Posted agent (post.Read device length) answer) a k = arrival_by plan S agent form.Read length 0 device.id.0 (is_live (life_of S.tree device.id.0)) k

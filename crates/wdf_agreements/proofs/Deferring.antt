@@ -27,7 +27,9 @@ use Rattle.wdf_model.specs.parts.Deferred.Dpcs.{Dpcs, is_dpc_queued}
 use Rattle.wdf_model.specs.parts.Deferred.WorkItems.{WorkItems, is_work_queued}
 use Rattle.wdf_model.specs.parts.Deferred.Timers.{Timers, is_timer_queued}
 use Rattle.wdf_model.specs.State.{State}
-use Rattle.wdf_model.specs.rules.Deeds.{Deed, Create, Make_request, Arrive, Ask_deletion, Refer, Unrefer, Write_cell, Note, Clean_up, End_life, Requeue, Forward, Give_back, Send_request, Complete_request, Purge_queue, Close_returning, Close_device, Enqueue_dpc, Cancel_dpc, Take_dpc, Enqueue_work, Cancel_work, Start_timer, Stop_timer, Fire_timer, arrive_at, ask_object, do_deed, give_up}
+use Rattle.wdf_model.specs.declared.deed.Deed.{Deed}
+use Rattle.wdf_model.specs.declared.deed.Deed.TheVariants.{Create, MakeRequest, Arrive, AskDeletion, Refer, Unrefer, WriteCell, Note, CleanUp, EndLife, Requeue, Forward, GiveBack, SendRequest, CompleteRequest, PurgeQueue, CloseReturning, CloseDevice, EnqueueDpc, CancelDpc, TakeDpc, EnqueueWork, CancelWork, StartTimer, StopTimer, FireTimer}
+use Rattle.wdf_model.specs.rules.Deeds.{arrive_at, ask_object, do_deed, give_up}
 use Rattle.wdf_model.specs.rules.Ready.{IsRunOf, state_after}
 use Rattle.wdf_model.specs.laws.Fits.{fits}
 use Rattle.wdf_model.proofs.Tests.{both_left, first, second}
@@ -121,58 +123,58 @@ same_work : (plan : Plan) (v w : Work) → w ≡ v → Deferring plan v → Defe
 same_work plan v w e k = subst (Deferring plan) (sym e) k
 
 deferring_by : {A : Type 0} (plan : Plan) (d : Deed) (S : State A) → fits plan d S ≡ true → Sound plan d S → Deferring plan (work_of S) → Deferring plan (work_of (do_deed plan d S))
-deferring_by plan (Create k class parent) S f s q = tree_changes plan (work_of S) (tree.create S.tree k class parent) (live_made S.tree k class parent) q
-deferring_by plan (Make_request class parent) S f s q = tree_changes plan (work_of S) (tree.create S.tree kind.Made class parent) (live_made S.tree kind.Made class parent) q
-deferring_by plan (Arrive device info p) S f s q = same_work plan _ _ (arrived S device info p) (tree_changes plan (work_of S) (tree.arrive S.tree device) (live_made S.tree kind.Request 0 device) q)
-deferring_by plan (Ask_deletion o) S f s q = all_asked plan (subtree S.tree o) S q
-deferring_by plan (Refer o) S f s q = tree_changes plan (work_of S) _ (live_same S.tree o (λ m. record m { references = m.references + 1 }) refl) q
-deferring_by plan (Unrefer o) S f s q = tree_changes plan (work_of S) _ (live_same S.tree o (λ m. record m { references = m.references - 1 }) refl) q
-deferring_by plan (Write_cell o k v) S f s q = tree_changes plan (work_of S) _ (live_same S.tree o (λ m. record m { cells = slice_set m.cells k v }) refl) q
-deferring_by plan (Note o c) S f s q = tree_changes plan (work_of S) _ (live_same S.tree o (noted c) (ap is_live (noted_life c (node_of S.tree o)))) q
-deferring_by plan (Clean_up o) S f s q =
-    let asked : is_asked (life_of S.tree o) ≡ true = search both_left in
-    tree_changes plan (work_of S) _ (live_same S.tree o (with_life life.Cleaned) (asked_off (life_of S.tree o) asked)) q
-deferring_by plan (End_life o) S f s q =
-    let done : is_cleaned (life_of S.tree o) ≡ true = search both_left in
-    tree_changes plan (work_of S) _ (live_same S.tree o (λ _. gone) (cleaned_off (life_of S.tree o) done)) q
-deferring_by plan (Requeue r p) S f s q = same_work plan _ _ (gives_up work_of (λ S Q R P. refl) S r) q
-deferring_by plan (Forward r p) S f s q = same_work plan _ _ (gives_up work_of (λ S Q R P. refl) S r) q
-deferring_by plan (Give_back r p) S f s q = same_work plan _ _ (gives_up work_of (λ S Q R P. refl) S r) q
-deferring_by plan (Send_request r t forget) S f s q = same_work plan _ _ (gives_up_if work_of (λ S Q R P. refl) S forget r) q
-deferring_by plan (Complete_request r) S f s q =
-    all_asked plan (subtree (give_up S r).tree r) (record (give_up S r) { requests = requests.complete S.requests r }) (same_work plan _ _ (gives_up work_of (λ S Q R P. refl) S r) q)
-deferring_by plan (Purge_queue p) S f s q = same_work plan _ _ (withdraws work_of (λ S Q R P. refl) plan p (waiting_in S.queues p) (record S { control = control.set_mode S.control p mode.Purged })) q
-deferring_by plan (Close_returning d) S f s q = same_work plan _ _ (returns_closed work_of (λ S Q R P. refl) (managed_queues plan d) S) q
-deferring_by plan (Close_device d) S f s q = same_work plan _ _ (queues_closed work_of (λ S Q R P. refl) (queues_of plan d) (record S { control = control.shut S.control d })) q
-deferring_by plan (Enqueue_dpc cpu o) S f s q = record {
-  dpcs = λ x h. elim (dpc_enqueued S.dpcs cpu o x h) [
+deferring_by plan (Create k class parent) S f s q = tree_changes plan (work_of S) (tree.create S.tree k class parent.0) (live_made S.tree k class parent.0) q
+deferring_by plan (MakeRequest class parent) S f s q = tree_changes plan (work_of S) (tree.create S.tree kind.Made class parent.0) (live_made S.tree kind.Made class parent.0) q
+deferring_by plan (Arrive device info p) S f s q = same_work plan _ _ (arrived S device.0 info p) (tree_changes plan (work_of S) (tree.arrive S.tree device.0) (live_made S.tree kind.Request 0 device.0) q)
+deferring_by plan (AskDeletion o) S f s q = all_asked plan (subtree S.tree o.0) S q
+deferring_by plan (Refer o) S f s q = tree_changes plan (work_of S) _ (live_same S.tree o.0 (λ m. record m { references = m.references + 1 }) refl) q
+deferring_by plan (Unrefer o) S f s q = tree_changes plan (work_of S) _ (live_same S.tree o.0 (λ m. record m { references = m.references - 1 }) refl) q
+deferring_by plan (WriteCell o k v) S f s q = tree_changes plan (work_of S) _ (live_same S.tree o.0 (λ m. record m { cells = slice_set m.cells k v }) refl) q
+deferring_by plan (Note o c) S f s q = tree_changes plan (work_of S) _ (live_same S.tree o.0 (noted c) (ap is_live (noted_life c (node_of S.tree o.0)))) q
+deferring_by plan (CleanUp o) S f s q =
+    let asked : is_asked (life_of S.tree o.0) ≡ true = search both_left in
+    tree_changes plan (work_of S) _ (live_same S.tree o.0 (with_life life.Cleaned) (asked_off (life_of S.tree o.0) asked)) q
+deferring_by plan (EndLife o) S f s q =
+    let done : is_cleaned (life_of S.tree o.0) ≡ true = search both_left in
+    tree_changes plan (work_of S) _ (live_same S.tree o.0 (λ _. gone) (cleaned_off (life_of S.tree o.0) done)) q
+deferring_by plan (Requeue r p) S f s q = same_work plan _ _ (gives_up work_of (λ S Q R P. refl) S r.0) q
+deferring_by plan (Forward r p) S f s q = same_work plan _ _ (gives_up work_of (λ S Q R P. refl) S r.0) q
+deferring_by plan (GiveBack r p) S f s q = same_work plan _ _ (gives_up work_of (λ S Q R P. refl) S r.0) q
+deferring_by plan (SendRequest r t forget) S f s q = same_work plan _ _ (gives_up_if work_of (λ S Q R P. refl) S forget r.0) q
+deferring_by plan (CompleteRequest r) S f s q =
+    all_asked plan (subtree (give_up S r.0).tree r.0) (record (give_up S r.0) { requests = requests.complete S.requests r.0 }) (same_work plan _ _ (gives_up work_of (λ S Q R P. refl) S r.0) q)
+deferring_by plan (PurgeQueue p) S f s q = same_work plan _ _ (withdraws work_of (λ S Q R P. refl) plan p.0 (waiting_in S.queues p.0) (record S { control = control.set_mode S.control p.0 mode.Purged })) q
+deferring_by plan (CloseReturning d) S f s q = same_work plan _ _ (returns_closed work_of (λ S Q R P. refl) (managed_queues plan d.0) S) q
+deferring_by plan (CloseDevice d) S f s q = same_work plan _ _ (queues_closed work_of (λ S Q R P. refl) (queues_of plan d.0) (record S { control = control.shut S.control d.0 })) q
+deferring_by plan (EnqueueDpc cpu o) S f s q = record {
+  dpcs = λ x h. elim (dpc_enqueued S.dpcs cpu.0 o.0 x h) [
     | inl e ↦ q.dpcs x e
     | inr e ↦ rw e s
   ];
   items = q.items;
   timers = q.timers;
 }
-deferring_by plan (Cancel_dpc o) S f s q = record { dpcs = λ x h. q.dpcs x (dpc_cancelled S.dpcs o x h).0; items = q.items; timers = q.timers }
-deferring_by plan (Take_dpc cpu) S f s q = record { dpcs = λ x h. q.dpcs x (dpc_taken S.dpcs cpu x h); items = q.items; timers = q.timers }
-deferring_by plan (Enqueue_work o) S f s q = record {
+deferring_by plan (CancelDpc o) S f s q = record { dpcs = λ x h. q.dpcs x (dpc_cancelled S.dpcs o.0 x h).0; items = q.items; timers = q.timers }
+deferring_by plan (TakeDpc cpu) S f s q = record { dpcs = λ x h. q.dpcs x (dpc_taken S.dpcs cpu.0 x h); items = q.items; timers = q.timers }
+deferring_by plan (EnqueueWork o) S f s q = record {
   dpcs = q.dpcs;
-  items = λ x h. elim (work_enqueued S.work_items o x h) [
+  items = λ x h. elim (work_enqueued S.work_items o.0 x h) [
     | inl e ↦ q.items x e
     | inr e ↦ rw e s
   ];
   timers = q.timers;
 }
-deferring_by plan (Cancel_work o) S f s q = record { dpcs = q.dpcs; items = λ x h. q.items x (work_cancelled S.work_items o x h).0; timers = q.timers }
-deferring_by plan (Start_timer o ticks) S f s q = record {
+deferring_by plan (CancelWork o) S f s q = record { dpcs = q.dpcs; items = λ x h. q.items x (work_cancelled S.work_items o.0 x h).0; timers = q.timers }
+deferring_by plan (StartTimer o ticks) S f s q = record {
   dpcs = q.dpcs;
   items = q.items;
-  timers = λ x h. elim (timer_started S.timers o S.clock ticks x h) [
+  timers = λ x h. elim (timer_started S.timers o.0 S.clock ticks x h) [
     | inl e ↦ q.timers x e
     | inr e ↦ rw e s
   ];
 }
-deferring_by plan (Stop_timer o) S f s q = record { dpcs = q.dpcs; items = q.items; timers = λ x h. q.timers x (timer_stopped S.timers o x h).0 }
-deferring_by plan (Fire_timer o period) S f s q = record { dpcs = q.dpcs; items = q.items; timers = λ x h. q.timers x (timer_fired S.timers o period x h) }
+deferring_by plan (StopTimer o) S f s q = record { dpcs = q.dpcs; items = q.items; timers = λ x h. q.timers x (timer_stopped S.timers o.0 x h).0 }
+deferring_by plan (FireTimer o period) S f s q = record { dpcs = q.dpcs; items = q.items; timers = λ x h. q.timers x (timer_fired S.timers o.0 period x h) }
 deferring_by plan _ S f s q = q
 
 -- ---- each place of a run

@@ -16,7 +16,9 @@ use Rattle.wdf_model.specs.parts.Requests as requests
 use Rattle.wdf_model.specs.parts.Queues.{waiting_in}
 use Rattle.wdf_model.specs.parts.Control as control
 use Rattle.wdf_model.specs.State.{State}
-use Rattle.wdf_model.specs.rules.Deeds.{Deed, Arrive, Ask_deletion, Push_frame, Go_on, Pop_frame, Park_frame, Unpark_frame, Requeue, Forward, Give_back, Send_request, Complete_request, Purge_queue, Close_returning, Close_device, arrive_at, do_deed, give_up}
+use Rattle.wdf_model.specs.declared.deed.Deed.{Deed}
+use Rattle.wdf_model.specs.declared.deed.Deed.TheVariants.{Arrive, AskDeletion, PushFrame, GoOn, PopFrame, ParkFrame, UnparkFrame, Requeue, Forward, GiveBack, SendRequest, CompleteRequest, PurgeQueue, CloseReturning, CloseDevice}
+use Rattle.wdf_model.specs.rules.Deeds.{arrive_at, do_deed, give_up}
 use Rattle.wdf_model.proofs.Maps.{entry_put_other, entry_put_same}
 use Rattle.wdf_model.proofs.Counts.{equal, not_equal, one_or_two}
 use Rattle.wdf_invariants.proofs.FrameCounts.{parks, pushed, unparks}
@@ -63,35 +65,35 @@ cpus_of S = S.cpus
 
 -- what becomes of the frames by a deed: one begins, or the top one ends, or none does
 abbrev pub FramesBy : {A : Type 0} → Plan → Deed → State A → Type 0
-FramesBy plan (Push_frame cpu f frame level) S = Begins S.cpus (cpus.push S.cpus cpu f frame level) f frame
-FramesBy plan (Pop_frame cpu) S = GoOn S.cpus (cpus.pop S.cpus cpu) × ((f : ℕ) → 1 ≤ on S.cpus f → (cpus.top S.cpus cpu ≡ Some f → ⊥) → 1 ≤ on (cpus.pop S.cpus cpu) f)
+FramesBy plan (PushFrame cpu f frame level) S = Begins S.cpus (cpus.push S.cpus cpu.0 f.0 frame level.0) f.0 frame
+FramesBy plan (PopFrame cpu) S = GoOn S.cpus (cpus.pop S.cpus cpu.0) × ((f : ℕ) → 1 ≤ on S.cpus f → (cpus.top S.cpus cpu.0 ≡ Some f → ⊥) → 1 ≤ on (cpus.pop S.cpus cpu.0) f)
 FramesBy plan d S = GoOn S.cpus (do_deed plan d S).cpus × NoneEnds S.cpus (do_deed plan d S).cpus
 
 pub frames_by : {A : Type 0} (plan : Plan) (d : Deed) (S : State A) → Sound plan d S → FramesBy plan d S
-frames_by plan (Push_frame cpu f frame level) S s = begins S.cpus cpu f frame level s.1
-frames_by plan (Go_on f next) S s = ((λ x h. (h, goes_kept S.cpus f next x s (one_or_two x f))), (λ x h. h))
-frames_by plan (Pop_frame cpu) S s = (
-  (λ x h. (let e = pop_on S.cpus cpu s.0 s.1 x in omega arith, pop_kept S.cpus cpu s.0 s.1 s.2 x h)),
-  (λ f h other. let e = pop_on S.cpus cpu s.0 s.1 f in
+frames_by plan (PushFrame cpu f frame level) S s = begins S.cpus cpu.0 f.0 frame level.0 s.1
+frames_by plan (GoOn f next) S s = ((λ x h. (h, goes_kept S.cpus f.0 next x s (one_or_two x f.0))), (λ x h. h))
+frames_by plan (PopFrame cpu) S s = (
+  (λ x h. (let e = pop_on S.cpus cpu.0 s.0 s.1 x in omega arith, pop_kept S.cpus cpu.0 s.0 s.1 s.2 x h)),
+  (λ f h other. let e = pop_on S.cpus cpu.0 s.0 s.1 f in
       let no : flag (s.0 == f) ≡ 0 = ap flag (not_equal s.0 f (λ same. other (s.1 ∙ ap Some same))) in omega arith),
 )
-frames_by plan (Park_frame cpu) S s = (
-  (λ x h. (let e = parks (λ y. y == x) S.cpus cpu s.0 s.1 in omega arith, kept_same (frame_of S.cpus x) (frame_of S.cpus x) refl)),
-  (λ x h. let e = parks (λ y. y == x) S.cpus cpu s.0 s.1 in omega arith),
+frames_by plan (ParkFrame cpu) S s = (
+  (λ x h. (let e = parks (λ y. y == x) S.cpus cpu.0 s.0 s.1 in omega arith, kept_same (frame_of S.cpus x) (frame_of S.cpus x) refl)),
+  (λ x h. let e = parks (λ y. y == x) S.cpus cpu.0 s.0 s.1 in omega arith),
 )
-frames_by plan (Unpark_frame cpu f) S s = (
-  (λ x h. (let e = unparks (λ y. y == x) S.cpus cpu f s in omega arith, kept_same (frame_of S.cpus x) (frame_of S.cpus x) refl)),
-  (λ x h. let e = unparks (λ y. y == x) S.cpus cpu f s in omega arith),
+frames_by plan (UnparkFrame cpu f) S s = (
+  (λ x h. (let e = unparks (λ y. y == x) S.cpus cpu.0 f.0 s in omega arith, kept_same (frame_of S.cpus x) (frame_of S.cpus x) refl)),
+  (λ x h. let e = unparks (λ y. y == x) S.cpus cpu.0 f.0 s in omega arith),
 )
-frames_by plan (Arrive device info p) S s = same_frames _ _ (arrived S device info p)
-frames_by plan (Ask_deletion o) S s = same_frames _ _ (asks_all cpus_of (λ S T D W U. refl) (subtree S.tree o) S)
-frames_by plan (Requeue r p) S s = same_frames _ _ (gives_up cpus_of (λ S Q R P. refl) S r)
-frames_by plan (Forward r p) S s = same_frames _ _ (gives_up cpus_of (λ S Q R P. refl) S r)
-frames_by plan (Give_back r p) S s = same_frames _ _ (gives_up cpus_of (λ S Q R P. refl) S r)
-frames_by plan (Send_request r t forget) S s = same_frames _ _ (gives_up_if cpus_of (λ S Q R P. refl) S forget r)
-frames_by plan (Complete_request r) S s =
-    same_frames _ _ (asks_all cpus_of (λ S T D W U. refl) (subtree (give_up S r).tree r) (record (give_up S r) { requests = requests.complete S.requests r }) ∙ gives_up cpus_of (λ S Q R P. refl) S r)
-frames_by plan (Purge_queue p) S s = same_frames _ _ (withdraws cpus_of (λ S Q R P. refl) plan p (waiting_in S.queues p) (record S { control = control.set_mode S.control p mode.Purged }))
-frames_by plan (Close_returning d) S s = same_frames _ _ (returns_closed cpus_of (λ S Q R P. refl) (managed_queues plan d) S)
-frames_by plan (Close_device d) S s = same_frames _ _ (queues_closed cpus_of (λ S Q R P. refl) (queues_of plan d) (record S { control = control.shut S.control d }))
+frames_by plan (Arrive device info p) S s = same_frames _ _ (arrived S device.0 info p)
+frames_by plan (AskDeletion o) S s = same_frames _ _ (asks_all cpus_of (λ S T D W U. refl) (subtree S.tree o.0) S)
+frames_by plan (Requeue r p) S s = same_frames _ _ (gives_up cpus_of (λ S Q R P. refl) S r.0)
+frames_by plan (Forward r p) S s = same_frames _ _ (gives_up cpus_of (λ S Q R P. refl) S r.0)
+frames_by plan (GiveBack r p) S s = same_frames _ _ (gives_up cpus_of (λ S Q R P. refl) S r.0)
+frames_by plan (SendRequest r t forget) S s = same_frames _ _ (gives_up_if cpus_of (λ S Q R P. refl) S forget r.0)
+frames_by plan (CompleteRequest r) S s =
+    same_frames _ _ (asks_all cpus_of (λ S T D W U. refl) (subtree (give_up S r.0).tree r.0) (record (give_up S r.0) { requests = requests.complete S.requests r.0 }) ∙ gives_up cpus_of (λ S Q R P. refl) S r.0)
+frames_by plan (PurgeQueue p) S s = same_frames _ _ (withdraws cpus_of (λ S Q R P. refl) plan p.0 (waiting_in S.queues p.0) (record S { control = control.set_mode S.control p.0 mode.Purged }))
+frames_by plan (CloseReturning d) S s = same_frames _ _ (returns_closed cpus_of (λ S Q R P. refl) (managed_queues plan d.0) S)
+frames_by plan (CloseDevice d) S s = same_frames _ _ (queues_closed cpus_of (λ S Q R P. refl) (queues_of plan d.0) (record S { control = control.shut S.control d.0 }))
 frames_by plan _ S s = ((λ x h. (h, kept_same (frame_of S.cpus x) (frame_of S.cpus x) refl)), (λ x h. h))

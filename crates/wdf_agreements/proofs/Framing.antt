@@ -26,7 +26,9 @@ use Rattle.wdf_model.specs.parts.Requests as requests
 use Rattle.wdf_model.specs.parts.Queues.{waiting_in}
 use Rattle.wdf_model.specs.parts.Control as control
 use Rattle.wdf_model.specs.State.{State, declared_in, opening}
-use Rattle.wdf_model.specs.rules.Deeds.{Deed, Arrive, Ask_deletion, End_life, Take_lock, Release_lock, Push_frame, Pop_frame, Requeue, Forward, Give_back, Send_request, Complete_request, Purge_queue, Close_returning, Close_device, arrive_at, counted, do_deed, do_deeds, give_up}
+use Rattle.wdf_model.specs.declared.deed.Deed.{Deed}
+use Rattle.wdf_model.specs.declared.deed.Deed.TheVariants.{Arrive, AskDeletion, EndLife, TakeLock, ReleaseLock, PushFrame, PopFrame, Requeue, Forward, GiveBack, SendRequest, CompleteRequest, PurgeQueue, CloseReturning, CloseDevice}
+use Rattle.wdf_model.specs.rules.Deeds.{arrive_at, counted, do_deed, do_deeds, give_up}
 use Rattle.wdf_model.specs.rules.Starts.{release_if_any}
 use Rattle.wdf_model.specs.rules.Steps.{deeds}
 use Rattle.wdf_model.specs.rules.Ready.{IsRunOf, state_after}
@@ -96,23 +98,23 @@ abbrev locks_in : {A : Type 0} → State A → Locks
 locks_in S = S.locks
 
 abbrev pub LocksBy : {A : Type 0} → Plan → Deed → State A → Type 0
-LocksBy plan (Take_lock l f by_call) S = Unit {0}
-LocksBy plan (Release_lock l) S = Unit {0}
+LocksBy plan (TakeLock l f by_call) S = Unit {0}
+LocksBy plan (ReleaseLock l) S = Unit {0}
 LocksBy plan d S = (do_deed plan d S).locks ≡ S.locks
 
 pub locks_by : {A : Type 0} (plan : Plan) (d : Deed) (S : State A) → LocksBy plan d S
-locks_by plan (Take_lock l f by_call) S = tt
-locks_by plan (Release_lock l) S = tt
-locks_by plan (Arrive device info p) S = arrived S device info p
-locks_by plan (Ask_deletion o) S = asks_all locks_in (λ S T D W U. refl) (subtree S.tree o) S
-locks_by plan (Requeue r p) S = gives_up locks_in (λ S Q R P. refl) S r
-locks_by plan (Forward r p) S = gives_up locks_in (λ S Q R P. refl) S r
-locks_by plan (Give_back r p) S = gives_up locks_in (λ S Q R P. refl) S r
-locks_by plan (Send_request r t forget) S = gives_up_if locks_in (λ S Q R P. refl) S forget r
-locks_by plan (Complete_request r) S = asks_all locks_in (λ S T D W U. refl) (subtree (give_up S r).tree r) (record (give_up S r) { requests = requests.complete S.requests r }) ∙ gives_up locks_in (λ S Q R P. refl) S r
-locks_by plan (Purge_queue p) S = withdraws locks_in (λ S Q R P. refl) plan p (waiting_in S.queues p) (record S { control = control.set_mode S.control p mode.Purged })
-locks_by plan (Close_returning d) S = returns_closed locks_in (λ S Q R P. refl) (managed_queues plan d) S
-locks_by plan (Close_device d) S = queues_closed locks_in (λ S Q R P. refl) (queues_of plan d) (record S { control = control.shut S.control d })
+locks_by plan (TakeLock l f by_call) S = tt
+locks_by plan (ReleaseLock l) S = tt
+locks_by plan (Arrive device info p) S = arrived S device.0 info p
+locks_by plan (AskDeletion o) S = asks_all locks_in (λ S T D W U. refl) (subtree S.tree o.0) S
+locks_by plan (Requeue r p) S = gives_up locks_in (λ S Q R P. refl) S r.0
+locks_by plan (Forward r p) S = gives_up locks_in (λ S Q R P. refl) S r.0
+locks_by plan (GiveBack r p) S = gives_up locks_in (λ S Q R P. refl) S r.0
+locks_by plan (SendRequest r t forget) S = gives_up_if locks_in (λ S Q R P. refl) S forget r.0
+locks_by plan (CompleteRequest r) S = asks_all locks_in (λ S T D W U. refl) (subtree (give_up S r.0).tree r.0) (record (give_up S r.0) { requests = requests.complete S.requests r.0 }) ∙ gives_up locks_in (λ S Q R P. refl) S r.0
+locks_by plan (PurgeQueue p) S = withdraws locks_in (λ S Q R P. refl) plan p.0 (waiting_in S.queues p.0) (record S { control = control.set_mode S.control p.0 mode.Purged })
+locks_by plan (CloseReturning d) S = returns_closed locks_in (λ S Q R P. refl) (managed_queues plan d.0) S
+locks_by plan (CloseDevice d) S = queues_closed locks_in (λ S Q R P. refl) (queues_of plan d.0) (record S { control = control.shut S.control d.0 })
 locks_by plan _ S = refl
 
 -- ---- each deed
@@ -128,15 +130,15 @@ off_it C o f none more e =
     no_frames (length (filter (is_on C o) (all_frames C))) none (omega arith)
 
 objects_by : {A : Type 0} (plan : Plan) (d : Deed) (S : State A) → fits plan d S ≡ true → Framing plan S → ObjectsStay S (do_deed plan d S)
-objects_by plan (End_life o) S fit k f more = deed_there plan (End_life o) S fit (object_of S f) (off_it S.cpus o f (both_right (may_destroy S.tree o) (nobody_on S.cpus o) fit) more) (k.there f more)
+objects_by plan (EndLife o) S fit k f more = deed_there plan (EndLife o) S fit (object_of S f) (off_it S.cpus o.0 f (both_right (may_destroy S.tree o.0) (nobody_on S.cpus o.0) fit) more) (k.there f more)
 objects_by plan d S fit k f more = deed_there plan d S fit (object_of S f) (λ e. e) (k.there f more)
 
 pub framing_by : {A : Type 0} (plan : Plan) (d : Deed) (S : State A) → fits plan d S ≡ true → Sound plan d S → Framing plan S → Framing plan (do_deed plan d S)
-framing_by plan (Push_frame cpu f frame level) S fit s k =
-    let U = do_deed plan (Push_frame cpu f frame level) S in
-    let b : Begins S.cpus U.cpus f frame = frames_by plan (Push_frame cpu f frame level) S s in
+framing_by plan (PushFrame cpu f frame level) S fit s k =
+    let U = do_deed plan (PushFrame cpu f frame level) S in
+    let b : Begins S.cpus U.cpus f.0 frame = frames_by plan (PushFrame cpu f frame level) S s in
     record {
-      there = λ x more. elim (one_or_two x f) [
+      there = λ x more. elim (one_or_two x f.0) [
         | inl e ↦ rw e (ap (λ (a : Frame). is_gone (life_of S.tree a.object.id.0)) b.here ∙ s.0)
         | inr n ↦ let others = b.others x n in let same = others.0 in ap (λ (a : Frame). is_gone (life_of S.tree a.object.id.0)) others.1 ∙ k.there x (omega arith)
       ];
@@ -147,10 +149,10 @@ framing_by plan (Push_frame cpu f frame level) S fit s k =
           (omega arith, λ start. ap (λ (a : Frame). lock_of_callback plan a.callback a.object.id.0 (declared_in plan S a.object.id.0)) others.1 ∙ is.1 start))
           S.locks.held k.held;
     }
-framing_by plan (Pop_frame cpu) S fit s k =
-    let U = do_deed plan (Pop_frame cpu) S in
-    let b : GoOn S.cpus U.cpus × ((f : ℕ) → 1 ≤ on S.cpus f → (top S.cpus cpu ≡ Some f → ⊥) → 1 ≤ on U.cpus f) = frames_by plan (Pop_frame cpu) S s in
-    let stay : ObjectsStay S U = objects_by plan (Pop_frame cpu) S fit k in
+framing_by plan (PopFrame cpu) S fit s k =
+    let U = do_deed plan (PopFrame cpu) S in
+    let b : GoOn S.cpus U.cpus × ((f : ℕ) → 1 ≤ on S.cpus f → (top S.cpus cpu.0 ≡ Some f → ⊥) → 1 ≤ on U.cpus f) = frames_by plan (PopFrame cpu) S s in
+    let stay : ObjectsStay S U = objects_by plan (PopFrame cpu) S fit k in
     record {
       there = there_still plan S U b.0 stay k;
       held = each_both (λ (h : Held). h.frame.0 ≢ s.0) (IsHeld plan S) (IsHeld plan U)
@@ -163,11 +165,11 @@ framing_by plan (Pop_frame cpu) S fit s k =
     each_both : {T : Type 0} (P Q R : T → Type 0) → ((x : T) → P x → Q x → R x) → (xs : List T) → Each P xs → Each Q xs → Each R xs
     each_both P Q R h [] p q = tt
     each_both P Q R h (x ∷ xs) p q = (h x p.0 q.0, each_both P Q R h xs p.1 q.1)
-framing_by plan (Take_lock l f by_call) S fit s k = record {
+framing_by plan (TakeLock l f by_call) S fit s k = record {
   there = k.there;
-  held = each_behind (IsHeld plan S) S.locks.held (record { lock = l; frame = record { 0 = f }; by_call = by_call } ∷ []) k.held (s, tt);
+  held = each_behind (IsHeld plan S) S.locks.held (record { lock = l; frame = record { 0 = f.0 }; by_call = by_call } ∷ []) k.held (s, tt);
 }
-framing_by plan (Release_lock l) S fit s k = record {
+framing_by plan (ReleaseLock l) S fit s k = record {
   there = k.there;
   held = each_kept (IsHeld plan S) (IsHeld plan S) (λ h. not (same_lock h.lock l)) (λ h is _. is) S.locks.held k.held;
 }

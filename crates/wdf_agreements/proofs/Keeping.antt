@@ -5,7 +5,8 @@ use Rattle.wdf_base.specs.declared.plan.Plan.{Plan}
 use Rattle.wdf_base.specs.declared.event.Event.{Event}
 use Rattle.wdf_base.specs.declared.event.Event.TheVariants as event
 use Rattle.wdf_model.specs.State.{State, opening}
-use Rattle.wdf_model.specs.rules.Deeds.{Deed, do_deed, do_deeds}
+use Rattle.wdf_model.specs.declared.deed.Deed.{Deed}
+use Rattle.wdf_model.specs.rules.Deeds.{do_deed, do_deeds}
 use Rattle.wdf_model.specs.rules.Steps.{after, may}
 use Rattle.wdf_model.specs.rules.Ready.{IsRunOf, ready, state_after}
 use Rattle.wdf_model.specs.laws.FactsOfEvents.{IsTick}

@@ -40,7 +40,10 @@ use Rattle.wdf_model.specs.parts.Cpus as cpus
 use Rattle.wdf_model.specs.parts.Locks as locks
 use Rattle.wdf_model.specs.parts.Locks.{holds_by_call, lock_of_callback, object_lock}
 use Rattle.wdf_model.specs.State.{State, declared_in, declares_in, object_in}
-use Rattle.wdf_model.specs.rules.Deeds.{Deed, Go_on, do_deed, do_deeds}
+use Rattle.wdf_model.specs.Ids.{frame_id}
+use Rattle.wdf_model.specs.declared.deed.Deed.{Deed}
+use Rattle.wdf_model.specs.declared.deed.Deed.TheVariants.{GoOn}
+use Rattle.wdf_model.specs.rules.Deeds.{do_deed, do_deeds}
 use Rattle.wdf_model.specs.rules.Faults.{is_acquire, is_stale, is_wrong_kind}
 use Rattle.wdf_model.specs.rules.Calls.{is_met_then, level_of_kind, outcome, second_deeds}
 use Rattle.wdf_model.specs.rules.Steps.{answered, did_deeds, view_of, waiting, waiting_deeds, woke_deeds}
@@ -84,7 +87,7 @@ module _ {A : Type 0} (plan : Plan) (S : State A) (cpu f : ℕ) (frames : Framin
   others c v none quiet fit sound l =
       let ds : List Deed = (outcome plan S cpu f c).deeds in
       let next : Frame = answered plan (frame_of S.cpus f) v in
-      let e : did_deeds plan S cpu c v f (frame_of S.cpus f) ≡ ds ++ Go_on f next ∷ [] = ap (λ es. ds ++ es ++ Go_on f next ∷ []) none ∙ ap (λ es. es ++ Go_on f next ∷ []) (append-nil ds) in
+      let e : did_deeds plan S cpu c v f (frame_of S.cpus f) ≡ ds ++ GoOn (frame_id f) next ∷ [] = ap (λ es. ds ++ es ++ GoOn (frame_id f) next ∷ []) none ∙ ap (λ es. es ++ GoOn (frame_id f) next ∷ []) (append-nil ds) in
       subst (λ es. LeveledIn plan (do_deeds plan es S)) (sym e)
       (quietly_goes plan S ds f next there quiet (subst (λ es. all_fit plan es S ≡ true) e fit) (subst (λ es. AllSound plan es S) e sound) frames (answered_kept plan (frame_of S.cpus f) v) (answered_idle plan S f v idle) (λ p h a. no_acquire next.pending refl p h a) l)
 
@@ -146,7 +149,7 @@ module _ {A : Type 0} (plan : Plan) (S : State A) (f : ℕ) (there : 1 ≤ on S.
       (λ m. ap (λ o. awaited plan S.tree o m) waits ∙ rw is refl) refl
 
   wakes_else : (k : CallKind) (n : ℕ) (a b x : Arg) (v : Value) → is_acquire k ≡ false → (frame_of S.cpus f).pending ≡ Some (record { call = made k n a b x; answer = v }) → LeveledIn plan S
-      → LeveledIn plan (do_deed plan (Go_on f (answered plan (frame_of S.cpus f) v)) S)
+      → LeveledIn plan (do_deed plan (GoOn (frame_id f) (answered plan (frame_of S.cpus f) v)) S)
   wakes_else k n a b x v off waits l =
       plain_goes plan S.cpus S.locks S.tree f (answered plan (frame_of S.cpus f) v) l there (answered_kept plan (frame_of S.cpus f) v)
       (λ m. sym (ap (λ o. awaited plan S.tree o m) waits ∙ rw off refl)) (λ p e a_. absurd (no_acquire None refl p e a_))

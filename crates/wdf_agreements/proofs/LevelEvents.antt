@@ -29,7 +29,10 @@ use Rattle.wdf_model.specs.parts.Tree.{Tree, is_cleaned, is_gone, is_past_cleanu
 use Rattle.wdf_model.specs.parts.Cpus.{frame_of, top}
 use Rattle.wdf_model.specs.parts.Locks.{holds_by_call}
 use Rattle.wdf_model.specs.State.{State, object_in}
-use Rattle.wdf_model.specs.rules.Deeds.{Deed, Go_on, do_deed, do_deeds}
+use Rattle.wdf_model.specs.Ids.{frame_id}
+use Rattle.wdf_model.specs.declared.deed.Deed.{Deed}
+use Rattle.wdf_model.specs.declared.deed.Deed.TheVariants.{GoOn}
+use Rattle.wdf_model.specs.rules.Deeds.{do_deed, do_deeds}
 use Rattle.wdf_model.specs.rules.Faults.{View, any_argument, is_acquire, is_stale, is_wrong_kind}
 use Rattle.wdf_model.specs.rules.Calls.{is_met}
 use Rattle.wdf_model.specs.rules.Steps.{at_next, changed, event_of_frame, event_of_top, own_event, spending, spends, stepped}
@@ -62,12 +65,12 @@ pub stepped_waits : (a : Frame) (i : Intent) → (stepped a i).pending ≡ a.pen
 stepped_waits a (intent.Local c next) = changed_waits a c
 stepped_waits a _ = refl
 
-awaits_same : {A : Type 0} (plan : Plan) (S : State A) (f : ℕ) (next : Frame) → 1 ≤ on S.cpus f → next.pending ≡ (frame_of S.cpus f).pending → FrameKept (frame_of S.cpus f) next → LeveledIn plan S → LeveledIn plan (do_deed plan (Go_on f next) S)
+awaits_same : {A : Type 0} (plan : Plan) (S : State A) (f : ℕ) (next : Frame) → 1 ≤ on S.cpus f → next.pending ≡ (frame_of S.cpus f).pending → FrameKept (frame_of S.cpus f) next → LeveledIn plan S → LeveledIn plan (do_deed plan (GoOn (frame_id f) next) S)
 awaits_same plan S f next there same kept k =
     plain_goes plan S.cpus S.locks S.tree f next k there kept (λ n. ap (λ p. awaited plan S.tree p n) same) (λ p e a. k.awaits f p there (sym same ∙ e) a)
 
 pub moving : {A : Type 0} (plan : Plan) (S : State A) (cpu : ℕ) (next : Frame → Frame) (there : Option ℕ) → top S.cpus cpu ≡ there → ((a : Frame) → FrameKept a (next a)) → ((f : ℕ) → top S.cpus cpu ≡ Some f → (next (frame_of S.cpus f)).pending ≡ (frame_of S.cpus f).pending)
-    → LeveledIn plan S → LeveledIn plan (do_deeds plan (elim there as (λ _. List Deed) [ None ↦ [] | Some f ↦ Go_on f (next (frame_of S.cpus f)) ∷ [] ]) S)
+    → LeveledIn plan S → LeveledIn plan (do_deeds plan (elim there as (λ _. List Deed) [ None ↦ [] | Some f ↦ GoOn (frame_id f) (next (frame_of S.cpus f)) ∷ [] ]) S)
 moving plan S cpu next None t kept same k = k
 moving plan S cpu next (Some f) t kept same k = awaits_same plan S f (next (frame_of S.cpus f)) (top_on S.cpus cpu f t) (same f t) (kept (frame_of S.cpus f)) k
 
@@ -139,12 +142,12 @@ sound_after plan [] es S h = h
 sound_after plan (d ∷ ds) es S h = sound_after plan ds es (do_deed plan d S) h.1
 
 -- a frame goes on after quiet deeds
-pub quietly_goes : {A : Type 0} (plan : Plan) (S : State A) (ds : List Deed) (f : ℕ) (next : Frame) → 1 ≤ on S.cpus f → all_quiet ds ≡ true → all_fit plan (ds ++ Go_on f next ∷ []) S ≡ true → AllSound plan (ds ++ Go_on f next ∷ []) S → Framing plan S
+pub quietly_goes : {A : Type 0} (plan : Plan) (S : State A) (ds : List Deed) (f : ℕ) (next : Frame) → 1 ≤ on S.cpus f → all_quiet ds ≡ true → all_fit plan (ds ++ GoOn (frame_id f) next ∷ []) S ≡ true → AllSound plan (ds ++ GoOn (frame_id f) next ∷ []) S → Framing plan S
     → FrameKept (frame_of S.cpus f) next → ((T : Tree) (n : ℕ) → awaited plan T next.pending n ≡ awaited plan T (frame_of S.cpus f).pending n) → ((p : Pending) → next.pending ≡ Some p → is_acquire p.call.kind ≡ true → ⊥)
-    → LeveledIn plan S → LeveledIn plan (do_deeds plan (ds ++ Go_on f next ∷ []) S)
+    → LeveledIn plan S → LeveledIn plan (do_deeds plan (ds ++ GoOn (frame_id f) next ∷ []) S)
 quietly_goes {A} plan S ds f next there quiet fit sound frames kept same none k =
     let U = do_deeds plan ds S in
-    let q : Quietly plan S U = quiet_deeds plan ds S quiet (fit_before plan ds (Go_on f next ∷ []) S fit) (sound_before plan ds (Go_on f next ∷ []) S sound) frames k in
-    subst (λ (V : State A). LeveledIn plan V) (sym (in_turn plan ds (Go_on f next ∷ []) S))
+    let q : Quietly plan S U = quiet_deeds plan ds S quiet (fit_before plan ds (GoOn (frame_id f) next ∷ []) S fit) (sound_before plan ds (GoOn (frame_id f) next ∷ []) S sound) frames k in
+    subst (λ (V : State A). LeveledIn plan V) (sym (in_turn plan ds (GoOn (frame_id f) next ∷ []) S))
     (plain_goes plan U.cpus U.locks U.tree f next q.levels (subst (λ C. 1 ≤ on C f) (sym q.cpus) there) (subst (λ C. FrameKept (frame_of C f) next) (sym q.cpus) kept)
     (λ n. same U.tree n ∙ sym (ap (λ C. awaited plan U.tree (frame_of C f).pending n) q.cpus)) (λ p e a. absurd (none p e a)))

@@ -24,7 +24,10 @@ use Rattle.wdf_model.specs.parts.Cpus.{frame_of, irql, is_empty_cpu, top}
 use Rattle.wdf_model.specs.parts.Cpus as cpus
 use Rattle.wdf_model.specs.parts.Locks.{lock_of_callback}
 use Rattle.wdf_model.specs.State.{State, declared_in, declares_in, is_proper}
-use Rattle.wdf_model.specs.rules.Deeds.{Deed, Pop_frame, Push_frame, do_deeds}
+use Rattle.wdf_model.specs.Ids.{cpu_of, frame_id, irql_of}
+use Rattle.wdf_model.specs.declared.deed.Deed.{Deed}
+use Rattle.wdf_model.specs.declared.deed.Deed.TheVariants.{PopFrame, PushFrame}
+use Rattle.wdf_model.specs.rules.Deeds.{do_deeds}
 use Rattle.wdf_model.specs.rules.Script.{intent_of, statement_at}
 use Rattle.wdf_model.specs.rules.Starts.{end_deeds, end_of_step, may_start, new_frame, next_number, release_if_any, stage_deeds, start_deeds, start_effect, take_if_any}
 use Rattle.wdf_model.specs.rules.Posts.{post_deeds}
@@ -68,7 +71,7 @@ start_levels {A} plan m S cpu c o r resolved may_come fit sound frames k =
     let level : ℕ = callback_irql plan c o.id.0 in
     let l : Option LockRef = lock_of_callback plan c o.id.0 (declared_in plan S o.id.0) in
     let ds : List Deed = start_effect plan S cpu c o.id.0 r in
-    let es : List Deed = Push_frame cpu f frame level ∷ take_if_any f l in
+    let es : List Deed = PushFrame (cpu_of cpu) (frame_id f) frame (irql_of level) ∷ take_if_any f l in
     let U : State A = do_deeds plan ds S in
     let q : Quietly plan S U = quiet_deeds plan ds S (start_effect_none plan S cpu c o.id.0 r) (fit_before plan ds es S fit) (sound_before plan ds es S sound) frames k in
     let b : Before plan S U = (start_effect_sound plan S cpu c o.id.0 r).1 in
@@ -81,7 +84,7 @@ start_levels {A} plan m S cpu c o r resolved may_come fit sound frames k =
     (λ lock. ap (λ x. same_kind x kind.SpinLock) (b.kinds o.id.0) ∙ unlike plan S c o.id.0 resolved declares lock)
     (ap (lock_of_callback plan c o.id.0) (b.declared o.id.0)) q.levels))
   where
-    by_lock : {A : Type 0} {plan : Plan} (U : State A) (cpu f : ℕ) (frame : Frame) (level : ℕ) (l : Option LockRef) → Leveled plan (cpus.push U.cpus cpu f frame level) (with_own U.locks l f) U.tree → LeveledIn plan (do_deeds plan (Push_frame cpu f frame level ∷ take_if_any f l) U)
+    by_lock : {A : Type 0} {plan : Plan} (U : State A) (cpu f : ℕ) (frame : Frame) (level : ℕ) (l : Option LockRef) → Leveled plan (cpus.push U.cpus cpu f frame level) (with_own U.locks l f) U.tree → LeveledIn plan (do_deeds plan (PushFrame (cpu_of cpu) (frame_id f) frame (irql_of level) ∷ take_if_any f l) U)
     by_lock U cpu f frame level None k = k
     by_lock U cpu f frame level (Some l) k = k
 
@@ -92,7 +95,7 @@ ends_step plan S T rank.Sequence c o v l = l
 ends_step plan S T _ c o v l = l
 
 by_own : {A : Type 0} (plan : Plan) (S : State A) (cpu : ℕ) (k : Rank) (c : Callback) (o : ℕ) (v : Value) (l : Option LockRef) → Leveled plan (cpus.pop S.cpus cpu) (less_own S.locks l) S.tree
-    → LeveledIn plan (do_deeds plan (release_if_any l ++ Pop_frame cpu ∷ end_of_step plan S k c o v) S)
+    → LeveledIn plan (do_deeds plan (release_if_any l ++ PopFrame (cpu_of cpu) ∷ end_of_step plan S k c o v) S)
 by_own plan S cpu k c o v None l = ends_step plan S _ k c o v l
 by_own plan S cpu k c o v (Some x) l = ends_step plan S _ k c o v l
 

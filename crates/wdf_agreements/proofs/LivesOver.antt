@@ -27,7 +27,9 @@ use Rattle.wdf_model.specs.parts.Requests as requests
 use Rattle.wdf_model.specs.parts.Queues.{waiting_in}
 use Rattle.wdf_model.specs.parts.Control as control
 use Rattle.wdf_model.specs.State.{State}
-use Rattle.wdf_model.specs.rules.Deeds.{Deed, Create, Make_request, Arrive, Ask_deletion, Refer, Unrefer, Write_cell, Note, Clean_up, End_life, Requeue, Forward, Give_back, Send_request, Complete_request, Purge_queue, Close_returning, Close_device, arrive_at, ask_object, ask_objects, do_deed, give_up}
+use Rattle.wdf_model.specs.declared.deed.Deed.{Deed}
+use Rattle.wdf_model.specs.declared.deed.Deed.TheVariants.{Create, MakeRequest, Arrive, AskDeletion, Refer, Unrefer, WriteCell, Note, CleanUp, EndLife, Requeue, Forward, GiveBack, SendRequest, CompleteRequest, PurgeQueue, CloseReturning, CloseDevice}
+use Rattle.wdf_model.specs.rules.Deeds.{arrive_at, ask_object, ask_objects, do_deed, give_up}
 use Rattle.wdf_model.specs.rules.Steps.{deeds}
 use Rattle.wdf_model.specs.rules.Ready.{IsRunOf, state_after}
 use Rattle.wdf_model.specs.laws.Fits.{fits}
@@ -244,26 +246,26 @@ abbrev tree_of : {A : Type 0} → State A → Tree
 tree_of S = S.tree
 
 lives_by : {A : Type 0} (plan : Plan) (d : Deed) (S : State A) → fits plan d S ≡ true → Lives S.tree → Lives (do_deed plan d S).tree
-lives_by plan (Create k class parent) S f q = object_made S.tree k class parent (search both_left) q
-lives_by plan (Make_request class parent) S f q = object_made S.tree kind.Made class parent (search both_left) q
-lives_by plan (Arrive device info p) S f q = same_tree _ _ (arrived S device info p) (object_made S.tree kind.Request 0 device (search both_left) q)
-lives_by plan (Ask_deletion o) S f q = asked S o q
-lives_by plan (Refer o) S f q = object_changes S.tree o (λ n. record n { references = n.references + 1 }) refl refl q
-lives_by plan (Unrefer o) S f q = object_changes S.tree o (λ n. record n { references = n.references - 1 }) refl refl q
-lives_by plan (Write_cell o k v) S f q = object_changes S.tree o (λ n. record n { cells = slice_set n.cells k v }) refl refl q
-lives_by plan (Note o c) S f q = let k = noted_kept c (node_of S.tree o) in object_changes S.tree o (noted c) (ap is_live k.0) k.1 q
-lives_by plan (Clean_up o) S f q =
-    let waits : is_asked (life_of S.tree o) ≡ true = search both_left in
-    object_changes S.tree o (with_life life.Cleaned) (asked_off (life_of S.tree o) waits) refl q
-lives_by plan (End_life o) S f q = let done : is_cleaned (life_of S.tree o) ≡ true = search both_left in ended S.tree o done q
-lives_by plan (Requeue r p) S f q = same_tree _ _ (gives_up tree_of (λ S Q R P. refl) S r) q
-lives_by plan (Forward r p) S f q = same_tree _ _ (gives_up tree_of (λ S Q R P. refl) S r) q
-lives_by plan (Give_back r p) S f q = same_tree _ _ (gives_up tree_of (λ S Q R P. refl) S r) q
-lives_by plan (Send_request r t forget) S f q = same_tree _ _ (gives_up_if tree_of (λ S Q R P. refl) S forget r) q
-lives_by plan (Complete_request r) S f q = asked (record (give_up S r) { requests = requests.complete S.requests r }) r (same_tree _ _ (gives_up tree_of (λ S Q R P. refl) S r) q)
-lives_by plan (Purge_queue p) S f q = same_tree _ _ (withdraws tree_of (λ S Q R P. refl) plan p (waiting_in S.queues p) (record S { control = control.set_mode S.control p mode.Purged })) q
-lives_by plan (Close_returning d) S f q = same_tree _ _ (returns_closed tree_of (λ S Q R P. refl) (managed_queues plan d) S) q
-lives_by plan (Close_device d) S f q = same_tree _ _ (queues_closed tree_of (λ S Q R P. refl) (queues_of plan d) (record S { control = control.shut S.control d })) q
+lives_by plan (Create k class parent) S f q = object_made S.tree k class parent.0 (search both_left) q
+lives_by plan (MakeRequest class parent) S f q = object_made S.tree kind.Made class parent.0 (search both_left) q
+lives_by plan (Arrive device info p) S f q = same_tree _ _ (arrived S device.0 info p) (object_made S.tree kind.Request 0 device.0 (search both_left) q)
+lives_by plan (AskDeletion o) S f q = asked S o.0 q
+lives_by plan (Refer o) S f q = object_changes S.tree o.0 (λ n. record n { references = n.references + 1 }) refl refl q
+lives_by plan (Unrefer o) S f q = object_changes S.tree o.0 (λ n. record n { references = n.references - 1 }) refl refl q
+lives_by plan (WriteCell o k v) S f q = object_changes S.tree o.0 (λ n. record n { cells = slice_set n.cells k v }) refl refl q
+lives_by plan (Note o c) S f q = let k = noted_kept c (node_of S.tree o.0) in object_changes S.tree o.0 (noted c) (ap is_live k.0) k.1 q
+lives_by plan (CleanUp o) S f q =
+    let waits : is_asked (life_of S.tree o.0) ≡ true = search both_left in
+    object_changes S.tree o.0 (with_life life.Cleaned) (asked_off (life_of S.tree o.0) waits) refl q
+lives_by plan (EndLife o) S f q = let done : is_cleaned (life_of S.tree o.0) ≡ true = search both_left in ended S.tree o.0 done q
+lives_by plan (Requeue r p) S f q = same_tree _ _ (gives_up tree_of (λ S Q R P. refl) S r.0) q
+lives_by plan (Forward r p) S f q = same_tree _ _ (gives_up tree_of (λ S Q R P. refl) S r.0) q
+lives_by plan (GiveBack r p) S f q = same_tree _ _ (gives_up tree_of (λ S Q R P. refl) S r.0) q
+lives_by plan (SendRequest r t forget) S f q = same_tree _ _ (gives_up_if tree_of (λ S Q R P. refl) S forget r.0) q
+lives_by plan (CompleteRequest r) S f q = asked (record (give_up S r.0) { requests = requests.complete S.requests r.0 }) r.0 (same_tree _ _ (gives_up tree_of (λ S Q R P. refl) S r.0) q)
+lives_by plan (PurgeQueue p) S f q = same_tree _ _ (withdraws tree_of (λ S Q R P. refl) plan p.0 (waiting_in S.queues p.0) (record S { control = control.set_mode S.control p.0 mode.Purged })) q
+lives_by plan (CloseReturning d) S f q = same_tree _ _ (returns_closed tree_of (λ S Q R P. refl) (managed_queues plan d.0) S) q
+lives_by plan (CloseDevice d) S f q = same_tree _ _ (queues_closed tree_of (λ S Q R P. refl) (queues_of plan d.0) (record S { control = control.shut S.control d.0 })) q
 lives_by plan _ S f q = q
 
 -- ---- the opening of a resolved plan

@@ -22,7 +22,9 @@ use Rattle.wdf_model.specs.parts.Requests as requests
 use Rattle.wdf_model.specs.parts.Queues.{waiting_in}
 use Rattle.wdf_model.specs.parts.Control as control
 use Rattle.wdf_model.specs.State.{State}
-use Rattle.wdf_model.specs.rules.Deeds.{Deed, Arrive, Ask_deletion, Take_lock, Release_lock, Requeue, Forward, Give_back, Send_request, Complete_request, Purge_queue, Close_returning, Close_device, arrive_at, do_deed, give_up}
+use Rattle.wdf_model.specs.declared.deed.Deed.{Deed}
+use Rattle.wdf_model.specs.declared.deed.Deed.TheVariants.{Arrive, AskDeletion, TakeLock, ReleaseLock, Requeue, Forward, GiveBack, SendRequest, CompleteRequest, PurgeQueue, CloseReturning, CloseDevice}
+use Rattle.wdf_model.specs.rules.Deeds.{arrive_at, do_deed, give_up}
 use Rattle.wdf_model.specs.rules.Steps.{deeds}
 use Rattle.wdf_model.specs.rules.Ready.{IsRunOf, state_after}
 use Rattle.wdf_model.specs.laws.Fits.{fits}
@@ -98,19 +100,19 @@ same_once : (K L : Locks) → L ≡ K → Once K → Once L
 same_once K L e q = subst Once (sym e) q
 
 deed_keeps : {A : Type 0} (plan : Plan) (d : Deed) (S : State A) → fits plan d S ≡ true → Once S.locks → Once (do_deed plan d S).locks
-deed_keeps plan (Take_lock l f by_call) S free q = taken S.locks l f by_call free q
-deed_keeps plan (Release_lock l) S h q = released S.locks l q
-deed_keeps plan (Arrive device info p) S h q = same_once _ _ (arrived S device info p) q
-deed_keeps plan (Ask_deletion o) S h q = same_once _ _ (asks_all locks_in (λ S T D W U. refl) (subtree S.tree o) S) q
-deed_keeps plan (Requeue r p) S f q = same_once _ _ (gives_up locks_in (λ S Q R P. refl) S r) q
-deed_keeps plan (Forward r p) S f q = same_once _ _ (gives_up locks_in (λ S Q R P. refl) S r) q
-deed_keeps plan (Give_back r p) S f q = same_once _ _ (gives_up locks_in (λ S Q R P. refl) S r) q
-deed_keeps plan (Send_request r t forget) S f q = same_once _ _ (gives_up_if locks_in (λ S Q R P. refl) S forget r) q
-deed_keeps plan (Complete_request r) S f q =
-    same_once _ _ (asks_all locks_in (λ S T D W U. refl) (subtree (give_up S r).tree r) (record (give_up S r) { requests = requests.complete S.requests r }) ∙ gives_up locks_in (λ S Q R P. refl) S r) q
-deed_keeps plan (Purge_queue p) S f q = same_once _ _ (withdraws locks_in (λ S Q R P. refl) plan p (waiting_in S.queues p) (record S { control = control.set_mode S.control p mode.Purged })) q
-deed_keeps plan (Close_returning d) S f q = same_once _ _ (returns_closed locks_in (λ S Q R P. refl) (managed_queues plan d) S) q
-deed_keeps plan (Close_device d) S f q = same_once _ _ (queues_closed locks_in (λ S Q R P. refl) (queues_of plan d) (record S { control = control.shut S.control d })) q
+deed_keeps plan (TakeLock l f by_call) S free q = taken S.locks l f.0 by_call free q
+deed_keeps plan (ReleaseLock l) S h q = released S.locks l q
+deed_keeps plan (Arrive device info p) S h q = same_once _ _ (arrived S device.0 info p) q
+deed_keeps plan (AskDeletion o) S h q = same_once _ _ (asks_all locks_in (λ S T D W U. refl) (subtree S.tree o.0) S) q
+deed_keeps plan (Requeue r p) S f q = same_once _ _ (gives_up locks_in (λ S Q R P. refl) S r.0) q
+deed_keeps plan (Forward r p) S f q = same_once _ _ (gives_up locks_in (λ S Q R P. refl) S r.0) q
+deed_keeps plan (GiveBack r p) S f q = same_once _ _ (gives_up locks_in (λ S Q R P. refl) S r.0) q
+deed_keeps plan (SendRequest r t forget) S f q = same_once _ _ (gives_up_if locks_in (λ S Q R P. refl) S forget r.0) q
+deed_keeps plan (CompleteRequest r) S f q =
+    same_once _ _ (asks_all locks_in (λ S T D W U. refl) (subtree (give_up S r.0).tree r.0) (record (give_up S r.0) { requests = requests.complete S.requests r.0 }) ∙ gives_up locks_in (λ S Q R P. refl) S r.0) q
+deed_keeps plan (PurgeQueue p) S f q = same_once _ _ (withdraws locks_in (λ S Q R P. refl) plan p.0 (waiting_in S.queues p.0) (record S { control = control.set_mode S.control p.0 mode.Purged })) q
+deed_keeps plan (CloseReturning d) S f q = same_once _ _ (returns_closed locks_in (λ S Q R P. refl) (managed_queues plan d.0) S) q
+deed_keeps plan (CloseDevice d) S f q = same_once _ _ (queues_closed locks_in (λ S Q R P. refl) (queues_of plan d.0) (record S { control = control.shut S.control d.0 })) q
 deed_keeps plan _ S h q = q
 
 -- ---- each place of a run

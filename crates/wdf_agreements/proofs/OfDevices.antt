@@ -25,7 +25,9 @@ use Rattle.wdf_model.specs.parts.Queues.{front, waiting_in}
 use Rattle.wdf_model.specs.parts.Control as control
 use Rattle.wdf_model.specs.parts.Targets.{is_forgotten, is_undone, routine_due}
 use Rattle.wdf_model.specs.State.{State, opening, returns_to, withdrawn_place}
-use Rattle.wdf_model.specs.rules.Deeds.{Deed, Make_request, Arrive, Ask_deletion, End_life, Present, Receive, Requeue, Forward, Give_back, Withdraw, Mark_request, Unmark_request, Cancel_request, Take_cancel, Send_request, Finish_sending, Come_back, Complete_request, Purge_queue, Close_returning, Close_device, arrive_at, cancel_in, close_queue, close_returning, do_deed, finished_at, give_up, give_up_if, queued, withdraw}
+use Rattle.wdf_model.specs.declared.deed.Deed.{Deed}
+use Rattle.wdf_model.specs.declared.deed.Deed.TheVariants.{MakeRequest, Arrive, AskDeletion, EndLife, Present, Receive, Requeue, Forward, GiveBack, Withdraw, MarkRequest, UnmarkRequest, CancelRequest, TakeCancel, SendRequest, FinishSending, ComeBack, CompleteRequest, PurgeQueue, CloseReturning, CloseDevice}
+use Rattle.wdf_model.specs.rules.Deeds.{arrive_at, cancel_in, close_queue, close_returning, do_deed, finished_at, give_up, give_up_if, queued, withdraw}
 use Rattle.wdf_model.specs.rules.Calls.{origin_or_none}
 use Rattle.wdf_model.specs.rules.Ready.{IsRunOf, ready, state_after}
 use Rattle.wdf_model.specs.laws.Fits.{fits, is_given}
@@ -355,41 +357,41 @@ unmarked_by plan q true k = record { at = k.at; from = k.from; held = k.held }
 unmarked_by plan q false k = k
 
 devices_by : {A : Type 0} (plan : Plan) (d : Deed) (S : State A) → fits plan d S ≡ true → Sound plan d S → Placed S → OfDevices plan S.requests → OfDevices plan (do_deed plan d S).requests
-devices_by plan (Make_request class parent) S f s k d =
-    new_one plan S.requests (next_id S.tree) place.Owned (made_info (nearest_device S.tree parent)) (record { at = tt; from = tt; held = λ h c. absurd (let z : ⊥ = cc in z) }) d
+devices_by plan (MakeRequest class parent) S f s k d =
+    new_one plan S.requests (next_id S.tree) place.Owned (made_info (nearest_device S.tree parent.0)) (record { at = tt; from = tt; held = λ h c. absurd (let z : ⊥ = cc in z) }) d
 devices_by plan (Arrive device info p) S f s k d =
-    same_requests plan (requests.arrive S.requests (next_id S.tree) p info) (arrive_at S device info p).requests (came S device info p)
-    (new_one plan S.requests (next_id S.tree) p info (arrives_well plan p info device s.0 s.1 s.2) d)
-devices_by plan (Ask_deletion o) S f s k d = same_requests plan _ _ (asks_all requests_of (λ S T D W U. refl) (subtree S.tree o) S) d
-devices_by plan (End_life o) S f s k d = forgets plan S.requests o d
-devices_by plan (Present q r) S f s k d = moves_one plan S.requests r place.Owned tt (from_queued q (place_of S.requests r) (front_there S q r k f)) d
-devices_by plan (Receive q r) S f s k d = moves_one plan S.requests r place.Owned tt (from_returning q (place_of S.requests r) f) d
-devices_by plan (Requeue r q) S f s k d = enters plan S r q (back_to plan S r q k d f s) d
-devices_by plan (Forward r q) S f s k d = enters plan S r q s d
-devices_by plan (Give_back r q) S f (inl s) k d = goes_back plan S r q (back_to plan S r q k d f s) d
-devices_by plan (Give_back r q) S f (inr s) k d = goes_back plan S r q s d
-devices_by plan (Withdraw q r) S f s k d = cancelled_in plan S q r (at_queue plan q (place_of S.requests r) (info_of S.requests r).device.0 f (d r).at) d
-devices_by plan (Mark_request r) S f s k d = one_changes plan S.requests r marked (marked_by plan (request_of S.requests r) (request_of S.requests r).info.cancelled (d r)) d
-devices_by plan (Unmark_request r) S f s k d = one_changes plan S.requests r unmarked (unmarked_by plan (request_of S.requests r) (is_marked (request_of S.requests r).info.mark) (d r)) d
-devices_by plan (Cancel_request r) S f s k d = cancels plan S.requests r d
-devices_by plan (Take_cancel r) S f s k d = let e = d r in one_changes plan S.requests r (with_mark marks.Taken) (record { at = e.at; from = e.from; held = e.held }) d
-devices_by plan (Send_request r t forget) S f s k d =
-    let owned : is_owned (place_of S.requests r) ≡ true = search both_left in
-    sends plan S r t forget owned d
-devices_by plan (Finish_sending r st) S f s k d =
-    let sent : is_sent (place_of S.requests r) ≡ true = both_left (is_sent (place_of S.requests r)) (is_undone S.targets r) f in
-    moves_one plan S.requests r (finished_at (is_forgotten S.targets r) st (place_of S.requests r)) (fits_finished plan (is_forgotten S.targets r) st (place_of S.requests r) (info_of S.requests r).device.0 sent) (finished (is_forgotten S.targets r) st (place_of S.requests r) sent) d
-devices_by plan (Come_back r) S f s k d =
-    let sent : is_sent (place_of S.requests r) ≡ true = both_left (is_sent (place_of S.requests r)) (is_some (routine_due S.targets r)) f in
-    moves_one plan S.requests r place.Owned tt (from_sent (place_of S.requests r) sent) d
-devices_by plan (Complete_request r) S f s k d =
-    same_requests plan (requests.complete S.requests r) (do_deed plan (Complete_request r) S).requests
-    (asks_all requests_of (λ S T D W U. refl) (subtree (give_up S r).tree r) (record (give_up S r) { requests = requests.complete S.requests r }))
-    (moves_one plan S.requests r place.Done tt refl d)
-devices_by plan (Purge_queue q) S f s k d =
-    all_withdrawn plan q (waiting_in S.queues q) (record S { control = control.set_mode S.control q mode.Purged }) (λ r more. waiting_of plan S q r k d more) d
-devices_by plan (Close_returning x) S f s k d = all_returning plan (managed_queues plan x) S d
-devices_by plan (Close_device x) S f s k d = all_closed plan (queues_of plan x) (record S { control = control.shut S.control x }) d
+    same_requests plan (requests.arrive S.requests (next_id S.tree) p info) (arrive_at S device.0 info p).requests (came S device.0 info p)
+    (new_one plan S.requests (next_id S.tree) p info (arrives_well plan p info device.0 s.0 s.1 s.2) d)
+devices_by plan (AskDeletion o) S f s k d = same_requests plan _ _ (asks_all requests_of (λ S T D W U. refl) (subtree S.tree o.0) S) d
+devices_by plan (EndLife o) S f s k d = forgets plan S.requests o.0 d
+devices_by plan (Present q r) S f s k d = moves_one plan S.requests r.0 place.Owned tt (from_queued q.0 (place_of S.requests r.0) (front_there S q.0 r.0 k f)) d
+devices_by plan (Receive q r) S f s k d = moves_one plan S.requests r.0 place.Owned tt (from_returning q.0 (place_of S.requests r.0) f) d
+devices_by plan (Requeue r q) S f s k d = enters plan S r.0 q.0 (back_to plan S r.0 q.0 k d f s) d
+devices_by plan (Forward r q) S f s k d = enters plan S r.0 q.0 s d
+devices_by plan (GiveBack r q) S f (inl s) k d = goes_back plan S r.0 q.0 (back_to plan S r.0 q.0 k d f s) d
+devices_by plan (GiveBack r q) S f (inr s) k d = goes_back plan S r.0 q.0 s d
+devices_by plan (Withdraw q r) S f s k d = cancelled_in plan S q.0 r.0 (at_queue plan q.0 (place_of S.requests r.0) (info_of S.requests r.0).device.0 f (d r.0).at) d
+devices_by plan (MarkRequest r) S f s k d = one_changes plan S.requests r.0 marked (marked_by plan (request_of S.requests r.0) (request_of S.requests r.0).info.cancelled (d r.0)) d
+devices_by plan (UnmarkRequest r) S f s k d = one_changes plan S.requests r.0 unmarked (unmarked_by plan (request_of S.requests r.0) (is_marked (request_of S.requests r.0).info.mark) (d r.0)) d
+devices_by plan (CancelRequest r) S f s k d = cancels plan S.requests r.0 d
+devices_by plan (TakeCancel r) S f s k d = let e = d r.0 in one_changes plan S.requests r.0 (with_mark marks.Taken) (record { at = e.at; from = e.from; held = e.held }) d
+devices_by plan (SendRequest r t forget) S f s k d =
+    let owned : is_owned (place_of S.requests r.0) ≡ true = search both_left in
+    sends plan S r.0 t.0 forget owned d
+devices_by plan (FinishSending r st) S f s k d =
+    let sent : is_sent (place_of S.requests r.0) ≡ true = both_left (is_sent (place_of S.requests r.0)) (is_undone S.targets r.0) f in
+    moves_one plan S.requests r.0 (finished_at (is_forgotten S.targets r.0) st (place_of S.requests r.0)) (fits_finished plan (is_forgotten S.targets r.0) st (place_of S.requests r.0) (info_of S.requests r.0).device.0 sent) (finished (is_forgotten S.targets r.0) st (place_of S.requests r.0) sent) d
+devices_by plan (ComeBack r) S f s k d =
+    let sent : is_sent (place_of S.requests r.0) ≡ true = both_left (is_sent (place_of S.requests r.0)) (is_some (routine_due S.targets r.0)) f in
+    moves_one plan S.requests r.0 place.Owned tt (from_sent (place_of S.requests r.0) sent) d
+devices_by plan (CompleteRequest r) S f s k d =
+    same_requests plan (requests.complete S.requests r.0) (do_deed plan (CompleteRequest r) S).requests
+    (asks_all requests_of (λ S T D W U. refl) (subtree (give_up S r.0).tree r.0) (record (give_up S r.0) { requests = requests.complete S.requests r.0 }))
+    (moves_one plan S.requests r.0 place.Done tt refl d)
+devices_by plan (PurgeQueue q) S f s k d =
+    all_withdrawn plan q.0 (waiting_in S.queues q.0) (record S { control = control.set_mode S.control q.0 mode.Purged }) (λ r more. waiting_of plan S q.0 r k d more) d
+devices_by plan (CloseReturning x) S f s k d = all_returning plan (managed_queues plan x.0) S d
+devices_by plan (CloseDevice x) S f s k d = all_closed plan (queues_of plan x.0) (record S { control = control.shut S.control x.0 }) d
 devices_by plan _ S f s k d = d
 
 -- ---- each place of a run

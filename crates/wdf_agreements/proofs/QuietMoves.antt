@@ -30,7 +30,9 @@ use Rattle.wdf_model.specs.parts.Requests as requests
 use Rattle.wdf_model.specs.parts.Queues.{waiting_in}
 use Rattle.wdf_model.specs.parts.Control as control
 use Rattle.wdf_model.specs.State.{State, is_locked, is_waited_for, object_in, waits_for}
-use Rattle.wdf_model.specs.rules.Deeds.{Deed, Create, Make_request, Arrive, Ask_deletion, Refer, Unrefer, Write_cell, Note, Clean_up, End_life, Push_frame, Go_on, Pop_frame, Park_frame, Unpark_frame, Raise, Lower, Take_lock, Release_lock, Requeue, Forward, Give_back, Send_request, Complete_request, Purge_queue, Close_returning, Close_device, arrive_at, ask_object, do_deed, do_deeds, give_up}
+use Rattle.wdf_model.specs.declared.deed.Deed.{Deed}
+use Rattle.wdf_model.specs.declared.deed.Deed.TheVariants.{Create, MakeRequest, Arrive, AskDeletion, Refer, Unrefer, WriteCell, Note, CleanUp, EndLife, PushFrame, GoOn, PopFrame, ParkFrame, UnparkFrame, Raise, Lower, TakeLock, ReleaseLock, Requeue, Forward, GiveBack, SendRequest, CompleteRequest, PurgeQueue, CloseReturning, CloseDevice}
+use Rattle.wdf_model.specs.rules.Deeds.{arrive_at, ask_object, do_deed, do_deeds, give_up}
 use Rattle.wdf_model.specs.rules.Calls.{level_of_kind}
 use Rattle.wdf_model.specs.rules.Faults.{is_acquire}
 use Rattle.wdf_model.specs.rules.Starts.{clean_ready, destroy_ready}
@@ -98,7 +100,7 @@ same_early T U x e h = ap (λ (V : Tree). is_past_cleanup (life_of V x)) e ∙ h
 
 -- the object that a deed cleans up, if any
 abbrev Cleans : Deed → ℕ → Type 0
-Cleans (Clean_up o) x = x ≡ o
+Cleans (CleanUp o) x = x ≡ o.0
 Cleans _ x = ⊥
 
 cleaned_past : (l : Life) → is_cleaned l ≡ true → is_past_cleanup l ≡ true
@@ -114,54 +116,54 @@ ended_apart S o x f h e =
     let z : ⊥ = cc in z
 
 deed_early : {A : Type 0} (plan : Plan) (d : Deed) (S : State A) → fits plan d S ≡ true → (x : ℕ) → (Cleans d x → ⊥) → is_past_cleanup (life_of S.tree x) ≡ false → is_past_cleanup (life_of (do_deed plan d S).tree x) ≡ false
-deed_early plan (Create k class parent) S f x n h = early_made S.tree k class parent x h
-deed_early plan (Make_request class parent) S f x n h = early_made S.tree kind.Made class parent x h
-deed_early plan (Arrive device info p) S f x n h = same_early _ _ x (arrived S device info p).0 (early_made S.tree kind.Request 0 device x h)
-deed_early plan (Ask_deletion o) S f x n h = all_asked (subtree S.tree o) S x h
-deed_early plan (Refer o) S f x n h = early_changes S.tree o (λ m. record m { references = m.references + 1 }) refl x h
-deed_early plan (Unrefer o) S f x n h = early_changes S.tree o (λ m. record m { references = m.references - 1 }) refl x h
-deed_early plan (Write_cell o k v) S f x n h = early_changes S.tree o (λ m. record m { cells = slice_set m.cells k v }) refl x h
-deed_early plan (Note o c) S f x n h = early_changes S.tree o (noted c) (ap is_past_cleanup (noted_life c (node_of S.tree o))) x h
-deed_early plan (Clean_up o) S f x n h = ap (λ (m : Node). is_past_cleanup m.life) (entry_put_other gone S.tree.nodes o x (with_life life.Cleaned (node_of S.tree o)) n) ∙ h
-deed_early plan (End_life o) S f x n h = ap (λ (m : Node). is_past_cleanup m.life) (entry_put_other gone S.tree.nodes o x gone (ended_apart S o x f h)) ∙ h
-deed_early plan (Requeue r p) S f x n h = same_early _ _ x (gives_up tree_of (λ S Q R P. refl) S r) h
-deed_early plan (Forward r p) S f x n h = same_early _ _ x (gives_up tree_of (λ S Q R P. refl) S r) h
-deed_early plan (Give_back r p) S f x n h = same_early _ _ x (gives_up tree_of (λ S Q R P. refl) S r) h
-deed_early plan (Send_request r t forget) S f x n h = same_early _ _ x (gives_up_if tree_of (λ S Q R P. refl) S forget r) h
-deed_early plan (Complete_request r) S f x n h =
-    all_asked (subtree (give_up S r).tree r) (record (give_up S r) { requests = requests.complete S.requests r }) x (same_early _ _ x (gives_up tree_of (λ S Q R P. refl) S r) h)
-deed_early plan (Purge_queue p) S f x n h = same_early _ _ x (withdraws tree_of (λ S Q R P. refl) plan p (waiting_in S.queues p) (record S { control = control.set_mode S.control p mode.Purged })) h
-deed_early plan (Close_returning d) S f x n h = same_early _ _ x (returns_closed tree_of (λ S Q R P. refl) (managed_queues plan d) S) h
-deed_early plan (Close_device d) S f x n h = same_early _ _ x (queues_closed tree_of (λ S Q R P. refl) (queues_of plan d) (record S { control = control.shut S.control d })) h
+deed_early plan (Create k class parent) S f x n h = early_made S.tree k class parent.0 x h
+deed_early plan (MakeRequest class parent) S f x n h = early_made S.tree kind.Made class parent.0 x h
+deed_early plan (Arrive device info p) S f x n h = same_early _ _ x (arrived S device.0 info p).0 (early_made S.tree kind.Request 0 device.0 x h)
+deed_early plan (AskDeletion o) S f x n h = all_asked (subtree S.tree o.0) S x h
+deed_early plan (Refer o) S f x n h = early_changes S.tree o.0 (λ m. record m { references = m.references + 1 }) refl x h
+deed_early plan (Unrefer o) S f x n h = early_changes S.tree o.0 (λ m. record m { references = m.references - 1 }) refl x h
+deed_early plan (WriteCell o k v) S f x n h = early_changes S.tree o.0 (λ m. record m { cells = slice_set m.cells k v }) refl x h
+deed_early plan (Note o c) S f x n h = early_changes S.tree o.0 (noted c) (ap is_past_cleanup (noted_life c (node_of S.tree o.0))) x h
+deed_early plan (CleanUp o) S f x n h = ap (λ (m : Node). is_past_cleanup m.life) (entry_put_other gone S.tree.nodes o.0 x (with_life life.Cleaned (node_of S.tree o.0)) n) ∙ h
+deed_early plan (EndLife o) S f x n h = ap (λ (m : Node). is_past_cleanup m.life) (entry_put_other gone S.tree.nodes o.0 x gone (ended_apart S o.0 x f h)) ∙ h
+deed_early plan (Requeue r p) S f x n h = same_early _ _ x (gives_up tree_of (λ S Q R P. refl) S r.0) h
+deed_early plan (Forward r p) S f x n h = same_early _ _ x (gives_up tree_of (λ S Q R P. refl) S r.0) h
+deed_early plan (GiveBack r p) S f x n h = same_early _ _ x (gives_up tree_of (λ S Q R P. refl) S r.0) h
+deed_early plan (SendRequest r t forget) S f x n h = same_early _ _ x (gives_up_if tree_of (λ S Q R P. refl) S forget r.0) h
+deed_early plan (CompleteRequest r) S f x n h =
+    all_asked (subtree (give_up S r.0).tree r.0) (record (give_up S r.0) { requests = requests.complete S.requests r.0 }) x (same_early _ _ x (gives_up tree_of (λ S Q R P. refl) S r.0) h)
+deed_early plan (PurgeQueue p) S f x n h = same_early _ _ x (withdraws tree_of (λ S Q R P. refl) plan p.0 (waiting_in S.queues p.0) (record S { control = control.set_mode S.control p.0 mode.Purged })) h
+deed_early plan (CloseReturning d) S f x n h = same_early _ _ x (returns_closed tree_of (λ S Q R P. refl) (managed_queues plan d.0) S) h
+deed_early plan (CloseDevice d) S f x n h = same_early _ _ x (queues_closed tree_of (λ S Q R P. refl) (queues_of plan d.0) (record S { control = control.shut S.control d.0 })) h
 deed_early plan _ S f x n h = h
 
 -- ---- processors and locks that stay
 
 pub quiet_cpus : {A : Type 0} (plan : Plan) (d : Deed) (S : State A) → is_quiet_deed d ≡ true → (do_deed plan d S).cpus ≡ S.cpus
-quiet_cpus plan (Push_frame cpu f frame level) S h = absurd (let z : ⊥ = cc in z)
-quiet_cpus plan (Go_on f frame) S h = absurd (let z : ⊥ = cc in z)
-quiet_cpus plan (Pop_frame cpu) S h = absurd (let z : ⊥ = cc in z)
-quiet_cpus plan (Park_frame cpu) S h = absurd (let z : ⊥ = cc in z)
-quiet_cpus plan (Unpark_frame cpu f) S h = absurd (let z : ⊥ = cc in z)
+quiet_cpus plan (PushFrame cpu f frame level) S h = absurd (let z : ⊥ = cc in z)
+quiet_cpus plan (GoOn f frame) S h = absurd (let z : ⊥ = cc in z)
+quiet_cpus plan (PopFrame cpu) S h = absurd (let z : ⊥ = cc in z)
+quiet_cpus plan (ParkFrame cpu) S h = absurd (let z : ⊥ = cc in z)
+quiet_cpus plan (UnparkFrame cpu f) S h = absurd (let z : ⊥ = cc in z)
 quiet_cpus plan (Raise f level) S h = absurd (let z : ⊥ = cc in z)
 quiet_cpus plan (Lower f level) S h = absurd (let z : ⊥ = cc in z)
-quiet_cpus plan (Take_lock l f by_call) S h = absurd (let z : ⊥ = cc in z)
-quiet_cpus plan (Release_lock l) S h = absurd (let z : ⊥ = cc in z)
-quiet_cpus plan (Arrive device info p) S h = (arrived S device info p).1
-quiet_cpus plan (Ask_deletion o) S h = asks_all cpus_of (λ S T D W U. refl) (subtree S.tree o) S
-quiet_cpus plan (Requeue r p) S h = gives_up cpus_of (λ S Q R P. refl) S r
-quiet_cpus plan (Forward r p) S h = gives_up cpus_of (λ S Q R P. refl) S r
-quiet_cpus plan (Give_back r p) S h = gives_up cpus_of (λ S Q R P. refl) S r
-quiet_cpus plan (Send_request r t forget) S h = gives_up_if cpus_of (λ S Q R P. refl) S forget r
-quiet_cpus plan (Complete_request r) S h = asks_all cpus_of (λ S T D W U. refl) (subtree (give_up S r).tree r) (record (give_up S r) { requests = requests.complete S.requests r }) ∙ gives_up cpus_of (λ S Q R P. refl) S r
-quiet_cpus plan (Purge_queue p) S h = withdraws cpus_of (λ S Q R P. refl) plan p (waiting_in S.queues p) (record S { control = control.set_mode S.control p mode.Purged })
-quiet_cpus plan (Close_returning d) S h = returns_closed cpus_of (λ S Q R P. refl) (managed_queues plan d) S
-quiet_cpus plan (Close_device d) S h = queues_closed cpus_of (λ S Q R P. refl) (queues_of plan d) (record S { control = control.shut S.control d })
+quiet_cpus plan (TakeLock l f by_call) S h = absurd (let z : ⊥ = cc in z)
+quiet_cpus plan (ReleaseLock l) S h = absurd (let z : ⊥ = cc in z)
+quiet_cpus plan (Arrive device info p) S h = (arrived S device.0 info p).1
+quiet_cpus plan (AskDeletion o) S h = asks_all cpus_of (λ S T D W U. refl) (subtree S.tree o.0) S
+quiet_cpus plan (Requeue r p) S h = gives_up cpus_of (λ S Q R P. refl) S r.0
+quiet_cpus plan (Forward r p) S h = gives_up cpus_of (λ S Q R P. refl) S r.0
+quiet_cpus plan (GiveBack r p) S h = gives_up cpus_of (λ S Q R P. refl) S r.0
+quiet_cpus plan (SendRequest r t forget) S h = gives_up_if cpus_of (λ S Q R P. refl) S forget r.0
+quiet_cpus plan (CompleteRequest r) S h = asks_all cpus_of (λ S T D W U. refl) (subtree (give_up S r.0).tree r.0) (record (give_up S r.0) { requests = requests.complete S.requests r.0 }) ∙ gives_up cpus_of (λ S Q R P. refl) S r.0
+quiet_cpus plan (PurgeQueue p) S h = withdraws cpus_of (λ S Q R P. refl) plan p.0 (waiting_in S.queues p.0) (record S { control = control.set_mode S.control p.0 mode.Purged })
+quiet_cpus plan (CloseReturning d) S h = returns_closed cpus_of (λ S Q R P. refl) (managed_queues plan d.0) S
+quiet_cpus plan (CloseDevice d) S h = queues_closed cpus_of (λ S Q R P. refl) (queues_of plan d.0) (record S { control = control.shut S.control d.0 })
 quiet_cpus plan _ S h = refl
 
 pub quiet_locks : {A : Type 0} (plan : Plan) (d : Deed) (S : State A) → is_quiet_deed d ≡ true → (do_deed plan d S).locks ≡ S.locks
-quiet_locks plan (Take_lock l f by_call) S h = absurd (let z : ⊥ = cc in z)
-quiet_locks plan (Release_lock l) S h = absurd (let z : ⊥ = cc in z)
+quiet_locks plan (TakeLock l f by_call) S h = absurd (let z : ⊥ = cc in z)
+quiet_locks plan (ReleaseLock l) S h = absurd (let z : ⊥ = cc in z)
 quiet_locks plan d S h = locks_by plan d S
 
 -- ---- what a lock, or a wait, keeps from its cleanup
@@ -184,10 +186,10 @@ unlocked : {A : Type 0} (S : State A) (o : ℕ) → clean_ready S o ≡ true →
 unlocked S o h = let n : not (is_locked S o) ≡ true = search (both_left, both_right) in not_false (is_free_lock S.locks (object_lock o)) (not_true (not (is_free_lock S.locks (object_lock o))) n)
 
 locks_apart : {A : Type 0} (plan : Plan) (d : Deed) (S : State A) → fits plan d S ≡ true → Each (ApartFrom d) S.locks.held
-locks_apart plan (Clean_up o) S f =
-    each_still (λ h. same_lock h.lock (object_lock o) ≡ false) (ApartFrom (Clean_up o))
-    (λ h off x e same. let on_ : same_lock h.lock (object_lock o) ≡ true = ap (λ (l : LockRef). same_lock l (object_lock o)) e ∙ equal x.0 o same in let z : ⊥ = cc in z)
-    S.locks.held (none_counted (λ h. same_lock h.lock (object_lock o)) S.locks.held (free_unheld S.locks (object_lock o) (unlocked S o f)))
+locks_apart plan (CleanUp o) S f =
+    each_still (λ h. same_lock h.lock (object_lock o.0) ≡ false) (ApartFrom (CleanUp o))
+    (λ h off x e same. let on_ : same_lock h.lock (object_lock o.0) ≡ true = ap (λ (l : LockRef). same_lock l (object_lock o.0)) e ∙ equal x.0 o.0 same in let z : ⊥ = cc in z)
+    S.locks.held (none_counted (λ h. same_lock h.lock (object_lock o.0)) S.locks.held (free_unheld S.locks (object_lock o.0) (unlocked S o.0 f)))
 locks_apart plan d S f = all_of (ApartFrom d) (λ h o e c. c) S.locks.held
   where
     all_of : (P : Held → Type 0) → ((h : Held) → P h) → (hs : List Held) → Each P hs
@@ -217,10 +219,10 @@ some_frame p f (x ∷ xs) more h = elim (one_or_two x f) [
     off false h = refl
 
 waits_apart : {A : Type 0} (plan : Plan) (d : Deed) (S : State A) → fits plan d S ≡ true → (f : ℕ) (p : Pending) → 1 ≤ on S.cpus f → (frame_of S.cpus f).pending ≡ Some p → Cleans d (object_in p.call.a) → ⊥
-waits_apart plan (Clean_up o) S fit f p more e same =
-    let waits : waits_for o (frame_of S.cpus f).pending ≡ true = ap (waits_for o) e ∙ equal (object_in p.call.a) o same in
-    let some : is_waited_for S o ≡ true = some_frame (λ x. waits_for o (frame_of S.cpus x).pending) f (all_frames S.cpus) more waits in
-    let none = unwaited S o fit in let z : ⊥ = cc in z
+waits_apart plan (CleanUp o) S fit f p more e same =
+    let waits : waits_for o.0 (frame_of S.cpus f).pending ≡ true = ap (waits_for o.0) e ∙ equal (object_in p.call.a) o.0 same in
+    let some : is_waited_for S o.0 ≡ true = some_frame (λ x. waits_for o.0 (frame_of S.cpus x).pending) f (all_frames S.cpus) more waits in
+    let none = unwaited S o.0 fit in let z : ⊥ = cc in z
 waits_apart plan d S fit f p more e same = same
 
 -- ---- the objects change
@@ -286,14 +288,14 @@ early_there life.Cleaned h = absurd (let z : ⊥ = cc in z)
 early_there life.Gone h = absurd (let z : ⊥ = cc in z)
 
 ends_none : {A : Type 0} (plan : Plan) (d : Deed) (S : State A) → fits plan d S ≡ true → (x : ℕ) → is_past_cleanup (life_of S.tree x) ≡ false → Ends d x → ⊥
-ends_none plan (End_life o) S f x h e = ended_apart S o x f h e
+ends_none plan (EndLife o) S f x h e = ended_apart S o.0 x f h e
 ends_none plan d S f x h e = e
 
 still_by : {A : Type 0} (plan : Plan) (d : Deed) (S : State A) → fits plan d S ≡ true → (x : ℕ) → (Cleans d x → ⊥) → is_past_cleanup (life_of S.tree x) ≡ false → Still S.tree (do_deed plan d S).tree x
 still_by plan d S f x n h = (deed_early plan d S f x n h, (let s = deed_there plan d S f x (ends_none plan d S f x h) (early_there (life_of S.tree x) h) in s.kind))
 
 frames_stay : {A : Type 0} (plan : Plan) (d : Deed) (S : State A) → fits plan d S ≡ true → Framing plan S → (f : ℕ) → 1 ≤ on S.cpus f → StaysAt S.tree (do_deed plan d S).tree (object_at S.cpus f)
-frames_stay plan (End_life o) S fit k f more = deed_there plan (End_life o) S fit (object_at S.cpus f) (off_it S.cpus o f (search both_right) more) (k.there f more)
+frames_stay plan (EndLife o) S fit k f more = deed_there plan (EndLife o) S fit (object_at S.cpus f) (off_it S.cpus o.0 f (search both_right) more) (k.there f more)
 frames_stay plan d S fit k f more = deed_there plan d S fit (object_at S.cpus f) (λ e. e) (k.there f more)
 
 pub quiet_levels : {A : Type 0} (plan : Plan) (d : Deed) (S : State A) → is_quiet_deed d ≡ true → fits plan d S ≡ true → Framing plan S → LeveledIn plan S → LeveledIn plan (do_deed plan d S)

@@ -12,7 +12,9 @@ use Rattle.wdf_model.specs.parts.Cpus.{frame_of, top}
 use Rattle.wdf_model.specs.parts.Locks.{lock_of_callback}
 use Rattle.wdf_model.specs.parts.Requests.{info_of}
 use Rattle.wdf_model.specs.State.{State, declared_in}
-use Rattle.wdf_model.specs.rules.Deeds.{Deed, Arrive, Push_frame, Go_on, Pop_frame, Park_frame, Unpark_frame, Take_lock, Requeue, Forward, Give_back, Enqueue_dpc, Enqueue_work, Start_timer, do_deed, do_deeds}
+use Rattle.wdf_model.specs.declared.deed.Deed.{Deed}
+use Rattle.wdf_model.specs.declared.deed.Deed.TheVariants.{Arrive, PushFrame, GoOn, PopFrame, ParkFrame, UnparkFrame, TakeLock, Requeue, Forward, GiveBack, EnqueueDpc, EnqueueWork, StartTimer}
+use Rattle.wdf_model.specs.rules.Deeds.{do_deed, do_deeds}
 use Rattle.wdf_model.specs.rules.Calls.{Outcome, origin_or_none}
 use Rattle.wdf_invariants.proofs.Framed.{on}
 use Rattle.wdf_invariants.proofs.FrameMoves.{FrameKept}
@@ -33,25 +35,25 @@ WaitsAt plan place.Done device = ⊥
 
 abbrev pub Sound : {A : Type 0} → Plan → Deed → State A → Type 0
 -- what arrives is of the device at which it arrives
-Sound plan (Arrive device info p) S = (info.device.0 ≡ device) × (info.origin ≡ None) × WaitsAt plan p device
+Sound plan (Arrive device info p) S = (info.device.0 ≡ device.0) × (info.origin ≡ None) × WaitsAt plan p device.0
 -- a frame begins on an object that isn't gone, and has a number of its own
-Sound plan (Push_frame cpu f frame level) S = (is_gone (life_of S.tree frame.object.id.0) ≡ false) × (on S.cpus f ≡ 0)
+Sound plan (PushFrame cpu f frame level) S = (is_gone (life_of S.tree frame.object.id.0) ≡ false) × (on S.cpus f.0 ≡ 0)
 -- a frame that goes on keeps its callback and its object
-Sound plan (Go_on f next) S = FrameKept (frame_of S.cpus f) next
+Sound plan (GoOn f next) S = FrameKept (frame_of S.cpus f.0) next
 -- the frame that ends, or parks, is there, and one that ends holds no lock; one that comes back is parked, once
-Sound plan (Pop_frame cpu) S = (f : ℕ) × (top S.cpus cpu ≡ Some f) × (on S.cpus f ≤ 1) × Each (λ (h : Held). h.frame.0 ≢ f) S.locks.held
-Sound plan (Park_frame cpu) S = (f : ℕ) × (top S.cpus cpu ≡ Some f)
-Sound plan (Unpark_frame cpu f) S = count_by (λ y. y == f) S.cpus.parked ≡ 1
+Sound plan (PopFrame cpu) S = (f : ℕ) × (top S.cpus cpu.0 ≡ Some f) × (on S.cpus f ≤ 1) × Each (λ (h : Held). h.frame.0 ≢ f) S.locks.held
+Sound plan (ParkFrame cpu) S = (f : ℕ) × (top S.cpus cpu.0 ≡ Some f)
+Sound plan (UnparkFrame cpu f) S = count_by (λ y. y == f.0) S.cpus.parked ≡ 1
 -- a lock is taken by a frame that is there, by its start or by a call
-Sound plan (Take_lock l f by_call) S = (1 ≤ on S.cpus f) × (by_call ≡ false → lock_of_frame plan S f ≡ Some l)
+Sound plan (TakeLock l f by_call) S = (1 ≤ on S.cpus f.0) × (by_call ≡ false → lock_of_frame plan S f.0 ≡ Some l)
 -- a request goes back to the queue that it came from, or on to one of its device
-Sound plan (Requeue r q) S = origin_or_none S r ≡ q
-Sound plan (Forward r q) S = device_of_queue plan q ≡ (info_of S.requests r).device.0
-Sound plan (Give_back r q) S = (origin_or_none S r ≡ q) ⊎ (device_of_queue plan q ≡ (info_of S.requests r).device.0)
+Sound plan (Requeue r q) S = origin_or_none S r.0 ≡ q.0
+Sound plan (Forward r q) S = device_of_queue plan q.0 ≡ (info_of S.requests r.0).device.0
+Sound plan (GiveBack r q) S = (origin_or_none S r.0 ≡ q.0) ⊎ (device_of_queue plan q.0 ≡ (info_of S.requests r.0).device.0)
 -- what is queued is live, or an interrupt
-Sound plan (Enqueue_dpc cpu o) S = (is_live (life_of S.tree o) || is_some (interrupt_of plan o)) ≡ true
-Sound plan (Enqueue_work o) S = is_live (life_of S.tree o) ≡ true
-Sound plan (Start_timer o ticks) S = is_live (life_of S.tree o) ≡ true
+Sound plan (EnqueueDpc cpu o) S = (is_live (life_of S.tree o.0) || is_some (interrupt_of plan o.0)) ≡ true
+Sound plan (EnqueueWork o) S = is_live (life_of S.tree o.0) ≡ true
+Sound plan (StartTimer o ticks) S = is_live (life_of S.tree o.0) ≡ true
 Sound plan _ S = ⊤
 
 -- each of some deeds is so where it is done

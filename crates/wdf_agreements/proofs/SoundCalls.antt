@@ -26,7 +26,8 @@ use Rattle.wdf_model.specs.parts.Interrupts.{is_enabled}
 use Rattle.wdf_model.specs.parts.Deferred.Dpcs.{is_dpc_queued}
 use Rattle.wdf_model.specs.parts.Deferred.Timers.{is_timer_queued}
 use Rattle.wdf_model.specs.State.{State, object_in, queue_delivers}
-use Rattle.wdf_model.specs.rules.Deeds.{Acknowledge, Enqueue_dpc, Enqueue_work, Forward, Give_back, Mark_request, Register_queue, Requeue, Send_request, Start_timer}
+use Rattle.wdf_model.specs.Ids.{cpu_of, object_id}
+use Rattle.wdf_model.specs.declared.deed.Deed.TheVariants.{Acknowledge, EnqueueDpc, EnqueueWork, Forward, GiveBack, MarkRequest, RegisterQueue, Requeue, SendRequest, StartTimer}
 use Rattle.wdf_model.specs.rules.Faults.{arg_is}
 use Rattle.wdf_model.specs.rules.Calls.{acknowledge_outcome, class_in, create_outcome, creation, dpc_outcome, forward_outcome, forwards_nowhere, isr_dpc_outcome, mark_outcome, may_send, new_handle, notify_outcome, number, number_in, origin_or_none, outcome, refused, requeue_outcome, retrieve_front, retrieve_outcome, send_outcome, success, timer_outcome, work_outcome}
 use Rattle.wdf_model.specs.rules.Steps.{view_of}
@@ -50,12 +51,12 @@ create_sound plan S class parent =
 
 requeue_sound : {A : Type 0} (plan : Plan) (S : State A) (r : ℕ) → AllSound plan (requeue_outcome S r (origin_or_none S r)).deeds S
 requeue_sound plan S r =
-    either_sound plan S (is_cancelled S.requests r || is_purged (mode_of S.control (origin_or_none S r))) (success (Give_back r (origin_or_none S r) ∷ [])) (success (Requeue r (origin_or_none S r) ∷ []))
+    either_sound plan S (is_cancelled S.requests r || is_purged (mode_of S.control (origin_or_none S r))) (success (GiveBack (object_id r) (object_id (origin_or_none S r)) ∷ [])) (success (Requeue (object_id r) (object_id (origin_or_none S r)) ∷ []))
     (λ _. (inl refl, tt)) (λ _. (refl, tt))
 
 mark_sound : {A : Type 0} (plan : Plan) (S : State A) (r : ℕ) → AllSound plan (mark_outcome plan S r).deeds S
 mark_sound plan S r =
-    either_sound plan S (declares plan callback.EvtRequestCancel (origin_or_none S r)) (record { answer = Stat (mark_answer S.requests r); deeds = Mark_request r ∷ [] }) (refused status.InvalidDeviceRequest) (λ _. (tt, tt)) (λ _. tt)
+    either_sound plan S (declares plan callback.EvtRequestCancel (origin_or_none S r)) (record { answer = Stat (mark_answer S.requests r); deeds = MarkRequest (object_id r) ∷ [] }) (refused status.InvalidDeviceRequest) (λ _. (tt, tt)) (λ _. tt)
 
 of_its_device : {A : Type 0} (plan : Plan) (S : State A) (r q : ℕ) → forwards_nowhere plan S r q ≡ false → device_of_queue plan q ≡ (info_of S.requests r).device.0
 of_its_device plan S r q h =
@@ -67,15 +68,15 @@ of_its_device plan S r q h =
 forward_sound : {A : Type 0} (plan : Plan) (S : State A) (r q : ℕ) → AllSound plan (forward_outcome plan S r q).deeds S
 forward_sound plan S r q =
     either_sound plan S (forwards_nowhere plan S r q) (refused status.InvalidDeviceRequest)
-    (if not (accepts S.control q) then refused status.WdfBusy else if is_cancelled S.requests r then success (Give_back r q ∷ []) else success (Forward r q ∷ [])) (λ _. tt)
-    (λ here. either_sound plan S (not (accepts S.control q)) (refused status.WdfBusy) (if is_cancelled S.requests r then success (Give_back r q ∷ []) else success (Forward r q ∷ [])) (λ _. tt)
-    (λ _. either_sound plan S (is_cancelled S.requests r) (success (Give_back r q ∷ [])) (success (Forward r q ∷ [])) (λ _. (inr (of_its_device plan S r q here), tt)) (λ _. (of_its_device plan S r q here, tt))))
+    (if not (accepts S.control q) then refused status.WdfBusy else if is_cancelled S.requests r then success (GiveBack (object_id r) (object_id q) ∷ []) else success (Forward (object_id r) (object_id q) ∷ [])) (λ _. tt)
+    (λ here. either_sound plan S (not (accepts S.control q)) (refused status.WdfBusy) (if is_cancelled S.requests r then success (GiveBack (object_id r) (object_id q) ∷ []) else success (Forward (object_id r) (object_id q) ∷ [])) (λ _. tt)
+    (λ _. either_sound plan S (is_cancelled S.requests r) (success (GiveBack (object_id r) (object_id q) ∷ [])) (success (Forward (object_id r) (object_id q) ∷ [])) (λ _. (inr (of_its_device plan S r q here), tt)) (λ _. (of_its_device plan S r q here, tt))))
 
 acknowledge_sound : {A : Type 0} (plan : Plan) (S : State A) (r : ℕ) (b : Arg) → AllSound plan (acknowledge_outcome S r b).deeds S
-acknowledge_sound plan S r b = either_sound plan S (arg_is b 0) (success (Acknowledge r ∷ [])) (requeue_outcome S r (origin_or_none S r)) (λ _. (tt, tt)) (λ _. requeue_sound plan S r)
+acknowledge_sound plan S r b = either_sound plan S (arg_is b 0) (success (Acknowledge (object_id r) ∷ [])) (requeue_outcome S r (origin_or_none S r)) (λ _. (tt, tt)) (λ _. requeue_sound plan S r)
 
 send_sound : {A : Type 0} (plan : Plan) (S : State A) (r t : ℕ) (forget : Bool) → AllSound plan (send_outcome S r t forget).deeds S
-send_sound plan S r t forget = either_sound plan S (may_send S r t) (number 1 (Send_request r t forget ∷ [])) (number 0 []) (λ _. (tt, tt)) (λ _. tt)
+send_sound plan S r t forget = either_sound plan S (may_send S r t) (number 1 (SendRequest (object_id r) (object_id t) forget ∷ [])) (number 0 []) (λ _. (tt, tt)) (λ _. tt)
 
 front_sound : {A : Type 0} (plan : Plan) (S : State A) (q : ℕ) (there : Option ℕ) → AllSound plan (retrieve_front plan S q there).deeds S
 front_sound plan S q None = tt
@@ -88,23 +89,23 @@ retrieve_sound plan S q =
 
 notify_sound : {A : Type 0} (plan : Plan) (S : State A) (q : ℕ) (x : Arg) → AllSound plan (notify_outcome plan q x).deeds S
 notify_sound plan S q x =
-    either_sound plan S (is_manual_queue plan q && declares plan callback.EvtIoQueueState q) (success (Register_queue q (not (arg_is x 0)) ∷ [])) (refused status.InvalidDeviceRequest) (λ _. (tt, tt)) (λ _. tt)
+    either_sound plan S (is_manual_queue plan q && declares plan callback.EvtIoQueueState q) (success (RegisterQueue (object_id q) (not (arg_is x 0)) ∷ [])) (refused status.InvalidDeviceRequest) (λ _. (tt, tt)) (λ _. tt)
 
 isr_sound : {A : Type 0} (plan : Plan) (S : State A) (cpu i : ℕ) → is_some (interrupt_of plan i) ≡ true → AllSound plan (isr_dpc_outcome plan S cpu i).deeds S
 isr_sound plan S cpu i k =
-    either_sound plan S (is_enabled S.interrupts i && declares plan callback.EvtInterruptDpc i && not (is_dpc_queued S.dpcs i)) (number 1 (Enqueue_dpc cpu i ∷ [])) (number 0 [])
+    either_sound plan S (is_enabled S.interrupts i && declares plan callback.EvtInterruptDpc i && not (is_dpc_queued S.dpcs i)) (number 1 (EnqueueDpc (cpu_of cpu) (object_id i) ∷ [])) (number 0 [])
     (λ _. (second (is_live (life_of S.tree i)) (is_some (interrupt_of plan i)) k, tt)) (λ _. tt)
 
 dpc_sound : {A : Type 0} (plan : Plan) (S : State A) (cpu o : ℕ) → AllSound plan (dpc_outcome S cpu o).deeds S
 dpc_sound plan S cpu o =
-    either_sound plan S (is_live (life_of S.tree o) && not (is_dpc_queued S.dpcs o)) (number 1 (Enqueue_dpc cpu o ∷ [])) (number 0 [])
+    either_sound plan S (is_live (life_of S.tree o) && not (is_dpc_queued S.dpcs o)) (number 1 (EnqueueDpc (cpu_of cpu) (object_id o) ∷ [])) (number 0 [])
     (λ h. (first (is_live (life_of S.tree o)) (is_some (interrupt_of plan o)) (both_left (is_live (life_of S.tree o)) (not (is_dpc_queued S.dpcs o)) h), tt)) (λ _. tt)
 
 timer_sound : {A : Type 0} (plan : Plan) (S : State A) (o n : ℕ) → AllSound plan (timer_outcome S o n).deeds S
-timer_sound plan S o n = either_sound plan S (is_live (life_of S.tree o)) (number (flag (is_timer_queued S.timers o)) (Start_timer o n ∷ [])) (number 0 []) (λ h. (h, tt)) (λ _. tt)
+timer_sound plan S o n = either_sound plan S (is_live (life_of S.tree o)) (number (flag (is_timer_queued S.timers o)) (StartTimer (object_id o) n ∷ [])) (number 0 []) (λ h. (h, tt)) (λ _. tt)
 
 work_sound : {A : Type 0} (plan : Plan) (S : State A) (o : ℕ) → AllSound plan (work_outcome S o).deeds S
-work_sound plan S o = either_sound plan S (is_live (life_of S.tree o)) (success (Enqueue_work o ∷ [])) (success []) (λ h. (h, tt)) (λ _. tt)
+work_sound plan S o = either_sound plan S (is_live (life_of S.tree o)) (success (EnqueueWork (object_id o) ∷ [])) (success []) (λ h. (h, tt)) (λ _. tt)
 
 -- an object of the kind Interrupt is a declared one
 interrupt_by : (d : Option Declared) → option_and_then declared_kind d ≡ Some kind.Interrupt → is_some (as_interrupt d) ≡ true

@@ -45,7 +45,10 @@ use Rattle.wdf_model.specs.parts.Locks.{lock_of_callback}
 use Rattle.wdf_model.specs.parts.Requests.{arrival_of, place_of}
 use Rattle.wdf_model.specs.parts.Control.{accepts}
 use Rattle.wdf_model.specs.State.{State, declared_in}
-use Rattle.wdf_model.specs.rules.Deeds.{Deed, Arrive, Count_arrival, Go_on, Note, Pop_frame, Push_frame, do_deed, do_deeds}
+use Rattle.wdf_model.specs.Ids.{cpu_of, frame_id, irql_of, object_id}
+use Rattle.wdf_model.specs.declared.deed.Deed.{Deed}
+use Rattle.wdf_model.specs.declared.deed.Deed.TheVariants.{Arrive, CountArrival, GoOn, Note, PopFrame, PushFrame}
+use Rattle.wdf_model.specs.rules.Deeds.{do_deed, do_deeds}
 use Rattle.wdf_model.specs.rules.Script.{intent_of}
 use Rattle.wdf_model.specs.rules.Calls.{outcome, second_deeds}
 use Rattle.wdf_model.specs.rules.Starts.{effect, effect_for, end_deeds, end_of_step, life_fits, may_start, new_frame, next_number, release_if_any, stage_effect, start_deeds, start_effect, take_if_any}
@@ -102,7 +105,7 @@ pub record Before {A : Type 0} (plan : Plan) (S U : State A) : Type 0 where
 abbrev pub Effect : {A : Type 0} → Plan → State A → List Deed → Type 0
 Effect plan S ds = AllSound plan ds S × Before plan S (do_deeds plan ds S)
 
-note_effect : {A : Type 0} (plan : Plan) (S : State A) (o : ℕ) (c : Callback) → Effect plan S (Note o c ∷ [])
+note_effect : {A : Type 0} (plan : Plan) (S : State A) (o : ℕ) (c : Callback) → Effect plan S (Note (object_id o) c ∷ [])
 note_effect plan S o c =
     let k = noted_kept c (node_of S.tree o) in (
       (tt, tt),
@@ -110,7 +113,7 @@ note_effect plan S o c =
         cpus = refl;
         kinds = reads_same (λ n. n.kind) S.tree o (noted c) k.1;
         lives = reads_same (λ n. n.life) S.tree o (noted c) k.0;
-        declared = λ x. same_declared plan S.tree (do_deed plan (Note o c) S).tree x (reads_same (λ n. n.kind) S.tree o (noted c) k.1 x) (reads_same (λ n. n.class) S.tree o (noted c) k.2 x);
+        declared = λ x. same_declared plan S.tree (do_deed plan (Note (object_id o) c) S).tree x (reads_same (λ n. n.kind) S.tree o (noted c) k.1 x) (reads_same (λ n. n.class) S.tree o (noted c) k.2 x);
       },
     )
 
@@ -153,10 +156,10 @@ fresh plan S k = elim (none_or_some (on S.cpus (next_number S))) [
 
 taking_sound : {A : Type 0} (plan : Plan) (S U : State A) (cpu f : ℕ) (frame : Frame) (level : ℕ) (l : Option LockRef) → Before plan S U
     → lock_of_callback plan frame.callback frame.object.id.0 (declared_in plan S frame.object.id.0) ≡ l
-    → AllSound plan (take_if_any f l) (do_deed plan (Push_frame cpu f frame level) U)
+    → AllSound plan (take_if_any f l) (do_deed plan (PushFrame (cpu_of cpu) (frame_id f) frame (irql_of level)) U)
 taking_sound plan S U cpu f frame level None b e = tt
 taking_sound plan S U cpu f frame level (Some l) b e =
-    let V = do_deed plan (Push_frame cpu f frame level) U in
+    let V = do_deed plan (PushFrame (cpu_of cpu) (frame_id f) frame (irql_of level)) U in
     let more = pushed (λ x. x == f) U.cpus cpu f frame level in
     let one : flag (f == f) ≡ 1 = ap flag (equal f f refl) in
     let here : frame_of V.cpus f ≡ frame = ap (λ (r : Running). r.frame) (entry_put_same no_frame U.cpus.frames f (record { frame = frame; level = record { 0 = level } })) in
@@ -176,7 +179,7 @@ start_sound plan m S cpu c o r k h =
     let alive : life_fits S c o.id.0 ≡ true = search (both_left, both_right) in
     let there : is_gone (life_of U.tree o.id.0) ≡ false = ap is_gone (b.lives o.id.0) ∙ there_by S c o.id.0 (life_of S.tree o.id.0) refl alive in
     let none : on U.cpus f ≡ 0 = ap (λ (C : Cpus). on C f) b.cpus ∙ fresh plan S k in
-    sound_behind plan (start_effect plan S cpu c o.id.0 r) (Push_frame cpu f frame (callback_irql plan c o.id.0) ∷ take_if_any f l) S first.0
+    sound_behind plan (start_effect plan S cpu c o.id.0 r) (PushFrame (cpu_of cpu) (frame_id f) frame (irql_of (callback_irql plan c o.id.0)) ∷ take_if_any f l) S first.0
     ((there, none), taking_sound plan S U cpu f frame (callback_irql plan c o.id.0) l b refl)
 
 -- ---- a frame goes on
@@ -199,10 +202,10 @@ by_its_top_sound plan S cpu f what t h = subst (λ ds. AllSound plan ds S) (sym 
 
 -- a frame goes on after deeds that leave the frames alone
 goes_on_sound : {A : Type 0} (plan : Plan) (S : State A) (ds : List Deed) (f : ℕ) (next : Frame) → AllSound plan ds S → all_still ds ≡ true → all_fit plan ds S ≡ true → FrameKept (frame_of S.cpus f) next
-    → AllSound plan (ds ++ Go_on f next ∷ []) S
+    → AllSound plan (ds ++ GoOn (frame_id f) next ∷ []) S
 goes_on_sound plan S ds f next h still fit k =
     let s : Still S (do_deeds plan ds S) = deeds_still plan ds S still fit in
-    sound_behind plan ds (Go_on f next ∷ []) S h (subst (λ a. FrameKept a next) (sym (s.frames f)) k, tt)
+    sound_behind plan ds (GoOn (frame_id f) next ∷ []) S h (subst (λ a. FrameKept a next) (sym (s.frames f)) k, tt)
 
 did_sound : {A : Type 0} (plan : Plan) (S : State A) (declared : DeclaredAgree plan S) (cpu : ℕ) (c : Call) (v : Value) → IsDid plan S cpu c v → all_fit plan (by_top S cpu (did_deeds plan S cpu c v)) S ≡ true
     → AllSound plan (by_top S cpu (did_deeds plan S cpu c v)) S
@@ -211,8 +214,8 @@ did_sound plan S declared cpu c v d fit =
     let ds : List Deed = (outcome plan S cpu f c).deeds in
     let es : List Deed = second_deeds f c in
     let next : Frame = answered plan (frame_of S.cpus f) v in
-    let all : all_fit plan (ds ++ es ++ Go_on f next ∷ []) S ≡ true = subst (λ xs. all_fit plan xs S ≡ true) (by_its_top S cpu f (did_deeds plan S cpu c v) d.about.top) fit in
-    let fits_two : all_fit plan (ds ++ es) S ≡ true = fit_before plan (ds ++ es) (Go_on f next ∷ []) S all in
+    let all : all_fit plan (ds ++ es ++ GoOn (frame_id f) next ∷ []) S ≡ true = subst (λ xs. all_fit plan xs S ≡ true) (by_its_top S cpu f (did_deeds plan S cpu c v) d.about.top) fit in
+    let fits_two : all_fit plan (ds ++ es) S ≡ true = fit_before plan (ds ++ es) (GoOn (frame_id f) next ∷ []) S all in
     let fits_one : all_fit plan ds S ≡ true = fit_before plan ds es S fits_two in
     let still : all_still ds ≡ true = outcome_none plan S cpu f c.kind c.count c.a c.b c.c in
     let s : Still S (do_deeds plan ds S) = deeds_still plan ds S still fits_one in
@@ -229,10 +232,10 @@ waiting_sound plan S declared cpu c d fit =
     let f : ℕ = d.frame in
     let ds : List Deed = (outcome plan S cpu f c).deeds in
     let next : Frame = waiting (frame_of S.cpus f) c (outcome plan S cpu f c).answer in
-    let all : all_fit plan (ds ++ Go_on f next ∷ []) S ≡ true = subst (λ xs. all_fit plan xs S ≡ true) (by_its_top S cpu f (waiting_deeds plan S cpu c) d.about.top) fit in
+    let all : all_fit plan (ds ++ GoOn (frame_id f) next ∷ []) S ≡ true = subst (λ xs. all_fit plan xs S ≡ true) (by_its_top S cpu f (waiting_deeds plan S cpu c) d.about.top) fit in
     by_its_top_sound plan S cpu f (waiting_deeds plan S cpu c) d.about.top
     (goes_on_sound plan S ds f next (outcome_sound plan S cpu f c.kind c.count c.a c.b c.c declared d.about.clean) (outcome_none plan S cpu f c.kind c.count c.a c.b c.c)
-    (fit_before plan ds (Go_on f next ∷ []) S all) (record { callback = refl; object = refl; device = refl }))
+    (fit_before plan ds (GoOn (frame_id f) next ∷ []) S all) (record { callback = refl; object = refl; device = refl }))
 
 woke_sound : {A : Type 0} (plan : Plan) (S : State A) (cpu : ℕ) (c : Call) (v : Value) → IsWoke S cpu c v → all_fit plan (by_top S cpu (woke_deeds plan c v)) S ≡ true
     → AllSound plan (by_top S cpu (woke_deeds plan c v)) S
@@ -240,13 +243,13 @@ woke_sound plan S cpu c v d fit =
     let f : ℕ = d.frame in
     let es : List Deed = second_deeds f c in
     let next : Frame = answered plan (frame_of S.cpus f) v in
-    let all : all_fit plan (es ++ Go_on f next ∷ []) S ≡ true = subst (λ xs. all_fit plan xs S ≡ true) (by_its_top S cpu f (woke_deeds plan c v) d.top) fit in
+    let all : all_fit plan (es ++ GoOn (frame_id f) next ∷ []) S ≡ true = subst (λ xs. all_fit plan xs S ≡ true) (by_its_top S cpu f (woke_deeds plan c v) d.top) fit in
     by_its_top_sound plan S cpu f (woke_deeds plan c v) d.top
     (goes_on_sound plan S es f next (second_sound plan S f c.kind c.count c.a c.b c.c (top_on S.cpus cpu f d.top)) (second_none f c.kind c.count c.a c.b c.c)
-    (fit_before plan es (Go_on f next ∷ []) S all) (answered_kept plan (frame_of S.cpus f) v))
+    (fit_before plan es (GoOn (frame_id f) next ∷ []) S all) (answered_kept plan (frame_of S.cpus f) v))
 
 moving_sound : {A : Type 0} (plan : Plan) (S : State A) (next : Frame → Frame) (there : Option ℕ) → ((a : Frame) → FrameKept a (next a))
-    → AllSound plan (elim there as (λ _. List Deed) [ None ↦ [] | Some f ↦ Go_on f (next (frame_of S.cpus f)) ∷ [] ]) S
+    → AllSound plan (elim there as (λ _. List Deed) [ None ↦ [] | Some f ↦ GoOn (frame_id f) (next (frame_of S.cpus f)) ∷ [] ]) S
 moving_sound plan S next None k = tt
 moving_sound plan S next (Some f) k = (k (frame_of S.cpus f), tt)
 
@@ -260,7 +263,7 @@ step_sound plan S T rank.Sequence c o v = (tt, tt)
 step_sound plan S T _ c o v = tt
 
 ends_sound : {A : Type 0} (plan : Plan) (S : State A) (cpu f : ℕ) (l : Option LockRef) (es : List Deed) → top S.cpus cpu ≡ Some f → on S.cpus f ≤ 1 → Each (λ (h : Held). h.frame.0 ≢ f) (do_deeds plan (release_if_any l) S).locks.held → ((T : State A) → AllSound plan es T)
-    → AllSound plan (release_if_any l ++ Pop_frame cpu ∷ es) S
+    → AllSound plan (release_if_any l ++ PopFrame (cpu_of cpu) ∷ es) S
 ends_sound plan S cpu f None es t once free h = ((f, t, once, free), h _)
 ends_sound plan S cpu f (Some l) es t once free h = (tt, ((f, t, once, free), h _))
 
@@ -328,7 +331,7 @@ waits_if_any plan S f length device None e = tt
 waits_if_any plan S f length device (Some q) e = waits_in_queue plan S f length q device (queue_of_device plan device f q e)
 
 arrival_sound : {A : Type 0} (plan : Plan) (S : State A) (agent : ℕ) (f : RequestForm) (length code device : ℕ) (b : Bool)
-    → AllSound plan (Count_arrival agent ∷ (if b then Arrive device (arrival_info S agent f length code device) (arrival_place plan S f length device) ∷ [] else [])) S
+    → AllSound plan (CountArrival agent ∷ (if b then Arrive (object_id device) (arrival_info S agent f length code device) (arrival_place plan S f length device) ∷ [] else [])) S
 arrival_sound plan S agent f length code device true = (tt, ((refl, refl, waits_if_any plan S f length device (queue_for plan device f) refl), tt))
 arrival_sound plan S agent f length code device false = (tt, tt)
 

@@ -5,7 +5,9 @@ use Rattle.wdf_base.specs.declared.plan.Plan.{Plan}
 use Rattle.wdf_base.specs.declared.event.Event.{Event}
 use Rattle.wdf_base.specs.declared.event.Event.TheVariants as event
 use Rattle.wdf_model.specs.State.{State, opening}
-use Rattle.wdf_model.specs.rules.Deeds.{Deed, Pass_tick, counted, do_deed, do_deeds}
+use Rattle.wdf_model.specs.declared.deed.Deed.{Deed}
+use Rattle.wdf_model.specs.declared.deed.Deed.TheVariants.{PassTick}
+use Rattle.wdf_model.specs.rules.Deeds.{counted, do_deed, do_deeds}
 use Rattle.wdf_model.specs.rules.Steps.{after, deeds, may}
 use Rattle.wdf_model.specs.rules.Ready.{IsRunOf, state_after}
 use Rattle.wdf_model.specs.laws.Fits.{all_fit, fits}
@@ -47,5 +49,5 @@ pub sound_place : {A : Type 0} (plan : Plan) (m : Meaning A) (Q : State A → Ty
     → (run : List Event) → IsRunOf plan m run → (n : ℕ) → Q (state_after plan m (take n run))
 sound_place plan m Q opens keeps more run is_run n = known_place plan m Q opens
     (λ S e k may_come q. more e (do_deeds plan (deeds plan S e) S) (sound_deeds_keep plan Q keeps (deeds plan S e) S (event_fits plan m S e may_come) (all_sound plan m S e k may_come) q))
-    (λ S time q. more (event.Tick time) (do_deed plan Pass_tick S) (keeps Pass_tick S refl tt q))
+    (λ S time q. more (event.Tick time) (do_deed plan PassTick S) (keeps PassTick S refl tt q))
     run is_run n

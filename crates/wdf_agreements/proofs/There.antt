@@ -18,7 +18,9 @@ use Rattle.wdf_model.specs.parts.Requests as requests
 use Rattle.wdf_model.specs.parts.Queues.{waiting_in}
 use Rattle.wdf_model.specs.parts.Control as control
 use Rattle.wdf_model.specs.State.{State}
-use Rattle.wdf_model.specs.rules.Deeds.{Deed, Create, Make_request, Arrive, Ask_deletion, Refer, Unrefer, Write_cell, Note, Clean_up, End_life, Requeue, Forward, Give_back, Send_request, Complete_request, Purge_queue, Close_returning, Close_device, arrive_at, ask_object, do_deed, give_up}
+use Rattle.wdf_model.specs.declared.deed.Deed.{Deed}
+use Rattle.wdf_model.specs.declared.deed.Deed.TheVariants.{Create, MakeRequest, Arrive, AskDeletion, Refer, Unrefer, WriteCell, Note, CleanUp, EndLife, Requeue, Forward, GiveBack, SendRequest, CompleteRequest, PurgeQueue, CloseReturning, CloseDevice}
+use Rattle.wdf_model.specs.rules.Deeds.{arrive_at, ask_object, do_deed, give_up}
 use Rattle.wdf_model.specs.laws.Fits.{fits}
 use Rattle.wdf_model.proofs.Tests.{both_left}
 use Rattle.wdf_model.proofs.Maps.{entry_before, entry_past, entry_put_other}
@@ -82,32 +84,32 @@ ends_object T o x n h =
 
 -- the object that a deed ends, if any
 abbrev pub Ends : Deed → ℕ → Type 0
-Ends (End_life o) x = x ≡ o
+Ends (EndLife o) x = x ≡ o.0
 Ends _ x = ⊥
 
 pub deed_there : {A : Type 0} (plan : Plan) (d : Deed) (S : State A) → fits plan d S ≡ true → (x : ℕ) → (Ends d x → ⊥) → is_gone (life_of S.tree x) ≡ false → StaysAt S.tree (do_deed plan d S).tree x
-deed_there plan (Create k class parent) S f x n h = there_made S.tree k class parent x h
-deed_there plan (Make_request class parent) S f x n h = there_made S.tree kind.Made class parent x h
-deed_there plan (Arrive device info p) S f x n h = subst (λ (V : Tree). StaysAt S.tree V x) (sym (arrived S device info p)) (there_made S.tree kind.Request 0 device x h)
-deed_there plan (Ask_deletion o) S f x n h = all_asked (subtree S.tree o) S x h
-deed_there plan (Refer o) S f x n h = there_changes S.tree o (λ m. record m { references = m.references + 1 }) refl refl refl x h
-deed_there plan (Unrefer o) S f x n h = there_changes S.tree o (λ m. record m { references = m.references - 1 }) refl refl refl x h
-deed_there plan (Write_cell o k v) S f x n h = there_changes S.tree o (λ m. record m { cells = slice_set m.cells k v }) refl refl refl x h
+deed_there plan (Create k class parent) S f x n h = there_made S.tree k class parent.0 x h
+deed_there plan (MakeRequest class parent) S f x n h = there_made S.tree kind.Made class parent.0 x h
+deed_there plan (Arrive device info p) S f x n h = subst (λ (V : Tree). StaysAt S.tree V x) (sym (arrived S device.0 info p)) (there_made S.tree kind.Request 0 device.0 x h)
+deed_there plan (AskDeletion o) S f x n h = all_asked (subtree S.tree o.0) S x h
+deed_there plan (Refer o) S f x n h = there_changes S.tree o.0 (λ m. record m { references = m.references + 1 }) refl refl refl x h
+deed_there plan (Unrefer o) S f x n h = there_changes S.tree o.0 (λ m. record m { references = m.references - 1 }) refl refl refl x h
+deed_there plan (WriteCell o k v) S f x n h = there_changes S.tree o.0 (λ m. record m { cells = slice_set m.cells k v }) refl refl refl x h
 deed_there plan (Note o c) S f x n h =
-    let k = noted_kept c (node_of S.tree o) in
-    there_changes S.tree o (noted c) (ap is_gone k.0) k.1 k.2 x h
-deed_there plan (Clean_up o) S f x n h =
-    let asked : is_asked (life_of S.tree o) ≡ true = search both_left in
-    there_changes S.tree o (with_life life.Cleaned) (sym (asked_there (life_of S.tree o) asked)) refl refl x h
-deed_there plan (End_life o) S f x n h = ends_object S.tree o x n h
-deed_there plan (Requeue r p) S f x n h = there_same _ _ (gives_up tree_of (λ S Q R P. refl) S r) x h
-deed_there plan (Forward r p) S f x n h = there_same _ _ (gives_up tree_of (λ S Q R P. refl) S r) x h
-deed_there plan (Give_back r p) S f x n h = there_same _ _ (gives_up tree_of (λ S Q R P. refl) S r) x h
-deed_there plan (Send_request r t forget) S f x n h = there_same _ _ (gives_up_if tree_of (λ S Q R P. refl) S forget r) x h
-deed_there plan (Complete_request r) S f x n h =
-    there_then S.tree (give_up S r).tree _ (there_same _ _ (gives_up tree_of (λ S Q R P. refl) S r))
-    (all_asked (subtree (give_up S r).tree r) (record (give_up S r) { requests = requests.complete S.requests r })) x h
-deed_there plan (Purge_queue p) S f x n h = there_same _ _ (withdraws tree_of (λ S Q R P. refl) plan p (waiting_in S.queues p) (record S { control = control.set_mode S.control p mode.Purged })) x h
-deed_there plan (Close_returning d) S f x n h = there_same _ _ (returns_closed tree_of (λ S Q R P. refl) (managed_queues plan d) S) x h
-deed_there plan (Close_device d) S f x n h = there_same _ _ (queues_closed tree_of (λ S Q R P. refl) (queues_of plan d) (record S { control = control.shut S.control d })) x h
+    let k = noted_kept c (node_of S.tree o.0) in
+    there_changes S.tree o.0 (noted c) (ap is_gone k.0) k.1 k.2 x h
+deed_there plan (CleanUp o) S f x n h =
+    let asked : is_asked (life_of S.tree o.0) ≡ true = search both_left in
+    there_changes S.tree o.0 (with_life life.Cleaned) (sym (asked_there (life_of S.tree o.0) asked)) refl refl x h
+deed_there plan (EndLife o) S f x n h = ends_object S.tree o.0 x n h
+deed_there plan (Requeue r p) S f x n h = there_same _ _ (gives_up tree_of (λ S Q R P. refl) S r.0) x h
+deed_there plan (Forward r p) S f x n h = there_same _ _ (gives_up tree_of (λ S Q R P. refl) S r.0) x h
+deed_there plan (GiveBack r p) S f x n h = there_same _ _ (gives_up tree_of (λ S Q R P. refl) S r.0) x h
+deed_there plan (SendRequest r t forget) S f x n h = there_same _ _ (gives_up_if tree_of (λ S Q R P. refl) S forget r.0) x h
+deed_there plan (CompleteRequest r) S f x n h =
+    there_then S.tree (give_up S r.0).tree _ (there_same _ _ (gives_up tree_of (λ S Q R P. refl) S r.0))
+    (all_asked (subtree (give_up S r.0).tree r.0) (record (give_up S r.0) { requests = requests.complete S.requests r.0 })) x h
+deed_there plan (PurgeQueue p) S f x n h = there_same _ _ (withdraws tree_of (λ S Q R P. refl) plan p.0 (waiting_in S.queues p.0) (record S { control = control.set_mode S.control p.0 mode.Purged })) x h
+deed_there plan (CloseReturning d) S f x n h = there_same _ _ (returns_closed tree_of (λ S Q R P. refl) (managed_queues plan d.0) S) x h
+deed_there plan (CloseDevice d) S f x n h = there_same _ _ (queues_closed tree_of (λ S Q R P. refl) (queues_of plan d.0) (record S { control = control.shut S.control d.0 })) x h
 deed_there plan _ S f x n h = record { there = h; kind = refl; class = refl }

@@ -17,6 +17,7 @@ use Rattle.wdf_base.specs.declared.wait.Cause.TheVariants as cause
 use Rattle.wdf_base.specs.declared.wait.OpenThing.{OpenThing}
 use Rattle.wdf_base.specs.declared.wait.OpenThing.TheVariants as thing
 use Rattle.wdf_base.specs.declared.wait.WaitLine.{WaitLine}
+use Rattle.wdf_model.specs.Ids.{frame_id}
 use Rattle.wdf_model.specs.declared.entries.Held.{Held}
 use Rattle.wdf_base.specs.declared.ids.ObjectId.{ObjectId}
 use Rattle.wdf_model.proofs.Counts.{count_no}
@@ -31,7 +32,7 @@ use Rattle.wdf_model.specs.parts.Control.{delivers_in, mode_of}
 use Rattle.wdf_model.specs.parts.Deferred.WorkItems.{is_work_queued}
 use Rattle.wdf_model.specs.State.{State, declared_in, handle_in, held_from, is_held_from, is_powered, object_in, up_for}
 use Rattle.wdf_model.specs.rules.Starts.{level_fits}
-use Rattle.wdf_model.specs.rules.Waits.{above_in, ahead, all_cpus, by_frame, by_frame_on, by_lock, call_cause, cause_if, frame_cause, frame_line, frames_above, holders_of, no_cpu, number_of, parked_for_cpu, pending_cause, queue_scope_held, queued_cause, request_line, requests_where, returning_cause}
+use Rattle.wdf_model.specs.rules.Waits.{above_in, ahead, all_cpus, by_frame, by_frame_on, by_lock, call_cause, cause_if, frame_cause, frame_line, frames_above, holders_of, no_cpu, parked_for_cpu, pending_cause, queue_scope_held, queued_cause, request_line, requests_where, returning_cause}
 use Rattle.wdf_model.proofs.Tests.{both, first, second}
 use Rattle.wdf_blame.specs.Causes.{all_taken, has_lock, is_above, is_before, is_held_lock, is_so, is_taken, is_there, keeps, keeps_below, keeps_call, keeps_frame, keeps_parked, keeps_pending, keeps_queued, keeps_returning, runs_on}
 use Rattle.wdf_blame.proofs.Members.{Each, Has}
@@ -121,8 +122,8 @@ on_object S o g h =
 three : (a b c : Bool) → a ≡ true → b ≡ true → c ≡ true → (a && b && c) ≡ true
 three a b c h k l = both (a && b) c (both a b h k) l
 
-acquired : {A : Type 0} (plan : Plan) (S : State A) (so : Cause → Bool) (o : ℕ) → ((g : ℕ) → has_lock S (object_lock o) g ≡ true → so (cause.ByLock (handle_in plan S o) (number_of g)) ≡ true) → Gives so (by_lock plan S o)
-acquired plan S so o h = gives_map so (λ g. cause.ByLock (handle_in plan S o) (number_of g)) (holder S.locks (object_lock o)) (λ g e. h g (lock_of_holder S (object_lock o) g e))
+acquired : {A : Type 0} (plan : Plan) (S : State A) (so : Cause → Bool) (o : ℕ) → ((g : ℕ) → has_lock S (object_lock o) g ≡ true → so (cause.ByLock (handle_in plan S o) (frame_id g)) ≡ true) → Gives so (by_lock plan S o)
+acquired plan S so o h = gives_map so (λ g. cause.ByLock (handle_in plan S o) (frame_id g)) (holder S.locks (object_lock o)) (λ g e. h g (lock_of_holder S (object_lock o) g e))
 
 held_is : {A : Type 0} (S : State A) (q r : ℕ) → Has r (held_from S q) → is_held_from S q r ≡ true
 held_is S q r h = (has_kept (is_held_from S q) r (ids_of S.requests.all) h).0
@@ -178,7 +179,7 @@ pub frame_so : {A : Type 0} (plan : Plan) (S : State A) (f : ℕ) → Gives (kee
 frame_so plan S f =
     gives_first (keeps_frame plan S f) (by_frame (frames_above S f) ∷ pending_cause plan S (frame_of S.cpus f).pending ∷ cause_if (parked_for_cpu plan S f) cause.NoCpu ∷ []) (
       gives_frame (keeps_frame plan S f) (frames_above S f)
-          (λ g h. first (is_above S g f || keeps_pending S (frame_of S.cpus f).pending (cause.ByFrame (number_of g))) false (first (is_above S g f) (keeps_pending S (frame_of S.cpus f).pending (cause.ByFrame (number_of g))) (above_so S g f h))),
+          (λ g h. first (is_above S g f || keeps_pending S (frame_of S.cpus f).pending (cause.ByFrame (frame_id g))) false (first (is_above S g f) (keeps_pending S (frame_of S.cpus f).pending (cause.ByFrame (frame_id g))) (above_so S g f h))),
       (
         weaker (keeps_pending S (frame_of S.cpus f).pending) (keeps_frame plan S f) (pending_cause plan S (frame_of S.cpus f).pending)
             (λ x h. first (keeps_below S f x || keeps_pending S (frame_of S.cpus f).pending x) (keeps_parked plan S f x) (second (keeps_below S f x) (keeps_pending S (frame_of S.cpus f).pending x) h))

@@ -7,9 +7,10 @@ use Rattle.std.proofs.lemmas.Option.{same_Some}
 use Rattle.wdf_base.specs.declared.plan.Plan.{Plan}
 use Rattle.wdf_base.specs.declared.wait.Cause.{Cause}
 use Rattle.wdf_base.specs.declared.wait.Cause.TheVariants as cause
+use Rattle.wdf_model.specs.Ids.{frame_id}
 use Rattle.wdf_model.specs.Tables.{contains, least, lesser}
 use Rattle.wdf_model.specs.State.{State, handle_in}
-use Rattle.wdf_model.specs.rules.Waits.{by_frame, by_request, cause_if, first_cause, number_of}
+use Rattle.wdf_model.specs.rules.Waits.{by_frame, by_request, cause_if, first_cause}
 use Rattle.wdf_model.proofs.Tests.{first, second}
 use Rattle.wdf_blame.proofs.Members.{Each, Has}
 
@@ -62,8 +63,8 @@ least_has ns x h = elim (found_in ns None x h) [
   | inr k ↦ k
 ]
 
-pub gives_frame : (so : Cause → Bool) (fs : List ℕ) → ((f : ℕ) → Has f fs → so (cause.ByFrame (number_of f)) ≡ true) → Gives so (by_frame fs)
-gives_frame so fs h = gives_map so (λ f. cause.ByFrame (number_of f)) (least fs) (λ f e. h f (least_has fs f e))
+pub gives_frame : (so : Cause → Bool) (fs : List ℕ) → ((f : ℕ) → Has f fs → so (cause.ByFrame (frame_id f)) ≡ true) → Gives so (by_frame fs)
+gives_frame so fs h = gives_map so (λ f. cause.ByFrame (frame_id f)) (least fs) (λ f e. h f (least_has fs f e))
 
 pub gives_request : {A : Type 0} (so : Cause → Bool) (plan : Plan) (S : State A) (rs : List ℕ) → ((r : ℕ) → Has r rs → so (cause.ByRequest (handle_in plan S r)) ≡ true) → Gives so (by_request plan S rs)
 gives_request so plan S rs h = gives_map so (λ r. cause.ByRequest (handle_in plan S r)) (least rs) (λ r e. h r (least_has rs r e))

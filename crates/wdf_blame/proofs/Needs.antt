@@ -9,6 +9,7 @@ use Rattle.wdf_base.specs.declared.call.Callback.TheVariants as callback
 use Rattle.wdf_base.specs.declared.wait.Cause.{Cause}
 use Rattle.wdf_base.specs.declared.wait.Cause.TheVariants as cause
 use Rattle.wdf_base.specs.declared.wait.OpenThing.TheVariants as thing
+use Rattle.wdf_model.specs.Ids.{frame_id}
 use Rattle.wdf_model.specs.declared.entries.Held.{Held}
 use Rattle.wdf_model.specs.Tables.{least, lesser}
 use Rattle.wdf_model.specs.parts.Tree.{children, is_asked, is_cleaned, is_past_cleanup, life_of, parent_of, references_of, younger_siblings}
@@ -16,7 +17,7 @@ use Rattle.wdf_model.specs.parts.Cpus.{all_frames, frame_of, is_on}
 use Rattle.wdf_model.specs.parts.Locks.{hold_of, holder, is_free_hold, is_free_lock, object_lock}
 use Rattle.wdf_model.specs.State.{State, declared_in, handle_in, waits_for}
 use Rattle.wdf_model.specs.rules.Starts.{level_fits}
-use Rattle.wdf_model.specs.rules.Waits.{at_target, by_frame, cause_if, children_first, frames_where, holders_of, no_cpu, not_cleaned, number_of, object_cause, object_cpus, references_cause, users, users_that_keep, waits_for_younger}
+use Rattle.wdf_model.specs.rules.Waits.{at_target, by_frame, cause_if, children_first, frames_where, holders_of, no_cpu, not_cleaned, object_cause, object_cpus, references_cause, users, users_that_keep, waits_for_younger}
 use Rattle.wdf_model.proofs.Tests.{both, both_left, both_right, first, itself, second}
 use Rattle.wdf_blame.proofs.Members.{Has}
 use Rattle.wdf_base.specs.Meaning.{Meaning}
@@ -202,7 +203,7 @@ object_parts plan S o h =
     let four = none_first (cause_if (object_cpus plan S o) cause.NoCpu) (at_target plan S o ∷ []) three.1 in (
       none_if (is_cleaned (life_of S.tree o) && nat_lt 0 (references_of S.tree o)) (cause.References (references_of S.tree o)) one.0,
       none_least (λ x. cause.ByChild (handle_in plan S x)) (children_first S o) two.0,
-      none_least (λ f. cause.ByFrame (number_of f)) (users_that_keep S o) three.0,
+      none_least (λ f. cause.ByFrame (frame_id f)) (users_that_keep S o) three.0,
       none_if (object_cpus plan S o) cause.NoCpu four.0,
     )
 

@@ -10,12 +10,13 @@ use Rattle.wdf_base.specs.declared.object.Place.TheVariants as place
 use Rattle.wdf_base.specs.declared.wait.Cause.TheVariants as cause
 use Rattle.wdf_base.specs.declared.wait.OpenThing.TheVariants as thing
 use Rattle.wdf_base.specs.declared.wait.WaitLine.{WaitLine}
+use Rattle.wdf_model.specs.Ids.{frame_id}
 use Rattle.wdf_model.specs.Tables.{ids_of}
 use Rattle.wdf_model.specs.parts.Cpus.{all_frames, is_on}
 use Rattle.wdf_model.specs.parts.Locks.{hold_of, holder, object_lock}
 use Rattle.wdf_model.specs.parts.Requests.{is_sent_to, place_of}
 use Rattle.wdf_model.specs.State.{State, held_from, handle_in}
-use Rattle.wdf_model.specs.rules.Waits.{by_frame, cause_if, frame_line, number_of, object_line, request_line}
+use Rattle.wdf_model.specs.rules.Waits.{by_frame, cause_if, frame_line, object_line, request_line}
 use Rattle.wdf_model.proofs.Tests.{both, both_left, both_right, first, itself}
 use Rattle.wdf_blame.proofs.Members.{Each, Has}
 use Rattle.wdf_blame.proofs.Gives.{IfThere, has_kept}
@@ -123,7 +124,7 @@ stage_waits plan m S rest d s i low next is calm early h =
     let one = none_first (by_request plan S (stage_requests plan S d s)) (by_frame (stage_frames plan S d s i) ∷ cause_if (stage_cpus plan S d s) cause.NoCpu ∷ []) h in
     let two = none_first (by_frame (stage_frames plan S d s i)) (cause_if (stage_cpus plan S d s) cause.NoCpu ∷ []) one.1 in
     let rs = none_least (λ r. cause.ByRequest (handle_in plan S r)) (stage_requests plan S d s) one.0 in
-    let fs = none_least (λ f. cause.ByFrame (number_of f)) (stage_frames plan S d s i) two.0 in
+    let fs = none_least (λ f. cause.ByFrame (frame_id f)) (stage_frames plan S d s i) two.0 in
     let here : candidate plan m S group.Stages d ≡ Some e0 = rw next refl in
     let offered : Has e0 (candidates plan m S) = framework_group plan m S group.Stages e0 (inl refl) (placed_at plan m S group.Stages (declared_end plan) d e0 low here) in
     let no : may plan m S e0 ≡ false = may_not plan m S true e0 rest offered in

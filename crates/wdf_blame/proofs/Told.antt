@@ -12,6 +12,7 @@ use Rattle.wdf_base.specs.declared.wait.Cause.TheVariants as cause
 use Rattle.wdf_base.specs.declared.wait.OpenThing.{OpenThing}
 use Rattle.wdf_base.specs.declared.wait.OpenThing.TheVariants as thing
 use Rattle.wdf_base.specs.declared.wait.WaitLine.{WaitLine}
+use Rattle.wdf_model.specs.Ids.{frame_id}
 use Rattle.wdf_model.specs.laws.OverRuns.{PlacesAgree}
 use Rattle.wdf_model.specs.Tables.{ids_of}
 use Rattle.wdf_model.specs.Plans.{queue_level}
@@ -21,7 +22,7 @@ use Rattle.wdf_model.specs.parts.Requests.{is_sent_to, place_of}
 use Rattle.wdf_model.specs.parts.Deferred.WorkItems.{is_work_queued}
 use Rattle.wdf_model.specs.State.{State, declared_in, handle_in}
 use Rattle.wdf_model.specs.rules.Starts.{level_fits}
-use Rattle.wdf_model.specs.rules.Waits.{by_frame, by_frame_on, cause_if, frame_line, frames_where, holders_of, no_cpu, number_of, object_line, request_line, scope_is_held}
+use Rattle.wdf_model.specs.rules.Waits.{by_frame, by_frame_on, cause_if, frame_line, frames_where, holders_of, no_cpu, object_line, request_line, scope_is_held}
 use Rattle.wdf_model.proofs.Tests.{first, second}
 use Rattle.wdf_blame.specs.Caused.{has_no_cause}
 use Rattle.wdf_blame.specs.Causes.{all_taken, is_taken, is_there, keeps, runs_on}
@@ -172,9 +173,9 @@ next_so plan S d (step.Pass s i) =
       ),
     )
 
-resume_so : {A : Type 0} (plan : Plan) (S : State A) (d f : ℕ) → Has f (resume_frames plan S d) → keeps_resumes plan S d (cause.ByFrame (number_of f)) ≡ true
+resume_so : {A : Type 0} (plan : Plan) (S : State A) (d f : ℕ) → Has f (resume_frames plan S d) → keeps_resumes plan S d (cause.ByFrame (frame_id f)) ≡ true
 resume_so plan S d f h =
-    elim (has_either f (frames_where S (runs_step d callback.EvtIoResume)) (scope_holders plan S (queues_to_resume plan S d)) h) as (λ _. keeps_resumes plan S d (cause.ByFrame (number_of f)) ≡ true) [
+    elim (has_either f (frames_where S (runs_step d callback.EvtIoResume)) (scope_holders plan S (queues_to_resume plan S d)) h) as (λ _. keeps_resumes plan S d (cause.ByFrame (frame_id f)) ≡ true) [
       | inl k ↦
           first (runs_callback S d callback.EvtIoResume f) (list_any (λ q. has_lock_if_any S (scope_of plan callback.EvtIoResume q (declared_in plan S q)) f) (queues_to_resume plan S d)) (runs_so S d callback.EvtIoResume f k)
       | inr k ↦

@@ -26,6 +26,7 @@ use Rattle.wdf_base.specs.declared.frame.Intent.{Intent}
 use Rattle.wdf_base.specs.declared.frame.Intent.TheVariants as intent
 use Rattle.wdf_base.specs.declared.frame.Pending.{Pending}
 use Rattle.wdf_base.specs.declared.wait.Cause.TheVariants as cause
+use Rattle.wdf_model.specs.Ids.{cpu_of, frame_id}
 use Rattle.wdf_model.specs.declared.entries.Request.{Request}
 use Rattle.wdf_model.specs.declared.enums.Group.TheVariants as group
 use Rattle.wdf_model.specs.Tables.{contains, entry, first_of_list, ids_of}
@@ -45,8 +46,8 @@ use Rattle.wdf_model.specs.rules.Groups.{unparks, candidates, candidate}
 use Rattle.wdf_model.specs.rules.Ready.{IsRunOf, any_spends, ending_of, state_after}
 use Rattle.wdf_model.specs.rules.Script.{intent_of, line_of}
 use Rattle.wdf_model.specs.rules.Starts.{shown}
-use Rattle.wdf_model.specs.rules.Steps.{may_unpark, wait_is_over, call_event, cpu_of, event_of_frame, fault_event, intent_event, is_own_event, may, own_event, spends, view_of, waits_on, woken_event}
-use Rattle.wdf_model.specs.rules.Waits.{above_in, by_frame, by_frame_on, by_lock, by_request, call_cause, cause_if, frame_cause, frames_above, number_of, parked_for_cpu, pending_cause, requests_where}
+use Rattle.wdf_model.specs.rules.Steps.{may_unpark, wait_is_over, call_event, event_of_frame, fault_event, intent_event, is_own_event, may, own_event, spends, view_of, waits_on, woken_event}
+use Rattle.wdf_model.specs.rules.Waits.{above_in, by_frame, by_frame_on, by_lock, by_request, call_cause, cause_if, frame_cause, frames_above, parked_for_cpu, pending_cause, requests_where}
 use Rattle.wdf_model.proofs.Tests.{both_left, both_right, first, both, second, either_false}
 use Rattle.wdf_model.proofs.Sames.{call_kind_decides, callback_decides, handle_decides, value_decides}
 use Rattle.wdf_invariants.proofs.Holding.{HoldsIn, is_from}
@@ -199,13 +200,13 @@ none_held : {A : Type 0} (S : State A) (q : ℕ) → held_count S.queues q ≡ l
 none_held S q held e = let zero_held : held_count S.queues q ≡ 0 = held ∙ ap length e in rw zero_held refl
 
 lock_free : {A : Type 0} (plan : Plan) (S : State A) (o : ℕ) → by_lock plan S o ≡ None → is_free_lock S.locks (object_lock o) ≡ true
-lock_free plan S o h = free_hold (hold_of S.locks (object_lock o)) (none_map (λ g. cause.ByLock (handle_in plan S o) (number_of g)) (holder S.locks (object_lock o)) h)
+lock_free plan S o h = free_hold (hold_of S.locks (object_lock o)) (none_map (λ g. cause.ByLock (handle_in plan S o) (frame_id g)) (holder S.locks (object_lock o)) h)
 
 requests_gone : {A : Type 0} (plan : Plan) (S : State A) (rs : List ℕ) → by_request plan S rs ≡ None → rs ≡ []
 requests_gone plan S rs h = none_least (λ r. cause.ByRequest (handle_in plan S r)) rs h
 
 frames_gone : {A : Type 0} (S : State A) (o : ℕ) → by_frame_on S o ≡ None → nobody_on S.cpus o ≡ true
-frames_gone S o h = none_there S o (none_least (λ f. cause.ByFrame (number_of f)) (filter (is_on S.cpus o) (all_frames S.cpus)) h)
+frames_gone S o h = none_there S o (none_least (λ f. cause.ByFrame (frame_id f)) (filter (is_on S.cpus o) (all_frames S.cpus)) h)
 
 -- a call for which nothing is named doesn't wait
 call_over : {A : Type 0} (plan : Plan) (S : State A) → ((q : ℕ) → held_count S.queues q ≡ length (held_from S q)) → (k : CallKind) (n : ℕ) (a b d : Arg)
@@ -275,7 +276,7 @@ running_named plan m S rest held f h none =
     let at = found (λ cpu. contains f (stack_of S.cpus cpu)) 0 plan.cpus h in
     let low : at.place < 0 + plan.cpus = at.low in
     let one = none_first (by_frame (frames_above S f)) (pending_cause plan S (frame_of S.cpus f).pending ∷ cause_if (parked_for_cpu plan S f) cause.NoCpu ∷ []) none in
-    let alone : frames_above S f ≡ [] = none_least (λ g. cause.ByFrame (number_of g)) (frames_above S f) one.0 in
+    let alone : frames_above S f ≡ [] = none_least (λ g. cause.ByFrame (frame_id g)) (frames_above S f) one.0 in
     let on_top : top S.cpus at.place ≡ Some f = top_of f (stack_of S.cpus at.place) at.passes (none_above f S.cpus.stacks at.place alone) in
     pending_named plan S held (frame_of S.cpus f).pending (top_waits plan m S rest at.place f (omega arith) on_top)
     (none_first (pending_cause plan S (frame_of S.cpus f).pending) (cause_if (parked_for_cpu plan S f) cause.NoCpu ∷ []) one.1).0

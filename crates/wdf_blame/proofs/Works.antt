@@ -7,12 +7,13 @@ use Rattle.wdf_base.specs.declared.plan.Plan.{Plan}
 use Rattle.wdf_base.specs.declared.call.Callback.{Callback}
 use Rattle.wdf_base.specs.declared.call.Callback.TheVariants as callback
 use Rattle.wdf_base.specs.declared.wait.Cause.TheVariants as cause
+use Rattle.wdf_model.specs.Ids.{frame_id}
 use Rattle.wdf_model.specs.parts.Tree.{life_of}
 use Rattle.wdf_model.specs.parts.Cpus.{all_frames, is_on}
 use Rattle.wdf_model.specs.parts.Locks.{is_free_if_any, scope_of}
 use Rattle.wdf_model.specs.State.{State, declared_in, handle_in}
 use Rattle.wdf_model.specs.rules.Starts.{level_fits}
-use Rattle.wdf_model.specs.rules.Waits.{cause_if, no_cpu, number_of}
+use Rattle.wdf_model.specs.rules.Waits.{cause_if, no_cpu}
 use Rattle.wdf_model.proofs.Tests.{both, both_left, both_right, itself}
 use Rattle.wdf_blame.proofs.Members.{Has}
 use Rattle.wdf_base.specs.Meaning.{Meaning}
@@ -81,7 +82,7 @@ work_parts plan S c level o h =
     let one = none_first (cause_if (scope_is_held plan S c o) cause.ScopeHeld) (by_frame_on S o ∷ cause_if (no_cpu plan S level) cause.NoCpu ∷ []) h in
     let two = none_first (by_frame_on S o) (cause_if (no_cpu plan S level) cause.NoCpu ∷ []) one.1 in
     let last = none_first (cause_if (no_cpu plan S level) cause.NoCpu) [] two.1 in
-    (none_if (scope_is_held plan S c o) cause.ScopeHeld one.0, none_there S o (none_least (λ f. cause.ByFrame (number_of f)) (filter (is_on S.cpus o) (all_frames S.cpus)) two.0), none_if (no_cpu plan S level) cause.NoCpu last.0)
+    (none_if (scope_is_held plan S c o) cause.ScopeHeld one.0, none_there S o (none_least (λ f. cause.ByFrame (frame_id f)) (filter (is_on S.cpus o) (all_frames S.cpus)) two.0), none_if (no_cpu plan S level) cause.NoCpu last.0)
 
 two : (a b : Bool) → a ≡ true → b ≡ true → (a && b) ≡ true
 two a b h k = both a b h k

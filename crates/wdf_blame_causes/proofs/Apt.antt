@@ -15,7 +15,9 @@ use Rattle.wdf_model.specs.parts.Tree.{kind_of}
 use Rattle.wdf_model.specs.parts.Cpus.{frame_of, top}
 use Rattle.wdf_model.specs.parts.Requests.{info_of}
 use Rattle.wdf_model.specs.State.{State}
-use Rattle.wdf_model.specs.rules.Deeds.{Deed, Create, Make_request, Arrive, Push_frame, Go_on, Pop_frame, Park_frame, Requeue, Forward, Give_back, Enqueue_dpc, Enqueue_work, Start_timer, do_deed, do_deeds}
+use Rattle.wdf_model.specs.declared.deed.Deed.{Deed}
+use Rattle.wdf_model.specs.declared.deed.Deed.TheVariants.{Create, MakeRequest, Arrive, PushFrame, GoOn, PopFrame, ParkFrame, Requeue, Forward, GiveBack, EnqueueDpc, EnqueueWork, StartTimer}
+use Rattle.wdf_model.specs.rules.Deeds.{do_deed, do_deeds}
 use Rattle.wdf_model.specs.rules.Calls.{Outcome, origin_or_none}
 use Rattle.wdf_model.proofs.Tests.{both_left, both_right}
 
@@ -35,21 +37,21 @@ has_function plan S o = same_kind (kind_of S.tree o) kind.Dpc || (same_kind (kin
 abbrev pub Apt : {A : Type 0} → Plan → Deed → State A → Type 0
 -- an object is of its class's kind
 Apt plan (Create k class parent) S = kind_of_class plan class ≡ k
-Apt plan (Make_request class parent) S = kind_of_class plan class ≡ kind.Made
+Apt plan (MakeRequest class parent) S = kind_of_class plan class ≡ kind.Made
 -- a request waits where it is taken, and goes back to where it came from
 Apt plan (Arrive device info p) S = (info.origin ≡ None) × IsTaken plan p info.form
-Apt plan (Requeue r q) S = origin_or_none S r ≡ q
-Apt plan (Forward r q) S = takes plan q (info_of S.requests r).form ≡ true
-Apt plan (Give_back r q) S = (origin_or_none S r ≡ q) ⊎ (takes plan q (info_of S.requests r).form ≡ true)
+Apt plan (Requeue r q) S = origin_or_none S r.0 ≡ q.0
+Apt plan (Forward r q) S = takes plan q.0 (info_of S.requests r.0).form ≡ true
+Apt plan (GiveBack r q) S = (origin_or_none S r.0 ≡ q.0) ⊎ (takes plan q.0 (info_of S.requests r.0).form ≡ true)
 -- the frame that begins, goes on or ends isn't parked, and the one that parks waits in a call
-Apt plan (Push_frame cpu f frame level) S = contains f S.cpus.parked ≡ false
-Apt plan (Go_on f next) S = contains f S.cpus.parked ≡ false
-Apt plan (Pop_frame cpu) S = (f : ℕ) × (top S.cpus cpu ≡ Some f) × (contains f S.cpus.parked ≡ false)
-Apt plan (Park_frame cpu) S = (f : ℕ) × (top S.cpus cpu ≡ Some f) × (is_some (frame_of S.cpus f).pending ≡ true)
+Apt plan (PushFrame cpu f frame level) S = contains f.0 S.cpus.parked ≡ false
+Apt plan (GoOn f next) S = contains f.0 S.cpus.parked ≡ false
+Apt plan (PopFrame cpu) S = (f : ℕ) × (top S.cpus cpu.0 ≡ Some f) × (contains f S.cpus.parked ≡ false)
+Apt plan (ParkFrame cpu) S = (f : ℕ) × (top S.cpus cpu.0 ≡ Some f) × (is_some (frame_of S.cpus f).pending ≡ true)
 -- what is queued has its function
-Apt plan (Enqueue_dpc cpu o) S = has_function plan S o ≡ true
-Apt plan (Enqueue_work o) S = same_kind (kind_of S.tree o) kind.WorkItem ≡ true
-Apt plan (Start_timer o ticks) S = same_kind (kind_of S.tree o) kind.Timer ≡ true
+Apt plan (EnqueueDpc cpu o) S = has_function plan S o.0 ≡ true
+Apt plan (EnqueueWork o) S = same_kind (kind_of S.tree o.0) kind.WorkItem ≡ true
+Apt plan (StartTimer o ticks) S = same_kind (kind_of S.tree o.0) kind.Timer ≡ true
 Apt plan _ S = ⊤
 
 -- each of some deeds is so where it is done
@@ -70,18 +72,18 @@ either_apt plan S false x y h k = k refl
 
 abbrev pub is_plain : Deed → Bool
 is_plain (Create k class parent) = false
-is_plain (Make_request class parent) = false
+is_plain (MakeRequest class parent) = false
 is_plain (Arrive device info p) = false
 is_plain (Requeue r q) = false
 is_plain (Forward r q) = false
-is_plain (Give_back r q) = false
-is_plain (Push_frame cpu f frame level) = false
-is_plain (Go_on f next) = false
-is_plain (Pop_frame cpu) = false
-is_plain (Park_frame cpu) = false
-is_plain (Enqueue_dpc cpu o) = false
-is_plain (Enqueue_work o) = false
-is_plain (Start_timer o ticks) = false
+is_plain (GiveBack r q) = false
+is_plain (PushFrame cpu f frame level) = false
+is_plain (GoOn f next) = false
+is_plain (PopFrame cpu) = false
+is_plain (ParkFrame cpu) = false
+is_plain (EnqueueDpc cpu o) = false
+is_plain (EnqueueWork o) = false
+is_plain (StartTimer o ticks) = false
 is_plain _ = true
 
 abbrev pub all_plain : List Deed → Bool
@@ -89,18 +91,18 @@ all_plain ds = list_all is_plain ds
 
 pub plain_one : {A : Type 0} (plan : Plan) (d : Deed) (S : State A) → is_plain d ≡ true → Apt plan d S
 plain_one plan (Create k class parent) S h = absurd (let z : ⊥ = cc in z)
-plain_one plan (Make_request class parent) S h = absurd (let z : ⊥ = cc in z)
+plain_one plan (MakeRequest class parent) S h = absurd (let z : ⊥ = cc in z)
 plain_one plan (Arrive device info p) S h = absurd (let z : ⊥ = cc in z)
 plain_one plan (Requeue r q) S h = absurd (let z : ⊥ = cc in z)
 plain_one plan (Forward r q) S h = absurd (let z : ⊥ = cc in z)
-plain_one plan (Give_back r q) S h = absurd (let z : ⊥ = cc in z)
-plain_one plan (Push_frame cpu f frame level) S h = absurd (let z : ⊥ = cc in z)
-plain_one plan (Go_on f next) S h = absurd (let z : ⊥ = cc in z)
-plain_one plan (Pop_frame cpu) S h = absurd (let z : ⊥ = cc in z)
-plain_one plan (Park_frame cpu) S h = absurd (let z : ⊥ = cc in z)
-plain_one plan (Enqueue_dpc cpu o) S h = absurd (let z : ⊥ = cc in z)
-plain_one plan (Enqueue_work o) S h = absurd (let z : ⊥ = cc in z)
-plain_one plan (Start_timer o ticks) S h = absurd (let z : ⊥ = cc in z)
+plain_one plan (GiveBack r q) S h = absurd (let z : ⊥ = cc in z)
+plain_one plan (PushFrame cpu f frame level) S h = absurd (let z : ⊥ = cc in z)
+plain_one plan (GoOn f next) S h = absurd (let z : ⊥ = cc in z)
+plain_one plan (PopFrame cpu) S h = absurd (let z : ⊥ = cc in z)
+plain_one plan (ParkFrame cpu) S h = absurd (let z : ⊥ = cc in z)
+plain_one plan (EnqueueDpc cpu o) S h = absurd (let z : ⊥ = cc in z)
+plain_one plan (EnqueueWork o) S h = absurd (let z : ⊥ = cc in z)
+plain_one plan (StartTimer o ticks) S h = absurd (let z : ⊥ = cc in z)
 plain_one plan _ S h = tt
 
 pub plain_apt : {A : Type 0} (plan : Plan) (ds : List Deed) (S : State A) → all_plain ds ≡ true → AllApt plan ds S

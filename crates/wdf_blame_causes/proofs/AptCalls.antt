@@ -22,7 +22,8 @@ use Rattle.wdf_model.specs.parts.Interrupts.{is_enabled}
 use Rattle.wdf_model.specs.parts.Deferred.Dpcs.{is_dpc_queued}
 use Rattle.wdf_model.specs.parts.Deferred.Timers.{is_timer_queued}
 use Rattle.wdf_model.specs.State.{State, object_in, queue_delivers}
-use Rattle.wdf_model.specs.rules.Deeds.{Acknowledge, Enqueue_dpc, Enqueue_work, Forward, Give_back, Mark_request, Register_queue, Requeue, Send_request, Start_timer}
+use Rattle.wdf_model.specs.Ids.{cpu_of, object_id}
+use Rattle.wdf_model.specs.declared.deed.Deed.TheVariants.{Acknowledge, EnqueueDpc, EnqueueWork, Forward, GiveBack, MarkRequest, RegisterQueue, Requeue, SendRequest, StartTimer}
 use Rattle.wdf_model.specs.rules.Faults.{arg_is}
 use Rattle.wdf_model.specs.rules.Calls.{acknowledge_outcome, class_in, create_outcome, creation, dpc_outcome, forward_outcome, forwards_nowhere, isr_dpc_outcome, mark_outcome, may_send, new_handle, notify_outcome, number, number_in, origin_or_none, outcome, refused, requeue_outcome, retrieve_front, retrieve_outcome, second_deeds, send_outcome, success, timer_outcome, work_outcome}
 use Rattle.wdf_model.specs.rules.Steps.{view_of}
@@ -44,12 +45,12 @@ create_apt plan S class parent =
 
 requeue_apt : {A : Type 0} (plan : Plan) (S : State A) (r : ℕ) → AllApt plan (requeue_outcome S r (origin_or_none S r)).deeds S
 requeue_apt plan S r =
-    either_apt plan S (is_cancelled S.requests r || is_purged (mode_of S.control (origin_or_none S r))) (success (Give_back r (origin_or_none S r) ∷ [])) (success (Requeue r (origin_or_none S r) ∷ []))
+    either_apt plan S (is_cancelled S.requests r || is_purged (mode_of S.control (origin_or_none S r))) (success (GiveBack (object_id r) (object_id (origin_or_none S r)) ∷ [])) (success (Requeue (object_id r) (object_id (origin_or_none S r)) ∷ []))
     (λ _. (inl refl, tt)) (λ _. (refl, tt))
 
 mark_apt : {A : Type 0} (plan : Plan) (S : State A) (r : ℕ) → AllApt plan (mark_outcome plan S r).deeds S
 mark_apt plan S r =
-    either_apt plan S (declares plan callback.EvtRequestCancel (origin_or_none S r)) (record { answer = Stat (mark_answer S.requests r); deeds = Mark_request r ∷ [] }) (refused status.InvalidDeviceRequest) (λ _. (tt, tt)) (λ _. tt)
+    either_apt plan S (declares plan callback.EvtRequestCancel (origin_or_none S r)) (record { answer = Stat (mark_answer S.requests r); deeds = MarkRequest (object_id r) ∷ [] }) (refused status.InvalidDeviceRequest) (λ _. (tt, tt)) (λ _. tt)
 
 taken_there : {A : Type 0} (plan : Plan) (S : State A) (r q : ℕ) → forwards_nowhere plan S r q ≡ false → takes plan q (info_of S.requests r).form ≡ true
 taken_there plan S r q h =
@@ -59,15 +60,15 @@ taken_there plan S r q h =
 forward_apt : {A : Type 0} (plan : Plan) (S : State A) (r q : ℕ) → AllApt plan (forward_outcome plan S r q).deeds S
 forward_apt plan S r q =
     either_apt plan S (forwards_nowhere plan S r q) (refused status.InvalidDeviceRequest)
-    (if not (accepts S.control q) then refused status.WdfBusy else if is_cancelled S.requests r then success (Give_back r q ∷ []) else success (Forward r q ∷ [])) (λ _. tt)
-    (λ here. either_apt plan S (not (accepts S.control q)) (refused status.WdfBusy) (if is_cancelled S.requests r then success (Give_back r q ∷ []) else success (Forward r q ∷ [])) (λ _. tt)
-    (λ _. either_apt plan S (is_cancelled S.requests r) (success (Give_back r q ∷ [])) (success (Forward r q ∷ [])) (λ _. (inr (taken_there plan S r q here), tt)) (λ _. (taken_there plan S r q here, tt))))
+    (if not (accepts S.control q) then refused status.WdfBusy else if is_cancelled S.requests r then success (GiveBack (object_id r) (object_id q) ∷ []) else success (Forward (object_id r) (object_id q) ∷ [])) (λ _. tt)
+    (λ here. either_apt plan S (not (accepts S.control q)) (refused status.WdfBusy) (if is_cancelled S.requests r then success (GiveBack (object_id r) (object_id q) ∷ []) else success (Forward (object_id r) (object_id q) ∷ [])) (λ _. tt)
+    (λ _. either_apt plan S (is_cancelled S.requests r) (success (GiveBack (object_id r) (object_id q) ∷ [])) (success (Forward (object_id r) (object_id q) ∷ [])) (λ _. (inr (taken_there plan S r q here), tt)) (λ _. (taken_there plan S r q here, tt))))
 
 acknowledge_apt : {A : Type 0} (plan : Plan) (S : State A) (r : ℕ) (b : Arg) → AllApt plan (acknowledge_outcome S r b).deeds S
-acknowledge_apt plan S r b = either_apt plan S (arg_is b 0) (success (Acknowledge r ∷ [])) (requeue_outcome S r (origin_or_none S r)) (λ _. (tt, tt)) (λ _. requeue_apt plan S r)
+acknowledge_apt plan S r b = either_apt plan S (arg_is b 0) (success (Acknowledge (object_id r) ∷ [])) (requeue_outcome S r (origin_or_none S r)) (λ _. (tt, tt)) (λ _. requeue_apt plan S r)
 
 send_apt : {A : Type 0} (plan : Plan) (S : State A) (r t : ℕ) (forget : Bool) → AllApt plan (send_outcome S r t forget).deeds S
-send_apt plan S r t forget = either_apt plan S (may_send S r t) (number 1 (Send_request r t forget ∷ [])) (number 0 []) (λ _. (tt, tt)) (λ _. tt)
+send_apt plan S r t forget = either_apt plan S (may_send S r t) (number 1 (SendRequest (object_id r) (object_id t) forget ∷ [])) (number 0 []) (λ _. (tt, tt)) (λ _. tt)
 
 front_apt : {A : Type 0} (plan : Plan) (S : State A) (q : ℕ) (there : Option ℕ) → AllApt plan (retrieve_front plan S q there).deeds S
 front_apt plan S q None = tt
@@ -80,11 +81,11 @@ retrieve_apt plan S q =
 
 notify_apt : {A : Type 0} (plan : Plan) (S : State A) (q : ℕ) (x : Arg) → AllApt plan (notify_outcome plan q x).deeds S
 notify_apt plan S q x =
-    either_apt plan S (is_manual_queue plan q && declares plan callback.EvtIoQueueState q) (success (Register_queue q (not (arg_is x 0)) ∷ [])) (refused status.InvalidDeviceRequest) (λ _. (tt, tt)) (λ _. tt)
+    either_apt plan S (is_manual_queue plan q && declares plan callback.EvtIoQueueState q) (success (RegisterQueue (object_id q) (not (arg_is x 0)) ∷ [])) (refused status.InvalidDeviceRequest) (λ _. (tt, tt)) (λ _. tt)
 
 isr_apt : {A : Type 0} (plan : Plan) (S : State A) (cpu i : ℕ) → same_kind (kind_of S.tree i) kind.Interrupt ≡ true → AllApt plan (isr_dpc_outcome plan S cpu i).deeds S
 isr_apt plan S cpu i k =
-    either_apt plan S (is_enabled S.interrupts i && declares plan callback.EvtInterruptDpc i && not (is_dpc_queued S.dpcs i)) (number 1 (Enqueue_dpc cpu i ∷ [])) (number 0 [])
+    either_apt plan S (is_enabled S.interrupts i && declares plan callback.EvtInterruptDpc i && not (is_dpc_queued S.dpcs i)) (number 1 (EnqueueDpc (cpu_of cpu) (object_id i) ∷ [])) (number 0 [])
     (λ h. (
       second (same_kind (kind_of S.tree i) kind.Dpc) (same_kind (kind_of S.tree i) kind.Interrupt && declares plan callback.EvtInterruptDpc i)
           (both (same_kind (kind_of S.tree i) kind.Interrupt) (declares plan callback.EvtInterruptDpc i) k
@@ -94,14 +95,14 @@ isr_apt plan S cpu i k =
 
 dpc_apt : {A : Type 0} (plan : Plan) (S : State A) (cpu o : ℕ) → same_kind (kind_of S.tree o) kind.Dpc ≡ true → AllApt plan (dpc_outcome S cpu o).deeds S
 dpc_apt plan S cpu o k =
-    either_apt plan S (is_live (life_of S.tree o) && not (is_dpc_queued S.dpcs o)) (number 1 (Enqueue_dpc cpu o ∷ [])) (number 0 [])
+    either_apt plan S (is_live (life_of S.tree o) && not (is_dpc_queued S.dpcs o)) (number 1 (EnqueueDpc (cpu_of cpu) (object_id o) ∷ [])) (number 0 [])
     (λ _. (first (same_kind (kind_of S.tree o) kind.Dpc) (same_kind (kind_of S.tree o) kind.Interrupt && declares plan callback.EvtInterruptDpc o) k, tt)) (λ _. tt)
 
 timer_apt : {A : Type 0} (plan : Plan) (S : State A) (o n : ℕ) → same_kind (kind_of S.tree o) kind.Timer ≡ true → AllApt plan (timer_outcome S o n).deeds S
-timer_apt plan S o n k = either_apt plan S (is_live (life_of S.tree o)) (number (flag (is_timer_queued S.timers o)) (Start_timer o n ∷ [])) (number 0 []) (λ _. (k, tt)) (λ _. tt)
+timer_apt plan S o n k = either_apt plan S (is_live (life_of S.tree o)) (number (flag (is_timer_queued S.timers o)) (StartTimer (object_id o) n ∷ [])) (number 0 []) (λ _. (k, tt)) (λ _. tt)
 
 work_apt : {A : Type 0} (plan : Plan) (S : State A) (o : ℕ) → same_kind (kind_of S.tree o) kind.WorkItem ≡ true → AllApt plan (work_outcome S o).deeds S
-work_apt plan S o k = either_apt plan S (is_live (life_of S.tree o)) (success (Enqueue_work o ∷ [])) (success []) (λ _. (k, tt)) (λ _. tt)
+work_apt plan S o k = either_apt plan S (is_live (life_of S.tree o)) (success (EnqueueWork (object_id o) ∷ [])) (success []) (λ _. (k, tt)) (λ _. tt)
 
 -- a call
 abbrev made : CallKind → ℕ → Arg → Arg → Arg → Call

@@ -36,7 +36,10 @@ use Rattle.wdf_model.specs.parts.Control.{accepts}
 use Rattle.wdf_model.specs.parts.Requests.{arrival_of, place_of}
 use Rattle.wdf_model.specs.State.{State, declared_in}
 use Rattle.wdf_model.specs.laws.Fits.{all_fit}
-use Rattle.wdf_model.specs.rules.Deeds.{Deed, Arrive, Count_arrival, Go_on, Pop_frame, Push_frame, do_deeds}
+use Rattle.wdf_model.specs.Ids.{cpu_of, frame_id, irql_of, object_id}
+use Rattle.wdf_model.specs.declared.deed.Deed.{Deed}
+use Rattle.wdf_model.specs.declared.deed.Deed.TheVariants.{Arrive, CountArrival, GoOn, PopFrame, PushFrame}
+use Rattle.wdf_model.specs.rules.Deeds.{do_deeds}
 use Rattle.wdf_model.specs.rules.Calls.{outcome, second_deeds}
 use Rattle.wdf_model.specs.rules.Posts.{arrival_info, arrival_place, cancel_at, cancel_deeds, in_reach, is_data, place_if_any, place_in_queue, post_deeds, takes_empty}
 use Rattle.wdf_model.specs.rules.Script.{intent_of}
@@ -149,16 +152,16 @@ start_apt plan S cpu c o r k =
     let ds : List Deed = start_effect plan S cpu c o.id.0 r in
     let l : Option LockRef = lock_of_callback plan c o.id.0 (declared_in plan S o.id.0) in
     let off : contains f (do_deeds plan ds S).cpus.parked ≡ false = ap (contains f) (start_parked plan S cpu c o.id.0 r) ∙ off_by_none S.cpus f (no_frame_yet plan S k) in
-    apt_behind plan ds (Push_frame cpu f (new_frame plan S c o r) (callback_irql plan c o.id.0) ∷ take_if_any f l) S
+    apt_behind plan ds (PushFrame (cpu_of cpu) (frame_id f) (new_frame plan S c o r) (irql_of (callback_irql plan c o.id.0)) ∷ take_if_any f l) S
     (plain_apt plan ds S (start_plain plan S cpu c o.id.0 r)) (off, plain_apt plan (take_if_any f l) _ (taking_plain f l))
 
 -- ---- a frame goes on
 
 goes_on_apt : {A : Type 0} (plan : Plan) (S : State A) (ds : List Deed) (f : ℕ) (next : Frame) → AllApt plan ds S → all_still ds ≡ true → all_fit plan ds S ≡ true → contains f S.cpus.parked ≡ false
-    → AllApt plan (ds ++ Go_on f next ∷ []) S
+    → AllApt plan (ds ++ GoOn (frame_id f) next ∷ []) S
 goes_on_apt plan S ds f next h still fit off =
     let s : Still S (do_deeds plan ds S) = deeds_still plan ds S still fit in
-    apt_behind plan ds (Go_on f next ∷ []) S h (ap (contains f) s.parked ∙ off, tt)
+    apt_behind plan ds (GoOn (frame_id f) next ∷ []) S h (ap (contains f) s.parked ∙ off, tt)
 
 by_its_top_apt : {A : Type 0} (plan : Plan) (S : State A) (cpu f : ℕ) (what : ℕ → Frame → List Deed) → top S.cpus cpu ≡ Some f → AllApt plan (what f (frame_of S.cpus f)) S → AllApt plan (by_top S cpu what) S
 by_its_top_apt plan S cpu f what t h = subst (λ ds. AllApt plan ds S) (sym (by_its_top S cpu f what t)) h
@@ -170,11 +173,11 @@ did_apt plan S known cpu c v d fit =
     let ds : List Deed = (outcome plan S cpu f c).deeds in
     let es : List Deed = second_deeds f c in
     let next : Frame = answered plan (frame_of S.cpus f) v in
-    let all : all_fit plan (ds ++ es ++ Go_on f next ∷ []) S ≡ true = subst (λ xs. all_fit plan xs S ≡ true) (by_its_top S cpu f (did_deeds plan S cpu c v) d.about.top) fit in
+    let all : all_fit plan (ds ++ es ++ GoOn (frame_id f) next ∷ []) S ≡ true = subst (λ xs. all_fit plan xs S ≡ true) (by_its_top S cpu f (did_deeds plan S cpu c v) d.about.top) fit in
     by_its_top_apt plan S cpu f (did_deeds plan S cpu c v) d.about.top
     (goes_on_apt plan S (ds ++ es) f next
     (apt_behind plan ds es S (outcome_apt plan S cpu f c.kind c.count c.a c.b c.c d.about.clean) (second_apt plan (do_deeds plan ds S) f c.kind c.count c.a c.b c.c))
-    (none_behind ds es (outcome_none plan S cpu f c.kind c.count c.a c.b c.c) (second_none f c.kind c.count c.a c.b c.c)) (fit_before plan (ds ++ es) (Go_on f next ∷ []) S all)
+    (none_behind ds es (outcome_none plan S cpu f c.kind c.count c.a c.b c.c) (second_none f c.kind c.count c.a c.b c.c)) (fit_before plan (ds ++ es) (GoOn (frame_id f) next ∷ []) S all)
     (off_by_top S.cpus cpu f d.about.top (known.frames.once f)))
 
 waiting_apt : {A : Type 0} (plan : Plan) (S : State A) → Known plan S → (cpu : ℕ) (c : Call) → IsWaiting plan S cpu c → all_fit plan (by_top S cpu (waiting_deeds plan S cpu c)) S ≡ true
@@ -183,10 +186,10 @@ waiting_apt plan S known cpu c d fit =
     let f : ℕ = d.frame in
     let ds : List Deed = (outcome plan S cpu f c).deeds in
     let next : Frame = waiting (frame_of S.cpus f) c (outcome plan S cpu f c).answer in
-    let all : all_fit plan (ds ++ Go_on f next ∷ []) S ≡ true = subst (λ xs. all_fit plan xs S ≡ true) (by_its_top S cpu f (waiting_deeds plan S cpu c) d.about.top) fit in
+    let all : all_fit plan (ds ++ GoOn (frame_id f) next ∷ []) S ≡ true = subst (λ xs. all_fit plan xs S ≡ true) (by_its_top S cpu f (waiting_deeds plan S cpu c) d.about.top) fit in
     by_its_top_apt plan S cpu f (waiting_deeds plan S cpu c) d.about.top
     (goes_on_apt plan S ds f next (outcome_apt plan S cpu f c.kind c.count c.a c.b c.c d.about.clean) (outcome_none plan S cpu f c.kind c.count c.a c.b c.c)
-    (fit_before plan ds (Go_on f next ∷ []) S all) (off_by_top S.cpus cpu f d.about.top (known.frames.once f)))
+    (fit_before plan ds (GoOn (frame_id f) next ∷ []) S all) (off_by_top S.cpus cpu f d.about.top (known.frames.once f)))
 
 woke_apt : {A : Type 0} (plan : Plan) (S : State A) → Known plan S → (cpu : ℕ) (c : Call) (v : Value) → IsWoke S cpu c v → all_fit plan (by_top S cpu (woke_deeds plan c v)) S ≡ true
     → AllApt plan (by_top S cpu (woke_deeds plan c v)) S
@@ -194,13 +197,13 @@ woke_apt plan S known cpu c v d fit =
     let f : ℕ = d.frame in
     let es : List Deed = second_deeds f c in
     let next : Frame = answered plan (frame_of S.cpus f) v in
-    let all : all_fit plan (es ++ Go_on f next ∷ []) S ≡ true = subst (λ xs. all_fit plan xs S ≡ true) (by_its_top S cpu f (woke_deeds plan c v) d.top) fit in
+    let all : all_fit plan (es ++ GoOn (frame_id f) next ∷ []) S ≡ true = subst (λ xs. all_fit plan xs S ≡ true) (by_its_top S cpu f (woke_deeds plan c v) d.top) fit in
     by_its_top_apt plan S cpu f (woke_deeds plan c v) d.top
     (goes_on_apt plan S es f next (second_apt plan S f c.kind c.count c.a c.b c.c) (second_none f c.kind c.count c.a c.b c.c)
-    (fit_before plan es (Go_on f next ∷ []) S all) (off_by_top S.cpus cpu f d.top (known.frames.once f)))
+    (fit_before plan es (GoOn (frame_id f) next ∷ []) S all) (off_by_top S.cpus cpu f d.top (known.frames.once f)))
 
 moving_apt : {A : Type 0} (plan : Plan) (S : State A) → Known plan S → (cpu : ℕ) (next : Frame → Frame) (there : Option ℕ) → top S.cpus cpu ≡ there
-    → AllApt plan (elim there as (λ _. List Deed) [ None ↦ [] | Some f ↦ Go_on f (next (frame_of S.cpus f)) ∷ [] ]) S
+    → AllApt plan (elim there as (λ _. List Deed) [ None ↦ [] | Some f ↦ GoOn (frame_id f) (next (frame_of S.cpus f)) ∷ [] ]) S
 moving_apt plan S known cpu next None e = tt
 moving_apt plan S known cpu next (Some f) e = (off_by_top S.cpus cpu f e (known.frames.once f), tt)
 
@@ -211,7 +214,7 @@ step_plain plan S rank.Sequence c o v = refl
 step_plain plan S _ c o v = refl
 
 ends_apt : {A : Type 0} (plan : Plan) (S : State A) (cpu f : ℕ) (l : Option LockRef) (es : List Deed) → top S.cpus cpu ≡ Some f → contains f S.cpus.parked ≡ false → all_plain es ≡ true
-    → AllApt plan (release_if_any l ++ Pop_frame cpu ∷ es) S
+    → AllApt plan (release_if_any l ++ PopFrame (cpu_of cpu) ∷ es) S
 ends_apt plan S cpu f None es t off plain = ((f, t, off), plain_apt plan es _ plain)
 ends_apt plan S cpu f (Some l) es t off plain = (tt, ((f, t, off), plain_apt plan es _ plain))
 
@@ -264,7 +267,7 @@ taken_if_any plan S f length None = tt
 taken_if_any plan S f length (Some q) = taken_in plan S f length q
 
 arrival_apt : {A : Type 0} (plan : Plan) (S : State A) (agent : ℕ) (f : RequestForm) (length code device : ℕ) (b : Bool)
-    → AllApt plan (Count_arrival agent ∷ (if b then Arrive device (arrival_info S agent f length code device) (arrival_place plan S f length device) ∷ [] else [])) S
+    → AllApt plan (CountArrival agent ∷ (if b then Arrive (object_id device) (arrival_info S agent f length code device) (arrival_place plan S f length device) ∷ [] else [])) S
 arrival_apt plan S agent f length code device true = (tt, ((refl, taken_if_any plan S f length (queue_for plan device f)), tt))
 arrival_apt plan S agent f length code device false = (tt, tt)
 

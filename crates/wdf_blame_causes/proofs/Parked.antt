@@ -11,7 +11,9 @@ use Rattle.wdf_model.specs.parts.Cpus.{Cpus, frame_of, no_frame, parked_with, ru
 use Rattle.wdf_model.specs.parts.Cpus as cpus
 use Rattle.wdf_model.specs.State.{State}
 use Rattle.wdf_model.specs.laws.Fits.{all_fit, fits}
-use Rattle.wdf_model.specs.rules.Deeds.{Deed, Push_frame, Go_on, Pop_frame, Park_frame, Unpark_frame, Take_step, End_step, End_life, do_deed, do_deeds}
+use Rattle.wdf_model.specs.declared.deed.Deed.{Deed}
+use Rattle.wdf_model.specs.declared.deed.Deed.TheVariants.{PushFrame, GoOn, PopFrame, ParkFrame, UnparkFrame, TakeStep, EndStep, EndLife}
+use Rattle.wdf_model.specs.rules.Deeds.{do_deed, do_deeds}
 use Rattle.wdf_model.specs.rules.Ready.{IsRunOf, state_after}
 use Rattle.wdf_model.specs.rules.Steps.{deeds}
 use Rattle.wdf_model.proofs.Tests.{alone, both_left, both_right}
@@ -96,16 +98,16 @@ stays : {A : Type 0} (S U : State A) → Still S U → Parking S.cpus → Parkin
 stays S U s q = record { waits = λ f h. ap (λ (a : Frame). is_some a.pending) (s.frames f) ∙ q.waits f (sym (ap (contains f) s.parked) ∙ h) }
 
 parking_by : {A : Type 0} (plan : Plan) (d : Deed) (S : State A) → fits plan d S ≡ true → Apt plan d S → Parking S.cpus → Parking (do_deed plan d S).cpus
-parking_by plan (Push_frame cpu f frame level) S fit a q =
-    others_wait S.cpus (cpus.push S.cpus cpu f frame level) f a (λ x h. h) (λ x n. ap (λ (r : Running). r.frame) (entry_put_other no_frame S.cpus.frames f x (record { frame = frame; level = record { 0 = level } }) n)) q
-parking_by plan (Go_on f next) S fit a q =
-    others_wait S.cpus (cpus.change S.cpus f next) f a (λ x h. h) (λ x n. ap (λ (r : Running). r.frame) (entry_put_other no_frame S.cpus.frames f x (record (running S.cpus f) { frame = next }) n)) q
-parking_by plan (Pop_frame cpu) S fit a q = others_wait S.cpus (cpus.pop S.cpus cpu) a.0 a.2 (λ x h. h) (λ x n. pop_elsewhere S.cpus cpu a.0 x a.1 n) q
-parking_by plan (Park_frame cpu) S fit a q = parks S.cpus cpu a.0 a.1 a.2 q
-parking_by plan (Unpark_frame cpu f) S fit a q = record { waits = λ x h. q.waits x (left f x S.cpus.parked h) }
-parking_by plan (Take_step d) S fit a q = q
-parking_by plan (End_step d s result) S fit a q = q
-parking_by plan (End_life o) S fit a q = q
+parking_by plan (PushFrame cpu f frame level) S fit a q =
+    others_wait S.cpus (cpus.push S.cpus cpu.0 f.0 frame level.0) f.0 a (λ x h. h) (λ x n. ap (λ (r : Running). r.frame) (entry_put_other no_frame S.cpus.frames f.0 x (record { frame = frame; level = record { 0 = level.0 } }) n)) q
+parking_by plan (GoOn f next) S fit a q =
+    others_wait S.cpus (cpus.change S.cpus f.0 next) f.0 a (λ x h. h) (λ x n. ap (λ (r : Running). r.frame) (entry_put_other no_frame S.cpus.frames f.0 x (record (running S.cpus f.0) { frame = next }) n)) q
+parking_by plan (PopFrame cpu) S fit a q = others_wait S.cpus (cpus.pop S.cpus cpu.0) a.0 a.2 (λ x h. h) (λ x n. pop_elsewhere S.cpus cpu.0 a.0 x a.1 n) q
+parking_by plan (ParkFrame cpu) S fit a q = parks S.cpus cpu.0 a.0 a.1 a.2 q
+parking_by plan (UnparkFrame cpu f) S fit a q = record { waits = λ x h. q.waits x (left f.0 x S.cpus.parked h) }
+parking_by plan (TakeStep d) S fit a q = q
+parking_by plan (EndStep d s result) S fit a q = q
+parking_by plan (EndLife o) S fit a q = q
 parking_by plan d S fit a q = stays S (do_deed plan d S) (deeds_still plan (d ∷ []) S refl (alone (fits plan d S) fit)) q
 
 pub parking_at_each : {A : Type 0} (plan : Plan) (m : Meaning A) (run : List Event) → IsRunOf plan m run → (n : ℕ) → Parking (state_after plan m (take n run)).cpus

@@ -18,6 +18,7 @@ use Rattle.wdf_base.specs.declared.rank.Rank.{Rank}
 use Rattle.wdf_base.specs.declared.rank.Rank.TheVariants as rank
 use Rattle.wdf_base.specs.declared.wait.Cause.TheVariants as cause
 use Rattle.wdf_base.specs.Same.{same_callback, same_handle, same_option, same_stage, same_step}
+use Rattle.wdf_model.specs.Ids.{frame_id}
 use Rattle.wdf_model.specs.declared.enums.Group.TheVariants as group
 use Rattle.wdf_model.specs.Tables.{contains}
 use Rattle.wdf_model.specs.Plans.{callback_irql, interrupts_of}
@@ -31,7 +32,7 @@ use Rattle.wdf_model.specs.State.{State, declared_in, declares_in, handle_in, is
 use Rattle.wdf_model.specs.rules.Groups.{candidate, candidates, declared_end, groups_of_rank, RANKS, start_of_step, starts}
 use Rattle.wdf_model.specs.rules.Starts.{interrupt_of_step, is_quiet, is_ready_for, level_fits, life_fits, may_pass, may_start, rank_ready, resumes_over, stage_ready, step_of, step_ready}
 use Rattle.wdf_model.specs.rules.Steps.{may}
-use Rattle.wdf_model.specs.rules.Waits.{all_cpus, by_frame, by_request, cause_if, cpus_with_dpc, frames_where, has_dpc_of, head_lock, holders_of, no_cpu, number_of, object_of_step, quiet_frames, runs_step, stage_cpus, stage_frames, stage_requests, step_cause}
+use Rattle.wdf_model.specs.rules.Waits.{all_cpus, by_frame, by_request, cause_if, cpus_with_dpc, frames_where, has_dpc_of, head_lock, holders_of, no_cpu, object_of_step, quiet_frames, runs_step, stage_cpus, stage_frames, stage_requests, step_cause}
 use Rattle.wdf_model.proofs.Tests.{both, both_left, both_right, first, itself}
 use Rattle.wdf_model.proofs.Sames.{callback_decides, handle_decides}
 use Rattle.wdf_blame_causes.specs.Starts.{dpc_may_run, has_callback, step_may_run}
@@ -114,7 +115,7 @@ quiet_waits plan m S rest size may_be d i low next calm early h =
     let one = none_first (by_request plan S (stage_requests plan S d stage.Quiet)) (by_frame (stage_frames plan S d stage.Quiet i) ∷ cause_if (stage_cpus plan S d stage.Quiet) cause.NoCpu ∷ []) h in
     let two = none_first (by_frame (stage_frames plan S d stage.Quiet i)) (cause_if (stage_cpus plan S d stage.Quiet) cause.NoCpu ∷ []) one.1 in
     let last = none_first (cause_if (stage_cpus plan S d stage.Quiet) cause.NoCpu) [] two.1 in
-    let fs : quiet_frames plan S d ≡ [] = none_least (λ f. cause.ByFrame (number_of f)) (stage_frames plan S d stage.Quiet i) two.0 in
+    let fs : quiet_frames plan S d ≡ [] = none_least (λ f. cause.ByFrame (frame_id f)) (stage_frames plan S d stage.Quiet i) two.0 in
     let parts = front_none (frames_where S (runs_step d callback.EvtInterruptDpc)) (flat_map (λ cpu. holders_of S (head_lock plan S cpu)) (cpus_with_dpc plan S d)) fs in
     let fits = none_if (list_any (λ cpu. not (level_fits S cpu 2)) (cpus_with_dpc plan S d)) cause.NoCpu last.0 in
     let over : is_running S.cpus callback.EvtInterruptDpc d ≡ false = no_count (λ f. runs_step d callback.EvtInterruptDpc (frame_of S.cpus f)) (all_frames S.cpus) parts.0 in
@@ -152,7 +153,7 @@ callback_waits plan m S rest d c i low next calm early may_be h =
     let lock : Option _ = lock_of_callback plan c o (declared_in plan S o) in
     let one = none_first (by_frame (holders_of S lock)) (cause_if (no_cpu plan S (callback_irql plan c o)) cause.NoCpu ∷ []) h in
     let two = none_first (cause_if (no_cpu plan S (callback_irql plan c o)) cause.NoCpu) [] one.1 in
-    let free : is_free_if_any S.locks lock ≡ true = free_by_none S lock (none_least (λ f. cause.ByFrame (number_of f)) (holders_of S lock) one.0) in
+    let free : is_free_if_any S.locks lock ≡ true = free_by_none S lock (none_least (λ f. cause.ByFrame (frame_id f)) (holders_of S lock) one.0) in
     let left = free_one (λ cpu. level_fits S cpu (callback_irql plan c o)) 0 plan.cpus (none_if (no_cpu plan S (callback_irql plan c o)) cause.NoCpu two.0) in
     let cpu : ℕ = left.0 in
     let under : cpu < 0 + plan.cpus = left.1 in

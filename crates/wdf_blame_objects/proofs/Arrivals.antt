@@ -23,7 +23,9 @@ use Rattle.wdf_model.specs.parts.Requests.{Requests, cancelled, closed_at, forgo
 use Rattle.wdf_model.specs.parts.Requests as requests
 use Rattle.wdf_model.specs.parts.Targets.{is_forgotten}
 use Rattle.wdf_model.specs.State.{State, withdrawn_place}
-use Rattle.wdf_model.specs.rules.Deeds.{Deed, Arrive, Ask_deletion, Cancel_request, Clean_up, Close_device, Close_returning, Come_back, Complete_request, Create, End_life, Finish_sending, Forward, Give_back, Make_request, Mark_request, Note, Present, Purge_queue, Receive, Refer, Requeue, Send_request, Take_cancel, Unmark_request, Unrefer, Withdraw, Write_cell, ask_object, close_queue, close_returning, do_deed, finished_at, give_up, queued, withdraw}
+use Rattle.wdf_model.specs.declared.deed.Deed.{Deed}
+use Rattle.wdf_model.specs.declared.deed.Deed.TheVariants.{Arrive, AskDeletion, CancelRequest, CleanUp, CloseDevice, CloseReturning, ComeBack, CompleteRequest, Create, EndLife, FinishSending, Forward, GiveBack, MakeRequest, MarkRequest, Note, Present, PurgeQueue, Receive, Refer, Requeue, SendRequest, TakeCancel, UnmarkRequest, Unrefer, Withdraw, WriteCell}
+use Rattle.wdf_model.specs.rules.Deeds.{ask_object, close_queue, close_returning, do_deed, finished_at, give_up, queued, withdraw}
 use Rattle.wdf_model.specs.rules.Faults.{is_never_deleted, is_request_kind}
 use Rattle.wdf_model.specs.laws.Fits.{fits}
 use Rattle.wdf_model.proofs.Tests.{both_left, both_right, not_true}
@@ -135,42 +137,42 @@ all_closed (q ∷ qs) S = all_then S.requests (close_queue S q).requests (fold c
 -- a request is made or arrives, or is gone
 abbrev begins_or_ends : Deed → Bool
 begins_or_ends (Arrive device info p) = true
-begins_or_ends (Make_request class parent) = true
-begins_or_ends (End_life o) = true
+begins_or_ends (MakeRequest class parent) = true
+begins_or_ends (EndLife o) = true
 begins_or_ends _ = false
 
 all_kept : {A : Type 0} (plan : Plan) (d : Deed) (S : State A) → begins_or_ends d ≡ false → AllKept S.requests (do_deed plan d S).requests
 all_kept plan (Arrive device info p) S h = absurd (let z : ⊥ = cc in z)
-all_kept plan (Make_request class parent) S h = absurd (let z : ⊥ = cc in z)
-all_kept plan (Ask_deletion o) S h = all_same _ _ (asks_all requests_in (λ S T D W U. refl) (subtree S.tree o) S)
-all_kept plan (End_life o) S h = absurd (let z : ⊥ = cc in z)
-all_kept plan (Present q r) S h = moves S.requests r place.Owned
-all_kept plan (Receive q r) S h = moves S.requests r place.Owned
-all_kept plan (Requeue r q) S h = then_moves _ _ r (queued q) (given requests_in (λ S Q P. refl) S r)
-all_kept plan (Forward r q) S h = then_moves _ _ r (queued q) (given requests_in (λ S Q P. refl) S r)
-all_kept plan (Give_back r q) S h = then_cancels _ _ r (withdrawn_place plan (give_up S r) q r) (given requests_in (λ S Q P. refl) S r)
-all_kept plan (Withdraw q r) S h = then_cancels S.requests S.requests r (withdrawn_place plan S q r) refl
-all_kept plan (Mark_request r) S h =
-    one_changes S.requests r marked (either_kept (request_of S.requests r).info.cancelled (with_mark marks.Marked (request_of S.requests r)) (request_of S.requests r) (record { device = refl; arrival = refl }))
-all_kept plan (Unmark_request r) S h =
-    one_changes S.requests r unmarked (or_kept (is_marked (request_of S.requests r).info.mark) (with_mark marks.Unmarked (request_of S.requests r)) (request_of S.requests r) (record { device = refl; arrival = refl }))
-all_kept plan (Cancel_request r) S h = cancels S.requests r
-all_kept plan (Take_cancel r) S h = one_changes S.requests r (with_mark marks.Taken) (record { device = refl; arrival = refl })
-all_kept plan (Send_request r t forget) S h = then_moves _ _ r (place.Sent (record { 0 = t })) (given_if requests_in (λ S Q P. refl) S forget r)
-all_kept plan (Finish_sending r s) S h = moves S.requests r (finished_at (is_forgotten S.targets r) s (place_of S.requests r))
-all_kept plan (Come_back r) S h = moves S.requests r place.Owned
-all_kept plan (Complete_request r) S h =
-    all_then S.requests (requests.complete S.requests r) (do_deed plan (Complete_request r) S).requests (moves S.requests r place.Done)
-    (all_same (requests.complete S.requests r) (do_deed plan (Complete_request r) S).requests (asks_all requests_in (λ S T D W U. refl) (subtree (give_up S r).tree r) (record (give_up S r) { requests = requests.complete S.requests r })))
-all_kept plan (Purge_queue q) S h = all_withdrawn plan q (waiting_in S.queues q) (record S { control = control.set_mode S.control q mode.Purged })
-all_kept plan (Close_returning d) S h = all_returning (managed_queues plan d) S
-all_kept plan (Close_device d) S h = all_closed (queues_of plan d) (record S { control = control.shut S.control d })
+all_kept plan (MakeRequest class parent) S h = absurd (let z : ⊥ = cc in z)
+all_kept plan (AskDeletion o) S h = all_same _ _ (asks_all requests_in (λ S T D W U. refl) (subtree S.tree o.0) S)
+all_kept plan (EndLife o) S h = absurd (let z : ⊥ = cc in z)
+all_kept plan (Present q r) S h = moves S.requests r.0 place.Owned
+all_kept plan (Receive q r) S h = moves S.requests r.0 place.Owned
+all_kept plan (Requeue r q) S h = then_moves _ _ r.0 (queued q.0) (given requests_in (λ S Q P. refl) S r.0)
+all_kept plan (Forward r q) S h = then_moves _ _ r.0 (queued q.0) (given requests_in (λ S Q P. refl) S r.0)
+all_kept plan (GiveBack r q) S h = then_cancels _ _ r.0 (withdrawn_place plan (give_up S r.0) q.0 r.0) (given requests_in (λ S Q P. refl) S r.0)
+all_kept plan (Withdraw q r) S h = then_cancels S.requests S.requests r.0 (withdrawn_place plan S q.0 r.0) refl
+all_kept plan (MarkRequest r) S h =
+    one_changes S.requests r.0 marked (either_kept (request_of S.requests r.0).info.cancelled (with_mark marks.Marked (request_of S.requests r.0)) (request_of S.requests r.0) (record { device = refl; arrival = refl }))
+all_kept plan (UnmarkRequest r) S h =
+    one_changes S.requests r.0 unmarked (or_kept (is_marked (request_of S.requests r.0).info.mark) (with_mark marks.Unmarked (request_of S.requests r.0)) (request_of S.requests r.0) (record { device = refl; arrival = refl }))
+all_kept plan (CancelRequest r) S h = cancels S.requests r.0
+all_kept plan (TakeCancel r) S h = one_changes S.requests r.0 (with_mark marks.Taken) (record { device = refl; arrival = refl })
+all_kept plan (SendRequest r t forget) S h = then_moves _ _ r.0 (place.Sent (record { 0 = t.0 })) (given_if requests_in (λ S Q P. refl) S forget r.0)
+all_kept plan (FinishSending r s) S h = moves S.requests r.0 (finished_at (is_forgotten S.targets r.0) s (place_of S.requests r.0))
+all_kept plan (ComeBack r) S h = moves S.requests r.0 place.Owned
+all_kept plan (CompleteRequest r) S h =
+    all_then S.requests (requests.complete S.requests r.0) (do_deed plan (CompleteRequest r) S).requests (moves S.requests r.0 place.Done)
+    (all_same (requests.complete S.requests r.0) (do_deed plan (CompleteRequest r) S).requests (asks_all requests_in (λ S T D W U. refl) (subtree (give_up S r.0).tree r.0) (record (give_up S r.0) { requests = requests.complete S.requests r.0 })))
+all_kept plan (PurgeQueue q) S h = all_withdrawn plan q.0 (waiting_in S.queues q.0) (record S { control = control.set_mode S.control q.0 mode.Purged })
+all_kept plan (CloseReturning d) S h = all_returning (managed_queues plan d.0) S
+all_kept plan (CloseDevice d) S h = all_closed (queues_of plan d.0) (record S { control = control.shut S.control d.0 })
 all_kept plan _ S h = λ x. record { device = refl; arrival = refl }
 
 pub devices_stay : {A : Type 0} (plan : Plan) (d : Deed) (S : State A) → is_arrival d ≡ false → DevicesStay S.requests (do_deed plan d S).requests
 devices_stay plan (Arrive device info p) S h = absurd (let z : ⊥ = cc in z)
-devices_stay plan (Make_request class parent) S h = makes S.requests (next_id S.tree) (nearest_device S.tree parent)
-devices_stay plan (End_life o) S h = forgets S.requests o
+devices_stay plan (MakeRequest class parent) S h = makes S.requests (next_id S.tree) (nearest_device S.tree parent.0)
+devices_stay plan (EndLife o) S h = forgets S.requests o.0
 devices_stay plan d S h = kept_stays S.requests (do_deed plan d S).requests (all_kept plan d S refl)
 
 -- ---- parents
@@ -234,24 +236,24 @@ tree_in S = S.tree
 pub parents_stay : {A : Type 0} (plan : Plan) (d : Deed) (S : State A) → is_arrival d ≡ false → fits plan d S ≡ true → ParentsStay S.tree (do_deed plan d S).tree
 parents_stay plan (Arrive device info p) S h f = absurd (let z : ⊥ = cc in z)
 parents_stay plan (Create k class parent) S h f =
-    object_made S.tree k class parent
-    (made_other k (not_true (is_request_kind k) (both_right (is_live (life_of S.tree parent) && not (is_full S.tree)) (not (is_request_kind k)) (both_left (is_live (life_of S.tree parent) && not (is_full S.tree) && not (is_request_kind k)) (not (is_never_deleted k)) f))))
-parents_stay plan (Make_request class parent) S h f = object_made S.tree kind.Made class parent refl
-parents_stay plan (Refer o) S h f = node_changes S.tree o (λ m. record m { references = m.references + 1 }) refl refl
-parents_stay plan (Unrefer o) S h f = node_changes S.tree o (λ m. record m { references = m.references - 1 }) refl refl
-parents_stay plan (Write_cell o k v) S h f = node_changes S.tree o (λ m. record m { cells = slice_set m.cells k v }) refl refl
-parents_stay plan (Note o c) S h f = let k = noted_kept c (node_of S.tree o) in node_changes S.tree o (noted c) k.0 k.1
-parents_stay plan (Clean_up o) S h f = node_changes S.tree o (with_life life.Cleaned) refl refl
-parents_stay plan (End_life o) S h f = object_ended S.tree o
-parents_stay plan (Ask_deletion o) S h f = all_asked (subtree S.tree o) S
-parents_stay plan (Requeue r q) S h f = same_tree _ _ (gives_up tree_in (λ S Q R P. refl) S r)
-parents_stay plan (Forward r q) S h f = same_tree _ _ (gives_up tree_in (λ S Q R P. refl) S r)
-parents_stay plan (Give_back r q) S h f = same_tree _ _ (gives_up tree_in (λ S Q R P. refl) S r)
-parents_stay plan (Send_request r t forget) S h f = same_tree _ _ (gives_up_if tree_in (λ S Q R P. refl) S forget r)
-parents_stay plan (Complete_request r) S h f =
-    tree_then S.tree (give_up S r).tree (do_deed plan (Complete_request r) S).tree (same_tree S.tree (give_up S r).tree (gives_up tree_in (λ S Q R P. refl) S r))
-    (all_asked (subtree (give_up S r).tree r) (record (give_up S r) { requests = requests.complete S.requests r }))
-parents_stay plan (Purge_queue q) S h f = same_tree _ _ (withdraws tree_in (λ S Q R P. refl) plan q (waiting_in S.queues q) (record S { control = control.set_mode S.control q mode.Purged }))
-parents_stay plan (Close_returning d) S h f = same_tree _ _ (returns_closed tree_in (λ S Q R P. refl) (managed_queues plan d) S)
-parents_stay plan (Close_device d) S h f = same_tree _ _ (queues_closed tree_in (λ S Q R P. refl) (queues_of plan d) (record S { control = control.shut S.control d }))
+    object_made S.tree k class parent.0
+    (made_other k (not_true (is_request_kind k) (both_right (is_live (life_of S.tree parent.0) && not (is_full S.tree)) (not (is_request_kind k)) (both_left (is_live (life_of S.tree parent.0) && not (is_full S.tree) && not (is_request_kind k)) (not (is_never_deleted k)) f))))
+parents_stay plan (MakeRequest class parent) S h f = object_made S.tree kind.Made class parent.0 refl
+parents_stay plan (Refer o) S h f = node_changes S.tree o.0 (λ m. record m { references = m.references + 1 }) refl refl
+parents_stay plan (Unrefer o) S h f = node_changes S.tree o.0 (λ m. record m { references = m.references - 1 }) refl refl
+parents_stay plan (WriteCell o k v) S h f = node_changes S.tree o.0 (λ m. record m { cells = slice_set m.cells k v }) refl refl
+parents_stay plan (Note o c) S h f = let k = noted_kept c (node_of S.tree o.0) in node_changes S.tree o.0 (noted c) k.0 k.1
+parents_stay plan (CleanUp o) S h f = node_changes S.tree o.0 (with_life life.Cleaned) refl refl
+parents_stay plan (EndLife o) S h f = object_ended S.tree o.0
+parents_stay plan (AskDeletion o) S h f = all_asked (subtree S.tree o.0) S
+parents_stay plan (Requeue r q) S h f = same_tree _ _ (gives_up tree_in (λ S Q R P. refl) S r.0)
+parents_stay plan (Forward r q) S h f = same_tree _ _ (gives_up tree_in (λ S Q R P. refl) S r.0)
+parents_stay plan (GiveBack r q) S h f = same_tree _ _ (gives_up tree_in (λ S Q R P. refl) S r.0)
+parents_stay plan (SendRequest r t forget) S h f = same_tree _ _ (gives_up_if tree_in (λ S Q R P. refl) S forget r.0)
+parents_stay plan (CompleteRequest r) S h f =
+    tree_then S.tree (give_up S r.0).tree (do_deed plan (CompleteRequest r) S).tree (same_tree S.tree (give_up S r.0).tree (gives_up tree_in (λ S Q R P. refl) S r.0))
+    (all_asked (subtree (give_up S r.0).tree r.0) (record (give_up S r.0) { requests = requests.complete S.requests r.0 }))
+parents_stay plan (PurgeQueue q) S h f = same_tree _ _ (withdraws tree_in (λ S Q R P. refl) plan q.0 (waiting_in S.queues q.0) (record S { control = control.set_mode S.control q.0 mode.Purged }))
+parents_stay plan (CloseReturning d) S h f = same_tree _ _ (returns_closed tree_in (λ S Q R P. refl) (managed_queues plan d.0) S)
+parents_stay plan (CloseDevice d) S h f = same_tree _ _ (queues_closed tree_in (λ S Q R P. refl) (queues_of plan d.0) (record S { control = control.shut S.control d.0 }))
 parents_stay plan _ S h f = same_tree S.tree S.tree refl

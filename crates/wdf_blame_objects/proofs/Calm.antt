@@ -31,8 +31,11 @@ use Rattle.wdf_model.specs.parts.Cpus as cpus
 use Rattle.wdf_model.specs.parts.Locks.{lock_of_callback}
 use Rattle.wdf_model.specs.parts.Tree.{kind_of}
 use Rattle.wdf_model.specs.State.{State, declared_in, object_in, opening}
+use Rattle.wdf_model.specs.Ids.{cpu_of, frame_id, irql_of}
 use Rattle.wdf_model.specs.rules.Calls.{is_met_then, level_of_kind, lock_level, outcome, second_deeds}
-use Rattle.wdf_model.specs.rules.Deeds.{Deed, Go_on, Lower, Park_frame, Pop_frame, Push_frame, Raise, Release_lock, Take_lock, Unpark_frame, do_deed, do_deeds}
+use Rattle.wdf_model.specs.declared.deed.Deed.{Deed}
+use Rattle.wdf_model.specs.declared.deed.Deed.TheVariants.{GoOn, Lower, ParkFrame, PopFrame, PushFrame, Raise, ReleaseLock, TakeLock, UnparkFrame}
+use Rattle.wdf_model.specs.rules.Deeds.{do_deed, do_deeds}
 use Rattle.wdf_model.specs.rules.Faults.{arg_is}
 use Rattle.wdf_model.specs.rules.Ready.{IsRunOf, state_after}
 use Rattle.wdf_model.specs.rules.Script.{intent_of, statement_at}
@@ -138,25 +141,25 @@ popped C cpu x (Some g) e = elim (one_or_two x g) [
 
 -- a deed that changes no frame but f
 abbrev acts_on : ℕ → Deed → Bool
-acts_on f (Push_frame cpu g frame level) = g == f
-acts_on f (Go_on g frame) = g == f
-acts_on f (Raise g level) = g == f
-acts_on f (Lower g level) = g == f
+acts_on f (PushFrame cpu g frame level) = g.0 == f
+acts_on f (GoOn g frame) = g.0 == f
+acts_on f (Raise g level) = g.0 == f
+acts_on f (Lower g level) = g.0 == f
 acts_on f _ = true
 
 apart : (g f x : ℕ) → (g == f) ≡ true → x ≢ f → x ≢ g
 apart g f x e n s = n (s ∙ eqb-true g f e)
 
 others_by : {A : Type 0} (plan : Plan) (d : Deed) (S : State A) (f : ℕ) → acts_on f d ≡ true → OthersStay f S.cpus (do_deed plan d S).cpus
-others_by plan (Push_frame cpu g frame level) S f h x n = pushed_other S.cpus g x (apart g f x h n) cpu frame level
-others_by plan (Go_on g frame) S f h x n = changed_other S.cpus g x (apart g f x h n) frame
-others_by plan (Raise g level) S f h x n = raised_other S.cpus g x (apart g f x h n) level
-others_by plan (Lower g level) S f h x n = lowered_other S.cpus g x (apart g f x h n) level
-others_by plan (Pop_frame cpu) S f h x n = popped S.cpus cpu x (top S.cpus cpu) refl
-others_by plan (Park_frame cpu) S f h x n = record { is = inr (refl, refl) }
-others_by plan (Unpark_frame cpu g) S f h x n = record { is = inr (refl, refl) }
-others_by plan (Take_lock l g by_call) S f h x n = record { is = inr (refl, refl) }
-others_by plan (Release_lock l) S f h x n = record { is = inr (refl, refl) }
+others_by plan (PushFrame cpu g frame level) S f h x n = pushed_other S.cpus g.0 x (apart g.0 f x h n) cpu.0 frame level.0
+others_by plan (GoOn g frame) S f h x n = changed_other S.cpus g.0 x (apart g.0 f x h n) frame
+others_by plan (Raise g level) S f h x n = raised_other S.cpus g.0 x (apart g.0 f x h n) level.0
+others_by plan (Lower g level) S f h x n = lowered_other S.cpus g.0 x (apart g.0 f x h n) level.0
+others_by plan (PopFrame cpu) S f h x n = popped S.cpus cpu.0 x (top S.cpus cpu.0) refl
+others_by plan (ParkFrame cpu) S f h x n = record { is = inr (refl, refl) }
+others_by plan (UnparkFrame cpu g) S f h x n = record { is = inr (refl, refl) }
+others_by plan (TakeLock l g by_call) S f h x n = record { is = inr (refl, refl) }
+others_by plan (ReleaseLock l) S f h x n = record { is = inr (refl, refl) }
 others_by plan d S f h x n = same_cpus f S.cpus (do_deed plan d S).cpus (quiet_cpus plan d S refl) x n
 
 abbrev all_act : ℕ → List Deed → Bool
@@ -169,8 +172,8 @@ others_stay plan f (d ∷ ds) S h x n =
     (others_stay plan f ds (do_deed plan d S) (both_right (acts_on f d) (all_act f ds) h) x n)
 
 quiet_acts : (f : ℕ) (d : Deed) → is_quiet_deed d ≡ true → acts_on f d ≡ true
-quiet_acts f (Push_frame cpu g frame level) h = absurd (let z : ⊥ = cc in z)
-quiet_acts f (Go_on g frame) h = absurd (let z : ⊥ = cc in z)
+quiet_acts f (PushFrame cpu g frame level) h = absurd (let z : ⊥ = cc in z)
+quiet_acts f (GoOn g frame) h = absurd (let z : ⊥ = cc in z)
 quiet_acts f (Raise g level) h = absurd (let z : ⊥ = cc in z)
 quiet_acts f (Lower g level) h = absurd (let z : ⊥ = cc in z)
 quiet_acts f _ h = refl
@@ -233,7 +236,7 @@ abbrev CalmIn : {A : Type 0} → State A → Type 0
 CalmIn S = Calm S.cpus
 
 moves_calm : {A : Type 0} (plan : Plan) (S : State A) (cpu : ℕ) (next : Frame → Frame) (there : Option ℕ) → ((f : ℕ) → top S.cpus cpu ≡ Some f → ((next (frame_of S.cpus f)).pending ≡ (frame_of S.cpus f).pending) ⊎ ((next (frame_of S.cpus f)).pending ≡ None)) → top S.cpus cpu ≡ there
-    → CalmIn S → CalmIn (do_deeds plan (elim there as (λ _. List Deed) [ None ↦ [] | Some f ↦ Go_on f (next (frame_of S.cpus f)) ∷ [] ]) S)
+    → CalmIn S → CalmIn (do_deeds plan (elim there as (λ _. List Deed) [ None ↦ [] | Some f ↦ GoOn (frame_id f) (next (frame_of S.cpus f)) ∷ [] ]) S)
 moves_calm plan S cpu next None same t k = k
 moves_calm {A} plan S cpu next (Some f) same t k =
     let a : Frame = next (frame_of S.cpus f) in
@@ -245,10 +248,10 @@ moves_calm {A} plan S cpu next (Some f) same t k =
     ]) k
 
 -- after deeds of f it goes on and doesn't wait
-answered_calm : {A : Type 0} (plan : Plan) (S : State A) (f : ℕ) (ds : List Deed) (a : Frame) → all_act f ds ≡ true → a.pending ≡ None → CalmIn S → CalmIn (do_deeds plan (ds ++ Go_on f a ∷ []) S)
+answered_calm : {A : Type 0} (plan : Plan) (S : State A) (f : ℕ) (ds : List Deed) (a : Frame) → all_act f ds ≡ true → a.pending ≡ None → CalmIn S → CalmIn (do_deeds plan (ds ++ GoOn (frame_id f) a ∷ []) S)
 answered_calm {A} plan S f ds a acts none k =
     let U : State A = do_deeds plan ds S in
-    let e = in_turn plan ds (Go_on f a ∷ []) S in
+    let e = in_turn plan ds (GoOn (frame_id f) a ∷ []) S in
     subst (λ (V : State A). CalmIn V) (sym e)
     (calm_idle S.cpus (cpus.change U.cpus f a) f
     (λ x n. then_one S.cpus U.cpus (cpus.change U.cpus f a) x (others_stay plan f ds S acts x n) (changed_other U.cpus f x n a))
@@ -318,13 +321,13 @@ module _ {A : Type 0} (plan : Plan) (S : State A) (cpu f : ℕ) where
       ap (λ C. frame_level C f) (quiet_all plan (outcome plan S cpu f (record { kind = k; count = n; a = a; b = b; c = x })).deeds S (outcome_none plan S cpu f k n a b x refl)) ∙ low
 
   -- a frame begins to wait
-  waits_calm : (c : Call) (v : Value) → top S.cpus cpu ≡ Some f → Clean plan S cpu f c → is_met_then plan S c ≡ false → CalmIn S → CalmIn (do_deeds plan ((outcome plan S cpu f c).deeds ++ Go_on f (waiting (frame_of S.cpus f) c v) ∷ []) S)
+  waits_calm : (c : Call) (v : Value) → top S.cpus cpu ≡ Some f → Clean plan S cpu f c → is_met_then plan S c ≡ false → CalmIn S → CalmIn (do_deeds plan ((outcome plan S cpu f c).deeds ++ GoOn (frame_id f) (waiting (frame_of S.cpus f) c v) ∷ []) S)
   waits_calm c v t h unmet k =
       let ds : List Deed = (outcome plan S cpu f c).deeds in
       let next : Frame = waiting (frame_of S.cpus f) c v in
       let U : State A = do_deeds plan ds S in
       let D : Cpus = cpus.change U.cpus f next in
-      subst (λ (V : State A). CalmIn V) (sym (in_turn plan ds (Go_on f next ∷ []) S))
+      subst (λ (V : State A). CalmIn V) (sym (in_turn plan ds (GoOn (frame_id f) next ∷ []) S))
       (calm_then S.cpus D f
       (λ x n. then_one S.cpus U.cpus D x (others_stay plan f ds S (outcome_acts c.kind c.count c.a c.b c.c) x n) (changed_other U.cpus f x n next))
       (λ p e off.
@@ -345,7 +348,7 @@ step_acts : {A : Type 0} (plan : Plan) (S : State A) (f : ℕ) (k : Rank) (c : C
 step_acts plan S f rank.Sequence c o v = refl
 step_acts plan S f _ c o v = refl
 
-end_acts : {A : Type 0} (plan : Plan) (S : State A) (f cpu : ℕ) (k : Rank) (c : Callback) (o : ℕ) (v : Value) (l : Option LockRef) → all_act f (release_if_any l ++ Pop_frame cpu ∷ end_of_step plan S k c o v) ≡ true
+end_acts : {A : Type 0} (plan : Plan) (S : State A) (f cpu : ℕ) (k : Rank) (c : Callback) (o : ℕ) (v : Value) (l : Option LockRef) → all_act f (release_if_any l ++ PopFrame (cpu_of cpu) ∷ end_of_step plan S k c o v) ≡ true
 end_acts plan S f cpu k c o v None = step_acts plan S f k c o v
 end_acts plan S f cpu k c o v (Some l) = step_acts plan S f k c o v
 
@@ -357,13 +360,13 @@ starts_calm {A} plan S cpu c o r k =
     let level : ℕ = callback_irql plan c o.id.0 in
     let l : Option LockRef = lock_of_callback plan c o.id.0 (declared_in plan S o.id.0) in
     let ds : List Deed = start_effect plan S cpu c o.id.0 r in
-    let es : List Deed = Push_frame cpu f frame level ∷ take_if_any f l in
+    let es : List Deed = PushFrame (cpu_of cpu) (frame_id f) frame (irql_of level) ∷ take_if_any f l in
     let U : State A = do_deeds plan ds S in
     let acts : all_act f (ds ++ es) ≡ true = all_act_behind f ds es (all_quiet_act f ds (start_effect_none plan S cpu c o.id.0 r)) (both (f == f) (all_act f (take_if_any f l)) (acts_itself f) (taking_acts f l)) in
     calm_idle S.cpus (do_deeds plan (ds ++ es) S).cpus f (others_stay plan f (ds ++ es) S acts)
     (ap (λ (V : State A). (frame_of V.cpus f).pending) (in_turn plan ds es S) ∙ pushed U f frame level l) k
   where
-    pushed : (U : State A) (f : ℕ) (a : Frame) (level : ℕ) (l : Option LockRef) → (frame_of (do_deeds plan (Push_frame cpu f a level ∷ take_if_any f l) U).cpus f).pending ≡ a.pending
+    pushed : (U : State A) (f : ℕ) (a : Frame) (level : ℕ) (l : Option LockRef) → (frame_of (do_deeds plan (PushFrame (cpu_of cpu) (frame_id f) a (irql_of level) ∷ take_if_any f l) U).cpus f).pending ≡ a.pending
     pushed U f a level None = ap (λ (x : Running). x.frame.pending) (entry_put_same no_frame U.cpus.frames f (record { frame = a; level = record { 0 = level } }))
     pushed U f a level (Some l) = ap (λ (x : Running). x.frame.pending) (entry_put_same no_frame U.cpus.frames f (record { frame = a; level = record { 0 = level } }))
 

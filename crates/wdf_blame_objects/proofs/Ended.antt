@@ -15,7 +15,10 @@ use Rattle.wdf_model.specs.parts.Tree as tree
 use Rattle.wdf_model.specs.parts.Requests.{Requests, is_done, moved, no_request, place_of, request_of}
 use Rattle.wdf_model.specs.parts.Requests as requests
 use Rattle.wdf_model.specs.State.{State}
-use Rattle.wdf_model.specs.rules.Deeds.{Deed, Arrive, Ask_deletion, Complete_request, arrive_at, ask_object, do_deed, give_up}
+use Rattle.wdf_model.specs.Ids.{object_id}
+use Rattle.wdf_model.specs.declared.deed.Deed.{Deed}
+use Rattle.wdf_model.specs.declared.deed.Deed.TheVariants.{Arrive, AskDeletion, CompleteRequest}
+use Rattle.wdf_model.specs.rules.Deeds.{arrive_at, ask_object, do_deed, give_up}
 use Rattle.wdf_model.specs.laws.Fits.{fits}
 use Rattle.wdf_model.proofs.Tests.{both_left, itself}
 use Rattle.wdf_model.proofs.Maps.{entry_before, entry_last, entry_put_other, entry_put_same}
@@ -129,13 +132,13 @@ module _ {A : Type 0} (S W : State A) (o : ℕ) (same : W.tree ≡ S.tree) (k : 
   pub live_was : (y : ℕ) → is_live (life_of V.tree y) ≡ true → is_live (life_of S.tree y) ≡ true
   live_was y h = sym (ap (λ (m : Node). is_live m.life) ((live_unasked (subtree W.tree o) W y h).1 ∙ ap (λ T. node_of T y) same)) ∙ h
 
-asks : {A : Type 0} (plan : Plan) (S : State A) (o : ℕ) → fits plan (Ask_deletion o) S ≡ true → Comes plan (Ask_deletion o) S → Placed S → EndsWell S → EndsWell (do_deed plan (Ask_deletion o) S)
-asks {A} plan S o f c p k = with_ended plan (Ask_deletion o) S refl f p k (λ x h off above.
-    let q = parents_stay plan (Ask_deletion o) S refl f x h in
-    let above_here = subst (λ y. is_live (life_of (do_deed plan (Ask_deletion o) S).tree y) ≡ true) q.1 above in
+asks : {A : Type 0} (plan : Plan) (S : State A) (o : ℕ) → fits plan (AskDeletion (object_id o)) S ≡ true → Comes plan (AskDeletion (object_id o)) S → Placed S → EndsWell S → EndsWell (do_deed plan (AskDeletion (object_id o)) S)
+asks {A} plan S o f c p k = with_ended plan (AskDeletion (object_id o)) S refl f p k (λ x h off above.
+    let q = parents_stay plan (AskDeletion (object_id o)) S refl f x h in
+    let above_here = subst (λ y. is_live (life_of (do_deed plan (AskDeletion (object_id o)) S).tree y) ≡ true) q.1 above in
     elim (cases_Bool (is_live (life_of S.tree x))) [
       | inl live ↦ absurd (asked_is S S o refl k x q.0 live off above_here (unlike x o S.tree q.0 c.1))
-      | inr was ↦ done_stays plan (Ask_deletion o) S f p x (request_within S.tree x q.0) (k.ended x q.0 was (live_was S S o refl k (parent_of S.tree x) above_here))
+      | inr was ↦ done_stays plan (AskDeletion (object_id o)) S f p x (request_within S.tree x q.0) (k.ended x q.0 was (live_was S S o refl k (parent_of S.tree x) above_here))
     ])
 
 abbrev tree_in : {A : Type 0} → State A → Tree
@@ -144,21 +147,21 @@ tree_in S = S.tree
 abbrev requests_in : {A : Type 0} → State A → Requests
 requests_in S = S.requests
 
-completes : {A : Type 0} (plan : Plan) (S : State A) (r : ℕ) → fits plan (Complete_request r) S ≡ true → Placed S → EndsWell S → EndsWell (do_deed plan (Complete_request r) S)
+completes : {A : Type 0} (plan : Plan) (S : State A) (r : ℕ) → fits plan (CompleteRequest (object_id r)) S ≡ true → Placed S → EndsWell S → EndsWell (do_deed plan (CompleteRequest (object_id r)) S)
 completes {A} plan S r f p k =
     let W : State A = record (give_up S r) { requests = requests.complete S.requests r } in
     let same : W.tree ≡ S.tree = gives_up tree_in (λ S Q R P. refl) S r in
-    with_ended plan (Complete_request r) S refl f p k (λ x h off above.
-    let q = parents_stay plan (Complete_request r) S refl f x h in
-    let above_here = subst (λ y. is_live (life_of (do_deed plan (Complete_request r) S).tree y) ≡ true) q.1 above in
+    with_ended plan (CompleteRequest (object_id r)) S refl f p k (λ x h off above.
+    let q = parents_stay plan (CompleteRequest (object_id r)) S refl f x h in
+    let above_here = subst (λ y. is_live (life_of (do_deed plan (CompleteRequest (object_id r)) S).tree y) ≡ true) q.1 above in
     elim (one_or_two x r) [
       | inl e ↦
-          let there : (do_deed plan (Complete_request r) S).requests ≡ requests.complete S.requests r = asks_all requests_in (λ S T D W U. refl) (subtree (give_up S r).tree r) W in
+          let there : (do_deed plan (CompleteRequest (object_id r)) S).requests ≡ requests.complete S.requests r = asks_all requests_in (λ S T D W U. refl) (subtree (give_up S r).tree r) W in
           let done : is_done (place_of (requests.complete S.requests r) r) ≡ true = ap (λ (y : Request). is_done y.place) (entry_put_same no_request S.requests.all r (moved place.Done (request_of S.requests r))) in
-          subst (λ y. is_done (place_of (do_deed plan (Complete_request r) S).requests y) ≡ true) (sym e) (ap (λ (R : Requests). is_done (place_of R r)) there ∙ done)
+          subst (λ y. is_done (place_of (do_deed plan (CompleteRequest (object_id r)) S).requests y) ≡ true) (sym e) (ap (λ (R : Requests). is_done (place_of R r)) there ∙ done)
       | inr n ↦ elim (cases_Bool (is_live (life_of S.tree x))) [
         | inl live ↦ absurd (asked_is S W r same k x q.0 live off above_here n)
-        | inr was ↦ done_stays plan (Complete_request r) S f p x (request_within S.tree x q.0) (k.ended x q.0 was (live_was S W r same k (parent_of S.tree x) above_here))
+        | inr was ↦ done_stays plan (CompleteRequest (object_id r)) S f p x (request_within S.tree x q.0) (k.ended x q.0 was (live_was S W r same k (parent_of S.tree x) above_here))
       ]
     ])
 
@@ -168,9 +171,9 @@ came : {A : Type 0} (S : State A) (device : ℕ) (info : RequestInfo) (at : Plac
 came S device info (place.Queued q) = refl
 came S device info _ = refl
 
-module _ {A : Type 0} (plan : Plan) (S : State A) (device : ℕ) (info : RequestInfo) (at : Place) (f : fits plan (Arrive device info at) S ≡ true) (s : Sound plan (Arrive device info at) S) (p : Placed S) (k : EndsWell S) where
+module _ {A : Type 0} (plan : Plan) (S : State A) (device : ℕ) (info : RequestInfo) (at : Place) (f : fits plan (Arrive (object_id device) info at) S ≡ true) (s : Sound plan (Arrive (object_id device) info at) S) (p : Placed S) (k : EndsWell S) where
   abbrev Then : State A
-  Then = do_deed plan (Arrive device info at) S
+  Then = do_deed plan (Arrive (object_id device) info at) S
 
   new : ℕ
   new = next_id S.tree
@@ -221,14 +224,14 @@ module _ {A : Type 0} (plan : Plan) (S : State A) (device : ℕ) (info : Request
           let apart : parent_of S.tree x ≢ next_id S.tree = λ e. let z : ⊥ = omega arith in z in
           let off_was : is_live (life_of S.tree x) ≡ false = sym (ap (λ (m : Node). is_live m.life) (there x n)) ∙ off in
           let above_was : is_live (life_of S.tree (parent_of S.tree x)) ≡ true = sym (ap (λ (m : Node). is_live m.life) (there (parent_of S.tree x) apart)) ∙ subst (λ y. is_live (life_of Then.tree y) ≡ true) (up x n) above in
-          done_stays plan (Arrive device info at) S f p x low (k.ended x is off_was above_was)
+          done_stays plan (Arrive (object_id device) info at) S f p x low (k.ended x is off_was above_was)
     ];
   }
 
 -- ---- each deed
 
 pub ends_by : {A : Type 0} (plan : Plan) (d : Deed) (S : State A) → fits plan d S ≡ true → Sound plan d S → Comes plan d S → Placed S → EndsWell S → EndsWell (do_deed plan d S)
-ends_by plan (Arrive device info at) S f s c p k = arrives plan S device info at f s p k
-ends_by plan (Ask_deletion o) S f s c p k = asks plan S o f c p k
-ends_by plan (Complete_request r) S f s c p k = completes plan S r f p k
+ends_by plan (Arrive device info at) S f s c p k = arrives plan S device.0 info at f s p k
+ends_by plan (AskDeletion o) S f s c p k = asks plan S o.0 f c p k
+ends_by plan (CompleteRequest r) S f s c p k = completes plan S r.0 f p k
 ends_by plan d S f s c p k = without_asking plan d S refl f p k refl

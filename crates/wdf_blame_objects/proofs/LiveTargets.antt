@@ -16,7 +16,10 @@ use Rattle.wdf_model.specs.parts.Requests as requests
 use Rattle.wdf_model.specs.parts.Targets.{Target, Targets, new_sending, pending, sending_in_order, takes_more, target_done, the_target, without_sending}
 use Rattle.wdf_model.specs.parts.Targets as targets
 use Rattle.wdf_model.specs.State.{State, nothing_at}
-use Rattle.wdf_model.specs.rules.Deeds.{Deed, Ask_deletion, Come_back, Complete_request, Finish_sending, Send_request, Start_target, Stop_target, ask_object, do_deed, give_up}
+use Rattle.wdf_model.specs.Ids.{object_id}
+use Rattle.wdf_model.specs.declared.deed.Deed.{Deed}
+use Rattle.wdf_model.specs.declared.deed.Deed.TheVariants.{AskDeletion, ComeBack, CompleteRequest, FinishSending, SendRequest, StartTarget, StopTarget}
+use Rattle.wdf_model.specs.rules.Deeds.{ask_object, do_deed, give_up}
 use Rattle.wdf_model.specs.rules.Calls.{may_send}
 use Rattle.wdf_model.specs.laws.Fits.{fits}
 use Rattle.wdf_model.proofs.Tests.{both_left, both_right, not_true}
@@ -57,21 +60,21 @@ before_by T U k t r h = let less = k t r in omega arith
 
 -- the deeds by which nothing is sent
 abbrev sends_one : Deed → Bool
-sends_one (Send_request r t forget) = true
+sends_one (SendRequest r t forget) = true
 sends_one _ = false
 
 sent_before : {A : Type 0} (plan : Plan) (d : Deed) (S : State A) → sends_one d ≡ false → SentBefore S.targets (do_deed plan d S).targets
-sent_before plan (Send_request r t forget) S off = absurd (let z : ⊥ = cc in z)
-sent_before plan (Finish_sending r s) S off =
-    before_by S.targets (targets.done S.targets r s)
-    (all_targets (HadBefore S.targets) S.targets (target_done r s) refl
-    (λ t x had q. let less = less_left (λ y. y.request.0 == q) r s x.sent (by_request q r s) in let old = had q in omega arith) (had_same S.targets))
-sent_before plan (Come_back r) S off =
-    before_by S.targets (targets.back S.targets r)
-    (all_targets (HadBefore S.targets) S.targets (without_sending r) refl
-    (λ t x had q. let less = filter_less (λ y. y.request.0 == q) (λ y. not (y.request.0 == r)) x.sent in let old = had q in omega arith) (had_same S.targets))
-sent_before plan (Stop_target t) S off = before_by S.targets (targets.stop S.targets t) (one_target (HadBefore S.targets) S.targets t (λ x. record x { stopped = true }) (had_same S.targets t) (had_same S.targets))
-sent_before plan (Start_target t) S off = before_by S.targets (targets.start S.targets t) (one_target (HadBefore S.targets) S.targets t (λ x. record x { stopped = false }) (had_same S.targets t) (had_same S.targets))
+sent_before plan (SendRequest r t forget) S off = absurd (let z : ⊥ = cc in z)
+sent_before plan (FinishSending r s) S off =
+    before_by S.targets (targets.done S.targets r.0 s)
+    (all_targets (HadBefore S.targets) S.targets (target_done r.0 s) refl
+    (λ t x had q. let less = less_left (λ y. y.request.0 == q) r.0 s x.sent (by_request q r.0 s) in let old = had q in omega arith) (had_same S.targets))
+sent_before plan (ComeBack r) S off =
+    before_by S.targets (targets.back S.targets r.0)
+    (all_targets (HadBefore S.targets) S.targets (without_sending r.0) refl
+    (λ t x had q. let less = filter_less (λ y. y.request.0 == q) (λ y. not (y.request.0 == r.0)) x.sent in let old = had q in omega arith) (had_same S.targets))
+sent_before plan (StopTarget t) S off = before_by S.targets (targets.stop S.targets t.0) (one_target (HadBefore S.targets) S.targets t.0 (λ x. record x { stopped = true }) (had_same S.targets t.0) (had_same S.targets))
+sent_before plan (StartTarget t) S off = before_by S.targets (targets.start S.targets t.0) (one_target (HadBefore S.targets) S.targets t.0 (λ x. record x { stopped = false }) (had_same S.targets t.0) (had_same S.targets))
 sent_before plan d S off = before_same S.targets (do_deed plan d S).targets (targets_stay plan d S refl)
 
 -- ---- a request is sent
@@ -86,17 +89,17 @@ takes_target plan T t fair h = elim (cases_Bool (is_some (target_of plan t))) [
   | inr off ↦ absurd (takes_by (pending T t) (the_target T t).depth (both_right (not (the_target T t).stopped) (nat_lt (pending T t) (the_target T t).depth) h) ((fair t).depth off))
 ]
 
-sends_to : {A : Type 0} (plan : Plan) (S : State A) (r t : ℕ) (forget : Bool) → fits plan (Send_request r t forget) S ≡ true → AllFair plan S.targets → (is_some (target_of plan t) ≡ true) × (is_live (life_of S.tree t) ≡ true)
+sends_to : {A : Type 0} (plan : Plan) (S : State A) (r t : ℕ) (forget : Bool) → fits plan (SendRequest (object_id r) (object_id t) forget) S ≡ true → AllFair plan S.targets → (is_some (target_of plan t) ≡ true) × (is_live (life_of S.tree t) ≡ true)
 sends_to plan S r t forget f fair =
     let may : may_send S r t ≡ true = both_right (is_owned (place_of S.requests r)) (may_send S r t) (both_left (is_owned (place_of S.requests r) && may_send S r t) (not forget || same_kind (kind_of S.tree r) kind.Request) f) in
     let both_ : (is_live (life_of S.tree t) && takes_more S.targets t) ≡ true = both_left (is_live (life_of S.tree t) && takes_more S.targets t) (not (is_cancelled S.requests r)) may in
     (takes_target plan S.targets t fair (both_right (is_live (life_of S.tree t)) (takes_more S.targets t) both_), both_left (is_live (life_of S.tree t)) (takes_more S.targets t) both_)
 
-sent_one : {A : Type 0} (plan : Plan) (S : State A) (r t : ℕ) (forget : Bool) → fits plan (Send_request r t forget) S ≡ true → AllFair plan S.targets → SentToLive plan S → SentToLive plan (do_deed plan (Send_request r t forget) S)
+sent_one : {A : Type 0} (plan : Plan) (S : State A) (r t : ℕ) (forget : Bool) → fits plan (SendRequest (object_id r) (object_id t) forget) S ≡ true → AllFair plan S.targets → SentToLive plan S → SentToLive plan (do_deed plan (SendRequest (object_id r) (object_id t) forget) S)
 sent_one {A} plan S r t forget f fair k =
-    let U : State A = do_deed plan (Send_request r t forget) S in
+    let U : State A = do_deed plan (SendRequest (object_id r) (object_id t) forget) S in
     let it = sends_to plan S r t forget f fair in
-    let l = lives_by plan (Send_request r t forget) S refl f in
+    let l = lives_by plan (SendRequest (object_id r) (object_id t) forget) S refl f in
     let other : (u x : ℕ) → u ≢ t → 1 ≤ sends U.targets u x → 1 ≤ sends S.targets u x = λ u x n h.
     subst (λ (y : Target). 1 ≤ count_by (λ s. s.request.0 == x) y.sent) (target_elsewhere S.targets t u (λ y. record y { sent = sending_in_order (new_sending r forget) y.sent }) n) h in
     record {
@@ -143,15 +146,15 @@ tree_in S = S.tree
 -- ---- each deed
 
 pub sent_by : {A : Type 0} (plan : Plan) (d : Deed) (S : State A) → fits plan d S ≡ true → Comes plan d S → Placed S → AllFair plan S.targets → SentToLive plan S → SentToLive plan (do_deed plan d S)
-sent_by plan (Send_request r t forget) S f c p fair k = sent_one plan S r t forget f fair k
-sent_by plan (Ask_deletion o) S f c p fair k =
-    let before = sent_before plan (Ask_deletion o) S refl in
-    record { targets = λ t r h. k.targets t r (before t r h); lives = λ t r h. still_live plan S S o refl p c.0 k t r (before t r h) }
-sent_by plan (Complete_request r) S f c p fair k =
-    let before = sent_before plan (Complete_request r) S refl in
+sent_by plan (SendRequest r t forget) S f c p fair k = sent_one plan S r.0 t.0 forget f fair k
+sent_by plan (AskDeletion o) S f c p fair k =
+    let before = sent_before plan (AskDeletion o) S refl in
+    record { targets = λ t r h. k.targets t r (before t r h); lives = λ t r h. still_live plan S S o.0 refl p c.0 k t r (before t r h) }
+sent_by plan (CompleteRequest r) S f c p fair k =
+    let before = sent_before plan (CompleteRequest r) S refl in
     record {
       targets = λ t x h. k.targets t x (before t x h);
-      lives = λ t x h. still_live plan S (record (give_up S r) { requests = requests.complete S.requests r }) r (gives_up tree_in (λ S Q R P. refl) S r) p c k t x (before t x h);
+      lives = λ t x h. still_live plan S (record (give_up S r.0) { requests = requests.complete S.requests r.0 }) r.0 (gives_up tree_in (λ S Q R P. refl) S r.0) p c k t x (before t x h);
     }
 sent_by plan d S f c p fair k =
     let before = sent_before plan d S refl in

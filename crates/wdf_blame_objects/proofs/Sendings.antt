@@ -16,7 +16,9 @@ use Rattle.wdf_model.specs.parts.Queues.{waiting_in}
 use Rattle.wdf_model.specs.parts.Requests as requests
 use Rattle.wdf_model.specs.parts.Targets.{Target, Targets, done_sending, is_at_target, new_sending, no_target, sending_in_order, target_done, the_target, with_target, without_sending}
 use Rattle.wdf_model.specs.State.{State}
-use Rattle.wdf_model.specs.rules.Deeds.{Deed, Arrive, Ask_deletion, Close_device, Close_returning, Come_back, Complete_request, Finish_sending, Forward, Give_back, Purge_queue, Requeue, Send_request, Start_target, Stop_target, arrive_at, do_deed, give_up}
+use Rattle.wdf_model.specs.declared.deed.Deed.{Deed}
+use Rattle.wdf_model.specs.declared.deed.Deed.TheVariants.{Arrive, AskDeletion, CloseDevice, CloseReturning, ComeBack, CompleteRequest, FinishSending, Forward, GiveBack, PurgeQueue, Requeue, SendRequest, StartTarget, StopTarget}
+use Rattle.wdf_model.specs.rules.Deeds.{arrive_at, do_deed, give_up}
 use Rattle.wdf_model.proofs.Tests.{both, both_left, both_right}
 use Rattle.wdf_model.proofs.Maps.{entry_map}
 use Rattle.wdf_model.proofs.Counts.{done_asks, left_over, one_or_two}
@@ -26,11 +28,11 @@ use Rattle.wdf_agreements.proofs.Stays.{asks_all, gives_up, queues_closed, retur
 -- ---- the deeds that leave the targets alone
 
 abbrev pub is_of_targets : Deed → Bool
-is_of_targets (Send_request r t forget) = true
-is_of_targets (Finish_sending r s) = true
-is_of_targets (Come_back r) = true
-is_of_targets (Stop_target t) = true
-is_of_targets (Start_target t) = true
+is_of_targets (SendRequest r t forget) = true
+is_of_targets (FinishSending r s) = true
+is_of_targets (ComeBack r) = true
+is_of_targets (StopTarget t) = true
+is_of_targets (StartTarget t) = true
 is_of_targets _ = false
 
 abbrev targets_in : {A : Type 0} → State A → Targets
@@ -41,21 +43,21 @@ came S device info (place.Queued q) = refl
 came S device info _ = refl
 
 pub targets_stay : {A : Type 0} (plan : Plan) (d : Deed) (S : State A) → is_of_targets d ≡ false → (do_deed plan d S).targets ≡ S.targets
-targets_stay plan (Send_request r t forget) S off = absurd (let z : ⊥ = cc in z)
-targets_stay plan (Finish_sending r s) S off = absurd (let z : ⊥ = cc in z)
-targets_stay plan (Come_back r) S off = absurd (let z : ⊥ = cc in z)
-targets_stay plan (Stop_target t) S off = absurd (let z : ⊥ = cc in z)
-targets_stay plan (Start_target t) S off = absurd (let z : ⊥ = cc in z)
-targets_stay plan (Arrive device info p) S off = came S device info p
-targets_stay plan (Ask_deletion o) S off = asks_all targets_in (λ S T D W U. refl) (subtree S.tree o) S
-targets_stay plan (Requeue r q) S off = gives_up targets_in (λ S Q R P. refl) S r
-targets_stay plan (Forward r q) S off = gives_up targets_in (λ S Q R P. refl) S r
-targets_stay plan (Give_back r q) S off = gives_up targets_in (λ S Q R P. refl) S r
-targets_stay plan (Complete_request r) S off =
-    asks_all targets_in (λ S T D W U. refl) (subtree (give_up S r).tree r) (record (give_up S r) { requests = requests.complete S.requests r }) ∙ gives_up targets_in (λ S Q R P. refl) S r
-targets_stay plan (Purge_queue q) S off = withdraws targets_in (λ S Q R P. refl) plan q (waiting_in S.queues q) (record S { control = control.set_mode S.control q mode.Purged })
-targets_stay plan (Close_returning d) S off = returns_closed targets_in (λ S Q R P. refl) (managed_queues plan d) S
-targets_stay plan (Close_device d) S off = queues_closed targets_in (λ S Q R P. refl) (queues_of plan d) (record S { control = control.shut S.control d })
+targets_stay plan (SendRequest r t forget) S off = absurd (let z : ⊥ = cc in z)
+targets_stay plan (FinishSending r s) S off = absurd (let z : ⊥ = cc in z)
+targets_stay plan (ComeBack r) S off = absurd (let z : ⊥ = cc in z)
+targets_stay plan (StopTarget t) S off = absurd (let z : ⊥ = cc in z)
+targets_stay plan (StartTarget t) S off = absurd (let z : ⊥ = cc in z)
+targets_stay plan (Arrive device info p) S off = came S device.0 info p
+targets_stay plan (AskDeletion o) S off = asks_all targets_in (λ S T D W U. refl) (subtree S.tree o.0) S
+targets_stay plan (Requeue r q) S off = gives_up targets_in (λ S Q R P. refl) S r.0
+targets_stay plan (Forward r q) S off = gives_up targets_in (λ S Q R P. refl) S r.0
+targets_stay plan (GiveBack r q) S off = gives_up targets_in (λ S Q R P. refl) S r.0
+targets_stay plan (CompleteRequest r) S off =
+    asks_all targets_in (λ S T D W U. refl) (subtree (give_up S r.0).tree r.0) (record (give_up S r.0) { requests = requests.complete S.requests r.0 }) ∙ gives_up targets_in (λ S Q R P. refl) S r.0
+targets_stay plan (PurgeQueue q) S off = withdraws targets_in (λ S Q R P. refl) plan q.0 (waiting_in S.queues q.0) (record S { control = control.set_mode S.control q.0 mode.Purged })
+targets_stay plan (CloseReturning d) S off = returns_closed targets_in (λ S Q R P. refl) (managed_queues plan d.0) S
+targets_stay plan (CloseDevice d) S off = queues_closed targets_in (λ S Q R P. refl) (queues_of plan d.0) (record S { control = control.shut S.control d.0 })
 targets_stay plan _ S off = refl
 
 -- ---- one target, or all
@@ -128,13 +130,13 @@ abbrev pub AllFair : Plan → Targets → Type 0
 AllFair plan T = (t : ℕ) → IsFair plan t (the_target T t)
 
 pub fair_by : {A : Type 0} (plan : Plan) (d : Deed) (S : State A) → AllFair plan S.targets → AllFair plan (do_deed plan d S).targets
-fair_by plan (Send_request r t forget) S k =
-    one_target (IsFair plan) S.targets t (λ x. record x { sent = sending_in_order (new_sending r forget) x.sent })
-    (let it = k t in record { depth = it.depth; sent = one_more (new_sending r forget) (the_target S.targets t).sent (either_waits forget) it.sent }) k
-fair_by plan (Finish_sending r s) S k =
-    all_targets (IsFair plan) S.targets (target_done r s) refl (λ u x it. record { depth = it.depth; sent = one_done r s x.sent it.sent }) k
-fair_by plan (Come_back r) S k =
-    all_targets (IsFair plan) S.targets (without_sending r) refl (λ u x it. record { depth = it.depth; sent = fewer (λ s. not (s.request.0 == r)) x.sent it.sent }) k
-fair_by plan (Stop_target t) S k = one_target (IsFair plan) S.targets t (λ x. record x { stopped = true }) (let it = k t in record { depth = it.depth; sent = it.sent }) k
-fair_by plan (Start_target t) S k = one_target (IsFair plan) S.targets t (λ x. record x { stopped = false }) (let it = k t in record { depth = it.depth; sent = it.sent }) k
+fair_by plan (SendRequest r t forget) S k =
+    one_target (IsFair plan) S.targets t.0 (λ x. record x { sent = sending_in_order (new_sending r.0 forget) x.sent })
+    (let it = k t.0 in record { depth = it.depth; sent = one_more (new_sending r.0 forget) (the_target S.targets t.0).sent (either_waits forget) it.sent }) k
+fair_by plan (FinishSending r s) S k =
+    all_targets (IsFair plan) S.targets (target_done r.0 s) refl (λ u x it. record { depth = it.depth; sent = one_done r.0 s x.sent it.sent }) k
+fair_by plan (ComeBack r) S k =
+    all_targets (IsFair plan) S.targets (without_sending r.0) refl (λ u x it. record { depth = it.depth; sent = fewer (λ s. not (s.request.0 == r.0)) x.sent it.sent }) k
+fair_by plan (StopTarget t) S k = one_target (IsFair plan) S.targets t.0 (λ x. record x { stopped = true }) (let it = k t.0 in record { depth = it.depth; sent = it.sent }) k
+fair_by plan (StartTarget t) S k = one_target (IsFair plan) S.targets t.0 (λ x. record x { stopped = false }) (let it = k t.0 in record { depth = it.depth; sent = it.sent }) k
 fair_by plan d S k = subst (AllFair plan) (sym (targets_stay plan d S refl)) k

@@ -24,6 +24,7 @@ use Rattle.wdf_base.specs.declared.event.Stage.TheVariants as stage
 use Rattle.wdf_base.specs.declared.event.Step.{Step}
 use Rattle.wdf_base.specs.declared.event.Step.TheVariants as step
 use Rattle.wdf_base.specs.declared.wait.Cause.TheVariants as cause
+use Rattle.wdf_model.specs.Ids.{frame_id}
 use Rattle.wdf_model.specs.declared.enums.Group.TheVariants as group
 use Rattle.wdf_model.specs.declared.entries.Holding.{Holding}
 use Rattle.wdf_model.specs.declared.entries.Request.{Request}
@@ -41,7 +42,7 @@ use Rattle.wdf_model.specs.laws.Agreement.{is_sequence, managed_origin}
 use Rattle.wdf_model.specs.rules.Groups.{candidate, candidates, declared_end, groups_of_rank, queues_in, RANKS, start_of_step, starts, starts_for}
 use Rattle.wdf_model.specs.rules.Starts.{interrupt_of_step, is_ready_for, level_fits, life_fits, may_pass, may_start, rank_ready, resumes_over, stage_ready, step_of, step_ready}
 use Rattle.wdf_model.specs.rules.Steps.{may}
-use Rattle.wdf_model.specs.rules.Waits.{by_frame, cause_if, first_cause, frames_where, holders_of, no_cpu, number_of, object_of_step, queues_to_resume, resume_cpus, resume_frames, resumes_at, resumes_cause, runs_step, scope_holders, step_cause}
+use Rattle.wdf_model.specs.rules.Waits.{by_frame, cause_if, first_cause, frames_where, holders_of, no_cpu, object_of_step, queues_to_resume, resume_cpus, resume_frames, resumes_at, resumes_cause, runs_step, scope_holders, step_cause}
 use Rattle.wdf_model.proofs.Tests.{both, both_left, both_right, itself, second}
 use Rattle.wdf_model.proofs.Sames.{callback_decides, handle_decides, kind_decides}
 use Rattle.wdf_invariants.proofs.Holding.{HoldsIn, holder}
@@ -145,7 +146,7 @@ module _ {A : Type 0} (plan : Plan) (m : Meaning A) (S : State A) (rest : AtRest
       let lock : Option LockRef = lock_of_callback plan c o (declared_in plan S o) in
       let one = none_first (by_frame (holders_of S lock)) (cause_if (no_cpu plan S (callback_irql plan c o)) cause.NoCpu ∷ []) h in
       let two = none_first (cause_if (no_cpu plan S (callback_irql plan c o)) cause.NoCpu) [] one.1 in
-      let free : is_free_if_any S.locks lock ≡ true = free_by_none S lock (none_least (λ f. cause.ByFrame (number_of f)) (holders_of S lock) one.0) in
+      let free : is_free_if_any S.locks lock ≡ true = free_by_none S lock (none_least (λ f. cause.ByFrame (frame_id f)) (holders_of S lock) one.0) in
       let left = free_one (λ cpu. level_fits S cpu (callback_irql plan c o)) 0 plan.cpus (none_if (no_cpu plan S (callback_irql plan c o)) cause.NoCpu two.0) in
       let cpu : ℕ = left.0 in
       let under : cpu < 0 + plan.cpus = left.1 in
@@ -248,7 +249,7 @@ module _ {A : Type 0} (plan : Plan) (m : Meaning A) (S : State A) (rest : AtRest
       let resumes : first_cause (by_frame (resume_frames plan S d) ∷ cause_if (resume_cpus plan S d) cause.NoCpu ∷ []) ≡ None = (let t : resumes_cause plan S d ≡ None = parts.0 in rw after at t) in
       let one = none_first (by_frame (resume_frames plan S d)) (cause_if (resume_cpus plan S d) cause.NoCpu ∷ []) resumes in
       let two = none_first (cause_if (resume_cpus plan S d) cause.NoCpu) [] one.1 in
-      let fs : resume_frames plan S d ≡ [] = none_least (λ f. cause.ByFrame (number_of f)) (resume_frames plan S d) one.0 in
+      let fs : resume_frames plan S d ≡ [] = none_least (λ f. cause.ByFrame (frame_id f)) (resume_frames plan S d) one.0 in
       let lists = front_none (frames_where S (runs_step d callback.EvtIoResume)) (scope_holders plan S (queues_to_resume plan S d)) fs in
       let cpus : resume_cpus plan S d ≡ false = none_if (resume_cpus plan S d) cause.NoCpu two.0 in
       let over : is_running S.cpus callback.EvtIoResume d ≡ false = no_count (λ f. runs_step d callback.EvtIoResume (frame_of S.cpus f)) (all_frames S.cpus) lists.0 in

@@ -56,7 +56,10 @@ use Rattle.wdf_model.specs.parts.Requests.{is_closing, is_done, is_owned, no_req
 use Rattle.wdf_model.specs.parts.Pnp.{Pnp, Sequence, is_running_step, next_step, no_sequence, running_step, sequence_of, steps_left, taken_step}
 use Rattle.wdf_model.specs.parts.Pnp as pnp
 use Rattle.wdf_model.specs.State.{State, declared_in, is_proper, nothing_at, object_in}
-use Rattle.wdf_model.specs.rules.Deeds.{Deed, Advance_power, Arrive, Count_arrival, Enqueue_work, Enqueue_dpc, Go_on, Pop_frame, Push_frame, Register_queue, Start_timer, Take_step, do_deeds}
+use Rattle.wdf_model.specs.Ids.{cpu_of, frame_id, irql_of, object_id}
+use Rattle.wdf_model.specs.declared.deed.Deed.{Deed}
+use Rattle.wdf_model.specs.declared.deed.Deed.TheVariants.{AdvancePower, Arrive, CountArrival, EnqueueWork, EnqueueDpc, GoOn, PopFrame, PushFrame, RegisterQueue, StartTimer, TakeStep}
+use Rattle.wdf_model.specs.rules.Deeds.{do_deeds}
 use Rattle.wdf_model.specs.rules.Faults.{View, arg_is, is_never_deleted, is_stale, is_wrong_kind}
 use Rattle.wdf_model.specs.rules.Script.{intent_of}
 use Rattle.wdf_model.specs.rules.Posts.{arrival_deeds, arrival_info, arrival_place, cancel_reaches, due_of, may_arrive, post_answer, post_deeds, post_fits}
@@ -301,7 +304,7 @@ module _ {A : Type 0} (plan : Plan) (S : State A) (resolved : IsResolved plan) (
       let now : (same_option same_step (next_step S.pnp d) (Some (step.Pass stage.Removed i)) && not (is_running_step S.pnp d)) ≡ true = both_left (same_option same_step (next_step S.pnp d) (Some (step.Pass stage.Removed i)) && not (is_running_step S.pnp d)) _ ready in
       found_pass (steps_left S.pnp d) stage.Removed i (both_left _ (not (is_running_step S.pnp d)) now)
 
-  removes_device : (d : ℕ) (i : Option Handle) → may_pass plan S d stage.Removed i ≡ true → Removable plan (do_deeds plan (Take_step d ∷ Advance_power d (step.Pass stage.Removed i) ∷ []) S) d
+  removes_device : (d : ℕ) (i : Option Handle) → may_pass plan S d stage.Removed i ≡ true → Removable plan (do_deeds plan (TakeStep (object_id d) ∷ AdvancePower (object_id d) (step.Pass stage.Removed i) ∷ []) S) d
   removes_device d i may_come =
       let ready : step_ready S d (step.Pass stage.Removed i) ≡ true = both_left (step_ready S d (step.Pass stage.Removed i)) (stage_ready plan S d stage.Removed i) may_come in
       let drained : is_drained plan S d ≡ true = both_right (step_ready S d (step.Pass stage.Removed i)) (stage_ready plan S d stage.Removed i) may_come in
@@ -372,14 +375,14 @@ module _ {A : Type 0} (plan : Plan) (S : State A) (resolved : IsResolved plan) (
       by (Some (declared.Target t)) h = absurd (let z : ⊥ = cc in z)
       by (Some (declared.OfClass c)) h = absurd (let z : ⊥ = cc in z)
 
-  isr_comes : (cpu i : ℕ) (a b c : Bool) → is_enabled S.interrupts i ≡ a → declares plan callback.EvtInterruptDpc i ≡ b → is_some (interrupt_of plan i) ≡ true → AllComes plan (if a && b && c then number 1 (Enqueue_dpc cpu i ∷ []) else number 0 []).deeds S
+  isr_comes : (cpu i : ℕ) (a b c : Bool) → is_enabled S.interrupts i ≡ a → declares plan callback.EvtInterruptDpc i ≡ b → is_some (interrupt_of plan i) ≡ true → AllComes plan (if a && b && c then number 1 (EnqueueDpc (cpu_of cpu) (object_id i) ∷ []) else number 0 []).deeds S
   isr_comes cpu i true true true e f is =
       ((second (ready_in kind.Dpc S.tree i) (defers plan i) (both (is_some (interrupt_of plan i)) (declares plan callback.EvtInterruptDpc i) is f), λ _. e), tt)
   isr_comes cpu i true true false e f is = tt
   isr_comes cpu i true false c e f is = tt
   isr_comes cpu i false b c e f is = tt
 
-  dpc_comes : (cpu o : ℕ) (a b : Bool) → is_live (life_of S.tree o) ≡ a → same_kind (kind_of S.tree o) kind.Dpc ≡ true → AllComes plan (if a && b then number 1 (Enqueue_dpc cpu o ∷ []) else number 0 []).deeds S
+  dpc_comes : (cpu o : ℕ) (a b : Bool) → is_live (life_of S.tree o) ≡ a → same_kind (kind_of S.tree o) kind.Dpc ≡ true → AllComes plan (if a && b then number 1 (EnqueueDpc (cpu_of cpu) (object_id o) ∷ []) else number 0 []).deeds S
   dpc_comes cpu o true true e is =
       ((first (ready_in kind.Dpc S.tree o) (defers plan o) (both (is_live (life_of S.tree o)) (same_kind (kind_of S.tree o) kind.Dpc) e is), λ h. absurd (no_dpc o (interrupt_of plan o) refl e is h)), tt)
   dpc_comes cpu o true false e is = tt
@@ -416,10 +419,10 @@ module _ {A : Type 0} (plan : Plan) (S : State A) (resolved : IsResolved plan) (
   outcome_comes cpu f call.WdfRequestSend n a b x h = plain_comes plan _ S (send_plain S (object_in a) (object_in b) (arg_is x 1))
   outcome_comes cpu f call.WdfIoQueueRetrieveNextRequest n a b x h = plain_comes plan _ S (retrieve_plain plan S (object_in a))
   outcome_comes cpu f call.WdfIoQueueReadyNotify n a b x h =
-      plain_comes plan _ S (either_plain (is_manual_queue plan (object_in a) && declares plan callback.EvtIoQueueState (object_in a)) (success (Register_queue (object_in a) (not (arg_is b 0)) ∷ [])) (refused status.InvalidDeviceRequest) refl refl)
+      plain_comes plan _ S (either_plain (is_manual_queue plan (object_in a) && declares plan callback.EvtIoQueueState (object_in a)) (success (RegisterQueue (object_id (object_in a)) (not (arg_is b 0)) ∷ [])) (refused status.InvalidDeviceRequest) refl refl)
   outcome_comes cpu f call.WdfTimerStart n a b x h =
-      plain_comes plan _ S (either_plain (is_live (life_of S.tree (object_in a))) (number (flag (is_timer_queued S.timers (object_in a))) (Start_timer (object_in a) (number_in b) ∷ [])) (number 0 []) refl refl)
-  outcome_comes cpu f call.WdfWorkItemEnqueue n a b x h = plain_comes plan _ S (either_plain (is_live (life_of S.tree (object_in a))) (success (Enqueue_work (object_in a) ∷ [])) (success []) refl refl)
+      plain_comes plan _ S (either_plain (is_live (life_of S.tree (object_in a))) (number (flag (is_timer_queued S.timers (object_in a))) (StartTimer (object_id (object_in a)) (number_in b) ∷ [])) (number 0 []) refl refl)
+  outcome_comes cpu f call.WdfWorkItemEnqueue n a b x h = plain_comes plan _ S (either_plain (is_live (life_of S.tree (object_in a))) (success (EnqueueWork (object_id (object_in a)) ∷ [])) (success []) refl refl)
   outcome_comes cpu f c n a b x h = plain_comes plan (outcome plan S cpu f (record { kind = c; count = n; a = a; b = b; c = x })).deeds S refl
 
   -- ---- events
@@ -435,7 +438,7 @@ module _ {A : Type 0} (plan : Plan) (S : State A) (resolved : IsResolved plan) (
   start_comes cpu c o r =
       let l : Option LockRef = lock_of_callback plan c o.id.0 (declared_in plan S o.id.0) in
       plain_comes plan (start_deeds plan S cpu c o r) S
-      (plain_behind (start_effect plan S cpu c o.id.0 r) (Push_frame cpu (next_number S) (new_frame plan S c o r) (callback_irql plan c o.id.0) ∷ take_if_any (next_number S) l)
+      (plain_behind (start_effect plan S cpu c o.id.0 r) (PushFrame (cpu_of cpu) (frame_id (next_number S)) (new_frame plan S c o r) (irql_of (callback_irql plan c o.id.0)) ∷ take_if_any (next_number S) l)
       (start_effect_plain plan S cpu c o.id.0 r) (taking_plain (next_number S) l))
 
   -- the callback of a step that ends is the one that runs
@@ -453,7 +456,7 @@ module _ {A : Type 0} (plan : Plan) (S : State A) (resolved : IsResolved plan) (
   ending_comes cpu c o v rank.Sequence U e h = (ap (λ Q. is_running_step Q (nearest_device S.tree o.id.0)) e ∙ h refl, tt)
   ending_comes cpu c o v _ U e h = tt
 
-  ends_comes : (cpu : ℕ) (l : Option LockRef) (es : List Deed) → ((U : State A) → U.pnp ≡ S.pnp → AllComes plan es U) → AllComes plan (release_if_any l ++ Pop_frame cpu ∷ es) S
+  ends_comes : (cpu : ℕ) (l : Option LockRef) (es : List Deed) → ((U : State A) → U.pnp ≡ S.pnp → AllComes plan es U) → AllComes plan (release_if_any l ++ PopFrame (cpu_of cpu) ∷ es) S
   ends_comes cpu None es h = (tt, h _ refl)
   ends_comes cpu (Some l) es h = (tt, (tt, h _ refl))
 
@@ -480,7 +483,7 @@ module _ {A : Type 0} (plan : Plan) (S : State A) (resolved : IsResolved plan) (
       device_ : is_some (device_of plan d.id.0) ≡ true
       device_ = device_handle (declared_of plan d.id.0) (search (both_left))
 
-      by : (b : Bool) → AllComes plan (Count_arrival agent ∷ (if b then Arrive d.id.0 (arrival_info S agent f length code d.id.0) (arrival_place plan S f length d.id.0) ∷ [] else [])) S
+      by : (b : Bool) → AllComes plan (CountArrival agent ∷ (if b then Arrive d.id (arrival_info S agent f length code d.id.0) (arrival_place plan S f length d.id.0) ∷ [] else [])) S
       by true = (tt, (device_, tt))
       by false = (tt, tt)
 
@@ -495,23 +498,23 @@ module _ {A : Type 0} (plan : Plan) (S : State A) (resolved : IsResolved plan) (
 
   pub event_comes : (m : Meaning A) (e : Event) → may plan m S e ≡ true → AllComes plan (deeds plan S e) S
   event_comes m (event.Start c0 c o r) h = start_comes c0.0 c o r
-  event_comes m (event.Local c0 line) h = moving_comes (λ f frame. Go_on f (stepped frame (intent_of plan frame)) ∷ []) (λ f frame. refl) (top S.cpus c0.0)
-  event_comes m (event.Log c0 v) h = moving_comes (λ f frame. Go_on f (goes_on plan frame) ∷ []) (λ f frame. refl) (top S.cpus c0.0)
-  event_comes m (event.Spend c0 n) h = moving_comes (λ f frame. Go_on f (spending plan S frame n) ∷ []) (λ f frame. refl) (top S.cpus c0.0)
-  event_comes m (event.Register c0 a r v) h = moving_comes (λ f frame. Go_on f (answered plan frame (Num v)) ∷ []) (λ f frame. refl) (top S.cpus c0.0)
+  event_comes m (event.Local c0 line) h = moving_comes (λ f frame. GoOn (frame_id f) (stepped frame (intent_of plan frame)) ∷ []) (λ f frame. refl) (top S.cpus c0.0)
+  event_comes m (event.Log c0 v) h = moving_comes (λ f frame. GoOn (frame_id f) (goes_on plan frame) ∷ []) (λ f frame. refl) (top S.cpus c0.0)
+  event_comes m (event.Spend c0 n) h = moving_comes (λ f frame. GoOn (frame_id f) (spending plan S frame n) ∷ []) (λ f frame. refl) (top S.cpus c0.0)
+  event_comes m (event.Register c0 a r v) h = moving_comes (λ f frame. GoOn (frame_id f) (answered plan frame (Num v)) ∷ []) (λ f frame. refl) (top S.cpus c0.0)
   event_comes m (event.Did c0 c v) h =
       let d = did_tells plan m S c0 c v h in
       let f : ℕ = d.frame in
       by_its_top_comes c0.0 f (did_deeds plan S c0.0 c v) d.about.top
-      (comes_behind plan ((outcome plan S c0.0 f c).deeds ++ second_deeds f c) (Go_on f (answered plan (frame_of S.cpus f) v) ∷ []) S
+      (comes_behind plan ((outcome plan S c0.0 f c).deeds ++ second_deeds f c) (GoOn (frame_id f) (answered plan (frame_of S.cpus f) v) ∷ []) S
       (comes_behind plan (outcome plan S c0.0 f c).deeds (second_deeds f c) S (outcome_comes c0.0 f c.kind c.count c.a c.b c.c d.about.clean) (plain_comes plan (second_deeds f c) _ (second_plain f c.kind c.count c.a c.b c.c))) (tt, tt))
   event_comes m (event.Waiting c0 c) h =
       let d = waiting_tells plan m S c0 c h in
       let f : ℕ = d.frame in
       by_its_top_comes c0.0 f (waiting_deeds plan S c0.0 c) d.about.top
-      (comes_behind plan (outcome plan S c0.0 f c).deeds (Go_on f (waiting (frame_of S.cpus f) c (outcome plan S c0.0 f c).answer) ∷ []) S (outcome_comes c0.0 f c.kind c.count c.a c.b c.c d.about.clean) (tt, tt))
+      (comes_behind plan (outcome plan S c0.0 f c).deeds (GoOn (frame_id f) (waiting (frame_of S.cpus f) c (outcome plan S c0.0 f c).answer) ∷ []) S (outcome_comes c0.0 f c.kind c.count c.a c.b c.c d.about.clean) (tt, tt))
   event_comes m (event.Woke c0 c v) h =
-      moving_comes (woke_deeds plan c v) (λ f frame. plain_behind (second_deeds f c) (Go_on f (answered plan frame v) ∷ []) (second_plain f c.kind c.count c.a c.b c.c) refl) (top S.cpus c0.0)
+      moving_comes (woke_deeds plan c v) (λ f frame. plain_behind (second_deeds f c) (GoOn (frame_id f) (answered plan frame v) ∷ []) (second_plain f c.kind c.count c.a c.b c.c) refl) (top S.cpus c0.0)
   event_comes m (event.Park c0 f) h = (tt, tt)
   event_comes m (event.Unpark c0 f) h = (tt, tt)
   event_comes m (event.End c0 c o v) h =

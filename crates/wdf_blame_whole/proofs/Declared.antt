@@ -34,7 +34,9 @@ use Rattle.wdf_model.specs.parts.Control as control
 use Rattle.wdf_model.specs.parts.Pnp.{DeviceSteps, InterruptSteps, Pnp, Sequence, DEVICE_CALLBACKS, device_steps, disable_steps, down_steps, enable_steps, end_steps, flush_steps, hard_steps, interrupt_name, interrupt_steps, is_success, left_after, left_after_failure, next_step, no_sequence, opening_sequence, pass, passed, quiet_steps, run, run_if, self_managed_start, sequence_of, steps_for, steps_off, steps_sleeping, steps_working, tail_steps, taken_step, up_steps, with_sequence, with_step}
 use Rattle.wdf_model.specs.parts.Pnp as pnp
 use Rattle.wdf_model.specs.State.{State}
-use Rattle.wdf_model.specs.rules.Deeds.{Deed, Arrive, Ask_deletion, Requeue, Forward, Give_back, Send_request, Complete_request, Purge_queue, Close_returning, Close_device, Ask_device, Take_step, End_step, arrive_at, do_deed, give_up}
+use Rattle.wdf_model.specs.declared.deed.Deed.{Deed}
+use Rattle.wdf_model.specs.declared.deed.Deed.TheVariants.{Arrive, AskDeletion, Requeue, Forward, GiveBack, SendRequest, CompleteRequest, PurgeQueue, CloseReturning, CloseDevice, AskDevice, TakeStep, EndStep}
+use Rattle.wdf_model.specs.rules.Deeds.{arrive_at, do_deed, give_up}
 use Rattle.wdf_model.specs.rules.Ready.{IsRunOf, state_after}
 use Rattle.wdf_model.proofs.Counts.{one_or_two}
 use Rattle.wdf_model.proofs.Maps.{entry_put_other, entry_put_same}
@@ -238,25 +240,25 @@ same_steps : (plan : Plan) (v w : Pnp) → w ≡ v → OwnSteps plan v → OwnSt
 same_steps plan v w e k = subst (OwnSteps plan) (sym e) k
 
 steps_by : {A : Type 0} (plan : Plan) (d : Deed) (S : State A) → OwnSteps plan S.pnp → OwnSteps plan (do_deed plan d S).pnp
-steps_by plan (Arrive device info p) S q = same_steps plan _ _ (arrived S device info p) q
-steps_by {A} plan (Ask_deletion o) S q = same_steps plan _ _ (asks_all (λ (U : State A). U.pnp) (λ S T D W U. refl) (subtree S.tree o) S) q
-steps_by {A} plan (Requeue r p) S q = same_steps plan _ _ (gives_up (λ (U : State A). U.pnp) (λ S Q R P. refl) S r) q
-steps_by {A} plan (Forward r p) S q = same_steps plan _ _ (gives_up (λ (U : State A). U.pnp) (λ S Q R P. refl) S r) q
-steps_by {A} plan (Give_back r p) S q = same_steps plan _ _ (gives_up (λ (U : State A). U.pnp) (λ S Q R P. refl) S r) q
-steps_by {A} plan (Send_request r t forget) S q = same_steps plan _ _ (gives_up_if (λ (U : State A). U.pnp) (λ S Q R P. refl) S forget r) q
-steps_by {A} plan (Complete_request r) S q =
-    same_steps plan _ _ (asks_all (λ (U : State A). U.pnp) (λ S T D W U. refl) (subtree (give_up S r).tree r) (record (give_up S r) { requests = requests.complete S.requests r })
-    ∙ gives_up (λ (U : State A). U.pnp) (λ S Q R P. refl) S r) q
-steps_by {A} plan (Purge_queue p) S q = same_steps plan _ _ (withdraws (λ (U : State A). U.pnp) (λ S Q R P. refl) plan p (waiting_in S.queues p) (record S { control = control.set_mode S.control p mode.Purged })) q
-steps_by {A} plan (Close_returning d) S q = same_steps plan _ _ (returns_closed (λ (U : State A). U.pnp) (λ S Q R P. refl) (managed_queues plan d) S) q
-steps_by {A} plan (Close_device d) S q = same_steps plan _ _ (queues_closed (λ (U : State A). U.pnp) (λ S Q R P. refl) (queues_of plan d) (record S { control = control.shut S.control d })) q
-steps_by plan (Ask_device d a) S q =
-    one_changes plan S.pnp d (λ s. record s { left = steps_for s.steps s.ever_working s.phase a })
-    (λ h. record { parts = h.parts; left = asked plan d (sequence_of S.pnp d).steps h.parts (sequence_of S.pnp d).ever_working (sequence_of S.pnp d).phase a }) q
-steps_by plan (Take_step d) S q = one_changes plan S.pnp d taken_step (taken_own plan d (sequence_of S.pnp d)) q
-steps_by plan (End_step d s v) S q =
-    one_changes plan S.pnp d (λ x. record x { left = left_after x s v; running = None })
-    (λ h. record { parts = h.parts; left = ended_own plan d (sequence_of S.pnp d) s v h }) q
+steps_by plan (Arrive device info p) S q = same_steps plan _ _ (arrived S device.0 info p) q
+steps_by {A} plan (AskDeletion o) S q = same_steps plan _ _ (asks_all (λ (U : State A). U.pnp) (λ S T D W U. refl) (subtree S.tree o.0) S) q
+steps_by {A} plan (Requeue r p) S q = same_steps plan _ _ (gives_up (λ (U : State A). U.pnp) (λ S Q R P. refl) S r.0) q
+steps_by {A} plan (Forward r p) S q = same_steps plan _ _ (gives_up (λ (U : State A). U.pnp) (λ S Q R P. refl) S r.0) q
+steps_by {A} plan (GiveBack r p) S q = same_steps plan _ _ (gives_up (λ (U : State A). U.pnp) (λ S Q R P. refl) S r.0) q
+steps_by {A} plan (SendRequest r t forget) S q = same_steps plan _ _ (gives_up_if (λ (U : State A). U.pnp) (λ S Q R P. refl) S forget r.0) q
+steps_by {A} plan (CompleteRequest r) S q =
+    same_steps plan _ _ (asks_all (λ (U : State A). U.pnp) (λ S T D W U. refl) (subtree (give_up S r.0).tree r.0) (record (give_up S r.0) { requests = requests.complete S.requests r.0 })
+    ∙ gives_up (λ (U : State A). U.pnp) (λ S Q R P. refl) S r.0) q
+steps_by {A} plan (PurgeQueue p) S q = same_steps plan _ _ (withdraws (λ (U : State A). U.pnp) (λ S Q R P. refl) plan p.0 (waiting_in S.queues p.0) (record S { control = control.set_mode S.control p.0 mode.Purged })) q
+steps_by {A} plan (CloseReturning d) S q = same_steps plan _ _ (returns_closed (λ (U : State A). U.pnp) (λ S Q R P. refl) (managed_queues plan d.0) S) q
+steps_by {A} plan (CloseDevice d) S q = same_steps plan _ _ (queues_closed (λ (U : State A). U.pnp) (λ S Q R P. refl) (queues_of plan d.0) (record S { control = control.shut S.control d.0 })) q
+steps_by plan (AskDevice d a) S q =
+    one_changes plan S.pnp d.0 (λ s. record s { left = steps_for s.steps s.ever_working s.phase a })
+    (λ h. record { parts = h.parts; left = asked plan d.0 (sequence_of S.pnp d.0).steps h.parts (sequence_of S.pnp d.0).ever_working (sequence_of S.pnp d.0).phase a }) q
+steps_by plan (TakeStep d) S q = one_changes plan S.pnp d.0 taken_step (taken_own plan d.0 (sequence_of S.pnp d.0)) q
+steps_by plan (EndStep d s v) S q =
+    one_changes plan S.pnp d.0 (λ x. record x { left = left_after x s v; running = None })
+    (λ h. record { parts = h.parts; left = ended_own plan d.0 (sequence_of S.pnp d.0) s v h }) q
 steps_by plan _ S q = q
 
 -- ---- the opening

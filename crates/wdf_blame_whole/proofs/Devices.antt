@@ -18,6 +18,7 @@ use Rattle.wdf_base.specs.declared.event.Step.TheVariants as step
 use Rattle.wdf_base.specs.declared.wait.Cause.{Cause}
 use Rattle.wdf_base.specs.declared.wait.Cause.TheVariants as cause
 use Rattle.wdf_base.specs.declared.wait.OpenThing.TheVariants as thing
+use Rattle.wdf_model.specs.Ids.{frame_id}
 use Rattle.wdf_model.specs.Plans.{as_device, device_of}
 use Rattle.wdf_model.specs.parts.Tree.{is_live, life_of}
 use Rattle.wdf_model.specs.parts.Cpus.{all_frames, frame_of}
@@ -26,7 +27,7 @@ use Rattle.wdf_model.specs.State.{State}
 use Rattle.wdf_model.specs.laws.Agreement.{is_sequence, is_step_frame, steps_agree}
 use Rattle.wdf_model.specs.rules.Groups.{declared_end}
 use Rattle.wdf_model.specs.rules.Ready.{IsRunOf, ending_of, state_after}
-use Rattle.wdf_model.specs.rules.Waits.{by_frame, first_cause, frames_where, number_of, resumes_cause, running_cause, runs_step, step_cause, wait_list}
+use Rattle.wdf_model.specs.rules.Waits.{by_frame, first_cause, frames_where, resumes_cause, running_cause, runs_step, step_cause, wait_list}
 use Rattle.wdf_model.proofs.Counts.{at_head, count_no, count_yes, equal}
 use Rattle.wdf_model.proofs.Tests.{both, both_left, both_right}
 use Rattle.wdf_model.proofs.Sames.{callback_decides}
@@ -137,7 +138,7 @@ module _ {A : Type 0} (plan : Plan) (m : Meaning A) (run : List Event) (resolved
       let same : Some s ≡ Some (step.Run a.callback runs.0) = sym now ∙ sym (ap (running_step S.pnp) at) ∙ runs.1 in
       let it : s ≡ step.Run a.callback runs.0 = cc in
       let none_ : by_frame (frames_where S (runs_step d a.callback)) ≡ None = subst (λ y. running_cause S d y ≡ None) it none in
-      let empty : frames_where S (runs_step d a.callback) ≡ [] = none_least (λ x. cause.ByFrame (number_of x)) (frames_where S (runs_step d a.callback)) none_ in
+      let empty : frames_where S (runs_step d a.callback) ≡ [] = none_least (λ x. cause.ByFrame (frame_id x)) (frames_where S (runs_step d a.callback)) none_ in
       none_passes (λ x. runs_step d a.callback (frame_of S.cpus x)) f.0 (all_frames S.cpus) f.1
       (both (same_callback a.callback a.callback) (a.device.id.0 == d) ((callback_decides a.callback a.callback).1 refl) (both_right (is_sequence (row_of a.callback).rank) (a.device.id.0 == d) f.2)) empty
 

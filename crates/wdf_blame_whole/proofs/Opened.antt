@@ -20,7 +20,10 @@ use Rattle.wdf_model.specs.parts.Requests.{Requests, cancelled, closed_at, forgo
 use Rattle.wdf_model.specs.parts.Requests as requests
 use Rattle.wdf_model.specs.parts.Targets.{is_forgotten, is_undone, routine_due}
 use Rattle.wdf_model.specs.State.{State, withdrawn_place}
-use Rattle.wdf_model.specs.rules.Deeds.{Deed, Arrive, Ask_deletion, Cancel_request, Close_device, Close_returning, Come_back, Complete_request, End_life, Finish_sending, Forward, Give_back, Make_request, Mark_request, Present, Purge_queue, Receive, Requeue, Send_request, Take_cancel, Unmark_request, Withdraw, arrive_at, cancel_in, close_queue, close_returning, do_deed, finished_at, give_up, give_up_if, queued, withdraw}
+use Rattle.wdf_model.specs.Ids.{object_id}
+use Rattle.wdf_model.specs.declared.deed.Deed.{Deed}
+use Rattle.wdf_model.specs.declared.deed.Deed.TheVariants.{Arrive, AskDeletion, CancelRequest, CloseDevice, CloseReturning, ComeBack, CompleteRequest, EndLife, FinishSending, Forward, GiveBack, MakeRequest, MarkRequest, Present, PurgeQueue, Receive, Requeue, SendRequest, TakeCancel, UnmarkRequest, Withdraw}
+use Rattle.wdf_model.specs.rules.Deeds.{arrive_at, cancel_in, close_queue, close_returning, do_deed, finished_at, give_up, give_up_if, queued, withdraw}
 use Rattle.wdf_model.specs.laws.Fits.{fits, is_given}
 use Rattle.wdf_model.proofs.Tests.{both_left, both_right}
 use Rattle.wdf_model.proofs.Maps.{entry_map, entry_put_other, entry_put_same, entry_set_other, set_read}
@@ -206,53 +209,53 @@ module _ (plan : Plan) (L : ℕ → Bool) where
   unmarked_it r e false k = k
 
   -- a deletion is asked, or a request is completed
-  pub opened_asked : {A : Type 0} (S : State A) (o : ℕ) → Opened plan L S.requests → Opened plan L (do_deed plan (Ask_deletion o) S).requests
-  opened_asked S o k = as_before S.requests (do_deed plan (Ask_deletion o) S).requests (asks_all requests_of (λ S T D W U. refl) (subtree S.tree o) S) k
+  pub opened_asked : {A : Type 0} (S : State A) (o : ℕ) → Opened plan L S.requests → Opened plan L (do_deed plan (AskDeletion (object_id o)) S).requests
+  opened_asked S o k = as_before S.requests (do_deed plan (AskDeletion (object_id o)) S).requests (asks_all requests_of (λ S T D W U. refl) (subtree S.tree o) S) k
 
-  pub opened_completed : {A : Type 0} (S : State A) (r : ℕ) → Opened plan L S.requests → Opened plan L (do_deed plan (Complete_request r) S).requests
+  pub opened_completed : {A : Type 0} (S : State A) (r : ℕ) → Opened plan L S.requests → Opened plan L (do_deed plan (CompleteRequest (object_id r)) S).requests
   opened_completed S r k =
-      as_before (requests.complete S.requests r) (do_deed plan (Complete_request r) S).requests
+      as_before (requests.complete S.requests r) (do_deed plan (CompleteRequest (object_id r)) S).requests
       (asks_all requests_of (λ S T D W U. refl) (subtree (give_up S r).tree r) (record (give_up S r) { requests = requests.complete S.requests r }))
       (ends S.requests r k)
 
   -- a request arrives at a device that passes
   abbrev pub ArrivesWell : Deed → Type 0
-  ArrivesWell (Arrive device info at) = L device ≡ true
+  ArrivesWell (Arrive device info at) = L device.0 ≡ true
   ArrivesWell _ = ⊤
 
   -- a deed
   pub opened_by : {A : Type 0} (d : Deed) (S : State A) → fits plan d S ≡ true → Sound plan d S → Placed S → table_size plan ≤ next_id S.tree → ArrivesWell d → Opened plan L S.requests
       → Opened plan L (do_deed plan d S).requests
-  opened_by (Make_request class parent) S f s p room comes k = new_one S.requests (next_id S.tree) place.Owned (made_info (nearest_device S.tree parent)) (λ h. room, λ h. absurd (let z : ⊥ = cc in z)) k
+  opened_by (MakeRequest class parent) S f s p room comes k = new_one S.requests (next_id S.tree) place.Owned (made_info (nearest_device S.tree parent.0)) (λ h. room, λ h. absurd (let z : ⊥ = cc in z)) k
   opened_by (Arrive device info at) S f s p room comes k =
-      as_before (requests.arrive S.requests (next_id S.tree) at info) (arrive_at S device info at).requests (came S device info at)
+      as_before (requests.arrive S.requests (next_id S.tree) at info) (arrive_at S device.0 info at).requests (came S device.0 info at)
       (new_one S.requests (next_id S.tree) at info (λ h. room, λ h. ap L s.0 ∙ comes) k)
-  opened_by (Ask_deletion o) S f s p room comes k = opened_asked S o k
-  opened_by (End_life o) S f s p room comes k = forgets S.requests o k
-  opened_by (Present q r) S f s p room comes k = moves S.requests r place.Owned (front_there S q r p f) k
-  opened_by (Receive q r) S f s p room comes k = moves S.requests r place.Owned (returning_undone q (place_of S.requests r) f) k
-  opened_by (Requeue r q) S f s p room comes k = enters S r q (given_undone S r f) k
-  opened_by (Forward r q) S f s p room comes k = enters S r q (given_undone S r (search both_left)) k
-  opened_by (Give_back r q) S f s p room comes k =
-      let e : (give_up S r).requests ≡ S.requests = given requests_of (λ S Q P. refl) S r in
-      cancelled_in (give_up S r) q r (still_there S.requests (give_up S r).requests r e (given_undone S r f)) (as_before S.requests (give_up S r).requests e k)
-  opened_by (Withdraw q r) S f s p room comes k = cancelled_in S q r (queued_undone q (place_of S.requests r) f) k
-  opened_by (Mark_request r) S f s p room comes k = same_it S.requests r marked (λ e h. marked_it r e e.info.cancelled h) k
-  opened_by (Unmark_request r) S f s p room comes k = same_it S.requests r unmarked (λ e h. unmarked_it r e (is_marked e.info.mark) h) k
-  opened_by (Cancel_request r) S f s p room comes k = cancels S.requests r k
-  opened_by (Take_cancel r) S f s p room comes k = same_it S.requests r (with_mark marks.Taken) (λ e h. h) k
-  opened_by (Send_request r t forget) S f s p room comes k =
-      let owned : is_owned (place_of S.requests r) ≡ true = search both_left in
-      let e : (give_up_if forget S r).requests ≡ S.requests = given_if requests_of (λ S Q P. refl) S forget r in
-      moves (give_up_if forget S r).requests r (place.Sent (record { 0 = t })) (still_there S.requests (give_up_if forget S r).requests r e (owned_undone (place_of S.requests r) owned)) (as_before S.requests (give_up_if forget S r).requests e k)
-  opened_by (Finish_sending r t) S f s p room comes k =
-      let sent : is_sent (place_of S.requests r) ≡ true = both_left (is_sent (place_of S.requests r)) (is_undone S.targets r) f in
-      moves S.requests r (finished_at (is_forgotten S.targets r) t (place_of S.requests r)) (sent_undone (place_of S.requests r) sent) k
-  opened_by (Come_back r) S f s p room comes k =
-      let sent : is_sent (place_of S.requests r) ≡ true = both_left (is_sent (place_of S.requests r)) (is_some (routine_due S.targets r)) f in
-      moves S.requests r place.Owned (sent_undone (place_of S.requests r) sent) k
-  opened_by (Complete_request r) S f s p room comes k = opened_completed S r k
-  opened_by (Purge_queue q) S f s p room comes k = all_withdrawn q (waiting_in S.queues q) (record S { control = control.set_mode S.control q mode.Purged }) (λ r more. queued_there S q r p more) k
-  opened_by (Close_returning x) S f s p room comes k = all_returning (managed_queues plan x) S k
-  opened_by (Close_device x) S f s p room comes k = all_closed (queues_of plan x) (record S { control = control.shut S.control x }) k
+  opened_by (AskDeletion o) S f s p room comes k = opened_asked S o.0 k
+  opened_by (EndLife o) S f s p room comes k = forgets S.requests o.0 k
+  opened_by (Present q r) S f s p room comes k = moves S.requests r.0 place.Owned (front_there S q.0 r.0 p f) k
+  opened_by (Receive q r) S f s p room comes k = moves S.requests r.0 place.Owned (returning_undone q.0 (place_of S.requests r.0) f) k
+  opened_by (Requeue r q) S f s p room comes k = enters S r.0 q.0 (given_undone S r.0 f) k
+  opened_by (Forward r q) S f s p room comes k = enters S r.0 q.0 (given_undone S r.0 (search both_left)) k
+  opened_by (GiveBack r q) S f s p room comes k =
+      let e : (give_up S r.0).requests ≡ S.requests = given requests_of (λ S Q P. refl) S r.0 in
+      cancelled_in (give_up S r.0) q.0 r.0 (still_there S.requests (give_up S r.0).requests r.0 e (given_undone S r.0 f)) (as_before S.requests (give_up S r.0).requests e k)
+  opened_by (Withdraw q r) S f s p room comes k = cancelled_in S q.0 r.0 (queued_undone q.0 (place_of S.requests r.0) f) k
+  opened_by (MarkRequest r) S f s p room comes k = same_it S.requests r.0 marked (λ e h. marked_it r.0 e e.info.cancelled h) k
+  opened_by (UnmarkRequest r) S f s p room comes k = same_it S.requests r.0 unmarked (λ e h. unmarked_it r.0 e (is_marked e.info.mark) h) k
+  opened_by (CancelRequest r) S f s p room comes k = cancels S.requests r.0 k
+  opened_by (TakeCancel r) S f s p room comes k = same_it S.requests r.0 (with_mark marks.Taken) (λ e h. h) k
+  opened_by (SendRequest r t forget) S f s p room comes k =
+      let owned : is_owned (place_of S.requests r.0) ≡ true = search both_left in
+      let e : (give_up_if forget S r.0).requests ≡ S.requests = given_if requests_of (λ S Q P. refl) S forget r.0 in
+      moves (give_up_if forget S r.0).requests r.0 (place.Sent (record { 0 = t.0 })) (still_there S.requests (give_up_if forget S r.0).requests r.0 e (owned_undone (place_of S.requests r.0) owned)) (as_before S.requests (give_up_if forget S r.0).requests e k)
+  opened_by (FinishSending r t) S f s p room comes k =
+      let sent : is_sent (place_of S.requests r.0) ≡ true = both_left (is_sent (place_of S.requests r.0)) (is_undone S.targets r.0) f in
+      moves S.requests r.0 (finished_at (is_forgotten S.targets r.0) t (place_of S.requests r.0)) (sent_undone (place_of S.requests r.0) sent) k
+  opened_by (ComeBack r) S f s p room comes k =
+      let sent : is_sent (place_of S.requests r.0) ≡ true = both_left (is_sent (place_of S.requests r.0)) (is_some (routine_due S.targets r.0)) f in
+      moves S.requests r.0 place.Owned (sent_undone (place_of S.requests r.0) sent) k
+  opened_by (CompleteRequest r) S f s p room comes k = opened_completed S r.0 k
+  opened_by (PurgeQueue q) S f s p room comes k = all_withdrawn q.0 (waiting_in S.queues q.0) (record S { control = control.set_mode S.control q.0 mode.Purged }) (λ r more. queued_there S q.0 r p more) k
+  opened_by (CloseReturning x) S f s p room comes k = all_returning (managed_queues plan x.0) S k
+  opened_by (CloseDevice x) S f s p room comes k = all_closed (queues_of plan x.0) (record S { control = control.shut S.control x.0 }) k
   opened_by _ S f s p room comes k = k

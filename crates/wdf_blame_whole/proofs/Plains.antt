@@ -24,20 +24,23 @@ use Rattle.wdf_model.specs.Plans.{declares, is_parallel_queue, kind_of_class}
 use Rattle.wdf_model.specs.parts.Queues.{front}
 use Rattle.wdf_model.specs.parts.Requests.{is_cancelled, mark_answer, place_of}
 use Rattle.wdf_model.specs.State.{State, queue_delivers}
-use Rattle.wdf_model.specs.rules.Deeds.{Acknowledge, Arrive, Complete_request, Deed, Enqueue_dpc, Forward, Give_back, Mark_request, Requeue, Send_request}
+use Rattle.wdf_model.specs.Ids.{object_id}
+use Rattle.wdf_model.specs.declared.deed.Deed.{Deed}
+use Rattle.wdf_model.specs.declared.deed.Deed.TheVariants.{Acknowledge, Arrive, CompleteRequest, EnqueueDpc, Forward, GiveBack, MarkRequest, Requeue, SendRequest}
 use Rattle.wdf_model.specs.rules.Faults.{arg_is}
 use Rattle.wdf_model.specs.rules.Calls.{Outcome, acknowledge_outcome, create_outcome, creation, forward_outcome, forwards_nowhere, mark_outcome, may_send, new_handle, number, origin_or_none, requeue_outcome, retrieve_front, retrieve_outcome, refused, second_deeds, send_outcome, success}
 use Rattle.wdf_model.specs.rules.Starts.{effect, effect_for, release_if_any, start_effect, take_if_any}
 use Rattle.wdf_model.specs.rules.Posts.{cancel_at, cancel_deeds}
 use Rattle.wdf_model.proofs.Tests.{both, both_left, both_right}
-use Rattle.wdf_model.specs.rules.Deeds.{Ask_deletion, End_step, do_deed, do_deeds}
+use Rattle.wdf_model.specs.declared.deed.Deed.TheVariants.{AskDeletion, EndStep}
+use Rattle.wdf_model.specs.rules.Deeds.{do_deed, do_deeds}
 use Rattle.wdf_blame_whole.proofs.Standing.{AllComes, Comes}
 
 abbrev pub is_plain : Deed → Bool
-is_plain (Ask_deletion o) = false
-is_plain (Complete_request r) = false
-is_plain (End_step d s v) = false
-is_plain (Enqueue_dpc cpu o) = false
+is_plain (AskDeletion o) = false
+is_plain (CompleteRequest r) = false
+is_plain (EndStep d s v) = false
+is_plain (EnqueueDpc cpu o) = false
 is_plain (Arrive device info p) = false
 is_plain _ = true
 
@@ -45,10 +48,10 @@ abbrev pub all_plain : List Deed → Bool
 all_plain ds = list_all is_plain ds
 
 plain_one : {A : Type 0} (plan : Plan) (d : Deed) (S : State A) → is_plain d ≡ true → Comes plan d S
-plain_one plan (Ask_deletion o) S h = absurd (let z : ⊥ = cc in z)
-plain_one plan (Complete_request r) S h = absurd (let z : ⊥ = cc in z)
-plain_one plan (End_step d s v) S h = absurd (let z : ⊥ = cc in z)
-plain_one plan (Enqueue_dpc cpu o) S h = absurd (let z : ⊥ = cc in z)
+plain_one plan (AskDeletion o) S h = absurd (let z : ⊥ = cc in z)
+plain_one plan (CompleteRequest r) S h = absurd (let z : ⊥ = cc in z)
+plain_one plan (EndStep d s v) S h = absurd (let z : ⊥ = cc in z)
+plain_one plan (EnqueueDpc cpu o) S h = absurd (let z : ⊥ = cc in z)
 plain_one plan (Arrive device info p) S h = absurd (let z : ⊥ = cc in z)
 plain_one plan _ S h = tt
 
@@ -80,24 +83,24 @@ create_plain plan S class parent =
     (creation_plain (kind_of_class plan class) class parent))
 
 pub requeue_plain : {A : Type 0} (S : State A) (r q : ℕ) → all_plain (requeue_outcome S r q).deeds ≡ true
-requeue_plain S r q = either_plain (is_cancelled S.requests r || is_purged (mode_of S.control q)) (success (Give_back r q ∷ [])) (success (Requeue r q ∷ [])) refl refl
+requeue_plain S r q = either_plain (is_cancelled S.requests r || is_purged (mode_of S.control q)) (success (GiveBack (object_id r) (object_id q) ∷ [])) (success (Requeue (object_id r) (object_id q) ∷ [])) refl refl
 
 pub mark_plain : {A : Type 0} (plan : Plan) (S : State A) (r : ℕ) → all_plain (mark_outcome plan S r).deeds ≡ true
 mark_plain plan S r =
-    either_plain (declares plan callback.EvtRequestCancel (origin_or_none S r)) (record { answer = Stat (mark_answer S.requests r); deeds = Mark_request r ∷ [] }) (refused status.InvalidDeviceRequest) refl refl
+    either_plain (declares plan callback.EvtRequestCancel (origin_or_none S r)) (record { answer = Stat (mark_answer S.requests r); deeds = MarkRequest (object_id r) ∷ [] }) (refused status.InvalidDeviceRequest) refl refl
 
 pub forward_plain : {A : Type 0} (plan : Plan) (S : State A) (r q : ℕ) → all_plain (forward_outcome plan S r q).deeds ≡ true
 forward_plain plan S r q =
     either_plain (forwards_nowhere plan S r q) (refused status.InvalidDeviceRequest)
-    (if not (accepts S.control q) then refused status.WdfBusy else if is_cancelled S.requests r then success (Give_back r q ∷ []) else success (Forward r q ∷ [])) refl
-    (either_plain (not (accepts S.control q)) (refused status.WdfBusy) (if is_cancelled S.requests r then success (Give_back r q ∷ []) else success (Forward r q ∷ [])) refl
-    (either_plain (is_cancelled S.requests r) (success (Give_back r q ∷ [])) (success (Forward r q ∷ [])) refl refl))
+    (if not (accepts S.control q) then refused status.WdfBusy else if is_cancelled S.requests r then success (GiveBack (object_id r) (object_id q) ∷ []) else success (Forward (object_id r) (object_id q) ∷ [])) refl
+    (either_plain (not (accepts S.control q)) (refused status.WdfBusy) (if is_cancelled S.requests r then success (GiveBack (object_id r) (object_id q) ∷ []) else success (Forward (object_id r) (object_id q) ∷ [])) refl
+    (either_plain (is_cancelled S.requests r) (success (GiveBack (object_id r) (object_id q) ∷ [])) (success (Forward (object_id r) (object_id q) ∷ [])) refl refl))
 
 pub acknowledge_plain : {A : Type 0} (S : State A) (r : ℕ) (b : Arg) → all_plain (acknowledge_outcome S r b).deeds ≡ true
-acknowledge_plain S r b = either_plain (arg_is b 0) (success (Acknowledge r ∷ [])) (requeue_outcome S r (origin_or_none S r)) refl (requeue_plain S r (origin_or_none S r))
+acknowledge_plain S r b = either_plain (arg_is b 0) (success (Acknowledge (object_id r) ∷ [])) (requeue_outcome S r (origin_or_none S r)) refl (requeue_plain S r (origin_or_none S r))
 
 pub send_plain : {A : Type 0} (S : State A) (r t : ℕ) (forget : Bool) → all_plain (send_outcome S r t forget).deeds ≡ true
-send_plain S r t forget = either_plain (may_send S r t) (number 1 (Send_request r t forget ∷ [])) (number 0 []) refl refl
+send_plain S r t forget = either_plain (may_send S r t) (number 1 (SendRequest (object_id r) (object_id t) forget ∷ [])) (number 0 []) refl refl
 
 front_plain : {A : Type 0} (plan : Plan) (S : State A) (q : ℕ) (there : Option ℕ) → all_plain (retrieve_front plan S q there).deeds ≡ true
 front_plain plan S q None = refl

@@ -41,8 +41,11 @@ use Rattle.wdf_model.specs.parts.Pnp as pnp
 use Rattle.wdf_model.specs.State.{State, declared_in, is_proper, opening}
 use Rattle.wdf_model.specs.laws.Agreement.{is_sequence}
 use Rattle.wdf_model.specs.laws.Fits.{all_fit, fits}
+use Rattle.wdf_model.specs.Ids.{cpu_of, frame_id, irql_of, object_id}
 use Rattle.wdf_model.specs.rules.Calls.{outcome, second_deeds}
-use Rattle.wdf_model.specs.rules.Deeds.{Deed, Advance_power, Disable_interrupt, End_step, Go_on, Pop_frame, Push_frame, Take_step, do_deed, do_deeds}
+use Rattle.wdf_model.specs.declared.deed.Deed.{Deed}
+use Rattle.wdf_model.specs.declared.deed.Deed.TheVariants.{AdvancePower, DisableInterrupt, EndStep, GoOn, PopFrame, PushFrame, TakeStep}
+use Rattle.wdf_model.specs.rules.Deeds.{do_deed, do_deeds}
 use Rattle.wdf_model.specs.rules.Posts.{post_deeds}
 use Rattle.wdf_model.specs.rules.Ready.{IsRunOf, state_after}
 use Rattle.wdf_model.specs.rules.Script.{intent_of}
@@ -74,18 +77,18 @@ use Rattle.wdf_blame_whole.proofs.Quieting.{AllServes, Quieting, Serves, quietin
 -- ---- deeds of which nothing is asked
 
 abbrev is_calm : Deed → Bool
-is_calm (Take_step d) = false
-is_calm (End_step d s v) = false
-is_calm (Disable_interrupt i) = false
+is_calm (TakeStep d) = false
+is_calm (EndStep d s v) = false
+is_calm (DisableInterrupt i) = false
 is_calm _ = true
 
 abbrev all_calm : List Deed → Bool
 all_calm ds = list_all is_calm ds
 
 calm_one : {A : Type 0} (plan : Plan) (d : Deed) (S : State A) → is_calm d ≡ true → Serves plan d S
-calm_one plan (Take_step d) S h = absurd (let z : ⊥ = cc in z)
-calm_one plan (End_step d s v) S h = absurd (let z : ⊥ = cc in z)
-calm_one plan (Disable_interrupt i) S h = absurd (let z : ⊥ = cc in z)
+calm_one plan (TakeStep d) S h = absurd (let z : ⊥ = cc in z)
+calm_one plan (EndStep d s v) S h = absurd (let z : ⊥ = cc in z)
+calm_one plan (DisableInterrupt i) S h = absurd (let z : ⊥ = cc in z)
 calm_one plan _ S h = tt
 
 calm_serves : {A : Type 0} (plan : Plan) (ds : List Deed) (S : State A) → all_calm ds ≡ true → AllServes plan ds S
@@ -93,9 +96,9 @@ calm_serves plan [] S h = tt
 calm_serves plan (d ∷ ds) S h = (calm_one plan d S (both_left (is_calm d) (all_calm ds) h), calm_serves plan ds (do_deed plan d S) (both_right (is_calm d) (all_calm ds) h))
 
 calm_of : (d : Deed) → not (is_moving d) ≡ true → is_calm d ≡ true
-calm_of (Take_step d) h = absurd (let z : ⊥ = cc in z)
-calm_of (End_step d s v) h = absurd (let z : ⊥ = cc in z)
-calm_of (Disable_interrupt i) h = absurd (let z : ⊥ = cc in z)
+calm_of (TakeStep d) h = absurd (let z : ⊥ = cc in z)
+calm_of (EndStep d s v) h = absurd (let z : ⊥ = cc in z)
+calm_of (DisableInterrupt i) h = absurd (let z : ⊥ = cc in z)
 calm_of _ h = refl
 
 none_calm : (ds : List Deed) → none_moves ds ≡ true → all_calm ds ≡ true
@@ -160,7 +163,7 @@ module _ {A : Type 0} (plan : Plan) (m : Meaning A) (S : State A) (facts : Facts
   starts cpu c o r may_come =
       let ready : is_ready_for plan m S cpu c o.id.0 r ≡ true = search (both_left, both_right) in
       let l : Option LockRef = lock_of_callback plan c o.id.0 (declared_in plan S o.id.0) in
-      serves_behind plan (start_effect plan S cpu c o.id.0 r) (Push_frame cpu (next_number S) (new_frame plan S c o r) (callback_irql plan c o.id.0) ∷ take_if_any (next_number S) l) S
+      serves_behind plan (start_effect plan S cpu c o.id.0 r) (PushFrame (cpu_of cpu) (frame_id (next_number S)) (new_frame plan S c o r) (irql_of (callback_irql plan c o.id.0)) ∷ take_if_any (next_number S) l) S
       (begins_by cpu c o.id.0 r ready) (tt, taking_calm (next_number S) l _)
 
   -- ---- callbacks end
@@ -181,7 +184,7 @@ module _ {A : Type 0} (plan : Plan) (m : Meaning A) (S : State A) (facts : Facts
       ((c, r.0, _, refl, ap (λ Q. running_step Q (nearest_device S.tree o.id.0)) e ∙ r.1), tt)
   ending c o v _ U e h = tt
 
-  ends_by : (cpu : ℕ) (l : Option LockRef) (es : List Deed) → ((U : State A) → U.pnp ≡ S.pnp → AllServes plan es U) → AllServes plan (release_if_any l ++ Pop_frame cpu ∷ es) S
+  ends_by : (cpu : ℕ) (l : Option LockRef) (es : List Deed) → ((U : State A) → U.pnp ≡ S.pnp → AllServes plan es U) → AllServes plan (release_if_any l ++ PopFrame (cpu_of cpu) ∷ es) S
   ends_by cpu None es h = (tt, h _ refl)
   ends_by cpu (Some l) es h = (tt, (tt, h _ refl))
 
@@ -206,7 +209,7 @@ module _ {A : Type 0} (plan : Plan) (m : Meaning A) (S : State A) (facts : Facts
       stage_of : Some (step.Pass s j) ≡ Some (step.Pass t l) → s ≡ t
       stage_of q = cc
 
-  takes_well : (n : ℕ) (s : Stage) (j : Option Handle) → may_pass plan S n s j ≡ true → Serves plan (Take_step n) S
+  takes_well : (n : ℕ) (s : Stage) (j : Option Handle) → may_pass plan S n s j ≡ true → Serves plan (TakeStep (object_id n)) S
   takes_well n s j may_come =
       let ready : step_ready S n (step.Pass s j) ≡ true = both_left (step_ready S n (step.Pass s j)) (stage_ready plan S n s j) may_come in
       let staged : stage_ready plan S n s j ≡ true = both_right (step_ready S n (step.Pass s j)) (stage_ready plan S n s j) may_come in (
@@ -217,7 +220,7 @@ module _ {A : Type 0} (plan : Plan) (m : Meaning A) (S : State A) (facts : Facts
       )
 
   -- the interrupt that is disabled is one of the device
-  disables_well : (n : ℕ) (j : Option Handle) → may_pass plan S n stage.Disabled j ≡ true → Serves plan (Disable_interrupt (handle_id j)) (do_deeds plan (Take_step n ∷ Advance_power n (step.Pass stage.Disabled j) ∷ []) S)
+  disables_well : (n : ℕ) (j : Option Handle) → may_pass plan S n stage.Disabled j ≡ true → Serves plan (DisableInterrupt (object_id (handle_id j))) (do_deeds plan (TakeStep (object_id n) ∷ AdvancePower (object_id n) (step.Pass stage.Disabled j) ∷ []) S)
   disables_well n None may_come = λ d is. absurd (let z : ⊥ = cc in z)
   disables_well n (Some i) may_come = λ d is.
       let ready : step_ready S n (step.Pass stage.Disabled (Some i)) ≡ true = both_left (step_ready S n (step.Pass stage.Disabled (Some i))) (stage_ready plan S n stage.Disabled (Some i)) may_come in
@@ -265,19 +268,19 @@ module _ {A : Type 0} (plan : Plan) (m : Meaning A) (S : State A) (facts : Facts
       ends_by cpu.0 (lock_of_callback plan c o.id.0 (declared_in plan S o.id.0)) (end_of_step plan S (row_of c).rank c o.id.0 v) (λ U e. ending c o v (row_of c).rank U e (step_ends cpu.0 c o v t))
   event_serves (event.Stage n s j) h = effects n.id.0 s j (both_right (is_proper plan S n) (may_pass plan S n.id.0 s j) h)
   event_serves (event.Posted agent p answer) h = posts agent p
-  event_serves (event.Local cpu line) h = none_serves plan _ S (by_top_none (λ g frame. Go_on g (stepped frame (intent_of plan frame)) ∷ []) (λ g frame. refl) (top S.cpus cpu.0))
-  event_serves (event.Log cpu v) h = none_serves plan _ S (by_top_none (λ g frame. Go_on g (goes_on plan frame) ∷ []) (λ g frame. refl) (top S.cpus cpu.0))
-  event_serves (event.Spend cpu n) h = none_serves plan _ S (by_top_none (λ g frame. Go_on g (spending plan S frame n) ∷ []) (λ g frame. refl) (top S.cpus cpu.0))
-  event_serves (event.Register cpu a r v) h = none_serves plan _ S (by_top_none (λ g frame. Go_on g (answered plan frame (Num v)) ∷ []) (λ g frame. refl) (top S.cpus cpu.0))
+  event_serves (event.Local cpu line) h = none_serves plan _ S (by_top_none (λ g frame. GoOn (frame_id g) (stepped frame (intent_of plan frame)) ∷ []) (λ g frame. refl) (top S.cpus cpu.0))
+  event_serves (event.Log cpu v) h = none_serves plan _ S (by_top_none (λ g frame. GoOn (frame_id g) (goes_on plan frame) ∷ []) (λ g frame. refl) (top S.cpus cpu.0))
+  event_serves (event.Spend cpu n) h = none_serves plan _ S (by_top_none (λ g frame. GoOn (frame_id g) (spending plan S frame n) ∷ []) (λ g frame. refl) (top S.cpus cpu.0))
+  event_serves (event.Register cpu a r v) h = none_serves plan _ S (by_top_none (λ g frame. GoOn (frame_id g) (answered plan frame (Num v)) ∷ []) (λ g frame. refl) (top S.cpus cpu.0))
   event_serves (event.Did cpu c v) h =
       none_serves plan _ S (by_top_none (did_deeds plan S cpu.0 c v)
-      (λ g frame. none_behind ((outcome plan S cpu.0 g c).deeds ++ second_deeds g c) (Go_on g (answered plan frame v) ∷ [])
+      (λ g frame. none_behind ((outcome plan S cpu.0 g c).deeds ++ second_deeds g c) (GoOn (frame_id g) (answered plan frame v) ∷ [])
       (none_behind (outcome plan S cpu.0 g c).deeds (second_deeds g c) (outcome_none plan S cpu.0 g c.kind c.count c.a c.b c.c) (second_none g c.kind c.count c.a c.b c.c)) refl) (top S.cpus cpu.0))
   event_serves (event.Waiting cpu c) h =
       none_serves plan _ S (by_top_none (waiting_deeds plan S cpu.0 c)
-      (λ g frame. none_behind (outcome plan S cpu.0 g c).deeds (Go_on g (waiting frame c (outcome plan S cpu.0 g c).answer) ∷ []) (outcome_none plan S cpu.0 g c.kind c.count c.a c.b c.c) refl) (top S.cpus cpu.0))
+      (λ g frame. none_behind (outcome plan S cpu.0 g c).deeds (GoOn (frame_id g) (waiting frame c (outcome plan S cpu.0 g c).answer) ∷ []) (outcome_none plan S cpu.0 g c.kind c.count c.a c.b c.c) refl) (top S.cpus cpu.0))
   event_serves (event.Woke cpu c v) h =
-      none_serves plan _ S (by_top_none (woke_deeds plan c v) (λ g frame. none_behind (second_deeds g c) (Go_on g (answered plan frame v) ∷ []) (second_none g c.kind c.count c.a c.b c.c) refl) (top S.cpus cpu.0))
+      none_serves plan _ S (by_top_none (woke_deeds plan c v) (λ g frame. none_behind (second_deeds g c) (GoOn (frame_id g) (answered plan frame v) ∷ []) (second_none g c.kind c.count c.a c.b c.c) refl) (top S.cpus cpu.0))
   event_serves e h = calm_serves plan (deeds plan S e) S refl
 
 -- ---- each place of a run

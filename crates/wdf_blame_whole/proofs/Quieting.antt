@@ -27,7 +27,10 @@ use Rattle.wdf_model.specs.parts.Interrupts.{Interrupts, is_enabled}
 use Rattle.wdf_model.specs.parts.Interrupts as interrupts
 use Rattle.wdf_model.specs.parts.Pnp.{Pnp, Sequence, busy, is_running_step, left_after, next_step, no_sequence, running_step, sequence_of, steps_for, steps_left, taken_step, with_sequence}
 use Rattle.wdf_model.specs.State.{State}
-use Rattle.wdf_model.specs.rules.Deeds.{Deed, Arrive, Ask_deletion, Requeue, Forward, Give_back, Send_request, Complete_request, Purge_queue, Close_returning, Close_device, Ask_device, Take_step, End_step, Enable_interrupt, Disable_interrupt, Enqueue_dpc, Cancel_dpc, Take_dpc, arrive_at, ask_object, do_deed, give_up}
+use Rattle.wdf_model.specs.Ids.{object_id}
+use Rattle.wdf_model.specs.declared.deed.Deed.{Deed}
+use Rattle.wdf_model.specs.declared.deed.Deed.TheVariants.{Arrive, AskDeletion, Requeue, Forward, GiveBack, SendRequest, CompleteRequest, PurgeQueue, CloseReturning, CloseDevice, AskDevice, TakeStep, EndStep, EnableInterrupt, DisableInterrupt, EnqueueDpc, CancelDpc, TakeDpc}
+use Rattle.wdf_model.specs.rules.Deeds.{arrive_at, ask_object, do_deed, give_up}
 use Rattle.wdf_model.specs.laws.Fits.{fits}
 use Rattle.wdf_model.proofs.Tests.{either_false, first, not_false, not_true, second}
 use Rattle.wdf_model.proofs.Maps.{entry_put_other, entry_put_same}
@@ -48,9 +51,9 @@ pub record Quieting {A : Type 0} (plan : Plan) (S : State A) : Type 0 where
 
 -- what is so where a deed is done
 abbrev pub Serves : {A : Type 0} → Plan → Deed → State A → Type 0
-Serves plan (Take_step d) S = (running_step S.pnp d ≡ None) × ((j : Option Handle) (i : ℕ) → next_step S.pnp d ≡ Some (step.Pass stage.Quiet j) → is_interrupt_of d (interrupt_of plan i) ≡ true → is_dpc_queued S.dpcs i ≡ false)
-Serves plan (End_step d s v) S = (c : Callback) × (j : Option Handle) × (l : Option Handle) × (s ≡ step.Run c l) × (running_step S.pnp d ≡ Some (step.Run c j))
-Serves plan (Disable_interrupt i) S = (d : ℕ) → is_interrupt_of d (interrupt_of plan i) ≡ true → comes_soon (steps_left S.pnp d) ≡ true
+Serves plan (TakeStep d) S = (running_step S.pnp d.0 ≡ None) × ((j : Option Handle) (i : ℕ) → next_step S.pnp d.0 ≡ Some (step.Pass stage.Quiet j) → is_interrupt_of d.0 (interrupt_of plan i) ≡ true → is_dpc_queued S.dpcs i ≡ false)
+Serves plan (EndStep d s v) S = (c : Callback) × (j : Option Handle) × (l : Option Handle) × (s ≡ step.Run c l) × (running_step S.pnp d.0 ≡ Some (step.Run c j))
+Serves plan (DisableInterrupt i) S = (d : ℕ) → is_interrupt_of d (interrupt_of plan i.0) ≡ true → comes_soon (steps_left S.pnp d) ≡ true
 Serves plan _ S = ⊤
 
 abbrev pub AllServes : {A : Type 0} → Plan → List Deed → State A → Type 0
@@ -67,11 +70,11 @@ abbrev watched_of : {A : Type 0} → State A → Watched
 watched_of S = record { pnp = S.pnp; interrupts = S.interrupts }
 
 abbrev moves : Deed → Bool
-moves (Ask_device d a) = true
-moves (Take_step d) = true
-moves (End_step d s v) = true
-moves (Enable_interrupt i) = true
-moves (Disable_interrupt i) = true
+moves (AskDevice d a) = true
+moves (TakeStep d) = true
+moves (EndStep d s v) = true
+moves (EnableInterrupt i) = true
+moves (DisableInterrupt i) = true
 moves _ = false
 
 arrived : {A : Type 0} (S : State A) (device : ℕ) (info : RequestInfo) (p : Place) → watched_of (arrive_at S device info p) ≡ watched_of S
@@ -79,22 +82,22 @@ arrived S device info (place.Queued q) = refl
 arrived S device info _ = refl
 
 still_watched : {A : Type 0} (plan : Plan) (d : Deed) (S : State A) → moves d ≡ false → watched_of (do_deed plan d S) ≡ watched_of S
-still_watched plan (Ask_device d a) S h = absurd (let z : ⊥ = cc in z)
-still_watched plan (Take_step d) S h = absurd (let z : ⊥ = cc in z)
-still_watched plan (End_step d s v) S h = absurd (let z : ⊥ = cc in z)
-still_watched plan (Enable_interrupt i) S h = absurd (let z : ⊥ = cc in z)
-still_watched plan (Disable_interrupt i) S h = absurd (let z : ⊥ = cc in z)
-still_watched plan (Arrive device info p) S h = arrived S device info p
-still_watched plan (Ask_deletion o) S h = asks_all watched_of (λ S T D W U. refl) (subtree S.tree o) S
-still_watched plan (Requeue r p) S h = gives_up watched_of (λ S Q R P. refl) S r
-still_watched plan (Forward r p) S h = gives_up watched_of (λ S Q R P. refl) S r
-still_watched plan (Give_back r p) S h = gives_up watched_of (λ S Q R P. refl) S r
-still_watched plan (Send_request r t forget) S h = gives_up_if watched_of (λ S Q R P. refl) S forget r
-still_watched plan (Complete_request r) S h =
-    asks_all watched_of (λ S T D W U. refl) (subtree (give_up S r).tree r) (record (give_up S r) { requests = requests.complete S.requests r }) ∙ gives_up watched_of (λ S Q R P. refl) S r
-still_watched plan (Purge_queue p) S h = withdraws watched_of (λ S Q R P. refl) plan p (waiting_in S.queues p) (record S { control = control.set_mode S.control p mode.Purged })
-still_watched plan (Close_returning d) S h = returns_closed watched_of (λ S Q R P. refl) (managed_queues plan d) S
-still_watched plan (Close_device d) S h = queues_closed watched_of (λ S Q R P. refl) (queues_of plan d) (record S { control = control.shut S.control d })
+still_watched plan (AskDevice d a) S h = absurd (let z : ⊥ = cc in z)
+still_watched plan (TakeStep d) S h = absurd (let z : ⊥ = cc in z)
+still_watched plan (EndStep d s v) S h = absurd (let z : ⊥ = cc in z)
+still_watched plan (EnableInterrupt i) S h = absurd (let z : ⊥ = cc in z)
+still_watched plan (DisableInterrupt i) S h = absurd (let z : ⊥ = cc in z)
+still_watched plan (Arrive device info p) S h = arrived S device.0 info p
+still_watched plan (AskDeletion o) S h = asks_all watched_of (λ S T D W U. refl) (subtree S.tree o.0) S
+still_watched plan (Requeue r p) S h = gives_up watched_of (λ S Q R P. refl) S r.0
+still_watched plan (Forward r p) S h = gives_up watched_of (λ S Q R P. refl) S r.0
+still_watched plan (GiveBack r p) S h = gives_up watched_of (λ S Q R P. refl) S r.0
+still_watched plan (SendRequest r t forget) S h = gives_up_if watched_of (λ S Q R P. refl) S forget r.0
+still_watched plan (CompleteRequest r) S h =
+    asks_all watched_of (λ S T D W U. refl) (subtree (give_up S r.0).tree r.0) (record (give_up S r.0) { requests = requests.complete S.requests r.0 }) ∙ gives_up watched_of (λ S Q R P. refl) S r.0
+still_watched plan (PurgeQueue p) S h = withdraws watched_of (λ S Q R P. refl) plan p.0 (waiting_in S.queues p.0) (record S { control = control.set_mode S.control p.0 mode.Purged })
+still_watched plan (CloseReturning d) S h = returns_closed watched_of (λ S Q R P. refl) (managed_queues plan d.0) S
+still_watched plan (CloseDevice d) S h = queues_closed watched_of (λ S Q R P. refl) (queues_of plan d.0) (record S { control = control.shut S.control d.0 })
 still_watched plan _ S h = refl
 
 -- what is queued after a deed was queued, or is an enabled interrupt's, or no interrupt's
@@ -120,23 +123,23 @@ arrived_dpcs S device info (place.Queued q) = refl
 arrived_dpcs S device info _ = refl
 
 was_queued : {A : Type 0} (plan : Plan) (d : Deed) (S : State A) → Comes plan d S → WasQueued plan S (do_deed plan d S).dpcs
-was_queued plan (Enqueue_dpc cpu o) S c = λ x h. elim (dpc_enqueued S.dpcs cpu o x h) [
+was_queued plan (EnqueueDpc cpu o) S c = λ x h. elim (dpc_enqueued S.dpcs cpu.0 o.0 x h) [
   | inl y ↦ inl y
   | inr y ↦ inr (λ is. ap (is_enabled S.interrupts) y ∙ c.1 (ap (λ z. is_some (interrupt_of plan z)) (sym y) ∙ is))
 ]
-was_queued plan (Cancel_dpc o) S c = λ x h. inl (dpc_cancelled S.dpcs o x h).0
-was_queued plan (Take_dpc cpu) S c = λ x h. inl (dpc_taken S.dpcs cpu x h)
-was_queued plan (Ask_deletion o) S c = λ x h. inl (fewer (subtree S.tree o) S x h)
-was_queued plan (Complete_request r) S c = λ x h.
-    inl (ap (λ D. is_dpc_queued D x) (sym (gives_up dpcs_in (λ S Q R P. refl) S r)) ∙ fewer (subtree (give_up S r).tree r) (record (give_up S r) { requests = requests.complete S.requests r }) x h)
-was_queued plan (Arrive device info p) S c = same_dpcs plan S _ (arrived_dpcs S device info p)
-was_queued plan (Requeue r q) S c = same_dpcs plan S _ (gives_up dpcs_in (λ S Q R P. refl) S r)
-was_queued plan (Forward r q) S c = same_dpcs plan S _ (gives_up dpcs_in (λ S Q R P. refl) S r)
-was_queued plan (Give_back r q) S c = same_dpcs plan S _ (gives_up dpcs_in (λ S Q R P. refl) S r)
-was_queued plan (Send_request r t forget) S c = same_dpcs plan S _ (gives_up_if dpcs_in (λ S Q R P. refl) S forget r)
-was_queued plan (Purge_queue q) S c = same_dpcs plan S _ (withdraws dpcs_in (λ S Q R P. refl) plan q (waiting_in S.queues q) (record S { control = control.set_mode S.control q mode.Purged }))
-was_queued plan (Close_returning d) S c = same_dpcs plan S _ (returns_closed dpcs_in (λ S Q R P. refl) (managed_queues plan d) S)
-was_queued plan (Close_device d) S c = same_dpcs plan S _ (queues_closed dpcs_in (λ S Q R P. refl) (queues_of plan d) (record S { control = control.shut S.control d }))
+was_queued plan (CancelDpc o) S c = λ x h. inl (dpc_cancelled S.dpcs o.0 x h).0
+was_queued plan (TakeDpc cpu) S c = λ x h. inl (dpc_taken S.dpcs cpu.0 x h)
+was_queued plan (AskDeletion o) S c = λ x h. inl (fewer (subtree S.tree o.0) S x h)
+was_queued plan (CompleteRequest r) S c = λ x h.
+    inl (ap (λ D. is_dpc_queued D x) (sym (gives_up dpcs_in (λ S Q R P. refl) S r.0)) ∙ fewer (subtree (give_up S r.0).tree r.0) (record (give_up S r.0) { requests = requests.complete S.requests r.0 }) x h)
+was_queued plan (Arrive device info p) S c = same_dpcs plan S _ (arrived_dpcs S device.0 info p)
+was_queued plan (Requeue r q) S c = same_dpcs plan S _ (gives_up dpcs_in (λ S Q R P. refl) S r.0)
+was_queued plan (Forward r q) S c = same_dpcs plan S _ (gives_up dpcs_in (λ S Q R P. refl) S r.0)
+was_queued plan (GiveBack r q) S c = same_dpcs plan S _ (gives_up dpcs_in (λ S Q R P. refl) S r.0)
+was_queued plan (SendRequest r t forget) S c = same_dpcs plan S _ (gives_up_if dpcs_in (λ S Q R P. refl) S forget r.0)
+was_queued plan (PurgeQueue q) S c = same_dpcs plan S _ (withdraws dpcs_in (λ S Q R P. refl) plan q.0 (waiting_in S.queues q.0) (record S { control = control.set_mode S.control q.0 mode.Purged }))
+was_queued plan (CloseReturning d) S c = same_dpcs plan S _ (returns_closed dpcs_in (λ S Q R P. refl) (managed_queues plan d.0) S)
+was_queued plan (CloseDevice d) S c = same_dpcs plan S _ (queues_closed dpcs_in (λ S Q R P. refl) (queues_of plan d.0) (record S { control = control.shut S.control d.0 }))
 was_queued plan _ S c = same_dpcs plan S S.dpcs refl
 
 some_interrupt : (d : ℕ) (x : Option InterruptInfo) → is_interrupt_of d x ≡ true → is_some x ≡ true
@@ -196,7 +199,7 @@ soon_taken q (step.Pass s j ∷ ss) a e no_quiet h =
 left_by : (ss : List Step) (a : Bool) → (a || comes_soon []) ≡ true → (a || comes_soon ss) ≡ true
 left_by ss a h = first a (comes_soon ss) (or_left a false refl h)
 
-asks : {A : Type 0} (plan : Plan) (n : ℕ) (a : Ask) (S : State A) → fits plan (Ask_device n a) S ≡ true → Quieting plan S → Quieting plan (do_deed plan (Ask_device n a) S)
+asks : {A : Type 0} (plan : Plan) (n : ℕ) (a : Ask) (S : State A) → fits plan (AskDevice (object_id n) a) S ≡ true → Quieting plan S → Quieting plan (do_deed plan (AskDevice (object_id n) a) S)
 asks plan n a S f k =
     let q : Sequence = sequence_of S.pnp n in
     let parts = either_false (is_running_step S.pnp n) (not (length (steps_left S.pnp n) == 0)) (not_true (busy S.pnp n) f) in
@@ -209,14 +212,14 @@ asks plan n a S f k =
     no_steps [] x = refl
     no_steps (s ∷ ss) x = let e : length (s ∷ ss) ≡ 0 = eqb-true (length (s ∷ ss)) 0 (not_false (length (s ∷ ss) == 0) x) in absurd (omega arith)
 
-takes : {A : Type 0} (plan : Plan) (n : ℕ) (S : State A) → Serves plan (Take_step n) S → Quieting plan S → Quieting plan (do_deed plan (Take_step n) S)
+takes : {A : Type 0} (plan : Plan) (n : ℕ) (S : State A) → Serves plan (TakeStep (object_id n)) S → Quieting plan S → Quieting plan (do_deed plan (TakeStep (object_id n)) S)
 takes plan n S s k =
     let q : Sequence = sequence_of S.pnp n in
     moves_one plan S n taken_step (steady_taken q s.0 (k.steady n))
     (λ i is h. soon_taken q q.left (is_enabled S.interrupts i) refl
     (λ j ts e. let off : is_dpc_queued S.dpcs i ≡ false = s.1 j i (ap first_of_list e) is in let z : ⊥ = cc in z) (k.dpcs n i is h)) k
 
-ends : {A : Type 0} (plan : Plan) (n : ℕ) (s : Step) (v : Value) (S : State A) → Serves plan (End_step n s v) S → Quieting plan S → Quieting plan (do_deed plan (End_step n s v) S)
+ends : {A : Type 0} (plan : Plan) (n : ℕ) (s : Step) (v : Value) (S : State A) → Serves plan (EndStep (object_id n) s v) S → Quieting plan S → Quieting plan (do_deed plan (EndStep (object_id n) s v) S)
 ends plan n s v S t k =
     let q : Sequence = sequence_of S.pnp n in
     let c : Callback = t.0 in
@@ -235,7 +238,7 @@ enabled_more I i x h = elim (one_or_two x i) [
   | inr n ↦ entry_put_other false I.enabled i x true n ∙ h
 ]
 
-enables : {A : Type 0} (plan : Plan) (i : ℕ) (S : State A) → Quieting plan S → Quieting plan (do_deed plan (Enable_interrupt i) S)
+enables : {A : Type 0} (plan : Plan) (i : ℕ) (S : State A) → Quieting plan S → Quieting plan (do_deed plan (EnableInterrupt (object_id i)) S)
 enables plan i S k = record {
   steady = k.steady;
   dpcs = λ d x is h. elim (or_cases (is_enabled S.interrupts x) (comes_soon (steps_left S.pnp d)) (k.dpcs d x is h)) [
@@ -244,7 +247,7 @@ enables plan i S k = record {
   ];
 }
 
-disables : {A : Type 0} (plan : Plan) (i : ℕ) (S : State A) → Serves plan (Disable_interrupt i) S → Quieting plan S → Quieting plan (do_deed plan (Disable_interrupt i) S)
+disables : {A : Type 0} (plan : Plan) (i : ℕ) (S : State A) → Serves plan (DisableInterrupt (object_id i)) S → Quieting plan S → Quieting plan (do_deed plan (DisableInterrupt (object_id i)) S)
 disables plan i S s k = record {
   steady = k.steady;
   dpcs = λ d x is h. elim (one_or_two x i) [
@@ -256,9 +259,9 @@ disables plan i S s k = record {
 -- ---- each deed
 
 pub quieting_by : {A : Type 0} (plan : Plan) (d : Deed) (S : State A) → fits plan d S ≡ true → Comes plan d S → Serves plan d S → Quieting plan S → Quieting plan (do_deed plan d S)
-quieting_by plan (Ask_device n a) S f c s k = asks plan n a S f k
-quieting_by plan (Take_step n) S f c s k = takes plan n S s k
-quieting_by plan (End_step n st v) S f c s k = ends plan n st v S s k
-quieting_by plan (Enable_interrupt i) S f c s k = enables plan i S k
-quieting_by plan (Disable_interrupt i) S f c s k = disables plan i S s k
+quieting_by plan (AskDevice n a) S f c s k = asks plan n.0 a S f k
+quieting_by plan (TakeStep n) S f c s k = takes plan n.0 S s k
+quieting_by plan (EndStep n st v) S f c s k = ends plan n.0 st v S s k
+quieting_by plan (EnableInterrupt i) S f c s k = enables plan i.0 S k
+quieting_by plan (DisableInterrupt i) S f c s k = disables plan i.0 S s k
 quieting_by plan d S f c s k = without_moves plan d S refl c k

@@ -25,7 +25,9 @@ use Rattle.wdf_model.specs.parts.Control as control
 use Rattle.wdf_model.specs.parts.Power.{Power, advance_stage, holding_of, is_held, is_held_at, no_holding, no_queue_power, opening_power, opening_queue_power, queue_power, with_up, woken}
 use Rattle.wdf_model.specs.parts.Power as power
 use Rattle.wdf_model.specs.State.{State, is_with_driver}
-use Rattle.wdf_model.specs.rules.Deeds.{Deed, Arrive, Ask_deletion, Present, Receive, Requeue, Forward, Give_back, Send_request, Complete_request, Purge_queue, Close_returning, Close_device, Advance_power, arrive_at, close_queue, close_returning, do_deed, give_up, give_up_if, withdraw}
+use Rattle.wdf_model.specs.declared.deed.Deed.{Deed}
+use Rattle.wdf_model.specs.declared.deed.Deed.TheVariants.{Arrive, AskDeletion, Present, Receive, Requeue, Forward, GiveBack, SendRequest, CompleteRequest, PurgeQueue, CloseReturning, CloseDevice, AdvancePower}
+use Rattle.wdf_model.specs.rules.Deeds.{arrive_at, close_queue, close_returning, do_deed, give_up, give_up_if, withdraw}
 use Rattle.wdf_model.specs.rules.Ready.{IsRunOf, state_after}
 use Rattle.wdf_model.proofs.Maps.{entry_map}
 use Rattle.wdf_model.proofs.Tests.{both_right}
@@ -81,21 +83,21 @@ abbrev power_of : {A : Type 0} → State A → Power
 power_of S = S.power
 
 still_noted : {A : Type 0} (plan : Plan) (d : Deed) (S : State A) → (do_deed plan d S).power.queues ≡ S.power.queues
-still_noted plan (Present q r) S = held_by S.power r q (is_managed plan q)
-still_noted plan (Receive q r) S = held_by S.power r q (is_managed plan q)
-still_noted plan (Requeue r q) S = given S r
-still_noted plan (Forward r q) S = given S r
-still_noted plan (Give_back r q) S = given S r
-still_noted plan (Send_request r t forget) S = given_if S forget r
-still_noted plan (Complete_request r) S =
-    ap (λ (P : Power). P.queues) (asks_all power_of (λ S T D W U. refl) (subtree (give_up S r).tree r) (record (give_up S r) { requests = requests.complete S.requests r })) ∙ given S r
-still_noted plan (Arrive device info p) S = ap (λ (P : Power). P.queues) (arrived S device info p)
-still_noted plan (Ask_deletion o) S = ap (λ (P : Power). P.queues) (asks_all power_of (λ S T D W U. refl) (subtree S.tree o) S)
-still_noted plan (Purge_queue q) S = ap (λ (P : Power). P.queues) (withdrawn plan q (waiting_in S.queues q) (record S { control = control.set_mode S.control q mode.Purged }))
-still_noted plan (Close_returning d) S = ap (λ (P : Power). P.queues) (returned (managed_queues plan d) S)
-still_noted plan (Close_device d) S = ap (λ (P : Power). P.queues) (closed (queues_of plan d) (record S { control = control.shut S.control d }))
-still_noted plan (Advance_power d (step.Run c i)) S = refl
-still_noted plan (Advance_power d (step.Pass s i)) S = advanced S.power d s
+still_noted plan (Present q r) S = held_by S.power r.0 q.0 (is_managed plan q.0)
+still_noted plan (Receive q r) S = held_by S.power r.0 q.0 (is_managed plan q.0)
+still_noted plan (Requeue r q) S = given S r.0
+still_noted plan (Forward r q) S = given S r.0
+still_noted plan (GiveBack r q) S = given S r.0
+still_noted plan (SendRequest r t forget) S = given_if S forget r.0
+still_noted plan (CompleteRequest r) S =
+    ap (λ (P : Power). P.queues) (asks_all power_of (λ S T D W U. refl) (subtree (give_up S r.0).tree r.0) (record (give_up S r.0) { requests = requests.complete S.requests r.0 })) ∙ given S r.0
+still_noted plan (Arrive device info p) S = ap (λ (P : Power). P.queues) (arrived S device.0 info p)
+still_noted plan (AskDeletion o) S = ap (λ (P : Power). P.queues) (asks_all power_of (λ S T D W U. refl) (subtree S.tree o.0) S)
+still_noted plan (PurgeQueue q) S = ap (λ (P : Power). P.queues) (withdrawn plan q.0 (waiting_in S.queues q.0) (record S { control = control.set_mode S.control q.0 mode.Purged }))
+still_noted plan (CloseReturning d) S = ap (λ (P : Power). P.queues) (returned (managed_queues plan d.0) S)
+still_noted plan (CloseDevice d) S = ap (λ (P : Power). P.queues) (closed (queues_of plan d.0) (record S { control = control.shut S.control d.0 }))
+still_noted plan (AdvancePower d (step.Run c i)) S = refl
+still_noted plan (AdvancePower d (step.Pass s i)) S = advanced S.power d.0 s
 still_noted plan _ S = refl
 
 -- ---- power notes of each queue whether it has EvtIoResume
@@ -156,8 +158,8 @@ others_due : {A : Type 0} (plan : Plan) (d : Deed) (S : State A) → is_advance 
 others_due plan d S none k x due = let old = none_more_by plan d S none x due in ap (declares plan callback.EvtIoResume) old.1 ∙ k.due x old.0
 
 due_by : {A : Type 0} (plan : Plan) (d : Deed) (S : State A) → Resumable plan S → (x : ℕ) → is_resuming (holding_of (do_deed plan d S).power x) ≡ true → declares plan callback.EvtIoResume (noted (do_deed plan d S).power x) ≡ true
-due_by plan (Advance_power d (step.Run c i)) S k x due = k.due x due
-due_by plan (Advance_power d (step.Pass s i)) S k x due = stage_due plan S.power d s x k.queues k.due due
+due_by plan (AdvancePower d (step.Run c i)) S k x due = k.due x due
+due_by plan (AdvancePower d (step.Pass s i)) S k x due = stage_due plan S.power d.0 s x k.queues k.due due
 due_by plan d S k x due = others_due plan d S refl k x due
 
 resumable_by : {A : Type 0} (plan : Plan) (d : Deed) (S : State A) → Resumable plan S → Resumable plan (do_deed plan d S)

@@ -15,7 +15,8 @@ use Rattle.wdf_model.specs.Plans.{as_device, device_of}
 use Rattle.wdf_model.specs.parts.Tree.{declared_node, gone, is_gone, is_live, kind_of, life_of, opening_tree, parent_of}
 use Rattle.wdf_model.specs.parts.Pnp.{Sequence, no_sequence, opening_pnp, opening_sequence, sequence_of}
 use Rattle.wdf_model.specs.State.{State, opening}
-use Rattle.wdf_model.specs.rules.Deeds.{Deed, do_deed, do_deeds}
+use Rattle.wdf_model.specs.declared.deed.Deed.{Deed}
+use Rattle.wdf_model.specs.rules.Deeds.{do_deed, do_deeds}
 use Rattle.wdf_model.specs.rules.Ready.{IsRunOf, state_after}
 use Rattle.wdf_model.specs.rules.Steps.{deeds}
 use Rattle.wdf_model.specs.laws.Fits.{all_fit, fits}

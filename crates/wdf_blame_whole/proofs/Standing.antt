@@ -31,7 +31,10 @@ use Rattle.wdf_model.specs.parts.Requests.{Requests, has_arrived, is_done, reque
 use Rattle.wdf_model.specs.parts.Requests as requests
 use Rattle.wdf_model.specs.parts.Pnp.{Pnp, Sequence, is_running_step, left_after, next_step, no_sequence, sequence_of, steps_for, steps_left, taken_step, with_sequence}
 use Rattle.wdf_model.specs.State.{State, nothing_at}
-use Rattle.wdf_model.specs.rules.Deeds.{Deed, Create, Make_request, Arrive, Ask_deletion, Refer, Unrefer, Write_cell, Note, Clean_up, End_life, Requeue, Forward, Give_back, Send_request, Complete_request, Purge_queue, Close_returning, Close_device, Ask_device, Take_step, End_step, Enqueue_dpc, arrive_at, ask_object, ask_objects, do_deed, give_up}
+use Rattle.wdf_model.specs.Ids.{object_id}
+use Rattle.wdf_model.specs.declared.deed.Deed.{Deed}
+use Rattle.wdf_model.specs.declared.deed.Deed.TheVariants.{Create, MakeRequest, Arrive, AskDeletion, Refer, Unrefer, WriteCell, Note, CleanUp, EndLife, Requeue, Forward, GiveBack, SendRequest, CompleteRequest, PurgeQueue, CloseReturning, CloseDevice, AskDevice, TakeStep, EndStep, EnqueueDpc}
+use Rattle.wdf_model.specs.rules.Deeds.{arrive_at, ask_object, ask_objects, do_deed, give_up}
 use Rattle.wdf_model.specs.rules.Starts.{is_unfinished_at}
 use Rattle.wdf_model.specs.laws.Fits.{fits}
 use Rattle.wdf_model.proofs.Tests.{both, both_left, both_right, itself}
@@ -90,11 +93,11 @@ defers plan o = is_some (interrupt_of plan o) && declares plan callback.EvtInter
 
 -- what is so where a deed is done; only a request's completion asks for its deletion
 abbrev pub Comes : {A : Type 0} → Plan → Deed → State A → Type 0
-Comes plan (Ask_deletion o) S = Removable plan S o × (same_kind (kind_of S.tree o) kind.Request ≡ false)
-Comes plan (Complete_request r) S = Removable plan S r
-Comes plan (Arrive device info p) S = is_some (device_of plan device) ≡ true
-Comes plan (End_step d s v) S = is_running_step S.pnp d ≡ true
-Comes plan (Enqueue_dpc cpu o) S = ((ready_in kind.Dpc S.tree o || defers plan o) ≡ true) × (is_some (interrupt_of plan o) ≡ true → is_enabled S.interrupts o ≡ true)
+Comes plan (AskDeletion o) S = Removable plan S o.0 × (same_kind (kind_of S.tree o.0) kind.Request ≡ false)
+Comes plan (CompleteRequest r) S = Removable plan S r.0
+Comes plan (Arrive device info p) S = is_some (device_of plan device.0) ≡ true
+Comes plan (EndStep d s v) S = is_running_step S.pnp d.0 ≡ true
+Comes plan (EnqueueDpc cpu o) S = ((ready_in kind.Dpc S.tree o.0 || defers plan o.0) ≡ true) × (is_some (interrupt_of plan o.0) ≡ true → is_enabled S.interrupts o.0 ≡ true)
 Comes plan _ S = ⊤
 
 -- each of some deeds is so where it is done
@@ -175,31 +178,31 @@ tree_of S = S.tree
 
 -- a deed that asks for no deletion
 abbrev pub asks_none : Deed → Bool
-asks_none (Ask_deletion o) = false
-asks_none (Complete_request r) = false
+asks_none (AskDeletion o) = false
+asks_none (CompleteRequest r) = false
 asks_none _ = true
 
 pub lives_by : {A : Type 0} (plan : Plan) (d : Deed) (S : State A) → asks_none d ≡ true → fits plan d S ≡ true → LivesStay S.tree (do_deed plan d S).tree
-lives_by plan (Ask_deletion o) S n f = absurd (let z : ⊥ = cc in z)
-lives_by plan (Complete_request r) S n f = absurd (let z : ⊥ = cc in z)
-lives_by plan (Create k class parent) S n f = stay_made S.tree k class parent
-lives_by plan (Make_request class parent) S n f = stay_made S.tree kind.Made class parent
-lives_by plan (Arrive device info p) S n f = subst (LivesStay S.tree) (sym (arrived S device info p)) (stay_made S.tree kind.Request 0 device)
-lives_by plan (Refer o) S n f = stay_changed S.tree o (λ m. record m { references = m.references + 1 }) refl refl refl
-lives_by plan (Unrefer o) S n f = stay_changed S.tree o (λ m. record m { references = m.references - 1 }) refl refl refl
-lives_by plan (Write_cell o k v) S n f = stay_changed S.tree o (λ m. record m { cells = slice_set m.cells k v }) refl refl refl
-lives_by plan (Note o c) S n f = let k = noted_kept c (node_of S.tree o) in stay_changed S.tree o (noted c) (ap is_live k.0) (ap is_gone k.0) k.1
-lives_by plan (Clean_up o) S n f =
-    let waits : is_asked (life_of S.tree o) ≡ true = search both_left in
-    stay_changed S.tree o (with_life life.Cleaned) (asked_off (life_of S.tree o) waits) (sym (asked_there (life_of S.tree o) waits)) refl
-lives_by plan (End_life o) S n f = let done : is_cleaned (life_of S.tree o) ≡ true = search both_left in stay_ended S.tree o done
-lives_by plan (Requeue r p) S n f = stay_same _ _ (gives_up tree_of (λ S Q R P. refl) S r)
-lives_by plan (Forward r p) S n f = stay_same _ _ (gives_up tree_of (λ S Q R P. refl) S r)
-lives_by plan (Give_back r p) S n f = stay_same _ _ (gives_up tree_of (λ S Q R P. refl) S r)
-lives_by plan (Send_request r t forget) S n f = stay_same _ _ (gives_up_if tree_of (λ S Q R P. refl) S forget r)
-lives_by plan (Purge_queue p) S n f = stay_same _ _ (withdraws tree_of (λ S Q R P. refl) plan p (waiting_in S.queues p) (record S { control = control.set_mode S.control p mode.Purged }))
-lives_by plan (Close_returning d) S n f = stay_same _ _ (returns_closed tree_of (λ S Q R P. refl) (managed_queues plan d) S)
-lives_by plan (Close_device d) S n f = stay_same _ _ (queues_closed tree_of (λ S Q R P. refl) (queues_of plan d) (record S { control = control.shut S.control d }))
+lives_by plan (AskDeletion o) S n f = absurd (let z : ⊥ = cc in z)
+lives_by plan (CompleteRequest r) S n f = absurd (let z : ⊥ = cc in z)
+lives_by plan (Create k class parent) S n f = stay_made S.tree k class parent.0
+lives_by plan (MakeRequest class parent) S n f = stay_made S.tree kind.Made class parent.0
+lives_by plan (Arrive device info p) S n f = subst (LivesStay S.tree) (sym (arrived S device.0 info p)) (stay_made S.tree kind.Request 0 device.0)
+lives_by plan (Refer o) S n f = stay_changed S.tree o.0 (λ m. record m { references = m.references + 1 }) refl refl refl
+lives_by plan (Unrefer o) S n f = stay_changed S.tree o.0 (λ m. record m { references = m.references - 1 }) refl refl refl
+lives_by plan (WriteCell o k v) S n f = stay_changed S.tree o.0 (λ m. record m { cells = slice_set m.cells k v }) refl refl refl
+lives_by plan (Note o c) S n f = let k = noted_kept c (node_of S.tree o.0) in stay_changed S.tree o.0 (noted c) (ap is_live k.0) (ap is_gone k.0) k.1
+lives_by plan (CleanUp o) S n f =
+    let waits : is_asked (life_of S.tree o.0) ≡ true = search both_left in
+    stay_changed S.tree o.0 (with_life life.Cleaned) (asked_off (life_of S.tree o.0) waits) (sym (asked_there (life_of S.tree o.0) waits)) refl
+lives_by plan (EndLife o) S n f = let done : is_cleaned (life_of S.tree o.0) ≡ true = search both_left in stay_ended S.tree o.0 done
+lives_by plan (Requeue r p) S n f = stay_same _ _ (gives_up tree_of (λ S Q R P. refl) S r.0)
+lives_by plan (Forward r p) S n f = stay_same _ _ (gives_up tree_of (λ S Q R P. refl) S r.0)
+lives_by plan (GiveBack r p) S n f = stay_same _ _ (gives_up tree_of (λ S Q R P. refl) S r.0)
+lives_by plan (SendRequest r t forget) S n f = stay_same _ _ (gives_up_if tree_of (λ S Q R P. refl) S forget r.0)
+lives_by plan (PurgeQueue p) S n f = stay_same _ _ (withdraws tree_of (λ S Q R P. refl) plan p.0 (waiting_in S.queues p.0) (record S { control = control.set_mode S.control p.0 mode.Purged }))
+lives_by plan (CloseReturning d) S n f = stay_same _ _ (returns_closed tree_of (λ S Q R P. refl) (managed_queues plan d.0) S)
+lives_by plan (CloseDevice d) S n f = stay_same _ _ (queues_closed tree_of (λ S Q R P. refl) (queues_of plan d.0) (record S { control = control.shut S.control d.0 }))
 lives_by plan _ S n f = stay_same S.tree S.tree refl
 
 -- ---- the steps of devices
@@ -232,33 +235,33 @@ steps_same : (Q R : Pnp) → R ≡ Q → StepsStay Q R
 steps_same Q R e = record { lasts = λ h. subst (λ P. (d : ℕ) → Lasts (steps_left P d)) (sym e) h; over = λ d h. subst (λ P. IsOver (sequence_of P d)) (sym e) h }
 
 steps_by : {A : Type 0} (plan : Plan) (d : Deed) (S : State A) → fits plan d S ≡ true → Comes plan d S → StepsStay S.pnp (do_deed plan d S).pnp
-steps_by plan (Ask_device n a) S f c = record {
-  lasts = λ h x. one_sequence (λ q. Lasts q.left) S.pnp n (λ q. record q { left = steps_for q.steps q.ever_working q.phase a }) x (h x) (λ k. lasts_asked (sequence_of S.pnp n) a);
-  over = λ x h. one_sequence IsOver S.pnp n (λ q. record q { left = steps_for q.steps q.ever_working q.phase a }) x h (λ k. asked_over (sequence_of S.pnp n) a k);
+steps_by plan (AskDevice n a) S f c = record {
+  lasts = λ h x. one_sequence (λ q. Lasts q.left) S.pnp n.0 (λ q. record q { left = steps_for q.steps q.ever_working q.phase a }) x (h x) (λ k. lasts_asked (sequence_of S.pnp n.0) a);
+  over = λ x h. one_sequence IsOver S.pnp n.0 (λ q. record q { left = steps_for q.steps q.ever_working q.phase a }) x h (λ k. asked_over (sequence_of S.pnp n.0) a k);
 }
-steps_by plan (Take_step n) S f c = record {
-  lasts = λ h x. one_sequence (λ q. Lasts q.left) S.pnp n taken_step x (h x) (λ k. lasts_taken (sequence_of S.pnp n) k);
-  over = λ x h. one_sequence IsOver S.pnp n taken_step x h (λ k. absurd (nothing_next (sequence_of S.pnp n) k (both_left (is_some (next_step S.pnp n)) (not (is_running_step S.pnp n)) f)));
+steps_by plan (TakeStep n) S f c = record {
+  lasts = λ h x. one_sequence (λ q. Lasts q.left) S.pnp n.0 taken_step x (h x) (λ k. lasts_taken (sequence_of S.pnp n.0) k);
+  over = λ x h. one_sequence IsOver S.pnp n.0 taken_step x h (λ k. absurd (nothing_next (sequence_of S.pnp n.0) k (both_left (is_some (next_step S.pnp n.0)) (not (is_running_step S.pnp n.0)) f)));
 }
-steps_by plan (End_step n s v) S f c = record {
-  lasts = λ h x. one_sequence (λ q. Lasts q.left) S.pnp n (λ q. record q { left = left_after q s v; running = None }) x (h x) (λ k. lasts_ended (sequence_of S.pnp n) s v k);
-  over = λ x h. one_sequence IsOver S.pnp n (λ q. record q { left = left_after q s v; running = None }) x h (λ k. absurd (nothing_runs (sequence_of S.pnp n) k c));
+steps_by plan (EndStep n s v) S f c = record {
+  lasts = λ h x. one_sequence (λ q. Lasts q.left) S.pnp n.0 (λ q. record q { left = left_after q s v; running = None }) x (h x) (λ k. lasts_ended (sequence_of S.pnp n.0) s v k);
+  over = λ x h. one_sequence IsOver S.pnp n.0 (λ q. record q { left = left_after q s v; running = None }) x h (λ k. absurd (nothing_runs (sequence_of S.pnp n.0) k c));
 }
 steps_by plan (Arrive device info p) S f c = steps_same _ _ (came p)
   where
-    came : (p : Place) → (arrive_at S device info p).pnp ≡ S.pnp
+    came : (p : Place) → (arrive_at S device.0 info p).pnp ≡ S.pnp
     came (place.Queued q) = refl
     came _ = refl
-steps_by plan (Ask_deletion o) S f c = steps_same _ _ (asks_all pnp_of (λ S T D W U. refl) (subtree S.tree o) S)
-steps_by plan (Requeue r p) S f c = steps_same _ _ (gives_up pnp_of (λ S Q R P. refl) S r)
-steps_by plan (Forward r p) S f c = steps_same _ _ (gives_up pnp_of (λ S Q R P. refl) S r)
-steps_by plan (Give_back r p) S f c = steps_same _ _ (gives_up pnp_of (λ S Q R P. refl) S r)
-steps_by plan (Send_request r t forget) S f c = steps_same _ _ (gives_up_if pnp_of (λ S Q R P. refl) S forget r)
-steps_by {A} plan (Complete_request r) S f c =
-    steps_same _ _ (asks_all pnp_of (λ S T D W U. refl) (subtree (give_up S r).tree r) (record (give_up S r) { requests = requests.complete S.requests r }) ∙ gives_up pnp_of (λ S Q R P. refl) S r)
-steps_by plan (Purge_queue p) S f c = steps_same _ _ (withdraws pnp_of (λ S Q R P. refl) plan p (waiting_in S.queues p) (record S { control = control.set_mode S.control p mode.Purged }))
-steps_by plan (Close_returning d) S f c = steps_same _ _ (returns_closed pnp_of (λ S Q R P. refl) (managed_queues plan d) S)
-steps_by plan (Close_device d) S f c = steps_same _ _ (queues_closed pnp_of (λ S Q R P. refl) (queues_of plan d) (record S { control = control.shut S.control d }))
+steps_by plan (AskDeletion o) S f c = steps_same _ _ (asks_all pnp_of (λ S T D W U. refl) (subtree S.tree o.0) S)
+steps_by plan (Requeue r p) S f c = steps_same _ _ (gives_up pnp_of (λ S Q R P. refl) S r.0)
+steps_by plan (Forward r p) S f c = steps_same _ _ (gives_up pnp_of (λ S Q R P. refl) S r.0)
+steps_by plan (GiveBack r p) S f c = steps_same _ _ (gives_up pnp_of (λ S Q R P. refl) S r.0)
+steps_by plan (SendRequest r t forget) S f c = steps_same _ _ (gives_up_if pnp_of (λ S Q R P. refl) S forget r.0)
+steps_by {A} plan (CompleteRequest r) S f c =
+    steps_same _ _ (asks_all pnp_of (λ S T D W U. refl) (subtree (give_up S r.0).tree r.0) (record (give_up S r.0) { requests = requests.complete S.requests r.0 }) ∙ gives_up pnp_of (λ S Q R P. refl) S r.0)
+steps_by plan (PurgeQueue p) S f c = steps_same _ _ (withdraws pnp_of (λ S Q R P. refl) plan p.0 (waiting_in S.queues p.0) (record S { control = control.set_mode S.control p.0 mode.Purged }))
+steps_by plan (CloseReturning d) S f c = steps_same _ _ (returns_closed pnp_of (λ S Q R P. refl) (managed_queues plan d.0) S)
+steps_by plan (CloseDevice d) S f c = steps_same _ _ (queues_closed pnp_of (λ S Q R P. refl) (queues_of plan d.0) (record S { control = control.shut S.control d.0 }))
 steps_by plan _ S f c = steps_same S.pnp S.pnp refl
 
 -- ---- a deed that asks for no deletion
@@ -281,8 +284,8 @@ device_still plan T U l x h =
 
 arrives_well : {A : Type 0} (plan : Plan) (d : Deed) (S : State A) → fits plan d S ≡ true → Comes plan d S → (T : Tree) → LivesStay S.tree T → ArrivesWell plan (is_device_in plan T) d
 arrives_well plan (Arrive device info p) S f c T l =
-    let live : is_live (life_of S.tree device) ≡ true = search both_left in
-    both (is_some (device_of plan device)) (is_live (life_of T device)) c (l.gains device live)
+    let live : is_live (life_of S.tree device.0) ≡ true = search both_left in
+    both (is_some (device_of plan device.0)) (is_live (life_of T device.0)) c (l.gains device.0 live)
 arrives_well plan _ S f c T l = tt
 
 without_asking : {A : Type 0} (plan : Plan) (d : Deed) (S : State A) → asks_none d ≡ true → fits plan d S ≡ true → Sound plan d S → Comes plan d S → Placed S → table_size plan ≤ length S.tree.nodes → Stands plan S → Stands plan (do_deed plan d S)
@@ -371,10 +374,10 @@ roots_asked : {A : Type 0} (xs : List ℕ) (S : State A) → IsRoot S.tree → I
 roots_asked [] S h = h
 roots_asked (x ∷ xs) S h = roots_asked xs (ask_object S x) (root_asked S x (is_live (life_of S.tree x)) refl h)
 
-asks : {A : Type 0} (plan : Plan) (S : State A) (o : ℕ) → fits plan (Ask_deletion o) S ≡ true → table_size plan ≤ length S.tree.nodes → Comes plan (Ask_deletion o) S → Stands plan S → Stands plan (do_deed plan (Ask_deletion o) S)
+asks : {A : Type 0} (plan : Plan) (S : State A) (o : ℕ) → fits plan (AskDeletion (object_id o)) S ≡ true → table_size plan ≤ length S.tree.nodes → Comes plan (AskDeletion (object_id o)) S → Stands plan S → Stands plan (do_deed plan (AskDeletion (object_id o)) S)
 asks {A} plan S o f room c k =
-    let W : State A = do_deed plan (Ask_deletion o) S in
-    let t : StepsStay S.pnp W.pnp = steps_by plan (Ask_deletion o) S f c in
+    let W : State A = do_deed plan (AskDeletion (object_id o)) S in
+    let t : StepsStay S.pnp W.pnp = steps_by plan (AskDeletion (object_id o)) S f c in
     record {
       root = roots_asked (subtree S.tree o) S k.root;
       parts = parts_then plan S S o refl room c.0 k;
@@ -383,12 +386,12 @@ asks {A} plan S o f room c k =
       over = λ d h. t.over d (over_then plan S S o refl room c.0 k d h);
     }
 
-completes : {A : Type 0} (plan : Plan) (S : State A) (r : ℕ) → fits plan (Complete_request r) S ≡ true → table_size plan ≤ length S.tree.nodes → Removable plan S r → Stands plan S → Stands plan (do_deed plan (Complete_request r) S)
+completes : {A : Type 0} (plan : Plan) (S : State A) (r : ℕ) → fits plan (CompleteRequest (object_id r)) S ≡ true → table_size plan ≤ length S.tree.nodes → Removable plan S r → Stands plan S → Stands plan (do_deed plan (CompleteRequest (object_id r)) S)
 completes {A} plan S r f room c k =
-    let W : State A = do_deed plan (Complete_request r) S in
+    let W : State A = do_deed plan (CompleteRequest (object_id r)) S in
     let U : State A = record (give_up S r) { requests = requests.complete S.requests r } in
     let same : U.tree ≡ S.tree = gives_up tree_of (λ S Q R P. refl) S r in
-    let t : StepsStay S.pnp W.pnp = steps_by plan (Complete_request r) S f c in
+    let t : StepsStay S.pnp W.pnp = steps_by plan (CompleteRequest (object_id r)) S f c in
     record {
       root = roots_asked (subtree U.tree r) U (subst IsRoot (sym same) k.root);
       parts = parts_then plan S U r same room c k;
@@ -400,6 +403,6 @@ completes {A} plan S r f room c k =
 -- ---- each deed
 
 pub stands_by : {A : Type 0} (plan : Plan) (d : Deed) (S : State A) → fits plan d S ≡ true → Sound plan d S → Comes plan d S → Placed S → table_size plan ≤ length S.tree.nodes → Stands plan S → Stands plan (do_deed plan d S)
-stands_by plan (Ask_deletion o) S f s c p room k = asks plan S o f room c k
-stands_by plan (Complete_request r) S f s c p room k = completes plan S r f room c k
+stands_by plan (AskDeletion o) S f s c p room k = asks plan S o.0 f room c k
+stands_by plan (CompleteRequest r) S f s c p room k = completes plan S r.0 f room c k
 stands_by plan d S f s c p room k = without_asking plan d S refl f s c p room k

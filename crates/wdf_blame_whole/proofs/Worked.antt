@@ -22,7 +22,8 @@ use Rattle.wdf_model.specs.Tables.{contains, entry}
 use Rattle.wdf_model.specs.Plans.{kind_of_class, script_on}
 use Rattle.wdf_model.specs.parts.Tree.{declared_node, gone, is_live, made_as, node_of}
 use Rattle.wdf_model.specs.State.{State, declares_in, opening}
-use Rattle.wdf_model.specs.rules.Deeds.{Deed, do_deed, do_deeds}
+use Rattle.wdf_model.specs.declared.deed.Deed.{Deed}
+use Rattle.wdf_model.specs.rules.Deeds.{do_deed, do_deeds}
 use Rattle.wdf_model.specs.rules.Ready.{IsRunOf, state_after}
 use Rattle.wdf_model.specs.rules.Steps.{deeds}
 use Rattle.wdf_model.specs.laws.Fits.{all_fit, fits}

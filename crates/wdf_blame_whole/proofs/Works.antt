@@ -23,7 +23,9 @@ use Rattle.wdf_model.specs.parts.Deferred.Dpcs.{Dpcs, is_dpc_queued}
 use Rattle.wdf_model.specs.parts.Deferred.WorkItems.{WorkItems, is_work_queued}
 use Rattle.wdf_model.specs.parts.Deferred.Timers.{Timers, is_timer_queued}
 use Rattle.wdf_model.specs.State.{State}
-use Rattle.wdf_model.specs.rules.Deeds.{Deed, Create, Make_request, Arrive, Ask_deletion, Refer, Unrefer, Write_cell, Note, Clean_up, End_life, Requeue, Forward, Give_back, Send_request, Complete_request, Purge_queue, Close_returning, Close_device, Enqueue_dpc, Cancel_dpc, Take_dpc, Enqueue_work, Cancel_work, Start_timer, Stop_timer, Fire_timer, arrive_at, ask_object, do_deed, give_up}
+use Rattle.wdf_model.specs.declared.deed.Deed.{Deed}
+use Rattle.wdf_model.specs.declared.deed.Deed.TheVariants.{Create, MakeRequest, Arrive, AskDeletion, Refer, Unrefer, WriteCell, Note, CleanUp, EndLife, Requeue, Forward, GiveBack, SendRequest, CompleteRequest, PurgeQueue, CloseReturning, CloseDevice, EnqueueDpc, CancelDpc, TakeDpc, EnqueueWork, CancelWork, StartTimer, StopTimer, FireTimer}
+use Rattle.wdf_model.specs.rules.Deeds.{arrive_at, ask_object, do_deed, give_up}
 use Rattle.wdf_model.specs.laws.Fits.{fits}
 use Rattle.wdf_model.proofs.Tests.{both, both_left, first, second}
 use Rattle.wdf_model.proofs.Maps.{entry_before, entry_last, entry_put_other, entry_put_same}
@@ -161,57 +163,57 @@ classed_new : (plan : Plan) (k : Kind) (class parent : ℕ) → kind_of_class pl
 classed_new plan k class parent e = second (not (is_work_kind k)) (same_kind (kind_of_class plan class) k) ((kind_decides (kind_of_class plan class) k).1 e)
 
 pub works_by : {A : Type 0} (plan : Plan) (d : Deed) (S : State A) → fits plan d S ≡ true → Sound plan d S → Apt plan d S → Comes plan d S → WorkKept plan (work_of S) → WorkKept plan (work_of (do_deed plan d S))
-works_by plan (Create k class parent) S f s a c q = made plan (work_of S) k class parent (classed_new plan k class parent a) q
-works_by plan (Make_request class parent) S f s a c q = made plan (work_of S) kind.Made class parent refl q
-works_by plan (Arrive device info p) S f s a c q = same_work plan _ _ (arrived S device info p) (made plan (work_of S) kind.Request 0 device refl q)
-works_by plan (Ask_deletion o) S f s a c q = all_asked plan (subtree S.tree o) S q
-works_by plan (Refer o) S f s a c q = changed plan (work_of S) o (λ m. record m { references = m.references + 1 }) (λ k. refl) refl q
-works_by plan (Unrefer o) S f s a c q = changed plan (work_of S) o (λ m. record m { references = m.references - 1 }) (λ k. refl) refl q
-works_by plan (Write_cell o k v) S f s a c q = changed plan (work_of S) o (λ m. record m { cells = slice_set m.cells k v }) (λ k. refl) refl q
-works_by plan (Note o x) S f s a c q = let n = noted_same plan x (node_of S.tree o) in changed plan (work_of S) o (noted x) n.0 n.1 q
-works_by plan (Clean_up o) S f s a c q =
-    let asked : is_asked (life_of S.tree o) ≡ true = search both_left in
-    changed plan (work_of S) o (with_life life.Cleaned) (λ k. sym (unready (is_live (life_of S.tree o)) (same_kind (node_of S.tree o).kind k) (asked_off (life_of S.tree o) asked))) refl q
-works_by plan (End_life o) S f s a c q = let done : is_cleaned (life_of S.tree o) ≡ true = search both_left in ended plan (work_of S) o done q
-works_by plan (Requeue r p) S f s a c q = same_work plan _ _ (gives_up work_of (λ S Q R P. refl) S r) q
-works_by plan (Forward r p) S f s a c q = same_work plan _ _ (gives_up work_of (λ S Q R P. refl) S r) q
-works_by plan (Give_back r p) S f s a c q = same_work plan _ _ (gives_up work_of (λ S Q R P. refl) S r) q
-works_by plan (Send_request r t forget) S f s a c q = same_work plan _ _ (gives_up_if work_of (λ S Q R P. refl) S forget r) q
-works_by plan (Complete_request r) S f s a c q =
-    all_asked plan (subtree (give_up S r).tree r) (record (give_up S r) { requests = requests.complete S.requests r }) (same_work plan _ _ (gives_up work_of (λ S Q R P. refl) S r) q)
-works_by plan (Purge_queue p) S f s a c q = same_work plan _ _ (withdraws work_of (λ S Q R P. refl) plan p (waiting_in S.queues p) (record S { control = control.set_mode S.control p mode.Purged })) q
-works_by plan (Close_returning d) S f s a c q = same_work plan _ _ (returns_closed work_of (λ S Q R P. refl) (managed_queues plan d) S) q
-works_by plan (Close_device d) S f s a c q = same_work plan _ _ (queues_closed work_of (λ S Q R P. refl) (queues_of plan d) (record S { control = control.shut S.control d })) q
-works_by plan (Enqueue_dpc cpu o) S f s a c q = record {
+works_by plan (Create k class parent) S f s a c q = made plan (work_of S) k class parent.0 (classed_new plan k class parent.0 a) q
+works_by plan (MakeRequest class parent) S f s a c q = made plan (work_of S) kind.Made class parent.0 refl q
+works_by plan (Arrive device info p) S f s a c q = same_work plan _ _ (arrived S device.0 info p) (made plan (work_of S) kind.Request 0 device.0 refl q)
+works_by plan (AskDeletion o) S f s a c q = all_asked plan (subtree S.tree o.0) S q
+works_by plan (Refer o) S f s a c q = changed plan (work_of S) o.0 (λ m. record m { references = m.references + 1 }) (λ k. refl) refl q
+works_by plan (Unrefer o) S f s a c q = changed plan (work_of S) o.0 (λ m. record m { references = m.references - 1 }) (λ k. refl) refl q
+works_by plan (WriteCell o k v) S f s a c q = changed plan (work_of S) o.0 (λ m. record m { cells = slice_set m.cells k v }) (λ k. refl) refl q
+works_by plan (Note o x) S f s a c q = let n = noted_same plan x (node_of S.tree o.0) in changed plan (work_of S) o.0 (noted x) n.0 n.1 q
+works_by plan (CleanUp o) S f s a c q =
+    let asked : is_asked (life_of S.tree o.0) ≡ true = search both_left in
+    changed plan (work_of S) o.0 (with_life life.Cleaned) (λ k. sym (unready (is_live (life_of S.tree o.0)) (same_kind (node_of S.tree o.0).kind k) (asked_off (life_of S.tree o.0) asked))) refl q
+works_by plan (EndLife o) S f s a c q = let done : is_cleaned (life_of S.tree o.0) ≡ true = search both_left in ended plan (work_of S) o.0 done q
+works_by plan (Requeue r p) S f s a c q = same_work plan _ _ (gives_up work_of (λ S Q R P. refl) S r.0) q
+works_by plan (Forward r p) S f s a c q = same_work plan _ _ (gives_up work_of (λ S Q R P. refl) S r.0) q
+works_by plan (GiveBack r p) S f s a c q = same_work plan _ _ (gives_up work_of (λ S Q R P. refl) S r.0) q
+works_by plan (SendRequest r t forget) S f s a c q = same_work plan _ _ (gives_up_if work_of (λ S Q R P. refl) S forget r.0) q
+works_by plan (CompleteRequest r) S f s a c q =
+    all_asked plan (subtree (give_up S r.0).tree r.0) (record (give_up S r.0) { requests = requests.complete S.requests r.0 }) (same_work plan _ _ (gives_up work_of (λ S Q R P. refl) S r.0) q)
+works_by plan (PurgeQueue p) S f s a c q = same_work plan _ _ (withdraws work_of (λ S Q R P. refl) plan p.0 (waiting_in S.queues p.0) (record S { control = control.set_mode S.control p.0 mode.Purged })) q
+works_by plan (CloseReturning d) S f s a c q = same_work plan _ _ (returns_closed work_of (λ S Q R P. refl) (managed_queues plan d.0) S) q
+works_by plan (CloseDevice d) S f s a c q = same_work plan _ _ (queues_closed work_of (λ S Q R P. refl) (queues_of plan d.0) (record S { control = control.shut S.control d.0 })) q
+works_by plan (EnqueueDpc cpu o) S f s a c q = record {
   classes = q.classes;
-  dpcs = λ x h. elim (dpc_enqueued S.dpcs cpu o x h) [
+  dpcs = λ x h. elim (dpc_enqueued S.dpcs cpu.0 o.0 x h) [
     | inl e ↦ q.dpcs x e
     | inr e ↦ rw e c.0
   ];
   items = q.items;
   timers = q.timers;
 }
-works_by plan (Cancel_dpc o) S f s a c q = record { classes = q.classes; dpcs = λ x h. q.dpcs x (dpc_cancelled S.dpcs o x h).0; items = q.items; timers = q.timers }
-works_by plan (Take_dpc cpu) S f s a c q = record { classes = q.classes; dpcs = λ x h. q.dpcs x (dpc_taken S.dpcs cpu x h); items = q.items; timers = q.timers }
-works_by plan (Enqueue_work o) S f s a c q = record {
+works_by plan (CancelDpc o) S f s a c q = record { classes = q.classes; dpcs = λ x h. q.dpcs x (dpc_cancelled S.dpcs o.0 x h).0; items = q.items; timers = q.timers }
+works_by plan (TakeDpc cpu) S f s a c q = record { classes = q.classes; dpcs = λ x h. q.dpcs x (dpc_taken S.dpcs cpu.0 x h); items = q.items; timers = q.timers }
+works_by plan (EnqueueWork o) S f s a c q = record {
   classes = q.classes;
   dpcs = q.dpcs;
-  items = λ x h. elim (work_enqueued S.work_items o x h) [
+  items = λ x h. elim (work_enqueued S.work_items o.0 x h) [
     | inl e ↦ q.items x e
-    | inr e ↦ rw e (both (is_live (life_of S.tree o)) (same_kind (kind_of S.tree o) kind.WorkItem) s a)
+    | inr e ↦ rw e (both (is_live (life_of S.tree o.0)) (same_kind (kind_of S.tree o.0) kind.WorkItem) s a)
   ];
   timers = q.timers;
 }
-works_by plan (Cancel_work o) S f s a c q = record { classes = q.classes; dpcs = q.dpcs; items = λ x h. q.items x (work_cancelled S.work_items o x h).0; timers = q.timers }
-works_by plan (Start_timer o ticks) S f s a c q = record {
+works_by plan (CancelWork o) S f s a c q = record { classes = q.classes; dpcs = q.dpcs; items = λ x h. q.items x (work_cancelled S.work_items o.0 x h).0; timers = q.timers }
+works_by plan (StartTimer o ticks) S f s a c q = record {
   classes = q.classes;
   dpcs = q.dpcs;
   items = q.items;
-  timers = λ x h. elim (timer_started S.timers o S.clock ticks x h) [
+  timers = λ x h. elim (timer_started S.timers o.0 S.clock ticks x h) [
     | inl e ↦ q.timers x e
-    | inr e ↦ rw e (both (is_live (life_of S.tree o)) (same_kind (kind_of S.tree o) kind.Timer) s a)
+    | inr e ↦ rw e (both (is_live (life_of S.tree o.0)) (same_kind (kind_of S.tree o.0) kind.Timer) s a)
   ];
 }
-works_by plan (Stop_timer o) S f s a c q = record { classes = q.classes; dpcs = q.dpcs; items = q.items; timers = λ x h. q.timers x (timer_stopped S.timers o x h).0 }
-works_by plan (Fire_timer o period) S f s a c q = record { classes = q.classes; dpcs = q.dpcs; items = q.items; timers = λ x h. q.timers x (timer_fired S.timers o period x h) }
+works_by plan (StopTimer o) S f s a c q = record { classes = q.classes; dpcs = q.dpcs; items = q.items; timers = λ x h. q.timers x (timer_stopped S.timers o.0 x h).0 }
+works_by plan (FireTimer o period) S f s a c q = record { classes = q.classes; dpcs = q.dpcs; items = q.items; timers = λ x h. q.timers x (timer_fired S.timers o.0 period x h) }
 works_by plan _ S f s a c q = q

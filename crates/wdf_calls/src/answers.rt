@@ -2,10 +2,10 @@
 ghost use Rattle.std.specs.Prelude.{◌≡◌, ◌∷◌, []};
 ghost use Rattle.wdf_model.specs.Tables as tables;
 ghost use Rattle.wdf_model.specs.rules.Calls as calls;
-ghost use Rattle.wdf_parts.specs.Deed.{as_deed};
 
 use wdf_base::{Status, Value};
-use wdf_parts::{Deed, Deeds};
+use wdf_model::Deed;
+use wdf_parts::Deeds;
 
 /// What a call answers, and what it does.
 #[derive(Debug, Drop)]
@@ -43,8 +43,8 @@ pub(crate) fn success(deeds: Deeds) -> Outcome
 
 /// SUCCESS, with one deed done.
 pub(crate) fn does(deed: Deed) -> Outcome
-    ensures answer { result.answer ≡ (calls.success (as_deed deed ∷ [])).answer }
-    ensures deeds { result.deeds ≡ (calls.success (as_deed deed ∷ [])).deeds }
+    ensures answer { result.answer ≡ (calls.success (deed ∷ [])).answer }
+    ensures deeds { result.deeds ≡ (calls.success (deed ∷ [])).deeds }
 {
     success(Deeds::one(deed))
 }

@@ -3,11 +3,11 @@ ghost use Rattle.std.specs.Prelude.{◌≡◌};
 ghost use Rattle.wdf_model.specs.Plans as plans;
 ghost use Rattle.wdf_model.specs.parts.Tree as tree;
 ghost use Rattle.wdf_model.specs.rules.Calls as calls;
-ghost use Rattle.wdf_parts.specs.Deed.{as_deed};
 
 use crate::answers::{Outcome, answer, refused};
 use wdf_base::{Agent, Handle, Kind, Life, ObjectId, Status, Value};
-use wdf_parts::{Deed, Deeds, Parts};
+use wdf_model::Deed;
+use wdf_parts::{Deeds, Parts};
 use wdf_plans::IndexedPlan;
 
 /// Whether an object is live: its deletion wasn't asked. (KMDF)
@@ -29,7 +29,7 @@ fn new_handle<A: Agent>(plan: &IndexedPlan, parts: &Parts<A>, class: u16) -> Han
 
 /// How an object of a kind is made. A request is more than an object.
 fn creation(kind: Kind, class: u16, parent: ObjectId) -> Deed
-    ensures { as_deed result ≡ calls.creation kind class parent.0 }
+    ensures { result ≡ calls.creation kind class parent.0 }
 {
     match kind {
         Kind::Made => Deed::MakeRequest { class, parent },

@@ -4,12 +4,12 @@ ghost use Rattle.wdf_model.specs.Tables.{flag};
 ghost use Rattle.wdf_model.specs.parts.Deferred.Dpcs as dpcs;
 ghost use Rattle.wdf_model.specs.parts.Deferred.Timers as timers;
 ghost use Rattle.wdf_model.specs.rules.Calls as calls;
-ghost use Rattle.wdf_model.specs.rules.Deeds as deeds;
 
 use crate::answers::{Outcome, does, flag, number, success};
 use crate::creation::is_live;
 use wdf_base::{Agent, Callback, Cpu, ObjectId};
-use wdf_parts::{Deed, Deeds, Parts};
+use wdf_model::Deed;
+use wdf_parts::{Deeds, Parts};
 use wdf_plans::IndexedPlan;
 
 /// An interrupt's DPC is queued last on a processor: that of an enabled one that declares an
@@ -72,8 +72,8 @@ pub(crate) fn work_outcome<A: Agent>(parts: &Parts<A>, object: ObjectId) -> Outc
 
 /// A DPC is taken out of its queue; 1 if it was there. (KMDF)
 pub(crate) fn cancel_dpc_outcome<A: Agent>(parts: &Parts<A>, object: ObjectId) -> Outcome
-    ensures answer { result.answer ≡ (calls.number (flag (dpcs.is_dpc_queued parts.now.dpcs object.0)) (deeds.Cancel_dpc object.0 ∷ [])).answer }
-    ensures deeds { result.deeds ≡ (calls.number (flag (dpcs.is_dpc_queued parts.now.dpcs object.0)) (deeds.Cancel_dpc object.0 ∷ [])).deeds }
+    ensures answer { result.answer ≡ (calls.number (flag (dpcs.is_dpc_queued parts.now.dpcs object.0)) (Deed.CancelDpc object ∷ [])).answer }
+    ensures deeds { result.deeds ≡ (calls.number (flag (dpcs.is_dpc_queued parts.now.dpcs object.0)) (Deed.CancelDpc object ∷ [])).deeds }
 {
     let was_queued = flag(parts.dpcs().is_queued(object));
     number(was_queued, Deeds::one(Deed::CancelDpc { object }))
@@ -81,8 +81,8 @@ pub(crate) fn cancel_dpc_outcome<A: Agent>(parts: &Parts<A>, object: ObjectId) -
 
 /// A timer is taken out of its queue; 1 if it was there. (KMDF)
 pub(crate) fn stop_timer_outcome<A: Agent>(parts: &Parts<A>, object: ObjectId) -> Outcome
-    ensures answer { result.answer ≡ (calls.number (flag (timers.is_timer_queued parts.now.timers object.0)) (deeds.Stop_timer object.0 ∷ [])).answer }
-    ensures deeds { result.deeds ≡ (calls.number (flag (timers.is_timer_queued parts.now.timers object.0)) (deeds.Stop_timer object.0 ∷ [])).deeds }
+    ensures answer { result.answer ≡ (calls.number (flag (timers.is_timer_queued parts.now.timers object.0)) (Deed.StopTimer object ∷ [])).answer }
+    ensures deeds { result.deeds ≡ (calls.number (flag (timers.is_timer_queued parts.now.timers object.0)) (Deed.StopTimer object ∷ [])).deeds }
 {
     let was_queued = flag(parts.timers().is_queued(object));
     number(was_queued, Deeds::one(Deed::StopTimer { object }))

@@ -4,7 +4,8 @@ ghost use Rattle.wdf_model.specs.rules.Calls as calls;
 
 use crate::answers::{Outcome, does, success};
 use wdf_base::{Agent, FrameId, Irql, Kind, LockRef, ObjectId};
-use wdf_parts::{Deed, Deeds, Parts};
+use wdf_model::Deed;
+use wdf_parts::{Deeds, Parts};
 use wdf_plans::IndexedPlan;
 
 /// The level of an object's lock, by its kind: DISPATCH_LEVEL for a spin lock, an interrupt's for its

@@ -1,12 +1,11 @@
 //! Queues: their front, and their notification.
 ghost use Rattle.std.specs.Prelude.{◌≡◌, ◌∷◌, [], option_map};
 ghost use Rattle.wdf_model.specs.rules.Calls as calls;
-ghost use Rattle.wdf_model.specs.rules.Deeds as deeds;
 
 use crate::answers::{Outcome, answer, does, refused};
 use wdf_base::{Agent, Arg, Callback, ObjectId, Status, Value};
-use wdf_model::Mode;
-use wdf_parts::{Deed, Deeds, Parts};
+use wdf_model::{Deed, Mode};
+use wdf_parts::{Deeds, Parts};
 use wdf_plans::IndexedPlan;
 use wdf_rules::is_number;
 
@@ -64,8 +63,8 @@ pub(crate) fn notify_outcome(plan: &IndexedPlan, queue: ObjectId, context: Arg) 
 
 /// A control call of a queue but a purge. (KMDF: Start, Stop and Drain)
 pub(crate) fn mode_outcome(queue: ObjectId, mode: Mode) -> Outcome
-    ensures answer { result.answer ≡ (calls.success (deeds.Set_mode queue.0 mode ∷ [])).answer }
-    ensures deeds { result.deeds ≡ (calls.success (deeds.Set_mode queue.0 mode ∷ [])).deeds }
+    ensures answer { result.answer ≡ (calls.success (Deed.SetMode queue mode ∷ [])).answer }
+    ensures deeds { result.deeds ≡ (calls.success (Deed.SetMode queue mode ∷ [])).deeds }
 {
     does(Deed::SetMode { queue, mode })
 }

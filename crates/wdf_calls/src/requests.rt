@@ -5,13 +5,12 @@ ghost use Rattle.wdf_model.specs.Tables as tables;
 ghost use Rattle.wdf_model.specs.parts.Requests as requests;
 ghost use Rattle.wdf_model.specs.parts.Targets as targets;
 ghost use Rattle.wdf_model.specs.rules.Calls as calls;
-ghost use Rattle.wdf_model.specs.rules.Deeds as deeds;
 
 use crate::answers::{Outcome, answer, does, flag, number, refused};
 use crate::creation::is_live;
 use wdf_base::{Agent, Arg, Callback, Mark, ObjectId, Status, Value};
-use wdf_model::Mode;
-use wdf_parts::{Deed, Deeds, Parts};
+use wdf_model::{Deed, Mode};
+use wdf_parts::{Deeds, Parts};
 use wdf_plans::IndexedPlan;
 use wdf_rules::is_number;
 
@@ -78,7 +77,7 @@ fn unmark_answer<A: Agent>(parts: &Parts<A>, r: ObjectId) -> Status
 /// A request is no longer cancelable, if its cancel isn't due. (KMDF)
 pub(crate) fn unmark_outcome<A: Agent>(parts: &Parts<A>, request: ObjectId) -> Outcome
     ensures answer { result.answer ≡ Stat (requests.unmark_answer parts.now.requests request.0) }
-    ensures deeds { result.deeds ≡ deeds.Unmark_request request.0 ∷ [] }
+    ensures deeds { result.deeds ≡ Deed.UnmarkRequest request ∷ [] }
 {
     let status = unmark_answer(parts, request);
     let deed = Deed::UnmarkRequest { request };

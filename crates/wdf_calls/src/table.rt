@@ -16,8 +16,8 @@ use crate::requests::{
     requeue_to_origin, send_outcome, unmark_outcome,
 };
 use wdf_base::{Agent, Call, CallKind, Cpu, FrameId};
-use wdf_model::Mode;
-use wdf_parts::{Deed, Deeds, Parts};
+use wdf_model::{Deed, Mode};
+use wdf_parts::{Deeds, Parts};
 use wdf_plans::IndexedPlan;
 use wdf_rules::{is_number, object_in};
 

@@ -7,7 +7,8 @@ ghost use Rattle.wdf_model.specs.parts.Requests.{info_of};
 ghost use Rattle.wdf_model.specs.rules.Calls as calls;
 
 use wdf_base::{Agent, Call, CallKind, FrameId, LockRef, ObjectId};
-use wdf_parts::{Deed, Deeds, Parts};
+use wdf_model::Deed;
+use wdf_parts::{Deeds, Parts};
 use wdf_plans::IndexedPlan;
 use wdf_rules::{is_number, object_in};
 

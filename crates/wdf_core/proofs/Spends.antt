@@ -19,12 +19,13 @@ use Rattle.wdf_base.specs.declared.script.Act.{Act}
 use Rattle.wdf_base.specs.declared.script.Act.TheVariants as act
 use Rattle.wdf_base.specs.declared.script.Statement.{Statement}
 use Rattle.wdf_base.specs.Same.{same_event, same_option}
+use Rattle.wdf_model.specs.Ids.{cpu_of}
 use Rattle.wdf_model.specs.parts.Cpus.{frame_of, top}
 use Rattle.wdf_model.specs.State.{State}
 use Rattle.wdf_model.specs.rules.Script.{act_intent, if_intent, intent_at, intent_of, let_intent, log_intent, put_intent, repeat_intent, return_intent, spend_intent, statement_at, value_of}
 use Rattle.wdf_model.specs.rules.Faults.{fault_of}
 use Rattle.wdf_model.specs.rules.Calls.{Outcome, is_met, is_met_then, outcome}
-use Rattle.wdf_model.specs.rules.Steps.{cpu_of, event_of_frame, event_of_top, fault_event, intent_event, may, own_event, spends, view_of}
+use Rattle.wdf_model.specs.rules.Steps.{event_of_frame, event_of_top, fault_event, intent_event, may, own_event, spends, view_of}
 use Rattle.wdf_model.proofs.Tests.{both_right}
 
 -- ---- what a statement spends

@@ -22,7 +22,9 @@ use Rattle.wdf_model.specs.Tables.{entry}
 use Rattle.wdf_model.specs.parts.Tree.{Tree, declared_node, gone, is_cleaned, is_gone, is_past_cleanup, life_of, opening_tree}
 use Rattle.wdf_model.specs.parts.Cpus.{frame_of}
 use Rattle.wdf_model.specs.State.{State}
-use Rattle.wdf_model.specs.rules.Deeds.{Deed, End_life, do_deed, do_deeds}
+use Rattle.wdf_model.specs.declared.deed.Deed.{Deed}
+use Rattle.wdf_model.specs.declared.deed.Deed.TheVariants.{EndLife}
+use Rattle.wdf_model.specs.rules.Deeds.{do_deed, do_deeds}
 use Rattle.wdf_model.specs.rules.Steps.{after, deeds, did_deeds, may}
 use Rattle.wdf_model.specs.rules.Ready.{IsRunOf, ready, state_after}
 use Rattle.wdf_model.specs.laws.Fits.{all_fit, fits}
@@ -53,14 +55,14 @@ use Rattle.wdf_family_laws.proofs.Telling.{Makes, event_makes}
 -- ---- deeds by which nothing ends
 
 abbrev is_end : Deed → Bool
-is_end (End_life o) = true
+is_end (EndLife o) = true
 is_end _ = false
 
 abbrev none_ends : List Deed → Bool
 none_ends ds = list_all (λ d. not (is_end d)) ds
 
 ends_not : (d : Deed) (x : ℕ) → is_end d ≡ false → Ends d x → ⊥
-ends_not (End_life o) x h e = let z : ⊥ = cc in z
+ends_not (EndLife o) x h e = let z : ⊥ = cc in z
 ends_not _ x h e = e
 
 deeds_there : {A : Type 0} (plan : Plan) (ds : List Deed) (S : State A) (x : ℕ) → all_fit plan ds S ≡ true → none_ends ds ≡ true → is_gone (life_of S.tree x) ≡ false → is_gone (life_of (do_deeds plan ds S).tree x) ≡ false
@@ -72,7 +74,7 @@ deeds_there plan (d ∷ ds) S x f n h =
     deeds_there plan ds (do_deed plan d S) x (both_right (fits plan d S) (all_fit plan ds (do_deed plan d S)) f) (both_right (not (is_end d)) (none_ends ds) n) s.there
 
 uncounted_stays : (d : Deed) → is_counting d ≡ false → not (is_end d) ≡ true
-uncounted_stays (End_life o) h = absurd (let z : ⊥ = cc in z)
+uncounted_stays (EndLife o) h = absurd (let z : ⊥ = cc in z)
 uncounted_stays _ h = refl
 
 no_end : (ds : List Deed) → none_counts ds ≡ true → none_ends ds ≡ true

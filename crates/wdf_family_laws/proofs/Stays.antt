@@ -20,7 +20,9 @@ use Rattle.wdf_model.specs.parts.Requests as requests
 use Rattle.wdf_model.specs.parts.Queues.{waiting_in}
 use Rattle.wdf_model.specs.parts.Control as control
 use Rattle.wdf_model.specs.State.{State}
-use Rattle.wdf_model.specs.rules.Deeds.{Deed, Create, Make_request, Arrive, Ask_deletion, Refer, Unrefer, Write_cell, Note, Clean_up, End_life, Requeue, Forward, Give_back, Send_request, Complete_request, Purge_queue, Close_returning, Close_device, arrive_at, ask_object, do_deed, give_up}
+use Rattle.wdf_model.specs.declared.deed.Deed.{Deed}
+use Rattle.wdf_model.specs.declared.deed.Deed.TheVariants.{Create, MakeRequest, Arrive, AskDeletion, Refer, Unrefer, WriteCell, Note, CleanUp, EndLife, Requeue, Forward, GiveBack, SendRequest, CompleteRequest, PurgeQueue, CloseReturning, CloseDevice}
+use Rattle.wdf_model.specs.rules.Deeds.{arrive_at, ask_object, do_deed, give_up}
 use Rattle.wdf_model.specs.rules.Steps.{after, deeds, may}
 use Rattle.wdf_model.specs.laws.Fits.{fits}
 use Rattle.wdf_model.proofs.Tests.{both_left}
@@ -109,28 +111,28 @@ abbrev tree_of : {A : Type 0} → State A → Tree
 tree_of S = S.tree
 
 pub deed_stays : {A : Type 0} (plan : Plan) (d : Deed) (S : State A) → fits plan d S ≡ true → Stays S.tree (do_deed plan d S).tree
-deed_stays plan (Create k class parent) S f = made S.tree k class parent
-deed_stays plan (Make_request class parent) S f = made S.tree kind.Made class parent
-deed_stays plan (Arrive device info p) S f = subst (λ (V : Tree). Stays S.tree V) (sym (arrived S device info p)) (made S.tree kind.Request 0 device)
-deed_stays plan (Ask_deletion o) S f = all_asked (subtree S.tree o) S
-deed_stays plan (Refer o) S f = changes S.tree o (λ m. record m { references = m.references + 1 }) refl refl refl refl
-deed_stays plan (Unrefer o) S f = changes S.tree o (λ m. record m { references = m.references - 1 }) refl refl refl refl
-deed_stays plan (Write_cell o k v) S f = changes S.tree o (λ m. record m { cells = slice_set m.cells k v }) refl refl refl refl
-deed_stays plan (Note o c) S f = let k = noted_kept c (node_of S.tree o) in changes S.tree o (noted c) (ap is_gone k.0) k.1 k.2 k.3
-deed_stays plan (Clean_up o) S f =
-    let asked : is_asked (life_of S.tree o) ≡ true = search both_left in
-    changes S.tree o (with_life life.Cleaned) (sym (asked_there (life_of S.tree o) asked)) refl refl refl
-deed_stays plan (End_life o) S f = ended S.tree o
-deed_stays plan (Requeue r p) S f = stays_same _ _ (gives_up tree_of (λ S Q R P. refl) S r)
-deed_stays plan (Forward r p) S f = stays_same _ _ (gives_up tree_of (λ S Q R P. refl) S r)
-deed_stays plan (Give_back r p) S f = stays_same _ _ (gives_up tree_of (λ S Q R P. refl) S r)
-deed_stays plan (Send_request r t forget) S f = stays_same _ _ (gives_up_if tree_of (λ S Q R P. refl) S forget r)
-deed_stays plan (Complete_request r) S f =
-    stays_then S.tree (give_up S r).tree _ (stays_same _ _ (gives_up tree_of (λ S Q R P. refl) S r))
-    (all_asked (subtree (give_up S r).tree r) (record (give_up S r) { requests = requests.complete S.requests r }))
-deed_stays plan (Purge_queue p) S f = stays_same _ _ (withdraws tree_of (λ S Q R P. refl) plan p (waiting_in S.queues p) (record S { control = control.set_mode S.control p mode.Purged }))
-deed_stays plan (Close_returning d) S f = stays_same _ _ (returns_closed tree_of (λ S Q R P. refl) (managed_queues plan d) S)
-deed_stays plan (Close_device d) S f = stays_same _ _ (queues_closed tree_of (λ S Q R P. refl) (queues_of plan d) (record S { control = control.shut S.control d }))
+deed_stays plan (Create k class parent) S f = made S.tree k class parent.0
+deed_stays plan (MakeRequest class parent) S f = made S.tree kind.Made class parent.0
+deed_stays plan (Arrive device info p) S f = subst (λ (V : Tree). Stays S.tree V) (sym (arrived S device.0 info p)) (made S.tree kind.Request 0 device.0)
+deed_stays plan (AskDeletion o) S f = all_asked (subtree S.tree o.0) S
+deed_stays plan (Refer o) S f = changes S.tree o.0 (λ m. record m { references = m.references + 1 }) refl refl refl refl
+deed_stays plan (Unrefer o) S f = changes S.tree o.0 (λ m. record m { references = m.references - 1 }) refl refl refl refl
+deed_stays plan (WriteCell o k v) S f = changes S.tree o.0 (λ m. record m { cells = slice_set m.cells k v }) refl refl refl refl
+deed_stays plan (Note o c) S f = let k = noted_kept c (node_of S.tree o.0) in changes S.tree o.0 (noted c) (ap is_gone k.0) k.1 k.2 k.3
+deed_stays plan (CleanUp o) S f =
+    let asked : is_asked (life_of S.tree o.0) ≡ true = search both_left in
+    changes S.tree o.0 (with_life life.Cleaned) (sym (asked_there (life_of S.tree o.0) asked)) refl refl refl
+deed_stays plan (EndLife o) S f = ended S.tree o.0
+deed_stays plan (Requeue r p) S f = stays_same _ _ (gives_up tree_of (λ S Q R P. refl) S r.0)
+deed_stays plan (Forward r p) S f = stays_same _ _ (gives_up tree_of (λ S Q R P. refl) S r.0)
+deed_stays plan (GiveBack r p) S f = stays_same _ _ (gives_up tree_of (λ S Q R P. refl) S r.0)
+deed_stays plan (SendRequest r t forget) S f = stays_same _ _ (gives_up_if tree_of (λ S Q R P. refl) S forget r.0)
+deed_stays plan (CompleteRequest r) S f =
+    stays_then S.tree (give_up S r.0).tree _ (stays_same _ _ (gives_up tree_of (λ S Q R P. refl) S r.0))
+    (all_asked (subtree (give_up S r.0).tree r.0) (record (give_up S r.0) { requests = requests.complete S.requests r.0 }))
+deed_stays plan (PurgeQueue p) S f = stays_same _ _ (withdraws tree_of (λ S Q R P. refl) plan p.0 (waiting_in S.queues p.0) (record S { control = control.set_mode S.control p.0 mode.Purged }))
+deed_stays plan (CloseReturning d) S f = stays_same _ _ (returns_closed tree_of (λ S Q R P. refl) (managed_queues plan d.0) S)
+deed_stays plan (CloseDevice d) S f = stays_same _ _ (queues_closed tree_of (λ S Q R P. refl) (queues_of plan d.0) (record S { control = control.shut S.control d.0 }))
 deed_stays plan _ S f = stays_same S.tree S.tree refl
 
 -- an event that may come leaves what was there, or ends it

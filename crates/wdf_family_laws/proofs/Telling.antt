@@ -34,7 +34,10 @@ use Rattle.wdf_model.specs.parts.Tree.{Tree, declared_as, gone, is_full, is_gone
 use Rattle.wdf_model.specs.parts.Tree as tree
 use Rattle.wdf_model.specs.parts.Cpus.{frame_of}
 use Rattle.wdf_model.specs.State.{State, object_in}
-use Rattle.wdf_model.specs.rules.Deeds.{Deed, Arrive, Count_arrival, Go_on, do_deed, do_deeds}
+use Rattle.wdf_model.specs.Ids.{frame_id, object_id}
+use Rattle.wdf_model.specs.declared.deed.Deed.{Deed}
+use Rattle.wdf_model.specs.declared.deed.Deed.TheVariants.{Arrive, CountArrival, GoOn}
+use Rattle.wdf_model.specs.rules.Deeds.{do_deed, do_deeds}
 use Rattle.wdf_model.specs.rules.Calls.{Outcome, create_outcome, creation, new_handle, outcome, refused, second_deeds}
 use Rattle.wdf_model.specs.rules.Posts.{arrival_info, arrival_place, arriving, due_of, post_answer, post_deeds, post_fits}
 use Rattle.wdf_model.specs.rules.Steps.{after, answered, did_deeds, may}
@@ -121,7 +124,7 @@ same_argument (Val (Num n)) = refl
 same_argument (Val (Stat s)) = refl
 same_argument (Class c) = refl
 
-gone_on : {A : Type 0} (plan : Plan) (f : ℕ) (next : Frame) (ds : List Deed) (S : State A) → (do_deeds plan (ds ++ Go_on f next ∷ []) S).tree ≡ (do_deeds plan ds S).tree
+gone_on : {A : Type 0} (plan : Plan) (f : ℕ) (next : Frame) (ds : List Deed) (S : State A) → (do_deeds plan (ds ++ GoOn (frame_id f) next ∷ []) S).tree ≡ (do_deeds plan ds S).tree
 gone_on plan f next [] S = refl
 gone_on plan f next (d ∷ ds) S = gone_on plan f next ds (do_deed plan d S)
 
@@ -133,7 +136,7 @@ did_create {A} plan m S k c v t class parent h is none e =
     let f : ℕ = d.frame in
     let next : Frame = answered plan (frame_of S.cpus f) v in
     let o : Outcome = create_outcome plan S class parent in
-    let first : (after plan m S (event.Did k c v)).tree ≡ (do_deeds plan ((outcome plan S k.0 f c).deeds ++ second_deeds f c ++ Go_on f next ∷ []) S).tree =
+    let first : (after plan m S (event.Did k c v)).tree ≡ (do_deeds plan ((outcome plan S k.0 f c).deeds ++ second_deeds f c ++ GoOn (frame_id f) next ∷ []) S).tree =
     ap (λ (ds : List Deed). (do_deeds plan ds S).tree) (by_its_top S k.0 f (did_deeds plan S k.0 c v) d.about.top) in
     let same : (outcome plan S k.0 f c).deeds ++ second_deeds f c ≡ o.deeds = ap (λ (x : Outcome). x.deeds ++ second_deeds f c) (is f) ∙ ap (λ ds. o.deeds ++ ds) (none f) ∙ append-nil o.deeds in
     let moved : (after plan m S (event.Did k c v)).tree ≡ (do_deeds plan o.deeds S).tree =
@@ -168,7 +171,7 @@ did_makes plan m S k _ n (Class c) b x v t h e = absurd (let z : ⊥ = cc in z)
 
 arrival_makes : {A : Type 0} (plan : Plan) (S : State A) (agent : ℕ) (f : RequestForm) (length code device : ℕ) (answer : Option Handle) (t : Told) (b : Bool) → is_live (life_of S.tree device) ≡ b
     → same_option same_handle (if b then Some (arriving S) else None) answer ≡ true → told_of device None (id_in answer) ≡ Some t
-    → Makes plan S.tree (do_deeds plan (Count_arrival agent ∷ (if b then Arrive device (arrival_info S agent f length code device) (arrival_place plan S f length device) ∷ [] else [])) S).tree t
+    → Makes plan S.tree (do_deeds plan (CountArrival agent ∷ (if b then Arrive (object_id device) (arrival_info S agent f length code device) (arrival_place plan S f length device) ∷ [] else [])) S).tree t
 arrival_makes plan S agent f length code device None t b live same e = absurd (let z : ⊥ = cc in z)
 arrival_makes plan S agent f length code device (Some h) t false live same e = absurd (let z : ⊥ = cc in z)
 arrival_makes {A} plan S agent f length code device (Some h) t true live same e =
@@ -176,7 +179,7 @@ arrival_makes {A} plan S agent f length code device (Some h) t true live same e 
     let one : Told = record { object = next_id S.tree; parent = device; class = None } in
     let so : Some one ≡ Some t = subst (λ (x : Handle). told_of device None (id_in (Some x)) ≡ Some t) (sym it) e in
     let is : one ≡ t = cc in
-    let S_ : State A = do_deed plan (Count_arrival agent) S in
+    let S_ : State A = do_deed plan (CountArrival agent) S in
     subst (λ (U : Tree). Makes plan S.tree U t) (sym (arrived S_ device (arrival_info S agent f length code device) (arrival_place plan S f length device)))
     (subst (λ x. Makes plan S.tree (tree.arrive S.tree device) x) is (new_makes plan S.tree kind.Request 0 device None live refl (λ none. refl)))
 

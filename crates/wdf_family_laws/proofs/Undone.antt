@@ -19,7 +19,9 @@ use Rattle.wdf_model.specs.parts.Queues as queues
 use Rattle.wdf_model.specs.parts.Control as control
 use Rattle.wdf_model.specs.parts.Targets.{is_forgotten}
 use Rattle.wdf_model.specs.State.{State, returns_to, withdrawn_place}
-use Rattle.wdf_model.specs.rules.Deeds.{Deed, Make_request, Arrive, Ask_deletion, End_life, Present, Receive, Requeue, Forward, Give_back, Withdraw, Mark_request, Unmark_request, Cancel_request, Take_cancel, Send_request, Finish_sending, Come_back, Complete_request, Purge_queue, Close_returning, Close_device, arrive_at, cancel_in, close_queue, close_returning, do_deed, do_deeds, finished_at, give_up, give_up_if, queued, withdraw}
+use Rattle.wdf_model.specs.declared.deed.Deed.{Deed}
+use Rattle.wdf_model.specs.declared.deed.Deed.TheVariants.{MakeRequest, Arrive, AskDeletion, EndLife, Present, Receive, Requeue, Forward, GiveBack, Withdraw, MarkRequest, UnmarkRequest, CancelRequest, TakeCancel, SendRequest, FinishSending, ComeBack, CompleteRequest, PurgeQueue, CloseReturning, CloseDevice}
+use Rattle.wdf_model.specs.rules.Deeds.{arrive_at, cancel_in, close_queue, close_returning, do_deed, do_deeds, finished_at, give_up, give_up_if, queued, withdraw}
 use Rattle.wdf_model.specs.laws.Fits.{all_fit, fits, is_arrival_place}
 use Rattle.wdf_model.proofs.Tests.{both_left, both_right}
 use Rattle.wdf_model.proofs.Maps.{entry_map, entry_put_other, entry_put_same, entry_set_other, set_read}
@@ -151,7 +153,7 @@ requests_in S = S.requests
 
 -- the request that a deed completes
 abbrev pub Completes : Deed → ℕ → Type 0
-Completes (Complete_request r) x = x ≡ r
+Completes (CompleteRequest r) x = x ≡ r.0
 Completes _ x = ⊥
 
 given_then : {A : Type 0} (S : State A) (r : ℕ) (U : Requests) → WasFinished (give_up S r).requests U → WasFinished S.requests U
@@ -161,32 +163,32 @@ pub completed_one : (R : Requests) (r x : ℕ) → x ≢ r → finished (request
 completed_one R r x n h = sym (ap is_finished_request (entry_put_other no_request R.all r x (moved place.Done (request_of R r)) n)) ∙ h
 
 pub deed_finishes : {A : Type 0} (plan : Plan) (d : Deed) (S : State A) → fits plan d S ≡ true → (x : ℕ) → (Completes d x → ⊥) → finished (do_deed plan d S).requests x ≡ true → finished S.requests x ≡ true
-deed_finishes plan (Make_request class parent) S f x n h = put_in S.requests (next_id S.tree) place.Owned (made_info (nearest_device S.tree parent)) refl x h
+deed_finishes plan (MakeRequest class parent) S f x n h = put_in S.requests (next_id S.tree) place.Owned (made_info (nearest_device S.tree parent.0)) refl x h
 deed_finishes plan (Arrive device info p) S f x n h =
-    put_in S.requests (next_id S.tree) p info (arrival_undone p (search both_right)) x (sym (ap (λ (R : Requests). finished R x) (arrived S device info p)) ∙ h)
-deed_finishes plan (Ask_deletion o) S f x n h = same_requests S.requests (do_deed plan (Ask_deletion o) S).requests (asks_all requests_in (λ S T D W U. refl) (subtree S.tree o) S) x h
-deed_finishes plan (End_life o) S f x n h = forgets S.requests o x h
-deed_finishes plan (Present q r) S f x n h = moved_to S.requests r place.Owned refl x h
-deed_finishes plan (Receive q r) S f x n h = moved_to S.requests r place.Owned refl x h
-deed_finishes plan (Requeue r q) S f x n h = given_then S r (do_deed plan (Requeue r q) S).requests (moved_to (give_up S r).requests r (queued q) refl) x h
-deed_finishes plan (Forward r q) S f x n h = given_then S r (do_deed plan (Forward r q) S).requests (moved_to (give_up S r).requests r (queued q) refl) x h
-deed_finishes plan (Give_back r q) S f x n h = given_then S r (do_deed plan (Give_back r q) S).requests (cancelled_in plan (give_up S r) q r) x h
-deed_finishes plan (Withdraw q r) S f x n h = cancelled_in plan (record S { queues = queues.take_cancelled S.queues r }) q r x h
-deed_finishes plan (Mark_request r) S f x n h = changed S.requests r marked (λ k. sym (marked_same (request_of S.requests r) (request_of S.requests r).info.cancelled refl) ∙ k) x h
-deed_finishes plan (Unmark_request r) S f x n h = changed S.requests r unmarked (λ k. sym (unmarked_same (request_of S.requests r) (is_marked (request_of S.requests r).info.mark) refl) ∙ k) x h
-deed_finishes plan (Cancel_request r) S f x n h = changed S.requests r cancelled (λ k. k) x h
-deed_finishes plan (Take_cancel r) S f x n h = changed S.requests r (with_mark marks.Taken) (λ k. k) x h
-deed_finishes plan (Send_request r t forget) S f x n h =
-    was_then S.requests (give_up_if forget S r).requests (do_deed plan (Send_request r t forget) S).requests (same_requests S.requests (give_up_if forget S r).requests (given_if requests_in (λ S Q P. refl) S forget r))
-    (moved_to (give_up_if forget S r).requests r (place.Sent (record { 0 = t })) refl) x h
-deed_finishes plan (Finish_sending r s) S f x n h = moved_to S.requests r (finished_at (is_forgotten S.targets r) s (place_of S.requests r)) (finish_undone (is_forgotten S.targets r) s (place_of S.requests r) (search both_left)) x h
-deed_finishes plan (Come_back r) S f x n h = moved_to S.requests r place.Owned refl x h
-deed_finishes {A} plan (Complete_request r) S f x n h =
-    let U : State A = record (give_up S r) { requests = requests.complete S.requests r } in
-    completed_one S.requests r x n (same_requests U.requests (do_deed plan (Complete_request r) S).requests (asks_all requests_in (λ S T D W U. refl) (subtree (give_up S r).tree r) U) x h)
-deed_finishes plan (Purge_queue q) S f x n h = all_withdrawn plan q (waiting_in S.queues q) (record S { control = control.set_mode S.control q mode.Purged }) x h
-deed_finishes plan (Close_returning d) S f x n h = all_returning (managed_queues plan d) S x h
-deed_finishes plan (Close_device d) S f x n h = all_closed (queues_of plan d) (record S { control = control.shut S.control d }) x h
+    put_in S.requests (next_id S.tree) p info (arrival_undone p (search both_right)) x (sym (ap (λ (R : Requests). finished R x) (arrived S device.0 info p)) ∙ h)
+deed_finishes plan (AskDeletion o) S f x n h = same_requests S.requests (do_deed plan (AskDeletion o) S).requests (asks_all requests_in (λ S T D W U. refl) (subtree S.tree o.0) S) x h
+deed_finishes plan (EndLife o) S f x n h = forgets S.requests o.0 x h
+deed_finishes plan (Present q r) S f x n h = moved_to S.requests r.0 place.Owned refl x h
+deed_finishes plan (Receive q r) S f x n h = moved_to S.requests r.0 place.Owned refl x h
+deed_finishes plan (Requeue r q) S f x n h = given_then S r.0 (do_deed plan (Requeue r q) S).requests (moved_to (give_up S r.0).requests r.0 (queued q.0) refl) x h
+deed_finishes plan (Forward r q) S f x n h = given_then S r.0 (do_deed plan (Forward r q) S).requests (moved_to (give_up S r.0).requests r.0 (queued q.0) refl) x h
+deed_finishes plan (GiveBack r q) S f x n h = given_then S r.0 (do_deed plan (GiveBack r q) S).requests (cancelled_in plan (give_up S r.0) q.0 r.0) x h
+deed_finishes plan (Withdraw q r) S f x n h = cancelled_in plan (record S { queues = queues.take_cancelled S.queues r.0 }) q.0 r.0 x h
+deed_finishes plan (MarkRequest r) S f x n h = changed S.requests r.0 marked (λ k. sym (marked_same (request_of S.requests r.0) (request_of S.requests r.0).info.cancelled refl) ∙ k) x h
+deed_finishes plan (UnmarkRequest r) S f x n h = changed S.requests r.0 unmarked (λ k. sym (unmarked_same (request_of S.requests r.0) (is_marked (request_of S.requests r.0).info.mark) refl) ∙ k) x h
+deed_finishes plan (CancelRequest r) S f x n h = changed S.requests r.0 cancelled (λ k. k) x h
+deed_finishes plan (TakeCancel r) S f x n h = changed S.requests r.0 (with_mark marks.Taken) (λ k. k) x h
+deed_finishes plan (SendRequest r t forget) S f x n h =
+    was_then S.requests (give_up_if forget S r.0).requests (do_deed plan (SendRequest r t forget) S).requests (same_requests S.requests (give_up_if forget S r.0).requests (given_if requests_in (λ S Q P. refl) S forget r.0))
+    (moved_to (give_up_if forget S r.0).requests r.0 (place.Sent (record { 0 = t.0 })) refl) x h
+deed_finishes plan (FinishSending r s) S f x n h = moved_to S.requests r.0 (finished_at (is_forgotten S.targets r.0) s (place_of S.requests r.0)) (finish_undone (is_forgotten S.targets r.0) s (place_of S.requests r.0) (search both_left)) x h
+deed_finishes plan (ComeBack r) S f x n h = moved_to S.requests r.0 place.Owned refl x h
+deed_finishes {A} plan (CompleteRequest r) S f x n h =
+    let U : State A = record (give_up S r.0) { requests = requests.complete S.requests r.0 } in
+    completed_one S.requests r.0 x n (same_requests U.requests (do_deed plan (CompleteRequest r) S).requests (asks_all requests_in (λ S T D W U. refl) (subtree (give_up S r.0).tree r.0) U) x h)
+deed_finishes plan (PurgeQueue q) S f x n h = all_withdrawn plan q.0 (waiting_in S.queues q.0) (record S { control = control.set_mode S.control q.0 mode.Purged }) x h
+deed_finishes plan (CloseReturning d) S f x n h = all_returning (managed_queues plan d.0) S x h
+deed_finishes plan (CloseDevice d) S f x n h = all_closed (queues_of plan d.0) (record S { control = control.shut S.control d.0 }) x h
 deed_finishes plan _ S f x n h = h
 
 -- none of some deeds completes a request
@@ -201,7 +203,7 @@ deeds_finish plan x (d ∷ ds) S f n h =
 
 -- the deeds of an event that completes nothing
 not_this : (e : Event) (d : Deed) (x : ℕ) → completing e ≡ false → is_within e d ≡ true → Completes d x → ⊥
-not_this e (Complete_request r) x off h at = let z : ⊥ = cc in z
+not_this e (CompleteRequest r) x off h at = let z : ⊥ = cc in z
 not_this e _ x off h at = at
 
 pub none_complete : (e : Event) (ds : List Deed) (x : ℕ) → completing e ≡ false → all_within e ds ≡ true → NoneComplete x ds

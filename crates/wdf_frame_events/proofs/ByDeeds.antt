@@ -32,7 +32,9 @@ use Rattle.wdf_model.specs.parts.Queues.{waiting_in}
 use Rattle.wdf_model.specs.parts.Control as control
 use Rattle.wdf_model.specs.parts.Targets.{is_forgotten}
 use Rattle.wdf_model.specs.State.{State, withdrawn_place}
-use Rattle.wdf_model.specs.rules.Deeds.{Deed, Create, Make_request, Arrive, Ask_deletion, Refer, Unrefer, Write_cell, Note, Clean_up, End_life, Push_frame, Go_on, Raise, Lower, Pop_frame, Park_frame, Unpark_frame, Take_lock, Release_lock, Present, Receive, Requeue, Forward, Give_back, Withdraw, Mark_request, Unmark_request, Cancel_request, Take_cancel, Send_request, Finish_sending, Come_back, Complete_request, Purge_queue, Close_returning, Close_device, arrive_at, ask_object, close_queue, close_returning, do_deed, do_deeds, finished_at, give_up, give_up_if, queued, withdraw}
+use Rattle.wdf_model.specs.declared.deed.Deed.{Deed}
+use Rattle.wdf_model.specs.declared.deed.Deed.TheVariants.{Create, MakeRequest, Arrive, AskDeletion, Refer, Unrefer, WriteCell, Note, CleanUp, EndLife, PushFrame, GoOn, Raise, Lower, PopFrame, ParkFrame, UnparkFrame, TakeLock, ReleaseLock, Present, Receive, Requeue, Forward, GiveBack, Withdraw, MarkRequest, UnmarkRequest, CancelRequest, TakeCancel, SendRequest, FinishSending, ComeBack, CompleteRequest, PurgeQueue, CloseReturning, CloseDevice}
+use Rattle.wdf_model.specs.rules.Deeds.{arrive_at, ask_object, close_queue, close_returning, do_deed, do_deeds, finished_at, give_up, give_up_if, queued, withdraw}
 use Rattle.wdf_model.proofs.Counts.{one_or_two}
 use Rattle.wdf_model.proofs.Deletion.{object_live, object_off}
 use Rattle.wdf_model.proofs.Maps.{entry_before, entry_last, entry_map, entry_put_other, entry_put_same, entry_set_other, set_read}
@@ -46,9 +48,9 @@ use Rattle.wdf_frame_events.specs.Values.{HasFrameValues, HasPlanValues, HasSmal
 -- ---- what a deed tells
 
 abbrev pub TellsOf : Plan → Deed → Type 0
-TellsOf plan (Push_frame cpu f frame level) = HasFrameValues plan frame
-TellsOf plan (Go_on f frame) = HasFrameValues plan frame
-TellsOf plan (Write_cell o k v) = IsValueOf plan v
+TellsOf plan (PushFrame cpu f frame level) = HasFrameValues plan frame
+TellsOf plan (GoOn f frame) = HasFrameValues plan frame
+TellsOf plan (WriteCell o k v) = IsValueOf plan v
 TellsOf plan (Arrive device info p) = HasSmallNumbers info
 TellsOf plan _ = ⊤
 
@@ -102,15 +104,15 @@ popped plan h C each None x = each x
 popped plan h C each (Some f) x = frame_put plan C.frames f no_frame (blank_of plan h) each x
 
 frames_by : {A : Type 0} (plan : Plan) → IsResolved plan → (d : Deed) (S : State A) → TellsOf plan d → FramesOf plan S.cpus → FramesOf plan (do_deed plan d S).cpus
-frames_by plan h (Push_frame cpu f frame level) S t each = frame_put plan S.cpus.frames f (record { frame = frame; level = record { 0 = level } }) t each
-frames_by plan h (Go_on f frame) S t each = frame_put plan S.cpus.frames f (record (running S.cpus f) { frame = frame }) t each
-frames_by plan h (Pop_frame cpu) S t each = popped plan h S.cpus each (top S.cpus cpu)
-frames_by plan h (Park_frame cpu) S t each = each
-frames_by plan h (Unpark_frame cpu f) S t each = each
+frames_by plan h (PushFrame cpu f frame level) S t each = frame_put plan S.cpus.frames f.0 (record { frame = frame; level = record { 0 = level.0 } }) t each
+frames_by plan h (GoOn f frame) S t each = frame_put plan S.cpus.frames f.0 (record (running S.cpus f.0) { frame = frame }) t each
+frames_by plan h (PopFrame cpu) S t each = popped plan h S.cpus each (top S.cpus cpu.0)
+frames_by plan h (ParkFrame cpu) S t each = each
+frames_by plan h (UnparkFrame cpu f) S t each = each
 frames_by plan h (Raise f level) S t each = each
 frames_by plan h (Lower f level) S t each = each
-frames_by plan h (Take_lock l f by_call) S t each = each
-frames_by plan h (Release_lock l) S t each = each
+frames_by plan h (TakeLock l f by_call) S t each = each
+frames_by plan h (ReleaseLock l) S t each = each
 frames_by plan h d S t each = subst (λ (C : Cpus). FramesOf plan C) (sym (quiet_cpus plan d S refl)) each
 
 -- ---- context cells
@@ -154,25 +156,25 @@ same_cells : (plan : Plan) (T U : Tree) → U ≡ T → CellsOf plan T → Cells
 same_cells plan T U e each = subst (λ (V : Tree). CellsOf plan V) (sym e) each
 
 cells_by : {A : Type 0} (plan : Plan) (d : Deed) (S : State A) → TellsOf plan d → CellsOf plan S.tree → CellsOf plan (do_deed plan d S).tree
-cells_by plan (Create k class parent) S t each = node_comes plan S.tree k class parent each
-cells_by plan (Make_request class parent) S t each = node_comes plan S.tree kind.Made class parent each
-cells_by plan (Arrive device info p) S t each = arrived_tree plan S device info p each
-cells_by plan (Ask_deletion o) S t each = asked_all plan (subtree S.tree o) S each
-cells_by plan (Refer o) S t each = node_changes plan S.tree o (λ n. record n { references = n.references + 1 }) (each o) each
-cells_by plan (Unrefer o) S t each = node_changes plan S.tree o (λ n. record n { references = n.references - 1 }) (each o) each
-cells_by plan (Write_cell o k v) S t each = node_changes plan S.tree o (λ n. record n { cells = slice_set n.cells k v }) (value_set plan (node_of S.tree o).cells k v t (each o)) each
-cells_by plan (Note o c) S t each = node_changes plan S.tree o (noted c) (noted_cells plan c (node_of S.tree o) (each o)) each
-cells_by plan (Clean_up o) S t each = node_changes plan S.tree o (with_life life.Cleaned) (each o) each
-cells_by plan (End_life o) S t each = node_changes plan S.tree o (λ _. gone) (zeros plan 8) each
-cells_by plan (Requeue r q) S t each = same_cells plan S.tree _ (gives_up tree_of (λ S Q R P. refl) S r) each
-cells_by plan (Forward r q) S t each = same_cells plan S.tree _ (gives_up tree_of (λ S Q R P. refl) S r) each
-cells_by plan (Give_back r q) S t each = same_cells plan S.tree _ (gives_up tree_of (λ S Q R P. refl) S r) each
-cells_by plan (Send_request r u forget) S t each = same_cells plan S.tree _ (gives_up_if tree_of (λ S Q R P. refl) S forget r) each
-cells_by plan (Complete_request r) S t each =
-    asked_all plan (subtree (give_up S r).tree r) (record (give_up S r) { requests = requests.complete S.requests r }) (same_cells plan S.tree _ (gives_up tree_of (λ S Q R P. refl) S r) each)
-cells_by plan (Purge_queue q) S t each = same_cells plan S.tree _ (withdraws tree_of (λ S Q R P. refl) plan q (waiting_in S.queues q) (record S { control = control.set_mode S.control q mode.Purged })) each
-cells_by plan (Close_returning d) S t each = same_cells plan S.tree _ (returns_closed tree_of (λ S Q R P. refl) (managed_queues plan d) S) each
-cells_by plan (Close_device d) S t each = same_cells plan S.tree _ (queues_closed tree_of (λ S Q R P. refl) (queues_of plan d) (record S { control = control.shut S.control d })) each
+cells_by plan (Create k class parent) S t each = node_comes plan S.tree k class parent.0 each
+cells_by plan (MakeRequest class parent) S t each = node_comes plan S.tree kind.Made class parent.0 each
+cells_by plan (Arrive device info p) S t each = arrived_tree plan S device.0 info p each
+cells_by plan (AskDeletion o) S t each = asked_all plan (subtree S.tree o.0) S each
+cells_by plan (Refer o) S t each = node_changes plan S.tree o.0 (λ n. record n { references = n.references + 1 }) (each o.0) each
+cells_by plan (Unrefer o) S t each = node_changes plan S.tree o.0 (λ n. record n { references = n.references - 1 }) (each o.0) each
+cells_by plan (WriteCell o k v) S t each = node_changes plan S.tree o.0 (λ n. record n { cells = slice_set n.cells k v }) (value_set plan (node_of S.tree o.0).cells k v t (each o.0)) each
+cells_by plan (Note o c) S t each = node_changes plan S.tree o.0 (noted c) (noted_cells plan c (node_of S.tree o.0) (each o.0)) each
+cells_by plan (CleanUp o) S t each = node_changes plan S.tree o.0 (with_life life.Cleaned) (each o.0) each
+cells_by plan (EndLife o) S t each = node_changes plan S.tree o.0 (λ _. gone) (zeros plan 8) each
+cells_by plan (Requeue r q) S t each = same_cells plan S.tree _ (gives_up tree_of (λ S Q R P. refl) S r.0) each
+cells_by plan (Forward r q) S t each = same_cells plan S.tree _ (gives_up tree_of (λ S Q R P. refl) S r.0) each
+cells_by plan (GiveBack r q) S t each = same_cells plan S.tree _ (gives_up tree_of (λ S Q R P. refl) S r.0) each
+cells_by plan (SendRequest r u forget) S t each = same_cells plan S.tree _ (gives_up_if tree_of (λ S Q R P. refl) S forget r.0) each
+cells_by plan (CompleteRequest r) S t each =
+    asked_all plan (subtree (give_up S r.0).tree r.0) (record (give_up S r.0) { requests = requests.complete S.requests r.0 }) (same_cells plan S.tree _ (gives_up tree_of (λ S Q R P. refl) S r.0) each)
+cells_by plan (PurgeQueue q) S t each = same_cells plan S.tree _ (withdraws tree_of (λ S Q R P. refl) plan q.0 (waiting_in S.queues q.0) (record S { control = control.set_mode S.control q.0 mode.Purged })) each
+cells_by plan (CloseReturning d) S t each = same_cells plan S.tree _ (returns_closed tree_of (λ S Q R P. refl) (managed_queues plan d.0) S) each
+cells_by plan (CloseDevice d) S t each = same_cells plan S.tree _ (queues_closed tree_of (λ S Q R P. refl) (queues_of plan d.0) (record S { control = control.shut S.control d.0 })) each
 cells_by plan _ S t each = each
 
 -- ---- requests
@@ -249,29 +251,29 @@ given_up : {A : Type 0} (S : State A) (r : ℕ) → AreSmall S.requests → AreS
 given_up S r each = same_small S.requests _ (given requests_of (λ S Q P. refl) S r) each
 
 requests_by : {A : Type 0} (plan : Plan) (d : Deed) (S : State A) → TellsOf plan d → AreSmall S.requests → AreSmall (do_deed plan d S).requests
-requests_by plan (Make_request class parent) S t each = one_comes S.requests (next_id S.tree) place.Owned (made_info (nearest_device S.tree parent)) none_small each
-requests_by plan (Arrive device info p) S t each = arrived_small S device info p t each
-requests_by plan (Ask_deletion o) S t each = same_small S.requests _ (asks_all requests_of (λ S T D W U. refl) (subtree S.tree o) S) each
-requests_by plan (End_life o) S t each = forgets S.requests o each
-requests_by plan (Present q r) S t each = moves S.requests r place.Owned each
-requests_by plan (Receive q r) S t each = moves S.requests r place.Owned each
-requests_by plan (Requeue r q) S t each = moves (give_up S r).requests r (queued q) (given_up S r each)
-requests_by plan (Forward r q) S t each = moves (give_up S r).requests r (queued q) (given_up S r each)
-requests_by plan (Give_back r q) S t each = moves (requests.cancel (give_up S r).requests r) r (withdrawn_place plan (give_up S r) q r) (cancels (give_up S r).requests r (given_up S r each))
-requests_by plan (Withdraw q r) S t each = moves (requests.cancel S.requests r) r _ (cancels S.requests r each)
-requests_by plan (Mark_request r) S t each = one_changes S.requests r marked (either_small (request_of S.requests r).info.cancelled (request_of S.requests r) (with_mark marks.Marked (request_of S.requests r)) (each r) (each r)) each
-requests_by plan (Unmark_request r) S t each = one_changes S.requests r unmarked (either_small (is_marked (request_of S.requests r).info.mark) (with_mark marks.Unmarked (request_of S.requests r)) (request_of S.requests r) (each r) (each r)) each
-requests_by plan (Cancel_request r) S t each = cancels S.requests r each
-requests_by plan (Take_cancel r) S t each = one_changes S.requests r (with_mark marks.Taken) (each r) each
-requests_by plan (Send_request r u forget) S t each =
-    moves (give_up_if forget S r).requests r (place.Sent (record { 0 = u })) (same_small S.requests _ (given_if requests_of (λ S Q P. refl) S forget r) each)
-requests_by plan (Finish_sending r s) S t each = moves S.requests r (finished_at (is_forgotten S.targets r) s (place_of S.requests r)) each
-requests_by plan (Come_back r) S t each = moves S.requests r place.Owned each
-requests_by plan (Complete_request r) S t each =
-    same_small (requests.complete S.requests r) _ (asks_all requests_of (λ S T D W U. refl) (subtree (give_up S r).tree r) (record (give_up S r) { requests = requests.complete S.requests r })) (moves S.requests r place.Done each)
-requests_by plan (Purge_queue q) S t each = all_withdrawn plan q (waiting_in S.queues q) (record S { control = control.set_mode S.control q mode.Purged }) each
-requests_by plan (Close_returning d) S t each = all_returning (managed_queues plan d) S each
-requests_by plan (Close_device d) S t each = all_closed (queues_of plan d) (record S { control = control.shut S.control d }) each
+requests_by plan (MakeRequest class parent) S t each = one_comes S.requests (next_id S.tree) place.Owned (made_info (nearest_device S.tree parent.0)) none_small each
+requests_by plan (Arrive device info p) S t each = arrived_small S device.0 info p t each
+requests_by plan (AskDeletion o) S t each = same_small S.requests _ (asks_all requests_of (λ S T D W U. refl) (subtree S.tree o.0) S) each
+requests_by plan (EndLife o) S t each = forgets S.requests o.0 each
+requests_by plan (Present q r) S t each = moves S.requests r.0 place.Owned each
+requests_by plan (Receive q r) S t each = moves S.requests r.0 place.Owned each
+requests_by plan (Requeue r q) S t each = moves (give_up S r.0).requests r.0 (queued q.0) (given_up S r.0 each)
+requests_by plan (Forward r q) S t each = moves (give_up S r.0).requests r.0 (queued q.0) (given_up S r.0 each)
+requests_by plan (GiveBack r q) S t each = moves (requests.cancel (give_up S r.0).requests r.0) r.0 (withdrawn_place plan (give_up S r.0) q.0 r.0) (cancels (give_up S r.0).requests r.0 (given_up S r.0 each))
+requests_by plan (Withdraw q r) S t each = moves (requests.cancel S.requests r.0) r.0 _ (cancels S.requests r.0 each)
+requests_by plan (MarkRequest r) S t each = one_changes S.requests r.0 marked (either_small (request_of S.requests r.0).info.cancelled (request_of S.requests r.0) (with_mark marks.Marked (request_of S.requests r.0)) (each r.0) (each r.0)) each
+requests_by plan (UnmarkRequest r) S t each = one_changes S.requests r.0 unmarked (either_small (is_marked (request_of S.requests r.0).info.mark) (with_mark marks.Unmarked (request_of S.requests r.0)) (request_of S.requests r.0) (each r.0) (each r.0)) each
+requests_by plan (CancelRequest r) S t each = cancels S.requests r.0 each
+requests_by plan (TakeCancel r) S t each = one_changes S.requests r.0 (with_mark marks.Taken) (each r.0) each
+requests_by plan (SendRequest r u forget) S t each =
+    moves (give_up_if forget S r.0).requests r.0 (place.Sent (record { 0 = u.0 })) (same_small S.requests _ (given_if requests_of (λ S Q P. refl) S forget r.0) each)
+requests_by plan (FinishSending r s) S t each = moves S.requests r.0 (finished_at (is_forgotten S.targets r.0) s (place_of S.requests r.0)) each
+requests_by plan (ComeBack r) S t each = moves S.requests r.0 place.Owned each
+requests_by plan (CompleteRequest r) S t each =
+    same_small (requests.complete S.requests r.0) _ (asks_all requests_of (λ S T D W U. refl) (subtree (give_up S r.0).tree r.0) (record (give_up S r.0) { requests = requests.complete S.requests r.0 })) (moves S.requests r.0 place.Done each)
+requests_by plan (PurgeQueue q) S t each = all_withdrawn plan q.0 (waiting_in S.queues q.0) (record S { control = control.set_mode S.control q.0 mode.Purged }) each
+requests_by plan (CloseReturning d) S t each = all_returning (managed_queues plan d.0) S each
+requests_by plan (CloseDevice d) S t each = all_closed (queues_of plan d.0) (record S { control = control.shut S.control d.0 }) each
 requests_by plan _ S t each = each
 
 -- ---- all of it

@@ -36,7 +36,9 @@ use Rattle.wdf_model.specs.parts.Cpus.{frame_of, top}
 use Rattle.wdf_model.specs.parts.Locks.{lock_of_callback}
 use Rattle.wdf_model.specs.parts.Requests.{arrival_of, info_of, place_of}
 use Rattle.wdf_model.specs.State.{State, declared_in, handle_in}
-use Rattle.wdf_model.specs.rules.Deeds.{Deed, Arrive, Count_arrival, Go_on, Pop_frame, Push_frame}
+use Rattle.wdf_model.specs.Ids.{frame_id, irql_of, object_id}
+use Rattle.wdf_model.specs.declared.deed.Deed.{Deed}
+use Rattle.wdf_model.specs.declared.deed.Deed.TheVariants.{Arrive, CountArrival, GoOn, PopFrame, PushFrame}
 use Rattle.wdf_model.specs.rules.Script.{intent_of, statement_at}
 use Rattle.wdf_model.specs.rules.Calls.{outcome, second_deeds}
 use Rattle.wdf_model.specs.rules.Starts.{effect, effect_for, end_of_step, handle_id, new_frame, next_number, release_if_any, stage_effect, start_effect, take_if_any}
@@ -178,7 +180,7 @@ cancel_tells plan S None = tt
 cancel_tells plan S (Some r) = cancel_at_tells plan (place_of S.requests r) r
 
 arrival_tells : {A : Type 0} (plan : Plan) (S : State A) (agent : ℕ) (f : RequestForm) (size code device : ℕ) (b : Bool) → size < 2 ^ 64 → code < 2 ^ 64
-    → AllTellOf plan (Count_arrival agent ∷ (if b then Arrive device (arrival_info S agent f size code device) (arrival_place plan S f size device) ∷ [] else []))
+    → AllTellOf plan (CountArrival agent ∷ (if b then Arrive (object_id device) (arrival_info S agent f size code device) (arrival_place plan S f size device) ∷ [] else []))
 arrival_tells plan S agent f size code device true h k = (tt, ((h, k), tt))
 arrival_tells plan S agent f size code device false h k = (tt, tt)
 
@@ -225,7 +227,7 @@ module _ {A : Type 0} (plan : Plan) (m : Meaning A) (S : State A) (b : Bounded p
 
   did_tells : (cpu f : ℕ) (c : Call) (v : Value) → IsCallOf plan c → IsValueOf plan v → AllTellOf plan (did_deeds plan S cpu c v f (frame_of S.cpus f))
   did_tells cpu f c v is h =
-      each_behind (TellsOf plan) ((outcome plan S cpu f c).deeds ++ second_deeds f c) (Go_on f (answered plan (frame_of S.cpus f) v) ∷ [])
+      each_behind (TellsOf plan) ((outcome plan S cpu f c).deeds ++ second_deeds f c) (GoOn (frame_id f) (answered plan (frame_of S.cpus f) v) ∷ [])
       (each_behind (TellsOf plan) (outcome plan S cpu f c).deeds (second_deeds f c) (outcome_of plan m S b values cpu f c is).tells (second_tells plan f c))
       (answered_of plan (frame_of S.cpus f) v h (values.frames f), tt)
 
@@ -233,34 +235,34 @@ module _ {A : Type 0} (plan : Plan) (m : Meaning A) (S : State A) (b : Bounded p
   waiting_tells cpu f c is k =
       let o = outcome_of plan m S b values cpu f c is in
       let answer = o.answers (doable_front plan (outcome plan S cpu f c).deeds _ S k) in
-      each_behind (TellsOf plan) (outcome plan S cpu f c).deeds (Go_on f (waiting (frame_of S.cpus f) c (outcome plan S cpu f c).answer) ∷ []) o.tells
+      each_behind (TellsOf plan) (outcome plan S cpu f c).deeds (GoOn (frame_id f) (waiting (frame_of S.cpus f) c (outcome plan S cpu f c).answer) ∷ []) o.tells
       (waiting_of plan (frame_of S.cpus f) c (outcome plan S cpu f c).answer is answer (values.frames f), tt)
 
   woke_tells : (f : ℕ) (c : Call) (v : Value) → IsValueOf plan v → AllTellOf plan (woke_deeds plan c v f (frame_of S.cpus f))
   woke_tells f c v h =
-      each_behind (TellsOf plan) (second_deeds f c) (Go_on f (answered plan (frame_of S.cpus f) v) ∷ []) (second_tells plan f c)
+      each_behind (TellsOf plan) (second_deeds f c) (GoOn (frame_id f) (answered plan (frame_of S.cpus f) v) ∷ []) (second_tells plan f c)
       (answered_of plan (frame_of S.cpus f) v h (values.frames f), tt)
 
   pub event_tells : (e : Event) → IsEventOf plan e → AreDoable plan (deeds plan S e) S → AllTellOf plan (deeds plan S e)
   event_tells (event.Start k c o r) is d =
       each_behind (TellsOf plan) (start_effect plan S k.0 c o.id.0 r)
-      (Push_frame k.0 (next_number S) (new_frame plan S c o r) (callback_irql plan c o.id.0) ∷ take_if_any (next_number S) (lock_of_callback plan c o.id.0 (declared_in plan S o.id.0)))
+      (PushFrame k (frame_id (next_number S)) (new_frame plan S c o r) (irql_of (callback_irql plan c o.id.0)) ∷ take_if_any (next_number S) (lock_of_callback plan c o.id.0 (declared_in plan S o.id.0)))
       (start_effect_tells plan S k.0 c o.id.0 r)
       (new_frame_of c o r is.1 is.2, taking_tells plan (next_number S) (lock_of_callback plan c o.id.0 (declared_in plan S o.id.0)))
   event_tells (event.Local k line) is d =
-      by_top_tells (λ f frame. Go_on f (stepped frame (intent_of plan frame)) ∷ [])
+      by_top_tells (λ f frame. GoOn (frame_id f) (stepped frame (intent_of plan frame)) ∷ [])
       (λ f. (stepped_of plan (frame_of S.cpus f) (intent_of plan (frame_of S.cpus f)) (intent_is_of plan b.resolved fit (frame_of S.cpus f) (values.frames f)) (values.frames f), tt)) (top S.cpus k.0)
-  event_tells (event.Log k v) is d = by_top_tells (λ f frame. Go_on f (goes_on plan frame) ∷ []) (λ f. (goes_on_of plan (frame_of S.cpus f) (values.frames f), tt)) (top S.cpus k.0)
-  event_tells (event.Spend k n) is d = by_top_tells (λ f frame. Go_on f (spending plan S frame n) ∷ []) (λ f. (spending_of plan S (frame_of S.cpus f) n (values.frames f), tt)) (top S.cpus k.0)
+  event_tells (event.Log k v) is d = by_top_tells (λ f frame. GoOn (frame_id f) (goes_on plan frame) ∷ []) (λ f. (goes_on_of plan (frame_of S.cpus f) (values.frames f), tt)) (top S.cpus k.0)
+  event_tells (event.Spend k n) is d = by_top_tells (λ f frame. GoOn (frame_id f) (spending plan S frame n) ∷ []) (λ f. (spending_of plan S (frame_of S.cpus f) n (values.frames f), tt)) (top S.cpus k.0)
   event_tells (event.Register k a r v) is d =
-      by_top_tells (λ f frame. Go_on f (answered plan frame (Num v)) ∷ []) (λ f. (answered_of plan (frame_of S.cpus f) (Num v) is.2 (values.frames f), tt)) (top S.cpus k.0)
+      by_top_tells (λ f frame. GoOn (frame_id f) (answered plan frame (Num v)) ∷ []) (λ f. (answered_of plan (frame_of S.cpus f) (Num v) is.2 (values.frames f), tt)) (top S.cpus k.0)
   event_tells (event.Did k c v) is d = by_top_tells (did_deeds plan S k.0 c v) (λ f. did_tells k.0 f c v is.1 is.2) (top S.cpus k.0)
   event_tells (event.Waiting k c) is d = by_top_tells_then (waiting_deeds plan S k.0 c) (λ f x. waiting_tells k.0 f c is.1 x) (top S.cpus k.0) d
   event_tells (event.Woke k c v) is d = by_top_tells (woke_deeds plan c v) (λ f. woke_tells f c v is.2) (top S.cpus k.0)
   event_tells (event.Park k f) is d = (tt, tt)
   event_tells (event.Unpark k f) is d = (tt, tt)
   event_tells (event.End k c o v) is d =
-      each_behind (TellsOf plan) (release_if_any (lock_of_callback plan c o.id.0 (declared_in plan S o.id.0))) (Pop_frame k.0 ∷ end_of_step plan S (row_of c).rank c o.id.0 v)
+      each_behind (TellsOf plan) (release_if_any (lock_of_callback plan c o.id.0 (declared_in plan S o.id.0))) (PopFrame k ∷ end_of_step plan S (row_of c).rank c o.id.0 v)
       (releasing_tells plan (lock_of_callback plan c o.id.0 (declared_in plan S o.id.0))) (tt, step_tells plan S (row_of c).rank c o.id.0 v)
   event_tells (event.Fault k x line) is d = tt
   event_tells (event.Stage x s i) is d = (tt, (tt, stage_tells plan x.id.0 s i))

@@ -18,16 +18,18 @@ use Rattle.wdf_base.specs.declared.frame.Intent.{Intent}
 use Rattle.wdf_base.specs.declared.frame.Intent.TheVariants as intent
 use Rattle.wdf_base.specs.declared.frame.Pending.{Pending}
 use Rattle.wdf_base.specs.declared.value.Value.{Value}
+use Rattle.wdf_model.specs.Ids.{cpu_of}
 use Rattle.wdf_model.specs.Tables.{entry, first_of_list}
 use Rattle.wdf_model.specs.Plans.{device_of_register}
 use Rattle.wdf_model.specs.parts.Cpus.{frame_of, top}
 use Rattle.wdf_model.specs.State.{State}
-use Rattle.wdf_model.specs.rules.Deeds.{Deed, do_deed, do_deeds}
+use Rattle.wdf_model.specs.declared.deed.Deed.{Deed}
+use Rattle.wdf_model.specs.rules.Deeds.{do_deed, do_deeds}
 use Rattle.wdf_model.specs.rules.Script.{intent_of, line_of}
 use Rattle.wdf_model.specs.rules.Faults.{fault_of}
 use Rattle.wdf_model.specs.rules.Calls.{is_met, is_met_then, outcome, second_deeds}
 use Rattle.wdf_model.specs.rules.Starts.{shown}
-use Rattle.wdf_model.specs.rules.Steps.{by_top, cpu_of, deeds, did_deeds, event_of_frame, event_of_top, fault_event, intent_event, is_own_event, may, own_event, spends, view_of}
+use Rattle.wdf_model.specs.rules.Steps.{by_top, deeds, did_deeds, event_of_frame, event_of_top, fault_event, intent_event, is_own_event, may, own_event, spends, view_of}
 use Rattle.wdf_model.proofs.Sames.{cpu_same, did_same, end_same, value_same, waiting_same, woke_same}
 use Rattle.wdf_model.proofs.Tests.{both_left, both_right}
 use Rattle.wdf_agreements.proofs.Lists.{inside}

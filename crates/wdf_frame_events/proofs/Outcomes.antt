@@ -24,7 +24,9 @@ use Rattle.wdf_model.specs.parts.Queues.{front}
 use Rattle.wdf_model.specs.parts.Requests.{is_cancelled, mark_answer}
 use Rattle.wdf_model.specs.parts.Targets.{is_undone}
 use Rattle.wdf_model.specs.State.{State, object_in, queue_delivers}
-use Rattle.wdf_model.specs.rules.Deeds.{Deed, Acknowledge, Enqueue_dpc, Enqueue_work, Forward, Give_back, Mark_request, Register_queue, Requeue, Send_request, Start_timer}
+use Rattle.wdf_model.specs.Ids.{cpu_of, object_id}
+use Rattle.wdf_model.specs.declared.deed.Deed.{Deed}
+use Rattle.wdf_model.specs.declared.deed.Deed.TheVariants.{Acknowledge, EnqueueDpc, EnqueueWork, Forward, GiveBack, MarkRequest, RegisterQueue, Requeue, SendRequest, StartTimer}
 use Rattle.wdf_model.specs.rules.Faults.{arg_is}
 use Rattle.wdf_model.specs.rules.Calls.{Outcome, acknowledge_outcome, class_in, create_outcome, creation, forward_outcome, forwards_nowhere, mark_outcome, may_send, new_handle, number, number_in, origin_or_none, outcome, refused, requeue_outcome, retrieve_front, retrieve_outcome, second_deeds, send_outcome, success, value_in}
 use Rattle.wdf_room.specs.Room.{AreDoable}
@@ -84,30 +86,30 @@ module _ {A : Type 0} (plan : Plan) (m : Meaning A) (S : State A) (b : Bounded p
 
   marks : (r : ℕ) → OutcomeOf plan S (mark_outcome plan S r)
   marks r =
-      either (declares plan callback.EvtRequestCancel (origin_or_none S r)) (record { answer = Stat (mark_answer S.requests r); deeds = Mark_request r ∷ [] }) (refused status.InvalidDeviceRequest)
+      either (declares plan callback.EvtRequestCancel (origin_or_none S r)) (record { answer = Stat (mark_answer S.requests r); deeds = MarkRequest (object_id r) ∷ [] }) (refused status.InvalidDeviceRequest)
       (record { answers = λ _. tt; tells = (tt, tt) }) refusal
 
   requeued : (r q : ℕ) → OutcomeOf plan S (requeue_outcome S r q)
   requeued r q =
-      either (is_cancelled S.requests r || is_purged (mode_of S.control q)) (success (Give_back r q ∷ [])) (success (Requeue r q ∷ []))
-      (done (Give_back r q ∷ []) (tt, tt)) (done (Requeue r q ∷ []) (tt, tt))
+      either (is_cancelled S.requests r || is_purged (mode_of S.control q)) (success (GiveBack (object_id r) (object_id q) ∷ [])) (success (Requeue (object_id r) (object_id q) ∷ []))
+      (done (GiveBack (object_id r) (object_id q) ∷ []) (tt, tt)) (done (Requeue (object_id r) (object_id q) ∷ []) (tt, tt))
 
   forwarded : (r q : ℕ) → OutcomeOf plan S (forward_outcome plan S r q)
   forwarded r q =
       either (forwards_nowhere plan S r q) (refused status.InvalidDeviceRequest)
-      (if not (accepts S.control q) then refused status.WdfBusy else if is_cancelled S.requests r then success (Give_back r q ∷ []) else success (Forward r q ∷ [])) refusal
-      (either (not (accepts S.control q)) (refused status.WdfBusy) (if is_cancelled S.requests r then success (Give_back r q ∷ []) else success (Forward r q ∷ []))
+      (if not (accepts S.control q) then refused status.WdfBusy else if is_cancelled S.requests r then success (GiveBack (object_id r) (object_id q) ∷ []) else success (Forward (object_id r) (object_id q) ∷ [])) refusal
+      (either (not (accepts S.control q)) (refused status.WdfBusy) (if is_cancelled S.requests r then success (GiveBack (object_id r) (object_id q) ∷ []) else success (Forward (object_id r) (object_id q) ∷ []))
       (record { answers = λ _. tt; tells = tt })
-      (either (is_cancelled S.requests r) (success (Give_back r q ∷ [])) (success (Forward r q ∷ []))
-      (done (Give_back r q ∷ []) (tt, tt)) (done (Forward r q ∷ []) (tt, tt))))
+      (either (is_cancelled S.requests r) (success (GiveBack (object_id r) (object_id q) ∷ [])) (success (Forward (object_id r) (object_id q) ∷ []))
+      (done (GiveBack (object_id r) (object_id q) ∷ []) (tt, tt)) (done (Forward (object_id r) (object_id q) ∷ []) (tt, tt))))
 
   acknowledged : (r : ℕ) (a : Arg) → OutcomeOf plan S (acknowledge_outcome S r a)
-  acknowledged r a = either (arg_is a 0) (success (Acknowledge r ∷ [])) (requeue_outcome S r (origin_or_none S r)) (done (Acknowledge r ∷ []) (tt, tt)) (requeued r (origin_or_none S r))
+  acknowledged r a = either (arg_is a 0) (success (Acknowledge (object_id r) ∷ [])) (requeue_outcome S r (origin_or_none S r)) (done (Acknowledge (object_id r) ∷ []) (tt, tt)) (requeued r (origin_or_none S r))
 
   sent : (r t : ℕ) (forget : Bool) → OutcomeOf plan S (send_outcome S r t forget)
   sent r t forget =
-      either (may_send S r t) (number 1 (Send_request r t forget ∷ [])) (number 0 [])
-      (numbered 1 (Send_request r t forget ∷ []) (omega arith) (tt, tt)) (numbered 0 [] (omega arith) tt)
+      either (may_send S r t) (number 1 (SendRequest (object_id r) (object_id t) forget ∷ [])) (number 0 [])
+      (numbered 1 (SendRequest (object_id r) (object_id t) forget ∷ []) (omega arith) (tt, tt)) (numbered 0 [] (omega arith) tt)
 
   fronted : (q : ℕ) (there : Option ℕ) → OutcomeOf plan S (retrieve_front plan S q there)
   fronted q None = record { answers = λ _. tt; tells = tt }
@@ -163,19 +165,19 @@ module _ {A : Type 0} (plan : Plan) (m : Meaning A) (S : State A) (b : Bounded p
   outcome_by cpu f call.WdfIoQueuePurgeSynchronously n a c x third = done _ (tt, tt)
   outcome_by cpu f call.WdfIoQueueRetrieveNextRequest n a c x third = retrieved (object_in a)
   outcome_by cpu f call.WdfIoQueueReadyNotify n a c x third =
-      either (is_manual_queue plan (object_in a) && declares plan callback.EvtIoQueueState (object_in a)) (success (Register_queue (object_in a) (not (arg_is c 0)) ∷ [])) (refused status.InvalidDeviceRequest)
-      (done (Register_queue (object_in a) (not (arg_is c 0)) ∷ []) (tt, tt)) refusal
+      either (is_manual_queue plan (object_in a) && declares plan callback.EvtIoQueueState (object_in a)) (success (RegisterQueue (object_id (object_in a)) (not (arg_is c 0)) ∷ [])) (refused status.InvalidDeviceRequest)
+      (done (RegisterQueue (object_id (object_in a)) (not (arg_is c 0)) ∷ []) (tt, tt)) refusal
   outcome_by cpu f call.WdfInterruptQueueDpcForIsr n a c x third =
-      queued_if (is_enabled S.interrupts (object_in a) && declares plan callback.EvtInterruptDpc (object_in a) && not (is_dpc_queued S.dpcs (object_in a))) (Enqueue_dpc cpu (object_in a)) (tt, tt)
+      queued_if (is_enabled S.interrupts (object_in a) && declares plan callback.EvtInterruptDpc (object_in a) && not (is_dpc_queued S.dpcs (object_in a))) (EnqueueDpc (cpu_of cpu) (object_id (object_in a))) (tt, tt)
   outcome_by cpu f call.WdfDpcEnqueue n a c x third =
-      queued_if (is_live (life_of S.tree (object_in a)) && not (is_dpc_queued S.dpcs (object_in a))) (Enqueue_dpc cpu (object_in a)) (tt, tt)
+      queued_if (is_live (life_of S.tree (object_in a)) && not (is_dpc_queued S.dpcs (object_in a))) (EnqueueDpc (cpu_of cpu) (object_id (object_in a))) (tt, tt)
   outcome_by cpu f call.WdfDpcCancel n a c x third = flagged (is_dpc_queued S.dpcs (object_in a)) _ (tt, tt)
   outcome_by cpu f call.WdfTimerStart n a c x third =
-      either (is_live (life_of S.tree (object_in a))) (number (flag (is_timer_queued S.timers (object_in a))) (Start_timer (object_in a) (number_in c) ∷ [])) (number 0 [])
-      (flagged (is_timer_queued S.timers (object_in a)) (Start_timer (object_in a) (number_in c) ∷ []) (tt, tt)) (numbered 0 [] (omega arith) tt)
+      either (is_live (life_of S.tree (object_in a))) (number (flag (is_timer_queued S.timers (object_in a))) (StartTimer (object_id (object_in a)) (number_in c) ∷ [])) (number 0 [])
+      (flagged (is_timer_queued S.timers (object_in a)) (StartTimer (object_id (object_in a)) (number_in c) ∷ []) (tt, tt)) (numbered 0 [] (omega arith) tt)
   outcome_by cpu f call.WdfTimerStop n a c x third = flagged (is_timer_queued S.timers (object_in a)) _ (tt, tt)
   outcome_by cpu f call.WdfWorkItemEnqueue n a c x third =
-      either (is_live (life_of S.tree (object_in a))) (success (Enqueue_work (object_in a) ∷ [])) (success []) (done (Enqueue_work (object_in a) ∷ []) (tt, tt)) (done [] tt)
+      either (is_live (life_of S.tree (object_in a))) (success (EnqueueWork (object_id (object_in a)) ∷ [])) (success []) (done (EnqueueWork (object_id (object_in a)) ∷ []) (tt, tt)) (done [] tt)
   outcome_by cpu f call.WdfWorkItemFlush n a c x third = done [] tt
   outcome_by cpu f call.WdfIoTargetStop n a c x third = done _ (tt, tt)
   outcome_by cpu f call.WdfIoTargetStart n a c x third = done _ (tt, tt)

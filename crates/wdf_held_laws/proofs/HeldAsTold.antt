@@ -24,7 +24,10 @@ use Rattle.wdf_model.specs.parts.Power.{Power}
 use Rattle.wdf_model.specs.parts.Power as power
 use Rattle.wdf_model.specs.parts.Targets.{is_forgotten}
 use Rattle.wdf_model.specs.State.{State, declared_in, held_at}
-use Rattle.wdf_model.specs.rules.Deeds.{Deed, Ask_stop, Present, Push_frame, Receive, Resume, do_deed, do_deeds, hold_power}
+use Rattle.wdf_model.specs.Ids.{frame_id, irql_of, object_id}
+use Rattle.wdf_model.specs.declared.deed.Deed.{Deed}
+use Rattle.wdf_model.specs.declared.deed.Deed.TheVariants.{AskStop, Present, PushFrame, Receive, Resume}
+use Rattle.wdf_model.specs.rules.Deeds.{do_deed, do_deeds, hold_power}
 use Rattle.wdf_model.specs.rules.Starts.{effect, effect_for, new_frame, next_number, rank_ready_for, take_if_any}
 use Rattle.wdf_model.specs.rules.Steps.{after, may}
 use Rattle.wdf_model.proofs.Tests.{both, both_left, both_right}
@@ -147,7 +150,7 @@ same_rank_returns _ = false
 
 module _ {A : Type 0} {F B : ℕ → Bool} (plan : Plan) (m : Meaning A) (es : List Event) (S : State A) (k : KeptIn F B S) (hold : HoldsIn plan S) (held : HeldAsTold plan es S.power) where
   start_power : (cpu : Cpu) (c : Callback) (o : Handle) (r : Option Handle) (ds : List Deed)
-      → (do_deeds plan (ds ++ Push_frame cpu.0 (next_number S) (new_frame plan S c o r) (callback_irql plan c o.id.0) ∷ take_if_any (next_number S) (lock_of_callback plan c o.id.0 (declared_in plan S o.id.0))) S).power ≡ (do_deeds plan ds S).power
+      → (do_deeds plan (ds ++ PushFrame cpu (frame_id (next_number S)) (new_frame plan S c o r) (irql_of (callback_irql plan c o.id.0)) ∷ take_if_any (next_number S) (lock_of_callback plan c o.id.0 (declared_in plan S o.id.0))) S).power ≡ (do_deeds plan ds S).power
   start_power cpu c o r ds =
       start_reads (λ (T : State A). T.power) (λ T L C. refl) plan S ds cpu.0 (next_number S) (new_frame plan S c o r) (callback_irql plan c o.id.0) (lock_of_callback plan c o.id.0 (declared_in plan S o.id.0))
 
@@ -163,22 +166,22 @@ module _ {A : Type 0} {F B : ℕ → Bool} (plan : Plan) (m : Meaning A) (es : L
   handler_takes cpu c o r h t is =
       let ready_ : rank_ready_for plan S rank.Handler c o.id.0 r.id.0 ≡ true = subst (λ (y : Rank). rank_ready_for plan S y c o.id.0 r.id.0 ≡ true) is (started plan m S cpu c o (Some r) h) in
       let front_ : same_id (front S.queues o.id.0) r.id.0 ≡ true = search (both_left, both_right) in
-      start_takes cpu c o r (Present o.id.0 r.id.0) t (ap (λ (y : Rank). effect_for y o.id.0 r.id.0) is) refl
+      start_takes cpu c o r (Present o.id r.id) t (ap (λ (y : Rank). effect_for y o.id.0 r.id.0) is) refl
       (unheld_noted plan S r.id.0 hold (queued_unheld (is_forgotten S.targets r.id.0) o.id.0 (place_of S.requests r.id.0) (front_queued S o.id.0 r.id.0 front_ k)))
 
   return_takes : (cpu : Cpu) (o r : Handle) → may plan m S (event.Start cpu callback.EvtIoCanceledOnQueue o (Some r)) ≡ true
       → HeldAsTold plan (es ++ event.Start cpu callback.EvtIoCanceledOnQueue o (Some r) ∷ []) (after plan m S (event.Start cpu callback.EvtIoCanceledOnQueue o (Some r))).power
   return_takes cpu o r h =
       let ready_ : rank_ready_for plan S rank.CanceledOnQueue callback.EvtIoCanceledOnQueue o.id.0 r.id.0 ≡ true = started plan m S cpu callback.EvtIoCanceledOnQueue o (Some r) h in
-      start_takes cpu callback.EvtIoCanceledOnQueue o r (Receive o.id.0 r.id.0) refl refl refl
+      start_takes cpu callback.EvtIoCanceledOnQueue o r (Receive o.id r.id) refl refl refl
       (unheld_noted plan S r.id.0 hold (returning_unheld (is_forgotten S.targets r.id.0) o.id.0 (place_of S.requests r.id.0) ready_))
 
   effect_for_notes : (y : Rank) (o r : ℕ) → is_handler y ≡ false → same_rank_returns y ≡ false → NotesStay S.power (do_deeds plan (effect_for y o r) S).power
   effect_for_notes rank.Completion o r h j = λ x. refl
   effect_for_notes rank.Cancel o r h j = λ x. refl
   effect_for_notes rank.CanceledOnQueue o r h j = absurd (let z : ⊥ = cc in z)
-  effect_for_notes rank.Stop o r h j = deed_notes plan (Ask_stop r) S refl
-  effect_for_notes rank.Resume o r h j = deed_notes plan (Resume r) S refl
+  effect_for_notes rank.Stop o r h j = deed_notes plan (AskStop (object_id r)) S refl
+  effect_for_notes rank.Resume o r h j = deed_notes plan (Resume (object_id r)) S refl
   effect_for_notes rank.Handler o r h j = absurd (let z : ⊥ = cc in z)
   effect_for_notes _ o r h j = λ x. refl
 

@@ -33,7 +33,9 @@ use Rattle.wdf_model.specs.parts.Control as control
 use Rattle.wdf_model.specs.declared.enums.Mode.TheVariants as mode
 use Rattle.wdf_agreements.proofs.Stays.{asks_all}
 use Rattle.wdf_model.specs.State.{State, object_in, queue_delivers}
-use Rattle.wdf_model.specs.rules.Deeds.{Acknowledge, Complete_request, Enqueue_dpc, Enqueue_work, Forward, Give_back, Mark_request, Register_queue, Requeue, Send_request, Start_timer, do_deed, do_deeds, give_up}
+use Rattle.wdf_model.specs.Ids.{cpu_of, object_id}
+use Rattle.wdf_model.specs.declared.deed.Deed.TheVariants.{Acknowledge, CompleteRequest, EnqueueDpc, EnqueueWork, Forward, GiveBack, MarkRequest, RegisterQueue, Requeue, SendRequest, StartTimer}
+use Rattle.wdf_model.specs.rules.Deeds.{do_deed, do_deeds, give_up}
 use Rattle.wdf_model.specs.rules.Faults.{arg_is}
 use Rattle.wdf_model.specs.rules.Calls.{Outcome, class_in, create_outcome, creation, forwards_nowhere, may_send, new_handle, number, number_in, origin_or_none, outcome, refused, requeue_outcome, retrieve_front, success}
 use Rattle.wdf_model.specs.rules.Steps.{view_of}
@@ -95,17 +97,17 @@ call_power plan S cpu f call.WdfObjectDelete n a b x h = asks_all power_of (λ S
 call_power plan S cpu f call.WdfIoQueuePurge n a b x h = withdrawn_power plan (object_in a) (waiting_in S.queues (object_in a)) (record S { control = control.set_mode S.control (object_in a) mode.Purged })
 call_power plan S cpu f call.WdfIoQueuePurgeSynchronously n a b x h = withdrawn_power plan (object_in a) (waiting_in S.queues (object_in a)) (record S { control = control.set_mode S.control (object_in a) mode.Purged })
 call_power plan S cpu f call.WdfRequestMarkCancelableEx n a b x h =
-    (notes_if S.power plan S (declares plan callback.EvtRequestCancel (origin_or_none S (object_in a))) (record { answer = Stat (mark_answer S.requests (object_in a)); deeds = Mark_request (object_in a) ∷ [] }) (refused status.InvalidDeviceRequest) refl refl)
+    (notes_if S.power plan S (declares plan callback.EvtRequestCancel (origin_or_none S (object_in a))) (record { answer = Stat (mark_answer S.requests (object_in a)); deeds = MarkRequest (object_id (object_in a)) ∷ [] }) (refused status.InvalidDeviceRequest) refl refl)
 call_power plan S cpu f call.WdfIoQueueReadyNotify n a b x h =
-    (notes_if S.power plan S (is_manual_queue plan (object_in a) && declares plan callback.EvtIoQueueState (object_in a)) (success (Register_queue (object_in a) (not (arg_is b 0)) ∷ [])) (refused status.InvalidDeviceRequest) refl refl)
+    (notes_if S.power plan S (is_manual_queue plan (object_in a) && declares plan callback.EvtIoQueueState (object_in a)) (success (RegisterQueue (object_id (object_in a)) (not (arg_is b 0)) ∷ [])) (refused status.InvalidDeviceRequest) refl refl)
 call_power plan S cpu f call.WdfInterruptQueueDpcForIsr n a b x h =
-    (notes_if S.power plan S (is_enabled S.interrupts (object_in a) && declares plan callback.EvtInterruptDpc (object_in a) && not (is_dpc_queued S.dpcs (object_in a))) (number 1 (Enqueue_dpc cpu (object_in a) ∷ [])) (number 0 []) refl refl)
+    (notes_if S.power plan S (is_enabled S.interrupts (object_in a) && declares plan callback.EvtInterruptDpc (object_in a) && not (is_dpc_queued S.dpcs (object_in a))) (number 1 (EnqueueDpc (cpu_of cpu) (object_id (object_in a)) ∷ [])) (number 0 []) refl refl)
 call_power plan S cpu f call.WdfDpcEnqueue n a b x h =
-    (notes_if S.power plan S (is_live (life_of S.tree (object_in a)) && not (is_dpc_queued S.dpcs (object_in a))) (number 1 (Enqueue_dpc cpu (object_in a) ∷ [])) (number 0 []) refl refl)
+    (notes_if S.power plan S (is_live (life_of S.tree (object_in a)) && not (is_dpc_queued S.dpcs (object_in a))) (number 1 (EnqueueDpc (cpu_of cpu) (object_id (object_in a)) ∷ [])) (number 0 []) refl refl)
 call_power plan S cpu f call.WdfTimerStart n a b x h =
-    (notes_if S.power plan S (is_live (life_of S.tree (object_in a))) (number (flag (is_timer_queued S.timers (object_in a))) (Start_timer (object_in a) (number_in b) ∷ [])) (number 0 []) refl refl)
+    (notes_if S.power plan S (is_live (life_of S.tree (object_in a))) (number (flag (is_timer_queued S.timers (object_in a))) (StartTimer (object_id (object_in a)) (number_in b) ∷ [])) (number 0 []) refl refl)
 call_power plan S cpu f call.WdfWorkItemEnqueue n a b x h =
-    (notes_if S.power plan S (is_live (life_of S.tree (object_in a))) (success (Enqueue_work (object_in a) ∷ [])) (success []) refl refl)
+    (notes_if S.power plan S (is_live (life_of S.tree (object_in a))) (success (EnqueueWork (object_id (object_in a)) ∷ [])) (success []) refl refl)
 call_power plan S cpu f _ n a b x h = refl
 
 pub call_notes : {A : Type 0} (plan : Plan) (S : State A) (cpu f : ℕ) (k : CallKind) (n : ℕ) (a b x : Arg) → is_holding_call k ≡ false → NotesStay S.power (do_deeds plan (outcome plan S cpu f (call_of k n a b x)).deeds S).power
@@ -126,9 +128,9 @@ module _ {A : Type 0} (plan : Plan) (es : List Event) (S : State A) (hold : Hold
   keeps o t g e = silent_step plan es (event.Did cpu c v) S.power (do_deeds plan o.deeds S).power t g (notes_same S.power (do_deeds plan o.deeds S).power e) held
 
   gives_back : (q : ℕ) (u : Bool) → taken (event.Did cpu c v) ≡ None → given_up (event.Did cpu c v) ≡ Some (object_in c.a)
-      → Next (if u then success (Give_back (object_in c.a) q ∷ []) else success (Requeue (object_in c.a) q ∷ []))
-  gives_back q true t g = gives (success (Give_back (object_in c.a) q ∷ [])) t g refl
-  gives_back q false t g = gives (success (Requeue (object_in c.a) q ∷ [])) t g refl
+      → Next (if u then success (GiveBack (object_id (object_in c.a)) (object_id q) ∷ []) else success (Requeue (object_id (object_in c.a)) (object_id q) ∷ []))
+  gives_back q true t g = gives (success (GiveBack (object_id (object_in c.a)) (object_id q) ∷ [])) t g refl
+  gives_back q false t g = gives (success (Requeue (object_id (object_in c.a)) (object_id q) ∷ [])) t g refl
 
   -- the given up request is told where the answer is right
   told_where : (b : Bool) → b ≡ true → argument_object c.a ≡ Some (object_in c.a) → where_so b (argument_object c.a) ≡ Some (object_in c.a)
@@ -138,21 +140,21 @@ module _ {A : Type 0} (plan : Plan) (es : List Event) (S : State A) (hold : Hold
       → (is_success v ≡ false → given_up (event.Did cpu c v) ≡ None) → Next (forward_by (object_in c.a) q nowhere closed cancelled_)
   forwards q true closed cancelled_ answer t well badly = keeps (refused status.InvalidDeviceRequest) t (badly (ap is_success answer)) refl
   forwards q false true cancelled_ answer t well badly = keeps (refused status.WdfBusy) t (badly (ap is_success answer)) refl
-  forwards q false false true answer t well badly = gives (success (Give_back (object_in c.a) q ∷ [])) t (well (ap is_success answer)) refl
-  forwards q false false false answer t well badly = gives (success (Forward (object_in c.a) q ∷ [])) t (well (ap is_success answer)) refl
+  forwards q false false true answer t well badly = gives (success (GiveBack (object_id (object_in c.a)) (object_id q) ∷ [])) t (well (ap is_success answer)) refl
+  forwards q false false false answer t well badly = gives (success (Forward (object_id (object_in c.a)) (object_id q) ∷ [])) t (well (ap is_success answer)) refl
 
   stops : (q : ℕ) (b : Arg) (u : Bool) → arg_is b 0 ≡ u → taken (event.Did cpu c v) ≡ None → (arg_is b 0 ≡ false → given_up (event.Did cpu c v) ≡ Some (object_in c.a)) → (arg_is b 0 ≡ true → given_up (event.Did cpu c v) ≡ None)
-      → Next (if u then success (Acknowledge (object_in c.a) ∷ []) else requeue_outcome S (object_in c.a) q)
+      → Next (if u then success (Acknowledge (object_id (object_in c.a)) ∷ []) else requeue_outcome S (object_in c.a) q)
   stops q b true e t back kept =
-      silent_step plan es (event.Did cpu c v) S.power (do_deed plan (Acknowledge (object_in c.a)) S).power t (kept e) (acknowledged_notes S.power (object_in c.a)) held
+      silent_step plan es (event.Did cpu c v) S.power (do_deed plan (Acknowledge (object_id (object_in c.a))) S).power t (kept e) (acknowledged_notes S.power (object_in c.a)) held
   stops q b false e t back kept = gives_back q (is_cancelled S.requests (object_in c.a) || is_purged (mode_of S.control q)) t (back e)
 
-  sends : (to : ℕ) (u forget : Bool) → v ≡ (if u then number 1 (Send_request (object_in c.a) to forget ∷ []) else number 0 []).answer → taken (event.Did cpu c v) ≡ None
+  sends : (to : ℕ) (u forget : Bool) → v ≡ (if u then number 1 (SendRequest (object_id (object_in c.a)) (object_id to) forget ∷ []) else number 0 []).answer → taken (event.Did cpu c v) ≡ None
       → (forget ≡ true → is_one v ≡ true → given_up (event.Did cpu c v) ≡ Some (object_in c.a)) → (forget ≡ false → given_up (event.Did cpu c v) ≡ None) → (is_one v ≡ false → given_up (event.Did cpu c v) ≡ None)
-      → Next (if u then number 1 (Send_request (object_in c.a) to forget ∷ []) else number 0 [])
+      → Next (if u then number 1 (SendRequest (object_id (object_in c.a)) (object_id to) forget ∷ []) else number 0 [])
   sends to false forget answer t well kept badly = keeps (number 0 []) t (badly (ap is_one answer)) refl
-  sends to true true answer t well kept badly = gives (number 1 (Send_request (object_in c.a) to true ∷ [])) t (well refl (ap is_one answer)) refl
-  sends to true false answer t well kept badly = keeps (number 1 (Send_request (object_in c.a) to false ∷ [])) t (kept refl) refl
+  sends to true true answer t well kept badly = gives (number 1 (SendRequest (object_id (object_in c.a)) (object_id to) true ∷ [])) t (well refl (ap is_one answer)) refl
+  sends to true false answer t well kept badly = keeps (number 1 (SendRequest (object_id (object_in c.a)) (object_id to) false ∷ [])) t (kept refl) refl
 
   takes_front : {F B : ℕ → Bool} (q : ℕ) (x : Option ℕ) → KeptIn F B S → front S.queues q ≡ x → v ≡ (retrieve_front plan S q x).answer → taken (event.Did cpu c v) ≡ pair_of (value_object v) (Some q) → given_up (event.Did cpu c v) ≡ None
       → Next (retrieve_front plan S q x)
@@ -175,7 +177,7 @@ module _ {A : Type 0} {F B : ℕ → Bool} (plan : Plan) (es : List Event) (S : 
   pub did_notes : (cpu : Cpu) (f : ℕ) (k : CallKind) (n : ℕ) (a b x : Arg) (v : Value) → Clean plan S cpu.0 f (call_of k n a b x) → v ≡ (outcome plan S cpu.0 f (call_of k n a b x)).answer
       → HeldAsTold plan (es ++ event.Did cpu (call_of k n a b x) v ∷ []) (do_deeds plan (outcome plan S cpu.0 f (call_of k n a b x)).deeds S).power
   did_notes cpu f call.WdfRequestComplete n a b x v clean answer =
-      give_step plan es (event.Did cpu (call_of call.WdfRequestComplete n a b x) v) S.power (do_deed plan (Complete_request (object_in a)) S).power (object_in a) refl
+      give_step plan es (event.Did cpu (call_of call.WdfRequestComplete n a b x) v) S.power (do_deed plan (CompleteRequest (object_id (object_in a))) S).power (object_in a) refl
       (named (view_of plan S cpu.0 f) (call_of call.WdfRequestComplete n a b x) refl (wrong_kind_of_first (view_of plan S cpu.0 f) (call_of call.WdfRequestComplete n a b x) (clean fault.WrongKind)))
       (completed_notes plan S (object_in a) hold) held
   did_notes cpu f call.WdfRequestRequeue n a b x v clean answer =

@@ -20,7 +20,10 @@ use Rattle.wdf_model.specs.parts.Requests as requests
 use Rattle.wdf_model.specs.parts.Power.{Power, advance_stage, holding_of, is_held_at, wake_holdings, with_up, woken}
 use Rattle.wdf_model.specs.parts.Power as power
 use Rattle.wdf_model.specs.State.{State}
-use Rattle.wdf_model.specs.rules.Deeds.{Deed, Arrive, Ask_deletion, Acknowledge, Advance_power, Ask_stop, Close_device, Close_returning, Complete_request, Forward, Give_back, Present, Purge_queue, Receive, Requeue, Resume, Send_request, arrive_at, close_queue, close_returning, do_deed, do_deeds, give_up, withdraw}
+use Rattle.wdf_model.specs.Ids.{object_id}
+use Rattle.wdf_model.specs.declared.deed.Deed.{Deed}
+use Rattle.wdf_model.specs.declared.deed.Deed.TheVariants.{Arrive, AskDeletion, Acknowledge, AdvancePower, AskStop, CloseDevice, CloseReturning, CompleteRequest, Forward, GiveBack, Present, PurgeQueue, Receive, Requeue, Resume, SendRequest}
+use Rattle.wdf_model.specs.rules.Deeds.{arrive_at, close_queue, close_returning, do_deed, do_deeds, give_up, withdraw}
 use Rattle.wdf_model.proofs.Tests.{both_left, both_right, not_true}
 use Rattle.wdf_model.proofs.Maps.{entry_map}
 use Rattle.wdf_agreements.proofs.Stays.{asks_all}
@@ -83,9 +86,9 @@ is_holding (Present q r) = true
 is_holding (Receive q r) = true
 is_holding (Requeue r q) = true
 is_holding (Forward r q) = true
-is_holding (Give_back r q) = true
-is_holding (Send_request r t forget) = forget
-is_holding (Complete_request r) = true
+is_holding (GiveBack r q) = true
+is_holding (SendRequest r t forget) = forget
+is_holding (CompleteRequest r) = true
 is_holding (Acknowledge r) = true
 is_holding _ = false
 
@@ -94,19 +97,19 @@ deed_notes plan (Present q r) S h = absurd (let z : ⊥ = cc in z)
 deed_notes plan (Receive q r) S h = absurd (let z : ⊥ = cc in z)
 deed_notes plan (Requeue r q) S h = absurd (let z : ⊥ = cc in z)
 deed_notes plan (Forward r q) S h = absurd (let z : ⊥ = cc in z)
-deed_notes plan (Give_back r q) S h = absurd (let z : ⊥ = cc in z)
-deed_notes plan (Complete_request r) S h = absurd (let z : ⊥ = cc in z)
-deed_notes plan (Send_request r t true) S h = absurd (let z : ⊥ = cc in z)
-deed_notes plan (Send_request r t false) S h = λ x. refl
-deed_notes plan (Arrive device info p) S h = notes_same _ _ (arrived_power S device info p)
-deed_notes plan (Ask_deletion o) S h = notes_same _ _ (asks_all power_of (λ S T D W U. refl) (subtree S.tree o) S)
-deed_notes plan (Purge_queue q) S h = notes_same _ _ (withdrawn_power plan q (waiting_in S.queues q) (record S { control = control.set_mode S.control q mode.Purged }))
-deed_notes plan (Close_returning d) S h = notes_same _ _ (returning_power (managed_queues plan d) S)
-deed_notes plan (Close_device d) S h = notes_same _ _ (closed_power (queues_of plan d) (record S { control = control.shut S.control d }))
-deed_notes plan (Advance_power d s) S h = step_notes S.power d s
+deed_notes plan (GiveBack r q) S h = absurd (let z : ⊥ = cc in z)
+deed_notes plan (CompleteRequest r) S h = absurd (let z : ⊥ = cc in z)
+deed_notes plan (SendRequest r t true) S h = absurd (let z : ⊥ = cc in z)
+deed_notes plan (SendRequest r t false) S h = λ x. refl
+deed_notes plan (Arrive device info p) S h = notes_same _ _ (arrived_power S device.0 info p)
+deed_notes plan (AskDeletion o) S h = notes_same _ _ (asks_all power_of (λ S T D W U. refl) (subtree S.tree o.0) S)
+deed_notes plan (PurgeQueue q) S h = notes_same _ _ (withdrawn_power plan q.0 (waiting_in S.queues q.0) (record S { control = control.set_mode S.control q.0 mode.Purged }))
+deed_notes plan (CloseReturning d) S h = notes_same _ _ (returning_power (managed_queues plan d.0) S)
+deed_notes plan (CloseDevice d) S h = notes_same _ _ (closed_power (queues_of plan d.0) (record S { control = control.shut S.control d.0 }))
+deed_notes plan (AdvancePower d s) S h = step_notes S.power d.0 s
 deed_notes plan (Acknowledge r) S h = absurd (let z : ⊥ = cc in z)
-deed_notes plan (Ask_stop r) S h = λ x. same_holding S.power r x (λ y. record y { stop_asked = true }) (λ y. refl)
-deed_notes plan (Resume r) S h = λ x. same_holding S.power r x (λ y. record y { resume_due = false }) (λ y. refl)
+deed_notes plan (AskStop r) S h = λ x. same_holding S.power r.0 x (λ y. record y { stop_asked = true }) (λ y. refl)
+deed_notes plan (Resume r) S h = λ x. same_holding S.power r.0 x (λ y. record y { resume_due = false }) (λ y. refl)
 deed_notes plan _ S h = λ x. refl
 
 abbrev pub none_holds : List Deed → Bool
@@ -137,8 +140,8 @@ taken_notes P q r = record {
 pub given_notes : {A : Type 0} (plan : Plan) (S : State A) (r : ℕ) → HoldsIn plan S → NotesChange S.power (give_up S r).power r 0
 given_notes plan S r h = let notes : Notes S.power (give_up S r).power r 0 = (gives_up plan S r h).notes in record { here = notes.here; others = notes.others }
 
-pub completed_power : {A : Type 0} (plan : Plan) (S : State A) (r : ℕ) → (do_deed plan (Complete_request r) S).power ≡ (give_up S r).power
+pub completed_power : {A : Type 0} (plan : Plan) (S : State A) (r : ℕ) → (do_deed plan (CompleteRequest (object_id r)) S).power ≡ (give_up S r).power
 completed_power plan S r = asks_all power_of (λ S T D W U. refl) (subtree (give_up S r).tree r) (record (give_up S r) { requests = requests.complete S.requests r })
 
-pub completed_notes : {A : Type 0} (plan : Plan) (S : State A) (r : ℕ) → HoldsIn plan S → NotesChange S.power (do_deed plan (Complete_request r) S).power r 0
+pub completed_notes : {A : Type 0} (plan : Plan) (S : State A) (r : ℕ) → HoldsIn plan S → NotesChange S.power (do_deed plan (CompleteRequest (object_id r)) S).power r 0
 completed_notes plan S r h = subst (λ (O : Power). NotesChange S.power O r 0) (sym (completed_power plan S r)) (given_notes plan S r h)

@@ -33,7 +33,10 @@ use Rattle.wdf_model.specs.parts.Cpus.{frame_of}
 use Rattle.wdf_model.specs.parts.Locks.{lock_of_callback}
 use Rattle.wdf_model.specs.parts.Requests.{place_of}
 use Rattle.wdf_model.specs.State.{State, declared_in}
-use Rattle.wdf_model.specs.rules.Deeds.{Deed, Arrive, Count_arrival, do_deeds}
+use Rattle.wdf_model.specs.Ids.{frame_id, object_id}
+use Rattle.wdf_model.specs.declared.deed.Deed.{Deed}
+use Rattle.wdf_model.specs.declared.deed.Deed.TheVariants.{Arrive, CountArrival}
+use Rattle.wdf_model.specs.rules.Deeds.{do_deeds}
 use Rattle.wdf_model.specs.rules.Calls.{is_met_then, outcome}
 use Rattle.wdf_model.specs.rules.Starts.{stage_effect}
 use Rattle.wdf_model.specs.rules.Posts.{arrival_info, arrival_place, cancel_at, cancel_deeds, cancel_reaches, post_deeds}
@@ -53,7 +56,7 @@ use Rattle.wdf_base.specs.declared.frame.Frame.{Frame}
 use Rattle.wdf_model.specs.parts.Cpus.{top}
 use Rattle.wdf_model.specs.parts.Requests.{origin_of}
 use Rattle.wdf_model.specs.State.{is_held_from, is_with_driver}
-use Rattle.wdf_model.specs.rules.Deeds.{Go_on, Pop_frame}
+use Rattle.wdf_model.specs.declared.deed.Deed.TheVariants.{GoOn, PopFrame}
 use Rattle.wdf_model.specs.rules.Script.{intent_of}
 use Rattle.wdf_model.specs.rules.Starts.{end_of_step, release_if_any}
 use Rattle.wdf_model.specs.rules.Steps.{goes_on, spending, stepped, answered}
@@ -101,7 +104,7 @@ cancel_of_none S None = refl
 cancel_of_none S (Some r) = cancel_none (place_of S.requests r) r
 
 arrival_none : {A : Type 0} (plan : Plan) (S : State A) (agent : ℕ) (f : RequestForm) (length code device : ℕ) (b : Bool)
-    → none_holds (Count_arrival agent ∷ (if b then Arrive device (arrival_info S agent f length code device) (arrival_place plan S f length device) ∷ [] else [])) ≡ true
+    → none_holds (CountArrival agent ∷ (if b then Arrive (object_id device) (arrival_info S agent f length code device) (arrival_place plan S f length device) ∷ [] else [])) ≡ true
 arrival_none plan S agent f length code device true = refl
 arrival_none plan S agent f length code device false = refl
 
@@ -144,14 +147,14 @@ event_none plan S (event.Waiting cpu c) h = absurd (let z : ⊥ = cc in z)
 event_none plan S (event.Woke cpu c v) h = absurd (let z : ⊥ = cc in z)
 event_none plan S (event.Complete r s) h = absurd (let z : ⊥ = cc in z)
 event_none plan S (event.Posted agent p answer) h = post_none plan S agent p
-event_none plan S (event.Local cpu line) h = by_top_none S (λ f frame. Go_on f (stepped frame (intent_of plan frame)) ∷ []) (λ f frame. refl) (top S.cpus cpu.0)
-event_none plan S (event.Log cpu v) h = by_top_none S (λ f frame. Go_on f (goes_on plan frame) ∷ []) (λ f frame. refl) (top S.cpus cpu.0)
-event_none plan S (event.Spend cpu n) h = by_top_none S (λ f frame. Go_on f (spending plan S frame n) ∷ []) (λ f frame. refl) (top S.cpus cpu.0)
-event_none plan S (event.Register cpu a r v) h = by_top_none S (λ f frame. Go_on f (answered plan frame (Num v)) ∷ []) (λ f frame. refl) (top S.cpus cpu.0)
+event_none plan S (event.Local cpu line) h = by_top_none S (λ f frame. GoOn (frame_id f) (stepped frame (intent_of plan frame)) ∷ []) (λ f frame. refl) (top S.cpus cpu.0)
+event_none plan S (event.Log cpu v) h = by_top_none S (λ f frame. GoOn (frame_id f) (goes_on plan frame) ∷ []) (λ f frame. refl) (top S.cpus cpu.0)
+event_none plan S (event.Spend cpu n) h = by_top_none S (λ f frame. GoOn (frame_id f) (spending plan S frame n) ∷ []) (λ f frame. refl) (top S.cpus cpu.0)
+event_none plan S (event.Register cpu a r v) h = by_top_none S (λ f frame. GoOn (frame_id f) (answered plan frame (Num v)) ∷ []) (λ f frame. refl) (top S.cpus cpu.0)
 event_none plan S (event.Park cpu f) h = refl
 event_none plan S (event.Unpark cpu f) h = refl
 event_none plan S (event.End cpu c o v) h =
-    none_behind (release_if_any (lock_of_callback plan c o.id.0 (declared_in plan S o.id.0))) (Pop_frame cpu.0 ∷ end_of_step plan S (row_of c).rank c o.id.0 v)
+    none_behind (release_if_any (lock_of_callback plan c o.id.0 (declared_in plan S o.id.0))) (PopFrame cpu ∷ end_of_step plan S (row_of c).rank c o.id.0 v)
     (releasing_none (lock_of_callback plan c o.id.0 (declared_in plan S o.id.0))) (step_none plan S (row_of c).rank c o.id.0 v)
 event_none plan S (event.Fault cpu x line) h = refl
 event_none plan S (event.Stage d s i) h = stage_none plan d.id.0 s i

@@ -35,7 +35,10 @@ use Rattle.wdf_model.specs.parts.Requests.{is_cancelled}
 use Rattle.wdf_model.specs.parts.Power.{Power, acknowledged, advance_stage, holding_of, is_held, is_held_at, no_holding, wake_holdings, with_holding, with_up, woken}
 use Rattle.wdf_model.specs.parts.Power as power
 use Rattle.wdf_model.specs.State.{State, declared_in, is_with_driver, object_in, queue_delivers}
-use Rattle.wdf_model.specs.rules.Deeds.{Deed, Push_frame, Arrive, Ask_deletion, Acknowledge, Advance_power, Ask_stop, Close_device, Close_returning, Complete_request, Forward, Give_back, Present, Purge_queue, Receive, Requeue, Resume, Send_request, do_deed, do_deeds, give_up, release_power}
+use Rattle.wdf_model.specs.Ids.{frame_id, irql_of, object_id}
+use Rattle.wdf_model.specs.declared.deed.Deed.{Deed}
+use Rattle.wdf_model.specs.declared.deed.Deed.TheVariants.{PushFrame, Arrive, AskDeletion, Acknowledge, AdvancePower, AskStop, CloseDevice, CloseReturning, CompleteRequest, Forward, GiveBack, Present, PurgeQueue, Receive, Requeue, Resume, SendRequest}
+use Rattle.wdf_model.specs.rules.Deeds.{do_deed, do_deeds, give_up, release_power}
 use Rattle.wdf_model.specs.rules.Faults.{arg_is}
 use Rattle.wdf_model.specs.rules.Calls.{Outcome, forwards_nowhere, may_send, number, origin_or_none, outcome, refused, retrieve_front, success}
 use Rattle.wdf_model.specs.rules.Starts.{effect, effect_for, new_frame, next_number, take_if_any}
@@ -134,19 +137,19 @@ deed_still plan (Present q r) S h = absurd (let z : ⊥ = cc in z)
 deed_still plan (Receive q r) S h = absurd (let z : ⊥ = cc in z)
 deed_still plan (Requeue r q) S h = absurd (let z : ⊥ = cc in z)
 deed_still plan (Forward r q) S h = absurd (let z : ⊥ = cc in z)
-deed_still plan (Give_back r q) S h = absurd (let z : ⊥ = cc in z)
-deed_still plan (Complete_request r) S h = absurd (let z : ⊥ = cc in z)
+deed_still plan (GiveBack r q) S h = absurd (let z : ⊥ = cc in z)
+deed_still plan (CompleteRequest r) S h = absurd (let z : ⊥ = cc in z)
 deed_still plan (Acknowledge r) S h = absurd (let z : ⊥ = cc in z)
-deed_still plan (Send_request r t true) S h = absurd (let z : ⊥ = cc in z)
-deed_still plan (Send_request r t false) S h = still_power S.power S.power refl
-deed_still plan (Arrive device info p) S h = still_power S.power _ (arrived_power S device info p)
-deed_still plan (Ask_deletion o) S h = still_power S.power _ (asks_all power_of (λ S T D W U. refl) (subtree S.tree o) S)
-deed_still plan (Purge_queue q) S h = still_power S.power _ (withdrawn_power plan q (waiting_in S.queues q) (record S { control = control.set_mode S.control q mode.Purged }))
-deed_still plan (Close_returning d) S h = still_power S.power _ (returning_power (managed_queues plan d) S)
-deed_still plan (Close_device d) S h = still_power S.power _ (closed_power (queues_of plan d) (record S { control = control.shut S.control d }))
-deed_still plan (Advance_power d s) S h = still_step S.power d s
-deed_still plan (Ask_stop r) S h = still_one S.power r (λ y. record y { stop_asked = true }) (λ y t. (t, refl))
-deed_still plan (Resume r) S h = still_one S.power r (λ y. record y { resume_due = false }) (λ y t. (t, refl))
+deed_still plan (SendRequest r t true) S h = absurd (let z : ⊥ = cc in z)
+deed_still plan (SendRequest r t false) S h = still_power S.power S.power refl
+deed_still plan (Arrive device info p) S h = still_power S.power _ (arrived_power S device.0 info p)
+deed_still plan (AskDeletion o) S h = still_power S.power _ (asks_all power_of (λ S T D W U. refl) (subtree S.tree o.0) S)
+deed_still plan (PurgeQueue q) S h = still_power S.power _ (withdrawn_power plan q.0 (waiting_in S.queues q.0) (record S { control = control.set_mode S.control q.0 mode.Purged }))
+deed_still plan (CloseReturning d) S h = still_power S.power _ (returning_power (managed_queues plan d.0) S)
+deed_still plan (CloseDevice d) S h = still_power S.power _ (closed_power (queues_of plan d.0) (record S { control = control.shut S.control d.0 }))
+deed_still plan (AdvancePower d s) S h = still_step S.power d.0 s
+deed_still plan (AskStop r) S h = still_one S.power r.0 (λ y. record y { stop_asked = true }) (λ y t. (t, refl))
+deed_still plan (Resume r) S h = still_one S.power r.0 (λ y. record y { resume_due = false }) (λ y t. (t, refl))
 deed_still plan _ S h = still_power S.power S.power refl
 
 deeds_still : {A : Type 0} (plan : Plan) (ds : List Deed) (S : State A) → none_holds ds ≡ true → StillAcked S.power (do_deeds plan ds S).power
@@ -156,7 +159,7 @@ deeds_still plan (d ∷ ds) S h x =
     (deed_still plan d S (not_true (is_holding d) (both_left (not (is_holding d)) (none_holds ds) h)) x)
     (deeds_still plan ds (do_deed plan d S) (both_right (not (is_holding d)) (none_holds ds) h) x)
 
-still_completed : {A : Type 0} (plan : Plan) (S : State A) (r : ℕ) → StillAcked S.power (do_deed plan (Complete_request r) S).power
+still_completed : {A : Type 0} (plan : Plan) (S : State A) (r : ℕ) → StillAcked S.power (do_deed plan (CompleteRequest (object_id r)) S).power
 still_completed plan S r = subst (StillAcked S.power) (sym (completed_power plan S r)) (still_given S r)
 
 -- ---- calls
@@ -169,8 +172,8 @@ module _ {A : Type 0} (plan : Plan) (S : State A) where
   by_if true o p a b = a
   by_if false o p a b = b
 
-  gives_still : (r q : ℕ) (u : Bool) → By (if u then success (Give_back r q ∷ []) else success (Requeue r q ∷ []))
-  gives_still r q u = by_if u (success (Give_back r q ∷ [])) (success (Requeue r q ∷ [])) (still_given S r) (still_given S r)
+  gives_still : (r q : ℕ) (u : Bool) → By (if u then success (GiveBack (object_id r) (object_id q) ∷ []) else success (Requeue (object_id r) (object_id q) ∷ []))
+  gives_still r q u = by_if u (success (GiveBack (object_id r) (object_id q) ∷ [])) (success (Requeue (object_id r) (object_id q) ∷ [])) (still_given S r) (still_given S r)
 
   forwards_still : (r q : ℕ) (a b c : Bool) → By (forward_by r q a b c)
   forwards_still r q true b c = still_power S.power S.power refl
@@ -178,7 +181,7 @@ module _ {A : Type 0} (plan : Plan) (S : State A) where
   forwards_still r q false false true = still_given S r
   forwards_still r q false false false = still_given S r
 
-  sends_still : (r t : ℕ) (u forget : Bool) → By (if u then number 1 (Send_request r t forget ∷ []) else number 0 [])
+  sends_still : (r t : ℕ) (u forget : Bool) → By (if u then number 1 (SendRequest (object_id r) (object_id t) forget ∷ []) else number 0 [])
   sends_still r t true true = still_given S r
   sends_still r t true false = still_power S.power S.power refl
   sends_still r t false forget = still_power S.power S.power refl
@@ -207,9 +210,9 @@ module _ {A : Type 0} (plan : Plan) (S : State A) (cpu : Cpu) (f : ℕ) where
   ]
 
   stops_acked : (e : Event) (r q : ℕ) (u v : Bool) → (u ≡ true → shows (sign.Acknowledgement r) e ≡ true)
-      → AckStep e S.power (do_deeds plan (if u then success (Acknowledge r ∷ []) else if v then success (Give_back r q ∷ []) else success (Requeue r q ∷ [])).deeds S).power
+      → AckStep e S.power (do_deeds plan (if u then success (Acknowledge (object_id r) ∷ []) else if v then success (GiveBack (object_id r) (object_id q) ∷ []) else success (Requeue (object_id r) (object_id q) ∷ [])).deeds S).power
   stops_acked e r q true v told = acknowledges r e (told refl)
-  stops_acked e r q false v told = still_event e S.power (do_deeds plan (if v then success (Give_back r q ∷ []) else success (Requeue r q ∷ [])).deeds S).power (gives_still plan S r q v)
+  stops_acked e r q false v told = still_event e S.power (do_deeds plan (if v then success (GiveBack (object_id r) (object_id q) ∷ []) else success (Requeue (object_id r) (object_id q) ∷ [])).deeds S).power (gives_still plan S r q v)
 
   did_acked : (k : CallKind) (n : ℕ) (a b x : Arg) (v : Value) → Clean plan S cpu.0 f (call_of k n a b x)
       → AckStep (event.Did cpu (call_of k n a b x) v) S.power (do_deeds plan (outcome plan S cpu.0 f (call_of k n a b x)).deeds S).power
@@ -234,8 +237,8 @@ module _ {A : Type 0} (plan : Plan) (S : State A) where
   effect_for_still rank.Completion o r = still_power S.power _ refl
   effect_for_still rank.Cancel o r = still_power S.power _ refl
   effect_for_still rank.CanceledOnQueue o r = still_held S.power r o (is_managed plan o)
-  effect_for_still rank.Stop o r = deed_still plan (Ask_stop r) S refl
-  effect_for_still rank.Resume o r = deed_still plan (Resume r) S refl
+  effect_for_still rank.Stop o r = deed_still plan (AskStop (object_id r)) S refl
+  effect_for_still rank.Resume o r = deed_still plan (Resume (object_id r)) S refl
   effect_for_still rank.Handler o r = still_held S.power r o (is_managed plan o)
   effect_for_still _ o r = still_power S.power _ refl
 
@@ -250,7 +253,7 @@ module _ {A : Type 0} (plan : Plan) (S : State A) where
   effect_still _ cpu c o = still_power S.power _ refl
 
   started_still : (cpu : Cpu) (c : Callback) (o : Handle) (r : Option Handle) (ds : List Deed) → StillAcked S.power (do_deeds plan ds S).power
-      → StillAcked S.power (do_deeds plan (ds ++ Push_frame cpu.0 (next_number S) (new_frame plan S c o r) (callback_irql plan c o.id.0) ∷ take_if_any (next_number S) (lock_of_callback plan c o.id.0 (declared_in plan S o.id.0))) S).power
+      → StillAcked S.power (do_deeds plan (ds ++ PushFrame cpu (frame_id (next_number S)) (new_frame plan S c o r) (irql_of (callback_irql plan c o.id.0)) ∷ take_if_any (next_number S) (lock_of_callback plan c o.id.0 (declared_in plan S o.id.0))) S).power
   started_still cpu c o r ds s =
       subst (StillAcked S.power) (sym (start_reads (λ (T : State A). T.power) (λ T L C. refl) plan S ds cpu.0 (next_number S) (new_frame plan S c o r) (callback_irql plan c o.id.0) (lock_of_callback plan c o.id.0 (declared_in plan S o.id.0)))) s
 

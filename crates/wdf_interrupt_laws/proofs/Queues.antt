@@ -31,6 +31,7 @@ use Rattle.wdf_base.specs.Callbacks.{row_of}
 use Rattle.wdf_base.specs.Same.{same_call_kind}
 use Rattle.wdf_base.specs.declared.call.Callback.TheVariants as callback
 use Rattle.wdf_model.specs.Tables.{flag}
+use Rattle.wdf_model.specs.Ids.{cpu_of, frame_id, irql_of, object_id}
 use Rattle.wdf_model.specs.rules.Script.{intent_of}
 use Rattle.wdf_model.specs.parts.Tree.{is_full, is_live, life_of}
 use Rattle.wdf_model.specs.parts.Control.{accepts, is_purged, mode_of}
@@ -43,7 +44,8 @@ use Rattle.wdf_model.specs.parts.Locks.{lock_of_callback}
 use Rattle.wdf_model.specs.parts.Queues.{front}
 use Rattle.wdf_model.specs.parts.Requests.{arrival_of, is_cancelled, mark_answer, place_of}
 use Rattle.wdf_model.specs.State.{State, declared_in, object_in, queue_delivers}
-use Rattle.wdf_model.specs.rules.Deeds.{Acknowledge, Arrive, Complete_request, Count_arrival, Deed, Enqueue_dpc, Enqueue_work, Forward, Give_back, Go_on, Mark_request, Pop_frame, Push_frame, Register_queue, Requeue, Send_request, Start_timer}
+use Rattle.wdf_model.specs.declared.deed.Deed.{Deed}
+use Rattle.wdf_model.specs.declared.deed.Deed.TheVariants.{Acknowledge, Arrive, CompleteRequest, CountArrival, EnqueueDpc, EnqueueWork, Forward, GiveBack, GoOn, MarkRequest, PopFrame, PushFrame, RegisterQueue, Requeue, SendRequest, StartTimer}
 use Rattle.wdf_model.specs.rules.Faults.{arg_is}
 use Rattle.wdf_model.specs.rules.Calls.{Outcome, acknowledge_outcome, class_in, create_outcome, creation, forward_outcome, forwards_nowhere, mark_outcome, may_send, new_handle, number, number_in, origin_or_none, outcome, requeue_outcome, retrieve_front, retrieve_outcome, refused, second_deeds, send_outcome, success}
 use Rattle.wdf_model.specs.rules.Starts.{effect, effect_for, end_of_step, new_frame, next_number, release_if_any, stage_effect, start_effect, take_if_any}
@@ -71,7 +73,8 @@ use Rattle.wdf_model.specs.parts.Queues.{waiting_in}
 use Rattle.wdf_model.specs.parts.Control as control
 use Rattle.wdf_model.specs.parts.Deferred.Dpcs.{Dpcs}
 use Rattle.wdf_model.specs.rules.Steps.{view_of}
-use Rattle.wdf_model.specs.rules.Deeds.{Ask_deletion, Purge_queue, Close_returning, Close_device, Cancel_dpc, Take_dpc, arrive_at, ask_object, do_deed, do_deeds, give_up}
+use Rattle.wdf_model.specs.declared.deed.Deed.TheVariants.{AskDeletion, PurgeQueue, CloseReturning, CloseDevice, CancelDpc, TakeDpc}
+use Rattle.wdf_model.specs.rules.Deeds.{arrive_at, ask_object, do_deed, do_deeds, give_up}
 use Rattle.wdf_model.proofs.Tests.{first, second}
 use Rattle.wdf_model.proofs.Deletion.{object_live, object_off}
 use Rattle.wdf_agreements.proofs.Stays.{gives_up, gives_up_if, queues_closed, returns_closed, withdraws}
@@ -79,7 +82,7 @@ use Rattle.wdf_agreements.proofs.Queued.{dpc_cancelled, dpc_enqueued, dpc_taken}
 
 -- a deed that queues as a DPC only what may be queued
 abbrev pub is_fine : (ℕ → Bool) → Deed → Bool
-is_fine may_queue (Enqueue_dpc cpu o) = may_queue o
+is_fine may_queue (EnqueueDpc cpu o) = may_queue o.0
 is_fine may_queue _ = true
 
 module _ (may_queue : ℕ → Bool) where
@@ -94,13 +97,13 @@ module _ (may_queue : ℕ → Bool) where
   either_fine true x y h k = h
   either_fine false x y h k = k
 
-  enabled_fine : (a b c : Bool) (cpu o : ℕ) → (a ≡ true → may_queue o ≡ true) → all_fine (if a && b && c then number 1 (Enqueue_dpc cpu o ∷ []) else number 0 []).deeds ≡ true
+  enabled_fine : (a b c : Bool) (cpu o : ℕ) → (a ≡ true → may_queue o ≡ true) → all_fine (if a && b && c then number 1 (EnqueueDpc (cpu_of cpu) (object_id o) ∷ []) else number 0 []).deeds ≡ true
   enabled_fine true true true cpu o h = alone (may_queue o) (h refl)
   enabled_fine true true false cpu o h = refl
   enabled_fine true false c cpu o h = refl
   enabled_fine false b c cpu o h = refl
 
-  live_fine : (a b : Bool) (cpu o : ℕ) → (a ≡ true → may_queue o ≡ true) → all_fine (if a && b then number 1 (Enqueue_dpc cpu o ∷ []) else number 0 []).deeds ≡ true
+  live_fine : (a b : Bool) (cpu o : ℕ) → (a ≡ true → may_queue o ≡ true) → all_fine (if a && b then number 1 (EnqueueDpc (cpu_of cpu) (object_id o) ∷ []) else number 0 []).deeds ≡ true
   live_fine true true cpu o h = alone (may_queue o) (h refl)
   live_fine true false cpu o h = refl
   live_fine false b cpu o h = refl
@@ -117,24 +120,24 @@ module _ (may_queue : ℕ → Bool) where
       (creation_fine (kind_of_class plan class) class parent))
 
   requeue_fine : {A : Type 0} (S : State A) (r q : ℕ) → all_fine (requeue_outcome S r q).deeds ≡ true
-  requeue_fine S r q = either_fine (is_cancelled S.requests r || is_purged (mode_of S.control q)) (success (Give_back r q ∷ [])) (success (Requeue r q ∷ [])) refl refl
+  requeue_fine S r q = either_fine (is_cancelled S.requests r || is_purged (mode_of S.control q)) (success (GiveBack (object_id r) (object_id q) ∷ [])) (success (Requeue (object_id r) (object_id q) ∷ [])) refl refl
 
   mark_fine : {A : Type 0} (plan : Plan) (S : State A) (r : ℕ) → all_fine (mark_outcome plan S r).deeds ≡ true
   mark_fine plan S r =
-      either_fine (declares plan callback.EvtRequestCancel (origin_or_none S r)) (record { answer = Stat (mark_answer S.requests r); deeds = Mark_request r ∷ [] }) (refused status.InvalidDeviceRequest) refl refl
+      either_fine (declares plan callback.EvtRequestCancel (origin_or_none S r)) (record { answer = Stat (mark_answer S.requests r); deeds = MarkRequest (object_id r) ∷ [] }) (refused status.InvalidDeviceRequest) refl refl
 
   forward_fine : {A : Type 0} (plan : Plan) (S : State A) (r q : ℕ) → all_fine (forward_outcome plan S r q).deeds ≡ true
   forward_fine plan S r q =
       either_fine (forwards_nowhere plan S r q) (refused status.InvalidDeviceRequest)
-      (if not (accepts S.control q) then refused status.WdfBusy else if is_cancelled S.requests r then success (Give_back r q ∷ []) else success (Forward r q ∷ [])) refl
-      (either_fine (not (accepts S.control q)) (refused status.WdfBusy) (if is_cancelled S.requests r then success (Give_back r q ∷ []) else success (Forward r q ∷ [])) refl
-      (either_fine (is_cancelled S.requests r) (success (Give_back r q ∷ [])) (success (Forward r q ∷ [])) refl refl))
+      (if not (accepts S.control q) then refused status.WdfBusy else if is_cancelled S.requests r then success (GiveBack (object_id r) (object_id q) ∷ []) else success (Forward (object_id r) (object_id q) ∷ [])) refl
+      (either_fine (not (accepts S.control q)) (refused status.WdfBusy) (if is_cancelled S.requests r then success (GiveBack (object_id r) (object_id q) ∷ []) else success (Forward (object_id r) (object_id q) ∷ [])) refl
+      (either_fine (is_cancelled S.requests r) (success (GiveBack (object_id r) (object_id q) ∷ [])) (success (Forward (object_id r) (object_id q) ∷ [])) refl refl))
 
   acknowledge_fine : {A : Type 0} (S : State A) (r : ℕ) (b : Arg) → all_fine (acknowledge_outcome S r b).deeds ≡ true
-  acknowledge_fine S r b = either_fine (arg_is b 0) (success (Acknowledge r ∷ [])) (requeue_outcome S r (origin_or_none S r)) refl (requeue_fine S r (origin_or_none S r))
+  acknowledge_fine S r b = either_fine (arg_is b 0) (success (Acknowledge (object_id r) ∷ [])) (requeue_outcome S r (origin_or_none S r)) refl (requeue_fine S r (origin_or_none S r))
 
   send_fine : {A : Type 0} (S : State A) (r t : ℕ) (forget : Bool) → all_fine (send_outcome S r t forget).deeds ≡ true
-  send_fine S r t forget = either_fine (may_send S r t) (number 1 (Send_request r t forget ∷ [])) (number 0 []) refl refl
+  send_fine S r t forget = either_fine (may_send S r t) (number 1 (SendRequest (object_id r) (object_id t) forget ∷ [])) (number 0 []) refl refl
 
   front_fine : {A : Type 0} (plan : Plan) (S : State A) (q : ℕ) (there : Option ℕ) → all_fine (retrieve_front plan S q there).deeds ≡ true
   front_fine plan S q None = refl
@@ -160,14 +163,14 @@ module _ (may_queue : ℕ → Bool) where
   outcome_fine plan S cpu f call.WdfRequestSend n a b x c r = send_fine S (object_in a) (object_in b) (arg_is x 1)
   outcome_fine plan S cpu f call.WdfIoQueueRetrieveNextRequest n a b x c r = retrieve_fine plan S (object_in a)
   outcome_fine plan S cpu f call.WdfIoQueueReadyNotify n a b x c r =
-      either_fine (is_manual_queue plan (object_in a) && declares plan callback.EvtIoQueueState (object_in a)) (success (Register_queue (object_in a) (not (arg_is b 0)) ∷ [])) (refused status.InvalidDeviceRequest) refl refl
+      either_fine (is_manual_queue plan (object_in a) && declares plan callback.EvtIoQueueState (object_in a)) (success (RegisterQueue (object_id (object_in a)) (not (arg_is b 0)) ∷ [])) (refused status.InvalidDeviceRequest) refl refl
   outcome_fine plan S cpu f call.WdfInterruptQueueDpcForIsr n a b x c r =
       enabled_fine (is_enabled S.interrupts (object_in a)) (declares plan callback.EvtInterruptDpc (object_in a)) (not (is_dpc_queued S.dpcs (object_in a))) cpu (object_in a) (c (object_in a))
   outcome_fine plan S cpu f call.WdfDpcEnqueue n a b x c r =
       live_fine (is_live (life_of S.tree (object_in a))) (not (is_dpc_queued S.dpcs (object_in a))) cpu (object_in a) (r refl)
   outcome_fine plan S cpu f call.WdfTimerStart n a b x c r =
-      either_fine (is_live (life_of S.tree (object_in a))) (number (flag (is_timer_queued S.timers (object_in a))) (Start_timer (object_in a) (number_in b) ∷ [])) (number 0 []) refl refl
-  outcome_fine plan S cpu f call.WdfWorkItemEnqueue n a b x c r = either_fine (is_live (life_of S.tree (object_in a))) (success (Enqueue_work (object_in a) ∷ [])) (success []) refl refl
+      either_fine (is_live (life_of S.tree (object_in a))) (number (flag (is_timer_queued S.timers (object_in a))) (StartTimer (object_id (object_in a)) (number_in b) ∷ [])) (number 0 []) refl refl
+  outcome_fine plan S cpu f call.WdfWorkItemEnqueue n a b x c r = either_fine (is_live (life_of S.tree (object_in a))) (success (EnqueueWork (object_id (object_in a)) ∷ [])) (success []) refl refl
   outcome_fine plan S cpu f call.WdfRequestComplete n a b x c r = refl
   outcome_fine plan S cpu f call.WdfSpinLockRelease n a b x c r = refl
   outcome_fine plan S cpu f call.WdfWaitLockRelease n a b x c r = refl
@@ -232,7 +235,7 @@ module _ (may_queue : ℕ → Bool) where
   cancel_of_fine S (Some r) = cancel_fine (place_of S.requests r) r
 
   arrival_fine : {A : Type 0} (plan : Plan) (S : State A) (agent : ℕ) (f : RequestForm) (length code device : ℕ) (b : Bool)
-      → all_fine (Count_arrival agent ∷ (if b then Arrive device (arrival_info S agent f length code device) (arrival_place plan S f length device) ∷ [] else [])) ≡ true
+      → all_fine (CountArrival agent ∷ (if b then Arrive (object_id device) (arrival_info S agent f length code device) (arrival_place plan S f length device) ∷ [] else [])) ≡ true
   arrival_fine plan S agent f length code device true = refl
   arrival_fine plan S agent f length code device false = refl
 
@@ -264,29 +267,29 @@ module _ {A : Type 0} (plan : Plan) (m : Meaning A) (S : State A) (p : ℕ → B
 
   pub event_fine : (e : Event) → may plan m S e ≡ true → all_fine p (deeds plan S e) ≡ true
   event_fine (event.Start k c o r) h =
-      fine_behind p (start_effect plan S k.0 c o.id.0 r) (Push_frame k.0 (next_number S) (new_frame plan S c o r) (callback_irql plan c o.id.0) ∷ take_if_any (next_number S) (lock_of_callback plan c o.id.0 (declared_in plan S o.id.0)))
+      fine_behind p (start_effect plan S k.0 c o.id.0 r) (PushFrame k (frame_id (next_number S)) (new_frame plan S c o r) (irql_of (callback_irql plan c o.id.0)) ∷ take_if_any (next_number S) (lock_of_callback plan c o.id.0 (declared_in plan S o.id.0)))
       (start_effect_fine p plan S k.0 c o.id.0 r) (taking_fine p (next_number S) (lock_of_callback plan c o.id.0 (declared_in plan S o.id.0)))
-  event_fine (event.Local k line) h = by_top_fine p S (λ f frame. Go_on f (stepped frame (intent_of plan frame)) ∷ []) (λ f frame. refl) (top S.cpus k.0)
-  event_fine (event.Log k v) h = by_top_fine p S (λ f frame. Go_on f (goes_on plan frame) ∷ []) (λ f frame. refl) (top S.cpus k.0)
-  event_fine (event.Spend k n) h = by_top_fine p S (λ f frame. Go_on f (spending plan S frame n) ∷ []) (λ f frame. refl) (top S.cpus k.0)
-  event_fine (event.Register k a r v) h = by_top_fine p S (λ f frame. Go_on f (answered plan frame (Num v)) ∷ []) (λ f frame. refl) (top S.cpus k.0)
+  event_fine (event.Local k line) h = by_top_fine p S (λ f frame. GoOn (frame_id f) (stepped frame (intent_of plan frame)) ∷ []) (λ f frame. refl) (top S.cpus k.0)
+  event_fine (event.Log k v) h = by_top_fine p S (λ f frame. GoOn (frame_id f) (goes_on plan frame) ∷ []) (λ f frame. refl) (top S.cpus k.0)
+  event_fine (event.Spend k n) h = by_top_fine p S (λ f frame. GoOn (frame_id f) (spending plan S frame n) ∷ []) (λ f frame. refl) (top S.cpus k.0)
+  event_fine (event.Register k a r v) h = by_top_fine p S (λ f frame. GoOn (frame_id f) (answered plan frame (Num v)) ∷ []) (λ f frame. refl) (top S.cpus k.0)
   event_fine (event.Did k c v) h =
       let d = did_tells plan m S k c v h in
       let f : ℕ = d.frame in
       subst (λ ds. all_fine p ds ≡ true) (sym (by_its_top S k.0 f (did_deeds plan S k.0 c v) d.about.top))
-      (fine_behind p ((outcome plan S k.0 f c).deeds ++ second_deeds f c) (Go_on f (answered plan (frame_of S.cpus f) v) ∷ [])
+      (fine_behind p ((outcome plan S k.0 f c).deeds ++ second_deeds f c) (GoOn (frame_id f) (answered plan (frame_of S.cpus f) v) ∷ [])
       (fine_behind p (outcome plan S k.0 f c).deeds (second_deeds f c) (call_fine k.0 f c d.about.clean) (second_fine p f c.kind c.count c.a c.b c.c)) refl)
   event_fine (event.Waiting k c) h =
       let d = waiting_tells plan m S k c h in
       let f : ℕ = d.frame in
       subst (λ ds. all_fine p ds ≡ true) (sym (by_its_top S k.0 f (waiting_deeds plan S k.0 c) d.about.top))
-      (fine_behind p (outcome plan S k.0 f c).deeds (Go_on f (waiting (frame_of S.cpus f) c (outcome plan S k.0 f c).answer) ∷ []) (call_fine k.0 f c d.about.clean) refl)
+      (fine_behind p (outcome plan S k.0 f c).deeds (GoOn (frame_id f) (waiting (frame_of S.cpus f) c (outcome plan S k.0 f c).answer) ∷ []) (call_fine k.0 f c d.about.clean) refl)
   event_fine (event.Woke k c v) h =
-      by_top_fine p S (woke_deeds plan c v) (λ f frame. fine_behind p (second_deeds f c) (Go_on f (answered plan frame v) ∷ []) (second_fine p f c.kind c.count c.a c.b c.c) refl) (top S.cpus k.0)
+      by_top_fine p S (woke_deeds plan c v) (λ f frame. fine_behind p (second_deeds f c) (GoOn (frame_id f) (answered plan frame v) ∷ []) (second_fine p f c.kind c.count c.a c.b c.c) refl) (top S.cpus k.0)
   event_fine (event.Park k f) h = refl
   event_fine (event.Unpark k f) h = refl
   event_fine (event.End k c o v) h =
-      fine_behind p (release_if_any (lock_of_callback plan c o.id.0 (declared_in plan S o.id.0))) (Pop_frame k.0 ∷ end_of_step plan S (row_of c).rank c o.id.0 v)
+      fine_behind p (release_if_any (lock_of_callback plan c o.id.0 (declared_in plan S o.id.0))) (PopFrame k ∷ end_of_step plan S (row_of c).rank c o.id.0 v)
       (releasing_fine p (lock_of_callback plan c o.id.0 (declared_in plan S o.id.0))) (step_fine p plan S (row_of c).rank c o.id.0 v)
   event_fine (event.Fault k x line) h = refl
   event_fine (event.Stage d s i) h = stage_fine p plan d.id.0 s i
@@ -328,24 +331,24 @@ module _ (p : ℕ → Bool) where
   dpcs_in S = S.dpcs
 
   from_by : {A : Type 0} (plan : Plan) (d : Deed) (S : State A) → is_fine p d ≡ true → From p S.dpcs (do_deed plan d S).dpcs
-  from_by plan (Arrive device info q) S h = from_same S.dpcs _ (arrived S device info q)
-  from_by plan (Ask_deletion o) S h = asked_all (subtree S.tree o) S
-  from_by plan (Requeue r q) S h = from_same S.dpcs _ (gives_up dpcs_in (λ S Q R P. refl) S r)
-  from_by plan (Forward r q) S h = from_same S.dpcs _ (gives_up dpcs_in (λ S Q R P. refl) S r)
-  from_by plan (Give_back r q) S h = from_same S.dpcs _ (gives_up dpcs_in (λ S Q R P. refl) S r)
-  from_by plan (Send_request r t forget) S h = from_same S.dpcs _ (gives_up_if dpcs_in (λ S Q R P. refl) S forget r)
-  from_by plan (Complete_request r) S h =
-      let U = record (give_up S r) { requests = requests.complete S.requests r } in
-      from_then S.dpcs U.dpcs (fold ask_object U (subtree (give_up S r).tree r)).dpcs (from_same S.dpcs U.dpcs (gives_up dpcs_in (λ S Q R P. refl) S r)) (asked_all (subtree (give_up S r).tree r) U)
-  from_by plan (Purge_queue q) S h = from_same S.dpcs _ (withdraws dpcs_in (λ S Q R P. refl) plan q (waiting_in S.queues q) (record S { control = control.set_mode S.control q mode.Purged }))
-  from_by plan (Close_returning d) S h = from_same S.dpcs _ (returns_closed dpcs_in (λ S Q R P. refl) (managed_queues plan d) S)
-  from_by plan (Close_device d) S h = from_same S.dpcs _ (queues_closed dpcs_in (λ S Q R P. refl) (queues_of plan d) (record S { control = control.shut S.control d }))
-  from_by plan (Enqueue_dpc cpu o) S h = λ x e. elim (dpc_enqueued S.dpcs cpu o x e) [
+  from_by plan (Arrive device info q) S h = from_same S.dpcs _ (arrived S device.0 info q)
+  from_by plan (AskDeletion o) S h = asked_all (subtree S.tree o.0) S
+  from_by plan (Requeue r q) S h = from_same S.dpcs _ (gives_up dpcs_in (λ S Q R P. refl) S r.0)
+  from_by plan (Forward r q) S h = from_same S.dpcs _ (gives_up dpcs_in (λ S Q R P. refl) S r.0)
+  from_by plan (GiveBack r q) S h = from_same S.dpcs _ (gives_up dpcs_in (λ S Q R P. refl) S r.0)
+  from_by plan (SendRequest r t forget) S h = from_same S.dpcs _ (gives_up_if dpcs_in (λ S Q R P. refl) S forget r.0)
+  from_by plan (CompleteRequest r) S h =
+      let U = record (give_up S r.0) { requests = requests.complete S.requests r.0 } in
+      from_then S.dpcs U.dpcs (fold ask_object U (subtree (give_up S r.0).tree r.0)).dpcs (from_same S.dpcs U.dpcs (gives_up dpcs_in (λ S Q R P. refl) S r.0)) (asked_all (subtree (give_up S r.0).tree r.0) U)
+  from_by plan (PurgeQueue q) S h = from_same S.dpcs _ (withdraws dpcs_in (λ S Q R P. refl) plan q.0 (waiting_in S.queues q.0) (record S { control = control.set_mode S.control q.0 mode.Purged }))
+  from_by plan (CloseReturning d) S h = from_same S.dpcs _ (returns_closed dpcs_in (λ S Q R P. refl) (managed_queues plan d.0) S)
+  from_by plan (CloseDevice d) S h = from_same S.dpcs _ (queues_closed dpcs_in (λ S Q R P. refl) (queues_of plan d.0) (record S { control = control.shut S.control d.0 }))
+  from_by plan (EnqueueDpc cpu o) S h = λ x e. elim (dpc_enqueued S.dpcs cpu.0 o.0 x e) [
     | inl y ↦ first (is_dpc_queued S.dpcs x) (p x) y
     | inr y ↦ second (is_dpc_queued S.dpcs x) (p x) (ap p y ∙ h)
   ]
-  from_by plan (Cancel_dpc o) S h = λ x e. first (is_dpc_queued S.dpcs x) (p x) (dpc_cancelled S.dpcs o x e).0
-  from_by plan (Take_dpc cpu) S h = λ x e. first (is_dpc_queued S.dpcs x) (p x) (dpc_taken S.dpcs cpu x e)
+  from_by plan (CancelDpc o) S h = λ x e. first (is_dpc_queued S.dpcs x) (p x) (dpc_cancelled S.dpcs o.0 x e).0
+  from_by plan (TakeDpc cpu) S h = λ x e. first (is_dpc_queued S.dpcs x) (p x) (dpc_taken S.dpcs cpu.0 x e)
   from_by plan _ S h = from_same S.dpcs S.dpcs refl
 
   pub deeds_from : {A : Type 0} (plan : Plan) (ds : List Deed) (S : State A) → all_fine p ds ≡ true → From p S.dpcs (do_deeds plan ds S).dpcs

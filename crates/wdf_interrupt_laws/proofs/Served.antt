@@ -33,6 +33,7 @@ use Rattle.wdf_model.specs.Plans.{callback_irql, device_of, interrupt_of, interr
 use Rattle.wdf_model.specs.parts.Tree.{is_gone, is_live, kind_of, life_of, nearest_device}
 use Rattle.wdf_model.specs.parts.Cpus.{frame_of, is_running, top}
 use Rattle.wdf_base.specs.declared.frame.Frame.{Frame}
+use Rattle.wdf_model.specs.Ids.{frame_id, irql_of, object_id}
 use Rattle.wdf_model.specs.rules.Script.{intent_of}
 use Rattle.wdf_model.specs.rules.Calls.{outcome, second_deeds}
 use Rattle.wdf_model.specs.parts.Locks.{lock_of_callback}
@@ -41,7 +42,9 @@ use Rattle.wdf_model.specs.parts.Deferred.Dpcs.{is_dpc_queued}
 use Rattle.wdf_model.specs.parts.Pnp.{Pnp, Sequence, busy, is_running_step, next_step, no_sequence, running_step, sequence_of, steps_for, steps_left}
 use Rattle.wdf_model.specs.parts.Pnp as pnp
 use Rattle.wdf_model.specs.State.{State, declared_in, declares_in, is_proper}
-use Rattle.wdf_model.specs.rules.Deeds.{Deed, End_step, Go_on, Pop_frame, Push_frame, Take_step, do_deed, do_deeds}
+use Rattle.wdf_model.specs.declared.deed.Deed.{Deed}
+use Rattle.wdf_model.specs.declared.deed.Deed.TheVariants.{EndStep, GoOn, PopFrame, PushFrame, TakeStep}
+use Rattle.wdf_model.specs.rules.Deeds.{do_deed, do_deeds}
 use Rattle.wdf_model.specs.rules.Starts.{effect, end_of_step, interrupt_of_step, is_ready_for, may_pass, may_start, new_frame, next_number, rank_ready, rank_ready_for, release_if_any, stage_deeds, stage_ready, start_effect, step_of, step_ready, take_if_any}
 use Rattle.wdf_model.specs.rules.Steps.{answered, deeds, did_deeds, goes_on, is_cpu, is_proper_if_any, may, spending, stepped, waiting, waiting_deeds, woke_deeds}
 use Rattle.wdf_model.specs.laws.Agreement.{is_sequence}
@@ -191,7 +194,7 @@ module _ {A : Type 0} (plan : Plan) (m : Meaning A) (S : State A) (es : List Eve
     takes = take_if_any (next_number S) (lock_of_callback plan c o.id.0 (declared_in plan S o.id.0))
 
     abbrev pushes : Deed
-    pushes = Push_frame cpu.0 (next_number S) (new_frame plan S c o r) (callback_irql plan c o.id.0)
+    pushes = PushFrame cpu (frame_id (next_number S)) (new_frame plan S c o r) (irql_of (callback_irql plan c o.id.0))
 
     declares_ : declares_in plan S c o.id.0 ≡ true
     declares_ = let start : may_start plan m S cpu.0 c o.id.0 r ≡ true = both_right (is_cpu plan cpu && is_proper plan S o && is_proper_if_any plan S r) (may_start plan m S cpu.0 c o.id.0 r) h in search (both_left, both_right)
@@ -225,21 +228,21 @@ module _ {A : Type 0} (plan : Plan) (m : Meaning A) (S : State A) (es : List Eve
       next_ = found_run (steps_left S.pnp n) c j
           (both_left (same_option same_step (next_step S.pnp n) (Some (step.Run c j))) (not (is_running_step S.pnp n)) (both_left (same_option same_step (next_step S.pnp n) (Some (step.Run c j)) && not (is_running_step S.pnp n)) _ step_is))
 
-      effect_is : start_effect plan S cpu.0 c o.id.0 r ≡ Take_step n ∷ []
+      effect_is : start_effect plan S cpu.0 c o.id.0 r ≡ TakeStep (object_id n) ∷ []
       effect_is = ap (λ y. start_effect plan S cpu.0 c o.id.0 y) none ∙ ap (λ x. effect plan S x cpu.0 c o.id.0) (sequence_is (row_of c).rank is)
 
       abbrev T : State A
-      T = do_deed plan (Take_step n) S
+      T = do_deed plan (TakeStep (object_id n)) S
 
       abbrev W : State A
       W = do_deed plan pushes T
 
-      deeds_are : deeds plan S ev ≡ Take_step n ∷ pushes ∷ takes
+      deeds_are : deeds plan S ev ≡ TakeStep (object_id n) ∷ pushes ∷ takes
       deeds_are = ap (λ (x : List Deed). x ++ pushes ∷ takes) effect_is
 
       rest_calm : Calm W (do_deeds plan takes W)
       rest_calm =
-          let s : AllSound plan (Take_step n ∷ pushes ∷ takes) S = subst (λ (x : List Deed). AllSound plan x S) deeds_are (all_sound plan m S ev known h) in
+          let s : AllSound plan (TakeStep (object_id n) ∷ pushes ∷ takes) S = subst (λ (x : List Deed). AllSound plan x S) deeds_are (all_sound plan m S ev known h) in
           deeds_calm plan takes W (taking_none (next_number S) (lock_of_callback plan c o.id.0 (declared_in plan S o.id.0))) s.1.1
 
       pnp_is : (After ev).pnp ≡ pnp.taken S.pnp n
@@ -264,7 +267,7 @@ module _ {A : Type 0} (plan : Plan) (m : Meaning A) (S : State A) (es : List Eve
           let t = exit_shown cpu c o r x.device.0 (same_callback c callback.EvtDeviceD0Exit) refl s in
           let exits : c ≡ callback.EvtDeviceD0Exit = (callback_decides c callback.EvtDeviceD0Exit).0 t.0 in
           let power : is_power_callback c ≡ true = subst (λ y. is_power_callback y ≡ true) (sym exits) refl in
-          let sound : AllSound plan (Take_step n ∷ pushes ∷ takes) S = subst (λ (y : List Deed). AllSound plan y S) deeds_are (all_sound plan m S ev known h) in
+          let sound : AllSound plan (TakeStep (object_id n) ∷ pushes ∷ takes) S = subst (λ (y : List Deed). AllSound plan y S) deeds_are (all_sound plan m S ev known h) in
           let there : is_gone (life_of S.tree o.id.0) ≡ false = sound.1.0.0 in
           let own : n ≡ o.id.0 = own_device_of plan S o.id.0 known.known.declared there (declares_device plan c (declared_in plan S o.id.0) resolved power declares_) in
           let was : is_quieted (steps_left S.pnp n) ≡ true = subst (λ y. is_quieted (steps_left S.pnp y) ≡ true) (sym (own ∙ t.1)) (inv.quieted x.device.0 i (watched_of i x at) a) in
@@ -306,10 +309,10 @@ module _ {A : Type 0} (plan : Plan) (m : Meaning A) (S : State A) (es : List Eve
 
     ends_other : is_sequence (row_of c).rank ≡ false → Serves plan (After en) (es ++ en ∷ [])
     ends_other other = calm en h
-        (none_behind (release_if_any lock_) (Pop_frame cpu.0 ∷ end_of_step plan S (row_of c).rank c o.id.0 v) (releasing_none lock_) (no_step (row_of c).rank other))
+        (none_behind (release_if_any lock_) (PopFrame cpu ∷ end_of_step plan S (row_of c).rank c o.id.0 v) (releasing_none lock_) (no_step (row_of c).rank other))
         (λ d i. end_elsewhere cpu c o v d i false (not_entry c other) (λ x. absurd (let z : ⊥ = cc in z)))
       where
-        no_step : (x : Rank) → is_sequence x ≡ false → none_moves (Pop_frame cpu.0 ∷ end_of_step plan S x c o.id.0 v) ≡ true
+        no_step : (x : Rank) → is_sequence x ≡ false → none_moves (PopFrame cpu ∷ end_of_step plan S x c o.id.0 v) ≡ true
         no_step rank.Sequence e = absurd (let z : ⊥ = cc in z)
         no_step _ e = refl
 
@@ -318,8 +321,8 @@ module _ {A : Type 0} (plan : Plan) (m : Meaning A) (S : State A) (es : List Eve
         let n : ℕ = nearest_device S.tree o.id.0 in
         let st : Step = step_of plan S c o.id.0 in
         let V : State A = do_deeds plan (release_if_any lock_) S in
-        let tail : end_of_step plan S (row_of c).rank c o.id.0 v ≡ End_step n st v ∷ [] = ap (λ x. end_of_step plan S x c o.id.0 v) (sequence_is (row_of c).rank is) in
-        let turn : After en ≡ do_deeds plan (Pop_frame cpu.0 ∷ End_step n st v ∷ []) V = in_turn plan (release_if_any lock_) (Pop_frame cpu.0 ∷ end_of_step plan S (row_of c).rank c o.id.0 v) S ∙ ap (λ (x : List Deed). do_deeds plan (Pop_frame cpu.0 ∷ x) V) tail in
+        let tail : end_of_step plan S (row_of c).rank c o.id.0 v ≡ EndStep (object_id n) st v ∷ [] = ap (λ x. end_of_step plan S x c o.id.0 v) (sequence_is (row_of c).rank is) in
+        let turn : After en ≡ do_deeds plan (PopFrame cpu ∷ EndStep (object_id n) st v ∷ []) V = in_turn plan (release_if_any lock_) (PopFrame cpu ∷ end_of_step plan S (row_of c).rank c o.id.0 v) S ∙ ap (λ (x : List Deed). do_deeds plan (PopFrame cpu ∷ x) V) tail in
         let same = released_same lock_ in
         let pnp_is : (After en).pnp ≡ pnp.ended S.pnp n st v = ap (λ (X : State A). X.pnp) turn ∙ ap (λ Q. pnp.ended Q n st v) same.0 in
         let ints : (After en).interrupts ≡ S.interrupts = ap (λ (X : State A). X.interrupts) turn ∙ same.1 in
@@ -493,13 +496,13 @@ module _ {A : Type 0} (plan : Plan) (m : Meaning A) (S : State A) (es : List Eve
   keeps (event.End cpu c o v) h = ends cpu c o v h
   keeps (event.Stage n s j) h = stages n s j h
   keeps (event.Posted agent p answer) h = posts agent p answer h
-  keeps (event.Local cpu line) h = calm (event.Local cpu line) h (by_top (λ g frame. Go_on g (stepped frame (intent_of plan frame)) ∷ []) (λ g frame. refl) (top S.cpus cpu.0)) (λ d i. record { entered = refl; exit = refl; enabled = refl; disabled = refl; up = refl; down = refl })
-  keeps (event.Log cpu v) h = calm (event.Log cpu v) h (by_top (λ g frame. Go_on g (goes_on plan frame) ∷ []) (λ g frame. refl) (top S.cpus cpu.0)) (λ d i. record { entered = refl; exit = refl; enabled = refl; disabled = refl; up = refl; down = refl })
-  keeps (event.Spend cpu n) h = calm (event.Spend cpu n) h (by_top (λ g frame. Go_on g (spending plan S frame n) ∷ []) (λ g frame. refl) (top S.cpus cpu.0)) (λ d i. record { entered = refl; exit = refl; enabled = refl; disabled = refl; up = refl; down = refl })
-  keeps (event.Register cpu a r v) h = calm (event.Register cpu a r v) h (by_top (λ g frame. Go_on g (answered plan frame (Num v)) ∷ []) (λ g frame. refl) (top S.cpus cpu.0)) (λ d i. record { entered = refl; exit = refl; enabled = refl; disabled = refl; up = refl; down = refl })
-  keeps (event.Did cpu c v) h = calm (event.Did cpu c v) h (by_top (did_deeds plan S cpu.0 c v) (λ g frame. none_behind ((outcome plan S cpu.0 g c).deeds ++ second_deeds g c) (Go_on g (answered plan frame v) ∷ []) (none_behind (outcome plan S cpu.0 g c).deeds (second_deeds g c) (outcome_none plan S cpu.0 g c.kind c.count c.a c.b c.c) (second_none g c.kind c.count c.a c.b c.c)) refl) (top S.cpus cpu.0)) (λ d i. record { entered = refl; exit = refl; enabled = refl; disabled = refl; up = refl; down = refl })
-  keeps (event.Waiting cpu c) h = calm (event.Waiting cpu c) h (by_top (waiting_deeds plan S cpu.0 c) (λ g frame. none_behind (outcome plan S cpu.0 g c).deeds (Go_on g (waiting frame c (outcome plan S cpu.0 g c).answer) ∷ []) (outcome_none plan S cpu.0 g c.kind c.count c.a c.b c.c) refl) (top S.cpus cpu.0)) (λ d i. record { entered = refl; exit = refl; enabled = refl; disabled = refl; up = refl; down = refl })
-  keeps (event.Woke cpu c v) h = calm (event.Woke cpu c v) h (by_top (woke_deeds plan c v) (λ g frame. none_behind (second_deeds g c) (Go_on g (answered plan frame v) ∷ []) (second_none g c.kind c.count c.a c.b c.c) refl) (top S.cpus cpu.0)) (λ d i. record { entered = refl; exit = refl; enabled = refl; disabled = refl; up = refl; down = refl })
+  keeps (event.Local cpu line) h = calm (event.Local cpu line) h (by_top (λ g frame. GoOn (frame_id g) (stepped frame (intent_of plan frame)) ∷ []) (λ g frame. refl) (top S.cpus cpu.0)) (λ d i. record { entered = refl; exit = refl; enabled = refl; disabled = refl; up = refl; down = refl })
+  keeps (event.Log cpu v) h = calm (event.Log cpu v) h (by_top (λ g frame. GoOn (frame_id g) (goes_on plan frame) ∷ []) (λ g frame. refl) (top S.cpus cpu.0)) (λ d i. record { entered = refl; exit = refl; enabled = refl; disabled = refl; up = refl; down = refl })
+  keeps (event.Spend cpu n) h = calm (event.Spend cpu n) h (by_top (λ g frame. GoOn (frame_id g) (spending plan S frame n) ∷ []) (λ g frame. refl) (top S.cpus cpu.0)) (λ d i. record { entered = refl; exit = refl; enabled = refl; disabled = refl; up = refl; down = refl })
+  keeps (event.Register cpu a r v) h = calm (event.Register cpu a r v) h (by_top (λ g frame. GoOn (frame_id g) (answered plan frame (Num v)) ∷ []) (λ g frame. refl) (top S.cpus cpu.0)) (λ d i. record { entered = refl; exit = refl; enabled = refl; disabled = refl; up = refl; down = refl })
+  keeps (event.Did cpu c v) h = calm (event.Did cpu c v) h (by_top (did_deeds plan S cpu.0 c v) (λ g frame. none_behind ((outcome plan S cpu.0 g c).deeds ++ second_deeds g c) (GoOn (frame_id g) (answered plan frame v) ∷ []) (none_behind (outcome plan S cpu.0 g c).deeds (second_deeds g c) (outcome_none plan S cpu.0 g c.kind c.count c.a c.b c.c) (second_none g c.kind c.count c.a c.b c.c)) refl) (top S.cpus cpu.0)) (λ d i. record { entered = refl; exit = refl; enabled = refl; disabled = refl; up = refl; down = refl })
+  keeps (event.Waiting cpu c) h = calm (event.Waiting cpu c) h (by_top (waiting_deeds plan S cpu.0 c) (λ g frame. none_behind (outcome plan S cpu.0 g c).deeds (GoOn (frame_id g) (waiting frame c (outcome plan S cpu.0 g c).answer) ∷ []) (outcome_none plan S cpu.0 g c.kind c.count c.a c.b c.c) refl) (top S.cpus cpu.0)) (λ d i. record { entered = refl; exit = refl; enabled = refl; disabled = refl; up = refl; down = refl })
+  keeps (event.Woke cpu c v) h = calm (event.Woke cpu c v) h (by_top (woke_deeds plan c v) (λ g frame. none_behind (second_deeds g c) (GoOn (frame_id g) (answered plan frame v) ∷ []) (second_none g c.kind c.count c.a c.b c.c) refl) (top S.cpus cpu.0)) (λ d i. record { entered = refl; exit = refl; enabled = refl; disabled = refl; up = refl; down = refl })
   keeps (event.Park cpu g) h = calm (event.Park cpu g) h (refl) (λ d i. record { entered = refl; exit = refl; enabled = refl; disabled = refl; up = refl; down = refl })
   keeps (event.Unpark cpu g) h = calm (event.Unpark cpu g) h (refl) (λ d i. record { entered = refl; exit = refl; enabled = refl; disabled = refl; up = refl; down = refl })
   keeps (event.Fault cpu x line) h = calm (event.Fault cpu x line) h (refl) (λ d i. record { entered = refl; exit = refl; enabled = refl; disabled = refl; up = refl; down = refl })

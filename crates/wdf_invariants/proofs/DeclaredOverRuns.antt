@@ -25,7 +25,9 @@ use Rattle.wdf_model.specs.parts.Requests as requests
 use Rattle.wdf_model.specs.parts.Queues.{waiting_in}
 use Rattle.wdf_model.specs.parts.Control as control
 use Rattle.wdf_model.specs.State.{State, is_with_driver, opening}
-use Rattle.wdf_model.specs.rules.Deeds.{Deed, Create, Make_request, Arrive, Ask_deletion, Refer, Unrefer, Write_cell, Note, Clean_up, End_life, Requeue, Forward, Give_back, Send_request, Complete_request, Purge_queue, Close_returning, Close_device, arrive_at, ask_object, ask_objects, close_queue, close_returning, do_deed, do_deeds, give_up, give_up_if, withdraw}
+use Rattle.wdf_model.specs.declared.deed.Deed.{Deed}
+use Rattle.wdf_model.specs.declared.deed.Deed.TheVariants.{Create, MakeRequest, Arrive, AskDeletion, Refer, Unrefer, WriteCell, Note, CleanUp, EndLife, Requeue, Forward, GiveBack, SendRequest, CompleteRequest, PurgeQueue, CloseReturning, CloseDevice}
+use Rattle.wdf_model.specs.rules.Deeds.{arrive_at, ask_object, ask_objects, close_queue, close_returning, do_deed, do_deeds, give_up, give_up_if, withdraw}
 use Rattle.wdf_model.specs.rules.Faults.{is_never_deleted, is_request_kind}
 use Rattle.wdf_model.specs.rules.Steps.{after, deeds, may}
 use Rattle.wdf_model.specs.rules.Ready.{IsRunOf, ready, state_after}
@@ -123,25 +125,25 @@ same_tree T U e = subst (λ (V : Tree). KindsStay T V) (sym e) (λ o h. refl)
 
 deed_kinds : {A : Type 0} (plan : Plan) (d : Deed) (S : State A) → fits plan d S ≡ true → KindsStay S.tree (do_deed plan d S).tree
 deed_kinds plan (Create k class parent) S f =
-    object_made S.tree k class parent (undeclared k (not_true (is_never_deleted k) (both_right (is_live (life_of S.tree parent) && not (is_full S.tree) && not (is_request_kind k)) (not (is_never_deleted k)) f)))
-deed_kinds plan (Make_request class parent) S f = object_made S.tree kind.Made class parent refl
-deed_kinds plan (Arrive device info p) S f = subst (λ (V : Tree). KindsStay S.tree V) (sym (arrived S device info p)) (object_made S.tree kind.Request 0 device refl)
-deed_kinds plan (Ask_deletion o) S f = all_asked (subtree S.tree o) S
-deed_kinds plan (Refer o) S f = object_changes S.tree o (λ n. record n { references = n.references + 1 }) (λ n h. refl)
-deed_kinds plan (Unrefer o) S f = object_changes S.tree o (λ n. record n { references = n.references - 1 }) (λ n h. refl)
-deed_kinds plan (Write_cell o k v) S f = object_changes S.tree o (λ n. record n { cells = slice_set n.cells k v }) (λ n h. refl)
-deed_kinds plan (Note o c) S f = object_changes S.tree o (noted c) (λ n h. noted_kind c n)
-deed_kinds plan (Clean_up o) S f = object_changes S.tree o (with_life life.Cleaned) (λ n h. refl)
-deed_kinds plan (End_life o) S f = object_changes S.tree o (λ _. gone) (λ n h. absurd (let z : ⊥ = cc in z))
-deed_kinds plan (Requeue r q) S f = same_tree _ _ (given_up S r)
-deed_kinds plan (Forward r q) S f = same_tree _ _ (given_up S r)
-deed_kinds plan (Give_back r q) S f = same_tree _ _ (given_up S r)
-deed_kinds plan (Send_request r t forget) S f = same_tree _ _ (given_up_if S forget r)
-deed_kinds plan (Complete_request r) S f =
-    kinds_then S.tree (give_up S r).tree (ask_objects (record (give_up S r) { requests = requests.complete S.requests r }) r).tree (same_tree _ _ (given_up S r)) (all_asked (subtree (give_up S r).tree r) (record (give_up S r) { requests = requests.complete S.requests r }))
-deed_kinds plan (Purge_queue q) S f = same_tree _ _ (all_withdrawn plan q (waiting_in S.queues q) (record S { control = control.set_mode S.control q mode.Purged }))
-deed_kinds plan (Close_returning d) S f = same_tree _ _ (all_returning (managed_queues plan d) S)
-deed_kinds plan (Close_device d) S f = same_tree _ _ (all_closed (queues_of plan d) (record S { control = control.shut S.control d }))
+    object_made S.tree k class parent.0 (undeclared k (not_true (is_never_deleted k) (both_right (is_live (life_of S.tree parent.0) && not (is_full S.tree) && not (is_request_kind k)) (not (is_never_deleted k)) f)))
+deed_kinds plan (MakeRequest class parent) S f = object_made S.tree kind.Made class parent.0 refl
+deed_kinds plan (Arrive device info p) S f = subst (λ (V : Tree). KindsStay S.tree V) (sym (arrived S device.0 info p)) (object_made S.tree kind.Request 0 device.0 refl)
+deed_kinds plan (AskDeletion o) S f = all_asked (subtree S.tree o.0) S
+deed_kinds plan (Refer o) S f = object_changes S.tree o.0 (λ n. record n { references = n.references + 1 }) (λ n h. refl)
+deed_kinds plan (Unrefer o) S f = object_changes S.tree o.0 (λ n. record n { references = n.references - 1 }) (λ n h. refl)
+deed_kinds plan (WriteCell o k v) S f = object_changes S.tree o.0 (λ n. record n { cells = slice_set n.cells k v }) (λ n h. refl)
+deed_kinds plan (Note o c) S f = object_changes S.tree o.0 (noted c) (λ n h. noted_kind c n)
+deed_kinds plan (CleanUp o) S f = object_changes S.tree o.0 (with_life life.Cleaned) (λ n h. refl)
+deed_kinds plan (EndLife o) S f = object_changes S.tree o.0 (λ _. gone) (λ n h. absurd (let z : ⊥ = cc in z))
+deed_kinds plan (Requeue r q) S f = same_tree _ _ (given_up S r.0)
+deed_kinds plan (Forward r q) S f = same_tree _ _ (given_up S r.0)
+deed_kinds plan (GiveBack r q) S f = same_tree _ _ (given_up S r.0)
+deed_kinds plan (SendRequest r t forget) S f = same_tree _ _ (given_up_if S forget r.0)
+deed_kinds plan (CompleteRequest r) S f =
+    kinds_then S.tree (give_up S r.0).tree (ask_objects (record (give_up S r.0) { requests = requests.complete S.requests r.0 }) r.0).tree (same_tree _ _ (given_up S r.0)) (all_asked (subtree (give_up S r.0).tree r.0) (record (give_up S r.0) { requests = requests.complete S.requests r.0 }))
+deed_kinds plan (PurgeQueue q) S f = same_tree _ _ (all_withdrawn plan q.0 (waiting_in S.queues q.0) (record S { control = control.set_mode S.control q.0 mode.Purged }))
+deed_kinds plan (CloseReturning d) S f = same_tree _ _ (all_returning (managed_queues plan d.0) S)
+deed_kinds plan (CloseDevice d) S f = same_tree _ _ (all_closed (queues_of plan d.0) (record S { control = control.shut S.control d.0 }))
 deed_kinds plan _ S f = λ o h. refl
 
 deeds_kinds : {A : Type 0} (plan : Plan) (ds : List Deed) (S : State A) → all_fit plan ds S ≡ true → KindsStay S.tree (do_deeds plan ds S).tree

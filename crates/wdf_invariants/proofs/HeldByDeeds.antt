@@ -28,7 +28,10 @@ use Rattle.wdf_model.specs.parts.Targets.{is_forgotten, is_undone, routine_due, 
 use Rattle.wdf_model.specs.parts.Power.{Power, advance_stage, holding_of, is_held_at, no_holding, wake_holdings, with_up, woken}
 use Rattle.wdf_model.specs.parts.Power as power
 use Rattle.wdf_model.specs.State.{State, held_at, withdrawn_place}
-use Rattle.wdf_model.specs.rules.Deeds.{Deed, Make_request, Arrive, Ask_deletion, Present, Receive, Requeue, Forward, Give_back, Withdraw, Mark_request, Unmark_request, Cancel_request, Take_cancel, Send_request, Finish_sending, Come_back, Complete_request, Purge_queue, Close_device, Close_returning, Stop_target, Start_target, Advance_power, Acknowledge, Ask_stop, Resume, arrive_at, ask_objects, close_queue, close_returning, do_deed, do_deeds, give_up, queued, withdraw, End_life}
+use Rattle.wdf_model.specs.Ids.{object_id}
+use Rattle.wdf_model.specs.declared.deed.Deed.{Deed}
+use Rattle.wdf_model.specs.declared.deed.Deed.TheVariants.{MakeRequest, Arrive, AskDeletion, Present, Receive, Requeue, Forward, GiveBack, Withdraw, MarkRequest, UnmarkRequest, CancelRequest, TakeCancel, SendRequest, FinishSending, ComeBack, CompleteRequest, PurgeQueue, CloseDevice, CloseReturning, StopTarget, StartTarget, AdvancePower, Acknowledge, AskStop, Resume, EndLife}
+use Rattle.wdf_model.specs.rules.Deeds.{arrive_at, ask_objects, close_queue, close_returning, do_deed, do_deeds, give_up, queued, withdraw}
 use Rattle.wdf_model.specs.rules.Calls.{may_send}
 use Rattle.wdf_model.specs.laws.Fits.{all_fit, fits, is_arrival_place}
 use Rattle.wdf_model.proofs.Tests.{both_left, both_right}
@@ -150,7 +153,7 @@ arrives_there plan S device info _ k h f = absurd (let z : ⊥ = cc in z)
 deleted : {A : Type 0} (plan : Plan) (S : State A) (o : ℕ) → HoldsIn plan S → HoldsIn plan (ask_objects S o)
 deleted {A} plan S o h = subst (λ (T : State A). HoldsIn plan T) (sym (asking_deletes S o).rest) h
 
-sends_it : {A : Type 0} (plan : Plan) (S : State A) (r t : ℕ) (forget : Bool) → Placed S → HoldsIn plan S → is_owned (place_of S.requests r) ≡ true → HoldsIn plan (do_deed plan (Send_request r t forget) S)
+sends_it : {A : Type 0} (plan : Plan) (S : State A) (r t : ℕ) (forget : Bool) → Placed S → HoldsIn plan S → is_owned (place_of S.requests r) ≡ true → HoldsIn plan (do_deed plan (SendRequest (object_id r) (object_id t) forget) S)
 sends_it plan S r t true k h owned = sent_for_good S (give_up S r) r t k h (gives_up plan S r h) owned
 sends_it plan S r t false k h owned = sent_to_return S r t k h owned
 
@@ -176,35 +179,35 @@ forgotten_holder R T o x (inl e) =
 forgotten_holder R T o x (inr n) = ap (held_by (is_forgotten T x)) (entry_set_other no_request R.all o x (forgotten (request_of R o)) n)
 
 pub deed_holds : {A : Type 0} (plan : Plan) (d : Deed) (S : State A) → fits plan d S ≡ true → Placed S → HoldsIn plan S → HoldsIn plan (do_deed plan d S)
-deed_holds plan (Make_request class parent) S f k h = entered_unheld S place.Owned (made_info (nearest_device S.tree parent)) k h (λ forgotten. refl) (λ p. refl)
-deed_holds plan (Arrive device info p) S f k h = arrives_there plan S device info p k h (both_right _ (is_arrival_place p) f)
-deed_holds plan (Ask_deletion o) S f k h = deleted plan S o h
-deed_holds plan (Present q r) S f k h = presented S q r k h f
-deed_holds plan (Receive q r) S f k h = received S q r h f
+deed_holds plan (MakeRequest class parent) S f k h = entered_unheld S place.Owned (made_info (nearest_device S.tree parent.0)) k h (λ forgotten. refl) (λ p. refl)
+deed_holds plan (Arrive device info p) S f k h = arrives_there plan S device.0 info p k h (both_right _ (is_arrival_place p) f)
+deed_holds plan (AskDeletion o) S f k h = deleted plan S o.0 h
+deed_holds plan (Present q r) S f k h = presented S q.0 r.0 k h f
+deed_holds plan (Receive q r) S f k h = received S q.0 r.0 h f
 deed_holds plan (Requeue r q) S f k h =
-    gone_by S (give_up S r) r (queued q) h (gives_up plan S r h) (λ forgotten. refl) (λ p. refl)
+    gone_by S (give_up S r.0) r.0 (queued q.0) h (gives_up plan S r.0 h) (λ forgotten. refl) (λ p. refl)
 deed_holds plan (Forward r q) S f k h =
-    gone_by S (give_up S r) r (queued q) h (gives_up plan S r h) (λ forgotten. refl) (λ p. refl)
-deed_holds plan (Give_back r q) S f k h = gone_cancelled S (give_up S r) r (withdrawn_place plan (give_up S r) q r) h (gives_up plan S r h) (λ forgotten. withdrawn_unheld _ forgotten q)
-deed_holds plan (Withdraw q r) S f k h = withdrawn plan q S r h (queued_unheld (is_forgotten S.targets r) q (place_of S.requests r) f)
-deed_holds plan (Mark_request r) S f k h = marks_hold r marked h (λ forgotten q. marked_held forgotten q q.info.cancelled refl)
-deed_holds plan (Unmark_request r) S f k h = marks_hold r unmarked h (λ forgotten q. unmarked_held forgotten q (is_marked q.info.mark) refl)
-deed_holds plan (Cancel_request r) S f k h = marks_hold r cancelled h (λ forgotten q. refl)
-deed_holds plan (Take_cancel r) S f k h = marks_hold r (with_mark mark.Taken) h (λ forgotten q. refl)
-deed_holds plan (Send_request r t forget) S f k h = sends_it plan S r t forget k h (both_left (is_owned (place_of S.requests r)) (may_send S r t) (both_left (is_owned (place_of S.requests r) && may_send S r t) _ f))
-deed_holds plan (Finish_sending r s) S f k h = finished S r s h (both_left (is_sent (place_of S.requests r)) (is_undone S.targets r) f)
-deed_holds plan (Come_back r) S f k h = came_back S r h (both_left (is_sent (place_of S.requests r)) (is_some (routine_due S.targets r)) f) (both_right (is_sent (place_of S.requests r)) (is_some (routine_due S.targets r)) f)
-deed_holds plan (Complete_request r) S f k h = deleted plan (record (give_up S r) { requests = requests.complete S.requests r }) r (completed S (give_up S r) r h (gives_up plan S r h))
-deed_holds plan (Purge_queue q) S f k h = all_withdrawn plan q (waiting_in S.queues q) (record S { control = control.set_mode S.control q mode.Purged }) h (λ x more. waiting_unheld S q x k more)
-deed_holds plan (Close_returning d) S f k h = all_returning_closed plan (managed_queues plan d) S h
-deed_holds plan (Close_device d) S f k h = all_queues_closed plan (queues_of plan d) (record S { control = control.shut S.control d }) h
-deed_holds plan (End_life o) S f k h = holds_alike h (λ x. forgotten_holder S.requests S.targets o x (one_or_two x o)) (let e = as_long S.requests.all o (forgotten (request_of S.requests o)) in omega arith) (λ q. refl) (λ x. refl)
-deed_holds plan (Advance_power d s) S f k h = holds_alike h (λ x. refl) (omega arith) (λ q. refl) (λ x. step_queue S.power d s x)
-deed_holds plan (Acknowledge r) S f k h = holds_alike h (λ x. refl) (omega arith) (λ q. refl) (λ x. same_holding S.power r x (λ y. record y { acknowledged = true }) (λ y. refl))
-deed_holds plan (Ask_stop r) S f k h = holds_alike h (λ x. refl) (omega arith) (λ q. refl) (λ x. same_holding S.power r x (λ y. record y { stop_asked = true }) (λ y. refl))
-deed_holds plan (Resume r) S f k h = holds_alike h (λ x. refl) (omega arith) (λ q. refl) (λ x. same_holding S.power r x (λ y. record y { resume_due = false }) (λ y. refl))
-deed_holds plan (Stop_target t) S f k h = holds_alike h (λ x. ap (λ b. held_by b (request_of S.requests x)) (stops_other S.targets t x true)) (omega arith) (λ q. refl) (λ x. refl)
-deed_holds plan (Start_target t) S f k h = holds_alike h (λ x. ap (λ b. held_by b (request_of S.requests x)) (stops_other S.targets t x false)) (omega arith) (λ q. refl) (λ x. refl)
+    gone_by S (give_up S r.0) r.0 (queued q.0) h (gives_up plan S r.0 h) (λ forgotten. refl) (λ p. refl)
+deed_holds plan (GiveBack r q) S f k h = gone_cancelled S (give_up S r.0) r.0 (withdrawn_place plan (give_up S r.0) q.0 r.0) h (gives_up plan S r.0 h) (λ forgotten. withdrawn_unheld _ forgotten q.0)
+deed_holds plan (Withdraw q r) S f k h = withdrawn plan q.0 S r.0 h (queued_unheld (is_forgotten S.targets r.0) q.0 (place_of S.requests r.0) f)
+deed_holds plan (MarkRequest r) S f k h = marks_hold r.0 marked h (λ forgotten q. marked_held forgotten q q.info.cancelled refl)
+deed_holds plan (UnmarkRequest r) S f k h = marks_hold r.0 unmarked h (λ forgotten q. unmarked_held forgotten q (is_marked q.info.mark) refl)
+deed_holds plan (CancelRequest r) S f k h = marks_hold r.0 cancelled h (λ forgotten q. refl)
+deed_holds plan (TakeCancel r) S f k h = marks_hold r.0 (with_mark mark.Taken) h (λ forgotten q. refl)
+deed_holds plan (SendRequest r t forget) S f k h = sends_it plan S r.0 t.0 forget k h (both_left (is_owned (place_of S.requests r.0)) (may_send S r.0 t.0) (both_left (is_owned (place_of S.requests r.0) && may_send S r.0 t.0) _ f))
+deed_holds plan (FinishSending r s) S f k h = finished S r.0 s h (both_left (is_sent (place_of S.requests r.0)) (is_undone S.targets r.0) f)
+deed_holds plan (ComeBack r) S f k h = came_back S r.0 h (both_left (is_sent (place_of S.requests r.0)) (is_some (routine_due S.targets r.0)) f) (both_right (is_sent (place_of S.requests r.0)) (is_some (routine_due S.targets r.0)) f)
+deed_holds plan (CompleteRequest r) S f k h = deleted plan (record (give_up S r.0) { requests = requests.complete S.requests r.0 }) r.0 (completed S (give_up S r.0) r.0 h (gives_up plan S r.0 h))
+deed_holds plan (PurgeQueue q) S f k h = all_withdrawn plan q.0 (waiting_in S.queues q.0) (record S { control = control.set_mode S.control q.0 mode.Purged }) h (λ x more. waiting_unheld S q.0 x k more)
+deed_holds plan (CloseReturning d) S f k h = all_returning_closed plan (managed_queues plan d.0) S h
+deed_holds plan (CloseDevice d) S f k h = all_queues_closed plan (queues_of plan d.0) (record S { control = control.shut S.control d.0 }) h
+deed_holds plan (EndLife o) S f k h = holds_alike h (λ x. forgotten_holder S.requests S.targets o.0 x (one_or_two x o.0)) (let e = as_long S.requests.all o.0 (forgotten (request_of S.requests o.0)) in omega arith) (λ q. refl) (λ x. refl)
+deed_holds plan (AdvancePower d s) S f k h = holds_alike h (λ x. refl) (omega arith) (λ q. refl) (λ x. step_queue S.power d.0 s x)
+deed_holds plan (Acknowledge r) S f k h = holds_alike h (λ x. refl) (omega arith) (λ q. refl) (λ x. same_holding S.power r.0 x (λ y. record y { acknowledged = true }) (λ y. refl))
+deed_holds plan (AskStop r) S f k h = holds_alike h (λ x. refl) (omega arith) (λ q. refl) (λ x. same_holding S.power r.0 x (λ y. record y { stop_asked = true }) (λ y. refl))
+deed_holds plan (Resume r) S f k h = holds_alike h (λ x. refl) (omega arith) (λ q. refl) (λ x. same_holding S.power r.0 x (λ y. record y { resume_due = false }) (λ y. refl))
+deed_holds plan (StopTarget t) S f k h = holds_alike h (λ x. ap (λ b. held_by b (request_of S.requests x)) (stops_other S.targets t.0 x true)) (omega arith) (λ q. refl) (λ x. refl)
+deed_holds plan (StartTarget t) S f k h = holds_alike h (λ x. ap (λ b. held_by b (request_of S.requests x)) (stops_other S.targets t.0 x false)) (omega arith) (λ q. refl) (λ x. refl)
 deed_holds plan _ S f k h = h
 
 -- ---- deeds one after another

@@ -9,9 +9,12 @@ use Rattle.wdf_base.specs.declared.frame.Intent.{Intent}
 use Rattle.wdf_base.specs.declared.frame.Intent.TheVariants as intent
 use Rattle.wdf_base.specs.declared.script.Statement.{Statement}
 use Rattle.wdf_model.specs.parts.Cpus.{frame_of}
+use Rattle.wdf_model.specs.Ids.{frame_id}
 use Rattle.wdf_model.specs.rules.Script.{statement_at}
 use Rattle.wdf_model.specs.State.{State}
-use Rattle.wdf_model.specs.rules.Deeds.{Deed, Go_on, do_deeds}
+use Rattle.wdf_model.specs.declared.deed.Deed.{Deed}
+use Rattle.wdf_model.specs.declared.deed.Deed.TheVariants.{GoOn}
+use Rattle.wdf_model.specs.rules.Deeds.{do_deeds}
 use Rattle.wdf_model.specs.rules.Steps.{answered, at_next, changed, goes_on, result_of, stepped, with_answer}
 use Rattle.wdf_invariants.proofs.FrameMoves.{FrameKept, kept_same}
 use Rattle.wdf_invariants.proofs.StepStates.{StepsIn, deeds_stay, goes}
@@ -44,6 +47,6 @@ stepped_kept a _ = kept_same a a refl
 
 -- the top frame, if any, goes on
 pub moves : {A : Type 0} (plan : Plan) (S : State A) (next : Frame → Frame) (N M L : ℕ) (there : Option ℕ) → M ≤ L → ((a : Frame) → FrameKept a (next a)) → StepsIn N M S
-    → StepsIn N L (do_deeds plan (elim there as (λ _. List Deed) [ None ↦ [] | Some f ↦ Go_on f (next (frame_of S.cpus f)) ∷ [] ]) S)
+    → StepsIn N L (do_deeds plan (elim there as (λ _. List Deed) [ None ↦ [] | Some f ↦ GoOn (frame_id f) (next (frame_of S.cpus f)) ∷ [] ]) S)
 moves plan S next N M L None more k h = deeds_stay plan [] S N M L more refl refl h
 moves plan S next N M L (Some f) more k h = goes plan S f (next (frame_of S.cpus f)) N M L more (k (frame_of S.cpus f)) h

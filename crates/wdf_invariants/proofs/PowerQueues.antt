@@ -19,7 +19,9 @@ use Rattle.wdf_model.specs.parts.Control as control
 use Rattle.wdf_model.specs.parts.Power.{Power, advance_stage, holding_of, is_held, opening_power}
 use Rattle.wdf_model.specs.parts.Power as power
 use Rattle.wdf_model.specs.State.{State, is_with_driver}
-use Rattle.wdf_model.specs.rules.Deeds.{Deed, Arrive, Ask_deletion, Present, Receive, Requeue, Forward, Give_back, Send_request, Complete_request, Purge_queue, Close_device, Close_returning, Advance_power, arrive_at, ask_objects, close_queue, close_returning, do_deed, do_deeds, give_up, give_up_if, release_power, withdraw}
+use Rattle.wdf_model.specs.declared.deed.Deed.{Deed}
+use Rattle.wdf_model.specs.declared.deed.Deed.TheVariants.{Arrive, AskDeletion, Present, Receive, Requeue, Forward, GiveBack, SendRequest, CompleteRequest, PurgeQueue, CloseDevice, CloseReturning, AdvancePower}
+use Rattle.wdf_model.specs.rules.Deeds.{arrive_at, ask_objects, close_queue, close_returning, do_deed, do_deeds, give_up, give_up_if, release_power, withdraw}
 use Rattle.wdf_base.specs.declared.object.Place.{Place}
 use Rattle.wdf_base.specs.declared.object.RequestInfo.{RequestInfo}
 use Rattle.wdf_model.specs.rules.Steps.{deeds}
@@ -82,19 +84,19 @@ arrived_queues S device info _ = refl
 -- ---- deeds, events and runs
 
 deed_queues : {A : Type 0} (plan : Plan) (d : Deed) (S : State A) → (do_deed plan d S).power.queues ≡ S.power.queues
-deed_queues plan (Arrive device info p) S = arrived_queues S device info p
-deed_queues plan (Ask_deletion o) S = deleted_queues S o
-deed_queues plan (Present q r) S = held_queues S.power r q (is_managed plan q)
-deed_queues plan (Receive q r) S = held_queues S.power r q (is_managed plan q)
-deed_queues plan (Requeue r q) S = gives_up_queues S r
-deed_queues plan (Forward r q) S = gives_up_queues S r
-deed_queues plan (Give_back r q) S = gives_up_queues S r
-deed_queues plan (Send_request r t forget) S = sent_queues S r forget
-deed_queues plan (Complete_request r) S = deleted_queues (record (give_up S r) { requests = requests.complete S.requests r }) r ∙ gives_up_queues S r
-deed_queues plan (Purge_queue q) S = withdrawn_queues plan q (waiting_in S.queues q) (record S { control = control.set_mode S.control q mode.Purged })
-deed_queues plan (Close_returning d) S = returning_queues (managed_queues plan d) S
-deed_queues plan (Close_device d) S = closed_queues (queues_of plan d) (record S { control = control.shut S.control d })
-deed_queues plan (Advance_power d s) S = step_queues S.power d s
+deed_queues plan (Arrive device info p) S = arrived_queues S device.0 info p
+deed_queues plan (AskDeletion o) S = deleted_queues S o.0
+deed_queues plan (Present q r) S = held_queues S.power r.0 q.0 (is_managed plan q.0)
+deed_queues plan (Receive q r) S = held_queues S.power r.0 q.0 (is_managed plan q.0)
+deed_queues plan (Requeue r q) S = gives_up_queues S r.0
+deed_queues plan (Forward r q) S = gives_up_queues S r.0
+deed_queues plan (GiveBack r q) S = gives_up_queues S r.0
+deed_queues plan (SendRequest r t forget) S = sent_queues S r.0 forget
+deed_queues plan (CompleteRequest r) S = deleted_queues (record (give_up S r.0) { requests = requests.complete S.requests r.0 }) r.0 ∙ gives_up_queues S r.0
+deed_queues plan (PurgeQueue q) S = withdrawn_queues plan q.0 (waiting_in S.queues q.0) (record S { control = control.set_mode S.control q.0 mode.Purged })
+deed_queues plan (CloseReturning d) S = returning_queues (managed_queues plan d.0) S
+deed_queues plan (CloseDevice d) S = closed_queues (queues_of plan d.0) (record S { control = control.shut S.control d.0 })
+deed_queues plan (AdvancePower d s) S = step_queues S.power d.0 s
 deed_queues plan _ S = refl
 
 deeds_queues : {A : Type 0} (plan : Plan) (ds : List Deed) (S : State A) → (do_deeds plan ds S).power.queues ≡ S.power.queues

@@ -21,7 +21,10 @@ use Rattle.wdf_model.specs.parts.Pnp as pnp
 use Rattle.wdf_model.specs.parts.Pnp.{is_running_step, next_step}
 use Rattle.wdf_model.specs.laws.Agreement.{is_sequence}
 use Rattle.wdf_model.specs.State.{State, declared_in, declares_in}
-use Rattle.wdf_model.specs.rules.Deeds.{Deed, End_step, Pop_frame, Push_frame, Take_step, do_deeds}
+use Rattle.wdf_model.specs.Ids.{cpu_of, frame_id, irql_of, object_id}
+use Rattle.wdf_model.specs.declared.deed.Deed.{Deed}
+use Rattle.wdf_model.specs.declared.deed.Deed.TheVariants.{EndStep, PopFrame, PushFrame, TakeStep}
+use Rattle.wdf_model.specs.rules.Deeds.{do_deeds}
 use Rattle.wdf_model.specs.rules.Starts.{effect, end_deeds, end_of_step, interrupt_of_step, is_ready_for, level_fits, life_fits, may_start, new_frame, rank_ready, rank_ready_for, release_if_any, start_deeds, start_effect, step_of, step_ready, take_if_any}
 use Rattle.wdf_model.specs.laws.Fits.{all_fit, fits}
 use Rattle.wdf_model.proofs.Maps.{entry_past}
@@ -72,7 +75,7 @@ module _ {A : Type 0} (plan : Plan) (m : Meaning A) (S : State A) (cpu : ℕ) (c
       let ds : List Deed = start_effect plan S cpu c o.id.0 r in
       let frame : Frame = new_frame plan S c o r in
       let level : ℕ = callback_irql plan c o.id.0 in
-      let es : List Deed = Push_frame cpu (S.number + 1) frame level ∷ take_if_any (S.number + 1) (lock_of_callback plan c o.id.0 (declared_in plan S o.id.0)) in
+      let es : List Deed = PushFrame (cpu_of cpu) (frame_id (S.number + 1)) frame (irql_of level) ∷ take_if_any (S.number + 1) (lock_of_callback plan c o.id.0 (declared_in plan S o.id.0)) in
       let U : State A = do_deeds plan ds S in
       let s : Still S U = deeds_still plan ds S (starts_other r other) (fit_before plan ds es S fit) in
       let hU : StepsIn S.number S.number U = deeds_stay plan ds S S.number S.number S.number (omega arith) (starts_other r other) (fit_before plan ds es S fit) h in
@@ -89,19 +92,19 @@ module _ {A : Type 0} (plan : Plan) (m : Meaning A) (S : State A) (cpu : ℕ) (c
       let d : ℕ = nearest_device S.tree o.id.0 in
       let frame : Frame = new_frame plan S c o None in
       let level : ℕ = callback_irql plan c o.id.0 in
-      let es : List Deed = Push_frame cpu (S.number + 1) frame level ∷ take_if_any (S.number + 1) (lock_of_callback plan c o.id.0 (declared_in plan S o.id.0)) in
-      let e : start_effect plan S cpu c o.id.0 None ≡ Take_step d ∷ [] = ap (λ k. effect plan S k cpu c o.id.0) (sequence_is (row_of c).rank is) in
+      let es : List Deed = PushFrame (cpu_of cpu) (frame_id (S.number + 1)) frame (irql_of level) ∷ take_if_any (S.number + 1) (lock_of_callback plan c o.id.0 (declared_in plan S o.id.0)) in
+      let e : start_effect plan S cpu c o.id.0 None ≡ TakeStep (object_id d) ∷ [] = ap (λ k. effect plan S k cpu c o.id.0) (sequence_is (row_of c).rank is) in
       let now : (same_option same_step (next_step S.pnp d) (Some (step_of plan S c o.id.0)) && not (is_running_step S.pnp d)) ≡ true
       = both_left (same_option same_step (next_step S.pnp d) (Some (step_of plan S c o.id.0)) && not (is_running_step S.pnp d)) _ ready in
       let next : same_option same_step (next_step S.pnp d) (Some (step_of plan S c o.id.0)) ≡ true = both_left _ (not (is_running_step S.pnp d)) now in
       let idle : is_running_step S.pnp d ≡ false = not_true (is_running_step S.pnp d) (both_right (same_option same_step (next_step S.pnp d) (Some (step_of plan S c o.id.0))) (not (is_running_step S.pnp d)) now) in
-      let fit_too : all_fit plan (Take_step d ∷ es) S ≡ true = subst (λ (ds : List Deed). all_fit plan (ds ++ es) S ≡ true) e fit in
+      let fit_too : all_fit plan (TakeStep (object_id d) ∷ es) S ≡ true = subst (λ (ds : List Deed). all_fit plan (ds ++ es) S ≡ true) e fit in
       subst (λ (ds : List Deed). StepsIn S.number (S.number + 1) (do_deeds plan (ds ++ es) S)) (sym e)
       (begun plan S S.number cpu frame level (lock_of_callback plan c o.id.0 (declared_in plan S o.id.0)) h (pnp.taken S.pnp d)
       (step_begins S.cpus cpu (S.number + 1) frame level (fresh S.cpus S.tree S.number (S.number + 1) h.framed (omega arith)) S.pnp (pnp.taken S.pnp d) d h.stepping idle
       (taken_runs S.pnp d c (interrupt_of_step plan S o.id.0) next) (taken_elsewhere S.pnp d) is refl)
       refl within
-      (both_right (fits plan (Take_step d) S) _ fit_too))
+      (both_right (fits plan (TakeStep (object_id d)) S) _ fit_too))
 
   no_step_for : (k : Rank) (r : ℕ) → is_sequence k ≡ true → rank_ready_for plan S k c o.id.0 r ≡ true → ⊥
   no_step_for rank.Sequence r h k = cc
@@ -132,12 +135,12 @@ no_end plan S rank.Sequence c o v h = absurd (let z : ⊥ = cc in z)
 no_end plan S _ c o v h = refl
 
 module _ {A : Type 0} (plan : Plan) (S : State A) (cpu : ℕ) (c : Callback) (o : Handle) (v : Value) (t : IsEnd plan S cpu c o v) (N : ℕ) (h : StepsIn N N S) where
-  ends_by : (b : Bool) → is_sequence (row_of c).rank ≡ b → (U : State A) → Still S U → StepsIn N N U → StepsIn N (N + 1) (do_deeds plan (Pop_frame cpu ∷ end_of_step plan S (row_of c).rank c o.id.0 v) U)
+  ends_by : (b : Bool) → is_sequence (row_of c).rank ≡ b → (U : State A) → Still S U → StepsIn N N U → StepsIn N (N + 1) (do_deeds plan (PopFrame (cpu_of cpu) ∷ end_of_step plan S (row_of c).rank c o.id.0 v) U)
   ends_by false is U s hU =
       let f : ℕ = t.frame in
       let is_top : top U.cpus cpu ≡ Some f = ap (λ ss. first_of_list (entry [] ss cpu)) s.stacks ∙ t.about.top in
       let same : is_sequence (row_of (frame_of U.cpus f).callback).rank ≡ is_sequence (row_of c).rank = ap (λ (a : Frame). is_sequence (row_of a.callback).rank) (s.frames f) ∙ ap (λ b. is_sequence (row_of b).rank) (sym t.callback) in
-      subst (λ ds. StepsIn N (N + 1) (do_deeds plan (Pop_frame cpu ∷ ds) U)) (sym (no_end plan S (row_of c).rank c o.id.0 v is))
+      subst (λ ds. StepsIn N (N + 1) (do_deeds plan (PopFrame (cpu_of cpu) ∷ ds) U)) (sym (no_end plan S (row_of c).rank c o.id.0 v is))
       (ended_in U cpu f N N (N + 1) (omega arith) hU is_top U.pnp (other_ends U.cpus cpu f is_top (hU.framed.once f) U.pnp hU.stepping (same ∙ is)))
   ends_by true is U s hU =
       let f : ℕ = t.frame in
@@ -146,8 +149,8 @@ module _ {A : Type 0} (plan : Plan) (S : State A) (cpu : ℕ) (c : Callback) (o 
       let same : is_sequence (row_of (frame_of U.cpus f).callback).rank ≡ is_sequence (row_of c).rank = ap (λ (a : Frame). is_sequence (row_of a.callback).rank) (s.frames f) ∙ ap (λ b. is_sequence (row_of b).rank) (sym t.callback) in
       let there : 1 ≤ on S.cpus f = let e = pop_on S.cpus cpu f t.about.top f in let yes : flag (f == f) ≡ 1 = ap flag (equal f f refl) in omega arith in
       let at : (frame_of U.cpus f).device.id.0 ≡ d = ap (λ (a : Frame). a.device.id.0) (s.frames f) ∙ h.framed.known f there ∙ ap (λ (x : Handle). nearest_device S.tree x.id.0) (sym t.object) in
-      let e : end_of_step plan S (row_of c).rank c o.id.0 v ≡ End_step d (step_of plan S c o.id.0) v ∷ [] = ap (λ k. end_of_step plan S k c o.id.0 v) (sequence_is (row_of c).rank is) in
-      subst (λ ds. StepsIn N (N + 1) (do_deeds plan (Pop_frame cpu ∷ ds) U)) (sym e)
+      let e : end_of_step plan S (row_of c).rank c o.id.0 v ≡ EndStep (object_id d) (step_of plan S c o.id.0) v ∷ [] = ap (λ k. end_of_step plan S k c o.id.0 v) (sequence_is (row_of c).rank is) in
+      subst (λ ds. StepsIn N (N + 1) (do_deeds plan (PopFrame (cpu_of cpu) ∷ ds) U)) (sym e)
       (ended_in U cpu f N N (N + 1) (omega arith) hU is_top (pnp.ended U.pnp d (step_of plan S c o.id.0) v)
       (step_ends U.cpus cpu f is_top (hU.framed.once f) U.pnp (pnp.ended U.pnp d (step_of plan S c o.id.0) v) d hU.stepping
       (ended_here U.pnp d (step_of plan S c o.id.0) v) (ended_elsewhere U.pnp d (step_of plan S c o.id.0) v) (same ∙ is) at))
@@ -155,7 +158,7 @@ module _ {A : Type 0} (plan : Plan) (S : State A) (cpu : ℕ) (c : Callback) (o 
   pub ends : all_fit plan (end_deeds plan S cpu c o.id.0 v) S ≡ true → StepsIn N (N + 1) (do_deeds plan (end_deeds plan S cpu c o.id.0 v) S)
   ends fit =
       let ds : List Deed = release_if_any (lock_of_callback plan c o.id.0 (declared_in plan S o.id.0)) in
-      let es : List Deed = Pop_frame cpu ∷ end_of_step plan S (row_of c).rank c o.id.0 v in
+      let es : List Deed = PopFrame (cpu_of cpu) ∷ end_of_step plan S (row_of c).rank c o.id.0 v in
       let none : all_still ds ≡ true = releasing_none (lock_of_callback plan c o.id.0 (declared_in plan S o.id.0)) in
       let first : all_fit plan ds S ≡ true = fit_before plan ds es S fit in
       subst (λ (V : State A). StepsIn N (N + 1) V) (sym (in_turn plan ds es S))

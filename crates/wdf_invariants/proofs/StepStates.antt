@@ -9,7 +9,10 @@ use Rattle.wdf_model.specs.parts.Cpus as cpus
 use Rattle.wdf_model.specs.parts.Cpus.{frame_of, top}
 use Rattle.wdf_model.specs.parts.Pnp.{Pnp}
 use Rattle.wdf_model.specs.State.{State}
-use Rattle.wdf_model.specs.rules.Deeds.{Deed, Go_on, Park_frame, Unpark_frame, do_deed, do_deeds}
+use Rattle.wdf_model.specs.Ids.{cpu_of, frame_id}
+use Rattle.wdf_model.specs.declared.deed.Deed.{Deed}
+use Rattle.wdf_model.specs.declared.deed.Deed.TheVariants.{GoOn, ParkFrame, UnparkFrame}
+use Rattle.wdf_model.specs.rules.Deeds.{do_deed, do_deeds}
 use Rattle.wdf_model.specs.rules.Starts.{take_if_any}
 use Rattle.wdf_model.specs.laws.Fits.{all_fit, fits}
 use Rattle.wdf_model.proofs.Tests.{both, both_left, both_right}
@@ -60,7 +63,7 @@ deeds_stay plan ds S N M L more still fit h = steps_still N M L S (do_deeds plan
 
 -- ---- a frame goes on
 
-pub goes : {A : Type 0} (plan : Plan) (S : State A) (f : ℕ) (next : Frame) (N M L : ℕ) → M ≤ L → FrameKept (frame_of S.cpus f) next → StepsIn N M S → StepsIn N L (do_deed plan (Go_on f next) S)
+pub goes : {A : Type 0} (plan : Plan) (S : State A) (f : ℕ) (next : Frame) (N M L : ℕ) → M ≤ L → FrameKept (frame_of S.cpus f) next → StepsIn N M S → StepsIn N L (do_deed plan (GoOn (frame_id f) next) S)
 goes plan S f next N M L more k h = record {
   number = h.number;
   framed = framed_fewer S.cpus (cpus.change S.cpus f next) S.tree M L more (λ x. omega arith) (λ x is. goes_kept S.cpus f next x k (one_or_two x f)) h.framed;
@@ -69,10 +72,10 @@ goes plan S f next N M L more k h = record {
 }
 
 pub goes_after : {A : Type 0} (plan : Plan) (ds : List Deed) (S : State A) (f : ℕ) (next : Frame) (N M L : ℕ) → M ≤ L → all_still ds ≡ true → all_fit plan ds S ≡ true
-    → FrameKept (frame_of S.cpus f) next → StepsIn N M S → StepsIn N L (do_deeds plan (ds ++ Go_on f next ∷ []) S)
+    → FrameKept (frame_of S.cpus f) next → StepsIn N M S → StepsIn N L (do_deeds plan (ds ++ GoOn (frame_id f) next ∷ []) S)
 goes_after {A} plan ds S f next N M L more still fit k h =
     let s : Still S (do_deeds plan ds S) = deeds_still plan ds S still fit in
-    subst (λ (V : State A). StepsIn N L V) (sym (in_turn plan ds (Go_on f next ∷ []) S))
+    subst (λ (V : State A). StepsIn N L V) (sym (in_turn plan ds (GoOn (frame_id f) next ∷ []) S))
     (goes plan (do_deeds plan ds S) f next N M L more (subst (λ a. FrameKept a next) (sym (s.frames f)) k) (deeds_stay plan ds S N M M (omega arith) still fit h))
 
 -- ---- a frame begins
@@ -103,7 +106,7 @@ ended_in U cpu f N M L more h is_top R steps = record {
 
 -- ---- a frame parks, or comes back
 
-pub parked_in : {A : Type 0} (plan : Plan) (S : State A) (cpu f N M L : ℕ) → M ≤ L → top S.cpus cpu ≡ Some f → StepsIn N M S → StepsIn N L (do_deed plan (Park_frame cpu) S)
+pub parked_in : {A : Type 0} (plan : Plan) (S : State A) (cpu f N M L : ℕ) → M ≤ L → top S.cpus cpu ≡ Some f → StepsIn N M S → StepsIn N L (do_deed plan (ParkFrame (cpu_of cpu)) S)
 parked_in plan S cpu f N M L more is_top h = record {
   number = h.number;
   framed = framed_fewer S.cpus (cpus.park S.cpus cpu) S.tree M L more (λ x. let e = parks (λ y. y == x) S.cpus cpu f is_top in omega arith) (λ x is. kept_same (frame_of S.cpus x) (frame_of S.cpus x) refl) h.framed;
@@ -111,7 +114,7 @@ parked_in plan S cpu f N M L more is_top h = record {
   stepping = steps_stay S.cpus (cpus.park S.cpus cpu) S.pnp S.pnp (λ x is. kept_same (frame_of S.cpus x) (frame_of S.cpus x) refl) (λ p. parks p S.cpus cpu f is_top) (λ x. refl) h.stepping;
 }
 
-pub back_in : {A : Type 0} (plan : Plan) (S : State A) (cpu f N M L : ℕ) → M ≤ L → contains f S.cpus.parked ≡ true → StepsIn N M S → StepsIn N L (do_deed plan (Unpark_frame cpu f) S)
+pub back_in : {A : Type 0} (plan : Plan) (S : State A) (cpu f N M L : ℕ) → M ≤ L → contains f S.cpus.parked ≡ true → StepsIn N M S → StepsIn N L (do_deed plan (UnparkFrame (cpu_of cpu) (frame_id f)) S)
 back_in plan S cpu f N M L more waits h =
     let one : count_by (λ y. y == f) S.cpus.parked ≡ 1 = parked_once S.cpus f (h.framed.once f) waits in
     record {

@@ -20,7 +20,10 @@ use Rattle.wdf_model.specs.parts.Cpus.{frame_of, irql, is_empty_cpu, nobody_on, 
 use Rattle.wdf_model.specs.parts.Pnp.{is_running_step, next_step}
 use Rattle.wdf_model.specs.parts.Pnp as pnp
 use Rattle.wdf_model.specs.State.{State, is_proper}
-use Rattle.wdf_model.specs.rules.Deeds.{Advance_power, Deed, End_life, Go_on, Take_step, do_deed, do_deeds}
+use Rattle.wdf_model.specs.Ids.{frame_id, object_id}
+use Rattle.wdf_model.specs.declared.deed.Deed.{Deed}
+use Rattle.wdf_model.specs.declared.deed.Deed.TheVariants.{AdvancePower, EndLife, GoOn, TakeStep}
+use Rattle.wdf_model.specs.rules.Deeds.{do_deed, do_deeds}
 use Rattle.wdf_model.specs.rules.Script.{intent_of}
 use Rattle.wdf_model.specs.rules.Calls.{outcome, second_deeds}
 use Rattle.wdf_model.specs.rules.Starts.{callback_over, destroy_ready, may_pass, may_start, stage_deeds, stage_effect, stage_ready, step_ready}
@@ -43,13 +46,13 @@ Keeps plan S ds = all_fit plan ds S ≡ true → StepsIn S.number S.number S →
 
 -- ---- a frame that is answered, or waits
 
-on_top : {A : Type 0} (plan : Plan) (S : State A) (cpu f : ℕ) (what : ℕ → Frame → List Deed) (ds : List Deed) (next : Frame) → top S.cpus cpu ≡ Some f → what f (frame_of S.cpus f) ≡ ds ++ Go_on f next ∷ []
+on_top : {A : Type 0} (plan : Plan) (S : State A) (cpu f : ℕ) (what : ℕ → Frame → List Deed) (ds : List Deed) (next : Frame) → top S.cpus cpu ≡ Some f → what f (frame_of S.cpus f) ≡ ds ++ GoOn (frame_id f) next ∷ []
     → all_still ds ≡ true → FrameKept (frame_of S.cpus f) next → Keeps plan S (by_top S cpu what)
 on_top plan S cpu f what ds next t same still k fit h =
-    let e : by_top S cpu what ≡ ds ++ Go_on f next ∷ [] = by_its_top S cpu f what t ∙ same in
+    let e : by_top S cpu what ≡ ds ++ GoOn (frame_id f) next ∷ [] = by_its_top S cpu f what t ∙ same in
     subst (λ es. StepsIn S.number (S.number + 1) (do_deeds plan es S)) (sym e)
     (goes_after plan ds S f next S.number S.number (S.number + 1) (omega arith) still
-    (fit_before plan ds (Go_on f next ∷ []) S (subst (λ es. all_fit plan es S ≡ true) e fit)) k h)
+    (fit_before plan ds (GoOn (frame_id f) next ∷ []) S (subst (λ es. all_fit plan es S ≡ true) e fit)) k h)
 
 did_keeps : {A : Type 0} (plan : Plan) (S : State A) (cpu : ℕ) (c : Call) (v : Value) → IsDid plan S cpu c v → Keeps plan S (by_top S cpu (did_deeds plan S cpu c v))
 did_keeps plan S cpu c v d =
@@ -91,8 +94,8 @@ stage_keeps plan S d s i may_come fit h =
     let next : same_option same_step (next_step S.pnp d) (Some (step.Pass s i)) ≡ true
     = both_left (same_option same_step (next_step S.pnp d) (Some (step.Pass s i))) (not (is_running_step S.pnp d))
     (both_left (same_option same_step (next_step S.pnp d) (Some (step.Pass s i)) && not (is_running_step S.pnp d)) _ ready) in
-    deeds_stay plan (Advance_power d (step.Pass s i) ∷ stage_effect plan d s i) (do_deed plan (Take_step d) S) S.number S.number (S.number + 1) (omega arith) (stage_none plan d s i)
-    (both_right (fits plan (Take_step d) S) _ fit)
+    deeds_stay plan (AdvancePower (object_id d) (step.Pass s i) ∷ stage_effect plan d s i) (do_deed plan (TakeStep (object_id d)) S) S.number S.number (S.number + 1) (omega arith) (stage_none plan d s i)
+    (both_right (fits plan (TakeStep (object_id d)) S) _ fit)
     (record {
       number = refl;
       framed = h.framed;
@@ -100,7 +103,7 @@ stage_keeps plan S d s i may_come fit h =
       stepping = steps_stay S.cpus S.cpus S.pnp (pnp.taken S.pnp d) (λ x is. kept_same (frame_of S.cpus x) (frame_of S.cpus x) refl) (λ p. refl) (λ x. taken_passes S.pnp d s i x next) h.stepping;
     })
 
-life_keeps : {A : Type 0} (plan : Plan) (S : State A) (o : ℕ) → destroy_ready S o ≡ true → Keeps plan S (End_life o ∷ [])
+life_keeps : {A : Type 0} (plan : Plan) (S : State A) (o : ℕ) → destroy_ready S o ≡ true → Keeps plan S (EndLife (object_id o) ∷ [])
 life_keeps plan S o ready fit h =
     let k = framed_destroyed S.cpus S.tree S.number o h.rooted (both_left (may_destroy S.tree o) (nobody_on S.cpus o) ready) (both_right (may_destroy S.tree o) (nobody_on S.cpus o) ready) h.framed in
     record {

@@ -34,7 +34,9 @@ use Rattle.wdf_model.specs.Plans.{declares, is_manual_queue, is_parallel_queue, 
 use Rattle.wdf_model.specs.parts.Queues.{front}
 use Rattle.wdf_model.specs.parts.Requests.{arrival_of, is_cancelled, mark_answer, place_of}
 use Rattle.wdf_model.specs.State.{State, object_in, queue_delivers}
-use Rattle.wdf_model.specs.rules.Deeds.{Acknowledge, Arrive, Count_arrival, End_life, End_step, Park_frame, Take_step, Unpark_frame, Deed, Enqueue_dpc, Enqueue_work, Forward, Give_back, Go_on, Mark_request, Pop_frame, Push_frame, Register_queue, Requeue, Send_request, Start_timer}
+use Rattle.wdf_model.specs.Ids.{cpu_of, object_id}
+use Rattle.wdf_model.specs.declared.deed.Deed.{Deed}
+use Rattle.wdf_model.specs.declared.deed.Deed.TheVariants.{Acknowledge, Arrive, CountArrival, EndLife, EndStep, ParkFrame, TakeStep, UnparkFrame, EnqueueDpc, EnqueueWork, Forward, GiveBack, GoOn, MarkRequest, PopFrame, PushFrame, RegisterQueue, Requeue, SendRequest, StartTimer}
 use Rattle.wdf_model.specs.rules.Faults.{arg_is}
 use Rattle.wdf_model.specs.rules.Calls.{Outcome, acknowledge_outcome, class_in, create_outcome, creation, forward_outcome, forwards_nowhere, mark_outcome, may_send, new_handle, number, number_in, origin_or_none, outcome, requeue_outcome, retrieve_front, retrieve_outcome, refused, second_deeds, send_outcome, success}
 use Rattle.wdf_model.specs.rules.Starts.{effect, effect_for, release_if_any, stage_effect, take_if_any}
@@ -43,14 +45,14 @@ use Rattle.wdf_model.proofs.Tests.{both, both_left, both_right}
 
 -- a deed that leaves the processors' lists, the frames but for their levels, and the steps alone, and ends no object
 abbrev pub is_still_deed : Deed → Bool
-is_still_deed (Push_frame cpu f frame level) = false
-is_still_deed (Go_on f frame) = false
-is_still_deed (Pop_frame cpu) = false
-is_still_deed (Park_frame cpu) = false
-is_still_deed (Unpark_frame cpu f) = false
-is_still_deed (Take_step d) = false
-is_still_deed (End_step d s result) = false
-is_still_deed (End_life o) = false
+is_still_deed (PushFrame cpu f frame level) = false
+is_still_deed (GoOn f frame) = false
+is_still_deed (PopFrame cpu) = false
+is_still_deed (ParkFrame cpu) = false
+is_still_deed (UnparkFrame cpu f) = false
+is_still_deed (TakeStep d) = false
+is_still_deed (EndStep d s result) = false
+is_still_deed (EndLife o) = false
 is_still_deed _ = true
 
 abbrev pub all_still : List Deed → Bool
@@ -76,24 +78,24 @@ create_none plan S class parent =
     (creation_none (kind_of_class plan class) class parent))
 
 requeue_none : {A : Type 0} (S : State A) (r q : ℕ) → all_still (requeue_outcome S r q).deeds ≡ true
-requeue_none S r q = either_none (is_cancelled S.requests r || is_purged (mode_of S.control q)) (success (Give_back r q ∷ [])) (success (Requeue r q ∷ [])) refl refl
+requeue_none S r q = either_none (is_cancelled S.requests r || is_purged (mode_of S.control q)) (success (GiveBack (object_id r) (object_id q) ∷ [])) (success (Requeue (object_id r) (object_id q) ∷ [])) refl refl
 
 mark_none : {A : Type 0} (plan : Plan) (S : State A) (r : ℕ) → all_still (mark_outcome plan S r).deeds ≡ true
 mark_none plan S r =
-    either_none (declares plan callback.EvtRequestCancel (origin_or_none S r)) (record { answer = Stat (mark_answer S.requests r); deeds = Mark_request r ∷ [] }) (refused status.InvalidDeviceRequest) refl refl
+    either_none (declares plan callback.EvtRequestCancel (origin_or_none S r)) (record { answer = Stat (mark_answer S.requests r); deeds = MarkRequest (object_id r) ∷ [] }) (refused status.InvalidDeviceRequest) refl refl
 
 forward_none : {A : Type 0} (plan : Plan) (S : State A) (r q : ℕ) → all_still (forward_outcome plan S r q).deeds ≡ true
 forward_none plan S r q =
     either_none (forwards_nowhere plan S r q) (refused status.InvalidDeviceRequest)
-    (if not (accepts S.control q) then refused status.WdfBusy else if is_cancelled S.requests r then success (Give_back r q ∷ []) else success (Forward r q ∷ [])) refl
-    (either_none (not (accepts S.control q)) (refused status.WdfBusy) (if is_cancelled S.requests r then success (Give_back r q ∷ []) else success (Forward r q ∷ [])) refl
-    (either_none (is_cancelled S.requests r) (success (Give_back r q ∷ [])) (success (Forward r q ∷ [])) refl refl))
+    (if not (accepts S.control q) then refused status.WdfBusy else if is_cancelled S.requests r then success (GiveBack (object_id r) (object_id q) ∷ []) else success (Forward (object_id r) (object_id q) ∷ [])) refl
+    (either_none (not (accepts S.control q)) (refused status.WdfBusy) (if is_cancelled S.requests r then success (GiveBack (object_id r) (object_id q) ∷ []) else success (Forward (object_id r) (object_id q) ∷ [])) refl
+    (either_none (is_cancelled S.requests r) (success (GiveBack (object_id r) (object_id q) ∷ [])) (success (Forward (object_id r) (object_id q) ∷ [])) refl refl))
 
 acknowledge_none : {A : Type 0} (S : State A) (r : ℕ) (b : Arg) → all_still (acknowledge_outcome S r b).deeds ≡ true
-acknowledge_none S r b = either_none (arg_is b 0) (success (Acknowledge r ∷ [])) (requeue_outcome S r (origin_or_none S r)) refl (requeue_none S r (origin_or_none S r))
+acknowledge_none S r b = either_none (arg_is b 0) (success (Acknowledge (object_id r) ∷ [])) (requeue_outcome S r (origin_or_none S r)) refl (requeue_none S r (origin_or_none S r))
 
 send_none : {A : Type 0} (S : State A) (r t : ℕ) (forget : Bool) → all_still (send_outcome S r t forget).deeds ≡ true
-send_none S r t forget = either_none (may_send S r t) (number 1 (Send_request r t forget ∷ [])) (number 0 []) refl refl
+send_none S r t forget = either_none (may_send S r t) (number 1 (SendRequest (object_id r) (object_id t) forget ∷ [])) (number 0 []) refl refl
 
 front_none : {A : Type 0} (plan : Plan) (S : State A) (q : ℕ) (there : Option ℕ) → all_still (retrieve_front plan S q there).deeds ≡ true
 front_none plan S q None = refl
@@ -119,14 +121,14 @@ outcome_none plan S cpu f call.WdfRequestStopAcknowledge n a b x = acknowledge_n
 outcome_none plan S cpu f call.WdfRequestSend n a b x = send_none S (object_in a) (object_in b) (arg_is x 1)
 outcome_none plan S cpu f call.WdfIoQueueRetrieveNextRequest n a b x = retrieve_none plan S (object_in a)
 outcome_none plan S cpu f call.WdfIoQueueReadyNotify n a b x =
-    either_none (is_manual_queue plan (object_in a) && declares plan callback.EvtIoQueueState (object_in a)) (success (Register_queue (object_in a) (not (arg_is b 0)) ∷ [])) (refused status.InvalidDeviceRequest) refl refl
+    either_none (is_manual_queue plan (object_in a) && declares plan callback.EvtIoQueueState (object_in a)) (success (RegisterQueue (object_id (object_in a)) (not (arg_is b 0)) ∷ [])) (refused status.InvalidDeviceRequest) refl refl
 outcome_none plan S cpu f call.WdfInterruptQueueDpcForIsr n a b x =
-    either_none (is_enabled S.interrupts (object_in a) && declares plan callback.EvtInterruptDpc (object_in a) && not (is_dpc_queued S.dpcs (object_in a))) (number 1 (Enqueue_dpc cpu (object_in a) ∷ [])) (number 0 []) refl refl
+    either_none (is_enabled S.interrupts (object_in a) && declares plan callback.EvtInterruptDpc (object_in a) && not (is_dpc_queued S.dpcs (object_in a))) (number 1 (EnqueueDpc (cpu_of cpu) (object_id (object_in a)) ∷ [])) (number 0 []) refl refl
 outcome_none plan S cpu f call.WdfDpcEnqueue n a b x =
-    either_none (is_live (life_of S.tree (object_in a)) && not (is_dpc_queued S.dpcs (object_in a))) (number 1 (Enqueue_dpc cpu (object_in a) ∷ [])) (number 0 []) refl refl
+    either_none (is_live (life_of S.tree (object_in a)) && not (is_dpc_queued S.dpcs (object_in a))) (number 1 (EnqueueDpc (cpu_of cpu) (object_id (object_in a)) ∷ [])) (number 0 []) refl refl
 outcome_none plan S cpu f call.WdfTimerStart n a b x =
-    either_none (is_live (life_of S.tree (object_in a))) (number (flag (is_timer_queued S.timers (object_in a))) (Start_timer (object_in a) (number_in b) ∷ [])) (number 0 []) refl refl
-outcome_none plan S cpu f call.WdfWorkItemEnqueue n a b x = either_none (is_live (life_of S.tree (object_in a))) (success (Enqueue_work (object_in a) ∷ [])) (success []) refl refl
+    either_none (is_live (life_of S.tree (object_in a))) (number (flag (is_timer_queued S.timers (object_in a))) (StartTimer (object_id (object_in a)) (number_in b) ∷ [])) (number 0 []) refl refl
+outcome_none plan S cpu f call.WdfWorkItemEnqueue n a b x = either_none (is_live (life_of S.tree (object_in a))) (success (EnqueueWork (object_id (object_in a)) ∷ [])) (success []) refl refl
 outcome_none plan S cpu f _ n a b x = refl
 
 pub second_none : (f : ℕ) (k : CallKind) (n : ℕ) (a b x : Arg) → all_still (second_deeds f (record { kind = k; count = n; a = a; b = b; c = x })) ≡ true
@@ -179,7 +181,7 @@ cancel_of_none S None = refl
 cancel_of_none S (Some r) = cancel_none (place_of S.requests r) r
 
 arrival_none : {A : Type 0} (plan : Plan) (S : State A) (agent : ℕ) (f : RequestForm) (length code device : ℕ) (b : Bool)
-    → all_still (Count_arrival agent ∷ (if b then Arrive device (arrival_info S agent f length code device) (arrival_place plan S f length device) ∷ [] else [])) ≡ true
+    → all_still (CountArrival agent ∷ (if b then Arrive (object_id device) (arrival_info S agent f length code device) (arrival_place plan S f length device) ∷ [] else [])) ≡ true
 arrival_none plan S agent f length code device true = refl
 arrival_none plan S agent f length code device false = refl
 

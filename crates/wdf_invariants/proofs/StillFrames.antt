@@ -29,7 +29,9 @@ use Rattle.wdf_model.specs.parts.Pnp as pnp
 use Rattle.std.specs.List.{list_all}
 use Rattle.wdf_model.specs.State.{State, is_with_driver, nothing_at}
 use Rattle.wdf_model.specs.rules.Starts.{clean_ready, is_finished, is_unused}
-use Rattle.wdf_model.specs.rules.Deeds.{Deed, Create, Make_request, Arrive, Ask_deletion, Refer, Unrefer, Write_cell, Note, Clean_up, Raise, Lower, Requeue, Forward, Give_back, Send_request, Complete_request, Purge_queue, Close_device, Close_returning, Ask_device, Push_frame, Go_on, Pop_frame, Park_frame, Unpark_frame, Take_step, End_step, End_life, arrive_at, ask_object, close_queue, close_returning, do_deed, do_deeds, give_up, give_up_if, withdraw}
+use Rattle.wdf_model.specs.declared.deed.Deed.{Deed}
+use Rattle.wdf_model.specs.declared.deed.Deed.TheVariants.{Create, MakeRequest, Arrive, AskDeletion, Refer, Unrefer, WriteCell, Note, CleanUp, Raise, Lower, Requeue, Forward, GiveBack, SendRequest, CompleteRequest, PurgeQueue, CloseDevice, CloseReturning, AskDevice, PushFrame, GoOn, PopFrame, ParkFrame, UnparkFrame, TakeStep, EndStep, EndLife}
+use Rattle.wdf_model.specs.rules.Deeds.{arrive_at, ask_object, close_queue, close_returning, do_deed, do_deeds, give_up, give_up_if, withdraw}
 use Rattle.wdf_model.specs.laws.Fits.{all_fit, fits}
 use Rattle.wdf_model.proofs.Maps.{entry_put_other, entry_put_same}
 use Rattle.wdf_model.proofs.Tests.{both_left, both_right}
@@ -130,38 +132,38 @@ noted_kept callback.EvtDestroyCallback n = (refl, refl, refl)
 noted_kept _ n = (refl, refl, refl)
 
 deed_still : {A : Type 0} (plan : Plan) (d : Deed) (S : State A) → is_still_deed d ≡ true → fits plan d S ≡ true → Still S (do_deed plan d S)
-deed_still plan (Create k class parent) S h f = by_tree S _ (tree_grows S.tree k class parent)
-deed_still plan (Make_request class parent) S h f = record { number = refl; stacks = refl; parked = refl; frames = λ x. refl; running = λ d. refl; tree = tree_grows S.tree kind.Made class parent }
-deed_still plan (Arrive device info p) S h f = arrives_there S device info p
-deed_still plan (Ask_deletion o) S h f = all_asked (subtree S.tree o) S
-deed_still plan (Refer o) S h f = by_tree S _ (tree_changes S.tree o (λ n. record n { references = n.references + 1 }) (λ n. refl) (λ n. refl) refl)
-deed_still plan (Unrefer o) S h f = by_tree S _ (tree_changes S.tree o (λ n. record n { references = n.references - 1 }) (λ n. refl) (λ n. refl) refl)
-deed_still plan (Write_cell o c v) S h f = by_tree S _ (tree_changes S.tree o (λ n. record n { cells = slice_set n.cells c v }) (λ n. refl) (λ n. refl) refl)
-deed_still plan (Note o c) S h f = by_tree S _ (tree_changes S.tree o (noted c) (λ n. (noted_kept c n).0) (λ n. ap (λ (p : ObjectId). p.0) (noted_kept c n).1) (noted_kept c (node_of S.tree o)).2)
-deed_still plan (Clean_up o) S h f = by_tree S _ (tree_changes S.tree o (with_life life.Cleaned) (λ n. refl) (λ n. refl)
-    (sym (asked_there (life_of S.tree o) (asked_at S o f))))
+deed_still plan (Create k class parent) S h f = by_tree S _ (tree_grows S.tree k class parent.0)
+deed_still plan (MakeRequest class parent) S h f = record { number = refl; stacks = refl; parked = refl; frames = λ x. refl; running = λ d. refl; tree = tree_grows S.tree kind.Made class parent.0 }
+deed_still plan (Arrive device info p) S h f = arrives_there S device.0 info p
+deed_still plan (AskDeletion o) S h f = all_asked (subtree S.tree o.0) S
+deed_still plan (Refer o) S h f = by_tree S _ (tree_changes S.tree o.0 (λ n. record n { references = n.references + 1 }) (λ n. refl) (λ n. refl) refl)
+deed_still plan (Unrefer o) S h f = by_tree S _ (tree_changes S.tree o.0 (λ n. record n { references = n.references - 1 }) (λ n. refl) (λ n. refl) refl)
+deed_still plan (WriteCell o c v) S h f = by_tree S _ (tree_changes S.tree o.0 (λ n. record n { cells = slice_set n.cells c v }) (λ n. refl) (λ n. refl) refl)
+deed_still plan (Note o c) S h f = by_tree S _ (tree_changes S.tree o.0 (noted c) (λ n. (noted_kept c n).0) (λ n. ap (λ (p : ObjectId). p.0) (noted_kept c n).1) (noted_kept c (node_of S.tree o.0)).2)
+deed_still plan (CleanUp o) S h f = by_tree S _ (tree_changes S.tree o.0 (with_life life.Cleaned) (λ n. refl) (λ n. refl)
+    (sym (asked_there (life_of S.tree o.0) (asked_at S o.0 f))))
 deed_still plan (Raise g level) S h f = record { number = refl; stacks = refl; parked = refl; frames = λ x. refl; running = λ d. refl; tree = tree_same S.tree }
 deed_still plan (Lower g level) S h f = record { number = refl; stacks = refl; parked = refl; frames = λ x. refl; running = λ d. refl; tree = tree_same S.tree }
-deed_still plan (Requeue r q) S h f = let k = gives_up S r in record { number = k.number; stacks = k.stacks; parked = k.parked; frames = k.frames; running = k.running; tree = k.tree }
-deed_still plan (Forward r q) S h f = let k = gives_up S r in record { number = k.number; stacks = k.stacks; parked = k.parked; frames = k.frames; running = k.running; tree = k.tree }
-deed_still plan (Give_back r q) S h f = let k = gives_up S r in record { number = k.number; stacks = k.stacks; parked = k.parked; frames = k.frames; running = k.running; tree = k.tree }
-deed_still plan (Send_request r t forget) S h f = let k = sends S r forget in record { number = k.number; stacks = k.stacks; parked = k.parked; frames = k.frames; running = k.running; tree = k.tree }
-deed_still plan (Complete_request r) S h f =
-    let k = gives_up S r in
-    still_then S (record (give_up S r) { requests = requests.complete S.requests r }) _ (record { number = k.number; stacks = k.stacks; parked = k.parked; frames = k.frames; running = k.running; tree = k.tree })
-    (all_asked (subtree (give_up S r).tree r) (record (give_up S r) { requests = requests.complete S.requests r }))
-deed_still plan (Purge_queue q) S h f = let k = all_withdrawn plan q (waiting_in S.queues q) (record S { control = control.set_mode S.control q mode.Purged }) in record { number = k.number; stacks = k.stacks; parked = k.parked; frames = k.frames; running = k.running; tree = k.tree }
-deed_still plan (Close_returning d) S h f = all_returning_closed (managed_queues plan d) S
-deed_still plan (Close_device d) S h f = let k = all_queues_closed (queues_of plan d) (record S { control = control.shut S.control d }) in record { number = k.number; stacks = k.stacks; parked = k.parked; frames = k.frames; running = k.running; tree = k.tree }
-deed_still plan (Ask_device d a) S h f = record { number = refl; stacks = refl; parked = refl; frames = λ x. refl; running = λ x. asked_running S.pnp d x a (one_or_two x d); tree = tree_same S.tree }
-deed_still plan (Push_frame cpu f frame level) S h k = absurd (let z : ⊥ = cc in z)
-deed_still plan (Go_on f frame) S h k = absurd (let z : ⊥ = cc in z)
-deed_still plan (Pop_frame cpu) S h k = absurd (let z : ⊥ = cc in z)
-deed_still plan (Park_frame cpu) S h k = absurd (let z : ⊥ = cc in z)
-deed_still plan (Unpark_frame cpu f) S h k = absurd (let z : ⊥ = cc in z)
-deed_still plan (Take_step d) S h k = absurd (let z : ⊥ = cc in z)
-deed_still plan (End_step d s result) S h k = absurd (let z : ⊥ = cc in z)
-deed_still plan (End_life o) S h k = absurd (let z : ⊥ = cc in z)
+deed_still plan (Requeue r q) S h f = let k = gives_up S r.0 in record { number = k.number; stacks = k.stacks; parked = k.parked; frames = k.frames; running = k.running; tree = k.tree }
+deed_still plan (Forward r q) S h f = let k = gives_up S r.0 in record { number = k.number; stacks = k.stacks; parked = k.parked; frames = k.frames; running = k.running; tree = k.tree }
+deed_still plan (GiveBack r q) S h f = let k = gives_up S r.0 in record { number = k.number; stacks = k.stacks; parked = k.parked; frames = k.frames; running = k.running; tree = k.tree }
+deed_still plan (SendRequest r t forget) S h f = let k = sends S r.0 forget in record { number = k.number; stacks = k.stacks; parked = k.parked; frames = k.frames; running = k.running; tree = k.tree }
+deed_still plan (CompleteRequest r) S h f =
+    let k = gives_up S r.0 in
+    still_then S (record (give_up S r.0) { requests = requests.complete S.requests r.0 }) _ (record { number = k.number; stacks = k.stacks; parked = k.parked; frames = k.frames; running = k.running; tree = k.tree })
+    (all_asked (subtree (give_up S r.0).tree r.0) (record (give_up S r.0) { requests = requests.complete S.requests r.0 }))
+deed_still plan (PurgeQueue q) S h f = let k = all_withdrawn plan q.0 (waiting_in S.queues q.0) (record S { control = control.set_mode S.control q.0 mode.Purged }) in record { number = k.number; stacks = k.stacks; parked = k.parked; frames = k.frames; running = k.running; tree = k.tree }
+deed_still plan (CloseReturning d) S h f = all_returning_closed (managed_queues plan d.0) S
+deed_still plan (CloseDevice d) S h f = let k = all_queues_closed (queues_of plan d.0) (record S { control = control.shut S.control d.0 }) in record { number = k.number; stacks = k.stacks; parked = k.parked; frames = k.frames; running = k.running; tree = k.tree }
+deed_still plan (AskDevice d a) S h f = record { number = refl; stacks = refl; parked = refl; frames = λ x. refl; running = λ x. asked_running S.pnp d.0 x a (one_or_two x d.0); tree = tree_same S.tree }
+deed_still plan (PushFrame cpu f frame level) S h k = absurd (let z : ⊥ = cc in z)
+deed_still plan (GoOn f frame) S h k = absurd (let z : ⊥ = cc in z)
+deed_still plan (PopFrame cpu) S h k = absurd (let z : ⊥ = cc in z)
+deed_still plan (ParkFrame cpu) S h k = absurd (let z : ⊥ = cc in z)
+deed_still plan (UnparkFrame cpu f) S h k = absurd (let z : ⊥ = cc in z)
+deed_still plan (TakeStep d) S h k = absurd (let z : ⊥ = cc in z)
+deed_still plan (EndStep d s result) S h k = absurd (let z : ⊥ = cc in z)
+deed_still plan (EndLife o) S h k = absurd (let z : ⊥ = cc in z)
 deed_still plan _ S h f = record { number = refl; stacks = refl; parked = refl; frames = λ x. refl; running = λ d. refl; tree = tree_same S.tree }
 
 pub deeds_still : {A : Type 0} (plan : Plan) (ds : List Deed) (S : State A) → all_still ds ≡ true → all_fit plan ds S ≡ true → Still S (do_deeds plan ds S)

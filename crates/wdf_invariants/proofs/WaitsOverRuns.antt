@@ -23,7 +23,9 @@ use Rattle.wdf_model.specs.parts.Control.{Control, control_of, is_closed}
 use Rattle.wdf_model.specs.parts.Control as control
 use Rattle.wdf_model.specs.State.{State, is_powered, object_in, returns_to, withdrawn_place}
 use Rattle.wdf_model.specs.Plans.{declares, device_of_queue}
-use Rattle.wdf_model.specs.rules.Deeds.{Purge_queue, do_deed, do_deeds, withdraw}
+use Rattle.wdf_model.specs.Ids.{object_id}
+use Rattle.wdf_model.specs.declared.deed.Deed.TheVariants.{PurgeQueue}
+use Rattle.wdf_model.specs.rules.Deeds.{do_deed, do_deeds, withdraw}
 use Rattle.wdf_model.specs.rules.Calls.{is_met, is_met_then, nothing_held, nothing_returns, outcome, purge_returns}
 use Rattle.wdf_model.specs.rules.Ready.{IsRunOf, state_after}
 use Rattle.wdf_model.proofs.Maps.{entry_put_other, entry_put_same}
@@ -156,7 +158,7 @@ apart true false p = refl
 apart false a p = refl
 
 purge_told : {A : Type 0} {F B : ℕ → Bool} (plan : Plan) (S : State A) (q : ℕ) → KeptIn F B S
-    → (nothing_held (do_deed plan (Purge_queue q) S) q && nothing_returns (do_deed plan (Purge_queue q) S) q) ≡ ((nothing_held S q && nothing_returns S q) && not (purge_returns plan S q))
+    → (nothing_held (do_deed plan (PurgeQueue (object_id q)) S) q && nothing_returns (do_deed plan (PurgeQueue (object_id q)) S) q) ≡ ((nothing_held S q && nothing_returns S q) && not (purge_returns plan S q))
 purge_told {A} plan S q k =
     let T : State A = record S { control = control.set_mode S.control q mode.Purged } in
     let rs : List ℕ = waiting_in S.queues q in

@@ -27,6 +27,7 @@ use Rattle.wdf_base.specs.declared.frame.Frame.{Frame}
 use Rattle.wdf_base.specs.Callbacks.{row_of}
 use Rattle.wdf_base.specs.declared.call.Callback.TheVariants as callback
 use Rattle.wdf_model.specs.Tables.{flag}
+use Rattle.wdf_model.specs.Ids.{cpu_of, frame_id, irql_of, object_id}
 use Rattle.wdf_model.specs.rules.Script.{intent_of}
 use Rattle.wdf_model.specs.parts.Tree.{is_full, is_live, life_of}
 use Rattle.wdf_model.specs.parts.Control.{accepts, is_purged, mode_of}
@@ -39,7 +40,8 @@ use Rattle.wdf_model.specs.parts.Locks.{lock_of_callback}
 use Rattle.wdf_model.specs.parts.Queues.{front}
 use Rattle.wdf_model.specs.parts.Requests.{arrival_of, is_cancelled, mark_answer, place_of}
 use Rattle.wdf_model.specs.State.{State, declared_in, object_in, queue_delivers}
-use Rattle.wdf_model.specs.rules.Deeds.{Acknowledge, Deed, Enqueue_dpc, Enqueue_work, Forward, Give_back, Go_on, Mark_request, Pop_frame, Push_frame, Register_queue, Requeue, Send_request, Start_timer}
+use Rattle.wdf_model.specs.declared.deed.Deed.{Deed}
+use Rattle.wdf_model.specs.declared.deed.Deed.TheVariants.{Acknowledge, EnqueueDpc, EnqueueWork, Forward, GiveBack, GoOn, MarkRequest, PopFrame, PushFrame, RegisterQueue, Requeue, SendRequest, StartTimer}
 use Rattle.wdf_model.specs.rules.Faults.{arg_is}
 use Rattle.wdf_model.specs.rules.Calls.{Outcome, acknowledge_outcome, class_in, create_outcome, creation, forward_outcome, forwards_nowhere, mark_outcome, may_send, new_handle, number, number_in, origin_or_none, outcome, requeue_outcome, retrieve_front, retrieve_outcome, refused, second_deeds, send_outcome, success}
 use Rattle.wdf_model.specs.rules.Starts.{effect, effect_for, end_of_step, new_frame, next_number, release_if_any, stage_effect, start_effect, take_if_any}
@@ -69,24 +71,24 @@ create_none plan S class parent =
     (creation_none (kind_of_class plan class) class parent))
 
 requeue_none : {A : Type 0} (S : State A) (r q : ℕ) → none_arrives (requeue_outcome S r q).deeds ≡ true
-requeue_none S r q = either_none (is_cancelled S.requests r || is_purged (mode_of S.control q)) (success (Give_back r q ∷ [])) (success (Requeue r q ∷ [])) refl refl
+requeue_none S r q = either_none (is_cancelled S.requests r || is_purged (mode_of S.control q)) (success (GiveBack (object_id r) (object_id q) ∷ [])) (success (Requeue (object_id r) (object_id q) ∷ [])) refl refl
 
 mark_none : {A : Type 0} (plan : Plan) (S : State A) (r : ℕ) → none_arrives (mark_outcome plan S r).deeds ≡ true
 mark_none plan S r =
-    either_none (declares plan callback.EvtRequestCancel (origin_or_none S r)) (record { answer = Stat (mark_answer S.requests r); deeds = Mark_request r ∷ [] }) (refused status.InvalidDeviceRequest) refl refl
+    either_none (declares plan callback.EvtRequestCancel (origin_or_none S r)) (record { answer = Stat (mark_answer S.requests r); deeds = MarkRequest (object_id r) ∷ [] }) (refused status.InvalidDeviceRequest) refl refl
 
 forward_none : {A : Type 0} (plan : Plan) (S : State A) (r q : ℕ) → none_arrives (forward_outcome plan S r q).deeds ≡ true
 forward_none plan S r q =
     either_none (forwards_nowhere plan S r q) (refused status.InvalidDeviceRequest)
-    (if not (accepts S.control q) then refused status.WdfBusy else if is_cancelled S.requests r then success (Give_back r q ∷ []) else success (Forward r q ∷ [])) refl
-    (either_none (not (accepts S.control q)) (refused status.WdfBusy) (if is_cancelled S.requests r then success (Give_back r q ∷ []) else success (Forward r q ∷ [])) refl
-    (either_none (is_cancelled S.requests r) (success (Give_back r q ∷ [])) (success (Forward r q ∷ [])) refl refl))
+    (if not (accepts S.control q) then refused status.WdfBusy else if is_cancelled S.requests r then success (GiveBack (object_id r) (object_id q) ∷ []) else success (Forward (object_id r) (object_id q) ∷ [])) refl
+    (either_none (not (accepts S.control q)) (refused status.WdfBusy) (if is_cancelled S.requests r then success (GiveBack (object_id r) (object_id q) ∷ []) else success (Forward (object_id r) (object_id q) ∷ [])) refl
+    (either_none (is_cancelled S.requests r) (success (GiveBack (object_id r) (object_id q) ∷ [])) (success (Forward (object_id r) (object_id q) ∷ [])) refl refl))
 
 acknowledge_none : {A : Type 0} (S : State A) (r : ℕ) (b : Arg) → none_arrives (acknowledge_outcome S r b).deeds ≡ true
-acknowledge_none S r b = either_none (arg_is b 0) (success (Acknowledge r ∷ [])) (requeue_outcome S r (origin_or_none S r)) refl (requeue_none S r (origin_or_none S r))
+acknowledge_none S r b = either_none (arg_is b 0) (success (Acknowledge (object_id r) ∷ [])) (requeue_outcome S r (origin_or_none S r)) refl (requeue_none S r (origin_or_none S r))
 
 send_none : {A : Type 0} (S : State A) (r t : ℕ) (forget : Bool) → none_arrives (send_outcome S r t forget).deeds ≡ true
-send_none S r t forget = either_none (may_send S r t) (number 1 (Send_request r t forget ∷ [])) (number 0 []) refl refl
+send_none S r t forget = either_none (may_send S r t) (number 1 (SendRequest (object_id r) (object_id t) forget ∷ [])) (number 0 []) refl refl
 
 front_none : {A : Type 0} (plan : Plan) (S : State A) (q : ℕ) (there : Option ℕ) → none_arrives (retrieve_front plan S q there).deeds ≡ true
 front_none plan S q None = refl
@@ -112,14 +114,14 @@ outcome_none plan S cpu f call.WdfRequestStopAcknowledge n a b x = acknowledge_n
 outcome_none plan S cpu f call.WdfRequestSend n a b x = send_none S (object_in a) (object_in b) (arg_is x 1)
 outcome_none plan S cpu f call.WdfIoQueueRetrieveNextRequest n a b x = retrieve_none plan S (object_in a)
 outcome_none plan S cpu f call.WdfIoQueueReadyNotify n a b x =
-    either_none (is_manual_queue plan (object_in a) && declares plan callback.EvtIoQueueState (object_in a)) (success (Register_queue (object_in a) (not (arg_is b 0)) ∷ [])) (refused status.InvalidDeviceRequest) refl refl
+    either_none (is_manual_queue plan (object_in a) && declares plan callback.EvtIoQueueState (object_in a)) (success (RegisterQueue (object_id (object_in a)) (not (arg_is b 0)) ∷ [])) (refused status.InvalidDeviceRequest) refl refl
 outcome_none plan S cpu f call.WdfInterruptQueueDpcForIsr n a b x =
-    either_none (is_enabled S.interrupts (object_in a) && declares plan callback.EvtInterruptDpc (object_in a) && not (is_dpc_queued S.dpcs (object_in a))) (number 1 (Enqueue_dpc cpu (object_in a) ∷ [])) (number 0 []) refl refl
+    either_none (is_enabled S.interrupts (object_in a) && declares plan callback.EvtInterruptDpc (object_in a) && not (is_dpc_queued S.dpcs (object_in a))) (number 1 (EnqueueDpc (cpu_of cpu) (object_id (object_in a)) ∷ [])) (number 0 []) refl refl
 outcome_none plan S cpu f call.WdfDpcEnqueue n a b x =
-    either_none (is_live (life_of S.tree (object_in a)) && not (is_dpc_queued S.dpcs (object_in a))) (number 1 (Enqueue_dpc cpu (object_in a) ∷ [])) (number 0 []) refl refl
+    either_none (is_live (life_of S.tree (object_in a)) && not (is_dpc_queued S.dpcs (object_in a))) (number 1 (EnqueueDpc (cpu_of cpu) (object_id (object_in a)) ∷ [])) (number 0 []) refl refl
 outcome_none plan S cpu f call.WdfTimerStart n a b x =
-    either_none (is_live (life_of S.tree (object_in a))) (number (flag (is_timer_queued S.timers (object_in a))) (Start_timer (object_in a) (number_in b) ∷ [])) (number 0 []) refl refl
-outcome_none plan S cpu f call.WdfWorkItemEnqueue n a b x = either_none (is_live (life_of S.tree (object_in a))) (success (Enqueue_work (object_in a) ∷ [])) (success []) refl refl
+    either_none (is_live (life_of S.tree (object_in a))) (number (flag (is_timer_queued S.timers (object_in a))) (StartTimer (object_id (object_in a)) (number_in b) ∷ [])) (number 0 []) refl refl
+outcome_none plan S cpu f call.WdfWorkItemEnqueue n a b x = either_none (is_live (life_of S.tree (object_in a))) (success (EnqueueWork (object_id (object_in a)) ∷ [])) (success []) refl refl
 outcome_none plan S cpu f _ n a b x = refl
 
 second_none : (f : ℕ) (k : CallKind) (n : ℕ) (a b x : Arg) → none_arrives (second_deeds f (record { kind = k; count = n; a = a; b = b; c = x })) ≡ true
@@ -198,23 +200,23 @@ by_top_none S ds h (Some f) = h f (frame_of S.cpus f)
 
 pub event_none : {A : Type 0} (plan : Plan) (S : State A) (e : Event) → is_arrival_event e ≡ false → none_arrives (deeds plan S e) ≡ true
 event_none plan S (event.Start k c o r) h =
-    none_behind (start_effect plan S k.0 c o.id.0 r) (Push_frame k.0 (next_number S) (new_frame plan S c o r) (callback_irql plan c o.id.0) ∷ take_if_any (next_number S) (lock_of_callback plan c o.id.0 (declared_in plan S o.id.0)))
+    none_behind (start_effect plan S k.0 c o.id.0 r) (PushFrame k (frame_id (next_number S)) (new_frame plan S c o r) (irql_of (callback_irql plan c o.id.0)) ∷ take_if_any (next_number S) (lock_of_callback plan c o.id.0 (declared_in plan S o.id.0)))
     (start_effect_none plan S k.0 c o.id.0 r) (taking_none (next_number S) (lock_of_callback plan c o.id.0 (declared_in plan S o.id.0)))
-event_none plan S (event.Local k line) h = by_top_none S (λ f frame. Go_on f (stepped frame (intent_of plan frame)) ∷ []) (λ f frame. refl) (top S.cpus k.0)
-event_none plan S (event.Log k v) h = by_top_none S (λ f frame. Go_on f (goes_on plan frame) ∷ []) (λ f frame. refl) (top S.cpus k.0)
-event_none plan S (event.Spend k n) h = by_top_none S (λ f frame. Go_on f (spending plan S frame n) ∷ []) (λ f frame. refl) (top S.cpus k.0)
-event_none plan S (event.Register k a r v) h = by_top_none S (λ f frame. Go_on f (answered plan frame (Num v)) ∷ []) (λ f frame. refl) (top S.cpus k.0)
+event_none plan S (event.Local k line) h = by_top_none S (λ f frame. GoOn (frame_id f) (stepped frame (intent_of plan frame)) ∷ []) (λ f frame. refl) (top S.cpus k.0)
+event_none plan S (event.Log k v) h = by_top_none S (λ f frame. GoOn (frame_id f) (goes_on plan frame) ∷ []) (λ f frame. refl) (top S.cpus k.0)
+event_none plan S (event.Spend k n) h = by_top_none S (λ f frame. GoOn (frame_id f) (spending plan S frame n) ∷ []) (λ f frame. refl) (top S.cpus k.0)
+event_none plan S (event.Register k a r v) h = by_top_none S (λ f frame. GoOn (frame_id f) (answered plan frame (Num v)) ∷ []) (λ f frame. refl) (top S.cpus k.0)
 event_none plan S (event.Did k c v) h =
-    by_top_none S (did_deeds plan S k.0 c v) (λ f frame. none_behind ((outcome plan S k.0 f c).deeds ++ second_deeds f c) (Go_on f (answered plan frame v) ∷ [])
+    by_top_none S (did_deeds plan S k.0 c v) (λ f frame. none_behind ((outcome plan S k.0 f c).deeds ++ second_deeds f c) (GoOn (frame_id f) (answered plan frame v) ∷ [])
     (none_behind (outcome plan S k.0 f c).deeds (second_deeds f c) (outcome_none plan S k.0 f c.kind c.count c.a c.b c.c) (second_none f c.kind c.count c.a c.b c.c)) refl) (top S.cpus k.0)
 event_none plan S (event.Waiting k c) h =
-    by_top_none S (waiting_deeds plan S k.0 c) (λ f frame. none_behind (outcome plan S k.0 f c).deeds (Go_on f (waiting frame c (outcome plan S k.0 f c).answer) ∷ []) (outcome_none plan S k.0 f c.kind c.count c.a c.b c.c) refl) (top S.cpus k.0)
+    by_top_none S (waiting_deeds plan S k.0 c) (λ f frame. none_behind (outcome plan S k.0 f c).deeds (GoOn (frame_id f) (waiting frame c (outcome plan S k.0 f c).answer) ∷ []) (outcome_none plan S k.0 f c.kind c.count c.a c.b c.c) refl) (top S.cpus k.0)
 event_none plan S (event.Woke k c v) h =
-    by_top_none S (woke_deeds plan c v) (λ f frame. none_behind (second_deeds f c) (Go_on f (answered plan frame v) ∷ []) (second_none f c.kind c.count c.a c.b c.c) refl) (top S.cpus k.0)
+    by_top_none S (woke_deeds plan c v) (λ f frame. none_behind (second_deeds f c) (GoOn (frame_id f) (answered plan frame v) ∷ []) (second_none f c.kind c.count c.a c.b c.c) refl) (top S.cpus k.0)
 event_none plan S (event.Park k f) h = refl
 event_none plan S (event.Unpark k f) h = refl
 event_none plan S (event.End k c o v) h =
-    none_behind (release_if_any (lock_of_callback plan c o.id.0 (declared_in plan S o.id.0))) (Pop_frame k.0 ∷ end_of_step plan S (row_of c).rank c o.id.0 v)
+    none_behind (release_if_any (lock_of_callback plan c o.id.0 (declared_in plan S o.id.0))) (PopFrame k ∷ end_of_step plan S (row_of c).rank c o.id.0 v)
     (releasing_none (lock_of_callback plan c o.id.0 (declared_in plan S o.id.0))) (step_none plan S (row_of c).rank c o.id.0 v)
 event_none plan S (event.Fault k x line) h = refl
 event_none plan S (event.Stage d s i) h = stage_none plan d.id.0 s i

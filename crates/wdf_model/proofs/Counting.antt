@@ -14,7 +14,9 @@ use Rattle.wdf_model.specs.parts.Queues.{waiting_in}
 use Rattle.wdf_model.specs.parts.Control as control
 use Rattle.wdf_model.specs.parts.Targets as targets
 use Rattle.wdf_model.specs.State.{State, is_with_driver}
-use Rattle.wdf_model.specs.rules.Deeds.{Deed, Arrive, Ask_deletion, Close_device, Close_returning, Complete_request, Forward, Give_back, Purge_queue, Requeue, Send_request, arrive_at, ask_object, ask_objects, cancel_in, enter_at_head, enter_at_tail, queued, with_place, close_queue, close_returning, counted, do_deed, do_deeds, give_up, give_up_if, told, withdraw}
+use Rattle.wdf_model.specs.declared.deed.Deed.{Deed}
+use Rattle.wdf_model.specs.declared.deed.Deed.TheVariants.{Arrive, AskDeletion, CloseDevice, CloseReturning, CompleteRequest, Forward, GiveBack, PurgeQueue, Requeue, SendRequest}
+use Rattle.wdf_model.specs.rules.Deeds.{arrive_at, ask_object, ask_objects, cancel_in, enter_at_head, enter_at_tail, queued, with_place, close_queue, close_returning, counted, do_deed, do_deeds, give_up, give_up_if, told, withdraw}
 
 -- a state with other agents and another count
 abbrev with_count : {A : Type 0} → List A → ℕ → State A → State A
@@ -57,18 +59,18 @@ module _ {A : Type 0} (agents : List A) (n : ℕ) where
   arrives S device info _ = refl
 
   deed_counts : (plan : Plan) (d : Deed) (S : State A) → do_deed plan d (with_count agents n S) ≡ with_count agents n (do_deed plan d S)
-  deed_counts plan (Arrive device info p) S = arrives S device info p
-  deed_counts plan (Ask_deletion o) S = asks_all (subtree S.tree o) S
-  deed_counts plan (Requeue r q) S = ap (λ (T : State A). enter_at_head (with_place T r (queued q)) q r) (gives_up S r)
-  deed_counts plan (Forward r q) S = ap (λ (T : State A). enter_at_tail (with_place T r (queued q)) q r) (gives_up S r)
-  deed_counts plan (Give_back r q) S = ap (λ (T : State A). cancel_in plan T q r) (gives_up S r)
-  deed_counts plan (Send_request r t forget) S = ap (λ (T : State A). with_place (record T { targets = targets.send S.targets t r forget }) r (place.Sent (record { 0 = t }))) (gives_up_if forget S r)
-  deed_counts plan (Complete_request r) S =
-      ap (λ (T : State A). ask_objects (record T { requests = requests.complete S.requests r }) r) (gives_up S r)
-      ∙ asks_all (subtree (give_up S r).tree r) (record (give_up S r) { requests = requests.complete S.requests r })
-  deed_counts plan (Purge_queue q) S = withdraws_all plan q (waiting_in S.queues q) (record S { control = control.set_mode S.control q mode.Purged })
-  deed_counts plan (Close_returning d) S = closes_returning (managed_queues plan d) S
-  deed_counts plan (Close_device d) S = closes_queues (queues_of plan d) (record S { control = control.shut S.control d })
+  deed_counts plan (Arrive device info p) S = arrives S device.0 info p
+  deed_counts plan (AskDeletion o) S = asks_all (subtree S.tree o.0) S
+  deed_counts plan (Requeue r q) S = ap (λ (T : State A). enter_at_head (with_place T r.0 (queued q.0)) q.0 r.0) (gives_up S r.0)
+  deed_counts plan (Forward r q) S = ap (λ (T : State A). enter_at_tail (with_place T r.0 (queued q.0)) q.0 r.0) (gives_up S r.0)
+  deed_counts plan (GiveBack r q) S = ap (λ (T : State A). cancel_in plan T q.0 r.0) (gives_up S r.0)
+  deed_counts plan (SendRequest r t forget) S = ap (λ (T : State A). with_place (record T { targets = targets.send S.targets t.0 r.0 forget }) r.0 (place.Sent (record { 0 = t.0 }))) (gives_up_if forget S r.0)
+  deed_counts plan (CompleteRequest r) S =
+      ap (λ (T : State A). ask_objects (record T { requests = requests.complete S.requests r.0 }) r.0) (gives_up S r.0)
+      ∙ asks_all (subtree (give_up S r.0).tree r.0) (record (give_up S r.0) { requests = requests.complete S.requests r.0 })
+  deed_counts plan (PurgeQueue q) S = withdraws_all plan q.0 (waiting_in S.queues q.0) (record S { control = control.set_mode S.control q.0 mode.Purged })
+  deed_counts plan (CloseReturning d) S = closes_returning (managed_queues plan d.0) S
+  deed_counts plan (CloseDevice d) S = closes_queues (queues_of plan d.0) (record S { control = control.shut S.control d.0 })
   deed_counts plan _ S = refl
 
   deeds_count : (plan : Plan) (ds : List Deed) (S : State A) → do_deeds plan ds (with_count agents n S) ≡ with_count agents n (do_deeds plan ds S)

@@ -10,7 +10,9 @@ use Rattle.wdf_model.specs.parts.Deferred.Dpcs as dpcs
 use Rattle.wdf_model.specs.parts.Deferred.WorkItems as work_items
 use Rattle.wdf_model.specs.parts.Deferred.Timers as timers
 use Rattle.wdf_model.specs.State.{State}
-use Rattle.wdf_model.specs.rules.Deeds.{Ask_deletion, ask_object, ask_objects, do_deed}
+use Rattle.wdf_model.specs.Ids.{object_id}
+use Rattle.wdf_model.specs.declared.deed.Deed.TheVariants.{AskDeletion}
+use Rattle.wdf_model.specs.rules.Deeds.{ask_object, ask_objects, do_deed}
 use Rattle.wdf_model.proofs.Maps.{entry_put_same, entry_put_other}
 
 -- ---- what is below an object, by the parents alone
@@ -97,7 +99,7 @@ off_once_more (x ∷ xs) S later h =
     ap (λ T. fold ask_object T xs) same ∙ off_once_more xs (ask_object S x) later h
 
 pub asking_twice : {A : Type 0} (plan : Plan) (S : State A) (o : ℕ)
-    → do_deed plan (Ask_deletion o) (do_deed plan (Ask_deletion o) S) ≡ do_deed plan (Ask_deletion o) S
+    → do_deed plan (AskDeletion (object_id o)) (do_deed plan (AskDeletion (object_id o)) S) ≡ do_deed plan (AskDeletion (object_id o)) S
 asking_twice plan S o =
     let below : subtree (ask_objects S o).tree o ≡ subtree S.tree o = subtree_by_parents (ask_objects S o).tree S.tree o (all_parents (subtree S.tree o) S) in
     ap (λ xs. fold ask_object (ask_objects S o) xs) below ∙ off_once_more (subtree S.tree o) S (ask_objects S o) (λ y off. off)

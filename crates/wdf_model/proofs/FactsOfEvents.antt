@@ -17,8 +17,11 @@ use Rattle.wdf_model.specs.parts.Cpus.{no_frame, running, frame_of, top}
 use Rattle.wdf_model.specs.Plans.{callback_irql}
 use Rattle.wdf_model.specs.parts.Locks.{is_free_if_any, lock_of_callback}
 use Rattle.wdf_model.specs.State.{State, declares_in, declared_in, is_proper}
+use Rattle.wdf_model.specs.Ids.{frame_id}
 use Rattle.wdf_model.specs.rules.Starts.{is_ready_for, level_fits, life_fits, may_start}
-use Rattle.wdf_model.specs.rules.Deeds.{Deed, Go_on, do_deeds, counted, told}
+use Rattle.wdf_model.specs.declared.deed.Deed.{Deed}
+use Rattle.wdf_model.specs.declared.deed.Deed.TheVariants.{GoOn}
+use Rattle.wdf_model.specs.rules.Deeds.{do_deeds, counted, told}
 use Rattle.wdf_model.specs.rules.Steps.{goes_on, stepped, after, is_proper_if_any, may, is_cpu}
 use Rattle.wdf_model.specs.rules.Script.{intent_of}
 use Rattle.wdf_model.specs.rules.Ready.{ready, state_after}
@@ -31,7 +34,7 @@ use Rattle.wdf_model.proofs.Follows.{follows}
 
 -- the deeds of one frame that goes on, where no agent hears of the event
 frame_moves : {A : Type 0} (plan : Plan) (m : Meaning A) (S : State A) (e : Event) (f : ℕ) (frame : Frame) → told m e S.agents ≡ S.agents
-    → MovesOnlyFrame f S (counted m e (do_deeds plan (Go_on f frame ∷ []) S))
+    → MovesOnlyFrame f S (counted m e (do_deeds plan (GoOn (frame_id f) frame ∷ []) S))
 frame_moves plan m S e f frame same = record {
   rest = rw same refl;
   stacks = refl;
@@ -43,7 +46,7 @@ frame_moves plan m S e f frame same = record {
 
 top_moves : {A : Type 0} (plan : Plan) (m : Meaning A) (S : State A) (e : Event) (next : ℕ → Frame → Frame) (f : ℕ) (there : Option ℕ) → there ≡ Some f
     → told m e S.agents ≡ S.agents
-    → MovesOnlyFrame f S (counted m e (do_deeds plan (elim there as (λ _. List Deed) [ None ↦ [] | Some g ↦ Go_on g (next g (frame_of S.cpus g)) ∷ [] ]) S))
+    → MovesOnlyFrame f S (counted m e (do_deeds plan (elim there as (λ _. List Deed) [ None ↦ [] | Some g ↦ GoOn (frame_id g) (next g (frame_of S.cpus g)) ∷ [] ]) S))
 top_moves plan m S e next f None h same = absurd (let z : ⊥ = cc in z)
 top_moves plan m S e next f (Some g) h same =
     let one : f ≡ g = cc in rw one (frame_moves plan m S e g (next g (frame_of S.cpus g)) same)

@@ -25,7 +25,10 @@ use Rattle.wdf_model.specs.parts.Requests.{is_cancelled, is_owned, mark_answer, 
 use Rattle.wdf_model.specs.parts.Queues.{front}
 use Rattle.wdf_model.specs.parts.Control.{accepts, is_purged, mode_of}
 use Rattle.wdf_model.specs.State.{State, object_in, queue_delivers}
-use Rattle.wdf_model.specs.rules.Deeds.{Deed, do_deed, do_deeds, Forward, Give_back, Mark_request, Requeue, Send_request}
+use Rattle.wdf_model.specs.Ids.{object_id}
+use Rattle.wdf_model.specs.declared.deed.Deed.{Deed}
+use Rattle.wdf_model.specs.declared.deed.Deed.TheVariants.{Forward, GiveBack, MarkRequest, Requeue, SendRequest}
+use Rattle.wdf_model.specs.rules.Deeds.{do_deed, do_deeds}
 use Rattle.wdf_model.specs.rules.Faults.{View, is_request_kind, any_argument, call_faults, forgets_made, is_wrong_kind, is_never_deleted}
 use Rattle.wdf_model.specs.rules.Calls.{Outcome, create_outcome, creation, forward_outcome, forwards_nowhere, mark_outcome, may_send, new_handle, number, origin_or_none, refused, requeue_outcome, retrieve_front, retrieve_outcome, send_outcome, success}
 use Rattle.wdf_model.specs.laws.Fits.{all_fit, fits, is_given}
@@ -123,29 +126,29 @@ create_fits plan S class parent =
 
 pub requeue_fits : {A : Type 0} (plan : Plan) (S : State A) (r q : ℕ) → is_given S r ≡ true → all_fit plan (requeue_outcome S r q).deeds S ≡ true
 requeue_fits plan S r q h =
-    either_fits plan S (is_cancelled S.requests r || is_purged (mode_of S.control q)) (success (Give_back r q ∷ [])) (success (Requeue r q ∷ []))
+    either_fits plan S (is_cancelled S.requests r || is_purged (mode_of S.control q)) (success (GiveBack (object_id r) (object_id q) ∷ [])) (success (Requeue (object_id r) (object_id q) ∷ []))
     (λ _. alone (is_given S r) h) (λ _. alone (is_given S r) h)
 
 pub mark_fits : {A : Type 0} (plan : Plan) (S : State A) (r : ℕ) → is_given S r ≡ true → all_fit plan (mark_outcome plan S r).deeds S ≡ true
 mark_fits plan S r h =
-    either_fits plan S (declares plan callback.EvtRequestCancel (origin_or_none S r)) (record { answer = Stat (mark_answer S.requests r); deeds = Mark_request r ∷ [] }) (refused status.InvalidDeviceRequest)
+    either_fits plan S (declares plan callback.EvtRequestCancel (origin_or_none S r)) (record { answer = Stat (mark_answer S.requests r); deeds = MarkRequest (object_id r) ∷ [] }) (refused status.InvalidDeviceRequest)
     (λ _. alone (is_given S r) h) (λ _. refl)
 
 pub forward_fits : {A : Type 0} (plan : Plan) (S : State A) (r q : ℕ) → is_given S r ≡ true → all_fit plan (forward_outcome plan S r q).deeds S ≡ true
 forward_fits plan S r q h =
     either_fits plan S (forwards_nowhere plan S r q) (refused status.InvalidDeviceRequest)
-    (if not (accepts S.control q) then refused status.WdfBusy else if is_cancelled S.requests r then success (Give_back r q ∷ []) else success (Forward r q ∷ []))
+    (if not (accepts S.control q) then refused status.WdfBusy else if is_cancelled S.requests r then success (GiveBack (object_id r) (object_id q) ∷ []) else success (Forward (object_id r) (object_id q) ∷ []))
     (λ _. refl)
-    (λ _. either_fits plan S (not (accepts S.control q)) (refused status.WdfBusy) (if is_cancelled S.requests r then success (Give_back r q ∷ []) else success (Forward r q ∷ []))
+    (λ _. either_fits plan S (not (accepts S.control q)) (refused status.WdfBusy) (if is_cancelled S.requests r then success (GiveBack (object_id r) (object_id q) ∷ []) else success (Forward (object_id r) (object_id q) ∷ []))
     (λ _. refl)
-    (λ open_. either_fits plan S (is_cancelled S.requests r) (success (Give_back r q ∷ [])) (success (Forward r q ∷ []))
+    (λ open_. either_fits plan S (is_cancelled S.requests r) (success (GiveBack (object_id r) (object_id q) ∷ [])) (success (Forward (object_id r) (object_id q) ∷ []))
     (λ _. alone (is_given S r) h)
     (λ _. alone (is_given S r && accepts S.control q) (both (is_given S r) (accepts S.control q) h (not_false (accepts S.control q) open_)))))
 
 pub send_fits : {A : Type 0} (plan : Plan) (S : State A) (r t : ℕ) (forget : Bool) → is_owned (place_of S.requests r) ≡ true
     → (not forget || same_kind (kind_of S.tree r) kind.Request) ≡ true → all_fit plan (send_outcome S r t forget).deeds S ≡ true
 send_fits plan S r t forget owned made =
-    either_fits plan S (may_send S r t) (number 1 (Send_request r t forget ∷ [])) (number 0 [])
+    either_fits plan S (may_send S r t) (number 1 (SendRequest (object_id r) (object_id t) forget ∷ [])) (number 0 [])
     (λ may. alone (is_owned (place_of S.requests r) && may_send S r t && (not forget || same_kind (kind_of S.tree r) kind.Request))
     (both (is_owned (place_of S.requests r) && may_send S r t) (not forget || same_kind (kind_of S.tree r) kind.Request) (both (is_owned (place_of S.requests r)) (may_send S r t) owned may) made))
     (λ _. refl)

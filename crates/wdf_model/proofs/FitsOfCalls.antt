@@ -20,7 +20,8 @@ use Rattle.wdf_model.specs.parts.Deferred.Dpcs.{is_dpc_queued}
 use Rattle.wdf_model.specs.parts.Deferred.Timers.{is_timer_queued}
 use Rattle.wdf_model.specs.parts.Power.{acknowledged}
 use Rattle.wdf_model.specs.State.{State, is_with_driver, object_in}
-use Rattle.wdf_model.specs.rules.Deeds.{Acknowledge, Enqueue_dpc, Enqueue_work, Register_queue, Start_timer}
+use Rattle.wdf_model.specs.Ids.{cpu_of, object_id}
+use Rattle.wdf_model.specs.declared.deed.Deed.TheVariants.{Acknowledge, EnqueueDpc, EnqueueWork, RegisterQueue, StartTimer}
 use Rattle.wdf_model.specs.rules.Faults.{arg_is, call_faults, is_stop_of}
 use Rattle.wdf_model.specs.rules.Calls.{acknowledge_outcome, class_in, dpc_outcome, isr_dpc_outcome, notify_outcome, number, number_in, origin_or_none, outcome, refused, requeue_outcome, success, timer_outcome, work_outcome}
 use Rattle.wdf_model.specs.rules.Steps.{view_of}
@@ -38,21 +39,21 @@ Clean plan S cpu f c = (x : Fault) → call_faults (view_of plan S cpu f) c x �
 
 dpc_fits : {A : Type 0} (plan : Plan) (S : State A) (cpu o : ℕ) → all_fit plan (dpc_outcome S cpu o).deeds S ≡ true
 dpc_fits plan S cpu o =
-    either_fits plan S (is_live (life_of S.tree o) && not (is_dpc_queued S.dpcs o)) (number 1 (Enqueue_dpc cpu o ∷ [])) (number 0 []) (λ _. refl) (λ _. refl)
+    either_fits plan S (is_live (life_of S.tree o) && not (is_dpc_queued S.dpcs o)) (number 1 (EnqueueDpc (cpu_of cpu) (object_id o) ∷ [])) (number 0 []) (λ _. refl) (λ _. refl)
 
 isr_fits : {A : Type 0} (plan : Plan) (S : State A) (cpu i : ℕ) → all_fit plan (isr_dpc_outcome plan S cpu i).deeds S ≡ true
 isr_fits plan S cpu i =
-    either_fits plan S (is_enabled S.interrupts i && declares plan callback.EvtInterruptDpc i && not (is_dpc_queued S.dpcs i)) (number 1 (Enqueue_dpc cpu i ∷ [])) (number 0 []) (λ _. refl) (λ _. refl)
+    either_fits plan S (is_enabled S.interrupts i && declares plan callback.EvtInterruptDpc i && not (is_dpc_queued S.dpcs i)) (number 1 (EnqueueDpc (cpu_of cpu) (object_id i) ∷ [])) (number 0 []) (λ _. refl) (λ _. refl)
 
 timer_fits : {A : Type 0} (plan : Plan) (S : State A) (o n : ℕ) → all_fit plan (timer_outcome S o n).deeds S ≡ true
-timer_fits plan S o n = either_fits plan S (is_live (life_of S.tree o)) (number (flag (is_timer_queued S.timers o)) (Start_timer o n ∷ [])) (number 0 []) (λ _. refl) (λ _. refl)
+timer_fits plan S o n = either_fits plan S (is_live (life_of S.tree o)) (number (flag (is_timer_queued S.timers o)) (StartTimer (object_id o) n ∷ [])) (number 0 []) (λ _. refl) (λ _. refl)
 
 work_fits : {A : Type 0} (plan : Plan) (S : State A) (o : ℕ) → all_fit plan (work_outcome S o).deeds S ≡ true
-work_fits plan S o = either_fits plan S (is_live (life_of S.tree o)) (success (Enqueue_work o ∷ [])) (success []) (λ _. refl) (λ _. refl)
+work_fits plan S o = either_fits plan S (is_live (life_of S.tree o)) (success (EnqueueWork (object_id o) ∷ [])) (success []) (λ _. refl) (λ _. refl)
 
 notify_fits : {A : Type 0} (plan : Plan) (S : State A) (q : ℕ) (x : Arg) → all_fit plan (notify_outcome plan q x).deeds S ≡ true
 notify_fits plan S q x =
-    either_fits plan S (is_manual_queue plan q && declares plan callback.EvtIoQueueState q) (success (Register_queue q (not (arg_is x 0)) ∷ [])) (refused status.InvalidDeviceRequest) (λ _. refl) (λ _. refl)
+    either_fits plan S (is_manual_queue plan q && declares plan callback.EvtIoQueueState q) (success (RegisterQueue (object_id q) (not (arg_is x 0)) ∷ [])) (refused status.InvalidDeviceRequest) (λ _. refl) (λ _. refl)
 
 -- either it is acknowledged, or it is given back
 acknowledge_fits : {A : Type 0} (plan : Plan) (S : State A) (r : ℕ) (b : Arg) (stopping : Bool)
@@ -60,7 +61,7 @@ acknowledge_fits : {A : Type 0} (plan : Plan) (S : State A) (r : ℕ) (b : Arg) 
     → (not stopping || acknowledged S.power r) ≡ false → same_kind (kind_of S.tree r) kind.Request ≡ true
     → all_fit plan (acknowledge_outcome S r b).deeds S ≡ true
 acknowledge_fits plan S r b stopping held once k =
-    either_fits plan S (arg_is b 0) (success (Acknowledge r ∷ [])) (requeue_outcome S r (origin_or_none S r))
+    either_fits plan S (arg_is b 0) (success (Acknowledge (object_id r) ∷ [])) (requeue_outcome S r (origin_or_none S r))
     (λ _. alone (is_with_driver S r && not (acknowledged S.power r))
     (both (is_with_driver S r) (not (acknowledged S.power r)) (not_false (is_with_driver S r) (either_false (not (is_with_driver S r)) (not (arg_is b 0) && not (is_owned (place_of S.requests r))) held).0)
     (let e : acknowledged S.power r ≡ false = (either_false (not stopping) (acknowledged S.power r) once).1 in rw e refl)))

@@ -42,7 +42,10 @@ use Rattle.wdf_model.specs.parts.Requests.{arrival_of, is_closing, is_done, is_s
 use Rattle.wdf_model.specs.parts.Control.{accepts}
 use Rattle.wdf_model.specs.parts.Pnp.{is_running_step, next_step}
 use Rattle.wdf_model.specs.State.{State, declared_in, declares_in, is_proper, is_with_driver}
-use Rattle.wdf_model.specs.rules.Deeds.{Arrive, Count_arrival, Deed, Go_on, Pop_frame, Push_frame, do_deed, do_deeds}
+use Rattle.wdf_model.specs.Ids.{cpu_of, frame_id, irql_of, object_id}
+use Rattle.wdf_model.specs.declared.deed.Deed.{Deed}
+use Rattle.wdf_model.specs.declared.deed.Deed.TheVariants.{Arrive, CountArrival, GoOn, PopFrame, PushFrame}
+use Rattle.wdf_model.specs.rules.Deeds.{do_deed, do_deeds}
 use Rattle.wdf_model.specs.rules.Script.{intent_of}
 use Rattle.wdf_model.specs.rules.Calls.{is_met, outcome, second_deeds, is_met_then}
 use Rattle.wdf_model.specs.rules.Starts.{callback_over, clean_ready, destroy_ready, effect, effect_for, end_deeds, end_of_step, is_ready_for, level_fits, life_fits, may_pass, may_start, new_frame, next_number, rank_ready, rank_ready_for, release_if_any, stage_deeds, stage_effect, stage_ready, start_deeds, start_effect, step_of, step_ready, take_if_any}
@@ -122,9 +125,9 @@ taking_fits plan S T f (Some l) same h = rw same (alone (is_free_lock S.locks l)
 start_fits : {A : Type 0} (plan : Plan) (m : Meaning A) (S : State A) (cpu : ℕ) (c : Callback) (o : Handle) (r : Option Handle) → may_start plan m S cpu c o.id.0 r ≡ true
     → all_fit plan (start_deeds plan S cpu c o r) S ≡ true
 start_fits plan m S cpu c o r h =
-    fit_behind plan (start_effect plan S cpu c o.id.0 r) (Push_frame cpu (next_number S) (new_frame plan S c o r) (callback_irql plan c o.id.0) ∷ take_if_any (next_number S) (lock_of_callback plan c o.id.0 (declared_in plan S o.id.0))) S
+    fit_behind plan (start_effect plan S cpu c o.id.0 r) (PushFrame (cpu_of cpu) (frame_id (next_number S)) (new_frame plan S c o r) (irql_of (callback_irql plan c o.id.0)) ∷ take_if_any (next_number S) (lock_of_callback plan c o.id.0 (declared_in plan S o.id.0))) S
     (start_effect_fits plan m S cpu c o.id.0 r (both_right (declares_in plan S c o.id.0 && life_fits S c o.id.0 && level_fits S cpu (callback_irql plan c o.id.0) && is_free_if_any S.locks (lock_of_callback plan c o.id.0 (declared_in plan S o.id.0))) (is_ready_for plan m S cpu c o.id.0 r) h))
-    (taking_fits plan S (do_deed plan (Push_frame cpu (next_number S) (new_frame plan S c o r) (callback_irql plan c o.id.0)) (do_deeds plan (start_effect plan S cpu c o.id.0 r) S)) (next_number S) (lock_of_callback plan c o.id.0 (declared_in plan S o.id.0))
+    (taking_fits plan S (do_deed plan (PushFrame (cpu_of cpu) (frame_id (next_number S)) (new_frame plan S c o r) (irql_of (callback_irql plan c o.id.0))) (do_deeds plan (start_effect plan S cpu c o.id.0 r) S)) (next_number S) (lock_of_callback plan c o.id.0 (declared_in plan S o.id.0))
     (start_effect_locks plan S cpu c o.id.0 r)
     (both_right (declares_in plan S c o.id.0 && life_fits S c o.id.0 && level_fits S cpu (callback_irql plan c o.id.0)) (is_free_if_any S.locks (lock_of_callback plan c o.id.0 (declared_in plan S o.id.0)))
     (both_left (declares_in plan S c o.id.0 && life_fits S c o.id.0 && level_fits S cpu (callback_irql plan c o.id.0) && is_free_if_any S.locks (lock_of_callback plan c o.id.0 (declared_in plan S o.id.0))) (is_ready_for plan m S cpu c o.id.0 r) h)))
@@ -164,7 +167,7 @@ did_fits : {A : Type 0} (plan : Plan) (m : Meaning A) (S : State A) (k : Cpu) (c
 did_fits plan m S k c v h =
     let d : IsDid plan S k.0 c v = did_tells plan m S k c v h in
     top_fits plan S k.0 d.frame (did_deeds plan S k.0 c v) d.about.top
-    (fit_behind plan ((outcome plan S k.0 d.frame c).deeds ++ second_deeds d.frame c) (Go_on d.frame (answered plan (frame_of S.cpus d.frame) v) ∷ []) S
+    (fit_behind plan ((outcome plan S k.0 d.frame c).deeds ++ second_deeds d.frame c) (GoOn (frame_id d.frame) (answered plan (frame_of S.cpus d.frame) v) ∷ []) S
     (fit_behind plan (outcome plan S k.0 d.frame c).deeds (second_deeds d.frame c) S
     (outcome_fits plan S k.0 d.frame c.kind c.count c.a c.b c.c d.about.clean)
     (second_fits_then plan S k.0 d.frame c.kind c.count c.a c.b c.c d.met))
@@ -175,17 +178,17 @@ waiting_fits : {A : Type 0} (plan : Plan) (m : Meaning A) (S : State A) (k : Cpu
 waiting_fits plan m S k c h =
     let d : IsWaiting plan S k.0 c = waiting_tells plan m S k c h in
     top_fits plan S k.0 d.frame (waiting_deeds plan S k.0 c) d.about.top
-    (fit_behind plan (outcome plan S k.0 d.frame c).deeds (Go_on d.frame (waiting (frame_of S.cpus d.frame) c (outcome plan S k.0 d.frame c).answer) ∷ []) S (outcome_fits plan S k.0 d.frame c.kind c.count c.a c.b c.c d.about.clean) refl)
+    (fit_behind plan (outcome plan S k.0 d.frame c).deeds (GoOn (frame_id d.frame) (waiting (frame_of S.cpus d.frame) c (outcome plan S k.0 d.frame c).answer) ∷ []) S (outcome_fits plan S k.0 d.frame c.kind c.count c.a c.b c.c d.about.clean) refl)
 
 woke_fits : {A : Type 0} (plan : Plan) (m : Meaning A) (S : State A) (k : Cpu) (c : Call) (v : Value) → is_own_event plan m S k (event.Woke k c v) ≡ true
     → all_fit plan (deeds plan S (event.Woke k c v)) S ≡ true
 woke_fits plan m S k c v h =
     let d : IsWoke S k.0 c v = woke_tells plan m S k c v h in
-    top_fits plan S k.0 d.frame (woke_deeds plan c v) d.top (fit_behind plan (second_deeds d.frame c) (Go_on d.frame (answered plan (frame_of S.cpus d.frame) v) ∷ []) S (second_fits plan S d.frame c.kind c.count c.a c.b c.c d.met) refl)
+    top_fits plan S k.0 d.frame (woke_deeds plan c v) d.top (fit_behind plan (second_deeds d.frame c) (GoOn (frame_id d.frame) (answered plan (frame_of S.cpus d.frame) v) ∷ []) S (second_fits plan S d.frame c.kind c.count c.a c.b c.c d.met) refl)
 
 -- a frame goes on
 moving_fits : {A : Type 0} (plan : Plan) (S : State A) (next : ℕ → Frame → Frame) (there : Option ℕ)
-    → all_fit plan (elim there as (λ _. List Deed) [ None ↦ [] | Some f ↦ Go_on f (next f (frame_of S.cpus f)) ∷ [] ]) S ≡ true
+    → all_fit plan (elim there as (λ _. List Deed) [ None ↦ [] | Some f ↦ GoOn (frame_id f) (next f (frame_of S.cpus f)) ∷ [] ]) S ≡ true
 moving_fits plan S next None = refl
 moving_fits plan S next (Some f) = refl
 
@@ -201,9 +204,9 @@ releasing_fits plan S (Some l) = refl
 
 end_fits : {A : Type 0} (plan : Plan) (S : State A) (cpu : ℕ) (c : Callback) (o : ℕ) (v : Value) → all_fit plan (end_deeds plan S cpu c o v) S ≡ true
 end_fits plan S cpu c o v =
-    fit_behind plan (release_if_any (lock_of_callback plan c o (declared_in plan S o))) (Pop_frame cpu ∷ end_of_step plan S (row_of c).rank c o v) S
+    fit_behind plan (release_if_any (lock_of_callback plan c o (declared_in plan S o))) (PopFrame (cpu_of cpu) ∷ end_of_step plan S (row_of c).rank c o v) S
     (releasing_fits plan S (lock_of_callback plan c o (declared_in plan S o)))
-    (step_ends plan S (do_deed plan (Pop_frame cpu) (do_deeds plan (release_if_any (lock_of_callback plan c o (declared_in plan S o))) S)) (row_of c).rank c o v)
+    (step_ends plan S (do_deed plan (PopFrame (cpu_of cpu)) (do_deeds plan (release_if_any (lock_of_callback plan c o (declared_in plan S o))) S)) (row_of c).rank c o v)
 
 stage_effect_fits : {A : Type 0} (plan : Plan) (d : ℕ) (s : Stage) (i : Option Handle) (S : State A) → all_fit plan (stage_effect plan d s i) S ≡ true
 stage_effect_fits plan d stage.Hardware i S = refl
@@ -252,7 +255,7 @@ arrives_if_any plan S f length None = refl
 arrives_if_any plan S f length (Some q) = arrives_in_queue plan S f length q
 
 pub arrival_if_live : {A : Type 0} (plan : Plan) (S : State A) (agent : ℕ) (f : RequestForm) (length code device : ℕ) (b : Bool) → is_live (life_of S.tree device) ≡ b
-    → all_fit plan (Count_arrival agent ∷ (if b then Arrive device (arrival_info S agent f length code device) (arrival_place plan S f length device) ∷ [] else [])) S ≡ true
+    → all_fit plan (CountArrival agent ∷ (if b then Arrive (object_id device) (arrival_info S agent f length code device) (arrival_place plan S f length device) ∷ [] else [])) S ≡ true
 arrival_if_live plan S agent f length code device false e = refl
 arrival_if_live plan S agent f length code device true e =
     alone _ (both (is_live (life_of S.tree device) && nat_lt 0 (arrival_info S agent f length code device).arrival) (is_arrival_place (arrival_place plan S f length device))

@@ -33,7 +33,9 @@ use Rattle.wdf_model.specs.parts.Targets.{Target, Targets, is_forgotten, is_undo
 use Rattle.wdf_model.specs.parts.Targets as targets
 use Rattle.wdf_model.specs.parts.Power.{Power}
 use Rattle.wdf_model.specs.State.{State, held_at, is_with_driver, withdrawn_place}
-use Rattle.wdf_model.specs.rules.Deeds.{Deed, Create, Make_request, Arrive, Ask_deletion, Refer, Unrefer, Write_cell, Note, Clean_up, End_life, Present, Receive, Requeue, Forward, Give_back, Withdraw, Mark_request, Unmark_request, Cancel_request, Take_cancel, Send_request, Finish_sending, Come_back, Complete_request, Purge_queue, Close_device, Close_returning, Stop_target, Start_target, arrive_at, ask_object, ask_objects, close_queue, close_returning, do_deed, do_deeds, give_up, give_up_if, queued, release_line, withdraw}
+use Rattle.wdf_model.specs.declared.deed.Deed.{Deed}
+use Rattle.wdf_model.specs.declared.deed.Deed.TheVariants.{Create, MakeRequest, Arrive, AskDeletion, Refer, Unrefer, WriteCell, Note, CleanUp, EndLife, Present, Receive, Requeue, Forward, GiveBack, Withdraw, MarkRequest, UnmarkRequest, CancelRequest, TakeCancel, SendRequest, FinishSending, ComeBack, CompleteRequest, PurgeQueue, CloseDevice, CloseReturning, StopTarget, StartTarget}
+use Rattle.wdf_model.specs.rules.Deeds.{arrive_at, ask_object, ask_objects, close_queue, close_returning, do_deed, do_deeds, give_up, give_up_if, queued, release_line, withdraw}
 use Rattle.wdf_model.specs.rules.Faults.{is_request_kind, is_never_deleted}
 use Rattle.wdf_model.specs.rules.Calls.{may_send}
 use Rattle.wdf_model.specs.laws.Fits.{all_fit, fits, is_arrival_place, is_given, is_reached}
@@ -501,52 +503,52 @@ is_arrival _ = false
 pub deed_keeps : {A : Type 0} {F B : ℕ → Bool} (plan : Plan) (d : Deed) (S : State A) → fits plan d S ≡ true → (is_arrival d ≡ true → B (next_id S.tree) ≡ true) → KeptIn F B S
     → KeptIn F B (do_deed plan d S)
 deed_keeps plan (Create what class parent) S f b k =
-    object_made what class parent k (not_true (is_request_kind what) (both_right (is_live (life_of S.tree parent) && not (is_full S.tree)) (not (is_request_kind what)) (both_left (is_live (life_of S.tree parent) && not (is_full S.tree) && not (is_request_kind what)) (not (is_never_deleted what)) f)))
-deed_keeps plan (Make_request class parent) S f b k =
-    new_request kind.Made class parent place.Owned (made_info (nearest_device S.tree parent)) k (λ t. refl) (λ e. absurd (let z : ⊥ = cc in z)) (λ _. refl) (λ e. absurd (let z : ⊥ = cc in z))
+    object_made what class parent.0 k (not_true (is_request_kind what) (both_right (is_live (life_of S.tree parent.0) && not (is_full S.tree)) (not (is_request_kind what)) (both_left (is_live (life_of S.tree parent.0) && not (is_full S.tree) && not (is_request_kind what)) (not (is_never_deleted what)) f)))
+deed_keeps plan (MakeRequest class parent) S f b k =
+    new_request kind.Made class parent.0 place.Owned (made_info (nearest_device S.tree parent.0)) k (λ t. refl) (λ e. absurd (let z : ⊥ = cc in z)) (λ _. refl) (λ e. absurd (let z : ⊥ = cc in z))
     (λ o x n. refl) (λ o. nowhere_yet k o)
 deed_keeps plan (Arrive device info p) S f b k =
-    arrives_there S device info p k
-    (both_right (is_live (life_of S.tree device)) (nat_lt 0 info.arrival) (both_left (is_live (life_of S.tree device) && nat_lt 0 info.arrival) (is_arrival_place p) f))
-    (both_right (is_live (life_of S.tree device) && nat_lt 0 info.arrival) (is_arrival_place p) f) (b refl)
-deed_keeps plan (Ask_deletion o) S f b k = asked S o k
-deed_keeps plan (Refer o) S f b k = tree_changes o (λ n. record n { references = n.references + 1 }) k (λ n e. e)
-deed_keeps plan (Unrefer o) S f b k = tree_changes o (λ n. record n { references = n.references - 1 }) k (λ n e. e)
-deed_keeps plan (Write_cell o c v) S f b k = tree_changes o (λ n. record n { cells = slice_set n.cells c v }) k (λ n e. e)
-deed_keeps plan (Note o c) S f b k = tree_changes o (noted c) k (λ n e. sym (ap (λ (x : Kind). same_kind x kind.Request) (noted_kind c n)) ∙ e)
-deed_keeps plan (Clean_up o) S f b k = tree_changes o (with_life life.Cleaned) k (λ n e. e)
-deed_keeps plan (End_life o) S f b k = destroyed S o k
-deed_keeps plan (Present q r) S f b k = present_front q r k f
+    arrives_there S device.0 info p k
+    (both_right (is_live (life_of S.tree device.0)) (nat_lt 0 info.arrival) (both_left (is_live (life_of S.tree device.0) && nat_lt 0 info.arrival) (is_arrival_place p) f))
+    (both_right (is_live (life_of S.tree device.0) && nat_lt 0 info.arrival) (is_arrival_place p) f) (b refl)
+deed_keeps plan (AskDeletion o) S f b k = asked S o.0 k
+deed_keeps plan (Refer o) S f b k = tree_changes o.0 (λ n. record n { references = n.references + 1 }) k (λ n e. e)
+deed_keeps plan (Unrefer o) S f b k = tree_changes o.0 (λ n. record n { references = n.references - 1 }) k (λ n e. e)
+deed_keeps plan (WriteCell o c v) S f b k = tree_changes o.0 (λ n. record n { cells = slice_set n.cells c v }) k (λ n e. e)
+deed_keeps plan (Note o c) S f b k = tree_changes o.0 (noted c) k (λ n e. sym (ap (λ (x : Kind). same_kind x kind.Request) (noted_kind c n)) ∙ e)
+deed_keeps plan (CleanUp o) S f b k = tree_changes o.0 (with_life life.Cleaned) k (λ n e. e)
+deed_keeps plan (EndLife o) S f b k = destroyed S o.0 k
+deed_keeps plan (Present q r) S f b k = present_front q.0 r.0 k f
 deed_keeps plan (Receive q r) S f b k =
-    let is = returning_undone q (place_of S.requests r) f in
-    same_lines (still_move r place.Owned k is.0 is.1 refl (λ _. refl)) (λ p. held_line S.queues q p)
+    let is = returning_undone q.0 (place_of S.requests r.0) f in
+    same_lines (still_move r.0 place.Owned k is.0 is.1 refl (λ _. refl)) (λ p. held_line S.queues q.0 p)
 deed_keeps plan (Requeue r q) S f b k =
-    given_enters (give_up S r) q r (queues.requeue (give_up S r).queues q r) (all_given_up S (give_up S r) (gives_up S r) k) (still_given S (give_up S r) r (gives_up S r) f) (head_enters (give_up S r).queues q r)
+    given_enters (give_up S r.0) q.0 r.0 (queues.requeue (give_up S r.0).queues q.0 r.0) (all_given_up S (give_up S r.0) (gives_up S r.0) k) (still_given S (give_up S r.0) r.0 (gives_up S r.0) f) (head_enters (give_up S r.0).queues q.0 r.0)
 deed_keeps plan (Forward r q) S f b k =
-    given_enters (give_up S r) q r (queues.enter (give_up S r).queues q r) (all_given_up S (give_up S r) (gives_up S r) k)
-    (still_given S (give_up S r) r (gives_up S r) (both_left (is_given S r) (accepts S.control q) f)) (tail_enters (give_up S r).queues q r)
-deed_keeps plan (Give_back r q) S f b k = given_back plan (give_up S r) q r (all_given_up S (give_up S r) (gives_up S r) k) (still_given S (give_up S r) r (gives_up S r) f)
-deed_keeps plan (Withdraw q r) S f b k = withdrawn plan q S r k (queued_unmade q (place_of S.requests r) f)
-deed_keeps plan (Mark_request r) S f b k =
-    marks_change r marked k (within S.requests r (owned_undone (place_of S.requests r) (owned_of S r f))) (λ q. (marked_place q q.info.cancelled refl).0) (λ q. (marked_place q q.info.cancelled refl).1)
-deed_keeps plan (Unmark_request r) S f b k =
-    marks_change r unmarked k (arrived_within S.requests r (k.kinds r f)) (λ q. (unmarked_place q (is_marked q.info.mark) refl).0) (λ q. (unmarked_place q (is_marked q.info.mark) refl).1)
-deed_keeps plan (Cancel_request r) S f b k = cancel_marks r k (reached_undone (place_of S.requests r) f)
-deed_keeps plan (Take_cancel r) S f b k =
-    marks_change r (with_mark mark.Taken) k (within S.requests r (held_undone (is_forgotten S.targets r) (place_of S.requests r) (both_right (is_due (mark_of S.requests r)) (is_with_driver S r) f))) (λ q. refl) (λ q. refl)
-deed_keeps plan (Send_request r t forget) S f b k =
-    sends_given S (give_up_if forget S r) r t forget (gives_up_if S r forget) k
-    (both_left (is_owned (place_of S.requests r)) (may_send S r t) (both_left (is_owned (place_of S.requests r) && may_send S r t) (not forget || same_kind (kind_of S.tree r) kind.Request) f))
-    (both_right (is_owned (place_of S.requests r) && may_send S r t) (not forget || same_kind (kind_of S.tree r) kind.Request) f)
-deed_keeps plan (Finish_sending r s) S f b k = finish_sending r s k (both_left (is_sent (place_of S.requests r)) (is_undone S.targets r) f)
-deed_keeps plan (Come_back r) S f b k = come_back r k (both_left (is_sent (place_of S.requests r)) (is_some (routine_due S.targets r)) f)
-deed_keeps plan (Complete_request r) S f b k =
-    asked (record (give_up S r) { requests = requests.move_to S.requests r place.Done }) r (completes_it S (give_up S r) r (gives_up S r) k f)
-deed_keeps plan (Purge_queue q) S f b k = purged plan S (record S { control = control.set_mode S.control q mode.Purged }) q k k refl
-deed_keeps plan (Close_returning d) S f b k = all_returning_closed (managed_queues plan d) S k
-deed_keeps plan (Close_device d) S f b k = all_queues_closed (queues_of plan d) (record S { control = control.shut S.control d }) k
-deed_keeps plan (Stop_target t) S f b k = same_targets k (λ u. stopped_target S.targets t u true)
-deed_keeps plan (Start_target t) S f b k = same_targets k (λ u. stopped_target S.targets t u false)
+    given_enters (give_up S r.0) q.0 r.0 (queues.enter (give_up S r.0).queues q.0 r.0) (all_given_up S (give_up S r.0) (gives_up S r.0) k)
+    (still_given S (give_up S r.0) r.0 (gives_up S r.0) (both_left (is_given S r.0) (accepts S.control q.0) f)) (tail_enters (give_up S r.0).queues q.0 r.0)
+deed_keeps plan (GiveBack r q) S f b k = given_back plan (give_up S r.0) q.0 r.0 (all_given_up S (give_up S r.0) (gives_up S r.0) k) (still_given S (give_up S r.0) r.0 (gives_up S r.0) f)
+deed_keeps plan (Withdraw q r) S f b k = withdrawn plan q.0 S r.0 k (queued_unmade q.0 (place_of S.requests r.0) f)
+deed_keeps plan (MarkRequest r) S f b k =
+    marks_change r.0 marked k (within S.requests r.0 (owned_undone (place_of S.requests r.0) (owned_of S r.0 f))) (λ q. (marked_place q q.info.cancelled refl).0) (λ q. (marked_place q q.info.cancelled refl).1)
+deed_keeps plan (UnmarkRequest r) S f b k =
+    marks_change r.0 unmarked k (arrived_within S.requests r.0 (k.kinds r.0 f)) (λ q. (unmarked_place q (is_marked q.info.mark) refl).0) (λ q. (unmarked_place q (is_marked q.info.mark) refl).1)
+deed_keeps plan (CancelRequest r) S f b k = cancel_marks r.0 k (reached_undone (place_of S.requests r.0) f)
+deed_keeps plan (TakeCancel r) S f b k =
+    marks_change r.0 (with_mark mark.Taken) k (within S.requests r.0 (held_undone (is_forgotten S.targets r.0) (place_of S.requests r.0) (both_right (is_due (mark_of S.requests r.0)) (is_with_driver S r.0) f))) (λ q. refl) (λ q. refl)
+deed_keeps plan (SendRequest r t forget) S f b k =
+    sends_given S (give_up_if forget S r.0) r.0 t.0 forget (gives_up_if S r.0 forget) k
+    (both_left (is_owned (place_of S.requests r.0)) (may_send S r.0 t.0) (both_left (is_owned (place_of S.requests r.0) && may_send S r.0 t.0) (not forget || same_kind (kind_of S.tree r.0) kind.Request) f))
+    (both_right (is_owned (place_of S.requests r.0) && may_send S r.0 t.0) (not forget || same_kind (kind_of S.tree r.0) kind.Request) f)
+deed_keeps plan (FinishSending r s) S f b k = finish_sending r.0 s k (both_left (is_sent (place_of S.requests r.0)) (is_undone S.targets r.0) f)
+deed_keeps plan (ComeBack r) S f b k = come_back r.0 k (both_left (is_sent (place_of S.requests r.0)) (is_some (routine_due S.targets r.0)) f)
+deed_keeps plan (CompleteRequest r) S f b k =
+    asked (record (give_up S r.0) { requests = requests.move_to S.requests r.0 place.Done }) r.0 (completes_it S (give_up S r.0) r.0 (gives_up S r.0) k f)
+deed_keeps plan (PurgeQueue q) S f b k = purged plan S (record S { control = control.set_mode S.control q.0 mode.Purged }) q.0 k k refl
+deed_keeps plan (CloseReturning d) S f b k = all_returning_closed (managed_queues plan d.0) S k
+deed_keeps plan (CloseDevice d) S f b k = all_queues_closed (queues_of plan d.0) (record S { control = control.shut S.control d.0 }) k
+deed_keeps plan (StopTarget t) S f b k = same_targets k (λ u. stopped_target S.targets t.0 u true)
+deed_keeps plan (StartTarget t) S f b k = same_targets k (λ u. stopped_target S.targets t.0 u false)
 deed_keeps plan _ S f b k = k
 
 -- ---- deeds one after another, of which none is an arrival

@@ -33,7 +33,10 @@ use Rattle.wdf_model.specs.parts.Requests.{Requests, has_arrived, is_closing, is
 use Rattle.wdf_model.specs.parts.Requests as requests
 use Rattle.wdf_model.specs.parts.Targets.{no_target, opening_target}
 use Rattle.wdf_model.specs.State.{State, object_in, opening}
-use Rattle.wdf_model.specs.rules.Deeds.{Arrive, Complete_request, Count_arrival, Deed, do_deed, do_deeds, give_up}
+use Rattle.wdf_model.specs.Ids.{object_id}
+use Rattle.wdf_model.specs.declared.deed.Deed.{Deed}
+use Rattle.wdf_model.specs.declared.deed.Deed.TheVariants.{Arrive, CompleteRequest, CountArrival}
+use Rattle.wdf_model.specs.rules.Deeds.{do_deed, do_deeds, give_up}
 use Rattle.wdf_model.specs.rules.Posts.{arrival_answer, arrival_info, arrival_place, arriving, due_of, post_fits}
 use Rattle.wdf_model.specs.rules.Steps.{after, deeds, did_deeds, is_own_event, may}
 use Rattle.wdf_model.specs.rules.Ready.{IsRunOf, ready, state_after}
@@ -118,10 +121,10 @@ answered_by S false answer e live = absurd (let z : ⊥ = cc in z)
 
 arrival_keeps : {A : Type 0} {F B : ℕ → Bool} (plan : Plan) (S : State A) (agent : ℕ) (f : RequestForm) (length code device : ℕ) (b : Bool) → is_live (life_of S.tree device) ≡ b
     → (b ≡ true → B (next_id S.tree) ≡ true) → KeptIn F B S
-    → KeptIn F B (do_deeds plan (Count_arrival agent ∷ (if b then Arrive device (arrival_info S agent f length code device) (arrival_place plan S f length device) ∷ [] else [])) S)
+    → KeptIn F B (do_deeds plan (CountArrival agent ∷ (if b then Arrive (object_id device) (arrival_info S agent f length code device) (arrival_place plan S f length device) ∷ [] else [])) S)
 arrival_keeps plan S agent f length code device false e told k = k
 arrival_keeps plan S agent f length code device true e told k =
-    deed_keeps plan (Arrive device (arrival_info S agent f length code device) (arrival_place plan S f length device)) (do_deed plan (Count_arrival agent) S)
+    deed_keeps plan (Arrive (object_id device) (arrival_info S agent f length code device) (arrival_place plan S f length device)) (do_deed plan (CountArrival agent) S)
     (both_left _ true (arrival_if_live plan S agent f length code device true e)) (λ _. told refl) k
 
 -- ---- completions
@@ -131,7 +134,7 @@ pub record Completing {A : Type 0} (plan : Plan) (S : State A) (e : Event) (r : 
   pub ready : (is_closing (place_of S.requests r) || is_given S r) ≡ true
   pub done : (do_deeds plan (deeds plan S e) S).requests ≡ requests.move_to S.requests r place.Done
 
-complete_changes : {A : Type 0} (plan : Plan) (S : State A) (r : ℕ) → (do_deed plan (Complete_request r) S).requests ≡ requests.move_to S.requests r place.Done
+complete_changes : {A : Type 0} (plan : Plan) (S : State A) (r : ℕ) → (do_deed plan (CompleteRequest (object_id r)) S).requests ≡ requests.move_to S.requests r place.Done
 complete_changes {A} plan S r = ap (λ (T : State A). T.requests) (asking_deletes (record (give_up S r) { requests = requests.complete S.requests r }) r).rest
 
 completing_call : {A : Type 0} (plan : Plan) (m : Meaning A) (S : State A) (k : Cpu) (n : ℕ) (a b x : Arg) (v : Value)

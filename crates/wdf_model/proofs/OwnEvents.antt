@@ -17,13 +17,14 @@ use Rattle.wdf_base.specs.declared.frame.Intent.{Intent}
 use Rattle.wdf_base.specs.declared.frame.Intent.TheVariants as intent
 use Rattle.wdf_base.specs.declared.words.TheConstants.{FAULTS}
 use Rattle.wdf_base.specs.Same.{same_event, same_option}
+use Rattle.wdf_model.specs.Ids.{cpu_of}
 use Rattle.wdf_model.specs.parts.Cpus.{frame_of, top}
 use Rattle.wdf_model.specs.State.{State}
 use Rattle.wdf_model.specs.rules.Deeds.{do_deeds}
 use Rattle.wdf_model.specs.rules.Script.{intent_of}
 use Rattle.wdf_model.specs.rules.Faults.{View, fault_of, holds_of}
 use Rattle.wdf_model.specs.rules.Calls.{is_met, outcome, is_met_then}
-use Rattle.wdf_model.specs.rules.Steps.{cpu_of, event_of_frame, event_of_top, fault_event, intent_event, is_own_event, own_event, spends, view_of}
+use Rattle.wdf_model.specs.rules.Steps.{event_of_frame, event_of_top, fault_event, intent_event, is_own_event, own_event, spends, view_of}
 use Rattle.wdf_model.proofs.Sames.{did_same, end_same, waiting_same, woke_same}
 
 -- ---- no fault

@@ -9,7 +9,10 @@ ghost use Rattle.wdf_model.specs.parts.Cpus.{top};
 ghost use Rattle.wdf_model.specs.State.{State};
 ghost use Rattle.wdf_model.specs.rules.Steps.{after};
 ghost use Rattle.wdf_base.specs.declared.event.Fault.{Fault};
-ghost use Rattle.wdf_model.specs.rules.Deeds.{Ask_deletion, Deed, counted, do_deed, do_deeds};
+ghost use Rattle.wdf_model.specs.Ids.{object_id};
+ghost use Rattle.wdf_model.specs.declared.deed.Deed.{Deed};
+ghost use Rattle.wdf_model.specs.declared.deed.Deed.TheVariants.{AskDeletion};
+ghost use Rattle.wdf_model.specs.rules.Deeds.{counted, do_deed, do_deeds};
 ghost use Rattle.wdf_model.specs.rules.Ready.{ready, state_after};
 ghost use Rattle.wdf_model.specs.laws.FactsOfEvents.{IsTick, MovesOnlyFrame, touches_gone};
 
@@ -47,7 +50,7 @@ pub fn fault_ends_the_run<A>()
 #[tactic(auto, using(crate::proofs::Deletion::asking_twice))]
 pub fn deletion_is_asked_once<A>()
     ensures { (plan : Plan) (S : State A) (o : ℕ)
-        → do_deed plan (Ask_deletion o) (do_deed plan (Ask_deletion o) S) ≡ do_deed plan (Ask_deletion o) S }
+        → do_deed plan (AskDeletion (object_id o)) (do_deed plan (AskDeletion (object_id o)) S) ≡ do_deed plan (AskDeletion (object_id o)) S }
 {}
 
 /// To count an event, and let the agents hear of it, before its deeds or after them is the same.

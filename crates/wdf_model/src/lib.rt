@@ -2,6 +2,7 @@
 //! what may follow in a state, and what an event changes; and runs, over any machine.
 #![tactic(auto)]
 
+mod deed;
 mod entries;
 mod enums;
 pub mod facts_of_events;
@@ -11,6 +12,7 @@ pub mod laws_of_runs;
 mod room;
 pub mod worked;
 
+pub use deed::Deed;
 pub use entries::{
     CELLS, DeviceAction, DevicePower, Held, HeldLevel, Holding, Node, QueueControl, QueuePower,
     Request, Running, Sending, SentRequest, Timed,

@@ -1,3 +1,2 @@
-pub mod Deed
 pub mod Inside
 pub mod List

@@ -1,5 +1,5 @@
 //! What each deed does: one row for each, one act of one part in most.
-ghost use Rattle.std.specs.Prelude.{◌≡◌, ◌+◌, ◌<◌, ◌^◌, suc, true, None, length, map};
+ghost use Rattle.std.specs.Prelude.{◌≡◌, ◌+◌, ◌<◌, ◌^◌, suc, true, None, length};
 ghost use Rattle.std.specs.Option.{option_to_list};
 ghost use Rattle.wdf_base.specs.declared.object.Place.TheVariants as place;
 ghost use Rattle.wdf_model.specs.parts.Requests.{place_of};
@@ -8,20 +8,19 @@ ghost use Rattle.wdf_model.specs.parts.Targets.{sending_of, takes_more};
 ghost use Rattle.wdf_model.specs.rules.Deeds as deeds;
 ghost use Rattle.wdf_model.specs.Tables.{change_at, entry};
 ghost use Rattle.wdf_room.specs.Room.{AreDoable, IsDoable, MayGiveUp};
-ghost use Rattle.wdf_parts.specs.Deed.{as_deed};
 
-use crate::deed::Deed;
 use crate::list::Deeds;
 use crate::parts::Parts;
 use wdf_base::{Agent, ObjectId, Place, Status};
 use wdf_maps::{entry_at, put_at};
+use wdf_model::Deed;
 use wdf_plans::IndexedPlan;
 
 impl<A: Agent> Parts<A> {
     /// Does a deed that can be done.
     pub fn do_deed(&mut self, plan: &IndexedPlan, deed: Deed)
-        requires { IsDoable plan.now (as_deed deed) self.old }
-        ensures { self.new ≡ deeds.do_deed plan.now (as_deed deed) self.old }
+        requires { IsDoable plan.now deed self.old }
+        ensures { self.new ≡ deeds.do_deed plan.now deed self.old }
     {
         match deed {
             Deed::Create {
@@ -203,8 +202,8 @@ impl<A: Agent> Parts<A> {
 
     /// Does a deed, if there is one.
     fn do_if_any(&mut self, plan: &IndexedPlan, deed: Option<Deed>)
-        requires { AreDoable plan.now (map as_deed (option_to_list deed)) self.old }
-        ensures { self.new ≡ deeds.do_deeds plan.now (map as_deed (option_to_list deed)) self.old }
+        requires { AreDoable plan.now (option_to_list deed) self.old }
+        ensures { self.new ≡ deeds.do_deeds plan.now (option_to_list deed) self.old }
     {
         if let Some(deed) = deed {
             self.do_deed(plan, deed);

@@ -8,7 +8,7 @@ ghost use Rattle.wdf_room.specs.Room.{MayPurge};
 
 use crate::parts::Parts;
 use wdf_base::{Agent, ObjectId};
-use wdf_model::Mode;
+use wdf_model::{Deed, Mode};
 use wdf_plans::IndexedPlan;
 
 impl<A: Agent> Parts<A> {
@@ -30,7 +30,7 @@ impl<A: Agent> Parts<A> {
     /// A queue is purged: what waits in it is cancelled in it, from the front on. (KMDF)
     pub(crate) fn purge(&mut self, plan: &IndexedPlan, q: ObjectId)
         requires { MayPurge self.old q.0 }
-        ensures { self.new ≡ deeds.do_deed plan.now (deeds.Purge_queue q.0) self.old }
+        ensures { self.new ≡ deeds.do_deed plan.now (Deed.PurgeQueue q) self.old }
     {
         self.set_mode(q, Mode::Purged);
         'waiting: while let Some(r) = self.head(q) {

@@ -7,6 +7,7 @@ ghost use Rattle.wdf_room.specs.Room.{IsQueue, IsRequest, MayEnter, MayGiveUp, M
 
 use crate::parts::Parts;
 use wdf_base::{Agent, ObjectId, Place};
+use wdf_model::Deed;
 use wdf_plans::IndexedPlan;
 
 impl<A: Agent> Parts<A> {
@@ -62,7 +63,7 @@ impl<A: Agent> Parts<A> {
     pub(crate) fn present(&mut self, plan: &IndexedPlan, q: ObjectId, r: ObjectId)
         requires front { queues_of_state.front self.old.queues q.0 ≡ Some r.0 }
         requires hold { MayHold self.old q.0 r.0 }
-        ensures { self.new ≡ deeds.do_deed plan.now (deeds.Present q.0 r.0) self.old }
+        ensures { self.new ≡ deeds.do_deed plan.now (Deed.Present q r) self.old }
     {
         let _front = self.queues.take(q);
         self.requests.move_to(r, Place::Owned);
@@ -72,7 +73,7 @@ impl<A: Agent> Parts<A> {
     /// A request that returns from a queue becomes Owned.
     pub(crate) fn receive(&mut self, plan: &IndexedPlan, q: ObjectId, r: ObjectId)
         requires { MayHold self.old q.0 r.0 }
-        ensures { self.new ≡ deeds.do_deed plan.now (deeds.Receive q.0 r.0) self.old }
+        ensures { self.new ≡ deeds.do_deed plan.now (Deed.Receive q r) self.old }
     {
         self.queues.hold(q);
         self.requests.move_to(r, Place::Owned);

@@ -4,13 +4,11 @@
 
 mod acts;
 mod closing;
-mod deed;
 mod giving;
 mod list;
 mod objects;
 mod parts;
 mod readers;
 
-pub use deed::Deed;
 pub use list::Deeds;
 pub use parts::Parts;

@@ -1,11 +1,10 @@
 //! The deeds of one event, in a buffer that takes no memory.
 ghost use Rattle.std.specs.Prelude.{◌≡◌, ◌∷◌, ◌++◌, ◌<◌, []};
 ghost use Rattle.std.specs.Option.{option_to_list};
-ghost use Rattle.std.specs.Prelude.{map, length};
-ghost use Rattle.wdf_parts.specs.Deed.{as_deed};
+ghost use Rattle.std.specs.Prelude.{length};
 
-use crate::deed::Deed;
 use std::marker::Model;
+use wdf_model::Deed;
 
 /// The deeds of one event, in the order in which they are done: three at most.
 ///
@@ -19,7 +18,7 @@ pub struct Deeds {
 
 impl Model for Deeds {
     ghost use Rattle.std.specs.Prelude.{List};
-    ghost use Rattle.wdf_model.specs.rules.Deeds.{Deed};
+    ghost use Rattle.wdf_model.specs.declared.deed.Deed.{Deed};
 
     ghost Value = { List Deed };
 
@@ -42,7 +41,7 @@ impl Deeds {
 
     /// One deed.
     pub fn one(deed: Deed) -> Deeds
-        ensures { result ≡ as_deed deed ∷ [] }
+        ensures { result ≡ deed ∷ [] }
     {
         Deeds {
             first: Some(deed),
@@ -53,7 +52,7 @@ impl Deeds {
 
     /// One deed and then another.
     pub fn two(first: Deed, second: Deed) -> Deeds
-        ensures { result ≡ as_deed first ∷ as_deed second ∷ [] }
+        ensures { result ≡ first ∷ second ∷ [] }
     {
         Deeds {
             first: Some(first),
@@ -64,7 +63,7 @@ impl Deeds {
 
     /// A deed, if there is one.
     pub fn if_any(deed: Option<Deed>) -> Deeds
-        ensures { result ≡ map as_deed (option_to_list deed) }
+        ensures { result ≡ option_to_list deed }
     {
         Deeds {
             first: deed,
@@ -75,7 +74,7 @@ impl Deeds {
 
     /// Three deeds, of which each may be wanting.
     pub fn three(first: Option<Deed>, second: Option<Deed>, third: Option<Deed>) -> Deeds
-        ensures { result ≡ map as_deed (option_to_list first ++ option_to_list second ++ option_to_list third) }
+        ensures { result ≡ option_to_list first ++ option_to_list second ++ option_to_list third }
     {
         Deeds {
             first,

@@ -32,7 +32,7 @@ use Rattle.wdf_model.specs.Tables.{same_id}
 use Rattle.wdf_model.specs.parts.Tree.{gone, is_asked, is_cleaned, is_live, life_of, may_destroy}
 use Rattle.wdf_model.specs.parts.Cpus.{all_frames, top}
 use Rattle.wdf_model.specs.State.{State, is_proper}
-use Rattle.wdf_model.specs.rules.Deeds.{Deed}
+use Rattle.wdf_model.specs.declared.deed.Deed.{Deed}
 use Rattle.wdf_model.specs.rules.Starts.{effect_for, life_fits, may_start, rank_ready, rank_ready_for}
 use Rattle.wdf_model.specs.rules.Steps.{deeds, is_cpu, may}
 use Rattle.wdf_model.specs.rules.Ready.{IsRunOf, ready, state_after}

@@ -5,7 +5,8 @@ ghost use Rattle.wdf_model.specs.parts.Tree.{is_live, life_of};
 ghost use Rattle.wdf_model.specs.rules.Posts as posts;
 
 use wdf_base::{Agent, Handle, Life, Mark, ObjectId, Place, RequestForm, RequestInfo, Status};
-use wdf_parts::{Deed, Deeds, Parts};
+use wdf_model::Deed;
+use wdf_parts::{Deeds, Parts};
 use wdf_plans::IndexedPlan;
 
 /// The number of the name that a request which arrives prints as: `req`.

@@ -2,10 +2,10 @@
 ghost use Rattle.std.specs.Prelude.{◌≡◌, ◌∷◌, ◌||◌, [], option_map};
 ghost use Rattle.wdf_model.specs.parts.Requests as definition;
 ghost use Rattle.wdf_model.specs.rules.Posts as posts;
-ghost use Rattle.wdf_parts.specs.Deed.{as_deed};
 
 use wdf_base::{Agent, ObjectId, Place};
-use wdf_parts::{Deed, Deeds, Parts};
+use wdf_model::Deed;
+use wdf_parts::{Deeds, Parts};
 use wdf_request::Requests;
 
 /// Whether a request is completed, or about to be.
@@ -73,7 +73,7 @@ pub(crate) fn cancel_reaches<A: Agent>(
 /// What the cancel of a request does: one that waits is cancelled in its queue, of another only the mark
 /// changes. (KMDF)
 fn cancel_at(place: Place, r: ObjectId) -> Deed
-    ensures { as_deed result ∷ [] ≡ posts.cancel_at place r.0 }
+    ensures { result ∷ [] ≡ posts.cancel_at place r.0 }
 {
     match place {
         Place::Queued(q) => Deed::Withdraw {

@@ -8,7 +8,8 @@ use crate::arrivals::{arrival_answer, arrival_deeds};
 use crate::cancels::{cancel_deeds, cancel_reaches};
 use crate::fitting::post_fits;
 use wdf_base::{Agent, Handle, Post, RequestForm};
-use wdf_parts::{Deed, Deeds, Parts};
+use wdf_model::Deed;
+use wdf_parts::{Deeds, Parts};
 use wdf_plans::IndexedPlan;
 use wdf_same::{same_option_handle, same_post};
 

@@ -17,7 +17,9 @@ use Rattle.wdf_model.specs.parts.Power as power
 use Rattle.wdf_model.specs.parts.Pnp.{Pnp}
 use Rattle.wdf_model.specs.parts.Interrupts.{Interrupts}
 use Rattle.wdf_model.specs.State.{State, is_with_driver}
-use Rattle.wdf_model.specs.rules.Deeds.{Deed, Arrive, Ask_deletion, Push_frame, Pop_frame, Present, Receive, Requeue, Forward, Give_back, Send_request, Complete_request, Purge_queue, Close_returning, Close_device, Ask_device, Take_step, End_step, Advance_power, Enable_interrupt, Disable_interrupt, arrive_at, close_queue, close_returning, do_deed, do_deeds, give_up, give_up_if, withdraw}
+use Rattle.wdf_model.specs.declared.deed.Deed.{Deed}
+use Rattle.wdf_model.specs.declared.deed.Deed.TheVariants.{Arrive, AskDeletion, PushFrame, PopFrame, Present, Receive, Requeue, Forward, GiveBack, SendRequest, CompleteRequest, PurgeQueue, CloseReturning, CloseDevice, AskDevice, TakeStep, EndStep, AdvancePower, EnableInterrupt, DisableInterrupt}
+use Rattle.wdf_model.specs.rules.Deeds.{arrive_at, close_queue, close_returning, do_deed, do_deeds, give_up, give_up_if, withdraw}
 use Rattle.wdf_model.proofs.Tests.{both_left, both_right}
 use Rattle.wdf_agreements.proofs.Stays.{asks_all, gives_up, gives_up_if, queues_closed, returns_closed, withdraws}
 use Rattle.wdf_agreements.proofs.Sound.{AllSound, Sound}
@@ -83,19 +85,19 @@ arrived S device info (place.Queued q) = refl
 arrived S device info _ = refl
 
 devices_by : {A : Type 0} (plan : Plan) (d : Deed) (S : State A) → is_moving d ≡ false → devices_in (do_deed plan d S) ≡ devices_in S
-devices_by plan (Arrive device info p) S h = arrived S device info p
-devices_by plan (Ask_deletion o) S h = asks_all devices_in (λ S T D W U. refl) (subtree S.tree o) S
-devices_by plan (Present q r) S h = held_by S.power r q (is_managed plan q)
-devices_by plan (Receive q r) S h = held_by S.power r q (is_managed plan q)
-devices_by plan (Requeue r q) S h = given S r
-devices_by plan (Forward r q) S h = given S r
-devices_by plan (Give_back r q) S h = given S r
-devices_by plan (Send_request r t forget) S h = given_if S forget r
-devices_by plan (Complete_request r) S h = asks_all devices_in (λ S T D W U. refl) (subtree (give_up S r).tree r) (record (give_up S r) { requests = requests.complete S.requests r }) ∙ given S r
-devices_by plan (Purge_queue q) S h = withdrawn plan q (waiting_in S.queues q) (record S { control = control.set_mode S.control q mode.Purged })
-devices_by plan (Close_returning d) S h = returned (managed_queues plan d) S
-devices_by plan (Close_device d) S h = closed (queues_of plan d) (record S { control = control.shut S.control d })
-devices_by plan (Advance_power d s) S h = absurd (let z : ⊥ = cc in z)
+devices_by plan (Arrive device info p) S h = arrived S device.0 info p
+devices_by plan (AskDeletion o) S h = asks_all devices_in (λ S T D W U. refl) (subtree S.tree o.0) S
+devices_by plan (Present q r) S h = held_by S.power r.0 q.0 (is_managed plan q.0)
+devices_by plan (Receive q r) S h = held_by S.power r.0 q.0 (is_managed plan q.0)
+devices_by plan (Requeue r q) S h = given S r.0
+devices_by plan (Forward r q) S h = given S r.0
+devices_by plan (GiveBack r q) S h = given S r.0
+devices_by plan (SendRequest r t forget) S h = given_if S forget r.0
+devices_by plan (CompleteRequest r) S h = asks_all devices_in (λ S T D W U. refl) (subtree (give_up S r.0).tree r.0) (record (give_up S r.0) { requests = requests.complete S.requests r.0 }) ∙ given S r.0
+devices_by plan (PurgeQueue q) S h = withdrawn plan q.0 (waiting_in S.queues q.0) (record S { control = control.set_mode S.control q.0 mode.Purged })
+devices_by plan (CloseReturning d) S h = returned (managed_queues plan d.0) S
+devices_by plan (CloseDevice d) S h = closed (queues_of plan d.0) (record S { control = control.shut S.control d.0 })
+devices_by plan (AdvancePower d s) S h = absurd (let z : ⊥ = cc in z)
 devices_by plan _ S h = refl
 
 -- ---- what devices have left, and their interrupts
@@ -111,28 +113,28 @@ rest_arrived S device info (place.Queued q) = refl
 rest_arrived S device info _ = refl
 
 rest_by : {A : Type 0} (plan : Plan) (d : Deed) (S : State A) → is_moving d ≡ false → rest_in (do_deed plan d S) ≡ rest_in S
-rest_by plan (Arrive device info p) S h = rest_arrived S device info p
-rest_by plan (Ask_deletion o) S h = asks_all rest_in (λ S T D W U. refl) (subtree S.tree o) S
-rest_by plan (Requeue r q) S h = gives_up rest_in (λ S Q R P. refl) S r
-rest_by plan (Forward r q) S h = gives_up rest_in (λ S Q R P. refl) S r
-rest_by plan (Give_back r q) S h = gives_up rest_in (λ S Q R P. refl) S r
-rest_by plan (Send_request r t forget) S h = gives_up_if rest_in (λ S Q R P. refl) S forget r
-rest_by plan (Complete_request r) S h = asks_all rest_in (λ S T D W U. refl) (subtree (give_up S r).tree r) (record (give_up S r) { requests = requests.complete S.requests r }) ∙ gives_up rest_in (λ S Q R P. refl) S r
-rest_by plan (Purge_queue q) S h = withdraws rest_in (λ S Q R P. refl) plan q (waiting_in S.queues q) (record S { control = control.set_mode S.control q mode.Purged })
-rest_by plan (Close_returning d) S h = returns_closed rest_in (λ S Q R P. refl) (managed_queues plan d) S
-rest_by plan (Close_device d) S h = queues_closed rest_in (λ S Q R P. refl) (queues_of plan d) (record S { control = control.shut S.control d })
-rest_by plan (Ask_device d a) S h = absurd (let z : ⊥ = cc in z)
-rest_by plan (Take_step d) S h = absurd (let z : ⊥ = cc in z)
-rest_by plan (End_step d s v) S h = absurd (let z : ⊥ = cc in z)
-rest_by plan (Enable_interrupt i) S h = absurd (let z : ⊥ = cc in z)
-rest_by plan (Disable_interrupt i) S h = absurd (let z : ⊥ = cc in z)
+rest_by plan (Arrive device info p) S h = rest_arrived S device.0 info p
+rest_by plan (AskDeletion o) S h = asks_all rest_in (λ S T D W U. refl) (subtree S.tree o.0) S
+rest_by plan (Requeue r q) S h = gives_up rest_in (λ S Q R P. refl) S r.0
+rest_by plan (Forward r q) S h = gives_up rest_in (λ S Q R P. refl) S r.0
+rest_by plan (GiveBack r q) S h = gives_up rest_in (λ S Q R P. refl) S r.0
+rest_by plan (SendRequest r t forget) S h = gives_up_if rest_in (λ S Q R P. refl) S forget r.0
+rest_by plan (CompleteRequest r) S h = asks_all rest_in (λ S T D W U. refl) (subtree (give_up S r.0).tree r.0) (record (give_up S r.0) { requests = requests.complete S.requests r.0 }) ∙ gives_up rest_in (λ S Q R P. refl) S r.0
+rest_by plan (PurgeQueue q) S h = withdraws rest_in (λ S Q R P. refl) plan q.0 (waiting_in S.queues q.0) (record S { control = control.set_mode S.control q.0 mode.Purged })
+rest_by plan (CloseReturning d) S h = returns_closed rest_in (λ S Q R P. refl) (managed_queues plan d.0) S
+rest_by plan (CloseDevice d) S h = queues_closed rest_in (λ S Q R P. refl) (queues_of plan d.0) (record S { control = control.shut S.control d.0 })
+rest_by plan (AskDevice d a) S h = absurd (let z : ⊥ = cc in z)
+rest_by plan (TakeStep d) S h = absurd (let z : ⊥ = cc in z)
+rest_by plan (EndStep d s v) S h = absurd (let z : ⊥ = cc in z)
+rest_by plan (EnableInterrupt i) S h = absurd (let z : ⊥ = cc in z)
+rest_by plan (DisableInterrupt i) S h = absurd (let z : ⊥ = cc in z)
 rest_by plan _ S h = refl
 
 -- ---- frames
 
 goes_by : {A : Type 0} (plan : Plan) (d : Deed) (S : State A) → is_moving d ≡ false → Sound plan d S → GoOn S.cpus (do_deed plan d S).cpus
-goes_by plan (Push_frame cpu f frame level) S h s = absurd (let z : ⊥ = cc in z)
-goes_by plan (Pop_frame cpu) S h s = (frames_by plan (Pop_frame cpu) S s).0
+goes_by plan (PushFrame cpu f frame level) S h s = absurd (let z : ⊥ = cc in z)
+goes_by plan (PopFrame cpu) S h s = (frames_by plan (PopFrame cpu) S s).0
 goes_by plan d S h s = (frames_by plan d S s).0
 
 -- ---- deeds

@@ -34,7 +34,10 @@ use Rattle.wdf_model.specs.parts.Pnp as pnp
 use Rattle.wdf_model.specs.parts.Interrupts.{Interrupts, is_enabled}
 use Rattle.wdf_model.specs.parts.Interrupts as interrupts
 use Rattle.wdf_model.specs.State.{State, declared_in, declares_in, is_proper}
-use Rattle.wdf_model.specs.rules.Deeds.{Deed, Advance_power, Ask_device, End_step, Go_on, Pop_frame, Push_frame, Take_step, do_deed, do_deeds}
+use Rattle.wdf_model.specs.Ids.{frame_id, irql_of, object_id}
+use Rattle.wdf_model.specs.declared.deed.Deed.{Deed}
+use Rattle.wdf_model.specs.declared.deed.Deed.TheVariants.{AdvancePower, AskDevice, EndStep, GoOn, PopFrame, PushFrame, TakeStep}
+use Rattle.wdf_model.specs.rules.Deeds.{do_deed, do_deeds}
 use Rattle.wdf_model.specs.rules.Script.{intent_of}
 use Rattle.wdf_model.specs.rules.Calls.{outcome, second_deeds}
 use Rattle.wdf_model.specs.rules.Starts.{effect, end_deeds, end_of_step, handle_id, interrupt_of_step, is_ready_for, may_pass, may_start, new_frame, next_number, rank_ready, rank_ready_for, release_if_any, stage_deeds, stage_effect, stage_ready, start_deeds, start_effect, step_of, step_ready, take_if_any}
@@ -105,7 +108,7 @@ module _ {A : Type 0} (plan : Plan) (m : Meaning A) (S : State A) (es : List Eve
     takes = take_if_any f (lock_of_callback plan c o.id.0 (declared_in plan S o.id.0))
 
     abbrev pushes : Option Handle → Deed
-    pushes r = Push_frame cpu.0 f (new_frame plan S c o r) (callback_irql plan c o.id.0)
+    pushes r = PushFrame cpu (frame_id f) (new_frame plan S c o r) (irql_of (callback_irql plan c o.id.0))
 
     starts_other : (r : Option Handle) → is_sequence (row_of c).rank ≡ false → AllSound plan (start_deeds plan S cpu.0 c o r) S → Kept plan (do_deeds plan (start_deeds plan S cpu.0 c o r) S) (es ++ event.Start cpu c o r ∷ [])
     starts_other r other sound =
@@ -128,14 +131,14 @@ module _ {A : Type 0} (plan : Plan) (m : Meaning A) (S : State A) (es : List Eve
         let n : ℕ = nearest_device S.tree o.id.0 in
         let j : Option Handle = interrupt_of_step plan S o.id.0 in
         let frame : Frame = new_frame plan S c o None in
-        let ds : start_effect plan S cpu.0 c o.id.0 None ≡ Take_step n ∷ [] = ap (λ x. effect plan S x cpu.0 c o.id.0) (sequence_is (row_of c).rank is) in
-        let s : AllSound plan (Take_step n ∷ pushes None ∷ takes) S = subst (λ (x : List Deed). AllSound plan (x ++ pushes None ∷ takes) S) ds sound in
+        let ds : start_effect plan S cpu.0 c o.id.0 None ≡ TakeStep (object_id n) ∷ [] = ap (λ x. effect plan S x cpu.0 c o.id.0) (sequence_is (row_of c).rank is) in
+        let s : AllSound plan (TakeStep (object_id n) ∷ pushes None ∷ takes) S = subst (λ (x : List Deed). AllSound plan (x ++ pushes None ∷ takes) S) ds sound in
         let now : (same_option same_step (next_step S.pnp n) (Some (step.Run c j)) && not (is_running_step S.pnp n)) ≡ true = both_left (same_option same_step (next_step S.pnp n) (Some (step.Run c j)) && not (is_running_step S.pnp n)) _ ready in
         let next : steps_left S.pnp n ≡ step.Run c j ∷ drop 1 (steps_left S.pnp n) = found_run (steps_left S.pnp n) c j (both_left _ (not (is_running_step S.pnp n)) now) in
         let idle : running_step S.pnp n ≡ None = not_running (running_step S.pnp n) (not_true (is_running_step S.pnp n) (both_right (same_option same_step (next_step S.pnp n) (Some (step.Run c j))) (not (is_running_step S.pnp n)) now)) in
         let there : is_gone (life_of S.tree o.id.0) ≡ false = s.1.0.0 in
         let own : is_power_callback c ≡ true → o.id.0 ≡ n = λ p. sym (own_device_of plan S o.id.0 known.known.declared there (declares_device plan c (declared_in plan S o.id.0) resolved p declares)) in
-        let T : State A = do_deed plan (Take_step n) S in
+        let T : State A = do_deed plan (TakeStep (object_id n)) S in
         let W : State A = do_deed plan (pushes None) T in
         let b : Begins S.cpus W.cpus f frame = frames_by plan (pushes None) T s.1.0 in
         let hold : AllHold plan (pnp.taken S.pnp n) S.power.devices S.interrupts (es ++ e ∷ []) = hold_begun plan es S.pnp S.power.devices S.interrupts k.hold n c j cpu o None idle next (λ x. own (power_is c callback.EvtDeviceD0Exit x refl)) in
@@ -162,7 +165,7 @@ module _ {A : Type 0} (plan : Plan) (m : Meaning A) (S : State A) (es : List Eve
 
     -- ---- callbacks end
 
-    step_none : (x : Rank) (v : Value) → is_sequence x ≡ false → none_moves (Pop_frame cpu.0 ∷ end_of_step plan S x c o.id.0 v) ≡ true
+    step_none : (x : Rank) (v : Value) → is_sequence x ≡ false → none_moves (PopFrame cpu ∷ end_of_step plan S x c o.id.0 v) ≡ true
     step_none rank.Sequence v h = absurd (let z : ⊥ = cc in z)
     step_none _ v h = refl
 
@@ -173,7 +176,7 @@ module _ {A : Type 0} (plan : Plan) (m : Meaning A) (S : State A) (es : List Eve
     ends_other : (v : Value) → is_sequence (row_of c).rank ≡ false → AllSound plan (end_deeds plan S cpu.0 c o.id.0 v) S → Kept plan (do_deeds plan (end_deeds plan S cpu.0 c o.id.0 v) S) (es ++ event.End cpu c o v ∷ [])
     ends_other v other sound =
         quiet plan S es (event.End cpu c o v) (end_deeds plan S cpu.0 c o.id.0 v)
-        (none_behind (release_if_any (lock_of_callback plan c o.id.0 (declared_in plan S o.id.0))) (Pop_frame cpu.0 ∷ end_of_step plan S (row_of c).rank c o.id.0 v) (releasing_none (lock_of_callback plan c o.id.0 (declared_in plan S o.id.0))) (step_none (row_of c).rank v other))
+        (none_behind (release_if_any (lock_of_callback plan c o.id.0 (declared_in plan S o.id.0))) (PopFrame cpu ∷ end_of_step plan S (row_of c).rank c o.id.0 v) (releasing_none (lock_of_callback plan c o.id.0 (declared_in plan S o.id.0))) (step_none (row_of c).rank v other))
         sound (λ d i. end_elsewhere cpu c o v d i false (not_entry c other) (λ x. absurd (let z : ⊥ = cc in z))) k
 
     ends_step : (v : Value) → is_sequence (row_of c).rank ≡ true → IsEnd plan S cpu.0 c o v → AllSound plan (end_deeds plan S cpu.0 c o.id.0 v) S → Kept plan (do_deeds plan (end_deeds plan S cpu.0 c o.id.0 v) S) (es ++ event.End cpu c o v ∷ [])
@@ -183,13 +186,13 @@ module _ {A : Type 0} (plan : Plan) (m : Meaning A) (S : State A) (es : List Eve
         let g : ℕ = t.frame in
         let l : Option LockRef = lock_of_callback plan c o.id.0 (declared_in plan S o.id.0) in
         let ds : List Deed = release_if_any l in
-        let tail : end_of_step plan S (row_of c).rank c o.id.0 v ≡ End_step n (step_of plan S c o.id.0) v ∷ [] = ap (λ x. end_of_step plan S x c o.id.0 v) (sequence_is (row_of c).rank is) in
+        let tail : end_of_step plan S (row_of c).rank c o.id.0 v ≡ EndStep (object_id n) (step_of plan S c o.id.0) v ∷ [] = ap (λ x. end_of_step plan S x c o.id.0 v) (sequence_is (row_of c).rank is) in
         let V : State A = do_deeds plan ds S in
-        let W : State A = do_deed plan (Pop_frame cpu.0) V in
-        let X : State A = do_deed plan (End_step n (step_of plan S c o.id.0) v) W in
+        let W : State A = do_deed plan (PopFrame cpu) V in
+        let X : State A = do_deed plan (EndStep (object_id n) (step_of plan S c o.id.0) v) W in
         let same : V.cpus ≡ S.cpus = cpus_same l in
-        let s : AllSound plan (Pop_frame cpu.0 ∷ end_of_step plan S (row_of c).rank c o.id.0 v) V = sound_after plan ds (Pop_frame cpu.0 ∷ end_of_step plan S (row_of c).rank c o.id.0 v) S sound in
-        let kv : Kept plan V es = calm_keeps plan S V es (deeds_calm plan ds S (releasing_none l) (sound_before plan ds (Pop_frame cpu.0 ∷ end_of_step plan S (row_of c).rank c o.id.0 v) S sound)) k.hold k.frames in
+        let s : AllSound plan (PopFrame cpu ∷ end_of_step plan S (row_of c).rank c o.id.0 v) V = sound_after plan ds (PopFrame cpu ∷ end_of_step plan S (row_of c).rank c o.id.0 v) S sound in
+        let kv : Kept plan V es = calm_keeps plan S V es (deeds_calm plan ds S (releasing_none l) (sound_before plan ds (PopFrame cpu ∷ end_of_step plan S (row_of c).rank c o.id.0 v) S sound)) k.hold k.frames in
         let is_top : top V.cpus cpu.0 ≡ Some g = ap (λ C. top C cpu.0) same ∙ t.about.top in
         let there : 1 ≤ on V.cpus g = top_on V.cpus cpu.0 g is_top in
         let there_first : 1 ≤ on S.cpus g = top_on S.cpus cpu.0 g t.about.top in
@@ -201,7 +204,7 @@ module _ {A : Type 0} (plan : Plan) (m : Meaning A) (S : State A) (es : List Eve
         let here : running_step V.pnp n ≡ Some (step.Run c runs.0) = sym (ap (running_step V.pnp) at) ∙ runs.1 ∙ ap (λ x. Some (step.Run x runs.0)) calls in
         let enters : same_callback c callback.EvtDeviceD0Entry ≡ true → o.id.0 ≡ n
         = λ x. ap (λ (y : Handle). y.id.0) t.object ∙ sym (ap (λ (a : Frame). a.object.id.0) frame) ∙ kv.frames.entries g there (ap (λ y. same_callback y callback.EvtDeviceD0Entry) calls ∙ x) ∙ at in
-        let go : GoOn V.cpus W.cpus = (frames_by plan (Pop_frame cpu.0) V s.0).0 in
+        let go : GoOn V.cpus W.cpus = (frames_by plan (PopFrame cpu) V s.0).0 in
         let alone : (x : ℕ) → 1 ≤ on W.cpus x → is_step (frame_of W.cpus x) ≡ true → (frame_of V.cpus x).device.id.0 ≡ n → ⊥
         = λ x on_ is_ d.
         let eq : x ≡ g = kv.frames.single x g (go x on_).0 there (was_step V.cpus W.cpus V.pnp V.pnp go kv.frames x on_ is_) step_ (d ∙ sym at) in
@@ -217,8 +220,8 @@ module _ {A : Type 0} (plan : Plan) (m : Meaning A) (S : State A) (es : List Eve
             | inr d ↦ ap (λ (q : Sequence). q.running) (entry_put_other no_sequence V.pnp.devices n (frame_of V.cpus x).device.id.0 (record (sequence_of V.pnp n) { left = pnp.left_after (sequence_of V.pnp n) (step_of plan S c o.id.0) v; running = None }) d)
           ]);
         } in
-        subst (λ (Y : State A). Kept plan Y (es ++ e ∷ [])) (sym (in_turn plan ds (Pop_frame cpu.0 ∷ end_of_step plan S (row_of c).rank c o.id.0 v) S))
-        (subst (λ (x : List Deed). Kept plan (do_deeds plan (Pop_frame cpu.0 ∷ x) V) (es ++ e ∷ [])) (sym tail) final)
+        subst (λ (Y : State A). Kept plan Y (es ++ e ∷ [])) (sym (in_turn plan ds (PopFrame cpu ∷ end_of_step plan S (row_of c).rank c o.id.0 v) S))
+        (subst (λ (x : List Deed). Kept plan (do_deeds plan (PopFrame cpu ∷ x) V) (es ++ e ∷ [])) (sym tail) final)
 
     ends_by : (v : Value) (b : Bool) → is_sequence (row_of c).rank ≡ b → IsEnd plan S cpu.0 c o v → AllSound plan (end_deeds plan S cpu.0 c o.id.0 v) S → Kept plan (do_deeds plan (end_deeds plan S cpu.0 c o.id.0 v) S) (es ++ event.End cpu c o v ∷ [])
     ends_by v true is t sound = ends_step v is t sound
@@ -238,15 +241,15 @@ module _ {A : Type 0} (plan : Plan) (m : Meaning A) (S : State A) (es : List Eve
     pub interrupts : X.interrupts ≡ listed s j S.interrupts
     pub frames : GoOn S.cpus X.cpus
 
-  by_calm : (n : ℕ) (s : Stage) (j : Option Handle) (X : State A) → listed s j S.interrupts ≡ S.interrupts → Calm (do_deeds plan (Take_step n ∷ Advance_power n (step.Pass s j) ∷ []) S) X → Staged n s j X
+  by_calm : (n : ℕ) (s : Stage) (j : Option Handle) (X : State A) → listed s j S.interrupts ≡ S.interrupts → Calm (do_deeds plan (TakeStep (object_id n) ∷ AdvancePower (object_id n) (step.Pass s j) ∷ []) S) X → Staged n s j X
   by_calm n s j X same c = record { pnp = c.pnp; devices = c.devices; interrupts = c.interrupts ∙ sym same; frames = c.frames }
 
-  pub staged : (n : ℕ) (s : Stage) (j : Option Handle) → AllSound plan (stage_effect plan n s j) (do_deeds plan (Take_step n ∷ Advance_power n (step.Pass s j) ∷ []) S) → Staged n s j (do_deeds plan (stage_deeds plan n s j) S)
+  pub staged : (n : ℕ) (s : Stage) (j : Option Handle) → AllSound plan (stage_effect plan n s j) (do_deeds plan (TakeStep (object_id n) ∷ AdvancePower (object_id n) (step.Pass s j) ∷ []) S) → Staged n s j (do_deeds plan (stage_deeds plan n s j) S)
   staged n stage.Enabled j sound = record { pnp = refl; devices = refl; interrupts = refl; frames = (calm_same S).frames }
   staged n stage.Disabled j sound = record { pnp = refl; devices = refl; interrupts = refl; frames = (calm_same S).frames }
-  staged n stage.QueuesDown j sound = by_calm n stage.QueuesDown j _ refl (deeds_calm plan (stage_effect plan n stage.QueuesDown j) (do_deeds plan (Take_step n ∷ Advance_power n (step.Pass stage.QueuesDown j) ∷ []) S) refl sound)
-  staged n stage.Closed j sound = by_calm n stage.Closed j _ refl (deeds_calm plan (stage_effect plan n stage.Closed j) (do_deeds plan (Take_step n ∷ Advance_power n (step.Pass stage.Closed j) ∷ []) S) refl sound)
-  staged n stage.Removed j sound = by_calm n stage.Removed j _ refl (deeds_calm plan (stage_effect plan n stage.Removed j) (do_deeds plan (Take_step n ∷ Advance_power n (step.Pass stage.Removed j) ∷ []) S) refl sound)
+  staged n stage.QueuesDown j sound = by_calm n stage.QueuesDown j _ refl (deeds_calm plan (stage_effect plan n stage.QueuesDown j) (do_deeds plan (TakeStep (object_id n) ∷ AdvancePower (object_id n) (step.Pass stage.QueuesDown j) ∷ []) S) refl sound)
+  staged n stage.Closed j sound = by_calm n stage.Closed j _ refl (deeds_calm plan (stage_effect plan n stage.Closed j) (do_deeds plan (TakeStep (object_id n) ∷ AdvancePower (object_id n) (step.Pass stage.Closed j) ∷ []) S) refl sound)
+  staged n stage.Removed j sound = by_calm n stage.Removed j _ refl (deeds_calm plan (stage_effect plan n stage.Removed j) (do_deeds plan (TakeStep (object_id n) ∷ AdvancePower (object_id n) (step.Pass stage.Removed j) ∷ []) S) refl sound)
   staged n _ j sound = record { pnp = refl; devices = refl; interrupts = refl; frames = (calm_same S).frames }
 
   power_here : (P : Power) (n : ℕ) (s : Stage) → entry no_device_power (advance_stage P n s).devices n ≡ power_by s (entry no_device_power P.devices n)
@@ -306,7 +309,7 @@ module _ {A : Type 0} (plan : Plan) (m : Meaning A) (S : State A) (es : List Eve
 
   -- ---- posts
 
-  asks : (n : ℕ) (a : Ask) (e : Event) → busy S.pnp n ≡ false → ((d i : ℕ) → Silent d i e) → Kept plan (do_deeds plan (Ask_device n a ∷ []) S) (es ++ e ∷ [])
+  asks : (n : ℕ) (a : Ask) (e : Event) → busy S.pnp n ≡ false → ((d i : ℕ) → Silent d i e) → Kept plan (do_deeds plan (AskDevice (object_id n) a ∷ []) S) (es ++ e ∷ [])
   asks n a e free silent = record {
     hold = hold_asked plan es S.pnp S.power.devices S.interrupts k.hold n a e free silent;
     frames = frames_kept S.cpus S.cpus S.pnp (pnp.ask S.pnp n a) (calm_same S).frames k.frames (λ x on_ is_. runs_on (frame_of S.cpus x).device.id.0);
@@ -338,13 +341,13 @@ module _ {A : Type 0} (plan : Plan) (m : Meaning A) (S : State A) (es : List Eve
   keeps (event.End cpu c o v) h = ends_by cpu c o v (is_sequence (row_of c).rank) refl (end_tells plan m S cpu c o v h) (all_sound plan m S (event.End cpu c o v) known h)
   keeps (event.Stage n s j) h = stages n s j (both_right (is_proper plan S n) (may_pass plan S n.id.0 s j) h) (all_sound plan m S (event.Stage n s j) known h)
   keeps (event.Posted agent p answer) h = posts agent p answer (event_fits plan m S (event.Posted agent p answer) h) (all_sound plan m S (event.Posted agent p answer) known h)
-  keeps (event.Local cpu line) h = quiet plan S es (event.Local cpu line) (deeds plan S (event.Local cpu line)) (by_top_none (λ g frame. Go_on g (stepped frame (intent_of plan frame)) ∷ []) (λ g frame. refl) (top S.cpus cpu.0)) (all_sound plan m S (event.Local cpu line) known h) (λ d i. record { entered = refl; exit = refl; enabled = refl; disabled = refl; up = refl; down = refl }) k
-  keeps (event.Log cpu v) h = quiet plan S es (event.Log cpu v) (deeds plan S (event.Log cpu v)) (by_top_none (λ g frame. Go_on g (goes_on plan frame) ∷ []) (λ g frame. refl) (top S.cpus cpu.0)) (all_sound plan m S (event.Log cpu v) known h) (λ d i. record { entered = refl; exit = refl; enabled = refl; disabled = refl; up = refl; down = refl }) k
-  keeps (event.Spend cpu n) h = quiet plan S es (event.Spend cpu n) (deeds plan S (event.Spend cpu n)) (by_top_none (λ g frame. Go_on g (spending plan S frame n) ∷ []) (λ g frame. refl) (top S.cpus cpu.0)) (all_sound plan m S (event.Spend cpu n) known h) (λ d i. record { entered = refl; exit = refl; enabled = refl; disabled = refl; up = refl; down = refl }) k
-  keeps (event.Register cpu a r v) h = quiet plan S es (event.Register cpu a r v) (deeds plan S (event.Register cpu a r v)) (by_top_none (λ g frame. Go_on g (answered plan frame (Num v)) ∷ []) (λ g frame. refl) (top S.cpus cpu.0)) (all_sound plan m S (event.Register cpu a r v) known h) (λ d i. record { entered = refl; exit = refl; enabled = refl; disabled = refl; up = refl; down = refl }) k
-  keeps (event.Did cpu c v) h = quiet plan S es (event.Did cpu c v) (deeds plan S (event.Did cpu c v)) (by_top_none (did_deeds plan S cpu.0 c v) (λ g frame. none_behind ((outcome plan S cpu.0 g c).deeds ++ second_deeds g c) (Go_on g (answered plan frame v) ∷ []) (none_behind (outcome plan S cpu.0 g c).deeds (second_deeds g c) (outcome_none plan S cpu.0 g c.kind c.count c.a c.b c.c) (second_none g c.kind c.count c.a c.b c.c)) refl) (top S.cpus cpu.0)) (all_sound plan m S (event.Did cpu c v) known h) (λ d i. record { entered = refl; exit = refl; enabled = refl; disabled = refl; up = refl; down = refl }) k
-  keeps (event.Waiting cpu c) h = quiet plan S es (event.Waiting cpu c) (deeds plan S (event.Waiting cpu c)) (by_top_none (waiting_deeds plan S cpu.0 c) (λ g frame. none_behind (outcome plan S cpu.0 g c).deeds (Go_on g (waiting frame c (outcome plan S cpu.0 g c).answer) ∷ []) (outcome_none plan S cpu.0 g c.kind c.count c.a c.b c.c) refl) (top S.cpus cpu.0)) (all_sound plan m S (event.Waiting cpu c) known h) (λ d i. record { entered = refl; exit = refl; enabled = refl; disabled = refl; up = refl; down = refl }) k
-  keeps (event.Woke cpu c v) h = quiet plan S es (event.Woke cpu c v) (deeds plan S (event.Woke cpu c v)) (by_top_none (woke_deeds plan c v) (λ g frame. none_behind (second_deeds g c) (Go_on g (answered plan frame v) ∷ []) (second_none g c.kind c.count c.a c.b c.c) refl) (top S.cpus cpu.0)) (all_sound plan m S (event.Woke cpu c v) known h) (λ d i. record { entered = refl; exit = refl; enabled = refl; disabled = refl; up = refl; down = refl }) k
+  keeps (event.Local cpu line) h = quiet plan S es (event.Local cpu line) (deeds plan S (event.Local cpu line)) (by_top_none (λ g frame. GoOn (frame_id g) (stepped frame (intent_of plan frame)) ∷ []) (λ g frame. refl) (top S.cpus cpu.0)) (all_sound plan m S (event.Local cpu line) known h) (λ d i. record { entered = refl; exit = refl; enabled = refl; disabled = refl; up = refl; down = refl }) k
+  keeps (event.Log cpu v) h = quiet plan S es (event.Log cpu v) (deeds plan S (event.Log cpu v)) (by_top_none (λ g frame. GoOn (frame_id g) (goes_on plan frame) ∷ []) (λ g frame. refl) (top S.cpus cpu.0)) (all_sound plan m S (event.Log cpu v) known h) (λ d i. record { entered = refl; exit = refl; enabled = refl; disabled = refl; up = refl; down = refl }) k
+  keeps (event.Spend cpu n) h = quiet plan S es (event.Spend cpu n) (deeds plan S (event.Spend cpu n)) (by_top_none (λ g frame. GoOn (frame_id g) (spending plan S frame n) ∷ []) (λ g frame. refl) (top S.cpus cpu.0)) (all_sound plan m S (event.Spend cpu n) known h) (λ d i. record { entered = refl; exit = refl; enabled = refl; disabled = refl; up = refl; down = refl }) k
+  keeps (event.Register cpu a r v) h = quiet plan S es (event.Register cpu a r v) (deeds plan S (event.Register cpu a r v)) (by_top_none (λ g frame. GoOn (frame_id g) (answered plan frame (Num v)) ∷ []) (λ g frame. refl) (top S.cpus cpu.0)) (all_sound plan m S (event.Register cpu a r v) known h) (λ d i. record { entered = refl; exit = refl; enabled = refl; disabled = refl; up = refl; down = refl }) k
+  keeps (event.Did cpu c v) h = quiet plan S es (event.Did cpu c v) (deeds plan S (event.Did cpu c v)) (by_top_none (did_deeds plan S cpu.0 c v) (λ g frame. none_behind ((outcome plan S cpu.0 g c).deeds ++ second_deeds g c) (GoOn (frame_id g) (answered plan frame v) ∷ []) (none_behind (outcome plan S cpu.0 g c).deeds (second_deeds g c) (outcome_none plan S cpu.0 g c.kind c.count c.a c.b c.c) (second_none g c.kind c.count c.a c.b c.c)) refl) (top S.cpus cpu.0)) (all_sound plan m S (event.Did cpu c v) known h) (λ d i. record { entered = refl; exit = refl; enabled = refl; disabled = refl; up = refl; down = refl }) k
+  keeps (event.Waiting cpu c) h = quiet plan S es (event.Waiting cpu c) (deeds plan S (event.Waiting cpu c)) (by_top_none (waiting_deeds plan S cpu.0 c) (λ g frame. none_behind (outcome plan S cpu.0 g c).deeds (GoOn (frame_id g) (waiting frame c (outcome plan S cpu.0 g c).answer) ∷ []) (outcome_none plan S cpu.0 g c.kind c.count c.a c.b c.c) refl) (top S.cpus cpu.0)) (all_sound plan m S (event.Waiting cpu c) known h) (λ d i. record { entered = refl; exit = refl; enabled = refl; disabled = refl; up = refl; down = refl }) k
+  keeps (event.Woke cpu c v) h = quiet plan S es (event.Woke cpu c v) (deeds plan S (event.Woke cpu c v)) (by_top_none (woke_deeds plan c v) (λ g frame. none_behind (second_deeds g c) (GoOn (frame_id g) (answered plan frame v) ∷ []) (second_none g c.kind c.count c.a c.b c.c) refl) (top S.cpus cpu.0)) (all_sound plan m S (event.Woke cpu c v) known h) (λ d i. record { entered = refl; exit = refl; enabled = refl; disabled = refl; up = refl; down = refl }) k
   keeps (event.Park cpu g) h = quiet plan S es (event.Park cpu g) (deeds plan S (event.Park cpu g)) (refl) (all_sound plan m S (event.Park cpu g) known h) (λ d i. record { entered = refl; exit = refl; enabled = refl; disabled = refl; up = refl; down = refl }) k
   keeps (event.Unpark cpu g) h = quiet plan S es (event.Unpark cpu g) (deeds plan S (event.Unpark cpu g)) (refl) (all_sound plan m S (event.Unpark cpu g) known h) (λ d i. record { entered = refl; exit = refl; enabled = refl; disabled = refl; up = refl; down = refl }) k
   keeps (event.Fault cpu x line) h = quiet plan S es (event.Fault cpu x line) (deeds plan S (event.Fault cpu x line)) (refl) (all_sound plan m S (event.Fault cpu x line) known h) (λ d i. record { entered = refl; exit = refl; enabled = refl; disabled = refl; up = refl; down = refl }) k

@@ -20,7 +20,8 @@ use Rattle.wdf_model.specs.Plans.{as_device, declared_ids, declares, device_of, 
 use Rattle.wdf_model.specs.parts.Power.{no_device_power, opening_device_power}
 use Rattle.wdf_model.specs.parts.Pnp.{no_sequence, opening_phase, opening_sequence, running_step, steps_left}
 use Rattle.wdf_model.specs.State.{State, opening}
-use Rattle.wdf_model.specs.rules.Deeds.{Pass_tick, counted, do_deeds}
+use Rattle.wdf_model.specs.declared.deed.Deed.TheVariants.{PassTick}
+use Rattle.wdf_model.specs.rules.Deeds.{counted, do_deeds}
 use Rattle.wdf_model.specs.rules.Steps.{after, deeds, may}
 use Rattle.wdf_model.specs.rules.Ready.{IsRunOf, ready, state_after}
 use Rattle.wdf_model.specs.laws.FactsOfEvents.{IsTick}
@@ -155,8 +156,8 @@ goes_on plan m before offered e resolved so_far (inl h) k =
 goes_on {A} plan m before offered e resolved so_far (inr t) k =
     let S = state_after plan m before in
     subst (λ x. Kept plan (after plan m S x) (before ++ x ∷ [])) (sym t.tick)
-    (told_more plan m (event.Tick (S.clock + 1)) (do_deeds plan (Pass_tick ∷ []) S) (before ++ event.Tick (S.clock + 1) ∷ [])
-    (quiet plan S before (event.Tick (S.clock + 1)) (Pass_tick ∷ []) refl (tt, tt) (λ d i. record { entered = refl; exit = refl; enabled = refl; disabled = refl; up = refl; down = refl }) k))
+    (told_more plan m (event.Tick (S.clock + 1)) (do_deeds plan (PassTick ∷ []) S) (before ++ event.Tick (S.clock + 1) ∷ [])
+    (quiet plan S before (event.Tick (S.clock + 1)) (PassTick ∷ []) refl (tt, tt) (λ d i. record { entered = refl; exit = refl; enabled = refl; disabled = refl; up = refl; down = refl }) k))
 
 pub kept_at_each : {A : Type 0} (plan : Plan) (m : Meaning A) (run : List Event) → IsResolved plan → IsRunOf plan m run → (n : ℕ) → Kept plan (state_after plan m (take n run)) (take n run)
 kept_at_each {A} plan m run resolved is_run n = along_run (λ es. Kept plan (state_after plan m es) es) (ready plan m) run (kept_at_first plan m resolved)

@@ -19,7 +19,10 @@ use Rattle.wdf_model.specs.parts.Requests as requests
 use Rattle.wdf_model.specs.parts.Power.{Power, any_resume_due, holding_of, is_held, is_held_at, no_holding, no_queue_power, opening_power, opening_queue_power, queue_power, with_holding, with_up, woken}
 use Rattle.wdf_model.specs.parts.Power as power
 use Rattle.wdf_model.specs.State.{State, is_with_driver}
-use Rattle.wdf_model.specs.rules.Deeds.{Deed, Acknowledge, Advance_power, Arrive, Ask_deletion, Ask_stop, Close_device, Close_returning, Complete_request, Forward, Give_back, Present, Purge_queue, Receive, Requeue, Resume, Send_request, arrive_at, close_queue, close_returning, do_deed, give_up, give_up_if, withdraw}
+use Rattle.wdf_model.specs.Ids.{object_id}
+use Rattle.wdf_model.specs.declared.deed.Deed.{Deed}
+use Rattle.wdf_model.specs.declared.deed.Deed.TheVariants.{Acknowledge, AdvancePower, Arrive, AskDeletion, AskStop, CloseDevice, CloseReturning, CompleteRequest, Forward, GiveBack, Present, PurgeQueue, Receive, Requeue, Resume, SendRequest}
+use Rattle.wdf_model.specs.rules.Deeds.{arrive_at, close_queue, close_returning, do_deed, give_up, give_up_if, withdraw}
 use Rattle.wdf_model.proofs.Tests.{both, both_left, both_right}
 use Rattle.wdf_model.proofs.Maps.{entry_put_other, entry_put_same}
 use Rattle.wdf_model.proofs.Counts.{equal, one_or_two}
@@ -101,33 +104,33 @@ arrived : {A : Type 0} (S : State A) (device : ℕ) (info : RequestInfo) (p : Pl
 arrived S device info (place.Queued q) = refl
 arrived S device info _ = refl
 
-completed : {A : Type 0} (plan : Plan) (S : State A) (r : ℕ) → NoneMore S.power (do_deed plan (Complete_request r) S).power
+completed : {A : Type 0} (plan : Plan) (S : State A) (r : ℕ) → NoneMore S.power (do_deed plan (CompleteRequest (object_id r)) S).power
 completed plan S r =
     subst (NoneMore S.power) (sym (asks_all power_of (λ S T D W U. refl) (subtree (give_up S r).tree r) (record (give_up S r) { requests = requests.complete S.requests r }))) (given S r)
 
 -- ---- deeds
 
 abbrev pub is_advance : Deed → Bool
-is_advance (Advance_power d s) = true
+is_advance (AdvancePower d s) = true
 is_advance _ = false
 
 pub none_more_by : {A : Type 0} (plan : Plan) (d : Deed) (S : State A) → is_advance d ≡ false → NoneMore S.power (do_deed plan d S).power
-none_more_by plan (Advance_power d s) S h = absurd (let z : ⊥ = cc in z)
-none_more_by plan (Present q r) S h = held_more S.power r q (is_managed plan q)
-none_more_by plan (Receive q r) S h = held_more S.power r q (is_managed plan q)
-none_more_by plan (Requeue r q) S h = given S r
-none_more_by plan (Forward r q) S h = given S r
-none_more_by plan (Give_back r q) S h = given S r
-none_more_by plan (Send_request r t forget) S h = given_if S forget r
-none_more_by plan (Complete_request r) S h = completed plan S r
-none_more_by plan (Arrive device info p) S h = same_power S.power _ (arrived S device info p)
-none_more_by plan (Ask_deletion o) S h = same_power S.power _ (asks_all power_of (λ S T D W U. refl) (subtree S.tree o) S)
-none_more_by plan (Purge_queue q) S h = same_power S.power _ (withdrawn plan q (waiting_in S.queues q) (record S { control = control.set_mode S.control q mode.Purged }))
-none_more_by plan (Close_returning d) S h = same_power S.power _ (returned (managed_queues plan d) S)
-none_more_by plan (Close_device d) S h = same_power S.power _ (closed (queues_of plan d) (record S { control = control.shut S.control d }))
-none_more_by plan (Acknowledge r) S h = one_changes S.power r (λ y. record y { acknowledged = true }) (λ y t. (t, refl))
-none_more_by plan (Ask_stop r) S h = one_changes S.power r (λ y. record y { stop_asked = true }) (λ y t. (t, refl))
-none_more_by plan (Resume r) S h = one_changes S.power r (λ y. record y { resume_due = false }) (λ y. not_due y (record y { resume_due = false }) refl)
+none_more_by plan (AdvancePower d s) S h = absurd (let z : ⊥ = cc in z)
+none_more_by plan (Present q r) S h = held_more S.power r.0 q.0 (is_managed plan q.0)
+none_more_by plan (Receive q r) S h = held_more S.power r.0 q.0 (is_managed plan q.0)
+none_more_by plan (Requeue r q) S h = given S r.0
+none_more_by plan (Forward r q) S h = given S r.0
+none_more_by plan (GiveBack r q) S h = given S r.0
+none_more_by plan (SendRequest r t forget) S h = given_if S forget r.0
+none_more_by plan (CompleteRequest r) S h = completed plan S r.0
+none_more_by plan (Arrive device info p) S h = same_power S.power _ (arrived S device.0 info p)
+none_more_by plan (AskDeletion o) S h = same_power S.power _ (asks_all power_of (λ S T D W U. refl) (subtree S.tree o.0) S)
+none_more_by plan (PurgeQueue q) S h = same_power S.power _ (withdrawn plan q.0 (waiting_in S.queues q.0) (record S { control = control.set_mode S.control q.0 mode.Purged }))
+none_more_by plan (CloseReturning d) S h = same_power S.power _ (returned (managed_queues plan d.0) S)
+none_more_by plan (CloseDevice d) S h = same_power S.power _ (closed (queues_of plan d.0) (record S { control = control.shut S.control d.0 }))
+none_more_by plan (Acknowledge r) S h = one_changes S.power r.0 (λ y. record y { acknowledged = true }) (λ y t. (t, refl))
+none_more_by plan (AskStop r) S h = one_changes S.power r.0 (λ y. record y { stop_asked = true }) (λ y t. (t, refl))
+none_more_by plan (Resume r) S h = one_changes S.power r.0 (λ y. record y { resume_due = false }) (λ y. not_due y (record y { resume_due = false }) refl)
 none_more_by plan _ S h = same_power S.power S.power refl
 
 -- ---- the queues as power knows them

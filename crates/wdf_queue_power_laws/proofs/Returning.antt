@@ -30,7 +30,10 @@ use Rattle.wdf_model.specs.parts.Requests.{Requests, cancelled, closed_at, forgo
 use Rattle.wdf_model.specs.parts.Requests as requests
 use Rattle.wdf_model.specs.parts.Targets.{is_forgotten}
 use Rattle.wdf_model.specs.State.{State, is_powered, is_with_driver, returns_to, withdrawn_place}
-use Rattle.wdf_model.specs.rules.Deeds.{Deed, Arrive, Ask_deletion, Cancel_request, Close_device, Close_returning, Come_back, Complete_request, End_life, Finish_sending, Forward, Give_back, Make_request, Mark_request, Present, Purge_queue, Receive, Requeue, Send_request, Take_cancel, Unmark_request, Withdraw, arrive_at, cancel_in, close_queue, close_returning, do_deed, finished_at, give_up, give_up_if, queued, withdraw}
+use Rattle.wdf_model.specs.Ids.{object_id}
+use Rattle.wdf_model.specs.declared.deed.Deed.{Deed}
+use Rattle.wdf_model.specs.declared.deed.Deed.TheVariants.{Arrive, AskDeletion, CancelRequest, CloseDevice, CloseReturning, ComeBack, CompleteRequest, EndLife, FinishSending, Forward, GiveBack, MakeRequest, MarkRequest, Present, PurgeQueue, Receive, Requeue, SendRequest, TakeCancel, UnmarkRequest, Withdraw}
+use Rattle.wdf_model.specs.rules.Deeds.{arrive_at, cancel_in, close_queue, close_returning, do_deed, finished_at, give_up, give_up_if, queued, withdraw}
 use Rattle.wdf_model.proofs.Tests.{both_right, first, second}
 use Rattle.wdf_model.proofs.Maps.{entry_map, entry_put_other, entry_put_same, entry_set_other, set_read}
 use Rattle.wdf_model.proofs.Counts.{equal, one_or_two}
@@ -166,7 +169,7 @@ module _ (plan : Plan) (D : List DevicePower) where
   enters : {A : Type 0} (S : State A) (r q : ℕ) → Backed plan D S.requests → Backed plan D (requests.move_to (give_up S r).requests r (queued q))
   enters S r q k = moves (give_up S r).requests r (queued q) (at_queued (record { 0 = q })) (as_before S.requests (give_up S r).requests (given requests_of (λ S Q P. refl) S r) k)
 
-  came : {A : Type 0} (S : State A) (device : ℕ) (info : RequestInfo) (p : Place) → Sound plan (Arrive device info p) S → Backed plan D S.requests → Backed plan D (arrive_at S device info p).requests
+  came : {A : Type 0} (S : State A) (device : ℕ) (info : RequestInfo) (p : Place) → Sound plan (Arrive (object_id device) info p) S → Backed plan D S.requests → Backed plan D (arrive_at S device info p).requests
   came S device info (place.Queued x) s k = new_one S.requests (next_id S.tree) (place.Queued x) info (at_queued x) k
   came S device info (place.Returning x) s k = absurd s.2
   came S device info (place.Closing t) s k = new_one S.requests (next_id S.tree) (place.Closing t) info (at_closing t) k
@@ -184,31 +187,31 @@ module _ (plan : Plan) (D : List DevicePower) where
 
   -- a deed, before which the power of devices is D
   pub backed_by : {A : Type 0} (d : Deed) (S : State A) → Sound plan d S → devices_of S ≡ D → Backed plan D S.requests → Backed plan D (do_deed plan d S).requests
-  backed_by (Make_request class parent) S s same k = new_one S.requests (next_id S.tree) place.Owned (made_info (nearest_device S.tree parent)) at_owned k
-  backed_by (Arrive device info p) S s same k = came S device info p s k
-  backed_by (Ask_deletion o) S s same k = as_before S.requests (do_deed plan (Ask_deletion o) S).requests (asks_all requests_of (λ S T D W U. refl) (subtree S.tree o) S) k
-  backed_by (End_life o) S s same k = forgets S.requests o k
-  backed_by (Present q r) S s same k = moves S.requests r place.Owned at_owned k
-  backed_by (Receive q r) S s same k = moves S.requests r place.Owned at_owned k
-  backed_by (Requeue r q) S s same k = enters S r q k
-  backed_by (Forward r q) S s same k = enters S r q k
-  backed_by (Give_back r q) S s same k = cancelled_in (give_up S r) q r (given_devices S r ∙ same) (as_before S.requests (give_up S r).requests (given requests_of (λ S Q P. refl) S r) k)
-  backed_by (Withdraw q r) S s same k = cancelled_in S q r same k
-  backed_by (Mark_request r) S s same k = same_place S.requests r marked (λ e. marked_place e e.info.cancelled) k
-  backed_by (Unmark_request r) S s same k = same_place S.requests r unmarked (λ e. unmarked_place e (is_marked e.info.mark)) k
-  backed_by (Cancel_request r) S s same k = same_place S.requests r cancelled (λ e. refl) k
-  backed_by (Take_cancel r) S s same k = same_place S.requests r (with_mark marks.Taken) (λ e. refl) k
-  backed_by (Send_request r t forget) S s same k =
-      moves (give_up_if forget S r).requests r (place.Sent (record { 0 = t })) (at_sent (record { 0 = t })) (as_before S.requests (give_up_if forget S r).requests (given_if requests_of (λ S Q P. refl) S forget r) k)
-  backed_by (Finish_sending r t) S s same k = moves S.requests r (finished_at (is_forgotten S.targets r) t (place_of S.requests r)) (at_finished (is_forgotten S.targets r) t (place_of S.requests r) (k r)) k
-  backed_by (Come_back r) S s same k = moves S.requests r place.Owned at_owned k
-  backed_by (Complete_request r) S s same k =
-      as_before (requests.complete S.requests r) (do_deed plan (Complete_request r) S).requests
-      (asks_all requests_of (λ S T D W U. refl) (subtree (give_up S r).tree r) (record (give_up S r) { requests = requests.complete S.requests r }))
-      (moves S.requests r place.Done at_done k)
-  backed_by (Purge_queue q) S s same k = all_withdrawn q (waiting_in S.queues q) (record S { control = control.set_mode S.control q mode.Purged }) same k
-  backed_by (Close_returning x) S s same k = all_returning (managed_queues plan x) S k
-  backed_by (Close_device x) S s same k = all_closed (queues_of plan x) (record S { control = control.shut S.control x }) k
+  backed_by (MakeRequest class parent) S s same k = new_one S.requests (next_id S.tree) place.Owned (made_info (nearest_device S.tree parent.0)) at_owned k
+  backed_by (Arrive device info p) S s same k = came S device.0 info p s k
+  backed_by (AskDeletion o) S s same k = as_before S.requests (do_deed plan (AskDeletion o) S).requests (asks_all requests_of (λ S T D W U. refl) (subtree S.tree o.0) S) k
+  backed_by (EndLife o) S s same k = forgets S.requests o.0 k
+  backed_by (Present q r) S s same k = moves S.requests r.0 place.Owned at_owned k
+  backed_by (Receive q r) S s same k = moves S.requests r.0 place.Owned at_owned k
+  backed_by (Requeue r q) S s same k = enters S r.0 q.0 k
+  backed_by (Forward r q) S s same k = enters S r.0 q.0 k
+  backed_by (GiveBack r q) S s same k = cancelled_in (give_up S r.0) q.0 r.0 (given_devices S r.0 ∙ same) (as_before S.requests (give_up S r.0).requests (given requests_of (λ S Q P. refl) S r.0) k)
+  backed_by (Withdraw q r) S s same k = cancelled_in S q.0 r.0 same k
+  backed_by (MarkRequest r) S s same k = same_place S.requests r.0 marked (λ e. marked_place e e.info.cancelled) k
+  backed_by (UnmarkRequest r) S s same k = same_place S.requests r.0 unmarked (λ e. unmarked_place e (is_marked e.info.mark)) k
+  backed_by (CancelRequest r) S s same k = same_place S.requests r.0 cancelled (λ e. refl) k
+  backed_by (TakeCancel r) S s same k = same_place S.requests r.0 (with_mark marks.Taken) (λ e. refl) k
+  backed_by (SendRequest r t forget) S s same k =
+      moves (give_up_if forget S r.0).requests r.0 (place.Sent (record { 0 = t.0 })) (at_sent (record { 0 = t.0 })) (as_before S.requests (give_up_if forget S r.0).requests (given_if requests_of (λ S Q P. refl) S forget r.0) k)
+  backed_by (FinishSending r t) S s same k = moves S.requests r.0 (finished_at (is_forgotten S.targets r.0) t (place_of S.requests r.0)) (at_finished (is_forgotten S.targets r.0) t (place_of S.requests r.0) (k r.0)) k
+  backed_by (ComeBack r) S s same k = moves S.requests r.0 place.Owned at_owned k
+  backed_by (CompleteRequest r) S s same k =
+      as_before (requests.complete S.requests r.0) (do_deed plan (CompleteRequest r) S).requests
+      (asks_all requests_of (λ S T D W U. refl) (subtree (give_up S r.0).tree r.0) (record (give_up S r.0) { requests = requests.complete S.requests r.0 }))
+      (moves S.requests r.0 place.Done at_done k)
+  backed_by (PurgeQueue q) S s same k = all_withdrawn q.0 (waiting_in S.queues q.0) (record S { control = control.set_mode S.control q.0 mode.Purged }) same k
+  backed_by (CloseReturning x) S s same k = all_returning (managed_queues plan x.0) S k
+  backed_by (CloseDevice x) S s same k = all_closed (queues_of plan x.0) (record S { control = control.shut S.control x.0 }) k
   backed_by _ S s same k = k
 
 -- ---- power grows

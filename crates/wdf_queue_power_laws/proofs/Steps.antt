@@ -32,7 +32,10 @@ use Rattle.wdf_model.specs.parts.Power.{advance_stage, opening_power}
 use Rattle.wdf_model.specs.parts.Pnp.{Sequence, busy, ended, is_running_step, left_after, next_step, running_step, steps_for, steps_left, taken, taken_step}
 use Rattle.wdf_model.specs.parts.Pnp as pnp
 use Rattle.wdf_model.specs.State.{State, declared_in, is_proper}
-use Rattle.wdf_model.specs.rules.Deeds.{Deed, Advance_power, Ask_deletion, Ask_device, Close_device, Close_returning, End_step, Go_on, Pop_frame, Push_frame, Take_step, do_deed, do_deeds}
+use Rattle.wdf_model.specs.Ids.{frame_id, irql_of, object_id}
+use Rattle.wdf_model.specs.declared.deed.Deed.{Deed}
+use Rattle.wdf_model.specs.declared.deed.Deed.TheVariants.{AdvancePower, AskDeletion, AskDevice, CloseDevice, CloseReturning, EndStep, GoOn, PopFrame, PushFrame, TakeStep}
+use Rattle.wdf_model.specs.rules.Deeds.{do_deed, do_deeds}
 use Rattle.wdf_model.specs.rules.Script.{intent_of}
 use Rattle.wdf_model.specs.rules.Calls.{outcome, second_deeds}
 use Rattle.wdf_model.specs.rules.Starts.{effect, end_deeds, end_of_step, is_ready_for, may_pass, may_start, new_frame, next_number, rank_ready, rank_ready_for, release_if_any, resumes_over, stage_deeds, stage_ready, start_deeds, start_effect, step_of, step_ready, take_if_any}
@@ -72,7 +75,7 @@ pub record Knows {A : Type 0} (plan : Plan) (S : State A) : Type 0 where
 -- ---- deeds that move no device
 
 not_advance : (d : Deed) → is_moving d ≡ false → is_advance d ≡ false
-not_advance (Advance_power d s) h = absurd (let z : ⊥ = cc in z)
+not_advance (AdvancePower d s) h = absurd (let z : ⊥ = cc in z)
 not_advance _ h = refl
 
 one_quiet : {A : Type 0} (plan : Plan) (d : Deed) (S : State A) → is_moving d ≡ false → Sound plan d S → WithPower plan S → WithPower plan (do_deed plan d S)
@@ -108,7 +111,7 @@ module _ {A : Type 0} (plan : Plan) (m : Meaning A) (S : State A) (known : Knows
     takes = take_if_any f (lock_of_callback plan c o.id.0 (declared_in plan S o.id.0))
 
     abbrev pushes : Option Handle → Deed
-    pushes r = Push_frame cpu.0 f (new_frame plan S c o r) (callback_irql plan c o.id.0)
+    pushes r = PushFrame cpu (frame_id f) (new_frame plan S c o r) (irql_of (callback_irql plan c o.id.0))
 
     -- the frame begins, and takes its lock
     frame_begins : (r : Option Handle) (V : State A) → AllSound plan (pushes r ∷ takes) V → WithPower plan V → WithPower plan (do_deeds plan (pushes r ∷ takes) V)
@@ -125,9 +128,9 @@ module _ {A : Type 0} (plan : Plan) (m : Meaning A) (S : State A) (known : Knows
     starts_step : is_sequence (row_of c).rank ≡ true → step_ready S (nearest_device S.tree o.id.0) (step_of plan S c o.id.0) ≡ true → AllSound plan (start_deeds plan S cpu.0 c o None) S → WithPower plan (do_deeds plan (start_deeds plan S cpu.0 c o None) S)
     starts_step is ready sound =
         let n : ℕ = nearest_device S.tree o.id.0 in
-        let ds : start_effect plan S cpu.0 c o.id.0 None ≡ Take_step n ∷ [] = ap (λ x. effect plan S x cpu.0 c o.id.0) (sequence_is (row_of c).rank is) in
-        let s : AllSound plan (Take_step n ∷ pushes None ∷ takes) S = subst (λ (x : List Deed). AllSound plan (x ++ pushes None ∷ takes) S) ds sound in
-        let T : State A = do_deed plan (Take_step n) S in
+        let ds : start_effect plan S cpu.0 c o.id.0 None ≡ TakeStep (object_id n) ∷ [] = ap (λ x. effect plan S x cpu.0 c o.id.0) (sequence_is (row_of c).rank is) in
+        let s : AllSound plan (TakeStep (object_id n) ∷ pushes None ∷ takes) S = subst (λ (x : List Deed). AllSound plan (x ++ pushes None ∷ takes) S) ds sound in
+        let T : State A = do_deed plan (TakeStep (object_id n)) S in
         subst (λ (x : List Deed). WithPower plan (do_deeds plan (x ++ pushes None ∷ takes) S)) (sym ds)
         (frame_begins None T s.1 (record {
           backed = k.backed;
@@ -149,17 +152,17 @@ module _ {A : Type 0} (plan : Plan) (m : Meaning A) (S : State A) (known : Knows
 
     -- ---- callbacks end
 
-    step_none : (x : Rank) (v : Value) → is_sequence x ≡ false → none_moves (Pop_frame cpu.0 ∷ end_of_step plan S x c o.id.0 v) ≡ true
+    step_none : (x : Rank) (v : Value) → is_sequence x ≡ false → none_moves (PopFrame cpu ∷ end_of_step plan S x c o.id.0 v) ≡ true
     step_none rank.Sequence v h = absurd (let z : ⊥ = cc in z)
     step_none _ v h = refl
 
     ends_other : (v : Value) → is_sequence (row_of c).rank ≡ false → AllSound plan (end_deeds plan S cpu.0 c o.id.0 v) S → WithPower plan (do_deeds plan (end_deeds plan S cpu.0 c o.id.0 v) S)
     ends_other v other sound =
         quiet plan (end_deeds plan S cpu.0 c o.id.0 v) S
-        (none_behind (release_if_any (lock_of_callback plan c o.id.0 (declared_in plan S o.id.0))) (Pop_frame cpu.0 ∷ end_of_step plan S (row_of c).rank c o.id.0 v) (releasing_none (lock_of_callback plan c o.id.0 (declared_in plan S o.id.0))) (step_none (row_of c).rank v other))
+        (none_behind (release_if_any (lock_of_callback plan c o.id.0 (declared_in plan S o.id.0))) (PopFrame cpu ∷ end_of_step plan S (row_of c).rank c o.id.0 v) (releasing_none (lock_of_callback plan c o.id.0 (declared_in plan S o.id.0))) (step_none (row_of c).rank v other))
         sound k
 
-    step_ends : (n : ℕ) (s : Step) (v : Value) (l : Option LockRef) → (IsDue plan S.power n → ⊥) → WithPower plan (do_deeds plan (release_if_any l ++ Pop_frame cpu.0 ∷ End_step n s v ∷ []) S)
+    step_ends : (n : ℕ) (s : Step) (v : Value) (l : Option LockRef) → (IsDue plan S.power n → ⊥) → WithPower plan (do_deeds plan (release_if_any l ++ PopFrame cpu ∷ EndStep (object_id n) s v ∷ []) S)
     step_ends n s v (Some l) none = record {
       backed = k.backed;
       steps = all_fit_ended S.pnp n s v k.steps;
@@ -176,13 +179,13 @@ module _ {A : Type 0} (plan : Plan) (m : Meaning A) (S : State A) (known : Knows
         let n : ℕ = nearest_device S.tree o.id.0 in
         let g : ℕ = t.frame in
         let l : Option LockRef = lock_of_callback plan c o.id.0 (declared_in plan S o.id.0) in
-        let tail : end_of_step plan S (row_of c).rank c o.id.0 v ≡ End_step n (step_of plan S c o.id.0) v ∷ [] = ap (λ x. end_of_step plan S x c o.id.0 v) (sequence_is (row_of c).rank is) in
+        let tail : end_of_step plan S (row_of c).rank c o.id.0 v ≡ EndStep (object_id n) (step_of plan S c o.id.0) v ∷ [] = ap (λ x. end_of_step plan S x c o.id.0 v) (sequence_is (row_of c).rank is) in
         let there : 1 ≤ on S.cpus g = top_on S.cpus cpu.0 g t.about.top in
         let step_ : is_step (frame_of S.cpus g) ≡ true = ap (λ x. is_sequence (row_of x).rank) (sym t.callback) ∙ is in
         let at : (frame_of S.cpus g).device.id.0 ≡ n = known.known.known.frames.device g there ∙ ap (λ (x : Handle). nearest_device S.tree x.id.0) (sym t.object) in
         let runs : Runs S.pnp (frame_of S.cpus g) = known.frames.steps g there step_ in
         let here : running_step S.pnp n ≡ Some (step.Run (frame_of S.cpus g).callback runs.0) = sym (ap (running_step S.pnp) at) ∙ runs.1 in
-        subst (λ (x : List Deed). WithPower plan (do_deeds plan (release_if_any l ++ Pop_frame cpu.0 ∷ x) S)) (sym tail)
+        subst (λ (x : List Deed). WithPower plan (do_deeds plan (release_if_any l ++ PopFrame cpu ∷ x) S)) (sym tail)
         (step_ends n (step_of plan S c o.id.0) v l (none_running plan S.pnp S.power n (step.Run (frame_of S.cpus g).callback runs.0) here k.dues))
 
     ends_by : (v : Value) (b : Bool) → is_sequence (row_of c).rank ≡ b → IsEnd plan S cpu.0 c o v → AllSound plan (end_deeds plan S cpu.0 c o.id.0 v) S → WithPower plan (do_deeds plan (end_deeds plan S cpu.0 c o.id.0 v) S)
@@ -194,7 +197,7 @@ module _ {A : Type 0} (plan : Plan) (m : Meaning A) (S : State A) (known : Knows
   module _ (n : ℕ) (s : Stage) (j : Option Handle) where
     -- after the step and its effect on power
     abbrev U : State A
-    U = do_deeds plan (Take_step n ∷ Advance_power n (step.Pass s j) ∷ []) S
+    U = do_deeds plan (TakeStep (object_id n) ∷ AdvancePower (object_id n) (step.Pass s j) ∷ []) S
 
     steps_now : AllFit U.pnp
     steps_now = all_fit_taken S.pnp n k.steps
@@ -211,21 +214,21 @@ module _ {A : Type 0} (plan : Plan) (m : Meaning A) (S : State A) (known : Knows
   rises : (n : ℕ) (s : Stage) (j : Option Handle) → goes_down s ≡ false → may_pass plan S n s j ≡ true → WithPower plan (U n s j)
   rises n s j up may_come = record { backed = backed_more plan S.requests S.power.devices (advance_stage S.power n s).devices (up_stays S.power n s up) k.backed; steps = steps_now n s j; dues = dues_now n s j may_come }
 
-  goes_down_to : (n : ℕ) (j : Option Handle) → may_pass plan S n stage.QueuesDown j ≡ true → Sound plan (Close_returning n) (U n stage.QueuesDown j) → WithPower plan (do_deed plan (Close_returning n) (U n stage.QueuesDown j))
+  goes_down_to : (n : ℕ) (j : Option Handle) → may_pass plan S n stage.QueuesDown j ≡ true → Sound plan (CloseReturning (object_id n)) (U n stage.QueuesDown j) → WithPower plan (do_deed plan (CloseReturning (object_id n)) (U n stage.QueuesDown j))
   goes_down_to n j may_come sound =
       let V : State A = U n stage.QueuesDown j in
-      let X : State A = do_deed plan (Close_returning n) V in
-      let c : Calm V X = deeds_calm plan (Close_returning n ∷ []) V refl (sound, tt) in
+      let X : State A = do_deed plan (CloseReturning (object_id n)) V in
+      let c : Calm V X = deeds_calm plan (CloseReturning (object_id n) ∷ []) V refl (sound, tt) in
       record {
         backed = subst (λ D. Backed plan D X.requests) (sym c.devices) (backed_down plan V n S.power.devices V.power.devices (others_stay S.power n stage.QueuesDown) k.backed);
         steps = all_fit_kept V.pnp X.pnp c.pnp (steps_now n stage.QueuesDown j);
-        dues = dues_kept plan V.pnp X.pnp V.power X.power c.pnp c.devices (none_more_by plan (Close_returning n) V refl) (dues_now n stage.QueuesDown j may_come);
+        dues = dues_kept plan V.pnp X.pnp V.power X.power c.pnp c.devices (none_more_by plan (CloseReturning (object_id n)) V refl) (dues_now n stage.QueuesDown j may_come);
       }
 
   stages : (n : ℕ) (s : Stage) (j : Option Handle) → may_pass plan S n s j ≡ true → AllSound plan (stage_deeds plan n s j) S → WithPower plan (do_deeds plan (stage_deeds plan n s j) S)
   stages n stage.QueuesDown j h sound = goes_down_to n j h sound.1.1.0
-  stages n stage.Closed j h sound = quiet plan (Close_device n ∷ []) (U n stage.Closed j) refl sound.1.1 (rises n stage.Closed j refl h)
-  stages n stage.Removed j h sound = quiet plan (Ask_deletion n ∷ []) (U n stage.Removed j) refl sound.1.1 (rises n stage.Removed j refl h)
+  stages n stage.Closed j h sound = quiet plan (CloseDevice (object_id n) ∷ []) (U n stage.Closed j) refl sound.1.1 (rises n stage.Closed j refl h)
+  stages n stage.Removed j h sound = quiet plan (AskDeletion (object_id n) ∷ []) (U n stage.Removed j) refl sound.1.1 (rises n stage.Removed j refl h)
   stages n stage.Enabled j h sound = let v = rises n stage.Enabled j refl h in record { backed = v.backed; steps = v.steps; dues = v.dues }
   stages n stage.Disabled j h sound = let v = rises n stage.Disabled j refl h in record { backed = v.backed; steps = v.steps; dues = v.dues }
   stages n stage.Hardware j h sound = rises n stage.Hardware j refl h
@@ -238,7 +241,7 @@ module _ {A : Type 0} (plan : Plan) (m : Meaning A) (S : State A) (known : Knows
 
   -- ---- posts
 
-  asks : (n : ℕ) (a : Ask) → busy S.pnp n ≡ false → WithPower plan (do_deeds plan (Ask_device n a ∷ []) S)
+  asks : (n : ℕ) (a : Ask) → busy S.pnp n ≡ false → WithPower plan (do_deeds plan (AskDevice (object_id n) a ∷ []) S)
   asks n a free =
       let parts = either_false (is_running_step S.pnp n) (not (length (steps_left S.pnp n) == 0)) free in
       record {
@@ -279,19 +282,19 @@ module _ {A : Type 0} (plan : Plan) (m : Meaning A) (S : State A) (known : Knows
   plain_none (event.End cpu c o v) h = absurd (let z : ⊥ = cc in z)
   plain_none (event.Stage n s j) h = absurd (let z : ⊥ = cc in z)
   plain_none (event.Posted agent p answer) h = absurd (let z : ⊥ = cc in z)
-  plain_none (event.Local cpu line) h = by_top_none (λ g frame. Go_on g (stepped frame (intent_of plan frame)) ∷ []) (λ g frame. refl) (top S.cpus cpu.0)
-  plain_none (event.Log cpu v) h = by_top_none (λ g frame. Go_on g (goes_on plan frame) ∷ []) (λ g frame. refl) (top S.cpus cpu.0)
-  plain_none (event.Spend cpu n) h = by_top_none (λ g frame. Go_on g (spending plan S frame n) ∷ []) (λ g frame. refl) (top S.cpus cpu.0)
-  plain_none (event.Register cpu a r v) h = by_top_none (λ g frame. Go_on g (answered plan frame (Num v)) ∷ []) (λ g frame. refl) (top S.cpus cpu.0)
+  plain_none (event.Local cpu line) h = by_top_none (λ g frame. GoOn (frame_id g) (stepped frame (intent_of plan frame)) ∷ []) (λ g frame. refl) (top S.cpus cpu.0)
+  plain_none (event.Log cpu v) h = by_top_none (λ g frame. GoOn (frame_id g) (goes_on plan frame) ∷ []) (λ g frame. refl) (top S.cpus cpu.0)
+  plain_none (event.Spend cpu n) h = by_top_none (λ g frame. GoOn (frame_id g) (spending plan S frame n) ∷ []) (λ g frame. refl) (top S.cpus cpu.0)
+  plain_none (event.Register cpu a r v) h = by_top_none (λ g frame. GoOn (frame_id g) (answered plan frame (Num v)) ∷ []) (λ g frame. refl) (top S.cpus cpu.0)
   plain_none (event.Did cpu c v) h =
       by_top_none (did_deeds plan S cpu.0 c v)
-      (λ g frame. none_behind ((outcome plan S cpu.0 g c).deeds ++ second_deeds g c) (Go_on g (answered plan frame v) ∷ [])
+      (λ g frame. none_behind ((outcome plan S cpu.0 g c).deeds ++ second_deeds g c) (GoOn (frame_id g) (answered plan frame v) ∷ [])
       (none_behind (outcome plan S cpu.0 g c).deeds (second_deeds g c) (outcome_none plan S cpu.0 g c.kind c.count c.a c.b c.c) (second_none g c.kind c.count c.a c.b c.c)) refl) (top S.cpus cpu.0)
   plain_none (event.Waiting cpu c) h =
       by_top_none (waiting_deeds plan S cpu.0 c)
-      (λ g frame. none_behind (outcome plan S cpu.0 g c).deeds (Go_on g (waiting frame c (outcome plan S cpu.0 g c).answer) ∷ []) (outcome_none plan S cpu.0 g c.kind c.count c.a c.b c.c) refl) (top S.cpus cpu.0)
+      (λ g frame. none_behind (outcome plan S cpu.0 g c).deeds (GoOn (frame_id g) (waiting frame c (outcome plan S cpu.0 g c).answer) ∷ []) (outcome_none plan S cpu.0 g c.kind c.count c.a c.b c.c) refl) (top S.cpus cpu.0)
   plain_none (event.Woke cpu c v) h =
-      by_top_none (woke_deeds plan c v) (λ g frame. none_behind (second_deeds g c) (Go_on g (answered plan frame v) ∷ []) (second_none g c.kind c.count c.a c.b c.c) refl) (top S.cpus cpu.0)
+      by_top_none (woke_deeds plan c v) (λ g frame. none_behind (second_deeds g c) (GoOn (frame_id g) (answered plan frame v) ∷ []) (second_none g c.kind c.count c.a c.b c.c) refl) (top S.cpus cpu.0)
   plain_none _ h = refl
 
   plain : (e : Event) → is_plain e ≡ true → may plan m S e ≡ true → WithPower plan (do_deeds plan (deeds plan S e) S)

@@ -20,6 +20,7 @@ use Rattle.wdf_base.specs.declared.object.RequestForm.{RequestForm}
 use Rattle.wdf_base.specs.declared.object.RequestForm.TheVariants as form
 use Rattle.wdf_base.specs.declared.rank.Rank.{Rank}
 use Rattle.wdf_base.specs.declared.rank.Rank.TheVariants as rank
+use Rattle.wdf_model.specs.Ids.{cpu_of}
 use Rattle.wdf_model.specs.declared.entries.Request.{Request}
 use Rattle.wdf_model.specs.declared.entries.Sending.{Sending}
 use Rattle.wdf_model.specs.declared.entries.Timed.{Timed}
@@ -38,7 +39,7 @@ use Rattle.wdf_model.specs.parts.Targets.{the_target}
 use Rattle.wdf_model.specs.parts.Tree.{is_asked, is_cleaned, kind_of, life_of, nearest_device}
 use Rattle.wdf_model.specs.rules.Groups.{callback_for, dpc_function, handler_start, if_there, start_at, starts, starts_for, unparks}
 use Rattle.wdf_model.specs.rules.Starts.{is_ready_for, level_fits, life_fits, may_start}
-use Rattle.wdf_model.specs.rules.Steps.{cpu_of, is_cpu, is_proper_if_any, may, wait_is_over}
+use Rattle.wdf_model.specs.rules.Steps.{is_cpu, is_proper_if_any, may, wait_is_over}
 use Rattle.wdf_ready.specs.Idle.{can_be_due, highest_level, is_due_at, is_idle, is_sending_due, is_too_high, settles_next}
 use Rattle.wdf_ready.specs.Search.{if_allowed, offered}
 

@@ -19,7 +19,9 @@ use Rattle.wdf_base.specs.declared.object.Place.{Place}
 use Rattle.wdf_base.specs.declared.object.Place.TheVariants as place
 use Rattle.wdf_base.specs.declared.object.RequestInfo.{RequestInfo}
 use Rattle.wdf_model.specs.State.{State}
-use Rattle.wdf_model.specs.rules.Deeds.{Deed, Arrive, Ask_deletion, Requeue, Forward, Give_back, Send_request, Complete_request, Purge_queue, Close_returning, Close_device, Enqueue_work, Cancel_work, Start_timer, Stop_timer, Fire_timer, arrive_at, ask_object, do_deed, give_up}
+use Rattle.wdf_model.specs.declared.deed.Deed.{Deed}
+use Rattle.wdf_model.specs.declared.deed.Deed.TheVariants.{Arrive, AskDeletion, Requeue, Forward, GiveBack, SendRequest, CompleteRequest, PurgeQueue, CloseReturning, CloseDevice, EnqueueWork, CancelWork, StartTimer, StopTimer, FireTimer}
+use Rattle.wdf_model.specs.rules.Deeds.{arrive_at, ask_object, do_deed, give_up}
 use Rattle.wdf_model.specs.rules.Ready.{IsRunOf, state_after}
 use Rattle.wdf_model.proofs.Counts.{count_cons, count_mapped, filter_less, filter_none, not_equal, one_or_two}
 use Rattle.wdf_model.proofs.Tests.{either_false, not_true}
@@ -124,22 +126,22 @@ arrived S device info (place.Queued q) = refl
 arrived S device info _ = refl
 
 once_by : {A : Type 0} (plan : Plan) (d : Deed) (S : State A) → Once (late_of S) → Once (late_of (do_deed plan d S))
-once_by plan (Arrive device info p) S q = same_late _ _ (arrived S device info p) q
-once_by plan (Ask_deletion o) S q = all_asked (subtree S.tree o) S q
-once_by plan (Requeue r p) S q = same_late _ _ (gives_up late_of (λ S Q R P. refl) S r) q
-once_by plan (Forward r p) S q = same_late _ _ (gives_up late_of (λ S Q R P. refl) S r) q
-once_by plan (Give_back r p) S q = same_late _ _ (gives_up late_of (λ S Q R P. refl) S r) q
-once_by plan (Send_request r t forget) S q = same_late _ _ (gives_up_if late_of (λ S Q R P. refl) S forget r) q
-once_by plan (Complete_request r) S q =
-    all_asked (subtree (give_up S r).tree r) (record (give_up S r) { requests = requests.complete S.requests r }) (same_late _ _ (gives_up late_of (λ S Q R P. refl) S r) q)
-once_by plan (Purge_queue p) S q = same_late _ _ (withdraws late_of (λ S Q R P. refl) plan p (waiting_in S.queues p) (record S { control = control.set_mode S.control p mode.Purged })) q
-once_by plan (Close_returning d) S q = same_late _ _ (returns_closed late_of (λ S Q R P. refl) (managed_queues plan d) S) q
-once_by plan (Close_device d) S q = same_late _ _ (queues_closed late_of (λ S Q R P. refl) (queues_of plan d) (record S { control = control.shut S.control d })) q
-once_by plan (Enqueue_work o) S q = record { items = λ x. enqueued_by S.work_items o x (contains o S.work_items.queued) refl q.items; timers = q.timers }
-once_by plan (Cancel_work o) S q = record { items = λ x. fewer (λ z. z == x) (λ z. not (z == o)) S.work_items.queued (q.items x); timers = q.timers }
-once_by plan (Start_timer o ticks) S q = record { items = q.items; timers = λ x. started_once S.timers o S.clock ticks x q.timers }
-once_by plan (Stop_timer o) S q = record { items = q.items; timers = λ x. fewer (λ (t : Timed). t.timer.0 == x) (λ t. not (t.timer.0 == o)) S.timers.queued (q.timers x) }
-once_by plan (Fire_timer o period) S q = record { items = q.items; timers = λ x. fired_by S.timers o period x (period == 0) q.timers }
+once_by plan (Arrive device info p) S q = same_late _ _ (arrived S device.0 info p) q
+once_by plan (AskDeletion o) S q = all_asked (subtree S.tree o.0) S q
+once_by plan (Requeue r p) S q = same_late _ _ (gives_up late_of (λ S Q R P. refl) S r.0) q
+once_by plan (Forward r p) S q = same_late _ _ (gives_up late_of (λ S Q R P. refl) S r.0) q
+once_by plan (GiveBack r p) S q = same_late _ _ (gives_up late_of (λ S Q R P. refl) S r.0) q
+once_by plan (SendRequest r t forget) S q = same_late _ _ (gives_up_if late_of (λ S Q R P. refl) S forget r.0) q
+once_by plan (CompleteRequest r) S q =
+    all_asked (subtree (give_up S r.0).tree r.0) (record (give_up S r.0) { requests = requests.complete S.requests r.0 }) (same_late _ _ (gives_up late_of (λ S Q R P. refl) S r.0) q)
+once_by plan (PurgeQueue p) S q = same_late _ _ (withdraws late_of (λ S Q R P. refl) plan p.0 (waiting_in S.queues p.0) (record S { control = control.set_mode S.control p.0 mode.Purged })) q
+once_by plan (CloseReturning d) S q = same_late _ _ (returns_closed late_of (λ S Q R P. refl) (managed_queues plan d.0) S) q
+once_by plan (CloseDevice d) S q = same_late _ _ (queues_closed late_of (λ S Q R P. refl) (queues_of plan d.0) (record S { control = control.shut S.control d.0 })) q
+once_by plan (EnqueueWork o) S q = record { items = λ x. enqueued_by S.work_items o.0 x (contains o.0 S.work_items.queued) refl q.items; timers = q.timers }
+once_by plan (CancelWork o) S q = record { items = λ x. fewer (λ z. z == x) (λ z. not (z == o.0)) S.work_items.queued (q.items x); timers = q.timers }
+once_by plan (StartTimer o ticks) S q = record { items = q.items; timers = λ x. started_once S.timers o.0 S.clock ticks x q.timers }
+once_by plan (StopTimer o) S q = record { items = q.items; timers = λ x. fewer (λ (t : Timed). t.timer.0 == x) (λ t. not (t.timer.0 == o.0)) S.timers.queued (q.timers x) }
+once_by plan (FireTimer o period) S q = record { items = q.items; timers = λ x. fired_by S.timers o.0 period x (period == 0) q.timers }
 once_by plan _ S q = q
 
 once_at_each : {A : Type 0} (plan : Plan) (m : Meaning A) (run : List Event) → IsRunOf plan m run → (n : ℕ) → Once (late_of (state_after plan m (take n run)))

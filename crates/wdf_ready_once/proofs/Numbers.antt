@@ -15,7 +15,9 @@ use Rattle.wdf_model.specs.parts.Queues.{waiting_in}
 use Rattle.wdf_model.specs.parts.Requests as requests
 use Rattle.wdf_model.specs.parts.Control as control
 use Rattle.wdf_model.specs.State.{State}
-use Rattle.wdf_model.specs.rules.Deeds.{Deed, Arrive, Ask_deletion, Requeue, Forward, Give_back, Send_request, Complete_request, Purge_queue, Close_returning, Close_device, arrive_at, do_deed, do_deeds, give_up}
+use Rattle.wdf_model.specs.declared.deed.Deed.{Deed}
+use Rattle.wdf_model.specs.declared.deed.Deed.TheVariants.{Arrive, AskDeletion, Requeue, Forward, GiveBack, SendRequest, CompleteRequest, PurgeQueue, CloseReturning, CloseDevice}
+use Rattle.wdf_model.specs.rules.Deeds.{arrive_at, do_deed, do_deeds, give_up}
 use Rattle.wdf_model.specs.rules.Steps.{after, deeds}
 use Rattle.wdf_model.specs.rules.Ready.{IsRunOf, allowed, last_fault, or_tick, ready, ready_in, state_after, unless_fault}
 use Rattle.wdf_model.proofs.Runs.{along_run}
@@ -27,18 +29,18 @@ arrived S device info (place.Queued q) = refl
 arrived S device info _ = refl
 
 deed_keeps : {A : Type 0} (plan : Plan) (d : Deed) (S : State A) → (do_deed plan d S).number ≡ S.number
-deed_keeps plan (Arrive device info p) S = arrived S device info p
-deed_keeps {A} plan (Ask_deletion o) S = asks_all (λ (U : State A). U.number) (λ S T D W U. refl) (subtree S.tree o) S
-deed_keeps {A} plan (Requeue r p) S = gives_up (λ (U : State A). U.number) (λ S Q R P. refl) S r
-deed_keeps {A} plan (Forward r p) S = gives_up (λ (U : State A). U.number) (λ S Q R P. refl) S r
-deed_keeps {A} plan (Give_back r p) S = gives_up (λ (U : State A). U.number) (λ S Q R P. refl) S r
-deed_keeps {A} plan (Send_request r t forget) S = gives_up_if (λ (U : State A). U.number) (λ S Q R P. refl) S forget r
-deed_keeps {A} plan (Complete_request r) S =
-    asks_all (λ (U : State A). U.number) (λ S T D W U. refl) (subtree (give_up S r).tree r) (record (give_up S r) { requests = requests.complete S.requests r })
-    ∙ gives_up (λ (U : State A). U.number) (λ S Q R P. refl) S r
-deed_keeps {A} plan (Purge_queue p) S = withdraws (λ (U : State A). U.number) (λ S Q R P. refl) plan p (waiting_in S.queues p) (record S { control = control.set_mode S.control p mode.Purged })
-deed_keeps {A} plan (Close_returning d) S = returns_closed (λ (U : State A). U.number) (λ S Q R P. refl) (managed_queues plan d) S
-deed_keeps {A} plan (Close_device d) S = queues_closed (λ (U : State A). U.number) (λ S Q R P. refl) (queues_of plan d) (record S { control = control.shut S.control d })
+deed_keeps plan (Arrive device info p) S = arrived S device.0 info p
+deed_keeps {A} plan (AskDeletion o) S = asks_all (λ (U : State A). U.number) (λ S T D W U. refl) (subtree S.tree o.0) S
+deed_keeps {A} plan (Requeue r p) S = gives_up (λ (U : State A). U.number) (λ S Q R P. refl) S r.0
+deed_keeps {A} plan (Forward r p) S = gives_up (λ (U : State A). U.number) (λ S Q R P. refl) S r.0
+deed_keeps {A} plan (GiveBack r p) S = gives_up (λ (U : State A). U.number) (λ S Q R P. refl) S r.0
+deed_keeps {A} plan (SendRequest r t forget) S = gives_up_if (λ (U : State A). U.number) (λ S Q R P. refl) S forget r.0
+deed_keeps {A} plan (CompleteRequest r) S =
+    asks_all (λ (U : State A). U.number) (λ S T D W U. refl) (subtree (give_up S r.0).tree r.0) (record (give_up S r.0) { requests = requests.complete S.requests r.0 })
+    ∙ gives_up (λ (U : State A). U.number) (λ S Q R P. refl) S r.0
+deed_keeps {A} plan (PurgeQueue p) S = withdraws (λ (U : State A). U.number) (λ S Q R P. refl) plan p.0 (waiting_in S.queues p.0) (record S { control = control.set_mode S.control p.0 mode.Purged })
+deed_keeps {A} plan (CloseReturning d) S = returns_closed (λ (U : State A). U.number) (λ S Q R P. refl) (managed_queues plan d.0) S
+deed_keeps {A} plan (CloseDevice d) S = queues_closed (λ (U : State A). U.number) (λ S Q R P. refl) (queues_of plan d.0) (record S { control = control.shut S.control d.0 })
 deed_keeps plan _ S = refl
 
 deeds_keep_number : {A : Type 0} (plan : Plan) (ds : List Deed) (S : State A) → (do_deeds plan ds S).number ≡ S.number

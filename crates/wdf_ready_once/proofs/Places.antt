@@ -28,6 +28,7 @@ use Rattle.wdf_base.specs.declared.rank.Rank.{Rank}
 use Rattle.wdf_base.specs.declared.rank.Rank.TheVariants as rank
 use Rattle.wdf_base.specs.Callbacks.{row_of}
 use Rattle.wdf_base.specs.Plan.{declared_of}
+use Rattle.wdf_model.specs.Ids.{cpu_of}
 use Rattle.wdf_model.specs.declared.enums.Group.{Group}
 use Rattle.wdf_model.specs.declared.enums.Group.TheVariants as group
 use Rattle.wdf_model.specs.declared.entries.Timed.{Timed}
@@ -44,7 +45,7 @@ use Rattle.wdf_model.specs.parts.Targets.{the_target}
 use Rattle.wdf_model.specs.State.{State}
 use Rattle.wdf_model.specs.rules.Calls.{is_met, is_met_then}
 use Rattle.wdf_model.specs.rules.Posts.{due_of}
-use Rattle.wdf_model.specs.rules.Steps.{cpu_of, event_of_frame, event_of_top, fault_event, intent_event, spends, view_of}
+use Rattle.wdf_model.specs.rules.Steps.{event_of_frame, event_of_top, fault_event, intent_event, spends, view_of}
 use Rattle.wdf_model.specs.rules.Script.{intent_of}
 use Rattle.wdf_model.specs.rules.Faults.{fault_of}
 use Rattle.wdf_model.specs.rules.Groups.{candidate, candidates, candidates_in, completion_at, dpc_function, groups, handler_start, if_there, parks, places_in, places_of_rank, posted, stage_of_step, start_at, start_for, start_of_step, starts, starts_for, unparks}

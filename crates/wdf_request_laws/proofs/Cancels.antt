@@ -27,7 +27,9 @@ use Rattle.wdf_model.specs.Plans.{declares}
 use Rattle.wdf_model.specs.parts.Requests.{Requests, cancelled, is_cancelled, is_owned, mark_answer, mark_of, marked, place_of, request_of, with_mark}
 use Rattle.wdf_model.specs.parts.Requests as requests
 use Rattle.wdf_model.specs.State.{State, object_in}
-use Rattle.wdf_model.specs.rules.Deeds.{Mark_request, do_deeds}
+use Rattle.wdf_model.specs.Ids.{object_id}
+use Rattle.wdf_model.specs.declared.deed.Deed.TheVariants.{MarkRequest}
+use Rattle.wdf_model.specs.rules.Deeds.{do_deeds}
 use Rattle.wdf_model.specs.rules.Faults.{View, is_object_sort, is_wrong_kind}
 use Rattle.wdf_model.specs.rules.Calls.{Outcome, origin_or_none, outcome, refused}
 use Rattle.wdf_model.specs.rules.Steps.{view_of}
@@ -179,10 +181,10 @@ module _ {A : Type 0} (plan : Plan) (es : List Event) (S : State A) (cpu : Cpu) 
           let well : is_success w ≡ true = ap is_success answer ∙ well_marked (is_cancelled S.requests (object_in a)) off in
           ap (λ (t : Bool). is_id y (where_so t (argument_object a))) well ∙ ap (is_id y) it ∙ rw at (itself (object_in a))
 
-  marks_by : (u : Bool) (v : Value) → v ≡ (if u then record { answer = Stat (mark_answer S.requests (object_in a)); deeds = Mark_request (object_in a) ∷ [] } else refused status.InvalidDeviceRequest).answer
+  marks_by : (u : Bool) (v : Value) → v ≡ (if u then record { answer = Stat (mark_answer S.requests (object_in a)); deeds = MarkRequest (object_id (object_in a)) ∷ [] } else refused status.InvalidDeviceRequest).answer
       → argument_object a ≡ Some (object_in a) → is_owned (place_of S.requests (object_in a)) ≡ true → AllGo es S.requests
       → AllGo (es ++ event.Did cpu (call_of call.WdfRequestMarkCancelableEx n a b x) v ∷ [])
-      (do_deeds plan (if u then record { answer = Stat (mark_answer S.requests (object_in a)); deeds = Mark_request (object_in a) ∷ [] } else refused status.InvalidDeviceRequest).deeds S).requests
+      (do_deeds plan (if u then record { answer = Stat (mark_answer S.requests (object_in a)); deeds = MarkRequest (object_id (object_in a)) ∷ [] } else refused status.InvalidDeviceRequest).deeds S).requests
   marks_by true v answer it owned g = marks_one v answer it owned g
   marks_by false v answer it owned g =
       all_next es (event.Did cpu (call_of call.WdfRequestMarkCancelableEx n a b x) v) S.requests S.requests (λ m c z y h. h)

@@ -35,7 +35,10 @@ use Rattle.wdf_model.specs.parts.Requests as requests
 use Rattle.wdf_model.specs.State.{State, declared_in, handle_in, is_held_from, is_proper}
 use Rattle.wdf_model.specs.Plans.{callback_irql}
 use Rattle.wdf_model.specs.parts.Locks.{lock_of_callback}
-use Rattle.wdf_model.specs.rules.Deeds.{Deed, Arrive, Count_arrival, Finish_sending, Take_cancel, Withdraw, arrive_at, do_deed, do_deeds}
+use Rattle.wdf_model.specs.Ids.{object_id}
+use Rattle.wdf_model.specs.declared.deed.Deed.{Deed}
+use Rattle.wdf_model.specs.declared.deed.Deed.TheVariants.{Arrive, CountArrival, FinishSending, TakeCancel, Withdraw}
+use Rattle.wdf_model.specs.rules.Deeds.{arrive_at, do_deed, do_deeds}
 use Rattle.wdf_model.specs.rules.Calls.{is_met_then, outcome}
 use Rattle.wdf_model.specs.rules.Starts.{is_ready_for, new_frame, next_number, rank_ready_for}
 use Rattle.wdf_model.specs.rules.Posts.{arrival_deeds, arrival_info, arrival_place, cancel_at, cancel_deeds, cancel_reaches, due_of, post_answer, post_fits}
@@ -111,7 +114,7 @@ cancel_begins {A} plan m es S cpu o r h g x t =
     let was : GoesAt (marks_stand r.id.0 es) (was_posted r.id.0 es) (has_begun r.id.0 es) R r.id.0 = g r.id.0 in
     let owned : is_owned (place_of R r.id.0) ≡ true = was.goes.owned (due_armed (mark_of R r.id.0) due_) in
     let same : (after plan m S (event.Start cpu callback.EvtRequestCancel o (Some r))).requests ≡ requests.take_cancel R r.id.0 =
-    start_reads (λ (T : State A). T.requests) (λ T L C. refl) plan S (Take_cancel r.id.0 ∷ []) cpu.0 (next_number S) (new_frame plan S callback.EvtRequestCancel o (Some r)) (callback_irql plan callback.EvtRequestCancel o.id.0)
+    start_reads (λ (T : State A). T.requests) (λ T L C. refl) plan S (TakeCancel r.id ∷ []) cpu.0 (next_number S) (new_frame plan S callback.EvtRequestCancel o (Some r)) (callback_irql plan callback.EvtRequestCancel o.id.0)
     (lock_of_callback plan callback.EvtRequestCancel o.id.0 (declared_in plan S o.id.0)) in
     let here : request_of (requests.take_cancel R r.id.0) r.id.0 ≡ with_mark marks.Taken (request_of R r.id.0) = entry_put_same no_request R.all r.id.0 (with_mark marks.Taken (request_of R r.id.0)) in
     let there_ : r.id.0 < length R.all = within R r.id.0 (owned_undone (place_of R r.id.0) owned) in
@@ -179,12 +182,12 @@ came S device info (place.Queued q) = refl
 came S device info _ = refl
 
 arrival_still : {A : Type 0} {F B : ℕ → Bool} (plan : Plan) (S : State A) (agent : ℕ) (f : RequestForm) (length code device : ℕ) (b : Bool) → KeptIn F B S
-    → StillGoes S.requests (do_deeds plan (Count_arrival agent ∷ (if b then Arrive device (arrival_info S agent f length code device) (arrival_place plan S f length device) ∷ [] else [])) S).requests
+    → StillGoes S.requests (do_deeds plan (CountArrival agent ∷ (if b then Arrive (object_id device) (arrival_info S agent f length code device) (arrival_place plan S f length device) ∷ [] else [])) S).requests
 arrival_still plan S agent f length code device false k = λ m c b x g. g
 arrival_still plan S agent f length code device true k =
     let info : RequestInfo = arrival_info S agent f length code device in
     let p : Place = arrival_place plan S f length device in
-    subst (StillGoes S.requests) (sym (came (do_deed plan (Count_arrival agent) S) device info p)) (new_request_comes S.requests (next_id S.tree) p info k.room refl)
+    subst (StillGoes S.requests) (sym (came (do_deed plan (CountArrival agent) S) device info p)) (new_request_comes S.requests (next_id S.tree) p info k.room refl)
 
 arrival_event : {A : Type 0} {F B : ℕ → Bool} (plan : Plan) (es : List Event) (S : State A) (e : Event) (agent : ℕ) (f : RequestForm) (length code device : ℕ) → ((x : ℕ) → shows (sign.MarkUndone x) e ≡ false) → ((x : ℕ) → shows (sign.CancelBegins x) e ≡ false)
     → KeptIn F B S → AllGo es S.requests → AllGo (es ++ e ∷ []) (do_deeds plan (arrival_deeds plan S agent f length code device) S).requests
@@ -222,7 +225,7 @@ cancel_one es R e r posted undoes begins g y =
 cancel_placed : {A : Type 0} {F B : ℕ → Bool} (plan : Plan) (es : List Event) (S : State A) (e : Event) (r : ℕ) (p : Place) → place_of S.requests r ≡ p → shows (sign.CancelPosted r) e ≡ true → ((x : ℕ) → shows (sign.MarkUndone x) e ≡ false)
     → ((x : ℕ) → shows (sign.CancelBegins x) e ≡ false) → KeptIn F B S → AllGo es S.requests → AllGo (es ++ e ∷ []) (do_deeds plan (cancel_at p r) S).requests
 cancel_placed plan es S e r (place.Queued q) at posted undoes begins k g =
-    all_next es e S.requests (do_deeds plan (cancel_at (place.Queued q) r) S).requests (deed_still plan (Withdraw q.0 r) S refl (rw at (itself q.0)) k)
+    all_next es e S.requests (do_deeds plan (cancel_at (place.Queued q) r) S).requests (deed_still plan (Withdraw q (object_id r)) S refl (rw at (itself q.0)) k)
     (λ x t. absurd (let n = undoes x in let z : ⊥ = cc in z)) (λ x t. absurd (let n = begins x in let z : ⊥ = cc in z)) g
 cancel_placed plan es S e r _ at posted undoes begins k g = cancel_one es S.requests e r posted undoes begins g
 
@@ -251,8 +254,8 @@ post_event plan m es S agent (post.Ask a device) answer h k g =
 post_event plan m es S agent (post.Act action) answer h k g =
     all_next es (event.Posted agent (post.Act action) answer) S.requests S.requests (λ m c b y h. h) (λ x t. absurd (let z : ⊥ = cc in z)) (λ x t. absurd (let z : ⊥ = cc in z)) g
 post_event plan m es S agent (post.Done r s) answer h k g =
-    all_next es (event.Posted agent (post.Done r s) answer) S.requests (do_deed plan (Finish_sending r.id.0 s) S).requests
-    (deed_still plan (Finish_sending r.id.0 s) S refl (both_left (fits plan (Finish_sending r.id.0 s) S) true (event_fits plan m S (event.Posted agent (post.Done r s) answer) h)) k)
+    all_next es (event.Posted agent (post.Done r s) answer) S.requests (do_deed plan (FinishSending r.id s) S).requests
+    (deed_still plan (FinishSending r.id s) S refl (both_left (fits plan (FinishSending r.id s) S) true (event_fits plan m S (event.Posted agent (post.Done r s) answer) h)) k)
     (λ x t. absurd (let z : ⊥ = cc in z)) (λ x t. absurd (let z : ⊥ = cc in z)) g
 
 -- ---- every event

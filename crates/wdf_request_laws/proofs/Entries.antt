@@ -34,7 +34,10 @@ use Rattle.wdf_model.specs.parts.Queues.{Queues, waiting_in}
 use Rattle.wdf_model.specs.parts.Queues as queues
 use Rattle.wdf_model.specs.parts.Control.{accepts, is_purged, mode_of}
 use Rattle.wdf_model.specs.State.{State, object_in}
-use Rattle.wdf_model.specs.rules.Deeds.{Deed, Acknowledge, Arrive, Complete_request, Count_arrival, Forward, Give_back, Mark_request, Requeue, Withdraw, arrive_at, do_deed, do_deeds, give_up}
+use Rattle.wdf_model.specs.Ids.{object_id}
+use Rattle.wdf_model.specs.declared.deed.Deed.{Deed}
+use Rattle.wdf_model.specs.declared.deed.Deed.TheVariants.{Acknowledge, Arrive, CompleteRequest, CountArrival, Forward, GiveBack, MarkRequest, Requeue, Withdraw}
+use Rattle.wdf_model.specs.rules.Deeds.{arrive_at, do_deed, do_deeds, give_up}
 use Rattle.wdf_model.specs.rules.Faults.{arg_is}
 use Rattle.wdf_model.specs.rules.Calls.{Outcome, forwards_nowhere, origin_or_none, outcome, refused, requeue_outcome, success}
 use Rattle.wdf_model.specs.rules.Posts.{arrival_info, arrival_place, arriving, cancel_at, cancel_deeds, cancel_reaches, due_of, post_answer, post_fits}
@@ -103,38 +106,38 @@ one_enters S e U r owned k only steps = record {
   fresh = λ q. fresh_of (λ x. shows (sign.Entry x) e) r (waiting_in S.queues q) only (owned_nowhere S r q owned k);
 }
 
-head_steps : {A : Type 0} (plan : Plan) (S : State A) (e : Event) (r q : ℕ) → headed e ≡ Some r → (x : ℕ) → LineStep e (waiting_in S.queues x) (waiting_in (do_deed plan (Requeue r q) S).queues x)
+head_steps : {A : Type 0} (plan : Plan) (S : State A) (e : Event) (r q : ℕ) → headed e ≡ Some r → (x : ℕ) → LineStep e (waiting_in S.queues x) (waiting_in (do_deed plan (Requeue (object_id r) (object_id q)) S).queues x)
 head_steps plan S e r q h x = elim (one_or_two x q) [
   | inl at ↦ inr (inl (
     r,
     h,
-    subst (λ (y : ℕ). waiting_in (do_deed plan (Requeue r q) S).queues y ≡ r ∷ waiting_in S.queues y) (sym at)
+    subst (λ (y : ℕ). waiting_in (do_deed plan (Requeue (object_id r) (object_id q)) S).queues y ≡ r ∷ waiting_in S.queues y) (sym at)
         (line_here (give_up S r).queues q (λ rs. r ∷ rs) ∙ ap (λ rs. r ∷ rs) (given_lines S r q)),
   ))
-  | inr n ↦ inl (shrinks_same (waiting_in S.queues x) (waiting_in (do_deed plan (Requeue r q) S).queues x) (line_elsewhere (give_up S r).queues q x (λ rs. r ∷ rs) n ∙ given_lines S r x))
+  | inr n ↦ inl (shrinks_same (waiting_in S.queues x) (waiting_in (do_deed plan (Requeue (object_id r) (object_id q)) S).queues x) (line_elsewhere (give_up S r).queues q x (λ rs. r ∷ rs) n ∙ given_lines S r x))
 ]
 
-tail_steps : {A : Type 0} (plan : Plan) (S : State A) (e : Event) (r q : ℕ) → tailed e ≡ Some r → headed e ≡ None → (x : ℕ) → LineStep e (waiting_in S.queues x) (waiting_in (do_deed plan (Forward r q) S).queues x)
+tail_steps : {A : Type 0} (plan : Plan) (S : State A) (e : Event) (r q : ℕ) → tailed e ≡ Some r → headed e ≡ None → (x : ℕ) → LineStep e (waiting_in S.queues x) (waiting_in (do_deed plan (Forward (object_id r) (object_id q)) S).queues x)
 tail_steps plan S e r q h none x = elim (one_or_two x q) [
   | inl at ↦ inr (inr (
     r,
     h,
     none,
-    subst (λ (y : ℕ). waiting_in (do_deed plan (Forward r q) S).queues y ≡ waiting_in S.queues y ++ r ∷ []) (sym at)
+    subst (λ (y : ℕ). waiting_in (do_deed plan (Forward (object_id r) (object_id q)) S).queues y ≡ waiting_in S.queues y ++ r ∷ []) (sym at)
         (line_here (give_up S r).queues q (λ rs. rs ++ r ∷ []) ∙ ap (λ rs. rs ++ r ∷ []) (given_lines S r q)),
   ))
-  | inr n ↦ inl (shrinks_same (waiting_in S.queues x) (waiting_in (do_deed plan (Forward r q) S).queues x) (line_elsewhere (give_up S r).queues q x (λ rs. rs ++ r ∷ []) n ∙ given_lines S r x))
+  | inr n ↦ inl (shrinks_same (waiting_in S.queues x) (waiting_in (do_deed plan (Forward (object_id r) (object_id q)) S).queues x) (line_elsewhere (give_up S r).queues q x (λ rs. rs ++ r ∷ []) n ∙ given_lines S r x))
 ]
 
 requeue_steps : {A : Type 0} (plan : Plan) (S : State A) (e : Event) (r q : ℕ) (u : Bool) → headed e ≡ Some r → (x : ℕ)
-    → LineStep e (waiting_in S.queues x) (waiting_in (do_deeds plan (if u then success (Give_back r q ∷ []) else success (Requeue r q ∷ [])).deeds S).queues x)
-requeue_steps plan S e r q true h x = inl (deed_shrinks plan (Give_back r q) S refl x)
+    → LineStep e (waiting_in S.queues x) (waiting_in (do_deeds plan (if u then success (GiveBack (object_id r) (object_id q) ∷ []) else success (Requeue (object_id r) (object_id q) ∷ [])).deeds S).queues x)
+requeue_steps plan S e r q true h x = inl (deed_shrinks plan (GiveBack (object_id r) (object_id q)) S refl x)
 requeue_steps plan S e r q false h x = head_steps plan S e r q h x
 
 -- what a forward does, by its tests
 abbrev pub forward_by : ℕ → ℕ → Bool → Bool → Bool → Outcome
 forward_by r q nowhere closed cancelled_ =
-    if nowhere then refused status.InvalidDeviceRequest else if closed then refused status.WdfBusy else if cancelled_ then success (Give_back r q ∷ []) else success (Forward r q ∷ [])
+    if nowhere then refused status.InvalidDeviceRequest else if closed then refused status.WdfBusy else if cancelled_ then success (GiveBack (object_id r) (object_id q) ∷ []) else success (Forward (object_id r) (object_id q) ∷ [])
 
 module _ {A : Type 0} {F B : ℕ → Bool} (plan : Plan) (S : State A) (cpu : Cpu) (n : ℕ) (a b x : Arg) (v : Value) (k : KeptIn F B S) where
   abbrev forwarding : Event
@@ -151,10 +154,10 @@ module _ {A : Type 0} {F B : ℕ → Bool} (plan : Plan) (S : State A) (cpu : Cp
   forward_steps true closed cancelled_ answer it owned = nothing_forwarded S.queues refl (ap is_success answer)
   forward_steps false true cancelled_ answer it owned = nothing_forwarded S.queues refl (ap is_success answer)
   forward_steps false false true answer it owned =
-      one_enters S forwarding (do_deeds plan (Give_back (object_in a) (object_in b) ∷ []) S).queues (object_in a) owned k (λ y t. (where_told y (is_success v) a t).1)
-      (λ q. inl (deed_shrinks plan (Give_back (object_in a) (object_in b)) S refl q))
+      one_enters S forwarding (do_deeds plan (GiveBack (object_id (object_in a)) (object_id (object_in b)) ∷ []) S).queues (object_in a) owned k (λ y t. (where_told y (is_success v) a t).1)
+      (λ q. inl (deed_shrinks plan (GiveBack (object_id (object_in a)) (object_id (object_in b))) S refl q))
   forward_steps false false false answer it owned =
-      one_enters S forwarding (do_deeds plan (Forward (object_in a) (object_in b) ∷ []) S).queues (object_in a) owned k (λ y t. (where_told y (is_success v) a t).1)
+      one_enters S forwarding (do_deeds plan (Forward (object_id (object_in a)) (object_id (object_in b)) ∷ []) S).queues (object_in a) owned k (λ y t. (where_told y (is_success v) a t).1)
       (tail_steps plan S forwarding (object_in a) (object_in b) (well_forwarded it (ap is_success answer)) refl)
 
   -- what is given back to the queue that it came from, by this call or that
@@ -171,15 +174,15 @@ module _ {A : Type 0} {F B : ℕ → Bool} (plan : Plan) (S : State A) (cpu : Cp
   abbrev stopping : Event
   stopping = event.Did cpu (call_of call.WdfRequestStopAcknowledge n a b x) v
 
-  stop_steps : (u : Bool) → arg_is b 0 ≡ u → argument_object a ≡ Some (object_in a) → all_fit plan (if u then success (Acknowledge (object_in a) ∷ []) else requeue_outcome S (object_in a) (origin_or_none S (object_in a))).deeds S ≡ true
-      → LineSteps stopping S.queues (do_deeds plan (if u then success (Acknowledge (object_in a) ∷ []) else requeue_outcome S (object_in a) (origin_or_none S (object_in a))).deeds S).queues
+  stop_steps : (u : Bool) → arg_is b 0 ≡ u → argument_object a ≡ Some (object_in a) → all_fit plan (if u then success (Acknowledge (object_id (object_in a)) ∷ []) else requeue_outcome S (object_in a) (origin_or_none S (object_in a))).deeds S ≡ true
+      → LineSteps stopping S.queues (do_deeds plan (if u then success (Acknowledge (object_id (object_in a)) ∷ []) else requeue_outcome S (object_in a) (origin_or_none S (object_in a))).deeds S).queues
   stop_steps true e it fit = shrink_steps stopping S.queues S.queues (lines_same S.queues S.queues refl) (λ y. rw e refl)
   stop_steps false e it fit =
       back_steps (call_of call.WdfRequestStopAcknowledge n a b x) (origin_or_none S (object_in a)) refl (ap (λ t. where_so (not t) (argument_object a)) e ∙ it) refl
       (owned_in S (object_in a) (given_first plan S (object_in a) (origin_or_none S (object_in a)) fit))
 
   mark_steps : (u : Bool) → LineSteps (event.Did cpu (call_of call.WdfRequestMarkCancelableEx n a b x) v) S.queues
-      (do_deeds plan (if u then record { answer = Stat (mark_answer S.requests (object_in a)); deeds = Mark_request (object_in a) ∷ [] } else refused status.InvalidDeviceRequest).deeds S).queues
+      (do_deeds plan (if u then record { answer = Stat (mark_answer S.requests (object_in a)); deeds = MarkRequest (object_id (object_in a)) ∷ [] } else refused status.InvalidDeviceRequest).deeds S).queues
   mark_steps true = shrink_steps _ S.queues S.queues (lines_same S.queues S.queues refl) (λ y. refl)
   mark_steps false = shrink_steps _ S.queues S.queues (lines_same S.queues S.queues refl) (λ y. refl)
 
@@ -193,7 +196,7 @@ quiet_enters y cpu _ n a b x v h = refl
 call_steps : {A : Type 0} {F B : ℕ → Bool} (plan : Plan) (S : State A) (cpu : Cpu) (f : ℕ) (k : CallKind) (n : ℕ) (a b x : Arg) (v : Value) → Clean plan S cpu.0 f (call_of k n a b x) → v ≡ (outcome plan S cpu.0 f (call_of k n a b x)).answer → KeptIn F B S
     → LineSteps (event.Did cpu (call_of k n a b x) v) S.queues (do_deeds plan (outcome plan S cpu.0 f (call_of k n a b x)).deeds S).queues
 call_steps plan S cpu f call.WdfRequestComplete n a b x v clean answer kept =
-    shrink_steps (event.Did cpu (call_of call.WdfRequestComplete n a b x) v) S.queues (do_deeds plan (Complete_request (object_in a) ∷ []) S).queues (deed_shrinks plan (Complete_request (object_in a)) S refl) (λ y. refl)
+    shrink_steps (event.Did cpu (call_of call.WdfRequestComplete n a b x) v) S.queues (do_deeds plan (CompleteRequest (object_id (object_in a)) ∷ []) S).queues (deed_shrinks plan (CompleteRequest (object_id (object_in a))) S refl) (λ y. refl)
 call_steps plan S cpu f call.WdfRequestMarkCancelableEx n a b x v clean answer kept = mark_steps plan S cpu n a b x v kept (declares plan callback.EvtRequestCancel (origin_or_none S (object_in a)))
 call_steps plan S cpu f call.WdfRequestRequeue n a b x v clean answer kept =
     back_steps plan S cpu n a b x v kept (call_of call.WdfRequestRequeue n a b x) (origin_or_none S (object_in a)) refl
@@ -249,15 +252,15 @@ no_entry : (e : Event) → headed e ≡ None → tailed e ≡ None → (x : ℕ)
 no_entry e h t x = rw (h, t) refl
 
 arrival_steps : {A : Type 0} {F B : ℕ → Bool} (plan : Plan) (S : State A) (e : Event) (agent : ℕ) (f : RequestForm) (length code device : ℕ) (b : Bool) → headed e ≡ None → tailed e ≡ (if b then Some (next_id S.tree) else None) → KeptIn F B S
-    → LineSteps e S.queues (do_deeds plan (Count_arrival agent ∷ (if b then Arrive device (arrival_info S agent f length code device) (arrival_place plan S f length device) ∷ [] else [])) S).queues
+    → LineSteps e S.queues (do_deeds plan (CountArrival agent ∷ (if b then Arrive (object_id device) (arrival_info S agent f length code device) (arrival_place plan S f length device) ∷ [] else [])) S).queues
 arrival_steps plan S e agent f length code device false h t k = shrink_steps e S.queues S.queues (lines_same S.queues S.queues refl) (no_entry e h t)
 arrival_steps plan S e agent f length code device true h t k = record {
-  step = arrives_in (do_deed plan (Count_arrival agent) S) e device (arrival_info S agent f length code device) (arrival_place plan S f length device) h t;
+  step = arrives_in (do_deed plan (CountArrival agent) S) e device (arrival_info S agent f length code device) (arrival_place plan S f length device) h t;
   fresh = λ q. fresh_of (λ x. shows (sign.Entry x) e) (next_id S.tree) (waiting_in S.queues q) (entry_told e (next_id S.tree) h t) (nowhere_yet k q);
 }
 
 cancel_steps_at : {A : Type 0} (plan : Plan) (S : State A) (e : Event) (p : Place) (r : ℕ) → ((x : ℕ) → shows (sign.Entry x) e ≡ false) → LineSteps e S.queues (do_deeds plan (cancel_at p r) S).queues
-cancel_steps_at plan S e (place.Queued q) r none = shrink_steps e S.queues (do_deed plan (Withdraw q.0 r) S).queues (deed_shrinks plan (Withdraw q.0 r) S refl) none
+cancel_steps_at plan S e (place.Queued q) r none = shrink_steps e S.queues (do_deed plan (Withdraw q (object_id r)) S).queues (deed_shrinks plan (Withdraw q (object_id r)) S refl) none
 cancel_steps_at plan S e _ r none = shrink_steps e S.queues S.queues (lines_same S.queues S.queues refl) none
 
 cancel_steps : {A : Type 0} (plan : Plan) (S : State A) (e : Event) (x : Option ℕ) → ((y : ℕ) → shows (sign.Entry y) e ≡ false) → LineSteps e S.queues (do_deeds plan (cancel_deeds S x) S).queues
@@ -283,7 +286,7 @@ module _ {A : Type 0} {F B : ℕ → Bool} (plan : Plan) (m : Meaning A) (S : St
   pub event_steps : (e : Event) → may plan m S e ≡ true → LineSteps e S.queues (after plan m S e).queues
   event_steps (event.Did cpu c v) h = did_steps plan m S cpu c v h k
   event_steps (event.Waiting cpu c) h = calm_steps plan m S (event.Waiting cpu c) (waits_quietly plan S c.kind c.count c.a c.b c.c (waiting_tells plan m S cpu c h).unmet) (λ x. refl)
-  event_steps (event.Complete r s) h = shrink_steps (event.Complete r s) S.queues (do_deed plan (Complete_request r.id.0) S).queues (deed_shrinks plan (Complete_request r.id.0) S refl) (λ x. refl)
+  event_steps (event.Complete r s) h = shrink_steps (event.Complete r s) S.queues (do_deed plan (CompleteRequest r.id) S).queues (deed_shrinks plan (CompleteRequest r.id) S refl) (λ x. refl)
   event_steps (event.Posted agent p answer) h =
       post_steps plan m S agent p answer (both_right (same_option same_post (due_of m S agent) (Some p) && post_fits plan S agent p) (same_option same_handle (post_answer plan S agent p) answer) h) k
   event_steps (event.Start cpu c o r) h = calm_steps plan m S (event.Start cpu c o r) refl (λ x. refl)

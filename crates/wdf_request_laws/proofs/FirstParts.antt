@@ -11,7 +11,10 @@ use Rattle.wdf_base.specs.declared.frame.Frame.{Frame}
 use Rattle.wdf_model.specs.parts.Cpus.{Cpus}
 use Rattle.wdf_model.specs.parts.Locks.{Locks}
 use Rattle.wdf_model.specs.State.{State}
-use Rattle.wdf_model.specs.rules.Deeds.{Deed, Go_on, Push_frame, do_deed, do_deeds}
+use Rattle.wdf_model.specs.Ids.{cpu_of, frame_id, irql_of}
+use Rattle.wdf_model.specs.declared.deed.Deed.{Deed}
+use Rattle.wdf_model.specs.declared.deed.Deed.TheVariants.{GoOn, PushFrame}
+use Rattle.wdf_model.specs.rules.Deeds.{do_deed, do_deeds}
 use Rattle.wdf_model.specs.rules.Calls.{outcome, second_deeds}
 use Rattle.wdf_model.specs.rules.Starts.{take_if_any}
 use Rattle.wdf_model.specs.rules.Steps.{answered, did_deeds, waiting, waiting_deeds, woke_deeds}
@@ -27,7 +30,7 @@ module _ {A X : Type 0} (reads : State A → X) (apart : (T : State A) (L : Lock
 
   pub did_reads : (S : State A) (cpu f : ℕ) (c : Call) (v : Value) (frame : Frame) → reads (do_deeds plan (did_deeds plan S cpu c v f frame) S) ≡ reads (do_deeds plan (outcome plan S cpu f c).deeds S)
   did_reads S cpu f c v frame =
-      ap reads (in_turn plan ((outcome plan S cpu f c).deeds ++ second_deeds f c) (Go_on f (answered plan frame v) ∷ []) S)
+      ap reads (in_turn plan ((outcome plan S cpu f c).deeds ++ second_deeds f c) (GoOn (frame_id f) (answered plan frame v) ∷ []) S)
       ∙ apart (do_deeds plan ((outcome plan S cpu f c).deeds ++ second_deeds f c) S) (do_deeds plan ((outcome plan S cpu f c).deeds ++ second_deeds f c) S).locks _
       ∙ ap reads (in_turn plan (outcome plan S cpu f c).deeds (second_deeds f c) S)
       ∙ second_reads (do_deeds plan (outcome plan S cpu f c).deeds S) f c.kind c.count c.a c.b c.c
@@ -36,18 +39,18 @@ module _ {A X : Type 0} (reads : State A → X) (apart : (T : State A) (L : Lock
   taking_reads T f None = refl
   taking_reads T f (Some l) = apart T _ T.cpus
 
-  pub start_reads : (S : State A) (ds : List Deed) (cpu f : ℕ) (frame : Frame) (level : ℕ) (l : Option LockRef) → reads (do_deeds plan (ds ++ Push_frame cpu f frame level ∷ take_if_any f l) S) ≡ reads (do_deeds plan ds S)
+  pub start_reads : (S : State A) (ds : List Deed) (cpu f : ℕ) (frame : Frame) (level : ℕ) (l : Option LockRef) → reads (do_deeds plan (ds ++ PushFrame (cpu_of cpu) (frame_id f) frame (irql_of level) ∷ take_if_any f l) S) ≡ reads (do_deeds plan ds S)
   start_reads S ds cpu f frame level l =
-      ap reads (in_turn plan ds (Push_frame cpu f frame level ∷ take_if_any f l) S)
-      ∙ taking_reads (do_deed plan (Push_frame cpu f frame level) (do_deeds plan ds S)) f l
+      ap reads (in_turn plan ds (PushFrame (cpu_of cpu) (frame_id f) frame (irql_of level) ∷ take_if_any f l) S)
+      ∙ taking_reads (do_deed plan (PushFrame (cpu_of cpu) (frame_id f) frame (irql_of level)) (do_deeds plan ds S)) f l
       ∙ apart (do_deeds plan ds S) (do_deeds plan ds S).locks _
 
   pub waiting_reads : (S : State A) (cpu f : ℕ) (c : Call) (frame : Frame) → reads (do_deeds plan (waiting_deeds plan S cpu c f frame) S) ≡ reads (do_deeds plan (outcome plan S cpu f c).deeds S)
   waiting_reads S cpu f c frame =
-      ap reads (in_turn plan (outcome plan S cpu f c).deeds (Go_on f (waiting frame c (outcome plan S cpu f c).answer) ∷ []) S)
+      ap reads (in_turn plan (outcome plan S cpu f c).deeds (GoOn (frame_id f) (waiting frame c (outcome plan S cpu f c).answer) ∷ []) S)
       ∙ apart (do_deeds plan (outcome plan S cpu f c).deeds S) (do_deeds plan (outcome plan S cpu f c).deeds S).locks _
 
   pub woke_reads : (S : State A) (f : ℕ) (c : Call) (v : Value) (frame : Frame) → reads (do_deeds plan (woke_deeds plan c v f frame) S) ≡ reads S
   woke_reads S f c v frame =
-      ap reads (in_turn plan (second_deeds f c) (Go_on f (answered plan frame v) ∷ []) S) ∙ apart (do_deeds plan (second_deeds f c) S) (do_deeds plan (second_deeds f c) S).locks _
+      ap reads (in_turn plan (second_deeds f c) (GoOn (frame_id f) (answered plan frame v) ∷ []) S) ∙ apart (do_deeds plan (second_deeds f c) S) (do_deeds plan (second_deeds f c) S).locks _
       ∙ second_reads S f c.kind c.count c.a c.b c.c

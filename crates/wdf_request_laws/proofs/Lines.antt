@@ -14,7 +14,9 @@ use Rattle.wdf_model.specs.parts.Queues as queues
 use Rattle.wdf_model.specs.parts.Control as control
 use Rattle.wdf_model.specs.parts.Power.{Power}
 use Rattle.wdf_model.specs.State.{State, is_with_driver}
-use Rattle.wdf_model.specs.rules.Deeds.{Deed, Arrive, Ask_deletion, Close_device, Close_returning, Complete_request, Forward, Give_back, Present, Purge_queue, Requeue, Send_request, Withdraw, close_queue, close_returning, do_deed, do_deeds, give_up, give_up_if, release_line, withdraw}
+use Rattle.wdf_model.specs.declared.deed.Deed.{Deed}
+use Rattle.wdf_model.specs.declared.deed.Deed.TheVariants.{Arrive, AskDeletion, CloseDevice, CloseReturning, CompleteRequest, Forward, GiveBack, Present, PurgeQueue, Requeue, SendRequest, Withdraw}
+use Rattle.wdf_model.specs.rules.Deeds.{close_queue, close_returning, do_deed, do_deeds, give_up, give_up_if, release_line, withdraw}
 use Rattle.wdf_model.specs.Plans.{managed_queues}
 use Rattle.wdf_model.proofs.Tests.{both, both_left, both_right, first, itself, not_true, second}
 use Rattle.wdf_model.proofs.Maps.{entry_map, entry_put_other, entry_put_same}
@@ -145,17 +147,17 @@ pub deed_shrinks : {A : Type 0} (plan : Plan) (d : Deed) (S : State A) → is_en
 deed_shrinks plan (Arrive device info p) S h = absurd (let z : ⊥ = cc in z)
 deed_shrinks plan (Requeue r q) S h = absurd (let z : ⊥ = cc in z)
 deed_shrinks plan (Forward r q) S h = absurd (let z : ⊥ = cc in z)
-deed_shrinks plan (Ask_deletion o) S h = lines_same S.queues (do_deed plan (Ask_deletion o) S).queues (asks_all queues_in (λ S T D W U. refl) (subtree S.tree o) S)
-deed_shrinks plan (Present q r) S h = one_line S.queues q (drop 1) (shrinks_first (waiting_in S.queues q))
-deed_shrinks plan (Give_back r q) S h = λ x. shrinks_same (waiting_in S.queues x) (waiting_in (give_up S r).queues x) (given_lines S r x)
-deed_shrinks plan (Withdraw q r) S h = line_cancelled S.queues r
-deed_shrinks plan (Send_request r t forget) S h = λ x. shrinks_same (waiting_in S.queues x) (waiting_in (give_up_if forget S r).queues x) (given_lines_if S forget r x)
-deed_shrinks plan (Complete_request r) S h =
-    lines_then S.queues (give_up S r).queues (do_deed plan (Complete_request r) S).queues (λ x. shrinks_same (waiting_in S.queues x) (waiting_in (give_up S r).queues x) (given_lines S r x))
-    (lines_same (give_up S r).queues (do_deed plan (Complete_request r) S).queues (asks_all queues_in (λ S T D W U. refl) (subtree (give_up S r).tree r) (record (give_up S r) { requests = requests.complete S.requests r })))
-deed_shrinks plan (Purge_queue q) S h = all_withdrawn plan q (waiting_in S.queues q) (record S { control = control.set_mode S.control q mode.Purged })
-deed_shrinks plan (Close_returning d) S h = lines_same S.queues (do_deed plan (Close_returning d) S).queues (all_returning (managed_queues plan d) S)
-deed_shrinks plan (Close_device d) S h = all_closed (queues_of plan d) (record S { control = control.shut S.control d })
+deed_shrinks plan (AskDeletion o) S h = lines_same S.queues (do_deed plan (AskDeletion o) S).queues (asks_all queues_in (λ S T D W U. refl) (subtree S.tree o.0) S)
+deed_shrinks plan (Present q r) S h = one_line S.queues q.0 (drop 1) (shrinks_first (waiting_in S.queues q.0))
+deed_shrinks plan (GiveBack r q) S h = λ x. shrinks_same (waiting_in S.queues x) (waiting_in (give_up S r.0).queues x) (given_lines S r.0 x)
+deed_shrinks plan (Withdraw q r) S h = line_cancelled S.queues r.0
+deed_shrinks plan (SendRequest r t forget) S h = λ x. shrinks_same (waiting_in S.queues x) (waiting_in (give_up_if forget S r.0).queues x) (given_lines_if S forget r.0 x)
+deed_shrinks plan (CompleteRequest r) S h =
+    lines_then S.queues (give_up S r.0).queues (do_deed plan (CompleteRequest r) S).queues (λ x. shrinks_same (waiting_in S.queues x) (waiting_in (give_up S r.0).queues x) (given_lines S r.0 x))
+    (lines_same (give_up S r.0).queues (do_deed plan (CompleteRequest r) S).queues (asks_all queues_in (λ S T D W U. refl) (subtree (give_up S r.0).tree r.0) (record (give_up S r.0) { requests = requests.complete S.requests r.0 })))
+deed_shrinks plan (PurgeQueue q) S h = all_withdrawn plan q.0 (waiting_in S.queues q.0) (record S { control = control.set_mode S.control q.0 mode.Purged })
+deed_shrinks plan (CloseReturning d) S h = lines_same S.queues (do_deed plan (CloseReturning d) S).queues (all_returning (managed_queues plan d.0) S)
+deed_shrinks plan (CloseDevice d) S h = all_closed (queues_of plan d.0) (record S { control = control.shut S.control d.0 })
 deed_shrinks plan _ S h = λ x P E l. l
 
 loud_entry : (d : Deed) → is_loud d ≡ false → is_entry d ≡ false

@@ -23,7 +23,10 @@ use Rattle.wdf_model.specs.parts.Queues as queues
 use Rattle.wdf_model.specs.parts.Control as control
 use Rattle.wdf_model.specs.parts.Targets.{is_forgotten, is_undone, routine_due}
 use Rattle.wdf_model.specs.State.{State, returns_to, withdrawn_place}
-use Rattle.wdf_model.specs.rules.Deeds.{Deed, Make_request, Arrive, Ask_deletion, End_life, Present, Receive, Requeue, Forward, Give_back, Withdraw, Mark_request, Unmark_request, Cancel_request, Take_cancel, Send_request, Finish_sending, Come_back, Complete_request, Purge_queue, Close_returning, Close_device, close_queue, close_returning, do_deed, do_deeds, finished_at, give_up, give_up_if, queued, withdraw}
+use Rattle.wdf_model.specs.Ids.{object_id}
+use Rattle.wdf_model.specs.declared.deed.Deed.{Deed}
+use Rattle.wdf_model.specs.declared.deed.Deed.TheVariants.{MakeRequest, Arrive, AskDeletion, EndLife, Present, Receive, Requeue, Forward, GiveBack, Withdraw, MarkRequest, UnmarkRequest, CancelRequest, TakeCancel, SendRequest, FinishSending, ComeBack, CompleteRequest, PurgeQueue, CloseReturning, CloseDevice}
+use Rattle.wdf_model.specs.rules.Deeds.{close_queue, close_returning, do_deed, do_deeds, finished_at, give_up, give_up_if, queued, withdraw}
 use Rattle.wdf_model.specs.laws.Fits.{all_fit, fits}
 use Rattle.wdf_model.proofs.Tests.{both_left, both_right, itself, not_true}
 use Rattle.wdf_model.proofs.Maps.{as_long, entry_map, entry_put_other, entry_put_same, entry_set_other, put_long, set_read}
@@ -296,54 +299,54 @@ all_closed [] S = λ m c b x g. g
 all_closed (q ∷ qs) S = still_then S.requests (close_queue S q).requests (fold close_queue (close_queue S q) qs).requests (all_close S.requests (is_in q) refl (inside_undone q)) (all_closed qs (close_queue S q))
 
 -- what is given back by the driver
-pub gives_back : {A : Type 0} (plan : Plan) (S : State A) (r q : ℕ) → StillGoes S.requests (do_deed plan (Give_back r q) S).requests
+pub gives_back : {A : Type 0} (plan : Plan) (S : State A) (r q : ℕ) → StillGoes S.requests (do_deed plan (GiveBack (object_id r) (object_id q)) S).requests
 gives_back plan S r q =
-    still_then S.requests (give_up S r).requests (do_deed plan (Give_back r q) S).requests (still_same S.requests (give_up S r).requests (given requests_of (λ S Q P. refl) S r))
+    still_then S.requests (give_up S r).requests (do_deed plan (GiveBack (object_id r) (object_id q)) S).requests (still_same S.requests (give_up S r).requests (given requests_of (λ S Q P. refl) S r))
     (cancels (give_up S r).requests r (withdrawn_place plan (give_up S r) q r) (withdrawn_unmarked plan (give_up S r) q r))
 
 moves_then : (R U : Requests) (r : ℕ) (p : Place) → U ≡ R → is_done (place_of R r) ≡ false → is_done p ≡ false → StillGoes R (requests.move_to U r p)
 moves_then R U r p e undone off =
     subst (λ (V : Requests). StillGoes R (requests.move_to V r p)) (sym e) (moves R r p undone (λ h. absurd (let z : ⊥ = cc in z)))
 
-pub enters_at_head : {A : Type 0} (plan : Plan) (S : State A) (r q : ℕ) → is_owned (place_of S.requests r) ≡ true → StillGoes S.requests (do_deed plan (Requeue r q) S).requests
+pub enters_at_head : {A : Type 0} (plan : Plan) (S : State A) (r q : ℕ) → is_owned (place_of S.requests r) ≡ true → StillGoes S.requests (do_deed plan (Requeue (object_id r) (object_id q)) S).requests
 enters_at_head plan S r q h = moves_then S.requests (give_up S r).requests r (queued q) (given requests_of (λ S Q P. refl) S r) (owned_undone (place_of S.requests r) h) refl
 
-pub enters_at_tail : {A : Type 0} (plan : Plan) (S : State A) (r q : ℕ) → is_owned (place_of S.requests r) ≡ true → StillGoes S.requests (do_deed plan (Forward r q) S).requests
+pub enters_at_tail : {A : Type 0} (plan : Plan) (S : State A) (r q : ℕ) → is_owned (place_of S.requests r) ≡ true → StillGoes S.requests (do_deed plan (Forward (object_id r) (object_id q)) S).requests
 enters_at_tail plan S r q h = moves_then S.requests (give_up S r).requests r (queued q) (given requests_of (λ S Q P. refl) S r) (owned_undone (place_of S.requests r) h) refl
 
-pub completed_requests : {A : Type 0} (plan : Plan) (S : State A) (r : ℕ) → (do_deed plan (Complete_request r) S).requests ≡ requests.move_to S.requests r place.Done
+pub completed_requests : {A : Type 0} (plan : Plan) (S : State A) (r : ℕ) → (do_deed plan (CompleteRequest (object_id r)) S).requests ≡ requests.move_to S.requests r place.Done
 completed_requests plan S r = asks_all requests_of (λ S T D W U. refl) (subtree (give_up S r).tree r) (record (give_up S r) { requests = requests.complete S.requests r })
 
 -- a deed that is none of the loud ones
 pub deed_still : {A : Type 0} {F B : ℕ → Bool} (plan : Plan) (d : Deed) (S : State A) → is_loud d ≡ false → fits plan d S ≡ true → KeptIn F B S → StillGoes S.requests (do_deed plan d S).requests
-deed_still plan (Mark_request r) S l f k = absurd (let z : ⊥ = cc in z)
-deed_still plan (Cancel_request r) S l f k = absurd (let z : ⊥ = cc in z)
-deed_still plan (Complete_request r) S l f k = absurd (let z : ⊥ = cc in z)
+deed_still plan (MarkRequest r) S l f k = absurd (let z : ⊥ = cc in z)
+deed_still plan (CancelRequest r) S l f k = absurd (let z : ⊥ = cc in z)
+deed_still plan (CompleteRequest r) S l f k = absurd (let z : ⊥ = cc in z)
 deed_still plan (Arrive device info p) S l f k = absurd (let z : ⊥ = cc in z)
 deed_still plan (Requeue r q) S l f k = absurd (let z : ⊥ = cc in z)
 deed_still plan (Forward r q) S l f k = absurd (let z : ⊥ = cc in z)
-deed_still plan (Make_request class parent) S l f k = new_request_comes S.requests (next_id S.tree) place.Owned (made_info (nearest_device S.tree parent)) k.room refl
-deed_still plan (Ask_deletion o) S l f k = still_same _ _ (asks_all requests_of (λ S T D W U. refl) (subtree S.tree o) S)
-deed_still plan (End_life o) S l f k = forgets S.requests o
-deed_still plan (Present q r) S l f k = moves S.requests r place.Owned (queued_undone q (place_of S.requests r) (front_queued S q r f k)) (λ h. absurd (let z : ⊥ = cc in z))
-deed_still plan (Receive q r) S l f k = moves S.requests r place.Owned (returning_undone q (place_of S.requests r) f) (λ h. absurd (let z : ⊥ = cc in z))
-deed_still plan (Give_back r q) S l f k = gives_back plan S r q
-deed_still plan (Withdraw q r) S l f k = cancels S.requests r (withdrawn_place plan (record S { queues = queues.take_cancelled S.queues r }) q r) (withdrawn_unmarked plan (record S { queues = queues.take_cancelled S.queues r }) q r)
-deed_still plan (Unmark_request r) S l f k = one_changes S.requests r unmarked (λ m c b g. unmarked_by m c b (request_of S.requests r) (is_marked (request_of S.requests r).info.mark) g)
-deed_still plan (Take_cancel r) S l f k =
-    one_changes S.requests r (with_mark marks.Taken) (λ m c b g. disarmed m c b (place_of S.requests r) (mark_of S.requests r) marks.Taken (is_cancelled S.requests r) refl refl refl g)
-deed_still plan (Send_request r t forget) S l f k =
-    moves_then S.requests (give_up_if forget S r).requests r (place.Sent (record { 0 = t })) (given_if requests_of (λ S Q P. refl) S forget r)
-    (owned_undone (place_of S.requests r) (search (both_left, both_right))) refl
-deed_still plan (Finish_sending r s) S l f k =
-    let is : is_sent (place_of S.requests r) ≡ true = both_left (is_sent (place_of S.requests r)) (is_undone S.targets r) f in
-    let off : is_done (finished_at (is_forgotten S.targets r) s (place_of S.requests r)) ≡ false = finished_undone (is_forgotten S.targets r) s (place_of S.requests r) is in
-    moves S.requests r (finished_at (is_forgotten S.targets r) s (place_of S.requests r)) (sent_undone (place_of S.requests r) is) (λ h. absurd (let z : ⊥ = cc in z))
-deed_still plan (Come_back r) S l f k =
-    moves S.requests r place.Owned (sent_undone (place_of S.requests r) (both_left (is_sent (place_of S.requests r)) (is_some (routine_due S.targets r)) f)) (λ h. absurd (let z : ⊥ = cc in z))
-deed_still plan (Purge_queue q) S l f k = all_withdrawn plan q (waiting_in S.queues q) (record S { control = control.set_mode S.control q mode.Purged })
-deed_still plan (Close_returning d) S l f k = all_returning (managed_queues plan d) S
-deed_still plan (Close_device d) S l f k = all_closed (queues_of plan d) (record S { control = control.shut S.control d })
+deed_still plan (MakeRequest class parent) S l f k = new_request_comes S.requests (next_id S.tree) place.Owned (made_info (nearest_device S.tree parent.0)) k.room refl
+deed_still plan (AskDeletion o) S l f k = still_same _ _ (asks_all requests_of (λ S T D W U. refl) (subtree S.tree o.0) S)
+deed_still plan (EndLife o) S l f k = forgets S.requests o.0
+deed_still plan (Present q r) S l f k = moves S.requests r.0 place.Owned (queued_undone q.0 (place_of S.requests r.0) (front_queued S q.0 r.0 f k)) (λ h. absurd (let z : ⊥ = cc in z))
+deed_still plan (Receive q r) S l f k = moves S.requests r.0 place.Owned (returning_undone q.0 (place_of S.requests r.0) f) (λ h. absurd (let z : ⊥ = cc in z))
+deed_still plan (GiveBack r q) S l f k = gives_back plan S r.0 q.0
+deed_still plan (Withdraw q r) S l f k = cancels S.requests r.0 (withdrawn_place plan (record S { queues = queues.take_cancelled S.queues r.0 }) q.0 r.0) (withdrawn_unmarked plan (record S { queues = queues.take_cancelled S.queues r.0 }) q.0 r.0)
+deed_still plan (UnmarkRequest r) S l f k = one_changes S.requests r.0 unmarked (λ m c b g. unmarked_by m c b (request_of S.requests r.0) (is_marked (request_of S.requests r.0).info.mark) g)
+deed_still plan (TakeCancel r) S l f k =
+    one_changes S.requests r.0 (with_mark marks.Taken) (λ m c b g. disarmed m c b (place_of S.requests r.0) (mark_of S.requests r.0) marks.Taken (is_cancelled S.requests r.0) refl refl refl g)
+deed_still plan (SendRequest r t forget) S l f k =
+    moves_then S.requests (give_up_if forget S r.0).requests r.0 (place.Sent (record { 0 = t.0 })) (given_if requests_of (λ S Q P. refl) S forget r.0)
+    (owned_undone (place_of S.requests r.0) (search (both_left, both_right))) refl
+deed_still plan (FinishSending r s) S l f k =
+    let is : is_sent (place_of S.requests r.0) ≡ true = both_left (is_sent (place_of S.requests r.0)) (is_undone S.targets r.0) f in
+    let off : is_done (finished_at (is_forgotten S.targets r.0) s (place_of S.requests r.0)) ≡ false = finished_undone (is_forgotten S.targets r.0) s (place_of S.requests r.0) is in
+    moves S.requests r.0 (finished_at (is_forgotten S.targets r.0) s (place_of S.requests r.0)) (sent_undone (place_of S.requests r.0) is) (λ h. absurd (let z : ⊥ = cc in z))
+deed_still plan (ComeBack r) S l f k =
+    moves S.requests r.0 place.Owned (sent_undone (place_of S.requests r.0) (both_left (is_sent (place_of S.requests r.0)) (is_some (routine_due S.targets r.0)) f)) (λ h. absurd (let z : ⊥ = cc in z))
+deed_still plan (PurgeQueue q) S l f k = all_withdrawn plan q.0 (waiting_in S.queues q.0) (record S { control = control.set_mode S.control q.0 mode.Purged })
+deed_still plan (CloseReturning d) S l f k = all_returning (managed_queues plan d.0) S
+deed_still plan (CloseDevice d) S l f k = all_closed (queues_of plan d.0) (record S { control = control.shut S.control d.0 })
 deed_still plan _ S l f k = λ m c b x g. g
 
 -- a loud deed isn't an arrival

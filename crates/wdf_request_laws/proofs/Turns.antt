@@ -28,7 +28,8 @@ use Rattle.wdf_model.specs.parts.Locks.{lock_of_callback}
 use Rattle.wdf_model.specs.parts.Queues.{Queues, front, waiting_in}
 use Rattle.wdf_model.specs.parts.Queues as queues
 use Rattle.wdf_model.specs.State.{State, declared_in, object_in, queue_delivers}
-use Rattle.wdf_model.specs.rules.Deeds.{Deed, do_deeds}
+use Rattle.wdf_model.specs.declared.deed.Deed.{Deed}
+use Rattle.wdf_model.specs.rules.Deeds.{do_deeds}
 use Rattle.wdf_model.specs.rules.Calls.{Outcome, outcome, refused, retrieve_front, retrieve_outcome}
 use Rattle.wdf_model.specs.rules.Starts.{effect_for, new_frame, next_number, rank_ready_for}
 use Rattle.wdf_model.specs.rules.Steps.{after, did_deeds, may}

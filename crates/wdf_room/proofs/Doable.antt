@@ -14,7 +14,8 @@ use Rattle.wdf_model.specs.parts.Cpus.{all_frames, top}
 use Rattle.wdf_model.specs.parts.Requests.{has_arrived, is_done, is_queued_in, no_request, origin_of, place_of, request_of}
 use Rattle.wdf_model.specs.parts.Queues.{held_in, is_waiting}
 use Rattle.wdf_model.specs.State.{State}
-use Rattle.wdf_model.specs.rules.Deeds.{Deed, do_deed, do_deeds}
+use Rattle.wdf_model.specs.declared.deed.Deed.{Deed}
+use Rattle.wdf_model.specs.rules.Deeds.{do_deed, do_deeds}
 use Rattle.wdf_model.specs.rules.Calls.{Outcome}
 use Rattle.wdf_model.specs.rules.Steps.{is_cpu}
 use Rattle.wdf_model.specs.laws.OverRuns.{DeclaredAgree, FramesAgree, PlacesAgree}

@@ -29,7 +29,10 @@ use Rattle.wdf_model.specs.parts.Requests as requests
 use Rattle.wdf_model.specs.parts.Queues.{waiting_in}
 use Rattle.wdf_model.specs.parts.Control as control
 use Rattle.wdf_model.specs.State.{State, declared_in, is_with_driver}
-use Rattle.wdf_model.specs.rules.Deeds.{Deed, Arrive, Ask_deletion, Requeue, Forward, Give_back, Send_request, Complete_request, Purge_queue, Close_returning, Close_device, Go_on, Pop_frame, Push_frame, Park_frame, Unpark_frame, arrive_at, ask_object, close_queue, close_returning, do_deed, do_deeds, give_up, give_up_if, withdraw}
+use Rattle.wdf_model.specs.Ids.{cpu_of, frame_id}
+use Rattle.wdf_model.specs.declared.deed.Deed.{Deed}
+use Rattle.wdf_model.specs.declared.deed.Deed.TheVariants.{Arrive, AskDeletion, Requeue, Forward, GiveBack, SendRequest, CompleteRequest, PurgeQueue, CloseReturning, CloseDevice, GoOn, PopFrame, PushFrame, ParkFrame, UnparkFrame}
+use Rattle.wdf_model.specs.rules.Deeds.{arrive_at, ask_object, close_queue, close_returning, do_deed, do_deeds, give_up, give_up_if, withdraw}
 use Rattle.wdf_model.specs.rules.Calls.{is_met, second_deeds}
 use Rattle.wdf_model.specs.rules.Starts.{end_deeds, end_of_step, release_if_any}
 use Rattle.wdf_model.specs.rules.Steps.{answered, by_top, is_cpu, may_park, may_unpark, woke_deeds}
@@ -79,22 +82,22 @@ arrives S device info (place.Queued q) = refl
 arrives S device info _ = refl
 
 still_frames : {A : Type 0} (plan : Plan) (d : Deed) (S : State A) → is_still_deed d ≡ true → (do_deed plan d S).cpus.frames ≡ S.cpus.frames
-still_frames plan (Arrive device info p) S h = ap (λ c. c.frames) (arrives S device info p)
-still_frames plan (Ask_deletion o) S h = ap (λ c. c.frames) (asks_all (subtree S.tree o) S)
-still_frames plan (Requeue r q) S h = ap (λ c. c.frames) (gives_up S r)
-still_frames plan (Forward r q) S h = ap (λ c. c.frames) (gives_up S r)
-still_frames plan (Give_back r q) S h = ap (λ c. c.frames) (gives_up S r)
-still_frames plan (Send_request r t forget) S h = ap (λ c. c.frames) (gives_up_if S forget r)
-still_frames plan (Complete_request r) S h =
-    ap (λ c. c.frames) (asks_all (subtree (give_up S r).tree r) (record (give_up S r) { requests = requests.complete S.requests r }) ∙ gives_up S r)
-still_frames plan (Purge_queue q) S h = ap (λ c. c.frames) (withdraws plan q (waiting_in S.queues q) (record S { control = control.set_mode S.control q mode.Purged }))
-still_frames plan (Close_returning d) S h = ap (λ c. c.frames) (returns (managed_queues plan d) S)
-still_frames plan (Close_device d) S h = ap (λ c. c.frames) (closes (queues_of plan d) (record S { control = control.shut S.control d }))
-still_frames plan (Push_frame cpu f frame level) S h = absurd (let z : ⊥ = cc in z)
-still_frames plan (Go_on f frame) S h = absurd (let z : ⊥ = cc in z)
-still_frames plan (Pop_frame cpu) S h = absurd (let z : ⊥ = cc in z)
-still_frames plan (Park_frame cpu) S h = absurd (let z : ⊥ = cc in z)
-still_frames plan (Unpark_frame cpu f) S h = absurd (let z : ⊥ = cc in z)
+still_frames plan (Arrive device info p) S h = ap (λ c. c.frames) (arrives S device.0 info p)
+still_frames plan (AskDeletion o) S h = ap (λ c. c.frames) (asks_all (subtree S.tree o.0) S)
+still_frames plan (Requeue r q) S h = ap (λ c. c.frames) (gives_up S r.0)
+still_frames plan (Forward r q) S h = ap (λ c. c.frames) (gives_up S r.0)
+still_frames plan (GiveBack r q) S h = ap (λ c. c.frames) (gives_up S r.0)
+still_frames plan (SendRequest r t forget) S h = ap (λ c. c.frames) (gives_up_if S forget r.0)
+still_frames plan (CompleteRequest r) S h =
+    ap (λ c. c.frames) (asks_all (subtree (give_up S r.0).tree r.0) (record (give_up S r.0) { requests = requests.complete S.requests r.0 }) ∙ gives_up S r.0)
+still_frames plan (PurgeQueue q) S h = ap (λ c. c.frames) (withdraws plan q.0 (waiting_in S.queues q.0) (record S { control = control.set_mode S.control q.0 mode.Purged }))
+still_frames plan (CloseReturning d) S h = ap (λ c. c.frames) (returns (managed_queues plan d.0) S)
+still_frames plan (CloseDevice d) S h = ap (λ c. c.frames) (closes (queues_of plan d.0) (record S { control = control.shut S.control d.0 }))
+still_frames plan (PushFrame cpu f frame level) S h = absurd (let z : ⊥ = cc in z)
+still_frames plan (GoOn f frame) S h = absurd (let z : ⊥ = cc in z)
+still_frames plan (PopFrame cpu) S h = absurd (let z : ⊥ = cc in z)
+still_frames plan (ParkFrame cpu) S h = absurd (let z : ⊥ = cc in z)
+still_frames plan (UnparkFrame cpu f) S h = absurd (let z : ⊥ = cc in z)
 still_frames plan _ S h = refl
 
 pub frames_stay : {A : Type 0} (plan : Plan) (ds : List Deed) (S : State A) → all_still ds ≡ true → (do_deeds plan ds S).cpus.frames ≡ S.cpus.frames
@@ -104,10 +107,10 @@ frames_stay plan (d ∷ ds) S h =
 
 -- a frame goes on after deeds that leave the frames alone
 pub goes_on_after : {A : Type 0} (plan : Plan) (ds : List Deed) (S : State A) (f : ℕ) (frame : Frame) → f < length S.cpus.frames → all_still ds ≡ true
-    → AreDoable plan ds S → AreDoable plan (ds ++ Go_on f frame ∷ []) S
+    → AreDoable plan ds S → AreDoable plan (ds ++ GoOn (frame_id f) frame ∷ []) S
 goes_on_after plan ds S f frame there still h =
     let same = ap (λ fs. length fs) (frames_stay plan ds S still) in
-    doable_after plan ds (Go_on f frame ∷ []) S h (let now : f < length (do_deeds plan ds S).cpus.frames = omega arith in (now, tt))
+    doable_after plan ds (GoOn (frame_id f) frame ∷ []) S h (let now : f < length (do_deeds plan ds S).cpus.frames = omega arith in (now, tt))
 
 -- ---- locks
 
@@ -131,11 +134,11 @@ module _ {A : Type 0} {plan : Plan} {S : State A} (k : Fine plan S) where
   -- ---- a frame goes on
 
   moving_by : (next : ℕ → Frame → Frame) (cpu : ℕ) (there : Option ℕ) → top S.cpus cpu ≡ there
-      → AreDoable plan (elim there as (λ _. List Deed) [ None ↦ [] | Some f ↦ Go_on f (next f (frame_of S.cpus f)) ∷ [] ]) S
+      → AreDoable plan (elim there as (λ _. List Deed) [ None ↦ [] | Some f ↦ GoOn (frame_id f) (next f (frame_of S.cpus f)) ∷ [] ]) S
   moving_by next cpu None h = tt
   moving_by next cpu (Some f) h = (top_there k cpu f h, tt)
 
-  pub moving_doable : (next : ℕ → Frame → Frame) (cpu : ℕ) → AreDoable plan (by_top S cpu (λ f frame. Go_on f (next f frame) ∷ [])) S
+  pub moving_doable : (next : ℕ → Frame → Frame) (cpu : ℕ) → AreDoable plan (by_top S cpu (λ f frame. GoOn (frame_id f) (next f frame) ∷ [])) S
   moving_doable next cpu = moving_by next cpu (top S.cpus cpu) refl
 
   pub woke_doable : (cpu : Cpu) (c : Call) (v : Value) → IsWoke S cpu.0 c v → AreDoable plan (by_top S cpu.0 (woke_deeds plan c v)) S
@@ -147,12 +150,12 @@ module _ {A : Type 0} {plan : Plan} {S : State A} (k : Fine plan S) where
 
   -- ---- a frame leaves its processor, and comes back
 
-  pub park_doable : (cpu : Cpu) (f : FrameId) → may_park S cpu.0 f.0 ≡ true → AreDoable plan (Park_frame cpu.0 ∷ []) S
+  pub park_doable : (cpu : Cpu) (f : FrameId) → may_park S cpu.0 f.0 ≡ true → AreDoable plan (ParkFrame cpu ∷ []) S
   park_doable cpu f h =
       let top_is : same_id (top S.cpus cpu.0) f.0 ≡ true = search (both_left, both_right) in
       (cpu_there k cpu.0 (same_there (top S.cpus cpu.0) f.0 top_is), tt)
 
-  pub unpark_doable : (cpu : Cpu) (f : FrameId) → (is_cpu plan cpu && may_unpark S cpu.0 f.0) ≡ true → AreDoable plan (Unpark_frame cpu.0 f.0 ∷ []) S
+  pub unpark_doable : (cpu : Cpu) (f : FrameId) → (is_cpu plan cpu && may_unpark S cpu.0 f.0) ≡ true → AreDoable plan (UnparkFrame cpu f ∷ []) S
   unpark_doable cpu f h =
       let parked : contains f.0 S.cpus.parked ≡ true = search (both_left, both_right) in
       ((stack_there k cpu (both_left (is_cpu plan cpu) (may_unpark S cpu.0 f.0) h), parked), tt)
@@ -164,7 +167,7 @@ module _ {A : Type 0} {plan : Plan} {S : State A} (k : Fine plan S) where
   ends_step _ c o v U e = tt
 
   ends_frame : (cpu f : ℕ) (l : Option LockRef) (es : List Deed) → top S.cpus cpu ≡ Some f → ((U : State A) → U.pnp ≡ S.pnp → AreDoable plan es U)
-      → AreDoable plan (release_if_any l ++ Pop_frame cpu ∷ es) S
+      → AreDoable plan (release_if_any l ++ PopFrame (cpu_of cpu) ∷ es) S
   ends_frame cpu f None es t h = let some_ : is_some (top S.cpus cpu) ≡ true = rw t refl in ((cpu_there k cpu some_, some_), h _ refl)
   ends_frame cpu f (Some l) es t h = let some_ : is_some (top S.cpus cpu) ≡ true = rw t refl in (tt, ((cpu_there k cpu some_, some_), h _ refl))
 

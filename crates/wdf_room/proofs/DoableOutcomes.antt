@@ -21,7 +21,8 @@ use Rattle.wdf_model.specs.parts.Deferred.Dpcs.{is_dpc_queued}
 use Rattle.wdf_model.specs.parts.Deferred.Timers.{is_timer_queued}
 use Rattle.wdf_model.specs.parts.Targets.{takes_more}
 use Rattle.wdf_model.specs.State.{State, is_with_driver, queue_delivers}
-use Rattle.wdf_model.specs.rules.Deeds.{Acknowledge, Enqueue_dpc, Enqueue_work, Forward, Give_back, Mark_request, Register_queue, Requeue, Send_request, Start_timer}
+use Rattle.wdf_model.specs.Ids.{cpu_of, object_id}
+use Rattle.wdf_model.specs.declared.deed.Deed.TheVariants.{Acknowledge, EnqueueDpc, EnqueueWork, Forward, GiveBack, MarkRequest, RegisterQueue, Requeue, SendRequest, StartTimer}
 use Rattle.wdf_model.specs.rules.Faults.{arg_is}
 use Rattle.wdf_model.specs.rules.Calls.{acknowledge_outcome, create_outcome, creation, dpc_outcome, forward_outcome, forwards_nowhere, isr_dpc_outcome, mark_outcome, may_send, new_handle, notify_outcome, number, origin_or_none, refused, requeue_outcome, retrieve_front, retrieve_outcome, send_outcome, success, timer_outcome, work_outcome}
 use Rattle.wdf_model.proofs.Tests.{both_left, both_right, either_false, itself, not_false, not_true}
@@ -89,29 +90,29 @@ module _ {A : Type 0} {plan : Plan} {S : State A} (k : Fine plan S) where
   pub requeue_doable : (r q : ℕ) → is_owned (place_of S.requests r) ≡ true → q < table_size plan → AreDoable plan (requeue_outcome S r q).deeds S
   requeue_doable r q h there =
       let gives = may_give_up k r (owned_undone (place_of S.requests r) h) in
-      either_doable plan S (is_cancelled S.requests r || is_purged (mode_of S.control q)) (success (Give_back r q ∷ [])) (success (Requeue r q ∷ []))
+      either_doable plan S (is_cancelled S.requests r || is_purged (mode_of S.control q)) (success (GiveBack (object_id r) (object_id q) ∷ [])) (success (Requeue (object_id r) (object_id q) ∷ []))
       (λ _. (gives, tt)) (λ _. ((gives, owned_may_enter q r h (queue_there q there)), tt))
 
   pub mark_doable : (r : ℕ) → is_owned (place_of S.requests r) ≡ true → AreDoable plan (mark_outcome plan S r).deeds S
   mark_doable r h =
-      either_doable plan S (declares plan callback.EvtRequestCancel (origin_or_none S r)) (record { answer = Stat (mark_answer S.requests r); deeds = Mark_request r ∷ [] }) (refused status.InvalidDeviceRequest)
+      either_doable plan S (declares plan callback.EvtRequestCancel (origin_or_none S r)) (record { answer = Stat (mark_answer S.requests r); deeds = MarkRequest (object_id r) ∷ [] }) (refused status.InvalidDeviceRequest)
       (λ _. (request_here k r (owned_undone (place_of S.requests r) h), tt)) (λ _. tt)
 
   pub forward_doable : (r q : ℕ) → is_owned (place_of S.requests r) ≡ true → AreDoable plan (forward_outcome plan S r q).deeds S
   forward_doable r q h =
       let gives = may_give_up k r (owned_undone (place_of S.requests r) h) in
       either_doable plan S (forwards_nowhere plan S r q) (refused status.InvalidDeviceRequest)
-      (if not (accepts S.control q) then refused status.WdfBusy else if is_cancelled S.requests r then success (Give_back r q ∷ []) else success (Forward r q ∷ []))
+      (if not (accepts S.control q) then refused status.WdfBusy else if is_cancelled S.requests r then success (GiveBack (object_id r) (object_id q) ∷ []) else success (Forward (object_id r) (object_id q) ∷ []))
       (λ _. tt)
-      (λ _. either_doable plan S (not (accepts S.control q)) (refused status.WdfBusy) (if is_cancelled S.requests r then success (Give_back r q ∷ []) else success (Forward r q ∷ []))
+      (λ _. either_doable plan S (not (accepts S.control q)) (refused status.WdfBusy) (if is_cancelled S.requests r then success (GiveBack (object_id r) (object_id q) ∷ []) else success (Forward (object_id r) (object_id q) ∷ []))
       (λ _. tt)
-      (λ open_. either_doable plan S (is_cancelled S.requests r) (success (Give_back r q ∷ [])) (success (Forward r q ∷ []))
+      (λ open_. either_doable plan S (is_cancelled S.requests r) (success (GiveBack (object_id r) (object_id q) ∷ [])) (success (Forward (object_id r) (object_id q) ∷ []))
       (λ _. (gives, tt))
       (λ _. ((gives, owned_may_enter q r h (accepting_queue k q (not_false (accepts S.control q) open_))), tt))))
 
   pub send_doable : (r t : ℕ) (forget : Bool) → is_owned (place_of S.requests r) ≡ true → AreDoable plan (send_outcome S r t forget).deeds S
   send_doable r t forget h =
-      either_doable plan S (may_send S r t) (number 1 (Send_request r t forget ∷ [])) (number 0 [])
+      either_doable plan S (may_send S r t) (number 1 (SendRequest (object_id r) (object_id t) forget ∷ [])) (number 0 [])
       (λ may. let more : takes_more S.targets t ≡ true = search (both_left, both_right) in (
         (
           may_give_up k r (owned_undone (place_of S.requests r) h),
@@ -127,7 +128,7 @@ module _ {A : Type 0} {plan : Plan} {S : State A} (k : Fine plan S) where
       → AreDoable plan (acknowledge_outcome S r b).deeds S
   acknowledge_doable r b held =
       let parts = either_false (not (is_with_driver S r)) (not (arg_is b 0) && not (is_owned (place_of S.requests r))) held in
-      either_doable plan S (arg_is b 0) (success (Acknowledge r ∷ [])) (requeue_outcome S r (origin_or_none S r))
+      either_doable plan S (arg_is b 0) (success (Acknowledge (object_id r) ∷ [])) (requeue_outcome S r (origin_or_none S r))
       (λ _. ((held_request k r (not_false (is_with_driver S r) parts.0)).room, tt))
       (λ back. let e : (not (arg_is b 0) && not (is_owned (place_of S.requests r))) ≡ false = parts.1 in
       requeue_doable r (origin_or_none S r) (not_false (is_owned (place_of S.requests r)) (rw back at e)) (origin_there k r))
@@ -159,7 +160,7 @@ module _ {A : Type 0} {plan : Plan} {S : State A} (k : Fine plan S) where
 
   pub notify_doable : (q : ℕ) (x : Arg) → q < table_size plan → AreDoable plan (notify_outcome plan q x).deeds S
   notify_doable q x there =
-      either_doable plan S (is_manual_queue plan q && declares plan callback.EvtIoQueueState q) (success (Register_queue q (not (arg_is x 0)) ∷ [])) (refused status.InvalidDeviceRequest)
+      either_doable plan S (is_manual_queue plan q && declares plan callback.EvtIoQueueState q) (success (RegisterQueue (object_id q) (not (arg_is x 0)) ∷ [])) (refused status.InvalidDeviceRequest)
       (λ _. (mode_there q there, tt)) (λ _. tt)
 
   -- ---- deferred work
@@ -167,13 +168,13 @@ module _ {A : Type 0} {plan : Plan} {S : State A} (k : Fine plan S) where
   pub isr_doable : (cpu i : ℕ) → cpu < plan.cpus → i < table_size plan → AreDoable plan (isr_dpc_outcome plan S cpu i).deeds S
   isr_doable cpu i here there =
       let size = k.room.sizes.dpcs in
-      either_doable plan S (is_enabled S.interrupts i && declares plan callback.EvtInterruptDpc i && not (is_dpc_queued S.dpcs i)) (number 1 (Enqueue_dpc cpu i ∷ [])) (number 0 [])
+      either_doable plan S (is_enabled S.interrupts i && declares plan callback.EvtInterruptDpc i && not (is_dpc_queued S.dpcs i)) (number 1 (EnqueueDpc (cpu_of cpu) (object_id i) ∷ [])) (number 0 [])
       (λ h. let off : not (is_dpc_queued S.dpcs i) ≡ true = search both_right in ((omega arith, declared_room k i there, not_true (is_dpc_queued S.dpcs i) off), tt)) (λ _. tt)
 
   pub dpc_doable : (cpu o : ℕ) → cpu < plan.cpus → AreDoable plan (dpc_outcome S cpu o).deeds S
   dpc_doable cpu o here =
       let size = k.room.sizes.dpcs in
-      either_doable plan S (is_live (life_of S.tree o) && not (is_dpc_queued S.dpcs o)) (number 1 (Enqueue_dpc cpu o ∷ [])) (number 0 [])
+      either_doable plan S (is_live (life_of S.tree o) && not (is_dpc_queued S.dpcs o)) (number 1 (EnqueueDpc (cpu_of cpu) (object_id o) ∷ [])) (number 0 [])
       (λ h. let off : not (is_dpc_queued S.dpcs o) ≡ true = search both_right in
       let live : is_live (life_of S.tree o) ≡ true = search both_left in
       ((omega arith, room_of k o (live_there o live), not_true (is_dpc_queued S.dpcs o) off), tt)) (λ _. tt)
@@ -181,10 +182,10 @@ module _ {A : Type 0} {plan : Plan} {S : State A} (k : Fine plan S) where
   pub timer_doable : (o n : ℕ) → AreDoable plan (timer_outcome S o n).deeds S
   timer_doable o n =
       let small = clock_small k in
-      either_doable plan S (is_live (life_of S.tree o)) (number (flag (is_timer_queued S.timers o)) (Start_timer o n ∷ [])) (number 0 [])
+      either_doable plan S (is_live (life_of S.tree o)) (number (flag (is_timer_queued S.timers o)) (StartTimer (object_id o) n ∷ [])) (number 0 [])
       (λ live. ((room_of k o (live_there o live), omega arith), tt)) (λ _. tt)
 
   pub work_doable : (o : ℕ) → AreDoable plan (work_outcome S o).deeds S
   work_doable o =
-      either_doable plan S (is_live (life_of S.tree o)) (success (Enqueue_work o ∷ [])) (success [])
+      either_doable plan S (is_live (life_of S.tree o)) (success (EnqueueWork (object_id o) ∷ [])) (success [])
       (λ live. (room_of k o (live_there o live), tt)) (λ _. tt)

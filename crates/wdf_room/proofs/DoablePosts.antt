@@ -20,7 +20,8 @@ use Rattle.wdf_model.specs.parts.Tree.{is_live, life_of, next_id}
 use Rattle.wdf_model.specs.parts.Requests.{arrival_of, is_closing, is_done, is_queued_in, is_sent_to, no_request, place_of}
 use Rattle.wdf_model.specs.parts.Control.{accepts, accepts_in, no_control}
 use Rattle.wdf_model.specs.State.{State}
-use Rattle.wdf_model.specs.rules.Deeds.{Arrive, Count_arrival}
+use Rattle.wdf_model.specs.Ids.{object_id}
+use Rattle.wdf_model.specs.declared.deed.Deed.TheVariants.{Arrive, CountArrival}
 use Rattle.wdf_model.specs.rules.Posts.{arrival_deeds, arrival_info, arrival_place, cancel_at, cancel_deeds, due_of, in_reach, is_data, may_finish, may_post, place_if_any, place_in_queue, post_deeds, post_fits, takes_empty}
 use Rattle.wdf_model.proofs.Maps.{entry_past}
 use Rattle.wdf_model.proofs.Tests.{both_left, both_right, either_false, not_false}
@@ -78,7 +79,7 @@ module _ {A : Type 0} {plan : Plan} {S : State A} (k : Fine plan S) where
   counted_too _ agent xs h = tt
 
   arrival_if : (agent : ℕ) (f : RequestForm) (n code device : ℕ) (b : Bool) → agent < length S.agents
-      → AreDoable plan (Count_arrival agent ∷ (if b then Arrive device (arrival_info S agent f n code device) (arrival_place plan S f n device) ∷ [] else [])) S
+      → AreDoable plan (CountArrival agent ∷ (if b then Arrive (object_id device) (arrival_info S agent f n code device) (arrival_place plan S f n device) ∷ [] else [])) S
   arrival_if agent f n code device true there = (
     (agents_few k agent there, arrivals_small k agent),
     ((objects_few k, arrived_few k, counted_too (arrival_place plan S f n device) agent _ (enters_if_any f n (queue_for plan device f))), tt),

@@ -17,7 +17,8 @@ use Rattle.wdf_model.specs.parts.Requests.{is_done, place_of}
 use Rattle.wdf_model.specs.parts.Cpus.{nobody_on}
 use Rattle.wdf_model.specs.parts.Pnp.{next_step, steps_left}
 use Rattle.wdf_model.specs.State.{State}
-use Rattle.wdf_model.specs.rules.Deeds.{Clean_up, Complete_request, End_life, Pass_tick}
+use Rattle.wdf_model.specs.Ids.{object_id}
+use Rattle.wdf_model.specs.declared.deed.Deed.TheVariants.{CleanUp, CompleteRequest, EndLife, PassTick}
 use Rattle.wdf_model.specs.rules.Starts.{clean_ready, destroy_ready, handle_id, may_pass, stage_deeds, stage_effect, stage_ready, step_ready}
 use Rattle.wdf_model.specs.rules.Steps.{is_closing_with}
 use Rattle.wdf_model.proofs.Sames.{handle_same}
@@ -75,14 +76,14 @@ module _ {A : Type 0} {plan : Plan} {S : State A} (k : Fine plan S) where
       let handle : IsHandleThere plan i = named_next plan (steps_left S.pnp d) s i (k.room.names.steps d) next in
       (there, (omega arith, stage_effect_doable d s i _ refl refl (omega arith) handle))
 
-  pub complete_doable : (r : ℕ) (s : Status) → is_closing_with (place_of S.requests r) s ≡ true → AreDoable plan (Complete_request r ∷ []) S
+  pub complete_doable : (r : ℕ) (s : Status) → is_closing_with (place_of S.requests r) s ≡ true → AreDoable plan (CompleteRequest (object_id r) ∷ []) S
   complete_doable r s h = (may_give_up k r (closing_undone (place_of S.requests r) s h), tt)
 
-  pub clean_doable : (o : ℕ) → clean_ready S o ≡ true → AreDoable plan (Clean_up o ∷ []) S
+  pub clean_doable : (o : ℕ) → clean_ready S o ≡ true → AreDoable plan (CleanUp (object_id o) ∷ []) S
   clean_doable o h = let asked : is_asked (life_of S.tree o) ≡ true = search both_left in (asked, tt)
 
-  pub destroy_doable : (o : ℕ) → destroy_ready S o ≡ true → AreDoable plan (End_life o ∷ []) S
+  pub destroy_doable : (o : ℕ) → destroy_ready S o ≡ true → AreDoable plan (EndLife (object_id o) ∷ []) S
   destroy_doable o h = (both_left (may_destroy S.tree o) (nobody_on S.cpus o) h, tt)
 
-  pub tick_doable : AreDoable plan (Pass_tick ∷ []) S
+  pub tick_doable : AreDoable plan (PassTick ∷ []) S
   tick_doable = let small = clock_small k in (omega arith, tt)

@@ -34,7 +34,9 @@ use Rattle.wdf_model.specs.parts.Control.{no_control, notify_due}
 use Rattle.wdf_model.specs.parts.Pnp.{next_step, no_sequence}
 use Rattle.wdf_model.specs.parts.Deferred.Timers.{is_reached, timed_of, timer_due}
 use Rattle.wdf_model.specs.State.{State, declared_in, held_at, is_with_driver}
-use Rattle.wdf_model.specs.rules.Deeds.{Present, Push_frame, do_deeds}
+use Rattle.wdf_model.specs.Ids.{frame_id, irql_of, object_id}
+use Rattle.wdf_model.specs.declared.deed.Deed.TheVariants.{Present, PushFrame}
+use Rattle.wdf_model.specs.rules.Deeds.{do_deeds}
 use Rattle.wdf_model.specs.rules.Starts.{effect, effect_for, is_ready_for, may_start, new_frame, next_number, rank_ready, rank_ready_for, start_deeds, start_effect, step_of, step_ready, take_if_any}
 use Rattle.wdf_model.specs.rules.Steps.{is_cpu}
 use Rattle.wdf_model.proofs.Tests.{both_left, both_right, second}
@@ -138,7 +140,7 @@ module _ {A : Type 0} {plan : Plan} {S : State A} (k : Fine plan S) where
   pub may_hold : (q r : ℕ) → q < table_size plan → IsRequest S r → MayHold S q r
   may_hold q r there request = let size = k.room.sizes.dispatch in record { queue = omega arith; few = held_few k; request = request }
 
-  pub present_doable : (q r : ℕ) → same_id (front S.queues q) r ≡ true → AreDoable plan (Present q r ∷ []) S
+  pub present_doable : (q r : ℕ) → same_id (front S.queues q) r ≡ true → AreDoable plan (Present (object_id q) (object_id r) ∷ []) S
   present_doable q r h =
       let line : q < length S.queues.waiting = inside [] (λ ws. is_some (first_of_list ws)) S.queues.waiting q refl (same_there (front S.queues q) r h) in
       let size = k.room.sizes.waiting in
@@ -205,7 +207,7 @@ module _ {A : Type 0} {plan : Plan} {S : State A} (k : Fine plan S) where
   takes U (Some l) same h = rw same ((h, next_frame_few k, locks_few k), tt)
 
   begins : (U : State A) (cpu : Cpu) (frame : Frame) (level : ℕ) (l : Option LockRef) → SameFrames S U → is_cpu plan cpu ≡ true → is_free_if_any S.locks l ≡ true
-      → AreDoable plan (Push_frame cpu.0 (next_number S) frame level ∷ take_if_any (next_number S) l) U
+      → AreDoable plan (PushFrame cpu (frame_id (next_number S)) frame (irql_of level) ∷ take_if_any (next_number S) l) U
   begins U cpu frame level l same p h =
       (rw same.0 (stack_there k cpu p, next_frame_few k, next_frame_fresh k), takes _ l same.1 h)
 
@@ -214,6 +216,6 @@ module _ {A : Type 0} {plan : Plan} {S : State A} (k : Fine plan S) where
   start_doable m cpu c o r p h =
       let ready : is_ready_for plan m S cpu.0 c o.id.0 r ≡ true = both_right _ (is_ready_for plan m S cpu.0 c o.id.0 r) h in
       let free : is_free_if_any S.locks (lock_of_callback plan c o.id.0 (declared_in plan S o.id.0)) ≡ true = search (both_left, both_right) in
-      doable_after plan (start_effect plan S cpu.0 c o.id.0 r) (Push_frame cpu.0 (next_number S) (new_frame plan S c o r) (callback_irql plan c o.id.0) ∷ take_if_any (next_number S) (lock_of_callback plan c o.id.0 (declared_in plan S o.id.0))) S
+      doable_after plan (start_effect plan S cpu.0 c o.id.0 r) (PushFrame cpu (frame_id (next_number S)) (new_frame plan S c o r) (irql_of (callback_irql plan c o.id.0)) ∷ take_if_any (next_number S) (lock_of_callback plan c o.id.0 (declared_in plan S o.id.0))) S
       (start_effect_doable m cpu c o.id.0 r p ready)
       (begins (do_deeds plan (start_effect plan S cpu.0 c o.id.0 r) S) cpu (new_frame plan S c o r) (callback_irql plan c o.id.0) (lock_of_callback plan c o.id.0 (declared_in plan S o.id.0)) (start_effect_rest plan S cpu.0 c o.id.0 r) p free)

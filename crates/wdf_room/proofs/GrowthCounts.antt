@@ -4,7 +4,8 @@ use Rattle.wdf_model.specs.Tables.{entry, flag}
 use Rattle.wdf_model.specs.parts.Tree.{references_in}
 use Rattle.wdf_model.specs.parts.Queues.{held_in}
 use Rattle.wdf_model.specs.State.{State}
-use Rattle.wdf_model.specs.rules.Deeds.{Deed, Create, Make_request, Arrive, Count_arrival, Refer, Raise, Take_lock, Present, Receive, Pass_tick}
+use Rattle.wdf_model.specs.declared.deed.Deed.{Deed}
+use Rattle.wdf_model.specs.declared.deed.Deed.TheVariants.{Create, MakeRequest, Arrive, CountArrival, Refer, Raise, TakeLock, Present, Receive, PassTick}
 
 -- ---- what a deed may add to
 
@@ -34,15 +35,15 @@ number_of Tick_more = 7
 
 abbrev pub gain_of : Deed → Gain
 gain_of (Create k class parent) = Object_more
-gain_of (Make_request class parent) = Object_more
+gain_of (MakeRequest class parent) = Object_more
 gain_of (Arrive device info p) = Object_more
-gain_of (Count_arrival agent) = Arrival_more
+gain_of (CountArrival agent) = Arrival_more
 gain_of (Refer o) = Reference_more
 gain_of (Raise f level) = Level_more
-gain_of (Take_lock l f by_call) = Lock_more
+gain_of (TakeLock l f by_call) = Lock_more
 gain_of (Present q r) = Holding_more
 gain_of (Receive q r) = Holding_more
-gain_of Pass_tick = Tick_more
+gain_of PassTick = Tick_more
 gain_of _ = No_gain
 
 abbrev pub is_gain : Gain → Deed → Bool

@@ -30,8 +30,11 @@ use Rattle.wdf_model.specs.parts.Control as control
 use Rattle.wdf_model.specs.parts.Power.{Power}
 use Rattle.wdf_model.specs.parts.Targets.{is_forgotten}
 use Rattle.wdf_model.specs.State.{State, is_with_driver, withdrawn_place}
+use Rattle.wdf_model.specs.Ids.{object_id}
 use Rattle.wdf_model.specs.rules.Deeds as deeds
-use Rattle.wdf_model.specs.rules.Deeds.{Deed, Create, Make_request, Arrive, Count_arrival, Ask_deletion, Refer, Unrefer, Write_cell, Note, Clean_up, End_life, Raise, Lower, Pop_frame, Take_lock, Release_lock, Present, Receive, Requeue, Forward, Give_back, Withdraw, Mark_request, Unmark_request, Cancel_request, Take_cancel, Send_request, Finish_sending, Come_back, Complete_request, Purge_queue, Close_returning, Close_device, Pass_tick, arrive_at, ask_object, ask_objects, close_queue, do_deed, do_deeds, finished_at, give_up, give_up_if, hold_power, queued, release_line, withdraw}
+use Rattle.wdf_model.specs.declared.deed.Deed.{Deed}
+use Rattle.wdf_model.specs.declared.deed.Deed.TheVariants.{Create, MakeRequest, Arrive, CountArrival, AskDeletion, Refer, Unrefer, WriteCell, Note, CleanUp, EndLife, Raise, Lower, PopFrame, TakeLock, ReleaseLock, Present, Receive, Requeue, Forward, GiveBack, Withdraw, MarkRequest, UnmarkRequest, CancelRequest, TakeCancel, SendRequest, FinishSending, ComeBack, CompleteRequest, PurgeQueue, CloseReturning, CloseDevice, PassTick}
+use Rattle.wdf_model.specs.rules.Deeds.{arrive_at, ask_object, ask_objects, close_queue, do_deed, do_deeds, finished_at, give_up, give_up_if, hold_power, queued, release_line, withdraw}
 use Rattle.wdf_model.proofs.Maps.{as_long, put_short}
 use Rattle.wdf_model.proofs.Tests.{both_left}
 use Rattle.wdf_model.proofs.Counts.{count_cons}
@@ -92,9 +95,9 @@ request_made S n p info d none one =
     (let small = flag_small (nat_lt 0 info.arrival) in omega arith)
 
 -- where a request that arrives is, adds nothing
-arrives : {A : Type 0} (S : State A) (device : ℕ) (info : RequestInfo) (p : Place) → Grows (gains (Arrive device info p)) (counts_of S) (counts_of (arrive_at S device info p))
-arrives S device info (place.Queued q) = request_made S (new_node kind.Request 0 device) (place.Queued q) info (Arrive device info (place.Queued q)) refl refl
-arrives S device info p = request_made S (new_node kind.Request 0 device) p info (Arrive device info p) refl refl
+arrives : {A : Type 0} (S : State A) (device : ℕ) (info : RequestInfo) (p : Place) → Grows (gains (Arrive (object_id device) info p)) (counts_of S) (counts_of (arrive_at S device info p))
+arrives S device info (place.Queued q) = request_made S (new_node kind.Request 0 device) (place.Queued q) info (Arrive (object_id device) info (place.Queued q)) refl refl
+arrives S device info p = request_made S (new_node kind.Request 0 device) p info (Arrive (object_id device) info p) refl refl
 
 -- ---- deletions
 
@@ -266,43 +269,43 @@ idle : {A : Type 0} (plan : Plan) (d : Deed) (S : State A) → Grows nothing (co
 idle plan d S p = grows_less (gains d) (counts_of S) (counts_of (do_deed plan d S)) p
 
 pub deed_grows : {A : Type 0} (plan : Plan) (d : Deed) (S : State A) → IsDoable plan d S → Grows (gains d) (counts_of S) (counts_of (do_deed plan d S))
-deed_grows plan (Create k class parent) S h = object_made S (new_node k class parent) S.requests (Create k class parent) refl refl (λ h. omega arith) (omega arith)
-deed_grows plan (Make_request class parent) S h = request_made S (new_node kind.Made class parent) place.Owned _ (Make_request class parent) refl refl
-deed_grows plan (Arrive device info p) S h = arrives S device info p
-deed_grows plan (Count_arrival agent) S h = arrivals_change (gains (Count_arrival agent)) (counts_of S) (change_at 0 S.arrivals agent suc) (one_more S.arrivals agent)
-deed_grows plan (Ask_deletion o) S h = idle plan (Ask_deletion o) S (all_asked (subtree S.tree o) S)
-deed_grows plan (Refer o) S h = object_changes S o (λ n. record n { references = n.references + 1 }) (gains (Refer o)) h.0 (omega arith)
-deed_grows plan (Unrefer o) S h = object_changes S o (λ n. record n { references = n.references - 1 }) (gains (Unrefer o)) h (omega arith)
-deed_grows plan (Write_cell o k v) S h = object_changes S o (λ n. record n { cells = slice_set n.cells k v }) (gains (Write_cell o k v)) h.0 (omega arith)
-deed_grows plan (Note o c) S h = object_changes S o (noted c) (gains (Note o c)) h (let e = noted_references c (node_of S.tree o) in omega arith)
-deed_grows plan (Clean_up o) S h = object_changes S o (with_life life.Cleaned) (gains (Clean_up o)) (within gone S.tree.nodes o (λ (n : Node). is_asked n.life) refl h) (omega arith)
-deed_grows plan (End_life o) S h = idle plan (End_life o) S (ended S o (cleaned_before S o h))
+deed_grows plan (Create k class parent) S h = object_made S (new_node k class parent.0) S.requests (Create k class parent) refl refl (λ h. omega arith) (omega arith)
+deed_grows plan (MakeRequest class parent) S h = request_made S (new_node kind.Made class parent.0) place.Owned _ (MakeRequest class parent) refl refl
+deed_grows plan (Arrive device info p) S h = arrives S device.0 info p
+deed_grows plan (CountArrival agent) S h = arrivals_change (gains (CountArrival agent)) (counts_of S) (change_at 0 S.arrivals agent suc) (one_more S.arrivals agent)
+deed_grows plan (AskDeletion o) S h = idle plan (AskDeletion o) S (all_asked (subtree S.tree o.0) S)
+deed_grows plan (Refer o) S h = object_changes S o.0 (λ n. record n { references = n.references + 1 }) (gains (Refer o)) h.0 (omega arith)
+deed_grows plan (Unrefer o) S h = object_changes S o.0 (λ n. record n { references = n.references - 1 }) (gains (Unrefer o)) h (omega arith)
+deed_grows plan (WriteCell o k v) S h = object_changes S o.0 (λ n. record n { cells = slice_set n.cells k v }) (gains (WriteCell o k v)) h.0 (omega arith)
+deed_grows plan (Note o c) S h = object_changes S o.0 (noted c) (gains (Note o c)) h (let e = noted_references c (node_of S.tree o.0) in omega arith)
+deed_grows plan (CleanUp o) S h = object_changes S o.0 (with_life life.Cleaned) (gains (CleanUp o)) (within gone S.tree.nodes o.0 (λ (n : Node). is_asked n.life) refl h) (omega arith)
+deed_grows plan (EndLife o) S h = idle plan (EndLife o) S (ended S o.0 (cleaned_before S o.0 h))
 deed_grows plan (Raise f level) S h = levels_change (gains (Raise f level)) (counts_of S) (suc (length S.cpus.levels)) (omega arith)
-deed_grows plan (Lower f level) S h = levels_change (gains (Lower f level)) (counts_of S) (length (less_one f level S.cpus.levels)) (let e = less_levels f level S.cpus.levels in omega arith)
-deed_grows plan (Pop_frame cpu) S h = levels_change (gains (Pop_frame cpu)) (counts_of S) (length (levels_without S.cpus (top S.cpus cpu))) (let e = levels_left S.cpus (top S.cpus cpu) in omega arith)
-deed_grows plan (Take_lock l f by_call) S h =
-    let held : Held = record { lock = l; frame = record { 0 = f }; by_call = by_call } in
-    locks_change (gains (Take_lock l f by_call)) (counts_of S) (length (S.locks.held ++ held ∷ [])) (let e = length_push S.locks.held held in omega arith)
-deed_grows plan (Release_lock l) S h =
-    locks_change (gains (Release_lock l)) (counts_of S) (length (filter (λ x. not (same_lock x.lock l)) S.locks.held)) (let e = filtered (λ (x : Held). not (same_lock x.lock l)) S.locks.held in omega arith)
-deed_grows plan (Present q r) S h = held_from plan S q r (queues.take S.queues q) (Present q r) refl refl h.1.request.there
-deed_grows plan (Receive q r) S h = held_from plan S q r (hold S.queues q) (Receive q r) refl refl h.request.there
-deed_grows plan (Requeue r q) S h = idle plan (Requeue r q) S (given_and_changed S r (moved (queued q)) h.0.request.there)
-deed_grows plan (Forward r q) S h = idle plan (Forward r q) S (given_and_changed S r (moved (queued q)) h.0.request.there)
-deed_grows plan (Give_back r q) S h = idle plan (Give_back r q) S (given_and_cancelled S r cancelled (moved (withdrawn_place plan (give_up S r) q r)) h.request.there)
-deed_grows plan (Withdraw q r) S h = idle plan (Withdraw q r) S (withdrawn plan q S r h.there)
-deed_grows plan (Mark_request r) S h = idle plan (Mark_request r) S (request_changes S r marked h.there)
-deed_grows plan (Unmark_request r) S h = idle plan (Unmark_request r) S (request_changes S r unmarked h.there)
-deed_grows plan (Cancel_request r) S h = idle plan (Cancel_request r) S (request_changes S r cancelled h.there)
-deed_grows plan (Take_cancel r) S h = idle plan (Take_cancel r) S (request_changes S r (with_mark mark.Taken) h.there)
-deed_grows plan (Send_request r t forget) S h = idle plan (Send_request r t forget) S (given_if S forget r (moved (place.Sent (record { 0 = t }))) h.0.request.there)
-deed_grows plan (Finish_sending r s) S h = idle plan (Finish_sending r s) S (request_changes S r (moved (finished_at (is_forgotten S.targets r) s (place_of S.requests r))) h.there)
-deed_grows plan (Come_back r) S h = idle plan (Come_back r) S (request_changes S r (moved place.Owned) h.there)
-deed_grows plan (Complete_request r) S h = idle plan (Complete_request r) S (completed S r h.request.there)
-deed_grows plan (Purge_queue q) S h = idle plan (Purge_queue q) S (all_withdrawn plan q (waiting_in S.queues q) (record S { control = control.set_mode S.control q mode.Purged }) (λ k d short. h.requests (slice_index_or (waiting_in S.queues q) k d) (element_counts (waiting_in S.queues q) k d short)))
-deed_grows plan (Close_returning d) S h = idle plan (Close_returning d) S (all_returning_closed (managed_queues plan d) S)
-deed_grows plan (Close_device d) S h = idle plan (Close_device d) S (all_closed (queues_of plan d) (record S { control = control.shut S.control d }))
-deed_grows plan Pass_tick S h = clock_changes (gains Pass_tick) (counts_of S) (S.clock + 1) (omega arith)
+deed_grows plan (Lower f level) S h = levels_change (gains (Lower f level)) (counts_of S) (length (less_one f.0 level.0 S.cpus.levels)) (let e = less_levels f.0 level.0 S.cpus.levels in omega arith)
+deed_grows plan (PopFrame cpu) S h = levels_change (gains (PopFrame cpu)) (counts_of S) (length (levels_without S.cpus (top S.cpus cpu.0))) (let e = levels_left S.cpus (top S.cpus cpu.0) in omega arith)
+deed_grows plan (TakeLock l f by_call) S h =
+    let held : Held = record { lock = l; frame = record { 0 = f.0 }; by_call = by_call } in
+    locks_change (gains (TakeLock l f by_call)) (counts_of S) (length (S.locks.held ++ held ∷ [])) (let e = length_push S.locks.held held in omega arith)
+deed_grows plan (ReleaseLock l) S h =
+    locks_change (gains (ReleaseLock l)) (counts_of S) (length (filter (λ x. not (same_lock x.lock l)) S.locks.held)) (let e = filtered (λ (x : Held). not (same_lock x.lock l)) S.locks.held in omega arith)
+deed_grows plan (Present q r) S h = held_from plan S q.0 r.0 (queues.take S.queues q.0) (Present q r) refl refl h.1.request.there
+deed_grows plan (Receive q r) S h = held_from plan S q.0 r.0 (hold S.queues q.0) (Receive q r) refl refl h.request.there
+deed_grows plan (Requeue r q) S h = idle plan (Requeue r q) S (given_and_changed S r.0 (moved (queued q.0)) h.0.request.there)
+deed_grows plan (Forward r q) S h = idle plan (Forward r q) S (given_and_changed S r.0 (moved (queued q.0)) h.0.request.there)
+deed_grows plan (GiveBack r q) S h = idle plan (GiveBack r q) S (given_and_cancelled S r.0 cancelled (moved (withdrawn_place plan (give_up S r.0) q.0 r.0)) h.request.there)
+deed_grows plan (Withdraw q r) S h = idle plan (Withdraw q r) S (withdrawn plan q.0 S r.0 h.there)
+deed_grows plan (MarkRequest r) S h = idle plan (MarkRequest r) S (request_changes S r.0 marked h.there)
+deed_grows plan (UnmarkRequest r) S h = idle plan (UnmarkRequest r) S (request_changes S r.0 unmarked h.there)
+deed_grows plan (CancelRequest r) S h = idle plan (CancelRequest r) S (request_changes S r.0 cancelled h.there)
+deed_grows plan (TakeCancel r) S h = idle plan (TakeCancel r) S (request_changes S r.0 (with_mark mark.Taken) h.there)
+deed_grows plan (SendRequest r t forget) S h = idle plan (SendRequest r t forget) S (given_if S forget r.0 (moved (place.Sent (record { 0 = t.0 }))) h.0.request.there)
+deed_grows plan (FinishSending r s) S h = idle plan (FinishSending r s) S (request_changes S r.0 (moved (finished_at (is_forgotten S.targets r.0) s (place_of S.requests r.0))) h.there)
+deed_grows plan (ComeBack r) S h = idle plan (ComeBack r) S (request_changes S r.0 (moved place.Owned) h.there)
+deed_grows plan (CompleteRequest r) S h = idle plan (CompleteRequest r) S (completed S r.0 h.request.there)
+deed_grows plan (PurgeQueue q) S h = idle plan (PurgeQueue q) S (all_withdrawn plan q.0 (waiting_in S.queues q.0) (record S { control = control.set_mode S.control q.0 mode.Purged }) (λ k d short. h.requests (slice_index_or (waiting_in S.queues q.0) k d) (element_counts (waiting_in S.queues q.0) k d short)))
+deed_grows plan (CloseReturning d) S h = idle plan (CloseReturning d) S (all_returning_closed (managed_queues plan d.0) S)
+deed_grows plan (CloseDevice d) S h = idle plan (CloseDevice d) S (all_closed (queues_of plan d.0) (record S { control = control.shut S.control d.0 }))
+deed_grows plan PassTick S h = clock_changes (gains PassTick) (counts_of S) (S.clock + 1) (omega arith)
 deed_grows plan d S h = same_counts (gains d) (counts_of S) (counts_of (do_deed plan d S)) refl
 
 -- ---- deeds one after another

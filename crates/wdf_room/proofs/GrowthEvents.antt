@@ -25,8 +25,10 @@ use Rattle.wdf_model.specs.parts.Locks.{lock_of_callback}
 use Rattle.wdf_model.specs.parts.Requests.{place_of}
 use Rattle.wdf_model.specs.parts.Tree.{is_live, life_of}
 use Rattle.wdf_model.specs.State.{State, declared_in}
+use Rattle.wdf_model.specs.Ids.{cpu_of, frame_id, irql_of, object_id}
 use Rattle.wdf_model.specs.rules.Calls.{outcome, second_deeds}
-use Rattle.wdf_model.specs.rules.Deeds.{Deed, Arrive, Count_arrival, Go_on, Pop_frame, Push_frame}
+use Rattle.wdf_model.specs.declared.deed.Deed.{Deed}
+use Rattle.wdf_model.specs.declared.deed.Deed.TheVariants.{Arrive, CountArrival, GoOn, PopFrame, PushFrame}
 use Rattle.wdf_model.specs.rules.Posts.{arrival_info, arrival_place, cancel_at, cancel_deeds, cancel_reaches, post_deeds}
 use Rattle.wdf_model.specs.rules.Script.{intent_of}
 use Rattle.wdf_model.specs.rules.Starts.{effect, effect_for, end_of_step, release_if_any, stage_deeds, start_effect, take_if_any}
@@ -37,7 +39,7 @@ use Rattle.wdf_room.proofs.GrowthFew.{Few, are_idle, few_apart, few_both, few_fi
 
 -- a frame and its lock
 abbrev framed : ℕ → ℕ → Frame → ℕ → Option LockRef → List Deed
-framed cpu f frame level lock = Push_frame cpu f frame level ∷ take_if_any f lock
+framed cpu f frame level lock = PushFrame (cpu_of cpu) (frame_id f) frame (irql_of level) ∷ take_if_any f lock
 
 few_framed : (cpu f : ℕ) (frame : Frame) (level : ℕ) (lock : Option LockRef) → Few (framed cpu f frame level lock)
 few_framed cpu f frame level None = few_apart _ refl
@@ -66,12 +68,12 @@ few_started plan S cpu c o None f frame level lock =
     then_few (effect plan S (row_of c).rank cpu c o) (framed cpu f frame level lock) (idle_effect plan S (row_of c).rank cpu c o) (few_framed cpu f frame level lock)
 few_started plan S cpu c o (Some r) f frame level lock = few_for (row_of c).rank o r.id.0 cpu f frame level lock
 
-few_step_ends : {A : Type 0} (plan : Plan) (S : State A) (k : Rank) (c : Callback) (o cpu : ℕ) (v : Value) → are_idle (Pop_frame cpu ∷ end_of_step plan S k c o v) ≡ true
+few_step_ends : {A : Type 0} (plan : Plan) (S : State A) (k : Rank) (c : Callback) (o cpu : ℕ) (v : Value) → are_idle (PopFrame (cpu_of cpu) ∷ end_of_step plan S k c o v) ≡ true
 few_step_ends plan S rank.Sequence c o cpu v = refl
 few_step_ends plan S k c o cpu v = refl
 
 few_ended : {A : Type 0} (plan : Plan) (S : State A) (cpu : ℕ) (c : Callback) (o : ℕ) (v : Value) (lock : Option LockRef)
-    → Few (release_if_any lock ++ Pop_frame cpu ∷ end_of_step plan S (row_of c).rank c o v)
+    → Few (release_if_any lock ++ PopFrame (cpu_of cpu) ∷ end_of_step plan S (row_of c).rank c o v)
 few_ended plan S cpu c o v None = few_idle _ (few_step_ends plan S (row_of c).rank c o cpu v)
 few_ended plan S cpu c o v (Some l) = few_idle _ (few_step_ends plan S (row_of c).rank c o cpu v)
 
@@ -85,12 +87,12 @@ few_staged plan d s i = few_apart (stage_deeds plan d s i) refl
 
 -- ---- posts
 
-few_arrive : (agent : ℕ) (d : Deed) (b : Bool) → Few (Count_arrival agent ∷ d ∷ []) → Few (Count_arrival agent ∷ (if b then d ∷ [] else []))
+few_arrive : (agent : ℕ) (d : Deed) (b : Bool) → Few (CountArrival agent ∷ d ∷ []) → Few (CountArrival agent ∷ (if b then d ∷ [] else []))
 few_arrive agent d true h = h
 few_arrive agent d false h = few_apart _ refl
 
 few_arrivals : {A : Type 0} (plan : Plan) (S : State A) (agent : ℕ) (f : RequestForm) (length code device : ℕ)
-    → Few (Count_arrival agent ∷ (if is_live (life_of S.tree device) then Arrive device (arrival_info S agent f length code device) (arrival_place plan S f length device) ∷ [] else []))
+    → Few (CountArrival agent ∷ (if is_live (life_of S.tree device) then Arrive (object_id device) (arrival_info S agent f length code device) (arrival_place plan S f length device) ∷ [] else []))
 few_arrivals plan S agent f length code device = few_arrive agent _ (is_live (life_of S.tree device)) (few_apart _ refl)
 
 few_cancel : (p : Place) (r : ℕ) → Few (cancel_at p r)
@@ -120,18 +122,18 @@ few_by_top S what (Some f) h = h f (frame_of S.cpus f)
 
 pub few_of_event : {A : Type 0} (plan : Plan) (S : State A) (e : Event) → Few (deeds plan S e)
 few_of_event plan S (event.Start k c o r) = few_started plan S k.0 c o.id.0 r _ _ _ (lock_of_callback plan c o.id.0 (declared_in plan S o.id.0))
-few_of_event plan S (event.Local k line) = few_by_top S (λ f frame. Go_on f (stepped frame (intent_of plan frame)) ∷ []) (top S.cpus k.0) (λ f frame. few_apart _ refl)
-few_of_event plan S (event.Log k v) = few_by_top S (λ f frame. Go_on f (goes_on plan frame) ∷ []) (top S.cpus k.0) (λ f frame. few_apart _ refl)
-few_of_event plan S (event.Spend k n) = few_by_top S (λ f frame. Go_on f (spending plan S frame n) ∷ []) (top S.cpus k.0) (λ f frame. few_apart _ refl)
-few_of_event plan S (event.Register k a r v) = few_by_top S (λ f frame. Go_on f (answered plan frame (Num v)) ∷ []) (top S.cpus k.0) (λ f frame. few_apart _ refl)
+few_of_event plan S (event.Local k line) = few_by_top S (λ f frame. GoOn (frame_id f) (stepped frame (intent_of plan frame)) ∷ []) (top S.cpus k.0) (λ f frame. few_apart _ refl)
+few_of_event plan S (event.Log k v) = few_by_top S (λ f frame. GoOn (frame_id f) (goes_on plan frame) ∷ []) (top S.cpus k.0) (λ f frame. few_apart _ refl)
+few_of_event plan S (event.Spend k n) = few_by_top S (λ f frame. GoOn (frame_id f) (spending plan S frame n) ∷ []) (top S.cpus k.0) (λ f frame. few_apart _ refl)
+few_of_event plan S (event.Register k a r v) = few_by_top S (λ f frame. GoOn (frame_id f) (answered plan frame (Num v)) ∷ []) (top S.cpus k.0) (λ f frame. few_apart _ refl)
 few_of_event plan S (event.Did k c v) =
     few_by_top S (did_deeds plan S k.0 c v) (top S.cpus k.0)
-    (λ f frame. few_then ((outcome plan S k.0 f c).deeds ++ second_deeds f c) (Go_on f (answered plan frame v) ∷ []) (few_both plan S k.0 f c.kind c.count c.a c.b c.c) refl)
+    (λ f frame. few_then ((outcome plan S k.0 f c).deeds ++ second_deeds f c) (GoOn (frame_id f) (answered plan frame v) ∷ []) (few_both plan S k.0 f c.kind c.count c.a c.b c.c) refl)
 few_of_event plan S (event.Waiting k c) =
     few_by_top S (waiting_deeds plan S k.0 c) (top S.cpus k.0)
-    (λ f frame. few_then (outcome plan S k.0 f c).deeds (Go_on f (waiting frame c (outcome plan S k.0 f c).answer) ∷ []) (few_first plan S k.0 f c.kind c.count c.a c.b c.c) refl)
+    (λ f frame. few_then (outcome plan S k.0 f c).deeds (GoOn (frame_id f) (waiting frame c (outcome plan S k.0 f c).answer) ∷ []) (few_first plan S k.0 f c.kind c.count c.a c.b c.c) refl)
 few_of_event plan S (event.Woke k c v) =
-    few_by_top S (woke_deeds plan c v) (top S.cpus k.0) (λ f frame. few_then (second_deeds f c) (Go_on f (answered plan frame v) ∷ []) (few_second f c.kind c.count c.a c.b c.c) refl)
+    few_by_top S (woke_deeds plan c v) (top S.cpus k.0) (λ f frame. few_then (second_deeds f c) (GoOn (frame_id f) (answered plan frame v) ∷ []) (few_second f c.kind c.count c.a c.b c.c) refl)
 few_of_event plan S (event.End k c o v) = few_ended plan S k.0 c o.id.0 v (lock_of_callback plan c o.id.0 (declared_in plan S o.id.0))
 few_of_event plan S (event.Stage d s i) = few_staged plan d.id.0 s i
 few_of_event plan S (event.Posted agent p answer) = few_posted plan S agent p

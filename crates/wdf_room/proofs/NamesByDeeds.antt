@@ -20,7 +20,9 @@ use Rattle.wdf_model.specs.parts.Control as control
 use Rattle.wdf_model.specs.parts.Power.{Power}
 use Rattle.wdf_model.specs.parts.Targets.{is_forgotten}
 use Rattle.wdf_model.specs.State.{State, is_powered, is_with_driver, returns_to, withdrawn_place}
-use Rattle.wdf_model.specs.rules.Deeds.{Deed, Make_request, Arrive, Ask_deletion, End_life, Push_frame, Go_on, Raise, Lower, Pop_frame, Park_frame, Unpark_frame, Present, Receive, Requeue, Forward, Give_back, Withdraw, Mark_request, Unmark_request, Cancel_request, Take_cancel, Send_request, Finish_sending, Come_back, Complete_request, Purge_queue, Close_returning, Close_device, Ask_device, Take_step, End_step, arrive_at, ask_objects, close_queue, close_returning, do_deed, do_deeds, finished_at, give_up, give_up_if, withdraw}
+use Rattle.wdf_model.specs.declared.deed.Deed.{Deed}
+use Rattle.wdf_model.specs.declared.deed.Deed.TheVariants.{MakeRequest, Arrive, AskDeletion, EndLife, PushFrame, GoOn, Raise, Lower, PopFrame, ParkFrame, UnparkFrame, Present, Receive, Requeue, Forward, GiveBack, Withdraw, MarkRequest, UnmarkRequest, CancelRequest, TakeCancel, SendRequest, FinishSending, ComeBack, CompleteRequest, PurgeQueue, CloseReturning, CloseDevice, AskDevice, TakeStep, EndStep}
+use Rattle.wdf_model.specs.rules.Deeds.{arrive_at, ask_objects, close_queue, close_returning, do_deed, do_deeds, finished_at, give_up, give_up_if, withdraw}
 use Rattle.wdf_model.specs.laws.Fits.{all_fit, fits, is_arrival_place}
 use Rattle.wdf_model.proofs.Tests.{both_left, both_right}
 use Rattle.wdf_model.proofs.Deletion.{asking_deletes}
@@ -147,70 +149,70 @@ entered plan S R q r h sizes k =
 
 pub deed_names : {A : Type 0} (plan : Plan) (d : Deed) (S : State A) → fits plan d S ≡ true → arrives_anew d ≡ true → IsDoable plan d S → SizesKept plan S
     → Named plan S → Named plan (do_deed plan d S)
-deed_names plan (Make_request class parent) S f a d z k = record {
-  requests = arrive_named (table_size plan) S.requests (next_id S.tree) place.Owned (made_info (nearest_device S.tree parent)) (owned_named (table_size plan)) (without_origin (table_size plan) None refl) k.requests;
+deed_names plan (MakeRequest class parent) S f a d z k = record {
+  requests = arrive_named (table_size plan) S.requests (next_id S.tree) place.Owned (made_info (nearest_device S.tree parent.0)) (owned_named (table_size plan)) (without_origin (table_size plan) None refl) k.requests;
   frames = k.frames;
   steps = k.steps;
 }
-deed_names plan (Arrive device info p) S f a d z k = arrived plan S device info p (both_right _ (is_arrival_place p) f) a d.2 z k
-deed_names plan (Ask_deletion o) S f a d z k = asked plan S o k
-deed_names plan (End_life o) S f a d z k = record { requests = forget_named (table_size plan) S.requests o k.requests; frames = k.frames; steps = k.steps }
-deed_names plan (Push_frame cpu g frame level) S f a d z k = record { requests = k.requests; frames = pushed_named S.cpus cpu g frame level k.frames; steps = k.steps }
-deed_names plan (Go_on g frame) S f a d z k = record { requests = k.requests; frames = changed_named S.cpus g frame k.frames; steps = k.steps }
+deed_names plan (Arrive device info p) S f a d z k = arrived plan S device.0 info p (both_right _ (is_arrival_place p) f) a d.2 z k
+deed_names plan (AskDeletion o) S f a d z k = asked plan S o.0 k
+deed_names plan (EndLife o) S f a d z k = record { requests = forget_named (table_size plan) S.requests o.0 k.requests; frames = k.frames; steps = k.steps }
+deed_names plan (PushFrame cpu g frame level) S f a d z k = record { requests = k.requests; frames = pushed_named S.cpus cpu.0 g.0 frame level.0 k.frames; steps = k.steps }
+deed_names plan (GoOn g frame) S f a d z k = record { requests = k.requests; frames = changed_named S.cpus g.0 frame k.frames; steps = k.steps }
 deed_names plan (Raise g level) S f a d z k = record { requests = k.requests; frames = record { stacks = k.frames.stacks; parked = k.frames.parked }; steps = k.steps }
 deed_names plan (Lower g level) S f a d z k = record { requests = k.requests; frames = record { stacks = k.frames.stacks; parked = k.frames.parked }; steps = k.steps }
-deed_names plan (Pop_frame cpu) S f a d z k = record { requests = k.requests; frames = popped_named S.cpus cpu k.frames; steps = k.steps }
-deed_names plan (Park_frame cpu) S f a d z k = record { requests = k.requests; frames = parked_named S.cpus cpu k.frames; steps = k.steps }
-deed_names plan (Unpark_frame cpu g) S f a d z k = record { requests = k.requests; frames = unparked_named S.cpus cpu g d.1 k.frames; steps = k.steps }
-deed_names plan (Present q r) S f a d z k = record { requests = move_named (table_size plan) S.requests r place.Owned (owned_named (table_size plan)) k.requests; frames = k.frames; steps = k.steps }
-deed_names plan (Receive q r) S f a d z k = record { requests = move_named (table_size plan) S.requests r place.Owned (owned_named (table_size plan)) k.requests; frames = k.frames; steps = k.steps }
+deed_names plan (PopFrame cpu) S f a d z k = record { requests = k.requests; frames = popped_named S.cpus cpu.0 k.frames; steps = k.steps }
+deed_names plan (ParkFrame cpu) S f a d z k = record { requests = k.requests; frames = parked_named S.cpus cpu.0 k.frames; steps = k.steps }
+deed_names plan (UnparkFrame cpu g) S f a d z k = record { requests = k.requests; frames = unparked_named S.cpus cpu.0 g.0 d.1 k.frames; steps = k.steps }
+deed_names plan (Present q r) S f a d z k = record { requests = move_named (table_size plan) S.requests r.0 place.Owned (owned_named (table_size plan)) k.requests; frames = k.frames; steps = k.steps }
+deed_names plan (Receive q r) S f a d z k = record { requests = move_named (table_size plan) S.requests r.0 place.Owned (owned_named (table_size plan)) k.requests; frames = k.frames; steps = k.steps }
 deed_names plan (Requeue r q) S f a d z k =
-    let g = given_up plan S r k in
-    record { requests = entered plan S (give_up S r).requests q r d.1.queue.dispatch z g.requests; frames = g.frames; steps = g.steps }
+    let g = given_up plan S r.0 k in
+    record { requests = entered plan S (give_up S r.0).requests q.0 r.0 d.1.queue.dispatch z g.requests; frames = g.frames; steps = g.steps }
 deed_names plan (Forward r q) S f a d z k =
-    let g = given_up plan S r k in
-    record { requests = entered plan S (give_up S r).requests q r d.1.queue.dispatch z g.requests; frames = g.frames; steps = g.steps }
-deed_names plan (Give_back r q) S f a d z k =
-    let g = given_up plan S r k in
+    let g = given_up plan S r.0 k in
+    record { requests = entered plan S (give_up S r.0).requests q.0 r.0 d.1.queue.dispatch z g.requests; frames = g.frames; steps = g.steps }
+deed_names plan (GiveBack r q) S f a d z k =
+    let g = given_up plan S r.0 k in
     record {
       requests =
-          move_named (table_size plan) (requests.cancel (give_up S r).requests r) r _ (withdrawn_named plan (give_up S r) q r)
-          (cancel_named (table_size plan) (give_up S r).requests r g.requests);
+          move_named (table_size plan) (requests.cancel (give_up S r.0).requests r.0) r.0 _ (withdrawn_named plan (give_up S r.0) q.0 r.0)
+          (cancel_named (table_size plan) (give_up S r.0).requests r.0 g.requests);
       frames = g.frames;
       steps = g.steps;
     }
-deed_names plan (Withdraw q r) S f a d z k = withdraw_named plan q S r k
-deed_names plan (Mark_request r) S f a d z k = record { requests = with_named (table_size plan) S.requests r marked (λ x named. mark_named (table_size plan) x named) k.requests; frames = k.frames; steps = k.steps }
-deed_names plan (Unmark_request r) S f a d z k = record { requests = with_named (table_size plan) S.requests r unmarked (λ x named. unmark_named (table_size plan) x named) k.requests; frames = k.frames; steps = k.steps }
-deed_names plan (Cancel_request r) S f a d z k = record { requests = cancel_named (table_size plan) S.requests r k.requests; frames = k.frames; steps = k.steps }
-deed_names plan (Take_cancel r) S f a d z k = record { requests = take_named (table_size plan) S.requests r k.requests; frames = k.frames; steps = k.steps }
-deed_names plan (Send_request r t forget) S f a d z k =
-    let g = given_up_if plan S forget r k in
+deed_names plan (Withdraw q r) S f a d z k = withdraw_named plan q.0 S r.0 k
+deed_names plan (MarkRequest r) S f a d z k = record { requests = with_named (table_size plan) S.requests r.0 marked (λ x named. mark_named (table_size plan) x named) k.requests; frames = k.frames; steps = k.steps }
+deed_names plan (UnmarkRequest r) S f a d z k = record { requests = with_named (table_size plan) S.requests r.0 unmarked (λ x named. unmark_named (table_size plan) x named) k.requests; frames = k.frames; steps = k.steps }
+deed_names plan (CancelRequest r) S f a d z k = record { requests = cancel_named (table_size plan) S.requests r.0 k.requests; frames = k.frames; steps = k.steps }
+deed_names plan (TakeCancel r) S f a d z k = record { requests = take_named (table_size plan) S.requests r.0 k.requests; frames = k.frames; steps = k.steps }
+deed_names plan (SendRequest r t forget) S f a d z k =
+    let g = given_up_if plan S forget r.0 k in
     record {
-      requests = move_named (table_size plan) (give_up_if forget S r).requests r (place.Sent (record { 0 = t })) (sent_named (table_size plan) (record { 0 = t })) g.requests;
+      requests = move_named (table_size plan) (give_up_if forget S r.0).requests r.0 (place.Sent (record { 0 = t.0 })) (sent_named (table_size plan) (record { 0 = t.0 })) g.requests;
       frames = g.frames;
       steps = g.steps;
     }
-deed_names plan (Finish_sending r s) S f a d z k = record {
+deed_names plan (FinishSending r s) S f a d z k = record {
   requests =
-      move_named (table_size plan) S.requests r (finished_at (is_forgotten S.targets r) s (place_of S.requests r))
-      (finished_named (table_size plan) (is_forgotten S.targets r) s (place_of S.requests r) (k.requests r).where_it_is) k.requests;
+      move_named (table_size plan) S.requests r.0 (finished_at (is_forgotten S.targets r.0) s (place_of S.requests r.0))
+      (finished_named (table_size plan) (is_forgotten S.targets r.0) s (place_of S.requests r.0) (k.requests r.0).where_it_is) k.requests;
   frames = k.frames;
   steps = k.steps;
 }
-deed_names plan (Come_back r) S f a d z k = record { requests = move_named (table_size plan) S.requests r place.Owned (owned_named (table_size plan)) k.requests; frames = k.frames; steps = k.steps }
-deed_names plan (Complete_request r) S f a d z k =
-    let g = given_up plan S r k in
-    asked plan (record (give_up S r) { requests = requests.complete S.requests r }) r
-    (record { requests = move_named (table_size plan) S.requests r place.Done (done_named (table_size plan)) k.requests; frames = g.frames; steps = g.steps })
-deed_names plan (Purge_queue q) S f a d z k =
-    all_withdrawn plan q (waiting_in S.queues q) (record S { control = control.set_mode S.control q mode.Purged }) (record { requests = k.requests; frames = k.frames; steps = k.steps })
-deed_names plan (Close_returning x) S f a d z k = all_returning plan (managed_queues plan x) S k
-deed_names plan (Close_device x) S f a d z k =
-    all_closed plan (queues_of plan x) (record S { control = control.shut S.control x }) (record { requests = k.requests; frames = k.frames; steps = k.steps })
-deed_names plan (Ask_device x ask) S f a d z k = record { requests = k.requests; frames = k.frames; steps = ask_named plan S.pnp x ask k.steps }
-deed_names plan (Take_step x) S f a d z k = record { requests = k.requests; frames = k.frames; steps = take_step_named plan S.pnp x k.steps }
-deed_names plan (End_step x s result) S f a d z k = record { requests = k.requests; frames = k.frames; steps = end_step_named plan S.pnp x s result k.steps }
+deed_names plan (ComeBack r) S f a d z k = record { requests = move_named (table_size plan) S.requests r.0 place.Owned (owned_named (table_size plan)) k.requests; frames = k.frames; steps = k.steps }
+deed_names plan (CompleteRequest r) S f a d z k =
+    let g = given_up plan S r.0 k in
+    asked plan (record (give_up S r.0) { requests = requests.complete S.requests r.0 }) r.0
+    (record { requests = move_named (table_size plan) S.requests r.0 place.Done (done_named (table_size plan)) k.requests; frames = g.frames; steps = g.steps })
+deed_names plan (PurgeQueue q) S f a d z k =
+    all_withdrawn plan q.0 (waiting_in S.queues q.0) (record S { control = control.set_mode S.control q.0 mode.Purged }) (record { requests = k.requests; frames = k.frames; steps = k.steps })
+deed_names plan (CloseReturning x) S f a d z k = all_returning plan (managed_queues plan x.0) S k
+deed_names plan (CloseDevice x) S f a d z k =
+    all_closed plan (queues_of plan x.0) (record S { control = control.shut S.control x.0 }) (record { requests = k.requests; frames = k.frames; steps = k.steps })
+deed_names plan (AskDevice x ask) S f a d z k = record { requests = k.requests; frames = k.frames; steps = ask_named plan S.pnp x.0 ask k.steps }
+deed_names plan (TakeStep x) S f a d z k = record { requests = k.requests; frames = k.frames; steps = take_step_named plan S.pnp x.0 k.steps }
+deed_names plan (EndStep x s result) S f a d z k = record { requests = k.requests; frames = k.frames; steps = end_step_named plan S.pnp x.0 s result k.steps }
 deed_names plan _ S f a d z k = record { requests = k.requests; frames = k.frames; steps = k.steps }
 
 pub deeds_names : {A : Type 0} (plan : Plan) (ds : List Deed) (S : State A) → all_fit plan ds S ≡ true → all_anew ds ≡ true → AreDoable plan ds S → SizesKept plan S

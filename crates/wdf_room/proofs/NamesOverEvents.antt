@@ -10,7 +10,10 @@ use Rattle.wdf_base.specs.declared.event.Event.TheVariants as event
 use Rattle.wdf_base.specs.declared.event.Post.TheVariants as post
 use Rattle.wdf_model.specs.parts.Tree.{is_live, life_of}
 use Rattle.wdf_model.specs.State.{State, opening}
-use Rattle.wdf_model.specs.rules.Deeds.{Arrive, Count_arrival, Deed, counted, do_deeds}
+use Rattle.wdf_model.specs.Ids.{object_id}
+use Rattle.wdf_model.specs.declared.deed.Deed.{Deed}
+use Rattle.wdf_model.specs.declared.deed.Deed.TheVariants.{Arrive, CountArrival}
+use Rattle.wdf_model.specs.rules.Deeds.{counted, do_deeds}
 use Rattle.wdf_model.specs.rules.Posts.{arrival_info, arrival_place}
 use Rattle.wdf_model.specs.rules.Steps.{after, deeds}
 use Rattle.wdf_model.specs.laws.Fits.{all_fit}
@@ -36,7 +39,7 @@ none_anew (d ∷ ds) h =
     both (arrives_anew d) (all_anew ds) (one_anew d (both_left (not (is_arrival d)) (none_arrives ds) h)) (none_anew ds (both_right (not (is_arrival d)) (none_arrives ds) h))
 
 arrival_anew : {A : Type 0} (plan : Plan) (S : State A) (agent : ℕ) (f : RequestForm) (length code device : ℕ) (b : Bool)
-    → all_anew (Count_arrival agent ∷ (if b then Arrive device (arrival_info S agent f length code device) (arrival_place plan S f length device) ∷ [] else [])) ≡ true
+    → all_anew (CountArrival agent ∷ (if b then Arrive (object_id device) (arrival_info S agent f length code device) (arrival_place plan S f length device) ∷ [] else [])) ≡ true
 arrival_anew plan S agent f length code device true = refl
 arrival_anew plan S agent f length code device false = refl
 

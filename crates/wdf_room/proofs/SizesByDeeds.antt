@@ -21,7 +21,9 @@ use Rattle.wdf_model.specs.parts.Deferred.Dpcs.{dpcs_of}
 use Rattle.wdf_model.specs.parts.Pnp.{left_after, no_sequence, sequence_of, steps_for, taken_step}
 use Rattle.wdf_model.specs.parts.Targets.{new_sending, no_target, sending_in_order, target_done, the_target, without_sending}
 use Rattle.wdf_model.specs.State.{State, is_with_driver}
-use Rattle.wdf_model.specs.rules.Deeds.{Deed, Arrive, Ask_deletion, Push_frame, Pop_frame, Park_frame, Unpark_frame, Present, Receive, Requeue, Forward, Give_back, Withdraw, Send_request, Finish_sending, Come_back, Complete_request, Set_mode, Purge_queue, Close_returning, Close_device, Register_queue, Notify_queue, Advance_power, Ask_device, Take_step, End_step, Enqueue_dpc, Cancel_dpc, Take_dpc, Stop_target, Start_target, arrive_at, ask_object, close_queue, close_returning, do_deed, do_deeds, give_up, give_up_if, release_line, release_power, withdraw}
+use Rattle.wdf_model.specs.declared.deed.Deed.{Deed}
+use Rattle.wdf_model.specs.declared.deed.Deed.TheVariants.{Arrive, AskDeletion, PushFrame, PopFrame, ParkFrame, UnparkFrame, Present, Receive, Requeue, Forward, GiveBack, Withdraw, SendRequest, FinishSending, ComeBack, CompleteRequest, SetMode, PurgeQueue, CloseReturning, CloseDevice, RegisterQueue, NotifyQueue, AdvancePower, AskDevice, TakeStep, EndStep, EnqueueDpc, CancelDpc, TakeDpc, StopTarget, StartTarget}
+use Rattle.wdf_model.specs.rules.Deeds.{arrive_at, ask_object, close_queue, close_returning, do_deed, do_deeds, give_up, give_up_if, release_line, release_power, withdraw}
 use Rattle.wdf_model.proofs.Deletion.{object_live, object_off}
 use Rattle.wdf_room.specs.Room.{AreDoable, IsDoable, MayEnterIfQueued, MayGiveUp}
 use Rattle.wdf_room.specs.Kept.{SizesKept, table_size}
@@ -106,87 +108,87 @@ stacked plan S cpu fs h k = as_many [] S.cpus.stacks cpu fs plan.cpus (omega ari
 -- ---- each deed
 
 pub deed_sizes : {A : Type 0} (plan : Plan) (d : Deed) (S : State A) → IsDoable plan d S → SizesKept plan S → SizesKept plan (do_deed plan d S)
-deed_sizes plan (Arrive device info p) S d k = arrived plan S device info p d.2 k
-deed_sizes plan (Ask_deletion o) S d k = all_asked plan (subtree S.tree o) S k
-deed_sizes plan (Push_frame cpu f frame level) S d k =
-    sized plan _ (queues_sized k) k.controls k.powers k.sequences k.targets (stacked plan S cpu (f ∷ stack_of S.cpus cpu) d.0 k) k.dpcs k.agents
-deed_sizes plan (Pop_frame cpu) S d k =
-    sized plan _ (queues_sized k) k.controls k.powers k.sequences k.targets (stacked plan S cpu (drop 1 (stack_of S.cpus cpu)) d.0 k) k.dpcs k.agents
-deed_sizes plan (Park_frame cpu) S d k =
-    sized plan _ (queues_sized k) k.controls k.powers k.sequences k.targets (stacked plan S cpu (drop 1 (stack_of S.cpus cpu)) d k) k.dpcs k.agents
-deed_sizes plan (Unpark_frame cpu f) S d k =
-    sized plan _ (queues_sized k) k.controls k.powers k.sequences k.targets (stacked plan S cpu (f ∷ stack_of S.cpus cpu) d.0 k) k.dpcs k.agents
+deed_sizes plan (Arrive device info p) S d k = arrived plan S device.0 info p d.2 k
+deed_sizes plan (AskDeletion o) S d k = all_asked plan (subtree S.tree o.0) S k
+deed_sizes plan (PushFrame cpu f frame level) S d k =
+    sized plan _ (queues_sized k) k.controls k.powers k.sequences k.targets (stacked plan S cpu.0 (f.0 ∷ stack_of S.cpus cpu.0) d.0 k) k.dpcs k.agents
+deed_sizes plan (PopFrame cpu) S d k =
+    sized plan _ (queues_sized k) k.controls k.powers k.sequences k.targets (stacked plan S cpu.0 (drop 1 (stack_of S.cpus cpu.0)) d.0 k) k.dpcs k.agents
+deed_sizes plan (ParkFrame cpu) S d k =
+    sized plan _ (queues_sized k) k.controls k.powers k.sequences k.targets (stacked plan S cpu.0 (drop 1 (stack_of S.cpus cpu.0)) d k) k.dpcs k.agents
+deed_sizes plan (UnparkFrame cpu f) S d k =
+    sized plan _ (queues_sized k) k.controls k.powers k.sequences k.targets (stacked plan S cpu.0 (f.0 ∷ stack_of S.cpus cpu.0) d.0 k) k.dpcs k.agents
 deed_sizes plan (Present q r) S d k =
     let there = d.1.queue in
-    sized plan _ (taken_sized (table_size plan) S.queues q (omega arith) (queues_sized k)) k.controls (ap length (hold_stays plan S.power r q) ∙ k.powers) k.sequences k.targets k.stacks k.dpcs k.agents
+    sized plan _ (taken_sized (table_size plan) S.queues q.0 (omega arith) (queues_sized k)) k.controls (ap length (hold_stays plan S.power r.0 q.0) ∙ k.powers) k.sequences k.targets k.stacks k.dpcs k.agents
 deed_sizes plan (Receive q r) S d k =
     let there = d.queue in
-    sized plan _ (held_sized (table_size plan) S.queues q (λ n. n + 1) (omega arith) (queues_sized k)) k.controls (ap length (hold_stays plan S.power r q) ∙ k.powers) k.sequences k.targets k.stacks k.dpcs k.agents
+    sized plan _ (held_sized (table_size plan) S.queues q.0 (λ n. n + 1) (omega arith) (queues_sized k)) k.controls (ap length (hold_stays plan S.power r.0 q.0) ∙ k.powers) k.sequences k.targets k.stacks k.dpcs k.agents
 deed_sizes plan (Requeue r q) S d k =
     let there = d.1.queue.dispatch in
-    let g = given_up plan S r d.0 k in
-    sized plan _ (waiting_sized (table_size plan) (give_up S r).queues q (λ rs. r ∷ rs) (omega arith) (queues_sized g))
-    (control_sized (table_size plan) (give_up S r).control q (λ c. record c { due = c.due || (c.registered && is_empty_queue (give_up S r).queues q) }) (omega arith) g.controls) g.powers g.sequences g.targets g.stacks g.dpcs g.agents
+    let g = given_up plan S r.0 d.0 k in
+    sized plan _ (waiting_sized (table_size plan) (give_up S r.0).queues q.0 (λ rs. r.0 ∷ rs) (omega arith) (queues_sized g))
+    (control_sized (table_size plan) (give_up S r.0).control q.0 (λ c. record c { due = c.due || (c.registered && is_empty_queue (give_up S r.0).queues q.0) }) (omega arith) g.controls) g.powers g.sequences g.targets g.stacks g.dpcs g.agents
 deed_sizes plan (Forward r q) S d k =
     let there = d.1.queue.dispatch in
-    let g = given_up plan S r d.0 k in
-    sized plan _ (waiting_sized (table_size plan) (give_up S r).queues q (λ rs. rs ++ r ∷ []) (omega arith) (queues_sized g))
-    (control_sized (table_size plan) (give_up S r).control q (λ c. record c { due = c.due || (c.registered && is_empty_queue (give_up S r).queues q) }) (omega arith) g.controls) g.powers g.sequences g.targets g.stacks g.dpcs g.agents
-deed_sizes plan (Give_back r q) S d k =
-    let g = given_up plan S r d k in
+    let g = given_up plan S r.0 d.0 k in
+    sized plan _ (waiting_sized (table_size plan) (give_up S r.0).queues q.0 (λ rs. rs ++ r.0 ∷ []) (omega arith) (queues_sized g))
+    (control_sized (table_size plan) (give_up S r.0).control q.0 (λ c. record c { due = c.due || (c.registered && is_empty_queue (give_up S r.0).queues q.0) }) (omega arith) g.controls) g.powers g.sequences g.targets g.stacks g.dpcs g.agents
+deed_sizes plan (GiveBack r q) S d k =
+    let g = given_up plan S r.0 d k in
     sized plan _ (queues_sized g) g.controls g.powers g.sequences g.targets g.stacks g.dpcs g.agents
-deed_sizes plan (Withdraw q r) S d k = withdrawn plan q S r k
-deed_sizes plan (Send_request r t forget) S d k =
-    let g = given_up_if plan S forget r d.0 k in
-    let there = takes_within S.targets t d.1 in
+deed_sizes plan (Withdraw q r) S d k = withdrawn plan q.0 S r.0 k
+deed_sizes plan (SendRequest r t forget) S d k =
+    let g = given_up_if plan S forget r.0 d.0 k in
+    let there = takes_within S.targets t.0 d.1 in
     sized plan _ (queues_sized g) g.controls g.powers g.sequences
-    (as_many no_target S.targets.targets t (record (the_target S.targets t) { sent = sending_in_order (new_sending r forget) (the_target S.targets t).sent }) (table_size plan) (omega arith) k.targets)
+    (as_many no_target S.targets.targets t.0 (record (the_target S.targets t.0) { sent = sending_in_order (new_sending r.0 forget) (the_target S.targets t.0).sent }) (table_size plan) (omega arith) k.targets)
     g.stacks g.dpcs g.agents
-deed_sizes plan (Finish_sending r s) S d k =
-    sized plan _ (queues_sized k) k.controls k.powers k.sequences (length-map S.targets.targets (target_done r s) ∙ k.targets) k.stacks k.dpcs k.agents
-deed_sizes plan (Come_back r) S d k =
-    sized plan _ (queues_sized k) k.controls k.powers k.sequences (length-map S.targets.targets (without_sending r) ∙ k.targets) k.stacks k.dpcs k.agents
-deed_sizes plan (Complete_request r) S d k =
-    let g = given_up plan S r d k in
-    all_asked plan (subtree (give_up S r).tree r) (record (give_up S r) { requests = requests.complete S.requests r })
+deed_sizes plan (FinishSending r s) S d k =
+    sized plan _ (queues_sized k) k.controls k.powers k.sequences (length-map S.targets.targets (target_done r.0 s) ∙ k.targets) k.stacks k.dpcs k.agents
+deed_sizes plan (ComeBack r) S d k =
+    sized plan _ (queues_sized k) k.controls k.powers k.sequences (length-map S.targets.targets (without_sending r.0) ∙ k.targets) k.stacks k.dpcs k.agents
+deed_sizes plan (CompleteRequest r) S d k =
+    let g = given_up plan S r.0 d k in
+    all_asked plan (subtree (give_up S r.0).tree r.0) (record (give_up S r.0) { requests = requests.complete S.requests r.0 })
     (sized plan _ (queues_sized g) g.controls g.powers g.sequences g.targets g.stacks g.dpcs g.agents)
-deed_sizes plan (Set_mode q m) S d k =
-    sized plan _ (queues_sized k) (mode_sized (table_size plan) S.control q m (omega arith) k.controls) k.powers k.sequences k.targets k.stacks k.dpcs k.agents
-deed_sizes plan (Purge_queue q) S d k =
+deed_sizes plan (SetMode q m) S d k =
+    sized plan _ (queues_sized k) (mode_sized (table_size plan) S.control q.0 m (omega arith) k.controls) k.powers k.sequences k.targets k.stacks k.dpcs k.agents
+deed_sizes plan (PurgeQueue q) S d k =
     let there = d.queue.control in
-    all_withdrawn plan q (waiting_in S.queues q) (record S { control = control.set_mode S.control q mode.Purged })
-    (sized plan _ (queues_sized k) (mode_sized (table_size plan) S.control q mode.Purged (omega arith) k.controls) k.powers k.sequences k.targets k.stacks k.dpcs k.agents)
-deed_sizes plan (Close_returning x) S d k = all_returning plan (managed_queues plan x) S k
-deed_sizes plan (Close_device x) S d k =
-    all_closed plan (queues_of plan x) (record S { control = control.shut S.control x }) (queues_below plan x)
-    (sized plan _ (queues_sized k) (shut_sized (table_size plan) S.control x k.controls) k.powers k.sequences k.targets k.stacks k.dpcs k.agents)
-deed_sizes plan (Register_queue q on) S d k =
-    sized plan _ (queues_sized k) (control_sized (table_size plan) S.control q (λ c. record c { registered = on }) (omega arith) k.controls) k.powers k.sequences k.targets k.stacks k.dpcs k.agents
-deed_sizes plan (Notify_queue q) S d k =
-    sized plan _ (queues_sized k) (control_sized (table_size plan) S.control q (λ c. record c { due = false }) (omega arith) k.controls) k.powers k.sequences k.targets k.stacks k.dpcs k.agents
-deed_sizes plan (Advance_power x s) S d k =
-    sized plan _ (queues_sized k) k.controls (advanced_sized (table_size plan) S.power x s (omega arith) k.powers) k.sequences k.targets k.stacks k.dpcs k.agents
-deed_sizes plan (Ask_device x a) S d k =
+    all_withdrawn plan q.0 (waiting_in S.queues q.0) (record S { control = control.set_mode S.control q.0 mode.Purged })
+    (sized plan _ (queues_sized k) (mode_sized (table_size plan) S.control q.0 mode.Purged (omega arith) k.controls) k.powers k.sequences k.targets k.stacks k.dpcs k.agents)
+deed_sizes plan (CloseReturning x) S d k = all_returning plan (managed_queues plan x.0) S k
+deed_sizes plan (CloseDevice x) S d k =
+    all_closed plan (queues_of plan x.0) (record S { control = control.shut S.control x.0 }) (queues_below plan x.0)
+    (sized plan _ (queues_sized k) (shut_sized (table_size plan) S.control x.0 k.controls) k.powers k.sequences k.targets k.stacks k.dpcs k.agents)
+deed_sizes plan (RegisterQueue q on) S d k =
+    sized plan _ (queues_sized k) (control_sized (table_size plan) S.control q.0 (λ c. record c { registered = on }) (omega arith) k.controls) k.powers k.sequences k.targets k.stacks k.dpcs k.agents
+deed_sizes plan (NotifyQueue q) S d k =
+    sized plan _ (queues_sized k) (control_sized (table_size plan) S.control q.0 (λ c. record c { due = false }) (omega arith) k.controls) k.powers k.sequences k.targets k.stacks k.dpcs k.agents
+deed_sizes plan (AdvancePower x s) S d k =
+    sized plan _ (queues_sized k) k.controls (advanced_sized (table_size plan) S.power x.0 s (omega arith) k.powers) k.sequences k.targets k.stacks k.dpcs k.agents
+deed_sizes plan (AskDevice x a) S d k =
     sized plan _ (queues_sized k) k.controls k.powers
-    (as_many no_sequence S.pnp.devices x (record (sequence_of S.pnp x) { left = steps_for (sequence_of S.pnp x).steps (sequence_of S.pnp x).ever_working (sequence_of S.pnp x).phase a }) (table_size plan) (omega arith) k.sequences)
+    (as_many no_sequence S.pnp.devices x.0 (record (sequence_of S.pnp x.0) { left = steps_for (sequence_of S.pnp x.0).steps (sequence_of S.pnp x.0).ever_working (sequence_of S.pnp x.0).phase a }) (table_size plan) (omega arith) k.sequences)
     k.targets k.stacks k.dpcs k.agents
-deed_sizes plan (Take_step x) S d k =
-    sized plan _ (queues_sized k) k.controls k.powers (as_many no_sequence S.pnp.devices x (taken_step (sequence_of S.pnp x)) (table_size plan) (omega arith) k.sequences) k.targets k.stacks k.dpcs k.agents
-deed_sizes plan (End_step x s result) S d k =
+deed_sizes plan (TakeStep x) S d k =
+    sized plan _ (queues_sized k) k.controls k.powers (as_many no_sequence S.pnp.devices x.0 (taken_step (sequence_of S.pnp x.0)) (table_size plan) (omega arith) k.sequences) k.targets k.stacks k.dpcs k.agents
+deed_sizes plan (EndStep x s result) S d k =
     sized plan _ (queues_sized k) k.controls k.powers
-    (as_many no_sequence S.pnp.devices x (record (sequence_of S.pnp x) { left = left_after (sequence_of S.pnp x) s result; running = None }) (table_size plan) (omega arith) k.sequences)
+    (as_many no_sequence S.pnp.devices x.0 (record (sequence_of S.pnp x.0) { left = left_after (sequence_of S.pnp x.0) s result; running = None }) (table_size plan) (omega arith) k.sequences)
     k.targets k.stacks k.dpcs k.agents
-deed_sizes plan (Enqueue_dpc cpu o) S d k =
-    let there : cpu < length S.dpcs.lists = d.0 in
-    sized plan _ (queues_sized k) k.controls k.powers k.sequences k.targets k.stacks (as_many [] S.dpcs.lists cpu (dpcs_of S.dpcs cpu ++ o ∷ []) plan.cpus (omega arith) k.dpcs) k.agents
-deed_sizes plan (Cancel_dpc o) S d k =
-    sized plan _ (queues_sized k) k.controls k.powers k.sequences k.targets k.stacks (length-map S.dpcs.lists (without o) ∙ k.dpcs) k.agents
-deed_sizes plan (Take_dpc cpu) S d k =
-    sized plan _ (queues_sized k) k.controls k.powers k.sequences k.targets k.stacks (as_many [] S.dpcs.lists cpu (drop 1 (dpcs_of S.dpcs cpu)) plan.cpus (omega arith) k.dpcs) k.agents
-deed_sizes plan (Stop_target t) S d k =
-    sized plan _ (queues_sized k) k.controls k.powers k.sequences (as_many no_target S.targets.targets t (record (the_target S.targets t) { stopped = true }) (table_size plan) (omega arith) k.targets) k.stacks k.dpcs k.agents
-deed_sizes plan (Start_target t) S d k =
-    sized plan _ (queues_sized k) k.controls k.powers k.sequences (as_many no_target S.targets.targets t (record (the_target S.targets t) { stopped = false }) (table_size plan) (omega arith) k.targets) k.stacks k.dpcs k.agents
+deed_sizes plan (EnqueueDpc cpu o) S d k =
+    let there : cpu.0 < length S.dpcs.lists = d.0 in
+    sized plan _ (queues_sized k) k.controls k.powers k.sequences k.targets k.stacks (as_many [] S.dpcs.lists cpu.0 (dpcs_of S.dpcs cpu.0 ++ o.0 ∷ []) plan.cpus (omega arith) k.dpcs) k.agents
+deed_sizes plan (CancelDpc o) S d k =
+    sized plan _ (queues_sized k) k.controls k.powers k.sequences k.targets k.stacks (length-map S.dpcs.lists (without o.0) ∙ k.dpcs) k.agents
+deed_sizes plan (TakeDpc cpu) S d k =
+    sized plan _ (queues_sized k) k.controls k.powers k.sequences k.targets k.stacks (as_many [] S.dpcs.lists cpu.0 (drop 1 (dpcs_of S.dpcs cpu.0)) plan.cpus (omega arith) k.dpcs) k.agents
+deed_sizes plan (StopTarget t) S d k =
+    sized plan _ (queues_sized k) k.controls k.powers k.sequences (as_many no_target S.targets.targets t.0 (record (the_target S.targets t.0) { stopped = true }) (table_size plan) (omega arith) k.targets) k.stacks k.dpcs k.agents
+deed_sizes plan (StartTarget t) S d k =
+    sized plan _ (queues_sized k) k.controls k.powers k.sequences (as_many no_target S.targets.targets t.0 (record (the_target S.targets t.0) { stopped = false }) (table_size plan) (omega arith) k.targets) k.stacks k.dpcs k.agents
 deed_sizes plan _ S d k = sized plan _ (queues_sized k) k.controls k.powers k.sequences k.targets k.stacks k.dpcs k.agents
 
 pub deeds_sizes : {A : Type 0} (plan : Plan) (ds : List Deed) (S : State A) → AreDoable plan ds S → SizesKept plan S → SizesKept plan (do_deeds plan ds S)

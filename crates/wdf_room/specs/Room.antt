@@ -15,7 +15,9 @@ use Rattle.wdf_model.specs.parts.Deferred.Dpcs.{is_dpc_queued}
 use Rattle.wdf_model.specs.parts.Deferred.Timers.{timed_of}
 use Rattle.wdf_model.specs.parts.Targets.{sending_of, takes_more}
 use Rattle.wdf_model.specs.State.{State}
-use Rattle.wdf_model.specs.rules.Deeds.{Deed, Create, Make_request, Arrive, Count_arrival, Refer, Unrefer, Write_cell, Note, Clean_up, End_life, Push_frame, Go_on, Raise, Lower, Pop_frame, Park_frame, Unpark_frame, Take_lock, Present, Receive, Requeue, Forward, Give_back, Withdraw, Mark_request, Unmark_request, Cancel_request, Take_cancel, Send_request, Finish_sending, Come_back, Complete_request, Set_mode, Purge_queue, Close_device, Register_queue, Notify_queue, Advance_power, Acknowledge, Ask_stop, Resume, Ask_device, Take_step, End_step, Enable_interrupt, Disable_interrupt, Enqueue_dpc, Take_dpc, Enqueue_work, Start_timer, Fire_timer, Stop_target, Start_target, Pass_tick, do_deed}
+use Rattle.wdf_model.specs.declared.deed.Deed.{Deed}
+use Rattle.wdf_model.specs.declared.deed.Deed.TheVariants.{Create, MakeRequest, Arrive, CountArrival, Refer, Unrefer, WriteCell, Note, CleanUp, EndLife, PushFrame, GoOn, Raise, Lower, PopFrame, ParkFrame, UnparkFrame, TakeLock, Present, Receive, Requeue, Forward, GiveBack, Withdraw, MarkRequest, UnmarkRequest, CancelRequest, TakeCancel, SendRequest, FinishSending, ComeBack, CompleteRequest, SetMode, PurgeQueue, CloseDevice, RegisterQueue, NotifyQueue, AdvancePower, Acknowledge, AskStop, Resume, AskDevice, TakeStep, EndStep, EnableInterrupt, DisableInterrupt, EnqueueDpc, TakeDpc, EnqueueWork, StartTimer, FireTimer, StopTarget, StartTarget, PassTick}
+use Rattle.wdf_model.specs.rules.Deeds.{do_deed}
 
 -- own: the numbers of agents have 16 bits
 abbrev pub AGENTS : ℕ
@@ -70,63 +72,63 @@ pub record MayPurge {A : Type 0} (S : State A) (q : ℕ) : Type 0 where
 
 -- a deed can be done
 abbrev pub IsDoable : {A : Type 0} → Plan → Deed → State A → Type 0
-IsDoable plan (Create k class parent) S = HasRoomForObject S parent
-IsDoable plan (Make_request class parent) S = HasRoomForObject S parent × (S.requests.arrived < EVENTS)
+IsDoable plan (Create k class parent) S = HasRoomForObject S parent.0
+IsDoable plan (MakeRequest class parent) S = HasRoomForObject S parent.0 × (S.requests.arrived < EVENTS)
 IsDoable plan (Arrive device info p) S =
     (length S.tree.nodes < OBJECTS) × (S.requests.arrived < EVENTS) × MayEnterIfQueued S p (next_id S.tree)
-IsDoable plan (Count_arrival agent) S = (agent < AGENTS) × (entry 0 S.arrivals agent + 1 < 2 ^ 32)
-IsDoable plan (Refer o) S = IsThere S o × (references_in S.tree < EVENTS)
-IsDoable plan (Unrefer o) S = IsThere S o
-IsDoable plan (Write_cell o k v) S = IsThere S o × (k < 8)
-IsDoable plan (Note o c) S = IsThere S o
-IsDoable plan (Clean_up o) S = is_asked (life_of S.tree o) ≡ true
-IsDoable plan (End_life o) S = may_destroy S.tree o ≡ true
-IsDoable plan (Push_frame cpu f frame level) S =
-    (cpu < length S.cpus.stacks) × (f < FRAMES) × (contains f (all_frames S.cpus) ≡ false)
-IsDoable plan (Go_on f frame) S = f < length S.cpus.frames
-IsDoable plan (Raise f level) S = (f < FRAMES) × (length S.cpus.levels < EVENTS)
-IsDoable plan (Lower f level) S = f < FRAMES
-IsDoable plan (Pop_frame cpu) S = (cpu < length S.cpus.stacks) × IsSome (top S.cpus cpu)
-IsDoable plan (Park_frame cpu) S = cpu < length S.cpus.stacks
-IsDoable plan (Unpark_frame cpu f) S = (cpu < length S.cpus.stacks) × (contains f S.cpus.parked ≡ true)
-IsDoable plan (Take_lock l f by_call) S = (is_free_lock S.locks l ≡ true) × (f < FRAMES) × (length S.locks.held < EVENTS)
-IsDoable plan (Present q r) S = (front S.queues q ≡ Some r) × MayHold S q r
-IsDoable plan (Receive q r) S = MayHold S q r
-IsDoable plan (Requeue r q) S = MayGiveUp S r × MayEnter S q r
-IsDoable plan (Forward r q) S = MayGiveUp S r × MayEnter S q r
-IsDoable plan (Give_back r q) S = MayGiveUp S r
-IsDoable plan (Withdraw q r) S = IsRequest S r
-IsDoable plan (Mark_request r) S = IsRequest S r
-IsDoable plan (Unmark_request r) S = IsRequest S r
-IsDoable plan (Cancel_request r) S = IsRequest S r
-IsDoable plan (Take_cancel r) S = IsRequest S r
-IsDoable plan (Send_request r t forget) S =
-    MayGiveUp S r × (takes_more S.targets t ≡ true) × (sending_of S.targets r ≡ None)
-IsDoable plan (Finish_sending r s) S = IsRequest S r
-IsDoable plan (Come_back r) S = IsRequest S r
-IsDoable plan (Complete_request r) S = MayGiveUp S r
-IsDoable plan (Set_mode q m) S = q < length S.control.controls
-IsDoable plan (Purge_queue q) S = MayPurge S q
-IsDoable plan (Close_device d) S = (d < length S.control.controls) × (length plan.declared < length S.queues.dispatch)
-IsDoable plan (Register_queue q on) S = q < length S.control.controls
-IsDoable plan (Notify_queue q) S = q < length S.control.controls
-IsDoable plan (Advance_power d s) S = d < length S.power.devices
-IsDoable plan (Acknowledge r) S = r < OBJECTS
-IsDoable plan (Ask_stop r) S = r < OBJECTS
-IsDoable plan (Resume r) S = r < OBJECTS
-IsDoable plan (Ask_device d a) S = d < length S.pnp.devices
-IsDoable plan (Take_step d) S = d < length S.pnp.devices
-IsDoable plan (End_step d s result) S = d < length S.pnp.devices
-IsDoable plan (Enable_interrupt i) S = i < OBJECTS
-IsDoable plan (Disable_interrupt i) S = i < OBJECTS
-IsDoable plan (Enqueue_dpc cpu o) S = (cpu < length S.dpcs.lists) × (o < OBJECTS) × (is_dpc_queued S.dpcs o ≡ false)
-IsDoable plan (Take_dpc cpu) S = cpu < length S.dpcs.lists
-IsDoable plan (Enqueue_work o) S = o < OBJECTS
-IsDoable plan (Start_timer o ticks) S = (o < OBJECTS) × (S.clock < 2 ^ 63)
-IsDoable plan (Fire_timer o period) S = IfSome (timed_of S.timers o) (λ t. t.tick + period < 2 ^ 64)
-IsDoable plan (Stop_target t) S = t < length S.targets.targets
-IsDoable plan (Start_target t) S = t < length S.targets.targets
-IsDoable plan Pass_tick S = S.clock + 1 < 2 ^ 64
+IsDoable plan (CountArrival agent) S = (agent < AGENTS) × (entry 0 S.arrivals agent + 1 < 2 ^ 32)
+IsDoable plan (Refer o) S = IsThere S o.0 × (references_in S.tree < EVENTS)
+IsDoable plan (Unrefer o) S = IsThere S o.0
+IsDoable plan (WriteCell o k v) S = IsThere S o.0 × (k < 8)
+IsDoable plan (Note o c) S = IsThere S o.0
+IsDoable plan (CleanUp o) S = is_asked (life_of S.tree o.0) ≡ true
+IsDoable plan (EndLife o) S = may_destroy S.tree o.0 ≡ true
+IsDoable plan (PushFrame cpu f frame level) S =
+    (cpu.0 < length S.cpus.stacks) × (f.0 < FRAMES) × (contains f.0 (all_frames S.cpus) ≡ false)
+IsDoable plan (GoOn f frame) S = f.0 < length S.cpus.frames
+IsDoable plan (Raise f level) S = (f.0 < FRAMES) × (length S.cpus.levels < EVENTS)
+IsDoable plan (Lower f level) S = f.0 < FRAMES
+IsDoable plan (PopFrame cpu) S = (cpu.0 < length S.cpus.stacks) × IsSome (top S.cpus cpu.0)
+IsDoable plan (ParkFrame cpu) S = cpu.0 < length S.cpus.stacks
+IsDoable plan (UnparkFrame cpu f) S = (cpu.0 < length S.cpus.stacks) × (contains f.0 S.cpus.parked ≡ true)
+IsDoable plan (TakeLock l f by_call) S = (is_free_lock S.locks l ≡ true) × (f.0 < FRAMES) × (length S.locks.held < EVENTS)
+IsDoable plan (Present q r) S = (front S.queues q.0 ≡ Some r.0) × MayHold S q.0 r.0
+IsDoable plan (Receive q r) S = MayHold S q.0 r.0
+IsDoable plan (Requeue r q) S = MayGiveUp S r.0 × MayEnter S q.0 r.0
+IsDoable plan (Forward r q) S = MayGiveUp S r.0 × MayEnter S q.0 r.0
+IsDoable plan (GiveBack r q) S = MayGiveUp S r.0
+IsDoable plan (Withdraw q r) S = IsRequest S r.0
+IsDoable plan (MarkRequest r) S = IsRequest S r.0
+IsDoable plan (UnmarkRequest r) S = IsRequest S r.0
+IsDoable plan (CancelRequest r) S = IsRequest S r.0
+IsDoable plan (TakeCancel r) S = IsRequest S r.0
+IsDoable plan (SendRequest r t forget) S =
+    MayGiveUp S r.0 × (takes_more S.targets t.0 ≡ true) × (sending_of S.targets r.0 ≡ None)
+IsDoable plan (FinishSending r s) S = IsRequest S r.0
+IsDoable plan (ComeBack r) S = IsRequest S r.0
+IsDoable plan (CompleteRequest r) S = MayGiveUp S r.0
+IsDoable plan (SetMode q m) S = q.0 < length S.control.controls
+IsDoable plan (PurgeQueue q) S = MayPurge S q.0
+IsDoable plan (CloseDevice d) S = (d.0 < length S.control.controls) × (length plan.declared < length S.queues.dispatch)
+IsDoable plan (RegisterQueue q on) S = q.0 < length S.control.controls
+IsDoable plan (NotifyQueue q) S = q.0 < length S.control.controls
+IsDoable plan (AdvancePower d s) S = d.0 < length S.power.devices
+IsDoable plan (Acknowledge r) S = r.0 < OBJECTS
+IsDoable plan (AskStop r) S = r.0 < OBJECTS
+IsDoable plan (Resume r) S = r.0 < OBJECTS
+IsDoable plan (AskDevice d a) S = d.0 < length S.pnp.devices
+IsDoable plan (TakeStep d) S = d.0 < length S.pnp.devices
+IsDoable plan (EndStep d s result) S = d.0 < length S.pnp.devices
+IsDoable plan (EnableInterrupt i) S = i.0 < OBJECTS
+IsDoable plan (DisableInterrupt i) S = i.0 < OBJECTS
+IsDoable plan (EnqueueDpc cpu o) S = (cpu.0 < length S.dpcs.lists) × (o.0 < OBJECTS) × (is_dpc_queued S.dpcs o.0 ≡ false)
+IsDoable plan (TakeDpc cpu) S = cpu.0 < length S.dpcs.lists
+IsDoable plan (EnqueueWork o) S = o.0 < OBJECTS
+IsDoable plan (StartTimer o ticks) S = (o.0 < OBJECTS) × (S.clock < 2 ^ 63)
+IsDoable plan (FireTimer o period) S = IfSome (timed_of S.timers o.0) (λ t. t.tick + period < 2 ^ 64)
+IsDoable plan (StopTarget t) S = t.0 < length S.targets.targets
+IsDoable plan (StartTarget t) S = t.0 < length S.targets.targets
+IsDoable plan PassTick S = S.clock + 1 < 2 ^ 64
 IsDoable plan _ S = ⊤
 
 -- each of some deeds can be done where it comes

@@ -30,9 +30,12 @@ use Rattle.wdf_model.specs.parts.Cpus.{Cpus, frame_of, stack_of, top}
 use Rattle.wdf_model.specs.parts.Cpus as cpus
 use Rattle.wdf_model.specs.parts.Locks.{Locks, holds_by_call, lock_of_callback, object_lock}
 use Rattle.wdf_model.specs.State.{State, declared_in, object_in}
+use Rattle.wdf_model.specs.Ids.{cpu_of, frame_id, irql_of}
 use Rattle.wdf_model.specs.rules.Calls.{is_met_then, lock_level}
 use Rattle.wdf_model.specs.rules.Faults.{is_release}
-use Rattle.wdf_model.specs.rules.Deeds.{Deed, Go_on, Lower, Park_frame, Pop_frame, Push_frame, Release_lock, Unpark_frame, do_deed, do_deeds}
+use Rattle.wdf_model.specs.declared.deed.Deed.{Deed}
+use Rattle.wdf_model.specs.declared.deed.Deed.TheVariants.{GoOn, Lower, ParkFrame, PopFrame, PushFrame, ReleaseLock, UnparkFrame}
+use Rattle.wdf_model.specs.rules.Deeds.{do_deed, do_deeds}
 use Rattle.wdf_model.specs.rules.Starts.{end_of_step, new_frame, next_number, release_if_any, start_effect, take_if_any}
 use Rattle.wdf_model.specs.rules.Steps.{after, answered, deeds, did_deeds, may}
 use Rattle.wdf_model.specs.rules.Ready.{IsRunOf, ready, state_after}
@@ -89,9 +92,9 @@ agrees_still plan ss bs S U same g h k = record {
 -- ---- events by which no frame moves and no lock is given back
 
 unspecial : (e : Event) (d : Deed) → is_start_event e ≡ false → is_end_event e ≡ false → releasing e ≡ false → is_within e d ≡ true → not (is_special d) ≡ true
-unspecial e (Push_frame cpu f frame level) s n r h = absurd (let z : ⊥ = cc in z)
-unspecial e (Pop_frame cpu) s n r h = absurd (let z : ⊥ = cc in z)
-unspecial e (Release_lock l) s n r h = absurd (let z : ⊥ = cc in z)
+unspecial e (PushFrame cpu f frame level) s n r h = absurd (let z : ⊥ = cc in z)
+unspecial e (PopFrame cpu) s n r h = absurd (let z : ⊥ = cc in z)
+unspecial e (ReleaseLock l) s n r h = absurd (let z : ⊥ = cc in z)
 unspecial e _ s n r h = refl
 
 all_unspecial : (e : Event) (ds : List Deed) → is_start_event e ≡ false → is_end_event e ≡ false → releasing e ≡ false → all_within e ds ≡ true → none_special ds ≡ true
@@ -100,10 +103,10 @@ all_unspecial e (d ∷ ds) s n r h =
     both (not (is_special d)) (none_special ds) (unspecial e d s n r (both_left (is_within e d) (all_within e ds) h)) (all_unspecial e ds s n r (both_right (is_within e d) (all_within e ds) h))
 
 unmoving : (e : Event) (d : Deed) → is_start_event e ≡ false → is_end_event e ≡ false → is_park_event e ≡ false → is_unpark_event e ≡ false → is_within e d ≡ true → not (is_moving d) ≡ true
-unmoving e (Push_frame cpu f frame level) s n p u h = absurd (let z : ⊥ = cc in z)
-unmoving e (Pop_frame cpu) s n p u h = absurd (let z : ⊥ = cc in z)
-unmoving e (Park_frame cpu) s n p u h = absurd (let z : ⊥ = cc in z)
-unmoving e (Unpark_frame cpu f) s n p u h = absurd (let z : ⊥ = cc in z)
+unmoving e (PushFrame cpu f frame level) s n p u h = absurd (let z : ⊥ = cc in z)
+unmoving e (PopFrame cpu) s n p u h = absurd (let z : ⊥ = cc in z)
+unmoving e (ParkFrame cpu) s n p u h = absurd (let z : ⊥ = cc in z)
+unmoving e (UnparkFrame cpu f) s n p u h = absurd (let z : ⊥ = cc in z)
 unmoving e _ s n p u h = refl
 
 all_unmoving : (e : Event) (ds : List Deed) → is_start_event e ≡ false → is_end_event e ≡ false → is_park_event e ≡ false → is_unpark_event e ≡ false → all_within e ds ≡ true → none_moves ds ≡ true
@@ -137,7 +140,7 @@ by_call_other : (L : Locks) (l : LockRef) (f g : ℕ) → holds_by_call L f l �
 by_call_other L l f g h = found_counts (is_other_hold l g) L.held (any_weaker (λ x. same_lock x.lock l && (x.frame.0 == f) && x.by_call) (is_other_hold l g) (called_other l f g) L.held h)
 
 release_step : {A : Type 0} (plan : Plan) (m : Meaning A) (ss : List Stacked) (bs : List Begun) (S : State A) (k : Cpu) (c : Call) (v : Value) → may plan m S (event.Did k c v) ≡ true → KnownAll plan S → Once S.locks → is_release c.kind ≡ true
-    → ((f : ℕ) (frame : Frame) → did_deeds plan S k.0 c v f frame ≡ Release_lock (object_lock (object_in c.a)) ∷ Lower f (lock_level plan S (object_in c.a)) ∷ Go_on f (answered plan frame v) ∷ [])
+    → ((f : ℕ) (frame : Frame) → did_deeds plan S k.0 c v f frame ≡ ReleaseLock (object_lock (object_in c.a)) ∷ Lower (frame_id f) (irql_of (lock_level plan S (object_in c.a))) ∷ GoOn (frame_id f) (answered plan frame v) ∷ [])
     → Agrees plan ss bs S → Agrees plan ss bs (after plan m S (event.Did k c v))
 release_step {A} plan m ss bs S k c v h known once rel is agrees =
     let e : Event = event.Did k c v in
@@ -145,17 +148,17 @@ release_step {A} plan m ss bs S k c v h known once rel is agrees =
     let f : ℕ = d.frame in
     let l : LockRef = object_lock (object_in c.a) in
     let next : Frame = answered plan (frame_of S.cpus f) v in
-    let rest : List Deed = Lower f (lock_level plan S (object_in c.a)) ∷ Go_on f next ∷ [] in
-    let ds : List Deed = Release_lock l ∷ rest in
+    let rest : List Deed = Lower (frame_id f) (irql_of (lock_level plan S (object_in c.a))) ∷ GoOn (frame_id f) next ∷ [] in
+    let ds : List Deed = ReleaseLock l ∷ rest in
     let list : deeds plan S e ≡ ds = by_its_top S k.0 f (did_deeds plan S k.0 c v) d.about.top ∙ is f (frame_of S.cpus f) in
     let fit : all_fit plan ds S ≡ true = subst (λ xs. all_fit plan xs S ≡ true) list (event_fits plan m S e h) in
     let sound : AllSound plan ds S = subst (λ xs. AllSound plan xs S) list (all_sound plan m S e known h) in
     let held : holds_by_call S.locks f l ≡ true = not_false (holds_by_call S.locks f l) (held_by (is_release c.kind) (holds_by_call S.locks f l) rel (d.about.clean fault.LockNotHeld)) in
-    let V : State A = do_deed plan (Release_lock l) S in
+    let V : State A = do_deed plan (ReleaseLock l) S in
     let free : HoldsBut plan V (λ g. ⊥) = release_holds plan S l (λ g. ⊥) (λ g other more own. not_own S.locks l g once (by_call_other S.locks l f g held) own) agrees.holds in
-    let framing : Framing plan V = framing_by plan (Release_lock l) S refl tt known.framing in
+    let framing : Framing plan V = framing_by plan (ReleaseLock l) S refl tt known.framing in
     let U : State A = do_deeds plan rest V in
-    let kept : Kept plan (λ g. ⊥) V U = deeds_hold plan rest V (λ g. ⊥) (both_right (fits plan (Release_lock l) S) (all_fit plan rest V) fit) sound.1 refl framing free in
+    let kept : Kept plan (λ g. ⊥) V U = deeds_hold plan rest V (λ g. ⊥) (both_right (fits plan (ReleaseLock l) S) (all_fit plan rest V) fit) sound.1 refl framing free in
     let goes : Goes S U = goes_then S V U (goes_cpus S V refl) kept.goes in
     let done : Agrees plan ss bs U = agrees_still plan ss bs S U (deeds_stacks plan ds S refl) goes kept.holds agrees in
     let all : Agrees plan ss bs (do_deeds plan (deeds plan S e) S) = subst (λ xs. Agrees plan ss bs (do_deeds plan xs S)) (sym list) done in
@@ -204,7 +207,7 @@ popped_stacks ss C cpu k =
 park_step : {A : Type 0} (plan : Plan) (m : Meaning A) (ss : List Stacked) (bs : List Begun) (S : State A) (k : Cpu) (f : FrameId) → may plan m S (event.Park k f) ≡ true → KnownAll plan S → Agrees plan ss bs S
     → Agrees plan (without_top k.0 ss) bs (after plan m S (event.Park k f))
 park_step {A} plan m ss bs S k f h known q =
-    let ds : List Deed = Park_frame k.0 ∷ [] in
+    let ds : List Deed = ParkFrame k ∷ [] in
     let U : State A = do_deeds plan ds S in
     let kept : Kept plan (λ g. ⊥) S U = deeds_hold plan ds S (λ g. ⊥) refl (all_sound plan m S (event.Park k f) known h) refl known.framing q.holds in
     record { stacks = popped_stacks ss S.cpus k.0 q.stacks; begun = begun_still S U kept.goes bs q.begun; holds = kept.holds }
@@ -212,7 +215,7 @@ park_step {A} plan m ss bs S k f h known q =
 unpark_step : {A : Type 0} (plan : Plan) (m : Meaning A) (ss : List Stacked) (bs : List Begun) (S : State A) (k : Cpu) (f : FrameId) → may plan m S (event.Unpark k f) ≡ true → KnownAll plan S → Agrees plan ss bs S
     → Agrees plan (pushed k.0 f.0 ss) bs (after plan m S (event.Unpark k f))
 unpark_step {A} plan m ss bs S k f h known q =
-    let ds : List Deed = Unpark_frame k.0 f.0 ∷ [] in
+    let ds : List Deed = UnparkFrame k f ∷ [] in
     let U : State A = do_deeds plan ds S in
     let kept : Kept plan (λ g. ⊥) S U = deeds_hold plan ds S (λ g. ⊥) refl (all_sound plan m S (event.Unpark k f) known h) refl known.framing q.holds in
     record { stacks = pushed_stacks ss S.cpus k.0 f.0 q.stacks; begun = begun_still S U kept.goes bs q.begun; holds = kept.holds }
@@ -224,9 +227,9 @@ sound_parts plan [] es S h = (tt, h)
 sound_parts plan (d ∷ ds) es S h = let p = sound_parts plan ds es (do_deed plan d S) h.1 in ((h.0, p.0), p.1)
 
 quiet_unspecial : (d : Deed) → is_quiet_deed d ≡ true → not (is_special d) ≡ true
-quiet_unspecial (Push_frame cpu f frame level) h = absurd (let z : ⊥ = cc in z)
-quiet_unspecial (Pop_frame cpu) h = absurd (let z : ⊥ = cc in z)
-quiet_unspecial (Release_lock l) h = absurd (let z : ⊥ = cc in z)
+quiet_unspecial (PushFrame cpu f frame level) h = absurd (let z : ⊥ = cc in z)
+quiet_unspecial (PopFrame cpu) h = absurd (let z : ⊥ = cc in z)
+quiet_unspecial (ReleaseLock l) h = absurd (let z : ⊥ = cc in z)
 quiet_unspecial _ h = refl
 
 all_quiet_unspecial : (ds : List Deed) → all_quiet ds ≡ true → none_special ds ≡ true
@@ -256,11 +259,11 @@ taken_holds plan V f (Some t) own k g never more l is =
     ]
 
 -- a frame begins, and its callback with it
-begin_step : {A : Type 0} (plan : Plan) (ss : List Stacked) (bs : List Begun) (S : State A) (cpu f : ℕ) (frame : Frame) (level : ℕ) (l : Option LockRef) → Sound plan (Push_frame cpu f frame level) S → lock_by plan S frame ≡ l → Agrees plan ss bs S
-    → Agrees plan (pushed cpu f ss) (bs ++ record { frame = f; callback = frame.callback; object = frame.object.id.0 } ∷ []) (do_deeds plan (Push_frame cpu f frame level ∷ take_if_any f l) S)
+begin_step : {A : Type 0} (plan : Plan) (ss : List Stacked) (bs : List Begun) (S : State A) (cpu f : ℕ) (frame : Frame) (level : ℕ) (l : Option LockRef) → Sound plan (PushFrame (cpu_of cpu) (frame_id f) frame (irql_of level)) S → lock_by plan S frame ≡ l → Agrees plan ss bs S
+    → Agrees plan (pushed cpu f ss) (bs ++ record { frame = f; callback = frame.callback; object = frame.object.id.0 } ∷ []) (do_deeds plan (PushFrame (cpu_of cpu) (frame_id f) frame (irql_of level) ∷ take_if_any f l) S)
 begin_step {A} plan ss bs S cpu f frame level l s own q =
-    let V : State A = do_deed plan (Push_frame cpu f frame level) S in
-    let b : Begins S.cpus V.cpus f frame = frames_by plan (Push_frame cpu f frame level) S s in
+    let V : State A = do_deed plan (PushFrame (cpu_of cpu) (frame_id f) frame (irql_of level)) S in
+    let b : Begins S.cpus V.cpus f frame = frames_by plan (PushFrame (cpu_of cpu) (frame_id f) frame (irql_of level)) S s in
     let but : HoldsBut plan V (λ g. g ≡ f) = λ g n more x is. let o = b.others g n in let same = o.0 in q.holds g (λ z. z) (omega arith) x (sym (ap (lock_by plan S) o.1) ∙ is) in
     let mine : lock_of_frame plan V f ≡ l = ap (lock_by plan S) b.here ∙ own in
     let old : Each (IsBegun V) bs = each_still (IsBegun S) (IsBegun V)
@@ -292,7 +295,7 @@ start_step {A} plan m ss bs S k c o r h known q =
     let level : ℕ = callback_irql plan c o.id.0 in
     let l : Option LockRef = lock_of_callback plan c o.id.0 (declared_in plan S o.id.0) in
     let E : List Deed = start_effect plan S k.0 c o.id.0 r in
-    let R : List Deed = Push_frame k.0 f frame level ∷ take_if_any f l in
+    let R : List Deed = PushFrame k (frame_id f) frame (irql_of level) ∷ take_if_any f l in
     let V : State A = do_deeds plan E S in
     let before : Before plan S V = (start_effect_sound plan S k.0 c o.id.0 r).1 in
     let fit : all_fit plan (E ++ R) S ≡ true = event_fits plan m S (event.Start k c o r) h in
@@ -341,12 +344,12 @@ same_top : (a b f : ℕ) (o : Option ℕ) → o ≡ Some a → o ≡ Some b → 
 same_top a b f o h k = let s : Some a ≡ Some b = sym h ∙ k in let z : a ≡ b = cc in z
 
 -- the top frame ends
-pop_step : {A : Type 0} (plan : Plan) (ss : List Stacked) (bs : List Begun) (S : State A) (cpu f : ℕ) → top S.cpus cpu ≡ Some f → Sound plan (Pop_frame cpu) S → Framing plan S
+pop_step : {A : Type 0} (plan : Plan) (ss : List Stacked) (bs : List Begun) (S : State A) (cpu f : ℕ) → top S.cpus cpu ≡ Some f → Sound plan (PopFrame (cpu_of cpu)) S → Framing plan S
     → ((c : ℕ) → told_stack c ss ≡ stack_of S.cpus c) → Each (IsBegun S) bs → HoldsBut plan S (λ g. g ≡ f)
-    → Agrees plan (without_top cpu ss) (without_ended (top_of cpu ss) bs) (do_deed plan (Pop_frame cpu) S)
+    → Agrees plan (without_top cpu ss) (without_ended (top_of cpu ss) bs) (do_deed plan (PopFrame (cpu_of cpu)) S)
 pop_step {A} plan ss bs S cpu f at s framing stacks begun holds =
-    let U : State A = do_deed plan (Pop_frame cpu) S in
-    let b = frames_by plan (Pop_frame cpu) S s in
+    let U : State A = do_deed plan (PopFrame (cpu_of cpu)) S in
+    let b = frames_by plan (PopFrame (cpu_of cpu)) S s in
     let is : s.0 ≡ f = same_top s.0 f f (top S.cpus cpu) s.1 at in
     let once : on S.cpus f ≤ 1 = subst (λ x. on S.cpus x ≤ 1) is s.2 in
     let less = pop_on S.cpus cpu f at f in
@@ -362,11 +365,11 @@ pop_step {A} plan ss bs S cpu f at s framing stacks begun holds =
     }
   where
     ended : (t : Option Stacked) → option_map (λ (x : Stacked). x.frame) t ≡ Some f → ((x : ℕ) → 1 ≤ on (cpus.pop S.cpus cpu) x → (1 ≤ on S.cpus x) × FrameKept (frame_of S.cpus x) (frame_of (cpus.pop S.cpus cpu) x))
-        → ((x : ℕ) → 1 ≤ on S.cpus x → (top S.cpus cpu ≡ Some x → ⊥) → 1 ≤ on (cpus.pop S.cpus cpu) x) → Each (IsBegun (do_deed plan (Pop_frame cpu) S)) (without_ended t bs)
+        → ((x : ℕ) → 1 ≤ on S.cpus x → (top S.cpus cpu ≡ Some x → ⊥) → 1 ≤ on (cpus.pop S.cpus cpu) x) → Each (IsBegun (do_deed plan (PopFrame (cpu_of cpu)) S)) (without_ended t bs)
     ended None h go stay = absurd (let z : ⊥ = cc in z)
     ended (Some x) h go stay =
         let is : x.frame ≡ f = cc in
-        each_kept (IsBegun S) (IsBegun (do_deed plan (Pop_frame cpu) S)) (is_other x.frame)
+        each_kept (IsBegun S) (IsBegun (do_deed plan (PopFrame (cpu_of cpu)) S)) (is_other x.frame)
         (λ y was other.
         let n : y.frame ≢ f = λ e. (let same : (y.frame == x.frame) ≡ true = equal y.frame x.frame (e ∙ sym is) in let off : not (y.frame == x.frame) ≡ false = ap not same in let z : ⊥ = cc in z) in
         let there : 1 ≤ on (cpus.pop S.cpus cpu) y.frame = stay y.frame was.0 (λ t. n (same_top y.frame f f (top S.cpus cpu) t at)) in
@@ -391,22 +394,22 @@ end_step {A} plan m ss bs S k c o v h known once q =
     let R : List Deed = release_if_any l in
     let E : List Deed = end_of_step plan S (row_of c).rank c o.id.0 v in
     let V : State A = do_deeds plan R S in
-    let sound = sound_parts plan R (Pop_frame k.0 ∷ E) S (all_sound plan m S (event.End k c o v) known h) in
+    let sound = sound_parts plan R (PopFrame k ∷ E) S (all_sound plan m S (event.End k c o v) known h) in
     let same : V.cpus ≡ S.cpus = release_cpus plan S l in
     let framing : Framing plan V = released l known.framing in
     let top_ : top V.cpus k.0 ≡ Some f = ap (λ (C : Cpus). top C k.0) same ∙ d.about.top in
     let but : HoldsBut plan V (λ g. g ≡ f) = given_back plan S f l own (top_there S.cpus k.0 f d.about.top) once q.holds in
     let begun : Each (IsBegun V) bs = subst (λ (C : Cpus). Each (λ x. (1 ≤ on C x.frame) × ((frame_of C x.frame).callback ≡ x.callback) × ((frame_of C x.frame).object.id.0 ≡ x.object)) bs) (sym same) q.begun in
-    let popped : Agrees plan (without_top k.0 ss) (without_ended (top_of k.0 ss) bs) (do_deed plan (Pop_frame k.0) V) =
+    let popped : Agrees plan (without_top k.0 ss) (without_ended (top_of k.0 ss) bs) (do_deed plan (PopFrame k) V) =
     pop_step plan ss bs V k.0 f top_ sound.1.0 framing (λ x. q.stacks x ∙ sym (ap (λ (C : Cpus). stack_of C x) same)) begun but in
-    let done = step_end plan S (do_deed plan (Pop_frame k.0) V) (without_top k.0 ss) (without_ended (top_of k.0 ss) bs) (row_of c).rank c o.id.0 v popped in
-    let all : Agrees plan (without_top k.0 ss) (without_ended (top_of k.0 ss) bs) (do_deeds plan (R ++ Pop_frame k.0 ∷ E) S) =
-    subst (λ (U : State A). Agrees plan (without_top k.0 ss) (without_ended (top_of k.0 ss) bs) U) (sym (in_turn plan R (Pop_frame k.0 ∷ E) S)) done in
+    let done = step_end plan S (do_deed plan (PopFrame k) V) (without_top k.0 ss) (without_ended (top_of k.0 ss) bs) (row_of c).rank c o.id.0 v popped in
+    let all : Agrees plan (without_top k.0 ss) (without_ended (top_of k.0 ss) bs) (do_deeds plan (R ++ PopFrame k ∷ E) S) =
+    subst (λ (U : State A). Agrees plan (without_top k.0 ss) (without_ended (top_of k.0 ss) bs) U) (sym (in_turn plan R (PopFrame k ∷ E) S)) done in
     record { stacks = all.stacks; begun = all.begun; holds = all.holds }
   where
     released : (l : Option LockRef) → Framing plan S → Framing plan (do_deeds plan (release_if_any l) S)
     released None framing = framing
-    released (Some x) framing = framing_by plan (Release_lock x) S refl tt framing
+    released (Some x) framing = framing_by plan (ReleaseLock x) S refl tt framing
 
 -- ---- all events
 

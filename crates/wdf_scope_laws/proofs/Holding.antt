@@ -12,7 +12,9 @@ use Rattle.wdf_model.specs.parts.Cpus.{Cpus, nobody_on}
 use Rattle.wdf_model.specs.parts.Locks.{Locks}
 use Rattle.wdf_model.specs.parts.Locks as locks
 use Rattle.wdf_model.specs.State.{State}
-use Rattle.wdf_model.specs.rules.Deeds.{Deed, End_life, Go_on, Lower, Park_frame, Pop_frame, Push_frame, Raise, Release_lock, Take_lock, Unpark_frame, do_deed, do_deeds}
+use Rattle.wdf_model.specs.declared.deed.Deed.{Deed}
+use Rattle.wdf_model.specs.declared.deed.Deed.TheVariants.{EndLife, GoOn, Lower, ParkFrame, PopFrame, PushFrame, Raise, ReleaseLock, TakeLock, UnparkFrame}
+use Rattle.wdf_model.specs.rules.Deeds.{do_deed, do_deeds}
 use Rattle.wdf_model.specs.laws.Fits.{all_fit, fits}
 use Rattle.wdf_model.proofs.Tests.{both_left, both_right, not_true}
 use Rattle.wdf_model.proofs.Counts.{count_behind, count_cons, filter_kept}
@@ -62,13 +64,13 @@ goes_then S T U a b = record {
 -- ---- a deed by which no frame begins or ends and no lock is given back
 
 abbrev pub is_special : Deed → Bool
-is_special (Push_frame cpu f frame level) = true
-is_special (Pop_frame cpu) = true
-is_special (Release_lock l) = true
+is_special (PushFrame cpu f frame level) = true
+is_special (PopFrame cpu) = true
+is_special (ReleaseLock l) = true
 is_special _ = false
 
 objects_by : {A : Type 0} (plan : Plan) (d : Deed) (S : State A) → fits plan d S ≡ true → Framing plan S → (f : ℕ) → 1 ≤ on S.cpus f → StaysAt S.tree (do_deed plan d S).tree (object_of S f)
-objects_by plan (End_life o) S fit k f more = deed_there plan (End_life o) S fit (object_of S f) (off_it S.cpus o f (both_right (may_destroy S.tree o) (nobody_on S.cpus o) fit) more) (k.there f more)
+objects_by plan (EndLife o) S fit k f more = deed_there plan (EndLife o) S fit (object_of S f) (off_it S.cpus o.0 f (both_right (may_destroy S.tree o.0) (nobody_on S.cpus o.0) fit) more) (k.there f more)
 objects_by plan d S fit k f more = deed_there plan d S fit (object_of S f) (λ e. e) (k.there f more)
 
 holds_still : {A : Type 0} (plan : Plan) (S U : State A) (X : ℕ → Type 0) → GoOn S.cpus U.cpus → ((f : ℕ) → 1 ≤ on S.cpus f → StaysAt S.tree U.tree (object_of S f)) → ((l : LockRef) (f : ℕ) → own_holds S.locks l f ≤ own_holds U.locks l f)
@@ -87,16 +89,16 @@ takes_more : (L : Locks) (l m : LockRef) (f g : ℕ) (by_call : Bool) → own_ho
 takes_more L l m f g by_call = let e = count_behind (is_own_hold l f) L.held (record { lock = m; frame = record { 0 = g }; by_call = by_call } ∷ []) in omega arith
 
 deed_goes : {A : Type 0} (plan : Plan) (d : Deed) (S : State A) → Sound plan d S → is_special d ≡ false → Goes S (do_deed plan d S)
-deed_goes plan (Push_frame cpu f frame level) S s h = absurd (let z : ⊥ = cc in z)
-deed_goes plan (Pop_frame cpu) S s h = absurd (let z : ⊥ = cc in z)
-deed_goes plan (Release_lock l) S s h = absurd (let z : ⊥ = cc in z)
+deed_goes plan (PushFrame cpu f frame level) S s h = absurd (let z : ⊥ = cc in z)
+deed_goes plan (PopFrame cpu) S s h = absurd (let z : ⊥ = cc in z)
+deed_goes plan (ReleaseLock l) S s h = absurd (let z : ⊥ = cc in z)
 deed_goes plan d S s h = let g = frames_by plan d S s in record { go = g.0; none = g.1 }
 
 deed_locks : {A : Type 0} (plan : Plan) (d : Deed) (S : State A) → is_special d ≡ false → (l : LockRef) (f : ℕ) → own_holds S.locks l f ≤ own_holds (do_deed plan d S).locks l f
-deed_locks plan (Push_frame cpu f frame level) S h l g = absurd (let z : ⊥ = cc in z)
-deed_locks plan (Pop_frame cpu) S h l g = absurd (let z : ⊥ = cc in z)
-deed_locks plan (Release_lock m) S h l g = absurd (let z : ⊥ = cc in z)
-deed_locks plan (Take_lock m f by_call) S h l g = takes_more S.locks l m g f by_call
+deed_locks plan (PushFrame cpu f frame level) S h l g = absurd (let z : ⊥ = cc in z)
+deed_locks plan (PopFrame cpu) S h l g = absurd (let z : ⊥ = cc in z)
+deed_locks plan (ReleaseLock m) S h l g = absurd (let z : ⊥ = cc in z)
+deed_locks plan (TakeLock m f by_call) S h l g = takes_more S.locks l m g f.0 by_call
 deed_locks plan d S h l g = same_locks S.locks (do_deed plan d S).locks l g (locks_by plan d S)
 
 pub deed_holds : {A : Type 0} (plan : Plan) (d : Deed) (S : State A) (X : ℕ → Type 0) → fits plan d S ≡ true → Sound plan d S → is_special d ≡ false → Framing plan S → HoldsBut plan S X → HoldsBut plan (do_deed plan d S) X
@@ -126,22 +128,22 @@ deeds_hold {A} plan (d ∷ ds) S X f s h k q =
 -- ---- the stacks stay
 
 abbrev pub is_moving : Deed → Bool
-is_moving (Push_frame cpu f frame level) = true
-is_moving (Pop_frame cpu) = true
-is_moving (Park_frame cpu) = true
-is_moving (Unpark_frame cpu f) = true
+is_moving (PushFrame cpu f frame level) = true
+is_moving (PopFrame cpu) = true
+is_moving (ParkFrame cpu) = true
+is_moving (UnparkFrame cpu f) = true
 is_moving _ = false
 
 deed_stacks : {A : Type 0} (plan : Plan) (d : Deed) (S : State A) → is_moving d ≡ false → (do_deed plan d S).cpus.stacks ≡ S.cpus.stacks
-deed_stacks plan (Push_frame cpu f frame level) S h = absurd (let z : ⊥ = cc in z)
-deed_stacks plan (Pop_frame cpu) S h = absurd (let z : ⊥ = cc in z)
-deed_stacks plan (Park_frame cpu) S h = absurd (let z : ⊥ = cc in z)
-deed_stacks plan (Unpark_frame cpu f) S h = absurd (let z : ⊥ = cc in z)
-deed_stacks plan (Go_on f frame) S h = refl
+deed_stacks plan (PushFrame cpu f frame level) S h = absurd (let z : ⊥ = cc in z)
+deed_stacks plan (PopFrame cpu) S h = absurd (let z : ⊥ = cc in z)
+deed_stacks plan (ParkFrame cpu) S h = absurd (let z : ⊥ = cc in z)
+deed_stacks plan (UnparkFrame cpu f) S h = absurd (let z : ⊥ = cc in z)
+deed_stacks plan (GoOn f frame) S h = refl
 deed_stacks plan (Raise f level) S h = refl
 deed_stacks plan (Lower f level) S h = refl
-deed_stacks plan (Take_lock l f by_call) S h = refl
-deed_stacks plan (Release_lock l) S h = refl
+deed_stacks plan (TakeLock l f by_call) S h = refl
+deed_stacks plan (ReleaseLock l) S h = refl
 deed_stacks plan d S h = ap (λ (C : Cpus). C.stacks) (quiet_cpus plan d S refl)
 
 abbrev pub none_moves : List Deed → Bool
@@ -191,7 +193,7 @@ pub release_leaves : (L : Locks) (l m : LockRef) (f : ℕ) → same_lock l m ≡
 release_leaves L l m f apart = filter_kept (is_own_hold l f) (λ h. not (same_lock h.lock m)) (λ h gone_. released_other l m f h apart gone_) L.held
 
 -- where no frame but the excepted ones has this lock as its own, giving it back leaves the rest
-pub release_holds : {A : Type 0} (plan : Plan) (S : State A) (m : LockRef) (X : ℕ → Type 0) → ((f : ℕ) → (X f → ⊥) → 1 ≤ on S.cpus f → 1 ≤ own_holds S.locks m f → ⊥) → Holds plan S → HoldsBut plan (do_deed plan (Release_lock m) S) X
+pub release_holds : {A : Type 0} (plan : Plan) (S : State A) (m : LockRef) (X : ℕ → Type 0) → ((f : ℕ) → (X f → ⊥) → 1 ≤ on S.cpus f → 1 ≤ own_holds S.locks m f → ⊥) → Holds plan S → HoldsBut plan (do_deed plan (ReleaseLock m) S) X
 release_holds {A} plan S m X free k f other more l is =
     let had : 1 ≤ own_holds S.locks l f = k f (λ z. z) more l is in
     elim (cases_Bool (same_lock l m)) [

@@ -26,7 +26,8 @@ use Rattle.wdf_model.specs.parts.Requests.{origin_of}
 use Rattle.wdf_model.specs.parts.Power.{acknowledged, holding_of, is_held, opening_power, queue_power}
 use Rattle.wdf_model.specs.parts.Pnp.{Sequence, is_running_step, next_step, no_sequence, opening_pnp, opening_sequence, sequence_of, steps_left}
 use Rattle.wdf_model.specs.State.{State, declared_in, is_proper, is_with_driver}
-use Rattle.wdf_model.specs.rules.Deeds.{Pass_tick, counted, do_deeds}
+use Rattle.wdf_model.specs.declared.deed.Deed.TheVariants.{PassTick}
+use Rattle.wdf_model.specs.rules.Deeds.{counted, do_deeds}
 use Rattle.wdf_model.specs.rules.Faults.{arg_is}
 use Rattle.wdf_model.specs.rules.Starts.{interrupt_of_step, may_start, step_of, step_ready}
 use Rattle.wdf_model.specs.rules.Steps.{after, deeds, is_cpu, is_proper_if_any, may}
@@ -199,10 +200,10 @@ module _ {A : Type 0} (plan : Plan) (m : Meaning A) (run : List Event) (resolved
 
   -- ---- the clock
 
-  ticks : (n time : ℕ) → Settles plan (at_place n) (take n run) → Settles plan (do_deeds plan (Pass_tick ∷ []) (at_place n)) (take n run ++ event.Tick time ∷ [])
+  ticks : (n time : ℕ) → Settles plan (at_place n) (take n run) → Settles plan (do_deeds plan (PassTick ∷ []) (at_place n)) (take n run ++ event.Tick time ∷ [])
   ticks n time k =
       let S : State A = at_place n in
-      let U : State A = do_deeds plan (Pass_tick ∷ []) S in
+      let U : State A = do_deeds plan (PassTick ∷ []) S in
       record {
         course = course_after plan S U (take n run) (event.Tick time) (λ r q d of t. absurd (not_so t)) k.course (λ device s j is settled. absurd (no_stage_of_clock time device s j is)) (Unmoved (λ d. (refl, refl)) refl refl);
         stops = k.stops;
@@ -217,7 +218,7 @@ module _ {A : Type 0} (plan : Plan) (m : Meaning A) (run : List Event) (resolved
       let S : State A = at_place n in
       let time : ℕ = S.clock + 1 in
       subst (λ x. Settles plan (after plan m S x) (take n run ++ x ∷ [])) (sym t.tick)
-      (counted_too plan m (event.Tick time) (do_deeds plan (Pass_tick ∷ []) S) (take n run ++ event.Tick time ∷ []) (ticks n time k))
+      (counted_too plan m (event.Tick time) (do_deeds plan (PassTick ∷ []) S) (take n run ++ event.Tick time ∷ []) (ticks n time k))
 
   next_place : (n : ℕ) (found : Option Event) → slice_get run n ≡ found → Settles plan (at_place n) (take n run) → Settles plan (at_place (suc n)) (take (suc n) run)
   next_place n None at k = subst (λ es. Settles plan (state_after plan m es) es) (sym (take_ended run n at)) k

@@ -32,7 +32,10 @@ use Rattle.wdf_model.specs.parts.Power.{advance_stage}
 use Rattle.wdf_model.specs.parts.Pnp.{Pnp, busy, is_running_step, next_step, running_step, steps_left}
 use Rattle.wdf_model.specs.parts.Pnp as pnp
 use Rattle.wdf_model.specs.State.{State, declared_in, is_proper}
-use Rattle.wdf_model.specs.rules.Deeds.{Deed, End_step, Go_on, Pop_frame, Push_frame, Take_step, do_deed, do_deeds}
+use Rattle.wdf_model.specs.Ids.{cpu_of, frame_id, irql_of, object_id}
+use Rattle.wdf_model.specs.declared.deed.Deed.{Deed}
+use Rattle.wdf_model.specs.declared.deed.Deed.TheVariants.{EndStep, GoOn, PopFrame, PushFrame, TakeStep}
+use Rattle.wdf_model.specs.rules.Deeds.{do_deed, do_deeds}
 use Rattle.wdf_model.specs.rules.Script.{intent_of}
 use Rattle.wdf_model.specs.rules.Calls.{outcome, second_deeds}
 use Rattle.wdf_model.specs.rules.Starts.{effect, end_deeds, end_of_step, interrupt_of_step, is_ready_for, may_pass, new_frame, next_number, rank_ready, rank_ready_for, release_if_any, stage_deeds, stage_ready, start_deeds, start_effect, step_of, step_ready, take_if_any}
@@ -94,15 +97,15 @@ module _ {A : Type 0} (plan : Plan) (S : State A) (P : Event → Type 0) (calm :
   by_kind (event.End cpu c o v) = ends cpu c o v
   by_kind (event.Stage n s j) = stages n s j
   by_kind (event.Posted agent p answer) = posts agent p answer
-  by_kind (event.Local cpu line) = by_top_calm (event.Local cpu line) cpu.0 (λ g frame. Go_on g (stepped frame (intent_of plan frame)) ∷ []) refl (λ g frame. refl) (λ d. (refl, refl))
-  by_kind (event.Log cpu v) = by_top_calm (event.Log cpu v) cpu.0 (λ g frame. Go_on g (goes_on plan frame) ∷ []) refl (λ g frame. refl) (λ d. (refl, refl))
-  by_kind (event.Spend cpu n) = by_top_calm (event.Spend cpu n) cpu.0 (λ g frame. Go_on g (spending plan S frame n) ∷ []) refl (λ g frame. refl) (λ d. (refl, refl))
-  by_kind (event.Register cpu a r v) = by_top_calm (event.Register cpu a r v) cpu.0 (λ g frame. Go_on g (answered plan frame (Num v)) ∷ []) refl (λ g frame. refl) (λ d. (refl, refl))
+  by_kind (event.Local cpu line) = by_top_calm (event.Local cpu line) cpu.0 (λ g frame. GoOn (frame_id g) (stepped frame (intent_of plan frame)) ∷ []) refl (λ g frame. refl) (λ d. (refl, refl))
+  by_kind (event.Log cpu v) = by_top_calm (event.Log cpu v) cpu.0 (λ g frame. GoOn (frame_id g) (goes_on plan frame) ∷ []) refl (λ g frame. refl) (λ d. (refl, refl))
+  by_kind (event.Spend cpu n) = by_top_calm (event.Spend cpu n) cpu.0 (λ g frame. GoOn (frame_id g) (spending plan S frame n) ∷ []) refl (λ g frame. refl) (λ d. (refl, refl))
+  by_kind (event.Register cpu a r v) = by_top_calm (event.Register cpu a r v) cpu.0 (λ g frame. GoOn (frame_id g) (answered plan frame (Num v)) ∷ []) refl (λ g frame. refl) (λ d. (refl, refl))
   by_kind (event.Did cpu c v) =
       by_top_calm (event.Did cpu c v) cpu.0 (did_deeds plan S cpu.0 c v) refl
-      (λ g frame. none_behind ((outcome plan S cpu.0 g c).deeds ++ second_deeds g c) (Go_on g (answered plan frame v) ∷ []) (outcomes cpu.0 g c (second_deeds g c) (second_none g c.kind c.count c.a c.b c.c)) refl) (λ d. (refl, refl))
-  by_kind (event.Waiting cpu c) = by_top_calm (event.Waiting cpu c) cpu.0 (waiting_deeds plan S cpu.0 c) refl (λ g frame. outcomes cpu.0 g c (Go_on g (waiting frame c (outcome plan S cpu.0 g c).answer) ∷ []) refl) (λ d. (refl, refl))
-  by_kind (event.Woke cpu c v) = by_top_calm (event.Woke cpu c v) cpu.0 (woke_deeds plan c v) refl (λ g frame. none_behind (second_deeds g c) (Go_on g (answered plan frame v) ∷ []) (second_none g c.kind c.count c.a c.b c.c) refl) (λ d. (refl, refl))
+      (λ g frame. none_behind ((outcome plan S cpu.0 g c).deeds ++ second_deeds g c) (GoOn (frame_id g) (answered plan frame v) ∷ []) (outcomes cpu.0 g c (second_deeds g c) (second_none g c.kind c.count c.a c.b c.c)) refl) (λ d. (refl, refl))
+  by_kind (event.Waiting cpu c) = by_top_calm (event.Waiting cpu c) cpu.0 (waiting_deeds plan S cpu.0 c) refl (λ g frame. outcomes cpu.0 g c (GoOn (frame_id g) (waiting frame c (outcome plan S cpu.0 g c).answer) ∷ []) refl) (λ d. (refl, refl))
+  by_kind (event.Woke cpu c v) = by_top_calm (event.Woke cpu c v) cpu.0 (woke_deeds plan c v) refl (λ g frame. none_behind (second_deeds g c) (GoOn (frame_id g) (answered plan frame v) ∷ []) (second_none g c.kind c.count c.a c.b c.c) refl) (λ d. (refl, refl))
   by_kind (event.Park cpu g) = calm (event.Park cpu g) refl (λ d. (refl, refl))
   by_kind (event.Unpark cpu g) = calm (event.Unpark cpu g) refl (λ d. (refl, refl))
   by_kind (event.Fault cpu x line) = calm (event.Fault cpu x line) refl (λ d. (refl, refl))
@@ -165,7 +168,7 @@ module _ {A : Type 0} (plan : Plan) (m : Meaning A) (S : State A) (cpu : Cpu) (c
   takes = take_if_any f (lock_of_callback plan c o.id.0 (declared_in plan S o.id.0))
 
   abbrev pushes : Deed
-  pushes = Push_frame cpu.0 f frame (callback_irql plan c o.id.0)
+  pushes = PushFrame cpu (frame_id f) frame (irql_of (callback_irql plan c o.id.0))
 
   abbrev e : Event
   e = event.Start cpu c o r
@@ -202,20 +205,20 @@ module _ {A : Type 0} (plan : Plan) (m : Meaning A) (S : State A) (cpu : Cpu) (c
         frames = frames_begun (do_deeds plan ds S) U k.frames (in_turn plan ds (pushes ∷ takes) S) (sound_after plan ds (pushes ∷ takes) S sound);
       }
 
-  starts_step : start_effect plan S cpu.0 c o.id.0 r ≡ Take_step (nearest_device S.tree o.id.0) ∷ [] → step_ready S (nearest_device S.tree o.id.0) (step_of plan S c o.id.0) ≡ true → AllSound plan (start_deeds plan S cpu.0 c o r) S
+  starts_step : start_effect plan S cpu.0 c o.id.0 r ≡ TakeStep (object_id (nearest_device S.tree o.id.0)) ∷ [] → step_ready S (nearest_device S.tree o.id.0) (step_of plan S c o.id.0) ≡ true → AllSound plan (start_deeds plan S cpu.0 c o r) S
       → Change plan S (do_deeds plan (start_deeds plan S cpu.0 c o r) S) e
   starts_step ds ready sound =
       let n : ℕ = nearest_device S.tree o.id.0 in
       let x : Step = step_of plan S c o.id.0 in
-      let V : State A = do_deed plan (Take_step n) S in
-      let s : AllSound plan (Take_step n ∷ pushes ∷ takes) S = subst (λ (y : List Deed). AllSound plan (y ++ pushes ∷ takes) S) ds sound in
+      let V : State A = do_deed plan (TakeStep (object_id n)) S in
+      let s : AllSound plan (TakeStep (object_id n) ∷ pushes ∷ takes) S = subst (λ (y : List Deed). AllSound plan (y ++ pushes ∷ takes) S) ds sound in
       let now : (same_option same_step (next_step S.pnp n) (Some x) && not (is_running_step S.pnp n)) ≡ true = both_left (same_option same_step (next_step S.pnp n) (Some x) && not (is_running_step S.pnp n)) _ ready in
       let idle : running_step S.pnp n ≡ None = not_running (running_step S.pnp n) (not_true (is_running_step S.pnp n) (both_right (same_option same_step (next_step S.pnp n) (Some x)) (not (is_running_step S.pnp n)) now)) in
       subst (λ (y : List Deed). Change plan S (do_deeds plan (y ++ pushes ∷ takes) S) e) (sym ds) (record {
         moved = Begun n c _ (λ d. (refl, refl)) idle (found_run (steps_left S.pnp n) c _ (both_left (same_option same_step (next_step S.pnp n) (Some x)) (not (is_running_step S.pnp n)) now))
-            (start_reads (λ (T : State A). T.pnp) (λ T L C. refl) plan S (Take_step n ∷ []) cpu.0 f frame (callback_irql plan c o.id.0) (lock_of_callback plan c o.id.0 (declared_in plan S o.id.0)))
-            (start_reads (λ (T : State A). T.power.devices) (λ T L C. refl) plan S (Take_step n ∷ []) cpu.0 f frame (callback_irql plan c o.id.0) (lock_of_callback plan c o.id.0 (declared_in plan S o.id.0)));
-        frames = frames_begun V (do_deeds plan (Take_step n ∷ pushes ∷ takes) S) (λ y h. (h, record { callback = refl; object = refl; device = refl })) refl s.1;
+            (start_reads (λ (T : State A). T.pnp) (λ T L C. refl) plan S (TakeStep (object_id n) ∷ []) cpu.0 f frame (callback_irql plan c o.id.0) (lock_of_callback plan c o.id.0 (declared_in plan S o.id.0)))
+            (start_reads (λ (T : State A). T.power.devices) (λ T L C. refl) plan S (TakeStep (object_id n) ∷ []) cpu.0 f frame (callback_irql plan c o.id.0) (lock_of_callback plan c o.id.0 (declared_in plan S o.id.0)));
+        frames = frames_begun V (do_deeds plan (TakeStep (object_id n) ∷ pushes ∷ takes) S) (λ y h. (h, record { callback = refl; object = refl; device = refl })) refl s.1;
       })
 
   no_step_for : (x : Rank) (q : ℕ) → is_sequence x ≡ true → rank_ready_for plan S x c o.id.0 q ≡ true → ⊥
@@ -232,19 +235,19 @@ starts_by plan m S cpu c o (Some r) true is ready sound = absurd (no_step_for pl
 -- ---- ends
 
 module _ {A : Type 0} (plan : Plan) (m : Meaning A) (S : State A) (es : List Event) (resolved : IsResolved plan) (known : KnownAll plan S) (k : Kept plan S es) where
-  step_none : (cpu : ℕ) (c : Callback) (o : ℕ) (x : Rank) (v : Value) → is_sequence x ≡ false → none_moves (Pop_frame cpu ∷ end_of_step plan S x c o v) ≡ true
+  step_none : (cpu : ℕ) (c : Callback) (o : ℕ) (x : Rank) (v : Value) → is_sequence x ≡ false → none_moves (PopFrame (cpu_of cpu) ∷ end_of_step plan S x c o v) ≡ true
   step_none cpu c o rank.Sequence v h = absurd (let z : ⊥ = cc in z)
   step_none cpu c o _ v h = refl
 
-  ended_pnp : (l : Option LockRef) (cpu n : ℕ) (x : Step) (v : Value) → (do_deeds plan (release_if_any l ++ Pop_frame cpu ∷ End_step n x v ∷ []) S).pnp ≡ pnp.ended S.pnp n x v
+  ended_pnp : (l : Option LockRef) (cpu n : ℕ) (x : Step) (v : Value) → (do_deeds plan (release_if_any l ++ PopFrame (cpu_of cpu) ∷ EndStep (object_id n) x v ∷ []) S).pnp ≡ pnp.ended S.pnp n x v
   ended_pnp None cpu n x v = refl
   ended_pnp (Some l) cpu n x v = refl
 
-  ended_devices : (l : Option LockRef) (cpu n : ℕ) (x : Step) (v : Value) → (do_deeds plan (release_if_any l ++ Pop_frame cpu ∷ End_step n x v ∷ []) S).power.devices ≡ S.power.devices
+  ended_devices : (l : Option LockRef) (cpu n : ℕ) (x : Step) (v : Value) → (do_deeds plan (release_if_any l ++ PopFrame (cpu_of cpu) ∷ EndStep (object_id n) x v ∷ []) S).power.devices ≡ S.power.devices
   ended_devices None cpu n x v = refl
   ended_devices (Some l) cpu n x v = refl
 
-  ended_cpus : (l : Option LockRef) (cpu n : ℕ) (x : Step) (v : Value) → (do_deeds plan (release_if_any l ++ Pop_frame cpu ∷ End_step n x v ∷ []) S).cpus ≡ cpus.pop S.cpus cpu
+  ended_cpus : (l : Option LockRef) (cpu n : ℕ) (x : Step) (v : Value) → (do_deeds plan (release_if_any l ++ PopFrame (cpu_of cpu) ∷ EndStep (object_id n) x v ∷ []) S).cpus ≡ cpus.pop S.cpus cpu
   ended_cpus None cpu n x v = refl
   ended_cpus (Some l) cpu n x v = refl
 
@@ -256,23 +259,23 @@ module _ {A : Type 0} (plan : Plan) (m : Meaning A) (S : State A) (es : List Eve
       → Change plan S (do_deeds plan (end_deeds plan S cpu.0 c o.id.0 v) S) (event.End cpu c o v)
   ends_by cpu c o v false is t sound =
       let l : Option LockRef = lock_of_callback plan c o.id.0 (declared_in plan S o.id.0) in
-      calm_change plan S (event.End cpu c o v) (end_deeds plan S cpu.0 c o.id.0 v) (none_behind (release_if_any l) (Pop_frame cpu.0 ∷ end_of_step plan S (row_of c).rank c o.id.0 v) (releasing_none l) (step_none cpu.0 c o.id.0 (row_of c).rank v is)) sound (λ d. (refl, refl))
+      calm_change plan S (event.End cpu c o v) (end_deeds plan S cpu.0 c o.id.0 v) (none_behind (release_if_any l) (PopFrame cpu ∷ end_of_step plan S (row_of c).rank c o.id.0 v) (releasing_none l) (step_none cpu.0 c o.id.0 (row_of c).rank v is)) sound (λ d. (refl, refl))
   ends_by cpu c o v true is t sound =
       let n : ℕ = nearest_device S.tree o.id.0 in
       let x : Step = step_of plan S c o.id.0 in
       let g : ℕ = t.frame in
       let l : Option LockRef = lock_of_callback plan c o.id.0 (declared_in plan S o.id.0) in
-      let tail : end_of_step plan S (row_of c).rank c o.id.0 v ≡ End_step n x v ∷ [] = ap (λ y. end_of_step plan S y c o.id.0 v) (sequence_is (row_of c).rank is) in
+      let tail : end_of_step plan S (row_of c).rank c o.id.0 v ≡ EndStep (object_id n) x v ∷ [] = ap (λ y. end_of_step plan S y c o.id.0 v) (sequence_is (row_of c).rank is) in
       let V : State A = do_deeds plan (release_if_any l) S in
-      let s = sound_after plan (release_if_any l) (Pop_frame cpu.0 ∷ end_of_step plan S (row_of c).rank c o.id.0 v) S sound in
-      let goes : GoOn S.cpus (cpus.pop S.cpus cpu.0) = subst (λ (C : Cpus). GoOn C (cpus.pop C cpu.0)) (released_cpus l) (frames_by plan (Pop_frame cpu.0) V s.0).0 in
+      let s = sound_after plan (release_if_any l) (PopFrame cpu ∷ end_of_step plan S (row_of c).rank c o.id.0 v) S sound in
+      let goes : GoOn S.cpus (cpus.pop S.cpus cpu.0) = subst (λ (C : Cpus). GoOn C (cpus.pop C cpu.0)) (released_cpus l) (frames_by plan (PopFrame cpu) V s.0).0 in
       let there : 1 ≤ on S.cpus g = top_on S.cpus cpu.0 g t.about.top in
       let at : (frame_of S.cpus g).device.id.0 ≡ n = known.known.frames.device g there ∙ ap (λ (y : Handle). nearest_device S.tree y.id.0) (sym t.object) in
       let runs : Runs S.pnp (frame_of S.cpus g) = k.frames.steps g there (ap (λ y. is_sequence (row_of y).rank) (sym t.callback) ∙ is) in
       let here : running_step S.pnp n ≡ Some (step.Run c runs.0) = sym (ap (running_step S.pnp) at) ∙ runs.1 ∙ ap (λ y. Some (step.Run y runs.0)) (sym t.callback) in
-      subst (λ (y : List Deed). Change plan S (do_deeds plan (release_if_any l ++ Pop_frame cpu.0 ∷ y) S) (event.End cpu c o v)) (sym tail) (record {
+      subst (λ (y : List Deed). Change plan S (do_deeds plan (release_if_any l ++ PopFrame cpu ∷ y) S) (event.End cpu c o v)) (sym tail) (record {
         moved = Ended n c runs.0 (interrupt_of_step plan S o.id.0) v (λ d. (refl, refl)) here (ended_pnp l cpu.0 n x v) (ended_devices l cpu.0 n x v);
-        frames = go_on plan S (do_deeds plan (release_if_any l ++ Pop_frame cpu.0 ∷ End_step n x v ∷ []) S) (event.End cpu c o v) (subst (λ (C : Cpus). GoOn S.cpus C) (sym (ended_cpus l cpu.0 n x v)) goes);
+        frames = go_on plan S (do_deeds plan (release_if_any l ++ PopFrame cpu ∷ EndStep (object_id n) x v ∷ []) S) (event.End cpu c o v) (subst (λ (C : Cpus). GoOn S.cpus C) (sym (ended_cpus l cpu.0 n x v)) goes);
       })
 
   asks : (agent : ℕ) (a : Ask) (device : Handle) (answer : Option Handle) → all_fit plan (post_deeds plan S agent (post.Ask a device)) S ≡ true

@@ -23,7 +23,9 @@ use Rattle.wdf_model.specs.parts.Power.{Power, advance_stage, holding_of, is_hel
 use Rattle.wdf_model.specs.parts.Power as power
 use Rattle.wdf_model.specs.parts.Targets.{is_forgotten}
 use Rattle.wdf_model.specs.State.{State, is_powered, is_with_driver, returns_to, withdrawn_place}
-use Rattle.wdf_model.specs.rules.Deeds.{Deed, Make_request, Arrive, Ask_deletion, End_life, Present, Receive, Requeue, Forward, Give_back, Withdraw, Mark_request, Unmark_request, Cancel_request, Take_cancel, Send_request, Finish_sending, Come_back, Complete_request, Purge_queue, Close_returning, Close_device, arrive_at, cancel_in, close_queue, close_returning, do_deed, finished_at, give_up, give_up_if, queued, withdraw}
+use Rattle.wdf_model.specs.declared.deed.Deed.{Deed}
+use Rattle.wdf_model.specs.declared.deed.Deed.TheVariants.{MakeRequest, Arrive, AskDeletion, EndLife, Present, Receive, Requeue, Forward, GiveBack, Withdraw, MarkRequest, UnmarkRequest, CancelRequest, TakeCancel, SendRequest, FinishSending, ComeBack, CompleteRequest, PurgeQueue, CloseReturning, CloseDevice}
+use Rattle.wdf_model.specs.rules.Deeds.{arrive_at, cancel_in, close_queue, close_returning, do_deed, finished_at, give_up, give_up_if, queued, withdraw}
 use Rattle.wdf_model.specs.laws.Fits.{fits, is_arrival_place}
 use Rattle.wdf_model.proofs.Tests.{both_right, first, second}
 use Rattle.wdf_model.proofs.Maps.{entry_map, entry_put_other, entry_put_same, entry_set_other, set_read}
@@ -193,32 +195,32 @@ module _ {A : Type 0} (plan : Plan) (S : State A) where
       (λ x h. sym (powered_same plan S (give_up S r) (given_devices S r) x) ∙ withdrawn_powered plan (give_up S r) q r x h))
 
   pub by_deed : (d : Deed) → fits plan d S ≡ true → Comes p S.requests (do_deed plan d S).requests
-  by_deed (Make_request class parent) f = comes_new p S.requests (next_id S.tree) place.Owned (made_info (nearest_device S.tree parent)) (λ q. refl)
+  by_deed (MakeRequest class parent) f = comes_new p S.requests (next_id S.tree) place.Owned (made_info (nearest_device S.tree parent.0)) (λ q. refl)
   by_deed (Arrive device info to) f =
       let is : is_arrival_place to ≡ true = search both_right in
-      comes_then p S.requests (requests.arrive S.requests (next_id S.tree) to info) (arrive_at S device info to).requests (comes_new p S.requests (next_id S.tree) to info (λ q. arrival_off to q is))
-      (comes_same p (requests.arrive S.requests (next_id S.tree) to info) (arrive_at S device info to).requests (came S device info to))
-  by_deed (Ask_deletion o) f = comes_same p S.requests _ (asks_all requests_of (λ S T D W U. refl) (subtree S.tree o) S)
-  by_deed (End_life o) f = comes_forgotten p S.requests o
-  by_deed (Present q r) f = comes_away p S.requests r place.Owned (λ q. refl)
-  by_deed (Receive q r) f = comes_away p S.requests r place.Owned (λ q. refl)
-  by_deed (Requeue r q) f = moves_given r (queued q) (λ q. refl)
-  by_deed (Forward r q) f = moves_given r (queued q) (λ q. refl)
-  by_deed (Give_back r q) f = gives_back r q
-  by_deed (Withdraw q r) f = comes_cancelled p S.requests r (withdrawn_place plan S q r) (λ x h. withdrawn_powered plan S q r x h)
-  by_deed (Mark_request r) f = comes_marked p S.requests r marked (marked_place (request_of S.requests r) (request_of S.requests r).info.cancelled)
-  by_deed (Unmark_request r) f = comes_marked p S.requests r unmarked (unmarked_place (request_of S.requests r) (is_marked (request_of S.requests r).info.mark))
-  by_deed (Cancel_request r) f = comes_marked p S.requests r cancelled refl
-  by_deed (Take_cancel r) f = comes_marked p S.requests r (with_mark marks.Taken) refl
-  by_deed (Send_request r t forget) f = sends r forget (place.Sent (record { 0 = t })) (λ q. refl)
-  by_deed (Finish_sending r s) f =
-      comes_moved p S.requests r (finished_at (is_forgotten S.targets r) s (place_of S.requests r))
-      (λ q h. first (is_returning_to q (place_of S.requests r)) (p q) (finished_off (is_forgotten S.targets r) s (place_of S.requests r) q h))
-  by_deed (Come_back r) f = comes_away p S.requests r place.Owned (λ q. refl)
-  by_deed (Complete_request r) f =
-      comes_then p S.requests (requests.complete S.requests r) (do_deed plan (Complete_request r) S).requests (comes_away p S.requests r place.Done (λ q. refl))
-      (comes_same p (requests.complete S.requests r) (do_deed plan (Complete_request r) S).requests (asks_all requests_of (λ S T D W U. refl) (subtree (give_up S r).tree r) (record (give_up S r) { requests = requests.complete S.requests r })))
-  by_deed (Purge_queue q) f = purged plan q (waiting_in S.queues q) (record S { control = control.set_mode S.control q mode.Purged })
-  by_deed (Close_returning x) f = all_returning p (managed_queues plan x) S
-  by_deed (Close_device x) f = all_closed p (queues_of plan x) (record S { control = control.shut S.control x })
+      comes_then p S.requests (requests.arrive S.requests (next_id S.tree) to info) (arrive_at S device.0 info to).requests (comes_new p S.requests (next_id S.tree) to info (λ q. arrival_off to q is))
+      (comes_same p (requests.arrive S.requests (next_id S.tree) to info) (arrive_at S device.0 info to).requests (came S device.0 info to))
+  by_deed (AskDeletion o) f = comes_same p S.requests _ (asks_all requests_of (λ S T D W U. refl) (subtree S.tree o.0) S)
+  by_deed (EndLife o) f = comes_forgotten p S.requests o.0
+  by_deed (Present q r) f = comes_away p S.requests r.0 place.Owned (λ q. refl)
+  by_deed (Receive q r) f = comes_away p S.requests r.0 place.Owned (λ q. refl)
+  by_deed (Requeue r q) f = moves_given r.0 (queued q.0) (λ q. refl)
+  by_deed (Forward r q) f = moves_given r.0 (queued q.0) (λ q. refl)
+  by_deed (GiveBack r q) f = gives_back r.0 q.0
+  by_deed (Withdraw q r) f = comes_cancelled p S.requests r.0 (withdrawn_place plan S q.0 r.0) (λ x h. withdrawn_powered plan S q.0 r.0 x h)
+  by_deed (MarkRequest r) f = comes_marked p S.requests r.0 marked (marked_place (request_of S.requests r.0) (request_of S.requests r.0).info.cancelled)
+  by_deed (UnmarkRequest r) f = comes_marked p S.requests r.0 unmarked (unmarked_place (request_of S.requests r.0) (is_marked (request_of S.requests r.0).info.mark))
+  by_deed (CancelRequest r) f = comes_marked p S.requests r.0 cancelled refl
+  by_deed (TakeCancel r) f = comes_marked p S.requests r.0 (with_mark marks.Taken) refl
+  by_deed (SendRequest r t forget) f = sends r.0 forget (place.Sent (record { 0 = t.0 })) (λ q. refl)
+  by_deed (FinishSending r s) f =
+      comes_moved p S.requests r.0 (finished_at (is_forgotten S.targets r.0) s (place_of S.requests r.0))
+      (λ q h. first (is_returning_to q (place_of S.requests r.0)) (p q) (finished_off (is_forgotten S.targets r.0) s (place_of S.requests r.0) q h))
+  by_deed (ComeBack r) f = comes_away p S.requests r.0 place.Owned (λ q. refl)
+  by_deed (CompleteRequest r) f =
+      comes_then p S.requests (requests.complete S.requests r.0) (do_deed plan (CompleteRequest r) S).requests (comes_away p S.requests r.0 place.Done (λ q. refl))
+      (comes_same p (requests.complete S.requests r.0) (do_deed plan (CompleteRequest r) S).requests (asks_all requests_of (λ S T D W U. refl) (subtree (give_up S r.0).tree r.0) (record (give_up S r.0) { requests = requests.complete S.requests r.0 })))
+  by_deed (PurgeQueue q) f = purged plan q.0 (waiting_in S.queues q.0) (record S { control = control.set_mode S.control q.0 mode.Purged })
+  by_deed (CloseReturning x) f = all_returning p (managed_queues plan x.0) S
+  by_deed (CloseDevice x) f = all_closed p (queues_of plan x.0) (record S { control = control.shut S.control x.0 })
   by_deed _ f = comes_same p S.requests S.requests refl

@@ -27,7 +27,10 @@ use Rattle.wdf_model.specs.parts.Requests.{closed_at, is_returning_to, moved, no
 use Rattle.wdf_model.specs.parts.Control as control
 use Rattle.wdf_model.specs.parts.Power.{Power, advance_stage, no_device_power}
 use Rattle.wdf_model.specs.State.{State, declared_in, is_powered}
-use Rattle.wdf_model.specs.rules.Deeds.{Deed, Advance_power, Ask_device, Disable_interrupt, Enable_interrupt, End_step, Pop_frame, Push_frame, Take_step, close_returning, do_deed, do_deeds}
+use Rattle.wdf_model.specs.Ids.{cpu_of, frame_id, irql_of, object_id}
+use Rattle.wdf_model.specs.declared.deed.Deed.{Deed}
+use Rattle.wdf_model.specs.declared.deed.Deed.TheVariants.{AdvancePower, AskDevice, DisableInterrupt, EnableInterrupt, EndStep, PopFrame, PushFrame, TakeStep}
+use Rattle.wdf_model.specs.rules.Deeds.{close_returning, do_deed, do_deeds}
 use Rattle.wdf_model.specs.rules.Starts.{effect, effect_for, end_deeds, end_of_step, new_frame, next_number, release_if_any, stage_deeds, start_deeds, start_effect, take_if_any}
 use Rattle.wdf_model.specs.rules.Steps.{deeds, may}
 use Rattle.wdf_model.specs.laws.Fits.{all_fit, fits}
@@ -50,14 +53,14 @@ ReturnsUp plan S = (r q : ℕ) → is_returning_to q (place_of S.requests r) ≡
 -- ---- deeds that leave the power of devices
 
 abbrev is_power : Deed → Bool
-is_power (Advance_power d s) = true
+is_power (AdvancePower d s) = true
 is_power _ = false
 
 abbrev none_power : List Deed → Bool
 none_power ds = list_all (λ d. not (is_power d)) ds
 
 power_moves : (d : Deed) → not (is_moving d) ≡ true → not (is_power d) ≡ true
-power_moves (Advance_power d s) h = absurd (let z : ⊥ = cc in z)
+power_moves (AdvancePower d s) h = absurd (let z : ⊥ = cc in z)
 power_moves _ h = refl
 
 calm_power : (ds : List Deed) → none_moves ds ≡ true → none_power ds ≡ true
@@ -69,13 +72,13 @@ power_behind [] es h k = k
 power_behind (d ∷ ds) es h k = both (not (is_power d)) (none_power (ds ++ es)) (both_left (not (is_power d)) (none_power ds) h) (power_behind ds es (both_right (not (is_power d)) (none_power ds) h) k)
 
 devices_same : {A : Type 0} (plan : Plan) (d : Deed) (S : State A) → is_power d ≡ false → Sound plan d S → (do_deed plan d S).power.devices ≡ S.power.devices
-devices_same plan (Advance_power d s) S h sound = absurd (let z : ⊥ = cc in z)
-devices_same plan (Push_frame cpu f frame level) S h sound = refl
-devices_same plan (Ask_device d a) S h sound = refl
-devices_same plan (Take_step d) S h sound = refl
-devices_same plan (End_step d s v) S h sound = refl
-devices_same plan (Enable_interrupt i) S h sound = refl
-devices_same plan (Disable_interrupt i) S h sound = refl
+devices_same plan (AdvancePower d s) S h sound = absurd (let z : ⊥ = cc in z)
+devices_same plan (PushFrame cpu f frame level) S h sound = refl
+devices_same plan (AskDevice d a) S h sound = refl
+devices_same plan (TakeStep d) S h sound = refl
+devices_same plan (EndStep d s v) S h sound = refl
+devices_same plan (EnableInterrupt i) S h sound = refl
+devices_same plan (DisableInterrupt i) S h sound = refl
 devices_same plan d S h sound = (deeds_calm plan (d ∷ []) S refl (sound, tt)).devices
 
 either_is : (x y : Bool) → (x || y) ≡ true → (x ≡ true → y ≡ true) → y ≡ true
@@ -122,16 +125,16 @@ start_effect_power plan S cpu c o (Some r) = effect_for_power (row_of c).rank o 
 start_power : {A : Type 0} (plan : Plan) (S : State A) (cpu : ℕ) (c : Callback) (o : Handle) (r : Option Handle) → none_power (start_deeds plan S cpu c o r) ≡ true
 start_power plan S cpu c o r =
     let takes : List Deed = take_if_any (next_number S) (lock_of_callback plan c o.id.0 (declared_in plan S o.id.0)) in
-    power_behind (start_effect plan S cpu c o.id.0 r) (Push_frame cpu (next_number S) (new_frame plan S c o r) (callback_irql plan c o.id.0) ∷ takes) (start_effect_power plan S cpu c o.id.0 r)
+    power_behind (start_effect plan S cpu c o.id.0 r) (PushFrame (cpu_of cpu) (frame_id (next_number S)) (new_frame plan S c o r) (irql_of (callback_irql plan c o.id.0)) ∷ takes) (start_effect_power plan S cpu c o.id.0 r)
     (calm_power takes (taking_none (next_number S) (lock_of_callback plan c o.id.0 (declared_in plan S o.id.0))))
 
-step_power : {A : Type 0} (plan : Plan) (S : State A) (cpu : ℕ) (k : Rank) (c : Callback) (o : ℕ) (v : Value) → none_power (Pop_frame cpu ∷ end_of_step plan S k c o v) ≡ true
+step_power : {A : Type 0} (plan : Plan) (S : State A) (cpu : ℕ) (k : Rank) (c : Callback) (o : ℕ) (v : Value) → none_power (PopFrame (cpu_of cpu) ∷ end_of_step plan S k c o v) ≡ true
 step_power plan S cpu rank.Sequence c o v = refl
 step_power plan S cpu _ c o v = refl
 
 end_power : {A : Type 0} (plan : Plan) (S : State A) (cpu : ℕ) (c : Callback) (o : ℕ) (v : Value) → none_power (end_deeds plan S cpu c o v) ≡ true
 end_power plan S cpu c o v =
-    power_behind (release_if_any (lock_of_callback plan c o (declared_in plan S o))) (Pop_frame cpu ∷ end_of_step plan S (row_of c).rank c o v)
+    power_behind (release_if_any (lock_of_callback plan c o (declared_in plan S o))) (PopFrame (cpu_of cpu) ∷ end_of_step plan S (row_of c).rank c o v)
     (calm_power (release_if_any (lock_of_callback plan c o (declared_in plan S o))) (releasing_none (lock_of_callback plan c o (declared_in plan S o)))) (step_power plan S cpu (row_of c).rank c o v)
 
 -- ---- stages
@@ -167,12 +170,12 @@ closed_all (q ∷ qs) S r =
     (closed_all qs (close_returning S q) r)
 
 stage_comes : {A : Type 0} (plan : Plan) (S : State A) (n : ℕ) (s : Stage) (j : Option Handle) → Comes never S.requests (do_deeds plan (stage_deeds plan n s j) S).requests
-stage_comes plan S n stage.QueuesDown j = all_returning never (managed_queues plan n) (do_deed plan (Advance_power n (step.Pass stage.QueuesDown j)) (do_deed plan (Take_step n) S))
+stage_comes plan S n stage.QueuesDown j = all_returning never (managed_queues plan n) (do_deed plan (AdvancePower (object_id n) (step.Pass stage.QueuesDown j)) (do_deed plan (TakeStep (object_id n)) S))
 stage_comes {A} plan S n stage.Closed j =
-    let T : State A = do_deed plan (Advance_power n (step.Pass stage.Closed j)) (do_deed plan (Take_step n) S) in
+    let T : State A = do_deed plan (AdvancePower (object_id n) (step.Pass stage.Closed j)) (do_deed plan (TakeStep (object_id n)) S) in
     all_closed never (queues_of plan n) (record T { control = control.shut T.control n })
 stage_comes plan S n stage.Removed j =
-    comes_same never S.requests _ (asks_all requests_of (λ S T D W U. refl) (subtree S.tree n) (do_deed plan (Advance_power n (step.Pass stage.Removed j)) (do_deed plan (Take_step n) S)))
+    comes_same never S.requests _ (asks_all requests_of (λ S T D W U. refl) (subtree S.tree n) (do_deed plan (AdvancePower (object_id n) (step.Pass stage.Removed j)) (do_deed plan (TakeStep (object_id n)) S)))
 stage_comes plan S n stage.Enabled j = comes_same never S.requests _ refl
 stage_comes plan S n stage.Disabled j = comes_same never S.requests _ refl
 stage_comes plan S n _ j = comes_same never S.requests _ refl
@@ -224,7 +227,7 @@ module _ {A : Type 0} (plan : Plan) (S : State A) (n : ℕ) (j : Option Handle) 
     where
       elsewhere : is_managed plan q ≡ true → device_of_queue plan q ≢ n
       elsewhere on e =
-          let T : State A = do_deed plan (Advance_power n (step.Pass stage.QueuesDown j)) (do_deed plan (Take_step n) S) in
+          let T : State A = do_deed plan (AdvancePower (object_id n) (step.Pass stage.QueuesDown j)) (do_deed plan (TakeStep (object_id n)) S) in
           let closed : not (is_returning_to q (place_of (fold close_returning T (managed_queues plan n)).requests r)) ≡ true
           = of_each plan n q (λ x. not (is_returning_to x (place_of (fold close_returning T (managed_queues plan n)).requests r))) (of_device plan n q on e) (closed_all (managed_queues plan n) T r) in
           let z : false ≡ true = sym (not_true (is_returning_to q (place_of (fold close_returning T (managed_queues plan n)).requests r)) closed) ∙ h in

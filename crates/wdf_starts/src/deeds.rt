@@ -1,9 +1,8 @@
 //! What the start and the end of a callback do.
-ghost use Rattle.std.specs.Prelude.{◌≡◌, ◌+◌, ◌<◌, ◌^◌, map};
+ghost use Rattle.std.specs.Prelude.{◌≡◌, ◌+◌, ◌<◌, ◌^◌};
 ghost use Rattle.std.specs.Option.{option_to_list};
 ghost use Rattle.wdf_base.specs.Callbacks.{row_of};
 ghost use Rattle.wdf_model.specs.rules.Starts as starts;
-ghost use Rattle.wdf_parts.specs.Deed.{as_deed};
 
 use crate::checks::handle_id;
 use crate::sequences::step_of;
@@ -11,12 +10,13 @@ use crate::starts::lock_for;
 use wdf_base::{
     Agent, Callback, Cpu, Frame, FrameId, Handle, LockRef, ObjectId, Rank, Status, VARIABLES, Value,
 };
-use wdf_parts::{Deed, Deeds, Parts};
+use wdf_model::Deed;
+use wdf_parts::{Deeds, Parts};
 use wdf_plans::IndexedPlan;
 
 /// What a start of this rank does of its own, for a request. (KMDF)
 fn effect_for(rank: Rank, o: ObjectId, r: ObjectId) -> Option<Deed>
-    ensures { map as_deed (option_to_list result) ≡ starts.effect_for rank o.0 r.0 }
+    ensures { option_to_list result ≡ starts.effect_for rank o.0 r.0 }
 {
     match rank {
         Rank::Completion => Some(Deed::ComeBack { request: r }),
@@ -44,7 +44,7 @@ fn effect<A: Agent>(
     callback: Callback,
     o: ObjectId,
 ) -> Option<Deed>
-    ensures { map as_deed (option_to_list result) ≡ starts.effect plan.now parts.now rank cpu.0 callback o.0 }
+    ensures { option_to_list result ≡ starts.effect plan.now parts.now rank cpu.0 callback o.0 }
 {
     match rank {
         Rank::Deferred => Some(Deed::TakeDpc { cpu }),
@@ -74,7 +74,7 @@ fn start_effect<A: Agent>(
     o: ObjectId,
     request: Option<Handle>,
 ) -> Option<Deed>
-    ensures { map as_deed (option_to_list result) ≡ starts.start_effect plan.now parts.now cpu.0 callback o.0 request }
+    ensures { option_to_list result ≡ starts.start_effect plan.now parts.now cpu.0 callback o.0 request }
 {
     match request {
         None => effect(plan, parts, callback.row().rank, cpu, callback, o),
@@ -126,7 +126,7 @@ pub fn new_frame<A: Agent>(
 
 /// The new frame takes the lock, if there is one.
 fn take_if_any(frame: FrameId, lock: Option<LockRef>) -> Option<Deed>
-    ensures { map as_deed (option_to_list result) ≡ starts.take_if_any frame.0 lock }
+    ensures { option_to_list result ≡ starts.take_if_any frame.0 lock }
 {
     match lock {
         Some(lock) => Some(Deed::TakeLock {
@@ -140,7 +140,7 @@ fn take_if_any(frame: FrameId, lock: Option<LockRef>) -> Option<Deed>
 
 /// The lock is given back, if there is one.
 fn release_if_any(lock: Option<LockRef>) -> Option<Deed>
-    ensures { map as_deed (option_to_list result) ≡ starts.release_if_any lock }
+    ensures { option_to_list result ≡ starts.release_if_any lock }
 {
     match lock {
         Some(lock) => Some(Deed::ReleaseLock { lock }),
@@ -182,7 +182,7 @@ fn end_of_step<A: Agent>(
     o: ObjectId,
     value: Value,
 ) -> Option<Deed>
-    ensures { map as_deed (option_to_list result) ≡ starts.end_of_step plan.now parts.now (row_of callback).rank callback o.0 value }
+    ensures { option_to_list result ≡ starts.end_of_step plan.now parts.now (row_of callback).rank callback o.0 value }
 {
     match callback.row().rank {
         Rank::Sequence => Some(Deed::EndStep {

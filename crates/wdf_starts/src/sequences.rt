@@ -1,15 +1,15 @@
 //! Steps of Plug and Play and power sequences: when a step may come, and what a stage does.
-ghost use Rattle.std.specs.Prelude.{◌≡◌, map};
+ghost use Rattle.std.specs.Prelude.{◌≡◌};
 ghost use Rattle.std.specs.Option.{option_to_list};
 ghost use Rattle.wdf_base.specs.declared.plan.Plan.{Plan};
 ghost use Rattle.wdf_model.specs.rules.Starts as starts;
-ghost use Rattle.wdf_parts.specs.Deed.{as_deed};
 
 use crate::checks::{handle_id, is_step};
 use crate::drained::is_drained;
 use crate::settled::{is_quiet, is_settled};
 use wdf_base::{Agent, Callback, Handle, LockRef, ObjectId, Stage, Step};
-use wdf_parts::{Deed, Deeds, Parts};
+use wdf_model::Deed;
+use wdf_parts::{Deeds, Parts};
 use wdf_plans::IndexedPlan;
 
 /// Whether the step after `queues_up` needn't wait: no resume is due, and no EvtIoResume runs.
@@ -65,7 +65,7 @@ pub fn may_pass<A: Agent>(
 
 /// What a stage does beside power and phase. (own)
 fn stage_effect(d: ObjectId, stage: Stage, interrupt: Option<Handle>) -> Option<Deed>
-    ensures { (plan : Plan) → map as_deed (option_to_list result) ≡ starts.stage_effect plan d.0 stage interrupt }
+    ensures { (plan : Plan) → option_to_list result ≡ starts.stage_effect plan d.0 stage interrupt }
 {
     match stage {
         Stage::Enabled => Some(Deed::EnableInterrupt {

@@ -11,7 +11,9 @@ use Rattle.wdf_model.specs.declared.entries.Node.{Node}
 use Rattle.wdf_model.specs.Tables.{entry}
 use Rattle.wdf_model.specs.parts.Tree.{Tree, below_marks, declared_node, gone, is_below, is_cleaned, is_gone, is_past_cleanup, life_of, node_of, opening_tree, parent_of}
 use Rattle.wdf_model.specs.State.{State}
-use Rattle.wdf_model.specs.rules.Deeds.{Deed, End_life, End_step, Go_on, Park_frame, Pop_frame, Push_frame, Take_step, Unpark_frame, do_deed}
+use Rattle.wdf_model.specs.declared.deed.Deed.{Deed}
+use Rattle.wdf_model.specs.declared.deed.Deed.TheVariants.{EndLife, EndStep, GoOn, ParkFrame, PopFrame, PushFrame, TakeStep, UnparkFrame}
+use Rattle.wdf_model.specs.rules.Deeds.{do_deed}
 use Rattle.wdf_model.specs.rules.Steps.{deeds}
 use Rattle.wdf_model.specs.rules.Ready.{IsRunOf, state_after}
 use Rattle.wdf_model.specs.laws.Fits.{fits}
@@ -28,14 +30,14 @@ use Rattle.wdf_state_laws.specs.States.{NothingBelowCleaned, ancestor}
 -- ---- what is gone has no parent
 
 rooted_by : {A : Type 0} (plan : Plan) (d : Deed) (S : State A) → fits plan d S ≡ true → Rooted S.tree → Rooted (do_deed plan d S).tree
-rooted_by plan (Push_frame cpu f frame level) S fit r = r
-rooted_by plan (Go_on f next) S fit r = r
-rooted_by plan (Pop_frame cpu) S fit r = r
-rooted_by plan (Park_frame cpu) S fit r = r
-rooted_by plan (Unpark_frame cpu f) S fit r = r
-rooted_by plan (Take_step d) S fit r = r
-rooted_by plan (End_step d s result) S fit r = r
-rooted_by plan (End_life o) S fit r = rooted_still S.tree o r
+rooted_by plan (PushFrame cpu f frame level) S fit r = r
+rooted_by plan (GoOn f next) S fit r = r
+rooted_by plan (PopFrame cpu) S fit r = r
+rooted_by plan (ParkFrame cpu) S fit r = r
+rooted_by plan (UnparkFrame cpu f) S fit r = r
+rooted_by plan (TakeStep d) S fit r = r
+rooted_by plan (EndStep d s result) S fit r = r
+rooted_by plan (EndLife o) S fit r = rooted_still S.tree o.0 r
 rooted_by plan d S fit r = (deeds_still plan (d ∷ []) S refl (both (fits plan d S) true fit refl)).tree.rooted r
 
 hollow_first : (ds : List Declared) (x : ℕ) → is_gone (entry gone (map declared_node ds) x).life ≡ true → (entry gone (map declared_node ds) x).parent.0 ≡ 0

@@ -31,7 +31,10 @@ use Rattle.wdf_model.specs.parts.Cpus.{frame_of, top}
 use Rattle.wdf_model.specs.parts.Locks.{lock_of_callback}
 use Rattle.wdf_model.specs.parts.Requests.{arrival_of, place_of}
 use Rattle.wdf_model.specs.State.{State, declared_in, is_proper}
-use Rattle.wdf_model.specs.rules.Deeds.{Deed, Arrive, Count_arrival, Go_on, Pop_frame, Push_frame, do_deed, do_deeds}
+use Rattle.wdf_model.specs.Ids.{cpu_of, frame_id, irql_of, object_id}
+use Rattle.wdf_model.specs.declared.deed.Deed.{Deed}
+use Rattle.wdf_model.specs.declared.deed.Deed.TheVariants.{Arrive, CountArrival, GoOn, PopFrame, PushFrame}
+use Rattle.wdf_model.specs.rules.Deeds.{do_deed, do_deeds}
 use Rattle.wdf_model.specs.rules.Calls.{outcome, second_deeds}
 use Rattle.wdf_model.specs.rules.Posts.{arrival_info, arrival_place, cancel_at, cancel_deeds, in_reach, post_deeds}
 use Rattle.wdf_model.specs.rules.Starts.{effect, effect_for, end_of_step, life_fits, may_start, new_frame, next_number, release_if_any, stage_effect, start_deeds, start_effect, take_if_any}
@@ -44,7 +47,7 @@ use Rattle.wdf_state_laws.proofs.Acts.{asked_early, live_early}
 
 -- a frame begins before its object's cleanup, but for that of a destroy callback
 abbrev pub Early : {A : Type 0} → Deed → State A → Type 0
-Early (Push_frame cpu f frame level) S = same_callback frame.callback callback.EvtDestroyCallback ≡ false → is_past_cleanup (life_of S.tree frame.object.id.0) ≡ false
+Early (PushFrame cpu f frame level) S = same_callback frame.callback callback.EvtDestroyCallback ≡ false → is_past_cleanup (life_of S.tree frame.object.id.0) ≡ false
 Early _ S = ⊤
 
 -- each of some deeds does so where it is done
@@ -59,7 +62,7 @@ early_behind plan (d ∷ ds) es S h k = (h.0, early_behind plan ds es (do_deed p
 -- ---- deeds by which no frame begins
 
 abbrev begins_none : Deed → Bool
-begins_none (Push_frame cpu f frame level) = false
+begins_none (PushFrame cpu f frame level) = false
 begins_none _ = true
 
 abbrev none_begin : List Deed → Bool
@@ -70,7 +73,7 @@ none_both [] es h k = k
 none_both (d ∷ ds) es h k = both (begins_none d) (none_begin (ds ++ es)) (both_left (begins_none d) (none_begin ds) h) (none_both ds es (both_right (begins_none d) (none_begin ds) h) k)
 
 still_begins : (d : Deed) → is_still_deed d ≡ true → begins_none d ≡ true
-still_begins (Push_frame cpu f frame level) h = absurd (let z : ⊥ = cc in z)
+still_begins (PushFrame cpu f frame level) h = absurd (let z : ⊥ = cc in z)
 still_begins _ h = refl
 
 still_begin : (ds : List Deed) → all_still ds ≡ true → none_begin ds ≡ true
@@ -78,7 +81,7 @@ still_begin [] h = refl
 still_begin (d ∷ ds) h = both (begins_none d) (none_begin ds) (still_begins d (both_left (is_still_deed d) (all_still ds) h)) (still_begin ds (both_right (is_still_deed d) (all_still ds) h))
 
 early_one : {A : Type 0} (d : Deed) (S : State A) → begins_none d ≡ true → Early d S
-early_one (Push_frame cpu f frame level) S h = absurd (let z : ⊥ = cc in z)
+early_one (PushFrame cpu f frame level) S h = absurd (let z : ⊥ = cc in z)
 early_one _ S h = tt
 
 none_early : {A : Type 0} (plan : Plan) (ds : List Deed) (S : State A) → none_begin ds ≡ true → AllEarly plan ds S
@@ -127,7 +130,7 @@ start_early {A} plan m S cpu c o r h =
     let U : State A = do_deeds plan ds S in
     let alive : life_fits S c o.id.0 ≡ true = search (both_left, both_right) in
     let same : is_past_cleanup (life_of U.tree o.id.0) ≡ is_past_cleanup (life_of S.tree o.id.0) = ap is_past_cleanup ((start_effect_sound plan S cpu c o.id.0 r).1.lives o.id.0) in
-    early_behind plan ds (Push_frame cpu f (new_frame plan S c o r) (callback_irql plan c o.id.0) ∷ take_if_any f l) S
+    early_behind plan ds (PushFrame (cpu_of cpu) (frame_id f) (new_frame plan S c o r) (irql_of (callback_irql plan c o.id.0)) ∷ take_if_any f l) S
     (none_early plan ds S (start_begins plan S cpu c o.id.0 r))
     ((λ n. same ∙ life_early S c o.id.0 alive n), none_early plan (take_if_any f l) _ (taking_begins f l))
 
@@ -141,14 +144,14 @@ top_begins S what (Some f) h = h f (frame_of S.cpus f)
 top_early : {A : Type 0} (plan : Plan) (S : State A) (cpu : ℕ) (what : ℕ → Frame → List Deed) → ((f : ℕ) (frame : Frame) → none_begin (what f frame) ≡ true) → AllEarly plan (by_top S cpu what) S
 top_early plan S cpu what h = none_early plan (by_top S cpu what) S (top_begins S what (top S.cpus cpu) h)
 
-then_goes : (ds : List Deed) (f : ℕ) (next : Frame) → all_still ds ≡ true → none_begin (ds ++ Go_on f next ∷ []) ≡ true
-then_goes ds f next h = none_both ds (Go_on f next ∷ []) (still_begin ds h) refl
+then_goes : (ds : List Deed) (f : ℕ) (next : Frame) → all_still ds ≡ true → none_begin (ds ++ GoOn (frame_id f) next ∷ []) ≡ true
+then_goes ds f next h = none_both ds (GoOn (frame_id f) next ∷ []) (still_begin ds h) refl
 
 step_begins : {A : Type 0} (plan : Plan) (S : State A) (k : Rank) (c : Callback) (o : ℕ) (v : Value) → none_begin (end_of_step plan S k c o v) ≡ true
 step_begins plan S rank.Sequence c o v = refl
 step_begins plan S _ c o v = refl
 
-end_begins : (cpu : ℕ) (l : Option LockRef) (es : List Deed) → none_begin es ≡ true → none_begin (release_if_any l ++ Pop_frame cpu ∷ es) ≡ true
+end_begins : (cpu : ℕ) (l : Option LockRef) (es : List Deed) → none_begin es ≡ true → none_begin (release_if_any l ++ PopFrame (cpu_of cpu) ∷ es) ≡ true
 end_begins cpu None es h = h
 end_begins cpu (Some l) es h = h
 
@@ -161,7 +164,7 @@ stage_begins plan d stage.Removed i = refl
 stage_begins plan d _ i = refl
 
 arrival_begins : {A : Type 0} (plan : Plan) (S : State A) (agent : ℕ) (f : RequestForm) (length code device : ℕ) (b : Bool)
-    → none_begin (Count_arrival agent ∷ (if b then Arrive device (arrival_info S agent f length code device) (arrival_place plan S f length device) ∷ [] else [])) ≡ true
+    → none_begin (CountArrival agent ∷ (if b then Arrive (object_id device) (arrival_info S agent f length code device) (arrival_place plan S f length device) ∷ [] else [])) ≡ true
 arrival_begins plan S agent f length code device true = refl
 arrival_begins plan S agent f length code device false = refl
 
@@ -186,10 +189,10 @@ post_begins plan S agent (post.Done r s) = refl
 
 pub event_early : {A : Type 0} (plan : Plan) (m : Meaning A) (S : State A) (e : Event) → may plan m S e ≡ true → AllEarly plan (deeds plan S e) S
 event_early plan m S (event.Start k c o r) h = start_early plan m S k.0 c o r (both_right (is_cpu plan k && is_proper plan S o && is_proper_if_any plan S r) (may_start plan m S k.0 c o.id.0 r) h)
-event_early plan m S (event.Local k line) h = top_early plan S k.0 (λ f frame. Go_on f (stepped frame (intent_of plan frame)) ∷ []) (λ f frame. refl)
-event_early plan m S (event.Log k v) h = top_early plan S k.0 (λ f frame. Go_on f (goes_on plan frame) ∷ []) (λ f frame. refl)
-event_early plan m S (event.Spend k n) h = top_early plan S k.0 (λ f frame. Go_on f (spending plan S frame n) ∷ []) (λ f frame. refl)
-event_early plan m S (event.Register k a r v) h = top_early plan S k.0 (λ f frame. Go_on f (answered plan frame (Num v)) ∷ []) (λ f frame. refl)
+event_early plan m S (event.Local k line) h = top_early plan S k.0 (λ f frame. GoOn (frame_id f) (stepped frame (intent_of plan frame)) ∷ []) (λ f frame. refl)
+event_early plan m S (event.Log k v) h = top_early plan S k.0 (λ f frame. GoOn (frame_id f) (goes_on plan frame) ∷ []) (λ f frame. refl)
+event_early plan m S (event.Spend k n) h = top_early plan S k.0 (λ f frame. GoOn (frame_id f) (spending plan S frame n) ∷ []) (λ f frame. refl)
+event_early plan m S (event.Register k a r v) h = top_early plan S k.0 (λ f frame. GoOn (frame_id f) (answered plan frame (Num v)) ∷ []) (λ f frame. refl)
 event_early plan m S (event.Did k c v) h = top_early plan S k.0 (did_deeds plan S k.0 c v)
     (λ f frame. then_goes ((outcome plan S k.0 f c).deeds ++ second_deeds f c) f (answered plan frame v)
     (none_behind (outcome plan S k.0 f c).deeds (second_deeds f c) (outcome_none plan S k.0 f c.kind c.count c.a c.b c.c) (second_none f c.kind c.count c.a c.b c.c)))

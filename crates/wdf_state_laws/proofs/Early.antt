@@ -20,7 +20,9 @@ use Rattle.wdf_model.specs.parts.Requests as requests
 use Rattle.wdf_model.specs.parts.Queues.{waiting_in}
 use Rattle.wdf_model.specs.parts.Control as control
 use Rattle.wdf_model.specs.State.{State, is_locked, is_waited_for, nothing_at, opening}
-use Rattle.wdf_model.specs.rules.Deeds.{Deed, Create, Make_request, Arrive, Ask_deletion, Refer, Unrefer, Write_cell, Note, Clean_up, End_life, Push_frame, Pop_frame, Requeue, Forward, Give_back, Send_request, Complete_request, Purge_queue, Close_returning, Close_device, ask_object, do_deed, do_deeds, give_up}
+use Rattle.wdf_model.specs.declared.deed.Deed.{Deed}
+use Rattle.wdf_model.specs.declared.deed.Deed.TheVariants.{Create, MakeRequest, Arrive, AskDeletion, Refer, Unrefer, WriteCell, Note, CleanUp, EndLife, PushFrame, PopFrame, Requeue, Forward, GiveBack, SendRequest, CompleteRequest, PurgeQueue, CloseReturning, CloseDevice}
+use Rattle.wdf_model.specs.rules.Deeds.{ask_object, do_deed, do_deeds, give_up}
 use Rattle.wdf_model.specs.rules.Starts.{is_finished, is_unused}
 use Rattle.wdf_model.specs.rules.Steps.{deeds}
 use Rattle.wdf_model.specs.rules.Ready.{IsRunOf, state_after}
@@ -68,33 +70,33 @@ all_asked (y ∷ ys) S x h = all_asked ys (ask_object S y) x (asked_one S y (is_
 
 -- the object that a deed cleans up or ends, if any
 abbrev Finishes : Deed → ℕ → Type 0
-Finishes (Clean_up o) x = x ≡ o
-Finishes (End_life o) x = x ≡ o
+Finishes (CleanUp o) x = x ≡ o.0
+Finishes (EndLife o) x = x ≡ o.0
 Finishes _ x = ⊥
 
 others_stay : (T : Tree) (o x : ℕ) (f : Node → Node) → x ≢ o → is_past_cleanup (life_of T x) ≡ false → is_past_cleanup (life_of (with_node T o f) x) ≡ false
 others_stay T o x f n h = ap (λ (m : Node). is_past_cleanup m.life) (entry_put_other gone T.nodes o x (f (node_of T o)) n) ∙ h
 
 early_still : {A : Type 0} (plan : Plan) (d : Deed) (S : State A) (x : ℕ) → (Finishes d x → ⊥) → is_past_cleanup (life_of S.tree x) ≡ false → is_past_cleanup (life_of (do_deed plan d S).tree x) ≡ false
-early_still plan (Create k class parent) S x n h = early_made S.tree k class parent x h
-early_still plan (Make_request class parent) S x n h = early_made S.tree kind.Made class parent x h
-early_still plan (Arrive device info p) S x n h = ap (λ T. is_past_cleanup (life_of T x)) (arrived S device info p) ∙ early_made S.tree kind.Request 0 device x h
-early_still plan (Ask_deletion o) S x n h = all_asked (subtree S.tree o) S x h
-early_still plan (Refer o) S x n h = early_changes S.tree o (λ m. record m { references = m.references + 1 }) refl x h
-early_still plan (Unrefer o) S x n h = early_changes S.tree o (λ m. record m { references = m.references - 1 }) refl x h
-early_still plan (Write_cell o k v) S x n h = early_changes S.tree o (λ m. record m { cells = slice_set m.cells k v }) refl x h
-early_still plan (Note o c) S x n h = early_changes S.tree o (noted c) (ap is_past_cleanup (noted_kept c (node_of S.tree o)).0) x h
-early_still plan (Clean_up o) S x n h = others_stay S.tree o x (with_life life.Cleaned) n h
-early_still plan (End_life o) S x n h = others_stay S.tree o x (λ _. gone) n h
-early_still plan (Requeue r p) S x n h = early_same _ _ (gives_up tree_of (λ S Q R P. refl) S r) x h
-early_still plan (Forward r p) S x n h = early_same _ _ (gives_up tree_of (λ S Q R P. refl) S r) x h
-early_still plan (Give_back r p) S x n h = early_same _ _ (gives_up tree_of (λ S Q R P. refl) S r) x h
-early_still plan (Send_request r t forget) S x n h = early_same _ _ (gives_up_if tree_of (λ S Q R P. refl) S forget r) x h
-early_still plan (Complete_request r) S x n h =
-    all_asked (subtree (give_up S r).tree r) (record (give_up S r) { requests = requests.complete S.requests r }) x (early_same S.tree (give_up S r).tree (gives_up tree_of (λ S Q R P. refl) S r) x h)
-early_still plan (Purge_queue p) S x n h = early_same _ _ (withdraws tree_of (λ S Q R P. refl) plan p (waiting_in S.queues p) (record S { control = control.set_mode S.control p mode.Purged })) x h
-early_still plan (Close_returning d) S x n h = early_same _ _ (returns_closed tree_of (λ S Q R P. refl) (managed_queues plan d) S) x h
-early_still plan (Close_device d) S x n h = early_same _ _ (queues_closed tree_of (λ S Q R P. refl) (queues_of plan d) (record S { control = control.shut S.control d })) x h
+early_still plan (Create k class parent) S x n h = early_made S.tree k class parent.0 x h
+early_still plan (MakeRequest class parent) S x n h = early_made S.tree kind.Made class parent.0 x h
+early_still plan (Arrive device info p) S x n h = ap (λ T. is_past_cleanup (life_of T x)) (arrived S device.0 info p) ∙ early_made S.tree kind.Request 0 device.0 x h
+early_still plan (AskDeletion o) S x n h = all_asked (subtree S.tree o.0) S x h
+early_still plan (Refer o) S x n h = early_changes S.tree o.0 (λ m. record m { references = m.references + 1 }) refl x h
+early_still plan (Unrefer o) S x n h = early_changes S.tree o.0 (λ m. record m { references = m.references - 1 }) refl x h
+early_still plan (WriteCell o k v) S x n h = early_changes S.tree o.0 (λ m. record m { cells = slice_set m.cells k v }) refl x h
+early_still plan (Note o c) S x n h = early_changes S.tree o.0 (noted c) (ap is_past_cleanup (noted_kept c (node_of S.tree o.0)).0) x h
+early_still plan (CleanUp o) S x n h = others_stay S.tree o.0 x (with_life life.Cleaned) n h
+early_still plan (EndLife o) S x n h = others_stay S.tree o.0 x (λ _. gone) n h
+early_still plan (Requeue r p) S x n h = early_same _ _ (gives_up tree_of (λ S Q R P. refl) S r.0) x h
+early_still plan (Forward r p) S x n h = early_same _ _ (gives_up tree_of (λ S Q R P. refl) S r.0) x h
+early_still plan (GiveBack r p) S x n h = early_same _ _ (gives_up tree_of (λ S Q R P. refl) S r.0) x h
+early_still plan (SendRequest r t forget) S x n h = early_same _ _ (gives_up_if tree_of (λ S Q R P. refl) S forget r.0) x h
+early_still plan (CompleteRequest r) S x n h =
+    all_asked (subtree (give_up S r.0).tree r.0) (record (give_up S r.0) { requests = requests.complete S.requests r.0 }) x (early_same S.tree (give_up S r.0).tree (gives_up tree_of (λ S Q R P. refl) S r.0) x h)
+early_still plan (PurgeQueue p) S x n h = early_same _ _ (withdraws tree_of (λ S Q R P. refl) plan p.0 (waiting_in S.queues p.0) (record S { control = control.set_mode S.control p.0 mode.Purged })) x h
+early_still plan (CloseReturning d) S x n h = early_same _ _ (returns_closed tree_of (λ S Q R P. refl) (managed_queues plan d.0) S) x h
+early_still plan (CloseDevice d) S x n h = early_same _ _ (queues_closed tree_of (λ S Q R P. refl) (queues_of plan d.0) (record S { control = control.shut S.control d.0 })) x h
 early_still plan _ S x n h = h
 
 -- ---- frames
@@ -119,25 +121,25 @@ runs_still S U go stay k f more n =
 -- no frame runs on an object that is cleaned up or ends
 stays_there : {A : Type 0} (plan : Plan) (d : Deed) (S : State A) → fits plan d S ≡ true → (f : ℕ) → 1 ≤ on S.cpus f → is_past_cleanup (life_of S.tree (object_of S f)) ≡ false
     → is_past_cleanup (life_of (do_deed plan d S).tree (object_of S f)) ≡ false
-stays_there plan (Clean_up o) S fit f more h =
-    let unused : is_unused S o ≡ true = both_right (may_clean S.tree o) (is_unused S o) (both_left (may_clean S.tree o && is_unused S o) (is_finished S o) (both_left (may_clean S.tree o && is_unused S o && is_finished S o) (nothing_at S o) fit)) in
-    let nobody : nobody_on S.cpus o ≡ true = both_left (nobody_on S.cpus o) (not (is_locked S o)) (both_left (nobody_on S.cpus o && not (is_locked S o)) (not (is_waited_for S o)) unused) in
-    early_still plan (Clean_up o) S (object_of S f) (off_it S.cpus o f nobody more) h
-stays_there plan (End_life o) S fit f more h = early_still plan (End_life o) S (object_of S f) (off_it S.cpus o f (both_right (may_destroy S.tree o) (nobody_on S.cpus o) fit) more) h
+stays_there plan (CleanUp o) S fit f more h =
+    let unused : is_unused S o.0 ≡ true = both_right (may_clean S.tree o.0) (is_unused S o.0) (both_left (may_clean S.tree o.0 && is_unused S o.0) (is_finished S o.0) (both_left (may_clean S.tree o.0 && is_unused S o.0 && is_finished S o.0) (nothing_at S o.0) fit)) in
+    let nobody : nobody_on S.cpus o.0 ≡ true = both_left (nobody_on S.cpus o.0) (not (is_locked S o.0)) (both_left (nobody_on S.cpus o.0 && not (is_locked S o.0)) (not (is_waited_for S o.0)) unused) in
+    early_still plan (CleanUp o) S (object_of S f) (off_it S.cpus o.0 f nobody more) h
+stays_there plan (EndLife o) S fit f more h = early_still plan (EndLife o) S (object_of S f) (off_it S.cpus o.0 f (both_right (may_destroy S.tree o.0) (nobody_on S.cpus o.0) fit) more) h
 stays_there plan d S fit f more h = early_still plan d S (object_of S f) (λ e. e) h
 
 runs_by : {A : Type 0} (plan : Plan) (d : Deed) (S : State A) → fits plan d S ≡ true → Sound plan d S → Early d S → AllMayRun S → AllMayRun (do_deed plan d S)
-runs_by plan (Push_frame cpu f frame level) S fit s early k =
-    let U = do_deed plan (Push_frame cpu f frame level) S in
-    let b : Begins S.cpus U.cpus f frame = frames_by plan (Push_frame cpu f frame level) S s in
-    λ x more. elim (one_or_two x f) [
+runs_by plan (PushFrame cpu f frame level) S fit s early k =
+    let U = do_deed plan (PushFrame cpu f frame level) S in
+    let b : Begins S.cpus U.cpus f.0 frame = frames_by plan (PushFrame cpu f frame level) S s in
+    λ x more. elim (one_or_two x f.0) [
       | inl e ↦ subst (MayRun U) (sym e) (λ n. ap (λ (a : Frame). is_past_cleanup (life_of S.tree a.object.id.0)) b.here ∙ early (sym (ap (λ (a : Frame). same_callback a.callback callback.EvtDestroyCallback) b.here) ∙ n))
       | inr d ↦
           let others = b.others x d in
           let same = others.0 in
           λ n. ap (λ (a : Frame). is_past_cleanup (life_of S.tree a.object.id.0)) others.1 ∙ k x (omega arith) (sym (ap (λ (a : Frame). same_callback a.callback callback.EvtDestroyCallback) others.1) ∙ n)
     ]
-runs_by plan (Pop_frame cpu) S fit s early k = runs_still S (do_deed plan (Pop_frame cpu) S) (frames_by plan (Pop_frame cpu) S s).0 (stays_there plan (Pop_frame cpu) S fit) k
+runs_by plan (PopFrame cpu) S fit s early k = runs_still S (do_deed plan (PopFrame cpu) S) (frames_by plan (PopFrame cpu) S s).0 (stays_there plan (PopFrame cpu) S fit) k
 runs_by plan d S fit s early k = runs_still S (do_deed plan d S) (frames_by plan d S s).0 (stays_there plan d S fit) k
 
 -- ---- each place of a run

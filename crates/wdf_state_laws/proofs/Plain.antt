@@ -24,7 +24,10 @@ use Rattle.wdf_model.specs.parts.Queues.{waiting_in}
 use Rattle.wdf_model.specs.parts.Control as control
 use Rattle.wdf_model.specs.parts.Targets.{is_forgotten}
 use Rattle.wdf_model.specs.State.{State, withdrawn_place}
-use Rattle.wdf_model.specs.rules.Deeds.{Deed, Make_request, Arrive, Count_arrival, Ask_deletion, End_life, Present, Receive, Requeue, Forward, Give_back, Withdraw, Mark_request, Unmark_request, Cancel_request, Take_cancel, Send_request, Finish_sending, Come_back, Complete_request, Purge_queue, Close_returning, Close_device, arrive_at, close_queue, close_returning, do_deed, do_deeds, finished_at, give_up, queued, withdraw}
+use Rattle.wdf_model.specs.Ids.{object_id}
+use Rattle.wdf_model.specs.declared.deed.Deed.{Deed}
+use Rattle.wdf_model.specs.declared.deed.Deed.TheVariants.{MakeRequest, Arrive, CountArrival, AskDeletion, EndLife, Present, Receive, Requeue, Forward, GiveBack, Withdraw, MarkRequest, UnmarkRequest, CancelRequest, TakeCancel, SendRequest, FinishSending, ComeBack, CompleteRequest, PurgeQueue, CloseReturning, CloseDevice}
+use Rattle.wdf_model.specs.rules.Deeds.{arrive_at, close_queue, close_returning, do_deed, do_deeds, finished_at, give_up, queued, withdraw}
 use Rattle.wdf_model.specs.rules.Posts.{arrival_info, arrival_place}
 use Rattle.wdf_model.specs.rules.Steps.{deeds}
 use Rattle.wdf_model.specs.rules.Ready.{IsRunOf, state_after}
@@ -139,29 +142,29 @@ all_closed (q ∷ qs) S k = all_closed qs (close_queue S q) (all_close S.request
 
 plain_by : {A : Type 0} (plan : Plan) (d : Deed) (S : State A) → is_arrival d ≡ false → AllPlain S.requests → AllPlain (do_deed plan d S).requests
 plain_by plan (Arrive device info p) S h k = absurd (let z : ⊥ = cc in z)
-plain_by plan (Make_request class parent) S h k = comes S.requests (next_id S.tree) place.Owned (made_info (nearest_device S.tree parent)) refl k
-plain_by plan (Ask_deletion o) S h k = same_requests _ _ (asks_all requests_of (λ S T D W U. refl) (subtree S.tree o) S) k
-plain_by plan (End_life o) S h k = forgets S.requests o k
-plain_by plan (Present q r) S h k = moves S.requests r place.Owned k
-plain_by plan (Receive q r) S h k = moves S.requests r place.Owned k
-plain_by plan (Requeue r q) S h k = then_moves _ _ r (queued q) (given requests_of (λ S Q P. refl) S r) k
-plain_by plan (Forward r q) S h k = then_moves _ _ r (queued q) (given requests_of (λ S Q P. refl) S r) k
-plain_by plan (Give_back r q) S h k = then_cancels _ _ r (withdrawn_place plan (give_up S r) q r) (given requests_of (λ S Q P. refl) S r) k
-plain_by plan (Withdraw q r) S h k = then_cancels S.requests S.requests r (withdrawn_place plan S q r) refl k
-plain_by plan (Mark_request r) S h k = one_changes S.requests r marked (marked_by (request_of S.requests r) (request_of S.requests r).info.cancelled refl (k r)) k
-plain_by plan (Unmark_request r) S h k = one_changes S.requests r unmarked (unmarked_by (request_of S.requests r) (is_marked (request_of S.requests r).info.mark) (k r)) k
-plain_by plan (Cancel_request r) S h k = cancels S.requests r k
-plain_by plan (Take_cancel r) S h k = one_changes S.requests r (with_mark marks.Taken) (λ e. absurd (let z : ⊥ = cc in z)) k
-plain_by plan (Send_request r t forget) S h k = then_moves _ _ r (place.Sent (record { 0 = t })) (given_if requests_of (λ S Q P. refl) S forget r) k
-plain_by plan (Finish_sending r s) S h k = moves S.requests r (finished_at (is_forgotten S.targets r) s (place_of S.requests r)) k
-plain_by plan (Come_back r) S h k = moves S.requests r place.Owned k
-plain_by plan (Complete_request r) S h k =
-    same_requests (requests.complete S.requests r) (do_deed plan (Complete_request r) S).requests
-    (asks_all requests_of (λ S T D W U. refl) (subtree (give_up S r).tree r) (record (give_up S r) { requests = requests.complete S.requests r }))
-    (moves S.requests r place.Done k)
-plain_by plan (Purge_queue q) S h k = all_withdrawn plan q (waiting_in S.queues q) (record S { control = control.set_mode S.control q mode.Purged }) k
-plain_by plan (Close_returning d) S h k = all_returning (managed_queues plan d) S k
-plain_by plan (Close_device d) S h k = all_closed (queues_of plan d) (record S { control = control.shut S.control d }) k
+plain_by plan (MakeRequest class parent) S h k = comes S.requests (next_id S.tree) place.Owned (made_info (nearest_device S.tree parent.0)) refl k
+plain_by plan (AskDeletion o) S h k = same_requests _ _ (asks_all requests_of (λ S T D W U. refl) (subtree S.tree o.0) S) k
+plain_by plan (EndLife o) S h k = forgets S.requests o.0 k
+plain_by plan (Present q r) S h k = moves S.requests r.0 place.Owned k
+plain_by plan (Receive q r) S h k = moves S.requests r.0 place.Owned k
+plain_by plan (Requeue r q) S h k = then_moves _ _ r.0 (queued q.0) (given requests_of (λ S Q P. refl) S r.0) k
+plain_by plan (Forward r q) S h k = then_moves _ _ r.0 (queued q.0) (given requests_of (λ S Q P. refl) S r.0) k
+plain_by plan (GiveBack r q) S h k = then_cancels _ _ r.0 (withdrawn_place plan (give_up S r.0) q.0 r.0) (given requests_of (λ S Q P. refl) S r.0) k
+plain_by plan (Withdraw q r) S h k = then_cancels S.requests S.requests r.0 (withdrawn_place plan S q.0 r.0) refl k
+plain_by plan (MarkRequest r) S h k = one_changes S.requests r.0 marked (marked_by (request_of S.requests r.0) (request_of S.requests r.0).info.cancelled refl (k r.0)) k
+plain_by plan (UnmarkRequest r) S h k = one_changes S.requests r.0 unmarked (unmarked_by (request_of S.requests r.0) (is_marked (request_of S.requests r.0).info.mark) (k r.0)) k
+plain_by plan (CancelRequest r) S h k = cancels S.requests r.0 k
+plain_by plan (TakeCancel r) S h k = one_changes S.requests r.0 (with_mark marks.Taken) (λ e. absurd (let z : ⊥ = cc in z)) k
+plain_by plan (SendRequest r t forget) S h k = then_moves _ _ r.0 (place.Sent (record { 0 = t.0 })) (given_if requests_of (λ S Q P. refl) S forget r.0) k
+plain_by plan (FinishSending r s) S h k = moves S.requests r.0 (finished_at (is_forgotten S.targets r.0) s (place_of S.requests r.0)) k
+plain_by plan (ComeBack r) S h k = moves S.requests r.0 place.Owned k
+plain_by plan (CompleteRequest r) S h k =
+    same_requests (requests.complete S.requests r.0) (do_deed plan (CompleteRequest r) S).requests
+    (asks_all requests_of (λ S T D W U. refl) (subtree (give_up S r.0).tree r.0) (record (give_up S r.0) { requests = requests.complete S.requests r.0 }))
+    (moves S.requests r.0 place.Done k)
+plain_by plan (PurgeQueue q) S h k = all_withdrawn plan q.0 (waiting_in S.queues q.0) (record S { control = control.set_mode S.control q.0 mode.Purged }) k
+plain_by plan (CloseReturning d) S h k = all_returning (managed_queues plan d.0) S k
+plain_by plan (CloseDevice d) S h k = all_closed (queues_of plan d.0) (record S { control = control.shut S.control d.0 }) k
 plain_by plan _ S h k = k
 
 -- ---- events
@@ -177,11 +180,11 @@ came S device info (place.Queued q) = refl
 came S device info _ = refl
 
 arrival_by : {A : Type 0} (plan : Plan) (S : State A) (agent : ℕ) (f : RequestForm) (length code device : ℕ) (b : Bool) → AllPlain S.requests
-    → AllPlain (do_deeds plan (Count_arrival agent ∷ (if b then Arrive device (arrival_info S agent f length code device) (arrival_place plan S f length device) ∷ [] else [])) S).requests
+    → AllPlain (do_deeds plan (CountArrival agent ∷ (if b then Arrive (object_id device) (arrival_info S agent f length code device) (arrival_place plan S f length device) ∷ [] else [])) S).requests
 arrival_by plan S agent f length code device true k =
     let info : RequestInfo = arrival_info S agent f length code device in
     let p : Place = arrival_place plan S f length device in
-    same_requests _ _ (came (do_deed plan (Count_arrival agent) S) device info p) (comes S.requests (next_id S.tree) p info refl k)
+    same_requests _ _ (came (do_deed plan (CountArrival agent) S) device info p) (comes S.requests (next_id S.tree) p info refl k)
 arrival_by plan S agent f length code device false k = k
 
 arrival_event : {A : Type 0} (plan : Plan) (S : State A) (e : Event) → is_arrival_event e ≡ true → AllPlain S.requests → AllPlain (do_deeds plan (deeds plan S e) S).requests

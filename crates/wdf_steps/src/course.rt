@@ -1,7 +1,7 @@
 //! The deeds of an event.
 ghost use Rattle.std.specs.Prelude.{◌≡◌, ℕ, ◌∷◌, ◌+◌, ◌<◌, ◌^◌, []};
 ghost use Rattle.wdf_model.specs.Tables.{entry};
-ghost use Rattle.wdf_model.specs.rules.Deeds.{Go_on};
+ghost use Rattle.wdf_model.specs.Ids.{frame_id};
 ghost use Rattle.wdf_model.specs.rules.Script as script;
 ghost use Rattle.wdf_model.specs.rules.Steps as steps;
 ghost use Rattle.wdf_steps.specs.Clock.{FitsClock};
@@ -11,7 +11,8 @@ use crate::frames::{answered, goes_on, spending, stepped, waiting};
 use std::marker::Model;
 use wdf_base::{Agent, Call, Cpu, Event, Frame, FrameId, Value};
 use wdf_calls::{outcome, second_deeds};
-use wdf_parts::{Deed, Deeds, Parts};
+use wdf_model::Deed;
+use wdf_parts::{Deeds, Parts};
 use wdf_plans::IndexedPlan;
 use wdf_posts::post_deeds;
 use wdf_script::next;
@@ -28,7 +29,7 @@ pub(crate) struct Course {
 
 impl Model for Course {
     ghost use Rattle.std.specs.Prelude.{List};
-    ghost use Rattle.wdf_model.specs.rules.Deeds.{Deed};
+    ghost use Rattle.wdf_model.specs.declared.deed.Deed.{Deed};
 
     ghost Value = { List Deed };
 
@@ -50,14 +51,14 @@ fn plain(deeds: Deeds) -> Course
 
 /// The top frame of a processor goes on.
 fn moved(number: FrameId, frame: Frame) -> Course
-    ensures { result ≡ Go_on number.0 frame ∷ [] }
+    ensures { result ≡ Deed.GoOn number frame ∷ [] }
 {
     plain(Deeds::one(Deed::GoOn { number, frame }))
 }
 
 /// A step inside the top frame.
 fn local<A: Agent>(plan: &IndexedPlan, parts: &Parts<A>, cpu: Cpu) -> Course
-    ensures { result ≡ steps.by_top parts.now cpu.0 (λ f frame. Go_on f (steps.stepped frame (script.intent_of plan.now frame)) ∷ []) }
+    ensures { result ≡ steps.by_top parts.now cpu.0 (λ f frame. Deed.GoOn (frame_id f) (steps.stepped frame (script.intent_of plan.now frame)) ∷ []) }
 {
     let Some(number) = parts.cpus().top(cpu) else {
         return plain(Deeds::none());
@@ -68,7 +69,7 @@ fn local<A: Agent>(plan: &IndexedPlan, parts: &Parts<A>, cpu: Cpu) -> Course
 
 /// The top frame prints a value, and goes on.
 fn logged<A: Agent>(plan: &IndexedPlan, parts: &Parts<A>, cpu: Cpu) -> Course
-    ensures { result ≡ steps.by_top parts.now cpu.0 (λ f frame. Go_on f (steps.goes_on plan.now frame) ∷ []) }
+    ensures { result ≡ steps.by_top parts.now cpu.0 (λ f frame. Deed.GoOn (frame_id f) (steps.goes_on plan.now frame) ∷ []) }
 {
     let Some(number) = parts.cpus().top(cpu) else {
         return plain(Deeds::none());

@@ -42,7 +42,10 @@ use Rattle.wdf_model.specs.parts.Requests.{is_cancelled}
 use Rattle.wdf_model.specs.parts.Power.{Power, acknowledged, advance_stage, holding_of, is_held, is_held_at, no_holding, wake_holdings, with_holding, with_up, woken}
 use Rattle.wdf_model.specs.parts.Power as power
 use Rattle.wdf_model.specs.State.{State, declared_in, is_with_driver, object_in, queue_delivers}
-use Rattle.wdf_model.specs.rules.Deeds.{Deed, Pop_frame, Push_frame, Take_step, Arrive, Ask_deletion, Acknowledge, Advance_power, Ask_stop, Close_device, Close_returning, Complete_request, Forward, Give_back, Present, Purge_queue, Receive, Requeue, Resume, Send_request, do_deed, do_deeds, give_up, release_power}
+use Rattle.wdf_model.specs.Ids.{cpu_of, frame_id, irql_of, object_id}
+use Rattle.wdf_model.specs.declared.deed.Deed.{Deed}
+use Rattle.wdf_model.specs.declared.deed.Deed.TheVariants.{PopFrame, PushFrame, TakeStep, Arrive, AskDeletion, Acknowledge, AdvancePower, AskStop, CloseDevice, CloseReturning, CompleteRequest, Forward, GiveBack, Present, PurgeQueue, Receive, Requeue, Resume, SendRequest}
+use Rattle.wdf_model.specs.rules.Deeds.{do_deed, do_deeds, give_up, release_power}
 use Rattle.wdf_model.specs.rules.Faults.{arg_is}
 use Rattle.wdf_model.specs.rules.Calls.{Outcome, forwards_nowhere, may_send, number, origin_or_none, outcome, refused, retrieve_front, success}
 use Rattle.wdf_model.specs.rules.Starts.{effect, effect_for, end_of_step, new_frame, next_number, release_if_any, take_if_any}
@@ -119,19 +122,19 @@ deed_still plan (Present q r) S h n = absurd (let z : ⊥ = cc in z)
 deed_still plan (Receive q r) S h n = absurd (let z : ⊥ = cc in z)
 deed_still plan (Requeue r q) S h n = absurd (let z : ⊥ = cc in z)
 deed_still plan (Forward r q) S h n = absurd (let z : ⊥ = cc in z)
-deed_still plan (Give_back r q) S h n = absurd (let z : ⊥ = cc in z)
-deed_still plan (Complete_request r) S h n = absurd (let z : ⊥ = cc in z)
+deed_still plan (GiveBack r q) S h n = absurd (let z : ⊥ = cc in z)
+deed_still plan (CompleteRequest r) S h n = absurd (let z : ⊥ = cc in z)
 deed_still plan (Acknowledge r) S h n = absurd (let z : ⊥ = cc in z)
-deed_still plan (Send_request r t true) S h n = absurd (let z : ⊥ = cc in z)
-deed_still plan (Send_request r t false) S h n = still_power S.power S.power refl
-deed_still plan (Arrive device info p) S h n = still_power S.power _ (arrived_power S device info p)
-deed_still plan (Ask_deletion o) S h n = still_power S.power _ (asks_all power_of (λ S T D W U. refl) (subtree S.tree o) S)
-deed_still plan (Purge_queue q) S h n = still_power S.power _ (withdrawn_power plan q (waiting_in S.queues q) (record S { control = control.set_mode S.control q mode.Purged }))
-deed_still plan (Close_returning d) S h n = still_power S.power _ (returning_power (managed_queues plan d) S)
-deed_still plan (Close_device d) S h n = still_power S.power _ (closed_power (queues_of plan d) (record S { control = control.shut S.control d }))
-deed_still plan (Advance_power d s) S h n = absurd (let z : ⊥ = cc in z)
-deed_still plan (Ask_stop r) S h n = still_one S.power r (λ y. record y { stop_asked = true }) (λ y t. (t, refl))
-deed_still plan (Resume r) S h n = still_one S.power r (λ y. record y { resume_due = false }) (λ y t. (t, refl))
+deed_still plan (SendRequest r t true) S h n = absurd (let z : ⊥ = cc in z)
+deed_still plan (SendRequest r t false) S h n = still_power S.power S.power refl
+deed_still plan (Arrive device info p) S h n = still_power S.power _ (arrived_power S device.0 info p)
+deed_still plan (AskDeletion o) S h n = still_power S.power _ (asks_all power_of (λ S T D W U. refl) (subtree S.tree o.0) S)
+deed_still plan (PurgeQueue q) S h n = still_power S.power _ (withdrawn_power plan q.0 (waiting_in S.queues q.0) (record S { control = control.set_mode S.control q.0 mode.Purged }))
+deed_still plan (CloseReturning d) S h n = still_power S.power _ (returning_power (managed_queues plan d.0) S)
+deed_still plan (CloseDevice d) S h n = still_power S.power _ (closed_power (queues_of plan d.0) (record S { control = control.shut S.control d.0 }))
+deed_still plan (AdvancePower d s) S h n = absurd (let z : ⊥ = cc in z)
+deed_still plan (AskStop r) S h n = still_one S.power r.0 (λ y. record y { stop_asked = true }) (λ y t. (t, refl))
+deed_still plan (Resume r) S h n = still_one S.power r.0 (λ y. record y { resume_due = false }) (λ y t. (t, refl))
 deed_still plan _ S h n = still_power S.power S.power refl
 
 deeds_still : {A : Type 0} (plan : Plan) (ds : List Deed) (S : State A) → none_holds ds ≡ true → none_moves ds ≡ true → StillOpen S.power (do_deeds plan ds S).power
@@ -141,7 +144,7 @@ deeds_still plan (d ∷ ds) S h n x =
     (deed_still plan d S (not_true (is_holding d) (both_left (not (is_holding d)) (none_holds ds) h)) (not_true (is_moving d) (both_left (not (is_moving d)) (none_moves ds) n)) x)
     (deeds_still plan ds (do_deed plan d S) (both_right (not (is_holding d)) (none_holds ds) h) (both_right (not (is_moving d)) (none_moves ds) n) x)
 
-still_completed : {A : Type 0} (plan : Plan) (S : State A) (r : ℕ) → StillOpen S.power (do_deed plan (Complete_request r) S).power
+still_completed : {A : Type 0} (plan : Plan) (S : State A) (r : ℕ) → StillOpen S.power (do_deed plan (CompleteRequest (object_id r)) S).power
 still_completed plan S r = subst (StillOpen S.power) (sym (completed_power plan S r)) (still_given S r)
 
 -- ---- calls
@@ -154,8 +157,8 @@ module _ {A : Type 0} (plan : Plan) (S : State A) where
   by_if true o p a b = a
   by_if false o p a b = b
 
-  gives_still : (r q : ℕ) (u : Bool) → By (if u then success (Give_back r q ∷ []) else success (Requeue r q ∷ []))
-  gives_still r q u = by_if u (success (Give_back r q ∷ [])) (success (Requeue r q ∷ [])) (still_given S r) (still_given S r)
+  gives_still : (r q : ℕ) (u : Bool) → By (if u then success (GiveBack (object_id r) (object_id q) ∷ []) else success (Requeue (object_id r) (object_id q) ∷ []))
+  gives_still r q u = by_if u (success (GiveBack (object_id r) (object_id q) ∷ [])) (success (Requeue (object_id r) (object_id q) ∷ [])) (still_given S r) (still_given S r)
 
   forwards_still : (r q : ℕ) (a b c : Bool) → By (forward_by r q a b c)
   forwards_still r q true b c = still_power S.power S.power refl
@@ -163,12 +166,12 @@ module _ {A : Type 0} (plan : Plan) (S : State A) where
   forwards_still r q false false true = still_given S r
   forwards_still r q false false false = still_given S r
 
-  sends_still : (r t : ℕ) (u forget : Bool) → By (if u then number 1 (Send_request r t forget ∷ []) else number 0 [])
+  sends_still : (r t : ℕ) (u forget : Bool) → By (if u then number 1 (SendRequest (object_id r) (object_id t) forget ∷ []) else number 0 [])
   sends_still r t true true = still_given S r
   sends_still r t true false = still_power S.power S.power refl
   sends_still r t false forget = still_power S.power S.power refl
 
-  acks_still : (r q : ℕ) (u v : Bool) → By (if u then success (Acknowledge r ∷ []) else if v then success (Give_back r q ∷ []) else success (Requeue r q ∷ []))
+  acks_still : (r q : ℕ) (u v : Bool) → By (if u then success (Acknowledge (object_id r) ∷ []) else if v then success (GiveBack (object_id r) (object_id q) ∷ []) else success (Requeue (object_id r) (object_id q) ∷ []))
   acks_still r q true v = still_one S.power r (λ h. record h { acknowledged = true }) (λ h t. absurd (let z : false ≡ true = both_right (is_held h) false t in let y : ⊥ = cc in y))
   acks_still r q false v = gives_still r q v
 
@@ -254,8 +257,8 @@ module _ {A : Type 0} (plan : Plan) (S : State A) (cpu : Cpu) (c : Callback) (o 
   effect_opens rank.Completion is = before e S.power _ (still_power S.power _ refl)
   effect_opens rank.Cancel is = before e S.power _ (still_power S.power _ refl)
   effect_opens rank.CanceledOnQueue is = takes e S.power r.id.0 o.id.0 (is_managed plan o.id.0) (taking_told (second (is_handler (row_of c).rank) (same_callback c callback.EvtIoCanceledOnQueue) (returns_only c is)))
-  effect_opens rank.Stop is = before e S.power _ (deed_still plan (Ask_stop r.id.0) S refl refl)
-  effect_opens rank.Resume is = before e S.power _ (deed_still plan (Resume r.id.0) S refl refl)
+  effect_opens rank.Stop is = before e S.power _ (deed_still plan (AskStop r.id) S refl refl)
+  effect_opens rank.Resume is = before e S.power _ (deed_still plan (Resume r.id) S refl refl)
   effect_opens rank.Handler is = takes e S.power r.id.0 o.id.0 (is_managed plan o.id.0) (taking_told (first (is_handler (row_of c).rank) (same_callback c callback.EvtIoCanceledOnQueue) (ap is_handler is)))
   effect_opens _ is = before e S.power _ (still_power S.power _ refl)
 
@@ -271,7 +274,7 @@ module _ {A : Type 0} (plan : Plan) (S : State A) where
   effect_still _ cpu c o = still_power S.power _ refl
 
   started : (cpu : Cpu) (c : Callback) (o : Handle) (r : Option Handle) (ds : List Deed)
-      → (do_deeds plan (ds ++ Push_frame cpu.0 (next_number S) (new_frame plan S c o r) (callback_irql plan c o.id.0) ∷ take_if_any (next_number S) (lock_of_callback plan c o.id.0 (declared_in plan S o.id.0))) S).power ≡ (do_deeds plan ds S).power
+      → (do_deeds plan (ds ++ PushFrame cpu (frame_id (next_number S)) (new_frame plan S c o r) (irql_of (callback_irql plan c o.id.0)) ∷ take_if_any (next_number S) (lock_of_callback plan c o.id.0 (declared_in plan S o.id.0))) S).power ≡ (do_deeds plan ds S).power
   started cpu c o r ds =
       start_reads (λ (T : State A). T.power) (λ T L C. refl) plan S ds cpu.0 (next_number S) (new_frame plan S c o r) (callback_irql plan c o.id.0) (lock_of_callback plan c o.id.0 (declared_in plan S o.id.0))
 
@@ -284,7 +287,7 @@ module _ {A : Type 0} (plan : Plan) (S : State A) where
 
   -- ---- ends
 
-  end_power : (l : Option LockRef) (cpu : ℕ) (y : Rank) (c : Callback) (o : ℕ) (v : Value) → (do_deeds plan (release_if_any l ++ Pop_frame cpu ∷ end_of_step plan S y c o v) S).power ≡ S.power
+  end_power : (l : Option LockRef) (cpu : ℕ) (y : Rank) (c : Callback) (o : ℕ) (v : Value) → (do_deeds plan (release_if_any l ++ PopFrame (cpu_of cpu) ∷ end_of_step plan S y c o v) S).power ≡ S.power
   end_power None cpu rank.Sequence c o v = refl
   end_power None cpu _ c o v = refl
   end_power (Some l) cpu rank.Sequence c o v = refl
@@ -313,9 +316,9 @@ module _ {A : Type 0} (plan : Plan) (m : Meaning A) (S : State A) where
   stage_opens : (n : Handle) (s : Stage) (j : Option Handle) → Opens (event.Stage n s j)
   stage_opens n stage.QueuesUp j = rises S.power n j
   stage_opens n stage.QueuesDown j = before _ S.power _ (λ x. still_same (holding_of S.power x) (holding_of (after plan m S (event.Stage n stage.QueuesDown j)).power x)
-      (ap (λ (P : Power). holding_of P x) (returning_power (managed_queues plan n.id.0) (do_deeds plan (Take_step n.id.0 ∷ Advance_power n.id.0 (step.Pass stage.QueuesDown j) ∷ []) S))))
-  stage_opens n stage.Closed j = before _ S.power _ (still_power S.power _ (closed_power (queues_of plan n.id.0) (let T = do_deeds plan (Take_step n.id.0 ∷ []) S in record T { control = control.shut T.control n.id.0 })))
-  stage_opens n stage.Removed j = before _ S.power _ (still_power S.power _ (asks_all power_of (λ S T D W U. refl) (subtree S.tree n.id.0) (do_deeds plan (Take_step n.id.0 ∷ []) S)))
+      (ap (λ (P : Power). holding_of P x) (returning_power (managed_queues plan n.id.0) (do_deeds plan (TakeStep n.id ∷ AdvancePower n.id (step.Pass stage.QueuesDown j) ∷ []) S))))
+  stage_opens n stage.Closed j = before _ S.power _ (still_power S.power _ (closed_power (queues_of plan n.id.0) (let T = do_deeds plan (TakeStep n.id ∷ []) S in record T { control = control.shut T.control n.id.0 })))
+  stage_opens n stage.Removed j = before _ S.power _ (still_power S.power _ (asks_all power_of (λ S T D W U. refl) (subtree S.tree n.id.0) (do_deeds plan (TakeStep n.id ∷ []) S)))
   stage_opens n _ j = before _ S.power _ (λ x. still_same (holding_of S.power x) (holding_of S.power x) refl)
 
   -- an event that moves nothing of devices

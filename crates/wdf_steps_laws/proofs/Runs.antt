@@ -10,7 +10,8 @@ use Rattle.wdf_model.specs.Tables.{entry}
 use Rattle.wdf_model.specs.Plans.{declared_ids, device_of}
 use Rattle.wdf_model.specs.parts.Pnp.{Sequence, no_sequence, opening_sequence}
 use Rattle.wdf_model.specs.State.{State}
-use Rattle.wdf_model.specs.rules.Deeds.{Pass_tick, counted, do_deeds}
+use Rattle.wdf_model.specs.declared.deed.Deed.TheVariants.{PassTick}
+use Rattle.wdf_model.specs.rules.Deeds.{counted, do_deeds}
 use Rattle.wdf_model.specs.rules.Steps.{after, deeds, may}
 use Rattle.wdf_model.specs.rules.Ready.{IsRunOf, ready, state_after}
 use Rattle.wdf_model.specs.laws.FactsOfEvents.{IsTick}
@@ -59,7 +60,7 @@ module _ {A : Type 0} (plan : Plan) (m : Meaning A) (run : List Event) (resolved
   moves_by n e (inr t) =
       let S : State A = at_place n in
       subst (λ x. Moved plan S (after plan m S x) x) (sym t.tick)
-      (counted_too plan m (event.Tick (S.clock + 1)) S (do_deeds plan (Pass_tick ∷ []) S) (event.Tick (S.clock + 1)) (Unmoved (λ d. (refl, refl)) refl refl))
+      (counted_too plan m (event.Tick (S.clock + 1)) S (do_deeds plan (PassTick ∷ []) S) (event.Tick (S.clock + 1)) (Unmoved (λ d. (refl, refl)) refl refl))
 
   -- what an event of the run does to devices
   pub moves_at : (n : ℕ) (e : Event) → slice_get run n ≡ Some e → Moved plan (at_place n) (after plan m (at_place n) e) e

@@ -19,7 +19,9 @@ use Rattle.wdf_model.specs.parts.Requests as requests
 use Rattle.wdf_model.specs.parts.Queues.{waiting_in}
 use Rattle.wdf_model.specs.parts.Control as control
 use Rattle.wdf_model.specs.State.{State}
-use Rattle.wdf_model.specs.rules.Deeds.{Deed, Create, Make_request, Arrive, Ask_deletion, Refer, Unrefer, Write_cell, Note, Clean_up, End_life, Requeue, Forward, Give_back, Send_request, Complete_request, Purge_queue, Close_returning, Close_device, arrive_at, ask_object, do_deed, give_up}
+use Rattle.wdf_model.specs.declared.deed.Deed.{Deed}
+use Rattle.wdf_model.specs.declared.deed.Deed.TheVariants.{Create, MakeRequest, Arrive, AskDeletion, Refer, Unrefer, WriteCell, Note, CleanUp, EndLife, Requeue, Forward, GiveBack, SendRequest, CompleteRequest, PurgeQueue, CloseReturning, CloseDevice}
+use Rattle.wdf_model.specs.rules.Deeds.{arrive_at, ask_object, do_deed, give_up}
 use Rattle.wdf_model.specs.rules.Starts.{clean_ready}
 use Rattle.wdf_model.specs.laws.Fits.{fits}
 use Rattle.wdf_model.proofs.Tests.{both_left, both_right}
@@ -124,23 +126,23 @@ abbrev tree_of : {A : Type 0} → State A → Tree
 tree_of S = S.tree
 
 pub deed_keeps : {A : Type 0} (P : Life → Bool) (F : ℕ → Bool) → Late P → (plan : Plan) (d : Deed) (S : State A) → fits plan d S ≡ true → Past P F S.tree → Past P F (do_deed plan d S).tree
-deed_keeps P F late plan (Create k class parent) S f q = object_made P F S.tree k class parent q
-deed_keeps P F late plan (Make_request class parent) S f q = object_made P F S.tree kind.Made class parent q
-deed_keeps P F late plan (Arrive device info p) S f q = same_tree P F _ _ (arrived S device info p) (object_made P F S.tree kind.Request 0 device q)
-deed_keeps P F late plan (Ask_deletion o) S f q = all_asked P F late (subtree S.tree o) S q
-deed_keeps P F late plan (Refer o) S f q = object_changes P F S.tree o (λ n. record n { references = n.references + 1 }) refl q
-deed_keeps P F late plan (Unrefer o) S f q = object_changes P F S.tree o (λ n. record n { references = n.references - 1 }) refl q
-deed_keeps P F late plan (Write_cell o k v) S f q = object_changes P F S.tree o (λ n. record n { cells = slice_set n.cells k v }) refl q
-deed_keeps P F late plan (Note o c) S f q = object_changes P F S.tree o (noted c) (ap P (noted_kept c (node_of S.tree o))) q
-deed_keeps P F late plan (Clean_up o) S f q = cleaned P F late S.tree o (asked_at S o f) q
-deed_keeps P F late plan (End_life o) S f q = ended P F late S.tree o q
-deed_keeps P F late plan (Requeue r p) S f q = same_tree P F _ _ (gives_up tree_of (λ S Q R P. refl) S r) q
-deed_keeps P F late plan (Forward r p) S f q = same_tree P F _ _ (gives_up tree_of (λ S Q R P. refl) S r) q
-deed_keeps P F late plan (Give_back r p) S f q = same_tree P F _ _ (gives_up tree_of (λ S Q R P. refl) S r) q
-deed_keeps P F late plan (Send_request r t forget) S f q = same_tree P F _ _ (gives_up_if tree_of (λ S Q R P. refl) S forget r) q
-deed_keeps P F late plan (Complete_request r) S f q =
-    all_asked P F late (subtree (give_up S r).tree r) (record (give_up S r) { requests = requests.complete S.requests r }) (same_tree P F _ _ (gives_up tree_of (λ S Q R P. refl) S r) q)
-deed_keeps P F late plan (Purge_queue p) S f q = same_tree P F _ _ (withdraws tree_of (λ S Q R P. refl) plan p (waiting_in S.queues p) (record S { control = control.set_mode S.control p mode.Purged })) q
-deed_keeps P F late plan (Close_returning d) S f q = same_tree P F _ _ (returns_closed tree_of (λ S Q R P. refl) (managed_queues plan d) S) q
-deed_keeps P F late plan (Close_device d) S f q = same_tree P F _ _ (queues_closed tree_of (λ S Q R P. refl) (queues_of plan d) (record S { control = control.shut S.control d })) q
+deed_keeps P F late plan (Create k class parent) S f q = object_made P F S.tree k class parent.0 q
+deed_keeps P F late plan (MakeRequest class parent) S f q = object_made P F S.tree kind.Made class parent.0 q
+deed_keeps P F late plan (Arrive device info p) S f q = same_tree P F _ _ (arrived S device.0 info p) (object_made P F S.tree kind.Request 0 device.0 q)
+deed_keeps P F late plan (AskDeletion o) S f q = all_asked P F late (subtree S.tree o.0) S q
+deed_keeps P F late plan (Refer o) S f q = object_changes P F S.tree o.0 (λ n. record n { references = n.references + 1 }) refl q
+deed_keeps P F late plan (Unrefer o) S f q = object_changes P F S.tree o.0 (λ n. record n { references = n.references - 1 }) refl q
+deed_keeps P F late plan (WriteCell o k v) S f q = object_changes P F S.tree o.0 (λ n. record n { cells = slice_set n.cells k v }) refl q
+deed_keeps P F late plan (Note o c) S f q = object_changes P F S.tree o.0 (noted c) (ap P (noted_kept c (node_of S.tree o.0))) q
+deed_keeps P F late plan (CleanUp o) S f q = cleaned P F late S.tree o.0 (asked_at S o.0 f) q
+deed_keeps P F late plan (EndLife o) S f q = ended P F late S.tree o.0 q
+deed_keeps P F late plan (Requeue r p) S f q = same_tree P F _ _ (gives_up tree_of (λ S Q R P. refl) S r.0) q
+deed_keeps P F late plan (Forward r p) S f q = same_tree P F _ _ (gives_up tree_of (λ S Q R P. refl) S r.0) q
+deed_keeps P F late plan (GiveBack r p) S f q = same_tree P F _ _ (gives_up tree_of (λ S Q R P. refl) S r.0) q
+deed_keeps P F late plan (SendRequest r t forget) S f q = same_tree P F _ _ (gives_up_if tree_of (λ S Q R P. refl) S forget r.0) q
+deed_keeps P F late plan (CompleteRequest r) S f q =
+    all_asked P F late (subtree (give_up S r.0).tree r.0) (record (give_up S r.0) { requests = requests.complete S.requests r.0 }) (same_tree P F _ _ (gives_up tree_of (λ S Q R P. refl) S r.0) q)
+deed_keeps P F late plan (PurgeQueue p) S f q = same_tree P F _ _ (withdraws tree_of (λ S Q R P. refl) plan p.0 (waiting_in S.queues p.0) (record S { control = control.set_mode S.control p.0 mode.Purged })) q
+deed_keeps P F late plan (CloseReturning d) S f q = same_tree P F _ _ (returns_closed tree_of (λ S Q R P. refl) (managed_queues plan d.0) S) q
+deed_keeps P F late plan (CloseDevice d) S f q = same_tree P F _ _ (queues_closed tree_of (λ S Q R P. refl) (queues_of plan d.0) (record S { control = control.shut S.control d.0 })) q
 deed_keeps P F late plan _ S f q = q

@@ -26,7 +26,9 @@ use Rattle.wdf_model.specs.parts.Requests as requests
 use Rattle.wdf_model.specs.parts.Queues.{waiting_in}
 use Rattle.wdf_model.specs.parts.Control as control
 use Rattle.wdf_model.specs.State.{State}
-use Rattle.wdf_model.specs.rules.Deeds.{Deed, Create, Make_request, Arrive, Ask_deletion, Refer, Unrefer, Write_cell, Note, Clean_up, End_life, Requeue, Forward, Give_back, Send_request, Complete_request, Purge_queue, Close_returning, Close_device, arrive_at, ask_object, do_deed, do_deeds, give_up}
+use Rattle.wdf_model.specs.declared.deed.Deed.{Deed}
+use Rattle.wdf_model.specs.declared.deed.Deed.TheVariants.{Create, MakeRequest, Arrive, AskDeletion, Refer, Unrefer, WriteCell, Note, CleanUp, EndLife, Requeue, Forward, GiveBack, SendRequest, CompleteRequest, PurgeQueue, CloseReturning, CloseDevice}
+use Rattle.wdf_model.specs.rules.Deeds.{arrive_at, ask_object, do_deed, do_deeds, give_up}
 use Rattle.wdf_model.specs.rules.Steps.{after, deeds, may}
 use Rattle.wdf_model.specs.rules.Ready.{IsRunOf, ready, state_after}
 use Rattle.wdf_model.proofs.Runs.{along_run}
@@ -114,25 +116,25 @@ abbrev tree_of : {A : Type 0} → State A → Tree
 tree_of S = S.tree
 
 deed_same : {A : Type 0} (plan : Plan) (d : Deed) (S : State A) → is_counting d ≡ false → SameRefs S.tree (do_deed plan d S).tree
-deed_same plan (Create k class parent) S f x = made S.tree k class parent x
-deed_same plan (Make_request class parent) S f x = made S.tree kind.Made class parent x
-deed_same plan (Arrive device info p) S f x = same_tree _ _ (arrived S device info p) x ∙ made S.tree kind.Request 0 device x
-deed_same plan (Ask_deletion o) S f x = all_asked (subtree S.tree o) S x
+deed_same plan (Create k class parent) S f x = made S.tree k class parent.0 x
+deed_same plan (MakeRequest class parent) S f x = made S.tree kind.Made class parent.0 x
+deed_same plan (Arrive device info p) S f x = same_tree _ _ (arrived S device.0 info p) x ∙ made S.tree kind.Request 0 device.0 x
+deed_same plan (AskDeletion o) S f x = all_asked (subtree S.tree o.0) S x
 deed_same plan (Refer o) S f x = absurd (let z : ⊥ = cc in z)
 deed_same plan (Unrefer o) S f x = absurd (let z : ⊥ = cc in z)
-deed_same plan (Write_cell o k v) S f x = changes S.tree o (λ n. record n { cells = slice_set n.cells k v }) refl x
-deed_same plan (Note o c) S f x = changes S.tree o (noted c) (noted_kept c (node_of S.tree o)) x
-deed_same plan (Clean_up o) S f x = changes S.tree o (with_life life.Cleaned) refl x
-deed_same plan (End_life o) S f x = absurd (let z : ⊥ = cc in z)
-deed_same plan (Requeue r p) S f x = same_tree _ _ (gives_up tree_of (λ S Q R P. refl) S r) x
-deed_same plan (Forward r p) S f x = same_tree _ _ (gives_up tree_of (λ S Q R P. refl) S r) x
-deed_same plan (Give_back r p) S f x = same_tree _ _ (gives_up tree_of (λ S Q R P. refl) S r) x
-deed_same plan (Send_request r t forget) S f x = same_tree _ _ (gives_up_if tree_of (λ S Q R P. refl) S forget r) x
-deed_same plan (Complete_request r) S f x =
-    all_asked (subtree (give_up S r).tree r) (record (give_up S r) { requests = requests.complete S.requests r }) x ∙ same_tree _ _ (gives_up tree_of (λ S Q R P. refl) S r) x
-deed_same plan (Purge_queue p) S f x = same_tree _ _ (withdraws tree_of (λ S Q R P. refl) plan p (waiting_in S.queues p) (record S { control = control.set_mode S.control p mode.Purged })) x
-deed_same plan (Close_returning d) S f x = same_tree _ _ (returns_closed tree_of (λ S Q R P. refl) (managed_queues plan d) S) x
-deed_same plan (Close_device d) S f x = same_tree _ _ (queues_closed tree_of (λ S Q R P. refl) (queues_of plan d) (record S { control = control.shut S.control d })) x
+deed_same plan (WriteCell o k v) S f x = changes S.tree o.0 (λ n. record n { cells = slice_set n.cells k v }) refl x
+deed_same plan (Note o c) S f x = changes S.tree o.0 (noted c) (noted_kept c (node_of S.tree o.0)) x
+deed_same plan (CleanUp o) S f x = changes S.tree o.0 (with_life life.Cleaned) refl x
+deed_same plan (EndLife o) S f x = absurd (let z : ⊥ = cc in z)
+deed_same plan (Requeue r p) S f x = same_tree _ _ (gives_up tree_of (λ S Q R P. refl) S r.0) x
+deed_same plan (Forward r p) S f x = same_tree _ _ (gives_up tree_of (λ S Q R P. refl) S r.0) x
+deed_same plan (GiveBack r p) S f x = same_tree _ _ (gives_up tree_of (λ S Q R P. refl) S r.0) x
+deed_same plan (SendRequest r t forget) S f x = same_tree _ _ (gives_up_if tree_of (λ S Q R P. refl) S forget r.0) x
+deed_same plan (CompleteRequest r) S f x =
+    all_asked (subtree (give_up S r.0).tree r.0) (record (give_up S r.0) { requests = requests.complete S.requests r.0 }) x ∙ same_tree _ _ (gives_up tree_of (λ S Q R P. refl) S r.0) x
+deed_same plan (PurgeQueue p) S f x = same_tree _ _ (withdraws tree_of (λ S Q R P. refl) plan p.0 (waiting_in S.queues p.0) (record S { control = control.set_mode S.control p.0 mode.Purged })) x
+deed_same plan (CloseReturning d) S f x = same_tree _ _ (returns_closed tree_of (λ S Q R P. refl) (managed_queues plan d.0) S) x
+deed_same plan (CloseDevice d) S f x = same_tree _ _ (queues_closed tree_of (λ S Q R P. refl) (queues_of plan d.0) (record S { control = control.shut S.control d.0 })) x
 deed_same plan _ S f x = refl
 
 deeds_same : {A : Type 0} (plan : Plan) (ds : List Deed) (S : State A) → none_counts ds ≡ true → SameRefs S.tree (do_deeds plan ds S).tree

@@ -31,6 +31,7 @@ use Rattle.wdf_base.specs.Callbacks.{row_of}
 use Rattle.wdf_base.specs.Same.{same_call_kind}
 use Rattle.wdf_base.specs.declared.call.Callback.TheVariants as callback
 use Rattle.wdf_model.specs.Tables.{flag}
+use Rattle.wdf_model.specs.Ids.{cpu_of, frame_id, irql_of, object_id}
 use Rattle.wdf_model.specs.rules.Script.{intent_of}
 use Rattle.wdf_model.specs.parts.Tree.{is_full, is_live, life_of}
 use Rattle.wdf_model.specs.parts.Control.{accepts, is_purged, mode_of}
@@ -43,7 +44,8 @@ use Rattle.wdf_model.specs.parts.Locks.{lock_of_callback}
 use Rattle.wdf_model.specs.parts.Queues.{front}
 use Rattle.wdf_model.specs.parts.Requests.{arrival_of, is_cancelled, mark_answer, place_of}
 use Rattle.wdf_model.specs.State.{State, declared_in, object_in, queue_delivers}
-use Rattle.wdf_model.specs.rules.Deeds.{Acknowledge, Arrive, Complete_request, Park_frame, Release_lock, Unpark_frame, Count_arrival, Deed, Enqueue_dpc, Enqueue_work, Forward, Give_back, Go_on, Mark_request, Pop_frame, Push_frame, Register_queue, Requeue, Send_request, Start_timer}
+use Rattle.wdf_model.specs.declared.deed.Deed.{Deed}
+use Rattle.wdf_model.specs.declared.deed.Deed.TheVariants.{Acknowledge, Arrive, CompleteRequest, ParkFrame, ReleaseLock, UnparkFrame, CountArrival, EnqueueDpc, EnqueueWork, Forward, GiveBack, GoOn, MarkRequest, PopFrame, PushFrame, RegisterQueue, Requeue, SendRequest, StartTimer}
 use Rattle.wdf_model.specs.rules.Faults.{arg_is, is_release}
 use Rattle.wdf_model.specs.rules.Calls.{Outcome, acknowledge_outcome, class_in, create_outcome, creation, forward_outcome, forwards_nowhere, mark_outcome, may_send, new_handle, number, number_in, origin_or_none, outcome, requeue_outcome, retrieve_front, retrieve_outcome, refused, second_deeds, send_outcome, success}
 use Rattle.wdf_model.specs.rules.Starts.{effect, effect_for, end_of_step, new_frame, next_number, release_if_any, stage_effect, start_effect, take_if_any}
@@ -83,12 +85,12 @@ is_unpark_event _ = false
 
 -- the deeds that only some events have
 abbrev pub is_within : Event → Deed → Bool
-is_within e (Complete_request r) = completing e
-is_within e (Release_lock l) = releasing e
-is_within e (Push_frame cpu f frame level) = is_start_event e
-is_within e (Pop_frame cpu) = is_end_event e
-is_within e (Park_frame cpu) = is_park_event e
-is_within e (Unpark_frame cpu f) = is_unpark_event e
+is_within e (CompleteRequest r) = completing e
+is_within e (ReleaseLock l) = releasing e
+is_within e (PushFrame cpu f frame level) = is_start_event e
+is_within e (PopFrame cpu) = is_end_event e
+is_within e (ParkFrame cpu) = is_park_event e
+is_within e (UnparkFrame cpu f) = is_unpark_event e
 is_within e _ = true
 
 module _ (e : Event) where
@@ -115,24 +117,24 @@ module _ (e : Event) where
       (creation_within (kind_of_class plan class) class parent))
 
   requeue_within : {A : Type 0} (S : State A) (r q : ℕ) → all_within (requeue_outcome S r q).deeds ≡ true
-  requeue_within S r q = either_within (is_cancelled S.requests r || is_purged (mode_of S.control q)) (success (Give_back r q ∷ [])) (success (Requeue r q ∷ [])) refl refl
+  requeue_within S r q = either_within (is_cancelled S.requests r || is_purged (mode_of S.control q)) (success (GiveBack (object_id r) (object_id q) ∷ [])) (success (Requeue (object_id r) (object_id q) ∷ [])) refl refl
 
   mark_within : {A : Type 0} (plan : Plan) (S : State A) (r : ℕ) → all_within (mark_outcome plan S r).deeds ≡ true
   mark_within plan S r =
-      either_within (declares plan callback.EvtRequestCancel (origin_or_none S r)) (record { answer = Stat (mark_answer S.requests r); deeds = Mark_request r ∷ [] }) (refused status.InvalidDeviceRequest) refl refl
+      either_within (declares plan callback.EvtRequestCancel (origin_or_none S r)) (record { answer = Stat (mark_answer S.requests r); deeds = MarkRequest (object_id r) ∷ [] }) (refused status.InvalidDeviceRequest) refl refl
 
   forward_within : {A : Type 0} (plan : Plan) (S : State A) (r q : ℕ) → all_within (forward_outcome plan S r q).deeds ≡ true
   forward_within plan S r q =
       either_within (forwards_nowhere plan S r q) (refused status.InvalidDeviceRequest)
-      (if not (accepts S.control q) then refused status.WdfBusy else if is_cancelled S.requests r then success (Give_back r q ∷ []) else success (Forward r q ∷ [])) refl
-      (either_within (not (accepts S.control q)) (refused status.WdfBusy) (if is_cancelled S.requests r then success (Give_back r q ∷ []) else success (Forward r q ∷ [])) refl
-      (either_within (is_cancelled S.requests r) (success (Give_back r q ∷ [])) (success (Forward r q ∷ [])) refl refl))
+      (if not (accepts S.control q) then refused status.WdfBusy else if is_cancelled S.requests r then success (GiveBack (object_id r) (object_id q) ∷ []) else success (Forward (object_id r) (object_id q) ∷ [])) refl
+      (either_within (not (accepts S.control q)) (refused status.WdfBusy) (if is_cancelled S.requests r then success (GiveBack (object_id r) (object_id q) ∷ []) else success (Forward (object_id r) (object_id q) ∷ [])) refl
+      (either_within (is_cancelled S.requests r) (success (GiveBack (object_id r) (object_id q) ∷ [])) (success (Forward (object_id r) (object_id q) ∷ [])) refl refl))
 
   acknowledge_within : {A : Type 0} (S : State A) (r : ℕ) (b : Arg) → all_within (acknowledge_outcome S r b).deeds ≡ true
-  acknowledge_within S r b = either_within (arg_is b 0) (success (Acknowledge r ∷ [])) (requeue_outcome S r (origin_or_none S r)) refl (requeue_within S r (origin_or_none S r))
+  acknowledge_within S r b = either_within (arg_is b 0) (success (Acknowledge (object_id r) ∷ [])) (requeue_outcome S r (origin_or_none S r)) refl (requeue_within S r (origin_or_none S r))
 
   send_within : {A : Type 0} (S : State A) (r t : ℕ) (forget : Bool) → all_within (send_outcome S r t forget).deeds ≡ true
-  send_within S r t forget = either_within (may_send S r t) (number 1 (Send_request r t forget ∷ [])) (number 0 []) refl refl
+  send_within S r t forget = either_within (may_send S r t) (number 1 (SendRequest (object_id r) (object_id t) forget ∷ [])) (number 0 []) refl refl
 
   front_within : {A : Type 0} (plan : Plan) (S : State A) (q : ℕ) (there : Option ℕ) → all_within (retrieve_front plan S q there).deeds ≡ true
   front_within plan S q None = refl
@@ -158,14 +160,14 @@ module _ (e : Event) where
   outcome_within plan S cpu f call.WdfRequestSend n a b x c r = send_within S (object_in a) (object_in b) (arg_is x 1)
   outcome_within plan S cpu f call.WdfIoQueueRetrieveNextRequest n a b x c r = retrieve_within plan S (object_in a)
   outcome_within plan S cpu f call.WdfIoQueueReadyNotify n a b x c r =
-      either_within (is_manual_queue plan (object_in a) && declares plan callback.EvtIoQueueState (object_in a)) (success (Register_queue (object_in a) (not (arg_is b 0)) ∷ [])) (refused status.InvalidDeviceRequest) refl refl
+      either_within (is_manual_queue plan (object_in a) && declares plan callback.EvtIoQueueState (object_in a)) (success (RegisterQueue (object_id (object_in a)) (not (arg_is b 0)) ∷ [])) (refused status.InvalidDeviceRequest) refl refl
   outcome_within plan S cpu f call.WdfInterruptQueueDpcForIsr n a b x c r =
-      either_within (is_enabled S.interrupts (object_in a) && declares plan callback.EvtInterruptDpc (object_in a) && not (is_dpc_queued S.dpcs (object_in a))) (number 1 (Enqueue_dpc cpu (object_in a) ∷ [])) (number 0 []) refl refl
+      either_within (is_enabled S.interrupts (object_in a) && declares plan callback.EvtInterruptDpc (object_in a) && not (is_dpc_queued S.dpcs (object_in a))) (number 1 (EnqueueDpc (cpu_of cpu) (object_id (object_in a)) ∷ [])) (number 0 []) refl refl
   outcome_within plan S cpu f call.WdfDpcEnqueue n a b x c r =
-      either_within (is_live (life_of S.tree (object_in a)) && not (is_dpc_queued S.dpcs (object_in a))) (number 1 (Enqueue_dpc cpu (object_in a) ∷ [])) (number 0 []) refl refl
+      either_within (is_live (life_of S.tree (object_in a)) && not (is_dpc_queued S.dpcs (object_in a))) (number 1 (EnqueueDpc (cpu_of cpu) (object_id (object_in a)) ∷ [])) (number 0 []) refl refl
   outcome_within plan S cpu f call.WdfTimerStart n a b x c r =
-      either_within (is_live (life_of S.tree (object_in a))) (number (flag (is_timer_queued S.timers (object_in a))) (Start_timer (object_in a) (number_in b) ∷ [])) (number 0 []) refl refl
-  outcome_within plan S cpu f call.WdfWorkItemEnqueue n a b x c r = either_within (is_live (life_of S.tree (object_in a))) (success (Enqueue_work (object_in a) ∷ [])) (success []) refl refl
+      either_within (is_live (life_of S.tree (object_in a))) (number (flag (is_timer_queued S.timers (object_in a))) (StartTimer (object_id (object_in a)) (number_in b) ∷ [])) (number 0 []) refl refl
+  outcome_within plan S cpu f call.WdfWorkItemEnqueue n a b x c r = either_within (is_live (life_of S.tree (object_in a))) (success (EnqueueWork (object_id (object_in a)) ∷ [])) (success []) refl refl
   outcome_within plan S cpu f call.WdfRequestComplete n a b x c r = alone (completing e) c
   outcome_within plan S cpu f call.WdfSpinLockRelease n a b x c r = alone (releasing e) r
   outcome_within plan S cpu f call.WdfWaitLockRelease n a b x c r = alone (releasing e) r
@@ -230,7 +232,7 @@ module _ (e : Event) where
   cancel_of_within S (Some r) = cancel_within (place_of S.requests r) r
 
   arrival_within : {A : Type 0} (plan : Plan) (S : State A) (agent : ℕ) (f : RequestForm) (length code device : ℕ) (b : Bool)
-      → all_within (Count_arrival agent ∷ (if b then Arrive device (arrival_info S agent f length code device) (arrival_place plan S f length device) ∷ [] else [])) ≡ true
+      → all_within (CountArrival agent ∷ (if b then Arrive (object_id device) (arrival_info S agent f length code device) (arrival_place plan S f length device) ∷ [] else [])) ≡ true
   arrival_within plan S agent f length code device true = refl
   arrival_within plan S agent f length code device false = refl
 
@@ -252,23 +254,23 @@ by_top_within e S ds h (Some f) = h f (frame_of S.cpus f)
 
 pub event_within : {A : Type 0} (plan : Plan) (S : State A) (e : Event) → all_within e (deeds plan S e) ≡ true
 event_within plan S (event.Start k c o r) =
-    within_behind (event.Start k c o r) (start_effect plan S k.0 c o.id.0 r) (Push_frame k.0 (next_number S) (new_frame plan S c o r) (callback_irql plan c o.id.0) ∷ take_if_any (next_number S) (lock_of_callback plan c o.id.0 (declared_in plan S o.id.0)))
+    within_behind (event.Start k c o r) (start_effect plan S k.0 c o.id.0 r) (PushFrame k (frame_id (next_number S)) (new_frame plan S c o r) (irql_of (callback_irql plan c o.id.0)) ∷ take_if_any (next_number S) (lock_of_callback plan c o.id.0 (declared_in plan S o.id.0)))
     (start_effect_within (event.Start k c o r) plan S k.0 c o.id.0 r) (taking_within (event.Start k c o r) (next_number S) (lock_of_callback plan c o.id.0 (declared_in plan S o.id.0)))
-event_within plan S (event.Local k line) = by_top_within (event.Local k line) S (λ f frame. Go_on f (stepped frame (intent_of plan frame)) ∷ []) (λ f frame. refl) (top S.cpus k.0)
-event_within plan S (event.Log k v) = by_top_within (event.Log k v) S (λ f frame. Go_on f (goes_on plan frame) ∷ []) (λ f frame. refl) (top S.cpus k.0)
-event_within plan S (event.Spend k n) = by_top_within (event.Spend k n) S (λ f frame. Go_on f (spending plan S frame n) ∷ []) (λ f frame. refl) (top S.cpus k.0)
-event_within plan S (event.Register k a r v) = by_top_within (event.Register k a r v) S (λ f frame. Go_on f (answered plan frame (Num v)) ∷ []) (λ f frame. refl) (top S.cpus k.0)
+event_within plan S (event.Local k line) = by_top_within (event.Local k line) S (λ f frame. GoOn (frame_id f) (stepped frame (intent_of plan frame)) ∷ []) (λ f frame. refl) (top S.cpus k.0)
+event_within plan S (event.Log k v) = by_top_within (event.Log k v) S (λ f frame. GoOn (frame_id f) (goes_on plan frame) ∷ []) (λ f frame. refl) (top S.cpus k.0)
+event_within plan S (event.Spend k n) = by_top_within (event.Spend k n) S (λ f frame. GoOn (frame_id f) (spending plan S frame n) ∷ []) (λ f frame. refl) (top S.cpus k.0)
+event_within plan S (event.Register k a r v) = by_top_within (event.Register k a r v) S (λ f frame. GoOn (frame_id f) (answered plan frame (Num v)) ∷ []) (λ f frame. refl) (top S.cpus k.0)
 event_within plan S (event.Did k c v) =
-    by_top_within (event.Did k c v) S (did_deeds plan S k.0 c v) (λ f frame. within_behind (event.Did k c v) ((outcome plan S k.0 f c).deeds ++ second_deeds f c) (Go_on f (answered plan frame v) ∷ [])
+    by_top_within (event.Did k c v) S (did_deeds plan S k.0 c v) (λ f frame. within_behind (event.Did k c v) ((outcome plan S k.0 f c).deeds ++ second_deeds f c) (GoOn (frame_id f) (answered plan frame v) ∷ [])
     (within_behind (event.Did k c v) (outcome plan S k.0 f c).deeds (second_deeds f c) (outcome_within (event.Did k c v) plan S k.0 f c.kind c.count c.a c.b c.c refl refl) (second_within (event.Did k c v) f c.kind c.count c.a c.b c.c)) refl) (top S.cpus k.0)
 event_within plan S (event.Waiting k c) =
-    by_top_within (event.Waiting k c) S (waiting_deeds plan S k.0 c) (λ f frame. within_behind (event.Waiting k c) (outcome plan S k.0 f c).deeds (Go_on f (waiting frame c (outcome plan S k.0 f c).answer) ∷ []) (outcome_within (event.Waiting k c) plan S k.0 f c.kind c.count c.a c.b c.c refl refl) refl) (top S.cpus k.0)
+    by_top_within (event.Waiting k c) S (waiting_deeds plan S k.0 c) (λ f frame. within_behind (event.Waiting k c) (outcome plan S k.0 f c).deeds (GoOn (frame_id f) (waiting frame c (outcome plan S k.0 f c).answer) ∷ []) (outcome_within (event.Waiting k c) plan S k.0 f c.kind c.count c.a c.b c.c refl refl) refl) (top S.cpus k.0)
 event_within plan S (event.Woke k c v) =
-    by_top_within (event.Woke k c v) S (woke_deeds plan c v) (λ f frame. within_behind (event.Woke k c v) (second_deeds f c) (Go_on f (answered plan frame v) ∷ []) (second_within (event.Woke k c v) f c.kind c.count c.a c.b c.c) refl) (top S.cpus k.0)
+    by_top_within (event.Woke k c v) S (woke_deeds plan c v) (λ f frame. within_behind (event.Woke k c v) (second_deeds f c) (GoOn (frame_id f) (answered plan frame v) ∷ []) (second_within (event.Woke k c v) f c.kind c.count c.a c.b c.c) refl) (top S.cpus k.0)
 event_within plan S (event.Park k f) = refl
 event_within plan S (event.Unpark k f) = refl
 event_within plan S (event.End k c o v) =
-    within_behind (event.End k c o v) (release_if_any (lock_of_callback plan c o.id.0 (declared_in plan S o.id.0))) (Pop_frame k.0 ∷ end_of_step plan S (row_of c).rank c o.id.0 v)
+    within_behind (event.End k c o v) (release_if_any (lock_of_callback plan c o.id.0 (declared_in plan S o.id.0))) (PopFrame k ∷ end_of_step plan S (row_of c).rank c o.id.0 v)
     (releasing_within (event.End k c o v) refl (lock_of_callback plan c o.id.0 (declared_in plan S o.id.0))) (step_within (event.End k c o v) plan S (row_of c).rank c o.id.0 v)
 event_within plan S (event.Fault k x line) = refl
 event_within plan S (event.Stage d s i) = stage_within (event.Stage d s i) plan d.id.0 s i

@@ -1,5 +1,6 @@
 //! Causes that several lines have.
 ghost use Rattle.std.specs.Prelude.{◌≡◌, Some, option_map};
+ghost use Rattle.wdf_model.specs.Ids.{frame_id};
 ghost use Rattle.wdf_model.specs.parts.Locks.{object_lock};
 ghost use Rattle.wdf_base.specs.declared.wait.Cause.TheVariants as cause;
 ghost use Rattle.wdf_model.specs.Tables.{least};
@@ -14,7 +15,7 @@ use wdf_plans::IndexedPlan;
 
 /// A frame keeps it, if there is one.
 pub(crate) fn by_frame(frame: Option<u32>) -> Option<Cause>
-    ensures { result ≡ option_map (λ f. cause.ByFrame (waits.number_of f)) frame }
+    ensures { result ≡ option_map (λ f. cause.ByFrame (frame_id f)) frame }
 {
     match frame {
         Some(f) => Some(Cause::ByFrame { frame: FrameId(f) }),

@@ -32,7 +32,9 @@ use Rattle.wdf_model.specs.parts.Deferred.WorkItems.{is_work_queued}
 use Rattle.wdf_model.specs.parts.Deferred.Timers.{is_timer_queued}
 use Rattle.wdf_model.specs.parts.Targets.{takes_more, is_undone}
 use Rattle.wdf_model.specs.State.{State, object_in, queue_delivers, nothing_at, handle_in, returns_to}
-use Rattle.wdf_model.specs.rules.Deeds.{Deed, Create, Make_request, Ask_deletion, Refer, Unrefer, Write_cell, Raise, Lower, Take_lock, Release_lock, Present, Requeue, Forward, Give_back, Mark_request, Unmark_request, Send_request, Complete_request, Set_mode, Purge_queue, Register_queue, Acknowledge, Enqueue_dpc, Cancel_dpc, Enqueue_work, Start_timer, Stop_timer, Stop_target, Start_target}
+use Rattle.wdf_model.specs.Ids.{cpu_of, frame_id, irql_of, object_id}
+use Rattle.wdf_model.specs.declared.deed.Deed.{Deed}
+use Rattle.wdf_model.specs.declared.deed.Deed.TheVariants.{Create, MakeRequest, AskDeletion, Refer, Unrefer, WriteCell, Raise, Lower, TakeLock, ReleaseLock, Present, Requeue, Forward, GiveBack, MarkRequest, UnmarkRequest, SendRequest, CompleteRequest, SetMode, PurgeQueue, RegisterQueue, Acknowledge, EnqueueDpc, CancelDpc, EnqueueWork, StartTimer, StopTimer, StopTarget, StartTarget}
 use Rattle.wdf_model.specs.rules.Faults.{arg_is}
 
 -- what a call answers, and what it does
@@ -76,8 +78,8 @@ new_handle plan S class = record { id = record { 0 = next_id S.tree }; name = na
 
 -- a request is more than an object
 abbrev pub creation : Kind → ℕ → ℕ → Deed
-creation kind.Made class parent = Make_request class parent
-creation k class parent = Create k class parent
+creation kind.Made class parent = MakeRequest class (object_id parent)
+creation k class parent = Create k class (object_id parent)
 
 -- a live parent, and room among the counted objects
 abbrev pub create_outcome : {A : Type 0} → Plan → State A → ℕ → ℕ → Outcome
@@ -94,13 +96,13 @@ origin_or_none S r = unwrap_or (origin_of S.requests r) 0
 -- own: marking a request of a queue without EvtRequestCancel is refused
 abbrev pub mark_outcome : {A : Type 0} → Plan → State A → ℕ → Outcome
 mark_outcome plan S r =
-    if declares plan callback.EvtRequestCancel (origin_or_none S r) then record { answer = Stat (mark_answer S.requests r); deeds = Mark_request r ∷ [] }
+    if declares plan callback.EvtRequestCancel (origin_or_none S r) then record { answer = Stat (mark_answer S.requests r); deeds = MarkRequest (object_id r) ∷ [] }
     else refused status.InvalidDeviceRequest
 
 -- to the head of the queue that it came from; one that is cancelled, or whose queue is Purged, is cancelled in it at once
 abbrev pub requeue_outcome : {A : Type 0} → State A → ℕ → ℕ → Outcome
 requeue_outcome S r q =
-    if is_cancelled S.requests r || is_purged (mode_of S.control q) then success (Give_back r q ∷ []) else success (Requeue r q ∷ [])
+    if is_cancelled S.requests r || is_purged (mode_of S.control q) then success (GiveBack (object_id r) (object_id q) ∷ []) else success (Requeue (object_id r) (object_id q) ∷ [])
 
 -- own: a queue that a request can't be forwarded to
 abbrev pub forwards_nowhere : {A : Type 0} → Plan → State A → ℕ → ℕ → Bool
@@ -112,24 +114,24 @@ abbrev pub forward_outcome : {A : Type 0} → Plan → State A → ℕ → ℕ �
 forward_outcome plan S r q =
     if forwards_nowhere plan S r q then refused status.InvalidDeviceRequest
     else if not (accepts S.control q) then refused status.WdfBusy
-    else if is_cancelled S.requests r then success (Give_back r q ∷ [])
-    else success (Forward r q ∷ [])
+    else if is_cancelled S.requests r then success (GiveBack (object_id r) (object_id q) ∷ [])
+    else success (Forward (object_id r) (object_id q) ∷ [])
 
 abbrev pub acknowledge_outcome : {A : Type 0} → State A → ℕ → Arg → Outcome
-acknowledge_outcome S r f = if arg_is f 0 then success (Acknowledge r ∷ []) else requeue_outcome S r (origin_or_none S r)
+acknowledge_outcome S r f = if arg_is f 0 then success (Acknowledge (object_id r) ∷ []) else requeue_outcome S r (origin_or_none S r)
 
 -- own: what a send asks for
 abbrev pub may_send : {A : Type 0} → State A → ℕ → ℕ → Bool
 may_send S r t = is_live (life_of S.tree t) && takes_more S.targets t && not (is_cancelled S.requests r)
 
 abbrev pub send_outcome : {A : Type 0} → State A → ℕ → ℕ → Bool → Outcome
-send_outcome S r t forget = if may_send S r t then number 1 (Send_request r t forget ∷ []) else number 0 []
+send_outcome S r t forget = if may_send S r t then number 1 (SendRequest (object_id r) (object_id t) forget ∷ []) else number 0 []
 
 -- ---- queues
 
 abbrev pub retrieve_front : {A : Type 0} → Plan → State A → ℕ → Option ℕ → Outcome
 retrieve_front plan S q None = refused status.NoMoreEntries
-retrieve_front plan S q (Some r) = record { answer = Obj (handle_in plan S r); deeds = Present q r ∷ [] }
+retrieve_front plan S q (Some r) = record { answer = Obj (handle_in plan S r); deeds = Present (object_id q) (object_id r) ∷ [] }
 
 abbrev pub retrieve_outcome : {A : Type 0} → Plan → State A → ℕ → Outcome
 retrieve_outcome plan S q =
@@ -139,26 +141,26 @@ retrieve_outcome plan S q =
 
 abbrev pub notify_outcome : Plan → ℕ → Arg → Outcome
 notify_outcome plan q f =
-    if is_manual_queue plan q && declares plan callback.EvtIoQueueState q then success (Register_queue q (not (arg_is f 0)) ∷ [])
+    if is_manual_queue plan q && declares plan callback.EvtIoQueueState q then success (RegisterQueue (object_id q) (not (arg_is f 0)) ∷ [])
     else refused status.InvalidDeviceRequest
 
 -- ---- deferred work; what isn't live is never queued
 
 abbrev pub isr_dpc_outcome : {A : Type 0} → Plan → State A → ℕ → ℕ → Outcome
 isr_dpc_outcome plan S cpu i =
-    if is_enabled S.interrupts i && declares plan callback.EvtInterruptDpc i && not (is_dpc_queued S.dpcs i) then number 1 (Enqueue_dpc cpu i ∷ [])
+    if is_enabled S.interrupts i && declares plan callback.EvtInterruptDpc i && not (is_dpc_queued S.dpcs i) then number 1 (EnqueueDpc (cpu_of cpu) (object_id i) ∷ [])
     else number 0 []
 
 abbrev pub dpc_outcome : {A : Type 0} → State A → ℕ → ℕ → Outcome
 dpc_outcome S cpu o =
-    if is_live (life_of S.tree o) && not (is_dpc_queued S.dpcs o) then number 1 (Enqueue_dpc cpu o ∷ []) else number 0 []
+    if is_live (life_of S.tree o) && not (is_dpc_queued S.dpcs o) then number 1 (EnqueueDpc (cpu_of cpu) (object_id o) ∷ []) else number 0 []
 
 abbrev pub timer_outcome : {A : Type 0} → State A → ℕ → ℕ → Outcome
 timer_outcome S o n =
-    if is_live (life_of S.tree o) then number (flag (is_timer_queued S.timers o)) (Start_timer o n ∷ []) else number 0 []
+    if is_live (life_of S.tree o) then number (flag (is_timer_queued S.timers o)) (StartTimer (object_id o) n ∷ []) else number 0 []
 
 abbrev pub work_outcome : {A : Type 0} → State A → ℕ → Outcome
-work_outcome S o = if is_live (life_of S.tree o) then success (Enqueue_work o ∷ []) else success []
+work_outcome S o = if is_live (life_of S.tree o) then success (EnqueueWork (object_id o) ∷ []) else success []
 
 -- ---- locks
 
@@ -173,10 +175,10 @@ lock_level plan S o = level_of_kind plan o (kind_of S.tree o)
 
 -- a frame has the level of a lock while it holds it, and while it spins for it
 abbrev pub acquire_outcome : ℕ → ℕ → Outcome
-acquire_outcome f level = success (Raise f level ∷ [])
+acquire_outcome f level = success (Raise (frame_id f) (irql_of level) ∷ [])
 
 abbrev pub release_outcome : ℕ → ℕ → ℕ → Outcome
-release_outcome f o level = success (Release_lock (object_lock o) ∷ Lower f level ∷ [])
+release_outcome f o level = success (ReleaseLock (object_lock o) ∷ Lower (frame_id f) (irql_of level) ∷ [])
 
 -- ---- the table: what a call of frame f on a processor answers and does; of a call that waits, its first part
 
@@ -197,15 +199,15 @@ outcome plan S cpu f c = elim c.kind as (λ _. Outcome) [
   -- KMDF: the same, under the parent that the class names
   | call.WdfWorkItemCreate ↦ create_outcome plan S (class_in c.a) (parent_of_class plan (class_in c.a))
   -- KMDF, own in that it only asks: the deletion is asked; nothing if it was asked already
-  | call.WdfObjectDelete ↦ success (Ask_deletion (object_in c.a) ∷ [])
+  | call.WdfObjectDelete ↦ success (AskDeletion (object_id (object_in c.a)) ∷ [])
   -- KMDF: one reference more
-  | call.WdfObjectReference ↦ success (Refer (object_in c.a) ∷ [])
+  | call.WdfObjectReference ↦ success (Refer (object_id (object_in c.a)) ∷ [])
   -- KMDF: one reference less
-  | call.WdfObjectDereference ↦ success (Unrefer (object_in c.a) ∷ [])
+  | call.WdfObjectDereference ↦ success (Unrefer (object_id (object_in c.a)) ∷ [])
   -- own: the value of a context cell
   | call.GetContext ↦ record { answer = cell_of S.tree (object_in c.a) (number_in c.b); deeds = [] }
   -- own: a context cell takes a value
-  | call.SetContext ↦ success (Write_cell (object_in c.a) (number_in c.b) (value_in c.c) ∷ [])
+  | call.SetContext ↦ success (WriteCell (object_id (object_in c.a)) (number_in c.b) (value_in c.c) ∷ [])
   -- KMDF: waits on its processor at DISPATCH_LEVEL until the lock is free
   | call.WdfSpinLockAcquire ↦ acquire_outcome f (lock_level plan S (object_in c.a))
   -- KMDF: the lock is free
@@ -219,11 +221,11 @@ outcome plan S cpu f c = elim c.kind as (λ _. Outcome) [
   -- KMDF: the lock is free
   | call.WdfInterruptReleaseLock ↦ release_outcome f (object_in c.a) (lock_level plan S (object_in c.a))
   -- KMDF: the request is done; it and what is below it are deleted
-  | call.WdfRequestComplete ↦ success (Complete_request (object_in c.a) ∷ [])
+  | call.WdfRequestComplete ↦ success (CompleteRequest (object_id (object_in c.a)) ∷ [])
   -- KMDF: cancelable, or CANCELLED where it is cancelled; own: INVALID_DEVICE_REQUEST without an EvtRequestCancel
   | call.WdfRequestMarkCancelableEx ↦ mark_outcome plan S (object_in c.a)
   -- KMDF: no longer cancelable; CANCELLED where its cancel is due or taken; INVALID_DEVICE_REQUEST where it wasn't marked
-  | call.WdfRequestUnmarkCancelable ↦ record { answer = Stat (unmark_answer S.requests (object_in c.a)); deeds = Unmark_request (object_in c.a) ∷ [] }
+  | call.WdfRequestUnmarkCancelable ↦ record { answer = Stat (unmark_answer S.requests (object_in c.a)); deeds = UnmarkRequest (object_id (object_in c.a)) ∷ [] }
   -- KMDF: whether it is cancelled
   | call.WdfRequestIsCanceled ↦ number (flag (is_cancelled S.requests (object_in c.a))) []
   -- KMDF: to the head of the queue that it came from
@@ -237,19 +239,19 @@ outcome plan S cpu f c = elim c.kind as (λ _. Outcome) [
   -- KMDF: the target is told to cancel it, if it is there and isn't done
   | call.WdfRequestCancelSentRequest ↦ number (flag (is_undone S.targets (object_in c.a))) []
   -- KMDF: the queue accepts and delivers
-  | call.WdfIoQueueStart ↦ success (Set_mode (object_in c.a) mode.Started ∷ [])
+  | call.WdfIoQueueStart ↦ success (SetMode (object_id (object_in c.a)) mode.Started ∷ [])
   -- KMDF: it accepts and doesn't deliver
-  | call.WdfIoQueueStop ↦ success (Set_mode (object_in c.a) mode.Stopped ∷ [])
+  | call.WdfIoQueueStop ↦ success (SetMode (object_id (object_in c.a)) mode.Stopped ∷ [])
   -- KMDF: it delivers and doesn't accept
-  | call.WdfIoQueueDrain ↦ success (Set_mode (object_in c.a) mode.Drained ∷ [])
+  | call.WdfIoQueueDrain ↦ success (SetMode (object_id (object_in c.a)) mode.Drained ∷ [])
   -- KMDF: it does neither, and what waits is cancelled in it; own: what the driver holds stays as it is
-  | call.WdfIoQueuePurge ↦ success (Purge_queue (object_in c.a) ∷ [])
+  | call.WdfIoQueuePurge ↦ success (PurgeQueue (object_id (object_in c.a)) ∷ [])
   -- KMDF: the same as Stop, and waits
-  | call.WdfIoQueueStopSynchronously ↦ success (Set_mode (object_in c.a) mode.Stopped ∷ [])
+  | call.WdfIoQueueStopSynchronously ↦ success (SetMode (object_id (object_in c.a)) mode.Stopped ∷ [])
   -- KMDF: the same as Drain, and waits
-  | call.WdfIoQueueDrainSynchronously ↦ success (Set_mode (object_in c.a) mode.Drained ∷ [])
+  | call.WdfIoQueueDrainSynchronously ↦ success (SetMode (object_id (object_in c.a)) mode.Drained ∷ [])
   -- KMDF: the same as Purge, and waits
-  | call.WdfIoQueuePurgeSynchronously ↦ success (Purge_queue (object_in c.a) ∷ [])
+  | call.WdfIoQueuePurgeSynchronously ↦ success (PurgeQueue (object_id (object_in c.a)) ∷ [])
   -- KMDF: the front request, owned; INVALID_DEVICE_STATE if parallel, WDF_PAUSED if it doesn't deliver, NO_MORE_ENTRIES if empty; own: without asking whether a sequential queue is free
   | call.WdfIoQueueRetrieveNextRequest ↦ retrieve_outcome plan S (object_in c.a)
   -- KMDF: notification is registered or not; own: at any time; INVALID_DEVICE_REQUEST if not manual or without an EvtIoQueueState
@@ -259,19 +261,19 @@ outcome plan S cpu f c = elim c.kind as (λ _. Outcome) [
   -- KMDF: queued last on this processor; 0 if queued already
   | call.WdfDpcEnqueue ↦ dpc_outcome S cpu (object_in c.a)
   -- KMDF: taken out of its queue; 1 if it was there; waits if it is asked to
-  | call.WdfDpcCancel ↦ number (flag (is_dpc_queued S.dpcs (object_in c.a))) (Cancel_dpc (object_in c.a) ∷ [])
+  | call.WdfDpcCancel ↦ number (flag (is_dpc_queued S.dpcs (object_in c.a))) (CancelDpc (object_id (object_in c.a)) ∷ [])
   -- KMDF: due so many ticks from now; 1 if it was queued
   | call.WdfTimerStart ↦ timer_outcome S (object_in c.a) (number_in c.b)
   -- KMDF: taken out of its queue; 1 if it was there; waits if it is asked to
-  | call.WdfTimerStop ↦ number (flag (is_timer_queued S.timers (object_in c.a))) (Stop_timer (object_in c.a) ∷ [])
+  | call.WdfTimerStop ↦ number (flag (is_timer_queued S.timers (object_in c.a))) (StopTimer (object_id (object_in c.a)) ∷ [])
   -- KMDF: queued, once
   | call.WdfWorkItemEnqueue ↦ work_outcome S (object_in c.a)
   -- KMDF: waits for the work item
   | call.WdfWorkItemFlush ↦ success []
   -- KMDF: the target takes no more; waits, but for 2; own: the numbers of the actions
-  | call.WdfIoTargetStop ↦ success (Stop_target (object_in c.a) ∷ [])
+  | call.WdfIoTargetStop ↦ success (StopTarget (object_id (object_in c.a)) ∷ [])
   -- KMDF: the target takes requests again
-  | call.WdfIoTargetStart ↦ success (Start_target (object_in c.a) ∷ [])
+  | call.WdfIoTargetStart ↦ success (StartTarget (object_id (object_in c.a)) ∷ [])
 ]
 
 -- ---- the calls that wait
@@ -325,8 +327,8 @@ is_met_then plan S c = elim c.kind as (λ _. Bool) [
 -- what is done when the wait of frame f's call is over: a lock is taken
 abbrev pub second_deeds : ℕ → Call → List Deed
 second_deeds f c = elim c.kind as (λ _. List Deed) [
-  | call.WdfSpinLockAcquire ↦ Take_lock (object_lock (object_in c.a)) f true ∷ []
-  | call.WdfWaitLockAcquire ↦ Take_lock (object_lock (object_in c.a)) f true ∷ []
-  | call.WdfInterruptAcquireLock ↦ Take_lock (object_lock (object_in c.a)) f true ∷ []
+  | call.WdfSpinLockAcquire ↦ TakeLock (object_lock (object_in c.a)) (frame_id f) true ∷ []
+  | call.WdfWaitLockAcquire ↦ TakeLock (object_lock (object_in c.a)) (frame_id f) true ∷ []
+  | call.WdfInterruptAcquireLock ↦ TakeLock (object_lock (object_in c.a)) (frame_id f) true ∷ []
   | _ ↦ []
 ]

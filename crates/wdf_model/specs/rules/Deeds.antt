@@ -20,6 +20,8 @@ use Rattle.wdf_base.specs.declared.event.Event.TheVariants as event
 use Rattle.wdf_base.specs.declared.frame.Frame.{Frame}
 use Rattle.wdf_model.specs.declared.enums.Mode.{Mode}
 use Rattle.wdf_model.specs.declared.enums.Mode.TheVariants as mode
+use Rattle.wdf_model.specs.declared.deed.Deed.{Deed}
+use Rattle.wdf_model.specs.declared.deed.Deed.TheVariants.{Create, MakeRequest, Arrive, CountArrival, AskDeletion, Refer, Unrefer, WriteCell, Note, CleanUp, EndLife, PushFrame, GoOn, Raise, Lower, PopFrame, ParkFrame, UnparkFrame, TakeLock, ReleaseLock, Present, Receive, Requeue, Forward, GiveBack, Withdraw, MarkRequest, UnmarkRequest, CancelRequest, TakeCancel, SendRequest, FinishSending, ComeBack, CompleteRequest, SetMode, PurgeQueue, CloseReturning, CloseDevice, RegisterQueue, NotifyQueue, AdvancePower, Acknowledge, AskStop, Resume, AskDevice, TakeStep, EndStep, EnableInterrupt, DisableInterrupt, EnqueueDpc, CancelDpc, TakeDpc, EnqueueWork, CancelWork, StartTimer, StopTimer, FireTimer, StopTarget, StartTarget, PassTick}
 use Rattle.wdf_model.specs.Tables.{change_at, ids_of}
 use Rattle.wdf_model.specs.Plans.{is_managed, queues_of, managed_queues}
 use Rattle.wdf_model.specs.parts.Tree.{life_of, is_live, next_id, nearest_device, subtree}
@@ -41,102 +43,6 @@ use Rattle.wdf_model.specs.parts.Deferred.Timers as timers
 use Rattle.wdf_model.specs.parts.Targets.{is_forgotten}
 use Rattle.wdf_model.specs.parts.Targets as targets
 use Rattle.wdf_model.specs.State.{State, is_with_driver, withdrawn_place}
-
-pub data Deed : Type 0 where
-  -- an object of a class is made under a parent
-  Create : (k : Kind) (class parent : ℕ) → Deed
-  -- a request is made by the driver, which owns it
-  Make_request : (class parent : ℕ) → Deed
-  -- a request arrives at a device and has this place
-  Arrive : (device : ℕ) (info : RequestInfo) (p : Place) → Deed
-  -- an agent's arrival is counted
-  Count_arrival : (agent : ℕ) → Deed
-  -- the deletion of an object and of what is below it is asked
-  Ask_deletion : (o : ℕ) → Deed
-  -- the driver holds a reference more, or less
-  Refer : (o : ℕ) → Deed
-  Unrefer : (o : ℕ) → Deed
-  -- a context cell is written
-  Write_cell : (o k : ℕ) (v : Value) → Deed
-  -- a cleanup or destroy callback of an object starts
-  Note : (o : ℕ) (c : Callback) → Deed
-  -- the cleanup of an object is done; an object is destroyed
-  Clean_up : (o : ℕ) → Deed
-  End_life : (o : ℕ) → Deed
-  -- a frame begins on a processor
-  Push_frame : (cpu f : ℕ) (frame : Frame) (level : ℕ) → Deed
-  -- a frame goes on
-  Go_on : (f : ℕ) (frame : Frame) → Deed
-  -- a frame holds the level of a lock more, or less
-  Raise : (f level : ℕ) → Deed
-  Lower : (f level : ℕ) → Deed
-  -- the top frame of a processor ends, leaves it, or comes back to it
-  Pop_frame : (cpu : ℕ) → Deed
-  Park_frame : (cpu : ℕ) → Deed
-  Unpark_frame : (cpu f : ℕ) → Deed
-  -- a frame takes a lock, or gives it back
-  Take_lock : (l : LockRef) (f : ℕ) (by_call : Bool) → Deed
-  Release_lock : (l : LockRef) → Deed
-  -- the front of a queue becomes Owned
-  Present : (q r : ℕ) → Deed
-  -- a request that returns from a queue becomes Owned
-  Receive : (q r : ℕ) → Deed
-  -- the driver gives a request back to the head of a queue, or to the tail
-  Requeue : (r q : ℕ) → Deed
-  Forward : (r q : ℕ) → Deed
-  -- it gives back a request that is cancelled in the queue at once
-  Give_back : (r q : ℕ) → Deed
-  -- a waiting request is cancelled in its queue
-  Withdraw : (q r : ℕ) → Deed
-  -- a request becomes cancelable, or no longer; it is cancelled; EvtRequestCancel starts for it
-  Mark_request : (r : ℕ) → Deed
-  Unmark_request : (r : ℕ) → Deed
-  Cancel_request : (r : ℕ) → Deed
-  Take_cancel : (r : ℕ) → Deed
-  -- a request is sent to a target; the target is done with it; its completion routine starts
-  Send_request : (r t : ℕ) (forget : Bool) → Deed
-  Finish_sending : (r : ℕ) (s : Status) → Deed
-  Come_back : (r : ℕ) → Deed
-  -- a request is completed, and its deletion is asked
-  Complete_request : (r : ℕ) → Deed
-  -- a control call of a queue
-  Set_mode : (q : ℕ) (m : Mode) → Deed
-  -- the same, and what waits is cancelled in the queue
-  Purge_queue : (q : ℕ) → Deed
-  -- a device's queues lose power: what returns to a power-managed one is to be completed with CANCELLED
-  Close_returning : (d : ℕ) → Deed
-  -- a device is closed: what waits in its queues or returns to them is to be completed with CANCELLED
-  Close_device : (d : ℕ) → Deed
-  -- notification is registered or not; EvtIoQueueState starts
-  Register_queue : (q : ℕ) (on : Bool) → Deed
-  Notify_queue : (q : ℕ) → Deed
-  -- a step of a sequence does what it does to power
-  Advance_power : (d : ℕ) (s : Step) → Deed
-  -- a held request is acknowledged, asked to stop, or goes on
-  Acknowledge : (r : ℕ) → Deed
-  Ask_stop : (r : ℕ) → Deed
-  Resume : (r : ℕ) → Deed
-  -- a sequence begins; its next step is taken; the callback of a step ends
-  Ask_device : (d : ℕ) (a : Ask) → Deed
-  Take_step : (d : ℕ) → Deed
-  End_step : (d : ℕ) (s : Step) (result : Value) → Deed
-  -- an interrupt is put on the list of enabled ones, or taken off it
-  Enable_interrupt : (i : ℕ) → Deed
-  Disable_interrupt : (i : ℕ) → Deed
-  -- deferred work is queued, taken out of its queue, or starts
-  Enqueue_dpc : (cpu o : ℕ) → Deed
-  Cancel_dpc : (o : ℕ) → Deed
-  Take_dpc : (cpu : ℕ) → Deed
-  Enqueue_work : (o : ℕ) → Deed
-  Cancel_work : (o : ℕ) → Deed
-  Start_timer : (o ticks : ℕ) → Deed
-  Stop_timer : (o : ℕ) → Deed
-  Fire_timer : (o period : ℕ) → Deed
-  -- a target takes no more requests, or takes them again
-  Stop_target : (t : ℕ) → Deed
-  Start_target : (t : ℕ) → Deed
-  -- a tick passes
-  Pass_tick : Deed
 
 -- ---- deletion
 
@@ -234,79 +140,79 @@ arrive_at S device info p =
 -- ---- the deeds
 
 abbrev pub do_deed : {A : Type 0} → Plan → Deed → State A → State A
-do_deed plan (Create k class parent) S = record S { tree = tree.create S.tree k class parent }
-do_deed plan (Make_request class parent) S = record S {
-  tree = tree.create S.tree kind.Made class parent;
-  requests = requests.arrive S.requests (next_id S.tree) place.Owned (made_info (nearest_device S.tree parent));
+do_deed plan (Create k class parent) S = record S { tree = tree.create S.tree k class parent.0 }
+do_deed plan (MakeRequest class parent) S = record S {
+  tree = tree.create S.tree kind.Made class parent.0;
+  requests = requests.arrive S.requests (next_id S.tree) place.Owned (made_info (nearest_device S.tree parent.0));
 }
-do_deed plan (Arrive device info p) S = arrive_at S device info p
-do_deed plan (Count_arrival agent) S = record S { arrivals = change_at 0 S.arrivals agent suc }
-do_deed plan (Ask_deletion o) S = ask_objects S o
-do_deed plan (Refer o) S = record S { tree = tree.reference S.tree o }
-do_deed plan (Unrefer o) S = record S { tree = tree.dereference S.tree o }
-do_deed plan (Write_cell o k v) S = record S { tree = tree.set S.tree o k v }
-do_deed plan (Note o c) S = record S { tree = tree.note_start S.tree o c }
-do_deed plan (Clean_up o) S = record S { tree = tree.clean S.tree o }
-do_deed plan (End_life o) S = record S { tree = tree.destroy S.tree o; requests = requests.forget S.requests o }
-do_deed plan (Push_frame cpu f frame level) S = record S { cpus = cpus.push S.cpus cpu f frame level }
-do_deed plan (Go_on f frame) S = record S { cpus = cpus.change S.cpus f frame }
-do_deed plan (Raise f level) S = record S { cpus = cpus.raise S.cpus f level }
-do_deed plan (Lower f level) S = record S { cpus = cpus.lower S.cpus f level }
-do_deed plan (Pop_frame cpu) S = record S { cpus = cpus.pop S.cpus cpu }
-do_deed plan (Park_frame cpu) S = record S { cpus = cpus.park S.cpus cpu }
-do_deed plan (Unpark_frame cpu f) S = record S { cpus = cpus.unpark S.cpus cpu f }
-do_deed plan (Take_lock l f by_call) S = record S { locks = locks.take S.locks l f by_call }
-do_deed plan (Release_lock l) S = record S { locks = locks.release S.locks l }
+do_deed plan (Arrive device info p) S = arrive_at S device.0 info p
+do_deed plan (CountArrival agent) S = record S { arrivals = change_at 0 S.arrivals agent suc }
+do_deed plan (AskDeletion o) S = ask_objects S o.0
+do_deed plan (Refer o) S = record S { tree = tree.reference S.tree o.0 }
+do_deed plan (Unrefer o) S = record S { tree = tree.dereference S.tree o.0 }
+do_deed plan (WriteCell o k v) S = record S { tree = tree.set S.tree o.0 k v }
+do_deed plan (Note o c) S = record S { tree = tree.note_start S.tree o.0 c }
+do_deed plan (CleanUp o) S = record S { tree = tree.clean S.tree o.0 }
+do_deed plan (EndLife o) S = record S { tree = tree.destroy S.tree o.0; requests = requests.forget S.requests o.0 }
+do_deed plan (PushFrame cpu f frame level) S = record S { cpus = cpus.push S.cpus cpu.0 f.0 frame level.0 }
+do_deed plan (GoOn f frame) S = record S { cpus = cpus.change S.cpus f.0 frame }
+do_deed plan (Raise f level) S = record S { cpus = cpus.raise S.cpus f.0 level.0 }
+do_deed plan (Lower f level) S = record S { cpus = cpus.lower S.cpus f.0 level.0 }
+do_deed plan (PopFrame cpu) S = record S { cpus = cpus.pop S.cpus cpu.0 }
+do_deed plan (ParkFrame cpu) S = record S { cpus = cpus.park S.cpus cpu.0 }
+do_deed plan (UnparkFrame cpu f) S = record S { cpus = cpus.unpark S.cpus cpu.0 f.0 }
+do_deed plan (TakeLock l f by_call) S = record S { locks = locks.take S.locks l f.0 by_call }
+do_deed plan (ReleaseLock l) S = record S { locks = locks.release S.locks l }
 do_deed plan (Present q r) S = record S {
-  queues = queues.take S.queues q;
-  requests = requests.move_to S.requests r place.Owned;
-  power = hold_power plan S.power r q;
+  queues = queues.take S.queues q.0;
+  requests = requests.move_to S.requests r.0 place.Owned;
+  power = hold_power plan S.power r.0 q.0;
 }
 do_deed plan (Receive q r) S = record S {
-  queues = queues.hold S.queues q;
-  requests = requests.move_to S.requests r place.Owned;
-  power = hold_power plan S.power r q;
+  queues = queues.hold S.queues q.0;
+  requests = requests.move_to S.requests r.0 place.Owned;
+  power = hold_power plan S.power r.0 q.0;
 }
-do_deed plan (Requeue r q) S = enter_at_head (with_place (give_up S r) r (queued q)) q r
-do_deed plan (Forward r q) S = enter_at_tail (with_place (give_up S r) r (queued q)) q r
-do_deed plan (Give_back r q) S = cancel_in plan (give_up S r) q r
-do_deed plan (Withdraw q r) S = withdraw plan q S r
-do_deed plan (Mark_request r) S = record S { requests = requests.mark S.requests r }
-do_deed plan (Unmark_request r) S = record S { requests = requests.unmark S.requests r }
-do_deed plan (Cancel_request r) S = record S { requests = requests.cancel S.requests r }
-do_deed plan (Take_cancel r) S = record S { requests = requests.take_cancel S.requests r }
-do_deed plan (Send_request r t forget) S =
-    with_place (record (give_up_if forget S r) { targets = targets.send S.targets t r forget }) r (place.Sent (record { 0 = t }))
-do_deed plan (Finish_sending r s) S =
-    with_place (record S { targets = targets.done S.targets r s }) r (finished_at (is_forgotten S.targets r) s (place_of S.requests r))
-do_deed plan (Come_back r) S = with_place (record S { targets = targets.back S.targets r }) r place.Owned
-do_deed plan (Complete_request r) S = ask_objects (record (give_up S r) { requests = requests.complete S.requests r }) r
-do_deed plan (Set_mode q m) S = record S { control = control.set_mode S.control q m }
-do_deed plan (Purge_queue q) S = fold (withdraw plan q) (record S { control = control.set_mode S.control q mode.Purged }) (waiting_in S.queues q)
-do_deed plan (Close_returning d) S = fold close_returning S (managed_queues plan d)
-do_deed plan (Close_device d) S = fold close_queue (record S { control = control.shut S.control d }) (queues_of plan d)
-do_deed plan (Register_queue q on) S = record S { control = control.notify S.control q on }
-do_deed plan (Notify_queue q) S = record S { control = control.notified S.control q }
-do_deed plan (Advance_power d s) S = record S { power = power.advance S.power d s }
-do_deed plan (Acknowledge r) S = record S { power = power.acknowledge S.power r }
-do_deed plan (Ask_stop r) S = record S { power = power.stop_asked S.power r }
-do_deed plan (Resume r) S = record S { power = power.resumed S.power r }
-do_deed plan (Ask_device d a) S = record S { pnp = pnp.ask S.pnp d a }
-do_deed plan (Take_step d) S = record S { pnp = pnp.taken S.pnp d }
-do_deed plan (End_step d s result) S = record S { pnp = pnp.ended S.pnp d s result }
-do_deed plan (Enable_interrupt i) S = record S { interrupts = interrupts.enable S.interrupts i }
-do_deed plan (Disable_interrupt i) S = record S { interrupts = interrupts.disable S.interrupts i }
-do_deed plan (Enqueue_dpc cpu o) S = record S { dpcs = dpcs.enqueue S.dpcs cpu o }
-do_deed plan (Cancel_dpc o) S = record S { dpcs = dpcs.cancel S.dpcs o }
-do_deed plan (Take_dpc cpu) S = record S { dpcs = dpcs.take S.dpcs cpu }
-do_deed plan (Enqueue_work o) S = record S { work_items = work_items.enqueue S.work_items o }
-do_deed plan (Cancel_work o) S = record S { work_items = work_items.cancel S.work_items o }
-do_deed plan (Start_timer o ticks) S = record S { timers = timers.start S.timers o S.clock ticks }
-do_deed plan (Stop_timer o) S = record S { timers = timers.stop S.timers o }
-do_deed plan (Fire_timer o period) S = record S { timers = timers.fired S.timers o period }
-do_deed plan (Stop_target t) S = record S { targets = targets.stop S.targets t }
-do_deed plan (Start_target t) S = record S { targets = targets.start S.targets t }
-do_deed plan Pass_tick S = record S { clock = S.clock + 1 }
+do_deed plan (Requeue r q) S = enter_at_head (with_place (give_up S r.0) r.0 (queued q.0)) q.0 r.0
+do_deed plan (Forward r q) S = enter_at_tail (with_place (give_up S r.0) r.0 (queued q.0)) q.0 r.0
+do_deed plan (GiveBack r q) S = cancel_in plan (give_up S r.0) q.0 r.0
+do_deed plan (Withdraw q r) S = withdraw plan q.0 S r.0
+do_deed plan (MarkRequest r) S = record S { requests = requests.mark S.requests r.0 }
+do_deed plan (UnmarkRequest r) S = record S { requests = requests.unmark S.requests r.0 }
+do_deed plan (CancelRequest r) S = record S { requests = requests.cancel S.requests r.0 }
+do_deed plan (TakeCancel r) S = record S { requests = requests.take_cancel S.requests r.0 }
+do_deed plan (SendRequest r t forget) S =
+    with_place (record (give_up_if forget S r.0) { targets = targets.send S.targets t.0 r.0 forget }) r.0 (place.Sent (record { 0 = t.0 }))
+do_deed plan (FinishSending r s) S =
+    with_place (record S { targets = targets.done S.targets r.0 s }) r.0 (finished_at (is_forgotten S.targets r.0) s (place_of S.requests r.0))
+do_deed plan (ComeBack r) S = with_place (record S { targets = targets.back S.targets r.0 }) r.0 place.Owned
+do_deed plan (CompleteRequest r) S = ask_objects (record (give_up S r.0) { requests = requests.complete S.requests r.0 }) r.0
+do_deed plan (SetMode q m) S = record S { control = control.set_mode S.control q.0 m }
+do_deed plan (PurgeQueue q) S = fold (withdraw plan q.0) (record S { control = control.set_mode S.control q.0 mode.Purged }) (waiting_in S.queues q.0)
+do_deed plan (CloseReturning d) S = fold close_returning S (managed_queues plan d.0)
+do_deed plan (CloseDevice d) S = fold close_queue (record S { control = control.shut S.control d.0 }) (queues_of plan d.0)
+do_deed plan (RegisterQueue q on) S = record S { control = control.notify S.control q.0 on }
+do_deed plan (NotifyQueue q) S = record S { control = control.notified S.control q.0 }
+do_deed plan (AdvancePower d s) S = record S { power = power.advance S.power d.0 s }
+do_deed plan (Acknowledge r) S = record S { power = power.acknowledge S.power r.0 }
+do_deed plan (AskStop r) S = record S { power = power.stop_asked S.power r.0 }
+do_deed plan (Resume r) S = record S { power = power.resumed S.power r.0 }
+do_deed plan (AskDevice d a) S = record S { pnp = pnp.ask S.pnp d.0 a }
+do_deed plan (TakeStep d) S = record S { pnp = pnp.taken S.pnp d.0 }
+do_deed plan (EndStep d s result) S = record S { pnp = pnp.ended S.pnp d.0 s result }
+do_deed plan (EnableInterrupt i) S = record S { interrupts = interrupts.enable S.interrupts i.0 }
+do_deed plan (DisableInterrupt i) S = record S { interrupts = interrupts.disable S.interrupts i.0 }
+do_deed plan (EnqueueDpc cpu o) S = record S { dpcs = dpcs.enqueue S.dpcs cpu.0 o.0 }
+do_deed plan (CancelDpc o) S = record S { dpcs = dpcs.cancel S.dpcs o.0 }
+do_deed plan (TakeDpc cpu) S = record S { dpcs = dpcs.take S.dpcs cpu.0 }
+do_deed plan (EnqueueWork o) S = record S { work_items = work_items.enqueue S.work_items o.0 }
+do_deed plan (CancelWork o) S = record S { work_items = work_items.cancel S.work_items o.0 }
+do_deed plan (StartTimer o ticks) S = record S { timers = timers.start S.timers o.0 S.clock ticks }
+do_deed plan (StopTimer o) S = record S { timers = timers.stop S.timers o.0 }
+do_deed plan (FireTimer o period) S = record S { timers = timers.fired S.timers o.0 period }
+do_deed plan (StopTarget t) S = record S { targets = targets.stop S.targets t.0 }
+do_deed plan (StartTarget t) S = record S { targets = targets.start S.targets t.0 }
+do_deed plan PassTick S = record S { clock = S.clock + 1 }
 
 -- one deed after another
 abbrev pub do_deeds : {A : Type 0} → Plan → List Deed → State A → State A

@@ -17,6 +17,7 @@ use Rattle.wdf_base.specs.declared.event.Post.{Post}
 use Rattle.wdf_base.specs.declared.event.Step.{Step}
 use Rattle.wdf_base.specs.declared.event.Step.TheVariants as step
 use Rattle.wdf_base.specs.Same.{same_callback}
+use Rattle.wdf_model.specs.Ids.{cpu_of}
 use Rattle.wdf_model.specs.declared.enums.Group.{Group}
 use Rattle.wdf_model.specs.declared.enums.Group.TheVariants as group
 use Rattle.wdf_model.specs.declared.entries.Timed.{Timed}
@@ -31,7 +32,7 @@ use Rattle.wdf_model.specs.parts.Deferred.Dpcs.{dpc_head}
 use Rattle.wdf_model.specs.parts.Targets.{the_target}
 use Rattle.wdf_model.specs.State.{State, handle_in}
 use Rattle.wdf_model.specs.rules.Posts.{due_of, post_answer}
-use Rattle.wdf_model.specs.rules.Steps.{cpu_of, own_event}
+use Rattle.wdf_model.specs.rules.Steps.{own_event}
 
 -- ---- the groups
 

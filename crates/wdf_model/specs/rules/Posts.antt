@@ -24,7 +24,9 @@ use Rattle.wdf_model.specs.parts.Control.{accepts}
 use Rattle.wdf_model.specs.parts.Pnp.{busy}
 use Rattle.wdf_model.specs.parts.Targets.{is_undone}
 use Rattle.wdf_model.specs.State.{State, handle_in, is_proper}
-use Rattle.wdf_model.specs.rules.Deeds.{Deed, Arrive, Count_arrival, Withdraw, Cancel_request, Finish_sending, Ask_device}
+use Rattle.wdf_model.specs.Ids.{object_id}
+use Rattle.wdf_model.specs.declared.deed.Deed.{Deed}
+use Rattle.wdf_model.specs.declared.deed.Deed.TheVariants.{Arrive, CountArrival, Withdraw, CancelRequest, FinishSending, AskDevice}
 
 -- ---- arrivals
 
@@ -82,8 +84,8 @@ arrival_answer S device = if is_live (life_of S.tree device) then Some (arriving
 
 abbrev pub arrival_deeds : {A : Type 0} → Plan → State A → ℕ → RequestForm → ℕ → ℕ → ℕ → List Deed
 arrival_deeds plan S agent f length code device =
-    Count_arrival agent
-    ∷ (if is_live (life_of S.tree device) then Arrive device (arrival_info S agent f length code device) (arrival_place plan S f length device) ∷ [] else [])
+    CountArrival agent
+    ∷ (if is_live (life_of S.tree device) then Arrive (object_id device) (arrival_info S agent f length code device) (arrival_place plan S f length device) ∷ [] else [])
 
 -- ---- cancels
 
@@ -97,8 +99,8 @@ cancel_reaches S agent k = option_and_then (in_reach S) (arrival_of S.requests a
 
 -- KMDF: a waiting request is cancelled in its queue; of another only the mark changes
 abbrev pub cancel_at : Place → ℕ → List Deed
-cancel_at (place.Queued q) r = Withdraw q.0 r ∷ []
-cancel_at _ r = Cancel_request r ∷ []
+cancel_at (place.Queued q) r = Withdraw q (object_id r) ∷ []
+cancel_at _ r = CancelRequest (object_id r) ∷ []
 
 abbrev pub cancel_deeds : {A : Type 0} → State A → Option ℕ → List Deed
 cancel_deeds S None = []
@@ -127,11 +129,11 @@ post_deeds plan S agent (post.Control device code length) = arrival_deeds plan S
 -- KMDF: it is cancelled
 post_deeds plan S agent (post.Cancel k) = cancel_deeds S (cancel_reaches S agent k)
 -- own: a list of steps begins
-post_deeds plan S agent (post.Ask a device) = Ask_device device.id.0 a ∷ []
+post_deeds plan S agent (post.Ask a device) = AskDevice device.id a ∷ []
 -- own: what a device does is its agent's
 post_deeds plan S agent (post.Act action) = []
 -- own: the target is done with it
-post_deeds plan S agent (post.Done request s) = Finish_sending request.id.0 s ∷ []
+post_deeds plan S agent (post.Done request s) = FinishSending request.id s ∷ []
 
 abbrev pub may_arrive : {A : Type 0} → Plan → State A → Handle → Bool
 may_arrive plan S device = is_handle plan kind.Device device && nat_lt S.requests.arrived ARRIVALS

@@ -39,7 +39,9 @@ use Rattle.wdf_model.specs.parts.Deferred.WorkItems.{is_work_queued}
 use Rattle.wdf_model.specs.parts.Deferred.Timers.{timer_due}
 use Rattle.wdf_model.specs.parts.Targets.{routine_due}
 use Rattle.wdf_model.specs.State.{State, declared_in, declares_in, handle_in, is_held_from, is_locked, is_waited_for, nothing_at, queue_delivers, script_in}
-use Rattle.wdf_model.specs.rules.Deeds.{Deed, Ask_deletion, Note, Push_frame, Pop_frame, Take_lock, Release_lock, Present, Receive, Take_cancel, Come_back, Close_returning, Close_device, Notify_queue, Advance_power, Ask_stop, Resume, Take_step, End_step, Enable_interrupt, Disable_interrupt, Take_dpc, Cancel_work, Fire_timer}
+use Rattle.wdf_model.specs.Ids.{cpu_of, frame_id, irql_of, object_id}
+use Rattle.wdf_model.specs.declared.deed.Deed.{Deed}
+use Rattle.wdf_model.specs.declared.deed.Deed.TheVariants.{AskDeletion, Note, PushFrame, PopFrame, TakeLock, ReleaseLock, Present, Receive, TakeCancel, ComeBack, CloseReturning, CloseDevice, NotifyQueue, AdvancePower, AskStop, Resume, TakeStep, EndStep, EnableInterrupt, DisableInterrupt, TakeDpc, CancelWork, FireTimer}
 
 -- ---- what agents show
 
@@ -139,19 +141,19 @@ may_pass plan S d s i = step_ready S d (step.Pass s i) && stage_ready plan S d s
 -- what a stage does beside power and phase
 abbrev pub stage_effect : Plan → ℕ → Stage → Option Handle → List Deed
 -- own: the interrupt is put on the list of enabled ones
-stage_effect plan d stage.Enabled i = Enable_interrupt (handle_id i) ∷ []
+stage_effect plan d stage.Enabled i = EnableInterrupt (object_id (handle_id i)) ∷ []
 -- own: and taken off it
-stage_effect plan d stage.Disabled i = Disable_interrupt (handle_id i) ∷ []
+stage_effect plan d stage.Disabled i = DisableInterrupt (object_id (handle_id i)) ∷ []
 -- own: what returns from a power-managed queue is to be completed with CANCELLED
-stage_effect plan d stage.QueuesDown i = Close_returning d ∷ []
+stage_effect plan d stage.QueuesDown i = CloseReturning (object_id d) ∷ []
 -- own: the device's queues are Purged for good, and what waits in them or returns is to be completed with CANCELLED
-stage_effect plan d stage.Closed i = Close_device d ∷ []
+stage_effect plan d stage.Closed i = CloseDevice (object_id d) ∷ []
 -- own: the device's deletion is asked
-stage_effect plan d stage.Removed i = Ask_deletion d ∷ []
+stage_effect plan d stage.Removed i = AskDeletion (object_id d) ∷ []
 stage_effect plan d _ i = []
 
 abbrev pub stage_deeds : Plan → ℕ → Stage → Option Handle → List Deed
-stage_deeds plan d s i = Take_step d ∷ Advance_power d (step.Pass s i) ∷ stage_effect plan d s i
+stage_deeds plan d s i = TakeStep (object_id d) ∷ AdvancePower (object_id d) (step.Pass s i) ∷ stage_effect plan d s i
 
 -- ---- starts
 
@@ -234,35 +236,35 @@ may_start plan m S cpu c o r =
 -- what a start does of its rank's own, for a request
 abbrev pub effect_for : Rank → ℕ → ℕ → List Deed
 -- own: it is owned again
-effect_for rank.Completion o r = Come_back r ∷ []
+effect_for rank.Completion o r = ComeBack (object_id r) ∷ []
 -- KMDF: its cancel is taken
-effect_for rank.Cancel o r = Take_cancel r ∷ []
+effect_for rank.Cancel o r = TakeCancel (object_id r) ∷ []
 -- KMDF: it is owned
-effect_for rank.CanceledOnQueue o r = Receive o r ∷ []
+effect_for rank.CanceledOnQueue o r = Receive (object_id o) (object_id r) ∷ []
 -- KMDF: once
-effect_for rank.Stop o r = Ask_stop r ∷ []
+effect_for rank.Stop o r = AskStop (object_id r) ∷ []
 -- KMDF: once
-effect_for rank.Resume o r = Resume r ∷ []
+effect_for rank.Resume o r = Resume (object_id r) ∷ []
 -- KMDF: it is owned
-effect_for rank.Handler o r = Present o r ∷ []
+effect_for rank.Handler o r = Present (object_id o) (object_id r) ∷ []
 effect_for _ o r = []
 
 -- what it does without one
 abbrev pub effect : {A : Type 0} → Plan → State A → Rank → ℕ → Callback → ℕ → List Deed
 -- KMDF: it leaves its list
-effect plan S rank.Deferred cpu c o = Take_dpc cpu ∷ []
+effect plan S rank.Deferred cpu c o = TakeDpc (cpu_of cpu) ∷ []
 -- KMDF: it leaves its queue, or is due a period later
-effect plan S rank.Timed cpu c o = Fire_timer o (period_of plan (class_of S.tree o)) ∷ []
+effect plan S rank.Timed cpu c o = FireTimer (object_id o) (period_of plan (class_of S.tree o)) ∷ []
 -- KMDF: notification is due no more
-effect plan S rank.QueueState cpu c o = Notify_queue o ∷ []
+effect plan S rank.QueueState cpu c o = NotifyQueue (object_id o) ∷ []
 -- own: the step is taken
-effect plan S rank.Sequence cpu c o = Take_step (nearest_device S.tree o) ∷ []
+effect plan S rank.Sequence cpu c o = TakeStep (object_id (nearest_device S.tree o)) ∷ []
 -- KMDF: it leaves its queue
-effect plan S rank.Work cpu c o = Cancel_work o ∷ []
+effect plan S rank.Work cpu c o = CancelWork (object_id o) ∷ []
 -- KMDF: once
-effect plan S rank.Cleanup cpu c o = Note o c ∷ []
+effect plan S rank.Cleanup cpu c o = Note (object_id o) c ∷ []
 -- KMDF: once
-effect plan S rank.Destroy cpu c o = Note o c ∷ []
+effect plan S rank.Destroy cpu c o = Note (object_id o) c ∷ []
 effect plan S _ cpu c o = []
 
 abbrev pub start_effect : {A : Type 0} → Plan → State A → ℕ → Callback → ℕ → Option Handle → List Deed
@@ -298,26 +300,26 @@ new_frame plan S c o r = record {
 
 abbrev pub take_if_any : ℕ → Option LockRef → List Deed
 take_if_any f None = []
-take_if_any f (Some l) = Take_lock l f false ∷ []
+take_if_any f (Some l) = TakeLock l (frame_id f) false ∷ []
 
 abbrev pub release_if_any : Option LockRef → List Deed
 release_if_any None = []
-release_if_any (Some l) = Release_lock l ∷ []
+release_if_any (Some l) = ReleaseLock l ∷ []
 
 abbrev pub start_deeds : {A : Type 0} → Plan → State A → ℕ → Callback → Handle → Option Handle → List Deed
 start_deeds plan S cpu c o r =
     start_effect plan S cpu c o.id.0 r
-    ++ Push_frame cpu (next_number S) (new_frame plan S c o r) (callback_irql plan c o.id.0)
+    ++ PushFrame (cpu_of cpu) (frame_id (next_number S)) (new_frame plan S c o r) (irql_of (callback_irql plan c o.id.0))
     ∷ take_if_any (next_number S) (lock_of_callback plan c o.id.0 (declared_in plan S o.id.0))
 
 -- ---- ends
 
 -- a step of a sequence gives its result
 abbrev pub end_of_step : {A : Type 0} → Plan → State A → Rank → Callback → ℕ → Value → List Deed
-end_of_step plan S rank.Sequence c o v = End_step (nearest_device S.tree o) (step_of plan S c o) v ∷ []
+end_of_step plan S rank.Sequence c o v = EndStep (object_id (nearest_device S.tree o)) (step_of plan S c o) v ∷ []
 end_of_step plan S _ c o v = []
 
 -- the frame and its lock are gone
 abbrev pub end_deeds : {A : Type 0} → Plan → State A → ℕ → Callback → ℕ → Value → List Deed
 end_deeds plan S cpu c o v =
-    release_if_any (lock_of_callback plan c o (declared_in plan S o)) ++ Pop_frame cpu ∷ end_of_step plan S (row_of c).rank c o v
+    release_if_any (lock_of_callback plan c o (declared_in plan S o)) ++ PopFrame (cpu_of cpu) ∷ end_of_step plan S (row_of c).rank c o v

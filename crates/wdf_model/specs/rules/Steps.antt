@@ -33,9 +33,12 @@ use Rattle.wdf_model.specs.parts.Cpus.{frame_of, irql, is_empty_cpu, top}
 use Rattle.wdf_model.specs.parts.Locks.{held_by_call, holder, holds_by_call, scope_of_object}
 use Rattle.wdf_model.specs.parts.Requests.{mark_of, origin_of, place_of}
 use Rattle.wdf_model.specs.parts.Power.{acknowledged, has_hardware}
+use Rattle.wdf_model.specs.Ids.{cpu_of, frame_id}
 use Rattle.wdf_model.specs.rules.Script.{intent_of, line_of, statement_at}
 use Rattle.wdf_model.specs.State.{State, declared_in, is_proper, is_with_driver}
-use Rattle.wdf_model.specs.rules.Deeds.{Deed, do_deeds, counted, Go_on, Park_frame, Unpark_frame, Complete_request, Clean_up, End_life, Pass_tick}
+use Rattle.wdf_model.specs.declared.deed.Deed.{Deed}
+use Rattle.wdf_model.specs.declared.deed.Deed.TheVariants.{GoOn, ParkFrame, UnparkFrame, CompleteRequest, CleanUp, EndLife, PassTick}
+use Rattle.wdf_model.specs.rules.Deeds.{do_deeds, counted}
 use Rattle.wdf_model.specs.rules.Faults.{View, fault_of}
 use Rattle.wdf_model.specs.rules.Calls.{Outcome, outcome, is_met, second_deeds, is_met_then}
 use Rattle.wdf_model.specs.rules.Starts.{callback_over, clean_ready, destroy_ready, end_deeds, may_pass, may_start, shown, stage_deeds, start_deeds}
@@ -64,9 +67,6 @@ view_of plan S cpu f = record {
   held_by_call = held_by_call S.locks f;
   hardware = λ k. has_hardware S.power (device_of_register plan k);
 }
-
-abbrev pub cpu_of : ℕ → Cpu
-cpu_of cpu = record { 0 = cpu }
 
 -- a call without a fault is answered, or waits where its condition isn't met once its first part is done
 abbrev pub call_event : {A : Type 0} → Plan → State A → ℕ → Call → Outcome → Event
@@ -234,31 +234,31 @@ by_top S cpu deeds = elim (top S.cpus cpu) as (λ _. List Deed) [
 -- the answer of a frame's pending call
 abbrev pub did_deeds : {A : Type 0} → Plan → State A → ℕ → Call → Value → ℕ → Frame → List Deed
 did_deeds plan S cpu c v f frame =
-    (outcome plan S cpu f c).deeds ++ second_deeds f c ++ Go_on f (answered plan frame v) ∷ []
+    (outcome plan S cpu f c).deeds ++ second_deeds f c ++ GoOn (frame_id f) (answered plan frame v) ∷ []
 
 abbrev pub waiting_deeds : {A : Type 0} → Plan → State A → ℕ → Call → ℕ → Frame → List Deed
 waiting_deeds plan S cpu c f frame =
-    (outcome plan S cpu f c).deeds ++ Go_on f (waiting frame c (outcome plan S cpu f c).answer) ∷ []
+    (outcome plan S cpu f c).deeds ++ GoOn (frame_id f) (waiting frame c (outcome plan S cpu f c).answer) ∷ []
 
 abbrev pub woke_deeds : Plan → Call → Value → ℕ → Frame → List Deed
-woke_deeds plan c v f frame = second_deeds f c ++ Go_on f (answered plan frame v) ∷ []
+woke_deeds plan c v f frame = second_deeds f c ++ GoOn (frame_id f) (answered plan frame v) ∷ []
 
 abbrev pub deeds : {A : Type 0} → Plan → State A → Event → List Deed
 -- the callback's own effect, its frame on top, its lock
 deeds plan S (event.Start cpu c o r) = start_deeds plan S cpu.0 c o r
 -- the frame's variables, counters, place and tick
-deeds plan S (event.Local cpu line) = by_top S cpu.0 (λ f frame. Go_on f (stepped frame (intent_of plan frame)) ∷ [])
-deeds plan S (event.Log cpu v) = by_top S cpu.0 (λ f frame. Go_on f (goes_on plan frame) ∷ [])
-deeds plan S (event.Spend cpu n) = by_top S cpu.0 (λ f frame. Go_on f (spending plan S frame n) ∷ [])
+deeds plan S (event.Local cpu line) = by_top S cpu.0 (λ f frame. GoOn (frame_id f) (stepped frame (intent_of plan frame)) ∷ [])
+deeds plan S (event.Log cpu v) = by_top S cpu.0 (λ f frame. GoOn (frame_id f) (goes_on plan frame) ∷ [])
+deeds plan S (event.Spend cpu n) = by_top S cpu.0 (λ f frame. GoOn (frame_id f) (spending plan S frame n) ∷ [])
 -- the register and the device's level lines are its agent's
-deeds plan S (event.Register cpu a k v) = by_top S cpu.0 (λ f frame. Go_on f (answered plan frame (Num v)) ∷ [])
+deeds plan S (event.Register cpu a k v) = by_top S cpu.0 (λ f frame. GoOn (frame_id f) (answered plan frame (Num v)) ∷ [])
 -- the effect of the call's first part, and of the second where nothing is to be waited for
 deeds plan S (event.Did cpu c v) = by_top S cpu.0 (did_deeds plan S cpu.0 c v)
 deeds plan S (event.Waiting cpu c) = by_top S cpu.0 (waiting_deeds plan S cpu.0 c)
 deeds plan S (event.Woke cpu c v) = by_top S cpu.0 (woke_deeds plan c v)
 -- own: the frame moves between the processor and the parked list
-deeds plan S (event.Park cpu f) = Park_frame cpu.0 ∷ []
-deeds plan S (event.Unpark cpu f) = Unpark_frame cpu.0 f.0 ∷ []
+deeds plan S (event.Park cpu f) = ParkFrame cpu ∷ []
+deeds plan S (event.Unpark cpu f) = UnparkFrame cpu f ∷ []
 -- the frame and its lock are gone; a failed step changes the steps left
 deeds plan S (event.End cpu c o v) = end_deeds plan S cpu.0 c o.id.0 v
 -- own: a fault changes nothing, and ends the run
@@ -266,15 +266,15 @@ deeds plan S (event.Fault cpu x line) = []
 -- own: the step is taken, with its effect
 deeds plan S (event.Stage d s i) = stage_deeds plan d.id.0 s i
 -- KMDF: the request is done, and its deletion is asked
-deeds plan S (event.Complete r s) = Complete_request r.id.0 ∷ []
+deeds plan S (event.Complete r s) = CompleteRequest r.id ∷ []
 -- KMDF: the cleanup is done
-deeds plan S (event.Cleanup o) = Clean_up o.id.0 ∷ []
+deeds plan S (event.Cleanup o) = CleanUp o.id ∷ []
 -- KMDF: the object is gone
-deeds plan S (event.Destroy o) = End_life o.id.0 ∷ []
+deeds plan S (event.Destroy o) = EndLife o.id ∷ []
 -- KMDF: an arrival or a cancel; own: a done, and a list of steps
 deeds plan S (event.Posted agent p answer) = post_deeds plan S agent p
 -- own: the clock is one more
-deeds plan S (event.Tick time) = Pass_tick ∷ []
+deeds plan S (event.Tick time) = PassTick ∷ []
 
 -- the state after an event: its deeds are done, the agents hear of it, and it is counted
 abbrev pub after : {A : Type 0} → Plan → Meaning A → State A → Event → State A

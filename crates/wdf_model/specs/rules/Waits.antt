@@ -29,6 +29,7 @@ use Rattle.wdf_base.specs.declared.wait.Cause.{Cause}
 use Rattle.wdf_base.specs.declared.wait.Cause.TheVariants as cause
 use Rattle.wdf_base.specs.declared.wait.WaitLine.{WaitLine}
 use Rattle.wdf_base.specs.Same.{same_callback}
+use Rattle.wdf_model.specs.Ids.{frame_id}
 use Rattle.wdf_model.specs.Tables.{contains, first_of_list, ids_of, least}
 use Rattle.wdf_model.specs.Plans.{callback_irql, interrupts_of, is_managed, is_manual_queue, managed_queues, queue_level}
 use Rattle.wdf_model.specs.parts.Tree.{children, is_asked, is_cleaned, is_past_cleanup, kind_of, life_of, parent_of, references_of, started, younger_siblings}
@@ -59,12 +60,9 @@ abbrev pub cause_if : Bool → Cause → Option Cause
 cause_if true c = Some c
 cause_if false c = None
 
-abbrev pub number_of : ℕ → FrameId
-number_of f = record { 0 = f }
-
 -- the least of these frames keeps it
 abbrev pub by_frame : List ℕ → Option Cause
-by_frame fs = option_map (λ f. cause.ByFrame (number_of f)) (least fs)
+by_frame fs = option_map (λ f. cause.ByFrame (frame_id f)) (least fs)
 
 -- the least of these requests does
 abbrev pub by_request : {A : Type 0} → Plan → State A → List ℕ → Option Cause
@@ -103,7 +101,7 @@ frames_above S f = flat_map (above_in f) S.cpus.stacks
 
 -- the frame that holds the object's lock
 abbrev pub by_lock : {A : Type 0} → Plan → State A → ℕ → Option Cause
-by_lock plan S o = option_map (λ g. cause.ByLock (handle_in plan S o) (number_of g)) (holder S.locks (object_lock o))
+by_lock plan S o = option_map (λ g. cause.ByLock (handle_in plan S o) (frame_id g)) (holder S.locks (object_lock o))
 
 -- the frames that run on the object
 abbrev pub by_frame_on : {A : Type 0} → State A → ℕ → Option Cause
@@ -140,7 +138,7 @@ frame_cause plan S f =
 
 abbrev pub frame_line : {A : Type 0} → Plan → State A → ℕ → WaitLine
 frame_line plan S f = record {
-  thing = thing.Waiting (number_of f) (frame_of S.cpus f).callback (frame_of S.cpus f).object;
+  thing = thing.Waiting (frame_id f) (frame_of S.cpus f).callback (frame_of S.cpus f).object;
   cause = frame_cause plan S f;
 }
 

@@ -1,11 +1,11 @@
 //! What an event does to the state, as data: a list of deeds, each an act of one part, or of a few that move
 //! together.
 
+use crate::enums::Mode;
 use wdf_base::{
     Ask, Callback, Cpu, Frame, FrameId, Irql, Kind, LockRef, ObjectId, Place, RequestInfo, Status,
     Step, Value,
 };
-use wdf_model::Mode;
 
 /// An act of one part of the state, or of a few that move together.
 #[derive(Clone, Copy, Debug, PartialEq, Eq)]
