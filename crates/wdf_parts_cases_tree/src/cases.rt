@@ -1,10 +1,10 @@
 //! Trees as they come to be, change and go.
 use crate::acts::{Act, does};
 use crate::facts::Fact;
-use crate::openings::{opening, plan, referenced};
-use std::process::Abort;
+use crate::openings::{opening, plan};
+use std::alloc::Global;
 use std::test::Fail;
-use wdf_base::{Callback, Kind, Life, Plan, Status, Value};
+use wdf_base::{Callback, Kind, Life, Memory, Plan, Status, Value};
 use wdf_tree::{CreateRefusal, Tree};
 
 const DRIVER: u32 = 1;
@@ -13,14 +13,15 @@ const DEVICE: u32 = 2;
 
 const QUEUE: u32 = 3;
 
-/// What happens in a tree whose plan allows so many counted objects.
+/// What happens in a tree whose plan allows so many counted objects; 0 for the plan that declares
+/// nothing.
 struct Case {
     name: &'static str,
     objects: u32,
     acts: &'static [Act],
 }
 
-static CASES: [Case; 7] = [
+static CASES: [Case; 8] = [
     Case {
         name: "declared objects live from the opening",
         objects: 8,
@@ -38,7 +39,7 @@ static CASES: [Case; 7] = [
             Act::Is(Fact::LifeOf(4, Life::Gone)),
             Act::Is(Fact::NextId(4)),
             Act::Is(Fact::Len(4)),
-            Act::Is(Fact::Leaving(0, None, None)),
+            Act::Is(Fact::CleanedFrom(0, None)),
         ],
     },
     Case {
@@ -107,8 +108,8 @@ static CASES: [Case; 7] = [
             Act::Is(Fact::LifeOf(6, Life::Live)),
             Act::Is(Fact::LifeOf(7, Life::Cleaned)),
             Act::Is(Fact::LifeOf(8, Life::Asked)),
-            Act::Is(Fact::Leaving(5, Some(5), Some(7))),
-            Act::Is(Fact::Leaving(8, Some(8), None)),
+            Act::Is(Fact::CleanedFrom(5, Some(7))),
+            Act::Is(Fact::CleanedFrom(8, None)),
         ],
     },
     Case {
@@ -152,24 +153,44 @@ static CASES: [Case; 7] = [
             Act::Is(Fact::GoesFirst(4, Some(5))),
         ],
     },
+    // With no object of the plan there is room for no other, and the tree begins with a request to
+    // which the driver holds a reference.
+    Case {
+        name: "a reference keeps an object",
+        objects: 0,
+        acts: &[
+            Act::Is(Fact::References(1, 1)),
+            Act::AskOne(1),
+            Act::Clean(1),
+            Act::Is(Fact::MayDestroy(1, false)),
+            Act::Dereference(1, true),
+            Act::Dereference(1, false),
+            Act::Destroy(1),
+            Act::Is(Fact::References(1, 0)),
+        ],
+    },
 ];
 
-/// What happens to a request to which the driver holds a reference.
-static REFERENCED: [Act; 8] = [
-    Act::Is(Fact::References(1, 1)),
-    Act::AskOne(1),
-    Act::Clean(1),
-    Act::Is(Fact::MayDestroy(1, false)),
-    Act::Dereference(1, true),
-    Act::Dereference(1, false),
-    Act::Destroy(1),
-    Act::Is(Fact::References(1, 0)),
-];
-
-/// Does these acts.
-fn try_acts(rt: &impl Abort, plan: &Plan, tree: &mut Tree, name: &str, acts: &[Act]) {
+/// The place of the first act that isn't as due.
+fn first_wrong(tree: &mut Tree, plan: &Plan, acts: &[Act]) -> Option<usize> {
     for (place, act) in acts.iter().enumerate() {
-        assert!(rt; does(tree, plan, *act), "{name}: act {place}");
+        if !does(tree, plan, *act) {
+            return Some(place);
+        }
+    }
+    None
+}
+
+/// The same in a tree that is made for it.
+fn wrong_in(mut tree: Tree, plan: &Plan, acts: &[Act]) -> Option<usize> {
+    first_wrong(&mut tree, plan, acts)
+}
+
+/// The same in the tree at the opening of a plan that is made for it.
+fn wrong_in_plan(alloc: Global, plan: Plan, acts: &[Act]) -> Result<Option<usize>, Memory> {
+    match opening(alloc, &plan) {
+        Ok(tree) => Ok(wrong_in(tree, &plan, acts)),
+        Err(memory) => Err(memory),
     }
 }
 
@@ -177,16 +198,12 @@ fn try_acts(rt: &impl Abort, plan: &Plan, tree: &mut Tree, name: &str, acts: &[A
 fn trees_change_as_told(rt: HostRuntime) -> Result<(), Fail> {
     for case in &CASES {
         let plan = plan(rt.alloc(), case.objects)?;
-        let mut tree = opening(rt.alloc(), &plan)?;
-        try_acts(&rt, &plan, &mut tree, case.name, case.acts);
+        assert_eq!(rt;
+            wrong_in_plan(rt.alloc(), plan, case.acts)?,
+            None,
+            "{}",
+            case.name
+        );
     }
-    Ok(())
-}
-
-#[test]
-fn a_reference_keeps_an_object(rt: HostRuntime) -> Result<(), Fail> {
-    let plan = plan(rt.alloc(), 16)?;
-    let mut tree = referenced(rt.alloc())?;
-    try_acts(&rt, &plan, &mut tree, "a reference", &REFERENCED);
     Ok(())
 }

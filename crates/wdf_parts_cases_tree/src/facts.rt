@@ -37,8 +37,8 @@ pub enum Fact {
     Len(u32),
     /// Whether there is no room for another counted object.
     Full(bool),
-    /// The first object from an id on that waits for its cleanup, and the first that waits for its end.
-    Leaving(u32, Option<u32>, Option<u32>),
+    /// The first object from an id on that is cleaned up, and isn't destroyed yet.
+    CleanedFrom(u32, Option<u32>),
 }
 
 /// Whether the walk through the subtree of an object comes to these ids.
@@ -89,10 +89,7 @@ fn holds_of_deletion(tree: &Tree, fact: Fact) -> bool {
         Fact::GoesFirst(o, due) if o < tree.len() => {
             tree.goes_first(ObjectId(o)) == due.map(ObjectId)
         }
-        Fact::Leaving(from, asked, cleaned) => {
-            tree.asked_from(ObjectId(from)) == asked.map(ObjectId)
-                && tree.cleaned_from(ObjectId(from)) == cleaned.map(ObjectId)
-        }
+        Fact::CleanedFrom(from, due) => { tree.cleaned_from(ObjectId(from)) == due.map(ObjectId) }
         _ => holds_of_one(tree, fact),
     }
 }

@@ -1,5 +1,5 @@
 //! A small plan, and the trees that the cases begin with.
-ghost use Rattle.std.specs.Prelude.{◌<◌};
+ghost use Rattle.std.specs.Prelude.{◌≡◌, ◌<◌, []};
 
 use std::alloc::Global;
 use wdf_base::*;
@@ -49,19 +49,20 @@ fn items<T: Copy + Drop, const CEILING: u64>(
     Ok(items)
 }
 
-/// These declared objects, one class of general objects, and so many counted objects.
-fn plan_of(alloc: Global, declared: &[Declared], objects: u32) -> Result<Plan, Memory> {
-    let class = ClassInfo::Plain {
-        name: 4,
-        kind: PlainKind::Object,
-    };
-    Ok(Plan {
+/// The plan of so many counted objects, with these declared ones and these classes.
+fn plan_of(
+    alloc: Global,
+    objects: u32,
+    declared: Items<Declared, MANY>,
+    classes: Items<ClassInfo, FEW>,
+) -> Plan {
+    Plan {
         cpus: 1,
         limit: 100,
         objects,
         names: Items::new(alloc),
-        declared: items(alloc, declared)?,
-        classes: items(alloc, &[class])?,
+        declared,
+        classes,
         registers: Items::new(alloc),
         whens: Items::new(alloc),
         pnp: Items::new(alloc),
@@ -69,29 +70,42 @@ fn plan_of(alloc: Global, declared: &[Declared], objects: u32) -> Result<Plan, M
         exprs: Items::new(alloc),
         scripts: Items::new(alloc),
         picks: Items::new(alloc),
-    })
+    }
 }
 
-/// The plan of a driver, a device with a queue, and so many counted objects.
+/// The plan of a driver, a device with a queue, one class of general objects, and so many counted
+/// objects; for none, the plan that declares nothing.
 pub fn plan(alloc: Global, objects: u32) -> Result<Plan, Memory> {
-    plan_of(alloc, &DECLARED, objects)
+    if objects == 0 {
+        return Ok(plan_of(alloc, 0, Items::new(alloc), Items::new(alloc)));
+    }
+    let class = ClassInfo::Plain {
+        name: 4,
+        kind: PlainKind::Object,
+    };
+    let declared = items(alloc, &DECLARED)?;
+    let classes = items(alloc, &[class])?;
+    Ok(plan_of(alloc, objects, declared, classes))
 }
 
-/// The tree at the opening of a plan.
+/// The tree at the opening of a plan that declares nothing, with one request, to which the driver
+/// holds a reference.
+fn referenced(alloc: Global, plan: &Plan) -> Result<Tree, Memory>
+    requires { plan.now.declared ≡ [] }
+{
+    let mut tree = Tree::make(alloc, plan)?;
+    let o = tree.arrive(ObjectId(0));
+    tree.reference(o);
+    Ok(tree)
+}
+
+/// The tree with which a case begins.
 pub fn opening(alloc: Global, plan: &Plan) -> Result<Tree, Memory> {
-    if plan.declared_len() < OBJECTS {
+    if plan.declared_len() == 0 {
+        referenced(alloc, plan)
+    } else if plan.declared_len() < OBJECTS {
         Tree::make(alloc, plan)
     } else {
         Err(Memory)
     }
-}
-
-/// A tree with no object of the plan, and with one request, to which the driver holds a reference.
-pub fn referenced(alloc: Global) -> Result<Tree, Memory> {
-    let mut plan = plan(alloc, 16)?;
-    plan.declared = Items::new(alloc);
-    let mut tree = Tree::make(alloc, &plan)?;
-    let o = tree.arrive(ObjectId(0));
-    tree.reference(o);
-    Ok(tree)
 }
