@@ -106,20 +106,24 @@ fn all_declared(alloc: Global, objects: &[Object]) -> Result<Items<Declared, MAN
     Ok(items)
 }
 
+/// A script with no statement.
+fn script(alloc: Global, callback: Callback, object: Object) -> Script {
+    Script {
+        callback,
+        owner: declared(object),
+        line: 5,
+        statements: Items::new(alloc),
+    }
+}
+
 fn all_scripts(
     alloc: Global,
     callbacks: &[(Callback, Object)],
 ) -> Result<Items<Script, MANY>, Memory> {
     let mut items = Items::new(alloc);
     for (callback, object) in callbacks {
-        let script = Script {
-            callback: *callback,
-            owner: declared(*object),
-            line: 5,
-            statements: Items::new(alloc),
-        };
         if items.len() < 99 {
-            match items.push(script) {
+            match items.push(script(alloc, *callback, *object)) {
                 Ok(()) => {}
                 Err(error) => return Err(error),
             }

@@ -1,6 +1,7 @@
 //! What is held from power-managed queues, and what the stages do to it.
 use crate::plans::*;
-use std::test::Fail;
+use crate::trials::Wrong;
+use std::alloc::Global;
 use wdf_base::*;
 use wdf_model::OBJECTS;
 use wdf_power::Power;
@@ -219,14 +220,31 @@ fn does(power: &mut Power, act: Act) -> bool {
     true
 }
 
-#[test]
-fn power_comes_and_goes(rt: HostRuntime) -> Result<(), Fail> {
-    let plan = plan(rt.alloc(), &WITH_QUEUES)?;
-    for case in &CASES {
-        let mut power = Power::make(rt.alloc(), &plan)?;
-        for (place, act) in case.acts.iter().enumerate() {
-            assert!(rt; does(&mut power, *act), "{}: act {place}", case.name);
+/// The place of the first act that isn't as due.
+fn first_wrong(power: &mut Power, acts: &[Act]) -> Option<usize> {
+    for (place, act) in acts.iter().enumerate() {
+        if !does(power, *act) {
+            return Some(place);
         }
     }
-    Ok(())
+    None
+}
+
+/// The same in what is made for it.
+fn wrong_in(mut power: Power, acts: &[Act]) -> Option<usize> {
+    first_wrong(&mut power, acts)
+}
+
+/// What is wrong in the cases, after the opening of the plan with queues.
+pub fn wrong(alloc: Global, plan: &Plan) -> Result<Wrong, Memory> {
+    for case in &CASES {
+        let wrong = match Power::make(alloc, plan) {
+            Ok(power) => wrong_in(power, case.acts),
+            Err(memory) => return Err(memory),
+        };
+        if let Some(place) = wrong {
+            return Ok(Some((case.name, place)));
+        }
+    }
+    Ok(None)
 }

@@ -1,10 +1,10 @@
 //! What is sent to the targets.
-ghost use Rattle.std.specs.Prelude.{◌≡◌, ◌<◌, IfOk, length};
+ghost use Rattle.std.specs.Prelude.{◌≡◌, ◌<◌, length};
 
-use crate::plans::{DEVICE, FIRST, SECOND, WITH_TARGETS, plan};
+use crate::plans::{DEVICE, FIRST, SECOND};
+use crate::trials::Wrong;
 use std::alloc::Global;
-use std::test::Fail;
-use wdf_base::{Memory, ObjectId, Status};
+use wdf_base::{Memory, ObjectId, Plan, Status};
 use wdf_model::OBJECTS;
 use wdf_target::Targets;
 
@@ -88,18 +88,6 @@ static DONE: [Act; 17] = [
     Act::Holds(&[]),
 ];
 
-/// The targets at the opening of the plan with targets.
-fn opening(alloc: Global) -> Result<Targets, Memory>
-    ensures { IfOk result (λ targets. length targets.targets ≡ 5) }
-{
-    let plan = plan(alloc, &WITH_TARGETS)?;
-    if plan.declared_len() == 4 {
-        Targets::make(alloc, &plan)
-    } else {
-        Err(Memory)
-    }
-}
-
 /// Sends a request that no target holds; whether the target takes it.
 fn sends(targets: &mut Targets, t: ObjectId, r: ObjectId, forget: bool) -> bool
     ensures { length targets.new.targets ≡ length targets.old.targets }
@@ -161,16 +149,27 @@ fn first_wrong(targets: &mut Targets, acts: &[Act]) -> Option<usize>
     None
 }
 
-#[test]
-fn a_target_takes_what_it_has_room_for(rt: HostRuntime) -> Result<(), Fail> {
-    let mut targets = opening(rt.alloc())?;
-    assert_eq!(rt; first_wrong(&mut targets, &TAKEN), None);
-    Ok(())
+/// The same in what is made for it.
+fn wrong_in(mut targets: Targets, acts: &[Act]) -> Option<usize>
+    requires { length targets.targets ≡ 5 }
+{
+    first_wrong(&mut targets, acts)
 }
 
-#[test]
-fn what_is_done_comes_back(rt: HostRuntime) -> Result<(), Fail> {
-    let mut targets = opening(rt.alloc())?;
-    assert_eq!(rt; first_wrong(&mut targets, &DONE), None);
-    Ok(())
+/// What is wrong in the cases, after the opening of the plan with targets, which declares four
+/// objects.
+pub fn wrong(alloc: Global, plan: &Plan) -> Result<Wrong, Memory> {
+    if plan.declared_len() != 4 {
+        return Ok(Some(("a plan with targets", 0)));
+    }
+    for (name, acts) in [("taken", TAKEN.as_slice()), ("done", DONE.as_slice())] {
+        let wrong = match Targets::make(alloc, plan) {
+            Ok(targets) => wrong_in(targets, acts),
+            Err(memory) => return Err(memory),
+        };
+        if let Some(place) = wrong {
+            return Ok(Some((name, place)));
+        }
+    }
+    Ok(None)
 }
