@@ -35,8 +35,8 @@ pub record Begins (C D : Cpus) (f : ℕ) (frame : Frame) : Type 0 where
   pub others : (x : ℕ) → x ≢ f → (on D x ≡ on C x) × (frame_of D x ≡ frame_of C x)
 
 -- frames that go on, or end
-abbrev pub GoOn : Cpus → Cpus → Type 0
-GoOn C D = (x : ℕ) → 1 ≤ on D x → (1 ≤ on C x) × FrameKept (frame_of C x) (frame_of D x)
+abbrev pub FramesGoOn : Cpus → Cpus → Type 0
+FramesGoOn C D = (x : ℕ) → 1 ≤ on D x → (1 ≤ on C x) × FrameKept (frame_of C x) (frame_of D x)
 
 -- and where none ends
 abbrev pub NoneEnds : Cpus → Cpus → Type 0
@@ -53,8 +53,8 @@ begins C cpu f frame level none = record {
   );
 }
 
-same_frames : (C D : Cpus) → D ≡ C → GoOn C D × NoneEnds C D
-same_frames C D e = subst (λ (E : Cpus). GoOn C E × NoneEnds C E) (sym e) ((λ x h. (h, kept_same (frame_of C x) (frame_of C x) refl)), (λ x h. h))
+same_frames : (C D : Cpus) → D ≡ C → FramesGoOn C D × NoneEnds C D
+same_frames C D e = subst (λ (E : Cpus). FramesGoOn C E × NoneEnds C E) (sym e) ((λ x h. (h, kept_same (frame_of C x) (frame_of C x) refl)), (λ x h. h))
 
 arrived : {A : Type 0} (S : State A) (device : ℕ) (info : RequestInfo) (p : Place) → (arrive_at S device info p).cpus ≡ S.cpus
 arrived S device info (place.Queued q) = refl
@@ -66,8 +66,8 @@ cpus_of S = S.cpus
 -- what becomes of the frames by a deed: one begins, or the top one ends, or none does
 abbrev pub FramesBy : {A : Type 0} → Plan → Deed → State A → Type 0
 FramesBy plan (PushFrame cpu f frame level) S = Begins S.cpus (cpus.push S.cpus cpu.0 f.0 frame level.0) f.0 frame
-FramesBy plan (PopFrame cpu) S = GoOn S.cpus (cpus.pop S.cpus cpu.0) × ((f : ℕ) → 1 ≤ on S.cpus f → (cpus.top S.cpus cpu.0 ≡ Some f → ⊥) → 1 ≤ on (cpus.pop S.cpus cpu.0) f)
-FramesBy plan d S = GoOn S.cpus (do_deed plan d S).cpus × NoneEnds S.cpus (do_deed plan d S).cpus
+FramesBy plan (PopFrame cpu) S = FramesGoOn S.cpus (cpus.pop S.cpus cpu.0) × ((f : ℕ) → 1 ≤ on S.cpus f → (cpus.top S.cpus cpu.0 ≡ Some f → ⊥) → 1 ≤ on (cpus.pop S.cpus cpu.0) f)
+FramesBy plan d S = FramesGoOn S.cpus (do_deed plan d S).cpus × NoneEnds S.cpus (do_deed plan d S).cpus
 
 pub frames_by : {A : Type 0} (plan : Plan) (d : Deed) (S : State A) → Sound plan d S → FramesBy plan d S
 frames_by plan (PushFrame cpu f frame level) S s = begins S.cpus cpu.0 f.0 frame level.0 s.1

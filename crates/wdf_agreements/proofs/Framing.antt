@@ -45,7 +45,7 @@ use Rattle.wdf_agreements.proofs.LocksOnce.{lock_itself}
 use Rattle.wdf_agreements.proofs.Sound.{AllSound, Sound, lock_of_frame}
 use Rattle.wdf_agreements.proofs.SoundEvents.{HoldsNone, event_sound, same_declared}
 use Rattle.wdf_agreements.proofs.There.{StaysAt, deed_there}
-use Rattle.wdf_agreements.proofs.FramesStay.{Begins, GoOn, NoneEnds, frames_by}
+use Rattle.wdf_agreements.proofs.FramesStay.{Begins, FramesGoOn, NoneEnds, frames_by}
 
 -- a lock is held by a frame that is there; one that no call took is that of the frame's callback
 abbrev pub IsHeld : {A : Type 0} → Plan → State A → Held → Type 0
@@ -73,15 +73,15 @@ object_stays S U f k s = ap (λ (h : Handle). is_gone (life_of U.tree h.id.0)) k
 abbrev ObjectsStay : {A : Type 0} → State A → State A → Type 0
 ObjectsStay S U = (f : ℕ) → 1 ≤ on S.cpus f → StaysAt S.tree U.tree (object_of S f)
 
-there_still : {A : Type 0} (plan : Plan) (S U : State A) → GoOn S.cpus U.cpus → ObjectsStay S U → Framing plan S → (f : ℕ) → 1 ≤ on U.cpus f → is_gone (life_of U.tree (object_of U f)) ≡ false
+there_still : {A : Type 0} (plan : Plan) (S U : State A) → FramesGoOn S.cpus U.cpus → ObjectsStay S U → Framing plan S → (f : ℕ) → 1 ≤ on U.cpus f → is_gone (life_of U.tree (object_of U f)) ≡ false
 there_still plan S U go stay k f more = let g = go f more in object_stays S U f g.1 (stay f g.0)
 
-held_still : {A : Type 0} (plan : Plan) (S U : State A) (h : Held) → GoOn S.cpus U.cpus → ObjectsStay S U → 1 ≤ on U.cpus h.frame.0 → IsHeld plan S h → IsHeld plan U h
+held_still : {A : Type 0} (plan : Plan) (S U : State A) (h : Held) → FramesGoOn S.cpus U.cpus → ObjectsStay S U → 1 ≤ on U.cpus h.frame.0 → IsHeld plan S h → IsHeld plan U h
 held_still plan S U h go stay more k =
     let g = go h.frame.0 more in
     (more, λ start. lock_stays plan S U h.frame.0 g.1 (stay h.frame.0 g.0) ∙ k.1 start)
 
-framing_still : {A : Type 0} (plan : Plan) (S U : State A) → GoOn S.cpus U.cpus × NoneEnds S.cpus U.cpus → ObjectsStay S U → U.locks ≡ S.locks → Framing plan S → Framing plan U
+framing_still : {A : Type 0} (plan : Plan) (S U : State A) → FramesGoOn S.cpus U.cpus × NoneEnds S.cpus U.cpus → ObjectsStay S U → U.locks ≡ S.locks → Framing plan S → Framing plan U
 framing_still plan S U go stay same k = record {
   there = there_still plan S U go.0 stay k;
   held = subst (λ (L : Locks). Each (IsHeld plan U) L.held) (sym same)
@@ -144,14 +144,14 @@ framing_by plan (PushFrame cpu f frame level) S fit s k =
       ];
       held = each_still (IsHeld plan S) (IsHeld plan U)
           (λ h is.
-          let n : h.frame.0 ≢ f = λ e. (let none : on S.cpus h.frame.0 ≡ 0 = ap (on S.cpus) e ∙ b.new in let there = is.0 in let z : ⊥ = omega arith in z) in
+          let n : h.frame.0 ≢ f.0 = λ e. (let none : on S.cpus h.frame.0 ≡ 0 = ap (on S.cpus) e ∙ b.new in let there = is.0 in let z : ⊥ = omega arith in z) in
           let others = b.others h.frame.0 n in let same = others.0 in let there = is.0 in
           (omega arith, λ start. ap (λ (a : Frame). lock_of_callback plan a.callback a.object.id.0 (declared_in plan S a.object.id.0)) others.1 ∙ is.1 start))
           S.locks.held k.held;
     }
 framing_by plan (PopFrame cpu) S fit s k =
     let U = do_deed plan (PopFrame cpu) S in
-    let b : GoOn S.cpus U.cpus × ((f : ℕ) → 1 ≤ on S.cpus f → (top S.cpus cpu.0 ≡ Some f → ⊥) → 1 ≤ on U.cpus f) = frames_by plan (PopFrame cpu) S s in
+    let b : FramesGoOn S.cpus U.cpus × ((f : ℕ) → 1 ≤ on S.cpus f → (top S.cpus cpu.0 ≡ Some f → ⊥) → 1 ≤ on U.cpus f) = frames_by plan (PopFrame cpu) S s in
     let stay : ObjectsStay S U = objects_by plan (PopFrame cpu) S fit k in
     record {
       there = there_still plan S U b.0 stay k;

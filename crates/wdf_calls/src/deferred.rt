@@ -25,7 +25,7 @@ pub(crate) fn isr_dpc_outcome<A: Agent>(
 {
     if parts.interrupts().is_enabled(object)
         && plan.declares(Callback::EvtInterruptDpc, object)
-        && !parts.dpcs().is_queued(object)
+        && !parts.dpcs().is_dpc_queued(object)
     {
         number(1, Deeds::one(Deed::EnqueueDpc { cpu, object }))
     } else {
@@ -38,7 +38,7 @@ pub(crate) fn dpc_outcome<A: Agent>(parts: &Parts<A>, cpu: Cpu, object: ObjectId
     ensures answer { result.answer ≡ (calls.dpc_outcome parts.now cpu.0 object.0).answer }
     ensures deeds { result.deeds ≡ (calls.dpc_outcome parts.now cpu.0 object.0).deeds }
 {
-    if is_live(parts, object) && !parts.dpcs().is_queued(object) {
+    if is_live(parts, object) && !parts.dpcs().is_dpc_queued(object) {
         number(1, Deeds::one(Deed::EnqueueDpc { cpu, object }))
     } else {
         number(0, Deeds::none())
@@ -51,7 +51,7 @@ pub(crate) fn timer_outcome<A: Agent>(parts: &Parts<A>, object: ObjectId, ticks:
     ensures deeds { result.deeds ≡ (calls.timer_outcome parts.now object.0 ticks).deeds }
 {
     if is_live(parts, object) {
-        let was_queued = flag(parts.timers().is_queued(object));
+        let was_queued = flag(parts.timers().is_timer_queued(object));
         number(was_queued, Deeds::one(Deed::StartTimer { object, ticks }))
     } else {
         number(0, Deeds::none())
@@ -75,7 +75,7 @@ pub(crate) fn cancel_dpc_outcome<A: Agent>(parts: &Parts<A>, object: ObjectId) -
     ensures answer { result.answer ≡ (calls.number (flag (dpcs.is_dpc_queued parts.now.dpcs object.0)) (Deed.CancelDpc object ∷ [])).answer }
     ensures deeds { result.deeds ≡ (calls.number (flag (dpcs.is_dpc_queued parts.now.dpcs object.0)) (Deed.CancelDpc object ∷ [])).deeds }
 {
-    let was_queued = flag(parts.dpcs().is_queued(object));
+    let was_queued = flag(parts.dpcs().is_dpc_queued(object));
     number(was_queued, Deeds::one(Deed::CancelDpc { object }))
 }
 
@@ -84,6 +84,6 @@ pub(crate) fn stop_timer_outcome<A: Agent>(parts: &Parts<A>, object: ObjectId) -
     ensures answer { result.answer ≡ (calls.number (flag (timers.is_timer_queued parts.now.timers object.0)) (Deed.StopTimer object ∷ [])).answer }
     ensures deeds { result.deeds ≡ (calls.number (flag (timers.is_timer_queued parts.now.timers object.0)) (Deed.StopTimer object ∷ [])).deeds }
 {
-    let was_queued = flag(parts.timers().is_queued(object));
+    let was_queued = flag(parts.timers().is_timer_queued(object));
     number(was_queued, Deeds::one(Deed::StopTimer { object }))
 }

@@ -47,7 +47,10 @@ pub fn outcome<A: Agent>(
         CallKind::WdfObjectReference => does(Deed::Refer { object }),
         CallKind::WdfObjectDereference => does(Deed::Unrefer { object }),
         CallKind::GetContext => {
-            answer(parts.tree().get(object, number_in(call.b)), Deeds::none())
+            answer(
+                parts.tree().cell_of(object, number_in(call.b)),
+                Deeds::none(),
+            )
         }
         CallKind::SetContext => does(Deed::WriteCell {
             object,

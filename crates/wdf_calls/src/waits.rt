@@ -16,14 +16,14 @@ use wdf_rules::{is_number, object_in};
 fn is_lock_free<A: Agent>(parts: &Parts<A>, o: ObjectId) -> bool
     ensures { result ≡ is_free_lock parts.now.locks (object_lock o.0) }
 {
-    parts.locks().is_free(LockRef::Object(o))
+    parts.locks().is_free_lock(LockRef::Object(o))
 }
 
 /// Whether nothing is held from a queue.
 fn nothing_held<A: Agent>(parts: &Parts<A>, q: ObjectId) -> bool
     ensures { result ≡ calls.nothing_held parts.now q.0 }
 {
-    parts.queues().held(q) == 0
+    parts.queues().held_count(q) == 0
 }
 
 /// Whether nothing returns from a queue.
@@ -51,7 +51,8 @@ pub fn is_met<A: Agent>(parts: &Parts<A>, call: &Call) -> bool
         }
         CallKind::WdfDpcCancel => is_number(call.b, 0) || parts.cpus().nobody_on(o),
         CallKind::WdfTimerStop => is_number(call.b, 0) || parts.cpus().nobody_on(o),
-        CallKind::WdfWorkItemFlush => !parts.work_items().queued(o) && parts.cpus().nobody_on(o),
+        CallKind::WdfWorkItemFlush => !parts.work_items().is_work_queued(o)
+            && parts.cpus().nobody_on(o),
         CallKind::WdfIoTargetStop => is_number(call.b, 2) || parts.nothing_at(o),
         _ => true,
     }
@@ -61,7 +62,7 @@ pub fn is_met<A: Agent>(parts: &Parts<A>, call: &Call) -> bool
 fn some_received<A: Agent>(parts: &Parts<A>, q: ObjectId) -> bool
     ensures { result ≡ list_any (λ r. (info_of parts.now.requests r).received) (waiting_in parts.now.queues q.0) }
 {
-    let mut next = parts.queues().head(q);
+    let mut next = parts.queues().front(q);
     for _ in 0..parts.queues().len(q) {
         match next {
             Some(r) => {

@@ -8,7 +8,6 @@ ghost use Rattle.wdf_checker.specs.Kin as kin;
 ghost use Rattle.wdf_checker.specs.Groups as groups;
 ghost use Rattle.wdf_checker.specs.Maps as maps;
 
-use crate::events::told;
 use crate::maps::add;
 use std::alloc::Global;
 use std::collections::HashMap;
@@ -16,6 +15,7 @@ use std::marker::Model;
 use wdf_base::{Callback, Declared, Event, LockRef, Memory, ObjectId, Plan};
 use wdf_laws::Told;
 use wdf_lock::scope_of;
+use wdf_signs::told;
 
 /// A list of events, and what it tells of each object.
 #[derive(Drop)]

@@ -7,11 +7,11 @@ ghost use Rattle.wdf_checker.specs.Past.{before};
 ghost use Rattle.wdf_checker.specs.Tests as tests;
 
 use crate::begun::Frames;
-use crate::events::{begun_for, completed, destroyed};
 use crate::past::Past;
 use wdf_base::{Callback, Event, LockRef, same_callback};
 use wdf_laws::{Begun, Sign};
 use wdf_same::same_lock;
+use wdf_signs::{begun_for, completed, destroyed};
 
 fn completes_once(past: &Past, completed: Option<u32>) -> bool
     ensures { result ≡ laws.completes_once (before past.now) completed }

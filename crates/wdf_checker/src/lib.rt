@@ -7,7 +7,6 @@
 mod begun;
 mod checker;
 mod code;
-mod events;
 mod kin;
 mod laws;
 mod lists;

@@ -6,7 +6,6 @@ ghost use Rattle.wdf_checker.specs.Maps as maps;
 ghost use Rattle.wdf_checker.specs.Groups as groups;
 ghost use Rattle.wdf_checker.specs.Order as order;
 
-use crate::events::{arrived, arrived_at, taken};
 use crate::maps::{Numbers, add, number_at, put};
 use crate::shown::Shown;
 use std::alloc::Global;
@@ -14,6 +13,7 @@ use std::collections::HashMap;
 use wdf_base::{Event, Memory, ObjectId, Plan, QueueInfo};
 use wdf_declared::queue_of;
 use wdf_laws::Taking;
+use wdf_signs::{arrived, arrived_at, taken};
 
 /// What is kept of requests by device and by queue.
 #[derive(Drop)]

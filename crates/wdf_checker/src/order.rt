@@ -5,11 +5,11 @@ ghost use Rattle.wdf_laws.specs.Laws as laws;
 ghost use Rattle.wdf_checker.specs.Order as order;
 ghost use Rattle.wdf_checker.specs.Past.{before};
 
-use crate::events::presented;
 use crate::past::Past;
 use crate::shown::Shown;
 use wdf_base::Event;
 use wdf_laws::{Sign, Taking};
+use wdf_signs::presented;
 
 /// Whether a request waited from its entry to its presentation, at the entry with this number too.
 fn covers(entry: usize, shown: &Shown) -> bool

@@ -10,7 +10,6 @@ ghost use Rattle.wdf_checker.specs.Groups as groups;
 ghost use Rattle.wdf_checker.specs.Order as order;
 
 use crate::code::{code_of, number_in};
-use crate::events::{passed, passed_for, presented};
 use crate::kin::Kin;
 use crate::lists::{Lists, add_arrival, add_taking, keep_entry, keep_head, keep_number};
 use crate::maps::{flag_at, group_at, number_at};
@@ -22,6 +21,7 @@ use std::marker::Model;
 use wdf_base::{Callback, Event, InterruptInfo, LockRef, Memory, ObjectId, Plan, Stage};
 use wdf_declared::interrupt_of;
 use wdf_laws::{Sign, Taking};
+use wdf_signs::{passed, passed_for, presented};
 
 /// The first events of a list.
 #[derive(Drop)]

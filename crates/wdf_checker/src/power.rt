@@ -8,13 +8,13 @@ ghost use Rattle.wdf_model.specs.Plans as plans;
 ghost use Rattle.wdf_checker.specs.Tests as tests;
 
 use crate::begun::{Frames, is_on};
-use crate::events::{begun_on, passed, presented};
 use crate::past::Past;
 use wdf_base::{
     Callback, DeviceInfo, Event, InterruptInfo, ObjectId, Plan, QueueInfo, Rank, Stage,
 };
 use wdf_declared::{declares, device_of, interrupt_of, queue_of};
 use wdf_laws::{Begun, Sign, Stacked, Taking};
+use wdf_signs::{begun_on, passed, presented};
 
 fn is_entered(past: &Past, device: u32) -> bool
     ensures { result ≡ laws.is_entered past.now.plan (before past.now) device }

@@ -8,15 +8,15 @@ ghost use Rattle.wdf_base.specs.declared.call.CallKind.TheVariants as call;
 ghost use Rattle.wdf_base.specs.declared.event.Stage.TheVariants as stage;
 
 use crate::code::{Code, note, note_pair};
-use crate::events::{
-    acknowledged, arrived, begun_for, begun_on, called, called_well, cancel_posted, cleaned,
-    completed, destroyed, ended_on, given_up, headed, mark_undone, passed, passed_for, tailed,
-    taken,
-};
 use crate::maps::{Flags, Numbers, number_at, put};
 use std::alloc::Global;
 use std::collections::HashMap;
 use wdf_base::{CallKind, Callback, Event, Memory, Stage};
+use wdf_signs::{
+    acknowledged, arrived, begun_for, begun_on, called, called_well, cancel_posted, cleaned,
+    completed, destroyed, ended_on, given_up, headed, mark_undone, passed, passed_for, tailed,
+    taken,
+};
 
 /// What is kept of the signs that came.
 #[derive(Drop)]

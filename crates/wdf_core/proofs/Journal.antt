@@ -1,7 +1,7 @@
 -- Lemmas on the events so far: what may follow them, how the run stands, and the next one.
-use Rattle.std.proofs.Common.{if◌then◌else◌, Bool, true, false, ◌⊎◌, inl, inr, ◌&&◌, ℕ, zero, suc, ◌≡◌, ◌+◌, ◌<◌, ◌≤◌, ◌^◌, List, [], ◌∷◌, ◌++◌, length, position, Option, Some, None, is_none, refl, sym, ap, subst, ◌∙◌, arith, length-append, slice_get, nat_lt, nat_le, take}
+use Rattle.std.proofs.Common.{if◌then◌else◌, Bool, true, false, ◌⊎◌, inl, inr, ◌&&◌, ℕ, zero, suc, ◌≡◌, ◌+◌, ◌<◌, ◌≤◌, ◌^◌, List, [], ◌∷◌, ◌++◌, filter, length, position, Option, Some, None, is_none, is_some, refl, sym, ap, subst, ◌∙◌, arith, length-append, slice_get, nat_lt, nat_le, take}
 use Rattle.std.proofs.lemmas.Bool.Decides.{nat_tests}
-use Rattle.std.proofs.lemmas.Bool.{ltb-true, ltb-false}
+use Rattle.std.proofs.lemmas.Bool.{lt-ltb, ltb-true, ltb-false}
 use Rattle.wdf_base.specs.Meaning.{Meaning}
 use Rattle.wdf_base.specs.Resolved.{IsResolved}
 use Rattle.wdf_base.specs.declared.event.Event.{Event}
@@ -25,13 +25,14 @@ use Rattle.wdf_room.proofs.Doable.{Fine, agents_few}
 use Rattle.wdf_room.proofs.DoableRuns.{fine_after}
 use Rattle.wdf_room.proofs.RoomLaws.{each_event_is_doable, room_is_kept}
 use Rattle.wdf_steps.proofs.Parts.{number_kept}
-use Rattle.wdf_ready.specs.Search.{events_of}
+use Rattle.wdf_ready.specs.Search.{events_of, has_places}
 use Rattle.wdf_ready.proofs.Grouping.{few_groups}
+use Rattle.wdf_ready.proofs.Kept.{fewer_kept, same_events}
 use Rattle.wdf_model.specs.rules.Waits.{if_stuck, wait_lines, wait_list}
 use Rattle.wdf_model.specs.laws.FactsOfEvents.{IsTick}
 use Rattle.wdf_steps.specs.Clock.{FitsClock}
 use Rattle.wdf_core.specs.Course.{IsUnderWay}
-use Rattle.wdf_core.specs.Going.{goes_on}
+use Rattle.wdf_core.specs.Going.{goes_on, tick_if}
 use Rattle.wdf_core.proofs.Found.{search_finds}
 use Rattle.wdf_core.proofs.Spends.{spend_small}
 
@@ -83,7 +84,9 @@ module _ {A : Type 0} (m : Meaning A) (plan : Plan) (journal : List Event) (S : 
 
   -- the events that may come are those of the groups
   pub found : events_of plan m S all ≡ allowed plan m (state_after plan m journal)
-  found = ap (λ gs. events_of plan m S gs) u.groups ∙ ap (λ (T : State A). events_of plan m T (groups plan)) u.state ∙ search_finds plan m (state_after plan m journal)
+  found =
+      ap (λ gs. events_of plan m S gs) u.groups ∙ ap (λ (T : State A). events_of plan m T (filter (has_places plan) (groups plan))) u.state
+      ∙ same_events plan m (state_after plan m journal) (groups plan) ∙ search_finds plan m (state_after plan m journal)
 
   take_all : {T : Type 0} (xs : List T) → take (length xs) xs ≡ xs
   take_all [] = refl
@@ -112,7 +115,10 @@ module _ {A : Type 0} (m : Meaning A) (plan : Plan) (journal : List Event) (S : 
   agents_small h = subst (λ (T : State A). length T.agents ≤ 2 ^ 16) (sym u.state) (up_to_by (length (state_after plan m journal).agents) (nat_lt 65536 (length (state_after plan m journal).agents)) refl (agents_few (fine h)))
 
   pub groups_small : length all < 2 ^ 20
-  groups_small = subst (λ gs. length gs < 2 ^ 20) (sym u.groups) (few_groups plan (upper 1 8 plan.cpus u.resolved.cpus) (declared_few plan u.resolved))
+  groups_small =
+      let few = few_groups plan (upper 1 8 plan.cpus u.resolved.cpus) (declared_few plan u.resolved) in
+      let fewer = fewer_kept (has_places plan) (groups plan) in
+      subst (λ gs. length gs < 2 ^ 20) (sym u.groups) (omega arith)
 
   pub clock_fits : goes_on plan journal ≡ true → S.clock + 1 < 2 ^ 64
   clock_fits h =
@@ -171,6 +177,28 @@ module _ {A : Type 0} (m : Meaning A) (plan : Plan) (journal : List Event) (S : 
       let is = ready_going (goes (omega arith)) in
       let within : k < length (or_tick m (state_after plan m journal) (allowed plan m (state_after plan m journal))) = subst (λ xs. k < length xs) is h in
       ap (λ xs. slice_get xs k) is ∙ at_tick (allowed plan m (state_after plan m journal)) (waits_for_time m (state_after plan m journal)) k refl none within
+
+  -- ---- the first
+
+  pub first_stops : goes_on plan journal ≡ false → None ≡ slice_get (ready plan m journal) 0
+  first_stops h = sym (ap (λ xs. slice_get xs 0) (ready_stopped h))
+
+  -- the first event that may come, time aside, is the first that may follow
+  pub first_found : (e : Event) → goes_on plan journal ≡ true → slice_get (allowed plan m (state_after plan m journal)) 0 ≡ Some e → Some e ≡ slice_get (ready plan m journal) 0
+  first_found e h here = sym (ap (λ xs. slice_get xs 0) (ready_going h) ∙ at_some (allowed plan m (state_after plan m journal)) 0 e here)
+
+  first_tick_by : (xs : List Event) (b : Bool) → waits_for_time m (state_after plan m journal) ≡ b → slice_get xs 0 ≡ None
+      → tick_if b (state_after plan m journal).clock ≡ slice_get (or_tick m (state_after plan m journal) xs) 0
+  first_tick_by (x ∷ xs) b w h = absurd (let z : ⊥ = cc in z)
+  first_tick_by [] true w h = rw w refl
+  first_tick_by [] false w h = rw w refl
+
+  -- where none may come, it is the next tick, if something waits for it
+  pub first_tick : goes_on plan journal ≡ true → slice_get (allowed plan m (state_after plan m journal)) 0 ≡ None
+      → tick_if (waits_for_time m (state_after plan m journal)) (state_after plan m journal).clock ≡ slice_get (ready plan m journal) 0
+  first_tick h none =
+      first_tick_by (allowed plan m (state_after plan m journal)) (waits_for_time m (state_after plan m journal)) refl none
+      ∙ ap (λ xs. slice_get xs 0) (sym (ready_going h))
 
   -- ---- the first of an actor
 
@@ -326,9 +354,19 @@ module _ {A : Type 0} (m : Meaning A) (plan : Plan) (journal : List Event) (S : 
   unfolding wait_list
   stuck_where k h = stuck_by (ending_of plan m journal) (wait_lines plan m (state_after plan m journal)) k h
 
+-- ---- whether there is a first
+
+pub any_first : (xs : List Event) → is_some (slice_get xs 0) ≡ nat_lt 0 (length xs)
+any_first [] = refl
+any_first (x ∷ xs) = sym (lt-ltb 0 (length (x ∷ xs)) (omega arith))
+
+pub none_first : (xs : List Event) → slice_get xs 0 ≡ None → xs ≡ []
+none_first [] h = refl
+none_first (x ∷ xs) h = absurd (let z : ⊥ = cc in z)
+
 -- ---- the opening
 
-pub opens : {A : Type 0} (m : Meaning A) (plan : Plan) (S : State A) (all : List Group) (space : ℕ) → IsResolved plan → S ≡ state_after plan m [] → all ≡ groups plan → plan.limit ≤ space → IsUnderWay m plan [] S all space
+pub opens : {A : Type 0} (m : Meaning A) (plan : Plan) (S : State A) (all : List Group) (space : ℕ) → IsResolved plan → S ≡ state_after plan m [] → all ≡ filter (has_places plan) (groups plan) → plan.limit ≤ space → IsUnderWay m plan [] S all space
 unfolding state_after
 opens m plan S all space resolved state is room = record {
   resolved = resolved;

@@ -1,4 +1,4 @@
-ghost use Rattle.std.specs.Prelude.{◌≡◌, ◌<◌, ◌≤◌, ◌+◌, ◌^◌, ◌++◌, ◌∷◌, [], IfOk, None, Some, length, slice_get, true, vec_capacity};
+ghost use Rattle.std.specs.Prelude.{◌≡◌, ◌<◌, ◌≤◌, ◌+◌, ◌^◌, ◌++◌, ◌∷◌, ℕ, [], IfOk, IsFalse, IsTrue, None, Some, length, nat_lt, slice_get, true, vec_capacity};
 ghost use Rattle.wdf_base.specs.Resolved.{IsResolved};
 ghost use Rattle.wdf_base.specs.declared.event.Event.{Event};
 ghost use Rattle.wdf_base.specs.declared.event.Event.TheVariants as event;
@@ -7,7 +7,7 @@ ghost use Rattle.wdf_model.specs.State.{opening_agents};
 ghost use Rattle.wdf_model.specs.rules.Ready.{IsRunOf, allowed, ending_of, ending_without_fault, last_fault, ready, state_after, waits_for_time};
 ghost use Rattle.wdf_model.specs.rules.Waits.{wait_list};
 ghost use Rattle.wdf_core.specs.Course.{IsUnderWay};
-ghost use Rattle.wdf_core.specs.Going.{goes_on};
+ghost use Rattle.wdf_core.specs.Going.{goes_on, tick_if};
 ghost use Rattle.wdf_ready.specs.Actors.{is_by as is_step_of};
 
 use std::alloc::Global;
@@ -40,7 +40,7 @@ fn opening_parts<A: Agent>(
 pub struct Core<A: Agent> {
     plan: IndexedPlan,
     parts: Parts<A>,
-    /// The groups of candidates, in their order.
+    /// The groups of candidates that can have places, in their order.
     groups: Vec<Group>,
     journal: Vec<Event>,
 }
@@ -165,6 +165,39 @@ impl<A: Agent> Core<A> {
         }
     }
 
+    /// The first of the events that may follow; `None` exactly where none may. It looks for no other.
+    fn first_ready(&self) -> Option<Event>
+        ensures { result ≡ slice_get (ready self.now.plan A.meaning self.now.journal) 0 }
+    {
+        let _ = &self.plan;
+        if !self.goes_on() {
+            return None;
+        }
+        match self.allowed_at(0) {
+            Some(event) => Some(event),
+            None => self.tick_if_waiting(),
+        }
+    }
+
+    /// The next tick of the clock, where something waits for time.
+    fn tick_if_waiting(&self) -> Option<Event>
+        requires { goes_on self.now.plan self.now.journal ≡ true }
+        ensures { result ≡ tick_if (waits_for_time A.meaning (state_after self.now.plan A.meaning self.now.journal)) (state_after self.now.plan A.meaning self.now.journal).clock }
+    {
+        if self.waits_for_time() {
+            Some(self.tick())
+        } else {
+            None
+        }
+    }
+
+    /// Whether an event may follow. It doesn't count how many may.
+    pub fn any_ready(&self) -> bool
+        ensures { result ≡ nat_lt 0 (length (ready self.now.plan A.meaning self.now.journal)) }
+    {
+        self.first_ready().is_some()
+    }
+
     /// The k-th of the events that may follow.
     pub fn ready_at(&self, k: usize) -> Event
         requires { k < length (ready self.now.plan A.meaning self.now.journal) }
@@ -215,6 +248,33 @@ impl<A: Agent> Core<A> {
         ensures journal { (event : Event) × (slice_get (ready self.old.plan A.meaning self.old.journal) k ≡ Some event) × (self.new.journal ≡ self.old.journal ++ event ∷ []) }
     {
         let event = self.ready_at(k);
+        self.take(event);
+    }
+
+    /// Goes on by the first of the events that may follow, and answers true; false, and nothing changes, where none
+    /// may. It looks for no other event, and takes no memory.
+    pub fn apply_first(&mut self) -> bool
+        ensures plan { self.new.plan ≡ self.old.plan }
+        ensures taken { IsTrue result → (event : Event) × (slice_get (ready self.old.plan A.meaning self.old.journal) 0 ≡ Some event) × (self.new.journal ≡ self.old.journal ++ event ∷ []) }
+        ensures room { IsTrue result → length self.old.journal < self.old.plan.limit }
+        ensures over { IsFalse result → (ready self.old.plan A.meaning self.old.journal ≡ []) × (self.new.journal ≡ self.old.journal) }
+    {
+        match self.first_ready() {
+            Some(event) => {
+                self.take(event);
+                true
+            }
+            None => false,
+        }
+    }
+
+    /// Goes on by an event that may follow.
+    fn take(&mut self, event: Event)
+        requires { (k : ℕ) × (slice_get (ready self.old.plan A.meaning self.old.journal) k ≡ Some event) }
+        ensures plan { self.new.plan ≡ self.old.plan }
+        ensures journal { self.new.journal ≡ self.old.journal ++ event ∷ [] }
+        ensures room { length self.old.journal < self.old.plan.limit }
+    {
         step(&self.plan, &mut self.parts, &event);
         self.journal.push_reserved(event);
     }
@@ -224,7 +284,7 @@ impl<A: Agent> Core<A> {
         ensures { result ≡ ending_of self.now.plan A.meaning self.now.journal }
     {
         let _ = &self.plan;
-        if self.ready_len() > 0 {
+        if self.any_ready() {
             return Ending::Running;
         }
         match self.last_fault() {

@@ -1,8 +1,9 @@
 -- What is kept beside the state, after each act.
-use Rattle.std.proofs.Common.{◌≡◌, ℕ, zero, suc, ◌==◌, ◌<◌, ◌≤◌, max, fold, drop, filter, not, subst, Bool, true, false, List, [], ◌∷◌, ◌++◌, replicate, Option, Some, None, length, count_by, refl, ap, sym, ◌∙◌, arith}
+use Rattle.std.proofs.Common.{◌≡◌, ℕ, zero, suc, ◌+◌, ◌^◌, ◌==◌, ◌<◌, ◌≤◌, max, fold, drop, filter, not, subst, Bool, true, false, List, [], ◌∷◌, ◌++◌, replicate, Option, Some, None, length, count_by, refl, ap, sym, ◌∙◌, arith}
 use Rattle.std.specs.List.{flat_map}
 use Rattle.std.proofs.lemmas.List.Sums.{count_by-le-length}
 use Rattle.wdf_base.specs.declared.frame.Frame.{Frame}
+use Rattle.wdf_base.specs.declared.ids.ObjectId.{ObjectId}
 use Rattle.wdf_base.specs.declared.plan.Plan.{Plan}
 use Rattle.wdf_model.specs.declared.room.TheConstants.{FRAMES, OBJECTS}
 use Rattle.wdf_model.specs.Tables.{contains, entry, first_of_list, in_order, put, same_id}
@@ -10,7 +11,9 @@ use Rattle.wdf_model.specs.declared.entries.HeldLevel.{HeldLevel}
 use Rattle.wdf_model.specs.parts.Cpus.{Cpus, all_frames, frame_of, less_one, levels_of, levels_without, no_frame, opening_cpus, parked_with, running, stack_of, top, without_frame}
 use Rattle.wdf_model.specs.parts.Cpus as cpus
 use Rattle.wdf_model.proofs.Maps.{put_within, set_as_it_was}
-use Rattle.wdf_cpu.specs.Keys.{IsTally, Swapped, object_key, wait_key}
+use Rattle.wdf_counts.specs.Counts.{count_at}
+use Rattle.wdf_counts.proofs.Counting.{room_for_one}
+use Rattle.wdf_cpu.specs.Keys.{CountsFrames, Swapped, object_key, wait_key}
 use Rattle.wdf_cpu.specs.Kept.{IsKept, IsSound, cpus_in}
 use Rattle.wdf_cpu.specs.declared.cpus.Cpus.TheInside.{Inside}
 use Rattle.wdf_cpu.specs.Levels.{held_by}
@@ -20,32 +23,32 @@ use Rattle.wdf_cpu.proofs.Live.{few_frames, live_is_off, live_is_on, live_park, 
 use Rattle.wdf_cpu.proofs.Numbers.{absent_from}
 use Rattle.wdf_cpu.proofs.Passing.{passing_change, passing_change_off, passing_park, passing_pop, passing_push, passing_unpark}
 use Rattle.wdf_cpu.proofs.Peaks.{peaks_change, peaks_lower, peaks_pop, peaks_push, peaks_raise}
-use Rattle.wdf_cpu.proofs.Tallies.{tally_follows}
+use Rattle.wdf_cpu.proofs.Swapping.{counts_follow}
 
 -- ---- what is counted
 
 -- no count is greater than the frames are many
-pub counts_fit : (key : Frame → Option ℕ) (C : Cpus) (flags : List Bool) (levels counts awaited tally : List ℕ) → IsKept C flags levels counts awaited → IsTally key C tally
-    → (id : ℕ) → id < OBJECTS → entry 0 tally id < OBJECTS
-counts_fit key C flags levels counts awaited tally h t id within =
+pub counts_fit : (key : Frame → Option ℕ) (C : Cpus) (flags : List Bool) (levels counts awaited keyed : List ℕ) → IsKept C flags levels counts awaited → CountsFrames key C keyed
+    → (to : Option ObjectId) → count_at keyed to + 1 < 2 ^ 32
+counts_fit key C flags levels counts awaited keyed h t to = room_for_one keyed to (λ id within.
     let e = t.counted id within in
     let l = count_by-le-length (λ f. same_id (key (frame_of C f)) id) (all_frames C) in
     let few = few_frames C flags h.live in
-    omega arith
+    omega arith)
 
 -- a frame that is there is counted under its key
-pub live_is_counted : (key : Frame → Option ℕ) (C : Cpus) (tally : List ℕ) (f : ℕ) (left : Option ℕ) → left ≡ key (frame_of C f) → on C f ≡ 1 → IsTally key C tally
-    → (id : ℕ) → id < OBJECTS → same_id left id ≡ true → 1 ≤ entry 0 tally id
-live_is_counted key C tally f left is one t id within same =
+pub live_is_counted : (key : Frame → Option ℕ) (C : Cpus) (counts : List ℕ) (f : ℕ) (left : Option ℕ) → left ≡ key (frame_of C f) → on C f ≡ 1 → CountsFrames key C counts
+    → (id : ℕ) → id < OBJECTS → same_id left id ≡ true → 1 ≤ entry 0 counts id
+live_is_counted key C counts f left is one t id within same =
     let e = t.counted id within in
     let s = seen (λ x. same_id (key (frame_of C x)) id) f (all_frames C) (omega arith) (ap (λ k. same_id k id) (sym is) ∙ same) in
     omega arith
 
 -- the bounds and the places of what is kept, by the fields
-pub on_fits : (a : Inside) → IsSound a → (id : ℕ) → id < OBJECTS → entry 0 a.on id < OBJECTS
+pub on_fits : (a : Inside) → IsSound a → (to : Option ObjectId) → count_at a.on to + 1 < 2 ^ 32
 on_fits a h = counts_fit object_key (cpus_in a) a.live.items a.peaks.items a.on a.waits a.on h.kept h.kept.on
 
-pub waits_fit : (a : Inside) → IsSound a → (id : ℕ) → id < OBJECTS → entry 0 a.waits id < OBJECTS
+pub waits_fit : (a : Inside) → IsSound a → (to : Option ObjectId) → count_at a.waits to + 1 < 2 ^ 32
 waits_fit a h = counts_fit wait_key (cpus_in a) a.live.items a.peaks.items a.on a.waits a.waits h.kept h.kept.waits
 
 pub on_counted : (a : Inside) (f : ℕ) (left : Option ℕ) → IsSound a → left ≡ object_key (frame_of (cpus_in a) f) → on (cpus_in a) f ≡ 1
@@ -78,8 +81,8 @@ kept_push C flags levels counts awaited cpu f frame level peak counts' awaited' 
     let none : on C f ≡ 0 = absent_from f (all_frames C) fresh in record {
       live = live_push C flags cpu f frame level none within h.live;
       peaks = peaks_push C levels cpu f frame level peak is h.peaks;
-      on = tally_follows object_key C (cpus.push C cpu f frame level) counts counts' None (object_key frame) (λ id. let e = passing_push (λ fr. same_id (object_key fr) id) C cpu f frame level none in omega arith) ons h.on;
-      waits = tally_follows wait_key C (cpus.push C cpu f frame level) awaited awaited' None (wait_key frame) (λ id. let e = passing_push (λ fr. same_id (wait_key fr) id) C cpu f frame level none in omega arith) waits h.waits;
+      on = counts_follow object_key C (cpus.push C cpu f frame level) counts counts' None (object_key frame) (λ id. let e = passing_push (λ fr. same_id (object_key fr) id) C cpu f frame level none in omega arith) ons h.on;
+      waits = counts_follow wait_key C (cpus.push C cpu f frame level) awaited awaited' None (wait_key frame) (λ id. let e = passing_push (λ fr. same_id (wait_key fr) id) C cpu f frame level none in omega arith) waits h.waits;
     }
 
 pub kept_change : (C : Cpus) (flags : List Bool) (levels counts awaited : List ℕ) (f : ℕ) (frame : Frame) (counts' awaited' : List ℕ)
@@ -89,8 +92,8 @@ kept_change C flags levels counts awaited f frame counts' awaited' is ons waits 
     let one : on C f ≡ 1 = live_is_on C flags f h.live is in record {
       live = record { once = h.live.once; few = h.live.few };
       peaks = peaks_change C levels f frame h.peaks;
-      on = tally_follows object_key C (cpus.change C f frame) counts counts' (object_key (frame_of C f)) (object_key frame) (λ id. passing_change (λ fr. same_id (object_key fr) id) C f frame one) ons h.on;
-      waits = tally_follows wait_key C (cpus.change C f frame) awaited awaited' (wait_key (frame_of C f)) (wait_key frame) (λ id. passing_change (λ fr. same_id (wait_key fr) id) C f frame one) waits h.waits;
+      on = counts_follow object_key C (cpus.change C f frame) counts counts' (object_key (frame_of C f)) (object_key frame) (λ id. passing_change (λ fr. same_id (object_key fr) id) C f frame one) ons h.on;
+      waits = counts_follow wait_key C (cpus.change C f frame) awaited awaited' (wait_key (frame_of C f)) (wait_key frame) (λ id. passing_change (λ fr. same_id (wait_key fr) id) C f frame one) waits h.waits;
     }
 
 pub kept_change_off : (C : Cpus) (flags : List Bool) (levels counts awaited : List ℕ) (f : ℕ) (frame : Frame)
@@ -139,8 +142,8 @@ popped_keeps C flags levels counts awaited cpu f counts' awaited' is_top ons wai
     let off = top_goes_off C flags cpu f is_top h.live in record {
       live = live_pop C flags cpu f is_top h.live;
       peaks = peaks_pop C levels cpu f is_top h.peaks;
-      on = tally_follows object_key C (cpus.pop C cpu) counts counts' (object_key (frame_of C f)) None (λ id. let e = passing_pop (λ fr. same_id (object_key fr) id) C cpu f is_top off in omega arith) ons h.on;
-      waits = tally_follows wait_key C (cpus.pop C cpu) awaited awaited' (wait_key (frame_of C f)) None (λ id. let e = passing_pop (λ fr. same_id (wait_key fr) id) C cpu f is_top off in omega arith) waits h.waits;
+      on = counts_follow object_key C (cpus.pop C cpu) counts counts' (object_key (frame_of C f)) None (λ id. let e = passing_pop (λ fr. same_id (object_key fr) id) C cpu f is_top off in omega arith) ons h.on;
+      waits = counts_follow wait_key C (cpus.pop C cpu) awaited awaited' (wait_key (frame_of C f)) None (λ id. let e = passing_pop (λ fr. same_id (wait_key fr) id) C cpu f is_top off in omega arith) waits h.waits;
     }
 
 pub kept_pop : (C : Cpus) (flags : List Bool) (levels counts awaited : List ℕ) (cpu f : ℕ) (counts' awaited' : List ℕ)

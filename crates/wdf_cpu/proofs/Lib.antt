@@ -1,5 +1,5 @@
 pub mod Numbers
-pub mod Tallies
+pub mod Swapping
 pub mod Passing
 pub mod Live
 pub mod Peaks

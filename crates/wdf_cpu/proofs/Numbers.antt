@@ -15,7 +15,7 @@ pub absent_from : (f : ℕ) (xs : List ℕ) → contains f xs ≡ false → coun
 absent_from f [] h = refl
 absent_from f (x ∷ xs) h = absent_from_by f x xs (x == f) refl h (absent_from f xs)
 
--- ---- numbers that stand once each
+-- ---- numbers that are there once each
 
 twice_not : (b : Bool) → b ≡ not (not b)
 twice_not true = refl
@@ -27,7 +27,7 @@ without_shortens n xs =
     let e = length-filter (λ x. x == n) xs in
     omega arith
 
--- numbers below a bound that stand once each are no more than the bound
+-- numbers below a bound that are there once each are no more than the bound
 pub few_numbers : (n : ℕ) (xs : List ℕ) → ((x : ℕ) → count_by (λ y. y == x) xs ≤ 1) → ((x : ℕ) → n ≤ x → count_by (λ y. y == x) xs ≡ 0) → length xs ≤ n
 few_numbers zero [] once below = omega arith
 few_numbers zero (x ∷ xs) once below = absurd (let a = at_head x x xs in let yes : flag (x == x) ≡ 1 = ap flag (equal x x refl) in let b = below x (omega arith) in omega arith)

@@ -1,10 +1,10 @@
--- What the processors keep: the state that it stands for, the room, and what is kept beside the state.
+-- What the fields of the processors say: the state that they stand for, the room, and what is kept beside it.
 use Rattle.std.specs.Prelude.{ℕ, ◌≡◌, ◌≤◌, ◌==◌, Bool, false, List, length, count_by, vec_capacity}
 use Rattle.std.specs.VecDeque.{deque_capacity}
 use Rattle.wdf_model.specs.declared.room.TheConstants.{EVENTS, FRAMES}
 use Rattle.wdf_model.specs.Tables.{entry, flag}
 use Rattle.wdf_model.specs.parts.Cpus.{Cpus, all_frames, blank_frame, frame_level}
-use Rattle.wdf_cpu.specs.Keys.{IsTally, object_key, wait_key}
+use Rattle.wdf_cpu.specs.Keys.{CountsFrames, object_key, wait_key}
 use Rattle.wdf_cpu.specs.declared.cpus.Cpus.TheInside.{Inside}
 
 abbrev pub cpus_in : Inside → Cpus
@@ -23,8 +23,8 @@ pub record ArePeaks (C : Cpus) (peaks : List ℕ) : Type 0 where
 pub record IsKept (C : Cpus) (flags : List Bool) (levels counts awaited : List ℕ) : Type 0 where
   pub live : IsLive C flags
   pub peaks : ArePeaks C levels
-  pub on : IsTally object_key C counts
-  pub waits : IsTally wait_key C awaited
+  pub on : CountsFrames object_key C counts
+  pub waits : CountsFrames wait_key C awaited
 
 pub record IsSound (a : Inside) : Type 0 where
   pub frames_room : FRAMES ≤ vec_capacity a.frames

@@ -24,7 +24,7 @@ abbrev pub keyed : (Frame → Option ℕ) → Cpus → ℕ → ℕ
 keyed key C id = count_by (λ f. same_id (key (frame_of C f)) id) (all_frames C)
 
 -- The counts are those of the frames, for every id that an object may have.
-pub record IsTally (key : Frame → Option ℕ) (C : Cpus) (counts : List ℕ) : Type 0 where
+pub record CountsFrames (key : Frame → Option ℕ) (C : Cpus) (counts : List ℕ) : Type 0 where
   pub counted : (id : ℕ) → id < OBJECTS → entry 0 counts id ≡ keyed key C id
 
 -- One left that was counted under `left`, and one came that is counted under `came`.

@@ -1,5 +1,5 @@
 pub mod Keys
 pub mod Levels
-pub mod Asked
+pub mod FrameTests
 pub mod Kept
 pub mod Leasts

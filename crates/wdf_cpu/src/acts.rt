@@ -1,16 +1,18 @@
 //! What begins, goes on, ends, parks and comes back.
-ghost use Rattle.std.specs.Prelude.{◌≡◌, ◌<◌, false, true, length, IsSome, Some, vec_capacity};
+ghost use Rattle.std.specs.Prelude.{◌≡◌, ◌+◌, ◌^◌, ◌<◌, if◌then◌else◌, false, true, length, IsSome, Some, vec_capacity};
 ghost use Rattle.std.specs.Option.{option_map};
 ghost use Rattle.wdf_model.specs.Tables.{change_at, contains};
 ghost use Rattle.wdf_model.specs.declared.entries.Running.{Running};
 ghost use Rattle.wdf_model.specs.parts.Cpus as cpus;
 ghost use Rattle.wdf_model.specs.parts.Cpus.{no_frame};
+ghost use Rattle.wdf_counts.specs.Counts.{count_at, moved_count};
 
 use crate::cpus::{Cpus, NO_FRAME, object_key, wait_key};
 use crate::levels::{drop_level, drop_levels, peak_of};
 use crate::rising::{drop_number, insert_number};
 use crate::stack::{pop_from, push_on};
-use wdf_base::{Cpu, Frame, FrameId, Irql};
+use wdf_base::{Cpu, Frame, FrameId, Irql, ObjectId};
+use wdf_counts::Counts;
 use wdf_maps::{entry_at, put_at};
 use wdf_model::{EVENTS, FRAMES, HeldLevel, Running};
 
@@ -23,8 +25,8 @@ impl Cpus {
         ensures done { self.new ≡ cpus.push self.old cpu.0 f.0 frame level.0 }
         ensures size { length self.new.stacks ≡ length self.old.stacks }
     {
-        self.on.swap(None, object_key(&frame));
-        self.waits.swap(None, wait_key(&frame));
+        self.on.moves(None, object_key(&frame));
+        self.waits.moves(None, wait_key(&frame));
         put_at(&mut self.frames, NO_FRAME, f.0, Running { frame, level });
         put_at(&mut self.live, false, f.0, true);
         put_at(&mut self.peaks, 0, f.0, peak_of(&self.levels, f, level).0);
@@ -40,8 +42,8 @@ impl Cpus {
         let live = entry_at(&self.live, false, f.0);
         let object = object_key(&self.frames[f.0 as usize].frame);
         let awaited = wait_key(&self.frames[f.0 as usize].frame);
-        self.on.swap_if(live, object, object_key(&frame));
-        self.waits.swap_if(live, awaited, wait_key(&frame));
+        moves_if(&mut self.on, live, object, object_key(&frame));
+        moves_if(&mut self.waits, live, awaited, wait_key(&frame));
         set_frame(&mut self.frames, f, frame);
     }
 
@@ -77,8 +79,8 @@ impl Cpus {
     {
         let f = FrameId(pop_from(&mut self.stacks, cpu).unwrap());
         let frame = entry_at(&self.frames, NO_FRAME, f.0).frame;
-        self.on.swap(object_key(&frame), None);
-        self.waits.swap(wait_key(&frame), None);
+        self.on.moves(object_key(&frame), None);
+        self.waits.moves(wait_key(&frame), None);
         put_at(&mut self.frames, NO_FRAME, f.0, NO_FRAME);
         put_at(&mut self.live, false, f.0, false);
         put_at(&mut self.peaks, 0, f.0, 0);
@@ -106,6 +108,16 @@ impl Cpus {
     {
         drop_number(&mut self.parked, f.0);
         push_on(&mut self.stacks, cpu, f.0);
+    }
+}
+
+/// One that was counted of an id is counted of another, where a frame is live; else nothing changes.
+fn moves_if(counts: &mut Counts, live: bool, from: Option<ObjectId>, to: Option<ObjectId>)
+    requires { count_at counts.old to + 1 < 2 ^ 32 }
+    ensures { counts.new ≡ (if live then moved_count counts.old from to else counts.old) }
+{
+    if live {
+        counts.moves(from, to);
     }
 }
 

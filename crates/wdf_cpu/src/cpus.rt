@@ -5,13 +5,13 @@ ghost use Rattle.wdf_model.specs.State.{object_in};
 ghost use Rattle.wdf_cpu.specs.Keys.{object_key, wait_key};
 
 use crate::stack::Stack;
-use crate::tally::Tally;
 use std::alloc::Global;
 use std::collections::VecDeque;
 use std::marker::Model;
 use wdf_base::{
     Arg, Callback, Frame, Handle, Irql, Memory, ObjectId, Plan, Status, VARIABLES, Value,
 };
+use wdf_counts::Counts;
 use wdf_model::{EVENTS, FRAMES, HeldLevel, Running};
 
 /// The handle of no object.
@@ -20,7 +20,7 @@ const NO_HANDLE: Handle = Handle {
     name: 0,
 };
 
-/// What stands for a frame that isn't there.
+/// The entry of a number that no frame has.
 pub(crate) const NO_FRAME: Running = Running {
     frame: Frame {
         callback: Callback::EvtDestroyCallback,
@@ -56,9 +56,9 @@ pub struct Cpus {
     /// The level of each frame, by number.
     pub(crate) peaks: Vec<u8>,
     /// How many frames run on an object.
-    pub(crate) on: Tally,
+    pub(crate) on: Counts,
     /// How many frames wait for an object.
-    pub(crate) waits: Tally,
+    pub(crate) waits: Counts,
     /// What a number says that is no frame's.
     pub(crate) blank: Frame,
 }
@@ -88,8 +88,8 @@ impl Cpus {
             levels: VecDeque::with_capacity(alloc, EVENTS as usize)?,
             live: Vec::with_capacity(alloc, FRAMES as usize)?,
             peaks: Vec::with_capacity(alloc, FRAMES as usize)?,
-            on: Tally::make(alloc)?,
-            waits: Tally::make(alloc)?,
+            on: Counts::make(alloc)?,
+            waits: Counts::make(alloc)?,
             blank: NO_FRAME.frame,
         })
     }

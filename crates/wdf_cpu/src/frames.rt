@@ -3,10 +3,10 @@ ghost use Rattle.std.specs.Prelude.{◌≡◌, ◌+◌, ◌<◌, ◌≤◌, ◌+
 ghost use Rattle.std.specs.List.{flat_map, list_any};
 ghost use Rattle.wdf_model.specs.State.{waits_for};
 ghost use Rattle.wdf_model.specs.parts.Cpus as cpus;
-ghost use Rattle.wdf_cpu.specs.Asked.{answers};
+ghost use Rattle.wdf_cpu.specs.FrameTests.{passes};
 
-use crate::asked::Asked;
 use crate::cpus::Cpus;
+use crate::frame_test::FrameTest;
 use crate::stack::Stack;
 use wdf_base::{Callback, FrameId, ObjectId};
 use wdf_model::{FRAMES, OBJECTS};
@@ -17,7 +17,7 @@ impl Cpus {
         ensures value { result ≡ length (cpus.all_frames self.now) }
         ensures small { result ≤ FRAMES }
     {
-        frames_on(&self.stacks) + self.parked.len()
+        stacked_len(&self.stacks) + self.parked.len()
     }
 
     /// The frame at a place: those of each processor from its top on, then the parked ones.
@@ -29,13 +29,13 @@ impl Cpus {
     }
 
     /// How many frames run on an object.
-    pub fn on(&self, o: ObjectId) -> u32
+    pub fn frames_on(&self, o: ObjectId) -> u32
         ensures { result ≡ cpus.frames_on self.now o.0 }
     {
         if o.0 < OBJECTS {
             self.on.of(o)
         } else {
-            self.count(Asked::On(o))
+            self.count(FrameTest::On(o))
         }
     }
 
@@ -43,7 +43,7 @@ impl Cpus {
     pub fn nobody_on(&self, o: ObjectId) -> bool
         ensures { result ≡ cpus.nobody_on self.now o.0 }
     {
-        self.on(o) == 0
+        self.frames_on(o) == 0
     }
 
     /// Whether a frame waits for an object: it is the first argument of the call that waits.
@@ -53,7 +53,7 @@ impl Cpus {
         if o.0 < OBJECTS {
             self.waits.of(o) != 0
         } else {
-            self.any(Asked::WaitsFor(o))
+            self.any(FrameTest::WaitsFor(o))
         }
     }
 
@@ -61,35 +61,35 @@ impl Cpus {
     pub fn is_running(&self, callback: Callback, device: ObjectId) -> bool
         ensures { result ≡ cpus.is_running self.now callback device.0 }
     {
-        self.any(Asked::Runs(callback, device))
+        self.any(FrameTest::Runs(callback, device))
     }
 
     /// Whether a frame spends at this tick.
     pub fn any_spends(&self, time: u64) -> bool
         ensures { result ≡ list_any (λ f. nat_lt time (cpus.frame_of self.now f).until) (cpus.all_frames self.now) }
     {
-        self.any(Asked::SpendsAt(time))
+        self.any(FrameTest::SpendsAt(time))
     }
 
-    /// Whether it is so of a frame.
-    fn any(&self, asked: Asked) -> bool
-        ensures { result ≡ list_any (λ f. answers asked (cpus.frame_of self.now f)) (cpus.all_frames self.now) }
+    /// Whether some frame passes a test.
+    fn any(&self, test: FrameTest) -> bool
+        ensures { result ≡ list_any (λ f. passes test (cpus.frame_of self.now f)) (cpus.all_frames self.now) }
     {
         for place in 0..self.live_len() {
-            if asked.is_so(self.frame(self.live_at(place))) {
+            if test.passes(self.frame(self.live_at(place))) {
                 return true;
             }
         }
         false
     }
 
-    /// Of how many frames it is so.
-    fn count(&self, asked: Asked) -> u32
-        ensures { result ≡ count_by (λ f. answers asked (cpus.frame_of self.now f)) (cpus.all_frames self.now) }
+    /// How many frames pass a test.
+    fn count(&self, test: FrameTest) -> u32
+        ensures { result ≡ count_by (λ f. passes test (cpus.frame_of self.now f)) (cpus.all_frames self.now) }
     {
         let mut count = 0;
         for place in 0..self.live_len() {
-            if asked.is_so(self.frame(self.live_at(place))) {
+            if test.passes(self.frame(self.live_at(place))) {
                 count += 1;
             }
         }
@@ -98,7 +98,7 @@ impl Cpus {
 }
 
 /// How many frames are on processors.
-fn frames_on(stacks: &[Stack]) -> usize
+fn stacked_len(stacks: &[Stack]) -> usize
     requires { length (flat_map (λ fs. fs) stacks.now) ≤ FRAMES }
     ensures { result ≡ length (flat_map (λ fs. fs) stacks.now) }
 {

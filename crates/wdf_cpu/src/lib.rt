@@ -2,14 +2,13 @@
 #![tactic(auto)]
 
 mod acts;
-mod asked;
 mod cpus;
+mod frame_test;
 mod frames;
 mod levels;
 mod order;
 mod readers;
 mod rising;
 mod stack;
-mod tally;
 
 pub use cpus::Cpus;

@@ -1,11 +1,13 @@
-ghost use Rattle.std.specs.Prelude.{◌≡◌};
+ghost use Rattle.std.specs.Prelude.{◌≡◌, slice_get};
 ghost use Rattle.wdf_base.specs.Plan.{declared_of};
 ghost use Rattle.wdf_model.specs.Plans as plans;
 
-use wdf_base::{Callback, Declared, DeviceInfo, InterruptInfo, ObjectId, Plan, QueueInfo};
+use wdf_base::{
+    Callback, ClassInfo, Declared, DeviceInfo, InterruptInfo, ObjectId, Plan, QueueInfo, TargetInfo,
+};
 
 /// What is declared under an id: `None` for the id 0, and for one that is past the declared ones.
-fn declared_at(plan: &Plan, o: ObjectId) -> Option<Declared>
+pub fn declared_at(plan: &Plan, o: ObjectId) -> Option<Declared>
     ensures { result ≡ declared_of plan.now o.0 }
 {
     if o.0 == 0 {
@@ -42,6 +44,33 @@ pub fn interrupt_of(plan: &Plan, o: ObjectId) -> Option<InterruptInfo>
     match declared_at(plan, o) {
         Some(Declared::Interrupt(interrupt)) => Some(interrupt),
         _ => None,
+    }
+}
+
+/// The target with this id, if it is one's.
+pub fn target_of(plan: &Plan, o: ObjectId) -> Option<TargetInfo>
+    ensures { result ≡ plans.target_of plan.now o.0 }
+{
+    match declared_at(plan, o) {
+        Some(Declared::Target(target)) => Some(target),
+        _ => None,
+    }
+}
+
+/// The class with a number, if there is one.
+pub fn class_at(plan: &Plan, class: u16) -> Option<ClassInfo>
+    ensures { result ≡ slice_get plan.now.classes class }
+{
+    plan.classes.as_slice().get(usize::from(class)).copied()
+}
+
+/// The number of the name of a class; 0 for what is none.
+pub fn name_of_class(plan: &Plan, class: u16) -> u32
+    ensures { result ≡ plans.name_of_class plan.now class }
+{
+    match class_at(plan, class) {
+        Some(info) => info.name(),
+        None => 0,
     }
 }
 

@@ -76,14 +76,14 @@ impl Dpcs {
     }
 
     /// The first DPC of a processor's list, `None` exactly where the list is empty.
-    pub fn head(&self, cpu: Cpu) -> Option<ObjectId>
+    pub fn dpc_head(&self, cpu: Cpu) -> Option<ObjectId>
         ensures { option_map (λ o. o.0) result ≡ dpcs.dpc_head self.now cpu.0 }
     {
         self.queued.front(u32::from(cpu.0)).map(ObjectId)
     }
 
     /// Whether the DPC is in a list.
-    pub fn is_queued(&self, o: ObjectId) -> bool
+    pub fn is_dpc_queued(&self, o: ObjectId) -> bool
         ensures { result ≡ dpcs.is_dpc_queued self.now o.0 }
     {
         self.queued.owner(o.0).is_some()
@@ -108,7 +108,7 @@ impl Dpcs {
         ensures done { self.new ≡ (if result then dpcs.enqueue self.old cpu.0 o.0 else self.old) }
         ensures size { length self.new.lists ≡ length self.old.lists }
     {
-        if self.is_queued(o) {
+        if self.is_dpc_queued(o) {
             return false;
         }
         self.queued.push_back(u32::from(cpu.0), o.0);

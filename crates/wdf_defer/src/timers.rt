@@ -115,14 +115,14 @@ impl Timers {
     }
 
     /// Whether the timer is queued.
-    pub fn is_queued(&self, o: ObjectId) -> bool
+    pub fn is_timer_queued(&self, o: ObjectId) -> bool
         ensures { result ≡ timers.is_timer_queued self.now o.0 }
     {
         self.timed_of(o).is_some()
     }
 
     /// Whether the timer is queued and its due tick is reached.
-    pub fn due(&self, o: ObjectId, now: u64) -> bool
+    pub fn timer_due(&self, o: ObjectId, now: u64) -> bool
         ensures { result ≡ timers.timer_due self.now o.0 now }
     {
         match self.timed_of(o) {
@@ -132,14 +132,14 @@ impl Timers {
     }
 
     /// The least due tick, `None` exactly where no timer is queued.
-    pub fn next_time(&self) -> Option<u64>
+    pub fn next_timer(&self) -> Option<u64>
         ensures { result ≡ timers.next_timer self.now }
     {
         least_tick(self.queued.as_slice())
     }
 
     /// Whether a timer is due later than now.
-    pub fn any_later(&self, now: u64) -> bool
+    pub fn any_later_timer(&self, now: u64) -> bool
         ensures { result ≡ timers.any_later_timer self.now now }
     {
         now < self.latest

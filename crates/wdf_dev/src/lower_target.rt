@@ -1,7 +1,6 @@
 ghost use Rattle.std.specs.Prelude.{◌≡◌, ◌==◌, map, filter, not, vec_capacity, IfOk};
 ghost use Rattle.wdf_model.specs.declared.entries.SentRequest.{SentRequest};
 ghost use Rattle.std.specs.List.{filter_map};
-ghost use Rattle.wdf_model.specs.Plans as plans;
 ghost use Rattle.wdf_model.specs.Tables as tables;
 ghost use Rattle.wdf_model.specs.agents.LowerTarget as target;
 ghost use Rattle.wdf_model.specs.State as state;
@@ -11,9 +10,9 @@ use crate::least::lesser_if;
 use std::alloc::Global;
 use std::marker::Model;
 use wdf_base::{
-    Arg, Call, CallKind, Declared, Event, Handle, Memory, ObjectId, Plan, Post, Status, TargetInfo,
-    Value, same_object_id,
+    Arg, Call, CallKind, Event, Handle, Memory, ObjectId, Plan, Post, Status, Value, same_object_id,
 };
+use wdf_declared::target_of;
 use wdf_model::SentRequest;
 use wdf_same::same_value;
 
@@ -146,26 +145,13 @@ fn drop_request(sent: &mut Vec<SentRequest>, r: ObjectId)
     sent.retain(|request| !same_object_id(request.request.id, r));
 }
 
-/// The target with this id, if it is one's.
-fn info_of(plan: &Plan, o: ObjectId) -> Option<TargetInfo>
-    ensures { result ≡ plans.target_of plan.now o.0 }
-{
-    if o.0 == 0 {
-        return None;
-    }
-    match plan.declared.as_slice().get(o.0 as usize - 1) {
-        Some(Declared::Target(info)) => Some(*info),
-        _ => None,
-    }
-}
-
 impl LowerTarget {
     /// The agent of a declared target, with nothing sent to it. One that isn't declared takes
     /// nothing.
     pub fn make(alloc: Global, plan: &Plan, o: ObjectId, agent: u16) -> Result<LowerTarget, Memory>
         ensures { IfOk result (λ made. made ≡ target.target_at plan.now o.0 agent) }
     {
-        let (delay, status, depth) = match info_of(plan, o) {
+        let (delay, status, depth) = match target_of(plan, o) {
             Some(info) => (info.delay, info.status, info.depth),
             None => (0, Status::Success, 0),
         };

@@ -1,4 +1,4 @@
--- What the locks keep: the state that it stands for, the room, and what is kept beside the state.
+-- What the fields of the locks say: the state that they stand for, the room, and what is kept beside it.
 use Rattle.std.specs.Prelude.{ℕ, ◌≡◌, ◌<◌, ◌≤◌, List, All, length, count_by, vec_capacity}
 use Rattle.wdf_base.specs.declared.object.LockRef.{LockRef}
 use Rattle.wdf_model.specs.declared.entries.Held.{Held}

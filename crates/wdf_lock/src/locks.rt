@@ -53,7 +53,7 @@ impl Locks {
     }
 
     /// The hold of a lock; None where it is free.
-    fn hold(&self, lock: LockRef) -> Option<Held>
+    fn hold_of(&self, lock: LockRef) -> Option<Held>
         ensures value { result ≡ locks.hold_of self.now lock }
         ensures once { count_by (is_of lock) self.now.held ≤ 1 }
     {
@@ -68,14 +68,14 @@ impl Locks {
     pub fn holder(&self, lock: LockRef) -> Option<FrameId>
         ensures { option_map (λ f. f.0) result ≡ locks.holder self.now lock }
     {
-        self.hold(lock).map(|held| held.frame)
+        self.hold_of(lock).map(|held| held.frame)
     }
 
     /// Whether nobody holds a lock.
-    pub fn is_free(&self, lock: LockRef) -> bool
+    pub fn is_free_lock(&self, lock: LockRef) -> bool
         ensures { result ≡ locks.is_free_lock self.now lock }
     {
-        self.hold(lock).is_none()
+        self.hold_of(lock).is_none()
     }
 
     /// Whether nobody holds a lock, where there is one.
@@ -83,7 +83,7 @@ impl Locks {
         ensures { result ≡ locks.is_free_if_any self.now lock }
     {
         match lock {
-            Some(lock) => self.is_free(lock),
+            Some(lock) => self.is_free_lock(lock),
             None => true,
         }
     }
@@ -92,7 +92,7 @@ impl Locks {
     pub fn holds(&self, f: FrameId, lock: LockRef) -> bool
         ensures { result ≡ locks.holds self.now f.0 lock }
     {
-        match self.hold(lock) {
+        match self.hold_of(lock) {
             Some(held) => held.frame.0 == f.0,
             None => false,
         }
@@ -102,7 +102,7 @@ impl Locks {
     pub fn holds_by_call(&self, f: FrameId, lock: LockRef) -> bool
         ensures { result ≡ locks.holds_by_call self.now f.0 lock }
     {
-        match self.hold(lock) {
+        match self.hold_of(lock) {
             Some(held) => held.frame.0 == f.0 && held.by_call,
             None => false,
         }
@@ -136,7 +136,7 @@ impl Locks {
     pub fn release(&mut self, lock: LockRef)
         ensures { self.new ≡ locks.release self.old lock }
     {
-        let hold = self.hold(lock);
+        let hold = self.hold_of(lock);
         drop_holds(&mut self.held, lock);
         self.holders.set(lock, None);
         uncount_call(&mut self.calls, hold);

@@ -1,12 +1,12 @@
 //! Which lock a callback needs, and takes at its start.
-ghost use Rattle.std.specs.Prelude.{◌≡◌, slice_get};
-ghost use Rattle.wdf_base.specs.Plan.{declared_of};
+ghost use Rattle.std.specs.Prelude.{◌≡◌};
 ghost use Rattle.wdf_model.specs.Plans as plans;
 ghost use Rattle.wdf_model.specs.parts.Locks as locks;
 
 use wdf_base::{
     Callback, CallbackLock, ClassInfo, Declared, LockRef, ObjectId, Plan, QueueInfo, Scope,
 };
+use wdf_declared::{class_at, declared_at};
 
 /// The scope lock that a callback on an object needs; None exactly where it needs none. For a
 /// declared object its id says which, for one of a class its class. (KMDF: an interrupt's lock is
@@ -91,7 +91,7 @@ fn parent_lock(plan: &Plan, declared: Option<Declared>) -> Option<LockRef>
     ensures { result ≡ locks.parent_lock plan.now declared }
 {
     match declared {
-        Some(Declared::OfClass(class)) => serial_lock(plan, class_of(plan, class)),
+        Some(Declared::OfClass(class)) => serial_lock(plan, class_at(plan, class)),
         _ => None,
     }
 }
@@ -107,25 +107,7 @@ fn serial_lock(plan: &Plan, class: Option<ClassInfo>) -> Option<LockRef>
                 serialize: true,
                 ..
             },
-        ) => scope_lock(parent, declared_as(plan, parent)),
+        ) => scope_lock(parent, declared_at(plan, parent)),
         _ => None,
-    }
-}
-
-/// The class with a number.
-fn class_of(plan: &Plan, class: u16) -> Option<ClassInfo>
-    ensures { result ≡ slice_get plan.now.classes class }
-{
-    plan.classes.as_slice().get(usize::from(class)).copied()
-}
-
-/// What the plan declares with an id.
-fn declared_as(plan: &Plan, o: ObjectId) -> Option<Declared>
-    ensures { result ≡ declared_of plan.now o.0 }
-{
-    if o.0 == 0 || o.0 > plan.declared_len() {
-        None
-    } else {
-        Some(plan.declared(o))
     }
 }

@@ -13,10 +13,10 @@ use wdf_plans::IndexedPlan;
 
 impl<A: Agent> Parts<A> {
     /// The front of a queue.
-    fn head(&self, q: ObjectId) -> Option<ObjectId>
+    fn front(&self, q: ObjectId) -> Option<ObjectId>
         ensures { option_map (λ r. r.0) result ≡ queues_of_state.front self.now.queues q.0 }
     {
-        self.queues.head(q)
+        self.queues.front(q)
     }
 
     /// A control call of a queue.
@@ -33,7 +33,7 @@ impl<A: Agent> Parts<A> {
         ensures { self.new ≡ deeds.do_deed plan.now (Deed.PurgeQueue q) self.old }
     {
         self.set_mode(q, Mode::Purged);
-        'waiting: while let Some(r) = self.head(q) {
+        'waiting: while let Some(r) = self.front(q) {
             self.withdraw(plan, q, r);
         }
     }

@@ -30,7 +30,7 @@ impl<A: Agent> Parts<A> {
     pub fn is_powered(&self, plan: &IndexedPlan, q: ObjectId) -> bool
         ensures { result ≡ state.is_powered plan.now self.now q.0 }
     {
-        !plan.is_managed(q) || self.power.up(plan.device_of_queue(q))
+        !plan.is_managed(q) || self.power.queues_up(plan.device_of_queue(q))
     }
 
     /// Whether a queue delivers, by its mode and by power. (KMDF)
@@ -79,7 +79,7 @@ impl<A: Agent> Parts<A> {
     pub fn is_locked(&self, o: ObjectId) -> bool
         ensures { result ≡ state.is_locked self.now o.0 }
     {
-        !self.locks.is_free(LockRef::Object(o))
+        !self.locks.is_free_lock(LockRef::Object(o))
     }
 
     /// What an object is in the plan.

@@ -35,9 +35,11 @@ pub enum Object {
     Target(u32, u64),
 }
 
-/// What a plan declares, and its callbacks, each with its object.
+/// What a plan declares: the objects, the names of the classes, and the callbacks, each with its
+/// object.
 pub struct Parts {
     pub objects: &'static [Object],
+    pub classes: &'static [u32],
     pub callbacks: &'static [(Callback, Object)],
 }
 
@@ -106,6 +108,27 @@ fn all_declared(alloc: Global, objects: &[Object]) -> Result<Items<Declared, MAN
     Ok(items)
 }
 
+/// A class of general objects.
+fn class(name: u32) -> ClassInfo {
+    ClassInfo::Plain {
+        name,
+        kind: PlainKind::Object,
+    }
+}
+
+fn all_classes(alloc: Global, names: &[u32]) -> Result<Items<ClassInfo, FEW>, Memory> {
+    let mut items = Items::new(alloc);
+    for name in names {
+        if items.len() < 99 {
+            match items.push(class(*name)) {
+                Ok(()) => {}
+                Err(error) => return Err(error),
+            }
+        }
+    }
+    Ok(items)
+}
+
 /// A script with no statement.
 fn script(alloc: Global, callback: Callback, object: Object) -> Script {
     Script {
@@ -135,9 +158,11 @@ fn all_scripts(
 /// The plan that declares these.
 pub fn plan(alloc: Global, parts: &Parts) -> Result<Plan, Memory> {
     let declared = all_declared(alloc, parts.objects)?;
+    let classes = all_classes(alloc, parts.classes)?;
     let scripts = all_scripts(alloc, parts.callbacks)?;
     let mut plan = PlanBuilder::new(alloc, 1, 100, 16).finish();
     plan.declared = declared;
+    plan.classes = classes;
     plan.scripts = scripts;
     Ok(plan)
 }
@@ -153,6 +178,7 @@ pub static WITH_QUEUES: Parts = Parts {
         Object::Off(5),
         Object::Queue(6, OTHER_DEVICE),
     ],
+    classes: &[],
     callbacks: &[
         (Callback::EvtIoResume, Object::Queue(3, DEVICE)),
         (Callback::EvtIoResume, Object::Queue(6, OTHER_DEVICE)),
@@ -168,6 +194,7 @@ pub static WITH_INTERRUPTS: Parts = Parts {
         Object::Interrupt(3),
         Object::Interrupt(4),
     ],
+    classes: &[],
     callbacks: &[
         (Callback::EvtDevicePrepareHardware, Object::Off(2)),
         (Callback::EvtDeviceReleaseHardware, Object::Off(2)),
@@ -190,5 +217,13 @@ pub static WITH_TARGETS: Parts = Parts {
         Object::Target(3, 2),
         Object::Target(4, 1),
     ],
+    classes: &[],
+    callbacks: &[],
+};
+
+/// Two classes, and no declared object but the driver object.
+pub static WITH_CLASSES: Parts = Parts {
+    objects: &[Object::Driver],
+    classes: &[2, 3],
     callbacks: &[],
 };

@@ -1,5 +1,5 @@
 //! Each part is tried on its plan.
-use crate::plans::{Parts, WITH_INTERRUPTS, WITH_QUEUES, WITH_TARGETS, plan};
+use crate::plans::{Parts, WITH_CLASSES, WITH_INTERRUPTS, WITH_QUEUES, WITH_TARGETS, plan};
 use crate::{declared, pnp, power, targets};
 use std::alloc::Global;
 use std::test::Fail;
@@ -13,6 +13,8 @@ pub type Wrong = Option<(&'static str, usize)>;
 enum Tried {
     Queues,
     Interrupts,
+    OfTargets,
+    Classes,
     Power,
     Pnp,
     Targets,
@@ -23,7 +25,8 @@ fn parts_of(tried: Tried) -> &'static Parts {
     match tried {
         Tried::Queues | Tried::Power => &WITH_QUEUES,
         Tried::Interrupts | Tried::Pnp => &WITH_INTERRUPTS,
-        Tried::Targets => &WITH_TARGETS,
+        Tried::OfTargets | Tried::Targets => &WITH_TARGETS,
+        Tried::Classes => &WITH_CLASSES,
     }
 }
 
@@ -32,6 +35,8 @@ fn wrong(alloc: Global, plan: &Plan, tried: Tried) -> Result<Wrong, Memory> {
     match tried {
         Tried::Queues => Ok(declared::wrong_of_queues(plan)),
         Tried::Interrupts => Ok(declared::wrong_of_interrupts(plan)),
+        Tried::OfTargets => Ok(declared::wrong_of_targets(plan)),
+        Tried::Classes => Ok(declared::wrong_of_classes(plan)),
         Tried::Power => power::wrong(alloc, plan),
         Tried::Pnp => pnp::wrong(alloc, plan),
         Tried::Targets => targets::wrong(alloc, plan),
@@ -48,6 +53,8 @@ fn parts_are_as_their_cases_say(rt: HostRuntime) -> Result<(), Fail> {
     for tried in [
         Tried::Queues,
         Tried::Interrupts,
+        Tried::OfTargets,
+        Tried::Classes,
         Tried::Power,
         Tried::Pnp,
         Tried::Targets,

@@ -4,6 +4,7 @@ ghost use Rattle.wdf_model.specs.Plans as plans;
 
 use crate::indexed::IndexedPlan;
 use wdf_base::{ClassInfo, Kind, ObjectId};
+use wdf_declared::name_of_class;
 
 impl IndexedPlan {
     /// The kind of a class's objects; General for what is no class.
@@ -20,10 +21,7 @@ impl IndexedPlan {
     pub fn name_of_class(&self, class: u16) -> u32
         ensures { result ≡ plans.name_of_class self.now class }
     {
-        match self.class_at(class) {
-            Some(info) => info.name(),
-            None => 0,
-        }
+        name_of_class(&self.plan, class)
     }
 
     /// The parent that a class names; the id 0 where the call that makes the object names it.

@@ -9,6 +9,7 @@ use std::marker::Model;
 use wdf_base::{
     ClassInfo, Declared, DeviceInfo, InterruptInfo, Memory, ObjectId, Plan, QueueInfo, TargetInfo,
 };
+use wdf_declared::{class_at, declared_at, device_of, interrupt_of, queue_of, target_of};
 
 /// A plan, with tables over it that are made once, so that what is asked at each event is found without a
 /// search through all that is declared.
@@ -84,61 +85,34 @@ impl IndexedPlan {
     pub fn device_of(&self, o: ObjectId) -> Option<DeviceInfo>
         ensures { result ≡ plans.device_of self.now o.0 }
     {
-        match self.declared(o) {
-            Some(Declared::Device(device)) => Some(device),
-            _ => None,
-        }
+        device_of(&self.plan, o)
     }
 
     /// The queue with this id, if it is one's.
     pub fn queue_of(&self, o: ObjectId) -> Option<QueueInfo>
         ensures { result ≡ plans.queue_of self.now o.0 }
     {
-        match self.declared(o) {
-            Some(Declared::Queue(queue)) => Some(queue),
-            _ => None,
-        }
+        queue_of(&self.plan, o)
     }
 
     /// The interrupt with this id, if it is one's.
     pub fn interrupt_of(&self, o: ObjectId) -> Option<InterruptInfo>
         ensures { result ≡ plans.interrupt_of self.now o.0 }
     {
-        match self.declared(o) {
-            Some(Declared::Interrupt(interrupt)) => Some(interrupt),
-            _ => None,
-        }
+        interrupt_of(&self.plan, o)
     }
 
     /// The target with this id, if it is one's.
     pub fn target_of(&self, o: ObjectId) -> Option<TargetInfo>
         ensures { result ≡ plans.target_of self.now o.0 }
     {
-        match self.declared(o) {
-            Some(Declared::Target(target)) => Some(target),
-            _ => None,
-        }
+        target_of(&self.plan, o)
     }
 
     /// The class with a number, if there is one.
     pub fn class_at(&self, class: u16) -> Option<ClassInfo>
         ensures { result ≡ slice_get self.now.classes class }
     {
-        self.plan
-            .classes
-            .as_slice()
-            .get(usize::from(class))
-            .copied()
-    }
-}
-
-/// What is declared under an id.
-fn declared_at(plan: &Plan, o: ObjectId) -> Option<Declared>
-    ensures { result ≡ declared_of plan.now o.0 }
-{
-    if o.0 == 0 {
-        None
-    } else {
-        plan.declared.as_slice().get(o.0 as usize - 1).copied()
+        class_at(&self.plan, class)
     }
 }

@@ -1,7 +1,7 @@
 ghost use Rattle.std.specs.Prelude.{◌≡◌, ◌<◌, IfOk, length};
 ghost use Rattle.wdf_model.specs.parts.Pnp as definition;
 
-use crate::device::Device;
+use crate::sequence::Sequence;
 use std::alloc::Global;
 use std::marker::Model;
 use wdf_base::{Ask, Memory, ObjectId, Plan, Step, Value};
@@ -11,7 +11,7 @@ use wdf_model::Phase;
 #[derive(Debug, Drop)]
 pub struct Pnp {
     /// By the device's id.
-    devices: Vec<Device>,
+    devices: Vec<Sequence>,
 }
 
 impl Model for Pnp {
@@ -31,7 +31,7 @@ impl Pnp {
         let count = 1 + plan.declared_len() as usize;
         let mut devices = Vec::with_capacity(alloc, count)?;
         for id in 0..count {
-            devices.push(Device::make(alloc, plan, ObjectId(id as u32))?)?;
+            devices.push(Sequence::make(alloc, plan, ObjectId(id as u32))?)?;
         }
         Ok(Pnp { devices })
     }

@@ -57,7 +57,7 @@ next_is_held P bits id next has few e = by_next P bits id next has few (rw e (ne
     by_next : (P : Power) (bits : List Bool) (id : ℕ) (next : Option ℕ) → HasHeld bits P.holdings → length P.holdings ≤ OBJECTS → IsNext bits id next
         → IsNextHeld P id (option_map (λ r. record { 0 = r }) next)
     by_next P bits id None has few next = λ k h. sym (has k) ∙ next k h
-    by_next P bits id (Some r) has few next = (next.0, held_there P.holdings r (sym (has r) ∙ next.1), few, λ k h l. sym (has k) ∙ next.2 k h l)
+    by_next P bits id (Some r) has few next = (next.0, held_there P.holdings r (sym (has r) ∙ next.1), few, sym (has r) ∙ next.1, λ k h l. sym (has k) ∙ next.2 k h l)
 
 -- who isn't held isn't unsettled
 settled : (P : Power) (d : ℕ) (h : Holding) → is_held h ≡ false → is_unsettled_at P d h ≡ false

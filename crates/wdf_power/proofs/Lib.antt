@@ -1,4 +1,3 @@
-pub mod Tallies
 pub mod Readers
 pub mod Waking
 pub mod Least

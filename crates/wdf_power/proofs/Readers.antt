@@ -1,15 +1,17 @@
 -- What the counts say: how many requests of a device are unsettled, and whether a resume is due.
-use Rattle.std.proofs.Common.{if◌then◌else◌, ◌≡◌, ℕ, suc, ◌+◌, ◌<◌, ◌==◌, nat_lt, Bool, true, false, not, ◌&&◌, ◌||◌, List, [], ◌∷◌, Some, None, length, count_by, slice_index, refl, sym, ap, ◌∙◌, arith, add-zero}
+use Rattle.std.proofs.Common.{if◌then◌else◌, ◌≡◌, ℕ, suc, ◌+◌, ◌<◌, ◌==◌, nat_lt, Bool, true, false, not, ◌&&◌, List, [], ◌∷◌, Some, None, length, count_by, refl, sym, ap, ◌∙◌, arith, add-zero}
 use Rattle.std.specs.List.{list_any, range_with_len}
 use Rattle.std.proofs.Math.Bool.{and-false, and-true}
 use Rattle.std.proofs.lemmas.List.Sums.{length-filter}
-use Rattle.std.proofs.lemmas.Bool.Decides.{nat_tests}
 use Rattle.wdf_base.specs.declared.ids.ObjectId.{ObjectId}
 use Rattle.wdf_model.specs.declared.entries.Holding.{Holding}
+use Rattle.wdf_model.specs.declared.room.TheConstants.{OBJECTS}
 use Rattle.wdf_model.specs.Tables.{entry, flag}
 use Rattle.wdf_model.specs.parts.Power as definition
-use Rattle.wdf_model.proofs.Counts.{count_cons, count_no, count_yes}
-use Rattle.wdf_power.specs.Power.{Tallies, device_at, due_at, is_of, unsettled_at}
+use Rattle.wdf_model.proofs.Counts.{count_cons}
+use Rattle.wdf_counts.specs.Counts.{AreCounted, is_at}
+use Rattle.wdf_counts.proofs.Counting.{any_counted, any_same}
+use Rattle.wdf_power.specs.Power.{device_at, due_at, unsettled_at}
 
 -- tests that agree count alike
 count_alike : {T : Type 0} (p q : T → Bool) → ((x : T) → p x ≡ q x) → (xs : List T) → count_by p xs ≡ count_by q xs
@@ -35,51 +37,35 @@ count_ids p blank (x ∷ xs) f from h =
     let g = count_cons p x xs in
     omega arith
 
-positive : (n : ℕ) → nat_lt 0 (suc n) ≡ true
-positive n = grind (arith, nat_tests)
-
--- some entry passes where the count isn't 0
-any_by : {T : Type 0} (p : T → Bool) (x : T) (xs : List T) (b : Bool) → p x ≡ b → nat_lt 0 (count_by p xs) ≡ list_any p xs → nat_lt 0 (count_by p (x ∷ xs)) ≡ (b || list_any p xs)
-any_by p x xs true e rest = rw (count_yes p x xs e) (positive (count_by p xs))
-any_by p x xs false e rest = rw (count_no p x xs e) rest
-
-any_counted : {T : Type 0} (p : T → Bool) (xs : List T) → nat_lt 0 (count_by p xs) ≡ list_any p xs
-any_counted p [] = refl
-any_counted p (x ∷ xs) = any_by p x xs (p x) refl (any_counted p xs)
-
-any_alike : {T : Type 0} (p q : T → Bool) → ((x : T) → p x ≡ q x) → (xs : List T) → list_any p xs ≡ list_any q xs
-any_alike p q same [] = refl
-any_alike p q same (x ∷ xs) = rw (same x) (ap (λ b. q x || b) (any_alike p q same xs))
-
 -- what is held, and passes, at a device
-held_with : (held passes : Bool) (device : ObjectId) (d : ℕ) → is_of d (if held && passes then Some device else None) ≡ ((held && (device.0 == d)) && passes)
+held_with : (held passes : Bool) (device : ObjectId) (d : ℕ) → is_at d (if held && passes then Some device else None) ≡ ((held && (device.0 == d)) && passes)
 held_with false passes device d = refl
 held_with true true device d = sym (and-true (device.0 == d))
 held_with true false device d = sym (and-false (device.0 == d))
 
 -- the requests that are held at a device and aren't acknowledged are the unsettled ones
-pub unsettled_found : (P : definition.Power) (d : ℕ) → count_by (λ h. is_of d (unsettled_at P.queues h)) P.holdings ≡ length (definition.unsettled P d)
+pub unsettled_found : (P : definition.Power) (d : ℕ) → count_by (λ h. is_at d (unsettled_at P.queues h)) P.holdings ≡ length (definition.unsettled P d)
 unsettled_found P d =
     let ids = range_with_len 0 (length P.holdings) in
     let p : Holding → Bool = definition.is_unsettled_at P d in
-    let f : count_by (λ h. is_of d (unsettled_at P.queues h)) P.holdings ≡ count_by p P.holdings =
-    count_alike (λ h. is_of d (unsettled_at P.queues h)) p (λ h. held_with (definition.is_held h) (not h.acknowledged) (device_at P.queues h) d) P.holdings in
+    let f : count_by (λ h. is_at d (unsettled_at P.queues h)) P.holdings ≡ count_by p P.holdings =
+    count_alike (λ h. is_at d (unsettled_at P.queues h)) p (λ h. held_with (definition.is_held h) (not h.acknowledged) (device_at P.queues h) d) P.holdings in
     let g : count_by (λ r. p (definition.holding_of P r)) ids ≡ count_by p P.holdings =
     count_ids p definition.no_holding P.holdings (definition.holding_of P) 0 (λ k. let z : 0 + k ≡ k = omega arith in ap (definition.holding_of P) z) in
     f ∙ sym g ∙ sym (length-filter (λ r. p (definition.holding_of P r)) ids)
 
-pub unsettled_counted : (P : definition.Power) (counts : List ℕ) (d : ℕ) → Tallies P.holdings (unsettled_at P.queues) counts → d < length counts
-    → slice_index counts d ≡ length (definition.unsettled P d)
-unsettled_counted P counts d sound within = sound d within ∙ unsettled_found P d
+pub unsettled_counted : (P : definition.Power) (counts : List ℕ) (d : ℕ) → AreCounted (unsettled_at P.queues) P.holdings counts → d < OBJECTS
+    → entry 0 counts d ≡ length (definition.unsettled P d)
+unsettled_counted P counts d counted within = counted.count d within ∙ unsettled_found P d
 
 -- a resume is due for some request exactly where one is found that is held with it
-pub due_found : (P : definition.Power) (d : ℕ) → list_any (λ h. is_of d (due_at P.queues h)) P.holdings ≡ definition.any_resume_due P d
+pub due_found : (P : definition.Power) (d : ℕ) → list_any (λ h. is_at d (due_at P.queues h)) P.holdings ≡ definition.any_resume_due P d
 due_found P d =
-    any_alike (λ h. is_of d (due_at P.queues h)) (λ h. definition.is_held_at P d h && h.resume_due) (λ h. held_with (definition.is_held h) h.resume_due (device_at P.queues h) d) P.holdings
+    any_same (λ h. is_at d (due_at P.queues h)) (λ h. definition.is_held_at P d h && h.resume_due) P.holdings (λ h. held_with (definition.is_held h) h.resume_due (device_at P.queues h) d)
 
-pub due_counted : (P : definition.Power) (counts : List ℕ) (d : ℕ) → Tallies P.holdings (due_at P.queues) counts → d < length counts
-    → nat_lt 0 (slice_index counts d) ≡ definition.any_resume_due P d
-due_counted P counts d sound within =
-    let p : Holding → Bool = λ h. is_of d (due_at P.queues h) in
-    let e : slice_index counts d ≡ count_by p P.holdings = sound d within in
+pub due_counted : (P : definition.Power) (counts : List ℕ) (d : ℕ) → AreCounted (due_at P.queues) P.holdings counts → d < OBJECTS
+    → nat_lt 0 (entry 0 counts d) ≡ definition.any_resume_due P d
+due_counted P counts d counted within =
+    let p : Holding → Bool = λ h. is_at d (due_at P.queues h) in
+    let e : entry 0 counts d ≡ count_by p P.holdings = counted.count d within in
     ap (nat_lt 0) e ∙ any_counted p P.holdings ∙ due_found P d

@@ -1,5 +1,5 @@
--- What the code keeps beside the power of devices and requests: counts by device.
-use Rattle.std.specs.Prelude.{if◌then◌else◌, ◌≡◌, ℕ, ◌<◌, ◌≤◌, Bool, false, ◌==◌, ◌&&◌, not, List, length, count_by, Option, Some, None, slice_index}
+-- At which device a request counts, what a device is at the opening, and the next request that is held.
+use Rattle.std.specs.Prelude.{if◌then◌else◌, ◌≡◌, ℕ, ◌<◌, ◌≤◌, true, false, ◌&&◌, not, List, length, Option, Some, None}
 use Rattle.wdf_base.specs.declared.ids.ObjectId.{ObjectId}
 use Rattle.wdf_base.specs.declared.plan.Plan.{Plan}
 use Rattle.wdf_model.specs.declared.entries.DevicePower.{DevicePower}
@@ -22,15 +22,6 @@ unsettled_at queues h = if is_held h && not h.acknowledged then Some (device_at 
 abbrev pub due_at : List QueuePower → Holding → Option ObjectId
 due_at queues h = if is_held h && h.resume_due then Some (device_at queues h) else None
 
--- what is of this device
-abbrev pub is_of : ℕ → Option ObjectId → Bool
-is_of d None = false
-is_of d (Some device) = device.0 == d
-
--- each count is that of its device
-abbrev pub Tallies : List Holding → (Holding → Option ObjectId) → List ℕ → Type 0
-Tallies holdings device counts = (d : ℕ) → d < length counts → slice_index counts d ≡ count_by (λ h. is_of d (device h)) holdings
-
 -- the power of an id at the opening
 abbrev pub opening_device_at : Plan → ℕ → DevicePower
 opening_device_at plan d = opening_device_power (device_of plan d)
@@ -39,4 +30,4 @@ opening_device_at plan d = opening_device_power (device_of plan d)
 abbrev pub IsNextHeld : Power → ℕ → Option ObjectId → Type 0
 IsNextHeld P id None = (k : ℕ) → id ≤ k → is_held (holding_of P k) ≡ false
 IsNextHeld P id (Some r) =
-    (id ≤ r.0) × (r.0 < length P.holdings) × (length P.holdings ≤ OBJECTS) × ((k : ℕ) → id ≤ k → k < r.0 → is_held (holding_of P k) ≡ false)
+    (id ≤ r.0) × (r.0 < length P.holdings) × (length P.holdings ≤ OBJECTS) × (is_held (holding_of P r.0) ≡ true) × ((k : ℕ) → id ≤ k → k < r.0 → is_held (holding_of P k) ≡ false)

@@ -4,6 +4,5 @@
 
 mod opening;
 mod power;
-mod tally;
 
 pub use power::Power;

@@ -2,13 +2,14 @@ ghost use Rattle.std.specs.Prelude.{◌≡◌, ◌<◌, ◌≤◌, IfOk, count_b
 ghost use Rattle.std.specs.List.{list_any};
 ghost use Rattle.wdf_model.specs.Tables.{entry, least, put};
 ghost use Rattle.wdf_model.specs.parts.Power as definition;
+ghost use Rattle.wdf_counts.specs.Counts.{is_at};
 ghost use Rattle.wdf_power.specs.Power as kept;
 
 use crate::opening::{opening_devices, opening_queues};
-use crate::tally::Tally;
 use std::alloc::Global;
 use std::marker::Model;
 use wdf_base::{Memory, ObjectId, Plan, Stage, Step};
+use wdf_counts::Counts;
 use wdf_maps::{entry_at, put_at};
 use wdf_model::{DevicePower, Holding, OBJECTS, QueuePower};
 use wdf_sets::IdSet;
@@ -44,9 +45,9 @@ pub struct Power {
     /// By the request's id.
     holdings: Vec<Holding>,
     /// How many requests are held and not acknowledged, by device.
-    unsettled: Tally,
+    unsettled: Counts,
     /// For how many requests a resume is due, by device.
-    due: Tally,
+    due: Counts,
     /// The requests that are held.
     held: IdSet,
 }
@@ -94,27 +95,27 @@ fn due_at(queues: &[QueuePower], holding: &Holding) -> Option<ObjectId>
 
 /// Whether a resume is due for some request of a device, by a look at all of them.
 fn some_due(queues: &[QueuePower], holdings: &[Holding], d: ObjectId) -> bool
-    ensures { result ≡ list_any (λ h. kept.is_of d.0 (kept.due_at queues.now h)) holdings.now }
+    ensures { result ≡ list_any (λ h. is_at d.0 (kept.due_at queues.now h)) holdings.now }
 {
     holdings
         .iter()
-        .any(|holding| is_of(d, due_at(queues, holding)))
+        .any(|holding| is_at(d, due_at(queues, holding)))
 }
 
 /// How many requests of a device are held and not acknowledged, by a look at all of them.
 fn count_unsettled(queues: &[QueuePower], holdings: &[Holding], d: ObjectId) -> usize
-    ensures value { result ≡ count_by (λ h. kept.is_of d.0 (kept.unsettled_at queues.now h)) holdings.now }
+    ensures value { result ≡ count_by (λ h. is_at d.0 (kept.unsettled_at queues.now h)) holdings.now }
     ensures small { result ≤ length holdings.now }
 {
     holdings
         .iter()
-        .filter(|holding| is_of(d, unsettled_at(queues, holding)))
+        .filter(|holding| is_at(d, unsettled_at(queues, holding)))
         .count()
 }
 
 /// Whether a device is there, and it is this one.
-fn is_of(d: ObjectId, device: Option<ObjectId>) -> bool
-    ensures { result ≡ kept.is_of d.0 device }
+fn is_at(d: ObjectId, device: Option<ObjectId>) -> bool
+    ensures { result ≡ is_at d.0 device }
 {
     match device {
         Some(device) => device.0 == d.0,
@@ -128,14 +129,12 @@ impl Power {
     pub fn make(alloc: Global, plan: &Plan) -> Result<Power, Memory>
         ensures { IfOk result (λ power. power ≡ definition.opening_power plan.now) }
     {
-        let devices = opening_devices(alloc, plan)?;
-        let count = devices.len();
         Ok(Power {
-            devices,
+            devices: opening_devices(alloc, plan)?,
             queues: opening_queues(alloc, plan)?,
             holdings: Vec::with_capacity(alloc, OBJECTS as usize)?,
-            unsettled: Tally::make(alloc, count)?,
-            due: Tally::make(alloc, count)?,
+            unsettled: Counts::make(alloc)?,
+            due: Counts::make(alloc)?,
             held: IdSet::make(alloc, OBJECTS)?,
         })
     }
@@ -162,14 +161,14 @@ impl Power {
     }
 
     /// Whether the queues of a device are up.
-    pub fn up(&self, d: ObjectId) -> bool
+    pub fn queues_up(&self, d: ObjectId) -> bool
         ensures { result ≡ definition.queues_up self.now d.0 }
     {
         self.device(d).up
     }
 
     /// Whether a device has its hardware.
-    pub fn hardware(&self, d: ObjectId) -> bool
+    pub fn has_hardware(&self, d: ObjectId) -> bool
         ensures { result ≡ definition.has_hardware self.now d.0 }
     {
         self.device(d).hardware
@@ -221,12 +220,12 @@ impl Power {
         ensures { self.new ≡ record self.old { holdings = put definition.no_holding self.old.holdings r.0 new } }
     {
         let old = self.holding(r);
-        self.unsettled.change(
+        self.unsettled.moves(
             unsettled_at(&self.queues, &old),
             unsettled_at(&self.queues, &new),
         );
         self.due
-            .change(due_at(&self.queues, &old), due_at(&self.queues, &new));
+            .moves(due_at(&self.queues, &old), due_at(&self.queues, &new));
         self.held.put(r.0, is_held(&new));
         put_at(&mut self.holdings, NO_HOLDING, r.0, new);
     }
@@ -290,8 +289,8 @@ impl Power {
     pub fn unsettled(&self, d: ObjectId) -> u32
         ensures { result ≡ length (definition.unsettled self.now d.0) }
     {
-        if (d.0 as usize) < self.devices.len() {
-            self.unsettled.count(d)
+        if d.0 < OBJECTS {
+            self.unsettled.of(d)
         } else {
             count_unsettled(&self.queues, &self.holdings, d) as u32
         }
@@ -324,8 +323,8 @@ impl Power {
     pub fn any_resume_due(&self, d: ObjectId) -> bool
         ensures { result ≡ definition.any_resume_due self.now d.0 }
     {
-        if (d.0 as usize) < self.devices.len() {
-            0 < self.due.count(d)
+        if d.0 < OBJECTS {
+            0 < self.due.of(d)
         } else {
             some_due(&self.queues, &self.holdings, d)
         }

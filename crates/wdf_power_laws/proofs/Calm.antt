@@ -23,16 +23,16 @@ use Rattle.wdf_model.specs.rules.Deeds.{arrive_at, close_queue, close_returning,
 use Rattle.wdf_model.proofs.Tests.{both_left, both_right}
 use Rattle.wdf_agreements.proofs.Stays.{asks_all, gives_up, gives_up_if, queues_closed, returns_closed, withdraws}
 use Rattle.wdf_agreements.proofs.Sound.{AllSound, Sound}
-use Rattle.wdf_agreements.proofs.FramesStay.{GoOn, frames_by}
+use Rattle.wdf_agreements.proofs.FramesStay.{FramesGoOn, frames_by}
 use Rattle.wdf_power_laws.proofs.Unmoved.{is_moving, none_moves}
 
 pub record Calm {A : Type 0} (S U : State A) : Type 0 where
   pub pnp : U.pnp ≡ S.pnp
   pub devices : U.power.devices ≡ S.power.devices
   pub interrupts : U.interrupts ≡ S.interrupts
-  pub frames : GoOn S.cpus U.cpus
+  pub frames : FramesGoOn S.cpus U.cpus
 
-pub on_then : (C D E : Cpus) → GoOn C D → GoOn D E → GoOn C E
+pub on_then : (C D E : Cpus) → FramesGoOn C D → FramesGoOn D E → FramesGoOn C E
 on_then C D E a b x h =
     let more = b x h in
     let was = a x more.0 in
@@ -132,7 +132,7 @@ rest_by plan _ S h = refl
 
 -- ---- frames
 
-goes_by : {A : Type 0} (plan : Plan) (d : Deed) (S : State A) → is_moving d ≡ false → Sound plan d S → GoOn S.cpus (do_deed plan d S).cpus
+goes_by : {A : Type 0} (plan : Plan) (d : Deed) (S : State A) → is_moving d ≡ false → Sound plan d S → FramesGoOn S.cpus (do_deed plan d S).cpus
 goes_by plan (PushFrame cpu f frame level) S h s = absurd (let z : ⊥ = cc in z)
 goes_by plan (PopFrame cpu) S h s = (frames_by plan (PopFrame cpu) S s).0
 goes_by plan d S h s = (frames_by plan d S s).0

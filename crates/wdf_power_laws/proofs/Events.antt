@@ -57,7 +57,7 @@ use Rattle.wdf_invariants.proofs.StepStates.{in_turn}
 use Rattle.wdf_agreements.proofs.Sound.{AllSound}
 use Rattle.wdf_agreements.proofs.SoundEvents.{top_on}
 use Rattle.wdf_agreements.proofs.SoundRuns.{KnownAll, all_sound}
-use Rattle.wdf_agreements.proofs.FramesStay.{Begins, GoOn, frames_by}
+use Rattle.wdf_agreements.proofs.FramesStay.{Begins, FramesGoOn, frames_by}
 use Rattle.wdf_power_laws.specs.Steps.{is_for}
 use Rattle.wdf_power_laws.proofs.Holding.{Silent, watch}
 use Rattle.wdf_power_laws.proofs.Standings as standings
@@ -204,7 +204,7 @@ module _ {A : Type 0} (plan : Plan) (m : Meaning A) (S : State A) (es : List Eve
         let here : running_step V.pnp n ≡ Some (step.Run c runs.0) = sym (ap (running_step V.pnp) at) ∙ runs.1 ∙ ap (λ x. Some (step.Run x runs.0)) calls in
         let enters : same_callback c callback.EvtDeviceD0Entry ≡ true → o.id.0 ≡ n
         = λ x. ap (λ (y : Handle). y.id.0) t.object ∙ sym (ap (λ (a : Frame). a.object.id.0) frame) ∙ kv.frames.entries g there (ap (λ y. same_callback y callback.EvtDeviceD0Entry) calls ∙ x) ∙ at in
-        let go : GoOn V.cpus W.cpus = (frames_by plan (PopFrame cpu) V s.0).0 in
+        let go : FramesGoOn V.cpus W.cpus = (frames_by plan (PopFrame cpu) V s.0).0 in
         let alone : (x : ℕ) → 1 ≤ on W.cpus x → is_step (frame_of W.cpus x) ≡ true → (frame_of V.cpus x).device.id.0 ≡ n → ⊥
         = λ x on_ is_ d.
         let eq : x ≡ g = kv.frames.single x g (go x on_).0 there (was_step V.cpus W.cpus V.pnp V.pnp go kv.frames x on_ is_) step_ (d ∙ sym at) in
@@ -239,7 +239,7 @@ module _ {A : Type 0} (plan : Plan) (m : Meaning A) (S : State A) (es : List Eve
     pub pnp : X.pnp ≡ pnp.taken S.pnp n
     pub devices : X.power.devices ≡ (advance_stage S.power n s).devices
     pub interrupts : X.interrupts ≡ listed s j S.interrupts
-    pub frames : GoOn S.cpus X.cpus
+    pub frames : FramesGoOn S.cpus X.cpus
 
   by_calm : (n : ℕ) (s : Stage) (j : Option Handle) (X : State A) → listed s j S.interrupts ≡ S.interrupts → Calm (do_deeds plan (TakeStep (object_id n) ∷ AdvancePower (object_id n) (step.Pass s j) ∷ []) S) X → Staged n s j X
   by_calm n s j X same c = record { pnp = c.pnp; devices = c.devices; interrupts = c.interrupts ∙ sym same; frames = c.frames }

@@ -11,7 +11,7 @@ use Rattle.wdf_model.specs.parts.Pnp.{Pnp, running_step}
 use Rattle.wdf_model.specs.laws.Agreement.{is_sequence}
 use Rattle.wdf_model.proofs.Counts.{one_or_two}
 use Rattle.wdf_invariants.proofs.Framed.{on}
-use Rattle.wdf_agreements.proofs.FramesStay.{Begins, GoOn}
+use Rattle.wdf_agreements.proofs.FramesStay.{Begins, FramesGoOn}
 
 -- the frame is that of a step
 abbrev pub is_step : Frame → Bool
@@ -32,7 +32,7 @@ pub record StepFrames (C : Cpus) (Q : Pnp) : Type 0 where
 
 -- ---- frames go on, or end
 
-module _ (C D : Cpus) (Q R : Pnp) (go : GoOn C D) (k : StepFrames C Q) where
+module _ (C D : Cpus) (Q R : Pnp) (go : FramesGoOn C D) (k : StepFrames C Q) where
   pub was_step : (f : ℕ) (h : 1 ≤ on D f) → is_step (frame_of D f) ≡ true → is_step (frame_of C f) ≡ true
   was_step f h is = sym (ap (λ c. is_sequence (row_of c).rank) (go f h).1.callback) ∙ is
 

@@ -51,7 +51,7 @@ impl Queues {
     }
 
     /// The request at the front of a queue, `None` exactly where none waits there.
-    pub fn head(&self, q: ObjectId) -> Option<ObjectId>
+    pub fn front(&self, q: ObjectId) -> Option<ObjectId>
         ensures { option_map (λ r. r.0) result ≡ parts.front self.now q.0 }
     {
         object_at(self.waiting.front(q.0))
@@ -99,7 +99,7 @@ impl Queues {
     }
 
     /// How many requests from a queue the driver holds.
-    pub fn held(&self, q: ObjectId) -> u32
+    pub fn held_count(&self, q: ObjectId) -> u32
         ensures { result ≡ parts.held_count self.now q.0 }
     {
         entry_at(&self.held, 0, q.0)
@@ -107,11 +107,11 @@ impl Queues {
 
     /// Whether a queue presents one more request. (KMDF: a sequential queue one at a time, a
     /// parallel one up to its number, a manual one none of itself)
-    pub fn free(&self, q: ObjectId) -> bool
+    pub fn is_free(&self, q: ObjectId) -> bool
         ensures { result ≡ parts.is_free self.now q.0 }
     {
         let dispatch = entry_at(&self.dispatch, DispatchKind::Manual, q.0);
-        is_free_by(dispatch, self.held(q))
+        is_free_by(dispatch, self.held_count(q))
     }
 
     /// A request enters a queue at the tail.
@@ -145,7 +145,7 @@ impl Queues {
         ensures done { self.new ≡ (if is_some result then parts.take self.old q.0 else self.old) }
         ensures many { held_in self.new ≤ held_in self.old + 1 }
     {
-        let front = self.head(q)?;
+        let front = self.front(q)?;
         self.drop_front(q);
         self.hold(q);
         Some(front)
@@ -168,7 +168,7 @@ impl Queues {
         ensures done { self.new ≡ parts.hold self.old q.0 }
         ensures many { held_in self.new ≡ held_in self.old + 1 }
     {
-        let held = self.held(q) + 1;
+        let held = self.held_count(q) + 1;
         self.write_held(q, held);
     }
 
@@ -178,7 +178,7 @@ impl Queues {
         ensures done { self.new ≡ parts.let_go self.old q.0 }
         ensures many { held_in self.new ≤ held_in self.old }
     {
-        let held = self.held(q).saturating_sub(1);
+        let held = self.held_count(q).saturating_sub(1);
         self.write_held(q, held);
     }
 

@@ -4,3 +4,5 @@ pub mod NotOffered
 pub mod Skips
 pub mod Passing
 pub mod AnyOf
+pub mod Kept
+pub mod Cancels

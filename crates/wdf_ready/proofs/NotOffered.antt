@@ -1,8 +1,8 @@
--- What is not offered: of an idle group nothing, and at a place where no callback is due, or on an object whose life
--- does not let its callback start, no start.
+-- What is not offered: of an idle group nothing; at a place where no callback is due, or on an object whose life doesn't
+-- let its callback start, no start; and no cleanup of an object whose turn hasn't come.
 use Rattle.std.proofs.Common.{if◌then◌else◌, Bool, true, false, not, ◌&&◌, ◌==◌, nat_lt, ℕ, zero, suc, ◌≡◌, ◌<◌, ◌≤◌, List, [], ◌∷◌, length, Option, Some, None, option_map, is_some, unwrap_or, slice_get, ◌||◌, refl, arith}
 use Rattle.std.proofs.lemmas.Bool.{eqb-false, eqb-true, le-ltb, ltb-false}
-use Rattle.std.specs.List.{list_any}
+use Rattle.std.specs.List.{list_all, list_any}
 use Rattle.std.specs.Option.{option_and_then}
 use Rattle.wdf_base.specs.Meaning.{Meaning}
 use Rattle.wdf_base.specs.declared.plan.Plan.{Plan}
@@ -28,7 +28,7 @@ use Rattle.wdf_model.specs.declared.enums.Group.{Group}
 use Rattle.wdf_model.specs.declared.enums.Group.TheVariants as group
 use Rattle.wdf_model.specs.Plans.{callback_irql, declares, handler_for, is_managed, irql_of_level, queue_level, queue_of, typed_handler}
 use Rattle.wdf_model.specs.Tables.{contains, entry, first_of_list}
-use Rattle.wdf_model.specs.State.{State, declared_in, declares_in, handle_in, is_held_from, is_proper}
+use Rattle.wdf_model.specs.State.{State, declared_in, declares_in, handle_in, is_held_from, is_proper, nothing_at}
 use Rattle.wdf_model.specs.parts.Cpus.{Cpus, frame_of, irql, is_empty_cpu, level_of_top, stack_of}
 use Rattle.wdf_model.specs.parts.Deferred.Dpcs.{dpc_head}
 use Rattle.wdf_model.specs.parts.Locks.{is_free_if_any, lock_of_callback}
@@ -36,12 +36,13 @@ use Rattle.wdf_model.specs.parts.Power.{stop_was_asked}
 use Rattle.wdf_model.specs.parts.Queues.{front}
 use Rattle.wdf_model.specs.parts.Requests.{info_of, is_returning_to, no_request}
 use Rattle.wdf_model.specs.parts.Targets.{the_target}
-use Rattle.wdf_model.specs.parts.Tree.{is_asked, is_cleaned, kind_of, life_of, nearest_device}
+use Rattle.wdf_model.specs.parts.Tree.{children, is_asked, is_cleaned, is_past_cleanup, kind_of, life_of, may_clean, nearest_device, parent_of, started, younger_siblings}
 use Rattle.wdf_model.specs.rules.Groups.{callback_for, dpc_function, handler_start, if_there, start_at, starts, starts_for, unparks}
-use Rattle.wdf_model.specs.rules.Starts.{is_ready_for, level_fits, life_fits, may_start}
+use Rattle.wdf_model.specs.rules.Starts.{clean_ready, is_finished, is_ready_for, is_unused, level_fits, life_fits, may_start}
 use Rattle.wdf_model.specs.rules.Steps.{is_cpu, is_proper_if_any, may, wait_is_over}
 use Rattle.wdf_ready.specs.Idle.{can_be_due, highest_level, is_due_at, is_idle, is_sending_due, is_too_high, settles_next}
 use Rattle.wdf_ready.specs.Search.{if_allowed, offered}
+use Rattle.wdf_tree.specs.Turns.{has_turn}
 
 -- ---- conjunctions
 
@@ -126,6 +127,22 @@ module _ {A : Type 0} (S : State A) (cpu bound level : ℕ) (low : level ≤ bou
   -- where a level doesn't fit, no lower one does
   too_high : not (level_fits S cpu bound) ≡ true → level_fits S cpu level ≡ false
   too_high h = too_high_by (bound == 0) (level == 0) refl refl (not_true (level_fits S cpu bound) h)
+
+-- ---- cleanups
+
+-- where the first or the third fails, so do all three
+between_fails : (a b c : Bool) → (a && c) ≡ false → (a && b && c) ≡ false
+between_fails true b c h = right_fails b c h
+between_fails false b c h = refl
+
+-- no cleanup comes of an object whose turn hasn't come
+pub not_its_turn : {A : Type 0} (S : State A) (o : ℕ) → has_turn S.tree o ≡ false → clean_ready S o ≡ false
+not_its_turn S o h =
+    let off : may_clean S.tree o ≡ false
+    = between_fails (is_asked (life_of S.tree o)) (list_all (λ x. is_past_cleanup (life_of S.tree x)) (children S.tree o))
+    (not (is_asked (life_of S.tree (parent_of S.tree o))) || list_all (λ x. is_past_cleanup (life_of S.tree x)) (younger_siblings S.tree o)) h in
+    left_fails (may_clean S.tree o && is_unused S o && is_finished S o) (nothing_at S o)
+    (left_fails (may_clean S.tree o && is_unused S o) (is_finished S o) (left_fails (may_clean S.tree o) (is_unused S o) off))
 
 -- ---- starts
 
@@ -260,9 +277,9 @@ module _ {A : Type 0} (plan : Plan) (m : Meaning A) (S : State A) where
   idle_offers_none (group.StartsFor cpu r o) k h = no_start_for cpu r o k (one_fails (level_fits S cpu (callback_irql plan (callback_for r) o)) (can_be_due plan S r o) h)
   idle_offers_none _ k h = absurd (let z : ⊥ = cc in z)
 
-  -- no cleanup callback starts on an object that isn't Asked, and no destroy callback on one that isn't cleaned
-  pub no_cleanup_start : (cpu o : ℕ) → is_asked (life_of S.tree o) ≡ false → offered plan m S (group.Starts cpu rank.Cleanup) o ≡ None
-  no_cleanup_start cpu o h = not_alive cpu callback.EvtCleanupCallback o None h
+  -- no cleanup callback starts on an object whose turn hasn't come, and no destroy callback on one that isn't cleaned
+  pub no_cleanup_start : (cpu o : ℕ) → has_turn S.tree o ≡ false → offered plan m S (group.Starts cpu rank.Cleanup) o ≡ None
+  no_cleanup_start cpu o h = not_ready cpu callback.EvtCleanupCallback o None (left_fails (clean_ready S o) (not (started S.tree o callback.EvtCleanupCallback)) (not_its_turn S o h))
 
   pub no_destroy_start : (cpu o : ℕ) → is_cleaned (life_of S.tree o) ≡ false → offered plan m S (group.Starts cpu rank.Destroy) o ≡ None
   no_destroy_start cpu o h = not_alive cpu callback.EvtDestroyCallback o None h

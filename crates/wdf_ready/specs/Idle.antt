@@ -22,9 +22,10 @@ use Rattle.wdf_model.specs.parts.Cpus.{is_empty_cpu}
 use Rattle.wdf_model.specs.parts.Pnp.{next_step}
 use Rattle.wdf_model.specs.parts.Requests.{is_returning_to}
 use Rattle.wdf_model.specs.parts.Targets.{the_target}
-use Rattle.wdf_model.specs.parts.Tree.{is_asked, is_cleaned, life_of, nearest_device}
+use Rattle.wdf_model.specs.parts.Tree.{is_cleaned, life_of, nearest_device}
 use Rattle.wdf_model.specs.rules.Groups.{callback_for, places_in}
 use Rattle.wdf_model.specs.rules.Starts.{level_fits, rank_ready_for}
+use Rattle.wdf_tree.specs.Turns.{has_turn}
 
 -- ---- levels
 
@@ -73,10 +74,10 @@ search_len plan S g = if is_idle plan S g then 0 else places_in plan S g
 
 -- ---- places at which something may come
 
--- the first id from one on that a rank's callback may start on, as far as its life says: a cleanup callback on what is
--- Asked, a destroy callback on what is cleaned, another on any
+-- the first id from one on that a rank's callback may start on, as far as lives say: a cleanup callback on what is Asked
+-- and has its turn, a destroy callback on what is cleaned, another on any
 abbrev pub next_start : {A : Type 0} → State A → Rank → ℕ → Option ℕ
-next_start S rank.Cleanup from = find (λ o. nat_le from o && is_asked (life_of S.tree o)) (ids_of S.tree.nodes)
+next_start S rank.Cleanup from = find (λ o. nat_le from o && has_turn S.tree o) (ids_of S.tree.nodes)
 next_start S rank.Destroy from = find (λ o. nat_le from o && is_cleaned (life_of S.tree o)) (ids_of S.tree.nodes)
 next_start S _ from = Some from
 

@@ -4,11 +4,16 @@ use Rattle.std.specs.Option.{option_and_then}
 use Rattle.std.specs.List.{filter_map, flat_map, range_with_len}
 use Rattle.wdf_base.specs.Meaning.{Meaning}
 use Rattle.wdf_base.specs.declared.event.Event.{Event}
+use Rattle.wdf_base.specs.declared.call.Callback.TheVariants as callback
 use Rattle.wdf_base.specs.declared.plan.Plan.{Plan}
+use Rattle.wdf_base.specs.declared.rank.Rank.{Rank}
+use Rattle.wdf_base.specs.declared.rank.Rank.TheVariants as rank
 use Rattle.wdf_model.specs.declared.enums.Group.{Group}
+use Rattle.wdf_model.specs.declared.enums.Group.TheVariants as group
+use Rattle.wdf_model.specs.Plans.{declares}
 use Rattle.wdf_model.specs.State.{State}
 use Rattle.wdf_model.specs.rules.Steps.{may}
-use Rattle.wdf_model.specs.rules.Groups.{candidate, places_in}
+use Rattle.wdf_model.specs.rules.Groups.{callback_for, candidate, is_declared_somewhere, places_in}
 
 -- a candidate, if it may come
 abbrev pub if_allowed : {A : Type 0} → Plan → Meaning A → State A → Option Event → Option Event
@@ -32,6 +37,21 @@ pub record Skips {A : Type 0} (plan : Plan) (m : Meaning A) (S : State A) (group
 -- what may come of all these groups
 abbrev pub events_of : {A : Type 0} → Plan → Meaning A → State A → List Group → List Event
 events_of plan m S all = flat_map (λ g. offered_from plan m S g 0) all
+
+-- ---- groups with places
+
+-- something declares a rank's callback, where the rank is that of the cleanup or the destroy callbacks
+abbrev pub can_start : Plan → Rank → Bool
+can_start plan rank.Cleanup = is_declared_somewhere plan callback.EvtCleanupCallback
+can_start plan rank.Destroy = is_declared_somewhere plan callback.EvtDestroyCallback
+can_start plan _ = true
+
+-- a group can have places: a callback that nothing declares has none
+abbrev pub has_places : Plan → Group → Bool
+has_places plan (group.StartsFor cpu rank.Completion o) = true
+has_places plan (group.StartsFor cpu r o) = declares plan (callback_for r) o
+has_places plan (group.Starts cpu r) = can_start plan r
+has_places plan _ = true
 
 -- ---- the first event of a kind
 

@@ -80,7 +80,7 @@ fn dpc_start<A: Agent>(
 ) -> Option<Event>
     ensures { result ≡ groups.start_at plan.now parts.now cpu.0 rank.Deferred place }
 {
-    let o = parts.dpcs().head(cpu)?;
+    let o = parts.dpcs().dpc_head(cpu)?;
     let callback = dpc_function(parts.tree().kind(o));
     Some(starts(plan, parts, cpu, callback, o))
 }
@@ -125,7 +125,7 @@ fn front_start<A: Agent>(
 ) -> Option<Event>
     ensures { result ≡ groups.start_at plan.now parts.now cpu.0 rank.Handler q.0 }
 {
-    let r = parts.queues().head(q)?;
+    let r = parts.queues().front(q)?;
     let callback = plan.handler_for(q, parts.requests().info(r).form)?;
     Some(starts_for(plan, parts, cpu, callback, q, r))
 }
@@ -398,7 +398,7 @@ fn parked_len<A: Agent>(parts: &Parts<A>) -> usize
 }
 
 /// Whether a callback is declared on some object.
-fn is_declared_somewhere(plan: &IndexedPlan, callback: Callback) -> bool
+pub(crate) fn is_declared_somewhere(plan: &IndexedPlan, callback: Callback) -> bool
     ensures { result ≡ groups.is_declared_somewhere plan.now callback }
 {
     plan.plan()

@@ -44,8 +44,39 @@ fn is_due_at<A: Agent>(
     }
 }
 
-/// The first place from one on below an end at which a callback of a rank is due on an object.
-pub(crate) fn next_due<A: Agent>(
+/// The first place from one on below an end at which EvtRequestCancel is due on a queue. It asks only the requests
+/// for which it is due on some queue.
+fn next_cancel<A: Agent>(
+    plan: &IndexedPlan,
+    parts: &Parts<A>,
+    q: ObjectId,
+    from: usize,
+    end: usize,
+) -> Option<usize>
+    requires within { end ≤ groups.places_for plan.now parts.now rank.Cancel q.0 }
+    requires small { end ≤ 2 ^ 32 }
+    ensures { MatchOption result (idle.NoneFrom (idle.is_due_at plan.now parts.now rank.Cancel q.0) from end)
+        (λ place. idle.IsNext (idle.is_due_at plan.now parts.now rank.Cancel q.0) from end place) }
+{
+    let mut at = from;
+    'search: while at < end {
+        let place = match parts.requests().next_due(ObjectId(at as u32)) {
+            Some(request) => request.0 as usize,
+            None => return None,
+        };
+        if place >= end {
+            return None;
+        }
+        if is_due_at(plan, parts, Rank::Cancel, q, place) {
+            return Some(place);
+        }
+        at = place + 1;
+    }
+    None
+}
+
+/// The same for a callback of any rank. It asks each request.
+fn next_of_all<A: Agent>(
     plan: &IndexedPlan,
     parts: &Parts<A>,
     rank: Rank,
@@ -64,4 +95,24 @@ pub(crate) fn next_due<A: Agent>(
         }
     }
     None
+}
+
+/// The first place from one on below an end at which a callback of a rank is due on an object.
+pub(crate) fn next_due<A: Agent>(
+    plan: &IndexedPlan,
+    parts: &Parts<A>,
+    rank: Rank,
+    object: ObjectId,
+    from: usize,
+    end: usize,
+) -> Option<usize>
+    requires within { end ≤ groups.places_for plan.now parts.now rank object.0 }
+    requires small { end ≤ 2 ^ 32 }
+    ensures { MatchOption result (idle.NoneFrom (idle.is_due_at plan.now parts.now rank object.0) from end)
+        (λ place. idle.IsNext (idle.is_due_at plan.now parts.now rank object.0) from end place) }
+{
+    match rank {
+        Rank::Cancel => next_cancel(plan, parts, object, from, end),
+        _ => next_of_all(plan, parts, rank, object, from, end),
+    }
 }

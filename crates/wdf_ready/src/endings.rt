@@ -21,7 +21,7 @@ pub fn waits_for_time<A: Agent>(parts: &Parts<A>) -> bool
     ensures { result ≡ ready.waits_for_time A.meaning parts.now }
 {
     let now = parts.now();
-    parts.cpus().any_spends(now) || parts.timers().any_later(now) || any_posts_later(parts)
+    parts.cpus().any_spends(now) || parts.timers().any_later_timer(now) || any_posts_later(parts)
 }
 
 /// Whether something is open: a frame; an arrived request that isn't done, or a made one that is sent; a
@@ -100,7 +100,9 @@ fn any_leaving<A: Agent>(parts: &Parts<A>) -> bool
 fn is_open_work<A: Agent>(parts: &Parts<A>, o: ObjectId) -> bool
     ensures { result ≡ ready.is_open_work parts.now o.0 }
 {
-    parts.dpcs().is_queued(o) || parts.work_items().queued(o) || parts.timers().due(o, parts.now())
+    parts.dpcs().is_dpc_queued(o)
+        || parts.work_items().is_work_queued(o)
+        || parts.timers().timer_due(o, parts.now())
 }
 
 /// Whether a DPC or a work item is queued, or a timer's tick is reached.

@@ -1,11 +1,13 @@
 //! The groups of candidates of a run, in the order in which candidates come. (own)
-ghost use Rattle.std.specs.Prelude.{◌≡◌, ◌∷◌, ◌++◌, [], IfOk, OnOk};
+ghost use Rattle.std.specs.Prelude.{◌≡◌, ◌∷◌, ◌++◌, [], IfOk, OnOk, filter};
 ghost use Rattle.std.specs.List.{flat_map, range_with_len};
 ghost use Rattle.wdf_model.specs.rules.Groups as groups;
 ghost use Rattle.wdf_model.specs.Plans as plans;
+ghost use Rattle.wdf_ready.specs.Search as search;
 
+use crate::candidates::{callback_for, is_declared_somewhere};
 use std::alloc::Global;
-use wdf_base::{Memory, ObjectId, Rank};
+use wdf_base::{Callback, Memory, ObjectId, Rank};
 use wdf_model::Group;
 use wdf_plans::IndexedPlan;
 
@@ -27,8 +29,53 @@ const RANKS: [Rank; 14] = [
     Rank::Destroy,
 ];
 
-/// The groups of candidates of a plan's run, in the order in which candidates come.
+/// The groups of candidates of a plan's run that can have places, in the order in which candidates come.
 pub fn groups_of(alloc: Global, plan: &IndexedPlan) -> Result<Vec<Group>, Memory>
+    ensures groups { IfOk result (λ made. made.items ≡ filter (search.has_places plan.now) (groups.groups plan.now)) }
+{
+    let all = all_groups(alloc, plan)?;
+    with_places(alloc, plan, &all)
+}
+
+/// Whether a group can have places: a callback that nothing declares has none.
+fn has_places(plan: &IndexedPlan, group: Group) -> bool
+    ensures { result ≡ search.has_places plan.now group }
+{
+    match group {
+        Group::StartsFor { rank, object, .. } => {
+            matches!(rank, Rank::Completion) || plan.declares(callback_for(rank), ObjectId(object))
+        }
+        Group::Starts { rank, .. } => can_start(plan, rank),
+        _ => true,
+    }
+}
+
+/// Whether something declares a rank's callback, where the rank is that of the cleanup or the destroy callbacks.
+fn can_start(plan: &IndexedPlan, rank: Rank) -> bool
+    ensures { result ≡ search.can_start plan.now rank }
+{
+    match rank {
+        Rank::Cleanup => is_declared_somewhere(plan, Callback::EvtCleanupCallback),
+        Rank::Destroy => is_declared_somewhere(plan, Callback::EvtDestroyCallback),
+        _ => true,
+    }
+}
+
+/// Those groups that can have places, in their order.
+fn with_places(alloc: Global, plan: &IndexedPlan, groups: &[Group]) -> Result<Vec<Group>, Memory>
+    ensures { IfOk result (λ kept. kept.items ≡ filter (search.has_places plan.now) groups.now) }
+{
+    let mut kept = Vec::new(alloc);
+    for group in groups {
+        if has_places(plan, *group) {
+            kept.push(*group)?;
+        }
+    }
+    Ok(kept)
+}
+
+/// The groups of candidates of a plan's run, in the order in which candidates come.
+fn all_groups(alloc: Global, plan: &IndexedPlan) -> Result<Vec<Group>, Memory>
     ensures groups { IfOk result (λ made. made.items ≡ groups.groups plan.now) }
 {
     let mut made = Vec::new(alloc);

@@ -41,7 +41,7 @@ fn next_start<A: Agent>(parts: &Parts<A>, rank: Rank, from: usize) -> Option<usi
     ensures { result ≡ idle.next_start parts.now rank from }
 {
     match rank {
-        Rank::Cleanup => place_of(parts.tree().asked_from(ObjectId(from as u32))),
+        Rank::Cleanup => place_of(parts.tree().turn_from(ObjectId(from as u32))),
         Rank::Destroy => place_of(parts.tree().cleaned_from(ObjectId(from as u32))),
         _ => Some(from),
     }
@@ -61,7 +61,7 @@ fn search_len<A: Agent>(plan: &IndexedPlan, parts: &Parts<A>, group: Group) -> u
 }
 
 /// The first place from one on, of so many that a search goes over, whose candidate may come, as far as a look at
-/// what is due, closing, asked or cleaned says.
+/// what is due, closing or cleaned, or whose turn to be cleaned up has come, says.
 fn next_place<A: Agent>(
     plan: &IndexedPlan,
     parts: &Parts<A>,
@@ -83,7 +83,7 @@ fn next_place<A: Agent>(
             next_due(plan, parts, rank, ObjectId(object), from, end)
         }
         Group::Completions => place_of(parts.requests().next_closing(ObjectId(from as u32))),
-        Group::Cleanups => place_of(parts.tree().asked_from(ObjectId(from as u32))),
+        Group::Cleanups => place_of(parts.tree().turn_from(ObjectId(from as u32))),
         Group::Destroys => place_of(parts.tree().cleaned_from(ObjectId(from as u32))),
         _ => Some(from),
     }

@@ -7,7 +7,7 @@ use Rattle.std.proofs.lemmas.Bool.Decides.{nat_tests}
 use Rattle.wdf_model.specs.declared.entries.Request.{Request}
 use Rattle.wdf_model.specs.declared.room.TheConstants.{OBJECTS}
 use Rattle.wdf_model.specs.Tables.{entry, put}
-use Rattle.wdf_model.specs.parts.Requests.{is_closing, no_request}
+use Rattle.wdf_model.specs.parts.Requests.{is_closing, is_due, no_request}
 use Rattle.wdf_model.proofs.Maps.{entry_put_same, entry_put_other, entry_past}
 use Rattle.wdf_sets.specs.Members.{is_in, members, rank}
 use Rattle.wdf_sets.proofs.Ranks.{one, rank_more, rank_mono}
@@ -105,6 +105,11 @@ member_from bits id =
 pub members_closing : (all : List Request) (bits : List Bool) → length all ≤ OBJECTS → IsSetOf (λ (r : Request). is_closing r.place) all bits
     → members bits ≡ filter (λ r. is_closing (entry no_request all r).place) (range_with_len 0 (length all))
 members_closing all bits few set = members_are (λ (r : Request). is_closing r.place) all bits refl few set
+
+-- the members are the requests for which EvtRequestCancel is due
+pub members_due : (all : List Request) (bits : List Bool) → length all ≤ OBJECTS → IsSetOf (λ (r : Request). is_due r.info.mark) all bits
+    → members bits ≡ filter (λ r. is_due (entry no_request all r).info.mark) (range_with_len 0 (length all))
+members_due all bits few set = members_are (λ (r : Request). is_due r.info.mark) all bits refl few set
 
 -- ---- the empty set
 

@@ -1,14 +1,17 @@
--- The requests that the framework will complete, as a set of ids.
+-- The requests that the framework will complete, and those for which EvtRequestCancel is due, as sets of ids.
 use Rattle.std.specs.Prelude.{ℕ, ◌≡◌, ◌≤◌, Bool, List, filter, length}
 use Rattle.wdf_model.specs.declared.entries.Request.{Request}
 use Rattle.wdf_model.specs.declared.room.TheConstants.{OBJECTS}
 use Rattle.wdf_model.specs.Tables.{entry, ids_of}
-use Rattle.wdf_model.specs.parts.Requests.{Requests, is_closing, no_request, place_of}
+use Rattle.wdf_model.specs.parts.Requests.{Requests, is_closing, is_due, mark_of, no_request, place_of}
 use Rattle.wdf_sets.specs.Members.{is_in}
 
 -- their ids, rising
 abbrev pub closing_requests : Requests → List ℕ
 closing_requests R = filter (λ r. is_closing (place_of R r)) (ids_of R.all)
+
+abbrev pub due_requests : Requests → List ℕ
+due_requests R = filter (λ r. is_due (mark_of R r)) (ids_of R.all)
 
 -- The set has a bit for each object, and its members are the requests that pass a test.
 pub record IsSetOf (test : Request → Bool) (all : List Request) (bits : List Bool) : Type 0 where

@@ -2,18 +2,18 @@
 use Rattle.std.specs.Prelude.{◌≡◌, ◌≤◌, count_by, length, vec_capacity}
 use Rattle.wdf_model.specs.declared.room.TheConstants.{OBJECTS}
 use Rattle.wdf_model.specs.declared.entries.Request.{Request}
-use Rattle.wdf_model.specs.parts.Requests.{Requests, is_closing}
+use Rattle.wdf_model.specs.parts.Requests.{Requests, is_closing, is_due}
 use Rattle.wdf_model.specs.rules.Ready.{is_open_request}
+use Rattle.wdf_counts.specs.Counts.{AreCounted}
 use Rattle.wdf_request.specs.Arrivals.{IsNoted}
 use Rattle.wdf_request.specs.Closing.{IsSetOf}
-use Rattle.wdf_request.specs.Counts.{AreCounted}
 use Rattle.wdf_request.specs.Keys.{returning_queue, sent_target, unfinished_device}
 use Rattle.wdf_request.specs.declared.requests.Requests.TheInside.{Inside}
 
 abbrev pub requests_in : Inside → Requests
 requests_in s = record { all = s.all.items; arrived = s.arrived }
 
--- Every object may be a request. The counts, the set and the rows are those of the requests.
+-- Every object may be a request. The counts, the sets and the rows are those of the requests.
 pub record IsKept (s : Inside) : Type 0 where
   pub entries : length s.all.items ≤ OBJECTS
   pub room : OBJECTS ≤ vec_capacity s.all
@@ -22,4 +22,5 @@ pub record IsKept (s : Inside) : Type 0 where
   pub unfinished : AreCounted unfinished_device s.all.items s.unfinished
   pub open_count : s.open_count ≡ count_by is_open_request s.all.items
   pub closing : IsSetOf (λ (r : Request). is_closing r.place) s.all.items s.closing
+  pub due : IsSetOf (λ (r : Request). is_due r.info.mark) s.all.items s.due
   pub noted : IsNoted s.all.items s.arrivals

@@ -6,7 +6,7 @@ ghost use Rattle.wdf_model.specs.parts.Requests as parts;
 ghost use Rattle.wdf_model.specs.rules.Ready.{is_open_request};
 ghost use Rattle.wdf_request.specs.Keys as keys;
 
-use wdf_base::{ObjectId, Place};
+use wdf_base::{Mark, ObjectId, Place};
 use wdf_model::Request;
 
 /// The queue that a request is Returning to.
@@ -58,4 +58,11 @@ pub(crate) fn is_closing(place: Place) -> bool
     ensures { result ≡ parts.is_closing place }
 {
     matches!(place, Place::Closing(_))
+}
+
+/// Whether EvtRequestCancel is due for a request with this mark.
+pub(crate) fn is_due(mark: Mark) -> bool
+    ensures { result ≡ parts.is_due mark }
+{
+    matches!(mark, Mark::Due)
 }

@@ -3,7 +3,6 @@
 
 mod arrivals;
 mod change;
-mod counts;
 mod keys;
 mod requests;
 

@@ -5,8 +5,8 @@ ghost use Rattle.wdf_model.specs.parts.Requests as parts;
 ghost use Rattle.wdf_model.specs.parts.Requests.{is_returning_to, is_sent_to, no_request};
 ghost use Rattle.wdf_model.specs.rules.Ready.{is_open_request};
 ghost use Rattle.wdf_model.specs.rules.Starts.{is_unfinished_at};
-ghost use Rattle.wdf_request.specs.Closing.{closing_requests};
-ghost use Rattle.wdf_request.specs.Counts.{is_at};
+ghost use Rattle.wdf_counts.specs.Counts.{is_at};
+ghost use Rattle.wdf_request.specs.Closing.{closing_requests, due_requests};
 
 mod closing;
 
@@ -14,11 +14,11 @@ use crate::arrivals::Arrivals;
 use crate::change::{
     NO_REQUEST, answer_of_mark, cancelled, forgotten, marked, moved, unmarked, with_mark,
 };
-use crate::counts::Counts;
-use crate::keys::{is_closing, open_flag, returning_queue, sent_target, unfinished_device};
+use crate::keys::{is_closing, is_due, open_flag, returning_queue, sent_target, unfinished_device};
 use std::alloc::Global;
 use std::marker::Model;
 use wdf_base::{Mark, Memory, ObjectId, Place, Plan, RequestInfo, Status};
+use wdf_counts::Counts;
 use wdf_maps::{entry_at, object_at, put_at};
 use wdf_model::{EVENTS, OBJECTS, Request};
 use wdf_sets::IdSet;
@@ -41,6 +41,8 @@ pub struct Requests {
     open_count: u32,
     /// Those that the framework will complete.
     closing: IdSet,
+    /// Those for which EvtRequestCancel is due.
+    due: IdSet,
     /// Which each arrival made.
     arrivals: Arrivals,
 }
@@ -70,6 +72,7 @@ impl Requests {
             unfinished: Counts::make(alloc)?,
             open_count: 0,
             closing: IdSet::make(alloc, OBJECTS)?,
+            due: IdSet::make(alloc, OBJECTS)?,
             arrivals: Arrivals::make(alloc, plan)?,
         })
     }
@@ -161,7 +164,7 @@ impl Requests {
         ensures { result ≡ list_any (λ r. is_returning_to q.0 r.place) self.now.all }
     {
         if q.0 < OBJECTS {
-            self.returning.get(q) > 0
+            self.returning.of(q) > 0
         } else {
             self.all
                 .iter()
@@ -174,7 +177,7 @@ impl Requests {
         ensures { result ≡ list_any (λ r. is_sent_to t.0 r.place) self.now.all }
     {
         if t.0 < OBJECTS {
-            self.sent.get(t) > 0
+            self.sent.of(t) > 0
         } else {
             self.all
                 .iter()
@@ -187,7 +190,7 @@ impl Requests {
         ensures { result ≡ list_any (is_unfinished_at device.0) self.now.all }
     {
         if device.0 < OBJECTS {
-            self.unfinished.get(device) > 0
+            self.unfinished.of(device) > 0
         } else {
             self.all
                 .iter()
@@ -197,7 +200,7 @@ impl Requests {
 
     /// Whether some request keeps the run from its end: it arrived and isn't done, or the driver
     /// made it and it is sent.
-    #[tactic(auto, using(crate::proofs::Counting::any_counted))]
+    #[tactic(auto, using(wdf_counts::proofs::Counting::any_counted))]
     pub fn some_open(&self) -> bool
         ensures { result ≡ list_any is_open_request self.now.all }
     {
@@ -225,6 +228,13 @@ impl Requests {
         object_at(self.closing.from(from.0))
     }
 
+    /// The first request from an id on for which EvtRequestCancel is due.
+    pub fn next_due(&self, from: ObjectId) -> Option<ObjectId>
+        ensures { option_map (λ r. r.0) result ≡ find (nat_le from.0) (due_requests self.now) }
+    {
+        object_at(self.due.from(from.0))
+    }
+
     /// Writes what is kept of a request.
     fn write(&mut self, r: ObjectId, request: Request)
         requires there { r.0 < max (length self.old.all) OBJECTS }
@@ -242,6 +252,7 @@ impl Requests {
             .moves(unfinished_device(old), unfinished_device(request));
         self.open_count = self.open_count + open_flag(request) - open_flag(old);
         self.closing.put(r.0, is_closing(request.place));
+        self.due.put(r.0, is_due(request.info.mark));
         let info = &request.info;
         self.arrivals.note(info.agent, info.arrival, r.0);
         put_at(&mut self.all, NO_REQUEST, r.0, request);

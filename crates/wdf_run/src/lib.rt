@@ -3,7 +3,8 @@
 
 mod picks;
 
-ghost use Rattle.std.specs.Prelude.{◌≡◌, ◌<◌, ◌%◌, ℕ, List, slice_index};
+ghost use Rattle.std.specs.Prelude.{◌≡◌, ◌<◌, ◌%◌, ◌++◌, ◌∷◌, [], ℕ, IsFalse, IsTrue, List, Some, length, slice_get, slice_index};
+ghost use Rattle.wdf_base.specs.declared.event.Event.{Event};
 ghost use Rattle.wdf_model.specs.Runs.{Picked};
 ghost use Rattle.wdf_model.specs.rules.Ready.{ready};
 ghost use Rattle.wdf_run.specs.Seeds.{seed_words};
@@ -38,14 +39,42 @@ fn run_by<A: Agent, P: Picks>(core: &mut Core<A>, source: &mut P)
     ensures picked { (picks : List ℕ) → ((turn : ℕ) → turn < core.old.plan.limit → slice_index picks turn ≡ P.pick source.old turn)
         → Picked (ready core.old.plan A.meaning) picks core.old.journal core.new.journal }
 {
-    loop {
-        let count = core.ready_len();
-        if count == 0 {
+    'turns: loop {
+        if !go_by(core, source.next_pick()) {
             return;
         }
-        let pick = source.next_pick();
-        core.apply(place_of(pick, count));
     }
+}
+
+/// Goes on by the event that a pick names among those that may follow, and answers true; false, and nothing changes,
+/// where none may. How many may follow is counted only where the pick isn't 0.
+fn go_by<A: Agent>(core: &mut Core<A>, pick: u64) -> bool
+    ensures plan { core.new.plan ≡ core.old.plan }
+    ensures taken { IsTrue result → (event : Event) × (slice_get (ready core.old.plan A.meaning core.old.journal) (pick % length (ready core.old.plan A.meaning core.old.journal)) ≡ Some event)
+        × (core.new.journal ≡ core.old.journal ++ event ∷ []) }
+    ensures room { IsTrue result → length core.old.journal < core.old.plan.limit }
+    ensures over { IsFalse result → (ready core.old.plan A.meaning core.old.journal ≡ []) × (core.new.journal ≡ core.old.journal) }
+{
+    if pick == 0 {
+        return core.apply_first();
+    }
+    go_by_count(core, pick)
+}
+
+/// The same, by the count of the events that may follow.
+fn go_by_count<A: Agent>(core: &mut Core<A>, pick: u64) -> bool
+    ensures plan { core.new.plan ≡ core.old.plan }
+    ensures taken { IsTrue result → (event : Event) × (slice_get (ready core.old.plan A.meaning core.old.journal) (pick % length (ready core.old.plan A.meaning core.old.journal)) ≡ Some event)
+        × (core.new.journal ≡ core.old.journal ++ event ∷ []) }
+    ensures room { IsTrue result → length core.old.journal < core.old.plan.limit }
+    ensures over { IsFalse result → (ready core.old.plan A.meaning core.old.journal ≡ []) × (core.new.journal ≡ core.old.journal) }
+{
+    let count = core.ready_len();
+    if count == 0 {
+        return false;
+    }
+    core.apply(place_of(pick, count));
+    true
 }
 
 /// The place that a pick names among so many events.

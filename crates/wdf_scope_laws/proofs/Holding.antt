@@ -19,7 +19,7 @@ use Rattle.wdf_model.specs.laws.Fits.{all_fit, fits}
 use Rattle.wdf_model.proofs.Tests.{both_left, both_right, not_true}
 use Rattle.wdf_model.proofs.Counts.{count_behind, count_cons, filter_kept}
 use Rattle.wdf_invariants.proofs.Framed.{on}
-use Rattle.wdf_agreements.proofs.FramesStay.{GoOn, NoneEnds, frames_by}
+use Rattle.wdf_agreements.proofs.FramesStay.{FramesGoOn, NoneEnds, frames_by}
 use Rattle.wdf_agreements.proofs.Framing.{Framing, framing_by, lock_stays, locks_by, object_of, off_it}
 use Rattle.wdf_agreements.proofs.LocksOnce.{Once, one_lock}
 use Rattle.wdf_agreements.proofs.QuietMoves.{quiet_cpus}
@@ -42,7 +42,7 @@ Holds plan S = HoldsBut plan S (λ f. ⊥)
 
 -- frames go on, and none ends
 pub record Goes {A : Type 0} (S U : State A) : Type 0 where
-  pub go : GoOn S.cpus U.cpus
+  pub go : FramesGoOn S.cpus U.cpus
   pub none : NoneEnds S.cpus U.cpus
 
 pub goes_same : {A : Type 0} (S : State A) → Goes S S
@@ -51,7 +51,7 @@ goes_same S = record { go = λ f more. (more, record { callback = refl; object =
 -- where the processors stay, all frames do
 pub goes_cpus : {A : Type 0} (S U : State A) → U.cpus ≡ S.cpus → Goes S U
 goes_cpus S U e = record {
-  go = subst (λ C. GoOn S.cpus C) (sym e) (λ f more. (more, record { callback = refl; object = refl; device = refl }));
+  go = subst (λ C. FramesGoOn S.cpus C) (sym e) (λ f more. (more, record { callback = refl; object = refl; device = refl }));
   none = subst (λ C. NoneEnds S.cpus C) (sym e) (λ f more. more);
 }
 
@@ -73,7 +73,7 @@ objects_by : {A : Type 0} (plan : Plan) (d : Deed) (S : State A) → fits plan d
 objects_by plan (EndLife o) S fit k f more = deed_there plan (EndLife o) S fit (object_of S f) (off_it S.cpus o.0 f (both_right (may_destroy S.tree o.0) (nobody_on S.cpus o.0) fit) more) (k.there f more)
 objects_by plan d S fit k f more = deed_there plan d S fit (object_of S f) (λ e. e) (k.there f more)
 
-holds_still : {A : Type 0} (plan : Plan) (S U : State A) (X : ℕ → Type 0) → GoOn S.cpus U.cpus → ((f : ℕ) → 1 ≤ on S.cpus f → StaysAt S.tree U.tree (object_of S f)) → ((l : LockRef) (f : ℕ) → own_holds S.locks l f ≤ own_holds U.locks l f)
+holds_still : {A : Type 0} (plan : Plan) (S U : State A) (X : ℕ → Type 0) → FramesGoOn S.cpus U.cpus → ((f : ℕ) → 1 ≤ on S.cpus f → StaysAt S.tree U.tree (object_of S f)) → ((l : LockRef) (f : ℕ) → own_holds S.locks l f ≤ own_holds U.locks l f)
     → HoldsBut plan S X → HoldsBut plan U X
 holds_still plan S U X go stay locks_ k f other more l is =
     let g = go f more in

@@ -1,32 +1,22 @@
 -- What the top call promises of an answer to words: what is left of the source, what was written and the status. (own)
-use Rattle.std.specs.Prelude.{ℕ, ◌≡◌, ◌≢◌, ◌<◌, ◌⊎◌, Bool, true, false, IsTrue, List, [], length, Option, None, Some}
+use Rattle.std.specs.Prelude.{ℕ, ◌≡◌, ◌≢◌, ◌<◌, ◌⊎◌, true, false, IsTrue, List, length, Option, None, Some}
 use Rattle.wdf_base.specs.declared.plan.Plan.{Plan}
-use Rattle.wdf_base.specs.declared.event.Event.{Event}
-use Rattle.wdf_base.specs.declared.event.Ending.{Ending}
 use Rattle.wdf_base.specs.declared.event.Ending.TheVariants as ending
 use Rattle.wdf_base.specs.declared.event.Fault.{Fault}
-use Rattle.wdf_dev.specs.Agents.{agent_meaning}
-use Rattle.wdf_gen.specs.Generated as scenario
-use Rattle.wdf_input.specs.declared.input.TheConstants.{INPUT_LIMIT}
 use Rattle.wdf_input.specs.Input.{TakesAll, TakesAtMost, TakesCount, UsesUp}
 use Rattle.wdf_io.specs.Outside.{Rose, Gains}
-use Rattle.wdf_parse.specs.Printing.{printed}
 use Rattle.wdf_plan.specs.declared.refusal.PlanRefusal.{PlanRefusal}
-use Rattle.wdf_replay.specs.declared.verdict.Why.{Why}
-use Rattle.wdf_replay.specs.declared.verdict.Why.TheVariants as why
-use Rattle.wdf_replay.specs.Verdicts.{IsRefused, IsWhole}
 use Rattle.wdf_say.specs.Refusals.{no_memory_line}
 use Rattle.wdf_say.specs.Said.{Sinking, IsCutShort}
-use Rattle.wdf_split.specs.Inputs.{scenario_in, trace_in}
 use Rattle.wdf_serve.specs.Runs.{IsSomeTrace, RunsByThreads, WroteRunTo, WroteSomeRun, is_end_status}
 use Rattle.wdf_serve.specs.Told.{IsDueFor, TellsWords}
 use Rattle.wdf_serve.specs.Words.{is_run, reads_input, scenario_for, writes_run}
-use Rattle.wdf_top.specs.Answers.{Runs, Checks, Judges, HasNoScene, HasNoPlan, HasPlan, IsTraceOf, IsVerdict, IsSummaryOf, picks_of, refused_line}
-use Rattle.wdf_top.specs.Causes.{is_status, picks_for, IsGiven, Stayed, Unhindered, WroteAccepted, WroteRefused, WroteSummary}
+use Rattle.wdf_top.specs.Answers.{HasNoScene, HasNoPlan, HasPlan}
+use Rattle.wdf_top.specs.Causes.{is_status, IsGiven, Stayed, Unhindered, WroteRefused}
+use Rattle.wdf_top.specs.Promises.{PlainPromises}
 use Rattle.wdf_top.specs.Top.{Sourcing}
 use Rattle.wdf_top.specs.Words.{form_of_words}
-use Rattle.wdf_top.specs.declared.run.Picks.{Picks}
-use Rattle.wdf_top.specs.declared.words.Form.TheVariants.{Check, Replay, Gen, Load}
+use Rattle.wdf_top.specs.declared.words.Form.TheVariants.{Replay}
 
 pub record Promises (words : List (List ℕ)) (s : Sourcing) (k : Sinking) (answer : ℕ) : Type 0 where
   -- Which text is due with which status. It is written whole, or the sink fails and a front of it is written.
@@ -49,49 +39,11 @@ pub record Promises (words : List (List ℕ)) (s : Sourcing) (k : Sinking) (answ
   pub threads_run : is_run words ≡ true → (input : List ℕ) → IsGiven s input → Stayed k.faults_before k.faults_after
       → (plan : Plan) → HasPlan input plan
       → (answer ≡ 15) ⊎ ((text : List ℕ) × IsSomeTrace plan text answer × Gains k.before k.after text)
-  -- For `order` and `seed N`, likewise: the trace of the run that the plan's picks, or the words of the seed, make of it.
-  pub runs : (picks : Picks) → picks_for (form_of_words words) ≡ Some picks
-      → (input : List ℕ) → IsGiven s input → Stayed k.faults_before k.faults_after
-      → (answer ≡ 15) ⊎ ((text : List ℕ) × Runs picks input text answer × Gains k.before k.after text)
-  pub run : (picks : Picks) → picks_for (form_of_words words) ≡ Some picks
-      → (input : List ℕ) → IsGiven s input → Stayed k.faults_before k.faults_after
-      → (plan : Plan) → HasPlan input plan
-      → (answer ≡ 15) ⊎ ((text : List ℕ) × IsTraceOf plan (picks_of picks plan) text answer × Gains k.before k.after text)
-  -- For `check`, likewise: why the input has no plan, or its scene in canonical form.
-  pub check : form_of_words words ≡ Some Check → (input : List ℕ) → IsGiven s input → Stayed k.faults_before k.faults_after
-      → (answer ≡ 15) ⊎ ((text : List ℕ) × Checks input text answer × Gains k.before k.after text)
-  -- For `replay`, likewise: why the scenario before the first line `trace` has no plan, or the verdict on the trace after
-  -- that line.
-  pub judged : form_of_words words ≡ Some Replay → (input : List ℕ) → IsGiven s input → Stayed k.faults_before k.faults_after
-      → (answer ≡ 15) ⊎ ((text : List ℕ) × Judges input text answer × Gains k.before k.after text)
-  pub verdict : form_of_words words ≡ Some Replay → (input : List ℕ) → IsGiven s input → Stayed k.faults_before k.faults_after
-      → (plan : Plan) → HasPlan (scenario_in input) plan
-      → (answer ≡ 15) ⊎ ((text : List ℕ) × IsVerdict plan (trace_in input) text answer × Gains k.before k.after text)
-  -- Without a trace its first line is missing.
-  pub no_trace : form_of_words words ≡ Some Replay → (input : List ℕ) → IsGiven s input → Stayed k.faults_before k.faults_after
-      → (plan : Plan) → HasPlan (scenario_in input) plan → trace_in input ≡ []
-      → (answer ≡ 15) ⊎ ((answer ≡ 6) × Gains k.before k.after (refused_line 1 why.Missing))
-  -- 6 comes exactly where a line of the trace is bad, and tells the first such line with its reason.
+  -- For all other words, what the top call without threads promises: of `check`, `order`, `seed N`, `replay`, `gen N` and
+  -- `load N`, each with what it writes, and of words of no form.
+  pub plain : is_run words ≡ false → PlainPromises (form_of_words words) s k answer
+  -- 6 comes only for `replay`, where a line of the trace is bad, and tells the first such line with its reason.
   pub bad_line_only : answer ≡ 6 → (form_of_words words ≡ Some Replay) × WroteRefused s k
-  pub bad_line_always : form_of_words words ≡ Some Replay → (input : List ℕ) → IsGiven s input
-      → (plan : Plan) → HasPlan (scenario_in input) plan
-      → (line : ℕ) (y : Why) → IsRefused plan agent_meaning (trace_in input) line y → Unhindered 6 answer
-  -- For `replay`, 0 comes only where the trace is the text of a run that has ended. The lines of each run that has ended
-  -- and whose events are of the plan are accepted.
-  pub accepted_only : form_of_words words ≡ Some Replay → answer ≡ 0 → WroteAccepted s k
-  pub accepted_always : form_of_words words ≡ Some Replay → (input : List ℕ) → IsGiven s input
-      → (plan : Plan) → HasPlan (scenario_in input) plan
-      → (run : List Event) → IsWhole plan agent_meaning (trace_in input) run → Unhindered 0 answer
-  -- `gen N` writes the text of the scenario that N generates, and `load N` the summary of its run by the words of N; or the
-  -- answer is out of memory.
-  pub generated : (n : ℕ) → form_of_words words ≡ Some (Gen n) → Stayed k.faults_before k.faults_after
-      → (answer ≡ 15) ⊎ ((answer ≡ 0) × Gains k.before k.after (printed (scenario.generated n)))
-  pub summed : (n : ℕ) → form_of_words words ≡ Some (Load n) → Stayed k.faults_before k.faults_after
-      → (answer ≡ 15) ⊎ ((text : List ℕ) × IsSummaryOf n text answer × Gains k.before k.after text)
-  -- For `load N`, 3, 4 and 5 come only where the summary of a run was written that ended so.
-  pub summed_fault : (n : ℕ) → form_of_words words ≡ Some (Load n) → answer ≡ 3 → (f : Fault) × WroteSummary n k (ending.Fault f)
-  pub summed_stuck : (n : ℕ) → form_of_words words ≡ Some (Load n) → answer ≡ 4 → WroteSummary n k ending.Stuck
-  pub summed_limit : (n : ℕ) → form_of_words words ≡ Some (Load n) → answer ≡ 5 → WroteSummary n k ending.Limit
   -- An answer to an input comes only where the input was read to its end.
   pub whole_input : IsTrue (reads_input words) → answer ≢ 12 → answer ≢ 13 → answer ≢ 14 → answer ≢ 15 → UsesUp s.before s.after
   -- Only `check`, `order`, `seed N`, `run` and `replay` read, and no more than one byte past the limit.

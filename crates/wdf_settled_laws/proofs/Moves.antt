@@ -53,7 +53,7 @@ use Rattle.wdf_invariants.proofs.StepStates.{in_turn}
 use Rattle.wdf_agreements.proofs.Sound.{AllSound}
 use Rattle.wdf_agreements.proofs.SoundEvents.{top_on}
 use Rattle.wdf_agreements.proofs.SoundRuns.{KnownAll, all_sound}
-use Rattle.wdf_agreements.proofs.FramesStay.{Begins, GoOn, frames_by}
+use Rattle.wdf_agreements.proofs.FramesStay.{Begins, FramesGoOn, frames_by}
 use Rattle.wdf_laws.specs.declared.sign.Sign.TheVariants as sign
 use Rattle.wdf_laws.specs.Signs.{shows}
 use Rattle.wdf_request_laws.proofs.CancelsOverRuns.{started}
@@ -147,7 +147,7 @@ pub record Change {A : Type 0} (plan : Plan) (S U : State A) (e : Event) : Type 
   pub moved : Moved plan S U e
   pub frames : FramesFrom plan S U e
 
-go_on : {A : Type 0} (plan : Plan) (S U : State A) (e : Event) → GoOn S.cpus U.cpus → FramesFrom plan S U e
+go_on : {A : Type 0} (plan : Plan) (S U : State A) (e : Event) → FramesGoOn S.cpus U.cpus → FramesFrom plan S U e
 go_on plan S U e g x h = inl (g x h)
 
 pub calm_change : {A : Type 0} (plan : Plan) (S : State A) (e : Event) (ds : List Deed) → none_moves ds ≡ true → AllSound plan ds S → NoStage e → Change plan S (do_deeds plan ds S) e
@@ -173,11 +173,11 @@ module _ {A : Type 0} (plan : Plan) (m : Meaning A) (S : State A) (cpu : Cpu) (c
   abbrev e : Event
   e = event.Start cpu c o r
 
-  frames_begun : (V U : State A) → GoOn S.cpus V.cpus → U ≡ do_deeds plan (pushes ∷ takes) V → AllSound plan (pushes ∷ takes) V → FramesFrom plan S U e
+  frames_begun : (V U : State A) → FramesGoOn S.cpus V.cpus → U ≡ do_deeds plan (pushes ∷ takes) V → AllSound plan (pushes ∷ takes) V → FramesFrom plan S U e
   frames_begun V U g same s =
       let W : State A = do_deed plan pushes V in
       let b : Begins V.cpus W.cpus f frame = frames_by plan pushes V s.0 in
-      let t : GoOn W.cpus (do_deeds plan takes W).cpus = (deeds_calm plan takes W (taking_none f (lock_of_callback plan c o.id.0 (declared_in plan S o.id.0))) s.1).frames in
+      let t : FramesGoOn W.cpus (do_deeds plan takes W).cpus = (deeds_calm plan takes W (taking_none f (lock_of_callback plan c o.id.0 (declared_in plan S o.id.0))) s.1).frames in
       subst (λ (X : State A). FramesFrom plan S X e) (sym same)
       (λ x h. elim (one_or_two x f) [
         | inl is ↦
@@ -268,14 +268,14 @@ module _ {A : Type 0} (plan : Plan) (m : Meaning A) (S : State A) (es : List Eve
       let tail : end_of_step plan S (row_of c).rank c o.id.0 v ≡ EndStep (object_id n) x v ∷ [] = ap (λ y. end_of_step plan S y c o.id.0 v) (sequence_is (row_of c).rank is) in
       let V : State A = do_deeds plan (release_if_any l) S in
       let s = sound_after plan (release_if_any l) (PopFrame cpu ∷ end_of_step plan S (row_of c).rank c o.id.0 v) S sound in
-      let goes : GoOn S.cpus (cpus.pop S.cpus cpu.0) = subst (λ (C : Cpus). GoOn C (cpus.pop C cpu.0)) (released_cpus l) (frames_by plan (PopFrame cpu) V s.0).0 in
+      let goes : FramesGoOn S.cpus (cpus.pop S.cpus cpu.0) = subst (λ (C : Cpus). FramesGoOn C (cpus.pop C cpu.0)) (released_cpus l) (frames_by plan (PopFrame cpu) V s.0).0 in
       let there : 1 ≤ on S.cpus g = top_on S.cpus cpu.0 g t.about.top in
       let at : (frame_of S.cpus g).device.id.0 ≡ n = known.known.frames.device g there ∙ ap (λ (y : Handle). nearest_device S.tree y.id.0) (sym t.object) in
       let runs : Runs S.pnp (frame_of S.cpus g) = k.frames.steps g there (ap (λ y. is_sequence (row_of y).rank) (sym t.callback) ∙ is) in
       let here : running_step S.pnp n ≡ Some (step.Run c runs.0) = sym (ap (running_step S.pnp) at) ∙ runs.1 ∙ ap (λ y. Some (step.Run y runs.0)) (sym t.callback) in
       subst (λ (y : List Deed). Change plan S (do_deeds plan (release_if_any l ++ PopFrame cpu ∷ y) S) (event.End cpu c o v)) (sym tail) (record {
         moved = Ended n c runs.0 (interrupt_of_step plan S o.id.0) v (λ d. (refl, refl)) here (ended_pnp l cpu.0 n x v) (ended_devices l cpu.0 n x v);
-        frames = go_on plan S (do_deeds plan (release_if_any l ++ PopFrame cpu ∷ EndStep (object_id n) x v ∷ []) S) (event.End cpu c o v) (subst (λ (C : Cpus). GoOn S.cpus C) (sym (ended_cpus l cpu.0 n x v)) goes);
+        frames = go_on plan S (do_deeds plan (release_if_any l ++ PopFrame cpu ∷ EndStep (object_id n) x v ∷ []) S) (event.End cpu c o v) (subst (λ (C : Cpus). FramesGoOn S.cpus C) (sym (ended_cpus l cpu.0 n x v)) goes);
       })
 
   asks : (agent : ℕ) (a : Ask) (device : Handle) (answer : Option Handle) → all_fit plan (post_deeds plan S agent (post.Ask a device)) S ≡ true

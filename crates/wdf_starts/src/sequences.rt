@@ -42,7 +42,9 @@ pub fn stage_ready<A: Agent>(
 {
     match stage {
         Stage::Settled => is_settled(plan, parts, d),
-        Stage::Disabled => parts.locks().is_free(LockRef::Object(handle_id(interrupt))),
+        Stage::Disabled => parts
+            .locks()
+            .is_free_lock(LockRef::Object(handle_id(interrupt))),
         Stage::Quiet => is_quiet(plan, parts, d),
         Stage::Removed => is_drained(plan, parts, d),
         _ => true,

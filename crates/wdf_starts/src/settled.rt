@@ -23,7 +23,7 @@ fn no_interrupt_queued<A: Agent>(plan: &IndexedPlan, parts: &Parts<A>, d: Object
 {
     for k in 0..plan.declared_len() {
         let i = ObjectId(k + 1);
-        if is_interrupt_of(plan, d, i) && parts.dpcs().is_queued(i) {
+        if is_interrupt_of(plan, d, i) && parts.dpcs().is_dpc_queued(i) {
             return false;
         }
     }

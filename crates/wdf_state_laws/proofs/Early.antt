@@ -39,7 +39,7 @@ use Rattle.wdf_agreements.proofs.Lists.{reads_same}
 use Rattle.wdf_agreements.proofs.Sound.{AllSound, Sound}
 use Rattle.wdf_agreements.proofs.SoundRuns.{all_sound, known_place}
 use Rattle.wdf_agreements.proofs.Framing.{none_yet, off_it}
-use Rattle.wdf_agreements.proofs.FramesStay.{Begins, GoOn, frames_by}
+use Rattle.wdf_agreements.proofs.FramesStay.{Begins, FramesGoOn, frames_by}
 use Rattle.wdf_state_laws.specs.States.{FramesBeforeCleanup}
 use Rattle.wdf_state_laws.proofs.Acts.{arrived, live_early, noted_kept, tree_of}
 use Rattle.wdf_state_laws.proofs.Beginnings.{AllEarly, Early, event_early}
@@ -111,7 +111,7 @@ MayRun S f = same_callback (frame_of S.cpus f).callback callback.EvtDestroyCallb
 abbrev AllMayRun : {A : Type 0} → State A → Type 0
 AllMayRun S = (f : ℕ) → 1 ≤ on S.cpus f → MayRun S f
 
-runs_still : {A : Type 0} (S U : State A) → GoOn S.cpus U.cpus → ((f : ℕ) → 1 ≤ on S.cpus f → is_past_cleanup (life_of S.tree (object_of S f)) ≡ false → is_past_cleanup (life_of U.tree (object_of S f)) ≡ false) → AllMayRun S → AllMayRun U
+runs_still : {A : Type 0} (S U : State A) → FramesGoOn S.cpus U.cpus → ((f : ℕ) → 1 ≤ on S.cpus f → is_past_cleanup (life_of S.tree (object_of S f)) ≡ false → is_past_cleanup (life_of U.tree (object_of S f)) ≡ false) → AllMayRun S → AllMayRun U
 runs_still S U go stay k f more n =
     let g = go f more in
     let kept : FrameKept (frame_of S.cpus f) (frame_of U.cpus f) = g.1 in

@@ -88,6 +88,6 @@ impl<A: Agent> View for TopFrame<'_, A> {
     fn hardware(&self, register: u32) -> bool {
         self.parts
             .power()
-            .hardware(self.plan.device_of_register(register))
+            .has_hardware(self.plan.device_of_register(register))
     }
 }

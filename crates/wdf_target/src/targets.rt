@@ -1,12 +1,12 @@
 ghost use Rattle.std.specs.Prelude.{◌≡◌, ◌<◌, ◌≤◌, IfOk, None, Some, false, if◌then◌else◌, is_some, length, slice_get};
-ghost use Rattle.wdf_model.specs.Plans.{target_of};
 ghost use Rattle.wdf_model.specs.parts.Targets as targets;
 ghost use Rattle.wdf_target.specs.Left.{left};
 
 use crate::target::Target;
 use std::alloc::Global;
 use std::marker::Model;
-use wdf_base::{Declared, Memory, ObjectId, Plan, Status, TargetInfo};
+use wdf_base::{Memory, ObjectId, Plan, Status};
+use wdf_declared::target_of;
 use wdf_maps::{entry_at, put_at};
 use wdf_model::{OBJECTS, Sending};
 
@@ -39,19 +39,6 @@ impl Model for Targets {
     ghost invariant = { HasTargets };
 }
 
-/// What the plan says of a target.
-fn info_of(plan: &Plan, id: u32) -> Option<TargetInfo>
-    ensures { result ≡ target_of plan.now id }
-{
-    if id == 0 || id > plan.declared_len() {
-        return None;
-    }
-    match plan.declared(ObjectId(id)) {
-        Declared::Target(info) => Some(info),
-        _ => None,
-    }
-}
-
 /// What is left of a request with which its target is done: nothing of a forgotten one.
 fn finished(sent: Sent, status: Status) -> Option<Sent>
     ensures { result ≡ left status sent }
@@ -75,7 +62,7 @@ fn open(alloc: Global, plan: &Plan) -> Result<Vec<Target>, Memory>
     let ids = plan.declared_len() as usize + 1;
     let mut all = Vec::with_capacity(alloc, ids)?;
     for id in 0..ids {
-        match Target::open(alloc, info_of(plan, id as u32)) {
+        match Target::open(alloc, target_of(plan, ObjectId(id as u32))) {
             Ok(target) => all.push_reserved(target),
             Err(memory) => return Err(memory),
         }

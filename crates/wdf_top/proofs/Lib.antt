@@ -7,3 +7,4 @@ pub mod Judged
 pub mod Lines
 pub mod Sinks
 pub mod Resolving
+pub mod Promised

@@ -58,7 +58,7 @@ places_push p k (m ∷ ms) n =
     by_test true e rest = rw e (ap (λ xs. k ∷ xs) rest)
     by_test false e rest = rw e rest
 
-places_kept : (p : Node → Bool) (k : ℕ) (ns : List Node) (o : ℕ) (m : Node) → p m ≡ p (entry gone ns o) → places p k (slice_set ns o m) ≡ places p k ns
+pub places_kept : (p : Node → Bool) (k : ℕ) (ns : List Node) (o : ℕ) (m : Node) → p m ≡ p (entry gone ns o) → places p k (slice_set ns o m) ≡ places p k ns
 places_kept p k [] o m e = refl
 places_kept p k (n ∷ ns) zero m e = rw e refl
 places_kept p k (n ∷ ns) (suc o) m e = with_head (p n) k (places p (k + 1) (slice_set ns o m)) (places p (k + 1) ns) (places_kept p (k + 1) ns o m e)

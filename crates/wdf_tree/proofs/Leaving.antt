@@ -56,12 +56,12 @@ pushed_at test ns bits n id none off set (inr other) = rw (entry_before gone ns 
 holds_pushed : (test : Life → Bool) (ns : List Node) (bits : List Bool) (n : Node) → test life.Gone ≡ false → test n.life ≡ false → HoldsLives test ns bits → HoldsLives test (ns ++ n ∷ []) bits
 holds_pushed test ns bits n none off set = record { room = set.room; same = λ id. pushed_at test ns bits n id none off set (cases_eq id (length ns)) }
 
-none_in : (n id : ℕ) → is_in id (replicate n false) ≡ false
+pub none_in : (n id : ℕ) → is_in id (replicate n false) ≡ false
 none_in zero id = refl
 none_in (suc n) zero = refl
 none_in (suc n) (suc id) = none_in n id
 
-gone_alone : (id : ℕ) → entry gone (gone ∷ []) id ≡ gone
+pub gone_alone : (id : ℕ) → entry gone (gone ∷ []) id ≡ gone
 gone_alone zero = refl
 gone_alone (suc id) = entry_past gone [] id (omega arith)
 
@@ -79,7 +79,7 @@ pub leaving_at_first : (ns : List Node) (n : ℕ) (asked cleaned : List Bool) �
 leaving_at_first ns n asked cleaned one room a c =
     rw one (record { asked = holds_empty is_asked n asked refl room a; cleaned = holds_empty is_cleaned n cleaned refl room c })
 
-live_unasked : (l : Life) → is_live l ≡ true → is_asked l ≡ false
+pub live_unasked : (l : Life) → is_live l ≡ true → is_asked l ≡ false
 live_unasked life.Live h = refl
 live_unasked life.Asked h = absurd (false≢true h)
 live_unasked life.Cleaned h = absurd (false≢true h)
@@ -124,7 +124,7 @@ leaving_by_cleanup {ns} {asked} {cleaned} o m h few there e = record {
   cleaned = holds_written is_cleaned ns cleaned o m true few there (sym (ap is_cleaned e)) h.cleaned;
 }
 
-cleaned_unasked : (l : Life) → is_cleaned l ≡ true → is_asked l ≡ false
+pub cleaned_unasked : (l : Life) → is_cleaned l ≡ true → is_asked l ≡ false
 cleaned_unasked life.Live h = refl
 cleaned_unasked life.Asked h = absurd (false≢true h)
 cleaned_unasked life.Cleaned h = refl
@@ -171,7 +171,7 @@ from_by bits id a rest found true e h further =
     (λ far. let below = rank_mono bits (a + 1) id (omega arith) in omega arith)
     further
 
-from_part : (bits : List Bool) (p : ℕ → Bool) (id a n : ℕ) → ((x : ℕ) → is_in x bits ≡ p x) → a + n ≤ length bits
+pub from_part : (bits : List Bool) (p : ℕ → Bool) (id a n : ℕ) → ((x : ℕ) → is_in x bits ≡ p x) → a + n ≤ length bits
     → slice_get (filter p (range_with_len a n)) (rank id bits - rank a bits) ≡ find (λ x. nat_le id x && p x) (range_with_len a n)
 from_part bits p id a zero e h = refl
 from_part bits p id a (suc n) e h =

@@ -5,3 +5,4 @@ pub mod Marks
 pub mod Children
 pub mod Walks
 pub mod Firsts
+pub mod Turns

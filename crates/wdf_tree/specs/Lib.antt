@@ -3,3 +3,4 @@ pub mod Inside
 pub mod Refusal
 pub mod Kin
 pub mod GoFirst
+pub mod Turns

@@ -4,6 +4,7 @@ mod leaving;
 mod making;
 mod order;
 mod readers;
+mod turns;
 
 use std::marker::Model;
 use wdf_base::ObjectId;
@@ -33,6 +34,8 @@ pub struct Tree {
     asked: IdSet,
     /// The objects that are cleaned up, and aren't destroyed yet.
     cleaned: IdSet,
+    /// Of those whose cleanup is still to come, the ones whose turn among their siblings has come.
+    turns: IdSet,
 }
 
 impl Model for Tree {

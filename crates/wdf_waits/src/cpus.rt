@@ -99,7 +99,7 @@ pub(crate) fn dpc_function(kind: Kind) -> Callback
 pub(crate) fn head_lock<A: Agent>(plan: &IndexedPlan, parts: &Parts<A>, cpu: Cpu) -> Option<LockRef>
     ensures { result ≡ waits.head_lock plan.now parts.now cpu.0 }
 {
-    match parts.dpcs().head(cpu) {
+    match parts.dpcs().dpc_head(cpu) {
         Some(o) => scope_of(
             plan.plan(),
             dpc_function(parts.tree().kind(o)),

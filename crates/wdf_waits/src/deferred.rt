@@ -14,7 +14,9 @@ use wdf_starts::level_fits;
 pub(crate) fn is_open_work<A: Agent>(parts: &Parts<A>, o: ObjectId) -> bool
     ensures { result ≡ ready.is_open_work parts.now o.0 }
 {
-    parts.dpcs().is_queued(o) || parts.work_items().queued(o) || parts.timers().due(o, parts.now())
+    parts.dpcs().is_dpc_queued(o)
+        || parts.work_items().is_work_queued(o)
+        || parts.timers().timer_due(o, parts.now())
 }
 
 /// Why a DPC doesn't start: the lock that it needs is held, or that of the first in its processor's
@@ -61,9 +63,9 @@ fn work_cause<A: Agent>(
 fn deferred_cause<A: Agent>(plan: &IndexedPlan, parts: &Parts<A>, o: ObjectId) -> Option<Cause>
     ensures { result ≡ waits.deferred_cause plan.now parts.now o.0 }
 {
-    if parts.dpcs().is_queued(o) {
+    if parts.dpcs().is_dpc_queued(o) {
         dpc_cause(plan, parts, o)
-    } else if parts.work_items().queued(o) {
+    } else if parts.work_items().is_work_queued(o) {
         work_cause(plan, parts, Callback::EvtWorkItem, PASSIVE_LEVEL, o)
     } else {
         work_cause(plan, parts, Callback::EvtTimerFunc, DISPATCH_LEVEL, o)

@@ -15,7 +15,7 @@ fn least_waiting_in(queues: &Queues, q: ObjectId) -> Option<u32>
     ensures { result ≡ least (waiting_in queues.now q.0) }
 {
     let mut least = None;
-    let mut next = queues.head(q);
+    let mut next = queues.front(q);
     for _ in 0..queues.len(q) {
         match next {
             Some(r) => {
@@ -34,7 +34,7 @@ fn least_ahead_in(queues: &Queues, q: ObjectId, r: ObjectId) -> Option<u32>
     ensures { result ≡ least (take_while (λ x. not (x == r.0)) (waiting_in queues.now q.0)) }
 {
     let mut least = None;
-    let mut next = queues.head(q);
+    let mut next = queues.front(q);
     for _ in 0..queues.len(q) {
         match next {
             Some(ahead) => {

@@ -16,7 +16,7 @@ pub struct Shift {
 }
 
 /// How often a worker whose turn added nothing looks whether the history has grown, before its next turn.
-const LOOKS: u32 = 1000;
+const LOOKS: u32 = 100;
 
 /// A turn: one try to take the value, one event at most, and the value goes back.
 fn take_turn<T: Advance>(turn: &Turn<T>, seat: &mut Seat<T>, crew: Crew) -> Progress

@@ -4,10 +4,10 @@ use Rattle.wdf_model.specs.rules.Ready.{ready}
 use Rattle.wdf_run.proofs.Order.{IsRunSoFar}
 use Rattle.wdf_run.proofs.run_by.Given as goal
 
-abbrev pub invariant-loop-count : goal.invariant-loop-count
-invariant-loop-count g l =
+abbrev pub invariant-turns : goal.invariant-turns
+invariant-turns g l =
     (l.core.plan ≡ l.initial.core.plan)
     × IsRunSoFar (ready l.initial.core.plan g.A.Agent.meaning) (g.P.Picks.pick l.initial.source) (g.P.Picks.pick l.source) l.initial.core.plan.limit l.initial.core.journal l.core.journal
 
-abbrev pub decreases-loop-count : goal.decreases-loop-count
-decreases-loop-count g l = l.core.plan.limit - length l.core.journal
+abbrev pub decreases-turns : goal.decreases-turns
+decreases-turns g l = l.core.plan.limit - length l.core.journal

@@ -7,10 +7,11 @@ ghost use Rattle.wdf_model.specs.parts.Tree as tree;
 
 use super::Tree;
 use super::making::{DRIVER, counted, gone};
+use super::turns::note_around;
 use wdf_base::{Life, ObjectId};
 
 /// Whether an id was found, and it is this one.
-fn is_id(found: Option<u32>, id: u32) -> bool
+pub(super) fn is_id(found: Option<u32>, id: u32) -> bool
     ensures { result ≡ same_id found id }
 {
     match found {
@@ -30,6 +31,7 @@ impl Tree {
         if self.life(o) == Life::Live {
             self.nodes[o.0 as usize].life = Life::Asked;
             self.asked.put(o.0, true);
+            note_around(&mut self.turns, &self.nodes, &self.waiting, o, None);
         }
     }
 
@@ -163,10 +165,13 @@ impl Tree {
         ensures done { self.new ≡ tree.clean self.old o.0 }
         ensures size { length self.new.nodes ≡ length self.old.nodes }
     {
+        let parent = self.parent(o);
         self.nodes[o.0 as usize].life = Life::Cleaned;
         let _list = self.waiting.unlink(o.0);
         self.asked.put(o.0, false);
         self.cleaned.put(o.0, true);
+        let last = self.waiting.back(parent.0);
+        note_around(&mut self.turns, &self.nodes, &self.waiting, o, last);
     }
 
     /// Whether an object may be destroyed, by the tree alone: its cleanup is done, no reference is

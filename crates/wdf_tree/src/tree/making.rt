@@ -6,6 +6,7 @@ ghost use Rattle.wdf_ilist.specs.Family.{is_on_any};
 ghost use Rattle.wdf_tree.specs.Kin.{joined};
 ghost use Rattle.wdf_tree.specs.Refusal.{create_answer};
 
+use super::turns::note_sibling;
 use super::{CreateRefusal, Tree};
 use std::alloc::Global;
 use wdf_base::{Declared, Kind, Life, Memory, ObjectId, Plan, Value};
@@ -118,6 +119,7 @@ impl Tree {
             waiting: Links::make(alloc, room, room)?,
             asked: IdSet::make(alloc, room)?,
             cleaned: IdSet::make(alloc, room)?,
+            turns: IdSet::make(alloc, room)?,
         })
     }
 
@@ -142,11 +144,13 @@ impl Tree {
     {
         let device = self.nearest_for(&node);
         let id = self.len();
+        let last = self.waiting.back(node.parent.0);
         self.count += counted(&node);
         join(&mut self.children, node.parent, id);
         join(&mut self.waiting, node.parent, id);
         self.nodes.push_reserved(node);
         self.devices.push_reserved(device);
+        note_sibling(&mut self.turns, &self.nodes, &self.waiting, last);
     }
 
     /// An object is made by a call, and is live. It is refused under a parent that isn't live

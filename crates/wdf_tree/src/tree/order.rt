@@ -34,9 +34,11 @@ impl Tree {
         lesser(child, self.waiting.after(o.0))
     }
 
-    /// The least object that has to go before this one: once it is cleaned up, a child that is left,
-    /// and before that a child or, where the deletion of the parent was asked too, a younger
-    /// sibling whose cleanup is still to come. (own)
+    /// The least object that has to go before this one. (own)
+    ///
+    /// Once this one is cleaned up, that is a child that is left. Before that it is a child whose
+    /// cleanup is still to come, or, where the deletion of the parent was asked too, such a younger
+    /// sibling.
     pub fn goes_first(&self, o: ObjectId) -> Option<ObjectId>
         requires there { o.0 < length self.now.nodes }
         ensures { option_map (λ x. x.0) result ≡ least (go_first self.now o.0) }

@@ -2,38 +2,15 @@
 
 ghost use Rattle.std.specs.Prelude.{◌≡◌, length, slice_index_or};
 ghost use Rattle.wdf_base.specs.declared.value.Value.TheVariants.{Num};
-ghost use Rattle.wdf_base.specs.Plan.{declared_of};
-ghost use Rattle.wdf_model.specs.Plans as plans;
 ghost use Rattle.wdf_model.specs.parts.Tree as tree;
 
 use super::Tree;
 use super::making::DRIVER;
 use wdf_base::{Callback, Declared, Handle, Kind, Life, ObjectId, Plan, Value};
+use wdf_declared::{declared_at, name_of_class};
 
 /// The number of the name of requests.
 const REQUEST_NAME: u32 = 1;
-
-/// What the plan declares with an id.
-fn declared_in(plan: &Plan, o: ObjectId) -> Option<Declared>
-    ensures { result ≡ declared_of plan.now o.0 }
-{
-    if o.0 == 0 || o.0 > plan.declared_len() {
-        None
-    } else {
-        Some(plan.declared(o))
-    }
-}
-
-/// The number of a class's name, 0 for what is no class.
-fn name_of_class(plan: &Plan, class: u16) -> u32
-    ensures { result ≡ plans.name_of_class plan.now class }
-{
-    if class < plan.class_len() {
-        plan.class(class).name()
-    } else {
-        0
-    }
-}
 
 /// The number of the name of what the plan declares; `req` for what is nothing there.
 fn name_as(plan: &Plan, declared: Option<Declared>) -> u32
@@ -132,7 +109,7 @@ impl Tree {
     }
 
     /// What a context cell of an object holds; the number 0 for a cell that isn't there.
-    pub fn get(&self, o: ObjectId, k: u64) -> Value
+    pub fn cell_of(&self, o: ObjectId, k: u64) -> Value
         ensures { result ≡ tree.cell_of self.now o.0 k }
     {
         match self.nodes.get(o.0 as usize) {
@@ -170,7 +147,7 @@ impl Tree {
         match self.kind(o) {
             Kind::Request => None,
             Kind::Driver | Kind::Device | Kind::Queue | Kind::Interrupt | Kind::Target => {
-                declared_in(plan, o)
+                declared_at(plan, o)
             }
             _ => Some(Declared::OfClass(self.class(o))),
         }

@@ -1,4 +1,4 @@
--- The closure tells the frame from the others.
+-- The closure keeps the levels of the other frames.
 use Rattle.std.proofs.Common.{rules}
 use Rattle.std.proofs.lemmas.Fn.{filter_same}
 use Rattle.wdf_cpu.proofs.levels.drop_levels.Goals as goal

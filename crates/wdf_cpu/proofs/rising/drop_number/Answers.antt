@@ -1,4 +1,4 @@
--- The closure tells the number from the others.
+-- The closure keeps the other numbers.
 use Rattle.std.proofs.Common.{rules}
 use Rattle.std.proofs.lemmas.Fn.{filter_same}
 use Rattle.wdf_cpu.proofs.rising.drop_number.Goals as goal

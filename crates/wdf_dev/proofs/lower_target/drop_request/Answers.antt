@@ -1,4 +1,4 @@
--- The closure tells the request from the others.
+-- The closure keeps the other requests.
 use Rattle.std.proofs.Common.{rules}
 use Rattle.std.proofs.lemmas.Fn.{filter_same}
 use Rattle.wdf_dev.proofs.lower_target.drop_request.Goals as goal

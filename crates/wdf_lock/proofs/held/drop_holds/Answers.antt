@@ -1,4 +1,4 @@
--- The closure tells the holds of the lock from the others.
+-- The closure keeps the holds of the other locks.
 use Rattle.std.proofs.Common.{not, ap, refl, ◌∙◌, rules}
 use Rattle.std.proofs.lemmas.Fn.{filter_same}
 use Rattle.wdf_lock.proofs.held.drop_holds.Goals as goal

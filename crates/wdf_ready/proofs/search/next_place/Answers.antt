@@ -1,4 +1,4 @@
--- What isn't due, closing, asked or cleaned is passed over.
+-- What isn't due, closing or cleaned, or whose turn hasn't come, is passed over.
 use Rattle.std.proofs.Common.{sym, ◌∙◌}
 use Rattle.wdf_ready.proofs.Skips.{cleanups_answer, completions_answer, destroys_answer, due_answer, searched, search_over, start_answer, stays}
 use Rattle.wdf_ready.proofs.search.next_place.Goals as goal
@@ -26,7 +26,7 @@ pub returns-in-Cleanups : goal.returns-in-Cleanups
 returns-in-Cleanups g c =
     let all = searched c.args.plan.now g.A.Agent.meaning c.args.parts.now c.args.group c.args.from c.args.end c.requires.all c.if-from-end.false c.requires.few in
     cleanups_answer c.args.plan.now g.A.Agent.meaning c.args.parts.now c.args.group c.args.from c.place_of-in-Cleanups.result (sym c.in-Cleanups.is) all.below all.few
-    (sym (c.place_of-in-Cleanups.ensures ∙ rw c.tree.ensures at c.asked_from.ensures))
+    (sym (c.place_of-in-Cleanups.ensures ∙ rw c.tree.ensures at c.turn_from.ensures))
 
 pub returns-in-Destroys : goal.returns-in-Destroys
 returns-in-Destroys g c =

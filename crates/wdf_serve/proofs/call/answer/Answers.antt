@@ -12,6 +12,6 @@ returns-then-is_run g c = record {
 
 pub returns-else-is_run : goal.returns-else-is_run
 returns-else-is_run g c = record {
-  told = form_told (map string_bytes c.args.words.now) _ _ _ (sym c.is_run.ensures ∙ c.if-is_run.false) c.top_plain.ensures.told;
+  told = form_told (map string_bytes c.args.words.now) _ _ _ (sym c.is_run.ensures ∙ c.if-is_run.false) c.top_plain.ensures.promises.told;
   not_again = c.top_plain.ensures.not_again;
 }

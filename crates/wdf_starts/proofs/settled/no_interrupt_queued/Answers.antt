@@ -5,8 +5,8 @@ use Rattle.wdf_model.specs.parts.Deferred.Dpcs.{is_dpc_queued}
 use Rattle.wdf_starts.proofs.Passing.{all_pass, one_fails}
 use Rattle.wdf_starts.proofs.settled.no_interrupt_queued.Goals as goal
 
-pub returns-then-is_queued : goal.returns-then-is_queued
-returns-then-is_queued g c =
+pub returns-then-is_dpc_queued : goal.returns-then-is_dpc_queued
+returns-then-is_dpc_queued g c =
     let P = c.args.plan.now in
     let S = c.args.parts.now in
     let within : c.loop-k.k + 1 < suc (length P.declared) = omega arith in

@@ -12,7 +12,7 @@ push_reserved-requires c = omega (arith, c.loop-id.invariant.1, c.loop-id.invari
 pub loop-id-preserved : goal.loop-id-preserved
 loop-id-preserved c =
     let grown : vec_len c.push_reserved.new.self ≡ c.loop-id.id + 1 = omega (arith, c.loop-id.invariant.1, c.push_reserved.ensures.len) in (
-      opened_more c.args.plan.now c.loop-id.id c.loop-id.all.items c.push_reserved.new.self.items c.in-Ok.target c.loop-id.invariant.0 (c.in-Ok.ensures ∙ ap opening_target c.info_of.ensures) c.push_reserved.ensures.items,
+      opened_more c.args.plan.now c.loop-id.id c.loop-id.all.items c.push_reserved.new.self.items c.in-Ok.target c.loop-id.invariant.0 (c.in-Ok.ensures ∙ ap opening_target c.target_of.ensures) c.push_reserved.ensures.items,
       grown,
       c.push_reserved.ensures.capacity ∙ c.loop-id.invariant.2,
     )

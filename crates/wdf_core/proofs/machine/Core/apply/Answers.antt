@@ -1,26 +1,8 @@
--- The event may come, there is room for it, and what the core keeps goes on.
-use Rattle.std.proofs.Common.{arith}
-use Rattle.wdf_core.proofs.Journal.{arrivals_fit, below, goes_by, next, next_doable, next_fits, number_fits}
+-- The event may come.
 use Rattle.wdf_core.proofs.machine.Core.apply.Goals as goal
 
-pub step-requires-clause-number : goal.step-requires-clause-number
-step-requires-clause-number g c = number_fits g.A.Agent.meaning c.self.inside.plan c.self.inside.journal.items c.self.inside.parts c.self.inside.groups.items _ c.self.invariant (goes_by g.A.Agent.meaning c.self.inside.plan c.self.inside.journal.items c.self.inside.parts c.self.inside.groups.items _ c.self.invariant c.args.k c.ready_at-event.result (rw (← c.self.view_is) at c.ready_at-event.ensures))
+pub take-requires : goal.take-requires
+take-requires g c = (c.args.k, c.ready_at-event.ensures)
 
-pub step-requires-clause-arrivals : goal.step-requires-clause-arrivals
-step-requires-clause-arrivals g c = arrivals_fit g.A.Agent.meaning c.self.inside.plan c.self.inside.journal.items c.self.inside.parts c.self.inside.groups.items _ c.self.invariant (goes_by g.A.Agent.meaning c.self.inside.plan c.self.inside.journal.items c.self.inside.parts c.self.inside.groups.items _ c.self.invariant c.args.k c.ready_at-event.result (rw (← c.self.view_is) at c.ready_at-event.ensures))
-
-pub step-requires-clause-clock : goal.step-requires-clause-clock
-step-requires-clause-clock g c = next_fits g.A.Agent.meaning c.self.inside.plan c.self.inside.journal.items c.self.inside.parts c.self.inside.groups.items _ c.self.invariant c.args.k c.ready_at-event.result (rw (← c.self.view_is) at c.ready_at-event.ensures)
-
-pub step-requires-clause-doable : goal.step-requires-clause-doable
-step-requires-clause-doable g c = next_doable g.A.Agent.meaning c.self.inside.plan c.self.inside.journal.items c.self.inside.parts c.self.inside.groups.items _ c.self.invariant c.args.k c.ready_at-event.result (rw (← c.self.view_is) at c.ready_at-event.ensures)
-
-pub push_reserved-requires : goal.push_reserved-requires
-push_reserved-requires g c =
-    let room = c.self.invariant.room in
-    let left = below g.A.Agent.meaning c.self.inside.plan c.self.inside.journal.items c.self.inside.parts c.self.inside.groups.items _ c.self.invariant (goes_by g.A.Agent.meaning c.self.inside.plan c.self.inside.journal.items c.self.inside.parts c.self.inside.groups.items _ c.self.invariant c.args.k c.ready_at-event.result (rw (← c.self.view_is) at c.ready_at-event.ensures)) in
-    omega (arith, c.self.inside.journal.ok.0)
-
-pub invariant_of-self : goal.invariant_of-self
-invariant_of-self g c =
-    rw (c.push_reserved.ensures.items, c.push_reserved.ensures.capacity, c.step.ensures) (next g.A.Agent.meaning c.self.inside.plan c.self.inside.journal.items c.self.inside.parts c.self.inside.groups.items _ c.self.invariant c.args.k c.ready_at-event.result (rw (← c.self.view_is) at c.ready_at-event.ensures))
+pub returns-clause-journal : goal.returns-clause-journal
+returns-clause-journal g c = (c.ready_at-event.result, c.ready_at-event.ensures, c.take.ensures.journal)

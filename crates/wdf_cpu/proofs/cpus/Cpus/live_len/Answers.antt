@@ -5,8 +5,8 @@ use Rattle.wdf_cpu.proofs.Live.{few_frames}
 use Rattle.wdf_cpu.proofs.Places.{stacked}
 use Rattle.wdf_cpu.proofs.cpus.Cpus.live_len.Goals as goal
 
-pub frames_on-requires : goal.frames_on-requires
-frames_on-requires c =
+pub stacked_len-requires : goal.stacked_len-requires
+stacked_len-requires c =
     let a = c.self.inside in
     let few = few_frames (cpus_in a) a.live.items c.self.invariant.kept.live in
     let both = length-append (stacked a.stacks.items) a.parked.items in
@@ -17,7 +17,7 @@ overflow_add-result c =
     let a = c.self.inside in
     let few = few_frames (cpus_in a) a.live.items c.self.invariant.kept.live in
     let both = length-append (stacked a.stacks.items) a.parked.items in
-    let on : c.frames_on.result ≡ length (stacked a.stacks.items) = rw c.deref.ensures.value at c.frames_on.ensures in
+    let on : c.stacked_len.result ≡ length (stacked a.stacks.items) = rw c.deref.ensures.value at c.stacked_len.ensures in
     omega arith
 
 pub returns-clause-small : goal.returns-clause-small
@@ -25,5 +25,5 @@ returns-clause-small c =
     let a = c.self.inside in
     let few = few_frames (cpus_in a) a.live.items c.self.invariant.kept.live in
     let both = length-append (stacked a.stacks.items) a.parked.items in
-    let on : c.frames_on.result ≡ length (stacked a.stacks.items) = rw c.deref.ensures.value at c.frames_on.ensures in
+    let on : c.stacked_len.result ≡ length (stacked a.stacks.items) = rw c.deref.ensures.value at c.stacked_len.ensures in
     omega arith

@@ -1,18 +1,20 @@
 -- The new frame is counted, and there is room for it.
-use Rattle.std.proofs.Common.{◌≡◌, false, arith}
+use Rattle.std.proofs.Common.{◌≡◌, false, None, refl, arith}
 use Rattle.wdf_model.specs.Tables.{contains}
 use Rattle.wdf_model.specs.parts.Cpus.{all_frames}
+use Rattle.wdf_cpu.specs.Keys.{object_key, wait_key}
 use Rattle.wdf_cpu.specs.Kept.{cpus_in}
 use Rattle.wdf_cpu.proofs.Keeping.{kept_push, on_fits, waits_fit}
 use Rattle.wdf_cpu.proofs.Live.{room_to_push}
 use Rattle.wdf_cpu.proofs.Numbers.{absent_from}
+use Rattle.wdf_cpu.proofs.Swapping.{none_left, swapped_by}
 use Rattle.wdf_cpu.proofs.cpus.Cpus.push.Goals as goal
 
-pub swap-requires-clause-fits : goal.swap-requires-clause-fits
-swap-requires-clause-fits c = on_fits c.self.inside c.self.invariant
+pub moves-requires : goal.moves-requires
+moves-requires c = on_fits c.self.inside c.self.invariant c.object_key.result
 
-pub swap-requires-2-clause-fits : goal.swap-requires-2-clause-fits
-swap-requires-2-clause-fits c = waits_fit c.self.inside c.self.invariant
+pub moves-requires-2 : goal.moves-requires-2
+moves-requires-2 c = waits_fit c.self.inside c.self.invariant c.wait_key.result
 
 pub push_on-requires-clause-room : goal.push_on-requires-clause-room
 push_on-requires-clause-room c =
@@ -33,6 +35,9 @@ invariant_of-self c =
       levels_room = h.levels_room;
       blank = h.blank;
       kept = rw (c.put_at.ensures.entries, c.push_on.ensures.pushed, c.put_at-2.ensures.entries, c.put_at-3.ensures.entries)
-          (kept_push (cpus_in a) a.live.items a.peaks.items a.on a.waits c.args.cpu.0 c.args.f.0 c.args.frame c.args.level.0 c.peak_of.result.0 c.swap.new.self c.swap-2.new.self
-          c.requires.room fresh c.peak_of.ensures (rw c.object_key.ensures at c.swap.ensures) (rw c.wait_key.ensures at c.swap-2.ensures) h.kept);
+          (kept_push (cpus_in a) a.live.items a.peaks.items a.on a.waits c.args.cpu.0 c.args.f.0 c.args.frame c.args.level.0 c.peak_of.result.0 c.moves.new.self c.moves-2.new.self
+          c.requires.room fresh c.peak_of.ensures
+          (swapped_by a.on c.moves.new.self None c.object_key.result None (object_key c.args.frame) c.moves.ensures refl c.object_key.ensures (none_left a.on))
+          (swapped_by a.waits c.moves-2.new.self None c.wait_key.result None (wait_key c.args.frame) c.moves-2.ensures refl c.wait_key.ensures (none_left a.waits))
+          h.kept);
     }

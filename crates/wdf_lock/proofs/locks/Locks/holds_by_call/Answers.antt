@@ -10,8 +10,8 @@ returns-then-held-f c =
     let q = is_call_of c.args.f.0 in
     sym (ap (λ b. b && c.in-Some.held.by_call) (equal c.in-Some.held.frame.0 c.args.f.0 c.if-held-f.true))
     ∙ ap (passes q) (sym c.in-Some.is)
-    ∙ ap (passes q) c.hold.ensures.value
-    ∙ found_any (is_of c.args.lock) q (λ h. is_of c.args.lock h && (h.frame.0 == c.args.f.0) && h.by_call) (λ h e. rw e refl) (λ h e. rw e refl) c.args.self.now.held c.hold.ensures.once
+    ∙ ap (passes q) c.hold_of.ensures.value
+    ∙ found_any (is_of c.args.lock) q (λ h. is_of c.args.lock h && (h.frame.0 == c.args.f.0) && h.by_call) (λ h e. rw e refl) (λ h e. rw e refl) c.args.self.now.held c.hold_of.ensures.once
 
 pub returns-else-held-f : goal.returns-else-held-f
 returns-else-held-f c =
@@ -20,12 +20,12 @@ returns-else-held-f c =
     no_other
     ∙ sym (ap (λ b. b && c.in-Some.held.by_call) no_other)
     ∙ ap (passes q) (sym c.in-Some.is)
-    ∙ ap (passes q) c.hold.ensures.value
-    ∙ found_any (is_of c.args.lock) q (λ h. is_of c.args.lock h && (h.frame.0 == c.args.f.0) && h.by_call) (λ h e. rw e refl) (λ h e. rw e refl) c.args.self.now.held c.hold.ensures.once
+    ∙ ap (passes q) c.hold_of.ensures.value
+    ∙ found_any (is_of c.args.lock) q (λ h. is_of c.args.lock h && (h.frame.0 == c.args.f.0) && h.by_call) (λ h e. rw e refl) (λ h e. rw e refl) c.args.self.now.held c.hold_of.ensures.once
 
 pub returns-in-None : goal.returns-in-None
 returns-in-None c =
     let q = is_call_of c.args.f.0 in
     ap (passes q) (sym c.in-None.is)
-    ∙ ap (passes q) c.hold.ensures.value
-    ∙ found_any (is_of c.args.lock) q (λ h. is_of c.args.lock h && (h.frame.0 == c.args.f.0) && h.by_call) (λ h e. rw e refl) (λ h e. rw e refl) c.args.self.now.held c.hold.ensures.once
+    ∙ ap (passes q) c.hold_of.ensures.value
+    ∙ found_any (is_of c.args.lock) q (λ h. is_of c.args.lock h && (h.frame.0 == c.args.f.0) && h.by_call) (λ h e. rw e refl) (λ h e. rw e refl) c.args.self.now.held c.hold_of.ensures.once

@@ -11,21 +11,21 @@ use Rattle.wdf_lock.proofs.locks.Locks.release.Goals as goal
 pub uncount_call-requires-clause-room : goal.uncount_call-requires-clause-room
 uncount_call-requires-clause-room c x is =
     let a = c.self.inside in
-    let found : hold_of (locks_in a) c.args.lock ≡ Some x = rw (← c.self.view_is) at (sym c.hold-hold.ensures.value ∙ is) in
+    let found : hold_of (locks_in a) c.args.lock ≡ Some x = rw (← c.self.view_is) at (sym c.hold_of-hold.ensures.value ∙ is) in
     let within : x.frame.0 < FRAMES = hold_frame (locks_in a) a.holders a.calls.items c.args.lock c.self.invariant.kept x found in
     omega arith
 
 pub uncount_call-requires-clause-counted : goal.uncount_call-requires-clause-counted
 uncount_call-requires-clause-counted c x is =
     let a = c.self.inside in
-    let found : hold_of (locks_in a) c.args.lock ≡ Some x = rw (← c.self.view_is) at (sym c.hold-hold.ensures.value ∙ is) in
+    let found : hold_of (locks_in a) c.args.lock ≡ Some x = rw (← c.self.view_is) at (sym c.hold_of-hold.ensures.value ∙ is) in
     hold_counted (locks_in a) a.holders a.calls.items c.args.lock c.self.invariant.kept x found
 
 pub invariant_of-self : goal.invariant_of-self
 invariant_of-self c =
     let a = c.self.inside in
     let h = c.self.invariant in
-    let hold : c.hold-hold.result ≡ hold_of (locks_in a) c.args.lock = rw (← c.self.view_is) at c.hold-hold.ensures.value in
+    let hold : c.hold_of-hold.result ≡ hold_of (locks_in a) c.args.lock = rw (← c.self.view_is) at c.hold_of-hold.ensures.value in
     let many = length-filter (λ x. not (is_of c.args.lock x)) a.held.items in
     let fewer = count_by-le-length (λ x. not (is_of c.args.lock x)) a.held.items in
     record {

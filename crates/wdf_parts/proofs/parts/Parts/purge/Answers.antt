@@ -39,5 +39,5 @@ waiting-preserved g c =
 
 pub returns : goal.returns
 returns g c =
-    let none : front c.waiting.self.queues c.args.q.0 ≡ None = sym c.head.ensures ∙ ap (option_map (λ (x : ObjectId). x.0)) c.in_default.is in
+    let none : front c.waiting.self.queues c.args.q.0 ≡ None = sym c.front.ensures ∙ ap (option_map (λ (x : ObjectId). x.0)) c.in_default.is in
     sym (ap (fold (withdraw c.args.plan.now c.args.q.0) c.waiting.self) (nothing_waits (waiting_in c.waiting.self.queues c.args.q.0) none)) ∙ c.waiting.invariant.rest

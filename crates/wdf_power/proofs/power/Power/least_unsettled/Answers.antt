@@ -10,7 +10,7 @@ returns-then-is_unsettled_at c =
     let P = c.args.self.now in
     let n = c.in-Some.ensures in
     first_is_least (λ r. is_unsettled_at P c.args.d.0 (holding_of P r)) (length P.holdings) c.in-Some.r.0 n.1
-    (settled_so_far P c.args.d.0 c.loop-r.id c.in-Some.r.0 c.loop-r.invariant n.3) (sym c.is_unsettled_at.ensures ∙ c.if-is_unsettled_at.true)
+    (settled_so_far P c.args.d.0 c.loop-r.id c.in-Some.r.0 c.loop-r.invariant n.4) (sym c.is_unsettled_at.ensures ∙ c.if-is_unsettled_at.true)
 
 pub returns : goal.returns
 returns c =

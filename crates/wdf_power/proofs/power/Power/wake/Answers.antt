@@ -16,7 +16,7 @@ loop-r-preserved c =
     let r = c.in-Some.r.0 in
     let n = c.in-Some.ensures in
     let new = c.woken.ensures ∙ ap (woken now c.args.d.0) c.holding.ensures in
-    let so_far = waking_skip c.args.self.now now c.args.d.0 c.loop-r.id r c.loop-r.invariant n.3 in
+    let so_far = waking_skip c.args.self.now now c.args.d.0 c.loop-r.id r c.loop-r.invariant n.4 in
     waking_more c.args.self.now now c.write.new.self c.args.d.0 r so_far n.1 (c.write.ensures ∙ ap (λ h. record now { holdings = put no_holding now.holdings r h }) new)
 
 pub returns : goal.returns

@@ -1,9 +1,9 @@
 -- Nothing is kept of no request.
 use Rattle.std.proofs.Common.{refl, lit≤, arith}
 use Rattle.wdf_model.specs.declared.entries.Request.{Request}
-use Rattle.wdf_model.specs.parts.Requests.{is_closing}
+use Rattle.wdf_model.specs.parts.Requests.{is_closing, is_due}
 use Rattle.wdf_request.specs.Keys.{returning_queue, sent_target, unfinished_device}
-use Rattle.wdf_request.proofs.Counting.{none_counted}
+use Rattle.wdf_counts.proofs.Counting.{none_counted}
 use Rattle.wdf_request.proofs.Members.{empty_set}
 use Rattle.wdf_request.proofs.Noting.{none_noted}
 use Rattle.wdf_request.proofs.requests.Requests.make.Goals as goal
@@ -19,6 +19,7 @@ invariant_of-result c =
       unfinished = rw (none, c.in_ok-make-3.ensures) (none_counted unfinished_device);
       open_count = rw none refl;
       closing = rw none (empty_set (λ (r : Request). is_closing r.place) 204800 _ refl (lit≤ tt) c.in_ok-make-4.ensures);
+      due = rw none (empty_set (λ (r : Request). is_due r.info.mark) 204800 _ refl (lit≤ tt) c.in_ok-make-5.ensures);
       noted = rw none (none_noted _);
     }
 

@@ -3,11 +3,11 @@ use Rattle.std.proofs.Common.{◌≡◌, ◌<◌, length, refl, ap, length-set, 
 use Rattle.wdf_model.specs.declared.entries.Request.{Request}
 use Rattle.wdf_model.specs.declared.room.TheConstants.{OBJECTS}
 use Rattle.wdf_model.specs.Tables.{entry}
-use Rattle.wdf_model.specs.parts.Requests.{Requests, is_closing, no_request}
+use Rattle.wdf_model.specs.parts.Requests.{Requests, is_closing, is_due, no_request}
 use Rattle.wdf_model.specs.rules.Ready.{is_open_request}
 use Rattle.wdf_model.proofs.Maps.{put_short, put_within}
 use Rattle.wdf_request.specs.Keys.{returning_queue, sent_target, unfinished_device}
-use Rattle.wdf_request.proofs.Counting.{count_put, counted_put}
+use Rattle.wdf_counts.proofs.Counting.{count_put, counted_put}
 use Rattle.wdf_request.proofs.Members.{set_put}
 use Rattle.wdf_request.proofs.Noting.{noted_put}
 use Rattle.wdf_request.proofs.requests.Requests.write.Goals as goal
@@ -37,6 +37,7 @@ invariant_of-self c =
           (counted_put unfinished_device no_request all c.self.inside.unfinished r c.args.request refl kept.unfinished);
       open_count = rw (put, c.open_flag.ensures, c.open_flag-2.ensures, old, kept.open_count) (omega arith);
       closing = rw (put, c.put.ensures, c.is_closing.ensures) (set_put (λ (x : Request). is_closing x.place) all c.self.inside.closing r c.args.request h kept.closing);
+      due = rw (put, c.put-2.ensures, c.is_due.ensures) (set_put (λ (x : Request). is_due x.info.mark) all c.self.inside.due r c.args.request h kept.due);
       noted = rw (put, c.note.ensures) (noted_put all c.self.inside.arrivals r c.args.request kept.noted);
     }
 

@@ -6,6 +6,7 @@ use Rattle.wdf_model.specs.declared.entries.Node.{Node}
 use Rattle.wdf_model.specs.parts.Tree.{Tree, gone, is_live, life_of}
 use Rattle.wdf_tree.proofs.Kept.{kept_by_write, live_stands, read_entry}
 use Rattle.wdf_tree.proofs.Leaving.{leaving_by_ask}
+use Rattle.wdf_tree.proofs.Turns.{turns_by_ask}
 use Rattle.wdf_tree.proofs.tree.Tree.ask_one.Goals as goal
 
 pub invariant_of-self : goal.invariant_of-self
@@ -19,4 +20,6 @@ invariant_of-self c =
     record {
       kept = kept_by_write _ c.index_mut.result.now _ c.self.invariant.kept there c.index_mut.ensures.value (record { kind = refl; parent = refl; gone = sym stays.gone }) (sym stays.waits);
       leaving = rw c.put.ensures (leaving_by_ask _ _ c.self.invariant.leaving c.self.invariant.kept.few there (ap is_live read ∙ stays.live) refl);
+      turns = turns_by_ask _ _ c.self.invariant.turns c.self.invariant.kept.waiting_kin c.self.invariant.kept.few there
+          (record { noted = rw c.deref.ensures.value at c.note_around.ensures.noted; own = rw c.deref.ensures.value at c.note_around.ensures.own; children = rw c.deref.ensures.value at c.note_around.ensures.children });
     }

@@ -1,9 +1,10 @@
 use Rattle.std.proofs.Common.{◌≡◌, true, refl, sym, ap, ◌∙◌}
 use Rattle.wdf_model.specs.Tables.{entry}
 use Rattle.wdf_model.specs.declared.entries.Node.{Node}
-use Rattle.wdf_model.specs.parts.Tree.{Tree, gone, is_asked, life_of}
+use Rattle.wdf_model.specs.parts.Tree.{Tree, gone, is_asked, life_of, parent_of}
 use Rattle.wdf_tree.proofs.Kept.{asked_stands, kept_by_cleanup, read_entry, there_if_asked}
 use Rattle.wdf_tree.proofs.Leaving.{leaving_by_cleanup}
+use Rattle.wdf_tree.proofs.Turns.{turns_after_cleanup}
 use Rattle.wdf_tree.proofs.tree.Tree.clean.Goals as goal
 
 pub invariant_of-self : goal.invariant_of-self
@@ -16,4 +17,7 @@ invariant_of-self c =
       kept = rw c.unlink-list.ensures.gone
           (kept_by_cleanup _ c.index_mut.result.now _ c.self.invariant.kept there c.index_mut.ensures.value (record { kind = refl; parent = refl; gone = sym stays }) refl);
       leaving = rw (c.put.ensures, c.put-2.ensures) (leaving_by_cleanup _ _ c.self.invariant.leaving c.self.invariant.kept.few there refl);
+      turns = turns_after_cleanup _ _ _ _ _ c.unlink-list.ensures.gone c.self.invariant.turns c.self.invariant.kept.waiting_kin c.self.invariant.kept.few there refl
+          (c.parent-parent.ensures ∙ sym (ap (λ (t : Tree). parent_of t c.args.o.0) c.self.view_is)) c.back-last.ensures
+          (record { noted = rw c.deref.ensures.value at c.note_around.ensures.noted; own = rw c.deref.ensures.value at c.note_around.ensures.own; children = rw c.deref.ensures.value at c.note_around.ensures.children }) (rw c.deref.ensures.value at c.note_around.ensures.sibling);
     }

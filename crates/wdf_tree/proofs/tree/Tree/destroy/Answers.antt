@@ -1,6 +1,7 @@
 use Rattle.std.proofs.Common.{refl, arith}
 use Rattle.wdf_tree.proofs.Kept.{devices_as_many, few_counted, kept_by_end, may_end, there_if_cleaned}
 use Rattle.wdf_tree.proofs.Leaving.{leaving_by_end}
+use Rattle.wdf_tree.proofs.Turns.{turns_by_end}
 use Rattle.wdf_tree.proofs.tree.Tree.destroy.Goals as goal
 
 pub overflow_sub-self : goal.overflow_sub-self
@@ -23,4 +24,5 @@ invariant_of-self c =
     record {
       kept = rw c.unlink-list.ensures.gone (kept_by_end _ _ c.index.result.now _ _ c.self.invariant.kept may c.index.ensures c.gone.ensures refl (rw c.counted.ensures (omega arith)));
       leaving = rw c.put.ensures (leaving_by_end _ _ c.self.invariant.leaving c.self.invariant.kept.few there may.cleaned c.gone.ensures);
+      turns = turns_by_end _ _ c.self.invariant.turns there may c.gone.ensures;
     }

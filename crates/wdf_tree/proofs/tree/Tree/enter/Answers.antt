@@ -4,6 +4,7 @@ use Rattle.wdf_tree.specs.Kin.{is_left, is_waiting}
 use Rattle.wdf_tree.proofs.Kin.{next_is_free}
 use Rattle.wdf_tree.proofs.Kept.{devices_as_many, kept_by_push}
 use Rattle.wdf_tree.proofs.Leaving.{leaving_by_push}
+use Rattle.wdf_tree.proofs.Turns.{turns_after_push}
 use Rattle.wdf_tree.proofs.tree.Tree.enter.Goals as goal
 
 pub push_reserved-requires-2 : goal.push_reserved-requires-2
@@ -17,6 +18,8 @@ invariant_of-self c =
           (kept_by_push c.args.node c.nearest_for-device.result c.len-id.result c.self.invariant.kept (omega arith) c.requires.live
           (c.nearest_for-device.ensures ∙ ap (λ (t : Tree). own_device (nearest_devices [] t.nodes) (length t.nodes) c.args.node) (sym c.self.view_is)) (omega arith));
       leaving = rw c.push_reserved.ensures.items (leaving_by_push c.args.node c.self.invariant.leaving c.requires.live);
+      turns = turns_after_push c.args.node c.len-id.result _ _ c.back-last.result c.push_reserved.ensures.items c.join-2.ensures c.self.invariant.turns c.self.invariant.kept.waiting_kin c.requires.live (omega arith)
+          c.back-last.ensures (rw c.deref.ensures.value at c.note_sibling.ensures.noted) (rw c.deref.ensures.value at c.note_sibling.ensures.own);
     }
 
 pub join-requires-clause-free : goal.join-requires-clause-free

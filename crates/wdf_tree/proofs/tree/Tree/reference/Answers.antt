@@ -2,6 +2,7 @@ use Rattle.std.proofs.Common.{◌<◌, length, refl, ap, arith}
 use Rattle.wdf_model.specs.parts.Tree.{Tree}
 use Rattle.wdf_tree.proofs.Kept.{kept_by_write}
 use Rattle.wdf_tree.proofs.Leaving.{leaving_by_write}
+use Rattle.wdf_tree.proofs.Turns.{turns_by_write}
 use Rattle.wdf_tree.proofs.tree.Tree.reference.Goals as goal
 
 pub invariant_of-self : goal.invariant_of-self
@@ -11,4 +12,5 @@ invariant_of-self c =
     record {
       kept = kept_by_write _ c.index_mut.result.now _ c.self.invariant.kept there read (record { kind = refl; parent = refl; gone = refl }) refl;
       leaving = leaving_by_write _ c.index_mut.result.now _ c.self.invariant.leaving there read refl;
+      turns = turns_by_write _ c.index_mut.result.now _ c.self.invariant.turns there read refl refl;
     }

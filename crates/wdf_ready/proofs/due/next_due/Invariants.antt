@@ -1,6 +1,0 @@
--- At no place so far a callback is due.
-use Rattle.wdf_ready.specs.Idle.{NoneFrom, is_due_at}
-use Rattle.wdf_ready.proofs.due.next_due.Given as goal
-
-abbrev pub invariant-loop-place : goal.invariant-loop-place
-invariant-loop-place g l = NoneFrom (is_due_at l.plan l.parts l.rank l.object.0) l.from l.place

@@ -1,0 +1,10 @@
+-- The members of the set are those requests.
+use Rattle.std.proofs.Common.{ap, find, nat_le, ◌∙◌}
+use Rattle.wdf_request.proofs.Members.{member_from, members_due}
+use Rattle.wdf_request.proofs.requests.Requests.next_due.Goals as goal
+
+pub returns : goal.returns
+returns c =
+    rw (c.object_at.ensures, c.from.ensures, ← c.self.view_is)
+    (member_from c.self.inside.due c.args.from.0
+    ∙ ap (λ ids. find (nat_le c.args.from.0) ids) (members_due c.self.inside.all.items c.self.inside.due c.self.invariant.entries c.self.invariant.due))

@@ -1,0 +1,404 @@
+-- The set of the objects whose turn has come: after a change of an object, and what it answers.
+use Rattle.std.proofs.Common.{if◌then◌else◌, ℕ, ◌≡◌, ◌≢◌, ◌⊎◌, ◌+◌, ◌-◌, ◌<◌, ◌≤◌, ◌==◌, nat_le, nat_lt, not, Bool, true, false, ◌&&◌, ◌||◌, List, [], ◌∷◌, ◌++◌, Option, Some, None, map, length, find, slice_get, slice_set, replicate, refl, ap, sym, subst, ◌∙◌, inl, inr, get_or-set_same, get_or-set_other, length-set, arith}
+use Rattle.std.specs.Prelude.{IfSome, slice_index_or}
+use Rattle.std.specs.List.{list_all}
+use Rattle.std.proofs.lemmas.Bool.{and_right, cases_eq, cases_lt, eq-eqb, eqb-true, false≢true, ltb-true, ne_eqb}
+use Rattle.std.proofs.lemmas.List.{length_push, length-replicate}
+use Rattle.wdf_base.specs.declared.object.Life.{Life}
+use Rattle.wdf_base.specs.declared.object.Life.TheVariants as life
+use Rattle.wdf_ilist.specs.Family.{Family, last_of, list_at, without}
+use Rattle.wdf_ilist.proofs.Lists.{map_at}
+use Rattle.wdf_model.specs.Tables.{entry, ids_of, same_id}
+use Rattle.wdf_model.specs.declared.entries.Node.{Node}
+use Rattle.wdf_model.specs.declared.room.TheConstants.{OBJECTS}
+use Rattle.wdf_model.specs.parts.Tree.{Tree, gone, is_asked, is_gone, is_live, is_past_cleanup, life_of, parent_of}
+use Rattle.wdf_model.proofs.Maps.{as_long, entry_before, entry_last, entry_past, entry_set_other}
+use Rattle.wdf_sets.specs.Members.{is_in, members, rank}
+use Rattle.wdf_sets.proofs.Ranks.{members_where}
+use Rattle.wdf_tree.specs.Kin.{HoldsKin, is_kin, is_waiting, joined}
+use Rattle.wdf_tree.specs.Turns.{AreNoted, HoldsTurns, has_turn, is_turn}
+use Rattle.wdf_tree.proofs.Children.{is_gone_under, last_waiting}
+use Rattle.wdf_tree.proofs.Kept.{MayEnd, all_of_entry, read_entry, there_if_asked}
+use Rattle.wdf_tree.proofs.Kin.{holds_without, no_places, places_kept}
+use Rattle.wdf_tree.proofs.Leaving.{cleaned_unasked, from_part, gone_alone, live_unasked, none_in}
+
+-- ---- noting
+
+pub noted_none : (test : ℕ → Bool) (bits : List Bool) → AreNoted test bits bits
+noted_none test bits = record { size = refl; each = λ id. inl refl }
+
+pub noted_set : (test : ℕ → Bool) (bits : List Bool) (x : ℕ) → x < length bits → AreNoted test bits (slice_set bits x (test x))
+noted_set test bits x h = record { size = length-set bits x (test x); each = λ id. at id (cases_eq id x) }
+  where
+    at : (id : ℕ) → (id ≡ x) ⊎ (id ≡ x → ⊥) → (is_in id (slice_set bits x (test x)) ≡ is_in id bits) ⊎ (is_in id (slice_set bits x (test x)) ≡ test id)
+    at id (inl same) = inr (rw same (get_or-set_same bits x (test x) false h))
+    at id (inr other) = inl (get_or-set_other bits x id (test x) false other)
+
+pub noted_more : (test : ℕ → Bool) (a b c : List Bool) → AreNoted test a b → AreNoted test b c → AreNoted test a c
+noted_more test a b c h k = record { size = k.size ∙ h.size; each = λ id. both id (h.each id) (k.each id) }
+  where
+    both : (id : ℕ) → (is_in id b ≡ is_in id a) ⊎ (is_in id b ≡ test id) → (is_in id c ≡ is_in id b) ⊎ (is_in id c ≡ test id) → (is_in id c ≡ is_in id a) ⊎ (is_in id c ≡ test id)
+    both id first (inr e) = inr e
+    both id (inl f) (inl e) = inl (e ∙ f)
+    both id (inr f) (inl e) = inr (e ∙ f)
+
+-- what is right stays so
+pub stays_right : (test : ℕ → Bool) (b c : List Bool) (id : ℕ) → AreNoted test b c → is_in id b ≡ test id → is_in id c ≡ test id
+stays_right test b c id k e = by (k.each id)
+  where
+    by : (is_in id c ≡ is_in id b) ⊎ (is_in id c ≡ test id) → is_in id c ≡ test id
+    by (inl f) = f ∙ e
+    by (inr f) = f
+
+-- one child more was noted
+pub next_child : (test : ℕ → Bool) (b c : List Bool) (k id : ℕ) → AreNoted test b c → (id < k → is_in id b ≡ test id) → (id ≡ k → is_in id c ≡ test id) → id < k + 1 → is_in id c ≡ test id
+next_child test b c k id noted before here below = by (cases_lt id k)
+  where
+    by : (id < k) ⊎ (k ≤ id) → is_in id c ≡ test id
+    by (inl under) = stays_right test b c id noted (before under)
+    by (inr above) = here (omega arith)
+
+-- the one that was found was noted
+pub found_right : (test : ℕ → Bool) (bits : List Bool) (n : ℕ) (found : Option ℕ) (x : ℕ) → IfSome found (λ y. y < n → is_in y bits ≡ test y) → found ≡ Some x → x < n → is_in x bits ≡ test x
+found_right test bits n None x h e = absurd (let z : ⊥ = cc in z)
+found_right test bits n (Some y) x h e = let same : y ≡ x = cc in subst (λ z. z < n → is_in z bits ≡ test z) same h
+
+-- ---- the turn of one object
+
+no_turn : (ns : List Node) (ls : List (List ℕ)) (id : ℕ) → is_asked (entry gone ns id).life ≡ false → is_turn ns ls id ≡ false
+no_turn ns ls id e = rw e refl
+
+past_turn : (ns : List Node) (ls : List (List ℕ)) (id : ℕ) → length ns ≤ id → is_turn ns ls id ≡ false
+past_turn ns ls id h = no_turn ns ls id (ap (λ (n : Node). is_asked n.life) (entry_past gone ns id h))
+
+-- the same entries and the same last child that waits
+same_turn : (ns ms : List Node) (ls ks : List (List ℕ)) (id : ℕ) → entry gone ms id ≡ entry gone ns id → entry gone ms (entry gone ns id).parent.0 ≡ entry gone ns (entry gone ns id).parent.0
+    → same_id (last_of (list_at ls (entry gone ns id).parent.0)) id ≡ same_id (last_of (list_at ks (entry gone ns id).parent.0)) id
+    → is_turn ns ls id ≡ is_turn ms ks id
+same_turn ns ms ls ks id here above last = rw (here, above, last) refl
+
+-- another entry was written, and not that of the parent
+turn_kept : (ns : List Node) (ls : List (List ℕ)) (o id : ℕ) (m : Node) → id ≢ o → (entry gone ns id).parent.0 ≢ o → is_turn ns ls id ≡ is_turn (slice_set ns o m) ls id
+turn_kept ns ls o id m other apart =
+    same_turn ns (slice_set ns o m) ls ls id (entry_set_other gone ns o id m other) (entry_set_other gone ns o (entry gone ns id).parent.0 m apart) refl
+
+-- Where the bits were right, and those of the objects whose turn changed were written, they are right.
+turns_noted : {ns ms : List Node} {ls ks : List (List ℕ)} {before after : List Bool} → length ns ≤ length ms → HoldsTurns ns ls before → AreNoted (is_turn ms ks) before after
+    → ((id : ℕ) → id < length ms → (is_in id after ≡ is_turn ms ks id) ⊎ (is_turn ns ls id ≡ is_turn ms ks id)) → HoldsTurns ms ks after
+turns_noted {ns} {ms} {ls} {ks} {before} {after} longer h k changed = record { room = let room = h.room in rw k.size room; same = λ id. at id (cases_lt id (length ms)) }
+  where
+    by : (id : ℕ) → (is_in id after ≡ is_in id before) ⊎ (is_in id after ≡ is_turn ms ks id) → (is_in id after ≡ is_turn ms ks id) ⊎ (is_turn ns ls id ≡ is_turn ms ks id) → is_in id after ≡ is_turn ms ks id
+    by id (inr f) either = f
+    by id (inl f) (inl g) = g
+    by id (inl f) (inr g) = f ∙ h.same id ∙ g
+
+    at : (id : ℕ) → (id < length ms) ⊎ (length ms ≤ id) → is_in id after ≡ is_turn ms ks id
+    at id (inl there) = by id (k.each id) (changed id there)
+    at id (inr past) = by id (k.each id) (inr (past_turn ns ls id (omega arith) ∙ sym (past_turn ms ks id past)))
+
+-- ---- children that wait
+
+unasked_by : (b : Bool) (l : Life) → b ≡ true → not (b && is_waiting l) ≡ true → is_asked l ≡ false
+unasked_by true life.Live e h = refl
+unasked_by true life.Asked e h = absurd (false≢true h)
+unasked_by true life.Cleaned e h = refl
+unasked_by true life.Gone e h = refl
+unasked_by false l e h = absurd (false≢true e)
+
+-- where no child of an object waits, none is asked
+none_asked : (ns : List Node) (waiting : Family) (o id : ℕ) → HoldsKin is_waiting ns waiting → o < OBJECTS → (length (list_at waiting.lists o) == 0) ≡ true → (entry gone ns id).parent.0 ≡ o
+    → is_asked (entry gone ns id).life ≡ false
+none_asked ns waiting o id h below none child =
+    let blank : not (is_kin is_waiting o gone) ≡ true = ap not (and_right (0 == o) false refl) in
+    let all : list_all (λ n. not (is_kin is_waiting o n)) ns ≡ true
+    = sym (no_places (is_kin is_waiting o) 0 ns) ∙ ap (λ (xs : List ℕ). length xs == 0) (sym (h.kin o below)) ∙ none in
+    unasked_by ((entry gone ns id).parent.0 == o) (entry gone ns id).life (eq-eqb (entry gone ns id).parent.0 o child)
+    (all_of_entry (λ n. not (is_kin is_waiting o n)) gone ns id blank all)
+
+same_id_is : (found : Option ℕ) (x : ℕ) → same_id found x ≡ true → found ≡ Some x
+same_id_is None x h = absurd (false≢true h)
+same_id_is (Some y) x h = ap Some (eqb-true y x h)
+
+is_same_id : (found : Option ℕ) (x : ℕ) → found ≡ Some x → same_id found x ≡ true
+is_same_id found x e = rw e (eq-eqb x x refl)
+
+last_more : (y x : ℕ) (xs : List ℕ) → last_of xs ≡ Some x → last_of (y ∷ xs) ≡ Some x
+last_more y x [] h = absurd (let z : ⊥ = cc in z)
+last_more y x (z ∷ zs) h = h
+
+-- the last item of a list stays so where another one goes
+last_without : (o x : ℕ) (xs : List ℕ) → x ≢ o → last_of xs ≡ Some x → last_of (without o xs) ≡ Some x
+last_without o x [] other h = h
+last_without o x (y ∷ []) other h =
+    let same : y ≡ x = cc in
+    rw (same, ne_eqb x o other) refl
+last_without o x (y ∷ z ∷ zs) other h = by_test (y == o) refl (last_without o x (z ∷ zs) other h)
+  where
+    by_test : (b : Bool) → (y == o) ≡ b → last_of (without o (z ∷ zs)) ≡ Some x → last_of (without o (y ∷ z ∷ zs)) ≡ Some x
+    by_test true e rest = rw e rest
+    by_test false e rest = rw e (last_more y x (without o (z ∷ zs)) rest)
+
+last_push : (xs : List ℕ) (y : ℕ) → last_of (xs ++ y ∷ []) ≡ Some y
+last_push [] y = refl
+last_push (x ∷ xs) y = last_more x y (xs ++ y ∷ []) (last_push xs y)
+
+-- ---- the set, after a change of one object
+
+-- the id 0 alone
+pub turns_at_first : (ns : List Node) (ls : List (List ℕ)) (n : ℕ) (bits : List Bool) → ns ≡ gone ∷ [] → OBJECTS ≤ n → bits ≡ replicate n false → HoldsTurns ns ls bits
+turns_at_first ns ls n bits one room e =
+    rw (one, e) (record {
+      room = let long = length-replicate n false in omega arith;
+      same = λ id. none_in n id ∙ sym (no_turn (gone ∷ []) ls id (ap (λ (x : Node). is_asked x.life) (gone_alone id)));
+    })
+
+-- a write that keeps the life and the parent
+pub turns_by_write : {ns : List Node} {ls : List (List ℕ)} {bits : List Bool} (o : ℕ) (n m : Node) → HoldsTurns ns ls bits → o < length ns → n ≡ slice_index_or ns o n → m.life ≡ n.life → m.parent.0 ≡ n.parent.0
+    → HoldsTurns (slice_set ns o m) ls bits
+turns_by_write {ns} {ls} {bits} o n m h there read same parent = record { room = h.room; same = λ id. h.same id ∙ sym (rw (parents id, lives id, lives (entry gone ns id).parent.0) refl) }
+  where
+    life_at : (id : ℕ) → (id ≡ o) ⊎ (id ≡ o → ⊥) → (entry gone (slice_set ns o m) id).life ≡ (entry gone ns id).life
+    life_at id (inl e) = rw (e, get_or-set_same ns o m gone there, read_entry gone ns o n there read) same
+    life_at id (inr other) = ap (λ (x : Node). x.life) (entry_set_other gone ns o id m other)
+
+    lives : (id : ℕ) → (entry gone (slice_set ns o m) id).life ≡ (entry gone ns id).life
+    lives id = life_at id (cases_eq id o)
+
+    parent_at : (id : ℕ) → (id ≡ o) ⊎ (id ≡ o → ⊥) → (entry gone (slice_set ns o m) id).parent.0 ≡ (entry gone ns id).parent.0
+    parent_at id (inl e) = rw (e, get_or-set_same ns o m gone there, read_entry gone ns o n there read) parent
+    parent_at id (inr other) = ap (λ (x : Node). x.parent.0) (entry_set_other gone ns o id m other)
+
+    parents : (id : ℕ) → (entry gone (slice_set ns o m) id).parent.0 ≡ (entry gone ns id).parent.0
+    parents id = parent_at id (cases_eq id o)
+
+joined_as : (family : Family) (parent id : ℕ) (b : Bool) → nat_lt parent OBJECTS ≡ b
+    → joined family parent id ≡ (if b then record family { lists = slice_set family.lists parent (list_at family.lists parent ++ id ∷ []) } else family)
+joined_as family parent id b e = ap (λ (c : Bool). if c then record family { lists = slice_set family.lists parent (list_at family.lists parent ++ id ∷ []) } else family) e
+
+-- a live object more: the last child of its parent before it may lose its turn
+pub turns_by_push : {ns : List Node} {waiting : Family} {before after : List Bool} (n : Node) (id : ℕ) → HoldsTurns ns waiting.lists before → HoldsKin is_waiting ns waiting → is_live n.life ≡ true → id ≡ length ns
+    → AreNoted (is_turn (ns ++ n ∷ []) (joined waiting n.parent.0 id).lists) before after
+    → ((x : ℕ) → last_of (list_at waiting.lists n.parent.0) ≡ Some x → x < length (ns ++ n ∷ []) → is_in x after ≡ is_turn (ns ++ n ∷ []) (joined waiting n.parent.0 id).lists x)
+    → HoldsTurns (ns ++ n ∷ []) (joined waiting n.parent.0 id).lists after
+turns_by_push {ns} {waiting} {before} {after} n new h kin live next noted sibling =
+    turns_noted (let one = length_push ns n in omega arith) h noted (λ id there. at id there (cases_eq id (length ns)))
+  where
+    ms : List Node
+    ms = ns ++ n ∷ []
+
+    ks : List (List ℕ)
+    ks = (joined waiting n.parent.0 new).lists
+
+    unasked : is_asked (entry gone ms (length ns)).life ≡ false
+    unasked = ap (λ (x : Node). is_asked x.life) (entry_last gone ns n) ∙ live_unasked n.life live
+
+    blank : is_asked (entry gone ns (length ns)).life ≡ false
+    blank = ap (λ (x : Node). is_asked x.life) (entry_past gone ns (length ns) (omega arith))
+
+    lists_other : (q : ℕ) → q ≢ n.parent.0 → (b : Bool) → nat_lt n.parent.0 OBJECTS ≡ b → list_at ks q ≡ list_at waiting.lists q
+    lists_other q other true e =
+        ap (λ (f : Family). list_at f.lists q) (joined_as waiting n.parent.0 new true e)
+        ∙ entry_set_other [] waiting.lists n.parent.0 q (list_at waiting.lists n.parent.0 ++ new ∷ []) other
+    lists_other q other false e = ap (λ (f : Family). list_at f.lists q) (joined_as waiting n.parent.0 new false e)
+
+    last_at : (id : ℕ) → id ≢ length ns → (b : Bool) → nat_lt n.parent.0 OBJECTS ≡ b → (c : Bool) → same_id (last_of (list_at waiting.lists n.parent.0)) id ≡ c
+        → (last_of (list_at waiting.lists n.parent.0) ≡ Some id) ⊎ (same_id (last_of (list_at waiting.lists n.parent.0)) id ≡ same_id (last_of (list_at ks n.parent.0)) id)
+    last_at id apart b e true f = inl (same_id_is (last_of (list_at waiting.lists n.parent.0)) id f)
+    last_at id apart false e false f = inr (sym (ap (λ (g : Family). same_id (last_of (list_at g.lists n.parent.0)) id) (joined_as waiting n.parent.0 new false e)))
+    last_at id apart true e false f =
+        let many = kin.as_many in
+        let below : n.parent.0 < OBJECTS = ltb-true n.parent.0 OBJECTS e in
+        let list : list_at ks n.parent.0 ≡ list_at waiting.lists n.parent.0 ++ new ∷ []
+        = ap (λ (g : Family). list_at g.lists n.parent.0) (joined_as waiting n.parent.0 new true e)
+        ∙ get_or-set_same waiting.lists n.parent.0 (list_at waiting.lists n.parent.0 ++ new ∷ []) [] (omega arith) in
+        let differs : new ≢ id = λ z. apart (sym z ∙ next) in
+        inr (f ∙ sym (ap (λ xs. same_id (last_of xs) id) list ∙ ap (λ found. same_id found id) (last_push (list_at waiting.lists n.parent.0) new) ∙ ne_eqb new id differs))
+
+    under : (id : ℕ) → id < length ms → (other : id ≢ length ns) → ((entry gone ns id).parent.0 ≡ length ns) ⊎ ((entry gone ns id).parent.0 ≡ length ns → ⊥)
+        → ((entry gone ns id).parent.0 ≡ n.parent.0) ⊎ ((entry gone ns id).parent.0 ≡ n.parent.0 → ⊥)
+        → (is_in id after ≡ is_turn ms ks id) ⊎ (is_turn ns waiting.lists id ≡ is_turn ms ks id)
+    under id there other (inl up) either =
+        let here = entry_before gone ns n id other in
+        inr (rw (here, up, unasked, blank) refl)
+    under id there other (inr up) (inr apart) =
+        inr (same_turn ns ms waiting.lists ks id (entry_before gone ns n id other) (entry_before gone ns n (entry gone ns id).parent.0 up)
+        (ap (λ xs. same_id (last_of xs) id) (sym (lists_other (entry gone ns id).parent.0 apart (nat_lt n.parent.0 OBJECTS) refl))))
+    under id there other (inr up) (inl mine) =
+        by (last_at id other (nat_lt n.parent.0 OBJECTS) refl (same_id (last_of (list_at waiting.lists n.parent.0)) id) refl)
+      where
+        by : (last_of (list_at waiting.lists n.parent.0) ≡ Some id) ⊎ (same_id (last_of (list_at waiting.lists n.parent.0)) id ≡ same_id (last_of (list_at ks n.parent.0)) id)
+            → (is_in id after ≡ is_turn ms ks id) ⊎ (is_turn ns waiting.lists id ≡ is_turn ms ks id)
+        by (inl last) = inl (sibling id last there)
+        by (inr same) =
+            inr (same_turn ns ms waiting.lists ks id (entry_before gone ns n id other) (entry_before gone ns n (entry gone ns id).parent.0 up)
+            (rw mine same))
+
+    at : (id : ℕ) → id < length ms → (id ≡ length ns) ⊎ (id ≡ length ns → ⊥) → (is_in id after ≡ is_turn ms ks id) ⊎ (is_turn ns waiting.lists id ≡ is_turn ms ks id)
+    at id there (inl same) = inr (rw same (no_turn ns waiting.lists (length ns) blank ∙ sym (no_turn ms ks (length ns) unasked)))
+    at id there (inr other) = under id there other (cases_eq (entry gone ns id).parent.0 (length ns)) (cases_eq (entry gone ns id).parent.0 n.parent.0)
+
+-- the same, as code has it
+pub turns_after_push : {ns : List Node} {waiting : Family} {before after : List Bool} (n : Node) (id : ℕ) (ms : List Node) (left : Family) (found : Option ℕ) → ms ≡ ns ++ n ∷ [] → left ≡ joined waiting n.parent.0 id
+    → HoldsTurns ns waiting.lists before → HoldsKin is_waiting ns waiting → is_live n.life ≡ true → id ≡ length ns → found ≡ last_of (list_at waiting.lists n.parent.0)
+    → AreNoted (is_turn ms left.lists) before after → IfSome found (λ x. x < length ms → is_in x after ≡ is_turn ms left.lists x) → HoldsTurns ms left.lists after
+turns_after_push {ns} {waiting} {before} {after} n id ms left found e f h kin live next last =
+    subst (λ g. AreNoted (is_turn ms g.lists) before after → IfSome found (λ x. x < length ms → is_in x after ≡ is_turn ms g.lists x) → HoldsTurns ms g.lists after) (sym f)
+    (subst (λ xs. AreNoted (is_turn xs (joined waiting n.parent.0 id).lists) before after → IfSome found (λ x. x < length xs → is_in x after ≡ is_turn xs (joined waiting n.parent.0 id).lists x) → HoldsTurns xs (joined waiting n.parent.0 id).lists after) (sym e)
+    (λ noted sibling. turns_by_push n id h kin live next noted
+    (λ x is. found_right (is_turn (ns ++ n ∷ []) (joined waiting n.parent.0 id).lists) after (length (ns ++ n ∷ [])) found x sibling (last ∙ is))))
+
+-- What is written where an object changed: its own bit, and those of its children where some wait.
+pub record IsNotedAt (ms : List Node) (ks : List (List ℕ)) (o : ℕ) (before after : List Bool) : Type 0 where
+  pub noted : AreNoted (is_turn ms ks) before after
+  pub own : o < length ms → is_in o after ≡ is_turn ms ks o
+  pub children : (id : ℕ) → id < length ms → (entry gone ms id).parent.0 ≡ o → (length (list_at ks o) == 0) ≡ false → is_in id after ≡ is_turn ms ks id
+
+-- the deletion of an object is asked
+pub turns_by_ask : {ns : List Node} {waiting : Family} {before after : List Bool} (o : ℕ) (m : Node) → HoldsTurns ns waiting.lists before → HoldsKin is_waiting ns waiting → length ns ≤ OBJECTS → o < length ns
+    → IsNotedAt (slice_set ns o m) waiting.lists o before after → HoldsTurns (slice_set ns o m) waiting.lists after
+turns_by_ask {ns} {waiting} {before} {after} o m h kin few there k =
+    turns_noted (let same = as_long ns o m in omega arith) h k.noted (λ id below. at id below (cases_eq id o) (cases_eq (entry gone ns id).parent.0 o) (length (list_at waiting.lists o) == 0) refl)
+  where
+    ms : List Node
+    ms = slice_set ns o m
+
+    long : length ms ≡ length ns
+    long = as_long ns o m
+
+    at : (id : ℕ) → id < length ms → (id ≡ o) ⊎ (id ≡ o → ⊥) → ((entry gone ns id).parent.0 ≡ o) ⊎ ((entry gone ns id).parent.0 ≡ o → ⊥) → (b : Bool) → (length (list_at waiting.lists o) == 0) ≡ b
+        → (is_in id after ≡ is_turn ms waiting.lists id) ⊎ (is_turn ns waiting.lists id ≡ is_turn ms waiting.lists id)
+    at id below (inl same) either b e = inl (rw same (k.own (omega (arith, long))))
+    at id below (inr other) (inr apart) b e = inr (turn_kept ns waiting.lists o id m other apart)
+    at id below (inr other) (inl child) false e = inl (k.children id below (ap (λ (x : Node). x.parent.0) (entry_set_other gone ns o id m other) ∙ child) e)
+    at id below (inr other) (inl child) true e =
+        let none = none_asked ns waiting o id kin (omega arith) e child in
+        inr (no_turn ns waiting.lists id none ∙ sym (no_turn ms waiting.lists id (ap (λ (x : Node). is_asked x.life) (entry_set_other gone ns o id m other) ∙ none)))
+
+-- an object is cleaned up: the last sibling that waits may get its turn
+pub turns_by_cleanup : {ns : List Node} {waiting : Family} {before after : List Bool} (o : ℕ) (m : Node) → HoldsTurns ns waiting.lists before → HoldsKin is_waiting ns waiting → length ns ≤ OBJECTS → o < length ns
+    → is_past_cleanup m.life ≡ true → IsNotedAt (slice_set ns o m) (map (without o) waiting.lists) o before after
+    → ((x : ℕ) → last_of (list_at (map (without o) waiting.lists) (entry gone ns o).parent.0) ≡ Some x → x < length (slice_set ns o m)
+    → is_in x after ≡ is_turn (slice_set ns o m) (map (without o) waiting.lists) x)
+    → HoldsTurns (slice_set ns o m) (map (without o) waiting.lists) after
+turns_by_cleanup {ns} {waiting} {before} {after} o m h kin few there past k sibling =
+    turns_noted (let same = as_long ns o m in omega arith) h k.noted (λ id below. at id below (cases_eq id o) (cases_eq (entry gone ns id).parent.0 o))
+  where
+    ms : List Node
+    ms = slice_set ns o m
+
+    ls : List (List ℕ)
+    ls = waiting.lists
+
+    ks : List (List ℕ)
+    ks = map (without o) waiting.lists
+
+    long : length ms ≡ length ns
+    long = as_long ns o m
+
+    left : HoldsKin is_waiting ms (record waiting { lists = map (without o) waiting.lists })
+    left = holds_without is_waiting ns waiting o m kin (ap not past)
+
+    -- the children of another parent
+    list_other : (q : ℕ) → q ≢ (entry gone ns o).parent.0 → (q < OBJECTS) ⊎ (OBJECTS ≤ q) → list_at ks q ≡ list_at ls q
+    list_other q apart (inl below) =
+        let flipped : (entry gone ns o).parent.0 ≢ q = λ z. apart (sym z) in
+        let was : is_kin is_waiting q (entry gone ns o) ≡ false = rw (ne_eqb (entry gone ns o).parent.0 q flipped) refl in
+        let is : is_kin is_waiting q m ≡ false = and_right (m.parent.0 == q) (is_waiting m.life) (ap not past) in
+        left.kin q below ∙ places_kept (is_kin is_waiting q) 0 ns o m (is ∙ sym was) ∙ sym (kin.kin q below)
+    list_other q apart (inr past_all) =
+        let many = kin.as_many in
+        let all = left.as_many in
+        entry_past [] ks q (omega arith) ∙ sym (entry_past [] ls q (omega arith))
+
+    by_last : (id q : ℕ) → id ≢ o → (b c : Bool) → same_id (last_of (list_at ls q)) id ≡ b → same_id (last_of (list_at ks q)) id ≡ c
+        → (last_of (list_at ks q) ≡ Some id) ⊎ (same_id (last_of (list_at ls q)) id ≡ same_id (last_of (list_at ks q)) id)
+    by_last id q other b true e f = inl (same_id_is (last_of (list_at ks q)) id f)
+    by_last id q other false false e f = inr (e ∙ sym f)
+    by_last id q other true false e f =
+        let stays : last_of (list_at ks q) ≡ Some id
+        = ap last_of (map_at (without o) ls q refl) ∙ last_without o id (list_at ls q) other (same_id_is (last_of (list_at ls q)) id e) in
+        absurd (false≢true (sym f ∙ is_same_id (last_of (list_at ks q)) id stays))
+
+    changed : (id : ℕ) → id < length ms → id ≢ o → (entry gone ns id).parent.0 ≢ o → ((entry gone ns id).parent.0 ≡ (entry gone ns o).parent.0) ⊎ ((entry gone ns id).parent.0 ≡ (entry gone ns o).parent.0 → ⊥)
+        → (is_in id after ≡ is_turn ms ks id) ⊎ (is_turn ns ls id ≡ is_turn ms ks id)
+    changed id below other apart (inr elsewhere) =
+        inr (same_turn ns ms ls ks id (entry_set_other gone ns o id m other) (entry_set_other gone ns o (entry gone ns id).parent.0 m apart)
+        (ap (λ xs. same_id (last_of xs) id) (sym (list_other (entry gone ns id).parent.0 elsewhere (cases_lt (entry gone ns id).parent.0 OBJECTS)))))
+    changed id below other apart (inl mine) =
+        by (by_last id (entry gone ns id).parent.0 other (same_id (last_of (list_at ls (entry gone ns id).parent.0)) id) (same_id (last_of (list_at ks (entry gone ns id).parent.0)) id) refl refl)
+      where
+        by : (last_of (list_at ks (entry gone ns id).parent.0) ≡ Some id) ⊎ (same_id (last_of (list_at ls (entry gone ns id).parent.0)) id ≡ same_id (last_of (list_at ks (entry gone ns id).parent.0)) id)
+            → (is_in id after ≡ is_turn ms ks id) ⊎ (is_turn ns ls id ≡ is_turn ms ks id)
+        by (inl last) = inl (sibling id (ap (λ q. last_of (list_at ks q)) (sym mine) ∙ last) below)
+        by (inr same) = inr (same_turn ns ms ls ks id (entry_set_other gone ns o id m other) (entry_set_other gone ns o (entry gone ns id).parent.0 m apart) same)
+
+    child_of : (id : ℕ) → id < length ms → id ≢ o → (entry gone ns id).parent.0 ≡ o → (b : Bool) → (length (list_at ks o) == 0) ≡ b → (is_in id after ≡ is_turn ms ks id) ⊎ (is_turn ns ls id ≡ is_turn ms ks id)
+    child_of id below other child false e = inl (k.children id below (ap (λ (x : Node). x.parent.0) (entry_set_other gone ns o id m other) ∙ child) e)
+    child_of id below other child true e =
+        let same = entry_set_other gone ns o id m other in
+        let none = none_asked ms (record waiting { lists = ks }) o id left (omega arith) e (ap (λ (x : Node). x.parent.0) same ∙ child) in
+        inr (no_turn ns ls id (ap (λ (x : Node). is_asked x.life) (sym same) ∙ none) ∙ sym (no_turn ms ks id none))
+
+    at : (id : ℕ) → id < length ms → (id ≡ o) ⊎ (id ≡ o → ⊥) → ((entry gone ns id).parent.0 ≡ o) ⊎ ((entry gone ns id).parent.0 ≡ o → ⊥) → (is_in id after ≡ is_turn ms ks id) ⊎ (is_turn ns ls id ≡ is_turn ms ks id)
+    at id below (inl same) either = inl (rw same (k.own (omega (arith, long))))
+    at id below (inr other) (inr apart) = changed id below other apart (cases_eq (entry gone ns id).parent.0 (entry gone ns o).parent.0)
+    at id below (inr other) (inl child) = child_of id below other child (length (list_at ks o) == 0) refl
+
+-- the same, as code has it
+pub turns_after_cleanup : {ns : List Node} {waiting : Family} {before after : List Bool} (o parent : ℕ) (m : Node) (left : Family) (found : Option ℕ) → left ≡ record waiting { lists = map (without o) waiting.lists }
+    → HoldsTurns ns waiting.lists before → HoldsKin is_waiting ns waiting → length ns ≤ OBJECTS → o < length ns → is_past_cleanup m.life ≡ true
+    → parent ≡ (entry gone ns o).parent.0 → found ≡ last_of (list_at left.lists parent)
+    → IsNotedAt (slice_set ns o m) left.lists o before after → IfSome found (λ x. x < length (slice_set ns o m) → is_in x after ≡ is_turn (slice_set ns o m) left.lists x)
+    → HoldsTurns (slice_set ns o m) left.lists after
+turns_after_cleanup {ns} {waiting} {before} {after} o parent m left found e h kin few there past up =
+    subst (λ g. found ≡ last_of (list_at g.lists parent) → IsNotedAt (slice_set ns o m) g.lists o before after → IfSome found (λ x. x < length (slice_set ns o m) → is_in x after ≡ is_turn (slice_set ns o m) g.lists x) → HoldsTurns (slice_set ns o m) g.lists after) (sym e)
+    (λ last noted sibling. turns_by_cleanup o m h kin few there past noted
+    (λ x is. found_right (is_turn (slice_set ns o m) (map (without o) waiting.lists)) after (length (slice_set ns o m)) found x sibling (last ∙ ap (λ q. last_of (list_at (map (without o) waiting.lists) q)) up ∙ is)))
+
+gone_unasked : (b : Bool) (l : Life) → b ≡ true → (not b || is_gone l) ≡ true → is_asked l ≡ false
+gone_unasked true life.Live e h = refl
+gone_unasked true life.Asked e h = absurd (false≢true h)
+gone_unasked true life.Cleaned e h = refl
+gone_unasked true life.Gone e h = refl
+gone_unasked false l e h = absurd (false≢true e)
+
+or_right : (a : Bool) → (a || true) ≡ true
+or_right true = refl
+or_right false = refl
+
+-- an object that is cleaned up ends, and has no child
+pub turns_by_end : {ns : List Node} {ls : List (List ℕ)} {bits : List Bool} (o : ℕ) (m : Node) → HoldsTurns ns ls bits → o < length ns → MayEnd ns o → m ≡ gone → HoldsTurns (slice_set ns o m) ls bits
+turns_by_end {ns} {ls} {bits} o m h there may e = record { room = h.room; same = λ id. h.same id ∙ at id (cases_eq id o) (cases_eq (entry gone ns id).parent.0 o) }
+  where
+    ended : is_asked (entry gone (slice_set ns o m) o).life ≡ false
+    ended = ap (λ (x : Node). is_asked x.life) (get_or-set_same ns o m gone there ∙ e)
+
+    at : (id : ℕ) → (id ≡ o) ⊎ (id ≡ o → ⊥) → ((entry gone ns id).parent.0 ≡ o) ⊎ ((entry gone ns id).parent.0 ≡ o → ⊥) → is_turn ns ls id ≡ is_turn (slice_set ns o m) ls id
+    at id (inl same) either = rw same (no_turn ns ls o (cleaned_unasked (entry gone ns o).life may.cleaned) ∙ sym (no_turn (slice_set ns o m) ls o ended))
+    at id (inr other) (inr apart) = turn_kept ns ls o id m other apart
+    at id (inr other) (inl child) =
+        let none : is_asked (entry gone ns id).life ≡ false
+        = gone_unasked ((entry gone ns id).parent.0 == o) (entry gone ns id).life (eq-eqb (entry gone ns id).parent.0 o child) (all_of_entry (is_gone_under o) gone ns id (or_right (not (0 == o))) may.childless) in
+        no_turn ns ls id none ∙ sym (no_turn (slice_set ns o m) ls id (ap (λ (x : Node). is_asked x.life) (entry_set_other gone ns o id m other) ∙ none))
+
+-- ---- what it answers
+
+turn_by : (T : Tree) (waiting : Family) (id : ℕ) (b c : Bool) → HoldsKin is_waiting T.nodes waiting → length T.nodes ≤ OBJECTS → is_asked (life_of T id) ≡ b → is_asked (life_of T (parent_of T id)) ≡ c
+    → is_turn T.nodes waiting.lists id ≡ has_turn T id
+turn_by T waiting id false c kin few e f = rw e refl
+turn_by T waiting id true false kin few e f = rw (e, f) refl
+turn_by T waiting id true true kin few e f =
+    let there = there_if_asked T.nodes id e in
+    let above = there_if_asked T.nodes (parent_of T id) f in
+    rw (e, f) (ap (λ xs. same_id (last_of xs) id) (kin.kin (parent_of T id) (omega arith)) ∙ last_waiting T id there e)
+
+-- the first object from an id on whose turn has come
+pub first_turn : (T : Tree) (waiting : Family) (bits : List Bool) (id : ℕ) → HoldsTurns T.nodes waiting.lists bits → HoldsKin is_waiting T.nodes waiting → length T.nodes ≤ OBJECTS
+    → slice_get (members bits) (rank id bits) ≡ find (λ o. nat_le id o && has_turn T o) (ids_of T.nodes)
+first_turn T waiting bits id h kin few =
+    let room = h.room in
+    let right : (x : ℕ) → is_in x bits ≡ has_turn T x = λ x. h.same x ∙ turn_by T waiting x (is_asked (life_of T x)) (is_asked (life_of T (parent_of T x))) kin few refl refl in
+    let start : rank id bits - rank 0 bits ≡ rank id bits = omega arith in
+    let none : (x : ℕ) → length T.nodes ≤ x → has_turn T x ≡ false = λ x past. sym (right x) ∙ h.same x ∙ past_turn T.nodes waiting.lists x past in
+    ap (λ ids. slice_get ids (rank id bits)) (members_where bits (has_turn T) (length T.nodes) right none)
+    ∙ (rw start at (from_part bits (has_turn T) id 0 (length T.nodes) right (omega arith)))
