@@ -135,7 +135,7 @@ fn with_statement(alloc: Global, owner: Declared, statement: Statement) -> Resul
 fn with_one(alloc: Global, part: &Part) -> Result<Plan, Memory> {
     let mut builder = PlanBuilder::new(alloc, 2, 100, 16);
     let added = match part {
-        Part::Name(name) => builder.name(Name::new(name)).is_ok(),
+        Part::Name(name) => name.len() <= 32 && builder.name(Name::new(name)).is_ok(),
         Part::Object(object, _) => builder.declared(*object).is_ok(),
         Part::Class(class) => builder.class(*class).is_ok(),
         Part::Register(register) => builder.register(*register).is_ok(),
