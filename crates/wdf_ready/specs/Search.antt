@@ -46,7 +46,7 @@ can_start plan rank.Cleanup = is_declared_somewhere plan callback.EvtCleanupCall
 can_start plan rank.Destroy = is_declared_somewhere plan callback.EvtDestroyCallback
 can_start plan _ = true
 
--- an object declares a rank's callback for requests; completion routines are set by calls
+-- an object declares a rank's callback for requests; the group of completion routines is kept for each target
 abbrev pub can_start_for : Plan → Rank → ℕ → Bool
 can_start_for plan rank.Completion o = true
 can_start_for plan r o = declares plan (callback_for r) o

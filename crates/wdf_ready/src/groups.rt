@@ -59,7 +59,7 @@ fn can_start(plan: &IndexedPlan, rank: Rank) -> bool
     }
 }
 
-/// Whether an object declares a rank's callback for requests; completion routines are set by calls.
+/// Whether an object declares a rank's callback for requests. The group of completion routines is kept for each target.
 fn can_start_for(plan: &IndexedPlan, rank: Rank, object: ObjectId) -> bool
     ensures { result ≡ search.can_start_for plan.now rank object.0 }
 {
