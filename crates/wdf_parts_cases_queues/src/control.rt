@@ -35,19 +35,28 @@ enum Act {
 }
 
 /// A queue accepts in Started and Stopped, and delivers in Started and Drained where it has power.
-static MODES: [Act; 16] = [
+static STARTED: [Act; 4] = [
     Act::Start(PARALLEL),
     Act::IsIn(PARALLEL, Mode::Started),
     Act::Opens(PARALLEL, true, true),
     Act::IsIn(SEQUENTIAL, Mode::Started),
+];
+
+static STOPPED: [Act; 4] = [
     Act::Stop(PARALLEL),
     Act::IsIn(PARALLEL, Mode::Stopped),
     Act::Opens(PARALLEL, true, false),
     Act::IsIn(SEQUENTIAL, Mode::Started),
+];
+
+static DRAINED: [Act; 4] = [
     Act::Drain(PARALLEL),
     Act::IsIn(PARALLEL, Mode::Drained),
     Act::Opens(PARALLEL, false, true),
     Act::IsIn(SEQUENTIAL, Mode::Started),
+];
+
+static PURGED: [Act; 4] = [
     Act::Purge(PARALLEL),
     Act::IsIn(PARALLEL, Mode::Purged),
     Act::Opens(PARALLEL, false, false),
@@ -154,7 +163,10 @@ pub fn wrong(alloc: Global, plan: &Plan) -> Result<Wrong, Memory> {
         return Ok(Some(("a plan of five objects", 0)));
     }
     for (name, acts) in [
-        ("modes", MODES.as_slice()),
+        ("started", STARTED.as_slice()),
+        ("stopped", STOPPED.as_slice()),
+        ("drained", DRAINED.as_slice()),
+        ("purged", PURGED.as_slice()),
         ("closed", CLOSED.as_slice()),
         ("notification", NOTIFICATION.as_slice()),
     ] {
