@@ -8,9 +8,9 @@ Not part of the gate. Prove and build the program first (`rt ci`), then from the
 Each scenario is run by `run` and by `seed 1`, three times each. In the first kind each processor has a device of its own,
 whose callbacks have a queue's lock, so that all processors have something to do at once; in the second all of them share one
 device's lock, so that one at a time has. A row has the processors, the events, and for each word the best of three runs: events a
-second of the clock, and the processors' seconds for each second of the clock. A worker that finds the core taken tries
-again at once, so what its processor does beyond one second a second is mostly waiting: the core is one, and only one worker
-at a time has it.
+second of the clock, and the processors' seconds for each second of the clock. A worker whose turn adds nothing lets other
+threads run, and looks up to a hundred times whether there is a new event, before it tries again. So what the processors do
+beyond one second a second is mostly waiting: the core is one, and only one worker at a time has it.
 """
 
 import sys

@@ -1,13 +1,13 @@
 #!/usr/bin/env python3
 """Gives the built program hostile texts, and says which of them it doesn't answer as it should.
 
-    python3 tools/hostile.py [--jobs N] [--program PROGRAM] FROM TO
+    python3 tools/hostile.py [--jobs N] [--program PROGRAM] [--keep FOLDER] FROM TO
 
 The texts are: every front of each scenario in examples/ and every change of one of its bytes (to a byte that
 the seed picks), and for each seed from FROM to TO random tokens in random order and random lines of the examples;
 and, once, lines repeated up to each limit and one past it, and a text of the greatest length of one line, of `(`,
-of `else`, of names that differ in their last letter, of one comment, of arbitrary bytes, of a name that is declared
-again and again and used.
+of `else`, of names that differ in their last digits, of one comment, of arbitrary bytes, of a name that is declared
+again and again and used, and texts that ask for the same long search again and again.
 
 Each text must be answered by `check` and by `order` with a status of the table in README, in one line where it is
 refused, in less than two seconds of the processor and 400 MB, with no signal and nothing on the standard error.
@@ -145,6 +145,16 @@ def at_limits():
         yield f"length {over}", (HEAD + "#" * (LIMIT - len(HEAD) + over)).encode()
 
 
+def sum_of(name, depth):
+    """A sum of a name with itself, with so many open parentheses at the deepest."""
+    return f"({sum_of(name, depth - 1)} + {sum_of(name, depth - 1)})" if depth else name
+
+
+def branches(depth):
+    """A line in each of the branches of so many `if` in one another."""
+    return "if 1\n" + branches(depth - 1) + "else\n" + branches(depth - 1) + "end\n" if depth else "log 1\n"
+
+
 def large():
     """Texts of the greatest length, of one kind each."""
     room = LIMIT - 200
@@ -167,8 +177,8 @@ def large():
     yield "newlines", fill("\n").encode()
     yield "device D end", (HEAD + fill("device D\nend\n")).encode()
     yield "class C object end", (HEAD + fill("class C object\nend\n")).encode()
-    yield "serialize", (HEAD + "".join("class C dpc D\nend\n" for _ in range(20000)) + fill("class C dpc C\nserialize\nend\n", 15000)).encode()
-    yield "uses of twice declared names", (HEAD + fill("class C object\nend\n", 25000) + "device D\non EvtDeviceD0Entry\n" + fill("call x = WdfObjectCreate C D\n", 15000)).encode()
+    yield "classes of one name", (HEAD + "".join("class C dpc D\nend\n" for _ in range(20000)) + fill("class C dpc C\nserialize\nend\n", 15000)).encode()
+    yield "calls of classes of one name", (HEAD + fill("class C object\nend\n", 25000) + "device D\non EvtDeviceD0Entry\n" + fill("call x = WdfObjectCreate C D\n", 15000)).encode()
     yield "uses", (in_callback + fill("let x = ( x + x )\n")).encode()
     yield "names of one length", (HEAD + "".join(f"class {'n' * 26}{k:05d} object\nend\n" for k in range(20000))).encode()
     yield "arbitrary bytes", bytes(random.Random(7).randrange(256) for _ in range(LIMIT))
@@ -177,9 +187,25 @@ def large():
     yield "posts", (HEAD + "device D working\nend\napp A\n" + fill("at 0 read D 1\n")).encode()
 
 
+def searches():
+    """Texts that ask for the same long search again and again: for a name, for a parent, for where a way leads."""
+    on_device = "device D\non EvtDeviceD0Entry\n"
+    registers = "".join(f"register X{k} 0\n" for k in range(30000))
+    uses = "when read R set R 1 after 0\n" * 15000
+    yield "uses of twice declared names", (HEAD + "app R\nend\ndevice D\n" + uses + registers + "register R 0\nend\n").encode()
+    sums = ("log " + sum_of("Q", 6) + "\n") * 1000
+    yield "sums of twice declared names", (HEAD + "app Q\nend\n" + on_device + sums + "end\n" + registers + "queue Q manual\nend\nend\n").encode()
+    classes = "".join(f"class C{k} workitem Q\nserialize\non EvtWorkItem\nend\nend\n" for k in range(256))
+    queues = ("queue Q manual\n" + "for read\nfor write\nfor control\n" * 8 + "end\n") * 3600
+    yield "serialize", (HEAD + classes + "device D\n" + queues + "queue Q manual\nlevel passive\nend\nend\n").encode()
+    after = "if 1\nelse\nend\n" * 2048
+    yield "long else after many ends", (HEAD + on_device + "if 1\n" + branches(10) + "else\n" + after + "end\n" * 3).encode()
+
+
 def texts(first, last):
     yield from at_limits()
     yield from large()
+    yield from searches()
     for seed in range(first, last + 1):
         yield from random_texts(seed)
     yield from fronts_and_changes(first)

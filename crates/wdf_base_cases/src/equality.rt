@@ -40,131 +40,162 @@ const TARGET: TargetInfo = TargetInfo {
     depth: 4,
 };
 
-#[test]
-fn ids_and_words_are_told_apart(rt: HostRuntime) {
-    for (a, b, one) in [(3u8, 3u8, true), (3, 4, false)] {
-        assert_eq!(rt;
-            same_object_id(ObjectId(u32::from(a)), ObjectId(u32::from(b))),
-            one
-        );
-        assert_eq!(rt; same_irql(Irql(a), Irql(b)), one);
-    }
-    assert!(rt; same_status(Status::WdfBusy, Status::WdfBusy));
-    assert!(rt; !same_status(Status::WdfBusy, Status::WdfPaused));
-    assert!(rt; same_callback(Callback::EvtIoStop, Callback::EvtIoStop));
-    assert!(rt; !same_callback(Callback::EvtIoStop, Callback::EvtIoResume));
-    assert!(rt; same_scope(Scope::Unscoped, Scope::Unscoped));
-    assert!(rt; !same_scope(Scope::Unscoped, Scope::PerQueue));
+/// Whether ids, levels, statuses, callbacks and scopes are told apart.
+fn words_are_apart() -> bool {
     let passive = ExecutionLevel::Passive;
-    assert!(rt; same_execution_level(passive, passive));
-    assert!(rt; !same_execution_level(passive, ExecutionLevel::Dispatch));
+    same_object_id(ObjectId(3), ObjectId(3))
+        && !same_object_id(ObjectId(3), ObjectId(4))
+        && same_irql(Irql(3), Irql(3))
+        && !same_irql(Irql(3), Irql(4))
+        && same_status(Status::WdfBusy, Status::WdfBusy)
+        && !same_status(Status::WdfBusy, Status::WdfPaused)
+        && same_callback(Callback::EvtIoStop, Callback::EvtIoStop)
+        && !same_callback(Callback::EvtIoStop, Callback::EvtIoResume)
+        && same_scope(Scope::Unscoped, Scope::Unscoped)
+        && !same_scope(Scope::Unscoped, Scope::PerQueue)
+        && same_execution_level(passive, passive)
+        && !same_execution_level(passive, ExecutionLevel::Dispatch)
 }
 
-#[test]
-fn queues_are_told_apart(rt: HostRuntime) {
+const OTHERS: Serves = Serves {
+    rest: false,
+    read: false,
+    write: true,
+    control: false,
+};
+
+/// Whether kinds of dispatch and types of requests are told apart.
+fn parts_of_queues_are_apart() -> bool {
     let parallel = DispatchKind::Parallel(4);
-    assert!(rt; same_dispatch(parallel, parallel));
-    assert!(rt; !same_dispatch(parallel, DispatchKind::Parallel(5)));
-    assert!(rt; !same_dispatch(parallel, DispatchKind::Manual));
-    let manual = DispatchKind::Manual;
-    assert!(rt; same_serves(SERVES, SERVES));
-    let others = Serves {
-        rest: false,
-        ..SERVES
-    };
-    assert!(rt; !same_serves(SERVES, others));
-    assert!(rt; same_queue(&QUEUE, &QUEUE));
-    for other in [
-        QueueInfo { name: 4, ..QUEUE },
-        QueueInfo {
-            device: ObjectId(3),
-            ..QUEUE
-        },
-        QueueInfo {
-            dispatch: manual,
-            ..QUEUE
-        },
-        QueueInfo {
-            serves: others,
-            ..QUEUE
-        },
-        QueueInfo {
-            powered: false,
-            ..QUEUE
-        },
-        QueueInfo {
-            zero: true,
-            ..QUEUE
-        },
-        QueueInfo {
-            scope: Scope::PerDevice,
-            ..QUEUE
-        },
-        QueueInfo {
-            level: ExecutionLevel::Passive,
-            ..QUEUE
-        },
-    ] {
-        assert!(rt; !same_queue(&QUEUE, &other));
-        assert!(rt; !same_declared(&Declared::Queue(QUEUE), &Declared::Queue(other)));
+    same_dispatch(parallel, parallel)
+        && !same_dispatch(parallel, DispatchKind::Parallel(5))
+        && !same_dispatch(parallel, DispatchKind::Manual)
+        && same_serves(SERVES, SERVES)
+        && !same_serves(SERVES, OTHERS)
+}
+
+/// A field of a queue, a device, an interrupt or a target.
+#[derive(Clone, Copy)]
+enum Field {
+    Name,
+    Device,
+    Dispatch,
+    Serves,
+    Powered,
+    Zero,
+    Scope,
+    Level,
+    Working,
+    Delay,
+    Status,
+    Depth,
+}
+
+static OF_QUEUE: [Field; 8] = [
+    Field::Name,
+    Field::Device,
+    Field::Dispatch,
+    Field::Serves,
+    Field::Powered,
+    Field::Zero,
+    Field::Scope,
+    Field::Level,
+];
+
+/// The queue with one field changed.
+fn other_queue(field: Field) -> QueueInfo {
+    let mut queue = QUEUE;
+    match field {
+        Field::Name => queue.name = 4,
+        Field::Device => queue.device = ObjectId(3),
+        Field::Dispatch => queue.dispatch = DispatchKind::Manual,
+        Field::Serves => queue.serves = OTHERS,
+        Field::Powered => queue.powered = false,
+        Field::Zero => queue.zero = true,
+        Field::Scope => queue.scope = Scope::PerDevice,
+        _ => queue.level = ExecutionLevel::Passive,
     }
+    queue
+}
+
+static OF_DEVICE: [Field; 4] = [Field::Name, Field::Working, Field::Scope, Field::Level];
+
+/// The device with one field changed.
+fn other_device(field: Field) -> DeviceInfo {
+    let mut device = DEVICE;
+    match field {
+        Field::Name => device.name = 3,
+        Field::Working => device.working = false,
+        Field::Scope => device.scope = Scope::PerQueue,
+        _ => device.level = ExecutionLevel::Passive,
+    }
+    device
+}
+
+static OF_INTERRUPT: [Field; 3] = [Field::Name, Field::Device, Field::Level];
+
+/// The interrupt with one field changed.
+fn other_interrupt(field: Field) -> InterruptInfo {
+    let mut interrupt = INTERRUPT;
+    match field {
+        Field::Name => interrupt.name = 5,
+        Field::Device => interrupt.device = ObjectId(3),
+        _ => interrupt.level = Irql(6),
+    }
+    interrupt
+}
+
+static OF_TARGET: [Field; 5] = [
+    Field::Name,
+    Field::Device,
+    Field::Delay,
+    Field::Status,
+    Field::Depth,
+];
+
+/// The target with one field changed.
+fn other_target(field: Field) -> TargetInfo {
+    let mut target = TARGET;
+    match field {
+        Field::Name => target.name = 6,
+        Field::Device => target.device = ObjectId(3),
+        Field::Delay => target.delay = 4,
+        Field::Status => target.status = Status::Cancelled,
+        _ => target.depth = 5,
+    }
+    target
+}
+
+/// Whether the queue is told apart from one with another field.
+fn is_other_queue(field: Field) -> bool {
+    let other = other_queue(field);
+    !same_queue(&QUEUE, &other) && !same_declared(&Declared::Queue(QUEUE), &Declared::Queue(other))
+}
+
+/// Whether each is one with itself.
+fn are_themselves() -> bool {
+    same_queue(&QUEUE, &QUEUE)
+        && same_device(&DEVICE, &DEVICE)
+        && same_interrupt(&INTERRUPT, &INTERRUPT)
+        && same_target(&TARGET, &TARGET)
 }
 
 #[test]
-fn devices_are_told_apart(rt: HostRuntime) {
-    assert!(rt; same_device(&DEVICE, &DEVICE));
-    for other in [
-        DeviceInfo { name: 3, ..DEVICE },
-        DeviceInfo {
-            working: false,
-            ..DEVICE
-        },
-        DeviceInfo {
-            scope: Scope::PerQueue,
-            ..DEVICE
-        },
-        DeviceInfo {
-            level: ExecutionLevel::Passive,
-            ..DEVICE
-        },
-    ] {
-        assert!(rt; !same_device(&DEVICE, &other));
+fn what_is_declared_is_told_apart(rt: HostRuntime) {
+    assert!(rt; words_are_apart() && parts_of_queues_are_apart() && are_themselves());
+    for (place, field) in OF_QUEUE.iter().enumerate() {
+        assert!(rt; is_other_queue(*field), "{place}");
     }
-}
-
-#[test]
-fn interrupts_and_targets_are_told_apart(rt: HostRuntime) {
-    assert!(rt; same_interrupt(&INTERRUPT, &INTERRUPT));
-    for other in [
-        InterruptInfo {
-            name: 5,
-            ..INTERRUPT
-        },
-        InterruptInfo {
-            device: ObjectId(3),
-            ..INTERRUPT
-        },
-        InterruptInfo {
-            level: Irql(6),
-            ..INTERRUPT
-        },
-    ] {
-        assert!(rt; !same_interrupt(&INTERRUPT, &other));
+    for (place, field) in OF_DEVICE.iter().enumerate() {
+        assert!(rt; !same_device(&DEVICE, &other_device(*field)), "{place}");
     }
-    assert!(rt; same_target(&TARGET, &TARGET));
-    for other in [
-        TargetInfo { name: 6, ..TARGET },
-        TargetInfo {
-            device: ObjectId(3),
-            ..TARGET
-        },
-        TargetInfo { delay: 4, ..TARGET },
-        TargetInfo {
-            status: Status::Cancelled,
-            ..TARGET
-        },
-        TargetInfo { depth: 5, ..TARGET },
-    ] {
-        assert!(rt; !same_target(&TARGET, &other));
+    for (place, field) in OF_INTERRUPT.iter().enumerate() {
+        assert!(rt;
+            !same_interrupt(&INTERRUPT, &other_interrupt(*field)),
+            "{place}"
+        );
+    }
+    for (place, field) in OF_TARGET.iter().enumerate() {
+        assert!(rt; !same_target(&TARGET, &other_target(*field)), "{place}");
     }
 }

@@ -63,100 +63,112 @@ const PENDING: Pending = Pending {
     answer: ZERO,
 };
 
-#[test]
-fn variants_are_told_apart(rt: HostRuntime) {
-    assert!(rt; same_kind(Kind::Dpc, Kind::Dpc));
-    assert!(rt; !same_kind(Kind::Dpc, Kind::Timer));
-    assert!(rt; same_life(Life::Asked, Life::Asked));
-    assert!(rt; !same_life(Life::Asked, Life::Cleaned));
-    assert!(rt; same_mark(Mark::Due, Mark::Due));
-    assert!(rt; !same_mark(Mark::Due, Mark::Taken));
-    assert!(rt; same_request_form(RequestForm::Read, RequestForm::Read));
-    assert!(rt; !same_request_form(RequestForm::Read, RequestForm::Write));
+/// Whether the variants of kinds, lives, marks, forms and calls are told apart.
+fn kinds_are_apart() -> bool {
     let send = CallKind::WdfRequestSend;
-    assert!(rt; same_call_kind(send, send));
-    assert!(rt; !same_call_kind(send, CallKind::WdfRequestRequeue));
-    assert!(rt; same_ask(Ask::Wake, Ask::Wake));
-    assert!(rt; !same_ask(Ask::Wake, Ask::Sleep));
-    assert!(rt; same_stage(Stage::Quiet, Stage::Quiet));
-    assert!(rt; !same_stage(Stage::Quiet, Stage::Settled));
-    assert!(rt; same_access(Access::Read, Access::Read));
-    assert!(rt; !same_access(Access::Read, Access::Write));
-    assert!(rt; same_fault(Fault::NotOwned, Fault::NotOwned));
-    assert!(rt; !same_fault(Fault::NotOwned, Fault::WrongKind));
-    let clock = Actor::Clock;
-    assert!(rt; same_actor(clock, clock));
-    assert!(rt; !same_actor(Actor::Cpu(0), Actor::Agent(0)));
-    assert!(rt; same_ending(Ending::Stuck, Ending::Stuck));
+    same_kind(Kind::Dpc, Kind::Dpc)
+        && !same_kind(Kind::Dpc, Kind::Timer)
+        && same_life(Life::Asked, Life::Asked)
+        && !same_life(Life::Asked, Life::Cleaned)
+        && same_mark(Mark::Due, Mark::Due)
+        && !same_mark(Mark::Due, Mark::Taken)
+        && same_request_form(RequestForm::Read, RequestForm::Read)
+        && !same_request_form(RequestForm::Read, RequestForm::Write)
+        && same_call_kind(send, send)
+        && !same_call_kind(send, CallKind::WdfRequestRequeue)
+}
+
+/// Whether the variants of asks, stages, accesses, faults, actors and endings are told apart.
+fn stages_are_apart() -> bool {
     let fault = Ending::Fault(Fault::NotOwned);
-    assert!(rt; !same_ending(fault, Ending::Fault(Fault::WrongKind)));
+    same_ask(Ask::Wake, Ask::Wake)
+        && !same_ask(Ask::Wake, Ask::Sleep)
+        && same_stage(Stage::Quiet, Stage::Quiet)
+        && !same_stage(Stage::Quiet, Stage::Settled)
+        && same_access(Access::Read, Access::Read)
+        && !same_access(Access::Read, Access::Write)
+        && same_fault(Fault::NotOwned, Fault::NotOwned)
+        && !same_fault(Fault::NotOwned, Fault::WrongKind)
+        && same_actor(Actor::Clock, Actor::Clock)
+        && !same_actor(Actor::Cpu(0), Actor::Agent(0))
+        && same_ending(Ending::Stuck, Ending::Stuck)
+        && !same_ending(fault, Ending::Fault(Fault::WrongKind))
 }
 
-#[test]
-fn ids_and_places_are_told_apart(rt: HostRuntime) {
-    assert!(rt; same_cpu(CPU, CPU));
-    assert!(rt; !same_cpu(CPU, Cpu(1)));
-    assert!(rt; same_frame_id(FrameId(7), FrameId(7)));
-    assert!(rt; !same_frame_id(FrameId(7), FrameId(8)));
-    let renamed = Handle { name: 4, ..DEVICE };
-    assert!(rt; same_handle(DEVICE, DEVICE));
-    assert!(rt; !same_handle(DEVICE, renamed));
-    assert!(rt; same_option_handle(Some(DEVICE), Some(DEVICE)));
-    assert!(rt; !same_option_handle(Some(DEVICE), None));
+const RENAMED: Handle = Handle {
+    id: ObjectId(2),
+    name: 4,
+};
+
+/// Whether ids and handles are told apart.
+fn ids_are_apart() -> bool {
     let id = Some(ObjectId(2));
-    assert!(rt; same_option_object_id(id, id));
-    assert!(rt; !same_option_object_id(id, Some(ObjectId(3))));
+    same_cpu(CPU, CPU)
+        && !same_cpu(CPU, Cpu(1))
+        && same_frame_id(FrameId(7), FrameId(7))
+        && !same_frame_id(FrameId(7), FrameId(8))
+        && same_handle(DEVICE, DEVICE)
+        && !same_handle(DEVICE, RENAMED)
+        && same_option_handle(Some(DEVICE), Some(DEVICE))
+        && !same_option_handle(Some(DEVICE), None)
+        && same_option_object_id(id, id)
+        && !same_option_object_id(id, Some(ObjectId(3)))
+}
+
+/// Whether places and locks are told apart.
+fn places_are_apart() -> bool {
     let queued = Place::Queued(ObjectId(2));
-    assert!(rt; same_place(queued, queued));
-    assert!(rt; !same_place(queued, Place::Returning(ObjectId(2))));
     let lock = LockRef::Object(ObjectId(2));
-    assert!(rt; same_lock(lock, lock));
-    assert!(rt; !same_lock(lock, LockRef::DeviceScope(ObjectId(2))));
+    same_place(queued, queued)
+        && !same_place(queued, Place::Returning(ObjectId(2)))
+        && same_lock(lock, lock)
+        && !same_lock(lock, LockRef::DeviceScope(ObjectId(2)))
 }
 
-#[test]
-fn values_and_calls_are_told_apart(rt: HostRuntime) {
-    let renamed = Handle { name: 4, ..DEVICE };
-    assert!(rt; same_value(Value::Obj(DEVICE), Value::Obj(DEVICE)));
-    assert!(rt; !same_value(Value::Obj(DEVICE), Value::Obj(renamed)));
-    assert!(rt; !same_value(ZERO, Value::Stat(Status::Success)));
+/// Whether values, names and arguments are told apart.
+fn values_are_apart() -> bool {
     let name = Name::new(b"D");
-    assert!(rt; same_name(&name, &name));
-    assert!(rt; !same_name(&name, &Name::new(b"DD")));
-    assert!(rt; same_arg(Arg::Class(0), Arg::Class(0)));
-    assert!(rt; !same_arg(Arg::Class(0), Arg::Val(ZERO)));
-    assert!(rt; same_call(&DELETE, &DELETE));
-    let of_queue = Call {
-        a: Arg::Val(Value::Obj(QUEUE)),
-        ..DELETE
-    };
-    assert!(rt; !same_call(&DELETE, &of_queue));
-    assert!(rt; same_request_info(&INFO, &INFO));
-    let received = RequestInfo {
-        received: true,
-        ..INFO
-    };
-    assert!(rt; !same_request_info(&INFO, &received));
+    same_value(Value::Obj(DEVICE), Value::Obj(DEVICE))
+        && !same_value(Value::Obj(DEVICE), Value::Obj(RENAMED))
+        && !same_value(ZERO, Value::Stat(Status::Success))
+        && same_name(&name, &name)
+        && !same_name(&name, &Name::new(b"DD"))
+        && same_arg(Arg::Class(0), Arg::Class(0))
+        && !same_arg(Arg::Class(0), Arg::Val(ZERO))
 }
 
-#[test]
-fn frames_are_told_apart(rt: HostRuntime) {
-    let one = Pending {
-        answer: Value::Num(1),
-        ..PENDING
-    };
-    assert!(rt; same_pending(&PENDING, &PENDING));
-    assert!(rt; !same_pending(&PENDING, &one));
-    assert!(rt; same_option_pending(None, None));
-    assert!(rt; !same_option_pending(Some(PENDING), None));
+/// Whether calls and what is kept of a request are told apart.
+fn calls_are_apart() -> bool {
+    let mut of_queue = DELETE;
+    of_queue.a = Arg::Val(Value::Obj(QUEUE));
+    let mut received = INFO;
+    received.received = true;
+    same_call(&DELETE, &DELETE)
+        && !same_call(&DELETE, &of_queue)
+        && same_request_info(&INFO, &INFO)
+        && !same_request_info(&INFO, &received)
+}
+
+/// Whether calls that wait, and what a frame comes to next, are told apart.
+fn intents_are_apart() -> bool {
+    let mut one = PENDING;
+    one.answer = Value::Num(1);
     let count = Change::Count { depth: 0, left: 1 };
-    assert!(rt; same_change(count, count));
-    assert!(rt; !same_change(count, Change::Count { depth: 0, left: 2 }));
-    assert!(rt; same_intent(&Intent::Broken, &Intent::Broken));
-    assert!(rt; !same_intent(&Intent::Log(ZERO), &Intent::Return(ZERO)));
-    assert!(rt; same_frame(&FRAME, &FRAME));
-    let later = Frame { until: 1, ..FRAME };
-    assert!(rt; !same_frame(&FRAME, &later));
+    same_pending(&PENDING, &PENDING)
+        && !same_pending(&PENDING, &one)
+        && same_option_pending(None, None)
+        && !same_option_pending(Some(PENDING), None)
+        && same_change(count, count)
+        && !same_change(count, Change::Count { depth: 0, left: 2 })
+        && same_intent(&Intent::Broken, &Intent::Broken)
+        && !same_intent(&Intent::Log(ZERO), &Intent::Return(ZERO))
+}
+
+/// Whether frames are told apart.
+fn frames_are_apart() -> bool {
+    let mut later = FRAME;
+    later.until = 1;
+    same_frame(&FRAME, &FRAME) && !same_frame(&FRAME, &later)
 }
 
 static ACTIONS: [Action; 3] = [
@@ -231,28 +243,52 @@ static EVENTS: [Event; 6] = [
     Event::Destroy { object: DEVICE },
 ];
 
-#[test]
-fn steps_posts_and_events_are_told_apart(rt: HostRuntime) {
+/// Whether no two of the actions are one.
+fn actions_are_apart() -> bool {
     for (j, a) in ACTIONS.iter().enumerate() {
         for (k, b) in ACTIONS.iter().enumerate() {
-            assert_eq!(rt; same_action(*a, *b), j == k, "actions {j} and {k}");
+            if same_action(*a, *b) != (j == k) {
+                return false;
+            }
         }
     }
+    true
+}
+
+/// Whether no two of the steps are one.
+fn steps_are_apart() -> bool {
     for (j, a) in STEPS.iter().enumerate() {
         for (k, b) in STEPS.iter().enumerate() {
-            assert_eq!(rt; same_step(*a, *b), j == k, "steps {j} and {k}");
+            if same_step(*a, *b) != (j == k) {
+                return false;
+            }
         }
     }
+    true
+}
+
+/// Whether no two of the posts are one.
+fn posts_are_apart() -> bool {
     for (j, a) in POSTS.iter().enumerate() {
         for (k, b) in POSTS.iter().enumerate() {
-            assert_eq!(rt; same_post(a, b), j == k, "posts {j} and {k}");
+            if same_post(a, b) != (j == k) {
+                return false;
+            }
         }
     }
+    true
+}
+
+/// Whether no two of the events are one.
+fn events_are_apart() -> bool {
     for (j, a) in EVENTS.iter().enumerate() {
         for (k, b) in EVENTS.iter().enumerate() {
-            assert_eq!(rt; same_event(a, b), j == k, "events {j} and {k}");
+            if same_event(a, b) != (j == k) {
+                return false;
+            }
         }
     }
+    true
 }
 
 static THINGS: [OpenThing; 4] = [
@@ -277,30 +313,56 @@ static CAUSES: [Cause; 4] = [
     Cause::ByChild { child: QUEUE },
 ];
 
-#[test]
-fn lines_of_a_wait_list_are_told_apart(rt: HostRuntime) {
+/// Whether no two of the things are one.
+fn things_are_apart() -> bool {
     for (j, a) in THINGS.iter().enumerate() {
         for (k, b) in THINGS.iter().enumerate() {
-            assert_eq!(rt; same_open_thing(a, b), j == k, "things {j} and {k}");
+            if same_open_thing(a, b) != (j == k) {
+                return false;
+            }
         }
     }
+    true
+}
+
+/// Whether no two of the causes are one.
+fn causes_are_apart() -> bool {
     for (j, a) in CAUSES.iter().enumerate() {
         for (k, b) in CAUSES.iter().enumerate() {
-            assert_eq!(rt; same_cause(a, b), j == k, "causes {j} and {k}");
+            if same_cause(a, b) != (j == k) {
+                return false;
+            }
         }
     }
+    true
+}
+
+/// Whether lines of a wait list are told apart.
+fn lines_are_apart() -> bool {
     let full = Some(Cause::Full);
-    assert!(rt; same_option_cause(full, full));
-    assert!(rt; !same_option_cause(full, None));
-    let asking = OpenThing::Asking { device: DEVICE };
     let line = WaitLine {
-        thing: asking,
+        thing: OpenThing::Asking { device: DEVICE },
         cause: full,
     };
-    assert!(rt; same_wait_line(&line, &line));
-    let other = WaitLine {
-        thing: asking,
-        cause: None,
-    };
-    assert!(rt; !same_wait_line(&line, &other));
+    let mut other = line;
+    other.cause = None;
+    same_option_cause(full, full)
+        && !same_option_cause(full, None)
+        && same_wait_line(&line, &line)
+        && !same_wait_line(&line, &other)
+}
+
+#[test]
+fn plain_values_are_told_apart(rt: HostRuntime) {
+    assert!(rt; kinds_are_apart() && stages_are_apart());
+    assert!(rt; ids_are_apart() && places_are_apart());
+    assert!(rt; values_are_apart() && calls_are_apart());
+    assert!(rt; intents_are_apart() && frames_are_apart());
+}
+
+#[test]
+fn no_two_of_a_table_are_one(rt: HostRuntime) {
+    assert!(rt; actions_are_apart() && steps_are_apart());
+    assert!(rt; posts_are_apart() && events_are_apart());
+    assert!(rt; things_are_apart() && causes_are_apart() && lines_are_apart());
 }

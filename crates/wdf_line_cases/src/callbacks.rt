@@ -1,7 +1,5 @@
 //! Lines of callbacks, most of them from traces of the worked runs.
 use crate::plan::*;
-use std::process::Abort;
-use std::test::Fail;
 use wdf_base::Callback::*;
 use wdf_base::Status::*;
 use wdf_base::{Callback, Cpu, Event, Plan, Status, Value};
@@ -298,7 +296,8 @@ static STARTS: [(usize, u8, Callback, (u32, u32), Option<(u32, u32)>, &str); 36]
     ),
 ];
 
-fn show_starts(rt: &impl Abort, plan: &Plan) {
+/// The first line of these that isn't as it should be.
+fn wrong_starts(plan: &Plan) -> Option<&'static str> {
     for (number, cpu, callback, owner, request, text) in &STARTS {
         let event = Event::Start {
             cpu: Cpu(*cpu),
@@ -306,8 +305,11 @@ fn show_starts(rt: &impl Abort, plan: &Plan) {
             object: object(*owner),
             request: optional(*request),
         };
-        show(rt, plan, *number, &event, text);
+        if !is_line(plan, *number, &event, text) {
+            return Some(*text);
+        }
     }
+    None
 }
 
 /// Callbacks that end.
@@ -522,7 +524,8 @@ static ENDS: [(usize, u8, Callback, (u32, u32), Status, &str); 26] = [
     ),
 ];
 
-fn show_ends(rt: &impl Abort, plan: &Plan) {
+/// The first line of these that isn't as it should be.
+fn wrong_ends(plan: &Plan) -> Option<&'static str> {
     for (number, cpu, callback, owner, status, text) in &ENDS {
         let event = Event::End {
             cpu: Cpu(*cpu),
@@ -530,14 +533,14 @@ fn show_ends(rt: &impl Abort, plan: &Plan) {
             object: object(*owner),
             value: Value::Stat(*status),
         };
-        show(rt, plan, *number, &event, text);
+        if !is_line(plan, *number, &event, text) {
+            return Some(*text);
+        }
     }
+    None
 }
 
-#[test]
-fn callbacks_of_worked_runs(rt: HostRuntime) -> Result<(), Fail> {
-    let plan = plan(rt.alloc())?;
-    show_starts(&rt, &plan);
-    show_ends(&rt, &plan);
-    Ok(())
+/// The first line of a callback that isn't as it should be.
+pub fn wrong(plan: &Plan) -> Option<&'static str> {
+    wrong_starts(plan).or(wrong_ends(plan))
 }

@@ -1,7 +1,5 @@
 //! Lines of framework calls, most of them from traces of the worked runs.
 use crate::plan::*;
-use std::process::Abort;
-use std::test::Fail;
 use wdf_base::CallKind::*;
 use wdf_base::Status::*;
 use wdf_base::{Arg, Call, CallKind, Cpu, Event, Plan, Status, Value};
@@ -616,32 +614,44 @@ static WAITS: [(usize, u8, CallKind, [Word; 3], &str); 2] = [
     ),
 ];
 
-fn show_calls(rt: &impl Abort, plan: &Plan, rows: &[(usize, u8, CallKind, [Word; 3], Word, &str)]) {
+/// The first line of these that isn't as it should be.
+fn wrong_calls(
+    plan: &Plan,
+    rows: &[(usize, u8, CallKind, [Word; 3], Word, &'static str)],
+) -> Option<&'static str> {
     for (number, cpu, kind, arguments, answer, text) in rows {
         let event = Event::Did {
             cpu: Cpu(*cpu),
             call: call(*kind, *arguments),
             answer: value(*answer),
         };
-        show(rt, plan, *number, &event, text);
+        if !is_line(plan, *number, &event, text) {
+            return Some(*text);
+        }
     }
+    None
 }
 
-fn show_waits(rt: &impl Abort, plan: &Plan) {
+/// The first line of these that isn't as it should be.
+fn wrong_waits(plan: &Plan) -> Option<&'static str> {
     for (number, cpu, kind, arguments, text) in &WAITS {
         let event = Event::Waiting {
             cpu: Cpu(*cpu),
             call: call(*kind, *arguments),
         };
-        show(rt, plan, *number, &event, text);
+        if !is_line(plan, *number, &event, text) {
+            return Some(*text);
+        }
     }
+    None
 }
 
-#[test]
-fn calls_of_worked_runs(rt: HostRuntime) -> Result<(), Fail> {
-    let plan = plan(rt.alloc())?;
-    show_calls(&rt, &plan, &CALLS);
-    show_calls(&rt, &timer_plan(rt.alloc())?, &TIMER_CALLS);
-    show_waits(&rt, &plan);
-    Ok(())
+/// The first line of a call that isn't as it should be.
+pub fn wrong(plan: &Plan) -> Option<&'static str> {
+    wrong_calls(plan, &CALLS).or(wrong_waits(plan))
+}
+
+/// The same in the plan where T is a class.
+pub fn wrong_of_timer(plan: &Plan) -> Option<&'static str> {
+    wrong_calls(plan, &TIMER_CALLS)
 }

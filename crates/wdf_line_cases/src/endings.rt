@@ -1,9 +1,8 @@
 //! The lines of endings and of wait lists.
 use crate::plan as names;
-use crate::plan::plan;
-use std::test::Fail;
 use wdf_base::{
-    Callback, Cause, Ending, Fault, FrameId, Handle, ObjectId, OpenThing, Stage, Step, WaitLine,
+    Callback, Cause, Ending, Fault, FrameId, Handle, ObjectId, OpenThing, Plan, Stage, Step,
+    WaitLine,
 };
 use wdf_trace::{ending_line, reads_as_ending, reads_as_wait, wait_line};
 
@@ -111,17 +110,26 @@ const NO_ENDINGS: [&str; 6] = [
     "stuck x",
 ];
 
-#[test]
-fn endings_are_shown_and_told(rt: HostRuntime) {
+/// Whether an ending has this line, and the line is told from others; a run that goes on has none.
+fn is_ending(events: usize, ending: Ending, text: &str) -> bool {
+    matches!(ending, Ending::Running)
+        || ending_line(events, ending).bytes() == text.as_bytes()
+            && reads_as_ending(text.as_bytes())
+}
+
+/// The first ending, or other text, that isn't as it should be.
+pub fn wrong_endings() -> Option<&'static str> {
     for (events, ending, text) in &ENDINGS {
-        if !matches!(*ending, Ending::Running) {
-            assert_eq!(rt; ending_line(*events, *ending).bytes(), text.as_bytes());
-            assert!(rt; reads_as_ending(text.as_bytes()));
+        if !is_ending(*events, *ending, text) {
+            return Some(*text);
         }
     }
     for text in NO_ENDINGS {
-        assert!(rt; !reads_as_ending(text.as_bytes()), "{text}");
+        if reads_as_ending(text.as_bytes()) {
+            return Some(text);
+        }
     }
+    None
 }
 
 /// Lines of a wait list.
@@ -293,15 +301,18 @@ const NO_WAITS: [&str; 8] = [
     "frame 013 EvtWorkItem TM.7 waits cpus",
 ];
 
-#[test]
-fn wait_lines_are_shown_and_told(rt: HostRuntime) -> Result<(), Fail> {
-    let plan = plan(rt.alloc())?;
+/// The first line of a wait list, or other text, that isn't as it should be.
+pub fn wrong_waits(plan: &Plan) -> Option<&'static str> {
     for (wait, text) in &WAITS {
-        assert_eq!(rt; wait_line(&plan, wait).bytes(), text.as_bytes());
-        assert!(rt; reads_as_wait(&plan, text.as_bytes()), "{text}");
+        let is_written = wait_line(plan, wait).bytes() == text.as_bytes();
+        if !is_written || !reads_as_wait(plan, text.as_bytes()) {
+            return Some(*text);
+        }
     }
     for text in NO_WAITS {
-        assert!(rt; !reads_as_wait(&plan, text.as_bytes()), "{text}");
+        if reads_as_wait(plan, text.as_bytes()) {
+            return Some(text);
+        }
     }
-    Ok(())
+    None
 }

@@ -1,7 +1,5 @@
 //! Lines of what frames, the framework and the agents do, most of them from traces of the worked runs.
 use crate::plan::*;
-use std::process::Abort;
-use std::test::Fail;
 use wdf_base::Stage::*;
 use wdf_base::Status::*;
 use wdf_base::{Access, Action, Ask, Cpu, Event, Fault, FrameId, Plan, Post, Stage, Status, Value};
@@ -17,14 +15,18 @@ static STEPS: [(usize, u8, u32, &str); 7] = [
     (50, 0, 24, "50 cpu0 step 24"),
 ];
 
-fn show_steps(rt: &impl Abort, plan: &Plan) {
+/// The first line of these that isn't as it should be.
+fn wrong_steps(plan: &Plan) -> Option<&'static str> {
     for (number, cpu, line, text) in &STEPS {
         let event = Event::Local {
             cpu: Cpu(*cpu),
             line: *line,
         };
-        show(rt, plan, *number, &event, text);
+        if !is_line(plan, *number, &event, text) {
+            return Some(*text);
+        }
     }
+    None
 }
 
 /// Numbers that are logged.
@@ -35,14 +37,18 @@ static LOGS: [(usize, u8, u64, &str); 4] = [
     (27, 0, 99, "27 cpu0 log 99"),
 ];
 
-fn show_logs(rt: &impl Abort, plan: &Plan) {
+/// The first line of these that isn't as it should be.
+fn wrong_logs(plan: &Plan) -> Option<&'static str> {
     for (number, cpu, value, text) in &LOGS {
         let event = Event::Log {
             cpu: Cpu(*cpu),
             value: Value::Num(*value),
         };
-        show(rt, plan, *number, &event, text);
+        if !is_line(plan, *number, &event, text) {
+            return Some(*text);
+        }
     }
+    None
 }
 
 /// Ticks that are spent.
@@ -51,14 +57,18 @@ static SPENDS: [(usize, u8, u64, &str); 2] = [
     (22, 1, 1, "22 cpu1 spend 1"),
 ];
 
-fn show_spends(rt: &impl Abort, plan: &Plan) {
+/// The first line of these that isn't as it should be.
+fn wrong_spends(plan: &Plan) -> Option<&'static str> {
     for (number, cpu, ticks, text) in &SPENDS {
         let event = Event::Spend {
             cpu: Cpu(*cpu),
             ticks: *ticks,
         };
-        show(rt, plan, *number, &event, text);
+        if !is_line(plan, *number, &event, text) {
+            return Some(*text);
+        }
     }
+    None
 }
 
 /// Registers that are read and written.
@@ -68,7 +78,8 @@ static REGISTERS: [(usize, u8, Access, u32, u64, &str); 3] = [
     (44, 0, Access::Read, RX_REGISTER, 65, "44 cpu0 get RX -> 65"),
 ];
 
-fn show_registers(rt: &impl Abort, plan: &Plan) {
+/// The first line of these that isn't as it should be.
+fn wrong_registers(plan: &Plan) -> Option<&'static str> {
     for (number, cpu, access, register, value, text) in &REGISTERS {
         let event = Event::Register {
             cpu: Cpu(*cpu),
@@ -76,8 +87,11 @@ fn show_registers(rt: &impl Abort, plan: &Plan) {
             register: *register,
             value: *value,
         };
-        show(rt, plan, *number, &event, text);
+        if !is_line(plan, *number, &event, text) {
+            return Some(*text);
+        }
     }
+    None
 }
 
 /// Frames that are parked.
@@ -86,14 +100,18 @@ static PARKS: [(usize, u8, u32, &str); 2] = [
     (29, 1, 18, "29 cpu1 park 18"),
 ];
 
-fn show_parks(rt: &impl Abort, plan: &Plan) {
+/// The first line of these that isn't as it should be.
+fn wrong_parks(plan: &Plan) -> Option<&'static str> {
     for (number, cpu, frame, text) in &PARKS {
         let event = Event::Park {
             cpu: Cpu(*cpu),
             frame: FrameId(*frame),
         };
-        show(rt, plan, *number, &event, text);
+        if !is_line(plan, *number, &event, text) {
+            return Some(*text);
+        }
     }
+    None
 }
 
 /// Faults, by line.
@@ -109,15 +127,19 @@ static FAULTS: [(usize, u8, Fault, u32, &str); 3] = [
     (5, 0, Fault::StaleHandle, 9, "5 cpu0 fault StaleHandle 9"),
 ];
 
-fn show_faults(rt: &impl Abort, plan: &Plan) {
+/// The first line of these that isn't as it should be.
+fn wrong_faults(plan: &Plan) -> Option<&'static str> {
     for (number, cpu, fault, line, text) in &FAULTS {
         let event = Event::Fault {
             cpu: Cpu(*cpu),
             fault: *fault,
             line: *line,
         };
-        show(rt, plan, *number, &event, text);
+        if !is_line(plan, *number, &event, text) {
+            return Some(*text);
+        }
     }
+    None
 }
 
 /// Stages that a device passes, with their interrupts.
@@ -155,15 +177,19 @@ static STAGES: [(usize, (u32, u32), Stage, Option<(u32, u32)>, &str); 13] = [
     (62, (D, 2), Quiet, None, "62 fw stage D.2 quiet"),
 ];
 
-fn show_stages(rt: &impl Abort, plan: &Plan) {
+/// The first line of these that isn't as it should be.
+fn wrong_stages(plan: &Plan) -> Option<&'static str> {
     for (number, device, stage, interrupt, text) in &STAGES {
         let event = Event::Stage {
             device: object(*device),
             stage: *stage,
             interrupt: optional(*interrupt),
         };
-        show(rt, plan, *number, &event, text);
+        if !is_line(plan, *number, &event, text) {
+            return Some(*text);
+        }
     }
+    None
 }
 
 /// Requests that the framework completes.
@@ -179,14 +205,18 @@ static COMPLETIONS: [(usize, (u32, u32), Status, &str); 4] = [
     ),
 ];
 
-fn show_completions(rt: &impl Abort, plan: &Plan) {
+/// The first line of these that isn't as it should be.
+fn wrong_completions(plan: &Plan) -> Option<&'static str> {
     for (number, request, status, text) in &COMPLETIONS {
         let event = Event::Complete {
             request: object(*request),
             status: *status,
         };
-        show(rt, plan, *number, &event, text);
+        if !is_line(plan, *number, &event, text) {
+            return Some(*text);
+        }
     }
+    None
 }
 
 /// Objects that are cleaned up.
@@ -214,13 +244,17 @@ static CLEANUPS: [(usize, (u32, u32), &str); 21] = [
     (153, (IRQ, 3), "153 fw cleanup IRQ.3"),
 ];
 
-fn show_cleanups(rt: &impl Abort, plan: &Plan) {
+/// The first line of these that isn't as it should be.
+fn wrong_cleanups(plan: &Plan) -> Option<&'static str> {
     for (number, cleaned, text) in &CLEANUPS {
         let event = Event::Cleanup {
             object: object(*cleaned),
         };
-        show(rt, plan, *number, &event, text);
+        if !is_line(plan, *number, &event, text) {
+            return Some(*text);
+        }
     }
+    None
 }
 
 /// Objects that are destroyed.
@@ -248,13 +282,17 @@ static DESTROYS: [(usize, (u32, u32), &str); 21] = [
     (160, (REQ, 12), "160 fw destroy req.12"),
 ];
 
-fn show_destroys(rt: &impl Abort, plan: &Plan) {
+/// The first line of these that isn't as it should be.
+fn wrong_destroys(plan: &Plan) -> Option<&'static str> {
     for (number, destroyed, text) in &DESTROYS {
         let event = Event::Destroy {
             object: object(*destroyed),
         };
-        show(rt, plan, *number, &event, text);
+        if !is_line(plan, *number, &event, text) {
+            return Some(*text);
+        }
     }
+    None
 }
 
 /// New times.
@@ -301,10 +339,14 @@ static TICKS: [(usize, u64, &str); 40] = [
     (134, 40, "134 clock tick 40"),
 ];
 
-fn show_ticks(rt: &impl Abort, plan: &Plan) {
+/// The first line of these that isn't as it should be.
+fn wrong_ticks(plan: &Plan) -> Option<&'static str> {
     for (number, time, text) in &TICKS {
-        show(rt, plan, *number, &Event::Tick { time: *time }, text);
+        if !is_line(plan, *number, &Event::Tick { time: *time }, text) {
+            return Some(*text);
+        }
     }
+    None
 }
 
 /// The event that an agent posts.
@@ -336,12 +378,16 @@ static READS: [(usize, u64, (u32, u32), &str); 11] = [
     (115, 16, (REQ, 12), "115 A read D.2 16 -> req.12"),
 ];
 
-fn show_reads(rt: &impl Abort, plan: &Plan) {
+/// The first line of these that isn't as it should be.
+fn wrong_reads(plan: &Plan) -> Option<&'static str> {
     for (number, length, request, text) in &READS {
         let (device, length) = (object((D, 2)), *length);
         let event = posted(A_AGENT, Post::Read { device, length }, Some(*request));
-        show(rt, plan, *number, &event, text);
+        if !is_line(plan, *number, &event, text) {
+            return Some(*text);
+        }
     }
+    None
 }
 
 /// Writes that the app sends.
@@ -352,23 +398,31 @@ static WRITES: [(usize, u64, (u32, u32), &str); 4] = [
     (89, 1, (REQ, 11), "89 A write D.2 1 -> req.11"),
 ];
 
-fn show_writes(rt: &impl Abort, plan: &Plan) {
+/// The first line of these that isn't as it should be.
+fn wrong_writes(plan: &Plan) -> Option<&'static str> {
     for (number, length, request, text) in &WRITES {
         let (device, length) = (object((D, 2)), *length);
         let event = posted(A_AGENT, Post::Write { device, length }, Some(*request));
-        show(rt, plan, *number, &event, text);
+        if !is_line(plan, *number, &event, text) {
+            return Some(*text);
+        }
     }
+    None
 }
 
 /// Arrivals that the app cancels, with their requests.
 static CANCELS: [(usize, u64, (u32, u32), &str); 1] = [(4, 1, (REQ, 4), "4 A cancel 1 -> req.4")];
 
-fn show_cancels(rt: &impl Abort, plan: &Plan) {
+/// The first line of these that isn't as it should be.
+fn wrong_cancels(plan: &Plan) -> Option<&'static str> {
     for (number, arrival, request, text) in &CANCELS {
         let arrival = *arrival;
         let event = posted(A_AGENT, Post::Cancel { arrival }, Some(*request));
-        show(rt, plan, *number, &event, text);
+        if !is_line(plan, *number, &event, text) {
+            return Some(*text);
+        }
     }
+    None
 }
 
 /// What is asked of the device.
@@ -380,12 +434,16 @@ static ASKS: [(usize, Ask, &str); 5] = [
     (135, Ask::Surprise, "135 pnp surprise D.2"),
 ];
 
-fn show_asks(rt: &impl Abort, plan: &Plan) {
+/// The first line of these that isn't as it should be.
+fn wrong_asks(plan: &Plan) -> Option<&'static str> {
     for (number, ask, text) in &ASKS {
         let (ask, device) = (*ask, object((D, 2)));
         let event = posted(0, Post::Ask { ask, device }, None);
-        show(rt, plan, *number, &event, text);
+        if !is_line(plan, *number, &event, text) {
+            return Some(*text);
+        }
     }
+    None
 }
 
 /// Interrupts that the device raises.
@@ -394,23 +452,31 @@ static RAISES: [(usize, (u32, u32), &str); 2] = [
     (42, (IRQ, 3), "42 D.2 raise IRQ.3"),
 ];
 
-fn show_raises(rt: &impl Abort, plan: &Plan) {
+/// The first line of these that isn't as it should be.
+fn wrong_raises(plan: &Plan) -> Option<&'static str> {
     for (number, interrupt, text) in &RAISES {
         let interrupt = object(*interrupt);
         let event = acted(Action::Raise { interrupt });
-        show(rt, plan, *number, &event, text);
+        if !is_line(plan, *number, &event, text) {
+            return Some(*text);
+        }
     }
+    None
 }
 
 /// Registers that the device sets.
 static SETS: [(usize, u32, u64, &str); 1] = [(41, RX_REGISTER, 65, "41 D.2 set RX 65")];
 
-fn show_sets(rt: &impl Abort, plan: &Plan) {
+/// The first line of these that isn't as it should be.
+fn wrong_sets(plan: &Plan) -> Option<&'static str> {
     for (number, register, value, text) in &SETS {
         let (register, value) = (*register, *value);
         let event = acted(Action::Set { register, value });
-        show(rt, plan, *number, &event, text);
+        if !is_line(plan, *number, &event, text) {
+            return Some(*text);
+        }
     }
+    None
 }
 
 /// Requests that the target is done with.
@@ -421,34 +487,59 @@ static DONES: [(usize, (u32, u32), Status, &str); 1] = [(
     "18 T.5 done req.8 SUCCESS",
 )];
 
-fn show_dones(rt: &impl Abort, plan: &Plan) {
+/// The first line of these that isn't as it should be.
+fn wrong_dones(plan: &Plan) -> Option<&'static str> {
     for (number, request, status, text) in &DONES {
         let (request, status) = (object(*request), *status);
         let event = posted(T_AGENT, Post::Done { request, status }, None);
-        show(rt, plan, *number, &event, text);
+        if !is_line(plan, *number, &event, text) {
+            return Some(*text);
+        }
     }
+    None
 }
 
-#[test]
-fn events_of_worked_runs(rt: HostRuntime) -> Result<(), Fail> {
-    let plan = plan(rt.alloc())?;
-    show_steps(&rt, &plan);
-    show_logs(&rt, &plan);
-    show_spends(&rt, &plan);
-    show_registers(&rt, &plan);
-    show_parks(&rt, &plan);
-    show_faults(&rt, &plan);
-    show_stages(&rt, &plan);
-    show_completions(&rt, &plan);
-    show_cleanups(&rt, &plan);
-    show_destroys(&rt, &plan);
-    show_ticks(&rt, &plan);
-    show_reads(&rt, &plan);
-    show_writes(&rt, &plan);
-    show_cancels(&rt, &plan);
-    show_asks(&rt, &plan);
-    show_raises(&rt, &plan);
-    show_sets(&rt, &plan);
-    show_dones(&rt, &plan);
-    Ok(())
+/// The first line of what frames and the framework do that isn't as it should be.
+fn wrong_done(plan: &Plan) -> Option<&'static str> {
+    for wrong in [
+        wrong_steps(plan),
+        wrong_logs(plan),
+        wrong_spends(plan),
+        wrong_registers(plan),
+        wrong_parks(plan),
+        wrong_faults(plan),
+        wrong_stages(plan),
+        wrong_completions(plan),
+        wrong_cleanups(plan),
+        wrong_destroys(plan),
+        wrong_ticks(plan),
+    ] {
+        if wrong.is_some() {
+            return wrong;
+        }
+    }
+    None
+}
+
+/// The first line of what agents post that isn't as it should be.
+fn wrong_posted(plan: &Plan) -> Option<&'static str> {
+    for wrong in [
+        wrong_reads(plan),
+        wrong_writes(plan),
+        wrong_cancels(plan),
+        wrong_asks(plan),
+        wrong_raises(plan),
+        wrong_sets(plan),
+        wrong_dones(plan),
+    ] {
+        if wrong.is_some() {
+            return wrong;
+        }
+    }
+    None
+}
+
+/// The first line that isn't as it should be.
+pub fn wrong(plan: &Plan) -> Option<&'static str> {
+    wrong_done(plan).or(wrong_posted(plan))
 }

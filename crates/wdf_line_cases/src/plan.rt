@@ -1,6 +1,7 @@
 //! The plan of the tests, with names and ids like those of the worked runs.
+ghost use Rattle.std.specs.Prelude.{◌<◌};
+
 use std::alloc::Global;
-use std::process::Abort;
 use wdf_base::{
     AgentInfo, ClassInfo, Declared, DeferredKind, DeviceInfo, DispatchKind, Event, ExecutionLevel,
     FEW, Handle, InterruptInfo, Irql, Items, MANY, Memory, Name, ObjectId, PlainKind, Plan,
@@ -8,10 +9,10 @@ use wdf_base::{
 };
 use wdf_trace::{line_of, read_line};
 
-/// The declared names behind `driver` and `req`, from name 2 on.
-const NAMES: [&str; 20] = [
-    "D", "Q", "IRQ", "T", "RX", "CTL", "L", "TM", "A", "DQ", "R", "W", "I", "STS", "O", "X", "Y",
-    "RQ", "WQ", "PEND",
+/// The names by their numbers.
+const NAMES: [&str; 22] = [
+    "driver", "req", "D", "Q", "IRQ", "T", "RX", "CTL", "L", "TM", "A", "DQ", "R", "W", "I", "STS",
+    "O", "X", "Y", "RQ", "WQ", "PEND",
 ];
 
 pub const REQ: u32 = 1;
@@ -83,14 +84,55 @@ pub const T_AGENT: u16 = 3;
 
 fn names(alloc: Global) -> Result<Items<Name, MANY>, Memory> {
     let mut names = Items::new(alloc);
-    names.push(Name::new(b"driver"))?;
-    names.push(Name::new(b"req"))?;
     for name in NAMES {
         if name.len() <= 32 && names.len() < 100 {
-            names.push(Name::new(name.as_bytes()))?;
+            match names.push(Name::new(name.as_bytes())) {
+                Ok(()) => {}
+                Err(memory) => return Err(memory),
+            }
         }
     }
     Ok(names)
+}
+
+fn items<T: Copy + Drop, const CEILING: u64>(
+    alloc: Global,
+    all: &[T],
+) -> Result<Items<T, CEILING>, Memory>
+    requires { 100 < CEILING }
+{
+    let mut items = Items::new(alloc);
+    for item in all {
+        if items.len() < 99 {
+            match items.push(*item) {
+                Ok(()) => {}
+                Err(memory) => return Err(memory),
+            }
+        }
+    }
+    Ok(items)
+}
+
+/// An agent with no post.
+fn agent(alloc: Global, name: u32) -> AgentInfo {
+    AgentInfo {
+        name,
+        posts: Items::new(alloc),
+    }
+}
+
+/// Agents with these names, from agent 1 on.
+fn agents(alloc: Global, names: &[u32]) -> Result<Items<AgentInfo, FEW>, Memory> {
+    let mut agents = Items::new(alloc);
+    for name in names {
+        if agents.len() < 100 {
+            match agents.push(agent(alloc, *name)) {
+                Ok(()) => {}
+                Err(memory) => return Err(memory),
+            }
+        }
+    }
+    Ok(agents)
 }
 
 fn device(name: u32) -> Declared {
@@ -138,23 +180,6 @@ fn target(name: u32) -> Declared {
     })
 }
 
-/// The device D.2, then the queue Q.3, the interrupt IRQ.4 and the target T.5, then the others.
-fn declared(alloc: Global) -> Result<Items<Declared, MANY>, Memory> {
-    let mut declared = Items::new(alloc);
-    declared.push(Declared::Driver)?;
-    declared.push(device(D))?;
-    declared.push(queue(Q))?;
-    declared.push(interrupt(IRQ))?;
-    declared.push(target(T))?;
-    declared.push(interrupt(I))?;
-    for name in [DQ, R, W, RQ, WQ, PEND] {
-        if declared.len() < 100 {
-            declared.push(queue(name))?;
-        }
-    }
-    Ok(declared)
-}
-
 fn deferred(name: u32, kind: DeferredKind) -> ClassInfo {
     ClassInfo::Deferred {
         name,
@@ -165,89 +190,81 @@ fn deferred(name: u32, kind: DeferredKind) -> ClassInfo {
     }
 }
 
-fn classes(alloc: Global) -> Result<Items<ClassInfo, FEW>, Memory> {
-    let mut classes = Items::new(alloc);
-    classes.push(ClassInfo::Plain {
-        name: L,
-        kind: PlainKind::WaitLock,
-    })?;
-    classes.push(deferred(TM, DeferredKind::Timer))?;
-    classes.push(ClassInfo::Plain {
-        name: O,
-        kind: PlainKind::Object,
-    })?;
-    classes.push(deferred(X, DeferredKind::WorkItem))?;
-    classes.push(deferred(Y, DeferredKind::WorkItem))?;
-    Ok(classes)
+fn plain(name: u32, kind: PlainKind) -> ClassInfo {
+    ClassInfo::Plain { name, kind }
 }
 
-fn registers(alloc: Global) -> Result<Items<RegisterInfo, MANY>, Memory> {
-    let mut registers = Items::new(alloc);
-    for name in [RX, CTL, STS] {
-        if registers.len() < 100 {
-            registers.push(RegisterInfo {
-                name,
-                device: ObjectId(2),
-                value: 0,
-            })?;
-        }
+fn register(name: u32) -> RegisterInfo {
+    RegisterInfo {
+        name,
+        device: ObjectId(2),
+        value: 0,
     }
-    Ok(registers)
 }
 
-/// Agents with these names, from agent 1 on.
-fn agents(alloc: Global, names: &[u32]) -> Result<Items<AgentInfo, FEW>, Memory> {
-    let mut agents = Items::new(alloc);
-    for name in names {
-        if agents.len() < 100 {
-            let posts = Items::new(alloc);
-            agents.push(AgentInfo { name: *name, posts })?;
-        }
-    }
-    Ok(agents)
-}
-
-/// The plan with the app A, the device D and the target T.
-pub fn plan(alloc: Global) -> Result<Plan, Memory> {
+/// The plan of these.
+fn plan_of(
+    alloc: Global,
+    declared: &[Declared],
+    classes: &[ClassInfo],
+    registers: &[RegisterInfo],
+    names_of_agents: &[u32],
+) -> Result<Plan, Memory> {
+    let names = names(alloc)?;
+    let declared = items(alloc, declared)?;
+    let classes = items(alloc, classes)?;
+    let registers = items(alloc, registers)?;
+    let agents = agents(alloc, names_of_agents)?;
     Ok(Plan {
         cpus: 2,
         limit: 100,
         objects: 32,
-        names: names(alloc)?,
-        declared: declared(alloc)?,
-        classes: classes(alloc)?,
-        registers: registers(alloc)?,
+        names,
+        declared,
+        classes,
+        registers,
         whens: Items::new(alloc),
         pnp: Items::new(alloc),
-        agents: agents(alloc, &[A, D, T])?,
+        agents,
         exprs: Items::new(alloc),
         scripts: Items::new(alloc),
         picks: Items::new(alloc),
     })
 }
 
+/// The plan with the app A, the device D and the target T. Its objects are the device D.2, then the
+/// queue Q.3, the interrupt IRQ.4 and the target T.5, then the others.
+pub fn plan(alloc: Global) -> Result<Plan, Memory> {
+    let declared = [
+        Declared::Driver,
+        device(D),
+        queue(Q),
+        interrupt(IRQ),
+        target(T),
+        interrupt(I),
+        queue(DQ),
+        queue(R),
+        queue(W),
+        queue(RQ),
+        queue(WQ),
+        queue(PEND),
+    ];
+    let classes = [
+        plain(L, PlainKind::WaitLock),
+        deferred(TM, DeferredKind::Timer),
+        plain(O, PlainKind::Object),
+        deferred(X, DeferredKind::WorkItem),
+        deferred(Y, DeferredKind::WorkItem),
+    ];
+    let registers = [register(RX), register(CTL), register(STS)];
+    plan_of(alloc, &declared, &classes, &registers, &[A, D, T])
+}
+
 /// The plan with the device D, and T for the class of a timer.
 pub fn timer_plan(alloc: Global) -> Result<Plan, Memory> {
-    let mut declared = Items::new(alloc);
-    declared.push(Declared::Driver)?;
-    declared.push(device(D))?;
-    let mut classes = Items::new(alloc);
-    classes.push(deferred(T, DeferredKind::Timer))?;
-    Ok(Plan {
-        cpus: 1,
-        limit: 100,
-        objects: 16,
-        names: names(alloc)?,
-        declared,
-        classes,
-        registers: Items::new(alloc),
-        whens: Items::new(alloc),
-        pnp: Items::new(alloc),
-        agents: agents(alloc, &[D])?,
-        exprs: Items::new(alloc),
-        scripts: Items::new(alloc),
-        picks: Items::new(alloc),
-    })
+    let declared = [Declared::Driver, device(D)];
+    let classes = [deferred(T, DeferredKind::Timer)];
+    plan_of(alloc, &declared, &classes, &[], &[D])
 }
 
 /// The object with this name and this id.
@@ -263,12 +280,8 @@ pub fn optional(named: Option<(u32, u32)>) -> Option<Handle> {
     Some(object(named?))
 }
 
-/// Each event and its line, in both directions.
-pub fn show(rt: &impl Abort, plan: &Plan, number: usize, event: &Event, text: &str) {
-    assert_eq!(rt; line_of(plan, number, event).bytes(), text.as_bytes());
-    assert_eq!(rt;
-        read_line(plan, text.as_bytes()),
-        Some((number, *event)),
-        "{text}"
-    );
+/// Whether an event has this line, and the line is read as the event.
+pub fn is_line(plan: &Plan, number: usize, event: &Event, text: &str) -> bool {
+    line_of(plan, number, event).bytes() == text.as_bytes()
+        && read_line(plan, text.as_bytes()) == Some((number, *event))
 }

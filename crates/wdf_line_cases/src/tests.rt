@@ -1,5 +1,6 @@
-use crate::plan::{plan, show};
-use std::process::Abort;
+//! Lines that are made by hand, and the test of all lines.
+use crate::plan::{is_line, plan, timer_plan};
+use crate::{callbacks, calls, endings, events};
 use std::test::Fail;
 use wdf_base::{
     Access, Action, Arg, Ask, Call, CallKind, Callback, Cpu, Event, Fault, FrameId, Handle,
@@ -484,21 +485,31 @@ static POSTS: [(Event, &str); 11] = [
     ),
 ];
 
-fn show_all(rt: &impl Abort, plan: &Plan, number: usize, rows: &[(Event, &str)]) {
+/// The first line of these, with a number, that isn't as it should be.
+fn wrong_of(plan: &Plan, number: usize, rows: &[(Event, &'static str)]) -> Option<&'static str> {
     for (event, text) in rows {
-        show(rt, plan, number, event, text);
+        if !is_line(plan, number, event, text) {
+            return Some(*text);
+        }
     }
+    None
 }
 
-#[test]
-fn events_are_shown_and_read(rt: HostRuntime) -> Result<(), Fail> {
-    let plan = plan(rt.alloc())?;
-    show_all(&rt, &plan, 7, &FRAMES);
-    show_all(&rt, &plan, 0, &STATEMENTS);
-    show_all(&rt, &plan, 3, &CALLS);
-    show_all(&rt, &plan, 12, &STEPS);
-    show_all(&rt, &plan, 1, &POSTS);
-    Ok(())
+/// The first line that isn't as it should be.
+fn wrong_events(plan: &Plan) -> Option<&'static str> {
+    for (number, rows) in [
+        (7, FRAMES.as_slice()),
+        (0, STATEMENTS.as_slice()),
+        (3, CALLS.as_slice()),
+        (12, STEPS.as_slice()),
+        (1, POSTS.as_slice()),
+    ] {
+        let wrong = wrong_of(plan, number, rows);
+        if wrong.is_some() {
+            return wrong;
+        }
+    }
+    None
 }
 
 /// Texts that are no event's line.
@@ -543,11 +554,48 @@ const OTHERS: [&str; 38] = [
     "finished 4",
 ];
 
-#[test]
-fn other_texts_are_not_read(rt: HostRuntime) -> Result<(), Fail> {
-    let plan = plan(rt.alloc())?;
+/// The first of these texts that is read.
+fn wrong_others(plan: &Plan) -> Option<&'static str> {
     for text in OTHERS {
-        assert_eq!(rt; read_line(&plan, text.as_bytes()), None, "{text}");
+        if read_line(plan, text.as_bytes()).is_some() {
+            return Some(text);
+        }
     }
+    None
+}
+
+/// The first text that isn't as it should be.
+fn wrong(plan: &Plan) -> Option<&'static str> {
+    for wrong in [
+        wrong_events(plan),
+        wrong_others(plan),
+        callbacks::wrong(plan),
+        calls::wrong(plan),
+        events::wrong(plan),
+        endings::wrong_waits(plan),
+    ] {
+        if wrong.is_some() {
+            return wrong;
+        }
+    }
+    None
+}
+
+/// The same in a plan that is made for it; or in the one where T is a class of timers.
+fn wrong_in(plan: Plan, is_timer: bool) -> Option<&'static str> {
+    if is_timer {
+        calls::wrong_of_timer(&plan)
+    } else {
+        wrong(&plan)
+    }
+}
+
+#[test]
+fn lines_are_written_and_read(rt: HostRuntime) -> Result<(), Fail> {
+    let plan = plan(rt.alloc())?;
+    assert_eq!(rt; wrong_in(plan, false), None);
+    let timer_plan = timer_plan(rt.alloc())?;
+    assert_eq!(rt; wrong_in(timer_plan, true), None);
+    assert_eq!(rt; endings::wrong_endings(), None);
     Ok(())
 }

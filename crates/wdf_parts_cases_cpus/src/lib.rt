@@ -2,16 +2,18 @@
 #![tactic(auto)]
 
 #[cfg(test)]
-mod deferred;
-#[cfg(test)]
-mod frames;
+mod dpcs;
 #[cfg(test)]
 mod interrupts;
 #[cfg(test)]
-mod levels;
-#[cfg(test)]
 mod locks;
 #[cfg(test)]
-mod running;
+mod processors;
 #[cfg(test)]
 mod scopes;
+#[cfg(test)]
+mod timers;
+#[cfg(test)]
+mod trials;
+#[cfg(test)]
+mod work_items;

@@ -11,3 +11,5 @@ mod pnp;
 mod power;
 #[cfg(test)]
 mod targets;
+#[cfg(test)]
+mod trials;

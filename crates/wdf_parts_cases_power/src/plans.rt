@@ -1,6 +1,4 @@
-//! Three small plans.
-ghost use Rattle.std.specs.Prelude.{◌≡◌, IfOk, length};
-
+//! Small plans, each from a list of what it declares.
 use std::alloc::Global;
 use wdf_base::*;
 use wdf_scene::PlanBuilder;
@@ -20,6 +18,30 @@ pub const OTHER_DEVICE: ObjectId = ObjectId(5);
 
 /// The queue of the other device.
 pub const OTHER_QUEUE: ObjectId = ObjectId(6);
+
+/// What a plan declares, each with the number of its name.
+#[derive(Clone, Copy)]
+pub enum Object {
+    Driver,
+    /// A device that works from the opening on.
+    Working(u32),
+    /// A device that is off.
+    Off(u32),
+    /// A power-managed queue of a device.
+    Queue(u32, ObjectId),
+    /// An interrupt of the device 2.
+    Interrupt(u32),
+    /// A target of the device 2, which holds so many requests.
+    Target(u32, u64),
+}
+
+/// What a plan declares: the objects, the names of the classes, and the callbacks, each with its
+/// object.
+pub struct Parts {
+    pub objects: &'static [Object],
+    pub classes: &'static [u32],
+    pub callbacks: &'static [(Callback, Object)],
+}
 
 fn device(name: u32, working: bool) -> Declared {
     Declared::Device(DeviceInfo {
@@ -48,50 +70,6 @@ fn queue(name: u32, device: ObjectId) -> Declared {
     })
 }
 
-fn interrupt(name: u32) -> Declared {
-    Declared::Interrupt(InterruptInfo {
-        name,
-        device: DEVICE,
-        level: Irql(5),
-    })
-}
-
-/// A working device with two power-managed queues, of which the first declares EvtIoResume, and a
-/// device that is off, whose queue declares it too.
-pub fn with_queues(alloc: Global) -> Result<Plan, Memory> {
-    let mut builder = PlanBuilder::new(alloc, 1, 100, 16);
-    builder.declared(Declared::Driver)?;
-    builder.declared(device(2, true))?;
-    builder.declared(queue(3, DEVICE))?;
-    builder.declared(queue(4, DEVICE))?;
-    builder.declared(device(5, false))?;
-    builder.declared(queue(6, OTHER_DEVICE))?;
-    builder.script(Callback::EvtIoResume, queue(3, DEVICE), 5)?;
-    builder.script(Callback::EvtIoResume, queue(6, OTHER_DEVICE), 9)?;
-    Ok(builder.finish())
-}
-
-/// A device that is off, with callbacks, and two interrupts, of which the second declares only
-/// EvtInterruptEnable.
-pub fn with_interrupts(alloc: Global) -> Result<Plan, Memory> {
-    let mut builder = PlanBuilder::new(alloc, 1, 100, 16);
-    builder.declared(Declared::Driver)?;
-    builder.declared(device(2, false))?;
-    builder.declared(interrupt(3))?;
-    builder.declared(interrupt(4))?;
-    builder.script(Callback::EvtDevicePrepareHardware, device(2, false), 10)?;
-    builder.script(Callback::EvtDeviceReleaseHardware, device(2, false), 11)?;
-    builder.script(Callback::EvtDeviceD0Entry, device(2, false), 12)?;
-    builder.script(Callback::EvtDeviceD0Exit, device(2, false), 13)?;
-    builder.script(Callback::EvtDeviceSelfManagedIoInit, device(2, false), 14)?;
-    builder.script(Callback::EvtDeviceQueryStop, device(2, false), 15)?;
-    builder.script(Callback::EvtDeviceQueryRemove, device(2, false), 16)?;
-    builder.script(Callback::EvtInterruptEnable, interrupt(3), 17)?;
-    builder.script(Callback::EvtInterruptDisable, interrupt(3), 18)?;
-    builder.script(Callback::EvtInterruptEnable, interrupt(4), 19)?;
-    Ok(builder.finish())
-}
-
 fn target(name: u32, depth: u64) -> Declared {
     Declared::Target(TargetInfo {
         name,
@@ -102,27 +80,150 @@ fn target(name: u32, depth: u64) -> Declared {
     })
 }
 
-/// A device with a target that holds two requests, and one that holds one.
-pub fn with_targets(alloc: Global) -> Result<Plan, Memory>
-    ensures { IfOk result (λ plan. length plan.declared ≡ 4) }
-{
-    let mut builder = PlanBuilder::new(alloc, 1, 100, 16);
-    builder.declared(Declared::Driver)?;
-    builder.declared(device(2, true))?;
-    builder.declared(target(3, 2))?;
-    builder.declared(target(4, 1))?;
-    Ok(builder.finish())
+fn declared(object: Object) -> Declared {
+    match object {
+        Object::Driver => Declared::Driver,
+        Object::Working(name) => device(name, true),
+        Object::Off(name) => device(name, false),
+        Object::Queue(name, device) => queue(name, device),
+        Object::Interrupt(name) => Declared::Interrupt(InterruptInfo {
+            name,
+            device: DEVICE,
+            level: Irql(5),
+        }),
+        Object::Target(name, depth) => target(name, depth),
+    }
 }
 
-/// A plan with two classes, and no declared object but the driver object.
-pub fn with_classes(alloc: Global) -> Result<Plan, Memory> {
-    let mut builder = PlanBuilder::new(alloc, 1, 100, 16);
-    builder.declared(Declared::Driver)?;
-    for name in 2..4 {
-        builder.class(ClassInfo::Plain {
-            name,
-            kind: PlainKind::Object,
-        })?;
+fn all_declared(alloc: Global, objects: &[Object]) -> Result<Items<Declared, MANY>, Memory> {
+    let mut items = Items::new(alloc);
+    for object in objects {
+        if items.len() < 99 {
+            match items.push(declared(*object)) {
+                Ok(()) => {}
+                Err(error) => return Err(error),
+            }
+        }
     }
-    Ok(builder.finish())
+    Ok(items)
 }
+
+/// A class of general objects.
+fn class(name: u32) -> ClassInfo {
+    ClassInfo::Plain {
+        name,
+        kind: PlainKind::Object,
+    }
+}
+
+fn all_classes(alloc: Global, names: &[u32]) -> Result<Items<ClassInfo, FEW>, Memory> {
+    let mut items = Items::new(alloc);
+    for name in names {
+        if items.len() < 99 {
+            match items.push(class(*name)) {
+                Ok(()) => {}
+                Err(error) => return Err(error),
+            }
+        }
+    }
+    Ok(items)
+}
+
+/// A script with no statement.
+fn script(alloc: Global, callback: Callback, object: Object) -> Script {
+    Script {
+        callback,
+        owner: declared(object),
+        line: 5,
+        statements: Items::new(alloc),
+    }
+}
+
+fn all_scripts(
+    alloc: Global,
+    callbacks: &[(Callback, Object)],
+) -> Result<Items<Script, MANY>, Memory> {
+    let mut items = Items::new(alloc);
+    for (callback, object) in callbacks {
+        if items.len() < 99 {
+            match items.push(script(alloc, *callback, *object)) {
+                Ok(()) => {}
+                Err(error) => return Err(error),
+            }
+        }
+    }
+    Ok(items)
+}
+
+/// The plan that declares these.
+pub fn plan(alloc: Global, parts: &Parts) -> Result<Plan, Memory> {
+    let declared = all_declared(alloc, parts.objects)?;
+    let classes = all_classes(alloc, parts.classes)?;
+    let scripts = all_scripts(alloc, parts.callbacks)?;
+    let mut plan = PlanBuilder::new(alloc, 1, 100, 16).finish();
+    plan.declared = declared;
+    plan.classes = classes;
+    plan.scripts = scripts;
+    Ok(plan)
+}
+
+/// A working device with two power-managed queues, of which the first declares EvtIoResume, and a
+/// device that is off, whose queue declares it too.
+pub static WITH_QUEUES: Parts = Parts {
+    objects: &[
+        Object::Driver,
+        Object::Working(2),
+        Object::Queue(3, DEVICE),
+        Object::Queue(4, DEVICE),
+        Object::Off(5),
+        Object::Queue(6, OTHER_DEVICE),
+    ],
+    classes: &[],
+    callbacks: &[
+        (Callback::EvtIoResume, Object::Queue(3, DEVICE)),
+        (Callback::EvtIoResume, Object::Queue(6, OTHER_DEVICE)),
+    ],
+};
+
+/// A device that is off, with callbacks, and two interrupts, of which the second declares only
+/// EvtInterruptEnable.
+pub static WITH_INTERRUPTS: Parts = Parts {
+    objects: &[
+        Object::Driver,
+        Object::Off(2),
+        Object::Interrupt(3),
+        Object::Interrupt(4),
+    ],
+    classes: &[],
+    callbacks: &[
+        (Callback::EvtDevicePrepareHardware, Object::Off(2)),
+        (Callback::EvtDeviceReleaseHardware, Object::Off(2)),
+        (Callback::EvtDeviceD0Entry, Object::Off(2)),
+        (Callback::EvtDeviceD0Exit, Object::Off(2)),
+        (Callback::EvtDeviceSelfManagedIoInit, Object::Off(2)),
+        (Callback::EvtDeviceQueryStop, Object::Off(2)),
+        (Callback::EvtDeviceQueryRemove, Object::Off(2)),
+        (Callback::EvtInterruptEnable, Object::Interrupt(3)),
+        (Callback::EvtInterruptDisable, Object::Interrupt(3)),
+        (Callback::EvtInterruptEnable, Object::Interrupt(4)),
+    ],
+};
+
+/// A device with a target that holds two requests, and one that holds one.
+pub static WITH_TARGETS: Parts = Parts {
+    objects: &[
+        Object::Driver,
+        Object::Working(2),
+        Object::Target(3, 2),
+        Object::Target(4, 1),
+    ],
+    classes: &[],
+    callbacks: &[],
+};
+
+/// Two classes, and no declared object but the driver object.
+pub static WITH_CLASSES: Parts = Parts {
+    objects: &[Object::Driver],
+    classes: &[2, 3],
+    callbacks: &[],
+};

@@ -1,12 +1,13 @@
 //! The lists of steps, and what a failure makes of them.
 use crate::plans::*;
-use std::test::Fail;
+use crate::trials::Wrong;
+use std::alloc::Global;
 use wdf_base::*;
 use wdf_model::Phase;
 use wdf_pnp::Pnp;
 
 /// What happens to the device.
-#[derive(Clone, Copy, Debug)]
+#[derive(Clone, Copy)]
 enum Act {
     /// A post of the Plug and Play manager.
     Asked(Ask),
@@ -28,6 +29,7 @@ enum Act {
 
 /// What happens to a device that is off, and the phase in which it then rests.
 struct Case {
+    name: &'static str,
     acts: &'static [Act],
     phase: Phase,
 }
@@ -55,13 +57,13 @@ const RELEASED: Act = Act::Runs(Callback::EvtDeviceReleaseHardware);
 const REMOVED: Act = Act::Passes(&[Stage::NoHardware, Stage::Closed, Stage::Removed]);
 
 static CASES: [Case; 9] = [
-    // nothing was asked
     Case {
+        name: "nothing was asked",
         acts: &[],
         phase: Phase::Off,
     },
-    // start, sleep, wake; a second start or wake changes nothing
     Case {
+        name: "start, sleep, wake; a second start or wake changes nothing",
         acts: &[
             Act::Asked(Ask::Start),
             Act::Left(10),
@@ -93,8 +95,8 @@ static CASES: [Case; 9] = [
         ],
         phase: Phase::Working,
     },
-    // a rebalance that is refused, and one that isn't
     Case {
+        name: "a rebalance that is refused, and one that isn't",
         acts: &[
             Act::Asked(Ask::Start),
             HARD,
@@ -122,8 +124,8 @@ static CASES: [Case; 9] = [
         ],
         phase: Phase::Working,
     },
-    // a removal after a power-down; a removed device stays so
     Case {
+        name: "a removal after a power-down; a removed device stays so",
         acts: &[
             Act::Asked(Ask::Start),
             HARD,
@@ -145,8 +147,8 @@ static CASES: [Case; 9] = [
         ],
         phase: Phase::Removed,
     },
-    // a sleeping device is removed without power, and isn't asked
     Case {
+        name: "a sleeping device is removed without power, and isn't asked",
         acts: &[
             Act::Asked(Ask::Start),
             HARD,
@@ -168,8 +170,8 @@ static CASES: [Case; 9] = [
         ],
         phase: Phase::Removed,
     },
-    // no hardware: there is nothing to release
     Case {
+        name: "no hardware: there is nothing to release",
         acts: &[
             Act::Asked(Ask::Start),
             HARD,
@@ -178,8 +180,8 @@ static CASES: [Case; 9] = [
         ],
         phase: Phase::Removed,
     },
-    // no power: no interrupt was enabled
     Case {
+        name: "no power: no interrupt was enabled",
         acts: &[
             Act::Asked(Ask::Start),
             HARD,
@@ -190,8 +192,8 @@ static CASES: [Case; 9] = [
         ],
         phase: Phase::Removed,
     },
-    // a device that is off is removed at once
     Case {
+        name: "a device that is off is removed at once",
         acts: &[
             Act::Asked(Ask::Sleep),
             Act::Asked(Ask::Remove),
@@ -199,8 +201,8 @@ static CASES: [Case; 9] = [
         ],
         phase: Phase::Removed,
     },
-    // the results of other callbacks are ignored
     Case {
+        name: "the results of other callbacks are ignored",
         acts: &[
             Act::Asked(Ask::Start),
             HARD,
@@ -329,20 +331,51 @@ fn does(pnp: &mut Pnp, act: Act) -> bool {
     }
 }
 
-#[test]
-fn sequences_come_as_told(rt: HostRuntime) -> Result<(), Fail> {
-    let plan = with_interrupts(rt.alloc())?;
-    for case in &CASES {
-        let mut pnp = Pnp::make(rt.alloc(), &plan)?;
-        for act in case.acts {
-            assert!(rt; does(&mut pnp, *act), "{:?}", act);
+/// Whether what is no device is removed, and has no step.
+fn is_no_device(pnp: &Pnp, o: ObjectId) -> bool {
+    pnp.phase(o) == Phase::Removed && pnp.next_step(o).is_none()
+}
+
+/// Whether no step is left, and the device rests in this phase.
+fn rests(pnp: &Pnp, phase: Phase) -> bool {
+    pnp.next_step(DEVICE).is_none()
+        && pnp.steps_left(DEVICE) == 0
+        && !pnp.busy(DEVICE)
+        && pnp.phase(DEVICE) == phase
+        && is_no_device(pnp, DRIVER)
+        && is_no_device(pnp, ObjectId(77))
+}
+
+/// The place of the first act that doesn't come as told.
+fn first_wrong(pnp: &mut Pnp, acts: &[Act]) -> Option<usize> {
+    for (place, act) in acts.iter().enumerate() {
+        if !does(pnp, *act) {
+            return Some(place);
         }
-        assert_eq!(rt; pnp.next_step(DEVICE), None);
-        assert_eq!(rt; pnp.steps_left(DEVICE), 0);
-        assert!(rt; !pnp.busy(DEVICE));
-        assert_eq!(rt; pnp.phase(DEVICE), case.phase);
-        assert_eq!(rt; pnp.phase(DRIVER), Phase::Removed);
-        assert_eq!(rt; pnp.next_step(ObjectId(77)), None);
     }
-    Ok(())
+    None
+}
+
+/// What is wrong in a case: the place of an act that doesn't come as told, or the number of acts
+/// where the device doesn't rest as told after them.
+fn wrong_in(mut pnp: Pnp, case: &Case) -> Option<usize> {
+    match first_wrong(&mut pnp, case.acts) {
+        None if rests(&pnp, case.phase) => None,
+        None => Some(case.acts.len()),
+        wrong => wrong,
+    }
+}
+
+/// What is wrong in the cases, after the opening of the plan with interrupts.
+pub fn wrong(alloc: Global, plan: &Plan) -> Result<Wrong, Memory> {
+    for case in &CASES {
+        let wrong = match Pnp::make(alloc, plan) {
+            Ok(pnp) => wrong_in(pnp, case),
+            Err(memory) => return Err(memory),
+        };
+        if let Some(place) = wrong {
+            return Ok(Some((case.name, place)));
+        }
+    }
+    Ok(None)
 }

@@ -1,10 +1,11 @@
 //! What is sent to the targets.
-ghost use Rattle.std.specs.Prelude.{◌≡◌, IfOk, length};
+ghost use Rattle.std.specs.Prelude.{◌≡◌, ◌<◌, length};
 
-use crate::plans::{DEVICE, FIRST, SECOND, with_targets};
+use crate::plans::{DEVICE, FIRST, SECOND};
+use crate::trials::Wrong;
 use std::alloc::Global;
-use std::test::Fail;
-use wdf_base::{Memory, ObjectId, Status};
+use wdf_base::{Memory, ObjectId, Plan, Status};
+use wdf_model::OBJECTS;
 use wdf_target::Targets;
 
 /// Requests.
@@ -14,83 +15,161 @@ const OTHER: ObjectId = ObjectId(10);
 
 const THIRD: ObjectId = ObjectId(11);
 
-fn opening(alloc: Global) -> Result<Targets, Memory>
-    ensures { IfOk result (λ targets. length targets.targets ≡ 5) }
-{
-    Targets::make(alloc, &with_targets(alloc)?)
-}
-
-/// Sends a request that no target holds; whether the target takes it.
-fn send(targets: &mut Targets, t: ObjectId, id: u16, forget: bool) -> bool
-    ensures { length targets.new.targets ≡ length targets.old.targets }
-{
-    let r = ObjectId(u32::from(id));
-    !targets.is_sent(r) && targets.send(t, r, forget)
-}
-
-/// The requests of the first target are these.
-fn holds(targets: &Targets, first: Option<ObjectId>, second: Option<ObjectId>) -> bool {
-    let len = targets.pending(FIRST);
-    let at_first = if 0 < len {
-        Some(targets.sent_at(FIRST, 0).request)
-    } else {
-        None
-    };
-    let at_second = if 1 < len {
-        Some(targets.sent_at(FIRST, 1).request)
-    } else {
-        None
-    };
-    len < 3 && at_first == first && at_second == second
+/// What happens to the targets, and what is read of them, with the answer that is due.
+#[derive(Clone, Copy)]
+enum Act {
+    /// A request is sent, to be forgotten or not. Whether the target takes it.
+    Send(ObjectId, ObjectId, bool, bool),
+    Stop(ObjectId),
+    Start(ObjectId),
+    /// A target is done with a request.
+    Done(ObjectId, Status),
+    /// A completion routine starts.
+    Back(ObjectId),
+    /// Whether a target takes more.
+    TakesMore(ObjectId, bool),
+    /// The first target holds these requests.
+    Holds(&'static [ObjectId]),
+    /// What is no target takes and holds nothing.
+    IsNone(ObjectId),
+    /// Whether a request is sent.
+    Sent(ObjectId, bool),
+    /// Whether a request is forgotten.
+    Forgotten(ObjectId, bool),
+    /// Whether the target is still to be done with a request.
+    Undone(ObjectId, bool),
+    /// The status with which the routine of a request is due.
+    Routine(ObjectId, Option<Status>),
 }
 
 /// A target takes requests while it isn't stopped and holds fewer than its depth. What is no target
 /// takes none.
-#[test]
-fn a_target_takes_what_it_has_room_for(rt: HostRuntime) -> Result<(), Fail> {
-    let mut targets = opening(rt.alloc())?;
-    for t in [ObjectId(0), DEVICE, ObjectId(5), ObjectId(77)] {
-        assert!(rt; !targets.takes_more(t));
-        assert_eq!(rt; targets.pending(t), 0);
-    }
-    assert!(rt; send(&mut targets, FIRST, 12, false));
-    assert!(rt; targets.takes_more(FIRST));
-    assert!(rt; send(&mut targets, FIRST, 10, true));
-    assert!(rt; !targets.takes_more(FIRST));
-    assert!(rt; !send(&mut targets, FIRST, 11, false));
-    assert!(rt; holds(&targets, Some(OTHER), Some(ONE)));
-    assert!(rt; targets.takes_more(SECOND));
-    targets.stop(SECOND);
-    assert!(rt; !send(&mut targets, SECOND, 11, false));
-    assert!(rt; !targets.is_sent(THIRD));
-    targets.start(SECOND);
-    assert!(rt; send(&mut targets, SECOND, 11, false));
-    assert!(rt; targets.is_sent(THIRD));
-    assert!(rt; !targets.takes_more(SECOND));
-    Ok(())
-}
+static TAKEN: [Act; 19] = [
+    Act::IsNone(ObjectId(0)),
+    Act::IsNone(DEVICE),
+    Act::IsNone(ObjectId(5)),
+    Act::IsNone(ObjectId(77)),
+    Act::Send(FIRST, ONE, false, true),
+    Act::TakesMore(FIRST, true),
+    Act::Send(FIRST, OTHER, true, true),
+    Act::TakesMore(FIRST, false),
+    Act::Send(FIRST, THIRD, false, false),
+    Act::Holds(&[OTHER, ONE]),
+    Act::TakesMore(SECOND, true),
+    Act::Stop(SECOND),
+    Act::Send(SECOND, THIRD, false, false),
+    Act::Sent(THIRD, false),
+    Act::Start(SECOND),
+    Act::Send(SECOND, THIRD, false, true),
+    Act::Sent(THIRD, true),
+    Act::TakesMore(SECOND, false),
+    Act::Holds(&[OTHER, ONE]),
+];
 
 /// A target holds a request with which it is done until the completion routine starts. One that is
 /// forgotten has no routine, and leaves at once.
-#[test]
-fn what_is_done_comes_back(rt: HostRuntime) -> Result<(), Fail> {
-    let mut targets = opening(rt.alloc())?;
-    assert!(rt; send(&mut targets, FIRST, 12, false));
-    assert!(rt; send(&mut targets, FIRST, 10, true));
-    assert!(rt; !targets.is_forgotten(ONE));
-    assert!(rt; targets.is_forgotten(OTHER));
-    assert!(rt; targets.is_undone(ONE));
-    assert_eq!(rt; targets.routine_due(ONE), None);
-    targets.done(ONE, Status::Cancelled);
-    assert!(rt; !targets.is_undone(ONE));
-    assert_eq!(rt; targets.routine_due(ONE), Some(Status::Cancelled));
-    assert!(rt; holds(&targets, Some(OTHER), Some(ONE)));
-    targets.done(OTHER, Status::Success);
-    assert_eq!(rt; targets.routine_due(OTHER), None);
-    assert!(rt; !targets.is_sent(OTHER));
-    assert!(rt; holds(&targets, Some(ONE), None));
-    targets.back(ONE);
-    assert!(rt; !targets.is_sent(ONE));
-    assert!(rt; holds(&targets, None, None));
-    Ok(())
+static DONE: [Act; 17] = [
+    Act::Send(FIRST, ONE, false, true),
+    Act::Send(FIRST, OTHER, true, true),
+    Act::Forgotten(ONE, false),
+    Act::Forgotten(OTHER, true),
+    Act::Undone(ONE, true),
+    Act::Routine(ONE, None),
+    Act::Done(ONE, Status::Cancelled),
+    Act::Undone(ONE, false),
+    Act::Routine(ONE, Some(Status::Cancelled)),
+    Act::Holds(&[OTHER, ONE]),
+    Act::Done(OTHER, Status::Success),
+    Act::Routine(OTHER, None),
+    Act::Sent(OTHER, false),
+    Act::Holds(&[ONE]),
+    Act::Back(ONE),
+    Act::Sent(ONE, false),
+    Act::Holds(&[]),
+];
+
+/// Sends a request that no target holds; whether the target takes it.
+fn sends(targets: &mut Targets, t: ObjectId, r: ObjectId, forget: bool) -> bool
+    ensures { length targets.new.targets ≡ length targets.old.targets }
+{
+    r.0 < OBJECTS && !targets.is_sent(r) && targets.send(t, r, forget)
+}
+
+/// Whether the requests of the first target are these.
+fn holds(targets: &Targets, due: &[ObjectId]) -> bool {
+    let mut at = 0;
+    for r in due {
+        if at >= targets.pending(FIRST) || targets.sent_at(FIRST, at).request != *r {
+            return false;
+        }
+        at += 1;
+    }
+    at == targets.pending(FIRST)
+}
+
+/// Whether what is read of the targets is as due.
+fn is_so(targets: &Targets, act: Act) -> bool {
+    match act {
+        Act::TakesMore(t, due) => targets.takes_more(t) == due,
+        Act::Holds(due) => holds(targets, due),
+        Act::IsNone(t) => !targets.takes_more(t) && targets.pending(t) == 0,
+        Act::Sent(r, due) => targets.is_sent(r) == due,
+        Act::Forgotten(r, due) => targets.is_forgotten(r) == due,
+        Act::Undone(r, due) => targets.is_undone(r) == due,
+        Act::Routine(r, due) => targets.routine_due(r) == due,
+        _ => false,
+    }
+}
+
+/// Does an act; whether it may come, and the answer is the due one.
+fn does(targets: &mut Targets, act: Act) -> bool
+    requires { length targets.old.targets ≡ 5 }
+    ensures { length targets.new.targets ≡ 5 }
+{
+    match act {
+        Act::Send(t, r, forget, due) => return sends(targets, t, r, forget) == due,
+        Act::Stop(t) if t.0 < 5 => targets.stop(t),
+        Act::Start(t) if t.0 < 5 => targets.start(t),
+        Act::Done(r, status) => targets.done(r, status),
+        Act::Back(r) => targets.back(r),
+        _ => return is_so(targets, act),
+    }
+    true
+}
+
+/// The place of the first act that isn't as due.
+fn first_wrong(targets: &mut Targets, acts: &[Act]) -> Option<usize>
+    requires { length targets.old.targets ≡ 5 }
+{
+    'all: for at in 0..acts.len() {
+        if !does(targets, acts[at]) {
+            return Some(at);
+        }
+    }
+    None
+}
+
+/// The same in what is made for it.
+fn wrong_in(mut targets: Targets, acts: &[Act]) -> Option<usize>
+    requires { length targets.targets ≡ 5 }
+{
+    first_wrong(&mut targets, acts)
+}
+
+/// What is wrong in the cases, after the opening of the plan with targets, which declares four
+/// objects.
+pub fn wrong(alloc: Global, plan: &Plan) -> Result<Wrong, Memory> {
+    if plan.declared_len() != 4 {
+        return Ok(Some(("a plan with targets", 0)));
+    }
+    for (name, acts) in [("taken", TAKEN.as_slice()), ("done", DONE.as_slice())] {
+        let wrong = match Targets::make(alloc, plan) {
+            Ok(targets) => wrong_in(targets, acts),
+            Err(memory) => return Err(memory),
+        };
+        if let Some(place) = wrong {
+            return Ok(Some((name, place)));
+        }
+    }
+    Ok(None)
 }

@@ -11,3 +11,5 @@ mod plans;
 mod queues;
 #[cfg(test)]
 mod requests;
+#[cfg(test)]
+mod trials;

@@ -1,6 +1,6 @@
 //! A plan with a device and three queues.
 
-ghost use Rattle.std.specs.Prelude.{◌≡◌, IfOk, length};
+ghost use Rattle.std.specs.Prelude.{◌<◌};
 
 use std::alloc::Global;
 use wdf_base::{
@@ -35,40 +35,60 @@ fn queue(name: u32, dispatch: DispatchKind) -> Declared {
     })
 }
 
-/// Two posts.
-fn posts(alloc: Global) -> Result<Items<PostLine, MANY>, Memory> {
-    let device = Handle {
-        id: DEVICE,
-        name: 2,
-    };
-    let line = PostLine {
-        tick: 0,
-        post: Post::Read { device, length: 16 },
-        line: 9,
-    };
-    let mut posts = Items::new(alloc);
-    posts.push(line)?;
-    posts.push(line)?;
-    Ok(posts)
+fn items<T: Copy + Drop, const CEILING: u64>(
+    alloc: Global,
+    all: &[T],
+) -> Result<Items<T, CEILING>, Memory>
+    requires { 100 < CEILING }
+{
+    let mut items = Items::new(alloc);
+    for item in all {
+        if items.len() < 99 {
+            match items.push(*item) {
+                Ok(()) => {}
+                Err(error) => return Err(error),
+            }
+        }
+    }
+    Ok(items)
 }
 
-/// The driver object, a device, a queue of each kind, of which the parallel one takes two; and two
-/// posts of agent 0.
-pub(crate) fn plan(alloc: Global) -> Result<Plan, Memory>
-    ensures { IfOk result (λ plan. length plan.declared ≡ 5) }
-{
-    let mut builder = PlanBuilder::new(alloc, 1, 99, 9);
-    builder.declared(Declared::Driver)?;
-    builder.declared(Declared::Device(DeviceInfo {
+/// The driver object, a device, a queue of each kind, of which the parallel one takes two.
+fn declared(alloc: Global) -> Result<Items<Declared, MANY>, Memory> {
+    let device = Declared::Device(DeviceInfo {
         name: 2,
         working: true,
         scope: Scope::Unscoped,
         level: ExecutionLevel::Dispatch,
-    }))?;
-    builder.declared(queue(3, DispatchKind::Sequential))?;
-    builder.declared(queue(4, DispatchKind::Parallel(2)))?;
-    builder.declared(queue(5, DispatchKind::Manual))?;
-    let mut plan = builder.finish();
-    plan.pnp = posts(alloc)?;
+    });
+    let all = [
+        Declared::Driver,
+        device,
+        queue(3, DispatchKind::Sequential),
+        queue(4, DispatchKind::Parallel(2)),
+        queue(5, DispatchKind::Manual),
+    ];
+    items(alloc, &all)
+}
+
+const LINE: PostLine = PostLine {
+    tick: 0,
+    post: Post::Read {
+        device: Handle {
+            id: DEVICE,
+            name: 2,
+        },
+        length: 16,
+    },
+    line: 9,
+};
+
+/// The plan of these objects, and of two posts of agent 0.
+pub(crate) fn plan(alloc: Global) -> Result<Plan, Memory> {
+    let declared = declared(alloc)?;
+    let posts = items(alloc, &[LINE, LINE])?;
+    let mut plan = PlanBuilder::new(alloc, 1, 99, 9).finish();
+    plan.declared = declared;
+    plan.pnp = posts;
     Ok(plan)
 }

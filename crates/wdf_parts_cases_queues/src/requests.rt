@@ -1,6 +1,7 @@
-use crate::plans::plan;
-use std::test::Fail;
-use wdf_base::{Mark, ObjectId, Place, RequestForm, RequestInfo, Status};
+//! Requests: their places, their marks, and what is kept of all of them.
+use crate::trials::Wrong;
+use std::alloc::Global;
+use wdf_base::{Mark, Memory, ObjectId, Place, Plan, RequestForm, RequestInfo, Status};
 use wdf_model::{EVENTS, OBJECTS};
 use wdf_request::Requests;
 
@@ -28,19 +29,72 @@ const READ: RequestInfo = RequestInfo {
     received: false,
 };
 
-/// An act on the request, with what it answers.
+/// What happens to the requests, with the answer that is due.
 #[derive(Clone, Copy)]
 enum Act {
+    /// A request arrives in the queue, with its number among the arrivals.
+    Arrive(ObjectId, u32),
+    /// The request moves.
     To(Place),
     Mark(Status),
     Unmark(Status),
     Cancel,
     TakeCancel,
     Complete,
+    /// A request is forgotten.
+    Forget(ObjectId),
+    /// This holds.
+    Is(Fact),
 }
 
-/// Does an act, and says whether the request is there and it answers as told.
-fn does(requests: &mut Requests, act: Act) -> bool {
+/// What is read of the requests, with the answer that is due.
+#[derive(Clone, Copy)]
+enum Fact {
+    /// Whether the request returns to the queue, is sent to the target, and is closing.
+    Counts(bool, bool, bool),
+    /// Whether the request isn't finished.
+    Open(bool),
+    /// The request of an agent with a number among its arrivals.
+    Arrival(u16, u32, Option<ObjectId>),
+    /// The place of the request.
+    At(Place),
+    /// How many ids there are.
+    Len(u32),
+}
+
+/// Whether the request is counted in these.
+fn is_counted(requests: &Requests, returning: bool, sent: bool, closing: bool) -> bool {
+    requests.returns_to(QUEUE) == returning
+        && !requests.returns_to(OTHER)
+        && requests.sent_to(TARGET) == sent
+        && requests.closing_len() == u32::from(closing)
+        && requests.closing_at(0).is_some() == closing
+        && requests.next_closing(REQUEST).is_some() == closing
+        && requests.next_closing(ObjectId(11)).is_none()
+}
+
+/// Whether a fact holds.
+fn holds(requests: &Requests, fact: Fact) -> bool {
+    match fact {
+        Fact::Counts(returning, sent, closing) => is_counted(requests, returning, sent, closing),
+        Fact::Open(due) => { requests.unfinished_at(DEVICE) == due && requests.some_open() == due }
+        Fact::Arrival(agent, k, due) => requests.arrival_of(agent, k) == due,
+        Fact::At(due) => requests.request(REQUEST).place == due,
+        Fact::Len(due) => requests.len() == due,
+    }
+}
+
+/// A request arrives with a number, if there is room; whether there is.
+fn arrives(requests: &mut Requests, id: ObjectId, arrival: u32) -> bool {
+    let room = id.0 < OBJECTS && requests.arrived() < EVENTS;
+    if room {
+        requests.arrive(id, Place::Queued(QUEUE), RequestInfo { arrival, ..READ });
+    }
+    room
+}
+
+/// Does an act on the request; whether it is there, and the answer is the due one.
+fn does_to_it(requests: &mut Requests, act: Act) -> bool {
     if requests.len() <= REQUEST.0 {
         return false;
     }
@@ -51,11 +105,35 @@ fn does(requests: &mut Requests, act: Act) -> bool {
         Act::Cancel => requests.cancel(REQUEST),
         Act::TakeCancel => requests.take_cancel(REQUEST),
         Act::Complete => requests.complete(REQUEST),
+        _ => return false,
     }
     true
 }
 
-/// What a request that waited in the queue has come to after some acts.
+/// Does an act; whether it may come, and the answer is the due one.
+fn does(requests: &mut Requests, act: Act) -> bool {
+    match act {
+        Act::Arrive(id, arrival) => arrives(requests, id, arrival),
+        Act::Forget(id) => {
+            requests.forget(id);
+            true
+        }
+        Act::Is(fact) => holds(requests, fact),
+        _ => does_to_it(requests, act),
+    }
+}
+
+/// The place of the first act that isn't as due.
+fn first_wrong(requests: &mut Requests, acts: &[Act]) -> Option<usize> {
+    for (place, act) in acts.iter().enumerate() {
+        if !does(requests, *act) {
+            return Some(place);
+        }
+    }
+    None
+}
+
+/// What the request that waited in the queue has come to after some acts.
 struct Case {
     acts: &'static [Act],
     place: Place,
@@ -64,6 +142,8 @@ struct Case {
     origin: Option<ObjectId>,
 }
 
+const ARRIVED: Act = Act::Arrive(REQUEST, 2);
+
 const PRESENTED: Act = Act::To(Place::Owned);
 
 const MARKED: Act = Act::Mark(Status::Success);
@@ -71,7 +151,7 @@ const MARKED: Act = Act::Mark(Status::Success);
 static CASES: [Case; 10] = [
     // it becomes Owned from a queue, which is its origin
     Case {
-        acts: &[PRESENTED],
+        acts: &[ARRIVED, PRESENTED],
         place: Place::Owned,
         mark: Mark::Unmarked,
         cancelled: false,
@@ -79,7 +159,7 @@ static CASES: [Case; 10] = [
     },
     // marked, then unmarked
     Case {
-        acts: &[PRESENTED, MARKED, Act::Unmark(Status::Success)],
+        acts: &[ARRIVED, PRESENTED, MARKED, Act::Unmark(Status::Success)],
         place: Place::Owned,
         mark: Mark::Unmarked,
         cancelled: false,
@@ -87,7 +167,11 @@ static CASES: [Case; 10] = [
     },
     // none was marked
     Case {
-        acts: &[PRESENTED, Act::Unmark(Status::InvalidDeviceRequest)],
+        acts: &[
+            ARRIVED,
+            PRESENTED,
+            Act::Unmark(Status::InvalidDeviceRequest),
+        ],
         place: Place::Owned,
         mark: Mark::Unmarked,
         cancelled: false,
@@ -96,6 +180,7 @@ static CASES: [Case; 10] = [
     // a cancelled cancelable request has EvtRequestCancel due, and can't be unmarked
     Case {
         acts: &[
+            ARRIVED,
             PRESENTED,
             MARKED,
             Act::Cancel,
@@ -108,7 +193,7 @@ static CASES: [Case; 10] = [
     },
     // EvtRequestCancel starts
     Case {
-        acts: &[PRESENTED, MARKED, Act::Cancel, Act::TakeCancel],
+        acts: &[ARRIVED, PRESENTED, MARKED, Act::Cancel, Act::TakeCancel],
         place: Place::Owned,
         mark: Mark::Taken,
         cancelled: true,
@@ -116,7 +201,12 @@ static CASES: [Case; 10] = [
     },
     // a cancelled request doesn't become cancelable
     Case {
-        acts: &[PRESENTED, Act::Cancel, Act::Mark(Status::Cancelled)],
+        acts: &[
+            ARRIVED,
+            PRESENTED,
+            Act::Cancel,
+            Act::Mark(Status::Cancelled),
+        ],
         place: Place::Owned,
         mark: Mark::Unmarked,
         cancelled: true,
@@ -124,7 +214,7 @@ static CASES: [Case; 10] = [
     },
     // the mark is none again where it enters a queue; the origin stays until it is Owned again
     Case {
-        acts: &[PRESENTED, MARKED, Act::To(Place::Queued(OTHER))],
+        acts: &[ARRIVED, PRESENTED, MARKED, Act::To(Place::Queued(OTHER))],
         place: Place::Queued(OTHER),
         mark: Mark::Unmarked,
         cancelled: false,
@@ -132,7 +222,13 @@ static CASES: [Case; 10] = [
     },
     // the mark is none again where it is sent; back from the target it keeps its origin
     Case {
-        acts: &[PRESENTED, MARKED, Act::To(Place::Sent(TARGET)), PRESENTED],
+        acts: &[
+            ARRIVED,
+            PRESENTED,
+            MARKED,
+            Act::To(Place::Sent(TARGET)),
+            PRESENTED,
+        ],
         place: Place::Owned,
         mark: Mark::Unmarked,
         cancelled: false,
@@ -140,7 +236,12 @@ static CASES: [Case; 10] = [
     },
     // a returning request becomes Owned from the queue that its place names
     Case {
-        acts: &[PRESENTED, Act::To(Place::Returning(OTHER)), PRESENTED],
+        acts: &[
+            ARRIVED,
+            PRESENTED,
+            Act::To(Place::Returning(OTHER)),
+            PRESENTED,
+        ],
         place: Place::Owned,
         mark: Mark::Unmarked,
         cancelled: false,
@@ -148,7 +249,7 @@ static CASES: [Case; 10] = [
     },
     // it is completed
     Case {
-        acts: &[PRESENTED, Act::Complete],
+        acts: &[ARRIVED, PRESENTED, Act::Complete],
         place: Place::Done,
         mark: Mark::Unmarked,
         cancelled: false,
@@ -156,87 +257,120 @@ static CASES: [Case; 10] = [
     },
 ];
 
-#[test]
-fn requests_move(rt: HostRuntime) -> Result<(), Fail> {
-    let plan = plan(rt.alloc())?;
-    for case in &CASES {
-        let mut requests = Requests::make(rt.alloc(), &plan)?;
-        requests.arrive(REQUEST, Place::Queued(QUEUE), READ);
-        for act in case.acts {
-            assert!(rt; does(&mut requests, *act));
-        }
-        let info = requests.info(REQUEST);
-        assert_eq!(rt; requests.place(REQUEST), case.place);
-        assert_eq!(rt; info.mark, case.mark);
-        assert_eq!(rt; info.cancelled, case.cancelled);
-        assert_eq!(rt; info.origin, case.origin);
-        assert!(rt; info.received);
-        assert_eq!(rt; requests.arrived(), 1);
-    }
-    Ok(())
+/// Whether the request is as the case says.
+fn is_as(requests: &Requests, case: &Case) -> bool {
+    let info = requests.info(REQUEST);
+    requests.place(REQUEST) == case.place
+        && info.mark == case.mark
+        && info.cancelled == case.cancelled
+        && info.origin == case.origin
+        && info.received
+        && requests.arrived() == 1
 }
 
 /// What is kept of all requests follows each move.
-#[test]
-fn counts_follow(rt: HostRuntime) -> Result<(), Fail> {
-    let plan = plan(rt.alloc())?;
-    let mut requests = Requests::make(rt.alloc(), &plan)?;
-    assert!(rt; requests.is_empty());
-    requests.arrive(REQUEST, Place::Queued(QUEUE), READ);
-    for (place, returning, sent, closing) in [
-        (Place::Queued(QUEUE), false, false, false),
-        (Place::Returning(QUEUE), true, false, false),
-        (Place::Sent(TARGET), false, true, false),
-        (Place::Closing(Status::Cancelled), false, false, true),
-        (Place::Owned, false, false, false),
-    ] {
-        assert!(rt; does(&mut requests, Act::To(place)));
-        assert_eq!(rt; requests.returns_to(QUEUE), returning);
-        assert!(rt; !requests.returns_to(OTHER));
-        assert_eq!(rt; requests.sent_to(TARGET), sent);
-        assert_eq!(rt; requests.closing_len(), u32::from(closing));
-        assert_eq!(rt; requests.closing_at(0).is_some(), closing);
-        assert_eq!(rt; requests.next_closing(REQUEST).is_some(), closing);
-        assert_eq!(rt; requests.next_closing(ObjectId(11)), None);
-        assert!(rt; requests.unfinished_at(DEVICE));
-        assert!(rt; requests.some_open());
-    }
-    assert!(rt; does(&mut requests, Act::Complete));
-    assert!(rt; !requests.unfinished_at(DEVICE));
-    assert!(rt; !requests.some_open());
-    Ok(())
-}
-
-/// A request arrives with a number, if there is room.
-fn arrives(requests: &mut Requests, id: ObjectId, arrival: u32) {
-    if id.0 < OBJECTS && requests.arrived() < EVENTS {
-        requests.arrive(id, Place::Queued(QUEUE), RequestInfo { arrival, ..READ });
-    }
-}
+static MOVES: [Act; 18] = [
+    Act::Arrive(REQUEST, 2),
+    Act::To(Place::Queued(QUEUE)),
+    Act::Is(Fact::Counts(false, false, false)),
+    Act::Is(Fact::Open(true)),
+    Act::To(Place::Returning(QUEUE)),
+    Act::Is(Fact::Counts(true, false, false)),
+    Act::Is(Fact::Open(true)),
+    Act::To(Place::Sent(TARGET)),
+    Act::Is(Fact::Counts(false, true, false)),
+    Act::Is(Fact::Open(true)),
+    Act::To(Place::Closing(Status::Cancelled)),
+    Act::Is(Fact::Counts(false, false, true)),
+    Act::Is(Fact::Open(true)),
+    Act::To(Place::Owned),
+    Act::Is(Fact::Counts(false, false, false)),
+    Act::Is(Fact::Open(true)),
+    Act::Complete,
+    Act::Is(Fact::Open(false)),
+];
 
 /// A request is found by its number among the agent's arrivals, until it is forgotten; also past
 /// the agent's lines, and where a number came twice.
-#[test]
-fn arrivals_are_found(rt: HostRuntime) -> Result<(), Fail> {
-    let plan = plan(rt.alloc())?;
-    let mut requests = Requests::make(rt.alloc(), &plan)?;
-    requests.arrive(REQUEST, Place::Queued(QUEUE), READ);
-    for (arrival, id) in [(1, 11), (9, 12), (1, 13)] {
-        arrives(&mut requests, ObjectId(id), arrival);
-        assert_eq!(rt; requests.arrival_of(0, 2), Some(REQUEST));
+static ARRIVALS: [Act; 20] = [
+    Act::Arrive(REQUEST, 2),
+    Act::Arrive(ObjectId(11), 1),
+    Act::Is(Fact::Arrival(0, 2, Some(REQUEST))),
+    Act::Arrive(ObjectId(12), 9),
+    Act::Is(Fact::Arrival(0, 2, Some(REQUEST))),
+    Act::Arrive(ObjectId(13), 1),
+    Act::Is(Fact::Arrival(0, 2, Some(REQUEST))),
+    Act::Is(Fact::Arrival(0, 1, Some(ObjectId(11)))),
+    Act::Is(Fact::Arrival(0, 9, Some(ObjectId(12)))),
+    Act::Is(Fact::Arrival(0, 0, None)),
+    Act::Is(Fact::Arrival(0, 3, None)),
+    Act::Is(Fact::Arrival(1, 2, None)),
+    Act::Forget(REQUEST),
+    Act::Is(Fact::Arrival(0, 2, Some(REQUEST))),
+    Act::Complete,
+    Act::Forget(REQUEST),
+    Act::Is(Fact::Arrival(0, 2, None)),
+    Act::Is(Fact::At(Place::Done)),
+    Act::Forget(ObjectId(77)),
+    Act::Is(Fact::Len(14)),
+];
+
+/// What is wrong where no request came before: the place of an act that isn't as due, or the number
+/// of acts where the request isn't as the case says after them.
+fn wrong_in(mut requests: Requests, acts: &[Act], due: Option<&Case>) -> Option<usize> {
+    if !requests.is_empty() {
+        return Some(0);
     }
-    assert_eq!(rt; requests.arrival_of(0, 1), Some(ObjectId(11)));
-    assert_eq!(rt; requests.arrival_of(0, 9), Some(ObjectId(12)));
-    for (agent, k) in [(0, 0), (0, 3), (1, 2)] {
-        assert_eq!(rt; requests.arrival_of(agent, k), None);
+    match (first_wrong(&mut requests, acts), due) {
+        (None, Some(case)) if !is_as(&requests, case) => Some(acts.len()),
+        (wrong, _) => wrong,
     }
-    requests.forget(REQUEST);
-    assert_eq!(rt; requests.arrival_of(0, 2), Some(REQUEST));
-    assert!(rt; does(&mut requests, Act::Complete));
-    requests.forget(REQUEST);
-    assert_eq!(rt; requests.arrival_of(0, 2), None);
-    assert_eq!(rt; requests.request(REQUEST).place, Place::Done);
-    requests.forget(ObjectId(77));
-    assert_eq!(rt; requests.len(), 14);
-    Ok(())
+}
+
+/// What is wrong with these acts.
+fn wrong_of(
+    alloc: Global,
+    plan: &Plan,
+    acts: &[Act],
+    due: Option<&Case>,
+) -> Result<Option<usize>, Memory> {
+    match Requests::make(alloc, plan) {
+        Ok(requests) => Ok(wrong_in(requests, acts, due)),
+        Err(memory) => Err(memory),
+    }
+}
+
+/// What is wrong in the cases of the one request: the number of the case.
+fn wrong_of_one(alloc: Global, plan: &Plan) -> Result<Wrong, Memory> {
+    for (number, case) in CASES.iter().enumerate() {
+        match wrong_of(alloc, plan, case.acts, Some(case)) {
+            Ok(None) => {}
+            Ok(_) => return Ok(Some(("a request", number))),
+            Err(memory) => return Err(memory),
+        }
+    }
+    Ok(None)
+}
+
+/// What is wrong in the cases of all requests.
+fn wrong_of_all(alloc: Global, plan: &Plan) -> Result<Wrong, Memory> {
+    for (name, acts) in [
+        ("moves", MOVES.as_slice()),
+        ("arrivals", ARRIVALS.as_slice()),
+    ] {
+        match wrong_of(alloc, plan, acts, None) {
+            Ok(None) => {}
+            Ok(Some(place)) => return Ok(Some((name, place))),
+            Err(memory) => return Err(memory),
+        }
+    }
+    Ok(None)
+}
+
+/// What is wrong in the cases.
+pub fn wrong(alloc: Global, plan: &Plan) -> Result<Wrong, Memory> {
+    match wrong_of_one(alloc, plan) {
+        Ok(None) => wrong_of_all(alloc, plan),
+        wrong => wrong,
+    }
 }

@@ -1,9 +1,11 @@
-//! Tests of the tree of objects.
+//! Tests of the tree of objects, by hand-made cases.
 #![tactic(auto)]
 
 #[cfg(test)]
-mod deletion;
+mod acts;
 #[cfg(test)]
-mod making;
+mod cases;
 #[cfg(test)]
-mod scene;
+mod facts;
+#[cfg(test)]
+mod openings;

@@ -18,7 +18,7 @@ use Rattle.wdf_plan.specs.Forms.{is_app, is_class, is_device, is_object, is_regi
 use Rattle.wdf_plan.specs.Names.{place_from}
 use Rattle.wdf_plan.specs.Parts.{interrupt_info, irql_of, object_of}
 use Rattle.wdf_plan.specs.Placed.{one_more, opened_by, counted, placed_line, placed_from, placed, outside, nothing}
-use Rattle.wdf_plan.proofs.Every.{Every, every_append, every_kept, every_map, some_has}
+use Rattle.wdf_plan.proofs.Every.{Every, every_append, every_kept, some_has}
 use Rattle.wdf_plan.proofs.Gather.{IsGathered}
 use Rattle.wdf_plan.proofs.Heads.{scene_head}
 

@@ -1,4 +1,4 @@
--- What is kept of the lines of devices is what their blocks give, and what counts for a device or a queue follows from it.
+-- What is kept of the lines of devices and queues is what their blocks give, and what counts for a device or a queue follows from it.
 use Rattle.std.proofs.Common.{◌≡◌, ℕ, zero, suc, ◌+◌, Bool, true, false, cond, List, [], ◌∷◌, length, Option, Some, None, slice_get, refl, sym, ◌∙◌, arith}
 use Rattle.std.specs.Prelude.{option_and_then}
 use Rattle.std.specs.Option.{option_or, unwrap_or}
@@ -12,9 +12,8 @@ use Rattle.wdf_scene.specs.declared.scene.Scene.{Scene}
 use Rattle.wdf_plan.specs.declared.heritage.Given.{Given}
 use Rattle.wdf_plan.specs.declared.placed.Counts.{Counts}
 use Rattle.wdf_plan.specs.declared.placed.Stand.{Stand}
-use Rattle.wdf_plan.specs.Forms.{is_device}
 use Rattle.wdf_plan.specs.Blocks.{given_level, given_scope, effective_level, effective_scope}
-use Rattle.wdf_plan.specs.Heritage.{given_in, driver_given, kept_of, effective, IsKept}
+use Rattle.wdf_plan.specs.Heritage.{given_in, driver_given, has_level, kept_of, effective, IsKept}
 use Rattle.wdf_plan.specs.Placed.{outside, nothing, counted, opened_by, placed_from, placed}
 
 kept_here : (scene : Scene) (k : ℕ) (b : Bool) (g : Given) → Some (cond b (Some (given_in scene k)) None) ≡ Some (Some g) → g ≡ given_in scene k
@@ -26,15 +25,15 @@ unfolding placed_from kept_of
 kept_from scene k o c [] n m g i e = absurd (let z : ⊥ = cc in z)
 kept_from scene k o c (l ∷ ls) zero m g i e =
     let here : m ≡ k = omega arith in
-    rw here (kept_here scene k (is_device l.form) g e)
+    rw here (kept_here scene k (has_level l.form) g e)
 kept_from scene k o c (l ∷ ls) (suc n) m g i e =
     kept_from scene (suc k) (opened_by o k l.form) (counted c l.form (length l.picks)) ls n m g (omega arith) e
 
--- what is kept of a device is what its block gives
-pub kept_right : (scene : Scene) (devices : List (Option Given)) (driver : Given) (n : ℕ) (g : Given) → IsKept scene devices driver → Some (Some g) ≡ slice_get devices n → g ≡ given_in scene n
+-- what is kept of a block is what its lines give
+pub kept_right : (scene : Scene) (blocks : List (Option Given)) (driver : Given) (n : ℕ) (g : Given) → IsKept scene blocks driver → Some (Some g) ≡ slice_get blocks n → g ≡ given_in scene n
 unfolding placed
-kept_right scene devices driver n g h e =
-    kept_from scene 0 outside nothing scene.lines n n g (omega arith) (rw h.of_devices at (sym e))
+kept_right scene blocks driver n g h e =
+    kept_from scene 0 outside nothing scene.lines n n g (omega arith) (rw h.of_blocks at (sym e))
 
 or_or : {T : Type 0} (a b c : Option T) → option_or (option_or a b) c ≡ option_or a (option_or b c)
 or_or None b c = refl

@@ -1,6 +1,6 @@
 -- The items of a plan in which nothing was refused fit their types.
-use Rattle.std.proofs.Common.{◌≡◌, ℕ, zero, suc, ◌+◌, ◌<◌, ◌≤◌, ◌^◌, Bool, true, false, ◌&&◌, nat_le, nat_lt, cond, List, [], ◌∷◌, ◌++◌, drop, length, Option, Some, None, slice_get, option_map, IfSome, refl, sym, ap, subst, ◌∙◌, arith, length-append}
-use Rattle.std.proofs.lemmas.Bool.{and_parts, eqb-true, leb-true, ltb-true, not-false}
+use Rattle.std.proofs.Common.{◌≡◌, ℕ, suc, ◌+◌, ◌<◌, ◌≤◌, ◌^◌, Bool, true, ◌&&◌, nat_le, nat_lt, List, [], ◌∷◌, length, Option, Some, None, slice_get, option_map, refl, arith, length-append}
+use Rattle.std.proofs.lemmas.Bool.{and_parts, eqb-true, leb-true, ltb-true}
 use Rattle.std.proofs.lemmas.Option.{slice_get_within}
 use Rattle.std.specs.List.{filter_map, list_all, list_any}
 use Rattle.std.specs.Prelude.{◌==◌}
@@ -14,7 +14,6 @@ use Rattle.wdf_base.specs.declared.rank.Owner.{Owner}
 use Rattle.wdf_base.specs.declared.rank.Owner.TheVariants as owner
 use Rattle.wdf_base.specs.declared.script.Act.{Act}
 use Rattle.wdf_base.specs.declared.script.Act.TheVariants as act
-use Rattle.wdf_base.specs.declared.script.AgentInfo.{AgentInfo}
 use Rattle.wdf_base.specs.declared.script.ArgNode.{ArgNode}
 use Rattle.wdf_base.specs.declared.script.ArgNode.TheVariants as node_arg
 use Rattle.wdf_base.specs.declared.script.ExprNode.{ExprNode}
@@ -26,7 +25,7 @@ use Rattle.wdf_base.specs.declared.signature.Sort.TheVariants as sort
 use Rattle.wdf_base.specs.Callbacks.{row_of}
 use Rattle.wdf_base.specs.Calls.{signature_of}
 use Rattle.wdf_base.specs.Kinds.{class_kind}
-use Rattle.wdf_base.specs.Resolved.{is_from, is_variable, is_answer_place, is_expr, is_register, arg_fits, act_fits, statement_fits, owner_fits, script_fits, node_fits, nodes_fit, device_name, target_name, posting_names, app_count}
+use Rattle.wdf_base.specs.Resolved.{is_variable, is_answer_place, is_expr, is_register, arg_fits, act_fits, statement_fits, owner_fits, script_fits, node_fits, nodes_fit, device_name, target_name, posting_names, app_count}
 use Rattle.wdf_base.specs.Same.{same_irql, same_kind, same_object_id, same_option}
 use Rattle.wdf_base.specs.SamePlan.{same_declared}
 use Rattle.wdf_plan.specs.Fitting.{Every, IsFitAct, IsFitArgument, IsFitDeclared, IsFitNode, IsFitPlace, IsFitScript, IsFitStatement}

@@ -9,6 +9,7 @@ pub mod Complete
 pub mod Completeness
 pub mod Counting
 pub mod Courses
+pub mod Detours
 pub mod DeviceItems
 pub mod DevicePosts
 pub mod Devices

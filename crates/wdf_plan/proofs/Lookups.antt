@@ -1,11 +1,12 @@
 -- Declarations that are found from the place of the first one of their name.
-use Rattle.std.proofs.Common.{◌≡◌, ℕ, suc, ◌+◌, Bool, true, false, cond, List, [], ◌∷◌, ◌++◌, length, drop, slice_get, find, Option, Some, None, refl, sym, arith}
+use Rattle.std.proofs.Common.{◌≡◌, ℕ, zero, suc, ◌+◌, Bool, true, false, cond, List, [], ◌∷◌, ◌++◌, length, drop, slice_get, find, Option, Some, None, refl, sym, arith}
+use Rattle.std.specs.Option.{is_some}
 use Rattle.std.specs.Str.{bytes_eq}
 use Rattle.indexmap.specs.IndexMap.{IndexMap, get}
 use Rattle.wdf_plan.specs.declared.declaration.Declaration.{Declaration}
 use Rattle.wdf_plan.specs.declared.declaration.Wanted.{Wanted}
-use Rattle.wdf_plan.specs.Declarations.{has_name, is_wanted, found}
-use Rattle.wdf_plan.specs.Names.{place_from, or_last, IsIndexed}
+use Rattle.wdf_plan.specs.Declarations.{has_name, is_wanted, found, stands}
+use Rattle.wdf_plan.specs.Names.{place_from, or_last, passes_at, IsIndexed}
 
 -- where the first item that passes p is, as seen by a test r that nothing passes but what passes p
 pub record IsSpot {T : Type 0} (p r : T → Bool) (xs : List T) (k j : ℕ) : Type 0 where
@@ -72,6 +73,20 @@ first_some n names j e =
     let s = spot (has_name n) (has_name n) (same_test (has_name n)) names 0 j e in
     let same : j ≡ s.skipped = omega (arith, s.is) in
     rw same (sym s.first)
+
+some_passes : {T : Type 0} (p : T → Bool) (xs : List T) (k : ℕ) → passes_at p xs k ≡ true → is_some (find p xs) ≡ true
+some_passes p [] k e = absurd (let z : ⊥ = cc in z)
+some_passes p (x ∷ xs) zero e = rw e refl
+some_passes p (x ∷ xs) (suc k) e = by_first (p x) (some_passes p xs k e)
+  where
+    by_first : (b : Bool) → is_some (find p xs) ≡ true → is_some (cond b (Some x) (find p xs)) ≡ true
+    by_first true h = refl
+    by_first false h = h
+
+-- a name stands for what a declaration anywhere is
+pub known_stands : (n : List ℕ) (w : Wanted) (names : List Declaration) (k : ℕ) → passes_at (is_wanted n w) names k ≡ true → stands names n w ≡ true
+unfolding stands found
+known_stands n w names k e = some_passes (is_wanted n w) names k e
 
 more_step : {T : Type 0} (p : T → Bool) (ys : List T) (x : T) (k : ℕ) → (place_from p (suc k) (ys ++ x ∷ []) ≡ or_last (place_from p (suc k) ys) (p x) (suc k + length ys)) → (b : Bool) → cond b (Some k) (place_from p (suc k) (ys ++ x ∷ [])) ≡ or_last (cond b (Some k) (place_from p (suc k) ys)) (p x) (k + suc (length ys))
 more_step p ys x k later true = refl

@@ -146,7 +146,7 @@ skip_body blocks k left n (Repeat h body closing tail) rest =
 -- ---- out of a block
 
 -- one open block more is left
-abbrev deeper : Course → Course
+abbrev pub deeper : Course → Course
 deeper s = record s { left = s.left + 1 }
 
 slice_left : (xs : List Nest) (x : Nest) (i : ℕ) → i < length xs → slice_get (xs ++ x ∷ []) i ≡ slice_get xs i
@@ -187,7 +187,7 @@ deeper_passed blocks x s form false e =
     rw e (ap Some (deeper_skipping s (cond (opens form) (s.skipping + 1) s.skipping) (s.number + statements_in form) (is_end form) (s.skipping == 1) (is_else form && (s.skipping == 1))))
 
 -- a way that has left the innermost block goes on as in the blocks round it
-leave : (blocks : List Nest) (x : Nest) (s : Course) (ls : List NumberedLine) → reach (blocks ++ x ∷ []) (deeper s) ls ≡ reach blocks s ls
+pub leave : (blocks : List Nest) (x : Nest) (s : Course) (ls : List NumberedLine) → reach (blocks ++ x ∷ []) (deeper s) ls ≡ reach blocks s ls
 unfolding reach
 leave blocks x s [] = refl
 leave blocks x s (l ∷ ls) =

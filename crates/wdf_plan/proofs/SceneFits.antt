@@ -1,24 +1,21 @@
 -- What a plan has of each line of a scene in which nothing is refused fits its type.
-use Rattle.std.proofs.Common.{◌≡◌, ℕ, zero, suc, ◌+◌, ◌<◌, ◌≤◌, ◌^◌, Bool, true, false, cond, nat_le, List, [], ◌∷◌, ◌++◌, drop, length, Option, Some, None, IfSome, refl, sym, ap, subst, ◌∙◌, arith}
+use Rattle.std.proofs.Common.{◌≡◌, ℕ, zero, suc, ◌+◌, ◌<◌, ◌≤◌, ◌^◌, Bool, true, false, cond, nat_le, List, [], ◌∷◌, ◌++◌, drop, length, Option, Some, None, IfSome, refl, subst, arith}
 use Rattle.std.proofs.lemmas.Bool.{and_parts, leb-true, not-false}
 use Rattle.std.specs.List.{filter_map, cons_option, flat_map, list_all}
-use Rattle.wdf_base.specs.declared.declared.Declared.{Declared}
 use Rattle.wdf_base.specs.declared.declared.Declared.TheVariants as declared
 use Rattle.wdf_base.specs.declared.script.Script.{Script}
 use Rattle.wdf_base.specs.declared.script.Statement.{Statement}
-use Rattle.wdf_base.specs.Resolved.{app_count, is_from, script_fits}
+use Rattle.wdf_base.specs.Resolved.{is_from, script_fits}
 use Rattle.wdf_scene.specs.declared.line.InterruptLevel.TheVariants as level
 use Rattle.wdf_scene.specs.declared.line.NumberedLine.{NumberedLine}
 use Rattle.wdf_scene.specs.declared.line.SceneLine.{SceneLine}
 use Rattle.wdf_scene.specs.declared.line.SceneLine.TheVariants as line
 use Rattle.wdf_scene.specs.declared.scene.Scene.{Scene}
-use Rattle.wdf_scene.specs.Written.{IsScene}
 use Rattle.wdf_plan.specs.declared.course.Nest.{Nest}
 use Rattle.wdf_plan.specs.declared.declaration.Declaration.{Declaration}
 use Rattle.wdf_plan.specs.declared.placed.Placed.{Placed}
 use Rattle.wdf_plan.specs.Blocks.{form_at}
 use Rattle.wdf_plan.specs.Declarations.{declarations}
-use Rattle.wdf_plan.specs.First.{first_refusal}
 use Rattle.wdf_plan.specs.Fitting.{CanPlan, Every, IsFitDeclared, IsFitNode, IsFitScript}
 use Rattle.wdf_plan.specs.Limits.{over_level}
 use Rattle.wdf_plan.specs.Parts.{app_agent, class_on, device_agent, interrupt_info, line_picks, object_of, object_on, target_agent}

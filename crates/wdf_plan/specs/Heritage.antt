@@ -1,12 +1,13 @@
--- What devices and the `driver` block pass on to what stands in them, as it is kept for all lines.
-use Rattle.std.specs.Prelude.{◌≡◌, ℕ, cond, List, Option, Some, None, option_and_then}
+-- What devices, queues and the `driver` block are given, as it is kept for all lines.
+use Rattle.std.specs.Prelude.{◌≡◌, ℕ, Bool, true, false, cond, List, Option, Some, None, option_and_then}
 use Rattle.std.specs.List.{filter_map}
+use Rattle.wdf_scene.specs.declared.line.SceneLine.{SceneLine}
+use Rattle.wdf_scene.specs.declared.line.SceneLine.TheVariants as line
 use Rattle.wdf_scene.specs.declared.scene.Scene.{Scene}
 use Rattle.wdf_plan.specs.declared.heritage.Given.{Given}
 use Rattle.wdf_plan.specs.declared.heritage.Effective.{Effective}
 use Rattle.wdf_plan.specs.declared.placed.Placed.{Placed}
 use Rattle.wdf_plan.specs.Blocks.{given_level, given_scope, driver_line, effective_level, effective_scope}
-use Rattle.wdf_plan.specs.Forms.{is_device}
 use Rattle.wdf_plan.specs.Placed.{placed}
 
 -- what the lines of block b give it
@@ -21,9 +22,15 @@ driver_given scene =
       scope = option_and_then (given_scope scene) (driver_line scene);
     }
 
--- what is kept of a line: of a device what its block gives
+-- a line declares what has a level and a scope
+unfoldable pub has_level : SceneLine → Bool
+has_level (line.Device n working) = true
+has_level (line.Queue n dispatch) = true
+has_level _ = false
+
+-- what is kept of a line: of a device or a queue what its block gives
 unfoldable pub kept_of : Scene → Placed → Option (Option Given)
-kept_of scene p = Some (cond (is_device p.form) (Some (given_in scene p.at)) None)
+kept_of scene p = Some (cond (has_level p.form) (Some (given_in scene p.at)) None)
 
 -- the level and the scope that count for the device or the queue of line b
 unfoldable pub effective : Scene → ℕ → Option ℕ → Effective
@@ -31,6 +38,6 @@ effective scene b device =
     record { level = effective_level scene b device; scope = effective_scope scene b device }
 
 -- what is kept is right
-pub record IsKept (scene : Scene) (devices : List (Option Given)) (driver : Given) : Type 0 where
-  pub of_devices : devices ≡ filter_map (kept_of scene) (placed scene)
+pub record IsKept (scene : Scene) (blocks : List (Option Given)) (driver : Given) : Type 0 where
+  pub of_blocks : blocks ≡ filter_map (kept_of scene) (placed scene)
   pub of_driver : driver ≡ driver_given scene

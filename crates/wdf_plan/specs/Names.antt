@@ -1,5 +1,5 @@
 -- How declarations are found by their names.
-use Rattle.std.specs.Prelude.{◌≡◌, ℕ, suc, Bool, cond, List, [], ◌∷◌, Option, Some, None}
+use Rattle.std.specs.Prelude.{◌≡◌, ℕ, suc, Bool, false, cond, List, [], ◌∷◌, Option, Some, None, slice_get}
 use Rattle.std.specs.Str.{bytes_eq}
 use Rattle.indexmap.specs.IndexMap.{IndexMap, get}
 use Rattle.wdf_plan.specs.declared.declaration.Declaration.{Declaration}
@@ -14,6 +14,10 @@ place_from test k (x ∷ xs) = cond (test x) (Some k) (place_from test (suc k) x
 abbrev pub or_last : Option ℕ → Bool → ℕ → Option ℕ
 or_last None passes at = cond passes (Some at) None
 or_last (Some k) passes at = Some k
+
+-- the item at this place passes the test
+abbrev pub passes_at : {T : Type 0} → (T → Bool) → List T → ℕ → Bool
+passes_at test xs k = elim (slice_get xs k) as (λ _. Bool) [ None ↦ false | Some x ↦ test x ]
 
 -- at each name the map has the place of its first declaration
 pub record IsIndexed {S : Type 0} (m : IndexMap (List ℕ) ℕ S) (names : List Declaration) : Type 0 where

@@ -1,5 +1,5 @@
 -- Expressions and statements with numbers.
-use Rattle.std.specs.Prelude.{Bool, true, false, ℕ, suc, ◌+◌, ◌-◌, ◌==◌, ◌&&◌, ◌≤◌, nat_lt, cond, List, [], ◌∷◌, ◌++◌, length, map, take, drop, count_by, Option, Some, None, option_map, slice_get}
+use Rattle.std.specs.Prelude.{◌≡◌, Bool, true, false, ℕ, suc, ◌+◌, ◌-◌, ◌==◌, ◌&&◌, ◌≤◌, nat_lt, cond, List, [], ◌∷◌, ◌++◌, length, map, take, drop, count_by, Option, Some, None, option_map, slice_get}
 use Rattle.std.specs.Option.{unwrap_or}
 use Rattle.std.specs.List.{cons_option}
 use Rattle.wdf_base.specs.declared.declared.Declared.{Declared}
@@ -27,6 +27,7 @@ use Rattle.wdf_scene.specs.declared.scene.Scene.{Scene}
 use Rattle.wdf_plan.specs.declared.declaration.Declaration.{Declaration}
 use Rattle.wdf_plan.specs.declared.declaration.Wanted.TheVariants as wanted
 use Rattle.wdf_plan.specs.declared.course.Course.{Course}
+use Rattle.wdf_plan.specs.declared.course.Detour.{Detour}
 use Rattle.wdf_plan.specs.declared.course.Nest.{Nest}
 use Rattle.wdf_plan.specs.declared.course.Nest.TheVariants as nest
 use Rattle.wdf_plan.specs.declared.placed.Placed.{Placed}
@@ -119,6 +120,28 @@ onward blocks n rest = reach blocks (record { skipping = 0; left = 0; number = n
 -- past the rest of the innermost block, or of its first branch
 abbrev pub beyond : List Nest → ℕ → List NumberedLine → ℕ
 beyond blocks n rest = reach blocks (record { skipping = 1; left = 0; number = n }) rest
+
+-- ---- ways that are kept
+
+-- the way from the end of the first branch of a block on, where that way leads
+abbrev pub IsDetour : List Nest → List NumberedLine → Detour → Type 0
+IsDetour blocks lines d = d.leads ≡ onward blocks d.number (drop d.at lines)
+
+-- each open block from the k-th on, from the outermost inwards, has its own
+abbrev pub AreDetours : ℕ → List Nest → List NumberedLine → List Detour → Type 0
+AreDetours k blocks lines [] = Unit {0}
+AreDetours k blocks lines (d ∷ ds) =
+    IsDetour (take (suc k) blocks) lines d × AreDetours (suc k) blocks lines ds
+
+-- the end of a way that is at this line, if it is one that is kept
+abbrev pub known_end : Course → ℕ → Option Detour → Option ℕ
+known_end way at None = None
+known_end way at (Some d) =
+    cond ((d.at == at) && (d.number == way.number)) (Some d.leads) None
+
+unfoldable pub shortcut : List Nest → List Detour → Course → ℕ → Option ℕ
+shortcut blocks detours way at =
+    cond ((way.skipping == 0) && nat_lt way.left (length blocks)) (known_end way at (slice_get detours (length blocks - suc way.left))) None
 
 -- ---- statements
 

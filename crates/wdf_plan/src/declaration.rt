@@ -36,7 +36,7 @@ pub struct Declaration {
 }
 
 /// What a place in the text needs a name to stand for.
-#[derive(Clone, Copy, Debug, PartialEq, Eq)]
+#[derive(Clone, Copy, Debug, PartialEq, Eq, Hash)]
 pub enum Wanted {
     Anything,
     Device,
@@ -144,6 +144,32 @@ impl Declaration {
                 matches!(self.thing, Thing::Interrupt) && same_line(self.device, device)
             }
             Wanted::ClassOf(kind) => self.thing.is_class_of(kind),
+        }
+    }
+
+    /// What a place in the text can need that it is, besides anything. Some are named again, so that all things have as many.
+    pub fn uses(&self) -> [Wanted; 3] {
+        let device = self.device;
+        match self.thing {
+            Thing::Device => [Wanted::Device, Wanted::Object, Wanted::Parent],
+            Thing::Queue => [Wanted::Object, Wanted::Parent, Wanted::Parent],
+            Thing::Interrupt => [
+                Wanted::Object,
+                Wanted::InterruptOf(device),
+                Wanted::InterruptOf(device),
+            ],
+            Thing::Target => [Wanted::Object, Wanted::Object, Wanted::Object],
+            Thing::Register => [
+                Wanted::Register,
+                Wanted::RegisterOf(device),
+                Wanted::RegisterOf(device),
+            ],
+            Thing::App => [Wanted::Anything, Wanted::Anything, Wanted::Anything],
+            Thing::Class(kind) => [
+                Wanted::ClassOf(kind),
+                Wanted::ClassOf(kind),
+                Wanted::ClassOf(kind),
+            ],
         }
     }
 }

@@ -4,13 +4,12 @@ ghost use Rattle.wdf_plan.specs.Blocks as blocks;
 ghost use Rattle.wdf_plan.specs.Heritage as spec;
 
 use crate::block::{driver_line, given_level, given_scope};
-use crate::forms::is_device;
 use crate::part::{Part, gather};
 use crate::placed::Placed;
 use std::alloc::Global;
 use std::marker::Model;
 use wdf_base::{ExecutionLevel, Items, MANY, Memory, Scope};
-use wdf_scene::Scene;
+use wdf_scene::{Scene, SceneLine};
 
 /// What the lines of a block give it; None where it inherits.
 #[derive(Clone, Copy, Debug, PartialEq, Eq, Drop)]
@@ -26,12 +25,12 @@ pub struct Effective {
     pub scope: Scope,
 }
 
-/// The scene, with what its devices and its `driver` block pass on: each was looked up once.
+/// The scene, with what its devices, its queues and its `driver` block are given: each was looked up once.
 #[derive(Drop)]
 pub struct Heritage<'a> {
     scene: &'a Scene,
-    /// For each line of a device what its block gives.
-    devices: Items<Option<Given>, MANY>,
+    /// For each line of a device or a queue what its block gives.
+    blocks: Items<Option<Given>, MANY>,
     driver: Given,
 }
 
@@ -43,7 +42,7 @@ impl<'a> Model for Heritage<'a> {
 
     ghost view = { λ h. h.scene.now };
 
-    ghost invariant = { λ h. IsKept h.scene.now h.devices h.driver };
+    ghost invariant = { λ h. IsKept h.scene.now h.blocks h.driver };
 }
 
 #[tactic(auto, unfolding(crate::specs::Heritage::given_in))]
@@ -69,6 +68,13 @@ fn driver_given(scene: &Scene) -> Given
     }
 }
 
+#[tactic(auto, unfolding(crate::specs::Heritage::has_level))]
+fn has_level(form: &SceneLine) -> bool
+    ensures { result ≡ spec.has_level form.now }
+{
+    matches!(form, SceneLine::Device { .. } | SceneLine::Queue { .. })
+}
+
 /// What is kept of each line.
 #[derive(Drop)]
 struct Kept<'a> {
@@ -84,7 +90,7 @@ impl Part for Kept<'_> {
 
     #[tactic(auto, unfolding(crate::specs::Heritage::kept_of))]
     fn take(&self, line: &Placed) -> Result<Option<Option<Given>>, Memory> {
-        if is_device(&line.form) {
+        if has_level(&line.form) {
             Ok(Some(Some(given_in(self.scene, line.at))))
         } else {
             Ok(Some(None))
@@ -104,10 +110,10 @@ impl<'a> Heritage<'a> {
         ensures { IfOk result (λ h. h ≡ scene.now) }
     {
         let _lines = scene.lines.as_slice();
-        let devices = gather(alloc, scene, &Kept { scene })?;
+        let blocks = gather(alloc, scene, &Kept { scene })?;
         Ok(Heritage {
             scene,
-            devices,
+            blocks,
             driver: driver_given(scene),
         })
     }
@@ -123,7 +129,7 @@ impl<'a> Heritage<'a> {
     fn given(&self, block: u32) -> Given
         ensures { result ≡ spec.given_in self.now block }
     {
-        match item(self.devices.as_slice(), block as usize) {
+        match item(self.blocks.as_slice(), block as usize) {
             Some(Some(given)) => given,
             _ => given_in(self.scene, block),
         }

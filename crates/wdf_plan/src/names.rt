@@ -1,6 +1,6 @@
-ghost use Rattle.std.specs.Prelude.{◌≡◌, ◌++◌, ◌∷◌, [], ◌+◌, is_ok, if◌then◌else◌, position, find, drop, IfSome, ◌<◌, ◌^◌, length, option_map, List, ℕ, OnOk, OnErr, slice_get};
+ghost use Rattle.std.specs.Prelude.{◌≡◌, IsTrue, ◌++◌, ◌∷◌, [], ◌+◌, is_ok, if◌then◌else◌, position, find, drop, IfSome, ◌<◌, ◌^◌, length, option_map, List, ℕ, OnOk, OnErr, slice_get};
 ghost use Rattle.indexmap.specs.IndexMap.{get, IsUnchanged};
-ghost use Rattle.wdf_plan.specs.Names.{or_last, place_from};
+ghost use Rattle.wdf_plan.specs.Names.{or_last, passes_at, place_from};
 ghost use Rattle.std.specs.List.{list_any};
 ghost use Rattle.std.specs.Str.{bytes_eq};
 ghost use Rattle.wdf_plan.specs.Declarations as spec;
@@ -12,12 +12,21 @@ use std::alloc::Global;
 use std::marker::Model;
 use wdf_base::{Memory, Name};
 
+/// A name, and what a place in the text needs it to stand for.
+#[derive(Clone, Copy, Debug, PartialEq, Eq, Hash)]
+struct Use {
+    name: Name,
+    wanted: Wanted,
+}
+
 /// The declarations of a scene, found by name.
 #[derive(Drop)]
 pub struct Names {
     declarations: Vec<Declaration>,
     /// The place of each name's first declaration.
     first: IndexMap<Name, u32>,
+    /// The place of a declaration for each use that has one. It saves a search, and is looked at before it counts.
+    known: IndexMap<Use, u32>,
 }
 
 impl Model for Names {
@@ -41,6 +50,7 @@ impl Names {
         Names {
             declarations: Vec::new(alloc),
             first: IndexMap::new(alloc),
+            known: IndexMap::new(alloc),
         }
     }
 
@@ -52,6 +62,7 @@ impl Names {
     {
         let at = self.declarations.as_slice().len();
         self.declarations.reserve(1)?;
+        learn(&mut self.known, &declaration, at as u32)?;
         note(&mut self.first, declaration.name, at as u32)?;
         self.declarations.push_reserved(declaration);
         Ok(())
@@ -99,8 +110,62 @@ impl Names {
     pub fn stands(&self, name: &Name, wanted: Wanted) -> bool
         ensures { result ≡ spec.stands self.now name.now wanted }
     {
+        if self.is_known(name, wanted) {
+            return true;
+        }
         self.found(name, wanted).is_some()
     }
+
+    // Whether the declaration that is known for a use is what its place needs.
+    fn is_known(&self, name: &Name, wanted: Wanted) -> bool
+        ensures { IsTrue result → IsTrue (spec.stands self.now name.now wanted) }
+    {
+        let known = self.known.get(&Use {
+            name: *name,
+            wanted,
+        });
+        match known {
+            Some(at) => { is_wanted_at(self.declarations.as_slice(), *at as usize, name, wanted) }
+            None => false,
+        }
+    }
+}
+
+fn is_wanted_at(declarations: &[Declaration], at: usize, name: &Name, wanted: Wanted) -> bool
+    ensures { result ≡ passes_at (spec.is_wanted name.now wanted) declarations.now at }
+{
+    match item(declarations, at) {
+        Some(declaration) => is_wanted(&declaration, name, wanted),
+        None => false,
+    }
+}
+
+// Keeps the place of a declaration for each use that it has.
+fn learn(known: &mut IndexMap<Use, u32>, declaration: &Declaration, at: u32) -> Result<(), Memory> {
+    let name = declaration.name;
+    let [first, second, third] = declaration.uses();
+    known.insert(
+        Use {
+            name,
+            wanted: first,
+        },
+        at,
+    )?;
+    known.insert(
+        Use {
+            name,
+            wanted: second,
+        },
+        at,
+    )?;
+    known.insert(
+        Use {
+            name,
+            wanted: third,
+        },
+        at,
+    )?;
+    Ok(())
 }
 
 fn item(declarations: &[Declaration], at: usize) -> Option<Declaration>

@@ -5,7 +5,7 @@ ghost use Rattle.wdf_plan.specs.Fitting.{IsFitAct, IsFitArgument, IsFitNode, IsF
 ghost use Rattle.wdf_plan.specs.Placed.{placed};
 ghost use Rattle.wdf_plan.specs.Scripts as scripts;
 
-use crate::course::{Course, Nest, nest_at, reach};
+use crate::course::{Course, Detour, Nest, kept_way, nest_at, reach};
 use crate::declaration::Wanted;
 use crate::forms::is_end;
 use crate::names::Names;
@@ -225,51 +225,135 @@ fn start(number: u64, skipping: u64) -> Course
     }
 }
 
-fn beyond(blocks: &[Nest], number: u64, lines: &[NumberedLine], from: u32) -> u32
+fn beyond(
+    blocks: &[Nest],
+    detours: &[Detour],
+    number: u64,
+    lines: &[NumberedLine],
+    from: u32,
+) -> u32
     requires lines { length lines.now < 2 ^ 32 }
     requires number { number < 2 ^ 40 }
+    requires kept { scripts.AreDetours 0 blocks.now lines.now detours.now }
     requires fits { scripts.beyond blocks.now number (drop from lines.now) < 2 ^ 32 }
     ensures { result ≡ scripts.beyond blocks.now number (drop from lines.now) }
 {
-    reach(blocks, start(number, 1), lines, from) as u32
+    reach(blocks, detours, start(number, 1), lines, from) as u32
 }
 
-fn onward(blocks: &[Nest], number: u64, lines: &[NumberedLine], from: u32) -> u32
+fn onward(
+    blocks: &[Nest],
+    detours: &[Detour],
+    number: u64,
+    lines: &[NumberedLine],
+    from: u32,
+) -> u32
     requires lines { length lines.now < 2 ^ 32 }
     requires number { number < 2 ^ 40 }
+    requires kept { scripts.AreDetours 0 blocks.now lines.now detours.now }
     requires fits { scripts.onward blocks.now number (drop from lines.now) < 2 ^ 32 }
     ensures { result ≡ scripts.onward blocks.now number (drop from lines.now) }
 {
-    reach(blocks, start(number, 0), lines, from) as u32
+    reach(blocks, detours, start(number, 0), lines, from) as u32
 }
 
-/// What stands round a statement: the open blocks before and after its line, its number, and the
-/// lines after it.
+/// What stands round a statement: the open blocks before and after its line, the ways that are kept of open
+/// blocks, its number, and the lines after it.
 #[derive(Clone, Copy)]
 pub struct Round<'a> {
     pub blocks: &'a [Nest],
     pub behind: &'a [Nest],
+    pub detours: &'a [Detour],
     pub number: u64,
     pub lines: &'a [NumberedLine],
     pub from: u32,
+}
+
+// With the way of the innermost block, which the line opens.
+fn with_detour(alloc: Global, round: &Round) -> Result<Vec<Detour>, Memory>
+    requires lines { length round.now.lines.now < 2 ^ 32 }
+    requires number { round.now.number < 2 ^ 32 }
+    requires kept { scripts.AreDetours 0 round.now.behind.now round.now.lines.now round.now.detours.now }
+    requires one_more { length round.now.behind.now ≡ length round.now.detours.now + 1 }
+    ensures kept { IfOk result (λ v. scripts.AreDetours 0 round.now.behind.now round.now.lines.now v.items) }
+    ensures each { IfOk result (λ v. length v.items ≡ length round.now.behind.now) }
+{
+    let own = kept_way(
+        round.behind,
+        round.detours,
+        round.number + 1,
+        round.lines,
+        round.from,
+    );
+    let mut all = Vec::from_slice(alloc, round.detours)?;
+    all.push(own)?;
+    Ok(all)
+}
+
+fn copied_detours(alloc: Global, detours: &[Detour]) -> Result<Vec<Detour>, Memory>
+    ensures { IfOk result (λ v. v.items ≡ detours.now) }
+{
+    let all = Vec::from_slice(alloc, detours)?;
+    Ok(all)
+}
+
+fn outer_detours(detours: &[Detour]) -> &[Detour]
+    ensures { result.now ≡ take (length detours.now - 1) detours.now }
+{
+    &detours[..detours.len().saturating_sub(1)]
+}
+
+/// The ways that are kept of the open blocks after a line, where those before it are kept.
+pub fn detours_behind(
+    alloc: Global,
+    round: &Round,
+    line: &NumberedLine,
+) -> Result<Vec<Detour>, Memory>
+    requires lines { length round.now.lines.now < 2 ^ 32 }
+    requires number { round.now.number < 2 ^ 32 }
+    requires kept { scripts.AreDetours 0 round.now.blocks.now round.now.lines.now round.now.detours.now }
+    requires each { length round.now.detours.now ≡ length round.now.blocks.now }
+    requires behind { round.now.behind.now ≡ scripts.blocks_behind round.now.blocks.now round.now.number line.now.number line.now.form }
+    ensures kept { IfOk result (λ v. scripts.AreDetours 0 round.now.behind.now round.now.lines.now v.items) }
+    ensures each { IfOk result (λ v. length v.items ≡ length round.now.behind.now) }
+{
+    match &line.form {
+        SceneLine::If { .. } => with_detour(alloc, round),
+        SceneLine::Repeat { .. } => with_detour(alloc, round),
+        SceneLine::End => copied_detours(alloc, outer_detours(round.detours)),
+        _ => copied_detours(alloc, round.detours),
+    }
 }
 
 #[tactic(auto, unfolding(crate::specs::Scripts::act_on))]
 fn act_on(names: &Names, variables: &Variables, round: &Round, form: &SceneLine) -> Option<Act>
     requires lines { length round.now.lines.now < 2 ^ 32 }
     requires number { round.now.number < 2 ^ 32 }
+    requires kept { scripts.AreDetours 0 round.now.behind.now round.now.lines.now round.now.detours.now }
     requires fits { IfSome (scripts.act_on names.now variables.now round.now.blocks.now round.now.behind.now round.now.number form.now (drop round.now.from round.now.lines.now)) IsFitAct }
     ensures { result ≡ scripts.act_on names.now variables.now round.now.blocks.now round.now.behind.now round.now.number form.now (drop round.now.from round.now.lines.now) }
 {
     match form {
         SceneLine::If { test } => Some(Act::If {
             test: *test,
-            otherwise: beyond(round.behind, round.number + 1, round.lines, round.from),
+            otherwise: beyond(
+                round.behind,
+                round.detours,
+                round.number + 1,
+                round.lines,
+                round.from,
+            ),
         }),
         SceneLine::Repeat { count } => Some(Act::Repeat {
             count: *count,
             depth: loops(round.blocks),
-            past: beyond(round.behind, round.number + 2, round.lines, round.from),
+            past: beyond(
+                round.behind,
+                round.detours,
+                round.number + 2,
+                round.lines,
+                round.from,
+            ),
         }),
         SceneLine::End => again(round.blocks, nest_at(round.blocks, 0)),
         _ => plain_act(names, variables, form),
@@ -308,13 +392,20 @@ pub fn statement_on(
 ) -> Option<Statement>
     requires lines { length round.now.lines.now < 2 ^ 32 }
     requires number { round.now.number < 2 ^ 32 }
+    requires kept { scripts.AreDetours 0 round.now.behind.now round.now.lines.now round.now.detours.now }
     requires fits { IfSome (scripts.statement_on names.now variables.now round.now.blocks.now round.now.behind.now round.now.number line.now (drop round.now.from round.now.lines.now)) IsFitStatement }
     ensures { result ≡ scripts.statement_on names.now variables.now round.now.blocks.now round.now.behind.now round.now.number line.now (drop round.now.from round.now.lines.now) }
 {
     match act_on(names, variables, round, &line.form) {
         Some(act) => Some(Statement {
             line: told_line(round.blocks, line.number, &line.form),
-            next: onward(round.behind, round.number + 1, round.lines, round.from),
+            next: onward(
+                round.behind,
+                round.detours,
+                round.number + 1,
+                round.lines,
+                round.from,
+            ),
             act,
         }),
         None => None,

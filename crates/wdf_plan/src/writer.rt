@@ -7,7 +7,7 @@ ghost use Rattle.wdf_plan.specs.Placed.{placed};
 ghost use Rattle.wdf_plan.specs.Scripts as scripts;
 
 use crate::block::form_at;
-use crate::course::Nest;
+use crate::course::{Detour, Nest};
 use crate::declaration::Wanted;
 use crate::heritage::Heritage;
 use crate::names::Names;
@@ -15,26 +15,39 @@ use crate::numbers::{add_found, number_of};
 use crate::objects::object_of;
 use crate::part::Part;
 use crate::placed::Placed;
-use crate::scripts::{Round, blocks_behind, ends_callback, statement_on};
+use crate::scripts::{Round, blocks_behind, detours_behind, ends_callback, statement_on};
 use crate::variables::{Variables, variables_of};
 use std::alloc::Global;
 use wdf_base::{Declared, Items, MANY, Memory, Script, Statement};
 use wdf_scene::{NumberedLine, Scene, SceneLine};
 
+// Adds the statement of a line, and gives the ways that are kept after it.
 fn add_statement(
+    alloc: Global,
     names: &Names,
     variables: &Variables,
     round: &Round,
     line: &NumberedLine,
     statements: &mut Items<Statement, MANY>,
-) -> Result<(), Memory>
+) -> Result<Vec<Detour>, Memory>
     requires lines { length round.now.lines.now < 2 ^ 32 }
     requires number { round.now.number < 2 ^ 32 }
+    requires kept { scripts.AreDetours 0 round.now.blocks.now round.now.lines.now round.now.detours.now }
+    requires each { length round.now.detours.now ≡ length round.now.blocks.now }
+    requires behind { round.now.behind.now ≡ scripts.blocks_behind round.now.blocks.now round.now.number line.now.number line.now.form }
     requires fits { IfSome (scripts.statement_on names.now variables.now round.now.blocks.now round.now.behind.now round.now.number line.now (drop round.now.from round.now.lines.now)) IsFitStatement }
     requires room { length (statements.old ++ option_to_list (scripts.statement_on names.now variables.now round.now.blocks.now round.now.behind.now round.now.number line.now (drop round.now.from round.now.lines.now))) < 2 ^ 32 }
-    ensures { OnOk result (statements.new ≡ statements.old ++ option_to_list (scripts.statement_on names.now variables.now round.now.blocks.now round.now.behind.now round.now.number line.now (drop round.now.from round.now.lines.now))) }
+    ensures added { OnOk result (statements.new ≡ statements.old ++ option_to_list (scripts.statement_on names.now variables.now round.now.blocks.now round.now.behind.now round.now.number line.now (drop round.now.from round.now.lines.now))) }
+    ensures kept { IfOk result (λ v. scripts.AreDetours 0 round.now.behind.now round.now.lines.now v.items) }
+    ensures each { IfOk result (λ v. length v.items ≡ length round.now.behind.now) }
 {
-    add_found(statements, statement_on(names, variables, round, line))
+    let detours = detours_behind(alloc, round, line)?;
+    let round = Round {
+        detours: detours.as_slice(),
+        ..*round
+    };
+    add_found(statements, statement_on(names, variables, &round, line))?;
+    Ok(detours)
 }
 
 fn statements_from(
@@ -51,34 +64,31 @@ fn statements_from(
 {
     let mut statements = Items::new(alloc);
     let mut blocks: Vec<Nest> = Vec::new(alloc);
+    let mut detours: Vec<Detour> = Vec::new(alloc);
     let mut at = from;
     while (at as usize) < lines.len() {
         let line = &lines[at as usize];
-        if ends_callback(blocks.as_slice(), &line.form) {
+        let open = blocks.as_slice();
+        if ends_callback(open, &line.form) {
             return Ok(statements);
         }
         let number = u64::from(statements.len());
-        let behind = match blocks_behind(
-            alloc,
-            blocks.as_slice(),
-            number,
-            line.number,
-            &line.form,
-        ) {
+        let behind = match blocks_behind(alloc, open, number, line.number, &line.form) {
             Ok(behind) => behind,
             Err(error) => return Err(error),
         };
         let round = Round {
-            blocks: blocks.as_slice(),
+            blocks: open,
             behind: behind.as_slice(),
+            detours: detours.as_slice(),
             number,
             lines,
             from: at + 1,
         };
-        match add_statement(names, variables, &round, line, &mut statements) {
-            Ok(()) => {}
+        detours = match add_statement(alloc, names, variables, &round, line, &mut statements) {
+            Ok(detours) => detours,
             Err(error) => return Err(error),
-        }
+        };
         blocks = behind;
         at += 1;
     }

@@ -4,7 +4,7 @@ use wdf_parse::{ParseRefusal, TEXT_LIMIT, parse};
 use wdf_plan::{PlanRefusal, resolve};
 
 /// What becomes of a text.
-#[derive(Clone, Copy, Debug, PartialEq, Eq)]
+#[derive(Clone, Copy, PartialEq)]
 pub enum Answer {
     /// No scene stands for it.
     NotParsed,
@@ -39,4 +39,14 @@ pub fn plan_of(alloc: Global, text: &[u8]) -> Option<Plan> {
         Ok(scene) => resolve(alloc, &scene).ok(),
         Err(_) => None,
     }
+}
+
+/// Whether the names of a plan are these, by their numbers.
+pub fn has_names(plan: &Plan, due: &[&str]) -> bool {
+    for (name, due) in plan.names.as_slice().iter().zip(due) {
+        if name.bytes() != due.as_bytes() {
+            return false;
+        }
+    }
+    plan.names.len() as usize == due.len()
 }

@@ -1,6 +1,5 @@
 use crate::answers::{Answer, answered};
 use std::alloc::Global;
-use std::test::Fail;
 use wdf_base::Memory;
 use wdf_plan::{Limit, PlanRefusal};
 
@@ -231,7 +230,7 @@ struct Many {
     back: &'static str,
 }
 
-static FEW_LINES: [Many; 5] = [
+static LINES: [Many; 8] = [
     Many {
         limit: Limit::Devices,
         front: "",
@@ -282,41 +281,38 @@ static FEW_LINES: [Many; 5] = [
         line: 26,
         back: "end\nend\n",
     },
+    // An `else` and an `end` are no statements.
+    Many {
+        limit: Limit::Statements,
+        front: "device D\non EvtDeviceD0Entry\nif 1\nelse\nend\nend\non EvtDeviceD0Exit\n",
+        before: "spend ",
+        after: "\n",
+        bound: 4095,
+        more: "log 1\n",
+        line: 4106,
+        back: "end\nend\n",
+    },
+    Many {
+        limit: Limit::Posts,
+        front: "device D\nregister R 0\nat 0 set R 1\nend\npnp\nat 0 start D\nend\napp A\n",
+        before: "at 0 cancel ",
+        after: "\n",
+        bound: 4094,
+        more: "at 0 read D 1\n",
+        line: 4106,
+        back: "end\n",
+    },
+    Many {
+        limit: Limit::Picks,
+        front: "order\n",
+        before: "picks 0 0 0 0 0 0 0 0 0 0 0 0 0 0 0 0 0 0 0 ",
+        after: "\n",
+        bound: 10_000,
+        more: "picks 0\n",
+        line: 10_005,
+        back: "end\n",
+    },
 ];
-
-// An `else` and an `end` are no statements.
-static STATEMENTS: Many = Many {
-    limit: Limit::Statements,
-    front: "device D\non EvtDeviceD0Entry\nif 1\nelse\nend\nend\non EvtDeviceD0Exit\n",
-    before: "spend ",
-    after: "\n",
-    bound: 4095,
-    more: "log 1\n",
-    line: 4106,
-    back: "end\nend\n",
-};
-
-static POSTS: Many = Many {
-    limit: Limit::Posts,
-    front: "device D\nregister R 0\nat 0 set R 1\nend\npnp\nat 0 start D\nend\napp A\n",
-    before: "at 0 cancel ",
-    after: "\n",
-    bound: 4094,
-    more: "at 0 read D 1\n",
-    line: 4106,
-    back: "end\n",
-};
-
-static PICKS: Many = Many {
-    limit: Limit::Picks,
-    front: "order\n",
-    before: "picks 0 0 0 0 0 0 0 0 0 0 0 0 0 0 0 0 0 0 0 ",
-    after: "\n",
-    bound: 10_000,
-    more: "picks 0\n",
-    line: 10_005,
-    back: "end\n",
-};
 
 fn refused(line: u32, limit: Limit) -> Answer {
     Answer::Refused(PlanRefusal::OverLimit { line, limit })
@@ -368,77 +364,31 @@ fn answer_of_lines(alloc: Global, many: &Many, more: &str) -> Option<Answer> {
     Some(answered(alloc, text.as_bytes()))
 }
 
-/// The answers to the lines as often as they may stand, and to one more.
-fn answers_of_lines(alloc: Global, many: &Many) -> (Option<Answer>, Option<Answer>) {
-    (
-        answer_of_lines(alloc, many, ""),
-        answer_of_lines(alloc, many, many.more),
-    )
+/// Whether there is a plan with the number within its bound, and none with the one past it.
+fn bounds_number(alloc: Global, bound: &Bound) -> bool {
+    let past = Some(refused(bound.line, bound.limit));
+    answer_of_number(alloc, bound.front, bound.within, bound.back) == Some(Answer::Resolved)
+        && answer_of_number(alloc, bound.front, bound.past, bound.back) == past
 }
 
-/// What is to be answered to these.
-fn expected(many: &Many) -> (Option<Answer>, Option<Answer>) {
-    (Some(Answer::Resolved), Some(refused(many.line, many.limit)))
-}
-
-/// The answers to the number within its bound, and to the one past it.
-fn answers_of_number(alloc: Global, bound: &Bound) -> (Option<Answer>, Option<Answer>) {
-    (
-        answer_of_number(alloc, bound.front, bound.within, bound.back),
-        answer_of_number(alloc, bound.front, bound.past, bound.back),
-    )
+/// Whether there is a plan with the lines as often as they may stand, and none with one more.
+fn bounds_lines(alloc: Global, many: &Many) -> bool {
+    let past = Some(refused(many.line, many.limit));
+    answer_of_lines(alloc, many, "") == Some(Answer::Resolved)
+        && answer_of_lines(alloc, many, many.more) == past
 }
 
 #[test]
-fn numbers_have_bounds(rt: HostRuntime) -> Result<(), Fail> {
-    let alloc = rt.alloc();
+fn numbers_and_lines_have_bounds(rt: HostRuntime) {
     for bound in &NUMBERS {
-        assert_eq!(rt;
-            answers_of_number(alloc, bound),
-            (
-                Some(Answer::Resolved),
-                Some(refused(bound.line, bound.limit))
-            ),
-            "at {:?} {:?} {:?}",
+        assert!(rt;
+            bounds_number(rt.alloc(), bound),
+            "{:?} {:?}",
             bound.front,
-            bound.past,
-            bound.back
+            bound.past
         );
     }
-    Ok(())
-}
-
-#[test]
-fn lines_may_stand_so_often(rt: HostRuntime) -> Result<(), Fail> {
-    let alloc = rt.alloc();
-    for many in &FEW_LINES {
-        assert_eq!(rt;
-            answers_of_lines(alloc, many),
-            expected(many),
-            "at {:?}",
-            many.before
-        );
+    for many in &LINES {
+        assert!(rt; bounds_lines(rt.alloc(), many), "{:?}", many.before);
     }
-    Ok(())
-}
-
-#[test]
-fn statements_may_stand_so_often(rt: HostRuntime) -> Result<(), Fail> {
-    assert_eq!(rt;
-        answers_of_lines(rt.alloc(), &STATEMENTS),
-        expected(&STATEMENTS)
-    );
-    Ok(())
-}
-
-#[test]
-fn posts_may_stand_so_often(rt: HostRuntime) -> Result<(), Fail> {
-    assert_eq!(rt; answers_of_lines(rt.alloc(), &POSTS), expected(&POSTS));
-    Ok(())
-}
-
-#[test]
-fn picks_may_stand_so_often(rt: HostRuntime) -> Result<(), Fail> {
-    assert_eq!(rt; answers_of_lines(rt.alloc(), &PICKS), expected(&PICKS));
-    Ok(())
 }

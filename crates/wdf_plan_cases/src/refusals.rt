@@ -1,7 +1,6 @@
 use crate::answers::Answer::{Refused, Resolved};
 use crate::answers::{Answer, answered};
 use std::alloc::Global;
-use std::test::Fail;
 use wdf_plan::Limit;
 use wdf_plan::PlanRefusal::{
     IncompatibleLevel, NoParent, OverLimit, TwiceNamed, UnknownName, WrongCallback,
@@ -325,7 +324,7 @@ static UNFIT: [(&str, Answer); 29] = [
 ];
 
 /// What becomes of the first three lines and a text after them.
-fn answer_behind(alloc: Global, text: &str) -> Option<Answer> {
+fn answer_after(alloc: Global, text: &str) -> Option<Answer> {
     let mut whole = String::new(alloc);
     whole.push_str("cpus 1\nlimit 9\nobjects 99\n").ok()?;
     whole.push_str(text).ok()?;
@@ -333,37 +332,13 @@ fn answer_behind(alloc: Global, text: &str) -> Option<Answer> {
 }
 
 #[test]
-fn the_first_refusal_of_a_text(rt: HostRuntime) -> Result<(), Fail> {
-    let alloc = rt.alloc();
-    for (text, expected) in &TEXTS {
-        assert_eq!(rt; answered(alloc, text.as_bytes()), *expected, "at {text:?}");
+fn the_first_refusal_of_a_text(rt: HostRuntime) {
+    for (text, due) in &TEXTS {
+        assert!(rt; answered(rt.alloc(), text.as_bytes()) == *due, "{text:?}");
     }
-    Ok(())
-}
-
-#[test]
-fn names_that_stand_for_nothing(rt: HostRuntime) -> Result<(), Fail> {
-    let alloc = rt.alloc();
-    for (text, expected) in &NAMES {
-        assert_eq!(rt; answer_behind(alloc, text), Some(*expected), "at {text:?}");
+    for table in [NAMES.as_slice(), TWICE.as_slice(), UNFIT.as_slice()] {
+        for (text, due) in table {
+            assert!(rt; answer_after(rt.alloc(), text) == Some(*due), "{text:?}");
+        }
     }
-    Ok(())
-}
-
-#[test]
-fn what_is_given_twice(rt: HostRuntime) -> Result<(), Fail> {
-    let alloc = rt.alloc();
-    for (text, expected) in &TWICE {
-        assert_eq!(rt; answer_behind(alloc, text), Some(*expected), "at {text:?}");
-    }
-    Ok(())
-}
-
-#[test]
-fn what_does_not_fit_its_block(rt: HostRuntime) -> Result<(), Fail> {
-    let alloc = rt.alloc();
-    for (text, expected) in &UNFIT {
-        assert_eq!(rt; answer_behind(alloc, text), Some(*expected), "at {text:?}");
-    }
-    Ok(())
 }

@@ -1,7 +1,6 @@
 //! What devices do, and what all agents post, in the plan of the scenario of version 2.
-use crate::second_text::{BELL, FAST, HI, LO, SLOW, UP, part, plan};
-use std::test::Fail;
-use wdf_base::{Access, Action, Ask, Post, PostLine, WhenLine};
+use crate::second_text::{BELL, FAST, HI, LO, SLOW, UP, part};
+use wdf_base::{Access, Action, Ask, Plan, Post, PostLine, WhenLine};
 
 static WHENS: [WhenLine; 3] = [
     WhenLine {
@@ -182,29 +181,19 @@ static POSTS: [PostLine; 8] = [
     },
 ];
 
-#[test]
-fn whens_and_asks_keep_their_lines(rt: HostRuntime) -> Result<(), Fail> {
-    let plan = plan(rt.alloc())?;
-    assert_eq!(rt; plan.whens.as_slice(), &WHENS[..]);
-    assert_eq!(rt; plan.pnp.as_slice(), &ASKS[..]);
-    Ok(())
+/// Whether the `when` lines, and the posts of the Plug and Play manager, are these.
+pub fn has_whens_and_asks(plan: &Plan) -> bool {
+    plan.whens.as_slice() == WHENS.as_slice() && plan.pnp.as_slice() == ASKS.as_slice()
 }
 
-#[test]
-fn each_agent_has_its_posts(rt: HostRuntime) -> Result<(), Fail> {
-    let plan = plan(rt.alloc())?;
-    assert_eq!(rt; plan.agents.len() as usize, AGENTS.len());
+/// Whether each agent has its posts.
+pub fn has_agents(plan: &Plan) -> bool {
     let mut from = 0;
-    for (agent, expected) in plan.agents.as_slice().iter().zip(&AGENTS) {
-        assert_eq!(rt; agent.name, expected.name);
-        assert_eq!(rt;
-            agent.posts.as_slice(),
-            part(&POSTS, from, expected.count),
-            "at {}",
-            agent.name
-        );
-        from = expected.count.saturating_add(from);
+    for (agent, due) in plan.agents.as_slice().iter().zip(&AGENTS) {
+        if agent.name != due.name || agent.posts.as_slice() != part(&POSTS, from, due.count) {
+            return false;
+        }
+        from = due.count.saturating_add(from);
     }
-    assert_eq!(rt; from, POSTS.len());
-    Ok(())
+    plan.agents.len() as usize == AGENTS.len() && from == POSTS.len()
 }

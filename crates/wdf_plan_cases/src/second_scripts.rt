@@ -1,11 +1,9 @@
 //! The callbacks in the plan of the scenario of version 2: variables in the order of their first assignments, nodes
 //! of expressions in the order of the text.
-use crate::second_text::{BELL, HELD, LINK, OBJECTS, READS, SLOW, TASKS, part, plan};
-use std::process::Abort;
-use std::test::Fail;
+use crate::second_text::{BELL, HELD, LINK, OBJECTS, READS, SLOW, TASKS, part};
 use wdf_base::{
-    Act, ArgNode, CallKind, Callback, ContextWord, Declared, ExprNode, Operator, Script, Statement,
-    Status,
+    Act, ArgNode, CallKind, Callback, ContextWord, Declared, ExprNode, Operator, Plan, Script,
+    Statement, Status,
 };
 
 /// The nodes of the expressions; the operands of an operator stand before it.
@@ -435,48 +433,34 @@ static STATEMENTS: [Statement; 27] = [
 ];
 
 /// What a callback is declared on.
-fn owner(expected: &Answering) -> Option<Declared> {
-    match expected.id.checked_sub(1) {
+fn owner(due: &Answering) -> Option<Declared> {
+    match due.id.checked_sub(1) {
         Some(place) => OBJECTS.get(place as usize).copied(),
-        None => Some(Declared::OfClass(expected.class)),
+        None => Some(Declared::OfClass(due.class)),
     }
 }
 
-fn try_script<R: Abort>(
-    rt: &R,
-    script: &Script,
-    expected: &Answering,
-    statements: &[Statement],
-) -> Result<(), Fail> {
-    let line = expected.line;
-    assert_eq!(rt; script.callback, expected.callback, "at {line}");
-    assert_eq!(rt; Some(script.owner), owner(expected), "at {line}");
-    assert_eq!(rt; script.line, line);
-    assert_eq!(rt; script.statements.as_slice(), statements, "at {line}");
-    Ok(())
+/// Whether a script is this, with these statements.
+fn is_script(script: &Script, due: &Answering, statements: &[Statement]) -> bool {
+    script.callback == due.callback
+        && Some(script.owner) == owner(due)
+        && script.line == due.line
+        && script.statements.as_slice() == statements
 }
 
-#[test]
-fn callbacks_have_their_statements(rt: HostRuntime) -> Result<(), Fail> {
-    let plan = plan(rt.alloc())?;
-    assert_eq!(rt; plan.scripts.len() as usize, SCRIPTS.len());
+/// Whether the callbacks have their statements.
+pub fn has_scripts(plan: &Plan) -> bool {
     let mut from = 0;
-    for (script, expected) in plan.scripts.as_slice().iter().zip(&SCRIPTS) {
-        try_script(
-            &rt,
-            script,
-            expected,
-            part(&STATEMENTS, from, expected.count),
-        )?;
-        from = expected.count.saturating_add(from);
+    for (script, due) in plan.scripts.as_slice().iter().zip(&SCRIPTS) {
+        if !is_script(script, due, part(&STATEMENTS, from, due.count)) {
+            return false;
+        }
+        from = due.count.saturating_add(from);
     }
-    assert_eq!(rt; from, STATEMENTS.len());
-    Ok(())
+    plan.scripts.len() as usize == SCRIPTS.len() && from == STATEMENTS.len()
 }
 
-#[test]
-fn nodes_stand_in_the_order_of_the_text(rt: HostRuntime) -> Result<(), Fail> {
-    let plan = plan(rt.alloc())?;
-    assert_eq!(rt; plan.exprs.as_slice(), &NODES[..]);
-    Ok(())
+/// Whether the nodes of expressions stand in the order of the text.
+pub fn has_nodes(plan: &Plan) -> bool {
+    plan.exprs.as_slice() == NODES.as_slice()
 }

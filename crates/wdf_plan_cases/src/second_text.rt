@@ -1,8 +1,9 @@
 //! A scenario of version 2, and the names, objects, classes and registers that its plan has after the rules
 //! alone, in the order of the lines.
-use crate::answers::plan_of;
+use crate::answers::{has_names, plan_of};
+use crate::second_posts::{has_agents, has_whens_and_asks};
+use crate::second_scripts::{has_nodes, has_scripts};
 use std::alloc::Global;
-use std::test::Fail;
 use wdf_base::{
     ClassInfo, Declared, DeferredKind, DeviceInfo, DispatchKind, ExecutionLevel, Handle,
     InterruptInfo, Irql, ObjectId, PlainKind, Plan, QueueInfo, RegisterInfo, Scope, Serves, Status,
@@ -427,49 +428,53 @@ static REGISTERS: [RegisterInfo; 3] = [
     },
 ];
 
-/// The plan of the scenario.
-pub fn plan(alloc: Global) -> Result<Plan, Fail> {
-    Ok(plan_of(alloc, TEXT.as_bytes()).ok_or("no plan")?)
-}
-
 /// The items from one place on, as many as `count`.
 pub fn part<T>(items: &[T], from: usize, count: usize) -> &[T] {
-    let (_, behind) = items.split_at(from.min(items.len()));
-    let (front, _) = behind.split_at(count.min(behind.len()));
+    let (_, after) = items.split_at(from.min(items.len()));
+    let (front, _) = after.split_at(count.min(after.len()));
     front
 }
 
-#[test]
-fn names_stand_in_the_order_of_their_lines(rt: HostRuntime) -> Result<(), Fail> {
-    let plan = plan(rt.alloc())?;
-    assert_eq!(rt; (plan.cpus, plan.limit, plan.objects), (3, 5000, 40));
-    assert_eq!(rt; plan.names.len() as usize, NAMES.len());
-    for (name, expected) in plan.names.as_slice().iter().zip(&NAMES) {
-        assert_eq!(rt; name.bytes(), expected.as_bytes());
+/// Whether the names stand in the order of their lines.
+fn has_all_names(plan: &Plan) -> bool {
+    plan.cpus == 3 && plan.limit == 5000 && plan.objects == 40 && has_names(plan, &NAMES)
+}
+
+/// Whether the objects, the classes and the registers have their numbers.
+fn has_objects(plan: &Plan) -> bool {
+    plan.declared.as_slice() == OBJECTS.as_slice()
+        && plan.classes.as_slice() == CLASSES.as_slice()
+        && plan.registers.as_slice() == REGISTERS.as_slice()
+}
+
+/// Whether the picks stand one after the other.
+fn has_picks(plan: &Plan) -> bool {
+    plan.picks.as_slice() == [3, 1, 4, 1, 5].as_slice()
+}
+
+/// What is wrong with the plan.
+fn wrong_with(plan: &Plan) -> Option<&'static str> {
+    if !has_all_names(plan) {
+        return Some("names");
     }
-    Ok(())
+    if !has_objects(plan) || !has_picks(plan) {
+        return Some("objects, classes, registers and picks");
+    }
+    if !has_whens_and_asks(plan) || !has_agents(plan) {
+        return Some("posts");
+    }
+    if !has_scripts(plan) || !has_nodes(plan) {
+        return Some("callbacks");
+    }
+    None
 }
 
-#[test]
-fn objects_and_classes_have_numbers(rt: HostRuntime) -> Result<(), Fail> {
-    let plan = plan(rt.alloc())?;
-    assert_eq!(rt; plan.declared.as_slice(), &OBJECTS[..]);
-    assert_eq!(rt; plan.classes.as_slice(), &CLASSES[..]);
-    Ok(())
-}
-
-#[test]
-fn registers_have_numbers(rt: HostRuntime) -> Result<(), Fail> {
-    let plan = plan(rt.alloc())?;
-    assert_eq!(rt; plan.registers.as_slice(), &REGISTERS[..]);
-    Ok(())
-}
-
-#[test]
-fn picks_stand_one_after_the_other(rt: HostRuntime) -> Result<(), Fail> {
-    let plan = plan(rt.alloc())?;
-    assert_eq!(rt; plan.picks.as_slice(), &[3, 1, 4, 1, 5][..]);
-    Ok(())
+/// What is wrong with the plan of the scenario.
+fn wrong(alloc: Global) -> Option<&'static str> {
+    match plan_of(alloc, TEXT.as_bytes()) {
+        Some(plan) => wrong_with(&plan),
+        None => Some("no plan"),
+    }
 }
 
 /// No `driver` block, and neither `scope` nor `level` anywhere.
@@ -502,9 +507,16 @@ static PLAIN_OBJECTS: [Declared; 3] = [
     }),
 ];
 
+/// Whether a plan has these objects.
+fn has_plain_objects(alloc: Global) -> bool {
+    match plan_of(alloc, PLAIN.as_bytes()) {
+        Some(plan) => plan.declared.as_slice() == PLAIN_OBJECTS.as_slice(),
+        None => false,
+    }
+}
+
 #[test]
-fn scope_and_level_have_defaults(rt: HostRuntime) -> Result<(), Fail> {
-    let plan = plan_of(rt.alloc(), PLAIN.as_bytes()).ok_or("no plan")?;
-    assert_eq!(rt; plan.declared.as_slice(), &PLAIN_OBJECTS[..]);
-    Ok(())
+fn the_second_text_has_its_plan(rt: HostRuntime) {
+    assert_eq!(rt; wrong(rt.alloc()), None);
+    assert!(rt; has_plain_objects(rt.alloc()));
 }

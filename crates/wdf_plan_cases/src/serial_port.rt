@@ -1,9 +1,12 @@
-use crate::answers::plan_of;
-use std::test::Fail;
+//! The plan of a serial port, and of nested blocks.
+use crate::answers::{has_names, plan_of};
+use crate::second_text::part;
+use std::alloc::Global;
 use wdf_base::{
     Access, Act, Action, ArgNode, Ask, CallKind, Callback, ClassInfo, ContextWord, Declared,
     DeferredKind, DeviceInfo, DispatchKind, ExecutionLevel, ExprNode, Handle, InterruptInfo, Irql,
-    ObjectId, Operator, Post, QueueInfo, Scope, Serves, Statement, Status,
+    ObjectId, Operator, Plan, Post, PostLine, QueueInfo, RegisterInfo, Scope, Serves, Statement,
+    Status,
 };
 
 /// A serial port: its interrupt fetches a byte, and a read waits in a manual queue for it.
@@ -503,63 +506,72 @@ static WHENS: [(Access, u32, Action, u64); 3] = [
     ),
 ];
 
-#[test]
-fn names_objects_and_classes_have_numbers(rt: HostRuntime) -> Result<(), Fail> {
-    let plan = plan_of(rt.alloc(), TEXT.as_bytes()).ok_or("no plan")?;
-    assert_eq!(rt; (plan.cpus, plan.limit, plan.objects), (2, 1000, 32));
-    assert_eq!(rt; plan.names.len() as usize, NAMES.len());
-    for (name, expected) in plan.names.as_slice().iter().zip(&NAMES) {
-        assert_eq!(rt; name.bytes(), expected.as_bytes());
-    }
-    assert_eq!(rt; plan.declared.as_slice(), &OBJECTS[..]);
-    assert_eq!(rt;
-        plan.classes.as_slice(),
-        &[ClassInfo::Deferred {
-            name: 2,
-            kind: DeferredKind::Timer,
-            parent: ObjectId(2),
-            serialize: false,
-            period: 0,
-        }][..]
-    );
-    Ok(())
+static CLASSES: [ClassInfo; 1] = [ClassInfo::Deferred {
+    name: 2,
+    kind: DeferredKind::Timer,
+    parent: ObjectId(2),
+    serialize: false,
+    period: 0,
+}];
+
+static REGISTERS: [RegisterInfo; 2] = [
+    RegisterInfo {
+        name: 4,
+        device: ObjectId(2),
+        value: 0,
+    },
+    RegisterInfo {
+        name: 5,
+        device: ObjectId(2),
+        value: 0,
+    },
+];
+
+/// Whether the names, the objects, the classes and the registers have their numbers.
+fn has_objects(plan: &Plan) -> bool {
+    plan.cpus == 2
+        && plan.limit == 1000
+        && plan.objects == 32
+        && has_names(plan, &NAMES)
+        && plan.declared.as_slice() == OBJECTS.as_slice()
+        && plan.classes.as_slice() == CLASSES.as_slice()
+        && plan.registers.as_slice() == REGISTERS.as_slice()
 }
 
-#[test]
-fn registers_and_posts_stand_for_their_devices(rt: HostRuntime) -> Result<(), Fail> {
-    let plan = plan_of(rt.alloc(), TEXT.as_bytes()).ok_or("no plan")?;
-    assert_eq!(rt; plan.registers.len(), 2);
-    for (register, name) in plan.registers.as_slice().iter().zip([4, 5]) {
-        assert_eq!(rt;
-            (register.name, register.device, register.value),
-            (name, ObjectId(2), 0)
-        );
+/// Whether the `when` lines stand for their registers.
+fn has_whens(plan: &Plan) -> bool {
+    for (line, (access, register, action, after)) in plan.whens.as_slice().iter().zip(&WHENS) {
+        if line.access != *access || line.register != *register {
+            return false;
+        }
+        if line.action != *action || line.after != *after {
+            return false;
+        }
     }
-    assert_eq!(rt; plan.whens.len() as usize, WHENS.len());
-    for (line, expected) in plan.whens.as_slice().iter().zip(&WHENS) {
-        assert_eq!(rt;
-            (line.access, line.register, line.action, line.after),
-            *expected
-        );
-    }
-    assert_eq!(rt; plan.pnp.len() as usize, ASKS.len());
-    for (line, expected) in plan.pnp.as_slice().iter().zip(&ASKS) {
-        assert_eq!(rt; (line.tick, line.post), *expected);
-    }
-    let names = plan.agents.as_slice().iter().map(|agent| agent.name);
-    assert!(rt; names.eq([10, 3]));
-    Ok(())
+    plan.whens.len() as usize == WHENS.len()
 }
 
-#[test]
-fn an_app_posts_in_the_order_of_its_lines(rt: HostRuntime) -> Result<(), Fail> {
-    let plan = plan_of(rt.alloc(), TEXT.as_bytes()).ok_or("no plan")?;
-    let app = plan.agents.as_slice().first().ok_or("no app")?;
-    assert_eq!(rt; app.posts.len() as usize, APP_POSTS.len());
-    for (line, expected) in app.posts.as_slice().iter().zip(&APP_POSTS) {
-        assert_eq!(rt; (line.tick, line.post), *expected);
+/// Whether these are the ticks and the posts of lines.
+fn are_posts(lines: &[PostLine], due: &[(u64, Post)]) -> bool {
+    for (line, (tick, post)) in lines.iter().zip(due) {
+        if line.tick != *tick || line.post != *post {
+            return false;
+        }
     }
-    Ok(())
+    lines.len() == due.len()
+}
+
+/// Whether the Plug and Play manager, the app and the device post in the order of their lines.
+fn has_posts(plan: &Plan) -> bool {
+    match plan.agents.as_slice() {
+        [app, device] => {
+            app.name == 10
+                && device.name == 3
+                && are_posts(app.posts.as_slice(), &APP_POSTS)
+                && are_posts(plan.pnp.as_slice(), &ASKS)
+        }
+        _ => false,
+    }
 }
 
 /// The object with this id, or of the one class.
@@ -573,37 +585,52 @@ fn owner(id: usize) -> Declared {
     }
 }
 
-#[test]
-fn callbacks_stand_for_their_objects(rt: HostRuntime) -> Result<(), Fail> {
-    let plan = plan_of(rt.alloc(), TEXT.as_bytes()).ok_or("no plan")?;
-    assert_eq!(rt; plan.scripts.len() as usize, SCRIPTS.len());
+/// Whether the callbacks stand for their objects.
+fn has_callbacks(plan: &Plan) -> bool {
     for (script, (callback, id, line, count)) in plan.scripts.as_slice().iter().zip(&SCRIPTS) {
-        assert_eq!(rt; script.callback, *callback);
-        assert_eq!(rt; script.owner, owner(*id), "at line {line}");
-        assert_eq!(rt; script.line, *line);
-        assert_eq!(rt; script.statements.len(), *count, "at line {line}");
+        if script.callback != *callback || script.owner != owner(*id) {
+            return false;
+        }
+        if script.line != *line || script.statements.len() != *count {
+            return false;
+        }
     }
-    Ok(())
+    plan.scripts.len() as usize == SCRIPTS.len()
 }
 
-#[test]
-fn statements_and_expressions_have_numbers(rt: HostRuntime) -> Result<(), Fail> {
-    let plan = plan_of(rt.alloc(), TEXT.as_bytes()).ok_or("no plan")?;
-    assert_eq!(rt; plan.exprs.as_slice(), &NODES[..]);
+/// Whether the statements and the expressions have their numbers.
+fn has_statements(plan: &Plan) -> bool {
     let mut from = 0;
     for script in plan.scripts.as_slice() {
-        for (statement, expected) in script
-            .statements
-            .as_slice()
-            .iter()
-            .zip(STATEMENTS.iter().skip(from))
-        {
-            assert_eq!(rt; *statement, *expected, "at line {}", expected.line);
+        let statements = script.statements.as_slice();
+        if statements != part(&STATEMENTS, from, statements.len()) {
+            return false;
         }
-        from = from.saturating_add(script.statements.len() as usize);
+        from = statements.len().saturating_add(from);
     }
-    assert_eq!(rt; from, STATEMENTS.len());
-    Ok(())
+    from == STATEMENTS.len() && plan.exprs.as_slice() == NODES.as_slice()
+}
+
+/// What is wrong with the plan.
+fn wrong_with(plan: &Plan) -> Option<&'static str> {
+    if !has_objects(plan) {
+        return Some("names, objects, classes and registers");
+    }
+    if !has_whens(plan) || !has_posts(plan) {
+        return Some("posts");
+    }
+    if !has_callbacks(plan) || !has_statements(plan) {
+        return Some("callbacks");
+    }
+    None
+}
+
+/// What is wrong with the plan of the serial port.
+fn wrong(alloc: Global) -> Option<&'static str> {
+    match plan_of(alloc, TEXT.as_bytes()) {
+        Some(plan) => wrong_with(&plan),
+        None => Some("no plan"),
+    }
 }
 
 /// Blocks in a callback.
@@ -675,10 +702,24 @@ static NESTED_STATEMENTS: [Statement; 7] = [
     },
 ];
 
+/// Whether the one callback has these statements.
+fn has_nested(plan: &Plan) -> bool {
+    match plan.scripts.as_slice() {
+        [script] => script.statements.as_slice() == NESTED_STATEMENTS.as_slice(),
+        _ => false,
+    }
+}
+
+/// Whether the way through nested blocks is this.
+fn is_way(alloc: Global) -> bool {
+    match plan_of(alloc, NESTED.as_bytes()) {
+        Some(plan) => has_nested(&plan),
+        None => false,
+    }
+}
+
 #[test]
-fn the_way_through_nested_blocks(rt: HostRuntime) -> Result<(), Fail> {
-    let plan = plan_of(rt.alloc(), NESTED.as_bytes()).ok_or("no plan")?;
-    let script = plan.scripts.as_slice().first().ok_or("no script")?;
-    assert_eq!(rt; script.statements.as_slice(), &NESTED_STATEMENTS[..]);
-    Ok(())
+fn the_serial_port_has_its_plan(rt: HostRuntime) {
+    assert_eq!(rt; wrong(rt.alloc()), None);
+    assert!(rt; is_way(rt.alloc()));
 }

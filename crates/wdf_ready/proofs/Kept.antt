@@ -1,5 +1,5 @@
 -- The groups that can have places: one more of the loop, how many there are, and that the others offer nothing.
-use Rattle.std.proofs.Common.{◌≡◌, ℕ, zero, suc, ◌+◌, ◌-◌, ◌<◌, ◌≤◌, Bool, true, false, List, [], ◌∷◌, ◌++◌, filter, get_or, length, take, refl, sym, ap, ◌∙◌, arith}
+use Rattle.std.proofs.Common.{◌≡◌, ℕ, ◌+◌, ◌<◌, ◌≤◌, Bool, true, false, List, [], ◌∷◌, ◌++◌, filter, get_or, length, take, refl, sym, ap, ◌∙◌, arith}
 use Rattle.std.proofs.lemmas.List.{take_more}
 use Rattle.std.proofs.lemmas.List.Elements.{filter-append}
 use Rattle.wdf_base.specs.Meaning.{Meaning}
@@ -9,8 +9,10 @@ use Rattle.wdf_base.specs.declared.rank.Rank.TheVariants as rank
 use Rattle.wdf_model.specs.declared.enums.Group.{Group}
 use Rattle.wdf_model.specs.declared.enums.Group.TheVariants as group
 use Rattle.wdf_model.specs.State.{State}
-use Rattle.wdf_model.specs.rules.Groups.{places_if, places_in}
-use Rattle.wdf_ready.specs.Search.{can_start, events_of, has_places, offered_from}
+use Rattle.wdf_model.specs.Plans.{declares}
+use Rattle.wdf_model.specs.parts.Tree.{next_id}
+use Rattle.wdf_model.specs.rules.Groups.{callback_for, places_if, places_in}
+use Rattle.wdf_ready.specs.Search.{can_start, can_start_for, events_of, has_places, offered_from}
 use Rattle.wdf_ready.proofs.Places.{past}
 
 -- ---- the loop
@@ -31,12 +33,6 @@ module _ (p : Group → Bool) (gs : List Group) (k : ℕ) (g : Group) (kept : Li
       let this : filter p (get_or gs k g ∷ []) ≡ [] = rw e refl in
       so_far ∙ sym (ap (filter p) (take_more gs k g there) ∙ filter-append p (take k gs) (get_or gs k g ∷ []) ∙ ap (λ xs. filter p (take k gs) ++ xs) this ∙ append_nothing (filter p (take k gs)))
 
-pub all_taken : (gs : List Group) (k : ℕ) → length gs ≤ k → take k gs ≡ gs
-all_taken [] zero h = refl
-all_taken [] (suc k) h = refl
-all_taken (g ∷ gs) zero h = absurd (omega arith)
-all_taken (g ∷ gs) (suc k) h = ap (λ xs. g ∷ xs) (all_taken gs k (omega arith))
-
 -- ---- how many there are
 
 fewer_by : (p : Group → Bool) (g : Group) (gs : List Group) (b : Bool) → p g ≡ b → length (filter p gs) ≤ length gs → length (filter p (g ∷ gs)) ≤ length (g ∷ gs)
@@ -55,13 +51,16 @@ no_place false n e = refl
 
 module _ {A : Type 0} (plan : Plan) (m : Meaning A) (S : State A) where
   no_start_places : (cpu : ℕ) (r : Rank) → can_start plan r ≡ false → places_in plan S (group.Starts cpu r) ≡ 0
-  no_start_places cpu rank.Cleanup e = no_place (can_start plan rank.Cleanup) _ e
-  no_start_places cpu rank.Destroy e = no_place (can_start plan rank.Destroy) _ e
+  no_start_places cpu rank.Cleanup e = no_place (can_start plan rank.Cleanup) (next_id S.tree) e
+  no_start_places cpu rank.Destroy e = no_place (can_start plan rank.Destroy) (next_id S.tree) e
   no_start_places cpu _ e = absurd (let z : ⊥ = cc in z)
 
+  no_places_for : (cpu : ℕ) (r : Rank) (o : ℕ) → can_start_for plan r o ≡ false → places_in plan S (group.StartsFor cpu r o) ≡ 0
+  no_places_for cpu rank.Completion o e = absurd (let z : ⊥ = cc in z)
+  no_places_for cpu r o e = no_place (declares plan (callback_for r) o) (length S.requests.all) e
+
   no_places : (g : Group) → has_places plan g ≡ false → places_in plan S g ≡ 0
-  no_places (group.StartsFor cpu rank.Completion o) e = absurd (let z : ⊥ = cc in z)
-  no_places (group.StartsFor cpu r o) e = no_place (has_places plan (group.StartsFor cpu r o)) _ e
+  no_places (group.StartsFor cpu r o) e = no_places_for cpu r o e
   no_places (group.Starts cpu r) e = no_start_places cpu r e
   no_places _ e = absurd (let z : ⊥ = cc in z)
 

@@ -46,10 +46,14 @@ can_start plan rank.Cleanup = is_declared_somewhere plan callback.EvtCleanupCall
 can_start plan rank.Destroy = is_declared_somewhere plan callback.EvtDestroyCallback
 can_start plan _ = true
 
+-- an object declares a rank's callback for requests; the group of completion routines is kept for each target
+abbrev pub can_start_for : Plan → Rank → ℕ → Bool
+can_start_for plan rank.Completion o = true
+can_start_for plan r o = declares plan (callback_for r) o
+
 -- a group can have places: a callback that nothing declares has none
 abbrev pub has_places : Plan → Group → Bool
-has_places plan (group.StartsFor cpu rank.Completion o) = true
-has_places plan (group.StartsFor cpu r o) = declares plan (callback_for r) o
+has_places plan (group.StartsFor cpu r o) = can_start_for plan r o
 has_places plan (group.Starts cpu r) = can_start plan r
 has_places plan _ = true
 

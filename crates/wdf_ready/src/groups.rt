@@ -42,9 +42,7 @@ fn has_places(plan: &IndexedPlan, group: Group) -> bool
     ensures { result ≡ search.has_places plan.now group }
 {
     match group {
-        Group::StartsFor { rank, object, .. } => {
-            matches!(rank, Rank::Completion) || plan.declares(callback_for(rank), ObjectId(object))
-        }
+        Group::StartsFor { rank, object, .. } => can_start_for(plan, rank, ObjectId(object)),
         Group::Starts { rank, .. } => can_start(plan, rank),
         _ => true,
     }
@@ -58,6 +56,16 @@ fn can_start(plan: &IndexedPlan, rank: Rank) -> bool
         Rank::Cleanup => is_declared_somewhere(plan, Callback::EvtCleanupCallback),
         Rank::Destroy => is_declared_somewhere(plan, Callback::EvtDestroyCallback),
         _ => true,
+    }
+}
+
+/// Whether an object declares a rank's callback for requests. The group of completion routines is kept for each target.
+fn can_start_for(plan: &IndexedPlan, rank: Rank, object: ObjectId) -> bool
+    ensures { result ≡ search.can_start_for plan.now rank object.0 }
+{
+    match rank {
+        Rank::Completion => true,
+        _ => plan.declares(callback_for(rank), object),
     }
 }
 

@@ -2,4 +2,8 @@
 #![tactic(auto)]
 
 #[cfg(test)]
-mod builders;
+mod plans;
+#[cfg(test)]
+mod scenes;
+#[cfg(test)]
+mod words;

@@ -77,9 +77,11 @@ fn words_of(alloc: Global, arguments: io::Result<Args>) -> Result<Vec<String>, A
     }
 }
 
-/// The arguments after the first, which is the program's name.
+/// The arguments after the first, which is the program's name. Room for all is asked for once, so a refusal is told.
 fn after_name(alloc: Global, arguments: Args) -> Result<Vec<String>, AllocError>
     ensures { IfOk result (λ words. words.items ≡ drop 1 (into_iter_items arguments)) }
 {
-    arguments.skip(1).collect(alloc)
+    let mut words = Vec::with_capacity(alloc, arguments.len())?;
+    words.extend(arguments.skip(1))?;
+    Ok(words)
 }

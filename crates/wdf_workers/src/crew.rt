@@ -2,6 +2,7 @@
 ghost use Rattle.std.specs.Prelude.{◌≡◌};
 ghost use Rattle.wdf_model.specs.Runs.{place_for};
 ghost use Rattle.wdf_model.specs.rules.Ready.{ready};
+ghost use Rattle.wdf_workers.specs.Crews as crews;
 ghost use Rattle.wdf_workers.specs.Crews.{takes_of};
 
 use wdf_base::{Actor, Agent, Event};
@@ -21,7 +22,9 @@ pub enum Crew {
 
 /// The crew of a worker, counted from 0: first a worker for each processor, then one for the framework
 /// and the clock, then one for all agents.
-pub fn crew_of(worker: usize, processors: u8) -> Crew {
+pub fn crew_of(worker: usize, processors: u8) -> Crew
+    ensures { result ≡ crews.crew_of worker processors }
+{
     if worker < usize::from(processors) {
         Crew::Processor(worker as u8)
     } else if worker == usize::from(processors) {

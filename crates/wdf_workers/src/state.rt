@@ -68,7 +68,7 @@ fn take_first<A: Agent>(core: &mut Core<A>, crew: Crew) -> Progress
             core.apply(place);
             Progress::Added
         }
-        None if core.ready_len() == 0 => Progress::Over,
-        None => Progress::Waits,
+        None if core.any_ready() => Progress::Waits,
+        None => Progress::Over,
     }
 }

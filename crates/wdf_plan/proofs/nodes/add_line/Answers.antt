@@ -1,4 +1,3 @@
-use Rattle.wdf_plan.specs.Fitting.{Every, IsFitNode}
 use Rattle.wdf_plan.proofs.NodeLists.{line_nodes, listing_line}
 use Rattle.wdf_plan.proofs.nodes.add_line.Goals as goal
 

@@ -1,5 +1,5 @@
 use Rattle.std.proofs.Common.{arith, rules, ◌<◌, ◌^◌}
-use Rattle.wdf_plan.specs.Parts.{class_on, pnp_post, register_on, when_on}
+use Rattle.wdf_plan.specs.Parts.{pnp_post, register_on, when_on}
 use Rattle.wdf_plan.specs.Scripts.{script_on}
 use Rattle.wdf_plan.proofs.Every.{every_any}
 use Rattle.wdf_plan.proofs.Fitting.{lines_room}

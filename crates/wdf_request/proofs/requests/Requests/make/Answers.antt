@@ -1,5 +1,6 @@
 -- Nothing is kept of no request.
 use Rattle.std.proofs.Common.{refl, lit≤, arith}
+use Rattle.std.specs.Prelude.{IfOk, IsErr, Result, Ok, Err}
 use Rattle.wdf_model.specs.declared.entries.Request.{Request}
 use Rattle.wdf_model.specs.parts.Requests.{is_closing, is_due}
 use Rattle.wdf_request.specs.Keys.{returning_queue, sent_target, unfinished_device}
@@ -25,3 +26,11 @@ invariant_of-result c =
 
 pub returns : goal.returns
 returns c = rw c.in_ok-with_capacity.ensures.items refl
+
+-- an error is no value
+failed : {T E : Type 0} (r : Result T E) (P : T → Type 0) → IsErr r → IfOk r P
+failed (Ok x) P h = absurd (let z : ⊥ = cc in z)
+failed (Err e) P h = tt
+
+pub returns-in_err-make-6 : goal.returns-in_err-make-6
+returns-in_err-make-6 c = failed c.from_residual-in_err-make-6.result _ c.from_residual-in_err-make-6.ensures.0
