@@ -3,13 +3,14 @@
 
     tools/scene_to_plan.py specs tools/runs/power/*.scn > crates/wdf_worked/specs/RunsOfPower.antt
     tools/scene_to_plan.py proofs tools/runs/power/*.scn > crates/wdf_worked/proofs/RunsOfPower.antt
-    tools/scene_to_plan.py specs tools/stuck/*.scn > crates/wdf_blame_cases/specs/StuckRuns.antt
+    tools/scene_to_plan.py specs SCENARIOS OF tools/stuck > crates/wdf_blame_cases/specs/StuckObjects.antt
     tools/scene_to_plan.py proofs tools/stuck/*.scn > crates/wdf_blame_cases/proofs/StuckRuns.antt
     tools/scene_to_plan.py specs tools/silent/*.scn > crates/wdf_blame_cases/specs/SilentRuns.antt
 
 Each argument after the first is the path of a scenario `NAME.scn` with its trace beside it in `NAME.out`;
 NAME names the run. `specs` gives the plan, the events and the wait list of each, `proofs` that the definitions
-of wdf_model compute them. The runs of tools/stuck and tools/spinning are for crates/wdf_blame_cases, and so
+of wdf_model compute them. The runs of tools/stuck have three files of specs: StuckObjects, StuckRequests and
+StuckSequences. They and those of tools/spinning are for crates/wdf_blame_cases, and so
 are those of tools/silent, which targets never answer: of these only the specs are written here. What it writes
 still has to go through `rt tidy` in the crate. It serves the worked runs alone: what the program reads is read
 by its own parser.

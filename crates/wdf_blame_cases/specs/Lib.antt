@@ -1,4 +1,6 @@
-pub mod StuckRuns
+pub mod StuckObjects
+pub mod StuckRequests
+pub mod StuckSequences
 pub mod SpinningRuns
 pub mod Silence
 pub mod SilentRuns
