@@ -43,6 +43,10 @@ enum Act {
     Complete,
     /// A request is forgotten.
     Forget(ObjectId),
+    /// What waits in a queue or returns to it is to be completed.
+    Close(ObjectId),
+    /// What returns to a queue is to be completed.
+    CloseReturning(ObjectId),
     /// This holds.
     Is(Fact),
 }
@@ -58,6 +62,8 @@ enum Fact {
     Arrival(u16, u32, Option<ObjectId>),
     /// The place of the request.
     At(Place),
+    /// The first request from an id on for which EvtRequestCancel is due.
+    NextDue(u32, Option<ObjectId>),
     /// How many ids there are.
     Len(u32),
 }
@@ -80,6 +86,7 @@ fn holds(requests: &Requests, fact: Fact) -> bool {
         Fact::Open(due) => { requests.unfinished_at(DEVICE) == due && requests.some_open() == due }
         Fact::Arrival(agent, k, due) => requests.arrival_of(agent, k) == due,
         Fact::At(due) => requests.request(REQUEST).place == due,
+        Fact::NextDue(from, due) => requests.next_due(ObjectId(from)) == due,
         Fact::Len(due) => requests.len() == due,
     }
 }
@@ -110,14 +117,22 @@ fn does_to_it(requests: &mut Requests, act: Act) -> bool {
     true
 }
 
+/// A request is forgotten, or those of a queue are closed; whether the act is one of these.
+fn ends(requests: &mut Requests, act: Act) -> bool {
+    match act {
+        Act::Forget(id) => requests.forget(id),
+        Act::Close(q) => requests.close(q),
+        Act::CloseReturning(q) => requests.close_returning(q),
+        _ => return false,
+    }
+    true
+}
+
 /// Does an act; whether it may come, and the answer is the due one.
 fn does(requests: &mut Requests, act: Act) -> bool {
     match act {
         Act::Arrive(id, arrival) => arrives(requests, id, arrival),
-        Act::Forget(id) => {
-            requests.forget(id);
-            true
-        }
+        Act::Forget(_) | Act::Close(_) | Act::CloseReturning(_) => ends(requests, act),
         Act::Is(fact) => holds(requests, fact),
         _ => does_to_it(requests, act),
     }
@@ -315,6 +330,42 @@ static ARRIVALS: [Act; 20] = [
     Act::Is(Fact::Len(14)),
 ];
 
+/// EvtRequestCancel is due for a marked request from its cancel until it starts.
+static DUE: [Act; 9] = [
+    ARRIVED,
+    PRESENTED,
+    MARKED,
+    Act::Is(Fact::NextDue(0, None)),
+    Act::Cancel,
+    Act::Is(Fact::NextDue(10, Some(REQUEST))),
+    Act::Is(Fact::NextDue(11, None)),
+    Act::TakeCancel,
+    Act::Is(Fact::NextDue(0, None)),
+];
+
+const CLOSING: Act = Act::Is(Fact::At(Place::Closing(Status::Cancelled)));
+
+/// What returns to a queue is to be completed with CANCELLED, and at its purge also what waits
+/// there. What the driver owns, and what is of another queue, stays.
+static CLOSED: [Act; 16] = [
+    ARRIVED,
+    Act::CloseReturning(QUEUE),
+    Act::Is(Fact::At(Place::Queued(QUEUE))),
+    Act::Close(OTHER),
+    Act::Is(Fact::At(Place::Queued(QUEUE))),
+    Act::Close(QUEUE),
+    CLOSING,
+    Act::To(Place::Returning(OTHER)),
+    Act::CloseReturning(QUEUE),
+    Act::Is(Fact::At(Place::Returning(OTHER))),
+    Act::CloseReturning(OTHER),
+    CLOSING,
+    PRESENTED,
+    Act::Close(QUEUE),
+    Act::CloseReturning(QUEUE),
+    Act::Is(Fact::At(Place::Owned)),
+];
+
 /// What is wrong where no request came before: the place of an act that isn't as due, or the number
 /// of acts where the request isn't as the case says after them.
 fn wrong_in(mut requests: Requests, acts: &[Act], due: Option<&Case>) -> Option<usize> {
@@ -357,6 +408,8 @@ fn wrong_of_all(alloc: Global, plan: &Plan) -> Result<Wrong, Memory> {
     for (name, acts) in [
         ("moves", MOVES.as_slice()),
         ("arrivals", ARRIVALS.as_slice()),
+        ("due", DUE.as_slice()),
+        ("closed", CLOSED.as_slice()),
     ] {
         match wrong_of(alloc, plan, acts, None) {
             Ok(None) => {}

@@ -37,8 +37,12 @@ pub enum Fact {
     Len(u32),
     /// Whether there is no room for another counted object.
     Full(bool),
+    /// The first object from an id on whose turn among its siblings has come.
+    TurnFrom(u32, Option<u32>),
     /// The first object from an id on that is cleaned up, and isn't destroyed yet.
     CleanedFrom(u32, Option<u32>),
+    /// Whether some deletion isn't finished.
+    SomeLeaving(bool),
 }
 
 /// Whether the walk through the subtree of an object comes to these ids.
@@ -89,6 +93,7 @@ fn holds_of_deletion(tree: &Tree, fact: Fact) -> bool {
         Fact::GoesFirst(o, due) if o < tree.len() => {
             tree.goes_first(ObjectId(o)) == due.map(ObjectId)
         }
+        Fact::TurnFrom(from, due) => tree.turn_from(ObjectId(from)) == due.map(ObjectId),
         Fact::CleanedFrom(from, due) => { tree.cleaned_from(ObjectId(from)) == due.map(ObjectId) }
         _ => holds_of_one(tree, fact),
     }
@@ -105,6 +110,7 @@ pub fn holds(tree: &Tree, plan: &Plan, fact: Fact) -> bool {
         Fact::NextId(due) => tree.next_id().0 == due,
         Fact::Len(due) => tree.len() == due,
         Fact::Full(due) => tree.is_full() == due,
+        Fact::SomeLeaving(due) => tree.some_leaving() == due,
         _ => holds_of_deletion(tree, fact),
     }
 }
