@@ -16,10 +16,10 @@ use crate::requests::{
     requeue_to_origin, send_outcome, unmark_outcome,
 };
 use wdf_base::{Agent, Call, CallKind, Cpu, FrameId};
-use wdf_model::{Deed, Mode};
+use wdf_model::{Deed, Mode, object_in};
 use wdf_parts::{Deeds, Parts};
 use wdf_plans::IndexedPlan;
-use wdf_rules::{is_number, object_in};
+use wdf_rules::is_number;
 
 /// What a call of a frame on a processor answers and does; of a call that waits, its first part.
 pub fn outcome<A: Agent>(

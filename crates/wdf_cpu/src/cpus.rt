@@ -1,18 +1,15 @@
 ghost use Rattle.std.specs.Prelude.{◌≡◌, [], length, replicate, IfOk};
 ghost use Rattle.std.specs.Option.{option_map};
 ghost use Rattle.wdf_model.specs.parts.Cpus.{opening_cpus, no_frame};
-ghost use Rattle.wdf_model.specs.State.{object_in};
 ghost use Rattle.wdf_cpu.specs.Keys.{object_key, wait_key};
 
 use crate::stack::Stack;
 use std::alloc::Global;
 use std::collections::VecDeque;
 use std::marker::Model;
-use wdf_base::{
-    Arg, Callback, Frame, Handle, Irql, Memory, ObjectId, Plan, Status, VARIABLES, Value,
-};
+use wdf_base::{Callback, Frame, Handle, Irql, Memory, ObjectId, Plan, Status, VARIABLES, Value};
 use wdf_counts::Counts;
-use wdf_model::{EVENTS, FRAMES, HeldLevel, Running};
+use wdf_model::{EVENTS, FRAMES, HeldLevel, Running, object_in};
 
 /// The handle of no object.
 const NO_HANDLE: Handle = Handle {
@@ -122,14 +119,4 @@ pub(crate) fn wait_key(frame: &Frame) -> Option<ObjectId>
 {
     let pending = frame.pending?;
     Some(object_in(pending.call.a))
-}
-
-/// The object that an argument names, the id 0 where it is none.
-fn object_in(arg: Arg) -> ObjectId
-    ensures { result.0 ≡ object_in arg }
-{
-    match arg {
-        Arg::Val(Value::Obj(handle)) => handle.id,
-        _ => ObjectId(0),
-    }
 }

@@ -13,7 +13,7 @@ use wdf_base::{
     Arg, Call, CallKind, Event, Handle, Memory, ObjectId, Plan, Post, Status, Value, same_object_id,
 };
 use wdf_declared::target_of;
-use wdf_model::SentRequest;
+use wdf_model::{SentRequest, object_in};
 use wdf_same::same_value;
 
 /// The driver below: it keeps what is sent to it in order, each for a stated time. (own)
@@ -61,13 +61,6 @@ fn is_due(now: u64, sent: &SentRequest) -> bool
     ensures { result ≡ target.is_due_sent now sent.now }
 {
     sent.told || sent.tick <= now
-}
-
-/// The object that an argument names, the id 0 where it names none.
-fn object_in(argument: Arg) -> ObjectId
-    ensures { result.0 ≡ state.object_in argument }
-{
-    handle_in(argument).map_or(ObjectId(0), |handle| handle.id)
 }
 
 /// Whether an argument names this target.

@@ -188,7 +188,7 @@ all_acknowledged plan before (Some d) = list_all (is_acknowledged_at plan before
 abbrev pub law_6 : Plan → List Event → Event → Bool
 law_6 plan before e = all_acknowledged plan before (passed stage.Settled e) && all_acknowledged plan before (begun_on callback.EvtDeviceD0Exit e)
 
--- ---- 7: a cancel callback comes once, for a request that was cancelled while marked
+-- ---- 7: a cancel callback comes once, for a request that is marked and whose cancel was posted
 
 abbrev pub is_cancel_due : List Event → Option ℕ → Bool
 is_cancel_due before None = true

@@ -10,7 +10,7 @@ pub enum Sign {
     Completion(u32),
     /// The driver takes a request from a queue.
     TakingFrom { request: u32, queue: u32 },
-    /// The driver gives a request up.
+    /// The driver gives a request up, or the framework completes it.
     GivingUp(u32),
     /// A request enters a queue at its head.
     AtHead(u32),

@@ -26,7 +26,7 @@ pub fn completed_once<A>()
     ensures { (plan : Plan) (m : Meaning A) (run : List Event) → IsRunOf plan m run → CompletedOnce run }
 {}
 
-/// In every run a request that is Done stays Done, whatever event follows.
+/// In every run a request that came and is Done stays Done, whatever event may follow.
 pub fn done_stays_done<A>()
     ensures { (plan : Plan) (m : Meaning A) (run : List Event) (k : ℕ) (e : Event) (r : ℕ) → IsRunOf plan m run
         → slice_get (ready plan m run) k ≡ Some e → r < next_id (state_after plan m run).tree

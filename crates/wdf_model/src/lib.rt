@@ -2,6 +2,7 @@
 //! what may follow in a state, and what an event changes; and runs, over any machine.
 #![tactic(auto)]
 
+mod arguments;
 mod deed;
 mod entries;
 mod enums;
@@ -12,6 +13,7 @@ pub mod laws_of_runs;
 mod room;
 pub mod worked;
 
+pub use arguments::object_in;
 pub use deed::Deed;
 pub use entries::{
     CELLS, DeviceAction, DevicePower, Held, HeldLevel, Holding, Node, QueueControl, QueuePower,

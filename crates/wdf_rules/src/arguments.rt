@@ -1,22 +1,11 @@
 //! What is wrong with the arguments of a call.
 ghost use Rattle.std.specs.Prelude.{◌≡◌};
 ghost use Rattle.wdf_base.specs.Calls as calls;
-ghost use Rattle.wdf_model.specs.State as state;
 ghost use Rattle.wdf_model.specs.rules.Faults as faults;
 
 use crate::view::View;
-use wdf_base::{Arg, Call, Kind, Life, ObjectId, Sort, Value};
+use wdf_base::{Arg, Call, Kind, Life, Sort, Value};
 use wdf_same::same_kind;
-
-/// The object that an argument names, the id 0 where it names none.
-pub fn object_in(argument: Arg) -> ObjectId
-    ensures { result.0 ≡ state.object_in argument }
-{
-    match argument {
-        Arg::Val(Value::Obj(handle)) => handle.id,
-        _ => ObjectId(0),
-    }
-}
 
 /// Whether an argument is this number.
 pub fn is_number(argument: Arg, number: u64) -> bool

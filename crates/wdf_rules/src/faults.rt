@@ -1,7 +1,7 @@
 ghost use Rattle.std.specs.Prelude.{◌≡◌};
 ghost use Rattle.wdf_model.specs.rules.Faults as faults;
 
-use crate::arguments::{any_script_error, any_stale, any_wrong_kind, object_in};
+use crate::arguments::{any_script_error, any_stale, any_wrong_kind};
 use crate::groups::{
     forgets_made, gives_up, greatest_level, holds_lock, holds_scope, is_acquire, is_due, is_marked,
     is_never_deleted, is_not_owned, is_release, is_stop_of, waits_for_others,

@@ -5,7 +5,7 @@ ghost use Rattle.wdf_model.specs.Tables as tables;
 ghost use Rattle.wdf_model.specs.parts.Requests as requests;
 ghost use Rattle.wdf_model.specs.rules.Faults as faults;
 
-use crate::arguments::{is_number, object_in};
+use crate::arguments::is_number;
 use crate::view::View;
 use wdf_base::{
     Call, CallKind, CallLevel, Callback, Handle, Kind, LockRef, Mark, ObjectId, Place,

@@ -7,6 +7,6 @@ mod faults;
 mod groups;
 mod view;
 
-pub use arguments::{is_number, object_in};
+pub use arguments::is_number;
 pub use faults::fault_of;
 pub use view::View;

@@ -3,7 +3,8 @@ use crate::sight::*;
 use crate::values::*;
 use std::test::Fail;
 use wdf_base::{CallKind, Change, Fault, Intent, Kind, LockRef, ObjectId, Status, Value};
-use wdf_rules::{is_number, object_in};
+use wdf_model::object_in;
+use wdf_rules::is_number;
 
 static DEREFERENCE: [Doing; 1] = [(Kind::General, CallKind::WdfObjectDereference, &[IT])];
 

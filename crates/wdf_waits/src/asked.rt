@@ -7,10 +7,9 @@ ghost use Rattle.wdf_model.specs.rules.Waits as waits;
 ghost use Rattle.wdf_waits.specs.Asked as asked;
 
 use wdf_base::{Agent, Callback, Frame, ObjectId, Pending, Place, same_callback};
-use wdf_model::Request;
+use wdf_model::{Request, object_in};
 use wdf_parts::Parts;
 use wdf_plans::IndexedPlan;
-use wdf_rules::object_in;
 
 /// What is asked of a frame.
 #[derive(Clone, Copy, Debug, PartialEq, Eq)]

@@ -14,9 +14,9 @@ use crate::least::{least_held_from, least_returning_to, least_sent_to, lesser_if
 use crate::queues::least_waiting;
 use wdf_base::{Agent, Call, CallKind, Cause, FrameId, ObjectId, OpenThing, Pending, WaitLine};
 use wdf_calls::is_met;
+use wdf_model::object_in;
 use wdf_parts::Parts;
 use wdf_plans::IndexedPlan;
-use wdf_rules::object_in;
 
 /// The least request that the driver holds from a queue.
 fn by_held<A: Agent>(plan: &IndexedPlan, parts: &Parts<A>, q: ObjectId) -> Option<Cause>
