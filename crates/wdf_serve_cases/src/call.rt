@@ -1,7 +1,7 @@
 //! One call of the program over a source and a sink in memory.
 use std::alloc::Global;
-use std::test::Fail;
 use std::thread::Threads;
+use wdf_base::Memory;
 use wdf_io::{MemSink, MemSource};
 use wdf_serve::top;
 use wdf_turn::Gate;
@@ -27,13 +27,63 @@ pub const STEADY: Outside = Outside {
 /// The bytes that the sink can hold.
 const ROOM: usize = 65_536;
 
+/// Adds a word.
+fn add_word(all: &mut Vec<String>, alloc: Global, word: &str) -> Result<(), Memory> {
+    let word = String::from_str(alloc, word)?;
+    all.push(word)?;
+    Ok(())
+}
+
 /// The words after the program's name.
-fn words_of(alloc: Global, words: &str) -> Result<Vec<String>, Fail> {
+fn words_of(alloc: Global, words: &str) -> Result<Vec<String>, Memory> {
     let mut all = Vec::new(alloc);
     for word in words.split_whitespace() {
-        all.push(String::from_str(alloc, word)?)?;
+        match add_word(&mut all, alloc, word) {
+            Ok(()) => {}
+            Err(memory) => return Err(memory),
+        }
     }
     Ok(all)
+}
+
+/// A source of an input.
+fn source_of(alloc: Global, input: &[u8], outside: Outside) -> Result<MemSource, Memory> {
+    let input = Vec::from_slice(alloc, input)?;
+    let fails = Vec::from_slice(alloc, &[outside.read_fails])?;
+    Ok(MemSource::new(input, fails, outside.piece.max(1)))
+}
+
+/// An empty sink.
+fn sink_for(alloc: Global, outside: Outside) -> Result<MemSink, Memory> {
+    let fails = Vec::from_slice(alloc, &[outside.write_fails])?;
+    MemSink::new(alloc, ROOM, fails)
+}
+
+/// The status that the program ends with over a source and a sink.
+fn status_over<R: Threads + Sync, G: Gate + Sync>(
+    rt: &R,
+    alloc: Global,
+    words: &[String],
+    mut source: MemSource,
+    sink: &mut MemSink,
+    gate: &G,
+) -> u8 {
+    top(rt, alloc, words, &mut source, sink, gate)
+}
+
+/// The same with words that are parted here.
+fn status_of<R: Threads + Sync, G: Gate + Sync>(
+    rt: &R,
+    alloc: Global,
+    words: &str,
+    source: MemSource,
+    sink: &mut MemSink,
+    gate: &G,
+) -> Result<u8, Memory> {
+    match words_of(alloc, words) {
+        Ok(words) => Ok(status_over(rt, alloc, &words, source, sink, gate)),
+        Err(memory) => Err(memory),
+    }
 }
 
 /// The status that the program ends with, and where it wrote.
@@ -44,13 +94,9 @@ pub fn call<R: Threads + Sync, G: Gate + Sync>(
     input: &[u8],
     outside: Outside,
     gate: &G,
-) -> Result<(u8, MemSink), Fail> {
-    let words = words_of(alloc, words)?;
-    let read_fails = Vec::from_slice(alloc, &[outside.read_fails])?;
-    let write_fails = Vec::from_slice(alloc, &[outside.write_fails])?;
-    let input = Vec::from_slice(alloc, input)?;
-    let mut source = MemSource::new(input, read_fails, outside.piece.max(1));
-    let mut sink = MemSink::new(alloc, ROOM, write_fails)?;
-    let status = top(rt, alloc, &words, &mut source, &mut sink, gate);
+) -> Result<(u8, MemSink), Memory> {
+    let mut sink = sink_for(alloc, outside)?;
+    let source = source_of(alloc, input, outside)?;
+    let status = status_of(rt, alloc, words, source, &mut sink, gate)?;
     Ok((status, sink))
 }

@@ -1,67 +1,105 @@
 //! `run` with sources and sinks that fail, and inputs that have no plan.
 use crate::call::{Outside, STEADY, call};
+use crate::rows::{Row, Text, first_wrong};
+use crate::runs::is_verdict;
 use crate::texts::{KEPT, ONE_READ};
-use crate::words::verdict;
 use std::alloc::Global;
-use std::process::Abort;
 use std::test::Fail;
 use std::thread::Threads;
+use wdf_base::Memory;
 use wdf_serve::OpenGate;
 
 /// The most bytes that an input may have.
 const INPUT_LIMIT: usize = 1_048_576;
 
-/// Runs an input that comes to no run.
-fn try_refusal<R: Threads + Abort + Sync>(
-    rt: &R,
-    alloc: Global,
-    input: &[u8],
-    outside: Outside,
-    due: (u8, &[u8]),
-) -> Result<(), Fail> {
-    let (status, sink) = call(rt, alloc, "run", input, outside, &OpenGate)?;
-    assert_eq!(rt; status, due.0);
-    assert_eq!(rt; sink.written(), due.1);
+/// Inputs that come to no run.
+static REFUSALS: [Row; 6] = [
+    Row {
+        words: "run",
+        input: b"",
+        outside: STEADY,
+        status: 10,
+        text: Text::Is(b"parse refused at line 1: BadLine\n"),
+    },
+    Row {
+        words: "run",
+        input: b"cpus 9\nlimit 9\nobjects 9\n",
+        outside: STEADY,
+        status: 11,
+        text: Text::Is(b"plan refused at line 1: OverLimit cpus\n"),
+    },
+    Row {
+        words: "run",
+        input: ONE_READ,
+        outside: Outside {
+            piece: 1,
+            read_fails: 1,
+            write_fails: 0,
+        },
+        status: 12,
+        text: Text::Is(b"read fault\n"),
+    },
+    Row {
+        words: "run",
+        input: ONE_READ,
+        outside: Outside {
+            piece: 1,
+            read_fails: 2,
+            write_fails: 0,
+        },
+        status: 12,
+        text: Text::Is(b"read fault\n"),
+    },
+    Row {
+        words: "run",
+        input: ONE_READ,
+        outside: Outside {
+            piece: 4096,
+            read_fails: 1,
+            write_fails: 0,
+        },
+        status: 12,
+        text: Text::Is(b"read fault\n"),
+    },
+    Row {
+        words: "run",
+        input: ONE_READ,
+        outside: Outside {
+            piece: 4096,
+            read_fails: 2,
+            write_fails: 0,
+        },
+        status: 12,
+        text: Text::Is(b"read fault\n"),
+    },
+];
+
+#[test]
+fn what_comes_to_no_run_is_told(rt: HostRuntime) -> Result<(), Fail> {
+    assert_eq!(rt; first_wrong(&rt, rt.alloc(), &REFUSALS)?, None);
     Ok(())
 }
 
-#[test]
-fn no_scene_and_no_plan(rt: HostRuntime) -> Result<(), Fail> {
-    let alloc = rt.alloc();
-    let no_scene = (10, b"parse refused at line 1: BadLine\n".as_slice());
-    try_refusal(&rt, alloc, b"", STEADY, no_scene)?;
-    let no_plan = (11, b"plan refused at line 1: OverLimit cpus\n".as_slice());
-    try_refusal(&rt, alloc, b"cpus 9\nlimit 9\nobjects 9\n", STEADY, no_plan)
+/// Whether an input with one byte too many is told.
+fn is_too_large<R: Threads + Sync>(rt: &R, alloc: Global, input: &[u8]) -> Result<bool, Memory> {
+    match call(rt, alloc, "run", input, STEADY, &OpenGate) {
+        Ok((status, sink)) => Ok(status == 14 && sink.written() == b"input too large\n".as_slice()),
+        Err(memory) => Err(memory),
+    }
 }
 
 #[test]
 fn an_input_is_too_large(rt: HostRuntime) -> Result<(), Fail> {
     let mut input = Vec::new(rt.alloc());
     input.resize(INPUT_LIMIT + 1, b'\n')?;
-    let too_large = (14, b"input too large\n".as_slice());
-    try_refusal(&rt, rt.alloc(), &input, STEADY, too_large)
-}
-
-#[test]
-fn a_failed_read_is_told(rt: HostRuntime) -> Result<(), Fail> {
-    for piece in [1, 4096] {
-        for read_fails in [1, 2] {
-            let outside = Outside {
-                piece,
-                read_fails,
-                ..STEADY
-            };
-            let fault = (12, b"read fault\n".as_slice());
-            try_refusal(&rt, rt.alloc(), ONE_READ, outside, fault)?;
-        }
-    }
+    assert!(rt; is_too_large(&rt, rt.alloc(), &input)?);
     Ok(())
 }
 
 /// A scenario whose runs all have as many lines and one status.
 struct Pieces {
     scenario: &'static [u8],
-    lines: u64,
+    lines: usize,
     status: u8,
     /// What `replay` says of its runs.
     verdict: &'static [u8],
@@ -82,45 +120,88 @@ static PIECES: [Pieces; 2] = [
     },
 ];
 
-/// The verdict on a text from which the lines from this one on are missing.
-fn missing_from(alloc: Global, line: u64) -> Result<String, Fail> {
-    Ok(format!(in alloc; "refused at line {line}: Missing\n")?)
+/// The verdicts on texts that end before a line, from the first on.
+static MISSING: [&[u8]; 7] = [
+    b"refused at line 1: Missing\n",
+    b"refused at line 2: Missing\n",
+    b"refused at line 3: Missing\n",
+    b"refused at line 4: Missing\n",
+    b"refused at line 5: Missing\n",
+    b"refused at line 6: Missing\n",
+    b"refused at line 7: Missing\n",
+];
+
+/// The status and the verdict that are due where the write with this number fails.
+fn due_at(pieces: &Pieces, number: usize) -> (u8, &'static [u8]) {
+    if number > pieces.lines {
+        return (pieces.status, pieces.verdict);
+    }
+    match MISSING.get(number.saturating_sub(1)) {
+        Some(missing) => (13, *missing),
+        None => (pieces.status, pieces.verdict),
+    }
 }
 
-/// Lets one write fail. The lines before it are a front of some run's text, and there is nothing after them.
-fn try_write<R: Threads + Abort + Sync>(
+/// Whether a text has whole lines alone.
+fn has_whole_lines(text: &[u8]) -> bool {
+    text.is_empty() || text.ends_with(b"\n")
+}
+
+/// Whether a front of a run's text is what is due where the write with this number fails.
+fn is_front<R: Threads + Sync>(
     rt: &R,
     alloc: Global,
     pieces: &Pieces,
-    number: u64,
-) -> Result<(), Fail> {
+    written: &[u8],
+    number: usize,
+) -> Result<bool, Memory> {
+    let (_, verdict) = due_at(pieces, number);
+    if !has_whole_lines(written) {
+        return Ok(false);
+    }
+    is_verdict(rt, alloc, pieces.scenario, written, Text::Is(verdict))
+}
+
+/// Lets one write fail. Whether the lines before it are a front of some run's text, with nothing after them.
+fn leaves_front<R: Threads + Sync>(
+    rt: &R,
+    alloc: Global,
+    pieces: &Pieces,
+    number: usize,
+) -> Result<bool, Memory> {
     let outside = Outside {
-        write_fails: number,
+        write_fails: number as u64,
         ..STEADY
     };
-    let (status, sink) = call(rt, alloc, "run", pieces.scenario, outside, &OpenGate)?;
-    let found = verdict(rt, alloc, pieces.scenario, sink.written())?;
-    if number <= pieces.lines {
-        assert_eq!(rt; status, 13, "at {number}");
-        assert!(rt; sink.written().is_empty() || sink.written().ends_with(b"\n"));
-        assert_eq!(rt;
-            found.as_slice(),
-            missing_from(alloc, number)?.as_bytes(),
-            "at {number}"
-        );
-    } else {
-        assert_eq!(rt; status, pieces.status, "at {number}");
-        assert_eq!(rt; found.as_slice(), pieces.verdict, "at {number}");
+    match call(rt, alloc, "run", pieces.scenario, outside, &OpenGate) {
+        Ok((status, sink)) => {
+            let front = is_front(rt, alloc, pieces, sink.written(), number)?;
+            Ok(front && status == due_at(pieces, number).0)
+        }
+        Err(memory) => Err(memory),
     }
-    Ok(())
+}
+
+/// The number of the first of twenty writes that leaves no front where it fails.
+fn first_wrong_write<R: Threads + Sync>(
+    rt: &R,
+    alloc: Global,
+    pieces: &Pieces,
+) -> Result<Option<usize>, Memory> {
+    for number in 1..=20 {
+        match leaves_front(rt, alloc, pieces, number) {
+            Ok(true) => {}
+            Ok(false) => return Ok(Some(number)),
+            Err(memory) => return Err(memory),
+        }
+    }
+    Ok(None)
 }
 
 #[test]
 fn a_failed_write_leaves_a_front(rt: HostRuntime) -> Result<(), Fail> {
     for pieces in &PIECES {
-        for number in 1..=20 {
-            try_write(&rt, rt.alloc(), pieces, number)?;
-        }
+        assert_eq!(rt; first_wrong_write(&rt, rt.alloc(), pieces)?, None);
     }
     Ok(())
 }

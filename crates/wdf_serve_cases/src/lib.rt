@@ -5,12 +5,13 @@
 mod call;
 #[cfg(test)]
 mod faults;
-mod holds;
+#[cfg(test)]
+mod rows;
+#[cfg(test)]
+mod runs;
 #[cfg(test)]
 mod texts;
 #[cfg(test)]
 mod words;
 #[cfg(test)]
 mod workers;
-
-pub use holds::{TwoEnter, Watch};

@@ -1,66 +1,35 @@
-//! The word `run`, and words of no form.
-use crate::call::{Outside, STEADY, call};
-use crate::texts::{DEVICE_SCOPE, KEPT, ONE_READ, SPINNING, TWICE};
-use std::alloc::Global;
-use std::process::Abort;
+//! Words of no form, and one of another form.
+use crate::call::STEADY;
+use crate::rows::{Row, Text, first_wrong};
+use crate::texts::ONE_READ;
 use std::test::Fail;
-use std::thread::Threads;
-use wdf_serve::OpenGate;
 
-const USAGE: &[u8] = b"usage: kmdfsim check | order | seed N | run | replay | gen N | load N\n";
+const USAGE: Text = Text::Is(
+    b"usage: kmdfsim check | order | seed N | run | replay | gen N | load N\n",
+);
 
-/// The verdict on a trace of a scenario.
-pub fn verdict<R: Threads + Sync>(
-    rt: &R,
-    alloc: Global,
-    scenario: &[u8],
-    trace: &[u8],
-) -> Result<Vec<u8>, Fail> {
-    let mut input = Vec::from_slice(alloc, scenario)?;
-    input.extend_from_slice(b"trace\n")?;
-    input.extend_from_slice(trace)?;
-    let (_, sink) = call(rt, alloc, "replay", &input, STEADY, &OpenGate)?;
-    Ok(Vec::from_slice(alloc, sink.written())?)
-}
-
-/// Runs a scenario by threads. The status is the one that is due, the text ends as it should, and `replay` accepts it.
-fn try_run<R: Threads + Abort + Sync>(
-    rt: &R,
-    alloc: Global,
-    scenario: &[u8],
-    status: u8,
-    end: &[u8],
-) -> Result<(), Fail> {
-    for piece in [1, 4096] {
-        let outside = Outside { piece, ..STEADY };
-        let (found, sink) = call(rt, alloc, "run", scenario, outside, &OpenGate)?;
-        assert_eq!(rt; found, status);
-        assert!(rt; sink.written().ends_with(end));
-        assert!(rt; verdict(rt, alloc, scenario, sink.written())?.starts_with(b"accepted "));
-    }
-    Ok(())
-}
-
-#[test]
-fn runs_are_accepted(rt: HostRuntime) -> Result<(), Fail> {
-    let alloc = rt.alloc();
-    try_run(&rt, alloc, ONE_READ, 0, b"\nfinished 6\n")?;
-    try_run(&rt, alloc, DEVICE_SCOPE, 0, b"\nfinished 14\n")?;
-    try_run(&rt, alloc, KEPT, 4, b"\nstuck 3\nreq.4 owned\n")?;
-    try_run(&rt, alloc, SPINNING, 5, b"\nlimit 50\n")?;
-    try_run(&rt, alloc, TWICE, 3, b"\n")
-}
+/// Words with the status and the text that are due.
+static WORDS: [(&str, u8, Text); 7] = [
+    ("", 2, USAGE),
+    ("run 1", 2, USAGE),
+    ("runs", 2, USAGE),
+    ("ru", 2, USAGE),
+    ("Run", 2, USAGE),
+    ("run run", 2, USAGE),
+    ("check", 0, Text::Is(ONE_READ)),
+];
 
 #[test]
 fn other_words(rt: HostRuntime) -> Result<(), Fail> {
-    let alloc = rt.alloc();
-    for words in ["", "run 1", "runs", "ru", "Run", "run run"] {
-        let (status, sink) = call(&rt, alloc, words, ONE_READ, STEADY, &OpenGate)?;
-        assert_eq!(rt; status, 2, "at {words}");
-        assert_eq!(rt; sink.written(), USAGE, "at {words}");
+    for (words, status, text) in &WORDS {
+        let row = Row {
+            words,
+            input: ONE_READ,
+            outside: STEADY,
+            status: *status,
+            text: *text,
+        };
+        assert_eq!(rt; first_wrong(&rt, rt.alloc(), &[row])?, None, "{words}");
     }
-    let (status, sink) = call(&rt, alloc, "check", ONE_READ, STEADY, &OpenGate)?;
-    assert_eq!(rt; status, 0);
-    assert_eq!(rt; sink.written(), ONE_READ);
     Ok(())
 }
