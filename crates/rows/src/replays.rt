@@ -1,9 +1,10 @@
 //! Verdicts on traces: a scenario, a line `trace`, and a trace.
 use crate::call::{Outside, Row, STEADY, call, is_answered, try_rows};
+use crate::worked::groups;
 use std::alloc::Global;
 use std::test::Fail;
 use wdf_base::Memory;
-use wdf_worked_texts::{Worked, power, processors, requests, serial, targets};
+use wdf_worked_texts::Worked;
 
 pub const WHOLE: &[u8] = b"\
 cpus 1\n\
@@ -591,13 +592,7 @@ fn first_refused(alloc: Global, runs: &'static [Worked]) -> Result<Option<&'stat
 
 #[test]
 fn worked_runs_are_accepted(rt: HostRuntime) -> Result<(), Fail> {
-    for runs in [
-        power::RUNS.as_slice(),
-        processors::RUNS.as_slice(),
-        requests::RUNS.as_slice(),
-        serial::RUNS.as_slice(),
-        targets::RUNS.as_slice(),
-    ] {
+    for runs in groups() {
         assert_eq!(rt; first_refused(rt.alloc(), runs)?, None);
     }
     Ok(())

@@ -15,6 +15,17 @@ fn status_of(ending: Ending) -> u8 {
     }
 }
 
+/// The worked runs.
+pub fn groups() -> [&'static [Worked]; 5] {
+    [
+        power::RUNS.as_slice(),
+        processors::RUNS.as_slice(),
+        requests::RUNS.as_slice(),
+        serial::RUNS.as_slice(),
+        targets::RUNS.as_slice(),
+    ]
+}
+
 /// Whether a run comes out as it is worked.
 fn comes_out(alloc: Global, run: &Worked) -> Result<bool, Memory> {
     let due = (status_of(run.ending), run.trace.as_bytes());
@@ -35,13 +46,7 @@ fn first_wrong(alloc: Global, runs: &'static [Worked]) -> Result<Option<&'static
 
 #[test]
 fn worked_runs_come_out(rt: HostRuntime) -> Result<(), Fail> {
-    for runs in [
-        power::RUNS.as_slice(),
-        processors::RUNS.as_slice(),
-        requests::RUNS.as_slice(),
-        serial::RUNS.as_slice(),
-        targets::RUNS.as_slice(),
-    ] {
+    for runs in groups() {
         assert_eq!(rt; first_wrong(rt.alloc(), runs)?, None);
     }
     Ok(())
