@@ -8,6 +8,7 @@ use crate::groups::{
 };
 use crate::view::View;
 use wdf_base::{Call, CallKind, FAULTS, Fault, Intent, LockRef, same_object_id};
+use wdf_model::object_in;
 use wdf_same::same_call_kind;
 
 /// Whether a fault's row holds of a call.

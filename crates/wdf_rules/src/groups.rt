@@ -11,6 +11,7 @@ use wdf_base::{
     Call, CallKind, CallLevel, Callback, Handle, Kind, LockRef, Mark, ObjectId, Place,
     same_callback, same_object_id,
 };
+use wdf_model::object_in;
 use wdf_same::{same_call_kind, same_frame_id, same_kind};
 
 /// Whether a call on a request needs it Owned.
