@@ -1,5 +1,6 @@
 pub mod AgentLines
 pub mod BlockLines
+pub mod DeviceLines
 pub mod FittingNumbers
 pub mod HeadLines
 pub mod ItemLines

@@ -4,6 +4,9 @@ use Rattle.std.specs.List.{filter_map}
 use Rattle.std.specs.Option.{unwrap_or}
 use Rattle.wdf_base.specs.declared.declared.ClassInfo.{ClassInfo}
 use Rattle.wdf_base.specs.declared.declared.ClassInfo.TheVariants as class
+use Rattle.wdf_base.specs.declared.declared.Declared.{Declared}
+use Rattle.wdf_base.specs.declared.declared.Declared.TheVariants as declared
+use Rattle.wdf_base.specs.declared.ids.ObjectId.{ObjectId}
 use Rattle.wdf_base.specs.declared.plan.Plan.{Plan}
 use Rattle.wdf_base.specs.declared.script.AgentInfo.{AgentInfo}
 use Rattle.wdf_base.specs.declared.script.Script.{Script}
@@ -18,7 +21,7 @@ use Rattle.wdf_plan.specs.Flow.{numbered}
 use Rattle.wdf_plan.specs.Forms.{is_app, is_device, is_statement, nodes_end}
 use Rattle.wdf_plan.specs.Placed.{placed}
 use Rattle.wdf_plan.specs.Variables.{variables, variables_at}
-use Rattle.wdf_plan_laws.specs.WrittenOut.{name_text, post_line, statement_line, node_text, owner_text, script_line}
+use Rattle.wdf_plan_laws.specs.WrittenOut.{name_text, object_text, post_line, statement_line, node_text, owner_text, script_line}
 
 -- ---- which lines
 
@@ -126,6 +129,18 @@ is_on _ = false
 -- the name that the line of a block declares
 abbrev pub block_name : Scene → Option ℕ → Option (List ℕ)
 block_name scene b = option_and_then declared_name (option_and_then (form_at scene) b)
+
+-- the device of an object that is declared in one
+abbrev pub device_in : Declared → Option ObjectId
+device_in (declared.Queue q) = Some q.device
+device_in (declared.Interrupt i) = Some i.device
+device_in (declared.Target t) = Some t.device
+device_in _ = None
+
+-- the device of an item is the one whose line opened the block of the item's line
+abbrev pub IsInDevice : Plan → Scene → Placed → Option ObjectId → Type 0
+IsInDevice plan scene p None = Unit {0}
+IsInDevice plan scene p (Some d) = block_name scene p.stand.block ≡ Some (object_text plan d)
 
 -- a callback of the plan is that of an `on` line
 pub record IsCallbackTold (plan : Plan) (scene : Scene) (p : Placed) (s : Script) : Type 0 where
