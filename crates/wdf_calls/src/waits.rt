@@ -7,10 +7,10 @@ ghost use Rattle.wdf_model.specs.parts.Requests.{info_of};
 ghost use Rattle.wdf_model.specs.rules.Calls as calls;
 
 use wdf_base::{Agent, Call, CallKind, FrameId, LockRef, ObjectId};
-use wdf_model::Deed;
+use wdf_model::{Deed, object_in};
 use wdf_parts::{Deeds, Parts};
 use wdf_plans::IndexedPlan;
-use wdf_rules::{is_number, object_in};
+use wdf_rules::is_number;
 
 /// Whether nobody holds the lock of an object.
 fn is_lock_free<A: Agent>(parts: &Parts<A>, o: ObjectId) -> bool
