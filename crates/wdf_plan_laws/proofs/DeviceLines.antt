@@ -64,7 +64,7 @@ object_row scene e p (line.Target n delay status depth) h = home_told scene e p 
 object_row scene e p _ h = tt
 
 -- the objects after the driver object
-after_driver : (scene : Scene) → drop 1 (plan_of scene).declared ≡ objects_of scene
+pub after_driver : (scene : Scene) → drop 1 (plan_of scene).declared ≡ objects_of scene
 unfolding plan_of plan_with all_objects
 after_driver scene = refl
 
