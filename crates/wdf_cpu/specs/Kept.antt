@@ -8,7 +8,7 @@ use Rattle.wdf_cpu.specs.Keys.{CountsFrames, object_key, wait_key}
 use Rattle.wdf_cpu.specs.declared.cpus.Cpus.TheInside.{Inside}
 
 abbrev pub cpus_in : Inside → Cpus
-cpus_in a = record { frames = a.frames.items; stacks = a.stacks.items; parked = a.parked.items; levels = a.levels.items }
+cpus_in a = record { frames = a.frames.items; stacks = a.stacks.items; parked = a.parked.entries; levels = a.levels.items }
 
 -- Each frame that runs or is parked is so once, and is one of the live ones.
 pub record IsLive (C : Cpus) (live : List Bool) : Type 0 where
@@ -30,7 +30,7 @@ pub record IsSound (a : Inside) : Type 0 where
   pub frames_room : FRAMES ≤ vec_capacity a.frames
   pub live_room : FRAMES ≤ vec_capacity a.live
   pub peaks_room : FRAMES ≤ vec_capacity a.peaks
-  pub parked_room : FRAMES ≤ vec_capacity a.parked
+  pub parked_room : FRAMES ≤ a.parked.room
   pub levels_room : EVENTS ≤ deque_capacity a.levels
   pub blank : a.blank ≡ blank_frame
   pub kept : IsKept (cpus_in a) a.live.items a.peaks.items a.on a.waits

@@ -9,7 +9,6 @@ ghost use Rattle.wdf_counts.specs.Counts.{count_at, moved_count};
 
 use crate::cpus::{Cpus, NO_FRAME, object_key, wait_key};
 use crate::levels::{drop_level, drop_levels, peak_of};
-use crate::rising::{drop_number, insert_number};
 use crate::stack::{pop_from, push_on};
 use wdf_base::{Cpu, Frame, FrameId, Irql, ObjectId};
 use wdf_counts::Counts;
@@ -95,7 +94,7 @@ impl Cpus {
         ensures size { length self.new.stacks ≡ length self.old.stacks }
     {
         if let Some(f) = pop_from(&mut self.stacks, cpu) {
-            insert_number(&mut self.parked, f);
+            self.parked.put(f);
         }
     }
 
@@ -106,7 +105,7 @@ impl Cpus {
         ensures done { self.new ≡ cpus.unpark self.old cpu.0 f.0 }
         ensures size { length self.new.stacks ≡ length self.old.stacks }
     {
-        drop_number(&mut self.parked, f.0);
+        self.parked.remove_number(f.0);
         push_on(&mut self.stacks, cpu, f.0);
     }
 }

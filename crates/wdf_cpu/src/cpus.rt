@@ -10,6 +10,7 @@ use std::marker::Model;
 use wdf_base::{Callback, Frame, Handle, Irql, Memory, ObjectId, Plan, Status, VARIABLES, Value};
 use wdf_counts::Counts;
 use wdf_model::{EVENTS, FRAMES, HeldLevel, Running, object_in};
+use wdf_rising::Rising;
 
 /// The handle of no object.
 const NO_HANDLE: Handle = Handle {
@@ -45,7 +46,7 @@ pub struct Cpus {
     /// The frames of each processor.
     pub(crate) stacks: Vec<Stack>,
     /// The numbers of the frames that left their processor, rising.
-    pub(crate) parked: Vec<u32>,
+    pub(crate) parked: Rising<u32>,
     /// The levels that frames hold, the latest first.
     pub(crate) levels: VecDeque<HeldLevel>,
     /// Whether a frame runs or is parked, by number.
@@ -81,7 +82,7 @@ impl Cpus {
         Ok(Cpus {
             frames: Vec::with_capacity(alloc, FRAMES as usize)?,
             stacks: empty_stacks(alloc, plan.cpus())?,
-            parked: Vec::with_capacity(alloc, FRAMES as usize)?,
+            parked: Rising::make(alloc, FRAMES)?,
             levels: VecDeque::with_capacity(alloc, EVENTS as usize)?,
             live: Vec::with_capacity(alloc, FRAMES as usize)?,
             peaks: Vec::with_capacity(alloc, FRAMES as usize)?,
