@@ -1,7 +1,7 @@
 -- The top frame is among the parked ones.
-use Rattle.std.proofs.Common.{◌≡◌, [], length, Some, None, arith}
+use Rattle.std.proofs.Common.{◌≡◌, [], length, Some, None, ap, sym, arith}
 use Rattle.wdf_model.specs.Tables.{entry, first_of_list}
-use Rattle.wdf_model.specs.parts.Cpus.{top}
+use Rattle.wdf_model.specs.parts.Cpus.{Cpus, top}
 use Rattle.wdf_cpu.specs.Kept.{cpus_in}
 use Rattle.wdf_cpu.proofs.Keeping.{empty_stays, kept_park, nothing_else, park_is}
 use Rattle.wdf_cpu.proofs.Live.{room_to_park, top_not_parked}
@@ -33,7 +33,6 @@ invariant_of-self c =
       live_room = h.live_room;
       peaks_room = h.peaks_room;
       parked_room = omega arith;
-      levels_room = h.levels_room;
       blank = h.blank;
       kept = rw (c.pop_from.ensures.rest, c.put.ensures.entries, in_order_is c.in-Some.f a.parked.entries (top_not_parked (cpus_in a) a.live.items c.args.cpu.0 c.in-Some.f is_top h.kept.live))
           (kept_park (cpus_in a) a.live.items a.peaks.items a.on a.waits c.args.cpu.0 c.in-Some.f is_top h.kept);
@@ -44,13 +43,12 @@ invariant_of-self-in_default c =
     let a = c.self.inside in
     let h = c.self.invariant in
     let none : first_of_list (entry [] a.stacks.items c.args.cpu.0) ≡ None = nothing_else _ _ c.pop_from.ensures.top c.in_default.not-Some in
-    let many : length c.args.self.now.stacks ≡ length a.stacks.items = cc in
+    let many : length c.args.self.now.stacks ≡ length a.stacks.items = ap (λ (C : Cpus). length C.stacks) (sym c.self.view_is) in
     record {
       frames_room = h.frames_room;
       live_room = h.live_room;
       peaks_room = h.peaks_room;
       parked_room = h.parked_room;
-      levels_room = h.levels_room;
       blank = h.blank;
       kept = rw (c.pop_from.ensures.rest, empty_stays a.stacks.items c.args.cpu.0 (omega arith) none) h.kept;
     }

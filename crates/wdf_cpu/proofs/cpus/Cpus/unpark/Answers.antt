@@ -22,7 +22,6 @@ invariant_of-self c =
       live_room = h.live_room;
       peaks_room = h.peaks_room;
       parked_room = omega arith;
-      levels_room = h.levels_room;
       blank = h.blank;
       kept = rw (c.push_on.ensures.pushed, c.remove_number.ensures.entries)
           (kept_unpark (cpus_in a) a.live.items a.peaks.items a.on a.waits c.args.cpu.0 c.args.f.0 is h.kept);
