@@ -2,6 +2,7 @@ pub mod Numbers
 pub mod Swapping
 pub mod Passing
 pub mod Live
+pub mod HeldLevels
 pub mod Peaks
 pub mod Keeping
 pub mod Places

@@ -17,7 +17,7 @@ impl Cpus {
         ensures value { result ≡ length (cpus.all_frames self.now) }
         ensures small { result ≤ FRAMES }
     {
-        stacked_len(&self.stacks) + self.parked.len()
+        stacked_len(&self.stacks) + self.parked.len() as usize
     }
 
     /// The frame at a place: those of each processor from its top on, then the parked ones.
@@ -25,7 +25,7 @@ impl Cpus {
         requires { place < length (cpus.all_frames self.now) }
         ensures { slice_get (cpus.all_frames self.now) place ≡ Some result.0 }
     {
-        FrameId(frame_in(&self.stacks, &self.parked, place))
+        FrameId(frame_in(&self.stacks, self.parked.as_slice(), place))
     }
 
     /// How many frames run on an object.

@@ -8,7 +8,6 @@ mod frames;
 mod levels;
 mod order;
 mod readers;
-mod rising;
 mod stack;
 
 pub use cpus::Cpus;

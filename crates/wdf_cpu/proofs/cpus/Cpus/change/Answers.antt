@@ -35,7 +35,6 @@ invariant_of-self c =
       live_room = h.live_room;
       peaks_room = h.peaks_room;
       parked_room = h.parked_room;
-      levels_room = h.levels_room;
       blank = h.blank;
       kept = rw c.set_frame.ensures.changed
           (kept_change_by (cpus_in a) a.live.items a.peaks.items a.on a.waits c.args.f.0 c.args.frame c.moves_if.new.counts c.moves_if-2.new.counts c.entry_at-live.result

@@ -35,6 +35,13 @@ put_at-requires-3 c =
     let within : c.unwrap.result < FRAMES = live_within (cpus_in a) a.live.items c.self.invariant.kept.live c.unwrap.result (omega arith) in
     record { room = omega arith }
 
+pub forget-requires : goal.forget-requires
+forget-requires c =
+    let a = c.self.inside in
+    let is_top : top (cpus_in a) c.args.cpu.0 ≡ Some c.unwrap.result = cc in
+    let one = top_is_on (cpus_in a) a.live.items c.args.cpu.0 c.unwrap.result is_top c.self.invariant.kept.live in
+    record { there = live_within (cpus_in a) a.live.items c.self.invariant.kept.live c.unwrap.result (omega arith) }
+
 pub invariant_of-self : goal.invariant_of-self
 invariant_of-self c =
     let a = c.self.inside in
@@ -48,9 +55,8 @@ invariant_of-self c =
       live_room = omega arith;
       peaks_room = omega arith;
       parked_room = h.parked_room;
-      levels_room = omega arith;
       blank = h.blank;
-      kept = rw (c.put_at.ensures.entries, c.pop_from.ensures.rest, c.drop_levels.ensures.items, c.put_at-2.ensures.entries, c.put_at-3.ensures.entries)
+      kept = rw (c.put_at.ensures.entries, c.pop_from.ensures.rest, c.forget.ensures, c.put_at-2.ensures.entries, c.put_at-3.ensures.entries)
           (kept_pop (cpus_in a) a.live.items a.peaks.items a.on a.waits c.args.cpu.0 c.unwrap.result c.moves.new.self c.moves-2.new.self is_top
           (swapped_by a.on c.moves.new.self c.object_key.result None (object_key (frame_of (cpus_in a) c.unwrap.result)) None c.moves.ensures object refl (on_counted a c.unwrap.result _ h refl one))
           (swapped_by a.waits c.moves-2.new.self c.wait_key.result None (wait_key (frame_of (cpus_in a) c.unwrap.result)) None c.moves-2.ensures awaited refl (wait_counted a c.unwrap.result _ h refl one))
