@@ -69,24 +69,33 @@ fn can_start_for(plan: &IndexedPlan, rank: Rank, object: ObjectId) -> bool
     }
 }
 
-/// Those groups that can have places, in their order.
+/// Those groups that can have places, in their order. Room for all is asked for once.
 fn with_places(alloc: Global, plan: &IndexedPlan, groups: &[Group]) -> Result<Vec<Group>, Memory>
     ensures { IfOk result (λ kept. kept.items ≡ filter (search.has_places plan.now) groups.now) }
 {
-    let mut kept = Vec::new(alloc);
+    let mut kept = Vec::with_capacity(alloc, groups.len())?;
     for group in groups {
         if has_places(plan, *group) {
-            kept.push(*group)?;
+            kept.push_reserved(*group);
         }
     }
     Ok(kept)
+}
+
+/// How many groups a plan has at most, if each declared object is a queue: on each processor twelve that no object adds
+/// to and four for each queue, and five more. Room for so many is asked for once; with less the list would grow.
+fn room_for_groups(plan: &IndexedPlan) -> usize {
+    let on_each = 12 + 4 * plan.declared_len() as usize;
+    on_each
+        .saturating_mul(usize::from(plan.plan().cpus()))
+        .saturating_add(5)
 }
 
 /// The groups of candidates of a plan's run, in the order in which candidates come.
 fn all_groups(alloc: Global, plan: &IndexedPlan) -> Result<Vec<Group>, Memory>
     ensures groups { IfOk result (λ made. made.items ≡ groups.groups plan.now) }
 {
-    let mut made = Vec::new(alloc);
+    let mut made = Vec::with_capacity(alloc, room_for_groups(plan))?;
     push_processors(&mut made, plan)?;
     made.push(Group::Stages)?;
     made.push(Group::Completions)?;

@@ -1,74 +1,120 @@
 //! Members around the ends of words and blocks.
+ghost use Rattle.std.specs.Prelude.{◌≡◌, ◌≤◌, length};
+
 use std::test::Fail;
 use wdf_sets::IdSet;
 
-/// Rising ids around the ends of words and blocks.
-const IDS: [u32; 8] = [0, 63, 64, 127, 4095, 4096, 8191, 9000];
-
-/// The set of these ids, below 9,001.
-fn set_of_ids(rt: &HostRuntime) -> Result<IdSet, Fail> {
-    let mut set = IdSet::make(rt.alloc(), 9001)?;
-    set.put(4096, true);
-    set.put(63, true);
-    set.put(64, true);
-    set.put(9000, true);
-    set.put(127, true);
-    set.put(0, true);
-    set.put(8191, true);
-    set.put(4095, true);
-    Ok(set)
+/// What happens to a set, and what is read of it, with the answer that is due.
+#[derive(Clone, Copy)]
+enum Act {
+    /// An id becomes a member, or is taken out.
+    Put(u32, bool),
+    /// How many members there are.
+    Len(u32),
+    /// The member with a number is this id: as many are below it, and it is the first from itself on.
+    Member(u32, u32),
+    /// An id that is no member, how many members are below it, and the first member from it on.
+    Gap(u32, u32, Option<u32>),
+    /// The member with a number.
+    At(u32, Option<u32>),
+    /// The first member from an id on.
+    From(u32, Option<u32>),
 }
 
-#[test]
-fn members_are_found_by_number(rt: HostRuntime) -> Result<(), Fail> {
-    let set = set_of_ids(&rt)?;
-    assert_eq!(rt; set.len(), 8);
-    for (number, id) in IDS.iter().enumerate() {
-        assert!(rt; set.contains(*id));
-        assert_eq!(rt; set.before(*id) as usize, number);
-        assert_eq!(rt; set.at(number as u32), Some(*id));
-        assert_eq!(rt; set.from(*id), Some(*id));
-    }
-    assert_eq!(rt; set.at(8), None);
-    Ok(())
-}
-
-/// An id, how many members are below it, and the first member from it on.
-const PLACES: [(u32, u32, Option<u32>); 8] = [
-    (1, 1, Some(63)),
-    (65, 3, Some(127)),
-    (128, 4, Some(4095)),
-    (4097, 6, Some(8191)),
-    (8192, 7, Some(9000)),
-    (9001, 8, None),
-    (12287, 8, None),
-    (12288, 8, None),
+/// Ids around the ends of words and blocks come in any order, below 9,001.
+static AROUND: [Act; 26] = [
+    Act::Put(4096, true),
+    Act::Put(63, true),
+    Act::Put(64, true),
+    Act::Put(9000, true),
+    Act::Put(127, true),
+    Act::Put(0, true),
+    Act::Put(8191, true),
+    Act::Put(4095, true),
+    Act::Len(8),
+    Act::Member(0, 0),
+    Act::Member(1, 63),
+    Act::Member(2, 64),
+    Act::Member(3, 127),
+    Act::Member(4, 4095),
+    Act::Member(5, 4096),
+    Act::Member(6, 8191),
+    Act::Member(7, 9000),
+    Act::At(8, None),
+    Act::Gap(1, 1, Some(63)),
+    Act::Gap(65, 3, Some(127)),
+    Act::Gap(128, 4, Some(4095)),
+    Act::Gap(4097, 6, Some(8191)),
+    Act::Gap(8192, 7, Some(9000)),
+    Act::Gap(9001, 8, None),
+    Act::Gap(12287, 8, None),
+    Act::Gap(12288, 8, None),
 ];
 
-#[test]
-fn first_member_from_an_id_on(rt: HostRuntime) -> Result<(), Fail> {
-    let set = set_of_ids(&rt)?;
-    for (id, before, from) in PLACES {
-        assert!(rt; !set.contains(id));
-        assert_eq!(rt; set.before(id), before);
-        assert_eq!(rt; set.from(id), from);
+/// Members are taken out, one of them twice, and one comes twice, below 5,000.
+static TAKEN_OUT: [Act; 11] = [
+    Act::Put(63, true),
+    Act::Put(64, true),
+    Act::Put(64, true),
+    Act::Put(4096, true),
+    Act::Put(63, false),
+    Act::Put(63, false),
+    Act::Len(2),
+    Act::At(0, Some(64)),
+    Act::From(65, Some(4096)),
+    Act::From(4097, None),
+    Act::Gap(63, 0, Some(64)),
+];
+
+/// Whether the member with a number is this id.
+fn is_member(set: &IdSet, number: u32, id: u32) -> bool {
+    set.contains(id)
+        && set.before(id) == number
+        && set.at(number) == Some(id)
+        && set.from(id) == Some(id)
+}
+
+/// Does an act on a set of ids below a bound; whether it may come, and the answer is the due one.
+fn does(set: &mut IdSet, bound: u32, act: Act) -> bool
+    requires { bound ≤ length set.old }
+    ensures { bound ≤ length set.new }
+{
+    match act {
+        Act::Put(id, on) if id < bound => set.put(id, on),
+        Act::Len(due) => return set.len() == due,
+        Act::Member(number, id) => return is_member(set, number, id),
+        Act::Gap(id, before, from) => {
+            return !set.contains(id) && set.before(id) == before && set.from(id) == from;
+        }
+        Act::At(number, due) => return set.at(number) == due,
+        Act::From(id, due) => return set.from(id) == due,
+        _ => return false,
     }
+    true
+}
+
+/// The place of the first act that isn't as due.
+fn first_wrong(set: &mut IdSet, bound: u32, acts: &[Act]) -> Option<usize>
+    requires { bound ≤ length set.old }
+{
+    'all: for at in 0..acts.len() {
+        if !does(set, bound, acts[at]) {
+            return Some(at);
+        }
+    }
+    None
+}
+
+#[test]
+fn members_around_words_and_blocks(rt: HostRuntime) -> Result<(), Fail> {
+    let mut set = IdSet::make(rt.alloc(), 9001)?;
+    assert_eq!(rt; first_wrong(&mut set, 9001, &AROUND), None);
     Ok(())
 }
 
 #[test]
 fn members_are_taken_out(rt: HostRuntime) -> Result<(), Fail> {
     let mut set = IdSet::make(rt.alloc(), 5000)?;
-    set.put(63, true);
-    set.put(64, true);
-    set.put(64, true);
-    set.put(4096, true);
-    set.put(63, false);
-    set.put(63, false);
-    assert_eq!(rt; set.len(), 2);
-    assert_eq!(rt; set.at(0), Some(64));
-    assert_eq!(rt; set.from(65), Some(4096));
-    assert_eq!(rt; set.from(4097), None);
-    assert!(rt; !set.contains(63));
+    assert_eq!(rt; first_wrong(&mut set, 5000, &TAKEN_OUT), None);
     Ok(())
 }

@@ -1,11 +1,9 @@
-use crate::worked::plan_of;
+//! The agents of a plan, fed the events of a run.
 use std::alloc::Global;
-use std::process::Abort;
-use std::test::Fail;
-use wdf_base::{Access, Agent, Event};
+use wdf_base::{Access, Agent, Event, Memory, Plan};
 use wdf_dev::{AnyAgent, agents};
 use wdf_trace::read_line;
-use wdf_worked_texts::{Worked, power, processors, requests, serial, targets};
+use wdf_worked_texts::Worked;
 
 /// The greatest of what the agents show; one that hasn't the register or the line shows 0.
 fn shown(all: &[AnyAgent], what: u32) -> u64 {
@@ -16,67 +14,71 @@ fn shown(all: &[AnyAgent], what: u32) -> u64 {
     greatest
 }
 
+/// Whether an agent's next post is before this tick.
+fn posts_before(agent: &AnyAgent, time: u64) -> bool {
+    match agent.next_time() {
+        Some(next) => next < time,
+        None => false,
+    }
+}
+
 /// Whether an agent has a post before this tick that isn't due yet.
 fn is_passed_over(all: &[AnyAgent], time: u64) -> bool {
     for agent in all {
-        if matches!(agent.next_time(), Some(next) if next < time) {
+        if posts_before(agent, time) {
             return true;
         }
     }
     false
 }
 
-/// What is posted is what its agent has due, what is read is what a device's register holds, and no
+/// Whether what is posted is what its agent has due, what is read is what a device's register holds, and no
 /// tick is later than an agent's next one.
-fn show_event(
-    rt: &impl Abort,
-    all: &[AnyAgent],
-    event: &Event,
-    run: &str,
-    line: &str,
-) -> Result<(), Fail> {
+fn is_so(all: &[AnyAgent], event: &Event) -> bool {
     match event {
-        Event::Posted { agent, post, .. } => {
-            let poster = all.get(usize::from(*agent)).ok_or("no agent")?;
-            assert_eq!(rt; poster.due(), Some(*post), "{run} {line}");
-        }
+        Event::Posted { agent, post, .. } => match all.get(usize::from(*agent)) {
+            Some(poster) => poster.due() == Some(*post),
+            None => false,
+        },
         Event::Register {
             access: Access::Read,
             register,
             value,
             ..
-        } => assert_eq!(rt; shown(all, *register), *value, "{run} {line}"),
-        Event::Tick { time } => assert!(rt; !is_passed_over(all, *time), "{run} {line}"),
-        _ => {}
+        } => shown(all, *register) == *value,
+        Event::Tick { time } => !is_passed_over(all, *time),
+        _ => true,
     }
-    Ok(())
 }
 
-fn show_run(rt: &impl Abort, alloc: Global, run: &Worked) -> Result<(), Fail> {
-    let plan = plan_of(alloc, run.scenario).ok_or("no plan")?;
-    let mut all = agents(alloc, &plan).map_err(|_| "no memory")?;
-    for line in run.trace.lines().take(run.events) {
-        let (_, event) = read_line(&plan, line.as_bytes()).ok_or("no event")?;
-        show_event(rt, all.as_slice(), &event, run.name, line)?;
-        for agent in &mut all {
-            agent.feed(&event);
+/// Whether the event of a line is so. It is told to all agents.
+fn is_line(all: &mut [AnyAgent], plan: &Plan, line: &[u8]) -> bool {
+    match read_line(plan, line) {
+        Some((_, event)) => {
+            let so = is_so(all, &event);
+            for agent in all {
+                agent.feed(&event);
+            }
+            so
         }
+        None => false,
     }
-    Ok(())
 }
 
-#[test]
-fn agents_post_what_the_runs_have(rt: HostRuntime) -> Result<(), Fail> {
-    for runs in [
-        power::RUNS.as_slice(),
-        processors::RUNS.as_slice(),
-        requests::RUNS.as_slice(),
-        serial::RUNS.as_slice(),
-        targets::RUNS.as_slice(),
-    ] {
-        for run in runs {
-            show_run(&rt, rt.alloc(), run)?;
+/// The number of the first line of a run whose event isn't so.
+fn first_line(all: &mut [AnyAgent], plan: &Plan, run: &Worked) -> Option<usize> {
+    for (number, line) in (1..=run.events).zip(run.trace.lines()) {
+        if !is_line(all, plan, line.as_bytes()) {
+            return Some(number);
         }
     }
-    Ok(())
+    None
+}
+
+/// The same with the agents of the plan.
+pub fn first_wrong(alloc: Global, plan: &Plan, run: &Worked) -> Result<Option<usize>, Memory> {
+    match agents(alloc, plan) {
+        Ok(mut all) => Ok(first_line(all.as_mut_slice(), plan, run)),
+        Err(memory) => Err(memory),
+    }
 }

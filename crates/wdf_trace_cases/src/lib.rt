@@ -5,9 +5,11 @@
 #[cfg(test)]
 mod agents;
 #[cfg(test)]
+mod lines;
+#[cfg(test)]
 mod others;
 #[cfg(test)]
-mod tests;
+mod trials;
 #[cfg(test)]
 mod waits;
 #[cfg(test)]

@@ -72,7 +72,7 @@ const Y_6: Handle = Handle {
 };
 
 /// The lines of each list in their order, as `wdf_worked` states them, each with its run.
-pub static WAITS: [(&str, WaitLine); 10] = [
+static WAITS: [(&str, WaitLine); 10] = [
     (
         "leaked_reference",
         WaitLine {
@@ -181,3 +181,27 @@ pub static WAITS: [(&str, WaitLine); 10] = [
         },
     ),
 ];
+
+/// The k-th line of a run's wait list, from 0.
+pub fn wait_at(run: &str, k: usize) -> Option<&'static WaitLine> {
+    let mut left = k;
+    for (of, wait) in &WAITS {
+        if *of == run {
+            if left == 0 {
+                return Some(wait);
+            }
+            left -= 1;
+        }
+    }
+    None
+}
+
+/// How many lines a run's wait list has.
+pub fn waits_len(run: &str) -> usize {
+    for k in 0..WAITS.len() {
+        if wait_at(run, k).is_none() {
+            return k;
+        }
+    }
+    WAITS.len()
+}
