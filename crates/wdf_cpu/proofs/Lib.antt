@@ -7,4 +7,5 @@ pub mod Peaks
 pub mod Keeping
 pub mod Places
 pub mod Counting
+pub mod Ticks
 pub mod Leasts

@@ -3,6 +3,7 @@ use Rattle.std.specs.Prelude.{ℕ, ◌≡◌, ◌≤◌, ◌==◌, Bool, false, 
 use Rattle.wdf_model.specs.declared.room.TheConstants.{FRAMES}
 use Rattle.wdf_model.specs.Tables.{entry, flag}
 use Rattle.wdf_model.specs.parts.Cpus.{Cpus, all_frames, blank_frame, frame_level}
+use Rattle.wdf_cpu.specs.Spending.{SpendUntil}
 use Rattle.wdf_cpu.specs.Keys.{CountsFrames, object_key, wait_key}
 use Rattle.wdf_cpu.specs.declared.cpus.Cpus.TheInside.{Inside}
 
@@ -32,3 +33,4 @@ pub record IsSound (a : Inside) : Type 0 where
   pub parked_room : FRAMES ≤ a.parked.room
   pub blank : a.blank ≡ blank_frame
   pub kept : IsKept (cpus_in a) a.live.items a.peaks.items a.on a.waits
+  pub untils : SpendUntil (cpus_in a) a.untils

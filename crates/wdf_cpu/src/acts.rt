@@ -9,6 +9,7 @@ ghost use Rattle.wdf_counts.specs.Counts.{count_at, moved_count};
 
 use crate::cpus::{Cpus, NO_FRAME, object_key, wait_key};
 use crate::stack::{pop_from, push_on};
+use crate::untils::move_until_if;
 use wdf_base::{Cpu, Frame, FrameId, Irql, ObjectId};
 use wdf_counts::Counts;
 use wdf_maps::{entry_at, put_at};
@@ -25,6 +26,7 @@ impl Cpus {
     {
         self.on.moves(None, object_key(&frame));
         self.waits.moves(None, wait_key(&frame));
+        self.untils.moves(0, frame.until);
         put_at(&mut self.frames, NO_FRAME, f.0, Running { frame, level });
         put_at(&mut self.live, false, f.0, true);
         put_at(&mut self.peaks, 0, f.0, self.levels.peak(f, level).0);
@@ -40,8 +42,10 @@ impl Cpus {
         let live = entry_at(&self.live, false, f.0);
         let object = object_key(&self.frames[f.0 as usize].frame);
         let awaited = wait_key(&self.frames[f.0 as usize].frame);
+        let until = self.frames[f.0 as usize].frame.until;
         moves_if(&mut self.on, live, object, object_key(&frame));
         moves_if(&mut self.waits, live, awaited, wait_key(&frame));
+        move_until_if(&mut self.untils, live, until, frame.until);
         set_frame(&mut self.frames, f, frame);
     }
 
@@ -78,6 +82,7 @@ impl Cpus {
         let frame = entry_at(&self.frames, NO_FRAME, f.0).frame;
         self.on.moves(object_key(&frame), None);
         self.waits.moves(wait_key(&frame), None);
+        self.untils.moves(frame.until, 0);
         put_at(&mut self.frames, NO_FRAME, f.0, NO_FRAME);
         put_at(&mut self.live, false, f.0, false);
         put_at(&mut self.peaks, 0, f.0, 0);

@@ -5,6 +5,7 @@ ghost use Rattle.wdf_cpu.specs.Keys.{object_key, wait_key};
 
 use crate::levels::Levels;
 use crate::stack::Stack;
+use crate::untils::Untils;
 use std::alloc::Global;
 use std::marker::Model;
 use wdf_base::{Callback, Frame, Handle, Irql, Memory, ObjectId, Plan, Status, VARIABLES, Value};
@@ -57,6 +58,8 @@ pub struct Cpus {
     pub(crate) on: Counts,
     /// How many frames wait for an object.
     pub(crate) waits: Counts,
+    /// The ticks until which these frames spend.
+    pub(crate) untils: Untils,
     /// What a number says that is no frame's.
     pub(crate) blank: Frame,
 }
@@ -88,6 +91,7 @@ impl Cpus {
             peaks: Vec::with_capacity(alloc, FRAMES as usize)?,
             on: Counts::make(alloc)?,
             waits: Counts::make(alloc)?,
+            untils: Untils::make(alloc)?,
             blank: NO_FRAME.frame,
         })
     }

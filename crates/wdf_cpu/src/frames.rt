@@ -68,7 +68,7 @@ impl Cpus {
     pub fn any_spends(&self, time: u64) -> bool
         ensures { result ≡ list_any (λ f. nat_lt time (cpus.frame_of self.now f).until) (cpus.all_frames self.now) }
     {
-        self.any(FrameTest::SpendsAt(time))
+        time < self.untils.latest()
     }
 
     /// Whether some frame passes a test.

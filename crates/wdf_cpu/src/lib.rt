@@ -9,5 +9,6 @@ mod levels;
 mod order;
 mod readers;
 mod stack;
+mod untils;
 
 pub use cpus::Cpus;

@@ -20,4 +20,5 @@ invariant_of-self c =
       blank = h.blank;
       kept = rw (c.lower.ensures, c.put_at.ensures.entries)
           (kept_lower (cpus_in a) a.live.items a.peaks.items a.on a.waits c.args.f.0 c.args.level.0 c.peak.result.0 peak h.kept);
+      untils = rw c.lower.ensures (record { counts = h.untils.counts; many = h.untils.many });
     }

@@ -6,6 +6,7 @@ use Rattle.wdf_cpu.specs.Kept.{cpus_in}
 use Rattle.wdf_cpu.proofs.Keeping.{empty_stays, kept_park, nothing_else, park_is}
 use Rattle.wdf_cpu.proofs.Live.{room_to_park, top_not_parked}
 use Rattle.wdf_cpu.proofs.Numbers.{in_order_is}
+use Rattle.wdf_cpu.proofs.Ticks.{spending_parked}
 use Rattle.wdf_cpu.proofs.cpus.Cpus.park.Goals as goal
 
 pub put-requires : goal.put-requires
@@ -36,6 +37,7 @@ invariant_of-self c =
       blank = h.blank;
       kept = rw (c.pop_from.ensures.rest, c.put.ensures.entries, in_order_is c.in-Some.f a.parked.entries (top_not_parked (cpus_in a) a.live.items c.args.cpu.0 c.in-Some.f is_top h.kept.live))
           (kept_park (cpus_in a) a.live.items a.peaks.items a.on a.waits c.args.cpu.0 c.in-Some.f is_top h.kept);
+      untils = rw (c.pop_from.ensures.rest, c.put.ensures.entries, in_order_is c.in-Some.f a.parked.entries (top_not_parked (cpus_in a) a.live.items c.args.cpu.0 c.in-Some.f is_top h.kept.live)) (spending_parked (cpus_in a) a.untils c.args.cpu.0 c.in-Some.f is_top h.untils);
     }
 
 pub invariant_of-self-in_default : goal.invariant_of-self-in_default
@@ -51,4 +53,5 @@ invariant_of-self-in_default c =
       parked_room = h.parked_room;
       blank = h.blank;
       kept = rw (c.pop_from.ensures.rest, empty_stays a.stacks.items c.args.cpu.0 (omega arith) none) h.kept;
+      untils = rw (c.pop_from.ensures.rest, empty_stays a.stacks.items c.args.cpu.0 (omega arith) none) h.untils;
     }

@@ -4,6 +4,7 @@ use Rattle.wdf_model.specs.Tables.{contains}
 use Rattle.wdf_cpu.specs.Kept.{cpus_in}
 use Rattle.wdf_cpu.proofs.Keeping.{kept_unpark}
 use Rattle.wdf_cpu.proofs.Live.{parked_once, room_to_unpark}
+use Rattle.wdf_cpu.proofs.Ticks.{spending_unpark}
 use Rattle.wdf_cpu.proofs.cpus.Cpus.unpark.Goals as goal
 
 pub push_on-requires-clause-room : goal.push_on-requires-clause-room
@@ -25,4 +26,5 @@ invariant_of-self c =
       blank = h.blank;
       kept = rw (c.push_on.ensures.pushed, c.remove_number.ensures.entries)
           (kept_unpark (cpus_in a) a.live.items a.peaks.items a.on a.waits c.args.cpu.0 c.args.f.0 is h.kept);
+      untils = rw (c.push_on.ensures.pushed, c.remove_number.ensures.entries) (spending_unpark (cpus_in a) a.untils c.args.cpu.0 c.args.f.0 (parked_once (cpus_in a) a.live.items c.args.f.0 h.kept.live is) h.untils);
     }
