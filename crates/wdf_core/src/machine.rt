@@ -12,6 +12,7 @@ ghost use Rattle.wdf_ready.specs.Actors.{is_by as is_step_of};
 
 use std::alloc::Global;
 use std::marker::Model;
+use std::mem;
 use wdf_base::{Actor, Agent, Ending, Event, Fault, Memory, Plan, WaitLine};
 use wdf_model::Group;
 use wdf_parts::Parts;
@@ -36,13 +37,26 @@ fn opening_parts<A: Agent>(
 /// The machine of one run: its plan, the events so far, and what may follow them.
 ///
 /// Contracts see the plan and the events. No call but [`Core::make`] takes memory.
-#[derive(Drop)]
 pub struct Core<A: Agent> {
     plan: IndexedPlan,
     parts: Parts<A>,
     /// The groups of candidates that can have places, in their order.
     groups: Vec<Group>,
     journal: Vec<Event>,
+}
+
+impl<A: Agent> Drop for Core<A> {
+    /// Drops each part, by a call. So the drop of a core is proved here once, and is one call wherever a core is dropped.
+    fn drop(self) {
+        let Core {
+            plan,
+            parts,
+            groups: _,
+            journal: _,
+        } = self;
+        mem::drop(plan);
+        mem::drop(parts);
+    }
 }
 
 impl<A: Agent> Model for Core<A> {

@@ -14,8 +14,8 @@ use Rattle.wdf_trace.specs.Lines.{line_text, lines_from}
 use Rattle.wdf_trace.specs.Endings.{ending_text, wait_text, wait_lines}
 use Rattle.wdf_replay.specs.Lines.{fed, trace_lines, joined_lines}
 use Rattle.wdf_replay.specs.Texts.{text_of, event_lines, fed_wait, last_lines, end_lines, lines_so_far}
-use Rattle.wdf_replay.specs.Verdicts.{IsAmong, HasEventsOf, IsLeft, IsRefused, IsBadLine}
-use Rattle.wdf_replay.specs.declared.verdict.Verdict.TheVariants.{Accepted}
+use Rattle.wdf_replay.specs.Verdicts.{IsAmong, HasEventsOf, IsLeft, IsBadLine}
+use Rattle.wdf_replay.specs.declared.verdict.Verdict.TheVariants.{Accepted, RefusedAt}
 use Rattle.wdf_replay.specs.declared.verdict.Why.{Why}
 use Rattle.wdf_replay.specs.declared.verdict.Why.TheVariants as why
 use Rattle.wdf_replay.proofs.Cutting.{lines_join}
@@ -195,32 +195,38 @@ pub missing : {A : Type 0} (plan : Plan) (m : Meaning A) (trace : List ℕ) (run
     → IsRunOf plan m run → HasEventsOf plan run → length run ≤ plan.limit → told ≤ length (end_lines plan m run) → trace_lines trace ≡ lines_so_far plan m run told
     → line ≡ length (lines_so_far plan m run told) + 1
     → ((ending_of plan m run ≡ ending.Running) ⊎ (told < length (end_lines plan m run)))
-    → IsRefused plan m trace line why.Missing
-missing plan m trace run told line is_run valid limited within good number more = record {
-  run = run;
-  is_run = is_run;
-  valid = valid;
-  limited = limited;
-  told = told;
-  within = within;
-  left = [];
-  good = good ∙ sym (append-nil (lines_so_far plan m run told));
-  number = number;
-  bad = (refl, more);
-}
+    → IsLeft plan m trace (RefusedAt line why.Missing) run
+missing plan m trace run told line is_run valid limited within good number more = (
+  record {
+    run = run;
+    is_run = is_run;
+    valid = valid;
+    limited = limited;
+    told = told;
+    within = within;
+    left = [];
+    good = good ∙ sym (append-nil (lines_so_far plan m run told));
+    number = number;
+    bad = (refl, more);
+  },
+  refl,
+)
 
 pub refused : {A : Type 0} (plan : Plan) (m : Meaning A) (trace : List ℕ) (run : List Event) (told number : ℕ) (line : List ℕ) (lines : List (List ℕ)) (y : Why)
     → IsRunOf plan m run → HasEventsOf plan run → length run ≤ plan.limit → told ≤ length (end_lines plan m run) → trace_lines trace ≡ lines_so_far plan m run told ++ line ∷ lines
-    → number ≡ length (lines_so_far plan m run told) + 1 → IsBadLine plan m run told y line → IsRefused plan m trace number y
-refused plan m trace run told number line lines y is_run valid limited within good is_number bad = record {
-  run = run;
-  is_run = is_run;
-  valid = valid;
-  limited = limited;
-  told = told;
-  within = within;
-  left = line ∷ lines;
-  good = good;
-  number = is_number;
-  bad = bad;
-}
+    → number ≡ length (lines_so_far plan m run told) + 1 → IsBadLine plan m run told y line → IsLeft plan m trace (RefusedAt number y) run
+refused plan m trace run told number line lines y is_run valid limited within good is_number bad = (
+  record {
+    run = run;
+    is_run = is_run;
+    valid = valid;
+    limited = limited;
+    told = told;
+    within = within;
+    left = line ∷ lines;
+    good = good;
+    number = is_number;
+    bad = bad;
+  },
+  refl,
+)

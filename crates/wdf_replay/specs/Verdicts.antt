@@ -98,10 +98,10 @@ abbrev pub GivesVerdict : {A : Type 0} → Plan → Meaning A → List ℕ → V
 GivesVerdict plan m trace (Accepted e) = IsAccepted plan m trace e
 GivesVerdict plan m trace (RefusedAt line why) = IsRefused plan m trace line why
 
--- an accepted trace is the text of this run
+-- an accepted trace is the text of this run; of a refused one, the lines before the bad one are those of this run so far
 abbrev pub IsLeft : {A : Type 0} → Plan → Meaning A → List ℕ → Verdict → List Event → Type 0
 IsLeft plan m trace (Accepted e) run = (accepted : IsAccepted plan m trace e) × (accepted.run ≡ run)
-IsLeft plan m trace (RefusedAt line why) run = Unit {0}
+IsLeft plan m trace (RefusedAt line why) run = (refused : IsRefused plan m trace line why) × (refused.run ≡ run)
 
 -- The lines of the trace are those of a run that has ended, whose events are of the plan.
 pub record IsWhole {A : Type 0} (plan : Plan) (m : Meaning A) (trace : List ℕ) (run : List Event) : Type 0 where

@@ -67,7 +67,7 @@ pub fn replay<A: Agent>(core: &mut Core<A>, trace: &[u8]) -> Verdict
 
     // Only the text of a run that has ended is accepted; else the first bad line is refused.
     ensures verdict { GivesVerdict core.old.plan A.meaning trace.now result }
-    // After an accepted trace its run is on the core.
+    // After an accepted trace its run is on the core, and after a refused one the run of the lines before the bad one.
     ensures left { IsLeft core.old.plan A.meaning trace.now result core.new.journal }
 
     // The lines of a run that has ended are accepted, where its events are of the plan.

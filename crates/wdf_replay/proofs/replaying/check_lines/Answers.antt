@@ -12,16 +12,19 @@ loop-at-init g c = (refl, replayed_opens c.args.core.now.plan g.A.Agent.meaning 
 pub take_line-requires-clause-resolved : goal.take_line-requires-clause-resolved
 take_line-requires-clause-resolved g c = subst IsResolved (sym c.loop-at.invariant.0) c.requires.resolved
 
-pub returns-in-Err-clause-verdict : goal.returns-in-Err-clause-verdict
-returns-in-Err-clause-verdict g c =
+pub returns-in-Err-clause-left : goal.returns-in-Err-clause-left
+returns-in-Err-clause-left g c =
     let bad = rw c.loop-at.invariant.0 at c.in-Err.ensures.taken in
-    refused c.args.core.now.plan g.A.Agent.meaning c.args.trace.now c.loop-at.core.journal c.loop-at.told c.loop-at.number c.line_at-line.result.now
+    let here = refused c.args.core.now.plan g.A.Agent.meaning c.args.trace.now c.loop-at.core.journal c.loop-at.told c.loop-at.number c.line_at-line.result.now
     (trace_lines (drop (c.loop-at.at + length c.line_at-line.result.now) c.args.trace.now)) c.in-Err.why
     (rw c.loop-at.invariant.0 at c.journal_len-events.ensures.run) c.loop-at.invariant.1.valid (omega (arith, c.journal_len-events.ensures.length, rw c.loop-at.invariant.0 at c.journal_len-events.ensures.within))
     c.loop-at.invariant.1.within
     (next_line c.args.core.now.plan g.A.Agent.meaning c.args.trace.now c.loop-at.at c.loop-at.number c.loop-at.core.journal c.loop-at.told c.line_at-line.result.now
     c.loop-at.invariant.1 c.loop-at-test.true c.line_at-line.ensures.value)
-    c.loop-at.invariant.1.counted bad.0
+    c.loop-at.invariant.1.counted bad.0 in (here.0, here.1 ∙ sym bad.1)
+
+pub returns-in-Err-clause-verdict : goal.returns-in-Err-clause-verdict
+returns-in-Err-clause-verdict g c = (returns-in-Err-clause-left g c).0
 
 pub loop-at-preserved : goal.loop-at-preserved
 loop-at-preserved g c =
