@@ -3,7 +3,7 @@ ghost use Rattle.std.specs.Prelude.{◌≡◌, ◌<◌, ℕ, fold, length, slice
 ghost use Rattle.wdf_base.specs.declared.object.Kind.TheVariants as kind;
 ghost use Rattle.wdf_base.specs.declared.object.Place.TheVariants as place;
 ghost use Rattle.wdf_model.specs.declared.room.TheConstants.{EVENTS, OBJECTS};
-ghost use Rattle.wdf_model.specs.parts.Requests as requests_of_state;
+ghost use Rattle.wdf_model.specs.parts.Requests as requests;
 ghost use Rattle.wdf_model.specs.parts.Tree as tree;
 ghost use Rattle.wdf_model.specs.rules.Deeds as deeds;
 ghost use Rattle.wdf_parts.specs.Asking.{askable, asked};
@@ -81,7 +81,7 @@ impl<A: Agent> Parts<A> {
         requires few { self.old.requests.arrived < EVENTS }
         ensures { self.new ≡ record self.old {
           tree = tree.create self.old.tree kind.Made class parent.0;
-          requests = requests_of_state.arrive self.old.requests (tree.next_id self.old.tree) place.Owned (requests_of_state.made_info (tree.nearest_device self.old.tree parent.0));
+          requests = requests.arrive self.old.requests (tree.next_id self.old.tree) place.Owned (requests.made_info (tree.nearest_device self.old.tree parent.0));
         } }
     {
         let id = self.tree.next_id();
@@ -107,7 +107,7 @@ impl<A: Agent> Parts<A> {
     /// A request is completed, and its deletion is asked. (KMDF)
     pub(crate) fn complete(&mut self, r: ObjectId)
         requires { MayGiveUp self.old r.0 }
-        ensures { self.new ≡ deeds.ask_objects (record (deeds.give_up self.old r.0) { requests = requests_of_state.complete self.old.requests r.0 }) r.0 }
+        ensures { self.new ≡ deeds.ask_objects (record (deeds.give_up self.old r.0) { requests = requests.complete self.old.requests r.0 }) r.0 }
     {
         self.give_up(r);
         self.requests.complete(r);
@@ -117,7 +117,7 @@ impl<A: Agent> Parts<A> {
 
 /// What is kept of a request that the driver makes. (own)
 fn made_info(device: ObjectId) -> RequestInfo
-    ensures { result ≡ requests_of_state.made_info device.0 }
+    ensures { result ≡ requests.made_info device.0 }
 {
     RequestInfo {
         device,
