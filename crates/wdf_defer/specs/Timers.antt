@@ -10,7 +10,7 @@ abbrev pub timers_in : Inside → Timers
 timers_in t = record { queued = t.queued.entries }
 
 -- Each queued timer is an object, there is room for all objects, and the greatest and the least due tick are kept.
-pub record HasTimers (t : Inside) : Type 0 where
+pub record IsSound (t : Inside) : Type 0 where
   pub objects : rises timer_id 0 OBJECTS t.queued.entries ≡ true
   pub room : t.queued.room ≡ OBJECTS
   pub latest : t.latest ≡ latest_of t.queued.entries

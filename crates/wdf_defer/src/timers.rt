@@ -28,11 +28,11 @@ impl Model for Timers {
 
     ghost Value = { Timers };
 
-    ghost use Rattle.wdf_defer.specs.Timers.{timers_in, HasTimers};
+    ghost use Rattle.wdf_defer.specs.Timers.{timers_in, IsSound};
 
     ghost view = { timers_in };
 
-    ghost invariant = { HasTimers };
+    ghost invariant = { IsSound };
 }
 
 /// The greatest due tick of these timers, 0 where there is none.
