@@ -1,38 +1,11 @@
 -- A list of a family, gone along from its front.
 use Rattle.std.proofs.Common.{ℕ, zero, suc, ◌≡◌, ◌⊎◌, ◌+◌, ◌<◌, ◌==◌, ◌||◌, ◌&&◌, ◌≤◌, nat_le, Bool, true, false, List, [], ◌∷◌, Option, Some, None, take, slice_get, refl, ap, sym, ◌∙◌, inl, inr, arith}
 use Rattle.std.specs.Prelude.{IfSome, option_and_then}
-use Rattle.std.proofs.lemmas.Bool.{eqb-true, eq-eqb, false≢true, or_cases, or_right}
-use Rattle.wdf_ilist.specs.Family.{Family, AreApart, after_in, after_on, are_distinct, first_of, is_on, list_at, list_of}
+use Rattle.std.proofs.lemmas.Bool.{eqb-true, false≢true, or_cases}
+use Rattle.wdf_ilist.specs.Family.{Family, AreApart, after_in, is_on, list_at}
 use Rattle.wdf_model.specs.Tables.{same_id}
 use Rattle.wdf_sets.specs.Members.{is_in}
-use Rattle.wdf_ilist.proofs.Items.{first_once, rest_distinct}
-use Rattle.wdf_ilist.proofs.Lists.{list_of_on}
-
--- what is at a place is on the list
-on_at : (xs : List ℕ) (k x : ℕ) → slice_get xs k ≡ Some x → is_on x xs ≡ true
-on_at [] k x e = absurd (let z : ⊥ = cc in z)
-on_at (y ∷ ys) zero x e = let same : y ≡ x = cc in rw (eq-eqb y x same) refl
-on_at (y ∷ ys) (suc k) x e = or_right (y == x) (is_on x ys) (on_at ys k x e)
-
-pub first_at : (xs : List ℕ) → first_of xs ≡ slice_get xs 0
-first_at [] = refl
-first_at (x ∷ xs) = refl
-
-after_by : (x y : ℕ) (ys : List ℕ) (found : Option ℕ) (b : Bool) → (y == x) ≡ b → is_on y ys ≡ false → is_on x ys ≡ true
-    → after_on x ys ≡ found → after_on x (y ∷ ys) ≡ found
-after_by x y ys found true e off on rest =
-    let same : y ≡ x = eqb-true y x e in
-    let there : is_on y ys ≡ true = ap (λ z. is_on z ys) same ∙ on in
-    absurd (let z : ⊥ = cc in z)
-after_by x y ys found false e off on rest = rw e rest
-
--- the item at the next place
-after_at : (xs : List ℕ) (k x : ℕ) → are_distinct xs ≡ true → slice_get xs k ≡ Some x → after_on x xs ≡ slice_get xs (k + 1)
-after_at [] k x once e = absurd (let z : ⊥ = cc in z)
-after_at (y ∷ ys) zero x once e = let same : y ≡ x = cc in rw (eq-eqb y x same) (first_at ys)
-after_at (y ∷ ys) (suc k) x once e =
-    let step : suc k + 1 ≡ suc (k + 1) = omega arith in
-    rw step (after_by x y ys (slice_get ys (k + 1)) (y == x) refl (first_once y ys once) (on_at ys k x e) (after_at ys k x (rest_distinct y ys once) e))
+use Rattle.wdf_ilist.proofs.Places.{next_at, on_at}
 
 none_past : (xs : List ℕ) (k : ℕ) → slice_get xs k ≡ None → slice_get xs (k + 1) ≡ None
 none_past [] k e = refl
@@ -43,10 +16,7 @@ none_past (x ∷ xs) (suc k) e = let step : suc k + 1 ≡ suc (k + 1) = omega ar
 pub next_place : (family : Family) (q k : ℕ) (found : Option ℕ) → AreApart family → found ≡ slice_get (list_at family.lists q) k
     → option_and_then (λ x. after_in x family.lists) found ≡ slice_get (list_at family.lists q) (k + 1)
 next_place family q k None a e = sym (none_past (list_at family.lists q) k (sym e))
-next_place family q k (Some x) a e =
-    let at : slice_get (list_at family.lists q) k ≡ Some x = sym e in
-    let owner : list_of x family.lists ≡ Some q = list_of_on family x q a (on_at (list_at family.lists q) k x at) in
-    rw owner (after_at (list_at family.lists q) k x (a.once q) at)
+next_place family q k (Some x) a e = next_at family q k x a (sym e)
 
 pub same_id_is : (found : Option ℕ) (x : ℕ) → same_id found x ≡ true → found ≡ Some x
 same_id_is None x h = absurd (false≢true h)

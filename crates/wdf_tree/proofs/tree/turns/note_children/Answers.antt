@@ -3,7 +3,8 @@ use Rattle.std.proofs.Common.{◌∙◌, length, arith}
 use Rattle.std.proofs.lemmas.List.{take_all}
 use Rattle.wdf_ilist.specs.Family.{list_at}
 use Rattle.wdf_tree.specs.Turns.{is_turn}
-use Rattle.wdf_tree.proofs.Lists.{first_at, next_place, on_more}
+use Rattle.wdf_ilist.proofs.Places.{first_at}
+use Rattle.wdf_tree.proofs.Lists.{next_place, on_more}
 use Rattle.wdf_tree.proofs.Turns.{noted_more, noted_none, one_more}
 use Rattle.wdf_tree.proofs.tree.turns.note_children.Goals as goal
 
