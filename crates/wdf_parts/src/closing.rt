@@ -47,15 +47,15 @@ impl<A: Agent> Parts<A> {
 
     /// A device's queues lose power: what returns to a power-managed one is to be completed with
     /// CANCELLED.
-    #[tactic(auto, using(crate::proofs::Walks::fold_twice))]
     pub(crate) fn close_returning(&mut self, plan: &IndexedPlan, device: ObjectId)
         ensures { self.new ≡ fold deeds.close_returning self.old (plans.managed_queues plan.now device.0) }
     {
-        for k in 0..plan.declared_len() {
-            let q = ObjectId(k + 1);
+        let mut at = plan.first_of(device);
+        'walk: while let Some(q) = at {
             if is_managed_queue_of(plan, device, q) {
                 self.close_returning_to(q);
             }
+            at = plan.next_of(device, q);
         }
     }
 
@@ -74,11 +74,12 @@ impl<A: Agent> Parts<A> {
         requires { length plan.now.declared < length self.old.queues.dispatch }
         ensures { self.new ≡ fold deeds.close_queue self.old (plans.queues_of plan.now device.0) }
     {
-        for k in 0..plan.declared_len() {
-            let q = ObjectId(k + 1);
+        let mut at = plan.first_of(device);
+        'walk: while let Some(q) = at {
             if plan.is_queue_of(device, q) {
                 self.close_queue(q);
             }
+            at = plan.next_of(device, q);
         }
     }
 }
