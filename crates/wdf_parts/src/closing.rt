@@ -2,7 +2,7 @@
 ghost use Rattle.std.specs.Prelude.{◌≡◌, ◌<◌, ◌&&◌, length, fold, option_map};
 ghost use Rattle.wdf_model.specs.Plans as plans;
 ghost use Rattle.wdf_model.specs.parts.Control as control;
-ghost use Rattle.wdf_model.specs.parts.Queues as queues_of_state;
+ghost use Rattle.wdf_model.specs.parts.Queues as queues;
 ghost use Rattle.wdf_model.specs.rules.Deeds as deeds;
 ghost use Rattle.wdf_room.specs.Room.{MayPurge};
 
@@ -14,7 +14,7 @@ use wdf_plans::IndexedPlan;
 impl<A: Agent> Parts<A> {
     /// The front of a queue.
     fn front(&self, q: ObjectId) -> Option<ObjectId>
-        ensures { option_map (λ r. r.0) result ≡ queues_of_state.front self.now.queues q.0 }
+        ensures { option_map (λ r. r.0) result ≡ queues.front self.now.queues q.0 }
     {
         self.queues.front(q)
     }
