@@ -1,7 +1,9 @@
 //! Agents that note when they hear of an event.
-ghost use Rattle.std.specs.Prelude.{◌≡◌, ◌≢◌, IfOk, IfSome};
+ghost use Rattle.std.specs.Prelude.{◌≡◌, ◌≢◌, ◌+◌, IfOk, IfSome, length, map};
+ghost use Rattle.std.specs.List.{range_with_len};
 ghost use Rattle.wdf_base.specs.Resolved.{IsResolved};
 ghost use Rattle.wdf_base.specs.declared.event.Ending.TheVariants as ending;
+ghost use Rattle.wdf_dev.specs.Agents.{agent_meaning};
 ghost use Rattle.wdf_dev.specs.declared.any.AnyAgent.{AnyAgent};
 
 use std::alloc::Global;
@@ -53,7 +55,7 @@ impl Agent for CountedAgent<'_> {
 }
 
 /// The same agents, counting what they hear.
-pub fn counted<'a>(
+fn counted<'a>(
     alloc: Global,
     agents: Vec<AnyAgent>,
     heard: &'a AtomicU64,
@@ -68,6 +70,18 @@ pub fn counted<'a>(
         }
     }
     Ok(all)
+}
+
+/// The agents of a plan's run, counting what they hear.
+fn counted_agents<'a>(
+    alloc: Global,
+    plan: &Plan,
+    heard: &'a AtomicU64,
+) -> Result<Vec<CountedAgent<'a>>, Memory>
+    ensures { IfOk result (λ all. all.items ≡ map (agent_meaning.begin plan.now) (range_with_len 0 (1 + length plan.now.agents))) }
+{
+    let agents = agents(alloc, plan)?;
+    counted(alloc, agents, heard)
 }
 
 /// The plan of a scenario, if it has one and there is memory for it.
@@ -93,8 +107,7 @@ pub fn counted_opening<'a>(
 ) -> Result<Core<CountedAgent<'a>>, Memory>
     requires { IsResolved plan }
 {
-    let agents = agents(alloc, &plan)?;
-    let counted = counted(alloc, agents, heard)?;
+    let counted = counted_agents(alloc, &plan, heard)?;
     Core::make(alloc, plan, counted)
 }
 

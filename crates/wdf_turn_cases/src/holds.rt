@@ -1,4 +1,4 @@
-//! A gate that holds workers until others have come so far.
+//! Gates that hold workers until others have come so far.
 use std::sync::atomic::{AtomicU64, Ordering};
 use std::thread;
 use wdf_turn::Gate;
@@ -34,6 +34,24 @@ impl Watch {
         }
         self.given_up.fetch_add(1, Ordering::SeqCst);
     }
+
+    /// Notes that a worker has entered its first pass, and holds it until two have.
+    fn enter(&self) {
+        self.first.fetch_add(1, Ordering::SeqCst);
+        self.hold(&self.first, 2);
+    }
+}
+
+/// Holds each worker in its first pass until two workers have entered theirs.
+#[derive(Drop)]
+pub struct TwoEnter<'a>(pub &'a Watch);
+
+impl Gate for TwoEnter<'_> {
+    fn pass(&self, _worker: u32, turn: u32) {
+        if turn == 0 {
+            self.0.enter();
+        }
+    }
 }
 
 /// Holds each worker in its first pass until two workers have entered theirs, and each but the last one, which is that of
@@ -51,8 +69,7 @@ pub struct UntilHeard<'a> {
 impl Gate for UntilHeard<'_> {
     fn pass(&self, worker: u32, turn: u32) {
         if turn == 0 {
-            self.watch.first.fetch_add(1, Ordering::SeqCst);
-            self.watch.hold(&self.watch.first, 2);
+            self.watch.enter();
         }
         if turn == 1 && worker != self.agents {
             self.watch.hold(self.heard, 1);
