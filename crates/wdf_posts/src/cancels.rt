@@ -1,6 +1,6 @@
 //! Cancels of requests that arrived. (KMDF, but for what is marked own)
 ghost use Rattle.std.specs.Prelude.{◌≡◌, ◌∷◌, ◌||◌, [], option_map};
-ghost use Rattle.wdf_model.specs.parts.Requests as requests;
+ghost use Rattle.wdf_model.specs.parts.Requests as definition;
 ghost use Rattle.wdf_model.specs.rules.Posts as posts;
 
 use wdf_base::{Agent, ObjectId, Place};
@@ -10,7 +10,7 @@ use wdf_request::Requests;
 
 /// Whether a request is completed, or about to be.
 fn is_past_reach(place: Place) -> bool
-    ensures { result ≡ (requests.is_done place || requests.is_closing place) }
+    ensures { result ≡ (definition.is_done place || definition.is_closing place) }
 {
     matches!(place, Place::Done | Place::Closing(_))
 }
@@ -28,7 +28,7 @@ fn in_reach<A: Agent>(parts: &Parts<A>, r: ObjectId) -> Option<ObjectId>
 
 /// The request of an agent's arrival with a number, if that made one.
 fn arrival_of(requests: &Requests, agent: u16, arrival: u64) -> Option<ObjectId>
-    ensures { option_map (λ r. r.0) result ≡ requests.arrival_of requests.now agent arrival }
+    ensures { option_map (λ r. r.0) result ≡ definition.arrival_of requests.now agent arrival }
 {
     match u32::try_from(arrival) {
         Ok(arrival) => requests.arrival_of(agent, arrival),
@@ -38,7 +38,7 @@ fn arrival_of(requests: &Requests, agent: u16, arrival: u64) -> Option<ObjectId>
 
 /// The same, by a look at all requests.
 fn find_arrival(requests: &Requests, agent: u16, arrival: u64) -> Option<ObjectId>
-    ensures { option_map (λ r. r.0) result ≡ requests.arrival_of requests.now agent arrival }
+    ensures { option_map (λ r. r.0) result ≡ definition.arrival_of requests.now agent arrival }
 {
     for id in 0..requests.len() {
         if is_arrival(requests, agent, arrival, ObjectId(id)) {
@@ -50,7 +50,7 @@ fn find_arrival(requests: &Requests, agent: u16, arrival: u64) -> Option<ObjectI
 
 /// Whether a request is that of an agent's arrival with a number, from 1.
 fn is_arrival(requests: &Requests, agent: u16, arrival: u64, r: ObjectId) -> bool
-    ensures { result ≡ requests.is_arrival requests.now agent arrival r.0 }
+    ensures { result ≡ definition.is_arrival requests.now agent arrival r.0 }
 {
     let info = requests.info(r);
     arrival > 0 && info.agent == agent && u64::from(info.arrival) == arrival
