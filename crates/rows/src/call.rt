@@ -2,6 +2,7 @@
 use std::alloc::Global;
 use std::process::Abort;
 use std::test::Fail;
+use wdf_base::Memory;
 use wdf_io::{MemSink, MemSource};
 use wdf_top::top_plain;
 
@@ -40,20 +41,61 @@ pub struct Row {
     pub text: &'static [u8],
 }
 
+/// Adds a word.
+fn add_word(all: &mut Vec<String>, alloc: Global, word: &str) -> Result<(), Memory> {
+    let word = String::from_str(alloc, word)?;
+    all.push(word)?;
+    Ok(())
+}
+
 /// The words that stand after the program's name.
-fn words_of(alloc: Global, words: &str) -> Result<Vec<String>, Fail> {
+fn words_of(alloc: Global, words: &str) -> Result<Vec<String>, Memory> {
     let mut all = Vec::new(alloc);
     for word in words.split_whitespace() {
-        all.push(String::from_str(alloc, word)?)?;
+        match add_word(&mut all, alloc, word) {
+            Ok(()) => {}
+            Err(memory) => return Err(memory),
+        }
     }
     Ok(all)
 }
 
 /// The calls that fail.
-fn failing(alloc: Global, number: Option<u64>) -> Result<Vec<u64>, Fail> {
+fn failing(alloc: Global, number: Option<u64>) -> Result<Vec<u64>, Memory> {
     match number {
         Some(number) => Ok(Vec::from_slice(alloc, &[number])?),
         None => Ok(Vec::new(alloc)),
+    }
+}
+
+/// A source of an input.
+fn source_of(alloc: Global, input: &[u8], outside: Outside) -> Result<MemSource, Memory> {
+    let input = Vec::from_slice(alloc, input)?;
+    let fails = failing(alloc, outside.read_fails)?;
+    Ok(MemSource::new(input, fails, outside.piece.max(1)))
+}
+
+/// An empty sink.
+fn sink_for(alloc: Global, outside: Outside) -> Result<MemSink, Memory> {
+    let fails = failing(alloc, outside.write_fails)?;
+    MemSink::new(alloc, outside.room, fails)
+}
+
+/// The status that the program ends with over a source and a sink.
+fn status_over(alloc: Global, words: &[String], mut source: MemSource, sink: &mut MemSink) -> u8 {
+    top_plain(alloc, words, &mut source, sink)
+}
+
+/// The same with words that are parted here.
+fn status_of(
+    alloc: Global,
+    words: &str,
+    source: MemSource,
+    sink: &mut MemSink,
+) -> Result<u8, Memory> {
+    match words_of(alloc, words) {
+        Ok(words) => Ok(status_over(alloc, &words, source, sink)),
+        Err(memory) => Err(memory),
     }
 }
 
@@ -63,15 +105,41 @@ pub fn call(
     words: &str,
     input: &[u8],
     outside: Outside,
-) -> Result<(u8, MemSink), Fail> {
-    let words = words_of(alloc, words)?;
-    let read_fails = failing(alloc, outside.read_fails)?;
-    let write_fails = failing(alloc, outside.write_fails)?;
-    let input = Vec::from_slice(alloc, input)?;
-    let mut source = MemSource::new(input, read_fails, outside.piece.max(1));
-    let mut sink = MemSink::new(alloc, outside.room, write_fails)?;
-    let status = top_plain(alloc, &words, &mut source, &mut sink);
+) -> Result<(u8, MemSink), Memory> {
+    let mut sink = sink_for(alloc, outside)?;
+    let source = source_of(alloc, input, outside)?;
+    let status = status_of(alloc, words, source, &mut sink)?;
     Ok((status, sink))
+}
+
+/// Whether a call ends with this status and writes this text.
+pub fn is_answered(
+    alloc: Global,
+    words: &str,
+    input: &[u8],
+    outside: Outside,
+    due: (u8, &[u8]),
+) -> Result<bool, Memory> {
+    match call(alloc, words, input, outside) {
+        Ok((status, sink)) => Ok(status == due.0 && sink.written() == due.1),
+        Err(memory) => Err(memory),
+    }
+}
+
+/// The name of the first row that isn't answered as is due.
+fn first_wrong(
+    alloc: Global,
+    outside: Outside,
+    rows: &[Row],
+) -> Result<Option<&'static str>, Memory> {
+    for row in rows {
+        match is_answered(alloc, row.words, row.input, outside, (row.status, row.text)) {
+            Ok(true) => {}
+            Ok(false) => return Ok(Some(row.name)),
+            Err(memory) => return Err(memory),
+        }
+    }
+    Ok(None)
 }
 
 /// Tries what each row says.
@@ -81,11 +149,6 @@ pub fn try_rows<R: Abort>(
     outside: Outside,
     rows: &[Row],
 ) -> Result<(), Fail> {
-    for row in rows {
-        let (found, sink) = call(alloc, row.words, row.input, outside)?;
-        let written = String::from_utf8_lossy(alloc, sink.written())?;
-        assert!(rt; sink.written() == row.text, "at {}: {written}", row.name);
-        assert_eq!(rt; found, row.status, "at {}", row.name);
-    }
+    assert_eq!(rt; first_wrong(alloc, outside, rows)?, None);
     Ok(())
 }

@@ -148,39 +148,40 @@ at 40 surprise D\n\
 end\n\
 ";
 
+static CANONICAL: [Row; 4] = [
+    Row {
+        name: "one read",
+        words: "check",
+        input: ONE_READ,
+        status: 0,
+        text: ONE_READ,
+    },
+    Row {
+        name: "sixteen parentheses",
+        words: "check",
+        input: SIXTEEN_PARENTHESES,
+        status: 0,
+        text: SIXTEEN_PARENTHESES,
+    },
+    Row {
+        name: "a passive interrupt",
+        words: "check",
+        input: PASSIVE_INTERRUPT,
+        status: 0,
+        text: PASSIVE_INTERRUPT,
+    },
+    Row {
+        name: "a serial port",
+        words: "check",
+        input: SERIAL_PORT,
+        status: 0,
+        text: SERIAL_PORT,
+    },
+];
+
 #[test]
 fn a_canonical_text_stays(rt: HostRuntime) -> Result<(), Fail> {
-    let rows: [Row; 4] = [
-        Row {
-            name: "one read",
-            words: "check",
-            input: ONE_READ,
-            status: 0,
-            text: ONE_READ,
-        },
-        Row {
-            name: "sixteen parentheses",
-            words: "check",
-            input: SIXTEEN_PARENTHESES,
-            status: 0,
-            text: SIXTEEN_PARENTHESES,
-        },
-        Row {
-            name: "a passive interrupt",
-            words: "check",
-            input: PASSIVE_INTERRUPT,
-            status: 0,
-            text: PASSIVE_INTERRUPT,
-        },
-        Row {
-            name: "a serial port",
-            words: "check",
-            input: SERIAL_PORT,
-            status: 0,
-            text: SERIAL_PORT,
-        },
-    ];
-    try_rows(&rt, rt.alloc(), STEADY, &rows)
+    try_rows(&rt, rt.alloc(), STEADY, &CANONICAL)
 }
 
 #[test]

@@ -1,5 +1,5 @@
 //! Sources that fail, sinks that fail, and inputs that are too large.
-use crate::call::{Outside, Row, STEADY, call, try_rows};
+use crate::call::{Outside, Row, STEADY, is_answered, try_rows};
 use crate::loads::ALL_DONE;
 use crate::reads::{ONE_READ, ONE_READ_RUN, TWO_READS_AT_ONCE, TWO_READS_AT_ONCE_RUN};
 use crate::refusals::USAGE;
@@ -7,48 +7,49 @@ use crate::replays::WHOLE;
 use crate::requests::{KEPT, KEPT_RUN};
 use crate::seeds::{BY_SEED_9, FOUR_APPS};
 use std::alloc::Global;
-use std::process::Abort;
 use std::test::Fail;
+use wdf_base::Memory;
 
 /// The most bytes that an input may have.
 const INPUT_LIMIT: usize = 1_048_576;
 
+static READ_FAULTS: [Row; 3] = [
+    Row {
+        name: "a run",
+        words: "order",
+        input: ONE_READ,
+        status: 12,
+        text: b"read fault\n",
+    },
+    Row {
+        name: "a run by a seed",
+        words: "seed 9",
+        input: FOUR_APPS,
+        status: 12,
+        text: b"read fault\n",
+    },
+    Row {
+        name: "a text",
+        words: "check",
+        input: ONE_READ,
+        status: 12,
+        text: b"read fault\n",
+    },
+];
+
 #[test]
 fn a_failed_read_is_told(rt: HostRuntime) -> Result<(), Fail> {
-    let rows: [Row; 3] = [
-        Row {
-            name: "a run",
-            words: "order",
-            input: ONE_READ,
-            status: 12,
-            text: b"read fault\n",
-        },
-        Row {
-            name: "a run by a seed",
-            words: "seed 9",
-            input: FOUR_APPS,
-            status: 12,
-            text: b"read fault\n",
-        },
-        Row {
-            name: "a text",
-            words: "check",
-            input: ONE_READ,
-            status: 12,
-            text: b"read fault\n",
-        },
-    ];
     let first = Outside {
         read_fails: Some(1),
         ..STEADY
     };
-    try_rows(&rt, rt.alloc(), first, &rows)?;
+    try_rows(&rt, rt.alloc(), first, &READ_FAULTS)?;
     let behind_the_text = Outside {
         read_fails: Some(2),
         piece: 4096,
         ..STEADY
     };
-    try_rows(&rt, rt.alloc(), behind_the_text, &rows)
+    try_rows(&rt, rt.alloc(), behind_the_text, &READ_FAULTS)
 }
 
 #[test]
@@ -72,31 +73,32 @@ fn a_full_sink_keeps_a_front(rt: HostRuntime) -> Result<(), Fail> {
     try_rows(&rt, rt.alloc(), Outside { room: 40, ..STEADY }, &rows)
 }
 
+static NOT_WRITTEN: [Row; 3] = [
+    Row {
+        name: "an empty text",
+        words: "order",
+        input: b"",
+        status: 13,
+        text: b"",
+    },
+    Row {
+        name: "an empty text",
+        words: "check",
+        input: b"",
+        status: 13,
+        text: b"",
+    },
+    Row {
+        name: "no word",
+        words: "",
+        input: b"",
+        status: 13,
+        text: b"",
+    },
+];
+
 #[test]
 fn a_refusal_that_is_not_written(rt: HostRuntime) -> Result<(), Fail> {
-    let rows: [Row; 3] = [
-        Row {
-            name: "an empty text",
-            words: "order",
-            input: b"",
-            status: 13,
-            text: b"",
-        },
-        Row {
-            name: "an empty text",
-            words: "check",
-            input: b"",
-            status: 13,
-            text: b"",
-        },
-        Row {
-            name: "no word",
-            words: "",
-            input: b"",
-            status: 13,
-            text: b"",
-        },
-    ];
     try_rows(
         &rt,
         rt.alloc(),
@@ -104,7 +106,7 @@ fn a_refusal_that_is_not_written(rt: HostRuntime) -> Result<(), Fail> {
             write_fails: Some(1),
             ..STEADY
         },
-        &rows,
+        &NOT_WRITTEN,
     )
 }
 
@@ -202,73 +204,80 @@ static WRITES: [Pieces; 8] = [
 ];
 
 /// The first lines of a text.
-fn first_lines(alloc: Global, text: &[u8], count: u64) -> Result<Vec<u8>, Fail> {
-    let mut front = Vec::new(alloc);
+fn first_lines(text: &'static [u8], count: u64) -> &'static [u8] {
     let mut left = count;
-    for byte in text {
+    for (place, byte) in text.iter().enumerate() {
         if left == 0 {
-            break;
+            return &text[..place];
         }
-        front.push(*byte)?;
         if *byte == b'\n' {
             left -= 1;
         }
     }
-    Ok(front)
+    text
 }
 
-/// The status and the text that are due where the write with this number fails: the lines before it,
+/// The status and the text that are due where the write with this number, from 1 on, fails: the lines before it,
 /// or all where there is no such write.
-fn due(alloc: Global, pieces: &Pieces, fails: u64) -> Result<(u8, Vec<u8>), Fail> {
-    if fails == 0 || pieces.writes < fails {
-        return Ok((pieces.row.status, Vec::from_slice(alloc, pieces.row.text)?));
+fn due(pieces: &Pieces, fails: u64) -> (u8, &'static [u8]) {
+    if pieces.writes < fails {
+        return (pieces.row.status, pieces.row.text);
     }
-    Ok((13, first_lines(alloc, pieces.row.text, fails - 1)?))
+    (13, first_lines(pieces.row.text, fails.saturating_sub(1)))
 }
 
-/// Lets each of twenty writes fail in turn.
-fn try_writes<R: Abort>(rt: &R, alloc: Global, pieces: &Pieces) -> Result<(), Fail> {
+/// Lets one write fail. Whether what is written is a front as is due.
+fn leaves_front(alloc: Global, pieces: &Pieces, number: u64) -> Result<bool, Memory> {
+    let outside = Outside {
+        write_fails: Some(number),
+        ..STEADY
+    };
     let row = &pieces.row;
+    is_answered(alloc, row.words, row.input, outside, due(pieces, number))
+}
+
+/// The number of the first of twenty writes that leaves no such front where it fails.
+fn first_wrong_write(alloc: Global, pieces: &Pieces) -> Result<Option<u64>, Memory> {
     for number in 1..=20 {
-        let outside = Outside {
-            write_fails: Some(number),
-            ..STEADY
-        };
-        let (found, sink) = call(alloc, row.words, row.input, outside)?;
-        let (status, text) = due(alloc, pieces, number)?;
-        assert!(rt;
-            sink.written() == text.as_slice(),
-            "at {} {number}",
-            row.name
-        );
-        assert_eq!(rt; found, status, "at {} {number}", row.name);
+        match leaves_front(alloc, pieces, number) {
+            Ok(true) => {}
+            Ok(false) => return Ok(Some(number)),
+            Err(memory) => return Err(memory),
+        }
     }
-    Ok(())
+    Ok(None)
 }
 
 #[test]
 fn a_failed_write_leaves_a_front(rt: HostRuntime) -> Result<(), Fail> {
     for pieces in &WRITES {
-        try_writes(&rt, rt.alloc(), pieces)?;
+        assert_eq!(rt;
+            first_wrong_write(rt.alloc(), pieces)?,
+            None,
+            "{}",
+            pieces.row.name
+        );
     }
     Ok(())
+}
+
+/// Whether an input with one byte too many is told, and one with as many as there may be is read.
+fn is_told(alloc: Global, input: &[u8]) -> Result<bool, Memory> {
+    let too_large = (14, b"input too large\n".as_slice());
+    let read = (10, b"parse refused at line 1048577: BadLine\n".as_slice());
+    match input.split_last() {
+        Some((_, front)) => Ok(
+            is_answered(alloc, "order", input, STEADY, too_large)?
+                && is_answered(alloc, "order", front, STEADY, read)?,
+        ),
+        None => Ok(false),
+    }
 }
 
 #[test]
 fn an_input_is_too_large(rt: HostRuntime) -> Result<(), Fail> {
     let mut input = Vec::new(rt.alloc());
     input.resize(INPUT_LIMIT + 1, b'\n')?;
-    for (len, status, text) in [
-        (INPUT_LIMIT + 1, 14, b"input too large\n".as_slice()),
-        (
-            INPUT_LIMIT,
-            10,
-            b"parse refused at line 1048577: BadLine\n".as_slice(),
-        ),
-    ] {
-        let (found, sink) = call(rt.alloc(), "order", &input[..len], STEADY)?;
-        assert_eq!(rt; sink.written(), text);
-        assert_eq!(rt; found, status);
-    }
+    assert!(rt; is_told(rt.alloc(), &input)?);
     Ok(())
 }

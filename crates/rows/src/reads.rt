@@ -185,79 +185,81 @@ const LOGS_FIRST_RUN: &[u8] = b"\
 finished 7\n\
 ";
 
+static PICKED: [Row; 7] = [
+    Row {
+        name: "one read",
+        words: "order",
+        input: ONE_READ,
+        status: 0,
+        text: ONE_READ_RUN,
+    },
+    Row {
+        name: "two reads",
+        words: "order",
+        input: TWO_READS,
+        status: 0,
+        text: TWO_READS_RUN,
+    },
+    Row {
+        name: "picks",
+        words: "order",
+        input: TWO_READS_AT_ONCE,
+        status: 0,
+        text: TWO_READS_AT_ONCE_RUN,
+    },
+    Row {
+        name: "four events",
+        words: "order",
+        input: FOUR_EVENTS,
+        status: 5,
+        text: FOUR_EVENTS_RUN,
+    },
+    Row {
+        name: "two processors",
+        words: "order",
+        input: TWO_PROCESSORS,
+        status: 0,
+        text: ONE_READ_RUN,
+    },
+    Row {
+        name: "a log",
+        words: "order",
+        input: LOGS_FIRST,
+        status: 0,
+        text: LOGS_FIRST_RUN,
+    },
+    Row {
+        name: "nothing",
+        words: "order",
+        input: NOTHING,
+        status: 0,
+        text: b"finished 0\n",
+    },
+];
+
 #[test]
 fn a_run_is_the_picked_one(rt: HostRuntime) -> Result<(), Fail> {
-    let rows: [Row; 7] = [
-        Row {
-            name: "one read",
-            words: "order",
-            input: ONE_READ,
-            status: 0,
-            text: ONE_READ_RUN,
-        },
-        Row {
-            name: "two reads",
-            words: "order",
-            input: TWO_READS,
-            status: 0,
-            text: TWO_READS_RUN,
-        },
-        Row {
-            name: "picks",
-            words: "order",
-            input: TWO_READS_AT_ONCE,
-            status: 0,
-            text: TWO_READS_AT_ONCE_RUN,
-        },
-        Row {
-            name: "four events",
-            words: "order",
-            input: FOUR_EVENTS,
-            status: 5,
-            text: FOUR_EVENTS_RUN,
-        },
-        Row {
-            name: "two processors",
-            words: "order",
-            input: TWO_PROCESSORS,
-            status: 0,
-            text: ONE_READ_RUN,
-        },
-        Row {
-            name: "a log",
-            words: "order",
-            input: LOGS_FIRST,
-            status: 0,
-            text: LOGS_FIRST_RUN,
-        },
-        Row {
-            name: "nothing",
-            words: "order",
-            input: NOTHING,
-            status: 0,
-            text: b"finished 0\n",
-        },
-    ];
-    try_rows(&rt, rt.alloc(), STEADY, &rows)
+    try_rows(&rt, rt.alloc(), STEADY, &PICKED)
 }
+
+static BY_BYTES: [Row; 2] = [
+    Row {
+        name: "one read",
+        words: "order",
+        input: ONE_READ,
+        status: 0,
+        text: ONE_READ_RUN,
+    },
+    Row {
+        name: "four apps by a seed",
+        words: "seed 9",
+        input: FOUR_APPS,
+        status: 0,
+        text: BY_SEED_9,
+    },
+];
 
 #[test]
 fn a_text_may_come_byte_by_byte(rt: HostRuntime) -> Result<(), Fail> {
-    let rows: [Row; 2] = [
-        Row {
-            name: "one read",
-            words: "order",
-            input: ONE_READ,
-            status: 0,
-            text: ONE_READ_RUN,
-        },
-        Row {
-            name: "four apps by a seed",
-            words: "seed 9",
-            input: FOUR_APPS,
-            status: 0,
-            text: BY_SEED_9,
-        },
-    ];
-    try_rows(&rt, rt.alloc(), Outside { piece: 1, ..STEADY }, &rows)
+    try_rows(&rt, rt.alloc(), Outside { piece: 1, ..STEADY }, &BY_BYTES)
 }

@@ -1,8 +1,8 @@
 //! Verdicts on traces: a scenario, a line `trace`, and a trace.
-use crate::call::{Outside, Row, STEADY, call, try_rows};
+use crate::call::{Outside, Row, STEADY, call, is_answered, try_rows};
 use std::alloc::Global;
-use std::process::Abort;
 use std::test::Fail;
+use wdf_base::Memory;
 use wdf_worked_texts::{Worked, power, processors, requests, serial, targets};
 
 pub const WHOLE: &[u8] = b"\
@@ -523,35 +523,70 @@ static MARKS: [Mark; 9] = [
 ];
 
 /// Texts one after the other.
-fn joined(alloc: Global, texts: &[&[u8]]) -> Result<Vec<u8>, Fail> {
+fn joined(alloc: Global, texts: &[&[u8]]) -> Result<Vec<u8>, Memory> {
     let mut all = Vec::new(alloc);
     for text in texts {
-        all.extend_from_slice(text)?;
+        match all.extend_from_slice(text) {
+            Ok(()) => {}
+            Err(_) => return Err(Memory),
+        }
     }
     Ok(all)
 }
 
+/// Whether the input with a mark is answered as is due.
+fn is_parted(alloc: Global, mark: &Mark) -> Result<bool, Memory> {
+    match joined(alloc, &[NOTHING, mark.after]) {
+        Ok(input) => is_answered(alloc, "replay", &input, STEADY, (mark.status, mark.text)),
+        Err(memory) => Err(memory),
+    }
+}
+
+/// The place of the first mark whose input isn't answered as is due.
+fn first_wrong_mark(alloc: Global) -> Result<Option<usize>, Memory> {
+    for (place, mark) in MARKS.iter().enumerate() {
+        match is_parted(alloc, mark) {
+            Ok(true) => {}
+            Ok(false) => return Ok(Some(place)),
+            Err(memory) => return Err(memory),
+        }
+    }
+    Ok(None)
+}
+
 #[test]
 fn the_first_line_trace_parts_an_input(rt: HostRuntime) -> Result<(), Fail> {
-    for mark in &MARKS {
-        let input = joined(rt.alloc(), &[NOTHING, mark.after])?;
-        let (status, sink) = call(rt.alloc(), "replay", &input, STEADY)?;
-        let after = String::from_utf8_lossy(rt.alloc(), mark.after)?;
-        assert!(rt; sink.written() == mark.text, "at {after}");
-        assert_eq!(rt; status, mark.status, "at {after}");
-    }
+    assert_eq!(rt; first_wrong_mark(rt.alloc())?, None);
     Ok(())
 }
 
-fn try_run(rt: &impl Abort, alloc: Global, run: &Worked) -> Result<(), Fail> {
-    let input = joined(
-        alloc,
-        &[run.scenario.as_bytes(), b"trace\n", run.trace.as_bytes()],
-    )?;
-    let (status, sink) = call(alloc, "replay", &input, STEADY)?;
-    assert_eq!(rt; status, 0, "at {}", run.name);
-    assert!(rt; sink.written().starts_with(b"accepted "), "at {}", run.name);
-    Ok(())
+/// Whether an input is accepted.
+fn is_accepted(alloc: Global, input: &[u8]) -> Result<bool, Memory> {
+    match call(alloc, "replay", input, STEADY) {
+        Ok((status, sink)) => Ok(status == 0 && sink.written().starts_with(b"accepted ")),
+        Err(memory) => Err(memory),
+    }
+}
+
+/// Whether the trace of a run is accepted.
+fn accepts(alloc: Global, run: &Worked) -> Result<bool, Memory> {
+    let texts = [run.scenario.as_bytes(), b"trace\n", run.trace.as_bytes()];
+    match joined(alloc, &texts) {
+        Ok(input) => is_accepted(alloc, &input),
+        Err(memory) => Err(memory),
+    }
+}
+
+/// The name of the first run whose trace isn't accepted.
+fn first_refused(alloc: Global, runs: &'static [Worked]) -> Result<Option<&'static str>, Memory> {
+    for run in runs {
+        match accepts(alloc, run) {
+            Ok(true) => {}
+            Ok(false) => return Ok(Some(run.name)),
+            Err(memory) => return Err(memory),
+        }
+    }
+    Ok(None)
 }
 
 #[test]
@@ -563,9 +598,7 @@ fn worked_runs_are_accepted(rt: HostRuntime) -> Result<(), Fail> {
         serial::RUNS.as_slice(),
         targets::RUNS.as_slice(),
     ] {
-        for run in runs {
-            try_run(&rt, rt.alloc(), run)?;
-        }
+        assert_eq!(rt; first_refused(rt.alloc(), runs)?, None);
     }
     Ok(())
 }

@@ -51,22 +51,38 @@ pub const BY_SEED_9: &[u8] = b"\
 finished 4\n\
 ";
 
+static ROWS: [Row; 4] = [
+    Row {
+        name: "order",
+        words: "order",
+        input: FOUR_APPS,
+        status: 0,
+        text: BY_ORDER,
+    },
+    Row {
+        name: "seed 0",
+        words: "seed 0",
+        input: FOUR_APPS,
+        status: 0,
+        text: BY_SEED_0,
+    },
+    Row {
+        name: "seed 9",
+        words: "seed 9",
+        input: FOUR_APPS,
+        status: 0,
+        text: BY_SEED_9,
+    },
+    Row {
+        name: "seed 00000000000000000009",
+        words: "seed 00000000000000000009",
+        input: FOUR_APPS,
+        status: 0,
+        text: BY_SEED_9,
+    },
+];
+
 #[test]
 fn a_seed_picks(rt: HostRuntime) -> Result<(), Fail> {
-    for (words, text) in [
-        ("order", BY_ORDER),
-        ("seed 0", BY_SEED_0),
-        ("seed 9", BY_SEED_9),
-        ("seed 00000000000000000009", BY_SEED_9),
-    ] {
-        let row = Row {
-            name: words,
-            words,
-            input: FOUR_APPS,
-            status: 0,
-            text,
-        };
-        try_rows(&rt, rt.alloc(), STEADY, &[row])?;
-    }
-    Ok(())
+    try_rows(&rt, rt.alloc(), STEADY, &ROWS)
 }

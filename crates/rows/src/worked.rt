@@ -1,9 +1,8 @@
 //! The worked runs of tools/runs through the top call.
-use crate::call::{Row, STEADY, call, try_rows};
+use crate::call::{STEADY, call, is_answered};
 use std::alloc::Global;
-use std::process::Abort;
 use std::test::Fail;
-use wdf_base::Ending;
+use wdf_base::{Ending, Memory};
 use wdf_worked_texts::{Worked, power, processors, requests, serial, targets};
 
 /// The status of a run that ended so.
@@ -16,15 +15,22 @@ fn status_of(ending: Ending) -> u8 {
     }
 }
 
-fn try_run(rt: &impl Abort, alloc: Global, run: &Worked) -> Result<(), Fail> {
-    let row = Row {
-        name: run.name,
-        words: "order",
-        input: run.scenario.as_bytes(),
-        status: status_of(run.ending),
-        text: run.trace.as_bytes(),
-    };
-    try_rows(rt, alloc, STEADY, &[row])
+/// Whether a run comes out as it is worked.
+fn comes_out(alloc: Global, run: &Worked) -> Result<bool, Memory> {
+    let due = (status_of(run.ending), run.trace.as_bytes());
+    is_answered(alloc, "order", run.scenario.as_bytes(), STEADY, due)
+}
+
+/// The name of the first run that doesn't come out.
+fn first_wrong(alloc: Global, runs: &'static [Worked]) -> Result<Option<&'static str>, Memory> {
+    for run in runs {
+        match comes_out(alloc, run) {
+            Ok(true) => {}
+            Ok(false) => return Ok(Some(run.name)),
+            Err(memory) => return Err(memory),
+        }
+    }
+    Ok(None)
 }
 
 #[test]
@@ -36,9 +42,7 @@ fn worked_runs_come_out(rt: HostRuntime) -> Result<(), Fail> {
         serial::RUNS.as_slice(),
         targets::RUNS.as_slice(),
     ] {
-        for run in runs {
-            try_run(&rt, rt.alloc(), run)?;
-        }
+        assert_eq!(rt; first_wrong(rt.alloc(), runs)?, None);
     }
     Ok(())
 }
@@ -72,12 +76,29 @@ fn status_of_front(len: usize) -> u8 {
     10
 }
 
+/// Whether a front of the serial port's text is answered with this status.
+fn is_front_answered(alloc: Global, front: &[u8], due: u8) -> Result<bool, Memory> {
+    match call(alloc, "order", front, STEADY) {
+        Ok((status, _)) => Ok(status == due),
+        Err(memory) => Err(memory),
+    }
+}
+
+/// The length of the first front of a text that isn't answered as is due.
+fn first_wrong_front(alloc: Global, text: &[u8]) -> Result<Option<usize>, Memory> {
+    for len in 0..=text.len() {
+        match is_front_answered(alloc, &text[..len], status_of_front(len)) {
+            Ok(true) => {}
+            Ok(false) => return Ok(Some(len)),
+            Err(memory) => return Err(memory),
+        }
+    }
+    Ok(None)
+}
+
 #[test]
 fn fronts_of_a_text_are_answered(rt: HostRuntime) -> Result<(), Fail> {
     let text = serial::RUNS[0].scenario.as_bytes();
-    for len in 0..=text.len() {
-        let (found, _) = call(rt.alloc(), "order", &text[..len], STEADY)?;
-        assert_eq!(rt; found, status_of_front(len), "at {len}");
-    }
+    assert_eq!(rt; first_wrong_front(rt.alloc(), text)?, None);
     Ok(())
 }
