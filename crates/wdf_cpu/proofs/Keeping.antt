@@ -174,6 +174,11 @@ kept_park C flags levels counts awaited cpu f is_top h =
     subst (λ t. IsKept (record { frames = C.frames; stacks = put [] C.stacks cpu (drop 1 (stack_of C cpu)); parked = parked_with C t; levels = C.levels }) flags levels counts awaited)
     is_top (parked_keeps C flags levels counts awaited cpu f is_top h)
 
+-- the state after the top frame parked
+pub park_is : (C : Cpus) (cpu f : ℕ) → top C cpu ≡ Some f
+    → record { frames = C.frames; stacks = put [] C.stacks cpu (drop 1 (stack_of C cpu)); parked = in_order f C.parked; levels = C.levels } ≡ cpus.park C cpu
+park_is C cpu f is_top = ap (λ t. record { frames = C.frames; stacks = put [] C.stacks cpu (drop 1 (stack_of C cpu)); parked = parked_with C t; levels = C.levels }) (sym is_top)
+
 pub nothing_else : {T : Type 0} (r other : Option T) → r ≡ other → ((x : T) → r ≡ Some x → ⊥) → other ≡ None
 nothing_else None other e h = sym e
 nothing_else (Some x) other e h = absurd (h x refl)

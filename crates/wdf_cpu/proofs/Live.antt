@@ -8,7 +8,7 @@ use Rattle.wdf_model.specs.Tables.{contains, entry, first_of_list, flag, put}
 use Rattle.wdf_model.specs.parts.Cpus.{Cpus, all_frames, stack_of, top}
 use Rattle.wdf_model.specs.parts.Cpus as cpus
 use Rattle.wdf_model.proofs.Maps.{entry_past, entry_put_other, entry_put_same, put_short}
-use Rattle.wdf_model.proofs.Counts.{at_head, equal, not_equal, one_or_two}
+use Rattle.wdf_model.proofs.Counts.{at_head, count_behind, equal, not_equal, one_or_two}
 use Rattle.wdf_cpu.specs.Kept.{IsLive}
 use Rattle.wdf_invariants.proofs.FrameCounts.{parks, pushed, unparks}
 use Rattle.wdf_invariants.proofs.FrameMoves.{flag_small}
@@ -79,6 +79,13 @@ top_goes_off C live cpu f is_top h =
     let p = pop_leaves C cpu f is_top f in
     let yes : flag (f == f) ≡ 1 = ap flag (equal f f refl) in
     let o = live_once C live h f in
+    omega arith
+
+-- it isn't parked
+pub top_not_parked : (C : Cpus) (live : List Bool) (cpu f : ℕ) → top C cpu ≡ Some f → IsLive C live → count_by (λ y. y == f) C.parked ≡ 0
+top_not_parked C live cpu f is_top h =
+    let off = top_goes_off C live cpu f is_top h in
+    let both = count_behind (λ y. y == f) (flat_map (λ fs. fs) (cpus.pop C cpu).stacks) C.parked in
     omega arith
 
 pub live_pop : (C : Cpus) (live : List Bool) (cpu f : ℕ) → top C cpu ≡ Some f → IsLive C live → IsLive (cpus.pop C cpu) (put false live f false)

@@ -1,9 +1,10 @@
 -- Lists of numbers in which each is once, and lists in order.
-use Rattle.std.proofs.Common.{◌≡◌, ◌≢◌, ℕ, zero, suc, ◌+◌, ◌==◌, ◌≤◌, nat_lt, Bool, true, false, not, List, [], ◌∷◌, inl, inr, length, count_by, refl, ap, sym, ◌∙◌, arith}
-use Rattle.std.specs.List.{insert, position_or_len}
+use Rattle.std.proofs.Common.{◌≡◌, ◌≢◌, ℕ, zero, suc, ◌+◌, ◌==◌, ◌≤◌, Bool, true, false, not, List, [], ◌∷◌, inl, inr, None, is_some, length, count_by, refl, ap, sym, ◌∙◌, arith}
 use Rattle.std.proofs.lemmas.List.Sums.{length-filter}
 use Rattle.std.proofs.lemmas.List.Filters.{length-filter_both}
 use Rattle.wdf_model.specs.Tables.{contains, flag, in_order, without}
+use Rattle.wdf_rising.specs.Places.{entry_of, with_entry}
+use Rattle.wdf_rising.proofs.EntriesById.{others_absent}
 use Rattle.wdf_model.proofs.Counts.{at_head, equal, filter_less, it_leaves, one_or_two, others_stay}
 
 -- what a list does not contain is in it no time
@@ -42,16 +43,29 @@ few_numbers (suc n) xs once below =
     let o = once n in
     omega arith
 
--- ---- order
-
 pub one_and : (n : ℕ) → 1 + n ≡ suc n
 one_and n = omega arith
 
-in_order_by_place : (f x : ℕ) (xs : List ℕ) (b : Bool) → nat_lt f x ≡ b → insert xs (position_or_len (nat_lt f) xs) f ≡ in_order f xs
-    → insert (x ∷ xs) (position_or_len (nat_lt f) (x ∷ xs)) f ≡ in_order f (x ∷ xs)
-in_order_by_place f x xs true e rest = rw e refl
-in_order_by_place f x xs false e rest = rw (e, one_and) (ap (λ ys. x ∷ ys) rest)
+-- ---- numbers by their ids
 
-pub in_order_is : (f : ℕ) (xs : List ℕ) → insert xs (position_or_len (nat_lt f) xs) f ≡ in_order f xs
-in_order_is f [] = refl
-in_order_is f (x ∷ xs) = in_order_by_place f x xs (nat_lt f x) refl (in_order_is f xs)
+found_by : (f x : ℕ) (xs : List ℕ) (b : Bool) → (x == f) ≡ b → is_some (entry_of (λ n. n) xs f) ≡ contains f xs → is_some (entry_of (λ n. n) (x ∷ xs) f) ≡ contains f (x ∷ xs)
+found_by f x xs true e rest = rw e refl
+found_by f x xs false e rest = rw e rest
+
+-- a number is found where it is there
+pub found_is_contained : (f : ℕ) (xs : List ℕ) → is_some (entry_of (λ n. n) xs f) ≡ contains f xs
+found_is_contained f [] = refl
+found_is_contained f (x ∷ xs) = found_by f x xs (x == f) refl (found_is_contained f xs)
+
+unfound_by : (f x : ℕ) (xs : List ℕ) (b : Bool) → (x == f) ≡ b → count_by (λ y. y == f) (x ∷ xs) ≡ 0 → (count_by (λ y. y == f) xs ≡ 0 → entry_of (λ n. n) xs f ≡ None) → entry_of (λ n. n) (x ∷ xs) f ≡ None
+unfound_by f x xs true e none rest = absurd (let a = at_head f x xs in let yes : flag (x == f) ≡ 1 = ap flag e in omega arith)
+unfound_by f x xs false e none rest = rw e (rest (let a = at_head f x xs in let no : flag (x == f) ≡ 0 = ap flag e in omega arith))
+
+-- a number that isn't there isn't found
+pub unfound : (f : ℕ) (xs : List ℕ) → count_by (λ y. y == f) xs ≡ 0 → entry_of (λ n. n) xs f ≡ None
+unfound f [] none = refl
+unfound f (x ∷ xs) none = unfound_by f x xs (x == f) refl none (unfound f xs)
+
+-- it comes in its place
+pub in_order_is : (f : ℕ) (xs : List ℕ) → count_by (λ y. y == f) xs ≡ 0 → with_entry (λ n. n) f xs ≡ in_order f xs
+in_order_is f xs none = ap (in_order f) (others_absent (λ n. n) f xs (unfound f xs none))

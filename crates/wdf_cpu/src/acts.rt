@@ -8,13 +8,12 @@ ghost use Rattle.wdf_model.specs.parts.Cpus.{no_frame};
 ghost use Rattle.wdf_counts.specs.Counts.{count_at, moved_count};
 
 use crate::cpus::{Cpus, NO_FRAME, object_key, wait_key};
-use crate::levels::{drop_level, drop_levels, peak_of};
-use crate::rising::{drop_number, insert_number};
 use crate::stack::{pop_from, push_on};
+use crate::untils::move_until_if;
 use wdf_base::{Cpu, Frame, FrameId, Irql, ObjectId};
 use wdf_counts::Counts;
 use wdf_maps::{entry_at, put_at};
-use wdf_model::{EVENTS, FRAMES, HeldLevel, Running};
+use wdf_model::{EVENTS, FRAMES, Running};
 
 impl Cpus {
     /// A frame begins on a processor, on top.
@@ -27,9 +26,10 @@ impl Cpus {
     {
         self.on.moves(None, object_key(&frame));
         self.waits.moves(None, wait_key(&frame));
+        self.untils.moves(0, frame.until);
         put_at(&mut self.frames, NO_FRAME, f.0, Running { frame, level });
         put_at(&mut self.live, false, f.0, true);
-        put_at(&mut self.peaks, 0, f.0, peak_of(&self.levels, f, level).0);
+        put_at(&mut self.peaks, 0, f.0, self.levels.peak(f, level).0);
         push_on(&mut self.stacks, cpu, f.0);
     }
 
@@ -42,8 +42,10 @@ impl Cpus {
         let live = entry_at(&self.live, false, f.0);
         let object = object_key(&self.frames[f.0 as usize].frame);
         let awaited = wait_key(&self.frames[f.0 as usize].frame);
+        let until = self.frames[f.0 as usize].frame.until;
         moves_if(&mut self.on, live, object, object_key(&frame));
         moves_if(&mut self.waits, live, awaited, wait_key(&frame));
+        move_until_if(&mut self.untils, live, until, frame.until);
         set_frame(&mut self.frames, f, frame);
     }
 
@@ -55,8 +57,7 @@ impl Cpus {
     {
         let peak = entry_at(&self.peaks, 0, f.0);
         put_at(&mut self.peaks, 0, f.0, peak.max(level.0));
-        self.levels
-            .push_front_reserved(HeldLevel { frame: f, level });
+        self.levels.raise(f, level);
     }
 
     /// A frame holds a level less. Nothing changes where it doesn't hold it.
@@ -64,9 +65,9 @@ impl Cpus {
         requires there { f.0 < FRAMES }
         ensures { self.new ≡ cpus.lower self.old f.0 level.0 }
     {
-        drop_level(&mut self.levels, f, level);
+        self.levels.lower(f, level);
         let own = entry_at(&self.frames, NO_FRAME, f.0).level;
-        put_at(&mut self.peaks, 0, f.0, peak_of(&self.levels, f, own).0);
+        put_at(&mut self.peaks, 0, f.0, self.levels.peak(f, own).0);
     }
 
     /// The top frame of a processor ends. The levels that it holds are gone with it.
@@ -81,10 +82,11 @@ impl Cpus {
         let frame = entry_at(&self.frames, NO_FRAME, f.0).frame;
         self.on.moves(object_key(&frame), None);
         self.waits.moves(wait_key(&frame), None);
+        self.untils.moves(frame.until, 0);
         put_at(&mut self.frames, NO_FRAME, f.0, NO_FRAME);
         put_at(&mut self.live, false, f.0, false);
         put_at(&mut self.peaks, 0, f.0, 0);
-        drop_levels(&mut self.levels, f);
+        self.levels.forget(f);
         frame
     }
 
@@ -95,7 +97,7 @@ impl Cpus {
         ensures size { length self.new.stacks ≡ length self.old.stacks }
     {
         if let Some(f) = pop_from(&mut self.stacks, cpu) {
-            insert_number(&mut self.parked, f);
+            self.parked.put(f);
         }
     }
 
@@ -106,7 +108,7 @@ impl Cpus {
         ensures done { self.new ≡ cpus.unpark self.old cpu.0 f.0 }
         ensures size { length self.new.stacks ≡ length self.old.stacks }
     {
-        drop_number(&mut self.parked, f.0);
+        self.parked.remove_number(f.0);
         push_on(&mut self.stacks, cpu, f.0);
     }
 }

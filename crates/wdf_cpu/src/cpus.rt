@@ -3,13 +3,15 @@ ghost use Rattle.std.specs.Option.{option_map};
 ghost use Rattle.wdf_model.specs.parts.Cpus.{opening_cpus, no_frame};
 ghost use Rattle.wdf_cpu.specs.Keys.{object_key, wait_key};
 
+use crate::levels::Levels;
 use crate::stack::Stack;
+use crate::untils::Untils;
 use std::alloc::Global;
-use std::collections::VecDeque;
 use std::marker::Model;
 use wdf_base::{Callback, Frame, Handle, Irql, Memory, ObjectId, Plan, Status, VARIABLES, Value};
 use wdf_counts::Counts;
-use wdf_model::{EVENTS, FRAMES, HeldLevel, Running, object_in};
+use wdf_model::{FRAMES, Running, object_in};
+use wdf_rising::Rising;
 
 /// The handle of no object.
 const NO_HANDLE: Handle = Handle {
@@ -45,9 +47,9 @@ pub struct Cpus {
     /// The frames of each processor.
     pub(crate) stacks: Vec<Stack>,
     /// The numbers of the frames that left their processor, rising.
-    pub(crate) parked: Vec<u32>,
+    pub(crate) parked: Rising<u32>,
     /// The levels that frames hold, the latest first.
-    pub(crate) levels: VecDeque<HeldLevel>,
+    pub(crate) levels: Levels,
     /// Whether a frame runs or is parked, by number.
     pub(crate) live: Vec<bool>,
     /// The level of each frame, by number.
@@ -56,6 +58,8 @@ pub struct Cpus {
     pub(crate) on: Counts,
     /// How many frames wait for an object.
     pub(crate) waits: Counts,
+    /// The ticks until which these frames spend.
+    pub(crate) untils: Untils,
     /// What a number says that is no frame's.
     pub(crate) blank: Frame,
 }
@@ -81,12 +85,13 @@ impl Cpus {
         Ok(Cpus {
             frames: Vec::with_capacity(alloc, FRAMES as usize)?,
             stacks: empty_stacks(alloc, plan.cpus())?,
-            parked: Vec::with_capacity(alloc, FRAMES as usize)?,
-            levels: VecDeque::with_capacity(alloc, EVENTS as usize)?,
+            parked: Rising::make(alloc, FRAMES)?,
+            levels: Levels::make(alloc)?,
             live: Vec::with_capacity(alloc, FRAMES as usize)?,
             peaks: Vec::with_capacity(alloc, FRAMES as usize)?,
             on: Counts::make(alloc)?,
             waits: Counts::make(alloc)?,
+            untils: Untils::make(alloc)?,
             blank: NO_FRAME.frame,
         })
     }

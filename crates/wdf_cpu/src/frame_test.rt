@@ -11,8 +11,6 @@ pub(crate) enum FrameTest {
     On(ObjectId),
     /// Whether it waits for an object.
     WaitsFor(ObjectId),
-    /// Whether it spends at a tick.
-    SpendsAt(u64),
     /// Whether it runs this callback on a device, or on what has it as nearest device.
     Runs(Callback, ObjectId),
 }
@@ -28,7 +26,6 @@ impl FrameTest {
                 Some(awaited) => awaited.0 == object.0,
                 None => false,
             },
-            FrameTest::SpendsAt(time) => time < frame.until,
             FrameTest::Runs(callback, device) => {
                 same_callback(frame.callback, callback) && frame.device.id.0 == device.0
             }

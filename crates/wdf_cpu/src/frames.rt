@@ -17,7 +17,7 @@ impl Cpus {
         ensures value { result ≡ length (cpus.all_frames self.now) }
         ensures small { result ≤ FRAMES }
     {
-        stacked_len(&self.stacks) + self.parked.len()
+        stacked_len(&self.stacks) + self.parked.len() as usize
     }
 
     /// The frame at a place: those of each processor from its top on, then the parked ones.
@@ -25,7 +25,7 @@ impl Cpus {
         requires { place < length (cpus.all_frames self.now) }
         ensures { slice_get (cpus.all_frames self.now) place ≡ Some result.0 }
     {
-        FrameId(frame_in(&self.stacks, &self.parked, place))
+        FrameId(frame_in(&self.stacks, self.parked.as_slice(), place))
     }
 
     /// How many frames run on an object.
@@ -68,7 +68,7 @@ impl Cpus {
     pub fn any_spends(&self, time: u64) -> bool
         ensures { result ≡ list_any (λ f. nat_lt time (cpus.frame_of self.now f).until) (cpus.all_frames self.now) }
     {
-        self.any(FrameTest::SpendsAt(time))
+        time < self.untils.latest()
     }
 
     /// Whether some frame passes a test.

@@ -8,7 +8,7 @@ mod frames;
 mod levels;
 mod order;
 mod readers;
-mod rising;
 mod stack;
+mod untils;
 
 pub use cpus::Cpus;

@@ -53,21 +53,22 @@ impl Cpus {
     pub fn parked_len(&self) -> usize
         ensures { result ≡ length self.now.parked }
     {
-        self.parked.len()
+        self.parked.len() as usize
     }
 
     /// The parked frame at a place, by rising number; None exactly where there are fewer.
     pub fn parked_at(&self, place: usize) -> Option<FrameId>
         ensures { option_map (λ f. f.0) result ≡ slice_get self.now.parked place }
     {
-        self.parked.get(place).copied().map(FrameId)
+        self.parked.as_slice().get(place).copied().map(FrameId)
     }
 
+    #[tactic(auto, using(crate::proofs::Numbers::found_is_contained))]
     /// Whether a frame is parked.
     pub fn is_parked(&self, f: FrameId) -> bool
         ensures { result ≡ contains f.0 self.now.parked }
     {
-        self.parked.iter().any(|other| *other == f.0)
+        self.parked.has_number(f.0)
     }
 
     /// How many numbers there are up to the greatest that a frame had, from 0.

@@ -8,5 +8,5 @@ abbrev pub dpcs_in : Inside → Dpcs
 dpcs_in d = record { lists = d.queued.lists }
 
 -- There is room for all objects.
-pub record HasDpcs (d : Inside) : Type 0 where
+pub record IsSound (d : Inside) : Type 0 where
   pub room : d.queued.items ≡ OBJECTS

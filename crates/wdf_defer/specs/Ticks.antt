@@ -1,5 +1,5 @@
 -- The due ticks of queued timers.
-use Rattle.std.specs.Prelude.{ℕ, ◌≡◌, max, List, [], ◌∷◌, Option, Some, None}
+use Rattle.std.specs.Prelude.{ℕ, ◌≡◌, Bool, false, max, min, nat_le, List, [], ◌∷◌, Option, Some, None}
 use Rattle.wdf_model.specs.declared.entries.Timed.{Timed}
 
 abbrev pub timer_id : Timed → ℕ
@@ -9,6 +9,27 @@ timer_id t = t.timer.0
 abbrev pub latest_of : List Timed → ℕ
 latest_of [] = 0
 latest_of (t ∷ ts) = max t.tick (latest_of ts)
+
+-- the earlier of two ticks, as far as they are there
+abbrev pub earlier : Option ℕ → Option ℕ → Option ℕ
+earlier None other = other
+earlier (Some tick) None = Some tick
+earlier (Some tick) (Some other) = Some (min tick other)
+
+-- the least due tick, where there is one
+abbrev pub earliest_of : List Timed → Option ℕ
+earliest_of [] = None
+earliest_of (t ∷ ts) = earlier (Some t.tick) (earliest_of ts)
+
+-- whether a tick is the least one
+abbrev pub is_earliest : Option ℕ → Option ℕ → Bool
+is_earliest (Some least) (Some tick) = nat_le tick least
+is_earliest _ _ = false
+
+-- the due tick of a timer, where it is queued
+abbrev pub tick_if : Option Timed → Option ℕ
+tick_if None = None
+tick_if (Some t) = Some t.tick
 
 -- the due tick of a timer, 0 where it isn't queued
 abbrev pub due_tick : Option Timed → ℕ
@@ -21,3 +42,9 @@ pub record Replaces (before went came after : ℕ) : Type 0 where
   pub rest : ℕ
   pub was : before ≡ max went rest
   pub is : after ≡ max came rest
+
+-- The same of the least: before and after it is the earlier of it and of the rest.
+pub record ReplacesFirst (before went came after : Option ℕ) : Type 0 where
+  pub rest : Option ℕ
+  pub was : before ≡ earlier went rest
+  pub is : after ≡ earlier came rest

@@ -9,5 +9,5 @@ abbrev pub work_items_in : Inside → WorkItems
 work_items_in w = record { queued = members w.queued }
 
 -- There is room for all objects.
-pub record HasWorkItems (w : Inside) : Type 0 where
+pub record IsSound (w : Inside) : Type 0 where
   pub room : OBJECTS ≤ length w.queued

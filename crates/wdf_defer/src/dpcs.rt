@@ -22,11 +22,11 @@ impl Model for Dpcs {
 
     ghost Value = { Dpcs };
 
-    ghost use Rattle.wdf_defer.specs.Dpcs.{dpcs_in, HasDpcs};
+    ghost use Rattle.wdf_defer.specs.Dpcs.{dpcs_in, IsSound};
 
     ghost view = { dpcs_in };
 
-    ghost invariant = { HasDpcs };
+    ghost invariant = { IsSound };
 }
 
 /// The item after this one.

@@ -2,7 +2,7 @@ ghost use Rattle.std.specs.Prelude.{◌≡◌, ◌+◌, ◌<◌, ◌^◌, IfOk, 
 ghost use Rattle.wdf_model.specs.parts.Deferred.Timers as timers;
 ghost use Rattle.wdf_model.specs.Tables as tables;
 ghost use Rattle.wdf_rising.specs.Places.{rises, with_entry};
-ghost use Rattle.wdf_defer.specs.Ticks.{Replaces, due_tick, latest_of, timer_id};
+ghost use Rattle.wdf_defer.specs.Ticks.{Replaces, ReplacesFirst, due_tick, earlier, earliest_of, is_earliest, latest_of, tick_if, timer_id};
 
 use std::alloc::Global;
 use std::marker::Model;
@@ -19,6 +19,8 @@ pub struct Timers {
     queued: Rising<Timed>,
     /// The greatest due tick of the queued timers, 0 where there is none.
     latest: u64,
+    /// The least due tick of the queued timers, if there is one.
+    least: Option<u64>,
 }
 
 impl Model for Timers {
@@ -26,21 +28,11 @@ impl Model for Timers {
 
     ghost Value = { Timers };
 
-    ghost use Rattle.wdf_defer.specs.Timers.{timers_in, HasTimers};
+    ghost use Rattle.wdf_defer.specs.Timers.{timers_in, IsSound};
 
     ghost view = { timers_in };
 
-    ghost invariant = { HasTimers };
-}
-
-/// The lesser of two ticks, the first of which may be missing.
-fn lesser(least: Option<u64>, tick: u64) -> u64
-    ensures { Some result ≡ tables.lesser least tick }
-{
-    match least {
-        Some(least) if least <= tick => least,
-        _ => tick,
-    }
+    ghost invariant = { IsSound };
 }
 
 /// The greatest due tick of these timers, 0 where there is none.
@@ -77,15 +69,64 @@ fn tick_of(timed: Option<Timed>) -> u64
     }
 }
 
-/// The least due tick of these timers.
+/// The due tick of a timer, where it is queued.
+fn tick_if(timed: Option<Timed>) -> Option<u64>
+    ensures { result ≡ tick_if timed }
+{
+    match timed {
+        Some(timed) => Some(timed.tick),
+        None => None,
+    }
+}
+
+/// The earlier of two ticks, as far as they are there.
+fn earlier(one: Option<u64>, other: Option<u64>) -> Option<u64>
+    ensures { result ≡ earlier one other }
+{
+    match (one, other) {
+        (None, other) => other,
+        (Some(tick), None) => Some(tick),
+        (Some(tick), Some(other)) => Some(tick.min(other)),
+    }
+}
+
+/// The least due tick of these timers, if there is one.
 fn least_tick(queued: &[Timed]) -> Option<u64>
-    ensures { result ≡ tables.least (map (λ t. t.tick) queued.now) }
+    ensures { result ≡ earliest_of queued.now }
 {
     let mut least = None;
     for timed in queued {
-        least = Some(lesser(least, timed.tick));
+        least = earlier(least, Some(timed.tick));
     }
     least
+}
+
+/// Whether a due tick is the least one.
+fn is_earliest(least: Option<u64>, tick: Option<u64>) -> bool
+    ensures { result ≡ is_earliest least tick }
+{
+    match (least, tick) {
+        (Some(least), Some(tick)) => tick <= least,
+        _ => false,
+    }
+}
+
+/// The least due tick, where it was `least` before one due tick went and another one came. The timers
+/// are looked at only where the one that went was the least.
+fn least_after(
+    queued: &[Timed],
+    least: Option<u64>,
+    went: Option<u64>,
+    came: Option<u64>,
+) -> Option<u64>
+    requires { ReplacesFirst least went came (earliest_of queued.now) }
+    ensures { result ≡ earliest_of queued.now }
+{
+    if is_earliest(least, went) {
+        least_tick(queued)
+    } else {
+        earlier(least, came)
+    }
 }
 
 impl Timers {
@@ -96,6 +137,7 @@ impl Timers {
         Ok(Timers {
             queued: Rising::make(alloc, OBJECTS)?,
             latest: 0,
+            least: None,
         })
     }
 
@@ -135,7 +177,7 @@ impl Timers {
     pub fn next_timer(&self) -> Option<u64>
         ensures { result ≡ timers.next_timer self.now }
     {
-        least_tick(self.queued.as_slice())
+        self.least
     }
 
     /// Whether a timer is due later than now.
@@ -160,9 +202,11 @@ impl Timers {
         ensures answer { result ≡ timers.is_timer_queued self.old timed.timer.0 }
         ensures done { self.new.queued ≡ with_entry timer_id timed self.old.queued }
     {
-        let went = tick_of(self.queued.get(timed.timer));
+        let went = self.queued.get(timed.timer);
         let was_queued = self.queued.put(timed);
-        self.latest = latest_after(self.queued.as_slice(), self.latest, went, timed.tick);
+        let queued = self.queued.as_slice();
+        self.latest = latest_after(queued, self.latest, tick_of(went), timed.tick);
+        self.least = least_after(queued, self.least, tick_if(went), Some(timed.tick));
         was_queued
     }
 
@@ -185,9 +229,11 @@ impl Timers {
         ensures answer { result ≡ timers.is_timer_queued self.old o.0 }
         ensures done { self.new ≡ timers.stop self.old o.0 }
     {
-        let went = tick_of(self.queued.get(o));
+        let went = self.queued.get(o);
         let was_queued = self.queued.remove(o);
-        self.latest = latest_after(self.queued.as_slice(), self.latest, went, 0);
+        let queued = self.queued.as_slice();
+        self.latest = latest_after(queued, self.latest, tick_of(went), 0);
+        self.least = least_after(queued, self.least, tick_if(went), None);
         was_queued
     }
 

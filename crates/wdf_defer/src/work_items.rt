@@ -19,11 +19,11 @@ impl Model for WorkItems {
 
     ghost Value = { WorkItems };
 
-    ghost use Rattle.wdf_defer.specs.WorkItems.{work_items_in, HasWorkItems};
+    ghost use Rattle.wdf_defer.specs.WorkItems.{work_items_in, IsSound};
 
     ghost view = { work_items_in };
 
-    ghost invariant = { HasWorkItems };
+    ghost invariant = { IsSound };
 }
 
 /// The empty set of ids below a bound.

@@ -1,5 +1,5 @@
 -- What an action of a device does to it.
-use Rattle.std.proofs.Common.{◌≡◌, ℕ, zero, suc, ◌+◌, ◌==◌, ◌&&◌, ◌<◌, ◌≤◌, nat_lt, is_some, ◌++◌, add-one, Bool, true, false, List, [], ◌∷◌, Option, Some, None, fold, length, map, take, slice_get, slice_index_or, slice_set, refl, sym, ap, subst, ◌∙◌, arith}
+use Rattle.std.proofs.Common.{◌≡◌, ℕ, zero, suc, ◌+◌, ◌==◌, ◌&&◌, ◌<◌, ◌≤◌, nat_lt, is_some, ◌++◌, add-one, Bool, true, false, List, [], ◌∷◌, Option, Some, None, fold, length, map, take, slice_get, slice_index_or, slice_set, option_map, refl, sym, ap, subst, ◌∙◌, arith}
 use Rattle.std.specs.List.{position_or_len}
 use Rattle.std.proofs.lemmas.List.Folds.{find_at}
 use Rattle.std.proofs.lemmas.List.{length-map, take_all}
@@ -12,6 +12,9 @@ use Rattle.wdf_model.specs.declared.entries.DeviceAction.{DeviceAction}
 use Rattle.wdf_model.specs.Tables.{put}
 use Rattle.wdf_model.specs.agents.Device as model
 use Rattle.wdf_model.specs.agents.Device.{Device}
+use Rattle.wdf_model.specs.agents.LowerTarget as target
+use Rattle.wdf_model.specs.agents.LowerTarget.{LowerTarget}
+use Rattle.wdf_model.specs.declared.entries.SentRequest.{SentRequest}
 use Rattle.wdf_dev.specs.Actions.{interrupt_in, is_due, IsWithin}
 use Rattle.wdf_model.proofs.Maps.{put_within}
 use Rattle.wdf_dev.proofs.Mapping.{there}
@@ -147,6 +150,14 @@ pub not_posted : (V : Device) (at : ℕ) → at ≡ position_or_len (is_due V.cl
 not_posted V at first past =
     let found : model.due_action V ≡ None = find_at (is_due V.clock) V.actions ∙ ap (slice_get V.actions) (sym first) ∙ get_past V.actions at past in
     rw found refl
+
+-- what is at the place of the first action that is due, as a post
+pub due_is : (V : Device) (at : ℕ) (o : Option DeviceAction) → at ≡ position_or_len (is_due V.clock) V.actions → o ≡ slice_get V.actions at → option_map model.action_post o ≡ model.device_due V
+due_is V at o first there = ap (option_map model.action_post) (there ∙ ap (slice_get V.actions) first ∙ sym (find_at (is_due V.clock) V.actions))
+
+-- what is at the place of the first request that is due, as a post
+pub sent_due_is : (T : LowerTarget) (at : ℕ) (o : Option SentRequest) → at ≡ position_or_len (target.is_due_sent T.clock) T.sent → o ≡ slice_get T.sent at → option_map (target.done_post T.status) o ≡ target.target_due T
+sent_due_is T at o first there = ap (option_map (target.done_post T.status)) (there ∙ ap (slice_get T.sent) first ∙ sym (find_at (target.is_due_sent T.clock) T.sent))
 
 -- ---- there is room after an access, and after a post
 

@@ -1,3 +1,4 @@
 pub mod Actions
+pub mod Ahead
 pub mod Agents
 pub mod Least

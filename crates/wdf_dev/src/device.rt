@@ -4,7 +4,9 @@ ghost use Rattle.wdf_model.specs.declared.entries.DeviceAction.{DeviceAction};
 ghost use Rattle.wdf_model.specs.Tables as tables;
 ghost use Rattle.wdf_model.specs.agents.Device as model;
 ghost use Rattle.wdf_dev.specs.Actions.{is_due};
+ghost use Rattle.wdf_dev.specs.Ahead.{ahead_of_actions};
 
+use crate::ahead::Ahead;
 use crate::device_lines::{actions_of, registers_of, room_for};
 use crate::least::lesser_if;
 use std::alloc::Global;
@@ -27,18 +29,21 @@ pub struct Device {
     actions: Vec<DeviceAction>,
     /// The tick that the clock shows.
     clock: u64,
+    /// What its actions have before them. It changes only with them and with the clock.
+    ahead: Ahead,
 }
 
 impl Model for Device {
-    ghost use Rattle.std.specs.Prelude.{vec_capacity};
+    ghost use Rattle.std.specs.Prelude.{◌≡◌, vec_capacity};
     ghost use Rattle.wdf_model.specs.agents.Device as model;
     ghost use Rattle.wdf_dev.specs.Actions.{IsWithin};
+    ghost use Rattle.wdf_dev.specs.Ahead.{ahead_of_actions};
 
     ghost Value = { model.Device };
 
     ghost view = { λ s. record { agent = s.agent; registers = s.registers.items; raised = s.raised.items; actions = s.actions.items; clock = s.clock } };
 
-    ghost invariant = { λ s. IsWithin (vec_capacity s.raised) s.actions.items };
+    ghost invariant = { λ s. record { within : IsWithin (vec_capacity s.raised) s.actions.items; ahead : s.ahead ≡ ahead_of_actions s.clock s.actions.items } };
 }
 
 /// Whether a tick is reached, if there is one.
@@ -129,6 +134,23 @@ fn least_later(now: u64, actions: &[DeviceAction]) -> Option<u64>
     least
 }
 
+/// The action at a place, if there is one.
+fn action_at(actions: &[DeviceAction], place: usize) -> Option<DeviceAction>
+    ensures { result ≡ slice_get actions.now place }
+{
+    actions.get(place).copied()
+}
+
+/// What actions have before them.
+fn ahead_of(now: u64, actions: &[DeviceAction]) -> Ahead
+    ensures { result ≡ ahead_of_actions now actions.now }
+{
+    Ahead {
+        first: first_due(now, actions),
+        next: least_later(now, actions),
+    }
+}
+
 impl Device {
     /// A declared device before its first event. `Memory` also where an action names an interrupt
     /// whose id has no room.
@@ -137,12 +159,14 @@ impl Device {
         ensures { IfOk result (λ made. made ≡ model.device_at plan.now device.0 agent) }
     {
         let actions = actions_of(alloc, plan, device, agent)?;
+        let ahead = ahead_of(0, actions.as_slice());
         Ok(Device {
             agent,
             registers: registers_of(alloc, plan, device)?,
             raised: Vec::with_capacity(alloc, room_for(actions.as_slice()))?,
             actions,
             clock: 0,
+            ahead,
         })
     }
 
@@ -166,9 +190,17 @@ impl Device {
                     self.note_post();
                 }
             }
-            Event::Tick { time } => self.clock = *time,
+            Event::Tick { time } => self.note_time(*time),
             _ => {}
         }
+    }
+
+    /// The clock moves.
+    fn note_time(&mut self, time: u64)
+        ensures { self.new ≡ record self.old { clock = time } }
+    {
+        self.clock = time;
+        self.ahead = ahead_of(time, self.actions.as_slice());
     }
 
     /// Takes notice of an access to a register of its own; a write stores its value first.
@@ -228,15 +260,17 @@ impl Device {
             self.act_at_once(access, k, at);
         }
         set_off_all(access, k, self.clock, self.actions.as_mut_slice());
+        self.ahead = ahead_of(self.clock, self.actions.as_slice());
     }
 
     /// The first action that is due takes effect, and is due no more.
     fn note_post(&mut self)
         ensures { self.new ≡ model.posted_action self.old (model.due_action self.old) }
     {
-        let at = first_due(self.clock, self.actions.as_slice());
+        let at = self.ahead.first;
         if at < self.actions.len() {
             self.actions[at].tick = None;
+            self.ahead = ahead_of(self.clock, self.actions.as_slice());
             self.act(at);
         }
     }
@@ -245,16 +279,17 @@ impl Device {
     pub fn due(&self) -> Option<Post>
         ensures { result ≡ model.device_due self.now }
     {
-        let now = self.clock;
-        let due = self.actions.iter().find(|action| is_due(now, action.tick))?;
-        Some(Post::Act { action: due.action })
+        match action_at(self.actions.as_slice(), self.ahead.first) {
+            Some(due) => Some(Post::Act { action: due.action }),
+            None => None,
+        }
     }
 
     /// The least later tick of its actions.
     pub fn next_time(&self) -> Option<u64>
         ensures { result ≡ model.device_next self.now }
     {
-        least_later(self.clock, self.actions.as_slice())
+        self.ahead.next
     }
 
     /// A register by its number, an interrupt's level line by 64 and its id; 0 for what isn't its own.

@@ -1,6 +1,7 @@
 //! The agents: what acts on the framework from outside. Each is a fold of the events of the run.
 #![tactic(auto)]
 
+mod ahead;
 mod any;
 mod app;
 mod device;

@@ -1,11 +1,13 @@
-ghost use Rattle.std.specs.Prelude.{◌≡◌, ◌==◌, map, filter, not, vec_capacity, IfOk};
+ghost use Rattle.std.specs.Prelude.{◌≡◌, ◌≤◌, ◌==◌, length, map, filter, not, slice_get, vec_capacity, IfOk};
 ghost use Rattle.wdf_model.specs.declared.entries.SentRequest.{SentRequest};
-ghost use Rattle.std.specs.List.{filter_map};
+ghost use Rattle.std.specs.List.{filter_map, position_or_len};
 ghost use Rattle.wdf_model.specs.Tables as tables;
 ghost use Rattle.wdf_model.specs.agents.LowerTarget as target;
 ghost use Rattle.wdf_model.specs.State as state;
 ghost use Rattle.wdf_model.specs.rules.Faults as faults;
+ghost use Rattle.wdf_dev.specs.Ahead.{ahead_of_sent};
 
+use crate::ahead::Ahead;
 use crate::least::lesser_if;
 use std::alloc::Global;
 use std::marker::Model;
@@ -33,17 +35,20 @@ pub struct LowerTarget {
     sent: Vec<SentRequest>,
     /// The tick that the clock shows.
     clock: u64,
+    /// What these requests have before them. It changes only with them and with the clock.
+    ahead: Ahead,
 }
 
 impl Model for LowerTarget {
-    ghost use Rattle.std.specs.Prelude.{◌≤◌, vec_capacity};
+    ghost use Rattle.std.specs.Prelude.{◌≡◌, ◌≤◌, vec_capacity};
     ghost use Rattle.wdf_model.specs.agents.LowerTarget.{LowerTarget};
+    ghost use Rattle.wdf_dev.specs.Ahead.{ahead_of_sent};
 
     ghost Value = { LowerTarget };
 
     ghost view = { λ s. record { agent = s.agent; target = s.target.0; delay = s.delay; status = s.status; depth = s.depth; sent = s.sent.items; clock = s.clock } };
 
-    ghost invariant = { λ s. s.depth ≤ vec_capacity s.sent };
+    ghost invariant = { λ s. record { room : s.depth ≤ vec_capacity s.sent; ahead : s.ahead ≡ ahead_of_sent s.clock s.sent.items } };
 }
 
 /// The object that an argument names.
@@ -108,6 +113,13 @@ fn tell_all(sent: &mut [SentRequest])
     }
 }
 
+/// The status with which a request is done: that of its target, or CANCELLED.
+fn final_status(own: Status, sent: SentRequest) -> Status
+    ensures { result ≡ target.final_status own sent }
+{
+    if sent.told { Status::Cancelled } else { own }
+}
+
 /// The tick at which a request is due later, none where it is due.
 fn later(now: u64, sent: &SentRequest) -> Option<u64>
     ensures { result ≡ target.later_sent now sent.now }
@@ -128,6 +140,35 @@ fn least_later(now: u64, sent: &[SentRequest]) -> Option<u64>
         least = lesser_if(least, later(now, &sent[k]));
     }
     least
+}
+
+/// The place of the first request that is due, or how many there are where none is.
+fn first_due(now: u64, sent: &[SentRequest]) -> usize
+    ensures { result ≡ position_or_len (target.is_due_sent now) sent.now }
+{
+    for (at, request) in sent.iter().enumerate() {
+        if is_due(now, request) {
+            return at;
+        }
+    }
+    sent.len()
+}
+
+/// The request at a place, if there is one.
+fn sent_at(sent: &[SentRequest], place: usize) -> Option<SentRequest>
+    ensures { result ≡ slice_get sent.now place }
+{
+    sent.get(place).copied()
+}
+
+/// What requests have before them.
+fn ahead_of(now: u64, sent: &[SentRequest]) -> Ahead
+    ensures { result ≡ ahead_of_sent now sent.now }
+{
+    Ahead {
+        first: first_due(now, sent),
+        next: least_later(now, sent),
+    }
 }
 
 /// Takes a request away.
@@ -159,6 +200,7 @@ impl LowerTarget {
             depth,
             sent: Vec::with_capacity(alloc, room)?,
             clock: 0,
+            ahead: ahead_of(0, &[]),
         })
     }
 
@@ -174,9 +216,17 @@ impl LowerTarget {
                 post,
                 answer,
             } => self.note_post(*agent, post, *answer),
-            Event::Tick { time } => self.clock = *time,
+            Event::Tick { time } => self.note_time(*time),
             _ => {}
         }
+    }
+
+    /// The clock moves.
+    fn note_time(&mut self, time: u64)
+        ensures { self.new ≡ record self.old { clock = time } }
+    {
+        self.clock = time;
+        self.ahead = ahead_of(time, self.sent.as_slice());
     }
 
     /// Takes notice of a call that was answered.
@@ -257,6 +307,7 @@ impl LowerTarget {
                     tick: self.clock.saturating_add(self.delay),
                     told: false,
                 });
+                self.ahead = ahead_of(self.clock, self.sent.as_slice());
             }
         }
     }
@@ -266,6 +317,7 @@ impl LowerTarget {
         ensures { self.new ≡ target.told self.old r.0 }
     {
         tell_one(self.sent.as_mut_slice(), r);
+        self.ahead = ahead_of(self.clock, self.sent.as_slice());
     }
 
     /// All that is here is to be cancelled.
@@ -273,6 +325,7 @@ impl LowerTarget {
         ensures { self.new ≡ target.told_all self.old }
     {
         tell_all(self.sent.as_mut_slice());
+        self.ahead = ahead_of(self.clock, self.sent.as_slice());
     }
 
     /// A request is here no more.
@@ -280,28 +333,26 @@ impl LowerTarget {
         ensures { self.new ≡ target.without_request self.old r.0 }
     {
         drop_request(&mut self.sent, r);
+        self.ahead = ahead_of(self.clock, self.sent.as_slice());
     }
 
     /// The first request that is due, as done with its status, or with CANCELLED.
     pub fn due(&self) -> Option<Post>
         ensures { result ≡ target.target_due self.now }
     {
-        let now = self.clock;
-        let sent = self.sent.iter().find(|sent| is_due(now, sent))?;
-        Some(Post::Done {
-            request: sent.request,
-            status: if sent.told {
-                Status::Cancelled
-            } else {
-                self.status
-            },
-        })
+        match sent_at(self.sent.as_slice(), self.ahead.first) {
+            Some(sent) => Some(Post::Done {
+                request: sent.request,
+                status: final_status(self.status, sent),
+            }),
+            None => None,
+        }
     }
 
     /// The least later tick at which a request is due.
     pub fn next_time(&self) -> Option<u64>
         ensures { result ≡ target.target_next self.now }
     {
-        least_later(self.clock, self.sent.as_slice())
+        self.ahead.next
     }
 }

@@ -1,5 +1,6 @@
 pub mod Items
 pub mod Lists
+pub mod Places
 mod Paths
 mod Changes
 mod Zeros

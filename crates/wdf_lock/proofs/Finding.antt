@@ -1,8 +1,9 @@
 -- What is found in a list, and how many pass a test, after some were filtered away.
-use Rattle.std.proofs.Common.{if◌then◌else◌, ◌≡◌, ◌≢◌, ℕ, zero, suc, ◌+◌, ◌<◌, ◌≤◌, Bool, true, false, not, ◌&&◌, ◌||◌, List, [], ◌∷◌, Option, Some, None, length, get_or, drop, filter, find, count_by, refl, ap, sym, subst, ◌∙◌, arith}
-use Rattle.std.specs.List.{All, list_any}
+use Rattle.std.proofs.Common.{if◌then◌else◌, ◌≡◌, ℕ, zero, suc, ◌+◌, ◌<◌, ◌≤◌, Bool, true, false, not, ◌||◌, List, [], ◌∷◌, Some, None, length, get_or, take, drop, filter, find, count_by, refl, ap, sym, subst, ◌∙◌, arith}
+use Rattle.std.specs.List.{All, list_any, remove}
 use Rattle.std.proofs.lemmas.List.{at_drop_more}
 use Rattle.std.proofs.lemmas.List.Elements.{All-head, All-tail}
+use Rattle.std.proofs.lemmas.List.Sums.{count_by_more_no}
 use Rattle.wdf_model.specs.declared.entries.Held.{Held}
 use Rattle.wdf_model.specs.Tables.{flag}
 use Rattle.wdf_model.proofs.Counts.{count_cons, count_no, count_yes}
@@ -44,6 +45,44 @@ one_leaves_by p q x xs false e once rest =
 pub one_leaves : (p q : Held → Bool) (xs : List Held) → count_by p xs ≤ 1 → count_by q (filter (λ h. not (p h)) xs) + flag (passes q (find p xs)) ≡ count_by q xs
 one_leaves p q [] once = refl
 one_leaves p q (x ∷ xs) once = one_leaves_by p q x xs (p x) refl once (one_leaves p q xs)
+
+-- where one was found, one was counted
+some_counted_by : (p : Held → Bool) (x : Held) (xs : List Held) (h : Held) (b : Bool) → p x ≡ b → find p (x ∷ xs) ≡ Some h → (find p xs ≡ Some h → 1 ≤ count_by p xs) → 1 ≤ count_by p (x ∷ xs)
+some_counted_by p x xs h true e found rest = let k = count_yes p x xs e in omega arith
+some_counted_by p x xs h false e found rest = let k = count_no p x xs e in let r = rest (rw e at found) in omega arith
+
+pub some_counted : (p : Held → Bool) (xs : List Held) (h : Held) → find p xs ≡ Some h → 1 ≤ count_by p xs
+some_counted p [] h found = absurd (let z : ⊥ = cc in z)
+some_counted p (x ∷ xs) h found = some_counted_by p x xs h (p x) refl found (some_counted p xs h)
+
+-- where none is found, nothing is filtered away
+pub none_filtered : (p : Held → Bool) (xs : List Held) → find p xs ≡ None → filter (λ h. not (p h)) xs ≡ xs
+none_filtered p xs none = all_kept p xs (none_counted p xs none)
+
+counted_there : (p : Held → Bool) (xs : List Held) (place : ℕ) (d : Held) → place < length xs → p (get_or xs place d) ≡ true → 1 ≤ count_by p xs
+counted_there p [] place d h is = absurd (omega arith)
+counted_there p (x ∷ xs) zero d h is = let k = count_yes p x xs is in omega arith
+counted_there p (x ∷ xs) (suc place) d h is = let k = count_cons p x xs in let r = counted_there p xs place d (omega arith) is in omega arith
+
+-- where one passes, wherever it is, without it none is left that passes
+pub removed_filtered : (p : Held → Bool) (xs : List Held) (place : ℕ) (d : Held) → count_by p xs ≡ 1 → place < length xs → p (get_or xs place d) ≡ true → remove xs place ≡ filter (λ h. not (p h)) xs
+removed_filtered p [] place d one h is = absurd (omega arith)
+removed_filtered p (x ∷ xs) zero d one h is = rw is (sym (all_kept p xs (let k = count_yes p x xs is in omega arith)))
+removed_filtered p (x ∷ xs) (suc place) d one h is =
+    by_head (p x) refl (λ once. removed_filtered p xs place d once (omega arith) is)
+  where
+    by_head : (b : Bool) → p x ≡ b → (count_by p xs ≡ 1 → remove xs place ≡ filter (λ h. not (p h)) xs) → remove (x ∷ xs) (suc place) ≡ filter (λ h. not (p h)) (x ∷ xs)
+    by_head true e rest = absurd (let k = count_yes p x xs e in let r = counted_there p xs place d (omega arith) is in omega arith)
+    by_head false e rest = rw e (ap (λ ys. x ∷ ys) (rest (let k = count_no p x xs e in omega arith)))
+
+-- the last that passes is before the place, where the one at it doesn't pass
+pub before_place : (p : Held → Bool) (xs : List Held) (place : ℕ) (d : Held) → place < length xs → p (get_or xs place d) ≡ false → 1 ≤ count_by p (take (place + 1) xs) → 1 ≤ count_by p (take place xs)
+before_place p xs place d h isnt some = let k = count_by_more_no p xs place d h isnt in omega arith
+
+-- where some are before a place, it isn't the first
+pub not_at_first : (p : Held → Bool) (xs : List Held) (place : ℕ) → 1 ≤ count_by p (take place xs) → 1 ≤ place
+not_at_first p xs zero some = absurd (let z : 1 ≤ 0 = some in omega arith)
+not_at_first p xs (suc place) some = omega arith
 
 -- what was filtered away isn't found
 found_not_by : (p : Held → Bool) (x : Held) (xs : List Held) (b : Bool) → p x ≡ b → find p (filter (λ h. not (p h)) xs) ≡ None → find p (filter (λ h. not (p h)) (x ∷ xs)) ≡ None

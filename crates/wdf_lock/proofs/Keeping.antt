@@ -1,11 +1,9 @@
 -- What is kept beside the state, after a lock was taken and after one was released.
-use Rattle.std.proofs.Common.{if◌then◌else◌, ◌≡◌, ◌≢◌, ℕ, zero, suc, ◌+◌, ◌-◌, ◌==◌, ◌<◌, ◌≤◌, ◌^◌, nat_lt, Bool, true, false, not, ◌&&◌, List, [], ◌∷◌, ◌++◌, ◌⊎◌, inl, inr, Option, Some, None, length, filter, find, count_by, refl, ap, sym, subst, ◌∙◌, arith}
-use Rattle.std.specs.List.{All}
+use Rattle.std.proofs.Common.{if◌then◌else◌, ◌≡◌, ◌≢◌, ℕ, ◌+◌, ◌-◌, ◌==◌, ◌<◌, ◌≤◌, ◌^◌, nat_lt, Bool, true, false, not, ◌&&◌, List, [], ◌∷◌, ◌++◌, inl, inr, Option, Some, None, length, filter, find, count_by, refl, ap, sym, subst, ◌∙◌, arith}
 use Rattle.std.specs.Option.{ForSome}
 use Rattle.std.proofs.lemmas.Bool.{cases_Bool, lt-ltb}
 use Rattle.std.proofs.lemmas.List.Elements.{All-filter, All-nil, All-push}
 use Rattle.std.proofs.lemmas.List.Sums.{count_by-le-length}
-use Rattle.wdf_base.specs.declared.ids.FrameId.{FrameId}
 use Rattle.wdf_base.specs.declared.object.LockRef.{LockRef}
 use Rattle.wdf_base.specs.declared.object.LockRef.TheVariants as lock
 use Rattle.wdf_base.specs.Same.{same_lock}
@@ -190,3 +188,12 @@ hold_counted L H counts l k h found =
     let b : flag (passes (is_call_of h.frame.0) (hold_of L l)) ≡ flag h.by_call = ap (λ x. flag (passes (is_call_of h.frame.0) x)) found ∙ ap (λ y. flag (y && h.by_call)) (equal h.frame.0 h.frame.0 refl) in
     let c = k.calls h.frame.0 in
     omega arith
+
+-- a lock that this hold is of
+pub kept_released : (L : Locks) (H : Holds) (counts : List ℕ) (l : LockRef) (held : Held) → hold_of L l ≡ Some held → IsKept L H counts → IsKept (locks.release L l) (with_hold H l None) (uncounted (Some held) counts)
+kept_released L H counts l held found h = subst (λ hold. IsKept (locks.release L l) (with_hold H l None) (uncounted hold counts)) found (kept_release L H counts l (hold_counted L H counts l h) h)
+
+-- where there is no hold, none is found
+pub nothing_else : (r other : Option Held) → r ≡ other → ((x : Held) → r ≡ Some x → ⊥) → other ≡ None
+nothing_else None other e h = sym e
+nothing_else (Some x) other e h = absurd (h x refl)

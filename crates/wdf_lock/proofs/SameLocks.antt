@@ -1,12 +1,11 @@
 -- When two locks are one.
-use Rattle.std.proofs.Common.{if◌then◌else◌, ◌≡◌, ℕ, ◌==◌, Bool, true, false, Option, None, refl, ap, sym}
+use Rattle.std.proofs.Common.{if◌then◌else◌, ◌≡◌, ◌==◌, true, Option, None, refl, ap}
 use Rattle.std.proofs.lemmas.Bool.{eqb-true}
 use Rattle.wdf_base.specs.declared.ids.ObjectId.{ObjectId}
 use Rattle.wdf_base.specs.declared.object.LockRef.{LockRef}
 use Rattle.wdf_base.specs.declared.object.LockRef.TheVariants as lock
 use Rattle.wdf_base.specs.Same.{same_lock}
 use Rattle.wdf_model.specs.declared.entries.Held.{Held}
-use Rattle.wdf_model.specs.Tables.{entry, put}
 use Rattle.wdf_model.proofs.Maps.{entry_put}
 use Rattle.wdf_model.proofs.Counts.{equal}
 use Rattle.wdf_lock.specs.Holders.{Holds, held_at, put_hold}

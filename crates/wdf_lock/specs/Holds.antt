@@ -1,5 +1,5 @@
 -- Tests of holds, and the counts of those by calls.
-use Rattle.std.specs.Prelude.{ℕ, Bool, false, ◌==◌, ◌&&◌, ◌-◌, List, Option, Some, None}
+use Rattle.std.specs.Prelude.{ℕ, Bool, true, false, ◌≡◌, ◌<◌, ◌==◌, ◌&&◌, ◌-◌, List, length, get_or, Option, Some, None}
 use Rattle.wdf_base.specs.declared.object.LockRef.{LockRef}
 use Rattle.wdf_base.specs.Same.{same_lock}
 use Rattle.wdf_model.specs.declared.entries.Held.{Held}
@@ -17,6 +17,11 @@ is_call_of f h = (h.frame.0 == f) && h.by_call
 abbrev pub passes : (Held → Bool) → Option Held → Bool
 passes test None = false
 passes test (Some h) = test h
+
+-- The place has a hold of the lock.
+pub record IsHoldAt (l : LockRef) (all : List Held) (place : ℕ) : Type 0 where
+  pub within : place < length all
+  pub its : (d : Held) → is_of l (get_or all place d) ≡ true
 
 -- the counts without this hold
 abbrev pub uncounted : Option Held → List ℕ → List ℕ

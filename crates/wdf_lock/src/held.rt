@@ -1,9 +1,8 @@
 //! Lists of what is held.
-ghost use Rattle.std.specs.Prelude.{◌≡◌, ◌+◌, ◌<◌, ◌≤◌, ◌^◌, filter, find, not, vec_capacity};
-ghost use Rattle.std.specs.Option.{ForSome};
+ghost use Rattle.std.specs.Prelude.{◌≡◌, ◌+◌, ◌<◌, ◌≤◌, ◌^◌, Some, count_by, filter, find, not, vec_capacity};
 ghost use Rattle.wdf_model.specs.declared.entries.Held.{Held};
 ghost use Rattle.wdf_model.specs.Tables.{entry, flag, put};
-ghost use Rattle.wdf_lock.specs.Holds.{is_of, uncounted};
+ghost use Rattle.wdf_lock.specs.Holds.{IsHoldAt, is_of, uncounted};
 
 use wdf_base::{FrameId, LockRef};
 use wdf_maps::{entry_at, put_at};
@@ -23,12 +22,26 @@ pub(crate) fn find_hold(all: &[Held], lock: LockRef) -> Option<Held>
     None
 }
 
-/// Takes the holds of a lock away.
-pub(crate) fn drop_holds(all: &mut Vec<Held>, lock: LockRef)
+/// The place of the last hold of a lock that is held.
+fn last_hold(all: &[Held], lock: LockRef) -> usize
+    requires { 1 ≤ count_by (is_of lock) all.now }
+    ensures { IsHoldAt lock all.now result }
+{
+    let mut place = all.len() - 1;
+    while !same_lock(all[place].lock, lock) {
+        place -= 1;
+    }
+    place
+}
+
+/// Takes the hold of a lock away, which is held once. What was taken last is found first.
+pub(crate) fn drop_hold(all: &mut Vec<Held>, lock: LockRef)
+    requires { count_by (is_of lock) all.old.items ≡ 1 }
     ensures items { all.new.items ≡ filter (λ (h : Held). not (is_of lock h)) all.old.items }
     ensures capacity { vec_capacity all.new ≡ vec_capacity all.old }
 {
-    all.retain(|held| !same_lock(held.lock, lock));
+    let place = last_hold(all, lock);
+    all.remove(place);
 }
 
 /// A frame holds a lock more, by a call or not.
@@ -42,15 +55,13 @@ pub(crate) fn count_call(calls: &mut Vec<u32>, f: FrameId, by_call: bool)
     put_at(calls, 0, f.0, count + u32::from(by_call));
 }
 
-/// A frame holds a lock less: the one of this hold, if there was one.
-pub(crate) fn uncount_call(calls: &mut Vec<u32>, hold: Option<Held>)
-    requires room { ForSome hold (λ (h : Held). h.frame.0 < vec_capacity calls.old) }
-    requires counted { ForSome hold (λ (h : Held). flag h.by_call ≤ entry 0 calls.old.items h.frame.0) }
-    ensures counted { calls.new.items ≡ uncounted hold calls.old.items }
+/// A frame holds a lock less: the one of this hold.
+pub(crate) fn uncount_call(calls: &mut Vec<u32>, held: Held)
+    requires room { held.frame.0 < vec_capacity calls.old }
+    requires counted { flag held.by_call ≤ entry 0 calls.old.items held.frame.0 }
+    ensures counted { calls.new.items ≡ uncounted (Some held) calls.old.items }
     ensures room { vec_capacity calls.old ≤ vec_capacity calls.new }
 {
-    if let Some(held) = hold {
-        let count = entry_at(calls, 0, held.frame.0);
-        put_at(calls, 0, held.frame.0, count - u32::from(held.by_call));
-    }
+    let count = entry_at(calls, 0, held.frame.0);
+    put_at(calls, 0, held.frame.0, count - u32::from(held.by_call));
 }

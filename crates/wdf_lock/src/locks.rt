@@ -2,7 +2,7 @@ ghost use Rattle.std.specs.Prelude.{◌≡◌, ◌<◌, ◌≤◌, true, count_b
 ghost use Rattle.wdf_model.specs.parts.Locks as locks;
 ghost use Rattle.wdf_lock.specs.Holds.{is_of};
 
-use crate::held::{count_call, drop_holds, find_hold, uncount_call};
+use crate::held::{count_call, drop_hold, find_hold, uncount_call};
 use crate::holders::{Holders, lock_id};
 use std::alloc::Global;
 use std::marker::Model;
@@ -136,9 +136,10 @@ impl Locks {
     pub fn release(&mut self, lock: LockRef)
         ensures { self.new ≡ locks.release self.old lock }
     {
-        let hold = self.hold_of(lock);
-        drop_holds(&mut self.held, lock);
-        self.holders.set(lock, None);
-        uncount_call(&mut self.calls, hold);
+        if let Some(held) = self.hold_of(lock) {
+            drop_hold(&mut self.held, lock);
+            self.holders.set(lock, None);
+            uncount_call(&mut self.calls, held);
+        }
     }
 }

@@ -1,1 +1,2 @@
+pub mod Belongings
 pub mod Walks

@@ -1,44 +1,38 @@
 -- Walks over ids: the deletion of a subtree, and what is done to the queues of a device.
-use Rattle.std.proofs.Common.{if◌then◌else◌, ◌==◌, ◌||◌, Bool, true, false, ◌≡◌, ℕ, zero, suc, ◌+◌, ◌<◌, ◌≤◌, List, [], ◌∷◌, ◌++◌, length, filter, find, fold, map, count_by, Some, None, refl, ap, sym, ◌∙◌, arith, append-nil, eq-eqb, ◌&&◌}
-use Rattle.std.specs.Prelude.{nat_lt}
+use Rattle.std.proofs.Common.{if◌then◌else◌, ◌==◌, Bool, true, false, ◌≡◌, ℕ, zero, suc, ◌+◌, ◌<◌, ◌≤◌, List, [], ◌∷◌, ◌++◌, length, filter, fold, map, count_by, Some, None, refl, ap, sym, ◌∙◌, arith, append-nil, eq-eqb, ◌&&◌}
 use Rattle.std.specs.List.{range_with_len}
 use Rattle.std.proofs.lemmas.List.Elements.{filter-append}
 use Rattle.std.proofs.lemmas.List.Sums.{fold-append}
 use Rattle.wdf_base.specs.declared.plan.Plan.{Plan}
 use Rattle.wdf_model.specs.Tables.{entry, first_of_list, without}
 use Rattle.wdf_model.specs.parts.Queues.{front, waiting_in}
-use Rattle.wdf_model.specs.parts.Tree.{Tree, ask_one, is_below, is_live, life_of, subtree}
-use Rattle.wdf_model.specs.parts.Deferred.Dpcs as dpcs
-use Rattle.wdf_model.specs.parts.Deferred.WorkItems as work_items
-use Rattle.wdf_model.specs.parts.Deferred.Timers as timers
+use Rattle.wdf_model.specs.parts.Tree.{is_live, life_of, subtree}
 use Rattle.wdf_model.specs.State.{State}
 use Rattle.wdf_model.specs.rules.Deeds.{ask_object, ask_objects, withdraw}
 use Rattle.wdf_model.proofs.Counts.{count_no, count_yes}
-use Rattle.wdf_model.proofs.Deletion.{object_off}
-use Rattle.wdf_tree.proofs.Walks.{subtree_asked, walk_begins, walk_goes_on}
+use Rattle.wdf_parts.specs.Asking.{Askable, askable, asked}
 
-first_of : {T : Type 0} (b : Bool) (x y : T) → b ≡ true → (if b then x else y) ≡ x
-first_of true x y e = refl
-first_of false x y e = absurd (let z : ⊥ = cc in z)
+-- ---- a deletion
 
-asked_tree : {A : Type 0} (S : State A) (x : ℕ) → is_live (life_of S.tree x) ≡ true → (ask_object S x).tree ≡ ask_one S.tree x
-asked_tree {A} S x e =
-    ap (λ (T : State A). T.tree) (first_of (is_live (life_of S.tree x))
-    (record S { tree = ask_one S.tree x; dpcs = dpcs.cancel S.dpcs x; work_items = work_items.cancel S.work_items x; timers = timers.stop S.timers x }) S e)
+-- the state with what is asked of some objects
+abbrev with_asked : {A : Type 0} → State A → Askable → State A
+with_asked S P = record S { tree = P.tree; dpcs = P.dpcs; work_items = P.work_items; timers = P.timers }
 
--- the subtree stays where the deletion of one object is asked
-subtree_kept_by : {A : Type 0} (S : State A) (o x : ℕ) (b : Bool) → is_live (life_of S.tree x) ≡ b → x < length S.tree.nodes → subtree (ask_object S x).tree o ≡ subtree S.tree o
-subtree_kept_by S o x true e h = ap (λ (T : Tree). subtree T o) (asked_tree S x e) ∙ subtree_asked S.tree o x h
-subtree_kept_by S o x false e h = rw e refl
+one_asked : {A : Type 0} (S : State A) (P : Askable) (o : ℕ) (b : Bool) → is_live (life_of P.tree o) ≡ b → ask_object (with_asked S P) o ≡ with_asked S (asked P o)
+one_asked S P o true e = rw e refl
+one_asked S P o false e = rw e refl
 
-pub asks_begin : {A : Type 0} (S : State A) (o : ℕ) → is_live (life_of S.tree 0) ≡ false → fold ask_object S (filter (nat_lt 0) (subtree S.tree o)) ≡ ask_objects S o
-asks_begin S o off = walk_begins ask_object S (λ x. x == o || is_below S.tree o x) (length S.tree.nodes) (object_off S 0 off)
+all_asked : {A : Type 0} (S : State A) (P : Askable) (ids : List ℕ) → fold ask_object (with_asked S P) ids ≡ with_asked S (fold asked P ids)
+all_asked S P [] = refl
+all_asked S P (x ∷ ids) =
+    ap (λ T. fold ask_object T ids) (one_asked S P x (is_live (life_of P.tree x)) refl) ∙ all_asked S (asked P x) ids
 
-pub asks_go_on : {A : Type 0} (S : State A) (o a x : ℕ) → find (nat_lt a) (subtree S.tree o) ≡ Some x → x < length S.tree.nodes
-    → fold ask_object S (filter (nat_lt a) (subtree S.tree o)) ≡ fold ask_object (ask_object S x) (filter (nat_lt x) (subtree (ask_object S x).tree o))
-asks_go_on S o a x e h =
-    ap (fold ask_object S) (walk_goes_on a (λ y. y == o || is_below S.tree o y) 0 (length S.tree.nodes) x e)
-    ∙ ap (λ xs. fold ask_object (ask_object S x) (filter (nat_lt x) xs)) (sym (subtree_kept_by S o x (is_live (life_of S.tree x)) refl h))
+-- the objects of a subtree were asked
+pub subtree_asked : {A : Type 0} (S : State A) (P : Askable) (o : ℕ) (ids : List ℕ) → ids ≡ subtree S.tree o → P ≡ fold asked (askable S.tree S.dpcs S.work_items S.timers) ids
+    → record S { tree = P.tree; dpcs = P.dpcs; work_items = P.work_items; timers = P.timers } ≡ ask_objects S o
+subtree_asked S P o ids e f =
+    ap (with_asked S) (f ∙ ap (fold asked (askable S.tree S.dpcs S.work_items S.timers)) e)
+    ∙ sym (all_asked S (askable S.tree S.dpcs S.work_items S.timers) (subtree S.tree o))
 
 -- ---- loops over the ids of what is declared
 

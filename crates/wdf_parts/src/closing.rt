@@ -2,7 +2,7 @@
 ghost use Rattle.std.specs.Prelude.{◌≡◌, ◌<◌, ◌&&◌, length, fold, option_map};
 ghost use Rattle.wdf_model.specs.Plans as plans;
 ghost use Rattle.wdf_model.specs.parts.Control as control;
-ghost use Rattle.wdf_model.specs.parts.Queues as queues_of_state;
+ghost use Rattle.wdf_model.specs.parts.Queues as queues;
 ghost use Rattle.wdf_model.specs.rules.Deeds as deeds;
 ghost use Rattle.wdf_room.specs.Room.{MayPurge};
 
@@ -14,7 +14,7 @@ use wdf_plans::IndexedPlan;
 impl<A: Agent> Parts<A> {
     /// The front of a queue.
     fn front(&self, q: ObjectId) -> Option<ObjectId>
-        ensures { option_map (λ r. r.0) result ≡ queues_of_state.front self.now.queues q.0 }
+        ensures { option_map (λ r. r.0) result ≡ queues.front self.now.queues q.0 }
     {
         self.queues.front(q)
     }
@@ -47,15 +47,15 @@ impl<A: Agent> Parts<A> {
 
     /// A device's queues lose power: what returns to a power-managed one is to be completed with
     /// CANCELLED.
-    #[tactic(auto, using(crate::proofs::Walks::fold_twice))]
     pub(crate) fn close_returning(&mut self, plan: &IndexedPlan, device: ObjectId)
         ensures { self.new ≡ fold deeds.close_returning self.old (plans.managed_queues plan.now device.0) }
     {
-        for k in 0..plan.declared_len() {
-            let q = ObjectId(k + 1);
+        let mut at = plan.first_of(device);
+        'walk: while let Some(q) = at {
             if is_managed_queue_of(plan, device, q) {
                 self.close_returning_to(q);
             }
+            at = plan.next_of(device, q);
         }
     }
 
@@ -74,11 +74,12 @@ impl<A: Agent> Parts<A> {
         requires { length plan.now.declared < length self.old.queues.dispatch }
         ensures { self.new ≡ fold deeds.close_queue self.old (plans.queues_of plan.now device.0) }
     {
-        for k in 0..plan.declared_len() {
-            let q = ObjectId(k + 1);
+        let mut at = plan.first_of(device);
+        'walk: while let Some(q) = at {
             if plan.is_queue_of(device, q) {
                 self.close_queue(q);
             }
+            at = plan.next_of(device, q);
         }
     }
 }

@@ -2,7 +2,7 @@
 ghost use Rattle.std.specs.Prelude.{◌≡◌, ◌<◌, false, Some, length, unwrap_or, option_map};
 ghost use Rattle.wdf_model.specs.declared.room.TheConstants.{OBJECTS};
 ghost use Rattle.wdf_model.specs.rules.Deeds as deeds;
-ghost use Rattle.wdf_model.specs.parts.Queues as queues_of_state;
+ghost use Rattle.wdf_model.specs.parts.Queues as queues;
 ghost use Rattle.wdf_room.specs.Room.{IsQueue, IsRequest, MayEnter, MayGiveUp, MayHold};
 
 use crate::parts::Parts;
@@ -61,7 +61,7 @@ impl<A: Agent> Parts<A> {
 
     /// The front of a queue becomes Owned.
     pub(crate) fn present(&mut self, plan: &IndexedPlan, q: ObjectId, r: ObjectId)
-        requires front { queues_of_state.front self.old.queues q.0 ≡ Some r.0 }
+        requires front { queues.front self.old.queues q.0 ≡ Some r.0 }
         requires hold { MayHold self.old q.0 r.0 }
         ensures { self.new ≡ deeds.do_deed plan.now (Deed.Present q r) self.old }
     {

@@ -61,17 +61,6 @@ impl Deeds {
         }
     }
 
-    /// A deed, if there is one.
-    pub fn if_any(deed: Option<Deed>) -> Deeds
-        ensures { result ≡ option_to_list deed }
-    {
-        Deeds {
-            first: deed,
-            second: None,
-            third: None,
-        }
-    }
-
     /// Three deeds, of which each may be wanting.
     pub fn three(first: Option<Deed>, second: Option<Deed>, third: Option<Deed>) -> Deeds
         ensures { result ≡ option_to_list first ++ option_to_list second ++ option_to_list third }

@@ -1,50 +1,70 @@
 //! Objects that are made, and whose deletion is asked.
-ghost use Rattle.std.specs.Prelude.{◌≡◌, ◌<◌, false, length, find, nat_lt, option_map, IfSome};
+ghost use Rattle.std.specs.Prelude.{◌≡◌, ◌<◌, ℕ, fold, length, slice_index};
 ghost use Rattle.wdf_base.specs.declared.object.Kind.TheVariants as kind;
 ghost use Rattle.wdf_base.specs.declared.object.Place.TheVariants as place;
 ghost use Rattle.wdf_model.specs.declared.room.TheConstants.{EVENTS, OBJECTS};
-ghost use Rattle.wdf_model.specs.parts.Requests as requests_of_state;
+ghost use Rattle.wdf_model.specs.parts.Requests as requests;
 ghost use Rattle.wdf_model.specs.parts.Tree as tree;
 ghost use Rattle.wdf_model.specs.rules.Deeds as deeds;
+ghost use Rattle.wdf_parts.specs.Asking.{askable, asked};
 ghost use Rattle.wdf_room.specs.Room.{HasRoomForObject, MayEnterIfQueued, MayGiveUp};
 
 use crate::parts::Parts;
 use wdf_base::{Agent, Kind, Life, Mark, ObjectId, Place, RequestForm, RequestInfo};
+use wdf_defer::{Dpcs, Timers, WorkItems};
+use wdf_tree::Tree;
+
+/// The deletion of one object is asked, and it leaves its queues, if it is live.
+fn ask_object(
+    tree: &mut Tree,
+    dpcs: &mut Dpcs,
+    work_items: &mut WorkItems,
+    timers: &mut Timers,
+    o: ObjectId,
+)
+    requires there { o.0 < length tree.old.nodes }
+    ensures done { askable tree.new dpcs.new work_items.new timers.new
+        ≡ asked (askable tree.old dpcs.old work_items.old timers.old) o.0 }
+    ensures size { length tree.new.nodes ≡ length tree.old.nodes }
+{
+    if tree.life(o) == Life::Live {
+        tree.ask_one(o);
+        let _was_queued = dpcs.cancel(o);
+        let _was_queued = work_items.cancel(o);
+        let _was_queued = timers.stop(o);
+    }
+}
+
+/// The same of each of some objects.
+fn ask_each(
+    tree: &mut Tree,
+    dpcs: &mut Dpcs,
+    work_items: &mut WorkItems,
+    timers: &mut Timers,
+    ids: &[u32],
+)
+    requires there { (k : ℕ) → k < length ids.now → slice_index ids.now k < length tree.old.nodes }
+    ensures { askable tree.new dpcs.new work_items.new timers.new
+        ≡ fold asked (askable tree.old dpcs.old work_items.old timers.old) ids.now }
+{
+    for id in ids {
+        ask_object(tree, dpcs, work_items, timers, ObjectId(*id));
+    }
+}
 
 impl<A: Agent> Parts<A> {
-    /// The deletion of one object is asked, and it leaves its queue, if it is live.
-    fn ask_object(&mut self, o: ObjectId)
-        requires { o.0 < length self.old.tree.nodes }
-        ensures done { self.new ≡ deeds.ask_object self.old o.0 }
-        ensures size { length self.new.tree.nodes ≡ length self.old.tree.nodes }
-    {
-        if self.tree.life(o) == Life::Live {
-            self.tree.ask_one(o);
-            let _was_queued = self.dpcs.cancel(o);
-            let _was_queued = self.work_items.cancel(o);
-            let _was_queued = self.timers.stop(o);
-        }
-    }
-
-    /// The least id above `after` of an object and of what is below it.
-    fn next_below(&self, o: ObjectId, after: ObjectId) -> Option<ObjectId>
-        ensures next { option_map (λ x. x.0) result ≡ find (nat_lt after.0) (tree.subtree self.now.tree o.0) }
-        ensures above { IfSome result (λ x. after.0 < x.0) }
-        ensures there { IfSome result (λ x. x.0 < length self.now.tree.nodes) }
-        ensures none { tree.is_live (tree.life_of self.now.tree 0) ≡ false }
-    {
-        self.tree.next_below(o, after)
-    }
-
-    /// The deletion of an object and of what is below it is asked. (KMDF)
+    /// The deletion of an object and of what is below it is asked. (KMDF) No other object is visited.
     pub(crate) fn ask_objects(&mut self, o: ObjectId)
         ensures { self.new ≡ deeds.ask_objects self.old o.0 }
     {
-        let mut at = ObjectId(0);
-        'walk: while let Some(next) = self.next_below(o, at) {
-            self.ask_object(next);
-            at = next;
-        }
+        self.tree.gather(o, &mut self.below);
+        ask_each(
+            &mut self.tree,
+            &mut self.dpcs,
+            &mut self.work_items,
+            &mut self.timers,
+            self.below.ids(),
+        );
     }
 
     /// An object of a class is made under a parent.
@@ -61,7 +81,7 @@ impl<A: Agent> Parts<A> {
         requires few { self.old.requests.arrived < EVENTS }
         ensures { self.new ≡ record self.old {
           tree = tree.create self.old.tree kind.Made class parent.0;
-          requests = requests_of_state.arrive self.old.requests (tree.next_id self.old.tree) place.Owned (requests_of_state.made_info (tree.nearest_device self.old.tree parent.0));
+          requests = requests.arrive self.old.requests (tree.next_id self.old.tree) place.Owned (requests.made_info (tree.nearest_device self.old.tree parent.0));
         } }
     {
         let id = self.tree.next_id();
@@ -87,7 +107,7 @@ impl<A: Agent> Parts<A> {
     /// A request is completed, and its deletion is asked. (KMDF)
     pub(crate) fn complete(&mut self, r: ObjectId)
         requires { MayGiveUp self.old r.0 }
-        ensures { self.new ≡ deeds.ask_objects (record (deeds.give_up self.old r.0) { requests = requests_of_state.complete self.old.requests r.0 }) r.0 }
+        ensures { self.new ≡ deeds.ask_objects (record (deeds.give_up self.old r.0) { requests = requests.complete self.old.requests r.0 }) r.0 }
     {
         self.give_up(r);
         self.requests.complete(r);
@@ -97,7 +117,7 @@ impl<A: Agent> Parts<A> {
 
 /// What is kept of a request that the driver makes. (own)
 fn made_info(device: ObjectId) -> RequestInfo
-    ensures { result ≡ requests_of_state.made_info device.0 }
+    ensures { result ≡ requests.made_info device.0 }
 {
     RequestInfo {
         device,

@@ -18,7 +18,7 @@ use wdf_qctl::Control;
 use wdf_queue::Queues;
 use wdf_request::Requests;
 use wdf_target::Targets;
-use wdf_tree::Tree;
+use wdf_tree::{Subtree, Tree};
 
 /// Room for the arrivals of as many agents as 16 bits number.
 const AGENTS: usize = 65_536;
@@ -29,6 +29,8 @@ const AGENTS: usize = 65_536;
 #[derive(Drop)]
 pub struct Parts<A: Agent> {
     pub(crate) tree: Tree,
+    /// The objects whose deletion is asked at once, while they are gone over.
+    pub(crate) below: Subtree,
     pub(crate) cpus: Cpus,
     pub(crate) locks: Locks,
     pub(crate) requests: Requests,
@@ -74,6 +76,7 @@ impl<A: Agent> Parts<A> {
         let plan = plan.plan();
         Ok(Parts {
             tree: Tree::make(alloc, plan)?,
+            below: Subtree::make(alloc)?,
             cpus: Cpus::make(alloc, plan)?,
             locks: Locks::make(alloc, plan)?,
             requests: Requests::make(alloc, plan)?,

@@ -2,7 +2,7 @@
 use crate::facts::{Fact, holds};
 use wdf_base::{Callback, Kind, Life, ObjectId, Plan, Value};
 use wdf_model::OBJECTS;
-use wdf_tree::{CreateRefusal, Tree};
+use wdf_tree::{CreateRefusal, Subtree, Tree};
 
 /// An act on the tree, with the answer that is due.
 #[derive(Clone, Copy)]
@@ -15,6 +15,8 @@ pub enum Act {
     AskOne(u32),
     /// The deletion of an object and of what is below it is asked.
     AskDelete(u32),
+    /// The subtree of an object is gathered: these ids.
+    Gather(u32, &'static [u32]),
     /// The cleanup of an object is done.
     Clean(u32),
     /// An object is destroyed.
@@ -37,6 +39,12 @@ fn creates(tree: &mut Tree, parent: u32, due: Result<u32, CreateRefusal>) -> boo
 /// A request arrives; whether it gets this id.
 fn arrives(tree: &mut Tree, device: u32, due: u32) -> bool {
     tree.len() < OBJECTS && tree.arrive(ObjectId(device)).0 == due
+}
+
+/// Gathers the subtree of an object; whether it is these ids.
+fn gathers(tree: &Tree, subtree: &mut Subtree, o: ObjectId, due: &[u32]) -> bool {
+    tree.gather(o, subtree);
+    subtree.ids() == due
 }
 
 /// Cleans an object up; whether that may come.
@@ -70,14 +78,15 @@ fn does_to_one(tree: &mut Tree, act: Act) -> bool {
 }
 
 /// Does an act; whether it may come, and the answer is the due one.
-pub fn does(tree: &mut Tree, plan: &Plan, act: Act) -> bool {
+pub fn does(tree: &mut Tree, subtree: &mut Subtree, plan: &Plan, act: Act) -> bool {
     match act {
         Act::Create(parent, due) => creates(tree, parent, due),
         Act::Arrive(device, due) => arrives(tree, device, due),
         Act::AskDelete(o) => {
-            tree.ask_delete(ObjectId(o));
+            tree.ask_delete(ObjectId(o), subtree);
             true
         }
+        Act::Gather(o, due) => gathers(tree, subtree, ObjectId(o), due),
         Act::Clean(o) => cleans(tree, ObjectId(o)),
         Act::Destroy(o) => destroys(tree, ObjectId(o)),
         Act::Is(fact) => holds(tree, plan, fact),

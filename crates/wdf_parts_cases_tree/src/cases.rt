@@ -5,7 +5,7 @@ use crate::openings::{opening, plan};
 use std::alloc::Global;
 use std::test::Fail;
 use wdf_base::{Callback, Kind, Life, Memory, Plan, Status, Value};
-use wdf_tree::{CreateRefusal, Tree};
+use wdf_tree::{CreateRefusal, Subtree, Tree};
 
 const DRIVER: u32 = 1;
 
@@ -21,7 +21,7 @@ struct Case {
     acts: &'static [Act],
 }
 
-static CASES: [Case; 8] = [
+static CASES: [Case; 9] = [
     Case {
         name: "declared objects live from the opening",
         objects: 8,
@@ -94,9 +94,9 @@ static CASES: [Case; 8] = [
             Act::Create(QUEUE, Ok(6)),
             Act::Create(5, Ok(7)),
             Act::Create(5, Ok(8)),
-            Act::Is(Fact::Subtree(4, &[4, 5, 7, 8])),
-            Act::Is(Fact::Subtree(8, &[8])),
-            Act::Is(Fact::Subtree(DEVICE, &[2, 3, 4, 5, 6, 7, 8])),
+            Act::Gather(4, &[4, 5, 7, 8]),
+            Act::Gather(8, &[8]),
+            Act::Gather(DEVICE, &[2, 3, 4, 5, 6, 7, 8]),
             Act::Is(Fact::Below(DEVICE, 8, true)),
             Act::Is(Fact::Below(8, 8, false)),
             Act::AskOne(7),
@@ -110,6 +110,36 @@ static CASES: [Case; 8] = [
             Act::Is(Fact::LifeOf(8, Life::Asked)),
             Act::Is(Fact::CleanedFrom(5, Some(7))),
             Act::Is(Fact::CleanedFrom(8, None)),
+        ],
+    },
+    Case {
+        name: "a deletion passes over what is beside, and goes by rising ids",
+        objects: 16,
+        acts: &[
+            Act::Create(QUEUE, Ok(4)),
+            Act::Create(QUEUE, Ok(5)),
+            Act::Create(5, Ok(6)),
+            Act::Create(4, Ok(7)),
+            Act::Create(6, Ok(8)),
+            Act::Create(4, Ok(9)),
+            Act::Create(9, Ok(10)),
+            Act::Create(7, Ok(11)),
+            Act::Gather(4, &[4, 7, 9, 10, 11]),
+            Act::Gather(5, &[5, 6, 8]),
+            Act::Gather(0, &[0, 1, 2, 3, 4, 5, 6, 7, 8, 9, 10, 11]),
+            Act::Gather(12, &[]),
+            Act::AskDelete(4),
+            Act::Is(Fact::LifeOf(QUEUE, Life::Live)),
+            Act::Is(Fact::LifeOf(5, Life::Live)),
+            Act::Is(Fact::LifeOf(6, Life::Live)),
+            Act::Is(Fact::LifeOf(8, Life::Live)),
+            Act::Is(Fact::LifeOf(7, Life::Asked)),
+            Act::Is(Fact::LifeOf(9, Life::Asked)),
+            Act::Is(Fact::LifeOf(10, Life::Asked)),
+            Act::Is(Fact::LifeOf(11, Life::Asked)),
+            Act::Clean(11),
+            Act::Destroy(11),
+            Act::Gather(4, &[4, 7, 9, 10]),
         ],
     },
     Case {
@@ -186,9 +216,9 @@ static CASES: [Case; 8] = [
 ];
 
 /// The place of the first act that isn't as due.
-fn first_wrong(tree: &mut Tree, plan: &Plan, acts: &[Act]) -> Option<usize> {
+fn first_wrong(tree: &mut Tree, subtree: &mut Subtree, plan: &Plan, acts: &[Act]) -> Option<usize> {
     for (place, act) in acts.iter().enumerate() {
-        if !does(tree, plan, *act) {
+        if !does(tree, subtree, plan, *act) {
             return Some(place);
         }
     }
@@ -196,24 +226,30 @@ fn first_wrong(tree: &mut Tree, plan: &Plan, acts: &[Act]) -> Option<usize> {
 }
 
 /// The same in a tree that is made for it.
-fn wrong_in(mut tree: Tree, plan: &Plan, acts: &[Act]) -> Option<usize> {
-    first_wrong(&mut tree, plan, acts)
+fn wrong_in(mut tree: Tree, subtree: &mut Subtree, plan: &Plan, acts: &[Act]) -> Option<usize> {
+    first_wrong(&mut tree, subtree, plan, acts)
 }
 
 /// The same in the tree at the opening of a plan that is made for it.
-fn wrong_in_plan(alloc: Global, plan: Plan, acts: &[Act]) -> Result<Option<usize>, Memory> {
+fn wrong_in_plan(
+    alloc: Global,
+    subtree: &mut Subtree,
+    plan: Plan,
+    acts: &[Act],
+) -> Result<Option<usize>, Memory> {
     match opening(alloc, &plan) {
-        Ok(tree) => Ok(wrong_in(tree, &plan, acts)),
+        Ok(tree) => Ok(wrong_in(tree, subtree, &plan, acts)),
         Err(memory) => Err(memory),
     }
 }
 
 #[test]
 fn trees_change_as_told(rt: HostRuntime) -> Result<(), Fail> {
+    let mut subtree = Subtree::make(rt.alloc())?;
     for case in &CASES {
         let plan = plan(rt.alloc(), case.objects)?;
         assert_eq!(rt;
-            wrong_in_plan(rt.alloc(), plan, case.acts)?,
+            wrong_in_plan(rt.alloc(), &mut subtree, plan, case.acts)?,
             None,
             "{}",
             case.name

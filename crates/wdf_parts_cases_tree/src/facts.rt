@@ -15,8 +15,6 @@ pub enum Fact {
     IsUndeclared(u32),
     /// An object is of class 0.
     OfClass(u32, u16),
-    /// The subtree of an object, walked.
-    Subtree(u32, &'static [u32]),
     /// Whether the second is below the first.
     Below(u32, u32, bool),
     /// Of these, the cleanup of this one alone may come.
@@ -43,18 +41,6 @@ pub enum Fact {
     CleanedFrom(u32, Option<u32>),
     /// Whether some deletion isn't finished.
     SomeLeaving(bool),
-}
-
-/// Whether the walk through the subtree of an object comes to these ids.
-fn is_subtree(tree: &Tree, o: ObjectId, due: &[u32]) -> bool {
-    let mut at = ObjectId(0);
-    for id in due {
-        if tree.next_below(o, at) != Some(ObjectId(*id)) {
-            return false;
-        }
-        at = ObjectId(*id);
-    }
-    tree.next_below(o, at).is_none()
 }
 
 /// Whether of these objects the cleanup of one alone may come.
@@ -86,7 +72,6 @@ fn holds_of_one(tree: &Tree, fact: Fact) -> bool {
 /// Whether what is said of deletions is this.
 fn holds_of_deletion(tree: &Tree, fact: Fact) -> bool {
     match fact {
-        Fact::Subtree(o, due) => is_subtree(tree, ObjectId(o), due),
         Fact::Below(o, below, due) => tree.is_below(ObjectId(o), ObjectId(below)) == due,
         Fact::MayClean(one, all) => may_clean_alone(tree, one, all),
         Fact::MayDestroy(o, due) => tree.may_destroy(ObjectId(o)) == due,

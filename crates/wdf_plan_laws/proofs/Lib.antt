@@ -1,6 +1,8 @@
 pub mod AgentLines
 pub mod BlockLines
+pub mod DeviceLines
 pub mod FittingNumbers
+pub mod GivenLines
 pub mod HeadLines
 pub mod ItemLines
 pub mod NameTexts

@@ -1,9 +1,14 @@
 -- What the lines of a scene say, for the plan written out to be compared with.
-use Rattle.std.specs.Prelude.{◌≡◌, ℕ, suc, ◌-◌, Bool, true, false, cond, List, [], ◌∷◌, ◌++◌, map, take, drop, Option, Some, None, option_and_then}
+use Rattle.std.specs.Prelude.{◌≡◌, ℕ, suc, ◌-◌, Bool, true, false, not, cond, List, [], ◌∷◌, ◌++◌, map, take, drop, Option, Some, None, option_and_then}
 use Rattle.std.specs.List.{filter_map}
 use Rattle.std.specs.Option.{unwrap_or}
 use Rattle.wdf_base.specs.declared.declared.ClassInfo.{ClassInfo}
 use Rattle.wdf_base.specs.declared.declared.ClassInfo.TheVariants as class
+use Rattle.wdf_base.specs.declared.declared.Declared.{Declared}
+use Rattle.wdf_base.specs.declared.declared.DeviceInfo.{DeviceInfo}
+use Rattle.wdf_base.specs.declared.declared.QueueInfo.{QueueInfo}
+use Rattle.wdf_base.specs.declared.declared.Declared.TheVariants as declared
+use Rattle.wdf_base.specs.declared.ids.ObjectId.{ObjectId}
 use Rattle.wdf_base.specs.declared.plan.Plan.{Plan}
 use Rattle.wdf_base.specs.declared.script.AgentInfo.{AgentInfo}
 use Rattle.wdf_base.specs.declared.script.Script.{Script}
@@ -13,12 +18,14 @@ use Rattle.wdf_scene.specs.declared.line.SceneLine.TheVariants as line
 use Rattle.wdf_scene.specs.declared.scene.Scene.{Scene}
 use Rattle.wdf_scene.specs.Naming.{declared_name}
 use Rattle.wdf_plan.specs.declared.placed.Placed.{Placed}
-use Rattle.wdf_plan.specs.Blocks.{depth_behind, ends_block, form_at, ticks_in}
+use Rattle.wdf_plan.specs.declared.attribute.Attribute.TheVariants as attribute
+use Rattle.wdf_plan.specs.Blocks.{depth_behind, effective_level, effective_scope, ends_block, form_at, has_given, ticks_in}
+use Rattle.wdf_plan.specs.Parts.{serves}
 use Rattle.wdf_plan.specs.Flow.{numbered}
 use Rattle.wdf_plan.specs.Forms.{is_app, is_device, is_statement, nodes_end}
 use Rattle.wdf_plan.specs.Placed.{placed}
 use Rattle.wdf_plan.specs.Variables.{variables, variables_at}
-use Rattle.wdf_plan_laws.specs.WrittenOut.{name_text, post_line, statement_line, node_text, owner_text, script_line}
+use Rattle.wdf_plan_laws.specs.WrittenOut.{name_text, object_text, post_line, statement_line, node_text, owner_text, script_line}
 
 -- ---- which lines
 
@@ -126,6 +133,40 @@ is_on _ = false
 -- the name that the line of a block declares
 abbrev pub block_name : Scene → Option ℕ → Option (List ℕ)
 block_name scene b = option_and_then declared_name (option_and_then (form_at scene) b)
+
+-- the device of an object that is declared in one
+abbrev pub device_in : Declared → Option ObjectId
+device_in (declared.Queue q) = Some q.device
+device_in (declared.Interrupt i) = Some i.device
+device_in (declared.Target t) = Some t.device
+device_in _ = None
+
+-- the device of an item is the one whose line opened the block of the item's line
+abbrev pub IsInDevice : Plan → Scene → Placed → Option ObjectId → Type 0
+IsInDevice plan scene p None = Unit {0}
+IsInDevice plan scene p (Some d) = block_name scene p.stand.block ≡ Some (object_text plan d)
+
+-- what the lines of its block, of its device's and of the `driver` block give a device or a queue
+pub record IsDeviceGiven (scene : Scene) (p : Placed) (d : DeviceInfo) : Type 0 where
+  pub scope : d.scope ≡ effective_scope scene p.at None
+  pub level : d.level ≡ effective_level scene p.at None
+
+pub record IsQueueGiven (scene : Scene) (p : Placed) (q : QueueInfo) : Type 0 where
+  pub serves : q.serves ≡ serves scene p.at
+  pub powered : q.powered ≡ not (has_given scene p.at attribute.PowerOff)
+  pub zero : q.zero ≡ has_given scene p.at attribute.Zero
+  pub scope : q.scope ≡ effective_scope scene p.at p.stand.device
+  pub level : q.level ≡ effective_level scene p.at p.stand.device
+
+abbrev pub AreObjectsGiven : Scene → Placed → Declared → Type 0
+AreObjectsGiven scene p (declared.Device d) = IsDeviceGiven scene p d
+AreObjectsGiven scene p (declared.Queue q) = IsQueueGiven scene p q
+AreObjectsGiven scene p _ = Unit {0}
+
+-- what the lines of its block give a class
+abbrev pub IsClassGiven : Scene → Placed → ClassInfo → Type 0
+IsClassGiven scene p (class.Plain name k) = Unit {0}
+IsClassGiven scene p (class.Deferred name k parent serialize period) = serialize ≡ has_given scene p.at attribute.Serialize
 
 -- a callback of the plan is that of an `on` line
 pub record IsCallbackTold (plan : Plan) (scene : Scene) (p : Placed) (s : Script) : Type 0 where

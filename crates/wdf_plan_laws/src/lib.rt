@@ -3,8 +3,9 @@
 //! each item of a plan, and `specs/Told.antt` says which lines of the scene these are.
 #![tactic(auto)]
 
-ghost use Rattle.std.specs.Prelude.{◌≡◌, ◌∷◌, List, None, Some, codes, map, take};
+ghost use Rattle.std.specs.Prelude.{◌≡◌, ◌∷◌, List, None, Some, codes, drop, map, take};
 ghost use Rattle.std.specs.List.{flat_map};
+ghost use Rattle.wdf_base.specs.declared.declared.RegisterInfo.{RegisterInfo};
 ghost use Rattle.wdf_scene.specs.declared.scene.Scene.{Scene};
 ghost use Rattle.wdf_scene.specs.Written.{IsScene};
 ghost use Rattle.wdf_plan.specs.First.{first_refusal};
@@ -12,7 +13,7 @@ ghost use Rattle.wdf_plan.specs.Forms.{is_class, is_object, is_register};
 ghost use Rattle.wdf_plan.specs.Placed.{placed};
 ghost use Rattle.wdf_plan.specs.Plans.{plan_of};
 ghost use Rattle.wdf_plan_laws.specs.Fitting.{NumbersFit};
-ghost use Rattle.wdf_plan_laws.specs.Told.{AreAgentsTold, AreNodesTold, Each, forms_that, is_ask, is_on, is_when, IsCallbackTold, IsPeriodTold, lines_that, names_declared, Paired, placed_that};
+ghost use Rattle.wdf_plan_laws.specs.Told.{AreAgentsTold, AreNodesTold, AreObjectsGiven, device_in, Each, forms_that, is_ask, is_on, is_when, IsCallbackTold, IsClassGiven, IsInDevice, IsPeriodTold, lines_that, names_declared, Paired, placed_that};
 ghost use Rattle.wdf_plan_laws.specs.WrittenOut as written;
 
 /// The names of a plan are `driver`, `req`, and the names that the lines declare, in the order of the text.
@@ -32,6 +33,24 @@ pub fn declarations_are_written()
     ensures objects { (scene : Scene) → first_refusal scene ≡ None → map (written.object_line (plan_of scene)) (plan_of scene).declared ≡ None ∷ map Some (forms_that is_object scene.lines) }
     ensures classes { (scene : Scene) → first_refusal scene ≡ None → map (written.class_line (plan_of scene)) (plan_of scene).classes ≡ forms_that is_class scene.lines }
     ensures registers { (scene : Scene) → first_refusal scene ≡ None → map (written.register_line (plan_of scene)) (plan_of scene).registers ≡ forms_that is_register scene.lines }
+{}
+
+/// Of a scene that stands for a text, and in which nothing is refused: each queue, interrupt and target of the plan,
+/// and each register, is of the device in whose block its line is.
+pub fn devices_are_those_of_the_blocks()
+    ensures objects { (scene : Scene) → IsScene scene → first_refusal scene ≡ None
+        → Paired (λ p d. IsInDevice (plan_of scene) scene p (device_in d)) (placed_that is_object scene) (drop 1 (plan_of scene).declared) }
+    ensures registers { (scene : Scene) → IsScene scene → first_refusal scene ≡ None
+        → Paired (λ p (r : RegisterInfo). IsInDevice (plan_of scene) scene p (Some r.device)) (placed_that is_register scene) (plan_of scene).registers }
+{}
+
+/// Each device and each queue of the plan has the scope and the level that its block gives it, else its device's, else
+/// the `driver` block's, else none and DISPATCH_LEVEL. A queue takes the types of requests that its block says, has
+/// power but where its block says `power off`, and takes lengths of 0 where it says so. A dpc, timer or workitem class is
+/// serialized where its block says so.
+pub fn attributes_are_those_of_the_blocks()
+    ensures objects { (scene : Scene) → Paired (AreObjectsGiven scene) (placed_that is_object scene) (drop 1 (plan_of scene).declared) }
+    ensures classes { (scene : Scene) → Paired (IsClassGiven scene) (placed_that is_class scene) (plan_of scene).classes }
 {}
 
 /// Of a scene that stands for a text: the period of a dpc, timer or workitem class of the plan is the number of the

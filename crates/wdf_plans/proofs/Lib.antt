@@ -1,3 +1,5 @@
 pub mod Finding
 pub mod Gathering
+pub mod Linking
 pub mod Owning
+pub mod Walking

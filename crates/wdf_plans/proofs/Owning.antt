@@ -1,5 +1,5 @@
 -- The ids of the devices, and of the targets.
-use Rattle.std.proofs.Common.{◌≡◌, ℕ, zero, suc, ◌+◌, ◌-◌, true, false, List, [], ◌∷◌, ◌++◌, Option, Some, None, is_some, filter, length, slice_get, take, refl, sym, ap, ◌∙◌, arith}
+use Rattle.std.proofs.Common.{◌≡◌, ℕ, zero, suc, ◌+◌, ◌-◌, Bool, true, false, List, [], ◌∷◌, ◌++◌, Option, Some, None, is_some, filter, length, slice_get, take, refl, sym, ap, ◌∙◌, arith}
 use Rattle.std.specs.List.{filter_map, range_with_len}
 use Rattle.std.proofs.lemmas.List.{length-append}
 use Rattle.std.proofs.lemmas.List.Elements.{filter-append}
@@ -10,7 +10,9 @@ use Rattle.wdf_base.specs.Resolved.{app_count}
 use Rattle.wdf_model.specs.Tables.{flag}
 use Rattle.wdf_plans.specs.declared.owners.Owner.{Owner}
 use Rattle.wdf_plans.specs.declared.owners.Owner.TheVariants as owner
-use Rattle.wdf_plans.specs.Owners.{is_id_of, is_of, name_of, names_of}
+use Rattle.wdf_model.specs.Plans.{as_device, as_target, declared_ids, devices_of, targets_of}
+use Rattle.wdf_base.specs.declared.declared.Declared.TheVariants as declared
+use Rattle.wdf_plans.specs.Owners.{ids_of, is_id_of, is_of, name_of, names_of}
 use Rattle.wdf_plans.proofs.Gathering.{append_none, kept, passed}
 
 span_more : (a n : ℕ) → range_with_len a (suc n) ≡ range_with_len a n ++ (a + n) ∷ []
@@ -76,3 +78,33 @@ pub apps_are : (plan : Plan) (d t : ℕ) → d ≡ length (names_of owner.Device
 apps_are plan d t e f =
     let all = length-append (names_of owner.Device plan) (names_of owner.Target plan) in
     omega (arith, all)
+
+-- ---- the ids are the definitions'
+
+filter_alike : (p q : ℕ → Bool) → ((x : ℕ) → p x ≡ q x) → (xs : List ℕ) → filter p xs ≡ filter q xs
+filter_alike p q same [] = refl
+filter_alike p q same (x ∷ xs) = rw (same x, filter_alike p q same xs) refl
+
+device_alike : (o : Option Declared) → is_id_of owner.Device o ≡ is_some (as_device o)
+device_alike None = refl
+device_alike (Some declared.Driver) = refl
+device_alike (Some (declared.Device d)) = refl
+device_alike (Some (declared.Queue q)) = refl
+device_alike (Some (declared.Interrupt i)) = refl
+device_alike (Some (declared.Target t)) = refl
+device_alike (Some (declared.OfClass c)) = refl
+
+target_alike : (o : Option Declared) → is_id_of owner.Target o ≡ is_some (as_target o)
+target_alike None = refl
+target_alike (Some declared.Driver) = refl
+target_alike (Some (declared.Device d)) = refl
+target_alike (Some (declared.Queue q)) = refl
+target_alike (Some (declared.Interrupt i)) = refl
+target_alike (Some (declared.Target t)) = refl
+target_alike (Some (declared.OfClass c)) = refl
+
+pub device_ids : (plan : Plan) → ids_of owner.Device plan ≡ devices_of plan
+device_ids plan = filter_alike (λ id. is_id_of owner.Device (declared_of plan id)) (λ id. is_some (as_device (declared_of plan id))) (λ id. device_alike (declared_of plan id)) (declared_ids plan)
+
+pub target_ids : (plan : Plan) → ids_of owner.Target plan ≡ targets_of plan
+target_ids plan = filter_alike (λ id. is_id_of owner.Target (declared_of plan id)) (λ id. is_some (as_target (declared_of plan id))) (λ id. target_alike (declared_of plan id)) (declared_ids plan)

@@ -1,1 +1,4 @@
+pub mod Keys
 pub mod Owners
+pub mod Places
+pub mod Tables

@@ -1,8 +1,9 @@
 //! Agents by number: the Plug and Play manager is 0, then the apps, the devices, the targets. (own)
-ghost use Rattle.std.specs.Prelude.{◌≡◌, ◌<◌, ◌≤◌, ◌==◌, length, option_map, position, slice_get, IfSome};
+ghost use Rattle.std.specs.Prelude.{◌≡◌, ◌<◌, ◌≤◌, ◌^◌, option_map, slice_get};
 ghost use Rattle.wdf_model.specs.Plans as plans;
 
 use crate::indexed::IndexedPlan;
+use crate::places::Places;
 use wdf_base::ObjectId;
 
 impl IndexedPlan {
@@ -11,7 +12,7 @@ impl IndexedPlan {
         ensures value { result ≡ plans.first_device_agent self.now }
         ensures small { result ≤ 0x1_0000 }
     {
-        let owners = self.devices.len() + self.targets.len();
+        let owners = self.tables.devices.as_slice().len() + self.tables.targets.len();
         1 + (self.plan.agents.len() as usize).saturating_sub(owners)
     }
 
@@ -19,7 +20,7 @@ impl IndexedPlan {
     pub fn agent_of_device(&self, device: ObjectId) -> usize
         ensures { result ≡ plans.agent_of_device self.now device.0 }
     {
-        self.first_device_agent() + place_in(device.0, &self.devices)
+        self.first_device_agent() + place_in(device.0, &self.tables.devices)
     }
 
     /// The device of an agent, if it is one's.
@@ -31,7 +32,7 @@ impl IndexedPlan {
         if agent < first {
             None
         } else {
-            id_at(&self.devices, agent - first)
+            id_at(self.tables.devices.as_slice(), agent - first)
         }
     }
 
@@ -39,12 +40,12 @@ impl IndexedPlan {
     pub fn target_of_agent(&self, agent: u16) -> Option<ObjectId>
         ensures { option_map (λ o. o.0) result ≡ plans.target_of_agent self.now agent }
     {
-        let first = self.first_device_agent() + self.devices.len();
+        let first = self.first_device_agent() + self.tables.devices.as_slice().len();
         let agent = usize::from(agent);
         if agent < first {
             None
         } else {
-            id_at(&self.targets, agent - first)
+            id_at(&self.tables.targets, agent - first)
         }
     }
 
@@ -60,19 +61,15 @@ impl IndexedPlan {
 }
 
 /// The place of an id in a list, or the list's length.
-fn place_in(id: u32, ids: &[u32]) -> usize
+#[tactic(auto, using(crate::proofs::Finding::place_is))]
+fn place_in(id: u32, ids: &Places) -> usize
     ensures value { result ≡ plans.place_in id ids.now }
-    ensures small { result ≤ length ids.now }
+    ensures small { result < 2 ^ 32 }
 {
-    place_of(id, ids).unwrap_or(ids.len())
-}
-
-/// The place of an id in a list.
-fn place_of(id: u32, ids: &[u32]) -> Option<usize>
-    ensures value { result ≡ position (λ other. other == id) ids.now }
-    ensures small { IfSome result (λ place. place < length ids.now) }
-{
-    ids.iter().position(|other| *other == id)
+    match ids.first(id) {
+        Some(place) => place as usize,
+        None => ids.as_slice().len(),
+    }
 }
 
 /// The id at a place of a list.

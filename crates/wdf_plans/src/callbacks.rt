@@ -1,19 +1,25 @@
 //! Callbacks by object: which script they have, and how high they run.
 ghost use Rattle.std.specs.Prelude.{◌≡◌};
+ghost use Rattle.wdf_base.specs.Plan.{script_of};
 ghost use Rattle.wdf_model.specs.Plans as plans;
+ghost use Rattle.wdf_plans.specs.Keys as keys;
 
 use crate::indexed::IndexedPlan;
-use wdf_base::{Callback, CallbackLevel, Declared, ExecutionLevel, Irql, ObjectId, RequestForm};
+use crate::keys::owner_name;
+use crate::places::Places;
+use wdf_base::{
+    Callback, CallbackLevel, Declared, ExecutionLevel, Irql, ObjectId, Plan, RequestForm,
+};
 
 impl IndexedPlan {
     /// The number of the script of a callback on an object; `None` exactly where it isn't declared. It
-    /// looks through the plan's scripts.
+    /// looks through the scripts of what has the object's name.
     pub fn script_on(&self, callback: Callback, object: Option<Declared>) -> Option<u32>
         ensures { result ≡ plans.script_on self.now callback object }
     {
         match object {
             None => None,
-            Some(object) => self.plan.script(callback, object),
+            Some(object) => script_among(&self.plan, &self.tables.script_names, callback, &object),
         }
     }
 
@@ -75,6 +81,21 @@ impl IndexedPlan {
             CallbackLevel::OfQueue => self.queue_level(o),
         }
     }
+}
+
+/// The number of the script of a callback on an object, found by the names that the scripts' owners have.
+fn script_among(plan: &Plan, names: &Places, callback: Callback, owner: &Declared) -> Option<u32>
+    requires { names.now ≡ keys.script_names plan.now }
+    ensures { result ≡ script_of plan.now callback owner.now }
+{
+    let mut at = names.first(owner_name(plan, owner));
+    'walk: while let Some(script) = at {
+        if plan.scripts.item(script).is_of(callback, owner) {
+            return Some(script);
+        }
+        at = names.after(script);
+    }
+    None
 }
 
 /// The callback of a queue for a type of requests alone.

@@ -3,7 +3,7 @@ ghost use Rattle.wdf_base.specs.Plan.{declared_of};
 ghost use Rattle.wdf_model.specs.Plans as plans;
 ghost use Rattle.wdf_model.specs.rules.Groups as groups;
 
-use crate::owners::{Owner, ids_of};
+use crate::tables::{Tables, tables_of};
 use std::alloc::Global;
 use std::marker::Model;
 use wdf_base::{
@@ -18,25 +18,18 @@ use wdf_declared::{class_at, declared_at, device_of, interrupt_of, queue_of, tar
 #[derive(Drop)]
 pub struct IndexedPlan {
     pub(crate) plan: Plan,
-    /// The ids of the devices, rising.
-    pub(crate) devices: Vec<u32>,
-    /// The ids of the targets, rising.
-    pub(crate) targets: Vec<u32>,
+    pub(crate) tables: Tables,
 }
 
 impl Model for IndexedPlan {
-    ghost use Rattle.std.specs.Prelude.{◌≡◌, length};
     ghost use Rattle.wdf_base.specs.declared.plan.Plan.{Plan};
-    ghost use Rattle.wdf_plans.specs.Owners.{names_of};
-    ghost use Rattle.wdf_plans.specs.declared.owners.Owner.TheVariants as owner;
+    ghost use Rattle.wdf_plans.specs.Tables.{AreTables};
 
     ghost Value = { Plan };
 
-    ghost use Rattle.wdf_model.specs.Plans as plans;
-
     ghost view = { λ p. p.plan };
 
-    ghost invariant = { λ p. record { devices : p.devices.items ≡ plans.devices_of p.plan; targets : p.targets.items ≡ plans.targets_of p.plan; device_names : length p.devices.items ≡ length (names_of owner.Device p.plan); target_names : length p.targets.items ≡ length (names_of owner.Target p.plan) } };
+    ghost invariant = { λ p. AreTables p.plan p.tables };
 }
 
 impl IndexedPlan {
@@ -44,13 +37,8 @@ impl IndexedPlan {
     pub fn make(alloc: Global, plan: Plan) -> Result<IndexedPlan, Memory>
         ensures { IfOk result (λ made. made ≡ plan) }
     {
-        let devices = ids_of(alloc, &plan, Owner::Device)?;
-        let targets = ids_of(alloc, &plan, Owner::Target)?;
-        Ok(IndexedPlan {
-            plan,
-            devices,
-            targets,
-        })
+        let tables = tables_of(alloc, &plan)?;
+        Ok(IndexedPlan { plan, tables })
     }
 
     /// The plan alone.

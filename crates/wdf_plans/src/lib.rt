@@ -3,11 +3,15 @@
 #![tactic(auto)]
 
 mod agents;
+mod belongings;
 mod callbacks;
 mod classes;
 mod indexed;
+mod keys;
 mod owners;
+mod places;
 mod queues;
+mod tables;
 
 pub use indexed::IndexedPlan;
 pub use owners::{Owner, ids_of};

@@ -81,11 +81,12 @@ impl IndexedPlan {
     fn serving(&self, device: ObjectId, form: RequestForm) -> Option<ObjectId>
         ensures { option_map (λ q. q.0) result ≡ find (λ q. plans.serves form (plans.queue_of self.now q)) (plans.queues_of self.now device.0) }
     {
-        for k in 0..self.declared_len() {
-            let q = ObjectId(k + 1);
+        let mut at = self.first_of(device);
+        'walk: while let Some(q) = at {
             if self.is_queue_of(device, q) && serves(form, self.queue_of(q)) {
                 return Some(q);
             }
+            at = self.next_of(device, q);
         }
         None
     }
@@ -94,11 +95,12 @@ impl IndexedPlan {
     fn serving_rest(&self, device: ObjectId) -> Option<ObjectId>
         ensures { option_map (λ q. q.0) result ≡ find (λ q. plans.serves_rest (plans.queue_of self.now q)) (plans.queues_of self.now device.0) }
     {
-        for k in 0..self.declared_len() {
-            let q = ObjectId(k + 1);
+        let mut at = self.first_of(device);
+        'walk: while let Some(q) = at {
             if self.is_queue_of(device, q) && serves_rest(self.queue_of(q)) {
                 return Some(q);
             }
+            at = self.next_of(device, q);
         }
         None
     }

@@ -21,9 +21,9 @@ pub(crate) struct DeviceSteps {
 }
 
 impl Model for DeviceSteps {
-    ghost use Rattle.wdf_model.specs.parts.Pnp as model;
+    ghost use Rattle.wdf_model.specs.parts.Pnp as pnp;
 
-    ghost Value = { model.DeviceSteps };
+    ghost Value = { pnp.DeviceSteps };
 
     ghost view = { λ p. record { callbacks = p.callbacks.items; interrupts = p.interrupts.items } };
 }

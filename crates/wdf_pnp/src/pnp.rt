@@ -1,5 +1,5 @@
 ghost use Rattle.std.specs.Prelude.{◌≡◌, ◌<◌, IfOk, length};
-ghost use Rattle.wdf_model.specs.parts.Pnp as definition;
+ghost use Rattle.wdf_model.specs.parts.Pnp as pnp;
 
 use crate::sequence::Sequence;
 use std::alloc::Global;
@@ -15,9 +15,9 @@ pub struct Pnp {
 }
 
 impl Model for Pnp {
-    ghost use Rattle.wdf_model.specs.parts.Pnp as model;
+    ghost use Rattle.wdf_model.specs.parts.Pnp as pnp;
 
-    ghost Value = { model.Pnp };
+    ghost Value = { pnp.Pnp };
 
     ghost view = { λ p. record { devices = p.devices.items } };
 }
@@ -26,7 +26,7 @@ impl Pnp {
     /// The opening of the plan's run: no sequence is under way. It takes all memory that the
     /// sequences need: each device has room for its longest list of steps.
     pub fn make(alloc: Global, plan: &Plan) -> Result<Pnp, Memory>
-        ensures { IfOk result (λ made. made ≡ definition.opening_pnp plan.now) }
+        ensures { IfOk result (λ made. made ≡ pnp.opening_pnp plan.now) }
     {
         let count = 1 + plan.declared_len() as usize;
         let mut devices = Vec::with_capacity(alloc, count)?;
@@ -45,7 +45,7 @@ impl Pnp {
 
     /// The next step of a device, `None` where none is left.
     pub fn next_step(&self, d: ObjectId) -> Option<Step>
-        ensures { result ≡ definition.next_step self.now d.0 }
+        ensures { result ≡ pnp.next_step self.now d.0 }
     {
         match self.devices.get(d.0 as usize) {
             Some(device) => device.next_step(),
@@ -55,7 +55,7 @@ impl Pnp {
 
     /// How many steps a device has left.
     pub fn steps_left(&self, d: ObjectId) -> usize
-        ensures { result ≡ length (definition.steps_left self.now d.0) }
+        ensures { result ≡ length (pnp.steps_left self.now d.0) }
     {
         match self.devices.get(d.0 as usize) {
             Some(device) => device.steps_left(),
@@ -65,7 +65,7 @@ impl Pnp {
 
     /// The step of a device whose callback runs.
     pub fn running_step(&self, d: ObjectId) -> Option<Step>
-        ensures { result ≡ definition.running_step self.now d.0 }
+        ensures { result ≡ pnp.running_step self.now d.0 }
     {
         match self.devices.get(d.0 as usize) {
             Some(device) => device.running_step(),
@@ -75,21 +75,21 @@ impl Pnp {
 
     /// Whether the callback of a step of a device runs.
     pub fn is_running_step(&self, d: ObjectId) -> bool
-        ensures { result ≡ definition.is_running_step self.now d.0 }
+        ensures { result ≡ pnp.is_running_step self.now d.0 }
     {
         self.running_step(d).is_some()
     }
 
     /// Whether a sequence of a device is under way: a step is left, or its callback runs.
     pub fn busy(&self, d: ObjectId) -> bool
-        ensures { result ≡ definition.busy self.now d.0 }
+        ensures { result ≡ pnp.busy self.now d.0 }
     {
         self.is_running_step(d) || self.steps_left(d) != 0
     }
 
     /// How far a device has come; what is no device is Removed.
     pub fn phase(&self, d: ObjectId) -> Phase
-        ensures { result ≡ (definition.sequence_of self.now d.0).phase }
+        ensures { result ≡ (pnp.sequence_of self.now d.0).phase }
     {
         match self.devices.get(d.0 as usize) {
             Some(device) => device.phase(),
@@ -99,7 +99,7 @@ impl Pnp {
 
     /// Whether the next step of a device is the one after `queues_up`.
     pub fn follows_queues_up(&self, d: ObjectId) -> bool
-        ensures { result ≡ definition.follows_queues_up self.now d.0 }
+        ensures { result ≡ pnp.follows_queues_up self.now d.0 }
     {
         match self.devices.get(d.0 as usize) {
             Some(device) => device.follows_queues_up(),
@@ -111,7 +111,7 @@ impl Pnp {
     /// none where the post changes nothing in its phase.
     pub fn ask(&mut self, d: ObjectId, ask: Ask)
         requires there { d.0 < length self.old.devices }
-        ensures done { self.new ≡ definition.ask self.old d.0 ask }
+        ensures done { self.new ≡ pnp.ask self.old d.0 ask }
         ensures size { length self.new.devices ≡ length self.old.devices }
     {
         let device = &mut self.devices[d.0 as usize];
@@ -121,7 +121,7 @@ impl Pnp {
     /// The next step of a device is taken: its callback runs, or the stage is passed.
     pub fn taken(&mut self, d: ObjectId)
         requires there { d.0 < length self.old.devices }
-        ensures done { self.new ≡ definition.taken self.old d.0 }
+        ensures done { self.new ≡ pnp.taken self.old d.0 }
         ensures size { length self.new.devices ≡ length self.old.devices }
     {
         let device = &mut self.devices[d.0 as usize];
@@ -132,7 +132,7 @@ impl Pnp {
     /// failed start ends the device. (own)
     pub fn ended(&mut self, d: ObjectId, step: Step, value: Value)
         requires there { d.0 < length self.old.devices }
-        ensures done { self.new ≡ definition.ended self.old d.0 step value }
+        ensures done { self.new ≡ pnp.ended self.old d.0 step value }
         ensures size { length self.new.devices ≡ length self.old.devices }
     {
         let device = &mut self.devices[d.0 as usize];

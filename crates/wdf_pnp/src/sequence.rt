@@ -30,9 +30,9 @@ pub(crate) struct Sequence {
 
 impl Model for Sequence {
     ghost use Rattle.std.specs.Prelude.{◌+◌, ◌*◌, ◌≤◌, drop, length, vec_capacity};
-    ghost use Rattle.wdf_model.specs.parts.Pnp as model;
+    ghost use Rattle.wdf_model.specs.parts.Pnp as pnp;
 
-    ghost Value = { model.Sequence };
+    ghost Value = { pnp.Sequence };
 
     ghost view = { λ d. record { steps = d.steps; phase = d.phase; ever_working = d.ever_working; left = drop d.taken d.list.items; running = d.running } };
 

@@ -1,5 +1,5 @@
 pub mod Readers
 pub mod Waking
 pub mod Least
-pub mod Members
-pub mod Held
+pub mod Listing
+pub mod Low

@@ -7,7 +7,7 @@ use Rattle.wdf_base.specs.declared.ids.ObjectId.{ObjectId}
 use Rattle.wdf_model.specs.declared.entries.Holding.{Holding}
 use Rattle.wdf_model.specs.declared.room.TheConstants.{OBJECTS}
 use Rattle.wdf_model.specs.Tables.{entry, flag}
-use Rattle.wdf_model.specs.parts.Power as definition
+use Rattle.wdf_model.specs.parts.Power as power
 use Rattle.wdf_model.proofs.Counts.{count_cons}
 use Rattle.wdf_counts.specs.Counts.{AreCounted, is_at}
 use Rattle.wdf_counts.proofs.Counting.{any_counted, any_same}
@@ -44,27 +44,27 @@ held_with true true device d = sym (and-true (device.0 == d))
 held_with true false device d = sym (and-false (device.0 == d))
 
 -- the requests that are held at a device and aren't acknowledged are the unsettled ones
-pub unsettled_found : (P : definition.Power) (d : ℕ) → count_by (λ h. is_at d (unsettled_at P.queues h)) P.holdings ≡ length (definition.unsettled P d)
+pub unsettled_found : (P : power.Power) (d : ℕ) → count_by (λ h. is_at d (unsettled_at P.queues h)) P.holdings ≡ length (power.unsettled P d)
 unsettled_found P d =
     let ids = range_with_len 0 (length P.holdings) in
-    let p : Holding → Bool = definition.is_unsettled_at P d in
+    let p : Holding → Bool = power.is_unsettled_at P d in
     let f : count_by (λ h. is_at d (unsettled_at P.queues h)) P.holdings ≡ count_by p P.holdings =
-    count_alike (λ h. is_at d (unsettled_at P.queues h)) p (λ h. held_with (definition.is_held h) (not h.acknowledged) (device_at P.queues h) d) P.holdings in
-    let g : count_by (λ r. p (definition.holding_of P r)) ids ≡ count_by p P.holdings =
-    count_ids p definition.no_holding P.holdings (definition.holding_of P) 0 (λ k. let z : 0 + k ≡ k = omega arith in ap (definition.holding_of P) z) in
-    f ∙ sym g ∙ sym (length-filter (λ r. p (definition.holding_of P r)) ids)
+    count_alike (λ h. is_at d (unsettled_at P.queues h)) p (λ h. held_with (power.is_held h) (not h.acknowledged) (device_at P.queues h) d) P.holdings in
+    let g : count_by (λ r. p (power.holding_of P r)) ids ≡ count_by p P.holdings =
+    count_ids p power.no_holding P.holdings (power.holding_of P) 0 (λ k. let z : 0 + k ≡ k = omega arith in ap (power.holding_of P) z) in
+    f ∙ sym g ∙ sym (length-filter (λ r. p (power.holding_of P r)) ids)
 
-pub unsettled_counted : (P : definition.Power) (counts : List ℕ) (d : ℕ) → AreCounted (unsettled_at P.queues) P.holdings counts → d < OBJECTS
-    → entry 0 counts d ≡ length (definition.unsettled P d)
+pub unsettled_counted : (P : power.Power) (counts : List ℕ) (d : ℕ) → AreCounted (unsettled_at P.queues) P.holdings counts → d < OBJECTS
+    → entry 0 counts d ≡ length (power.unsettled P d)
 unsettled_counted P counts d counted within = counted.count d within ∙ unsettled_found P d
 
 -- a resume is due for some request exactly where one is found that is held with it
-pub due_found : (P : definition.Power) (d : ℕ) → list_any (λ h. is_at d (due_at P.queues h)) P.holdings ≡ definition.any_resume_due P d
+pub due_found : (P : power.Power) (d : ℕ) → list_any (λ h. is_at d (due_at P.queues h)) P.holdings ≡ power.any_resume_due P d
 due_found P d =
-    any_same (λ h. is_at d (due_at P.queues h)) (λ h. definition.is_held_at P d h && h.resume_due) P.holdings (λ h. held_with (definition.is_held h) h.resume_due (device_at P.queues h) d)
+    any_same (λ h. is_at d (due_at P.queues h)) (λ h. power.is_held_at P d h && h.resume_due) P.holdings (λ h. held_with (power.is_held h) h.resume_due (device_at P.queues h) d)
 
-pub due_counted : (P : definition.Power) (counts : List ℕ) (d : ℕ) → AreCounted (due_at P.queues) P.holdings counts → d < OBJECTS
-    → nat_lt 0 (entry 0 counts d) ≡ definition.any_resume_due P d
+pub due_counted : (P : power.Power) (counts : List ℕ) (d : ℕ) → AreCounted (due_at P.queues) P.holdings counts → d < OBJECTS
+    → nat_lt 0 (entry 0 counts d) ≡ power.any_resume_due P d
 due_counted P counts d counted within =
     let p : Holding → Bool = λ h. is_at d (due_at P.queues h) in
     let e : entry 0 counts d ≡ count_by p P.holdings = counted.count d within in

@@ -1,18 +1,24 @@
 -- The queues of a device come up: its held requests are woken one by one.
-use Rattle.std.proofs.Common.{◌⊎◌, inl, inr, ◌≡◌, ◌≢◌, ℕ, zero, suc, ◌+◌, ◌-◌, ◌<◌, ◌≤◌, Bool, true, false, List, [], ◌∷◌, length, map, refl, sym, ap, ◌∙◌, arith}
-use Rattle.std.proofs.lemmas.Bool.{cases_lt}
+use Rattle.std.proofs.Common.{◌⊎◌, inl, inr, ◌≡◌, ◌≢◌, ℕ, zero, suc, ◌<◌, Bool, true, false, List, [], ◌∷◌, ◌++◌, length, map, refl, sym, ap, ◌∙◌, arith}
+use Rattle.std.proofs.lemmas.Bool.{cases_Bool}
 use Rattle.wdf_model.specs.declared.entries.Holding.{Holding}
 use Rattle.wdf_model.specs.Tables.{entry, put}
-use Rattle.wdf_model.specs.parts.Power.{Power, is_held, is_held_at, no_holding, woken}
+use Rattle.wdf_model.specs.parts.Power.{Power, is_held_at, no_holding, woken}
 use Rattle.wdf_model.proofs.Counts.{one_or_two}
-use Rattle.wdf_model.proofs.Maps.{as_long, entry_put_other, entry_put_same, put_within}
+use Rattle.wdf_model.proofs.Maps.{entry_put_other, entry_put_same}
+use Rattle.wdf_ilist.specs.Family.{is_on, list_at}
+use Rattle.wdf_power.specs.Kept.{AreListed}
+use Rattle.wdf_power.specs.Power.{held_list, is_list, list_of}
+use Rattle.wdf_power.proofs.Low.{one_of}
+use Rattle.wdf_power.proofs.Listing.{kept_queue, listed_there, on_own, same_list}
 
--- How far the waking of a device's requests has come from P: all ids below n are done.
-pub record Waking (P now : Power) (d n : ℕ) : Type 0 where
+-- How far the waking of a device's requests has come from P: those on the list are done.
+pub record Waking (P now : Power) (d : ℕ) (xs : List ℕ) : Type 0 where
   pub devices : now.devices ≡ P.devices
   pub queues : now.queues ≡ P.queues
   pub to_come : map (woken P d) now.holdings ≡ map (woken P d) P.holdings
-  pub awake : (k : ℕ) → k < n → woken P d (entry no_holding now.holdings k) ≡ entry no_holding now.holdings k
+  pub same_queue : (k : ℕ) → (entry no_holding now.holdings k).queue ≡ (entry no_holding P.holdings k).queue
+  pub awake : (k : ℕ) → is_on k xs ≡ true → woken P d (entry no_holding now.holdings k) ≡ entry no_holding now.holdings k
 
 -- who is awake stays as it is
 awake_by : (P : Power) (d : ℕ) (h : Holding) (b : Bool) → is_held_at P d h ≡ b → woken P d (woken P d h) ≡ woken P d h
@@ -36,19 +42,25 @@ map_fixed g blank (x ∷ xs) h =
     let rest : map g xs ≡ xs = map_fixed g blank xs (λ k l. h (suc k) (omega arith)) in
     cc
 
-pub waking_none : (P : Power) (d : ℕ) → Waking P P d 0
-waking_none P d = record { devices = refl; queues = refl; to_come = refl; awake = λ k h. absurd (omega arith) }
+pub waking_none : (P : Power) (d : ℕ) → Waking P P d []
+waking_none P d = record { devices = refl; queues = refl; to_come = refl; same_queue = λ k. refl; awake = λ k h. absurd (let z : ⊥ = cc in z) }
 
 -- one more is awake, and the others as before
-awake_more : (P : Power) (d : ℕ) (hs : List Holding) (n k : ℕ) → (k ≡ n) ⊎ (k ≢ n) → (k < n → woken P d (entry no_holding hs k) ≡ entry no_holding hs k) → k < n + 1
+awake_more : (P : Power) (d : ℕ) (hs : List Holding) (xs : List ℕ) (n k : ℕ) → (k ≡ n) ⊎ (k ≢ n) → (is_on k xs ≡ true → woken P d (entry no_holding hs k) ≡ entry no_holding hs k) → is_on k (xs ++ n ∷ []) ≡ true
     → woken P d (entry no_holding (put no_holding hs n (woken P d (entry no_holding hs n))) k) ≡ entry no_holding (put no_holding hs n (woken P d (entry no_holding hs n))) k
-awake_more P d hs n k (inl e) before h = rw (e, entry_put_same no_holding hs n (woken P d (entry no_holding hs n))) (woken_once P d (entry no_holding hs n))
-awake_more P d hs n k (inr o) before h = rw (entry_put_other no_holding hs n k (woken P d (entry no_holding hs n)) o) (before (omega arith))
+awake_more P d hs xs n k (inl e) before h = rw (e, entry_put_same no_holding hs n (woken P d (entry no_holding hs n))) (woken_once P d (entry no_holding hs n))
+awake_more P d hs xs n k (inr o) before h =
+    let on : is_on k xs ≡ true = elim (one_of k n xs h) [ inl a ↦ a | inr b ↦ absurd (o b) ] in
+    rw (entry_put_other no_holding hs n k (woken P d (entry no_holding hs n)) o) (before on)
+
+queue_more : (P : Power) (d : ℕ) (hs : List Holding) (n k : ℕ) → (k ≡ n) ⊎ (k ≢ n) → (entry no_holding (put no_holding hs n (woken P d (entry no_holding hs n))) k).queue ≡ (entry no_holding hs k).queue
+queue_more P d hs n k (inl e) = rw (e, entry_put_same no_holding hs n (woken P d (entry no_holding hs n))) (kept_queue P d (entry no_holding hs n))
+queue_more P d hs n k (inr o) = ap (λ h. h.queue) (entry_put_other no_holding hs n k (woken P d (entry no_holding hs n)) o)
 
 -- one more is awake
-pub waking_more : (P now next : Power) (d n : ℕ) → Waking P now d n → n < length now.holdings
-    → next ≡ record now { holdings = put no_holding now.holdings n (woken now d (entry no_holding now.holdings n)) } → Waking P next d (n + 1)
-waking_more P now next d n w h e =
+pub waking_more : (P now next : Power) (d n : ℕ) (xs : List ℕ) → Waking P now d xs → n < length now.holdings
+    → next ≡ record now { holdings = put no_holding now.holdings n (woken now d (entry no_holding now.holdings n)) } → Waking P next d (xs ++ n ∷ [])
+waking_more P now next d n xs w h e =
     let same : woken now d ≡ woken P d = ap (λ (qs : _). woken (record P { queues = qs }) d) w.queues in
     let hs : next.holdings ≡ put no_holding now.holdings n (woken P d (entry no_holding now.holdings n)) =
     ap (λ Q. Q.holdings) e ∙ ap (λ g. put no_holding now.holdings n (g (entry no_holding now.holdings n))) same in
@@ -56,34 +68,38 @@ waking_more P now next d n w h e =
       devices = ap (λ Q. Q.devices) e ∙ w.devices;
       queues = ap (λ Q. Q.queues) e ∙ w.queues;
       to_come = rw hs (map_put (woken P d) (woken_once P d) no_holding now.holdings n h ∙ w.to_come);
-      awake = λ k l. rw hs (awake_more P d now.holdings n k (one_or_two k n) (λ m. w.awake k m) (omega arith));
+      same_queue = λ k. rw hs (queue_more P d now.holdings n k (one_or_two k n) ∙ w.same_queue k);
+      awake = λ k l. rw hs (awake_more P d now.holdings xs n k (one_or_two k n) (λ m. w.awake k m) l);
     }
 
--- who isn't held is awake
-asleep_none : (P : Power) (d : ℕ) (h : Holding) → is_held h ≡ false → woken P d h ≡ h
-asleep_none P d h e = rw e refl
-
-pub waking_skip : (P now : Power) (d n m : ℕ) → Waking P now d n → ((k : ℕ) → n ≤ k → k < m → is_held (entry no_holding now.holdings k) ≡ false) → Waking P now d m
-waking_skip P now d n m w none = record {
-  devices = w.devices;
-  queues = w.queues;
-  to_come = w.to_come;
-  awake = λ k l. elim (cases_lt k n) [ inl before ↦ w.awake k before | inr after ↦ asleep_none P d (entry no_holding now.holdings k) (none k after l) ];
-}
+-- who is still held from the same queue has an entry
+pub still_there : (P now : Power) (d r l : ℕ) (xs : List ℕ) (lists : List (List ℕ)) → Waking P now d xs → AreListed P.queues P.holdings lists → is_on r (list_at lists l) ≡ true → r < length now.holdings
+still_there P now d r l xs lists w a e =
+    let same : held_list P.queues (entry no_holding now.holdings r) ≡ held_list P.queues (entry no_holding P.holdings r) = same_list P.queues (entry no_holding now.holdings r) (entry no_holding P.holdings r) (w.same_queue r) in
+    let there : is_list l (held_list P.queues (entry no_holding now.holdings r)) ≡ true = ap (is_list l) same ∙ (sym (a.on r l) ∙ e) in
+    listed_there P.queues now.holdings r l there
 
 -- all are awake
-pub waking_all : (P now : Power) (d n : ℕ) → Waking P now d n → length now.holdings ≤ n → now ≡ record P { holdings = map (woken P d) P.holdings }
-waking_all P now d n w h =
-    let all : map (woken P d) now.holdings ≡ now.holdings = map_fixed (woken P d) no_holding now.holdings (λ k l. w.awake k (omega arith)) in
+asleep_none : (P : Power) (d : ℕ) (h : Holding) → is_held_at P d h ≡ false → woken P d h ≡ h
+asleep_none P d h e = rw e refl
+
+held_as : (P : Power) (d : ℕ) (h g : Holding) → h.queue ≡ g.queue → is_held_at P d h ≡ is_held_at P d g
+held_as P d h g e = rw e refl
+
+awake_by_list : (P now : Power) (d k : ℕ) (xs : List ℕ) (lists : List (List ℕ)) → Waking P now d xs → AreListed P.queues P.holdings lists → xs ≡ list_at lists (list_of d)
+    → (is_held_at P d (entry no_holding now.holdings k) ≡ true) ⊎ (is_held_at P d (entry no_holding now.holdings k) ≡ false)
+    → woken P d (entry no_holding now.holdings k) ≡ entry no_holding now.holdings k
+awake_by_list P now d k xs lists w a e (inl held) =
+    let own : is_held_at P d (entry no_holding P.holdings k) ≡ true = sym (held_as P d (entry no_holding now.holdings k) (entry no_holding P.holdings k) (w.same_queue k)) ∙ held in
+    w.awake k (ap (is_on k) e ∙ on_own P d k lists a own)
+awake_by_list P now d k xs lists w a e (inr free) = asleep_none P d (entry no_holding now.holdings k) free
+
+pub waking_all : (P now : Power) (d : ℕ) (xs : List ℕ) (lists : List (List ℕ)) → Waking P now d xs → AreListed P.queues P.holdings lists → xs ≡ list_at lists (list_of d)
+    → now ≡ record P { holdings = map (woken P d) P.holdings }
+waking_all P now d xs lists w a e =
+    let all : map (woken P d) now.holdings ≡ now.holdings = map_fixed (woken P d) no_holding now.holdings (λ k l. awake_by_list P now d k xs lists w a e (cases_Bool (is_held_at P d (entry no_holding now.holdings k)))) in
     let hs : now.holdings ≡ map (woken P d) P.holdings = sym all ∙ w.to_come in
     let ds = w.devices in
     let qs = w.queues in
     let same : record { devices = now.devices; queues = now.queues; holdings = now.holdings } ≡ record { devices = P.devices; queues = P.queues; holdings = map (woken P d) P.holdings } = cc in
     same
-
--- what is left of the requests shrinks
-pub fewer_left : (now next : Power) (n r : ℕ) (new : Holding) → next ≡ record now { holdings = put no_holding now.holdings r new } → n ≤ r → r < length now.holdings
-    → length next.holdings - (r + 1) < length now.holdings - n
-fewer_left now next n r new e h l =
-    let long : length next.holdings ≡ length now.holdings = ap (λ P. length P.holdings) e ∙ ap length (put_within no_holding now.holdings r new l) ∙ as_long now.holdings r new in
-    omega arith

@@ -1,23 +1,37 @@
 -- What the code keeps of power, and what holds of it.
-use Rattle.std.specs.Prelude.{◌≡◌, ℕ, ◌≤◌, length, vec_capacity}
+use Rattle.std.specs.Prelude.{◌≡◌, ℕ, ◌+◌, ◌≤◌, List, [], length, vec_capacity}
 use Rattle.wdf_model.specs.declared.room.TheConstants.{OBJECTS}
+use Rattle.wdf_model.specs.declared.entries.QueuePower.{QueuePower}
+use Rattle.wdf_model.specs.declared.entries.Holding.{Holding}
 use Rattle.wdf_model.specs.Tables.{entry}
 use Rattle.wdf_model.specs.parts.Power as power
-use Rattle.wdf_model.specs.parts.Power.{is_held, no_holding}
+use Rattle.wdf_model.specs.parts.Power.{no_holding}
 use Rattle.wdf_counts.specs.Counts.{AreCounted}
-use Rattle.wdf_sets.specs.Members.{is_in}
+use Rattle.wdf_ilist.specs.Family.{is_on, list_at}
+use Rattle.wdf_power.specs.declared.holdings.Holdings.TheInside as holdings
 use Rattle.wdf_power.specs.declared.power.Power.TheInside.{Inside}
-use Rattle.wdf_power.specs.Power.{due_at, unsettled_at}
+use Rattle.wdf_power.specs.Power.{due_at, held_list, is_list, unsettled_at}
+
+-- how far the requests have come
+abbrev pub holdings_in : holdings.Inside → power.Power
+holdings_in a = record { devices = []; queues = a.queues.items; holdings = a.all.items }
+
+-- There is room for every request, and the counts are those of the requests.
+pub record AreSound (a : holdings.Inside) : Type 0 where
+  pub room : OBJECTS ≤ vec_capacity a.all
+  pub within : length a.all.items ≤ OBJECTS
+  pub unsettled : AreCounted (unsettled_at a.queues.items) a.all.items a.unsettled
+  pub due : AreCounted (due_at a.queues.items) a.all.items a.due
+
+-- The lists have the requests that are held, by device.
+pub record AreListed (queues : List QueuePower) (all : List Holding) (lists : List (List ℕ)) : Type 0 where
+  pub on : (r l : ℕ) → is_on r (list_at lists l) ≡ is_list l (held_list queues (entry no_holding all r))
 
 -- the power that is kept
 abbrev pub power_in : Inside → power.Power
-power_in a = record { devices = a.devices.items; queues = a.queues.items; holdings = a.holdings.items }
+power_in a = record { devices = a.devices.items; queues = a.holdings.queues; holdings = a.holdings.holdings }
 
--- There is room for every request, the counts are those of the requests, and the set has those that are held.
 pub record IsSound (a : Inside) : Type 0 where
-  pub room : OBJECTS ≤ vec_capacity a.holdings
-  pub within : length a.holdings.items ≤ OBJECTS
-  pub unsettled : AreCounted (unsettled_at a.queues.items) a.holdings.items a.unsettled
-  pub due : AreCounted (due_at a.queues.items) a.holdings.items a.due
-  pub held_long : OBJECTS ≤ length a.held
-  pub held : (r : ℕ) → is_in r a.held ≡ is_held (entry no_holding a.holdings.items r)
+  pub lists : length a.held.lists ≡ OBJECTS + 1
+  pub items : a.held.items ≡ OBJECTS
+  pub listed : AreListed a.holdings.queues a.holdings.holdings a.held.lists

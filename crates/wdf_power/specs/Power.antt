@@ -1,5 +1,5 @@
--- At which device a request counts, what a device is at the opening, and the next request that is held.
-use Rattle.std.specs.Prelude.{if◌then◌else◌, ◌≡◌, ℕ, ◌<◌, ◌≤◌, true, false, ◌&&◌, not, List, length, Option, Some, None}
+-- At which device a request counts, what a device is at the opening, and the lists of held requests.
+use Rattle.std.specs.Prelude.{if◌then◌else◌, ◌≡◌, ◌≢◌, ℕ, ◌==◌, Bool, false, ◌&&◌, not, min, List, [], Option, Some, None}
 use Rattle.wdf_base.specs.declared.ids.ObjectId.{ObjectId}
 use Rattle.wdf_base.specs.declared.plan.Plan.{Plan}
 use Rattle.wdf_model.specs.declared.entries.DevicePower.{DevicePower}
@@ -8,7 +8,8 @@ use Rattle.wdf_model.specs.declared.entries.Holding.{Holding}
 use Rattle.wdf_model.specs.declared.room.TheConstants.{OBJECTS}
 use Rattle.wdf_model.specs.Tables.{entry}
 use Rattle.wdf_model.specs.Plans.{device_of}
-use Rattle.wdf_model.specs.parts.Power.{Power, holding_of, is_held, no_queue_power, opening_device_power}
+use Rattle.wdf_model.specs.parts.Power.{Power, is_held, no_queue_power, opening_device_power, opening_power}
+use Rattle.wdf_ilist.specs.Family.{is_on, list_at}
 
 -- the device of the queue that a request is held from
 abbrev pub device_at : List QueuePower → Holding → ObjectId
@@ -26,8 +27,26 @@ due_at queues h = if is_held h && h.resume_due then Some (device_at queues h) el
 abbrev pub opening_device_at : Plan → ℕ → DevicePower
 opening_device_at plan d = opening_device_power (device_of plan d)
 
--- the request that is held and has the least id from this one on, none where nothing is held from there on
-abbrev pub IsNextHeld : Power → ℕ → Option ObjectId → Type 0
-IsNextHeld P id None = (k : ℕ) → id ≤ k → is_held (holding_of P k) ≡ false
-IsNextHeld P id (Some r) =
-    (id ≤ r.0) × (r.0 < length P.holdings) × (length P.holdings ≤ OBJECTS) × (is_held (holding_of P r.0) ≡ true) × ((k : ℕ) → id ≤ k → k < r.0 → is_held (holding_of P k) ≡ false)
+-- Nothing is held, from any queue of the plan.
+abbrev pub opening_holdings : Plan → Power
+opening_holdings plan = record (opening_power plan) { devices = [] }
+
+-- ---- the lists of the requests that are held, by device
+
+-- the list of a device; that of all ids that no device can have is one
+abbrev pub list_of : ℕ → ℕ
+list_of d = min d OBJECTS
+
+-- the list that a request is on, none where it isn't held
+abbrev pub held_list : List QueuePower → Holding → Option ℕ
+held_list queues h = if is_held h then Some (list_of (device_at queues h).0) else None
+
+-- whether there is a list, and it is this one
+abbrev pub is_list : ℕ → Option ℕ → Bool
+is_list l None = false
+is_list l (Some other) = other == l
+
+-- A request is on this list, or on none, and the others are where they were.
+pub record IsMoved (before after : List (List ℕ)) (r : ℕ) (list : Option ℕ) : Type 0 where
+  pub here : (l : ℕ) → is_on r (list_at after l) ≡ is_list l list
+  pub others : (k l : ℕ) → k ≢ r → is_on k (list_at after l) ≡ is_on k (list_at before l)

@@ -2,6 +2,7 @@
 //! driver holds from power-managed queues have come.
 #![tactic(auto)]
 
+mod holdings;
 mod opening;
 mod power;
 

@@ -2,7 +2,7 @@
 
 ghost use Rattle.std.specs.Prelude.{◌≡◌, ◌<◌, ◌^◌, IfOk, map};
 ghost use Rattle.wdf_model.specs.Plans as plans;
-ghost use Rattle.wdf_model.specs.parts.Power as definition;
+ghost use Rattle.wdf_model.specs.parts.Power as power;
 ghost use Rattle.wdf_power.specs.Power.{opening_device_at};
 
 use std::alloc::Global;
@@ -40,7 +40,7 @@ pub(crate) fn opening_devices(alloc: Global, plan: &Plan) -> Result<Vec<DevicePo
 /// The power of an id as a queue.
 fn queue_power(plan: &Plan, id: usize) -> QueuePower
     requires { id < 2 ^ 32 }
-    ensures { result ≡ definition.opening_queue_power plan.now id }
+    ensures { result ≡ power.opening_queue_power plan.now id }
 {
     let q = ObjectId(id as u32);
     let device = match queue_of(plan, q) {
@@ -55,7 +55,7 @@ fn queue_power(plan: &Plan, id: usize) -> QueuePower
 
 /// The power of queues, by id.
 pub(crate) fn opening_queues(alloc: Global, plan: &Plan) -> Result<Vec<QueuePower>, Memory>
-    ensures { IfOk result (λ queues. queues.items ≡ map (definition.opening_queue_power plan.now) (plans.declared_ids plan.now)) }
+    ensures { IfOk result (λ queues. queues.items ≡ map (power.opening_queue_power plan.now) (plans.declared_ids plan.now)) }
 {
     let count = 1 + plan.declared_len() as usize;
     let mut queues = Vec::with_capacity(alloc, count)?;

@@ -1,8 +1,8 @@
 //! What a mode says, and the opening of the queues.
 
-ghost use Rattle.std.specs.Prelude.{◌≡◌, Some, IfOk, map};
+ghost use Rattle.std.specs.Prelude.{◌≡◌, Some, IfOk};
 ghost use Rattle.wdf_model.specs.Plans.{as_queue};
-ghost use Rattle.wdf_model.specs.parts.Control as parts;
+ghost use Rattle.wdf_model.specs.parts.Control as control;
 
 use std::alloc::Global;
 use wdf_base::{Declared, Memory, ObjectId, Plan};
@@ -18,7 +18,7 @@ pub(crate) const NO_CONTROL: QueueControl = QueueControl {
 
 /// Whether a queue of this mode takes new requests. (KMDF: in Started and Stopped)
 pub(crate) fn accepts_in(mode: Mode) -> bool
-    ensures { result ≡ parts.accepts_in mode }
+    ensures { result ≡ control.accepts_in mode }
 {
     match mode {
         Mode::Started | Mode::Stopped => true,
@@ -28,7 +28,7 @@ pub(crate) fn accepts_in(mode: Mode) -> bool
 
 /// Whether a queue of this mode presents requests. (KMDF: in Started and Drained)
 pub(crate) fn delivers_in(mode: Mode) -> bool
-    ensures { result ≡ parts.delivers_in mode }
+    ensures { result ≡ control.delivers_in mode }
 {
     match mode {
         Mode::Started | Mode::Drained => true,
@@ -38,7 +38,7 @@ pub(crate) fn delivers_in(mode: Mode) -> bool
 
 /// The control of a declared object at the opening.
 fn opening_mode(declared: Declared) -> QueueControl
-    ensures { result ≡ parts.opening_mode (as_queue (Some declared)) }
+    ensures { result ≡ control.opening_mode (as_queue (Some declared)) }
 {
     match declared {
         Declared::Queue(queue) => QueueControl {
@@ -53,7 +53,7 @@ fn opening_mode(declared: Declared) -> QueueControl
 
 /// The controls at the opening, by id.
 pub(crate) fn opening_controls(alloc: Global, plan: &Plan) -> Result<Vec<QueueControl>, Memory>
-    ensures { IfOk result (λ all. all.items ≡ (parts.opening_control plan.now).controls) }
+    ensures { IfOk result (λ all. all.items ≡ (control.opening_control plan.now).controls) }
 {
     let mut all = Vec::with_capacity(alloc, 1 + plan.declared_len() as usize)?;
     all.push(NO_CONTROL)?;
@@ -61,27 +61,4 @@ pub(crate) fn opening_controls(alloc: Global, plan: &Plan) -> Result<Vec<QueueCo
         all.push(opening_mode(plan.declared(ObjectId(k + 1))))?;
     }
     Ok(all)
-}
-
-/// The control of a queue after a device is closed: Purged for that device's queues. (KMDF)
-fn shut_control(device: ObjectId, control: QueueControl) -> QueueControl
-    ensures { result ≡ parts.shut_control device.0 control }
-{
-    if control.device.0 == device.0 {
-        QueueControl {
-            mode: Mode::Purged,
-            ..control
-        }
-    } else {
-        control
-    }
-}
-
-/// Purges the queues of a device that is closed. (KMDF)
-pub(crate) fn purge_all(controls: &mut [QueueControl], device: ObjectId)
-    ensures { controls.new ≡ map (parts.shut_control device.0) controls.old }
-{
-    for control in controls.iter_mut() {
-        *control = shut_control(device, *control);
-    }
 }

@@ -8,7 +8,7 @@ abbrev pub queues_in : Inside → Queues
 queues_in s = record { dispatch = s.dispatch.items; waiting = s.waiting.lists; held = s.held.items }
 
 -- Each id has a waiting list and a count, and every object may wait.
-pub record IsWhole (s : Inside) : Type 0 where
+pub record IsSound (s : Inside) : Type 0 where
   pub lists : length s.waiting.lists ≡ length s.dispatch.items
   pub counts : length s.held.items ≡ length s.dispatch.items
   pub room : s.waiting.items ≡ OBJECTS

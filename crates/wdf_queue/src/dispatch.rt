@@ -2,7 +2,7 @@
 
 ghost use Rattle.std.specs.Prelude.{◌≡◌, Some, IfOk};
 ghost use Rattle.wdf_model.specs.Plans.{as_queue};
-ghost use Rattle.wdf_model.specs.parts.Queues as parts;
+ghost use Rattle.wdf_model.specs.parts.Queues as queues;
 
 use std::alloc::Global;
 use wdf_base::{Declared, DispatchKind, Memory, ObjectId, Plan};
@@ -10,7 +10,7 @@ use wdf_base::{Declared, DispatchKind, Memory, ObjectId, Plan};
 /// Whether a queue presents one more request while so many are held from it. (KMDF: a sequential
 /// queue one at a time, a parallel one up to its number, a manual one none of itself)
 pub(crate) fn is_free_by(dispatch: DispatchKind, held: u32) -> bool
-    ensures { result ≡ parts.is_free_by dispatch held }
+    ensures { result ≡ queues.is_free_by dispatch held }
 {
     match dispatch {
         DispatchKind::Sequential => held == 0,
@@ -21,7 +21,7 @@ pub(crate) fn is_free_by(dispatch: DispatchKind, held: u32) -> bool
 
 /// How a declared object presents requests; what is no queue, as a manual queue.
 fn opening_dispatch(declared: Declared) -> DispatchKind
-    ensures { result ≡ parts.opening_dispatch (as_queue (Some declared)) }
+    ensures { result ≡ queues.opening_dispatch (as_queue (Some declared)) }
 {
     match declared {
         Declared::Queue(queue) => queue.dispatch,
@@ -31,7 +31,7 @@ fn opening_dispatch(declared: Declared) -> DispatchKind
 
 /// How the declared objects present requests, by id.
 pub(crate) fn opening_dispatches(alloc: Global, plan: &Plan) -> Result<Vec<DispatchKind>, Memory>
-    ensures { IfOk result (λ all. all.items ≡ (parts.opening_queues plan.now).dispatch) }
+    ensures { IfOk result (λ all. all.items ≡ (queues.opening_queues plan.now).dispatch) }
 {
     let mut all = Vec::with_capacity(alloc, 1 + plan.declared_len() as usize)?;
     all.push(DispatchKind::Manual)?;

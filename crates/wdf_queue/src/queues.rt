@@ -1,6 +1,6 @@
-ghost use Rattle.std.specs.Prelude.{◌≡◌, ℕ, ◌+◌, ◌<◌, ◌≤◌, IfOk, Some, if◌then◌else◌, drop, false, is_some, length, option_map, replicate, slice_get};
+ghost use Rattle.std.specs.Prelude.{◌≡◌, ℕ, ◌+◌, ◌<◌, ◌≤◌, IfOk, None, Some, if◌then◌else◌, drop, false, is_some, length, option_map, replicate, slice_get};
 ghost use Rattle.wdf_model.specs.Tables.{put};
-ghost use Rattle.wdf_model.specs.parts.Queues as parts;
+ghost use Rattle.wdf_model.specs.parts.Queues as queues;
 ghost use Rattle.wdf_model.specs.parts.Queues.{held_count, held_in, is_waiting, waiting_in};
 
 use crate::dispatch::{is_free_by, opening_dispatches};
@@ -28,11 +28,11 @@ impl Model for Queues {
 
     ghost Value = { Queues };
 
-    ghost use Rattle.wdf_queue.specs.Queues.{queues_in, IsWhole};
+    ghost use Rattle.wdf_queue.specs.Queues.{queues_in, IsSound};
 
     ghost view = { queues_in };
 
-    ghost invariant = { IsWhole };
+    ghost invariant = { IsSound };
 }
 
 impl Queues {
@@ -40,7 +40,7 @@ impl Queues {
     /// all memory that the queues need.
     pub fn make(alloc: Global, plan: &Plan) -> Result<Queues, Memory>
         requires room { length plan.now.declared < OBJECTS }
-        ensures { IfOk result (λ made. made ≡ parts.opening_queues plan.now) }
+        ensures { IfOk result (λ made. made ≡ queues.opening_queues plan.now) }
     {
         let ids = 1 + plan.declared_len();
         Ok(Queues {
@@ -52,7 +52,7 @@ impl Queues {
 
     /// The request at the front of a queue, `None` exactly where none waits there.
     pub fn front(&self, q: ObjectId) -> Option<ObjectId>
-        ensures { option_map (λ r. r.0) result ≡ parts.front self.now q.0 }
+        ensures { option_map (λ r. r.0) result ≡ queues.front self.now q.0 }
     {
         object_at(self.waiting.front(q.0))
     }
@@ -66,7 +66,7 @@ impl Queues {
 
     /// Whether no request waits in a queue.
     pub fn is_empty(&self, q: ObjectId) -> bool
-        ensures { result ≡ parts.is_empty_queue self.now q.0 }
+        ensures { result ≡ queues.is_empty_queue self.now q.0 }
     {
         self.waiting.is_empty(q.0)
     }
@@ -92,7 +92,8 @@ impl Queues {
 
     /// The request after this one in its waiting list: `None` where it is the last or doesn't wait.
     pub fn next_waiting(&self, r: ObjectId) -> Option<ObjectId>
-        ensures { (q k : ℕ) → slice_get (waiting_in self.now q) k ≡ Some r.0 → option_map (λ x. x.0) result ≡ slice_get (waiting_in self.now q) (k + 1) }
+        ensures after { (q k : ℕ) → slice_get (waiting_in self.now q) k ≡ Some r.0 → option_map (λ x. x.0) result ≡ slice_get (waiting_in self.now q) (k + 1) }
+        ensures none { is_waiting self.now r.0 ≡ false → result ≡ None }
     {
         let _queue = self.waiting.owner(r.0)?;
         object_at(self.waiting.after(r.0))
@@ -100,7 +101,7 @@ impl Queues {
 
     /// How many requests from a queue the driver holds.
     pub fn held_count(&self, q: ObjectId) -> u32
-        ensures { result ≡ parts.held_count self.now q.0 }
+        ensures { result ≡ queues.held_count self.now q.0 }
     {
         entry_at(&self.held, 0, q.0)
     }
@@ -108,7 +109,7 @@ impl Queues {
     /// Whether a queue presents one more request. (KMDF: a sequential queue one at a time, a
     /// parallel one up to its number, a manual one none of itself)
     pub fn is_free(&self, q: ObjectId) -> bool
-        ensures { result ≡ parts.is_free self.now q.0 }
+        ensures { result ≡ queues.is_free self.now q.0 }
     {
         let dispatch = entry_at(&self.dispatch, DispatchKind::Manual, q.0);
         is_free_by(dispatch, self.held_count(q))
@@ -120,7 +121,7 @@ impl Queues {
         requires there { q.0 < length self.old.dispatch }
         requires room { r.0 < OBJECTS }
         requires apart { is_waiting self.old r.0 ≡ false }
-        ensures { self.new ≡ parts.enter self.old q.0 r.0 }
+        ensures { self.new ≡ queues.enter self.old q.0 r.0 }
     {
         self.waiting.push_back(q.0, r.0);
     }
@@ -131,7 +132,7 @@ impl Queues {
         requires there { q.0 < length self.old.dispatch }
         requires room { r.0 < OBJECTS }
         requires apart { is_waiting self.old r.0 ≡ false }
-        ensures { self.new ≡ parts.requeue self.old q.0 r.0 }
+        ensures { self.new ≡ queues.requeue self.old q.0 r.0 }
     {
         self.waiting.push_front(q.0, r.0);
     }
@@ -141,8 +142,8 @@ impl Queues {
     pub fn take(&mut self, q: ObjectId) -> Option<ObjectId>
         requires there { q.0 < length self.old.dispatch }
         requires few { held_in self.old < EVENTS }
-        ensures front { option_map (λ r. r.0) result ≡ parts.front self.old q.0 }
-        ensures done { self.new ≡ (if is_some result then parts.take self.old q.0 else self.old) }
+        ensures front { option_map (λ r. r.0) result ≡ queues.front self.old q.0 }
+        ensures done { self.new ≡ (if is_some result then queues.take self.old q.0 else self.old) }
         ensures many { held_in self.new ≤ held_in self.old + 1 }
     {
         let front = self.front(q)?;
@@ -155,7 +156,7 @@ impl Queues {
     #[tactic(auto, using(wdf_model::proofs::Maps::put_within))]
     fn drop_front(&mut self, q: ObjectId)
         requires there { q.0 < length self.old.dispatch }
-        ensures rest { self.new ≡ parts.with_waiting self.old q.0 (drop 1) }
+        ensures rest { self.new ≡ queues.with_waiting self.old q.0 (drop 1) }
         ensures size { length self.new.waiting ≡ length self.old.waiting }
     {
         let _front = self.waiting.pop_front(q.0);
@@ -165,7 +166,7 @@ impl Queues {
     pub fn hold(&mut self, q: ObjectId)
         requires there { q.0 < length self.old.dispatch }
         requires few { held_in self.old < EVENTS }
-        ensures done { self.new ≡ parts.hold self.old q.0 }
+        ensures done { self.new ≡ queues.hold self.old q.0 }
         ensures many { held_in self.new ≡ held_in self.old + 1 }
     {
         let held = self.held_count(q) + 1;
@@ -175,7 +176,7 @@ impl Queues {
     /// The driver holds one request less from a queue; nothing changes where it holds none.
     pub fn let_go(&mut self, q: ObjectId)
         requires { q.0 < length self.old.dispatch }
-        ensures done { self.new ≡ parts.let_go self.old q.0 }
+        ensures done { self.new ≡ queues.let_go self.old q.0 }
         ensures many { held_in self.new ≤ held_in self.old }
     {
         let held = self.held_count(q).saturating_sub(1);
@@ -196,7 +197,7 @@ impl Queues {
     /// waits in none.
     pub fn take_cancelled(&mut self, r: ObjectId) -> bool
         ensures found { result ≡ is_waiting self.old r.0 }
-        ensures done { self.new ≡ parts.take_cancelled self.old r.0 }
+        ensures done { self.new ≡ queues.take_cancelled self.old r.0 }
     {
         self.waiting.unlink(r.0).is_some()
     }
@@ -204,7 +205,7 @@ impl Queues {
     /// Nothing waits in a queue any more.
     pub fn clear(&mut self, q: ObjectId)
         requires { q.0 < length self.old.dispatch }
-        ensures { self.new ≡ parts.clear self.old q.0 }
+        ensures { self.new ≡ queues.clear self.old q.0 }
     {
         let _ids = &self.dispatch;
         while !self.is_empty(q) {

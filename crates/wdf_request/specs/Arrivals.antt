@@ -1,5 +1,8 @@
 -- Which request each arrival made: a row for each agent, by the number of its arrival.
-use Rattle.std.specs.Prelude.{if◌then◌else◌, ℕ, suc, ◌≡◌, ◌+◌, ◌<◌, ◌==◌, nat_lt, Bool, true, false, not, ◌&&◌, ◌||◌, List, [], length, slice_set}
+use Rattle.std.specs.Prelude.{if◌then◌else◌, ℕ, suc, ◌≡◌, ◌+◌, ◌<◌, ◌==◌, nat_lt, Bool, true, false, not, ◌&&◌, ◌||◌, List, [], length, map, replicate, slice_set}
+use Rattle.std.specs.List.{range_with_len}
+use Rattle.wdf_base.specs.declared.plan.Plan.{Plan}
+use Rattle.wdf_base.specs.Plan.{posts_of}
 use Rattle.wdf_model.specs.declared.entries.Request.{Request}
 use Rattle.wdf_model.specs.Tables.{entry}
 use Rattle.wdf_model.specs.parts.Requests.{no_request}
@@ -9,6 +12,16 @@ pub record Noted : Type 0 where
   pub rows : List (List ℕ)
   -- two requests had one number of one agent: the rows say nothing then
   pub twice : Bool
+
+-- No request arrived: each agent has a row with a place for each number of an arrival, up to that of its last line.
+abbrev pub opening_row : Plan → ℕ → List ℕ
+opening_row plan agent = replicate (length (posts_of plan agent) + 1) 0
+
+unfoldable pub opening_rows : Plan → ℕ → List (List ℕ)
+opening_rows plan count = map (opening_row plan) (range_with_len 0 count)
+
+abbrev pub opening_arrivals : Plan → Noted
+opening_arrivals plan = record { rows = opening_rows plan (1 + length plan.agents); twice = false }
 
 abbrev pub row_of : List (List ℕ) → ℕ → List ℕ
 row_of rows agent = entry [] rows agent

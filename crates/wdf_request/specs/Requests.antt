@@ -14,7 +14,7 @@ abbrev pub requests_in : Inside → Requests
 requests_in s = record { all = s.all.items; arrived = s.arrived }
 
 -- Every object may be a request. The counts, the sets and the rows are those of the requests.
-pub record IsKept (s : Inside) : Type 0 where
+pub record IsSound (s : Inside) : Type 0 where
   pub entries : length s.all.items ≤ OBJECTS
   pub room : OBJECTS ≤ vec_capacity s.all
   pub returning : AreCounted (λ (r : Request). returning_queue r.place) s.all.items s.returning

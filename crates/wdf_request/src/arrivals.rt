@@ -1,6 +1,6 @@
 ghost use Rattle.std.specs.Prelude.{◌≡◌, ◌+◌, ◌<◌, ◌^◌, IfOk, false, length, replicate, slice_index_or, slice_set};
 ghost use Rattle.wdf_model.specs.Tables.{entry};
-ghost use Rattle.wdf_request.specs.Arrivals.{has_slot as has_slot_for, is_sure as is_sure_of, noted, slot as slot_for};
+ghost use Rattle.wdf_request.specs.Arrivals.{has_slot as has_slot_for, is_sure as is_sure_of, noted, opening_arrivals, slot as slot_for};
 
 use std::alloc::Global;
 use std::marker::Model;
@@ -55,6 +55,20 @@ impl Row {
     }
 }
 
+/// The rows of the agents, with no arrival.
+fn empty_rows(alloc: Global, plan: &Plan) -> Result<Vec<Row>, Memory>
+    ensures { IfOk result (λ rows. rows.items ≡ (opening_arrivals plan.now).rows) }
+{
+    let mut rows = Vec::with_capacity(alloc, plan.agent_len() as usize)?;
+    for agent in 0..plan.agent_len() {
+        match Row::make(alloc, plan.post_len(agent)) {
+            Ok(row) => rows.push_reserved(row),
+            Err(memory) => return Err(memory),
+        }
+    }
+    Ok(rows)
+}
+
 /// Which request each arrival made, by the agent and the number of its arrival.
 #[derive(Debug, Drop)]
 pub(crate) struct Arrivals {
@@ -73,13 +87,14 @@ impl Model for Arrivals {
 }
 
 impl Arrivals {
-    /// A place for each post that the lines of an agent give.
-    pub(crate) fn make(alloc: Global, plan: &Plan) -> Result<Arrivals, Memory> {
-        let mut rows = Vec::with_capacity(alloc, plan.agent_len() as usize)?;
-        for agent in 0..plan.agent_len() {
-            rows.push(Row::make(alloc, plan.post_len(agent))?)?;
-        }
-        Ok(Arrivals { rows, twice: false })
+    /// A place for each number of an arrival, up to that of the last line of its agent; nothing arrived.
+    pub(crate) fn make(alloc: Global, plan: &Plan) -> Result<Arrivals, Memory>
+        ensures { IfOk result (λ made. made ≡ opening_arrivals plan.now) }
+    {
+        Ok(Arrivals {
+            rows: empty_rows(alloc, plan)?,
+            twice: false,
+        })
     }
 
     /// Whether there is a place for an arrival.

@@ -1,7 +1,7 @@
 //! What an act changes of one request.
 
 ghost use Rattle.std.specs.Prelude.{◌≡◌};
-ghost use Rattle.wdf_model.specs.parts.Requests as parts;
+ghost use Rattle.wdf_model.specs.parts.Requests as requests;
 
 use wdf_base::{Mark, ObjectId, Place, RequestForm, RequestInfo, Status};
 use wdf_model::Request;
@@ -26,7 +26,7 @@ pub(crate) const NO_REQUEST: Request = Request {
 /// The mark of a request that comes to a place: none again where it enters a queue, leaves one or
 /// is sent. (KMDF)
 fn mark_at(place: Place, mark: Mark) -> Mark
-    ensures { result ≡ parts.mark_at place mark }
+    ensures { result ≡ requests.mark_at place mark }
 {
     match place {
         Place::Owned | Place::Done => mark,
@@ -38,7 +38,7 @@ fn mark_at(place: Place, mark: Mark) -> Mark
 
 /// The origin of a request that moves: the queue from which it becomes Owned, if it does. (KMDF)
 fn origin_from(from: Place, to: Place, origin: Option<ObjectId>) -> Option<ObjectId>
-    ensures { result ≡ parts.origin_from from to origin }
+    ensures { result ≡ requests.origin_from from to origin }
 {
     match (from, to) {
         (Place::Queued(q) | Place::Returning(q), Place::Owned) => Some(q),
@@ -48,7 +48,7 @@ fn origin_from(from: Place, to: Place, origin: Option<ObjectId>) -> Option<Objec
 
 /// The request at another place.
 pub(crate) fn moved(place: Place, request: Request) -> Request
-    ensures { result ≡ parts.moved place request }
+    ensures { result ≡ requests.moved place request }
 {
     let info = request.info;
     Request {
@@ -64,7 +64,7 @@ pub(crate) fn moved(place: Place, request: Request) -> Request
 
 /// The request with another mark.
 pub(crate) fn with_mark(mark: Mark, request: Request) -> Request
-    ensures { result ≡ parts.with_mark mark request }
+    ensures { result ≡ requests.with_mark mark request }
 {
     Request {
         info: RequestInfo {
@@ -77,7 +77,7 @@ pub(crate) fn with_mark(mark: Mark, request: Request) -> Request
 
 /// The request made cancelable, unless it is cancelled. (KMDF)
 pub(crate) fn marked(request: Request) -> Request
-    ensures { result ≡ parts.marked request }
+    ensures { result ≡ requests.marked request }
 {
     if request.info.cancelled {
         request
@@ -88,7 +88,7 @@ pub(crate) fn marked(request: Request) -> Request
 
 /// The request made not cancelable, if EvtRequestCancel isn't due for it. (KMDF)
 pub(crate) fn unmarked(request: Request) -> Request
-    ensures { result ≡ parts.unmarked request }
+    ensures { result ≡ requests.unmarked request }
 {
     if matches!(request.info.mark, Mark::Marked) {
         with_mark(Mark::Unmarked, request)
@@ -99,7 +99,7 @@ pub(crate) fn unmarked(request: Request) -> Request
 
 /// What WdfRequestUnmarkCancelable answers at a mark. (KMDF)
 pub(crate) fn answer_of_mark(mark: Mark) -> Status
-    ensures { result ≡ parts.answer_of_mark mark }
+    ensures { result ≡ requests.answer_of_mark mark }
 {
     match mark {
         Mark::Marked => Status::Success,
@@ -110,7 +110,7 @@ pub(crate) fn answer_of_mark(mark: Mark) -> Status
 
 /// The mark of a request that is cancelled: EvtRequestCancel is due where it was cancelable. (KMDF)
 fn mark_cancelled(mark: Mark) -> Mark
-    ensures { result ≡ parts.mark_cancelled mark }
+    ensures { result ≡ requests.mark_cancelled mark }
 {
     match mark {
         Mark::Marked => Mark::Due,
@@ -120,7 +120,7 @@ fn mark_cancelled(mark: Mark) -> Mark
 
 /// The request cancelled.
 pub(crate) fn cancelled(request: Request) -> Request
-    ensures { result ≡ parts.cancelled request }
+    ensures { result ≡ requests.cancelled request }
 {
     Request {
         info: RequestInfo {
@@ -135,7 +135,7 @@ pub(crate) fn cancelled(request: Request) -> Request
 /// Whether the framework is done with a request: it is completed, or the driver made it and gave it
 /// to nobody.
 fn is_over(request: Request) -> bool
-    ensures { result ≡ parts.is_over request }
+    ensures { result ≡ requests.is_over request }
 {
     match request.place {
         Place::Done => true,
@@ -146,7 +146,7 @@ fn is_over(request: Request) -> bool
 
 /// What is kept of a request whose object is gone: nothing, where the framework is done with it.
 pub(crate) fn forgotten(request: Request) -> Request
-    ensures { result ≡ parts.forgotten request }
+    ensures { result ≡ requests.forgotten request }
 {
     if is_over(request) {
         NO_REQUEST

@@ -2,7 +2,7 @@
 
 ghost use Rattle.std.specs.Prelude.{◌≡◌};
 ghost use Rattle.wdf_model.specs.Tables.{flag};
-ghost use Rattle.wdf_model.specs.parts.Requests as parts;
+ghost use Rattle.wdf_model.specs.parts.Requests as requests;
 ghost use Rattle.wdf_model.specs.rules.Ready.{is_open_request};
 ghost use Rattle.wdf_request.specs.Keys as keys;
 
@@ -55,14 +55,14 @@ pub(crate) fn open_flag(request: Request) -> u32
 
 /// Whether the framework will complete a request at this place.
 pub(crate) fn is_closing(place: Place) -> bool
-    ensures { result ≡ parts.is_closing place }
+    ensures { result ≡ requests.is_closing place }
 {
     matches!(place, Place::Closing(_))
 }
 
 /// Whether EvtRequestCancel is due for a request with this mark.
 pub(crate) fn is_due(mark: Mark) -> bool
-    ensures { result ≡ parts.is_due mark }
+    ensures { result ≡ requests.is_due mark }
 {
     matches!(mark, Mark::Due)
 }

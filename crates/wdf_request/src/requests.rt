@@ -1,7 +1,7 @@
 ghost use Rattle.std.specs.Prelude.{◌≡◌, ◌<◌, ◌≤◌, ◌==◌, IfOk, find, length, max, nat_le, option_map, slice_get};
 ghost use Rattle.std.specs.List.{list_any};
 ghost use Rattle.wdf_model.specs.Tables.{put};
-ghost use Rattle.wdf_model.specs.parts.Requests as parts;
+ghost use Rattle.wdf_model.specs.parts.Requests as requests;
 ghost use Rattle.wdf_model.specs.parts.Requests.{is_returning_to, is_sent_to, no_request};
 ghost use Rattle.wdf_model.specs.rules.Ready.{is_open_request};
 ghost use Rattle.wdf_model.specs.rules.Starts.{is_unfinished_at};
@@ -52,17 +52,17 @@ impl Model for Requests {
 
     ghost Value = { Requests };
 
-    ghost use Rattle.wdf_request.specs.Requests.{requests_in, IsKept};
+    ghost use Rattle.wdf_request.specs.Requests.{requests_in, IsSound};
 
     ghost view = { requests_in };
 
-    ghost invariant = { IsKept };
+    ghost invariant = { IsSound };
 }
 
 impl Requests {
     /// No request yet. It takes all memory that the requests of the plan's run need.
     pub fn make(alloc: Global, plan: &Plan) -> Result<Requests, Memory>
-        ensures { IfOk result (λ made. made ≡ parts.no_requests) }
+        ensures { IfOk result (λ made. made ≡ requests.no_requests) }
     {
         Ok(Requests {
             all: Vec::with_capacity(alloc, OBJECTS as usize)?,
@@ -100,28 +100,28 @@ impl Requests {
 
     /// What is kept of a request, its place among it.
     pub fn request(&self, r: ObjectId) -> Request
-        ensures { result ≡ parts.request_of self.now r.0 }
+        ensures { result ≡ requests.request_of self.now r.0 }
     {
         entry_at(&self.all, NO_REQUEST, r.0)
     }
 
     /// Where a request is: Done for what is none.
     pub fn place(&self, r: ObjectId) -> Place
-        ensures { result ≡ parts.place_of self.now r.0 }
+        ensures { result ≡ requests.place_of self.now r.0 }
     {
         self.request(r).place
     }
 
     /// What is kept of a request beside its place.
     pub fn info(&self, r: ObjectId) -> RequestInfo
-        ensures { result ≡ parts.info_of self.now r.0 }
+        ensures { result ≡ requests.info_of self.now r.0 }
     {
         self.request(r).info
     }
 
     /// Whether a request is that of an agent's arrival with this number, from 1.
     fn is_arrival(&self, agent: u16, k: u32, r: ObjectId) -> bool
-        ensures { result ≡ parts.is_arrival self.now agent k r.0 }
+        ensures { result ≡ requests.is_arrival self.now agent k r.0 }
     {
         let info = self.info(r);
         k > 0 && info.agent == agent && info.arrival == k
@@ -130,7 +130,7 @@ impl Requests {
     /// The request of an agent's arrival with this number, from 1, if that made one. Only where an
     /// agent had more arrivals than its lines give, or one number twice, it goes over the requests.
     pub fn arrival_of(&self, agent: u16, k: u32) -> Option<ObjectId>
-        ensures { option_map (λ r. r.0) result ≡ parts.arrival_of self.now agent k }
+        ensures { option_map (λ r. r.0) result ≡ requests.arrival_of self.now agent k }
     {
         if !self.arrivals.is_sure(agent, k) {
             return self.find_arrival(agent, k);
@@ -149,7 +149,7 @@ impl Requests {
 
     /// The same, over all requests.
     fn find_arrival(&self, agent: u16, k: u32) -> Option<ObjectId>
-        ensures { option_map (λ r. r.0) result ≡ parts.arrival_of self.now agent k }
+        ensures { option_map (λ r. r.0) result ≡ requests.arrival_of self.now agent k }
     {
         for id in 0..self.len() {
             if self.is_arrival(agent, k, ObjectId(id)) {
@@ -263,7 +263,7 @@ impl Requests {
     pub fn arrive(&mut self, r: ObjectId, place: Place, info: RequestInfo)
         requires room { r.0 < OBJECTS }
         requires few { self.old.arrived < EVENTS }
-        ensures done { self.new ≡ parts.arrive self.old r.0 place info }
+        ensures done { self.new ≡ requests.arrive self.old r.0 place info }
         ensures there { r.0 < length self.new.all }
         ensures longer { length self.old.all ≤ length self.new.all }
     {
@@ -277,7 +277,7 @@ impl Requests {
     /// or is sent; where it becomes Owned from a queue, that is its origin. (KMDF)
     pub fn move_to(&mut self, r: ObjectId, place: Place)
         requires there { r.0 < length self.old.all }
-        ensures done { self.new ≡ parts.move_to self.old r.0 place }
+        ensures done { self.new ≡ requests.move_to self.old r.0 place }
         ensures size { length self.new.all ≡ length self.old.all }
     {
         self.write(r, moved(place, self.request(r)));
@@ -286,7 +286,7 @@ impl Requests {
     /// A request is completed.
     pub fn complete(&mut self, r: ObjectId)
         requires there { r.0 < length self.old.all }
-        ensures done { self.new ≡ parts.complete self.old r.0 }
+        ensures done { self.new ≡ requests.complete self.old r.0 }
         ensures size { length self.new.all ≡ length self.old.all }
     {
         self.move_to(r, Place::Done);
@@ -296,8 +296,8 @@ impl Requests {
     /// cancelled. (KMDF: WdfRequestMarkCancelableEx)
     pub fn mark(&mut self, r: ObjectId) -> Status
         requires there { r.0 < length self.old.all }
-        ensures answer { result ≡ parts.mark_answer self.old r.0 }
-        ensures done { self.new ≡ parts.mark self.old r.0 }
+        ensures answer { result ≡ requests.mark_answer self.old r.0 }
+        ensures done { self.new ≡ requests.mark self.old r.0 }
         ensures size { length self.new.all ≡ length self.old.all }
     {
         let request = self.request(r);
@@ -314,8 +314,8 @@ impl Requests {
     /// WdfRequestUnmarkCancelable)
     pub fn unmark(&mut self, r: ObjectId) -> Status
         requires there { r.0 < length self.old.all }
-        ensures answer { result ≡ parts.unmark_answer self.old r.0 }
-        ensures done { self.new ≡ parts.unmark self.old r.0 }
+        ensures answer { result ≡ requests.unmark_answer self.old r.0 }
+        ensures done { self.new ≡ requests.unmark self.old r.0 }
         ensures size { length self.new.all ≡ length self.old.all }
     {
         let request = self.request(r);
@@ -326,7 +326,7 @@ impl Requests {
     /// A request is cancelled; EvtRequestCancel is due where it was cancelable. (KMDF)
     pub fn cancel(&mut self, r: ObjectId)
         requires there { r.0 < length self.old.all }
-        ensures done { self.new ≡ parts.cancel self.old r.0 }
+        ensures done { self.new ≡ requests.cancel self.old r.0 }
         ensures size { length self.new.all ≡ length self.old.all }
     {
         self.write(r, cancelled(self.request(r)));
@@ -335,7 +335,7 @@ impl Requests {
     /// EvtRequestCancel starts for a request.
     pub fn take_cancel(&mut self, r: ObjectId)
         requires there { r.0 < length self.old.all }
-        ensures done { self.new ≡ parts.take_cancel self.old r.0 }
+        ensures done { self.new ≡ requests.take_cancel self.old r.0 }
         ensures size { length self.new.all ≡ length self.old.all }
     {
         self.write(r, with_mark(Mark::Taken, self.request(r)));
@@ -344,7 +344,7 @@ impl Requests {
     /// The object of a request is gone: nothing is kept of it, where the framework is done with it.
     #[tactic(auto, using(wdf_model::proofs::Maps::put_within))]
     pub fn forget(&mut self, r: ObjectId)
-        ensures done { self.new ≡ parts.forget self.old r.0 }
+        ensures done { self.new ≡ requests.forget self.old r.0 }
         ensures size { length self.new.all ≡ length self.old.all }
     {
         if r.0 < self.len() {

@@ -11,6 +11,15 @@ pub trait Entry: Copy {
         ensures { result ≡ id self.now };
 }
 
+/// A bare number is its own id.
+impl Entry for u32 {
+    ghost id = { λ n. n };
+
+    fn id(&self) -> u32 {
+        *self
+    }
+}
+
 impl Entry for Timed {
     ghost id = { λ t. t.timer.0 };
 

@@ -76,6 +76,16 @@ impl<T: Entry> Rising<T> {
         }
     }
 
+    /// Whether there is an entry with a number as its id.
+    pub fn has_number(&self, number: u32) -> bool
+        ensures { result ≡ is_some (entry_of T.id self.now.entries number) }
+    {
+        match place_in(self.entries.as_slice(), number) {
+            Ok(_) => true,
+            Err(_) => false,
+        }
+    }
+
     /// Puts an entry in its place, or in place of that with its id, which needs no room. The answer
     /// says whether there was one.
     pub fn put(&mut self, entry: T) -> bool
@@ -103,7 +113,16 @@ impl<T: Entry> Rising<T> {
         ensures room { self.new.room ≡ self.old.room }
         ensures entries { self.new.entries ≡ others T.id id.0 self.old.entries }
     {
-        match place_in(self.entries.as_slice(), id.0) {
+        self.remove_number(id.0)
+    }
+
+    /// Takes the entry out that has a number as its id. The answer says whether there was one.
+    pub fn remove_number(&mut self, number: u32) -> bool
+        ensures answer { result ≡ is_some (entry_of T.id self.old.entries number) }
+        ensures room { self.new.room ≡ self.old.room }
+        ensures entries { self.new.entries ≡ others T.id number self.old.entries }
+    {
+        match place_in(self.entries.as_slice(), number) {
             Ok(at) => {
                 self.entries.remove(at);
                 true

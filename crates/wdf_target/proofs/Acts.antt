@@ -1,17 +1,16 @@
 -- What the acts on the targets leave, of the targets and of what is kept by request.
-use Rattle.std.proofs.Common.{if◌then◌else◌, ◌≡◌, ◌≢◌, ℕ, zero, suc, ◌<◌, Bool, true, false, not, nat_lt, ◌&&◌, List, [], ◌∷◌, length, slice_set, slice_index_or, get_or-set_same, ltb-true, ltb-false, Option, Some, None, is_some, refl, sym, ap, ◌∙◌, subst, arith}
-use Rattle.std.specs.Option.{option_map}
+use Rattle.std.proofs.Common.{◌≡◌, ◌≢◌, ℕ, zero, suc, ◌<◌, Bool, true, false, not, nat_lt, ◌&&◌, List, [], ◌∷◌, length, slice_set, slice_index_or, get_or-set_same, ltb-true, ltb-false, Option, Some, None, is_some, refl, sym, ap, ◌∙◌, subst, arith}
+use Rattle.std.specs.Bool.{then_some}
+use Rattle.wdf_base.specs.declared.ids.ObjectId.{ObjectId}
 use Rattle.wdf_base.specs.declared.value.Status.{Status}
 use Rattle.wdf_model.specs.Tables.{entry, put}
 use Rattle.wdf_model.specs.parts.Targets.{Target, Targets, no_target, takes_more, sending_of, new_sending, sending_in_order, without_sending, target_done, with_target, back, done}
 use Rattle.wdf_model.proofs.Maps.{entry_past, entry_blanked, entry_set_other, entry_put_same, entry_put_other, put_within}
 use Rattle.wdf_rising.specs.Places.{entry_of}
 use Rattle.wdf_rising.proofs.EntriesById.{entry_added, entry_beside, entry_left, entry_removed}
-use Rattle.wdf_target.specs.declared.targets.Sent.{Sent}
-use Rattle.wdf_target.specs.Left.{left}
-use Rattle.wdf_target.specs.Target.{request_id, finished}
-use Rattle.wdf_target.specs.Targets.{sent_to, IsKept}
-use Rattle.wdf_target.proofs.Kept.{sent_there, sent_elsewhere, its_target, other_target, no_target_has, target_within, found_kept, none_changes, one_changes, Moves}
+use Rattle.wdf_target.specs.Target.{request_id}
+use Rattle.wdf_target.specs.Targets.{is_with, IsKept}
+use Rattle.wdf_target.proofs.Kept.{with_itself, with_other, its_target, other_target, no_target_has, target_within, found_there, none_changes, one_changes, Moves}
 use Rattle.wdf_target.proofs.Sendings.{done_absent, done_others, without_absent}
 
 -- an item as it is read
@@ -20,105 +19,105 @@ read_as [] q x l e = absurd (omega arith)
 read_as (y ∷ ts) zero x l e = sym e
 read_as (y ∷ ts) (suc q) x l e = read_as ts q x (omega arith) e
 
-some_within_by : (rs : List (Option Sent)) (r : ℕ) (s : Sent) (b : Bool) → nat_lt r (length rs) ≡ b → entry None rs r ≡ Some s → r < length rs
-some_within_by rs r s true l e = ltb-true r (length rs) l
-some_within_by rs r s false l e =
-    let past : entry None rs r ≡ None = entry_past None rs r (omega (arith, ltb-false r (length rs) l)) in
+some_within_by : (hs : List (Option ObjectId)) (r : ℕ) (q : ObjectId) (b : Bool) → nat_lt r (length hs) ≡ b → entry None hs r ≡ Some q → r < length hs
+some_within_by hs r q true l e = ltb-true r (length hs) l
+some_within_by hs r q false l e =
+    let past : entry None hs r ≡ None = entry_past None hs r (omega (arith, ltb-false r (length hs) l)) in
     absurd (let z : ⊥ = cc in z)
 
-some_within : (rs : List (Option Sent)) (r : ℕ) (s : Sent) → entry None rs r ≡ Some s → r < length rs
-some_within rs r s e = some_within_by rs r s (nat_lt r (length rs)) refl e
+pub some_within : (hs : List (Option ObjectId)) (r : ℕ) (q : ObjectId) → entry None hs r ≡ Some q → r < length hs
+some_within hs r q e = some_within_by hs r q (nat_lt r (length hs)) refl e
 
 -- ---- the completion routine starts
 
-pub back_none : (T : Targets) (ts : List Target) (rs : List (Option Sent)) (r : ℕ) → record { targets = ts } ≡ T → IsKept ts rs → entry None rs r ≡ None → T ≡ back T r
-back_none T ts rs r e k none =
+pub back_none : (T : Targets) (ts : List Target) (hs : List (Option ObjectId)) (r : ℕ) → record { targets = ts } ≡ T → IsKept ts hs → entry None hs r ≡ None → T ≡ back T r
+back_none T ts hs r e k none =
     let P : Targets → Type 0 = λ U. U ≡ back U r in
     let Q : List Target → Targets = λ us. record { targets = us } in
-    subst P e (ap Q (sym (none_changes (without_sending r) ts (λ t. without_absent r (entry no_target ts t) (no_target_has ts rs r t k none)))))
+    subst P e (ap Q (sym (none_changes (without_sending r) ts (λ t. without_absent r (entry no_target ts t) (no_target_has ts hs r t k none)))))
 
-pub back_moves : (ts : List Target) (rs : List (Option Sent)) (r : ℕ) (s : Sent) (new : Target) → IsKept ts rs → entry None rs r ≡ Some s → new ≡ without_sending r (entry no_target ts s.target.0)
-    → Moves ts rs (slice_set rs r None) s.target.0 r new None
-back_moves ts rs r s new k there is = record {
-  within = target_within ts rs r s k there;
-  here = entry_blanked None rs r;
-  others_kept = λ other ne. entry_set_other None rs r other None ne;
-  was_there = λ t ne. ap (sent_to t) there ∙ sent_elsewhere t s ne;
+pub back_moves : (ts : List Target) (hs : List (Option ObjectId)) (r : ℕ) (q : ObjectId) (new : Target) → IsKept ts hs → entry None hs r ≡ Some q → new ≡ without_sending r (entry no_target ts q.0)
+    → Moves ts hs (slice_set hs r None) q.0 r new None
+back_moves ts hs r q new k there is = record {
+  within = target_within ts hs r q k there;
+  here = entry_blanked None hs r;
+  others_kept = λ other ne. entry_set_other None hs r other None ne;
+  was_there = λ t ne. ap (is_with t) there ∙ with_other t q ne;
   is_there = λ t ne. refl;
-  new_here = ap (λ x. entry_of request_id x.sent r) is ∙ entry_removed request_id r (entry no_target ts s.target.0).sent;
-  new_others = λ other ne. ap (λ x. entry_of request_id x.sent other) is ∙ entry_left request_id r other (entry no_target ts s.target.0).sent ne;
+  new_here = ap (λ x. is_some (entry_of request_id x.sent r)) is ∙ ap is_some (entry_removed request_id r (entry no_target ts q.0).sent);
+  new_others = λ other ne. ap (λ x. entry_of request_id x.sent other) is ∙ entry_left request_id r other (entry no_target ts q.0).sent ne;
 }
 
-pub back_done : (T : Targets) (ts : List Target) (rs : List (Option Sent)) (r : ℕ) (s : Sent) (new : Target) → record { targets = ts } ≡ T → IsKept ts rs → entry None rs r ≡ Some s
-    → new ≡ without_sending r (entry no_target ts s.target.0) → record { targets = slice_set ts s.target.0 new } ≡ back T r
-back_done T ts rs r s new e k there is =
-    let P : Targets → Type 0 = λ U. record { targets = slice_set ts s.target.0 new } ≡ back U r in
+pub back_done : (T : Targets) (ts : List Target) (hs : List (Option ObjectId)) (r : ℕ) (q : ObjectId) (new : Target) → record { targets = ts } ≡ T → IsKept ts hs → entry None hs r ≡ Some q
+    → new ≡ without_sending r (entry no_target ts q.0) → record { targets = slice_set ts q.0 new } ≡ back T r
+back_done T ts hs r q new e k there is =
+    let P : Targets → Type 0 = λ U. record { targets = slice_set ts q.0 new } ≡ back U r in
     let Q : List Target → Targets = λ us. record { targets = us } in
-    let all = one_changes (without_sending r) ts s.target.0 (λ t ne. without_absent r (entry no_target ts t) (other_target ts rs r s t k there ne)) in
-    subst P e (ap Q (ap (slice_set ts s.target.0) is ∙ sym all))
+    let all = one_changes (without_sending r) ts q.0 (λ t ne. without_absent r (entry no_target ts t) (other_target ts hs r q t k there ne)) in
+    subst P e (ap Q (ap (slice_set ts q.0) is ∙ sym all))
 
 -- ---- the target is done with a request
 
-left_elsewhere_by : (status : Status) (s : Sent) (t : ℕ) (b : Bool) → t ≢ s.target.0 → sent_to t (if b then None else Some (record s { sending = record s.sending { outcome = Some status } })) ≡ None
-left_elsewhere_by status s t true ne = refl
-left_elsewhere_by status s t false ne = sent_elsewhere t (record s { sending = record s.sending { outcome = Some status } }) ne
-
-left_there_by : (status : Status) (s : Sent) (b : Bool) → (if b then None else Some (record s.sending { outcome = Some status })) ≡ sent_to s.target.0 (if b then None else Some (record s { sending = record s.sending { outcome = Some status } }))
-left_there_by status s true = refl
-left_there_by status s false = sym (sent_there (record s { sending = record s.sending { outcome = Some status } }))
-
-pub done_none : (T : Targets) (ts : List Target) (rs : List (Option Sent)) (r : ℕ) (status : Status) → record { targets = ts } ≡ T → IsKept ts rs → entry None rs r ≡ None → T ≡ done T r status
-done_none T ts rs r status e k none =
+pub done_none : (T : Targets) (ts : List Target) (hs : List (Option ObjectId)) (r : ℕ) (status : Status) → record { targets = ts } ≡ T → IsKept ts hs → entry None hs r ≡ None → T ≡ done T r status
+done_none T ts hs r status e k none =
     let P : Targets → Type 0 = λ U. U ≡ done U r status in
     let Q : List Target → Targets = λ us. record { targets = us } in
-    subst P e (ap Q (sym (none_changes (target_done r status) ts (λ t. done_absent r status (entry no_target ts t) (no_target_has ts rs r t k none)))))
+    subst P e (ap Q (sym (none_changes (target_done r status) ts (λ t. done_absent r status (entry no_target ts t) (no_target_has ts hs r t k none)))))
 
-pub done_moves : (ts : List Target) (rs : List (Option Sent)) (r : ℕ) (status : Status) (s : Sent) (new : Target) (after : Option Sent) → IsKept ts rs → entry None rs r ≡ Some s
-    → new ≡ target_done r status (entry no_target ts s.target.0) → entry_of request_id new.sent r ≡ finished status (entry_of request_id (entry no_target ts s.target.0).sent r) → after ≡ left status s
-    → Moves ts rs (slice_set rs r after) s.target.0 r new after
-done_moves ts rs r status s new after k there is it after_is = record {
-  within = target_within ts rs r s k there;
-  here = get_or-set_same rs r after None (some_within rs r s there);
-  others_kept = λ other ne. entry_set_other None rs r other after ne;
-  was_there = λ t ne. ap (sent_to t) there ∙ sent_elsewhere t s ne;
-  is_there = λ t ne. ap (sent_to t) after_is ∙ left_elsewhere_by status s t s.sending.forgotten ne;
-  new_here = (it ∙ ap (finished status) (its_target ts rs r s k there)) ∙ (left_there_by status s s.sending.forgotten ∙ ap (sent_to s.target.0) (sym after_is));
-  new_others = λ other ne. ap (λ x. entry_of request_id x.sent other) is ∙ done_others r status other (entry no_target ts s.target.0).sent ne;
+-- what is kept of it: its target, where that still has it
+kept_there : (q : ObjectId) (keeps : Bool) → keeps ≡ is_with q.0 (then_some keeps q)
+kept_there q true = sym (with_itself q)
+kept_there q false = refl
+
+kept_elsewhere : (q : ObjectId) (keeps : Bool) (t : ℕ) → t ≢ q.0 → is_with t (then_some keeps q) ≡ false
+kept_elsewhere q true t ne = with_other t q ne
+kept_elsewhere q false t ne = refl
+
+pub done_moves : (ts : List Target) (hs : List (Option ObjectId)) (r : ℕ) (status : Status) (q : ObjectId) (new : Target) (keeps : Bool) → IsKept ts hs → entry None hs r ≡ Some q
+    → new ≡ target_done r status (entry no_target ts q.0) → is_some (entry_of request_id new.sent r) ≡ keeps
+    → Moves ts hs (slice_set hs r (then_some keeps q)) q.0 r new (then_some keeps q)
+done_moves ts hs r status q new keeps k there is it = record {
+  within = target_within ts hs r q k there;
+  here = get_or-set_same hs r (then_some keeps q) None (some_within hs r q there);
+  others_kept = λ other ne. entry_set_other None hs r other (then_some keeps q) ne;
+  was_there = λ t ne. ap (is_with t) there ∙ with_other t q ne;
+  is_there = λ t ne. kept_elsewhere q keeps t ne;
+  new_here = it ∙ kept_there q keeps;
+  new_others = λ other ne. ap (λ x. entry_of request_id x.sent other) is ∙ done_others r status other (entry no_target ts q.0).sent ne;
 }
 
-pub done_done : (T : Targets) (ts : List Target) (rs : List (Option Sent)) (r : ℕ) (status : Status) (s : Sent) (new : Target) → record { targets = ts } ≡ T → IsKept ts rs → entry None rs r ≡ Some s
-    → new ≡ target_done r status (entry no_target ts s.target.0) → record { targets = slice_set ts s.target.0 new } ≡ done T r status
-done_done T ts rs r status s new e k there is =
-    let P : Targets → Type 0 = λ U. record { targets = slice_set ts s.target.0 new } ≡ done U r status in
+pub done_done : (T : Targets) (ts : List Target) (hs : List (Option ObjectId)) (r : ℕ) (status : Status) (q : ObjectId) (new : Target) → record { targets = ts } ≡ T → IsKept ts hs → entry None hs r ≡ Some q
+    → new ≡ target_done r status (entry no_target ts q.0) → record { targets = slice_set ts q.0 new } ≡ done T r status
+done_done T ts hs r status q new e k there is =
+    let P : Targets → Type 0 = λ U. record { targets = slice_set ts q.0 new } ≡ done U r status in
     let Q : List Target → Targets = λ us. record { targets = us } in
-    let all = one_changes (target_done r status) ts s.target.0 (λ t ne. done_absent r status (entry no_target ts t) (other_target ts rs r s t k there ne)) in
-    subst P e (ap Q (ap (slice_set ts s.target.0) is ∙ sym all))
+    let all = one_changes (target_done r status) ts q.0 (λ t ne. done_absent r status (entry no_target ts t) (other_target ts hs r q t k there ne)) in
+    subst P e (ap Q (ap (slice_set ts q.0) is ∙ sym all))
 
 -- ---- a request is sent
 
-nothing_kept_by : (e : Option Sent) → is_some (option_map (λ s. s.sending) e) ≡ false → e ≡ None
-nothing_kept_by None h = refl
-nothing_kept_by (Some s) h = absurd (let z : ⊥ = cc in z)
+nothing_kept_by : (T : Targets) (ts : List Target) (hs : List (Option ObjectId)) (r : ℕ) (e : Option ObjectId) → entry None hs r ≡ e → record { targets = ts } ≡ T → IsKept ts hs
+    → is_some (sending_of T r) ≡ false → e ≡ None
+nothing_kept_by T ts hs r None h same k free = refl
+nothing_kept_by T ts hs r (Some q) h same k free =
+    let there : is_some (sending_of T r) ≡ true = ap (λ U. is_some (sending_of U r)) (sym same) ∙ (ap is_some (found_there ts hs r q k h) ∙ its_target ts hs r q k h) in
+    absurd (let z : ⊥ = cc in z)
 
-pub nothing_kept : (T : Targets) (ts : List Target) (rs : List (Option Sent)) (r : ℕ) → record { targets = ts } ≡ T → IsKept ts rs → is_some (sending_of T r) ≡ false → entry None rs r ≡ None
-nothing_kept T ts rs r e k free =
-    nothing_kept_by (entry None rs r) (ap is_some (sym (found_kept ts rs r (entry None rs r) k refl)) ∙ (ap (λ U. is_some (sending_of U r)) e ∙ free))
+pub nothing_kept : (T : Targets) (ts : List Target) (hs : List (Option ObjectId)) (r : ℕ) → record { targets = ts } ≡ T → IsKept ts hs → is_some (sending_of T r) ≡ false → entry None hs r ≡ None
+nothing_kept T ts hs r e k free = nothing_kept_by T ts hs r (entry None hs r) refl e k free
 
-pub send_moves : (ts : List Target) (rs : List (Option Sent)) (t r : ℕ) (forget : Bool) (new : Target) (after : Sent) → IsKept ts rs → t < length ts → entry None rs r ≡ None
-    → new ≡ record (entry no_target ts t) { sent = sending_in_order (new_sending r forget) (entry no_target ts t).sent } → after.target.0 ≡ t → after.sending ≡ new_sending r forget
-    → Moves ts rs (put None rs r (Some after)) t r new (Some after)
-send_moves ts rs t r forget new after k within none is to what =
-    let P : ℕ → Type 0 = λ n. sent_to n (Some after) ≡ Some after.sending in
-    let there : sent_to t (Some after) ≡ Some after.sending = subst P to (sent_there after) in
-    record {
-      within = within;
-      here = entry_put_same None rs r (Some after);
-      others_kept = λ other ne. entry_put_other None rs r other (Some after) ne;
-      was_there = λ u ne. ap (sent_to u) none;
-      is_there = λ u ne. sent_elsewhere u after (λ same. ne (same ∙ to));
-      new_here = ap (λ x. entry_of request_id x.sent r) is ∙ (entry_added request_id (new_sending r forget) (entry no_target ts t).sent (no_target_has ts rs r t k none) ∙ (ap Some (sym what) ∙ sym there));
-      new_others = λ other ne. ap (λ x. entry_of request_id x.sent other) is ∙ entry_beside request_id (new_sending r forget) other (entry no_target ts t).sent ne;
-    }
+pub send_moves : (ts : List Target) (hs : List (Option ObjectId)) (t : ObjectId) (r : ℕ) (forget : Bool) (new : Target) → IsKept ts hs → t.0 < length ts → entry None hs r ≡ None
+    → new ≡ record (entry no_target ts t.0) { sent = sending_in_order (new_sending r forget) (entry no_target ts t.0).sent }
+    → Moves ts hs (put None hs r (Some t)) t.0 r new (Some t)
+send_moves ts hs t r forget new k within none is = record {
+  within = within;
+  here = entry_put_same None hs r (Some t);
+  others_kept = λ other ne. entry_put_other None hs r other (Some t) ne;
+  was_there = λ u ne. ap (is_with u) none;
+  is_there = λ u ne. with_other u t ne;
+  new_here = ap (λ x. is_some (entry_of request_id x.sent r)) is ∙ (ap is_some (entry_added request_id (new_sending r forget) (entry no_target ts t.0).sent (no_target_has ts hs r t.0 k none)) ∙ sym (with_itself t));
+  new_others = λ other ne. ap (λ x. entry_of request_id x.sent other) is ∙ entry_beside request_id (new_sending r forget) other (entry no_target ts t.0).sent ne;
+}
 
 -- one target is written
 pub target_written : (T : Targets) (ts : List Target) (t : ℕ) (f : Target → Target) (new : Target) → record { targets = ts } ≡ T → t < length ts → new ≡ f (entry no_target ts t)

@@ -1,5 +1,5 @@
 -- What is sent to one target, after its acts.
-use Rattle.std.proofs.Common.{if◌then◌else◌, ◌≡◌, ◌≢◌, ℕ, suc, ◌<◌, Bool, true, false, not, ◌==◌, ◌&&◌, List, [], ◌∷◌, map, filter, Some, None, refl, sym, ap, ◌∙◌, subst, arith}
+use Rattle.std.proofs.Common.{if◌then◌else◌, ◌≡◌, ◌≢◌, ℕ, suc, ◌<◌, Bool, true, false, not, ◌==◌, ◌&&◌, List, [], ◌∷◌, map, filter, Some, None, is_some, refl, sym, ap, ◌∙◌, subst, arith}
 use Rattle.std.proofs.lemmas.Bool.{eqb-true}
 use Rattle.std.proofs.lemmas.Bool.Decides.{nat_tests}
 use Rattle.wdf_base.specs.declared.value.Status.{Status}
@@ -8,7 +8,7 @@ use Rattle.wdf_model.specs.parts.Targets.{Target, done_sending, target_done, wit
 use Rattle.wdf_rising.specs.Places.{rises, entry_of, others, with_entry}
 use Rattle.wdf_rising.proofs.PlacesOfKeys.{none_below, rises_rest, rises_with_entry}
 use Rattle.wdf_rising.proofs.EntriesById.{entry_below, entry_key, others_absent, map_absent, map_present, entry_put, entry_removed}
-use Rattle.wdf_target.specs.Target.{request_id, finished}
+use Rattle.wdf_target.specs.Target.{request_id}
 
 -- the test of `target_done`
 abbrev pub stays : ℕ → Sending → Bool
@@ -128,24 +128,20 @@ added t r forget sent after depth stopped e none is =
 
 pub finished_forgotten : (t : Target) (high r : ℕ) (status : Status) (sent after : List Sending) (depth : ℕ) (stopped : Bool) (s : Sending) → record { depth = depth; stopped = stopped; sent = sent } ≡ t
     → rises request_id 0 high sent ≡ true → entry_of request_id sent r ≡ Some s → s.forgotten ≡ true → after ≡ others request_id r sent
-    → (record { depth = depth; stopped = stopped; sent = after } ≡ target_done r status t) × (entry_of request_id after r ≡ finished status (entry_of request_id t.sent r))
+    → (record { depth = depth; stopped = stopped; sent = after } ≡ target_done r status t) × (is_some (entry_of request_id after r) ≡ false)
 finished_forgotten t high r status sent after depth stopped s e h there f is =
-    let same : sent ≡ t.sent = ap (λ u. u.sent) e in
     let Q : List Sending → Target = λ xs. record { depth = depth; stopped = stopped; sent = xs } in
     let a : after ≡ filter (stays r) (map (done_sending r status) sent) = is ∙ sym (done_forgotten 0 high r status sent s h there f) in
-    let it : entry_of request_id t.sent r ≡ Some s = ap (λ xs. entry_of request_id xs r) (sym same) ∙ there in
-    (ap Q a ∙ ap (target_done r status) e, (ap (λ xs. entry_of request_id xs r) is ∙ entry_removed request_id r sent) ∙ sym (ap (finished status) it ∙ ap (λ b. if b then None else Some (record s { outcome = Some status })) f))
+    (ap Q a ∙ ap (target_done r status) e, ap (λ xs. is_some (entry_of request_id xs r)) is ∙ ap is_some (entry_removed request_id r sent))
 
 pub finished_kept : (t : Target) (high r : ℕ) (status : Status) (sent after : List Sending) (depth : ℕ) (stopped : Bool) (s : Sending) → record { depth = depth; stopped = stopped; sent = sent } ≡ t
     → rises request_id 0 high sent ≡ true → entry_of request_id sent r ≡ Some s → s.forgotten ≡ false → after ≡ with_entry request_id (record s { outcome = Some status }) sent
-    → (record { depth = depth; stopped = stopped; sent = after } ≡ target_done r status t) × (entry_of request_id after r ≡ finished status (entry_of request_id t.sent r))
+    → (record { depth = depth; stopped = stopped; sent = after } ≡ target_done r status t) × (is_some (entry_of request_id after r) ≡ true)
 finished_kept t high r status sent after depth stopped s e h there f is =
     let new : Sending = record s { outcome = Some status } in
-    let same : sent ≡ t.sent = ap (λ u. u.sent) e in
     let Q : List Sending → Target = λ xs. record { depth = depth; stopped = stopped; sent = xs } in
     let a : after ≡ filter (stays r) (map (done_sending r status) sent) = is ∙ sym (done_kept high r status sent s h there f) in
-    let it : entry_of request_id t.sent r ≡ Some s = ap (λ xs. entry_of request_id xs r) (sym same) ∙ there in
     let id : s.request.0 ≡ r = entry_key request_id r sent s there in
     let P : ℕ → Type 0 = λ n. entry_of request_id (with_entry request_id new sent) n ≡ Some new in
     let put : entry_of request_id (with_entry request_id new sent) r ≡ Some new = subst P id (entry_put request_id new sent) in
-    (ap Q a ∙ ap (target_done r status) e, (ap (λ xs. entry_of request_id xs r) is ∙ put) ∙ sym (ap (finished status) it ∙ ap (λ b. if b then None else Some new) f))
+    (ap Q a ∙ ap (target_done r status) e, ap (λ xs. is_some (entry_of request_id xs r)) is ∙ ap is_some put)

@@ -1,4 +1,3 @@
-pub mod Left
 pub mod Opened
 pub mod Target
 pub mod Targets

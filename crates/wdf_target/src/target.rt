@@ -1,7 +1,7 @@
-ghost use Rattle.std.specs.Prelude.{◌≡◌, ◌<◌, ◌&&◌, IfOk, None, Some, [], length, nat_lt, not, slice_get};
+ghost use Rattle.std.specs.Prelude.{◌≡◌, ◌<◌, ◌&&◌, IfOk, None, [], is_some, length, nat_lt, not, slice_get};
 ghost use Rattle.wdf_model.specs.parts.Targets as targets;
 ghost use Rattle.wdf_rising.specs.Places.{entry_of};
-ghost use Rattle.wdf_target.specs.Target.{request_id, finished};
+ghost use Rattle.wdf_target.specs.Target.{request_id};
 
 use std::alloc::Global;
 use std::marker::Model;
@@ -23,11 +23,11 @@ impl Model for Target {
 
     ghost Value = { Target };
 
-    ghost use Rattle.wdf_target.specs.Target.{target_in, HasTarget};
+    ghost use Rattle.wdf_target.specs.Target.{target_in, IsSound};
 
     ghost view = { target_in };
 
-    ghost invariant = { HasTarget };
+    ghost invariant = { IsSound };
 }
 
 impl Target {
@@ -67,6 +67,13 @@ impl Target {
         self.sent.at(k)
     }
 
+    /// What it has of a request, if it has it.
+    pub(crate) fn sending(&self, r: ObjectId) -> Option<Sending>
+        ensures { result ≡ entry_of request_id self.now.sent r.0 }
+    {
+        self.sent.get(r)
+    }
+
     /// Whether it takes one more request.
     pub(crate) fn takes_more(&self) -> bool
         ensures { result ≡ (not self.now.stopped && nat_lt (length self.now.sent) self.now.depth) }
@@ -95,21 +102,23 @@ impl Target {
         });
     }
 
-    /// It is done with a request. One that is forgotten leaves.
-    pub(crate) fn finish(&mut self, r: ObjectId, status: Status)
+    /// It is done with a request. One that is forgotten leaves. The answer says whether it still has it.
+    pub(crate) fn finish(&mut self, r: ObjectId, status: Status) -> bool
         ensures done { self.new ≡ targets.target_done r.0 status self.old }
-        ensures it { entry_of request_id self.new.sent r.0 ≡ finished status (entry_of request_id self.old.sent r.0) }
+        ensures it { is_some (entry_of request_id self.new.sent r.0) ≡ result }
     {
-        if let Some(sending) = self.sent.get(r) {
-            if sending.forgotten {
-                self.sent.remove(r);
-            } else {
-                self.sent.put(Sending {
-                    outcome: Some(status),
-                    ..sending
-                });
-            }
+        let Some(sending) = self.sent.get(r) else {
+            return false;
+        };
+        if sending.forgotten {
+            self.sent.remove(r);
+            return false;
         }
+        self.sent.put(Sending {
+            outcome: Some(status),
+            ..sending
+        });
+        true
     }
 
     /// Lets a request go.

@@ -1,6 +1,5 @@
 ghost use Rattle.std.specs.Prelude.{◌≡◌, ◌<◌, ◌≤◌, IfOk, None, Some, false, if◌then◌else◌, is_some, length, slice_get};
 ghost use Rattle.wdf_model.specs.parts.Targets as targets;
-ghost use Rattle.wdf_target.specs.Left.{left};
 
 use crate::target::Target;
 use std::alloc::Global;
@@ -10,21 +9,14 @@ use wdf_declared::target_of;
 use wdf_maps::{entry_at, put_at};
 use wdf_model::{OBJECTS, Sending};
 
-/// What is kept of a request that is sent.
-#[derive(Clone, Copy)]
-struct Sent {
-    target: ObjectId,
-    sending: Sending,
-}
-
-/// The I/O targets: which are stopped, and what is sent to each. What is sent is kept by request too,
-/// so that no call but [`Targets::make`] looks at more than one target, or takes memory.
+/// The I/O targets: which are stopped, and what is sent to each. The target that has a request is kept
+/// too, so that no call but [`Targets::make`] looks at more than one target, or takes memory.
 #[derive(Drop)]
 pub struct Targets {
     /// By id, for the driver object and the declared objects.
     targets: Vec<Target>,
-    /// By request.
-    requests: Vec<Option<Sent>>,
+    /// By request, the target that has it.
+    holders: Vec<Option<ObjectId>>,
 }
 
 impl Model for Targets {
@@ -32,27 +24,11 @@ impl Model for Targets {
 
     ghost Value = { Targets };
 
-    ghost use Rattle.wdf_target.specs.Targets.{targets_in, HasTargets};
+    ghost use Rattle.wdf_target.specs.Targets.{targets_in, IsSound};
 
     ghost view = { targets_in };
 
-    ghost invariant = { HasTargets };
-}
-
-/// What is left of a request with which its target is done: nothing of a forgotten one.
-fn finished(sent: Sent, status: Status) -> Option<Sent>
-    ensures { result ≡ left status sent }
-{
-    if sent.sending.forgotten {
-        return None;
-    }
-    Some(Sent {
-        sending: Sending {
-            outcome: Some(status),
-            ..sent.sending
-        },
-        ..sent
-    })
+    ghost invariant = { IsSound };
 }
 
 /// The targets as they are at the opening.
@@ -77,7 +53,7 @@ impl Targets {
     {
         Ok(Targets {
             targets: open(alloc, plan)?,
-            requests: Vec::with_capacity(alloc, OBJECTS as usize)?,
+            holders: Vec::with_capacity(alloc, OBJECTS as usize)?,
         })
     }
 
@@ -113,8 +89,8 @@ impl Targets {
     fn sending_of(&self, r: ObjectId) -> Option<Sending>
         ensures { result ≡ targets.sending_of self.now r.0 }
     {
-        match entry_at(self.requests.as_slice(), None, r.0) {
-            Some(sent) => Some(sent.sending),
+        match entry_at(self.holders.as_slice(), None, r.0) {
+            Some(t) => self.targets[t.0 as usize].sending(r),
             None => None,
         }
     }
@@ -171,19 +147,9 @@ impl Targets {
         if !self.takes_more(t) {
             return false;
         }
-        let sending = Sending {
-            request: r,
-            forgotten: forget,
-            outcome: None,
-        };
         let target = &mut self.targets[t.0 as usize];
         target.add(r, forget);
-        put_at(
-            &mut self.requests,
-            None,
-            r.0,
-            Some(Sent { target: t, sending }),
-        );
+        put_at(&mut self.holders, None, r.0, Some(t));
         true
     }
 
@@ -192,12 +158,12 @@ impl Targets {
         ensures done { self.new ≡ targets.done self.old r.0 status }
         ensures size { length self.new.targets ≡ length self.old.targets }
     {
-        let Some(sent) = entry_at(self.requests.as_slice(), None, r.0) else {
+        let Some(t) = entry_at(self.holders.as_slice(), None, r.0) else {
             return;
         };
-        let target = &mut self.targets[sent.target.0 as usize];
-        target.finish(r, status);
-        self.requests[r.0 as usize] = finished(sent, status);
+        let target = &mut self.targets[t.0 as usize];
+        let keeps = target.finish(r, status);
+        self.holders[r.0 as usize] = keeps.then_some(t);
     }
 
     /// The completion routine of a request starts: the request leaves its target.
@@ -205,12 +171,12 @@ impl Targets {
         ensures done { self.new ≡ targets.back self.old r.0 }
         ensures size { length self.new.targets ≡ length self.old.targets }
     {
-        let Some(sent) = entry_at(self.requests.as_slice(), None, r.0) else {
+        let Some(t) = entry_at(self.holders.as_slice(), None, r.0) else {
             return;
         };
-        let target = &mut self.targets[sent.target.0 as usize];
+        let target = &mut self.targets[t.0 as usize];
         target.remove(r);
-        self.requests[r.0 as usize] = None;
+        self.holders[r.0 as usize] = None;
     }
 
     /// The target takes no more requests. (KMDF)

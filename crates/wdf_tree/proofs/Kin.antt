@@ -1,12 +1,12 @@
 -- The places of the objects that pass a test, and the families that hold them: after an object more,
 -- and after a change of one.
-use Rattle.std.proofs.Common.{if◌then◌else◌, ◌==◌, not, Bool, true, false, map, sym, ◌≡◌, ◌≢◌, ℕ, zero, suc, ◌+◌, ◌<◌, ◌≤◌, List, [], ◌∷◌, ◌++◌, length, drop, filter, replicate, refl, ap, ◌∙◌, arith, inl, inr, ◌⊎◌, take, Some, None}
+use Rattle.std.proofs.Common.{if◌then◌else◌, ◌==◌, not, Bool, true, false, map, sym, ◌≡◌, ◌≢◌, ℕ, zero, suc, ◌+◌, ◌<◌, ◌≤◌, List, [], ◌∷◌, ◌++◌, length, drop, filter, replicate, refl, ap, ◌∙◌, arith, inl, inr, ◌⊎◌}
 use Rattle.std.specs.Prelude.{slice_set}
 use Rattle.std.specs.List.{list_all, range_with_len}
 use Rattle.std.proofs.lemmas.Bool.{and_right, cases_lt, eqb-true, eqb-false, eq-eqb, ne_eqb, lt-ltb, le-ltb}
 use Rattle.std.proofs.lemmas.List.{append-nil, length-map, length-replicate, get_or-set_same}
 use Rattle.wdf_base.specs.declared.object.Life.{Life}
-use Rattle.wdf_ilist.specs.Family.{Family, is_on, first_of, is_on_any, last_of, list_at, without}
+use Rattle.wdf_ilist.specs.Family.{Family, is_on, is_on_any, last_of, list_at, without}
 use Rattle.wdf_ilist.proofs.Items.{without_off}
 use Rattle.wdf_ilist.proofs.Lists.{map_at, off_all}
 use Rattle.wdf_model.specs.Tables.{entry, same_id}
@@ -31,7 +31,7 @@ with_head true k xs ys e = ap (λ zs. k ∷ zs) e
 with_head false k xs ys e = e
 
 -- what is past the places isn't on them, nor what comes before
-off_past : (p : Node → Bool) (k : ℕ) (ns : List Node) (x : ℕ) → k + length ns ≤ x → is_on x (places p k ns) ≡ false
+pub off_past : (p : Node → Bool) (k : ℕ) (ns : List Node) (x : ℕ) → k + length ns ≤ x → is_on x (places p k ns) ≡ false
 off_past p k [] x h = refl
 off_past p k (n ∷ ns) x h = by_test (p n) refl (off_past p (k + 1) ns x (omega arith))
   where
@@ -78,6 +78,20 @@ places_without p k (n ∷ ns) (suc o) x m e f = by_test (p n) refl (places_witho
     by_test : (b : Bool) → p n ≡ b → without x (places p (k + 1) ns) ≡ places p (k + 1) (slice_set ns o m) → without x (places p k (n ∷ ns)) ≡ places p k (n ∷ slice_set ns o m)
     by_test true g rest = let other : k ≢ x = omega arith in rw (g, ne_eqb k x other) (ap (λ xs. k ∷ xs) rest)
     by_test false g rest = rw g rest
+
+-- what is on the list of places are the objects that pass
+pub on_places : (p : Node → Bool) (k : ℕ) (ns : List Node) (j x : ℕ) → x ≡ k + j → j < length ns → is_on x (places p k ns) ≡ p (entry gone ns j)
+on_places p k [] j x e h = absurd (omega arith)
+on_places p k (n ∷ ns) zero x e h = by_test (p n) refl
+  where
+    by_test : (b : Bool) → p n ≡ b → is_on x (places p k (n ∷ ns)) ≡ p n
+    by_test true f = let same : k ≡ x = omega arith in rw (f, eq-eqb k x same) refl
+    by_test false f = rw f (off_before p (k + 1) ns x (omega arith))
+on_places p k (n ∷ ns) (suc j) x e h = by_test (p n) refl (on_places p (k + 1) ns j x (omega arith) (omega arith))
+  where
+    by_test : (b : Bool) → p n ≡ b → is_on x (places p (k + 1) ns) ≡ p (entry gone ns j) → is_on x (places p k (n ∷ ns)) ≡ p (entry gone ns j)
+    by_test true f rest = let other : k ≢ x = omega arith in rw (f, ne_eqb k x other) rest
+    by_test false f rest = rw f rest
 
 -- ---- no place, and the last one
 
@@ -137,26 +151,6 @@ last_place p x k (n ∷ ns) (suc o) e h t =
         → same_id (last_of (places p k (n ∷ ns))) x ≡ list_all (λ m. not (p m)) (drop (suc o) ns)
     by_test true f here there = rw f here
     by_test false f here there = rw f there
-
--- ---- the first place
-
-pub first_place : (p : Node → Bool) (k : ℕ) (ns : List Node) (c j : ℕ) → first_of (places p k ns) ≡ Some c → c ≡ k + j → list_all (λ n. not (p n)) (take j ns) ≡ true
-first_place p k [] c j e h = absurd (let z : ⊥ = cc in z)
-first_place p k (n ∷ ns) c zero e h = refl
-first_place p k (n ∷ ns) c (suc j) e h = by_test (p n) refl (first_place p (k + 1) ns c j)
-  where
-    by_test : (b : Bool) → p n ≡ b → (first_of (places p (k + 1) ns) ≡ Some c → c ≡ (k + 1) + j → list_all (λ m. not (p m)) (take j ns) ≡ true)
-        → list_all (λ m. not (p m)) (take (suc j) (n ∷ ns)) ≡ true
-    by_test true t rest = let g = rw t at e in let same : k ≡ c = cc in absurd (omega arith)
-    by_test false t rest = rw t (rest (rw t at e) (omega arith))
-
-pub no_first_place : (p : Node → Bool) (k : ℕ) (ns : List Node) → first_of (places p k ns) ≡ None → list_all (λ n. not (p n)) ns ≡ true
-no_first_place p k [] e = refl
-no_first_place p k (n ∷ ns) e = by_test (p n) refl (no_first_place p (k + 1) ns)
-  where
-    by_test : (b : Bool) → p n ≡ b → (first_of (places p (k + 1) ns) ≡ None → list_all (λ m. not (p m)) ns ≡ true) → list_all (λ m. not (p m)) (n ∷ ns) ≡ true
-    by_test true t rest = let g = rw t at e in absurd (let z : ⊥ = cc in z)
-    by_test false t rest = rw t (rest (rw t at e))
 
 -- ---- by ids
 

@@ -1,12 +1,11 @@
 -- The set of the objects whose turn has come: after a change of an object, and what it answers.
-use Rattle.std.proofs.Common.{if◌then◌else◌, ℕ, ◌≡◌, ◌≢◌, ◌⊎◌, ◌+◌, ◌-◌, ◌<◌, ◌≤◌, ◌==◌, nat_le, nat_lt, not, Bool, true, false, ◌&&◌, ◌||◌, List, [], ◌∷◌, ◌++◌, Option, Some, None, map, length, find, slice_get, slice_set, replicate, refl, ap, sym, subst, ◌∙◌, inl, inr, get_or-set_same, get_or-set_other, length-set, arith}
+use Rattle.std.proofs.Common.{if◌then◌else◌, ℕ, ◌≡◌, ◌≢◌, ◌⊎◌, ◌-◌, ◌<◌, ◌≤◌, ◌==◌, nat_le, nat_lt, not, Bool, true, false, ◌&&◌, ◌||◌, List, [], ◌∷◌, ◌++◌, Option, Some, None, map, length, find, slice_get, slice_set, replicate, refl, ap, sym, subst, ◌∙◌, inl, inr, get_or-set_same, get_or-set_other, length-set, arith}
 use Rattle.std.specs.Prelude.{IfSome, slice_index_or}
-use Rattle.std.specs.List.{list_all}
-use Rattle.std.proofs.lemmas.Bool.{and_right, cases_eq, cases_lt, eq-eqb, eqb-true, false≢true, ltb-true, ne_eqb}
+use Rattle.std.proofs.lemmas.Bool.{and_right, cases_eq, cases_lt, eq-eqb, false≢true, ltb-true, ne_eqb}
 use Rattle.std.proofs.lemmas.List.{length_push, length-replicate}
 use Rattle.wdf_base.specs.declared.object.Life.{Life}
 use Rattle.wdf_base.specs.declared.object.Life.TheVariants as life
-use Rattle.wdf_ilist.specs.Family.{Family, last_of, list_at, without}
+use Rattle.wdf_ilist.specs.Family.{Family, is_on, last_of, list_at, without}
 use Rattle.wdf_ilist.proofs.Lists.{map_at}
 use Rattle.wdf_model.specs.Tables.{entry, ids_of, same_id}
 use Rattle.wdf_model.specs.declared.entries.Node.{Node}
@@ -17,9 +16,10 @@ use Rattle.wdf_sets.specs.Members.{is_in, members, rank}
 use Rattle.wdf_sets.proofs.Ranks.{members_where}
 use Rattle.wdf_tree.specs.Kin.{HoldsKin, is_kin, is_waiting, joined}
 use Rattle.wdf_tree.specs.Turns.{AreNoted, HoldsTurns, has_turn, is_turn}
+use Rattle.wdf_tree.proofs.Lists.{same_id_is}
 use Rattle.wdf_tree.proofs.Children.{is_gone_under, last_waiting}
 use Rattle.wdf_tree.proofs.Kept.{MayEnd, all_of_entry, read_entry, there_if_asked}
-use Rattle.wdf_tree.proofs.Kin.{holds_without, no_places, places_kept}
+use Rattle.wdf_tree.proofs.Kin.{holds_without, on_places, places_kept}
 use Rattle.wdf_tree.proofs.Leaving.{cleaned_unasked, from_part, gone_alone, live_unasked, none_in}
 
 -- ---- noting
@@ -50,18 +50,16 @@ stays_right test b c id k e = by (k.each id)
     by (inl f) = f ∙ e
     by (inr f) = f
 
--- one child more was noted
-pub next_child : (test : ℕ → Bool) (b c : List Bool) (k id : ℕ) → AreNoted test b c → (id < k → is_in id b ≡ test id) → (id ≡ k → is_in id c ≡ test id) → id < k + 1 → is_in id c ≡ test id
-next_child test b c k id noted before here below = by (cases_lt id k)
-  where
-    by : (id < k) ⊎ (k ≤ id) → is_in id c ≡ test id
-    by (inl under) = stays_right test b c id noted (before under)
-    by (inr above) = here (omega arith)
-
 -- the one that was found was noted
 pub found_right : (test : ℕ → Bool) (bits : List Bool) (n : ℕ) (found : Option ℕ) (x : ℕ) → IfSome found (λ y. y < n → is_in y bits ≡ test y) → found ≡ Some x → x < n → is_in x bits ≡ test x
 found_right test bits n None x h e = absurd (let z : ⊥ = cc in z)
 found_right test bits n (Some y) x h e = let same : y ≡ x = cc in subst (λ z. z < n → is_in z bits ≡ test z) same h
+
+-- one item more of a list was noted
+pub one_more : (test : ℕ → Bool) (b c : List Bool) (n : ℕ) (found : Option ℕ) (id : ℕ) (at : Option ℕ) (before : Bool) → AreNoted test b c → IfSome found (λ x. x < n → is_in x c ≡ test x) → id < n
+    → (before ≡ true → is_in id b ≡ test id) → found ≡ at → (before ≡ true) ⊎ (at ≡ Some id) → is_in id c ≡ test id
+one_more test b c n found id at before noted own below earlier e (inl on) = stays_right test b c id noted (earlier on)
+one_more test b c n found id at before noted own below earlier e (inr here) = found_right test c n found id own (e ∙ here) below
 
 -- ---- the turn of one object
 
@@ -98,26 +96,19 @@ turns_noted {ns} {ms} {ls} {ks} {before} {after} longer h k changed = record { r
 
 -- ---- children that wait
 
-unasked_by : (b : Bool) (l : Life) → b ≡ true → not (b && is_waiting l) ≡ true → is_asked l ≡ false
-unasked_by true life.Live e h = refl
-unasked_by true life.Asked e h = absurd (false≢true h)
-unasked_by true life.Cleaned e h = refl
-unasked_by true life.Gone e h = refl
-unasked_by false l e h = absurd (false≢true e)
+unwaiting_unasked : (l : Life) → is_waiting l ≡ false → is_asked l ≡ false
+unwaiting_unasked life.Live h = refl
+unwaiting_unasked life.Asked h = absurd (false≢true (sym h))
+unwaiting_unasked life.Cleaned h = refl
+unwaiting_unasked life.Gone h = refl
 
--- where no child of an object waits, none is asked
-none_asked : (ns : List Node) (waiting : Family) (o id : ℕ) → HoldsKin is_waiting ns waiting → o < OBJECTS → (length (list_at waiting.lists o) == 0) ≡ true → (entry gone ns id).parent.0 ≡ o
+-- a child that isn't on the list of those that wait isn't asked
+off_unasked : (ns : List Node) (waiting : Family) (o id : ℕ) → HoldsKin is_waiting ns waiting → o < OBJECTS → id < length ns → is_on id (list_at waiting.lists o) ≡ false → (entry gone ns id).parent.0 ≡ o
     → is_asked (entry gone ns id).life ≡ false
-none_asked ns waiting o id h below none child =
-    let blank : not (is_kin is_waiting o gone) ≡ true = ap not (and_right (0 == o) false refl) in
-    let all : list_all (λ n. not (is_kin is_waiting o n)) ns ≡ true
-    = sym (no_places (is_kin is_waiting o) 0 ns) ∙ ap (λ (xs : List ℕ). length xs == 0) (sym (h.kin o below)) ∙ none in
-    unasked_by ((entry gone ns id).parent.0 == o) (entry gone ns id).life (eq-eqb (entry gone ns id).parent.0 o child)
-    (all_of_entry (λ n. not (is_kin is_waiting o n)) gone ns id blank all)
-
-same_id_is : (found : Option ℕ) (x : ℕ) → same_id found x ≡ true → found ≡ Some x
-same_id_is None x h = absurd (false≢true h)
-same_id_is (Some y) x h = ap Some (eqb-true y x h)
+off_unasked ns waiting o id h below there off child =
+    let passes : is_kin is_waiting o (entry gone ns id) ≡ false
+    = sym (on_places (is_kin is_waiting o) 0 ns id id (omega arith) there) ∙ ap (is_on id) (sym (h.kin o below)) ∙ off in
+    unwaiting_unasked (entry gone ns id).life (rw (eq-eqb (entry gone ns id).parent.0 o child) at passes)
 
 is_same_id : (found : Option ℕ) (x : ℕ) → found ≡ Some x → same_id found x ≡ true
 is_same_id found x e = rw e (eq-eqb x x refl)
@@ -247,17 +238,17 @@ turns_after_push {ns} {waiting} {before} {after} n id ms left found e f h kin li
     (λ noted sibling. turns_by_push n id h kin live next noted
     (λ x is. found_right (is_turn (ns ++ n ∷ []) (joined waiting n.parent.0 id).lists) after (length (ns ++ n ∷ [])) found x sibling (last ∙ is))))
 
--- What is written where an object changed: its own bit, and those of its children where some wait.
+-- What is written where an object changed: its own bit, and those of its children that wait.
 pub record IsNotedAt (ms : List Node) (ks : List (List ℕ)) (o : ℕ) (before after : List Bool) : Type 0 where
   pub noted : AreNoted (is_turn ms ks) before after
   pub own : o < length ms → is_in o after ≡ is_turn ms ks o
-  pub children : (id : ℕ) → id < length ms → (entry gone ms id).parent.0 ≡ o → (length (list_at ks o) == 0) ≡ false → is_in id after ≡ is_turn ms ks id
+  pub children : (id : ℕ) → id < length ms → is_on id (list_at ks o) ≡ true → is_in id after ≡ is_turn ms ks id
 
 -- the deletion of an object is asked
 pub turns_by_ask : {ns : List Node} {waiting : Family} {before after : List Bool} (o : ℕ) (m : Node) → HoldsTurns ns waiting.lists before → HoldsKin is_waiting ns waiting → length ns ≤ OBJECTS → o < length ns
     → IsNotedAt (slice_set ns o m) waiting.lists o before after → HoldsTurns (slice_set ns o m) waiting.lists after
 turns_by_ask {ns} {waiting} {before} {after} o m h kin few there k =
-    turns_noted (let same = as_long ns o m in omega arith) h k.noted (λ id below. at id below (cases_eq id o) (cases_eq (entry gone ns id).parent.0 o) (length (list_at waiting.lists o) == 0) refl)
+    turns_noted (let same = as_long ns o m in omega arith) h k.noted (λ id below. at id below (cases_eq id o) (cases_eq (entry gone ns id).parent.0 o) (is_on id (list_at waiting.lists o)) refl)
   where
     ms : List Node
     ms = slice_set ns o m
@@ -265,13 +256,13 @@ turns_by_ask {ns} {waiting} {before} {after} o m h kin few there k =
     long : length ms ≡ length ns
     long = as_long ns o m
 
-    at : (id : ℕ) → id < length ms → (id ≡ o) ⊎ (id ≡ o → ⊥) → ((entry gone ns id).parent.0 ≡ o) ⊎ ((entry gone ns id).parent.0 ≡ o → ⊥) → (b : Bool) → (length (list_at waiting.lists o) == 0) ≡ b
+    at : (id : ℕ) → id < length ms → (id ≡ o) ⊎ (id ≡ o → ⊥) → ((entry gone ns id).parent.0 ≡ o) ⊎ ((entry gone ns id).parent.0 ≡ o → ⊥) → (b : Bool) → is_on id (list_at waiting.lists o) ≡ b
         → (is_in id after ≡ is_turn ms waiting.lists id) ⊎ (is_turn ns waiting.lists id ≡ is_turn ms waiting.lists id)
     at id below (inl same) either b e = inl (rw same (k.own (omega (arith, long))))
     at id below (inr other) (inr apart) b e = inr (turn_kept ns waiting.lists o id m other apart)
-    at id below (inr other) (inl child) false e = inl (k.children id below (ap (λ (x : Node). x.parent.0) (entry_set_other gone ns o id m other) ∙ child) e)
-    at id below (inr other) (inl child) true e =
-        let none = none_asked ns waiting o id kin (omega arith) e child in
+    at id below (inr other) (inl child) true e = inl (k.children id below e)
+    at id below (inr other) (inl child) false e =
+        let none = off_unasked ns waiting o id kin (omega arith) (omega (arith, long)) e child in
         inr (no_turn ns waiting.lists id none ∙ sym (no_turn ms waiting.lists id (ap (λ (x : Node). is_asked x.life) (entry_set_other gone ns o id m other) ∙ none)))
 
 -- an object is cleaned up: the last sibling that waits may get its turn
@@ -332,17 +323,17 @@ turns_by_cleanup {ns} {waiting} {before} {after} o m h kin few there past k sibl
         by (inl last) = inl (sibling id (ap (λ q. last_of (list_at ks q)) (sym mine) ∙ last) below)
         by (inr same) = inr (same_turn ns ms ls ks id (entry_set_other gone ns o id m other) (entry_set_other gone ns o (entry gone ns id).parent.0 m apart) same)
 
-    child_of : (id : ℕ) → id < length ms → id ≢ o → (entry gone ns id).parent.0 ≡ o → (b : Bool) → (length (list_at ks o) == 0) ≡ b → (is_in id after ≡ is_turn ms ks id) ⊎ (is_turn ns ls id ≡ is_turn ms ks id)
-    child_of id below other child false e = inl (k.children id below (ap (λ (x : Node). x.parent.0) (entry_set_other gone ns o id m other) ∙ child) e)
-    child_of id below other child true e =
+    child_of : (id : ℕ) → id < length ms → id ≢ o → (entry gone ns id).parent.0 ≡ o → (b : Bool) → is_on id (list_at ks o) ≡ b → (is_in id after ≡ is_turn ms ks id) ⊎ (is_turn ns ls id ≡ is_turn ms ks id)
+    child_of id below other child true e = inl (k.children id below e)
+    child_of id below other child false e =
         let same = entry_set_other gone ns o id m other in
-        let none = none_asked ms (record waiting { lists = ks }) o id left (omega arith) e (ap (λ (x : Node). x.parent.0) same ∙ child) in
+        let none = off_unasked ms (record waiting { lists = ks }) o id left (omega arith) below e (ap (λ (x : Node). x.parent.0) same ∙ child) in
         inr (no_turn ns ls id (ap (λ (x : Node). is_asked x.life) (sym same) ∙ none) ∙ sym (no_turn ms ks id none))
 
     at : (id : ℕ) → id < length ms → (id ≡ o) ⊎ (id ≡ o → ⊥) → ((entry gone ns id).parent.0 ≡ o) ⊎ ((entry gone ns id).parent.0 ≡ o → ⊥) → (is_in id after ≡ is_turn ms ks id) ⊎ (is_turn ns ls id ≡ is_turn ms ks id)
     at id below (inl same) either = inl (rw same (k.own (omega (arith, long))))
     at id below (inr other) (inr apart) = changed id below other apart (cases_eq (entry gone ns id).parent.0 (entry gone ns o).parent.0)
-    at id below (inr other) (inl child) = child_of id below other child (length (list_at ks o) == 0) refl
+    at id below (inr other) (inl child) = child_of id below other child (is_on id (list_at ks o)) refl
 
 -- the same, as code has it
 pub turns_after_cleanup : {ns : List Node} {waiting : Family} {before after : List Bool} (o parent : ℕ) (m : Node) (left : Family) (found : Option ℕ) → left ≡ record waiting { lists = map (without o) waiting.lists }

@@ -4,3 +4,4 @@ pub mod Refusal
 pub mod Kin
 pub mod GoFirst
 pub mod Turns
+pub mod Gathering

@@ -3,4 +3,4 @@
 
 mod tree;
 
-pub use tree::{CreateRefusal, Tree};
+pub use tree::{CreateRefusal, Subtree, Tree};

@@ -1,11 +1,13 @@
 mod acts;
 mod deletion;
+mod gather;
 mod leaving;
 mod making;
 mod order;
 mod readers;
 mod turns;
 
+pub use gather::Subtree;
 use std::marker::Model;
 use wdf_base::ObjectId;
 use wdf_ilist::Links;

@@ -1,7 +1,7 @@
 //! The requests of a queue are closed: the framework will complete them.
 
 ghost use Rattle.std.specs.Prelude.{◌≡◌, ◌<◌, length, map};
-ghost use Rattle.wdf_model.specs.parts.Requests as parts;
+ghost use Rattle.wdf_model.specs.parts.Requests as requests;
 ghost use Rattle.wdf_request.specs.Closed.{is_part};
 
 use super::Requests;
@@ -19,7 +19,7 @@ enum ClosedPart {
 
 /// Whether a request at this place returns to a queue.
 fn is_returning_to(q: ObjectId, place: Place) -> bool
-    ensures { result ≡ parts.is_returning_to q.0 place }
+    ensures { result ≡ requests.is_returning_to q.0 place }
 {
     match place {
         Place::Returning(queue) => queue.0 == q.0,
@@ -29,7 +29,7 @@ fn is_returning_to(q: ObjectId, place: Place) -> bool
 
 /// Whether a request at this place waits in a queue or returns to it.
 fn is_in(q: ObjectId, place: Place) -> bool
-    ensures { result ≡ parts.is_in q.0 place }
+    ensures { result ≡ requests.is_in q.0 place }
 {
     match place {
         Place::Queued(queue) | Place::Returning(queue) => queue.0 == q.0,
@@ -54,7 +54,7 @@ impl Requests {
     #[tactic(auto, using(wdf_model::proofs::Maps::put_within, wdf_model::proofs::Maps::set_as_it_was))]
     fn close_one(&mut self, r: ObjectId, part: ClosedPart)
         requires there { r.0 < length self.old.all }
-        ensures done { self.new ≡ parts.with_request self.old r.0 (parts.closed_at (is_part part)) }
+        ensures done { self.new ≡ requests.with_request self.old r.0 (requests.closed_at (is_part part)) }
         ensures size { length self.new.all ≡ length self.old.all }
     {
         let request = self.request(r);
@@ -65,7 +65,7 @@ impl Requests {
 
     /// Closes these requests of a queue. It goes over all requests.
     fn close_part(&mut self, part: ClosedPart)
-        ensures done { self.new ≡ record self.old { all = map (parts.closed_at (is_part part)) self.old.all } }
+        ensures done { self.new ≡ record self.old { all = map (requests.closed_at (is_part part)) self.old.all } }
         ensures size { length self.new.all ≡ length self.old.all }
     {
         for id in 0..self.len() {
@@ -77,7 +77,7 @@ impl Requests {
     /// looked at.
     #[tactic(auto, using(crate::proofs::Closing::none_closed))]
     pub fn close_returning(&mut self, q: ObjectId)
-        ensures done { self.new ≡ parts.close_returning self.old q.0 }
+        ensures done { self.new ≡ requests.close_returning self.old q.0 }
         ensures size { length self.new.all ≡ length self.old.all }
     {
         if self.returns_to(q) {
@@ -88,7 +88,7 @@ impl Requests {
     /// What waits in a queue or returns to it is to be completed with CANCELLED. It goes over all
     /// requests.
     pub fn close(&mut self, q: ObjectId)
-        ensures done { self.new ≡ parts.close self.old q.0 }
+        ensures done { self.new ≡ requests.close self.old q.0 }
         ensures size { length self.new.all ≡ length self.old.all }
     {
         self.close_part(ClosedPart::Whole(q));

@@ -6,6 +6,7 @@ ghost use Rattle.wdf_model.specs.Tables.{same_id};
 ghost use Rattle.wdf_model.specs.parts.Tree as tree;
 
 use super::Tree;
+use super::gather::Subtree;
 use super::making::{DRIVER, counted, gone};
 use super::turns::note_around;
 use wdf_base::{Life, ObjectId};
@@ -56,64 +57,15 @@ impl Tree {
         }
     }
 
-    /// An id before which nothing is below an object: that of its first child.
-    fn first_below(&self, o: ObjectId) -> u32
-        ensures before { (x : ℕ) → x < result → tree.is_below self.now o.0 x ≡ false }
-        ensures there { 0 < result → o.0 < length self.now.nodes }
-    {
-        if o.0 == 0 || o.0 >= self.len() {
-            return 0;
-        }
-        match self.children.front(o.0) {
-            Some(child) => child,
-            None => self.len(),
-        }
-    }
-
-    /// The least id from `first` on in the subtree of an object.
-    #[tactic(auto, using(crate::proofs::Walks::ids_from))]
-    fn next_from(&self, o: ObjectId, first: u32) -> Option<ObjectId>
-        ensures next { option_map (λ x. x.0) result
-            ≡ find (λ x. x == o.0 || tree.is_below self.now o.0 x) (range_with_len first (length self.now.nodes - first)) }
-        ensures above { IfSome result (λ x. first ≤ x.0) }
-        ensures there { IfSome result (λ x. x.0 < length self.now.nodes) }
-    {
-        for x in first..self.len() {
-            if x == o.0 || self.is_below(o, ObjectId(x)) {
-                return Some(ObjectId(x));
-            }
-        }
-        None
-    }
-
-    /// The least id above `after` in the subtree of an object, which is that object and what is
-    /// below it. So the subtree is walked by rising ids, from the id 0, which is no object.
-    #[tactic(auto, using(crate::proofs::Walks::next_is_self, crate::proofs::Walks::next_after, crate::proofs::Walks::none_past))]
-    pub fn next_below(&self, o: ObjectId, after: ObjectId) -> Option<ObjectId>
-        ensures next { option_map (λ x. x.0) result ≡ find (nat_lt after.0) (tree.subtree self.now o.0) }
-        ensures above { IfSome result (λ x. after.0 < x.0) }
-        ensures there { IfSome result (λ x. x.0 < length self.now.nodes) }
-        ensures none { tree.is_live (tree.life_of self.now 0) ≡ false }
-    {
-        if after.0 as usize >= self.nodes.len() {
-            return None;
-        }
-        let first = self.first_below(o);
-        if after.0 < o.0 && o.0 < first {
-            return Some(o);
-        }
-        self.next_from(o, first.max(after.0 + 1))
-    }
-
-    /// Asks the deletion of an object and of what is below it (KMDF): of each that is live.
-    pub fn ask_delete(&mut self, o: ObjectId)
+    /// Asks the deletion of an object and of what is below it (KMDF): of each that is live. It visits
+    /// no others. What was visited is then in `subtree`.
+    pub fn ask_delete(&mut self, o: ObjectId, subtree: &mut Subtree)
         ensures done { self.new ≡ tree.ask_delete self.old o.0 }
         ensures size { length self.new.nodes ≡ length self.old.nodes }
     {
-        let mut at = ObjectId(0);
-        'walk: while let Some(next) = self.next_below(o, at) {
-            self.ask_one(next);
-            at = next;
+        self.gather(o, subtree);
+        for id in subtree.ids() {
+            self.ask_one(ObjectId(*id));
         }
     }
 

@@ -11,15 +11,6 @@ use wdf_base::ObjectId;
 use wdf_maps::object_at;
 
 impl Tree {
-    /// The first object from an id on whose deletion was asked, and whose cleanup is still to come.
-    pub fn asked_from(&self, from: ObjectId) -> Option<ObjectId>
-        ensures { option_map (λ o. o.0) result
-            ≡ find (λ o. nat_le from.0 o && tree.is_asked (tree.life_of self.now o))
-            (ids_of self.now.nodes) }
-    {
-        object_at(self.asked.from(from.0))
-    }
-
     /// The first object from an id on that is cleaned up, and isn't destroyed yet.
     pub fn cleaned_from(&self, from: ObjectId) -> Option<ObjectId>
         ensures { option_map (λ o. o.0) result

@@ -6,7 +6,7 @@ ghost use Rattle.wdf_ilist.specs.Family.{is_on_any};
 ghost use Rattle.wdf_tree.specs.Kin.{joined};
 ghost use Rattle.wdf_tree.specs.Refusal.{create_answer};
 
-use super::turns::note_sibling;
+use super::turns::note_if_any;
 use super::{CreateRefusal, Tree};
 use std::alloc::Global;
 use wdf_base::{Declared, Kind, Life, Memory, ObjectId, Plan, Value};
@@ -150,7 +150,7 @@ impl Tree {
         join(&mut self.waiting, node.parent, id);
         self.nodes.push_reserved(node);
         self.devices.push_reserved(device);
-        note_sibling(&mut self.turns, &self.nodes, &self.waiting, last);
+        note_if_any(&mut self.turns, &self.nodes, &self.waiting, last);
     }
 
     /// An object is made by a call, and is live. It is refused under a parent that isn't live

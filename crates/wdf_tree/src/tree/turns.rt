@@ -1,7 +1,7 @@
 //! The objects whose turn to be cleaned up has come, among their siblings.
 
-ghost use Rattle.std.specs.Prelude.{◌≡◌, ◌<◌, ◌≤◌, ◌^◌, ◌==◌, ◌&&◌, ℕ, IfSome, false, find, length, nat_le, option_map, slice_index_or};
-ghost use Rattle.wdf_ilist.specs.Family.{list_at};
+ghost use Rattle.std.specs.Prelude.{◌≡◌, ◌<◌, ◌≤◌, ◌&&◌, ℕ, IfSome, true, find, length, nat_le, option_and_then, option_map};
+ghost use Rattle.wdf_ilist.specs.Family.{after_in, is_on, list_at};
 ghost use Rattle.wdf_model.specs.Tables.{entry, ids_of};
 ghost use Rattle.wdf_model.specs.parts.Tree as tree;
 ghost use Rattle.wdf_sets.specs.Members.{is_in};
@@ -57,26 +57,29 @@ pub(super) fn note_turn(turns: &mut IdSet, nodes: &[Node], waiting: &Links, o: O
     }
 }
 
-/// Notes it of the children of an object, where some wait for cleanup. Then it goes over all objects.
+/// The item after one, if there is one.
+pub(super) fn item_after(links: &Links, item: Option<u32>) -> Option<u32>
+    ensures { result ≡ option_and_then (λ x. after_in x links.now.lists) item }
+{
+    links.after(item?)
+}
+
+/// Notes it of the children of an object that wait for cleanup.
+#[tactic(auto, using(crate::proofs::Turns::noted_none))]
 fn note_children(turns: &mut IdSet, nodes: &[Node], waiting: &Links, o: ObjectId)
     requires room { length nodes.now ≤ length turns.old }
-    requires few { length nodes.now < 2 ^ 32 }
     ensures noted { AreNoted (is_turn_by nodes.now waiting.now.lists) turns.old turns.new }
-    ensures children { (id : ℕ) → id < length nodes.now → (entry tree.gone nodes.now id).parent.0 ≡ o.0
-        → (length (list_at waiting.now.lists o.0) == 0) ≡ false → is_in id turns.new ≡ is_turn_by nodes.now waiting.now.lists id }
+    ensures children { (id : ℕ) → id < length nodes.now → is_on id (list_at waiting.now.lists o.0) ≡ true
+        → is_in id turns.new ≡ is_turn_by nodes.now waiting.now.lists id }
 {
-    if waiting.is_empty(o.0) {
-        return;
-    }
-    for id in 0..nodes.len() {
-        let child = ObjectId(id as u32);
-        if parent_in(nodes, child).0 == o.0 {
-            note_turn(turns, nodes, waiting, child);
-        }
+    let mut child = waiting.front(o.0);
+    for place in 0..waiting.len(o.0) {
+        note_if_any(turns, nodes, waiting, child);
+        child = item_after(waiting, child);
     }
 }
 
-/// Notes it of an object that changed, of a sibling, and of its children, where some wait for cleanup.
+/// Notes it of an object that changed, of a sibling, and of its children that wait for cleanup.
 pub(super) fn note_around(
     turns: &mut IdSet,
     nodes: &[Node],
@@ -85,26 +88,25 @@ pub(super) fn note_around(
     sibling: Option<u32>,
 )
     requires room { length nodes.now ≤ length turns.old }
-    requires few { length nodes.now < 2 ^ 32 }
     ensures noted { AreNoted (is_turn_by nodes.now waiting.now.lists) turns.old turns.new }
     ensures own { o.0 < length nodes.now → is_in o.0 turns.new ≡ is_turn_by nodes.now waiting.now.lists o.0 }
     ensures sibling { IfSome sibling (λ x. x < length nodes.now → is_in x turns.new ≡ is_turn_by nodes.now waiting.now.lists x) }
-    ensures children { (id : ℕ) → id < length nodes.now → (entry tree.gone nodes.now id).parent.0 ≡ o.0
-        → (length (list_at waiting.now.lists o.0) == 0) ≡ false → is_in id turns.new ≡ is_turn_by nodes.now waiting.now.lists id }
+    ensures children { (id : ℕ) → id < length nodes.now → is_on id (list_at waiting.now.lists o.0) ≡ true
+        → is_in id turns.new ≡ is_turn_by nodes.now waiting.now.lists id }
 {
     note_turn(turns, nodes, waiting, o);
-    note_sibling(turns, nodes, waiting, sibling);
+    note_if_any(turns, nodes, waiting, sibling);
     note_children(turns, nodes, waiting, o);
 }
 
 /// Notes it of an object, if there is one.
-pub(super) fn note_sibling(turns: &mut IdSet, nodes: &[Node], waiting: &Links, sibling: Option<u32>)
+pub(super) fn note_if_any(turns: &mut IdSet, nodes: &[Node], waiting: &Links, found: Option<u32>)
     requires room { length nodes.now ≤ length turns.old }
     ensures noted { AreNoted (is_turn_by nodes.now waiting.now.lists) turns.old turns.new }
-    ensures own { IfSome sibling (λ x. x < length nodes.now → is_in x turns.new ≡ is_turn_by nodes.now waiting.now.lists x) }
+    ensures own { IfSome found (λ x. x < length nodes.now → is_in x turns.new ≡ is_turn_by nodes.now waiting.now.lists x) }
 {
-    if let Some(sibling) = sibling {
-        note_turn(turns, nodes, waiting, ObjectId(sibling));
+    if let Some(found) = found {
+        note_turn(turns, nodes, waiting, ObjectId(found));
     }
 }
 

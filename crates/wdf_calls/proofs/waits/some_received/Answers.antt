@@ -25,7 +25,7 @@ loop-preserved g c =
     let here = ap (λ (R : Requests). (info_of R c.in-Some.r.0).received) c.requests.ensures in
     let fails : (info_of c.args.parts.now.requests c.in-Some.r.0).received ≡ false = sym here ∙ ap (λ (i : RequestInfo). i.received) (sym c.info.ensures) ∙ c.if-info.false in
     let same = c.queues-in-Some.ensures in
-    let step = c.next_waiting-next.ensures c.args.q.0 c.loop.counter (ap (λ (Q : Queues). slice_get (waiting_in Q c.args.q.0) c.loop.counter) same ∙ at) in
+    let step = c.next_waiting-next.ensures.after c.args.q.0 c.loop.counter (ap (λ (Q : Queues). slice_get (waiting_in Q c.args.q.0) c.loop.counter) same ∙ at) in
     record {
       next = step ∙ ap (λ (Q : Queues). slice_get (waiting_in Q c.args.q.0) (c.loop.counter + 1)) same;
       left = walk_goes_on (λ r. (info_of c.args.parts.now.requests r).received) (waiting_in c.args.parts.now.queues c.args.q.0) c.loop.counter c.in-Some.r.0 at fails c.loop.invariant.left;

@@ -9,14 +9,14 @@ pub stacked_len-requires : goal.stacked_len-requires
 stacked_len-requires c =
     let a = c.self.inside in
     let few = few_frames (cpus_in a) a.live.items c.self.invariant.kept.live in
-    let both = length-append (stacked a.stacks.items) a.parked.items in
+    let both = length-append (stacked a.stacks.items) a.parked.entries in
     rw c.deref.ensures.value (omega arith)
 
 pub overflow_add-result : goal.overflow_add-result
 overflow_add-result c =
     let a = c.self.inside in
     let few = few_frames (cpus_in a) a.live.items c.self.invariant.kept.live in
-    let both = length-append (stacked a.stacks.items) a.parked.items in
+    let both = length-append (stacked a.stacks.items) a.parked.entries in
     let on : c.stacked_len.result ≡ length (stacked a.stacks.items) = rw c.deref.ensures.value at c.stacked_len.ensures in
     omega arith
 
@@ -24,6 +24,6 @@ pub returns-clause-small : goal.returns-clause-small
 returns-clause-small c =
     let a = c.self.inside in
     let few = few_frames (cpus_in a) a.live.items c.self.invariant.kept.live in
-    let both = length-append (stacked a.stacks.items) a.parked.items in
+    let both = length-append (stacked a.stacks.items) a.parked.entries in
     let on : c.stacked_len.result ≡ length (stacked a.stacks.items) = rw c.deref.ensures.value at c.stacked_len.ensures in
     omega arith

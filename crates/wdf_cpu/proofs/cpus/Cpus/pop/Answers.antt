@@ -7,8 +7,9 @@ use Rattle.wdf_model.specs.parts.Cpus.{frame_of, top}
 use Rattle.wdf_cpu.specs.Keys.{object_key, wait_key}
 use Rattle.wdf_cpu.specs.Kept.{cpus_in}
 use Rattle.wdf_cpu.proofs.Keeping.{kept_pop, on_counted, wait_counted}
-use Rattle.wdf_cpu.proofs.Live.{live_within, top_is_on}
+use Rattle.wdf_cpu.proofs.Live.{few_frames, live_within, top_goes_off, top_is_on}
 use Rattle.wdf_cpu.proofs.Swapping.{swapped_by}
+use Rattle.wdf_cpu.proofs.Ticks.{few_ticks, spending_popped, until_there}
 use Rattle.wdf_cpu.proofs.cpus.Cpus.pop.Goals as goal
 
 pub put_at-requires : goal.put_at-requires
@@ -35,6 +36,23 @@ put_at-requires-3 c =
     let within : c.unwrap.result < FRAMES = live_within (cpus_in a) a.live.items c.self.invariant.kept.live c.unwrap.result (omega arith) in
     record { room = omega arith }
 
+pub moves-requires-3-clause-room : goal.moves-requires-3-clause-room
+moves-requires-3-clause-room c = few_ticks (cpus_in c.self.inside) c.self.inside.untils FRAMES c.self.invariant.untils (few_frames (cpus_in c.self.inside) c.self.inside.live.items c.self.invariant.kept.live)
+
+pub moves-requires-3-clause-there : goal.moves-requires-3-clause-there
+moves-requires-3-clause-there c =
+    let a = c.self.inside in
+    let is_top : top (cpus_in a) c.args.cpu.0 ≡ Some c.unwrap.result = cc in
+    let one = top_is_on (cpus_in a) a.live.items c.args.cpu.0 c.unwrap.result is_top c.self.invariant.kept.live in
+    rw (c.entry_at.ensures, c.deref.ensures.value) (until_there (cpus_in a) a.untils c.unwrap.result (frame_of (cpus_in a) c.unwrap.result).until refl one c.self.invariant.untils)
+
+pub forget-requires : goal.forget-requires
+forget-requires c =
+    let a = c.self.inside in
+    let is_top : top (cpus_in a) c.args.cpu.0 ≡ Some c.unwrap.result = cc in
+    let one = top_is_on (cpus_in a) a.live.items c.args.cpu.0 c.unwrap.result is_top c.self.invariant.kept.live in
+    record { there = live_within (cpus_in a) a.live.items c.self.invariant.kept.live c.unwrap.result (omega arith) }
+
 pub invariant_of-self : goal.invariant_of-self
 invariant_of-self c =
     let a = c.self.inside in
@@ -48,11 +66,12 @@ invariant_of-self c =
       live_room = omega arith;
       peaks_room = omega arith;
       parked_room = h.parked_room;
-      levels_room = omega arith;
       blank = h.blank;
-      kept = rw (c.put_at.ensures.entries, c.pop_from.ensures.rest, c.drop_levels.ensures.items, c.put_at-2.ensures.entries, c.put_at-3.ensures.entries)
+      kept = rw (c.put_at.ensures.entries, c.pop_from.ensures.rest, c.forget.ensures, c.put_at-2.ensures.entries, c.put_at-3.ensures.entries)
           (kept_pop (cpus_in a) a.live.items a.peaks.items a.on a.waits c.args.cpu.0 c.unwrap.result c.moves.new.self c.moves-2.new.self is_top
           (swapped_by a.on c.moves.new.self c.object_key.result None (object_key (frame_of (cpus_in a) c.unwrap.result)) None c.moves.ensures object refl (on_counted a c.unwrap.result _ h refl one))
           (swapped_by a.waits c.moves-2.new.self c.wait_key.result None (wait_key (frame_of (cpus_in a) c.unwrap.result)) None c.moves-2.ensures awaited refl (wait_counted a c.unwrap.result _ h refl one))
           h.kept);
+      untils = rw (c.put_at.ensures.entries, c.pop_from.ensures.rest, c.forget.ensures)
+          (spending_popped (cpus_in a) a.untils c.moves-3.new.self c.args.cpu.0 c.unwrap.result is_top (top_goes_off (cpus_in a) a.live.items c.args.cpu.0 c.unwrap.result is_top h.kept.live) (rw (c.entry_at.ensures, c.deref.ensures.value) at c.moves-3.ensures) h.untils);
     }

@@ -5,9 +5,11 @@ use Rattle.wdf_model.specs.parts.Cpus.{all_frames}
 use Rattle.wdf_cpu.specs.Keys.{object_key, wait_key}
 use Rattle.wdf_cpu.specs.Kept.{cpus_in}
 use Rattle.wdf_cpu.proofs.Keeping.{kept_push, on_fits, waits_fit}
-use Rattle.wdf_cpu.proofs.Live.{room_to_push}
+use Rattle.wdf_model.specs.declared.room.TheConstants.{FRAMES}
+use Rattle.wdf_cpu.proofs.Live.{few_frames, room_to_push}
 use Rattle.wdf_cpu.proofs.Numbers.{absent_from}
 use Rattle.wdf_cpu.proofs.Swapping.{none_left, swapped_by}
+use Rattle.wdf_cpu.proofs.Ticks.{few_ticks, spending_push}
 use Rattle.wdf_cpu.proofs.cpus.Cpus.push.Goals as goal
 
 pub moves-requires : goal.moves-requires
@@ -15,6 +17,9 @@ moves-requires c = on_fits c.self.inside c.self.invariant c.object_key.result
 
 pub moves-requires-2 : goal.moves-requires-2
 moves-requires-2 c = waits_fit c.self.inside c.self.invariant c.wait_key.result
+
+pub moves-requires-3-clause-room : goal.moves-requires-3-clause-room
+moves-requires-3-clause-room c = few_ticks (cpus_in c.self.inside) c.self.inside.untils FRAMES c.self.invariant.untils (few_frames (cpus_in c.self.inside) c.self.inside.live.items c.self.invariant.kept.live)
 
 pub push_on-requires-clause-room : goal.push_on-requires-clause-room
 push_on-requires-clause-room c =
@@ -32,12 +37,12 @@ invariant_of-self c =
       live_room = omega arith;
       peaks_room = omega arith;
       parked_room = h.parked_room;
-      levels_room = h.levels_room;
       blank = h.blank;
       kept = rw (c.put_at.ensures.entries, c.push_on.ensures.pushed, c.put_at-2.ensures.entries, c.put_at-3.ensures.entries)
-          (kept_push (cpus_in a) a.live.items a.peaks.items a.on a.waits c.args.cpu.0 c.args.f.0 c.args.frame c.args.level.0 c.peak_of.result.0 c.moves.new.self c.moves-2.new.self
-          c.requires.room fresh c.peak_of.ensures
+          (kept_push (cpus_in a) a.live.items a.peaks.items a.on a.waits c.args.cpu.0 c.args.f.0 c.args.frame c.args.level.0 c.peak.result.0 c.moves.new.self c.moves-2.new.self
+          c.requires.room fresh c.peak.ensures
           (swapped_by a.on c.moves.new.self None c.object_key.result None (object_key c.args.frame) c.moves.ensures refl c.object_key.ensures (none_left a.on))
           (swapped_by a.waits c.moves-2.new.self None c.wait_key.result None (wait_key c.args.frame) c.moves-2.ensures refl c.wait_key.ensures (none_left a.waits))
           h.kept);
+      untils = rw (c.put_at.ensures.entries, c.push_on.ensures.pushed) (spending_push (cpus_in a) a.untils c.moves-3.new.self c.args.cpu.0 c.args.f.0 c.args.frame c.args.level.0 (absent_from c.args.f.0 (all_frames (cpus_in a)) fresh) c.moves-3.ensures h.untils);
     }

@@ -2,7 +2,8 @@ use Rattle.std.proofs.Common.{max, ap, sym, ◌∙◌, arith}
 use Rattle.wdf_model.specs.declared.room.TheConstants.{OBJECTS}
 use Rattle.wdf_rising.proofs.PlacesOfKeys.{rises_with_entry}
 use Rattle.wdf_rising.proofs.EntriesById.{absent_short}
-use Rattle.wdf_defer.specs.Ticks.{due_tick, latest_of, timer_id}
+use Rattle.wdf_defer.specs.Ticks.{due_tick, earlier, earliest_of, latest_of, tick_if, timer_id}
+use Rattle.wdf_defer.proofs.LeastTick.{first_came}
 use Rattle.wdf_defer.proofs.LatestTick.{came}
 use Rattle.wdf_defer.proofs.timers.Timers.put.Goals as goal
 
@@ -16,13 +17,23 @@ latest_after-self-inside-requires c =
     let moved = came OBJECTS c.args.timed c.self.inside.queued.entries c.put-was_queued.new.self.entries c.self.invariant.objects c.put-was_queued.ensures.entries in
     record {
       rest = moved.rest;
-      was = c.self.invariant.latest ∙ (moved.was ∙ ap (λ n. max n moved.rest) (sym (c.tick_of-went.ensures ∙ ap due_tick c.get.ensures)));
-      is = ap latest_of c.as_slice.ensures ∙ moved.is;
+      was = c.self.invariant.latest ∙ (moved.was ∙ ap (λ n. max n moved.rest) (sym (c.tick_of.ensures ∙ ap due_tick c.get-went.ensures)));
+      is = ap latest_of c.as_slice-queued.ensures ∙ moved.is;
+    }
+
+pub least_after-self-inside-requires : goal.least_after-self-inside-requires
+least_after-self-inside-requires c =
+    let moved = first_came OBJECTS c.args.timed c.self.inside.queued.entries c.put-was_queued.new.self.entries c.self.invariant.objects c.put-was_queued.ensures.entries in
+    record {
+      rest = moved.rest;
+      was = c.self.invariant.least ∙ (moved.was ∙ ap (λ n. earlier n moved.rest) (sym (c.tick_if.ensures ∙ ap tick_if c.get-went.ensures)));
+      is = ap earliest_of c.as_slice-queued.ensures ∙ moved.is;
     }
 
 pub invariant_of-self : goal.invariant_of-self
 invariant_of-self c = record {
   objects = rw c.put-was_queued.ensures.entries (rises_with_entry timer_id OBJECTS c.args.timed c.self.inside.queued.entries c.requires c.self.invariant.objects);
   room = c.put-was_queued.ensures.room ∙ c.self.invariant.room;
-  latest = c.latest_after-self-inside.ensures ∙ ap latest_of c.as_slice.ensures;
+  least = c.least_after-self-inside.ensures ∙ ap earliest_of c.as_slice-queued.ensures;
+  latest = c.latest_after-self-inside.ensures ∙ ap latest_of c.as_slice-queued.ensures;
 }

@@ -9,13 +9,13 @@ pub put_at-requires : goal.put_at-requires
 put_at-requires c =
     let size = ap (λ (H : Device). length H.actions) c.self.view_is in
     let within : c.args.at < length c.self.inside.actions.items = omega arith in
-    record { room = fits _ c.self.inside.actions.items c.args.at c.index.result.now (action.Raise c.in-Raise.interrupt) c.self.invariant (at_is _ _ _ c.index.ensures within) c.in-Raise.is }
+    record { room = fits _ c.self.inside.actions.items c.args.at c.index.result.now (action.Raise c.in-Raise.interrupt) c.self.invariant.within (at_is _ _ _ c.index.ensures within) c.in-Raise.is }
 
 pub put_at-requires-in-Lower : goal.put_at-requires-in-Lower
 put_at-requires-in-Lower c =
     let size = ap (λ (H : Device). length H.actions) c.self.view_is in
     let within : c.args.at < length c.self.inside.actions.items = omega arith in
-    record { room = fits _ c.self.inside.actions.items c.args.at c.index.result.now (action.Lower c.in-Lower.interrupt) c.self.invariant (at_is _ _ _ c.index.ensures within) c.in-Lower.is }
+    record { room = fits _ c.self.inside.actions.items c.args.at c.index.result.now (action.Lower c.in-Lower.interrupt) c.self.invariant.within (at_is _ _ _ c.index.ensures within) c.in-Lower.is }
 
 pub returns-in-Set : goal.returns-in-Set
 returns-in-Set c =

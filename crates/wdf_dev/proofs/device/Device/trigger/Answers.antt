@@ -1,6 +1,7 @@
 -- One action more; then what is triggered with a delay.
 use Rattle.std.proofs.Common.{◌≡◌, ◌≤◌, ◌<◌, length, map, vec_capacity, ap, ◌∙◌, arith}
 use Rattle.wdf_model.specs.agents.Device.{Device, set_off}
+use Rattle.wdf_dev.specs.Ahead.{ahead_of_actions}
 use Rattle.wdf_dev.proofs.Acting.{all_triggered, as_long, one_more, within_after, written_all}
 use Rattle.wdf_dev.proofs.device.Device.trigger.Goals as goal
 
@@ -21,8 +22,11 @@ invariant_of-self c =
     let s = c.self-2.inside in
     let changed = c.set_off_all.ensures ∙ ap (map (set_off c.args.access c.args.k s.clock)) c.as_mut_slice.ensures.value in
     let long : s.actions.len ≡ length s.actions.items = omega (arith, s.actions.ok.0) in
-    within_after (vec_capacity s.raised) c.args.access c.args.k s.clock _ s.actions.items
-    (written_all c.args.access c.args.k s.clock s.actions.len c.set_off_all.new.actions s.actions.items _ changed long) c.self-2.invariant
+    record {
+      within = within_after (vec_capacity s.raised) c.args.access c.args.k s.clock _ s.actions.items
+          (written_all c.args.access c.args.k s.clock s.actions.len c.set_off_all.new.actions s.actions.items _ changed long) c.self-2.invariant.within;
+      ahead = c.ahead_of-self-inside.ensures ∙ ap (ahead_of_actions s.clock) c.as_slice.ensures.value;
+    }
 
 pub returns : goal.returns
 returns c =

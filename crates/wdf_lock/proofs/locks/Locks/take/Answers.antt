@@ -3,7 +3,7 @@ use Rattle.std.proofs.Common.{◌≡◌, ◌<◌, ◌∷◌, [], length, true, a
 use Rattle.wdf_model.specs.declared.room.TheConstants.{EVENTS}
 use Rattle.wdf_model.specs.parts.Locks.{is_free_lock}
 use Rattle.wdf_lock.specs.Kept.{locks_in}
-use Rattle.wdf_lock.proofs.Keeping.{calls_few, kept_take}
+use Rattle.wdf_lock.proofs.Keeping.{kept_take}
 use Rattle.wdf_lock.proofs.locks.Locks.take.Goals as goal
 
 pub invariant_of-self : goal.invariant_of-self

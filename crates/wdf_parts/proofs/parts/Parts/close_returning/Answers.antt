@@ -1,17 +1,53 @@
--- One power-managed queue of the device more, or an id that is none is passed over.
-use Rattle.std.proofs.Common.{◌≡◌, ◌+◌, ◌&&◌, ap, sym, ◌∙◌}
-use Rattle.std.specs.List.{range_with_len}
+-- One of what belongs to the device more: its queue is folded in, or it is none and passed over.
+use Rattle.std.proofs.Common.{◌≡◌, ℕ, ◌+◌, ◌&&◌, refl, ap, sym, ◌∙◌, arith}
+use Rattle.wdf_base.specs.Plan.{declared_of}
 use Rattle.wdf_model.specs.Plans.{declared_ids, is_managed, is_queue_of, queue_of}
 use Rattle.wdf_model.specs.State.{State}
 use Rattle.wdf_model.specs.rules.Deeds.{close_returning}
+use Rattle.wdf_plans.specs.Keys.{id_or_end}
+use Rattle.wdf_plans.proofs.Walking.{belongs_within, only_queue}
+use Rattle.wdf_parts.proofs.Belongings.{fold_to}
 use Rattle.wdf_parts.proofs.Walks.{fold_kept, fold_passed, fold_twice}
 use Rattle.wdf_parts.proofs.parts.Parts.close_returning.Goals as goal
 use Rattle.wdf_parts.proofs.parts.Parts.close_returning.Goals.{then-is_managed_queue_of, else-is_managed_queue_of}
 
-pub loop-k-preserved : goal.loop-k-preserved
-loop-k-preserved g c = elim c.if-is_managed_queue_of.branch [
-  | then-is_managed_queue_of w ↦ rw w.self-is (w.close_returning_to.ensures ∙ ap (λ (S : State _). close_returning S (c.loop-k.k + 1)) c.loop-k.invariant
-      ∙ sym (fold_kept close_returning c.args.self.now (λ id. is_queue_of c.args.device.0 (queue_of c.args.plan.now id) && is_managed c.args.plan.now id) (c.loop-k.k + 1) (sym c.is_managed_queue_of.ensures ∙ w.if-is_managed_queue_of.true)))
-  | else-is_managed_queue_of w ↦ rw w.self-is (c.loop-k.invariant
-      ∙ sym (fold_passed close_returning c.args.self.now (λ id. is_queue_of c.args.device.0 (queue_of c.args.plan.now id) && is_managed c.args.plan.now id) (c.loop-k.k + 1) (sym c.is_managed_queue_of.ensures ∙ w.if-is_managed_queue_of.false)))
-]
+pub walk-init : goal.walk-init
+walk-init g c =
+    let within = c.first_of-at.ensures.next.within in
+    record {
+      own = c.first_of-at.ensures.own;
+      within = omega arith;
+      closed = sym (fold_to close_returning c.args.self.now (λ id. is_queue_of c.args.device.0 (queue_of c.args.plan.now id) && is_managed c.args.plan.now id) c.args.plan.now c.args.device.0 0 (id_or_end c.args.plan.now c.first_of-at.result) (only_queue c.args.plan.now c.args.device.0 (is_managed c.args.plan.now)) c.first_of-at.ensures.next);
+    }
+
+pub walk-preserved : goal.walk-preserved
+walk-preserved g c =
+    let within = c.next_of-at.ensures.next.within in
+    let closed = rw c.in-Some.is at c.walk.invariant.closed in
+    let later = sym (fold_to close_returning c.args.self.now (λ id. is_queue_of c.args.device.0 (queue_of c.args.plan.now id) && is_managed c.args.plan.now id) c.args.plan.now c.args.device.0 (c.in-Some.q.0 + 1) (id_or_end c.args.plan.now c.next_of-at.result) (only_queue c.args.plan.now c.args.device.0 (is_managed c.args.plan.now)) c.next_of-at.ensures.next) in
+    elim c.if-is_managed_queue_of.branch [
+      | then-is_managed_queue_of w ↦ rw w.self-is (record {
+        own = c.next_of-at.ensures.own;
+        within = omega arith;
+        closed = w.close_returning_to.ensures ∙ ap (λ (S : State _). close_returning S c.in-Some.q.0) closed
+            ∙ sym (fold_kept close_returning c.args.self.now (λ id. is_queue_of c.args.device.0 (queue_of c.args.plan.now id) && is_managed c.args.plan.now id) c.in-Some.q.0 (sym c.is_managed_queue_of.ensures ∙ w.if-is_managed_queue_of.true)) ∙ later;
+      })
+      | else-is_managed_queue_of w ↦ rw w.self-is (record {
+        own = c.next_of-at.ensures.own;
+        within = omega arith;
+        closed = closed ∙ sym (fold_passed close_returning c.args.self.now (λ id. is_queue_of c.args.device.0 (queue_of c.args.plan.now id) && is_managed c.args.plan.now id) c.in-Some.q.0 (sym c.is_managed_queue_of.ensures ∙ w.if-is_managed_queue_of.false)) ∙ later;
+      })
+    ]
+
+pub walk-smaller : goal.walk-smaller
+walk-smaller g c =
+    let own = rw c.in-Some.is at c.walk.invariant.own in
+    let low = belongs_within c.args.plan.now c.args.device.0 c.in-Some.q.0 own in
+    let after = c.next_of-at.ensures.next.after in
+    let within = c.next_of-at.ensures.next.within in
+    rw c.in-Some.is (omega (arith, low.1))
+
+pub returns : goal.returns
+returns g c =
+    let all = rw c.in_default.is at c.walk.invariant.closed in
+    all ∙ sym (fold_twice close_returning c.args.self.now (λ id. is_queue_of c.args.device.0 (queue_of c.args.plan.now id)) (is_managed c.args.plan.now) (declared_ids c.args.plan.now))

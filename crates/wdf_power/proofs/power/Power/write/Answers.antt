@@ -1,39 +1,16 @@
--- The counts and the set move with the request that is written.
-use Rattle.std.proofs.Common.{◌≡◌, ap, sym, refl, ◌∙◌, arith}
-use Rattle.std.proofs.Math.ListN.{length-set}
-use Rattle.wdf_model.specs.Tables.{entry}
-use Rattle.wdf_model.specs.parts.Power.{holding_of, no_holding}
-use Rattle.wdf_model.proofs.Maps.{put_short}
-use Rattle.wdf_counts.proofs.Counting.{counted_put, room_by_entries}
-use Rattle.wdf_power.specs.Power.{due_at, unsettled_at}
-use Rattle.wdf_power.proofs.Held.{held_kept}
+-- The request is on the list of its device, if it is held.
+use Rattle.std.proofs.Common.{Option, ◌∙◌, subst, ℕ}
+use Rattle.wdf_power.specs.Power.{IsMoved}
+use Rattle.wdf_power.proofs.Listing.{listed_written}
 use Rattle.wdf_power.proofs.power.Power.write.Goals as goal
-
-pub moves-requires : goal.moves-requires
-moves-requires c =
-    let a = c.self.inside in
-    room_by_entries (unsettled_at a.queues.items) a.holdings.items a.unsettled c.unsettled_at-2.result c.self.invariant.within c.self.invariant.unsettled
-
-pub moves-requires-2 : goal.moves-requires-2
-moves-requires-2 c =
-    let a = c.self.inside in
-    room_by_entries (due_at a.queues.items) a.holdings.items a.due c.due_at-2.result c.self.invariant.within c.self.invariant.due
 
 pub invariant_of-self : goal.invariant_of-self
 invariant_of-self c =
     let a = c.self.inside in
-    let s = c.self.invariant in
-    let e = c.put_at.ensures.entries in
-    let was : c.holding-old.result ≡ entry no_holding a.holdings.items c.args.r.0 = c.holding-old.ensures ∙ ap (λ P. holding_of P c.args.r.0) (sym c.self.view_is) in
+    let P : Option ℕ → Type 0 = λ l. IsMoved a.held.lists c.move_to.new.held.lists c.args.r.0 l in
+    let moved = subst P c.list_of-list.ensures.value c.move_to.ensures.moved in
     record {
-      room = omega (arith, s.room, c.put_at.ensures.room);
-      within = rw e (put_short no_holding a.holdings.items c.args.r.0 c.args.new _ c.requires.room s.within);
-      unsettled =
-          rw (e, c.moves.ensures, c.unsettled_at.ensures, c.unsettled_at-2.ensures, c.deref.ensures.value, c.deref-2.ensures.value, was)
-          (counted_put (unsettled_at a.queues.items) no_holding a.holdings.items a.unsettled c.args.r.0 c.args.new refl s.unsettled);
-      due =
-          rw (e, c.moves-2.ensures, c.due_at.ensures, c.due_at-2.ensures, c.deref-3.ensures.value, c.deref-4.ensures.value, was)
-          (counted_put (due_at a.queues.items) no_holding a.holdings.items a.due c.args.r.0 c.args.new refl s.due);
-      held_long = rw c.put.ensures (omega (arith, length-set a.held c.args.r.0 c.is_held.result, s.held_long));
-      held = held_kept a.held c.put.new.self a.holdings.items c.put_at.new.entries.items c.args.r.0 c.args.new c.is_held.result (omega (arith, c.requires.room, s.held_long)) e c.is_held.ensures c.put.ensures s.held;
+      lists = c.move_to.ensures.lists ∙ c.self.invariant.lists;
+      items = c.move_to.ensures.items ∙ c.self.invariant.items;
+      listed = rw c.write.ensures (listed_written a.holdings.queues a.holdings.holdings a.held.lists c.move_to.new.held.lists c.args.r.0 c.args.new c.self.invariant.listed moved);
     }

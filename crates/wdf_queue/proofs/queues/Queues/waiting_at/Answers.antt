@@ -1,6 +1,6 @@
 -- One request further.
 use Rattle.std.proofs.Common.{sym, ◌∙◌}
-use Rattle.wdf_queue.proofs.Places.{next_at}
+use Rattle.wdf_ilist.proofs.Places.{next_at}
 use Rattle.wdf_queue.proofs.queues.Queues.waiting_at.Goals as goal
 
 pub loop-place-preserved : goal.loop-place-preserved

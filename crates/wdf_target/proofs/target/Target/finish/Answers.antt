@@ -21,8 +21,8 @@ put-requires-clause-room c = λ none.
     let gone = subst P same none in
     let z : ⊥ = cc in absurd z
 
-pub invariant_of-self-else-sending : goal.invariant_of-self-else-sending
-invariant_of-self-else-sending c =
+pub invariant_of-self-2 : goal.invariant_of-self-2
+invariant_of-self-2 c =
     let there : entry_of request_id c.self.inside.sent.entries c.args.r.0 ≡ Some c.in-Some.sending = sym c.get.ensures ∙ c.in-Some.is in
     let same = entry_key request_id c.args.r.0 c.self.inside.sent.entries c.in-Some.sending there in
     let below = entry_below request_id 0 OBJECTS c.args.r.0 c.self.inside.sent.entries c.in-Some.sending c.self.invariant.objects there in
@@ -38,8 +38,8 @@ returns-then-sending c =
     c.self.view_is c.self.invariant.objects there c.if-sending.true c.remove.ensures.entries in
     record { done = both.0; it = both.1 }
 
-pub returns-else-sending : goal.returns-else-sending
-returns-else-sending c =
+pub returns : goal.returns
+returns c =
     let there : entry_of request_id c.self.inside.sent.entries c.args.r.0 ≡ Some c.in-Some.sending = sym c.get.ensures ∙ c.in-Some.is in
     let both = finished_kept c.args.self.now OBJECTS c.args.r.0 c.args.status c.self.inside.sent.entries c.put.new.self.entries c.self.inside.depth c.self.inside.stopped c.in-Some.sending
     c.self.view_is c.self.invariant.objects there c.if-sending.false c.put.ensures.entries in

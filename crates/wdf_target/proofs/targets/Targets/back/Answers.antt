@@ -7,31 +7,31 @@ use Rattle.wdf_target.proofs.targets.Targets.back.Goals as goal
 
 pub returns-in_default-clause-done : goal.returns-in_default-clause-done
 returns-in_default-clause-done c =
-    let none : entry None c.self.inside.requests.items c.args.r.0 ≡ None = sym (c.entry_at.ensures ∙ ap (λ rs. entry None rs c.args.r.0) c.as_slice.ensures.value) ∙ c.in_default.is in
-    back_none c.args.self.now c.self.inside.targets.items c.self.inside.requests.items c.args.r.0 c.self.view_is c.self.invariant.kept none
+    let none : entry None c.self.inside.holders.items c.args.r.0 ≡ None = sym (c.entry_at.ensures ∙ ap (λ rs. entry None rs c.args.r.0) c.as_slice.ensures.value) ∙ c.in_default.is in
+    back_none c.args.self.now c.self.inside.targets.items c.self.inside.holders.items c.args.r.0 c.self.view_is c.self.invariant.kept none
 
 pub index_mut-target-requires : goal.index_mut-target-requires
 index_mut-target-requires c =
-    let there : entry None c.self.inside.requests.items c.args.r.0 ≡ Some c.in-Some.sent = sym (c.entry_at.ensures ∙ ap (λ rs. entry None rs c.args.r.0) c.as_slice.ensures.value) ∙ c.in-Some.is in
-    let within = target_within c.self.inside.targets.items c.self.inside.requests.items c.args.r.0 c.in-Some.sent c.self.invariant.kept there in
+    let there : entry None c.self.inside.holders.items c.args.r.0 ≡ Some c.in-Some.t = sym (c.entry_at.ensures ∙ ap (λ rs. entry None rs c.args.r.0) c.as_slice.ensures.value) ∙ c.in-Some.is in
+    let within = target_within c.self.inside.targets.items c.self.inside.holders.items c.args.r.0 c.in-Some.t c.self.invariant.kept there in
     search rules
 
 pub invariant_of-self : goal.invariant_of-self
 invariant_of-self c =
-    let there : entry None c.self.inside.requests.items c.args.r.0 ≡ Some c.in-Some.sent = sym (c.entry_at.ensures ∙ ap (λ rs. entry None rs c.args.r.0) c.as_slice.ensures.value) ∙ c.in-Some.is in
-    let within = target_within c.self.inside.targets.items c.self.inside.requests.items c.args.r.0 c.in-Some.sent c.self.invariant.kept there in
-    let read = read_as c.self.inside.targets.items c.in-Some.sent.target.0 c.index_mut-target.result.now within c.index_mut-target.ensures.value in
-    let is : c.remove.new.self ≡ without_sending c.args.r.0 (entry no_target c.self.inside.targets.items c.in-Some.sent.target.0) = c.remove.ensures ∙ ap (without_sending c.args.r.0) (sym read) in
-    let moves = back_moves c.self.inside.targets.items c.self.inside.requests.items c.args.r.0 c.in-Some.sent c.remove.new.self c.self.invariant.kept there is in
+    let there : entry None c.self.inside.holders.items c.args.r.0 ≡ Some c.in-Some.t = sym (c.entry_at.ensures ∙ ap (λ rs. entry None rs c.args.r.0) c.as_slice.ensures.value) ∙ c.in-Some.is in
+    let within = target_within c.self.inside.targets.items c.self.inside.holders.items c.args.r.0 c.in-Some.t c.self.invariant.kept there in
+    let read = read_as c.self.inside.targets.items c.in-Some.t.0 c.index_mut-target.result.now within c.index_mut-target.ensures.value in
+    let is : c.remove.new.self ≡ without_sending c.args.r.0 (entry no_target c.self.inside.targets.items c.in-Some.t.0) = c.remove.ensures ∙ ap (without_sending c.args.r.0) (sym read) in
+    let moves = back_moves c.self.inside.targets.items c.self.inside.holders.items c.args.r.0 c.in-Some.t c.remove.new.self c.self.invariant.kept there is in
     record {
-      kept = kept_moved c.self.inside.targets.items c.self.inside.requests.items _ c.in-Some.sent.target.0 c.args.r.0 c.remove.new.self None c.self.invariant.kept moves;
+      kept = kept_moved c.self.inside.targets.items c.self.inside.holders.items _ c.in-Some.t.0 c.args.r.0 c.remove.new.self None c.self.invariant.kept moves;
       room = c.self.invariant.room;
     }
 
 pub returns-clause-done : goal.returns-clause-done
 returns-clause-done c =
-    let there : entry None c.self.inside.requests.items c.args.r.0 ≡ Some c.in-Some.sent = sym (c.entry_at.ensures ∙ ap (λ rs. entry None rs c.args.r.0) c.as_slice.ensures.value) ∙ c.in-Some.is in
-    let within = target_within c.self.inside.targets.items c.self.inside.requests.items c.args.r.0 c.in-Some.sent c.self.invariant.kept there in
-    let read = read_as c.self.inside.targets.items c.in-Some.sent.target.0 c.index_mut-target.result.now within c.index_mut-target.ensures.value in
-    let is : c.remove.new.self ≡ without_sending c.args.r.0 (entry no_target c.self.inside.targets.items c.in-Some.sent.target.0) = c.remove.ensures ∙ ap (without_sending c.args.r.0) (sym read) in
-    back_done c.args.self.now c.self.inside.targets.items c.self.inside.requests.items c.args.r.0 c.in-Some.sent c.remove.new.self c.self.view_is c.self.invariant.kept there is
+    let there : entry None c.self.inside.holders.items c.args.r.0 ≡ Some c.in-Some.t = sym (c.entry_at.ensures ∙ ap (λ rs. entry None rs c.args.r.0) c.as_slice.ensures.value) ∙ c.in-Some.is in
+    let within = target_within c.self.inside.targets.items c.self.inside.holders.items c.args.r.0 c.in-Some.t c.self.invariant.kept there in
+    let read = read_as c.self.inside.targets.items c.in-Some.t.0 c.index_mut-target.result.now within c.index_mut-target.ensures.value in
+    let is : c.remove.new.self ≡ without_sending c.args.r.0 (entry no_target c.self.inside.targets.items c.in-Some.t.0) = c.remove.ensures ∙ ap (without_sending c.args.r.0) (sym read) in
+    back_done c.args.self.now c.self.inside.targets.items c.self.inside.holders.items c.args.r.0 c.in-Some.t c.remove.new.self c.self.view_is c.self.invariant.kept there is

@@ -19,7 +19,7 @@ invariant_of-self c =
           (c.nearest_for-device.ensures ∙ ap (λ (t : Tree). own_device (nearest_devices [] t.nodes) (length t.nodes) c.args.node) (sym c.self.view_is)) (omega arith));
       leaving = rw c.push_reserved.ensures.items (leaving_by_push c.args.node c.self.invariant.leaving c.requires.live);
       turns = turns_after_push c.args.node c.len-id.result _ _ c.back-last.result c.push_reserved.ensures.items c.join-2.ensures c.self.invariant.turns c.self.invariant.kept.waiting_kin c.requires.live (omega arith)
-          c.back-last.ensures (rw c.deref.ensures.value at c.note_sibling.ensures.noted) (rw c.deref.ensures.value at c.note_sibling.ensures.own);
+          c.back-last.ensures (rw c.deref.ensures.value at c.note_if_any.ensures.noted) (rw c.deref.ensures.value at c.note_if_any.ensures.own);
     }
 
 pub join-requires-clause-free : goal.join-requires-clause-free

@@ -1,26 +1,32 @@
--- A child more was noted, or the object is none.
-use Rattle.std.proofs.Common.{◌<◌, ap, sym, ◌∙◌, length, arith}
-use Rattle.wdf_model.specs.Tables.{entry}
-use Rattle.wdf_model.specs.parts.Tree.{gone}
+-- A child more was noted.
+use Rattle.std.proofs.Common.{◌∙◌, length, arith}
+use Rattle.std.proofs.lemmas.List.{take_all}
+use Rattle.wdf_ilist.specs.Family.{list_at}
 use Rattle.wdf_tree.specs.Turns.{is_turn}
-use Rattle.wdf_tree.proofs.Turns.{next_child, noted_more, noted_none}
+use Rattle.wdf_ilist.proofs.Places.{first_at}
+use Rattle.wdf_tree.proofs.Lists.{next_place, on_more}
+use Rattle.wdf_tree.proofs.Turns.{noted_more, noted_none, one_more}
 use Rattle.wdf_tree.proofs.tree.turns.note_children.Goals as goal
-use Rattle.wdf_tree.proofs.tree.turns.note_children.Goals.{then-parent_in-o, else-parent_in-o}
 
-pub loop-id-preserved : goal.loop-id-preserved
-loop-id-preserved c =
+pub loop-place-init : goal.loop-place-init
+loop-place-init c = record {
+  at = c.front-child.ensures.first ∙ first_at (list_at c.args.waiting.now.lists c.args.o.0);
+  noted = noted_none (is_turn c.args.nodes.now c.args.waiting.now.lists) _;
+  children = λ id below on. absurd (let z : ⊥ = cc in z);
+}
+
+pub loop-place-preserved : goal.loop-place-preserved
+loop-place-preserved c =
     let test = is_turn c.args.nodes.now c.args.waiting.now.lists in
-    let there : c.loop-id.id < length c.args.nodes.now = omega (arith, c.loop-id-test.true) in
-    elim c.if-parent_in-o.branch [
-      | then-parent_in-o w ↦
-          rw w.turns-is (record {
-            noted = noted_more test _ _ _ c.loop-id.invariant.noted w.note_turn.ensures.noted;
-            children = λ id below child. next_child test _ _ c.loop-id.id id w.note_turn.ensures.noted (λ under. c.loop-id.invariant.children id under child) (λ e. rw e (w.note_turn.ensures.own there)) below;
-          })
-      | else-parent_in-o w ↦
-          rw w.turns-is (record {
-            noted = c.loop-id.invariant.noted;
-            children = λ id below child. next_child test _ _ c.loop-id.id id (noted_none test c.loop-id.turns) (λ under. c.loop-id.invariant.children id under child)
-                (λ e. absurd (w.if-parent_in-o.false (c.parent_in.ensures ∙ ap (λ x. (entry gone c.args.nodes.now x).parent.0) (sym e) ∙ child))) below;
-          })
-    ]
+    let xs = list_at c.args.waiting.now.lists c.args.o.0 in
+    record {
+      at = c.item_after-child.ensures ∙ next_place c.args.waiting.now c.args.o.0 c.loop-place.place c.loop-place.child c.front-child.ensures.apart c.loop-place.invariant.at;
+      noted = noted_more test _ _ _ c.loop-place.invariant.noted c.note_if_any.ensures.noted;
+      children = λ id below on. one_more test _ _ (length c.args.nodes.now) c.loop-place.child id _ _ c.note_if_any.ensures.noted c.note_if_any.ensures.own below
+          (c.loop-place.invariant.children id below) c.loop-place.invariant.at (on_more xs c.loop-place.place id on);
+    }
+
+pub returns-clause-children : goal.returns-clause-children
+returns-clause-children c = λ id below on.
+    let xs = list_at c.args.waiting.now.lists c.args.o.0 in
+    c.loop-place.invariant.children id below (rw (take_all c.loop-place.place xs (let n = c.len-place-end.ensures in omega arith)) on)

@@ -1,0 +1,282 @@
+ghost use Rattle.std.specs.Prelude.{◌≡◌, ◌<◌, ◌≤◌, IfOk, IfSome, Some, count_by, if◌then◌else◌, length, map, option_map};
+ghost use Rattle.std.specs.List.{list_any};
+ghost use Rattle.wdf_counts.specs.Counts.{is_at};
+ghost use Rattle.wdf_model.specs.Tables.{entry, least, lesser as lesser_of, put};
+ghost use Rattle.wdf_model.specs.parts.Power as power;
+ghost use Rattle.wdf_power.specs.Kept.{AreListed};
+ghost use Rattle.wdf_power.specs.Power as kept;
+
+use crate::opening::opening_queues;
+use std::alloc::Global;
+use std::marker::Model;
+use wdf_base::{Memory, ObjectId, Plan};
+use wdf_counts::Counts;
+use wdf_ilist::Links;
+use wdf_maps::{entry_at, put_at};
+use wdf_model::{Holding, OBJECTS, QueuePower};
+
+/// Of a queue that there isn't.
+const NO_QUEUE_POWER: QueuePower = QueuePower {
+    device: ObjectId(0),
+    resumes: false,
+};
+
+/// Of a request that isn't held from a power-managed queue.
+pub(crate) const NO_HOLDING: Holding = Holding {
+    queue: ObjectId(0),
+    acknowledged: false,
+    stop_asked: false,
+    resume_due: false,
+};
+
+/// How far the requests that the driver holds from power-managed queues have come, counted by device.
+///
+/// Contracts see the definitions' record of power, without devices.
+#[derive(Drop)]
+pub(crate) struct Holdings {
+    /// By the queue's id.
+    queues: Vec<QueuePower>,
+    /// By the request's id.
+    all: Vec<Holding>,
+    /// How many requests are held and not acknowledged, by device.
+    unsettled: Counts,
+    /// For how many requests a resume is due, by device.
+    due: Counts,
+}
+
+impl Model for Holdings {
+    ghost use Rattle.wdf_model.specs.parts.Power as power;
+
+    ghost Value = { power.Power };
+
+    ghost use Rattle.wdf_power.specs.Kept.{holdings_in, AreSound};
+
+    ghost view = { holdings_in };
+
+    ghost invariant = { AreSound };
+}
+
+/// Whether a request is held.
+pub(crate) fn is_held(holding: &Holding) -> bool
+    ensures { result ≡ power.is_held holding.now }
+{
+    0 < holding.queue.0
+}
+
+/// The device at which a request is held and isn't acknowledged.
+fn unsettled_at(queues: &[QueuePower], holding: &Holding) -> Option<ObjectId>
+    ensures { result ≡ kept.unsettled_at queues.now holding.now }
+{
+    if is_held(holding) && !holding.acknowledged {
+        Some(entry_at(queues, NO_QUEUE_POWER, holding.queue.0).device)
+    } else {
+        None
+    }
+}
+
+/// The device at which a resume is due for a request.
+fn due_at(queues: &[QueuePower], holding: &Holding) -> Option<ObjectId>
+    ensures { result ≡ kept.due_at queues.now holding.now }
+{
+    if is_held(holding) && holding.resume_due {
+        Some(entry_at(queues, NO_QUEUE_POWER, holding.queue.0).device)
+    } else {
+        None
+    }
+}
+
+/// Whether a resume is due for some request of a device, by a look at all of them.
+fn some_due(queues: &[QueuePower], holdings: &[Holding], d: ObjectId) -> bool
+    ensures { result ≡ list_any (λ h. is_at d.0 (kept.due_at queues.now h)) holdings.now }
+{
+    holdings
+        .iter()
+        .any(|holding| is_at(d, due_at(queues, holding)))
+}
+
+/// How many requests of a device are held and not acknowledged, by a look at all of them.
+fn count_unsettled(queues: &[QueuePower], holdings: &[Holding], d: ObjectId) -> usize
+    ensures value { result ≡ count_by (λ h. is_at d.0 (kept.unsettled_at queues.now h)) holdings.now }
+    ensures small { result ≤ length holdings.now }
+{
+    holdings
+        .iter()
+        .filter(|holding| is_at(d, unsettled_at(queues, holding)))
+        .count()
+}
+
+/// Whether a device is there, and it is this one.
+fn is_at(d: ObjectId, device: Option<ObjectId>) -> bool
+    ensures { result ≡ is_at d.0 device }
+{
+    match device {
+        Some(device) => device.0 == d.0,
+        None => false,
+    }
+}
+
+/// The list of the requests that are held at a device; those of all ids that no device can have are on one.
+pub(crate) fn list_of(device: ObjectId) -> u32
+    ensures value { result ≡ kept.list_of device.0 }
+    ensures small { result ≤ OBJECTS }
+{
+    device.0.min(OBJECTS)
+}
+
+/// The lesser of what was found and one more.
+fn lesser(found: Option<u32>, r: u32) -> Option<u32>
+    ensures { result ≡ lesser_of found r }
+{
+    match found {
+        Some(other) if other <= r => Some(other),
+        _ => Some(r),
+    }
+}
+
+impl Holdings {
+    /// Nothing is held, from any queue of the plan. It takes all the memory that the run needs.
+    pub(crate) fn make(alloc: Global, plan: &Plan) -> Result<Holdings, Memory>
+        ensures { IfOk result (λ made. made ≡ kept.opening_holdings plan.now) }
+    {
+        Ok(Holdings {
+            queues: opening_queues(alloc, plan)?,
+            all: Vec::with_capacity(alloc, OBJECTS as usize)?,
+            unsettled: Counts::make(alloc)?,
+            due: Counts::make(alloc)?,
+        })
+    }
+
+    /// How far a request has come.
+    pub(crate) fn holding(&self, r: ObjectId) -> Holding
+        ensures { result ≡ power.holding_of self.now r.0 }
+    {
+        entry_at(&self.all, NO_HOLDING, r.0)
+    }
+
+    /// The list that a request is on, none where it isn't held.
+    pub(crate) fn list_of(&self, holding: &Holding) -> Option<u32>
+        ensures value { result ≡ kept.held_list self.now.queues holding.now }
+        ensures small { IfSome result (λ l. l ≤ OBJECTS) }
+    {
+        if !is_held(holding) {
+            return None;
+        }
+        Some(list_of(entry_at(&self.queues, NO_QUEUE_POWER, holding.queue.0).device))
+    }
+
+    /// Writes how far a request has come.
+    pub(crate) fn write(&mut self, r: ObjectId, new: Holding)
+        requires room { r.0 < OBJECTS }
+        ensures { self.new ≡ record self.old { holdings = put power.no_holding self.old.holdings r.0 new } }
+    {
+        let old = self.holding(r);
+        self.unsettled.moves(
+            unsettled_at(&self.queues, &old),
+            unsettled_at(&self.queues, &new),
+        );
+        self.due
+            .moves(due_at(&self.queues, &old), due_at(&self.queues, &new));
+        put_at(&mut self.all, NO_HOLDING, r.0, new);
+    }
+
+    /// How many requests the driver holds from power-managed queues of a device without having
+    /// acknowledged them. (own, after KMDF)
+    pub(crate) fn unsettled(&self, d: ObjectId) -> u32
+        ensures { result ≡ length (power.unsettled self.now d.0) }
+    {
+        if d.0 < OBJECTS {
+            self.unsettled.of(d)
+        } else {
+            count_unsettled(&self.queues, &self.all, d) as u32
+        }
+    }
+
+    /// Whether a resume is due for some request of a device. (KMDF: EvtIoResume)
+    pub(crate) fn any_resume_due(&self, d: ObjectId) -> bool
+        ensures { result ≡ power.any_resume_due self.now d.0 }
+    {
+        if d.0 < OBJECTS {
+            0 < self.due.of(d)
+        } else {
+            some_due(&self.queues, &self.all, d)
+        }
+    }
+
+    /// Whether a request is held from a power-managed queue of a device, and isn't acknowledged.
+    fn is_unsettled_at(&self, d: ObjectId, r: ObjectId) -> bool
+        ensures { result ≡ power.is_unsettled_at self.now d.0 (power.holding_of self.now r.0) }
+    {
+        let holding = self.holding(r);
+        let queue = entry_at(&self.queues, NO_QUEUE_POWER, holding.queue.0);
+        is_held(&holding) && queue.device.0 == d.0 && !holding.acknowledged
+    }
+
+    /// The lesser of what was found and a request, where that is unsettled at a device.
+    fn lesser_unsettled(&self, d: ObjectId, found: Option<u32>, r: u32) -> Option<u32>
+        ensures { result ≡ (if power.is_unsettled_at self.now d.0 (power.holding_of self.now r) then lesser_of found r else found) }
+    {
+        if self.is_unsettled_at(d, ObjectId(r)) {
+            lesser(found, r)
+        } else {
+            found
+        }
+    }
+
+    /// The least of the requests that are unsettled at a device, if there is one. It goes over those that
+    /// are held there, which the lists say.
+    pub(crate) fn least_unsettled(&self, held: &Links, d: ObjectId) -> Option<u32>
+        requires { AreListed self.now.queues self.now.holdings held.now.lists }
+        ensures { result ≡ least (power.unsettled self.now d.0) }
+    {
+        let list = list_of(d);
+        let mut found = None;
+        let mut next = held.front(list);
+        for _ in 0..held.len(list) {
+            match next {
+                Some(r) => {
+                    found = self.lesser_unsettled(d, found, r);
+                    next = held.after(r);
+                }
+                None => return found,
+            }
+        }
+        found
+    }
+
+    /// A request after the queues of a device came up.
+    fn woken(&self, d: ObjectId, holding: Holding) -> Holding
+        ensures { result ≡ power.woken self.now d.0 holding }
+    {
+        let queue = entry_at(&self.queues, NO_QUEUE_POWER, holding.queue.0);
+        if is_held(&holding) && queue.device.0 == d.0 {
+            Holding {
+                queue: holding.queue,
+                resume_due: queue.resumes,
+                ..NO_HOLDING
+            }
+        } else {
+            holding
+        }
+    }
+
+    /// The queues of a device came up: what is held from them isn't acknowledged nor asked to stop
+    /// any more, and a resume is due where the queue declares EvtIoResume. It goes over the requests that
+    /// are held there, which the lists say. (own)
+    pub(crate) fn wake(&mut self, held: &Links, d: ObjectId)
+        requires listed { AreListed self.old.queues self.old.holdings held.now.lists }
+        requires items { held.now.items ≡ OBJECTS }
+        ensures { self.new ≡ power.wake_holdings self.old d.0 }
+    {
+        let list = list_of(d);
+        let mut next = held.front(list);
+        for _ in 0..held.len(list) {
+            match next {
+                Some(r) => {
+                    self.write(ObjectId(r), self.woken(d, self.holding(ObjectId(r))));
+                    next = held.after(r);
+                }
+                None => return,
+            }
+        }
+    }
+}
