@@ -1,6 +1,6 @@
 //! What a device's steps are made of, and how far it has come at the opening of a plan's run.
 
-ghost use Rattle.std.specs.Prelude.{◌≡◌, ◌++◌, IfOk, OnOk, filter, option_to_list};
+ghost use Rattle.std.specs.Prelude.{◌≡◌, ◌++◌, IfOk, None, OnOk, Some, filter, if◌then◌else◌, option_to_list};
 ghost use Rattle.wdf_model.specs.Plans as plans;
 ghost use Rattle.wdf_model.specs.parts.Pnp as pnp;
 ghost use Rattle.wdf_pnp.specs.Opening.{steps_at};
@@ -40,6 +40,17 @@ fn add<T: Drop>(all: &mut Vec<T>, item: Option<T>) -> Result<(), Memory>
     Ok(())
 }
 
+/// A callback, if a device declares it.
+fn if_declared(plan: &Plan, d: ObjectId, callback: Callback) -> Option<Callback>
+    ensures { result ≡ (if plans.declares plan.now callback d.0 then Some callback else None) }
+{
+    if declares(plan, callback, d) {
+        Some(callback)
+    } else {
+        None
+    }
+}
+
 /// The callbacks of a list that a device declares.
 fn declared_among(
     alloc: Global,
@@ -49,11 +60,10 @@ fn declared_among(
 ) -> Result<Vec<Callback>, Memory>
     ensures { IfOk result (λ all. all.items ≡ filter (λ c. plans.declares plan.now c d.0) callbacks.now) }
 {
-    let all = callbacks
-        .iter()
-        .copied()
-        .filter(|callback| declares(plan, *callback, d))
-        .collect(alloc)?;
+    let mut all = Vec::new(alloc);
+    for callback in callbacks {
+        add(&mut all, if_declared(plan, d, *callback))?;
+    }
     Ok(all)
 }
 
