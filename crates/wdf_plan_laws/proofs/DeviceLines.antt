@@ -11,7 +11,6 @@ use Rattle.wdf_scene.specs.declared.scene.Scene.{Scene}
 use Rattle.wdf_scene.specs.Naming.{declared_name}
 use Rattle.wdf_scene.specs.Written.{IsScene}
 use Rattle.wdf_plan.specs.declared.placed.Placed.{Placed}
-use Rattle.wdf_plan.specs.Blocks.{form_at}
 use Rattle.wdf_plan.specs.Declarations.{declarations, declared_by}
 use Rattle.wdf_plan.specs.First.{first_refusal}
 use Rattle.wdf_plan.specs.Forms.{is_device, is_object, is_register}
@@ -27,6 +26,7 @@ use Rattle.wdf_plan_laws.specs.Told.{placed_that, Paired, block_name, device_in,
 use Rattle.wdf_plan_laws.specs.WrittenOut.{name_text, object_text}
 use Rattle.wdf_plan_laws.proofs.NameTexts.{LineTold, lines_told}
 use Rattle.wdf_plan_laws.proofs.Pairs.{Both, paired}
+use Rattle.wdf_plan_laws.proofs.ScriptLines.{block_step}
 
 -- the object of a device's line has the name that the line declares
 device_named : (scene : Scene) (p : Placed) (form : SceneLine) (o : Option Declared) → is_device form ≡ true → LineTold scene p form
@@ -35,9 +35,6 @@ device_named : (scene : Scene) (p : Placed) (form : SceneLine) (o : Option Decla
 unfolding object_of is_device device_info declared_by declared_name
 device_named scene p (line.Device n working) o is t h = rw (h _ refl) (ap (λ m. Some m) (sym (t _ refl)))
 device_named scene p _ o is t h = absurd (let z : ⊥ = cc in z)
-
-block_step : (scene : Scene) (o : Option ℕ) (k : ℕ) (form : SceneLine) (n : List ℕ) → o ≡ Some k → form_at scene k ≡ Some form → declared_name form ≡ Some n → block_name scene o ≡ Some n
-block_step scene o k form n e f g = rw (e, f) g
 
 -- the name of a device is that of its line
 device_told : (scene : Scene) → first_refusal scene ≡ None → (o : Option ℕ) (k order : ℕ) → o ≡ Some k → IsDeviceAt (placed scene) k order → block_name scene o ≡ Some (object_text (plan_of scene) (id_of order))

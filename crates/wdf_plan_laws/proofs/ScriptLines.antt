@@ -59,7 +59,8 @@ home_lines : (scene : Scene) → first_refusal scene ≡ None → Every (IsHomeL
 home_lines scene e =
     every_map (λ p. LineTold scene p p.form × ClassThere scene p) (IsHomeLine scene) (λ p h. record { told = h.0; there = h.1 }) (placed scene) (every_both (λ p. LineTold scene p p.form) (ClassThere scene) (placed scene) (lines_told scene e) (classes_there scene))
 
-block_step : (scene : Scene) (o : Option ℕ) (k : ℕ) (form : SceneLine) (n : List ℕ) → o ≡ Some k → form_at scene k ≡ Some form → declared_name form ≡ Some n → block_name scene o ≡ Some n
+-- the name of a block is that of its line
+pub block_step : (scene : Scene) (o : Option ℕ) (k : ℕ) (form : SceneLine) (n : List ℕ) → o ≡ Some k → form_at scene k ≡ Some form → declared_name form ≡ Some n → block_name scene o ≡ Some n
 block_step scene o k form n e f g = rw (e, f) g
 
 owner_told : (scene : Scene) → first_refusal scene ≡ None → (p : Placed) (i : IsOwner scene p) → block_name scene p.stand.block ≡ Some (owner_text (plan_of scene) i.owner)
