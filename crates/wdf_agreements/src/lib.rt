@@ -1,4 +1,5 @@
-//! Laws over all runs of the machine: what its parts agree on of locks, lives, arrivals and queues.
+//! Laws over all runs of the machine: what its parts agree on of locks, levels, frames, lives, deferred work, arrivals and
+//! the devices of requests.
 #![tactic(auto)]
 
 ghost use Rattle.std.specs.Prelude.{◌≡◌, ℕ, true, List, take};

@@ -46,7 +46,7 @@ pub fn finished_runs_have_nothing_left<A>()
         → NothingLeft plan m (state_after plan m run) }
 {}
 
-/// What the line of a frame names is so. The frame that it names stands above it on its processor, or runs on the object
+/// What the line of a frame names is so. The frame that it names is above it on its processor, or runs on the object
 /// whose callbacks its call waits for; the frame after `lock` holds the lock that its call acquires; the request is held
 /// from the queue that its call waits for, waits in it or returns from it, or is at the target; the work item is queued;
 /// and `cpus` says that the frame is parked, its wait is over, and each processor has a frame.

@@ -1,5 +1,5 @@
-//! Laws over all runs on how they end: each line of a stuck run's wait list whose row names causes has one, where what it
-//! is about may start.
+//! Laws over all runs on how they end: the line of a frame, of a request in a queue or on its way out of one, of a device
+//! or of queued work names a cause, where what the line is about may start.
 #![tactic(auto)]
 
 ghost use Rattle.std.specs.Prelude.{◌≡◌, ℕ, true, false, List, Option, Some, is_some, slice_get, take};

@@ -50,7 +50,7 @@ pub fn each_line_names_a_cause<A>()
 
 /// In a run that ends stuck, a processor that can't take a start of some level spins: its top frame waits on it for a spin
 /// lock or for an interrupt's lock, at a level above 0. So where a line names `cpus`, the processors that could take the
-/// start have a frame that spins, or that stands under such a frame.
+/// start have a frame that spins, or that is under such a frame.
 pub fn taken_processors_spin<A>()
     ensures { (plan : Plan) (m : Meaning A) (run : List Event) → IsRunOf plan m run → ending_of plan m run ≡ ending.Stuck → (level cpu : ℕ) → cpu < plan.cpus
         → is_taken (state_after plan m run) level cpu ≡ true → Spins (state_after plan m run) cpu }

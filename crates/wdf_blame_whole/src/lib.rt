@@ -1,5 +1,6 @@
-//! Laws over all runs on how they end: each line of a stuck run's wait list whose row names causes has one. What the laws
-//! of `wdf_blame_causes` ask of queues, of queued work and of steps is so at each place of every run of a resolved plan.
+//! Laws over all runs on how they end: each line of a stuck run's wait list that is about a frame, a request in a queue or
+//! on its way out of one, a device, or queued work names a cause. What the laws of `wdf_blame_causes` ask of queues, of
+//! queued work and of steps is so at each place of every run of a resolved plan.
 #![tactic(auto)]
 
 ghost use Rattle.std.specs.Prelude.{◌≡◌, ℕ, true, false, List, Option, Some, is_some, slice_get, take};

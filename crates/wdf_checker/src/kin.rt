@@ -1,4 +1,4 @@
-//! Parents and classes, and the scope locks of callbacks, from what the whole list tells.
+//! Parents and classes, and the scope locks of callbacks, from the whole list.
 ghost use Rattle.std.specs.Prelude.{◌≡◌, ℕ, nat_eq, length, OnOk, IfOk};
 ghost use Rattle.std.specs.HashMap.{get};
 ghost use Rattle.wdf_base.specs.Plan.{declared_of};
@@ -17,12 +17,12 @@ use wdf_laws::Told;
 use wdf_lock::scope_of;
 use wdf_signs::told;
 
-/// A list of events, and what it tells of each object.
+/// A list of events, and what it says of each object.
 #[derive(Drop)]
 pub struct Kin<'a> {
     plan: &'a Plan,
     all: &'a [Event],
-    /// By object, what the earliest event that tells of it tells.
+    /// By object, what the earliest event that speaks of it says.
     told: HashMap<u32, Told>,
 }
 
@@ -36,7 +36,7 @@ impl<'a> Model for Kin<'a> {
     ghost invariant = { λ k. AreTold k.plan.now k.all.now k.told };
 }
 
-/// Keeps what is told of an object, if nothing was told of it before.
+/// Keeps what is said of an object, if nothing was said of it before.
 fn keep_told(kept: &mut HashMap<u32, Told>, new: Option<Told>) -> Result<(), Memory>
     ensures { OnOk result ((o : ℕ) → get nat_eq kept.new o ≡ kin.with_told o new (get nat_eq kept.old o)) }
 {
@@ -112,14 +112,14 @@ impl<'a> Kin<'a> {
         Ok(Kin { plan, all, told })
     }
 
-    /// The plan.
+    /// The plan whose traces are checked.
     pub fn plan(&self) -> &'a Plan
         ensures { result.now ≡ self.now.plan }
     {
         self.plan
     }
 
-    /// The whole list.
+    /// All events of the list, those too that weren't read yet.
     pub fn all(&self) -> &'a [Event]
         ensures { result.now ≡ self.now.all }
     {
@@ -158,7 +158,7 @@ impl<'a> Kin<'a> {
         scope_of(self.plan, callback, ObjectId(o), self.made_as(o))
     }
 
-    /// By object, its children: those that are declared, and one for each event that tells of one.
+    /// By object, its children: those that are declared, and one for each event that names one.
     pub fn read_children(&self, alloc: Global) -> Result<HashMap<u32, Vec<u32>>, Memory>
         ensures { IfOk result (λ children. (o : ℕ) → maps.group_at children o ≡ groups.children_of self.now.plan self.now.all o) }
     {

@@ -40,7 +40,7 @@ fn ends_after_requests(past: &Past, ended: Option<u32>) -> bool
     }
 }
 
-/// A request is completed once, after it arrived; a device ends after its requests.
+/// A request is completed once, after it arrived; a device is destroyed after its requests are completed.
 pub fn keeps_completions(past: &Past, event: &Event) -> bool
     ensures { result ≡ laws.law_1 (before past.now) event.now }
 {
@@ -171,7 +171,7 @@ fn ends_well(past: &Past, ended: Option<u32>) -> bool
     }
 }
 
-/// An object ends once, after its cleanup, its children and its references.
+/// An object is destroyed once, after its cleanup and its children, and without references.
 pub fn keeps_ends(past: &Past, event: &Event) -> bool
     ensures { result ≡ laws.law_9 past.now.plan past.now.all (before past.now) event.now }
 {

@@ -1,4 +1,4 @@
-//! The checker of the laws of a trace, in time that grows with the trace.
+//! The checker of the laws of a trace.
 //!
 //! It reads the events once, and keeps what the laws' words ask of those before: when each sign came last, and short lists
 //! by device, queue and parent.

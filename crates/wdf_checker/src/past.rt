@@ -84,7 +84,7 @@ impl<'a> Past<'a> {
         })
     }
 
-    /// The plan.
+    /// The plan whose traces are checked.
     pub fn plan(&self) -> &Plan
         ensures { result.now ≡ self.now.plan }
     {
@@ -98,7 +98,7 @@ impl<'a> Past<'a> {
         self.kin.scope_on(callback, o)
     }
 
-    /// An object has no more objects above it than the plan and the events tell of.
+    /// An object has no more objects above it than the plan and the events name.
     pub fn most_above(&self) -> usize
         ensures { result ≡ family.most_above self.now.plan self.now.all }
     {

@@ -1,4 +1,4 @@
-//! The nine laws of a trace, which every run keeps.
+//! The nine laws of a trace, which every run of a resolved plan keeps.
 #![tactic(auto)]
 
 ghost use Rattle.std.specs.Prelude.{List};

@@ -1,4 +1,4 @@
-//! Laws of power that every run of the written machine keeps, whatever the agents are.
+//! Laws of a trace on power and on interrupts that every run of a resolved plan keeps, whatever the agents are.
 #![tactic(auto)]
 
 ghost use Rattle.std.specs.Prelude.{◌≡◌, ◌&&◌, ℕ, true, List, Option, Some, slice_get, take};

@@ -4,7 +4,7 @@ ghost use Rattle.wdf_ready.specs.Actors.{actor_of as actor_by_event, is_by as is
 use wdf_base::{Actor, Event};
 use wdf_same::same_actor;
 
-/// Who takes the step of an event.
+/// The actor of an event.
 fn actor_of(event: &Event) -> Actor
     ensures { result ≡ actor_by_event event.now }
 {
@@ -30,7 +30,7 @@ fn actor_of(event: &Event) -> Actor
     }
 }
 
-/// Whether an event is a step of this actor.
+/// Whether an event is one of this actor's.
 pub fn is_by(event: &Event, actor: Actor) -> bool
     ensures { result ≡ is_step_of actor event.now }
 {

@@ -112,7 +112,7 @@ fn is_wait_line<A: Agent>(core: &Core<A>, k: usize, text: &[u8]) -> bool
     k < core.wait_len() && is_line_of_wait(core.plan(), &core.wait_at(k), text)
 }
 
-/// Whether a text is that line, of those after the events of the run, which comes after this many of them.
+/// Whether a text is the next of the lines after the events of the run, where so many of them have come.
 fn is_end_line<A: Agent>(core: &Core<A>, told: usize, text: &[u8]) -> bool
     ensures { IsTrue result ↔ (slice_get (end_lines core.now.plan A.meaning core.now.journal) told ≡ Some (fed text.now)) }
 {

@@ -13,7 +13,7 @@ use crate::picks::{Listed, Picks, Seeded};
 use wdf_base::Agent;
 use wdf_core::Core;
 
-/// Goes on from the journal by the picks, until no step may follow. A missing pick is 0. It takes
+/// Goes on from the journal by the picks, until no event may follow. A missing pick is 0. It takes
 /// no memory.
 pub fn run_order<A: Agent>(core: &mut Core<A>, picks: &[u64])
     ensures plan { core.new.plan ≡ core.old.plan }
@@ -23,7 +23,7 @@ pub fn run_order<A: Agent>(core: &mut Core<A>, picks: &[u64])
 }
 
 /// Goes on from the journal by the words of `SplitMix64::seed_from_u64(seed)`, first to last, until no
-/// step may follow. A run has no more events than its limit, so it asks for no more words. It takes no
+/// event may follow. A run has no more events than its limit, so it asks for no more words. It takes no
 /// memory.
 pub fn run_seed<A: Agent>(core: &mut Core<A>, seed: u64)
     ensures plan { core.new.plan ≡ core.old.plan }
@@ -32,7 +32,7 @@ pub fn run_seed<A: Agent>(core: &mut Core<A>, seed: u64)
     run_by(core, &mut Seeded::new(seed));
 }
 
-/// Goes on from the journal by the picks of a source, one a turn, until no step may follow.
+/// Goes on from the journal by the picks of a source, one a turn, until no event may follow.
 fn run_by<A: Agent, P: Picks>(core: &mut Core<A>, source: &mut P)
     ensures plan { core.new.plan ≡ core.old.plan }
     // It is the run that each list picks which has the source's pick for each turn that a run may have.

@@ -46,7 +46,7 @@ pub fn serve<T: Threads + Sync, R: Read, W: Write, G: Gate + Sync>(
     ensures headline { IsTrue (writes_run (words_after_name arguments)) → IsTrue (is_end_status result)
         → WroteSomeRun (sourcing source.old.left source.new.left source.old.faults source.new.faults)
         (sinking sink.old.written sink.new.written sink.old.faults sink.new.faults) result }
-    // Where memory for the words is refused, that is told and nothing is read.
+    // Where memory for the words is refused, that is said and nothing is read.
     ensures lacking { LacksMemory arguments
         → IsUnread (sourcing source.old.left source.new.left source.old.faults source.new.faults)
         × Says (sinking sink.old.written sink.new.written sink.old.faults sink.new.faults) no_memory_line 15 result }
@@ -77,7 +77,7 @@ fn words_of(alloc: Global, arguments: io::Result<Args>) -> Result<Vec<String>, A
     }
 }
 
-/// The arguments after the first, which is the program's name. Room for all is asked for once, so a refusal is told.
+/// The arguments after the first, which is the program's name. Room for all is asked for once, so a refusal is seen.
 fn after_name(alloc: Global, arguments: Args) -> Result<Vec<String>, AllocError>
     ensures { IfOk result (λ words. words.items ≡ drop 1 (into_iter_items arguments)) }
 {

@@ -21,7 +21,7 @@ use wdf_top::{opening, read_plan};
 use wdf_turn::Gate;
 use wdf_workers::run_threads;
 
-/// Reads the input, runs its plan by threads and writes the trace, or tells why it can't.
+/// Reads the input, runs its plan by threads and writes the trace, or says why it can't.
 pub fn run_input<R: Threads + Sync, S: Source, K: Sink, G: Gate + Sync>(
     rt: &R,
     alloc: Global,

@@ -61,7 +61,7 @@ fn is_top<A: Agent>(parts: &Parts<A>, cpu: Cpu, frame: FrameId) -> bool
     }
 }
 
-/// Whether a frame leaves its processor: it waits at PASSIVE_LEVEL. (own)
+/// Whether a frame may leave its processor: it waits at PASSIVE_LEVEL. (own)
 pub fn may_park<A: Agent>(parts: &Parts<A>, cpu: Cpu, frame: FrameId) -> bool
     ensures { result ≡ steps.may_park parts.now cpu.0 frame.0 }
 {
@@ -70,7 +70,7 @@ pub fn may_park<A: Agent>(parts: &Parts<A>, cpu: Cpu, frame: FrameId) -> bool
         && waits_on(parts, parts.cpus().frame(frame))
 }
 
-/// Whether a parked frame comes back to a processor: it is empty, and the wait is over. (own)
+/// Whether a parked frame may come back to a processor: that is empty, and the wait is over. (own)
 pub fn may_unpark<A: Agent>(parts: &Parts<A>, cpu: Cpu, frame: FrameId) -> bool
     ensures { result ≡ steps.may_unpark parts.now cpu.0 frame.0 }
 {

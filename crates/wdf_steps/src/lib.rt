@@ -1,4 +1,4 @@
-//! The steps of the machine: the event that a processor's top frame takes next, what may come, and the state
+//! What an event of the machine is and does: the event that a processor's top frame takes next, what may come, and the state
 //! after an event.
 #![tactic(auto)]
 

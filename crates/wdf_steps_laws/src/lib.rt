@@ -1,4 +1,5 @@
-//! Laws over all runs of the machine: which steps a device has left, and which requests it holds while its queues are down.
+//! Laws over all runs of the machine: which steps a device has left, and which requests the driver holds while the
+//! device's queues are down.
 #![tactic(auto)]
 
 ghost use Rattle.std.specs.Prelude.{ℕ, List, take};

@@ -9,7 +9,7 @@ ghost use Rattle.wdf_dev.specs.Agents.{agent_meaning};
 ghost use Rattle.wdf_replay.specs.Texts.{text_of};
 ghost use Rattle.wdf_top.specs.Answers.{HasPlan, IsTraceOf};
 
-/// The plan of each text is resolved. So by the laws of `wdf_trace` each line of its traces tells one event.
+/// The plan of each text is resolved. So by the laws of `wdf_trace` each line of its traces is that of one event.
 pub fn plans_of_texts_are_resolved()
     ensures { (input : List ℕ) (plan : Plan) → HasPlan input plan → IsResolved plan }
 {}

@@ -1,4 +1,4 @@
-//! The top call: words and bytes in, bytes and a status out.
+//! The top call without threads: words and bytes in, bytes and a status out.
 #![tactic(auto)]
 
 mod generated;

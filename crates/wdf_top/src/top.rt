@@ -1,4 +1,4 @@
-//! The top call.
+//! The top call without threads.
 ghost use Rattle.std.specs.Prelude.{◌≡◌, map, string_bytes};
 ghost use Rattle.wdf_io.specs.Outside.{EndsRefused};
 ghost use Rattle.wdf_say.specs.Said.{sinking};
@@ -16,7 +16,7 @@ use std::alloc::Global;
 use wdf_io::{Sink, Source};
 use wdf_say::{say, tell};
 
-/// What words of no form are told.
+/// What is written for words of no form.
 const USAGE: &[u8] = b"usage: kmdfsim check | order | seed N | run | replay | gen N | load N\n";
 
 /// The status of words of no form.
@@ -82,7 +82,7 @@ fn answer<S: Source, K: Sink>(alloc: Global, form: Option<Form>, source: &mut S,
     }
 }
 
-/// Reads the input and writes its scene in canonical form, or tells why it has no plan.
+/// Reads the input and writes its scene in canonical form, or says why it has no plan.
 fn check<S: Source, K: Sink>(alloc: Global, source: &mut S, sink: &mut K) -> u8
     ensures told { Tells Canonical
         (sourcing (S.left source.old) (S.left source.new) (S.faults source.old) (S.faults source.new))
@@ -96,7 +96,7 @@ fn check<S: Source, K: Sink>(alloc: Global, source: &mut S, sink: &mut K) -> u8
     }
 }
 
-/// Reads the input, runs its plan and writes the trace, or tells why it can't.
+/// Reads the input, runs its plan and writes the trace, or says why it can't.
 fn run<S: Source, K: Sink>(alloc: Global, picks: Picks, source: &mut S, sink: &mut K) -> u8
     ensures told { Tells (Run picks)
         (sourcing (S.left source.old) (S.left source.new) (S.faults source.old) (S.faults source.new))
@@ -110,7 +110,7 @@ fn run<S: Source, K: Sink>(alloc: Global, picks: Picks, source: &mut S, sink: &m
     }
 }
 
-/// Reads the input and writes the verdict on its trace, or tells why it can't.
+/// Reads the input and writes the verdict on its trace, or says why it can't.
 fn judge<S: Source, K: Sink>(alloc: Global, source: &mut S, sink: &mut K) -> u8
     ensures told { Tells Judgement
         (sourcing (S.left source.old) (S.left source.new) (S.faults source.old) (S.faults source.new))

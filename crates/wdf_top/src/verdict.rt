@@ -99,7 +99,7 @@ fn tell_verdict<K: Sink>(alloc: Global, plan: Plan, trace: &[u8], sink: &mut K) 
     }
 }
 
-/// Writes the verdict on an input's trace, or tells why its scenario has no plan.
+/// Writes the verdict on an input's trace, or says why its scenario has no plan.
 pub fn judge_input<K: Sink>(alloc: Global, input: &[u8], sink: &mut K) -> u8
     requires { length input.now ≤ TEXT_LIMIT }
     ensures told { (s : Sourcing) → IsRead s input.now → Tells Judgement s

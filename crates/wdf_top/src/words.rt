@@ -5,7 +5,7 @@ ghost use Rattle.wdf_top.specs.Words.{form_of_word, form_with_number, form_of_wo
 
 use wdf_text::small_number;
 
-/// What the program was asked to do. `run` isn't served yet, so it is no form.
+/// What the program was asked to do. `run` is none of these forms: this call has no threads to run on.
 #[derive(Clone, Copy, Debug, PartialEq, Eq)]
 pub enum Form {
     /// Write the scenario in its canonical form.
@@ -16,9 +16,9 @@ pub enum Form {
     Seed(u64),
     /// Judge a trace.
     Replay,
-    /// Write the scenario that a seed generates.
+    /// Write the scenario that a number generates.
     Gen(u64),
-    /// Run the scenario that a seed generates, and write the summary.
+    /// Run the scenario that a number generates, by the words of that number, and write the summary.
     Load(u64),
 }
 

@@ -29,7 +29,7 @@ pub struct Refused<T> {
 }
 
 impl<T> Held<T> {
-    /// The value.
+    /// The value, to look at.
     pub fn value(&self) -> &T
         ensures { result.now ≡ value_of self.now }
     {

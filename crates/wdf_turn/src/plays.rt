@@ -1,4 +1,4 @@
-//! The rule of a turnstile, and what each step on its table tells.
+//! The rule of a turnstile, and what each step on its table says.
 ghost use Rattle.wdf_turn.specs.Tokens.{first_token, split_off, new_token, joined, spent, Tries, Records, LetsGo, Looks};
 ghost use Rattle.wdf_turn.specs.Story.{Kept};
 

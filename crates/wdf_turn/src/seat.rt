@@ -1,10 +1,10 @@
-//! A seat at a turnstile, the value that it has taken, and what a try answers.
+//! A seat at a turnstile.
 ghost use Rattle.std.specs.Prelude.{◌≡◌, true};
 ghost use Rattle.wdf_turn.specs.Tokens.{slots_of, is_settled};
 
 use crate::token::Token;
 
-// A seat at the table below.
+// The seat of `atomic_table` on which a seat here is built.
 pub(crate) type Place<T> = atomic_table::Seat<Option<T>, Token<T>>;
 
 /// A seat at a turnstile. A thread that has one may try to take the value. It is joined into the

@@ -77,7 +77,7 @@ impl<T: Chronicle> Turn<T> {
         }
     }
 
-    /// The first seat takes in what another has seen and done, which is no seat any more.
+    /// The first seat takes in what another has seen and done. The other is no seat any more.
     pub fn join(&self, seat: Seat<T>, into: &mut Seat<T>)
         requires own { IsSeatOf self.now seat × IsSeatOf self.now into.old }
         requires idle { ((token seat).number ≢ 1) × ((token seat).hold ≡ Idle) }

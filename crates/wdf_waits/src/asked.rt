@@ -18,7 +18,7 @@ pub(crate) enum FrameTest {
     On(ObjectId),
     /// It waits for this object.
     WaitsFor(ObjectId),
-    /// It is this callback on this device, or on what has it as nearest device.
+    /// It runs this callback on this device, or on what has it as nearest device.
     Runs(Callback, ObjectId),
 }
 

@@ -11,10 +11,10 @@ use wdf_parts::Parts;
 use wdf_plans::IndexedPlan;
 use wdf_starts::level_fits;
 
-/// DISPATCH_LEVEL.
+/// The level of DPCs, of timers and of completion routines.
 pub(crate) const DISPATCH_LEVEL: Irql = Irql(2);
 
-/// PASSIVE_LEVEL.
+/// The level of an empty processor.
 pub(crate) const PASSIVE_LEVEL: Irql = Irql(0);
 
 #[tactic(auto, using(crate::proofs::OnCpus::none_at_first, crate::proofs::OnCpus::none_after, crate::proofs::OnCpus::none_but_this, crate::proofs::OnCpus::none_at_all))]
@@ -60,7 +60,7 @@ pub(crate) fn has_dpc_of<A: Agent>(
 }
 
 #[tactic(auto, using(crate::proofs::OnCpus::blocked_at_first, crate::proofs::OnCpus::blocked_after, crate::proofs::OnCpus::blocked_here, crate::proofs::OnCpus::blocked_nowhere))]
-/// Whether a processor that has a DPC of a device in its list can't take the start of one.
+/// Whether some processor that has a DPC of a device in its list can't take the start of a DPC.
 pub(crate) fn no_cpu_for_dpc<A: Agent>(plan: &IndexedPlan, parts: &Parts<A>, d: ObjectId) -> bool
     ensures { result ≡ waits.stage_cpus plan.now parts.now d.0 stage.Quiet }
 {

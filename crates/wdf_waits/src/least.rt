@@ -26,7 +26,7 @@ pub(crate) fn lesser(found: Option<u32>, number: u32) -> u32
     }
 }
 
-/// The lesser of two numbers, of which each may be wanting.
+/// The lesser of two numbers, either of which may be missing.
 pub(crate) fn lesser_if(found: Option<u32>, number: Option<u32>) -> Option<u32>
     ensures { result ≡ lesser_if found number }
 {
@@ -82,7 +82,7 @@ pub(crate) fn least_waiting_for<A: Agent>(parts: &Parts<A>, o: ObjectId) -> Opti
     least_frame(parts.cpus(), FrameTest::WaitsFor(o))
 }
 
-/// The least frame that is this callback on a device, or on what has it as nearest device.
+/// The least frame that runs this callback on a device, or on what has it as nearest device.
 pub(crate) fn least_running<A: Agent>(
     parts: &Parts<A>,
     callback: Callback,

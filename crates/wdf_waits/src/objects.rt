@@ -58,7 +58,7 @@ fn least_child<A: Agent>(parts: &Parts<A>, o: ObjectId) -> Option<u32>
     parts.tree().goes_first(o).map(|child| child.0)
 }
 
-/// An object below this one, or a younger one beside it, has to go first.
+/// A child of this object, or a younger sibling, has to go first.
 fn child_cause<A: Agent>(plan: &IndexedPlan, parts: &Parts<A>, o: ObjectId) -> Option<Cause>
     requires { o.0 < length parts.now.tree.nodes }
     ensures { result ≡ option_map (λ x. cause.ByChild (handle_in plan.now parts.now x)) (least (waits.children_first parts.now o.0)) }

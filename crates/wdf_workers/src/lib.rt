@@ -1,4 +1,4 @@
-//! The machine run by processors as threads. The core lies in a turnstile, and one worker at a time takes
+//! The machine run by processors as threads. The core is in a turnstile, and one worker at a time takes
 //! it, applies one event at most and gives it back.
 #![tactic(auto)]
 

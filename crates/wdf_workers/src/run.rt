@@ -17,7 +17,7 @@ use wdf_turn::Gate;
 /// How many turns each worker has for each event that the run may have.
 const TURNS_AN_EVENT: u32 = 4;
 
-/// Goes on from the journal by workers, until no step may follow: one for each processor, one for the
+/// Goes on from the journal by workers, until no event may follow: one for each processor, one for the
 /// framework and the clock, and one for all agents. Each has a thread of its own where one can be made.
 /// What they leave is finished here, always by the first event that may follow.
 ///
