@@ -25,7 +25,8 @@ use Rattle.wdf_plan.proofs.Accepted.{IsAccepted, each_accepted}
 use Rattle.wdf_plan.proofs.AgentLists.{device_list, app_length}
 use Rattle.wdf_plan.proofs.Counting.{bounded, picks_bounded, from_zero}
 use Rattle.wdf_plan.proofs.Every.{Every, every_map}
-use Rattle.wdf_plan.proofs.Heads.{scene_head, first_header, second_header, third_header}
+use Rattle.wdf_plan.proofs.Headers.{first_header, second_header, third_header}
+use Rattle.wdf_plan.proofs.Heads.{scene_head}
 use Rattle.wdf_plan.proofs.Within.{cpus_within, limit_within, objects_within, devices_within, apps_within, registers_within, classes_within, picks_within}
 
 -- the numbers of a plan and the lengths of its lists are within the limits

@@ -4,7 +4,7 @@ use Rattle.std.specs.Prelude.{option_and_then, option_map}
 use Rattle.std.specs.Option.{option_or, is_some}
 use Rattle.std.specs.List.{filter_map, cons_option, list_all, list_any}
 use Rattle.wdf_plan.specs.First.{first_some}
-pub use Rattle.wdf_plan.specs.Fitting.{Every}
+pub use Rattle.wdf_plan.specs.Numbered.{Every}
 
 first_step : {T : Type 0} (a b : Option T) → option_or a b ≡ None → (a ≡ None) × (b ≡ None)
 first_step None b e = (refl, e)

@@ -1,7 +1,6 @@
 -- The numbers of names and objects, and the lengths of what is gathered, fit their types.
 use Rattle.std.proofs.Common.{◌≡◌, ℕ, suc, ◌+◌, ◌<◌, ◌≤◌, ◌^◌, Bool, true, false, cond, List, [], ◌∷◌, ◌++◌, length, find, Option, Some, None, IfSome, refl, ap, sym, ◌∙◌, arith, length-append}
 use Rattle.std.specs.List.{filter_map, cons_option}
-use Rattle.wdf_scene.specs.declared.line.InterruptLevel.{InterruptLevel}
 use Rattle.wdf_scene.specs.declared.line.NumberedLine.{NumberedLine}
 use Rattle.wdf_scene.specs.declared.line.SceneLine.{SceneLine}
 use Rattle.wdf_scene.specs.declared.line.SceneLine.TheVariants as line
@@ -13,10 +12,9 @@ use Rattle.wdf_plan.specs.declared.placed.Placed.{Placed}
 use Rattle.wdf_plan.specs.declared.placed.Stand.{Stand}
 use Rattle.wdf_plan.specs.declared.declaration.Wanted.{Wanted}
 use Rattle.wdf_plan.specs.Declarations.{declarations, declared_by, declared_on, found, is_wanted}
-use Rattle.wdf_plan.specs.Fitting.{AreNumbered, HasFitOrder, IsFitDeclared}
+use Rattle.wdf_plan.specs.Numbered.{AreNumbered, HasFitOrder}
 use Rattle.wdf_plan.specs.Forms.{is_app, is_class, is_device, is_object, is_register}
 use Rattle.wdf_plan.specs.Names.{place_from}
-use Rattle.wdf_plan.specs.Parts.{interrupt_info, irql_of, object_of}
 use Rattle.wdf_plan.specs.Placed.{one_more, opened_by, counted, placed_line, placed_from, placed, outside, nothing}
 use Rattle.wdf_plan.proofs.Every.{Every, every_append, every_kept, some_has}
 use Rattle.wdf_plan.proofs.Gather.{IsGathered}
@@ -242,12 +240,3 @@ declaring_begins scene rest names s lines none' all =
       few = declarations_few scene s;
       lines = lines;
     }
-
--- ---- objects
-
--- where the object of a line fits, so does its interrupt level
-pub interrupt_level : (scene : Scene) (names : List Declaration) (p : Placed) (b : ℕ) (form : SceneLine) (n : List ℕ) (l : InterruptLevel) → form ≡ line.Interrupt n l → IfSome (object_of scene names p b form) IsFitDeclared → (irql_of l).0 < 2 ^ 8
-unfolding object_of interrupt_info
-interrupt_level scene names p b form n l e h =
-    let there : IfSome (object_of scene names p b (line.Interrupt n l)) IsFitDeclared = rw e at h in
-    there

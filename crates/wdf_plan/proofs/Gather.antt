@@ -4,7 +4,7 @@ use Rattle.std.specs.Option.{option_to_list}
 use Rattle.std.specs.List.{filter_map, cons_option}
 use Rattle.std.proofs.lemmas.List.{append-nil}
 use Rattle.wdf_plan.specs.First.{first_some}
-use Rattle.wdf_plan.specs.Fitting.{Every}
+use Rattle.wdf_plan.specs.Numbered.{Every}
 
 -- what was gathered, and what is still to come
 pub record IsGathered {P T : Type 0} (f : P → Option T) (rest : List P) (so_far whole : List T) : Type 0 where

@@ -6,8 +6,6 @@ use Rattle.wdf_scene.specs.declared.line.NumberedLine.{NumberedLine}
 use Rattle.wdf_scene.specs.declared.scene.Scene.{Scene}
 use Rattle.wdf_scene.specs.Blocks.{Position, front, moved, is_outside, after_lines, may_stand}
 use Rattle.wdf_scene.specs.Written.{IsScene, lines_at}
-use Rattle.wdf_plan.specs.Blocks.{form_at}
-use Rattle.wdf_plan.specs.Plans.{header_in, header_of}
 
 -- the form of a line
 abbrev pub form_of : NumberedLine → SceneLine
@@ -121,16 +119,3 @@ scene_head scene s =
     let lines : scene.lines ≡ lines_at 0 s.ws = ap (λ (x : Scene). x.lines) s.is in
     let whole : Ends (front scene.version) (map form_of (lines_at 0 s.ws)) = s.lines.whole in
     head_of scene.version scene.lines (rw lines whole)
-
--- the plan's numbers are theirs
-pub first_header : (scene : Scene) (h : HasHead scene.version scene.lines) → header_of (form_at scene 0) ≡ h.cpus
-unfolding form_at header_in
-first_header scene h = rw (h.are, h.is_cpus) refl
-
-pub second_header : (scene : Scene) (h : HasHead scene.version scene.lines) → header_of (form_at scene 1) ≡ h.limit
-unfolding form_at header_in
-second_header scene h = rw (h.are, h.is_limit) refl
-
-pub third_header : (scene : Scene) (h : HasHead scene.version scene.lines) → header_of (form_at scene 2) ≡ h.objects
-unfolding form_at header_in
-third_header scene h = rw (h.are, h.is_objects) refl

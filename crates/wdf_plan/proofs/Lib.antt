@@ -24,6 +24,7 @@ pub mod Gather
 pub mod Gathered
 pub mod Given
 pub mod Handles
+pub mod Headers
 pub mod Heads
 pub mod Heritages
 pub mod InCallbacks

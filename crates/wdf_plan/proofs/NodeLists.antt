@@ -11,7 +11,8 @@ use Rattle.wdf_plan.specs.Forms.{nodes_end}
 use Rattle.wdf_plan.specs.Rows.{nodes_of}
 use Rattle.wdf_plan.specs.Scripts.{node_of, nodes_on}
 use Rattle.wdf_plan.specs.Variables.{variables_at, variables_in}
-use Rattle.wdf_plan.specs.Fitting.{Every, IsFitNode}
+use Rattle.wdf_plan.specs.Fitting.{IsFitNode}
+use Rattle.wdf_plan.specs.Numbered.{Every}
 use Rattle.wdf_plan.proofs.Rooms.{every_split}
 
 -- the nodes of the lines before these are listed, and the variables are this callback's

@@ -16,7 +16,8 @@ use Rattle.wdf_plan.specs.declared.declaration.Declaration.{Declaration}
 use Rattle.wdf_plan.specs.declared.placed.Placed.{Placed}
 use Rattle.wdf_plan.specs.Blocks.{form_at}
 use Rattle.wdf_plan.specs.Declarations.{declarations}
-use Rattle.wdf_plan.specs.Fitting.{CanPlan, Every, IsFitDeclared, IsFitNode, IsFitScript}
+use Rattle.wdf_plan.specs.Fitting.{CanPlan, IsFitDeclared, IsFitNode, IsFitScript}
+use Rattle.wdf_plan.specs.Numbered.{Every}
 use Rattle.wdf_plan.specs.Limits.{over_level}
 use Rattle.wdf_plan.specs.Parts.{app_agent, class_on, device_agent, interrupt_info, line_picks, object_of, object_on, target_agent}
 use Rattle.wdf_plan.specs.Placed.{placed}

@@ -8,6 +8,7 @@ pub mod Forms
 pub mod Heritage
 pub mod Limits
 pub mod Names
+pub mod Numbered
 pub mod Numbers
 pub mod Parts
 pub mod Placed

@@ -2,7 +2,7 @@ ghost use Rattle.std.specs.Prelude.{◌≡◌, ◌++◌, ◌+◌, ◌<◌, ◌^�
 ghost use Rattle.std.specs.Option.{option_to_list};
 ghost use Rattle.wdf_plan.specs.Declarations.{declarations};
 ghost use Rattle.wdf_plan.specs.First as spec;
-ghost use Rattle.wdf_plan.specs.Fitting.{HasFitOrder};
+ghost use Rattle.wdf_plan.specs.Numbered.{HasFitOrder};
 ghost use Rattle.wdf_scene.specs.Written.{IsScene};
 
 use crate::declaration::{Declaration, declared_by};

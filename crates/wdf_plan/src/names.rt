@@ -4,7 +4,7 @@ ghost use Rattle.wdf_plan.specs.Names.{or_last, passes_at, place_from};
 ghost use Rattle.std.specs.List.{list_any};
 ghost use Rattle.std.specs.Str.{bytes_eq};
 ghost use Rattle.wdf_plan.specs.Declarations as spec;
-ghost use Rattle.wdf_plan.specs.Fitting.{HasFitOrder};
+ghost use Rattle.wdf_plan.specs.Numbered.{HasFitOrder};
 
 use crate::declaration::{Declaration, Wanted};
 use indexmap::IndexMap;
@@ -32,7 +32,7 @@ pub struct Names {
 impl Model for Names {
     ghost use Rattle.std.specs.Prelude.{List};
     ghost use Rattle.wdf_plan.specs.declared.declaration.Declaration.{Declaration};
-    ghost use Rattle.wdf_plan.specs.Fitting.{AreNumbered};
+    ghost use Rattle.wdf_plan.specs.Numbered.{AreNumbered};
     ghost use Rattle.wdf_plan.specs.Names.{IsIndexed};
 
     ghost Value = { List Declaration };

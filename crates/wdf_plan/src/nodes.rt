@@ -1,7 +1,8 @@
 //! The nodes of the expressions of a plan, and its picks.
 ghost use Rattle.std.specs.Prelude.{◌≡◌, ◌++◌, ◌∷◌, [], ◌+◌, ◌-◌, ◌<◌, ◌^◌, length, IfOk, OnOk, take, drop, map};
 ghost use Rattle.std.specs.List.{flat_map};
-ghost use Rattle.wdf_plan.specs.Fitting.{Every, IsFitNode};
+ghost use Rattle.wdf_plan.specs.Fitting.{IsFitNode};
+ghost use Rattle.wdf_plan.specs.Numbered.{Every};
 ghost use Rattle.wdf_plan.specs.Parts.{line_picks};
 ghost use Rattle.wdf_plan.specs.Placed.{placed};
 ghost use Rattle.wdf_plan.specs.Scripts as scripts;

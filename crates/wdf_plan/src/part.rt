@@ -3,7 +3,7 @@ ghost use Rattle.std.specs.Prelude.{◌≡◌, ◌++◌, ◌<◌, ◌^◌, lengt
 ghost use Rattle.std.specs.Option.{option_to_list};
 ghost use Rattle.wdf_plan.specs.declared.placed.Placed.{Placed};
 ghost use Rattle.std.specs.List.{filter_map};
-ghost use Rattle.wdf_plan.specs.Fitting.{Every};
+ghost use Rattle.wdf_plan.specs.Numbered.{Every};
 ghost use Rattle.wdf_plan.specs.Placed.{placed};
 
 use crate::numbers::add_found;

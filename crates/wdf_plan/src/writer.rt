@@ -2,7 +2,8 @@
 ghost use Rattle.std.specs.Prelude.{◌≡◌, ◌++◌, [], ◌+◌, ◌<◌, ◌^◌, ◌-◌, suc, IfOk, IfSome, OnOk, length, drop, take, map};
 ghost use Rattle.std.specs.List.{flat_map};
 ghost use Rattle.std.specs.Option.{option_to_list};
-ghost use Rattle.wdf_plan.specs.Fitting.{Every, IsFitDeclared, IsFitScript, IsFitStatement};
+ghost use Rattle.wdf_plan.specs.Fitting.{IsFitDeclared, IsFitScript, IsFitStatement};
+ghost use Rattle.wdf_plan.specs.Numbered.{Every};
 ghost use Rattle.wdf_plan.specs.Placed.{placed};
 ghost use Rattle.wdf_plan.specs.Scripts as scripts;
 
