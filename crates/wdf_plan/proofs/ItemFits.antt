@@ -32,13 +32,13 @@ use Rattle.wdf_scene.specs.declared.line.InterruptLevel.{InterruptLevel}
 use Rattle.wdf_scene.specs.declared.line.SceneLine.{SceneLine}
 use Rattle.wdf_scene.specs.declared.line.SceneLine.TheVariants as line
 use Rattle.wdf_scene.specs.declared.scene.Scene.{Scene}
-use Rattle.wdf_plan.specs.declared.declaration.Declaration.{Declaration}
-use Rattle.wdf_plan.specs.declared.placed.Placed.{Placed}
+use Rattle.wdf_blocks.specs.declared.declaration.Declaration.{Declaration}
+use Rattle.wdf_blocks.specs.declared.placed.Placed.{Placed}
 use Rattle.wdf_plan.specs.Fitting.{IsFitAct, IsFitArgument, IsFitDeclared, IsFitNode, IsFitPlace, IsFitScript, IsFitStatement}
-use Rattle.wdf_plan.specs.Numbered.{Every}
+use Rattle.wdf_refusals.specs.Numbered.{Every}
 use Rattle.wdf_plan.specs.Parts.{interrupt_info, irql_of, object_of}
-use Rattle.wdf_plan.proofs.Every.{every_map}
-use Rattle.wdf_plan.proofs.Fitting.{gathered_few}
+use Rattle.wdf_refusals.proofs.Every.{every_map}
+use Rattle.wdf_refusals.proofs.Fitting.{gathered_few}
 use Rattle.wdf_plan.proofs.Gathered.{any_item}
 
 -- each item passes a test that all pass

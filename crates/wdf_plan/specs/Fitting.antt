@@ -12,10 +12,10 @@ use Rattle.wdf_base.specs.declared.script.Script.{Script}
 use Rattle.wdf_base.specs.declared.script.Statement.{Statement}
 use Rattle.wdf_scene.specs.declared.scene.Scene.{Scene}
 use Rattle.wdf_scene.specs.Written.{IsScene}
-use Rattle.wdf_plan.specs.declared.declaration.Declaration.{Declaration}
-use Rattle.wdf_plan.specs.Declarations.{declarations}
-use Rattle.wdf_plan.specs.First.{first_refusal}
-use Rattle.wdf_plan.specs.Numbered.{Every}
+use Rattle.wdf_blocks.specs.declared.declaration.Declaration.{Declaration}
+use Rattle.wdf_blocks.specs.Declarations.{declarations}
+use Rattle.wdf_refusals.specs.First.{first_refusal}
+use Rattle.wdf_refusals.specs.Numbered.{Every}
 
 -- ---- objects
 
