@@ -25,20 +25,20 @@ use Rattle.wdf_scene.specs.declared.scene.Scene.{Scene}
 use Rattle.wdf_parse.specs.StandsFor.{StandsFor}
 use Rattle.wdf_plan.specs.declared.course.Nest.{Nest}
 use Rattle.wdf_plan.specs.declared.course.Nest.TheVariants as nest
-use Rattle.wdf_plan.specs.declared.declaration.Declaration.{Declaration}
-use Rattle.wdf_plan.specs.declared.placed.Counts.{Counts}
-use Rattle.wdf_plan.specs.declared.placed.Placed.{Placed}
-use Rattle.wdf_plan.specs.declared.placed.Stand.{Stand}
-use Rattle.wdf_plan.specs.Declarations.{declarations}
-use Rattle.wdf_plan.specs.Forms.{is_end, nodes_end}
-use Rattle.wdf_plan.specs.Numbers.{action_of}
+use Rattle.wdf_blocks.specs.declared.declaration.Declaration.{Declaration}
+use Rattle.wdf_blocks.specs.declared.placed.Counts.{Counts}
+use Rattle.wdf_blocks.specs.declared.placed.Placed.{Placed}
+use Rattle.wdf_blocks.specs.declared.placed.Stand.{Stand}
+use Rattle.wdf_blocks.specs.Declarations.{declarations}
+use Rattle.wdf_blocks.specs.Forms.{is_end, nodes_end}
+use Rattle.wdf_refusals.specs.Numbers.{action_of}
 use Rattle.wdf_plan.specs.Parts.{agent, app_agent, app_post, app_post_in, device_agent, device_post, device_post_in, pnp_post, register_on, stands_in, target_agent, when_on}
-use Rattle.wdf_plan.specs.Placed.{counted, nothing, opened_by, outside, placed, placed_from}
+use Rattle.wdf_blocks.specs.Placed.{counted, nothing, opened_by, outside, placed, placed_from}
 use Rattle.wdf_plan.specs.Plans.{all_agents, plan_of, plan_with}
-use Rattle.wdf_plan.specs.Rows.{nodes_of}
+use Rattle.wdf_refusals.specs.Rows.{nodes_of}
 use Rattle.wdf_plan.specs.Scripts.{act_on, blocks_behind, ends_callback, loop_line, named_node, nest_at, node_of, nodes_on, number_behind, outer, owner_of, script_on, statement_at, statement_on, statements_from, statements_of, told_line}
-use Rattle.wdf_plan.specs.Variables.{variable_number, variables, variables_at}
-use Rattle.wdf_plan.proofs.Every.{Every, every_append, every_at, every_kept, some_has}
+use Rattle.wdf_blocks.specs.Variables.{variable_number, variables, variables_at}
+use Rattle.wdf_refusals.proofs.Every.{Every, every_append, every_at, every_kept, some_has}
 use Rattle.wdf_plan_events.specs.PostNumbers.{ActionNumbersFit, PostNumbersFit}
 use Rattle.wdf_frame_events.specs.Fitting.{HasFittingLines, HasFittingNumbers}
 use Rattle.wdf_fitting_plans.proofs.Scenes.{ExprFits, FormFits, LineFits, SceneActionFits, SceneFits, scene_fits}

@@ -23,7 +23,7 @@ use Rattle.wdf_parse.specs.Tokens.{line_reading, lines_of, with_byte}
 use Rattle.wdf_parse.specs.WellFormed.{is_token}
 use Rattle.wdf_parse.proofs.FormSoundness.{first_part, second_part}
 use Rattle.wdf_parse.proofs.LexedTokens.{read_fit}
-use Rattle.wdf_plan.proofs.Every.{Every, every_append}
+use Rattle.wdf_refusals.proofs.Every.{Every, every_append}
 
 -- ---- the lines of a text
 

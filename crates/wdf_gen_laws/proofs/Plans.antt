@@ -11,21 +11,21 @@ use Rattle.wdf_scene.specs.declared.line.SceneLine.TheVariants as line
 use Rattle.wdf_scene.specs.declared.scene.Scene.{Scene}
 use Rattle.wdf_scene.specs.Naming.{declared_name}
 use Rattle.wdf_scene.specs.Written.{Written, Plain, lines_at, scene_of}
-use Rattle.wdf_plan.specs.declared.declaration.Declaration.{Declaration}
-use Rattle.wdf_plan.specs.declared.declaration.Thing.TheVariants as thing
-use Rattle.wdf_plan.specs.declared.placed.Counts.{Counts}
-use Rattle.wdf_plan.specs.declared.placed.Placed.{Placed}
-use Rattle.wdf_plan.specs.declared.placed.Stand.{Stand}
-use Rattle.wdf_plan.specs.declared.refusal.PlanRefusal.{PlanRefusal}
-use Rattle.wdf_plan.specs.Attribute.{gives_form, gives_callback, gives, is_device_wide, attribute_of}
-use Rattle.wdf_plan.specs.Blocks.{given_from, given, has_given, form_at, number_at}
-use Rattle.wdf_plan.specs.Declarations.{declared_by, declared_on, declarations, found, stands, object_count}
-use Rattle.wdf_plan.specs.First.{refused, refused_at, first_some, first_refusal}
-use Rattle.wdf_plan.specs.Forms.{opens, is_end, is_device, is_app, is_register, is_class, is_object, is_statement, is_post, assigned_name, nodes_behind, nodes_end, block_kind}
-use Rattle.wdf_plan.specs.Limits.{over_cpus, over_limit, over_objects, over_level, over_parallel, over_depth, over_ticks, exceeds, exceeded}
-use Rattle.wdf_plan.specs.Placed.{opened_by, counted, placed_line, placed_from, placed}
-use Rattle.wdf_plan.specs.Rows.{unknown_class, unknown_argument, unknown_word, unknown_node, nodes_of, unknown_name, reserved_line, first_line, twice_given, twice_named, is_class_or_device, wrong_callback, incompatible_level, no_parent}
-use Rattle.wdf_plan.specs.Variables.{assigned_from, variables, variables_in, variables_at, variable_number}
+use Rattle.wdf_blocks.specs.declared.declaration.Declaration.{Declaration}
+use Rattle.wdf_blocks.specs.declared.declaration.Thing.TheVariants as thing
+use Rattle.wdf_blocks.specs.declared.placed.Counts.{Counts}
+use Rattle.wdf_blocks.specs.declared.placed.Placed.{Placed}
+use Rattle.wdf_blocks.specs.declared.placed.Stand.{Stand}
+use Rattle.wdf_refusals.specs.declared.refusal.PlanRefusal.{PlanRefusal}
+use Rattle.wdf_blocks.specs.Attribute.{gives_form, gives_callback, gives, is_device_wide, attribute_of}
+use Rattle.wdf_blocks.specs.Blocks.{given_from, given, has_given, form_at, number_at}
+use Rattle.wdf_blocks.specs.Declarations.{declared_by, declared_on, declarations, found, stands, object_count}
+use Rattle.wdf_refusals.specs.First.{refused, refused_at, first_some, first_refusal}
+use Rattle.wdf_blocks.specs.Forms.{opens, is_end, is_device, is_app, is_register, is_class, is_object, is_statement, is_post, assigned_name, nodes_behind, nodes_end, block_kind}
+use Rattle.wdf_refusals.specs.Limits.{over_cpus, over_limit, over_objects, over_level, over_parallel, over_depth, over_ticks, exceeds, exceeded}
+use Rattle.wdf_blocks.specs.Placed.{opened_by, counted, placed_line, placed_from, placed}
+use Rattle.wdf_refusals.specs.Rows.{unknown_class, unknown_argument, unknown_word, unknown_node, nodes_of, unknown_name, reserved_line, first_line, twice_given, twice_named, is_class_or_device, wrong_callback, incompatible_level, no_parent}
+use Rattle.wdf_blocks.specs.Variables.{assigned_from, variables, variables_in, variables_at, variable_number}
 use Rattle.wdf_gen.specs.Generated.{words, seed_words, length_read, read_form, reads_from, head_lines, numbered, generated}
 use Rattle.wdf_gen_laws.proofs.Texts.{app_then, apps_of, text_nested}
 

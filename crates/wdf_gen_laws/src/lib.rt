@@ -7,7 +7,7 @@ ghost use Rattle.wdf_scene.specs.Naming.{HasProperNames};
 ghost use Rattle.wdf_scene.specs.Written.{IsScene};
 ghost use Rattle.wdf_parse.specs.Printing.{printed};
 ghost use Rattle.wdf_parse.specs.StandsFor.{StandsFor};
-ghost use Rattle.wdf_plan.specs.First.{first_refusal};
+ghost use Rattle.wdf_refusals.specs.First.{first_refusal};
 ghost use Rattle.wdf_plan.specs.Plans.{plan_of};
 ghost use Rattle.wdf_gen.specs.Generated.{generated};
 

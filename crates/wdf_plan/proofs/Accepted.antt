@@ -4,18 +4,18 @@ use Rattle.std.proofs.lemmas.Bool.{or_parts}
 use Rattle.std.specs.Option.{option_or}
 use Rattle.std.specs.List.{list_any}
 use Rattle.wdf_scene.specs.declared.scene.Scene.{Scene}
-use Rattle.wdf_plan.specs.declared.limit.Limit.{Limit}
-use Rattle.wdf_plan.specs.declared.limit.TheConstants.{LIMITS}
-use Rattle.wdf_plan.specs.declared.placed.Placed.{Placed}
-use Rattle.wdf_plan.specs.declared.refusal.PlanRefusal.{PlanRefusal}
-use Rattle.wdf_plan.specs.declared.refusal.PlanRefusal.TheVariants as refusal
-use Rattle.wdf_plan.specs.Declarations.{declarations}
-use Rattle.wdf_plan.specs.First.{refused, refused_at, first_refusal, if_holds, if_twice, if_over}
-use Rattle.wdf_plan.specs.Limits.{exceeds, exceeded}
-use Rattle.wdf_plan.specs.Placed.{placed}
-use Rattle.wdf_plan.specs.Rows.{unknown_name, unknown_word, unknown_node, nodes_of, twice_named, wrong_callback, incompatible_level, no_parent}
-use Rattle.wdf_plan.specs.Variables.{variables_at}
-use Rattle.wdf_plan.proofs.Every.{Every, none_each, find_none, every_map}
+use Rattle.wdf_refusals.specs.declared.limit.Limit.{Limit}
+use Rattle.wdf_refusals.specs.declared.limit.TheConstants.{LIMITS}
+use Rattle.wdf_blocks.specs.declared.placed.Placed.{Placed}
+use Rattle.wdf_refusals.specs.declared.refusal.PlanRefusal.{PlanRefusal}
+use Rattle.wdf_refusals.specs.declared.refusal.PlanRefusal.TheVariants as refusal
+use Rattle.wdf_blocks.specs.Declarations.{declarations}
+use Rattle.wdf_refusals.specs.First.{refused, refused_at, first_refusal, if_holds, if_twice, if_over}
+use Rattle.wdf_refusals.specs.Limits.{exceeds, exceeded}
+use Rattle.wdf_blocks.specs.Placed.{placed}
+use Rattle.wdf_refusals.specs.Rows.{unknown_name, unknown_word, unknown_node, nodes_of, twice_named, wrong_callback, incompatible_level, no_parent}
+use Rattle.wdf_blocks.specs.Variables.{variables_at}
+use Rattle.wdf_refusals.proofs.Every.{Every, none_each, find_none, every_map}
 
 -- none of the six refusals
 pub record IsAccepted (scene : Scene) (p : Placed) : Type 0 where

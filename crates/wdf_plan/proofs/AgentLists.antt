@@ -9,13 +9,13 @@ use Rattle.wdf_base.specs.Resolved.{device_name, target_name, app_count, apps}
 use Rattle.wdf_scene.specs.declared.line.SceneLine.{SceneLine}
 use Rattle.wdf_scene.specs.declared.line.SceneLine.TheVariants as line
 use Rattle.wdf_scene.specs.declared.scene.Scene.{Scene}
-use Rattle.wdf_plan.specs.declared.declaration.Declaration.{Declaration}
-use Rattle.wdf_plan.specs.declared.placed.Placed.{Placed}
-use Rattle.wdf_plan.specs.Declarations.{declarations}
+use Rattle.wdf_blocks.specs.declared.declaration.Declaration.{Declaration}
+use Rattle.wdf_blocks.specs.declared.placed.Placed.{Placed}
+use Rattle.wdf_blocks.specs.Declarations.{declarations}
 use Rattle.wdf_plan.specs.Parts.{object_of, object_on, app_agent, device_agent, target_agent}
-use Rattle.wdf_plan.specs.Placed.{placed}
+use Rattle.wdf_blocks.specs.Placed.{placed}
 use Rattle.wdf_plan.specs.Plans.{all_objects, all_agents, plan_with, plan_of}
-use Rattle.wdf_plan.proofs.Every.{composed, same_length}
+use Rattle.wdf_refusals.proofs.Every.{composed, same_length}
 
 -- each device has an agent, and so has each target
 device_posts : (scene : Scene) (names : List Declaration) (p : Placed) (b : ℕ) (form : SceneLine) → is_some (device_agent scene names p form) ≡ is_some (option_and_then device_name (object_of scene names p b form))

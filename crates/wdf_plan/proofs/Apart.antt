@@ -3,11 +3,11 @@ use Rattle.std.proofs.Common.{◌≡◌, ℕ, suc, ◌<◌, ◌≤◌, Bool, tru
 use Rattle.std.specs.List.{filter_map, cons_option}
 use Rattle.wdf_base.specs.Resolved.{all_differ}
 use Rattle.wdf_scene.specs.declared.line.NumberedLine.{NumberedLine}
-use Rattle.wdf_plan.specs.declared.placed.Counts.{Counts}
-use Rattle.wdf_plan.specs.declared.placed.Placed.{Placed}
-use Rattle.wdf_plan.specs.declared.placed.Stand.{Stand}
-use Rattle.wdf_plan.specs.Placed.{counted, opened_by, placed_line, placed_from}
-use Rattle.wdf_plan.proofs.Every.{Every, every_map, every_kept, every_both, any_none}
+use Rattle.wdf_blocks.specs.declared.placed.Counts.{Counts}
+use Rattle.wdf_blocks.specs.declared.placed.Placed.{Placed}
+use Rattle.wdf_blocks.specs.declared.placed.Stand.{Stand}
+use Rattle.wdf_blocks.specs.Placed.{counted, opened_by, placed_line, placed_from}
+use Rattle.wdf_refusals.proofs.Every.{Every, every_map, every_kept, every_both, any_none}
 
 -- each item stands so to each one after it
 abbrev pub Pairs : {P : Type 0} → (P → P → Type 0) → List P → Type 0

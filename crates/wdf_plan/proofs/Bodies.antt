@@ -14,14 +14,14 @@ use Rattle.wdf_scene.specs.declared.line.SceneLine.TheVariants as line
 use Rattle.wdf_scene.specs.declared.scene.Scene.{Scene}
 use Rattle.wdf_scene.specs.Blocks.{Position, front, moved, is_outside, innermost, in_owner, in_branch, in_callback, in_device, in_if, has_level, nesting, may_nest, blocks_after, may_stand}
 use Rattle.wdf_scene.specs.Written.{IsScene, lines_at}
-use Rattle.wdf_plan.specs.declared.placed.Counts.{Counts}
-use Rattle.wdf_plan.specs.declared.placed.Placed.{Placed}
-use Rattle.wdf_plan.specs.declared.placed.Stand.{Stand}
-use Rattle.wdf_plan.specs.Blocks.{depth_behind, ends_block}
-use Rattle.wdf_plan.specs.Forms.{opens, is_end}
-use Rattle.wdf_plan.specs.Placed.{outside, nothing, counted, opened_by, placed_from, placed}
-use Rattle.wdf_plan.proofs.Every.{Every}
-use Rattle.wdf_plan.proofs.Heads.{form_of, Ends, stood}
+use Rattle.wdf_blocks.specs.declared.placed.Counts.{Counts}
+use Rattle.wdf_blocks.specs.declared.placed.Placed.{Placed}
+use Rattle.wdf_blocks.specs.declared.placed.Stand.{Stand}
+use Rattle.wdf_blocks.specs.Blocks.{depth_behind, ends_block}
+use Rattle.wdf_blocks.specs.Forms.{opens, is_end}
+use Rattle.wdf_blocks.specs.Placed.{outside, nothing, counted, opened_by, placed_from, placed}
+use Rattle.wdf_refusals.proofs.Every.{Every}
+use Rattle.wdf_refusals.proofs.Heads.{form_of, Ends, stood}
 use Rattle.wdf_plan.proofs.Nesting.{stands_inside, IsBody}
 
 -- ---- in a callback

@@ -12,20 +12,21 @@ use Rattle.wdf_scene.specs.declared.line.SceneLine.TheVariants as line
 use Rattle.wdf_scene.specs.declared.line.NumberedLine.{NumberedLine}
 use Rattle.wdf_scene.specs.declared.scene.Scene.{Scene}
 use Rattle.wdf_scene.specs.Written.{IsScene}
-use Rattle.wdf_plan.specs.declared.declaration.Declaration.{Declaration}
-use Rattle.wdf_plan.specs.declared.placed.Placed.{Placed}
-use Rattle.wdf_plan.specs.Declarations.{declarations, declared_by, declared_on, declares_object, object_count}
-use Rattle.wdf_plan.specs.First.{first_refusal}
-use Rattle.wdf_plan.specs.Forms.{is_device, is_object, is_app, is_register, is_class}
-use Rattle.wdf_plan.specs.Limits.{over_cpus, over_limit, over_objects, over_picks, is_one_too_many}
+use Rattle.wdf_blocks.specs.declared.declaration.Declaration.{Declaration}
+use Rattle.wdf_blocks.specs.declared.placed.Placed.{Placed}
+use Rattle.wdf_blocks.specs.Declarations.{declarations, declared_by, declared_on, declares_object, object_count}
+use Rattle.wdf_refusals.specs.First.{first_refusal}
+use Rattle.wdf_blocks.specs.Forms.{is_device, is_object, is_app, is_register, is_class}
+use Rattle.wdf_refusals.specs.Limits.{over_cpus, over_limit, over_objects, over_picks, is_one_too_many}
 use Rattle.wdf_plan.specs.Parts.{object_of, object_on, class_on, register_on, app_agent, line_picks}
-use Rattle.wdf_plan.specs.Placed.{outside, nothing, counted, placed_from, placed}
+use Rattle.wdf_blocks.specs.Placed.{outside, nothing, counted, placed_from, placed}
 use Rattle.wdf_plan.specs.Plans.{all_objects, plan_with, plan_of}
 use Rattle.wdf_plan.proofs.Accepted.{IsAccepted, each_accepted}
 use Rattle.wdf_plan.proofs.AgentLists.{device_list, app_length}
 use Rattle.wdf_plan.proofs.Counting.{bounded, picks_bounded, from_zero}
-use Rattle.wdf_plan.proofs.Every.{Every, every_map}
-use Rattle.wdf_plan.proofs.Heads.{scene_head, first_header, second_header, third_header}
+use Rattle.wdf_refusals.proofs.Every.{Every, every_map}
+use Rattle.wdf_plan.proofs.Headers.{first_header, second_header, third_header}
+use Rattle.wdf_refusals.proofs.Heads.{scene_head}
 use Rattle.wdf_plan.proofs.Within.{cpus_within, limit_within, objects_within, devices_within, apps_within, registers_within, classes_within, picks_within}
 
 -- the numbers of a plan and the lengths of its lists are within the limits

@@ -18,24 +18,24 @@ use Rattle.wdf_scene.specs.declared.line.SceneLine.TheVariants as line
 use Rattle.wdf_scene.specs.declared.scene.Scene.{Scene}
 use Rattle.wdf_scene.specs.Blocks.{opened}
 use Rattle.wdf_scene.specs.Written.{IsScene}
-use Rattle.wdf_plan.specs.declared.attribute.Attribute.{Attribute}
-use Rattle.wdf_plan.specs.declared.attribute.Attribute.TheVariants as attribute
-use Rattle.wdf_plan.specs.declared.declaration.Declaration.{Declaration}
-use Rattle.wdf_plan.specs.declared.declaration.Wanted.TheVariants as wanted
-use Rattle.wdf_plan.specs.declared.placed.Placed.{Placed}
-use Rattle.wdf_plan.specs.Attribute.{gives, is_device_wide}
-use Rattle.wdf_plan.specs.Blocks.{given, has_given, form_at, ticks_in}
-use Rattle.wdf_plan.specs.Declarations.{declarations, stands, is_parent_at}
-use Rattle.wdf_plan.specs.First.{first_refusal}
-use Rattle.wdf_plan.specs.Limits.{over_ticks}
-use Rattle.wdf_plan.specs.Numbers.{id_of, number_of}
+use Rattle.wdf_blocks.specs.declared.attribute.Attribute.{Attribute}
+use Rattle.wdf_blocks.specs.declared.attribute.Attribute.TheVariants as attribute
+use Rattle.wdf_blocks.specs.declared.declaration.Declaration.{Declaration}
+use Rattle.wdf_blocks.specs.declared.declaration.Wanted.TheVariants as wanted
+use Rattle.wdf_blocks.specs.declared.placed.Placed.{Placed}
+use Rattle.wdf_blocks.specs.Attribute.{gives, is_device_wide}
+use Rattle.wdf_blocks.specs.Blocks.{given, has_given, form_at, ticks_in}
+use Rattle.wdf_blocks.specs.Declarations.{declarations, stands, is_parent_at}
+use Rattle.wdf_refusals.specs.First.{first_refusal}
+use Rattle.wdf_refusals.specs.Limits.{over_ticks}
+use Rattle.wdf_refusals.specs.Numbers.{id_of, number_of}
 use Rattle.wdf_plan.specs.Parts.{class_on, parent_order, period_of}
-use Rattle.wdf_plan.specs.Placed.{placed}
+use Rattle.wdf_blocks.specs.Placed.{placed}
 use Rattle.wdf_plan.specs.Plans.{plan_with, plan_of}
-use Rattle.wdf_plan.specs.Rows.{block_is, unknown_parent, unknown_word, lacks_parent, no_parent, is_timer_block, wrong_callback, unlike_parent, unlike_block, incompatible_level}
+use Rattle.wdf_refusals.specs.Rows.{block_is, unknown_parent, unknown_word, lacks_parent, no_parent, is_timer_block, wrong_callback, unlike_parent, unlike_block, incompatible_level}
 use Rattle.wdf_plan.proofs.Accepted.{IsAccepted, each_accepted, word_known}
 use Rattle.wdf_plan.proofs.Devices.{IsKnown, each_known, form_there, block_tells}
-use Rattle.wdf_plan.proofs.Every.{Every, every_map, every_at, some_has, all_kept}
+use Rattle.wdf_refusals.proofs.Every.{Every, every_map, every_at, some_has, all_kept}
 use Rattle.wdf_plan.proofs.Given.{given_stands}
 use Rattle.wdf_plan.proofs.Parents.{parent_there, parent_level}
 use Rattle.wdf_plan.proofs.Within.{ticks_within}

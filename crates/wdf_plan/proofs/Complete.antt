@@ -5,7 +5,7 @@ use Rattle.wdf_base.specs.declared.plan.Plan.{Plan}
 use Rattle.wdf_base.specs.Resolved.{all_differ, class_fits, same_script, declared_complete, classes_complete}
 use Rattle.wdf_scene.specs.declared.scene.Scene.{Scene}
 use Rattle.wdf_scene.specs.Written.{IsScene}
-use Rattle.wdf_plan.specs.First.{first_refusal}
+use Rattle.wdf_refusals.specs.First.{first_refusal}
 use Rattle.wdf_plan.specs.Plans.{plan_of}
 use Rattle.wdf_plan.proofs.ClassFacts.{plan_classes_fit}
 use Rattle.wdf_plan.proofs.Completeness.{plan_declared, plan_classes}

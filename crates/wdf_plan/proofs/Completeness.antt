@@ -21,23 +21,23 @@ use Rattle.wdf_scene.specs.declared.line.NumberedLine.{NumberedLine}
 use Rattle.wdf_scene.specs.declared.scene.Scene.{Scene}
 use Rattle.wdf_scene.specs.Blocks.{opened}
 use Rattle.wdf_scene.specs.Written.{IsScene}
-use Rattle.wdf_plan.specs.declared.attribute.Attribute.TheVariants as attribute
-use Rattle.wdf_plan.specs.declared.declaration.Declaration.{Declaration}
-use Rattle.wdf_plan.specs.declared.placed.Counts.{Counts}
-use Rattle.wdf_plan.specs.declared.placed.Placed.{Placed}
-use Rattle.wdf_plan.specs.declared.placed.Stand.{Stand}
-use Rattle.wdf_plan.specs.Attribute.{gives, gives_callback, is_device_wide}
-use Rattle.wdf_plan.specs.Blocks.{given, has_given}
-use Rattle.wdf_plan.specs.Declarations.{declarations}
-use Rattle.wdf_plan.specs.First.{first_refusal}
-use Rattle.wdf_plan.specs.Forms.{is_class}
+use Rattle.wdf_blocks.specs.declared.attribute.Attribute.TheVariants as attribute
+use Rattle.wdf_blocks.specs.declared.declaration.Declaration.{Declaration}
+use Rattle.wdf_blocks.specs.declared.placed.Counts.{Counts}
+use Rattle.wdf_blocks.specs.declared.placed.Placed.{Placed}
+use Rattle.wdf_blocks.specs.declared.placed.Stand.{Stand}
+use Rattle.wdf_blocks.specs.Attribute.{gives, gives_callback, is_device_wide}
+use Rattle.wdf_blocks.specs.Blocks.{given, has_given}
+use Rattle.wdf_blocks.specs.Declarations.{declarations}
+use Rattle.wdf_refusals.specs.First.{first_refusal}
+use Rattle.wdf_blocks.specs.Forms.{is_class}
 use Rattle.wdf_plan.specs.Parts.{object_of, object_on, class_on, interrupt_info, target_info}
-use Rattle.wdf_plan.specs.Placed.{outside, nothing, one_more, counted, opened_by, placed_line, placed_from, placed}
+use Rattle.wdf_blocks.specs.Placed.{outside, nothing, one_more, counted, opened_by, placed_line, placed_from, placed}
 use Rattle.wdf_plan.specs.Plans.{all_objects, plan_with, plan_of}
-use Rattle.wdf_plan.specs.Rows.{wrong_callback}
+use Rattle.wdf_refusals.specs.Rows.{wrong_callback}
 use Rattle.wdf_plan.specs.Scripts.{owner_of, script_on}
 use Rattle.wdf_plan.proofs.Devices.{IsKnown, each_known}
-use Rattle.wdf_plan.proofs.Every.{Every, every_map, some_has, all_kept}
+use Rattle.wdf_refusals.proofs.Every.{Every, every_map, some_has, all_kept}
 use Rattle.wdf_plan.proofs.Gathered.{one_value, any_from, place_there}
 use Rattle.wdf_plan.proofs.Given.{IsGiven, given_stands}
 use Rattle.wdf_plan.proofs.Owners.{IsOwner, owner_at, owner_on}

@@ -6,13 +6,13 @@ use Rattle.std.specs.Option.{is_some}
 use Rattle.std.specs.List.{filter_map, cons_option, flat_map}
 use Rattle.wdf_scene.specs.declared.line.SceneLine.{SceneLine}
 use Rattle.wdf_scene.specs.declared.line.NumberedLine.{NumberedLine}
-use Rattle.wdf_plan.specs.declared.placed.Counts.{Counts}
-use Rattle.wdf_plan.specs.declared.placed.Placed.{Placed}
-use Rattle.wdf_plan.specs.declared.placed.Stand.{Stand}
-use Rattle.wdf_plan.specs.Limits.{is_one_too_many, over_picks}
+use Rattle.wdf_blocks.specs.declared.placed.Counts.{Counts}
+use Rattle.wdf_blocks.specs.declared.placed.Placed.{Placed}
+use Rattle.wdf_blocks.specs.declared.placed.Stand.{Stand}
+use Rattle.wdf_refusals.specs.Limits.{is_one_too_many, over_picks}
 use Rattle.wdf_plan.specs.Parts.{line_picks}
-use Rattle.wdf_plan.specs.Placed.{one_more, counted, opened_by, placed_line, placed_from}
-use Rattle.wdf_plan.proofs.Every.{Every}
+use Rattle.wdf_blocks.specs.Placed.{one_more, counted, opened_by, placed_line, placed_from}
+use Rattle.wdf_refusals.proofs.Every.{Every}
 
 step : {X : Type 0} (o : Option X) (b : Bool) (n m bound : ℕ) (rest : List X) → is_some o ≡ b → m ≡ one_more n b → n ≤ bound → is_one_too_many b bound n ≡ false → (m ≤ bound → m + length rest ≤ bound) → n + length (cons_option o rest) ≤ bound
 step None true n m bound rest is adds fits within later = absurd (let z : ⊥ = cc in z)

@@ -10,10 +10,10 @@ use Rattle.wdf_plan.specs.declared.course.Course.{Course}
 use Rattle.wdf_plan.specs.declared.course.Detour.{Detour}
 use Rattle.wdf_plan.specs.declared.course.Nest.{Nest}
 use Rattle.wdf_plan.specs.declared.course.Nest.TheVariants as nest
-use Rattle.wdf_plan.specs.Blocks.{depth_behind}
+use Rattle.wdf_blocks.specs.Blocks.{depth_behind}
 use Rattle.wdf_plan.specs.Scripts.{reach, outer, blocks_behind, IsDetour, AreDetours, known_end, shortcut}
 use Rattle.wdf_plan.proofs.Passing.{way, leave}
-use Rattle.wdf_plan.proofs.Scans.{depth_less}
+use Rattle.wdf_blocks.proofs.Scans.{depth_less}
 
 -- ---- blocks open and close
 

@@ -17,22 +17,22 @@ use Rattle.wdf_scene.specs.declared.line.SceneAction.TheVariants as action
 use Rattle.wdf_scene.specs.declared.line.SceneLine.{SceneLine}
 use Rattle.wdf_scene.specs.declared.line.SceneLine.TheVariants as line
 use Rattle.wdf_scene.specs.declared.scene.Scene.{Scene}
-use Rattle.wdf_plan.specs.declared.declaration.Declaration.{Declaration}
-use Rattle.wdf_plan.specs.declared.declaration.Thing.{Thing}
-use Rattle.wdf_plan.specs.declared.declaration.Thing.TheVariants as thing
-use Rattle.wdf_plan.specs.declared.declaration.Wanted.{Wanted}
-use Rattle.wdf_plan.specs.declared.declaration.Wanted.TheVariants as wanted
-use Rattle.wdf_plan.specs.declared.placed.Placed.{Placed}
-use Rattle.wdf_plan.specs.Declarations.{declarations, declared_by, declared_on, is_wanted, is_interrupt, is_register, found, stands}
-use Rattle.wdf_plan.specs.Forms.{is_device, is_register as is_register_form}
-use Rattle.wdf_plan.specs.Numbers.{number_of, handle_of, action_of}
+use Rattle.wdf_blocks.specs.declared.declaration.Declaration.{Declaration}
+use Rattle.wdf_blocks.specs.declared.declaration.Thing.{Thing}
+use Rattle.wdf_blocks.specs.declared.declaration.Thing.TheVariants as thing
+use Rattle.wdf_blocks.specs.declared.declaration.Wanted.{Wanted}
+use Rattle.wdf_blocks.specs.declared.declaration.Wanted.TheVariants as wanted
+use Rattle.wdf_blocks.specs.declared.placed.Placed.{Placed}
+use Rattle.wdf_blocks.specs.Declarations.{declarations, declared_by, declared_on, is_wanted, is_interrupt, is_register, found, stands}
+use Rattle.wdf_blocks.specs.Forms.{is_device, is_register as is_register_form}
+use Rattle.wdf_refusals.specs.Numbers.{number_of, handle_of, action_of}
 use Rattle.wdf_plan.specs.Parts.{object_of, object_on, device_info, interrupt_info, register_on}
-use Rattle.wdf_plan.specs.Placed.{outside, nothing, counted, placed}
+use Rattle.wdf_blocks.specs.Placed.{outside, nothing, counted, placed}
 use Rattle.wdf_plan.specs.Plans.{plan_with, plan_of}
-use Rattle.wdf_plan.specs.Rows.{is_working_block, unknown_action}
+use Rattle.wdf_refusals.specs.Rows.{is_working_block, unknown_action}
 use Rattle.wdf_plan.proofs.Bounds.{register_tells}
 use Rattle.wdf_plan.proofs.Devices.{IsDeviceAt, HasDevice, devices_known, same_order}
-use Rattle.wdf_plan.proofs.Every.{Every, some_has, every_map, every_both, every_kept, every_at}
+use Rattle.wdf_refusals.proofs.Every.{Every, some_has, every_map, every_both, every_kept, every_at}
 use Rattle.wdf_plan.proofs.Handles.{Stands, stands_for, thing_kind, number_there, handle_fits}
 use Rattle.wdf_plan.proofs.ObjectPlaces.{objects_of, ObjectThere, objects_there, object_place}
 use Rattle.wdf_plan.proofs.Places.{indexed, found_has}

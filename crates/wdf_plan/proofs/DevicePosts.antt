@@ -12,22 +12,22 @@ use Rattle.wdf_scene.specs.declared.line.NumberedLine.{NumberedLine}
 use Rattle.wdf_scene.specs.declared.line.SceneLine.{SceneLine}
 use Rattle.wdf_scene.specs.declared.line.SceneLine.TheVariants as line
 use Rattle.wdf_scene.specs.declared.scene.Scene.{Scene}
-use Rattle.wdf_plan.specs.declared.declaration.Declaration.{Declaration}
-use Rattle.wdf_plan.specs.declared.placed.Counts.{Counts}
-use Rattle.wdf_plan.specs.declared.placed.Placed.{Placed}
-use Rattle.wdf_plan.specs.declared.placed.Stand.{Stand}
-use Rattle.wdf_plan.specs.Declarations.{declarations}
-use Rattle.wdf_plan.specs.Forms.{is_device, is_object}
-use Rattle.wdf_plan.specs.Limits.{over_ticks}
+use Rattle.wdf_blocks.specs.declared.declaration.Declaration.{Declaration}
+use Rattle.wdf_blocks.specs.declared.placed.Counts.{Counts}
+use Rattle.wdf_blocks.specs.declared.placed.Placed.{Placed}
+use Rattle.wdf_blocks.specs.declared.placed.Stand.{Stand}
+use Rattle.wdf_blocks.specs.Declarations.{declarations}
+use Rattle.wdf_blocks.specs.Forms.{is_device, is_object}
+use Rattle.wdf_refusals.specs.Limits.{over_ticks}
 use Rattle.wdf_plan.specs.Parts.{object_of, object_on, device_post, device_post_in, stands_in, device_agent, target_agent}
-use Rattle.wdf_plan.specs.Placed.{outside, nothing, counted, opened_by, placed_line, placed_from, placed}
+use Rattle.wdf_blocks.specs.Placed.{outside, nothing, counted, opened_by, placed_line, placed_from, placed}
 use Rattle.wdf_plan.specs.Plans.{all_objects, plan_of}
-use Rattle.wdf_plan.specs.Rows.{unknown_word}
+use Rattle.wdf_refusals.specs.Rows.{unknown_word}
 use Rattle.wdf_plan.proofs.Accepted.{word_known}
 use Rattle.wdf_plan.proofs.AgentLists.{agent_on, agents_behind}
 use Rattle.wdf_plan.proofs.Devices.{IsDeviceAt, IsKnown, belongs}
 use Rattle.wdf_plan.proofs.DeviceItems.{action_own, of_device}
-use Rattle.wdf_plan.proofs.Every.{Every, every_map, some_has, all_kept}
+use Rattle.wdf_refusals.proofs.Every.{Every, every_map, some_has, all_kept}
 use Rattle.wdf_plan.proofs.Within.{ticks_within}
 
 -- ---- the posts of one device

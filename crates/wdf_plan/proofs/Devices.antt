@@ -9,19 +9,19 @@ use Rattle.wdf_scene.specs.declared.line.NumberedLine.{NumberedLine}
 use Rattle.wdf_scene.specs.declared.scene.Scene.{Scene}
 use Rattle.wdf_scene.specs.Blocks.{Position, innermost, in_device, has_level, may_stand}
 use Rattle.wdf_scene.specs.Written.{IsScene}
-use Rattle.wdf_plan.specs.declared.placed.Counts.{Counts}
-use Rattle.wdf_plan.specs.declared.placed.Placed.{Placed}
-use Rattle.wdf_plan.specs.declared.placed.Stand.{Stand}
-use Rattle.wdf_plan.specs.Blocks.{form_at}
-use Rattle.wdf_plan.specs.Forms.{is_device}
-use Rattle.wdf_plan.specs.Placed.{outside, nothing, closed_block, closed_in_callback, counted, opened_by, placed_line, placed_from, placed}
+use Rattle.wdf_blocks.specs.declared.placed.Counts.{Counts}
+use Rattle.wdf_blocks.specs.declared.placed.Placed.{Placed}
+use Rattle.wdf_blocks.specs.declared.placed.Stand.{Stand}
+use Rattle.wdf_blocks.specs.Blocks.{form_at}
+use Rattle.wdf_blocks.specs.Forms.{is_device}
+use Rattle.wdf_blocks.specs.Placed.{outside, nothing, closed_block, closed_in_callback, counted, opened_by, placed_line, placed_from, placed}
 use Rattle.wdf_plan.proofs.Accepted.{IsAccepted, each_accepted}
-use Rattle.wdf_plan.proofs.Every.{Every, every_map, every_both, every_at}
+use Rattle.wdf_refusals.proofs.Every.{Every, every_map, every_both, every_at}
 use Rattle.wdf_plan.proofs.Places.{item_there}
 use Rattle.wdf_plan.proofs.Stacking.{IsPassed, every_passed}
 use Rattle.wdf_plan.proofs.Stacks.{Opener, block_of, stand_of, IsStacked, IsInDevice, fitting, device_open}
-use Rattle.wdf_plan.specs.Rows.{block_is}
-use Rattle.wdf_plan.specs.First.{first_refusal}
+use Rattle.wdf_refusals.specs.Rows.{block_is}
+use Rattle.wdf_refusals.specs.First.{first_refusal}
 
 -- line k begins a device, before which so many objects were declared
 pub record IsDeviceAt (whole : List Placed) (k order : ℕ) : Type 0 where

@@ -11,16 +11,16 @@ use Rattle.wdf_scene.specs.declared.line.SceneLine.{SceneLine}
 use Rattle.wdf_scene.specs.declared.line.SceneLine.TheVariants as line
 use Rattle.wdf_scene.specs.declared.scene.Scene.{Scene}
 use Rattle.wdf_scene.specs.Naming.{HasProperNames, declared_name, is_proper_name, is_proper_if_there, names_properly}
-use Rattle.wdf_plan.specs.declared.declaration.Declaration.{Declaration}
-use Rattle.wdf_plan.specs.declared.placed.Counts.{Counts}
-use Rattle.wdf_plan.specs.declared.placed.Placed.{Placed}
-use Rattle.wdf_plan.specs.declared.placed.Stand.{Stand}
-use Rattle.wdf_plan.specs.Declarations.{declarations, declared_by, declared_on, has_name}
-use Rattle.wdf_plan.specs.Placed.{outside, nothing, opened_by, counted, placed_from, placed}
+use Rattle.wdf_blocks.specs.declared.declaration.Declaration.{Declaration}
+use Rattle.wdf_blocks.specs.declared.placed.Counts.{Counts}
+use Rattle.wdf_blocks.specs.declared.placed.Placed.{Placed}
+use Rattle.wdf_blocks.specs.declared.placed.Stand.{Stand}
+use Rattle.wdf_blocks.specs.Declarations.{declarations, declared_by, declared_on, has_name}
+use Rattle.wdf_blocks.specs.Placed.{outside, nothing, opened_by, counted, placed_from, placed}
 use Rattle.wdf_plan.specs.Plans.{name_in}
-use Rattle.wdf_plan.specs.Rows.{earlier_line, reserved_line, first_line, twice_declared, twice_named}
+use Rattle.wdf_refusals.specs.Rows.{earlier_line, reserved_line, first_line, twice_declared, twice_named}
 use Rattle.wdf_plan.proofs.Accepted.{IsAccepted}
-use Rattle.wdf_plan.proofs.Every.{Every, every_map, every_kept}
+use Rattle.wdf_refusals.proofs.Every.{Every, every_map, every_kept}
 use Rattle.wdf_plan.proofs.Rising.{AreRising, rising_every, rising_from}
 
 -- ---- what a line declares

@@ -18,20 +18,20 @@ use Rattle.wdf_scene.specs.declared.line.StatementHead.{StatementHead}
 use Rattle.wdf_scene.specs.declared.line.StatementHead.TheVariants as head
 use Rattle.wdf_scene.specs.declared.scene.Scene.{Scene}
 use Rattle.wdf_scene.specs.Written.{Argument, Missing, Valued, OfClass, Written, Plain, Picked, Single, Calling, IsScene, root, size, head_line, argument_size, numbered_argument, line_at, written_size, is_plain_form, is_written}
-use Rattle.wdf_plan.specs.declared.declaration.Declaration.{Declaration}
-use Rattle.wdf_plan.specs.declared.declaration.Thing.{Thing}
-use Rattle.wdf_plan.specs.declared.declaration.Thing.TheVariants as thing
-use Rattle.wdf_plan.specs.declared.declaration.Wanted.TheVariants as wanted
-use Rattle.wdf_plan.specs.declared.placed.Placed.{Placed}
-use Rattle.wdf_plan.specs.Declarations.{declarations, is_object, stands}
-use Rattle.wdf_plan.specs.Numbers.{handle_of}
-use Rattle.wdf_plan.specs.Placed.{placed}
+use Rattle.wdf_blocks.specs.declared.declaration.Declaration.{Declaration}
+use Rattle.wdf_blocks.specs.declared.declaration.Thing.{Thing}
+use Rattle.wdf_blocks.specs.declared.declaration.Thing.TheVariants as thing
+use Rattle.wdf_blocks.specs.declared.declaration.Wanted.TheVariants as wanted
+use Rattle.wdf_blocks.specs.declared.placed.Placed.{Placed}
+use Rattle.wdf_blocks.specs.Declarations.{declarations, is_object, stands}
+use Rattle.wdf_refusals.specs.Numbers.{handle_of}
+use Rattle.wdf_blocks.specs.Placed.{placed}
 use Rattle.wdf_plan.specs.Plans.{plan_with, plan_of}
-use Rattle.wdf_plan.specs.Rows.{unknown_word, unknown_node, unknown_name, nodes_of}
+use Rattle.wdf_refusals.specs.Rows.{unknown_word, unknown_node, unknown_name, nodes_of}
 use Rattle.wdf_plan.specs.Scripts.{named_node, node_of, nodes_on}
-use Rattle.wdf_plan.specs.Variables.{variables_at, variable_number}
+use Rattle.wdf_blocks.specs.Variables.{variables_at, variable_number}
 use Rattle.wdf_plan.proofs.Accepted.{IsAccepted}
-use Rattle.wdf_plan.proofs.Every.{Every, every_map, every_both}
+use Rattle.wdf_refusals.proofs.Every.{Every, every_map, every_both}
 use Rattle.wdf_plan.proofs.Handles.{thing_kind, Stands, stands_for, handle_fits}
 use Rattle.wdf_plan.proofs.VariableFacts.{line_variables, variable_small}
 use Rattle.wdf_plan.proofs.WrittenNodes.{IsNumbered, all_nodes, all_numbered, tree_end, IsOrdered, AreOrdered, scene_ordered}

@@ -11,8 +11,8 @@ use Rattle.wdf_scene.specs.declared.line.SceneLine.{SceneLine}
 use Rattle.wdf_scene.specs.declared.line.SceneLine.TheVariants as line
 use Rattle.wdf_plan.specs.declared.course.Nest.{Nest}
 use Rattle.wdf_plan.specs.declared.course.Nest.TheVariants as nest
-use Rattle.wdf_plan.specs.declared.declaration.Declaration.{Declaration}
-use Rattle.wdf_plan.specs.Forms.{is_end}
+use Rattle.wdf_blocks.specs.declared.declaration.Declaration.{Declaration}
+use Rattle.wdf_blocks.specs.Forms.{is_end}
 use Rattle.wdf_plan.specs.Scripts.{statements_from, statement_on, act_on, plain_act, blocks_behind, told_line, passed, onward, beyond, loops}
 use Rattle.wdf_plan.proofs.Nesting.{length_last, outer_last, nest_last, loops_last}
 use Rattle.wdf_plan.specs.Flow.{Opening, Body, Empty, Plain, If, IfElse, Repeat, is_plain, lines_of, size, entry, plain_statement, flow, numbered}

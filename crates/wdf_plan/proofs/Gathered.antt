@@ -5,7 +5,7 @@ use Rattle.std.proofs.lemmas.Bool.{lt-ltb}
 use Rattle.std.specs.Prelude.{position}
 use Rattle.std.specs.Option.{is_some}
 use Rattle.std.specs.List.{filter_map, cons_option, list_any, prefix_len}
-use Rattle.wdf_plan.proofs.Every.{Every}
+use Rattle.wdf_refusals.proofs.Every.{Every}
 
 -- one option has one value
 pub one_value : {T : Type 0} (o : Option T) (x y : T) → o ≡ Some x → o ≡ Some y → x ≡ y

@@ -7,15 +7,15 @@ use Rattle.wdf_scene.specs.declared.line.NumberedLine.{NumberedLine}
 use Rattle.wdf_scene.specs.declared.scene.Scene.{Scene}
 use Rattle.wdf_scene.specs.Blocks.{in_callback, opened}
 use Rattle.wdf_scene.specs.Written.{IsScene}
-use Rattle.wdf_plan.specs.declared.attribute.Attribute.{Attribute}
-use Rattle.wdf_plan.specs.declared.placed.Counts.{Counts}
-use Rattle.wdf_plan.specs.declared.placed.Placed.{Placed}
-use Rattle.wdf_plan.specs.declared.placed.Stand.{Stand}
-use Rattle.wdf_plan.specs.Attribute.{gives, is_device_wide}
-use Rattle.wdf_plan.specs.Blocks.{depth_behind, counts_for, ends_block, given_from, given}
-use Rattle.wdf_plan.specs.Forms.{is_end}
-use Rattle.wdf_plan.specs.Placed.{counted, opened_by, placed_line, placed_from, placed}
-use Rattle.wdf_plan.proofs.Every.{Every, drop_get}
+use Rattle.wdf_blocks.specs.declared.attribute.Attribute.{Attribute}
+use Rattle.wdf_blocks.specs.declared.placed.Counts.{Counts}
+use Rattle.wdf_blocks.specs.declared.placed.Placed.{Placed}
+use Rattle.wdf_blocks.specs.declared.placed.Stand.{Stand}
+use Rattle.wdf_blocks.specs.Attribute.{gives, is_device_wide}
+use Rattle.wdf_blocks.specs.Blocks.{depth_behind, counts_for, ends_block, given_from, given}
+use Rattle.wdf_blocks.specs.Forms.{is_end}
+use Rattle.wdf_blocks.specs.Placed.{counted, opened_by, placed_line, placed_from, placed}
+use Rattle.wdf_refusals.proofs.Every.{Every, drop_get}
 use Rattle.wdf_plan.proofs.Stacks.{Opener, stand_of, with_block, stack_after, begun, AreBefore, IsOpened, AreOpened, IsStacked, AreStacked, AreFitting, fitting, quiet}
 use Rattle.wdf_plan.proofs.Stacking.{passed}
 use Rattle.wdf_plan.proofs.Inside.{gives_some, attribute_quiet, block_told, no_callback_open, split, behind_opener}

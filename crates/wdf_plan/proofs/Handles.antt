@@ -13,18 +13,18 @@ use Rattle.wdf_base.specs.Resolved.{is_kind, is_handle}
 use Rattle.wdf_scene.specs.declared.line.SceneLine.{SceneLine}
 use Rattle.wdf_scene.specs.declared.line.SceneLine.TheVariants as line
 use Rattle.wdf_scene.specs.declared.scene.Scene.{Scene}
-use Rattle.wdf_plan.specs.declared.declaration.Declaration.{Declaration}
-use Rattle.wdf_plan.specs.declared.declaration.Thing.{Thing}
-use Rattle.wdf_plan.specs.declared.declaration.Thing.TheVariants as thing
-use Rattle.wdf_plan.specs.declared.declaration.Wanted.{Wanted}
-use Rattle.wdf_plan.specs.declared.declaration.Wanted.TheVariants as wanted
-use Rattle.wdf_plan.specs.declared.placed.Placed.{Placed}
-use Rattle.wdf_plan.specs.Declarations.{declarations, declared_by, declared_on, is_wanted, suits, has_name, is_device, found, stands}
-use Rattle.wdf_plan.specs.Numbers.{id_of, number_of, name_number, handle_of}
+use Rattle.wdf_blocks.specs.declared.declaration.Declaration.{Declaration}
+use Rattle.wdf_blocks.specs.declared.declaration.Thing.{Thing}
+use Rattle.wdf_blocks.specs.declared.declaration.Thing.TheVariants as thing
+use Rattle.wdf_blocks.specs.declared.declaration.Wanted.{Wanted}
+use Rattle.wdf_blocks.specs.declared.declaration.Wanted.TheVariants as wanted
+use Rattle.wdf_blocks.specs.declared.placed.Placed.{Placed}
+use Rattle.wdf_blocks.specs.Declarations.{declarations, declared_by, declared_on, is_wanted, suits, has_name, is_device, found, stands}
+use Rattle.wdf_refusals.specs.Numbers.{id_of, number_of, name_number, handle_of}
 use Rattle.wdf_plan.specs.Parts.{object_of, device_info, queue_info, interrupt_info, target_info}
-use Rattle.wdf_plan.specs.Placed.{placed}
+use Rattle.wdf_blocks.specs.Placed.{placed}
 use Rattle.wdf_plan.specs.Plans.{plan_of}
-use Rattle.wdf_plan.proofs.Every.{Every, some_has, every_kept}
+use Rattle.wdf_refusals.proofs.Every.{Every, some_has, every_kept}
 use Rattle.wdf_plan.proofs.ObjectPlaces.{objects_of, ObjectThere, objects_there, object_place}
 use Rattle.wdf_plan.proofs.Places.{found_has}
 

@@ -8,11 +8,11 @@ use Rattle.wdf_scene.specs.declared.block.Block.TheVariants as block
 use Rattle.wdf_scene.specs.declared.line.SceneLine.{SceneLine}
 use Rattle.wdf_scene.specs.declared.line.SceneLine.TheVariants as line
 use Rattle.wdf_scene.specs.Blocks.{opened}
-use Rattle.wdf_plan.specs.declared.placed.Placed.{Placed}
-use Rattle.wdf_plan.specs.declared.placed.Stand.{Stand}
-use Rattle.wdf_plan.specs.Blocks.{depth_behind, ends_block}
-use Rattle.wdf_plan.specs.Forms.{opens, is_end}
-use Rattle.wdf_plan.specs.Placed.{closed, opened_by}
+use Rattle.wdf_blocks.specs.declared.placed.Placed.{Placed}
+use Rattle.wdf_blocks.specs.declared.placed.Stand.{Stand}
+use Rattle.wdf_blocks.specs.Blocks.{depth_behind, ends_block}
+use Rattle.wdf_blocks.specs.Forms.{opens, is_end}
+use Rattle.wdf_blocks.specs.Placed.{closed, opened_by}
 use Rattle.wdf_plan.proofs.Nesting.{stands_inside}
 use Rattle.wdf_plan.proofs.Stacks.{Opener, pushed, stand_of, begun, IsOpened, AreOpened}
 

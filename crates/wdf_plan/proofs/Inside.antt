@@ -6,12 +6,12 @@ use Rattle.wdf_scene.specs.declared.block.Block.TheVariants as block
 use Rattle.wdf_scene.specs.declared.line.SceneLine.{SceneLine}
 use Rattle.wdf_scene.specs.declared.line.SceneLine.TheVariants as line
 use Rattle.wdf_scene.specs.Blocks.{Position, innermost, in_heir, in_scoped, in_class, in_queue, in_callback, may_stand, opened}
-use Rattle.wdf_plan.specs.declared.attribute.Attribute.{Attribute}
-use Rattle.wdf_plan.specs.declared.attribute.Attribute.TheVariants as attribute
-use Rattle.wdf_plan.specs.Attribute.{gives, gives_form, gives_callback, attribute_of}
-use Rattle.wdf_plan.specs.Blocks.{depth_behind, ends_block}
-use Rattle.wdf_plan.specs.Forms.{opens, is_end}
-use Rattle.wdf_plan.proofs.Every.{Every}
+use Rattle.wdf_blocks.specs.declared.attribute.Attribute.{Attribute}
+use Rattle.wdf_blocks.specs.declared.attribute.Attribute.TheVariants as attribute
+use Rattle.wdf_blocks.specs.Attribute.{gives, gives_form, gives_callback, attribute_of}
+use Rattle.wdf_blocks.specs.Blocks.{depth_behind, ends_block}
+use Rattle.wdf_blocks.specs.Forms.{opens, is_end}
+use Rattle.wdf_refusals.proofs.Every.{Every}
 use Rattle.wdf_plan.proofs.Stacks.{Opener, block_of, pushed, stand_of, with_block, stack_after, AreFitting, in_a_callback, owner_quiet}
 
 -- ---- only attributes are given, and none inside a callback

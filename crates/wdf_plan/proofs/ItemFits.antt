@@ -1,5 +1,5 @@
 -- The items of a plan in which nothing was refused fit their types.
-use Rattle.std.proofs.Common.{◌≡◌, ℕ, suc, ◌+◌, ◌<◌, ◌≤◌, ◌^◌, Bool, true, ◌&&◌, nat_le, nat_lt, List, [], ◌∷◌, length, Option, Some, None, slice_get, option_map, refl, arith, length-append}
+use Rattle.std.proofs.Common.{◌≡◌, ℕ, suc, ◌+◌, ◌<◌, ◌≤◌, ◌^◌, Bool, true, ◌&&◌, nat_le, nat_lt, List, [], ◌∷◌, length, Option, Some, None, IfSome, slice_get, option_map, refl, arith, length-append}
 use Rattle.std.proofs.lemmas.Bool.{and_parts, eqb-true, leb-true, ltb-true}
 use Rattle.std.proofs.lemmas.Option.{slice_get_within}
 use Rattle.std.specs.List.{filter_map, list_all, list_any}
@@ -28,9 +28,17 @@ use Rattle.wdf_base.specs.Kinds.{class_kind}
 use Rattle.wdf_base.specs.Resolved.{is_variable, is_answer_place, is_expr, is_register, arg_fits, act_fits, statement_fits, owner_fits, script_fits, node_fits, nodes_fit, device_name, target_name, posting_names, app_count}
 use Rattle.wdf_base.specs.Same.{same_irql, same_kind, same_object_id, same_option}
 use Rattle.wdf_base.specs.SamePlan.{same_declared}
-use Rattle.wdf_plan.specs.Fitting.{Every, IsFitAct, IsFitArgument, IsFitDeclared, IsFitNode, IsFitPlace, IsFitScript, IsFitStatement}
-use Rattle.wdf_plan.proofs.Every.{every_map}
-use Rattle.wdf_plan.proofs.Fitting.{gathered_few}
+use Rattle.wdf_scene.specs.declared.line.InterruptLevel.{InterruptLevel}
+use Rattle.wdf_scene.specs.declared.line.SceneLine.{SceneLine}
+use Rattle.wdf_scene.specs.declared.line.SceneLine.TheVariants as line
+use Rattle.wdf_scene.specs.declared.scene.Scene.{Scene}
+use Rattle.wdf_blocks.specs.declared.declaration.Declaration.{Declaration}
+use Rattle.wdf_blocks.specs.declared.placed.Placed.{Placed}
+use Rattle.wdf_plan.specs.Fitting.{IsFitAct, IsFitArgument, IsFitDeclared, IsFitNode, IsFitPlace, IsFitScript, IsFitStatement}
+use Rattle.wdf_refusals.specs.Numbered.{Every}
+use Rattle.wdf_plan.specs.Parts.{interrupt_info, irql_of, object_of}
+use Rattle.wdf_refusals.proofs.Every.{every_map}
+use Rattle.wdf_refusals.proofs.Fitting.{gathered_few}
 use Rattle.wdf_plan.proofs.Gathered.{any_item}
 
 -- each item passes a test that all pass
@@ -39,6 +47,15 @@ each_passes test [] h = tt
 each_passes test (x ∷ xs) h =
     let both = and_parts (test x) (list_all test xs) h in
     (both.0, each_passes test xs both.1)
+
+-- ---- interrupts
+
+-- where the object of a line fits, so does its interrupt level
+pub interrupt_level : (scene : Scene) (names : List Declaration) (p : Placed) (b : ℕ) (form : SceneLine) (n : List ℕ) (l : InterruptLevel) → form ≡ line.Interrupt n l → IfSome (object_of scene names p b form) IsFitDeclared → (irql_of l).0 < 2 ^ 8
+unfolding object_of interrupt_info
+interrupt_level scene names p b form n l e h =
+    let there : IfSome (object_of scene names p b (line.Interrupt n l)) IsFitDeclared = rw e at h in
+    there
 
 -- ---- nodes
 

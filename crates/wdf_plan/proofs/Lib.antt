@@ -1,7 +1,6 @@
 pub mod Accepted
 pub mod AgentLists
 pub mod Apart
-pub mod Assigned
 pub mod Bodies
 pub mod Bounds
 pub mod ClassFacts
@@ -14,22 +13,15 @@ pub mod DeviceItems
 pub mod DevicePosts
 pub mod Devices
 pub mod Distinct
-pub mod Every
 pub mod ExprFacts
-pub mod Firsts
-pub mod Fitting
 pub mod Flows
-pub mod FreeNames
-pub mod Gather
 pub mod Gathered
 pub mod Given
 pub mod Handles
-pub mod Heads
-pub mod Heritages
+pub mod Headers
 pub mod InCallbacks
 pub mod Inside
 pub mod ItemFits
-pub mod Lookups
 pub mod Making
 pub mod Naming
 pub mod Nesting
@@ -51,7 +43,6 @@ pub mod Reaching
 pub mod Rising
 pub mod Rooms
 pub mod SameOwners
-pub mod Scans
 pub mod SceneFits
 pub mod ScriptFacts
 pub mod ScriptNames
@@ -63,7 +54,6 @@ pub mod Statements
 pub mod Trees
 pub mod Uses
 pub mod VariableFacts
-pub mod Walks
 pub mod Whole
 pub mod Within
 pub mod Writable

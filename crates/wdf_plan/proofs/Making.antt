@@ -10,10 +10,10 @@ use Rattle.wdf_base.specs.declared.script.AgentInfo.{AgentInfo}
 use Rattle.wdf_base.specs.declared.script.ExprNode.{ExprNode}
 use Rattle.wdf_base.specs.declared.script.Script.{Script}
 use Rattle.wdf_scene.specs.declared.scene.Scene.{Scene}
-use Rattle.wdf_plan.specs.declared.declaration.Declaration.{Declaration}
-use Rattle.wdf_plan.specs.Blocks.{form_at}
+use Rattle.wdf_blocks.specs.declared.declaration.Declaration.{Declaration}
+use Rattle.wdf_blocks.specs.Blocks.{form_at}
 use Rattle.wdf_plan.specs.Parts.{class_on, register_on, when_on, pnp_post, line_picks}
-use Rattle.wdf_plan.specs.Placed.{placed}
+use Rattle.wdf_blocks.specs.Placed.{placed}
 use Rattle.wdf_plan.specs.Plans.{header_of, name_in, all_objects, all_agents, plan_with}
 use Rattle.wdf_plan.specs.Scripts.{nodes_on, script_on}
 

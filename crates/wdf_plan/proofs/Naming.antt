@@ -12,20 +12,20 @@ use Rattle.wdf_scene.specs.declared.line.SceneLine.{SceneLine}
 use Rattle.wdf_scene.specs.declared.line.SceneLine.TheVariants as line
 use Rattle.wdf_scene.specs.declared.scene.Scene.{Scene}
 use Rattle.wdf_scene.specs.Naming.{HasProperNames, is_proper_name}
-use Rattle.wdf_plan.specs.declared.declaration.Declaration.{Declaration}
-use Rattle.wdf_plan.specs.declared.declaration.Thing.{Thing}
-use Rattle.wdf_plan.specs.declared.declaration.Thing.TheVariants as thing
-use Rattle.wdf_plan.specs.declared.placed.Placed.{Placed}
-use Rattle.wdf_plan.specs.Declarations.{declarations, declared_by, declared_on, is_object, declares_object, is_register}
-use Rattle.wdf_plan.specs.First.{first_refusal}
-use Rattle.wdf_plan.specs.Numbers.{name_number}
+use Rattle.wdf_blocks.specs.declared.declaration.Declaration.{Declaration}
+use Rattle.wdf_blocks.specs.declared.declaration.Thing.{Thing}
+use Rattle.wdf_blocks.specs.declared.declaration.Thing.TheVariants as thing
+use Rattle.wdf_blocks.specs.declared.placed.Placed.{Placed}
+use Rattle.wdf_blocks.specs.Declarations.{declarations, declared_by, declared_on, is_object, declares_object, is_register}
+use Rattle.wdf_refusals.specs.First.{first_refusal}
+use Rattle.wdf_refusals.specs.Numbers.{name_number}
 use Rattle.wdf_plan.specs.Parts.{object_of, object_on, device_info, queue_info, interrupt_info, target_info, class_on, register_on, app_agent, device_agent, target_agent}
-use Rattle.wdf_plan.specs.Placed.{placed}
+use Rattle.wdf_blocks.specs.Placed.{placed}
 use Rattle.wdf_plan.specs.Plans.{name_in, all_objects, all_agents, plan_with, plan_of}
 use Rattle.wdf_plan.proofs.Accepted.{each_accepted}
 use Rattle.wdf_plan.proofs.AgentLists.{app_length, apps_are}
 use Rattle.wdf_plan.proofs.Distinct.{all_distinct, all_free, all_proper, differ, none_any, all_names, word_free}
-use Rattle.wdf_plan.proofs.Every.{Every, every_map, composed, mapped, every_append}
+use Rattle.wdf_refusals.proofs.Every.{Every, every_map, composed, mapped, every_append}
 use Rattle.wdf_plan.proofs.Numbering.{AreNumbered, IsWithin, number_if, numbers_of, numbers, within, numbers_differ, apart, differ_append}
 
 -- the names are names of the language, each once, and everything that is declared has its own

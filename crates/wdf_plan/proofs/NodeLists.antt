@@ -3,15 +3,16 @@ use Rattle.std.proofs.Common.{◌≡◌, ℕ, List, [], ◌∷◌, ◌++◌, ◌
 use Rattle.std.specs.List.{flat_map}
 use Rattle.wdf_base.specs.declared.script.ExprNode.{ExprNode}
 use Rattle.wdf_scene.specs.declared.scene.Scene.{Scene}
-use Rattle.wdf_plan.specs.declared.declaration.Declaration.{Declaration}
-use Rattle.wdf_plan.specs.declared.placed.Placed.{Placed}
-use Rattle.wdf_plan.specs.Placed.{placed}
+use Rattle.wdf_blocks.specs.declared.declaration.Declaration.{Declaration}
+use Rattle.wdf_blocks.specs.declared.placed.Placed.{Placed}
+use Rattle.wdf_blocks.specs.Placed.{placed}
 use Rattle.wdf_scene.specs.declared.line.SceneExpr.{SceneExpr}
-use Rattle.wdf_plan.specs.Forms.{nodes_end}
-use Rattle.wdf_plan.specs.Rows.{nodes_of}
+use Rattle.wdf_blocks.specs.Forms.{nodes_end}
+use Rattle.wdf_refusals.specs.Rows.{nodes_of}
 use Rattle.wdf_plan.specs.Scripts.{node_of, nodes_on}
-use Rattle.wdf_plan.specs.Variables.{variables_at, variables_in}
-use Rattle.wdf_plan.specs.Fitting.{Every, IsFitNode}
+use Rattle.wdf_blocks.specs.Variables.{variables_at, variables_in}
+use Rattle.wdf_plan.specs.Fitting.{IsFitNode}
+use Rattle.wdf_refusals.specs.Numbered.{Every}
 use Rattle.wdf_plan.proofs.Rooms.{every_split}
 
 -- the nodes of the lines before these are listed, and the variables are this callback's

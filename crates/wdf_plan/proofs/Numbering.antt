@@ -7,12 +7,12 @@ use Rattle.std.specs.Prelude.{◌==◌}
 use Rattle.std.specs.List.{filter_map, cons_option, list_any}
 use Rattle.std.specs.Str.{bytes_eq}
 use Rattle.wdf_base.specs.Resolved.{all_differ}
-use Rattle.wdf_plan.specs.declared.declaration.Declaration.{Declaration}
-use Rattle.wdf_plan.specs.Declarations.{has_name}
-use Rattle.wdf_plan.specs.Names.{place_from}
-use Rattle.wdf_plan.specs.Numbers.{name_number, numbered}
+use Rattle.wdf_blocks.specs.declared.declaration.Declaration.{Declaration}
+use Rattle.wdf_blocks.specs.Declarations.{has_name}
+use Rattle.wdf_refusals.specs.Names.{place_from}
+use Rattle.wdf_refusals.specs.Numbers.{name_number, numbered}
 use Rattle.wdf_plan.proofs.Distinct.{AreDistinct}
-use Rattle.wdf_plan.proofs.Every.{Every, every_map, EveryAt, every_at_map}
+use Rattle.wdf_refusals.proofs.Every.{Every, every_map, EveryAt, every_at_map}
 
 shift : (x : Declaration) (k : ℕ) (inner : List Declaration) (j : ℕ) (ds : List Declaration) → Every (λ d. bytes_eq x.name d.name ≡ false) ds → EveryAt (λ i d. place_from (has_name d.name) (suc k) inner ≡ Some i) j ds → EveryAt (λ i d. place_from (has_name d.name) k (x ∷ inner) ≡ Some i) j ds
 shift x k inner j [] h g = tt

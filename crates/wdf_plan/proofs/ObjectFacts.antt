@@ -17,21 +17,21 @@ use Rattle.wdf_scene.specs.declared.line.SceneLine.{SceneLine}
 use Rattle.wdf_scene.specs.declared.line.SceneLine.TheVariants as line
 use Rattle.wdf_scene.specs.declared.scene.Scene.{Scene}
 use Rattle.wdf_scene.specs.Written.{IsScene}
-use Rattle.wdf_plan.specs.declared.declaration.Declaration.{Declaration}
-use Rattle.wdf_plan.specs.declared.declaration.Wanted.TheVariants as wanted
-use Rattle.wdf_plan.specs.declared.placed.Placed.{Placed}
-use Rattle.wdf_plan.specs.Declarations.{declarations, stands}
-use Rattle.wdf_plan.specs.First.{first_refusal}
-use Rattle.wdf_plan.specs.Limits.{over_level, over_parallel, over_depth, over_ticks}
+use Rattle.wdf_blocks.specs.declared.declaration.Declaration.{Declaration}
+use Rattle.wdf_blocks.specs.declared.declaration.Wanted.TheVariants as wanted
+use Rattle.wdf_blocks.specs.declared.placed.Placed.{Placed}
+use Rattle.wdf_blocks.specs.Declarations.{declarations, stands}
+use Rattle.wdf_refusals.specs.First.{first_refusal}
+use Rattle.wdf_refusals.specs.Limits.{over_level, over_parallel, over_depth, over_ticks}
 use Rattle.wdf_plan.specs.Parts.{irql_of, object_of, object_on, queue_info, interrupt_info, target_info, register_on, when_on}
-use Rattle.wdf_plan.specs.Placed.{placed}
+use Rattle.wdf_blocks.specs.Placed.{placed}
 use Rattle.wdf_plan.specs.Plans.{all_objects, plan_with, plan_of}
-use Rattle.wdf_plan.specs.Rows.{block_is, is_working_block, wrong_callback, unknown_action, unknown_word}
+use Rattle.wdf_refusals.specs.Rows.{block_is, is_working_block, wrong_callback, unknown_action, unknown_word}
 use Rattle.wdf_plan.proofs.Accepted.{word_known}
 use Rattle.wdf_plan.proofs.Devices.{IsDeviceAt, IsHome, IsKnown, belongs, each_known, form_there, block_tells}
 use Rattle.wdf_plan.proofs.DeviceItems.{device_object, register_own, action_own}
 use Rattle.wdf_plan.proofs.DevicePosts.{posts_fit}
-use Rattle.wdf_plan.proofs.Every.{Every, some_has, all_kept}
+use Rattle.wdf_refusals.proofs.Every.{Every, some_has, all_kept}
 use Rattle.wdf_plan.proofs.Within.{level_within, parallel_within, depth_within, ticks_within}
 
 -- ---- the device of a line

@@ -4,14 +4,14 @@ use Rattle.std.specs.List.{filter_map}
 use Rattle.wdf_base.specs.declared.declared.Declared.{Declared}
 use Rattle.wdf_base.specs.Plan.{declared_of}
 use Rattle.wdf_scene.specs.declared.scene.Scene.{Scene}
-use Rattle.wdf_plan.specs.declared.placed.Placed.{Placed}
-use Rattle.wdf_plan.specs.Declarations.{declarations}
-use Rattle.wdf_plan.specs.Forms.{is_object}
+use Rattle.wdf_blocks.specs.declared.placed.Placed.{Placed}
+use Rattle.wdf_blocks.specs.Declarations.{declarations}
+use Rattle.wdf_blocks.specs.Forms.{is_object}
 use Rattle.wdf_plan.specs.Parts.{object_on}
-use Rattle.wdf_plan.specs.Placed.{outside, nothing, counted, placed}
+use Rattle.wdf_blocks.specs.Placed.{outside, nothing, counted, placed}
 use Rattle.wdf_plan.specs.Plans.{all_objects, plan_with, plan_of}
 use Rattle.wdf_plan.proofs.Bounds.{object_tells}
-use Rattle.wdf_plan.proofs.Every.{Every}
+use Rattle.wdf_refusals.proofs.Every.{Every}
 use Rattle.wdf_plan.proofs.Places.{indexed}
 
 -- the objects that the lines declare

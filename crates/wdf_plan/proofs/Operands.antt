@@ -14,17 +14,17 @@ use Rattle.wdf_scene.specs.declared.line.StatementHead.{StatementHead}
 use Rattle.wdf_scene.specs.declared.line.StatementHead.TheVariants as head
 use Rattle.wdf_scene.specs.declared.scene.Scene.{Scene}
 use Rattle.wdf_scene.specs.Written.{Argument, Missing, Valued, OfClass, Written, Plain, Picked, Single, Calling, IsScene, root, head_line, argument_size, numbered_argument, line_at, is_plain_form, is_argument, is_written}
-use Rattle.wdf_plan.specs.declared.placed.Counts.{Counts}
-use Rattle.wdf_plan.specs.declared.placed.Placed.{Placed}
-use Rattle.wdf_plan.specs.declared.placed.Stand.{Stand}
-use Rattle.wdf_plan.specs.declared.declaration.Wanted.TheVariants as wanted
-use Rattle.wdf_plan.specs.Declarations.{declarations, stands}
-use Rattle.wdf_plan.specs.Placed.{outside, nothing, counted, opened_by, placed_from, placed}
+use Rattle.wdf_blocks.specs.declared.placed.Counts.{Counts}
+use Rattle.wdf_blocks.specs.declared.placed.Placed.{Placed}
+use Rattle.wdf_blocks.specs.declared.placed.Stand.{Stand}
+use Rattle.wdf_blocks.specs.declared.declaration.Wanted.TheVariants as wanted
+use Rattle.wdf_blocks.specs.Declarations.{declarations, stands}
+use Rattle.wdf_blocks.specs.Placed.{outside, nothing, counted, opened_by, placed_from, placed}
 use Rattle.wdf_plan.specs.Plans.{plan_of}
-use Rattle.wdf_plan.specs.Rows.{unknown_class, unknown_argument, unknown_word}
+use Rattle.wdf_refusals.specs.Rows.{unknown_class, unknown_argument, unknown_word}
 use Rattle.wdf_plan.specs.Scripts.{class_number, argument_of}
 use Rattle.wdf_plan.proofs.Accepted.{IsAccepted, word_known}
-use Rattle.wdf_plan.proofs.Every.{Every, every_map, every_both}
+use Rattle.wdf_refusals.proofs.Every.{Every, every_map, every_both}
 use Rattle.wdf_plan.proofs.ExprFacts.{IsBelow, AreBelow, line_exprs}
 use Rattle.wdf_plan.proofs.Statements.{HasNumbers}
 use Rattle.wdf_plan.proofs.WrittenNodes.{IsNumbered, all_numbered}

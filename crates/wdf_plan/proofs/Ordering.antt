@@ -10,16 +10,16 @@ use Rattle.wdf_scene.specs.declared.line.SceneLine.TheVariants as line
 use Rattle.wdf_scene.specs.declared.line.NumberedLine.{NumberedLine}
 use Rattle.wdf_scene.specs.declared.scene.Scene.{Scene}
 use Rattle.wdf_scene.specs.Written.{IsScene}
-use Rattle.wdf_plan.specs.declared.declaration.Declaration.{Declaration}
-use Rattle.wdf_plan.specs.declared.placed.Counts.{Counts}
-use Rattle.wdf_plan.specs.declared.placed.Placed.{Placed}
-use Rattle.wdf_plan.specs.declared.placed.Stand.{Stand}
-use Rattle.wdf_plan.specs.Forms.{is_device, is_object}
+use Rattle.wdf_blocks.specs.declared.declaration.Declaration.{Declaration}
+use Rattle.wdf_blocks.specs.declared.placed.Counts.{Counts}
+use Rattle.wdf_blocks.specs.declared.placed.Placed.{Placed}
+use Rattle.wdf_blocks.specs.declared.placed.Stand.{Stand}
+use Rattle.wdf_blocks.specs.Forms.{is_device, is_object}
 use Rattle.wdf_plan.specs.Parts.{object_of, object_on, queue_info, interrupt_info, target_info}
-use Rattle.wdf_plan.specs.Placed.{outside, nothing, counted, opened_by, placed_line, placed_from, placed}
+use Rattle.wdf_blocks.specs.Placed.{outside, nothing, counted, opened_by, placed_line, placed_from, placed}
 use Rattle.wdf_plan.specs.Plans.{all_objects}
 use Rattle.wdf_plan.proofs.Devices.{HasDevice, at_home, belongs, devices_known}
-use Rattle.wdf_plan.proofs.Every.{Every, every_map, every_both}
+use Rattle.wdf_refusals.proofs.Every.{Every, every_map, every_both}
 use Rattle.wdf_plan.proofs.Stacking.{IsPassed, every_passed}
 
 -- a queue, an interrupt or a target

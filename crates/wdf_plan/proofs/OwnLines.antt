@@ -12,17 +12,17 @@ use Rattle.wdf_base.specs.SamePlan.{same_declared, same_dispatch, same_serves, s
 use Rattle.wdf_scene.specs.declared.line.SceneLine.{SceneLine}
 use Rattle.wdf_scene.specs.declared.line.SceneLine.TheVariants as line
 use Rattle.wdf_scene.specs.declared.scene.Scene.{Scene}
-use Rattle.wdf_plan.specs.declared.declaration.Declaration.{Declaration}
-use Rattle.wdf_plan.specs.declared.placed.Placed.{Placed}
-use Rattle.wdf_plan.specs.Declarations.{declarations, declared_by, declared_on}
-use Rattle.wdf_plan.specs.First.{first_refusal}
-use Rattle.wdf_plan.specs.Forms.{is_class}
-use Rattle.wdf_plan.specs.Numbers.{name_number}
+use Rattle.wdf_blocks.specs.declared.declaration.Declaration.{Declaration}
+use Rattle.wdf_blocks.specs.declared.placed.Placed.{Placed}
+use Rattle.wdf_blocks.specs.Declarations.{declarations, declared_by, declared_on}
+use Rattle.wdf_refusals.specs.First.{first_refusal}
+use Rattle.wdf_blocks.specs.Forms.{is_class}
+use Rattle.wdf_refusals.specs.Numbers.{name_number}
 use Rattle.wdf_plan.specs.Parts.{object_of, device_info, queue_info, interrupt_info, target_info}
-use Rattle.wdf_plan.specs.Placed.{outside, nothing, counted, placed}
+use Rattle.wdf_blocks.specs.Placed.{outside, nothing, counted, placed}
 use Rattle.wdf_plan.proofs.Accepted.{each_accepted}
 use Rattle.wdf_plan.proofs.Distinct.{all_distinct, declares}
-use Rattle.wdf_plan.proofs.Every.{Every, every_at, some_has, HasPlace, have_places}
+use Rattle.wdf_refusals.proofs.Every.{Every, every_at, some_has, HasPlace, have_places}
 use Rattle.wdf_plan.proofs.Gathered.{every_from, one_value}
 use Rattle.wdf_plan.proofs.Numbering.{numbers}
 use Rattle.wdf_plan.proofs.Owners.{owner_at}

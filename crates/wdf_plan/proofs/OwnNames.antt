@@ -3,14 +3,14 @@ use Rattle.std.proofs.Common.{◌≡◌, true, false, List, [], ◌∷◌, find,
 use Rattle.std.proofs.lemmas.Slice.Eq.{bytes_eq-Decides}
 use Rattle.std.specs.Str.{bytes_eq}
 use Rattle.wdf_scene.specs.declared.scene.Scene.{Scene}
-use Rattle.wdf_plan.specs.declared.declaration.Declaration.{Declaration}
-use Rattle.wdf_plan.specs.declared.declaration.Wanted.{Wanted}
-use Rattle.wdf_plan.specs.Declarations.{declarations, declared_on, is_wanted, suits}
-use Rattle.wdf_plan.specs.First.{first_refusal}
-use Rattle.wdf_plan.specs.Placed.{placed}
+use Rattle.wdf_blocks.specs.declared.declaration.Declaration.{Declaration}
+use Rattle.wdf_blocks.specs.declared.declaration.Wanted.{Wanted}
+use Rattle.wdf_blocks.specs.Declarations.{declarations, declared_on, is_wanted, suits}
+use Rattle.wdf_refusals.specs.First.{first_refusal}
+use Rattle.wdf_blocks.specs.Placed.{placed}
 use Rattle.wdf_plan.proofs.Accepted.{each_accepted}
 use Rattle.wdf_plan.proofs.Distinct.{AreDistinct, all_distinct}
-use Rattle.wdf_plan.proofs.Every.{Every}
+use Rattle.wdf_refusals.proofs.Every.{Every}
 use Rattle.wdf_plan.proofs.Gathered.{every_from}
 
 -- wherever the name may stand for this declaration, it does

@@ -13,20 +13,20 @@ use Rattle.wdf_scene.specs.declared.line.SceneLine.TheVariants as line
 use Rattle.wdf_scene.specs.declared.scene.Scene.{Scene}
 use Rattle.wdf_scene.specs.Blocks.{innermost, in_owner, in_device, may_stand, opened}
 use Rattle.wdf_scene.specs.Written.{IsScene}
-use Rattle.wdf_plan.specs.declared.declaration.Declaration.{Declaration}
-use Rattle.wdf_plan.specs.declared.declaration.Thing.TheVariants as thing
-use Rattle.wdf_plan.specs.declared.declaration.Wanted.TheVariants as wanted
-use Rattle.wdf_plan.specs.declared.placed.Placed.{Placed}
-use Rattle.wdf_plan.specs.declared.placed.Stand.{Stand}
-use Rattle.wdf_plan.specs.Blocks.{form_at}
-use Rattle.wdf_plan.specs.Declarations.{declarations, declaration, declared_by, found}
-use Rattle.wdf_plan.specs.First.{first_refusal}
-use Rattle.wdf_plan.specs.Numbers.{number_of}
+use Rattle.wdf_blocks.specs.declared.declaration.Declaration.{Declaration}
+use Rattle.wdf_blocks.specs.declared.declaration.Thing.TheVariants as thing
+use Rattle.wdf_blocks.specs.declared.declaration.Wanted.TheVariants as wanted
+use Rattle.wdf_blocks.specs.declared.placed.Placed.{Placed}
+use Rattle.wdf_blocks.specs.declared.placed.Stand.{Stand}
+use Rattle.wdf_blocks.specs.Blocks.{form_at}
+use Rattle.wdf_blocks.specs.Declarations.{declarations, declaration, declared_by, found}
+use Rattle.wdf_refusals.specs.First.{first_refusal}
+use Rattle.wdf_refusals.specs.Numbers.{number_of}
 use Rattle.wdf_plan.specs.Parts.{object_of}
-use Rattle.wdf_plan.specs.Placed.{placed}
+use Rattle.wdf_blocks.specs.Placed.{placed}
 use Rattle.wdf_plan.specs.Scripts.{block_owner, owner_of}
 use Rattle.wdf_plan.proofs.Devices.{same_device, form_there}
-use Rattle.wdf_plan.proofs.Every.{every_at}
+use Rattle.wdf_refusals.proofs.Every.{every_at}
 use Rattle.wdf_plan.proofs.OwnNames.{IsOwn, lines_own}
 use Rattle.wdf_plan.proofs.Stacking.{passed}
 use Rattle.wdf_plan.proofs.Stacks.{Opener, AreFitting, AreBefore, AreOpened, IsStacked, block_of, pushed, stand_of, begun, opens_in, fitting, device_open, quiet, owner_quiet}

@@ -18,20 +18,20 @@ use Rattle.wdf_scene.specs.declared.line.SceneLine.TheVariants as line
 use Rattle.wdf_scene.specs.declared.scene.Scene.{Scene}
 use Rattle.wdf_scene.specs.Blocks.{innermost, may_stand}
 use Rattle.wdf_scene.specs.Written.{IsScene}
-use Rattle.wdf_plan.specs.declared.declaration.Declaration.{Declaration}
-use Rattle.wdf_plan.specs.declared.declaration.Thing.{Thing}
-use Rattle.wdf_plan.specs.declared.declaration.Thing.TheVariants as thing
-use Rattle.wdf_plan.specs.declared.declaration.Wanted.TheVariants as wanted
-use Rattle.wdf_plan.specs.declared.placed.Placed.{Placed}
-use Rattle.wdf_plan.specs.declared.placed.Stand.{Stand}
-use Rattle.wdf_plan.specs.Blocks.{effective_level}
-use Rattle.wdf_plan.specs.Declarations.{declarations, declared_by, declared_on, is_parent, is_parent_at, is_wanted, has_name, suits, found, stands}
-use Rattle.wdf_plan.specs.First.{first_refusal}
-use Rattle.wdf_plan.specs.Numbers.{id_of, number_of}
+use Rattle.wdf_blocks.specs.declared.declaration.Declaration.{Declaration}
+use Rattle.wdf_blocks.specs.declared.declaration.Thing.{Thing}
+use Rattle.wdf_blocks.specs.declared.declaration.Thing.TheVariants as thing
+use Rattle.wdf_blocks.specs.declared.declaration.Wanted.TheVariants as wanted
+use Rattle.wdf_blocks.specs.declared.placed.Placed.{Placed}
+use Rattle.wdf_blocks.specs.declared.placed.Stand.{Stand}
+use Rattle.wdf_blocks.specs.Blocks.{effective_level}
+use Rattle.wdf_blocks.specs.Declarations.{declarations, declared_by, declared_on, is_parent, is_parent_at, is_wanted, has_name, suits, found, stands}
+use Rattle.wdf_refusals.specs.First.{first_refusal}
+use Rattle.wdf_refusals.specs.Numbers.{id_of, number_of}
 use Rattle.wdf_plan.specs.Parts.{object_of, device_info, queue_info}
-use Rattle.wdf_plan.specs.Placed.{placed}
+use Rattle.wdf_blocks.specs.Placed.{placed}
 use Rattle.wdf_plan.specs.Plans.{plan_of}
-use Rattle.wdf_plan.proofs.Every.{Every, some_has, every_map, every_kept, every_both}
+use Rattle.wdf_refusals.proofs.Every.{Every, some_has, every_map, every_kept, every_both}
 use Rattle.wdf_plan.proofs.Gathered.{any_item}
 use Rattle.wdf_plan.proofs.Handles.{Stands, stands_for, thing_kind, kind_there}
 use Rattle.wdf_plan.proofs.ObjectPlaces.{objects_of, ObjectThere, objects_there, object_place}

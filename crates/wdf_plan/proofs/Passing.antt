@@ -9,8 +9,8 @@ use Rattle.wdf_scene.specs.declared.line.SceneLine.TheVariants as line
 use Rattle.wdf_plan.specs.declared.course.Course.{Course}
 use Rattle.wdf_plan.specs.declared.course.Nest.{Nest}
 use Rattle.wdf_plan.specs.declared.course.Nest.TheVariants as nest
-use Rattle.wdf_plan.specs.declared.declaration.Declaration.{Declaration}
-use Rattle.wdf_plan.specs.Forms.{opens, is_end, is_statement}
+use Rattle.wdf_blocks.specs.declared.declaration.Declaration.{Declaration}
+use Rattle.wdf_blocks.specs.Forms.{opens, is_end, is_statement}
 use Rattle.wdf_plan.specs.Scripts.{nest_at, is_branch, is_else, statements_in, passed, reach, onward, beyond, blocks_behind, act_on, plain_act}
 use Rattle.wdf_plan.proofs.Nesting.{length_last, nest_last}
 use Rattle.wdf_plan.specs.Flow.{Body, Empty, Plain, If, IfElse, Repeat, is_plain, lines_of, size, entry, numbered}

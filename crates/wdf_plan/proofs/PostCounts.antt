@@ -11,17 +11,17 @@ use Rattle.wdf_base.specs.Same.{same_option}
 use Rattle.wdf_scene.specs.declared.line.SceneLine.{SceneLine}
 use Rattle.wdf_scene.specs.declared.line.SceneLine.TheVariants as line
 use Rattle.wdf_scene.specs.declared.scene.Scene.{Scene}
-use Rattle.wdf_plan.specs.declared.declaration.Declaration.{Declaration}
-use Rattle.wdf_plan.specs.declared.placed.Placed.{Placed}
-use Rattle.wdf_plan.specs.Declarations.{declarations}
-use Rattle.wdf_plan.specs.Forms.{is_post, is_app, is_device}
-use Rattle.wdf_plan.specs.Limits.{is_one_too_many}
+use Rattle.wdf_blocks.specs.declared.declaration.Declaration.{Declaration}
+use Rattle.wdf_blocks.specs.declared.placed.Placed.{Placed}
+use Rattle.wdf_blocks.specs.Declarations.{declarations}
+use Rattle.wdf_blocks.specs.Forms.{is_post, is_app, is_device}
+use Rattle.wdf_refusals.specs.Limits.{is_one_too_many}
 use Rattle.wdf_plan.specs.Parts.{app_post, app_post_in, pnp_post, device_post, device_post_in, app_agent, device_agent, target_agent, stands_in}
-use Rattle.wdf_plan.specs.Placed.{outside, nothing, counted, placed}
+use Rattle.wdf_blocks.specs.Placed.{outside, nothing, counted, placed}
 use Rattle.wdf_plan.specs.Plans.{all_agents, plan_with, plan_of}
 use Rattle.wdf_plan.proofs.Accepted.{IsAccepted}
 use Rattle.wdf_plan.proofs.Counting.{bounded, from_zero}
-use Rattle.wdf_plan.proofs.Every.{Every, every_map}
+use Rattle.wdf_refusals.proofs.Every.{Every, every_map}
 use Rattle.wdf_plan.proofs.Places.{place_if, place_tells, place_is}
 use Rattle.wdf_plan.proofs.Rising.{AreRising, rising_from}
 use Rattle.wdf_plan.proofs.Within.{posts_within}

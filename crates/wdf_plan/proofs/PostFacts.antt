@@ -10,18 +10,18 @@ use Rattle.wdf_base.specs.Resolved.{is_ticks, apps, post_count, app_post as may_
 use Rattle.wdf_scene.specs.declared.line.SceneLine.{SceneLine}
 use Rattle.wdf_scene.specs.declared.line.SceneLine.TheVariants as line
 use Rattle.wdf_scene.specs.declared.scene.Scene.{Scene}
-use Rattle.wdf_plan.specs.declared.declaration.Wanted.TheVariants as wanted
-use Rattle.wdf_plan.specs.declared.placed.Placed.{Placed}
-use Rattle.wdf_plan.specs.Declarations.{declarations, stands}
-use Rattle.wdf_plan.specs.First.{first_refusal}
-use Rattle.wdf_plan.specs.Limits.{over_ticks}
+use Rattle.wdf_blocks.specs.declared.declaration.Wanted.TheVariants as wanted
+use Rattle.wdf_blocks.specs.declared.placed.Placed.{Placed}
+use Rattle.wdf_blocks.specs.Declarations.{declarations, stands}
+use Rattle.wdf_refusals.specs.First.{first_refusal}
+use Rattle.wdf_refusals.specs.Limits.{over_ticks}
 use Rattle.wdf_plan.specs.Parts.{app_post, app_post_in, pnp_post, app_agent, stands_in}
-use Rattle.wdf_plan.specs.Placed.{placed}
+use Rattle.wdf_blocks.specs.Placed.{placed}
 use Rattle.wdf_plan.specs.Plans.{plan_with, plan_of}
-use Rattle.wdf_plan.specs.Rows.{unknown_word}
+use Rattle.wdf_refusals.specs.Rows.{unknown_word}
 use Rattle.wdf_plan.proofs.Accepted.{IsAccepted, each_accepted, word_known}
 use Rattle.wdf_plan.proofs.AgentLists.{apps_are}
-use Rattle.wdf_plan.proofs.Every.{Every, some_has, all_kept}
+use Rattle.wdf_refusals.proofs.Every.{Every, some_has, all_kept}
 use Rattle.wdf_plan.proofs.Handles.{device_fits}
 use Rattle.wdf_plan.proofs.PostCounts.{posts_bound}
 use Rattle.wdf_plan.proofs.Within.{ticks_within}

@@ -10,9 +10,9 @@ use Rattle.wdf_scene.specs.declared.line.SceneLine.{SceneLine}
 use Rattle.wdf_scene.specs.declared.line.SceneLine.TheVariants as line
 use Rattle.wdf_plan.specs.declared.course.Course.{Course}
 use Rattle.wdf_plan.specs.declared.course.Nest.{Nest}
-use Rattle.wdf_plan.specs.declared.declaration.Declaration.{Declaration}
-use Rattle.wdf_plan.specs.Blocks.{depth_behind, ends_block}
-use Rattle.wdf_plan.specs.Forms.{opens, is_end}
+use Rattle.wdf_blocks.specs.declared.declaration.Declaration.{Declaration}
+use Rattle.wdf_blocks.specs.Blocks.{depth_behind, ends_block}
+use Rattle.wdf_blocks.specs.Forms.{opens, is_end}
 use Rattle.wdf_plan.specs.Scripts.{nest_at, is_branch, is_else, going, skipping, passed, reach, loops, is_loop, blocks_behind, statement_at, statements_from, number_behind, statements_in}
 use Rattle.wdf_plan.proofs.Nesting.{stands_inside, IsBody, IsCounted, open_before, counted_line}
 

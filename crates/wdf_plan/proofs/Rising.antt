@@ -2,11 +2,11 @@
 use Rattle.std.proofs.Common.{◌≡◌, ℕ, suc, ◌≤◌, List, [], ◌∷◌, length, Option, Some, None, refl, arith}
 use Rattle.std.specs.List.{filter_map, cons_option}
 use Rattle.wdf_scene.specs.declared.line.NumberedLine.{NumberedLine}
-use Rattle.wdf_plan.specs.declared.placed.Counts.{Counts}
-use Rattle.wdf_plan.specs.declared.placed.Placed.{Placed}
-use Rattle.wdf_plan.specs.declared.placed.Stand.{Stand}
-use Rattle.wdf_plan.specs.Placed.{counted, opened_by, placed_line, placed_from}
-use Rattle.wdf_plan.proofs.Every.{Every}
+use Rattle.wdf_blocks.specs.declared.placed.Counts.{Counts}
+use Rattle.wdf_blocks.specs.declared.placed.Placed.{Placed}
+use Rattle.wdf_blocks.specs.declared.placed.Stand.{Stand}
+use Rattle.wdf_blocks.specs.Placed.{counted, opened_by, placed_line, placed_from}
+use Rattle.wdf_refusals.proofs.Every.{Every}
 
 -- the first has its place at k or later, and each has it later than the one before
 abbrev pub AreRising : {T : Type 0} → (T → ℕ) → ℕ → List T → Type 0

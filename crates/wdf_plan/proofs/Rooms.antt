@@ -3,8 +3,8 @@ use Rattle.std.proofs.Common.{◌≡◌, ℕ, zero, suc, ◌+◌, ◌<◌, List,
 use Rattle.std.proofs.lemmas.List.Folds.{length-flat_map-take}
 use Rattle.std.specs.List.{cons_option, flat_map}
 use Rattle.std.specs.Option.{option_to_list}
-use Rattle.wdf_plan.specs.Fitting.{Every}
-use Rattle.wdf_plan.proofs.Gather.{cons-append}
+use Rattle.wdf_refusals.specs.Numbered.{Every}
+use Rattle.wdf_refusals.proofs.Gather.{cons-append}
 
 -- what holds of each item of a list holds of each of its fronts and its rests
 pub every_split : {T : Type 0} (R : T → Type 0) (xs ys : List T) → Every R (xs ++ ys) → Every R xs × Every R ys

@@ -12,22 +12,23 @@ use Rattle.wdf_scene.specs.declared.line.SceneLine.{SceneLine}
 use Rattle.wdf_scene.specs.declared.line.SceneLine.TheVariants as line
 use Rattle.wdf_scene.specs.declared.scene.Scene.{Scene}
 use Rattle.wdf_plan.specs.declared.course.Nest.{Nest}
-use Rattle.wdf_plan.specs.declared.declaration.Declaration.{Declaration}
-use Rattle.wdf_plan.specs.declared.placed.Placed.{Placed}
-use Rattle.wdf_plan.specs.Blocks.{form_at}
-use Rattle.wdf_plan.specs.Declarations.{declarations}
-use Rattle.wdf_plan.specs.Fitting.{CanPlan, Every, IsFitDeclared, IsFitNode, IsFitScript}
-use Rattle.wdf_plan.specs.Limits.{over_level}
+use Rattle.wdf_blocks.specs.declared.declaration.Declaration.{Declaration}
+use Rattle.wdf_blocks.specs.declared.placed.Placed.{Placed}
+use Rattle.wdf_blocks.specs.Blocks.{form_at}
+use Rattle.wdf_blocks.specs.Declarations.{declarations}
+use Rattle.wdf_plan.specs.Fitting.{CanPlan, IsFitDeclared, IsFitNode, IsFitScript}
+use Rattle.wdf_refusals.specs.Numbered.{Every}
+use Rattle.wdf_refusals.specs.Limits.{over_level}
 use Rattle.wdf_plan.specs.Parts.{app_agent, class_on, device_agent, interrupt_info, line_picks, object_of, object_on, target_agent}
-use Rattle.wdf_plan.specs.Placed.{placed}
+use Rattle.wdf_blocks.specs.Placed.{placed}
 use Rattle.wdf_plan.specs.Plans.{all_agents, all_objects, header_of, plan_with, plan_of}
 use Rattle.wdf_plan.specs.Scripts.{blocks_behind, ends_callback, nodes_on, number_behind, owner_of, script_on, statement_at, statements_from, statements_of}
-use Rattle.wdf_plan.specs.Variables.{variables}
+use Rattle.wdf_blocks.specs.Variables.{variables}
 use Rattle.wdf_plan.proofs.Accepted.{IsAccepted, each_accepted}
 use Rattle.wdf_plan.proofs.Bounds.{IsBounded, plan_bounded}
-use Rattle.wdf_plan.proofs.Every.{every_both, every_kept, every_map}
+use Rattle.wdf_refusals.proofs.Every.{every_both, every_kept, every_map}
 use Rattle.wdf_plan.proofs.ExprFacts.{exprs_fit, exprs_length}
-use Rattle.wdf_plan.proofs.Fitting.{HasOrders, scene_orders}
+use Rattle.wdf_refusals.proofs.Fitting.{HasOrders, scene_orders}
 use Rattle.wdf_plan.proofs.Gathered.{every_from}
 use Rattle.wdf_plan.proofs.ItemFits.{agents_few, each_passes, nodes_small, script_small}
 use Rattle.wdf_plan.proofs.Rooms.{front_few}

@@ -17,20 +17,20 @@ use Rattle.wdf_scene.specs.declared.line.SceneLine.{SceneLine}
 use Rattle.wdf_scene.specs.declared.line.SceneLine.TheVariants as line
 use Rattle.wdf_scene.specs.declared.scene.Scene.{Scene}
 use Rattle.wdf_scene.specs.Written.{IsScene}
-use Rattle.wdf_plan.specs.declared.placed.Placed.{Placed}
-use Rattle.wdf_plan.specs.Blocks.{form_at}
-use Rattle.wdf_plan.specs.Declarations.{declarations}
-use Rattle.wdf_plan.specs.First.{first_refusal}
-use Rattle.wdf_plan.specs.Forms.{block_kind}
+use Rattle.wdf_blocks.specs.declared.placed.Placed.{Placed}
+use Rattle.wdf_blocks.specs.Blocks.{form_at}
+use Rattle.wdf_blocks.specs.Declarations.{declarations}
+use Rattle.wdf_refusals.specs.First.{first_refusal}
+use Rattle.wdf_blocks.specs.Forms.{block_kind}
 use Rattle.wdf_plan.specs.Parts.{class_on, object_of, object_on}
-use Rattle.wdf_plan.specs.Placed.{placed}
+use Rattle.wdf_blocks.specs.Placed.{placed}
 use Rattle.wdf_plan.specs.Plans.{all_objects, plan_with, plan_of}
-use Rattle.wdf_plan.specs.Rows.{has_callbacks, is_class_or_device, block_form, block_is, wrong_callback}
+use Rattle.wdf_refusals.specs.Rows.{has_callbacks, is_class_or_device, block_form, block_is, wrong_callback}
 use Rattle.wdf_plan.specs.Scripts.{owner_of, script_on, statements_from, statements_of}
-use Rattle.wdf_plan.specs.Variables.{variables}
+use Rattle.wdf_blocks.specs.Variables.{variables}
 use Rattle.wdf_plan.proofs.Accepted.{IsAccepted, each_accepted}
 use Rattle.wdf_plan.proofs.Bodies.{HasBody, every_body}
-use Rattle.wdf_plan.proofs.Every.{Every, every_kept, every_all, every_at, every_both}
+use Rattle.wdf_refusals.proofs.Every.{Every, every_kept, every_all, every_at, every_both}
 use Rattle.wdf_plan.proofs.Gathered.{any_from}
 use Rattle.wdf_plan.proofs.Nesting.{IsBody}
 use Rattle.wdf_plan.proofs.Operands.{lines_fit}

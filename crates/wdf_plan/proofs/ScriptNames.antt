@@ -15,17 +15,17 @@ use Rattle.wdf_scene.specs.declared.line.SceneLine.TheVariants as line
 use Rattle.wdf_scene.specs.declared.scene.Scene.{Scene}
 use Rattle.wdf_scene.specs.Naming.{declared_name}
 use Rattle.wdf_scene.specs.Written.{IsScene}
-use Rattle.wdf_plan.specs.declared.attribute.Attribute.{Attribute}
-use Rattle.wdf_plan.specs.declared.attribute.Attribute.TheVariants as attribute
-use Rattle.wdf_plan.specs.declared.placed.Placed.{Placed}
-use Rattle.wdf_plan.specs.Attribute.{gives, gives_callback, attribute_of, is_device_wide}
-use Rattle.wdf_plan.specs.Blocks.{given, number_at}
-use Rattle.wdf_plan.specs.Declarations.{declarations}
-use Rattle.wdf_plan.specs.First.{first_refusal}
-use Rattle.wdf_plan.specs.Forms.{assigned_name}
-use Rattle.wdf_plan.specs.Placed.{outside, nothing, placed}
+use Rattle.wdf_blocks.specs.declared.attribute.Attribute.{Attribute}
+use Rattle.wdf_blocks.specs.declared.attribute.Attribute.TheVariants as attribute
+use Rattle.wdf_blocks.specs.declared.placed.Placed.{Placed}
+use Rattle.wdf_blocks.specs.Attribute.{gives, gives_callback, attribute_of, is_device_wide}
+use Rattle.wdf_blocks.specs.Blocks.{given, number_at}
+use Rattle.wdf_blocks.specs.Declarations.{declarations}
+use Rattle.wdf_refusals.specs.First.{first_refusal}
+use Rattle.wdf_blocks.specs.Forms.{assigned_name}
+use Rattle.wdf_blocks.specs.Placed.{outside, nothing, placed}
 use Rattle.wdf_plan.specs.Plans.{plan_with, plan_of}
-use Rattle.wdf_plan.specs.Rows.{given_line, twice_given, twice_named}
+use Rattle.wdf_refusals.specs.Rows.{given_line, twice_given, twice_named}
 use Rattle.wdf_plan.specs.Scripts.{owner_of, script_on, statements_of}
 use Rattle.wdf_plan.proofs.Accepted.{IsAccepted}
 use Rattle.wdf_plan.proofs.Apart.{GiveOthers, all_apart, line_pairs}

@@ -11,15 +11,15 @@ use Rattle.wdf_base.specs.Same.{same_option}
 use Rattle.wdf_scene.specs.declared.line.SceneLine.{SceneLine}
 use Rattle.wdf_scene.specs.declared.line.SceneLine.TheVariants as line
 use Rattle.wdf_scene.specs.declared.scene.Scene.{Scene}
-use Rattle.wdf_plan.specs.declared.declaration.Declaration.{Declaration}
-use Rattle.wdf_plan.specs.declared.placed.Placed.{Placed}
+use Rattle.wdf_blocks.specs.declared.declaration.Declaration.{Declaration}
+use Rattle.wdf_blocks.specs.declared.placed.Placed.{Placed}
 use Rattle.wdf_plan.specs.declared.posts.Posted.{Posted}
-use Rattle.wdf_plan.specs.Numbers.{name_number}
+use Rattle.wdf_refusals.specs.Numbers.{name_number}
 use Rattle.wdf_plan.specs.Parts.{agent, app_post, app_post_in, app_agent, device_post, device_post_in, device_agent}
-use Rattle.wdf_plan.specs.Placed.{placed}
+use Rattle.wdf_blocks.specs.Placed.{placed}
 use Rattle.wdf_plan.specs.Posts.{posted, app_posted, device_posted, post_in, app_with, device_with}
-use Rattle.wdf_plan.proofs.Every.{composed}
-use Rattle.wdf_plan.proofs.Fitting.{gathered_few}
+use Rattle.wdf_refusals.proofs.Every.{composed}
+use Rattle.wdf_refusals.proofs.Fitting.{gathered_few}
 
 none_in : {T : Type 0} (t : Bool) → None ≡ cond {A = Option T} t None None
 none_in true = refl

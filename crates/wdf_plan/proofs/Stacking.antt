@@ -11,12 +11,12 @@ use Rattle.wdf_scene.specs.declared.line.NumberedLine.{NumberedLine}
 use Rattle.wdf_scene.specs.declared.scene.Scene.{Scene}
 use Rattle.wdf_scene.specs.Blocks.{Position, front, moved, is_outside, innermost, in_callback, in_device, in_if, has_level, nesting, blocks_after, may_stand, opened}
 use Rattle.wdf_scene.specs.Written.{IsScene, lines_at}
-use Rattle.wdf_plan.specs.declared.placed.Counts.{Counts}
-use Rattle.wdf_plan.specs.declared.placed.Placed.{Placed}
-use Rattle.wdf_plan.specs.declared.placed.Stand.{Stand}
-use Rattle.wdf_plan.specs.Placed.{outside, nothing, closed, counted, opened_by, placed_line, placed_from, placed}
-use Rattle.wdf_plan.proofs.Every.{Every, every_map}
-use Rattle.wdf_plan.proofs.Heads.{form_of, Ends, stood}
+use Rattle.wdf_blocks.specs.declared.placed.Counts.{Counts}
+use Rattle.wdf_blocks.specs.declared.placed.Placed.{Placed}
+use Rattle.wdf_blocks.specs.declared.placed.Stand.{Stand}
+use Rattle.wdf_blocks.specs.Placed.{outside, nothing, closed, counted, opened_by, placed_line, placed_from, placed}
+use Rattle.wdf_refusals.proofs.Every.{Every, every_map}
+use Rattle.wdf_refusals.proofs.Heads.{form_of, Ends, stood}
 use Rattle.wdf_plan.proofs.Places.{item_there}
 use Rattle.wdf_plan.proofs.Stacks.{Opener, block_of, pushed, stand_of, stack_after, begun, opens_in, AreBefore, IsOpened, AreOpened, IsStacked, AreStacked, AreFitting, fitting, IsInDevice, none_open, device_open, IsQuiet, quiet, IsInCallback, in_a_callback, owner_quiet}
 

@@ -17,22 +17,22 @@ use Rattle.wdf_scene.specs.declared.scene.Scene.{Scene}
 use Rattle.wdf_scene.specs.Written.{IsScene}
 use Rattle.wdf_plan.specs.declared.course.Nest.{Nest}
 use Rattle.wdf_plan.specs.declared.course.Nest.TheVariants as nest
-use Rattle.wdf_plan.specs.declared.declaration.Declaration.{Declaration}
-use Rattle.wdf_plan.specs.declared.placed.Counts.{Counts}
-use Rattle.wdf_plan.specs.declared.placed.Placed.{Placed}
-use Rattle.wdf_plan.specs.declared.placed.Stand.{Stand}
-use Rattle.wdf_plan.specs.Blocks.{depth_behind, ends_block}
-use Rattle.wdf_plan.specs.Declarations.{declarations}
-use Rattle.wdf_plan.specs.Forms.{opens, is_end, is_statement}
-use Rattle.wdf_plan.specs.Limits.{exceeds, is_one_too_many}
-use Rattle.wdf_plan.specs.Placed.{outside, nothing, closed, closed_block, counted, opened_by, placed_line, placed_from, placed}
+use Rattle.wdf_blocks.specs.declared.declaration.Declaration.{Declaration}
+use Rattle.wdf_blocks.specs.declared.placed.Counts.{Counts}
+use Rattle.wdf_blocks.specs.declared.placed.Placed.{Placed}
+use Rattle.wdf_blocks.specs.declared.placed.Stand.{Stand}
+use Rattle.wdf_blocks.specs.Blocks.{depth_behind, ends_block}
+use Rattle.wdf_blocks.specs.Declarations.{declarations}
+use Rattle.wdf_blocks.specs.Forms.{opens, is_end, is_statement}
+use Rattle.wdf_refusals.specs.Limits.{exceeds, is_one_too_many}
+use Rattle.wdf_blocks.specs.Placed.{outside, nothing, closed, closed_block, counted, opened_by, placed_line, placed_from, placed}
 use Rattle.wdf_plan.specs.Plans.{plan_with, plan_of}
 use Rattle.wdf_plan.specs.Scripts.{nest_at, again, blocks_behind, plain_act, act_on, statement_on, statement_at, statements_from, statements_of, number_behind, owner_of, script_on}
-use Rattle.wdf_plan.specs.Variables.{variables}
+use Rattle.wdf_blocks.specs.Variables.{variables}
 use Rattle.wdf_plan.proofs.Accepted.{IsAccepted}
 use Rattle.wdf_plan.proofs.Bodies.{HasBody, every_body}
 use Rattle.wdf_plan.proofs.Counting.{bounded, from_zero}
-use Rattle.wdf_plan.proofs.Every.{Every, every_map}
+use Rattle.wdf_refusals.proofs.Every.{Every, every_map}
 use Rattle.wdf_plan.proofs.InCallbacks.{IsWithin, goes_on, leaves}
 use Rattle.wdf_plan.proofs.Nesting.{stands_inside, IsBody, counted_line}
 use Rattle.wdf_plan.proofs.Reaching.{body_behind, same_end}

@@ -13,12 +13,12 @@ use Rattle.wdf_scene.specs.declared.line.SceneLine.TheVariants as line
 use Rattle.wdf_plan.specs.declared.course.Course.{Course}
 use Rattle.wdf_plan.specs.declared.course.Nest.{Nest}
 use Rattle.wdf_plan.specs.declared.course.Nest.TheVariants as nest
-use Rattle.wdf_plan.specs.declared.declaration.Declaration.{Declaration}
-use Rattle.wdf_plan.specs.declared.declaration.Wanted.TheVariants as wanted
-use Rattle.wdf_plan.specs.Blocks.{depth_behind, ends_block}
-use Rattle.wdf_plan.specs.Numbers.{number_of}
+use Rattle.wdf_blocks.specs.declared.declaration.Declaration.{Declaration}
+use Rattle.wdf_blocks.specs.declared.declaration.Wanted.TheVariants as wanted
+use Rattle.wdf_blocks.specs.Blocks.{depth_behind, ends_block}
+use Rattle.wdf_refusals.specs.Numbers.{number_of}
 use Rattle.wdf_plan.specs.Scripts.{nest_at, outer, loops, again, reach, onward, beyond, variable_of, answer_place, argument_of, blocks_behind, plain_act, act_on, told_line, statement_on, statement_at, statements_from, number_behind, statements_in}
-use Rattle.wdf_plan.proofs.Every.{Every, every_map}
+use Rattle.wdf_refusals.proofs.Every.{Every, every_map}
 use Rattle.wdf_plan.proofs.Nesting.{stands_inside, IsBody, open_before, IsCounted, counted_line, HasLast, with_last, length_last, outer_last, nest_last, loops_last}
 use Rattle.wdf_plan.proofs.Reaching.{IsAlong, end_from, end_later, reach_within, body_behind, loops_few, same_end}
 

@@ -12,11 +12,11 @@ use Rattle.wdf_scene.specs.declared.line.SceneLine.TheVariants as line
 use Rattle.wdf_scene.specs.declared.scene.Scene.{Scene}
 use Rattle.wdf_scene.specs.Blocks.{Position, front, moved, is_outside, innermost, in_callback, in_if, blocks_after, may_stand}
 use Rattle.wdf_scene.specs.Written.{IsScene, Written, Plain, Picked, Single, Calling, WrittenLine, lines_at, line_at, picks_in, written_size}
-use Rattle.wdf_plan.specs.Forms.{opens, is_end, is_statement}
+use Rattle.wdf_blocks.specs.Forms.{opens, is_end, is_statement}
 use Rattle.wdf_plan.specs.Scripts.{statements_from, statements_of}
-use Rattle.wdf_plan.specs.Variables.{variables}
-use Rattle.wdf_plan.proofs.Every.{Every}
-use Rattle.wdf_plan.proofs.Heads.{form_of, Ends, stood, HasHead, scene_head}
+use Rattle.wdf_blocks.specs.Variables.{variables}
+use Rattle.wdf_refusals.proofs.Every.{Every}
+use Rattle.wdf_refusals.proofs.Heads.{form_of, Ends, stood, HasHead, scene_head}
 use Rattle.wdf_plan.specs.Flow as tree
 use Rattle.wdf_plan.specs.Flow.{Body, Empty, If, IfElse, Repeat, HasTree, is_plain, lines_of, numbered}
 use Rattle.wdf_plan.proofs.Flows.{statements_flow}

@@ -13,20 +13,20 @@ use Rattle.wdf_base.specs.Same.{same_option, same_kind}
 use Rattle.wdf_scene.specs.declared.line.SceneLine.{SceneLine}
 use Rattle.wdf_scene.specs.declared.line.SceneLine.TheVariants as line
 use Rattle.wdf_scene.specs.declared.scene.Scene.{Scene}
-use Rattle.wdf_plan.specs.declared.declaration.Declaration.{Declaration}
-use Rattle.wdf_plan.specs.declared.declaration.Thing.{Thing}
-use Rattle.wdf_plan.specs.declared.declaration.Thing.TheVariants as thing
-use Rattle.wdf_plan.specs.declared.declaration.Wanted.{Wanted}
-use Rattle.wdf_plan.specs.declared.declaration.Wanted.TheVariants as wanted
-use Rattle.wdf_plan.specs.declared.placed.Placed.{Placed}
-use Rattle.wdf_plan.specs.Declarations.{declarations, declared_by, declared_on, is_wanted, is_register, is_class_of, found, stands}
-use Rattle.wdf_plan.specs.Forms.{is_class}
-use Rattle.wdf_plan.specs.Numbers.{number_of}
+use Rattle.wdf_blocks.specs.declared.declaration.Declaration.{Declaration}
+use Rattle.wdf_blocks.specs.declared.declaration.Thing.{Thing}
+use Rattle.wdf_blocks.specs.declared.declaration.Thing.TheVariants as thing
+use Rattle.wdf_blocks.specs.declared.declaration.Wanted.{Wanted}
+use Rattle.wdf_blocks.specs.declared.declaration.Wanted.TheVariants as wanted
+use Rattle.wdf_blocks.specs.declared.placed.Placed.{Placed}
+use Rattle.wdf_blocks.specs.Declarations.{declarations, declared_by, declared_on, is_wanted, is_register, is_class_of, found, stands}
+use Rattle.wdf_blocks.specs.Forms.{is_class}
+use Rattle.wdf_refusals.specs.Numbers.{number_of}
 use Rattle.wdf_plan.specs.Parts.{class_on, register_on}
-use Rattle.wdf_plan.specs.Placed.{outside, nothing, counted, placed}
+use Rattle.wdf_blocks.specs.Placed.{outside, nothing, counted, placed}
 use Rattle.wdf_plan.specs.Plans.{plan_with, plan_of}
 use Rattle.wdf_plan.proofs.DeviceItems.{register_at, HasItems, items_placed}
-use Rattle.wdf_plan.proofs.Every.{Every, every_kept}
+use Rattle.wdf_refusals.proofs.Every.{Every, every_kept}
 use Rattle.wdf_plan.proofs.Handles.{Stands, stands_for}
 use Rattle.wdf_plan.proofs.Places.{indexed, found_has}
 

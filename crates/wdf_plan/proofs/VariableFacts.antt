@@ -12,18 +12,18 @@ use Rattle.wdf_scene.specs.declared.line.NumberedLine.{NumberedLine}
 use Rattle.wdf_scene.specs.declared.line.SceneLine.TheVariants as line
 use Rattle.wdf_scene.specs.declared.scene.Scene.{Scene}
 use Rattle.wdf_scene.specs.Written.{IsScene}
-use Rattle.wdf_plan.specs.declared.placed.Counts.{Counts}
-use Rattle.wdf_plan.specs.declared.placed.Placed.{Placed}
-use Rattle.wdf_plan.specs.declared.placed.Stand.{Stand}
-use Rattle.wdf_plan.specs.Blocks.{depth_behind, ends_block}
-use Rattle.wdf_plan.specs.Forms.{assigned_name}
-use Rattle.wdf_plan.specs.Limits.{exceeds, over_variables}
-use Rattle.wdf_plan.specs.Placed.{counted, opened_by, placed_from, placed}
+use Rattle.wdf_blocks.specs.declared.placed.Counts.{Counts}
+use Rattle.wdf_blocks.specs.declared.placed.Placed.{Placed}
+use Rattle.wdf_blocks.specs.declared.placed.Stand.{Stand}
+use Rattle.wdf_blocks.specs.Blocks.{depth_behind, ends_block}
+use Rattle.wdf_blocks.specs.Forms.{assigned_name}
+use Rattle.wdf_refusals.specs.Limits.{exceeds, over_variables}
+use Rattle.wdf_blocks.specs.Placed.{counted, opened_by, placed_from, placed}
 use Rattle.wdf_plan.specs.Scripts.{variable_of}
-use Rattle.wdf_plan.specs.Variables.{with_assigned, assigned_from, variables, variables_in, variables_at, variable_number}
+use Rattle.wdf_blocks.specs.Variables.{with_assigned, assigned_from, variables, variables_in, variables_at, variable_number}
 use Rattle.wdf_plan.proofs.Accepted.{IsAccepted}
 use Rattle.wdf_plan.proofs.Bodies.{HasBody, every_body}
-use Rattle.wdf_plan.proofs.Every.{Every, every_map, every_at}
+use Rattle.wdf_refusals.proofs.Every.{Every, every_map, every_at}
 use Rattle.wdf_plan.proofs.InCallbacks.{callback_begun, IsWithin, goes_on}
 use Rattle.wdf_plan.proofs.Nesting.{IsBody}
 use Rattle.wdf_plan.proofs.Stacking.{IsPassed, passed, every_passed}

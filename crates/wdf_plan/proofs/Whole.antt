@@ -5,8 +5,8 @@ use Rattle.wdf_base.specs.Resolved.{IsResolved}
 use Rattle.wdf_scene.specs.declared.scene.Scene.{Scene}
 use Rattle.wdf_scene.specs.Naming.{HasProperNames}
 use Rattle.wdf_scene.specs.Written.{IsScene}
-use Rattle.wdf_plan.specs.Declarations.{declarations}
-use Rattle.wdf_plan.specs.First.{first_refusal}
+use Rattle.wdf_blocks.specs.Declarations.{declarations}
+use Rattle.wdf_refusals.specs.First.{first_refusal}
 use Rattle.wdf_plan.specs.Plans.{plan_of, plan_with}
 use Rattle.wdf_plan.proofs.Bounds.{plan_bounded}
 use Rattle.wdf_plan.proofs.Complete.{plan_complete}

@@ -1,10 +1,10 @@
 -- An accepted line keeps each limit.
 use Rattle.std.proofs.Common.{◌≡◌, false}
 use Rattle.wdf_scene.specs.declared.scene.Scene.{Scene}
-use Rattle.wdf_plan.specs.declared.placed.Placed.{Placed}
-use Rattle.wdf_plan.specs.Declarations.{declarations}
-use Rattle.wdf_plan.specs.Forms.{is_app, is_class, is_device, is_post, is_register}
-use Rattle.wdf_plan.specs.Limits.{exceeds, is_one_too_many, over_cpus, over_depth, over_level, over_limit, over_objects, over_parallel, over_picks, over_ticks}
+use Rattle.wdf_blocks.specs.declared.placed.Placed.{Placed}
+use Rattle.wdf_blocks.specs.Declarations.{declarations}
+use Rattle.wdf_blocks.specs.Forms.{is_app, is_class, is_device, is_post, is_register}
+use Rattle.wdf_refusals.specs.Limits.{exceeds, is_one_too_many, over_cpus, over_depth, over_level, over_limit, over_objects, over_parallel, over_picks, over_ticks}
 use Rattle.wdf_plan.proofs.Accepted.{IsAccepted}
 
 pub cpus_within : (scene : Scene) (p : Placed) → IsAccepted scene p → over_cpus p.form ≡ false

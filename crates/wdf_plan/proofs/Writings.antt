@@ -7,10 +7,10 @@ use Rattle.wdf_base.specs.declared.script.Statement.{Statement}
 use Rattle.wdf_scene.specs.declared.line.NumberedLine.{NumberedLine}
 use Rattle.wdf_scene.specs.declared.scene.Scene.{Scene}
 use Rattle.wdf_plan.specs.declared.course.Nest.{Nest}
-use Rattle.wdf_plan.specs.declared.declaration.Declaration.{Declaration}
+use Rattle.wdf_blocks.specs.declared.declaration.Declaration.{Declaration}
 use Rattle.wdf_plan.specs.Scripts.{statements_from, statements_of, statement_on, statement_at, blocks_behind, number_behind, ends_callback}
-use Rattle.wdf_plan.specs.Variables.{variables}
-use Rattle.wdf_plan.proofs.Gather.{cons-append}
+use Rattle.wdf_blocks.specs.Variables.{variables}
+use Rattle.wdf_refusals.proofs.Gather.{cons-append}
 use Rattle.wdf_plan.proofs.Rooms.{IsNext}
 
 -- the statements of the lines before line k are written

@@ -11,13 +11,13 @@ use Rattle.wdf_scene.specs.declared.line.StatementHead.{StatementHead}
 use Rattle.wdf_scene.specs.declared.line.StatementHead.TheVariants as head
 use Rattle.wdf_scene.specs.declared.scene.Scene.{Scene}
 use Rattle.wdf_scene.specs.Written.{Atom, Number, Named, Literal, Context, Tree, Leaf, Node, Argument, Missing, Valued, OfClass, Written, Plain, Picked, Single, Calling, WrittenLine, IsScene, size, root, nodes, atom_node, head_line, argument_size, argument_nodes, numbered_argument, line_at, nodes_at, written_size, picks_in, is_plain_form, is_written, lines_at, exprs_at}
-use Rattle.wdf_plan.specs.declared.placed.Counts.{Counts}
-use Rattle.wdf_plan.specs.declared.placed.Placed.{Placed}
-use Rattle.wdf_plan.specs.declared.placed.Stand.{Stand}
-use Rattle.wdf_plan.specs.Forms.{nodes_behind, nodes_end}
-use Rattle.wdf_plan.specs.Placed.{outside, nothing, counted, opened_by, placed_line, placed_from, placed}
-use Rattle.wdf_plan.specs.Rows.{nodes_of}
-use Rattle.wdf_plan.proofs.Every.{Every}
+use Rattle.wdf_blocks.specs.declared.placed.Counts.{Counts}
+use Rattle.wdf_blocks.specs.declared.placed.Placed.{Placed}
+use Rattle.wdf_blocks.specs.declared.placed.Stand.{Stand}
+use Rattle.wdf_blocks.specs.Forms.{nodes_behind, nodes_end}
+use Rattle.wdf_blocks.specs.Placed.{outside, nothing, counted, opened_by, placed_line, placed_from, placed}
+use Rattle.wdf_refusals.specs.Rows.{nodes_of}
+use Rattle.wdf_refusals.proofs.Every.{Every}
 
 -- ---- how many nodes there are
 

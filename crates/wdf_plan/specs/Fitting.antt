@@ -1,5 +1,5 @@
 -- The numbers of a plan fit the types that it has for them: 8, 16 or 32 bits.
-use Rattle.std.specs.Prelude.{◌≡◌, ℕ, ◌+◌, ◌<◌, ◌^◌, List, [], ◌∷◌, length, Option, Some, None}
+use Rattle.std.specs.Prelude.{◌≡◌, ℕ, ◌<◌, ◌^◌, List, length, Option, Some, None}
 use Rattle.wdf_base.specs.declared.declared.Declared.{Declared}
 use Rattle.wdf_base.specs.declared.declared.Declared.TheVariants as declared
 use Rattle.wdf_base.specs.declared.script.Act.{Act}
@@ -12,25 +12,10 @@ use Rattle.wdf_base.specs.declared.script.Script.{Script}
 use Rattle.wdf_base.specs.declared.script.Statement.{Statement}
 use Rattle.wdf_scene.specs.declared.scene.Scene.{Scene}
 use Rattle.wdf_scene.specs.Written.{IsScene}
-use Rattle.wdf_plan.specs.declared.declaration.Declaration.{Declaration}
-use Rattle.wdf_plan.specs.Declarations.{declarations}
-use Rattle.wdf_plan.specs.First.{first_refusal}
-
--- each item has the property
-abbrev pub Every : {T : Type 0} → (T → Type 0) → List T → Type 0
-Every P [] = Unit {0}
-Every P (x ∷ xs) = P x × Every P xs
-
--- ---- names
-
--- the id of the object of this order, or the number of a class or a register
-abbrev pub HasFitOrder : Declaration → Type 0
-HasFitOrder d = d.order + 2 < 2 ^ 32
-
--- the number of each name, which is its place and 2, and the id of each object
-pub record AreNumbered (names : List Declaration) : Type 0 where
-  pub few : length names + 2 < 2 ^ 32
-  pub orders : Every HasFitOrder names
+use Rattle.wdf_blocks.specs.declared.declaration.Declaration.{Declaration}
+use Rattle.wdf_blocks.specs.Declarations.{declarations}
+use Rattle.wdf_refusals.specs.First.{first_refusal}
+use Rattle.wdf_refusals.specs.Numbered.{Every}
 
 -- ---- objects
 

@@ -7,10 +7,10 @@ use Rattle.wdf_scene.specs.declared.line.NumberedLine.{NumberedLine}
 use Rattle.wdf_scene.specs.declared.line.SceneLine.{SceneLine}
 use Rattle.wdf_scene.specs.declared.line.SceneLine.TheVariants as line
 use Rattle.wdf_scene.specs.declared.scene.Scene.{Scene}
-use Rattle.wdf_plan.specs.declared.declaration.Declaration.{Declaration}
-use Rattle.wdf_plan.specs.Forms.{opens, is_statement}
+use Rattle.wdf_blocks.specs.declared.declaration.Declaration.{Declaration}
+use Rattle.wdf_blocks.specs.Forms.{opens, is_statement}
 use Rattle.wdf_plan.specs.Scripts.{plain_act, statements_of}
-use Rattle.wdf_plan.specs.Variables.{variables}
+use Rattle.wdf_blocks.specs.Variables.{variables}
 
 -- ---- trees
 

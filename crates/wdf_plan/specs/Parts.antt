@@ -28,13 +28,13 @@ use Rattle.wdf_scene.specs.declared.line.NumberedLine.{NumberedLine}
 use Rattle.wdf_scene.specs.declared.line.SceneLine.{SceneLine}
 use Rattle.wdf_scene.specs.declared.line.SceneLine.TheVariants as line
 use Rattle.wdf_scene.specs.declared.scene.Scene.{Scene}
-use Rattle.wdf_plan.specs.declared.attribute.Attribute.TheVariants as attribute
-use Rattle.wdf_plan.specs.declared.declaration.Declaration.{Declaration}
-use Rattle.wdf_plan.specs.declared.declaration.Wanted.TheVariants as wanted
-use Rattle.wdf_plan.specs.declared.placed.Placed.{Placed}
-use Rattle.wdf_plan.specs.Blocks.{given, has_given, form_at, ticks_in, effective_level, effective_scope}
-use Rattle.wdf_plan.specs.Numbers.{id_of, name_number, number_of, handle_of, action_of}
-use Rattle.wdf_plan.specs.Placed.{placed}
+use Rattle.wdf_blocks.specs.declared.attribute.Attribute.TheVariants as attribute
+use Rattle.wdf_blocks.specs.declared.declaration.Declaration.{Declaration}
+use Rattle.wdf_blocks.specs.declared.declaration.Wanted.TheVariants as wanted
+use Rattle.wdf_blocks.specs.declared.placed.Placed.{Placed}
+use Rattle.wdf_blocks.specs.Blocks.{given, has_given, form_at, ticks_in, effective_level, effective_scope}
+use Rattle.wdf_refusals.specs.Numbers.{id_of, name_number, number_of, handle_of, action_of}
+use Rattle.wdf_blocks.specs.Placed.{placed}
 
 -- ---- objects
 
@@ -203,6 +203,6 @@ target_agent names _ = None
 
 -- ---- picks
 
--- the numbers behind `picks` of a line
+-- the numbers after `picks` of a line
 abbrev pub line_picks : NumberedLine → List ℕ
 line_picks l = l.picks

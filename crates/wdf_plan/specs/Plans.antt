@@ -8,11 +8,11 @@ use Rattle.wdf_base.specs.declared.plan.Plan.{Plan}
 use Rattle.wdf_scene.specs.declared.line.SceneLine.{SceneLine}
 use Rattle.wdf_scene.specs.declared.line.SceneLine.TheVariants as line
 use Rattle.wdf_scene.specs.declared.scene.Scene.{Scene}
-use Rattle.wdf_plan.specs.declared.declaration.Declaration.{Declaration}
-use Rattle.wdf_plan.specs.Blocks.{form_at}
-use Rattle.wdf_plan.specs.Declarations.{declarations}
+use Rattle.wdf_blocks.specs.declared.declaration.Declaration.{Declaration}
+use Rattle.wdf_blocks.specs.Blocks.{form_at}
+use Rattle.wdf_blocks.specs.Declarations.{declarations}
 use Rattle.wdf_plan.specs.Parts.{object_on, class_on, register_on, when_on, pnp_post, app_agent, device_agent, target_agent, line_picks}
-use Rattle.wdf_plan.specs.Placed.{placed}
+use Rattle.wdf_blocks.specs.Placed.{placed}
 use Rattle.wdf_plan.specs.Scripts.{nodes_on, script_on}
 
 -- the number of a line `cpus N`, `limit N` or `objects N`

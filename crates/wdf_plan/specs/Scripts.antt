@@ -24,19 +24,19 @@ use Rattle.wdf_scene.specs.declared.line.SceneExpr.TheVariants as expr
 use Rattle.wdf_scene.specs.declared.line.SceneLine.{SceneLine}
 use Rattle.wdf_scene.specs.declared.line.SceneLine.TheVariants as line
 use Rattle.wdf_scene.specs.declared.scene.Scene.{Scene}
-use Rattle.wdf_plan.specs.declared.declaration.Declaration.{Declaration}
-use Rattle.wdf_plan.specs.declared.declaration.Wanted.TheVariants as wanted
+use Rattle.wdf_blocks.specs.declared.declaration.Declaration.{Declaration}
+use Rattle.wdf_blocks.specs.declared.declaration.Wanted.TheVariants as wanted
 use Rattle.wdf_plan.specs.declared.course.Course.{Course}
 use Rattle.wdf_plan.specs.declared.course.Detour.{Detour}
 use Rattle.wdf_plan.specs.declared.course.Nest.{Nest}
 use Rattle.wdf_plan.specs.declared.course.Nest.TheVariants as nest
-use Rattle.wdf_plan.specs.declared.placed.Placed.{Placed}
-use Rattle.wdf_plan.specs.Blocks.{form_at}
-use Rattle.wdf_plan.specs.Forms.{opens, is_end}
-use Rattle.wdf_plan.specs.Numbers.{number_of, handle_of}
+use Rattle.wdf_blocks.specs.declared.placed.Placed.{Placed}
+use Rattle.wdf_blocks.specs.Blocks.{form_at}
+use Rattle.wdf_blocks.specs.Forms.{opens, is_end}
+use Rattle.wdf_refusals.specs.Numbers.{number_of, handle_of}
 use Rattle.wdf_plan.specs.Parts.{object_of}
-use Rattle.wdf_plan.specs.Rows.{nodes_of}
-use Rattle.wdf_plan.specs.Variables.{variable_number, variables, variables_at}
+use Rattle.wdf_refusals.specs.Rows.{nodes_of}
+use Rattle.wdf_blocks.specs.Variables.{variable_number, variables, variables_at}
 
 -- ---- expressions
 

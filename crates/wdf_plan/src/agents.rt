@@ -3,14 +3,14 @@ ghost use Rattle.std.specs.Prelude.{◌≡◌, ◌<◌, ◌^◌, length, IfOk, S
 ghost use Rattle.wdf_plan.specs.Parts as parts;
 ghost use Rattle.wdf_plan.specs.Posts as shares;
 
-use crate::declaration::Wanted;
-use crate::names::Names;
-use crate::numbers::{action_of, handle_of, name_number};
-use crate::part::Part;
-use crate::placed::Placed;
 use crate::posts::{Posted, posts_in, with_block};
 use std::alloc::Global;
 use wdf_base::{AgentInfo, Items, MANY, Memory, Post, PostLine};
+use wdf_blocks::declaration::Wanted;
+use wdf_blocks::placed::Placed;
+use wdf_refusals::names::Names;
+use wdf_refusals::numbers::{action_of, handle_of, name_number};
+use wdf_refusals::part::Part;
 use wdf_scene::SceneLine;
 
 fn post_at(number: u32, tick: u64, post: Post) -> Option<PostLine>

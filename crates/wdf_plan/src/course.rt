@@ -2,8 +2,8 @@
 ghost use Rattle.std.specs.Prelude.{◌≡◌, ◌+◌, ◌≤◌, ◌<◌, ◌^◌, length, drop, slice_get, IfSome};
 ghost use Rattle.wdf_plan.specs.Scripts as scripts;
 
-use crate::block::depth_behind;
-use crate::forms::{is_end, opens};
+use wdf_blocks::block::depth_behind;
+use wdf_blocks::forms::{is_end, opens};
 use wdf_scene::{NumberedLine, SceneLine};
 
 /// A block that is open in a callback.
@@ -232,7 +232,7 @@ fn ends_branch(depth: u32, form: &SceneLine) -> bool {
     depth == 0 && (is_end(form) || is_else(form))
 }
 
-// The line with which the first branch ends of the block in which line `from` stands, and the number of the
+// The line with which the first branch ends of the block in which line `from` is, and the number of the
 // statement there, where that of line `from` has this number.
 fn turn(lines: &[NumberedLine], from: u32, number: u64) -> (u32, u64)
     requires lines { length lines.now < 2 ^ 32 }
@@ -254,7 +254,7 @@ fn turn(lines: &[NumberedLine], from: u32, number: u64) -> (u32, u64)
     (from, number)
 }
 
-/// The way to be kept of the innermost of these blocks, in which line `from` stands, with the number of the
+/// The way to be kept of the innermost of these blocks, in which line `from` is, with the number of the
 /// statement there. The ways of the blocks round it are kept.
 pub fn kept_way(
     blocks: &[Nest],

@@ -7,7 +7,7 @@ ghost use Rattle.wdf_scene.specs.declared.line.SceneLine.TheVariants as line;
 ghost use Rattle.wdf_scene.specs.declared.scene.Scene.{Scene};
 ghost use Rattle.wdf_scene.specs.Naming.{HasProperNames};
 ghost use Rattle.wdf_scene.specs.Written.{IsScene};
-ghost use Rattle.wdf_plan.specs.First.{first_refusal};
+ghost use Rattle.wdf_refusals.specs.First.{first_refusal};
 ghost use Rattle.wdf_plan.specs.Flow.{HasTree};
 ghost use Rattle.wdf_plan.specs.Plans.{plan_of};
 

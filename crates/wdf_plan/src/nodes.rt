@@ -1,20 +1,21 @@
 //! The nodes of the expressions of a plan, and its picks.
 ghost use Rattle.std.specs.Prelude.{◌≡◌, ◌++◌, ◌∷◌, [], ◌+◌, ◌-◌, ◌<◌, ◌^◌, length, IfOk, OnOk, take, drop, map};
 ghost use Rattle.std.specs.List.{flat_map};
-ghost use Rattle.wdf_plan.specs.Fitting.{Every, IsFitNode};
+ghost use Rattle.wdf_plan.specs.Fitting.{IsFitNode};
+ghost use Rattle.wdf_refusals.specs.Numbered.{Every};
 ghost use Rattle.wdf_plan.specs.Parts.{line_picks};
-ghost use Rattle.wdf_plan.specs.Placed.{placed};
+ghost use Rattle.wdf_blocks.specs.Placed.{placed};
 ghost use Rattle.wdf_plan.specs.Scripts as scripts;
-ghost use Rattle.wdf_plan.specs.Variables.{variables_at};
+ghost use Rattle.wdf_blocks.specs.Variables.{variables_at};
 
-use crate::forms::nodes_end;
-use crate::names::Names;
-use crate::placed::Placed;
 use crate::scripts::node_of;
-use crate::variables::{Variables, entered};
-use crate::walk::Walk;
 use std::alloc::Global;
 use wdf_base::{ExprNode, Items, MANY, Memory};
+use wdf_blocks::forms::nodes_end;
+use wdf_blocks::placed::Placed;
+use wdf_blocks::variables::{Variables, entered};
+use wdf_blocks::walk::Walk;
+use wdf_refusals::names::Names;
 use wdf_scene::{NumberedLine, Scene, SceneExpr};
 
 fn add_node(
@@ -122,7 +123,7 @@ fn add_picks(all: &[u64], picks: &mut Items<u64, MANY>) -> Result<(), Memory>
     Ok(())
 }
 
-/// The numbers behind `picks` of all lines.
+/// The numbers after `picks` of all lines.
 pub fn all_picks(alloc: Global, lines: &[NumberedLine]) -> Result<Items<u64, MANY>, Memory>
     requires { length (flat_map line_picks lines.now) < 2 ^ 32 }
     ensures { IfOk result (λ p. p ≡ flat_map line_picks lines.now) }

@@ -3,21 +3,21 @@ ghost use Rattle.std.specs.Prelude.{◌≡◌, ◌+◌, ◌<◌, ◌^◌, IfSome
 ghost use Rattle.wdf_plan.specs.Fitting.{IsFitDeclared};
 ghost use Rattle.wdf_plan.specs.Parts as parts;
 
-use crate::attribute::Attribute;
-use crate::block::{given_form, has_given, ticks_in};
-use crate::declaration::Wanted;
-use crate::heritage::Heritage;
-use crate::names::Names;
-use crate::numbers::{action_of, id_of, name_number, number_of};
-use crate::part::Part;
-use crate::placed::Placed;
 use wdf_base::{
     ClassInfo, Declared, DeviceInfo, DispatchKind, InterruptInfo, Irql, Memory, Name, QueueInfo,
     RegisterInfo, RequestForm, Serves, Status, TargetInfo, WhenLine,
 };
+use wdf_blocks::attribute::Attribute;
+use wdf_blocks::block::{given_form, has_given, ticks_in};
+use wdf_blocks::declaration::Wanted;
+use wdf_blocks::placed::Placed;
+use wdf_refusals::heritage::Heritage;
+use wdf_refusals::names::Names;
+use wdf_refusals::numbers::{action_of, id_of, name_number, number_of};
+use wdf_refusals::part::Part;
 use wdf_scene::{InterruptLevel, Scene, SceneLine};
 
-#[tactic(auto, unfolding(crate::specs::Parts::device_info, crate::specs::Heritage::effective))]
+#[tactic(auto, unfolding(crate::specs::Parts::device_info, wdf_refusals::specs::Heritage::effective))]
 fn device_info(
     heritage: &Heritage,
     names: &Names,
@@ -49,7 +49,7 @@ fn serves(scene: &Scene, line: u32) -> Serves
     }
 }
 
-#[tactic(auto, unfolding(crate::specs::Parts::queue_info, crate::specs::Heritage::effective))]
+#[tactic(auto, unfolding(crate::specs::Parts::queue_info, wdf_refusals::specs::Heritage::effective))]
 fn queue_info(
     heritage: &Heritage,
     names: &Names,
@@ -126,7 +126,7 @@ fn target_info(
     }
 }
 
-/// The object that line `line` declares, where `placed` is this line or stands in its block.
+/// The object that line `line` declares, where `placed` is this line or is in its block.
 #[tactic(auto, unfolding(crate::specs::Parts::object_of))]
 pub fn object_of(
     heritage: &Heritage,
@@ -219,7 +219,7 @@ fn class_on(scene: &Scene, names: &Names, placed: &Placed, form: &SceneLine) -> 
     }
 }
 
-/// The classes.
+/// The part of the plan that is its classes.
 #[derive(Drop)]
 pub struct Classes<'a> {
     pub scene: &'a Scene,
@@ -253,7 +253,7 @@ fn register_on(names: &Names, placed: &Placed, form: &SceneLine) -> Option<Regis
     }
 }
 
-/// The registers.
+/// The part of the plan that is its registers.
 #[derive(Drop)]
 pub struct Registers<'a> {
     pub names: &'a Names,
@@ -292,7 +292,7 @@ fn when_on(names: &Names, number: u32, device: Option<u32>, form: &SceneLine) ->
     }
 }
 
-/// The `when` lines.
+/// The part of the plan that is its `when` lines.
 #[derive(Drop)]
 pub struct Whens<'a> {
     pub names: &'a Names,

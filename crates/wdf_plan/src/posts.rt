@@ -3,12 +3,12 @@ ghost use Rattle.std.specs.Prelude.{◌≡◌, ◌<◌, ◌^◌, length, IfOk};
 ghost use Rattle.std.specs.List.{filter_map};
 ghost use Rattle.wdf_plan.specs.Posts as spec;
 
-use crate::declaration::same_line;
-use crate::numbers::add_found;
 use std::alloc::Global;
 use wdf_base::{Items, MANY, Memory, PostLine};
+use wdf_blocks::declaration::same_line;
+use wdf_refusals::numbers::add_found;
 
-/// A post, and the line of the block in which it stands.
+/// A post, and the line of the block in which it is.
 #[derive(Clone, Copy, Debug, PartialEq, Eq)]
 pub struct Posted {
     pub block: Option<u32>,

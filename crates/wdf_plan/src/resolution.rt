@@ -3,26 +3,26 @@ ghost use Rattle.std.specs.Prelude.{◌≡◌, ◌++◌, ◌∷◌, [], ◌⊎�
 ghost use Rattle.wdf_base.specs.Resolved.{IsResolved};
 ghost use Rattle.wdf_scene.specs.Naming.{HasProperNames};
 ghost use Rattle.wdf_scene.specs.Written.{IsScene};
-ghost use Rattle.wdf_plan.specs.Blocks.{form_at};
-ghost use Rattle.wdf_plan.specs.Declarations.{declarations};
-ghost use Rattle.wdf_plan.specs.First as first;
+ghost use Rattle.wdf_blocks.specs.Blocks.{form_at};
+ghost use Rattle.wdf_blocks.specs.Declarations.{declarations};
+ghost use Rattle.wdf_refusals.specs.First as first;
 ghost use Rattle.wdf_plan.specs.Fitting.{CanPlan};
 ghost use Rattle.wdf_plan.specs.Plans as plans;
 
 use crate::agents::{AppPosts, Apps, DevicePosts, Devices, PnpPosts, Targets};
-use crate::block::form_at;
-use crate::declaration::Declaration;
-use crate::first::{declared, first_refusal};
-use crate::heritage::Heritage;
-use crate::names::Names;
 use crate::nodes::{all_nodes, all_picks};
 use crate::objects::{Classes, Objects, Registers, Whens};
-use crate::part::{gather, gather_behind};
 use crate::posts::Posted;
-use crate::refusal::PlanRefusal;
 use crate::writer::Scripts;
 use std::alloc::Global;
 use wdf_base::{AgentInfo, Declared, FEW, Items, MANY, Memory, Name, Plan};
+use wdf_blocks::block::form_at;
+use wdf_blocks::declaration::Declaration;
+use wdf_refusals::first::{declared, first_refusal};
+use wdf_refusals::heritage::Heritage;
+use wdf_refusals::names::Names;
+use wdf_refusals::part::{gather, gather_behind};
+use wdf_refusals::refusal::PlanRefusal;
 use wdf_scene::{Scene, SceneLine};
 
 #[tactic(auto, unfolding(crate::specs::Plans::header_in))]
@@ -176,7 +176,7 @@ fn outcome(alloc: Global, scene: &Scene) -> Result<Result<Plan, PlanRefusal>, Me
 /// # Errors
 ///
 /// Where a line of the scene is refused, the refusal of the first such line, and of several there the
-/// first in the order of [`PlanRefusal`]; and [`PlanRefusal::Memory`] where memory is wanting.
+/// first in the order of [`PlanRefusal`]; and [`PlanRefusal::Memory`] where there is no memory.
 pub fn resolve(alloc: Global, scene: &Scene) -> Result<Plan, PlanRefusal>
     requires { IsScene scene.now }
     ensures plan { IfOk result (λ p. p ≡ plans.plan_of scene.now) }

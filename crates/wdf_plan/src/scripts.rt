@@ -2,17 +2,17 @@
 ghost use Rattle.std.specs.Prelude.{◌≡◌, ◌++◌, ◌∷◌, [], ◌+◌, ◌-◌, ◌<◌, ◌≤◌, ◌^◌, IfOk, IfSome, OnOk, length, drop, take, map, count_by, Some};
 ghost use Rattle.std.specs.List.{flat_map};
 ghost use Rattle.wdf_plan.specs.Fitting.{IsFitAct, IsFitArgument, IsFitNode, IsFitPlace, IsFitStatement};
-ghost use Rattle.wdf_plan.specs.Placed.{placed};
+ghost use Rattle.wdf_blocks.specs.Placed.{placed};
 ghost use Rattle.wdf_plan.specs.Scripts as scripts;
 
 use crate::course::{Course, Detour, Nest, kept_way, nest_at, reach};
-use crate::declaration::Wanted;
-use crate::forms::is_end;
-use crate::names::Names;
-use crate::numbers::{handle_of, number_of};
-use crate::variables::Variables;
 use std::alloc::Global;
 use wdf_base::{Act, ArgNode, ExprNode, Memory, Name, Sort, Statement};
+use wdf_blocks::declaration::Wanted;
+use wdf_blocks::forms::is_end;
+use wdf_blocks::variables::Variables;
+use wdf_refusals::names::Names;
+use wdf_refusals::numbers::{handle_of, number_of};
 use wdf_scene::{NumberedLine, SceneArg, SceneExpr, SceneLine};
 
 fn named_node(names: &Names, name: &Name, variable: Option<u64>) -> ExprNode
@@ -257,7 +257,7 @@ fn onward(
     reach(blocks, detours, start(number, 0), lines, from) as u32
 }
 
-/// What stands round a statement: the open blocks before and after its line, the ways that are kept of open
+/// What is around a statement: the open blocks before and after its line, the ways that are kept of open
 /// blocks, its number, and the lines after it.
 #[derive(Clone, Copy)]
 pub struct Round<'a> {

@@ -2,23 +2,24 @@
 ghost use Rattle.std.specs.Prelude.{◌≡◌, ◌++◌, [], ◌+◌, ◌<◌, ◌^◌, ◌-◌, suc, IfOk, IfSome, OnOk, length, drop, take, map};
 ghost use Rattle.std.specs.List.{flat_map};
 ghost use Rattle.std.specs.Option.{option_to_list};
-ghost use Rattle.wdf_plan.specs.Fitting.{Every, IsFitDeclared, IsFitScript, IsFitStatement};
-ghost use Rattle.wdf_plan.specs.Placed.{placed};
+ghost use Rattle.wdf_plan.specs.Fitting.{IsFitDeclared, IsFitScript, IsFitStatement};
+ghost use Rattle.wdf_refusals.specs.Numbered.{Every};
+ghost use Rattle.wdf_blocks.specs.Placed.{placed};
 ghost use Rattle.wdf_plan.specs.Scripts as scripts;
 
-use crate::block::form_at;
 use crate::course::{Detour, Nest};
-use crate::declaration::Wanted;
-use crate::heritage::Heritage;
-use crate::names::Names;
-use crate::numbers::{add_found, number_of};
 use crate::objects::object_of;
-use crate::part::Part;
-use crate::placed::Placed;
 use crate::scripts::{Round, blocks_behind, detours_behind, ends_callback, statement_on};
-use crate::variables::{Variables, variables_of};
 use std::alloc::Global;
 use wdf_base::{Declared, Items, MANY, Memory, Script, Statement};
+use wdf_blocks::block::form_at;
+use wdf_blocks::declaration::Wanted;
+use wdf_blocks::placed::Placed;
+use wdf_blocks::variables::{Variables, variables_of};
+use wdf_refusals::heritage::Heritage;
+use wdf_refusals::names::Names;
+use wdf_refusals::numbers::{add_found, number_of};
+use wdf_refusals::part::Part;
 use wdf_scene::{NumberedLine, Scene, SceneLine};
 
 // Adds the statement of a line, and gives the ways that are kept after it.

@@ -9,17 +9,17 @@ use Rattle.wdf_scene.specs.declared.line.SceneLine.TheVariants as line
 use Rattle.wdf_scene.specs.declared.scene.Scene.{Scene}
 use Rattle.wdf_scene.specs.Naming.{declared_name}
 use Rattle.wdf_scene.specs.Written.{IsScene}
-use Rattle.wdf_plan.specs.declared.placed.Placed.{Placed}
-use Rattle.wdf_plan.specs.Declarations.{declarations, declared_by}
-use Rattle.wdf_plan.specs.First.{first_refusal}
-use Rattle.wdf_plan.specs.Forms.{is_app, is_device}
+use Rattle.wdf_blocks.specs.declared.placed.Placed.{Placed}
+use Rattle.wdf_blocks.specs.Declarations.{declarations, declared_by}
+use Rattle.wdf_refusals.specs.First.{first_refusal}
+use Rattle.wdf_blocks.specs.Forms.{is_app, is_device}
 use Rattle.wdf_plan.specs.Parts.{app_post_in, device_post_in, app_post, device_post, app_agent, device_agent, target_agent, stands_in}
-use Rattle.wdf_plan.specs.Placed.{placed}
+use Rattle.wdf_blocks.specs.Placed.{placed}
 use Rattle.wdf_plan.specs.Plans.{all_agents, plan_with, plan_of}
-use Rattle.wdf_plan.specs.Rows.{unknown_word}
+use Rattle.wdf_refusals.specs.Rows.{unknown_word}
 use Rattle.wdf_plan.proofs.Accepted.{word_known}
 use Rattle.wdf_plan.proofs.Devices.{IsKnown, each_known}
-use Rattle.wdf_plan.proofs.Every.{Every, every_map, every_both}
+use Rattle.wdf_refusals.proofs.Every.{Every, every_map, every_both}
 use Rattle.wdf_plan_laws.specs.Told.{is_app_post, is_device_post, is_no_post, is_target, kept_line, lines_that, block_lines, IsAgentTold, AreAgentsTold}
 use Rattle.wdf_plan_laws.specs.WrittenOut.{post_line}
 use Rattle.wdf_plan_laws.proofs.BlockLines.{own_line, apps_alone, devices_alone, in_block_of}

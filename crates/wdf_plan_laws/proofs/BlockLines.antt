@@ -10,14 +10,14 @@ use Rattle.wdf_scene.specs.declared.line.SceneLine.TheVariants as line
 use Rattle.wdf_scene.specs.declared.scene.Scene.{Scene}
 use Rattle.wdf_scene.specs.Blocks.{Position, may_stand, innermost, in_app, in_device, in_callback, opened}
 use Rattle.wdf_scene.specs.Written.{IsScene}
-use Rattle.wdf_plan.specs.declared.placed.Counts.{Counts}
-use Rattle.wdf_plan.specs.declared.placed.Placed.{Placed}
-use Rattle.wdf_plan.specs.declared.placed.Stand.{Stand}
-use Rattle.wdf_plan.specs.Blocks.{depth_behind, ends_block}
-use Rattle.wdf_plan.specs.Forms.{is_end}
+use Rattle.wdf_blocks.specs.declared.placed.Counts.{Counts}
+use Rattle.wdf_blocks.specs.declared.placed.Placed.{Placed}
+use Rattle.wdf_blocks.specs.declared.placed.Stand.{Stand}
+use Rattle.wdf_blocks.specs.Blocks.{depth_behind, ends_block}
+use Rattle.wdf_blocks.specs.Forms.{is_end}
 use Rattle.wdf_plan.specs.Parts.{stands_in}
-use Rattle.wdf_plan.specs.Placed.{opened_by, counted, placed_line, placed_from, placed, outside, nothing}
-use Rattle.wdf_plan.proofs.Every.{Every, every_map}
+use Rattle.wdf_blocks.specs.Placed.{opened_by, counted, placed_line, placed_from, placed, outside, nothing}
+use Rattle.wdf_refusals.proofs.Every.{Every, every_map}
 use Rattle.wdf_plan.proofs.Inside.{block_told, split, behind_opener}
 use Rattle.wdf_plan.proofs.Stacking.{IsPassed, passed, every_passed}
 use Rattle.wdf_plan.proofs.Stacks.{Opener, block_of, stand_of, with_block, stack_after, AreBefore, IsStacked, AreStacked, AreFitting, fitting, opens_in, none_open, device_open}

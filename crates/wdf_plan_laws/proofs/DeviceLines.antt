@@ -10,17 +10,17 @@ use Rattle.wdf_scene.specs.declared.line.SceneLine.TheVariants as line
 use Rattle.wdf_scene.specs.declared.scene.Scene.{Scene}
 use Rattle.wdf_scene.specs.Naming.{declared_name}
 use Rattle.wdf_scene.specs.Written.{IsScene}
-use Rattle.wdf_plan.specs.declared.placed.Placed.{Placed}
-use Rattle.wdf_plan.specs.Declarations.{declarations, declared_by}
-use Rattle.wdf_plan.specs.First.{first_refusal}
-use Rattle.wdf_plan.specs.Forms.{is_device, is_object, is_register}
-use Rattle.wdf_plan.specs.Numbers.{id_of}
+use Rattle.wdf_blocks.specs.declared.placed.Placed.{Placed}
+use Rattle.wdf_blocks.specs.Declarations.{declarations, declared_by}
+use Rattle.wdf_refusals.specs.First.{first_refusal}
+use Rattle.wdf_blocks.specs.Forms.{is_device, is_object, is_register}
+use Rattle.wdf_refusals.specs.Numbers.{id_of}
 use Rattle.wdf_plan.specs.Parts.{object_of, object_on, register_on, device_info, queue_info, interrupt_info, target_info}
-use Rattle.wdf_plan.specs.Placed.{placed}
+use Rattle.wdf_blocks.specs.Placed.{placed}
 use Rattle.wdf_plan.specs.Plans.{all_objects, plan_with, plan_of}
 use Rattle.wdf_plan.proofs.DeviceItems.{HasItems, items_placed}
 use Rattle.wdf_plan.proofs.Devices.{IsDeviceAt, IsHome, IsKnown, belongs, each_known, form_there}
-use Rattle.wdf_plan.proofs.Every.{every_map, every_at}
+use Rattle.wdf_refusals.proofs.Every.{every_map, every_at}
 use Rattle.wdf_plan.proofs.ObjectPlaces.{objects_of, object_place}
 use Rattle.wdf_plan_laws.specs.Told.{placed_that, Paired, block_name, device_in, IsInDevice}
 use Rattle.wdf_plan_laws.specs.WrittenOut.{name_text, object_text}

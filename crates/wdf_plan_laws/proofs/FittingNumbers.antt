@@ -7,17 +7,17 @@ use Rattle.wdf_scene.specs.declared.line.SceneLine.{SceneLine}
 use Rattle.wdf_scene.specs.declared.line.SceneLine.TheVariants as line
 use Rattle.wdf_scene.specs.declared.scene.Scene.{Scene}
 use Rattle.wdf_scene.specs.Written.{IsScene}
-use Rattle.wdf_plan.specs.Blocks.{form_at}
-use Rattle.wdf_plan.specs.Declarations.{declarations}
-use Rattle.wdf_plan.specs.First.{first_refusal}
-use Rattle.wdf_plan.specs.Limits.{over_level}
-use Rattle.wdf_plan.specs.Placed.{placed}
+use Rattle.wdf_blocks.specs.Blocks.{form_at}
+use Rattle.wdf_blocks.specs.Declarations.{declarations}
+use Rattle.wdf_refusals.specs.First.{first_refusal}
+use Rattle.wdf_refusals.specs.Limits.{over_level}
+use Rattle.wdf_blocks.specs.Placed.{placed}
 use Rattle.wdf_plan.specs.Plans.{header_of, plan_with, plan_of}
-use Rattle.wdf_plan.specs.Variables.{variables_at}
+use Rattle.wdf_blocks.specs.Variables.{variables_at}
 use Rattle.wdf_plan.proofs.Accepted.{IsAccepted, each_accepted}
 use Rattle.wdf_plan.proofs.Bounds.{plan_bounded}
-use Rattle.wdf_plan.proofs.Every.{every_map}
-use Rattle.wdf_plan.proofs.Fitting.{declarations_few, orders_few}
+use Rattle.wdf_refusals.proofs.Every.{every_map}
+use Rattle.wdf_refusals.proofs.Fitting.{declarations_few, orders_few}
 use Rattle.wdf_plan.proofs.StatementCounts.{statements_bound}
 use Rattle.wdf_plan.proofs.VariableFacts.{line_variables}
 use Rattle.wdf_plan.proofs.Within.{level_within}

@@ -3,13 +3,13 @@ use Rattle.std.proofs.Common.{cond, drop, Some, None, refl}
 use Rattle.wdf_scene.specs.declared.line.SceneLine.{SceneLine}
 use Rattle.wdf_scene.specs.declared.line.SceneLine.TheVariants as line
 use Rattle.wdf_scene.specs.declared.scene.Scene.{Scene}
-use Rattle.wdf_plan.specs.declared.placed.Placed.{Placed}
-use Rattle.wdf_plan.specs.Declarations.{declarations}
-use Rattle.wdf_plan.specs.Forms.{is_object, is_class}
+use Rattle.wdf_blocks.specs.declared.placed.Placed.{Placed}
+use Rattle.wdf_blocks.specs.Declarations.{declarations}
+use Rattle.wdf_blocks.specs.Forms.{is_object, is_class}
 use Rattle.wdf_plan.specs.Parts.{object_of, object_on, class_on, device_info, queue_info}
-use Rattle.wdf_plan.specs.Placed.{placed}
+use Rattle.wdf_blocks.specs.Placed.{placed}
 use Rattle.wdf_plan.specs.Plans.{plan_with, plan_of}
-use Rattle.wdf_plan.proofs.Every.{every_any}
+use Rattle.wdf_refusals.proofs.Every.{every_any}
 use Rattle.wdf_plan_laws.specs.Told.{placed_that, Paired, AreObjectsGiven, IsClassGiven}
 use Rattle.wdf_plan_laws.proofs.DeviceLines.{after_driver}
 use Rattle.wdf_plan_laws.proofs.Pairs.{Both, paired}

@@ -5,7 +5,8 @@ use Rattle.wdf_scene.specs.declared.line.SceneLine.TheVariants as line
 use Rattle.wdf_scene.specs.declared.scene.Scene.{Scene}
 use Rattle.wdf_scene.specs.Written.{IsScene}
 use Rattle.wdf_plan.specs.Plans.{plan_with, plan_of}
-use Rattle.wdf_plan.proofs.Heads.{scene_head, first_header, second_header, third_header}
+use Rattle.wdf_plan.proofs.Headers.{first_header, second_header, third_header}
+use Rattle.wdf_refusals.proofs.Heads.{scene_head}
 use Rattle.wdf_plan_laws.specs.WrittenOut.{head_lines}
 
 heads_of : (lines : List NumberedLine) (a b c : NumberedLine) (rest : List NumberedLine) (x y z : ℕ) → lines ≡ a ∷ b ∷ c ∷ rest → a.form ≡ line.Cpus x → b.form ≡ line.Limit y → c.form ≡ line.Objects z → line.Cpus x ∷ line.Limit y ∷ line.Objects z ∷ [] ≡ take 3 (map (λ l. l.form) lines)

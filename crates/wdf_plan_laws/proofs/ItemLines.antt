@@ -13,23 +13,23 @@ use Rattle.wdf_scene.specs.declared.line.SceneLine.{SceneLine}
 use Rattle.wdf_scene.specs.declared.line.SceneLine.TheVariants as line
 use Rattle.wdf_scene.specs.declared.scene.Scene.{Scene}
 use Rattle.wdf_scene.specs.Naming.{declared_name}
-use Rattle.wdf_plan.specs.declared.declaration.Declaration.{Declaration}
-use Rattle.wdf_plan.specs.declared.declaration.Wanted.TheVariants as wanted
-use Rattle.wdf_plan.specs.declared.placed.Counts.{Counts}
-use Rattle.wdf_plan.specs.declared.placed.Placed.{Placed}
-use Rattle.wdf_plan.specs.declared.placed.Stand.{Stand}
-use Rattle.wdf_plan.specs.Declarations.{declarations, declared_by, declared_on, stands}
-use Rattle.wdf_plan.specs.First.{first_refusal}
+use Rattle.wdf_blocks.specs.declared.declaration.Declaration.{Declaration}
+use Rattle.wdf_blocks.specs.declared.declaration.Wanted.TheVariants as wanted
+use Rattle.wdf_blocks.specs.declared.placed.Counts.{Counts}
+use Rattle.wdf_blocks.specs.declared.placed.Placed.{Placed}
+use Rattle.wdf_blocks.specs.declared.placed.Stand.{Stand}
+use Rattle.wdf_blocks.specs.Declarations.{declarations, declared_by, declared_on, stands}
+use Rattle.wdf_refusals.specs.First.{first_refusal}
 use Rattle.wdf_plan.specs.Flow.{numbered}
-use Rattle.wdf_plan.specs.Forms.{is_object, is_class, is_register}
-use Rattle.wdf_plan.specs.Limits.{over_level}
-use Rattle.wdf_plan.specs.Numbers.{handle_of, action_of}
+use Rattle.wdf_blocks.specs.Forms.{is_object, is_class, is_register}
+use Rattle.wdf_refusals.specs.Limits.{over_level}
+use Rattle.wdf_refusals.specs.Numbers.{handle_of, action_of}
 use Rattle.wdf_plan.specs.Parts.{object_of, object_on, device_info, queue_info, interrupt_info, target_info, irql_of, class_on, register_on, when_on, pnp_post, app_post, device_post}
-use Rattle.wdf_plan.specs.Placed.{opened_by, counted, placed_from, placed, outside, nothing}
+use Rattle.wdf_blocks.specs.Placed.{opened_by, counted, placed_from, placed, outside, nothing}
 use Rattle.wdf_plan.specs.Plans.{name_in, plan_with, plan_of, all_objects}
-use Rattle.wdf_plan.specs.Rows.{unknown_word, unknown_action, unknown_parent, lacks_parent, no_parent}
+use Rattle.wdf_refusals.specs.Rows.{unknown_word, unknown_action, unknown_parent, lacks_parent, no_parent}
 use Rattle.wdf_plan.proofs.Accepted.{IsAccepted, each_accepted, word_known}
-use Rattle.wdf_plan.proofs.Every.{Every, every_map, every_both}
+use Rattle.wdf_refusals.proofs.Every.{Every, every_map, every_both}
 use Rattle.wdf_plan.proofs.Within.{level_within}
 use Rattle.wdf_plan_laws.specs.Told.{is_when, is_ask, is_app_post, is_device_post, kept_form, kept_line, forms_that, lines_that, names_declared}
 use Rattle.wdf_plan_laws.specs.WrittenOut.{object_text, level_text, object_line, class_line, register_line, action_text, when_line, post_line}

@@ -17,22 +17,22 @@ use Rattle.wdf_base.specs.Same.{same_option}
 use Rattle.wdf_scene.specs.declared.line.SceneLine.{SceneLine}
 use Rattle.wdf_scene.specs.declared.line.SceneLine.TheVariants as line
 use Rattle.wdf_scene.specs.declared.scene.Scene.{Scene}
-use Rattle.wdf_plan.specs.declared.declaration.Declaration.{Declaration}
-use Rattle.wdf_plan.specs.declared.declaration.Thing.{Thing}
-use Rattle.wdf_plan.specs.declared.declaration.Thing.TheVariants as thing
-use Rattle.wdf_plan.specs.declared.declaration.Wanted.{Wanted}
-use Rattle.wdf_plan.specs.declared.declaration.Wanted.TheVariants as wanted
-use Rattle.wdf_plan.specs.declared.placed.Placed.{Placed}
-use Rattle.wdf_plan.specs.Declarations.{declarations, declared_by, declared_on, suits, is_wanted, found, stands, is_object, is_register, is_class_of, is_interrupt}
-use Rattle.wdf_plan.specs.First.{first_refusal}
-use Rattle.wdf_plan.specs.Numbers.{id_of, name_number, number_of, handle_of}
+use Rattle.wdf_blocks.specs.declared.declaration.Declaration.{Declaration}
+use Rattle.wdf_blocks.specs.declared.declaration.Thing.{Thing}
+use Rattle.wdf_blocks.specs.declared.declaration.Thing.TheVariants as thing
+use Rattle.wdf_blocks.specs.declared.declaration.Wanted.{Wanted}
+use Rattle.wdf_blocks.specs.declared.declaration.Wanted.TheVariants as wanted
+use Rattle.wdf_blocks.specs.declared.placed.Placed.{Placed}
+use Rattle.wdf_blocks.specs.Declarations.{declarations, declared_by, declared_on, suits, is_wanted, found, stands, is_object, is_register, is_class_of, is_interrupt}
+use Rattle.wdf_refusals.specs.First.{first_refusal}
+use Rattle.wdf_refusals.specs.Numbers.{id_of, name_number, number_of, handle_of}
 use Rattle.wdf_plan.specs.Parts.{class_on, register_on}
-use Rattle.wdf_plan.specs.Placed.{placed}
+use Rattle.wdf_blocks.specs.Placed.{placed}
 use Rattle.wdf_plan.specs.Plans.{name_in, plan_with, plan_of}
 use Rattle.wdf_plan.proofs.Accepted.{each_accepted}
 use Rattle.wdf_plan.proofs.DeviceItems.{HasItems, items_placed, of_device, register_at}
 use Rattle.wdf_plan.proofs.Distinct.{all_distinct}
-use Rattle.wdf_plan.proofs.Every.{Every, every_map, every_kept, some_has, HasPlace, have_places}
+use Rattle.wdf_refusals.proofs.Every.{Every, every_map, every_kept, some_has, HasPlace, have_places}
 use Rattle.wdf_plan.proofs.Gathered.{every_from}
 use Rattle.wdf_plan.proofs.Handles.{thing_kind, Stands, stands_for, number_there, handle_fits}
 use Rattle.wdf_plan.proofs.Numbering.{numbers}

@@ -15,22 +15,22 @@ use Rattle.wdf_scene.specs.declared.line.StatementHead.{StatementHead}
 use Rattle.wdf_scene.specs.declared.line.StatementHead.TheVariants as head
 use Rattle.wdf_scene.specs.declared.scene.Scene.{Scene}
 use Rattle.wdf_scene.specs.Written.{Argument, Missing, Valued, OfClass, Written, Plain, Picked, Single, Calling, IsScene, size, root, head_line, argument_size, numbered_argument, line_at, is_plain_form, is_written}
-use Rattle.wdf_plan.specs.declared.declaration.Declaration.{Declaration}
-use Rattle.wdf_plan.specs.declared.declaration.Wanted.TheVariants as wanted
-use Rattle.wdf_plan.specs.declared.placed.Counts.{Counts}
-use Rattle.wdf_plan.specs.declared.placed.Placed.{Placed}
-use Rattle.wdf_plan.specs.declared.placed.Stand.{Stand}
-use Rattle.wdf_plan.specs.Declarations.{declarations, stands}
-use Rattle.wdf_plan.specs.First.{first_refusal}
-use Rattle.wdf_plan.specs.Forms.{nodes_behind, nodes_end}
-use Rattle.wdf_plan.specs.Numbers.{handle_of}
-use Rattle.wdf_plan.specs.Placed.{opened_by, counted, placed_line, placed_from, placed, outside, nothing}
+use Rattle.wdf_blocks.specs.declared.declaration.Declaration.{Declaration}
+use Rattle.wdf_blocks.specs.declared.declaration.Wanted.TheVariants as wanted
+use Rattle.wdf_blocks.specs.declared.placed.Counts.{Counts}
+use Rattle.wdf_blocks.specs.declared.placed.Placed.{Placed}
+use Rattle.wdf_blocks.specs.declared.placed.Stand.{Stand}
+use Rattle.wdf_blocks.specs.Declarations.{declarations, stands}
+use Rattle.wdf_refusals.specs.First.{first_refusal}
+use Rattle.wdf_blocks.specs.Forms.{nodes_behind, nodes_end}
+use Rattle.wdf_refusals.specs.Numbers.{handle_of}
+use Rattle.wdf_blocks.specs.Placed.{opened_by, counted, placed_line, placed_from, placed, outside, nothing}
 use Rattle.wdf_plan.specs.Plans.{plan_with, plan_of}
-use Rattle.wdf_plan.specs.Rows.{unknown_word, unknown_node, unknown_name, nodes_of}
+use Rattle.wdf_refusals.specs.Rows.{unknown_word, unknown_node, unknown_name, nodes_of}
 use Rattle.wdf_plan.specs.Scripts.{named_node, node_of, nodes_on}
-use Rattle.wdf_plan.specs.Variables.{variables_at, variable_number}
+use Rattle.wdf_blocks.specs.Variables.{variables_at, variable_number}
 use Rattle.wdf_plan.proofs.Accepted.{IsAccepted}
-use Rattle.wdf_plan.proofs.Every.{Every, every_map, every_both}
+use Rattle.wdf_refusals.proofs.Every.{Every, every_map, every_both}
 use Rattle.wdf_plan.proofs.ExprFacts.{exprs_length, IsBelow, AreBelow, line_exprs}
 use Rattle.wdf_plan.proofs.WrittenNodes.{IsNumbered, all_numbered, tree_end}
 use Rattle.wdf_plan_laws.specs.Told.{node_count, AreNodesTold}

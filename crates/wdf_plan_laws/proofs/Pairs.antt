@@ -1,7 +1,7 @@
 -- Items that the same lines give belong together.
 use Rattle.std.proofs.Common.{List, [], ◌∷◌, Option, Some, None}
 use Rattle.std.specs.List.{filter_map, cons_option}
-use Rattle.wdf_plan.proofs.Every.{Every}
+use Rattle.wdf_refusals.proofs.Every.{Every}
 use Rattle.wdf_plan_laws.specs.Told.{Each, Paired}
 
 -- two items that belong together, or none

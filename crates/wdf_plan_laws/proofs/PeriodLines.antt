@@ -10,18 +10,18 @@ use Rattle.wdf_scene.specs.declared.line.SceneLine.TheVariants as line
 use Rattle.wdf_scene.specs.declared.scene.Scene.{Scene}
 use Rattle.wdf_scene.specs.Blocks.{Position, may_stand, innermost, in_class, opened}
 use Rattle.wdf_scene.specs.Written.{IsScene}
-use Rattle.wdf_plan.specs.declared.attribute.Attribute.TheVariants as attribute
-use Rattle.wdf_plan.specs.declared.placed.Counts.{Counts}
-use Rattle.wdf_plan.specs.declared.placed.Placed.{Placed}
-use Rattle.wdf_plan.specs.declared.placed.Stand.{Stand}
-use Rattle.wdf_plan.specs.Attribute.{gives, is_device_wide}
-use Rattle.wdf_plan.specs.Blocks.{counts_for, depth_behind, ends_block, given_from, given, form_at, ticks_in}
-use Rattle.wdf_plan.specs.Declarations.{declarations}
-use Rattle.wdf_plan.specs.Forms.{is_class, is_end}
+use Rattle.wdf_blocks.specs.declared.attribute.Attribute.TheVariants as attribute
+use Rattle.wdf_blocks.specs.declared.placed.Counts.{Counts}
+use Rattle.wdf_blocks.specs.declared.placed.Placed.{Placed}
+use Rattle.wdf_blocks.specs.declared.placed.Stand.{Stand}
+use Rattle.wdf_blocks.specs.Attribute.{gives, is_device_wide}
+use Rattle.wdf_blocks.specs.Blocks.{counts_for, depth_behind, ends_block, given_from, given, form_at, ticks_in}
+use Rattle.wdf_blocks.specs.Declarations.{declarations}
+use Rattle.wdf_blocks.specs.Forms.{is_class, is_end}
 use Rattle.wdf_plan.specs.Parts.{class_on, period_of}
-use Rattle.wdf_plan.specs.Placed.{opened_by, counted, placed_line, placed}
+use Rattle.wdf_blocks.specs.Placed.{opened_by, counted, placed_line, placed}
 use Rattle.wdf_plan.specs.Plans.{plan_with, plan_of}
-use Rattle.wdf_plan.proofs.Every.{every_map}
+use Rattle.wdf_refusals.proofs.Every.{every_map}
 use Rattle.wdf_plan.proofs.Inside.{split, behind_opener}
 use Rattle.wdf_plan.proofs.Stacking.{passed, every_there}
 use Rattle.wdf_plan.proofs.Stacks.{Opener, block_of, IsStacked, AreStacked, AreFitting, fitting, opens_in, none_open}

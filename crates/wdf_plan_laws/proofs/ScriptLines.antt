@@ -8,17 +8,17 @@ use Rattle.wdf_scene.specs.declared.line.SceneLine.TheVariants as line
 use Rattle.wdf_scene.specs.declared.scene.Scene.{Scene}
 use Rattle.wdf_scene.specs.Naming.{declared_name}
 use Rattle.wdf_scene.specs.Written.{IsScene}
-use Rattle.wdf_plan.specs.declared.placed.Placed.{Placed}
-use Rattle.wdf_plan.specs.Blocks.{form_at}
-use Rattle.wdf_plan.specs.Declarations.{declarations, declared_by}
-use Rattle.wdf_plan.specs.First.{first_refusal}
+use Rattle.wdf_blocks.specs.declared.placed.Placed.{Placed}
+use Rattle.wdf_blocks.specs.Blocks.{form_at}
+use Rattle.wdf_blocks.specs.Declarations.{declarations, declared_by}
+use Rattle.wdf_refusals.specs.First.{first_refusal}
 use Rattle.wdf_plan.specs.Parts.{object_of, device_info, queue_info, interrupt_info, target_info, class_on}
-use Rattle.wdf_plan.specs.Placed.{placed}
+use Rattle.wdf_blocks.specs.Placed.{placed}
 use Rattle.wdf_plan.specs.Plans.{plan_with, plan_of}
 use Rattle.wdf_plan.specs.Scripts.{script_on}
 use Rattle.wdf_plan.proofs.Bodies.{HasBody, every_body}
 use Rattle.wdf_plan.proofs.Devices.{IsKnown, each_known}
-use Rattle.wdf_plan.proofs.Every.{Every, every_map, every_both, every_at, some_has}
+use Rattle.wdf_refusals.proofs.Every.{Every, every_map, every_both, every_at, some_has}
 use Rattle.wdf_plan.proofs.Nesting.{IsBody}
 use Rattle.wdf_plan.proofs.Owners.{owner_at, IsOwner, owner_on}
 use Rattle.wdf_plan.proofs.Uses.{ClassThere, classes_there}

@@ -21,21 +21,21 @@ use Rattle.wdf_scene.specs.declared.line.SceneLine.TheVariants as line
 use Rattle.wdf_scene.specs.declared.scene.Scene.{Scene}
 use Rattle.wdf_plan.specs.declared.course.Nest.{Nest}
 use Rattle.wdf_plan.specs.declared.course.Nest.TheVariants as nest
-use Rattle.wdf_plan.specs.declared.declaration.Wanted.TheVariants as wanted
-use Rattle.wdf_plan.specs.declared.placed.Counts.{Counts}
-use Rattle.wdf_plan.specs.declared.placed.Stand.{Stand}
-use Rattle.wdf_plan.specs.Blocks.{depth_behind, ends_block}
-use Rattle.wdf_plan.specs.Declarations.{declarations, stands}
-use Rattle.wdf_plan.specs.First.{first_refusal}
+use Rattle.wdf_blocks.specs.declared.declaration.Wanted.TheVariants as wanted
+use Rattle.wdf_blocks.specs.declared.placed.Counts.{Counts}
+use Rattle.wdf_blocks.specs.declared.placed.Stand.{Stand}
+use Rattle.wdf_blocks.specs.Blocks.{depth_behind, ends_block}
+use Rattle.wdf_blocks.specs.Declarations.{declarations, stands}
+use Rattle.wdf_refusals.specs.First.{first_refusal}
 use Rattle.wdf_plan.specs.Flow.{numbered}
-use Rattle.wdf_plan.specs.Forms.{is_end, is_statement, assigned_name}
-use Rattle.wdf_plan.specs.Placed.{opened_by, counted, placed_from, placed, outside, nothing}
+use Rattle.wdf_blocks.specs.Forms.{is_end, is_statement, assigned_name}
+use Rattle.wdf_blocks.specs.Placed.{opened_by, counted, placed_from, placed, outside, nothing}
 use Rattle.wdf_plan.specs.Plans.{plan_of}
-use Rattle.wdf_plan.specs.Rows.{unknown_word, unknown_argument, unknown_class}
+use Rattle.wdf_refusals.specs.Rows.{unknown_word, unknown_argument, unknown_class}
 use Rattle.wdf_plan.specs.Scripts.{variable_of, answer_place, class_number, argument_of, plain_act, nest_at, again, act_on, told_line, blocks_behind, statement_on, statement_at, number_behind, ends_callback, statements_from, statements_of}
-use Rattle.wdf_plan.specs.Variables.{with_name, with_assigned, assigned_from, variables, variable_number}
+use Rattle.wdf_blocks.specs.Variables.{with_name, with_assigned, assigned_from, variables, variable_number}
 use Rattle.wdf_plan.proofs.Accepted.{word_known}
-use Rattle.wdf_plan.proofs.Every.{Every, every_map}
+use Rattle.wdf_refusals.proofs.Every.{Every, every_map}
 use Rattle.wdf_plan.proofs.Gathered.{place_there}
 use Rattle.wdf_plan.proofs.Nesting.{stands_inside, IsBody, counted_line}
 use Rattle.wdf_plan_laws.specs.Told.{kept_line, lines_that, until_end, block_lines}

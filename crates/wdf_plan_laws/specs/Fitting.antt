@@ -5,12 +5,12 @@ use Rattle.wdf_scene.specs.declared.line.InterruptLevel.TheVariants as level
 use Rattle.wdf_scene.specs.declared.line.SceneLine.{SceneLine}
 use Rattle.wdf_scene.specs.declared.line.SceneLine.TheVariants as line
 use Rattle.wdf_scene.specs.declared.scene.Scene.{Scene}
-use Rattle.wdf_plan.specs.declared.declaration.Declaration.{Declaration}
-use Rattle.wdf_plan.specs.Blocks.{form_at}
-use Rattle.wdf_plan.specs.Declarations.{declarations}
-use Rattle.wdf_plan.specs.Placed.{placed}
+use Rattle.wdf_blocks.specs.declared.declaration.Declaration.{Declaration}
+use Rattle.wdf_blocks.specs.Blocks.{form_at}
+use Rattle.wdf_blocks.specs.Declarations.{declarations}
+use Rattle.wdf_blocks.specs.Placed.{placed}
 use Rattle.wdf_plan.specs.Plans.{header_of, plan_of}
-use Rattle.wdf_plan.specs.Variables.{variables_at}
+use Rattle.wdf_blocks.specs.Variables.{variables_at}
 use Rattle.wdf_plan_laws.specs.Told.{Each}
 
 -- the level of an interrupt is at most 12

@@ -17,14 +17,14 @@ use Rattle.wdf_scene.specs.declared.line.SceneLine.{SceneLine}
 use Rattle.wdf_scene.specs.declared.line.SceneLine.TheVariants as line
 use Rattle.wdf_scene.specs.declared.scene.Scene.{Scene}
 use Rattle.wdf_scene.specs.Naming.{declared_name}
-use Rattle.wdf_plan.specs.declared.placed.Placed.{Placed}
-use Rattle.wdf_plan.specs.declared.attribute.Attribute.TheVariants as attribute
-use Rattle.wdf_plan.specs.Blocks.{depth_behind, effective_level, effective_scope, ends_block, form_at, has_given, ticks_in}
+use Rattle.wdf_blocks.specs.declared.placed.Placed.{Placed}
+use Rattle.wdf_blocks.specs.declared.attribute.Attribute.TheVariants as attribute
+use Rattle.wdf_blocks.specs.Blocks.{depth_behind, effective_level, effective_scope, ends_block, form_at, has_given, ticks_in}
 use Rattle.wdf_plan.specs.Parts.{serves}
 use Rattle.wdf_plan.specs.Flow.{numbered}
-use Rattle.wdf_plan.specs.Forms.{is_app, is_device, is_statement, nodes_end}
-use Rattle.wdf_plan.specs.Placed.{placed}
-use Rattle.wdf_plan.specs.Variables.{variables, variables_at}
+use Rattle.wdf_blocks.specs.Forms.{is_app, is_device, is_statement, nodes_end}
+use Rattle.wdf_blocks.specs.Placed.{placed}
+use Rattle.wdf_blocks.specs.Variables.{variables, variables_at}
 use Rattle.wdf_plan_laws.specs.WrittenOut.{name_text, object_text, post_line, statement_line, node_text, owner_text, script_line}
 
 -- ---- which lines

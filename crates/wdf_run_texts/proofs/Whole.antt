@@ -8,7 +8,7 @@ use Rattle.wdf_base.specs.declared.event.Ending.TheVariants as ending
 use Rattle.wdf_scene.specs.declared.scene.Scene.{Scene}
 use Rattle.wdf_parse.specs.StandsFor.{StandsFor}
 use Rattle.wdf_parse.proofs.ProperNames.{stands_properly, stands_scene}
-use Rattle.wdf_plan.specs.First.{first_refusal}
+use Rattle.wdf_refusals.specs.First.{first_refusal}
 use Rattle.wdf_plan.specs.Plans.{plan_of}
 use Rattle.wdf_plan.proofs.Whole.{plan_resolved}
 use Rattle.wdf_model.specs.rules.Ready.{IsRunOf, ending_of}

@@ -9,7 +9,7 @@ ghost use Rattle.wdf_base.specs.declared.event.Event.{Event};
 ghost use Rattle.wdf_base.specs.declared.event.Ending.TheVariants.{Running};
 ghost use Rattle.wdf_scene.specs.declared.scene.Scene.{Scene};
 ghost use Rattle.wdf_parse.specs.StandsFor.{StandsFor};
-ghost use Rattle.wdf_plan.specs.First.{first_refusal};
+ghost use Rattle.wdf_refusals.specs.First.{first_refusal};
 ghost use Rattle.wdf_plan.specs.Plans.{plan_of};
 ghost use Rattle.wdf_model.specs.rules.Ready.{IsRunOf, ending_of};
 ghost use Rattle.wdf_dev.specs.Agents.{agent_meaning};

@@ -4,7 +4,7 @@ use Rattle.wdf_base.specs.declared.event.Ending.{Ending}
 use Rattle.wdf_base.specs.declared.event.Ending.TheVariants as ending
 use Rattle.wdf_io.specs.Outside.{EndsRefused}
 use Rattle.wdf_parse.specs.declared.refusal.ParseRefusal.TheVariants as parse
-use Rattle.wdf_plan.specs.declared.refusal.PlanRefusal.TheVariants as plan
+use Rattle.wdf_refusals.specs.declared.refusal.PlanRefusal.TheVariants as plan
 use Rattle.wdf_say.specs.declared.refusal.Refusal.{Refusal}
 use Rattle.wdf_say.specs.declared.refusal.Refusal.TheVariants.{ReadFault, TooLarge, NoMemory, NoScene, NoPlan}
 use Rattle.wdf_say.specs.Endings.{status_of}

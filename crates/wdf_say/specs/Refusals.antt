@@ -2,9 +2,9 @@
 use Rattle.std.specs.Prelude.{ℕ, ◌++◌, List, codes, decimal}
 use Rattle.wdf_parse.specs.declared.refusal.ParseRefusal.{ParseRefusal}
 use Rattle.wdf_parse.specs.declared.refusal.ParseRefusal.TheVariants as parse
-use Rattle.wdf_plan.specs.declared.refusal.PlanRefusal.{PlanRefusal}
-use Rattle.wdf_plan.specs.declared.refusal.PlanRefusal.TheVariants as plan
-use Rattle.wdf_plan.specs.Limits.{limit_word}
+use Rattle.wdf_refusals.specs.declared.refusal.PlanRefusal.{PlanRefusal}
+use Rattle.wdf_refusals.specs.declared.refusal.PlanRefusal.TheVariants as plan
+use Rattle.wdf_refusals.specs.Limits.{limit_word}
 use Rattle.wdf_input.specs.declared.input.InputError.{InputError}
 use Rattle.wdf_input.specs.declared.input.InputError.TheVariants as input
 use Rattle.wdf_say.specs.declared.refusal.Refusal.{Refusal}

@@ -1,6 +1,6 @@
 //! Why an input has no plan.
 ghost use Rattle.std.specs.Prelude.{◌≡◌, ◌++◌, codes, decimal};
-ghost use Rattle.wdf_plan.specs.Limits.{limit_word};
+ghost use Rattle.wdf_refusals.specs.Limits.{limit_word};
 ghost use Rattle.wdf_say.specs.Refusals.{parse_line, parse_status, plan_line, plan_status, refusal_line, refusal_status};
 
 use crate::message::{Message, one_number, two_numbers};

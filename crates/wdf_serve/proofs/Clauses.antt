@@ -6,7 +6,7 @@ use Rattle.wdf_input.specs.declared.input.TheConstants.{INPUT_LIMIT}
 use Rattle.wdf_input.specs.Input.{TakesAll, TakesAtMost, TakesCount, UsesUp}
 use Rattle.wdf_io.specs.Outside.{Gains, Rose, Takes}
 use Rattle.wdf_parse.proofs.Uniqueness.{one_stands}
-use Rattle.wdf_plan.specs.declared.refusal.PlanRefusal.{PlanRefusal}
+use Rattle.wdf_refusals.specs.declared.refusal.PlanRefusal.{PlanRefusal}
 use Rattle.wdf_say.specs.Refusals.{no_memory_line}
 use Rattle.wdf_say.specs.Said.{Sinking, IsCutShort, Says}
 use Rattle.wdf_serve.specs.Runs.{IsSomeTrace, RunsByThreads, threading}

@@ -5,7 +5,7 @@ use Rattle.wdf_base.specs.declared.event.Event.{Event}
 use Rattle.wdf_base.specs.declared.event.Ending.TheVariants as ending
 use Rattle.wdf_model.specs.rules.Ready.{ending_of, IsRunOf}
 use Rattle.wdf_dev.specs.Agents.{agent_meaning}
-use Rattle.wdf_plan.specs.declared.refusal.PlanRefusal.TheVariants as plans
+use Rattle.wdf_refusals.specs.declared.refusal.PlanRefusal.TheVariants as plans
 use Rattle.wdf_plan.specs.Plans.{plan_of}
 use Rattle.wdf_replay.specs.Texts.{text_of}
 use Rattle.wdf_say.specs.Endings.{status_of}

@@ -9,7 +9,7 @@ use Rattle.wdf_dev.specs.Agents.{agent_meaning}
 use Rattle.wdf_io.specs.Outside.{Gains, Rose}
 use Rattle.wdf_parse.specs.Printing.{printed}
 use Rattle.wdf_gen.specs.Generated.{generated}
-use Rattle.wdf_plan.specs.declared.refusal.PlanRefusal.{PlanRefusal}
+use Rattle.wdf_refusals.specs.declared.refusal.PlanRefusal.{PlanRefusal}
 use Rattle.wdf_plan.specs.Plans.{plan_of}
 use Rattle.wdf_input.specs.declared.input.TheConstants.{INPUT_LIMIT}
 use Rattle.wdf_top.specs.declared.run.Picks.{Picks}

@@ -9,9 +9,9 @@ use Rattle.wdf_dev.specs.Agents.{agent_meaning}
 use Rattle.wdf_parse.specs.declared.refusal.ParseRefusal.TheVariants as parse
 use Rattle.wdf_parse.specs.Canonical.{canonical_text}
 use Rattle.wdf_parse.specs.StandsFor.{StandsFor}
-use Rattle.wdf_plan.specs.declared.refusal.PlanRefusal.{PlanRefusal}
-use Rattle.wdf_plan.specs.declared.refusal.PlanRefusal.TheVariants as plan
-use Rattle.wdf_plan.specs.First.{first_refusal}
+use Rattle.wdf_refusals.specs.declared.refusal.PlanRefusal.{PlanRefusal}
+use Rattle.wdf_refusals.specs.declared.refusal.PlanRefusal.TheVariants as plan
+use Rattle.wdf_refusals.specs.First.{first_refusal}
 use Rattle.wdf_plan.specs.Plans.{plan_of}
 use Rattle.wdf_input.specs.declared.input.TheConstants.{INPUT_LIMIT}
 use Rattle.wdf_top.specs.declared.run.Picks.{Picks}

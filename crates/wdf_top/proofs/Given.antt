@@ -6,8 +6,8 @@ use Rattle.wdf_scene.specs.declared.scene.Scene.{Scene}
 use Rattle.wdf_io.specs.Outside.{Gains, Takes}
 use Rattle.wdf_parse.proofs.Uniqueness.{one_stands}
 use Rattle.wdf_parse.specs.StandsFor.{StandsFor}
-use Rattle.wdf_plan.specs.declared.refusal.PlanRefusal.{PlanRefusal}
-use Rattle.wdf_plan.specs.First.{first_refusal}
+use Rattle.wdf_refusals.specs.declared.refusal.PlanRefusal.{PlanRefusal}
+use Rattle.wdf_refusals.specs.First.{first_refusal}
 use Rattle.wdf_input.specs.declared.input.TheConstants.{INPUT_LIMIT}
 use Rattle.wdf_top.specs.declared.run.Picks.{Picks}
 use Rattle.wdf_top.specs.Answers.{Answering, Answers, HasNoScene, HasNoPlan, HasPlan, IsTraceOf, picks_of, running, checking, judging}

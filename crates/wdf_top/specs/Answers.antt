@@ -12,8 +12,8 @@ use Rattle.wdf_parse.specs.declared.refusal.ParseRefusal.{ParseRefusal}
 use Rattle.wdf_parse.specs.Canonical.{canonical_text}
 use Rattle.wdf_parse.specs.StandsFor.{StandsFor}
 use Rattle.wdf_parse.specs.Texts.{reading}
-use Rattle.wdf_plan.specs.declared.refusal.PlanRefusal.{PlanRefusal}
-use Rattle.wdf_plan.specs.First.{first_refusal}
+use Rattle.wdf_refusals.specs.declared.refusal.PlanRefusal.{PlanRefusal}
+use Rattle.wdf_refusals.specs.First.{first_refusal}
 use Rattle.wdf_plan.specs.Plans.{plan_of}
 use Rattle.wdf_gen.specs.Generated.{generated}
 use Rattle.wdf_replay.specs.declared.verdict.Verdict.{Verdict}

@@ -9,8 +9,8 @@ use Rattle.wdf_dev.specs.Agents.{agent_meaning}
 use Rattle.wdf_parse.specs.StandsFor.{StandsFor}
 use Rattle.wdf_parse.specs.Texts.{IsRefusalOf, reading}
 use Rattle.wdf_parse.specs.Laws.{IsNoScene}
-use Rattle.wdf_plan.specs.declared.refusal.PlanRefusal.TheVariants as plan
-use Rattle.wdf_plan.specs.First.{first_refusal}
+use Rattle.wdf_refusals.specs.declared.refusal.PlanRefusal.TheVariants as plan
+use Rattle.wdf_refusals.specs.First.{first_refusal}
 use Rattle.wdf_plan.specs.Plans.{plan_of}
 use Rattle.wdf_gen.specs.Generated.{generated}
 use Rattle.wdf_replay.specs.declared.verdict.Why.{Why}

@@ -10,7 +10,7 @@ use Rattle.wdf_gen.specs.Generated as scenario
 use Rattle.wdf_input.specs.Input.{TakesAll, TakesAtMost, TakesCount, UsesUp}
 use Rattle.wdf_io.specs.Outside.{Rose, Gains}
 use Rattle.wdf_parse.specs.Printing.{printed}
-use Rattle.wdf_plan.specs.declared.refusal.PlanRefusal.{PlanRefusal}
+use Rattle.wdf_refusals.specs.declared.refusal.PlanRefusal.{PlanRefusal}
 use Rattle.wdf_replay.specs.declared.verdict.Why.{Why}
 use Rattle.wdf_replay.specs.declared.verdict.Why.TheVariants as why
 use Rattle.wdf_replay.specs.Verdicts.{IsRefused, IsWhole}

@@ -3,7 +3,7 @@ ghost use Rattle.std.specs.Prelude.{◌≡◌, ◌≤◌, ℕ, List, length, Non
 ghost use Rattle.wdf_scene.specs.declared.scene.Scene.{Scene};
 ghost use Rattle.wdf_parse.specs.Canonical.{canonical_text};
 ghost use Rattle.wdf_parse.specs.StandsFor.{StandsFor};
-ghost use Rattle.wdf_plan.specs.First.{first_refusal};
+ghost use Rattle.wdf_refusals.specs.First.{first_refusal};
 ghost use Rattle.wdf_top.specs.Answers.{HasPlan};
 ghost use Rattle.wdf_split.specs.Inputs.{scenario_in};
 ghost use Rattle.wdf_top.specs.Causes.{all_of, IsCause, IsTextCause};

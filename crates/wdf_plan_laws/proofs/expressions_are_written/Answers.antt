@@ -1,4 +1,4 @@
-use Rattle.wdf_plan.specs.Placed.{placed}
+use Rattle.wdf_blocks.specs.Placed.{placed}
 use Rattle.wdf_plan.specs.Plans.{plan_of}
 use Rattle.wdf_plan_laws.specs.Told.{AreNodesTold}
 use Rattle.wdf_plan_laws.proofs.NodeLines.{nodes_are}

@@ -1,4 +1,4 @@
-use Rattle.wdf_plan.proofs.Fitting.{interrupt_level}
+use Rattle.wdf_plan.proofs.ItemFits.{interrupt_level}
 use Rattle.wdf_plan.proofs.objects.object_of.Goals as goal
 
 pub interrupt_info-requires-clause-level : goal.interrupt_info-requires-clause-level

@@ -1,8 +1,8 @@
 use Rattle.std.proofs.Common.{arith, refl}
 use Rattle.wdf_plan.specs.Plans.{all_agents}
 use Rattle.wdf_plan.specs.Posts.{app_posted, device_posted}
-use Rattle.wdf_plan.proofs.Every.{every_any}
-use Rattle.wdf_plan.proofs.Fitting.{lines_room}
+use Rattle.wdf_refusals.proofs.Every.{every_any}
+use Rattle.wdf_refusals.proofs.Fitting.{lines_room}
 use Rattle.wdf_plan.proofs.SceneFits.{agents_room, both_rooms}
 use Rattle.wdf_plan.proofs.Shares.{apps_same, devices_same}
 use Rattle.wdf_plan.proofs.resolution.all_agents.Goals as goal

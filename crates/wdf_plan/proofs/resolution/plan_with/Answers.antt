@@ -1,8 +1,8 @@
 use Rattle.std.proofs.Common.{arith, rules, ◌<◌, ◌^◌}
 use Rattle.wdf_plan.specs.Parts.{pnp_post, register_on, when_on}
 use Rattle.wdf_plan.specs.Scripts.{script_on}
-use Rattle.wdf_plan.proofs.Every.{every_any}
-use Rattle.wdf_plan.proofs.Fitting.{lines_room}
+use Rattle.wdf_refusals.proofs.Every.{every_any}
+use Rattle.wdf_refusals.proofs.Fitting.{lines_room}
 use Rattle.wdf_plan.proofs.Making.{plan_made}
 use Rattle.wdf_plan.proofs.SceneFits.{classes_room, cpus_small, devices_fit, limit_small, nodes_fit, nodes_few, objects_small, picks_few, scripts_small}
 use Rattle.wdf_plan.proofs.resolution.plan_with.Goals as goal

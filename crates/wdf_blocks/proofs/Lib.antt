@@ -1,0 +1,4 @@
+pub mod Assigned
+pub mod FreeNames
+pub mod Scans
+pub mod Walks

@@ -1,6 +1,0 @@
-use Rattle.wdf_plan.proofs.Fitting.{declaring_begins}
-use Rattle.wdf_plan.proofs.first.declared.Goals as goal
-
-pub loop-placed-init : goal.loop-placed-init
-loop-placed-init c =
-    declaring_begins _ _ _ c.requires (rw (c.as_slice-lines.ensures.value) at c.as_slice-lines.ensures.fits) c.new-names.ensures c.new-walk.ensures
