@@ -66,10 +66,8 @@ unmade T k class parent x = elim (one_or_two x (next_id T)) [
 ]
 
 live_uncleaned : (l : Life) → is_live l ≡ true → is_cleaned l ≡ false
-live_uncleaned life.Live h = refl
-live_uncleaned life.Asked h = refl
 live_uncleaned life.Cleaned h = absurd (let z : ⊥ = cc in z)
-live_uncleaned life.Gone h = refl
+live_uncleaned _ h = refl
 
 object_made : (T : Tree) (k : Kind) (class parent : ℕ) → is_live (life_of T parent) ≡ true → InOrder T → InOrder (tree.create T k class parent)
 object_made T k class parent live q x h = unmade T k class parent (parent_of (tree.create T k class parent) x) ∙ elim (one_or_two x (next_id T)) [

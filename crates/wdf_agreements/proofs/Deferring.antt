@@ -104,16 +104,12 @@ noted_life callback.EvtDestroyCallback n = refl
 noted_life _ n = refl
 
 asked_off : (l : Life) → is_asked l ≡ true → false ≡ is_live l
-asked_off life.Asked h = refl
 asked_off life.Live h = absurd (let z : ⊥ = cc in z)
-asked_off life.Cleaned h = refl
-asked_off life.Gone h = refl
+asked_off _ h = refl
 
 cleaned_off : (l : Life) → is_cleaned l ≡ true → false ≡ is_live l
-cleaned_off life.Cleaned h = refl
 cleaned_off life.Live h = absurd (let z : ⊥ = cc in z)
-cleaned_off life.Asked h = refl
-cleaned_off life.Gone h = refl
+cleaned_off _ h = refl
 
 arrived : {A : Type 0} (S : State A) (device : ℕ) (info : RequestInfo) (p : Place) → work_of (arrive_at S device info p) ≡ record (work_of S) { tree = tree.arrive S.tree device }
 arrived S device info (place.Queued q) = refl

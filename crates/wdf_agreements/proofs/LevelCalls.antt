@@ -165,10 +165,8 @@ module _ {A : Type 0} (plan : Plan) (S : State A) (f : ℕ) (there : 1 ≤ on S.
 
 not_interrupt : (c : ClassInfo) → same_kind (class_kind c) kind.Interrupt ≡ false
 not_interrupt (class.Plain name plain.Object) = refl
-not_interrupt (class.Plain name _) = refl
 not_interrupt (class.Deferred name deferred.Dpc parent serialize period) = refl
-not_interrupt (class.Deferred name deferred.Timer parent serialize period) = refl
-not_interrupt (class.Deferred name deferred.WorkItem parent serialize period) = refl
+not_interrupt _ = refl
 
 class_unlike : (o : Option ClassInfo) → same_option same_kind (option_map class_kind o) (Some kind.Interrupt) ≡ true → ⊥
 class_unlike None h = let z : ⊥ = cc in z
@@ -182,11 +180,7 @@ owner_is _ h = absurd (let z : ⊥ = cc in z)
 
 no_owner : (plan : Plan) (d : Declared) (c : ℕ) → same_declared d (declared.OfClass c) ≡ true → owner_fits plan (owner.Of kind.Interrupt) d ≡ true → ⊥
 no_owner plan (declared.OfClass x) c h k = class_unlike (slice_get plan.classes x) k
-no_owner plan declared.Driver c h k = let z : ⊥ = cc in z
-no_owner plan (declared.Device x) c h k = let z : ⊥ = cc in z
-no_owner plan (declared.Queue x) c h k = let z : ⊥ = cc in z
-no_owner plan (declared.Interrupt x) c h k = let z : ⊥ = cc in z
-no_owner plan (declared.Target x) c h k = let z : ⊥ = cc in z
+no_owner plan _ c h k = let z : ⊥ = cc in z
 
 all_fit_at : (p : Script → Bool) (d : Script) (ss : List Script) (i : ℕ) → list_all p ss ≡ true → i < length ss → p (entry d ss i) ≡ true
 all_fit_at p d [] i h within = absurd (omega arith)

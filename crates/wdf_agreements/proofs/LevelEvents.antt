@@ -112,9 +112,7 @@ early_life life.Gone h = absurd (let z : ⊥ = cc in z)
 
 pub first_early : (v : View) (k : Kind) (a : Arg) → is_stale v false (sort.ObjectOf k) a ≡ false → is_wrong_kind v (sort.ObjectOf k) a ≡ false → is_past_cleanup (v.life (object_in a)) ≡ false
 first_early v k (Val (Obj h)) s w = early_life (v.life h.id.0) s
-first_early v k (Val (Num n)) s w = absurd (let z : ⊥ = cc in z)
-first_early v k (Val (Stat x)) s w = absurd (let z : ⊥ = cc in z)
-first_early v k (Class c) s w = absurd (let z : ⊥ = cc in z)
+first_early v k _ s w = absurd (let z : ⊥ = cc in z)
 
 pub stale_first : (v : View) (c : Call) → any_argument (is_stale v (signature_of c.kind).cleaned) c ≡ false → is_stale v (signature_of c.kind).cleaned (signature_of c.kind).a c.a ≡ false
 stale_first v c h =

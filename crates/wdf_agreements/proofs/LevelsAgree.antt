@@ -98,28 +98,17 @@ of_device plan S d scope.PerQueue n l e = absurd (let z : ⊥ = cc in z)
 of_device plan S d scope.Unscoped n l e = absurd (let z : ⊥ = cc in z)
 
 of_scope : {A : Type 0} (plan : Plan) (S : State A) (id : ℕ) (d : Option Declared) (n : ℕ) → LowLock plan S (scope_lock id d) n
-of_scope plan S id None n l e = absurd (let z : ⊥ = cc in z)
-of_scope plan S id (Some declared.Driver) n l e = absurd (let z : ⊥ = cc in z)
 of_scope plan S id (Some (declared.Device d)) n l e = of_device plan S id d.scope n l e
 of_scope plan S id (Some (declared.Queue q)) n l e = of_queue plan S id q q.scope n l e
-of_scope plan S id (Some (declared.Interrupt i)) n l e = absurd (let z : ⊥ = cc in z)
-of_scope plan S id (Some (declared.Target t)) n l e = absurd (let z : ⊥ = cc in z)
-of_scope plan S id (Some (declared.OfClass c)) n l e = absurd (let z : ⊥ = cc in z)
+of_scope plan S id _ n l e = absurd (let z : ⊥ = cc in z)
 
 of_serial : {A : Type 0} (plan : Plan) (S : State A) (c : Option ClassInfo) (n : ℕ) → LowLock plan S (serial_lock plan c) n
-of_serial plan S None n l e = absurd (let z : ⊥ = cc in z)
-of_serial plan S (Some (class.Plain name k)) n l e = absurd (let z : ⊥ = cc in z)
 of_serial plan S (Some (class.Deferred name k parent true period)) n l e = of_scope plan S parent.0 (declared_of plan parent.0) n l e
-of_serial plan S (Some (class.Deferred name k parent false period)) n l e = absurd (let z : ⊥ = cc in z)
+of_serial plan S _ n l e = absurd (let z : ⊥ = cc in z)
 
 of_parent : {A : Type 0} (plan : Plan) (S : State A) (d : Option Declared) (n : ℕ) → LowLock plan S (parent_lock plan d) n
-of_parent plan S None n l e = absurd (let z : ⊥ = cc in z)
-of_parent plan S (Some declared.Driver) n l e = absurd (let z : ⊥ = cc in z)
-of_parent plan S (Some (declared.Device d)) n l e = absurd (let z : ⊥ = cc in z)
-of_parent plan S (Some (declared.Queue q)) n l e = absurd (let z : ⊥ = cc in z)
-of_parent plan S (Some (declared.Interrupt i)) n l e = absurd (let z : ⊥ = cc in z)
-of_parent plan S (Some (declared.Target t)) n l e = absurd (let z : ⊥ = cc in z)
 of_parent plan S (Some (declared.OfClass c)) n l e = of_serial plan S (slice_get plan.classes c) n l e
+of_parent plan S _ n l e = absurd (let z : ⊥ = cc in z)
 
 interrupt_high : (plan : Plan) (c : Callback) (o : ℕ) → is_interrupt_lock (row_of c).lock ≡ true → callback_irql plan c o ≡ interrupt_level plan o
 interrupt_high plan callback.EvtInterruptIsr o h = refl

@@ -14,7 +14,9 @@ pub mod FramesLaws
 pub mod Queued
 pub mod Deferring
 pub mod ArrivalsOnce
+pub mod Subtrees
 pub mod LivesOver
+pub mod FromQueues
 pub mod OfDevices
 pub mod Counted
 pub mod Leveled

@@ -39,6 +39,7 @@ use Rattle.wdf_model.proofs.Counts.{equal, not_equal, one_or_two}
 use Rattle.wdf_model.proofs.Deletion.{object_live, object_off}
 use Rattle.wdf_model.proofs.FitsOfEvents.{event_fits}
 use Rattle.wdf_agreements.specs.Agreements.{LivesAgree}
+use Rattle.wdf_agreements.proofs.Subtrees.{asked_below, is_asked_with, kept_there, live_unasked, passes, unasked_stays}
 use Rattle.wdf_agreements.proofs.Keeping.{deeds_keep, each_place}
 use Rattle.wdf_agreements.proofs.Stays.{gives_up, gives_up_if, queues_closed, returns_closed, withdraws}
 use Rattle.wdf_agreements.proofs.Lists.{inside, reads_same}
@@ -89,104 +90,13 @@ object_made T k class parent live q =
       ];
     }
 
--- ---- what is below an object
-
-marks_stay : (o : ℕ) (before : List Bool) (ns : List Node) (j : ℕ) → j < length before → entry false (below_marks o before ns) j ≡ entry false before j
-marks_stay o before [] j h = refl
-marks_stay o before (n ∷ ns) j h =
-    let b : Bool = n.parent.0 == o || entry false before n.parent.0 in
-    let more = length-append before (b ∷ []) in
-    marks_stay o (before ++ b ∷ []) ns j (omega arith) ∙ entry_before false before b j (λ e. let z : ⊥ = omega arith in z)
-
-marks_at : (o : ℕ) (before : List Bool) (ns : List Node) (i : ℕ) → i < length ns → (entry gone ns i).parent.0 < length before + i
-    → entry false (below_marks o before ns) (length before + i) ≡ ((entry gone ns i).parent.0 == o || entry false (below_marks o before ns) (entry gone ns i).parent.0)
-marks_at o before [] i within h = absurd (omega arith)
-marks_at o before (n ∷ ns) zero within h =
-    let b : Bool = n.parent.0 == o || entry false before n.parent.0 in
-    let more = length-append before (b ∷ []) in
-    let at : length before + 0 ≡ length before = omega arith in
-    let stays : entry false (below_marks o before (n ∷ ns)) n.parent.0 ≡ entry false before n.parent.0 = marks_stay o before (n ∷ ns) n.parent.0 (omega arith) in
-    rw at (marks_stay o (before ++ b ∷ []) ns (length before) (omega arith) ∙ entry_last false before b ∙ ap (λ c. n.parent.0 == o || c) (sym stays))
-marks_at o before (n ∷ ns) (suc i) within h =
-    let b : Bool = n.parent.0 == o || entry false before n.parent.0 in
-    let more = length-append before (b ∷ []) in
-    let at : length before + suc i ≡ length (before ++ b ∷ []) + i = omega arith in
-    rw at (marks_at o (before ++ b ∷ []) ns i (omega arith) (omega arith))
-
-abbrev is_asked_with : Tree → ℕ → ℕ → Bool
-is_asked_with T o x = x == o || entry false (below_marks o [] T.nodes) x
-
--- an object whose parent is in a subtree is in it
-asked_below : (T : Tree) (o x : ℕ) → x < length T.nodes → parent_of T x < x → is_asked_with T o (parent_of T x) ≡ true → is_asked_with T o x ≡ true
-asked_below T o x within older h =
-    let nil : List Bool = [] in
-    let start : length nil + x ≡ x = omega arith in
-    let marks = marks_at o nil T.nodes x within (omega arith) in
-    second (x == o) (entry false (below_marks o [] T.nodes) x) (sym (ap (entry false (below_marks o [] T.nodes)) start) ∙ marks ∙ h)
-
-kept_by_first : (q : ℕ → Bool) (x a : ℕ) (ids : List ℕ) (b : Bool) → q a ≡ b → (a ≡ x) ⊎ (a ≢ x) → q x ≡ true → (a ≢ x → contains x (filter q ids) ≡ true) → contains x (if b then a ∷ filter q ids else filter q ids) ≡ true
-kept_by_first q x a ids true e (inl same) h rest = first (a == x) (contains x (filter q ids)) (equal a x same)
-kept_by_first q x a ids true e (inr other) h rest = second (a == x) (contains x (filter q ids)) (rest other)
-kept_by_first q x a ids false e (inl same) h rest = absurd (let off : q x ≡ false = sym (ap q same) ∙ e in let z : ⊥ = cc in z)
-kept_by_first q x a ids false e (inr other) h rest = rest other
-
-kept_there : (q : ℕ → Bool) (x a n : ℕ) → a ≤ x → x < a + n → q x ≡ true → contains x (filter q (range_with_len a n)) ≡ true
-kept_there q x a zero low high h = absurd (omega arith)
-kept_there q x a (suc n) low high h = kept_by_first q x a (range_with_len (a + 1) n) (q a) refl (one_or_two a x) h (λ other. kept_there q x (a + 1) n (omega arith) (omega arith) h)
-
-passes : (q : ℕ → Bool) (x : ℕ) (ids : List ℕ) → contains x (filter q ids) ≡ true → q x ≡ true
-passes q x ids h = elim (cases_Bool (q x)) [
-  | inl e ↦ e
-  | inr e ↦ absurd (any_none (λ y. (y == x) && q y) ids
-      (λ y f. let same : y ≡ x = eqb-true y x (both_left (y == x) (q y) f) in let on : q y ≡ true = both_right (y == x) (q y) f in let off : q y ≡ false = ap q same ∙ e in let z : ⊥ = cc in z)
-      (any_filtered (λ y. y == x) q ids h))
-]
+-- ---- a deletion is asked
 
 closed_below : (T : Tree) (o x : ℕ) → is_live (life_of T x) ≡ true → Lives T → contains (parent_of T x) (subtree T o) ≡ true → contains x (subtree T o) ≡ true
 closed_below T o x live k h =
     let within = live_inside T x live in
     kept_there (is_asked_with T o) x 0 (length T.nodes) (omega arith) (omega arith)
     (asked_below T o x within (k.older x live) (passes (is_asked_with T o) (parent_of T x) (range_with_len 0 (length T.nodes)) h))
-
--- ---- a deletion is asked
-
-off_then : {A : Type 0} (S : State A) (x : ℕ) (b : Bool) → is_live (life_of S.tree x) ≡ b → is_live (life_of (ask_object S x).tree x) ≡ false
-off_then S x true h = rw (object_live S x h) (ap (λ (n : Node). is_live n.life) (entry_put_same gone S.tree.nodes x (with_life life.Asked (node_of S.tree x))))
-off_then S x false h = rw (object_off S x h) h
-
-others_then : {A : Type 0} (S : State A) (x y : ℕ) (b : Bool) → is_live (life_of S.tree x) ≡ b → y ≢ x → node_of (ask_object S x).tree y ≡ node_of S.tree y
-others_then S x y true h n = rw (object_live S x h) (entry_put_other gone S.tree.nodes x y (with_life life.Asked (node_of S.tree x)) n)
-others_then S x y false h n = rw (object_off S x h) refl
-
-or_not : (a b : Bool) → a ≡ false → b ≡ false → (a || b) ≡ false
-or_not false b h k = k
-or_not true b h k = absurd (let z : ⊥ = cc in z)
-
-not_first : (x y : ℕ) (xs : List ℕ) → contains y (x ∷ xs) ≡ false → (y ≢ x) × (contains y xs ≡ false)
-not_first x y xs h = elim (cases_Bool (x == y)) [
-  | inl e ↦ absurd (let k : contains y (x ∷ xs) ≡ true = first (x == y) (contains y xs) e in let z : ⊥ = cc in z)
-  | inr e ↦ ((λ same. let k : (x == y) ≡ true = equal x y (sym same) in let z : ⊥ = cc in z), rest (contains y xs) refl)
-]
-  where
-    rest : (b : Bool) → contains y xs ≡ b → b ≡ false
-    rest true e = absurd (let k : contains y (x ∷ xs) ≡ true = second (x == y) (contains y xs) e in let z : ⊥ = cc in z)
-    rest false e = refl
-
--- what isn't asked stays
-unasked_stays : {A : Type 0} (xs : List ℕ) (S : State A) (y : ℕ) → contains y xs ≡ false → node_of (fold ask_object S xs).tree y ≡ node_of S.tree y
-unasked_stays [] S y h = refl
-unasked_stays (x ∷ xs) S y h = let k = not_first x y xs h in unasked_stays xs (ask_object S x) y k.1 ∙ others_then S x y (is_live (life_of S.tree x)) refl k.0
-
--- what is live still wasn't asked
-live_unasked : {A : Type 0} (xs : List ℕ) (S : State A) (y : ℕ) → is_live (life_of (fold ask_object S xs).tree y) ≡ true → (contains y xs ≡ false) × (node_of (fold ask_object S xs).tree y ≡ node_of S.tree y)
-live_unasked [] S y h = (refl, refl)
-live_unasked (x ∷ xs) S y h =
-    let k = live_unasked xs (ask_object S x) y h in
-    let n : y ≢ x = λ e. (
-    let off : is_live (life_of (ask_object S x).tree y) ≡ false = ap (λ z. is_live (life_of (ask_object S x).tree z)) e ∙ off_then S x (is_live (life_of S.tree x)) refl in
-    let on : is_live (life_of (ask_object S x).tree y) ≡ true = sym (ap (λ (m : Node). is_live m.life) k.1) ∙ h in
-    let z : ⊥ = cc in z) in
-    (or_not (x == y) (contains y xs) (not_equal x y (λ e. n (sym e))) k.0, k.1 ∙ others_then S x y (is_live (life_of S.tree x)) refl n)
 
 asked : {A : Type 0} (S : State A) (o : ℕ) → Lives S.tree → Lives (ask_objects S o).tree
 asked S o k =
@@ -217,16 +127,12 @@ noted_kept callback.EvtDestroyCallback n = (refl, refl)
 noted_kept _ n = (refl, refl)
 
 asked_off : (l : Life) → is_asked l ≡ true → false ≡ is_live l
-asked_off life.Asked h = refl
 asked_off life.Live h = absurd (let z : ⊥ = cc in z)
-asked_off life.Cleaned h = refl
-asked_off life.Gone h = refl
+asked_off _ h = refl
 
 cleaned_off : (l : Life) → is_cleaned l ≡ true → false ≡ is_live l
-cleaned_off life.Cleaned h = refl
 cleaned_off life.Live h = absurd (let z : ⊥ = cc in z)
-cleaned_off life.Asked h = refl
-cleaned_off life.Gone h = refl
+cleaned_off _ h = refl
 
 ended : (T : Tree) (o : ℕ) → is_cleaned (life_of T o) ≡ true → Lives T → Lives (tree.destroy T o)
 ended T o done = lives_same T (tree.destroy T o) (reads_same (λ n. is_live n.life) T o (λ _. gone) (cleaned_off (life_of T o) done))

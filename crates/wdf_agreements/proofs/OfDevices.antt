@@ -1,426 +1,45 @@
 -- A request is of the device of the queue in which it waits, to which it returns, and from which it came.
-use Rattle.std.proofs.Common.{if◌then◌else◌, ◌≡◌, ℕ, ◌==◌, ◌≤◌, Bool, true, false, ◌&&◌, List, [], ◌∷◌, inl, inr, Option, Some, None, is_some, map, fold, count_by, unwrap_or, take, refl, sym, ap, subst, ◌∙◌, arith}
-use Rattle.std.specs.Prelude.{⊤, option_map}
-use Rattle.std.proofs.lemmas.Bool.{eqb-true}
+use Rattle.std.proofs.Common.{◌≡◌, ℕ, List, take, sym, ◌∙◌}
 use Rattle.wdf_base.specs.Meaning.{Meaning}
-use Rattle.wdf_base.specs.declared.ids.ObjectId.{ObjectId}
 use Rattle.wdf_base.specs.declared.plan.Plan.{Plan}
-use Rattle.wdf_base.specs.declared.value.Status.{Status}
-use Rattle.wdf_base.specs.declared.value.Status.TheVariants as status
 use Rattle.wdf_base.specs.declared.event.Event.{Event}
-use Rattle.wdf_base.specs.declared.object.Kind.TheVariants as kind
-use Rattle.wdf_base.specs.declared.object.Mark.TheVariants as marks
 use Rattle.wdf_base.specs.declared.object.Place.{Place}
 use Rattle.wdf_base.specs.declared.object.Place.TheVariants as place
-use Rattle.wdf_base.specs.declared.object.RequestInfo.{RequestInfo}
-use Rattle.wdf_base.specs.Same.{same_kind}
-use Rattle.wdf_model.specs.declared.enums.Mode.TheVariants as mode
-use Rattle.wdf_model.specs.declared.entries.Request.{Request}
-use Rattle.wdf_model.specs.Tables.{flag, same_id}
-use Rattle.wdf_model.specs.Plans.{device_of_queue, managed_queues, queues_of}
-use Rattle.wdf_model.specs.parts.Tree.{kind_of, nearest_device, next_id, subtree}
-use Rattle.wdf_model.specs.parts.Requests.{Requests, cancelled, closed_at, forgotten, has_arrived, info_of, is_in, is_marked, is_over, is_owned, is_queued_in, is_returning_to, is_sent, made_info, marked, moved, no_request, origin_from, origin_of, place_of, request_of, unmarked, with_mark, with_request}
-use Rattle.wdf_model.specs.parts.Requests as requests
-use Rattle.wdf_model.specs.parts.Queues.{front, waiting_in}
-use Rattle.wdf_model.specs.parts.Control as control
-use Rattle.wdf_model.specs.parts.Targets.{is_forgotten, is_undone, routine_due}
-use Rattle.wdf_model.specs.State.{State, opening, returns_to, withdrawn_place}
+use Rattle.wdf_base.specs.declared.object.RequestForm.{RequestForm}
+use Rattle.wdf_model.specs.Plans.{device_of_queue}
+use Rattle.wdf_model.specs.State.{State}
 use Rattle.wdf_model.specs.declared.deed.Deed.{Deed}
-use Rattle.wdf_model.specs.declared.deed.Deed.TheVariants.{MakeRequest, Arrive, AskDeletion, EndLife, Present, Receive, Requeue, Forward, GiveBack, Withdraw, MarkRequest, UnmarkRequest, CancelRequest, TakeCancel, SendRequest, FinishSending, ComeBack, CompleteRequest, PurgeQueue, CloseReturning, CloseDevice}
-use Rattle.wdf_model.specs.rules.Deeds.{arrive_at, cancel_in, close_queue, close_returning, do_deed, finished_at, give_up, give_up_if, queued, withdraw}
-use Rattle.wdf_model.specs.rules.Calls.{origin_or_none}
-use Rattle.wdf_model.specs.rules.Ready.{IsRunOf, ready, state_after}
-use Rattle.wdf_model.specs.laws.Fits.{fits, is_given}
-use Rattle.wdf_model.proofs.Runs.{run_opens}
-use Rattle.wdf_model.proofs.LawsOverRuns.{history_now}
-use Rattle.wdf_model.proofs.Tests.{both_left, both_right}
-use Rattle.wdf_model.proofs.Maps.{entry_map, entry_put_other, entry_put_same, entry_set_other, set_read}
-use Rattle.wdf_model.proofs.Counts.{at_head, equal, front_leaves, one_or_two}
-use Rattle.wdf_model.proofs.KeptByDeeds.{KeptIn, deed_keeps}
+use Rattle.wdf_model.specs.declared.deed.Deed.TheVariants.{Arrive, Requeue, Forward, GiveBack}
+use Rattle.wdf_model.specs.rules.Ready.{IsRunOf, state_after}
 use Rattle.wdf_invariants.proofs.HeldMoves.{Placed}
 use Rattle.wdf_agreements.specs.Agreements.{WaitingAgree}
-use Rattle.wdf_agreements.proofs.Stays.{asks_all, given, given_if}
+use Rattle.wdf_agreements.proofs.FromQueues.{AllSuited, ArrivesAt, GoesWell, suited_by, suited_first, waiting_suits}
 use Rattle.wdf_agreements.proofs.Sound.{Sound, WaitsAt}
 use Rattle.wdf_agreements.proofs.SoundRuns.{sound_place}
 
--- ---- a request and its device
+-- a queue suits the requests of its device
+abbrev pub OfItsDevice : Plan → ℕ → ℕ → RequestForm → Type 0
+OfItsDevice plan q d f = device_of_queue plan q ≡ d
 
-abbrev PlaceFits : Plan → Place → ℕ → Type 0
-PlaceFits plan (place.Queued q) d = device_of_queue plan q.0 ≡ d
-PlaceFits plan (place.Returning q) d = device_of_queue plan q.0 ≡ d
-PlaceFits plan _ d = ⊤
+arrives : (plan : Plan) (p : Place) (x d : ℕ) (f : RequestForm) → x ≡ d → WaitsAt plan p d → ArrivesAt plan (OfItsDevice plan) p x f
+arrives plan (place.Queued q) x d f e w = w ∙ sym e
+arrives plan _ x d f e w = tt
 
-abbrev OriginFits : Plan → Option ObjectId → ℕ → Type 0
-OriginFits plan None d = ⊤
-OriginFits plan (Some q) d = device_of_queue plan q.0 ≡ d
-
--- where an arrived request is only after it came from a queue
-abbrev came_from : Place → Bool
-came_from place.Owned = true
-came_from (place.Sent t) = true
-came_from _ = false
-
-pub record OfDevice (plan : Plan) (e : Request) : Type 0 where
-  pub at : PlaceFits plan e.place e.info.device.0
-  pub from : OriginFits plan e.info.origin e.info.device.0
-  pub held : has_arrived e ≡ true → came_from e.place ≡ true → is_some e.info.origin ≡ true
-
--- ---- a request moves
-
--- a request that isn't closing or done
-abbrev is_out : Place → Bool
-is_out (place.Closing s) = false
-is_out place.Done = false
-is_out _ = true
-
--- moves by which an arrived request keeps, or gets, the queue that it came from
-abbrev becomes : Place → Place → Bool
-becomes place.Owned old = is_out old
-becomes (place.Sent t) old = came_from old
-becomes _ old = true
-
-abbrev may_move : Place → Place → Bool
-may_move old new = becomes new old
-
-origin_fits : (plan : Plan) (old new : Place) (o : Option ObjectId) (d : ℕ) → PlaceFits plan old d → OriginFits plan o d → OriginFits plan (origin_from old new o) d
-origin_fits plan (place.Queued q) place.Owned o d p k = p
-origin_fits plan (place.Returning q) place.Owned o d p k = p
-origin_fits plan _ _ o d p k = k
-
-origin_there : (old new : Place) (o : Option ObjectId) → may_move old new ≡ true → (came_from old ≡ true → is_some o ≡ true) → came_from new ≡ true → is_some (origin_from old new o) ≡ true
-origin_there place.Owned place.Owned o m h k = h refl
-origin_there (place.Sent t) place.Owned o m h k = h refl
-origin_there (place.Queued q) place.Owned o m h k = refl
-origin_there (place.Returning q) place.Owned o m h k = refl
-origin_there (place.Closing s) place.Owned o m h k = absurd (let z : ⊥ = cc in z)
-origin_there place.Done place.Owned o m h k = absurd (let z : ⊥ = cc in z)
-origin_there place.Owned (place.Sent t) o m h k = h refl
-origin_there (place.Sent u) (place.Sent t) o m h k = h refl
-origin_there (place.Queued q) (place.Sent t) o m h k = absurd (let z : ⊥ = cc in z)
-origin_there (place.Returning q) (place.Sent t) o m h k = absurd (let z : ⊥ = cc in z)
-origin_there (place.Closing s) (place.Sent t) o m h k = absurd (let z : ⊥ = cc in z)
-origin_there place.Done (place.Sent t) o m h k = absurd (let z : ⊥ = cc in z)
-origin_there _ (place.Queued q) o m h k = absurd (let z : ⊥ = cc in z)
-origin_there _ (place.Returning q) o m h k = absurd (let z : ⊥ = cc in z)
-origin_there _ (place.Closing s) o m h k = absurd (let z : ⊥ = cc in z)
-origin_there _ place.Done o m h k = absurd (let z : ⊥ = cc in z)
-
-moves : (plan : Plan) (e : Request) (p : Place) → OfDevice plan e → PlaceFits plan p e.info.device.0 → may_move e.place p ≡ true → OfDevice plan (moved p e)
-moves plan e p k fit may_come = record {
-  at = fit;
-  from = origin_fits plan e.place p e.info.origin e.info.device.0 k.at k.from;
-  held = λ h c. origin_there e.place p e.info.origin may_come (k.held h) c;
-}
-
--- ---- all requests
-
-abbrev pub OfDevices : Plan → Requests → Type 0
-OfDevices plan R = (r : ℕ) → OfDevice plan (request_of R r)
-
-one_changes : (plan : Plan) (R : Requests) (r : ℕ) (f : Request → Request) → OfDevice plan (f (request_of R r)) → OfDevices plan R → OfDevices plan (with_request R r f)
-one_changes plan R r f new k x = elim (one_or_two x r) [
-  | inl e ↦ rw e (subst (OfDevice plan) (sym (entry_put_same no_request R.all r (f (request_of R r)))) new)
-  | inr n ↦ subst (OfDevice plan) (sym (entry_put_other no_request R.all r x (f (request_of R r)) n)) (k x)
-]
-
-moves_one : (plan : Plan) (R : Requests) (r : ℕ) (p : Place) → PlaceFits plan p (info_of R r).device.0 → may_move (place_of R r) p ≡ true → OfDevices plan R → OfDevices plan (requests.move_to R r p)
-moves_one plan R r p fit may_come k = one_changes plan R r (moved p) (moves plan (request_of R r) p (k r) fit may_come) k
-
-cancels : (plan : Plan) (R : Requests) (r : ℕ) → OfDevices plan R → OfDevices plan (requests.cancel R r)
-cancels plan R r k = let e = k r in one_changes plan R r cancelled (record { at = e.at; from = e.from; held = e.held }) k
-
-new_one : (plan : Plan) (R : Requests) (r : ℕ) (p : Place) (info : RequestInfo) → OfDevice plan (record { place = p; info = info }) → OfDevices plan R → OfDevices plan (requests.arrive R r p info)
-new_one plan R r p info new k x = elim (one_or_two x r) [
-  | inl e ↦ rw e (subst (OfDevice plan) (sym (entry_put_same no_request R.all r (record { place = p; info = info }))) new)
-  | inr n ↦ subst (OfDevice plan) (sym (entry_put_other no_request R.all r x (record { place = p; info = info }) n)) (k x)
-]
-
-blank_fits : (plan : Plan) → OfDevice plan no_request
-blank_fits plan = record { at = tt; from = tt; held = λ h c. absurd (let z : ⊥ = cc in z) }
-
-closing_allowed : (p : Place) → may_move p (place.Closing status.Cancelled) ≡ true
-closing_allowed p = refl
-
-closed_by : (plan : Plan) (e : Request) (b : Bool) → OfDevice plan e → OfDevice plan (if b then moved (place.Closing status.Cancelled) e else e)
-closed_by plan e true k = moves plan e (place.Closing status.Cancelled) k tt (closing_allowed e.place)
-closed_by plan e false k = k
-
-all_close : (plan : Plan) (R : Requests) (here : Place → Bool) → here place.Done ≡ false → OfDevices plan R → OfDevices plan (record R { all = map (closed_at here) R.all })
-all_close plan R here off k x =
-    let blank : closed_at here no_request ≡ no_request = rw off refl in
-    subst (OfDevice plan) (sym (entry_map no_request R.all (closed_at here) x blank)) (closed_by plan (request_of R x) (here (request_of R x).place) (k x))
-
-forgotten_by : (plan : Plan) (e : Request) (b : Bool) → OfDevice plan e → OfDevice plan (if b then no_request else e)
-forgotten_by plan e true k = blank_fits plan
-forgotten_by plan e false k = k
-
-forgets : (plan : Plan) (R : Requests) (r : ℕ) → OfDevices plan R → OfDevices plan (requests.forget R r)
-forgets plan R r k x = elim (one_or_two x r) [
-  | inl e ↦ rw e (subst (OfDevice plan) (sym (set_read no_request forgotten R.all r refl)) (forgotten_by plan (request_of R r) (is_over (request_of R r)) (k r)))
-  | inr n ↦ subst (OfDevice plan) (sym (entry_set_other no_request R.all r x (forgotten (request_of R r)) n)) (k x)
-]
-
--- ---- where a request is
-
-at_queue : (plan : Plan) (q : ℕ) (p : Place) (d : ℕ) → is_queued_in q p ≡ true → PlaceFits plan p d → device_of_queue plan q ≡ d
-at_queue plan q (place.Queued x) d h k = ap (device_of_queue plan) (sym (eqb-true x.0 q h)) ∙ k
-at_queue plan q (place.Returning x) d h k = absurd (let z : ⊥ = cc in z)
-at_queue plan q (place.Closing s) d h k = absurd (let z : ⊥ = cc in z)
-at_queue plan q place.Owned d h k = absurd (let z : ⊥ = cc in z)
-at_queue plan q (place.Sent t) d h k = absurd (let z : ⊥ = cc in z)
-at_queue plan q place.Done d h k = absurd (let z : ⊥ = cc in z)
-
-from_queued : (q : ℕ) (p : Place) → is_queued_in q p ≡ true → may_move p place.Owned ≡ true
-from_queued q (place.Queued x) h = refl
-from_queued q (place.Returning x) h = refl
-from_queued q (place.Closing s) h = absurd (let z : ⊥ = cc in z)
-from_queued q place.Owned h = refl
-from_queued q (place.Sent t) h = refl
-from_queued q place.Done h = absurd (let z : ⊥ = cc in z)
-
-from_returning : (q : ℕ) (p : Place) → is_returning_to q p ≡ true → may_move p place.Owned ≡ true
-from_returning q (place.Queued x) h = refl
-from_returning q (place.Returning x) h = refl
-from_returning q (place.Closing s) h = absurd (let z : ⊥ = cc in z)
-from_returning q place.Owned h = refl
-from_returning q (place.Sent t) h = refl
-from_returning q place.Done h = absurd (let z : ⊥ = cc in z)
-
-from_sent : (p : Place) → is_sent p ≡ true → may_move p place.Owned ≡ true
-from_sent (place.Sent t) h = refl
-from_sent (place.Queued x) h = refl
-from_sent (place.Returning x) h = refl
-from_sent (place.Closing s) h = absurd (let z : ⊥ = cc in z)
-from_sent place.Owned h = refl
-from_sent place.Done h = absurd (let z : ⊥ = cc in z)
-
-owned_sends : (t : ObjectId) (p : Place) → is_owned p ≡ true → may_move p (place.Sent t) ≡ true
-owned_sends t place.Owned h = refl
-owned_sends t (place.Sent u) h = refl
-owned_sends t (place.Queued x) h = absurd (let z : ⊥ = cc in z)
-owned_sends t (place.Returning x) h = absurd (let z : ⊥ = cc in z)
-owned_sends t (place.Closing s) h = absurd (let z : ⊥ = cc in z)
-owned_sends t place.Done h = absurd (let z : ⊥ = cc in z)
-
--- what a target is done with stays sent, or closes
-finished : (b : Bool) (st : Status) (p : Place) → is_sent p ≡ true → may_move p (finished_at b st p) ≡ true
-finished true st p h = refl
-finished false st (place.Sent t) h = refl
-finished false st (place.Queued x) h = absurd (let z : ⊥ = cc in z)
-finished false st (place.Returning x) h = absurd (let z : ⊥ = cc in z)
-finished false st (place.Closing s) h = absurd (let z : ⊥ = cc in z)
-finished false st place.Owned h = absurd (let z : ⊥ = cc in z)
-finished false st place.Done h = absurd (let z : ⊥ = cc in z)
-
-fits_finished : (plan : Plan) (b : Bool) (st : Status) (p : Place) (d : ℕ) → is_sent p ≡ true → PlaceFits plan (finished_at b st p) d
-fits_finished plan true st p d h = tt
-fits_finished plan false st (place.Sent t) d h = tt
-fits_finished plan false st (place.Queued x) d h = absurd (let z : ⊥ = cc in z)
-fits_finished plan false st (place.Returning x) d h = absurd (let z : ⊥ = cc in z)
-fits_finished plan false st (place.Closing s) d h = tt
-fits_finished plan false st place.Owned d h = tt
-fits_finished plan false st place.Done d h = tt
-
--- ---- a request is cancelled in a queue
-
-withdrawn_by : (plan : Plan) (b : Bool) (q d : ℕ) → device_of_queue plan q ≡ d → PlaceFits plan (if b then place.Returning (record { 0 = q }) else place.Closing status.Cancelled) d
-withdrawn_by plan true q d h = h
-withdrawn_by plan false q d h = tt
-
-withdrawn_moves : (b : Bool) (q : ℕ) (p : Place) → may_move p (if b then place.Returning (record { 0 = q }) else place.Closing status.Cancelled) ≡ true
-withdrawn_moves true q p = refl
-withdrawn_moves false q p = refl
-
-cancelled_device : (R : Requests) (r x : ℕ) → (info_of (requests.cancel R r) x).device.0 ≡ (info_of R x).device.0
-cancelled_device R r x = elim (one_or_two x r) [
-  | inl e ↦ rw e (ap (λ (q : Request). q.info.device.0) (entry_put_same no_request R.all r (cancelled (request_of R r))))
-  | inr n ↦ ap (λ (q : Request). q.info.device.0) (entry_put_other no_request R.all r x (cancelled (request_of R r)) n)
-]
-
-cancelled_in : {A : Type 0} (plan : Plan) (U : State A) (q r : ℕ) → device_of_queue plan q ≡ (info_of U.requests r).device.0 → OfDevices plan U.requests → OfDevices plan (cancel_in plan U q r).requests
-cancelled_in plan U q r h k =
-    let b : Bool = (info_of U.requests r).received && returns_to plan U q in
-    moves_one plan (requests.cancel U.requests r) r (withdrawn_place plan U q r)
-    (withdrawn_by plan b q (info_of (requests.cancel U.requests r) r).device.0 (h ∙ sym (cancelled_device U.requests r r)))
-    (withdrawn_moves b q (place_of (requests.cancel U.requests r) r)) (cancels plan U.requests r k)
-
-moved_device : (R : Requests) (r : ℕ) (p : Place) (x : ℕ) → (info_of (requests.move_to R r p) x).device.0 ≡ (info_of R x).device.0
-moved_device R r p x = elim (one_or_two x r) [
-  | inl e ↦ rw e (ap (λ (q : Request). q.info.device.0) (entry_put_same no_request R.all r (moved p (request_of R r))))
-  | inr n ↦ ap (λ (q : Request). q.info.device.0) (entry_put_other no_request R.all r x (moved p (request_of R r)) n)
-]
-
-all_withdrawn : {A : Type 0} (plan : Plan) (q : ℕ) (rs : List ℕ) (S : State A) → ((r : ℕ) → 1 ≤ count_by (λ x. x == r) rs → device_of_queue plan q ≡ (info_of S.requests r).device.0) → OfDevices plan S.requests
-    → OfDevices plan (fold (withdraw plan q) S rs).requests
-all_withdrawn plan q [] S h k = k
-all_withdrawn plan q (r ∷ rs) S h k =
-    let T = withdraw plan q S r in
-    let p : Place = withdrawn_place plan S q r in
-    all_withdrawn plan q rs T
-    (λ x more. h x (let a = at_head x r rs in omega arith) ∙ sym (moved_device (requests.cancel S.requests r) r p x ∙ cancelled_device S.requests r x))
-    (cancelled_in plan S q r (h r (let a = at_head r r rs in let one : flag (r == r) ≡ 1 = ap flag (equal r r refl) in omega arith)) k)
-
-all_returning : {A : Type 0} (plan : Plan) (qs : List ℕ) (S : State A) → OfDevices plan S.requests → OfDevices plan (fold close_returning S qs).requests
-all_returning plan [] S k = k
-all_returning plan (q ∷ qs) S k = all_returning plan qs (close_returning S q) (all_close plan S.requests (is_returning_to q) refl k)
-
-all_closed : {A : Type 0} (plan : Plan) (qs : List ℕ) (S : State A) → OfDevices plan S.requests → OfDevices plan (fold close_queue S qs).requests
-all_closed plan [] S k = k
-all_closed plan (q ∷ qs) S k = all_closed plan qs (close_queue S q) (all_close plan S.requests (is_in q) refl k)
-
--- ---- what waits in a queue
-
-waits_there : (n : ℕ) (b : Bool) → n ≡ flag b → 1 ≤ n → b ≡ true
-waits_there n true e h = refl
-waits_there n false e h = absurd (omega arith)
-
-queued_there : {A : Type 0} (S : State A) (q r : ℕ) → Placed S → 1 ≤ count_by (λ x. x == r) (waiting_in S.queues q) → is_queued_in q (place_of S.requests r) ≡ true
-queued_there S q r k more = waits_there (count_by (λ x. x == r) (waiting_in S.queues q)) (is_queued_in q (place_of S.requests r)) (k.queued q r) more
-
-front_there : {A : Type 0} (S : State A) (q r : ℕ) → Placed S → same_id (front S.queues q) r ≡ true → is_queued_in q (place_of S.requests r) ≡ true
-front_there S q r k h =
-    let e = front_leaves r r (waiting_in S.queues q) h in
-    let one : flag (r == r) ≡ 1 = ap flag (equal r r refl) in
-    queued_there S q r k (omega arith)
-
-waiting_of : {A : Type 0} (plan : Plan) (S : State A) (q r : ℕ) → Placed S → OfDevices plan S.requests → 1 ≤ count_by (λ x. x == r) (waiting_in S.queues q) → device_of_queue plan q ≡ (info_of S.requests r).device.0
-waiting_of plan S q r k d more = at_queue plan q (place_of S.requests r) (info_of S.requests r).device.0 (queued_there S q r k more) (d r).at
-
--- ---- a request that goes back
-
-origin_device : (plan : Plan) (o : Option ObjectId) (q d : ℕ) → is_some o ≡ true → unwrap_or (option_map (λ (x : ObjectId). x.0) o) 0 ≡ q → OriginFits plan o d → device_of_queue plan q ≡ d
-origin_device plan None q d h e k = absurd (let z : ⊥ = cc in z)
-origin_device plan (Some x) q d h e k = ap (device_of_queue plan) (sym e) ∙ k
-
-owned_came : (p : Place) → is_owned p ≡ true → came_from p ≡ true
-owned_came place.Owned h = refl
-owned_came (place.Sent t) h = refl
-owned_came (place.Queued x) h = absurd (let z : ⊥ = cc in z)
-owned_came (place.Returning x) h = absurd (let z : ⊥ = cc in z)
-owned_came (place.Closing s) h = absurd (let z : ⊥ = cc in z)
-owned_came place.Done h = absurd (let z : ⊥ = cc in z)
-
-back_to : {A : Type 0} (plan : Plan) (S : State A) (r q : ℕ) → Placed S → OfDevices plan S.requests → is_given S r ≡ true → origin_or_none S r ≡ q → device_of_queue plan q ≡ (info_of S.requests r).device.0
-back_to plan S r q k d given_ e =
-    let owned : is_owned (place_of S.requests r) ≡ true = both_left (is_owned (place_of S.requests r)) (same_kind (kind_of S.tree r) kind.Request) given_ in
-    let came : has_arrived (request_of S.requests r) ≡ true = k.kinds r (both_right (is_owned (place_of S.requests r)) (same_kind (kind_of S.tree r) kind.Request) given_) in
-    origin_device plan (info_of S.requests r).origin q (info_of S.requests r).device.0 ((d r).held came (owned_came (place_of S.requests r) owned)) e (d r).from
-
--- ---- arrivals
-
-arrives_well : (plan : Plan) (p : Place) (info : RequestInfo) (device : ℕ) → info.device.0 ≡ device → info.origin ≡ None → WaitsAt plan p device → OfDevice plan (record { place = p; info = info })
-arrives_well plan (place.Queued q) info device d o w = record { at = w ∙ sym d; from = subst (λ x. OriginFits plan x info.device.0) (sym o) tt; held = λ h c. absurd (let z : ⊥ = cc in z) }
-arrives_well plan (place.Closing s) info device d o w = record { at = tt; from = subst (λ x. OriginFits plan x info.device.0) (sym o) tt; held = λ h c. absurd (let z : ⊥ = cc in z) }
-arrives_well plan (place.Returning q) info device d o w = absurd w
-arrives_well plan place.Owned info device d o w = absurd w
-arrives_well plan (place.Sent t) info device d o w = absurd w
-arrives_well plan place.Done info device d o w = absurd w
-
-came : {A : Type 0} (S : State A) (device : ℕ) (info : RequestInfo) (p : Place) → (arrive_at S device info p).requests ≡ requests.arrive S.requests (next_id S.tree) p info
-came S device info (place.Queued q) = refl
-came S device info _ = refl
-
--- ---- each deed
-
-abbrev requests_of : {A : Type 0} → State A → Requests
-requests_of S = S.requests
-
-same_requests : (plan : Plan) (R U : Requests) → U ≡ R → OfDevices plan R → OfDevices plan U
-same_requests plan R U e k = subst (OfDevices plan) (sym e) k
-
-device_of : (R U : Requests) (r : ℕ) → U ≡ R → (info_of R r).device.0 ≡ (info_of U r).device.0
-device_of R U r e = sym (ap (λ (V : Requests). (info_of V r).device.0) e)
-
-enters : {A : Type 0} (plan : Plan) (S : State A) (r q : ℕ) → device_of_queue plan q ≡ (info_of S.requests r).device.0 → OfDevices plan S.requests → OfDevices plan (requests.move_to (give_up S r).requests r (queued q))
-enters plan S r q h d =
-    let e : (give_up S r).requests ≡ S.requests = given requests_of (λ S Q P. refl) S r in
-    moves_one plan (give_up S r).requests r (queued q) (h ∙ device_of S.requests (give_up S r).requests r e) refl (same_requests plan S.requests (give_up S r).requests e d)
-
-goes_back : {A : Type 0} (plan : Plan) (S : State A) (r q : ℕ) → device_of_queue plan q ≡ (info_of S.requests r).device.0 → OfDevices plan S.requests → OfDevices plan (cancel_in plan (give_up S r) q r).requests
-goes_back plan S r q h d =
-    let e : (give_up S r).requests ≡ S.requests = given requests_of (λ S Q P. refl) S r in
-    cancelled_in plan (give_up S r) q r (h ∙ device_of S.requests (give_up S r).requests r e) (same_requests plan S.requests (give_up S r).requests e d)
-
-sends : {A : Type 0} (plan : Plan) (S : State A) (r t : ℕ) (forget : Bool) → is_owned (place_of S.requests r) ≡ true → OfDevices plan S.requests → OfDevices plan (requests.move_to (give_up_if forget S r).requests r (place.Sent (record { 0 = t })))
-sends plan S r t forget owned d =
-    let e : (give_up_if forget S r).requests ≡ S.requests = given_if requests_of (λ S Q P. refl) S forget r in
-    moves_one plan (give_up_if forget S r).requests r (place.Sent (record { 0 = t })) tt
-    (ap (λ (V : Requests). may_move (place_of V r) (place.Sent (record { 0 = t }))) e ∙ owned_sends (record { 0 = t }) (place_of S.requests r) owned)
-    (same_requests plan S.requests (give_up_if forget S r).requests e d)
-
-marked_by : (plan : Plan) (q : Request) (b : Bool) → OfDevice plan q → OfDevice plan (if b then q else with_mark marks.Marked q)
-marked_by plan q true k = k
-marked_by plan q false k = record { at = k.at; from = k.from; held = k.held }
-
-unmarked_by : (plan : Plan) (q : Request) (b : Bool) → OfDevice plan q → OfDevice plan (if b then with_mark marks.Unmarked q else q)
-unmarked_by plan q true k = record { at = k.at; from = k.from; held = k.held }
-unmarked_by plan q false k = k
-
-devices_by : {A : Type 0} (plan : Plan) (d : Deed) (S : State A) → fits plan d S ≡ true → Sound plan d S → Placed S → OfDevices plan S.requests → OfDevices plan (do_deed plan d S).requests
-devices_by plan (MakeRequest class parent) S f s k d =
-    new_one plan S.requests (next_id S.tree) place.Owned (made_info (nearest_device S.tree parent.0)) (record { at = tt; from = tt; held = λ h c. absurd (let z : ⊥ = cc in z) }) d
-devices_by plan (Arrive device info p) S f s k d =
-    same_requests plan (requests.arrive S.requests (next_id S.tree) p info) (arrive_at S device.0 info p).requests (came S device.0 info p)
-    (new_one plan S.requests (next_id S.tree) p info (arrives_well plan p info device.0 s.0 s.1 s.2) d)
-devices_by plan (AskDeletion o) S f s k d = same_requests plan _ _ (asks_all requests_of (λ S T D W U. refl) (subtree S.tree o.0) S) d
-devices_by plan (EndLife o) S f s k d = forgets plan S.requests o.0 d
-devices_by plan (Present q r) S f s k d = moves_one plan S.requests r.0 place.Owned tt (from_queued q.0 (place_of S.requests r.0) (front_there S q.0 r.0 k f)) d
-devices_by plan (Receive q r) S f s k d = moves_one plan S.requests r.0 place.Owned tt (from_returning q.0 (place_of S.requests r.0) f) d
-devices_by plan (Requeue r q) S f s k d = enters plan S r.0 q.0 (back_to plan S r.0 q.0 k d f s) d
-devices_by plan (Forward r q) S f s k d = enters plan S r.0 q.0 s d
-devices_by plan (GiveBack r q) S f (inl s) k d = goes_back plan S r.0 q.0 (back_to plan S r.0 q.0 k d f s) d
-devices_by plan (GiveBack r q) S f (inr s) k d = goes_back plan S r.0 q.0 s d
-devices_by plan (Withdraw q r) S f s k d = cancelled_in plan S q.0 r.0 (at_queue plan q.0 (place_of S.requests r.0) (info_of S.requests r.0).device.0 f (d r.0).at) d
-devices_by plan (MarkRequest r) S f s k d = one_changes plan S.requests r.0 marked (marked_by plan (request_of S.requests r.0) (request_of S.requests r.0).info.cancelled (d r.0)) d
-devices_by plan (UnmarkRequest r) S f s k d = one_changes plan S.requests r.0 unmarked (unmarked_by plan (request_of S.requests r.0) (is_marked (request_of S.requests r.0).info.mark) (d r.0)) d
-devices_by plan (CancelRequest r) S f s k d = cancels plan S.requests r.0 d
-devices_by plan (TakeCancel r) S f s k d = let e = d r.0 in one_changes plan S.requests r.0 (with_mark marks.Taken) (record { at = e.at; from = e.from; held = e.held }) d
-devices_by plan (SendRequest r t forget) S f s k d =
-    let owned : is_owned (place_of S.requests r.0) ≡ true = search both_left in
-    sends plan S r.0 t.0 forget owned d
-devices_by plan (FinishSending r st) S f s k d =
-    let sent : is_sent (place_of S.requests r.0) ≡ true = both_left (is_sent (place_of S.requests r.0)) (is_undone S.targets r.0) f in
-    moves_one plan S.requests r.0 (finished_at (is_forgotten S.targets r.0) st (place_of S.requests r.0)) (fits_finished plan (is_forgotten S.targets r.0) st (place_of S.requests r.0) (info_of S.requests r.0).device.0 sent) (finished (is_forgotten S.targets r.0) st (place_of S.requests r.0) sent) d
-devices_by plan (ComeBack r) S f s k d =
-    let sent : is_sent (place_of S.requests r.0) ≡ true = both_left (is_sent (place_of S.requests r.0)) (is_some (routine_due S.targets r.0)) f in
-    moves_one plan S.requests r.0 place.Owned tt (from_sent (place_of S.requests r.0) sent) d
-devices_by plan (CompleteRequest r) S f s k d =
-    same_requests plan (requests.complete S.requests r.0) (do_deed plan (CompleteRequest r) S).requests
-    (asks_all requests_of (λ S T D W U. refl) (subtree (give_up S r.0).tree r.0) (record (give_up S r.0) { requests = requests.complete S.requests r.0 }))
-    (moves_one plan S.requests r.0 place.Done tt refl d)
-devices_by plan (PurgeQueue q) S f s k d =
-    all_withdrawn plan q.0 (waiting_in S.queues q.0) (record S { control = control.set_mode S.control q.0 mode.Purged }) (λ r more. waiting_of plan S q.0 r k d more) d
-devices_by plan (CloseReturning x) S f s k d = all_returning plan (managed_queues plan x.0) S d
-devices_by plan (CloseDevice x) S f s k d = all_closed plan (queues_of plan x.0) (record S { control = control.shut S.control x.0 }) d
-devices_by plan _ S f s k d = d
-
--- ---- each place of a run
+goes_well : {A : Type 0} (plan : Plan) (d : Deed) (S : State A) → Sound plan d S → GoesWell plan (OfItsDevice plan) d S
+goes_well plan (Arrive device info p) S s = (s.1, arrives plan p info.device.0 device.0 info.form s.0 s.2)
+goes_well plan (Requeue r q) S s = s
+goes_well plan (Forward r q) S s = s
+goes_well plan (GiveBack r q) S s = s
+goes_well plan _ S s = tt
 
 abbrev Devices : {A : Type 0} → Plan → State A → Type 0
-Devices plan S = Placed S × OfDevices plan S.requests
-
-placed : {A : Type 0} {F B : ℕ → Bool} (S : State A) → KeptIn F B S → Placed S
-placed S k = record {
-  queued = k.queued;
-  sent = k.sent;
-  room = k.room;
-  kinds = k.kinds;
-  made = k.made;
-  returns = k.returns;
-  ended = λ r h. absurd (let z : ⊥ = cc in z);
-  numbered = λ r h. absurd (let z : ⊥ = cc in z);
-  begun = λ r h. refl;
-}
-
-opening_placed : {A : Type 0} (plan : Plan) (m : Meaning A) → Placed (opening plan m)
-unfolding state_after
-opening_placed plan m = placed (opening plan m) (history_now plan m [] (run_opens (ready plan m))).kept
+Devices plan S = Placed S × AllSuited plan (OfItsDevice plan) S.requests
 
 pub devices_at_each : {A : Type 0} (plan : Plan) (m : Meaning A) (run : List Event) → IsRunOf plan m run → (n : ℕ) → Devices plan (state_after plan m (take n run))
-devices_at_each {A} plan m run is_run n = sound_place plan m (λ (S : State A). Devices plan S) (opening_placed plan m, λ r. blank_fits plan)
-    (λ d S f s k. (deed_keeps plan d S f (λ _. refl) k.0, devices_by plan d S f s k.0 k.1)) (λ e S k. k) run is_run n
+devices_at_each {A} plan m run is_run n = sound_place plan m (λ (S : State A). Devices plan S) (suited_first plan (OfItsDevice plan) m)
+    (λ d S f s k. suited_by plan (OfItsDevice plan) d S f (goes_well plan d S s) k) (λ e S k. k) run is_run n
 
 pub waiting_agree_at_each : {A : Type 0} (plan : Plan) (m : Meaning A) (run : List Event) → IsRunOf plan m run → (n : ℕ) → WaitingAgree plan (state_after plan m (take n run))
 waiting_agree_at_each plan m run is_run n =
     let k = devices_at_each plan m run is_run n in
-    record { device = λ q r more. waiting_of plan (state_after plan m (take n run)) q r k.0 k.1 more }
+    record { device = λ q r more. waiting_suits plan (OfItsDevice plan) (state_after plan m (take n run)) q r k.0 k.1 more }

@@ -109,13 +109,8 @@ work_sound plan S o = either_sound plan S (is_live (life_of S.tree o)) (success 
 
 -- an object of the kind Interrupt is a declared one
 interrupt_by : (d : Option Declared) → option_and_then declared_kind d ≡ Some kind.Interrupt → is_some (as_interrupt d) ≡ true
-interrupt_by None h = absurd (let z : ⊥ = cc in z)
-interrupt_by (Some declared.Driver) h = absurd (let z : ⊥ = cc in z)
-interrupt_by (Some (declared.Device d)) h = absurd (let z : ⊥ = cc in z)
-interrupt_by (Some (declared.Queue q)) h = absurd (let z : ⊥ = cc in z)
 interrupt_by (Some (declared.Interrupt i)) h = refl
-interrupt_by (Some (declared.Target t)) h = absurd (let z : ⊥ = cc in z)
-interrupt_by (Some (declared.OfClass c)) h = absurd (let z : ⊥ = cc in z)
+interrupt_by _ h = absurd (let z : ⊥ = cc in z)
 
 is_interrupt : {A : Type 0} (plan : Plan) (S : State A) (o : ℕ) → DeclaredAgree plan S → same_kind (kind_of S.tree o) kind.Interrupt ≡ true → is_some (interrupt_of plan o) ≡ true
 is_interrupt plan S o d h =
@@ -131,42 +126,23 @@ outcome_sound plan S cpu f call.WdfRequestCreate n a b x d h = create_sound plan
 outcome_sound plan S cpu f call.WdfDpcCreate n a b x d h = create_sound plan S (class_in a) (parent_of_class plan (class_in a))
 outcome_sound plan S cpu f call.WdfTimerCreate n a b x d h = create_sound plan S (class_in a) (parent_of_class plan (class_in a))
 outcome_sound plan S cpu f call.WdfWorkItemCreate n a b x d h = create_sound plan S (class_in a) (parent_of_class plan (class_in a))
-outcome_sound plan S cpu f call.WdfObjectDelete n a b x d h = (tt, tt)
-outcome_sound plan S cpu f call.WdfObjectReference n a b x d h = (tt, tt)
-outcome_sound plan S cpu f call.WdfObjectDereference n a b x d h = (tt, tt)
 outcome_sound plan S cpu f call.GetContext n a b x d h = tt
-outcome_sound plan S cpu f call.SetContext n a b x d h = (tt, tt)
-outcome_sound plan S cpu f call.WdfSpinLockAcquire n a b x d h = (tt, tt)
 outcome_sound plan S cpu f call.WdfSpinLockRelease n a b x d h = (tt, (tt, tt))
-outcome_sound plan S cpu f call.WdfWaitLockAcquire n a b x d h = (tt, tt)
 outcome_sound plan S cpu f call.WdfWaitLockRelease n a b x d h = (tt, (tt, tt))
-outcome_sound plan S cpu f call.WdfInterruptAcquireLock n a b x d h = (tt, tt)
 outcome_sound plan S cpu f call.WdfInterruptReleaseLock n a b x d h = (tt, (tt, tt))
-outcome_sound plan S cpu f call.WdfRequestComplete n a b x d h = (tt, tt)
 outcome_sound plan S cpu f call.WdfRequestMarkCancelableEx n a b x d h = mark_sound plan S (object_in a)
-outcome_sound plan S cpu f call.WdfRequestUnmarkCancelable n a b x d h = (tt, tt)
 outcome_sound plan S cpu f call.WdfRequestIsCanceled n a b x d h = tt
 outcome_sound plan S cpu f call.WdfRequestRequeue n a b x d h = requeue_sound plan S (object_in a)
 outcome_sound plan S cpu f call.WdfRequestForwardToIoQueue n a b x d h = forward_sound plan S (object_in a) (object_in b)
 outcome_sound plan S cpu f call.WdfRequestStopAcknowledge n a b x d h = acknowledge_sound plan S (object_in a) b
 outcome_sound plan S cpu f call.WdfRequestSend n a b x d h = send_sound plan S (object_in a) (object_in b) (arg_is x 1)
 outcome_sound plan S cpu f call.WdfRequestCancelSentRequest n a b x d h = tt
-outcome_sound plan S cpu f call.WdfIoQueueStart n a b x d h = (tt, tt)
-outcome_sound plan S cpu f call.WdfIoQueueStop n a b x d h = (tt, tt)
-outcome_sound plan S cpu f call.WdfIoQueueDrain n a b x d h = (tt, tt)
-outcome_sound plan S cpu f call.WdfIoQueuePurge n a b x d h = (tt, tt)
-outcome_sound plan S cpu f call.WdfIoQueueStopSynchronously n a b x d h = (tt, tt)
-outcome_sound plan S cpu f call.WdfIoQueueDrainSynchronously n a b x d h = (tt, tt)
-outcome_sound plan S cpu f call.WdfIoQueuePurgeSynchronously n a b x d h = (tt, tt)
 outcome_sound plan S cpu f call.WdfIoQueueRetrieveNextRequest n a b x d h = retrieve_sound plan S (object_in a)
 outcome_sound plan S cpu f call.WdfIoQueueReadyNotify n a b x d h = notify_sound plan S (object_in a) b
 outcome_sound plan S cpu f call.WdfInterruptQueueDpcForIsr n a b x d h =
     isr_sound plan S cpu (object_in a) (is_interrupt plan S (object_in a) d (first_kind (view_of plan S cpu f) kind.Interrupt a (wrong_kind_of_first (view_of plan S cpu f) (record { kind = call.WdfInterruptQueueDpcForIsr; count = n; a = a; b = b; c = x }) (h fault.WrongKind))))
 outcome_sound plan S cpu f call.WdfDpcEnqueue n a b x d h = dpc_sound plan S cpu (object_in a)
-outcome_sound plan S cpu f call.WdfDpcCancel n a b x d h = (tt, tt)
 outcome_sound plan S cpu f call.WdfTimerStart n a b x d h = timer_sound plan S (object_in a) (number_in b)
-outcome_sound plan S cpu f call.WdfTimerStop n a b x d h = (tt, tt)
 outcome_sound plan S cpu f call.WdfWorkItemEnqueue n a b x d h = work_sound plan S (object_in a)
 outcome_sound plan S cpu f call.WdfWorkItemFlush n a b x d h = tt
-outcome_sound plan S cpu f call.WdfIoTargetStop n a b x d h = (tt, tt)
-outcome_sound plan S cpu f call.WdfIoTargetStart n a b x d h = (tt, tt)
+outcome_sound plan S cpu f _ n a b x d h = (tt, tt)

@@ -141,12 +141,10 @@ start_effect_sound plan S cpu c o None = effect_sound plan S (row_of c).rank cpu
 start_effect_sound plan S cpu c o (Some r) = effect_for_sound plan S (row_of c).rank o r.id.0
 
 there_by : {A : Type 0} (S : State A) (c : Callback) (o : ℕ) (l : Life) → life_of S.tree o ≡ l → life_fits S c o ≡ true → is_gone l ≡ false
-there_by S c o life.Live e h = refl
-there_by S c o life.Asked e h = refl
-there_by S c o life.Cleaned e h = refl
 there_by S callback.EvtCleanupCallback o life.Gone e h = absurd (let k = rw e at h in let z : ⊥ = cc in z)
 there_by S callback.EvtDestroyCallback o life.Gone e h = absurd (let k = rw e at h in let z : ⊥ = cc in z)
 there_by S _ o life.Gone e h = absurd (let k = rw e at h in let z : ⊥ = cc in z)
+there_by S c o _ e h = refl
 
 fresh : {A : Type 0} (plan : Plan) (S : State A) → Known plan S → on S.cpus (next_number S) ≡ 0
 fresh plan S k = elim (none_or_some (on S.cpus (next_number S))) [
@@ -373,8 +371,5 @@ event_sound plan m S (event.Unpark k f) known none h =
 event_sound plan m S (event.End k c o v) known none h = end_sound plan S k.0 c o v known none (end_tells plan m S k c o v h)
 event_sound plan m S (event.Fault k x line) known none h = tt
 event_sound plan m S (event.Stage d s i) known none h = (tt, (tt, stage_sound plan _ d.id.0 s i))
-event_sound plan m S (event.Complete r s) known none h = (tt, tt)
-event_sound plan m S (event.Cleanup o) known none h = (tt, tt)
-event_sound plan m S (event.Destroy o) known none h = (tt, tt)
 event_sound plan m S (event.Posted agent p answer) known none h = post_sound plan S agent p
-event_sound plan m S (event.Tick time) known none h = (tt, tt)
+event_sound plan m S _ known none h = (tt, tt)

@@ -50,12 +50,8 @@ open_by true false sent h k = absurd (let z : ⊥ = cc in z)
 open_by false done sent h k = absurd (let z : ⊥ = cc in z)
 
 not_sent : (p : Place) → is_done p ≡ true → is_sent p ≡ false
-not_sent place.Done h = refl
-not_sent place.Owned h = refl
-not_sent (place.Queued q) h = refl
-not_sent (place.Returning q) h = refl
-not_sent (place.Closing s) h = refl
 not_sent (place.Sent t) h = absurd (let z : ⊥ = cc in z)
+not_sent _ h = refl
 
 sent_by : (p : Place) (arrived : Bool) → ((arrived && not (is_done p)) || (not arrived && is_sent p)) ≡ false → is_sent p ≡ false
 sent_by p true h = not_sent p (open_by true (is_done p) (is_sent p) h refl)

@@ -36,7 +36,7 @@ use Rattle.wdf_model.specs.rules.Waits.{above_in, ahead, all_cpus, by_frame, by_
 use Rattle.wdf_model.proofs.Tests.{both, first, second}
 use Rattle.wdf_blame.specs.Causes.{all_taken, has_lock, is_above, is_before, is_held_lock, is_so, is_taken, is_there, keeps, keeps_below, keeps_call, keeps_frame, keeps_parked, keeps_pending, keeps_queued, keeps_returning, runs_on}
 use Rattle.wdf_blame.proofs.Members.{Each, Has}
-use Rattle.wdf_blame.proofs.Gives.{Gives, IfThere, all_alike, any_has, each_chosen, each_mapped, gives_first, gives_frame, gives_if, gives_map, gives_none, gives_request, has_either, has_gathered, has_kept, it_contains, least_has, same}
+use Rattle.wdf_blame.proofs.Gives.{Gives, IfThere, all_alike, any_has, gives_first, gives_frame, gives_if, gives_map, gives_none, gives_request, has_either, has_gathered, has_kept, it_contains, least_has, same}
 
 -- ---- processors
 
@@ -265,16 +265,10 @@ so_by plan S t (Some x) g = g x refl
 abbrev pub LineSo : {A : Type 0} → Plan → State A → WaitLine → Type 0
 LineSo plan S l = is_so plan S l.thing l.cause ≡ true
 
-request_so : {A : Type 0} (plan : Plan) (S : State A) (r : ℕ) (p : Place) → PlacesAgree S → place_of S.requests r ≡ p → IfThere (LineSo plan S) (request_line plan S r p)
+pub request_so : {A : Type 0} (plan : Plan) (S : State A) (r : ℕ) (p : Place) → PlacesAgree S → place_of S.requests r ≡ p → IfThere (LineSo plan S) (request_line plan S r p)
 request_so plan S r place.Owned k e = refl
 request_so plan S r (place.Sent t) k e = refl
 request_so plan S r (place.Queued q) k e = so_by plan S (thing.Queued (handle_in plan S r) (handle_in plan S q.0)) (queued_cause plan S q.0 r) (queued_so plan S q.0 r (waits_there S q r k e))
 request_so plan S r (place.Returning q) k e = so_by plan S (thing.Returning (handle_in plan S r) (handle_in plan S q.0)) (returning_cause plan S q.0) (returning_so plan S q.0)
 request_so plan S r (place.Closing s) k e = tt
 request_so plan S r place.Done k e = tt
-
-pub frame_lines_so : {A : Type 0} (plan : Plan) (S : State A) (fs : List ℕ) → Each (LineSo plan S) (map (frame_line plan S) fs)
-frame_lines_so plan S fs = each_mapped (LineSo plan S) (frame_line plan S) (λ f. so_by plan S (frame_line plan S f).thing (frame_cause plan S f) (frame_so plan S f)) fs
-
-pub request_lines_so : {A : Type 0} (plan : Plan) (S : State A) (rs : List ℕ) → PlacesAgree S → Each (LineSo plan S) (filter_map (λ r. request_line plan S r (place_of S.requests r)) rs)
-request_lines_so plan S rs k = each_chosen (LineSo plan S) (λ r. request_line plan S r (place_of S.requests r)) (λ r. request_so plan S r (place_of S.requests r) k refl) rs

@@ -130,18 +130,6 @@ pub each_behind : {T : Type 0} (P : T → Type 0) (xs ys : List T) → Each P xs
 each_behind P [] ys h k = k
 each_behind P (x ∷ xs) ys h k = (h.0, each_behind P xs ys h.1 k)
 
-pub each_mapped : {T U : Type 0} (P : U → Type 0) (f : T → U) → ((x : T) → P (f x)) → (xs : List T) → Each P (map f xs)
-each_mapped P f h [] = tt
-each_mapped P f h (x ∷ xs) = (h x, each_mapped P f h xs)
-
 abbrev pub IfThere : {U : Type 0} → (U → Type 0) → Option U → Type 0
 IfThere P None = ⊤
 IfThere P (Some y) = P y
-
-chosen_by : {T U : Type 0} (P : U → Type 0) (f : T → Option U) (x : T) (xs : List T) (o : Option U) → f x ≡ o → IfThere P o → Each P (filter_map f xs) → Each P (filter_map f (x ∷ xs))
-chosen_by P f x xs None e h rest = rw e rest
-chosen_by P f x xs (Some y) e h rest = rw e (h, rest)
-
-pub each_chosen : {T U : Type 0} (P : U → Type 0) (f : T → Option U) → ((x : T) → IfThere P (f x)) → (xs : List T) → Each P (filter_map f xs)
-each_chosen P f h [] = tt
-each_chosen P f h (x ∷ xs) = chosen_by P f x xs (f x) refl (h x) (each_chosen P f h xs)

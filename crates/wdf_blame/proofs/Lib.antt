@@ -3,6 +3,7 @@ pub mod Endings
 pub mod Finished
 pub mod Listed
 pub mod Gives
+pub mod EachLine
 pub mod Forms
 pub mod Objects
 pub mod Told

@@ -41,7 +41,7 @@ use Rattle.wdf_model.proofs.Maps.{entry_before, entry_past}
 use Rattle.wdf_invariants.proofs.StepsOverRuns.{frames_agree_at_each}
 use Rattle.wdf_invariants.proofs.DeclaredOverRuns.{declared_agree_at_each}
 use Rattle.wdf_blame.specs.Open.{asked_thing, device_thing, frame_thing, frames_there, open_things, request_thing, sequence_thing, things_of}
-use Rattle.wdf_blame.proofs.Members.{Has, chosen, each_kept, has_back, has_flat, has_mapped, has_range, map_behind, map_twice, same_kept}
+use Rattle.wdf_blame.proofs.Members.{Has, below_range, chosen, each_kept, has_back, has_flat, has_mapped, has_range, map_behind, map_twice, same_kept}
 use Rattle.wdf_blame.proofs.Endings.{AtRest, at_rest, at_the_end, may_not, stuck_lines}
 
 -- ---- frames
@@ -67,18 +67,7 @@ first_device n ns e = stays (own_device [] 0 n ∷ []) ns 0 (omega arith) ∙ rw
 
 no_device_by : (k : Kind) → (is_declared_kind k ≡ true → None ≡ Some k) → same_kind k kind.Device ≡ false
 no_device_by kind.Device h = absurd (let k = h refl in let z : ⊥ = cc in z)
-no_device_by kind.Driver h = refl
-no_device_by kind.Queue h = refl
-no_device_by kind.Interrupt h = refl
-no_device_by kind.Target h = refl
-no_device_by kind.Dpc h = refl
-no_device_by kind.Timer h = refl
-no_device_by kind.WorkItem h = refl
-no_device_by kind.SpinLock h = refl
-no_device_by kind.WaitLock h = refl
-no_device_by kind.General h = refl
-no_device_by kind.Request h = refl
-no_device_by kind.Made h = refl
+no_device_by _ h = refl
 
 -- the id 0 is no device, so the device nearest to it is the driver object
 nearest_by : (nodes : List Node) → same_kind (entry gone nodes 0).kind kind.Device ≡ false → 0 < length nodes → entry 1 (nearest_devices [] nodes) 0 ≡ 1
@@ -136,24 +125,12 @@ HasLine line o = (l : WaitLine) × (line ≡ Some l) × (o ≡ Some l.thing)
 open_is : (p : Place) (arrived : Bool) → ((arrived && not (is_done p)) || (not arrived && is_sent p)) ≡ true → is_done p ≡ false
 open_is place.Done true h = absurd (let z : ⊥ = cc in z)
 open_is place.Done false h = absurd (let z : ⊥ = cc in z)
-open_is place.Owned a h = refl
-open_is (place.Queued q) a h = refl
-open_is (place.Returning q) a h = refl
-open_is (place.Closing s) a h = refl
-open_is (place.Sent t) a h = refl
+open_is _ a h = refl
 
 request_has : {A : Type 0} (plan : Plan) (S : State A) (r : ℕ) (p : Place) → is_done p ≡ false → ((s : Status) → p ≡ place.Closing s → ⊥) → HasLine (request_line plan S r p) (request_thing plan S r p)
-request_has plan S r place.Owned h k = (_, refl, refl)
-request_has plan S r (place.Sent t) h k = (_, refl, refl)
-request_has plan S r (place.Queued q) h k = (_, refl, refl)
-request_has plan S r (place.Returning q) h k = (_, refl, refl)
 request_has plan S r (place.Closing s) h k = absurd (k s refl)
 request_has plan S r place.Done h k = absurd (let z : ⊥ = cc in z)
-
-below_range : (x a n : ℕ) → Has x (range_with_len a n) → x < a + n
-below_range x a zero h = absurd h
-below_range x a (suc n) (inl e) = omega arith
-below_range x a (suc n) (inr h) = let less : x < (a + 1) + n = below_range x (a + 1) n h in omega arith
+request_has plan S r _ h k = (_, refl, refl)
 
 requests_listed : {A : Type 0} (plan : Plan) (m : Meaning A) (S : State A) → AtRest plan m S true
     → things_of (filter_map (λ r. request_line plan S r (place_of S.requests r)) (open_requests S)) ≡ map (λ r. request_thing plan S r (place_of S.requests r)) (open_requests S)
@@ -179,22 +156,16 @@ devices_listed plan S =
 -- ---- the Plug and Play manager
 
 asking_by : {A : Type 0} (S : State A) (p : Option Post) (b : Bool) → is_open_post S p ≡ b → things_of (asking_line S p) ≡ asked_thing b p
-asking_by S None true e = absurd (let z : ⊥ = cc in z)
 asking_by S None false e = refl
 asking_by S (Some (post.Ask a device)) true e = rw e refl
 asking_by S (Some (post.Ask a device)) false e = rw e refl
-asking_by S (Some (post.Read d n)) true e = absurd (let z : ⊥ = cc in z)
 asking_by S (Some (post.Read d n)) false e = refl
-asking_by S (Some (post.Write d n)) true e = absurd (let z : ⊥ = cc in z)
 asking_by S (Some (post.Write d n)) false e = refl
-asking_by S (Some (post.Control d c n)) true e = absurd (let z : ⊥ = cc in z)
 asking_by S (Some (post.Control d c n)) false e = refl
-asking_by S (Some (post.Cancel k)) true e = absurd (let z : ⊥ = cc in z)
 asking_by S (Some (post.Cancel k)) false e = refl
-asking_by S (Some (post.Act a)) true e = absurd (let z : ⊥ = cc in z)
 asking_by S (Some (post.Act a)) false e = refl
-asking_by S (Some (post.Done r t)) true e = absurd (let z : ⊥ = cc in z)
 asking_by S (Some (post.Done r t)) false e = refl
+asking_by S _ true e = absurd (let z : ⊥ = cc in z)
 
 -- ---- the law
 

@@ -47,6 +47,11 @@ has_range x a (suc n) low high = elim (one_or_two x a) [
   | inr d ↦ inr (has_range x (a + 1) n (omega arith) (omega arith))
 ]
 
+pub below_range : (x a n : ℕ) → Has x (range_with_len a n) → x < a + n
+below_range x a zero h = absurd h
+below_range x a (suc n) (inl e) = omega arith
+below_range x a (suc n) (inr h) = let less : x < (a + 1) + n = below_range x (a + 1) n h in omega arith
+
 none_by : {T : Type 0} (p : T → Bool) (y : T) (ys : List T) (b : Bool) → p y ≡ b → filter p (y ∷ ys) ≡ [] → (p y ≡ false) × (filter p ys ≡ [])
 none_by p y ys true e h = absurd (let k : y ∷ filter p ys ≡ [] = (rw e at h) in let z : ⊥ = cc in z)
 none_by p y ys false e h = (e, rw e at h)

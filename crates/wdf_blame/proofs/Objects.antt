@@ -17,7 +17,7 @@ use Rattle.wdf_model.specs.rules.Waits.{at_target, by_frame, cause_if, children_
 use Rattle.wdf_model.proofs.Tests.{both, first, second}
 use Rattle.wdf_blame.specs.Causes.{has_lock, is_child_ahead, is_sibling_ahead, is_there, keeps_object, runs_on, uses}
 use Rattle.wdf_blame.proofs.Members.{Each, Has}
-use Rattle.wdf_blame.proofs.Gives.{Gives, each_mapped, gives_first, gives_frame, gives_if, gives_map, gives_none, has_either, has_kept, it_contains, least_has, same}
+use Rattle.wdf_blame.proofs.Gives.{Gives, gives_first, gives_frame, gives_if, gives_map, gives_none, has_either, has_kept, it_contains, least_has, same}
 use Rattle.wdf_blame.proofs.Forms.{LineSo, lock_of_list, none_left, on_object, so_by}
 
 -- ---- tests
@@ -105,11 +105,7 @@ taken_by false false false false h = h
 
 at_place : (p : Place) (t : ℕ) → target_of_place p ≡ Some t → is_sent_to t p ≡ true
 at_place (place.Sent u) t e = rw (same_Some u.0 t e) (same t)
-at_place place.Owned t e = absurd (let z : ⊥ = cc in z)
-at_place place.Done t e = absurd (let z : ⊥ = cc in z)
-at_place (place.Queued q) t e = absurd (let z : ⊥ = cc in z)
-at_place (place.Returning q) t e = absurd (let z : ⊥ = cc in z)
-at_place (place.Closing s) t e = absurd (let z : ⊥ = cc in z)
+at_place _ t e = absurd (let z : ⊥ = cc in z)
 
 target_by : {A : Type 0} (plan : Plan) (S : State A) (o : ℕ) (b : Bool) → is_undone S.targets o ≡ b
     → Gives (keeps_object plan S o) (if b then option_map (λ t. cause.AtTarget (handle_in plan S t)) (target_of_place (place_of S.requests o)) else None)
@@ -122,7 +118,7 @@ references_by : (cleaned : Bool) (n : ℕ) → (cleaned && nat_lt 0 n) ≡ true 
 references_by true n h = rw (same n) h
 references_by false n h = h
 
-object_so : {A : Type 0} (plan : Plan) (S : State A) (o : ℕ) → Gives (keeps_object plan S o) (object_cause plan S o)
+pub object_so : {A : Type 0} (plan : Plan) (S : State A) (o : ℕ) → Gives (keeps_object plan S o) (object_cause plan S o)
 object_so plan S o =
     gives_first (keeps_object plan S o)
     (references_cause S o
@@ -147,6 +143,3 @@ object_so plan S o =
         ),
       ),
     )
-
-pub object_lines_so : {A : Type 0} (plan : Plan) (S : State A) (os : List ℕ) → Each (LineSo plan S) (map (object_line plan S) os)
-object_lines_so plan S os = each_mapped (LineSo plan S) (object_line plan S) (λ o. so_by plan S (object_line plan S o).thing (object_cause plan S o) (object_so plan S o)) os

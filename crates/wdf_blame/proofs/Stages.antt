@@ -59,7 +59,7 @@ use Rattle.wdf_model.specs.rules.Waits.{asking_line, by_request, deferred_line, 
 use Rattle.wdf_blame.specs.Caused.{is_stage}
 use Rattle.wdf_blame.proofs.Members.{none_passes}
 use Rattle.wdf_blame.proofs.Endings.{at_rest, stuck_lines}
-use Rattle.wdf_blame.proofs.Gives.{each_behind}
+use Rattle.wdf_blame.proofs.EachLine.{OfLines, each_line}
 use Rattle.wdf_blame.proofs.Tops.{frame_named, held_now}
 use Rattle.wdf_blame.proofs.Needs.{front_none, framework_group, none_first, none_least, none_there, object_named, placed_at, some_or, unheld, free_hold}
 
@@ -75,16 +75,16 @@ no_entry : {T : Type 0} (blank : T) (p : T → Bool) (xs : List T) → ((x : ℕ
 no_entry blank p [] h = refl
 no_entry blank p (x ∷ xs) h = rw (h 0 (omega arith)) (no_entry blank p xs (λ k low. h (suc k) (omega arith)))
 
-neither : (a b : Bool) → (a || b) ≡ false → (a ≡ false) × (b ≡ false)
+pub neither : (a b : Bool) → (a || b) ≡ false → (a ≡ false) × (b ≡ false)
 neither true b h = absurd (let z : ⊥ = cc in z)
 neither false b h = (refl, h)
 
-none_of : (p : ℕ → Bool) (xs : List ℕ) → list_any p xs ≡ false → (x : ℕ) → Has x xs → p x ≡ false
+pub none_of : (p : ℕ → Bool) (xs : List ℕ) → list_any p xs ≡ false → (x : ℕ) → Has x xs → p x ≡ false
 none_of p [] h x k = absurd k
 none_of p (y ∷ ys) h x (inl e) = ap p e ∙ (neither (p y) (list_any p ys) h).0
 none_of p (y ∷ ys) h x (inr k) = none_of p ys (neither (p y) (list_any p ys) h).1 x k
 
-each_one : (p : ℕ → Bool) (xs : List ℕ) → ((x : ℕ) → Has x xs → p x ≡ true) → list_all p xs ≡ true
+pub each_one : (p : ℕ → Bool) (xs : List ℕ) → ((x : ℕ) → Has x xs → p x ≡ true) → list_all p xs ≡ true
 each_one p [] h = refl
 each_one p (x ∷ xs) h = both (p x) (list_all p xs) (h x (inl refl)) (each_one p xs (λ y k. h y (inr k)))
 
@@ -93,7 +93,7 @@ each_one p (x ∷ xs) h = both (p x) (list_all p xs) (h x (inl refl)) (each_one 
 stage_decides : (a b : Stage) → Decides (same_stage a b) (a ≡ b)
 stage_decides a b = search rules
 
-handle_itself : (i : Option Handle) → same_option same_handle i i ≡ true
+pub handle_itself : (i : Option Handle) → same_option same_handle i i ≡ true
 handle_itself None = refl
 handle_itself (Some h) = (handle_decides h h).1 refl
 
@@ -117,26 +117,33 @@ ready_by plan S d stage.Removed i is rs fs = drained_by plan S d rs
 ready_by plan S d stage.Quiet i is rs fs = absurd (let z : ⊥ = cc in z)
 ready_by plan S d _ i is rs fs = refl
 
+-- a step that isn't kept by the step before it
+pub stepping : {A : Type 0} (S : State A) (d : ℕ) (s : Step) → same_step s s ≡ true → next_step S.pnp d ≡ Some s → not (is_running_step S.pnp d) ≡ true → (not (follows_queues_up S.pnp d) || resumes_over S d) ≡ true → step_ready S d s ≡ true
+stepping S d s same next calm free =
+    both (same_option same_step (next_step S.pnp d) (Some s) && not (is_running_step S.pnp d)) (not (follows_queues_up S.pnp d) || resumes_over S d)
+    (both (same_option same_step (next_step S.pnp d) (Some s)) (not (is_running_step S.pnp d)) (rw next same) calm) free
+
+-- a stage that is ready comes
+pub stage_comes : {A : Type 0} (plan : Plan) (m : Meaning A) (S : State A) → AtRest plan m S true → (d : ℕ) (s : Stage) (i : Option Handle) → d < declared_end plan → next_step S.pnp d ≡ Some (step.Pass s i)
+    → not (is_running_step S.pnp d) ≡ true → (not (follows_queues_up S.pnp d) || resumes_over S d) ≡ true → stage_ready plan S d s i ≡ true → ⊥
+stage_comes plan m S rest d s i low next calm free ready =
+    let e0 : Event = event.Stage (handle_in plan S d) s i in
+    let here : candidate plan m S group.Stages d ≡ Some e0 = rw next refl in
+    let offered : Has e0 (candidates plan m S) = framework_group plan m S group.Stages e0 (inl refl) (placed_at plan m S group.Stages (declared_end plan) d e0 low here) in
+    let no : may plan m S e0 ≡ false = may_not plan m S true e0 rest offered in
+    let yes : may plan m S e0 ≡ true =
+    both (is_proper plan S (handle_in plan S d)) (may_pass plan S d s i) (itself (handle_in plan S d).name)
+    (both (step_ready S d (step.Pass s i)) (stage_ready plan S d s i) (stepping S d (step.Pass s i) (stage_itself s i) next calm free) ready) in
+    let z : ⊥ = cc in z
+
 stage_waits : {A : Type 0} (plan : Plan) (m : Meaning A) (S : State A) → AtRest plan m S true → (d : ℕ) (s : Stage) (i : Option Handle) → d < declared_end plan → next_step S.pnp d ≡ Some (step.Pass s i)
     → is_stage (step.Pass s i) ≡ true → not (is_running_step S.pnp d) ≡ true → not (follows_queues_up S.pnp d) ≡ true → step_cause plan S d (step.Pass s i) ≡ None → ⊥
 stage_waits plan m S rest d s i low next is calm early h =
-    let e0 : Event = event.Stage (handle_in plan S d) s i in
     let one = none_first (by_request plan S (stage_requests plan S d s)) (by_frame (stage_frames plan S d s i) ∷ cause_if (stage_cpus plan S d s) cause.NoCpu ∷ []) h in
     let two = none_first (by_frame (stage_frames plan S d s i)) (cause_if (stage_cpus plan S d s) cause.NoCpu ∷ []) one.1 in
     let rs = none_least (λ r. cause.ByRequest (handle_in plan S r)) (stage_requests plan S d s) one.0 in
     let fs = none_least (λ f. cause.ByFrame (frame_id f)) (stage_frames plan S d s i) two.0 in
-    let here : candidate plan m S group.Stages d ≡ Some e0 = rw next refl in
-    let offered : Has e0 (candidates plan m S) = framework_group plan m S group.Stages e0 (inl refl) (placed_at plan m S group.Stages (declared_end plan) d e0 low here) in
-    let no : may plan m S e0 ≡ false = may_not plan m S true e0 rest offered in
-    let same_next : same_option same_step (next_step S.pnp d) (Some (step.Pass s i)) ≡ true = rw next (stage_itself s i) in
-    let stepping : step_ready S d (step.Pass s i) ≡ true =
-    three (same_option same_step (next_step S.pnp d) (Some (step.Pass s i))) (not (is_running_step S.pnp d)) (not (follows_queues_up S.pnp d) || resumes_over S d) same_next calm (first (not (follows_queues_up S.pnp d)) (resumes_over S d) early) in
-    let yes : may plan m S e0 ≡ true =
-    both (is_proper plan S (handle_in plan S d)) (may_pass plan S d s i) (itself (handle_in plan S d).name) (both (step_ready S d (step.Pass s i)) (stage_ready plan S d s i) stepping (ready_by plan S d s i is rs fs)) in
-    let z : ⊥ = cc in z
-  where
-    three : (a b c : Bool) → a ≡ true → b ≡ true → c ≡ true → (a && b && c) ≡ true
-    three a b c h k l = both (a && b) c (both a b h k) l
+    stage_comes plan m S rest d s i low next calm (first (not (follows_queues_up S.pnp d)) (resumes_over S d) early) (ready_by plan S d s i is rs fs)
 
 -- ---- the lines
 
@@ -164,88 +171,21 @@ device_named plan m S rest d low (Some s) next e k = λ h. absurd (running_off (
 device_named plan m S rest d low None (Some s) e k = stage_named plan m S rest d s low k
 device_named plan m S rest d low None None e k = tt
 
-in_range : (x a n : ℕ) → Has x (range_with_len a n) → x < a + n
-in_range x a zero h = absurd h
-in_range x a (suc n) (inl e) = omega arith
-in_range x a (suc n) (inr h) = let less : x < (a + 1) + n = in_range x (a + 1) n h in omega arith
-
-mapped_in : {T U : Type 0} (P : U → Type 0) (f : T → U) (xs : List T) → ((x : T) → Has x xs → P (f x)) → Each P (map f xs)
-mapped_in P f [] h = tt
-mapped_in P f (x ∷ xs) h = (h x (inl refl), mapped_in P f xs (λ y k. h y (inr k)))
-
-chosen_by : {T U : Type 0} (P : U → Type 0) (f : T → Option U) (x : T) (xs : List T) (o : Option U) → f x ≡ o → IfThere P o → Each P (filter_map f xs) → Each P (filter_map f (x ∷ xs))
-chosen_by P f x xs None e h rest = rw e rest
-chosen_by P f x xs (Some y) e h rest = rw e (h, rest)
-
-chosen_in : {T U : Type 0} (P : U → Type 0) (f : T → Option U) (xs : List T) → ((x : T) → Has x xs → IfThere P (f x)) → Each P (filter_map f xs)
-chosen_in P f [] h = tt
-chosen_in P f (x ∷ xs) h = chosen_by P f x xs (f x) refl (h x (inl refl)) (chosen_in P f xs (λ y k. h y (inr k)))
-
-devices_named : {A : Type 0} (plan : Plan) (m : Meaning A) (S : State A) → AtRest plan m S true → Each (Named plan S) (filter_map (device_line plan S) (open_devices plan S))
-devices_named plan m S rest =
-    chosen_in (Named plan S) (device_line plan S) (open_devices plan S)
-    (λ d there.
-    let kept = has_kept (λ x. nat_lt 0 (length (steps_left S.pnp x))) d (devices_of plan) there in
-    let low : d < 0 + declared_end plan = in_range d 0 (declared_end plan) (has_kept (λ x. is_some (device_of plan x)) d (range_with_len 0 (declared_end plan)) kept.1).1 in
-    device_named plan m S rest d (omega arith) (running_step S.pnp d) (next_step S.pnp d) refl refl)
-
-objects_named : {A : Type 0} (plan : Plan) (m : Meaning A) (S : State A) → AtRest plan m S true → Each (Named plan S) (map (object_line plan S) (open_objects S))
-objects_named plan m S rest =
-    mapped_in (Named plan S) (object_line plan S) (open_objects S)
-    (λ o there.
-    let kept = has_kept (is_leaving S) o (ids_of S.tree.nodes) there in
-    let low : o < 0 + next_id S.tree = in_range o 0 (next_id S.tree) kept.1 in
-    object_named plan m S rest o (omega arith) kept.0)
-
 request_unnamed : {A : Type 0} (plan : Plan) (S : State A) (r : ℕ) (p : Place) → IfThere (Named plan S) (request_line plan S r p)
-request_unnamed plan S r place.Owned = λ h. absurd (let z : ⊥ = cc in z)
-request_unnamed plan S r (place.Sent t) = λ h. absurd (let z : ⊥ = cc in z)
-request_unnamed plan S r (place.Queued q) = λ h. absurd (let z : ⊥ = cc in z)
-request_unnamed plan S r (place.Returning q) = λ h. absurd (let z : ⊥ = cc in z)
 request_unnamed plan S r (place.Closing s) = tt
 request_unnamed plan S r place.Done = tt
+request_unnamed plan S r _ = λ h. absurd (let z : ⊥ = cc in z)
 
-asking_by : {A : Type 0} (plan : Plan) (S : State A) (l : WaitLine) (b : Bool) → Named plan S l → Each (Named plan S) (if b then l ∷ [] else [])
-asking_by plan S l true h = (h, tt)
-asking_by plan S l false h = tt
-
-asking_unnamed : {A : Type 0} (plan : Plan) (S : State A) (p : Option Post) → Each (Named plan S) (asking_line S p)
-asking_unnamed plan S (Some (post.Ask a device)) = asking_by plan S (record { thing = thing.Asking device; cause = None }) (is_open_post S (Some (post.Ask a device))) (λ h. absurd (let z : ⊥ = cc in z))
-asking_unnamed plan S None = tt
-asking_unnamed plan S (Some (post.Read d n)) = tt
-asking_unnamed plan S (Some (post.Write d n)) = tt
-asking_unnamed plan S (Some (post.Control d c n)) = tt
-asking_unnamed plan S (Some (post.Cancel k)) = tt
-asking_unnamed plan S (Some (post.Act a)) = tt
-asking_unnamed plan S (Some (post.Done r t)) = tt
-
-lines_named : {A : Type 0} (plan : Plan) (m : Meaning A) (S : State A) → AtRest plan m S true → ((q : ℕ) → held_count S.queues q ≡ length (held_from S q)) → Each (Named plan S) (wait_lines plan m S)
-lines_named plan m S rest held =
-    let frames : List WaitLine = map (frame_line plan S) (frames_in_order S) in
-    let requests : List WaitLine = filter_map (λ r. request_line plan S r (place_of S.requests r)) (open_requests S) in
-    let devices : List WaitLine = filter_map (device_line plan S) (open_devices plan S) in
-    let objects : List WaitLine = map (object_line plan S) (open_objects S) in
-    let work : List WaitLine = map (deferred_line plan S) (open_work S) in
-    let asking : List WaitLine = asking_line S (due_of m S 0) in
-    each_behind (Named plan S) (frames ++ requests ++ devices ++ objects ++ work) asking
-    (each_behind (Named plan S) (frames ++ requests ++ devices ++ objects) work
-    (each_behind (Named plan S) (frames ++ requests ++ devices) objects
-    (each_behind (Named plan S) (frames ++ requests) devices
-    (each_behind (Named plan S) frames requests
-    (mapped_in (Named plan S) (frame_line plan S) (frames_in_order S) (λ f there h. frame_named plan m S rest held f h))
-    (chosen_in (Named plan S) (λ r. request_line plan S r (place_of S.requests r)) (open_requests S) (λ r there. request_unnamed plan S r (place_of S.requests r))))
-    (devices_named plan m S rest))
-    (objects_named plan m S rest))
-    (mapped_in (Named plan S) (deferred_line plan S) (open_work S) (λ o there h. work_named plan m S rest o (has_kept (is_open_work S) o (ids_of S.tree.nodes) there).0 h)))
-    (asking_unnamed plan S (due_of m S 0))
-
-each_at : {T : Type 0} (P : T → Type 0) (xs : List T) (k : ℕ) (x : T) → Each P xs → slice_get xs k ≡ Some x → P x
-each_at P [] k x e h = absurd (let z : ⊥ = cc in z)
-each_at P (y ∷ ys) zero x e h = subst P (same_Some y x h) e.0
-each_at P (y ∷ ys) (suc k) x e h = each_at P ys k x e.1 h
+lines_named : {A : Type 0} (plan : Plan) (m : Meaning A) (S : State A) → AtRest plan m S true → ((q : ℕ) → held_count S.queues q ≡ length (held_from S q)) → OfLines plan S (Named plan S)
+lines_named plan m S rest held = record {
+  frames = λ f there h. frame_named plan m S rest held f h;
+  requests = λ r. request_unnamed plan S r (place_of S.requests r);
+  devices = λ d low. device_named plan m S rest d low (running_step S.pnp d) (next_step S.pnp d) refl refl;
+  objects = λ o low leaving. object_named plan m S rest o low leaving;
+  work = λ o opened h. work_named plan m S rest o opened h;
+  asking = λ d h. absurd (let z : ⊥ = cc in z);
+}
 
 pub line_named : {A : Type 0} (plan : Plan) (m : Meaning A) (run : List Event) → IsRunOf plan m run → ending_of plan m run ≡ ending.Stuck → (k : ℕ) (l : WaitLine)
     → slice_get (wait_list plan m run) k ≡ Some l → names_a_cause plan (state_after plan m run) l.thing ≡ true → is_some l.cause ≡ true
-line_named plan m run is_run ends k l h =
-    each_at (Named plan (state_after plan m run)) (wait_lines plan m (state_after plan m run)) k l (lines_named plan m (state_after plan m run) (at_rest plan m run true ends) (held_now plan m run is_run))
-    (ap (λ ls. slice_get ls k) (sym (stuck_lines plan m run ends)) ∙ h)
+line_named plan m run is_run ends k l h = each_line plan m run (Named plan (state_after plan m run)) (lines_named plan m (state_after plan m run) (at_rest plan m run true ends) (held_now plan m run is_run)) ends k l h

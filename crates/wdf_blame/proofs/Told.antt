@@ -22,12 +22,12 @@ use Rattle.wdf_model.specs.parts.Requests.{is_sent_to, place_of}
 use Rattle.wdf_model.specs.parts.Deferred.WorkItems.{is_work_queued}
 use Rattle.wdf_model.specs.State.{State, declared_in, handle_in}
 use Rattle.wdf_model.specs.rules.Starts.{level_fits}
-use Rattle.wdf_model.specs.rules.Waits.{by_frame, by_frame_on, cause_if, frame_line, frames_where, holders_of, no_cpu, object_line, request_line, scope_is_held}
+use Rattle.wdf_model.specs.rules.Waits.{by_frame, by_frame_on, cause_if, frame_cause, frame_line, frames_where, holders_of, no_cpu, object_cause, object_line, request_line, scope_is_held}
 use Rattle.wdf_model.proofs.Tests.{first, second}
 use Rattle.wdf_blame.specs.Caused.{has_no_cause}
 use Rattle.wdf_blame.specs.Causes.{all_taken, is_taken, is_there, keeps, runs_on}
 use Rattle.wdf_blame.proofs.Members.{Each, Has}
-use Rattle.wdf_blame.proofs.Gives.{Gives, IfThere, any_has, each_chosen, each_mapped, gives_first, gives_frame, gives_if, gives_none, gives_request, has_either, has_gathered, has_kept, it_contains}
+use Rattle.wdf_blame.proofs.Gives.{Gives, IfThere, any_has, gives_first, gives_frame, gives_if, gives_none, gives_request, has_either, has_gathered, has_kept, it_contains}
 use Rattle.wdf_base.specs.declared.ids.Handle.{Handle}
 use Rattle.wdf_base.specs.declared.event.Stage.{Stage}
 use Rattle.wdf_base.specs.declared.event.Stage.TheVariants as stage
@@ -54,9 +54,10 @@ use Rattle.wdf_model.specs.rules.Ready.{IsRunOf, ending_of, is_open_post, open_d
 use Rattle.wdf_model.proofs.LawsOverRuns.{places_agree}
 use Rattle.wdf_blame.specs.Causes.{awaits_cpu, awaits_frame, awaits_request, has_lock_if_any, keeps_deferred, keeps_dpc, keeps_next, keeps_resumes, keeps_running, keeps_step, keeps_work, runs_callback}
 use Rattle.wdf_blame.proofs.Endings.{at_the_end, stuck_lines}
-use Rattle.wdf_blame.proofs.Gives.{any_alike, each_behind}
-use Rattle.wdf_blame.proofs.Forms.{LineSo, frame_lines_so, lock_held, lock_of_list, none_left, not_fits, on_object, request_lines_so, so_by}
-use Rattle.wdf_blame.proofs.Objects.{object_lines_so}
+use Rattle.wdf_blame.proofs.Gives.{any_alike}
+use Rattle.wdf_blame.proofs.EachLine.{OfLines, each_line}
+use Rattle.wdf_blame.proofs.Forms.{LineSo, frame_so, lock_held, lock_of_list, none_left, not_fits, on_object, request_so, so_by}
+use Rattle.wdf_blame.proofs.Objects.{object_so}
 
 -- ---- queued work
 
@@ -102,9 +103,6 @@ deferred_so plan S o =
     (gives_by (is_work_queued S.work_items o) (keeps_work plan S callback.EvtWorkItem 0 o) (keeps_work plan S callback.EvtTimerFunc 2 o)
     (work_cause plan S callback.EvtWorkItem 0 o) (work_cause plan S callback.EvtTimerFunc 2 o)
     (work_so plan S callback.EvtWorkItem 0 o) (work_so plan S callback.EvtTimerFunc 2 o))
-
-deferred_lines_so : {A : Type 0} (plan : Plan) (S : State A) (os : List ℕ) → Each (LineSo plan S) (map (deferred_line plan S) os)
-deferred_lines_so plan S os = each_mapped (LineSo plan S) (deferred_line plan S) (λ o. so_by plan S (deferred_line plan S o).thing (deferred_cause plan S o) (deferred_so plan S o)) os
 
 -- ---- devices
 
@@ -233,54 +231,22 @@ device_so plan S d (Some s) next e =
 device_so plan S d None (Some s) e = so_by plan S (thing.Sequence (handle_in plan S d) s) (first_cause (resumes_cause plan S d ∷ step_cause plan S d s ∷ [])) (next_line_so plan S d s (ap is_some e))
 device_so plan S d None None e = tt
 
-device_lines_so : {A : Type 0} (plan : Plan) (S : State A) (ds : List ℕ) → Each (LineSo plan S) (filter_map (device_line plan S) ds)
-device_lines_so plan S ds = each_chosen (LineSo plan S) (device_line plan S) (λ d. device_so plan S d (running_step S.pnp d) (next_step S.pnp d) refl) ds
-
 -- ---- the whole list
 
-asking_so_by : {A : Type 0} (plan : Plan) (S : State A) (l : WaitLine) (b : Bool) → LineSo plan S l → Each (LineSo plan S) (if b then l ∷ [] else [])
-asking_so_by plan S l true h = (h, tt)
-asking_so_by plan S l false h = tt
-
-asking_so : {A : Type 0} (plan : Plan) (S : State A) (p : Option Post) → Each (LineSo plan S) (asking_line S p)
-asking_so plan S (Some (post.Ask a device)) = asking_so_by plan S (record { thing = thing.Asking device; cause = None }) (is_open_post S (Some (post.Ask a device))) refl
-asking_so plan S None = tt
-asking_so plan S (Some (post.Read d n)) = tt
-asking_so plan S (Some (post.Write d n)) = tt
-asking_so plan S (Some (post.Control d c n)) = tt
-asking_so plan S (Some (post.Cancel k)) = tt
-asking_so plan S (Some (post.Act a)) = tt
-asking_so plan S (Some (post.Done r t)) = tt
-
-lines_so : {A : Type 0} (plan : Plan) (m : Meaning A) (S : State A) → PlacesAgree S → Each (LineSo plan S) (wait_lines plan m S)
-lines_so plan m S k =
-    let frames : List WaitLine = map (frame_line plan S) (frames_in_order S) in
-    let requests : List WaitLine = filter_map (λ r. request_line plan S r (place_of S.requests r)) (open_requests S) in
-    let devices : List WaitLine = filter_map (device_line plan S) (open_devices plan S) in
-    let objects : List WaitLine = map (object_line plan S) (open_objects S) in
-    let work : List WaitLine = map (deferred_line plan S) (open_work S) in
-    let asking : List WaitLine = asking_line S (due_of m S 0) in
-    each_behind (LineSo plan S) (frames ++ requests ++ devices ++ objects ++ work) asking
-    (each_behind (LineSo plan S) (frames ++ requests ++ devices ++ objects) work
-    (each_behind (LineSo plan S) (frames ++ requests ++ devices) objects
-    (each_behind (LineSo plan S) (frames ++ requests) devices
-    (each_behind (LineSo plan S) frames requests (frame_lines_so plan S (frames_in_order S)) (request_lines_so plan S (open_requests S) k))
-    (device_lines_so plan S (open_devices plan S)))
-    (object_lines_so plan S (open_objects S)))
-    (deferred_lines_so plan S (open_work S)))
-    (asking_so plan S (due_of m S 0))
-
-each_at : {T : Type 0} (P : T → Type 0) (xs : List T) (k : ℕ) (x : T) → Each P xs → slice_get xs k ≡ Some x → P x
-each_at P [] k x e h = absurd (let z : ⊥ = cc in z)
-each_at P (y ∷ ys) zero x e h = subst P (same_Some y x h) e.0
-each_at P (y ∷ ys) (suc k) x e h = each_at P ys k x e.1 h
+lines_so : {A : Type 0} (plan : Plan) (S : State A) → PlacesAgree S → OfLines plan S (LineSo plan S)
+lines_so plan S k = record {
+  frames = λ f there. so_by plan S (frame_line plan S f).thing (frame_cause plan S f) (frame_so plan S f);
+  requests = λ r. request_so plan S r (place_of S.requests r) k refl;
+  devices = λ d low. device_so plan S d (running_step S.pnp d) (next_step S.pnp d) refl;
+  objects = λ o low leaving. so_by plan S (object_line plan S o).thing (object_cause plan S o) (object_so plan S o);
+  work = λ o opened. so_by plan S (deferred_line plan S o).thing (deferred_cause plan S o) (deferred_so plan S o);
+  asking = λ d. refl;
+}
 
 pub line_so : {A : Type 0} (plan : Plan) (m : Meaning A) (run : List Event) → IsRunOf plan m run → ending_of plan m run ≡ ending.Stuck → (k : ℕ) (t : OpenThing) (x : Cause)
     → slice_get (wait_list plan m run) k ≡ Some (record { thing = t; cause = Some x }) → keeps plan (state_after plan m run) t x ≡ true
 line_so plan m run is_run ends k t x h =
-    each_at (LineSo plan (state_after plan m run)) (wait_lines plan m (state_after plan m run)) k (record { thing = t; cause = Some x })
-    (lines_so plan m (state_after plan m run) (at_the_end plan m (λ S. PlacesAgree S) run (places_agree plan m run is_run)))
-    (ap (λ ls. slice_get ls k) (sym (stuck_lines plan m run ends)) ∙ h)
+    each_line plan m run (LineSo plan (state_after plan m run)) (lines_so plan (state_after plan m run) (at_the_end plan m (λ S. PlacesAgree S) run (places_agree plan m run is_run))) ends k (record { thing = t; cause = Some x }) h
 
 off : false ≡ true → ⊥
 off h = let z : ⊥ = cc in z
@@ -290,12 +256,7 @@ nothing_so : {A : Type 0} (plan : Plan) (S : State A) (t : OpenThing) (x : Cause
 nothing_so plan S (thing.Owned r) x is h = let z : ⊥ = cc in z
 nothing_so plan S (thing.Sent r t) x is h = let z : ⊥ = cc in z
 nothing_so plan S (thing.Asking d) x is h = let z : ⊥ = cc in z
-nothing_so plan S (thing.Waiting f c o) x is h = absurd (off is)
-nothing_so plan S (thing.Queued r q) x is h = absurd (off is)
-nothing_so plan S (thing.Returning r q) x is h = absurd (off is)
-nothing_so plan S (thing.Sequence d s) x is h = absurd (off is)
-nothing_so plan S (thing.Leaving o) x is h = absurd (off is)
-nothing_so plan S (thing.Deferred o) x is h = absurd (off is)
+nothing_so plan S _ x is h = absurd (off is)
 
 pub line_without : {A : Type 0} (plan : Plan) (m : Meaning A) (run : List Event) → IsRunOf plan m run → ending_of plan m run ≡ ending.Stuck → (k : ℕ) (t : OpenThing) (x : Option Cause)
     → slice_get (wait_list plan m run) k ≡ Some (record { thing = t; cause = x }) → has_no_cause t ≡ true → x ≡ None

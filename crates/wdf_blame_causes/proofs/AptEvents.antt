@@ -58,6 +58,7 @@ use Rattle.wdf_deeds.proofs.Walk.{plain_stage, plain_start}
 use Rattle.wdf_deeds.proofs.Passing.{PassesBeside, stage_of, stage_passes, start_effect_passes, start_of}
 use Rattle.wdf_blame_causes.proofs.Apt.{AllApt, IsTaken, all_plain, apt_behind, is_plain, plain_apt, takes}
 use Rattle.wdf_blame_causes.proofs.AptCalls.{outcome_apt, second_apt}
+use Rattle.wdf_agreements.proofs.SoundEvents.{top_is}
 
 -- ---- a frame that isn't parked
 
@@ -98,21 +99,10 @@ start_plain plan S cpu c o r = start_effect_passes is_plain plan S cpu c o r (ef
 
 -- and what a start does before its frame begins leaves the parked frames alone
 for_parked : {A : Type 0} (plan : Plan) (S : State A) (k : Rank) (o r : ℕ) → (do_deeds plan (effect_for k o r) S).cpus.parked ≡ S.cpus.parked
-for_parked plan S rank.Completion o r = refl
-for_parked plan S rank.Cancel o r = refl
-for_parked plan S rank.CanceledOnQueue o r = refl
-for_parked plan S rank.Stop o r = refl
-for_parked plan S rank.Resume o r = refl
 for_parked plan S rank.Handler o r = refl
 for_parked plan S _ o r = refl
 
 effect_parked : {A : Type 0} (plan : Plan) (S : State A) (k : Rank) (cpu : ℕ) (c : Callback) (o : ℕ) → (do_deeds plan (effect plan S k cpu c o) S).cpus.parked ≡ S.cpus.parked
-effect_parked plan S rank.Deferred cpu c o = refl
-effect_parked plan S rank.Timed cpu c o = refl
-effect_parked plan S rank.QueueState cpu c o = refl
-effect_parked plan S rank.Sequence cpu c o = refl
-effect_parked plan S rank.Work cpu c o = refl
-effect_parked plan S rank.Cleanup cpu c o = refl
 effect_parked plan S rank.Destroy cpu c o = refl
 effect_parked plan S _ cpu c o = refl
 
@@ -219,10 +209,6 @@ waits_in_call : {A : Type 0} (S : State A) (p : Option Pending) → waits_on S p
 waits_in_call S None h = absurd (let z : ⊥ = cc in z)
 waits_in_call S (Some p) h = refl
 
-top_is : (t : Option ℕ) (f : ℕ) → same_id t f ≡ true → t ≡ Some f
-top_is None f h = absurd (let z : ⊥ = cc in z)
-top_is (Some g) f h = ap Some (eqb-true g f h)
-
 park_apt : {A : Type 0} (S : State A) (cpu f : ℕ) → may_park S cpu f ≡ true → (x : ℕ) × (top S.cpus cpu ≡ Some x) × (is_some (frame_of S.cpus x).pending ≡ true)
 park_apt S cpu f h = (
   f,
@@ -284,12 +270,8 @@ event_apt plan m S (event.Did k c v) known h = did_apt plan S known k.0 c v (did
 event_apt plan m S (event.Waiting k c) known h = waiting_apt plan S known k.0 c (waiting_tells plan m S k c h) (event_fits plan m S (event.Waiting k c) h)
 event_apt plan m S (event.Woke k c v) known h = woke_apt plan S known k.0 c v (woke_tells plan m S k c v h) (event_fits plan m S (event.Woke k c v) h)
 event_apt plan m S (event.Park k f) known h = (park_apt S k.0 f.0 h, tt)
-event_apt plan m S (event.Unpark k f) known h = (tt, tt)
 event_apt plan m S (event.End k c o v) known h = end_apt plan S k.0 c o v known (end_tells plan m S k c o v h)
 event_apt plan m S (event.Fault k x line) known h = tt
 event_apt plan m S (event.Stage d s i) known h = (tt, (tt, plain_apt plan (stage_effect plan d.id.0 s i) _ (stage_plain plan d.id.0 s i)))
-event_apt plan m S (event.Complete r s) known h = (tt, tt)
-event_apt plan m S (event.Cleanup o) known h = (tt, tt)
-event_apt plan m S (event.Destroy o) known h = (tt, tt)
 event_apt plan m S (event.Posted agent p answer) known h = post_apt plan S agent p
-event_apt plan m S (event.Tick time) known h = (tt, tt)
+event_apt plan m S _ known h = (tt, tt)

@@ -29,7 +29,8 @@ use Rattle.wdf_model.specs.rules.Groups.{declared_end}
 use Rattle.wdf_model.specs.rules.Posts.{due_of}
 use Rattle.wdf_model.specs.rules.Ready.{IsRunOf, ending_of, is_open_work, is_open_post, open_devices, open_objects, open_requests, open_work, state_after}
 use Rattle.wdf_model.specs.rules.Waits.{asking_line, deferred_cause, deferred_line, device_line, dpc_cause, first_cause, frame_cause, frame_line, frames_in_order, object_line, queued_cause, request_line, resumes_cause, returning_cause, sequence_line, step_cause, wait_lines, wait_list}
-use Rattle.wdf_model.proofs.Tests.{itself}
+use Rattle.wdf_model.specs.rules.Starts.{resumes_over}
+use Rattle.wdf_model.proofs.Tests.{first, itself}
 use Rattle.wdf_model.proofs.Counts.{at_head}
 use Rattle.wdf_model.proofs.LawsOverRuns.{history_now}
 use Rattle.wdf_invariants.proofs.DeclaredOverRuns.{declared_agree_at_each}
@@ -38,14 +39,17 @@ use Rattle.wdf_room.proofs.RoomLaws.{room_is_kept}
 use Rattle.wdf_blame_causes.specs.Named.{Named, StepMayCome}
 use Rattle.wdf_blame.proofs.Members.{Each, Has}
 use Rattle.wdf_blame.proofs.Endings.{AtRest, at_rest, at_the_end, stuck_lines}
-use Rattle.wdf_blame.proofs.Gives.{IfThere, each_behind, has_kept}
+use Rattle.wdf_blame.proofs.EachLine.{OfLines, each_line}
+use Rattle.wdf_blame.proofs.Gives.{IfThere, has_kept}
 use Rattle.wdf_blame.proofs.Needs.{none_first, some_or}
 use Rattle.wdf_blame.proofs.Tops.{frame_named, held_now, one_parked, one_running}
 use Rattle.wdf_blame_causes.proofs.Parked.{Parking, parking_at_each}
-use Rattle.wdf_blame_causes.proofs.Taken.{Forms, forms_at_each, returning_declared, waiting_taken}
+use Rattle.wdf_agreements.proofs.FromQueues.{queued_suits, returning_suits}
+use Rattle.wdf_blame_causes.proofs.Taken.{Forms, TakesForm, forms_at_each}
 use Rattle.wdf_blame_causes.proofs.Presents.{queued_waits, returning_waits}
 use Rattle.wdf_blame_causes.proofs.Dpcs.{dpc_waits, listed_at}
-use Rattle.wdf_blame_causes.proofs.Steps.{callback_waits, quiet_waits}
+use Rattle.wdf_blame_causes.proofs.Steps.{callback_comes, quiet_waits}
+use Rattle.wdf_room.proofs.Doable.{listed}
 
 -- what is known of the state of a stuck run
 pub record AtEnd {A : Type 0} (plan : Plan) (m : Meaning A) (S : State A) : Type 0 where
@@ -93,31 +97,6 @@ in_stacks f (s ∷ ss) h = elim (in_either f s (flat_map (λ (fs : List ℕ). fs
     later true b e = refl
     later false b e = e
 
-counted_in_by : (r x : ℕ) (xs : List ℕ) (b : Bool) → (x == r) ≡ b → 1 ≤ count_by (λ y. y == r) (x ∷ xs) → (1 ≤ count_by (λ y. y == r) xs → contains r xs ≡ true) → contains r (x ∷ xs) ≡ true
-counted_in_by r x xs true e h rest = rw e refl
-counted_in_by r x xs false e h rest = let a = at_head r x xs in let no : flag (x == r) ≡ 0 = ap flag e in rw e (rest (omega arith))
-
-counted_in : (r : ℕ) (xs : List ℕ) → 1 ≤ count_by (λ y. y == r) xs → contains r xs ≡ true
-counted_in r [] h = absurd (omega arith)
-counted_in r (x ∷ xs) h = counted_in_by r x xs (x == r) refl h (counted_in r xs)
-
-in_range : (x a n : ℕ) → Has x (range_with_len a n) → x < a + n
-in_range x a zero h = absurd h
-in_range x a (suc n) (inl e) = omega arith
-in_range x a (suc n) (inr h) = let less : x < (a + 1) + n = in_range x (a + 1) n h in omega arith
-
-mapped_in : {T U : Type 0} (P : U → Type 0) (f : T → U) (xs : List T) → ((x : T) → Has x xs → P (f x)) → Each P (map f xs)
-mapped_in P f [] h = tt
-mapped_in P f (x ∷ xs) h = (h x (inl refl), mapped_in P f xs (λ y k. h y (inr k)))
-
-chosen_by : {T U : Type 0} (P : U → Type 0) (f : T → Option U) (x : T) (xs : List T) (o : Option U) → f x ≡ o → IfThere P o → Each P (filter_map f xs) → Each P (filter_map f (x ∷ xs))
-chosen_by P f x xs None e h rest = rw e rest
-chosen_by P f x xs (Some y) e h rest = rw e (h, rest)
-
-chosen_in : {T U : Type 0} (P : U → Type 0) (f : T → Option U) (xs : List T) → ((x : T) → Has x xs → IfThere P (f x)) → Each P (filter_map f xs)
-chosen_in P f [] h = tt
-chosen_in P f (x ∷ xs) h = chosen_by P f x xs (f x) refl (h x (inl refl)) (chosen_in P f xs (λ y k. h y (inr k)))
-
 -- ---- the lines
 
 abbrev LineNamed : {A : Type 0} → Plan → State A → WaitLine → Type 0
@@ -142,17 +121,14 @@ request_named plan m S k r (place.Queued q) e = λ live.
     (λ none.
     let one : count_by (λ x. x == r) (waiting_in S.queues q.0) ≡ flag (is_queued_in q.0 (place.Queued q)) = k.queued q.0 r ∙ ap (λ x. flag (is_queued_in q.0 x)) e in
     let it : flag (is_queued_in q.0 (place.Queued q)) ≡ 1 = ap flag (itself q.0) in
-    queued_waits plan m S k.rest q.0 r (counted_in r (waiting_in S.queues q.0) (omega arith)) live (waiting_taken plan S q.0 r k.forms (ap (is_queued_in q.0) e ∙ itself q.0)) none)
+    queued_waits plan m S k.rest q.0 r (listed r (waiting_in S.queues q.0) (omega arith)) live (queued_suits plan (TakesForm plan) S.requests q.0 r k.forms.1 (ap (is_queued_in q.0) e ∙ itself q.0)) none)
 request_named plan m S k r (place.Returning q) e = λ live.
-    some_or (returning_cause plan S q.0) (λ none. returning_waits plan m S k.rest k.declared q.0 r (ap (is_returning_to q.0) e ∙ itself q.0) live (returning_declared plan S q.0 r k.forms (ap (is_returning_to q.0) e ∙ itself q.0)) none)
-request_named plan m S k r place.Owned e = tt
-request_named plan m S k r (place.Sent t) e = tt
-request_named plan m S k r (place.Closing s) e = tt
-request_named plan m S k r place.Done e = tt
+    some_or (returning_cause plan S q.0) (λ none. returning_waits plan m S k.rest k.declared q.0 r (ap (is_returning_to q.0) e ∙ itself q.0) live (returning_suits plan (TakesForm plan) S.requests q.0 r k.forms.1 (ap (is_returning_to q.0) e ∙ itself q.0)).1 none)
+request_named plan m S k r _ e = tt
 
 next_named : {A : Type 0} (plan : Plan) (m : Meaning A) (S : State A) → AtEnd plan m S → (d : ℕ) (s : Step) → d < declared_end plan → next_step S.pnp d ≡ Some s → is_running_step S.pnp d ≡ false → follows_queues_up S.pnp d ≡ false → StepMayCome plan S d s
     → step_cause plan S d s ≡ None → ⊥
-next_named plan m S k d (step.Run c i) low next calm early may_be none = callback_waits plan m S k.rest d c i low next (ap not calm) (ap not early) may_be none
+next_named plan m S k d (step.Run c i) low next calm early may_be none = callback_comes plan m S k.rest d c i low next (ap not calm) (first (not (follows_queues_up S.pnp d)) (resumes_over S d) (ap not early)) may_be none
 next_named plan m S k d (step.Pass stage.Quiet i) low next calm early may_be none = quiet_waits plan m S k.rest k.dpcs may_be d i low next (ap not calm) (ap not early) none
 next_named plan m S k d (step.Pass s i) low next calm early may_be none = let z : ⊥ = cc in z
 
@@ -177,51 +153,16 @@ work_named_by plan m S k o opened = (
       ap is_some same ∙ some_or (dpc_cause plan S o) (λ none. dpc_waits plan m S k.rest k.dpcs o queued may_be none),
 )
 
-asking_by : {A : Type 0} (plan : Plan) (S : State A) (l : WaitLine) (b : Bool) → LineNamed plan S l → Each (LineNamed plan S) (if b then l ∷ [] else [])
-asking_by plan S l true h = (h, tt)
-asking_by plan S l false h = tt
-
-asking_named : {A : Type 0} (plan : Plan) (S : State A) (p : Option Post) → Each (LineNamed plan S) (asking_line S p)
-asking_named plan S (Some (post.Ask a device)) = asking_by plan S (record { thing = thing.Asking device; cause = None }) (is_open_post S (Some (post.Ask a device))) tt
-asking_named plan S None = tt
-asking_named plan S (Some (post.Read d n)) = tt
-asking_named plan S (Some (post.Write d n)) = tt
-asking_named plan S (Some (post.Control d c n)) = tt
-asking_named plan S (Some (post.Cancel k)) = tt
-asking_named plan S (Some (post.Act a)) = tt
-asking_named plan S (Some (post.Done r t)) = tt
-
-lines_named : {A : Type 0} (plan : Plan) (m : Meaning A) (S : State A) → AtEnd plan m S → Each (LineNamed plan S) (wait_lines plan m S)
-lines_named plan m S k =
-    let frames : List WaitLine = map (frame_line plan S) (frames_in_order S) in
-    let requests : List WaitLine = filter_map (λ r. request_line plan S r (place_of S.requests r)) (open_requests S) in
-    let devices : List WaitLine = filter_map (device_line plan S) (open_devices plan S) in
-    let objects : List WaitLine = map (object_line plan S) (open_objects S) in
-    let work : List WaitLine = map (deferred_line plan S) (open_work S) in
-    let asking : List WaitLine = asking_line S (due_of m S 0) in
-    each_behind (LineNamed plan S) (frames ++ requests ++ devices ++ objects ++ work) asking
-    (each_behind (LineNamed plan S) (frames ++ requests ++ devices ++ objects) work
-    (each_behind (LineNamed plan S) (frames ++ requests ++ devices) objects
-    (each_behind (LineNamed plan S) (frames ++ requests) devices
-    (each_behind (LineNamed plan S) frames requests
-    (mapped_in (LineNamed plan S) (frame_line plan S) (frames_in_order S) (λ f there. frame_line_named plan m S k f there))
-    (chosen_in (LineNamed plan S) (λ r. request_line plan S r (place_of S.requests r)) (open_requests S) (λ r there. request_named plan m S k r (place_of S.requests r) refl)))
-    (chosen_in (LineNamed plan S) (device_line plan S) (open_devices plan S)
-    (λ d there.
-    let kept = has_kept (λ x. nat_lt 0 (length (steps_left S.pnp x))) d (devices_of plan) there in
-    let low : d < 0 + declared_end plan = in_range d 0 (declared_end plan) (has_kept (λ x. is_some (device_of plan x)) d (range_with_len 0 (declared_end plan)) kept.1).1 in
-    device_named plan m S k d (omega arith) (running_step S.pnp d) (next_step S.pnp d) refl refl)))
-    (mapped_in (LineNamed plan S) (object_line plan S) (open_objects S) (λ o there. tt)))
-    (mapped_in (LineNamed plan S) (deferred_line plan S) (open_work S) (λ o there. work_named_by plan m S k o (has_kept (is_open_work S) o (ids_of S.tree.nodes) there).0)))
-    (asking_named plan S (due_of m S 0))
-
-each_at : {T : Type 0} (P : T → Type 0) (xs : List T) (k : ℕ) (x : T) → Each P xs → slice_get xs k ≡ Some x → P x
-each_at P [] k x e h = absurd (let z : ⊥ = cc in z)
-each_at P (y ∷ ys) zero x e h = subst P (same_Some y x h) e.0
-each_at P (y ∷ ys) (suc k) x e h = each_at P ys k x e.1 h
+lines_named : {A : Type 0} (plan : Plan) (m : Meaning A) (S : State A) → AtEnd plan m S → OfLines plan S (LineNamed plan S)
+lines_named plan m S k = record {
+  frames = λ f there. frame_line_named plan m S k f there;
+  requests = λ r. request_named plan m S k r (place_of S.requests r) refl;
+  devices = λ d low. device_named plan m S k d low (running_step S.pnp d) (next_step S.pnp d) refl refl;
+  objects = λ o low leaving. tt;
+  work = λ o opened. work_named_by plan m S k o opened;
+  asking = λ d. tt;
+}
 
 pub line_names : {A : Type 0} (plan : Plan) (m : Meaning A) (run : List Event) → IsResolved plan → IsRunOf plan m run → ending_of plan m run ≡ ending.Stuck → (k : ℕ) (l : WaitLine)
     → slice_get (wait_list plan m run) k ≡ Some l → Named plan (state_after plan m run) l.thing l.cause
-line_names plan m run resolved is_run ends k l h =
-    each_at (LineNamed plan (state_after plan m run)) (wait_lines plan m (state_after plan m run)) k l (lines_named plan m (state_after plan m run) (at_end plan m run resolved is_run ends))
-    (ap (λ ls. slice_get ls k) (sym (stuck_lines plan m run ends)) ∙ h)
+line_names plan m run resolved is_run ends k l h = each_line plan m run (LineNamed plan (state_after plan m run)) (lines_named plan m (state_after plan m run) (at_end plan m run resolved is_run ends)) ends k l h

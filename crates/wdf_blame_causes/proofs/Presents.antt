@@ -213,7 +213,7 @@ pub kept_has : (p : ℕ → Bool) (x : ℕ) (ys : List ℕ) → Has x ys → p x
 kept_has p x [] h k = h
 kept_has p x (y ∷ ys) h k = kept_has_by p x y ys (p y) refl h k (λ t. kept_has p x ys t k)
 
-has_image : {T U : Type 0} (f : T → U) (x : T) (xs : List T) → Has x xs → Has (f x) (map f xs)
+pub has_image : {T U : Type 0} (f : T → U) (x : T) (xs : List T) → Has x xs → Has (f x) (map f xs)
 has_image f x [] h = h
 has_image f x (y ∷ ys) (inl e) = inl (ap f e)
 has_image f x (y ∷ ys) (inr h) = inr (has_image f x ys h)
@@ -224,13 +224,8 @@ place_there q (x ∷ xs) zero h = omega arith
 place_there q (x ∷ xs) (suc r) h = let rest : r < length xs = place_there q xs r h in omega arith
 
 queue_by : (d : Option Declared) → option_and_then declared_kind d ≡ Some kind.Queue → is_some (as_queue d) ≡ true
-queue_by None h = absurd (let z : ⊥ = cc in z)
-queue_by (Some declared.Driver) h = absurd (let z : ⊥ = cc in z)
-queue_by (Some (declared.Device d)) h = absurd (let z : ⊥ = cc in z)
 queue_by (Some (declared.Queue q)) h = refl
-queue_by (Some (declared.Interrupt i)) h = absurd (let z : ⊥ = cc in z)
-queue_by (Some (declared.Target t)) h = absurd (let z : ⊥ = cc in z)
-queue_by (Some (declared.OfClass c)) h = absurd (let z : ⊥ = cc in z)
+queue_by _ h = absurd (let z : ⊥ = cc in z)
 
 -- an object of the kind Queue is a queue of the plan
 pub queue_there : {A : Type 0} (plan : Plan) (S : State A) (q : ℕ) → DeclaredAgree plan S → same_kind (kind_of S.tree q) kind.Queue ≡ true → Has q (queues_in plan)

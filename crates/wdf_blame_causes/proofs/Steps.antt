@@ -38,6 +38,8 @@ use Rattle.wdf_model.proofs.Sames.{callback_decides, handle_decides}
 use Rattle.wdf_blame_causes.specs.Starts.{dpc_may_run, has_callback, step_may_run}
 use Rattle.wdf_blame.proofs.Members.{Has, has_flat, has_range}
 use Rattle.wdf_blame.proofs.Endings.{AtRest, may_not}
+use Rattle.wdf_blame.proofs.Gives.{any_has}
+use Rattle.wdf_blame.proofs.Stages.{each_one, handle_itself, none_of, stage_comes, stepping}
 use Rattle.wdf_blame.proofs.Needs.{below_cpus, cpu_group, five, framework_group, free_one, front_none, no_count, none_first, none_if, none_least, placed_at, proper_start}
 use Rattle.wdf_blame_causes.proofs.Dpcs.{free_by_none, head_waits, listed_at}
 use Rattle.wdf_blame_causes.proofs.Presents.{kept_has}
@@ -45,32 +47,10 @@ use Rattle.wdf_blame_causes.proofs.Presents.{kept_has}
 -- ---- lists
 
 -- what is gathered from an item of a list, where nothing is gathered
-none_gathered : {T : Type 0} (f : ℕ → List T) (x : ℕ) (xs : List ℕ) → Has x xs → flat_map f xs ≡ [] → f x ≡ []
+pub none_gathered : {T : Type 0} (f : ℕ → List T) (x : ℕ) (xs : List ℕ) → Has x xs → flat_map f xs ≡ [] → f x ≡ []
 none_gathered f x [] h e = absurd h
 none_gathered f x (y ∷ ys) (inl s) e = ap f s ∙ (front_none (f y) (flat_map f ys) e).0
 none_gathered f x (y ∷ ys) (inr h) e = none_gathered f x ys h (front_none (f y) (flat_map f ys) e).1
-
-neither : (a b : Bool) → (a || b) ≡ false → (a ≡ false) × (b ≡ false)
-neither true b h = absurd (let z : ⊥ = cc in z)
-neither false b h = (refl, h)
-
-none_any : (p : ℕ → Bool) (x : ℕ) (xs : List ℕ) → Has x xs → list_any p xs ≡ false → p x ≡ false
-none_any p x [] h e = absurd h
-none_any p x (y ∷ ys) (inl s) e = ap p s ∙ (neither (p y) (list_any p ys) e).0
-none_any p x (y ∷ ys) (inr h) e = none_any p x ys h (neither (p y) (list_any p ys) e).1
-
-each_one : (p : ℕ → Bool) (xs : List ℕ) → ((x : ℕ) → Has x xs → p x ≡ true) → list_all p xs ≡ true
-each_one p [] h = refl
-each_one p (x ∷ xs) h = both (p x) (list_all p xs) (h x (inl refl)) (each_one p xs (λ y k. h y (inr k)))
-
-any_one : (p : ℕ → Bool) (x : ℕ) (xs : List ℕ) → Has x xs → p x ≡ true → list_any p xs ≡ true
-any_one p x [] h k = absurd h
-any_one p x (y ∷ ys) (inl s) k = first (p y) (list_any p ys) (sym (ap p s) ∙ k)
-any_one p x (y ∷ ys) (inr h) k = later (p y) (list_any p ys) (any_one p x ys h k)
-  where
-    later : (a b : Bool) → b ≡ true → (a || b) ≡ true
-    later true b e = refl
-    later false b e = e
 
 -- ---- `quiet`
 
@@ -84,11 +64,11 @@ none_queued plan m S rest size may_be d unheld fits i its = elim (cases_Bool (is
       let low : at.place < length S.dpcs.lists = at.low in
       let cpu : ℕ = at.place in
       let within : cpu < plan.cpus = omega arith in
-      let it : has_dpc_of plan S d cpu ≡ true = any_one (λ x. contains x (dpcs_of S.dpcs cpu)) i (interrupts_of plan d) its at.passes in
+      let it : has_dpc_of plan S d cpu ≡ true = any_has (λ x. contains x (dpcs_of S.dpcs cpu)) i (interrupts_of plan d) its at.passes in
       let there : Has cpu (cpus_with_dpc plan S d) = kept_has (has_dpc_of plan S d) cpu (all_cpus plan) (has_range cpu 0 plan.cpus (omega arith) (omega arith)) it in
       head_waits plan m S rest cpu i within at.passes (may_be cpu)
       (free_by_none S (head_lock plan S cpu) (none_gathered (λ x. holders_of S (head_lock plan S x)) cpu (cpus_with_dpc plan S d) there unheld))
-      (fit_of (level_fits S cpu 2) (none_any (λ x. not (level_fits S x 2)) cpu (cpus_with_dpc plan S d) there fits)))
+      (fit_of (level_fits S cpu 2) (none_of (λ x. not (level_fits S x 2)) (cpus_with_dpc plan S d) fits cpu there)))
   | inr e ↦ ap not e
 ]
   where
@@ -96,22 +76,9 @@ none_queued plan m S rest size may_be d unheld fits i its = elim (cases_Bool (is
     fit_of true h = refl
     fit_of false h = absurd (let z : ⊥ = cc in z)
 
-handle_itself : (i : Option Handle) → same_option same_handle i i ≡ true
-handle_itself None = refl
-handle_itself (Some h) = (handle_decides h h).1 refl
-
-three : (a b c : Bool) → a ≡ true → b ≡ true → c ≡ true → (a && b && c) ≡ true
-three a b c h k l = both (a && b) c (both a b h k) l
-
--- a step that isn't kept by the step before it
-stepping : {A : Type 0} (S : State A) (d : ℕ) (s : Step) → same_step s s ≡ true → next_step S.pnp d ≡ Some s → not (is_running_step S.pnp d) ≡ true → not (follows_queues_up S.pnp d) ≡ true → step_ready S d s ≡ true
-stepping S d s same next calm early =
-    three (same_option same_step (next_step S.pnp d) (Some s)) (not (is_running_step S.pnp d)) (not (follows_queues_up S.pnp d) || resumes_over S d) (rw next same) calm (first (not (follows_queues_up S.pnp d)) (resumes_over S d) early)
-
 pub quiet_waits : {A : Type 0} (plan : Plan) (m : Meaning A) (S : State A) → AtRest plan m S true → length S.dpcs.lists ≡ plan.cpus → ((cpu : ℕ) → dpc_may_run plan S cpu ≡ true) → (d : ℕ) (i : Option Handle) → d < declared_end plan
     → next_step S.pnp d ≡ Some (step.Pass stage.Quiet i) → not (is_running_step S.pnp d) ≡ true → not (follows_queues_up S.pnp d) ≡ true → step_cause plan S d (step.Pass stage.Quiet i) ≡ None → ⊥
 quiet_waits plan m S rest size may_be d i low next calm early h =
-    let e0 : Event = event.Stage (handle_in plan S d) stage.Quiet i in
     let one = none_first (by_request plan S (stage_requests plan S d stage.Quiet)) (by_frame (stage_frames plan S d stage.Quiet i) ∷ cause_if (stage_cpus plan S d stage.Quiet) cause.NoCpu ∷ []) h in
     let two = none_first (by_frame (stage_frames plan S d stage.Quiet i)) (cause_if (stage_cpus plan S d stage.Quiet) cause.NoCpu ∷ []) one.1 in
     let last = none_first (cause_if (stage_cpus plan S d stage.Quiet) cause.NoCpu) [] two.1 in
@@ -122,14 +89,7 @@ quiet_waits plan m S rest size may_be d i low next calm early h =
     let quiet : is_quiet plan S d ≡ true =
     both (list_all (λ x. not (is_dpc_queued S.dpcs x)) (interrupts_of plan d)) (not (is_running S.cpus callback.EvtInterruptDpc d))
     (each_one (λ x. not (is_dpc_queued S.dpcs x)) (interrupts_of plan d) (none_queued plan m S rest size may_be d parts.1 fits)) (ap not over) in
-    let here : candidate plan m S group.Stages d ≡ Some e0 = rw next refl in
-    let offered : Has e0 (candidates plan m S) = framework_group plan m S group.Stages e0 (inl refl) (placed_at plan m S group.Stages (declared_end plan) d e0 low here) in
-    let no : may plan m S e0 ≡ false = may_not plan m S true e0 rest offered in
-    let same : same_step (step.Pass stage.Quiet i) (step.Pass stage.Quiet i) ≡ true = both (same_stage stage.Quiet stage.Quiet) (same_option same_handle i i) refl (handle_itself i) in
-    let yes : may plan m S e0 ≡ true =
-    both (is_proper plan S (handle_in plan S d)) (may_pass plan S d stage.Quiet i) (itself (handle_in plan S d).name)
-    (both (step_ready S d (step.Pass stage.Quiet i)) (stage_ready plan S d stage.Quiet i) (stepping S d (step.Pass stage.Quiet i) same next calm early) quiet) in
-    let z : ⊥ = cc in z
+    stage_comes plan m S rest d stage.Quiet i low next calm (first (not (follows_queues_up S.pnp d)) (resumes_over S d) early) quiet
 
 -- ---- a callback
 
@@ -146,9 +106,10 @@ begins_at : {A : Type 0} (plan : Plan) (S : State A) (cpu d : ℕ) (c : Callback
 begins_at plan S cpu d c None = refl
 begins_at plan S cpu d c (Some i) = refl
 
-pub callback_waits : {A : Type 0} (plan : Plan) (m : Meaning A) (S : State A) → AtRest plan m S true → (d : ℕ) (c : Callback) (i : Option Handle) → d < declared_end plan → next_step S.pnp d ≡ Some (step.Run c i)
-    → not (is_running_step S.pnp d) ≡ true → not (follows_queues_up S.pnp d) ≡ true → step_may_run plan S d (step.Run c i) ≡ true → step_cause plan S d (step.Run c i) ≡ None → ⊥
-callback_waits plan m S rest d c i low next calm early may_be h =
+-- the callback of a step comes, where its line has no cause
+pub callback_comes : {A : Type 0} (plan : Plan) (m : Meaning A) (S : State A) → AtRest plan m S true → (d : ℕ) (c : Callback) (i : Option Handle) → d < declared_end plan → next_step S.pnp d ≡ Some (step.Run c i)
+    → not (is_running_step S.pnp d) ≡ true → (not (follows_queues_up S.pnp d) || resumes_over S d) ≡ true → step_may_run plan S d (step.Run c i) ≡ true → step_cause plan S d (step.Run c i) ≡ None → ⊥
+callback_comes plan m S rest d c i low next calm unkept may_be h =
     let o : ℕ = object_of_step d i in
     let lock : Option _ = lock_of_callback plan c o (declared_in plan S o) in
     let one = none_first (by_frame (holders_of S lock)) (cause_if (no_cpu plan S (callback_irql plan c o)) cause.NoCpu ∷ []) h in
@@ -168,7 +129,7 @@ callback_waits plan m S rest d c i low next calm early may_be h =
     let live : is_live (life_of S.tree o) ≡ true = both_left (is_live (life_of S.tree o)) (declares_in plan S c o) can in
     let has : declares_in plan S c o ≡ true = both_right (is_live (life_of S.tree o)) (declares_in plan S c o) can in
     let next_is : step_of plan S c o ≡ step.Run c i = ap (step.Run c) (same_interrupt (interrupt_of_step plan S o) i same) in
-    let ready_at : step_ready S d (step.Run c i) ≡ true = stepping S d (step.Run c i) (both (same_callback c c) (same_option same_handle i i) ((callback_decides c c).1 refl) (handle_itself i)) next calm early in
+    let ready_at : step_ready S d (step.Run c i) ≡ true = stepping S d (step.Run c i) (both (same_callback c c) (same_option same_handle i i) ((callback_decides c c).1 refl) (handle_itself i)) next calm unkept in
     let ready : step_ready S (nearest_device S.tree o) (step_of plan S c o) ≡ true = ap (λ x. step_ready S x (step_of plan S c o)) near ∙ ap (step_ready S d) next_is ∙ ready_at in
     let ranked : is_ready_for plan m S cpu c o None ≡ true = ap (λ k. rank_ready plan m S k cpu c o) (sequence_is (row_of c).rank is) ∙ ready in
     let at : option_and_then (start_of_step plan S cpu d) (next_step S.pnp d) ≡ Some e = ap (option_and_then (start_of_step plan S cpu d)) next ∙ begins_at plan S cpu d c i in

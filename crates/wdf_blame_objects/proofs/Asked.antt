@@ -47,13 +47,15 @@ use Rattle.wdf_agreements.proofs.Lists.{inside}
 use Rattle.wdf_blame.proofs.Members.{Has, has_flat, has_range}
 use Rattle.wdf_blame.proofs.Endings.{AtRest, at_rest, may_not}
 use Rattle.wdf_blame.proofs.Needs.{below_cpus, cpu_group, five, free_one, none_first, none_if, object_named, placed_at, proper_start, some_or}
-use Rattle.wdf_blame_causes.proofs.Presents.{declared_within, kept_has}
+use Rattle.wdf_blame_causes.proofs.Presents.{declared_within, has_image, kept_has}
 use Rattle.wdf_blame_whole.proofs.Belonging.{target_found}
 use Rattle.wdf_blame_whole.proofs.Lines.{line_tells}
 use Rattle.wdf_blame_whole.proofs.Runs.{Known, known_now}
 use Rattle.wdf_blame_objects.proofs.Runs.{GoesWell, goes_well}
 use Rattle.wdf_blame_objects.proofs.Sendings.{comes_or_waits}
 use Rattle.wdf_blame_objects.proofs.Places.{nothing_there, request_done}
+use Rattle.wdf_invariants.proofs.Trees.{cleaned_there}
+use Rattle.wdf_blame_whole.proofs.Works.{asked_off}
 
 -- ---- lists
 
@@ -86,37 +88,16 @@ one_of_all p [] k x h e = absurd (let z : ⊥ = cc in z)
 one_of_all p (y ∷ ys) zero x h e = let same : y ≡ x = cc in subst (λ z. p z ≡ true) same (both_left (p y) (list_all p ys) h)
 one_of_all p (y ∷ ys) (suc k) x h e = one_of_all p ys k x (both_right (p y) (list_all p ys) h) e
 
-has_image : {T U : Type 0} (f : T → U) (x : T) (xs : List T) → Has x xs → Has (f x) (map f xs)
-has_image f x [] h = h
-has_image f x (y ∷ ys) (inl e) = inl (ap f e)
-has_image f x (y ∷ ys) (inr h) = inr (has_image f x ys h)
-
 -- ---- tests
-
-asked_off : (l : Life) → is_asked l ≡ true → is_live l ≡ false
-asked_off life.Asked h = refl
-asked_off life.Live h = absurd (let z : ⊥ = cc in z)
-asked_off life.Cleaned h = absurd (let z : ⊥ = cc in z)
-asked_off life.Gone h = absurd (let z : ⊥ = cc in z)
 
 there_by : (asked cleaned gone : Bool) → (asked || cleaned) ≡ true → (asked ≡ true → gone ≡ false) → (cleaned ≡ true → gone ≡ false) → gone ≡ false
 there_by true c g h k l = k refl
 there_by false true g h k l = l refl
 there_by false false g h k l = absurd (let z : ⊥ = cc in z)
 
-cleaned_there : (l : Life) → is_cleaned l ≡ true → is_gone l ≡ false
-cleaned_there life.Cleaned h = refl
-cleaned_there life.Live h = absurd (let z : ⊥ = cc in z)
-cleaned_there life.Asked h = absurd (let z : ⊥ = cc in z)
-cleaned_there life.Gone h = absurd (let z : ⊥ = cc in z)
-
 sent_where : (p : Place) → is_sent p ≡ true → (t : ObjectId) × (p ≡ place.Sent t)
 sent_where (place.Sent t) h = (t, refl)
-sent_where (place.Queued q) h = absurd (let z : ⊥ = cc in z)
-sent_where (place.Returning q) h = absurd (let z : ⊥ = cc in z)
-sent_where (place.Closing s) h = absurd (let z : ⊥ = cc in z)
-sent_where place.Owned h = absurd (let z : ⊥ = cc in z)
-sent_where place.Done h = absurd (let z : ⊥ = cc in z)
+sent_where _ h = absurd (let z : ⊥ = cc in z)
 
 no_target_cause : (b : Bool) (c : Cause) → (if b then Some c else None) ≡ None → b ≡ false
 no_target_cause true c h = absurd (let z : ⊥ = cc in z)

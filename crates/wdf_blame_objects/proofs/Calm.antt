@@ -263,8 +263,6 @@ acts_itself : (f : ℕ) → (f == f) ≡ true
 acts_itself f = equal f f refl
 
 second_acts : (f : ℕ) (k : CallKind) (n : ℕ) (a b x : Arg) → all_act f (second_deeds f (record { kind = k; count = n; a = a; b = b; c = x })) ≡ true
-second_acts f call.WdfSpinLockAcquire n a b x = refl
-second_acts f call.WdfWaitLockAcquire n a b x = refl
 second_acts f call.WdfInterruptAcquireLock n a b x = refl
 second_acts f _ n a b x = refl
 

@@ -30,7 +30,7 @@ use Rattle.wdf_invariants.proofs.HeldMoves.{Placed}
 use Rattle.wdf_agreements.proofs.Queued.{any_entry}
 use Rattle.wdf_agreements.proofs.Stays.{gives_up}
 use Rattle.wdf_blame_whole.proofs.Standing.{Comes, Removable, lives_by}
-use Rattle.wdf_blame_whole.proofs.Trees.{unasked_stays}
+use Rattle.wdf_agreements.proofs.Subtrees.{unasked_stays}
 use Rattle.wdf_blame_objects.proofs.Sendings.{AllFair, all_targets, one_target, targets_stay}
 
 -- a target of the plan that is live

@@ -20,15 +20,7 @@ use Rattle.wdf_blame_whole.proofs.Runs.{Known, known_now, stands_now}
 use Rattle.wdf_blame_whole.proofs.Standing.{Stands}
 use Rattle.wdf_blame_objects.specs.Deleted.{ArrivedEnd, SentToTargets}
 use Rattle.wdf_blame_objects.proofs.Runs.{GoesWell, goes_well}
-
--- where an entry passes, some id's does
-entry_by : {T : Type 0} (blank : T) (p : T → Bool) (x : T) (xs : List T) (b : Bool) → p x ≡ b → list_any p (x ∷ xs) ≡ true → (list_any p xs ≡ true → (r : ℕ) × (p (entry blank xs r) ≡ true)) → (r : ℕ) × (p (entry blank (x ∷ xs) r) ≡ true)
-entry_by blank p x xs true e h rest = (0, e)
-entry_by blank p x xs false e h rest = let k = rest (rw e at h) in (suc k.0, k.1)
-
-entry_of : {T : Type 0} (blank : T) (p : T → Bool) (xs : List T) → list_any p xs ≡ true → (r : ℕ) × (p (entry blank xs r) ≡ true)
-entry_of blank p [] h = absurd (let z : ⊥ = cc in z)
-entry_of blank p (x ∷ xs) h = entry_by blank p x xs (p x) refl h (entry_of blank p xs)
+use Rattle.wdf_blame_whole.proofs.AfterUp.{any_place}
 
 module _ {A : Type 0} (plan : Plan) (m : Meaning A) (run : List Event) (resolved : IsResolved plan) (is_run : IsRunOf plan m run) where
   abbrev S : State A
@@ -51,7 +43,7 @@ module _ {A : Type 0} (plan : Plan) (m : Meaning A) (run : List Event) (resolved
       by : (b : Bool) → list_any (λ (r : Request). is_sent_to o r.place) S.requests.all ≡ b → nothing_at S o ≡ true
       by false e = ap not e
       by true e = absurd (
-          let r = entry_of no_request (λ (r : Request). is_sent_to o r.place) S.requests.all e in
+          let r = any_place no_request (λ (r : Request). is_sent_to o r.place) S.requests.all e in
           let n = known.placed.sent o r.0 in
           let one : flag (is_sent_to o (place_of S.requests r.0)) ≡ 1 = ap flag r.1 in
           let live : is_live (life_of S.tree o) ≡ true = well.sent.lives o r.0 (omega arith) in

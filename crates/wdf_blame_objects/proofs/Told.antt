@@ -78,8 +78,6 @@ stage_waits plan S d stage.Settled i x h = refl
 stage_waits plan S d stage.Disabled i x h = refl
 stage_waits plan S d stage.Quiet i x h = refl
 stage_waits plan S d stage.Removed i x h = refl
-stage_waits plan S d s i (cause.ByRequest r) h = absurd (let z : ⊥ = cc in z)
-stage_waits plan S d s i (cause.ByFrame f) h = absurd (let z : ⊥ = cc in z)
 stage_waits plan S d s i cause.NoCpu h = absurd (let z : ⊥ = cc in z)
 stage_waits plan S d s i _ h = absurd (let z : ⊥ = cc in z)
 
@@ -109,6 +107,4 @@ each_line_named plan m run resolved is_run ends k (thing.Queued r q) x h has = l
 each_line_named plan m run resolved is_run ends k (thing.Returning r q) x h has = line_is_named plan m run resolved is_run ends k (thing.Returning r q) x h refl
 each_line_named plan m run resolved is_run ends k (thing.Sequence d s) x h has = line_is_named plan m run resolved is_run ends k (thing.Sequence d s) x h refl
 each_line_named plan m run resolved is_run ends k (thing.Deferred o) x h has = line_is_named plan m run resolved is_run ends k (thing.Deferred o) x h refl
-each_line_named plan m run resolved is_run ends k (thing.Owned r) x h has = absurd (let z : ⊥ = cc in z)
-each_line_named plan m run resolved is_run ends k (thing.Sent r t) x h has = absurd (let z : ⊥ = cc in z)
-each_line_named plan m run resolved is_run ends k (thing.Asking d) x h has = absurd (let z : ⊥ = cc in z)
+each_line_named plan m run resolved is_run ends k _ x h has = absurd (let z : ⊥ = cc in z)

@@ -54,7 +54,9 @@ use Rattle.wdf_blame.proofs.Endings.{AtRest, may_not}
 use Rattle.wdf_blame.proofs.Needs.{below_cpus, cpu_group, five, framework_group, free_one, front_none, no_count, none_first, none_if, none_least, placed_at, proper_start}
 use Rattle.wdf_blame_causes.specs.Starts.{has_callback, step_may_run}
 use Rattle.wdf_blame_causes.proofs.Dpcs.{free_by_none}
-use Rattle.wdf_blame_causes.proofs.Presents.{declared_within, kept_has, queue_there}
+use Rattle.wdf_blame.proofs.Stages.{none_of, stage_comes}
+use Rattle.wdf_blame_causes.proofs.Steps.{callback_comes, none_gathered}
+use Rattle.wdf_blame_causes.proofs.Presents.{declared_within, has_image, kept_has, queue_there}
 use Rattle.wdf_queue_power_laws.proofs.Resuming.{device_noted, noted}
 use Rattle.wdf_blame_whole.specs.Standing.{is_live_device, is_part, is_part_of}
 use Rattle.wdf_blame_whole.proofs.Standing.{Stands}
@@ -64,25 +66,6 @@ use Rattle.wdf_blame_whole.proofs.Resumes.{Resumable}
 
 -- ---- lists
 
-none_gathered : {T : Type 0} (f : ℕ → List T) (x : ℕ) (xs : List ℕ) → Has x xs → flat_map f xs ≡ [] → f x ≡ []
-none_gathered f x [] h e = absurd h
-none_gathered f x (y ∷ ys) (inl s) e = ap f s ∙ (front_none (f y) (flat_map f ys) e).0
-none_gathered f x (y ∷ ys) (inr h) e = none_gathered f x ys h (front_none (f y) (flat_map f ys) e).1
-
-neither : (a b : Bool) → (a || b) ≡ false → (a ≡ false) × (b ≡ false)
-neither true b h = absurd (let z : ⊥ = cc in z)
-neither false b h = (refl, h)
-
-none_any : (p : ℕ → Bool) (x : ℕ) (xs : List ℕ) → Has x xs → list_any p xs ≡ false → p x ≡ false
-none_any p x [] h e = absurd h
-none_any p x (y ∷ ys) (inl s) e = ap p s ∙ (neither (p y) (list_any p ys) e).0
-none_any p x (y ∷ ys) (inr h) e = none_any p x ys h (neither (p y) (list_any p ys) e).1
-
-has_image : {T U : Type 0} (f : T → U) (x : T) (xs : List T) → Has x xs → Has (f x) (map f xs)
-has_image f x [] h = h
-has_image f x (y ∷ ys) (inl e) = inl (ap f e)
-has_image f x (y ∷ ys) (inr h) = inr (has_image f x ys h)
-
 not_empty : (x : ℕ) (xs : List ℕ) → Has x xs → nat_lt 0 (length xs) ≡ true
 not_empty x [] h = absurd h
 not_empty x (y ∷ ys) h = below_cpus 0 (suc (length ys)) (omega arith)
@@ -91,96 +74,20 @@ any_place_by : {T : Type 0} (blank : T) (p : T → Bool) (x : T) (xs : List T) (
 any_place_by blank p x xs true e h rest = (0, e)
 any_place_by blank p x xs false e h rest = let more = rest (rw e at h) in (suc more.0, more.1)
 
-any_place : {T : Type 0} (blank : T) (p : T → Bool) (xs : List T) → list_any p xs ≡ true → (k : ℕ) × (p (entry blank xs k) ≡ true)
+pub any_place : {T : Type 0} (blank : T) (p : T → Bool) (xs : List T) → list_any p xs ≡ true → (k : ℕ) × (p (entry blank xs k) ≡ true)
 any_place blank p [] h = absurd (let z : ⊥ = cc in z)
 any_place blank p (x ∷ xs) h = any_place_by blank p x xs (p x) refl h (any_place blank p xs)
 
 -- ---- a step that waits for no resume
 
-handle_itself : (i : Option Handle) → same_option same_handle i i ≡ true
-handle_itself None = refl
-handle_itself (Some h) = (handle_decides h h).1 refl
-
-lives : {A : Type 0} (S : State A) (c : Callback) (o : ℕ) → is_sequence (row_of c).rank ≡ true → is_live (life_of S.tree o) ≡ true → life_fits S c o ≡ true
-lives S callback.EvtCleanupCallback o is h = absurd (let z : ⊥ = cc in z)
-lives S callback.EvtDestroyCallback o is h = absurd (let z : ⊥ = cc in z)
-lives S _ o is h = h
-
-sequence_is : (k : Rank) → is_sequence k ≡ true → k ≡ rank.Sequence
-sequence_is rank.Sequence h = refl
-sequence_is _ h = absurd (let z : ⊥ = cc in z)
-
-begins_at : {A : Type 0} (plan : Plan) (S : State A) (cpu d : ℕ) (c : Callback) (i : Option Handle) → start_of_step plan S cpu d (step.Run c i) ≡ Some (starts plan S cpu c (object_of_step d i))
-begins_at plan S cpu d c None = refl
-begins_at plan S cpu d c (Some i) = refl
-
-same_interrupt : (a b : Option Handle) → same_option same_handle a b ≡ true → a ≡ b
-same_interrupt None None e = refl
-same_interrupt (Some x) (Some y) e = ap Some ((handle_decides x y).0 e)
-same_interrupt None (Some y) e = absurd (let z : ⊥ = cc in z)
-same_interrupt (Some x) None e = absurd (let z : ⊥ = cc in z)
-
-three : (a b c : Bool) → a ≡ true → b ≡ true → c ≡ true → (a && b && c) ≡ true
-three a b c h k l = both (a && b) c (both a b h k) l
-
-module _ {A : Type 0} (plan : Plan) (m : Meaning A) (S : State A) (rest : AtRest plan m S true) (d : ℕ) (low : d < declared_end plan) (calm : not (is_running_step S.pnp d) ≡ true) where
-  ready_by : (s : Step) → same_step s s ≡ true → next_step S.pnp d ≡ Some s → resumes_over S d ≡ true → step_ready S d s ≡ true
-  ready_by s same next over =
-      three (same_option same_step (next_step S.pnp d) (Some s)) (not (is_running_step S.pnp d)) (not (follows_queues_up S.pnp d) || resumes_over S d) (rw next same) calm (second (not (follows_queues_up S.pnp d)) (resumes_over S d) over)
-
-  stage_comes : (i : Option Handle) → next_step S.pnp d ≡ Some (step.Pass stage.Working i) → resumes_over S d ≡ true → ⊥
-  stage_comes i next over =
-      let e0 : Event = event.Stage (handle_in plan S d) stage.Working i in
-      let here : candidate plan m S group.Stages d ≡ Some e0 = rw next refl in
-      let offered : Has e0 (candidates plan m S) = framework_group plan m S group.Stages e0 (inl refl) (placed_at plan m S group.Stages (declared_end plan) d e0 low here) in
-      let no_ : may plan m S e0 ≡ false = may_not plan m S true e0 rest offered in
-      let same : same_step (step.Pass stage.Working i) (step.Pass stage.Working i) ≡ true = both (same_stage stage.Working stage.Working) (same_option same_handle i i) refl (handle_itself i) in
-      let yes_ : may plan m S e0 ≡ true =
-      both (is_proper plan S (handle_in plan S d)) (may_pass plan S d stage.Working i) (itself (handle_in plan S d).name)
-      (both (step_ready S d (step.Pass stage.Working i)) (stage_ready plan S d stage.Working i) (ready_by (step.Pass stage.Working i) same next over) refl) in
-      let z : ⊥ = cc in z
-
-  callback_comes : (c : Callback) (i : Option Handle) → next_step S.pnp d ≡ Some (step.Run c i) → resumes_over S d ≡ true → step_may_run plan S d (step.Run c i) ≡ true → step_cause plan S d (step.Run c i) ≡ None → ⊥
-  callback_comes c i next over may_be h =
-      let o : ℕ = object_of_step d i in
-      let lock : Option LockRef = lock_of_callback plan c o (declared_in plan S o) in
-      let one = none_first (by_frame (holders_of S lock)) (cause_if (no_cpu plan S (callback_irql plan c o)) cause.NoCpu ∷ []) h in
-      let two = none_first (cause_if (no_cpu plan S (callback_irql plan c o)) cause.NoCpu) [] one.1 in
-      let free : is_free_if_any S.locks lock ≡ true = free_by_none S lock (none_least (λ f. cause.ByFrame (frame_id f)) (holders_of S lock) one.0) in
-      let left = free_one (λ cpu. level_fits S cpu (callback_irql plan c o)) 0 plan.cpus (none_if (no_cpu plan S (callback_irql plan c o)) cause.NoCpu two.0) in
-      let cpu : ℕ = left.0 in
-      let under : cpu < 0 + plan.cpus = left.1 in
-      let within : cpu < plan.cpus = omega arith in
-      let e : Event = starts plan S cpu c o in
-      let same : same_option same_handle (interrupt_of_step plan S o) i ≡ true = both_right (has_callback plan S c o && is_sequence (row_of c).rank && nearest_device S.tree o == d) (same_option same_handle (interrupt_of_step plan S o) i) may_be in
-      let before : (has_callback plan S c o && is_sequence (row_of c).rank && nearest_device S.tree o == d) ≡ true = both_left (has_callback plan S c o && is_sequence (row_of c).rank && nearest_device S.tree o == d) (same_option same_handle (interrupt_of_step plan S o) i) may_be in
-      let near : nearest_device S.tree o ≡ d = eqb-true (nearest_device S.tree o) d (both_right (has_callback plan S c o && is_sequence (row_of c).rank) (nearest_device S.tree o == d) before) in
-      let run : (has_callback plan S c o && is_sequence (row_of c).rank) ≡ true = both_left (has_callback plan S c o && is_sequence (row_of c).rank) (nearest_device S.tree o == d) before in
-      let is : is_sequence (row_of c).rank ≡ true = both_right (has_callback plan S c o) (is_sequence (row_of c).rank) run in
-      let can : has_callback plan S c o ≡ true = both_left (has_callback plan S c o) (is_sequence (row_of c).rank) run in
-      let live : is_live (life_of S.tree o) ≡ true = both_left (is_live (life_of S.tree o)) (declares_in plan S c o) can in
-      let has : declares_in plan S c o ≡ true = both_right (is_live (life_of S.tree o)) (declares_in plan S c o) can in
-      let next_is : step_of plan S c o ≡ step.Run c i = ap (step.Run c) (same_interrupt (interrupt_of_step plan S o) i same) in
-      let ready_at : step_ready S d (step.Run c i) ≡ true = ready_by (step.Run c i) (both (same_callback c c) (same_option same_handle i i) ((callback_decides c c).1 refl) (handle_itself i)) next over in
-      let ready : step_ready S (nearest_device S.tree o) (step_of plan S c o) ≡ true = ap (λ x. step_ready S x (step_of plan S c o)) near ∙ ap (step_ready S d) next_is ∙ ready_at in
-      let ranked : is_ready_for plan m S cpu c o None ≡ true = ap (λ k. rank_ready plan m S k cpu c o) (sequence_is (row_of c).rank is) ∙ ready in
-      let at : option_and_then (start_of_step plan S cpu d) (next_step S.pnp d) ≡ Some e = ap (option_and_then (start_of_step plan S cpu d)) next ∙ begins_at plan S cpu d c i in
-      let offered : Has e (candidates plan m S) =
-      cpu_group plan m S cpu (group.Starts cpu rank.Sequence) e within
-      (inr (inr (inr (has_flat (groups_of_rank plan cpu) rank.Sequence (group.Starts cpu rank.Sequence) RANKS (inr (inr (inr (inr (inr (inr (inr (inr (inr (inr (inl refl))))))))))) (inl refl)))))
-      (placed_at plan m S (group.Starts cpu rank.Sequence) (declared_end plan) d e low at) in
-      let no_ : may plan m S e ≡ false = may_not plan m S true e rest offered in
-      let comes : may plan m S e ≡ true =
-      proper_start (nat_lt cpu plan.cpus) (is_proper plan S (handle_in plan S o)) true (may_start plan m S cpu c o None) (below_cpus cpu plan.cpus within) (itself (handle_in plan S o).name) refl
-      (five (declares_in plan S c o) (life_fits S c o) (level_fits S cpu (callback_irql plan c o)) (is_free_if_any S.locks lock) (is_ready_for plan m S cpu c o None)
-      has (lives S c o is live) left.2 free ranked) in
-      let z : ⊥ = cc in z
-
-  -- the step right after `queues_up`
-  step_comes : (s : Step) → next_step S.pnp d ≡ Some s → follows_up (sequence_of S.pnp d) (Some s) ≡ true → resumes_over S d ≡ true → step_may_run plan S d s ≡ true → step_cause plan S d s ≡ None → ⊥
-  step_comes (step.Run c i) next after over may_be none = callback_comes c i next over may_be none
-  step_comes (step.Pass stage.Working i) next after over may_be none = stage_comes i next over
-  step_comes (step.Pass _ i) next after over may_be none = let z : ⊥ = cc in z
+-- the step right after `queues_up` comes
+step_comes : {A : Type 0} (plan : Plan) (m : Meaning A) (S : State A) → AtRest plan m S true → (d : ℕ) → d < declared_end plan → not (is_running_step S.pnp d) ≡ true → (s : Step) → next_step S.pnp d ≡ Some s
+    → follows_up (sequence_of S.pnp d) (Some s) ≡ true → resumes_over S d ≡ true → step_may_run plan S d s ≡ true → step_cause plan S d s ≡ None → ⊥
+step_comes plan m S rest d low calm (step.Run c i) next after over may_be none =
+    callback_comes plan m S rest d c i low next calm (second (not (follows_queues_up S.pnp d)) (resumes_over S d) over) may_be none
+step_comes plan m S rest d low calm (step.Pass stage.Working i) next after over may_be none =
+    stage_comes plan m S rest d stage.Working i low next calm (second (not (follows_queues_up S.pnp d)) (resumes_over S d) over) refl
+step_comes plan m S rest d low calm (step.Pass _ i) next after over may_be none = let z : ⊥ = cc in z
 
 -- ---- a resume that is due
 
@@ -227,7 +134,7 @@ module _ {A : Type 0} (plan : Plan) (m : Meaning A) (S : State A) (rest : AtRest
       let there_q : Has q (queues_to_resume plan S d) = kept_has (λ y. nat_lt 0 (length (resumes_at plan S y))) q (managed_queues plan d) managed (not_empty r (resumes_at plan S q) resuming) in
       let lock : Option LockRef = scope_of plan callback.EvtIoResume q (declared_in plan S q) in
       let free : is_free_if_any S.locks lock ≡ true = free_by_none S lock (none_gathered (λ y. holders_of S (scope_of plan callback.EvtIoResume y (declared_in plan S y))) q (queues_to_resume plan S d) there_q unheld) in
-      let left = free_one (λ cpu. level_fits S cpu (queue_level plan q)) 0 plan.cpus (none_any (λ y. no_cpu plan S (queue_level plan y)) q (queues_to_resume plan S d) there_q cpus) in
+      let left = free_one (λ cpu. level_fits S cpu (queue_level plan q)) 0 plan.cpus (none_of (λ y. no_cpu plan S (queue_level plan y)) (queues_to_resume plan S d) cpus q there_q) in
       let under : left.0 < 0 + plan.cpus = left.1 in
       let within : left.0 < plan.cpus = omega arith in
       let e : Event = starts_for plan S left.0 callback.EvtIoResume q r in

@@ -27,71 +27,21 @@ module _ {A : Type 0} (plan : Plan) (S : State A) (d : ℕ) where
   next_in_hand s (cause.ByRequest r) h = refl
   next_in_hand s (cause.ByFrame f) h = refl
   next_in_hand s cause.NoCpu h = refl
-  next_in_hand (step.Run c i) (cause.ByLock l f) h = absurd (let z : ⊥ = cc in z)
-  next_in_hand (step.Run c i) (cause.ByWork w) h = absurd (let z : ⊥ = cc in z)
-  next_in_hand (step.Run c i) cause.Stopped h = absurd (let z : ⊥ = cc in z)
-  next_in_hand (step.Run c i) cause.Unpowered h = absurd (let z : ⊥ = cc in z)
-  next_in_hand (step.Run c i) cause.Manual h = absurd (let z : ⊥ = cc in z)
-  next_in_hand (step.Run c i) (cause.Behind r) h = absurd (let z : ⊥ = cc in z)
-  next_in_hand (step.Run c i) cause.Full h = absurd (let z : ⊥ = cc in z)
-  next_in_hand (step.Run c i) cause.ScopeHeld h = absurd (let z : ⊥ = cc in z)
-  next_in_hand (step.Run c i) (cause.References n) h = absurd (let z : ⊥ = cc in z)
-  next_in_hand (step.Run c i) (cause.ByChild b) h = absurd (let z : ⊥ = cc in z)
-  next_in_hand (step.Run c i) (cause.AtTarget t) h = absurd (let z : ⊥ = cc in z)
-  next_in_hand (step.Pass s i) (cause.ByLock l f) h = absurd (let z : ⊥ = cc in z)
-  next_in_hand (step.Pass s i) (cause.ByWork w) h = absurd (let z : ⊥ = cc in z)
-  next_in_hand (step.Pass s i) cause.Stopped h = absurd (let z : ⊥ = cc in z)
-  next_in_hand (step.Pass s i) cause.Unpowered h = absurd (let z : ⊥ = cc in z)
-  next_in_hand (step.Pass s i) cause.Manual h = absurd (let z : ⊥ = cc in z)
-  next_in_hand (step.Pass s i) (cause.Behind r) h = absurd (let z : ⊥ = cc in z)
-  next_in_hand (step.Pass s i) cause.Full h = absurd (let z : ⊥ = cc in z)
-  next_in_hand (step.Pass s i) cause.ScopeHeld h = absurd (let z : ⊥ = cc in z)
-  next_in_hand (step.Pass s i) (cause.References n) h = absurd (let z : ⊥ = cc in z)
-  next_in_hand (step.Pass s i) (cause.ByChild b) h = absurd (let z : ⊥ = cc in z)
-  next_in_hand (step.Pass s i) (cause.AtTarget t) h = absurd (let z : ⊥ = cc in z)
+  next_in_hand (step.Pass s i) _ h = absurd (let z : ⊥ = cc in z)
+  next_in_hand (step.Run c i) _ h = absurd (let z : ⊥ = cc in z)
 
   resumes_in_hand : (y : Cause) → keeps_resumes plan S d y ≡ true → is_in_hand y ≡ true
   resumes_in_hand (cause.ByRequest r) h = refl
   resumes_in_hand (cause.ByFrame f) h = refl
   resumes_in_hand cause.NoCpu h = refl
-  resumes_in_hand (cause.ByLock l f) h = absurd (let z : ⊥ = cc in z)
-  resumes_in_hand (cause.ByWork w) h = absurd (let z : ⊥ = cc in z)
-  resumes_in_hand cause.Stopped h = absurd (let z : ⊥ = cc in z)
-  resumes_in_hand cause.Unpowered h = absurd (let z : ⊥ = cc in z)
-  resumes_in_hand cause.Manual h = absurd (let z : ⊥ = cc in z)
-  resumes_in_hand (cause.Behind r) h = absurd (let z : ⊥ = cc in z)
-  resumes_in_hand cause.Full h = absurd (let z : ⊥ = cc in z)
-  resumes_in_hand cause.ScopeHeld h = absurd (let z : ⊥ = cc in z)
-  resumes_in_hand (cause.References n) h = absurd (let z : ⊥ = cc in z)
-  resumes_in_hand (cause.ByChild c) h = absurd (let z : ⊥ = cc in z)
-  resumes_in_hand (cause.AtTarget t) h = absurd (let z : ⊥ = cc in z)
+  resumes_in_hand _ h = absurd (let z : ⊥ = cc in z)
 
   running_in_hand : (s : Step) (y : Cause) → keeps_running S d s y ≡ true → is_in_hand y ≡ true
   running_in_hand s (cause.ByRequest r) h = refl
   running_in_hand s (cause.ByFrame f) h = refl
   running_in_hand s cause.NoCpu h = refl
-  running_in_hand (step.Run c i) (cause.ByLock l f) h = absurd (let z : ⊥ = cc in z)
-  running_in_hand (step.Run c i) (cause.ByWork w) h = absurd (let z : ⊥ = cc in z)
-  running_in_hand (step.Run c i) cause.Stopped h = absurd (let z : ⊥ = cc in z)
-  running_in_hand (step.Run c i) cause.Unpowered h = absurd (let z : ⊥ = cc in z)
-  running_in_hand (step.Run c i) cause.Manual h = absurd (let z : ⊥ = cc in z)
-  running_in_hand (step.Run c i) (cause.Behind r) h = absurd (let z : ⊥ = cc in z)
-  running_in_hand (step.Run c i) cause.Full h = absurd (let z : ⊥ = cc in z)
-  running_in_hand (step.Run c i) cause.ScopeHeld h = absurd (let z : ⊥ = cc in z)
-  running_in_hand (step.Run c i) (cause.References n) h = absurd (let z : ⊥ = cc in z)
-  running_in_hand (step.Run c i) (cause.ByChild b) h = absurd (let z : ⊥ = cc in z)
-  running_in_hand (step.Run c i) (cause.AtTarget t) h = absurd (let z : ⊥ = cc in z)
-  running_in_hand (step.Pass s i) (cause.ByLock l f) h = absurd (let z : ⊥ = cc in z)
-  running_in_hand (step.Pass s i) (cause.ByWork w) h = absurd (let z : ⊥ = cc in z)
-  running_in_hand (step.Pass s i) cause.Stopped h = absurd (let z : ⊥ = cc in z)
-  running_in_hand (step.Pass s i) cause.Unpowered h = absurd (let z : ⊥ = cc in z)
-  running_in_hand (step.Pass s i) cause.Manual h = absurd (let z : ⊥ = cc in z)
-  running_in_hand (step.Pass s i) (cause.Behind r) h = absurd (let z : ⊥ = cc in z)
-  running_in_hand (step.Pass s i) cause.Full h = absurd (let z : ⊥ = cc in z)
-  running_in_hand (step.Pass s i) cause.ScopeHeld h = absurd (let z : ⊥ = cc in z)
-  running_in_hand (step.Pass s i) (cause.References n) h = absurd (let z : ⊥ = cc in z)
-  running_in_hand (step.Pass s i) (cause.ByChild b) h = absurd (let z : ⊥ = cc in z)
-  running_in_hand (step.Pass s i) (cause.AtTarget t) h = absurd (let z : ⊥ = cc in z)
+  running_in_hand (step.Pass s i) _ h = absurd (let z : ⊥ = cc in z)
+  running_in_hand (step.Run c i) _ h = absurd (let z : ⊥ = cc in z)
 
   after_in_hand : (s : Step) (y : Cause) (b n : Bool) → keeps_resumes plan S d y ≡ b → keeps_next plan S d s y ≡ n → ((follows_queues_up S.pnp d && keeps_resumes plan S d y) || keeps_next plan S d s y) ≡ true → is_in_hand y ≡ true
   after_in_hand s y true n e f h = resumes_in_hand y e

@@ -89,7 +89,7 @@ use Rattle.wdf_power_laws.proofs.Frames.{Runs, StepFrames, is_step}
 use Rattle.wdf_power_laws.proofs.Isrs.{as_found}
 use Rattle.wdf_power_laws.proofs.Happens.{found_pass, not_running}
 use Rattle.wdf_blame_whole.specs.Standing.{IsOver, is_live_device, is_part, is_part_of}
-use Rattle.wdf_blame_whole.proofs.Trees.{first_out, parent_in}
+use Rattle.wdf_agreements.proofs.Subtrees.{first_out, parent_in}
 use Rattle.wdf_blame_whole.proofs.Belonging.{device_of_target, target_found}
 use Rattle.wdf_blame_whole.proofs.Lasting.{Lasts, last_step}
 use Rattle.wdf_blame_whole.proofs.Standing.{AllComes, Removable, Stands, defers, ready_in}
@@ -133,10 +133,7 @@ part_by : (plan : Plan) (d x : ℕ) (o : Option Declared) → declared_of plan x
 part_by plan d x (Some (declared.Queue q)) e h = record { info = declared.Queue q; is = e; parent = eqb-true q.device.0 d h; kept = refl; other = refl }
 part_by plan d x (Some (declared.Interrupt i)) e h = record { info = declared.Interrupt i; is = e; parent = eqb-true i.device.0 d h; kept = refl; other = refl }
 part_by plan d x (Some (declared.Target t)) e h = record { info = declared.Target t; is = e; parent = eqb-true t.device.0 d h; kept = refl; other = refl }
-part_by plan d x (Some declared.Driver) e h = absurd (let z : ⊥ = cc in z)
-part_by plan d x (Some (declared.Device y)) e h = absurd (let z : ⊥ = cc in z)
-part_by plan d x (Some (declared.OfClass c)) e h = absurd (let z : ⊥ = cc in z)
-part_by plan d x None e h = absurd (let z : ⊥ = cc in z)
+part_by plan d x _ e h = absurd (let z : ⊥ = cc in z)
 
 part_is : (plan : Plan) (d x : ℕ) → is_part_of plan d x ≡ true → IsPart plan d x
 part_is plan d x h = part_by plan d x (declared_of plan x) refl (both_left (is_part d (declared_of plan x)) (is_some (device_of plan d)) h)
@@ -151,12 +148,7 @@ record IsDevice (plan : Plan) (d : ℕ) : Type 0 where
 
 device_by : (plan : Plan) (d : ℕ) (o : Option Declared) → declared_of plan d ≡ o → is_some (device_of plan d) ≡ true → IsDevice plan d
 device_by plan d (Some (declared.Device y)) e h = record { info = declared.Device y; is = e; parent = refl; kept = refl; kind = refl }
-device_by plan d (Some (declared.Queue y)) e h = absurd (let off : is_some (device_of plan d) ≡ false = rw e refl in let z : ⊥ = cc in z)
-device_by plan d (Some (declared.Interrupt y)) e h = absurd (let off : is_some (device_of plan d) ≡ false = rw e refl in let z : ⊥ = cc in z)
-device_by plan d (Some declared.Driver) e h = absurd (let off : is_some (device_of plan d) ≡ false = rw e refl in let z : ⊥ = cc in z)
-device_by plan d (Some (declared.Target y)) e h = absurd (let off : is_some (device_of plan d) ≡ false = rw e refl in let z : ⊥ = cc in z)
-device_by plan d (Some (declared.OfClass y)) e h = absurd (let off : is_some (device_of plan d) ≡ false = rw e refl in let z : ⊥ = cc in z)
-device_by plan d None e h = absurd (let off : is_some (device_of plan d) ≡ false = rw e refl in let z : ⊥ = cc in z)
+device_by plan d _ e h = absurd (let off : is_some (device_of plan d) ≡ false = rw e refl in let z : ⊥ = cc in z)
 
 device_is : (plan : Plan) (d : ℕ) → is_some (device_of plan d) ≡ true → IsDevice plan d
 device_is plan d h = device_by plan d (declared_of plan d) refl h
@@ -345,9 +337,7 @@ module _ {A : Type 0} (plan : Plan) (S : State A) (resolved : IsResolved plan) (
 
   any_there : (v : View) (a : Arg) → is_stale v false sort.AnyObject a ≡ false → is_wrong_kind v sort.AnyObject a ≡ false → is_gone (v.life (object_in a)) ≡ false
   any_there v (Val (Obj h)) s w = (either_false (is_gone (v.life h.id.0)) (is_cleaned (v.life h.id.0) && true) s).0
-  any_there v (Val (Num n)) s w = absurd (let z : ⊥ = cc in z)
-  any_there v (Val (Stat x)) s w = absurd (let z : ⊥ = cc in z)
-  any_there v (Class c) s w = absurd (let z : ⊥ = cc in z)
+  any_there v _ s w = absurd (let z : ⊥ = cc in z)
 
   -- an interrupt is no DPC object
   no_dpc : (o : ℕ) (x : Option InterruptInfo) → interrupt_of plan o ≡ x → is_live (life_of S.tree o) ≡ true → same_kind (kind_of S.tree o) kind.Dpc ≡ true → is_some x ≡ true → ⊥
@@ -364,13 +354,8 @@ module _ {A : Type 0} (plan : Plan) (S : State A) (resolved : IsResolved plan) (
       by (declared_of plan o) (facts.known.known.declared.declared o (ap is_declared_kind e) ∙ ap Some e)
     where
       by : (x : Option Declared) → option_and_then declared_kind x ≡ Some kind.Interrupt → is_some (as_interrupt x) ≡ true
-      by None h = absurd (let z : ⊥ = cc in z)
-      by (Some declared.Driver) h = absurd (let z : ⊥ = cc in z)
-      by (Some (declared.Device d)) h = absurd (let z : ⊥ = cc in z)
-      by (Some (declared.Queue q)) h = absurd (let z : ⊥ = cc in z)
       by (Some (declared.Interrupt i)) h = refl
-      by (Some (declared.Target t)) h = absurd (let z : ⊥ = cc in z)
-      by (Some (declared.OfClass c)) h = absurd (let z : ⊥ = cc in z)
+      by _ h = absurd (let z : ⊥ = cc in z)
 
   isr_comes : (cpu i : ℕ) (a b c : Bool) → is_enabled S.interrupts i ≡ a → declares plan callback.EvtInterruptDpc i ≡ b → is_some (interrupt_of plan i) ≡ true → AllComes plan (if a && b && c then number 1 (EnqueueDpc (cpu_of cpu) (object_id i) ∷ []) else number 0 []).deeds S
   isr_comes cpu i true true true e f is =
@@ -438,12 +423,7 @@ module _ {A : Type 0} (plan : Plan) (S : State A) (resolved : IsResolved plan) (
 
   device_handle : (o : Option Declared) → same_option same_kind (option_and_then declared_kind o) (Some kind.Device) ≡ true → is_some (as_device o) ≡ true
   device_handle (Some (declared.Device d)) h = refl
-  device_handle (Some declared.Driver) h = absurd (let z : ⊥ = cc in z)
-  device_handle (Some (declared.Queue q)) h = absurd (let z : ⊥ = cc in z)
-  device_handle (Some (declared.Interrupt i)) h = absurd (let z : ⊥ = cc in z)
-  device_handle (Some (declared.Target t)) h = absurd (let z : ⊥ = cc in z)
-  device_handle (Some (declared.OfClass c)) h = absurd (let z : ⊥ = cc in z)
-  device_handle None h = absurd (let z : ⊥ = cc in z)
+  device_handle _ h = absurd (let z : ⊥ = cc in z)
 
   arrival_comes : (agent : ℕ) (f : RequestForm) (length code : ℕ) (d : Handle) → may_arrive plan S d ≡ true → AllComes plan (arrival_deeds plan S agent f length code d.id.0) S
   arrival_comes agent f length code d h = by (is_live (life_of S.tree d.id.0))

@@ -83,17 +83,7 @@ StageSort s i = (s ≡ stage.Quiet) ⊎ (is_stage (step.Pass s i) ≡ true)
 
 sort_of : (s : Stage) (i : Option Handle) → StageSort s i
 sort_of stage.Quiet i = inl refl
-sort_of stage.Hardware i = inr refl
-sort_of stage.NoHardware i = inr refl
-sort_of stage.Enabled i = inr refl
-sort_of stage.Disabled i = inr refl
-sort_of stage.QueuesUp i = inr refl
-sort_of stage.QueuesDown i = inr refl
-sort_of stage.Settled i = inr refl
-sort_of stage.Closed i = inr refl
-sort_of stage.Working i = inr refl
-sort_of stage.Sleeping i = inr refl
-sort_of stage.Removed i = inr refl
+sort_of _ i = inr refl
 
 module _ {A : Type 0} (plan : Plan) (m : Meaning A) (run : List Event) (resolved : IsResolved plan) (is_run : IsRunOf plan m run) where
   abbrev S : State A

@@ -136,17 +136,15 @@ module _ (p : DeviceSteps) where
   asked ever Off asks.Start = plain_lasts (hard_steps p ++ up_steps p ever) (join (hard_steps p) (up_steps p ever) hards (ups ever))
   asked ever Off asks.Remove = refl
   asked ever Off asks.Surprise = refl
-  asked ever Off _ = tt
   asked ever Working asks.Sleep = plain_lasts (down_steps p ++ pass stage.Sleeping) (join (down_steps p) (pass stage.Sleeping) downs (passes stage.Sleeping refl))
   asked ever Working asks.Rebalance = plain_lasts (steps_for p ever Working asks.Rebalance) (rebalances ever)
   asked ever Working asks.Remove = before (run p callback.EvtDeviceQueryRemove ++ down_steps p) (tail_steps p ever) (join (run p callback.EvtDeviceQueryRemove) (down_steps p) (runs p callback.EvtDeviceQueryRemove) downs) (tails ever)
   asked ever Working asks.Surprise = before (run p callback.EvtDeviceSurpriseRemoval ++ down_steps p) (tail_steps p ever) (join (run p callback.EvtDeviceSurpriseRemoval) (down_steps p) (runs p callback.EvtDeviceSurpriseRemoval) downs) (tails ever)
-  asked ever Working _ = tt
   asked ever Sleeping asks.Wake = plain_lasts (up_steps p ever) (ups ever)
   asked ever Sleeping asks.Remove = before (run p callback.EvtDeviceQueryRemove) (tail_steps p ever) (runs p callback.EvtDeviceQueryRemove) (tails ever)
   asked ever Sleeping asks.Surprise = before (run p callback.EvtDeviceSurpriseRemoval) (tail_steps p ever) (runs p callback.EvtDeviceSurpriseRemoval) (tails ever)
-  asked ever Sleeping _ = tt
   asked ever Removed a = tt
+  asked ever _ _ = tt
 
 pub lasts_asked : (q : Sequence) (a : Ask) → Lasts (steps_for q.steps q.ever_working q.phase a)
 lasts_asked q a = asked q.steps q.ever_working q.phase a
@@ -154,24 +152,12 @@ lasts_asked q a = asked q.steps q.ever_working q.phase a
 -- ---- a step is taken
 
 pub passed_left : (s : Stage) (q : Sequence) → (passed s q).left ≡ q.left
-passed_left stage.Working q = refl
-passed_left stage.Sleeping q = refl
 passed_left stage.Removed q = refl
 passed_left _ q = refl
 
 lasts_passed : (s : Stage) (ss : List Step) → by_stage s ss (Lasts ss) → Lasts ss
 lasts_passed stage.Removed ss h = rw h tt
-lasts_passed stage.Hardware ss h = h
-lasts_passed stage.NoHardware ss h = h
-lasts_passed stage.Enabled ss h = h
-lasts_passed stage.Disabled ss h = h
-lasts_passed stage.QueuesUp ss h = h
-lasts_passed stage.QueuesDown ss h = h
-lasts_passed stage.Settled ss h = h
-lasts_passed stage.Quiet ss h = h
-lasts_passed stage.Working ss h = h
-lasts_passed stage.Sleeping ss h = h
-lasts_passed stage.Closed ss h = h
+lasts_passed _ ss h = h
 
 lasts_stepped : (q : Sequence) (ss : List Step) → q.left ≡ ss → Lasts ss → Lasts (taken_step q).left
 lasts_stepped q [] e h = rw e tt

@@ -1,4 +1,3 @@
-pub mod Trees
 pub mod Lasting
 pub mod Opened
 pub mod Standing
@@ -10,7 +9,6 @@ pub mod Works
 pub mod Lines
 pub mod Queues
 pub mod Worked
-pub mod Declared
 pub mod Stepped
 pub mod Soon
 pub mod Quieting

@@ -32,6 +32,8 @@ use Rattle.wdf_invariants.proofs.HeldMoves.{Placed}
 use Rattle.wdf_room.specs.Kept.{table_size}
 use Rattle.wdf_agreements.proofs.Sound.{Sound}
 use Rattle.wdf_agreements.proofs.Stays.{asks_all, given, given_if}
+use Rattle.wdf_model.proofs.KeptByDeeds.{owned_undone}
+use Rattle.wdf_room.proofs.DoableStarts.{queued_undone}
 
 -- ---- the property
 
@@ -48,17 +50,9 @@ Opened plan L R = (r : ℕ) → IsOpened plan L r (request_of R r)
 
 -- ---- where a request is that isn't done
 
-queued_undone : (q : ℕ) (p : Place) → is_queued_in q p ≡ true → is_done p ≡ false
-queued_undone q place.Done h = absurd (let z : ⊥ = cc in z)
-queued_undone q _ h = refl
-
 returning_undone : (q : ℕ) (p : Place) → is_returning_to q p ≡ true → is_done p ≡ false
 returning_undone q place.Done h = absurd (let z : ⊥ = cc in z)
 returning_undone q _ h = refl
-
-owned_undone : (p : Place) → is_owned p ≡ true → is_done p ≡ false
-owned_undone place.Done h = absurd (let z : ⊥ = cc in z)
-owned_undone _ h = refl
 
 sent_undone : (p : Place) → is_sent p ≡ true → is_done p ≡ false
 sent_undone place.Done h = absurd (let z : ⊥ = cc in z)

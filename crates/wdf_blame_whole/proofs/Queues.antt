@@ -1,6 +1,6 @@
 -- A queue in which a request waits, or to which one returns, is live.
 use Rattle.std.proofs.Common.{◌≡◌, ◌≢◌, ℕ, ◌==◌, Bool, true, false, not, ◌&&◌, ◌||◌, List, inl, inr, Option, Some, None, is_some, option_map, length, unwrap_or, refl, sym, ap, ◌∙◌}
-use Rattle.std.proofs.lemmas.Bool.{eqb-true, or_cases}
+use Rattle.std.proofs.lemmas.Bool.{or_cases}
 use Rattle.wdf_base.specs.Meaning.{Meaning}
 use Rattle.wdf_base.specs.Plan.{declared_of}
 use Rattle.wdf_base.specs.Resolved.{IsResolved}
@@ -25,7 +25,8 @@ use Rattle.wdf_model.proofs.Sames.{kind_decides}
 use Rattle.wdf_invariants.proofs.HeldMoves.{Placed}
 use Rattle.wdf_invariants.proofs.StillFrames.{live_there}
 use Rattle.wdf_agreements.proofs.Keeping.{at_the_end}
-use Rattle.wdf_agreements.proofs.OfDevices.{OfDevices, devices_at_each}
+use Rattle.wdf_agreements.proofs.FromQueues.{AllSuited, queued_suits, returning_suits}
+use Rattle.wdf_agreements.proofs.OfDevices.{OfItsDevice, devices_at_each}
 use Rattle.wdf_blame_causes.specs.Starts.{is_live_queue}
 use Rattle.wdf_blame_whole.specs.Standing.{is_part, is_part_of}
 use Rattle.wdf_blame_whole.specs.Owners.{QueuesLive}
@@ -37,12 +38,7 @@ use Rattle.wdf_blame_whole.proofs.Runs.{Known, known_now, stands_now}
 -- a queue of a device
 pub queue_is : (plan : Plan) (q d : ℕ) (x : Option Declared) → declared_of plan q ≡ x → unwrap_or (option_map (λ (i : QueueInfo). i.device.0) (as_queue x)) 0 ≡ d → d ≢ 0 → (i : QueueInfo) × (declared_of plan q ≡ Some (declared.Queue i)) × (i.device.0 ≡ d)
 queue_is plan q d (Some (declared.Queue i)) e h n = (i, e, h)
-queue_is plan q d (Some declared.Driver) e h n = absurd (n (sym h))
-queue_is plan q d (Some (declared.Device i)) e h n = absurd (n (sym h))
-queue_is plan q d (Some (declared.Interrupt i)) e h n = absurd (n (sym h))
-queue_is plan q d (Some (declared.Target i)) e h n = absurd (n (sym h))
-queue_is plan q d (Some (declared.OfClass i)) e h n = absurd (n (sym h))
-queue_is plan q d None e h n = absurd (n (sym h))
+queue_is plan q d _ e h n = absurd (n (sym h))
 
 in_undone : (q : ℕ) (p : Place) → is_in q p ≡ true → is_done p ≡ false
 in_undone q place.Done h = absurd (let z : ⊥ = cc in z)
@@ -51,10 +47,7 @@ in_undone q _ h = refl
 in_made : (q : ℕ) (p : Place) → is_in q p ≡ true → is_made_place p ≡ false
 in_made q (place.Queued x) h = refl
 in_made q (place.Returning x) h = refl
-in_made q (place.Closing s) h = absurd (let z : ⊥ = cc in z)
-in_made q place.Owned h = absurd (let z : ⊥ = cc in z)
-in_made q (place.Sent t) h = absurd (let z : ⊥ = cc in z)
-in_made q place.Done h = absurd (let z : ⊥ = cc in z)
+in_made q _ h = absurd (let z : ⊥ = cc in z)
 
 arrived_by : (e : Request) (b : Bool) → has_arrived e ≡ b → (has_arrived e ≡ false → is_made_place e.place ≡ true) → is_made_place e.place ≡ false → has_arrived e ≡ true
 arrived_by e true h made off = h
@@ -65,34 +58,12 @@ undone_in true false h k = refl
 undone_in true true h k = absurd (let z : ⊥ = cc in z)
 undone_in false b h k = absurd (let z : ⊥ = cc in z)
 
-module _ {A : Type 0} (plan : Plan) (S : State A) (facts : Facts plan S) (placed : Placed S) (of : OfDevices plan S.requests) (k : Stands plan S) where
-  device_fits : (q : ℕ) (p : Place) (d : ℕ) → is_in q p ≡ true → (is_queued_in q p ≡ true → device_of_queue plan q ≡ d) → (is_returning_to q p ≡ true → device_of_queue plan q ≡ d) → device_of_queue plan q ≡ d
-  device_fits q p d h one two = elim (or_cases (is_queued_in q p) (is_returning_to q p) h) [
-    | inl e ↦ one e
-    | inr e ↦ two e
+module _ {A : Type 0} (plan : Plan) (S : State A) (facts : Facts plan S) (placed : Placed S) (of : AllSuited plan (OfItsDevice plan) S.requests) (k : Stands plan S) where
+  at_queue : (q r : ℕ) → is_in q (place_of S.requests r) ≡ true → device_of_queue plan q ≡ (info_of S.requests r).device.0
+  at_queue q r h = elim (or_cases (is_queued_in q (place_of S.requests r)) (is_returning_to q (place_of S.requests r)) h) [
+    | inl e ↦ queued_suits plan (OfItsDevice plan) S.requests q r of e
+    | inr e ↦ (returning_suits plan (OfItsDevice plan) S.requests q r of e).0
   ]
-
-  at_queue : (q r : ℕ) (p : Place) → place_of S.requests r ≡ p → is_in q p ≡ true → device_of_queue plan q ≡ (info_of S.requests r).device.0
-  at_queue q r (place.Queued x) e h =
-      let same : x.0 ≡ q = eqb-true x.0 q (one (x.0 == q) h) in
-      ap (device_of_queue plan) (sym same) ∙ fit
-    where
-      one : (b : Bool) → (b || false) ≡ true → b ≡ true
-      one true t = refl
-      one false t = absurd (let z : ⊥ = cc in z)
-
-      fit : device_of_queue plan x.0 ≡ (info_of S.requests r).device.0
-      fit = let a = (of r).at in rw e at a
-  at_queue q r (place.Returning x) e h =
-      let same : x.0 ≡ q = eqb-true x.0 q h in
-      ap (device_of_queue plan) (sym same) ∙ fit
-    where
-      fit : device_of_queue plan x.0 ≡ (info_of S.requests r).device.0
-      fit = let a = (of r).at in rw e at a
-  at_queue q r (place.Closing s) e h = absurd (let z : ⊥ = cc in z)
-  at_queue q r place.Owned e h = absurd (let z : ⊥ = cc in z)
-  at_queue q r (place.Sent t) e h = absurd (let z : ⊥ = cc in z)
-  at_queue q r place.Done e h = absurd (let z : ⊥ = cc in z)
 
   live_queue : (q r : ℕ) → is_in q (place_of S.requests r) ≡ true → is_live_queue S q ≡ true
   live_queue q r h =
@@ -104,7 +75,7 @@ module _ {A : Type 0} (plan : Plan) (S : State A) (facts : Facts plan S) (placed
       let is : is_some (device_of plan d) ≡ true = both_left (is_some (device_of plan d)) (is_live (life_of S.tree d)) dev in
       let live : is_live (life_of S.tree d) ≡ true = both_right (is_some (device_of plan d)) (is_live (life_of S.tree d)) dev in
       let no_zero : d ≢ 0 = λ z_. (let off : is_some (device_of plan d) ≡ false = ap (λ y. is_some (device_of plan y)) z_ in let z : ⊥ = cc in z) in
-      let i = queue_is plan q d (declared_of plan q) refl (at_queue q r e.place refl h) no_zero in
+      let i = queue_is plan q d (declared_of plan q) refl (at_queue q r h) no_zero in
       let part : is_part_of plan d q ≡ true = both (is_part d (declared_of plan q)) (is_some (device_of plan d)) (ap (is_part d) i.1 ∙ (ap (λ y. y == d) i.2 ∙ itself d)) is in
       let there : is_live (life_of S.tree q) ≡ true = k.parts d q part live in
       let kind_ : kind_of S.tree q ≡ kind.Queue = (facts.declared q (declared.Queue i.0) i.1 (live_there (life_of S.tree q) there)).1 in
@@ -114,7 +85,7 @@ pub queues_live : {A : Type 0} (plan : Plan) (m : Meaning A) (run : List Event) 
 queues_live {A} plan m run resolved is_run =
     let S : State A = state_after plan m run in
     let n : Known plan S = known_now plan m resolved run is_run in
-    let of : OfDevices plan S.requests = at_the_end plan m (λ (S : State A). OfDevices plan S.requests) run (devices_at_each plan m run is_run (length run)).1 in
+    let of : AllSuited plan (OfItsDevice plan) S.requests = at_the_end plan m (λ (S : State A). AllSuited plan (OfItsDevice plan) S.requests) run (devices_at_each plan m run is_run (length run)).1 in
     record { queues = live_queue plan S n.facts n.placed of (stands_now plan m run resolved is_run) }
 
 pub queued_in : (q : ℕ) (p : Place) → is_queued_in q p ≡ true → is_in q p ≡ true

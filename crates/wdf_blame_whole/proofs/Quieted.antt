@@ -66,7 +66,7 @@ use Rattle.wdf_blame_whole.specs.Standing.{IsOver, is_live_device, is_part, is_p
 use Rattle.wdf_blame_whole.proofs.Soon.{IsSteady, Steady, comes_soon}
 use Rattle.wdf_blame_whole.proofs.Standing.{AllComes, Stands}
 use Rattle.wdf_blame_whole.proofs.Coming.{Facts, event_comes}
-use Rattle.wdf_blame_whole.proofs.Declared.{IsDeclaredStep, steps_declared}
+use Rattle.wdf_ready_once.proofs.Steps.{IsDeclaredStep, steps_declared}
 use Rattle.wdf_blame_whole.proofs.Runs.{Known, known_now, stands_now}
 use Rattle.wdf_blame_whole.proofs.Quieting.{AllServes, Quieting, Serves, quieting_by}
 
@@ -199,7 +199,7 @@ module _ {A : Type 0} (plan : Plan) (m : Meaning A) (S : State A) (facts : Facts
   disables_well n (Some i) may_come = λ d is.
       let ready : step_ready S n (step.Pass stage.Disabled (Some i)) ≡ true = both_left (step_ready S n (step.Pass stage.Disabled (Some i))) (stage_ready plan S n stage.Disabled (Some i)) may_come in
       let next : steps_left S.pnp n ≡ step.Pass stage.Disabled (Some i) ∷ drop 1 (steps_left S.pnp n) = is_of n stage.Disabled (Some i) ready in
-      let mine : is_interrupt_of n (interrupt_of plan i.id.0) ≡ true = own n (step.Pass stage.Disabled (Some i)) (ap first_of_list next) in
+      let mine : is_interrupt_of n (interrupt_of plan i.id.0) ≡ true = (own n (step.Pass stage.Disabled (Some i)) (ap first_of_list next)).2 in
       let same : d ≡ n = both_of d n (interrupt_of plan i.id.0) is mine in
       let steady : Steady (step.Pass stage.Disabled (Some i) ∷ drop 1 (steps_left S.pnp n)) = subst Steady next (k.steady n).left in
       let soon : comes_soon (drop 1 (steps_left S.pnp n)) ≡ true = steady.0 in

@@ -33,7 +33,8 @@ use Rattle.wdf_model.proofs.Maps.{entry_map}
 use Rattle.wdf_model.proofs.Tests.{both_right}
 use Rattle.wdf_agreements.proofs.SoundRuns.{sound_place}
 use Rattle.wdf_agreements.proofs.Stays.{asks_all}
-use Rattle.wdf_queue_power_laws.proofs.Resuming.{is_advance, is_resuming, none_more_by, noted}
+use Rattle.wdf_queue_power_laws.proofs.Resuming.{arrived, closed, is_advance, is_resuming, none_more_by, noted, returned, undeclared, withdrawn}
+use Rattle.wdf_power_laws.proofs.Runs.{mapped}
 
 -- ---- what power notes of queues stays
 
@@ -56,26 +57,7 @@ given_if : {A : Type 0} (S : State A) (forget : Bool) (r : ℕ) → (give_up_if 
 given_if S true r = given S r
 given_if S false r = refl
 
-withdrawn : {A : Type 0} (plan : Plan) (q : ℕ) (rs : List ℕ) (S : State A) → (fold (withdraw plan q) S rs).power ≡ S.power
-withdrawn plan q [] S = refl
-withdrawn plan q (r ∷ rs) S = withdrawn plan q rs (withdraw plan q S r)
-
-returned : {A : Type 0} (qs : List ℕ) (S : State A) → (fold close_returning S qs).power ≡ S.power
-returned [] S = refl
-returned (q ∷ qs) S = returned qs (close_returning S q)
-
-closed : {A : Type 0} (qs : List ℕ) (S : State A) → (fold close_queue S qs).power ≡ S.power
-closed [] S = refl
-closed (q ∷ qs) S = closed qs (close_queue S q)
-
-arrived : {A : Type 0} (S : State A) (device : ℕ) (info : RequestInfo) (p : Place) → (arrive_at S device info p).power ≡ S.power
-arrived S device info (place.Queued q) = refl
-arrived S device info _ = refl
-
 advanced : (P : Power) (d : ℕ) (s : Stage) → (advance_stage P d s).queues ≡ P.queues
-advanced P d stage.Hardware = refl
-advanced P d stage.NoHardware = refl
-advanced P d stage.QueuesUp = refl
 advanced P d stage.QueuesDown = refl
 advanced P d _ = refl
 
@@ -96,20 +78,10 @@ still_noted plan (AskDeletion o) S = ap (λ (P : Power). P.queues) (asks_all pow
 still_noted plan (PurgeQueue q) S = ap (λ (P : Power). P.queues) (withdrawn plan q.0 (waiting_in S.queues q.0) (record S { control = control.set_mode S.control q.0 mode.Purged }))
 still_noted plan (CloseReturning d) S = ap (λ (P : Power). P.queues) (returned (managed_queues plan d.0) S)
 still_noted plan (CloseDevice d) S = ap (λ (P : Power). P.queues) (closed (queues_of plan d.0) (record S { control = control.shut S.control d.0 }))
-still_noted plan (AdvancePower d (step.Run c i)) S = refl
 still_noted plan (AdvancePower d (step.Pass s i)) S = advanced S.power d.0 s
 still_noted plan _ S = refl
 
 -- ---- power notes of each queue whether it has EvtIoResume
-
-of_range : {T : Type 0} (blank : T) (f : ℕ → T) (a n k : ℕ) → ((x : ℕ) → a + n ≤ x → f x ≡ blank) → entry blank (map f (range_with_len a n)) k ≡ f (a + k)
-of_range blank f a zero k past = sym (past (a + k) (omega arith))
-of_range blank f a (suc n) zero past = let e : a ≡ a + 0 = omega arith in ap f e
-of_range blank f a (suc n) (suc k) past = let e : (a + 1) + k ≡ a + suc k = omega arith in of_range blank f (a + 1) n k (λ x h. past x (omega arith)) ∙ ap f e
-
-undeclared : (plan : Plan) (q : ℕ) → suc (length plan.declared) ≤ q → declared_of plan q ≡ None
-undeclared plan zero h = absurd (omega arith)
-undeclared plan (suc k) h = slice_get_past plan.declared k (omega arith)
 
 blank_queue : (plan : Plan) (q : ℕ) → declared_of plan q ≡ None → opening_queue_power plan q ≡ no_queue_power
 blank_queue plan q e = rw e refl
@@ -118,7 +90,7 @@ resumes_noted : (plan : Plan) (P : Power) (q : ℕ) → P.queues ≡ (opening_po
 resumes_noted plan P q same =
     let e : 0 + q ≡ q = omega arith in
     ap (λ qs. (entry no_queue_power qs q).resumes) same
-    ∙ ap (λ (y : QueuePower). y.resumes) (of_range no_queue_power (opening_queue_power plan) 0 (suc (length plan.declared)) q (λ x h. blank_queue plan x (undeclared plan x (omega arith))))
+    ∙ ap (λ (y : QueuePower). y.resumes) (mapped no_queue_power (opening_queue_power plan) 0 (suc (length plan.declared)) q (λ x h. blank_queue plan x (undeclared plan x (omega arith))))
     ∙ ap (declares plan callback.EvtIoResume) e
 
 -- ---- the property
@@ -149,9 +121,6 @@ up_due plan P d x same old due =
 stage_due : (plan : Plan) (P : Power) (d : ℕ) (s : Stage) (x : ℕ) → P.queues ≡ (opening_power plan).queues → ((y : ℕ) → is_resuming (holding_of P y) ≡ true → declares plan callback.EvtIoResume (noted P y) ≡ true)
     → is_resuming (holding_of (advance_stage P d s) x) ≡ true → declares plan callback.EvtIoResume (noted (advance_stage P d s) x) ≡ true
 stage_due plan P d stage.QueuesUp x same old due = up_due plan P d x same old due
-stage_due plan P d stage.Hardware x same old due = old x due
-stage_due plan P d stage.NoHardware x same old due = old x due
-stage_due plan P d stage.QueuesDown x same old due = old x due
 stage_due plan P d _ x same old due = old x due
 
 others_due : {A : Type 0} (plan : Plan) (d : Deed) (S : State A) → is_advance d ≡ false → Resumable plan S → (x : ℕ) → is_resuming (holding_of (do_deed plan d S).power x) ≡ true → declares plan callback.EvtIoResume (noted (do_deed plan d S).power x) ≡ true

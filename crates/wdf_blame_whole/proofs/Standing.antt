@@ -49,7 +49,7 @@ use Rattle.wdf_agreements.proofs.Sound.{Sound}
 use Rattle.wdf_agreements.proofs.Stays.{gives_up, gives_up_if, queues_closed, returns_closed, withdraws, asks_all}
 use Rattle.wdf_family_laws.proofs.Families.{declared_within}
 use Rattle.wdf_blame_whole.specs.Standing.{IsOver, is_live_device, is_part, is_part_of}
-use Rattle.wdf_blame_whole.proofs.Trees.{live_unasked, unasked_stays}
+use Rattle.wdf_agreements.proofs.Subtrees.{live_unasked, unasked_stays}
 use Rattle.wdf_blame_whole.proofs.Lasting.{Lasts, lasts_asked, lasts_ended, lasts_taken}
 use Rattle.wdf_blame_whole.proofs.Opened.{ArrivesWell, Opened, is_undone_request, opened_asked, opened_by, opened_completed}
 
@@ -148,16 +148,12 @@ ended_root T o h = elim (one_or_two 0 o) [
 ]
 
 cleaned_off : (l : Life) → is_cleaned l ≡ true → false ≡ is_live l
-cleaned_off life.Cleaned h = refl
 cleaned_off life.Live h = absurd (let z : ⊥ = cc in z)
-cleaned_off life.Asked h = refl
-cleaned_off life.Gone h = refl
+cleaned_off _ h = refl
 
 asked_off : (l : Life) → is_asked l ≡ true → false ≡ is_live l
-asked_off life.Asked h = refl
 asked_off life.Live h = absurd (let z : ⊥ = cc in z)
-asked_off life.Cleaned h = refl
-asked_off life.Gone h = refl
+asked_off _ h = refl
 
 stay_ended : (T : Tree) (o : ℕ) → is_cleaned (life_of T o) ≡ true → LivesStay T (tree.destroy T o)
 stay_ended T o done =
@@ -165,7 +161,6 @@ stay_ended T o done =
     record { gains = λ x h. same x ∙ h; was = λ x low h. sym (same x) ∙ h; root = λ some h. ended_root T o h }
 
 noted_kept : (c : Callback) (n : Node) → ((noted c n).life ≡ n.life) × ((noted c n).parent.0 ≡ n.parent.0)
-noted_kept callback.EvtCleanupCallback n = (refl, refl)
 noted_kept callback.EvtDestroyCallback n = (refl, refl)
 noted_kept _ n = (refl, refl)
 

@@ -42,7 +42,7 @@ use Rattle.wdf_blame_whole.specs.Owners.{StepsMayRun}
 use Rattle.wdf_blame_whole.specs.Standing.{is_live_device, is_part, is_part_of}
 use Rattle.wdf_blame_whole.proofs.Standing.{Stands}
 use Rattle.wdf_blame_whole.proofs.Coming.{Facts}
-use Rattle.wdf_blame_whole.proofs.Declared.{IsDeclaredStep, steps_declared}
+use Rattle.wdf_ready_once.proofs.Steps.{IsDeclaredStep, steps_declared}
 use Rattle.wdf_blame_whole.proofs.Runs.{Known, known_now, stands_now}
 
 -- ---- the nearest device of what is no device
@@ -79,21 +79,11 @@ sequence_by k e = ap is_sequence e
 
 device_info : (o : Option Declared) → is_some (as_device o) ≡ true → (d : DeviceInfo) × (o ≡ Some (declared.Device d))
 device_info (Some (declared.Device d)) h = (d, refl)
-device_info (Some declared.Driver) h = absurd (let z : ⊥ = cc in z)
-device_info (Some (declared.Queue q)) h = absurd (let z : ⊥ = cc in z)
-device_info (Some (declared.Interrupt i)) h = absurd (let z : ⊥ = cc in z)
-device_info (Some (declared.Target t)) h = absurd (let z : ⊥ = cc in z)
-device_info (Some (declared.OfClass c)) h = absurd (let z : ⊥ = cc in z)
-device_info None h = absurd (let z : ⊥ = cc in z)
+device_info _ h = absurd (let z : ⊥ = cc in z)
 
 no_interrupt : (o : Option Declared) → is_some (as_device o) ≡ true → is_some (as_interrupt o) ≡ false
-no_interrupt (Some (declared.Device d)) h = refl
-no_interrupt (Some declared.Driver) h = refl
-no_interrupt (Some (declared.Queue q)) h = refl
 no_interrupt (Some (declared.Interrupt i)) h = absurd (let z : ⊥ = cc in z)
-no_interrupt (Some (declared.Target t)) h = refl
-no_interrupt (Some (declared.OfClass c)) h = refl
-no_interrupt None h = refl
+no_interrupt _ h = refl
 
 made_declared : (plan : Plan) (n : Node) (o : ℕ) (k : Kind) → (k ≡ kind.Device) → made_as plan n o k ≡ declared_of plan o
 made_declared plan n o k e = ap (made_as plan n o) e

@@ -26,11 +26,7 @@ closes_as p s e = rw e ((status_decides s s).1 refl)
 
 closing_is : (p : Place) → is_closing p ≡ true → (s : Status) × (p ≡ place.Closing s)
 closing_is (place.Closing s) h = (s, refl)
-closing_is (place.Queued q) h = absurd (let z : ⊥ = cc in z)
-closing_is (place.Returning q) h = absurd (let z : ⊥ = cc in z)
-closing_is place.Owned h = absurd (let z : ⊥ = cc in z)
-closing_is (place.Sent t) h = absurd (let z : ⊥ = cc in z)
-closing_is place.Done h = absurd (let z : ⊥ = cc in z)
+closing_is _ h = absurd (let z : ⊥ = cc in z)
 
 module _ {A : Type 0} (plan : Plan) (m : Meaning A) (S : State A) (rest : AtRest plan m S true) (r : ℕ) where
   never_closing : (s : Status) → r < length S.requests.all → place_of S.requests r ≡ place.Closing s → ⊥

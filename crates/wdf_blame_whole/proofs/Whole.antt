@@ -39,7 +39,4 @@ module _ {A : Type 0} (plan : Plan) (m : Meaning A) (run : List Event) (resolved
   line_is_named (thing.Returning r q) x h is = returning_named r q x h
   line_is_named (thing.Sequence d s) x h is = device_named plan m run resolved is_run ends k d s x h
   line_is_named (thing.Deferred o) x h is = work_named plan m run resolved is_run ends k o x h
-  line_is_named (thing.Owned r) x h is = absurd (let z : ⊥ = cc in z)
-  line_is_named (thing.Sent r t) x h is = absurd (let z : ⊥ = cc in z)
-  line_is_named (thing.Leaving o) x h is = absurd (let z : ⊥ = cc in z)
-  line_is_named (thing.Asking d) x h is = absurd (let z : ⊥ = cc in z)
+  line_is_named _ x h is = absurd (let z : ⊥ = cc in z)

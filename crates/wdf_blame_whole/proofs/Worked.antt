@@ -52,11 +52,7 @@ deeds_work plan (d ∷ ds) S f s a c k =
 
 declared_plain : (plan : Plan) (d : Declared) → is_classed plan (declared_node d) ≡ true
 declared_plain plan declared.Driver = refl
-declared_plain plan (declared.Device d) = refl
-declared_plain plan (declared.Queue q) = refl
-declared_plain plan (declared.Interrupt i) = refl
-declared_plain plan (declared.Target t) = refl
-declared_plain plan (declared.OfClass c) = refl
+declared_plain plan _ = refl
 
 opening_plain : (plan : Plan) (ds : List Declared) (o : ℕ) → is_classed plan (entry gone (map declared_node ds) o) ≡ true
 opening_plain plan [] o = refl
@@ -104,12 +100,10 @@ function_for _ = callback.EvtDpcFunc
 
 has_function : (plan : Plan) (c : ℕ) (x : ClassInfo) → is_work_kind (class_kind x) ≡ true → classes_complete plan c (x ∷ []) ≡ true → has_script plan (function_for (class_kind x)) (declared.OfClass c) ≡ true
 has_function plan c (class.Plain name plain.Object) w h = absurd (let z : ⊥ = cc in z)
-has_function plan c (class.Plain name plain.SpinLock) w h = absurd (let z : ⊥ = cc in z)
-has_function plan c (class.Plain name plain.WaitLock) w h = absurd (let z : ⊥ = cc in z)
-has_function plan c (class.Plain name plain.Request) w h = absurd (let z : ⊥ = cc in z)
 has_function plan c (class.Deferred name deferred.Dpc parent serialize period) w h = both_left (has_script plan callback.EvtDpcFunc (declared.OfClass c)) true h
 has_function plan c (class.Deferred name deferred.Timer parent serialize period) w h = both_left (has_script plan callback.EvtTimerFunc (declared.OfClass c)) true h
 has_function plan c (class.Deferred name deferred.WorkItem parent serialize period) w h = both_left (has_script plan callback.EvtWorkItem (declared.OfClass c)) true h
+has_function plan c _ w h = absurd (let z : ⊥ = cc in z)
 
 first_complete : (plan : Plan) (k : ℕ) (x : ClassInfo) (xs : List ClassInfo) → classes_complete plan k (x ∷ xs) ≡ true → (classes_complete plan k (x ∷ []) ≡ true) × (classes_complete plan (suc k) xs ≡ true)
 first_complete plan k (class.Plain name c) xs h = (refl, h)
@@ -151,12 +145,6 @@ made_by_class : (plan : Plan) (n : Node) (o : ℕ) (k : Kind) → is_work_kind k
 made_by_class plan n o kind.Dpc w = refl
 made_by_class plan n o kind.Timer w = refl
 made_by_class plan n o kind.WorkItem w = refl
-made_by_class plan n o kind.Driver w = absurd (let z : ⊥ = cc in z)
-made_by_class plan n o kind.Device w = absurd (let z : ⊥ = cc in z)
-made_by_class plan n o kind.Queue w = absurd (let z : ⊥ = cc in z)
-made_by_class plan n o kind.Interrupt w = absurd (let z : ⊥ = cc in z)
-made_by_class plan n o kind.Target w = absurd (let z : ⊥ = cc in z)
-made_by_class plan n o kind.Request w = absurd (let z : ⊥ = cc in z)
 made_by_class plan n o _ w = absurd (let z : ⊥ = cc in z)
 
 -- a live object of such a kind has its function

@@ -122,21 +122,16 @@ all_asked plan (x ∷ xs) S k = all_asked plan xs (ask_object S x) (asked_one pl
 -- ---- each deed
 
 noted_same : (plan : Plan) (c : Callback) (n : Node) → ((k : Kind) → is_ready k (noted c n) ≡ is_ready k n) × (is_classed plan (noted c n) ≡ is_classed plan n)
-noted_same plan callback.EvtCleanupCallback n = ((λ k. refl), refl)
 noted_same plan callback.EvtDestroyCallback n = ((λ k. refl), refl)
 noted_same plan _ n = ((λ k. refl), refl)
 
-asked_off : (l : Life) → is_asked l ≡ true → is_live l ≡ false
-asked_off life.Asked h = refl
+pub asked_off : (l : Life) → is_asked l ≡ true → is_live l ≡ false
 asked_off life.Live h = absurd (let z : ⊥ = cc in z)
-asked_off life.Cleaned h = refl
-asked_off life.Gone h = refl
+asked_off _ h = refl
 
 cleaned_off : (l : Life) → is_cleaned l ≡ true → is_live l ≡ false
-cleaned_off life.Cleaned h = refl
 cleaned_off life.Live h = absurd (let z : ⊥ = cc in z)
-cleaned_off life.Asked h = refl
-cleaned_off life.Gone h = refl
+cleaned_off _ h = refl
 
 unready : (a b : Bool) → a ≡ false → (a && b) ≡ false
 unready false b h = refl

@@ -68,9 +68,7 @@ use Rattle.wdf_family_laws.proofs.Undone.{completed_one, deeds_finish, finished,
 -- an argument that is no wrong kind of the sort of a request names its object
 names : (v : View) (a : Arg) → is_wrong_kind v (sort.ObjectOf kind.Request) a ≡ false → argument_object a ≡ Some (object_in a)
 names v (Val (Obj h)) e = refl
-names v (Val (Num n)) e = absurd (let z : ⊥ = cc in z)
-names v (Val (Stat s)) e = absurd (let z : ⊥ = cc in z)
-names v (Class c) e = absurd (let z : ⊥ = cc in z)
+names v _ e = absurd (let z : ⊥ = cc in z)
 
 -- the completion of one request leaves the others
 others_finished : {A : Type 0} (plan : Plan) (m : Meaning A) (S : State A) (e : Event) (r x : ℕ) → may plan m S e ≡ true → completes r e ≡ true → x ≢ r → finished (after plan m S e).requests x ≡ true → finished S.requests x ≡ true
@@ -281,44 +279,12 @@ settled_by plan m run k j o agent p (Some x) is_run end early at true e (Some d)
 
 settled_event : {A : Type 0} (plan : Plan) (m : Meaning A) (run : List Event) (k j : ℕ) (o : Handle) (e : Event) → IsRunOf plan m run → slice_get run k ≡ Some (event.Destroy o) → j < k → slice_get run j ≡ Some e → is_settled (take k run) o.id.0 e ≡ true
 settled_event plan m run k j o (event.Posted agent p answer) is_run end early at = settled_by plan m run k j o agent p answer is_run end early at (is_id o.id.0 (brought_to p)) refl (brought_to p) refl
-settled_event plan m run k j o (event.Start cpu c q r) is_run end early at = refl
-settled_event plan m run k j o (event.Local cpu line) is_run end early at = refl
-settled_event plan m run k j o (event.Log cpu v) is_run end early at = refl
-settled_event plan m run k j o (event.Spend cpu n) is_run end early at = refl
-settled_event plan m run k j o (event.Register cpu a b v) is_run end early at = refl
-settled_event plan m run k j o (event.Did cpu c v) is_run end early at = refl
-settled_event plan m run k j o (event.Waiting cpu c) is_run end early at = refl
-settled_event plan m run k j o (event.Woke cpu c v) is_run end early at = refl
-settled_event plan m run k j o (event.Park cpu f) is_run end early at = refl
-settled_event plan m run k j o (event.Unpark cpu f) is_run end early at = refl
-settled_event plan m run k j o (event.End cpu c q v) is_run end early at = refl
-settled_event plan m run k j o (event.Fault cpu f line) is_run end early at = refl
-settled_event plan m run k j o (event.Stage d s i) is_run end early at = refl
-settled_event plan m run k j o (event.Complete q s) is_run end early at = refl
-settled_event plan m run k j o (event.Cleanup q) is_run end early at = refl
-settled_event plan m run k j o (event.Destroy q) is_run end early at = refl
-settled_event plan m run k j o (event.Tick time) is_run end early at = refl
+settled_event plan m run k j o _ is_run end early at = refl
 
 after_requests : {A : Type 0} (plan : Plan) (m : Meaning A) (run : List Event) (k : ℕ) (e : Event) → IsRunOf plan m run → slice_get run k ≡ Some e → ends_after_requests (take k run) (destroyed e) ≡ true
 after_requests plan m run k (event.Destroy o) is_run at =
     all_by (is_settled (take k run) o.id.0) (take k run) (λ j e here. let p = in_front run k j e here in settled_event plan m run k j o e is_run at p.0 p.1)
-after_requests plan m run k (event.Start cpu c q r) is_run at = refl
-after_requests plan m run k (event.Local cpu line) is_run at = refl
-after_requests plan m run k (event.Log cpu v) is_run at = refl
-after_requests plan m run k (event.Spend cpu n) is_run at = refl
-after_requests plan m run k (event.Register cpu a b v) is_run at = refl
-after_requests plan m run k (event.Did cpu c v) is_run at = refl
-after_requests plan m run k (event.Waiting cpu c) is_run at = refl
-after_requests plan m run k (event.Woke cpu c v) is_run at = refl
-after_requests plan m run k (event.Park cpu f) is_run at = refl
-after_requests plan m run k (event.Unpark cpu f) is_run at = refl
-after_requests plan m run k (event.End cpu c q v) is_run at = refl
-after_requests plan m run k (event.Fault cpu f line) is_run at = refl
-after_requests plan m run k (event.Stage d s i) is_run at = refl
-after_requests plan m run k (event.Complete q s) is_run at = refl
-after_requests plan m run k (event.Cleanup q) is_run at = refl
-after_requests plan m run k (event.Posted agent p answer) is_run at = refl
-after_requests plan m run k (event.Tick time) is_run at = refl
+after_requests plan m run k _ is_run at = refl
 
 pub law_1_at_each : {A : Type 0} (plan : Plan) (m : Meaning A) (run : List Event) (k : ℕ) (e : Event) → IsRunOf plan m run → slice_get run k ≡ Some e → law_1 (take k run) e ≡ true
 law_1_at_each plan m run k e is_run at =

@@ -171,11 +171,7 @@ family_goes_on plan es e T U stays makes k = record {
 
 same_parent : (d : Declared) → (declared_node d).parent.0 ≡ declared_parent d
 same_parent declared.Driver = refl
-same_parent (declared.Device x) = refl
-same_parent (declared.Queue x) = refl
-same_parent (declared.Interrupt x) = refl
-same_parent (declared.Target x) = refl
-same_parent (declared.OfClass x) = refl
+same_parent _ = refl
 
 declared_at : (ds : List Declared) (k : ℕ) (d : Declared) → slice_get ds k ≡ Some d → entry gone (map declared_node ds) k ≡ declared_node d
 declared_at [] k d h = absurd (let z : ⊥ = cc in z)

@@ -50,6 +50,7 @@ use Rattle.wdf_trace_laws.proofs.References.{waits_not}
 use Rattle.wdf_trace_laws.proofs.Uncounted.{event_none, is_counting, is_counting_event, none_counts}
 use Rattle.wdf_family_laws.proofs.Families.{Family, Tells, declared_within, told_next}
 use Rattle.wdf_family_laws.proofs.Telling.{Makes, event_makes}
+use Rattle.std.proofs.lemmas.List.{take_all}
 
 -- ---- deeds by which nothing ends
 
@@ -176,44 +177,12 @@ ends_now plan m es S (event.Destroy o) x h seen at = (
   ever_still (sign.Cleaned x) es (event.Destroy o) (subst (λ y. ever (sign.Cleaned y) es ≡ true) (sym at) (seen o.id.0 (ends plan m S o h))),
   ever_now (sign.Destroyed x) es (event.Destroy o) (equal o.id.0 x (sym at)),
 )
-ends_now plan m es S (event.Start cpu c o r) x h seen at = absurd at
-ends_now plan m es S (event.Local cpu line) x h seen at = absurd at
-ends_now plan m es S (event.Log cpu v) x h seen at = absurd at
-ends_now plan m es S (event.Spend cpu n) x h seen at = absurd at
-ends_now plan m es S (event.Register cpu a b v) x h seen at = absurd at
-ends_now plan m es S (event.Did k c v) x h seen at = absurd at
-ends_now plan m es S (event.Waiting k c) x h seen at = absurd at
-ends_now plan m es S (event.Woke cpu c v) x h seen at = absurd at
-ends_now plan m es S (event.Park cpu f) x h seen at = absurd at
-ends_now plan m es S (event.Unpark cpu f) x h seen at = absurd at
-ends_now plan m es S (event.End cpu c o v) x h seen at = absurd at
-ends_now plan m es S (event.Fault cpu f line) x h seen at = absurd at
-ends_now plan m es S (event.Stage d s i) x h seen at = absurd at
-ends_now plan m es S (event.Complete q s) x h seen at = absurd at
-ends_now plan m es S (event.Cleanup o) x h seen at = absurd at
-ends_now plan m es S (event.Posted agent p answer) x h seen at = absurd at
-ends_now plan m es S (event.Tick time) x h seen at = absurd at
+ends_now plan m es S _ x h seen at = absurd at
 
 -- whether an event ends an object
 ends_or_not : (e : Event) (x : ℕ) → EndsAt e x ⊎ (EndsAt e x → ⊥)
 ends_or_not (event.Destroy o) x = one_or_two x o.id.0
-ends_or_not (event.Start cpu c o r) x = inr (λ z. z)
-ends_or_not (event.Local cpu line) x = inr (λ z. z)
-ends_or_not (event.Log cpu v) x = inr (λ z. z)
-ends_or_not (event.Spend cpu n) x = inr (λ z. z)
-ends_or_not (event.Register cpu a b v) x = inr (λ z. z)
-ends_or_not (event.Did k c v) x = inr (λ z. z)
-ends_or_not (event.Waiting k c) x = inr (λ z. z)
-ends_or_not (event.Woke cpu c v) x = inr (λ z. z)
-ends_or_not (event.Park cpu f) x = inr (λ z. z)
-ends_or_not (event.Unpark cpu f) x = inr (λ z. z)
-ends_or_not (event.End cpu c o v) x = inr (λ z. z)
-ends_or_not (event.Fault cpu f line) x = inr (λ z. z)
-ends_or_not (event.Stage d s i) x = inr (λ z. z)
-ends_or_not (event.Complete q s) x = inr (λ z. z)
-ends_or_not (event.Cleanup o) x = inr (λ z. z)
-ends_or_not (event.Posted agent p answer) x = inr (λ z. z)
-ends_or_not (event.Tick time) x = inr (λ z. z)
+ends_or_not _ x = inr (λ z. z)
 
 gone_goes_on : {A : Type 0} (plan : Plan) (m : Meaning A) (es : List Event) (S : State A) (e : Event) → may plan m S e ≡ true → AllSeen es S → GoneTold plan es S → GoneTold plan (es ++ e ∷ []) (after plan m S e)
 gone_goes_on plan m es S e h seen k x known off = elim (known_next plan es e x known) [
@@ -258,12 +227,8 @@ gone_opens : {A : Type 0} (plan : Plan) (m : Meaning A) → GoneTold plan [] (st
 unfolding state_after
 gone_opens plan m x known off = absurd (opening_gone plan x known off)
 
-take_all : {T : Type 0} (xs : List T) → take (length xs) xs ≡ xs
-take_all [] = refl
-take_all (x ∷ xs) = ap (λ ys. x ∷ ys) (take_all xs)
-
 seen_now : {A : Type 0} (plan : Plan) (m : Meaning A) (run : List Event) → IsRunOf plan m run → AllSeen run (state_after plan m run)
-seen_now plan m run is_run = subst (λ (es : List Event). AllSeen es (state_after plan m es)) (take_all run) (seen_at_each plan m run is_run (length run))
+seen_now plan m run is_run = subst (λ (es : List Event). AllSeen es (state_after plan m es)) (take_all (length run) run (omega arith)) (seen_at_each plan m run is_run (length run))
 
 gone_at_each : {A : Type 0} (plan : Plan) (m : Meaning A) (run : List Event) → IsRunOf plan m run → (n : ℕ) → GoneTold plan (take n run) (state_after plan m (take n run))
 gone_at_each {A} plan m run is_run n = along_run (λ es. GoneTold plan es (state_after plan m es)) (ready plan m) run (gone_opens plan m)

@@ -157,29 +157,11 @@ Closed plan all before = (x : ℕ) → law.parent_of plan all x ≢ 0 → ever (
 
 pub cleanup_of : (p : ℕ) (e : Event) → shows (sign.Cleaned p) e ≡ true → (o : Handle) × (e ≡ event.Cleanup o) × (o.id.0 ≡ p)
 cleanup_of p (event.Cleanup o) h = (o, refl, eqb-true o.id.0 p h)
-cleanup_of p (event.Start cpu c o r) h = absurd (let z : ⊥ = cc in z)
-cleanup_of p (event.Local cpu line) h = absurd (let z : ⊥ = cc in z)
-cleanup_of p (event.Log cpu v) h = absurd (let z : ⊥ = cc in z)
-cleanup_of p (event.Spend cpu n) h = absurd (let z : ⊥ = cc in z)
-cleanup_of p (event.Register cpu a b v) h = absurd (let z : ⊥ = cc in z)
-cleanup_of p (event.Did k c v) h = absurd (let z : ⊥ = cc in z)
-cleanup_of p (event.Waiting k c) h = absurd (let z : ⊥ = cc in z)
-cleanup_of p (event.Woke cpu c v) h = absurd (let z : ⊥ = cc in z)
-cleanup_of p (event.Park cpu f) h = absurd (let z : ⊥ = cc in z)
-cleanup_of p (event.Unpark cpu f) h = absurd (let z : ⊥ = cc in z)
-cleanup_of p (event.End cpu c o v) h = absurd (let z : ⊥ = cc in z)
-cleanup_of p (event.Fault cpu f line) h = absurd (let z : ⊥ = cc in z)
-cleanup_of p (event.Stage d s i) h = absurd (let z : ⊥ = cc in z)
-cleanup_of p (event.Complete q s) h = absurd (let z : ⊥ = cc in z)
-cleanup_of p (event.Destroy o) h = absurd (let z : ⊥ = cc in z)
-cleanup_of p (event.Posted agent q answer) h = absurd (let z : ⊥ = cc in z)
-cleanup_of p (event.Tick time) h = absurd (let z : ⊥ = cc in z)
+cleanup_of p _ h = absurd (let z : ⊥ = cc in z)
 
 pub late_by : (l : Life) → is_gone l ≡ true → is_past_cleanup l ≡ true
 late_by life.Gone h = refl
-late_by life.Live h = absurd (let z : ⊥ = cc in z)
-late_by life.Asked h = absurd (let z : ⊥ = cc in z)
-late_by life.Cleaned h = absurd (let z : ⊥ = cc in z)
+late_by _ h = absurd (let z : ⊥ = cc in z)
 
 there_by : (l : Life) → is_past_cleanup l ≡ false → is_gone l ≡ false
 there_by life.Live h = refl
@@ -276,23 +258,7 @@ law_3_by plan m run k (event.Start cpu c o r) is_run at = elim (cases_Bool (same
     right_true : (a b : Bool) → b ≡ true → (a || b) ≡ true
     right_true true b h = refl
     right_true false b h = h
-law_3_by plan m run k (event.Local cpu line) is_run at = refl
-law_3_by plan m run k (event.Log cpu v) is_run at = refl
-law_3_by plan m run k (event.Spend cpu n) is_run at = refl
-law_3_by plan m run k (event.Register cpu a b v) is_run at = refl
-law_3_by plan m run k (event.Did cpu c v) is_run at = refl
-law_3_by plan m run k (event.Waiting cpu c) is_run at = refl
-law_3_by plan m run k (event.Woke cpu c v) is_run at = refl
-law_3_by plan m run k (event.Park cpu f) is_run at = refl
-law_3_by plan m run k (event.Unpark cpu f) is_run at = refl
-law_3_by plan m run k (event.End cpu c o v) is_run at = refl
-law_3_by plan m run k (event.Fault cpu f line) is_run at = refl
-law_3_by plan m run k (event.Stage d s i) is_run at = refl
-law_3_by plan m run k (event.Complete q s) is_run at = refl
-law_3_by plan m run k (event.Cleanup o) is_run at = refl
-law_3_by plan m run k (event.Destroy o) is_run at = refl
-law_3_by plan m run k (event.Posted agent p answer) is_run at = refl
-law_3_by plan m run k (event.Tick time) is_run at = refl
+law_3_by plan m run k _ is_run at = refl
 
 pub law_3_at_each : {A : Type 0} (plan : Plan) (m : Meaning A) (run : List Event) (k : ℕ) (e : Event) → IsRunOf plan m run → slice_get run k ≡ Some e → law_3 plan run (take k run) e ≡ true
 law_3_at_each plan m run k e is_run at = law_3_by plan m run k e is_run at
@@ -391,20 +357,4 @@ ends_well_at plan m run k o is_run at =
 
 pub law_9_at_each : {A : Type 0} (plan : Plan) (m : Meaning A) (run : List Event) (k : ℕ) (e : Event) → IsRunOf plan m run → slice_get run k ≡ Some e → law_9 plan run (take k run) e ≡ true
 law_9_at_each plan m run k (event.Destroy o) is_run at = ends_well_at plan m run k o is_run at
-law_9_at_each plan m run k (event.Start cpu c o r) is_run at = refl
-law_9_at_each plan m run k (event.Local cpu line) is_run at = refl
-law_9_at_each plan m run k (event.Log cpu v) is_run at = refl
-law_9_at_each plan m run k (event.Spend cpu n) is_run at = refl
-law_9_at_each plan m run k (event.Register cpu a b v) is_run at = refl
-law_9_at_each plan m run k (event.Did cpu c v) is_run at = refl
-law_9_at_each plan m run k (event.Waiting cpu c) is_run at = refl
-law_9_at_each plan m run k (event.Woke cpu c v) is_run at = refl
-law_9_at_each plan m run k (event.Park cpu f) is_run at = refl
-law_9_at_each plan m run k (event.Unpark cpu f) is_run at = refl
-law_9_at_each plan m run k (event.End cpu c o v) is_run at = refl
-law_9_at_each plan m run k (event.Fault cpu f line) is_run at = refl
-law_9_at_each plan m run k (event.Stage d s i) is_run at = refl
-law_9_at_each plan m run k (event.Complete q s) is_run at = refl
-law_9_at_each plan m run k (event.Cleanup o) is_run at = refl
-law_9_at_each plan m run k (event.Posted agent p answer) is_run at = refl
-law_9_at_each plan m run k (event.Tick time) is_run at = refl
+law_9_at_each plan m run k _ is_run at = refl

@@ -99,7 +99,6 @@ all_asked [] S = stays_same S.tree S.tree refl
 all_asked (x ∷ xs) S = stays_then S.tree (ask_object S x).tree (fold ask_object (ask_object S x) xs).tree (asked_one S x (is_live (life_of S.tree x)) refl) (all_asked xs (ask_object S x))
 
 noted_kept : (c : Callback) (n : Node) → ((noted c n).life ≡ n.life) × ((noted c n).parent.0 ≡ n.parent.0) × ((noted c n).kind ≡ n.kind) × ((noted c n).class ≡ n.class)
-noted_kept callback.EvtCleanupCallback n = (refl, refl, refl, refl)
 noted_kept callback.EvtDestroyCallback n = (refl, refl, refl, refl)
 noted_kept _ n = (refl, refl, refl, refl)
 

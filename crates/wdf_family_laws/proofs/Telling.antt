@@ -72,14 +72,9 @@ made_long T k class parent = let e = length-append T.nodes (new_node k class par
 
 -- a class's objects are no requests that arrived, and nothing that is declared
 class_made : (plan : Plan) (n : Node) (o : ℕ) (c : Option ClassInfo) → made_as plan n o (unwrap_or (option_map class_kind c) kind.General) ≡ Some (declared.OfClass n.class)
-class_made plan n o None = refl
 class_made plan n o (Some (class.Plain name plain.Object)) = refl
-class_made plan n o (Some (class.Plain name plain.SpinLock)) = refl
-class_made plan n o (Some (class.Plain name plain.WaitLock)) = refl
-class_made plan n o (Some (class.Plain name plain.Request)) = refl
 class_made plan n o (Some (class.Deferred name deferred.Dpc parent serialize period)) = refl
-class_made plan n o (Some (class.Deferred name deferred.Timer parent serialize period)) = refl
-class_made plan n o (Some (class.Deferred name deferred.WorkItem parent serialize period)) = refl
+class_made plan n o _ = refl
 
 creates : {A : Type 0} (plan : Plan) (S : State A) (k : Kind) (class parent : ℕ) → (do_deeds plan (creation k class parent ∷ []) S).tree ≡ tree.create S.tree k class parent
 creates plan S kind.Made class parent = refl
@@ -120,9 +115,7 @@ create_makes plan S class parent t true false live full h =
 
 same_argument : (b : Arg) → or_none (argument_object b) ≡ object_in b
 same_argument (Val (Obj h)) = refl
-same_argument (Val (Num n)) = refl
-same_argument (Val (Stat s)) = refl
-same_argument (Class c) = refl
+same_argument _ = refl
 
 gone_on : {A : Type 0} (plan : Plan) (f : ℕ) (next : Frame) (ds : List Deed) (S : State A) → (do_deeds plan (ds ++ GoOn (frame_id f) next ∷ []) S).tree ≡ (do_deeds plan ds S).tree
 gone_on plan f next [] S = refl
@@ -188,10 +181,7 @@ post_makes : {A : Type 0} (plan : Plan) (S : State A) (agent : ℕ) (p : Post) (
 post_makes plan S agent (post.Read device length) answer t same e = arrival_makes plan S agent form.Read length 0 device.id.0 answer t (is_live (life_of S.tree device.id.0)) refl same e
 post_makes plan S agent (post.Write device length) answer t same e = arrival_makes plan S agent form.Write length 0 device.id.0 answer t (is_live (life_of S.tree device.id.0)) refl same e
 post_makes plan S agent (post.Control device code length) answer t same e = arrival_makes plan S agent form.Control length code device.id.0 answer t (is_live (life_of S.tree device.id.0)) refl same e
-post_makes plan S agent (post.Cancel k) answer t same e = absurd (let z : ⊥ = cc in z)
-post_makes plan S agent (post.Ask a device) answer t same e = absurd (let z : ⊥ = cc in z)
-post_makes plan S agent (post.Act action) answer t same e = absurd (let z : ⊥ = cc in z)
-post_makes plan S agent (post.Done r s) answer t same e = absurd (let z : ⊥ = cc in z)
+post_makes plan S agent _ answer t same e = absurd (let z : ⊥ = cc in z)
 
 -- ---- all events
 
@@ -200,19 +190,4 @@ event_makes plan m S (event.Did k c v) t h e = did_makes plan m S k c.kind c.cou
 event_makes plan m S (event.Posted agent p answer) t h e =
     post_makes plan S agent p answer t
     (both_right (same_option same_post (due_of m S agent) (Some p) && post_fits plan S agent p) (same_option same_handle (post_answer plan S agent p) answer) h) e
-event_makes plan m S (event.Start cpu c o r) t h e = absurd (let z : ⊥ = cc in z)
-event_makes plan m S (event.Local cpu line) t h e = absurd (let z : ⊥ = cc in z)
-event_makes plan m S (event.Log cpu v) t h e = absurd (let z : ⊥ = cc in z)
-event_makes plan m S (event.Spend cpu n) t h e = absurd (let z : ⊥ = cc in z)
-event_makes plan m S (event.Register cpu a b v) t h e = absurd (let z : ⊥ = cc in z)
-event_makes plan m S (event.Waiting cpu c) t h e = absurd (let z : ⊥ = cc in z)
-event_makes plan m S (event.Woke cpu c v) t h e = absurd (let z : ⊥ = cc in z)
-event_makes plan m S (event.Park cpu f) t h e = absurd (let z : ⊥ = cc in z)
-event_makes plan m S (event.Unpark cpu f) t h e = absurd (let z : ⊥ = cc in z)
-event_makes plan m S (event.End cpu c o v) t h e = absurd (let z : ⊥ = cc in z)
-event_makes plan m S (event.Fault cpu f line) t h e = absurd (let z : ⊥ = cc in z)
-event_makes plan m S (event.Stage d s i) t h e = absurd (let z : ⊥ = cc in z)
-event_makes plan m S (event.Complete q s) t h e = absurd (let z : ⊥ = cc in z)
-event_makes plan m S (event.Cleanup o) t h e = absurd (let z : ⊥ = cc in z)
-event_makes plan m S (event.Destroy o) t h e = absurd (let z : ⊥ = cc in z)
-event_makes plan m S (event.Tick time) t h e = absurd (let z : ⊥ = cc in z)
+event_makes plan m S _ t h e = absurd (let z : ⊥ = cc in z)

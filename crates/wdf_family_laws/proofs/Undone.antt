@@ -129,12 +129,8 @@ forgets R r x h = elim (one_or_two x r) [
 -- ---- each deed but a completion
 
 arrival_undone : (p : Place) → is_arrival_place p ≡ true → is_done p ≡ false
-arrival_undone (place.Queued q) h = refl
-arrival_undone (place.Closing s) h = refl
-arrival_undone (place.Returning q) h = refl
-arrival_undone place.Owned h = refl
-arrival_undone (place.Sent t) h = refl
 arrival_undone place.Done h = absurd (let z : ⊥ = cc in z)
+arrival_undone _ h = refl
 
 arrived : {A : Type 0} (S : State A) (device : ℕ) (info : RequestInfo) (p : Place) → (arrive_at S device info p).requests ≡ requests.arrive S.requests (next_id S.tree) p info
 arrived S device info (place.Queued q) = refl

@@ -141,7 +141,6 @@ asked_all plan [] S each = each
 asked_all plan (x ∷ xs) S each = asked_all plan xs (ask_object S x) (asked_one plan S x (is_live (life_of S.tree x)) refl each)
 
 noted_cells : (plan : Plan) (c : Callback) (n : Node) → AreValuesOf plan n.cells → AreValuesOf plan (noted c n).cells
-noted_cells plan callback.EvtCleanupCallback n each = each
 noted_cells plan callback.EvtDestroyCallback n each = each
 noted_cells plan _ n each = each
 

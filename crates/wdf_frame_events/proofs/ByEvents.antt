@@ -259,15 +259,10 @@ module _ {A : Type 0} (plan : Plan) (m : Meaning A) (S : State A) (b : Bounded p
   event_tells (event.Did k c v) is d = by_top_tells (did_deeds plan S k.0 c v) (λ f. did_tells k.0 f c v is.1 is.2) (top S.cpus k.0)
   event_tells (event.Waiting k c) is d = by_top_tells_then (waiting_deeds plan S k.0 c) (λ f x. waiting_tells k.0 f c is.1 x) (top S.cpus k.0) d
   event_tells (event.Woke k c v) is d = by_top_tells (woke_deeds plan c v) (λ f. woke_tells f c v is.2) (top S.cpus k.0)
-  event_tells (event.Park k f) is d = (tt, tt)
-  event_tells (event.Unpark k f) is d = (tt, tt)
   event_tells (event.End k c o v) is d =
       each_behind (TellsOf plan) (release_if_any (lock_of_callback plan c o.id.0 (declared_in plan S o.id.0))) (PopFrame k ∷ end_of_step plan S (row_of c).rank c o.id.0 v)
       (releasing_tells plan (lock_of_callback plan c o.id.0 (declared_in plan S o.id.0))) (tt, step_tells plan S (row_of c).rank c o.id.0 v)
   event_tells (event.Fault k x line) is d = tt
   event_tells (event.Stage x s i) is d = (tt, (tt, stage_tells plan x.id.0 s i))
-  event_tells (event.Complete r s) is d = (tt, tt)
-  event_tells (event.Cleanup o) is d = (tt, tt)
-  event_tells (event.Destroy o) is d = (tt, tt)
   event_tells (event.Posted agent p a) is d = post_tells plan S agent p a is.1
-  event_tells (event.Tick time) is d = (tt, tt)
+  event_tells _ is d = (tt, tt)

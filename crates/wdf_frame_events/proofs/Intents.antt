@@ -64,10 +64,8 @@ let_of plan variable next None h = tt
 let_of plan variable next (Some v) h = h
 
 put_of : (plan : Plan) (r : ℕ) (o : Option Value) → r < length plan.registers → IsResultOf plan o → IsIntentOf plan (put_intent r o)
-put_of plan r None there h = tt
 put_of plan r (Some (Num n)) there h = (there, h)
-put_of plan r (Some (Obj o)) there h = tt
-put_of plan r (Some (Stat s)) there h = tt
+put_of plan r _ there h = tt
 
 if_of : (plan : Plan) (next otherwise : ℕ) (o : Option Value) → IsIntentOf plan (if_intent next otherwise o)
 if_of plan next otherwise None = tt
@@ -76,16 +74,12 @@ if_of plan next otherwise (Some (Obj o)) = tt
 if_of plan next otherwise (Some (Stat s)) = tt
 
 repeat_of : (plan : Plan) (next depth past : ℕ) (o : Option Value) → IsIntentOf plan (repeat_intent next depth past o)
-repeat_of plan next depth past None = tt
 repeat_of plan next depth past (Some (Num n)) = either_intent plan (nat_le n 1000) (intent.Local (change.Count depth n) (if n == 0 then past else next)) (λ _. tt)
-repeat_of plan next depth past (Some (Obj o)) = tt
-repeat_of plan next depth past (Some (Stat s)) = tt
+repeat_of plan next depth past _ = tt
 
 spend_of : (plan : Plan) (o : Option Value) → IsIntentOf plan (spend_intent o)
-spend_of plan None = tt
 spend_of plan (Some (Num n)) = either_intent plan (nat_le n 1000000) (intent.Spend n) (λ e. let few : n ≤ 1000000 = leb-true n 1000000 e in omega (arith, few))
-spend_of plan (Some (Obj o)) = tt
-spend_of plan (Some (Stat s)) = tt
+spend_of plan _ = tt
 
 log_of : (plan : Plan) (o : Option Value) → IsResultOf plan o → IsIntentOf plan (log_intent o)
 log_of plan None h = tt
@@ -117,20 +111,8 @@ argument_of plan f each sort.Absent (arg.OfClass c) h = absurd (let z : ⊥ = cc
 argument_of plan f each (sort.Class k) arg.NoArgument h = absurd (let z : ⊥ = cc in z)
 argument_of plan f each (sort.Class k) (arg.Expression e) h = absurd (let z : ⊥ = cc in z)
 argument_of plan f each (sort.Class k) (arg.OfClass c) h = class_there plan k c (slice_get plan.classes c) refl h
-argument_of plan f each sort.AnyObject (arg.Expression e) h = or_zero plan (value_of plan f e) (each e)
-argument_of plan f each sort.AnyObject _ h = absurd (let z : ⊥ = cc in z)
-argument_of plan f each (sort.ObjectOf k) (arg.Expression e) h = or_zero plan (value_of plan f e) (each e)
-argument_of plan f each (sort.ObjectOf k) _ h = absurd (let z : ⊥ = cc in z)
-argument_of plan f each sort.AnyRequest (arg.Expression e) h = or_zero plan (value_of plan f e) (each e)
-argument_of plan f each sort.AnyRequest _ h = absurd (let z : ⊥ = cc in z)
-argument_of plan f each sort.AnyStatus (arg.Expression e) h = or_zero plan (value_of plan f e) (each e)
-argument_of plan f each sort.AnyStatus _ h = absurd (let z : ⊥ = cc in z)
-argument_of plan f each sort.AnyNumber (arg.Expression e) h = or_zero plan (value_of plan f e) (each e)
-argument_of plan f each sort.AnyNumber _ h = absurd (let z : ⊥ = cc in z)
-argument_of plan f each (sort.UpTo most) (arg.Expression e) h = or_zero plan (value_of plan f e) (each e)
-argument_of plan f each (sort.UpTo most) _ h = absurd (let z : ⊥ = cc in z)
-argument_of plan f each sort.AnyValue (arg.Expression e) h = or_zero plan (value_of plan f e) (each e)
-argument_of plan f each sort.AnyValue _ h = absurd (let z : ⊥ = cc in z)
+argument_of plan f each _ (arg.Expression e) h = or_zero plan (value_of plan f e) (each e)
+argument_of plan f each _ _ h = absurd (let z : ⊥ = cc in z)
 
 -- a call has its first arguments before its later ones
 pub record IsCounted (k : CallKind) : Type 0 where
@@ -140,50 +122,7 @@ pub record IsCounted (k : CallKind) : Type 0 where
 
 counted : (k : CallKind) → IsCounted k
 counted call.WdfObjectCreate = record { first = refl; second = refl; third = refl }
-counted call.WdfSpinLockCreate = record { first = refl; second = refl; third = refl }
-counted call.WdfWaitLockCreate = record { first = refl; second = refl; third = refl }
-counted call.WdfRequestCreate = record { first = refl; second = refl; third = refl }
-counted call.WdfDpcCreate = record { first = refl; second = refl; third = refl }
-counted call.WdfTimerCreate = record { first = refl; second = refl; third = refl }
-counted call.WdfWorkItemCreate = record { first = refl; second = refl; third = refl }
-counted call.WdfObjectDelete = record { first = refl; second = refl; third = refl }
-counted call.WdfObjectReference = record { first = refl; second = refl; third = refl }
-counted call.WdfObjectDereference = record { first = refl; second = refl; third = refl }
-counted call.GetContext = record { first = refl; second = refl; third = refl }
-counted call.SetContext = record { first = refl; second = refl; third = refl }
-counted call.WdfSpinLockAcquire = record { first = refl; second = refl; third = refl }
-counted call.WdfSpinLockRelease = record { first = refl; second = refl; third = refl }
-counted call.WdfWaitLockAcquire = record { first = refl; second = refl; third = refl }
-counted call.WdfWaitLockRelease = record { first = refl; second = refl; third = refl }
-counted call.WdfInterruptAcquireLock = record { first = refl; second = refl; third = refl }
-counted call.WdfInterruptReleaseLock = record { first = refl; second = refl; third = refl }
-counted call.WdfRequestComplete = record { first = refl; second = refl; third = refl }
-counted call.WdfRequestMarkCancelableEx = record { first = refl; second = refl; third = refl }
-counted call.WdfRequestUnmarkCancelable = record { first = refl; second = refl; third = refl }
-counted call.WdfRequestIsCanceled = record { first = refl; second = refl; third = refl }
-counted call.WdfRequestRequeue = record { first = refl; second = refl; third = refl }
-counted call.WdfRequestForwardToIoQueue = record { first = refl; second = refl; third = refl }
-counted call.WdfRequestStopAcknowledge = record { first = refl; second = refl; third = refl }
-counted call.WdfRequestSend = record { first = refl; second = refl; third = refl }
-counted call.WdfRequestCancelSentRequest = record { first = refl; second = refl; third = refl }
-counted call.WdfIoQueueStart = record { first = refl; second = refl; third = refl }
-counted call.WdfIoQueueStop = record { first = refl; second = refl; third = refl }
-counted call.WdfIoQueueDrain = record { first = refl; second = refl; third = refl }
-counted call.WdfIoQueuePurge = record { first = refl; second = refl; third = refl }
-counted call.WdfIoQueueStopSynchronously = record { first = refl; second = refl; third = refl }
-counted call.WdfIoQueueDrainSynchronously = record { first = refl; second = refl; third = refl }
-counted call.WdfIoQueuePurgeSynchronously = record { first = refl; second = refl; third = refl }
-counted call.WdfIoQueueRetrieveNextRequest = record { first = refl; second = refl; third = refl }
-counted call.WdfIoQueueReadyNotify = record { first = refl; second = refl; third = refl }
-counted call.WdfInterruptQueueDpcForIsr = record { first = refl; second = refl; third = refl }
-counted call.WdfDpcEnqueue = record { first = refl; second = refl; third = refl }
-counted call.WdfDpcCancel = record { first = refl; second = refl; third = refl }
-counted call.WdfTimerStart = record { first = refl; second = refl; third = refl }
-counted call.WdfTimerStop = record { first = refl; second = refl; third = refl }
-counted call.WdfWorkItemEnqueue = record { first = refl; second = refl; third = refl }
-counted call.WdfWorkItemFlush = record { first = refl; second = refl; third = refl }
-counted call.WdfIoTargetStop = record { first = refl; second = refl; third = refl }
-counted call.WdfIoTargetStart = record { first = refl; second = refl; third = refl }
+counted _ = record { first = refl; second = refl; third = refl }
 
 call_is_of : (plan : Plan) (f : Frame) → ((e : ℕ) → IsResultOf plan (value_of plan f e)) → (k : CallKind) (a b c : ArgNode)
     → arg_fits plan (signature_of k).a a ≡ true → arg_fits plan (signature_of k).b b ≡ true → arg_fits plan (signature_of k).c c ≡ true → IsCallOf plan (call_of plan f k a b c)

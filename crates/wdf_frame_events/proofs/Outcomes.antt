@@ -136,18 +136,11 @@ module _ {A : Type 0} (plan : Plan) (m : Meaning A) (S : State A) (b : Bounded p
   outcome_by cpu f call.WdfDpcCreate n a c x third = created (class_in a) (parent_of_class plan (class_in a))
   outcome_by cpu f call.WdfTimerCreate n a c x third = created (class_in a) (parent_of_class plan (class_in a))
   outcome_by cpu f call.WdfWorkItemCreate n a c x third = created (class_in a) (parent_of_class plan (class_in a))
-  outcome_by cpu f call.WdfObjectDelete n a c x third = done _ (tt, tt)
-  outcome_by cpu f call.WdfObjectReference n a c x third = done _ (tt, tt)
-  outcome_by cpu f call.WdfObjectDereference n a c x third = done _ (tt, tt)
   outcome_by cpu f call.GetContext n a c x third = record { answers = λ _. values.cells (object_in a) (number_in c); tells = tt }
   outcome_by cpu f call.SetContext n a c x third = done _ (third, tt)
-  outcome_by cpu f call.WdfSpinLockAcquire n a c x third = done _ (tt, tt)
   outcome_by cpu f call.WdfSpinLockRelease n a c x third = done _ (tt, (tt, tt))
-  outcome_by cpu f call.WdfWaitLockAcquire n a c x third = done _ (tt, tt)
   outcome_by cpu f call.WdfWaitLockRelease n a c x third = done _ (tt, (tt, tt))
-  outcome_by cpu f call.WdfInterruptAcquireLock n a c x third = done _ (tt, tt)
   outcome_by cpu f call.WdfInterruptReleaseLock n a c x third = done _ (tt, (tt, tt))
-  outcome_by cpu f call.WdfRequestComplete n a c x third = done _ (tt, tt)
   outcome_by cpu f call.WdfRequestMarkCancelableEx n a c x third = marks (object_in a)
   outcome_by cpu f call.WdfRequestUnmarkCancelable n a c x third = record { answers = λ _. tt; tells = (tt, tt) }
   outcome_by cpu f call.WdfRequestIsCanceled n a c x third = flagged (is_cancelled S.requests (object_in a)) [] tt
@@ -156,13 +149,6 @@ module _ {A : Type 0} (plan : Plan) (m : Meaning A) (S : State A) (b : Bounded p
   outcome_by cpu f call.WdfRequestStopAcknowledge n a c x third = acknowledged (object_in a) c
   outcome_by cpu f call.WdfRequestSend n a c x third = sent (object_in a) (object_in c) (arg_is x 1)
   outcome_by cpu f call.WdfRequestCancelSentRequest n a c x third = flagged (is_undone S.targets (object_in a)) [] tt
-  outcome_by cpu f call.WdfIoQueueStart n a c x third = done _ (tt, tt)
-  outcome_by cpu f call.WdfIoQueueStop n a c x third = done _ (tt, tt)
-  outcome_by cpu f call.WdfIoQueueDrain n a c x third = done _ (tt, tt)
-  outcome_by cpu f call.WdfIoQueuePurge n a c x third = done _ (tt, tt)
-  outcome_by cpu f call.WdfIoQueueStopSynchronously n a c x third = done _ (tt, tt)
-  outcome_by cpu f call.WdfIoQueueDrainSynchronously n a c x third = done _ (tt, tt)
-  outcome_by cpu f call.WdfIoQueuePurgeSynchronously n a c x third = done _ (tt, tt)
   outcome_by cpu f call.WdfIoQueueRetrieveNextRequest n a c x third = retrieved (object_in a)
   outcome_by cpu f call.WdfIoQueueReadyNotify n a c x third =
       either (is_manual_queue plan (object_in a) && declares plan callback.EvtIoQueueState (object_in a)) (success (RegisterQueue (object_id (object_in a)) (not (arg_is c 0)) ∷ [])) (refused status.InvalidDeviceRequest)
@@ -179,8 +165,7 @@ module _ {A : Type 0} (plan : Plan) (m : Meaning A) (S : State A) (b : Bounded p
   outcome_by cpu f call.WdfWorkItemEnqueue n a c x third =
       either (is_live (life_of S.tree (object_in a))) (success (EnqueueWork (object_id (object_in a)) ∷ [])) (success []) (done (EnqueueWork (object_id (object_in a)) ∷ []) (tt, tt)) (done [] tt)
   outcome_by cpu f call.WdfWorkItemFlush n a c x third = done [] tt
-  outcome_by cpu f call.WdfIoTargetStop n a c x third = done _ (tt, tt)
-  outcome_by cpu f call.WdfIoTargetStart n a c x third = done _ (tt, tt)
+  outcome_by cpu f _ n a c x third = done _ (tt, tt)
 
   pub outcome_of : (cpu f : ℕ) (c : Call) → IsCallOf plan c → OutcomeOf plan S (outcome plan S cpu f c)
   outcome_of cpu f c h = outcome_by cpu f c.kind c.count c.a c.b c.c (value_of_argument plan _ c.c h.3)

@@ -120,18 +120,14 @@ action_fits _ (action.Lower j) e h = tt
 
 numbers_fit : (x p : Post) → same_post x p ≡ true → PostNumbersFit x → PostNumbersFit p
 numbers_fit (post.Read d n) (post.Read f k) e h = same_number n k (both_right (same_handle d f) (n == k) e) h
-numbers_fit _ (post.Read f k) e h = absurd (let z : ⊥ = cc in z)
 numbers_fit (post.Write d n) (post.Write f k) e h = same_number n k (both_right (same_handle d f) (n == k) e) h
-numbers_fit _ (post.Write f k) e h = absurd (let z : ⊥ = cc in z)
 numbers_fit (post.Control d c n) (post.Control f x k) e h =
     (same_number c x (both_right (same_handle d f) (c == x) (both_left (same_handle d f && (c == x)) (n == k) e)) h.0, same_number n k (both_right (same_handle d f && (c == x)) (n == k) e) h.1)
-numbers_fit _ (post.Control f x k) e h = absurd (let z : ⊥ = cc in z)
 numbers_fit (post.Cancel n) (post.Cancel k) e h = same_number n k e h
-numbers_fit _ (post.Cancel k) e h = absurd (let z : ⊥ = cc in z)
 numbers_fit _ (post.Ask a d) e h = tt
 numbers_fit (post.Act a) (post.Act c) e h = action_fits a c e h
-numbers_fit _ (post.Act c) e h = absurd (let z : ⊥ = cc in z)
 numbers_fit _ (post.Done r s) e h = tt
+numbers_fit _ _ e h = absurd (let z : ⊥ = cc in z)
 
 due_fits : (o : Option Post) (p : Post) → ((x : Post) → o ≡ Some x → PostNumbersFit x) → same_option same_post o (Some p) ≡ true → PostNumbersFit p
 due_fits None p each e = absurd (let z : ⊥ = cc in z)

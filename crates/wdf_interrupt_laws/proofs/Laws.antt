@@ -128,20 +128,4 @@ starts_by plan m run k resolved is_run cpu c o r (Some x) info at =
 
 pub law_4_at_each : {A : Type 0} (plan : Plan) (m : Meaning A) (run : List Event) (k : ℕ) (e : Event) → IsResolved plan → IsRunOf plan m run → slice_get run k ≡ Some e → law_4 plan (take k run) (frames_after (take k run)) e ≡ true
 law_4_at_each plan m run k (event.Start cpu c o r) resolved is_run at = starts_by plan m run k resolved is_run cpu c o r (interrupt_of plan o.id.0) refl at
-law_4_at_each plan m run k (event.Local cpu line) resolved is_run at = refl
-law_4_at_each plan m run k (event.Log cpu v) resolved is_run at = refl
-law_4_at_each plan m run k (event.Spend cpu n) resolved is_run at = refl
-law_4_at_each plan m run k (event.Register cpu a b v) resolved is_run at = refl
-law_4_at_each plan m run k (event.Did cpu c v) resolved is_run at = refl
-law_4_at_each plan m run k (event.Waiting cpu c) resolved is_run at = refl
-law_4_at_each plan m run k (event.Woke cpu c v) resolved is_run at = refl
-law_4_at_each plan m run k (event.Park cpu f) resolved is_run at = refl
-law_4_at_each plan m run k (event.Unpark cpu f) resolved is_run at = refl
-law_4_at_each plan m run k (event.End cpu c o v) resolved is_run at = refl
-law_4_at_each plan m run k (event.Fault cpu f line) resolved is_run at = refl
-law_4_at_each plan m run k (event.Stage d s i) resolved is_run at = refl
-law_4_at_each plan m run k (event.Complete q s) resolved is_run at = refl
-law_4_at_each plan m run k (event.Cleanup o) resolved is_run at = refl
-law_4_at_each plan m run k (event.Destroy o) resolved is_run at = refl
-law_4_at_each plan m run k (event.Posted agent p answer) resolved is_run at = refl
-law_4_at_each plan m run k (event.Tick time) resolved is_run at = refl
+law_4_at_each plan m run k _ resolved is_run at = refl

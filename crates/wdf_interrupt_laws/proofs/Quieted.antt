@@ -51,16 +51,10 @@ module _ (w : Watch) (watched : w.watched ≡ true) where
 
   clean_run : (c : Callback) (j : Option Handle) (a : Standing) (x : Bool) → (may_begin w c j a && could_fail w c (begins w c a)) ≡ true → exit_by c x ≡ false → (x ≡ false → (next w (step.Run c j) a).clean ≡ true) → a.clean ≡ true
   clean_run callback.EvtDeviceD0Exit j a x m h rest = exit_clean j a (both_left (may_begin w callback.EvtDeviceD0Exit j a) true m)
-  clean_run callback.EvtDeviceD0Entry j a x m h rest = rest h
   clean_run _ j a x m h rest = rest h
 
   clean_pass : (s : Stage) (j : Option Handle) (a : Standing) (x : Bool) → quiet_by s x ≡ false → (x ≡ false → (next w (step.Pass s j) a).clean ≡ true) → a.clean ≡ true
-  clean_pass stage.Hardware j a x h rest = rest h
-  clean_pass stage.NoHardware j a x h rest = rest h
-  clean_pass stage.QueuesUp j a x h rest = rest h
-  clean_pass stage.QueuesDown j a x h rest = rest h
   clean_pass stage.Enabled j a x h rest = both_left a.clean (not (is_for w.interrupt j)) (rest h)
-  clean_pass stage.Disabled j a x h rest = rest h
   clean_pass stage.Quiet j a x h rest = absurd (let z : ⊥ = cc in z)
   clean_pass _ j a x h rest = rest h
 
@@ -82,7 +76,6 @@ module _ (w : Watch) (watched : w.watched ≡ true) where
   -- ---- something is asked of the device
 
   rests_unclean : (q : Phase) (a : Standing) → rests_in q w (record a { clean = false }) ≡ rests_in q w a
-  rests_unclean Working a = refl
   rests_unclean Sleeping a = refl
   rests_unclean _ a = refl
 

@@ -381,8 +381,6 @@ module _ {A : Type 0} (plan : Plan) (m : Meaning A) (S : State A) (es : List Eve
         both_right (standings.may_pass w s j a) (safe w (drop 1 (steps_left S.pnp n.id.0)) (passes w s j a)) all
 
     passed_left : (s : Stage) (q : Sequence) → (pnp.passed s q).left ≡ q.left
-    passed_left stage.Working q = refl
-    passed_left stage.Sleeping q = refl
     passed_left stage.Removed q = refl
     passed_left _ q = refl
 

@@ -232,7 +232,6 @@ module _ {A : Type 0} (plan : Plan) (m : Meaning A) (S : State A) (b : Bounded p
       let dead : may_destroy S.tree o.id.0 ≡ true = k.0 in
       let done : is_cleaned (life_of S.tree o.id.0) ≡ true = search both_left in
       handle_of_object o proper (inside gone (λ n. is_cleaned n.life) S.tree.nodes o.id.0 refl done)
-  event_of_plan (event.Tick n) is h k = absurd (let z : ⊥ = cc in z)
   event_of_plan _ is h k = absurd (let z : ⊥ = cc in z)
 
   tick_of_plan : (e : Event) → e ≡ event.Tick (S.clock + 1) → IsEventOf plan e

@@ -104,12 +104,7 @@ proper_name plan S h o proper =
 
 named_interrupt : (plan : Plan) → IsResolved plan → (x : Option Declared) → ((d : Declared) → x ≡ Some d → unwrap_or (declared_name d) 0 < length plan.names) → interrupt_name (as_interrupt x) < length plan.names
 named_interrupt plan h (Some (declared.Interrupt d)) k = k (declared.Interrupt d) refl
-named_interrupt plan h (Some declared.Driver) k = let n = some_name plan h in omega arith
-named_interrupt plan h (Some (declared.Device d)) k = let n = some_name plan h in omega arith
-named_interrupt plan h (Some (declared.Queue d)) k = let n = some_name plan h in omega arith
-named_interrupt plan h (Some (declared.Target d)) k = let n = some_name plan h in omega arith
-named_interrupt plan h (Some (declared.OfClass d)) k = let n = some_name plan h in omega arith
-named_interrupt plan h None k = let n = some_name plan h in omega arith
+named_interrupt plan h _ k = let n = some_name plan h in omega arith
 
 pub name_of_interrupt : (plan : Plan) → IsResolved plan → (i : ℕ) → interrupt_name (interrupt_of plan i) < length plan.names
 name_of_interrupt plan h i = named_interrupt plan h (declared_of plan i) (at_id plan h i)

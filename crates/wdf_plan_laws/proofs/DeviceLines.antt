@@ -54,7 +54,6 @@ home_told scene e p h = device_told scene e p.stand.block h.line p.counts.device
 object_row : (scene : Scene) → first_refusal scene ≡ None → (p : Placed) (form : SceneLine) → (belongs form ≡ true → IsHome scene p)
     → Both (λ q d. IsInDevice (plan_of scene) scene q (device_in d)) (cond (is_object form) (Some p) None) (object_of scene (declarations scene) p p.at form)
 unfolding object_of is_object queue_info interrupt_info target_info
-object_row scene e p (line.Device n working) h = tt
 object_row scene e p (line.Queue n dispatch) h = home_told scene e p (h refl)
 object_row scene e p (line.Interrupt n level) h = home_told scene e p (h refl)
 object_row scene e p (line.Target n delay status depth) h = home_told scene e p (h refl)

@@ -32,7 +32,6 @@ below low high n h = leb-true n high (and_parts (nat_le low n) (nat_le n high) h
 level_fits : (form : SceneLine) → over_level form ≡ false → HasFitLevel form
 unfolding over_level
 level_fits (line.Interrupt n (level.Numbered l)) h = below 3 12 l (not-false (is_from 3 12 l) h)
-level_fits (line.Interrupt n level.AtPassive) h = tt
 level_fits _ h = tt
 
 -- ---- the first three lines

@@ -18,8 +18,6 @@ object_row : (scene : Scene) (p : Placed) (form : SceneLine) → Both (AreObject
 unfolding object_of is_object device_info queue_info
 object_row scene p (line.Device n working) = record { scope = refl; level = refl }
 object_row scene p (line.Queue n dispatch) = record { serves = refl; powered = refl; zero = refl; scope = refl; level = refl }
-object_row scene p (line.Interrupt n level) = tt
-object_row scene p (line.Target n delay status depth) = tt
 object_row scene p _ = tt
 
 pub objects_given : (scene : Scene) → Paired (AreObjectsGiven scene) (placed_that is_object scene) (drop 1 (plan_of scene).declared)
@@ -29,7 +27,6 @@ objects_given scene =
 
 class_row : (scene : Scene) (p : Placed) (form : SceneLine) → Both (IsClassGiven scene) (cond (is_class form) (Some p) None) (class_on scene (declarations scene) p form)
 unfolding class_on is_class
-class_row scene p (line.Class n k) = tt
 class_row scene p (line.DeferredClass n k parent) = refl
 class_row scene p _ = tt
 

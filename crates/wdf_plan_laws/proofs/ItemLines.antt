@@ -61,13 +61,6 @@ of_scene h scene = by_lines h 0 outside nothing scene.lines
 
 declared_same : (p : Placed) (form : SceneLine) → option_map name_in (declared_by p form) ≡ declared_name form
 unfolding declared_by declared_name
-declared_same p (line.Class n k) = refl
-declared_same p (line.DeferredClass n k parent) = refl
-declared_same p (line.Device n working) = refl
-declared_same p (line.Queue n dispatch) = refl
-declared_same p (line.Interrupt n l) = refl
-declared_same p (line.Target n delay status depth) = refl
-declared_same p (line.Register n v) = refl
 declared_same p (line.App n) = refl
 declared_same p _ = refl
 
@@ -111,10 +104,6 @@ object_row scene p (line.Queue n dispatch) t h =
 object_row scene p (line.Interrupt n l) t h = rw (t _ refl, level_same n l h) refl
 object_row scene p (line.Target n delay status depth) t h =
     ap (λ m. Some (Some (line.Target m delay status depth))) (t _ refl)
-object_row scene p (line.Class n k) t h = refl
-object_row scene p (line.DeferredClass n k parent) t h = refl
-object_row scene p (line.Register n v) t h = refl
-object_row scene p (line.App n) t h = refl
 object_row scene p _ t h = refl
 
 -- what is known of a line
@@ -165,12 +154,6 @@ class_row scene e p (line.Class n k) t u f = ap (λ m. Some (line.Class m k)) (t
 class_row scene e p (line.DeferredClass n k parent) t u f =
     let h = has_parent (declarations scene) parent u f in
     rw (t _ refl, h.is, object_told scene e h.name wanted.Parent needs_parent h.stands') refl
-class_row scene e p (line.Device n working) t u f = refl
-class_row scene e p (line.Queue n dispatch) t u f = refl
-class_row scene e p (line.Interrupt n l) t u f = refl
-class_row scene e p (line.Target n delay status depth) t u f = refl
-class_row scene e p (line.Register n v) t u f = refl
-class_row scene e p (line.App n) t u f = refl
 class_row scene e p _ t u f = refl
 
 pub classes_are : (scene : Scene) → first_refusal scene ≡ None → map (class_line (plan_of scene)) (plan_of scene).classes ≡ forms_that is_class scene.lines
@@ -183,13 +166,6 @@ classes_are scene e =
 register_row : (scene : Scene) (p : Placed) (form : SceneLine) → LineTold scene p form → option_map (register_line (plan_of scene)) (register_on (declarations scene) p form) ≡ kept_form is_register form
 unfolding register_on declared_by is_register
 register_row scene p (line.Register n v) t = ap (λ m. Some (line.Register m v)) (t _ refl)
-register_row scene p (line.Class n k) t = refl
-register_row scene p (line.DeferredClass n k parent) t = refl
-register_row scene p (line.Device n working) t = refl
-register_row scene p (line.Queue n dispatch) t = refl
-register_row scene p (line.Interrupt n l) t = refl
-register_row scene p (line.Target n delay status depth) t = refl
-register_row scene p (line.App n) t = refl
 register_row scene p _ t = refl
 
 pub registers_are : (scene : Scene) → first_refusal scene ≡ None → map (register_line (plan_of scene)) (plan_of scene).registers ≡ forms_that is_register scene.lines
@@ -254,7 +230,6 @@ app_row scene e number device (line.AtWrite tick d n) u =
     ap (λ m. Some (Some (numbered number (line.AtWrite tick m n)))) (device_same scene e d u)
 app_row scene e number device (line.AtControl tick d code n) u =
     ap (λ m. Some (Some (numbered number (line.AtControl tick m code n)))) (device_same scene e d u)
-app_row scene e number device (line.AtCancel tick k) u = refl
 app_row scene e number device _ u = refl
 
 pub device_row : (scene : Scene) → first_refusal scene ≡ None → (number : ℕ) (device : Option ℕ) (form : SceneLine) → unknown_word (declarations scene) device form ≡ false → option_map (post_line (plan_of scene)) (device_post (declarations scene) number device form) ≡ option_map Some (kept_line is_device_post number form)

@@ -49,11 +49,8 @@ named_told scene e vs n None is known =
 
 node_told : (scene : Scene) → first_refusal scene ≡ None → (vs : List (List ℕ)) (x : SceneExpr) → unknown_node (declarations scene) vs x ≡ false → node_text (plan_of scene) vs (node_of (declarations scene) vs x) ≡ x
 unfolding node_of unknown_node
-node_told scene e vs (expr.Number n) known = refl
 node_told scene e vs (expr.Named n) known = named_told scene e vs n (variable_number vs n) refl known
-node_told scene e vs (expr.Literal s) known = refl
-node_told scene e vs (expr.Context w) known = refl
-node_told scene e vs (expr.Binary op l r) known = refl
+node_told scene e vs _ known = refl
 
 nodes_told : (scene : Scene) → first_refusal scene ≡ None → (vs : List (List ℕ)) (xs : List SceneExpr) → list_any (unknown_node (declarations scene) vs) xs ≡ false → map (node_text (plan_of scene) vs) (map (node_of (declarations scene) vs) xs) ≡ xs
 nodes_told scene e vs [] known = refl
@@ -86,12 +83,7 @@ same_long scene names p = length-map (nodes_of scene p) (node_of names (variable
 head_after : (base e : ℕ) (h : StatementHead) → nodes_end base (head_line h e) ≡ suc e
 unfolding nodes_end
 head_after base e (head.Let x) = refl
-head_after base e (head.Put r) = refl
-head_after base e head.If = refl
-head_after base e head.Repeat = refl
-head_after base e head.Spend = refl
-head_after base e head.Log = refl
-head_after base e head.Return = refl
+head_after base e _ = refl
 
 argument_after : (base : ℕ) (a : Argument) → nodes_behind base (numbered_argument base a) ≡ base + argument_size a
 unfolding nodes_behind

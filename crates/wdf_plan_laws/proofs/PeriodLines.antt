@@ -160,7 +160,6 @@ period_there scene s p there opens' =
 
 class_row : (scene : Scene) → IsScene scene → (p : Placed) (form : SceneLine) → p.form ≡ form → slice_get (placed scene) p.at ≡ Some p → Both (IsPeriodTold scene) (cond (is_class form) (Some p) None) (class_on scene (declarations scene) p form)
 unfolding class_on is_class
-class_row scene s p (line.Class n k) is there = tt
 class_row scene s p (line.DeferredClass n k parent) is there = period_there scene s p there (rw is refl)
 class_row scene s p _ is there = tt
 

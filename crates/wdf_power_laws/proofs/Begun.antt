@@ -137,42 +137,25 @@ module _ (w : Watch) where
   -- ---- what passes the test agrees with power
 
   run_keeps : (c : Callback) (a : Standing) → ((succeeds c (begins w c a)).up ≡ a.up) × ((succeeds c (begins w c a)).hardware ≡ a.hardware) × ((succeeds c (begins w c a)).on ≡ a.on) × ((succeeds c (begins w c a)).phase ≡ a.phase)
-  run_keeps callback.EvtDeviceD0Entry a = (refl, refl, refl, refl)
   run_keeps callback.EvtDeviceD0Exit a = (refl, refl, refl, refl)
   run_keeps _ a = (refl, refl, refl, refl)
 
   phase_next : (s : Step) (a : Standing) → (next w s a).phase ≡ phase_after s a.phase
   phase_next (step.Run c j) a = (run_keeps c a).3
   phase_next (step.Pass stage.Hardware j) a = refl
-  phase_next (step.Pass stage.NoHardware j) a = refl
-  phase_next (step.Pass stage.QueuesUp j) a = refl
-  phase_next (step.Pass stage.QueuesDown j) a = refl
-  phase_next (step.Pass stage.Enabled j) a = refl
-  phase_next (step.Pass stage.Disabled j) a = refl
-  phase_next (step.Pass stage.Quiet j) a = refl
-  phase_next (step.Pass _ j) a = refl
+  phase_next _ a = refl
 
   queues_next : (s : Step) (a : Standing) (x : Bool) → may_take w s a ≡ true → (next w s a).up ≡ x → a.up ≡ queues_from s x
   queues_next (step.Run c j) a x m e = sym (run_keeps c a).0 ∙ e
   queues_next (step.Pass stage.QueuesUp j) a x m e = not_true a.up (both_left (not a.up) a.entered m)
   queues_next (step.Pass stage.QueuesDown j) a x m e = m
-  queues_next (step.Pass stage.Hardware j) a x m e = e
-  queues_next (step.Pass stage.NoHardware j) a x m e = e
-  queues_next (step.Pass stage.Enabled j) a x m e = e
-  queues_next (step.Pass stage.Disabled j) a x m e = e
-  queues_next (step.Pass stage.Quiet j) a x m e = e
-  queues_next (step.Pass _ j) a x m e = e
+  queues_next _ a x m e = e
 
   hardware_next : (s : Step) (a : Standing) (x : Bool) → may_take w s a ≡ true → (next w s a).hardware ≡ x → a.hardware ≡ hardware_from s x
   hardware_next (step.Run c j) a x m e = sym (run_keeps c a).1 ∙ e
-  hardware_next (step.Pass stage.QueuesUp j) a x m e = e
-  hardware_next (step.Pass stage.QueuesDown j) a x m e = e
   hardware_next (step.Pass stage.Hardware j) a x m e = not_true a.hardware m
   hardware_next (step.Pass stage.NoHardware j) a x m e = m
-  hardware_next (step.Pass stage.Enabled j) a x m e = e
-  hardware_next (step.Pass stage.Disabled j) a x m e = e
-  hardware_next (step.Pass stage.Quiet j) a x m e = e
-  hardware_next (step.Pass _ j) a x m e = e
+  hardware_next _ a x m e = e
 
   enabling : (a x mine there : Bool) → (there && (not mine || not a)) ≡ true → (a || mine) ≡ x → a ≡ (if mine then false else x)
   enabling true x true there m e = absurd (let k : (not true || not true) ≡ true = both_right there (not true || not true) m in let z : ⊥ = cc in z)
@@ -188,14 +171,9 @@ module _ (w : Watch) where
 
   enabled_next : (s : Step) (a : Standing) (x : Bool) → may_take w s a ≡ true → (next w s a).on ≡ x → a.on ≡ enabled_from w.interrupt s x
   enabled_next (step.Run c j) a x m e = sym (run_keeps c a).2 ∙ e
-  enabled_next (step.Pass stage.QueuesUp j) a x m e = e
-  enabled_next (step.Pass stage.QueuesDown j) a x m e = e
-  enabled_next (step.Pass stage.Hardware j) a x m e = e
-  enabled_next (step.Pass stage.NoHardware j) a x m e = e
   enabled_next (step.Pass stage.Enabled j) a x m e = enabling a.on x (is_for w.interrupt j) (a.entered && is_some j && (not (is_for w.interrupt j) || w.watched)) m e
   enabled_next (step.Pass stage.Disabled j) a x m e = disabling a.on x (is_for w.interrupt j) (is_some j && (not (is_for w.interrupt j) || w.watched)) m e
-  enabled_next (step.Pass stage.Quiet j) a x m e = e
-  enabled_next (step.Pass _ j) a x m e = e
+  enabled_next _ a x m e = e
 
   up_rests : (a : Standing) (q : Phase) → rests_in q w a ≡ true → a.up ≡ is_working q
   up_rests a Working h = both_right a.hardware a.up (both_left (a.hardware && a.up) (beq a.on w.watched) (both_left (a.hardware && a.up && beq a.on w.watched) (not w.watched || a.since) h))

@@ -54,10 +54,8 @@ owner_is _ h = absurd (let z : ⊥ = cc in z)
 
 no_class : (c : ClassInfo) → same_kind (class_kind c) kind.Device ≡ false
 no_class (class.Plain name plain.Object) = refl
-no_class (class.Plain name _) = refl
 no_class (class.Deferred name deferred.Dpc parent serialize period) = refl
-no_class (class.Deferred name deferred.Timer parent serialize period) = refl
-no_class (class.Deferred name deferred.WorkItem parent serialize period) = refl
+no_class _ = refl
 
 class_unlike : (o : Option ClassInfo) → same_option same_kind (option_map class_kind o) (Some kind.Device) ≡ true → ⊥
 class_unlike None h = let z : ⊥ = cc in z
@@ -65,16 +63,9 @@ class_unlike (Some c) h = let off = no_class c in let z : ⊥ = cc in z
 
 owns_device : (plan : Plan) (x y : Declared) → same_declared x y ≡ true → owner_fits plan (owner.Of kind.Device) x ≡ true → is_device (Some y) ≡ true
 owns_device plan (declared.Device a) (declared.Device b) h k = refl
-owns_device plan (declared.Device a) declared.Driver h k = absurd (let z : ⊥ = cc in z)
-owns_device plan (declared.Device a) (declared.Queue b) h k = absurd (let z : ⊥ = cc in z)
-owns_device plan (declared.Device a) (declared.Interrupt b) h k = absurd (let z : ⊥ = cc in z)
-owns_device plan (declared.Device a) (declared.Target b) h k = absurd (let z : ⊥ = cc in z)
-owns_device plan (declared.Device a) (declared.OfClass b) h k = absurd (let z : ⊥ = cc in z)
+owns_device plan (declared.Device a) _ h k = absurd (let z : ⊥ = cc in z)
 owns_device plan (declared.OfClass c) y h k = absurd (class_unlike (slice_get plan.classes c) k)
-owns_device plan declared.Driver y h k = absurd (let z : ⊥ = cc in z)
-owns_device plan (declared.Queue a) y h k = absurd (let z : ⊥ = cc in z)
-owns_device plan (declared.Interrupt a) y h k = absurd (let z : ⊥ = cc in z)
-owns_device plan (declared.Target a) y h k = absurd (let z : ⊥ = cc in z)
+owns_device plan _ y h k = absurd (let z : ⊥ = cc in z)
 
 fit_at : (p : Script → Bool) (d : Script) (ss : List Script) (i : ℕ) → list_all p ss ≡ true → i < length ss → p (entry d ss i) ≡ true
 fit_at p d [] i h within = absurd (omega arith)
@@ -223,7 +214,7 @@ no_working plan d zero resolved h = absurd (let z : ⊥ = cc in z)
 no_working plan d (suc i) resolved h = works_by plan d i (slice_get plan.declared i) resolved refl h
 
 -- a device is its own nearest device
-front_stays : (before : List ℕ) (ns : List Node) (o : ℕ) → o < length before → entry 1 (nearest_devices before ns) o ≡ entry 1 before o
+pub front_stays : (before : List ℕ) (ns : List Node) (o : ℕ) → o < length before → entry 1 (nearest_devices before ns) o ≡ entry 1 before o
 front_stays before [] o h = refl
 front_stays before (n ∷ ns) o h =
     let more = length-append before (own_device before (length before) n ∷ []) in

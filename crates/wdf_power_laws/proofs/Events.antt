@@ -238,8 +238,6 @@ module _ {A : Type 0} (plan : Plan) (m : Meaning A) (S : State A) (es : List Eve
   by_calm n s j X same c = record { pnp = c.pnp; devices = c.devices; interrupts = c.interrupts ∙ sym same; frames = c.frames }
 
   pub staged : (n : ℕ) (s : Stage) (j : Option Handle) → AllSound plan (stage_effect plan n s j) (do_deeds plan (TakeStep (object_id n) ∷ AdvancePower (object_id n) (step.Pass s j) ∷ []) S) → Staged n s j (do_deeds plan (stage_deeds plan n s j) S)
-  staged n stage.Enabled j sound = record { pnp = refl; devices = refl; interrupts = refl; frames = (calm_same S).frames }
-  staged n stage.Disabled j sound = record { pnp = refl; devices = refl; interrupts = refl; frames = (calm_same S).frames }
   staged n stage.QueuesDown j sound = by_calm n stage.QueuesDown j _ refl (deeds_calm plan (stage_effect plan n stage.QueuesDown j) (do_deeds plan (TakeStep (object_id n) ∷ AdvancePower (object_id n) (step.Pass stage.QueuesDown j) ∷ []) S) refl sound)
   staged n stage.Closed j sound = by_calm n stage.Closed j _ refl (deeds_calm plan (stage_effect plan n stage.Closed j) (do_deeds plan (TakeStep (object_id n) ∷ AdvancePower (object_id n) (step.Pass stage.Closed j) ∷ []) S) refl sound)
   staged n stage.Removed j sound = by_calm n stage.Removed j _ refl (deeds_calm plan (stage_effect plan n stage.Removed j) (do_deeds plan (TakeStep (object_id n) ∷ AdvancePower (object_id n) (step.Pass stage.Removed j) ∷ []) S) refl sound)

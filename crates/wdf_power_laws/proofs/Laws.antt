@@ -59,7 +59,7 @@ power_by_first : (a b c : Bool) → (b || c) ≡ true → (a || b || c) ≡ true
 power_by_first true b c h = refl
 power_by_first false b c h = h
 
-power_of : {A : Type 0} (plan : Plan) (S : State A) (es : List Event) → Kept plan S es → (q : ℕ) (x : Option QueueInfo) → queue_of plan q ≡ x → is_powered plan S q ≡ true → has_power plan es x ≡ true
+pub power_of : {A : Type 0} (plan : Plan) (S : State A) (es : List Event) → Kept plan S es → (q : ℕ) (x : Option QueueInfo) → queue_of plan q ≡ x → is_powered plan S q ≡ true → has_power plan es x ≡ true
 power_of plan S es k q None at h = refl
 power_of plan S es k q (Some i) at h = by_manage i.powered refl
   where
@@ -100,12 +100,10 @@ module _ {A : Type 0} (plan : Plan) (m : Meaning A) (S : State A) (es : List Eve
   front_answers q x false false g h = absurd (let z : ⊥ = cc in z)
 
   retrieves : (a : Arg) (v : Value) → v ≡ (retrieve_outcome plan S (object_in a)).answer → presented_with_power plan es (pair_of (value_object v) (argument_object a)) ≡ true
-  retrieves (Class c) v h = no_pair (value_object v)
-  retrieves (Val (Num n)) v h = no_pair (value_object v)
-  retrieves (Val (Stat s)) v h = no_pair (value_object v)
   retrieves (Val (Obj q)) (Num n) h = refl
   retrieves (Val (Obj q)) (Stat s) h = refl
   retrieves (Val (Obj q)) (Obj g) h = queue_has_power plan S es k q.id.0 (front_answers q.id.0 (front S.queues q.id.0) (is_parallel_queue plan q.id.0) (queue_delivers plan S q.id.0) g (sym h))
+  retrieves _ v h = no_pair (value_object v)
 
   calls_present : (cpu f : ℕ) (x : CallKind) (n : ℕ) (a b c : Arg) (v : Value) → v ≡ (outcome plan S cpu f (record { kind = x; count = n; a = a; b = b; c = c })).answer
       → presented_with_power plan es (pair_of (where_so (same_call_kind x call.WdfIoQueueRetrieveNextRequest) (value_object v)) (argument_object a)) ≡ true

@@ -181,12 +181,10 @@ module _ (plan : Plan) (es : List Event) (device : Handle) (i : ℕ) where
   after stage.Disabled j q p x a m f u h o plain = record { steps = refl; left = refl; running = refl; phase = f; up = u; hardware = h; on = on_less a (is_for i j) x o; plain = plain }
   after stage.QueuesUp j q p x a m f u h o plain = record { steps = refl; left = refl; running = refl; phase = f; up = refl; hardware = h; on = o; plain = plain }
   after stage.QueuesDown j q p x a m f u h o plain = record { steps = refl; left = refl; running = refl; phase = f; up = refl; hardware = h; on = o; plain = plain }
-  after stage.Settled j q p x a m f u h o plain = record { steps = refl; left = refl; running = refl; phase = f; up = u; hardware = h; on = o; plain = plain }
-  after stage.Quiet j q p x a m f u h o plain = record { steps = refl; left = refl; running = refl; phase = f; up = u; hardware = h; on = o; plain = plain }
-  after stage.Closed j q p x a m f u h o plain = record { steps = refl; left = refl; running = refl; phase = f; up = u; hardware = h; on = o; plain = plain }
   after stage.Working j q p x a m f u h o plain = record { steps = refl; left = refl; running = refl; phase = refl; up = u; hardware = h; on = o; plain = plain }
   after stage.Sleeping j q p x a m f u h o plain = record { steps = refl; left = refl; running = refl; phase = refl; up = u; hardware = h; on = o; plain = plain }
   after stage.Removed j q p x a m f u h o plain = record { steps = refl; left = refl; running = refl; phase = refl; up = u; hardware = h; on = o; plain = plain }
+  after _ j q p x a m f u h o plain = record { steps = refl; left = refl; running = refl; phase = f; up = u; hardware = h; on = o; plain = plain }
 
   pub passes_to : (q : Sequence) (p : DevicePower) (enabled : Bool) (s : Stage) (j : Option Handle) (ss : List Step) → q.running ≡ None → q.left ≡ step.Pass s j ∷ ss → Holds plan q p enabled es device.id.0 i
       → Holds plan (passed s (record q { left = ss })) (power_by s p) (enabling s (is_for i j) enabled) (es ++ event.Stage device s j ∷ []) device.id.0 i

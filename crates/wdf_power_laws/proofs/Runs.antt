@@ -43,7 +43,7 @@ use Rattle.wdf_power_laws.proofs.Events.{Kept, keeps, quiet}
 
 -- ---- the opening
 
-mapped : {T : Type 0} (blank : T) (f : ℕ → T) (a n d : ℕ) → ((x : ℕ) → a + n ≤ x → f x ≡ blank) → entry blank (map f (range_with_len a n)) d ≡ f (a + d)
+pub mapped : {T : Type 0} (blank : T) (f : ℕ → T) (a n d : ℕ) → ((x : ℕ) → a + n ≤ x → f x ≡ blank) → entry blank (map f (range_with_len a n)) d ≡ f (a + d)
 mapped blank f a zero d past = sym (past (a + d) (omega arith))
 mapped blank f a (suc n) zero past = let e : a + 0 ≡ a = omega arith in rw e refl
 mapped blank f a (suc n) (suc d) past = let e : a + suc d ≡ a + 1 + d = omega arith in rw e (mapped blank f (a + 1) n d (λ x h. past x (omega arith)))

@@ -37,7 +37,7 @@ use Rattle.wdf_laws.specs.Laws.{begun_with_power, has_power, is_power_rank, is_u
 use Rattle.wdf_laws.specs.Events.{presented}
 use Rattle.wdf_power_laws.proofs.Frames.{StepFrames}
 use Rattle.wdf_power_laws.proofs.Events.{Kept}
-use Rattle.wdf_power_laws.proofs.Laws.{presents_at_each, queue_has_power, ready_at}
+use Rattle.wdf_power_laws.proofs.Laws.{power_of, presents_at_each, queue_has_power, ready_at}
 use Rattle.wdf_power_laws.proofs.Runs.{kept_at_each}
 use Rattle.wdf_queue_power_laws.specs.Agreement.{RequestsAndPowerAgree}
 use Rattle.wdf_queue_power_laws.proofs.Ups.{Fits}
@@ -94,23 +94,6 @@ agrees_at_each {A} plan m run resolved is_run n =
 
 -- ---- a queue that has power
 
--- the events before tell so
-told : {A : Type 0} (plan : Plan) (S : State A) (es : List Event) → Kept plan S es → (q : ℕ) (x : Option QueueInfo) → queue_of plan q ≡ x → is_powered plan S q ≡ true → has_power plan es x ≡ true
-told plan S es k q None at h = refl
-told plan S es k q (Some i) at h = by_managed i.powered refl
-  where
-    either : (a b c : Bool) → (b || c) ≡ true → (a || b || c) ≡ true
-    either true b c t = refl
-    either false b c t = t
-
-    by_managed : (b : Bool) → i.powered ≡ b → (not i.powered || went_up plan es i.device.0 || is_up_from_opening plan es i.device.0) ≡ true
-    by_managed false e = rw e refl
-    by_managed true e =
-        let managed : is_managed plan q ≡ true = rw at e in
-        let up : queues_up S.power i.device.0 ≡ true = let t : (not (is_managed plan q) || up_for plan S q) ≡ true = h in let u : up_for plan S q ≡ true = rw managed at t in rw at at u in
-        let held = k.hold i.device.0 0 in
-        either (not i.powered) (went_up plan es i.device.0) (is_up_from_opening plan es i.device.0) (held.told.power (held.up ∙ up))
-
 -- ---- EvtIoResume
 
 -- what is held from a power-managed queue is noted for it
@@ -141,17 +124,14 @@ resumes_powered plan S q r hold k due held = by_managed (is_managed plan q) refl
 
 module _ {A : Type 0} (plan : Plan) (m : Meaning A) (S : State A) (es : List Event) (kept : Kept plan S es) (hold : HoldsIn plan S) (k : WithPower plan S) where
   begins_for : (x : Rank) (c : Callback) (o r : ℕ) → is_power_rank x ≡ true → rank_ready_for plan S x c o r ≡ true → has_power plan es (queue_of plan o) ≡ true
-  begins_for rank.CanceledOnQueue c o r is h = told plan S es kept o (queue_of plan o) refl (k.backed r o h)
+  begins_for rank.CanceledOnQueue c o r is h = power_of plan S es kept o (queue_of plan o) refl (k.backed r o h)
   begins_for rank.Resume c o r is h =
-      told plan S es kept o (queue_of plan o) refl
+      power_of plan S es kept o (queue_of plan o) refl
       (resumes_powered plan S o r hold k (both_left (resume_due S.power r) (is_held_from S o r) h) (both_right (resume_due S.power r) (is_held_from S o r) h))
-  begins_for rank.QueueState c o r is h = absurd (let z : ⊥ = cc in z)
   begins_for _ c o r is h = absurd (let z : ⊥ = cc in z)
 
   begins_alone : (x : Rank) (cpu : ℕ) (c : Callback) (o : ℕ) → is_power_rank x ≡ true → rank_ready plan m S x cpu c o ≡ true → has_power plan es (queue_of plan o) ≡ true
   begins_alone rank.QueueState cpu c o is h = queue_has_power plan S es kept o (both_right (notify_due S.control o) (queue_delivers plan S o) h)
-  begins_alone rank.CanceledOnQueue cpu c o is h = absurd (let z : ⊥ = cc in z)
-  begins_alone rank.Resume cpu c o is h = absurd (let z : ⊥ = cc in z)
   begins_alone _ cpu c o is h = absurd (let z : ⊥ = cc in z)
 
   pub begins : (cpu : ℕ) (c : Callback) (o : ℕ) (r : Option Handle) → is_power_rank (row_of c).rank ≡ true → is_ready_for plan m S cpu c o r ≡ true → has_power plan es (queue_of plan o) ≡ true

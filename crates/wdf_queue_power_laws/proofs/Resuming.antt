@@ -28,6 +28,7 @@ use Rattle.wdf_model.proofs.Maps.{entry_put_other, entry_put_same}
 use Rattle.wdf_model.proofs.Counts.{equal, one_or_two}
 use Rattle.wdf_agreements.proofs.Queued.{any_entry}
 use Rattle.wdf_agreements.proofs.Stays.{asks_all}
+use Rattle.wdf_power_laws.proofs.Runs.{mapped}
 
 -- ---- one request
 
@@ -88,19 +89,19 @@ given_if S false r = same_power S.power S.power refl
 abbrev power_of : {A : Type 0} → State A → Power
 power_of S = S.power
 
-withdrawn : {A : Type 0} (plan : Plan) (q : ℕ) (rs : List ℕ) (S : State A) → (fold (withdraw plan q) S rs).power ≡ S.power
+pub withdrawn : {A : Type 0} (plan : Plan) (q : ℕ) (rs : List ℕ) (S : State A) → (fold (withdraw plan q) S rs).power ≡ S.power
 withdrawn plan q [] S = refl
 withdrawn plan q (r ∷ rs) S = withdrawn plan q rs (withdraw plan q S r)
 
-returned : {A : Type 0} (qs : List ℕ) (S : State A) → (fold close_returning S qs).power ≡ S.power
+pub returned : {A : Type 0} (qs : List ℕ) (S : State A) → (fold close_returning S qs).power ≡ S.power
 returned [] S = refl
 returned (q ∷ qs) S = returned qs (close_returning S q)
 
-closed : {A : Type 0} (qs : List ℕ) (S : State A) → (fold close_queue S qs).power ≡ S.power
+pub closed : {A : Type 0} (qs : List ℕ) (S : State A) → (fold close_queue S qs).power ≡ S.power
 closed [] S = refl
 closed (q ∷ qs) S = closed qs (close_queue S q)
 
-arrived : {A : Type 0} (S : State A) (device : ℕ) (info : RequestInfo) (p : Place) → (arrive_at S device info p).power ≡ S.power
+pub arrived : {A : Type 0} (S : State A) (device : ℕ) (info : RequestInfo) (p : Place) → (arrive_at S device info p).power ≡ S.power
 arrived S device info (place.Queued q) = refl
 arrived S device info _ = refl
 
@@ -135,12 +136,7 @@ none_more_by plan _ S h = same_power S.power S.power refl
 
 -- ---- the queues as power knows them
 
-of_range : {T : Type 0} (blank : T) (f : ℕ → T) (a n k : ℕ) → ((x : ℕ) → a + n ≤ x → f x ≡ blank) → entry blank (map f (range_with_len a n)) k ≡ f (a + k)
-of_range blank f a zero k past = sym (past (a + k) (omega arith))
-of_range blank f a (suc n) zero past = let e : a ≡ a + 0 = omega arith in ap f e
-of_range blank f a (suc n) (suc k) past = let e : (a + 1) + k ≡ a + suc k = omega arith in of_range blank f (a + 1) n k (λ x h. past x (omega arith)) ∙ ap f e
-
-undeclared : (plan : Plan) (q : ℕ) → suc (length plan.declared) ≤ q → declared_of plan q ≡ None
+pub undeclared : (plan : Plan) (q : ℕ) → suc (length plan.declared) ≤ q → declared_of plan q ≡ None
 undeclared plan zero h = absurd (omega arith)
 undeclared plan (suc k) h = slice_get_past plan.declared k (omega arith)
 
@@ -152,7 +148,7 @@ pub device_noted : (plan : Plan) (P : Power) (q : ℕ) → P.queues ≡ (opening
 device_noted plan P q same =
     let e : 0 + q ≡ q = omega arith in
     ap (λ qs. (entry no_queue_power qs q).device.0) same
-    ∙ ap (λ y. y.device.0) (of_range no_queue_power (opening_queue_power plan) 0 (suc (length plan.declared)) q (λ x h. blank_queue plan x (undeclared plan x (omega arith))))
+    ∙ ap (λ y. y.device.0) (mapped no_queue_power (opening_queue_power plan) 0 (suc (length plan.declared)) q (λ x h. blank_queue plan x (undeclared plan x (omega arith))))
     ∙ ap (device_of_queue plan) e
 
 module _ (plan : Plan) (P : Power) (same : P.queues ≡ (opening_power plan).queues) where

@@ -59,26 +59,26 @@ is_plain (step.Pass s i) = is_plain_stage s
 abbrev Plain : List Step → Type 0
 Plain ss = list_all is_plain ss ≡ true
 
-plain_behind : (xs ys : List Step) → Plain xs → Plain ys → Plain (xs ++ ys)
+pub plain_behind : (xs ys : List Step) → Plain xs → Plain ys → Plain (xs ++ ys)
 plain_behind [] ys h k = k
 plain_behind (x ∷ xs) ys h k = both (is_plain x) (list_all is_plain (xs ++ ys)) (both_left (is_plain x) (list_all is_plain xs) h) (plain_behind xs ys (both_right (is_plain x) (list_all is_plain xs) h) k)
 
-plain_each : {T : Type 0} (f : T → List Step) → ((x : T) → Plain (f x)) → (xs : List T) → Plain (flat_map f xs)
+pub plain_each : {T : Type 0} (f : T → List Step) → ((x : T) → Plain (f x)) → (xs : List T) → Plain (flat_map f xs)
 plain_each f h [] = refl
 plain_each f h (x ∷ xs) = plain_behind (f x) (flat_map f xs) (h x) (plain_each f h xs)
 
-run_plain_by : (b : Bool) (c : Callback) (i : Option Handle) → Plain (if b then step.Run c i ∷ [] else [])
+pub run_plain_by : (b : Bool) (c : Callback) (i : Option Handle) → Plain (if b then step.Run c i ∷ [] else [])
 run_plain_by true c i = refl
 run_plain_by false c i = refl
 
 run_plain : (p : DeviceSteps) (c : Callback) → Plain (run p c)
 run_plain p c = run_plain_by (list_any (same_callback c) p.callbacks) c None
 
-run_if_plain : (b : Bool) (c : Callback) (i : Handle) → Plain (run_if b c i)
+pub run_if_plain : (b : Bool) (c : Callback) (i : Handle) → Plain (run_if b c i)
 run_if_plain true c i = refl
 run_if_plain false c i = refl
 
-quiets_plain : (is : List InterruptSteps) → Plain (quiet_steps is)
+pub quiets_plain : (is : List InterruptSteps) → Plain (quiet_steps is)
 quiets_plain [] = refl
 quiets_plain (i ∷ is) = refl
 
@@ -169,25 +169,21 @@ module _ (p : DeviceSteps) where
     asked Off asks.Start = before (hard_steps p) (up_steps p ever) hard_plain ups
     asked Off asks.Remove = tt
     asked Off asks.Surprise = tt
-    asked Off _ = tt
     asked Working asks.Sleep = plain_ups (down_steps p ++ pass stage.Sleeping) (plain_behind (down_steps p) (pass stage.Sleeping) down_plain refl)
     asked Working asks.Rebalance = rebalance
     asked Working asks.Remove = ends_by callback.EvtDeviceQueryRemove
     asked Working asks.Surprise = ends_by callback.EvtDeviceSurpriseRemoval
-    asked Working _ = tt
     asked Sleeping asks.Wake = ups
     asked Sleeping asks.Remove = sleeps_by callback.EvtDeviceQueryRemove
     asked Sleeping asks.Surprise = sleeps_by callback.EvtDeviceSurpriseRemoval
-    asked Sleeping _ = tt
     asked Removed a = tt
+    asked _ _ = tt
 
 -- ---- a step is taken
 
 fits_passed : (q : Sequence) (s : Stage) (i : Option Handle) (ss : List Step) → by_stage q.steps q.ever_working s ss (Ups q.steps q.ever_working ss) → Fits (passed s (record q { left = ss }))
 fits_passed q stage.QueuesUp i ss h = subst (Ups q.steps q.ever_working) (sym h) (after_ups q.steps q.ever_working)
 fits_passed q stage.Working i ss h = subst (Ups q.steps true) (sym h) tt
-fits_passed q stage.Sleeping i ss h = h
-fits_passed q stage.Removed i ss h = h
 fits_passed q _ i ss h = h
 
 fits_stepped : (q : Sequence) (ss : List Step) → q.left ≡ ss → Ups q.steps q.ever_working ss → Fits (taken_step q)

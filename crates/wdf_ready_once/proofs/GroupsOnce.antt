@@ -159,16 +159,12 @@ abbrev groups_of_cpus : Plan → List Group
 groups_of_cpus plan = flat_map (groups_of_cpu plan) (range_with_len 0 plan.cpus)
 
 start_of_cpu : (g : Group) → is_start_group g ≡ true → is_cpu_group g ≡ true
-start_of_cpu (group.Starts cpu r) h = refl
-start_of_cpu (group.StartsFor cpu r o) h = refl
-start_of_cpu (group.OwnEvent cpu) h = refl
-start_of_cpu (group.Parks cpu) h = refl
-start_of_cpu (group.Unparks cpu) h = refl
 start_of_cpu group.Stages h = absurd (let z : ⊥ = cc in z)
 start_of_cpu group.Completions h = absurd (let z : ⊥ = cc in z)
 start_of_cpu group.Cleanups h = absurd (let z : ⊥ = cc in z)
 start_of_cpu group.Destroys h = absurd (let z : ⊥ = cc in z)
 start_of_cpu group.Posts h = absurd (let z : ⊥ = cc in z)
+start_of_cpu _ h = refl
 
 on_cpus : (plan : Plan) → Each (λ g. is_cpu_group g ≡ true) (groups_of_cpus plan)
 on_cpus plan =

@@ -23,6 +23,7 @@ use Rattle.wdf_model.specs.rules.Ready.{IsRunOf, allowed, last_fault, or_tick, r
 use Rattle.wdf_model.proofs.Runs.{along_run}
 use Rattle.wdf_model.proofs.Follows.{state_goes_on}
 use Rattle.wdf_agreements.proofs.Stays.{asks_all, gives_up, gives_up_if, withdraws, returns_closed, queues_closed}
+use Rattle.std.proofs.lemmas.List.{take_all}
 
 arrived : {A : Type 0} (S : State A) (device : ℕ) (info : RequestInfo) (p : Place) → (arrive_at S device info p).number ≡ S.number
 arrived S device info (place.Queued q) = refl
@@ -63,12 +64,8 @@ number_by {A} plan m run is_run n =
     next ∙ same ∙ ap (λ k. k + 1) held ∙ sym long)
     is_run n
 
-all_taken : {T : Type 0} (xs : List T) → take (length xs) xs ≡ xs
-all_taken [] = refl
-all_taken (x ∷ xs) = ap (λ ys. x ∷ ys) (all_taken xs)
-
 pub number_is : {A : Type 0} (plan : Plan) (m : Meaning A) (run : List Event) → IsRunOf plan m run → (state_after plan m run).number ≡ length run
-number_is plan m run is_run = subst (λ (es : List Event). (state_after plan m es).number ≡ length es) (all_taken run) (number_by plan m run is_run (length run))
+number_is plan m run is_run = subst (λ (es : List Event). (state_after plan m es).number ≡ length es) (take_all (length run) run (omega arith)) (number_by plan m run is_run (length run))
 
 -- ---- what follows is below the limit
 
@@ -95,4 +92,4 @@ within_by plan m run is_run n =
     is_run n
 
 pub within_limit_of : {A : Type 0} (plan : Plan) (m : Meaning A) (run : List Event) → IsRunOf plan m run → length run ≤ plan.limit
-within_limit_of plan m run is_run = subst (λ (es : List Event). length es ≤ plan.limit) (all_taken run) (within_by plan m run is_run (length run))
+within_limit_of plan m run is_run = subst (λ (es : List Event). length es ≤ plan.limit) (take_all (length run) run (omega arith)) (within_by plan m run is_run (length run))

@@ -129,14 +129,8 @@ module _ {A : Type 0} (plan : Plan) (m : Meaning A) (S : State A) where
   did_or_waits cpu false x y h k = k
 
   intent_group : (cpu f : ℕ) (frame : Frame) (i : Intent) → group_of (intent_event plan m S cpu f frame i) ≡ group.OwnEvent cpu
-  intent_group cpu f frame (intent.Local change next) = refl
-  intent_group cpu f frame (intent.Log v) = refl
-  intent_group cpu f frame (intent.Spend n) = refl
-  intent_group cpu f frame (intent.Get k) = refl
-  intent_group cpu f frame (intent.Put k v) = refl
   intent_group cpu f frame (intent.Do c) = did_or_waits cpu (is_met_then plan S c) _ _ refl refl
-  intent_group cpu f frame (intent.Return v) = refl
-  intent_group cpu f frame intent.Broken = refl
+  intent_group cpu f frame _ = refl
 
   fault_group : (cpu f : ℕ) (frame : Frame) (i : Intent) (x : Option Fault) → group_of (fault_event plan m S cpu f frame i x) ≡ group.OwnEvent cpu
   fault_group cpu f frame i (Some x) = refl
@@ -173,11 +167,7 @@ handler_by f false b c h = ap (λ x. (row_of x).rank) (sym (if_some b callback.E
 device_or_interrupt : (x : Option Declared) (k : ℕ) → is_some (as_device x) ≡ true → is_interrupt_of k (as_interrupt x) ≡ true → ⊥
 device_or_interrupt None k h i = let z : ⊥ = cc in z
 device_or_interrupt (Some (declared.Device d)) k h i = let z : ⊥ = cc in z
-device_or_interrupt (Some (declared.Interrupt d)) k h i = let z : ⊥ = cc in z
-device_or_interrupt (Some declared.Driver) k h i = let z : ⊥ = cc in z
-device_or_interrupt (Some (declared.Queue q)) k h i = let z : ⊥ = cc in z
-device_or_interrupt (Some (declared.Target t)) k h i = let z : ⊥ = cc in z
-device_or_interrupt (Some (declared.OfClass c)) k h i = let z : ⊥ = cc in z
+device_or_interrupt _ k h i = let z : ⊥ = cc in z
 
 -- an interrupt is of one device
 one_owner : (x : Option InterruptInfo) (j k : ℕ) → is_interrupt_of j x ≡ true → is_interrupt_of k x ≡ true → j ≡ k

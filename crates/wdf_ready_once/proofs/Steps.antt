@@ -1,5 +1,5 @@
--- The steps that a device has left are its own.
-use Rattle.std.proofs.Common.{if◌then◌else◌, ◌≡◌, ℕ, zero, suc, ◌+◌, length, Bool, true, false, arith, List, [], ◌∷◌, ◌++◌, inl, inr, Option, Some, None, is_some, map, filter, drop, reverse, take, refl, sym, ap, subst, ◌∙◌}
+-- The steps that a device has left are its own: of callbacks that it, or an interrupt of it, declares.
+use Rattle.std.proofs.Common.{if◌then◌else◌, ◌≡◌, ℕ, zero, suc, ◌+◌, length, Bool, true, false, arith, List, [], ◌∷◌, ◌++◌, inl, inr, Option, Some, None, is_some, map, drop, reverse, take, refl, sym, ap, subst, ◌∙◌}
 use Rattle.std.specs.Prelude.{⊤}
 use Rattle.std.proofs.lemmas.List.{reverse-append}
 use Rattle.std.specs.List.{flat_map, list_any, range_with_len}
@@ -43,31 +43,45 @@ use Rattle.wdf_model.proofs.Maps.{entry_put_other, entry_put_same}
 use Rattle.wdf_agreements.proofs.Lists.{Each, each_behind, each_kept}
 use Rattle.wdf_agreements.proofs.SoundRuns.{sound_place}
 use Rattle.wdf_agreements.proofs.Stays.{gives_up, gives_up_if, withdraws, returns_closed, queues_closed, asks_all}
+use Rattle.std.proofs.lemmas.Bool.{or_cases}
+use Rattle.wdf_model.proofs.Sames.{callback_decides}
 use Rattle.wdf_trace.specs.Events.{is_for_interrupt}
 use Rattle.wdf_ready_once.specs.Owned.{IsStepOf, StepsOwned}
 
 -- ---- what the lists of steps are made of
 
--- a callback of a device: there is the device
+-- a step of this device, whose callback is declared: what `IsStepOf` says, and more
+abbrev pub IsDeclaredStep : Plan → ℕ → Step → Type 0
+IsDeclaredStep plan d (step.Run c None) = (declares plan c d ≡ true) × ((row_of c).rank ≡ rank.Sequence) × (is_some (device_of plan d) ≡ true)
+IsDeclaredStep plan d (step.Run c (Some i)) = (declares plan c i.id.0 ≡ true) × ((row_of c).rank ≡ rank.Sequence) × (is_interrupt_of d (interrupt_of plan i.id.0) ≡ true) × (i.name ≡ interrupt_name (interrupt_of plan i.id.0))
+IsDeclaredStep plan d (step.Pass s None) = is_for_interrupt s ≡ false
+IsDeclaredStep plan d (step.Pass s (Some i)) = (is_for_interrupt s ≡ true) × (i.name ≡ interrupt_name (interrupt_of plan i.id.0)) × (is_interrupt_of d (interrupt_of plan i.id.0) ≡ true)
+
+-- a callback that the device declares: there is the device
 abbrev IsCallbackOf : Plan → ℕ → Callback → Type 0
-IsCallbackOf plan d c = is_some (device_of plan d) ≡ true
+IsCallbackOf plan d c = (declares plan c d ≡ true) × (is_some (device_of plan d) ≡ true)
 
 abbrev IsInterruptOf : Plan → ℕ → InterruptSteps → Type 0
-IsInterruptOf plan d i = (is_interrupt_of d (interrupt_of plan i.interrupt.id.0) ≡ true) × (i.interrupt.name ≡ interrupt_name (interrupt_of plan i.interrupt.id.0))
+IsInterruptOf plan d i =
+    (is_interrupt_of d (interrupt_of plan i.interrupt.id.0) ≡ true) × (i.interrupt.name ≡ interrupt_name (interrupt_of plan i.interrupt.id.0))
+    × (i.enables ≡ true → declares plan callback.EvtInterruptEnable i.interrupt.id.0 ≡ true) × (i.disables ≡ true → declares plan callback.EvtInterruptDisable i.interrupt.id.0 ≡ true)
 
 record Parts (plan : Plan) (d : ℕ) (p : DeviceSteps) : Type 0 where
   callbacks : Each (IsCallbackOf plan d) p.callbacks
   interrupts : Each (IsInterruptOf plan d) p.interrupts
 
 abbrev Own : Plan → ℕ → List Step → Type 0
-Own plan d ss = Each (IsStepOf plan d) ss
+Own plan d ss = Each (IsDeclaredStep plan d) ss
 
-some_callback : (plan : Plan) (d : ℕ) (c : Callback) (cs : List Callback) → Each (IsCallbackOf plan d) cs → list_any (same_callback c) cs ≡ true → is_some (device_of plan d) ≡ true
+some_callback : (plan : Plan) (d : ℕ) (c : Callback) (cs : List Callback) → Each (IsCallbackOf plan d) cs → list_any (same_callback c) cs ≡ true → IsCallbackOf plan d c
 some_callback plan d c [] e h = absurd (let z : ⊥ = cc in z)
-some_callback plan d c (x ∷ xs) e h = e.0
+some_callback plan d c (x ∷ xs) e h = elim (or_cases (same_callback c x) (list_any (same_callback c) xs) h) as (λ _. IsCallbackOf plan d c) [
+  | inl same ↦ subst (IsCallbackOf plan d) (sym ((callback_decides c x).0 same)) e.0
+  | inr more ↦ some_callback plan d c xs e.1 more
+]
 
-run_by : (plan : Plan) (d : ℕ) (c : Callback) (b : Bool) → (row_of c).rank ≡ rank.Sequence → (b ≡ true → is_some (device_of plan d) ≡ true) → Own plan d (if b then step.Run c None ∷ [] else [])
-run_by plan d c true r h = ((r, h refl), tt)
+run_by : (plan : Plan) (d : ℕ) (c : Callback) (b : Bool) → (row_of c).rank ≡ rank.Sequence → (b ≡ true → IsCallbackOf plan d c) → Own plan d (if b then step.Run c None ∷ [] else [])
+run_by plan d c true r h = let k = h refl in ((k.0, r, k.1), tt)
 run_by plan d c false r h = tt
 
 runs : (plan : Plan) (d : ℕ) (p : DeviceSteps) → Parts plan d p → (c : Callback) → (row_of c).rank ≡ rank.Sequence → Own plan d (run p c)
@@ -77,23 +91,23 @@ passes : (plan : Plan) (d : ℕ) (s : Stage) → is_for_interrupt s ≡ false �
 passes plan d s h = (h, tt)
 
 join : (plan : Plan) (d : ℕ) (xs ys : List Step) → Own plan d xs → Own plan d ys → Own plan d (xs ++ ys)
-join plan d xs ys h k = each_behind (IsStepOf plan d) xs ys h k
+join plan d xs ys h k = each_behind (IsDeclaredStep plan d) xs ys h k
 
-for_interrupt : (plan : Plan) (d : ℕ) (b : Bool) (c : Callback) (i : InterruptSteps) → (row_of c).rank ≡ rank.Sequence → IsInterruptOf plan d i → Own plan d (run_if b c i.interrupt)
-for_interrupt plan d true c i r h = ((r, h.0), tt)
-for_interrupt plan d false c i r h = tt
+for_interrupt : (plan : Plan) (d : ℕ) (b : Bool) (c : Callback) (i : InterruptSteps) → (row_of c).rank ≡ rank.Sequence → (b ≡ true → declares plan c i.interrupt.id.0 ≡ true) → IsInterruptOf plan d i → Own plan d (run_if b c i.interrupt)
+for_interrupt plan d true c i r has h = ((has refl, r, h.0, h.1), tt)
+for_interrupt plan d false c i r has h = tt
 
 enables : (plan : Plan) (d : ℕ) (is : List InterruptSteps) → Each (IsInterruptOf plan d) is → Own plan d (flat_map enable_steps is)
 enables plan d [] h = tt
 enables plan d (i ∷ is) h =
     join plan d (enable_steps i) (flat_map enable_steps is)
-    (join plan d (run_if i.enables callback.EvtInterruptEnable i.interrupt) (step.Pass stage.Enabled (Some i.interrupt) ∷ []) (for_interrupt plan d i.enables callback.EvtInterruptEnable i refl h.0) ((refl, h.0.1), tt))
+    (join plan d (run_if i.enables callback.EvtInterruptEnable i.interrupt) (step.Pass stage.Enabled (Some i.interrupt) ∷ []) (for_interrupt plan d i.enables callback.EvtInterruptEnable i refl h.0.2 h.0) ((refl, h.0.1, h.0.0), tt))
     (enables plan d is h.1)
 
 disables : (plan : Plan) (d : ℕ) (is : List InterruptSteps) → Each (IsInterruptOf plan d) is → Own plan d (flat_map disable_steps is)
 disables plan d [] h = tt
 disables plan d (i ∷ is) h =
-    join plan d (disable_steps i) (flat_map disable_steps is) ((refl, h.0.1), for_interrupt plan d i.disables callback.EvtInterruptDisable i refl h.0) (disables plan d is h.1)
+    join plan d (disable_steps i) (flat_map disable_steps is) ((refl, h.0.1, h.0.0), for_interrupt plan d i.disables callback.EvtInterruptDisable i refl h.0.3 h.0) (disables plan d is h.1)
 
 quiets : (plan : Plan) (d : ℕ) (is : List InterruptSteps) → Own plan d (quiet_steps is)
 quiets plan d [] = tt
@@ -270,9 +284,9 @@ none_own plan d = record { parts = record { callbacks = tt; interrupts = tt }; l
 
 parts_own : (plan : Plan) (d : ℕ) → is_some (device_of plan d) ≡ true → Parts plan d (device_steps plan d)
 parts_own plan d is = record {
-  callbacks = each_all (IsCallbackOf plan d) (λ c. is) (filter (λ c. declares plan c d) DEVICE_CALLBACKS);
+  callbacks = each_kept (λ c. ⊤) (IsCallbackOf plan d) (λ c. declares plan c d) (λ c t e. (e, is)) DEVICE_CALLBACKS (each_all (λ c. ⊤) (λ c. tt) DEVICE_CALLBACKS);
   interrupts = each_mapped (IsInterruptOf plan d) (interrupt_steps plan) (interrupts_of plan d)
-      (each_kept (λ i. ⊤) (λ i. IsInterruptOf plan d (interrupt_steps plan i)) (λ i. is_interrupt_of d (interrupt_of plan i)) (λ i t e. (e, refl)) (declared_ids plan) (each_all (λ i. ⊤) (λ i. tt) (declared_ids plan)));
+      (each_kept (λ i. ⊤) (λ i. IsInterruptOf plan d (interrupt_steps plan i)) (λ i. is_interrupt_of d (interrupt_of plan i)) (λ i t e. (e, refl, (λ x. x), (λ x. x))) (declared_ids plan) (each_all (λ i. ⊤) (λ i. tt) (declared_ids plan)));
 }
 
 opening_by : (plan : Plan) (d : ℕ) (o : Option DeviceInfo) → device_of plan d ≡ o → OwnSequence plan d (opening_sequence plan d o)
@@ -287,11 +301,18 @@ opening_own plan = record {
 own_at_each : {A : Type 0} (plan : Plan) (m : Meaning A) (run : List Event) → IsRunOf plan m run → (n : ℕ) → OwnSteps plan (state_after plan m (take n run)).pnp
 own_at_each {A} plan m run is_run n = sound_place plan m (λ (S : State A). OwnSteps plan S.pnp) (opening_own plan) (λ d S f s q. steps_by plan d S q) (λ e S q. q) run is_run n
 
-first_own : (plan : Plan) (d : ℕ) (ss : List Step) (s : Step) → Own plan d ss → first_of_list ss ≡ Some s → IsStepOf plan d s
+first_own : (plan : Plan) (d : ℕ) (ss : List Step) (s : Step) → Own plan d ss → first_of_list ss ≡ Some s → IsDeclaredStep plan d s
 first_own plan d [] s h e = absurd (let z : ⊥ = cc in z)
-first_own plan d (x ∷ xs) s h e = let same : x ≡ s = cc in subst (IsStepOf plan d) same h.0
+first_own plan d (x ∷ xs) s h e = let same : x ≡ s = cc in subst (IsDeclaredStep plan d) same h.0
+
+pub steps_declared : {A : Type 0} (plan : Plan) (m : Meaning A) (run : List Event) → IsRunOf plan m run → (n d : ℕ) (s : Step) → next_step (state_after plan m (take n run)).pnp d ≡ Some s → IsDeclaredStep plan d s
+steps_declared plan m run is_run n d s e = first_own plan d (sequence_of (state_after plan m (take n run)).pnp d).left s ((own_at_each plan m run is_run n).each d).left e
+
+is_own : (plan : Plan) (d : ℕ) (s : Step) → IsDeclaredStep plan d s → IsStepOf plan d s
+is_own plan d (step.Run c None) h = (h.1, h.2)
+is_own plan d (step.Run c (Some i)) h = (h.1, h.2)
+is_own plan d (step.Pass s None) h = h
+is_own plan d (step.Pass s (Some i)) h = (h.0, h.1)
 
 pub steps_owned_at_each : {A : Type 0} (plan : Plan) (m : Meaning A) (run : List Event) → IsRunOf plan m run → (n : ℕ) → StepsOwned plan (state_after plan m (take n run))
-steps_owned_at_each plan m run is_run n =
-    let q = own_at_each plan m run is_run n in
-    record { next = λ d s e. first_own plan d (sequence_of (state_after plan m (take n run)).pnp d).left s (q.each d).left e }
+steps_owned_at_each plan m run is_run n = record { next = λ d s e. is_own plan d s (steps_declared plan m run is_run n d s e) }

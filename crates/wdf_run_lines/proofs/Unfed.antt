@@ -186,10 +186,7 @@ joined_unfed (w ∷ ws) h = Lacks_append 10 w (spaced ws) h.0 (spaced_unfed ws h
 
 ending_word_unfed : (e : Ending) → Lacks 10 (ending_word e)
 ending_word_unfed ending.Running = record { each = refl }
-ending_word_unfed ending.Finished = record { each = refl }
-ending_word_unfed ending.Limit = record { each = refl }
-ending_word_unfed (ending.Fault f) = record { each = refl }
-ending_word_unfed ending.Stuck = record { each = refl }
+ending_word_unfed _ = record { each = refl }
 
 pub ending_unfed : (events : ℕ) (e : Ending) → Lacks 10 (ending_text events e)
 ending_unfed events e = joined_unfed (ending_word e ∷ decimal events ∷ []) (ending_word_unfed e, (decimal_unfed events, tt))
@@ -215,16 +212,11 @@ cause_unfed plan h (Some (cause.ByFrame f)) = (record { each = refl }, (decimal_
 cause_unfed plan h (Some (cause.ByLock l f)) = (record { each = refl }, (object_unfed plan h l, (record { each = refl }, (record { each = refl }, (decimal_unfed f.0, tt)))))
 cause_unfed plan h (Some (cause.ByRequest r)) = (record { each = refl }, (object_unfed plan h r, tt))
 cause_unfed plan h (Some (cause.ByWork w)) = (record { each = refl }, (object_unfed plan h w, tt))
-cause_unfed plan h (Some cause.Stopped) = (record { each = refl }, tt)
-cause_unfed plan h (Some cause.Unpowered) = (record { each = refl }, tt)
-cause_unfed plan h (Some cause.Manual) = (record { each = refl }, tt)
 cause_unfed plan h (Some (cause.Behind r)) = (record { each = refl }, (object_unfed plan h r, tt))
-cause_unfed plan h (Some cause.Full) = (record { each = refl }, tt)
-cause_unfed plan h (Some cause.ScopeHeld) = (record { each = refl }, tt)
-cause_unfed plan h (Some cause.NoCpu) = (record { each = refl }, tt)
 cause_unfed plan h (Some (cause.References n)) = (record { each = refl }, (decimal_unfed n, tt))
 cause_unfed plan h (Some (cause.ByChild c)) = (record { each = refl }, (object_unfed plan h c, tt))
 cause_unfed plan h (Some (cause.AtTarget t)) = (record { each = refl }, (object_unfed plan h t, tt))
+cause_unfed plan h _ = (record { each = refl }, tt)
 
 pub wait_unfed : (plan : Plan) → IsResolved plan → (w : WaitLine) → Lacks 10 (wait_text plan w)
 wait_unfed plan h w = joined_unfed (thing_words plan w.thing ++ cause_words plan w.cause) (AllLack_append 10 (thing_words plan w.thing) (cause_words plan w.cause) (thing_unfed plan h w.thing) (cause_unfed plan h w.cause))

@@ -68,6 +68,7 @@ use Rattle.wdf_deeds.specs.MayDo.{is_end, is_park, is_start, is_unpark, may_do, 
 use Rattle.wdf_deeds.proofs.Passing.{event_passes}
 use Rattle.wdf_scope_laws.proofs.Stacks.{popped_apart, popped_here, pushed_apart, pushed_here, told_stack, told_top}
 use Rattle.wdf_scope_laws.proofs.Holding.{Goes, Holds, HoldsBut, Kept, deeds_hold, deeds_stacks, goes_cpus, goes_then, is_moving, is_other_hold, is_own_hold, is_special, none_special, not_own, own_holds, release_holds}
+use Rattle.wdf_agreements.proofs.Keeping.{at_the_end}
 
 -- a callback that has begun and not ended is that of a frame that is there
 abbrev pub IsBegun : {A : Type 0} → State A → Begun → Type 0
@@ -420,23 +421,7 @@ event_step plan m F S e h known once n q = quiet_step plan m F.stacks F.begun S 
 
 number_step : (F : Frames) (e : Event) → (frames_step F e).number ≡ F.number + 1
 number_step F (event.Start cpu c o r) = refl
-number_step F (event.Local cpu line) = refl
-number_step F (event.Log cpu v) = refl
-number_step F (event.Spend cpu n) = refl
-number_step F (event.Register cpu a b v) = refl
-number_step F (event.Did cpu c v) = refl
-number_step F (event.Waiting cpu c) = refl
-number_step F (event.Woke cpu c v) = refl
-number_step F (event.Park cpu f) = refl
-number_step F (event.Unpark cpu f) = refl
-number_step F (event.End cpu c o v) = refl
-number_step F (event.Fault cpu f line) = refl
-number_step F (event.Stage d s i) = refl
-number_step F (event.Complete q s) = refl
-number_step F (event.Cleanup o) = refl
-number_step F (event.Destroy o) = refl
-number_step F (event.Posted agent p answer) = refl
-number_step F (event.Tick time) = refl
+number_step F _ = refl
 
 -- ---- each place of a run
 
@@ -469,12 +454,8 @@ either_agrees : {A : Type 0} (plan : Plan) (m : Meaning A) (F : Frames) (S : Sta
 either_agrees plan m F S offered e (inl h) known once n q = event_step plan m F S e h known once n q
 either_agrees plan m F S offered e (inr t) known once n q = subst (Steps plan m F S) (sym t.tick) (record { stacks = q.stacks; begun = q.begun; holds = q.holds })
 
-take_all : {T : Type 0} (xs : List T) → take (length xs) xs ≡ xs
-take_all [] = refl
-take_all (x ∷ xs) = ap (λ ys. x ∷ ys) (take_all xs)
-
 once_now : {A : Type 0} (plan : Plan) (m : Meaning A) (run : List Event) → IsRunOf plan m run → Once (state_after plan m run).locks
-once_now plan m run is_run = subst (λ (es : List Event). Once (state_after plan m es).locks) (take_all run) (once_at_each plan m run is_run (length run))
+once_now {A} plan m run is_run = at_the_end plan m (λ (S : State A). Once S.locks) run (once_at_each plan m run is_run (length run))
 
 goes_on : {A : Type 0} (plan : Plan) (m : Meaning A) (es : List Event) (e : Event) (place : ℕ) → IsRunOf plan m es → AgreesAfter plan es (state_after plan m es) → slice_get (ready plan m es) place ≡ Some e → AgreesAfter plan (es ++ e ∷ []) (state_after plan m (es ++ e ∷ []))
 goes_on {A} plan m es e place is_run k at =

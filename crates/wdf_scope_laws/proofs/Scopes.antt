@@ -85,12 +85,8 @@ no_class plan (suc k) c order at = none_in plan.declared k c order at
 
 -- a declared object is in the tree what the plan declares
 declared_made : (plan : Plan) (T : Tree) (o : ℕ) (d : Declared) → objects_in_order plan.declared ≡ true → declared_of plan o ≡ Some d → kind_of T o ≡ unwrap_or (declared_kind d) kind.General → declared_as plan T o ≡ Some d
-declared_made plan T o declared.Driver order is k = ap (made_as plan (node_of T o) o) k ∙ is
-declared_made plan T o (declared.Device x) order is k = ap (made_as plan (node_of T o) o) k ∙ is
-declared_made plan T o (declared.Queue x) order is k = ap (made_as plan (node_of T o) o) k ∙ is
-declared_made plan T o (declared.Interrupt x) order is k = ap (made_as plan (node_of T o) o) k ∙ is
-declared_made plan T o (declared.Target x) order is k = ap (made_as plan (node_of T o) o) k ∙ is
 declared_made plan T o (declared.OfClass c) order is k = absurd (no_class plan o c order is)
+declared_made plan T o _ order is k = ap (made_as plan (node_of T o) o) k ∙ is
 
 -- ---- objects only become more
 
@@ -144,9 +140,7 @@ not_later {A} plan m run k x t is_run there none is = elim (first plan run x) [
 
 none_scope : (plan : Plan) (k : CallbackLock) (o : ℕ) → scope_needed plan k o None ≡ None
 none_scope plan callback_lock.NoLock o = refl
-none_scope plan callback_lock.InterruptLock o = refl
-none_scope plan callback_lock.ParentScope o = refl
-none_scope plan callback_lock.QueueLock o = refl
+none_scope plan _ o = refl
 
 own_scope : (plan : Plan) (k : CallbackLock) (o : ℕ) (d : Option Declared) (s : LockRef) → scope_needed plan k o d ≡ Some s → own_lock k o (scope_needed plan k o d) ≡ Some s
 own_scope plan callback_lock.InterruptLock o d s h = absurd (let z : ⊥ = cc in z)
@@ -252,20 +246,4 @@ free_by plan m run k cpu c o r (Some s) resolved is_run at e = elim (cases_Bool 
 
 pub law_2_at_each : {A : Type 0} (plan : Plan) (m : Meaning A) (run : List Event) (k : ℕ) (e : Event) → IsResolved plan → IsRunOf plan m run → slice_get run k ≡ Some e → law_2 plan run (frames_after (take k run)) e ≡ true
 law_2_at_each plan m run k (event.Start cpu c o r) resolved is_run at = free_by plan m run k cpu c o r (scope_on plan run c o.id.0) resolved is_run at refl
-law_2_at_each plan m run k (event.Local cpu line) resolved is_run at = refl
-law_2_at_each plan m run k (event.Log cpu v) resolved is_run at = refl
-law_2_at_each plan m run k (event.Spend cpu n) resolved is_run at = refl
-law_2_at_each plan m run k (event.Register cpu a b v) resolved is_run at = refl
-law_2_at_each plan m run k (event.Did cpu c v) resolved is_run at = refl
-law_2_at_each plan m run k (event.Waiting cpu c) resolved is_run at = refl
-law_2_at_each plan m run k (event.Woke cpu c v) resolved is_run at = refl
-law_2_at_each plan m run k (event.Park cpu f) resolved is_run at = refl
-law_2_at_each plan m run k (event.Unpark cpu f) resolved is_run at = refl
-law_2_at_each plan m run k (event.End cpu c o v) resolved is_run at = refl
-law_2_at_each plan m run k (event.Fault cpu f line) resolved is_run at = refl
-law_2_at_each plan m run k (event.Stage d s i) resolved is_run at = refl
-law_2_at_each plan m run k (event.Complete q s) resolved is_run at = refl
-law_2_at_each plan m run k (event.Cleanup o) resolved is_run at = refl
-law_2_at_each plan m run k (event.Destroy o) resolved is_run at = refl
-law_2_at_each plan m run k (event.Posted agent p answer) resolved is_run at = refl
-law_2_at_each plan m run k (event.Tick time) resolved is_run at = refl
+law_2_at_each plan m run k _ resolved is_run at = refl

@@ -66,10 +66,8 @@ object_made : (C : ℕ → Bool) (T : Tree) (k : Kind) (class parent : ℕ) → 
 object_made C T k class parent q x h = q x (sym (unmade T k class parent x) ∙ h)
 
 live_uncleaned : (l : Life) → is_live l ≡ true → is_cleaned l ≡ false
-live_uncleaned life.Live h = refl
-live_uncleaned life.Asked h = refl
 live_uncleaned life.Cleaned h = absurd (let z : ⊥ = cc in z)
-live_uncleaned life.Gone h = refl
+live_uncleaned _ h = refl
 
 asked_one : {A : Type 0} (C : ℕ → Bool) (S : State A) (x : ℕ) (b : Bool) → is_live (life_of S.tree x) ≡ b → Seen C S.tree → Seen C (ask_object S x).tree
 asked_one {A} C S x true e q = subst (λ (U : State A). Seen C U.tree) (sym (object_live S x e)) (object_changes C S.tree x (with_life life.Asked) (sym (live_uncleaned (life_of S.tree x) e)) q)
@@ -86,7 +84,6 @@ ended C T o q x h = elim (one_or_two x o) [
 ]
 
 noted_kept : (c : Callback) (n : Node) → (noted c n).life ≡ n.life
-noted_kept callback.EvtCleanupCallback n = refl
 noted_kept callback.EvtDestroyCallback n = refl
 noted_kept _ n = refl
 

@@ -36,30 +36,11 @@ arrival_shows_post : (r : ℕ) (p : Post) (answer : Option Handle) → (is_arriv
 arrival_shows_post r (post.Read device length) answer h = answered r answer h
 arrival_shows_post r (post.Write device length) answer h = answered r answer h
 arrival_shows_post r (post.Control device code length) answer h = answered r answer h
-arrival_shows_post r (post.Cancel arrival) answer h = h
-arrival_shows_post r (post.Ask a device) answer h = h
-arrival_shows_post r (post.Act x) answer h = h
-arrival_shows_post r (post.Done request s) answer h = h
+arrival_shows_post r _ answer h = h
 
 pub arrival_shows : (r : ℕ) (e : Event) → arrives r e ≡ true → shows (sign.Arrival r) e ≡ true
 arrival_shows r (event.Posted agent p answer) h = arrival_shows_post r p answer h
-arrival_shows r (event.Start cpu c o q) h = absurd (let z : ⊥ = cc in z)
-arrival_shows r (event.Local cpu line) h = absurd (let z : ⊥ = cc in z)
-arrival_shows r (event.Log cpu v) h = absurd (let z : ⊥ = cc in z)
-arrival_shows r (event.Spend cpu n) h = absurd (let z : ⊥ = cc in z)
-arrival_shows r (event.Register cpu a k v) h = absurd (let z : ⊥ = cc in z)
-arrival_shows r (event.Did cpu c v) h = absurd (let z : ⊥ = cc in z)
-arrival_shows r (event.Waiting cpu c) h = absurd (let z : ⊥ = cc in z)
-arrival_shows r (event.Woke cpu c v) h = absurd (let z : ⊥ = cc in z)
-arrival_shows r (event.Park cpu f) h = absurd (let z : ⊥ = cc in z)
-arrival_shows r (event.Unpark cpu f) h = absurd (let z : ⊥ = cc in z)
-arrival_shows r (event.End cpu c o v) h = absurd (let z : ⊥ = cc in z)
-arrival_shows r (event.Fault cpu x line) h = absurd (let z : ⊥ = cc in z)
-arrival_shows r (event.Stage d s i) h = absurd (let z : ⊥ = cc in z)
-arrival_shows r (event.Complete q s) h = absurd (let z : ⊥ = cc in z)
-arrival_shows r (event.Cleanup o) h = absurd (let z : ⊥ = cc in z)
-arrival_shows r (event.Destroy o) h = absurd (let z : ⊥ = cc in z)
-arrival_shows r (event.Tick t) h = absurd (let z : ⊥ = cc in z)
+arrival_shows r _ h = absurd (let z : ⊥ = cc in z)
 
 -- ---- what shows a completion is one
 
@@ -73,22 +54,7 @@ completed_call r false a e = absurd (let z : ⊥ = cc in z)
 pub completion_completes : (r : ℕ) (e : Event) → shows (sign.Completion r) e ≡ true → completes r e ≡ true
 completion_completes r (event.Did cpu c v) h = completed_call r (same_call_kind c.kind call.WdfRequestComplete) c.a h
 completion_completes r (event.Complete q s) h = h
-completion_completes r (event.Posted agent p answer) h = absurd (let z : ⊥ = cc in z)
-completion_completes r (event.Start cpu c o q) h = absurd (let z : ⊥ = cc in z)
-completion_completes r (event.Local cpu line) h = absurd (let z : ⊥ = cc in z)
-completion_completes r (event.Log cpu v) h = absurd (let z : ⊥ = cc in z)
-completion_completes r (event.Spend cpu n) h = absurd (let z : ⊥ = cc in z)
-completion_completes r (event.Register cpu a k v) h = absurd (let z : ⊥ = cc in z)
-completion_completes r (event.Waiting cpu c) h = absurd (let z : ⊥ = cc in z)
-completion_completes r (event.Woke cpu c v) h = absurd (let z : ⊥ = cc in z)
-completion_completes r (event.Park cpu f) h = absurd (let z : ⊥ = cc in z)
-completion_completes r (event.Unpark cpu f) h = absurd (let z : ⊥ = cc in z)
-completion_completes r (event.End cpu c o v) h = absurd (let z : ⊥ = cc in z)
-completion_completes r (event.Fault cpu x line) h = absurd (let z : ⊥ = cc in z)
-completion_completes r (event.Stage d s i) h = absurd (let z : ⊥ = cc in z)
-completion_completes r (event.Cleanup o) h = absurd (let z : ⊥ = cc in z)
-completion_completes r (event.Destroy o) h = absurd (let z : ⊥ = cc in z)
-completion_completes r (event.Tick t) h = absurd (let z : ⊥ = cc in z)
+completion_completes r _ h = absurd (let z : ⊥ = cc in z)
 
 -- ---- the law
 

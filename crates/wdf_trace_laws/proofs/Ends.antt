@@ -97,23 +97,7 @@ cleaned_marks : {A : Type 0} (plan : Plan) (m : Meaning A) (S : State A) (e : Ev
 cleaned_marks {A} plan m S (event.Cleanup o) x h shown =
     subst (λ y. (is_past_cleanup (life_of (after plan m S (event.Cleanup o)).tree y) ≡ true) × (y < length (after plan m S (event.Cleanup o)).tree.nodes)) (eqb-true o.id.0 x shown)
     (cleaned_now plan m S o (cleans plan m S o h))
-cleaned_marks plan m S (event.Start cpu c o r) x h shown = absurd (let z : ⊥ = cc in z)
-cleaned_marks plan m S (event.Local cpu line) x h shown = absurd (let z : ⊥ = cc in z)
-cleaned_marks plan m S (event.Log cpu v) x h shown = absurd (let z : ⊥ = cc in z)
-cleaned_marks plan m S (event.Spend cpu n) x h shown = absurd (let z : ⊥ = cc in z)
-cleaned_marks plan m S (event.Register cpu a k v) x h shown = absurd (let z : ⊥ = cc in z)
-cleaned_marks plan m S (event.Did cpu c v) x h shown = absurd (let z : ⊥ = cc in z)
-cleaned_marks plan m S (event.Waiting cpu c) x h shown = absurd (let z : ⊥ = cc in z)
-cleaned_marks plan m S (event.Woke cpu c v) x h shown = absurd (let z : ⊥ = cc in z)
-cleaned_marks plan m S (event.Park cpu f) x h shown = absurd (let z : ⊥ = cc in z)
-cleaned_marks plan m S (event.Unpark cpu f) x h shown = absurd (let z : ⊥ = cc in z)
-cleaned_marks plan m S (event.End cpu c o v) x h shown = absurd (let z : ⊥ = cc in z)
-cleaned_marks plan m S (event.Fault cpu f line) x h shown = absurd (let z : ⊥ = cc in z)
-cleaned_marks plan m S (event.Stage d s i) x h shown = absurd (let z : ⊥ = cc in z)
-cleaned_marks plan m S (event.Complete q s) x h shown = absurd (let z : ⊥ = cc in z)
-cleaned_marks plan m S (event.Destroy o) x h shown = absurd (let z : ⊥ = cc in z)
-cleaned_marks plan m S (event.Posted agent p answer) x h shown = absurd (let z : ⊥ = cc in z)
-cleaned_marks plan m S (event.Tick t) x h shown = absurd (let z : ⊥ = cc in z)
+cleaned_marks plan m S _ x h shown = absurd (let z : ⊥ = cc in z)
 
 pub cleanup_tells : {A : Type 0} (plan : Plan) (m : Meaning A) → Marks is_past_cleanup sign.Cleaned plan m
 cleanup_tells plan m = record { late = record { live = refl; asked = refl; gone = refl }; passes = cleaned_marks plan m; quiet = λ x time. refl }
@@ -135,23 +119,7 @@ ended_marks : {A : Type 0} (plan : Plan) (m : Meaning A) (S : State A) (e : Even
 ended_marks {A} plan m S (event.Destroy o) x h shown =
     subst (λ y. (is_gone (life_of (after plan m S (event.Destroy o)).tree y) ≡ true) × (y < length (after plan m S (event.Destroy o)).tree.nodes)) (eqb-true o.id.0 x shown)
     (ended_now plan m S o (ends plan m S o h))
-ended_marks plan m S (event.Start cpu c o r) x h shown = absurd (let z : ⊥ = cc in z)
-ended_marks plan m S (event.Local cpu line) x h shown = absurd (let z : ⊥ = cc in z)
-ended_marks plan m S (event.Log cpu v) x h shown = absurd (let z : ⊥ = cc in z)
-ended_marks plan m S (event.Spend cpu n) x h shown = absurd (let z : ⊥ = cc in z)
-ended_marks plan m S (event.Register cpu a k v) x h shown = absurd (let z : ⊥ = cc in z)
-ended_marks plan m S (event.Did cpu c v) x h shown = absurd (let z : ⊥ = cc in z)
-ended_marks plan m S (event.Waiting cpu c) x h shown = absurd (let z : ⊥ = cc in z)
-ended_marks plan m S (event.Woke cpu c v) x h shown = absurd (let z : ⊥ = cc in z)
-ended_marks plan m S (event.Park cpu f) x h shown = absurd (let z : ⊥ = cc in z)
-ended_marks plan m S (event.Unpark cpu f) x h shown = absurd (let z : ⊥ = cc in z)
-ended_marks plan m S (event.End cpu c o v) x h shown = absurd (let z : ⊥ = cc in z)
-ended_marks plan m S (event.Fault cpu f line) x h shown = absurd (let z : ⊥ = cc in z)
-ended_marks plan m S (event.Stage d s i) x h shown = absurd (let z : ⊥ = cc in z)
-ended_marks plan m S (event.Complete q s) x h shown = absurd (let z : ⊥ = cc in z)
-ended_marks plan m S (event.Cleanup o) x h shown = absurd (let z : ⊥ = cc in z)
-ended_marks plan m S (event.Posted agent p answer) x h shown = absurd (let z : ⊥ = cc in z)
-ended_marks plan m S (event.Tick t) x h shown = absurd (let z : ⊥ = cc in z)
+ended_marks plan m S _ x h shown = absurd (let z : ⊥ = cc in z)
 
 pub end_tells : {A : Type 0} (plan : Plan) (m : Meaning A) → Marks is_gone sign.Destroyed plan m
 end_tells plan m = record { late = record { live = refl; asked = refl; gone = refl }; passes = ended_marks plan m; quiet = λ x time. refl }
@@ -176,10 +144,8 @@ live_early life.Cleaned h = absurd (let z : ⊥ = cc in z)
 live_early life.Gone h = absurd (let z : ⊥ = cc in z)
 
 pub cleaned_there : (l : Life) → is_cleaned l ≡ true → is_gone l ≡ false
-cleaned_there life.Cleaned h = refl
-cleaned_there life.Live h = refl
-cleaned_there life.Asked h = refl
 cleaned_there life.Gone h = absurd (let z : ⊥ = cc in z)
+cleaned_there _ h = refl
 
 -- an event that isn't a tick may come
 pub comes : {A : Type 0} (plan : Plan) (m : Meaning A) (run : List Event) (k : ℕ) (e : Event) → IsRunOf plan m run → slice_get run k ≡ Some e → ((time : ℕ) → e ≡ event.Tick time → ⊥)

@@ -61,15 +61,11 @@ object_made P F T k class parent q x h =
 
 never_live : (P : Life → Bool) → Late P → (l : Life) → is_live l ≡ true → P l ≡ false
 never_live P late life.Live h = late.live
-never_live P late life.Asked h = absurd (let z : ⊥ = cc in z)
-never_live P late life.Cleaned h = absurd (let z : ⊥ = cc in z)
-never_live P late life.Gone h = absurd (let z : ⊥ = cc in z)
+never_live P late _ h = absurd (let z : ⊥ = cc in z)
 
 never_asked : (P : Life → Bool) → Late P → (l : Life) → is_asked l ≡ true → P l ≡ false
 never_asked P late life.Asked h = late.asked
-never_asked P late life.Live h = absurd (let z : ⊥ = cc in z)
-never_asked P late life.Cleaned h = absurd (let z : ⊥ = cc in z)
-never_asked P late life.Gone h = absurd (let z : ⊥ = cc in z)
+never_asked P late _ h = absurd (let z : ⊥ = cc in z)
 
 asked_one : {A : Type 0} (P : Life → Bool) (F : ℕ → Bool) → Late P → (S : State A) (x : ℕ) (b : Bool) → is_live (life_of S.tree x) ≡ b → Past P F S.tree → Past P F (ask_object S x).tree
 asked_one {A} P F late S x true e q =
@@ -111,7 +107,6 @@ ended P F late T o q x h =
 -- ---- each deed
 
 noted_kept : (c : Callback) (n : Node) → (noted c n).life ≡ n.life
-noted_kept callback.EvtCleanupCallback n = refl
 noted_kept callback.EvtDestroyCallback n = refl
 noted_kept _ n = refl
 

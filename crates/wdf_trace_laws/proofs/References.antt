@@ -104,7 +104,6 @@ all_asked [] S y = refl
 all_asked (x ∷ xs) S y = all_asked xs (ask_object S x) y ∙ asked_one S x (is_live (life_of S.tree x)) refl y
 
 noted_kept : (c : Callback) (n : Node) → (noted c n).references ≡ n.references
-noted_kept callback.EvtCleanupCallback n = refl
 noted_kept callback.EvtDestroyCallback n = refl
 noted_kept _ n = refl
 
@@ -177,23 +176,7 @@ unreferred : (x : ℕ) (e : Event) → is_counting_event e ≡ false → (shows 
 unreferred x (event.Did k c v) h =
     let both_ = either_false (same_call_kind c.kind call.WdfObjectReference) (same_call_kind c.kind call.WdfObjectDereference) h in
     (where_no x (same_call_kind c.kind call.WdfObjectReference) (argument_object c.a) both_.0, where_no x (same_call_kind c.kind call.WdfObjectDereference) (argument_object c.a) both_.1)
-unreferred x (event.Start cpu c o r) h = (refl, refl)
-unreferred x (event.Local cpu line) h = (refl, refl)
-unreferred x (event.Log cpu v) h = (refl, refl)
-unreferred x (event.Spend cpu n) h = (refl, refl)
-unreferred x (event.Register cpu a b v) h = (refl, refl)
-unreferred x (event.Waiting cpu c) h = (refl, refl)
-unreferred x (event.Woke cpu c v) h = (refl, refl)
-unreferred x (event.Park cpu f) h = (refl, refl)
-unreferred x (event.Unpark cpu f) h = (refl, refl)
-unreferred x (event.End cpu c o v) h = (refl, refl)
-unreferred x (event.Fault cpu f line) h = (refl, refl)
-unreferred x (event.Stage d s i) h = (refl, refl)
-unreferred x (event.Complete q s) h = (refl, refl)
-unreferred x (event.Cleanup o) h = (refl, refl)
-unreferred x (event.Destroy o) h = (refl, refl)
-unreferred x (event.Posted agent p answer) h = (refl, refl)
-unreferred x (event.Tick t) h = (refl, refl)
+unreferred x _ h = (refl, refl)
 
 other_event : {A : Type 0} (plan : Plan) (m : Meaning A) (es : List Event) (S : State A) (e : Event) → is_counting_event e ≡ false → Balanced es S → Balanced (es ++ e ∷ []) (after plan m S e)
 other_event plan m es S e none k x there alive =
@@ -218,9 +201,7 @@ named (Val (Obj h)) x there = elim (one_or_two x h.id.0) [
   | inl e ↦ inl (equal h.id.0 x (sym e), e)
   | inr n ↦ inr (not_equal h.id.0 x (λ e. n (sym e)), n)
 ]
-named (Val (Num n)) x there = inr (refl, there)
-named (Val (Stat s)) x there = inr (refl, there)
-named (Class c) x there = inr (refl, there)
+named _ x there = inr (refl, there)
 
 refer_event : {A : Type 0} (plan : Plan) (m : Meaning A) (es : List Event) (S : State A) (k : Cpu) (n : ℕ) (a b c : Arg) (v : Value)
     → may plan m S (event.Did k (record { kind = call.WdfObjectReference; count = n; a = a; b = b; c = c }) v) ≡ true

@@ -38,7 +38,7 @@ marks_at o before (n ∷ ns) (suc i) within h =
     let at : length before + suc i ≡ length (before ++ b ∷ []) + i = omega arith in
     rw at (marks_at o (before ++ b ∷ []) ns i (omega arith) (omega arith))
 
-abbrev is_asked_with : Tree → ℕ → ℕ → Bool
+abbrev pub is_asked_with : Tree → ℕ → ℕ → Bool
 is_asked_with T o x = x == o || entry false (below_marks o [] T.nodes) x
 
 marked_by : (T : Tree) (o x : ℕ) → x < length T.nodes → parent_of T x < x → entry false (below_marks o [] T.nodes) x ≡ is_asked_with T o (parent_of T x)
@@ -62,17 +62,21 @@ marked_first o (n ∷ ns) h =
     none : (i : ℕ) → entry false [] i ≡ true → ⊥
     none i e = let z : ⊥ = cc in z
 
+-- an object whose parent is in a subtree is in it
+pub asked_below : (T : Tree) (o x : ℕ) → x < length T.nodes → parent_of T x < x → is_asked_with T o (parent_of T x) ≡ true → is_asked_with T o x ≡ true
+asked_below T o x within older h = second (x == o) (entry false (below_marks o [] T.nodes) x) (marked_by T o x within older ∙ h)
+
 kept_by_first : (q : ℕ → Bool) (x a : ℕ) (ids : List ℕ) (b : Bool) → q a ≡ b → (a ≡ x) ⊎ (a ≢ x) → q x ≡ true → (a ≢ x → contains x (filter q ids) ≡ true) → contains x (if b then a ∷ filter q ids else filter q ids) ≡ true
 kept_by_first q x a ids true e (inl same) h rest = first (a == x) (contains x (filter q ids)) (equal a x same)
 kept_by_first q x a ids true e (inr other) h rest = second (a == x) (contains x (filter q ids)) (rest other)
 kept_by_first q x a ids false e (inl same) h rest = absurd (let off : q x ≡ false = sym (ap q same) ∙ e in let z : ⊥ = cc in z)
 kept_by_first q x a ids false e (inr other) h rest = rest other
 
-kept_there : (q : ℕ → Bool) (x a n : ℕ) → a ≤ x → x < a + n → q x ≡ true → contains x (filter q (range_with_len a n)) ≡ true
+pub kept_there : (q : ℕ → Bool) (x a n : ℕ) → a ≤ x → x < a + n → q x ≡ true → contains x (filter q (range_with_len a n)) ≡ true
 kept_there q x a zero low high h = absurd (omega arith)
 kept_there q x a (suc n) low high h = kept_by_first q x a (range_with_len (a + 1) n) (q a) refl (one_or_two a x) h (λ other. kept_there q x (a + 1) n (omega arith) (omega arith) h)
 
-passes : (q : ℕ → Bool) (x : ℕ) (ids : List ℕ) → contains x (filter q ids) ≡ true → q x ≡ true
+pub passes : (q : ℕ → Bool) (x : ℕ) (ids : List ℕ) → contains x (filter q ids) ≡ true → q x ≡ true
 passes q x ids h = elim (cases_Bool (q x)) [
   | inl e ↦ e
   | inr e ↦ absurd (any_none (λ y. (y == x) && q y) ids
