@@ -1,5 +1,5 @@
 -- What is live has a live parent, at each place of every run of a resolved plan.
-use Rattle.std.proofs.Common.{if◌then◌else◌, ◌≡◌, ◌≢◌, ℕ, zero, suc, ◌+◌, ◌-◌, ◌==◌, ◌<◌, ◌≤◌, nat_lt, Bool, true, false, ◌&&◌, ◌||◌, List, [], ◌∷◌, ◌++◌, ◌⊎◌, inl, inr, length, map, filter, fold, slice_set, take, refl, sym, ap, subst, ◌∙◌, arith, length-append}
+use Rattle.std.proofs.Common.{◌≡◌, ◌≢◌, ℕ, zero, suc, ◌+◌, ◌-◌, ◌==◌, ◌<◌, nat_lt, true, false, ◌&&◌, List, [], ◌∷◌, inl, inr, length, map, slice_set, take, refl, sym, ap, subst, ◌∙◌, arith}
 use Rattle.std.specs.List.{range_with_len}
 use Rattle.std.proofs.lemmas.Bool.{cases_Bool, eqb-true}
 use Rattle.wdf_base.specs.Meaning.{Meaning}
@@ -21,7 +21,7 @@ use Rattle.wdf_model.specs.declared.enums.Mode.TheVariants as mode
 use Rattle.wdf_model.specs.declared.entries.Node.{Node}
 use Rattle.wdf_model.specs.Tables.{contains, entry}
 use Rattle.wdf_model.specs.Plans.{managed_queues, queues_of}
-use Rattle.wdf_model.specs.parts.Tree.{Tree, below_marks, declared_node, gone, is_asked, is_cleaned, is_live, life_of, new_node, next_id, node_of, noted, opening_tree, parent_of, subtree, with_life, with_node}
+use Rattle.wdf_model.specs.parts.Tree.{Tree, declared_node, gone, is_asked, is_cleaned, is_live, life_of, new_node, next_id, node_of, noted, opening_tree, parent_of, subtree, with_life, with_node}
 use Rattle.wdf_model.specs.parts.Tree as tree
 use Rattle.wdf_model.specs.parts.Requests as requests
 use Rattle.wdf_model.specs.parts.Queues.{waiting_in}
@@ -29,21 +29,19 @@ use Rattle.wdf_model.specs.parts.Control as control
 use Rattle.wdf_model.specs.State.{State}
 use Rattle.wdf_model.specs.declared.deed.Deed.{Deed}
 use Rattle.wdf_model.specs.declared.deed.Deed.TheVariants.{Create, MakeRequest, Arrive, AskDeletion, Refer, Unrefer, WriteCell, Note, CleanUp, EndLife, Requeue, Forward, GiveBack, SendRequest, CompleteRequest, PurgeQueue, CloseReturning, CloseDevice}
-use Rattle.wdf_model.specs.rules.Deeds.{arrive_at, ask_object, ask_objects, do_deed, give_up}
+use Rattle.wdf_model.specs.rules.Deeds.{arrive_at, ask_objects, do_deed, give_up}
 use Rattle.wdf_model.specs.rules.Steps.{deeds}
 use Rattle.wdf_model.specs.rules.Ready.{IsRunOf, state_after}
 use Rattle.wdf_model.specs.laws.Fits.{fits}
-use Rattle.wdf_model.proofs.Tests.{both_left, both_right, first, second}
+use Rattle.wdf_model.proofs.Tests.{both_left, both_right}
 use Rattle.wdf_model.proofs.Maps.{entry_before, entry_last, entry_put_other, entry_put_same}
-use Rattle.wdf_model.proofs.Counts.{equal, not_equal, one_or_two}
-use Rattle.wdf_model.proofs.Deletion.{object_live, object_off}
+use Rattle.wdf_model.proofs.Counts.{one_or_two}
 use Rattle.wdf_model.proofs.FitsOfEvents.{event_fits}
 use Rattle.wdf_agreements.specs.Agreements.{LivesAgree}
 use Rattle.wdf_agreements.proofs.Subtrees.{asked_below, is_asked_with, kept_there, live_unasked, passes, unasked_stays}
 use Rattle.wdf_agreements.proofs.Keeping.{deeds_keep, each_place}
 use Rattle.wdf_agreements.proofs.Stays.{gives_up, gives_up_if, queues_closed, returns_closed, withdraws}
 use Rattle.wdf_agreements.proofs.Lists.{inside, reads_same}
-use Rattle.wdf_agreements.proofs.Queued.{any_filtered, any_none}
 
 -- what is live has a live parent, or none, and that is older
 pub record Lives (T : Tree) : Type 0 where

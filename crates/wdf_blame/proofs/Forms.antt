@@ -1,5 +1,5 @@
 -- What the lines of frames, requests and objects name is so.
-use Rattle.std.proofs.Common.{if◌then◌else◌, ◌≡◌, ◌⊎◌, inl, inr, ℕ, suc, ◌+◌, ◌==◌, ◌≤◌, Bool, true, false, not, ◌&&◌, ◌||◌, nat_lt, nat_le, List, [], ◌∷◌, ◌++◌, Option, Some, None, is_some, filter, map, count_by, take_while, refl, sym, ap, ◌∙◌, arith}
+use Rattle.std.proofs.Common.{if◌then◌else◌, ◌≡◌, ◌⊎◌, inl, inr, ℕ, suc, ◌+◌, ◌==◌, ◌≤◌, Bool, true, false, not, ◌&&◌, ◌||◌, nat_lt, nat_le, List, [], ◌∷◌, ◌++◌, Option, Some, None, is_some, filter, count_by, take_while, refl, sym, ap, ◌∙◌, arith}
 use Rattle.std.specs.Prelude.{filter_map, option_map}
 use Rattle.std.specs.List.{list_all, prefix_len}
 use Rattle.std.proofs.lemmas.Bool.Decides.{nat_tests}
@@ -32,10 +32,10 @@ use Rattle.wdf_model.specs.parts.Control.{delivers_in, mode_of}
 use Rattle.wdf_model.specs.parts.Deferred.WorkItems.{is_work_queued}
 use Rattle.wdf_model.specs.State.{State, declared_in, handle_in, held_from, is_held_from, is_powered, object_in, up_for}
 use Rattle.wdf_model.specs.rules.Starts.{level_fits}
-use Rattle.wdf_model.specs.rules.Waits.{above_in, ahead, all_cpus, by_frame, by_frame_on, by_lock, call_cause, cause_if, frame_cause, frame_line, frames_above, holders_of, no_cpu, parked_for_cpu, pending_cause, queue_scope_held, queued_cause, request_line, requests_where, returning_cause}
+use Rattle.wdf_model.specs.rules.Waits.{above_in, ahead, all_cpus, by_frame, by_frame_on, by_lock, call_cause, cause_if, frame_cause, frames_above, holders_of, no_cpu, parked_for_cpu, pending_cause, queue_scope_held, queued_cause, request_line, requests_where, returning_cause}
 use Rattle.wdf_model.proofs.Tests.{both, first, second}
 use Rattle.wdf_blame.specs.Causes.{all_taken, has_lock, is_above, is_before, is_held_lock, is_so, is_taken, is_there, keeps, keeps_below, keeps_call, keeps_frame, keeps_parked, keeps_pending, keeps_queued, keeps_returning, runs_on}
-use Rattle.wdf_blame.proofs.Members.{Each, Has}
+use Rattle.wdf_blame.proofs.Members.{Has}
 use Rattle.wdf_blame.proofs.Gives.{Gives, IfThere, all_alike, any_has, gives_first, gives_frame, gives_if, gives_map, gives_none, gives_request, has_either, has_gathered, has_kept, it_contains, least_has, same}
 
 -- ---- processors

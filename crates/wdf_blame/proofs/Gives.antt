@@ -1,6 +1,6 @@
 -- What a search for the first cause gives: one of those that it looks at, and each of these is so.
-use Rattle.std.proofs.Common.{if◌then◌else◌, ◌≡◌, ◌⊎◌, inl, inr, ℕ, ◌==◌, Bool, true, false, nat_le, List, [], ◌∷◌, ◌++◌, Option, Some, None, filter, map, fold, refl, sym, ap, ◌∙◌, arith}
-use Rattle.std.specs.Prelude.{⊤, filter_map, option_map}
+use Rattle.std.proofs.Common.{if◌then◌else◌, ◌≡◌, ◌⊎◌, inl, inr, ℕ, ◌==◌, Bool, true, false, nat_le, List, [], ◌∷◌, ◌++◌, Option, Some, None, filter, fold, refl, sym, ap, ◌∙◌, arith}
+use Rattle.std.specs.Prelude.{⊤, option_map}
 use Rattle.std.specs.List.{flat_map, list_all, list_any}
 use Rattle.std.proofs.lemmas.Bool.Decides.{nat_tests}
 use Rattle.std.proofs.lemmas.Option.{same_Some}

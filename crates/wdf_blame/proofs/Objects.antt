@@ -1,5 +1,5 @@
 -- What the lines of leaving objects name is so.
-use Rattle.std.proofs.Common.{if◌then◌else◌, ◌≡◌, inl, inr, ℕ, ◌==◌, Bool, true, false, not, ◌&&◌, ◌||◌, nat_lt, List, [], ◌∷◌, ◌++◌, Some, None, filter, map, refl, ap}
+use Rattle.std.proofs.Common.{if◌then◌else◌, ◌≡◌, inl, inr, ℕ, ◌==◌, Bool, true, false, not, ◌&&◌, ◌||◌, nat_lt, [], ◌∷◌, ◌++◌, Some, None, filter, refl, ap}
 use Rattle.std.specs.Prelude.{option_map}
 use Rattle.std.proofs.lemmas.Option.{same_Some}
 use Rattle.wdf_base.specs.declared.plan.Plan.{Plan}
@@ -13,12 +13,12 @@ use Rattle.wdf_model.specs.parts.Locks.{object_lock}
 use Rattle.wdf_model.specs.parts.Requests.{is_sent_to, place_of}
 use Rattle.wdf_model.specs.parts.Targets.{is_undone}
 use Rattle.wdf_model.specs.State.{State, handle_in, waits_for}
-use Rattle.wdf_model.specs.rules.Waits.{at_target, by_frame, cause_if, children_first, frames_where, holders_of, no_cpu, not_cleaned, object_cause, object_cpus, object_line, references_cause, target_of_place, users, users_that_keep, waits_for_younger}
+use Rattle.wdf_model.specs.rules.Waits.{at_target, by_frame, cause_if, children_first, frames_where, holders_of, no_cpu, not_cleaned, object_cause, object_cpus, references_cause, target_of_place, users, users_that_keep, waits_for_younger}
 use Rattle.wdf_model.proofs.Tests.{both, first, second}
 use Rattle.wdf_blame.specs.Causes.{has_lock, is_child_ahead, is_sibling_ahead, is_there, keeps_object, runs_on, uses}
-use Rattle.wdf_blame.proofs.Members.{Each, Has}
+use Rattle.wdf_blame.proofs.Members.{Has}
 use Rattle.wdf_blame.proofs.Gives.{Gives, gives_first, gives_frame, gives_if, gives_map, gives_none, has_either, has_kept, it_contains, least_has, same}
-use Rattle.wdf_blame.proofs.Forms.{LineSo, lock_of_list, none_left, on_object, so_by}
+use Rattle.wdf_blame.proofs.Forms.{lock_of_list, none_left, on_object}
 
 -- ---- tests
 

@@ -1,14 +1,11 @@
 -- A stage that a device waits for always has a cause, and so has each line of which that is said.
 use Rattle.wdf_blame.proofs.Works.{work_named}
-use Rattle.std.proofs.Common.{if◌then◌else◌, ◌≡◌, inl, inr, ℕ, zero, suc, ◌+◌, ◌==◌, ◌<◌, slice_get, Bool, true, false, not, ◌&&◌, ◌||◌, nat_lt, List, [], ◌∷◌, ◌++◌, Option, Some, None, is_some, filter, map, length, refl, sym, ap, subst, ◌∙◌, arith, rules}
-use Rattle.std.specs.Prelude.{filter_map}
-use Rattle.std.specs.List.{flat_map, list_all, list_any, range_with_len}
-use Rattle.std.proofs.lemmas.Option.{same_Some}
+use Rattle.std.proofs.Common.{◌≡◌, inl, inr, ℕ, suc, ◌==◌, ◌<◌, slice_get, Bool, true, false, not, ◌&&◌, ◌||◌, List, [], ◌∷◌, Option, Some, None, is_some, filter, length, refl, ap, ◌∙◌, arith, rules}
+use Rattle.std.specs.List.{flat_map, list_all, list_any}
 use Rattle.wdf_base.specs.declared.plan.Plan.{Plan}
 use Rattle.wdf_base.specs.declared.object.Place.{Place}
 use Rattle.wdf_base.specs.declared.object.Place.TheVariants as place
 use Rattle.wdf_base.specs.declared.wait.Cause.TheVariants as cause
-use Rattle.wdf_base.specs.declared.wait.OpenThing.TheVariants as thing
 use Rattle.wdf_base.specs.declared.wait.WaitLine.{WaitLine}
 use Rattle.wdf_model.specs.Ids.{frame_id}
 use Rattle.wdf_model.specs.Tables.{ids_of}
@@ -16,15 +13,14 @@ use Rattle.wdf_model.specs.parts.Cpus.{all_frames, is_on}
 use Rattle.wdf_model.specs.parts.Locks.{hold_of, holder, object_lock}
 use Rattle.wdf_model.specs.parts.Requests.{is_sent_to, place_of}
 use Rattle.wdf_model.specs.State.{State, held_from, handle_in}
-use Rattle.wdf_model.specs.rules.Waits.{by_frame, cause_if, frame_line, object_line, request_line}
+use Rattle.wdf_model.specs.rules.Waits.{by_frame, cause_if, request_line}
 use Rattle.wdf_model.proofs.Tests.{both, both_left, both_right, first, itself}
-use Rattle.wdf_blame.proofs.Members.{Each, Has}
-use Rattle.wdf_blame.proofs.Gives.{IfThere, has_kept}
+use Rattle.wdf_blame.proofs.Members.{Has}
+use Rattle.wdf_blame.proofs.Gives.{IfThere}
 use Rattle.wdf_base.specs.Meaning.{Meaning}
 use Rattle.wdf_base.specs.declared.event.Event.{Event}
 use Rattle.wdf_base.specs.declared.event.Event.TheVariants as event
 use Rattle.wdf_model.specs.declared.enums.Group.TheVariants as group
-use Rattle.wdf_model.specs.parts.Tree.{next_id}
 use Rattle.wdf_model.specs.parts.Cpus.{nobody_on}
 use Rattle.wdf_model.specs.State.{is_proper, nothing_at}
 use Rattle.wdf_model.specs.rules.Groups.{candidate, candidates}
@@ -37,8 +33,6 @@ use Rattle.wdf_base.specs.declared.ids.Handle.{Handle}
 use Rattle.wdf_base.specs.Same.{same_handle, same_option, same_stage, same_step}
 use Rattle.wdf_model.proofs.Sames.{handle_decides}
 use Rattle.wdf_base.specs.declared.event.Ending.TheVariants as ending
-use Rattle.wdf_base.specs.declared.event.Post.{Post}
-use Rattle.wdf_base.specs.declared.event.Post.TheVariants as post
 use Rattle.wdf_base.specs.declared.event.Stage.{Stage}
 use Rattle.wdf_base.specs.declared.event.Stage.TheVariants as stage
 use Rattle.wdf_base.specs.declared.event.Step.{Step}
@@ -46,13 +40,12 @@ use Rattle.wdf_base.specs.declared.event.Step.TheVariants as step
 use Rattle.std.specs.Bool.{Decides}
 use Rattle.wdf_model.specs.declared.entries.Request.{Request}
 use Rattle.wdf_model.specs.Tables.{entry}
-use Rattle.wdf_model.specs.Plans.{device_of, devices_of, managed_queues}
+use Rattle.wdf_model.specs.Plans.{managed_queues}
 use Rattle.wdf_model.specs.parts.Requests.{no_request, request_of}
 use Rattle.wdf_model.specs.parts.Power.{unsettled}
-use Rattle.wdf_model.specs.parts.Pnp.{follows_queues_up, is_running_step, next_step, running_step, steps_left}
-use Rattle.wdf_model.specs.rules.Posts.{due_of}
+use Rattle.wdf_model.specs.parts.Pnp.{follows_queues_up, is_running_step, next_step, running_step}
 use Rattle.wdf_model.specs.parts.Queues.{held_count}
-use Rattle.wdf_model.specs.rules.Ready.{IsRunOf, ending_of, is_leaving, is_open_post, open_devices, open_objects, open_requests, open_work, state_after, is_open_work}
+use Rattle.wdf_model.specs.rules.Ready.{IsRunOf, ending_of, state_after}
 use Rattle.wdf_model.specs.rules.Starts.{handle_id, is_drained, is_unfinished_at, may_pass, resumes_over, stage_ready, step_ready, targets_at}
 use Rattle.wdf_model.specs.rules.Groups.{declared_end}
 use Rattle.wdf_model.specs.rules.Waits.{asking_line, by_request, deferred_line, device_line, frames_in_order, next_step_line, resumes_cause, sequence_line, stage_cpus, stage_frames, stage_requests, step_cause, wait_lines, wait_list}

@@ -1,8 +1,6 @@
 -- What the lines of queued work and of devices name is so, and so of the whole wait list.
-use Rattle.std.proofs.Common.{if◌then◌else◌, ◌≡◌, inl, inr, ℕ, zero, suc, ◌==◌, slice_get, Bool, true, false, not, ◌&&◌, ◌||◌, List, [], ◌∷◌, ◌++◌, Option, Some, None, is_some, filter, map, refl, sym, ap, subst, ◌∙◌}
-use Rattle.std.specs.Prelude.{filter_map}
+use Rattle.std.proofs.Common.{if◌then◌else◌, ◌≡◌, inl, inr, ℕ, ◌==◌, slice_get, Bool, true, false, not, ◌&&◌, ◌||◌, List, [], ◌∷◌, Option, Some, None, is_some, filter, refl, sym, ap, ◌∙◌}
 use Rattle.std.specs.List.{flat_map, list_any}
-use Rattle.std.proofs.lemmas.Option.{same_Some}
 use Rattle.wdf_base.specs.declared.plan.Plan.{Plan}
 use Rattle.wdf_base.specs.declared.object.LockRef.{LockRef}
 use Rattle.wdf_base.specs.declared.call.Callback.{Callback}
@@ -11,7 +9,6 @@ use Rattle.wdf_base.specs.declared.wait.Cause.{Cause}
 use Rattle.wdf_base.specs.declared.wait.Cause.TheVariants as cause
 use Rattle.wdf_base.specs.declared.wait.OpenThing.{OpenThing}
 use Rattle.wdf_base.specs.declared.wait.OpenThing.TheVariants as thing
-use Rattle.wdf_base.specs.declared.wait.WaitLine.{WaitLine}
 use Rattle.wdf_model.specs.Ids.{frame_id}
 use Rattle.wdf_model.specs.laws.OverRuns.{PlacesAgree}
 use Rattle.wdf_model.specs.Tables.{ids_of}
@@ -22,11 +19,11 @@ use Rattle.wdf_model.specs.parts.Requests.{is_sent_to, place_of}
 use Rattle.wdf_model.specs.parts.Deferred.WorkItems.{is_work_queued}
 use Rattle.wdf_model.specs.State.{State, declared_in, handle_in}
 use Rattle.wdf_model.specs.rules.Starts.{level_fits}
-use Rattle.wdf_model.specs.rules.Waits.{by_frame, by_frame_on, cause_if, frame_cause, frame_line, frames_where, holders_of, no_cpu, object_cause, object_line, request_line, scope_is_held}
+use Rattle.wdf_model.specs.rules.Waits.{by_frame, by_frame_on, cause_if, frame_cause, frame_line, frames_where, holders_of, no_cpu, object_cause, object_line, scope_is_held}
 use Rattle.wdf_model.proofs.Tests.{first, second}
 use Rattle.wdf_blame.specs.Caused.{has_no_cause}
 use Rattle.wdf_blame.specs.Causes.{all_taken, is_taken, is_there, keeps, runs_on}
-use Rattle.wdf_blame.proofs.Members.{Each, Has}
+use Rattle.wdf_blame.proofs.Members.{Has}
 use Rattle.wdf_blame.proofs.Gives.{Gives, IfThere, any_has, gives_first, gives_frame, gives_if, gives_none, gives_request, has_either, has_gathered, has_kept, it_contains}
 use Rattle.wdf_base.specs.declared.ids.Handle.{Handle}
 use Rattle.wdf_base.specs.declared.event.Stage.{Stage}
@@ -47,13 +44,10 @@ use Rattle.wdf_model.specs.rules.Waits.{asking_line, by_request, cpu_of_dpc, cpu
 use Rattle.wdf_base.specs.Meaning.{Meaning}
 use Rattle.wdf_base.specs.declared.event.Event.{Event}
 use Rattle.wdf_base.specs.declared.event.Ending.TheVariants as ending
-use Rattle.wdf_base.specs.declared.event.Post.{Post}
-use Rattle.wdf_base.specs.declared.event.Post.TheVariants as post
-use Rattle.wdf_model.specs.rules.Posts.{due_of}
-use Rattle.wdf_model.specs.rules.Ready.{IsRunOf, ending_of, is_open_post, open_devices, open_objects, open_requests, open_work, state_after}
+use Rattle.wdf_model.specs.rules.Ready.{IsRunOf, ending_of, state_after}
 use Rattle.wdf_model.proofs.LawsOverRuns.{places_agree}
 use Rattle.wdf_blame.specs.Causes.{awaits_cpu, awaits_frame, awaits_request, has_lock_if_any, keeps_deferred, keeps_dpc, keeps_next, keeps_resumes, keeps_running, keeps_step, keeps_work, runs_callback}
-use Rattle.wdf_blame.proofs.Endings.{at_the_end, stuck_lines}
+use Rattle.wdf_blame.proofs.Endings.{at_the_end}
 use Rattle.wdf_blame.proofs.Gives.{any_alike}
 use Rattle.wdf_blame.proofs.EachLine.{OfLines, each_line}
 use Rattle.wdf_blame.proofs.Forms.{LineSo, frame_so, lock_held, lock_of_list, none_left, not_fits, on_object, request_so, so_by}

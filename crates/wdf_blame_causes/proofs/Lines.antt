@@ -1,8 +1,6 @@
 -- What is so of each line of a stuck run's wait list.
-use Rattle.std.proofs.lemmas.Option.{same_Some}
-use Rattle.std.proofs.Common.{if◌then◌else◌, ◌≡◌, inl, inr, ℕ, zero, suc, ◌+◌, ◌==◌, ◌<◌, ◌≤◌, Bool, true, false, not, ◌||◌, nat_lt, List, [], ◌∷◌, ◌++◌, ◌⊎◌, Option, Some, None, is_some, length, map, count_by, slice_get, refl, sym, ap, subst, ◌∙◌, arith}
-use Rattle.std.specs.Prelude.{filter_map}
-use Rattle.std.specs.List.{flat_map, list_any, range_with_len}
+use Rattle.std.proofs.Common.{◌≡◌, inl, inr, ℕ, ◌+◌, ◌==◌, ◌<◌, Bool, true, false, not, ◌||◌, List, [], ◌∷◌, ◌++◌, ◌⊎◌, Option, Some, None, is_some, length, count_by, slice_get, refl, ap, ◌∙◌, arith}
+use Rattle.std.specs.List.{flat_map, list_any}
 use Rattle.wdf_base.specs.Meaning.{Meaning}
 use Rattle.wdf_base.specs.Resolved.{IsResolved}
 use Rattle.wdf_base.specs.declared.plan.Plan.{Plan}
@@ -10,35 +8,29 @@ use Rattle.wdf_base.specs.declared.object.Place.{Place}
 use Rattle.wdf_base.specs.declared.object.Place.TheVariants as place
 use Rattle.wdf_base.specs.declared.event.Event.{Event}
 use Rattle.wdf_base.specs.declared.event.Ending.TheVariants as ending
-use Rattle.wdf_base.specs.declared.event.Post.{Post}
-use Rattle.wdf_base.specs.declared.event.Post.TheVariants as post
 use Rattle.wdf_base.specs.declared.event.Stage.TheVariants as stage
 use Rattle.wdf_base.specs.declared.event.Step.{Step}
 use Rattle.wdf_base.specs.declared.event.Step.TheVariants as step
 use Rattle.wdf_base.specs.declared.wait.WaitLine.{WaitLine}
-use Rattle.wdf_base.specs.declared.wait.OpenThing.TheVariants as thing
 use Rattle.wdf_model.specs.Tables.{contains, flag, ids_of}
-use Rattle.wdf_model.specs.Plans.{device_of, devices_of}
 use Rattle.wdf_model.specs.parts.Cpus.{all_frames}
 use Rattle.wdf_model.specs.parts.Queues.{held_count, waiting_in}
 use Rattle.wdf_model.specs.parts.Requests.{is_queued_in, is_returning_to, place_of}
-use Rattle.wdf_model.specs.parts.Pnp.{follows_queues_up, is_running_step, next_step, running_step, steps_left}
+use Rattle.wdf_model.specs.parts.Pnp.{follows_queues_up, is_running_step, next_step, running_step}
 use Rattle.wdf_model.specs.State.{State, held_from}
 use Rattle.wdf_model.specs.laws.OverRuns.{DeclaredAgree}
 use Rattle.wdf_model.specs.rules.Groups.{declared_end}
-use Rattle.wdf_model.specs.rules.Posts.{due_of}
-use Rattle.wdf_model.specs.rules.Ready.{IsRunOf, ending_of, is_open_work, is_open_post, open_devices, open_objects, open_requests, open_work, state_after}
-use Rattle.wdf_model.specs.rules.Waits.{asking_line, deferred_cause, deferred_line, device_line, dpc_cause, first_cause, frame_cause, frame_line, frames_in_order, object_line, queued_cause, request_line, resumes_cause, returning_cause, sequence_line, step_cause, wait_lines, wait_list}
+use Rattle.wdf_model.specs.rules.Ready.{IsRunOf, ending_of, is_open_work, state_after}
+use Rattle.wdf_model.specs.rules.Waits.{deferred_cause, deferred_line, dpc_cause, first_cause, frame_cause, frames_in_order, queued_cause, request_line, resumes_cause, returning_cause, sequence_line, step_cause, wait_list}
 use Rattle.wdf_model.specs.rules.Starts.{resumes_over}
 use Rattle.wdf_model.proofs.Tests.{first, itself}
-use Rattle.wdf_model.proofs.Counts.{at_head}
 use Rattle.wdf_model.proofs.LawsOverRuns.{history_now}
 use Rattle.wdf_invariants.proofs.DeclaredOverRuns.{declared_agree_at_each}
 use Rattle.wdf_room.specs.Kept.{RoomKept}
 use Rattle.wdf_room.proofs.RoomLaws.{room_is_kept}
 use Rattle.wdf_blame_causes.specs.Named.{Named, StepMayCome}
-use Rattle.wdf_blame.proofs.Members.{Each, Has}
-use Rattle.wdf_blame.proofs.Endings.{AtRest, at_rest, at_the_end, stuck_lines}
+use Rattle.wdf_blame.proofs.Members.{Has}
+use Rattle.wdf_blame.proofs.Endings.{AtRest, at_rest, at_the_end}
 use Rattle.wdf_blame.proofs.EachLine.{OfLines, each_line}
 use Rattle.wdf_blame.proofs.Gives.{IfThere, has_kept}
 use Rattle.wdf_blame.proofs.Needs.{none_first, some_or}

@@ -1,5 +1,5 @@
 -- The line of a device at `quiet` or at a callback always has a cause.
-use Rattle.std.proofs.Common.{◌≡◌, inl, inr, ℕ, ◌+◌, ◌==◌, ◌<◌, Bool, true, false, not, ◌&&◌, ◌||◌, nat_lt, List, [], ◌∷◌, Option, Some, None, length, refl, sym, ap, ◌∙◌, arith}
+use Rattle.std.proofs.Common.{◌≡◌, inl, inr, ℕ, ◌+◌, ◌==◌, ◌<◌, Bool, true, false, not, ◌&&◌, ◌||◌, nat_lt, List, [], ◌∷◌, Option, Some, None, length, refl, ap, ◌∙◌, arith}
 use Rattle.std.specs.Prelude.{option_and_then}
 use Rattle.std.specs.List.{flat_map, list_all, list_any}
 use Rattle.std.proofs.lemmas.Bool.{cases_Bool, eqb-true}
@@ -10,14 +10,12 @@ use Rattle.wdf_base.specs.declared.ids.Handle.{Handle}
 use Rattle.wdf_base.specs.declared.call.Callback.{Callback}
 use Rattle.wdf_base.specs.declared.call.Callback.TheVariants as callback
 use Rattle.wdf_base.specs.declared.event.Event.{Event}
-use Rattle.wdf_base.specs.declared.event.Event.TheVariants as event
 use Rattle.wdf_base.specs.declared.event.Stage.TheVariants as stage
-use Rattle.wdf_base.specs.declared.event.Step.{Step}
 use Rattle.wdf_base.specs.declared.event.Step.TheVariants as step
 use Rattle.wdf_base.specs.declared.rank.Rank.{Rank}
 use Rattle.wdf_base.specs.declared.rank.Rank.TheVariants as rank
 use Rattle.wdf_base.specs.declared.wait.Cause.TheVariants as cause
-use Rattle.wdf_base.specs.Same.{same_callback, same_handle, same_option, same_stage, same_step}
+use Rattle.wdf_base.specs.Same.{same_callback, same_handle, same_option}
 use Rattle.wdf_model.specs.Ids.{frame_id}
 use Rattle.wdf_model.specs.declared.enums.Group.TheVariants as group
 use Rattle.wdf_model.specs.Tables.{contains}
@@ -29,8 +27,8 @@ use Rattle.wdf_model.specs.parts.Pnp.{follows_queues_up, is_running_step, next_s
 use Rattle.wdf_model.specs.parts.Deferred.Dpcs.{dpcs_of, is_dpc_queued}
 use Rattle.wdf_model.specs.laws.Agreement.{is_sequence}
 use Rattle.wdf_model.specs.State.{State, declared_in, declares_in, handle_in, is_proper}
-use Rattle.wdf_model.specs.rules.Groups.{candidate, candidates, declared_end, groups_of_rank, RANKS, start_of_step, starts}
-use Rattle.wdf_model.specs.rules.Starts.{interrupt_of_step, is_quiet, is_ready_for, level_fits, life_fits, may_pass, may_start, rank_ready, resumes_over, stage_ready, step_of, step_ready}
+use Rattle.wdf_model.specs.rules.Groups.{candidates, declared_end, groups_of_rank, RANKS, start_of_step, starts}
+use Rattle.wdf_model.specs.rules.Starts.{interrupt_of_step, is_quiet, is_ready_for, level_fits, life_fits, may_start, rank_ready, resumes_over, step_of, step_ready}
 use Rattle.wdf_model.specs.rules.Steps.{may}
 use Rattle.wdf_model.specs.rules.Waits.{all_cpus, by_frame, by_request, cause_if, cpus_with_dpc, frames_where, has_dpc_of, head_lock, holders_of, no_cpu, object_of_step, quiet_frames, runs_step, stage_cpus, stage_frames, stage_requests, step_cause}
 use Rattle.wdf_model.proofs.Tests.{both, both_left, both_right, first, itself}
@@ -40,7 +38,7 @@ use Rattle.wdf_blame.proofs.Members.{Has, has_flat, has_range}
 use Rattle.wdf_blame.proofs.Endings.{AtRest, may_not}
 use Rattle.wdf_blame.proofs.Gives.{any_has}
 use Rattle.wdf_blame.proofs.Stages.{each_one, handle_itself, none_of, stage_comes, stepping}
-use Rattle.wdf_blame.proofs.Needs.{below_cpus, cpu_group, five, framework_group, free_one, front_none, no_count, none_first, none_if, none_least, placed_at, proper_start}
+use Rattle.wdf_blame.proofs.Needs.{below_cpus, cpu_group, five, free_one, front_none, no_count, none_first, none_if, none_least, placed_at, proper_start}
 use Rattle.wdf_blame_causes.proofs.Dpcs.{free_by_none, head_waits, listed_at}
 use Rattle.wdf_blame_causes.proofs.Presents.{kept_has}
 

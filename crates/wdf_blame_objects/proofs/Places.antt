@@ -1,5 +1,5 @@
 -- What is so of requests that are sent, and of those that arrived, in the state after a run of a resolved plan.
-use Rattle.std.proofs.Common.{◌≡◌, ℕ, suc, Bool, true, false, not, ◌&&◌, List, [], ◌∷◌, inl, inr, is_some, take, refl, sym, ap, subst, arith}
+use Rattle.std.proofs.Common.{◌≡◌, ℕ, Bool, true, false, not, ◌&&◌, List, inl, inr, is_some, take, refl, sym, ap, subst, arith}
 use Rattle.std.specs.List.{list_any}
 use Rattle.std.proofs.lemmas.Bool.{cases_Bool}
 use Rattle.wdf_base.specs.Meaning.{Meaning}
@@ -7,7 +7,7 @@ use Rattle.wdf_base.specs.Resolved.{IsResolved}
 use Rattle.wdf_base.specs.declared.plan.Plan.{Plan}
 use Rattle.wdf_base.specs.declared.event.Event.{Event}
 use Rattle.wdf_model.specs.declared.entries.Request.{Request}
-use Rattle.wdf_model.specs.Tables.{entry, flag}
+use Rattle.wdf_model.specs.Tables.{flag}
 use Rattle.wdf_model.specs.Plans.{device_of, target_of}
 use Rattle.wdf_model.specs.parts.Tree.{is_live, life_of, parent_of}
 use Rattle.wdf_model.specs.parts.Requests.{has_arrived, is_done, is_sent_to, no_request, place_of, request_of}

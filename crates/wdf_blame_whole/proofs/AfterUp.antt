@@ -1,25 +1,19 @@
 -- The line of a device whose next step comes right after `queues_up` always has a cause: a resume could start, or the step.
-use Rattle.std.proofs.Common.{if◌then◌else◌, ◌≡◌, ◌≢◌, inl, inr, ℕ, suc, ◌+◌, ◌==◌, ◌<◌, Bool, true, false, not, ◌&&◌, ◌||◌, nat_lt, List, [], ◌∷◌, Option, Some, None, is_some, length, map, refl, sym, ap, subst, ◌∙◌, arith}
-use Rattle.std.specs.Prelude.{option_and_then}
-use Rattle.std.specs.List.{flat_map, list_any}
+use Rattle.std.proofs.Common.{if◌then◌else◌, ◌≡◌, ◌≢◌, inl, inr, ℕ, suc, ◌+◌, ◌==◌, ◌<◌, Bool, true, false, not, ◌&&◌, nat_lt, List, [], ◌∷◌, Option, Some, None, is_some, length, refl, sym, ap, subst, ◌∙◌, arith}
+use Rattle.std.specs.List.{list_any}
 use Rattle.std.proofs.lemmas.Bool.{cases_Bool, eqb-true}
 use Rattle.wdf_base.specs.Meaning.{Meaning}
-use Rattle.wdf_base.specs.Callbacks.{row_of}
 use Rattle.wdf_base.specs.Plan.{declared_of}
-use Rattle.wdf_base.specs.Same.{same_callback, same_handle, same_kind, same_option, same_stage, same_step}
+use Rattle.wdf_base.specs.Same.{same_kind}
 use Rattle.wdf_base.specs.declared.plan.Plan.{Plan}
-use Rattle.wdf_base.specs.declared.ids.Handle.{Handle}
 use Rattle.wdf_base.specs.declared.declared.Declared.TheVariants as declared
 use Rattle.wdf_base.specs.declared.object.Kind.TheVariants as kind
 use Rattle.wdf_base.specs.declared.object.LockRef.{LockRef}
 use Rattle.wdf_base.specs.declared.object.Place.{Place}
 use Rattle.wdf_base.specs.declared.object.Place.TheVariants as place
-use Rattle.wdf_base.specs.declared.call.Callback.{Callback}
 use Rattle.wdf_base.specs.declared.call.Callback.TheVariants as callback
-use Rattle.wdf_base.specs.declared.rank.Rank.{Rank}
 use Rattle.wdf_base.specs.declared.rank.Rank.TheVariants as rank
 use Rattle.wdf_base.specs.declared.event.Event.{Event}
-use Rattle.wdf_base.specs.declared.event.Event.TheVariants as event
 use Rattle.wdf_base.specs.declared.event.Stage.TheVariants as stage
 use Rattle.wdf_base.specs.declared.event.Step.{Step}
 use Rattle.wdf_base.specs.declared.event.Step.TheVariants as step
@@ -29,30 +23,30 @@ use Rattle.wdf_model.specs.declared.enums.Group.TheVariants as group
 use Rattle.wdf_model.specs.declared.entries.Holding.{Holding}
 use Rattle.wdf_model.specs.declared.entries.Request.{Request}
 use Rattle.wdf_model.specs.Tables.{entry, ids_of, same_id}
-use Rattle.wdf_model.specs.Plans.{as_queue, callback_irql, declared_ids, declares, device_of, device_of_queue, is_managed, is_queue_of, managed_queues, queue_level, queue_of, queues_of, script_on}
-use Rattle.wdf_model.specs.parts.Tree.{is_live, kind_of, life_of, made_as, nearest_device, node_of}
+use Rattle.wdf_model.specs.Plans.{as_queue, declared_ids, declares, device_of, device_of_queue, is_managed, is_queue_of, managed_queues, queue_level, queue_of, queues_of, script_on}
+use Rattle.wdf_model.specs.parts.Tree.{is_live, kind_of, life_of, made_as, node_of}
 use Rattle.wdf_model.specs.parts.Cpus.{all_frames, frame_of, is_running}
-use Rattle.wdf_model.specs.parts.Locks.{is_free_if_any, lock_of_callback, scope_of}
+use Rattle.wdf_model.specs.parts.Locks.{is_free_if_any, scope_of}
 use Rattle.wdf_model.specs.parts.Power.{any_resume_due, holding_of, is_held, is_held_at, no_holding, queue_power, resume_due}
 use Rattle.wdf_model.specs.parts.Pnp.{follows_queues_up, follows_up, is_running_step, next_step, sequence_of}
 use Rattle.wdf_model.specs.parts.Requests.{is_done, no_request, origin_of, place_of}
 use Rattle.wdf_model.specs.parts.Targets.{is_forgotten}
 use Rattle.wdf_model.specs.State.{State, declared_in, declares_in, handle_in, held_at, held_from, is_held_from, is_proper, is_with_driver}
-use Rattle.wdf_model.specs.laws.Agreement.{is_sequence, managed_origin}
-use Rattle.wdf_model.specs.rules.Groups.{candidate, candidates, declared_end, groups_of_rank, queues_in, RANKS, start_of_step, starts, starts_for}
-use Rattle.wdf_model.specs.rules.Starts.{interrupt_of_step, is_ready_for, level_fits, life_fits, may_pass, may_start, rank_ready, resumes_over, stage_ready, step_of, step_ready}
+use Rattle.wdf_model.specs.laws.Agreement.{managed_origin}
+use Rattle.wdf_model.specs.rules.Groups.{candidates, declared_end, groups_of_rank, queues_in, RANKS, starts_for}
+use Rattle.wdf_model.specs.rules.Starts.{level_fits, may_start, resumes_over}
 use Rattle.wdf_model.specs.rules.Steps.{may}
-use Rattle.wdf_model.specs.rules.Waits.{by_frame, cause_if, first_cause, frames_where, holders_of, no_cpu, object_of_step, queues_to_resume, resume_cpus, resume_frames, resumes_at, resumes_cause, runs_step, scope_holders, step_cause}
+use Rattle.wdf_model.specs.rules.Waits.{by_frame, cause_if, first_cause, frames_where, holders_of, no_cpu, queues_to_resume, resume_cpus, resume_frames, resumes_at, resumes_cause, runs_step, scope_holders, step_cause}
 use Rattle.wdf_model.proofs.Tests.{both, both_left, both_right, itself, second}
-use Rattle.wdf_model.proofs.Sames.{callback_decides, handle_decides, kind_decides}
+use Rattle.wdf_model.proofs.Sames.{kind_decides}
 use Rattle.wdf_invariants.proofs.Holding.{HoldsIn, holder}
 use Rattle.wdf_invariants.proofs.HeldOverRuns.{from_by}
 use Rattle.wdf_invariants.proofs.StillFrames.{live_there}
 use Rattle.wdf_agreements.proofs.Lists.{inside}
 use Rattle.wdf_blame.proofs.Members.{Has, has_flat, has_range}
 use Rattle.wdf_blame.proofs.Endings.{AtRest, may_not}
-use Rattle.wdf_blame.proofs.Needs.{below_cpus, cpu_group, five, framework_group, free_one, front_none, no_count, none_first, none_if, none_least, placed_at, proper_start}
-use Rattle.wdf_blame_causes.specs.Starts.{has_callback, step_may_run}
+use Rattle.wdf_blame.proofs.Needs.{below_cpus, cpu_group, five, free_one, front_none, no_count, none_first, none_if, none_least, placed_at, proper_start}
+use Rattle.wdf_blame_causes.specs.Starts.{step_may_run}
 use Rattle.wdf_blame_causes.proofs.Dpcs.{free_by_none}
 use Rattle.wdf_blame.proofs.Stages.{none_of, stage_comes}
 use Rattle.wdf_blame_causes.proofs.Steps.{callback_comes, none_gathered}

@@ -1,30 +1,23 @@
 -- What each line of a stuck run's wait list is about is so of the state.
-use Rattle.std.proofs.lemmas.Option.{same_Some}
-use Rattle.std.proofs.Common.{if◌then◌else◌, ◌≡◌, inl, inr, ℕ, zero, suc, Bool, true, false, List, [], ◌∷◌, ◌++◌, Option, Some, None, map, slice_get, refl, sym, ap, subst, ◌∙◌}
-use Rattle.std.specs.Prelude.{⊤, filter_map}
+use Rattle.std.proofs.Common.{◌≡◌, ℕ, true, List, [], ◌∷◌, Option, Some, None, slice_get, refl, ap, ◌∙◌}
+use Rattle.std.specs.Prelude.{⊤}
 use Rattle.wdf_base.specs.Meaning.{Meaning}
 use Rattle.wdf_base.specs.declared.plan.Plan.{Plan}
 use Rattle.wdf_base.specs.declared.object.Place.{Place}
 use Rattle.wdf_base.specs.declared.object.Place.TheVariants as place
 use Rattle.wdf_base.specs.declared.event.Event.{Event}
 use Rattle.wdf_base.specs.declared.event.Ending.TheVariants as ending
-use Rattle.wdf_base.specs.declared.event.Post.{Post}
-use Rattle.wdf_base.specs.declared.event.Post.TheVariants as post
 use Rattle.wdf_base.specs.declared.event.Step.{Step}
 use Rattle.wdf_base.specs.declared.wait.Cause.{Cause}
 use Rattle.wdf_base.specs.declared.wait.WaitLine.{WaitLine}
 use Rattle.wdf_base.specs.declared.wait.OpenThing.{OpenThing}
 use Rattle.wdf_base.specs.declared.wait.OpenThing.TheVariants as thing
-use Rattle.wdf_model.specs.Tables.{ids_of}
 use Rattle.wdf_model.specs.parts.Requests.{is_queued_in, is_returning_to, place_of}
 use Rattle.wdf_model.specs.parts.Pnp.{next_step, running_step}
 use Rattle.wdf_model.specs.State.{State}
-use Rattle.wdf_model.specs.rules.Posts.{due_of}
-use Rattle.wdf_model.specs.rules.Ready.{ending_of, is_leaving, is_open_post, is_open_work, open_devices, open_objects, open_requests, open_work, state_after}
-use Rattle.wdf_model.specs.rules.Waits.{asking_line, deferred_line, device_line, first_cause, frame_line, frames_in_order, object_cause, object_line, request_line, resumes_cause, running_cause, sequence_line, step_cause, wait_lines, wait_list}
+use Rattle.wdf_model.specs.rules.Ready.{ending_of, is_leaving, is_open_work, state_after}
+use Rattle.wdf_model.specs.rules.Waits.{first_cause, object_cause, request_line, resumes_cause, running_cause, sequence_line, step_cause, wait_list}
 use Rattle.wdf_model.proofs.Tests.{itself}
-use Rattle.wdf_blame.proofs.Members.{Each, Has}
-use Rattle.wdf_blame.proofs.Endings.{stuck_lines}
 use Rattle.wdf_blame.proofs.EachLine.{OfLines, each_line}
 use Rattle.wdf_blame.proofs.Gives.{IfThere}
 

@@ -1,7 +1,5 @@
 -- A resume is due only for a request that is held from a queue with EvtIoResume, at each place of every run.
-use Rattle.std.proofs.Common.{if◌then◌else◌, ◌≡◌, ℕ, zero, suc, ◌+◌, ◌≤◌, Bool, true, false, ◌&&◌, List, [], ◌∷◌, None, fold, length, map, take, refl, sym, ap, subst, ◌∙◌, arith}
-use Rattle.std.specs.List.{range_with_len}
-use Rattle.std.proofs.lemmas.Option.{slice_get_past}
+use Rattle.std.proofs.Common.{if◌then◌else◌, ◌≡◌, ℕ, suc, ◌+◌, Bool, true, false, ◌&&◌, List, None, length, take, refl, sym, ap, subst, ◌∙◌, arith}
 use Rattle.wdf_base.specs.Meaning.{Meaning}
 use Rattle.wdf_base.specs.Plan.{declared_of}
 use Rattle.wdf_base.specs.declared.plan.Plan.{Plan}
@@ -10,9 +8,6 @@ use Rattle.wdf_base.specs.declared.event.Event.{Event}
 use Rattle.wdf_base.specs.declared.event.Stage.{Stage}
 use Rattle.wdf_base.specs.declared.event.Stage.TheVariants as stage
 use Rattle.wdf_base.specs.declared.event.Step.TheVariants as step
-use Rattle.wdf_base.specs.declared.object.Place.{Place}
-use Rattle.wdf_base.specs.declared.object.Place.TheVariants as place
-use Rattle.wdf_base.specs.declared.object.RequestInfo.{RequestInfo}
 use Rattle.wdf_model.specs.declared.enums.Mode.TheVariants as mode
 use Rattle.wdf_model.specs.declared.entries.Holding.{Holding}
 use Rattle.wdf_model.specs.declared.entries.QueuePower.{QueuePower}
@@ -27,7 +22,7 @@ use Rattle.wdf_model.specs.parts.Power as power
 use Rattle.wdf_model.specs.State.{State, is_with_driver}
 use Rattle.wdf_model.specs.declared.deed.Deed.{Deed}
 use Rattle.wdf_model.specs.declared.deed.Deed.TheVariants.{Arrive, AskDeletion, Present, Receive, Requeue, Forward, GiveBack, SendRequest, CompleteRequest, PurgeQueue, CloseReturning, CloseDevice, AdvancePower}
-use Rattle.wdf_model.specs.rules.Deeds.{arrive_at, close_queue, close_returning, do_deed, give_up, give_up_if, withdraw}
+use Rattle.wdf_model.specs.rules.Deeds.{do_deed, give_up, give_up_if}
 use Rattle.wdf_model.specs.rules.Ready.{IsRunOf, state_after}
 use Rattle.wdf_model.proofs.Maps.{entry_map}
 use Rattle.wdf_model.proofs.Tests.{both_right}

@@ -14,7 +14,7 @@ use Rattle.wdf_base.specs.declared.event.Step.{Step}
 use Rattle.wdf_base.specs.declared.event.Step.TheVariants as step
 use Rattle.wdf_base.specs.Same.{same_callback}
 use Rattle.wdf_model.specs.declared.enums.Phase.{Phase}
-use Rattle.wdf_model.specs.declared.enums.Phase.TheVariants.{Working, Sleeping}
+use Rattle.wdf_model.specs.declared.enums.Phase.TheVariants.{Sleeping}
 use Rattle.wdf_model.specs.Tables.{flag}
 use Rattle.wdf_model.specs.parts.Pnp.{DeviceSteps, InterruptSteps, Sequence, end_steps, interrupt_steps, is_success, left_after, left_after_failure, steps_for}
 use Rattle.wdf_model.proofs.Counts.{count_cons}

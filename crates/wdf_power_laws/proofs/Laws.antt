@@ -26,7 +26,7 @@ use Rattle.wdf_base.specs.declared.value.Value.{Value}
 use Rattle.wdf_base.specs.declared.value.Value.TheVariants.{Num, Obj, Stat}
 use Rattle.wdf_base.specs.declared.value.Status.TheVariants as status
 use Rattle.wdf_base.specs.declared.call.Arg.{Arg}
-use Rattle.wdf_base.specs.declared.call.Arg.TheVariants.{Val, Class}
+use Rattle.wdf_base.specs.declared.call.Arg.TheVariants.{Val}
 use Rattle.wdf_base.specs.declared.call.CallKind.{CallKind}
 use Rattle.wdf_base.specs.declared.call.CallKind.TheVariants as call
 use Rattle.wdf_base.specs.Same.{same_call_kind}

@@ -7,7 +7,6 @@ use Rattle.wdf_base.specs.declared.plan.Plan.{Plan}
 use Rattle.wdf_base.specs.declared.ids.Cpu.{Cpu}
 use Rattle.wdf_base.specs.declared.ids.Handle.{Handle}
 use Rattle.wdf_base.specs.declared.declared.DeviceInfo.{DeviceInfo}
-use Rattle.wdf_base.specs.declared.declared.QueueInfo.{QueueInfo}
 use Rattle.wdf_base.specs.declared.rank.Rank.{Rank}
 use Rattle.wdf_base.specs.declared.rank.Rank.TheVariants as rank
 use Rattle.wdf_base.specs.declared.call.Callback.{Callback}
@@ -20,9 +19,9 @@ use Rattle.wdf_model.specs.Tables.{entry, same_id}
 use Rattle.wdf_model.specs.Plans.{declared_ids, device_of, device_of_queue, is_managed, queue_of}
 use Rattle.wdf_model.specs.parts.Control.{notify_due}
 use Rattle.wdf_model.specs.parts.Requests.{origin_of}
-use Rattle.wdf_model.specs.parts.Power.{holding_of, is_held, is_held_at, opening_power, queue_power, queues_up, resume_due}
+use Rattle.wdf_model.specs.parts.Power.{holding_of, is_held, is_held_at, opening_power, queue_power, resume_due}
 use Rattle.wdf_model.specs.parts.Pnp.{no_sequence, opening_sequence}
-use Rattle.wdf_model.specs.State.{State, is_held_from, is_powered, is_with_driver, opening, queue_delivers, up_for}
+use Rattle.wdf_model.specs.State.{State, is_held_from, is_powered, is_with_driver, opening, queue_delivers}
 use Rattle.wdf_model.specs.rules.Ready.{IsRunOf, state_after}
 use Rattle.wdf_model.specs.rules.Starts.{is_ready_for, rank_ready, rank_ready_for}
 use Rattle.wdf_model.specs.laws.Agreement.{managed_origin}
@@ -33,7 +32,7 @@ use Rattle.wdf_invariants.proofs.HeldOverRuns.{from_by, holds_at_each}
 use Rattle.wdf_invariants.proofs.PowerQueues.{queues_at_each}
 use Rattle.wdf_agreements.proofs.Keeping.{at_the_end, each_place_by}
 use Rattle.wdf_agreements.proofs.SoundRuns.{all_known}
-use Rattle.wdf_laws.specs.Laws.{begun_with_power, has_power, is_power_rank, is_up_from_opening, law_5, presented_with_power, went_up}
+use Rattle.wdf_laws.specs.Laws.{begun_with_power, has_power, is_power_rank, law_5, presented_with_power}
 use Rattle.wdf_laws.specs.Events.{presented}
 use Rattle.wdf_power_laws.proofs.Frames.{StepFrames}
 use Rattle.wdf_power_laws.proofs.Events.{Kept}

@@ -59,12 +59,12 @@ use Rattle.wdf_trace_laws.proofs.Words.{ever_next}
 use Rattle.wdf_trace_laws.proofs.Ends.{cleaned_there, comes, ends, ends_once}
 use Rattle.wdf_base.specs.declared.ids.Cpu.{Cpu}
 use Rattle.wdf_base.specs.declared.call.Arg.{Arg}
-use Rattle.wdf_base.specs.declared.call.Arg.TheVariants.{Val, Class}
+use Rattle.wdf_base.specs.declared.call.Arg.TheVariants.{Val}
 use Rattle.wdf_base.specs.declared.call.Call.{Call}
 use Rattle.wdf_base.specs.declared.call.CallKind.{CallKind}
 use Rattle.wdf_base.specs.declared.call.CallKind.TheVariants as call
 use Rattle.wdf_base.specs.declared.value.Value.{Value}
-use Rattle.wdf_base.specs.declared.value.Value.TheVariants.{Num, Obj, Stat}
+use Rattle.wdf_base.specs.declared.value.Value.TheVariants.{Obj}
 use Rattle.wdf_base.specs.Same.{same_call_kind}
 use Rattle.wdf_model.specs.Tables.{flag}
 use Rattle.wdf_model.specs.parts.Tree.{references_of}
