@@ -1,8 +1,8 @@
--- The least numbers of lists, of joined lists, and of the frames above one.
-use Rattle.std.proofs.Common.{◌≡◌, ℕ, zero, suc, ◌+◌, ◌-◌, ◌≤◌, min, ◌==◌, if◌then◌else◌, Bool, true, false, not, nat_le, List, [], ◌∷◌, ◌++◌, Option, Some, None, filter, length, drop, slice_get, take_while, fold, inl, inr, refl, ap, sym, ◌∙◌, arith}
+-- The least numbers of lists, and of the frames above one.
+use Rattle.std.proofs.Common.{◌≡◌, ℕ, zero, suc, ◌+◌, ◌-◌, ◌≤◌, min, ◌==◌, if◌then◌else◌, Bool, true, false, not, List, [], ◌∷◌, Option, Some, None, filter, length, drop, slice_get, take_while, fold, inl, inr, refl, ap, sym, ◌∙◌, arith}
 use Rattle.std.specs.List.{flat_map, prefix_len, range_with_len}
 use Rattle.std.proofs.lemmas.List.Sums.{fold-append}
-use Rattle.std.proofs.lemmas.Bool.{cases_lt, leb-true, leb-false}
+use Rattle.std.proofs.lemmas.Bool.{cases_lt}
 use Rattle.wdf_model.specs.Tables.{contains, ids_of, least, lesser}
 use Rattle.wdf_model.specs.parts.Cpus.{Cpus, all_frames}
 use Rattle.wdf_model.proofs.Maps.{entry_past}
@@ -10,34 +10,8 @@ use Rattle.wdf_model.proofs.Counts.{equal, not_equal}
 use Rattle.wdf_cpu.specs.Kept.{IsLive}
 use Rattle.wdf_cpu.proofs.Live.{live_is_contained}
 use Rattle.wdf_model.specs.rules.Waits.{above_in}
-use Rattle.wdf_cpu.specs.Leasts.{lesser_if}
-
--- ---- joined lists
-
-three_by : (m x y : ℕ) (a b c : Bool) → nat_le m x ≡ a → nat_le x y ≡ b → nat_le m y ≡ c → lesser (lesser (Some m) x) y ≡ lesser_if (Some m) (lesser (Some x) y)
-three_by m x y true true true e f g = simp (e, f, g)
-three_by m x y true false c e f g = simp (e, f)
-three_by m x y false true c e f g = simp (e, f)
-three_by m x y false false false e f g = simp (e, f, g)
-three_by m x y true true false e f g = absurd (let p = leb-true m x e in let q = leb-true x y f in let r = leb-false m y g in omega arith)
-three_by m x y false false true e f g = absurd (let p = leb-false m x e in let q = leb-false x y f in let r = leb-true m y g in omega arith)
-
-two_by : (x y : ℕ) (b : Bool) → nat_le x y ≡ b → lesser (Some x) y ≡ lesser_if None (lesser (Some x) y)
-two_by x y true f = simp f
-two_by x y false f = simp f
-
-three : (m : Option ℕ) (x : ℕ) (o : Option ℕ) → lesser_if (lesser m x) o ≡ lesser_if m (lesser_if (Some x) o)
-three m x None = refl
-three None x (Some y) = two_by x y (nat_le x y) refl
-three (Some m) x (Some y) = three_by m x y (nat_le m x) (nat_le x y) (nat_le m y) refl refl refl
-
--- the least of what was found and of a list
-pub fold_least : (m : Option ℕ) (xs : List ℕ) → fold lesser m xs ≡ lesser_if m (least xs)
-fold_least m [] = refl
-fold_least m (x ∷ xs) = fold_least (lesser m x) xs ∙ three m x (least xs) ∙ ap (lesser_if m) (sym (fold_least (Some x) xs))
-
-pub least_append : (xs ys : List ℕ) → least (xs ++ ys) ≡ lesser_if (least xs) (least ys)
-least_append xs ys = fold-append lesser None xs ys ∙ fold_least (least xs) ys
+use Rattle.wdf_maps.specs.Least.{lesser_if}
+pub use Rattle.wdf_maps.proofs.Leasts.{fold_least}
 
 -- ---- the frames above one
 

@@ -74,6 +74,9 @@ top_is_on C live cpu f is_top h =
     let o = live_once C live h f in
     omega arith
 
+pub top_within : (C : Cpus) (live : List Bool) (cpu f : ℕ) → top C cpu ≡ Some f → IsLive C live → f < FRAMES
+top_within C live cpu f is_top h = let one = top_is_on C live cpu f is_top h in live_within C live h f (omega arith)
+
 pub top_goes_off : (C : Cpus) (live : List Bool) (cpu f : ℕ) → top C cpu ≡ Some f → IsLive C live → on (cpus.pop C cpu) f ≡ 0
 top_goes_off C live cpu f is_top h =
     let p = pop_leaves C cpu f is_top f in
@@ -100,7 +103,7 @@ live_pop C live cpu f is_top h = record {
         let no : flag (f == x) ≡ 0 = ap flag (not_equal f x (λ e. n (sym e))) in
         omega arith
   ];
-  few = put_short false live f false FRAMES (live_within C live h f (let o = top_is_on C live cpu f is_top h in omega arith)) h.few;
+  few = put_short false live f false FRAMES (top_within C live cpu f is_top h) h.few;
 }
 
 pub live_park : (C : Cpus) (live : List Bool) (cpu f : ℕ) → top C cpu ≡ Some f → IsLive C live → IsLive (cpus.park C cpu) live

@@ -1,5 +1,6 @@
 -- Lists of numbers in which each is once, and lists in order.
 use Rattle.std.proofs.Common.{◌≡◌, ◌≢◌, ℕ, zero, suc, ◌+◌, ◌==◌, ◌≤◌, Bool, true, false, not, List, [], ◌∷◌, inl, inr, None, is_some, length, count_by, refl, ap, sym, ◌∙◌, arith}
+use Rattle.std.proofs.Math.Bool.{not-not}
 use Rattle.std.proofs.lemmas.List.Sums.{length-filter}
 use Rattle.std.proofs.lemmas.List.Filters.{length-filter_both}
 use Rattle.wdf_model.specs.Tables.{contains, flag, in_order, without}
@@ -18,13 +19,9 @@ absent_from f (x ∷ xs) h = absent_from_by f x xs (x == f) refl h (absent_from 
 
 -- ---- numbers that are there once each
 
-twice_not : (b : Bool) → b ≡ not (not b)
-twice_not true = refl
-twice_not false = refl
-
 without_shortens : (n : ℕ) (xs : List ℕ) → length (without n xs) + count_by (λ x. x == n) xs ≡ length xs
 without_shortens n xs =
-    let both = length-filter_both (λ x. not (x == n)) (λ x. x == n) (λ x. twice_not (x == n)) xs in
+    let both = length-filter_both (λ x. not (x == n)) (λ x. x == n) (λ x. sym (not-not (x == n))) xs in
     let e = length-filter (λ x. x == n) xs in
     omega arith
 

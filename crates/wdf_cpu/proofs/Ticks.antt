@@ -3,7 +3,7 @@ use Rattle.std.proofs.Common.{cond, ◌≡◌, ℕ, zero, suc, ◌+◌, ◌-◌,
 use Rattle.std.specs.List.{flat_map, insert, remove, slice_get}
 use Rattle.std.specs.List.Sorted.{IsBinarySearchResult, IsNonDecreasing}
 use Rattle.std.specs.Ordering.{nat_cmp}
-use Rattle.std.proofs.lemmas.Bool.{cases_lt}
+use Rattle.std.proofs.lemmas.Bool.{cases_lt, le-ltb}
 use Rattle.std.proofs.lemmas.Bool.Decides.{nat_tests}
 use Rattle.std.proofs.lemmas.Option.{get_or_from_slice_get}
 use Rattle.std.proofs.lemmas.List.{get_or_default}
@@ -50,9 +50,6 @@ counted_is : (b : Bool) (n : ℕ) → (b ≡ true → 1 ≤ n) → (b ≡ false 
 counted_is true n some none = sym (ap not (not_equal n 0 (λ e. let s = some refl in let z : ⊥ = omega arith in z)))
 counted_is false n some none = sym (ap not (equal n 0 (none refl)))
 
-not_later : (t n : ℕ) → n ≤ t → nat_lt t n ≡ false
-not_later t n h = grind (arith, nat_tests)
-
 pub latest_some : (xs : List ℕ) (tick t : ℕ) → IsNonDecreasing xs → slice_get xs (length xs - 1) ≡ Some tick → nat_lt t tick ≡ not (count_by (nat_lt t) xs == 0)
 latest_some [] tick t order is = absurd (let z : ⊥ = cc in z)
 latest_some (x ∷ xs) tick t order is =
@@ -63,7 +60,7 @@ latest_some (x ∷ xs) tick t order is =
     let most = order k (length (x ∷ xs) - 1) d (omega arith) (omega arith) in
     let same : get_or (x ∷ xs) (length (x ∷ xs) - 1) d ≡ get_or (x ∷ xs) (length (x ∷ xs) - 1) 0 = get_or_default (x ∷ xs) (length (x ∷ xs) - 1) d 0 (omega arith) in
     let below : tick ≤ t = (some_later t tick (nat_lt t tick) refl).1 e in
-    not_later t (get_or (x ∷ xs) k d) (omega arith)))
+    le-ltb t (get_or (x ∷ xs) k d) (omega arith)))
 
 pub latest_none : (xs : List ℕ) (t : ℕ) → slice_get xs (length xs - 1) ≡ None → nat_lt t 0 ≡ not (count_by (nat_lt t) xs == 0)
 latest_none [] t is = later_than_none t

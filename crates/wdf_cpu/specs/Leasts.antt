@@ -1,7 +1,2 @@
--- The lesser of two numbers, of which each may be wanting.
-use Rattle.std.specs.Prelude.{ℕ, Option, Some, None}
-use Rattle.wdf_model.specs.Tables.{lesser}
-
-abbrev pub lesser_if : Option ℕ → Option ℕ → Option ℕ
-lesser_if found None = found
-lesser_if found (Some n) = lesser found n
+-- The lesser of two numbers, each as far as it is there: that of wdf_maps, by which least frames are found.
+pub use Rattle.wdf_maps.specs.Least.{lesser_if}

@@ -4,7 +4,7 @@ ghost use Rattle.std.specs.VecDeque.{deque_capacity};
 ghost use Rattle.wdf_model.specs.Tables.{flag};
 ghost use Rattle.wdf_model.specs.parts.Cpus.{less_one};
 ghost use Rattle.wdf_model.specs.declared.entries.HeldLevel.{HeldLevel};
-ghost use Rattle.wdf_cpu.specs.Levels.{IsNextOf, held_by};
+ghost use Rattle.wdf_cpu.specs.Levels.{IsNextLevel, held_by};
 
 use std::alloc::Global;
 use std::collections::VecDeque;
@@ -117,7 +117,7 @@ fn peak_of(levels: &VecDeque<HeldLevel>, f: FrameId, level: Irql, count: u32) ->
 /// The place of the first level of a frame from a place on, where there is one.
 fn next_of(levels: &VecDeque<HeldLevel>, f: FrameId, from: usize) -> usize
     requires { length (held_by (take from levels.now.items) f.0) < length (held_by levels.now.items f.0) }
-    ensures { IsNextOf f.0 levels.now.items from result }
+    ensures { IsNextLevel f.0 levels.now.items from result }
 {
     let mut place = from;
     while levels[place].frame.0 != f.0 {

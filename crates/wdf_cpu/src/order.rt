@@ -1,14 +1,14 @@
 //! Frames by their numbers, for the list of what a stuck run waits for.
-ghost use Rattle.std.specs.Prelude.{◌≡◌, Some, filter, option_map};
+ghost use Rattle.std.specs.Prelude.{◌≡◌, filter, option_map};
 ghost use Rattle.std.specs.List.{flat_map, range_with_len};
-ghost use Rattle.wdf_model.specs.Tables.{contains, ids_of, least, lesser};
+ghost use Rattle.wdf_model.specs.Tables.{contains, ids_of, least};
 ghost use Rattle.wdf_model.specs.parts.Cpus as cpus;
 ghost use Rattle.wdf_model.specs.rules.Waits.{above_in};
-ghost use Rattle.wdf_cpu.specs.Leasts.{lesser_if};
 
 use crate::cpus::Cpus;
 use crate::stack::Stack;
 use wdf_base::FrameId;
+use wdf_maps::lesser_if;
 
 impl Cpus {
     /// A number past those of the frames that run or are parked.
@@ -47,27 +47,7 @@ fn least_above_on(stack: &Stack, f: u32) -> Option<u32>
         if above == f {
             return least;
         }
-        least = Some(lesser(least, above));
+        least = lesser_if(least, Some(above));
     }
     None
-}
-
-/// The lesser of a number and what was found before.
-fn lesser(found: Option<u32>, number: u32) -> u32
-    ensures { Some result ≡ lesser found number }
-{
-    match found {
-        Some(other) if other <= number => other,
-        _ => number,
-    }
-}
-
-/// The lesser of two numbers, of which each may be wanting.
-fn lesser_if(found: Option<u32>, number: Option<u32>) -> Option<u32>
-    ensures { result ≡ lesser_if found number }
-{
-    match number {
-        Some(number) => Some(lesser(found, number)),
-        None => found,
-    }
 }

@@ -2,6 +2,7 @@
 use Rattle.std.proofs.Common.{◌≡◌, ℕ, zero, suc, ◌+◌, ◌==◌, ◌&&◌, ◌<◌, ◌≤◌, nat_lt, is_some, ◌++◌, add-one, Bool, true, false, List, [], ◌∷◌, Option, Some, None, fold, length, map, take, slice_get, slice_index_or, slice_set, option_map, refl, sym, ap, subst, ◌∙◌, arith}
 use Rattle.std.specs.List.{position_or_len}
 use Rattle.std.proofs.lemmas.List.Folds.{find_at}
+use Rattle.std.proofs.lemmas.Option.{slice_get-get_or}
 use Rattle.std.proofs.lemmas.List.{length-map, take_all}
 use Rattle.std.proofs.Math.Seq.{take-append_seam}
 use Rattle.wdf_base.specs.declared.ids.Handle.{Handle}
@@ -17,7 +18,6 @@ use Rattle.wdf_model.specs.agents.LowerTarget.{LowerTarget}
 use Rattle.wdf_model.specs.declared.entries.SentRequest.{SentRequest}
 use Rattle.wdf_dev.specs.Actions.{interrupt_in, is_due, IsWithin}
 use Rattle.wdf_model.proofs.Maps.{put_within}
-use Rattle.wdf_dev.proofs.Mapping.{there}
 use Rattle.wdf_model.proofs.Runs.{take_next}
 use Rattle.wdf_dev.proofs.Gathering.{fold_last, one_and}
 
@@ -35,7 +35,7 @@ acts H after xs k x what at e done a at' =
     done ∙ ap (model.act_on H) (sym e ∙ ap (λ (y : DeviceAction). y.action) same)
 
 pub at_is : (xs : List DeviceAction) (k : ℕ) (x : DeviceAction) → x ≡ slice_index_or xs k x → k < length xs → slice_get xs k ≡ Some x
-at_is xs k x e h = there xs k x h ∙ ap Some (sym e)
+at_is xs k x e h = slice_get-get_or xs k x h ∙ ap Some (sym e)
 
 -- ---- registers and level lines
 
@@ -193,7 +193,7 @@ pub one_more : (a : Access) (k : ℕ) (H W after : Device) (at : ℕ) → W ≡ 
     → ((l : DeviceAction) → slice_get W.actions at ≡ Some l → after ≡ model.at_once a k W l) → after ≡ fold (model.at_once a k) H (take (at + 1) H.actions)
 one_more a k H W after at so_far within does =
     let x = slice_index_or H.actions at blank in
-    let it : slice_get H.actions at ≡ Some x = there H.actions at blank within in
+    let it : slice_get H.actions at ≡ Some x = slice_get-get_or H.actions at blank within in
     let same : W.actions ≡ H.actions = ap (λ (D : Device). D.actions) so_far ∙ kept_actions a k H (take at H.actions) in
     let done = does x (ap (λ ls. slice_get ls at) same ∙ it) in
     done ∙ ap (λ D. model.at_once a k D x) so_far ∙ sym (rw (add-one, take_next H.actions at x it, fold_last) refl)

@@ -8,7 +8,6 @@ ghost use Rattle.wdf_dev.specs.Ahead.{ahead_of_actions};
 
 use crate::ahead::Ahead;
 use crate::device_lines::{actions_of, registers_of, room_for};
-use crate::least::lesser_if;
 use std::alloc::Global;
 use std::marker::Model;
 use wdf_base::{Access, Action, Event, Memory, ObjectId, Plan, Post, WhenLine};
@@ -127,11 +126,10 @@ fn first_due(now: u64, actions: &[DeviceAction]) -> usize
 fn least_later(now: u64, actions: &[DeviceAction]) -> Option<u64>
     ensures { result ≡ tables.least (filter_map (λ (l : DeviceAction). model.later_tick now l.tick) actions.now) }
 {
-    let mut least = None;
-    for k in 0..actions.len() {
-        least = lesser_if(least, later(now, actions[k].tick));
-    }
-    least
+    actions
+        .iter()
+        .filter_map(|action| later(now, action.tick))
+        .min()
 }
 
 /// The action at a place, if there is one.

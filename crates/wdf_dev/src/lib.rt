@@ -7,7 +7,6 @@ mod app;
 mod device;
 mod device_lines;
 mod laws;
-mod least;
 mod lower_target;
 mod pnp_manager;
 

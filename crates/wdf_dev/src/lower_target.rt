@@ -8,7 +8,6 @@ ghost use Rattle.wdf_model.specs.rules.Faults as faults;
 ghost use Rattle.wdf_dev.specs.Ahead.{ahead_of_sent};
 
 use crate::ahead::Ahead;
-use crate::least::lesser_if;
 use std::alloc::Global;
 use std::marker::Model;
 use wdf_base::{
@@ -135,11 +134,7 @@ fn later(now: u64, sent: &SentRequest) -> Option<u64>
 fn least_later(now: u64, sent: &[SentRequest]) -> Option<u64>
     ensures { result ≡ tables.least (filter_map (target.later_sent now) sent.now) }
 {
-    let mut least = None;
-    for k in 0..sent.len() {
-        least = lesser_if(least, later(now, &sent[k]));
-    }
-    least
+    sent.iter().filter_map(|request| later(now, request)).min()
 }
 
 /// The place of the first request that is due, or how many there are where none is.

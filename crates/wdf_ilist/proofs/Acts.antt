@@ -118,32 +118,45 @@ sound_unlinked r r' m m' ls x q place before after s kept at back there e f =
 
 -- ---- an item comes
 
+-- an item of a family is one of the tables
+item_within : (links : Inside) (family : Family) (x : ℕ) → family_in links ≡ family → x < family.items → x < length links.members.owners
+item_within links family x e h = subst (λ f. x < f.items) (sym e) h
+
 -- a count that grows fits
-pub count_fits : (r : Rings) (m : Members) (ls : List (List ℕ)) → AreSound r m ls → (x q : ℕ) → x < length m.owners → is_on_any x ls ≡ false → slice_index m.counts q + 1 < 2 ^ 32
+count_fits : (r : Rings) (m : Members) (ls : List (List ℕ)) → AreSound r m ls → (x q : ℕ) → x < length m.owners → is_on_any x ls ≡ false → slice_index m.counts q + 1 < 2 ^ 32
 count_fits r m ls s x q there off =
     let count : slice_index m.counts q + 1 ≤ length m.owners = count_room r m ls s x q there off in
     let places : 2 * length m.owners ≤ length r.next = s.room.places in
     let few : length r.next < 2 ^ 32 = s.room.few in
     omega arith
 
+pub count_may_grow : (links : Inside) (family : Family) (x q : ℕ) → family_in links ≡ family → IsSound links → x < family.items → is_on_any x family.lists ≡ false → slice_index links.members.counts q + 1 < 2 ^ 32
+count_may_grow links family x q e s there off = count_fits links.rings links.members family.lists (family_sound links family e s) x q (item_within links family x e there) off
+
 inserted_is : (r r' r'' : Rings) (x place before after : ℕ) → place ≡ place_of x → r' ≡ joined r before place → r'' ≡ joined r' place after → inserted r before x after ≡ r''
 inserted_is r r' r'' x place before after at e f =
     sym (f ∙ ap (λ p. joined r' p after) at ∙ ap (λ z. joined z (place_of x) after) (e ∙ ap (joined r before) at))
 
-pub sound_pushed_back : (r r' r'' : Rings) (m m' : Members) (ls : List (List ℕ)) (x q end place before : ℕ) → AreSound r m ls → q < length ls → x < length m.owners → is_on_any x ls ≡ false
-    → end ≡ end_of q → place ≡ place_of x → before ≡ previous_of r end → r' ≡ joined r before place → r'' ≡ joined r' place end → m' ≡ entered m q x
-    → AreSound r'' m' (slice_set ls q (list_at ls q ++ x ∷ []))
-sound_pushed_back r r' r'' m m' ls x q end place before s known there off at_end at back e f g =
+pub sound_pushed_back : (links : Inside) (family : Family) (r' r'' : Rings) (m' : Members) (x q end place before : ℕ) → family_in links ≡ family → IsSound links
+    → q < length family.lists → x < family.items → is_on_any x family.lists ≡ false → end ≡ end_of q → place ≡ place_of x → before ≡ previous_of links.rings end
+    → r' ≡ joined links.rings before place → r'' ≡ joined r' place end → m' ≡ entered links.members q x → AreSound r'' m' (slice_set family.lists q (list_at family.lists q ++ x ∷ []))
+sound_pushed_back links family r' r'' m' x q end place before view s known there off at_end at back e f g =
+    let r = links.rings in
+    let ls = family.lists in
     let from : before ≡ previous_of r (end_of q) = back ∙ ap (previous_of r) at_end in
     let rings : inserted r (previous_of r (end_of q)) x (end_of q) ≡ r'' = sym (ap (λ b. inserted r b x (end_of q)) from) ∙ ap (inserted r before x) (sym at_end) ∙ inserted_is r r' r'' x place before end at e f in
     subst (λ z. AreSound z m' (slice_set ls q (list_at ls q ++ x ∷ []))) rings
-    (subst (λ z. AreSound (inserted r (previous_of r (end_of q)) x (end_of q)) z (slice_set ls q (list_at ls q ++ x ∷ []))) (sym g) (sound_pushed r m ls x q s known there off))
+    (subst (λ z. AreSound (inserted r (previous_of r (end_of q)) x (end_of q)) z (slice_set ls q (list_at ls q ++ x ∷ []))) (sym g)
+    (sound_pushed r links.members ls x q (family_sound links family view s) known (item_within links family x view there) off))
 
-pub sound_pushed_front : (r r' r'' : Rings) (m m' : Members) (ls : List (List ℕ)) (x q end place after : ℕ) → AreSound r m ls → q < length ls → x < length m.owners → is_on_any x ls ≡ false
-    → end ≡ end_of q → place ≡ place_of x → after ≡ next_of r end → r' ≡ joined r end place → r'' ≡ joined r' place after → m' ≡ entered m q x
-    → AreSound r'' m' (slice_set ls q (x ∷ list_at ls q))
-sound_pushed_front r r' r'' m m' ls x q end place after s known there off at_end at next e f g =
+pub sound_pushed_front : (links : Inside) (family : Family) (r' r'' : Rings) (m' : Members) (x q end place after : ℕ) → family_in links ≡ family → IsSound links
+    → q < length family.lists → x < family.items → is_on_any x family.lists ≡ false → end ≡ end_of q → place ≡ place_of x → after ≡ next_of links.rings end
+    → r' ≡ joined links.rings end place → r'' ≡ joined r' place after → m' ≡ entered links.members q x → AreSound r'' m' (slice_set family.lists q (x ∷ list_at family.lists q))
+sound_pushed_front links family r' r'' m' x q end place after view s known there off at_end at next e f g =
+    let r = links.rings in
+    let ls = family.lists in
     let to : after ≡ next_of r (end_of q) = next ∙ ap (next_of r) at_end in
     let rings : inserted r (end_of q) x (next_of r (end_of q)) ≡ r'' = sym (ap (inserted r (end_of q) x) to) ∙ ap (λ b. inserted r b x after) (sym at_end) ∙ inserted_is r r' r'' x place end after at e f in
     subst (λ z. AreSound z m' (slice_set ls q (x ∷ list_at ls q))) rings
-    (subst (λ z. AreSound (inserted r (end_of q) x (next_of r (end_of q))) z (slice_set ls q (x ∷ list_at ls q))) (sym g) (sound_in_front r m ls x q s known there off))
+    (subst (λ z. AreSound (inserted r (end_of q) x (next_of r (end_of q))) z (slice_set ls q (x ∷ list_at ls q))) (sym g)
+    (sound_in_front r links.members ls x q (family_sound links family view s) known (item_within links family x view there) off))

@@ -1,5 +1,6 @@
 -- What the tables say of the lists goes on as items come and go.
-use Rattle.std.proofs.Common.{ℕ, suc, ◌≡◌, ◌≢◌, ◌⊎◌, ◌≤◌, ◌==◌, Bool, true, false, ◌||◌, List, length, refl, sym, subst, ap, ◌∙◌, inl, inr, arith}
+use Rattle.std.proofs.Common.{ℕ, suc, ◌≡◌, ◌≢◌, ◌⊎◌, ◌≤◌, ◌==◌, true, false, ◌||◌, List, length, refl, sym, subst, ap, ◌∙◌, inl, inr, arith}
+use Rattle.std.proofs.Math.Bool.{or-false}
 use Rattle.std.proofs.lemmas.Bool.{eq-eqb, ne_eqb, cases_eq}
 use Rattle.wdf_ilist.specs.Family.{is_on, without, are_distinct}
 use Rattle.wdf_ilist.specs.Places.{end_of, IsPath, IsLinked}
@@ -79,10 +80,6 @@ pub record Gains (lists lists' : ℕ → List ℕ) (x q : ℕ) : Type 0 where
   pub once : are_distinct (lists' q) ≡ true
   pub other : (p : ℕ) → p ≢ q → lists' p ≡ lists p
 
-or_false : (b : Bool) → (b || false) ≡ b
-or_false true = refl
-or_false false = refl
-
 pub linked_with : (next previous owner count next' previous' owner' count' : ℕ → ℕ) (items : ℕ) (lists lists' : ℕ → List ℕ) (x q : ℕ) → IsLinked next previous owner count items lists
     → Enters owner count owner' count' items x q → Gains lists lists' x q → ((p : ℕ) → IsPath next' previous' (end_of p) (lists' p) (end_of p))
     → IsLinked next' previous' owner' count' items lists'
@@ -112,7 +109,7 @@ linked_with next previous owner count next' previous' owner' count' items lists 
         subst (λ z. is_on y (lists' z) ≡ (owner' y == suc z)) (sym same) (subst (λ z. is_on z (lists' q) ≡ (owner' z == suc q)) (sym mine) here)
     owned p y (inl same) (inr other) =
         let it : (x == y) ≡ false = ne_eqb x y (λ e. other (sym e)) in
-        let here : is_on y (lists' q) ≡ (owner' y == suc q) = rw (gain.on y, it, l.owned q y, enter.owner_other y other) (or_false (owner y == suc q)) in
+        let here : is_on y (lists' q) ≡ (owner' y == suc q) = rw (gain.on y, it, l.owned q y, enter.owner_other y other) (or-false (owner y == suc q)) in
         subst (λ z. is_on y (lists' z) ≡ (owner' y == suc z)) (sym same) here
     owned p y (inr elsewhere) (inl mine) =
         let off : is_on x (lists p) ≡ false = off_each_list next previous owner count items lists l x enter.was p in

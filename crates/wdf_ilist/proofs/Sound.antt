@@ -1,5 +1,6 @@
 -- The tables go on to be linked as the lists say.
-use Rattle.std.proofs.Common.{ℕ, zero, suc, ◌≡◌, ◌≢◌, ◌⊎◌, ◌+◌, ◌-◌, ◌*◌, ◌<◌, ◌≤◌, ◌==◌, Bool, true, false, ◌||◌, List, [], ◌∷◌, ◌++◌, length, map, slice_index, slice_set, length-set, add-one, get_or-set_same, get_or-set_other, refl, sym, subst, ap, ◌∙◌, inl, inr, arith}
+use Rattle.std.proofs.Common.{ℕ, zero, suc, ◌≡◌, ◌≢◌, ◌⊎◌, ◌+◌, ◌-◌, ◌*◌, ◌<◌, ◌≤◌, ◌==◌, true, false, List, [], ◌∷◌, ◌++◌, length, map, slice_index, slice_set, length-set, add-one, get_or-set_same, get_or-set_other, refl, sym, subst, ap, ◌∙◌, inl, inr, arith}
+use Rattle.std.proofs.Math.Bool.{or_comm}
 use Rattle.std.proofs.lemmas.Bool.{ne_eqb, eqb-true, cases_eq, cases_lt}
 use Rattle.std.proofs.lemmas.List.{ext_get_or, get_or_past, length_push, length-map}
 use Rattle.std.proofs.lemmas.List.FromFn.{length-map-range_with_len, get_or-map-range_with_len}
@@ -11,7 +12,7 @@ use Rattle.wdf_ilist.specs.declared.members.Members.{Members}
 use Rattle.wdf_ilist.specs.declared.rings.Rings.{Rings}
 use Rattle.wdf_ilist.proofs.Items.{length_below, on_pushed, distinct_pushed, distinct_in_front}
 use Rattle.wdf_ilist.proofs.Lists.{off_each, map_at}
-use Rattle.wdf_ilist.proofs.Paths.{end_no_place, walk_path, first_link, first_other, last_other, last_link, around, Inserts, stays_at_back, grows_at_back, stays_at_front, grows_at_front}
+use Rattle.wdf_ilist.proofs.Paths.{end_no_place, walk_path, first_link, first_other, last_other, last_link, around, stays_at_back, grows_at_back, stays_at_front, grows_at_front}
 use Rattle.wdf_ilist.proofs.Changes.{on_its_list, off_each_list, Leaves, linked_without, Enters, Gains, linked_with}
 use Rattle.wdf_ilist.proofs.Joins.{room_joined, cuts_joined, inserted, room_inserted, inserts_inserted}
 
@@ -186,12 +187,6 @@ gains_pushed ls x q known off once =
       other = λ p other. get_or-set_other ls q p (list_at ls q ++ x ∷ []) [] other;
     }
 
-or_comm : (a b : Bool) → (a || b) ≡ (b || a)
-or_comm true true = refl
-or_comm true false = refl
-or_comm false true = refl
-or_comm false false = refl
-
 gains_in_front : (ls : List (List ℕ)) (x q : ℕ) → q < length ls → is_on x (list_at ls q) ≡ false → are_distinct (list_at ls q) ≡ true
     → Gains (list_at ls) (list_at (slice_set ls q (x ∷ list_at ls q))) x q
 gains_in_front ls x q known off once =
@@ -222,6 +217,15 @@ sound_with r m ls ls' before x after q s there known off as_many gains room ring
       room = room_alike (inserted r before x after) (length m.counts) (length m.owners) (length (entered m q x).counts) (length (entered m q x).owners) counts owners room;
     }
 
+-- the rings of all lists, where one list grew and the others are as they were
+ring_grown : (next previous : ℕ → ℕ) (ls : List (List ℕ)) (q : ℕ) (grown : List ℕ) → q < length ls → IsPath next previous (end_of q) grown (end_of q)
+    → ((p : ℕ) → p ≢ q → IsPath next previous (end_of p) (list_at ls p) (end_of p)) → (p : ℕ) → IsPath next previous (end_of p) (list_at (slice_set ls q grown) p) (end_of p)
+ring_grown next previous ls q grown known here others p = by_place (cases_eq p q)
+  where
+    by_place : (p ≡ q) ⊎ (p ≢ q) → IsPath next previous (end_of p) (list_at (slice_set ls q grown) p) (end_of p)
+    by_place (inl same) = rw (same, get_or-set_same ls q grown [] known) here
+    by_place (inr other) = rw (get_or-set_other ls q p grown [] other) (others p other)
+
 pub sound_pushed : (r : Rings) (m : Members) (ls : List (List ℕ)) (x q : ℕ) → AreSound r m ls → q < length ls → x < length m.owners → is_on_any x ls ≡ false
     → AreSound (inserted r (previous_of r (end_of q)) x (end_of q)) (entered m q x) (slice_set ls q (list_at ls q ++ x ∷ []))
 sound_pushed r m ls x q s known there off =
@@ -234,25 +238,16 @@ sound_pushed r m ls x q s known there off =
     let link : next_of r (previous_of r (end_of q)) ≡ end_of q = last_link (next_of r) (previous_of r) (end_of q) (list_at ls q) (end_of q) (s.linked.ring q) in
     let new = last_other (next_of r) (previous_of r) (end_of q) x (list_at ls q) (end_of q) (s.linked.ring q) (end_no_place q x) (off_each x ls q off) in
     let i = inserts_inserted r (length m.counts) (length m.owners) (previous_of r (end_of q)) x (end_of q) s.room from here to link refl new (end_no_place q x) in
+    let grown = grows_at_back (next_of r) (previous_of r) (next_of after) (previous_of after) (previous_of r (end_of q)) x q i (end_of q) (list_at ls q) (s.linked.ring q) (end_no_place q x) (off_each x ls q off) in
     sound_with r m ls (slice_set ls q (list_at ls q ++ x ∷ [])) (previous_of r (end_of q)) x (end_of q) q s there (omega arith) off (length-set ls q (list_at ls q ++ x ∷ []))
     (gains_pushed ls x q known (off_each x ls q off) (s.linked.once q)) (room_inserted r (length m.counts) (length m.owners) (previous_of r (end_of q)) x (end_of q) s.room from here to)
-    (λ p. ring i p (cases_eq p q))
+    (ring_grown (next_of after) (previous_of after) ls q (list_at ls q ++ x ∷ []) known grown
+    (λ p other.
+    let apart : end_of p ≢ end_of q = λ e. other (omega arith) in
+    stays_at_back (next_of r) (previous_of r) (next_of after) (previous_of after) (previous_of r (end_of q)) x q i (end_of p) (list_at ls p) (end_of p) (s.linked.ring p) apart (end_no_place p x) (end_no_place p x) (off_each x ls p off)))
   where
     after : Rings
     after = inserted r (previous_of r (end_of q)) x (end_of q)
-
-    ring : Inserts (next_of r) (previous_of r) (next_of after) (previous_of after) (previous_of r (end_of q)) x (end_of q) → (p : ℕ) → (p ≡ q) ⊎ (p ≡ q → ⊥)
-        → IsPath (next_of after) (previous_of after) (end_of p) (list_at (slice_set ls q (list_at ls q ++ x ∷ [])) p) (end_of p)
-    ring i p (inl same) =
-        let it : list_at (slice_set ls q (list_at ls q ++ x ∷ [])) q ≡ list_at ls q ++ x ∷ [] = get_or-set_same ls q (list_at ls q ++ x ∷ []) [] known in
-        let grown = grows_at_back (next_of r) (previous_of r) (next_of after) (previous_of after) (previous_of r (end_of q)) x q i (end_of q) (list_at ls q) (s.linked.ring q) (end_no_place q x) (off_each x ls q off) in
-        subst (λ z. IsPath (next_of after) (previous_of after) (end_of z) (list_at (slice_set ls q (list_at ls q ++ x ∷ [])) z) (end_of z)) (sym same)
-        (subst (λ z. IsPath (next_of after) (previous_of after) (end_of q) z (end_of q)) (sym it) grown)
-    ring i p (inr other) =
-        let it : list_at (slice_set ls q (list_at ls q ++ x ∷ [])) p ≡ list_at ls p = get_or-set_other ls q p (list_at ls q ++ x ∷ []) [] other in
-        let apart : end_of p ≢ end_of q = λ e. other (omega arith) in
-        let kept = stays_at_back (next_of r) (previous_of r) (next_of after) (previous_of after) (previous_of r (end_of q)) x q i (end_of p) (list_at ls p) (end_of p) (s.linked.ring p) apart (end_no_place p x) (end_no_place p x) (off_each x ls p off) in
-        subst (λ z. IsPath (next_of after) (previous_of after) (end_of p) z (end_of p)) (sym it) kept
 
 pub sound_in_front : (r : Rings) (m : Members) (ls : List (List ℕ)) (x q : ℕ) → AreSound r m ls → q < length ls → x < length m.owners → is_on_any x ls ≡ false
     → AreSound (inserted r (end_of q) x (next_of r (end_of q))) (entered m q x) (slice_set ls q (x ∷ list_at ls q))
@@ -266,22 +261,13 @@ sound_in_front r m ls x q s known there off =
     let link : previous_of r (next_of r (end_of q)) ≡ end_of q = first_link (next_of r) (previous_of r) (end_of q) (list_at ls q) (end_of q) (s.linked.ring q) in
     let new = first_other (next_of r) (previous_of r) (end_of q) x (list_at ls q) (end_of q) (s.linked.ring q) (end_no_place q x) (off_each x ls q off) in
     let i = inserts_inserted r (length m.counts) (length m.owners) (end_of q) x (next_of r (end_of q)) s.room from here to refl link (end_no_place q x) new in
+    let grown = grows_at_front (next_of r) (previous_of r) (next_of after) (previous_of after) q x (next_of r (end_of q)) i (list_at ls q) (s.linked.ring q) (off_each x ls q off) in
     sound_with r m ls (slice_set ls q (x ∷ list_at ls q)) (end_of q) x (next_of r (end_of q)) q s there (omega arith) off (length-set ls q (x ∷ list_at ls q))
     (gains_in_front ls x q known (off_each x ls q off) (s.linked.once q)) (room_inserted r (length m.counts) (length m.owners) (end_of q) x (next_of r (end_of q)) s.room from here to)
-    (λ p. ring i p (cases_eq p q))
+    (ring_grown (next_of after) (previous_of after) ls q (x ∷ list_at ls q) known grown
+    (λ p other.
+    let apart : end_of p ≢ end_of q = λ e. other (omega arith) in
+    stays_at_front (next_of r) (previous_of r) (next_of after) (previous_of after) q x (next_of r (end_of q)) i (end_of p) (list_at ls p) (end_of p) (s.linked.ring p) apart (end_no_place p x) (end_no_place p x) (off_each x ls p off)))
   where
     after : Rings
     after = inserted r (end_of q) x (next_of r (end_of q))
-
-    ring : Inserts (next_of r) (previous_of r) (next_of after) (previous_of after) (end_of q) x (next_of r (end_of q)) → (p : ℕ) → (p ≡ q) ⊎ (p ≡ q → ⊥)
-        → IsPath (next_of after) (previous_of after) (end_of p) (list_at (slice_set ls q (x ∷ list_at ls q)) p) (end_of p)
-    ring i p (inl same) =
-        let it : list_at (slice_set ls q (x ∷ list_at ls q)) q ≡ x ∷ list_at ls q = get_or-set_same ls q (x ∷ list_at ls q) [] known in
-        let grown = grows_at_front (next_of r) (previous_of r) (next_of after) (previous_of after) q x (next_of r (end_of q)) i (list_at ls q) (s.linked.ring q) (off_each x ls q off) in
-        subst (λ z. IsPath (next_of after) (previous_of after) (end_of z) (list_at (slice_set ls q (x ∷ list_at ls q)) z) (end_of z)) (sym same)
-        (subst (λ z. IsPath (next_of after) (previous_of after) (end_of q) z (end_of q)) (sym it) grown)
-    ring i p (inr other) =
-        let it : list_at (slice_set ls q (x ∷ list_at ls q)) p ≡ list_at ls p = get_or-set_other ls q p (x ∷ list_at ls q) [] other in
-        let apart : end_of p ≢ end_of q = λ e. other (omega arith) in
-        let kept = stays_at_front (next_of r) (previous_of r) (next_of after) (previous_of after) q x (next_of r (end_of q)) i (end_of p) (list_at ls p) (end_of p) (s.linked.ring p) apart (end_no_place p x) (end_no_place p x) (off_each x ls p off) in
-        subst (λ z. IsPath (next_of after) (previous_of after) (end_of p) z (end_of p)) (sym it) kept

@@ -1,5 +1,6 @@
 pub mod Readers
 pub mod Waking
+pub mod Walking
 pub mod Least
 pub mod Listing
 pub mod Low

@@ -1,5 +1,6 @@
 -- The lists of the requests that are held, by device.
 use Rattle.std.proofs.Common.{◌≡◌, ◌≢◌, ◌⊎◌, inl, inr, ℕ, zero, suc, ◌<◌, Bool, true, false, ◌==◌, not, ◌&&◌, ◌||◌, List, [], ◌∷◌, ◌++◌, length, map, slice_set, get_or-set_same, Some, None, replicate, refl, sym, ap, ◌∙◌}
+use Rattle.std.proofs.Math.Bool.{and-false, and-true, or-false}
 use Rattle.std.proofs.lemmas.Bool.{and_parts, cases_eq, cases_lt, eq-eqb, eqb-true, ne_eqb}
 use Rattle.std.proofs.lemmas.List.{get_or-set_other, length-replicate}
 use Rattle.wdf_model.specs.declared.entries.Holding.{Holding}
@@ -7,12 +8,12 @@ use Rattle.wdf_model.specs.declared.entries.QueuePower.{QueuePower}
 use Rattle.wdf_model.specs.Tables.{entry, put}
 use Rattle.wdf_model.specs.parts.Power.{Power, is_held, is_held_at, is_unsettled_at, no_holding, woken}
 use Rattle.wdf_model.proofs.Counts.{one_or_two}
-use Rattle.wdf_model.proofs.Maps.{entry_past, entry_put_other, entry_put_same}
+use Rattle.wdf_model.proofs.Maps.{entry_map, entry_past, entry_put_other, entry_put_same}
 use Rattle.wdf_ilist.specs.Family.{Family, is_on, is_on_any, list_at, without}
 use Rattle.wdf_ilist.proofs.Items.{off_without, on_without, on_pushed}
 use Rattle.wdf_ilist.proofs.Lists.{map_at, off_all}
-use Rattle.wdf_power.specs.Kept.{AreListed}
-use Rattle.wdf_power.specs.Power.{device_at, held_list, is_list, list_of, IsMoved}
+use Rattle.wdf_power.specs.Held.{AreListed}
+use Rattle.wdf_power.specs.Power.{device_at, held_list, is_list, device_list, IsMoved}
 
 -- ---- a request is on another list
 
@@ -29,29 +30,17 @@ free_left lists r = off_all r (map (without r) lists) (λ l. off_left lists r l)
 pub moved_off : (lists : List (List ℕ)) (r : ℕ) → IsMoved lists (map (without r) lists) r None
 moved_off lists r = record { here = λ l. off_left lists r l; others = λ k l ne. on_left lists r k l ne }
 
-or_false : (b : Bool) → (b || false) ≡ b
-or_false true = refl
-or_false false = refl
-
 -- the lists after a push
 pushed_on : (lists : List (List ℕ)) (t r k l : ℕ) → t < length lists → (l ≡ t) ⊎ (l ≢ t)
     → is_on k (list_at (slice_set lists t (list_at lists t ++ r ∷ [])) l) ≡ (is_on k (list_at lists l) || ((r == k) && (t == l)))
 pushed_on lists t r k l h (inl e) =
     let same : (t == t) ≡ true = eq-eqb t t refl in
-    let both : ((r == k) && true) ≡ (r == k) = and_true (r == k) in
+    let both : ((r == k) && true) ≡ (r == k) = and-true (r == k) in
     rw e (ap (is_on k) (get_or-set_same lists t (list_at lists t ++ r ∷ []) [] h) ∙ on_pushed r k (list_at lists t) ∙ ap (λ b. is_on k (list_at lists t) || b) (sym both ∙ ap (λ b. (r == k) && b) (sym same)))
-  where
-    and_true : (b : Bool) → (b && true) ≡ b
-    and_true true = refl
-    and_true false = refl
 pushed_on lists t r k l h (inr ne) =
     let differs : (t == l) ≡ false = ne_eqb t l (λ e. ne (sym e)) in
-    let none : ((r == k) && false) ≡ false = and_false (r == k) in
-    ap (is_on k) (get_or-set_other lists t l (list_at lists t ++ r ∷ []) [] ne) ∙ sym (or_false (is_on k (list_at lists l))) ∙ ap (λ b. is_on k (list_at lists l) || b) (sym none ∙ ap (λ b. (r == k) && b) (sym differs))
-  where
-    and_false : (b : Bool) → (b && false) ≡ false
-    and_false true = refl
-    and_false false = refl
+    let none : ((r == k) && false) ≡ false = and-false (r == k) in
+    ap (is_on k) (get_or-set_other lists t l (list_at lists t ++ r ∷ []) [] ne) ∙ sym (or-false (is_on k (list_at lists l))) ∙ ap (λ b. is_on k (list_at lists l) || b) (sym none ∙ ap (λ b. (r == k) && b) (sym differs))
 
 moved_here : (lists : List (List ℕ)) (r t l : ℕ) → t < length lists → is_on r (list_at lists l) ≡ false → is_on r (list_at (slice_set lists t (list_at lists t ++ r ∷ [])) l) ≡ (t == l)
 moved_here lists r t l h off =
@@ -61,7 +50,7 @@ moved_here lists r t l h off =
 moved_other : (lists : List (List ℕ)) (r t k l : ℕ) → t < length lists → k ≢ r → is_on k (list_at (slice_set lists t (list_at lists t ++ r ∷ [])) l) ≡ is_on k (list_at lists l)
 moved_other lists r t k l h ne =
     let differs : (r == k) ≡ false = ne_eqb r k (λ e. ne (sym e)) in
-    pushed_on lists t r k l h (cases_eq l t) ∙ (ap (λ b. is_on k (list_at lists l) || (b && (t == l))) differs ∙ or_false (is_on k (list_at lists l)))
+    pushed_on lists t r k l h (cases_eq l t) ∙ (ap (λ b. is_on k (list_at lists l) || (b && (t == l))) differs ∙ or-false (is_on k (list_at lists l)))
 
 -- on list t
 pub moved_on : (lists left : List (List ℕ)) (r t : ℕ) → left ≡ map (without r) lists → t < length left → IsMoved lists (slice_set left t (list_at left t ++ r ∷ [])) r (Some t)
@@ -95,33 +84,28 @@ kept_queue P d h = kept_queue_by P d h (is_held_at P d h) refl
 pub same_list : (qs : List QueuePower) (h g : Holding) → h.queue ≡ g.queue → held_list qs h ≡ held_list qs g
 same_list qs h g e = rw e refl
 
-entry_mapped : (g : Holding → Holding) (hs : List Holding) (k : ℕ) → g no_holding ≡ no_holding → entry no_holding (map g hs) k ≡ g (entry no_holding hs k)
-entry_mapped g [] k e = sym e
-entry_mapped g (h ∷ hs) zero e = refl
-entry_mapped g (h ∷ hs) (suc k) e = entry_mapped g hs k e
-
 pub listed_woken : (P : Power) (d : ℕ) (lists : List (List ℕ)) → AreListed P.queues P.holdings lists → AreListed P.queues (map (woken P d) P.holdings) lists
 listed_woken P d lists a =
     record {
       on = λ r l.
           let h = entry no_holding P.holdings r in
           let same : held_list P.queues (woken P d h) ≡ held_list P.queues h = same_list P.queues (woken P d h) h (kept_queue P d h) in
-          a.on r l ∙ ap (is_list l) (sym same ∙ ap (held_list P.queues) (sym (entry_mapped (woken P d) P.holdings r refl)));
+          a.on r l ∙ ap (is_list l) (sym same ∙ ap (held_list P.queues) (sym (entry_map no_holding P.holdings (woken P d) r refl)));
     }
 
 -- ---- who is on a list
 
 -- a request that is held at a device is on its list
-pub on_own : (P : Power) (d r : ℕ) (lists : List (List ℕ)) → AreListed P.queues P.holdings lists → is_held_at P d (entry no_holding P.holdings r) ≡ true → is_on r (list_at lists (list_of d)) ≡ true
+pub on_own : (P : Power) (d r : ℕ) (lists : List (List ℕ)) → AreListed P.queues P.holdings lists → is_held_at P d (entry no_holding P.holdings r) ≡ true → is_on r (list_at lists (device_list d)) ≡ true
 on_own P d r lists a e =
     let h = entry no_holding P.holdings r in
-    a.on r (list_of d) ∙ own P d h (is_held h) refl e
+    a.on r (device_list d) ∙ own P d h (is_held h) refl e
   where
-    own : (P : Power) (d : ℕ) (h : Holding) (b : Bool) → is_held h ≡ b → is_held_at P d h ≡ true → is_list (list_of d) (held_list P.queues h) ≡ true
+    own : (P : Power) (d : ℕ) (h : Holding) (b : Bool) → is_held h ≡ b → is_held_at P d h ≡ true → is_list (device_list d) (held_list P.queues h) ≡ true
     own P d h true b e =
         let here : ((device_at P.queues h).0 == d) ≡ true = ap (λ c. c && ((device_at P.queues h).0 == d)) (sym b) ∙ e in
         let device : (device_at P.queues h).0 ≡ d = eqb-true (device_at P.queues h).0 d here in
-        rw (b, device) (eq-eqb (list_of d) (list_of d) refl)
+        rw (b, device) (eq-eqb (device_list d) (device_list d) refl)
     own P d h false b e = absurd (let z : ⊥ = cc in z)
 
 -- who is held has an entry
@@ -152,8 +136,8 @@ lists_made F n m e = rw e (length-replicate n [])
 unsettled_parts : (P : Power) (d : ℕ) (h : Holding) → is_unsettled_at P d h ≡ true → is_held_at P d h ≡ true
 unsettled_parts P d h e = (and_parts (is_held_at P d h) (not h.acknowledged) e).0
 
-pub unsettled_on : (P : Power) (d : ℕ) (lists : List (List ℕ)) → AreListed P.queues P.holdings lists → (r : ℕ) → is_unsettled_at P d (entry no_holding P.holdings r) ≡ true → is_on r (list_at lists (list_of d)) ≡ true
+pub unsettled_on : (P : Power) (d : ℕ) (lists : List (List ℕ)) → AreListed P.queues P.holdings lists → (r : ℕ) → is_unsettled_at P d (entry no_holding P.holdings r) ≡ true → is_on r (list_at lists (device_list d)) ≡ true
 unsettled_on P d lists a r e = on_own P d r lists a (unsettled_parts P d (entry no_holding P.holdings r) e)
 
 pub unsettled_there : (P : Power) (d : ℕ) (lists : List (List ℕ)) → AreListed P.queues P.holdings lists → (r : ℕ) → is_unsettled_at P d (entry no_holding P.holdings r) ≡ true → r < length P.holdings
-unsettled_there P d lists a r e = listed_there P.queues P.holdings r (list_of d) (sym (a.on r (list_of d)) ∙ unsettled_on P d lists a r e)
+unsettled_there P d lists a r e = listed_there P.queues P.holdings r (device_list d) (sym (a.on r (device_list d)) ∙ unsettled_on P d lists a r e)

@@ -1,31 +1,11 @@
 -- The least of the items of a list that pass a test, one item after the other.
-use Rattle.std.proofs.Common.{if◌then◌else◌, ◌≡◌, ◌⊎◌, inl, inr, ℕ, zero, suc, ◌+◌, ◌<◌, ◌≤◌, nat_le, Bool, true, false, ◌==◌, ◌||◌, List, [], ◌∷◌, ◌++◌, length, take, slice_get, Option, Some, None, filter, refl, sym, ap, ◌∙◌, arith, leb-true, leb-false}
+use Rattle.std.proofs.Common.{if◌then◌else◌, ◌≡◌, ◌⊎◌, inl, inr, ℕ, ◌+◌, ◌<◌, ◌≤◌, nat_le, Bool, true, false, ◌==◌, List, [], ◌∷◌, ◌++◌, Option, Some, None, filter, refl, sym, ap, ◌∙◌, arith, leb-true, leb-false}
 use Rattle.std.specs.List.{range_with_len}
-use Rattle.std.proofs.lemmas.Bool.{cases_Bool, eqb-true}
+use Rattle.std.proofs.lemmas.Bool.{cases_Bool, eqb-true, or_cases}
 use Rattle.wdf_model.specs.Tables.{least, lesser}
 use Rattle.wdf_ilist.specs.Family.{is_on}
 use Rattle.wdf_ilist.proofs.Items.{on_pushed}
 use Rattle.wdf_power.proofs.Least.{first_is_least, least_of_none}
-
--- ---- places of a list
-
-pub take_one_more : (xs : List ℕ) (k x : ℕ) → slice_get xs k ≡ Some x → take (k + 1) xs ≡ take k xs ++ x ∷ []
-take_one_more [] k x e = absurd (let z : ⊥ = cc in z)
-take_one_more (y ∷ ys) zero x e = let same : y ≡ x = cc in ap (λ z. z ∷ []) same
-take_one_more (y ∷ ys) (suc k) x e = let step : suc k + 1 ≡ suc (k + 1) = omega arith in rw step (ap (λ zs. y ∷ zs) (take_one_more ys k x e))
-
-pub take_past : (xs : List ℕ) (k : ℕ) → length xs ≤ k → take k xs ≡ xs
-take_past [] zero h = refl
-take_past [] (suc k) h = refl
-take_past (y ∷ ys) zero h = absurd (omega arith)
-take_past (y ∷ ys) (suc k) h = ap (λ zs. y ∷ zs) (take_past ys k (omega arith))
-
-pub there : (xs : List ℕ) (k : ℕ) → k < length xs → slice_get xs k ≡ None → ⊥
-there [] k h e = omega arith
-there (y ∷ ys) zero h e = let z : ⊥ = cc in z
-there (y ∷ ys) (suc k) h e = there ys k (omega arith) e
-
--- ---- the least of those that pass
 
 -- what was found is the least of the items that pass
 abbrev pub IsLow : (ℕ → Bool) → List ℕ → Option ℕ → Type 0
@@ -35,14 +15,10 @@ IsLow p xs (Some m) = (p m ≡ true) × ((x : ℕ) → is_on x xs ≡ true → p
 pub low_none : (p : ℕ → Bool) → IsLow p [] None
 low_none p = λ x h. absurd (let z : ⊥ = cc in z)
 
-pub either : (a b : Bool) → (a || b) ≡ true → (a ≡ true) ⊎ (b ≡ true)
-either true b h = inl refl
-either false b h = inr h
-
 -- an item of a longer list
 pub one_of : (x r : ℕ) (xs : List ℕ) → is_on x (xs ++ r ∷ []) ≡ true → (is_on x xs ≡ true) ⊎ (x ≡ r)
 one_of x r xs h =
-    elim (either (is_on x xs) (r == x) (sym (on_pushed r x xs) ∙ h)) [ inl a ↦ inl a | inr b ↦ inr (sym (eqb-true r x b)) ]
+    elim (or_cases (is_on x xs) (r == x) (sym (on_pushed r x xs) ∙ h)) [ inl a ↦ inl a | inr b ↦ inr (sym (eqb-true r x b)) ]
 
 pub low_fails : (p : ℕ → Bool) (xs : List ℕ) (r : ℕ) (found : Option ℕ) → p r ≡ false → IsLow p xs found → IsLow p (xs ++ r ∷ []) found
 low_fails p xs r None e low = λ x h. elim (one_of x r xs h) [ inl a ↦ low x a | inr b ↦ ap p b ∙ e ]

@@ -7,8 +7,8 @@ use Rattle.wdf_model.specs.parts.Power.{Power, is_held_at, no_holding, woken}
 use Rattle.wdf_model.proofs.Counts.{one_or_two}
 use Rattle.wdf_model.proofs.Maps.{entry_put_other, entry_put_same}
 use Rattle.wdf_ilist.specs.Family.{is_on, list_at}
-use Rattle.wdf_power.specs.Kept.{AreListed}
-use Rattle.wdf_power.specs.Power.{held_list, is_list, list_of}
+use Rattle.wdf_power.specs.Held.{AreListed}
+use Rattle.wdf_power.specs.Power.{held_list, is_list, device_list}
 use Rattle.wdf_power.proofs.Low.{one_of}
 use Rattle.wdf_power.proofs.Listing.{kept_queue, listed_there, on_own, same_list}
 
@@ -86,7 +86,7 @@ asleep_none P d h e = rw e refl
 held_as : (P : Power) (d : ℕ) (h g : Holding) → h.queue ≡ g.queue → is_held_at P d h ≡ is_held_at P d g
 held_as P d h g e = rw e refl
 
-awake_by_list : (P now : Power) (d k : ℕ) (xs : List ℕ) (lists : List (List ℕ)) → Waking P now d xs → AreListed P.queues P.holdings lists → xs ≡ list_at lists (list_of d)
+awake_by_list : (P now : Power) (d k : ℕ) (xs : List ℕ) (lists : List (List ℕ)) → Waking P now d xs → AreListed P.queues P.holdings lists → xs ≡ list_at lists (device_list d)
     → (is_held_at P d (entry no_holding now.holdings k) ≡ true) ⊎ (is_held_at P d (entry no_holding now.holdings k) ≡ false)
     → woken P d (entry no_holding now.holdings k) ≡ entry no_holding now.holdings k
 awake_by_list P now d k xs lists w a e (inl held) =
@@ -94,7 +94,7 @@ awake_by_list P now d k xs lists w a e (inl held) =
     w.awake k (ap (is_on k) e ∙ on_own P d k lists a own)
 awake_by_list P now d k xs lists w a e (inr free) = asleep_none P d (entry no_holding now.holdings k) free
 
-pub waking_all : (P now : Power) (d : ℕ) (xs : List ℕ) (lists : List (List ℕ)) → Waking P now d xs → AreListed P.queues P.holdings lists → xs ≡ list_at lists (list_of d)
+pub waking_all : (P now : Power) (d : ℕ) (xs : List ℕ) (lists : List (List ℕ)) → Waking P now d xs → AreListed P.queues P.holdings lists → xs ≡ list_at lists (device_list d)
     → now ≡ record P { holdings = map (woken P d) P.holdings }
 waking_all P now d xs lists w a e =
     let all : map (woken P d) now.holdings ≡ now.holdings = map_fixed (woken P d) no_holding now.holdings (λ k l. awake_by_list P now d k xs lists w a e (cases_Bool (is_held_at P d (entry no_holding now.holdings k)))) in

@@ -34,12 +34,12 @@ opening_holdings plan = record (opening_power plan) { devices = [] }
 -- ---- the lists of the requests that are held, by device
 
 -- the list of a device; that of all ids that no device can have is one
-abbrev pub list_of : ℕ → ℕ
-list_of d = min d OBJECTS
+abbrev pub device_list : ℕ → ℕ
+device_list d = min d OBJECTS
 
 -- the list that a request is on, none where it isn't held
 abbrev pub held_list : List QueuePower → Holding → Option ℕ
-held_list queues h = if is_held h then Some (list_of (device_at queues h).0) else None
+held_list queues h = if is_held h then Some (device_list (device_at queues h).0) else None
 
 -- whether there is a list, and it is this one
 abbrev pub is_list : ℕ → Option ℕ → Bool

@@ -1,10 +1,10 @@
 ghost use Rattle.std.specs.Prelude.{◌≡◌, ◌<◌, ◌≤◌, IfOk, IfSome, Some, count_by, if◌then◌else◌, length, map, option_map};
 ghost use Rattle.std.specs.List.{list_any};
 ghost use Rattle.wdf_counts.specs.Counts.{is_at};
-ghost use Rattle.wdf_model.specs.Tables.{entry, least, lesser as lesser_of, put};
+ghost use Rattle.wdf_model.specs.Tables.{entry, least, lesser, put};
 ghost use Rattle.wdf_model.specs.parts.Power as power;
-ghost use Rattle.wdf_power.specs.Kept.{AreListed};
-ghost use Rattle.wdf_power.specs.Power as kept;
+ghost use Rattle.wdf_power.specs.Held.{AreListed};
+ghost use Rattle.wdf_power.specs.Power.{device_list, due_at, held_list, opening_holdings, unsettled_at};
 
 use crate::opening::opening_queues;
 use std::alloc::Global;
@@ -12,7 +12,7 @@ use std::marker::Model;
 use wdf_base::{Memory, ObjectId, Plan};
 use wdf_counts::Counts;
 use wdf_ilist::Links;
-use wdf_maps::{entry_at, put_at};
+use wdf_maps::{entry_at, lesser_if, put_at};
 use wdf_model::{Holding, OBJECTS, QueuePower};
 
 /// Of a queue that there isn't.
@@ -49,11 +49,11 @@ impl Model for Holdings {
 
     ghost Value = { power.Power };
 
-    ghost use Rattle.wdf_power.specs.Kept.{holdings_in, AreSound};
+    ghost use Rattle.wdf_power.specs.Held.{holdings_in, IsSound};
 
     ghost view = { holdings_in };
 
-    ghost invariant = { AreSound };
+    ghost invariant = { IsSound };
 }
 
 /// Whether a request is held.
@@ -65,7 +65,7 @@ pub(crate) fn is_held(holding: &Holding) -> bool
 
 /// The device at which a request is held and isn't acknowledged.
 fn unsettled_at(queues: &[QueuePower], holding: &Holding) -> Option<ObjectId>
-    ensures { result ≡ kept.unsettled_at queues.now holding.now }
+    ensures { result ≡ unsettled_at queues.now holding.now }
 {
     if is_held(holding) && !holding.acknowledged {
         Some(entry_at(queues, NO_QUEUE_POWER, holding.queue.0).device)
@@ -76,7 +76,7 @@ fn unsettled_at(queues: &[QueuePower], holding: &Holding) -> Option<ObjectId>
 
 /// The device at which a resume is due for a request.
 fn due_at(queues: &[QueuePower], holding: &Holding) -> Option<ObjectId>
-    ensures { result ≡ kept.due_at queues.now holding.now }
+    ensures { result ≡ due_at queues.now holding.now }
 {
     if is_held(holding) && holding.resume_due {
         Some(entry_at(queues, NO_QUEUE_POWER, holding.queue.0).device)
@@ -87,7 +87,7 @@ fn due_at(queues: &[QueuePower], holding: &Holding) -> Option<ObjectId>
 
 /// Whether a resume is due for some request of a device, by a look at all of them.
 fn some_due(queues: &[QueuePower], holdings: &[Holding], d: ObjectId) -> bool
-    ensures { result ≡ list_any (λ h. is_at d.0 (kept.due_at queues.now h)) holdings.now }
+    ensures { result ≡ list_any (λ h. is_at d.0 (due_at queues.now h)) holdings.now }
 {
     holdings
         .iter()
@@ -96,7 +96,7 @@ fn some_due(queues: &[QueuePower], holdings: &[Holding], d: ObjectId) -> bool
 
 /// How many requests of a device are held and not acknowledged, by a look at all of them.
 fn count_unsettled(queues: &[QueuePower], holdings: &[Holding], d: ObjectId) -> usize
-    ensures value { result ≡ count_by (λ h. is_at d.0 (kept.unsettled_at queues.now h)) holdings.now }
+    ensures value { result ≡ count_by (λ h. is_at d.0 (unsettled_at queues.now h)) holdings.now }
     ensures small { result ≤ length holdings.now }
 {
     holdings
@@ -116,27 +116,17 @@ fn is_at(d: ObjectId, device: Option<ObjectId>) -> bool
 }
 
 /// The list of the requests that are held at a device; those of all ids that no device can have are on one.
-pub(crate) fn list_of(device: ObjectId) -> u32
-    ensures value { result ≡ kept.list_of device.0 }
+pub(crate) fn device_list(device: ObjectId) -> u32
+    ensures value { result ≡ device_list device.0 }
     ensures small { result ≤ OBJECTS }
 {
     device.0.min(OBJECTS)
 }
 
-/// The lesser of what was found and one more.
-fn lesser(found: Option<u32>, r: u32) -> Option<u32>
-    ensures { result ≡ lesser_of found r }
-{
-    match found {
-        Some(other) if other <= r => Some(other),
-        _ => Some(r),
-    }
-}
-
 impl Holdings {
     /// Nothing is held, from any queue of the plan. It takes all the memory that the run needs.
     pub(crate) fn make(alloc: Global, plan: &Plan) -> Result<Holdings, Memory>
-        ensures { IfOk result (λ made. made ≡ kept.opening_holdings plan.now) }
+        ensures { IfOk result (λ made. made ≡ opening_holdings plan.now) }
     {
         Ok(Holdings {
             queues: opening_queues(alloc, plan)?,
@@ -154,14 +144,14 @@ impl Holdings {
     }
 
     /// The list that a request is on, none where it isn't held.
-    pub(crate) fn list_of(&self, holding: &Holding) -> Option<u32>
-        ensures value { result ≡ kept.held_list self.now.queues holding.now }
+    pub(crate) fn held_list(&self, holding: &Holding) -> Option<u32>
+        ensures value { result ≡ held_list self.now.queues holding.now }
         ensures small { IfSome result (λ l. l ≤ OBJECTS) }
     {
         if !is_held(holding) {
             return None;
         }
-        Some(list_of(entry_at(&self.queues, NO_QUEUE_POWER, holding.queue.0).device))
+        Some(device_list(entry_at(&self.queues, NO_QUEUE_POWER, holding.queue.0).device))
     }
 
     /// Writes how far a request has come.
@@ -213,10 +203,10 @@ impl Holdings {
 
     /// The lesser of what was found and a request, where that is unsettled at a device.
     fn lesser_unsettled(&self, d: ObjectId, found: Option<u32>, r: u32) -> Option<u32>
-        ensures { result ≡ (if power.is_unsettled_at self.now d.0 (power.holding_of self.now r) then lesser_of found r else found) }
+        ensures { result ≡ (if power.is_unsettled_at self.now d.0 (power.holding_of self.now r) then lesser found r else found) }
     {
         if self.is_unsettled_at(d, ObjectId(r)) {
-            lesser(found, r)
+            lesser_if(found, Some(r))
         } else {
             found
         }
@@ -228,7 +218,7 @@ impl Holdings {
         requires { AreListed self.now.queues self.now.holdings held.now.lists }
         ensures { result ≡ least (power.unsettled self.now d.0) }
     {
-        let list = list_of(d);
+        let list = device_list(d);
         let mut found = None;
         let mut next = held.front(list);
         for _ in 0..held.len(list) {
@@ -267,7 +257,7 @@ impl Holdings {
         requires items { held.now.items ≡ OBJECTS }
         ensures { self.new ≡ power.wake_holdings self.old d.0 }
     {
-        let list = list_of(d);
+        let list = device_list(d);
         let mut next = held.front(list);
         for _ in 0..held.len(list) {
             match next {

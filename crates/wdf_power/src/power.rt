@@ -142,7 +142,7 @@ impl Power {
         requires room { r.0 < OBJECTS }
         ensures { self.new ≡ record self.old { holdings = put power.no_holding self.old.holdings r.0 new } }
     {
-        let list = self.holdings.list_of(&new);
+        let list = self.holdings.held_list(&new);
         move_to(&mut self.held, r, list);
         self.holdings.write(r, new);
     }

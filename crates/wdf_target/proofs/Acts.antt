@@ -19,6 +19,15 @@ read_as [] q x l e = absurd (omega arith)
 read_as (y ∷ ts) zero x l e = sym e
 read_as (y ∷ ts) (suc q) x l e = read_as ts q x (omega arith) e
 
+-- the target of a request, as what is kept of it was read
+pub holder_read : (hs rs : List (Option ObjectId)) (r : ℕ) (found o : Option ObjectId) → found ≡ entry None rs r → rs ≡ hs → found ≡ o → entry None hs r ≡ o
+holder_read hs rs r found o e same is = sym (e ∙ ap (λ os. entry None os r) same) ∙ is
+
+-- what an act leaves of the target of a request, which was read before
+pub changed_as_read : (ts : List Target) (hs : List (Option ObjectId)) (r : ℕ) (q : ObjectId) (f : Target → Target) (old new : Target) → IsKept ts hs → entry None hs r ≡ Some q
+    → old ≡ slice_index_or ts q.0 old → new ≡ f old → new ≡ f (entry no_target ts q.0)
+changed_as_read ts hs r q f old new k there read is = is ∙ ap f (sym (read_as ts q.0 old (target_within ts hs r q k there) read))
+
 some_within_by : (hs : List (Option ObjectId)) (r : ℕ) (q : ObjectId) (b : Bool) → nat_lt r (length hs) ≡ b → entry None hs r ≡ Some q → r < length hs
 some_within_by hs r q true l e = ltb-true r (length hs) l
 some_within_by hs r q false l e =

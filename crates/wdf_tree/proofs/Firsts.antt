@@ -1,26 +1,27 @@
 -- The least of rising ids, and the least that has to go before an object.
-use Rattle.std.proofs.Common.{◌==◌, ◌&&◌, not, Bool, true, false, sym, ◌≡◌, ◌≢◌, ℕ, zero, suc, ◌+◌, ◌<◌, ◌≤◌, List, [], ◌∷◌, ◌++◌, length, filter, fold, Option, Some, None, refl, ap, ◌∙◌, arith, subst}
+use Rattle.std.proofs.Common.{◌==◌, ◌&&◌, not, Bool, true, false, sym, ◌≡◌, ◌≢◌, ℕ, zero, suc, ◌+◌, ◌<◌, ◌≤◌, List, [], ◌∷◌, ◌++◌, length, filter, fold, Some, refl, ap, ◌∙◌, arith, subst}
 use Rattle.std.specs.Prelude.{nat_lt, nat_le}
 use Rattle.std.proofs.lemmas.Bool.{and_from, and_parts, eq-eqb, eqb-true, false≢true, le-leb, le-ltb, leb-true, lt-ltb, ne_eqb}
-use Rattle.std.proofs.lemmas.List.Sums.{fold-append}
 use Rattle.std.proofs.lemmas.List.{append-nil}
 use Rattle.std.proofs.lemmas.List.Elements.{filter-append}
-use Rattle.wdf_base.specs.Same.{same_kind}
+use Rattle.wdf_base.specs.Same.{same_kind, same_life}
 use Rattle.wdf_base.specs.declared.object.Kind.TheVariants as kind
 use Rattle.wdf_base.specs.declared.object.Life.{Life}
 use Rattle.wdf_base.specs.declared.object.Life.TheVariants as life
-use Rattle.wdf_ilist.specs.Family.{Family, after_on, first_of, is_on, list_of}
+use Rattle.wdf_ilist.specs.Family.{Family, after_on, first_of, list_of}
 use Rattle.wdf_ilist.proofs.Lists.{list_of_first}
+use Rattle.wdf_maps.specs.Least.{lesser_if}
+use Rattle.wdf_maps.proofs.Leasts.{least_append}
 use Rattle.wdf_model.specs.Tables.{entry, ids_of, least, lesser}
 use Rattle.wdf_model.specs.declared.entries.Node.{Node}
 use Rattle.wdf_model.specs.declared.room.TheConstants.{OBJECTS}
 use Rattle.wdf_model.specs.parts.Tree.{Tree, children, gone, is_asked, is_child, is_cleaned, is_gone, is_past_cleanup, life_of, parent_of, younger_siblings}
-use Rattle.wdf_tree.specs.GoFirst.{go_first, lesser_of}
+use Rattle.wdf_tree.specs.GoFirst.{go_first}
 use Rattle.wdf_tree.specs.Inside.{EndsAlone, ends_alone}
 use Rattle.wdf_tree.specs.Kin.{HoldsKin, is_kin, is_waiting, places, is_left}
 use Rattle.wdf_tree.proofs.Children.{same_place, left_children}
-use Rattle.wdf_tree.proofs.Kept.{all_of_entry, asked_stands}
-use Rattle.wdf_tree.proofs.Kin.{places_by_ids, off_before, place_on}
+use Rattle.wdf_tree.proofs.Kept.{all_of_entry, asked_as_same, asked_stands, cleaned_as_same}
+use Rattle.wdf_tree.proofs.Kin.{on_places, place_on, places_by_ids}
 
 -- ---- rising ids
 
@@ -66,24 +67,8 @@ pub least_rising : (k : ℕ) (xs : List ℕ) → rises k xs ≡ true → least x
 least_rising k [] e = refl
 least_rising k (x ∷ xs) e = fold_rising x (x + 1) xs (omega arith) (and_parts (nat_le k x) (rises (x + 1) xs) e).1
 
-fold_lesser : (a k : ℕ) (xs : List ℕ) → rises k xs ≡ true → fold lesser (Some a) xs ≡ lesser_of (Some a) (first_of xs)
-fold_lesser a k [] e = refl
-fold_lesser a k (x ∷ xs) e = by_test (nat_le a x) refl (and_parts (nat_le k x) (rises (x + 1) xs) e).1
-  where
-    by_test : (b : Bool) → nat_le a x ≡ b → rises (x + 1) xs ≡ true → fold lesser (Some a) (x ∷ xs) ≡ lesser (Some a) x
-    by_test true t rest = let up : a ≤ x = leb-true a x t in rw t (fold_rising a (x + 1) xs (omega arith) rest)
-    by_test false t rest = rw t (fold_rising x (x + 1) xs (omega arith) rest)
-
-pub least_of_two : (k j : ℕ) (xs ys : List ℕ) → rises k xs ≡ true → rises j ys ≡ true → least (xs ++ ys) ≡ lesser_of (first_of xs) (first_of ys)
-least_of_two k j xs ys e f = fold-append lesser None xs ys ∙ ap (λ found. fold lesser found ys) (least_rising k xs e) ∙ by_first (first_of xs)
-  where
-    none_lesser : (found : Option ℕ) → found ≡ lesser_of None found
-    none_lesser None = refl
-    none_lesser (Some x) = refl
-
-    by_first : (found : Option ℕ) → fold lesser found ys ≡ lesser_of found (first_of ys)
-    by_first None = least_rising j ys f ∙ none_lesser (first_of ys)
-    by_first (Some a) = fold_lesser a j ys f
+pub least_of_two : (k j : ℕ) (xs ys : List ℕ) → rises k xs ≡ true → rises j ys ≡ true → least (xs ++ ys) ≡ lesser_if (first_of xs) (first_of ys)
+least_of_two k j xs ys e f = least_append xs ys ∙ ap (λ found. lesser_if found (least ys)) (least_rising k xs e) ∙ ap (lesser_if (first_of xs)) (least_rising j ys f)
 
 -- ---- the waiting children of an object
 
@@ -151,19 +136,6 @@ after_places p k (n ∷ ns) (suc o) x e h t = by_test (p n) refl (after_places p
     by_test true f rest = let other : k ≢ x = omega arith in let under : nat_lt x k ≡ false = le-ltb x k (omega arith) in rw (f, ne_eqb k x other, under) rest
     by_test false f rest = rw f rest
 
-on_places : (p : Node → Bool) (k : ℕ) (ns : List Node) (o x : ℕ) → x ≡ k + o → o < length ns → is_on x (places p k ns) ≡ p (entry gone ns o)
-on_places p k [] o x e h = absurd (omega arith)
-on_places p k (n ∷ ns) zero x e h = by_test (p n) refl
-  where
-    by_test : (b : Bool) → p n ≡ b → is_on x (places p k (n ∷ ns)) ≡ p n
-    by_test true f = let here : k ≡ x = omega arith in rw (f, eq-eqb k x here) refl
-    by_test false f = rw f (off_before p (k + 1) ns x (omega arith))
-on_places p k (n ∷ ns) (suc o) x e h = by_test (p n) refl (on_places p (k + 1) ns o x (omega arith) (omega arith))
-  where
-    by_test : (b : Bool) → p n ≡ b → is_on x (places p (k + 1) ns) ≡ p (entry gone ns o) → is_on x (places p k (n ∷ ns)) ≡ p (entry gone ns o)
-    by_test true f rest = let other : k ≢ x = omega arith in rw (f, ne_eqb k x other) rest
-    by_test false f rest = rw f rest
-
 -- the list of a waiting object is that of its parent
 pub list_of_waiting : (ns : List Node) (family : Family) (o parent : ℕ) → HoldsKin is_waiting ns family → o < length ns → length ns ≤ OBJECTS → parent < OBJECTS
     → parent ≡ (entry gone ns o).parent.0 → is_waiting (entry gone ns o).life ≡ true → list_of o family.lists ≡ Some parent
@@ -176,6 +148,13 @@ list_of_waiting ns family o parent h there few known mine waits =
     rw (h.kin q below) (on_places (is_kin is_waiting q) 0 ns o o (omega arith) there ∙ rw (← mine, ne_eqb parent q other) refl))
 
 -- ---- what goes first
+
+-- what a test of a life says of an object, and of its parent
+pub cleaned_by : (T : Tree) (o : ℕ) (l : Life) → l ≡ life_of T o → is_cleaned (life_of T o) ≡ same_life l life.Cleaned
+cleaned_by T o l e = ap is_cleaned (sym e) ∙ sym (cleaned_as_same l)
+
+pub asked_above_by : (T : Tree) (o p : ℕ) (l : Life) → p ≡ parent_of T o → l ≡ life_of T p → is_asked (life_of T (parent_of T o)) ≡ same_life l life.Asked
+asked_above_by T o p l parent e = ap (λ q. is_asked (life_of T q)) (sym parent) ∙ ap is_asked (sym e) ∙ sym (asked_as_same l)
 
 pub first_left : (T : Tree) (o : ℕ) → is_cleaned (life_of T o) ≡ true → least (go_first T o) ≡ first_of (places (is_kin is_left o) 0 T.nodes)
 first_left T o cleaned =
@@ -190,7 +169,7 @@ first_child T o cleaned asked =
     ∙ least_rising 0 (places (is_kin is_waiting o) 0 T.nodes) (places_rise (is_kin is_waiting o) 0 T.nodes))
 
 pub first_of_both : (T : Tree) (o : ℕ) → is_cleaned (life_of T o) ≡ false → is_asked (life_of T (parent_of T o)) ≡ true → is_waiting (life_of T o) ≡ true → o < length T.nodes
-    → least (go_first T o) ≡ lesser_of (first_of (places (is_kin is_waiting o) 0 T.nodes)) (after_on o (places (is_kin is_waiting (parent_of T o)) 0 T.nodes))
+    → least (go_first T o) ≡ lesser_if (first_of (places (is_kin is_waiting o) 0 T.nodes)) (after_on o (places (is_kin is_waiting (parent_of T o)) 0 T.nodes))
 first_of_both T o cleaned asked waits there =
     let mine = places (is_kin is_waiting o) 0 T.nodes in
     let ours = places (is_kin is_waiting (parent_of T o)) 0 T.nodes in
@@ -201,7 +180,7 @@ first_of_both T o cleaned asked waits there =
     ∙ ap (λ xs. xs ++ filter (λ x. not (is_past_cleanup (life_of T x))) (younger_siblings T o)) (waiting_children T o)
     ∙ ap (λ xs. mine ++ xs) (waiting_siblings T o))
     ∙ least_of_two 0 0 mine (filter (nat_lt o) ours) (places_rise (is_kin is_waiting o) 0 T.nodes) (filter_rises (nat_lt o) 0 ours (places_rise (is_kin is_waiting (parent_of T o)) 0 T.nodes))
-    ∙ ap (lesser_of (first_of mine)) (sym (after_places (is_kin is_waiting (parent_of T o)) 0 T.nodes o o (omega arith) there passes)))
+    ∙ ap (lesser_if (first_of mine)) (sym (after_places (is_kin is_waiting (parent_of T o)) 0 T.nodes o o (omega arith) there passes)))
 
 -- what is under a parent that was asked, and isn't cleaned up, waits
 pub waits_under_asked : (ns : List Node) (o : ℕ) → EndsAlone ns → o < length ns → is_cleaned (entry gone ns o).life ≡ false

@@ -1,6 +1,7 @@
 -- The subtree of an object, gathered by rising ids along the lists of children.
 use Rattle.std.proofs.Common.{if◌then◌else◌, ◌==◌, ◌&&◌, ◌||◌, not, nat_le, nat_lt, Bool, true, false, sym, ◌≡◌, ◌≢◌, ◌⊎◌, inl, inr, ℕ, zero, suc, ◌+◌, ◌-◌, ◌<◌, ◌≤◌, List, [], ◌∷◌, ◌++◌, Option, Some, None, length, filter, find, slice_get, slice_index, slice_set, get_or-set_same, get_or-set_other, refl, ap, ◌∙◌, arith}
 use Rattle.std.specs.List.{range_with_len}
+use Rattle.std.proofs.Math.Bool.{and-false}
 use Rattle.std.proofs.lemmas.Bool.{and_parts, and_right, cases_eq, cases_lt, eq-eqb, eqb-true, false≢true, le-leb, leb-true, le-ltb, lt-leb, lt-ltb, ltb-true, ltb-false, ne_eqb}
 use Rattle.std.proofs.lemmas.List.{append-nil}
 use Rattle.wdf_base.specs.declared.object.Kind.TheVariants as kind
@@ -149,10 +150,6 @@ by_bools false true true = refl
 by_bools false true false = refl
 by_bools false false b = refl
 
-and_false : (b : Bool) → (b && false) ≡ false
-and_false true = refl
-and_false false = refl
-
 or_nothing : (a b c d : Bool) → a ≡ false → d ≡ false → (a || (b && (c && d))) ≡ false
 or_nothing false true true false e f = refl
 or_nothing false true false false e f = refl
@@ -227,7 +224,7 @@ module _ (T : Tree) (o : ℕ) (ends : EndsAlone T.nodes) (object : 0 < o) where
   gone_below x there is =
       let root : parent_of T x ≡ 0 = alone_parent x is in
       let other : 0 ≢ o = omega arith in
-      below_by_parent T o x there ∙ rw (root, ne_eqb 0 o other, none_below) (and_false (nat_lt 0 x))
+      below_by_parent T o x there ∙ rw (root, ne_eqb 0 o other, none_below) (and-false (nat_lt 0 x))
 
   nothing_by_lists : (x : ℕ) → is_gone (life_of T x) ≡ true → by_lists T o x ≡ false
   nothing_by_lists x is =

@@ -1,6 +1,7 @@
 -- A list of a family, gone along from its front.
 use Rattle.std.proofs.Common.{ℕ, zero, suc, ◌≡◌, ◌⊎◌, ◌+◌, ◌<◌, ◌==◌, ◌||◌, ◌&&◌, ◌≤◌, nat_le, Bool, true, false, List, [], ◌∷◌, Option, Some, None, take, slice_get, refl, ap, sym, ◌∙◌, inl, inr, arith}
 use Rattle.std.specs.Prelude.{IfSome, option_and_then}
+use Rattle.std.proofs.Math.Bool.{or-false, or_assoc}
 use Rattle.std.proofs.lemmas.Bool.{eqb-true, false≢true, or_cases}
 use Rattle.wdf_ilist.specs.Family.{Family, AreApart, after_in, is_on, list_at}
 use Rattle.wdf_model.specs.Tables.{same_id}
@@ -22,19 +23,11 @@ pub same_id_is : (found : Option ℕ) (x : ℕ) → same_id found x ≡ true →
 same_id_is None x h = absurd (false≢true h)
 same_id_is (Some y) x h = ap Some (eqb-true y x h)
 
-or_false : (b : Bool) → (b || false) ≡ b
-or_false true = refl
-or_false false = refl
-
-or_assoc : (a b c : Bool) → (a || (b || c)) ≡ ((a || b) || c)
-or_assoc true b c = refl
-or_assoc false b c = refl
-
 on_suc : (xs : List ℕ) (k x : ℕ) → is_on x (take (suc k) xs) ≡ (is_on x (take k xs) || same_id (slice_get xs k) x)
 on_suc [] zero x = refl
 on_suc [] (suc k) x = refl
-on_suc (y ∷ ys) zero x = or_false (y == x)
-on_suc (y ∷ ys) (suc k) x = ap (λ b. (y == x) || b) (on_suc ys k x) ∙ or_assoc (y == x) (is_on x (take k ys)) (same_id (slice_get ys k) x)
+on_suc (y ∷ ys) zero x = or-false (y == x)
+on_suc (y ∷ ys) (suc k) x = ap (λ b. (y == x) || b) (on_suc ys k x) ∙ sym (or_assoc (y == x) (is_on x (take k ys)) (same_id (slice_get ys k) x))
 
 -- what is among one item more was there before, or is that item
 pub on_taken : (xs : List ℕ) (k x : ℕ) → is_on x (take (k + 1) xs) ≡ (is_on x (take k xs) || same_id (slice_get xs k) x)

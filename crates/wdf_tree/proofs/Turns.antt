@@ -1,6 +1,7 @@
 -- The set of the objects whose turn has come: after a change of an object, and what it answers.
 use Rattle.std.proofs.Common.{if◌then◌else◌, ℕ, ◌≡◌, ◌≢◌, ◌⊎◌, ◌-◌, ◌<◌, ◌≤◌, ◌==◌, nat_le, nat_lt, not, Bool, true, false, ◌&&◌, ◌||◌, List, [], ◌∷◌, ◌++◌, Option, Some, None, map, length, find, slice_get, slice_set, replicate, refl, ap, sym, subst, ◌∙◌, inl, inr, get_or-set_same, get_or-set_other, length-set, arith}
 use Rattle.std.specs.Prelude.{IfSome, slice_index_or}
+use Rattle.std.proofs.Math.Bool.{or-true}
 use Rattle.std.proofs.lemmas.Bool.{and_right, cases_eq, cases_lt, eq-eqb, false≢true, ltb-true, ne_eqb}
 use Rattle.std.proofs.lemmas.List.{length_push, length-replicate}
 use Rattle.wdf_base.specs.declared.object.Life.{Life}
@@ -353,10 +354,6 @@ gone_unasked true life.Cleaned e h = refl
 gone_unasked true life.Gone e h = refl
 gone_unasked false l e h = absurd (false≢true e)
 
-or_right : (a : Bool) → (a || true) ≡ true
-or_right true = refl
-or_right false = refl
-
 -- an object that is cleaned up ends, and has no child
 pub turns_by_end : {ns : List Node} {ls : List (List ℕ)} {bits : List Bool} (o : ℕ) (m : Node) → HoldsTurns ns ls bits → o < length ns → MayEnd ns o → m ≡ gone → HoldsTurns (slice_set ns o m) ls bits
 turns_by_end {ns} {ls} {bits} o m h there may e = record { room = h.room; same = λ id. h.same id ∙ at id (cases_eq id o) (cases_eq (entry gone ns id).parent.0 o) }
@@ -369,7 +366,7 @@ turns_by_end {ns} {ls} {bits} o m h there may e = record { room = h.room; same =
     at id (inr other) (inr apart) = turn_kept ns ls o id m other apart
     at id (inr other) (inl child) =
         let none : is_asked (entry gone ns id).life ≡ false
-        = gone_unasked ((entry gone ns id).parent.0 == o) (entry gone ns id).life (eq-eqb (entry gone ns id).parent.0 o child) (all_of_entry (is_gone_under o) gone ns id (or_right (not (0 == o))) may.childless) in
+        = gone_unasked ((entry gone ns id).parent.0 == o) (entry gone ns id).life (eq-eqb (entry gone ns id).parent.0 o child) (all_of_entry (is_gone_under o) gone ns id (or-true (not (0 == o))) may.childless) in
         no_turn ns ls id none ∙ sym (no_turn (slice_set ns o m) ls id (ap (λ (x : Node). is_asked x.life) (entry_set_other gone ns o id m other) ∙ none))
 
 -- ---- what it answers

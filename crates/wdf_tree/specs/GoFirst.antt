@@ -1,6 +1,5 @@
 -- What has to go before an object, in the order of cleanups and destructions.
-use Rattle.std.specs.Prelude.{if◌then◌else◌, ℕ, not, List, [], ◌++◌, filter, Option, Some, None}
-use Rattle.wdf_model.specs.Tables.{lesser}
+use Rattle.std.specs.Prelude.{if◌then◌else◌, ℕ, not, List, [], ◌++◌, filter}
 use Rattle.wdf_model.specs.parts.Tree.{Tree, children, is_asked, is_cleaned, is_past_cleanup, life_of, parent_of, younger_siblings}
 
 -- the younger siblings, where the deletion of the parent was asked too
@@ -13,8 +12,3 @@ abbrev pub go_first : Tree → ℕ → List ℕ
 go_first T o =
     if is_cleaned (life_of T o) then children T o
     else filter (λ x. not (is_past_cleanup (life_of T x))) (children T o ++ siblings_first T o)
-
--- the lesser of what was found
-abbrev pub lesser_of : Option ℕ → Option ℕ → Option ℕ
-lesser_of found None = found
-lesser_of found (Some x) = lesser found x

@@ -2,21 +2,11 @@
 
 ghost use Rattle.std.specs.Prelude.{◌≡◌, ◌<◌, length, option_map};
 ghost use Rattle.wdf_model.specs.Tables.{least};
-ghost use Rattle.wdf_tree.specs.GoFirst.{go_first, lesser_of};
+ghost use Rattle.wdf_tree.specs.GoFirst.{go_first};
 
 use super::Tree;
 use wdf_base::{Life, ObjectId};
-
-/// The least of what was found.
-fn lesser(one: Option<u32>, other: Option<u32>) -> Option<u32>
-    ensures { result ≡ lesser_of one other }
-{
-    match (one, other) {
-        (Some(a), Some(b)) if a > b => Some(b),
-        (None, found) => found,
-        (found, _) => found,
-    }
-}
+use wdf_maps::lesser_if;
 
 impl Tree {
     /// The id of the least object that has to go before this one.
@@ -31,7 +21,7 @@ impl Tree {
         if self.life(self.parent(o)) != Life::Asked {
             return child;
         }
-        lesser(child, self.waiting.after(o.0))
+        lesser_if(child, self.waiting.after(o.0))
     }
 
     /// The least object that has to go before this one. (own)

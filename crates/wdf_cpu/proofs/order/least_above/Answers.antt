@@ -4,7 +4,7 @@ use Rattle.std.specs.List.{flat_map}
 use Rattle.std.proofs.lemmas.List.{drop_more}
 use Rattle.wdf_model.specs.Tables.{lesser}
 use Rattle.wdf_model.specs.rules.Waits.{above_in}
-use Rattle.wdf_cpu.specs.Leasts.{lesser_if}
+use Rattle.wdf_maps.specs.Least.{lesser_if}
 use Rattle.wdf_cpu.proofs.Leasts.{above_more}
 use Rattle.wdf_cpu.proofs.order.least_above.Goals as goal
 

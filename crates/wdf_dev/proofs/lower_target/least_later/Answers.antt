@@ -1,9 +1,14 @@
--- One request more is seen.
-use Rattle.std.proofs.Common.{add-one, refl}
+-- The least of the later ticks is what `min` finds.
+use Rattle.std.proofs.Common.{rules, tests, sym, ◌∙◌}
+use Rattle.std.proofs.lemmas.Iterator.{YieldsList-from_slice}
+use Rattle.std.proofs.lemmas.Iterator.Adapters.{option_map_id}
+use Rattle.std.proofs.lemmas.Iterator.Consumers.{YieldsList-from_filter_map, min_from_yields_List}
 use Rattle.wdf_model.specs.agents.LowerTarget.{later_sent}
-use Rattle.wdf_dev.proofs.Mapping.{least_next}
+use Rattle.wdf_maps.proofs.Leasts.{least_by_min}
 use Rattle.wdf_dev.proofs.lower_target.least_later.Goals as goal
 
-pub loop-k-preserved : goal.loop-k-preserved
-loop-k-preserved c =
-    rw (c.lesser_if-least.ensures, c.later.ensures, c.loop-k.invariant, add-one, ← least_next (later_sent c.args.now) c.args.sent.now c.loop-k.k _ c.loop-k-test.true) refl
+pub returns : goal.returns
+returns c =
+    sym (option_map_id c.min.result)
+    ∙ min_from_yields_List _ _ c.min.ensures.ran (YieldsList-from_filter_map _ (later_sent c.args.now) (YieldsList-from_slice c.args.sent.now cc) c.filter_map.ensures.closure (λ x r q k. search (rules, tests)))
+    ∙ least_by_min _

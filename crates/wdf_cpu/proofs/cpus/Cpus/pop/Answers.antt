@@ -1,5 +1,5 @@
 -- The top frame is live and counted, and isn't any more.
-use Rattle.std.proofs.Common.{◌≡◌, ◌<◌, Some, None, refl, arith}
+use Rattle.std.proofs.Common.{◌≡◌, Some, None, refl, arith}
 use Rattle.wdf_base.specs.declared.ids.ObjectId.{ObjectId}
 use Rattle.std.specs.Option.{option_map}
 use Rattle.wdf_model.specs.declared.room.TheConstants.{FRAMES}
@@ -7,33 +7,27 @@ use Rattle.wdf_model.specs.parts.Cpus.{frame_of, top}
 use Rattle.wdf_cpu.specs.Keys.{object_key, wait_key}
 use Rattle.wdf_cpu.specs.Kept.{cpus_in}
 use Rattle.wdf_cpu.proofs.Keeping.{kept_pop, on_counted, wait_counted}
-use Rattle.wdf_cpu.proofs.Live.{few_frames, live_within, top_goes_off, top_is_on}
+use Rattle.wdf_cpu.proofs.Live.{few_frames, top_goes_off, top_is_on, top_within}
 use Rattle.wdf_cpu.proofs.Swapping.{swapped_by}
 use Rattle.wdf_cpu.proofs.Ticks.{few_ticks, spending_popped, until_there}
 use Rattle.wdf_cpu.proofs.cpus.Cpus.pop.Goals as goal
 
 pub put_at-requires : goal.put_at-requires
 put_at-requires c =
-    let a = c.self.inside in
-    let is_top : top (cpus_in a) c.args.cpu.0 ≡ Some c.unwrap.result = cc in
-    let one = top_is_on (cpus_in a) a.live.items c.args.cpu.0 c.unwrap.result is_top c.self.invariant.kept.live in
-    let within : c.unwrap.result < FRAMES = live_within (cpus_in a) a.live.items c.self.invariant.kept.live c.unwrap.result (omega arith) in
+    let is_top : top (cpus_in c.self.inside) c.args.cpu.0 ≡ Some c.unwrap.result = cc in
+    let within = top_within (cpus_in c.self.inside) c.self.inside.live.items c.args.cpu.0 c.unwrap.result is_top c.self.invariant.kept.live in
     record { room = omega arith }
 
 pub put_at-requires-2 : goal.put_at-requires-2
 put_at-requires-2 c =
-    let a = c.self.inside in
-    let is_top : top (cpus_in a) c.args.cpu.0 ≡ Some c.unwrap.result = cc in
-    let one = top_is_on (cpus_in a) a.live.items c.args.cpu.0 c.unwrap.result is_top c.self.invariant.kept.live in
-    let within : c.unwrap.result < FRAMES = live_within (cpus_in a) a.live.items c.self.invariant.kept.live c.unwrap.result (omega arith) in
+    let is_top : top (cpus_in c.self.inside) c.args.cpu.0 ≡ Some c.unwrap.result = cc in
+    let within = top_within (cpus_in c.self.inside) c.self.inside.live.items c.args.cpu.0 c.unwrap.result is_top c.self.invariant.kept.live in
     record { room = omega arith }
 
 pub put_at-requires-3 : goal.put_at-requires-3
 put_at-requires-3 c =
-    let a = c.self.inside in
-    let is_top : top (cpus_in a) c.args.cpu.0 ≡ Some c.unwrap.result = cc in
-    let one = top_is_on (cpus_in a) a.live.items c.args.cpu.0 c.unwrap.result is_top c.self.invariant.kept.live in
-    let within : c.unwrap.result < FRAMES = live_within (cpus_in a) a.live.items c.self.invariant.kept.live c.unwrap.result (omega arith) in
+    let is_top : top (cpus_in c.self.inside) c.args.cpu.0 ≡ Some c.unwrap.result = cc in
+    let within = top_within (cpus_in c.self.inside) c.self.inside.live.items c.args.cpu.0 c.unwrap.result is_top c.self.invariant.kept.live in
     record { room = omega arith }
 
 pub moves-requires-3-clause-room : goal.moves-requires-3-clause-room
@@ -48,10 +42,8 @@ moves-requires-3-clause-there c =
 
 pub forget-requires : goal.forget-requires
 forget-requires c =
-    let a = c.self.inside in
-    let is_top : top (cpus_in a) c.args.cpu.0 ≡ Some c.unwrap.result = cc in
-    let one = top_is_on (cpus_in a) a.live.items c.args.cpu.0 c.unwrap.result is_top c.self.invariant.kept.live in
-    record { there = live_within (cpus_in a) a.live.items c.self.invariant.kept.live c.unwrap.result (omega arith) }
+    let is_top : top (cpus_in c.self.inside) c.args.cpu.0 ≡ Some c.unwrap.result = cc in
+    record { there = top_within (cpus_in c.self.inside) c.self.inside.live.items c.args.cpu.0 c.unwrap.result is_top c.self.invariant.kept.live }
 
 pub invariant_of-self : goal.invariant_of-self
 invariant_of-self c =

@@ -1,5 +1,5 @@
 -- A resume is due where the count isn't 0, or where one is found.
-use Rattle.wdf_power.specs.Kept.{holdings_in}
+use Rattle.wdf_power.specs.Held.{holdings_in}
 use Rattle.wdf_power.proofs.Readers.{due_counted, due_found}
 use Rattle.wdf_power.proofs.holdings.Holdings.any_resume_due.Goals as goal
 

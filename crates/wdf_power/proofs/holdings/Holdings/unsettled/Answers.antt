@@ -1,5 +1,5 @@
 -- The count is that of the unsettled requests, and so are as many as are found.
-use Rattle.wdf_power.specs.Kept.{holdings_in}
+use Rattle.wdf_power.specs.Held.{holdings_in}
 use Rattle.wdf_power.proofs.Readers.{unsettled_counted, unsettled_found}
 use Rattle.wdf_power.proofs.holdings.Holdings.unsettled.Goals as goal
 

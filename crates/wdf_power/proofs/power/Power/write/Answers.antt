@@ -8,7 +8,7 @@ pub invariant_of-self : goal.invariant_of-self
 invariant_of-self c =
     let a = c.self.inside in
     let P : Option ℕ → Type 0 = λ l. IsMoved a.held.lists c.move_to.new.held.lists c.args.r.0 l in
-    let moved = subst P c.list_of-list.ensures.value c.move_to.ensures.moved in
+    let moved = subst P c.held_list-list.ensures.value c.move_to.ensures.moved in
     record {
       lists = c.move_to.ensures.lists ∙ c.self.invariant.lists;
       items = c.move_to.ensures.items ∙ c.self.invariant.items;
