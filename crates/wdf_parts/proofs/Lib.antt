@@ -1,2 +1,1 @@
-pub mod Belongings
 pub mod Walks

@@ -1,8 +1,5 @@
--- Walks over ids: the deletion of a subtree, and what is done to the queues of a device.
-use Rattle.std.proofs.Common.{if◌then◌else◌, ◌==◌, Bool, true, false, ◌≡◌, ℕ, zero, suc, ◌+◌, ◌<◌, ◌≤◌, List, [], ◌∷◌, ◌++◌, length, filter, fold, map, count_by, Some, None, refl, ap, sym, ◌∙◌, arith, append-nil, eq-eqb, ◌&&◌}
-use Rattle.std.specs.List.{range_with_len}
-use Rattle.std.proofs.lemmas.List.Elements.{filter-append}
-use Rattle.std.proofs.lemmas.List.Sums.{fold-append}
+-- Walks over ids: the deletion of a subtree, and a purge.
+use Rattle.std.proofs.Common.{◌==◌, Bool, true, false, ◌≡◌, ℕ, zero, suc, ◌<◌, ◌≤◌, List, [], ◌∷◌, length, fold, map, count_by, Some, None, refl, ap, sym, ◌∙◌, arith, eq-eqb}
 use Rattle.wdf_base.specs.declared.plan.Plan.{Plan}
 use Rattle.wdf_model.specs.Tables.{entry, first_of_list, without}
 use Rattle.wdf_model.specs.parts.Queues.{front, waiting_in}
@@ -33,49 +30,6 @@ pub subtree_asked : {A : Type 0} (S : State A) (P : Askable) (o : ℕ) (ids : Li
 subtree_asked S P o ids e f =
     ap (with_asked S) (f ∙ ap (fold asked (askable S.tree S.dpcs S.work_items S.timers)) e)
     ∙ sym (all_asked S (askable S.tree S.dpcs S.work_items S.timers) (subtree S.tree o))
-
--- ---- loops over the ids of what is declared
-
-range_more : (a n : ℕ) → range_with_len a (suc n) ≡ range_with_len a n ++ (a + n) ∷ []
-range_more a zero = let e : a + 0 ≡ a = omega arith in rw e refl
-range_more a (suc n) = let e : a + 1 + n ≡ a + suc n = omega arith in ap (λ xs. a ∷ xs) (range_more (a + 1) n ∙ ap (λ x. range_with_len (a + 1) n ++ x ∷ []) e)
-
-range_zero : (n : ℕ) → range_with_len 0 (suc n) ≡ range_with_len 0 n ++ n ∷ []
-range_zero n = let e : 0 + n ≡ n = omega arith in range_more 0 n ∙ ap (λ x. range_with_len 0 n ++ x ∷ []) e
-
-last_kept : (p : ℕ → Bool) (xs : List ℕ) (x : ℕ) → p x ≡ true → filter p (xs ++ x ∷ []) ≡ filter p xs ++ x ∷ []
-last_kept p xs x e = filter-append p xs (x ∷ []) ∙ rw e refl
-
-last_dropped : (p : ℕ → Bool) (xs : List ℕ) (x : ℕ) → p x ≡ false → filter p (xs ++ x ∷ []) ≡ filter p xs
-last_dropped p xs x e = filter-append p xs (x ∷ []) ∙ rw e (append-nil (filter p xs))
-
--- one id more passes the test, and is folded in
-pub fold_kept : {S : Type 0} (f : S → ℕ → S) (s : S) (p : ℕ → Bool) (n : ℕ) → p n ≡ true → fold f s (filter p (range_with_len 0 (n + 1))) ≡ f (fold f s (filter p (range_with_len 0 n))) n
-fold_kept f s p n e =
-    let a : n + 1 ≡ suc n = omega arith in
-    rw a (ap (λ xs. fold f s (filter p xs)) (range_zero n) ∙ ap (fold f s) (last_kept p (range_with_len 0 n) n e) ∙ fold-append f s (filter p (range_with_len 0 n)) (n ∷ []))
-
--- one id more fails it, and is passed over
-pub fold_passed : {S : Type 0} (f : S → ℕ → S) (s : S) (p : ℕ → Bool) (n : ℕ) → p n ≡ false → fold f s (filter p (range_with_len 0 (n + 1))) ≡ fold f s (filter p (range_with_len 0 n))
-fold_passed f s p n e =
-    let a : n + 1 ≡ suc n = omega arith in
-    rw a (ap (λ xs. fold f s (filter p xs)) (range_zero n) ∙ ap (fold f s) (last_dropped p (range_with_len 0 n) n e))
-
--- two tests in turn are both at once
-twice_by : (p q : ℕ → Bool) (x : ℕ) (xs : List ℕ) (b : Bool) → p x ≡ b → filter q (filter p xs) ≡ filter (λ y. p y && q y) xs → filter q (filter p (x ∷ xs)) ≡ filter (λ y. p y && q y) (x ∷ xs)
-twice_by p q x xs true e rest = rw e (kept_by (q x) refl)
-  where
-    kept_by : (d : Bool) → q x ≡ d → filter q (x ∷ filter p xs) ≡ (if q x then x ∷ filter (λ y. p y && q y) xs else filter (λ y. p y && q y) xs)
-    kept_by true f = rw f (ap (λ ys. x ∷ ys) rest)
-    kept_by false f = rw f rest
-twice_by p q x xs false e rest = rw e rest
-
-both_at_once : (p q : ℕ → Bool) (xs : List ℕ) → filter q (filter p xs) ≡ filter (λ y. p y && q y) xs
-both_at_once p q [] = refl
-both_at_once p q (x ∷ xs) = twice_by p q x xs (p x) refl (both_at_once p q xs)
-
-pub fold_twice : {S : Type 0} (f : S → ℕ → S) (s : S) (p q : ℕ → Bool) (xs : List ℕ) → fold f s (filter q (filter p xs)) ≡ fold f s (filter (λ y. p y && q y) xs)
-fold_twice f s p q xs = ap (fold f s) (both_at_once p q xs)
 
 -- ---- a purge
 

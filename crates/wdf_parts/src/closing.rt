@@ -1,5 +1,5 @@
 //! What is done to the queues of a device, or to all that waits in one.
-ghost use Rattle.std.specs.Prelude.{◌≡◌, ◌<◌, ◌&&◌, length, fold, option_map};
+ghost use Rattle.std.specs.Prelude.{◌≡◌, ◌<◌, length, fold, option_map};
 ghost use Rattle.wdf_model.specs.Plans as plans;
 ghost use Rattle.wdf_model.specs.parts.Control as control;
 ghost use Rattle.wdf_model.specs.parts.Queues as queues;
@@ -50,12 +50,10 @@ impl<A: Agent> Parts<A> {
     pub(crate) fn close_returning(&mut self, plan: &IndexedPlan, device: ObjectId)
         ensures { self.new ≡ fold deeds.close_returning self.old (plans.managed_queues plan.now device.0) }
     {
-        let mut at = plan.first_of(device);
-        'walk: while let Some(q) = at {
-            if is_managed_queue_of(plan, device, q) {
+        for q in plan.queues_of(device) {
+            if plan.is_managed(q) {
                 self.close_returning_to(q);
             }
-            at = plan.next_of(device, q);
         }
     }
 
@@ -74,19 +72,8 @@ impl<A: Agent> Parts<A> {
         requires { length plan.now.declared < length self.old.queues.dispatch }
         ensures { self.new ≡ fold deeds.close_queue self.old (plans.queues_of plan.now device.0) }
     {
-        let mut at = plan.first_of(device);
-        'walk: while let Some(q) = at {
-            if plan.is_queue_of(device, q) {
-                self.close_queue(q);
-            }
-            at = plan.next_of(device, q);
+        for q in plan.queues_of(device) {
+            self.close_queue(q);
         }
     }
-}
-
-/// Whether an id is that of a power-managed queue of a device.
-fn is_managed_queue_of(plan: &IndexedPlan, device: ObjectId, q: ObjectId) -> bool
-    ensures { result ≡ (plans.is_queue_of device.0 (plans.queue_of plan.now q.0) && plans.is_managed plan.now q.0) }
-{
-    plan.is_queue_of(device, q) && plan.is_managed(q)
 }

@@ -2,6 +2,8 @@
 #![tactic(auto)]
 
 #[cfg(test)]
+mod belongings;
+#[cfg(test)]
 mod declared;
 #[cfg(test)]
 mod plans;

@@ -227,3 +227,21 @@ pub static WITH_CLASSES: Parts = Parts {
     classes: &[2, 3],
     callbacks: &[],
 };
+
+/// A device with two queues, two interrupts and two targets, and between them another device with a queue.
+pub static WITH_BELONGINGS: Parts = Parts {
+    objects: &[
+        Object::Driver,
+        Object::Working(2),
+        Object::Queue(3, DEVICE),
+        Object::Interrupt(4),
+        Object::Off(5),
+        Object::Queue(6, OTHER_DEVICE),
+        Object::Target(7, 1),
+        Object::Queue(8, DEVICE),
+        Object::Interrupt(9),
+        Object::Target(10, 1),
+    ],
+    classes: &[],
+    callbacks: &[],
+};

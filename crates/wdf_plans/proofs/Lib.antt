@@ -2,4 +2,5 @@ pub mod Finding
 pub mod Gathering
 pub mod Linking
 pub mod Owning
+pub mod Placing
 pub mod Walking

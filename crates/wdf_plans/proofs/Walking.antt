@@ -1,21 +1,25 @@
 -- Walks over the scripts of one name, and over what belongs to one device.
-use Rattle.std.proofs.Common.{◌≡◌, ◌≢◌, ℕ, zero, suc, ◌+◌, ◌-◌, ◌<◌, ◌≤◌, ◌==◌, ◌&&◌, Bool, true, false, List, [], ◌∷◌, length, map, slice_get, slice_index, Option, Some, None, IfSome, option_map, inl, inr, refl, sym, ap, ◌∙◌, subst, arith}
+use Rattle.std.proofs.Common.{◌≡◌, ◌≢◌, ℕ, zero, suc, ◌+◌, ◌-◌, ◌<◌, ◌≤◌, ◌==◌, ◌&&◌, Bool, true, false, List, [], ◌∷◌, length, map, filter, get_or, slice_get, slice_index, Option, Some, None, inl, inr, refl, sym, ap, ◌∙◌, subst, arith}
+use Rattle.std.specs.List.{All, range_with_len}
+use Rattle.std.proofs.lemmas.List.Elements.{All-filter}
+use Rattle.std.proofs.lemmas.List.FromFn.{get_or-range_with_len, length-range_with_len}
 use Rattle.std.proofs.lemmas.Bool.{cases_lt, eqb-true}
 use Rattle.std.proofs.lemmas.Bool.Decides.{nat_tests}
 use Rattle.std.proofs.lemmas.List.{length-map}
-use Rattle.std.proofs.lemmas.Option.{slice_get_within}
 use Rattle.wdf_base.specs.declared.call.Callback.{Callback}
 use Rattle.wdf_base.specs.declared.declared.Declared.{Declared}
 use Rattle.wdf_base.specs.declared.declared.Declared.TheVariants as declared
-use Rattle.wdf_base.specs.declared.ids.ObjectId.{ObjectId}
 use Rattle.wdf_base.specs.declared.plan.Plan.{Plan}
 use Rattle.wdf_base.specs.declared.script.Script.{Script}
 use Rattle.wdf_base.specs.Plan.{declared_of, is_script_of}
 use Rattle.wdf_base.specs.Same.{same_callback}
 use Rattle.wdf_base.specs.SamePlan.{same_declared}
-use Rattle.wdf_model.specs.Plans.{as_interrupt, as_queue, as_target, is_interrupt_of, is_queue_of, is_target_of, queue_of}
-use Rattle.wdf_plans.specs.Keys.{IsNextOf, belongs_to, device_over, devices_over, id_or_end, owner_name, script_name, script_names}
-use Rattle.wdf_plans.specs.Places.{IsFirstAt, place_of}
+use Rattle.wdf_model.specs.Plans.{as_interrupt, as_queue, as_target, declared_ids, is_interrupt_of, is_queue_of, is_target_of, queue_of, queues_of}
+use Rattle.wdf_plans.specs.Belongings.{ids_at, ids_of, is_of}
+use Rattle.wdf_plans.specs.Keys.{belongs_to, device_over, devices_over, owner_name, script_name, script_names}
+use Rattle.wdf_plans.specs.Places.{IsFirstAt, places_of}
+use Rattle.wdf_plans.specs.declared.belongings.Sort.{Sort}
+use Rattle.wdf_plans.specs.declared.belongings.Sort.TheVariants as sort
 
 -- ---- reading a mapped list
 
@@ -23,11 +27,6 @@ read_mapped : {T : Type 0} (f : T → ℕ) (xs : List T) (k : ℕ) (x : T) → s
 read_mapped f [] k x h = absurd (let z : ⊥ = cc in z)
 read_mapped f (y ∷ ys) zero x h = let e : y ≡ x = cc in ap f e
 read_mapped f (y ∷ ys) (suc k) x h = read_mapped f ys k x h
-
--- the number at a place that was found
-pub named_at : (names : List ℕ) (number from : ℕ) (place : Option ℕ) → IsFirstAt names number from (place_of names place) → IfSome place (λ k. k < length names) → IfSome place (λ k. slice_index names k ≡ number)
-named_at names number from None first l = tt
-named_at names number from (Some k) first l = first.here l
 
 -- ---- scripts
 
@@ -100,73 +99,8 @@ module _ (plan : Plan) (devices : List ℕ) (is : devices ≡ devices_over plan)
       let long = as_long in
       belongs_at plan.declared device k (omega arith) ∙ sym (ap (λ xs. slice_index xs k == device) is)
 
-  passed_by : (device from at j : ℕ) → IsFirstAt devices device from at → suc from ≤ j → j < suc at → belongs_to device (declared_of plan j) ≡ false
-  passed_by device from at zero first a l = absurd (omega arith)
-  passed_by device from at (suc j) first a l =
-      let within = first.within in
-      let n : slice_index devices j ≢ device = first.passed j (omega arith) (omega arith) in
-      belongs_as device j (omega arith) ∙ (let z : (slice_index devices j == device) ≡ false = grind (arith, nat_tests) in z)
-
-  -- the first place from another on is that of the first id from another on
-  next_is : (device from at : ℕ) → IsFirstAt devices device from at → IsNextOf plan device (suc from) (suc at)
-  next_is device from at first =
-      let long = as_long in
-      let after = first.after in
-      let within = first.within in
-      record { after = omega arith; within = omega arith; passed = λ j a l. passed_by device from at j first a l }
-
-  pub walked : (device from : ℕ) (place : Option ℕ) (o : Option ObjectId) → IsFirstAt devices device from (place_of devices place) → option_map (λ (x : ObjectId). x.0) o ≡ option_map (λ k. k + 1) place
-      → IsNextOf plan device (suc from) (id_or_end plan o)
-  walked device from None None first e = let long : suc (length devices) ≡ suc (length plan.declared) = ap suc as_long in subst (IsNextOf plan device (suc from)) long (next_is device from (length devices) first)
-  walked device from (Some k) (Some x) first e =
-      let number : x.0 ≡ k + 1 = cc in
-      let same : suc k ≡ x.0 = omega arith in subst (IsNextOf plan device (suc from)) same (next_is device from k first)
-  walked device from None (Some x) first e = absurd (let z : ⊥ = cc in z)
-  walked device from (Some k) None first e = absurd (let z : ⊥ = cc in z)
-
-  pub owned : (device from : ℕ) (place : Option ℕ) (o : Option ObjectId) → IsFirstAt devices device from (place_of devices place) → IfSome place (λ k. k < length devices) → option_map (λ (x : ObjectId). x.0) o ≡ option_map (λ k. k + 1) place
-      → IfSome o (λ x. belongs_to device (declared_of plan x.0) ≡ true)
-  owned device from place None first l e = tt
-  owned device from (Some k) (Some x) first l e =
-      let number : x.0 ≡ k + 1 = cc in
-      let same : suc k ≡ x.0 = omega arith in
-      let here : slice_index devices k ≡ device = first.here l in
-      subst (λ id. belongs_to device (declared_of plan id) ≡ true) same (belongs_as device k l ∙ (let z : (slice_index devices k == device) ≡ true = grind (arith, nat_tests) in z))
-  owned device from None (Some x) first l e = absurd (let z : ⊥ = cc in z)
-
-  -- the place of what belongs to a device
-  pub place_before : (device id : ℕ) → belongs_to device (declared_of plan id) ≡ true → (0 < id) × (id - 1 < length devices) × (slice_index devices (id - 1) ≡ device)
-  place_before device zero h = absurd (let z : ⊥ = cc in z)
-  place_before device (suc k) h =
-      let long = as_long in
-      let l : k < length plan.declared = within (slice_get plan.declared k) refl h in
-      let n : suc k - 1 ≡ k = omega arith in
-      let b : (slice_index devices k == device) ≡ true = sym (belongs_as device k (omega arith)) ∙ h in
-      (omega arith, omega arith, rw n (eqb-true (slice_index devices k) device b))
-    where
-      within : (o : Option Declared) → slice_get plan.declared k ≡ o → belongs_to device o ≡ true → k < length plan.declared
-      within None e b = absurd (let z : ⊥ = cc in z)
-      within (Some x) e b = slice_get_within plan.declared k x e
-
--- the id 0 is of nothing
-pub next_from_none : (plan : Plan) (device id : ℕ) → IsNextOf plan device 1 id → IsNextOf plan device 0 id
-next_from_none plan device id n = record { after = omega arith; within = n.within; passed = λ j a l. passed j l }
-  where
-    passed : (j : ℕ) → j < id → belongs_to device (declared_of plan j) ≡ false
-    passed zero l = refl
-    passed (suc j) l = n.passed (suc j) (omega arith) l
-
--- what belongs to a device is declared
-pub belongs_within : (plan : Plan) (device id : ℕ) → belongs_to device (declared_of plan id) ≡ true → (0 < id) × (id ≤ length plan.declared)
-belongs_within plan device zero h = absurd (let z : ⊥ = cc in z)
-belongs_within plan device (suc k) h = (omega arith, within (slice_get plan.declared k) refl h)
-  where
-    within : (o : Option Declared) → slice_get plan.declared k ≡ o → belongs_to device o ≡ true → suc k ≤ length plan.declared
-    within None e b = absurd (let z : ⊥ = cc in z)
-    within (Some x) e b = let l = slice_get_within plan.declared k x e in omega arith
-
 -- what doesn't belong to a device is no queue, no interrupt and no target of it
-pub no_queue : (device : ℕ) (o : Option Declared) → belongs_to device o ≡ false → is_queue_of device (as_queue o) ≡ false
+no_queue : (device : ℕ) (o : Option Declared) → belongs_to device o ≡ false → is_queue_of device (as_queue o) ≡ false
 no_queue device (Some (declared.Queue q)) h = h
 no_queue device (Some (declared.Driver)) h = refl
 no_queue device (Some (declared.Device d)) h = refl
@@ -175,7 +109,7 @@ no_queue device (Some (declared.Target t)) h = refl
 no_queue device (Some (declared.OfClass c)) h = refl
 no_queue device None h = refl
 
-pub no_interrupt : (device : ℕ) (o : Option Declared) → belongs_to device o ≡ false → is_interrupt_of device (as_interrupt o) ≡ false
+no_interrupt : (device : ℕ) (o : Option Declared) → belongs_to device o ≡ false → is_interrupt_of device (as_interrupt o) ≡ false
 no_interrupt device (Some (declared.Interrupt i)) h = h
 no_interrupt device (Some (declared.Driver)) h = refl
 no_interrupt device (Some (declared.Device d)) h = refl
@@ -184,7 +118,7 @@ no_interrupt device (Some (declared.Target t)) h = refl
 no_interrupt device (Some (declared.OfClass c)) h = refl
 no_interrupt device None h = refl
 
-pub no_target : (device : ℕ) (o : Option Declared) → belongs_to device o ≡ false → is_target_of device (as_target o) ≡ false
+no_target : (device : ℕ) (o : Option Declared) → belongs_to device o ≡ false → is_target_of device (as_target o) ≡ false
 no_target device (Some (declared.Target t)) h = h
 no_target device (Some (declared.Driver)) h = refl
 no_target device (Some (declared.Device d)) h = refl
@@ -193,30 +127,56 @@ no_target device (Some (declared.Interrupt i)) h = refl
 no_target device (Some (declared.OfClass c)) h = refl
 no_target device None h = refl
 
-pub fails_first : (a b : Bool) → a ≡ false → (a && b) ≡ false
-fails_first a b e = ap (λ (x : Bool). x && b) e
+-- what is of a sort belongs to the device
+none_of : (s : Sort) (plan : Plan) (device o : ℕ) → belongs_to device (declared_of plan o) ≡ false → is_of s plan device o ≡ false
+none_of sort.Queue plan device o h = no_queue device (declared_of plan o) h
+none_of sort.Interrupt plan device o h = no_interrupt device (declared_of plan o) h
+none_of sort.Target plan device o h = no_target device (declared_of plan o) h
 
-pub fails_second : (a b : Bool) → b ≡ false → (a && b) ≡ false
-fails_second true b e = e
-fails_second false b e = refl
+none_first : (s : Sort) (plan : Plan) (device : ℕ) → is_of s plan device 0 ≡ false
+none_first sort.Queue plan device = refl
+none_first sort.Interrupt plan device = refl
+none_first sort.Target plan device = refl
 
--- so a test of its queues fails there
-pub only_queue : (plan : Plan) (device : ℕ) (more : ℕ → Bool) (j : ℕ) → belongs_to device (declared_of plan j) ≡ false → (is_queue_of device (queue_of plan j) && more j) ≡ false
-only_queue plan device more j h = ap (λ (b : Bool). b && more j) (no_queue device (declared_of plan j) h)
+-- of some numbers, those whose next one passes a test, by a test that these pass too
+shifted_by : (p q : ℕ → Bool) (a : ℕ) (xs ys : List ℕ) (b c : Bool) → q a ≡ b → p (a + 1) ≡ c → (q a ≡ false → p (a + 1) ≡ false) → map (λ k. k + 1) (filter (λ k. p (k + 1)) (filter q xs)) ≡ filter p ys
+    → map (λ k. k + 1) (filter (λ k. p (k + 1)) (filter q (a ∷ xs))) ≡ filter p ((a + 1) ∷ ys)
+shifted_by p q a xs ys true true e f only rest = rw (e, f) (ap (λ zs. (a + 1) ∷ zs) rest)
+shifted_by p q a xs ys true false e f only rest = rw (e, f) rest
+shifted_by p q a xs ys false true e f only rest = absurd (let z = only e in let w : ⊥ = cc in w)
+shifted_by p q a xs ys false false e f only rest = rw (e, f) rest
 
--- a test that only what belongs to a device passes, on the ids up to the next of these
-module _ (plan : Plan) (device : ℕ) (test : ℕ → Bool) (only : (j : ℕ) → belongs_to device (declared_of plan j) ≡ false → test j ≡ false) where
-  pub fails_to : (from id : ℕ) → IsNextOf plan device from id → ((j : ℕ) → j < from → test j ≡ false) → (j : ℕ) → j < id → test j ≡ false
-  fails_to from id next before j l = elim (cases_lt j from) as (λ _. test j ≡ false) [
-    | inl early ↦ before j early
-    | inr late ↦ only j (next.passed j late l)
-  ]
+shifted : (p q : ℕ → Bool) (a n : ℕ) → ((k : ℕ) → k < a + n → q k ≡ false → p (k + 1) ≡ false) → map (λ k. k + 1) (filter (λ k. p (k + 1)) (filter q (range_with_len a n))) ≡ filter p (range_with_len (a + 1) n)
+shifted p q a zero only = refl
+shifted p q a (suc n) only =
+    shifted_by p q a (range_with_len (a + 1) n) (range_with_len (a + 1 + 1) n) (q a) (p (a + 1)) refl refl (only a (omega arith))
+    (shifted p q (a + 1) n (λ k l. only k (omega arith)))
 
-  pub fails_on : (n id : ℕ) → IsNextOf plan device (n + 1) id → test n ≡ false → ((j : ℕ) → j < n → test j ≡ false) → (j : ℕ) → j < id → test j ≡ false
-  fails_on n id next this before = fails_to (n + 1) id next more
-    where
-      more : (j : ℕ) → j < n + 1 → test j ≡ false
-      more j l = elim (cases_lt j n) as (λ _. test j ≡ false) [
-        | inl early ↦ before j early
-        | inr late ↦ let same : j ≡ n = omega arith in ap test same ∙ this
-      ]
+-- the ids of a sort, at the places of their device
+pub ids_are : (s : Sort) (plan : Plan) (device : ℕ) (devices : List ℕ) → devices ≡ devices_over plan → ids_at s plan device (places_of devices device) ≡ ids_of s plan device
+ids_are s plan device devices is =
+    let long = as_long plan devices is in
+    let count : length devices - 0 ≡ length plan.declared = omega arith in
+    let first = none_first s plan device in
+    rw (count, first) (shifted (is_of s plan device) (λ k. slice_index devices k == device) 0 (length plan.declared) only)
+  where
+    only : (k : ℕ) → k < 0 + length plan.declared → (slice_index devices k == device) ≡ false → is_of s plan device (k + 1) ≡ false
+    only k l h =
+        let long = as_long plan devices is in
+        let e : suc k ≡ k + 1 = omega arith in
+        none_of s plan device (k + 1) (subst (λ o. belongs_to device (declared_of plan o) ≡ false) e (belongs_as plan devices is device k (omega arith) ∙ h))
+
+-- at one place more
+pub ids_taken : (s : Sort) (plan : Plan) (device place : ℕ) (places : List ℕ) → is_of s plan device (place + 1) ≡ true → ids_at s plan device (place ∷ places) ≡ (place + 1) ∷ ids_at s plan device places
+ids_taken s plan device place places e = rw e refl
+
+pub ids_passed : (s : Sort) (plan : Plan) (device place : ℕ) (places : List ℕ) → is_of s plan device (place + 1) ≡ false → ids_at s plan device (place ∷ places) ≡ ids_at s plan device places
+ids_passed s plan device place places e = rw e refl
+
+-- the queues are declared
+pub queues_declared : (plan : Plan) (device : ℕ) → All (λ q. q ≤ length plan.declared) (queues_of plan device)
+queues_declared plan device =
+    All-filter (λ id. is_queue_of device (queue_of plan id)) (λ q. q ≤ length plan.declared) (declared_ids plan) (λ k d l. below k d (subst (λ n. k < n) (length-range_with_len 0 (suc (length plan.declared))) l))
+  where
+    below : (k d : ℕ) → k < suc (length plan.declared) → get_or (declared_ids plan) k d ≤ length plan.declared
+    below k d l = subst (λ n. n ≤ length plan.declared) (sym (get_or-range_with_len 0 (suc (length plan.declared)) k d l)) (omega arith)

@@ -1,12 +1,10 @@
 -- The numbers by which a plan's scripts, and what belongs to its devices, are found.
-use Rattle.std.specs.Prelude.{ℕ, suc, ◌≡◌, ◌<◌, ◌≤◌, ◌==◌, Bool, false, List, length, map, Option, Some, None, unwrap_or}
+use Rattle.std.specs.Prelude.{ℕ, ◌==◌, Bool, false, List, map, Option, Some, None, unwrap_or}
 use Rattle.wdf_base.specs.declared.declared.Declared.{Declared}
 use Rattle.wdf_base.specs.declared.declared.Declared.TheVariants as declared
-use Rattle.wdf_base.specs.declared.ids.ObjectId.{ObjectId}
 use Rattle.wdf_base.specs.declared.plan.Plan.{Plan}
 use Rattle.wdf_base.specs.declared.script.Script.{Script}
 use Rattle.wdf_base.specs.Kinds.{declared_name}
-use Rattle.wdf_base.specs.Plan.{declared_of}
 use Rattle.wdf_model.specs.Plans.{name_of_class}
 
 -- the number of the name of what a script is declared on
@@ -36,14 +34,3 @@ devices_over plan = map device_over plan.declared
 abbrev pub belongs_to : ℕ → Option Declared → Bool
 belongs_to device None = false
 belongs_to device (Some o) = device_over o == device
-
--- the id of an object, or that after the last declared one
-abbrev pub id_or_end : Plan → Option ObjectId → ℕ
-id_or_end plan None = suc (length plan.declared)
-id_or_end plan (Some o) = o.0
-
--- The first id from another on of what belongs to a device, or that after the last declared one.
-pub record IsNextOf (plan : Plan) (device from id : ℕ) : Type 0 where
-  pub after : from ≤ id
-  pub within : id ≤ suc (length plan.declared)
-  pub passed : (j : ℕ) → from ≤ j → j < id → belongs_to device (declared_of plan j) ≡ false

@@ -1,3 +1,4 @@
+pub mod Belongings
 pub mod Keys
 pub mod Owners
 pub mod Places

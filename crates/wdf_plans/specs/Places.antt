@@ -1,6 +1,7 @@
 -- Where numbers are in a list.
-use Rattle.std.specs.Prelude.{ℕ, ◌≡◌, ◌≢◌, ◌+◌, ◌%◌, ◌<◌, ◌≤◌, ◌^◌, List, length, Option, Some, None, slice_index}
-use Rattle.wdf_plans.specs.declared.places.Links.{Links}
+use Rattle.std.specs.Prelude.{ℕ, ◌≡◌, ◌≢◌, ◌+◌, ◌-◌, ◌%◌, ◌<◌, ◌≤◌, ◌^◌, ◌==◌, List, [], ◌∷◌, length, Option, Some, None, IfSome, MatchOption, filter, slice_index}
+use Rattle.std.specs.List.{range_with_len}
+use Rattle.wdf_plans.specs.declared.places.Chains.{Chains}
 use Rattle.wdf_plans.specs.declared.places.Places.TheInside.{Inside}
 
 -- a place, or the list's length for none
@@ -27,12 +28,33 @@ pub record AreLinkedFrom (numbers heads nexts : List ℕ) (count from : ℕ) : T
   pub first : (b : ℕ) → b < count → IsFirstBy count numbers b from (slice_index heads b)
   pub next : (k : ℕ) → from ≤ k → k < length numbers → IsFirstBy count numbers (slice_index numbers k % count) (k + 1) (slice_index nexts k)
 
--- The links are those of the numbers.
-pub record AreLinked (numbers : List ℕ) (links : Links) : Type 0 where
+-- The chains are those of the numbers.
+pub record AreLinked (numbers : List ℕ) (chains : Chains) : Type 0 where
   pub few : length numbers < 2 ^ 32
-  pub some : 0 < length links.heads.items
-  pub as_many : length links.nexts.items ≡ length numbers
-  pub linked : AreLinkedFrom numbers links.heads.items links.nexts.items (length links.heads.items) 0
+  pub some : 0 < length chains.heads.items
+  pub as_many : length chains.nexts.items ≡ length numbers
+  pub linked : AreLinkedFrom numbers chains.heads.items chains.nexts.items (length chains.heads.items) 0
 
 abbrev pub IsSound : Inside → Type 0
-IsSound places = AreLinked places.numbers.items places.links
+IsSound places = AreLinked places.numbers.items places.chains
+
+-- the places of a number from a place on
+abbrev pub places_from : List ℕ → ℕ → ℕ → List ℕ
+places_from numbers number from = filter (λ k. slice_index numbers k == number) (range_with_len from (length numbers - from))
+
+-- the places of a number
+abbrev pub places_of : List ℕ → ℕ → List ℕ
+places_of numbers number = places_from numbers number 0
+
+-- what is left of them, the next of them first
+abbrev pub places_left : List ℕ → ℕ → Option ℕ → List ℕ
+places_left numbers number None = []
+places_left numbers number (Some place) = place ∷ places_from numbers number (place + 1)
+
+-- the next one is a place of the number, and fits
+abbrev pub IsAtPlace : List ℕ → ℕ → Option ℕ → Type 0
+IsAtPlace numbers number next = IfSome next (λ place. (place < length numbers) × (place + 1 < 2 ^ 32) × (slice_index numbers place ≡ number))
+
+-- the first of what is left is taken, and fits
+abbrev pub TakesPlace : List ℕ → Option ℕ → List ℕ → Type 0
+TakesPlace left taken rest = MatchOption taken ((left ≡ []) × (rest ≡ [])) (λ place. (left ≡ place ∷ rest) × (place + 1 < 2 ^ 32))

@@ -1,37 +1,129 @@
 //! What belongs to a device: its queues, interrupts and targets, by rising id.
-ghost use Rattle.std.specs.Prelude.{◌≡◌, ◌<◌, ◌+◌, ◌^◌, true, IfSome, option_map};
-ghost use Rattle.wdf_base.specs.Plan.{declared_of};
-ghost use Rattle.wdf_plans.specs.Keys.{IsNextOf, belongs_to, id_or_end};
+ghost use Rattle.std.specs.Prelude.{◌≡◌, ◌≤◌, length};
+ghost use Rattle.std.specs.Iterator.{at_most};
+ghost use Rattle.std.specs.List.{All};
+ghost use Rattle.std.specs.Map.Iter.{TakesFirst};
+ghost use Rattle.wdf_model.specs.Plans as plans;
+ghost use Rattle.wdf_model.specs.rules.Starts.{targets_at};
+ghost use Rattle.wdf_plans.specs.Belongings.{ids_of, is_of as is_of_sort};
 
 use crate::indexed::IndexedPlan;
+use crate::places::PlacesOf;
+use std::marker::Model;
 use wdf_base::ObjectId;
 
-impl IndexedPlan {
-    /// The first of what belongs to a device: of its queues, interrupts and targets.
-    pub fn first_of(&self, device: ObjectId) -> Option<ObjectId>
-        ensures own { IfSome result (λ o. belongs_to device.0 (declared_of self.now o.0) ≡ true) }
-        ensures next { IsNextOf self.now device.0 0 (id_or_end self.now result) }
-    {
-        object_at(self.tables.belongings.first(device.0))
-    }
+/// What belongs to a device.
+#[derive(Clone, Copy)]
+enum Sort {
+    Queue,
+    Interrupt,
+    Target,
+}
 
-    /// The next of what belongs to the same device.
-    pub fn next_of(&self, device: ObjectId, o: ObjectId) -> Option<ObjectId>
-        requires { belongs_to device.0 (declared_of self.now o.0) ≡ true }
-        ensures own { IfSome result (λ o. belongs_to device.0 (declared_of self.now o.0) ≡ true) }
-        ensures next { IsNextOf self.now device.0 (o.0 + 1) (id_or_end self.now result) }
-    {
-        object_at(self.tables.belongings.after(o.0 - 1))
+/// The queues of a device, or its interrupts, or its targets, by rising id. Nothing is looked at but what
+/// belongs to the device.
+///
+/// Contracts see the ids that are still to come.
+#[derive(Drop)]
+pub struct Belongings<'a> {
+    plan: &'a IndexedPlan,
+    device: ObjectId,
+    sort: Sort,
+    /// Where, of what is declared, that which belongs to the device is.
+    places: PlacesOf<'a>,
+}
+
+impl<'a> Model for Belongings<'a> {
+    ghost use Rattle.std.specs.Prelude.{ℕ, List};
+
+    ghost Value = { List ℕ };
+
+    ghost use Rattle.wdf_plans.specs.Belongings.{ids_at};
+
+    ghost view = { λ b. ids_at b.sort b.plan.now b.device.0 b.places };
+}
+
+impl<'a> Iterator for Belongings<'a> {
+    type Item = ObjectId;
+
+    ghost next_gives = { TakesFirst (λ o. o.0) };
+
+    ghost remaining = { λ ids. at_most (length ids) };
+
+    fn next(&mut self) -> Option<ObjectId> {
+        'look: while let Some(place) = self.places.next() {
+            let o = ObjectId(place + 1);
+            if is_of(self.plan, self.sort, self.device, o) {
+                return Some(o);
+            }
+        }
+        None
     }
 }
 
-/// The object that is declared at a place: ids count from 1.
-fn object_at(place: Option<u32>) -> Option<ObjectId>
-    requires { IfSome place (λ k. k + 1 < 2 ^ 32) }
-    ensures { option_map (λ o. o.0) result ≡ option_map (λ k. k + 1) place }
+impl IndexedPlan {
+    /// What belongs to a device, of one sort.
+    fn belongings(&self, device: ObjectId, sort: Sort) -> Belongings<'_>
+        ensures { result ≡ ids_of sort self.now device.0 }
+    {
+        Belongings {
+            plan: self,
+            device,
+            sort,
+            places: self.tables.belongings.of(device.0),
+        }
+    }
+
+    /// The queues of a device.
+    pub fn queues_of(&self, device: ObjectId) -> Belongings<'_>
+        ensures value { result ≡ plans.queues_of self.now device.0 }
+        ensures declared { All (λ q. q ≤ length self.now.declared) result }
+    {
+        self.belongings(device, Sort::Queue)
+    }
+
+    /// The interrupts of a device.
+    pub fn interrupts_of(&self, device: ObjectId) -> Belongings<'_>
+        ensures { result ≡ plans.interrupts_of self.now device.0 }
+    {
+        self.belongings(device, Sort::Interrupt)
+    }
+
+    /// The targets of a device.
+    pub fn targets_of(&self, device: ObjectId) -> Belongings<'_>
+        ensures { result ≡ targets_at self.now device.0 }
+    {
+        self.belongings(device, Sort::Target)
+    }
+
+    /// Whether an id is that of an interrupt of this device.
+    fn is_interrupt_of(&self, device: ObjectId, i: ObjectId) -> bool
+        ensures { result ≡ plans.is_interrupt_of device.0 (plans.interrupt_of self.now i.0) }
+    {
+        match self.interrupt_of(i) {
+            Some(interrupt) => interrupt.device.0 == device.0,
+            None => false,
+        }
+    }
+
+    /// Whether an id is that of a target of this device.
+    fn is_target_of(&self, device: ObjectId, t: ObjectId) -> bool
+        ensures { result ≡ plans.is_target_of device.0 (plans.target_of self.now t.0) }
+    {
+        match self.target_of(t) {
+            Some(target) => target.device.0 == device.0,
+            None => false,
+        }
+    }
+}
+
+/// Whether an id is that of an object of this sort of a device.
+fn is_of(plan: &IndexedPlan, sort: Sort, device: ObjectId, o: ObjectId) -> bool
+    ensures { result ≡ is_of_sort sort plan.now device.0 o.0 }
 {
-    match place {
-        Some(k) => Some(ObjectId(k + 1)),
-        None => None,
+    match sort {
+        Sort::Queue => plan.is_queue_of(device, o),
+        Sort::Interrupt => plan.is_interrupt_of(device, o),
+        Sort::Target => plan.is_target_of(device, o),
     }
 }

@@ -13,5 +13,6 @@ mod places;
 mod queues;
 mod tables;
 
+pub use belongings::Belongings;
 pub use indexed::IndexedPlan;
 pub use owners::{Owner, ids_of};

@@ -1,18 +1,21 @@
 ghost use Rattle.std.specs.Prelude.{◌≡◌, ◌+◌, ◌%◌, ◌<◌, ◌≤◌, ◌^◌, IfOk, IfSome, length, slice_index};
-ghost use Rattle.wdf_plans.specs.Places.{AreLinked, IsFirstAt, place_of};
+ghost use Rattle.std.specs.Iterator.{at_most};
+ghost use Rattle.wdf_plans.specs.Places.{AreLinked, IsFirstAt, TakesPlace, place_of, places_of};
 
 use std::alloc::Global;
 use std::marker::Model;
 use wdf_base::Memory;
 
-/// A list of numbers, made once, with links by which the places of a number are found in their order.
+/// A list of numbers, made once, with chains by which the places of a number are found in their order.
 /// Those of a number that is below the count of heads are found without a look at any other's.
+///
+/// (`wdf_ilist::Links` has at most 2^31 items, and keeps an owner and two neighbours of each, where one serves.)
 ///
 /// Contracts see the list. No call but [`Places::make`] takes memory.
 #[derive(Drop)]
 pub struct Places {
     numbers: Vec<u32>,
-    links: Links,
+    chains: Chains,
 }
 
 impl Model for Places {
@@ -27,19 +30,19 @@ impl Model for Places {
     ghost invariant = { IsSound };
 }
 
-/// The links of a list.
+/// The chains of a list.
 #[derive(Drop)]
-pub(crate) struct Links {
+pub(crate) struct Chains {
     /// For each remainder: the first place whose number has it, or the list's length.
     heads: Vec<u32>,
     /// For each place: the next one whose number has the same remainder, or the list's length.
     nexts: Vec<u32>,
 }
 
-/// The links of a list, with as many heads, and at least one.
-fn links_of(alloc: Global, numbers: &[u32], heads: u32) -> Result<Links, Memory>
+/// The chains of a list, with as many heads, and at least one.
+fn chains_of(alloc: Global, numbers: &[u32], heads: u32) -> Result<Chains, Memory>
     requires { length numbers.now < 2 ^ 32 }
-    ensures { IfOk result (λ links. AreLinked numbers.now links) }
+    ensures { IfOk result (λ chains. AreLinked numbers.now chains) }
 {
     let none = numbers.len() as u32;
     let mut heads = vec![in alloc; none; heads.max(1) as usize]?;
@@ -51,14 +54,14 @@ fn links_of(alloc: Global, numbers: &[u32], heads: u32) -> Result<Links, Memory>
         nexts[at] = heads[remainder];
         heads[remainder] = at as u32;
     }
-    Ok(Links { heads, nexts })
+    Ok(Chains { heads, nexts })
 }
 
 /// The first place of a number from one on that is the list's length, or whose number has the same remainder.
-fn first_from(numbers: &[u32], links: &Links, number: u32, from: u32) -> Option<u32>
-    requires linked { AreLinked numbers.now links.now }
+fn first_from(numbers: &[u32], chains: &Chains, number: u32, from: u32) -> Option<u32>
+    requires linked { AreLinked numbers.now chains.now }
     requires within { from ≤ length numbers.now }
-    requires alike { from < length numbers.now → slice_index numbers.now from % length links.now.heads.items ≡ number % length links.now.heads.items }
+    requires alike { from < length numbers.now → slice_index numbers.now from % length chains.now.heads.items ≡ number % length chains.now.heads.items }
     ensures first { IsFirstAt numbers.now number from (place_of numbers.now result) }
     ensures within { IfSome result (λ place. place < length numbers.now) }
 {
@@ -67,19 +70,19 @@ fn first_from(numbers: &[u32], links: &Links, number: u32, from: u32) -> Option<
         if numbers[at] == number {
             return Some(at as u32);
         }
-        at = links.nexts[at] as usize;
+        at = chains.nexts[at] as usize;
     }
     None
 }
 
 impl Places {
-    /// The list with its links, and as many heads, at least one. On [`Memory`] nothing is made.
+    /// The list with its chains, and as many heads, at least one. On [`Memory`] nothing is made.
     pub fn make(alloc: Global, numbers: Vec<u32>, heads: u32) -> Result<Places, Memory>
         requires { length numbers.items < 2 ^ 32 }
         ensures { IfOk result (λ places. places ≡ numbers.items) }
     {
-        let links = links_of(alloc, numbers.as_slice(), heads)?;
-        Ok(Places { numbers, links })
+        let chains = chains_of(alloc, numbers.as_slice(), heads)?;
+        Ok(Places { numbers, chains })
     }
 
     /// The numbers.
@@ -96,13 +99,13 @@ impl Places {
         ensures within { IfSome result (λ place. place < length self.now) }
         ensures small { IfSome result (λ place. place + 1 < 2 ^ 32) }
     {
-        let links = &self.links;
-        let remainder = number as usize % links.heads.len();
+        let chains = &self.chains;
+        let remainder = number as usize % chains.heads.len();
         first_from(
             self.numbers.as_slice(),
-            links,
+            chains,
             number,
-            links.heads[remainder],
+            chains.heads[remainder],
         )
     }
 
@@ -114,12 +117,61 @@ impl Places {
         ensures small { IfSome result (λ place. place + 1 < 2 ^ 32) }
     {
         let at = place as usize;
-        let links = &self.links;
+        let chains = &self.chains;
         first_from(
             self.numbers.as_slice(),
-            links,
+            chains,
             self.numbers[at],
-            links.nexts[at],
+            chains.nexts[at],
         )
+    }
+}
+
+/// The places of a number in a list, rising.
+///
+/// Contracts see the places that are still to come.
+#[derive(Drop)]
+pub struct PlacesOf<'a> {
+    places: &'a Places,
+    number: u32,
+    next: Option<u32>,
+}
+
+impl<'a> Model for PlacesOf<'a> {
+    ghost use Rattle.std.specs.Prelude.{ℕ, List};
+
+    ghost Value = { List ℕ };
+
+    ghost use Rattle.wdf_plans.specs.Places.{IsAtPlace, places_left};
+
+    ghost view = { λ p. places_left p.places.now p.number p.next };
+
+    ghost invariant = { λ p. IsAtPlace p.places.now p.number p.next };
+}
+
+impl Places {
+    /// The places of a number.
+    pub fn of(&self, number: u32) -> PlacesOf<'_>
+        ensures { result ≡ places_of self.now number }
+    {
+        PlacesOf {
+            places: self,
+            number,
+            next: self.first(number),
+        }
+    }
+}
+
+impl<'a> Iterator for PlacesOf<'a> {
+    type Item = u32;
+
+    ghost next_gives = { TakesPlace };
+
+    ghost remaining = { λ places. at_most (length places) };
+
+    fn next(&mut self) -> Option<u32> {
+        let place = self.next?;
+        self.next = self.places.after(place);
+        Some(place)
     }
 }

@@ -81,28 +81,16 @@ impl IndexedPlan {
     fn serving(&self, device: ObjectId, form: RequestForm) -> Option<ObjectId>
         ensures { option_map (λ q. q.0) result ≡ find (λ q. plans.serves form (plans.queue_of self.now q)) (plans.queues_of self.now device.0) }
     {
-        let mut at = self.first_of(device);
-        'walk: while let Some(q) = at {
-            if self.is_queue_of(device, q) && serves(form, self.queue_of(q)) {
-                return Some(q);
-            }
-            at = self.next_of(device, q);
-        }
-        None
+        self.queues_of(device)
+            .find(|q| serves(form, self.queue_of(*q)))
     }
 
     /// The first default queue of a device.
     fn serving_rest(&self, device: ObjectId) -> Option<ObjectId>
         ensures { option_map (λ q. q.0) result ≡ find (λ q. plans.serves_rest (plans.queue_of self.now q)) (plans.queues_of self.now device.0) }
     {
-        let mut at = self.first_of(device);
-        'walk: while let Some(q) = at {
-            if self.is_queue_of(device, q) && serves_rest(self.queue_of(q)) {
-                return Some(q);
-            }
-            at = self.next_of(device, q);
-        }
-        None
+        self.queues_of(device)
+            .find(|q| serves_rest(self.queue_of(*q)))
     }
 }
 

@@ -1,5 +1,5 @@
 //! When the interrupts and the power-managed queues of a device are at rest.
-ghost use Rattle.std.specs.Prelude.{◌≡◌, ◌&&◌, not};
+ghost use Rattle.std.specs.Prelude.{◌≡◌, not};
 ghost use Rattle.std.specs.List.{list_all};
 ghost use Rattle.wdf_model.specs.Plans as plans;
 ghost use Rattle.wdf_model.specs.parts.Cpus.{nobody_on};
@@ -21,31 +21,8 @@ pub fn is_quiet<A: Agent>(plan: &IndexedPlan, parts: &Parts<A>, d: ObjectId) -> 
 fn no_interrupt_queued<A: Agent>(plan: &IndexedPlan, parts: &Parts<A>, d: ObjectId) -> bool
     ensures { result ≡ list_all (λ i. not (is_dpc_queued parts.now.dpcs i)) (plans.interrupts_of plan.now d.0) }
 {
-    let mut at = plan.first_of(d);
-    'walk: while let Some(i) = at {
-        if is_queued_of(plan, parts, d, i) {
-            return false;
-        }
-        at = plan.next_of(d, i);
-    }
-    true
-}
-
-/// Whether an id is that of an interrupt of this device that is queued.
-fn is_queued_of<A: Agent>(plan: &IndexedPlan, parts: &Parts<A>, d: ObjectId, i: ObjectId) -> bool
-    ensures { result ≡ (plans.is_interrupt_of d.0 (plans.interrupt_of plan.now i.0) && is_dpc_queued parts.now.dpcs i.0) }
-{
-    is_interrupt_of(plan, d, i) && parts.dpcs().is_dpc_queued(i)
-}
-
-/// Whether an id is that of an interrupt of this device.
-fn is_interrupt_of(plan: &IndexedPlan, d: ObjectId, i: ObjectId) -> bool
-    ensures { result ≡ plans.is_interrupt_of d.0 (plans.interrupt_of plan.now i.0) }
-{
-    match plan.interrupt_of(i) {
-        Some(interrupt) => interrupt.device.0 == d.0,
-        None => false,
-    }
+    plan.interrupts_of(d)
+        .all(|i| !parts.dpcs().is_dpc_queued(i))
 }
 
 /// Whether each request that is held from the power-managed queues of a device is acknowledged, and no
@@ -56,23 +33,11 @@ pub fn is_settled<A: Agent>(plan: &IndexedPlan, parts: &Parts<A>, d: ObjectId) -
     parts.power().unsettled(d) == 0 && nobody_on_managed(plan, parts, d)
 }
 
-/// Whether an id is that of a power-managed queue of this device on which a frame runs.
-fn is_busy_of<A: Agent>(plan: &IndexedPlan, parts: &Parts<A>, d: ObjectId, q: ObjectId) -> bool
-    ensures { result ≡ (plans.is_queue_of d.0 (plans.queue_of plan.now q.0) && plans.is_managed plan.now q.0 && not (nobody_on parts.now.cpus q.0)) }
-{
-    plan.is_queue_of(d, q) && plan.is_managed(q) && !parts.cpus().nobody_on(q)
-}
-
 /// Whether no frame runs on a power-managed queue of a device.
 fn nobody_on_managed<A: Agent>(plan: &IndexedPlan, parts: &Parts<A>, d: ObjectId) -> bool
     ensures { result ≡ list_all (nobody_on parts.now.cpus) (plans.managed_queues plan.now d.0) }
 {
-    let mut at = plan.first_of(d);
-    'walk: while let Some(q) = at {
-        if is_busy_of(plan, parts, d, q) {
-            return false;
-        }
-        at = plan.next_of(d, q);
-    }
-    true
+    plan.queues_of(d)
+        .filter(|q| plan.is_managed(*q))
+        .all(|q| parts.cpus().nobody_on(q))
 }

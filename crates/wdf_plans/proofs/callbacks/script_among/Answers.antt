@@ -5,7 +5,8 @@ use Rattle.wdf_base.specs.Plan.{is_script_of}
 use Rattle.wdf_plans.specs.Keys.{owner_name}
 use Rattle.wdf_plans.specs.Places.{IsFirstAt, place_of}
 use Rattle.wdf_plans.proofs.Finding.{first_place, no_place}
-use Rattle.wdf_plans.proofs.Walking.{failed_more, failed_on, named_at, names_long}
+use Rattle.wdf_plans.proofs.Placing.{named_at}
+use Rattle.wdf_plans.proofs.Walking.{failed_more, failed_on, names_long}
 use Rattle.wdf_plans.proofs.callbacks.script_among.Goals as goal
 
 pub walk-init : goal.walk-init

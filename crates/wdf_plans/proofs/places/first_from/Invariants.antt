@@ -7,7 +7,7 @@ invariant-pass l = record {
   after : l.from ≤ l.at;
   within : l.at ≤ length l.numbers;
   passed : (j : ℕ) → l.from ≤ j → j < l.at → slice_index l.numbers j ≢ l.number;
-  alike : l.at < length l.numbers → slice_index l.numbers l.at % length l.links.heads.items ≡ l.number % length l.links.heads.items;
+  alike : l.at < length l.numbers → slice_index l.numbers l.at % length l.chains.heads.items ≡ l.number % length l.chains.heads.items;
 }
 
 abbrev pub decreases-pass : goal.decreases-pass

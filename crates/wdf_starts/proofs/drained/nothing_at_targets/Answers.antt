@@ -1,57 +1,9 @@
--- One that fails, or none.
-use Rattle.std.proofs.Common.{suc, ◌<◌, ◌&&◌, not, length, sym, ◌∙◌, arith}
-use Rattle.wdf_base.specs.Plan.{declared_of}
-use Rattle.wdf_model.specs.Plans.{is_target_of, target_of}
-use Rattle.wdf_model.specs.State.{nothing_at}
-use Rattle.wdf_plans.specs.Keys.{id_or_end}
-use Rattle.wdf_plans.proofs.Walking.{belongs_within, fails_first, fails_on, fails_to, no_target}
-use Rattle.wdf_starts.proofs.Passing.{all_pass, one_fails, twice_not}
+-- The test is that of each id.
+use Rattle.std.proofs.Common.{rules}
+use Rattle.std.proofs.lemmas.Iterator.Consumers.{YieldsList-from_rest}
+use Rattle.std.proofs.lemmas.Iterator.Search.{all_from_yields_List}
 use Rattle.wdf_starts.proofs.drained.nothing_at_targets.Goals as goal
-
-pub walk-init : goal.walk-init
-walk-init g c =
-    let P = c.args.plan.now in
-    let S = c.args.parts.now in
-    let within = c.first_of-at.ensures.next.within in
-    record {
-      own = c.first_of-at.ensures.own;
-      within = omega arith;
-      failed = fails_to P c.args.d.0 (λ j. is_target_of c.args.d.0 (target_of P j) && not (nothing_at S j)) (λ j h. fails_first (is_target_of c.args.d.0 (target_of P j)) (not (nothing_at S j)) (no_target c.args.d.0 (declared_of P j) h)) 0 (id_or_end P c.first_of-at.result) c.first_of-at.ensures.next (λ j l. absurd (omega arith));
-    }
-
-pub walk-preserved : goal.walk-preserved
-walk-preserved g c =
-    let P = c.args.plan.now in
-    let S = c.args.parts.now in
-    let within = c.next_of-at.ensures.next.within in
-    let before = rw c.in-Some.is at c.walk.invariant.failed in
-    record {
-      own = c.next_of-at.ensures.own;
-      within = omega arith;
-      failed = fails_on P c.args.d.0 (λ j. is_target_of c.args.d.0 (target_of P j) && not (nothing_at S j)) (λ j h. fails_first (is_target_of c.args.d.0 (target_of P j)) (not (nothing_at S j)) (no_target c.args.d.0 (declared_of P j) h)) c.in-Some.t.0 (id_or_end P c.next_of-at.result) c.next_of-at.ensures.next (sym c.is_sent_to.ensures ∙ c.if-is_sent_to.false) before;
-    }
-
-pub walk-smaller : goal.walk-smaller
-walk-smaller g c =
-    let own = rw c.in-Some.is at c.walk.invariant.own in
-    let low = belongs_within c.args.plan.now c.args.d.0 c.in-Some.t.0 own in
-    let after = c.next_of-at.ensures.next.after in
-    let within = c.next_of-at.ensures.next.within in
-    rw c.in-Some.is (omega (arith, low.1))
-
-pub returns-then-is_sent_to : goal.returns-then-is_sent_to
-returns-then-is_sent_to g c =
-    let P = c.args.plan.now in
-    let S = c.args.parts.now in
-    let own = rw c.in-Some.is at c.walk.invariant.own in
-    let low = belongs_within P c.args.d.0 c.in-Some.t.0 own in
-    let before = rw c.in-Some.is at c.walk.invariant.failed in
-    let within : c.in-Some.t.0 < suc (length P.declared) = omega (arith, low.1) in
-    sym (one_fails (nothing_at S) (λ t. is_target_of c.args.d.0 (target_of P t)) (λ t. not (nothing_at S t)) (λ t. twice_not (nothing_at S t)) c.in-Some.t.0 (suc (length P.declared)) within before (sym c.is_sent_to.ensures ∙ c.if-is_sent_to.true))
+use borrow.Author.Tests.{tests}
 
 pub returns : goal.returns
-returns g c =
-    let P = c.args.plan.now in
-    let S = c.args.parts.now in
-    let before = rw c.in_default.is at c.walk.invariant.failed in
-    sym (all_pass (nothing_at S) (λ t. is_target_of c.args.d.0 (target_of P t)) (λ t. not (nothing_at S t)) (λ t. twice_not (nothing_at S t)) (suc (length P.declared)) before)
+returns g c = all_from_yields_List _ _ _ _ c.all.ensures.ran (YieldsList-from_rest _ c.targets_of.ensures) (λ o b f k. search (rules, tests))

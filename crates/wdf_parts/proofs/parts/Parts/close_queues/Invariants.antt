@@ -1,19 +1,13 @@
--- The queues before this one are closed, and this one belongs to the device.
-use Rattle.std.proofs.Common.{◌≡◌, suc, ◌-◌, ◌<◌, fold, filter, length, IfSome, true}
-use Rattle.std.specs.List.{range_with_len}
-use Rattle.wdf_base.specs.Plan.{declared_of}
-use Rattle.wdf_model.specs.Plans.{is_queue_of, queue_of}
+-- The queues that are left come to all of them.
+use Rattle.std.proofs.Common.{◌≡◌, ◌≤◌, fold, length}
+use Rattle.std.specs.List.{All}
+use Rattle.wdf_model.specs.Plans.{queues_of}
 use Rattle.wdf_model.specs.rules.Deeds.{close_queue}
-use Rattle.wdf_plans.specs.Keys.{belongs_to, id_or_end}
 use Rattle.wdf_parts.proofs.parts.Parts.close_queues.Given as goal
 
-abbrev pub invariant-walk : goal.invariant-walk
-invariant-walk g l = record {
-  own : IfSome l.at (λ o. belongs_to l.device.0 (declared_of l.plan o.0) ≡ true);
-  within : id_or_end l.plan l.at < suc (suc (length l.plan.declared));
+abbrev pub invariant-loop-q : goal.invariant-loop-q
+invariant-loop-q g l = record {
   size : length l.self.queues.dispatch ≡ length l.fn.self.queues.dispatch;
-  closed : l.self ≡ fold close_queue l.fn.self (filter (λ id. is_queue_of l.device.0 (queue_of l.plan id)) (range_with_len 0 (id_or_end l.plan l.at)));
+  declared : All (λ q. q ≤ length l.plan.declared) l.q-iterator;
+  closed : fold close_queue l.self l.q-iterator ≡ fold close_queue l.fn.self (queues_of l.plan l.fn.device.0);
 }
-
-abbrev pub decreases-walk : goal.decreases-walk
-decreases-walk g l = suc (length l.plan.declared) - id_or_end l.plan l.at

@@ -1,53 +1,9 @@
--- The first queue that is the one, or none.
-use Rattle.std.proofs.Common.{◌≡◌, suc, ◌&&◌, true, false, length, sym, ap, ◌∙◌, arith}
-use Rattle.wdf_model.specs.Plans.{is_queue_of, queue_of, serves}
-use Rattle.wdf_plans.proofs.Finding.{first_found, none_found}
-use Rattle.wdf_plans.proofs.Walking.{belongs_within, fails_first, fails_on, fails_second, fails_to, only_queue}
+-- The first of the queues that passes the test.
+use Rattle.std.proofs.Common.{rules}
+use Rattle.std.proofs.lemmas.Iterator.Consumers.{YieldsList-from_rest}
+use Rattle.std.proofs.lemmas.Iterator.Search.{find_from_yields_List}
 use Rattle.wdf_plans.proofs.indexed.IndexedPlan.serving.Goals as goal
-use Rattle.wdf_plans.proofs.indexed.IndexedPlan.serving.Goals.{else-is_queue_of-via-then-is_queue_of+else-serves, else-is_queue_of-via-else-is_queue_of}
-
-pub walk-init : goal.walk-init
-walk-init c =
-    let within = c.first_of-at.ensures.next.within in
-    record {
-      own = c.first_of-at.ensures.own;
-      within = omega arith;
-      failed = fails_to c.args.self.now c.args.device.0 (λ q. is_queue_of c.args.device.0 (queue_of c.args.self.now q) && serves c.args.form (queue_of c.args.self.now q)) (only_queue c.args.self.now c.args.device.0 (λ q. serves c.args.form (queue_of c.args.self.now q))) 0 _ c.first_of-at.ensures.next (λ j l. absurd (omega arith));
-    }
-
-pub walk-preserved : goal.walk-preserved
-walk-preserved c =
-    let within = c.next_of-at.ensures.next.within in
-    let before = rw c.in-Some.is at c.walk.invariant.failed in
-    let this : (is_queue_of c.args.device.0 (queue_of c.args.self.now c.in-Some.q.0) && serves c.args.form (queue_of c.args.self.now c.in-Some.q.0)) ≡ false =
-    elim c.else-is_queue_of.branch as (λ _. (is_queue_of c.args.device.0 (queue_of c.args.self.now c.in-Some.q.0) && serves c.args.form (queue_of c.args.self.now c.in-Some.q.0)) ≡ false) [
-      | else-is_queue_of-via-then-is_queue_of+else-serves w ↦ fails_second (is_queue_of c.args.device.0 (queue_of c.args.self.now c.in-Some.q.0)) _ (ap (serves c.args.form) (sym w.queue_of.ensures) ∙ sym w.serves.ensures ∙ w.if-serves.false)
-      | else-is_queue_of-via-else-is_queue_of w ↦ fails_first _ (serves c.args.form (queue_of c.args.self.now c.in-Some.q.0)) (sym c.is_queue_of.ensures ∙ w.if-is_queue_of.false)
-    ] in
-    record {
-      own = c.next_of-at.ensures.own;
-      within = omega arith;
-      failed = fails_on c.args.self.now c.args.device.0 (λ q. is_queue_of c.args.device.0 (queue_of c.args.self.now q) && serves c.args.form (queue_of c.args.self.now q)) (only_queue c.args.self.now c.args.device.0 (λ q. serves c.args.form (queue_of c.args.self.now q))) c.in-Some.q.0 _ c.next_of-at.ensures.next this before;
-    }
-
-pub walk-smaller : goal.walk-smaller
-walk-smaller c =
-    let own = rw c.in-Some.is at c.walk.invariant.own in
-    let low = belongs_within c.args.self.now c.args.device.0 c.in-Some.q.0 own in
-    let after = c.next_of-at.ensures.next.after in
-    let within = c.next_of-at.ensures.next.within in
-    rw c.in-Some.is (omega (arith, low.1))
-
-pub returns-then-serves : goal.returns-then-serves
-returns-then-serves c =
-    let own = rw c.in-Some.is at c.walk.invariant.own in
-    let low = belongs_within c.args.self.now c.args.device.0 c.in-Some.q.0 own in
-    let before = rw c.in-Some.is at c.walk.invariant.failed in
-    let of_device : is_queue_of c.args.device.0 (queue_of c.args.self.now c.in-Some.q.0) ≡ true = sym c.is_queue_of.ensures ∙ c.if-is_queue_of.true in
-    let this : serves c.args.form (queue_of c.args.self.now c.in-Some.q.0) ≡ true = ap (serves c.args.form) (sym c.queue_of.ensures) ∙ sym c.serves.ensures ∙ c.if-serves.true in
-    sym (first_found (λ q. serves c.args.form (queue_of c.args.self.now q)) (λ q. is_queue_of c.args.device.0 (queue_of c.args.self.now q)) c.in-Some.q.0 (suc (length c.args.self.now.declared)) (omega (arith, low.1)) before (rw (of_device, this)))
+use borrow.Author.Tests.{tests}
 
 pub returns : goal.returns
-returns c =
-    let before = rw c.in_default.is at c.walk.invariant.failed in
-    sym (none_found (λ q. serves c.args.form (queue_of c.args.self.now q)) (λ q. is_queue_of c.args.device.0 (queue_of c.args.self.now q)) (suc (length c.args.self.now.declared)) before)
+returns c = find_from_yields_List _ _ _ _ c.find.ensures.ran (YieldsList-from_rest _ c.queues_of.ensures.value) (λ q b f k. search (rules, tests))

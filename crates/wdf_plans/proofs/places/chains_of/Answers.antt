@@ -2,7 +2,7 @@
 use Rattle.std.proofs.Common.{◌-◌, ◌%◌, slice_index, refl, arith}
 use Rattle.std.proofs.lemmas.List.{get_or_read, length-set}
 use Rattle.wdf_plans.proofs.Linking.{linked_before}
-use Rattle.wdf_plans.proofs.places.links_of.Goals as goal
+use Rattle.wdf_plans.proofs.places.chains_of.Goals as goal
 
 pub link-preserved : goal.link-preserved
 link-preserved c = record {

@@ -1,7 +1,7 @@
 -- The places from here on are linked.
 use Rattle.std.proofs.Common.{◌≡◌, ◌<◌, ◌≤◌, length}
 use Rattle.wdf_plans.specs.Places.{AreLinkedFrom}
-use Rattle.wdf_plans.proofs.places.links_of.Given as goal
+use Rattle.wdf_plans.proofs.places.chains_of.Given as goal
 
 abbrev pub invariant-link : goal.invariant-link
 invariant-link l = record {
