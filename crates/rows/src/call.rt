@@ -34,7 +34,8 @@ pub struct Row {
     pub name: &'static str,
     /// The words after the program's name.
     pub words: &'static str,
-    pub input: &'static [u8],
+    /// The parts of the input, in their order.
+    pub input: &'static [&'static [u8]],
     /// The status that is due.
     pub status: u8,
     /// The text that is due.
@@ -126,6 +127,31 @@ pub fn is_answered(
     }
 }
 
+/// Texts one after the other.
+pub fn joined(alloc: Global, texts: &[&[u8]]) -> Result<Vec<u8>, Memory> {
+    let mut all = Vec::new(alloc);
+    for text in texts {
+        match all.extend_from_slice(text) {
+            Ok(()) => {}
+            Err(_) => return Err(Memory),
+        }
+    }
+    Ok(all)
+}
+
+/// Whether the words and the input of a row are answered so.
+pub fn is_row_answered(
+    alloc: Global,
+    row: &Row,
+    outside: Outside,
+    due: (u8, &[u8]),
+) -> Result<bool, Memory> {
+    match joined(alloc, row.input) {
+        Ok(input) => is_answered(alloc, row.words, &input, outside, due),
+        Err(memory) => Err(memory),
+    }
+}
+
 /// The name of the first row that isn't answered as is due.
 fn first_wrong(
     alloc: Global,
@@ -133,7 +159,7 @@ fn first_wrong(
     rows: &[Row],
 ) -> Result<Option<&'static str>, Memory> {
     for row in rows {
-        match is_answered(alloc, row.words, row.input, outside, (row.status, row.text)) {
+        match is_row_answered(alloc, row, outside, (row.status, row.text)) {
             Ok(true) => {}
             Ok(false) => return Ok(Some(row.name)),
             Err(memory) => return Err(memory),

@@ -1,5 +1,5 @@
 //! Sources that fail, sinks that fail, and inputs that are too large.
-use crate::call::{Outside, Row, STEADY, is_answered, try_rows};
+use crate::call::{Outside, Row, STEADY, is_answered, is_row_answered, try_rows};
 use crate::loads::ALL_DONE;
 use crate::reads::{ONE_READ, ONE_READ_RUN, TWO_READS_AT_ONCE, TWO_READS_AT_ONCE_RUN};
 use crate::refusals::USAGE;
@@ -17,39 +17,39 @@ static READ_FAULTS: [Row; 3] = [
     Row {
         name: "a run",
         words: "order",
-        input: ONE_READ,
+        input: &[ONE_READ],
         status: 12,
         text: b"read fault\n",
     },
     Row {
         name: "a run by a seed",
         words: "seed 9",
-        input: FOUR_APPS,
+        input: &[FOUR_APPS],
         status: 12,
         text: b"read fault\n",
     },
     Row {
         name: "a text",
         words: "check",
-        input: ONE_READ,
+        input: &[ONE_READ],
         status: 12,
         text: b"read fault\n",
     },
 ];
 
 #[test]
-fn a_failed_read_is_told(rt: HostRuntime) -> Result<(), Fail> {
+fn a_failed_read_is_a_read_fault(rt: HostRuntime) -> Result<(), Fail> {
     let first = Outside {
         read_fails: Some(1),
         ..STEADY
     };
     try_rows(&rt, rt.alloc(), first, &READ_FAULTS)?;
-    let behind_the_text = Outside {
+    let after_the_text = Outside {
         read_fails: Some(2),
         piece: 4096,
         ..STEADY
     };
-    try_rows(&rt, rt.alloc(), behind_the_text, &READ_FAULTS)
+    try_rows(&rt, rt.alloc(), after_the_text, &READ_FAULTS)
 }
 
 #[test]
@@ -58,14 +58,14 @@ fn a_full_sink_keeps_a_front(rt: HostRuntime) -> Result<(), Fail> {
         Row {
             name: "a run",
             words: "order",
-            input: ONE_READ,
+            input: &[ONE_READ],
             status: 13,
             text: &ONE_READ_RUN[..40],
         },
         Row {
             name: "a text",
             words: "check",
-            input: ONE_READ,
+            input: &[ONE_READ],
             status: 13,
             text: &ONE_READ[..40],
         },
@@ -77,28 +77,28 @@ static NOT_WRITTEN: [Row; 3] = [
     Row {
         name: "an empty text",
         words: "order",
-        input: b"",
+        input: &[],
         status: 13,
         text: b"",
     },
     Row {
         name: "an empty text",
         words: "check",
-        input: b"",
+        input: &[],
         status: 13,
         text: b"",
     },
     Row {
         name: "no word",
         words: "",
-        input: b"",
+        input: &[],
         status: 13,
         text: b"",
     },
 ];
 
 #[test]
-fn a_refusal_that_is_not_written(rt: HostRuntime) -> Result<(), Fail> {
+fn a_refusal_that_is_not_written_is_a_failed_write(rt: HostRuntime) -> Result<(), Fail> {
     try_rows(
         &rt,
         rt.alloc(),
@@ -134,7 +134,7 @@ static WRITES: [Pieces; 8] = [
         row: Row {
             name: "a stuck run",
             words: "order",
-            input: KEPT,
+            input: &[KEPT],
             status: 4,
             text: KEPT_RUN,
         },
@@ -145,7 +145,7 @@ static WRITES: [Pieces; 8] = [
         row: Row {
             name: "a run by a seed",
             words: "seed 9",
-            input: FOUR_APPS,
+            input: &[FOUR_APPS],
             status: 0,
             text: BY_SEED_9,
         },
@@ -155,7 +155,7 @@ static WRITES: [Pieces; 8] = [
         row: Row {
             name: "a summary",
             words: "load 3",
-            input: b"",
+            input: &[],
             status: 0,
             text: ALL_DONE,
         },
@@ -165,7 +165,7 @@ static WRITES: [Pieces; 8] = [
         row: Row {
             name: "a text",
             words: "check",
-            input: ONE_READ,
+            input: &[ONE_READ],
             status: 0,
             text: ONE_READ,
         },
@@ -185,7 +185,7 @@ static WRITES: [Pieces; 8] = [
         row: Row {
             name: "no scene",
             words: "order",
-            input: b"cpus 1\n",
+            input: &[b"cpus 1\n"],
             status: 10,
             text: b"parse refused at line 2: BadLine\n",
         },
@@ -195,7 +195,7 @@ static WRITES: [Pieces; 8] = [
         row: Row {
             name: "no word",
             words: "",
-            input: b"",
+            input: &[],
             status: 2,
             text: USAGE,
         },
@@ -232,8 +232,7 @@ fn leaves_front(alloc: Global, pieces: &Pieces, number: u64) -> Result<bool, Mem
         write_fails: Some(number),
         ..STEADY
     };
-    let row = &pieces.row;
-    is_answered(alloc, row.words, row.input, outside, due(pieces, number))
+    is_row_answered(alloc, &pieces.row, outside, due(pieces, number))
 }
 
 /// The number of the first of twenty writes that leaves no such front where it fails.
@@ -275,7 +274,7 @@ fn is_told(alloc: Global, input: &[u8]) -> Result<bool, Memory> {
 }
 
 #[test]
-fn an_input_is_too_large(rt: HostRuntime) -> Result<(), Fail> {
+fn an_input_over_the_limit_is_refused(rt: HostRuntime) -> Result<(), Fail> {
     let mut input = Vec::new(rt.alloc());
     input.resize(INPUT_LIMIT + 1, b'\n')?;
     assert!(rt; is_told(rt.alloc(), &input)?);

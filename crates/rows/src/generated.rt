@@ -59,7 +59,7 @@ fn is_text(written: &[u8], len: usize) -> bool {
 
 /// The text is written whole or not at all.
 #[test]
-fn a_number_generates(rt: HostRuntime) -> Result<(), Fail> {
+fn a_generated_text_is_written_whole_or_not_at_all(rt: HostRuntime) -> Result<(), Fail> {
     for (write_fails, due) in [
         (None, (0, 48_538)),
         (Some(1), (13, 0)),

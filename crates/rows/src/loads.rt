@@ -14,14 +14,14 @@ static ROWS: [Row; 2] = [
     Row {
         name: "seven",
         words: "load 7",
-        input: b"",
+        input: &[],
         status: 0,
         text: ALL_DONE,
     },
     Row {
         name: "three",
         words: "load 3",
-        input: b"",
+        input: &[],
         status: 0,
         text: ALL_DONE,
     },
@@ -37,7 +37,7 @@ fn a_full_sink_keeps_a_front(rt: HostRuntime) -> Result<(), Fail> {
     let row = Row {
         name: "seven",
         words: "load 7",
-        input: b"",
+        input: &[],
         status: 13,
         text: &ALL_DONE[..20],
     };

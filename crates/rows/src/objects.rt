@@ -226,41 +226,41 @@ static ROWS: [Row; 5] = [
     Row {
         name: "a reference",
         words: "order",
-        input: REFERENCED,
+        input: &[REFERENCED],
         status: 0,
         text: REFERENCED_RUN,
     },
     Row {
         name: "the limit of objects",
         words: "order",
-        input: OBJECT_LIMIT,
+        input: &[OBJECT_LIMIT],
         status: 0,
         text: OBJECT_LIMIT_RUN,
     },
     Row {
         name: "cleanup and destroy callbacks",
         words: "order",
-        input: CLEANED,
+        input: &[CLEANED],
         status: 0,
         text: CLEANED_RUN,
     },
     Row {
         name: "a made request",
         words: "order",
-        input: MADE_REQUEST,
+        input: &[MADE_REQUEST],
         status: 0,
         text: MADE_REQUEST_RUN,
     },
     Row {
         name: "a query",
         words: "order",
-        input: QUERY,
+        input: &[QUERY],
         status: 0,
         text: QUERY_RUN,
     },
 ];
 
 #[test]
-fn an_object_comes_and_goes(rt: HostRuntime) -> Result<(), Fail> {
+fn objects_run_as_worked(rt: HostRuntime) -> Result<(), Fail> {
     try_rows(&rt, rt.alloc(), STEADY, &ROWS)
 }

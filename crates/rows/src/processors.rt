@@ -185,7 +185,7 @@ limit 50\n\
 ";
 
 /// An interrupt that is handled at passive level.
-const PASSIVE: &[u8] = b"\
+pub const PASSIVE: &[u8] = b"\
 version 2\n\
 cpus 1\n\
 limit 100\n\
@@ -260,41 +260,41 @@ static ROWS: [Row; 5] = [
     Row {
         name: "queue scope",
         words: "order",
-        input: QUEUE_SCOPE,
+        input: &[QUEUE_SCOPE],
         status: 0,
         text: QUEUE_SCOPE_RUN,
     },
     Row {
         name: "a wait lock",
         words: "order",
-        input: WAIT_LOCK,
+        input: &[WAIT_LOCK],
         status: 0,
         text: WAIT_LOCK_RUN,
     },
     Row {
         name: "a line that stays up",
         words: "order",
-        input: LINE_STAYS_UP,
+        input: &[LINE_STAYS_UP],
         status: 5,
         text: LINE_STAYS_UP_RUN,
     },
     Row {
         name: "a passive interrupt",
         words: "order",
-        input: PASSIVE,
+        input: &[PASSIVE],
         status: 0,
         text: PASSIVE_RUN,
     },
     Row {
         name: "a passive lock at dispatch level",
         words: "order",
-        input: PASSIVE_LOCK,
+        input: &[PASSIVE_LOCK],
         status: 3,
         text: PASSIVE_LOCK_RUN,
     },
 ];
 
 #[test]
-fn a_callback_finds_its_processor(rt: HostRuntime) -> Result<(), Fail> {
+fn callbacks_run_as_worked(rt: HostRuntime) -> Result<(), Fail> {
     try_rows(&rt, rt.alloc(), STEADY, &ROWS)
 }

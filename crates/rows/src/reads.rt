@@ -31,11 +31,15 @@ pub const ONE_READ_RUN: &[u8] = b"\
 finished 6\n\
 ";
 
-/// The app reads twice, and the run takes what comes first.
-const TWO_READS: &[u8] = b"\
+/// Up to a hundred events on one processor.
+pub const HEAD: &[u8] = b"\
 cpus 1\n\
 limit 100\n\
 objects 16\n\
+";
+
+/// A device whose queue completes each read.
+pub const COMPLETES: &[u8] = b"\
 device D working\n\
 queue Q sequential\n\
 default\n\
@@ -44,11 +48,25 @@ call WdfRequestComplete request SUCCESS\n\
 end\n\
 end\n\
 end\n\
+";
+
+/// An app that reads from it once.
+const READS: &[u8] = b"\
+app A\n\
+at 0 read D 16\n\
+end\n\
+";
+
+/// An app that reads from it twice.
+const READS_TWICE: &[u8] = b"\
 app A\n\
 at 0 read D 16\n\
 at 0 read D 16\n\
 end\n\
 ";
+
+/// The app reads twice, and the run takes what comes first.
+const TWO_READS: &[&[u8]] = &[HEAD, COMPLETES, READS_TWICE];
 
 const TWO_READS_RUN: &[u8] = b"\
 1 A read D.2 16 -> req.4\n\
@@ -66,27 +84,8 @@ const TWO_READS_RUN: &[u8] = b"\
 finished 12\n\
 ";
 
-/// The second read is picked before the first one is presented.
-pub const TWO_READS_AT_ONCE: &[u8] = b"\
-cpus 1\n\
-limit 100\n\
-objects 16\n\
-device D working\n\
-queue Q sequential\n\
-default\n\
-on EvtIoRead\n\
-call WdfRequestComplete request SUCCESS\n\
-end\n\
-end\n\
-end\n\
-app A\n\
-at 0 read D 16\n\
-at 0 read D 16\n\
-end\n\
-order\n\
-picks 0 1\n\
-end\n\
-";
+/// The same, and the second read is picked before the first one is presented.
+pub const TWO_READS_AT_ONCE: &[&[u8]] = &[HEAD, COMPLETES, READS_TWICE, b"order\npicks 0 1\nend\n"];
 
 pub const TWO_READS_AT_ONCE_RUN: &[u8] = b"\
 1 A read D.2 16 -> req.4\n\
@@ -105,22 +104,7 @@ finished 12\n\
 ";
 
 /// The run may have four events.
-const FOUR_EVENTS: &[u8] = b"\
-cpus 1\n\
-limit 4\n\
-objects 16\n\
-device D working\n\
-queue Q sequential\n\
-default\n\
-on EvtIoRead\n\
-call WdfRequestComplete request SUCCESS\n\
-end\n\
-end\n\
-end\n\
-app A\n\
-at 0 read D 16\n\
-end\n\
-";
+const FOUR_EVENTS: &[&[u8]] = &[b"cpus 1\nlimit 4\nobjects 16\n", COMPLETES, READS];
 
 const FOUR_EVENTS_RUN: &[u8] = b"\
 1 A read D.2 16 -> req.4\n\
@@ -131,29 +115,14 @@ limit 4\n\
 ";
 
 /// No app and no device.
-const NOTHING: &[u8] = b"\
+pub const NOTHING: &[u8] = b"\
 cpus 1\n\
 limit 9\n\
 objects 9\n\
 ";
 
 /// One read on two processors.
-const TWO_PROCESSORS: &[u8] = b"\
-cpus 2\n\
-limit 100\n\
-objects 16\n\
-device D working\n\
-queue Q sequential\n\
-default\n\
-on EvtIoRead\n\
-call WdfRequestComplete request SUCCESS\n\
-end\n\
-end\n\
-end\n\
-app A\n\
-at 0 read D 16\n\
-end\n\
-";
+const TWO_PROCESSORS: &[&[u8]] = &[b"cpus 2\nlimit 100\nobjects 16\n", COMPLETES, READS];
 
 /// The callback prints the length before it completes the read.
 const LOGS_FIRST: &[u8] = b"\
@@ -189,7 +158,7 @@ static PICKED: [Row; 7] = [
     Row {
         name: "one read",
         words: "order",
-        input: ONE_READ,
+        input: &[ONE_READ],
         status: 0,
         text: ONE_READ_RUN,
     },
@@ -224,14 +193,14 @@ static PICKED: [Row; 7] = [
     Row {
         name: "a log",
         words: "order",
-        input: LOGS_FIRST,
+        input: &[LOGS_FIRST],
         status: 0,
         text: LOGS_FIRST_RUN,
     },
     Row {
         name: "nothing",
         words: "order",
-        input: NOTHING,
+        input: &[NOTHING],
         status: 0,
         text: b"finished 0\n",
     },
@@ -246,14 +215,14 @@ static BY_BYTES: [Row; 2] = [
     Row {
         name: "one read",
         words: "order",
-        input: ONE_READ,
+        input: &[ONE_READ],
         status: 0,
         text: ONE_READ_RUN,
     },
     Row {
         name: "four apps by a seed",
         words: "seed 9",
-        input: FOUR_APPS,
+        input: &[FOUR_APPS],
         status: 0,
         text: BY_SEED_9,
     },

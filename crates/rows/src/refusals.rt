@@ -1,5 +1,6 @@
 //! Words that are no form, texts that are no scene, and scenes that have no plan.
 use crate::call::{Row, STEADY, is_answered, try_rows};
+use crate::reads::NOTHING;
 use std::alloc::Global;
 use std::test::Fail;
 use wdf_base::Memory;
@@ -10,94 +11,66 @@ static NO_SCENE: [Row; 9] = [
     Row {
         name: "an empty text",
         words: "order",
-        input: b"",
+        input: &[],
         status: 10,
         text: b"parse refused at line 1: BadLine\n",
     },
     Row {
         name: "a foreign mark",
         words: "check",
-        input: b"\
-cpus 1\n\
-limit 1$0\n\
-",
+        input: &[b"cpus 1\nlimit 1$0\n"],
         status: 10,
         text: b"parse refused at line 2 column 8: BadToken\n",
     },
     Row {
         name: "a number of 65 bits",
         words: "check",
-        input: b"\
-cpus 18446744073709551616\n\
-",
+        input: &[b"cpus 18446744073709551616\n"],
         status: 10,
         text: b"parse refused at line 1 column 6: NumberTooLarge\n",
     },
     Row {
         name: "an open block",
         words: "check",
-        input: b"\
-cpus 1\n\
-limit 9\n\
-objects 9\n\
-driver\n\
-",
+        input: &[NOTHING, b"driver\n"],
         status: 10,
         text: b"parse refused at line 4: Unclosed\n",
     },
     Row {
         name: "a foreign byte",
         words: "check",
-        input: b"\
-\xc8",
+        input: &[b"\xc8"],
         status: 10,
         text: b"parse refused at line 1: NotAscii\n",
     },
     Row {
         name: "a name of 33 letters",
         words: "order",
-        input: b"\
-cpus 1\n\
-limit 9\n\
-objects 9\n\
-device aaaaaaaaaaaaaaaaaaaaaaaaaaaaaaaaa\n\
-",
+        input: &[NOTHING, b"device aaaaaaaaaaaaaaaaaaaaaaaaaaaaaaaaa\n"],
         status: 10,
         text: b"parse refused at line 4 column 8: BadToken\n",
     },
     Row {
         name: "seventeen parentheses",
         words: "order",
-        input: b"\
-cpus 1\n\
-limit 9\n\
-objects 9\n\
-device D\n\
-on EvtDeviceD0Entry\n\
-log ( ( ( ( ( ( ( ( ( ( ( ( ( ( ( ( ( 1 + 1 ) + 1 ) + 1 ) + 1 ) + 1 ) + 1 ) + 1 ) + 1 ) + 1 ) + 1 ) + 1 ) + 1 ) + 1 ) + 1 ) + 1 ) + 1 ) + 1 )\n\
-",
+        input: &[
+            NOTHING,
+            b"device D\non EvtDeviceD0Entry\nlog ( ( ( ( ( ( ( ( ( ( ( ( ( ( ( ( ( 1 + 1 ) + 1 ) + 1 ) + 1 ) + 1 ) + 1 ) + 1 ) + 1 ) + 1 ) + 1 ) + 1 ) + 1 ) + 1 ) + 1 ) + 1 ) + 1 ) + 1 )\n",
+        ],
         status: 10,
         text: b"parse refused at line 6: BadLine\n",
     },
     Row {
         name: "a third version",
         words: "check",
-        input: b"\
-version 3\n\
-",
+        input: &[b"version 3\n"],
         status: 10,
         text: b"parse refused at line 1: BadLine\n",
     },
     Row {
         name: "a passive interrupt in version 1",
         words: "check",
-        input: b"\
-cpus 1\n\
-limit 9\n\
-objects 9\n\
-device D\n\
-interrupt I passive\n\
-",
+        input: &[NOTHING, b"device D\ninterrupt I passive\n"],
         status: 10,
         text: b"parse refused at line 5: BadLine\n",
     },
@@ -107,114 +80,64 @@ static NO_PLAN: [Row; 7] = [
     Row {
         name: "a device twice",
         words: "check",
-        input: b"\
-cpus 1\n\
-limit 9\n\
-objects 9\n\
-device D\n\
-end\n\
-device D\n\
-end\n\
-",
+        input: &[NOTHING, b"device D\nend\ndevice D\nend\n"],
         status: 11,
         text: b"plan refused at line 6: TwiceNamed first 4\n",
     },
     Row {
         name: "a serialized DPC under a passive device",
         words: "check",
-        input: b"\
-cpus 1\n\
-limit 9\n\
-objects 9\n\
-class C dpc D\n\
-serialize\n\
-on EvtDpcFunc\n\
-end\n\
-end\n\
-device D\n\
-level passive\n\
-end\n\
-",
+        input: &[
+            NOTHING,
+            b"class C dpc D\nserialize\non EvtDpcFunc\nend\nend\ndevice D\nlevel passive\nend\n",
+        ],
         status: 11,
         text: b"plan refused at line 5: IncompatibleLevel\n",
     },
     Row {
         name: "a DPC class without a parent",
         words: "check",
-        input: b"\
-cpus 1\n\
-limit 9\n\
-objects 9\n\
-class C dpc\n\
-on EvtDpcFunc\n\
-end\n\
-end\n\
-",
+        input: &[NOTHING, b"class C dpc\non EvtDpcFunc\nend\nend\n"],
         status: 11,
         text: b"plan refused at line 4: NoParent\n",
     },
     Row {
         name: "a queue's callback in a device",
         words: "check",
-        input: b"\
-cpus 1\n\
-limit 9\n\
-objects 9\n\
-device D\n\
-on EvtIoRead\n\
-end\n\
-end\n\
-",
+        input: &[NOTHING, b"device D\non EvtIoRead\nend\nend\n"],
         status: 11,
         text: b"plan refused at line 5: WrongCallback\n",
     },
     Row {
         name: "a variable that nothing assigns",
         words: "check",
-        input: b"\
-cpus 1\n\
-limit 9\n\
-objects 9\n\
-device D\n\
-on EvtDeviceD0Entry\n\
-log x\n\
-end\n\
-end\n\
-",
+        input: &[NOTHING, b"device D\non EvtDeviceD0Entry\nlog x\nend\nend\n"],
         status: 11,
         text: b"plan refused at line 6: UnknownName\n",
     },
     Row {
         name: "nine processors",
         words: "check",
-        input: b"\
-cpus 9\n\
-limit 9\n\
-objects 9\n\
-",
+        input: &[b"cpus 9\nlimit 9\nobjects 9\n"],
         status: 11,
         text: b"plan refused at line 1: OverLimit cpus\n",
     },
     Row {
         name: "no event allowed",
         words: "order",
-        input: b"\
-cpus 1\n\
-limit 0\n\
-objects 9\n\
-",
+        input: &[b"cpus 1\nlimit 0\nobjects 9\n"],
         status: 11,
         text: b"plan refused at line 2: OverLimit limit\n",
     },
 ];
 
 #[test]
-fn no_scene(rt: HostRuntime) -> Result<(), Fail> {
+fn texts_of_no_scene_are_refused(rt: HostRuntime) -> Result<(), Fail> {
     try_rows(&rt, rt.alloc(), STEADY, &NO_SCENE)
 }
 
 #[test]
-fn no_plan(rt: HostRuntime) -> Result<(), Fail> {
+fn scenes_without_a_plan_are_refused(rt: HostRuntime) -> Result<(), Fail> {
     try_rows(&rt, rt.alloc(), STEADY, &NO_PLAN)
 }
 
@@ -248,7 +171,7 @@ fn first_of_some_form(alloc: Global) -> Result<Option<&'static str>, Memory> {
 }
 
 #[test]
-fn no_form_of_words(rt: HostRuntime) -> Result<(), Fail> {
+fn words_of_no_form_get_the_usage_line(rt: HostRuntime) -> Result<(), Fail> {
     assert_eq!(rt; first_of_some_form(rt.alloc())?, None);
     Ok(())
 }

@@ -1,24 +1,10 @@
 //! Requests: what the framework completes itself, and what the driver may do with one.
 use crate::call::{Row, STEADY, try_rows};
+use crate::reads::{COMPLETES, HEAD};
 use std::test::Fail;
 
 /// A read of no bytes, which the queue doesn't ask for.
-const EMPTY_READ: &[u8] = b"\
-cpus 1\n\
-limit 100\n\
-objects 16\n\
-device D working\n\
-queue Q sequential\n\
-default\n\
-on EvtIoRead\n\
-call WdfRequestComplete request SUCCESS\n\
-end\n\
-end\n\
-end\n\
-app A\n\
-at 0 read D 0\n\
-end\n\
-";
+const EMPTY_READ: &[&[u8]] = &[HEAD, COMPLETES, b"app A\nat 0 read D 0\nend\n"];
 
 const EMPTY_READ_RUN: &[u8] = b"\
 1 A read D.2 0 -> req.4\n\
@@ -187,26 +173,7 @@ fault 4\n\
 ";
 
 /// The same, and the request is cleaned up in between.
-const COMPLETED_AND_CLEANED: &[u8] = b"\
-cpus 1\n\
-limit 100\n\
-objects 16\n\
-device D working\n\
-queue Q sequential\n\
-default\n\
-on EvtIoRead\n\
-call WdfRequestComplete request SUCCESS\n\
-call WdfRequestComplete request SUCCESS\n\
-end\n\
-end\n\
-end\n\
-app A\n\
-at 0 read D 16\n\
-end\n\
-order\n\
-picks 0 0 0 1\n\
-end\n\
-";
+const COMPLETED_AND_CLEANED: &[&[u8]] = &[COMPLETED_TWICE, b"order\npicks 0 0 0 1\nend\n"];
 
 const COMPLETED_AND_CLEANED_RUN: &[u8] = b"\
 1 A read D.2 16 -> req.4\n\
@@ -253,35 +220,35 @@ static ROWS: [Row; 8] = [
     Row {
         name: "a read of no bytes that is asked for",
         words: "order",
-        input: EMPTY_READ_ASKED,
+        input: &[EMPTY_READ_ASKED],
         status: 0,
         text: EMPTY_READ_ASKED_RUN,
     },
     Row {
         name: "cancelled in a manual queue",
         words: "order",
-        input: MANUAL,
+        input: &[MANUAL],
         status: 0,
         text: MANUAL_RUN,
     },
     Row {
         name: "cancelled in line",
         words: "order",
-        input: CANCELLED_IN_LINE,
+        input: &[CANCELLED_IN_LINE],
         status: 0,
         text: CANCELLED_IN_LINE_RUN,
     },
     Row {
         name: "forwarded to a drained queue",
         words: "order",
-        input: DRAINED,
+        input: &[DRAINED],
         status: 0,
         text: DRAINED_RUN,
     },
     Row {
         name: "completed twice",
         words: "order",
-        input: COMPLETED_TWICE,
+        input: &[COMPLETED_TWICE],
         status: 3,
         text: COMPLETED_TWICE_RUN,
     },
@@ -295,13 +262,13 @@ static ROWS: [Row; 8] = [
     Row {
         name: "kept for good",
         words: "order",
-        input: KEPT,
+        input: &[KEPT],
         status: 4,
         text: KEPT_RUN,
     },
 ];
 
 #[test]
-fn a_request_goes_its_way(rt: HostRuntime) -> Result<(), Fail> {
+fn requests_run_as_worked(rt: HostRuntime) -> Result<(), Fail> {
     try_rows(&rt, rt.alloc(), STEADY, &ROWS)
 }

@@ -28,7 +28,7 @@ fn from_f(length: u64) -> Option<SceneLine> {
 }
 
 #[test]
-fn apps_stand_behind_the_devices(rt: HostRuntime) -> Result<(), Memory> {
+fn apps_come_after_the_devices(rt: HostRuntime) -> Result<(), Memory> {
     let scene = generate(rt.alloc(), 7)?;
     assert_eq!(rt; scene.line_len(), 2929);
     assert_eq!(rt; scene.expr_len(), 10);

@@ -1,48 +1,11 @@
 //! The lines of endings and of wait lists.
+use crate::objects::{D, IRQ, L, Q, REQ, T, TM};
 use crate::plan as names;
 use wdf_base::{
     Callback, Cause, Ending, Fault, FrameId, Handle, ObjectId, OpenThing, Plan, Stage, Step,
     WaitLine,
 };
 use wdf_trace::{ending_line, reads_as_ending, reads_as_wait, wait_line};
-
-const D: Handle = Handle {
-    id: ObjectId(2),
-    name: 2,
-};
-
-const Q: Handle = Handle {
-    id: ObjectId(3),
-    name: 3,
-};
-
-const IRQ: Handle = Handle {
-    id: ObjectId(4),
-    name: 4,
-};
-
-const T: Handle = Handle {
-    id: ObjectId(5),
-    name: 5,
-};
-
-/// A wait lock of the class L.
-const L: Handle = Handle {
-    id: ObjectId(6),
-    name: 8,
-};
-
-/// A timer of the class TM.
-const TM: Handle = Handle {
-    id: ObjectId(7),
-    name: 9,
-};
-
-/// The request `req.8`.
-const REQ: Handle = Handle {
-    id: ObjectId(8),
-    name: 1,
-};
 
 /// Objects of the worked runs.
 const REQ_4: Handle = Handle {

@@ -10,6 +10,8 @@ mod endings;
 #[cfg(test)]
 mod events;
 #[cfg(test)]
+mod objects;
+#[cfg(test)]
 mod plan;
 #[cfg(test)]
 mod tests;

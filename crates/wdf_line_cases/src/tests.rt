@@ -1,55 +1,13 @@
 //! Lines that are made by hand, and the test of all lines.
+use crate::objects::{D, DRIVER, IRQ, L, Q, REQ, T, TM};
 use crate::plan::{is_line, plan, timer_plan};
 use crate::{callbacks, calls, endings, events};
 use std::test::Fail;
 use wdf_base::{
-    Access, Action, Arg, Ask, Call, CallKind, Callback, Cpu, Event, Fault, FrameId, Handle,
-    ObjectId, Plan, Post, Stage, Status, Value,
+    Access, Action, Arg, Ask, Call, CallKind, Callback, Cpu, Event, Fault, FrameId, Plan, Post,
+    Stage, Status, Value,
 };
 use wdf_trace::read_line;
-
-const DRIVER: Handle = Handle {
-    id: ObjectId(1),
-    name: 0,
-};
-
-const D: Handle = Handle {
-    id: ObjectId(2),
-    name: 2,
-};
-
-const Q: Handle = Handle {
-    id: ObjectId(3),
-    name: 3,
-};
-
-const IRQ: Handle = Handle {
-    id: ObjectId(4),
-    name: 4,
-};
-
-const T: Handle = Handle {
-    id: ObjectId(5),
-    name: 5,
-};
-
-/// A wait lock of the class L.
-const L: Handle = Handle {
-    id: ObjectId(6),
-    name: 8,
-};
-
-/// A timer of the class TM.
-const TM: Handle = Handle {
-    id: ObjectId(7),
-    name: 9,
-};
-
-/// The request `req.8`.
-const REQ: Handle = Handle {
-    id: ObjectId(8),
-    name: 1,
-};
 
 const CPU: Cpu = Cpu(0);
 

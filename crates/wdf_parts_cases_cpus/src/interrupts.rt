@@ -1,5 +1,5 @@
 //! Interrupts that are enabled and disabled.
-use crate::trials::Wrong;
+use crate::trials::{Part, Wrong, wrong_in};
 use std::alloc::Global;
 use wdf_base::{Memory, ObjectId, Plan};
 use wdf_intr::Interrupts;
@@ -11,7 +11,7 @@ const OTHER: ObjectId = ObjectId(5);
 
 /// What happens to the interrupts, and what is read of them, with the answer that is due.
 #[derive(Clone, Copy)]
-enum Act {
+pub enum Act {
     Enable(ObjectId),
     Disable(ObjectId),
     IsEnabled(ObjectId, bool),
@@ -32,31 +32,19 @@ static ACTS: [Act; 9] = [
     Act::IsEnabled(ONE, false),
 ];
 
-/// Does an act; whether it may come, and the answer is the due one.
-fn does(interrupts: &mut Interrupts, act: Act) -> bool {
-    match act {
-        Act::Enable(i) if i.0 < OBJECTS => interrupts.enable(i),
-        Act::Disable(i) if i.0 < OBJECTS => interrupts.disable(i),
-        Act::IsEnabled(i, due) => return interrupts.is_enabled(i) == due,
-        Act::Due(i, line, due) => return interrupts.isr_due(i, line) == due,
-        _ => return false,
-    }
-    true
-}
+impl Part for Interrupts {
+    type Act = Act;
 
-/// The place of the first act that isn't as due.
-fn first_wrong(interrupts: &mut Interrupts, acts: &[Act]) -> Option<usize> {
-    for (place, act) in acts.iter().enumerate() {
-        if !does(interrupts, *act) {
-            return Some(place);
+    fn does(&mut self, act: Act) -> bool {
+        match act {
+            Act::Enable(i) if i.0 < OBJECTS => self.enable(i),
+            Act::Disable(i) if i.0 < OBJECTS => self.disable(i),
+            Act::IsEnabled(i, due) => return self.is_enabled(i) == due,
+            Act::Due(i, line, due) => return self.isr_due(i, line) == due,
+            _ => return false,
         }
+        true
     }
-    None
-}
-
-/// The same in what is made for it.
-fn wrong_in(mut interrupts: Interrupts, acts: &[Act]) -> Option<usize> {
-    first_wrong(&mut interrupts, acts)
 }
 
 /// What is wrong with the acts, from the opening on.

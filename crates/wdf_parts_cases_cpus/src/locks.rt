@@ -1,5 +1,5 @@
 //! Locks that frames hold.
-use crate::trials::Wrong;
+use crate::trials::{Part, Wrong, wrong_in};
 use std::alloc::Global;
 use wdf_base::{FrameId, LockRef, Memory, ObjectId, Plan};
 use wdf_lock::Locks;
@@ -17,7 +17,7 @@ const OTHER: FrameId = FrameId(2);
 
 /// What happens to the locks, and what is read of them, with the answer that is due.
 #[derive(Clone, Copy)]
-enum Act {
+pub enum Act {
     /// A frame takes a free lock, by a call or not.
     Take(LockRef, FrameId, bool),
     Release(LockRef),
@@ -88,31 +88,19 @@ fn takes(locks: &mut Locks, lock: LockRef, f: FrameId, by_call: bool) -> bool {
     may
 }
 
-/// Does an act; whether it may come, and the answer is the due one.
-fn does(locks: &mut Locks, act: Act) -> bool {
-    match act {
-        Act::Take(lock, f, by_call) => takes(locks, lock, f, by_call),
-        Act::Release(lock) => {
-            locks.release(lock);
-            true
-        }
-        _ => is_so(locks, act),
-    }
-}
+impl Part for Locks {
+    type Act = Act;
 
-/// The place of the first act that isn't as due.
-fn first_wrong(locks: &mut Locks, acts: &[Act]) -> Option<usize> {
-    for (place, act) in acts.iter().enumerate() {
-        if !does(locks, *act) {
-            return Some(place);
+    fn does(&mut self, act: Act) -> bool {
+        match act {
+            Act::Take(lock, f, by_call) => takes(self, lock, f, by_call),
+            Act::Release(lock) => {
+                self.release(lock);
+                true
+            }
+            _ => is_so(self, act),
         }
     }
-    None
-}
-
-/// The same in what is made for it.
-fn wrong_in(mut locks: Locks, acts: &[Act]) -> Option<usize> {
-    first_wrong(&mut locks, acts)
 }
 
 /// What is wrong with the acts, from the opening on.

@@ -1,5 +1,5 @@
 //! Frames on two processors, and their levels.
-use crate::trials::Wrong;
+use crate::trials::{Part, Wrong, wrong_in};
 use std::alloc::Global;
 use wdf_base::{
     Arg, Call, CallKind, Callback, Cpu, Frame, FrameId, Handle, Irql, Memory, ObjectId, Pending,
@@ -29,7 +29,7 @@ const WAITS: Pending = Pending {
 /// What happens on the processors, and what is read of them, with the answer that is due. Processors
 /// and frames are named by their numbers.
 #[derive(Clone, Copy)]
-enum Act {
+pub enum Act {
     /// A frame of a callback on an object begins on a processor, with the level of its callback.
     Push(u8, u32, Callback, ObjectId, u8),
     /// The top frame of a processor, which is of this callback on this object, ends.
@@ -51,7 +51,7 @@ enum Act {
 
 /// What is read, with the answer that is due.
 #[derive(Clone, Copy)]
-enum Fact {
+pub enum Fact {
     /// The frames of a processor, from the top on.
     Stack(u8, &'static [u32]),
     /// The parked frames.
@@ -320,34 +320,22 @@ fn relevels(cpus: &mut Cpus, act: Act) -> bool {
     true
 }
 
-/// Does an act; whether it may come, and the answer is the due one.
-fn does(cpus: &mut Cpus, act: Act) -> bool {
-    match act {
-        Act::Push(cpu, f, callback, o, level) => {
-            pushes(cpus, Cpu(cpu), FrameId(f), frame(callback, o), Irql(level))
-        }
-        Act::Pop(cpu, callback, o) => pops(cpus, Cpu(cpu), frame(callback, o)),
-        Act::Park(cpu) => parks(cpus, Cpu(cpu)),
-        Act::Unpark(cpu, f) => unparks(cpus, Cpu(cpu), FrameId(f)),
-        Act::Change(f, waits, until) => changes(cpus, FrameId(f), going(waits, until)),
-        Act::Is(fact) => holds(cpus, fact),
-        _ => relevels(cpus, act),
-    }
-}
+impl Part for Cpus {
+    type Act = Act;
 
-/// The place of the first act that isn't as due.
-fn first_wrong(cpus: &mut Cpus, acts: &[Act]) -> Option<usize> {
-    for (place, act) in acts.iter().enumerate() {
-        if !does(cpus, *act) {
-            return Some(place);
+    fn does(&mut self, act: Act) -> bool {
+        match act {
+            Act::Push(cpu, f, callback, o, level) => {
+                pushes(self, Cpu(cpu), FrameId(f), frame(callback, o), Irql(level))
+            }
+            Act::Pop(cpu, callback, o) => pops(self, Cpu(cpu), frame(callback, o)),
+            Act::Park(cpu) => parks(self, Cpu(cpu)),
+            Act::Unpark(cpu, f) => unparks(self, Cpu(cpu), FrameId(f)),
+            Act::Change(f, waits, until) => changes(self, FrameId(f), going(waits, until)),
+            Act::Is(fact) => holds(self, fact),
+            _ => relevels(self, act),
         }
     }
-    None
-}
-
-/// The same in what is made for it.
-fn wrong_in(mut cpus: Cpus, acts: &[Act]) -> Option<usize> {
-    first_wrong(&mut cpus, acts)
 }
 
 /// What is wrong in the cases.

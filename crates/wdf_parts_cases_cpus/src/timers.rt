@@ -1,5 +1,5 @@
 //! Timers and their ticks.
-use crate::trials::Wrong;
+use crate::trials::{Part, Wrong, wrong_in};
 use std::alloc::Global;
 use wdf_base::{Memory, ObjectId, Plan};
 use wdf_defer::Timers;
@@ -11,7 +11,7 @@ const OTHER: ObjectId = ObjectId(5);
 
 /// What happens to the timers, and what is read of them, with the answer that is due.
 #[derive(Clone, Copy)]
-enum Act {
+pub enum Act {
     /// A timer starts at a tick, and is due after so many. Whether it was queued.
     Start(ObjectId, u64, u64, bool),
     /// A timer is stopped. Whether it was queued.
@@ -93,35 +93,23 @@ fn fires(timers: &mut Timers, o: ObjectId, now: u64, period: u64) -> bool {
     due
 }
 
-/// Does an act; whether it may come, and the answer is the due one.
-fn does(timers: &mut Timers, act: Act) -> bool {
-    match act {
-        Act::Start(o, now, ticks, due) => {
-            o.0 < OBJECTS && now < 1000 && timers.start(o, now, ticks) == due
-        }
-        Act::Stop(o, due) => timers.stop(o) == due,
-        Act::Fire(o, now, period, due) => fires(timers, o, now, period) == due,
-        Act::IsQueued(o, due) => timers.is_timer_queued(o) == due,
-        Act::Due(o, now, due) => timers.timer_due(o, now) == due,
-        Act::Next(due) => timers.next_timer() == due,
-        Act::Later(now, due) => timers.any_later_timer(now) == due,
-        Act::Holds(due) => holds(timers, due),
-    }
-}
+impl Part for Timers {
+    type Act = Act;
 
-/// The place of the first act that isn't as due.
-fn first_wrong(timers: &mut Timers, acts: &[Act]) -> Option<usize> {
-    for (place, act) in acts.iter().enumerate() {
-        if !does(timers, *act) {
-            return Some(place);
+    fn does(&mut self, act: Act) -> bool {
+        match act {
+            Act::Start(o, now, ticks, due) => {
+                o.0 < OBJECTS && now < 1000 && self.start(o, now, ticks) == due
+            }
+            Act::Stop(o, due) => self.stop(o) == due,
+            Act::Fire(o, now, period, due) => fires(self, o, now, period) == due,
+            Act::IsQueued(o, due) => self.is_timer_queued(o) == due,
+            Act::Due(o, now, due) => self.timer_due(o, now) == due,
+            Act::Next(due) => self.next_timer() == due,
+            Act::Later(now, due) => self.any_later_timer(now) == due,
+            Act::Holds(due) => holds(self, due),
         }
     }
-    None
-}
-
-/// The same in what is made for it.
-fn wrong_in(mut timers: Timers, acts: &[Act]) -> Option<usize> {
-    first_wrong(&mut timers, acts)
 }
 
 /// What is wrong in the cases.

@@ -8,6 +8,30 @@ use wdf_scene::PlanBuilder;
 /// The name of a case, and the place of what isn't as due in it.
 pub type Wrong = Option<(&'static str, usize)>;
 
+/// A part on which acts are tried.
+pub trait Part: Drop {
+    /// What happens to the part, and what is read of it, with the answer that is due.
+    type Act: Copy;
+
+    /// Does an act; whether it may come, and the answer is the due one.
+    fn does(&mut self, act: Self::Act) -> bool;
+}
+
+/// The place of the first act that isn't as due.
+fn first_wrong<P: Part>(part: &mut P, acts: &[P::Act]) -> Option<usize> {
+    for (place, act) in acts.iter().enumerate() {
+        if !part.does(*act) {
+            return Some(place);
+        }
+    }
+    None
+}
+
+/// The same in what is made for it.
+pub fn wrong_in<P: Part>(mut part: P, acts: &[P::Act]) -> Option<usize> {
+    first_wrong(&mut part, acts)
+}
+
 /// What is tried.
 #[derive(Clone, Copy)]
 enum Tried {

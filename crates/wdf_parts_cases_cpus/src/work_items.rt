@@ -1,5 +1,5 @@
 //! Work items in their queue.
-use crate::trials::Wrong;
+use crate::trials::{Part, Wrong, wrong_in};
 use std::alloc::Global;
 use wdf_base::{Memory, ObjectId, Plan};
 use wdf_defer::WorkItems;
@@ -11,7 +11,7 @@ const OTHER: ObjectId = ObjectId(5);
 
 /// What happens to the queue, and what is read of it, with the answer that is due.
 #[derive(Clone, Copy)]
-enum Act {
+pub enum Act {
     Enqueue(ObjectId, bool),
     Cancel(ObjectId, bool),
     /// The queued work items.
@@ -43,29 +43,17 @@ fn holds(items: &WorkItems, due: &[ObjectId]) -> bool {
     at == items.len()
 }
 
-/// Does an act; whether it may come, and the answer is the due one.
-fn does(items: &mut WorkItems, act: Act) -> bool {
-    match act {
-        Act::Enqueue(o, due) => o.0 < OBJECTS && items.enqueue(o) == due,
-        Act::Cancel(o, due) => items.cancel(o) == due,
-        Act::Holds(due) => holds(items, due),
-        Act::IsQueued(o, due) => items.is_work_queued(o) == due,
-    }
-}
+impl Part for WorkItems {
+    type Act = Act;
 
-/// The place of the first act that isn't as due.
-fn first_wrong(items: &mut WorkItems, acts: &[Act]) -> Option<usize> {
-    for (place, act) in acts.iter().enumerate() {
-        if !does(items, *act) {
-            return Some(place);
+    fn does(&mut self, act: Act) -> bool {
+        match act {
+            Act::Enqueue(o, due) => o.0 < OBJECTS && self.enqueue(o) == due,
+            Act::Cancel(o, due) => self.cancel(o) == due,
+            Act::Holds(due) => holds(self, due),
+            Act::IsQueued(o, due) => self.is_work_queued(o) == due,
         }
     }
-    None
-}
-
-/// The same in what is made for it.
-fn wrong_in(mut items: WorkItems, acts: &[Act]) -> Option<usize> {
-    first_wrong(&mut items, acts)
 }
 
 /// What is wrong with the acts, from the opening on.

@@ -6,9 +6,20 @@ use wdf_declared::{
     class_at, declared_at, declares, device_of, interrupt_of, name_of_class, queue_of, target_of,
 };
 
-/// What a plan declares under an id.
-struct Declaration {
-    id: u32,
+/// What a plan declares under an id; a queue, an interrupt and a target have a name.
+#[derive(Clone, Copy)]
+enum Declaration {
+    Nothing,
+    Driver,
+    Device,
+    Queue(u32),
+    Interrupt(u32),
+    Target(u32),
+}
+
+/// What is found under an id.
+#[derive(Clone, Copy)]
+struct Found {
     /// Whether it is anything.
     is_there: bool,
     /// Whether it is a device.
@@ -21,193 +32,77 @@ struct Declaration {
     target: Option<u32>,
 }
 
+const NOTHING: Found = Found {
+    is_there: false,
+    device: false,
+    queue: None,
+    interrupt: None,
+    target: None,
+};
+
+/// What is there, but of none of these kinds: the driver object.
+const ANYTHING: Found = Found {
+    is_there: true,
+    ..NOTHING
+};
+
+/// What is due where this is declared.
+fn due_of(declaration: Declaration) -> Found {
+    match declaration {
+        Declaration::Nothing => NOTHING,
+        Declaration::Driver => ANYTHING,
+        Declaration::Device => Found {
+            device: true,
+            ..ANYTHING
+        },
+        Declaration::Queue(name) => Found {
+            queue: Some(name),
+            ..ANYTHING
+        },
+        Declaration::Interrupt(name) => Found {
+            interrupt: Some(name),
+            ..ANYTHING
+        },
+        Declaration::Target(name) => Found {
+            target: Some(name),
+            ..ANYTHING
+        },
+    }
+}
+
 /// The ids of the driver object, of what is declared after it, and of nothing, in the plan with
 /// queues.
-static OF_QUEUES: [Declaration; 8] = [
-    Declaration {
-        id: 0,
-        is_there: false,
-        device: false,
-        queue: None,
-        interrupt: None,
-        target: None,
-    },
-    Declaration {
-        id: 1,
-        is_there: true,
-        device: false,
-        queue: None,
-        interrupt: None,
-        target: None,
-    },
-    Declaration {
-        id: 2,
-        is_there: true,
-        device: true,
-        queue: None,
-        interrupt: None,
-        target: None,
-    },
-    Declaration {
-        id: 3,
-        is_there: true,
-        device: false,
-        queue: Some(3),
-        interrupt: None,
-        target: None,
-    },
-    Declaration {
-        id: 4,
-        is_there: true,
-        device: false,
-        queue: Some(4),
-        interrupt: None,
-        target: None,
-    },
-    Declaration {
-        id: 5,
-        is_there: true,
-        device: true,
-        queue: None,
-        interrupt: None,
-        target: None,
-    },
-    Declaration {
-        id: 6,
-        is_there: true,
-        device: false,
-        queue: Some(6),
-        interrupt: None,
-        target: None,
-    },
-    Declaration {
-        id: 7,
-        is_there: false,
-        device: false,
-        queue: None,
-        interrupt: None,
-        target: None,
-    },
+static OF_QUEUES: [(u32, Declaration); 8] = [
+    (0, Declaration::Nothing),
+    (1, Declaration::Driver),
+    (2, Declaration::Device),
+    (3, Declaration::Queue(3)),
+    (4, Declaration::Queue(4)),
+    (5, Declaration::Device),
+    (6, Declaration::Queue(6)),
+    (7, Declaration::Nothing),
 ];
 
 /// The same ids in the plan with interrupts.
-static OF_INTERRUPTS: [Declaration; 8] = [
-    Declaration {
-        id: 0,
-        is_there: false,
-        device: false,
-        queue: None,
-        interrupt: None,
-        target: None,
-    },
-    Declaration {
-        id: 1,
-        is_there: true,
-        device: false,
-        queue: None,
-        interrupt: None,
-        target: None,
-    },
-    Declaration {
-        id: 2,
-        is_there: true,
-        device: true,
-        queue: None,
-        interrupt: None,
-        target: None,
-    },
-    Declaration {
-        id: 3,
-        is_there: true,
-        device: false,
-        queue: None,
-        interrupt: Some(3),
-        target: None,
-    },
-    Declaration {
-        id: 4,
-        is_there: true,
-        device: false,
-        queue: None,
-        interrupt: Some(4),
-        target: None,
-    },
-    Declaration {
-        id: 5,
-        is_there: false,
-        device: false,
-        queue: None,
-        interrupt: None,
-        target: None,
-    },
-    Declaration {
-        id: 6,
-        is_there: false,
-        device: false,
-        queue: None,
-        interrupt: None,
-        target: None,
-    },
-    Declaration {
-        id: 7,
-        is_there: false,
-        device: false,
-        queue: None,
-        interrupt: None,
-        target: None,
-    },
+static OF_INTERRUPTS: [(u32, Declaration); 8] = [
+    (0, Declaration::Nothing),
+    (1, Declaration::Driver),
+    (2, Declaration::Device),
+    (3, Declaration::Interrupt(3)),
+    (4, Declaration::Interrupt(4)),
+    (5, Declaration::Nothing),
+    (6, Declaration::Nothing),
+    (7, Declaration::Nothing),
 ];
 
 /// Ids in the plan with targets.
-static OF_TARGETS: [Declaration; 6] = [
-    Declaration {
-        id: 0,
-        is_there: false,
-        device: false,
-        queue: None,
-        interrupt: None,
-        target: None,
-    },
-    Declaration {
-        id: 1,
-        is_there: true,
-        device: false,
-        queue: None,
-        interrupt: None,
-        target: None,
-    },
-    Declaration {
-        id: 2,
-        is_there: true,
-        device: true,
-        queue: None,
-        interrupt: None,
-        target: None,
-    },
-    Declaration {
-        id: 3,
-        is_there: true,
-        device: false,
-        queue: None,
-        interrupt: None,
-        target: Some(3),
-    },
-    Declaration {
-        id: 4,
-        is_there: true,
-        device: false,
-        queue: None,
-        interrupt: None,
-        target: Some(4),
-    },
-    Declaration {
-        id: 5,
-        is_there: false,
-        device: false,
-        queue: None,
-        interrupt: None,
-        target: None,
-    },
+static OF_TARGETS: [(u32, Declaration); 6] = [
+    (0, Declaration::Nothing),
+    (1, Declaration::Driver),
+    (2, Declaration::Device),
+    (3, Declaration::Target(3)),
+    (4, Declaration::Target(4)),
+    (5, Declaration::Nothing),
 ];
 
 /// Classes by their numbers, with the numbers of their names, 0 for what is no class.
@@ -252,9 +147,8 @@ fn target_name(plan: &Plan, o: ObjectId) -> Option<u32> {
     }
 }
 
-/// Whether a plan declares this.
-fn is_declared(plan: &Plan, due: &Declaration) -> bool {
-    let o = ObjectId(due.id);
+/// Whether this is found under an id.
+fn is_found(plan: &Plan, o: ObjectId, due: Found) -> bool {
     declared_at(plan, o).is_some() == due.is_there
         && device_of(plan, o).is_some() == due.device
         && queue_name(plan, o) == due.queue
@@ -263,9 +157,9 @@ fn is_declared(plan: &Plan, due: &Declaration) -> bool {
 }
 
 /// What is wrong with these declarations.
-fn wrong_of(plan: &Plan, all: &[Declaration]) -> Wrong {
-    for (place, due) in all.iter().enumerate() {
-        if !is_declared(plan, due) {
+fn wrong_of(plan: &Plan, all: &[(u32, Declaration)]) -> Wrong {
+    for (place, (id, declaration)) in all.iter().enumerate() {
+        if !is_found(plan, ObjectId(*id), due_of(*declaration)) {
             return Some(("declarations", place));
         }
     }

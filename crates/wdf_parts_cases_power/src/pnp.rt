@@ -27,10 +27,10 @@ enum Act {
     FollowsQueuesUp(bool),
 }
 
-/// What happens to a device that is off, and the phase in which it then rests.
+/// What happens to a device that is off, stretch by stretch, and the phase in which it then rests.
 struct Case {
     name: &'static str,
-    acts: &'static [Act],
+    acts: &'static [&'static [Act]],
     phase: Phase,
 }
 
@@ -56,6 +56,21 @@ const RELEASED: Act = Act::Runs(Callback::EvtDeviceReleaseHardware);
 
 const REMOVED: Act = Act::Passes(&[Stage::NoHardware, Stage::Closed, Stage::Removed]);
 
+/// A device starts, up to its power and its interrupts.
+const POWERED: &[Act] = &[
+    Act::Asked(Ask::Start),
+    HARD,
+    PREPARED,
+    ENTERED,
+    Act::Enables,
+];
+
+/// A device that has power works for the first time.
+const BEGINS: &[Act] = &[QUEUES_UP, BEGUN, WORKING];
+
+/// A working device loses its power.
+const POWERED_DOWN: &[Act] = &[QUEUES_DOWN, Act::Disables, QUIET, LEFT];
+
 static CASES: [Case; 9] = [
     Case {
         name: "nothing was asked",
@@ -65,153 +80,133 @@ static CASES: [Case; 9] = [
     Case {
         name: "start, sleep, wake; a second start or wake changes nothing",
         acts: &[
-            Act::Asked(Ask::Start),
-            Act::Left(10),
-            HARD,
-            PREPARED,
-            ENTERED,
-            Act::Enables,
-            Act::FollowsQueuesUp(false),
-            QUEUES_UP,
-            Act::FollowsQueuesUp(true),
-            BEGUN,
-            Act::FollowsQueuesUp(false),
-            WORKING,
-            Act::Asked(Ask::Start),
-            Act::Asked(Ask::Wake),
-            Act::Asked(Ask::Sleep),
-            Act::Left(8),
-            QUEUES_DOWN,
-            Act::Disables,
-            QUIET,
-            LEFT,
-            Act::Passes(&[Stage::Sleeping]),
-            Act::Asked(Ask::Wake),
-            ENTERED,
-            Act::Enables,
-            QUEUES_UP,
-            Act::FollowsQueuesUp(true),
-            WORKING,
+            &[
+                Act::Asked(Ask::Start),
+                Act::Left(10),
+                HARD,
+                PREPARED,
+                ENTERED,
+                Act::Enables,
+                Act::FollowsQueuesUp(false),
+                QUEUES_UP,
+                Act::FollowsQueuesUp(true),
+                BEGUN,
+                Act::FollowsQueuesUp(false),
+                WORKING,
+            ],
+            &[
+                Act::Asked(Ask::Start),
+                Act::Asked(Ask::Wake),
+                Act::Asked(Ask::Sleep),
+                Act::Left(8),
+            ],
+            POWERED_DOWN,
+            &[
+                Act::Passes(&[Stage::Sleeping]),
+                Act::Asked(Ask::Wake),
+                ENTERED,
+                Act::Enables,
+                QUEUES_UP,
+                Act::FollowsQueuesUp(true),
+                WORKING,
+            ],
         ],
         phase: Phase::Working,
     },
     Case {
         name: "a rebalance that is refused, and one that isn't",
         acts: &[
-            Act::Asked(Ask::Start),
-            HARD,
-            PREPARED,
-            ENTERED,
-            Act::Enables,
-            QUEUES_UP,
-            BEGUN,
-            WORKING,
-            Act::Asked(Ask::Rebalance),
-            Act::Fails(Callback::EvtDeviceQueryStop),
-            Act::Asked(Ask::Rebalance),
-            Act::Runs(Callback::EvtDeviceQueryStop),
-            QUEUES_DOWN,
-            Act::Disables,
-            QUIET,
-            LEFT,
-            RELEASED,
-            Act::Passes(&[Stage::NoHardware, Stage::Hardware]),
-            PREPARED,
-            ENTERED,
-            Act::Enables,
-            QUEUES_UP,
-            WORKING,
+            POWERED,
+            BEGINS,
+            &[
+                Act::Asked(Ask::Rebalance),
+                Act::Fails(Callback::EvtDeviceQueryStop),
+                Act::Asked(Ask::Rebalance),
+                Act::Runs(Callback::EvtDeviceQueryStop),
+            ],
+            POWERED_DOWN,
+            &[
+                RELEASED,
+                Act::Passes(&[Stage::NoHardware, Stage::Hardware]),
+                PREPARED,
+                ENTERED,
+                Act::Enables,
+                QUEUES_UP,
+                WORKING,
+            ],
         ],
         phase: Phase::Working,
     },
     Case {
         name: "a removal after a power-down; a removed device stays so",
         acts: &[
-            Act::Asked(Ask::Start),
-            HARD,
-            PREPARED,
-            ENTERED,
-            Act::Enables,
-            QUEUES_UP,
-            BEGUN,
-            WORKING,
-            Act::Asked(Ask::Remove),
-            Act::Runs(Callback::EvtDeviceQueryRemove),
-            QUEUES_DOWN,
-            Act::Disables,
-            QUIET,
-            LEFT,
-            RELEASED,
-            REMOVED,
-            Act::Asked(Ask::Start),
+            POWERED,
+            BEGINS,
+            &[
+                Act::Asked(Ask::Remove),
+                Act::Runs(Callback::EvtDeviceQueryRemove),
+            ],
+            POWERED_DOWN,
+            &[RELEASED, REMOVED, Act::Asked(Ask::Start)],
         ],
         phase: Phase::Removed,
     },
     Case {
         name: "a sleeping device is removed without power, and isn't asked",
         acts: &[
-            Act::Asked(Ask::Start),
-            HARD,
-            PREPARED,
-            ENTERED,
-            Act::Enables,
-            QUEUES_UP,
-            BEGUN,
-            WORKING,
-            Act::Asked(Ask::Sleep),
-            QUEUES_DOWN,
-            Act::Disables,
-            QUIET,
-            LEFT,
-            Act::Passes(&[Stage::Sleeping]),
-            Act::Asked(Ask::Surprise),
-            RELEASED,
-            REMOVED,
+            POWERED,
+            BEGINS,
+            &[Act::Asked(Ask::Sleep)],
+            POWERED_DOWN,
+            &[
+                Act::Passes(&[Stage::Sleeping]),
+                Act::Asked(Ask::Surprise),
+                RELEASED,
+                REMOVED,
+            ],
         ],
         phase: Phase::Removed,
     },
     Case {
         name: "no hardware: there is nothing to release",
-        acts: &[
+        acts: &[&[
             Act::Asked(Ask::Start),
             HARD,
             Act::Fails(Callback::EvtDevicePrepareHardware),
             REMOVED,
-        ],
+        ]],
         phase: Phase::Removed,
     },
     Case {
         name: "no power: no interrupt was enabled",
-        acts: &[
+        acts: &[&[
             Act::Asked(Ask::Start),
             HARD,
             PREPARED,
             Act::Fails(Callback::EvtDeviceD0Entry),
             RELEASED,
             REMOVED,
-        ],
+        ]],
         phase: Phase::Removed,
     },
     Case {
         name: "a device that is off is removed at once",
-        acts: &[
+        acts: &[&[
             Act::Asked(Ask::Sleep),
             Act::Asked(Ask::Remove),
             Act::Passes(&[Stage::Closed, Stage::Removed]),
-        ],
+        ]],
         phase: Phase::Removed,
     },
     Case {
         name: "the results of other callbacks are ignored",
         acts: &[
-            Act::Asked(Ask::Start),
-            HARD,
-            PREPARED,
-            ENTERED,
-            Act::Enables,
-            QUEUES_UP,
-            Act::Fails(Callback::EvtDeviceSelfManagedIoInit),
-            WORKING,
+            POWERED,
+            &[
+                QUEUES_UP,
+                Act::Fails(Callback::EvtDeviceSelfManagedIoInit),
+                WORKING,
+            ],
         ],
         phase: Phase::Working,
     },
@@ -317,7 +312,7 @@ fn asked(pnp: &mut Pnp, ask: Ask) -> bool {
     true
 }
 
-/// Does an act; whether it comes as told.
+/// Does an act; whether it comes as it should.
 fn does(pnp: &mut Pnp, act: Act) -> bool {
     match act {
         Act::Asked(ask) => asked(pnp, ask),
@@ -346,18 +341,28 @@ fn rests(pnp: &Pnp, phase: Phase) -> bool {
         && is_no_device(pnp, ObjectId(77))
 }
 
-/// The place of the first act that doesn't come as told.
-fn first_wrong(pnp: &mut Pnp, acts: &[Act]) -> Option<usize> {
-    for (place, act) in acts.iter().enumerate() {
+/// Does acts one after the other; whether each comes as it should.
+fn does_all(pnp: &mut Pnp, acts: &[Act]) -> bool {
+    for act in acts {
         if !does(pnp, *act) {
+            return false;
+        }
+    }
+    true
+}
+
+/// The place of the first stretch with an act that doesn't come as it should.
+fn first_wrong(pnp: &mut Pnp, acts: &[&[Act]]) -> Option<usize> {
+    for (place, stretch) in acts.iter().enumerate() {
+        if !does_all(pnp, stretch) {
             return Some(place);
         }
     }
     None
 }
 
-/// What is wrong in a case: the place of an act that doesn't come as told, or the number of acts
-/// where the device doesn't rest as told after them.
+/// What is wrong in a case: the place of a stretch that doesn't come as it should, or the number of
+/// stretches where the device doesn't rest as it should after them.
 fn wrong_in(mut pnp: Pnp, case: &Case) -> Option<usize> {
     match first_wrong(&mut pnp, case.acts) {
         None if rests(&pnp, case.phase) => None,

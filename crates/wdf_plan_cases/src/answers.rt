@@ -50,3 +50,10 @@ pub fn has_names(plan: &Plan, due: &[&str]) -> bool {
     }
     plan.names.len() as usize == due.len()
 }
+
+/// The items from one place on, as many as `count`.
+pub fn part<T>(items: &[T], from: usize, count: usize) -> &[T] {
+    let (_, after) = items.split_at(from.min(items.len()));
+    let (front, _) = after.split_at(count.min(after.len()));
+    front
+}

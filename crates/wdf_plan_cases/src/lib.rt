@@ -6,6 +6,8 @@ mod answers;
 #[cfg(test)]
 mod bounds;
 #[cfg(test)]
+mod callbacks;
+#[cfg(test)]
 mod refusals;
 #[cfg(test)]
 mod second_posts;

@@ -332,7 +332,7 @@ fn answer_after(alloc: Global, text: &str) -> Option<Answer> {
 }
 
 #[test]
-fn the_first_refusal_of_a_text(rt: HostRuntime) {
+fn a_text_is_refused_at_its_first_mistake(rt: HostRuntime) {
     for (text, due) in &TEXTS {
         assert!(rt; answered(rt.alloc(), text.as_bytes()) == *due, "{text:?}");
     }

@@ -1,5 +1,6 @@
 //! What devices do, and what all agents post, in the plan of the scenario of version 2.
-use crate::second_text::{BELL, FAST, HI, LO, SLOW, UP, part};
+use crate::answers::part;
+use crate::second_text::{BELL, FAST, HI, LO, SLOW, UP};
 use wdf_base::{Access, Action, Ask, Plan, Post, PostLine, WhenLine};
 
 static WHENS: [WhenLine; 3] = [

@@ -1,9 +1,9 @@
 //! The callbacks in the plan of the scenario of version 2: variables in the order of their first assignments, nodes
 //! of expressions in the order of the text.
-use crate::second_text::{BELL, HELD, LINK, OBJECTS, READS, SLOW, TASKS, part};
+use crate::callbacks::{self, Owner, Scripted};
+use crate::second_text::{BELL, HELD, LINK, OBJECTS, READS, SLOW, TASKS};
 use wdf_base::{
-    Act, ArgNode, CallKind, Callback, ContextWord, Declared, ExprNode, Operator, Plan, Script,
-    Statement, Status,
+    Act, ArgNode, CallKind, Callback, ContextWord, ExprNode, Operator, Plan, Statement, Status,
 };
 
 /// The nodes of the expressions; the operands of an operator stand before it.
@@ -78,117 +78,21 @@ static NODES: [ExprNode; 37] = [
     ExprNode::Literal(Status::Cancelled),
 ];
 
-/// A callback that is declared.
-struct Answering {
-    callback: Callback,
-    /// The id of its object, or 0 for a class.
-    id: u32,
-    /// The number of its class.
-    class: u16,
-    line: u32,
-    /// How many statements.
-    count: usize,
-}
-
-static SCRIPTS: [Answering; 14] = [
-    Answering {
-        callback: Callback::EvtTimerFunc,
-        id: 0,
-        class: 3,
-        line: 29,
-        count: 1,
-    },
-    Answering {
-        callback: Callback::EvtTimerFunc,
-        id: 0,
-        class: 4,
-        line: 35,
-        count: 0,
-    },
-    Answering {
-        callback: Callback::EvtInterruptIsr,
-        id: 4,
-        class: 0,
-        line: 50,
-        count: 1,
-    },
-    Answering {
-        callback: Callback::EvtIoRead,
-        id: 5,
-        class: 0,
-        line: 59,
-        count: 5,
-    },
-    Answering {
-        callback: Callback::EvtRequestCompletion,
-        id: 6,
-        class: 0,
-        line: 69,
-        count: 1,
-    },
-    Answering {
-        callback: Callback::EvtInterruptIsr,
-        id: 7,
-        class: 0,
-        line: 74,
-        count: 0,
-    },
-    Answering {
-        callback: Callback::EvtDeviceD0Entry,
-        id: 2,
-        class: 0,
-        line: 79,
-        count: 7,
-    },
-    Answering {
-        callback: Callback::EvtDeviceD0Exit,
-        id: 2,
-        class: 0,
-        line: 90,
-        count: 2,
-    },
-    Answering {
-        callback: Callback::EvtRequestCompletion,
-        id: 9,
-        class: 0,
-        line: 102,
-        count: 0,
-    },
-    Answering {
-        callback: Callback::EvtIoDefault,
-        id: 10,
-        class: 0,
-        line: 108,
-        count: 1,
-    },
-    Answering {
-        callback: Callback::EvtInterruptIsr,
-        id: 11,
-        class: 0,
-        line: 113,
-        count: 2,
-    },
-    Answering {
-        callback: Callback::EvtDeviceD0Entry,
-        id: 8,
-        class: 0,
-        line: 124,
-        count: 5,
-    },
-    Answering {
-        callback: Callback::EvtWorkItem,
-        id: 0,
-        class: 5,
-        line: 152,
-        count: 1,
-    },
-    Answering {
-        callback: Callback::EvtDpcFunc,
-        id: 0,
-        class: 6,
-        line: 157,
-        count: 1,
-    },
+static SCRIPTS: [Scripted; 14] = [
+    (Callback::EvtTimerFunc, Owner::Class(3), 29, 1),
+    (Callback::EvtTimerFunc, Owner::Class(4), 35, 0),
+    (Callback::EvtInterruptIsr, Owner::Object(4), 50, 1),
+    (Callback::EvtIoRead, Owner::Object(5), 59, 5),
+    (Callback::EvtRequestCompletion, Owner::Object(6), 69, 1),
+    (Callback::EvtInterruptIsr, Owner::Object(7), 74, 0),
+    (Callback::EvtDeviceD0Entry, Owner::Object(2), 79, 7),
+    (Callback::EvtDeviceD0Exit, Owner::Object(2), 90, 2),
+    (Callback::EvtRequestCompletion, Owner::Object(9), 102, 0),
+    (Callback::EvtIoDefault, Owner::Object(10), 108, 1),
+    (Callback::EvtInterruptIsr, Owner::Object(11), 113, 2),
+    (Callback::EvtDeviceD0Entry, Owner::Object(8), 124, 5),
+    (Callback::EvtWorkItem, Owner::Class(5), 152, 1),
+    (Callback::EvtDpcFunc, Owner::Class(6), 157, 1),
 ];
 
 /// The statements of all callbacks, one after the other.
@@ -432,32 +336,9 @@ static STATEMENTS: [Statement; 27] = [
     },
 ];
 
-/// What a callback is declared on.
-fn owner(due: &Answering) -> Option<Declared> {
-    match due.id.checked_sub(1) {
-        Some(place) => OBJECTS.get(place as usize).copied(),
-        None => Some(Declared::OfClass(due.class)),
-    }
-}
-
-/// Whether a script is this, with these statements.
-fn is_script(script: &Script, due: &Answering, statements: &[Statement]) -> bool {
-    script.callback == due.callback
-        && Some(script.owner) == owner(due)
-        && script.line == due.line
-        && script.statements.as_slice() == statements
-}
-
 /// Whether the callbacks have their statements.
 pub fn has_scripts(plan: &Plan) -> bool {
-    let mut from = 0;
-    for (script, due) in plan.scripts.as_slice().iter().zip(&SCRIPTS) {
-        if !is_script(script, due, part(&STATEMENTS, from, due.count)) {
-            return false;
-        }
-        from = due.count.saturating_add(from);
-    }
-    plan.scripts.len() as usize == SCRIPTS.len() && from == STATEMENTS.len()
+    callbacks::has_scripts(plan, &OBJECTS, &SCRIPTS, &STATEMENTS)
 }
 
 /// Whether the nodes of expressions stand in the order of the text.

@@ -242,7 +242,7 @@ pub const UP: Handle = Handle {
 };
 
 /// A queue that takes no type of requests.
-const NONE: Serves = Serves {
+pub const NONE: Serves = Serves {
     rest: false,
     read: false,
     write: false,
@@ -427,13 +427,6 @@ static REGISTERS: [RegisterInfo; 3] = [
         value: 9_000_000_000,
     },
 ];
-
-/// The items from one place on, as many as `count`.
-pub fn part<T>(items: &[T], from: usize, count: usize) -> &[T] {
-    let (_, after) = items.split_at(from.min(items.len()));
-    let (front, _) = after.split_at(count.min(after.len()));
-    front
-}
 
 /// Whether the names stand in the order of their lines.
 fn has_all_names(plan: &Plan) -> bool {

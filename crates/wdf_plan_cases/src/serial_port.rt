@@ -1,6 +1,7 @@
-//! The plan of a serial port, and of nested blocks.
+//! The plan of the worked serial port, and of nested blocks.
 use crate::answers::{has_names, plan_of};
-use crate::second_text::part;
+use crate::callbacks::{Owner, Scripted, has_scripts};
+use crate::second_text::NONE;
 use std::alloc::Global;
 use wdf_base::{
     Access, Act, Action, ArgNode, Ask, CallKind, Callback, ClassInfo, ContextWord, Declared,
@@ -8,82 +9,7 @@ use wdf_base::{
     ObjectId, Operator, Plan, Post, PostLine, QueueInfo, RegisterInfo, Scope, Serves, Statement,
     Status,
 };
-
-/// A serial port: its interrupt fetches a byte, and a read waits in a manual queue for it.
-const TEXT: &str = "cpus 2
-limit 1000
-objects 32
-class TM timer D
-on EvtTimerFunc
-log 99
-end
-end
-device D
-scope device
-register RX 0
-register CTL 0
-when write CTL set RX 65 after 3
-when write CTL raise IRQ after 3
-when read RX lower IRQ after 0
-interrupt IRQ 6
-on EvtInterruptIsr
-get b = RX
-call SetContext device 1 b
-call WdfInterruptQueueDpcForIsr self
-end
-on EvtInterruptDpc
-call r = WdfIoQueueRetrieveNextRequest PEND
-if ( r != NO_MORE_ENTRIES )
-call WdfRequestComplete r SUCCESS
-end
-end
-end
-queue WQ parallel 2
-for write
-on EvtIoWrite
-put CTL 1
-call WdfRequestComplete request SUCCESS
-end
-end
-queue RQ parallel 4
-for read
-on EvtIoRead
-call f = WdfRequestForwardToIoQueue request PEND
-if ( f != SUCCESS )
-call WdfRequestComplete request f
-end
-end
-end
-queue PEND manual
-power off
-end
-on EvtDevicePrepareHardware
-call t = WdfTimerCreate TM
-call SetContext device 0 t
-end
-on EvtDeviceD0Entry
-call t = GetContext device 0
-call WdfTimerStart t 2
-end
-on EvtDeviceD0Exit
-call t = GetContext device 0
-call WdfTimerStop t 1
-end
-end
-app A
-at 0 read D 16
-at 1 read D 16
-at 4 write D 1
-at 20 write D 1
-at 25 read D 16
-end
-pnp
-at 0 start D
-at 10 sleep D
-at 15 wake D
-at 40 surprise D
-end
-";
+use wdf_worked_texts::serial;
 
 /// The names by their numbers.
 static NAMES: [&str; 11] = [
@@ -124,10 +50,8 @@ static OBJECTS: [Declared; 6] = [
         device: ObjectId(2),
         dispatch: DispatchKind::Parallel(2),
         serves: Serves {
-            rest: false,
-            read: false,
             write: true,
-            control: false,
+            ..NONE
         },
         powered: true,
         zero: false,
@@ -138,12 +62,7 @@ static OBJECTS: [Declared; 6] = [
         name: 8,
         device: ObjectId(2),
         dispatch: DispatchKind::Parallel(4),
-        serves: Serves {
-            rest: false,
-            read: true,
-            write: false,
-            control: false,
-        },
+        serves: Serves { read: true, ..NONE },
         powered: true,
         zero: false,
         scope: Scope::PerDevice,
@@ -153,12 +72,7 @@ static OBJECTS: [Declared; 6] = [
         name: 9,
         device: ObjectId(2),
         dispatch: DispatchKind::Manual,
-        serves: Serves {
-            rest: false,
-            read: false,
-            write: false,
-            control: false,
-        },
+        serves: NONE,
         powered: false,
         zero: false,
         scope: Scope::PerDevice,
@@ -210,16 +124,15 @@ static NODES: [ExprNode; 32] = [
     ExprNode::Number(1),
 ];
 
-/// The callbacks with the ids of their objects, 0 for the class, their lines and how many statements they have.
-static SCRIPTS: [(Callback, usize, u32, u32); 8] = [
-    (Callback::EvtTimerFunc, 0, 5, 1),
-    (Callback::EvtInterruptIsr, 3, 17, 3),
-    (Callback::EvtInterruptDpc, 3, 22, 3),
-    (Callback::EvtIoWrite, 4, 31, 2),
-    (Callback::EvtIoRead, 5, 38, 3),
-    (Callback::EvtDevicePrepareHardware, 2, 48, 2),
-    (Callback::EvtDeviceD0Entry, 2, 52, 2),
-    (Callback::EvtDeviceD0Exit, 2, 56, 2),
+static SCRIPTS: [Scripted; 8] = [
+    (Callback::EvtTimerFunc, Owner::Class(0), 5, 1),
+    (Callback::EvtInterruptIsr, Owner::Object(3), 17, 3),
+    (Callback::EvtInterruptDpc, Owner::Object(3), 22, 3),
+    (Callback::EvtIoWrite, Owner::Object(4), 31, 2),
+    (Callback::EvtIoRead, Owner::Object(5), 38, 3),
+    (Callback::EvtDevicePrepareHardware, Owner::Object(2), 48, 2),
+    (Callback::EvtDeviceD0Entry, Owner::Object(2), 52, 2),
+    (Callback::EvtDeviceD0Exit, Owner::Object(2), 56, 2),
 ];
 
 /// The statements of all callbacks.
@@ -406,44 +319,18 @@ static STATEMENTS: [Statement; 18] = [
     },
 ];
 
+const READ: Post = Post::Read {
+    device: DEVICE,
+    length: 16,
+};
+
+const WRITE: Post = Post::Write {
+    device: DEVICE,
+    length: 1,
+};
+
 /// The ticks and the posts of the app.
-static APP_POSTS: [(u64, Post); 5] = [
-    (
-        0,
-        Post::Read {
-            device: DEVICE,
-            length: 16,
-        },
-    ),
-    (
-        1,
-        Post::Read {
-            device: DEVICE,
-            length: 16,
-        },
-    ),
-    (
-        4,
-        Post::Write {
-            device: DEVICE,
-            length: 1,
-        },
-    ),
-    (
-        20,
-        Post::Write {
-            device: DEVICE,
-            length: 1,
-        },
-    ),
-    (
-        25,
-        Post::Read {
-            device: DEVICE,
-            length: 16,
-        },
-    ),
-];
+static APP_POSTS: [(u64, Post); 5] = [(0, READ), (1, READ), (4, WRITE), (20, WRITE), (25, READ)];
 
 /// The ticks and the posts of the Plug and Play manager.
 static ASKS: [(u64, Post); 4] = [
@@ -574,41 +461,9 @@ fn has_posts(plan: &Plan) -> bool {
     }
 }
 
-/// The object with this id, or of the one class.
-fn owner(id: usize) -> Declared {
-    match id {
-        0 => Declared::OfClass(0),
-        _ => match OBJECTS.get(id - 1) {
-            Some(object) => *object,
-            None => Declared::Driver,
-        },
-    }
-}
-
-/// Whether the callbacks stand for their objects.
+/// Whether the callbacks have their statements, and the expressions their numbers.
 fn has_callbacks(plan: &Plan) -> bool {
-    for (script, (callback, id, line, count)) in plan.scripts.as_slice().iter().zip(&SCRIPTS) {
-        if script.callback != *callback || script.owner != owner(*id) {
-            return false;
-        }
-        if script.line != *line || script.statements.len() != *count {
-            return false;
-        }
-    }
-    plan.scripts.len() as usize == SCRIPTS.len()
-}
-
-/// Whether the statements and the expressions have their numbers.
-fn has_statements(plan: &Plan) -> bool {
-    let mut from = 0;
-    for script in plan.scripts.as_slice() {
-        let statements = script.statements.as_slice();
-        if statements != part(&STATEMENTS, from, statements.len()) {
-            return false;
-        }
-        from = statements.len().saturating_add(from);
-    }
-    from == STATEMENTS.len() && plan.exprs.as_slice() == NODES.as_slice()
+    has_scripts(plan, &OBJECTS, &SCRIPTS, &STATEMENTS) && plan.exprs.as_slice() == NODES.as_slice()
 }
 
 /// What is wrong with the plan.
@@ -619,7 +474,7 @@ fn wrong_with(plan: &Plan) -> Option<&'static str> {
     if !has_whens(plan) || !has_posts(plan) {
         return Some("posts");
     }
-    if !has_callbacks(plan) || !has_statements(plan) {
+    if !has_callbacks(plan) {
         return Some("callbacks");
     }
     None
@@ -627,7 +482,7 @@ fn wrong_with(plan: &Plan) -> Option<&'static str> {
 
 /// What is wrong with the plan of the serial port.
 fn wrong(alloc: Global) -> Option<&'static str> {
-    match plan_of(alloc, TEXT.as_bytes()) {
+    match plan_of(alloc, serial::RUNS[0].scenario.as_bytes()) {
         Some(plan) => wrong_with(&plan),
         None => Some("no plan"),
     }

@@ -57,7 +57,7 @@ static STOPPING: [Doing; 1] = [(Kind::Queue, CallKind::WdfIoQueueStopSynchronous
 
 /// Two rows hold of each.
 #[test]
-fn the_first_of_two_rows(rt: HostRuntime) -> Result<(), Fail> {
+fn the_first_of_two_rows_is_the_fault(rt: HostRuntime) -> Result<(), Fail> {
     let marked = But::Mark(Mark::Marked);
     let held = But::Took(LockRef::Object(OBJECT.id));
     check(&rt, &RETURNED, &[But::NotHeld], Some(Fault::NotOwned));

@@ -34,7 +34,7 @@ static WITH_OTHER: [Doing; 2] = [
 /// An object argument is gone, or is cleaned up and the call isn't one of five. The value that
 /// SetContext stores is no object argument.
 #[test]
-fn stale_handles(rt: HostRuntime) -> Result<(), Fail> {
+fn calls_on_stale_handles_are_faults(rt: HostRuntime) -> Result<(), Fail> {
     let stale = Some(Fault::StaleHandle);
     check(&rt, &ON_LIVE, &[But::Life(Life::Asked)], None);
     check(&rt, &ON_LIVE, &[But::Life(Life::Cleaned)], stale);
@@ -95,7 +95,7 @@ static WRONG: [Doing; 4] = [
 
 /// An argument isn't an object of the needed kind, or a made request is sent and forgotten.
 #[test]
-fn wrong_kinds(rt: HostRuntime) -> Result<(), Fail> {
+fn arguments_of_wrong_kinds_are_faults(rt: HostRuntime) -> Result<(), Fail> {
     let wrong = Some(Fault::WrongKind);
     check(&rt, &OF_A_KIND, &[], None);
     check(&rt, &OF_A_KIND, &[But::Kind(Kind::General)], wrong);
@@ -147,7 +147,7 @@ static OF_INTERRUPT: [Doing; 1] = [(Kind::Interrupt, CallKind::WdfInterruptAcqui
 
 /// The processor's level is above the call's.
 #[test]
-fn levels_that_are_too_high(rt: HostRuntime) -> Result<(), Fail> {
+fn calls_above_their_level_are_faults(rt: HostRuntime) -> Result<(), Fail> {
     let high = Some(Fault::IrqlTooHigh);
     check(&rt, &PASSIVE, &[], None);
     check(&rt, &PASSIVE, &[But::Irql(1)], high);

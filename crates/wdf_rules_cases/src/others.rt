@@ -12,7 +12,7 @@ static DELETE: [Doing; 1] = [(Kind::General, CallKind::WdfObjectDelete, &[IT])];
 
 /// A reference is given up that isn't held, or an object deleted that the driver doesn't own.
 #[test]
-fn objects(rt: HostRuntime) -> Result<(), Fail> {
+fn only_held_references_and_made_objects_are_given_up(rt: HostRuntime) -> Result<(), Fail> {
     check(&rt, &DEREFERENCE, &[], None);
     check(
         &rt,
@@ -68,7 +68,7 @@ const OTHER_LOCK: LockRef = LockRef::Object(ObjectId(6));
 
 /// The frame is number 7. Only what it took by a call may it release, and that it must.
 #[test]
-fn locks(rt: HostRuntime) -> Result<(), Fail> {
+fn a_frame_releases_what_it_took_and_nothing_else(rt: HostRuntime) -> Result<(), Fail> {
     let already = Some(Fault::LockHeldAlready);
     let not_held = Some(Fault::LockNotHeld);
     check(&rt, &ACQUIRING, &[], None);
@@ -89,7 +89,9 @@ fn locks(rt: HostRuntime) -> Result<(), Fail> {
 
 /// A register is read or written while its device has no hardware; a statement has an error.
 #[test]
-fn other_statements(rt: HostRuntime) -> Result<(), Fail> {
+fn registers_without_hardware_and_broken_statements_are_faults(
+    rt: HostRuntime,
+) -> Result<(), Fail> {
     let change = Change::Branch;
     let put = Intent::Put {
         register: 0,
@@ -131,7 +133,7 @@ const SCOPE: LockRef = LockRef::DeviceScope(ObjectId(2));
 
 /// The frame runs on the call's object, or holds the scope lock that this object's callbacks need.
 #[test]
-fn waits_in_the_own_scope(rt: HostRuntime) -> Result<(), Fail> {
+fn waiting_in_the_own_scope_is_a_fault(rt: HostRuntime) -> Result<(), Fail> {
     let own = Some(Fault::SyncInOwnScope);
     let on_it = But::RunsOn(OBJECT.id);
     let scoped = But::Scope(SCOPE);
@@ -174,7 +176,7 @@ static WHOLE: [Doing; 7] = [
 ];
 
 #[test]
-fn arguments_of_scripts(rt: HostRuntime) -> Result<(), Fail> {
+fn broken_arguments_are_script_errors(rt: HostRuntime) -> Result<(), Fail> {
     check(&rt, &BROKEN, &[], Some(Fault::ScriptError));
     check(&rt, &WHOLE, &[], None);
     assert!(rt; is_number(ONE, 1));

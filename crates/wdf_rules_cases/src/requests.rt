@@ -59,7 +59,7 @@ const SENT: But = But::Place(Place::Sent(ObjectId(4)));
 
 /// A request is given up or marked that isn't Owned, or another call needs it held.
 #[test]
-fn requests_that_are_not_owned(rt: HostRuntime) -> Result<(), Fail> {
+fn giving_up_a_request_that_is_not_owned_is_a_fault(rt: HostRuntime) -> Result<(), Fail> {
     let not_owned = Some(Fault::NotOwned);
     check(&rt, &GIVING_UP, &[STOPS], None);
     for place in [
@@ -79,7 +79,7 @@ fn requests_that_are_not_owned(rt: HostRuntime) -> Result<(), Fail> {
 
 /// A request that is given up may be neither cancelable nor have its EvtRequestCancel due.
 #[test]
-fn cancelable_requests(rt: HostRuntime) -> Result<(), Fail> {
+fn giving_up_a_cancelable_request_is_a_fault(rt: HostRuntime) -> Result<(), Fail> {
     for (mark, fault) in [
         (Mark::Unmarked, None),
         (Mark::Marked, Some(Fault::CompleteWhileMarked)),
@@ -95,7 +95,7 @@ fn cancelable_requests(rt: HostRuntime) -> Result<(), Fail> {
 
 /// A request is marked that is cancelable already, or has its EvtRequestCancel due.
 #[test]
-fn requests_that_are_marked_twice(rt: HostRuntime) -> Result<(), Fail> {
+fn marking_a_request_twice_is_a_fault(rt: HostRuntime) -> Result<(), Fail> {
     let twice = Some(Fault::MarkedTwice);
     check(&rt, &MARKING, &[], None);
     check(&rt, &MARKING, &[But::Mark(Mark::Marked)], twice);
@@ -105,7 +105,7 @@ fn requests_that_are_marked_twice(rt: HostRuntime) -> Result<(), Fail> {
 
 /// A request is acknowledged once, by its own EvtIoStop on the queue that it came from.
 #[test]
-fn acknowledgements(rt: HostRuntime) -> Result<(), Fail> {
+fn acknowledging_outside_the_own_stop_is_a_fault(rt: HostRuntime) -> Result<(), Fail> {
     let outside = Some(Fault::AckOutsideStop);
     check(&rt, &ACKNOWLEDGING, &[STOPS], None);
     check(&rt, &ACKNOWLEDGING, &[], outside);

@@ -75,7 +75,7 @@ static REFUSALS: [Row; 6] = [
 ];
 
 #[test]
-fn what_comes_to_no_run_is_told(rt: HostRuntime) -> Result<(), Fail> {
+fn what_comes_to_no_run_is_refused(rt: HostRuntime) -> Result<(), Fail> {
     assert_eq!(rt; first_wrong(&rt, rt.alloc(), &REFUSALS)?, None);
     Ok(())
 }
@@ -89,7 +89,7 @@ fn is_too_large<R: Threads + Sync>(rt: &R, alloc: Global, input: &[u8]) -> Resul
 }
 
 #[test]
-fn an_input_is_too_large(rt: HostRuntime) -> Result<(), Fail> {
+fn an_input_over_the_limit_is_refused(rt: HostRuntime) -> Result<(), Fail> {
     let mut input = Vec::new(rt.alloc());
     input.resize(INPUT_LIMIT + 1, b'\n')?;
     assert!(rt; is_too_large(&rt, rt.alloc(), &input)?);

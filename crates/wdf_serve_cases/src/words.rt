@@ -20,7 +20,7 @@ static WORDS: [(&str, u8, Text); 7] = [
 ];
 
 #[test]
-fn other_words(rt: HostRuntime) -> Result<(), Fail> {
+fn other_words_start_no_run(rt: HostRuntime) -> Result<(), Fail> {
     for (words, status, text) in &WORDS {
         let row = Row {
             words,

@@ -153,7 +153,7 @@ static CALLS: [(Act, Intent); 9] = [
 ];
 
 #[test]
-fn calls_with_arguments(rt: HostRuntime) -> Result<(), Fail> {
+fn calls_have_their_arguments(rt: HostRuntime) -> Result<(), Fail> {
     check_statements(&rt, rt.alloc(), &FRAME, &CALLS)?;
     Ok(())
 }

@@ -148,7 +148,7 @@ fn a_course_through_loops_and_branches(rt: HostRuntime) -> Result<(), Fail> {
 }
 
 #[test]
-fn a_script_that_is_not_there(rt: HostRuntime) -> Result<(), Fail> {
+fn a_missing_script_returns_at_once(rt: HostRuntime) -> Result<(), Fail> {
     let plan = plan_of(rt.alloc(), Items::new(rt.alloc()), Items::new(rt.alloc()))?;
     let frame = Frame { script: 1, ..FRAME };
     assert_eq!(rt; next(&plan, &frame), Intent::Return(SUCCESS));

@@ -157,13 +157,13 @@ fn check_operations(
 }
 
 #[test]
-fn operators_of_numbers(rt: HostRuntime) -> Result<(), Fail> {
+fn operations_on_numbers_have_their_results(rt: HostRuntime) -> Result<(), Fail> {
     check_operations(&rt, rt.alloc(), &NUMBERS)?;
     Ok(())
 }
 
 #[test]
-fn operators_of_values(rt: HostRuntime) -> Result<(), Fail> {
+fn operations_on_other_values_have_their_results(rt: HostRuntime) -> Result<(), Fail> {
     check_operations(&rt, rt.alloc(), &KINDS)?;
     Ok(())
 }

@@ -331,7 +331,7 @@ pub fn check_statements(
 }
 
 #[test]
-fn each_statement(rt: HostRuntime) -> Result<(), Fail> {
+fn each_statement_has_its_intent(rt: HostRuntime) -> Result<(), Fail> {
     check_statements(&rt, rt.alloc(), &FRAME, &STATEMENTS)?;
     Ok(())
 }
@@ -381,7 +381,7 @@ static PLAIN_WORDS: [(Act, Intent); 7] = [
 ];
 
 #[test]
-fn words_without_a_request(rt: HostRuntime) -> Result<(), Fail> {
+fn words_without_a_request_have_their_values(rt: HostRuntime) -> Result<(), Fail> {
     check_statements(&rt, rt.alloc(), &PLAIN, &PLAIN_WORDS)?;
     Ok(())
 }
