@@ -38,10 +38,11 @@ use Rattle.wdf_request_laws.proofs.Cancels.{stands_next}
 use Rattle.wdf_request_laws.proofs.Gives.{call_of}
 use Rattle.wdf_held_laws.proofs.Holdings.{noted}
 use Rattle.wdf_held_laws.proofs.HeldAsTold.{HeldAsTold, is_taken}
-use Rattle.wdf_held_laws.proofs.HoldingsOverRuns.{either_held, held_opens, holds_now, take_all}
+use Rattle.wdf_held_laws.proofs.HoldingsOverRuns.{either_held, held_opens, holds_now}
 use Rattle.wdf_held_laws.proofs.Settled.{held_there, noted_at, noted_is, settles_acknowledged_at_each}
 use Rattle.wdf_held_laws.proofs.StillAcked.{AckStep, either_acks, is_acked}
 use Rattle.wdf_invariants.proofs.PowerQueues.{queues_at_each}
+use Rattle.wdf_agreements.proofs.Keeping.{at_the_end}
 
 -- ---- words
 
@@ -102,7 +103,7 @@ not_given es e r q held = elim (cases_Bool (shows (sign.GivingUp r) e)) [
     by_tests false s false h k = absurd (let z : ⊥ = cc in z)
 
 -- a noted queue is power-managed
-managed_note : (plan : Plan) (o : Option ℕ) → nat_lt 0 (managed_origin plan o) ≡ true → is_managed plan (managed_origin plan o) ≡ true
+pub managed_note : (plan : Plan) (o : Option ℕ) → nat_lt 0 (managed_origin plan o) ≡ true → is_managed plan (managed_origin plan o) ≡ true
 managed_note plan None h = absurd (let z : ⊥ = cc in z)
 managed_note plan (Some p) h = by_managed (is_managed plan p) refl h
   where
@@ -167,7 +168,7 @@ unfolding state_after
 opens plan m x t = absurd (let z : ⊥ = cc in z)
 
 queues_now : {A : Type 0} (plan : Plan) (m : Meaning A) (run : List Event) → IsRunOf plan m run → (state_after plan m run).power.queues ≡ (opening_power plan).queues
-queues_now {A} plan m run is_run = subst (λ es. (state_after {A = A} plan m es).power.queues ≡ (opening_power plan).queues) (take_all run) (queues_at_each plan m run is_run (length run))
+queues_now {A} plan m run is_run = at_the_end plan m (λ (S : State A). S.power.queues ≡ (opening_power plan).queues) run (queues_at_each plan m run is_run (length run))
 
 next_told : {A : Type 0} (plan : Plan) (m : Meaning A) (before : List Event) (e : Event) (offered : List Event) → IsRunOf plan m before → (may plan m (state_after plan m before) e ≡ true) ⊎ IsTick m (state_after plan m before) offered e
     → AsTold plan before (state_after plan m before).power → AsTold plan (before ++ e ∷ []) (after plan m (state_after plan m before) e).power

@@ -127,19 +127,11 @@ unheld_noted plan S r h off = h.holdings r ∙ ap (managed_origin plan) (unheld 
 
 pub queued_unheld : (forgotten : Bool) (q : ℕ) (p : Place) → is_queued_in q p ≡ true → held_at forgotten p ≡ false
 queued_unheld forgotten q (place.Queued o) h = refl
-queued_unheld forgotten q (place.Returning o) h = absurd (let z : ⊥ = cc in z)
-queued_unheld forgotten q (place.Closing s) h = absurd (let z : ⊥ = cc in z)
-queued_unheld forgotten q place.Owned h = absurd (let z : ⊥ = cc in z)
-queued_unheld forgotten q (place.Sent t) h = absurd (let z : ⊥ = cc in z)
-queued_unheld forgotten q place.Done h = absurd (let z : ⊥ = cc in z)
+queued_unheld forgotten q _ h = absurd (let z : ⊥ = cc in z)
 
 returning_unheld : (forgotten : Bool) (q : ℕ) (p : Place) → is_returning_to q p ≡ true → held_at forgotten p ≡ false
 returning_unheld forgotten q (place.Returning o) h = refl
-returning_unheld forgotten q (place.Queued o) h = absurd (let z : ⊥ = cc in z)
-returning_unheld forgotten q (place.Closing s) h = absurd (let z : ⊥ = cc in z)
-returning_unheld forgotten q place.Owned h = absurd (let z : ⊥ = cc in z)
-returning_unheld forgotten q (place.Sent t) h = absurd (let z : ⊥ = cc in z)
-returning_unheld forgotten q place.Done h = absurd (let z : ⊥ = cc in z)
+returning_unheld forgotten q _ h = absurd (let z : ⊥ = cc in z)
 
 -- ---- starts
 
@@ -177,8 +169,6 @@ module _ {A : Type 0} {F B : ℕ → Bool} (plan : Plan) (m : Meaning A) (es : L
       (unheld_noted plan S r.id.0 hold (returning_unheld (is_forgotten S.targets r.id.0) o.id.0 (place_of S.requests r.id.0) ready_))
 
   effect_for_notes : (y : Rank) (o r : ℕ) → is_handler y ≡ false → same_rank_returns y ≡ false → NotesStay S.power (do_deeds plan (effect_for y o r) S).power
-  effect_for_notes rank.Completion o r h j = λ x. refl
-  effect_for_notes rank.Cancel o r h j = λ x. refl
   effect_for_notes rank.CanceledOnQueue o r h j = absurd (let z : ⊥ = cc in z)
   effect_for_notes rank.Stop o r h j = deed_notes plan (AskStop (object_id r)) S refl
   effect_for_notes rank.Resume o r h j = deed_notes plan (Resume (object_id r)) S refl
@@ -186,12 +176,6 @@ module _ {A : Type 0} {F B : ℕ → Bool} (plan : Plan) (m : Meaning A) (es : L
   effect_for_notes _ o r h j = λ x. refl
 
   effect_notes : (y : Rank) (cpu : ℕ) (c : Callback) (o : ℕ) → (do_deeds plan (effect plan S y cpu c o) S).power ≡ S.power
-  effect_notes rank.Deferred cpu c o = refl
-  effect_notes rank.Timed cpu c o = refl
-  effect_notes rank.QueueState cpu c o = refl
-  effect_notes rank.Sequence cpu c o = refl
-  effect_notes rank.Work cpu c o = refl
-  effect_notes rank.Cleanup cpu c o = refl
   effect_notes rank.Destroy cpu c o = refl
   effect_notes _ cpu c o = refl
 

@@ -54,10 +54,7 @@ woken_notes : (P : Power) (d : ℕ) → NotesStay P (wake_holdings P d)
 woken_notes P d x = ap (λ (h : Holding). h.queue.0) (entry_map power.no_holding P.holdings (woken P d) x refl) ∙ woken_by P d (holding_of P x) (is_held_at P d (holding_of P x)) refl
 
 stage_notes : (P : Power) (d : ℕ) (s : Stage) → NotesStay P (advance_stage P d s)
-stage_notes P d stage.Hardware x = refl
-stage_notes P d stage.NoHardware x = refl
 stage_notes P d stage.QueuesUp x = woken_notes (with_up P d true) d x
-stage_notes P d stage.QueuesDown x = refl
 stage_notes P d _ x = refl
 
 step_notes : (P : Power) (d : ℕ) (s : Step) → NotesStay P (power.advance P d s)
@@ -100,7 +97,6 @@ deed_notes plan (Forward r q) S h = absurd (let z : ⊥ = cc in z)
 deed_notes plan (GiveBack r q) S h = absurd (let z : ⊥ = cc in z)
 deed_notes plan (CompleteRequest r) S h = absurd (let z : ⊥ = cc in z)
 deed_notes plan (SendRequest r t true) S h = absurd (let z : ⊥ = cc in z)
-deed_notes plan (SendRequest r t false) S h = λ x. refl
 deed_notes plan (Arrive device info p) S h = notes_same _ _ (arrived_power S device.0 info p)
 deed_notes plan (AskDeletion o) S h = notes_same _ _ (asks_all power_of (λ S T D W U. refl) (subtree S.tree o.0) S)
 deed_notes plan (PurgeQueue q) S h = notes_same _ _ (withdrawn_power plan q.0 (waiting_in S.queues q.0) (record S { control = control.set_mode S.control q.0 mode.Purged }))

@@ -46,6 +46,7 @@ use Rattle.wdf_held_laws.proofs.Holdings.{completed_notes, deeds_note, is_holdin
 use Rattle.wdf_held_laws.proofs.HeldAsTold.{HeldAsTold, give_step, managed_some, silent_step, start_holds}
 use Rattle.wdf_held_laws.proofs.HeldByCalls.{call_notes, did_notes, is_holding_call}
 use Rattle.wdf_request_laws.proofs.Gives.{call_of}
+use Rattle.wdf_agreements.proofs.Keeping.{at_the_end}
 
 -- ---- events that take and give up nothing
 
@@ -139,12 +140,8 @@ module _ {A : Type 0} {F B : ℕ → Bool} (plan : Plan) (m : Meaning A) (es : L
 
 -- ---- each place of a run
 
-pub take_all : {T : Type 0} (xs : List T) → take (length xs) xs ≡ xs
-take_all [] = refl
-take_all (x ∷ xs) = ap (λ ys. x ∷ ys) (take_all xs)
-
 pub holds_now : {A : Type 0} (plan : Plan) (m : Meaning A) (run : List Event) → IsRunOf plan m run → HoldsIn plan (state_after plan m run)
-holds_now plan m run is_run = subst (λ es. HoldsIn plan (state_after plan m es)) (take_all run) (holds_at_each plan m run is_run (length run))
+holds_now plan m run is_run = at_the_end plan m (λ S. HoldsIn plan S) run (holds_at_each plan m run is_run (length run))
 
 pub held_opens : {A : Type 0} (plan : Plan) (m : Meaning A) → HeldAsTold plan [] (state_after plan m []).power
 unfolding state_after stands

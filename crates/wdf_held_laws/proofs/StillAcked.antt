@@ -63,136 +63,63 @@ use Rattle.wdf_request_laws.proofs.Gives.{call_of}
 use Rattle.wdf_held_laws.proofs.Holdings.{arrived_power, closed_power, completed_power, is_holding, none_holds, noted, power_of, returning_power, withdrawn_power}
 use Rattle.wdf_held_laws.proofs.HeldByCalls.{call_power}
 use Rattle.wdf_held_laws.proofs.HoldingsOverRuns.{event_none, is_plain, waits_holding}
+use Rattle.wdf_held_laws.proofs.StillSuch.{Advances, By, Still, StillSuch, deed_still, effect_still, forwards_still, gives_still, sends_still, still_completed, still_given, still_one, still_power, still_same, still_then}
 
 -- ---- one request
+
+abbrev kept : Bool → Bool
+kept b = b
 
 -- it is held from a power-managed queue, and acknowledged
 abbrev pub is_acked : Holding → Bool
 is_acked h = is_held h && h.acknowledged
 
 -- it is acknowledged after a change only where it was before, held from the same queue
-abbrev pub Still : Holding → Holding → Type 0
-Still h k = is_acked k ≡ true → (is_acked h ≡ true) × (k.queue.0 ≡ h.queue.0)
-
-still_same : (h k : Holding) → k ≡ h → Still h k
-still_same h k e t = (subst (λ (y : Holding). is_acked y ≡ true) e t, ap (λ (y : Holding). y.queue.0) e)
-
-still_then : (h k l : Holding) → Still h k → Still k l → Still h l
-still_then h k l a b t = let second_ = b t in let first_ = a second_.0 in (first_.0, second_.1 ∙ first_.1)
-
--- each request
-abbrev pub StillAcked : Power → Power → Type 0
-StillAcked P O = (x : ℕ) → Still (holding_of P x) (holding_of O x)
-
-still_power : (P O : Power) → O ≡ P → StillAcked P O
-still_power P O e x = still_same (holding_of P x) (holding_of O x) (ap (λ (Q : Power). holding_of Q x) e)
-
-still_one : (P : Power) (r : ℕ) (f : Holding → Holding) → ((h : Holding) → Still h (f h)) → StillAcked P (with_holding P r f)
-still_one P r f g x = elim (one_or_two x r) [
-  | inl e ↦ subst (λ y. Still (holding_of P y) (holding_of (with_holding P r f) y)) (sym e) (subst (λ (k : Holding). Still (holding_of P r) k) (sym (holding_here P r f)) (g (holding_of P r)))
-  | inr n ↦ still_same (holding_of P x) (holding_of (with_holding P r f) x) (holding_elsewhere P r x f n)
-]
+abbrev StillAcked : Power → Power → Type 0
+StillAcked P O = StillSuch kept P O
 
 -- ---- what deeds make of it
 
 still_held : (P : Power) (r q : ℕ) (b : Bool) → StillAcked P (if b then power.held_more P r q else P)
-still_held P r q true = still_one P r (λ _. record { queue = record { 0 = q }; acknowledged = false; stop_asked = false; resume_due = false }) (λ h t. absurd (let z : false ≡ true = both_right (is_held (record { queue = record { 0 = q }; acknowledged = false; stop_asked = false; resume_due = false })) false t in let y : ⊥ = cc in y))
-still_held P r q false = still_power P P refl
+still_held P r q true = still_one kept P r (λ _. record { queue = record { 0 = q }; acknowledged = false; stop_asked = false; resume_due = false }) (λ h t. absurd (let z : false ≡ true = both_right (is_held (record { queue = record { 0 = q }; acknowledged = false; stop_asked = false; resume_due = false })) false t in let y : ⊥ = cc in y))
+still_held P r q false = still_power kept P P refl
 
-still_released : (P : Power) (r : ℕ) (b : Bool) → StillAcked P (if b then power.held_less P r else P)
-still_released P r true = still_one P r (λ _. no_holding) (λ h t. absurd (let z : false ≡ true = t in let y : ⊥ = cc in y))
-still_released P r false = still_power P P refl
-
-given_by : {A : Type 0} (S : State A) (r : ℕ) (b : Bool) → StillAcked S.power (if b then release_power S.power r else S.power)
-given_by S r true = still_released S.power r (is_held (holding_of S.power r))
-given_by S r false = still_power S.power S.power refl
-
-give_power : {A : Type 0} (S : State A) (r : ℕ) (b : Bool) → is_with_driver S r ≡ b → (give_up S r).power ≡ (if b then release_power S.power r else S.power)
-give_power S r true e = rw e refl
-give_power S r false e = rw e refl
-
-still_given : {A : Type 0} (S : State A) (r : ℕ) → StillAcked S.power (give_up S r).power
-still_given S r = subst (StillAcked S.power) (sym (give_power S r (is_with_driver S r) refl)) (given_by S r (is_with_driver S r))
-
-woken_one : (P : Power) (d : ℕ) (h : Holding) (b : Bool) → is_held_at P d h ≡ b → Still h (woken P d h)
+woken_one : (P : Power) (d : ℕ) (h : Holding) (b : Bool) → is_held_at P d h ≡ b → Still kept h (woken P d h)
 woken_one P d h true e t = absurd (let u : is_acked (woken P d h) ≡ true = t in let v : (is_held h && false) ≡ true = rw e at u in let z : false ≡ true = both_right (is_held h) false v in let y : ⊥ = cc in y)
-woken_one P d h false e t = still_same h (woken P d h) (rw e refl) t
+woken_one P d h false e t = still_same kept h (woken P d h) (rw e refl) t
 
 still_woken : (P : Power) (d : ℕ) → StillAcked P (wake_holdings P d)
-still_woken P d x = subst (λ (k : Holding). Still (holding_of P x) k) (sym (entry_map no_holding P.holdings (woken P d) x refl)) (woken_one P d (holding_of P x) (is_held_at P d (holding_of P x)) refl)
+still_woken P d x = subst (λ (k : Holding). Still kept (holding_of P x) k) (sym (entry_map no_holding P.holdings (woken P d) x refl)) (woken_one P d (holding_of P x) (is_held_at P d (holding_of P x)) refl)
 
 still_stage : (P : Power) (d : ℕ) (s : Stage) → StillAcked P (advance_stage P d s)
-still_stage P d stage.Hardware x = still_same (holding_of P x) (holding_of P x) refl
-still_stage P d stage.NoHardware x = still_same (holding_of P x) (holding_of P x) refl
 still_stage P d stage.QueuesUp x = still_woken (with_up P d true) d x
-still_stage P d stage.QueuesDown x = still_same (holding_of P x) (holding_of P x) refl
-still_stage P d _ x = still_same (holding_of P x) (holding_of P x) refl
+still_stage P d _ x = still_same kept (holding_of P x) (holding_of P x) refl
 
 still_step : (P : Power) (d : ℕ) (s : Step) → StillAcked P (power.advance P d s)
-still_step P d (step.Run c i) x = still_same (holding_of P x) (holding_of P x) refl
+still_step P d (step.Run c i) x = still_same kept (holding_of P x) (holding_of P x) refl
 still_step P d (step.Pass s i) x = still_stage P d s x
 
-deed_still : {A : Type 0} (plan : Plan) (d : Deed) (S : State A) → is_holding d ≡ false → StillAcked S.power (do_deed plan d S).power
-deed_still plan (Present q r) S h = absurd (let z : ⊥ = cc in z)
-deed_still plan (Receive q r) S h = absurd (let z : ⊥ = cc in z)
-deed_still plan (Requeue r q) S h = absurd (let z : ⊥ = cc in z)
-deed_still plan (Forward r q) S h = absurd (let z : ⊥ = cc in z)
-deed_still plan (GiveBack r q) S h = absurd (let z : ⊥ = cc in z)
-deed_still plan (CompleteRequest r) S h = absurd (let z : ⊥ = cc in z)
-deed_still plan (Acknowledge r) S h = absurd (let z : ⊥ = cc in z)
-deed_still plan (SendRequest r t true) S h = absurd (let z : ⊥ = cc in z)
-deed_still plan (SendRequest r t false) S h = still_power S.power S.power refl
-deed_still plan (Arrive device info p) S h = still_power S.power _ (arrived_power S device.0 info p)
-deed_still plan (AskDeletion o) S h = still_power S.power _ (asks_all power_of (λ S T D W U. refl) (subtree S.tree o.0) S)
-deed_still plan (PurgeQueue q) S h = still_power S.power _ (withdrawn_power plan q.0 (waiting_in S.queues q.0) (record S { control = control.set_mode S.control q.0 mode.Purged }))
-deed_still plan (CloseReturning d) S h = still_power S.power _ (returning_power (managed_queues plan d.0) S)
-deed_still plan (CloseDevice d) S h = still_power S.power _ (closed_power (queues_of plan d.0) (record S { control = control.shut S.control d.0 }))
-deed_still plan (AdvancePower d s) S h = still_step S.power d.0 s
-deed_still plan (AskStop r) S h = still_one S.power r.0 (λ y. record y { stop_asked = true }) (λ y t. (t, refl))
-deed_still plan (Resume r) S h = still_one S.power r.0 (λ y. record y { resume_due = false }) (λ y t. (t, refl))
-deed_still plan _ S h = still_power S.power S.power refl
+advances_still : (d : Deed) (P : Power) → Advances kept d P
+advances_still (AdvancePower d s) P = still_step P d.0 s
+advances_still _ P = tt
 
 deeds_still : {A : Type 0} (plan : Plan) (ds : List Deed) (S : State A) → none_holds ds ≡ true → StillAcked S.power (do_deeds plan ds S).power
-deeds_still plan [] S h x = still_power S.power S.power refl x
+deeds_still plan [] S h x = still_power kept S.power S.power refl x
 deeds_still plan (d ∷ ds) S h x =
-    still_then (holding_of S.power x) (holding_of (do_deed plan d S).power x) (holding_of (do_deeds plan ds (do_deed plan d S)).power x)
-    (deed_still plan d S (not_true (is_holding d) (both_left (not (is_holding d)) (none_holds ds) h)) x)
+    still_then kept (holding_of S.power x) (holding_of (do_deed plan d S).power x) (holding_of (do_deeds plan ds (do_deed plan d S)).power x)
+    (deed_still kept plan d S (not_true (is_holding d) (both_left (not (is_holding d)) (none_holds ds) h)) (advances_still d S.power) x)
     (deeds_still plan ds (do_deed plan d S) (both_right (not (is_holding d)) (none_holds ds) h) x)
-
-still_completed : {A : Type 0} (plan : Plan) (S : State A) (r : ℕ) → StillAcked S.power (do_deed plan (CompleteRequest (object_id r)) S).power
-still_completed plan S r = subst (StillAcked S.power) (sym (completed_power plan S r)) (still_given S r)
 
 -- ---- calls
 
 module _ {A : Type 0} (plan : Plan) (S : State A) where
-  abbrev By : Outcome → Type 0
-  By o = StillAcked S.power (do_deeds plan o.deeds S).power
-
-  by_if : (u : Bool) (o p : Outcome) → By o → By p → By (if u then o else p)
-  by_if true o p a b = a
-  by_if false o p a b = b
-
-  gives_still : (r q : ℕ) (u : Bool) → By (if u then success (GiveBack (object_id r) (object_id q) ∷ []) else success (Requeue (object_id r) (object_id q) ∷ []))
-  gives_still r q u = by_if u (success (GiveBack (object_id r) (object_id q) ∷ [])) (success (Requeue (object_id r) (object_id q) ∷ [])) (still_given S r) (still_given S r)
-
-  forwards_still : (r q : ℕ) (a b c : Bool) → By (forward_by r q a b c)
-  forwards_still r q true b c = still_power S.power S.power refl
-  forwards_still r q false true c = still_power S.power S.power refl
-  forwards_still r q false false true = still_given S r
-  forwards_still r q false false false = still_given S r
-
-  sends_still : (r t : ℕ) (u forget : Bool) → By (if u then number 1 (SendRequest (object_id r) (object_id t) forget ∷ []) else number 0 [])
-  sends_still r t true true = still_given S r
-  sends_still r t true false = still_power S.power S.power refl
-  sends_still r t false forget = still_power S.power S.power refl
-
-  front_still : (q : ℕ) (x : Option ℕ) → By (retrieve_front plan S q x)
-  front_still q None = still_power S.power S.power refl
+  front_still : (q : ℕ) (x : Option ℕ) → By kept plan S (retrieve_front plan S q x)
+  front_still q None = still_power kept S.power S.power refl
   front_still q (Some r) = still_held S.power r q (is_managed plan q)
 
-  retrieves_still : (q : ℕ) (a b : Bool) (x : Option ℕ) → By (if a then refused status.InvalidDeviceState else if b then refused status.WdfPaused else retrieve_front plan S q x)
-  retrieves_still q true b x = still_power S.power S.power refl
-  retrieves_still q false true x = still_power S.power S.power refl
+  retrieves_still : (q : ℕ) (a b : Bool) (x : Option ℕ) → By kept plan S (if a then refused status.InvalidDeviceState else if b then refused status.WdfPaused else retrieve_front plan S q x)
+  retrieves_still q true b x = still_power kept S.power S.power refl
+  retrieves_still q false true x = still_power kept S.power S.power refl
   retrieves_still q false false x = front_still q x
 
 -- after an event: it was so before, or the event acknowledges it
@@ -206,51 +133,39 @@ module _ {A : Type 0} (plan : Plan) (S : State A) (cpu : Cpu) (f : ℕ) where
   acknowledges : (r : ℕ) (e : Event) → shows (sign.Acknowledgement r) e ≡ true → AckStep e S.power (power.acknowledge S.power r)
   acknowledges r e told x t = elim (one_or_two x r) [
     | inl y ↦ inr (subst (λ z. shows (sign.Acknowledgement z) e ≡ true) (sym y) told)
-    | inr n ↦ inl (still_same (holding_of S.power x) (holding_of (power.acknowledge S.power r) x) (holding_elsewhere S.power r x (λ h. record h { acknowledged = true }) n) t)
+    | inr n ↦ inl (still_same kept (holding_of S.power x) (holding_of (power.acknowledge S.power r) x) (holding_elsewhere S.power r x (λ h. record h { acknowledged = true }) n) t)
   ]
 
   stops_acked : (e : Event) (r q : ℕ) (u v : Bool) → (u ≡ true → shows (sign.Acknowledgement r) e ≡ true)
       → AckStep e S.power (do_deeds plan (if u then success (Acknowledge (object_id r) ∷ []) else if v then success (GiveBack (object_id r) (object_id q) ∷ []) else success (Requeue (object_id r) (object_id q) ∷ [])).deeds S).power
   stops_acked e r q true v told = acknowledges r e (told refl)
-  stops_acked e r q false v told = still_event e S.power (do_deeds plan (if v then success (GiveBack (object_id r) (object_id q) ∷ []) else success (Requeue (object_id r) (object_id q) ∷ [])).deeds S).power (gives_still plan S r q v)
+  stops_acked e r q false v told = still_event e S.power (do_deeds plan (if v then success (GiveBack (object_id r) (object_id q) ∷ []) else success (Requeue (object_id r) (object_id q) ∷ [])).deeds S).power (gives_still kept plan S r q v)
 
   did_acked : (k : CallKind) (n : ℕ) (a b x : Arg) (v : Value) → Clean plan S cpu.0 f (call_of k n a b x)
       → AckStep (event.Did cpu (call_of k n a b x) v) S.power (do_deeds plan (outcome plan S cpu.0 f (call_of k n a b x)).deeds S).power
-  did_acked call.WdfRequestComplete n a b x v clean = still_event (event.Did cpu (call_of call.WdfRequestComplete n a b x) v) S.power (do_deeds plan (outcome plan S cpu.0 f (call_of call.WdfRequestComplete n a b x)).deeds S).power (still_completed plan S (object_in a))
-  did_acked call.WdfRequestRequeue n a b x v clean = still_event (event.Did cpu (call_of call.WdfRequestRequeue n a b x) v) S.power (do_deeds plan (outcome plan S cpu.0 f (call_of call.WdfRequestRequeue n a b x)).deeds S).power (gives_still plan S (object_in a) (origin_or_none S (object_in a)) (is_cancelled S.requests (object_in a) || is_purged (mode_of S.control (origin_or_none S (object_in a)))))
+  did_acked call.WdfRequestComplete n a b x v clean = still_event (event.Did cpu (call_of call.WdfRequestComplete n a b x) v) S.power (do_deeds plan (outcome plan S cpu.0 f (call_of call.WdfRequestComplete n a b x)).deeds S).power (still_completed kept plan S (object_in a))
+  did_acked call.WdfRequestRequeue n a b x v clean = still_event (event.Did cpu (call_of call.WdfRequestRequeue n a b x) v) S.power (do_deeds plan (outcome plan S cpu.0 f (call_of call.WdfRequestRequeue n a b x)).deeds S).power (gives_still kept plan S (object_in a) (origin_or_none S (object_in a)) (is_cancelled S.requests (object_in a) || is_purged (mode_of S.control (origin_or_none S (object_in a)))))
   did_acked call.WdfRequestForwardToIoQueue n a b x v clean =
-      still_event (event.Did cpu (call_of call.WdfRequestForwardToIoQueue n a b x) v) S.power (do_deeds plan (outcome plan S cpu.0 f (call_of call.WdfRequestForwardToIoQueue n a b x)).deeds S).power (forwards_still plan S (object_in a) (object_in b) (forwards_nowhere plan S (object_in a) (object_in b)) (not (accepts S.control (object_in b))) (is_cancelled S.requests (object_in a)))
+      still_event (event.Did cpu (call_of call.WdfRequestForwardToIoQueue n a b x) v) S.power (do_deeds plan (outcome plan S cpu.0 f (call_of call.WdfRequestForwardToIoQueue n a b x)).deeds S).power (forwards_still kept plan S (object_in a) (object_in b) (forwards_nowhere plan S (object_in a) (object_in b)) (not (accepts S.control (object_in b))) (is_cancelled S.requests (object_in a)))
   did_acked call.WdfRequestStopAcknowledge n a b x v clean =
       let it = named (view_of plan S cpu.0 f) (call_of call.WdfRequestStopAcknowledge n a b x) refl (wrong_kind_of_first (view_of plan S cpu.0 f) (call_of call.WdfRequestStopAcknowledge n a b x) (clean fault.WrongKind)) in
       stops_acked (event.Did cpu (call_of call.WdfRequestStopAcknowledge n a b x) v) (object_in a) (origin_or_none S (object_in a)) (arg_is b 0)
       (is_cancelled S.requests (object_in a) || is_purged (mode_of S.control (origin_or_none S (object_in a))))
       (λ t. ap (λ u. is_id (object_in a) (where_so u (argument_object a))) t ∙ ap (is_id (object_in a)) it ∙ itself (object_in a))
-  did_acked call.WdfRequestSend n a b x v clean = still_event (event.Did cpu (call_of call.WdfRequestSend n a b x) v) S.power (do_deeds plan (outcome plan S cpu.0 f (call_of call.WdfRequestSend n a b x)).deeds S).power (sends_still plan S (object_in a) (object_in b) (may_send S (object_in a) (object_in b)) (arg_is x 1))
+  did_acked call.WdfRequestSend n a b x v clean = still_event (event.Did cpu (call_of call.WdfRequestSend n a b x) v) S.power (do_deeds plan (outcome plan S cpu.0 f (call_of call.WdfRequestSend n a b x)).deeds S).power (sends_still kept plan S (object_in a) (object_in b) (may_send S (object_in a) (object_in b)) (arg_is x 1))
   did_acked call.WdfIoQueueRetrieveNextRequest n a b x v clean =
       still_event (event.Did cpu (call_of call.WdfIoQueueRetrieveNextRequest n a b x) v) S.power (do_deeds plan (outcome plan S cpu.0 f (call_of call.WdfIoQueueRetrieveNextRequest n a b x)).deeds S).power (retrieves_still plan S (object_in a) (is_parallel_queue plan (object_in a)) (not (queue_delivers plan S (object_in a))) (front S.queues (object_in a)))
-  did_acked k n a b x v clean = still_event (event.Did cpu (call_of k n a b x) v) S.power (do_deeds plan (outcome plan S cpu.0 f (call_of k n a b x)).deeds S).power (still_power S.power _ (call_power plan S cpu.0 f k n a b x refl))
+  did_acked k n a b x v clean = still_event (event.Did cpu (call_of k n a b x) v) S.power (do_deeds plan (outcome plan S cpu.0 f (call_of k n a b x)).deeds S).power (still_power kept S.power _ (call_power plan S cpu.0 f k n a b x refl))
 
 -- ---- starts
 
 module _ {A : Type 0} (plan : Plan) (S : State A) where
   effect_for_still : (y : Rank) (o r : ℕ) → StillAcked S.power (do_deeds plan (effect_for y o r) S).power
-  effect_for_still rank.Completion o r = still_power S.power _ refl
-  effect_for_still rank.Cancel o r = still_power S.power _ refl
   effect_for_still rank.CanceledOnQueue o r = still_held S.power r o (is_managed plan o)
-  effect_for_still rank.Stop o r = deed_still plan (AskStop (object_id r)) S refl
-  effect_for_still rank.Resume o r = deed_still plan (Resume (object_id r)) S refl
+  effect_for_still rank.Stop o r = deed_still kept plan (AskStop (object_id r)) S refl tt
+  effect_for_still rank.Resume o r = deed_still kept plan (Resume (object_id r)) S refl tt
   effect_for_still rank.Handler o r = still_held S.power r o (is_managed plan o)
-  effect_for_still _ o r = still_power S.power _ refl
-
-  effect_still : (y : Rank) (cpu : ℕ) (c : Callback) (o : ℕ) → StillAcked S.power (do_deeds plan (effect plan S y cpu c o) S).power
-  effect_still rank.Deferred cpu c o = still_power S.power _ refl
-  effect_still rank.Timed cpu c o = still_power S.power _ refl
-  effect_still rank.QueueState cpu c o = still_power S.power _ refl
-  effect_still rank.Sequence cpu c o = still_power S.power _ refl
-  effect_still rank.Work cpu c o = still_power S.power _ refl
-  effect_still rank.Cleanup cpu c o = still_power S.power _ refl
-  effect_still rank.Destroy cpu c o = still_power S.power _ refl
-  effect_still _ cpu c o = still_power S.power _ refl
+  effect_for_still _ o r = still_power kept S.power _ refl
 
   started_still : (cpu : Cpu) (c : Callback) (o : Handle) (r : Option Handle) (ds : List Deed) → StillAcked S.power (do_deeds plan ds S).power
       → StillAcked S.power (do_deeds plan (ds ++ PushFrame cpu (frame_id (next_number S)) (new_frame plan S c o r) (irql_of (callback_irql plan c o.id.0)) ∷ take_if_any (next_number S) (lock_of_callback plan c o.id.0 (declared_in plan S o.id.0))) S).power
@@ -258,7 +173,7 @@ module _ {A : Type 0} (plan : Plan) (S : State A) where
       subst (StillAcked S.power) (sym (start_reads (λ (T : State A). T.power) (λ T L C. refl) plan S ds cpu.0 (next_number S) (new_frame plan S c o r) (callback_irql plan c o.id.0) (lock_of_callback plan c o.id.0 (declared_in plan S o.id.0)))) s
 
   start_still : (m : Meaning A) (cpu : Cpu) (c : Callback) (o : Handle) (r : Option Handle) → StillAcked S.power (after plan m S (event.Start cpu c o r)).power
-  start_still m cpu c o None = started_still cpu c o None (effect plan S (row_of c).rank cpu.0 c o.id.0) (effect_still (row_of c).rank cpu.0 c o.id.0)
+  start_still m cpu c o None = started_still cpu c o None (effect plan S (row_of c).rank cpu.0 c o.id.0) (effect_still kept plan S (row_of c).rank cpu.0 c o.id.0)
   start_still m cpu c o (Some r) = started_still cpu c o (Some r) (effect_for (row_of c).rank o.id.0 r.id.0) (effect_for_still (row_of c).rank o.id.0 r.id.0)
 
 -- ---- every event
@@ -284,7 +199,7 @@ module _ {A : Type 0} (plan : Plan) (m : Meaning A) (S : State A) where
       subst (AckStep (event.Waiting cpu c) S.power)
       (sym (ap (λ (ds : List Deed). (do_deeds plan ds S).power) (by_its_top S cpu.0 d.frame (waiting_deeds plan S cpu.0 c) d.about.top)
       ∙ waiting_reads (λ (T : State A). T.power) (λ T L C. refl) plan S cpu.0 d.frame c (frame_of S.cpus d.frame)))
-      (still_event (event.Waiting cpu c) S.power (do_deeds plan (outcome plan S cpu.0 d.frame c).deeds S).power (still_power S.power (do_deeds plan (outcome plan S cpu.0 d.frame c).deeds S).power (call_power plan S cpu.0 d.frame c.kind c.count c.a c.b c.c (waits_holding plan S c.kind c.count c.a c.b c.c d.unmet))))
+      (still_event (event.Waiting cpu c) S.power (do_deeds plan (outcome plan S cpu.0 d.frame c).deeds S).power (still_power kept S.power (do_deeds plan (outcome plan S cpu.0 d.frame c).deeds S).power (call_power plan S cpu.0 d.frame c.kind c.count c.a c.b c.c (waits_holding plan S c.kind c.count c.a c.b c.c d.unmet))))
 
   woke_steps : (cpu : Cpu) (c : Call) (v : Value) → may plan m S (event.Woke cpu c v) ≡ true → Acks (event.Woke cpu c v)
   woke_steps cpu c v h =
@@ -292,14 +207,14 @@ module _ {A : Type 0} (plan : Plan) (m : Meaning A) (S : State A) where
       subst (AckStep (event.Woke cpu c v) S.power)
       (sym (ap (λ (ds : List Deed). (do_deeds plan ds S).power) (by_its_top S cpu.0 d.frame (woke_deeds plan c v) d.top)
       ∙ woke_reads (λ (T : State A). T.power) (λ T L C. refl) plan S d.frame c v (frame_of S.cpus d.frame)))
-      (still_event (event.Woke cpu c v) S.power S.power (still_power S.power S.power refl))
+      (still_event (event.Woke cpu c v) S.power S.power (still_power kept S.power S.power refl))
 
   pub event_acks : (e : Event) → may plan m S e ≡ true → Acks e
   event_acks (event.Start cpu c o r) h = still_event (event.Start cpu c o r) S.power (after plan m S (event.Start cpu c o r)).power (start_still plan S m cpu c o r)
   event_acks (event.Did cpu c v) h = did_steps cpu c v h
   event_acks (event.Waiting cpu c) h = waiting_steps cpu c h
   event_acks (event.Woke cpu c v) h = woke_steps cpu c v h
-  event_acks (event.Complete r s) h = still_event (event.Complete r s) S.power (after plan m S (event.Complete r s)).power (still_completed plan S r.id.0)
+  event_acks (event.Complete r s) h = still_event (event.Complete r s) S.power (after plan m S (event.Complete r s)).power (still_completed kept plan S r.id.0)
   event_acks e h = plain e refl
 
   pub either_acks : (offered : List Event) (e : Event) → (may plan m S e ≡ true) ⊎ IsTick m S offered e → Acks e

@@ -125,9 +125,7 @@ all_next es e R U still off begins g x = next_goes es e U x (off x) (begins x) (
 -- an argument that is no object where a call asks for one is a fault
 named_by : (v : View) (s : Sort) (a : Arg) → is_object_sort s ≡ true → is_wrong_kind v s a ≡ false → argument_object a ≡ Some (object_in a)
 named_by v s (Val (Obj h)) o w = refl
-named_by v s (Val (Num n)) o w = absurd (let z : ⊥ = cc in z)
-named_by v s (Val (Stat t)) o w = absurd (let z : ⊥ = cc in z)
-named_by v s (Class c) o w = absurd (let z : ⊥ = cc in z)
+named_by v s _ o w = absurd (let z : ⊥ = cc in z)
 
 pub named : (v : View) (c : Call) → is_object_sort (signature_of c.kind).a ≡ true → is_wrong_kind v (signature_of c.kind).a c.a ≡ false → argument_object c.a ≡ Some (object_in c.a)
 named v c o w = named_by v (signature_of c.kind).a c.a o w

@@ -161,19 +161,11 @@ complete_event {A} plan m es S r s h g =
   where
     closes : (p : Place) → is_closing_with p s ≡ true → is_closing p ≡ true
     closes (place.Closing t) e = refl
-    closes (place.Queued q) e = e
-    closes (place.Returning q) e = e
-    closes place.Owned e = e
-    closes (place.Sent t) e = e
-    closes place.Done e = e
+    closes _ e = e
 
     not_both : (p : Place) → is_closing p ≡ true → is_owned p ≡ true → ⊥
     not_both (place.Closing t) e o = let z : ⊥ = cc in z
-    not_both place.Owned e o = let z : ⊥ = cc in z
-    not_both (place.Queued q) e o = let z : ⊥ = cc in z
-    not_both (place.Returning q) e o = let z : ⊥ = cc in z
-    not_both (place.Sent t) e o = let z : ⊥ = cc in z
-    not_both place.Done e o = let z : ⊥ = cc in z
+    not_both _ e o = let z : ⊥ = cc in z
 
 -- ---- posts
 
@@ -317,15 +309,11 @@ due_as_told m c b R r due_ g =
   where
     due_told : (m c : Bool) (k : Mark) → is_due k ≡ true → is_told m c k ≡ true → (m && c) ≡ true
     due_told m c marks.Due e t = t
-    due_told m c marks.Marked e t = absurd (let z : ⊥ = cc in z)
-    due_told m c marks.Taken e t = absurd (let z : ⊥ = cc in z)
-    due_told m c marks.Unmarked e t = absurd (let z : ⊥ = cc in z)
+    due_told m c _ e t = absurd (let z : ⊥ = cc in z)
 
     due_off : (k : Mark) → is_due k ≡ true → is_armed k ≡ false → ⊥
     due_off marks.Due e t = let z : ⊥ = cc in z
-    due_off marks.Marked e t = let z : ⊥ = cc in z
-    due_off marks.Taken e t = let z : ⊥ = cc in z
-    due_off marks.Unmarked e t = let z : ⊥ = cc in z
+    due_off _ e t = let z : ⊥ = cc in z
 
 none_due : (es : List Event) (b : Bool) → is_cancel_due es (where_so b None) ≡ true
 none_due es true = refl

@@ -104,10 +104,8 @@ send_gives plan S r to forget f k =
     (λ _. gives_nothing plan S r is_one (Num 0) refl)
 
 unmarked_off : (k : Mark) → is_success (Stat (requests.answer_of_mark k)) ≡ true → is_armed (if is_marked k then marks.Unmarked else k) ≡ false
-unmarked_off marks.Marked h = refl
 unmarked_off marks.Due h = absurd (let z : ⊥ = cc in z)
-unmarked_off marks.Taken h = refl
-unmarked_off marks.Unmarked h = refl
+unmarked_off _ h = refl
 
 mark_if : (q : Request) (u : Bool) → (if u then with_mark marks.Unmarked q else q).info.mark ≡ (if u then marks.Unmarked else q.info.mark)
 mark_if q true = refl

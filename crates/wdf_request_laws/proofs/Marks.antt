@@ -230,36 +230,20 @@ new_request_comes R r p info new off m c b x g =
 -- ---- places
 
 queued_undone : (q : ℕ) (p : Place) → is_queued_in q p ≡ true → is_done p ≡ false
-queued_undone q (place.Queued p) h = refl
-queued_undone q (place.Returning p) h = refl
-queued_undone q place.Owned h = refl
-queued_undone q (place.Sent t) h = refl
-queued_undone q (place.Closing s) h = refl
 queued_undone q place.Done h = absurd (let z : ⊥ = cc in z)
+queued_undone q _ h = refl
 
 returning_undone : (q : ℕ) (p : Place) → is_returning_to q p ≡ true → is_done p ≡ false
-returning_undone q (place.Queued p) h = refl
-returning_undone q (place.Returning p) h = refl
-returning_undone q place.Owned h = refl
-returning_undone q (place.Sent t) h = refl
-returning_undone q (place.Closing s) h = refl
 returning_undone q place.Done h = absurd (let z : ⊥ = cc in z)
+returning_undone q _ h = refl
 
 inside_undone : (q : ℕ) (p : Place) → is_in q p ≡ true → is_done p ≡ false
-inside_undone q (place.Queued p) h = refl
-inside_undone q (place.Returning p) h = refl
-inside_undone q place.Owned h = refl
-inside_undone q (place.Sent t) h = refl
-inside_undone q (place.Closing s) h = refl
 inside_undone q place.Done h = absurd (let z : ⊥ = cc in z)
+inside_undone q _ h = refl
 
 sent_undone : (p : Place) → is_sent p ≡ true → is_done p ≡ false
 sent_undone (place.Sent t) h = refl
-sent_undone (place.Queued q) h = absurd (let z : ⊥ = cc in z)
-sent_undone (place.Returning q) h = absurd (let z : ⊥ = cc in z)
-sent_undone (place.Closing s) h = absurd (let z : ⊥ = cc in z)
-sent_undone place.Owned h = absurd (let z : ⊥ = cc in z)
-sent_undone place.Done h = absurd (let z : ⊥ = cc in z)
+sent_undone _ h = absurd (let z : ⊥ = cc in z)
 
 finished_undone : (forgotten_ : Bool) (s : Status) (p : Place) → is_sent p ≡ true → is_done (finished_at forgotten_ s p) ≡ false
 finished_undone true s p h = refl

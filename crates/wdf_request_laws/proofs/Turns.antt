@@ -116,12 +116,8 @@ module _ {A : Type 0} (plan : Plan) (S : State A) (q : ℕ) (t : Taking) where
 
 of_argument : (x : Option ℕ) (a : Arg) (t : Taking) → pair_of x (argument_object a) ≡ Some t → argument_object a ≡ Some (object_in a)
 of_argument x (Val (Obj h)) t is = refl
-of_argument (Some r) (Val (Num n)) t is = absurd (let z : ⊥ = cc in z)
-of_argument (Some r) (Val (Stat s)) t is = absurd (let z : ⊥ = cc in z)
-of_argument (Some r) (Class c) t is = absurd (let z : ⊥ = cc in z)
-of_argument None (Val (Num n)) t is = absurd (let z : ⊥ = cc in z)
-of_argument None (Val (Stat s)) t is = absurd (let z : ⊥ = cc in z)
-of_argument None (Class c) t is = absurd (let z : ⊥ = cc in z)
+of_argument None _ t is = absurd (let z : ⊥ = cc in z)
+of_argument (Some r) _ t is = absurd (let z : ⊥ = cc in z)
 
 abbrev RetrieveTakes : {A : Type 0} → Plan → State A → ℕ → ℕ → CallKind → Type 0
 RetrieveTakes plan S cpu f k =
@@ -160,8 +156,6 @@ takes plan m S _ t h is = absurd (let z : ⊥ = cc in z)
 
 -- a tick presents nothing
 no_tick : (e : Event) (t : Taking) → presented e ≡ Some t → (time : ℕ) → e ≡ event.Tick time → ⊥
-no_tick (event.Tick time) t is n same = let z : ⊥ = cc in z
-no_tick (event.Start cpu c o r) t is n same = let z : ⊥ = cc in z
 no_tick (event.Did cpu c v) t is n same = let z : ⊥ = cc in z
 no_tick _ t is n same = let z : ⊥ = cc in z
 

@@ -92,9 +92,7 @@ where_true false o x h = absurd (let z : ⊥ = cc in z)
 
 named : (a : Arg) (x : ℕ) → is_id x (argument_object a) ≡ true → object_in a ≡ x
 named (Val (Obj h)) x e = eqb-true h.id.0 x e
-named (Val (Num n)) x e = absurd (let z : ⊥ = cc in z)
-named (Val (Stat s)) x e = absurd (let z : ⊥ = cc in z)
-named (Class c) x e = absurd (let z : ⊥ = cc in z)
+named _ x e = absurd (let z : ⊥ = cc in z)
 
 same_origin : (o : Option ℕ) (q p : ℕ) → same_id o q ≡ true → same_id o p ≡ true → p ≡ q
 same_origin None q p h k = absurd (let z : ⊥ = cc in z)

@@ -231,17 +231,15 @@ module _ (p : DeviceSteps) where
   asked ever Off asks.Start w = (leads_on (plain_leads false (hard_steps p) w plain_hard refl) (λ u k. ups ever u)).well
   asked ever Off asks.Remove w = refl
   asked ever Off asks.Surprise w = refl
-  asked ever Off _ w = refl
   asked ever Working asks.Sleep w = (leads_on (weaker (down_steps p) w (downs w)) (λ u k. plain_leads false (pass stage.Sleeping) u refl k)).well
   asked ever Working asks.Rebalance w = (rebalances ever w).well
   asked ever Working asks.Remove w = (leads_on (begins_down callback.EvtDeviceQueryRemove w refl) (λ u k. tails ever u)).well
   asked ever Working asks.Surprise w = (leads_on (begins_down callback.EvtDeviceSurpriseRemoval w refl) (λ u k. tails ever u)).well
-  asked ever Working _ w = refl
   asked ever Sleeping asks.Wake w = (ups ever w).well
   asked ever Sleeping asks.Remove w = (leads_on (runs false callback.EvtDeviceQueryRemove w refl refl) (λ u k. tails ever u)).well
   asked ever Sleeping asks.Surprise w = (leads_on (runs false callback.EvtDeviceSurpriseRemoval w refl refl) (λ u k. tails ever u)).well
-  asked ever Sleeping _ w = refl
   asked ever Removed a w = refl
+  asked ever _ _ w = refl
 
 -- where a callback failed
 pub failed : (q : Sequence) (c : Callback) (w : Way) → fits q.left w ≡ true → fits (left_after_failure q c) w ≡ true

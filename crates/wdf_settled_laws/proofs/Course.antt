@@ -180,15 +180,11 @@ not_shown n stage.QueuesUp j d x = (not_equal n.id.0 d (λ e. x (sym e)), refl)
 not_shown n stage.QueuesDown j d x = (refl, not_equal n.id.0 d (λ e. x (sym e)))
 not_shown n _ j d x = (refl, refl)
 
-passed_left : (s : Stage) (q : Sequence) → (pnp.passed s q).left ≡ q.left
-passed_left stage.Working q = refl
-passed_left stage.Sleeping q = refl
+pub passed_left : (s : Stage) (q : Sequence) → (pnp.passed s q).left ≡ q.left
 passed_left stage.Removed q = refl
 passed_left _ q = refl
 
 passed_running : (s : Stage) (q : Sequence) → (pnp.passed s q).running ≡ q.running
-passed_running stage.Working q = refl
-passed_running stage.Sleeping q = refl
 passed_running stage.Removed q = refl
 passed_running _ q = refl
 

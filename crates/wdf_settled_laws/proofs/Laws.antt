@@ -97,7 +97,7 @@ rests_by plan q up d left running = record {
   settled = λ h. absurd (let z : ⊥ = cc in z);
 }
 
-listed_by : {T : Type 0} (P : T → Type 0) (blank : T) (f : ℕ → T) (ids : List ℕ) (d : ℕ) → P blank → ((x : ℕ) → P (f x)) → P (entry blank (map f ids) d)
+pub listed_by : {T : Type 0} (P : T → Type 0) (blank : T) (f : ℕ → T) (ids : List ℕ) (d : ℕ) → P blank → ((x : ℕ) → P (f x)) → P (entry blank (map f ids) d)
 listed_by P blank f [] d h k = h
 listed_by P blank f (x ∷ xs) zero h k = k x
 listed_by P blank f (x ∷ xs) (suc d) h k = listed_by P blank f xs d h k

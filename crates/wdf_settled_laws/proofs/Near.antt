@@ -25,17 +25,10 @@ use Rattle.wdf_agreements.proofs.Lists.{inside}
 use Rattle.wdf_agreements.proofs.LivesOver.{Lives}
 use Rattle.wdf_family_laws.proofs.Families.{Family}
 use Rattle.wdf_laws.specs.Laws.{is_managed_of}
-use Rattle.wdf_power_laws.proofs.Declares.{is_device, own_device_of}
+use Rattle.wdf_power_laws.proofs.Declares.{front_stays, is_device, own_device_of}
 use Rattle.wdf_settled_laws.proofs.Queues.{queue_at}
 
 -- ---- the nearest device of an object that is no device is that of its parent
-
-front_stays : (before : List ℕ) (ns : List Node) (o : ℕ) → o < length before → entry 1 (nearest_devices before ns) o ≡ entry 1 before o
-front_stays before [] o h = refl
-front_stays before (n ∷ ns) o h =
-    let more = length-append before (own_device before (length before) n ∷ []) in
-    front_stays (before ++ own_device before (length before) n ∷ []) ns o (omega arith)
-    ∙ entry_before 1 before (own_device before (length before) n) o (λ e. let z : ⊥ = omega arith in z)
 
 by_parent : (before : List ℕ) (ns : List Node) (k : ℕ) → k < length ns → same_kind (entry gone ns k).kind kind.Device ≡ false → (entry gone ns k).parent.0 < length before + k
     → entry 1 (nearest_devices before ns) (length before + k) ≡ entry 1 (nearest_devices before ns) (entry gone ns k).parent.0
@@ -116,9 +109,7 @@ device_at (Some _) h = absurd (let z : ⊥ = cc in z)
 
 pub not_gone : (l : Life) → is_live l ≡ true → is_gone l ≡ false
 not_gone life.Live h = refl
-not_gone life.Asked h = absurd (let z : ⊥ = cc in z)
-not_gone life.Cleaned h = absurd (let z : ⊥ = cc in z)
-not_gone life.Gone h = absurd (let z : ⊥ = cc in z)
+not_gone _ h = absurd (let z : ⊥ = cc in z)
 
 is_some_device : (plan : Plan) (d : ℕ) → is_device (declared_of plan d) ≡ true → d ≢ 0
 is_some_device plan d h e = let z : is_device (declared_of plan 0) ≡ true = subst (λ y. is_device (declared_of plan y) ≡ true) e h in let y : ⊥ = cc in y

@@ -153,12 +153,8 @@ given_requests S r = given requests_of (λ S Q P. refl) S r
 -- ---- deeds
 
 arrival_off : (p : Place) (q : ℕ) → is_arrival_place p ≡ true → is_returning_to q p ≡ false
-arrival_off (place.Queued x) q h = refl
-arrival_off (place.Closing s) q h = refl
 arrival_off (place.Returning x) q h = absurd (let z : ⊥ = cc in z)
-arrival_off place.Owned q h = refl
-arrival_off (place.Sent t) q h = refl
-arrival_off place.Done q h = refl
+arrival_off _ q h = refl
 
 came : {A : Type 0} (S : State A) (device : ℕ) (info : RequestInfo) (p : Place) → (arrive_at S device info p).requests ≡ requests.arrive S.requests (next_id S.tree) p info
 came S device info (place.Queued q) = refl

@@ -121,8 +121,6 @@ stage_comes {A} plan S n stage.Closed j =
     all_closed never (queues_of plan n) (record T { control = control.shut T.control n })
 stage_comes plan S n stage.Removed j =
     comes_same never S.requests _ (asks_all requests_of (λ S T D W U. refl) (subtree S.tree n) (do_deed plan (AdvancePower (object_id n) (step.Pass stage.Removed j)) (do_deed plan (TakeStep (object_id n)) S)))
-stage_comes plan S n stage.Enabled j = comes_same never S.requests _ refl
-stage_comes plan S n stage.Disabled j = comes_same never S.requests _ refl
 stage_comes plan S n _ j = comes_same never S.requests _ refl
 
 abbrev is_lowering : Stage → Bool

@@ -110,13 +110,11 @@ module _ {A : Type 0} (plan : Plan) (m : Meaning A) (S : State A) (returns : Ret
   retrieves : (a : Arg) (v : Value) → v ≡ (retrieve_outcome plan S (object_in a)).answer → is_taking_of r q (pair_of (value_object v) (argument_object a)) ≡ true → up_in S.power.devices d ≡ true
   retrieves a (Num n) h t = absurd (not_so t)
   retrieves a (Stat s) h t = absurd (not_so t)
-  retrieves (Class c) (Obj g) h t = absurd (not_so t)
-  retrieves (Val (Num n)) (Obj g) h t = absurd (not_so t)
-  retrieves (Val (Stat s)) (Obj g) h t = absurd (not_so t)
   retrieves (Val (Obj p)) (Obj g) h t =
       let same : p.id.0 ≡ q = eqb-true p.id.0 q (both_right (g.id.0 == r) (p.id.0 == q) t) in
       let powered : is_powered plan S p.id.0 ≡ true = delivers_powered p.id.0 (front_answers p.id.0 (front S.queues p.id.0) (is_parallel_queue plan p.id.0) (queue_delivers plan S p.id.0) g (sym h)) in
       up_where (subst (λ y. is_powered plan S y ≡ true) same powered)
+  retrieves _ (Obj g) h t = absurd (not_so t)
 
   calls_take : (cpu f : ℕ) (x : CallKind) (n : ℕ) (a b c : Arg) (v : Value) → v ≡ (outcome plan S cpu f (record { kind = x; count = n; a = a; b = b; c = c })).answer
       → is_taking_of r q (pair_of (where_so (same_call_kind x call.WdfIoQueueRetrieveNextRequest) (value_object v)) (argument_object a)) ≡ true → up_in S.power.devices d ≡ true

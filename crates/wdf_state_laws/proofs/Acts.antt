@@ -21,7 +21,6 @@ arrived S device info (place.Queued q) = refl
 arrived S device info _ = refl
 
 pub noted_kept : (c : Callback) (n : Node) → ((noted c n).life ≡ n.life) × ((noted c n).parent.0 ≡ n.parent.0)
-noted_kept callback.EvtCleanupCallback n = (refl, refl)
 noted_kept callback.EvtDestroyCallback n = (refl, refl)
 noted_kept _ n = (refl, refl)
 

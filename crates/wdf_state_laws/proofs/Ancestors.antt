@@ -58,15 +58,11 @@ rooted_at_each {A} plan m run is_run n = each_place plan m (λ (S : State A). Ro
 
 past_gone : (l : Life) → is_past_cleanup l ≡ true → is_cleaned l ≡ false → is_gone l ≡ true
 past_gone life.Gone h k = refl
-past_gone life.Cleaned h k = absurd (let z : ⊥ = cc in z)
-past_gone life.Asked h k = absurd (let z : ⊥ = cc in z)
-past_gone life.Live h k = absurd (let z : ⊥ = cc in z)
+past_gone _ h k = absurd (let z : ⊥ = cc in z)
 
 gone_uncleaned : (l : Life) → is_gone l ≡ true → is_cleaned l ≡ false
-gone_uncleaned life.Gone h = refl
 gone_uncleaned life.Cleaned h = absurd (let z : ⊥ = cc in z)
-gone_uncleaned life.Asked h = refl
-gone_uncleaned life.Live h = refl
+gone_uncleaned _ h = refl
 
 above_root : (T : Tree) → Rooted T → (n : ℕ) → ancestor T n 0 ≡ 0
 above_root T r zero = r.hollow 0 r.root

@@ -59,9 +59,7 @@ moved_plain q _ k = λ h. absurd (let z : ⊥ = cc in z)
 
 cancel_unmarks : (m : Mark) → is_marked (mark_cancelled m) ≡ true → ⊥
 cancel_unmarks marks.Marked h = let z : ⊥ = cc in z
-cancel_unmarks marks.Due h = let z : ⊥ = cc in z
-cancel_unmarks marks.Taken h = let z : ⊥ = cc in z
-cancel_unmarks marks.Unmarked h = let z : ⊥ = cc in z
+cancel_unmarks _ h = let z : ⊥ = cc in z
 
 cancelled_plain : (q : Request) → Plain (cancelled q)
 cancelled_plain q h = absurd (cancel_unmarks q.info.mark h)

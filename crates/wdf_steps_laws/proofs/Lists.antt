@@ -203,7 +203,6 @@ module _ (p : DeviceSteps) where
   asked_whole ever Off asks.Start = then_whole hard_part (up_whole ever)
   asked_whole ever Off asks.Remove = closes
   asked_whole ever Off asks.Surprise = closes
-  asked_whole ever Off _ = empty
   asked_whole ever Working asks.Sleep = then_whole down_part sleeps
   asked_whole ever Working asks.Rebalance =
       then_whole (then_part (then_part (then_part (then_part
@@ -215,12 +214,11 @@ module _ (p : DeviceSteps) where
       (up_whole ever)
   asked_whole ever Working asks.Remove = then_whole (then_part (run_part p callback.EvtDeviceQueryRemove) down_part) (tail_whole ever)
   asked_whole ever Working asks.Surprise = then_whole (then_part (run_part p callback.EvtDeviceSurpriseRemoval) down_part) (tail_whole ever)
-  asked_whole ever Working _ = empty
   asked_whole ever Sleeping asks.Wake = up_whole ever
   asked_whole ever Sleeping asks.Remove = then_whole (run_part p callback.EvtDeviceQueryRemove) (tail_whole ever)
   asked_whole ever Sleeping asks.Surprise = then_whole (run_part p callback.EvtDeviceSurpriseRemoval) (tail_whole ever)
-  asked_whole ever Sleeping _ = empty
   asked_whole ever Removed a = empty
+  asked_whole ever _ _ = empty
 
 -- ---- the end of a list
 

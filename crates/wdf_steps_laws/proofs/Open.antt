@@ -69,6 +69,7 @@ use Rattle.wdf_request_laws.proofs.Gives.{call_of}
 use Rattle.wdf_held_laws.proofs.Holdings.{arrived_power, closed_power, completed_power, is_holding, none_holds, noted, power_of, returning_power, taken_notes, withdrawn_power}
 use Rattle.wdf_held_laws.proofs.HeldByCalls.{call_power}
 use Rattle.wdf_held_laws.proofs.HoldingsOverRuns.{event_none, is_plain, waits_holding}
+use Rattle.wdf_held_laws.proofs.StillSuch.{Advances, By, StillSuch, deed_still, effect_still, forwards_still, gives_still, sends_still, still_completed, still_one, still_power, still_same, still_then}
 
 -- ---- one request
 
@@ -77,102 +78,28 @@ abbrev pub is_open : Holding → Bool
 is_open h = is_held h && not h.acknowledged
 
 -- it is so after a change only where it was before, held from the same queue
-abbrev pub Still : Holding → Holding → Type 0
-Still h k = is_open k ≡ true → (is_open h ≡ true) × (k.queue.0 ≡ h.queue.0)
-
-still_same : (h k : Holding) → k ≡ h → Still h k
-still_same h k e t = (subst (λ (y : Holding). is_open y ≡ true) e t, ap (λ (y : Holding). y.queue.0) e)
-
-still_then : (h k l : Holding) → Still h k → Still k l → Still h l
-still_then h k l a b t = let second_ = b t in let first_ = a second_.0 in (first_.0, second_.1 ∙ first_.1)
-
--- each request
-abbrev pub StillOpen : Power → Power → Type 0
-StillOpen P O = (x : ℕ) → Still (holding_of P x) (holding_of O x)
-
-still_power : (P O : Power) → O ≡ P → StillOpen P O
-still_power P O e x = still_same (holding_of P x) (holding_of O x) (ap (λ (Q : Power). holding_of Q x) e)
-
-still_one : (P : Power) (r : ℕ) (f : Holding → Holding) → ((h : Holding) → Still h (f h)) → StillOpen P (with_holding P r f)
-still_one P r f g x = elim (one_or_two x r) [
-  | inl e ↦ subst (λ y. Still (holding_of P y) (holding_of (with_holding P r f) y)) (sym e) (subst (λ (k : Holding). Still (holding_of P r) k) (sym (holding_here P r f)) (g (holding_of P r)))
-  | inr n ↦ still_same (holding_of P x) (holding_of (with_holding P r f) x) (holding_elsewhere P r x f n)
-]
+abbrev StillOpen : Power → Power → Type 0
+StillOpen P O = StillSuch not P O
 
 -- ---- what deeds make of it
 
-still_released : (P : Power) (r : ℕ) (b : Bool) → StillOpen P (if b then power.held_less P r else P)
-still_released P r true = still_one P r (λ _. no_holding) (λ h t. absurd (let z : false ≡ true = t in let y : ⊥ = cc in y))
-still_released P r false = still_power P P refl
-
-given_by : {A : Type 0} (S : State A) (r : ℕ) (b : Bool) → StillOpen S.power (if b then release_power S.power r else S.power)
-given_by S r true = still_released S.power r (is_held (holding_of S.power r))
-given_by S r false = still_power S.power S.power refl
-
-give_power : {A : Type 0} (S : State A) (r : ℕ) (b : Bool) → is_with_driver S r ≡ b → (give_up S r).power ≡ (if b then release_power S.power r else S.power)
-give_power S r true e = rw e refl
-give_power S r false e = rw e refl
-
-still_given : {A : Type 0} (S : State A) (r : ℕ) → StillOpen S.power (give_up S r).power
-still_given S r = subst (StillOpen S.power) (sym (give_power S r (is_with_driver S r) refl)) (given_by S r (is_with_driver S r))
-
-deed_still : {A : Type 0} (plan : Plan) (d : Deed) (S : State A) → is_holding d ≡ false → is_moving d ≡ false → StillOpen S.power (do_deed plan d S).power
-deed_still plan (Present q r) S h n = absurd (let z : ⊥ = cc in z)
-deed_still plan (Receive q r) S h n = absurd (let z : ⊥ = cc in z)
-deed_still plan (Requeue r q) S h n = absurd (let z : ⊥ = cc in z)
-deed_still plan (Forward r q) S h n = absurd (let z : ⊥ = cc in z)
-deed_still plan (GiveBack r q) S h n = absurd (let z : ⊥ = cc in z)
-deed_still plan (CompleteRequest r) S h n = absurd (let z : ⊥ = cc in z)
-deed_still plan (Acknowledge r) S h n = absurd (let z : ⊥ = cc in z)
-deed_still plan (SendRequest r t true) S h n = absurd (let z : ⊥ = cc in z)
-deed_still plan (SendRequest r t false) S h n = still_power S.power S.power refl
-deed_still plan (Arrive device info p) S h n = still_power S.power _ (arrived_power S device.0 info p)
-deed_still plan (AskDeletion o) S h n = still_power S.power _ (asks_all power_of (λ S T D W U. refl) (subtree S.tree o.0) S)
-deed_still plan (PurgeQueue q) S h n = still_power S.power _ (withdrawn_power plan q.0 (waiting_in S.queues q.0) (record S { control = control.set_mode S.control q.0 mode.Purged }))
-deed_still plan (CloseReturning d) S h n = still_power S.power _ (returning_power (managed_queues plan d.0) S)
-deed_still plan (CloseDevice d) S h n = still_power S.power _ (closed_power (queues_of plan d.0) (record S { control = control.shut S.control d.0 }))
-deed_still plan (AdvancePower d s) S h n = absurd (let z : ⊥ = cc in z)
-deed_still plan (AskStop r) S h n = still_one S.power r.0 (λ y. record y { stop_asked = true }) (λ y t. (t, refl))
-deed_still plan (Resume r) S h n = still_one S.power r.0 (λ y. record y { resume_due = false }) (λ y t. (t, refl))
-deed_still plan _ S h n = still_power S.power S.power refl
+unmoved_still : (d : Deed) (P : Power) → is_moving d ≡ false → Advances not d P
+unmoved_still (AdvancePower d s) P n = absurd (let z : ⊥ = cc in z)
+unmoved_still _ P n = tt
 
 deeds_still : {A : Type 0} (plan : Plan) (ds : List Deed) (S : State A) → none_holds ds ≡ true → none_moves ds ≡ true → StillOpen S.power (do_deeds plan ds S).power
-deeds_still plan [] S h n x = still_power S.power S.power refl x
+deeds_still plan [] S h n x = still_power not S.power S.power refl x
 deeds_still plan (d ∷ ds) S h n x =
-    still_then (holding_of S.power x) (holding_of (do_deed plan d S).power x) (holding_of (do_deeds plan ds (do_deed plan d S)).power x)
-    (deed_still plan d S (not_true (is_holding d) (both_left (not (is_holding d)) (none_holds ds) h)) (not_true (is_moving d) (both_left (not (is_moving d)) (none_moves ds) n)) x)
+    still_then not (holding_of S.power x) (holding_of (do_deed plan d S).power x) (holding_of (do_deeds plan ds (do_deed plan d S)).power x)
+    (deed_still not plan d S (not_true (is_holding d) (both_left (not (is_holding d)) (none_holds ds) h)) (unmoved_still d S.power (not_true (is_moving d) (both_left (not (is_moving d)) (none_moves ds) n))) x)
     (deeds_still plan ds (do_deed plan d S) (both_right (not (is_holding d)) (none_holds ds) h) (both_right (not (is_moving d)) (none_moves ds) n) x)
-
-still_completed : {A : Type 0} (plan : Plan) (S : State A) (r : ℕ) → StillOpen S.power (do_deed plan (CompleteRequest (object_id r)) S).power
-still_completed plan S r = subst (StillOpen S.power) (sym (completed_power plan S r)) (still_given S r)
 
 -- ---- calls
 
 module _ {A : Type 0} (plan : Plan) (S : State A) where
-  abbrev By : Outcome → Type 0
-  By o = StillOpen S.power (do_deeds plan o.deeds S).power
-
-  by_if : (u : Bool) (o p : Outcome) → By o → By p → By (if u then o else p)
-  by_if true o p a b = a
-  by_if false o p a b = b
-
-  gives_still : (r q : ℕ) (u : Bool) → By (if u then success (GiveBack (object_id r) (object_id q) ∷ []) else success (Requeue (object_id r) (object_id q) ∷ []))
-  gives_still r q u = by_if u (success (GiveBack (object_id r) (object_id q) ∷ [])) (success (Requeue (object_id r) (object_id q) ∷ [])) (still_given S r) (still_given S r)
-
-  forwards_still : (r q : ℕ) (a b c : Bool) → By (forward_by r q a b c)
-  forwards_still r q true b c = still_power S.power S.power refl
-  forwards_still r q false true c = still_power S.power S.power refl
-  forwards_still r q false false true = still_given S r
-  forwards_still r q false false false = still_given S r
-
-  sends_still : (r t : ℕ) (u forget : Bool) → By (if u then number 1 (SendRequest (object_id r) (object_id t) forget ∷ []) else number 0 [])
-  sends_still r t true true = still_given S r
-  sends_still r t true false = still_power S.power S.power refl
-  sends_still r t false forget = still_power S.power S.power refl
-
-  acks_still : (r q : ℕ) (u v : Bool) → By (if u then success (Acknowledge (object_id r) ∷ []) else if v then success (GiveBack (object_id r) (object_id q) ∷ []) else success (Requeue (object_id r) (object_id q) ∷ []))
-  acks_still r q true v = still_one S.power r (λ h. record h { acknowledged = true }) (λ h t. absurd (let z : false ≡ true = both_right (is_held h) false t in let y : ⊥ = cc in y))
-  acks_still r q false v = gives_still r q v
+  acks_still : (r q : ℕ) (u v : Bool) → By not plan S (if u then success (Acknowledge (object_id r) ∷ []) else if v then success (GiveBack (object_id r) (object_id q) ∷ []) else success (Requeue (object_id r) (object_id q) ∷ []))
+  acks_still r q true v = still_one not S.power r (λ h. record h { acknowledged = true }) (λ h t. absurd (let z : false ≡ true = both_right (is_held h) false t in let y : ⊥ = cc in y))
+  acks_still r q false v = gives_still not plan S r q v
 
 -- ---- each event
 
@@ -190,13 +117,13 @@ before : (e : Event) (P O : Power) → StillOpen P O → OpenStep e P O
 before e P O s x t = let k = s x t in Before k.0 k.1
 
 takes : (e : Event) (P : Power) (r q : ℕ) (b : Bool) → shows (sign.TakingFrom r q) e ≡ true → OpenStep e P (if b then power.held_more P r q else P)
-takes e P r q false told = before e P P (still_power P P refl)
+takes e P r q false told = before e P P (still_power not P P refl)
 takes e P r q true told = λ x t. elim (one_or_two x r) [
   | inl y ↦
       let note : noted (power.held_more P r q) x ≡ q = ap (noted (power.held_more P r q)) y ∙ (taken_notes P q r).here in
       Taken (subst (λ p. shows (sign.TakingFrom x p) e ≡ true) (sym note) (subst (λ z. shows (sign.TakingFrom z q) e ≡ true) (sym y) told))
   | inr n ↦
-      let k = still_same (holding_of P x) (holding_of (power.held_more P r q) x) (holding_elsewhere P r x (λ _. record { queue = record { 0 = q }; acknowledged = false; stop_asked = false; resume_due = false }) n) t in
+      let k = still_same not (holding_of P x) (holding_of (power.held_more P r q) x) (holding_elsewhere P r x (λ _. record { queue = record { 0 = q }; acknowledged = false; stop_asked = false; resume_due = false }) n) t in
       Before k.0 k.1
 ]
 
@@ -207,15 +134,15 @@ module _ {A : Type 0} (plan : Plan) (S : State A) (cpu : Cpu) (n : ℕ) (a b c :
   Retrieves o = OpenStep (event.Did cpu (call_of call.WdfIoQueueRetrieveNextRequest n a b c) v) S.power (do_deeds plan o.deeds S).power
 
   front_opens : (x : Option ℕ) → v ≡ (retrieve_front plan S (object_in a) x).answer → Retrieves (retrieve_front plan S (object_in a) x)
-  front_opens None answer = before (event.Did cpu (call_of call.WdfIoQueueRetrieveNextRequest n a b c) v) S.power S.power (still_power S.power S.power refl)
+  front_opens None answer = before (event.Did cpu (call_of call.WdfIoQueueRetrieveNextRequest n a b c) v) S.power S.power (still_power not S.power S.power refl)
   front_opens (Some r) answer =
       takes (event.Did cpu (call_of call.WdfIoQueueRetrieveNextRequest n a b c) v) S.power r (object_in a) (is_managed plan (object_in a))
       (ap (λ w. is_taking_of r (object_in a) (pair_of (value_object w) (argument_object a))) answer ∙ ap (λ o. is_taking_of r (object_in a) (pair_of (Some r) o)) named_ ∙ both (r == r) (object_in a == object_in a) (itself r) (itself (object_in a)))
 
   retrieve_opens : (u w : Bool) (x : Option ℕ) → v ≡ (if u then refused status.InvalidDeviceState else if w then refused status.WdfPaused else retrieve_front plan S (object_in a) x).answer
       → Retrieves (if u then refused status.InvalidDeviceState else if w then refused status.WdfPaused else retrieve_front plan S (object_in a) x)
-  retrieve_opens true w x answer = before (event.Did cpu (call_of call.WdfIoQueueRetrieveNextRequest n a b c) v) S.power S.power (still_power S.power S.power refl)
-  retrieve_opens false true x answer = before (event.Did cpu (call_of call.WdfIoQueueRetrieveNextRequest n a b c) v) S.power S.power (still_power S.power S.power refl)
+  retrieve_opens true w x answer = before (event.Did cpu (call_of call.WdfIoQueueRetrieveNextRequest n a b c) v) S.power S.power (still_power not S.power S.power refl)
+  retrieve_opens false true x answer = before (event.Did cpu (call_of call.WdfIoQueueRetrieveNextRequest n a b c) v) S.power S.power (still_power not S.power S.power refl)
   retrieve_opens false false x answer = front_opens x answer
 
 module _ {A : Type 0} (plan : Plan) (S : State A) (cpu : Cpu) (f : ℕ) where
@@ -226,17 +153,17 @@ module _ {A : Type 0} (plan : Plan) (S : State A) (cpu : Cpu) (f : ℕ) where
   did_by k n a b x v s = before (event.Did cpu (call_of k n a b x) v) S.power (do_deeds plan (outcome plan S cpu.0 f (call_of k n a b x)).deeds S).power s
 
   did_opens : (k : CallKind) (n : ℕ) (a b x : Arg) (v : Value) → Clean plan S cpu.0 f (call_of k n a b x) → v ≡ (outcome plan S cpu.0 f (call_of k n a b x)).answer → Did k n a b x v
-  did_opens call.WdfRequestComplete n a b x v clean answer = did_by call.WdfRequestComplete n a b x v (still_completed plan S (object_in a))
-  did_opens call.WdfRequestRequeue n a b x v clean answer = did_by call.WdfRequestRequeue n a b x v (gives_still plan S (object_in a) (origin_or_none S (object_in a)) (is_cancelled S.requests (object_in a) || is_purged (mode_of S.control (origin_or_none S (object_in a)))))
+  did_opens call.WdfRequestComplete n a b x v clean answer = did_by call.WdfRequestComplete n a b x v (still_completed not plan S (object_in a))
+  did_opens call.WdfRequestRequeue n a b x v clean answer = did_by call.WdfRequestRequeue n a b x v (gives_still not plan S (object_in a) (origin_or_none S (object_in a)) (is_cancelled S.requests (object_in a) || is_purged (mode_of S.control (origin_or_none S (object_in a)))))
   did_opens call.WdfRequestForwardToIoQueue n a b x v clean answer =
-      did_by call.WdfRequestForwardToIoQueue n a b x v (forwards_still plan S (object_in a) (object_in b) (forwards_nowhere plan S (object_in a) (object_in b)) (not (accepts S.control (object_in b))) (is_cancelled S.requests (object_in a)))
+      did_by call.WdfRequestForwardToIoQueue n a b x v (forwards_still not plan S (object_in a) (object_in b) (forwards_nowhere plan S (object_in a) (object_in b)) (not (accepts S.control (object_in b))) (is_cancelled S.requests (object_in a)))
   did_opens call.WdfRequestStopAcknowledge n a b x v clean answer =
       did_by call.WdfRequestStopAcknowledge n a b x v (acks_still plan S (object_in a) (origin_or_none S (object_in a)) (arg_is b 0) (is_cancelled S.requests (object_in a) || is_purged (mode_of S.control (origin_or_none S (object_in a)))))
-  did_opens call.WdfRequestSend n a b x v clean answer = did_by call.WdfRequestSend n a b x v (sends_still plan S (object_in a) (object_in b) (may_send S (object_in a) (object_in b)) (arg_is x 1))
+  did_opens call.WdfRequestSend n a b x v clean answer = did_by call.WdfRequestSend n a b x v (sends_still not plan S (object_in a) (object_in b) (may_send S (object_in a) (object_in b)) (arg_is x 1))
   did_opens call.WdfIoQueueRetrieveNextRequest n a b x v clean answer =
       let it = named (view_of plan S cpu.0 f) (call_of call.WdfIoQueueRetrieveNextRequest n a b x) refl (wrong_kind_of_first (view_of plan S cpu.0 f) (call_of call.WdfIoQueueRetrieveNextRequest n a b x) (clean fault.WrongKind)) in
       retrieve_opens plan S cpu n a b x v it (is_parallel_queue plan (object_in a)) (not (queue_delivers plan S (object_in a))) (front S.queues (object_in a)) answer
-  did_opens k n a b x v clean answer = did_by k n a b x v (still_power S.power _ (call_power plan S cpu.0 f k n a b x refl))
+  did_opens k n a b x v clean answer = did_by k n a b x v (still_power not S.power _ (call_power plan S cpu.0 f k n a b x refl))
 
 -- ---- starts
 
@@ -253,25 +180,13 @@ module _ {A : Type 0} (plan : Plan) (S : State A) (cpu : Cpu) (c : Callback) (o 
       ap (λ b. is_taking_of r.id.0 o.id.0 (pair_of (where_so b (Some r.id.0)) (Some o.id.0))) h ∙ both (r.id.0 == r.id.0) (o.id.0 == o.id.0) (itself r.id.0) (itself o.id.0)
 
   effect_opens : (y : Rank) → (row_of c).rank ≡ y → OpenStep e S.power (do_deeds plan (effect_for y o.id.0 r.id.0) S).power
-  effect_opens rank.Completion is = before e S.power _ (still_power S.power _ refl)
-  effect_opens rank.Cancel is = before e S.power _ (still_power S.power _ refl)
   effect_opens rank.CanceledOnQueue is = takes e S.power r.id.0 o.id.0 (is_managed plan o.id.0) (taking_told (second (is_handler (row_of c).rank) (same_callback c callback.EvtIoCanceledOnQueue) (returns_only c is)))
-  effect_opens rank.Stop is = before e S.power _ (deed_still plan (AskStop r.id) S refl refl)
-  effect_opens rank.Resume is = before e S.power _ (deed_still plan (Resume r.id) S refl refl)
+  effect_opens rank.Stop is = before e S.power _ (deed_still not plan (AskStop r.id) S refl tt)
+  effect_opens rank.Resume is = before e S.power _ (deed_still not plan (Resume r.id) S refl tt)
   effect_opens rank.Handler is = takes e S.power r.id.0 o.id.0 (is_managed plan o.id.0) (taking_told (first (is_handler (row_of c).rank) (same_callback c callback.EvtIoCanceledOnQueue) (ap is_handler is)))
-  effect_opens _ is = before e S.power _ (still_power S.power _ refl)
+  effect_opens _ is = before e S.power _ (still_power not S.power _ refl)
 
 module _ {A : Type 0} (plan : Plan) (S : State A) where
-  effect_still : (y : Rank) (cpu : ℕ) (c : Callback) (o : ℕ) → StillOpen S.power (do_deeds plan (effect plan S y cpu c o) S).power
-  effect_still rank.Deferred cpu c o = still_power S.power _ refl
-  effect_still rank.Timed cpu c o = still_power S.power _ refl
-  effect_still rank.QueueState cpu c o = still_power S.power _ refl
-  effect_still rank.Sequence cpu c o = still_power S.power _ refl
-  effect_still rank.Work cpu c o = still_power S.power _ refl
-  effect_still rank.Cleanup cpu c o = still_power S.power _ refl
-  effect_still rank.Destroy cpu c o = still_power S.power _ refl
-  effect_still _ cpu c o = still_power S.power _ refl
-
   started : (cpu : Cpu) (c : Callback) (o : Handle) (r : Option Handle) (ds : List Deed)
       → (do_deeds plan (ds ++ PushFrame cpu (frame_id (next_number S)) (new_frame plan S c o r) (irql_of (callback_irql plan c o.id.0)) ∷ take_if_any (next_number S) (lock_of_callback plan c o.id.0 (declared_in plan S o.id.0))) S).power ≡ (do_deeds plan ds S).power
   started cpu c o r ds =
@@ -280,7 +195,7 @@ module _ {A : Type 0} (plan : Plan) (S : State A) where
   start_opens : (m : Meaning A) (cpu : Cpu) (c : Callback) (o : Handle) (r : Option Handle) → OpenStep (event.Start cpu c o r) S.power (after plan m S (event.Start cpu c o r)).power
   start_opens m cpu c o None =
       subst (OpenStep (event.Start cpu c o None) S.power) (sym (started cpu c o None (effect plan S (row_of c).rank cpu.0 c o.id.0)))
-      (before (event.Start cpu c o None) S.power (do_deeds plan (effect plan S (row_of c).rank cpu.0 c o.id.0) S).power (effect_still (row_of c).rank cpu.0 c o.id.0))
+      (before (event.Start cpu c o None) S.power (do_deeds plan (effect plan S (row_of c).rank cpu.0 c o.id.0) S).power (effect_still not plan S (row_of c).rank cpu.0 c o.id.0))
   start_opens m cpu c o (Some r) =
       subst (OpenStep (event.Start cpu c o (Some r)) S.power) (sym (started cpu c o (Some r) (effect_for (row_of c).rank o.id.0 r.id.0))) (effect_opens plan S cpu c o r (row_of c).rank refl)
 
@@ -296,7 +211,7 @@ module _ {A : Type 0} (plan : Plan) (S : State A) where
 
 woken_by : (P : Power) (d : ℕ) (h : Holding) (b : Bool) → is_held_at P d h ≡ b → is_open (woken P d h) ≡ true → (is_open h ≡ true) × ((woken P d h).queue.0 ≡ h.queue.0) ⊎ (is_held_at P d (woken P d h) ≡ true)
 woken_by P d h true is t = inr (rw is is)
-woken_by P d h false is t = inl (still_same h (woken P d h) (rw is refl) t)
+woken_by P d h false is t = inl (still_same not h (woken P d h) (rw is refl) t)
 
 rises : (P : Power) (n : Handle) (j : Option Handle) → OpenStep (event.Stage n stage.QueuesUp j) P (wake_holdings (with_up P n.id.0 true) n.id.0)
 rises P n j x t =
@@ -314,17 +229,17 @@ module _ {A : Type 0} (plan : Plan) (m : Meaning A) (S : State A) where
 
   stage_opens : (n : Handle) (s : Stage) (j : Option Handle) → Opens (event.Stage n s j)
   stage_opens n stage.QueuesUp j = rises S.power n j
-  stage_opens n stage.QueuesDown j = before _ S.power _ (λ x. still_same (holding_of S.power x) (holding_of (after plan m S (event.Stage n stage.QueuesDown j)).power x)
+  stage_opens n stage.QueuesDown j = before _ S.power _ (λ x. still_same not (holding_of S.power x) (holding_of (after plan m S (event.Stage n stage.QueuesDown j)).power x)
       (ap (λ (P : Power). holding_of P x) (returning_power (managed_queues plan n.id.0) (do_deeds plan (TakeStep n.id ∷ AdvancePower n.id (step.Pass stage.QueuesDown j) ∷ []) S))))
-  stage_opens n stage.Closed j = before _ S.power _ (still_power S.power _ (closed_power (queues_of plan n.id.0) (let T = do_deeds plan (TakeStep n.id ∷ []) S in record T { control = control.shut T.control n.id.0 })))
-  stage_opens n stage.Removed j = before _ S.power _ (still_power S.power _ (asks_all power_of (λ S T D W U. refl) (subtree S.tree n.id.0) (do_deeds plan (TakeStep n.id ∷ []) S)))
-  stage_opens n _ j = before _ S.power _ (λ x. still_same (holding_of S.power x) (holding_of S.power x) refl)
+  stage_opens n stage.Closed j = before _ S.power _ (still_power not S.power _ (closed_power (queues_of plan n.id.0) (let T = do_deeds plan (TakeStep n.id ∷ []) S in record T { control = control.shut T.control n.id.0 })))
+  stage_opens n stage.Removed j = before _ S.power _ (still_power not S.power _ (asks_all power_of (λ S T D W U. refl) (subtree S.tree n.id.0) (do_deeds plan (TakeStep n.id ∷ []) S)))
+  stage_opens n _ j = before _ S.power _ (λ x. still_same not (holding_of S.power x) (holding_of S.power x) refl)
 
   plain : (e : Event) → is_plain e ≡ true → is_moving_event e ≡ false → Opens e
   plain e h k = before e S.power (after plan m S e).power (deeds_still plan (deeds plan S e) S (event_none plan S e h) (unmoved.event_none plan S e k))
 
   posts : (agent : ℕ) (p : Post) (answer : Option Handle) → Opens (event.Posted agent p answer)
-  posts agent (post.Ask a device) answer = before (event.Posted agent (post.Ask a device) answer) S.power S.power (still_power S.power S.power refl)
+  posts agent (post.Ask a device) answer = before (event.Posted agent (post.Ask a device) answer) S.power S.power (still_power not S.power S.power refl)
   posts agent p answer = plain (event.Posted agent p answer) refl refl
 
   did_steps : (cpu : Cpu) (c : Call) (v : Value) → may plan m S (event.Did cpu c v) ≡ true → Opens (event.Did cpu c v)
@@ -341,7 +256,7 @@ module _ {A : Type 0} (plan : Plan) (m : Meaning A) (S : State A) where
       subst (OpenStep (event.Waiting cpu c) S.power)
       (sym (ap (λ (ds : List Deed). (do_deeds plan ds S).power) (by_its_top S cpu.0 d.frame (waiting_deeds plan S cpu.0 c) d.about.top)
       ∙ waiting_reads (λ (T : State A). T.power) (λ T L C. refl) plan S cpu.0 d.frame c (frame_of S.cpus d.frame)))
-      (before (event.Waiting cpu c) S.power (do_deeds plan (outcome plan S cpu.0 d.frame c).deeds S).power (still_power S.power (do_deeds plan (outcome plan S cpu.0 d.frame c).deeds S).power (call_power plan S cpu.0 d.frame c.kind c.count c.a c.b c.c (waits_holding plan S c.kind c.count c.a c.b c.c d.unmet))))
+      (before (event.Waiting cpu c) S.power (do_deeds plan (outcome plan S cpu.0 d.frame c).deeds S).power (still_power not S.power (do_deeds plan (outcome plan S cpu.0 d.frame c).deeds S).power (call_power plan S cpu.0 d.frame c.kind c.count c.a c.b c.c (waits_holding plan S c.kind c.count c.a c.b c.c d.unmet))))
 
   woke_steps : (cpu : Cpu) (c : Call) (v : Value) → may plan m S (event.Woke cpu c v) ≡ true → Opens (event.Woke cpu c v)
   woke_steps cpu c v h =
@@ -349,17 +264,17 @@ module _ {A : Type 0} (plan : Plan) (m : Meaning A) (S : State A) where
       subst (OpenStep (event.Woke cpu c v) S.power)
       (sym (ap (λ (ds : List Deed). (do_deeds plan ds S).power) (by_its_top S cpu.0 d.frame (woke_deeds plan c v) d.top)
       ∙ woke_reads (λ (T : State A). T.power) (λ T L C. refl) plan S d.frame c v (frame_of S.cpus d.frame)))
-      (before (event.Woke cpu c v) S.power S.power (still_power S.power S.power refl))
+      (before (event.Woke cpu c v) S.power S.power (still_power not S.power S.power refl))
 
   pub event_opens : (e : Event) → may plan m S e ≡ true → Opens e
   event_opens (event.Start cpu c o r) h = start_opens plan S m cpu c o r
-  event_opens (event.End cpu c o v) h = before (event.End cpu c o v) S.power (after plan m S (event.End cpu c o v)).power (still_power S.power _ (end_power plan S (lock_of_callback plan c o.id.0 (declared_in plan S o.id.0)) cpu.0 (row_of c).rank c o.id.0 v))
+  event_opens (event.End cpu c o v) h = before (event.End cpu c o v) S.power (after plan m S (event.End cpu c o v)).power (still_power not S.power _ (end_power plan S (lock_of_callback plan c o.id.0 (declared_in plan S o.id.0)) cpu.0 (row_of c).rank c o.id.0 v))
   event_opens (event.Stage n s j) h = stage_opens n s j
   event_opens (event.Posted agent p answer) h = posts agent p answer
   event_opens (event.Did cpu c v) h = did_steps cpu c v h
   event_opens (event.Waiting cpu c) h = waiting_steps cpu c h
   event_opens (event.Woke cpu c v) h = woke_steps cpu c v h
-  event_opens (event.Complete r s) h = before (event.Complete r s) S.power (after plan m S (event.Complete r s)).power (still_completed plan S r.id.0)
+  event_opens (event.Complete r s) h = before (event.Complete r s) S.power (after plan m S (event.Complete r s)).power (still_completed not plan S r.id.0)
   event_opens e h = plain e refl refl
 
   pub either_opens : (offered : List Event) (e : Event) → (may plan m S e ≡ true) ⊎ IsTick m S offered e → Opens e

@@ -23,6 +23,7 @@ use Rattle.wdf_power_laws.proofs.Runs.{kept_at_each}
 use Rattle.wdf_settled_laws.proofs.Moves.{Asked, Begun, Ended, Moved, Passed, Unmoved, changes}
 use Rattle.wdf_steps_laws.specs.Courses.{ComesFromList, StepsComeFromLists}
 use Rattle.wdf_steps_laws.proofs.Courses.{Courses, courses_after, rests}
+use Rattle.wdf_settled_laws.proofs.Laws.{listed_by}
 
 -- the count of an event moves no device
 counted_too : {A : Type 0} (plan : Plan) (m : Meaning A) (f : Event) (S U : State A) (e : Event) → Moved plan S U e → Moved plan S (counted m f U) e
@@ -33,11 +34,6 @@ counted_too plan m f S U e (Passed n s j is may_come idle next_ same devices) = 
 counted_too plan m f S U e (Asked n a quiet_ free same devices) = Asked n a quiet_ free same devices
 
 -- ---- the opening
-
-listed_by : {T : Type 0} (P : T → Type 0) (blank : T) (f : ℕ → T) (ids : List ℕ) (d : ℕ) → P blank → ((x : ℕ) → P (f x)) → P (entry blank (map f ids) d)
-listed_by P blank f [] d h k = h
-listed_by P blank f (x ∷ xs) zero h k = k x
-listed_by P blank f (x ∷ xs) (suc d) h k = listed_by P blank f xs d h k
 
 opens_with : (plan : Plan) (d : ℕ) (x : Option DeviceInfo) → ComesFromList (opening_sequence plan d x)
 opens_with plan d None = rests no_sequence refl refl

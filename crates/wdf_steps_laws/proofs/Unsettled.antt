@@ -27,7 +27,7 @@ use Rattle.wdf_laws.specs.Laws.{is_managed_of}
 use Rattle.wdf_laws.specs.Signs.{shows}
 use Rattle.wdf_held_laws.proofs.Holdings.{noted}
 use Rattle.wdf_held_laws.proofs.Settled.{held_there, none_unsettled}
-use Rattle.wdf_settled_laws.proofs.Course.{TakesUp, not_shown, up_by, up_here, up_in, up_there}
+use Rattle.wdf_settled_laws.proofs.Course.{TakesUp, not_shown, passed_left, up_by, up_here, up_in, up_there}
 use Rattle.wdf_settled_laws.proofs.Moves as moves
 use Rattle.wdf_settled_laws.proofs.Moves.{Moved}
 use Rattle.wdf_settled_laws.proofs.Never.{not_so, not_such}
@@ -53,12 +53,6 @@ order_next s ss h =
     let a : Bool = agree (falls s) (settles_next ss) in
     let b : Bool = not (turns s) || is_end ss in
     both_left a b (both_left (a && b) (in_order ss) h)
-
-passed_left : (s : Stage) (q : Sequence) → (pnp.passed s q).left ≡ q.left
-passed_left stage.Working q = refl
-passed_left stage.Sleeping q = refl
-passed_left stage.Removed q = refl
-passed_left _ q = refl
 
 module _ {A : Type 0} (S : State A) (k : Courses S.pnp) (d : ℕ) where
   -- while a callback runs, `settled` isn't next

@@ -33,15 +33,7 @@ use Rattle.wdf_steps_laws.specs.Settled.{NothingUnsettled}
 use Rattle.wdf_steps_laws.proofs.Open.{either_opens, is_open}
 use Rattle.wdf_steps_laws.proofs.Runs.{courses_at, moves_at}
 use Rattle.wdf_steps_laws.proofs.Unsettled.{AllSettled, Settled, settled_after}
-
--- a noted queue is power-managed
-managed_note : (plan : Plan) (o : Option ℕ) → nat_lt 0 (managed_origin plan o) ≡ true → is_managed plan (managed_origin plan o) ≡ true
-managed_note plan None h = absurd (let z : ⊥ = cc in z)
-managed_note plan (Some p) h = by_managed (is_managed plan p) refl h
-  where
-    by_managed : (b : Bool) → is_managed plan p ≡ b → nat_lt 0 (if b then p else 0) ≡ true → is_managed plan (if b then p else 0) ≡ true
-    by_managed true e h = e
-    by_managed false e h = absurd (let z : ⊥ = cc in z)
+use Rattle.wdf_held_laws.proofs.AckedAsTold.{managed_note}
 
 managed_noted : {A : Type 0} (plan : Plan) (U : State A) → HoldsIn plan U → (x : ℕ) → is_held (holding_of U.power x) ≡ true → is_managed plan (noted U.power x) ≡ true
 managed_noted plan U hold x h =
