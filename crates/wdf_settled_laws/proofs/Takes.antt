@@ -11,7 +11,7 @@ use Rattle.wdf_base.specs.declared.value.Status.TheVariants as status
 use Rattle.wdf_base.specs.declared.rank.Rank.{Rank}
 use Rattle.wdf_base.specs.declared.rank.Rank.TheVariants as rank
 use Rattle.wdf_base.specs.declared.call.Arg.{Arg}
-use Rattle.wdf_base.specs.declared.call.Arg.TheVariants.{Val, Class}
+use Rattle.wdf_base.specs.declared.call.Arg.TheVariants.{Val}
 use Rattle.wdf_base.specs.declared.call.CallKind.{CallKind}
 use Rattle.wdf_base.specs.declared.call.CallKind.TheVariants as call
 use Rattle.wdf_base.specs.declared.call.Callback.{Callback}

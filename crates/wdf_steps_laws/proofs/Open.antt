@@ -28,7 +28,6 @@ use Rattle.wdf_base.specs.declared.event.Post.{Post}
 use Rattle.wdf_base.specs.declared.event.Post.TheVariants as post
 use Rattle.wdf_power_laws.proofs.Unmoved.{is_moving, is_moving_event, none_moves}
 use Rattle.wdf_power_laws.proofs.Unmoved as unmoved
-use Rattle.wdf_model.specs.declared.enums.Mode.TheVariants as mode
 use Rattle.wdf_model.specs.declared.entries.Holding.{Holding}
 use Rattle.wdf_model.specs.Plans.{callback_irql, is_managed, is_parallel_queue, managed_queues, queues_of}
 use Rattle.wdf_model.specs.parts.Tree.{subtree}
@@ -36,17 +35,17 @@ use Rattle.wdf_model.specs.parts.Cpus.{frame_of}
 use Rattle.wdf_model.specs.parts.Control.{accepts, is_purged, mode_of}
 use Rattle.wdf_model.specs.parts.Control as control
 use Rattle.wdf_model.specs.parts.Locks.{lock_of_callback}
-use Rattle.wdf_model.specs.parts.Queues.{front, waiting_in}
+use Rattle.wdf_model.specs.parts.Queues.{front}
 use Rattle.wdf_model.specs.parts.Requests.{is_cancelled}
-use Rattle.wdf_model.specs.parts.Power.{Power, acknowledged, holding_of, is_held, is_held_at, no_holding, wake_holdings, with_holding, with_up, woken}
+use Rattle.wdf_model.specs.parts.Power.{Power, acknowledged, holding_of, is_held, is_held_at, no_holding, wake_holdings, with_up, woken}
 use Rattle.wdf_model.specs.parts.Power as power
-use Rattle.wdf_model.specs.State.{State, declared_in, is_with_driver, object_in, queue_delivers}
+use Rattle.wdf_model.specs.State.{State, declared_in, object_in, queue_delivers}
 use Rattle.wdf_model.specs.Ids.{cpu_of, frame_id, irql_of, object_id}
 use Rattle.wdf_model.specs.declared.deed.Deed.{Deed}
-use Rattle.wdf_model.specs.declared.deed.Deed.TheVariants.{PopFrame, PushFrame, TakeStep, Arrive, AskDeletion, Acknowledge, AdvancePower, AskStop, CloseDevice, CloseReturning, CompleteRequest, Forward, GiveBack, Present, PurgeQueue, Receive, Requeue, Resume, SendRequest}
-use Rattle.wdf_model.specs.rules.Deeds.{do_deed, do_deeds, give_up, release_power}
+use Rattle.wdf_model.specs.declared.deed.Deed.TheVariants.{PopFrame, PushFrame, TakeStep, Acknowledge, AdvancePower, AskStop, GiveBack, Requeue, Resume}
+use Rattle.wdf_model.specs.rules.Deeds.{do_deed, do_deeds}
 use Rattle.wdf_model.specs.rules.Faults.{arg_is}
-use Rattle.wdf_model.specs.rules.Calls.{Outcome, forwards_nowhere, may_send, number, origin_or_none, outcome, refused, retrieve_front, success}
+use Rattle.wdf_model.specs.rules.Calls.{Outcome, forwards_nowhere, may_send, origin_or_none, outcome, refused, retrieve_front, success}
 use Rattle.wdf_model.specs.rules.Starts.{effect, effect_for, end_of_step, new_frame, next_number, release_if_any, take_if_any}
 use Rattle.wdf_model.specs.rules.Steps.{after, deeds, did_deeds, may, view_of, waiting_deeds, woke_deeds}
 use Rattle.wdf_model.specs.laws.FactsOfEvents.{IsTick}
@@ -58,15 +57,14 @@ use Rattle.wdf_model.proofs.FitsOfCalls.{Clean}
 use Rattle.wdf_model.proofs.FitsOfEvents.{by_its_top}
 use Rattle.wdf_model.proofs.OwnEvents.{IsDid, IsWaiting, IsWoke, did_tells, waiting_tells, woke_tells}
 use Rattle.wdf_agreements.proofs.Stays.{asks_all}
-use Rattle.wdf_invariants.proofs.Releases.{holding_elsewhere, holding_here}
+use Rattle.wdf_invariants.proofs.Releases.{holding_elsewhere}
 use Rattle.wdf_laws.specs.declared.sign.Sign.TheVariants as sign
 use Rattle.wdf_laws.specs.Events.{argument_object, is_handler, pair_of, value_object, where_so}
 use Rattle.wdf_laws.specs.Signs.{is_taking_of, shows}
 use Rattle.wdf_request_laws.proofs.Cancels.{named}
-use Rattle.wdf_request_laws.proofs.Entries.{forward_by}
 use Rattle.wdf_request_laws.proofs.FirstParts.{did_reads, start_reads, waiting_reads, woke_reads}
 use Rattle.wdf_request_laws.proofs.Gives.{call_of}
-use Rattle.wdf_held_laws.proofs.Holdings.{arrived_power, closed_power, completed_power, is_holding, none_holds, noted, power_of, returning_power, taken_notes, withdrawn_power}
+use Rattle.wdf_held_laws.proofs.Holdings.{closed_power, is_holding, none_holds, noted, power_of, returning_power, taken_notes}
 use Rattle.wdf_held_laws.proofs.HeldByCalls.{call_power}
 use Rattle.wdf_held_laws.proofs.HoldingsOverRuns.{event_none, is_plain, waits_holding}
 use Rattle.wdf_held_laws.proofs.StillSuch.{Advances, By, StillSuch, deed_still, effect_still, forwards_still, gives_still, sends_still, still_completed, still_one, still_power, still_same, still_then}

@@ -1,12 +1,11 @@
 -- What an event of a run does to devices, and the laws at each place of every run.
-use Rattle.std.proofs.Common.{◌≡◌, ℕ, zero, suc, ◌+◌, List, [], ◌∷◌, ◌⊎◌, true, inl, inr, Option, Some, None, slice_get, take, map, refl, sym, subst}
+use Rattle.std.proofs.Common.{◌≡◌, ℕ, zero, suc, ◌+◌, List, [], ◌∷◌, ◌⊎◌, true, inl, inr, Option, Some, None, slice_get, take, refl, sym, subst}
 use Rattle.wdf_base.specs.Meaning.{Meaning}
 use Rattle.wdf_base.specs.Resolved.{IsResolved}
 use Rattle.wdf_base.specs.declared.plan.Plan.{Plan}
 use Rattle.wdf_base.specs.declared.declared.DeviceInfo.{DeviceInfo}
 use Rattle.wdf_base.specs.declared.event.Event.{Event}
 use Rattle.wdf_base.specs.declared.event.Event.TheVariants as event
-use Rattle.wdf_model.specs.Tables.{entry}
 use Rattle.wdf_model.specs.Plans.{declared_ids, device_of}
 use Rattle.wdf_model.specs.parts.Pnp.{Sequence, no_sequence, opening_sequence}
 use Rattle.wdf_model.specs.State.{State}

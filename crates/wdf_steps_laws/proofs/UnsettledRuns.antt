@@ -12,7 +12,6 @@ use Rattle.wdf_model.specs.State.{State}
 use Rattle.wdf_model.specs.rules.Deeds.{counted, do_deeds}
 use Rattle.wdf_model.specs.rules.Steps.{after, deeds, may}
 use Rattle.wdf_model.specs.rules.Ready.{IsRunOf, ready, state_after}
-use Rattle.wdf_model.specs.laws.Agreement.{managed_origin}
 use Rattle.wdf_model.specs.laws.FactsOfEvents.{IsTick}
 use Rattle.wdf_model.proofs.Follows.{state_goes_on}
 use Rattle.wdf_model.proofs.Runs.{run_front, take_ended, take_next}
