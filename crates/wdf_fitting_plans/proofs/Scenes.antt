@@ -14,15 +14,15 @@ use Rattle.wdf_scene.specs.declared.line.StatementHead.{StatementHead}
 use Rattle.wdf_scene.specs.declared.line.StatementHead.TheVariants as head
 use Rattle.wdf_scene.specs.declared.scene.Scene.{Scene}
 use Rattle.wdf_scene.specs.Written.{Argument, Atom, Calling, Context, Leaf, Literal, Missing, Named, Node, Number, OfClass, Picked, Plain, Single, Tree, Valued, Written, WrittenLine, argument_nodes, atom_node, exprs_at, head_line, line_at, lines_at, nodes, nodes_at, root, size, written_size}
-use Rattle.wdf_parse.specs.declared.lexer.TokenFault.{TokenFault}
-use Rattle.wdf_parse.specs.declared.token.Token.{Token}
-use Rattle.wdf_parse.specs.declared.token.Token.TheVariants as token
-use Rattle.wdf_parse.specs.Spelling.{argument_then, atom_token, head_then, into_then, plain_tokens, tree_then, written_tokens}
+use Rattle.wdf_tokens.specs.declared.lexer.TokenFault.{TokenFault}
+use Rattle.wdf_tokens.specs.declared.token.Token.{Token}
+use Rattle.wdf_tokens.specs.declared.token.Token.TheVariants as token
+use Rattle.wdf_tokens.specs.Tokens.{line_reading, lines_of, with_byte}
+use Rattle.wdf_tokens.specs.WellFormed.{is_token}
+use Rattle.wdf_tokens.proofs.BothParts.{first_part, second_part}
+use Rattle.wdf_tokens.proofs.LexedTokens.{read_fit}
+use Rattle.wdf_scene_lines.specs.Spelling.{argument_then, atom_token, head_then, into_then, plain_tokens, tree_then, written_tokens}
 use Rattle.wdf_parse.specs.StandsFor.{StandsFor, TokenLine, spelled_line, token_lines, version_lines, with_token_line}
-use Rattle.wdf_parse.specs.Tokens.{line_reading, lines_of, with_byte}
-use Rattle.wdf_parse.specs.WellFormed.{is_token}
-use Rattle.wdf_parse.proofs.FormSoundness.{first_part, second_part}
-use Rattle.wdf_parse.proofs.LexedTokens.{read_fit}
 use Rattle.wdf_refusals.proofs.Every.{Every, every_append}
 
 -- ---- the lines of a text

@@ -10,15 +10,16 @@ use Rattle.wdf_scene.specs.declared.line.SceneLine.{SceneLine}
 use Rattle.wdf_scene.specs.declared.line.SceneLine.TheVariants as line
 use Rattle.wdf_scene.specs.Blocks.{Position, front, after_lines, is_outside}
 use Rattle.wdf_scene.specs.Written.{Written, Plain, WrittenLine, is_written, line_at, written_size, lines_at, scene_of, AreLines}
-use Rattle.wdf_parse.specs.declared.token.Token.{Token}
+use Rattle.wdf_tokens.specs.declared.token.Token.{Token}
+use Rattle.wdf_tokens.specs.TokenTexts.{line_text}
+use Rattle.wdf_tokens.specs.Tokens.{lines_of}
+use Rattle.wdf_tokens.specs.WellFormed.{is_token}
+use Rattle.wdf_tokens.proofs.Respelling.{line_is_read, first_line_text}
+use Rattle.wdf_scene_lines.specs.Spelling.{written_tokens}
 use Rattle.wdf_parse.specs.Canonical.{written_text, canonical_text}
-use Rattle.wdf_parse.specs.Printing.{line_text, printed}
-use Rattle.wdf_parse.specs.Spelling.{written_tokens}
+use Rattle.wdf_parse.specs.Printing.{printed}
 use Rattle.wdf_parse.specs.StandsFor.{TokenLine, with_token_line, token_lines, spelled_line, StandsFor}
-use Rattle.wdf_parse.specs.Tokens.{lines_of}
-use Rattle.wdf_parse.specs.WellFormed.{is_token}
 use Rattle.wdf_parse.proofs.ReadBack.{printed_canonical}
-use Rattle.wdf_parse.proofs.Respelling.{line_is_read, first_line_text}
 use Rattle.wdf_gen.specs.Generated.{seed_words, length_read, read_form, reads_from, app_lines, head_lines, text_lines, numbered, generated}
 
 -- ---- each line is spelled

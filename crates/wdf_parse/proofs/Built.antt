@@ -12,14 +12,14 @@ use Rattle.wdf_scene.specs.declared.scene.Scene.{Scene}
 use Rattle.wdf_scene.specs.Blocks.{Position, front, innermost, in_if, is_outside, moved, may_stand, opened, with_opened, openers_after, IsWhole}
 use Rattle.wdf_scene.specs.Blocks as blocks
 use Rattle.wdf_scene.specs.Written.{Written, WrittenLine, Plain, Picked, Single, Calling, is_written, line_at, nodes_at, written_size, picks_in, lines_at, exprs_at, scene_of, AreLines}
+use Rattle.wdf_tokens.specs.Tokens.{lines_of}
+use Rattle.wdf_scene_lines.specs.Building.{next_node}
 use Rattle.wdf_parse.specs.declared.reader.Reader.{Reader}
 use Rattle.wdf_parse.specs.declared.refusal.ParseRefusal.{ParseRefusal}
 use Rattle.wdf_parse.specs.declared.refusal.ParseRefusal.TheVariants as refusal
-use Rattle.wdf_parse.specs.Building.{next_node}
 use Rattle.wdf_parse.specs.Standing.{first_number}
 use Rattle.wdf_parse.specs.StandsFor.{StandsFor, spelled_line, version_lines}
 use Rattle.wdf_parse.specs.Texts.{opening, with_written, line_taken, after_lines, closed, at_end, finished, reading}
-use Rattle.wdf_parse.specs.Tokens.{lines_of}
 use Rattle.wdf_parse.proofs.History.{Good, AllGood, taken_by, FrontHistory, front_history}
 use Rattle.wdf_parse.proofs.PrintedLines.{length_nodes_at}
 

@@ -6,18 +6,18 @@ use Rattle.wdf_scene.specs.declared.line.SceneLine.{SceneLine}
 use Rattle.wdf_scene.specs.Blocks.{Position, front, moved, may_stand}
 use Rattle.wdf_scene.specs.Blocks as blocks
 use Rattle.wdf_scene.specs.Written.{Written, WrittenLine, is_written, line_at, nodes_at, written_size, lines_at}
-use Rattle.wdf_parse.specs.declared.lexer.TokenFault.{TokenFault}
+use Rattle.wdf_tokens.specs.declared.lexer.TokenFault.{TokenFault}
+use Rattle.wdf_tokens.specs.declared.token.Token.{Token}
+use Rattle.wdf_tokens.specs.Tokens.{line_reading}
+use Rattle.wdf_tokens.proofs.BothParts.{first_part, second_part}
+use Rattle.wdf_scene_lines.specs.Building.{next_node}
+use Rattle.wdf_scene_lines.specs.Reading.{read_written}
+use Rattle.wdf_scene_lines.specs.Spelling.{written_tokens}
+use Rattle.wdf_scene_lines.proofs.Completeness.{written_read}
 use Rattle.wdf_parse.specs.declared.reader.Reader.{Reader}
 use Rattle.wdf_parse.specs.declared.refusal.ParseRefusal.{ParseRefusal}
-use Rattle.wdf_parse.specs.declared.token.Token.{Token}
-use Rattle.wdf_parse.specs.Building.{next_node}
-use Rattle.wdf_parse.specs.Reading.{read_written}
-use Rattle.wdf_parse.specs.Spelling.{written_tokens}
 use Rattle.wdf_parse.specs.StandsFor.{TokenLine, with_token_line, token_lines, spelled_line, version_tokens, version_lines}
 use Rattle.wdf_parse.specs.Texts.{opening, with_written, line_taken, is_version, is_at_front, tokens_taken, or_bad_line, after_tokens, after_line, after_lines}
-use Rattle.wdf_parse.specs.Tokens.{line_reading}
-use Rattle.wdf_parse.proofs.Completeness.{written_read}
-use Rattle.wdf_parse.proofs.FormSoundness.{first_part, second_part}
 use Rattle.wdf_parse.proofs.History.{taken_by}
 use Rattle.wdf_parse.proofs.NotVersion.{read_not_version}
 use Rattle.wdf_parse.proofs.PrintedLines.{length_nodes_at}

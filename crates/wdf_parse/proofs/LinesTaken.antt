@@ -2,13 +2,13 @@
 use Rattle.std.proofs.Common.{◌≡◌, ℕ, suc, ◌+◌, ◌-◌, ◌<◌, ◌≤◌, List, [], ◌∷◌, length, drop, take, Result, Ok, Err, refl, ap, ◌∙◌, sym, arith, add-one}
 use Rattle.std.specs.List.{take_while}
 use Rattle.std.proofs.lemmas.List.{drop_all}
+use Rattle.wdf_tokens.specs.Tokens.{lines_of, is_inside}
+use Rattle.wdf_tokens.proofs.LineReading.{slice_behind}
 use Rattle.wdf_parse.specs.declared.reader.Reader.{Reader}
 use Rattle.wdf_parse.specs.declared.refusal.ParseRefusal.{ParseRefusal}
 use Rattle.wdf_parse.specs.declared.refusal.ParseRefusal.TheVariants as refusal
-use Rattle.wdf_parse.specs.Tokens.{lines_of, is_inside}
 use Rattle.wdf_parse.specs.Texts.{after_line, after_lines, IsRefusalOf}
 use Rattle.wdf_parse.proofs.TextLines.{lines_from, cut_line}
-use Rattle.wdf_parse.proofs.LineReading.{slice_behind}
 
 -- all lines are those that are taken and those from this place on
 pub record TakenUpTo (first : Reader) (text : List ℕ) (at number : ℕ) (now : Reader) : Type 0 where

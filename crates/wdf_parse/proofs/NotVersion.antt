@@ -1,12 +1,12 @@
 -- The line `version` is no form.
 use Rattle.std.proofs.Common.{◌≡◌, ℕ, Bool, true, false, List, [], ◌∷◌, Option, Some, None, refl}
 use Rattle.wdf_scene.specs.Written.{Written}
-use Rattle.wdf_parse.specs.declared.keyword.Keyword.{Keyword}
-use Rattle.wdf_parse.specs.declared.keyword.Keyword.TheVariants as keyword
-use Rattle.wdf_parse.specs.declared.token.Token.{Token}
-use Rattle.wdf_parse.specs.declared.token.Token.TheVariants as token
-use Rattle.wdf_parse.specs.Keywords.{keyword_of}
-use Rattle.wdf_parse.specs.Reading.{read_known, read_written}
+use Rattle.wdf_tokens.specs.declared.keyword.Keyword.{Keyword}
+use Rattle.wdf_tokens.specs.declared.keyword.Keyword.TheVariants as keyword
+use Rattle.wdf_tokens.specs.declared.token.Token.{Token}
+use Rattle.wdf_tokens.specs.declared.token.Token.TheVariants as token
+use Rattle.wdf_tokens.specs.Keywords.{keyword_of}
+use Rattle.wdf_scene_lines.specs.Reading.{read_known, read_written}
 use Rattle.wdf_parse.specs.Texts.{version_mark, is_version}
 
 mark_not : (k : Option Keyword) (n : ℕ) (ts : List Token) (w : Written) → read_known k ts ≡ Some w → version_mark k n ≡ false

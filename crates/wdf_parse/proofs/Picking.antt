@@ -8,8 +8,8 @@ use Rattle.wdf_scene.specs.declared.line.SceneLine.{SceneLine}
 use Rattle.wdf_scene.specs.declared.line.SceneLine.TheVariants as line
 use Rattle.wdf_scene.specs.declared.scene.Scene.{Scene}
 use Rattle.wdf_scene.specs.Scene.{EndsInPicks, last_line, last_picks, line_picks, line_with_pick, with_pick}
-use Rattle.wdf_parse.specs.declared.token.Token.{Token}
-use Rattle.wdf_parse.specs.Reading.{number_in}
+use Rattle.wdf_tokens.specs.declared.token.Token.{Token}
+use Rattle.wdf_scene_lines.specs.Reading.{number_in}
 use Rattle.wdf_parse.specs.Picking.{with_line}
 
 last_at : {T : Type 0} (xs : List T) (x : T) → slice_get (xs ++ x ∷ []) (length xs) ≡ Some x

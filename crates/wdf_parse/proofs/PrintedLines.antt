@@ -3,7 +3,7 @@ use Rattle.std.proofs.Common.{◌≡◌, ℕ, zero, suc, ◌+◌, ◌≤◌, max
 use Rattle.std.specs.List.{list_all}
 use Rattle.std.proofs.lemmas.Bool.{leb-true}
 use Rattle.wdf_base.specs.Words.{call_word}
-use Rattle.wdf_parse.specs.declared.keyword.Keyword.TheVariants as keyword
+use Rattle.wdf_tokens.specs.declared.keyword.Keyword.TheVariants as keyword
 use Rattle.wdf_base.specs.declared.script.Operator.{Operator}
 use Rattle.wdf_scene.specs.declared.line.NumberedLine.{NumberedLine}
 use Rattle.wdf_scene.specs.declared.line.SceneExpr.{SceneExpr}
@@ -13,12 +13,15 @@ use Rattle.wdf_scene.specs.declared.line.SceneLine.TheVariants as line
 use Rattle.wdf_scene.specs.declared.line.StatementHead.{StatementHead}
 use Rattle.wdf_scene.specs.declared.line.StatementHead.TheVariants as head
 use Rattle.wdf_scene.specs.Written.{Atom, Number, Named, Literal, Context, Tree, Leaf, Node, Argument, Missing, Valued, OfClass, Written, Plain, Picked, Single, Calling, WrittenLine, atom_node, depth, size, root, nodes, head_line, argument_nodes, argument_size, numbered_argument, line_at, nodes_at, written_size, picks_in, is_plain_form, is_proper, is_written, lines_at, exprs_at}
-use Rattle.wdf_parse.specs.declared.token.Token.{Token}
-use Rattle.wdf_parse.specs.declared.token.Token.TheVariants as token
-use Rattle.wdf_parse.specs.Spelling.{word, atom_token, tree_then, argument_then, head_then, into_then, plain_tokens, written_tokens}
-use Rattle.wdf_parse.specs.Printing.{leaf_tokens, node_tokens, found_tokens, expr_tokens, arg_tokens, line_tokens, line_text, scene_line_text}
+use Rattle.wdf_tokens.specs.declared.token.Token.{Token}
+use Rattle.wdf_tokens.specs.declared.token.Token.TheVariants as token
+use Rattle.wdf_tokens.specs.WordTokens.{word}
+use Rattle.wdf_tokens.specs.TokenTexts.{line_text}
+use Rattle.wdf_scene_lines.specs.Spelling.{atom_token, tree_then, argument_then, head_then, into_then, plain_tokens, written_tokens}
+use Rattle.wdf_scene_lines.specs.LineTokens.{leaf_tokens, node_tokens, found_tokens, expr_tokens, arg_tokens, line_tokens}
+use Rattle.wdf_scene_lines.proofs.TreeBuilding.{length_nodes}
+use Rattle.wdf_parse.specs.Printing.{scene_line_text}
 use Rattle.wdf_parse.specs.Canonical.{written_text}
-use Rattle.wdf_parse.proofs.TreeBuilding.{length_nodes}
 
 get_at : {T : Type 0} (front : List T) (x : T) (back : List T) → slice_get (front ++ x ∷ back) (length front) ≡ Some x
 get_at [] x back = refl

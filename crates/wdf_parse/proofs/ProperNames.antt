@@ -14,15 +14,15 @@ use Rattle.wdf_scene.specs.declared.line.StatementHead.TheVariants as head
 use Rattle.wdf_scene.specs.declared.scene.Scene.{Scene}
 use Rattle.wdf_scene.specs.Naming.{HasProperNames, declared_name, is_proper_name, is_proper_if_there, names_properly}
 use Rattle.wdf_scene.specs.Written.{Written, Plain, Picked, Single, Calling, WrittenLine, IsScene, line_at, head_line, lines_at, written_size}
-use Rattle.wdf_parse.specs.declared.lexer.TokenFault.{TokenFault}
-use Rattle.wdf_parse.specs.declared.token.Token.{Token}
-use Rattle.wdf_parse.specs.declared.token.Token.TheVariants as token
-use Rattle.wdf_parse.specs.Spelling.{written_tokens, plain_tokens}
+use Rattle.wdf_tokens.specs.declared.lexer.TokenFault.{TokenFault}
+use Rattle.wdf_tokens.specs.declared.token.Token.{Token}
+use Rattle.wdf_tokens.specs.declared.token.Token.TheVariants as token
+use Rattle.wdf_tokens.specs.Tokens.{line_reading, lines_of, is_name_byte}
+use Rattle.wdf_tokens.specs.WellFormed.{is_word, is_token}
+use Rattle.wdf_tokens.proofs.BothParts.{first_part, second_part}
+use Rattle.wdf_tokens.proofs.LexedTokens.{read_fit}
+use Rattle.wdf_scene_lines.specs.Spelling.{written_tokens, plain_tokens}
 use Rattle.wdf_parse.specs.StandsFor.{StandsFor, TokenLine, with_token_line, token_lines, spelled_line, version_lines}
-use Rattle.wdf_parse.specs.Tokens.{line_reading, lines_of, is_name_byte}
-use Rattle.wdf_parse.specs.WellFormed.{is_word, is_token}
-use Rattle.wdf_parse.proofs.FormSoundness.{first_part, second_part}
-use Rattle.wdf_parse.proofs.LexedTokens.{read_fit}
 
 both : (x y : Bool) → x ≡ true → y ≡ true → (x && y) ≡ true
 both true y h e = e

@@ -4,7 +4,7 @@ use Rattle.std.specs.Prelude.{◌==◌}
 use Rattle.std.specs.List.{take_while, prefix_len}
 use Rattle.std.proofs.lemmas.List.{drop_all}
 use Rattle.std.proofs.lemmas.List.Sums.{take_while-cons}
-use Rattle.wdf_parse.specs.Tokens.{is_inside, lines_of, with_byte}
+use Rattle.wdf_tokens.specs.Tokens.{is_inside, lines_of, with_byte}
 
 -- the first line of the bytes, and the lines after its end
 abbrev BeginsWith : List ℕ → List ℕ → Type 0

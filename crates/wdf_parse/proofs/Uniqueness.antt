@@ -5,8 +5,8 @@ use Rattle.std.specs.Option.{is_none}
 use Rattle.wdf_scene.specs.declared.block.Block.{Block}
 use Rattle.wdf_scene.specs.Blocks.{Position, front, innermost, is_outside, after_lines}
 use Rattle.wdf_scene.specs.Written.{lines_at, exprs_at}
-use Rattle.wdf_parse.specs.Tokens.{lines_of}
-use Rattle.wdf_parse.proofs.FormSoundness.{first_part, second_part}
+use Rattle.wdf_tokens.specs.Tokens.{lines_of}
+use Rattle.wdf_tokens.proofs.BothParts.{first_part, second_part}
 use Rattle.wdf_scene.specs.declared.line.NumberedLine.{NumberedLine}
 use Rattle.wdf_scene.specs.declared.line.SceneLine.{SceneLine}
 use Rattle.wdf_scene.specs.declared.scene.Scene.{Scene}

@@ -1,15 +1,7 @@
-pub mod Building
 pub mod Canonical
-pub mod Forms
-pub mod Keywords
 pub mod Laws
-pub mod Named
 pub mod Picking
 pub mod Printing
-pub mod Reading
-pub mod Spelling
 pub mod Standing
 pub mod StandsFor
 pub mod Texts
-pub mod Tokens
-pub mod WellFormed

@@ -3,10 +3,10 @@ use Rattle.std.specs.Prelude.{ℕ, Option, Some, None, List, [], ◌∷◌, ◌+
 use Rattle.wdf_scene.specs.declared.line.SceneLine.{SceneLine}
 use Rattle.wdf_scene.specs.declared.scene.Scene.{Scene}
 use Rattle.wdf_scene.specs.Blocks.{may_stand}
+use Rattle.wdf_tokens.specs.declared.token.Token.{Token}
+use Rattle.wdf_scene_lines.specs.declared.statements.Form.{Form}
+use Rattle.wdf_scene_lines.specs.Building.{form_line, form_picks}
 use Rattle.wdf_parse.specs.declared.reader.Reader.{Reader}
-use Rattle.wdf_parse.specs.declared.statements.Form.{Form}
-use Rattle.wdf_parse.specs.declared.token.Token.{Token}
-use Rattle.wdf_parse.specs.Building.{form_line, form_picks}
 use Rattle.wdf_parse.specs.Standing.{standing_after}
 
 -- the scene with one line more

@@ -3,12 +3,13 @@ use Rattle.std.specs.Prelude.{◌≡◌, ℕ, suc, ◌==◌, List, [], ◌∷◌
 use Rattle.wdf_scene.specs.declared.line.NumberedLine.{NumberedLine}
 use Rattle.wdf_scene.specs.declared.scene.Scene.{Scene}
 use Rattle.wdf_scene.specs.Written.{WrittenLine, scene_of, AreLines}
-use Rattle.wdf_parse.specs.declared.keyword.Keyword.TheVariants as keyword
-use Rattle.wdf_parse.specs.declared.lexer.TokenFault.{TokenFault}
-use Rattle.wdf_parse.specs.declared.token.Token.{Token}
-use Rattle.wdf_parse.specs.declared.token.Token.TheVariants as token
-use Rattle.wdf_parse.specs.Spelling.{word, written_tokens}
-use Rattle.wdf_parse.specs.Tokens.{line_reading, lines_of}
+use Rattle.wdf_tokens.specs.declared.keyword.Keyword.TheVariants as keyword
+use Rattle.wdf_tokens.specs.declared.lexer.TokenFault.{TokenFault}
+use Rattle.wdf_tokens.specs.declared.token.Token.{Token}
+use Rattle.wdf_tokens.specs.declared.token.Token.TheVariants as token
+use Rattle.wdf_tokens.specs.WordTokens.{word}
+use Rattle.wdf_tokens.specs.Tokens.{line_reading, lines_of}
+use Rattle.wdf_scene_lines.specs.Spelling.{written_tokens}
 
 -- the tokens of a line, with its number
 pub record TokenLine : Type 0 where

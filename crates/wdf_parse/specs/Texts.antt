@@ -3,20 +3,20 @@ use Rattle.std.specs.Prelude.{◌≡◌, ℕ, suc, ◌+◌, ◌==◌, ◌&&◌, 
 use Rattle.wdf_scene.specs.declared.scene.Scene.{Scene}
 use Rattle.wdf_scene.specs.Blocks.{Position, may_stand}
 use Rattle.wdf_scene.specs.Written.{Written, line_at, nodes_at, picks_in}
-use Rattle.wdf_parse.specs.declared.keyword.Keyword.{Keyword}
-use Rattle.wdf_parse.specs.declared.keyword.Keyword.TheVariants as keyword
-use Rattle.wdf_parse.specs.declared.lexer.TokenFault.{TokenFault}
-use Rattle.wdf_parse.specs.declared.lexer.TokenFault.TheVariants as fault
+use Rattle.wdf_tokens.specs.declared.keyword.Keyword.{Keyword}
+use Rattle.wdf_tokens.specs.declared.keyword.Keyword.TheVariants as keyword
+use Rattle.wdf_tokens.specs.declared.lexer.TokenFault.{TokenFault}
+use Rattle.wdf_tokens.specs.declared.lexer.TokenFault.TheVariants as fault
+use Rattle.wdf_tokens.specs.declared.token.Token.{Token}
+use Rattle.wdf_tokens.specs.declared.token.Token.TheVariants as token
+use Rattle.wdf_tokens.specs.Keywords.{keyword_of}
+use Rattle.wdf_tokens.specs.Tokens.{line_reading, lines_of}
+use Rattle.wdf_scene_lines.specs.Building.{next_node}
+use Rattle.wdf_scene_lines.specs.Reading.{read_written}
 use Rattle.wdf_parse.specs.declared.reader.Reader.{Reader}
 use Rattle.wdf_parse.specs.declared.refusal.ParseRefusal.{ParseRefusal}
 use Rattle.wdf_parse.specs.declared.refusal.ParseRefusal.TheVariants as refusal
-use Rattle.wdf_parse.specs.declared.token.Token.{Token}
-use Rattle.wdf_parse.specs.declared.token.Token.TheVariants as token
-use Rattle.wdf_parse.specs.Building.{next_node}
-use Rattle.wdf_parse.specs.Keywords.{keyword_of}
-use Rattle.wdf_parse.specs.Reading.{read_written}
 use Rattle.wdf_parse.specs.Standing.{start, standing_after, first_number}
-use Rattle.wdf_parse.specs.Tokens.{line_reading, lines_of}
 
 -- before the first line of a text of this version
 abbrev pub opening : ℕ → Reader

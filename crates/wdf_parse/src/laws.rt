@@ -1,31 +1,11 @@
 //! What holds of each text and its scene. The functions do nothing: their contracts are the laws.
-ghost use Rattle.std.specs.Prelude.{◌≡◌, List, Some, Ok, IsTrue};
-ghost use Rattle.std.specs.List.{list_all};
+ghost use Rattle.std.specs.Prelude.{◌≡◌, Ok};
 ghost use Rattle.wdf_scene.specs.declared.scene.Scene.{Scene};
 ghost use Rattle.wdf_scene.specs.Naming.{HasProperNames};
-ghost use Rattle.wdf_scene.specs.Written.{Written, IsScene, is_written};
-ghost use Rattle.wdf_parse.specs.declared.token.Token.{Token};
-ghost use Rattle.wdf_parse.specs.Canonical.{line_bytes};
-ghost use Rattle.wdf_parse.specs.Reading.{read_written};
-ghost use Rattle.wdf_parse.specs.Spelling.{written_tokens};
-ghost use Rattle.wdf_parse.specs.Tokens.{line_reading};
-ghost use Rattle.wdf_parse.specs.WellFormed.{is_token};
+ghost use Rattle.wdf_scene.specs.Written.{IsScene};
 ghost use Rattle.wdf_parse.specs.Laws.{IsReadBack};
 ghost use Rattle.wdf_parse.specs.StandsFor.{StandsFor};
 ghost use Rattle.wdf_parse.specs.Texts.{reading};
-
-/// Tokens that are spelled with one blank between them are read again.
-pub fn spelled_tokens_are_read()
-    ensures { (ts : List Token) → IsTrue (list_all is_token ts) → line_reading (line_bytes ts) ≡ Ok ts }
-{}
-
-/// A line of the language is read from the tokens that spell it, and nothing else is read: of an
-/// expression only a tree.
-pub fn spelled_lines_are_read()
-    ensures read { (w : Written) → IsTrue (is_written w) → read_written (written_tokens w) ≡ Some w }
-    ensures spelled { (ts : List Token) (w : Written) → IsTrue (list_all is_token ts) → read_written ts ≡ Some w → written_tokens w ≡ ts }
-    ensures written { (ts : List Token) (w : Written) → IsTrue (list_all is_token ts) → read_written ts ≡ Some w → IsTrue (is_written w) }
-{}
 
 /// The scene that is read is the one that stands for the text: no other does.
 pub fn one_scene(text: &[u8])

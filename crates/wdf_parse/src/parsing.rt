@@ -1,16 +1,16 @@
 //! A text is read to its scene, or to its first refusal.
 ghost use Rattle.std.specs.Prelude.{◌≡◌, ℕ, ◌+◌, ◌<◌, ◌≤◌, [], length, IfOk, OnOk, IfErr, Ok};
 ghost use Rattle.wdf_scene.specs.Written.{IsScene};
-ghost use Rattle.wdf_parse.specs.Tokens.{lines_of};
+ghost use Rattle.wdf_tokens.specs.Tokens.{lines_of};
 ghost use Rattle.wdf_parse.specs.StandsFor.{StandsFor};
 ghost use Rattle.wdf_parse.specs.Laws.{IsNoScene};
 ghost use Rattle.wdf_parse.specs.Texts as texts;
 
-use crate::lexer::line_len;
 use crate::reader::Reader;
 use crate::refusal::ParseRefusal;
 use std::alloc::Global;
 use wdf_scene::Scene;
+use wdf_tokens::line_len;
 
 /// The most bytes of a text.
 pub const TEXT_LIMIT: usize = 1_048_576;

@@ -1,20 +1,17 @@
 //! A text is read line by line.
 ghost use Rattle.std.specs.Prelude.{◌≡◌, ◌+◌, ◌<◌, ◌≤◌, ◌^◌, ◌++◌, ◌∷◌, [], length, drop, map, IfOk, OnOk, IfErr, Ok};
-ghost use Rattle.wdf_parse.specs.Building.{form_line, form_picks};
-ghost use Rattle.wdf_parse.specs.Reading.{number_in, read_written};
+ghost use Rattle.wdf_scene_lines.specs.Building.{form_line, form_picks};
+ghost use Rattle.wdf_scene_lines.specs.Reading.{number_in, read_written};
 ghost use Rattle.wdf_parse.specs.Picking.{with_line};
 ghost use Rattle.wdf_parse.specs.Texts as texts;
 
-use crate::keyword::Keyword;
-use crate::lexer::{LexError, TokenFault, read_tokens};
-use crate::named::keyword_named;
 use crate::place::Place;
 use crate::refusal::ParseRefusal;
-use crate::statements::{Form, read_line};
-use crate::token::Token;
 use std::alloc::Global;
 use wdf_base::Memory;
 use wdf_scene::{Scene, SceneBuilder, SceneLine};
+use wdf_scene_lines::{Form, read_line};
+use wdf_tokens::{Keyword, LexError, Token, TokenFault, keyword_named, read_tokens};
 
 /// The scene so far, and where the text stands.
 #[derive(Drop)]

@@ -5,7 +5,7 @@ use Rattle.std.proofs.lemmas.List.Sums.{take_while-cons}
 use Rattle.std.proofs.lemmas.Slice.Eq.{bytes_eq-Decides}
 use Rattle.std.specs.List.{list_all, take_while}
 use Rattle.std.specs.Str.{bytes_eq}
-use Rattle.wdf_parse.specs.Tokens.{is_plain, is_blank}
+use Rattle.wdf_tokens.specs.Tokens.{is_plain, is_blank}
 use Rattle.wdf_split.specs.Inputs.{is_idle, is_mark, is_trace_alone, is_trace_first, is_within}
 
 -- the bytes after the blanks

@@ -2,7 +2,7 @@
 use Rattle.std.specs.Prelude.{if◌then◌else◌, ℕ, ◌==◌, ◌&&◌, Bool, true, false, not, List, [], ◌∷◌, codes, drop, take}
 use Rattle.std.specs.List.{list_all, take_while}
 use Rattle.std.specs.Str.{bytes_eq}
-use Rattle.wdf_parse.specs.Tokens.{is_blank, is_plain}
+use Rattle.wdf_tokens.specs.Tokens.{is_blank, is_plain}
 use Rattle.wdf_replay.specs.Lines.{trace_lines, joined_lines}
 
 -- a byte within a line: any but the line feed

@@ -1,7 +1,7 @@
 //! The line between a scenario and a trace.
 ghost use Rattle.std.specs.Prelude.{◌≡◌, ◌≢◌, ◌++◌, ℕ, List, codes, drop, length, IfSome, IfNone};
 ghost use Rattle.std.specs.List.{list_all, take_while};
-ghost use Rattle.wdf_parse.specs.Tokens.{is_plain, is_blank};
+ghost use Rattle.wdf_tokens.specs.Tokens.{is_plain, is_blank};
 ghost use Rattle.wdf_split.specs.Inputs.{is_idle, is_mark, is_trace_alone, is_within};
 
 /// The word that a line between a scenario and a trace is.

@@ -7,10 +7,10 @@ use Rattle.std.specs.Char.{is_ascii_digit, is_ascii_alphabetic}
 use Rattle.wdf_base.specs.declared.call.Callback.{Callback}
 use Rattle.wdf_base.specs.Words.{callback_of}
 use Rattle.wdf_text.specs.Decimals.{small_number}
-use Rattle.wdf_parse.specs.declared.lexer.TokenFault.{TokenFault}
-use Rattle.wdf_parse.specs.declared.lexer.TokenFault.TheVariants as fault
-use Rattle.wdf_parse.specs.declared.token.Token.{Token}
-use Rattle.wdf_parse.specs.Tokens.{is_blank, is_name_byte, piece_of, digits_piece, letters_piece, number_content, name_content, long_name, long_content, pair_token, mark_token, marks_piece, token_at, with_token, tokens_from}
+use Rattle.wdf_tokens.specs.declared.lexer.TokenFault.{TokenFault}
+use Rattle.wdf_tokens.specs.declared.lexer.TokenFault.TheVariants as fault
+use Rattle.wdf_tokens.specs.declared.token.Token.{Token}
+use Rattle.wdf_tokens.specs.Tokens.{is_blank, is_name_byte, piece_of, digits_piece, letters_piece, number_content, name_content, long_name, long_content, pair_token, mark_token, marks_piece, token_at, with_token, tokens_from}
 use Rattle.wdf_text_laws.specs.FirstRefusal.{IsFine, Reaches, IsStuck}
 
 -- ---- a piece has a byte, and its fault says the column

@@ -8,9 +8,9 @@ use Rattle.wdf_scene.specs.declared.line.StatementHead.TheVariants as head
 use Rattle.wdf_scene.specs.Blocks.{Position, front, may_stand, openers_after}
 use Rattle.wdf_scene.specs.Blocks as blocks
 use Rattle.wdf_scene.specs.Written.{Written, Plain, Picked, Single, Calling, WrittenLine, is_written, line_at, lines_at, head_line, written_size}
+use Rattle.wdf_scene_lines.specs.Building.{next_node}
 use Rattle.wdf_parse.specs.declared.reader.Reader.{Reader}
 use Rattle.wdf_parse.specs.declared.refusal.ParseRefusal.{ParseRefusal}
-use Rattle.wdf_parse.specs.Building.{next_node}
 use Rattle.wdf_parse.specs.StandsFor.{token_lines, spelled_line, version_lines}
 use Rattle.wdf_parse.specs.Texts.{opening, with_written, line_taken, after_line, after_lines}
 use Rattle.wdf_parse.proofs.Built.{Adds, adds, all_written}

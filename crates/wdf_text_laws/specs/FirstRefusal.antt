@@ -5,16 +5,16 @@ use Rattle.wdf_scene.specs.declared.line.NumberedLine.{NumberedLine}
 use Rattle.wdf_scene.specs.Blocks.{Position, front, may_stand, openers_after}
 use Rattle.wdf_scene.specs.Blocks as blocks
 use Rattle.wdf_scene.specs.Written.{Written, WrittenLine, is_written, line_at, lines_at}
-use Rattle.wdf_parse.specs.declared.lexer.TokenFault.{TokenFault}
-use Rattle.wdf_parse.specs.declared.lexer.TokenFault.TheVariants as fault
+use Rattle.wdf_tokens.specs.declared.lexer.TokenFault.{TokenFault}
+use Rattle.wdf_tokens.specs.declared.lexer.TokenFault.TheVariants as fault
+use Rattle.wdf_tokens.specs.declared.token.Token.{Token}
+use Rattle.wdf_tokens.specs.Tokens.{is_plain, piece_of, token_at, line_reading, lines_of}
+use Rattle.wdf_scene_lines.specs.Spelling.{written_tokens}
 use Rattle.wdf_parse.specs.declared.refusal.ParseRefusal.{ParseRefusal}
 use Rattle.wdf_parse.specs.declared.refusal.ParseRefusal.TheVariants as refusal
-use Rattle.wdf_parse.specs.declared.token.Token.{Token}
-use Rattle.wdf_parse.specs.Spelling.{written_tokens}
 use Rattle.wdf_parse.specs.Standing.{first_number}
 use Rattle.wdf_parse.specs.StandsFor.{token_lines, spelled_line, version_tokens, version_lines}
 use Rattle.wdf_parse.specs.Texts.{is_at_front}
-use Rattle.wdf_parse.specs.Tokens.{is_plain, piece_of, token_at, line_reading, lines_of}
 
 -- ---- lines that are read
 

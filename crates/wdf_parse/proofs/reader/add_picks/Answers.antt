@@ -1,7 +1,7 @@
 use Rattle.std.proofs.Common.{◌≡◌, ◌++◌, ◌∷◌, [], ap, ◌∙◌, sym, map, take}
 use Rattle.wdf_scene.specs.declared.line.SceneLine.TheVariants as line
 use Rattle.wdf_scene.specs.Scene.{with_pick}
-use Rattle.wdf_parse.specs.Reading.{number_in}
+use Rattle.wdf_scene_lines.specs.Reading.{number_in}
 use Rattle.wdf_parse.specs.Picking.{with_line}
 use Rattle.wdf_parse.proofs.Picking.{with_pick_more, picks_next}
 use Rattle.wdf_parse.proofs.reader.add_picks.Goals as goal

@@ -1,6 +1,6 @@
 use Rattle.std.proofs.Common.{◌≡◌, take, map}
 use Rattle.wdf_scene.specs.declared.line.SceneLine.TheVariants as line
-use Rattle.wdf_parse.specs.Reading.{number_in}
+use Rattle.wdf_scene_lines.specs.Reading.{number_in}
 use Rattle.wdf_parse.specs.Picking.{with_line}
 use Rattle.wdf_parse.proofs.reader.add_picks.Given as goal
 

@@ -1,5 +1,0 @@
-use Rattle.wdf_parse.proofs.Respelling.{line_is_read}
-use Rattle.wdf_parse.proofs.laws.spelled_tokens_are_read.Goals as goal
-
-pub returns : goal.returns
-returns c = λ ts fit. line_is_read ts fit

@@ -1,7 +1,0 @@
-use Rattle.std.proofs.Common.{◌∙◌, ap}
-use Rattle.wdf_parse.specs.Named.{callback_named}
-use Rattle.wdf_parse.proofs.named.callback_named.Goals as goal
-
-pub returns : goal.returns
-unfolding callback_named
-returns c = c.from_word.ensures ∙ ap callback_named c.bytes.ensures.value

@@ -1,0 +1,5 @@
+pub mod Building
+pub mod Forms
+pub mod LineTokens
+pub mod Reading
+pub mod Spelling

@@ -1,0 +1,6 @@
+pub mod BothParts
+pub mod KeywordLaws
+pub mod LexedTokens
+pub mod LineReading
+pub mod Respelling
+pub mod ShortWords
