@@ -63,7 +63,7 @@ pub fn parse(alloc: Global, text: &[u8]) -> Result<Scene, ParseRefusal>
     ensures scene { IfOk result (λ scene. texts.reading text.now ≡ Ok scene) }
     ensures formed { IfOk result (λ scene. IsScene scene) }
 
-    // Want of memory aside, an error is the first refusal, and no scene stands for the text.
+    // But for `Memory`, an error is the first refusal, and no scene stands for the text.
     ensures refused { IfErr result (texts.IsRefusalOf (texts.reading text.now)) }
     ensures none { IfErr result (IsNoScene text.now) }
 {

@@ -138,7 +138,7 @@ fn opened(form: &SceneLine) -> Option<Block>
 impl Place {
     ghost use Rattle.wdf_parse.specs.Standing.{start, shifted, standing_after, first_number};
 
-    /// Before the first line of a text of this version.
+    /// The place before the first line of a text of this version.
     pub fn new(alloc: Global, version: u8) -> Place
         ensures { result ≡ start version }
     {
@@ -211,7 +211,7 @@ impl Place {
         }
     }
 
-    /// Whether a line may stand here.
+    /// Whether a line may be here.
     pub fn may_stand(&self, form: &SceneLine) -> bool
         ensures { result ≡ blocks.may_stand self.now.position form.now }
     {
@@ -295,7 +295,7 @@ impl Place {
         Ok(())
     }
 
-    /// Goes past a line that may stand here. After an error nothing is said of the place.
+    /// Goes past a line that may be here. After an error nothing is said of the place.
     pub fn pass(&mut self, number: u32, form: &SceneLine) -> Result<(), Memory>
         ensures { OnOk result (self.new ≡ standing_after self.old number form.now) }
     {

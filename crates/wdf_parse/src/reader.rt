@@ -13,7 +13,7 @@ use wdf_scene::{Scene, SceneBuilder, SceneLine};
 use wdf_scene_lines::{Form, read_line};
 use wdf_tokens::{Keyword, LexError, Token, TokenFault, keyword_named, read_tokens};
 
-/// The scene so far, and where the text stands.
+/// The scene so far, and where the text is.
 #[derive(Drop)]
 pub struct Reader {
     builder: SceneBuilder,
@@ -101,7 +101,7 @@ impl Reader {
     ghost use Rattle.wdf_parse.specs.Picking.{form_taken, read_taken};
     ghost use Rattle.wdf_parse.specs.Texts as texts;
 
-    /// Before the first line of a text of this version.
+    /// The reader before the first line of a text of this version.
     pub fn new(alloc: Global, version: u8) -> Reader
         ensures { result ≡ texts.opening version }
     {
@@ -111,8 +111,8 @@ impl Reader {
         }
     }
 
-    /// Takes a line that is read, if it may stand here, and answers whether. After its first word
-    /// stand these tokens.
+    /// Takes a line that is read, if it may be here, and answers whether. After its first word
+    /// come these tokens.
     fn take_form(&mut self, number: u32, form: &Form, tokens: &[Token]) -> Result<bool, Memory>
         requires lines { length self.old.builder.lines + 1 < 2 ^ 32 }
         requires few { length tokens.now < 2 ^ 32 }
@@ -147,7 +147,7 @@ impl Reader {
         }
     }
 
-    /// Takes the tokens of a line that isn't `version 2`, if they are a line that may stand here, and
+    /// Takes the tokens of a line that isn't `version 2`, if they are a line that may be here, and
     /// answers whether.
     fn take_tokens(&mut self, number: u32, tokens: &[Token]) -> Result<bool, Memory>
         requires some { 0 < length tokens.now }
@@ -163,7 +163,7 @@ impl Reader {
         }
     }
 
-    /// Takes the tokens of a line, if they may stand here, and answers whether.
+    /// Takes the tokens of a line, if they may be here, and answers whether.
     fn take_any(&mut self, alloc: Global, number: u32, tokens: &[Token]) -> Result<bool, Memory>
         requires some { 0 < length tokens.now }
         requires room { length self.old.builder.exprs + length tokens.now < 2 ^ 32 }

@@ -11,7 +11,7 @@ pub enum ParseRefusal {
     BadToken { line: u32, col: u32 },
     /// The tokens are no line that may stand there, or the text ends before its first three lines:
     /// then it is the line past the last.
-    #[error("line {line}: no line that may stand here")]
+    #[error("line {line}: no line that may be here")]
     BadLine { line: u32 },
     /// The text ends inside a block; the line opened the innermost one.
     #[error("line {line}: the block has no end")]
@@ -19,7 +19,7 @@ pub enum ParseRefusal {
     /// The number at this column is above `u64::MAX`.
     #[error("line {line}, column {col}: the number is too large")]
     NumberTooLarge { line: u32, col: u32 },
-    /// Want of memory.
+    /// There is no memory.
     #[error("out of memory")]
     Memory,
 }

@@ -73,7 +73,7 @@ pub fn read_tree(
     }
 }
 
-/// Reads what stands after the parenthesis that opens.
+/// Reads what comes after the parenthesis that opens.
 #[cycle(tree)]
 fn read_pair(
     builder: &mut SceneBuilder,

@@ -228,7 +228,7 @@ fn are_numbers(tokens: &[Token]) -> bool
     tokens.iter().all(|token| is_number(token))
 }
 
-/// The line `picks`, if numbers stand after the word.
+/// The line `picks`, if numbers come after the word.
 fn picks_form(tokens: &[Token]) -> Option<Form>
     ensures { (s : Scene) → IsFormRead (reading.picks_written tokens.now) result tokens.now s s }
 {

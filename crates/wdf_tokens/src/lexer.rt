@@ -13,7 +13,7 @@ use wdf_text::small_number;
 /// Why a line has no reading.
 #[derive(Clone, Copy, Debug, PartialEq, Eq)]
 pub enum TokenFault {
-    /// A byte of the line is none of a text's, wherever it stands.
+    /// A byte of the line is none of a text's, wherever it is.
     NotAscii,
     /// No token begins at this column, counted in bytes from 1, or a name that is too long.
     BadToken(u32),
@@ -26,7 +26,7 @@ pub enum TokenFault {
 pub enum LexError {
     /// The line has no reading.
     Fault(TokenFault),
-    /// Want of memory.
+    /// There is no memory.
     Memory,
 }
 
