@@ -64,7 +64,7 @@ fn step_cause<A: Agent>(
     }
 }
 
-#[tactic(auto, using(wdf_cpu::proofs::Leasts::least_append))]
+#[tactic(auto, using(wdf_maps::proofs::Leasts::least_append))]
 /// The least frame that runs an EvtIoResume of a device, or that holds a scope lock that one needs.
 fn least_resume_frame<A: Agent>(plan: &IndexedPlan, parts: &Parts<A>, d: ObjectId) -> Option<u32>
     ensures { result ≡ least (waits.resume_frames plan.now parts.now d.0) }

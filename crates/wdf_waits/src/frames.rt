@@ -25,7 +25,7 @@ fn by_held<A: Agent>(plan: &IndexedPlan, parts: &Parts<A>, q: ObjectId) -> Optio
     by_request(plan, parts, least_held_from(plan, parts, q))
 }
 
-#[tactic(auto, using(wdf_cpu::proofs::Leasts::least_append))]
+#[tactic(auto, using(wdf_maps::proofs::Leasts::least_append))]
 /// The least request that the driver holds from a queue, or that waits in it.
 fn by_held_or_waiting<A: Agent>(plan: &IndexedPlan, parts: &Parts<A>, q: ObjectId) -> Option<Cause>
     ensures { result ≡ waits.by_request plan.now parts.now (state.held_from parts.now q.0 ++ waiting_in parts.now.queues q.0) }
@@ -35,7 +35,7 @@ fn by_held_or_waiting<A: Agent>(plan: &IndexedPlan, parts: &Parts<A>, q: ObjectI
     by_request(plan, parts, lesser_if(held, waiting))
 }
 
-#[tactic(auto, using(wdf_cpu::proofs::Leasts::least_append))]
+#[tactic(auto, using(wdf_maps::proofs::Leasts::least_append))]
 /// The least request that the driver holds from a queue, or that returns to it.
 fn by_held_or_returning<A: Agent>(
     plan: &IndexedPlan,

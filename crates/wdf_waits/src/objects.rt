@@ -71,7 +71,7 @@ fn child_cause<A: Agent>(plan: &IndexedPlan, parts: &Parts<A>, o: ObjectId) -> O
     }
 }
 
-#[tactic(auto, using(wdf_cpu::proofs::Leasts::least_append))]
+#[tactic(auto, using(wdf_maps::proofs::Leasts::least_append))]
 /// The least frame that runs on an object, holds its lock or waits for it.
 fn least_user<A: Agent>(parts: &Parts<A>, o: ObjectId) -> Option<u32>
     ensures { result ≡ least (waits.users parts.now o.0) }

@@ -39,7 +39,7 @@ fn least_stage_request<A: Agent>(
     }
 }
 
-#[tactic(auto, using(wdf_cpu::proofs::Leasts::least_append))]
+#[tactic(auto, using(wdf_maps::proofs::Leasts::least_append))]
 /// The least frame that keeps `quiet` of a device: one that runs its EvtInterruptDpc, or that holds a
 /// lock without which its DPC doesn't come.
 fn least_quiet_frame<A: Agent>(plan: &IndexedPlan, parts: &Parts<A>, d: ObjectId) -> Option<u32>
