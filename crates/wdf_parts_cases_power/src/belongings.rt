@@ -5,6 +5,7 @@ use wdf_base::ObjectId;
 use wdf_plans::{Belongings, IndexedPlan};
 
 /// What belongs to an object.
+#[derive(Clone, Copy)]
 struct Belonging {
     id: u32,
     queues: &'static [u32],
@@ -12,19 +13,8 @@ struct Belonging {
     targets: &'static [u32],
 }
 
-/// What belongs to no device.
-const fn nothing(id: u32) -> Belonging {
-    Belonging {
-        id,
-        queues: &[],
-        interrupts: &[],
-        targets: &[],
-    }
-}
-
-/// The two devices; the id of nothing, the driver object, a queue; ids past the ten that are declared, of which
-/// 13 leaves the remainder 2 by eleven, and 16 leaves 5.
-static CASES: [Belonging; 8] = [
+/// The two devices.
+static DEVICES: [Belonging; 2] = [
     Belonging {
         id: 2,
         queues: &[3, 8],
@@ -37,13 +27,11 @@ static CASES: [Belonging; 8] = [
         interrupts: &[],
         targets: &[],
     },
-    nothing(0),
-    nothing(1),
-    nothing(3),
-    nothing(11),
-    nothing(13),
-    nothing(16),
 ];
+
+/// What is no device: the id of nothing, the driver object, a queue, and ids past the ten that are declared, of which
+/// 13 leaves the remainder 2 by eleven, and 16 leaves 5.
+static OTHERS: [u32; 6] = [0, 1, 3, 11, 13, 16];
 
 /// Whether exactly these ids come, in this order.
 fn come(mut found: Belongings<'_>, due: &[u32]) -> bool {
@@ -56,15 +44,40 @@ fn come(mut found: Belongings<'_>, due: &[u32]) -> bool {
     found.next().is_none()
 }
 
-/// The first case that isn't as due.
-fn wrong(plan: &IndexedPlan) -> Option<usize> {
-    for (place, due) in CASES.iter().enumerate() {
-        let device = ObjectId(due.id);
-        if !come(plan.queues_of(device), due.queues)
-            || !come(plan.interrupts_of(device), due.interrupts)
-            || !come(plan.targets_of(device), due.targets)
-        {
-            return Some(place);
+/// Whether exactly this belongs to it.
+fn has(plan: &IndexedPlan, due: &Belonging) -> bool {
+    let device = ObjectId(due.id);
+    come(plan.queues_of(device), due.queues)
+        && come(plan.interrupts_of(device), due.interrupts)
+        && come(plan.targets_of(device), due.targets)
+}
+
+/// The first device that has something else.
+fn wrong_device(plan: &IndexedPlan) -> Option<u32> {
+    for due in DEVICES.iter() {
+        if !has(plan, due) {
+            return Some(due.id);
+        }
+    }
+    None
+}
+
+/// Whether nothing belongs to an id.
+fn has_nothing(plan: &IndexedPlan, id: u32) -> bool {
+    let nothing = Belonging {
+        id,
+        queues: &[],
+        interrupts: &[],
+        targets: &[],
+    };
+    has(plan, &nothing)
+}
+
+/// The first of the others that has something.
+fn wrong_other(plan: &IndexedPlan) -> Option<u32> {
+    for id in OTHERS.iter() {
+        if !has_nothing(plan, *id) {
+            return Some(*id);
         }
     }
     None
@@ -73,6 +86,7 @@ fn wrong(plan: &IndexedPlan) -> Option<usize> {
 #[test]
 fn devices_have_their_own(rt: HostRuntime) -> Result<(), Fail> {
     let plan = IndexedPlan::make(rt.alloc(), plan(rt.alloc(), &WITH_BELONGINGS)?)?;
-    assert_eq!(rt; wrong(&plan), None);
+    assert_eq!(rt; wrong_device(&plan), None);
+    assert_eq!(rt; wrong_other(&plan), None);
     Ok(())
 }
