@@ -11,7 +11,7 @@ use Rattle.wdf_cpu.specs.Kept.{IsLive}
 use Rattle.wdf_cpu.proofs.Live.{live_is_contained}
 use Rattle.wdf_model.specs.rules.Waits.{above_in}
 use Rattle.wdf_maps.specs.Least.{lesser_if}
-pub use Rattle.wdf_maps.proofs.Leasts.{fold_least}
+use Rattle.wdf_maps.proofs.Leasts.{fold_least}
 
 -- ---- the frames above one
 

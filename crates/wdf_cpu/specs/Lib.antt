@@ -5,4 +5,3 @@ pub mod FrameTests
 pub mod Spending
 pub mod InUntils
 pub mod Kept
-pub mod Leasts

@@ -8,7 +8,7 @@ use Rattle.wdf_model.specs.State.{State}
 use Rattle.wdf_model.specs.parts.Deferred.Dpcs.{dpcs_of}
 use Rattle.wdf_model.specs.rules.Starts.{level_fits}
 use Rattle.wdf_model.specs.rules.Waits.{all_cpus, cpu_of_dpc, cpus_with_dpc, has_dpc_of, head_lock, holders_of, no_cpu, stage_cpus}
-use Rattle.wdf_cpu.specs.Leasts.{lesser_if}
+use Rattle.wdf_maps.specs.Least.{lesser_if}
 use Rattle.wdf_waits.specs.Keepers.{head_holders}
 use Rattle.wdf_waits.proofs.Ranges.{all_next, all_stops, all_ends, any_filtered, any_next, any_stops, any_ends, range_whole}
 use Rattle.wdf_waits.proofs.Searches.{find_next, find_stops, find_ends, flat_map_filtered, least_next, least_ends}

@@ -12,7 +12,7 @@ use Rattle.wdf_model.specs.parts.Locks.{scope_of}
 use Rattle.wdf_model.specs.parts.Deferred.Dpcs.{dpcs_of}
 use Rattle.wdf_model.specs.rules.Waits.{has_dpc_of, holders_of, no_cpu, queues_to_resume, resume_cpus, scope_holders, stage_frames}
 use Rattle.wdf_starts.proofs.Passing.{filter_twice}
-use Rattle.wdf_cpu.specs.Leasts.{lesser_if}
+use Rattle.wdf_maps.specs.Least.{lesser_if}
 use Rattle.wdf_waits.specs.Keepers.{frames_on_queue, is_interrupt_at, is_managed_at, is_to_resume, resume_holders, some_resume}
 use Rattle.wdf_waits.proofs.Ranges.{any_filtered, any_next, any_stops, any_ends}
 use Rattle.wdf_waits.proofs.Searches.{flat_map_filtered, least_next, least_ends}

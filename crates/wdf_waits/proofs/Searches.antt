@@ -3,8 +3,9 @@ use Rattle.std.proofs.Common.{◌≡◌, if◌then◌else◌, ℕ, ◌+◌, ◌-
 use Rattle.std.specs.List.{flat_map, range_with_len}
 use Rattle.std.proofs.lemmas.List.Sums.{fold-append}
 use Rattle.wdf_model.specs.Tables.{least, lesser}
-use Rattle.wdf_cpu.specs.Leasts.{lesser_if}
-use Rattle.wdf_cpu.proofs.Leasts.{fold_least, opened, take_while_on}
+use Rattle.wdf_maps.specs.Least.{lesser_if}
+use Rattle.wdf_maps.proofs.Leasts.{fold_least}
+use Rattle.wdf_cpu.proofs.Leasts.{opened, take_while_on}
 use Rattle.wdf_waits.proofs.Ranges.{range_opens, range_ends}
 
 -- ---- the first of a range

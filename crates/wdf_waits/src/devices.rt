@@ -8,10 +8,11 @@ ghost use Rattle.wdf_waits.specs.Lines as lines;
 use crate::causes::{by_frame, least_holder};
 use crate::cpus::no_cpu;
 use crate::keepers::{least_resume_holder, no_cpu_for_resume};
-use crate::least::{least_running, lesser_if};
+use crate::least::least_running;
 use crate::stages::stage_cause;
 use wdf_base::{Agent, Callback, Cause, Handle, ObjectId, OpenThing, Step, WaitLine};
 use wdf_lock::lock_of_callback;
+use wdf_maps::lesser_if;
 use wdf_parts::Parts;
 use wdf_plans::IndexedPlan;
 

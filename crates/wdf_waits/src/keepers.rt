@@ -8,9 +8,10 @@ ghost use Rattle.wdf_waits.specs.Keepers as keepers;
 
 use crate::causes::least_holder;
 use crate::cpus::{has_dpc_of, head_lock, no_cpu};
-use crate::least::{least_on, lesser_if, some_resume};
+use crate::least::{least_on, some_resume};
 use wdf_base::{Agent, Callback, Cpu, ObjectId};
 use wdf_lock::scope_of;
+use wdf_maps::lesser_if;
 use wdf_parts::Parts;
 use wdf_plans::IndexedPlan;
 

@@ -1,40 +1,20 @@
 //! The least frame, and the least request, of those that fit.
 ghost use Rattle.std.specs.Prelude.{◌≡◌, Some, filter, option_map};
-ghost use Rattle.wdf_model.specs.Tables.{ids_of, least, lesser};
+ghost use Rattle.wdf_model.specs.Tables.{ids_of, least};
 ghost use Rattle.wdf_base.specs.declared.event.Stage.TheVariants as stage;
 ghost use Rattle.wdf_model.specs.State.{held_from, waits_for};
 ghost use Rattle.wdf_model.specs.parts.Cpus.{all_frames, frame_of, is_on};
 ghost use Rattle.wdf_model.specs.parts.Requests.{is_returning_to, is_sent_to};
 ghost use Rattle.wdf_model.specs.rules.Waits as waits;
 ghost use Rattle.wdf_waits.specs.Keepers.{some_resume};
-ghost use Rattle.wdf_cpu.specs.Leasts.{lesser_if};
 ghost use Rattle.wdf_waits.specs.Asked.{is_so_of_frame, is_so_of_request};
 
 use crate::asked::{FrameTest, RequestTest};
 use wdf_base::{Agent, Callback, ObjectId};
 use wdf_cpu::Cpus;
+use wdf_maps::lesser_if;
 use wdf_parts::Parts;
 use wdf_plans::IndexedPlan;
-
-/// The lesser of a number and what was found before.
-pub(crate) fn lesser(found: Option<u32>, number: u32) -> u32
-    ensures { Some result ≡ lesser found number }
-{
-    match found {
-        Some(other) if other <= number => other,
-        _ => number,
-    }
-}
-
-/// The lesser of two numbers, either of which may be missing.
-pub(crate) fn lesser_if(found: Option<u32>, number: Option<u32>) -> Option<u32>
-    ensures { result ≡ lesser_if found number }
-{
-    match number {
-        Some(number) => Some(lesser(found, number)),
-        None => found,
-    }
-}
 
 #[tactic(auto, using(crate::proofs::OnFrames::frames_at_first, crate::proofs::OnFrames::frame_kept, crate::proofs::OnFrames::frame_passed, crate::proofs::OnFrames::frames_at_last))]
 /// The least number of the frames of which it is so.
@@ -45,7 +25,7 @@ pub(crate) fn least_frame(cpus: &Cpus, test: FrameTest) -> Option<u32>
     for place in 0..cpus.live_len() {
         let f = cpus.live_at(place);
         if test.is_so(cpus.frame(f)) {
-            least = Some(lesser(least, f.0));
+            least = lesser_if(least, Some(f.0));
         }
     }
     least

@@ -10,8 +10,9 @@ ghost use Rattle.wdf_waits.specs.Lines as lines;
 
 use crate::causes::{by_frame, least_lock_holder};
 use crate::cpus::{DISPATCH_LEVEL, PASSIVE_LEVEL, no_cpu};
-use crate::least::{least_on, least_waiting_for, lesser_if};
+use crate::least::{least_on, least_waiting_for};
 use wdf_base::{Agent, Callback, Cause, Life, ObjectId, OpenThing, Place, WaitLine};
+use wdf_maps::lesser_if;
 use wdf_parts::Parts;
 use wdf_plans::IndexedPlan;
 use wdf_starts::{clean_ready, destroy_ready};

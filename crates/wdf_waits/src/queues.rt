@@ -4,8 +4,8 @@ ghost use Rattle.wdf_model.specs.Tables.{least};
 ghost use Rattle.wdf_model.specs.parts.Queues.{waiting_in};
 ghost use Rattle.wdf_model.specs.rules.Waits as waits;
 
-use crate::least::lesser;
 use wdf_base::{Agent, ObjectId};
+use wdf_maps::lesser_if;
 use wdf_parts::Parts;
 use wdf_queue::Queues;
 
@@ -19,7 +19,7 @@ fn least_waiting_in(queues: &Queues, q: ObjectId) -> Option<u32>
     for _ in 0..queues.len(q) {
         match next {
             Some(r) => {
-                least = Some(lesser(least, r.0));
+                least = lesser_if(least, Some(r.0));
                 next = queues.next_waiting(r);
             }
             None => return least,
@@ -41,7 +41,7 @@ fn least_ahead_in(queues: &Queues, q: ObjectId, r: ObjectId) -> Option<u32>
                 if ahead.0 == r.0 {
                     return least;
                 }
-                least = Some(lesser(least, ahead.0));
+                least = lesser_if(least, Some(ahead.0));
                 next = queues.next_waiting(ahead);
             }
             None => return least,

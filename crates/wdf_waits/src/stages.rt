@@ -8,8 +8,9 @@ ghost use Rattle.wdf_model.specs.rules.Waits as waits;
 use crate::causes::{by_frame, by_request, least_lock_holder};
 use crate::cpus::no_cpu_for_dpc;
 use crate::keepers::{least_head_holder, least_on_managed};
-use crate::least::{least_left_at, least_running, lesser_if};
+use crate::least::{least_left_at, least_running};
 use wdf_base::{Agent, Callback, Cause, Handle, ObjectId, Stage};
+use wdf_maps::lesser_if;
 use wdf_parts::Parts;
 use wdf_plans::IndexedPlan;
 
