@@ -6,13 +6,14 @@ Not part of the gate. From the root:
     python3 bench/gate.py rt ci --anew
 
 It starts the command, and looks once a second at the processes of the prover that the command has started. When the command
-ends, or at an interrupt, it prints a row for each crate: processor seconds of its proof, of the proof of its tests, and of
+ends, or at an interrupt or SIGTERM, it prints a row for each crate: processor seconds of its proof, of the proof of its tests, and of
 its wrong bodies, with how many there were. A process that ends between two looks lacks up to a second, and one that both
 begins and ends between them is missed. What else runs on the machine isn't counted, but makes each second of work longer.
 """
 
 import collections
 import os
+import signal
 import subprocess
 import sys
 import time
@@ -68,6 +69,7 @@ def main(words):
     # A session of its own, so that its processes are known from all others.
     run = subprocess.Popen(words, start_new_session=True)
     seen = {}
+    signal.signal(signal.SIGTERM, signal.default_int_handler)
     try:
         while run.poll() is None:
             look(seen, run.pid)
