@@ -59,9 +59,9 @@ abbrev pub AllApt : {A : Type 0} → Plan → List Deed → State A → Type 0
 AllApt plan [] S = ⊤
 AllApt plan (d ∷ ds) S = Apt plan d S × AllApt plan ds (do_deed plan d S)
 
-pub apt_behind : {A : Type 0} (plan : Plan) (ds es : List Deed) (S : State A) → AllApt plan ds S → AllApt plan es (do_deeds plan ds S) → AllApt plan (ds ++ es) S
-apt_behind plan [] es S h k = k
-apt_behind plan (d ∷ ds) es S h k = (h.0, apt_behind plan ds es (do_deed plan d S) h.1 k)
+pub apt_after : {A : Type 0} (plan : Plan) (ds es : List Deed) (S : State A) → AllApt plan ds S → AllApt plan es (do_deeds plan ds S) → AllApt plan (ds ++ es) S
+apt_after plan [] es S h k = k
+apt_after plan (d ∷ ds) es S h k = (h.0, apt_after plan ds es (do_deed plan d S) h.1 k)
 
 pub either_apt : {A : Type 0} (plan : Plan) (S : State A) (b : Bool) (x y : Outcome) → (b ≡ true → AllApt plan x.deeds S) → (b ≡ false → AllApt plan y.deeds S)
     → AllApt plan (if b then x else y).deeds S

@@ -56,7 +56,7 @@ use Rattle.wdf_invariants.proofs.StepStates.{fit_before}
 use Rattle.wdf_agreements.proofs.Keeping.{Known}
 use Rattle.wdf_deeds.proofs.Walk.{plain_stage, plain_start}
 use Rattle.wdf_deeds.proofs.Passing.{PassesBeside, stage_of, stage_passes, start_effect_passes, start_of}
-use Rattle.wdf_blame_causes.proofs.Apt.{AllApt, IsTaken, all_plain, apt_behind, is_plain, plain_apt, takes}
+use Rattle.wdf_blame_causes.proofs.Apt.{AllApt, IsTaken, all_plain, apt_after, is_plain, plain_apt, takes}
 use Rattle.wdf_blame_causes.proofs.AptCalls.{outcome_apt, second_apt}
 use Rattle.wdf_agreements.proofs.SoundEvents.{top_is}
 
@@ -127,7 +127,7 @@ start_apt plan S cpu c o r k =
     let ds : List Deed = start_effect plan S cpu c o.id.0 r in
     let l : Option LockRef = lock_of_callback plan c o.id.0 (declared_in plan S o.id.0) in
     let off : contains f (do_deeds plan ds S).cpus.parked ≡ false = ap (contains f) (start_parked plan S cpu c o.id.0 r) ∙ off_by_none S.cpus f (no_frame_yet plan S k) in
-    apt_behind plan ds (PushFrame (cpu_of cpu) (frame_id f) (new_frame plan S c o r) (irql_of (callback_irql plan c o.id.0)) ∷ take_if_any f l) S
+    apt_after plan ds (PushFrame (cpu_of cpu) (frame_id f) (new_frame plan S c o r) (irql_of (callback_irql plan c o.id.0)) ∷ take_if_any f l) S
     (plain_apt plan ds S (start_plain plan S cpu c o.id.0 r)) (off, plain_apt plan (take_if_any f l) _ (taking_plain f l))
 
 -- ---- a frame goes on
@@ -136,7 +136,7 @@ goes_on_apt : {A : Type 0} (plan : Plan) (S : State A) (ds : List Deed) (f : ℕ
     → AllApt plan (ds ++ GoOn (frame_id f) next ∷ []) S
 goes_on_apt plan S ds f next h still fit off =
     let s : Still S (do_deeds plan ds S) = deeds_still plan ds S still fit in
-    apt_behind plan ds (GoOn (frame_id f) next ∷ []) S h (ap (contains f) s.parked ∙ off, tt)
+    apt_after plan ds (GoOn (frame_id f) next ∷ []) S h (ap (contains f) s.parked ∙ off, tt)
 
 by_its_top_apt : {A : Type 0} (plan : Plan) (S : State A) (cpu f : ℕ) (what : ℕ → Frame → List Deed) → top S.cpus cpu ≡ Some f → AllApt plan (what f (frame_of S.cpus f)) S → AllApt plan (by_top S cpu what) S
 by_its_top_apt plan S cpu f what t h = subst (λ ds. AllApt plan ds S) (sym (by_its_top S cpu f what t)) h
@@ -151,7 +151,7 @@ did_apt plan S known cpu c v d fit =
     let all : all_fit plan (ds ++ es ++ GoOn (frame_id f) next ∷ []) S ≡ true = subst (λ xs. all_fit plan xs S ≡ true) (by_its_top S cpu f (did_deeds plan S cpu c v) d.about.top) fit in
     by_its_top_apt plan S cpu f (did_deeds plan S cpu c v) d.about.top
     (goes_on_apt plan S (ds ++ es) f next
-    (apt_behind plan ds es S (outcome_apt plan S cpu f c.kind c.count c.a c.b c.c d.about.clean) (second_apt plan (do_deeds plan ds S) f c.kind c.count c.a c.b c.c))
+    (apt_after plan ds es S (outcome_apt plan S cpu f c.kind c.count c.a c.b c.c d.about.clean) (second_apt plan (do_deeds plan ds S) f c.kind c.count c.a c.b c.c))
     (none_behind ds es (outcome_none plan S cpu f c.kind c.count c.a c.b c.c) (second_none f c.kind c.count c.a c.b c.c)) (fit_before plan (ds ++ es) (GoOn (frame_id f) next ∷ []) S all)
     (off_by_top S.cpus cpu f d.about.top (known.frames.once f)))
 

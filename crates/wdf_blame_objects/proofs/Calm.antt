@@ -182,9 +182,9 @@ all_quiet_act : (f : ℕ) (ds : List Deed) → all_quiet ds ≡ true → all_act
 all_quiet_act f [] h = refl
 all_quiet_act f (d ∷ ds) h = both (acts_on f d) (all_act f ds) (quiet_acts f d (both_left (is_quiet_deed d) (all_quiet ds) h)) (all_quiet_act f ds (both_right (is_quiet_deed d) (all_quiet ds) h))
 
-all_act_behind : (f : ℕ) (ds es : List Deed) → all_act f ds ≡ true → all_act f es ≡ true → all_act f (ds ++ es) ≡ true
-all_act_behind f [] es h k = k
-all_act_behind f (d ∷ ds) es h k = both (acts_on f d) (all_act f (ds ++ es)) (both_left (acts_on f d) (all_act f ds) h) (all_act_behind f ds es (both_right (acts_on f d) (all_act f ds) h) k)
+all_act_after : (f : ℕ) (ds es : List Deed) → all_act f ds ≡ true → all_act f es ≡ true → all_act f (ds ++ es) ≡ true
+all_act_after f [] es h k = k
+all_act_after f (d ∷ ds) es h k = both (acts_on f d) (all_act f (ds ++ es)) (both_left (acts_on f d) (all_act f ds) h) (all_act_after f ds es (both_right (acts_on f d) (all_act f ds) h) k)
 
 quiet_all : {A : Type 0} (plan : Plan) (ds : List Deed) (S : State A) → all_quiet ds ≡ true → (do_deeds plan ds S).cpus ≡ S.cpus
 quiet_all plan [] S h = refl
@@ -360,7 +360,7 @@ starts_calm {A} plan S cpu c o r k =
     let ds : List Deed = start_effect plan S cpu c o.id.0 r in
     let es : List Deed = PushFrame (cpu_of cpu) (frame_id f) frame (irql_of level) ∷ take_if_any f l in
     let U : State A = do_deeds plan ds S in
-    let acts : all_act f (ds ++ es) ≡ true = all_act_behind f ds es (all_quiet_act f ds (start_effect_none plan S cpu c o.id.0 r)) (both (f == f) (all_act f (take_if_any f l)) (acts_itself f) (taking_acts f l)) in
+    let acts : all_act f (ds ++ es) ≡ true = all_act_after f ds es (all_quiet_act f ds (start_effect_none plan S cpu c o.id.0 r)) (both (f == f) (all_act f (take_if_any f l)) (acts_itself f) (taking_acts f l)) in
     calm_idle S.cpus (do_deeds plan (ds ++ es) S).cpus f (others_stay plan f (ds ++ es) S acts)
     (ap (λ (V : State A). (frame_of V.cpus f).pending) (in_turn plan ds es S) ∙ pushed U f frame level l) k
   where
@@ -385,7 +385,7 @@ event_calm plan m S (event.Did c k v) h l =
     let f : ℕ = d.frame in
     let ds : List Deed = (outcome plan S c.0 f k).deeds ++ second_deeds f k in
     at_top plan S c.0 f (did_deeds plan S c.0 k v) d.about.top
-    (answered_calm plan S f ds (answered plan (frame_of S.cpus f) v) (all_act_behind f (outcome plan S c.0 f k).deeds (second_deeds f k) (outcome_acts plan S c.0 f k.kind k.count k.a k.b k.c) (second_acts f k.kind k.count k.a k.b k.c)) refl l)
+    (answered_calm plan S f ds (answered plan (frame_of S.cpus f) v) (all_act_after f (outcome plan S c.0 f k).deeds (second_deeds f k) (outcome_acts plan S c.0 f k.kind k.count k.a k.b k.c) (second_acts f k.kind k.count k.a k.b k.c)) refl l)
 event_calm plan m S (event.Waiting c k) h l =
     let d = waiting_tells plan m S c k h in
     at_top plan S c.0 d.frame (waiting_deeds plan S c.0 k) d.about.top (waits_calm plan S c.0 d.frame k (outcome plan S c.0 d.frame k).answer d.about.top d.about.clean d.unmet l)

@@ -93,7 +93,7 @@ use Rattle.wdf_agreements.proofs.Subtrees.{first_out, parent_in}
 use Rattle.wdf_blame_whole.proofs.Belonging.{device_of_target, target_found}
 use Rattle.wdf_blame_whole.proofs.Lasting.{Lasts, last_step}
 use Rattle.wdf_blame_whole.proofs.Standing.{AllComes, Removable, Stands, defers, ready_in}
-use Rattle.wdf_blame_whole.proofs.Plains.{comes_behind, event_plain, outcome_plain, plain_comes, second_plain}
+use Rattle.wdf_blame_whole.proofs.Plains.{comes_after, event_plain, outcome_plain, plain_comes, second_plain}
 
 -- ---- what is known of a state of a run
 
@@ -446,13 +446,13 @@ module _ {A : Type 0} (plan : Plan) (S : State A) (resolved : IsResolved plan) (
       let d = did_tells plan m S c0 c v h in
       let f : ℕ = d.frame in
       by_its_top_comes c0.0 f (did_deeds plan S c0.0 c v) d.about.top
-      (comes_behind plan ((outcome plan S c0.0 f c).deeds ++ second_deeds f c) (GoOn (frame_id f) (answered plan (frame_of S.cpus f) v) ∷ []) S
-      (comes_behind plan (outcome plan S c0.0 f c).deeds (second_deeds f c) S (outcome_comes c0.0 f c.kind c.count c.a c.b c.c d.about.clean) (plain_comes plan (second_deeds f c) _ (second_plain f c))) (tt, tt))
+      (comes_after plan ((outcome plan S c0.0 f c).deeds ++ second_deeds f c) (GoOn (frame_id f) (answered plan (frame_of S.cpus f) v) ∷ []) S
+      (comes_after plan (outcome plan S c0.0 f c).deeds (second_deeds f c) S (outcome_comes c0.0 f c.kind c.count c.a c.b c.c d.about.clean) (plain_comes plan (second_deeds f c) _ (second_plain f c))) (tt, tt))
   event_comes m (event.Waiting c0 c) h =
       let d = waiting_tells plan m S c0 c h in
       let f : ℕ = d.frame in
       by_its_top_comes c0.0 f (waiting_deeds plan S c0.0 c) d.about.top
-      (comes_behind plan (outcome plan S c0.0 f c).deeds (GoOn (frame_id f) (waiting (frame_of S.cpus f) c (outcome plan S c0.0 f c).answer) ∷ []) S (outcome_comes c0.0 f c.kind c.count c.a c.b c.c d.about.clean) (tt, tt))
+      (comes_after plan (outcome plan S c0.0 f c).deeds (GoOn (frame_id f) (waiting (frame_of S.cpus f) c (outcome plan S c0.0 f c).answer) ∷ []) S (outcome_comes c0.0 f c.kind c.count c.a c.b c.c d.about.clean) (tt, tt))
   event_comes m (event.End c0 c o v) h =
       let d = end_tells plan m S c0 c o v h in
       ends_comes c0.0 (lock_of_callback plan c o.id.0 (declared_in plan S o.id.0)) (end_of_step plan S (row_of c).rank c o.id.0 v) (λ U e. ending_comes c0.0 c o v (row_of c).rank U e (step_runs c0.0 c o v d))

@@ -42,9 +42,9 @@ pub plain_comes : {A : Type 0} (plan : Plan) (ds : List Deed) (S : State A) → 
 plain_comes plan [] S h = tt
 plain_comes plan (d ∷ ds) S h = (plain_one plan d S (both_left (is_plain d) (all_plain ds) h), plain_comes plan ds (do_deed plan d S) (both_right (is_plain d) (all_plain ds) h))
 
-pub comes_behind : {A : Type 0} (plan : Plan) (ds es : List Deed) (S : State A) → AllComes plan ds S → AllComes plan es (do_deeds plan ds S) → AllComes plan (ds ++ es) S
-comes_behind plan [] es S h k = k
-comes_behind plan (d ∷ ds) es S h k = (h.0, comes_behind plan ds es (do_deed plan d S) h.1 k)
+pub comes_after : {A : Type 0} (plan : Plan) (ds es : List Deed) (S : State A) → AllComes plan ds S → AllComes plan es (do_deeds plan ds S) → AllComes plan (ds ++ es) S
+comes_after plan [] es S h k = k
+comes_after plan (d ∷ ds) es S h k = (h.0, comes_after plan ds es (do_deed plan d S) h.1 k)
 
 -- the calls of whose deeds something is asked
 abbrev pub is_asking_call : CallKind → Bool

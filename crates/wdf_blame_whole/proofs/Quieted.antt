@@ -82,9 +82,9 @@ none_serves : {A : Type 0} (plan : Plan) (ds : List Deed) (S : State A) → none
 none_serves plan [] S h = tt
 none_serves plan (d ∷ ds) S h = (calm_one plan d S (both_left (not (is_moving d)) (none_moves ds) h), none_serves plan ds (do_deed plan d S) (both_right (not (is_moving d)) (none_moves ds) h))
 
-serves_behind : {A : Type 0} (plan : Plan) (ds es : List Deed) (S : State A) → AllServes plan ds S → AllServes plan es (do_deeds plan ds S) → AllServes plan (ds ++ es) S
-serves_behind plan [] es S h k = k
-serves_behind plan (d ∷ ds) es S h k = (h.0, serves_behind plan ds es (do_deed plan d S) h.1 k)
+serves_after : {A : Type 0} (plan : Plan) (ds es : List Deed) (S : State A) → AllServes plan ds S → AllServes plan es (do_deeds plan ds S) → AllServes plan (ds ++ es) S
+serves_after plan [] es S h k = k
+serves_after plan (d ∷ ds) es S h k = (h.0, serves_after plan ds es (do_deed plan d S) h.1 k)
 
 -- ---- events
 
@@ -137,7 +137,7 @@ module _ {A : Type 0} (plan : Plan) (m : Meaning A) (S : State A) (facts : Facts
   starts cpu c o r may_come =
       let ready : is_ready_for plan m S cpu c o.id.0 r ≡ true = search (both_left, both_right) in
       let l : Option LockRef = lock_of_callback plan c o.id.0 (declared_in plan S o.id.0) in
-      serves_behind plan (start_effect plan S cpu c o.id.0 r) (PushFrame (cpu_of cpu) (frame_id (next_number S)) (new_frame plan S c o r) (irql_of (callback_irql plan c o.id.0)) ∷ take_if_any (next_number S) l) S
+      serves_after plan (start_effect plan S cpu c o.id.0 r) (PushFrame (cpu_of cpu) (frame_id (next_number S)) (new_frame plan S c o r) (irql_of (callback_irql plan c o.id.0)) ∷ take_if_any (next_number S) l) S
       (begins_by cpu c o.id.0 r ready) (tt, taking_calm (next_number S) l _)
 
   -- ---- callbacks end

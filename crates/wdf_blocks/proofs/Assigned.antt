@@ -3,7 +3,7 @@ use Rattle.std.proofs.Common.{◌≡◌, ℕ, suc, ◌+◌, ◌<◌, ◌≤◌, 
 use Rattle.std.proofs.lemmas.List.{drop_all}
 use Rattle.wdf_scene.specs.declared.line.NumberedLine.{NumberedLine}
 use Rattle.wdf_scene.specs.declared.scene.Scene.{Scene}
-use Rattle.wdf_blocks.specs.Blocks.{ends_block, depth_behind}
+use Rattle.wdf_blocks.specs.Blocks.{ends_block, depth_after}
 use Rattle.wdf_blocks.specs.Forms.{assigned_name}
 use Rattle.wdf_blocks.specs.Variables.{assigned_from, with_assigned, variables}
 use Rattle.wdf_blocks.proofs.Scans.{depth_less}
@@ -13,7 +13,7 @@ pub record IsCollected (lines : List NumberedLine) (from depth k : ℕ) (names :
   pub answer : assigned_from [] 0 (drop from lines) ≡ assigned_from names depth (drop k lines)
   pub small : depth + from ≤ k
 
-step : (lines : List NumberedLine) (depth k : ℕ) (names : List (List ℕ)) (l : NumberedLine) → k < length lines → l ≡ get_or lines k l → assigned_from names depth (drop k lines) ≡ cond (ends_block depth l.form) names (assigned_from (with_assigned names (assigned_name l.form)) (depth_behind depth l.form) (drop (suc k) lines))
+step : (lines : List NumberedLine) (depth k : ℕ) (names : List (List ℕ)) (l : NumberedLine) → k < length lines → l ≡ get_or lines k l → assigned_from names depth (drop k lines) ≡ cond (ends_block depth l.form) names (assigned_from (with_assigned names (assigned_name l.form)) (depth_after depth l.form) (drop (suc k) lines))
 unfolding assigned_from
 step lines depth k names l here is = rw (drop-cons lines k l) (rw (← is) refl)
 
@@ -23,7 +23,7 @@ collect_over lines from depth k names l s here is ends =
     rw (s.answer, step lines depth k names l here is, ← ends) refl
 
 -- it goes on after a line
-pub collect_more : (lines : List NumberedLine) (from depth depth' k : ℕ) (names names' : List (List ℕ)) (l : NumberedLine) (o : Option (List ℕ)) → IsCollected lines from depth k names → k < length lines → l ≡ get_or lines k l → false ≡ ends_block depth l.form → o ≡ assigned_name l.form → names' ≡ with_assigned names o → depth' ≡ depth_behind depth l.form → IsCollected lines from depth' (k + 1) names'
+pub collect_more : (lines : List NumberedLine) (from depth depth' k : ℕ) (names names' : List (List ℕ)) (l : NumberedLine) (o : Option (List ℕ)) → IsCollected lines from depth k names → k < length lines → l ≡ get_or lines k l → false ≡ ends_block depth l.form → o ≡ assigned_name l.form → names' ≡ with_assigned names o → depth' ≡ depth_after depth l.form → IsCollected lines from depth' (k + 1) names'
 collect_more lines from depth depth' k names names' l o s here is ends found grown deep =
     rw (deep, add-one, grown, found) (record {
       answer = s.answer ∙ (step lines depth k names l here is ∙ rw (← ends) refl);

@@ -4,7 +4,7 @@ use Rattle.std.proofs.lemmas.List.{drop_all}
 use Rattle.wdf_scene.specs.declared.line.NumberedLine.{NumberedLine}
 use Rattle.wdf_blocks.specs.declared.attribute.Attribute.{Attribute}
 use Rattle.wdf_scene.specs.declared.scene.Scene.{Scene}
-use Rattle.wdf_blocks.specs.Blocks.{given, given_from, counts_for, ends_block, depth_behind}
+use Rattle.wdf_blocks.specs.Blocks.{given, given_from, counts_for, ends_block, depth_after}
 
 -- the search came to line k at this depth
 pub record IsScanned (a : Attribute) (lines : List NumberedLine) (from depth k : ℕ) : Type 0 where
@@ -12,7 +12,7 @@ pub record IsScanned (a : Attribute) (lines : List NumberedLine) (from depth k :
   pub behind : from ≤ k
   pub small : depth + from ≤ k
 
-scan_step : (a : Attribute) (lines : List NumberedLine) (depth k : ℕ) (l : NumberedLine) → k < length lines → l ≡ get_or lines k l → given_from a depth k (drop k lines) ≡ cond (counts_for a depth l.form) (Some k) (cond (ends_block depth l.form) None (given_from a (depth_behind depth l.form) (suc k) (drop (suc k) lines)))
+scan_step : (a : Attribute) (lines : List NumberedLine) (depth k : ℕ) (l : NumberedLine) → k < length lines → l ≡ get_or lines k l → given_from a depth k (drop k lines) ≡ cond (counts_for a depth l.form) (Some k) (cond (ends_block depth l.form) None (given_from a (depth_after depth l.form) (suc k) (drop (suc k) lines)))
 unfolding given_from
 scan_step a lines depth k l here is = rw (drop-cons lines k l) (rw (← is) refl)
 
@@ -37,7 +37,7 @@ depth_less depth n m false true h = omega arith
 depth_less depth n m false false h = omega arith
 
 -- it goes on after a line
-pub scan_more : (a : Attribute) (lines : List NumberedLine) (from depth depth' k : ℕ) (l : NumberedLine) → IsScanned a lines from depth k → k < length lines → l ≡ get_or lines k l → false ≡ counts_for a depth l.form → false ≡ ends_block depth l.form → depth' ≡ depth_behind depth l.form → IsScanned a lines from depth' (k + 1)
+pub scan_more : (a : Attribute) (lines : List NumberedLine) (from depth depth' k : ℕ) (l : NumberedLine) → IsScanned a lines from depth k → k < length lines → l ≡ get_or lines k l → false ≡ counts_for a depth l.form → false ≡ ends_block depth l.form → depth' ≡ depth_after depth l.form → IsScanned a lines from depth' (k + 1)
 scan_more a lines from depth depth' k l s here is counts ends deep =
     rw (deep, add-one) (record {
       answer = s.answer ∙ (scan_step a lines depth k l here is ∙ rw (← counts, ← ends) refl);

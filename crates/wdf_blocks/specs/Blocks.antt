@@ -15,8 +15,8 @@ use Rattle.wdf_blocks.specs.Attribute.{gives, is_device_wide}
 use Rattle.wdf_blocks.specs.Forms.{opens, is_end, is_driver}
 
 -- how deep in the block the next line stands, where this one stands at this depth and doesn't end the block
-abbrev pub depth_behind : ℕ → SceneLine → ℕ
-depth_behind depth form = cond (opens form) (suc depth) (cond (is_end form) (depth - 1) depth)
+abbrev pub depth_after : ℕ → SceneLine → ℕ
+depth_after depth form = cond (opens form) (suc depth) (cond (is_end form) (depth - 1) depth)
 
 -- a line at this depth of the block gives it the attribute
 abbrev pub counts_for : Attribute → ℕ → SceneLine → Bool
@@ -33,7 +33,7 @@ unfoldable pub given_from : Attribute → ℕ → ℕ → List NumberedLine → 
 given_from a depth k [] = None
 given_from a depth k (l ∷ ls) =
     cond (counts_for a depth l.form) (Some k)
-    (cond (ends_block depth l.form) None (given_from a (depth_behind depth l.form) (suc k) ls))
+    (cond (ends_block depth l.form) None (given_from a (depth_after depth l.form) (suc k) ls))
 
 -- the place of the first line that gives the attribute to the block, or to the device, that line b opened
 unfoldable pub given : Scene → ℕ → Attribute → Option ℕ

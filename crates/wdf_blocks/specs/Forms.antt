@@ -79,14 +79,14 @@ assigned_name (line.Get x r) = Some x
 assigned_name _ = None
 
 -- the nodes that end after an argument, where n stand before it
-unfoldable pub nodes_behind : ℕ → SceneArg → ℕ
-nodes_behind n (arg.Expression e) = suc e
-nodes_behind n _ = n
+unfoldable pub nodes_after : ℕ → SceneArg → ℕ
+nodes_after n (arg.Expression e) = suc e
+nodes_after n _ = n
 
 -- how many nodes stand up to the end of the line, where n stand before it
 unfoldable pub nodes_end : ℕ → SceneLine → ℕ
 nodes_end n (line.Let x e) = suc e
-nodes_end n (line.Call k into a b c) = nodes_behind (nodes_behind (nodes_behind n a) b) c
+nodes_end n (line.Call k into a b c) = nodes_after (nodes_after (nodes_after n a) b) c
 nodes_end n (line.Put r e) = suc e
 nodes_end n (line.If e) = suc e
 nodes_end n (line.Repeat e) = suc e

@@ -5,7 +5,7 @@ use Rattle.std.specs.Str.{bytes_eq}
 use Rattle.wdf_scene.specs.declared.line.NumberedLine.{NumberedLine}
 use Rattle.wdf_scene.specs.declared.scene.Scene.{Scene}
 use Rattle.wdf_blocks.specs.declared.placed.Placed.{Placed}
-use Rattle.wdf_blocks.specs.Blocks.{depth_behind, ends_block}
+use Rattle.wdf_blocks.specs.Blocks.{depth_after, ends_block}
 use Rattle.wdf_blocks.specs.Forms.{assigned_name}
 
 -- the names with one more, if it is none of them
@@ -20,7 +20,7 @@ with_assigned names (Some n) = with_name names n
 unfoldable pub assigned_from : List (List ℕ) → ℕ → List NumberedLine → List (List ℕ)
 assigned_from names depth [] = names
 assigned_from names depth (l ∷ ls) =
-    cond (ends_block depth l.form) names (assigned_from (with_assigned names (assigned_name l.form)) (depth_behind depth l.form) ls)
+    cond (ends_block depth l.form) names (assigned_from (with_assigned names (assigned_name l.form)) (depth_after depth l.form) ls)
 
 -- the variables of the callback that line k begins, in the order in which they are first assigned
 unfoldable pub variables : Scene → ℕ → List (List ℕ)

@@ -25,9 +25,9 @@ pub fn ends_block(depth: u32, form: &SceneLine) -> bool
 }
 
 /// How many blocks inside it are open after a line.
-pub fn depth_behind(depth: u32, form: &SceneLine) -> u32
+pub fn depth_after(depth: u32, form: &SceneLine) -> u32
     requires { depth + 1 < 2 ^ 32 }
-    ensures { result ≡ blocks.depth_behind depth form.now }
+    ensures { result ≡ blocks.depth_after depth form.now }
 {
     if opens(form) {
         depth + 1
@@ -53,7 +53,7 @@ fn given_from(attribute: Attribute, lines: &[NumberedLine], from: u32) -> Option
         if ends_block(depth, &line.form) {
             return None;
         }
-        depth = depth_behind(depth, &line.form);
+        depth = depth_after(depth, &line.form);
         at += 1;
     }
     None

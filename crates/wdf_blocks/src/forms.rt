@@ -160,9 +160,9 @@ pub fn assigned_name(form: &SceneLine) -> Option<Name>
     }
 }
 
-#[tactic(auto, unfolding(crate::specs::Forms::nodes_behind))]
-fn nodes_behind(before: u64, arg: &SceneArg) -> u64
-    ensures { result ≡ forms.nodes_behind before arg.now }
+#[tactic(auto, unfolding(crate::specs::Forms::nodes_after))]
+fn nodes_after(before: u64, arg: &SceneArg) -> u64
+    ensures { result ≡ forms.nodes_after before arg.now }
 {
     match arg {
         SceneArg::Expression(e) => u64::from(*e) + 1,
@@ -178,7 +178,7 @@ pub fn nodes_end(before: u64, form: &SceneLine) -> u64
     match form {
         SceneLine::Let { value, .. } => u64::from(*value) + 1,
         SceneLine::Call { a, b, c, .. } => {
-            nodes_behind(nodes_behind(nodes_behind(before, a), b), c)
+            nodes_after(nodes_after(nodes_after(before, a), b), c)
         }
         SceneLine::Put { value, .. } => u64::from(*value) + 1,
         SceneLine::If { test } => u64::from(*test) + 1,

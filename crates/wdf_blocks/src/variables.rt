@@ -2,7 +2,7 @@
 ghost use Rattle.std.specs.Prelude.{◌≡◌, [], IfOk, OnOk, OnErr, ◌+◌, ◌<◌, ◌^◌, length, drop};
 ghost use Rattle.wdf_blocks.specs.Variables as spec;
 
-use crate::block::{depth_behind, ends_block};
+use crate::block::{depth_after, ends_block};
 use crate::forms::assigned_name;
 use indexmap::IndexSet;
 use std::alloc::Global;
@@ -78,7 +78,7 @@ fn assigned_from(alloc: Global, lines: &[NumberedLine], from: u32) -> Result<Var
             Ok(()) => {}
             Err(error) => return Err(error),
         }
-        depth = depth_behind(depth, &line.form);
+        depth = depth_after(depth, &line.form);
         at += 1;
     }
     Ok(variables)

@@ -82,9 +82,9 @@ plain_stage = event.Stage some_object stage.Settled None
 
 -- ---- lists of deeds
 
-pub all_behind : (p : Deed → Bool) (ds es : List Deed) → list_all p ds ≡ true → list_all p es ≡ true → list_all p (ds ++ es) ≡ true
-all_behind p [] es h k = k
-all_behind p (d ∷ ds) es h k = both (p d) (list_all p (ds ++ es)) (both_left (p d) (list_all p ds) h) (all_behind p ds es (both_right (p d) (list_all p ds) h) k)
+pub all_after : (p : Deed → Bool) (ds es : List Deed) → list_all p ds ≡ true → list_all p es ≡ true → list_all p (ds ++ es) ≡ true
+all_after p [] es h k = k
+all_after p (d ∷ ds) es h k = both (p d) (list_all p (ds ++ es)) (both_left (p d) (list_all p ds) h) (all_after p ds es (both_right (p d) (list_all p ds) h) k)
 
 -- deeds that pass a test pass any that follows from it
 pub all_pass : (p q : Deed → Bool) → ((d : Deed) → p d ≡ true → q d ≡ true) → (ds : List Deed) → list_all p ds ≡ true → list_all q ds ≡ true
@@ -270,26 +270,26 @@ by_top_may e S ds h (Some f) = h f (frame_of S.cpus f)
 
 pub event_may : {A : Type 0} (plan : Plan) (S : State A) (e : Event) → all_may e (deeds plan S e) ≡ true
 event_may plan S (event.Start k c o r) =
-    all_behind (may_do (event.Start k c o r)) (start_effect plan S k.0 c o.id.0 r) (PushFrame k (frame_id (next_number S)) (new_frame plan S c o r) (irql_of (callback_irql plan c o.id.0)) ∷ take_if_any (next_number S) (lock_of_callback plan c o.id.0 (declared_in plan S o.id.0)))
+    all_after (may_do (event.Start k c o r)) (start_effect plan S k.0 c o.id.0 r) (PushFrame k (frame_id (next_number S)) (new_frame plan S c o r) (irql_of (callback_irql plan c o.id.0)) ∷ take_if_any (next_number S) (lock_of_callback plan c o.id.0 (declared_in plan S o.id.0)))
     (all_beside plain_start (event.Start k c o r) (start_effect plan S k.0 c o.id.0 r) (start_effect_may plan S k k.0 c o o.id.0 r r)) (taking_may k c o r (next_number S) (lock_of_callback plan c o.id.0 (declared_in plan S o.id.0)))
 event_may plan S (event.Local k line) = by_top_may (event.Local k line) S (λ f frame. GoOn (frame_id f) (stepped frame (intent_of plan frame)) ∷ []) (λ f frame. refl) (top S.cpus k.0)
 event_may plan S (event.Log k v) = by_top_may (event.Log k v) S (λ f frame. GoOn (frame_id f) (goes_on plan frame) ∷ []) (λ f frame. refl) (top S.cpus k.0)
 event_may plan S (event.Spend k n) = by_top_may (event.Spend k n) S (λ f frame. GoOn (frame_id f) (spending plan S frame n) ∷ []) (λ f frame. refl) (top S.cpus k.0)
 event_may plan S (event.Register k a r v) = by_top_may (event.Register k a r v) S (λ f frame. GoOn (frame_id f) (answered plan frame (Num v)) ∷ []) (λ f frame. refl) (top S.cpus k.0)
 event_may plan S (event.Did k c v) =
-    by_top_may (event.Did k c v) S (did_deeds plan S k.0 c v) (λ f frame. all_behind (may_do (event.Did k c v)) ((outcome plan S k.0 f c).deeds ++ second_deeds f c) (GoOn (frame_id f) (answered plan frame v) ∷ [])
-    (all_behind (may_do (event.Did k c v)) (outcome plan S k.0 f c).deeds (second_deeds f c)
+    by_top_may (event.Did k c v) S (did_deeds plan S k.0 c v) (λ f frame. all_after (may_do (event.Did k c v)) ((outcome plan S k.0 f c).deeds ++ second_deeds f c) (GoOn (frame_id f) (answered plan frame v) ∷ [])
+    (all_after (may_do (event.Did k c v)) (outcome plan S k.0 f c).deeds (second_deeds f c)
     (all_pass (may_do (event.Waiting k c)) (may_do (event.Did k c v)) (first_did k c v) (outcome plan S k.0 f c).deeds (firsts plan S k f c))
     (all_pass (may_do (event.Woke k c v)) (may_do (event.Did k c v)) (second_did k c v) (second_deeds f c) (seconds k f c v))) refl) (top S.cpus k.0)
 event_may plan S (event.Waiting k c) =
     by_top_may (event.Waiting k c) S (waiting_deeds plan S k.0 c)
-    (λ f frame. all_behind (may_do (event.Waiting k c)) (outcome plan S k.0 f c).deeds (GoOn (frame_id f) (waiting frame c (outcome plan S k.0 f c).answer) ∷ []) (firsts plan S k f c) refl) (top S.cpus k.0)
+    (λ f frame. all_after (may_do (event.Waiting k c)) (outcome plan S k.0 f c).deeds (GoOn (frame_id f) (waiting frame c (outcome plan S k.0 f c).answer) ∷ []) (firsts plan S k f c) refl) (top S.cpus k.0)
 event_may plan S (event.Woke k c v) =
-    by_top_may (event.Woke k c v) S (woke_deeds plan c v) (λ f frame. all_behind (may_do (event.Woke k c v)) (second_deeds f c) (GoOn (frame_id f) (answered plan frame v) ∷ []) (seconds k f c v) refl) (top S.cpus k.0)
+    by_top_may (event.Woke k c v) S (woke_deeds plan c v) (λ f frame. all_after (may_do (event.Woke k c v)) (second_deeds f c) (GoOn (frame_id f) (answered plan frame v) ∷ []) (seconds k f c v) refl) (top S.cpus k.0)
 event_may plan S (event.Park k f) = refl
 event_may plan S (event.Unpark k f) = refl
 event_may plan S (event.End k c o v) =
-    all_behind (may_do (event.End k c o v)) (release_if_any (lock_of_callback plan c o.id.0 (declared_in plan S o.id.0))) (PopFrame k ∷ end_of_step plan S (row_of c).rank c o.id.0 v)
+    all_after (may_do (event.End k c o v)) (release_if_any (lock_of_callback plan c o.id.0 (declared_in plan S o.id.0))) (PopFrame k ∷ end_of_step plan S (row_of c).rank c o.id.0 v)
     (releasing_may k c o v (lock_of_callback plan c o.id.0 (declared_in plan S o.id.0))) (all_beside plain_end (event.End k c o v) (end_of_step plan S (row_of c).rank c o.id.0 v) (step_may plan S k c o o.id.0 v))
 event_may plan S (event.Fault k x line) = refl
 event_may plan S (event.Stage d s i) = all_beside plain_stage (event.Stage d s i) (stage_effect plan d.id.0 s i) (stage_may plan d d.id.0 s i i)

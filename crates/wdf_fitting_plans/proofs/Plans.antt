@@ -36,7 +36,7 @@ use Rattle.wdf_plan.specs.Parts.{agent, app_agent, app_post, app_post_in, device
 use Rattle.wdf_blocks.specs.Placed.{counted, nothing, opened_by, outside, placed, placed_from}
 use Rattle.wdf_plan.specs.Plans.{all_agents, plan_of, plan_with}
 use Rattle.wdf_refusals.specs.Rows.{nodes_of}
-use Rattle.wdf_plan.specs.Scripts.{act_on, blocks_behind, ends_callback, loop_line, named_node, nest_at, node_of, nodes_on, number_behind, outer, owner_of, script_on, statement_at, statement_on, statements_from, statements_of, told_line}
+use Rattle.wdf_plan.specs.Scripts.{act_on, nests_after, ends_callback, loop_line, named_node, nest_at, node_of, nodes_on, number_after, outer, owner_of, script_on, statement_at, statement_on, statements_from, statements_of, told_line}
 use Rattle.wdf_blocks.specs.Variables.{variable_number, variables, variables_at}
 use Rattle.wdf_refusals.proofs.Every.{Every, every_append, every_at, every_kept, some_has}
 use Rattle.wdf_plan_events.specs.PostNumbers.{ActionNumbersFit, PostNumbersFit}
@@ -198,8 +198,8 @@ abbrev NestFits : ℕ → Nest → Type 0
 NestFits most nest.Branch = Unit {0}
 NestFits most (nest.Loop own n) = own ≤ most
 
-blocks_fit : (most : ℕ) (blocks : List Nest) (n number : ℕ) (form : SceneLine) → number ≤ most → Every (NestFits most) blocks → Every (NestFits most) (blocks_behind blocks n number form)
-unfolding blocks_behind
+blocks_fit : (most : ℕ) (blocks : List Nest) (n number : ℕ) (form : SceneLine) → number ≤ most → Every (NestFits most) blocks → Every (NestFits most) (nests_after blocks n number form)
+unfolding nests_after
 blocks_fit most blocks n number (line.If e) h each = every_append (NestFits most) blocks (nest.Branch ∷ []) each (tt, tt)
 blocks_fit most blocks n number (line.Repeat e) h each = every_append (NestFits most) blocks (nest.Loop number n ∷ []) each (h, tt)
 blocks_fit most blocks n number line.End h each = every_taken (NestFits most) (length blocks - 1) blocks each
@@ -254,8 +254,8 @@ unfolding statements_from
 statements_fit most names vs blocks n [] h each = tt
 statements_fit most names vs blocks n (l ∷ ls) h each =
     either_statements most (ends_callback blocks l.form) _
-    (with_one most (statement_at names vs blocks n l ls) _ (statement_fits most names vs blocks (blocks_behind blocks n l.number l.form) n l ls h.0.1 each)
-    (statements_fit most names vs (blocks_behind blocks n l.number l.form) (number_behind n (statement_at names vs blocks n l ls)) ls h.1 (blocks_fit most blocks n l.number l.form h.0.1 each)))
+    (with_one most (statement_at names vs blocks n l ls) _ (statement_fits most names vs blocks (nests_after blocks n l.number l.form) n l ls h.0.1 each)
+    (statements_fit most names vs (nests_after blocks n l.number l.form) (number_after n (statement_at names vs blocks n l ls)) ls h.1 (blocks_fit most blocks n l.number l.form h.0.1 each)))
 
 all_statements : (most : ℕ) (scene : Scene) (names : List Declaration) (k : ℕ) → Every (LineFits most) scene.lines → Every (StatementFits most) (statements_of scene names k)
 unfolding statements_of

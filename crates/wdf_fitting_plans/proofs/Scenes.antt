@@ -69,9 +69,9 @@ written_well : (most : ℕ) (ws : List WrittenLine) → Every (IsWell most) (map
 written_well most [] h = tt
 written_well most (w ∷ ws) h = (h.0, written_well most ws h.1)
 
-behind_version : (most : ℕ) (vs : List TokenLine) (ws : List WrittenLine) → Every (IsWell most) (vs ++ map spelled_line ws) → AllWritten most ws
-behind_version most [] ws h = written_well most ws h
-behind_version most (v ∷ vs) ws h = behind_version most vs ws h.1
+after_version : (most : ℕ) (vs : List TokenLine) (ws : List WrittenLine) → Every (IsWell most) (vs ++ map spelled_line ws) → AllWritten most ws
+after_version most [] ws h = written_well most ws h
+after_version most (v ∷ vs) ws h = after_version most vs ws h.1
 
 -- ---- tokens
 
@@ -170,18 +170,18 @@ tree_fits (Node op l r) base rest h =
       behind 1 (token.Close ∷ rest) right.1,
     )
 
-behind_head : (s : StatementHead) (rest : List Token) → list_all is_token (head_then s rest) ≡ true → list_all is_token rest ≡ true
-behind_head (head.Let x) rest h = behind 3 (head_then (head.Let x) rest) h
-behind_head (head.Put r) rest h = behind 2 (head_then (head.Put r) rest) h
-behind_head head.If rest h = behind 1 (head_then head.If rest) h
-behind_head head.Repeat rest h = behind 1 (head_then head.Repeat rest) h
-behind_head head.Spend rest h = behind 1 (head_then head.Spend rest) h
-behind_head head.Log rest h = behind 1 (head_then head.Log rest) h
-behind_head head.Return rest h = behind 1 (head_then head.Return rest) h
+after_head : (s : StatementHead) (rest : List Token) → list_all is_token (head_then s rest) ≡ true → list_all is_token rest ≡ true
+after_head (head.Let x) rest h = behind 3 (head_then (head.Let x) rest) h
+after_head (head.Put r) rest h = behind 2 (head_then (head.Put r) rest) h
+after_head head.If rest h = behind 1 (head_then head.If rest) h
+after_head head.Repeat rest h = behind 1 (head_then head.Repeat rest) h
+after_head head.Spend rest h = behind 1 (head_then head.Spend rest) h
+after_head head.Log rest h = behind 1 (head_then head.Log rest) h
+after_head head.Return rest h = behind 1 (head_then head.Return rest) h
 
-behind_into : (into : Option (List ℕ)) (rest : List Token) → list_all is_token (into_then into rest) ≡ true → list_all is_token rest ≡ true
-behind_into None rest h = h
-behind_into (Some x) rest h = behind 2 (into_then (Some x) rest) h
+after_into : (into : Option (List ℕ)) (rest : List Token) → list_all is_token (into_then into rest) ≡ true → list_all is_token rest ≡ true
+after_into None rest h = h
+after_into (Some x) rest h = behind 2 (into_then (Some x) rest) h
 
 argument_fits : (a : Argument) (rest : List Token) → list_all is_token (argument_then a rest) ≡ true → Fit (argument_nodes a) rest
 argument_fits Missing rest h = (tt, h)
@@ -191,10 +191,10 @@ argument_fits (OfClass n) rest h = (tt, behind 1 (token.Word n ∷ rest) h)
 nodes_fit : (base : ℕ) (w : Written) → list_all is_token (written_tokens w) ≡ true → Every ExprFits (nodes_at base w)
 nodes_fit base (Plain form) h = tt
 nodes_fit base (Picked ns) h = tt
-nodes_fit base (Single s t) h = (tree_fits t base [] (behind_head s (tree_then t []) h)).0
+nodes_fit base (Single s t) h = (tree_fits t base [] (after_head s (tree_then t []) h)).0
 nodes_fit base (Calling kind into a b c) h =
     let named : List Token = token.Word (call_word kind) ∷ argument_then a (argument_then b (argument_then c [])) in
-    let first = argument_fits a (argument_then b (argument_then c [])) (behind 1 named (behind_into into named (behind 1 (written_tokens (Calling kind into a b c)) h))) in
+    let first = argument_fits a (argument_then b (argument_then c [])) (behind 1 named (after_into into named (behind 1 (written_tokens (Calling kind into a b c)) h))) in
     let second = argument_fits b (argument_then c []) first.1 in
     let third = argument_fits c [] second.1 in
     every_append ExprFits (argument_nodes a) (argument_nodes b ++ argument_nodes c) first.0 (every_append ExprFits (argument_nodes b) (argument_nodes c) second.0 third.0)
@@ -214,7 +214,7 @@ scene_fits text scene h =
     let most = length text in
     let few = lines_few text in
     let well : Every (IsWell most) (version_lines scene.version h.first ++ map spelled_line h.ws) = subst (AllWell most) h.tokens (lines_well most 1 (lines_of text) (omega (arith, few))) in
-    let written = behind_version most (version_lines scene.version h.first) h.ws well in
+    let written = after_version most (version_lines scene.version h.first) h.ws well in
     let lines : scene.lines ≡ lines_at 0 h.ws = ap (λ (x : Scene). x.lines) h.is in
     let exprs : scene.exprs ≡ exprs_at 0 h.ws = ap (λ (x : Scene). x.exprs) h.is in
     record { lines = rw lines (lines_fit most 0 h.ws written); exprs = rw exprs (exprs_fit most 0 h.ws written) }

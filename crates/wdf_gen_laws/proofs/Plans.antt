@@ -21,7 +21,7 @@ use Rattle.wdf_blocks.specs.Attribute.{gives_form, gives_callback, gives, is_dev
 use Rattle.wdf_blocks.specs.Blocks.{given_from, given, has_given, form_at, number_at}
 use Rattle.wdf_blocks.specs.Declarations.{declared_by, declared_on, declarations, found, stands, object_count}
 use Rattle.wdf_refusals.specs.First.{refused, refused_at, first_some, first_refusal}
-use Rattle.wdf_blocks.specs.Forms.{opens, is_end, is_device, is_app, is_register, is_class, is_object, is_statement, is_post, assigned_name, nodes_behind, nodes_end, block_kind}
+use Rattle.wdf_blocks.specs.Forms.{opens, is_end, is_device, is_app, is_register, is_class, is_object, is_statement, is_post, assigned_name, nodes_after, nodes_end, block_kind}
 use Rattle.wdf_refusals.specs.Limits.{over_cpus, over_limit, over_objects, over_level, over_parallel, over_depth, over_ticks, exceeds, exceeded}
 use Rattle.wdf_blocks.specs.Placed.{opened_by, counted, placed_line, placed_from, placed}
 use Rattle.wdf_refusals.specs.Rows.{unknown_class, unknown_argument, unknown_word, unknown_node, nodes_of, unknown_name, reserved_line, first_line, twice_given, twice_named, is_class_or_device, wrong_callback, incompatible_level, no_parent}
@@ -107,17 +107,17 @@ unfolding seed_words
 seed_even n = words_even (stream_of splitmix_steps n)
 
 -- the lines from each app's first read on
-abbrev behind0 : List ℕ → List Placed
-behind0 ws = stretch 21 1 22 23 0 (reads_from 0 0 ws ++ (Plain line.End ∷ app_then (codes "A1") 1 ws (app_then (codes "A2") 2 ws (app_then (codes "A3") 3 ws []))))
+abbrev after0 : List ℕ → List Placed
+after0 ws = stretch 21 1 22 23 0 (reads_from 0 0 ws ++ (Plain line.End ∷ app_then (codes "A1") 1 ws (app_then (codes "A2") 2 ws (app_then (codes "A3") 3 ws []))))
 
-abbrev behind1 : List ℕ → List Placed
-behind1 ws = stretch 748 2 749 750 725 (reads_from 1 0 ws ++ (Plain line.End ∷ app_then (codes "A2") 2 ws (app_then (codes "A3") 3 ws [])))
+abbrev after1 : List ℕ → List Placed
+after1 ws = stretch 748 2 749 750 725 (reads_from 1 0 ws ++ (Plain line.End ∷ app_then (codes "A2") 2 ws (app_then (codes "A3") 3 ws [])))
 
-abbrev behind2 : List ℕ → List Placed
-behind2 ws = stretch 1475 3 1476 1477 1450 (reads_from 2 0 ws ++ (Plain line.End ∷ app_then (codes "A3") 3 ws []))
+abbrev after2 : List ℕ → List Placed
+after2 ws = stretch 1475 3 1476 1477 1450 (reads_from 2 0 ws ++ (Plain line.End ∷ app_then (codes "A3") 3 ws []))
 
-abbrev behind3 : List ℕ → List Placed
-behind3 ws = stretch 2202 4 2203 2204 2175 (reads_from 3 0 ws ++ (Plain line.End ∷ []))
+abbrev after3 : List ℕ → List Placed
+after3 ws = stretch 2202 4 2203 2204 2175 (reads_from 3 0 ws ++ (Plain line.End ∷ []))
 
 -- ---- what is declared
 
@@ -158,24 +158,24 @@ reads_declare : (b apps : ℕ) → Skips declare b apps
 unfolding declared_by
 reads_declare b apps = λ at number posts k w ps small. refl
 
-declare3 : (ws : List ℕ) → AreEven ws → declare (behind3 ws) ≡ []
+declare3 : (ws : List ℕ) → AreEven ws → declare (after3 ws) ≡ []
 unfolding placed_from opened_by counted is_device is_object is_app is_register is_class is_statement is_post nodes_end declared_by
 declare3 ws even =
     all_passed declare 2202 4 3 (Plain line.End ∷ []) (reads_declare 2202 4) 0 ws 2203 2204 2175 2928 2929 2900 (omega (arith, even.of3)) (omega (arith, even.of3)) (omega (arith, even.of3)) (omega arith)
 
-declare2 : (ws : List ℕ) → AreEven ws → declare (behind2 ws) ≡ app3 ∷ []
+declare2 : (ws : List ℕ) → AreEven ws → declare (after2 ws) ≡ app3 ∷ []
 unfolding placed_from opened_by counted is_device is_object is_app is_register is_class is_statement is_post nodes_end declared_by
 declare2 ws even =
     all_passed declare 1475 3 2 (Plain line.End ∷ app_then (codes "A3") 3 ws []) (reads_declare 1475 3) 0 ws 1476 1477 1450 2201 2202 2175 (omega (arith, even.of2)) (omega (arith, even.of2)) (omega (arith, even.of2)) (omega arith)
     ∙ ap (λ (ds : List Declaration). app3 ∷ ds) (declare3 ws even)
 
-declare1 : (ws : List ℕ) → AreEven ws → declare (behind1 ws) ≡ app2 ∷ app3 ∷ []
+declare1 : (ws : List ℕ) → AreEven ws → declare (after1 ws) ≡ app2 ∷ app3 ∷ []
 unfolding placed_from opened_by counted is_device is_object is_app is_register is_class is_statement is_post nodes_end declared_by
 declare1 ws even =
     all_passed declare 748 2 1 (Plain line.End ∷ app_then (codes "A2") 2 ws (app_then (codes "A3") 3 ws [])) (reads_declare 748 2) 0 ws 749 750 725 1474 1475 1450 (omega (arith, even.of1)) (omega (arith, even.of1)) (omega (arith, even.of1)) (omega arith)
     ∙ ap (λ (ds : List Declaration). app2 ∷ ds) (declare2 ws even)
 
-declare0 : (ws : List ℕ) → AreEven ws → declare (behind0 ws) ≡ app1 ∷ app2 ∷ app3 ∷ []
+declare0 : (ws : List ℕ) → AreEven ws → declare (after0 ws) ≡ app1 ∷ app2 ∷ app3 ∷ []
 unfolding placed_from opened_by counted is_device is_object is_app is_register is_class is_statement is_post nodes_end declared_by
 declare0 ws even =
     all_passed declare 21 1 0 (Plain line.End ∷ app_then (codes "A1") 1 ws (app_then (codes "A2") 2 ws (app_then (codes "A3") 3 ws []))) (reads_declare 21 1) 0 ws 22 23 0 747 748 725 (omega (arith, even.of0)) (omega (arith, even.of0)) (omega (arith, even.of0)) (omega arith)
@@ -193,7 +193,7 @@ before_app1 ds =
     ∷ app0 ∷ ds
 
 declared_there : (ws : List ℕ) → AreEven ws → declarations (nested_scene ws) ≡ all_declared
-unfolding declarations placed placed_from opened_by counted is_device is_object is_app is_register is_class is_statement is_post nodes_behind nodes_end declared_by
+unfolding declarations placed placed_from opened_by counted is_device is_object is_app is_register is_class is_statement is_post nodes_after nodes_end declared_by
 declared_there ws even = ap before_app1 (declare0 ws even)
 
 -- ---- what is refused
@@ -212,31 +212,31 @@ unfolding variables_at variables_in
 reads_refuse scene b apps = λ at number posts k w ps small.
     ap (λ o. option_or o (refuse scene ps)) (by_device scene b apps at number posts (length_read k w) (w % 2 == 0) (lt-leb 4096 posts small))
 
-refuse3 : (scene : Scene) (ws : List ℕ) → AreEven ws → refuse scene (behind3 ws) ≡ None
-unfolding placed_from opened_by counted is_device is_object is_app is_register is_class is_statement is_post nodes_behind nodes_end refused unknown_name unknown_word unknown_node nodes_of twice_named declared_name first_line reserved_line assigned_name attribute_of wrong_callback exceeded exceeds over_cpus over_limit over_objects over_level over_parallel over_depth over_ticks incompatible_level no_parent variables_at variables_in
+refuse3 : (scene : Scene) (ws : List ℕ) → AreEven ws → refuse scene (after3 ws) ≡ None
+unfolding placed_from opened_by counted is_device is_object is_app is_register is_class is_statement is_post nodes_after nodes_end refused unknown_name unknown_word unknown_node nodes_of twice_named declared_name first_line reserved_line assigned_name attribute_of wrong_callback exceeded exceeds over_cpus over_limit over_objects over_level over_parallel over_depth over_ticks incompatible_level no_parent variables_at variables_in
 refuse3 scene ws even =
     all_passed (refuse scene) 2202 4 3 (Plain line.End ∷ []) (reads_refuse scene 2202 4) 0 ws 2203 2204 2175 2928 2929 2900 (omega (arith, even.of3)) (omega (arith, even.of3)) (omega (arith, even.of3)) (omega arith)
 
-refuse2 : (scene : Scene) (ws : List ℕ) → AreEven ws → refuse scene (behind2 ws) ≡ None
-unfolding placed_from opened_by counted is_device is_object is_app is_register is_class is_statement is_post nodes_behind nodes_end refused unknown_name unknown_word unknown_node nodes_of twice_named declared_name first_line reserved_line assigned_name attribute_of wrong_callback exceeded exceeds over_cpus over_limit over_objects over_level over_parallel over_depth over_ticks incompatible_level no_parent variables_at variables_in
+refuse2 : (scene : Scene) (ws : List ℕ) → AreEven ws → refuse scene (after2 ws) ≡ None
+unfolding placed_from opened_by counted is_device is_object is_app is_register is_class is_statement is_post nodes_after nodes_end refused unknown_name unknown_word unknown_node nodes_of twice_named declared_name first_line reserved_line assigned_name attribute_of wrong_callback exceeded exceeds over_cpus over_limit over_objects over_level over_parallel over_depth over_ticks incompatible_level no_parent variables_at variables_in
 refuse2 scene ws even =
     all_passed (refuse scene) 1475 3 2 (Plain line.End ∷ app_then (codes "A3") 3 ws []) (reads_refuse scene 1475 3) 0 ws 1476 1477 1450 2201 2202 2175 (omega (arith, even.of2)) (omega (arith, even.of2)) (omega (arith, even.of2)) (omega arith)
     ∙ refuse3 scene ws even
 
-refuse1 : (scene : Scene) (ws : List ℕ) → AreEven ws → refuse scene (behind1 ws) ≡ None
-unfolding placed_from opened_by counted is_device is_object is_app is_register is_class is_statement is_post nodes_behind nodes_end refused unknown_name unknown_word unknown_node nodes_of twice_named declared_name first_line reserved_line assigned_name attribute_of wrong_callback exceeded exceeds over_cpus over_limit over_objects over_level over_parallel over_depth over_ticks incompatible_level no_parent variables_at variables_in
+refuse1 : (scene : Scene) (ws : List ℕ) → AreEven ws → refuse scene (after1 ws) ≡ None
+unfolding placed_from opened_by counted is_device is_object is_app is_register is_class is_statement is_post nodes_after nodes_end refused unknown_name unknown_word unknown_node nodes_of twice_named declared_name first_line reserved_line assigned_name attribute_of wrong_callback exceeded exceeds over_cpus over_limit over_objects over_level over_parallel over_depth over_ticks incompatible_level no_parent variables_at variables_in
 refuse1 scene ws even =
     all_passed (refuse scene) 748 2 1 (Plain line.End ∷ app_then (codes "A2") 2 ws (app_then (codes "A3") 3 ws [])) (reads_refuse scene 748 2) 0 ws 749 750 725 1474 1475 1450 (omega (arith, even.of1)) (omega (arith, even.of1)) (omega (arith, even.of1)) (omega arith)
     ∙ refuse2 scene ws even
 
-refuse0 : (scene : Scene) (ws : List ℕ) → AreEven ws → refuse scene (behind0 ws) ≡ None
-unfolding placed_from opened_by counted is_device is_object is_app is_register is_class is_statement is_post nodes_behind nodes_end refused unknown_name unknown_word unknown_node nodes_of twice_named declared_name first_line reserved_line assigned_name attribute_of wrong_callback exceeded exceeds over_cpus over_limit over_objects over_level over_parallel over_depth over_ticks incompatible_level no_parent variables_at variables_in
+refuse0 : (scene : Scene) (ws : List ℕ) → AreEven ws → refuse scene (after0 ws) ≡ None
+unfolding placed_from opened_by counted is_device is_object is_app is_register is_class is_statement is_post nodes_after nodes_end refused unknown_name unknown_word unknown_node nodes_of twice_named declared_name first_line reserved_line assigned_name attribute_of wrong_callback exceeded exceeds over_cpus over_limit over_objects over_level over_parallel over_depth over_ticks incompatible_level no_parent variables_at variables_in
 refuse0 scene ws even =
     all_passed (refuse scene) 21 1 0 (Plain line.End ∷ app_then (codes "A1") 1 ws (app_then (codes "A2") 2 ws (app_then (codes "A3") 3 ws []))) (reads_refuse scene 21 1) 0 ws 22 23 0 747 748 725 (omega (arith, even.of0)) (omega (arith, even.of0)) (omega (arith, even.of0)) (omega arith)
     ∙ refuse1 scene ws even
 
 head_accepted : (ws : List ℕ) → AreEven ws → refuse (nested_scene ws) (placed (nested_scene ws)) ≡ None
-unfolding placed placed_from opened_by counted is_device is_object is_app is_register is_class is_statement is_post nodes_behind nodes_end refused unknown_name unknown_word unknown_node nodes_of twice_named declared_name first_line reserved_line assigned_name attribute_of wrong_callback exceeded exceeds over_cpus over_limit over_objects over_level over_parallel over_depth over_ticks incompatible_level no_parent variables_at variables_in unknown_class unknown_argument stands found object_count gives_form gives_callback gives is_device_wide given_from given has_given form_at number_at opens is_end block_kind twice_given is_class_or_device assigned_from variables variable_number
+unfolding placed placed_from opened_by counted is_device is_object is_app is_register is_class is_statement is_post nodes_after nodes_end refused unknown_name unknown_word unknown_node nodes_of twice_named declared_name first_line reserved_line assigned_name attribute_of wrong_callback exceeded exceeds over_cpus over_limit over_objects over_level over_parallel over_depth over_ticks incompatible_level no_parent variables_at variables_in unknown_class unknown_argument stands found object_count gives_form gives_callback gives is_device_wide given_from given has_given form_at number_at opens is_end block_kind twice_given is_class_or_device assigned_from variables variable_number
 head_accepted ws even = refuse0 (nested_scene ws) ws even
 
 text_accepted : (ws : List ℕ) → AreEven ws → first_refusal (nested_scene ws) ≡ None

@@ -51,7 +51,7 @@ use Rattle.wdf_model.specs.rules.Deeds.{arrive_at, ask_object, do_deed, do_deeds
 use Rattle.wdf_model.proofs.Tests.{first, second}
 use Rattle.wdf_model.proofs.Deletion.{object_live, object_off}
 use Rattle.wdf_deeds.specs.MayDo.{first_part, may_do, queues_dpcs}
-use Rattle.wdf_deeds.proofs.Walk.{all_behind, plain_frame}
+use Rattle.wdf_deeds.proofs.Walk.{all_after, plain_frame}
 use Rattle.wdf_deeds.proofs.Passing.{PassesBeside, event_passes, first_of, outcome_passes, second_of, second_passes}
 use Rattle.wdf_agreements.proofs.Stays.{gives_up, gives_up_if, queues_closed, returns_closed, withdraws}
 use Rattle.wdf_agreements.proofs.Queued.{dpc_cancelled, dpc_enqueued, dpc_taken}
@@ -113,13 +113,13 @@ module _ {A : Type 0} (plan : Plan) (m : Meaning A) (S : State A) (p : ℕ → B
       let d = did_tells plan m S k c v h in
       let f : ℕ = d.frame in
       subst (λ ds. all_fine p ds ≡ true) (sym (by_its_top S k.0 f (did_deeds plan S k.0 c v) d.about.top))
-      (all_behind (is_fine p) ((outcome plan S k.0 f c).deeds ++ second_deeds f c) (GoOn (frame_id f) (answered plan (frame_of S.cpus f) v) ∷ [])
-      (all_behind (is_fine p) (outcome plan S k.0 f c).deeds (second_deeds f c) (call_fine k.0 f c d.about.clean) (second_fine p f c)) refl)
+      (all_after (is_fine p) ((outcome plan S k.0 f c).deeds ++ second_deeds f c) (GoOn (frame_id f) (answered plan (frame_of S.cpus f) v) ∷ [])
+      (all_after (is_fine p) (outcome plan S k.0 f c).deeds (second_deeds f c) (call_fine k.0 f c d.about.clean) (second_fine p f c)) refl)
   event_fine (event.Waiting k c) h =
       let d = waiting_tells plan m S k c h in
       let f : ℕ = d.frame in
       subst (λ ds. all_fine p ds ≡ true) (sym (by_its_top S k.0 f (waiting_deeds plan S k.0 c) d.about.top))
-      (all_behind (is_fine p) (outcome plan S k.0 f c).deeds (GoOn (frame_id f) (waiting (frame_of S.cpus f) c (outcome plan S k.0 f c).answer) ∷ []) (call_fine k.0 f c d.about.clean) refl)
+      (all_after (is_fine p) (outcome plan S k.0 f c).deeds (GoOn (frame_id f) (waiting (frame_of S.cpus f) c (outcome plan S k.0 f c).answer) ∷ []) (call_fine k.0 f c d.about.clean) refl)
   event_fine e h = event_passes (is_fine p) plan S e (event_still p e refl)
 
 -- ---- what is queued after some deeds

@@ -17,8 +17,8 @@ use Rattle.wdf_model.proofs.KeptMoves.{target_elsewhere, target_here}
 
 -- ---- lists
 
-found_behind : {X : Type 0} (p : X → Bool) (x : X) (xs ys : List X) → find p xs ≡ find p ys → find p (x ∷ xs) ≡ find p (x ∷ ys)
-found_behind p x xs ys h = ap (λ y. if p x then Some x else y) h
+found_after : {X : Type 0} (p : X → Bool) (x : X) (xs ys : List X) → find p xs ≡ find p ys → find p (x ∷ xs) ≡ find p (x ∷ ys)
+found_after p x xs ys h = ap (λ y. if p x then Some x else y) h
 
 passed : {X : Type 0} (p : X → Bool) (x : X) (xs : List X) → p x ≡ false → find p (x ∷ xs) ≡ find p xs
 passed p x xs h = rw h refl
@@ -28,7 +28,7 @@ found_first p x xs h = rw h refl
 
 filtered_by : {X : Type 0} (p keep : X → Bool) (x : X) (xs : List X) (b : Bool) → keep x ≡ b → (keep x ≡ false → p x ≡ false) → find p (filter keep xs) ≡ find p xs
     → find p (filter keep (x ∷ xs)) ≡ find p (x ∷ xs)
-filtered_by p keep x xs true e h rest = rw e (found_behind p x (filter keep xs) xs rest)
+filtered_by p keep x xs true e h rest = rw e (found_after p x (filter keep xs) xs rest)
 filtered_by p keep x xs false e h rest = rw e (rest ∙ sym (passed p x xs (h e)))
 
 -- what is filtered away isn't found
@@ -38,7 +38,7 @@ found_in_filter p keep h (x ∷ xs) = filtered_by p keep x xs (keep x) refl (h x
 
 mapped_by : {X : Type 0} (p : X → Bool) (g : X → X) (x : X) (xs : List X) (b : Bool) → p x ≡ b → p (g x) ≡ p x → (p x ≡ true → g x ≡ x) → find p (map g xs) ≡ find p xs
     → find p (map g (x ∷ xs)) ≡ find p (x ∷ xs)
-mapped_by p g x xs true e asks same rest = rw (same e) (found_behind p x (map g xs) xs rest)
+mapped_by p g x xs true e asks same rest = rw (same e) (found_after p x (map g xs) xs rest)
 mapped_by p g x xs false e asks same rest = passed p (g x) (map g xs) (asks ∙ e) ∙ rest ∙ sym (passed p x xs e)
 
 -- what is found isn't changed
@@ -51,7 +51,7 @@ found_in_map p g asks same (x ∷ xs) = mapped_by p g x xs (p x) refl (asks x) (
 ordered_by : (p : Sending → Bool) (s x : Sending) (xs : List Sending) (b : Bool) → nat_lt s.request.0 x.request.0 ≡ b → p s ≡ false
     → find p (sending_in_order s xs) ≡ find p xs → find p (sending_in_order s (x ∷ xs)) ≡ find p (x ∷ xs)
 ordered_by p s x xs true e h rest = rw e (passed p s (x ∷ xs) h)
-ordered_by p s x xs false e h rest = rw e (found_behind p x (sending_in_order s xs) xs rest)
+ordered_by p s x xs false e h rest = rw e (found_after p x (sending_in_order s xs) xs rest)
 
 -- another is sent
 found_in_order : (p : Sending → Bool) (s : Sending) → p s ≡ false → (xs : List Sending) → find p (sending_in_order s xs) ≡ find p xs

@@ -3,7 +3,7 @@ use Rattle.std.proofs.Common.{◌≡◌, ℕ, suc, ◌+◌, ◌-◌, ◌<◌, �
 use Rattle.std.specs.List.{take_while}
 use Rattle.std.proofs.lemmas.List.{drop_all}
 use Rattle.wdf_tokens.specs.Tokens.{lines_of, is_inside}
-use Rattle.wdf_tokens.proofs.LineReading.{slice_behind}
+use Rattle.wdf_tokens.proofs.LineReading.{slice_after}
 use Rattle.wdf_parse.specs.declared.reader.Reader.{Reader}
 use Rattle.wdf_parse.specs.declared.refusal.ParseRefusal.{ParseRefusal}
 use Rattle.wdf_parse.specs.declared.refusal.ParseRefusal.TheVariants as refusal
@@ -21,12 +21,12 @@ pub record TakenUpTo (first : Reader) (text : List ℕ) (at number : ℕ) (now :
 -- the line at a place as the code cuts it out
 pub line_there : (text : List ℕ) (at len : ℕ) → len ≡ length (take_while is_inside (take (length text - at) (drop at text))) → take len (take (length text - at) (drop at text)) ≡ take_while is_inside (drop at text)
 line_there text at len is =
-    let rest = slice_behind text at in
+    let rest = slice_after text at in
     ap (take len) rest ∙ cut_line (drop at text) len (is ∙ ap (λ bytes. length (take_while is_inside bytes)) rest)
 
 pub lines_there : (text : List ℕ) (at len : ℕ) → at < length text → len ≡ length (take_while is_inside (take (length text - at) (drop at text))) → lines_of (drop at text) ≡ take_while is_inside (drop at text) ∷ lines_of (drop (at + (len + 1)) text)
 lines_there text at len inside is =
-    let e : len ≡ length (take_while is_inside (drop at text)) = is ∙ ap (λ bytes. length (take_while is_inside bytes)) (slice_behind text at) in
+    let e : len ≡ length (take_while is_inside (drop at text)) = is ∙ ap (λ bytes. length (take_while is_inside bytes)) (slice_after text at) in
     lines_from text at inside ∙ ap (λ n. take_while is_inside (drop at text) ∷ lines_of (drop (at + (n + 1)) text)) (sym e)
 
 -- one line more is taken

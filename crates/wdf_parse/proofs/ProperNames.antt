@@ -59,8 +59,8 @@ all_spelled [] h = refl
 all_spelled (w ∷ ws) h =
     both (is_spelled w) (list_all is_spelled ws) (first_part (is_spelled w) (list_all is_fit (map spelled_line ws)) h) (all_spelled ws (second_part (is_spelled w) (list_all is_fit (map spelled_line ws)) h))
 
-behind_version : (vs : List TokenLine) (ws : List WrittenLine) → list_all is_fit (vs ++ map spelled_line ws) ≡ true → list_all is_spelled ws ≡ true
-behind_version vs ws h =
+after_version : (vs : List TokenLine) (ws : List WrittenLine) → list_all is_fit (vs ++ map spelled_line ws) ≡ true → list_all is_spelled ws ≡ true
+after_version vs ws h =
     all_spelled ws (second_part (list_all is_fit vs) (list_all is_fit (map spelled_line ws)) (sym (list_all-append is_fit vs (map spelled_line ws)) ∙ h))
 
 -- ---- the declared name is one of the tokens
@@ -135,7 +135,7 @@ pub stands_properly : (text : List ℕ) (s : Scene) → StandsFor text s → Has
 stands_properly text s h =
     let fit : list_all is_fit (version_lines s.version h.first ++ map spelled_line h.ws) ≡ true = subst AllFit h.tokens (all_fit 1 (lines_of text)) in
     let lines : s.lines ≡ lines_at 0 h.ws = ap (λ (x : Scene). x.lines) h.is in
-    record { each = rw lines (lines_proper 0 h.ws (behind_version (version_lines s.version h.first) h.ws fit)) }
+    record { each = rw lines (lines_proper 0 h.ws (after_version (version_lines s.version h.first) h.ws fit)) }
 
 pub stands_scene : (text : List ℕ) (s : Scene) → StandsFor text s → IsScene s
 stands_scene text s h = record { ws = h.ws; is = h.is; lines = h.lines }

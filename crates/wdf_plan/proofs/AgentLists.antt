@@ -83,9 +83,9 @@ abbrev pub agent_on : Scene → Placed → Option AgentInfo
 agent_on scene p = device_agent scene (declarations scene) p p.form
 
 -- after the apps come the agents of the devices and of the targets
-pub agents_behind : (scene : Scene) → drop (app_count (plan_of scene)) (plan_of scene).agents ≡ filter_map (agent_on scene) (placed scene) ++ filter_map (λ p. target_agent (declarations scene) p.form) (placed scene)
+pub agents_after : (scene : Scene) → drop (app_count (plan_of scene)) (plan_of scene).agents ≡ filter_map (agent_on scene) (placed scene) ++ filter_map (λ p. target_agent (declarations scene) p.form) (placed scene)
 unfolding plan_of plan_with all_agents
-agents_behind scene =
+agents_after scene =
     let names = declarations scene in
     let as' = filter_map (λ p. app_agent scene names p p.form) (placed scene) in
     let ds = filter_map (agent_on scene) (placed scene) in

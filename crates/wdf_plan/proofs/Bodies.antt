@@ -17,7 +17,7 @@ use Rattle.wdf_scene.specs.Written.{IsScene, lines_at}
 use Rattle.wdf_blocks.specs.declared.placed.Counts.{Counts}
 use Rattle.wdf_blocks.specs.declared.placed.Placed.{Placed}
 use Rattle.wdf_blocks.specs.declared.placed.Stand.{Stand}
-use Rattle.wdf_blocks.specs.Blocks.{depth_behind, ends_block}
+use Rattle.wdf_blocks.specs.Blocks.{depth_after, ends_block}
 use Rattle.wdf_blocks.specs.Forms.{opens, is_end}
 use Rattle.wdf_blocks.specs.Placed.{outside, nothing, counted, opened_by, placed_from, placed}
 use Rattle.wdf_refusals.proofs.Every.{Every}
@@ -79,7 +79,7 @@ not_outside q e f = by_block (innermost q.blocks) e (and_parts (q.headers == 3) 
 -- the line ends the callback, or may stand in it
 abbrev IsBodyLine : ℕ → SceneLine → List Block → Type 0
 IsBodyLine d form behind =
-    (ends_block d form ≡ true) ⊎ ((ends_block d form ≡ false) × (stands_inside d form ≡ true) × IsInside (depth_behind d form) behind)
+    (ends_block d form ≡ true) ⊎ ((ends_block d form ≡ false) × (stands_inside d form ≡ true) × IsInside (depth_after d form) behind)
 
 goes_on : (d : ℕ) (form : SceneLine) → is_end form ≡ false → ends_block d form ≡ false
 goes_on zero form e = e
@@ -130,7 +130,7 @@ body_line d q form h e = inr (goes_on d form refl, refl, h)
 
 -- ---- the lines of a callback
 
-joined : (d : ℕ) (l : NumberedLine) (behind : List Block) (ls : List NumberedLine) → IsBodyLine d l.form behind → (IsInside (depth_behind d l.form) behind → IsBody (depth_behind d l.form) ls) → IsBody d (l ∷ ls)
+joined : (d : ℕ) (l : NumberedLine) (behind : List Block) (ls : List NumberedLine) → IsBodyLine d l.form behind → (IsInside (depth_after d l.form) behind → IsBody (depth_after d l.form) ls) → IsBody d (l ∷ ls)
 joined d l behind ls (inl e) f = inl e
 joined d l behind ls (inr h) f = inr (h.0, h.1, f h.2)
 
@@ -141,7 +141,7 @@ body_from d q [] h ends = not_outside q (inside_callback d q.blocks h) (truth (i
     truth b h = h
 body_from d q (l ∷ ls) h ends =
     let st = stood q l.form (map form_of ls) (may_stand q l.form) refl ends in
-    joined d l (blocks_after q.blocks l.form) ls (body_line d q l.form h st.0) (λ inside. body_from (depth_behind d l.form) (moved q l.form) ls inside st.1)
+    joined d l (blocks_after q.blocks l.form) ls (body_line d q l.form h st.0) (λ inside. body_from (depth_after d l.form) (moved q l.form) ls inside st.1)
 
 -- ---- the callbacks of a scene
 

@@ -10,8 +10,8 @@ use Rattle.wdf_plan.specs.declared.course.Course.{Course}
 use Rattle.wdf_plan.specs.declared.course.Detour.{Detour}
 use Rattle.wdf_plan.specs.declared.course.Nest.{Nest}
 use Rattle.wdf_plan.specs.declared.course.Nest.TheVariants as nest
-use Rattle.wdf_blocks.specs.Blocks.{depth_behind}
-use Rattle.wdf_plan.specs.Scripts.{reach, outer, blocks_behind, IsDetour, AreDetours, known_end, shortcut}
+use Rattle.wdf_blocks.specs.Blocks.{depth_after}
+use Rattle.wdf_plan.specs.Scripts.{reach, outer, nests_after, IsDetour, AreDetours, known_end, shortcut}
 use Rattle.wdf_plan.proofs.Passing.{way, leave}
 use Rattle.wdf_blocks.proofs.Scans.{depth_less}
 
@@ -54,24 +54,24 @@ detours_outer blocks lines ds same d =
 
 -- ---- the blocks after a line
 
-pub behind_if : (blocks behind : List Nest) (n number e : ℕ) (form : SceneLine) → behind ≡ blocks_behind blocks n number form → form ≡ line.If e → behind ≡ blocks ++ nest.Branch ∷ []
-unfolding blocks_behind
-behind_if blocks behind n number e form is own = is ∙ rw own refl
+pub after_if : (blocks behind : List Nest) (n number e : ℕ) (form : SceneLine) → behind ≡ nests_after blocks n number form → form ≡ line.If e → behind ≡ blocks ++ nest.Branch ∷ []
+unfolding nests_after
+after_if blocks behind n number e form is own = is ∙ rw own refl
 
-pub behind_repeat : (blocks behind : List Nest) (n number e : ℕ) (form : SceneLine) → behind ≡ blocks_behind blocks n number form → form ≡ line.Repeat e → behind ≡ blocks ++ nest.Loop number n ∷ []
-unfolding blocks_behind
-behind_repeat blocks behind n number e form is own = is ∙ rw own refl
+pub after_repeat : (blocks behind : List Nest) (n number e : ℕ) (form : SceneLine) → behind ≡ nests_after blocks n number form → form ≡ line.Repeat e → behind ≡ blocks ++ nest.Loop number n ∷ []
+unfolding nests_after
+after_repeat blocks behind n number e form is own = is ∙ rw own refl
 
-pub behind_end : (blocks behind : List Nest) (n number : ℕ) (form : SceneLine) → behind ≡ blocks_behind blocks n number form → form ≡ line.End → behind ≡ outer blocks
-unfolding blocks_behind
-behind_end blocks behind n number form is own = is ∙ rw own refl
+pub after_end : (blocks behind : List Nest) (n number : ℕ) (form : SceneLine) → behind ≡ nests_after blocks n number form → form ≡ line.End → behind ≡ outer blocks
+unfolding nests_after
+after_end blocks behind n number form is own = is ∙ rw own refl
 
-pub behind_same : (blocks behind : List Nest) (n number : ℕ) (form : SceneLine) → behind ≡ blocks_behind blocks n number form → ((e : ℕ) → form ≡ line.If e → ⊥) → ((e : ℕ) → form ≡ line.Repeat e → ⊥) → (form ≡ line.End → ⊥) → behind ≡ blocks
-unfolding blocks_behind
-behind_same blocks behind n number (line.If e) is no_if no_repeat no_end = absurd (no_if e refl)
-behind_same blocks behind n number (line.Repeat e) is no_if no_repeat no_end = absurd (no_repeat e refl)
-behind_same blocks behind n number line.End is no_if no_repeat no_end = absurd (no_end refl)
-behind_same blocks behind n number form is no_if no_repeat no_end = is
+pub after_same : (blocks behind : List Nest) (n number : ℕ) (form : SceneLine) → behind ≡ nests_after blocks n number form → ((e : ℕ) → form ≡ line.If e → ⊥) → ((e : ℕ) → form ≡ line.Repeat e → ⊥) → (form ≡ line.End → ⊥) → behind ≡ blocks
+unfolding nests_after
+after_same blocks behind n number (line.If e) is no_if no_repeat no_end = absurd (no_if e refl)
+after_same blocks behind n number (line.Repeat e) is no_if no_repeat no_end = absurd (no_repeat e refl)
+after_same blocks behind n number line.End is no_if no_repeat no_end = absurd (no_end refl)
+after_same blocks behind n number form is no_if no_repeat no_end = is
 
 pub kept_inside : (blocks behind : List Nest) (x : Nest) (lines : List NumberedLine) (ds : List Detour) → behind ≡ blocks ++ x ∷ [] → length ds ≡ length blocks → AreDetours 0 blocks lines ds → AreDetours 0 behind lines ds
 kept_inside blocks behind x lines ds is each d =
@@ -175,7 +175,7 @@ pub record IsTurning (number from depth before k : ℕ) : Type 0 where
   pub deep : depth + from ≤ k
   pub near : before + 2 * from ≤ number + 2 * k
 
-pub turning_more : (number from depth depth' before before' k : ℕ) (form : SceneLine) → IsTurning number from depth before k → depth' ≡ depth_behind depth form → before' ≤ before + 2 → IsTurning number from depth' before' (k + 1)
+pub turning_more : (number from depth depth' before before' k : ℕ) (form : SceneLine) → IsTurning number from depth before k → depth' ≡ depth_after depth form → before' ≤ before + 2 → IsTurning number from depth' before' (k + 1)
 turning_more number from depth depth' before before' k form t is few =
-    let deep : depth_behind depth form + from ≤ suc k = depth_less depth from k _ _ t.deep in
+    let deep : depth_after depth form + from ≤ suc k = depth_less depth from k _ _ t.deep in
     record { deep = omega (arith, deep, is); near = omega (arith, t.near, few) }

@@ -24,7 +24,7 @@ use Rattle.wdf_blocks.specs.Placed.{outside, nothing, counted, opened_by, placed
 use Rattle.wdf_plan.specs.Plans.{all_objects, plan_of}
 use Rattle.wdf_refusals.specs.Rows.{unknown_word}
 use Rattle.wdf_plan.proofs.Accepted.{word_known}
-use Rattle.wdf_plan.proofs.AgentLists.{agent_on, agents_behind}
+use Rattle.wdf_plan.proofs.AgentLists.{agent_on, agents_after}
 use Rattle.wdf_plan.proofs.Devices.{IsDeviceAt, IsKnown, belongs}
 use Rattle.wdf_plan.proofs.DeviceItems.{action_own, of_device}
 use Rattle.wdf_refusals.proofs.Every.{Every, every_map, some_has, all_kept}
@@ -111,4 +111,4 @@ targets_quiet names (p ∷ ps) = quiet_step names p.form _ (targets_quiet names 
 pub posts_fit : (scene : Scene) → Every (IsKnown scene) (placed scene) → device_posts_fit (plan_of scene) (device_ids 1 (all_objects scene (declarations scene))) (drop (app_count (plan_of scene)) (plan_of scene).agents) ≡ true
 unfolding placed all_objects
 posts_fit scene each =
-    rw (agents_behind scene) (fit_from scene 0 outside nothing scene.lines (filter_map (λ p. target_agent (declarations scene) p.form) (placed scene)) (every_map (IsKnown scene) (PostsFit scene) (device_line scene each) (placed scene) each) (targets_quiet (declarations scene) (placed scene)))
+    rw (agents_after scene) (fit_from scene 0 outside nothing scene.lines (filter_map (λ p. target_agent (declarations scene) p.form) (placed scene)) (every_map (IsKnown scene) (PostsFit scene) (device_line scene each) (placed scene) each) (targets_quiet (declarations scene) (placed scene)))

@@ -59,13 +59,13 @@ unfolding opened_by is_device
 begun_device o j (line.Device n working) is = refl
 begun_device o j _ is = absurd (let z : ⊥ = cc in z)
 
-device_behind : (whole : List Placed) (o : Stand) (c : Counts) (j : ℕ) (l : NumberedLine) (b : Bool) → is_device l.form ≡ b → slice_get whole j ≡ Some (placed_line j o c l) → HasDevice whole o c → HasDevice whole (opened_by o j l.form) (counted c l.form (length l.picks))
+device_after : (whole : List Placed) (o : Stand) (c : Counts) (j : ℕ) (l : NumberedLine) (b : Bool) → is_device l.form ≡ b → slice_get whole j ≡ Some (placed_line j o c l) → HasDevice whole o c → HasDevice whole (opened_by o j l.form) (counted c l.form (length l.picks))
 unfolding counted
-device_behind whole o c j l true is there h k e =
+device_after whole o c j l true is there h k e =
     let own : Some j ≡ Some k = sym (begun_device o j l.form is) ∙ e in
     let same : j ≡ k = cc in
     (record { line = placed_line j o c l; there = rw (← same) there; is = is; counted = rw is refl }, rw is (omega arith))
-device_behind whole o c j l false is there h k e =
+device_after whole o c j l false is there h k e =
     let i = h k (kept_device o j l.form k is e) in
     (record { line = i.0.line; there = i.0.there; is = i.0.is; counted = rw is i.0.counted }, rw is i.1)
 
@@ -79,7 +79,7 @@ devices_from whole front k o c (l ∷ ls) long is h =
     let rest = placed_from (suc k) (opened_by o k l.form) (counted c l.form (length l.picks)) ls in
     let there : slice_get whole k ≡ Some p = item_there whole front p rest k is long in
     let longer : length (front ++ p ∷ []) ≡ suc k = omega (arith, length-append front (p ∷ []), long) in
-    (h, devices_from whole (front ++ p ∷ []) (suc k) (opened_by o k l.form) (counted c l.form (length l.picks)) ls longer (is ∙ sym (append_assoc front (p ∷ []) rest)) (device_behind whole o c k l (is_device l.form) refl there h))
+    (h, devices_from whole (front ++ p ∷ []) (suc k) (opened_by o k l.form) (counted c l.form (length l.picks)) ls longer (is ∙ sym (append_assoc front (p ∷ []) rest)) (device_after whole o c k l (is_device l.form) refl there h))
 
 -- the device in which a line stands was begun by its line, and so many objects were declared before
 pub devices_known : (scene : Scene) → Every (λ p. HasDevice (placed scene) p.stand p.counts) (placed scene)

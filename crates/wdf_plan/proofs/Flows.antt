@@ -13,7 +13,7 @@ use Rattle.wdf_plan.specs.declared.course.Nest.{Nest}
 use Rattle.wdf_plan.specs.declared.course.Nest.TheVariants as nest
 use Rattle.wdf_blocks.specs.declared.declaration.Declaration.{Declaration}
 use Rattle.wdf_blocks.specs.Forms.{is_end}
-use Rattle.wdf_plan.specs.Scripts.{statements_from, statement_on, act_on, plain_act, blocks_behind, told_line, passed, onward, beyond, loops}
+use Rattle.wdf_plan.specs.Scripts.{statements_from, statement_on, act_on, plain_act, nests_after, told_line, passed, onward, beyond, loops}
 use Rattle.wdf_plan.proofs.Nesting.{length_last, outer_last, nest_last, loops_last}
 use Rattle.wdf_plan.specs.Flow.{Opening, Body, Empty, Plain, If, IfElse, Repeat, is_plain, lines_of, size, entry, plain_statement, flow, numbered}
 use Rattle.wdf_plan.proofs.Passing.{way, plain_form, stop, past_block, past_branch, enter, end_of_if, end_of_branch, end_of_loop}
@@ -27,27 +27,27 @@ plain_step names variables blocks n l ls h =
     rw (p.ends, p.behind blocks n l.number, p.does blocks blocks n ls, p.is) refl
 
 if_step : (names : List Declaration) (variables : List (List ℕ)) (blocks : List Nest) (n : ℕ) (h : Opening) (ls : List NumberedLine) → statements_from names variables blocks n (numbered h.line (line.If h.expression) ∷ ls) ≡ record { line = h.line; next = onward (blocks ++ nest.Branch ∷ []) (n + 1) ls; act = act.If h.expression (beyond (blocks ++ nest.Branch ∷ []) (n + 1) ls) } ∷ statements_from names variables (blocks ++ nest.Branch ∷ []) (n + 1) ls
-unfolding statements_from statement_on act_on blocks_behind told_line is_end
+unfolding statements_from statement_on act_on nests_after told_line is_end
 if_step names variables blocks n h ls = refl
 
 else_step : (names : List Declaration) (variables : List (List ℕ)) (blocks : List Nest) (n number : ℕ) (ls : List NumberedLine) → statements_from names variables blocks n (numbered number line.Else ∷ ls) ≡ statements_from names variables blocks n ls
-unfolding statements_from statement_on act_on plain_act blocks_behind told_line is_end
+unfolding statements_from statement_on act_on plain_act nests_after told_line is_end
 else_step names variables blocks n number ls = refl
 
 repeat_step : (names : List Declaration) (variables : List (List ℕ)) (blocks : List Nest) (n : ℕ) (h : Opening) (ls : List NumberedLine) → statements_from names variables blocks n (numbered h.line (line.Repeat h.expression) ∷ ls) ≡ record { line = h.line; next = onward (blocks ++ nest.Loop h.line n ∷ []) (n + 1) ls; act = act.Repeat h.expression (loops blocks) (beyond (blocks ++ nest.Loop h.line n ∷ []) (n + 2) ls) } ∷ statements_from names variables (blocks ++ nest.Loop h.line n ∷ []) (n + 1) ls
-unfolding statements_from statement_on act_on blocks_behind told_line is_end
+unfolding statements_from statement_on act_on nests_after told_line is_end
 repeat_step names variables blocks n h ls = refl
 
 in_block : (blocks : List Nest) (x : Nest) → (length (blocks ++ x ∷ []) == 0) ≡ false
 in_block blocks x = let long = length_last blocks x in ne_eqb _ _ (λ e. omega (arith, e))
 
 if_end : (names : List Declaration) (variables : List (List ℕ)) (blocks : List Nest) (n number : ℕ) (ls : List NumberedLine) → statements_from names variables (blocks ++ nest.Branch ∷ []) n (numbered number line.End ∷ ls) ≡ statements_from names variables blocks n ls
-unfolding statements_from statement_on act_on blocks_behind told_line is_end
+unfolding statements_from statement_on act_on nests_after told_line is_end
 if_end names variables blocks n number ls =
     rw (in_block blocks nest.Branch, nest_last blocks nest.Branch, outer_last blocks nest.Branch) refl
 
 repeat_end : (names : List Declaration) (variables : List (List ℕ)) (blocks : List Nest) (own start n number : ℕ) (ls : List NumberedLine) → statements_from names variables (blocks ++ nest.Loop own start ∷ []) n (numbered number line.End ∷ ls) ≡ record { line = own; next = onward blocks (n + 1) ls; act = act.Again (loops blocks) (start + 1) } ∷ statements_from names variables blocks (n + 1) ls
-unfolding statements_from statement_on act_on blocks_behind told_line is_end
+unfolding statements_from statement_on act_on nests_after told_line is_end
 repeat_end names variables blocks own start n number ls =
     rw (in_block blocks (nest.Loop own start), nest_last blocks (nest.Loop own start), outer_last blocks (nest.Loop own start)) refl
 

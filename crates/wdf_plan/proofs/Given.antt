@@ -12,13 +12,13 @@ use Rattle.wdf_blocks.specs.declared.placed.Counts.{Counts}
 use Rattle.wdf_blocks.specs.declared.placed.Placed.{Placed}
 use Rattle.wdf_blocks.specs.declared.placed.Stand.{Stand}
 use Rattle.wdf_blocks.specs.Attribute.{gives, is_device_wide}
-use Rattle.wdf_blocks.specs.Blocks.{depth_behind, counts_for, ends_block, given_from, given}
+use Rattle.wdf_blocks.specs.Blocks.{depth_after, counts_for, ends_block, given_from, given}
 use Rattle.wdf_blocks.specs.Forms.{is_end}
 use Rattle.wdf_blocks.specs.Placed.{counted, opened_by, placed_line, placed_from, placed}
 use Rattle.wdf_refusals.proofs.Every.{Every, drop_get}
 use Rattle.wdf_plan.proofs.Stacks.{Opener, stand_of, with_block, stack_after, begun, AreBefore, IsOpened, AreOpened, IsStacked, AreStacked, AreFitting, fitting, quiet}
 use Rattle.wdf_plan.proofs.Stacking.{passed}
-use Rattle.wdf_plan.proofs.Inside.{gives_some, attribute_quiet, block_told, no_callback_open, split, behind_opener}
+use Rattle.wdf_plan.proofs.Inside.{gives_some, attribute_quiet, block_told, no_callback_open, split, after_opener}
 
 -- ---- what is found stands in the block
 
@@ -66,7 +66,7 @@ found_from : (whole : List Placed) (a : Attribute) (inner : List Opener) (x : Op
 unfolding given_from
 found_from whole a inner x outer k o c [] g w h e = absurd (let z : ⊥ = cc in z)
 found_from whole a inner x outer k o c (l ∷ ls) g w h e =
-    found_step whole x.line a k g (counts_for a (length inner) l.form) (ends_block (length inner) l.form) (given_from a (depth_behind (length inner) l.form) (suc k) ls) e (λ t. found_here whole inner x outer a (placed_line k o c l) w h.0 t) (λ u f.
+    found_step whole x.line a k g (counts_for a (length inner) l.form) (ends_block (length inner) l.form) (given_from a (depth_after (length inner) l.form) (suc k) ls) e (λ t. found_here whole inner x outer a (placed_line k o c l) w h.0 t) (λ u f.
     let s = split inner x outer k l.form u in
     found_earlier whole s.own.line x.line a k g s.line (found_from whole a s.within s.own outer (suc k) (opened_by o k l.form) (counted c l.form (length l.picks)) ls g w (rw s.is at h.1) (rw s.depth at f)))
 
@@ -84,7 +84,7 @@ pub given_stands : (scene : Scene) → IsScene scene → (b : ℕ) (opener : Pla
 unfolding given
 given_stands scene s b opener blk a g there opens' w e =
     let i = passed scene s b opener there in
-    let f = found_from (placed scene) a [] (record { block = blk; line = b }) i.stack (suc b) (opened_by opener.stand b opener.form) (counted opener.counts opener.form (length i.line.picks)) (drop (suc b) scene.lines) g w (rw (behind_opener i.stack b opener.form blk opens') at i.rest) e in
+    let f = found_from (placed scene) a [] (record { block = blk; line = b }) i.stack (suc b) (opened_by opener.stand b opener.form) (counted opener.counts opener.form (length i.line.picks)) (drop (suc b) scene.lines) g w (rw (after_opener i.stack b opener.form blk opens') at i.rest) e in
     let past : suc b ≤ g = f.after in
     record { line = f.line; there = f.there; gives_it = f.gives_it; block = f.block; no_callback = f.no_callback; after = omega arith }
 
@@ -187,9 +187,9 @@ before_from whole a b inner x outer k o c (l ∷ ls) zero m p is past later not 
     let w : StandsIn (placed_line k o c l) b = rw same i in
     let f = fitting whole k (inner ++ x ∷ outer) s.0.before s.0.open' in
     let t = innermost_line (inner ++ x ∷ outer) b f (rw (← s.0.stand) w.block) (rw (← s.0.stand) w.no_callback) in
-    rw here (found_by_here a b inner x outer l.form k (cond (ends_block (length inner) l.form) None (given_from a (depth_behind (length inner) l.form) (suc k) ls)) is later t (rw (ap (λ (q : Placed). q.form) same) g))
+    rw here (found_by_here a b inner x outer l.form k (cond (ends_block (length inner) l.form) None (given_from a (depth_after (length inner) l.form) (suc k) ls)) is later t (rw (ap (λ (q : Placed). q.form) same) g))
 before_from whole a b inner x outer k o c (l ∷ ls) (suc n) m p is past later not s e at' i g =
-    before_step k m (counts_for a (length inner) l.form) (ends_block (length inner) l.form) (given_from a (depth_behind (length inner) l.form) (suc k) ls) (omega arith) (λ t. never_again whole b (suc k) (opened_by o k l.form) (counted c l.form (length l.picks)) outer ls n p (omega arith) not (rw (ended_all inner x outer k l.form t) at s.1) e i) (λ t.
+    before_step k m (counts_for a (length inner) l.form) (ends_block (length inner) l.form) (given_from a (depth_after (length inner) l.form) (suc k) ls) (omega arith) (λ t. never_again whole b (suc k) (opened_by o k l.form) (counted c l.form (length l.picks)) outer ls n p (omega arith) not (rw (ended_all inner x outer k l.form t) at s.1) e i) (λ t.
     let v = split inner x outer k l.form t in
     let line' : v.own.line ≡ b = v.line ∙ is in
     let after : x.line < k = omega (arith, is) in
@@ -240,5 +240,5 @@ given_found scene s k b p a there block' quiet' g =
     let far : suc b + (k - suc b) ≡ k = omega arith in
     let e : slice_get (drop (suc b) (placed scene)) (k - suc b) ≡ Some p = drop_get (placed scene) (suc b) (k - suc b) k p (sym far) there in
     let not : HasNot b j.stack = all_not b b j.stack (omega arith) (rw at' at j.stacked.before) in
-    let r = before_from (placed scene) a b [] x j.stack (suc b) (opened_by o.placed'.stand b o.placed'.form) (counted o.placed'.counts o.placed'.form (length j.line.picks)) (drop (suc b) scene.lines) (k - suc b) k p refl (omega arith) tt not (rw (behind_opener j.stack b o.placed'.form o.block o.opens') at j.rest) (rw j.behind at e) (sym far) (record { block = block'; no_callback = quiet' }) g in
+    let r = before_from (placed scene) a b [] x j.stack (suc b) (opened_by o.placed'.stand b o.placed'.form) (counted o.placed'.counts o.placed'.form (length j.line.picks)) (drop (suc b) scene.lines) (k - suc b) k p refl (omega arith) tt not (rw (after_opener j.stack b o.placed'.form o.block o.opens') at j.rest) (rw j.behind at e) (sym far) (record { block = block'; no_callback = quiet' }) g in
     record { g = r.g; is = r.is; before = r.before }

@@ -10,7 +10,7 @@ use Rattle.wdf_scene.specs.declared.line.SceneLine.TheVariants as line
 use Rattle.wdf_scene.specs.Blocks.{opened}
 use Rattle.wdf_blocks.specs.declared.placed.Placed.{Placed}
 use Rattle.wdf_blocks.specs.declared.placed.Stand.{Stand}
-use Rattle.wdf_blocks.specs.Blocks.{depth_behind, ends_block}
+use Rattle.wdf_blocks.specs.Blocks.{depth_after, ends_block}
 use Rattle.wdf_blocks.specs.Forms.{opens, is_end}
 use Rattle.wdf_blocks.specs.Placed.{closed, opened_by}
 use Rattle.wdf_plan.proofs.Nesting.{stands_inside}
@@ -53,7 +53,7 @@ pub record IsWithin (o : Stand) (k depth : ℕ) : Type 0 where
   pub callback : o.callback ≡ Some k
   pub nested : o.nested ≡ depth
 
-end_within : (o : Stand) (k j depth : ℕ) → IsWithin o k depth → ends_block depth line.End ≡ false → IsWithin (opened_by o j line.End) k (depth_behind depth line.End)
+end_within : (o : Stand) (k j depth : ℕ) → IsWithin o k depth → ends_block depth line.End ≡ false → IsWithin (opened_by o j line.End) k (depth_after depth line.End)
 unfolding opened_by opens is_end
 end_within o k j zero w e = absurd (let z : ⊥ = cc in z)
 end_within o k j (suc d) w e =
@@ -67,11 +67,11 @@ end_within o k j (suc d) w e =
 one_deeper : (n d : ℕ) → n ≡ d → n + 1 ≡ suc d
 one_deeper n d e = omega arith
 
-as_deep : (n d : ℕ) (form : SceneLine) → n ≡ d → opens form ≡ false → is_end form ≡ false → n ≡ depth_behind d form
+as_deep : (n d : ℕ) (form : SceneLine) → n ≡ d → opens form ≡ false → is_end form ≡ false → n ≡ depth_after d form
 as_deep n d form e o i = rw (o, i) e
 
 -- a line that doesn't end the callback leaves it open
-pub goes_on : (o : Stand) (k j depth : ℕ) (form : SceneLine) → IsWithin o k depth → ends_block depth form ≡ false → stands_inside depth form ≡ true → IsWithin (opened_by o j form) k (depth_behind depth form)
+pub goes_on : (o : Stand) (k j depth : ℕ) (form : SceneLine) → IsWithin o k depth → ends_block depth form ≡ false → stands_inside depth form ≡ true → IsWithin (opened_by o j form) k (depth_after depth form)
 unfolding opened_by opens is_end
 goes_on o k j depth (line.If x) w e s =
     record { callback = w.callback; nested = one_deeper o.nested depth w.nested }

@@ -9,7 +9,7 @@ use Rattle.wdf_scene.specs.Blocks.{Position, innermost, in_heir, in_scoped, in_c
 use Rattle.wdf_blocks.specs.declared.attribute.Attribute.{Attribute}
 use Rattle.wdf_blocks.specs.declared.attribute.Attribute.TheVariants as attribute
 use Rattle.wdf_blocks.specs.Attribute.{gives, gives_form, gives_callback, attribute_of}
-use Rattle.wdf_blocks.specs.Blocks.{depth_behind, ends_block}
+use Rattle.wdf_blocks.specs.Blocks.{depth_after, ends_block}
 use Rattle.wdf_blocks.specs.Forms.{opens, is_end}
 use Rattle.wdf_refusals.proofs.Every.{Every}
 use Rattle.wdf_plan.proofs.Stacks.{Opener, block_of, pushed, stand_of, with_block, stack_after, AreFitting, in_a_callback, owner_quiet}
@@ -104,7 +104,7 @@ pub record IsSplit (inner : List Opener) (x : Opener) (outer : List Opener) (k :
   pub within : List Opener
   pub own : Opener
   pub is : stack_after (inner ++ x ∷ outer) k form ≡ within ++ own ∷ outer
-  pub depth : depth_behind (length inner) form ≡ length within
+  pub depth : depth_after (length inner) form ≡ length within
   pub line : own.line ≡ x.line
   pub later : Every (λ y. x.line < y.line) inner → x.line < k → Every (λ y. x.line < y.line) within
 
@@ -136,7 +136,7 @@ split inner x outer k line.Else e = else_split inner x outer k
 split inner x outer k form e = other_split inner x outer k form (opened form) refl refl refl
 
 -- after the line that opened the block
-pub behind_opener : (stack : List Opener) (k : ℕ) (form : SceneLine) (b : Block) → opened form ≡ Some b → stack_after stack k form ≡ record { block = b; line = k } ∷ stack
-behind_opener stack k line.End b e = absurd (let z : ⊥ = cc in z)
-behind_opener stack k line.Else b e = absurd (let z : ⊥ = cc in z)
-behind_opener stack k form b e = ap (λ t. with_block stack k t) e
+pub after_opener : (stack : List Opener) (k : ℕ) (form : SceneLine) (b : Block) → opened form ≡ Some b → stack_after stack k form ≡ record { block = b; line = k } ∷ stack
+after_opener stack k line.End b e = absurd (let z : ⊥ = cc in z)
+after_opener stack k line.Else b e = absurd (let z : ⊥ = cc in z)
+after_opener stack k form b e = ap (λ t. with_block stack k t) e

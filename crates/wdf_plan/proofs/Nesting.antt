@@ -11,9 +11,9 @@ use Rattle.wdf_scene.specs.declared.line.SceneLine.TheVariants as line
 use Rattle.wdf_plan.specs.declared.course.Nest.{Nest}
 use Rattle.wdf_plan.specs.declared.course.Nest.TheVariants as nest
 use Rattle.wdf_blocks.specs.declared.declaration.Declaration.{Declaration}
-use Rattle.wdf_blocks.specs.Blocks.{depth_behind, ends_block}
+use Rattle.wdf_blocks.specs.Blocks.{depth_after, ends_block}
 use Rattle.wdf_blocks.specs.Forms.{opens, is_end}
-use Rattle.wdf_plan.specs.Scripts.{nest_at, outer, loops, is_loop, again, blocks_behind, act_on, plain_act, statement_on, statement_at, number_behind, statements_in}
+use Rattle.wdf_plan.specs.Scripts.{nest_at, outer, loops, is_loop, again, nests_after, act_on, plain_act, statement_on, statement_at, number_after, statements_in}
 
 -- a line may stand in a callback, where so many of its blocks are open
 abbrev pub stands_inside : ℕ → SceneLine → Bool
@@ -26,7 +26,7 @@ stands_inside d form = not (opens form)
 abbrev pub IsBody : ℕ → List NumberedLine → Type 0
 IsBody d [] = ⊥
 IsBody d (l ∷ ls) =
-    (ends_block d l.form ≡ true) ⊎ ((ends_block d l.form ≡ false) × (stands_inside d l.form ≡ true) × IsBody (depth_behind d l.form) ls)
+    (ends_block d l.form ≡ true) ⊎ ((ends_block d l.form ≡ false) × (stands_inside d l.form ≡ true) × IsBody (depth_after d l.form) ls)
 
 -- ---- the innermost block is the last
 
@@ -76,7 +76,7 @@ loops_last front x = sum_by_push loop_count front x
 
 -- the statements and the open blocks after a line, where the next statement had number n and has number m
 pub record IsCounted (blocks behind : List Nest) (n m : ℕ) (form : SceneLine) : Type 0 where
-  pub depth : length behind ≡ depth_behind (length blocks) form
+  pub depth : length behind ≡ depth_after (length blocks) form
   pub number : m + loops behind ≡ n + loops blocks + statements_in form
   pub grows : n ≤ m
 
@@ -88,7 +88,7 @@ plain_line : (blocks : List Nest) (n : ℕ) (form : SceneLine) → opens form �
 plain_line blocks n form o e s =
     record { depth = rw (o, e) refl; number = rw s (omega arith); grows = omega arith }
 
-ended_line : (f : Act → Statement) (front : List Nest) (x : Nest) (n : ℕ) → IsCounted (front ++ x ∷ []) front n (number_behind n (option_map f (again (front ++ x ∷ []) (Some x)))) line.End
+ended_line : (f : Act → Statement) (front : List Nest) (x : Nest) (n : ℕ) → IsCounted (front ++ x ∷ []) front n (number_after n (option_map f (again (front ++ x ∷ []) (Some x)))) line.End
 unfolding opens is_end statements_in
 ended_line f front nest.Branch n =
     let long = length_last front nest.Branch in
@@ -99,7 +99,7 @@ ended_line f front (nest.Loop l k) n =
     let inner = loops_last front (nest.Loop l k) in
     record { depth = omega arith; number = omega arith; grows = omega arith }
 
-end_line : (f : Act → Statement) (blocks : List Nest) (n : ℕ) → HasLast blocks → IsCounted blocks (outer blocks) n (number_behind n (option_map f (again blocks (nest_at blocks 0)))) line.End
+end_line : (f : Act → Statement) (blocks : List Nest) (n : ℕ) → HasLast blocks → IsCounted blocks (outer blocks) n (number_after n (option_map f (again blocks (nest_at blocks 0)))) line.End
 end_line f blocks n h =
     rw h.is (rw (outer_last h.front h.last, nest_last h.front h.last) (ended_line f h.front h.last n))
 
@@ -114,8 +114,8 @@ unfolding is_end
 open_before zero e = absurd (let z : ⊥ = cc in z)
 open_before (suc d) e = omega arith
 
-counted_form : (f : Act → Statement) (names : List Declaration) (variables : List (List ℕ)) (blocks : List Nest) (n number : ℕ) (form : SceneLine) (rest : List NumberedLine) → ends_block (length blocks) form ≡ false → stands_inside (length blocks) form ≡ true → IsCounted blocks (blocks_behind blocks n number form) n (number_behind n (option_map f (act_on names variables blocks (blocks_behind blocks n number form) n form rest))) form
-unfolding opens is_end statements_in blocks_behind act_on plain_act
+counted_form : (f : Act → Statement) (names : List Declaration) (variables : List (List ℕ)) (blocks : List Nest) (n number : ℕ) (form : SceneLine) (rest : List NumberedLine) → ends_block (length blocks) form ≡ false → stands_inside (length blocks) form ≡ true → IsCounted blocks (nests_after blocks n number form) n (number_after n (option_map f (act_on names variables blocks (nests_after blocks n number form) n form rest))) form
+unfolding opens is_end statements_in nests_after act_on plain_act
 counted_form f names variables blocks n number line.End rest e s =
     end_line f blocks n (with_last blocks (open_before (length blocks) e))
 counted_form f names variables blocks n number (line.If x) rest e s = opened_line blocks n (line.If x) nest.Branch refl refl
@@ -132,7 +132,7 @@ counted_form f names variables blocks n number (line.Return y) rest e s = plain_
 counted_form f names variables blocks n number form rest e s = quiet_line blocks n form (not-true (opens form) s) refl refl
 
 -- a line that doesn't end the callback
-pub counted_line : (names : List Declaration) (variables : List (List ℕ)) (blocks : List Nest) (n : ℕ) (l : NumberedLine) (rest : List NumberedLine) → ends_block (length blocks) l.form ≡ false → stands_inside (length blocks) l.form ≡ true → IsCounted blocks (blocks_behind blocks n l.number l.form) n (number_behind n (statement_at names variables blocks n l rest)) l.form
+pub counted_line : (names : List Declaration) (variables : List (List ℕ)) (blocks : List Nest) (n : ℕ) (l : NumberedLine) (rest : List NumberedLine) → ends_block (length blocks) l.form ≡ false → stands_inside (length blocks) l.form ≡ true → IsCounted blocks (nests_after blocks n l.number l.form) n (number_after n (statement_at names variables blocks n l rest)) l.form
 unfolding statement_on
 counted_line names variables blocks n l rest e s =
     counted_form _ names variables blocks n l.number l.form rest e s

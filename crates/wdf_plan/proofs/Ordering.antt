@@ -39,8 +39,8 @@ belongs_inside _ e = absurd (let z : ⊥ = cc in z)
 abbrev IsBehindDevice : Placed → Type 0
 IsBehindDevice p = is_inside p.form ≡ true → 0 < p.counts.devices
 
-all_behind : (scene : Scene) → IsScene scene → Every IsBehindDevice (placed scene)
-all_behind scene s =
+all_after : (scene : Scene) → IsScene scene → Every IsBehindDevice (placed scene)
+all_after scene s =
     every_map (λ p. HasDevice (placed scene) p.stand p.counts × ((slice_get (placed scene) p.at ≡ Some p) × IsPassed scene p.at p)) IsBehindDevice (λ p h e. (at_home scene p h.0 h.1.1 (belongs_inside p.form e)).counted) (placed scene) (every_both _ _ (placed scene) (devices_known scene) (every_passed scene s))
 
 -- the id of the last device, 0 for none
@@ -121,4 +121,4 @@ order_from scene names k o c (l ∷ ls) behind =
 pub plan_ordered : (scene : Scene) (names : List Declaration) → IsScene scene → objects_in_order (all_objects scene names) ≡ true
 unfolding all_objects placed
 plan_ordered scene names s =
-    order_from scene names 0 outside nothing scene.lines (all_behind scene s)
+    order_from scene names 0 outside nothing scene.lines (all_after scene s)

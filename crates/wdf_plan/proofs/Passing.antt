@@ -11,7 +11,7 @@ use Rattle.wdf_plan.specs.declared.course.Nest.{Nest}
 use Rattle.wdf_plan.specs.declared.course.Nest.TheVariants as nest
 use Rattle.wdf_blocks.specs.declared.declaration.Declaration.{Declaration}
 use Rattle.wdf_blocks.specs.Forms.{opens, is_end, is_statement}
-use Rattle.wdf_plan.specs.Scripts.{nest_at, is_branch, is_else, statements_in, passed, reach, onward, beyond, blocks_behind, act_on, plain_act}
+use Rattle.wdf_plan.specs.Scripts.{nest_at, is_branch, is_else, statements_in, passed, reach, onward, beyond, nests_after, act_on, plain_act}
 use Rattle.wdf_plan.proofs.Nesting.{length_last, nest_last}
 use Rattle.wdf_plan.specs.Flow.{Body, Empty, Plain, If, IfElse, Repeat, is_plain, lines_of, size, entry, numbered}
 
@@ -23,13 +23,13 @@ pub record IsPlain (names : List Declaration) (variables : List (List ℕ)) (for
   pub other : is_else form ≡ false
   pub opening : opens form ≡ false
   pub one : statements_in form ≡ 1
-  pub behind : (blocks : List Nest) (n number : ℕ) → blocks_behind blocks n number form ≡ blocks
+  pub behind : (blocks : List Nest) (n number : ℕ) → nests_after blocks n number form ≡ blocks
   pub does : (blocks after : List Nest) (n : ℕ) (rest : List NumberedLine) → act_on names variables blocks after n form rest ≡ plain_act names variables form
   pub act : Act
   pub is : plain_act names variables form ≡ Some act
 
 pub plain_form : (names : List Declaration) (variables : List (List ℕ)) (form : SceneLine) → is_plain form ≡ true → IsPlain names variables form
-unfolding is_end is_else opens is_statement statements_in blocks_behind act_on plain_act
+unfolding is_end is_else opens is_statement statements_in nests_after act_on plain_act
 plain_form names variables (line.Let x e) h =
     record { ends = refl; other = refl; opening = refl; one = refl; behind = λ bs n k. refl; does = λ bs cs n rest. refl; act = _; is = refl }
 plain_form names variables (line.Call k into a b c) h =

@@ -10,13 +10,13 @@ use Rattle.wdf_blocks.specs.declared.placed.Stand.{Stand}
 use Rattle.wdf_blocks.specs.Placed.{one_more, counted, opened_by, placed_line, placed_from}
 use Rattle.wdf_refusals.proofs.Every.{Every}
 
-item_behind : {X : Type 0} (front : List X) (x : X) (rest : List X) → slice_get (front ++ x ∷ rest) (length front) ≡ Some x
-item_behind [] x rest = refl
-item_behind (y ∷ ys) x rest = item_behind ys x rest
+item_after : {X : Type 0} (front : List X) (x : X) (rest : List X) → slice_get (front ++ x ∷ rest) (length front) ≡ Some x
+item_after [] x rest = refl
+item_after (y ∷ ys) x rest = item_after ys x rest
 
 -- the item after the first k
 pub item_there : {X : Type 0} (whole front : List X) (x : X) (rest : List X) (k : ℕ) → whole ≡ front ++ x ∷ rest → length front ≡ k → slice_get whole k ≡ Some x
-item_there whole front x rest k is long = rw (is, ← long) (item_behind front x rest)
+item_there whole front x rest k is long = rw (is, ← long) (item_after front x rest)
 
 -- the place of a line that passes
 abbrev pub place_if : (SceneLine → Bool) → Placed → Option ℕ
@@ -59,7 +59,7 @@ at_front : {X : Type 0} (whole front : List X) (o : Option X) (rest : List X) (n
 at_front whole front None rest n e is x f = absurd (let z : ⊥ = cc in z)
 at_front whole front (Some y) rest n e is x f =
     let same : y ≡ x = cc in
-    rw (is, ← e, ← same) (item_behind front y rest)
+    rw (is, ← e, ← same) (item_after front y rest)
 
 -- where the item of each line stands in the list
 pub indexed : {X : Type 0} (is : SceneLine → Bool) (count : Counts → ℕ) (g : Placed → Option X) → ((c : Counts) (f : SceneLine) (n : ℕ) → count (counted c f n) ≡ one_more (count c) (is f)) → ((p : Placed) → is_some (g p) ≡ is p.form) → (whole front : List X) (k : ℕ) (o : Stand) (c : Counts) (ls : List NumberedLine) → length front ≡ count c → whole ≡ front ++ filter_map g (placed_from k o c ls) → Every (λ p. (x : X) → g p ≡ Some x → slice_get whole (count p.counts) ≡ Some x) (placed_from k o c ls)

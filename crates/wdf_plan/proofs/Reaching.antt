@@ -11,9 +11,9 @@ use Rattle.wdf_scene.specs.declared.line.SceneLine.TheVariants as line
 use Rattle.wdf_plan.specs.declared.course.Course.{Course}
 use Rattle.wdf_plan.specs.declared.course.Nest.{Nest}
 use Rattle.wdf_blocks.specs.declared.declaration.Declaration.{Declaration}
-use Rattle.wdf_blocks.specs.Blocks.{depth_behind, ends_block}
+use Rattle.wdf_blocks.specs.Blocks.{depth_after, ends_block}
 use Rattle.wdf_blocks.specs.Forms.{opens, is_end}
-use Rattle.wdf_plan.specs.Scripts.{nest_at, is_branch, is_else, going, skipping, passed, reach, loops, is_loop, blocks_behind, statement_at, statements_from, number_behind, statements_in}
+use Rattle.wdf_plan.specs.Scripts.{nest_at, is_branch, is_else, going, skipping, passed, reach, loops, is_loop, nests_after, statement_at, statements_from, number_after, statements_in}
 use Rattle.wdf_plan.proofs.Nesting.{stands_inside, IsBody, IsCounted, open_before, counted_line}
 
 -- 1 while blocks are passed over
@@ -147,17 +147,17 @@ unfolding statements_from
 end_here names variables blocks n l ls e =
     rw (same_end (length blocks) l.form, e) (omega arith)
 
-total_step : (n : ℕ) (o : Option Statement) (ss : List Statement) → n + length (cons_option o ss) ≡ number_behind n o + length ss
+total_step : (n : ℕ) (o : Option Statement) (ss : List Statement) → n + length (cons_option o ss) ≡ number_after n o + length ss
 total_step n None ss = refl
 total_step n (Some s) ss = omega arith
 
-pub end_later : (names : List Declaration) (variables : List (List ℕ)) (blocks : List Nest) (n : ℕ) (l : NumberedLine) (ls : List NumberedLine) → ends_block (length blocks) l.form ≡ false → end_from names variables blocks n (l ∷ ls) ≡ end_from names variables (blocks_behind blocks n l.number l.form) (number_behind n (statement_at names variables blocks n l ls)) ls
+pub end_later : (names : List Declaration) (variables : List (List ℕ)) (blocks : List Nest) (n : ℕ) (l : NumberedLine) (ls : List NumberedLine) → ends_block (length blocks) l.form ≡ false → end_from names variables blocks n (l ∷ ls) ≡ end_from names variables (nests_after blocks n l.number l.form) (number_after n (statement_at names variables blocks n l ls)) ls
 unfolding statements_from
 end_later names variables blocks n l ls e =
-    rw (same_end (length blocks) l.form, e) (total_step n (statement_at names variables blocks n l ls) (statements_from names variables (blocks_behind blocks n l.number l.form) (number_behind n (statement_at names variables blocks n l ls)) ls))
+    rw (same_end (length blocks) l.form, e) (total_step n (statement_at names variables blocks n l ls) (statements_from names variables (nests_after blocks n l.number l.form) (number_after n (statement_at names variables blocks n l ls)) ls))
 
-pub body_behind : (d e : ℕ) (ls : List NumberedLine) → e ≡ d → IsBody d ls → IsBody e ls
-body_behind d e ls same h = subst (λ x. IsBody x ls) (sym same) h
+pub body_after : (d e : ℕ) (ls : List NumberedLine) → e ≡ d → IsBody d ls → IsBody e ls
+body_after d e ls same h = subst (λ x. IsBody x ls) (sym same) h
 
 pub loops_few : (blocks : List Nest) → loops blocks ≤ length blocks
 unfolding loops
@@ -174,7 +174,7 @@ open_within names variables blocks n (l ∷ ls) (inl ends) =
 open_within names variables blocks n (l ∷ ls) (inr h) =
     let c = counted_line names variables blocks n l ls h.0 h.1 in
     let adds = c.number in
-    let rest = open_within names variables (blocks_behind blocks n l.number l.form) (number_behind n (statement_at names variables blocks n l ls)) ls (body_behind (depth_behind (length blocks) l.form) _ ls c.depth h.2) in
+    let rest = open_within names variables (nests_after blocks n l.number l.form) (number_after n (statement_at names variables blocks n l ls)) ls (body_after (depth_after (length blocks) l.form) _ ls c.depth h.2) in
     let later = end_later names variables blocks n l ls h.0 in
     omega arith
 
@@ -207,9 +207,9 @@ reach_within names variables start way blocks n (l ∷ ls) along (inl ends) =
     rw here (way_step start way ls n (passed start way l.form) low (λ next e. absurd (let z : ⊥ = cc in z)))
 reach_within names variables start way blocks n (l ∷ ls) along (inr h) =
     let c = counted_line names variables blocks n l ls h.0 h.1 in
-    let behind = blocks_behind blocks n l.number l.form in
-    let m = number_behind n (statement_at names variables blocks n l ls) in
-    let body = body_behind (depth_behind (length blocks) l.form) (length behind) ls c.depth h.2 in
+    let behind = nests_after blocks n l.number l.form in
+    let m = number_after n (statement_at names variables blocks n l ls) in
+    let body = body_after (depth_after (length blocks) l.form) (length behind) ls c.depth h.2 in
     let within = open_within names variables blocks n (l ∷ ls) (inr h) in
     let number = along.number in
     let low : way.number ≤ end_from names variables behind m ls = let later = end_later names variables blocks n l ls h.0 in omega arith in

@@ -22,7 +22,7 @@ use Rattle.wdf_refusals.specs.Limits.{over_level}
 use Rattle.wdf_plan.specs.Parts.{app_agent, class_on, device_agent, interrupt_info, line_picks, object_of, object_on, target_agent}
 use Rattle.wdf_blocks.specs.Placed.{placed}
 use Rattle.wdf_plan.specs.Plans.{all_agents, all_objects, header_of, plan_with, plan_of}
-use Rattle.wdf_plan.specs.Scripts.{blocks_behind, ends_callback, nodes_on, number_behind, owner_of, script_on, statement_at, statements_from, statements_of}
+use Rattle.wdf_plan.specs.Scripts.{nests_after, ends_callback, nodes_on, number_after, owner_of, script_on, statement_at, statements_from, statements_of}
 use Rattle.wdf_blocks.specs.Variables.{variables}
 use Rattle.wdf_plan.proofs.Accepted.{IsAccepted, each_accepted}
 use Rattle.wdf_plan.proofs.Bounds.{IsBounded, plan_bounded}
@@ -172,7 +172,7 @@ statements_few : (names : List Declaration) (vars : List (List ℕ)) (blocks : L
 unfolding statements_from
 statements_few names vars blocks n [] = omega arith
 statements_few names vars blocks n (l ∷ ls) =
-    more_few (ends_callback blocks l.form) (statement_at names vars blocks n l ls) _ (length ls) (statements_few names vars (blocks_behind blocks n l.number l.form) (number_behind n (statement_at names vars blocks n l ls)) ls)
+    more_few (ends_callback blocks l.form) (statement_at names vars blocks n l ls) _ (length ls) (statements_few names vars (nests_after blocks n l.number l.form) (number_after n (statement_at names vars blocks n l ls)) ls)
 
 drop_few : {T : Type 0} (k : ℕ) (xs : List T) → length (drop k xs) ≤ length xs
 drop_few zero xs = omega arith

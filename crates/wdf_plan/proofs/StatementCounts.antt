@@ -21,13 +21,13 @@ use Rattle.wdf_blocks.specs.declared.declaration.Declaration.{Declaration}
 use Rattle.wdf_blocks.specs.declared.placed.Counts.{Counts}
 use Rattle.wdf_blocks.specs.declared.placed.Placed.{Placed}
 use Rattle.wdf_blocks.specs.declared.placed.Stand.{Stand}
-use Rattle.wdf_blocks.specs.Blocks.{depth_behind, ends_block}
+use Rattle.wdf_blocks.specs.Blocks.{depth_after, ends_block}
 use Rattle.wdf_blocks.specs.Declarations.{declarations}
 use Rattle.wdf_blocks.specs.Forms.{opens, is_end, is_statement}
 use Rattle.wdf_refusals.specs.Limits.{exceeds, is_one_too_many}
 use Rattle.wdf_blocks.specs.Placed.{outside, nothing, closed, closed_block, counted, opened_by, placed_line, placed_from, placed}
 use Rattle.wdf_plan.specs.Plans.{plan_with, plan_of}
-use Rattle.wdf_plan.specs.Scripts.{nest_at, again, blocks_behind, plain_act, act_on, statement_on, statement_at, statements_from, statements_of, number_behind, owner_of, script_on}
+use Rattle.wdf_plan.specs.Scripts.{nest_at, again, nests_after, plain_act, act_on, statement_on, statement_at, statements_from, statements_of, number_after, owner_of, script_on}
 use Rattle.wdf_blocks.specs.Variables.{variables}
 use Rattle.wdf_plan.proofs.Accepted.{IsAccepted}
 use Rattle.wdf_plan.proofs.Bodies.{HasBody, every_body}
@@ -35,7 +35,7 @@ use Rattle.wdf_plan.proofs.Counting.{bounded, from_zero}
 use Rattle.wdf_refusals.proofs.Every.{Every, every_map}
 use Rattle.wdf_plan.proofs.InCallbacks.{IsWithin, goes_on, leaves}
 use Rattle.wdf_plan.proofs.Nesting.{stands_inside, IsBody, counted_line}
-use Rattle.wdf_plan.proofs.Reaching.{body_behind, same_end}
+use Rattle.wdf_plan.proofs.Reaching.{body_after, same_end}
 
 -- ---- one line
 
@@ -62,7 +62,7 @@ act_weight told next names variables blocks behind n _ rest = refl
 line_weight : (names : List Declaration) (variables : List (List ℕ)) (blocks : List Nest) (n : ℕ) (l : NumberedLine) (rest : List NumberedLine) → weight (statement_at names variables blocks n l rest) ≡ one_line l.form
 unfolding statement_on
 line_weight names variables blocks n l rest =
-    act_weight _ _ names variables blocks (blocks_behind blocks n l.number l.form) n l.form rest
+    act_weight _ _ names variables blocks (nests_after blocks n l.number l.form) n l.form rest
 
 -- how many of these statements count
 abbrev counting : List Statement → ℕ
@@ -165,12 +165,12 @@ inside_line scene names j o c l ls ps k variables blocks n h w (inr body) =
     let p = placed_line j o c l in
     let a = adds scene names p ps in
     let begins = no_script scene names p (length blocks) l.form (inr body.1) in
-    let behind = blocks_behind blocks n l.number l.form in
-    let m = number_behind n (statement_at names variables blocks n l ls) in
+    let behind = nests_after blocks n l.number l.form in
+    let m = number_after n (statement_at names variables blocks n l ls) in
     let more : statements_from names variables blocks n (l ∷ ls) ≡ cons_option (statement_at names variables blocks n l ls) (statements_from names variables behind m ls) = rw (same_end (length blocks) l.form, body.0) refl in
     let deep = (counted_line names variables blocks n l ls body.0 body.1).depth in
     let within : IsWithin (opened_by o j l.form) k (length behind) = rw deep (goes_on o k j (length blocks) l.form w body.0 body.1) in
-    let rest = h.inside k variables behind m within (body_behind (depth_behind (length blocks) l.form) (length behind) ls deep body.2) in
+    let rest = h.inside k variables behind m within (body_after (depth_after (length blocks) l.form) (length behind) ls deep body.2) in
     let all = counting_cons (statement_at names variables blocks n l ls) (statements_from names variables behind m ls) in
     let here = line_weight names variables blocks n l ls in
     rw more (omega (arith, a.0, a.1, begins, rest, all, here))

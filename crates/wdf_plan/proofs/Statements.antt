@@ -15,12 +15,12 @@ use Rattle.wdf_plan.specs.declared.course.Nest.{Nest}
 use Rattle.wdf_plan.specs.declared.course.Nest.TheVariants as nest
 use Rattle.wdf_blocks.specs.declared.declaration.Declaration.{Declaration}
 use Rattle.wdf_blocks.specs.declared.declaration.Wanted.TheVariants as wanted
-use Rattle.wdf_blocks.specs.Blocks.{depth_behind, ends_block}
+use Rattle.wdf_blocks.specs.Blocks.{depth_after, ends_block}
 use Rattle.wdf_refusals.specs.Numbers.{number_of}
-use Rattle.wdf_plan.specs.Scripts.{nest_at, outer, loops, again, reach, onward, beyond, variable_of, answer_place, argument_of, blocks_behind, plain_act, act_on, told_line, statement_on, statement_at, statements_from, number_behind, statements_in}
+use Rattle.wdf_plan.specs.Scripts.{nest_at, outer, loops, again, reach, onward, beyond, variable_of, answer_place, argument_of, nests_after, plain_act, act_on, told_line, statement_on, statement_at, statements_from, number_after, statements_in}
 use Rattle.wdf_refusals.proofs.Every.{Every, every_map}
 use Rattle.wdf_plan.proofs.Nesting.{stands_inside, IsBody, open_before, IsCounted, counted_line, HasLast, with_last, length_last, outer_last, nest_last, loops_last}
-use Rattle.wdf_plan.proofs.Reaching.{IsAlong, end_from, end_later, reach_within, body_behind, loops_few, same_end}
+use Rattle.wdf_plan.proofs.Reaching.{IsAlong, end_from, end_later, reach_within, body_after, loops_few, same_end}
 
 -- the numbers of a line's statement stand for what their places need
 abbrev pub HasNumbers : Plan → List Declaration → SceneLine → Type 0
@@ -81,17 +81,17 @@ ended_nest blocks n m s h grows =
     let without : outer blocks ≡ s.front = ap outer s.is ∙ outer_last s.front s.last in
     rw without (record { few = omega arith; begun = all_later n m s.front grows front.0 })
 
-nested_behind : (blocks : List Nest) (n m number : ℕ) (form : SceneLine) → ends_block (length blocks) form ≡ false → stands_inside (length blocks) form ≡ true → IsCounted blocks (blocks_behind blocks n number form) n m form → IsNested blocks n → IsNested (blocks_behind blocks n number form) m
-unfolding blocks_behind statements_in
-nested_behind blocks n m number line.End ends may c h =
+nested_after : (blocks : List Nest) (n m number : ℕ) (form : SceneLine) → ends_block (length blocks) form ≡ false → stands_inside (length blocks) form ≡ true → IsCounted blocks (nests_after blocks n number form) n m form → IsNested blocks n → IsNested (nests_after blocks n number form) m
+unfolding nests_after statements_in
+nested_after blocks n m number line.End ends may c h =
     ended_nest blocks n m (with_last blocks (open_before (length blocks) ends)) h c.grows
-nested_behind blocks n m number (line.If x) ends may c h =
+nested_after blocks n m number (line.If x) ends may c h =
     open_more blocks n m nest.Branch h (ltb-true (length blocks) 16 may) c.grows tt
-nested_behind blocks n m number (line.Repeat x) ends may c h =
+nested_after blocks n m number (line.Repeat x) ends may c h =
     let adds : m + loops (blocks ++ nest.Loop number n ∷ []) ≡ n + loops blocks + 2 = c.number in
     let inner = loops_last blocks (nest.Loop number n) in
     open_more blocks n m (nest.Loop number n) h (ltb-true (length blocks) 16 may) c.grows (omega arith)
-nested_behind blocks n m number form ends may c h = same_blocks blocks n m h c.grows
+nested_after blocks n m number form ends may c h = same_blocks blocks n m h c.grows
 
 -- ---- the ways on from a statement
 
@@ -139,8 +139,8 @@ end_fits plan total blocks n a s h within e =
     let same : again blocks (Some s.last) ≡ Some a = subst (λ o. again blocks o ≡ Some a) there e in
     again_fits plan total s.front s.last n a (subst (λ bs. IsNested bs n) s.is h) within (subst (λ bs. again bs (Some s.last) ≡ Some a) s.is same)
 
-act_on_fits : (plan : Plan) (names : List Declaration) (variables : List (List ℕ)) (blocks : List Nest) (n number total : ℕ) (form : SceneLine) (rest : List NumberedLine) (a : Act) → AreFew variables → HasNumbers plan names form → ends_block (length blocks) form ≡ false → stands_inside (length blocks) form ≡ true → IsNested blocks n → Bounded (blocks_behind blocks n number form) (n + 1) rest total → act_on names variables blocks (blocks_behind blocks n number form) n form rest ≡ Some a → act_fits plan total a ≡ true
-unfolding act_on plain_act blocks_behind Bounded
+act_on_fits : (plan : Plan) (names : List Declaration) (variables : List (List ℕ)) (blocks : List Nest) (n number total : ℕ) (form : SceneLine) (rest : List NumberedLine) (a : Act) → AreFew variables → HasNumbers plan names form → ends_block (length blocks) form ≡ false → stands_inside (length blocks) form ≡ true → IsNested blocks n → Bounded (nests_after blocks n number form) (n + 1) rest total → act_on names variables blocks (nests_after blocks n number form) n form rest ≡ Some a → act_fits plan total a ≡ true
+unfolding act_on plain_act nests_after Bounded
 act_on_fits plan names variables blocks n number total line.End rest a few h ends may nested ways e =
     let past = ways.0 in
     end_fits plan total blocks n a (with_last blocks (open_before (length blocks) ends)) nested (omega arith) e
@@ -182,10 +182,10 @@ pub made : {A B : Type 0} (f : A → B) (o : Option A) (b : B) → option_map f 
 made f None b e = absurd (let z : ⊥ = cc in z)
 made f (Some a) b e = record { from = a; is = refl; makes = cc }
 
-line_fits : (plan : Plan) (names : List Declaration) (variables : List (List ℕ)) (blocks : List Nest) (n total : ℕ) (l : NumberedLine) (rest : List NumberedLine) (s : Statement) → AreFew variables → HasNumbers plan names l.form → ends_block (length blocks) l.form ≡ false → stands_inside (length blocks) l.form ≡ true → IsNested blocks n → Bounded (blocks_behind blocks n l.number l.form) (n + 1) rest total → statement_at names variables blocks n l rest ≡ Some s → statement_fits plan total s ≡ true
+line_fits : (plan : Plan) (names : List Declaration) (variables : List (List ℕ)) (blocks : List Nest) (n total : ℕ) (l : NumberedLine) (rest : List NumberedLine) (s : Statement) → AreFew variables → HasNumbers plan names l.form → ends_block (length blocks) l.form ≡ false → stands_inside (length blocks) l.form ≡ true → IsNested blocks n → Bounded (nests_after blocks n l.number l.form) (n + 1) rest total → statement_at names variables blocks n l rest ≡ Some s → statement_fits plan total s ≡ true
 unfolding statement_on Bounded
 line_fits plan names variables blocks n total l rest s few h ends may nested ways e =
-    let behind = blocks_behind blocks n l.number l.form in
+    let behind = nests_after blocks n l.number l.form in
     let m = made (λ a. record { line = told_line blocks l.number l.form; next = onward behind (n + 1) rest; act = a }) (act_on names variables blocks behind n l.form rest) s e in
     let near = ways.1 (record { skipping = 0; left = 0; number = n + 1 }) (onward_along behind (n + 1)) in
     subst (λ x. statement_fits plan total x ≡ true) m.makes (and_from _ _ (le-leb (onward behind (n + 1) rest) total near) (act_on_fits plan names variables blocks n l.number total l.form rest m.from few h ends may nested ways m.is))
@@ -198,14 +198,14 @@ from_end : (names : List Declaration) (variables : List (List ℕ)) (blocks : Li
 unfolding statements_from
 from_end names variables blocks n l ls e = rw (same_end (length blocks) l.form, e) refl
 
-from_line : (names : List Declaration) (variables : List (List ℕ)) (blocks : List Nest) (n : ℕ) (l : NumberedLine) (ls : List NumberedLine) → ends_block (length blocks) l.form ≡ false → statements_from names variables blocks n (l ∷ ls) ≡ cons_option (statement_at names variables blocks n l ls) (statements_from names variables (blocks_behind blocks n l.number l.form) (number_behind n (statement_at names variables blocks n l ls)) ls)
+from_line : (names : List Declaration) (variables : List (List ℕ)) (blocks : List Nest) (n : ℕ) (l : NumberedLine) (ls : List NumberedLine) → ends_block (length blocks) l.form ≡ false → statements_from names variables blocks n (l ∷ ls) ≡ cons_option (statement_at names variables blocks n l ls) (statements_from names variables (nests_after blocks n l.number l.form) (number_after n (statement_at names variables blocks n l ls)) ls)
 unfolding statements_from
 from_line names variables blocks n l ls e = rw (same_end (length blocks) l.form, e) refl
 
-bounded : (names : List Declaration) (variables : List (List ℕ)) (behind : List Nest) (n m total : ℕ) (o : Option Statement) (ls : List NumberedLine) (s : Statement) → IsBody (length behind) ls → m ≡ number_behind n o → o ≡ Some s → end_from names variables behind m ls ≡ total → Bounded behind (n + 1) ls total
+bounded : (names : List Declaration) (variables : List (List ℕ)) (behind : List Nest) (n m total : ℕ) (o : Option Statement) (ls : List NumberedLine) (s : Statement) → IsBody (length behind) ls → m ≡ number_after n o → o ≡ Some s → end_from names variables behind m ls ≡ total → Bounded behind (n + 1) ls total
 unfolding Bounded
 bounded names variables behind n m total o ls s body is some' e =
-    let next : m ≡ n + 1 = is ∙ ap (number_behind n) some' in
+    let next : m ≡ n + 1 = is ∙ ap (number_after n) some' in
     (omega arith, λ way along. subst (λ t. reach behind way ls ≤ t) e (reach_within names variables behind way behind m ls (rw next along) body))
 
 pub statements_fit : (plan : Plan) (names : List Declaration) (variables : List (List ℕ)) (blocks : List Nest) (n total : ℕ) (ls : List NumberedLine) → AreFew variables → Every (λ l. HasNumbers plan names l.form) ls → IsBody (length blocks) ls → IsNested blocks n → end_from names variables blocks n ls ≡ total → Every (λ s. statement_fits plan total s ≡ true) (statements_from names variables blocks n ls)
@@ -215,8 +215,8 @@ statements_fit plan names variables blocks n total (l ∷ ls) few h (inl ends) n
 statements_fit plan names variables blocks n total (l ∷ ls) few h (inr body) nested e =
     let c = counted_line names variables blocks n l ls body.0 body.1 in
     let o = statement_at names variables blocks n l ls in
-    let m = number_behind n o in
-    let behind = blocks_behind blocks n l.number l.form in
-    let rest = body_behind (depth_behind (length blocks) l.form) (length behind) ls c.depth body.2 in
+    let m = number_after n o in
+    let behind = nests_after blocks n l.number l.form in
+    let rest = body_after (depth_after (length blocks) l.form) (length behind) ls c.depth body.2 in
     let later = sym (end_later names variables blocks n l ls body.0) ∙ e in
-    rw (from_line names variables blocks n l ls body.0) (with_statement (λ s. statement_fits plan total s ≡ true) o (statements_from names variables behind m ls) (λ s is. line_fits plan names variables blocks n total l ls s few h.0 body.0 body.1 nested (bounded names variables behind n m total o ls s rest refl is later) is) (statements_fit plan names variables behind m total ls few h.1 rest (nested_behind blocks n m l.number l.form body.0 body.1 c nested) later))
+    rw (from_line names variables blocks n l ls body.0) (with_statement (λ s. statement_fits plan total s ≡ true) o (statements_from names variables behind m ls) (λ s is. line_fits plan names variables blocks n total l ls s few h.0 body.0 body.1 nested (bounded names variables behind n m total o ls s rest refl is later) is) (statements_fit plan names variables behind m total ls few h.1 rest (nested_after blocks n m l.number l.form body.0 body.1 c nested) later))

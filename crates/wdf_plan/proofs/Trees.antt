@@ -223,11 +223,11 @@ form_of_callback q (b ∷ bs) form is seen inside may =
     form_in q.version q.driver q.pnp q.order b bs form (inside_callback b bs inside) (subst (λ r. may_stand r form ≡ true) same may)
 
 -- the first three lines stay after
-still_behind : (q : Position) (form : SceneLine) → q.headers ≡ 3 → may_stand q form ≡ true → (moved q form).headers ≡ 3
-still_behind q (line.Cpus n) seen may = absurd (let no' : (3 == 0) ≡ true = subst (λ h. (h == 0) ≡ true) seen may in let z : ⊥ = cc in z)
-still_behind q (line.Limit n) seen may = absurd (let no' : (3 == 1) ≡ true = subst (λ h. (h == 1) ≡ true) seen may in let z : ⊥ = cc in z)
-still_behind q (line.Objects n) seen may = absurd (let no' : (3 == 2) ≡ true = subst (λ h. (h == 2) ≡ true) seen may in let z : ⊥ = cc in z)
-still_behind q _ seen may = seen
+still_after : (q : Position) (form : SceneLine) → q.headers ≡ 3 → may_stand q form ≡ true → (moved q form).headers ≡ 3
+still_after q (line.Cpus n) seen may = absurd (let no' : (3 == 0) ≡ true = subst (λ h. (h == 0) ≡ true) seen may in let z : ⊥ = cc in z)
+still_after q (line.Limit n) seen may = absurd (let no' : (3 == 1) ≡ true = subst (λ h. (h == 1) ≡ true) seen may in let z : ⊥ = cc in z)
+still_after q (line.Objects n) seen may = absurd (let no' : (3 == 2) ≡ true = subst (λ h. (h == 2) ≡ true) seen may in let z : ⊥ = cc in z)
+still_after q _ seen may = seen
 
 not_outside : (q : Position) (bs : List Block) → q.blocks ≡ bs → AreInside bs → is_outside q ≡ true → ⊥
 not_outside q [] is inside e = inside
@@ -240,7 +240,7 @@ bodies_from : (q : Position) (ls : List NumberedLine) → q.headers ≡ 3 → Ar
 bodies_from q [] seen inside picks ends = absurd (not_outside q q.blocks refl inside ends)
 bodies_from q (l ∷ ls) seen inside picks ends =
     let st = stood q l.form (map form_of ls) (may_stand q l.form) refl ends in
-    tree_line q.blocks l l.form ls refl inside picks.0 (form_of_callback q q.blocks l.form refl seen inside st.0) (λ h. bodies_from (moved q l.form) ls (still_behind q l.form seen st.0) h picks.1 st.1)
+    tree_line q.blocks l l.form ls refl inside picks.0 (form_of_callback q q.blocks l.form refl seen inside st.0) (λ h. bodies_from (moved q l.form) ls (still_after q l.form seen st.0) h picks.1 st.1)
 
 begun : (q : Position) (form : SceneLine) (c : Callback) (ls : List NumberedLine) → q.headers ≡ 3 → form ≡ line.On c → Every PicksNothing ls → Ends (moved q form) (map form_of ls) → IsEnded ls (λ rest. Unit {0})
 begun q form c ls seen e picks ends =
@@ -255,7 +255,7 @@ callback_tree q (x ∷ ls) zero l c seen picks ends is on =
     begun q x.form c ls seen (ap form_of same ∙ on) picks.1 st.1
 callback_tree q (x ∷ ls) (suc k) l c seen picks ends is on =
     let st = stood q x.form (map form_of ls) (may_stand q x.form) refl ends in
-    callback_tree (moved q x.form) ls k l c (still_behind q x.form seen st.0) picks.1 st.1 is on
+    callback_tree (moved q x.form) ls k l c (still_after q x.form seen st.0) picks.1 st.1 is on
 
 -- one of the first three lines begins no callback
 no_header : (l m : NumberedLine) (form : SceneLine) (c : Callback) → Some m ≡ Some l → m.form ≡ form → (form ≡ line.On c → ⊥) → l.form ≡ line.On c → ⊥
@@ -278,7 +278,7 @@ has_tree scene s k l c is on =
     record {
       body = tree.body;
       closing = tree.closing;
-      behind = tree.rest;
+      lines_after = tree.rest;
       spelled = tree.is;
       statements = λ names. ap (λ ls. statements_from names (variables scene k) [] 0 ls) tree.is ∙ statements_flow names (variables scene k) tree.body (numbered tree.closing line.End) tree.rest refl;
     }

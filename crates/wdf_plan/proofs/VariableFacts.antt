@@ -15,7 +15,7 @@ use Rattle.wdf_scene.specs.Written.{IsScene}
 use Rattle.wdf_blocks.specs.declared.placed.Counts.{Counts}
 use Rattle.wdf_blocks.specs.declared.placed.Placed.{Placed}
 use Rattle.wdf_blocks.specs.declared.placed.Stand.{Stand}
-use Rattle.wdf_blocks.specs.Blocks.{depth_behind, ends_block}
+use Rattle.wdf_blocks.specs.Blocks.{depth_after, ends_block}
 use Rattle.wdf_blocks.specs.Forms.{assigned_name}
 use Rattle.wdf_refusals.specs.Limits.{exceeds, over_variables}
 use Rattle.wdf_blocks.specs.Placed.{counted, opened_by, placed_from, placed}
@@ -59,7 +59,7 @@ begins_from : (names : List (List ℕ)) (depth : ℕ) (ls : List NumberedLine) �
 unfolding assigned_from
 begins_from names depth [] = begins_self names
 begins_from names depth (l ∷ ls) =
-    begins_step names _ (ends_block depth l.form) (begins_trans names (with_assigned names (assigned_name l.form)) _ (begins_with names (assigned_name l.form)) (begins_from (with_assigned names (assigned_name l.form)) (depth_behind depth l.form) ls))
+    begins_step names _ (ends_block depth l.form) (begins_trans names (with_assigned names (assigned_name l.form)) _ (begins_with names (assigned_name l.form)) (begins_from (with_assigned names (assigned_name l.form)) (depth_after depth l.form) ls))
 
 -- ---- a name that is new has the number of those before it
 
@@ -112,10 +112,10 @@ bound_from scene names k depth j o c (l ∷ ls) (inl ends) a w e fits =
     rw all fits
 bound_from scene names k depth j o c (l ∷ ls) (inr body) a w e fits =
     let more = with_assigned names (assigned_name l.form) in
-    let all : variables scene k ≡ assigned_from more (depth_behind depth l.form) ls = e ∙ rw body.0 refl in
-    let begins : Begins more (variables scene k) = rw all (begins_from more (depth_behind depth l.form) ls) in
+    let all : variables scene k ≡ assigned_from more (depth_after depth l.form) ls = e ∙ rw body.0 refl in
+    let begins : Begins more (variables scene k) = rw all (begins_from more (depth_after depth l.form) ls) in
     let over : over_variables (variables scene k) (assigned_name l.form) ≡ false = rw w.callback at a.0 in
-    bound_from scene more k (depth_behind depth l.form) (suc j) (opened_by o j l.form) (counted c l.form (length l.picks)) ls body.2 a.1 (goes_on o k j depth l.form w body.0 body.1) all (grown (variables scene k) names (assigned_name l.form) begins over fits)
+    bound_from scene more k (depth_after depth l.form) (suc j) (opened_by o j l.form) (counted c l.form (length l.picks)) ls body.2 a.1 (goes_on o k j depth l.form w body.0 body.1) all (grown (variables scene k) names (assigned_name l.form) begins over fits)
 
 -- ---- at most 16
 

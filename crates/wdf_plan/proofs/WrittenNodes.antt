@@ -14,7 +14,7 @@ use Rattle.wdf_scene.specs.Written.{Atom, Number, Named, Literal, Context, Tree,
 use Rattle.wdf_blocks.specs.declared.placed.Counts.{Counts}
 use Rattle.wdf_blocks.specs.declared.placed.Placed.{Placed}
 use Rattle.wdf_blocks.specs.declared.placed.Stand.{Stand}
-use Rattle.wdf_blocks.specs.Forms.{nodes_behind, nodes_end}
+use Rattle.wdf_blocks.specs.Forms.{nodes_after, nodes_end}
 use Rattle.wdf_blocks.specs.Placed.{outside, nothing, counted, opened_by, placed_line, placed_from, placed}
 use Rattle.wdf_refusals.specs.Rows.{nodes_of}
 use Rattle.wdf_refusals.proofs.Every.{Every}
@@ -64,8 +64,8 @@ head_end base e head.Spend = refl
 head_end base e head.Log = refl
 head_end base e head.Return = refl
 
-argument_end : (base : ℕ) (a : Argument) → nodes_behind base (numbered_argument base a) ≡ base + argument_size a
-unfolding nodes_behind
+argument_end : (base : ℕ) (a : Argument) → nodes_after base (numbered_argument base a) ≡ base + argument_size a
+unfolding nodes_after
 argument_end base Missing = omega arith
 argument_end base (Valued a) = omega arith
 argument_end base (OfClass n) = omega arith

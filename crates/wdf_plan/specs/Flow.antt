@@ -79,17 +79,17 @@ flow names variables depth start after (Plain l is rest) =
     cons_option (plain_statement names variables l (entry rest (start + 1) after)) (flow names variables depth (start + 1) after rest)
 -- an `if` goes on to its branch or, where the test fails, to what is after; so does the branch
 flow names variables depth start after (If h branch closing rest) =
-    let behind = start + 1 + size branch in
-    let next = entry rest behind after in
+    let following = start + 1 + size branch in
+    let next = entry rest following after in
     record { line = h.line; next = entry branch (start + 1) next; act = act.If h.expression next }
-    ∷ (flow names variables depth (start + 1) next branch ++ flow names variables depth behind after rest)
+    ∷ (flow names variables depth (start + 1) next branch ++ flow names variables depth following after rest)
 -- with an `else` it goes on to one of two branches, and both go on to what is after
 flow names variables depth start after (IfElse h first middle second closing rest) =
     let other = start + 1 + size first in
-    let behind = other + size second in
-    let next = entry rest behind after in
+    let following = other + size second in
+    let next = entry rest following after in
     record { line = h.line; next = entry first (start + 1) next; act = act.If h.expression (entry second other next) }
-    ∷ (flow names variables depth (start + 1) next first ++ (flow names variables depth other next second ++ flow names variables depth behind after rest))
+    ∷ (flow names variables depth (start + 1) next first ++ (flow names variables depth other next second ++ flow names variables depth following after rest))
 -- a `repeat` goes on to its body, or past it; the body goes on to the statement `again`, and that to the body's start, or past it
 flow names variables depth start after (Repeat h body closing rest) =
     let again = start + 1 + size body in
@@ -103,6 +103,6 @@ flow names variables depth start after (Repeat h body closing rest) =
 pub record HasTree (scene : Scene) (k : ℕ) : Type 0 where
   pub body : Body
   pub closing : ℕ
-  pub behind : List NumberedLine
-  pub spelled : drop (suc k) scene.lines ≡ lines_of body ++ numbered closing line.End ∷ behind
+  pub lines_after : List NumberedLine
+  pub spelled : drop (suc k) scene.lines ≡ lines_of body ++ numbered closing line.End ∷ lines_after
   pub statements : (names : List Declaration) → statements_of scene names k ≡ flow names (variables scene k) 0 0 (size body) body

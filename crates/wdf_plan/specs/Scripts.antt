@@ -194,20 +194,20 @@ again blocks (Some (nest.Loop line number)) = Some (act.Again (loops (outer bloc
 again blocks _ = None
 
 -- the open blocks after a line, whose statement would have this number
-unfoldable pub blocks_behind : List Nest → ℕ → ℕ → SceneLine → List Nest
-blocks_behind blocks n number (line.If e) = blocks ++ nest.Branch ∷ []
-blocks_behind blocks n number (line.Repeat e) = blocks ++ nest.Loop number n ∷ []
-blocks_behind blocks n number line.End = outer blocks
-blocks_behind blocks n number _ = blocks
+unfoldable pub nests_after : List Nest → ℕ → ℕ → SceneLine → List Nest
+nests_after blocks n number (line.If e) = blocks ++ nest.Branch ∷ []
+nests_after blocks n number (line.Repeat e) = blocks ++ nest.Loop number n ∷ []
+nests_after blocks n number line.End = outer blocks
+nests_after blocks n number _ = blocks
 
 -- what the statement with number n does, where these blocks are open before its line and after it, and these lines follow
 unfoldable pub act_on : List Declaration → List (List ℕ) → List Nest → List Nest → ℕ → SceneLine → List NumberedLine → Option Act
-act_on names variables blocks behind n (line.If e) rest =
-    Some (act.If e (beyond behind (n + 1) rest))
-act_on names variables blocks behind n (line.Repeat e) rest =
-    Some (act.Repeat e (loops blocks) (beyond behind (n + 2) rest))
-act_on names variables blocks behind n line.End rest = again blocks (nest_at blocks 0)
-act_on names variables blocks behind n form rest = plain_act names variables form
+act_on names variables blocks after n (line.If e) rest =
+    Some (act.If e (beyond after (n + 1) rest))
+act_on names variables blocks after n (line.Repeat e) rest =
+    Some (act.Repeat e (loops blocks) (beyond after (n + 2) rest))
+act_on names variables blocks after n line.End rest = again blocks (nest_at blocks 0)
+act_on names variables blocks after n form rest = plain_act names variables form
 
 -- the line of the text that a statement tells: the end of a `repeat` tells the `repeat`
 abbrev pub loop_line : ℕ → Option Nest → ℕ
@@ -219,22 +219,22 @@ told_line blocks number form = cond (is_end form) (loop_line number (nest_at blo
 
 -- the statement of a line, if it has one
 unfoldable pub statement_on : List Declaration → List (List ℕ) → List Nest → List Nest → ℕ → NumberedLine → List NumberedLine → Option Statement
-statement_on names variables blocks behind n l rest =
+statement_on names variables blocks after n l rest =
     option_map (λ a. record {
       line = told_line blocks l.number l.form;
-      next = onward behind (n + 1) rest;
+      next = onward after (n + 1) rest;
       act = a;
-    }) (act_on names variables blocks behind n l.form rest)
+    }) (act_on names variables blocks after n l.form rest)
 
 -- the statement of a line, with the blocks that are open after it
 abbrev pub statement_at : List Declaration → List (List ℕ) → List Nest → ℕ → NumberedLine → List NumberedLine → Option Statement
 statement_at names variables blocks n l rest =
-    statement_on names variables blocks (blocks_behind blocks n l.number l.form) n l rest
+    statement_on names variables blocks (nests_after blocks n l.number l.form) n l rest
 
 -- one more, if there is a statement
-abbrev pub number_behind : ℕ → Option Statement → ℕ
-number_behind n None = n
-number_behind n (Some s) = n + 1
+abbrev pub number_after : ℕ → Option Statement → ℕ
+number_after n None = n
+number_after n (Some s) = n + 1
 
 -- the line ends the callback
 abbrev pub ends_callback : List Nest → SceneLine → Bool
@@ -245,7 +245,7 @@ unfoldable pub statements_from : List Declaration → List (List ℕ) → List N
 statements_from names variables blocks n [] = []
 statements_from names variables blocks n (l ∷ ls) =
     cond (ends_callback blocks l.form) []
-    (cons_option (statement_at names variables blocks n l ls) (statements_from names variables (blocks_behind blocks n l.number l.form) (number_behind n (statement_at names variables blocks n l ls)) ls))
+    (cons_option (statement_at names variables blocks n l ls) (statements_from names variables (nests_after blocks n l.number l.form) (number_after n (statement_at names variables blocks n l ls)) ls))
 
 -- the statements of the callback that line k begins
 unfoldable pub statements_of : Scene → List Declaration → ℕ → List Statement

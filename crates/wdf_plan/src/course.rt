@@ -2,7 +2,7 @@
 ghost use Rattle.std.specs.Prelude.{◌≡◌, ◌+◌, ◌≤◌, ◌<◌, ◌^◌, length, drop, slice_get, IfSome};
 ghost use Rattle.wdf_plan.specs.Scripts as scripts;
 
-use wdf_blocks::block::depth_behind;
+use wdf_blocks::block::depth_after;
 use wdf_blocks::forms::{is_end, opens};
 use wdf_scene::{NumberedLine, SceneLine};
 
@@ -247,7 +247,7 @@ fn turn(lines: &[NumberedLine], from: u32, number: u64) -> (u32, u64)
         if ends_branch(depth, &line.form) {
             return (at, before);
         }
-        depth = depth_behind(depth, &line.form);
+        depth = depth_after(depth, &line.form);
         before += statements_in(&line.form);
         at += 1;
     }

@@ -21,7 +21,7 @@ use wdf_blocks::declaration::Declaration;
 use wdf_refusals::first::{declared, first_refusal};
 use wdf_refusals::heritage::Heritage;
 use wdf_refusals::names::Names;
-use wdf_refusals::part::{gather, gather_behind};
+use wdf_refusals::part::{gather, gather_after};
 use wdf_refusals::refusal::PlanRefusal;
 use wdf_scene::{Scene, SceneLine};
 
@@ -80,7 +80,7 @@ fn all_objects(
 {
     let mut objects = Items::new(alloc);
     objects.push(Declared::Driver)?;
-    gather_behind(heritage.scene(), &Objects { heritage, names }, &mut objects)?;
+    gather_after(heritage.scene(), &Objects { heritage, names }, &mut objects)?;
     Ok(objects)
 }
 
@@ -95,15 +95,15 @@ fn all_agents(alloc: Global, scene: &Scene, names: &Names) -> Result<Items<Agent
         names,
         posts: &posts,
     };
-    gather_behind(scene, &apps, &mut agents)?;
+    gather_after(scene, &apps, &mut agents)?;
     let posts: Items<Posted, MANY> = gather(alloc, scene, &DevicePosts { names })?;
     let devices = Devices {
         alloc,
         names,
         posts: &posts,
     };
-    gather_behind(scene, &devices, &mut agents)?;
-    gather_behind(scene, &Targets { alloc, names }, &mut agents)?;
+    gather_after(scene, &devices, &mut agents)?;
+    gather_after(scene, &Targets { alloc, names }, &mut agents)?;
     Ok(agents)
 }
 

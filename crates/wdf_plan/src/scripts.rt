@@ -182,15 +182,15 @@ fn again_at(blocks: &[Nest], innermost: Nest) -> Option<Act>
 }
 
 /// The open blocks after a line, whose statement would have this number.
-#[tactic(auto, unfolding(crate::specs::Scripts::blocks_behind))]
-pub fn blocks_behind(
+#[tactic(auto, unfolding(crate::specs::Scripts::nests_after))]
+pub fn nests_after(
     alloc: Global,
     blocks: &[Nest],
     number: u64,
     line: u32,
     form: &SceneLine,
 ) -> Result<Vec<Nest>, Memory>
-    ensures { IfOk result (λ v. v.items ≡ scripts.blocks_behind blocks.now number line form.now) }
+    ensures { IfOk result (λ v. v.items ≡ scripts.nests_after blocks.now number line form.now) }
 {
     match form {
         SceneLine::If { .. } => with_block(alloc, blocks, Nest::Branch),
@@ -262,7 +262,7 @@ fn onward(
 #[derive(Clone, Copy)]
 pub struct Round<'a> {
     pub blocks: &'a [Nest],
-    pub behind: &'a [Nest],
+    pub open_after: &'a [Nest],
     pub detours: &'a [Detour],
     pub number: u64,
     pub lines: &'a [NumberedLine],
@@ -273,13 +273,13 @@ pub struct Round<'a> {
 fn with_detour(alloc: Global, round: &Round) -> Result<Vec<Detour>, Memory>
     requires lines { length round.now.lines.now < 2 ^ 32 }
     requires number { round.now.number < 2 ^ 32 }
-    requires kept { scripts.AreDetours 0 round.now.behind.now round.now.lines.now round.now.detours.now }
-    requires one_more { length round.now.behind.now ≡ length round.now.detours.now + 1 }
-    ensures kept { IfOk result (λ v. scripts.AreDetours 0 round.now.behind.now round.now.lines.now v.items) }
-    ensures each { IfOk result (λ v. length v.items ≡ length round.now.behind.now) }
+    requires kept { scripts.AreDetours 0 round.now.open_after.now round.now.lines.now round.now.detours.now }
+    requires one_more { length round.now.open_after.now ≡ length round.now.detours.now + 1 }
+    ensures kept { IfOk result (λ v. scripts.AreDetours 0 round.now.open_after.now round.now.lines.now v.items) }
+    ensures each { IfOk result (λ v. length v.items ≡ length round.now.open_after.now) }
 {
     let own = kept_way(
-        round.behind,
+        round.open_after,
         round.detours,
         round.number + 1,
         round.lines,
@@ -304,7 +304,7 @@ fn outer_detours(detours: &[Detour]) -> &[Detour]
 }
 
 /// The ways that are kept of the open blocks after a line, where those before it are kept.
-pub fn detours_behind(
+pub fn detours_after(
     alloc: Global,
     round: &Round,
     line: &NumberedLine,
@@ -313,9 +313,9 @@ pub fn detours_behind(
     requires number { round.now.number < 2 ^ 32 }
     requires kept { scripts.AreDetours 0 round.now.blocks.now round.now.lines.now round.now.detours.now }
     requires each { length round.now.detours.now ≡ length round.now.blocks.now }
-    requires behind { round.now.behind.now ≡ scripts.blocks_behind round.now.blocks.now round.now.number line.now.number line.now.form }
-    ensures kept { IfOk result (λ v. scripts.AreDetours 0 round.now.behind.now round.now.lines.now v.items) }
-    ensures each { IfOk result (λ v. length v.items ≡ length round.now.behind.now) }
+    requires after { round.now.open_after.now ≡ scripts.nests_after round.now.blocks.now round.now.number line.now.number line.now.form }
+    ensures kept { IfOk result (λ v. scripts.AreDetours 0 round.now.open_after.now round.now.lines.now v.items) }
+    ensures each { IfOk result (λ v. length v.items ≡ length round.now.open_after.now) }
 {
     match &line.form {
         SceneLine::If { .. } => with_detour(alloc, round),
@@ -329,15 +329,15 @@ pub fn detours_behind(
 fn act_on(names: &Names, variables: &Variables, round: &Round, form: &SceneLine) -> Option<Act>
     requires lines { length round.now.lines.now < 2 ^ 32 }
     requires number { round.now.number < 2 ^ 32 }
-    requires kept { scripts.AreDetours 0 round.now.behind.now round.now.lines.now round.now.detours.now }
-    requires fits { IfSome (scripts.act_on names.now variables.now round.now.blocks.now round.now.behind.now round.now.number form.now (drop round.now.from round.now.lines.now)) IsFitAct }
-    ensures { result ≡ scripts.act_on names.now variables.now round.now.blocks.now round.now.behind.now round.now.number form.now (drop round.now.from round.now.lines.now) }
+    requires kept { scripts.AreDetours 0 round.now.open_after.now round.now.lines.now round.now.detours.now }
+    requires fits { IfSome (scripts.act_on names.now variables.now round.now.blocks.now round.now.open_after.now round.now.number form.now (drop round.now.from round.now.lines.now)) IsFitAct }
+    ensures { result ≡ scripts.act_on names.now variables.now round.now.blocks.now round.now.open_after.now round.now.number form.now (drop round.now.from round.now.lines.now) }
 {
     match form {
         SceneLine::If { test } => Some(Act::If {
             test: *test,
             otherwise: beyond(
-                round.behind,
+                round.open_after,
                 round.detours,
                 round.number + 1,
                 round.lines,
@@ -348,7 +348,7 @@ fn act_on(names: &Names, variables: &Variables, round: &Round, form: &SceneLine)
             count: *count,
             depth: loops(round.blocks),
             past: beyond(
-                round.behind,
+                round.open_after,
                 round.detours,
                 round.number + 2,
                 round.lines,
@@ -392,15 +392,15 @@ pub fn statement_on(
 ) -> Option<Statement>
     requires lines { length round.now.lines.now < 2 ^ 32 }
     requires number { round.now.number < 2 ^ 32 }
-    requires kept { scripts.AreDetours 0 round.now.behind.now round.now.lines.now round.now.detours.now }
-    requires fits { IfSome (scripts.statement_on names.now variables.now round.now.blocks.now round.now.behind.now round.now.number line.now (drop round.now.from round.now.lines.now)) IsFitStatement }
-    ensures { result ≡ scripts.statement_on names.now variables.now round.now.blocks.now round.now.behind.now round.now.number line.now (drop round.now.from round.now.lines.now) }
+    requires kept { scripts.AreDetours 0 round.now.open_after.now round.now.lines.now round.now.detours.now }
+    requires fits { IfSome (scripts.statement_on names.now variables.now round.now.blocks.now round.now.open_after.now round.now.number line.now (drop round.now.from round.now.lines.now)) IsFitStatement }
+    ensures { result ≡ scripts.statement_on names.now variables.now round.now.blocks.now round.now.open_after.now round.now.number line.now (drop round.now.from round.now.lines.now) }
 {
     match act_on(names, variables, round, &line.form) {
         Some(act) => Some(Statement {
             line: told_line(round.blocks, line.number, &line.form),
             next: onward(
-                round.behind,
+                round.open_after,
                 round.detours,
                 round.number + 1,
                 round.lines,

@@ -9,7 +9,7 @@ ghost use Rattle.wdf_plan.specs.Scripts as scripts;
 
 use crate::course::{Detour, Nest};
 use crate::objects::object_of;
-use crate::scripts::{Round, blocks_behind, detours_behind, ends_callback, statement_on};
+use crate::scripts::{Round, detours_after, ends_callback, nests_after, statement_on};
 use std::alloc::Global;
 use wdf_base::{Declared, Items, MANY, Memory, Script, Statement};
 use wdf_blocks::block::form_at;
@@ -35,14 +35,14 @@ fn add_statement(
     requires number { round.now.number < 2 ^ 32 }
     requires kept { scripts.AreDetours 0 round.now.blocks.now round.now.lines.now round.now.detours.now }
     requires each { length round.now.detours.now ≡ length round.now.blocks.now }
-    requires behind { round.now.behind.now ≡ scripts.blocks_behind round.now.blocks.now round.now.number line.now.number line.now.form }
-    requires fits { IfSome (scripts.statement_on names.now variables.now round.now.blocks.now round.now.behind.now round.now.number line.now (drop round.now.from round.now.lines.now)) IsFitStatement }
-    requires room { length (statements.old ++ option_to_list (scripts.statement_on names.now variables.now round.now.blocks.now round.now.behind.now round.now.number line.now (drop round.now.from round.now.lines.now))) < 2 ^ 32 }
-    ensures added { OnOk result (statements.new ≡ statements.old ++ option_to_list (scripts.statement_on names.now variables.now round.now.blocks.now round.now.behind.now round.now.number line.now (drop round.now.from round.now.lines.now))) }
-    ensures kept { IfOk result (λ v. scripts.AreDetours 0 round.now.behind.now round.now.lines.now v.items) }
-    ensures each { IfOk result (λ v. length v.items ≡ length round.now.behind.now) }
+    requires after { round.now.open_after.now ≡ scripts.nests_after round.now.blocks.now round.now.number line.now.number line.now.form }
+    requires fits { IfSome (scripts.statement_on names.now variables.now round.now.blocks.now round.now.open_after.now round.now.number line.now (drop round.now.from round.now.lines.now)) IsFitStatement }
+    requires room { length (statements.old ++ option_to_list (scripts.statement_on names.now variables.now round.now.blocks.now round.now.open_after.now round.now.number line.now (drop round.now.from round.now.lines.now))) < 2 ^ 32 }
+    ensures added { OnOk result (statements.new ≡ statements.old ++ option_to_list (scripts.statement_on names.now variables.now round.now.blocks.now round.now.open_after.now round.now.number line.now (drop round.now.from round.now.lines.now))) }
+    ensures kept { IfOk result (λ v. scripts.AreDetours 0 round.now.open_after.now round.now.lines.now v.items) }
+    ensures each { IfOk result (λ v. length v.items ≡ length round.now.open_after.now) }
 {
-    let detours = detours_behind(alloc, round, line)?;
+    let detours = detours_after(alloc, round, line)?;
     let round = Round {
         detours: detours.as_slice(),
         ..*round
@@ -74,13 +74,13 @@ fn statements_from(
             return Ok(statements);
         }
         let number = u64::from(statements.len());
-        let behind = match blocks_behind(alloc, open, number, line.number, &line.form) {
-            Ok(behind) => behind,
+        let after = match nests_after(alloc, open, number, line.number, &line.form) {
+            Ok(after) => after,
             Err(error) => return Err(error),
         };
         let round = Round {
             blocks: open,
-            behind: behind.as_slice(),
+            open_after: after.as_slice(),
             detours: detours.as_slice(),
             number,
             lines,
@@ -90,7 +90,7 @@ fn statements_from(
             Ok(detours) => detours,
             Err(error) => return Err(error),
         };
-        blocks = behind;
+        blocks = after;
         at += 1;
     }
     Ok(statements)

@@ -13,12 +13,12 @@ use Rattle.wdf_scene.specs.Written.{IsScene}
 use Rattle.wdf_blocks.specs.declared.placed.Counts.{Counts}
 use Rattle.wdf_blocks.specs.declared.placed.Placed.{Placed}
 use Rattle.wdf_blocks.specs.declared.placed.Stand.{Stand}
-use Rattle.wdf_blocks.specs.Blocks.{depth_behind, ends_block}
+use Rattle.wdf_blocks.specs.Blocks.{depth_after, ends_block}
 use Rattle.wdf_blocks.specs.Forms.{is_end}
 use Rattle.wdf_plan.specs.Parts.{stands_in}
 use Rattle.wdf_blocks.specs.Placed.{opened_by, counted, placed_line, placed_from, placed, outside, nothing}
 use Rattle.wdf_refusals.proofs.Every.{Every, every_map}
-use Rattle.wdf_plan.proofs.Inside.{block_told, split, behind_opener}
+use Rattle.wdf_plan.proofs.Inside.{block_told, split, after_opener}
 use Rattle.wdf_plan.proofs.Stacking.{IsPassed, passed, every_passed}
 use Rattle.wdf_plan.proofs.Stacks.{Opener, block_of, stand_of, with_block, stack_after, AreBefore, IsStacked, AreStacked, AreFitting, fitting, opens_in, none_open, device_open}
 use Rattle.wdf_plan_laws.specs.Told.{is_app_post, is_device_post, kept_line, lines_that, until_end, block_lines}
@@ -154,7 +154,7 @@ ends_lines : (test : SceneLine → Bool) (d : ℕ) (l : NumberedLine) (ls : List
 unfolding until_end
 ends_lines test d l ls e = rw e refl
 
-goes_lines : (test : SceneLine → Bool) (d : ℕ) (l : NumberedLine) (ls : List NumberedLine) → ends_block d l.form ≡ false → lines_that test (until_end d (l ∷ ls)) ≡ cons_option (kept_line test l.number l.form) (lines_that test (until_end (depth_behind d l.form) ls))
+goes_lines : (test : SceneLine → Bool) (d : ℕ) (l : NumberedLine) (ls : List NumberedLine) → ends_block d l.form ≡ false → lines_that test (until_end d (l ∷ ls)) ≡ cons_option (kept_line test l.number l.form) (lines_that test (until_end (depth_after d l.form) ls))
 unfolding until_end
 goes_lines test d l ls e = rw e refl
 
@@ -169,7 +169,7 @@ in_block test alone no_end whole b inner x outer k o c (l ∷ ls) own less n s =
     let v = split inner x outer k l.form t in
     rw v.depth (in_block test alone no_end whole b v.within v.own outer (suc k) (opened_by o k l.form) (counted c l.form (length l.picks)) ls (v.line ∙ own) (omega arith) n (rw v.is at s.1)))
   where
-    by_end : (t : Bool) → ends_block (length inner) l.form ≡ t → (ends_block (length inner) l.form ≡ false → filter_map (own_line test b) (placed_from (suc k) (opened_by o k l.form) (counted c l.form (length l.picks)) ls) ≡ lines_that test (until_end (depth_behind (length inner) l.form) ls)) → cons_option (own_line test b (placed_line k o c l)) (filter_map (own_line test b) (placed_from (suc k) (opened_by o k l.form) (counted c l.form (length l.picks)) ls)) ≡ lines_that test (until_end (length inner) (l ∷ ls))
+    by_end : (t : Bool) → ends_block (length inner) l.form ≡ t → (ends_block (length inner) l.form ≡ false → filter_map (own_line test b) (placed_from (suc k) (opened_by o k l.form) (counted c l.form (length l.picks)) ls) ≡ lines_that test (until_end (depth_after (length inner) l.form) ls)) → cons_option (own_line test b (placed_line k o c l)) (filter_map (own_line test b) (placed_from (suc k) (opened_by o k l.form) (counted c l.form (length l.picks)) ls)) ≡ lines_that test (until_end (length inner) (l ∷ ls))
     by_end true e later =
         let quiet : test l.form ≡ false = ap test (end_form (length inner) l.form e) ∙ no_end in
         rw (no_line test b (placed_line k o c l) quiet, none_after test alone whole outer b (suc k) (opened_by o k l.form) (counted c l.form (length l.picks)) ls (omega arith) n (rw (ended_stack inner x outer k l.form e) at s.1)) (sym (ends_lines test (length inner) l ls e))
@@ -192,17 +192,17 @@ all_later : (test : SceneLine → Bool) → AreAlone test → (scene : Scene) �
 all_later test alone scene s b =
     every_map (λ p. (slice_get (placed scene) p.at ≡ Some p) × IsPassed scene p.at p) (IsLater test b) (λ p h less. not_there test alone (placed scene) h.1.stack b p h.1.stacked (before_all b p.at h.1.stack less h.1.stacked.before)) (placed scene) (every_passed scene s)
 
-from_behind : (test : SceneLine → Bool) (b n k : ℕ) (o : Stand) (c : Counts) (ls : List NumberedLine) → k + n ≡ suc b → Every (IsLater test b) (placed_from k o c ls) → filter_map (own_line test b) (placed_from k o c ls) ≡ filter_map (own_line test b) (drop n (placed_from k o c ls))
+from_after : (test : SceneLine → Bool) (b n k : ℕ) (o : Stand) (c : Counts) (ls : List NumberedLine) → k + n ≡ suc b → Every (IsLater test b) (placed_from k o c ls) → filter_map (own_line test b) (placed_from k o c ls) ≡ filter_map (own_line test b) (drop n (placed_from k o c ls))
 unfolding placed_from
-from_behind test b zero k o c ls e h = refl
-from_behind test b (suc n) k o c [] e h = refl
-from_behind test b (suc n) k o c (l ∷ ls) e h =
-    rw (h.0 (omega (arith, e))) (from_behind test b n (suc k) (opened_by o k l.form) (counted c l.form (length l.picks)) ls (omega (arith, e)) h.1)
+from_after test b zero k o c ls e h = refl
+from_after test b (suc n) k o c [] e h = refl
+from_after test b (suc n) k o c (l ∷ ls) e h =
+    rw (h.0 (omega (arith, e))) (from_after test b n (suc k) (opened_by o k l.form) (counted c l.form (length l.picks)) ls (omega (arith, e)) h.1)
 
-whole_behind : (test : SceneLine → Bool) → AreAlone test → (scene : Scene) → IsScene scene → (b : ℕ) → filter_map (own_line test b) (placed scene) ≡ filter_map (own_line test b) (drop (suc b) (placed scene))
+whole_after : (test : SceneLine → Bool) → AreAlone test → (scene : Scene) → IsScene scene → (b : ℕ) → filter_map (own_line test b) (placed scene) ≡ filter_map (own_line test b) (drop (suc b) (placed scene))
 unfolding placed
-whole_behind test alone scene s b =
-    from_behind test b (suc b) 0 outside nothing scene.lines (omega arith) (all_later test alone scene s b)
+whole_after test alone scene s b =
+    from_after test b (suc b) 0 outside nothing scene.lines (omega arith) (all_later test alone scene s b)
 
 -- what passes in the block of a line
 pub in_block_of : (test : SceneLine → Bool) → AreAlone test → test line.End ≡ false → (scene : Scene) → IsScene scene → (p : Placed) (blk : Block) → slice_get (placed scene) p.at ≡ Some p → opened p.form ≡ Some blk → filter_map (own_line test p.at) (placed scene) ≡ lines_that test (block_lines scene p.at)
@@ -210,6 +210,6 @@ in_block_of test alone no_end scene s p blk there opens' =
     let i = passed scene s p.at p there in
     let b = p.at in
     let not : HasNot b i.stack = before_all b b i.stack (omega arith) i.stacked.before in
-    whole_behind test alone scene s b
+    whole_after test alone scene s b
     ∙ (ap (filter_map (own_line test b)) i.behind
-    ∙ in_block test alone no_end (placed scene) b [] (record { block = blk; line = b }) i.stack (suc b) (opened_by p.stand b p.form) (counted p.counts p.form (length i.line.picks)) (drop (suc b) scene.lines) refl (omega arith) not (rw (behind_opener i.stack b p.form blk opens') at i.rest))
+    ∙ in_block test alone no_end (placed scene) b [] (record { block = blk; line = b }) i.stack (suc b) (opened_by p.stand b p.form) (counted p.counts p.form (length i.line.picks)) (drop (suc b) scene.lines) refl (omega arith) not (rw (after_opener i.stack b p.form blk opens') at i.rest))

@@ -22,7 +22,7 @@ use Rattle.wdf_blocks.specs.declared.placed.Placed.{Placed}
 use Rattle.wdf_blocks.specs.declared.placed.Stand.{Stand}
 use Rattle.wdf_blocks.specs.Declarations.{declarations, stands}
 use Rattle.wdf_refusals.specs.First.{first_refusal}
-use Rattle.wdf_blocks.specs.Forms.{nodes_behind, nodes_end}
+use Rattle.wdf_blocks.specs.Forms.{nodes_after, nodes_end}
 use Rattle.wdf_refusals.specs.Numbers.{handle_of}
 use Rattle.wdf_blocks.specs.Placed.{opened_by, counted, placed_line, placed_from, placed, outside, nothing}
 use Rattle.wdf_plan.specs.Plans.{plan_with, plan_of}
@@ -85,8 +85,8 @@ unfolding nodes_end
 head_after base e (head.Let x) = refl
 head_after base e _ = refl
 
-argument_after : (base : ℕ) (a : Argument) → nodes_behind base (numbered_argument base a) ≡ base + argument_size a
-unfolding nodes_behind
+argument_after : (base : ℕ) (a : Argument) → nodes_after base (numbered_argument base a) ≡ base + argument_size a
+unfolding nodes_after
 argument_after base Missing = omega arith
 argument_after base (Valued a) = omega arith
 argument_after base (OfClass n) = omega arith
@@ -114,8 +114,8 @@ written_after base (Single h t) i =
 written_after base (Calling kind into a b c) h =
     rw (argument_after base a, argument_after (base + argument_size a) b, argument_after (base + argument_size a + argument_size b) c) (omega arith)
 
-argument_below : (b n : ℕ) (a : SceneArg) → b ≤ n → IsBelow n a → nodes_behind b a ≤ n
-unfolding nodes_behind
+argument_below : (b n : ℕ) (a : SceneArg) → b ≤ n → IsBelow n a → nodes_after b a ≤ n
+unfolding nodes_after
 argument_below b n (arg.Expression e) h g = omega (arith, g)
 argument_below b n arg.NoArgument h g = h
 argument_below b n (arg.OfClass c) h g = h

@@ -15,14 +15,14 @@ use Rattle.wdf_blocks.specs.declared.placed.Counts.{Counts}
 use Rattle.wdf_blocks.specs.declared.placed.Placed.{Placed}
 use Rattle.wdf_blocks.specs.declared.placed.Stand.{Stand}
 use Rattle.wdf_blocks.specs.Attribute.{gives, is_device_wide}
-use Rattle.wdf_blocks.specs.Blocks.{counts_for, depth_behind, ends_block, given_from, given, form_at, ticks_in}
+use Rattle.wdf_blocks.specs.Blocks.{counts_for, depth_after, ends_block, given_from, given, form_at, ticks_in}
 use Rattle.wdf_blocks.specs.Declarations.{declarations}
 use Rattle.wdf_blocks.specs.Forms.{is_class, is_end}
 use Rattle.wdf_plan.specs.Parts.{class_on, period_of}
 use Rattle.wdf_blocks.specs.Placed.{opened_by, counted, placed_line, placed}
 use Rattle.wdf_plan.specs.Plans.{plan_with, plan_of}
 use Rattle.wdf_refusals.proofs.Every.{every_map}
-use Rattle.wdf_plan.proofs.Inside.{split, behind_opener}
+use Rattle.wdf_plan.proofs.Inside.{split, after_opener}
 use Rattle.wdf_plan.proofs.Stacking.{passed, every_there}
 use Rattle.wdf_plan.proofs.Stacks.{Opener, block_of, IsStacked, AreStacked, AreFitting, fitting, opens_in, none_open}
 use Rattle.wdf_plan_laws.specs.Told.{until_end, block_lines, placed_that, Paired, period_told, IsPeriodTold}
@@ -84,7 +84,7 @@ given_none : (d k : ℕ) (l : NumberedLine) (ls : List NumberedLine) → counts_
 unfolding given_from
 given_none d k l ls e f = rw (e, f) refl
 
-given_on : (d k : ℕ) (l : NumberedLine) (ls : List NumberedLine) → counts_for attribute.Period d l.form ≡ false → ends_block d l.form ≡ false → given_from attribute.Period d k (l ∷ ls) ≡ given_from attribute.Period (depth_behind d l.form) (suc k) ls
+given_on : (d k : ℕ) (l : NumberedLine) (ls : List NumberedLine) → counts_for attribute.Period d l.form ≡ false → ends_block d l.form ≡ false → given_from attribute.Period d k (l ∷ ls) ≡ given_from attribute.Period (depth_after d l.form) (suc k) ls
 unfolding given_from
 given_on d k l ls e f = rw (e, f) refl
 
@@ -92,7 +92,7 @@ until_none : (d : ℕ) (l : NumberedLine) (ls : List NumberedLine) → ends_bloc
 unfolding until_end
 until_none d l ls e = rw e refl
 
-until_on : (d : ℕ) (l : NumberedLine) (ls : List NumberedLine) → ends_block d l.form ≡ false → until_end d (l ∷ ls) ≡ l ∷ until_end (depth_behind d l.form) ls
+until_on : (d : ℕ) (l : NumberedLine) (ls : List NumberedLine) → ends_block d l.form ≡ false → until_end d (l ∷ ls) ≡ l ∷ until_end (depth_after d l.form) ls
 unfolding until_end
 until_on d l ls e = rw e refl
 
@@ -126,8 +126,8 @@ here_counts : (form : SceneLine) (n : ℕ) → form ≡ line.Period n → counts
 unfolding gives
 here_counts form n e = rw e refl
 
-other_told : (d : ℕ) (l : NumberedLine) (ls : List NumberedLine) → ticks_in l.form ≡ None → ends_block d l.form ≡ false → period_told (until_end d (l ∷ ls)) ≡ period_told (until_end (depth_behind d l.form) ls)
-other_told d l ls e f = ap period_told (until_on d l ls f) ∙ ap (λ o. unwrap_or o (period_told (until_end (depth_behind d l.form) ls))) e
+other_told : (d : ℕ) (l : NumberedLine) (ls : List NumberedLine) → ticks_in l.form ≡ None → ends_block d l.form ≡ false → period_told (until_end d (l ∷ ls)) ≡ period_told (until_end (depth_after d l.form) ls)
+other_told d l ls e f = ap period_told (until_on d l ls f) ∙ ap (λ o. unwrap_or o (period_told (until_end (depth_after d l.form) ls))) e
 
 nothing_told : (scene : Scene) (d k : ℕ) → ticks_at scene (given_from attribute.Period d k []) ≡ period_told (until_end d [])
 unfolding given_from until_end
@@ -140,7 +140,7 @@ period_from scene whole inner x outer k o c (l ∷ ls) s at =
     let v = split inner x outer k l.form t in
     rw v.depth (period_from scene whole v.within v.own outer (suc k) (opened_by o k l.form) (counted c l.form (length l.picks)) ls (rw v.is at s.1) (rest_of scene.lines k l ls at)))
   where
-    by_form : IsPeriodForm l.form ⊎ IsOtherForm l.form → (t : Bool) → ends_block (length inner) l.form ≡ t → (ends_block (length inner) l.form ≡ false → ticks_at scene (given_from attribute.Period (depth_behind (length inner) l.form) (suc k) ls) ≡ period_told (until_end (depth_behind (length inner) l.form) ls)) → ticks_at scene (given_from attribute.Period (length inner) k (l ∷ ls)) ≡ period_told (until_end (length inner) (l ∷ ls))
+    by_form : IsPeriodForm l.form ⊎ IsOtherForm l.form → (t : Bool) → ends_block (length inner) l.form ≡ t → (ends_block (length inner) l.form ≡ false → ticks_at scene (given_from attribute.Period (depth_after (length inner) l.form) (suc k) ls) ≡ period_told (until_end (depth_after (length inner) l.form) ls)) → ticks_at scene (given_from attribute.Period (length inner) k (l ∷ ls)) ≡ period_told (until_end (length inner) (l ∷ ls))
     by_form (inl h) t e later =
         let none : length inner ≡ 0 = period_outer whole inner x outer (placed_line k o c l) h.ticks s.0 h.is in
         rw none (ap (ticks_at scene) (given_here 0 k l ls (here_counts l.form h.ticks h.is)) ∙ (here_ticks scene k h.ticks l ls at h.is ∙ sym (here_told h.ticks l ls h.is)))
@@ -156,7 +156,7 @@ unfolding period_of given
 period_there scene s p there opens' =
     let i = passed scene s p.at p there in
     let b = p.at in
-    period_from scene (placed scene) [] (record { block = block.Class; line = b }) i.stack (suc b) (opened_by p.stand b p.form) (counted p.counts p.form (length i.line.picks)) (drop (suc b) scene.lines) (rw (behind_opener i.stack b p.form block.Class opens') at i.rest) refl
+    period_from scene (placed scene) [] (record { block = block.Class; line = b }) i.stack (suc b) (opened_by p.stand b p.form) (counted p.counts p.form (length i.line.picks)) (drop (suc b) scene.lines) (rw (after_opener i.stack b p.form block.Class opens') at i.rest) refl
 
 class_row : (scene : Scene) → IsScene scene → (p : Placed) (form : SceneLine) → p.form ≡ form → slice_get (placed scene) p.at ≡ Some p → Both (IsPeriodTold scene) (cond (is_class form) (Some p) None) (class_on scene (declarations scene) p form)
 unfolding class_on is_class

@@ -24,7 +24,7 @@ use Rattle.wdf_plan.specs.declared.course.Nest.TheVariants as nest
 use Rattle.wdf_blocks.specs.declared.declaration.Wanted.TheVariants as wanted
 use Rattle.wdf_blocks.specs.declared.placed.Counts.{Counts}
 use Rattle.wdf_blocks.specs.declared.placed.Stand.{Stand}
-use Rattle.wdf_blocks.specs.Blocks.{depth_behind, ends_block}
+use Rattle.wdf_blocks.specs.Blocks.{depth_after, ends_block}
 use Rattle.wdf_blocks.specs.Declarations.{declarations, stands}
 use Rattle.wdf_refusals.specs.First.{first_refusal}
 use Rattle.wdf_plan.specs.Flow.{numbered}
@@ -32,7 +32,7 @@ use Rattle.wdf_blocks.specs.Forms.{is_end, is_statement, assigned_name}
 use Rattle.wdf_blocks.specs.Placed.{opened_by, counted, placed_from, placed, outside, nothing}
 use Rattle.wdf_plan.specs.Plans.{plan_of}
 use Rattle.wdf_refusals.specs.Rows.{unknown_word, unknown_argument, unknown_class}
-use Rattle.wdf_plan.specs.Scripts.{variable_of, answer_place, class_number, argument_of, plain_act, nest_at, again, act_on, told_line, blocks_behind, statement_on, statement_at, number_behind, ends_callback, statements_from, statements_of}
+use Rattle.wdf_plan.specs.Scripts.{variable_of, answer_place, class_number, argument_of, plain_act, nest_at, again, act_on, told_line, nests_after, statement_on, statement_at, number_after, ends_callback, statements_from, statements_of}
 use Rattle.wdf_blocks.specs.Variables.{with_name, with_assigned, assigned_from, variables, variable_number}
 use Rattle.wdf_plan.proofs.Accepted.{word_known}
 use Rattle.wdf_refusals.proofs.Every.{Every, every_map}
@@ -88,7 +88,7 @@ kept_from : (x : List ℕ) (names : List (List ℕ)) (depth : ℕ) (ls : List Nu
 unfolding assigned_from
 kept_from x names depth [] h = h
 kept_from x names depth (l ∷ ls) h =
-    kept_from_step x names (assigned_from (with_assigned names (assigned_name l.form)) (depth_behind depth l.form) ls) (ends_block depth l.form) h (kept_from x (with_assigned names (assigned_name l.form)) (depth_behind depth l.form) ls (kept_with x names (assigned_name l.form) h))
+    kept_from_step x names (assigned_from (with_assigned names (assigned_name l.form)) (depth_after depth l.form) ls) (ends_block depth l.form) h (kept_from x (with_assigned names (assigned_name l.form)) (depth_after depth l.form) ls (kept_with x names (assigned_name l.form) h))
 
 -- the names that a line assigns are variables
 abbrev Assigns : List (List ℕ) → Option (List ℕ) → Type 0
@@ -173,21 +173,21 @@ composed_step g (Some t) ts = refl
 line_row : (scene : Scene) → first_refusal scene ≡ None → (vs : List (List ℕ)) (blocks : List Nest) (n : ℕ) (l : NumberedLine) (rest : List NumberedLine) → IsKnownForm scene l.form → Assigns vs (assigned_name l.form) → option_and_then (statement_line (plan_of scene) vs) (statement_at (declarations scene) vs blocks n l rest) ≡ kept_line is_statement l.number l.form
 unfolding statement_on
 line_row scene e vs blocks n l rest h a =
-    statement_row scene e vs blocks (blocks_behind blocks n l.number l.form) n _ h.device l l.form rest h.known a
+    statement_row scene e vs blocks (nests_after blocks n l.number l.form) n _ h.device l l.form rest h.known a
 
 ended : (scene : Scene) (vs : List (List ℕ)) (blocks : List Nest) (n : ℕ) (l : NumberedLine) (ls : List NumberedLine) → ends_block (length blocks) l.form ≡ true → filter_map (statement_line (plan_of scene) vs) (statements_from (declarations scene) vs blocks n (l ∷ ls)) ≡ lines_that is_statement (until_end (length blocks) (l ∷ ls))
 unfolding statements_from until_end
 ended scene vs blocks n l ls e = rw (e, sym (ends_same blocks l.form) ∙ e) refl
 
-gone_on : (scene : Scene) → first_refusal scene ≡ None → (vs : List (List ℕ)) (blocks : List Nest) (n : ℕ) (l : NumberedLine) (ls : List NumberedLine) → ends_block (length blocks) l.form ≡ false → IsKnownForm scene l.form → Assigns vs (assigned_name l.form) → filter_map (statement_line (plan_of scene) vs) (statements_from (declarations scene) vs (blocks_behind blocks n l.number l.form) (number_behind n (statement_at (declarations scene) vs blocks n l ls)) ls) ≡ lines_that is_statement (until_end (depth_behind (length blocks) l.form) ls) → filter_map (statement_line (plan_of scene) vs) (statements_from (declarations scene) vs blocks n (l ∷ ls)) ≡ lines_that is_statement (until_end (length blocks) (l ∷ ls))
+gone_on : (scene : Scene) → first_refusal scene ≡ None → (vs : List (List ℕ)) (blocks : List Nest) (n : ℕ) (l : NumberedLine) (ls : List NumberedLine) → ends_block (length blocks) l.form ≡ false → IsKnownForm scene l.form → Assigns vs (assigned_name l.form) → filter_map (statement_line (plan_of scene) vs) (statements_from (declarations scene) vs (nests_after blocks n l.number l.form) (number_after n (statement_at (declarations scene) vs blocks n l ls)) ls) ≡ lines_that is_statement (until_end (depth_after (length blocks) l.form) ls) → filter_map (statement_line (plan_of scene) vs) (statements_from (declarations scene) vs blocks n (l ∷ ls)) ≡ lines_that is_statement (until_end (length blocks) (l ∷ ls))
 unfolding statements_from until_end
 gone_on scene e vs blocks n l ls ends h a later =
     rw (ends, sym (ends_same blocks l.form) ∙ ends) (
-    composed_step (statement_line (plan_of scene) vs) (statement_at (declarations scene) vs blocks n l ls) (statements_from (declarations scene) vs (blocks_behind blocks n l.number l.form) (number_behind n (statement_at (declarations scene) vs blocks n l ls)) ls)
+    composed_step (statement_line (plan_of scene) vs) (statement_at (declarations scene) vs blocks n l ls) (statements_from (declarations scene) vs (nests_after blocks n l.number l.form) (number_after n (statement_at (declarations scene) vs blocks n l ls)) ls)
     ∙ rw (line_row scene e vs blocks n l ls h a, later) refl
     )
 
-assigned_on : (names : List (List ℕ)) (depth : ℕ) (l : NumberedLine) (ls : List NumberedLine) → ends_block depth l.form ≡ false → assigned_from names depth (l ∷ ls) ≡ assigned_from (with_assigned names (assigned_name l.form)) (depth_behind depth l.form) ls
+assigned_on : (names : List (List ℕ)) (depth : ℕ) (l : NumberedLine) (ls : List NumberedLine) → ends_block depth l.form ≡ false → assigned_from names depth (l ∷ ls) ≡ assigned_from (with_assigned names (assigned_name l.form)) (depth_after depth l.form) ls
 unfolding assigned_from
 assigned_on names depth l ls e = rw e refl
 
@@ -199,10 +199,10 @@ lines_from scene e vs names depth blocks n (l ∷ ls) deep (inr body) each own =
     let ends : ends_block (length blocks) l.form ≡ false = rw deep body.0 in
     let inside : stands_inside (length blocks) l.form ≡ true = rw deep body.1 in
     let next = counted_line (declarations scene) vs blocks n l ls ends inside in
-    let deeper : length (blocks_behind blocks n l.number l.form) ≡ depth_behind depth l.form = next.depth ∙ ap (λ d. depth_behind d l.form) deep in
-    let grown : vs ≡ assigned_from (with_assigned names (assigned_name l.form)) (depth_behind depth l.form) ls = own ∙ assigned_on names depth l ls body.0 in
-    let later = lines_from scene e vs (with_assigned names (assigned_name l.form)) (depth_behind depth l.form) (blocks_behind blocks n l.number l.form) (number_behind n (statement_at (declarations scene) vs blocks n l ls)) ls deeper body.2 each.1 grown in
-    rw (← deep) (gone_on scene e vs blocks n l ls ends each.0 (assigns vs names (assigned_name l.form) (depth_behind depth l.form) ls grown) (rw deep later))
+    let deeper : length (nests_after blocks n l.number l.form) ≡ depth_after depth l.form = next.depth ∙ ap (λ d. depth_after d l.form) deep in
+    let grown : vs ≡ assigned_from (with_assigned names (assigned_name l.form)) (depth_after depth l.form) ls = own ∙ assigned_on names depth l ls body.0 in
+    let later = lines_from scene e vs (with_assigned names (assigned_name l.form)) (depth_after depth l.form) (nests_after blocks n l.number l.form) (number_after n (statement_at (declarations scene) vs blocks n l ls)) ls deeper body.2 each.1 grown in
+    rw (← deep) (gone_on scene e vs blocks n l ls ends each.0 (assigns vs names (assigned_name l.form) (depth_after depth l.form) ls grown) (rw deep later))
 
 -- ---- the callbacks of a scene
 

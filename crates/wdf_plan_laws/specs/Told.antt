@@ -19,7 +19,7 @@ use Rattle.wdf_scene.specs.declared.scene.Scene.{Scene}
 use Rattle.wdf_scene.specs.Naming.{declared_name}
 use Rattle.wdf_blocks.specs.declared.placed.Placed.{Placed}
 use Rattle.wdf_blocks.specs.declared.attribute.Attribute.TheVariants as attribute
-use Rattle.wdf_blocks.specs.Blocks.{depth_behind, effective_level, effective_scope, ends_block, form_at, has_given, ticks_in}
+use Rattle.wdf_blocks.specs.Blocks.{depth_after, effective_level, effective_scope, ends_block, form_at, has_given, ticks_in}
 use Rattle.wdf_plan.specs.Parts.{serves}
 use Rattle.wdf_plan.specs.Flow.{numbered}
 use Rattle.wdf_blocks.specs.Forms.{is_app, is_device, is_statement, nodes_end}
@@ -80,7 +80,7 @@ names_declared lines = filter_map (λ l. declared_name l.form) lines
 unfoldable pub until_end : ℕ → List NumberedLine → List NumberedLine
 until_end depth [] = []
 until_end depth (l ∷ ls) =
-    cond (ends_block depth l.form) [] (l ∷ until_end (depth_behind depth l.form) ls)
+    cond (ends_block depth l.form) [] (l ∷ until_end (depth_after depth l.form) ls)
 
 -- the lines of the block that line k opens
 abbrev pub block_lines : Scene → ℕ → List NumberedLine

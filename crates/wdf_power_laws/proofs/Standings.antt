@@ -132,21 +132,21 @@ pub record Leads (w : Watch) (ss : List Step) (a : Standing) (Q : Standing → T
   pub well : well w ss a ≡ true
   pub after : Q (stands_after w ss a)
 
-well_behind : (w : Watch) (ss ts : List Step) (a : Standing) → well w ss a ≡ true → well w ts (stands_after w ss a) ≡ true → well w (ss ++ ts) a ≡ true
-well_behind w [] ts a h k = k
-well_behind w (s ∷ ss) ts a h k =
+well_after : (w : Watch) (ss ts : List Step) (a : Standing) → well w ss a ≡ true → well w ts (stands_after w ss a) ≡ true → well w (ss ++ ts) a ≡ true
+well_after w [] ts a h k = k
+well_after w (s ∷ ss) ts a h k =
     both (may_take w s a) (well w (ss ++ ts) (next w s a)) (both_left (may_take w s a) (well w ss (next w s a)) h)
-    (well_behind w ss ts (next w s a) (both_right (may_take w s a) (well w ss (next w s a)) h) k)
+    (well_after w ss ts (next w s a) (both_right (may_take w s a) (well w ss (next w s a)) h) k)
 
-after_behind : (w : Watch) (ss ts : List Step) (a : Standing) → stands_after w (ss ++ ts) a ≡ stands_after w ts (stands_after w ss a)
-after_behind w [] ts a = refl
-after_behind w (s ∷ ss) ts a = after_behind w ss ts (next w s a)
+after_after : (w : Watch) (ss ts : List Step) (a : Standing) → stands_after w (ss ++ ts) a ≡ stands_after w ts (stands_after w ss a)
+after_after w [] ts a = refl
+after_after w (s ∷ ss) ts a = after_after w ss ts (next w s a)
 
 pub leads_on : {w : Watch} {ss ts : List Step} {a : Standing} {Q R : Standing → Type 0} → Leads w ss a Q → ((b : Standing) → Q b → Leads w ts b R) → Leads w (ss ++ ts) a R
 leads_on {w} {ss} {ts} {a} {Q} {R} first more =
     let b : Standing = stands_after w ss a in
     let second : Leads w ts b R = more b first.after in
-    record { well = well_behind w ss ts a first.well second.well; after = rw (after_behind w ss ts a) second.after }
+    record { well = well_after w ss ts a first.well second.well; after = rw (after_after w ss ts a) second.after }
 
 pub leads_to : {w : Watch} {ss : List Step} {a : Standing} {Q R : Standing → Type 0} → Leads w ss a Q → ((b : Standing) → Q b → R b) → Leads w ss a R
 leads_to {w} {ss} {a} first more = record { well = first.well; after = more (stands_after w ss a) first.after }

@@ -59,13 +59,13 @@ is_plain (step.Pass s i) = is_plain_stage s
 abbrev Plain : List Step → Type 0
 Plain ss = list_all is_plain ss ≡ true
 
-pub plain_behind : (xs ys : List Step) → Plain xs → Plain ys → Plain (xs ++ ys)
-plain_behind [] ys h k = k
-plain_behind (x ∷ xs) ys h k = both (is_plain x) (list_all is_plain (xs ++ ys)) (both_left (is_plain x) (list_all is_plain xs) h) (plain_behind xs ys (both_right (is_plain x) (list_all is_plain xs) h) k)
+pub plain_after : (xs ys : List Step) → Plain xs → Plain ys → Plain (xs ++ ys)
+plain_after [] ys h k = k
+plain_after (x ∷ xs) ys h k = both (is_plain x) (list_all is_plain (xs ++ ys)) (both_left (is_plain x) (list_all is_plain xs) h) (plain_after xs ys (both_right (is_plain x) (list_all is_plain xs) h) k)
 
 pub plain_each : {T : Type 0} (f : T → List Step) → ((x : T) → Plain (f x)) → (xs : List T) → Plain (flat_map f xs)
 plain_each f h [] = refl
-plain_each f h (x ∷ xs) = plain_behind (f x) (flat_map f xs) (h x) (plain_each f h xs)
+plain_each f h (x ∷ xs) = plain_after (f x) (flat_map f xs) (h x) (plain_each f h xs)
 
 pub run_plain_by : (b : Bool) (c : Callback) (i : Option Handle) → Plain (if b then step.Run c i ∷ [] else [])
 run_plain_by true c i = refl
@@ -89,36 +89,36 @@ module _ (p : DeviceSteps) where
 
   before_plain : Plain before_up
   before_plain =
-      plain_behind (run p callback.EvtDeviceD0Entry ++ flat_map enable_steps p.interrupts) (run p callback.EvtDeviceD0EntryPostInterruptsEnabled)
-      (plain_behind (run p callback.EvtDeviceD0Entry) (flat_map enable_steps p.interrupts) (run_plain p callback.EvtDeviceD0Entry)
-      (plain_each enable_steps (λ i. plain_behind (run_if i.enables callback.EvtInterruptEnable i.interrupt) (step.Pass stage.Enabled (Some i.interrupt) ∷ []) (run_if_plain i.enables callback.EvtInterruptEnable i.interrupt) refl) p.interrupts))
+      plain_after (run p callback.EvtDeviceD0Entry ++ flat_map enable_steps p.interrupts) (run p callback.EvtDeviceD0EntryPostInterruptsEnabled)
+      (plain_after (run p callback.EvtDeviceD0Entry) (flat_map enable_steps p.interrupts) (run_plain p callback.EvtDeviceD0Entry)
+      (plain_each enable_steps (λ i. plain_after (run_if i.enables callback.EvtInterruptEnable i.interrupt) (step.Pass stage.Enabled (Some i.interrupt) ∷ []) (run_if_plain i.enables callback.EvtInterruptEnable i.interrupt) refl) p.interrupts))
       (run_plain p callback.EvtDeviceD0EntryPostInterruptsEnabled)
 
   down_plain : Plain (down_steps p)
   down_plain =
-      plain_behind (run p callback.EvtDeviceSelfManagedIoSuspend ++ pass stage.QueuesDown ++ pass stage.Settled ++ run p callback.EvtDeviceD0ExitPreInterruptsDisabled ++ flat_map disable_steps (reverse p.interrupts) ++ quiet_steps p.interrupts) (run p callback.EvtDeviceD0Exit)
-      (plain_behind (run p callback.EvtDeviceSelfManagedIoSuspend ++ pass stage.QueuesDown ++ pass stage.Settled ++ run p callback.EvtDeviceD0ExitPreInterruptsDisabled ++ flat_map disable_steps (reverse p.interrupts)) (quiet_steps p.interrupts)
-      (plain_behind (run p callback.EvtDeviceSelfManagedIoSuspend ++ pass stage.QueuesDown ++ pass stage.Settled ++ run p callback.EvtDeviceD0ExitPreInterruptsDisabled) (flat_map disable_steps (reverse p.interrupts))
-      (plain_behind (run p callback.EvtDeviceSelfManagedIoSuspend ++ pass stage.QueuesDown ++ pass stage.Settled) (run p callback.EvtDeviceD0ExitPreInterruptsDisabled)
-      (plain_behind (run p callback.EvtDeviceSelfManagedIoSuspend ++ pass stage.QueuesDown) (pass stage.Settled)
-      (plain_behind (run p callback.EvtDeviceSelfManagedIoSuspend) (pass stage.QueuesDown) (run_plain p callback.EvtDeviceSelfManagedIoSuspend) refl) refl)
+      plain_after (run p callback.EvtDeviceSelfManagedIoSuspend ++ pass stage.QueuesDown ++ pass stage.Settled ++ run p callback.EvtDeviceD0ExitPreInterruptsDisabled ++ flat_map disable_steps (reverse p.interrupts) ++ quiet_steps p.interrupts) (run p callback.EvtDeviceD0Exit)
+      (plain_after (run p callback.EvtDeviceSelfManagedIoSuspend ++ pass stage.QueuesDown ++ pass stage.Settled ++ run p callback.EvtDeviceD0ExitPreInterruptsDisabled ++ flat_map disable_steps (reverse p.interrupts)) (quiet_steps p.interrupts)
+      (plain_after (run p callback.EvtDeviceSelfManagedIoSuspend ++ pass stage.QueuesDown ++ pass stage.Settled ++ run p callback.EvtDeviceD0ExitPreInterruptsDisabled) (flat_map disable_steps (reverse p.interrupts))
+      (plain_after (run p callback.EvtDeviceSelfManagedIoSuspend ++ pass stage.QueuesDown ++ pass stage.Settled) (run p callback.EvtDeviceD0ExitPreInterruptsDisabled)
+      (plain_after (run p callback.EvtDeviceSelfManagedIoSuspend ++ pass stage.QueuesDown) (pass stage.Settled)
+      (plain_after (run p callback.EvtDeviceSelfManagedIoSuspend) (pass stage.QueuesDown) (run_plain p callback.EvtDeviceSelfManagedIoSuspend) refl) refl)
       (run_plain p callback.EvtDeviceD0ExitPreInterruptsDisabled))
       (plain_each disable_steps (λ i. run_if_plain i.disables callback.EvtInterruptDisable i.interrupt) (reverse p.interrupts)))
       (quiets_plain p.interrupts))
       (run_plain p callback.EvtDeviceD0Exit)
 
   hard_plain : Plain (hard_steps p)
-  hard_plain = plain_behind (pass stage.Hardware) (run p callback.EvtDevicePrepareHardware) refl (run_plain p callback.EvtDevicePrepareHardware)
+  hard_plain = plain_after (pass stage.Hardware) (run p callback.EvtDevicePrepareHardware) refl (run_plain p callback.EvtDevicePrepareHardware)
 
   flush_plain : (ever : Bool) → Plain (flush_steps p ever)
   flush_plain false = refl
-  flush_plain true = plain_behind (run p callback.EvtDeviceSelfManagedIoFlush) (run p callback.EvtDeviceSelfManagedIoCleanup) (run_plain p callback.EvtDeviceSelfManagedIoFlush) (run_plain p callback.EvtDeviceSelfManagedIoCleanup)
+  flush_plain true = plain_after (run p callback.EvtDeviceSelfManagedIoFlush) (run p callback.EvtDeviceSelfManagedIoCleanup) (run_plain p callback.EvtDeviceSelfManagedIoFlush) (run_plain p callback.EvtDeviceSelfManagedIoCleanup)
 
   end_plain : (ever : Bool) → Plain (end_steps p ever)
-  end_plain ever = plain_behind (pass stage.NoHardware ++ pass stage.Closed ++ flush_steps p ever) (pass stage.Removed) (plain_behind (pass stage.NoHardware ++ pass stage.Closed) (flush_steps p ever) refl (flush_plain ever)) refl
+  end_plain ever = plain_after (pass stage.NoHardware ++ pass stage.Closed ++ flush_steps p ever) (pass stage.Removed) (plain_after (pass stage.NoHardware ++ pass stage.Closed) (flush_steps p ever) refl (flush_plain ever)) refl
 
   tail_plain : (ever : Bool) → Plain (tail_steps p ever)
-  tail_plain ever = plain_behind (run p callback.EvtDeviceReleaseHardware) (end_steps p ever) (run_plain p callback.EvtDeviceReleaseHardware) (end_plain ever)
+  tail_plain ever = plain_after (run p callback.EvtDeviceReleaseHardware) (end_steps p ever) (run_plain p callback.EvtDeviceReleaseHardware) (end_plain ever)
 
   -- ---- lists that have the property
 
@@ -151,25 +151,25 @@ module _ (p : DeviceSteps) where
     rebalance : Ups p ever (steps_for p ever Working asks.Rebalance)
     rebalance =
         before (run p callback.EvtDeviceQueryStop ++ down_steps p ++ run p callback.EvtDeviceReleaseHardware ++ pass stage.NoHardware ++ hard_steps p) (up_steps p ever)
-        (plain_behind (run p callback.EvtDeviceQueryStop ++ down_steps p ++ run p callback.EvtDeviceReleaseHardware ++ pass stage.NoHardware) (hard_steps p)
-        (plain_behind (run p callback.EvtDeviceQueryStop ++ down_steps p ++ run p callback.EvtDeviceReleaseHardware) (pass stage.NoHardware)
-        (plain_behind (run p callback.EvtDeviceQueryStop ++ down_steps p) (run p callback.EvtDeviceReleaseHardware)
-        (plain_behind (run p callback.EvtDeviceQueryStop) (down_steps p) (run_plain p callback.EvtDeviceQueryStop) down_plain)
+        (plain_after (run p callback.EvtDeviceQueryStop ++ down_steps p ++ run p callback.EvtDeviceReleaseHardware ++ pass stage.NoHardware) (hard_steps p)
+        (plain_after (run p callback.EvtDeviceQueryStop ++ down_steps p ++ run p callback.EvtDeviceReleaseHardware) (pass stage.NoHardware)
+        (plain_after (run p callback.EvtDeviceQueryStop ++ down_steps p) (run p callback.EvtDeviceReleaseHardware)
+        (plain_after (run p callback.EvtDeviceQueryStop) (down_steps p) (run_plain p callback.EvtDeviceQueryStop) down_plain)
         (run_plain p callback.EvtDeviceReleaseHardware)) refl) hard_plain) ups
 
     ends_by : (c : Callback) → Ups p ever (run p c ++ down_steps p ++ tail_steps p ever)
     ends_by c = plain_ups (run p c ++ down_steps p ++ tail_steps p ever)
-        (plain_behind (run p c ++ down_steps p) (tail_steps p ever) (plain_behind (run p c) (down_steps p) (run_plain p c) down_plain) (tail_plain ever))
+        (plain_after (run p c ++ down_steps p) (tail_steps p ever) (plain_after (run p c) (down_steps p) (run_plain p c) down_plain) (tail_plain ever))
 
     sleeps_by : (c : Callback) → Ups p ever (run p c ++ tail_steps p ever)
-    sleeps_by c = plain_ups (run p c ++ tail_steps p ever) (plain_behind (run p c) (tail_steps p ever) (run_plain p c) (tail_plain ever))
+    sleeps_by c = plain_ups (run p c ++ tail_steps p ever) (plain_after (run p c) (tail_steps p ever) (run_plain p c) (tail_plain ever))
 
     -- each list that a post asks for
     pub asked : (f : Phase) (a : Ask) → Ups p ever (steps_for p ever f a)
     asked Off asks.Start = before (hard_steps p) (up_steps p ever) hard_plain ups
     asked Off asks.Remove = tt
     asked Off asks.Surprise = tt
-    asked Working asks.Sleep = plain_ups (down_steps p ++ pass stage.Sleeping) (plain_behind (down_steps p) (pass stage.Sleeping) down_plain refl)
+    asked Working asks.Sleep = plain_ups (down_steps p ++ pass stage.Sleeping) (plain_after (down_steps p) (pass stage.Sleeping) down_plain refl)
     asked Working asks.Rebalance = rebalance
     asked Working asks.Remove = ends_by callback.EvtDeviceQueryRemove
     asked Working asks.Surprise = ends_by callback.EvtDeviceSurpriseRemoval

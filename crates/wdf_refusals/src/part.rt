@@ -29,7 +29,7 @@ pub trait Part {
 }
 
 /// Adds to a list what a part has of each line, in the order of the text.
-pub fn gather_behind<P: Part, const CEILING: u64>(
+pub fn gather_after<P: Part, const CEILING: u64>(
     scene: &Scene,
     part: &P,
     items: &mut Items<P::Item, CEILING>,
@@ -61,7 +61,7 @@ pub fn gather<P: Part, const CEILING: u64>(
     ensures { IfOk result (λ v. v ≡ filter_map (P.part part.now) (placed scene.now)) }
 {
     let mut items = Items::new(alloc);
-    gather_behind(scene, part, &mut items)?;
+    gather_after(scene, part, &mut items)?;
     Ok(items)
 }
 

@@ -47,7 +47,7 @@ use Rattle.wdf_tokens.specs.WordTokens.{word, callback_token}
 use Rattle.wdf_tokens.proofs.BothParts.{first_part, second_part}
 use Rattle.wdf_tokens.proofs.KeywordLaws.{keyword_back}
 use Rattle.wdf_scene_lines.specs.Forms as forms
-use Rattle.wdf_scene_lines.specs.Reading.{word_atom, atom_of, first_token, atom_in, operator_in, name_in, is_open, is_close, TreeReading, NoTree, TreeBefore, leaf_read, closed_read, right_read, operator_read, left_read, read_tree, whole_tree, single_of, single_behind, read_front, ArgumentReading, NoArgument, ArgumentBefore, valued_read, read_argument, third_read, second_read, first_read, call_front_of, call_front, call_behind, is_number, number_in, picks_written, read_by, read_known, read_written}
+use Rattle.wdf_scene_lines.specs.Reading.{word_atom, atom_of, first_token, atom_in, operator_in, name_in, is_open, is_close, TreeReading, NoTree, TreeBefore, leaf_read, closed_read, right_read, operator_read, left_read, read_tree, whole_tree, single_of, single_after, read_front, ArgumentReading, NoArgument, ArgumentBefore, valued_read, read_argument, third_read, second_read, first_read, call_front_of, call_front, call_after, is_number, number_in, picks_written, read_by, read_known, read_written}
 use Rattle.wdf_scene_lines.specs.Spelling.{atom_token, tree_then, argument_then, into_then, head_then, action_then, plain_tokens, written_tokens}
 
 status_back : (x : Status) → status_named (status_word x) ≡ Some x
@@ -337,13 +337,13 @@ call_read : (kind : CallKind) (into : Option (List ℕ)) (a b c : Argument) → 
 call_read kind None a b c h =
     let rest = argument_then a (argument_then b (argument_then c [])) in
     by_first keyword.Call (token.Word (call_word kind) ∷ rest)
-    ∙ ap (λ f. call_behind f (token.Word (call_word kind) ∷ rest)) (bare_front (call_word kind) rest (argument_not_assign a (argument_then b (argument_then c [])) (argument_not_assign b (argument_then c []) (argument_not_assign c [] refl))))
-    ∙ ap (λ k. call_behind (call_front_of k None 1) (token.Word (call_word kind) ∷ rest)) (call_back kind)
+    ∙ ap (λ f. call_after f (token.Word (call_word kind) ∷ rest)) (bare_front (call_word kind) rest (argument_not_assign a (argument_then b (argument_then c [])) (argument_not_assign b (argument_then c []) (argument_not_assign c [] refl))))
+    ∙ ap (λ k. call_after (call_front_of k None 1) (token.Word (call_word kind) ∷ rest)) (call_back kind)
     ∙ arguments_read kind None a b c h
 call_read kind (Some x) a b c h =
     let rest = argument_then a (argument_then b (argument_then c [])) in
     by_first keyword.Call (token.Word x ∷ token.Assign ∷ token.Word (call_word kind) ∷ rest)
-    ∙ ap (λ k. call_behind (call_front_of k (Some x) 3) (token.Word x ∷ token.Assign ∷ token.Word (call_word kind) ∷ rest)) (call_back kind)
+    ∙ ap (λ k. call_after (call_front_of k (Some x) 3) (token.Word x ∷ token.Assign ∷ token.Word (call_word kind) ∷ rest)) (call_back kind)
     ∙ arguments_read kind (Some x) a b c h
 
 numbers_pass : (ns : List ℕ) → list_all is_number (map (λ n. token.Number n) ns) ≡ true

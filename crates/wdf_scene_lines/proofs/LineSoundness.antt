@@ -31,7 +31,7 @@ use Rattle.wdf_tokens.proofs.KeywordLaws.{keyword_only}
 use Rattle.wdf_scene_lines.specs.declared.statements.Front.{Front}
 use Rattle.wdf_scene_lines.specs.declared.statements.CallFront.{CallFront}
 use Rattle.wdf_scene_lines.specs.Forms.{plain_line}
-use Rattle.wdf_scene_lines.specs.Reading.{word_atom, atom_of, first_token, atom_in, operator_in, name_in, is_open, is_close, TreeReading, NoTree, TreeBefore, leaf_read, closed_read, right_read, operator_read, left_read, read_tree, whole_tree, let_front, put_front, read_front, single_of, single_behind, ArgumentReading, NoArgument, ArgumentBefore, valued_read, class_read, read_argument, third_read, second_read, first_read, call_front_of, call_front, call_behind, is_number, number_in, picks_written, read_unpicked, read_by, read_known, read_written}
+use Rattle.wdf_scene_lines.specs.Reading.{word_atom, atom_of, first_token, atom_in, operator_in, name_in, is_open, is_close, TreeReading, NoTree, TreeBefore, leaf_read, closed_read, right_read, operator_read, left_read, read_tree, whole_tree, let_front, put_front, read_front, single_of, single_after, ArgumentReading, NoArgument, ArgumentBefore, valued_read, class_read, read_argument, third_read, second_read, first_read, call_front_of, call_front, call_after, is_number, number_in, picks_written, read_unpicked, read_by, read_known, read_written}
 use Rattle.wdf_scene_lines.specs.Spelling.{atom_token, tree_then, argument_then, into_then, head_then, written_tokens}
 use Rattle.wdf_scene_lines.proofs.FormSoundness.{Spells, plain_line_spelled}
 
@@ -140,11 +140,11 @@ single_spelled h front ts (TreeBefore t []) w is_front is e =
     })
 single_spelled h front ts _ w is_front is e = absurd (let z : ⊥ = cc in z)
 
-let_spelled : (ts : List Token) (w : Written) → single_behind (let_front ts) ts ≡ Some w → SpellsLine (word keyword.Let ∷ ts) w
+let_spelled : (ts : List Token) (w : Written) → single_after (let_front ts) ts ≡ Some w → SpellsLine (word keyword.Let ∷ ts) w
 let_spelled (token.Word x ∷ token.Assign ∷ ts) w e = single_spelled (head.Let x) (word keyword.Let ∷ token.Word x ∷ token.Assign ∷ ts) ts (read_tree 16 ts) w refl refl e
 let_spelled _ w e = absurd (let z : ⊥ = cc in z)
 
-put_spelled : (ts : List Token) (w : Written) → single_behind (put_front ts) ts ≡ Some w → SpellsLine (word keyword.Put ∷ ts) w
+put_spelled : (ts : List Token) (w : Written) → single_after (put_front ts) ts ≡ Some w → SpellsLine (word keyword.Put ∷ ts) w
 put_spelled (token.Word r ∷ ts) w e = single_spelled (head.Put r) (word keyword.Put ∷ token.Word r ∷ ts) ts (read_tree 16 ts) w refl refl e
 put_spelled _ w e = absurd (let z : ⊥ = cc in z)
 
@@ -210,7 +210,7 @@ first_spelled kind into front ts NoArgument w is_front is e = absurd (let z : �
 first_spelled kind into front ts (ArgumentBefore a us) w is_front is e =
     second_spelled kind into front ts us a (read_argument (signature_of kind).b us) w is_front (argument_spelled (signature_of kind).a ts a us is) refl e
 
-fronted_spelled : (name : List ℕ) (kind : Option CallKind) (into : Option (List ℕ)) (n : ℕ) (ts rest : List Token) (w : Written) → call_named name ≡ kind → drop n ts ≡ rest → into_then into (token.Word name ∷ rest) ≡ ts → call_behind (call_front_of kind into n) ts ≡ Some w → SpellsLine (word keyword.Call ∷ ts) w
+fronted_spelled : (name : List ℕ) (kind : Option CallKind) (into : Option (List ℕ)) (n : ℕ) (ts rest : List Token) (w : Written) → call_named name ≡ kind → drop n ts ≡ rest → into_then into (token.Word name ∷ rest) ≡ ts → call_after (call_front_of kind into n) ts ≡ Some w → SpellsLine (word keyword.Call ∷ ts) w
 fronted_spelled name None into n ts rest w is behind front e = absurd (let z : ⊥ = cc in z)
 fronted_spelled name (Some kind) into n ts rest w is behind front e =
     first_spelled kind into (word keyword.Call ∷ ts) (drop n ts) (read_argument (signature_of kind).a (drop n ts)) w
@@ -219,7 +219,7 @@ fronted_spelled name (Some kind) into n ts rest w is behind front e =
     ∙ ap (λ xs. word keyword.Call ∷ xs) front)
     refl e
 
-call_spelled : (ts : List Token) (w : Written) → call_behind (call_front ts) ts ≡ Some w → SpellsLine (word keyword.Call ∷ ts) w
+call_spelled : (ts : List Token) (w : Written) → call_after (call_front ts) ts ≡ Some w → SpellsLine (word keyword.Call ∷ ts) w
 call_spelled (token.Word x ∷ token.Assign ∷ token.Word f ∷ ts) w e = fronted_spelled f (call_named f) (Some x) 3 (token.Word x ∷ token.Assign ∷ token.Word f ∷ ts) ts w refl refl refl e
 call_spelled (token.Word f ∷ ts) w e = fronted_spelled f (call_named f) None 1 (token.Word f ∷ ts) ts w refl refl refl e
 call_spelled _ w e = absurd (let z : ⊥ = cc in z)

@@ -21,8 +21,8 @@ pub with_nodes_twice : (s : Scene) (a b : List SceneExpr) → with_nodes (with_n
 with_nodes_twice s a b = ap (λ (xs : List SceneExpr). record s { exprs = xs }) (append_assoc s.exprs a b)
 
 -- the numbers go on after what is built
-pub next_node_behind : (t : Tree) (old new : Scene) → new ≡ with_nodes old (nodes (next_node old) t) → next_node new ≡ next_node old + size t
-next_node_behind t old new is =
+pub next_node_after : (t : Tree) (old new : Scene) → new ≡ with_nodes old (nodes (next_node old) t) → next_node new ≡ next_node old + size t
+next_node_after t old new is =
     ap next_node is ∙ length-append old.exprs (nodes (next_node old) t) ∙ ap (λ n. next_node old + n) (length_nodes (next_node old) t)
 
 -- what is built of two operands
@@ -33,12 +33,12 @@ record Operands (l r : Tree) (x y : ℕ) (s0 s1 s2 : Scene) : Type 0 where
   right_built : s2 ≡ with_nodes s1 (nodes (next_node s1) r)
 
 pair_number : (l r : Tree) (op : Operator) (x y : ℕ) (s0 s1 s2 : Scene) → Operands l r x y s0 s1 s2 → next_node s2 ≡ root (next_node s0) (Node op l r)
-pair_number l r op x y s0 s1 s2 h = omega (arith, next_node_behind l s0 s1 h.left_built, next_node_behind r s1 s2 h.right_built)
+pair_number l r op x y s0 s1 s2 h = omega (arith, next_node_after l s0 s1 h.left_built, next_node_after r s1 s2 h.right_built)
 
 pair_built : (l r : Tree) (op : Operator) (x y : ℕ) (s0 s1 s2 : Scene) → Operands l r x y s0 s1 s2 → with_nodes s2 (expr.Binary op x y ∷ []) ≡ with_nodes s0 (nodes (next_node s0) (Node op l r))
 pair_built l r op x y s0 s1 s2 h =
     let base = next_node s0 in
-    let further : next_node s1 ≡ base + size l = next_node_behind l s0 s1 h.left_built in
+    let further : next_node s1 ≡ base + size l = next_node_after l s0 s1 h.left_built in
     let a = nodes base l in
     let node : List SceneExpr = expr.Binary op (root base l) (root (base + size l) r) ∷ [] in
     let operands : expr.Binary op x y ∷ [] ≡ node =

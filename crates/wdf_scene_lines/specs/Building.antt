@@ -20,29 +20,29 @@ abbrev pub next_node : Scene → ℕ
 next_node s = length s.exprs
 
 -- an expression is read: its number, its nodes, and the tokens that are left
-pub record BuildsTree (t : Tree) (behind : List Token) (e : ℕ) (left : List Token) (old new : Scene) : Type 0 where
-  pub left_is : left ≡ behind
+pub record BuildsTree (t : Tree) (rest : List Token) (e : ℕ) (left : List Token) (old new : Scene) : Type 0 where
+  pub left_is : left ≡ rest
   pub number : e ≡ root (next_node old) t
   pub built : new ≡ with_nodes old (nodes (next_node old) t)
 
 -- an answer tells what is read, or that nothing is
 abbrev pub IsTreeRead : TreeReading → Option ℕ → List Token → Scene → Scene → Type 0
 IsTreeRead NoTree None left old new = Unit {0}
-IsTreeRead (TreeBefore t behind) (Some e) left old new = BuildsTree t behind e left old new
+IsTreeRead (TreeBefore t rest) (Some e) left old new = BuildsTree t rest e left old new
 IsTreeRead NoTree (Some e) left old new = ⊥
-IsTreeRead (TreeBefore t behind) None left old new = ⊥
+IsTreeRead (TreeBefore t rest) None left old new = ⊥
 
 -- an argument is read
-pub record BuildsArgument (a : Argument) (behind : List Token) (x : SceneArg) (left : List Token) (old new : Scene) : Type 0 where
-  pub left_is : left ≡ behind
+pub record BuildsArgument (a : Argument) (rest : List Token) (x : SceneArg) (left : List Token) (old new : Scene) : Type 0 where
+  pub left_is : left ≡ rest
   pub number : x ≡ numbered_argument (next_node old) a
   pub built : new ≡ with_nodes old (argument_nodes a)
 
 abbrev pub IsArgumentRead : ArgumentReading → Option SceneArg → List Token → Scene → Scene → Type 0
 IsArgumentRead NoArgument None left old new = Unit {0}
-IsArgumentRead (ArgumentBefore a behind) (Some x) left old new = BuildsArgument a behind x left old new
+IsArgumentRead (ArgumentBefore a rest) (Some x) left old new = BuildsArgument a rest x left old new
 IsArgumentRead NoArgument (Some x) left old new = ⊥
-IsArgumentRead (ArgumentBefore a behind) None left old new = ⊥
+IsArgumentRead (ArgumentBefore a rest) None left old new = ⊥
 
 -- a line without picks is read
 pub record BuildsLine (w : Written) (l : SceneLine) (old new : Scene) : Type 0 where

@@ -126,9 +126,9 @@ abbrev pub single_of : StatementHead → Option Tree → Option Written
 single_of h None = None
 single_of h (Some t) = Some (Single h t)
 
-abbrev pub single_behind : Option Front → List Token → Option Written
-single_behind None ts = None
-single_behind (Some f) ts = single_of f.head (whole_tree (read_tree 16 (drop f.used ts)))
+abbrev pub single_after : Option Front → List Token → Option Written
+single_after None ts = None
+single_after (Some f) ts = single_of f.head (whole_tree (read_tree 16 (drop f.used ts)))
 
 -- an argument of a call, and the tokens after it
 pub data ArgumentReading : Type 0 where
@@ -171,9 +171,9 @@ call_front (token.Word x ∷ token.Assign ∷ token.Word f ∷ ts) = call_front_
 call_front (token.Word f ∷ ts) = call_front_of (call_named f) None 1
 call_front _ = None
 
-abbrev pub call_behind : Option CallFront → List Token → Option Written
-call_behind None ts = None
-call_behind (Some f) ts = first_read f.kind f.into (read_argument (signature_of f.kind).a (drop f.used ts))
+abbrev pub call_after : Option CallFront → List Token → Option Written
+call_after None ts = None
+call_after (Some f) ts = first_read f.kind f.into (read_argument (signature_of f.kind).a (drop f.used ts))
 
 abbrev pub is_number : Token → Bool
 is_number (token.Number n) = true
@@ -190,14 +190,14 @@ picks_written (t ∷ ts) = if list_all is_number (t ∷ ts) then Some (Picked (m
 
 -- the line without picks with this first word and these tokens after it
 abbrev pub read_unpicked : Keyword → List Token → Option Written
-read_unpicked keyword.Call ts = call_behind (call_front ts) ts
-read_unpicked keyword.Let ts = single_behind (read_front keyword.Let ts) ts
-read_unpicked keyword.Put ts = single_behind (read_front keyword.Put ts) ts
-read_unpicked keyword.If ts = single_behind (read_front keyword.If ts) ts
-read_unpicked keyword.Repeat ts = single_behind (read_front keyword.Repeat ts) ts
-read_unpicked keyword.Spend ts = single_behind (read_front keyword.Spend ts) ts
-read_unpicked keyword.Log ts = single_behind (read_front keyword.Log ts) ts
-read_unpicked keyword.Return ts = single_behind (read_front keyword.Return ts) ts
+read_unpicked keyword.Call ts = call_after (call_front ts) ts
+read_unpicked keyword.Let ts = single_after (read_front keyword.Let ts) ts
+read_unpicked keyword.Put ts = single_after (read_front keyword.Put ts) ts
+read_unpicked keyword.If ts = single_after (read_front keyword.If ts) ts
+read_unpicked keyword.Repeat ts = single_after (read_front keyword.Repeat ts) ts
+read_unpicked keyword.Spend ts = single_after (read_front keyword.Spend ts) ts
+read_unpicked keyword.Log ts = single_after (read_front keyword.Log ts) ts
+read_unpicked keyword.Return ts = single_after (read_front keyword.Return ts) ts
 read_unpicked k ts = option_map (λ form. Plain form) (plain_line k ts)
 
 -- the line with this first word and these tokens after it

@@ -132,7 +132,7 @@ fn read_statement(
 ) -> Result<Option<SceneLine>, Memory>
     requires within { IfSome front (λ f. f.used ≤ length tokens.now) }
     requires room { length builder.old.exprs + length tokens.now < 2 ^ 32 }
-    ensures read { IfOk result (λ form. IsLineRead (reading.single_behind front tokens.now) form builder.old builder.new) }
+    ensures read { IfOk result (λ form. IsLineRead (reading.single_after front tokens.now) form builder.old builder.new) }
     ensures room { OnOk result (length builder.new.exprs ≤ length builder.old.exprs + length tokens.now) }
     ensures lines { OnOk result (builder.new.lines ≡ builder.old.lines) }
 {
@@ -206,7 +206,7 @@ fn read_call(
 ) -> Result<Option<SceneLine>, Memory>
     requires within { IfSome front (λ f. f.used ≤ length tokens.now) }
     requires room { length builder.old.exprs + length tokens.now < 2 ^ 32 }
-    ensures read { IfOk result (λ form. IsLineRead (reading.call_behind front tokens.now) form builder.old builder.new) }
+    ensures read { IfOk result (λ form. IsLineRead (reading.call_after front tokens.now) form builder.old builder.new) }
     ensures room { OnOk result (length builder.new.exprs ≤ length builder.old.exprs + length tokens.now) }
     ensures lines { OnOk result (builder.new.lines ≡ builder.old.lines) }
 {

@@ -119,9 +119,9 @@ plain_leads b (s ∷ ss) w h k =
     let rest : Leads ss (next s w) (At b) = plain_leads b ss (next s w) (both_right (is_plain s) (plain ss) h) (subst (λ x. (not b || x) ≡ true) (sym t.1) k) in
     record { well = both (may_take s w) (fits ss (next s w)) t.0 rest.well; after = rest.after }
 
-plain_behind : (xs ys : List Step) → plain xs ≡ true → plain ys ≡ true → plain (xs ++ ys) ≡ true
-plain_behind [] ys h k = k
-plain_behind (x ∷ xs) ys h k = both (is_plain x) (plain (xs ++ ys)) (both_left (is_plain x) (plain xs) h) (plain_behind xs ys (both_right (is_plain x) (plain xs) h) k)
+plain_after : (xs ys : List Step) → plain xs ≡ true → plain ys ≡ true → plain (xs ++ ys) ≡ true
+plain_after [] ys h k = k
+plain_after (x ∷ xs) ys h k = both (is_plain x) (plain (xs ++ ys)) (both_left (is_plain x) (plain xs) h) (plain_after xs ys (both_right (is_plain x) (plain xs) h) k)
 
 plain_run_by : (b : Bool) (c : Callback) → is_plain_callback c ≡ true → plain (if b then step.Run c None ∷ [] else []) ≡ true
 plain_run_by true c h = both (is_plain_callback c) true h refl
@@ -136,10 +136,10 @@ plain_run_if false c i h = refl
 
 plain_all : (f : InterruptSteps → List Step) → ((x : InterruptSteps) → plain (f x) ≡ true) → (xs : List InterruptSteps) → plain (flat_map f xs) ≡ true
 plain_all f h [] = refl
-plain_all f h (x ∷ xs) = rw (flat_map-cons f x xs) (plain_behind (f x) (flat_map f xs) (h x) (plain_all f h xs))
+plain_all f h (x ∷ xs) = rw (flat_map-cons f x xs) (plain_after (f x) (flat_map f xs) (h x) (plain_all f h xs))
 
 plain_enables : (x : InterruptSteps) → plain (enable_steps x) ≡ true
-plain_enables x = plain_behind (run_if x.enables callback.EvtInterruptEnable x.interrupt) _ (plain_run_if x.enables callback.EvtInterruptEnable x.interrupt refl) refl
+plain_enables x = plain_after (run_if x.enables callback.EvtInterruptEnable x.interrupt) _ (plain_run_if x.enables callback.EvtInterruptEnable x.interrupt refl) refl
 
 plain_disables : (x : InterruptSteps) → plain (disable_steps x) ≡ true
 plain_disables x = plain_run_if x.disables callback.EvtInterruptDisable x.interrupt refl
@@ -153,16 +153,16 @@ plain_quiet (x ∷ xs) = refl
 module _ (p : DeviceSteps) where
   plain_flush : (ever : Bool) → plain (flush_steps p ever) ≡ true
   plain_flush false = refl
-  plain_flush true = plain_behind (run p callback.EvtDeviceSelfManagedIoFlush) (run p callback.EvtDeviceSelfManagedIoCleanup) (plain_run p callback.EvtDeviceSelfManagedIoFlush refl) (plain_run p callback.EvtDeviceSelfManagedIoCleanup refl)
+  plain_flush true = plain_after (run p callback.EvtDeviceSelfManagedIoFlush) (run p callback.EvtDeviceSelfManagedIoCleanup) (plain_run p callback.EvtDeviceSelfManagedIoFlush refl) (plain_run p callback.EvtDeviceSelfManagedIoCleanup refl)
 
   plain_end : (ever : Bool) → plain (end_steps p ever) ≡ true
-  plain_end ever = plain_behind (pass stage.NoHardware ++ pass stage.Closed ++ flush_steps p ever) (pass stage.Removed) (plain_behind (pass stage.NoHardware ++ pass stage.Closed) (flush_steps p ever) refl (plain_flush ever)) refl
+  plain_end ever = plain_after (pass stage.NoHardware ++ pass stage.Closed ++ flush_steps p ever) (pass stage.Removed) (plain_after (pass stage.NoHardware ++ pass stage.Closed) (flush_steps p ever) refl (plain_flush ever)) refl
 
   plain_tail : (ever : Bool) → plain (tail_steps p ever) ≡ true
-  plain_tail ever = plain_behind (run p callback.EvtDeviceReleaseHardware) (end_steps p ever) (plain_run p callback.EvtDeviceReleaseHardware refl) (plain_end ever)
+  plain_tail ever = plain_after (run p callback.EvtDeviceReleaseHardware) (end_steps p ever) (plain_run p callback.EvtDeviceReleaseHardware refl) (plain_end ever)
 
   plain_hard : plain (hard_steps p) ≡ true
-  plain_hard = plain_behind (pass stage.Hardware) (run p callback.EvtDevicePrepareHardware) refl (plain_run p callback.EvtDevicePrepareHardware refl)
+  plain_hard = plain_after (pass stage.Hardware) (run p callback.EvtDevicePrepareHardware) refl (plain_run p callback.EvtDevicePrepareHardware refl)
 
   plain_start : (ever : Bool) → plain (run p (self_managed_start ever)) ≡ true
   plain_start true = plain_run p callback.EvtDeviceSelfManagedIoRestart refl

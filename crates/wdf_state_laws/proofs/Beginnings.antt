@@ -38,9 +38,9 @@ abbrev pub AllEarly : {A : Type 0} → Plan → List Deed → State A → Type 0
 AllEarly plan [] S = ⊤
 AllEarly plan (d ∷ ds) S = Early d S × AllEarly plan ds (do_deed plan d S)
 
-early_behind : {A : Type 0} (plan : Plan) (ds es : List Deed) (S : State A) → AllEarly plan ds S → AllEarly plan es (do_deeds plan ds S) → AllEarly plan (ds ++ es) S
-early_behind plan [] es S h k = k
-early_behind plan (d ∷ ds) es S h k = (h.0, early_behind plan ds es (do_deed plan d S) h.1 k)
+early_after : {A : Type 0} (plan : Plan) (ds es : List Deed) (S : State A) → AllEarly plan ds S → AllEarly plan es (do_deeds plan ds S) → AllEarly plan (ds ++ es) S
+early_after plan [] es S h k = k
+early_after plan (d ∷ ds) es S h k = (h.0, early_after plan ds es (do_deed plan d S) h.1 k)
 
 -- ---- deeds by which no frame begins
 
@@ -86,7 +86,7 @@ start_early {A} plan m S cpu c o r h =
     let U : State A = do_deeds plan ds S in
     let alive : life_fits S c o.id.0 ≡ true = search (both_left, both_right) in
     let same : is_past_cleanup (life_of U.tree o.id.0) ≡ is_past_cleanup (life_of S.tree o.id.0) = ap is_past_cleanup ((start_effect_sound plan S cpu c o.id.0 r).1.lives o.id.0) in
-    early_behind plan ds (PushFrame (cpu_of cpu) (frame_id f) (new_frame plan S c o r) (irql_of (callback_irql plan c o.id.0)) ∷ take_if_any f l) S
+    early_after plan ds (PushFrame (cpu_of cpu) (frame_id f) (new_frame plan S c o r) (irql_of (callback_irql plan c o.id.0)) ∷ take_if_any f l) S
     (none_early plan ds S (start_effect_passes begins_none plan S cpu c o.id.0 r (effect_begins c)))
     ((λ n. same ∙ life_early S c o.id.0 alive n), none_early plan (take_if_any f l) _ (taking_begins f l))
 

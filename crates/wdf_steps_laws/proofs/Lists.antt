@@ -66,40 +66,40 @@ pub record Whole (xs : List Step) : Type 0 where
   pub ordered : in_order xs ≡ true
   pub plain : settles_next xs ≡ false
 
-first_behind : (xs ys : List Step) → settles_next ys ≡ false → settles_next (xs ++ ys) ≡ settles_next xs
-first_behind [] ys h = h
-first_behind (x ∷ xs) ys h = refl
+first_after : (xs ys : List Step) → settles_next ys ≡ false → settles_next (xs ++ ys) ≡ settles_next xs
+first_after [] ys h = h
+first_after (x ∷ xs) ys h = refl
 
-plain_behind : (xs ys : List Step) → settles_next xs ≡ false → settles_next ys ≡ false → settles_next (xs ++ ys) ≡ false
-plain_behind [] ys h k = k
-plain_behind (x ∷ xs) ys h k = h
+plain_after : (xs ys : List Step) → settles_next xs ≡ false → settles_next ys ≡ false → settles_next (xs ++ ys) ≡ false
+plain_after [] ys h k = k
+plain_after (x ∷ xs) ys h k = h
 
-ordered_behind : (xs ys : List Step) → in_order xs ≡ true → still xs ≡ true → in_order ys ≡ true → settles_next ys ≡ false → in_order (xs ++ ys) ≡ true
-ordered_behind [] ys h t k n = k
-ordered_behind (x ∷ xs) ys h t k n =
+ordered_after : (xs ys : List Step) → in_order xs ≡ true → still xs ≡ true → in_order ys ≡ true → settles_next ys ≡ false → in_order (xs ++ ys) ≡ true
+ordered_after [] ys h t k n = k
+ordered_after (x ∷ xs) ys h t k n =
     let a : Bool = agree (falls x) (settles_next xs) in
     let b : Bool = not (turns x) || is_end xs in
     let now : (a && b) ≡ true = both_left (a && b) (in_order xs) h in
-    let pairs : agree (falls x) (settles_next (xs ++ ys)) ≡ true = subst (λ z. agree (falls x) z ≡ true) (sym (first_behind xs ys n)) (both_left a b now) in
+    let pairs : agree (falls x) (settles_next (xs ++ ys)) ≡ true = subst (λ z. agree (falls x) z ≡ true) (sym (first_after xs ys n)) (both_left a b now) in
     let quiet : (not (turns x) || is_end (xs ++ ys)) ≡ true = first (not (turns x)) (is_end (xs ++ ys)) (both_left (not (turns x)) (still xs) t) in
     both (agree (falls x) (settles_next (xs ++ ys)) && (not (turns x) || is_end (xs ++ ys))) (in_order (xs ++ ys)) (both (agree (falls x) (settles_next (xs ++ ys))) (not (turns x) || is_end (xs ++ ys)) pairs quiet)
-    (ordered_behind xs ys (both_right (a && b) (in_order xs) h) (both_right (not (turns x)) (still xs) t) k n)
+    (ordered_after xs ys (both_right (a && b) (in_order xs) h) (both_right (not (turns x)) (still xs) t) k n)
 
-still_behind : (xs ys : List Step) → still xs ≡ true → still ys ≡ true → still (xs ++ ys) ≡ true
-still_behind [] ys h k = k
-still_behind (x ∷ xs) ys h k = both (not (turns x)) (still (xs ++ ys)) (both_left (not (turns x)) (still xs) h) (still_behind xs ys (both_right (not (turns x)) (still xs) h) k)
+still_after : (xs ys : List Step) → still xs ≡ true → still ys ≡ true → still (xs ++ ys) ≡ true
+still_after [] ys h k = k
+still_after (x ∷ xs) ys h k = both (not (turns x)) (still (xs ++ ys)) (both_left (not (turns x)) (still xs) h) (still_after xs ys (both_right (not (turns x)) (still xs) h) k)
 
 then_part : {xs ys : List Step} → Part xs → Part ys → Part (xs ++ ys)
 then_part {xs} {ys} h k = record {
-  ordered = ordered_behind xs ys h.ordered h.still k.ordered k.plain;
-  plain = plain_behind xs ys h.plain k.plain;
-  still = still_behind xs ys h.still k.still;
+  ordered = ordered_after xs ys h.ordered h.still k.ordered k.plain;
+  plain = plain_after xs ys h.plain k.plain;
+  still = still_after xs ys h.still k.still;
 }
 
 then_whole : {xs ys : List Step} → Part xs → Whole ys → Whole (xs ++ ys)
 then_whole {xs} {ys} h k = record {
-  ordered = ordered_behind xs ys h.ordered h.still k.ordered k.plain;
-  plain = plain_behind xs ys h.plain k.plain;
+  ordered = ordered_after xs ys h.ordered h.still k.ordered k.plain;
+  plain = plain_after xs ys h.plain k.plain;
 }
 
 -- ---- the parts

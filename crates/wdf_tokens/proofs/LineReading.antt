@@ -79,8 +79,8 @@ read_up_to_end line at done before outside =
     before.splits ∙ ap (λ bytes. after done (tokens_from (at + 1) 0 bytes)) (drop_all at line outside) ∙ ap (λ (l : List Token). Ok l) (append-nil done)
 
 -- the slice after a place
-pub slice_behind : (line : List ℕ) (at : ℕ) → take (length line - at) (drop at line) ≡ drop at line
-slice_behind line at = rw (← length-drop at line) (take-length (drop at line))
+pub slice_after : (line : List ℕ) (at : ℕ) → take (length line - at) (drop at line) ≡ drop at line
+slice_after line at = rw (← length-drop at line) (take-length (drop at line))
 
 -- one more token needs one more byte
 pub few_next : (done : List Token) (token : Option Token) (all : List Token) (at size : ℕ) → length done ≤ at → 0 < size → all ≡ done ++ option_to_list token → length all ≤ at + size

@@ -10,17 +10,17 @@ use Rattle.wdf_turn.specs.Tokens.{IsGrown}
 use Rattle.wdf_turn.proofs.Prefixes.{prefix_get, All-weaken}
 
 -- what stands after a list that one event follows
-drop_behind : (xs : List Event) (e : Event) → drop (length xs) (xs ++ e ∷ []) ≡ e ∷ []
-drop_behind [] e = refl
-drop_behind (x ∷ xs) e = drop_behind xs e
+drop_after : (xs : List Event) (e : Event) → drop (length xs) (xs ++ e ∷ []) ≡ e ∷ []
+drop_after [] e = refl
+drop_after (x ∷ xs) e = drop_after xs e
 
 drop_whole : (xs : List Event) → drop (length xs) xs ≡ []
 drop_whole [] = refl
 drop_whole (x ∷ xs) = drop_whole xs
 
-get_behind : (xs : List Event) (e : Event) → slice_get (xs ++ e ∷ []) (length xs) ≡ Some e
-get_behind [] e = refl
-get_behind (x ∷ xs) e = get_behind xs e
+get_after : (xs : List Event) (e : Event) → slice_get (xs ++ e ∷ []) (length xs) ≡ Some e
+get_after [] e = refl
+get_after (x ∷ xs) e = get_after xs e
 
 pub grown_prefix : (old new : List Event) → IsGrown old new → IsPrefix old new
 grown_prefix old new grown = elim grown [ inl e ↦ ([], append-nil old ∙ sym e) | inr t ↦ (t.0 ∷ [], sym t.1) ]
@@ -42,8 +42,8 @@ notes_gain from old new grown le = elim grown [
   | inl e ↦ subst (λ (l : List Event). All (IsNoteOf from l) (notes_beyond old l)) (sym e)
       (subst (λ (l : List Event). All (IsNoteOf from old) (notes_from (length old) l)) (sym (drop_whole old)) (All-nil (IsNoteOf from old)))
   | inr t ↦ subst (λ (l : List Event). All (IsNoteOf from l) (notes_beyond old l)) (sym t.1)
-      (subst (λ (l : List Event). All (IsNoteOf from (old ++ t.0 ∷ [])) (notes_from (length old) l)) (sym (drop_behind old t.0))
-      (All-one (IsNoteOf from (old ++ t.0 ∷ [])) (length old, t.0) (le, get_behind old t.0)))
+      (subst (λ (l : List Event). All (IsNoteOf from (old ++ t.0 ∷ [])) (notes_from (length old) l)) (sym (drop_after old t.0))
+      (All-one (IsNoteOf from (old ++ t.0 ∷ [])) (length old, t.0) (le, get_after old t.0)))
 ]
 
 once_more : (from : ℕ) (old : List Event) (e : Event) (place : ℕ) → from ≤ length old
@@ -57,6 +57,6 @@ notes_once from old new place grown le = elim grown [
   | inl e ↦ subst (λ (l : List Event). within from old place + times place (notes_beyond old l) ≡ within from l place) (sym e)
       (subst (λ (l : List Event). within from old place + times place (notes_from (length old) l) ≡ within from old place) (sym (drop_whole old)) (omega arith))
   | inr t ↦ subst (λ (l : List Event). within from old place + times place (notes_beyond old l) ≡ within from l place) (sym t.1)
-      (subst (λ (l : List Event). within from old place + times place (notes_from (length old) l) ≡ within from (old ++ t.0 ∷ []) place) (sym (drop_behind old t.0))
+      (subst (λ (l : List Event). within from old place + times place (notes_from (length old) l) ≡ within from (old ++ t.0 ∷ []) place) (sym (drop_after old t.0))
       (once_more from old t.0 place le))
 ]

@@ -11,7 +11,7 @@ returns-then-ends_block c =
 
 pub loop-at-preserved : goal.loop-at-preserved
 loop-at-preserved c =
-    scan_more _ _ _ _ _ _ c.index-lines-at.result c.loop-at.invariant c.loop-at-test.true c.index-lines-at.is c.if-counts_for.ensures c.if-ends_block.ensures c.depth_behind-depth.ensures
+    scan_more _ _ _ _ _ _ c.index-lines-at.result c.loop-at.invariant c.loop-at-test.true c.index-lines-at.is c.if-counts_for.ensures c.if-ends_block.ensures c.depth_after-depth.ensures
 
 pub returns : goal.returns
 returns c = scan_none _ _ _ _ _ c.loop-at.invariant c.loop-at-test.false

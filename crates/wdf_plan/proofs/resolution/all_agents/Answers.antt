@@ -12,8 +12,8 @@ gather-requires c =
     let room = lines_room c.args.scene.now (app_posted c.args.names.now) c.requires.few_lines in
     (omega arith, (every_any _ (λ p. tt) _, (room, room)))
 
-pub gather_behind-requires : goal.gather_behind-requires
-gather_behind-requires c =
+pub gather_after-requires : goal.gather_after-requires
+gather_after-requires c =
     let room = both_rooms _ (agents_room c.args.scene.now c.args.names.now c.requires).apps in
     rw (c.new-agents.ensures, c.in_ok-posts.ensures, apps_same c.args.scene.now c.args.names.now) (omega arith, (every_any _ (λ p. tt) _, room))
 
@@ -22,17 +22,17 @@ gather-requires-2 c =
     let room = lines_room c.args.scene.now (device_posted c.args.names.now) c.requires.few_lines in
     (omega arith, (every_any _ (λ p. tt) _, (room, room)))
 
-pub gather_behind-requires-2 : goal.gather_behind-requires-2
-gather_behind-requires-2 c =
+pub gather_after-requires-2 : goal.gather_after-requires-2
+gather_after-requires-2 c =
     let room = both_rooms _ (agents_room c.args.scene.now c.args.names.now c.requires).devices in
-    rw (c.in_ok-gather_behind.ensures, c.new-agents.ensures, c.in_ok-posts.ensures, c.in_ok-posts-2.ensures, apps_same c.args.scene.now c.args.names.now, devices_same c.args.scene.now c.args.names.now) (omega arith, (every_any _ (λ p. tt) _, room))
+    rw (c.in_ok-gather_after.ensures, c.new-agents.ensures, c.in_ok-posts.ensures, c.in_ok-posts-2.ensures, apps_same c.args.scene.now c.args.names.now, devices_same c.args.scene.now c.args.names.now) (omega arith, (every_any _ (λ p. tt) _, room))
 
-pub gather_behind-requires-3 : goal.gather_behind-requires-3
-gather_behind-requires-3 c =
+pub gather_after-requires-3 : goal.gather_after-requires-3
+gather_after-requires-3 c =
     let room = both_rooms _ (agents_room c.args.scene.now c.args.names.now c.requires).targets in
-    rw (c.in_ok-gather_behind-2.ensures, c.in_ok-gather_behind.ensures, c.new-agents.ensures, c.in_ok-posts.ensures, c.in_ok-posts-2.ensures, apps_same c.args.scene.now c.args.names.now, devices_same c.args.scene.now c.args.names.now) (omega arith, (every_any _ (λ p. tt) _, room))
+    rw (c.in_ok-gather_after-2.ensures, c.in_ok-gather_after.ensures, c.new-agents.ensures, c.in_ok-posts.ensures, c.in_ok-posts-2.ensures, apps_same c.args.scene.now c.args.names.now, devices_same c.args.scene.now c.args.names.now) (omega arith, (every_any _ (λ p. tt) _, room))
 
 pub returns : goal.returns
 unfolding all_agents
 returns c =
-    rw (c.in_ok-gather_behind-3.ensures, c.in_ok-gather_behind-2.ensures, c.in_ok-gather_behind.ensures, c.new-agents.ensures, c.in_ok-posts.ensures, c.in_ok-posts-2.ensures, apps_same c.args.scene.now c.args.names.now, devices_same c.args.scene.now c.args.names.now) refl
+    rw (c.in_ok-gather_after-3.ensures, c.in_ok-gather_after-2.ensures, c.in_ok-gather_after.ensures, c.new-agents.ensures, c.in_ok-posts.ensures, c.in_ok-posts-2.ensures, apps_same c.args.scene.now c.args.names.now, devices_same c.args.scene.now c.args.names.now) refl

@@ -2,7 +2,7 @@ use Rattle.std.proofs.Common.{length, ◌++◌}
 use Rattle.std.specs.List.{filter_map}
 use Rattle.wdf_blocks.specs.Placed.{placed}
 use Rattle.wdf_refusals.proofs.Gather.{IsGathering}
-use Rattle.wdf_refusals.proofs.part.gather_behind.Given as goal
+use Rattle.wdf_refusals.proofs.part.gather_after.Given as goal
 
 abbrev pub invariant-loop-line : goal.invariant-loop-line
 invariant-loop-line g l =
