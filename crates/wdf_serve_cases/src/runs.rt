@@ -1,12 +1,13 @@
 //! Runs by threads, and what `replay` says of them.
 use crate::call::{Outside, STEADY, call};
 use crate::rows::{Text, is_due};
-use crate::texts::{DEVICE_SCOPE, KEPT, ONE_READ, SPINNING, TWICE};
+use crate::texts::{KEPT, ONE_READ, SPINNING, TWICE};
 use std::alloc::Global;
 use std::test::Fail;
 use std::thread::Threads;
 use wdf_base::Memory;
 use wdf_serve::OpenGate;
+use wdf_turn_cases::DEVICE_SCOPE;
 
 /// What `replay` is given: a scenario, a line `trace` and a trace.
 fn judged(alloc: Global, scenario: &[u8], trace: &[u8]) -> Result<Vec<u8>, Memory> {

@@ -1,12 +1,11 @@
 //! The workers of a run are threads: two of them are there at once.
 use crate::call::{STEADY, call};
-use crate::texts::DEVICE_SCOPE;
 use std::alloc::Global;
 use std::sync::atomic::Ordering;
 use std::test::Fail;
 use std::thread::Threads;
 use wdf_base::Memory;
-use wdf_turn_cases::{TwoEnter, Watch};
+use wdf_turn_cases::{DEVICE_SCOPE, TwoEnter, Watch};
 
 /// Whether a run that is watched so comes out.
 fn comes_out<R: Threads + Sync>(rt: &R, alloc: Global, watch: &Watch) -> Result<bool, Memory> {

@@ -7,8 +7,10 @@ mod log;
 mod pair;
 #[cfg(test)]
 mod rounds;
+mod scenario;
 
 pub use alone::take_alone;
 pub use holds::{TwoEnter, UntilHeard, Watch};
 pub use log::Log;
 pub use pair::close_pair;
+pub use scenario::DEVICE_SCOPE;

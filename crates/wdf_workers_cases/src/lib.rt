@@ -4,6 +4,4 @@
 #[cfg(test)]
 mod fed;
 #[cfg(test)]
-mod texts;
-#[cfg(test)]
 mod workers;

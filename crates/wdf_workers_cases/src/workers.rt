@@ -1,11 +1,10 @@
 //! The workers of a run are threads that do the work: two of them are there at once, and an agent hears of an event before
 //! the others have had their second turn.
 use crate::fed::{counted_opening, ending_by_threads, plan_of};
-use crate::texts::DEVICE_SCOPE;
 use std::sync::atomic::{AtomicU64, Ordering};
 use std::test::Fail;
 use wdf_base::Ending;
-use wdf_turn_cases::{UntilHeard, Watch};
+use wdf_turn_cases::{DEVICE_SCOPE, UntilHeard, Watch};
 
 #[test]
 fn workers_do_the_work(rt: HostRuntime) -> Result<(), Fail> {

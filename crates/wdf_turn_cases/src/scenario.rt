@@ -1,4 +1,4 @@
-//! The scenario of the test.
+//! The scenario of the tests that hold workers by gates.
 
 /// Two queues under one device's lock, on two processors, with as many events as there may be.
 pub const DEVICE_SCOPE: &[u8] = b"\
