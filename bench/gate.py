@@ -6,9 +6,10 @@ Not part of the gate. From the root:
     python3 bench/gate.py rt ci --anew
 
 It starts the command, and looks once a second at the processes of the prover that the command has started. When the command
-ends, or at an interrupt or SIGTERM, it prints a row for each crate: processor seconds of its proof, of the proof of its tests, and of
-its wrong bodies, with how many there were. A process that ends between two looks lacks up to a second, and one that both
-begins and ends between them is missed. What else runs on the machine isn't counted, but makes each second of work longer.
+ends, or at an interrupt or SIGTERM, it prints a row for each crate: processor seconds of its proof, of the proof of its
+tests, and of its wrong bodies. Those come again one by one; "as it is" is the proof of the crate that they begin with. A
+process that ends between two looks lacks up to a second, and one that both begins and ends between them is missed. What else
+runs on the machine isn't counted, but makes each second of work longer.
 """
 
 import collections
@@ -30,12 +31,37 @@ def looked_at(pid, session):
     crate = words[words.index("--crate-name") + 1]
     with open(f"/proc/{pid}/stat", encoding="utf-8") as file:
         fields = file.read().rpartition(")")[2].split()
-    if "/rt-edit-" in os.readlink(f"/proc/{pid}/cwd"):
-        kind = "wrong bodies"
+    room, body = os.readlink(f"/proc/{pid}/cwd"), ""
+    if "/rt-edit-" in room:
+        kind, body = "wrong bodies", body_in(crate, room)
     else:
         kind = "tests" if "--test" in words else "proof"
     # The fields count from the state of the process; its start tells it from a later one with the same number.
-    return (pid, fields[19], crate, kind), sum(map(int, fields[11:15])) / TICKS
+    return (pid, fields[19], crate, kind, body), sum(map(int, fields[11:15])) / TICKS
+
+
+def text_of(path):
+    with open(path, encoding="utf-8") as file:
+        return file.read()
+
+
+def is_tried(crate, room, edit):
+    """Whether the copy of the crate in this room has what the edit writes, where the crate itself hasn't."""
+    file, news = None, []
+    for line in edit.splitlines():
+        word, _, rest = line.partition(": ")
+        if word == "file":
+            file = rest.strip()
+        elif word == "new":
+            news.append((file, rest))
+    return all(new in text_of(f"{room}/{file}") and new not in text_of(f"crates/{crate}/{file}") for file, new in news)
+
+
+def body_in(crate, room):
+    """The name of the wrong body that the copy in this room has."""
+    folder = f"crates/{crate}/must-fail"
+    tried = (name for name in sorted(os.listdir(folder)) if is_tried(crate, room, text_of(f"{folder}/{name}")))
+    return next(tried, "as it is").removesuffix(".edit")
 
 
 def look(seen, session):
@@ -50,14 +76,18 @@ def look(seen, session):
 
 
 def report(seen):
-    rows = collections.defaultdict(lambda: collections.defaultdict(list))
-    for (_pid, _start, crate, kind), seconds in seen.items():
-        rows[crate][kind].append(seconds)
+    rows = collections.defaultdict(collections.Counter)
+    bodies = collections.defaultdict(collections.Counter)
     whole = collections.Counter()
+    for (_pid, _start, crate, kind, body), seconds in seen.items():
+        rows[crate][kind] += seconds
+        whole[kind] += seconds
+        if body:
+            bodies[crate][body] += seconds
     for crate, kinds in sorted(rows.items()):
-        whole.update({kind: sum(kinds[kind]) for kind in kinds})
-        parts = [f"{kind} {sum(kinds[kind]):.0f} s" + (f" of {len(kinds[kind])}" if len(kinds[kind]) > 1 else "") for kind in sorted(kinds)]
-        print(f"{crate}: {', '.join(parts)}")
+        print(f"{crate}: {', '.join(f'{kind} {seconds:.0f} s' for kind, seconds in sorted(kinds.items()))}")
+        for body, seconds in sorted(bodies[crate].items()):
+            print(f"    {body}: {seconds:.0f} s")
     for kind, seconds in sorted(whole.items()):
         print(f"{kind}: {seconds / 60:.1f} minutes")
     print(f"in all {sum(whole.values()) / 60:.1f} minutes")
