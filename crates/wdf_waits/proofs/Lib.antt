@@ -1,9 +1,3 @@
-pub mod Ranges
-pub mod Searches
-pub mod OnCpus
-pub mod OnDeclared
-pub mod OnFrames
-pub mod OnRequests
 pub mod Sections
 pub mod Rows
 pub mod OnLines

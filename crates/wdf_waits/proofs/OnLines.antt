@@ -11,7 +11,7 @@ use Rattle.wdf_waits.specs.declared.section.Section.{Section}
 use Rattle.wdf_waits.specs.declared.section.Section.TheVariants as section
 use Rattle.std.proofs.lemmas.List.{drop_all, drop_more}
 use Rattle.wdf_model.proofs.Runs.{slice_get-append-left, slice_get-append-right}
-use Rattle.wdf_waits.proofs.Ranges.{range_ends, range_opens, range_whole}
+use Rattle.wdf_causes.proofs.Ranges.{range_ends, range_opens, range_whole}
 
 -- ---- a line that is there, or isn't
 

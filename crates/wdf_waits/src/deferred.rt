@@ -3,9 +3,11 @@ ghost use Rattle.std.specs.Prelude.{◌≡◌};
 ghost use Rattle.wdf_model.specs.rules.Ready as ready;
 ghost use Rattle.wdf_model.specs.rules.Waits as waits;
 
-use crate::causes::{by_frame_on, scope_is_held};
-use crate::cpus::{DISPATCH_LEVEL, PASSIVE_LEVEL, cpu_of_dpc, dpc_function, head_lock, no_cpu};
 use wdf_base::{Agent, Callback, Cause, Irql, ObjectId, OpenThing, WaitLine};
+use wdf_causes::{
+    DISPATCH_LEVEL, PASSIVE_LEVEL, by_frame_on, cpu_of_dpc, dpc_function, head_lock, no_cpu,
+    scope_is_held,
+};
 use wdf_parts::Parts;
 use wdf_plans::IndexedPlan;
 use wdf_starts::level_fits;

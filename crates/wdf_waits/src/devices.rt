@@ -5,12 +5,11 @@ ghost use Rattle.wdf_model.specs.Tables.{least};
 ghost use Rattle.wdf_model.specs.rules.Waits as waits;
 ghost use Rattle.wdf_waits.specs.Lines as lines;
 
-use crate::causes::{by_frame, least_holder};
-use crate::cpus::no_cpu;
-use crate::keepers::{least_resume_holder, no_cpu_for_resume};
-use crate::least::least_running;
-use crate::stages::stage_cause;
 use wdf_base::{Agent, Callback, Cause, Handle, ObjectId, OpenThing, Step, WaitLine};
+use wdf_causes::{
+    by_frame, least_holder, least_resume_holder, least_running, no_cpu, no_cpu_for_resume,
+    stage_cause,
+};
 use wdf_lock::lock_of_callback;
 use wdf_maps::lesser_if;
 use wdf_parts::Parts;

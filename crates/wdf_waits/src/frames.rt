@@ -8,12 +8,12 @@ ghost use Rattle.wdf_model.specs.parts.Queues.{waiting_in};
 ghost use Rattle.wdf_model.specs.rules.Steps as steps;
 ghost use Rattle.wdf_model.specs.rules.Waits as waits;
 
-use crate::causes::{by_frame, by_frame_on, by_lock, by_request};
-use crate::cpus::{PASSIVE_LEVEL, no_cpu};
-use crate::least::{least_held_from, least_returning_to, least_sent_to};
-use crate::queues::least_waiting;
 use wdf_base::{Agent, Call, CallKind, Cause, FrameId, ObjectId, OpenThing, Pending, WaitLine};
 use wdf_calls::is_met;
+use wdf_causes::{
+    PASSIVE_LEVEL, by_frame, by_frame_on, by_lock, by_request, least_held_from, least_returning_to,
+    least_sent_to, least_waiting, no_cpu,
+};
 use wdf_maps::lesser_if;
 use wdf_model::object_in;
 use wdf_parts::Parts;

@@ -8,10 +8,10 @@ ghost use Rattle.wdf_model.specs.rules.Ready as ready;
 ghost use Rattle.wdf_model.specs.rules.Waits as waits;
 ghost use Rattle.wdf_waits.specs.Lines as lines;
 
-use crate::causes::{by_frame, least_lock_holder};
-use crate::cpus::{DISPATCH_LEVEL, PASSIVE_LEVEL, no_cpu};
-use crate::least::{least_on, least_waiting_for};
 use wdf_base::{Agent, Callback, Cause, Life, ObjectId, OpenThing, Place, WaitLine};
+use wdf_causes::{
+    DISPATCH_LEVEL, PASSIVE_LEVEL, by_frame, least_lock_holder, least_on, least_waiting_for, no_cpu,
+};
 use wdf_maps::lesser_if;
 use wdf_parts::Parts;
 use wdf_plans::IndexedPlan;

@@ -9,11 +9,8 @@ ghost use Rattle.wdf_model.specs.parts.Control as control;
 ghost use Rattle.wdf_model.specs.rules.Ready as ready;
 ghost use Rattle.wdf_model.specs.rules.Waits as waits;
 
-use crate::asked::is_done;
-use crate::causes::scope_is_held;
-use crate::cpus::no_cpu;
-use crate::queues::least_ahead;
 use wdf_base::{Agent, Callback, Cause, ObjectId, OpenThing, Place, WaitLine};
+use wdf_causes::{is_done, least_ahead, no_cpu, scope_is_held};
 use wdf_model::{Mode, Request};
 use wdf_parts::Parts;
 use wdf_plans::IndexedPlan;
