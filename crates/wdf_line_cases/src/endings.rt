@@ -5,7 +5,8 @@ use wdf_base::{
     Callback, Cause, Ending, Fault, FrameId, Handle, ObjectId, OpenThing, Plan, Stage, Step,
     WaitLine,
 };
-use wdf_trace::{ending_line, reads_as_ending, reads_as_wait, wait_line};
+use wdf_lines::{ending_line, wait_line};
+use wdf_trace::{reads_as_ending, reads_as_wait};
 
 /// Objects of the worked runs.
 const REQ_4: Handle = Handle {

@@ -7,7 +7,8 @@ use wdf_base::{
     FEW, Handle, InterruptInfo, Irql, Items, MANY, Memory, Name, ObjectId, PlainKind, Plan,
     QueueInfo, RegisterInfo, Scope, Serves, Status, TargetInfo,
 };
-use wdf_trace::{line_of, read_line};
+use wdf_lines::line_of;
+use wdf_trace::read_line;
 
 /// The names by their numbers.
 const NAMES: [&str; 22] = [

@@ -12,8 +12,8 @@ use Rattle.wdf_base.specs.declared.event.Ending.TheVariants as ending
 use Rattle.wdf_model.specs.Runs.{IsRun}
 use Rattle.wdf_model.specs.rules.Ready.{IsRunOf, ending_of, ending_by, ready, state_after, last_fault}
 use Rattle.wdf_model.proofs.Runs.{slice_get-append-right}
+use Rattle.wdf_lines.specs.Lines.{line_text}
 use Rattle.wdf_trace.specs.Events.{IsEventOf}
-use Rattle.wdf_trace.specs.Lines.{line_text}
 use Rattle.wdf_trace.specs.Reading.{word, words, number_of}
 use Rattle.wdf_trace.specs.Told.{event_in}
 use Rattle.wdf_trace.proofs.EventLaws.{line_number, line_event}

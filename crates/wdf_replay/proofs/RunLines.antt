@@ -10,8 +10,8 @@ use Rattle.wdf_base.specs.declared.event.Ending.TheVariants as ending
 use Rattle.wdf_base.specs.declared.wait.WaitLine.{WaitLine}
 use Rattle.wdf_model.specs.rules.Ready.{IsRunOf, ending_of, ending_by, ready, last_fault, state_after}
 use Rattle.wdf_model.specs.rules.Waits.{wait_list}
-use Rattle.wdf_trace.specs.Lines.{line_text, lines_from}
-use Rattle.wdf_trace.specs.Endings.{ending_text, wait_text, wait_lines}
+use Rattle.wdf_lines.specs.Lines.{line_text, lines_from}
+use Rattle.wdf_lines.specs.Endings.{ending_text, wait_text, wait_lines}
 use Rattle.wdf_replay.specs.Lines.{fed, trace_lines, joined_lines}
 use Rattle.wdf_replay.specs.Texts.{text_of, event_lines, fed_wait, last_lines, end_lines, lines_so_far}
 use Rattle.wdf_replay.specs.Verdicts.{IsAmong, HasEventsOf, IsLeft, IsBadLine}

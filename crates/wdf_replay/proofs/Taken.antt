@@ -8,9 +8,9 @@ use Rattle.wdf_base.specs.declared.event.Event.{Event}
 use Rattle.wdf_base.specs.declared.wait.WaitLine.{WaitLine}
 use Rattle.wdf_model.specs.rules.Waits.{wait_list}
 use Rattle.wdf_model.proofs.Runs.{split_last}
+use Rattle.wdf_lines.specs.Lines.{line_text}
+use Rattle.wdf_lines.specs.Endings.{wait_text}
 use Rattle.wdf_trace.specs.Events.{IsEventOf}
-use Rattle.wdf_trace.specs.Lines.{line_text}
-use Rattle.wdf_trace.specs.Endings.{wait_text}
 use Rattle.wdf_trace.specs.Waits.{IsEndingText}
 use Rattle.wdf_replay.specs.declared.verdict.Why.{Why}
 use Rattle.wdf_replay.specs.declared.verdict.Why.TheVariants as why

@@ -8,8 +8,8 @@ use Rattle.wdf_base.specs.declared.event.Ending.TheVariants as ending
 use Rattle.wdf_base.specs.declared.wait.WaitLine.{WaitLine}
 use Rattle.wdf_model.specs.rules.Ready.{ending_of}
 use Rattle.wdf_model.specs.rules.Waits.{wait_list}
-use Rattle.wdf_trace.specs.Lines.{line_text, lines_from}
-use Rattle.wdf_trace.specs.Endings.{ending_text, wait_text, wait_lines}
+use Rattle.wdf_lines.specs.Lines.{line_text, lines_from}
+use Rattle.wdf_lines.specs.Endings.{ending_text, wait_text, wait_lines}
 use Rattle.wdf_replay.specs.Lines.{fed}
 
 -- The text of a run: a line for each event, the line of its ending, and a line for each line of its wait list.

@@ -7,9 +7,9 @@ use Rattle.wdf_base.specs.declared.event.Ending.{Ending}
 use Rattle.wdf_base.specs.declared.event.Ending.TheVariants as ending
 use Rattle.wdf_base.specs.declared.wait.WaitLine.{WaitLine}
 use Rattle.wdf_model.specs.rules.Ready.{IsRunOf, ending_of, ready}
+use Rattle.wdf_lines.specs.Lines.{line_text}
+use Rattle.wdf_lines.specs.Endings.{wait_text}
 use Rattle.wdf_trace.specs.Events.{IsEventOf}
-use Rattle.wdf_trace.specs.Lines.{line_text}
-use Rattle.wdf_trace.specs.Endings.{wait_text}
 use Rattle.wdf_trace.specs.Waits.{IsEndingText, IsWaitOf}
 use Rattle.wdf_replay.specs.declared.verdict.Why.{Why}
 use Rattle.wdf_replay.specs.declared.verdict.Why.TheVariants.{NotALine, NotReady, WrongEnding, Missing}

@@ -3,7 +3,7 @@ ghost use Rattle.std.specs.Prelude.{◌≡◌, ◌≢◌, ◌↔◌, ◌+◌, �
 ghost use Rattle.wdf_base.specs.Resolved.{IsResolved};
 ghost use Rattle.wdf_model.specs.rules.Ready.{IsRunOf, ending_of, ready};
 ghost use Rattle.wdf_model.specs.rules.Waits.{wait_list};
-ghost use Rattle.wdf_trace.specs.Endings.{ending_text, wait_text};
+ghost use Rattle.wdf_lines.specs.Endings.{ending_text, wait_text};
 ghost use Rattle.wdf_trace.specs.Waits.{IsEndingText};
 ghost use Rattle.wdf_replay.specs.Lines.{fed};
 ghost use Rattle.wdf_replay.specs.Texts.{end_lines, fed_wait};
@@ -14,8 +14,9 @@ use crate::lines::text_of_line;
 use crate::verdict::Why;
 use wdf_base::{Agent, Ending, Event, Plan, WaitLine};
 use wdf_core::Core;
+use wdf_lines::{ending_line, wait_line};
 use wdf_same::same_event;
-use wdf_trace::{ending_line, read_line, reads_as_ending, reads_as_wait, wait_line};
+use wdf_trace::{read_line, reads_as_ending, reads_as_wait};
 
 /// The place of an event among those that may follow; `None` exactly where it isn't among them.
 fn place_of<A: Agent>(core: &Core<A>, event: &Event) -> Option<usize>

@@ -10,8 +10,8 @@ use Rattle.wdf_base.specs.declared.event.Ending.TheVariants as ending
 use Rattle.wdf_base.specs.declared.wait.WaitLine.{WaitLine}
 use Rattle.wdf_model.specs.rules.Ready.{IsRunOf, ending_of}
 use Rattle.wdf_model.specs.rules.Waits.{wait_list}
-use Rattle.wdf_trace.specs.Lines.{line_text, lines_from}
-use Rattle.wdf_trace.specs.Endings.{ending_text, wait_text, wait_lines}
+use Rattle.wdf_lines.specs.Lines.{line_text, lines_from}
+use Rattle.wdf_lines.specs.Endings.{ending_text, wait_text, wait_lines}
 use Rattle.wdf_trace.proofs.Blanks.{Lacks}
 use Rattle.wdf_run_lines.proofs.Unfed.{line_unfed, ending_unfed, wait_unfed}
 use Rattle.wdf_replay.specs.Lines.{fed, with_byte, trace_lines, joined_lines}

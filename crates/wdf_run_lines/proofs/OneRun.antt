@@ -11,9 +11,9 @@ use Rattle.wdf_model.specs.Runs.{IsRun}
 use Rattle.wdf_model.specs.rules.Ready.{IsRunOf, ending_of, ending_by, ready, state_after, last_fault}
 use Rattle.wdf_model.specs.rules.Waits.{wait_list}
 use Rattle.wdf_model.proofs.Runs.{slice_get-append-right}
+use Rattle.wdf_lines.specs.Lines.{line_text, lines_from}
+use Rattle.wdf_lines.specs.Endings.{ending_text, wait_lines}
 use Rattle.wdf_trace.specs.Events.{IsEventOf}
-use Rattle.wdf_trace.specs.Lines.{line_text, lines_from}
-use Rattle.wdf_trace.specs.Endings.{ending_text, wait_lines}
 use Rattle.wdf_trace.specs.Reading.{words}
 use Rattle.wdf_trace.specs.Told.{event_in}
 use Rattle.wdf_trace.proofs.EventLaws.{line_event}

@@ -30,8 +30,8 @@ use Rattle.wdf_base.specs.declared.wait.Cause.TheVariants as cause
 use Rattle.wdf_base.specs.declared.wait.WaitLine.{WaitLine}
 use Rattle.wdf_base.specs.Kinds.{class_name}
 use Rattle.wdf_base.specs.Resolved.{IsResolved, register_name, is_name}
-use Rattle.wdf_trace.specs.Lines.{spaced, name_text, named, object_text, register_text, is_poster, id_text, poster_text, agent_text, cpu_text, value_text, argument_text, argument_words, answered_words, access_words, optional_words, answer_text, action_words, post_words, event_words, line_text}
-use Rattle.wdf_trace.specs.Endings.{joined, ending_word, ending_text, step_word, thing_words, cause_words, wait_text}
+use Rattle.wdf_lines.specs.Lines.{spaced, name_text, named, object_text, register_text, is_poster, id_text, poster_text, agent_text, cpu_text, value_text, argument_text, argument_words, answered_words, access_words, optional_words, answer_text, action_words, post_words, event_words, line_text}
+use Rattle.wdf_lines.specs.Endings.{joined, ending_word, ending_text, step_word, thing_words, cause_words, wait_text}
 use Rattle.wdf_trace.proofs.Blanks.{Lacks, AllLack, Lacks_append}
 use Rattle.wdf_trace.proofs.CallLaws.{AllLack_append}
 use Rattle.wdf_trace.proofs.NameLaws.{is_name_lacks}

@@ -5,9 +5,9 @@ use Rattle.wdf_base.specs.declared.plan.Plan.{Plan}
 use Rattle.wdf_base.specs.declared.event.Event.{Event}
 use Rattle.wdf_model.specs.rules.Ready.{ending_of}
 use Rattle.wdf_model.specs.rules.Waits.{wait_list}
+use Rattle.wdf_lines.specs.Lines.{lines_from}
+use Rattle.wdf_lines.specs.Endings.{ending_text, wait_lines}
 use Rattle.wdf_trace.specs.Events.{IsEventOf}
-use Rattle.wdf_trace.specs.Lines.{lines_from}
-use Rattle.wdf_trace.specs.Endings.{ending_text, wait_lines}
 
 -- texts one after the other, each with its line feed
 abbrev pub as_lines : List (List ℕ) → List ℕ

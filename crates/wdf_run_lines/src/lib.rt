@@ -11,8 +11,8 @@ ghost use Rattle.wdf_base.specs.declared.event.Ending.{Ending};
 ghost use Rattle.wdf_base.specs.declared.event.Ending.TheVariants as ending;
 ghost use Rattle.wdf_base.specs.declared.wait.WaitLine.{WaitLine};
 ghost use Rattle.wdf_model.specs.rules.Ready.{IsRunOf, ending_of};
-ghost use Rattle.wdf_trace.specs.Lines.{line_text};
-ghost use Rattle.wdf_trace.specs.Endings.{ending_text, wait_text};
+ghost use Rattle.wdf_lines.specs.Lines.{line_text};
+ghost use Rattle.wdf_lines.specs.Endings.{ending_text, wait_text};
 ghost use Rattle.wdf_run_lines.specs.Feeds.{has_no_feed};
 ghost use Rattle.wdf_run_lines.specs.Texts.{as_lines, run_text, HasPlanEvents};
 

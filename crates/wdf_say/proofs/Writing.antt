@@ -7,8 +7,8 @@ use Rattle.wdf_base.specs.declared.plan.Plan.{Plan}
 use Rattle.wdf_base.specs.declared.event.Event.{Event}
 use Rattle.wdf_base.specs.declared.wait.WaitLine.{WaitLine}
 use Rattle.wdf_io.specs.Outside.{Gains, Rose}
-use Rattle.wdf_trace.specs.Endings.{wait_text, wait_lines}
-use Rattle.wdf_trace.specs.Lines.{line_text, lines_from}
+use Rattle.wdf_lines.specs.Endings.{wait_text, wait_lines}
+use Rattle.wdf_lines.specs.Lines.{line_text, lines_from}
 use Rattle.wdf_say.specs.Said.{IsCutShort}
 
 -- two gains, one after the other

@@ -7,7 +7,7 @@ use Rattle.wdf_base.specs.declared.event.Ending.{Ending}
 use Rattle.wdf_base.specs.declared.event.Ending.TheVariants as ending
 use Rattle.wdf_model.specs.rules.Ready.{ending_of}
 use Rattle.wdf_model.specs.rules.Waits.{wait_list}
-use Rattle.wdf_trace.specs.Endings.{ending_text, wait_lines}
+use Rattle.wdf_lines.specs.Endings.{ending_text, wait_lines}
 
 -- the status of a run that ended so; a run that goes on has none
 abbrev pub status_of : Ending → ℕ

@@ -3,8 +3,8 @@ ghost use Rattle.std.specs.Prelude.{◌≡◌, ◌≢◌, ◌+◌, ◌<◌, ◌�
 ghost use Rattle.wdf_io.specs.Outside.{Gains, EndsRefused};
 ghost use Rattle.wdf_model.specs.rules.Ready.{ending_of};
 ghost use Rattle.wdf_model.specs.rules.Waits.{wait_list};
-ghost use Rattle.wdf_trace.specs.Lines.{line_text, lines_from};
-ghost use Rattle.wdf_trace.specs.Endings.{ending_text, ending_word, wait_text, wait_lines};
+ghost use Rattle.wdf_lines.specs.Lines.{line_text, lines_from};
+ghost use Rattle.wdf_lines.specs.Endings.{ending_text, ending_word, wait_text, wait_lines};
 ghost use Rattle.wdf_replay.specs.Texts.{text_of};
 ghost use Rattle.wdf_say.specs.Said.{Says, IsCutShort, sinking};
 ghost use Rattle.wdf_say.specs.Endings.{status_of, ending_lines};
@@ -13,7 +13,7 @@ use crate::texts::SINK_FAULT;
 use wdf_base::{Agent, Ending, Event, Plan, WaitLine};
 use wdf_core::Core;
 use wdf_io::{Failed, Sink, write_all};
-use wdf_trace::{LINE_LIMIT, Line, ending_line, line_of, wait_line};
+use wdf_lines::{LINE_LIMIT, Line, ending_line, line_of, wait_line};
 
 /// Writes a line and its line feed.
 fn write_line<K: Sink>(sink: &mut K, mut line: Line) -> Result<(), Failed>

@@ -4,7 +4,7 @@ use Rattle.std.specs.List.{count_by}
 use Rattle.wdf_base.specs.declared.event.Event.{Event}
 use Rattle.wdf_base.specs.declared.event.Ending.{Ending}
 use Rattle.wdf_laws.specs.Events.{arrived, completed, is_there}
-use Rattle.wdf_trace.specs.Endings.{ending_word}
+use Rattle.wdf_lines.specs.Endings.{ending_word}
 
 -- the event brings a request: a post of a read, a write or a control that was answered with one
 abbrev pub is_arrival : Event → Bool

@@ -15,7 +15,7 @@ use Rattle.wdf_parse.specs.StandsFor.{StandsFor}
 use Rattle.wdf_parse.proofs.Uniqueness.{one_stands}
 use Rattle.wdf_refusals.specs.First.{first_refusal}
 use Rattle.wdf_plan.specs.Plans.{plan_of}
-use Rattle.wdf_trace.specs.Endings.{ending_text}
+use Rattle.wdf_lines.specs.Endings.{ending_text}
 use Rattle.wdf_replay.specs.declared.verdict.Why.{Why}
 use Rattle.wdf_replay.specs.declared.verdict.Why.TheVariants as why
 use Rattle.wdf_replay.specs.declared.verdict.Verdict.{Verdict}

@@ -2,7 +2,7 @@
 use Rattle.std.proofs.Common.{ℕ, ◌≡◌, List, [], ◌++◌, codes, decimal, refl, ap, ◌∙◌, sym, append_assoc}
 use Rattle.std.proofs.lemmas.List.{append-nil}
 use Rattle.wdf_base.specs.declared.event.Ending.{Ending}
-use Rattle.wdf_trace.specs.Endings.{ending_word}
+use Rattle.wdf_lines.specs.Endings.{ending_word}
 use Rattle.wdf_top.specs.Answers.{accepted_line}
 
 pub accepted_joined : (events : ℕ) (e : Ending) → codes "accepted " ++ ending_word e ++ codes " " ++ decimal events ++ codes "\n" ≡ accepted_line events e

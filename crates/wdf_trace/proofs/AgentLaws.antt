@@ -6,7 +6,7 @@ use Rattle.std.proofs.lemmas.Slice.Eq.{bytes_eq-Decides}
 use Rattle.wdf_base.specs.declared.plan.Plan.{Plan}
 use Rattle.wdf_base.specs.declared.script.AgentInfo.{AgentInfo}
 use Rattle.wdf_base.specs.Resolved.{agent_name, is_reserved}
-use Rattle.wdf_trace.specs.Lines.{name_text, is_poster, id_text, poster_text, agent_text}
+use Rattle.wdf_lines.specs.Lines.{name_text, is_poster, id_text, poster_text, agent_text}
 use Rattle.wdf_trace.specs.Reading.{part, word, is_agent_with, poster_of, agent_of}
 use Rattle.wdf_trace.proofs.Blanks.{Lacks, Lacks_append, parts_last, parts_more}
 use Rattle.wdf_trace.proofs.Decimals.{Lacks_decimal}

@@ -6,7 +6,7 @@ use Rattle.std.proofs.lemmas.List.Elements.{All-weaker}
 use Rattle.std.proofs.lemmas.List.Folds.{list_all-append}
 use Rattle.std.proofs.lemmas.List.Sums.{AllPass-from_list_all}
 use Rattle.std.proofs.lemmas.List.Splits.{slice_split_none, slice_split_at}
-use Rattle.wdf_trace.specs.Lines.{spaced}
+use Rattle.wdf_lines.specs.Lines.{spaced}
 use Rattle.wdf_trace.specs.Reading.{parts, words, has_dot}
 
 -- no byte of the word is c

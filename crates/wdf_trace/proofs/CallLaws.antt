@@ -11,7 +11,7 @@ use Rattle.wdf_base.specs.declared.signature.Sort.TheVariants as sort
 use Rattle.wdf_base.specs.Calls.{signature_of, one_argument}
 use Rattle.wdf_base.specs.Words.{call_word}
 use Rattle.wdf_base.proofs.WordLaws.{call-back}
-use Rattle.wdf_trace.specs.Lines.{value_text, argument_text, argument_words}
+use Rattle.wdf_lines.specs.Lines.{value_text, argument_text, argument_words}
 use Rattle.wdf_trace.specs.Reading.{word}
 use Rattle.wdf_trace.specs.Told.{argument_of, call_with, kind_in, call_in, answer_in, value_of}
 use Rattle.wdf_trace.specs.Events.{IsValueOf, IsArgumentOf, IsCallOf}

@@ -24,7 +24,7 @@ use Rattle.wdf_base.specs.declared.value.Status.TheVariants as status
 use Rattle.wdf_base.specs.declared.call.Callback.TheVariants as callback
 use Rattle.wdf_base.specs.Words.{callback_word, callback_of, call_word, ask_word, stage_word}
 use Rattle.wdf_base.proofs.WordLaws.{callback-back, callback-only, status-back, fault-back, stage-back}
-use Rattle.wdf_trace.specs.Lines.{cpu_text, object_text, value_text, argument_words, answered_words, access_words, optional_words, answer_text, action_words, agent_text, post_words, event_words, line_text}
+use Rattle.wdf_lines.specs.Lines.{cpu_text, object_text, value_text, argument_words, answered_words, access_words, optional_words, answer_text, action_words, agent_text, post_words, event_words, line_text}
 use Rattle.wdf_trace.specs.Reading.{word, words, number_of, short_of, object_of, has_dot}
 use Rattle.wdf_trace.specs.Told.{call_in, answer_in, optional_of, answer_of, callback_named, start_with, callback_in, event_in}
 use Rattle.wdf_trace.specs.Events.{IsHandleOf, IsOptionalOf, IsValueOf, IsCallOf, IsActionOf, IsPostOf, IsEventOf}

@@ -5,8 +5,6 @@ pub mod Decimals
 pub mod EventLaws
 pub mod NameLaws
 pub mod ResolvedLaws
-pub mod Spaced
 pub mod ValueLaws
 pub mod WaitLaws
 pub mod WordLaws
-pub mod WordSizes

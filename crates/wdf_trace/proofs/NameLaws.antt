@@ -12,7 +12,7 @@ use Rattle.wdf_base.specs.declared.declared.RegisterInfo.{RegisterInfo}
 use Rattle.wdf_base.specs.declared.script.AgentInfo.{AgentInfo}
 use Rattle.wdf_base.specs.Kinds.{class_name}
 use Rattle.wdf_base.specs.Resolved.{agent_name, register_name, is_name, is_reserved}
-use Rattle.wdf_trace.specs.Lines.{name_text, named, class_text, register_text}
+use Rattle.wdf_lines.specs.Lines.{name_text, named, class_text, register_text}
 use Rattle.wdf_trace.specs.Reading.{name_of, class_of, register_of}
 use Rattle.wdf_trace.proofs.Blanks.{Lacks, Lacks_from, other_byte}
 

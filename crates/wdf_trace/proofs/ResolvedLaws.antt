@@ -9,7 +9,7 @@ use Rattle.wdf_base.specs.declared.declared.Declared.{Declared}
 use Rattle.wdf_base.specs.declared.declared.Declared.TheVariants as declared
 use Rattle.wdf_base.specs.Kinds.{declared_name, class_name}
 use Rattle.wdf_base.specs.Resolved.{all_differ, is_name, is_reserved, device_name, target_name, posting_names, app_count, apps, agent_name, register_name, used_names, objects_in_order, IsResolved}
-use Rattle.wdf_trace.specs.Lines.{name_text}
+use Rattle.wdf_lines.specs.Lines.{name_text}
 use Rattle.wdf_trace.specs.Reading.{is_name_with}
 use Rattle.wdf_trace.proofs.NameLaws.{IsNamedBy, HasNames, same_bytes, first_place}
 

@@ -19,7 +19,7 @@ use Rattle.wdf_base.specs.Resolved.{is_name, is_reserved, register_name}
 use Rattle.wdf_base.specs.Words.{status_word, status_of}
 use Rattle.wdf_base.proofs.WordLaws.{status-back, status-only}
 use Rattle.wdf_text.proofs.ReadBack.{decimal_digits}
-use Rattle.wdf_trace.specs.Lines.{name_text, object_text, class_text, register_text, cpu_text, value_text, argument_text, answer_text}
+use Rattle.wdf_lines.specs.Lines.{name_text, object_text, class_text, register_text, cpu_text, value_text, argument_text, answer_text}
 use Rattle.wdf_trace.specs.Reading.{parts, word, short_of, below, cpu_of, has_dot, object_of, name_of, class_of, is_class_with}
 use Rattle.wdf_trace.specs.Told.{status_or_number, value_of, class_or_value, argument_of, optional_of, answer_of}
 use Rattle.wdf_trace.specs.Events.{IsHandleOf, IsOptionalOf, IsValueOf, IsArgumentOf}

@@ -24,8 +24,8 @@ use Rattle.wdf_base.specs.Words.{callback_word, stage_word}
 use Rattle.wdf_base.proofs.WordLaws.{stage-back}
 use Rattle.wdf_text.proofs.ReadBack.{decimal_digits}
 use Rattle.wdf_text.proofs.Numbers.{small_number_below}
-use Rattle.wdf_trace.specs.Lines.{object_text}
-use Rattle.wdf_trace.specs.Endings.{joined, ending_word, ending_text, step_word, thing_words, cause_words, wait_text}
+use Rattle.wdf_lines.specs.Lines.{object_text}
+use Rattle.wdf_lines.specs.Endings.{joined, ending_word, ending_text, step_word, thing_words, cause_words, wait_text}
 use Rattle.wdf_trace.specs.Events.{IsHandleOf}
 use Rattle.wdf_trace.specs.Reading.{word, words, number_of, short_of, has_dot, object_of}
 use Rattle.wdf_trace.specs.Told.{stage_in}

@@ -1,7 +1,5 @@
 pub mod CauseWords
-pub mod Endings
 pub mod Events
-pub mod Lines
 pub mod Reading
 pub mod Told
 pub mod Verbs

@@ -10,7 +10,7 @@ use Rattle.wdf_base.specs.declared.ids.Handle.{Handle}
 use Rattle.wdf_base.specs.declared.ids.Cpu.{Cpu}
 use Rattle.wdf_base.specs.Kinds.{class_name}
 use Rattle.wdf_text.specs.Decimals.{small_number}
-use Rattle.wdf_trace.specs.Lines.{name_text}
+use Rattle.wdf_lines.specs.Lines.{name_text}
 
 -- ---- words
 

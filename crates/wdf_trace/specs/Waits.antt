@@ -15,10 +15,10 @@ use Rattle.wdf_base.specs.declared.wait.OpenThing.TheVariants as thing
 use Rattle.wdf_base.specs.declared.wait.Cause.{Cause}
 use Rattle.wdf_base.specs.declared.wait.Cause.TheVariants as cause
 use Rattle.wdf_base.specs.declared.wait.WaitLine.{WaitLine}
+use Rattle.wdf_lines.specs.Endings.{ending_text}
 use Rattle.wdf_trace.specs.declared.cause_word.CauseWord.{CauseWord}
 use Rattle.wdf_trace.specs.declared.cause_word.CauseWord.TheVariants as cause_word
 use Rattle.wdf_trace.specs.CauseWords.{cause_word_of}
-use Rattle.wdf_trace.specs.Endings.{ending_text}
 use Rattle.wdf_trace.specs.Events.{IsHandleOf}
 use Rattle.wdf_trace.specs.Reading.{word, short_of, has_dot, object_of}
 use Rattle.wdf_trace.specs.Told.{callback_named, callback_in, stage_in}

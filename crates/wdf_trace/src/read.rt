@@ -2,14 +2,14 @@ ghost use Rattle.std.specs.Prelude.{◌≡◌, ◌↔◌, ◌<◌, ◌^◌, ℕ,
 ghost use Rattle.wdf_base.specs.declared.event.Event.{Event};
 ghost use Rattle.wdf_base.specs.declared.plan.Plan.{Plan};
 ghost use Rattle.wdf_base.specs.Resolved.{IsResolved};
+ghost use Rattle.wdf_lines.specs.Lines.{line_text};
 ghost use Rattle.wdf_trace.specs.Events.{IsEventOf};
-ghost use Rattle.wdf_trace.specs.Lines.{line_text};
 
-use crate::lines::line_of;
 use crate::reading::{number_of, word};
 use crate::told::event_in;
 use crate::valid::is_event;
 use wdf_base::{Event, Plan};
+use wdf_lines::line_of;
 
 /// Whether an event is one of the plan, and the text its line with this number.
 fn is_line_of(plan: &Plan, number: usize, event: Event, text: &[u8]) -> bool

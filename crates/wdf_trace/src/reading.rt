@@ -2,8 +2,8 @@ ghost use Rattle.std.specs.Prelude.{◌≡◌, ◌<◌, ◌^◌, ◌+◌, IfSome
 ghost use Rattle.std.specs.Option.{option_copied};
 ghost use Rattle.wdf_trace.specs.Reading.{part, parts, word, words, is_name_with, is_class_with, is_register_with, is_agent_with, number_of, short_of, cpu_of, name_of, has_dot, object_of, class_of, register_of, poster_of, agent_of};
 
-use crate::pieces::name_bytes;
 use wdf_base::{AgentInfo, ClassInfo, Cpu, Handle, Name, ObjectId, Plan, RegisterInfo};
+use wdf_lines::name_bytes;
 use wdf_text::small_number;
 
 /// The part of a text at this place between separators, if there are so many.

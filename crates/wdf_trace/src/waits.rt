@@ -1,16 +1,16 @@
 ghost use Rattle.std.specs.Prelude.{◌≡◌, ◌≢◌, ◌↔◌, ◌+◌, ◌<◌, IsTrue, true, Option};
 ghost use Rattle.wdf_base.specs.declared.wait.WaitLine.{WaitLine};
 ghost use Rattle.wdf_base.specs.Resolved.{IsResolved};
-ghost use Rattle.wdf_trace.specs.Endings.{ending_text, wait_text};
+ghost use Rattle.wdf_lines.specs.Endings.{ending_text, wait_text};
 ghost use Rattle.wdf_trace.specs.Reading.{words};
 ghost use Rattle.wdf_trace.specs.Waits.{IsEndingText, ending_of, has_cause, IsThingOf, IsCauseOf, IsWaitOf, frame_of, cause_with, cause_in, step_with, step_of, queued_line, sequence_line, object_line, wait_in};
 
 use crate::cause_word::CauseWord;
-use crate::endings::{ending_line, wait_line};
 use crate::reading::{has_dot, number_of, object_of, short_of, word};
 use crate::told::{callback_in, callback_named, stage_in};
 use crate::valid::is_handle;
 use wdf_base::{Cause, Ending, Fault, FrameId, OpenThing, Plan, Step, WaitLine};
+use wdf_lines::{ending_line, wait_line};
 
 /// The ending that a word tells; a fault is any. A run that goes on has no word.
 fn ending_of(word: &[u8]) -> Ending

@@ -1,7 +1,8 @@
 //! The lines of a trace, read and written.
 use crate::waits::{wait_at, waits_len};
 use wdf_base::{Ending, Plan, WaitLine};
-use wdf_trace::{ending_line, line_of, read_line, reads_as_ending, reads_as_wait, wait_line};
+use wdf_lines::{ending_line, line_of, wait_line};
+use wdf_trace::{read_line, reads_as_ending, reads_as_wait};
 use wdf_worked_texts::Worked;
 
 /// Whether the line of an event is read with its number, and written from what is read.

@@ -1,6 +1,6 @@
 -- A line that was cut short leaves a front of all lines; a whole line is one line more.
 use Rattle.std.proofs.Common.{◌+◌, ◌++◌, ◌∙◌, arith, codes, take}
-use Rattle.wdf_trace.specs.Lines.{line_text, lines_from}
+use Rattle.wdf_lines.specs.Lines.{line_text, lines_from}
 use Rattle.wdf_say.proofs.Writing.{cut_behind, lines_at, lines_more, gains_more}
 use Rattle.wdf_say.proofs.Sinks.{ends_later}
 use Rattle.wdf_say.proofs.trace.write_events.Goals as goal

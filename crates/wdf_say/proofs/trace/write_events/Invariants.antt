@@ -1,7 +1,7 @@
 -- The lines of the events before this one were written, and no write failed.
 use Rattle.std.proofs.Common.{◌≡◌, take}
 use Rattle.wdf_io.specs.Outside.{Gains}
-use Rattle.wdf_trace.specs.Lines.{lines_from}
+use Rattle.wdf_lines.specs.Lines.{lines_from}
 use Rattle.wdf_say.proofs.trace.write_events.Given as goal
 
 abbrev pub invariant-loop-k : goal.invariant-loop-k

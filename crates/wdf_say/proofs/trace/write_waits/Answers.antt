@@ -1,7 +1,7 @@
 -- A line that was cut short leaves a front of all lines; a whole line is one line more.
 use Rattle.std.proofs.Common.{◌++◌, ◌∙◌, arith, codes, take}
 use Rattle.wdf_model.specs.rules.Waits.{wait_list}
-use Rattle.wdf_trace.specs.Endings.{wait_text, wait_lines}
+use Rattle.wdf_lines.specs.Endings.{wait_text, wait_lines}
 use Rattle.wdf_say.proofs.Writing.{cut_behind, waits_at, waits_more, gains_more}
 use Rattle.wdf_say.proofs.Sinks.{ends_later}
 use Rattle.wdf_say.proofs.trace.write_waits.Goals as goal

@@ -2,7 +2,7 @@
 use Rattle.std.proofs.Common.{◌≡◌, take}
 use Rattle.wdf_io.specs.Outside.{Gains}
 use Rattle.wdf_model.specs.rules.Waits.{wait_list}
-use Rattle.wdf_trace.specs.Endings.{wait_lines}
+use Rattle.wdf_lines.specs.Endings.{wait_lines}
 use Rattle.wdf_say.proofs.trace.write_waits.Given as goal
 
 abbrev pub invariant-loop-k : goal.invariant-loop-k

@@ -2,9 +2,9 @@
 use Rattle.std.proofs.Common.{ℕ, Option, Some, ap, sym, subst, ◌∙◌}
 use Rattle.std.proofs.lemmas.Bool.{iff_false}
 use Rattle.wdf_base.specs.declared.event.Event.{Event}
+use Rattle.wdf_lines.specs.Lines.{line_text}
 use Rattle.wdf_trace.specs.Reading.{number_of}
 use Rattle.wdf_trace.specs.Events.{IsEventOf}
-use Rattle.wdf_trace.specs.Lines.{line_text}
 use Rattle.wdf_trace.proofs.EventLaws.{read_each}
 use Rattle.wdf_trace.proofs.ResolvedLaws.{HasNames-resolved}
 use Rattle.wdf_trace.proofs.ValueLaws.{ap2}

@@ -1,6 +1,6 @@
 -- Words after blanks, in two parts.
 use Rattle.std.proofs.Common.{◌≡◌, ℕ, List, [], ◌∷◌, ◌++◌, codes, refl, sym, ap, ◌∙◌, append_assoc, append-nil}
-use Rattle.wdf_trace.specs.Lines.{spaced}
+use Rattle.wdf_lines.specs.Lines.{spaced}
 
 pub spaced_append : (us vs : List (List ℕ)) → spaced (us ++ vs) ≡ spaced us ++ spaced vs
 spaced_append [] vs = refl

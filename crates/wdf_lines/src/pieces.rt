@@ -2,7 +2,7 @@ ghost use Rattle.std.specs.Prelude.{◌≡◌, ◌+◌, ◌<◌, ◌≤◌, ◌^
 ghost use Rattle.wdf_base.specs.Kinds.{class_name};
 ghost use Rattle.wdf_base.specs.Resolved.{agent_name, register_name};
 ghost use Rattle.wdf_base.specs.Words.{callback_word, call_word, status_word, fault_word, stage_word, ask_word};
-ghost use Rattle.wdf_trace.specs.Lines.{spaced, name_text, named, object_text, class_text, register_text, is_poster, id_text, poster_text, agent_text, cpu_text, value_text, argument_text, argument_words, optional_words, answer_text};
+ghost use Rattle.wdf_lines.specs.Lines.{spaced, name_text, named, object_text, class_text, register_text, is_poster, id_text, poster_text, agent_text, cpu_text, value_text, argument_text, argument_words, optional_words, answer_text};
 
 use crate::line::{LINE_LIMIT, Line};
 use wdf_base::{

@@ -11,7 +11,7 @@ use Rattle.wdf_base.specs.declared.wait.Cause.{Cause}
 use Rattle.wdf_base.specs.declared.wait.Cause.TheVariants as cause
 use Rattle.wdf_base.specs.declared.wait.WaitLine.{WaitLine}
 use Rattle.wdf_base.specs.Words.{callback_word, stage_word}
-use Rattle.wdf_trace.specs.Lines.{spaced, object_text}
+use Rattle.wdf_lines.specs.Lines.{spaced, object_text}
 
 -- words with a blank between each two
 abbrev pub joined : List (List ℕ) → List ℕ

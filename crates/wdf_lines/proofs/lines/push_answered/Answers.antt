@@ -1,9 +1,9 @@
 -- The words of a call and those of its answer are joined.
 use Rattle.std.proofs.Common.{codes}
 use Rattle.wdf_base.specs.Words.{call_word}
-use Rattle.wdf_trace.specs.Lines.{argument_words, value_text}
-use Rattle.wdf_trace.proofs.Spaced.{answered_line}
-use Rattle.wdf_trace.proofs.lines.push_answered.Goals as goal
+use Rattle.wdf_lines.specs.Lines.{argument_words, value_text}
+use Rattle.wdf_lines.proofs.Spaced.{answered_line}
+use Rattle.wdf_lines.proofs.lines.push_answered.Goals as goal
 
 pub returns-clause-value : goal.returns-clause-value
 returns-clause-value c =

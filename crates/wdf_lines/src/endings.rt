@@ -1,6 +1,6 @@
 ghost use Rattle.std.specs.Prelude.{◌≡◌, ◌≢◌, ◌+◌, ◌<◌, ◌≤◌, ◌++◌, ◌∷◌, [], length, codes, decimal, Option};
-ghost use Rattle.wdf_trace.specs.Lines.{spaced, object_text};
-ghost use Rattle.wdf_trace.specs.Endings.{joined, ending_text, ending_word, step_word, thing_words, cause_words, wait_text};
+ghost use Rattle.wdf_lines.specs.Lines.{spaced, object_text};
+ghost use Rattle.wdf_lines.specs.Endings.{joined, ending_text, ending_word, step_word, thing_words, cause_words, wait_text};
 
 use crate::line::{LINE_LIMIT, Line};
 use crate::pieces::*;
