@@ -4,7 +4,7 @@ use Rattle.wdf_base.specs.declared.plan.Plan.{Plan}
 use Rattle.wdf_base.specs.declared.event.Event.{Event}
 use Rattle.wdf_laws.specs.First.{broken_by, broken_in, broken_at}
 use Rattle.wdf_laws.specs.Frames.{Frames, frames_after}
-use Rattle.wdf_checker.specs.Past.{Read, before}
+use Rattle.wdf_past.specs.Past.{Read, before}
 
 pub broken_here : (plan : Plan) (es : List Event) (k : ℕ) (R : Read) (F : Frames) (e : Event) (r : Option ℕ) → slice_get es k ≡ Some e → R ≡ record { plan = plan; all = es; number = k } → F ≡ frames_after (take k es)
     → r ≡ broken_by R.plan R.all (before R) F e → broken_at plan es k ≡ r

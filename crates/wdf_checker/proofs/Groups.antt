@@ -1,9 +1,8 @@
 -- What is asked of each event before, asked of the items of a list.
-use Rattle.std.proofs.Common.{◌≡◌, ℕ, zero, suc, ◌+◌, Bool, true, false, not, ◌==◌, ◌&&◌, ◌||◌, if◌then◌else◌, List, [], ◌∷◌, ◌++◌, length, get_or, take, slice_get, ◌<◌, Option, Some, None, refl, sym, ap, ◌∙◌, arith}
+use Rattle.std.proofs.Common.{◌≡◌, ℕ, zero, suc, ◌+◌, Bool, true, false, not, ◌==◌, ◌&&◌, ◌||◌, if◌then◌else◌, List, [], ◌∷◌, ◌++◌, length, take, slice_get, Option, Some, None, refl, sym, ap, ◌∙◌, arith}
 use Rattle.std.specs.List.{list_all}
 use Rattle.std.proofs.lemmas.List.{take_all}
 use Rattle.std.proofs.lemmas.List.Folds.{list_all-append}
-use Rattle.std.proofs.lemmas.Option.{slice_get-get_or}
 use Rattle.wdf_base.specs.declared.plan.Plan.{Plan}
 use Rattle.wdf_base.specs.declared.declared.QueueInfo.{QueueInfo}
 use Rattle.wdf_base.specs.declared.event.Event.{Event}
@@ -13,11 +12,11 @@ use Rattle.wdf_laws.specs.declared.sign.Told.{Told}
 use Rattle.wdf_laws.specs.Events.{is_id, arrived, arrived_at, taken, told}
 use Rattle.wdf_laws.specs.Family.{parent_of}
 use Rattle.wdf_laws.specs.Laws.{is_completed, is_settled, is_managed_of, is_acknowledged, is_acknowledged_at, is_ended_child, is_ended_told, is_ended_at, declared_ended}
-use Rattle.wdf_checker.specs.Maps.{added_at}
-use Rattle.wdf_checker.specs.Groups.{with_arrival, with_arrival_in, arrived_for, manager, with_taking, with_taking_in, takings_for, declared_children, with_child, with_child_in, children_by, children_of}
-use Rattle.wdf_checker.specs.Past.{Read, before}
+use Rattle.wdf_past.specs.Maps.{added_at}
+use Rattle.wdf_past.specs.Groups.{with_arrival, with_arrival_in, arrived_for, manager, with_taking, with_taking_in, takings_for, declared_children, with_child, with_child_in, children_by, children_of}
+use Rattle.wdf_past.specs.Past.{Read, before}
 use Rattle.wdf_checker.specs.Tests.{is_done, has_ended, is_answered}
-use Rattle.wdf_checker.proofs.Words.{step_in, at_next}
+use Rattle.wdf_past.proofs.Words.{step_in, at_next}
 
 and_true : (a : Bool) → (a && true) ≡ a
 and_true true = refl
@@ -136,28 +135,3 @@ ended_by plan all es o (suc k) =
 pub ended_by_children : (plan : Plan) (all es : List Event) (o : ℕ) → list_all (has_ended es) (children_of plan all o) ≡ (declared_ended plan all es o (length plan.declared) && list_all (is_ended_at plan all es o) all)
 ended_by_children plan all es o =
     ended_by plan all es o (length all) ∙ ap (λ xs. declared_ended plan all es o (length plan.declared) && list_all (is_ended_at plan all es o) xs) (take_all (length all) all (omega arith))
-
--- ---- the lists as they are read
-
-pub none_declared : (plan : Plan) (all : List Event) (o : ℕ) → declared_children plan all o 0 ≡ []
-unfolding declared_children
-none_declared plan all o = refl
-
-pub one_declared : (plan : Plan) (all : List Event) (o n : ℕ) (was : List ℕ) → was ≡ declared_children plan all o n → added_at (Some (parent_of plan all (n + 1))) (n + 1) o was ≡ declared_children plan all o (n + 1)
-unfolding declared_children
-one_declared plan all o n was h =
-    let e : n + 1 ≡ suc n = omega arith in
-    ap (added_at (Some (parent_of plan all (n + 1))) (n + 1) o) h ∙ sym (ap (declared_children plan all o) e)
-
-pub none_told : (plan : Plan) (all : List Event) (o : ℕ) → declared_children plan all o (length plan.declared) ≡ children_by plan all o 0
-unfolding children_by
-none_told plan all o = refl
-
-one_told : (plan : Plan) (all : List Event) (o k : ℕ) (e : Event) (was : List ℕ) → slice_get all k ≡ Some e → was ≡ children_by plan all o k → with_child plan all o (told plan e) was ≡ children_by plan all o (k + 1)
-unfolding children_by
-one_told plan all o k e was h is = let n : k + 1 ≡ suc k = omega arith in rw (is, n, h) refl
-
-pub one_child : (plan : Plan) (all xs : List Event) (d : Event) (o k : ℕ) (was now : List ℕ) → xs ≡ all → k < length xs → was ≡ children_by plan all o k
-    → now ≡ with_child plan all o (told plan (get_or xs k d)) was → now ≡ children_by plan all o (k + 1)
-one_child plan all xs d o k was now same h is step =
-    step ∙ one_told plan all o k (get_or xs k d) was (ap (λ es. slice_get es k) (sym same) ∙ slice_get-get_or xs k d h) is

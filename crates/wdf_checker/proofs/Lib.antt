@@ -1,8 +1,3 @@
-pub mod Words
-pub mod Codes
-pub mod Putting
-pub mod Telling
-pub mod Steps
 pub mod Groups
 pub mod Turns
 pub mod Upwards

@@ -15,11 +15,12 @@ use Rattle.wdf_laws.specs.Words.{ever}
 use Rattle.wdf_laws.specs.Events.{is_id, where_so}
 use Rattle.wdf_laws.specs.Laws.{came_at_head, is_in_order, waited, is_in_turn, presented_in, all_in_turn, is_presented_in_turn}
 use Rattle.wdf_model.proofs.Runs.{take_next, slice_get-take}
-use Rattle.wdf_checker.specs.declared.shown.Shown.{Shown}
-use Rattle.wdf_checker.specs.Last.{shows_in, last}
-use Rattle.wdf_checker.specs.Order.{shown_by, with_entry, tail_entry, with_number, tail_number, with_head, heads, covers, is_next}
-use Rattle.wdf_checker.specs.Past.{Read, before}
-use Rattle.wdf_checker.proofs.Words.{take_same, ever_next, ever_last, stands_last, last_within}
+use Rattle.wdf_past.specs.declared.shown.Shown.{Shown}
+use Rattle.wdf_past.specs.Last.{shows_in, last}
+use Rattle.wdf_checker.specs.Order.{covers, is_next}
+use Rattle.wdf_past.specs.Order.{shown_by, with_entry, tail_entry, with_number, tail_number, with_head, heads}
+use Rattle.wdf_past.specs.Past.{Read, before}
+use Rattle.wdf_past.proofs.Words.{take_same, ever_next, ever_last, stands_last, last_within}
 
 -- ---- when a sign came last, in a part of the events
 

@@ -1,8 +1,2 @@
-pub mod Last
-pub mod Maps
-pub mod Codes
-pub mod Kin
-pub mod Groups
 pub mod Order
-pub mod Past
 pub mod Tests

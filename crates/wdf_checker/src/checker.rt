@@ -3,15 +3,14 @@ ghost use Rattle.std.specs.Prelude.{◌≡◌, ◌<◌, length, take, slice_get,
 ghost use Rattle.wdf_laws.specs.First as first;
 ghost use Rattle.wdf_laws.specs.First.{IsFirstBroken};
 ghost use Rattle.wdf_laws.specs.Frames.{frames_after};
-ghost use Rattle.wdf_checker.specs.Past.{before};
+ghost use Rattle.wdf_past.specs.Past.{before};
 
-use crate::begun::Frames;
 use crate::laws::{keeps_cancels, keeps_cleanups, keeps_completions, keeps_ends, keeps_scopes};
 use crate::order::keeps_order;
-use crate::past::Past;
 use crate::power::{keeps_interrupts, keeps_queues, keeps_requests};
 use std::alloc::Global;
 use wdf_base::{Event, Memory, Plan};
+use wdf_past::{Frames, Past};
 
 /// The least number of a law that an event breaks after those that were read.
 fn broken_by(past: &Past, frames: &Frames, event: &Event) -> Option<u8>
@@ -40,11 +39,11 @@ fn broken_by(past: &Past, frames: &Frames, event: &Event) -> Option<u8>
     }
 }
 
-fn event_at(events: &[Event], k: usize) -> Event
+fn event_at(events: &[Event], k: usize) -> &Event
     requires { k < length events.now }
-    ensures { slice_get events.now k ≡ Some result }
+    ensures { slice_get events.now k ≡ Some result.now }
 {
-    events[k]
+    &events[k]
 }
 
 /// The first law that is broken, and the place of the event that breaks it, counted from 1; None exactly where no law is
@@ -56,11 +55,11 @@ pub fn check(alloc: Global, plan: &Plan, events: &[Event]) -> Result<Option<(u8,
     let mut past = Past::open(alloc, plan, events)?;
     for k in 0..events.len() {
         let event = event_at(events, k);
-        match broken_by(&past, &frames, &event) {
+        match broken_by(&past, &frames, event) {
             Some(law) => return Ok(Some((law, k + 1))),
             None => {}
         }
-        frames.step(&event)?;
+        frames.step(event)?;
         past = past.step(alloc)?;
     }
     Ok(None)

@@ -3,13 +3,12 @@ ghost use Rattle.std.specs.Prelude.{◌≡◌};
 ghost use Rattle.std.specs.List.{list_all, list_any};
 ghost use Rattle.wdf_laws.specs.Laws as laws;
 ghost use Rattle.wdf_laws.specs.Family as family;
-ghost use Rattle.wdf_checker.specs.Past.{before};
+ghost use Rattle.wdf_past.specs.Past.{before};
 ghost use Rattle.wdf_checker.specs.Tests as tests;
 
-use crate::begun::Frames;
-use crate::past::Past;
 use wdf_base::{Callback, Event, LockRef, same_callback};
 use wdf_laws::{Begun, Sign};
+use wdf_past::{Frames, Past};
 use wdf_same::same_lock;
 use wdf_signs::{begun_for, completed, destroyed};
 

@@ -1,20 +1,11 @@
 //! The checker of the laws of a trace.
 //!
-//! It reads the events once, and keeps what the laws' words ask of those before: when each sign came last, and short lists
-//! by device, queue and parent.
+//! It reads the events once, and tests each by what `wdf_past` keeps of those before.
 #![tactic(auto)]
 
-mod begun;
 mod checker;
-mod code;
-mod kin;
 mod laws;
-mod lists;
-mod maps;
 mod order;
-mod past;
 mod power;
-mod shown;
-mod signs;
 
 pub use checker::check;

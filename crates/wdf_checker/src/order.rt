@@ -3,12 +3,11 @@ ghost use Rattle.std.specs.Prelude.{◌≡◌, Some};
 ghost use Rattle.std.specs.List.{list_any};
 ghost use Rattle.wdf_laws.specs.Laws as laws;
 ghost use Rattle.wdf_checker.specs.Order as order;
-ghost use Rattle.wdf_checker.specs.Past.{before};
+ghost use Rattle.wdf_past.specs.Past.{before};
 
-use crate::past::Past;
-use crate::shown::Shown;
 use wdf_base::Event;
 use wdf_laws::{Sign, Taking};
+use wdf_past::{Past, Shown};
 use wdf_signs::presented;
 
 /// Whether a request waited from its entry to its presentation, at the entry with this number too.

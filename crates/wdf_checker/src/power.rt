@@ -3,17 +3,16 @@ ghost use Rattle.std.specs.Prelude.{◌≡◌, Some};
 ghost use Rattle.std.specs.List.{list_all, list_any};
 ghost use Rattle.wdf_laws.specs.Frames.{is_on};
 ghost use Rattle.wdf_laws.specs.Laws as laws;
-ghost use Rattle.wdf_checker.specs.Past.{before, device_of_interrupt};
+ghost use Rattle.wdf_past.specs.Past.{before, device_of_interrupt};
 ghost use Rattle.wdf_model.specs.Plans as plans;
 ghost use Rattle.wdf_checker.specs.Tests as tests;
 
-use crate::begun::{Frames, is_on};
-use crate::past::Past;
 use wdf_base::{
     Callback, DeviceInfo, Event, InterruptInfo, ObjectId, Plan, QueueInfo, Rank, Stage,
 };
 use wdf_declared::{declares, device_of, interrupt_of, queue_of};
 use wdf_laws::{Begun, Sign, Stacked, Taking};
+use wdf_past::{Frames, Past, is_on};
 use wdf_signs::{begun_on, passed, presented};
 
 fn is_entered(past: &Past, device: u32) -> bool

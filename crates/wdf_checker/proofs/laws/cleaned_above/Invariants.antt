@@ -1,7 +1,7 @@
 -- What is left comes to the whole.
 use Rattle.std.proofs.Common.{◌≡◌}
 use Rattle.wdf_laws.specs.Family as family
-use Rattle.wdf_checker.specs.Past.{before}
+use Rattle.wdf_past.specs.Past.{before}
 use Rattle.wdf_checker.proofs.laws.cleaned_above.Given as goal
 
 abbrev pub invariant-loop-left : goal.invariant-loop-left

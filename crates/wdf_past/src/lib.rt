@@ -1,0 +1,18 @@
+//! What the events of a trace have said so far, for the laws of a trace.
+//!
+//! The events are read once. What the laws' words ask of those before is kept: when each sign came last, and short lists by
+//! device, queue and parent.
+#![tactic(auto)]
+
+mod begun;
+mod code;
+mod kin;
+mod lists;
+mod maps;
+mod past;
+mod shown;
+mod signs;
+
+pub use begun::{Frames, is_on};
+pub use past::Past;
+pub use shown::Shown;
