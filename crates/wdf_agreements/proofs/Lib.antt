@@ -13,6 +13,7 @@ pub mod SoundRuns
 pub mod FramesLaws
 pub mod Queued
 pub mod Deferring
+pub mod ArrivedStay
 pub mod ArrivalsOnce
 pub mod Subtrees
 pub mod LivesOver

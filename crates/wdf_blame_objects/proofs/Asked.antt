@@ -46,7 +46,7 @@ use Rattle.wdf_blame.proofs.Members.{Has, has_flat, has_range}
 use Rattle.wdf_blame.proofs.Endings.{AtRest, at_rest, may_not}
 use Rattle.wdf_blame.proofs.Needs.{below_cpus, cpu_group, five, free_one, none_first, none_if, object_named, placed_at, proper_start, some_or}
 use Rattle.wdf_blame_causes.proofs.Presents.{declared_within, has_image, kept_has}
-use Rattle.wdf_blame_whole.proofs.Belonging.{target_found}
+use Rattle.wdf_power_laws.proofs.Belonging.{target_found}
 use Rattle.wdf_blame_whole.proofs.Lines.{line_tells}
 use Rattle.wdf_blame_whole.proofs.Runs.{Known, known_now}
 use Rattle.wdf_blame_objects.proofs.Runs.{GoesWell, goes_well}

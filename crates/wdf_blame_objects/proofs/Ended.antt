@@ -32,7 +32,8 @@ use Rattle.wdf_agreements.proofs.Stays.{asks_all, gives_up}
 use Rattle.wdf_family_laws.proofs.Stays.{arrived}
 use Rattle.wdf_blame_whole.proofs.Standing.{Comes, LivesStay, asks_none, lives_by}
 use Rattle.wdf_agreements.proofs.Subtrees.{live_unasked, parent_in, unasked_stays}
-use Rattle.wdf_blame_objects.proofs.Arrivals.{arrival_in, device_in, devices_stay, parents_stay}
+use Rattle.wdf_agreements.proofs.ArrivedStay.{arrival_in}
+use Rattle.wdf_blame_objects.proofs.Arrivals.{device_in, devices_stay, parents_stay}
 
 pub record EndsWell {A : Type 0} (S : State A) : Type 0 where
   -- an object of the kind Request is a child of its device, and younger

@@ -31,7 +31,7 @@ use Rattle.wdf_model.proofs.Sames.{kind_decides}
 use Rattle.wdf_model.proofs.Tests.{both, both_left, both_right, first, itself}
 use Rattle.wdf_invariants.proofs.StillFrames.{live_there}
 use Rattle.wdf_agreements.proofs.Queued.{any_entry}
-use Rattle.wdf_power_laws.proofs.Isrs.{as_found}
+use Rattle.wdf_power_laws.proofs.Belonging.{interrupt_found}
 use Rattle.wdf_blame.proofs.Stages.{line_named}
 use Rattle.wdf_blame.proofs.Works.{item_runs, timer_runs}
 use Rattle.wdf_blame_causes.specs.Starts.{first_may_run, has_callback}
@@ -83,7 +83,7 @@ module _ {A : Type 0} (plan : Plan) (m : Meaning A) (run : List Event) (resolved
   interrupt_runs o x at has queued =
       let n : Known plan S = known_now plan m resolved run is_run in
       let live : is_live (life_of S.tree o) ≡ true = interrupt_live plan m run resolved is_run o x at queued in
-      let same : kind_of S.tree o ≡ kind.Interrupt = (n.facts.declared o (declared.Interrupt x) (as_found plan (declared_of plan o) x at) (live_there (life_of S.tree o) live)).1 in
+      let same : kind_of S.tree o ≡ kind.Interrupt = (n.facts.declared o (declared.Interrupt x) (interrupt_found (declared_of plan o) x at) (live_there (life_of S.tree o) live)).1 in
       let told : declared_in plan S o ≡ declared_of plan o = ap (made_as plan (node_of S.tree o) o) same in
       ap (λ k. has_callback plan S (dpc_function k) o) same
       ∙ both (is_live (life_of S.tree o)) (declares_in plan S callback.EvtInterruptDpc o) live (ap (λ y. is_some (script_on plan callback.EvtInterruptDpc y)) told ∙ has)

@@ -57,7 +57,7 @@ use Rattle.wdf_agreements.proofs.Lists.{all_of_kept}
 use Rattle.wdf_agreements.proofs.SoundEvents.{top_on}
 use Rattle.wdf_power_laws.proofs.Frames.{Runs, is_step}
 use Rattle.wdf_power_laws.proofs.Happens.{both_of, found_pass, not_running, taken_pass}
-use Rattle.wdf_power_laws.proofs.Isrs.{as_found, device_of_it}
+use Rattle.wdf_power_laws.proofs.Belonging.{device_of_interrupt, interrupt_found}
 use Rattle.wdf_power_laws.proofs.Runs.{steps_agree_at_each}
 use Rattle.wdf_power_laws.proofs.Unmoved.{event_none, is_moving, none_moves}
 use Rattle.wdf_power_laws.specs.Steps.{StepsAndPowerAgree, enabled_says, phase_of}
@@ -292,10 +292,10 @@ interrupt_live {A} plan m run resolved is_run i x at queued =
     let k : Stands plan S = stands_now plan m run resolved is_run in
     let q : Quieting plan S = quieting_now plan m run resolved is_run in
     let power : StepsAndPowerAgree plan S = at_the_end plan m (λ (S : State A). StepsAndPowerAgree plan S) run (steps_agree_at_each plan m run resolved is_run (length run)) in
-    let dev : is_some (device_of plan d) ≡ true = device_of_it plan resolved i x at in
+    let dev : is_some (device_of plan d) ≡ true = device_of_interrupt plan resolved i x at in
     let mine : is_interrupt_of d (interrupt_of plan i) ≡ true = ap (is_interrupt_of d) at ∙ itself d in
     let soon : (is_enabled S.interrupts i || comes_soon (steps_left S.pnp d)) ≡ true = q.dpcs d i mine queued in
-    let part : is_part_of plan d i ≡ true = both (is_part d (declared_of plan i)) (is_some (device_of plan d)) (ap (is_part d) (as_found plan (declared_of plan i) x at) ∙ itself d) dev in
+    let part : is_part_of plan d i ≡ true = both (is_part d (declared_of plan i)) (is_some (device_of plan d)) (ap (is_part d) (interrupt_found (declared_of plan i) x at) ∙ itself d) dev in
     elim (cases_Bool (is_live_device plan S d)) [
       | inl on_ ↦ k.parts d i part (both_right (is_some (device_of plan d)) (is_live (life_of S.tree d)) on_)
       | inr off ↦ absurd (

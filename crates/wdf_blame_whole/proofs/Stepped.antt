@@ -36,7 +36,7 @@ use Rattle.wdf_invariants.proofs.StillFrames.{live_there}
 use Rattle.wdf_agreements.proofs.Keeping.{at_the_end}
 use Rattle.wdf_agreements.proofs.Lists.{inside}
 use Rattle.wdf_power_laws.proofs.Declares.{own_device_of}
-use Rattle.wdf_power_laws.proofs.Isrs.{as_found}
+use Rattle.wdf_power_laws.proofs.Belonging.{interrupt_found}
 use Rattle.wdf_blame_causes.specs.Starts.{has_callback, step_may_run}
 use Rattle.wdf_blame_whole.specs.Owners.{StepsMayRun}
 use Rattle.wdf_blame_whole.specs.Standing.{is_live_device, is_part, is_part_of}
@@ -124,7 +124,7 @@ module _ {A : Type 0} (plan : Plan) (S : State A) (resolved : IsResolved plan) (
       let o : ℕ = i.id.0 in
       let is : is_some (device_of plan d) ≡ true = both_left (is_some (device_of plan d)) (is_live (life_of S.tree d)) dev in
       let up : is_live (life_of S.tree d) ≡ true = both_right (is_some (device_of plan d)) (is_live (life_of S.tree d)) dev in
-      let as_ : declared_of plan o ≡ Some (declared.Interrupt x) = as_found plan (declared_of plan o) x at in
+      let as_ : declared_of plan o ≡ Some (declared.Interrupt x) = interrupt_found (declared_of plan o) x at in
       let part : is_part_of plan d o ≡ true = both (is_part d (declared_of plan o)) (is_some (device_of plan d)) (ap (is_part d) as_ ∙ own) is in
       let live : is_live (life_of S.tree o) ≡ true = k.parts d o part up in
       let there = live_there (life_of S.tree o) live in
