@@ -3,8 +3,11 @@ pub mod Stays
 pub mod Lists
 pub mod CleanedOver
 pub mod LocksOnce
+pub mod AllOf
 pub mod Sound
-pub mod SoundCalls
+pub mod Reasons
+pub mod ReasonsOfCalls
+pub mod ReasonsOfEvents
 pub mod SoundEvents
 pub mod There
 pub mod FramesStay

@@ -36,7 +36,7 @@ use Rattle.wdf_model.specs.rules.Waits.{ahead, cause_if, no_cpu, queue_scope_hel
 use Rattle.wdf_model.proofs.Tests.{both, both_left, both_right, itself, not_false}
 use Rattle.wdf_model.proofs.Sames.{callback_decides, kind_decides}
 use Rattle.wdf_blame_causes.specs.Starts.{is_live_queue}
-use Rattle.wdf_blame_causes.proofs.Apt.{takes}
+use Rattle.wdf_agreements.proofs.Reasons.{takes}
 use Rattle.wdf_blame.proofs.Members.{Has, has_flat, has_range}
 use Rattle.wdf_blame.proofs.Endings.{AtRest, may_not}
 use Rattle.wdf_blame.proofs.Forms.{while_on}
