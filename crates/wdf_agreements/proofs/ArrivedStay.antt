@@ -22,6 +22,7 @@ use Rattle.wdf_model.proofs.Maps.{entry_map, entry_put_other, entry_put_same, en
 use Rattle.wdf_model.proofs.Counts.{one_or_two}
 use Rattle.wdf_model.proofs.KeptByDeeds.{is_arrival}
 use Rattle.wdf_agreements.proofs.Stays.{asks_all, given, given_if}
+use Rattle.wdf_agreements.proofs.Readers.{requests_of}
 
 abbrev pub arrival_in : Requests → ℕ → ℕ
 arrival_in R r = (info_of R r).arrival
@@ -99,9 +100,6 @@ makes R r device x = elim (one_or_two x r) [
   | inr n ↦ inl (kept_elsewhere R (requests.arrive R r place.Owned (made_info device)) x (entry_put_other no_request R.all r x (record { place = place.Owned; info = made_info device }) n))
 ]
 
-abbrev requests_in : {A : Type 0} → State A → Requests
-requests_in S = S.requests
-
 then_moves : (R U : Requests) (r : ℕ) (p : Place) → U ≡ R → AllKept R (requests.move_to U r p)
 then_moves R U r p e = all_then R U (requests.move_to U r p) (all_same R U e) (moves U r p)
 
@@ -130,13 +128,13 @@ begins_or_ends _ = false
 all_kept : {A : Type 0} (plan : Plan) (d : Deed) (S : State A) → begins_or_ends d ≡ false → AllKept S.requests (do_deed plan d S).requests
 all_kept plan (Arrive device info p) S h = absurd (let z : ⊥ = cc in z)
 all_kept plan (MakeRequest class parent) S h = absurd (let z : ⊥ = cc in z)
-all_kept plan (AskDeletion o) S h = all_same _ _ (asks_all requests_in (λ S T D W U. refl) (subtree S.tree o.0) S)
+all_kept plan (AskDeletion o) S h = all_same _ _ (asks_all requests_of (λ S T D W U. refl) (subtree S.tree o.0) S)
 all_kept plan (EndLife o) S h = absurd (let z : ⊥ = cc in z)
 all_kept plan (Present q r) S h = moves S.requests r.0 place.Owned
 all_kept plan (Receive q r) S h = moves S.requests r.0 place.Owned
-all_kept plan (Requeue r q) S h = then_moves _ _ r.0 (queued q.0) (given requests_in (λ S Q P. refl) S r.0)
-all_kept plan (Forward r q) S h = then_moves _ _ r.0 (queued q.0) (given requests_in (λ S Q P. refl) S r.0)
-all_kept plan (GiveBack r q) S h = then_cancels _ _ r.0 (withdrawn_place plan (give_up S r.0) q.0 r.0) (given requests_in (λ S Q P. refl) S r.0)
+all_kept plan (Requeue r q) S h = then_moves _ _ r.0 (queued q.0) (given requests_of (λ S Q P. refl) S r.0)
+all_kept plan (Forward r q) S h = then_moves _ _ r.0 (queued q.0) (given requests_of (λ S Q P. refl) S r.0)
+all_kept plan (GiveBack r q) S h = then_cancels _ _ r.0 (withdrawn_place plan (give_up S r.0) q.0 r.0) (given requests_of (λ S Q P. refl) S r.0)
 all_kept plan (Withdraw q r) S h = then_cancels S.requests S.requests r.0 (withdrawn_place plan S q.0 r.0) refl
 all_kept plan (MarkRequest r) S h =
     one_changes S.requests r.0 marked (either_kept (request_of S.requests r.0).info.cancelled (with_mark marks.Marked (request_of S.requests r.0)) (request_of S.requests r.0) (record { device = refl; agent = refl; arrival = refl }))
@@ -144,12 +142,12 @@ all_kept plan (UnmarkRequest r) S h =
     one_changes S.requests r.0 unmarked (or_kept (is_marked (request_of S.requests r.0).info.mark) (with_mark marks.Unmarked (request_of S.requests r.0)) (request_of S.requests r.0) (record { device = refl; agent = refl; arrival = refl }))
 all_kept plan (CancelRequest r) S h = cancels S.requests r.0
 all_kept plan (TakeCancel r) S h = one_changes S.requests r.0 (with_mark marks.Taken) (record { device = refl; agent = refl; arrival = refl })
-all_kept plan (SendRequest r t forget) S h = then_moves _ _ r.0 (place.Sent (record { 0 = t.0 })) (given_if requests_in (λ S Q P. refl) S forget r.0)
+all_kept plan (SendRequest r t forget) S h = then_moves _ _ r.0 (place.Sent (record { 0 = t.0 })) (given_if requests_of (λ S Q P. refl) S forget r.0)
 all_kept plan (FinishSending r s) S h = moves S.requests r.0 (finished_at (is_forgotten S.targets r.0) s (place_of S.requests r.0))
 all_kept plan (ComeBack r) S h = moves S.requests r.0 place.Owned
 all_kept plan (CompleteRequest r) S h =
     all_then S.requests (requests.complete S.requests r.0) (do_deed plan (CompleteRequest r) S).requests (moves S.requests r.0 place.Done)
-    (all_same (requests.complete S.requests r.0) (do_deed plan (CompleteRequest r) S).requests (asks_all requests_in (λ S T D W U. refl) (subtree (give_up S r.0).tree r.0) (record (give_up S r.0) { requests = requests.complete S.requests r.0 })))
+    (all_same (requests.complete S.requests r.0) (do_deed plan (CompleteRequest r) S).requests (asks_all requests_of (λ S T D W U. refl) (subtree (give_up S r.0).tree r.0) (record (give_up S r.0) { requests = requests.complete S.requests r.0 })))
 all_kept plan (PurgeQueue q) S h = all_withdrawn plan q.0 (waiting_in S.queues q.0) (record S { control = control.set_mode S.control q.0 mode.Purged })
 all_kept plan (CloseReturning d) S h = all_returning (managed_queues plan d.0) S
 all_kept plan (CloseDevice d) S h = all_closed (queues_of plan d.0) (record S { control = control.shut S.control d.0 })

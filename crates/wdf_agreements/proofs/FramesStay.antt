@@ -26,6 +26,7 @@ use Rattle.wdf_invariants.proofs.Framed.{on}
 use Rattle.wdf_invariants.proofs.FrameMoves.{FrameKept, goes_kept, kept_same, pop_kept, pop_on}
 use Rattle.wdf_agreements.proofs.Stays.{asks_all, gives_up, gives_up_if, queues_closed, returns_closed, withdraws}
 use Rattle.wdf_agreements.proofs.Sound.{Sound}
+use Rattle.wdf_agreements.proofs.Readers.{cpus_of}
 
 -- a frame that begins
 pub record Begins (C D : Cpus) (f : ℕ) (frame : Frame) : Type 0 where
@@ -59,9 +60,6 @@ same_frames C D e = subst (λ (E : Cpus). FramesGoOn C E × NoneEnds C E) (sym e
 arrived : {A : Type 0} (S : State A) (device : ℕ) (info : RequestInfo) (p : Place) → (arrive_at S device info p).cpus ≡ S.cpus
 arrived S device info (place.Queued q) = refl
 arrived S device info _ = refl
-
-abbrev cpus_of : {A : Type 0} → State A → Cpus
-cpus_of S = S.cpus
 
 -- what becomes of the frames by a deed: one begins, or the top one ends, or none does
 abbrev pub FramesBy : {A : Type 0} → Plan → Deed → State A → Type 0

@@ -35,10 +35,10 @@ use Rattle.wdf_base.specs.SamePlan.{same_declared}
 use Rattle.wdf_model.specs.Tables.{entry}
 use Rattle.wdf_model.specs.Plans.{script_on}
 use Rattle.wdf_model.specs.parts.Tree.{Tree, is_past_cleanup, kind_of, life_of, made_as, node_of}
-use Rattle.wdf_model.specs.parts.Cpus.{frame_of, irql, is_empty_cpu, top}
+use Rattle.wdf_model.specs.parts.Cpus.{frame_of}
 use Rattle.wdf_model.specs.parts.Cpus as cpus
 use Rattle.wdf_model.specs.parts.Locks as locks
-use Rattle.wdf_model.specs.parts.Locks.{holds_by_call, lock_of_callback, object_lock}
+use Rattle.wdf_model.specs.parts.Locks.{holds_by_call, object_lock}
 use Rattle.wdf_model.specs.State.{State, declared_in, declares_in, object_in}
 use Rattle.wdf_model.specs.Ids.{frame_id}
 use Rattle.wdf_model.specs.declared.deed.Deed.{Deed}
@@ -182,7 +182,7 @@ no_owner : (plan : Plan) (d : Declared) (c : ℕ) → same_declared d (declared.
 no_owner plan (declared.OfClass x) c h k = class_unlike (slice_get plan.classes x) k
 no_owner plan _ c h k = let z : ⊥ = cc in z
 
-all_fit_at : (p : Script → Bool) (d : Script) (ss : List Script) (i : ℕ) → list_all p ss ≡ true → i < length ss → p (entry d ss i) ≡ true
+pub all_fit_at : (p : Script → Bool) (d : Script) (ss : List Script) (i : ℕ) → list_all p ss ≡ true → i < length ss → p (entry d ss i) ≡ true
 all_fit_at p d [] i h within = absurd (omega arith)
 all_fit_at p d (s ∷ ss) zero h within = both_left (p s) (list_all p ss) h
 all_fit_at p d (s ∷ ss) (suc i) h within = all_fit_at p d ss i (both_right (p s) (list_all p ss) h) (omega arith)

@@ -35,12 +35,11 @@ use Rattle.wdf_model.specs.declared.deed.Deed.TheVariants.{GoOn}
 use Rattle.wdf_model.specs.rules.Deeds.{do_deed, do_deeds}
 use Rattle.wdf_model.specs.rules.Faults.{View, any_argument, is_acquire, is_stale, is_wrong_kind}
 use Rattle.wdf_model.specs.rules.Calls.{is_met}
-use Rattle.wdf_model.specs.rules.Steps.{at_next, changed, event_of_frame, event_of_top, own_event, spending, spends, stepped}
+use Rattle.wdf_model.specs.rules.Steps.{at_next, changed, event_of_frame, event_of_top, own_event, spends, stepped}
 use Rattle.wdf_model.specs.laws.Fits.{all_fit}
 use Rattle.wdf_model.proofs.Tests.{both, both_left, both_right, either_false}
 use Rattle.wdf_invariants.proofs.Framed.{on}
 use Rattle.wdf_invariants.proofs.FrameMoves.{FrameKept}
-use Rattle.wdf_invariants.proofs.NextFrames.{goes_on_kept}
 use Rattle.wdf_invariants.proofs.StepStates.{fit_before, in_turn}
 use Rattle.wdf_agreements.proofs.Sound.{AllSound}
 use Rattle.wdf_agreements.proofs.SoundEvents.{top_on}
@@ -73,9 +72,6 @@ pub moving : {A : Type 0} (plan : Plan) (S : State A) (cpu : ℕ) (next : Frame 
     → LeveledIn plan S → LeveledIn plan (do_deeds plan (elim there as (λ _. List Deed) [ None ↦ [] | Some f ↦ GoOn (frame_id f) (next (frame_of S.cpus f)) ∷ [] ]) S)
 moving plan S cpu next None t kept same k = k
 moving plan S cpu next (Some f) t kept same k = awaits_same plan S f (next (frame_of S.cpus f)) (top_on S.cpus cpu f t) (same f t) (kept (frame_of S.cpus f)) k
-
-pub spending_kept : {A : Type 0} (plan : Plan) (S : State A) (a : Frame) (n : ℕ) → FrameKept a (spending plan S a n)
-spending_kept plan S a n = let k = goes_on_kept plan a in record { callback = k.callback; object = k.object; device = k.device }
 
 -- ---- an access to a register is of a frame that doesn't wait
 

@@ -1,6 +1,10 @@
 pub mod Keeping
 pub mod Stays
 pub mod Lists
+pub mod Readers
+pub mod Lives
+pub mod Choices
+pub mod Places
 pub mod CleanedOver
 pub mod LocksOnce
 pub mod AllOf

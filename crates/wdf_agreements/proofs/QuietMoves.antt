@@ -13,8 +13,6 @@ use Rattle.wdf_base.specs.declared.object.LockRef.TheVariants as lock
 use Rattle.wdf_base.specs.declared.object.Place.{Place}
 use Rattle.wdf_base.specs.declared.object.Place.TheVariants as place
 use Rattle.wdf_base.specs.declared.object.RequestInfo.{RequestInfo}
-use Rattle.wdf_base.specs.declared.call.Callback.{Callback}
-use Rattle.wdf_base.specs.declared.call.Callback.TheVariants as callback
 use Rattle.wdf_base.specs.declared.frame.Pending.{Pending}
 use Rattle.wdf_base.specs.Same.{same_kind, same_lock}
 use Rattle.wdf_model.specs.declared.enums.Mode.TheVariants as mode
@@ -22,7 +20,7 @@ use Rattle.wdf_model.specs.declared.entries.Held.{Held}
 use Rattle.wdf_model.specs.declared.entries.Node.{Node}
 use Rattle.wdf_model.specs.Tables.{flag}
 use Rattle.wdf_model.specs.Plans.{managed_queues, queues_of}
-use Rattle.wdf_model.specs.parts.Tree.{Tree, gone, is_asked, is_cleaned, is_gone, is_live, is_past_cleanup, kind_of, life_of, new_node, next_id, node_of, noted, subtree, with_life, with_node}
+use Rattle.wdf_model.specs.parts.Tree.{Tree, gone, is_cleaned, is_live, is_past_cleanup, kind_of, life_of, new_node, next_id, node_of, noted, subtree, with_life, with_node}
 use Rattle.wdf_model.specs.parts.Tree as tree
 use Rattle.wdf_model.specs.parts.Cpus.{Cpus, all_frames, frame_of}
 use Rattle.wdf_model.specs.parts.Locks.{Locks, is_free_lock, lock_of_callback, object_lock}
@@ -52,6 +50,8 @@ use Rattle.wdf_agreements.proofs.Framing.{Framing, framing_by, locks_by, off_it}
 use Rattle.wdf_agreements.proofs.Counted.{called, height, is_called, same_of_each}
 use Rattle.wdf_agreements.proofs.Leveled.{EarlyIfCalled, IsEarly, Leveled, awaited, object_at}
 use Rattle.wdf_agreements.proofs.QuietDeeds.{all_quiet, is_quiet_deed}
+use Rattle.wdf_agreements.proofs.Readers.{cpus_of, tree_of}
+use Rattle.wdf_agreements.proofs.Lives.{early_there, noted_life}
 
 abbrev pub LeveledIn : {A : Type 0} → Plan → State A → Type 0
 LeveledIn plan S = Leveled plan S.cpus S.locks S.tree
@@ -80,20 +80,9 @@ all_asked : {A : Type 0} (xs : List ℕ) (S : State A) (y : ℕ) → is_past_cle
 all_asked [] S y h = h
 all_asked (x ∷ xs) S y h = all_asked xs (ask_object S x) y (asked_one S x (is_live (life_of S.tree x)) refl y h)
 
-noted_life : (c : Callback) (n : Node) → (noted c n).life ≡ n.life
-noted_life callback.EvtCleanupCallback n = refl
-noted_life callback.EvtDestroyCallback n = refl
-noted_life _ n = refl
-
 arrived : {A : Type 0} (S : State A) (device : ℕ) (info : RequestInfo) (p : Place) → ((arrive_at S device info p).tree ≡ tree.arrive S.tree device) × ((arrive_at S device info p).cpus ≡ S.cpus)
 arrived S device info (place.Queued q) = (refl, refl)
 arrived S device info _ = (refl, refl)
-
-abbrev tree_of : {A : Type 0} → State A → Tree
-tree_of S = S.tree
-
-abbrev cpus_of : {A : Type 0} → State A → Cpus
-cpus_of S = S.cpus
 
 same_early : (T U : Tree) (x : ℕ) → U ≡ T → is_past_cleanup (life_of T x) ≡ false → is_past_cleanup (life_of U x) ≡ false
 same_early T U x e h = ap (λ (V : Tree). is_past_cleanup (life_of V x)) e ∙ h
@@ -280,12 +269,6 @@ tree_moves plan C L T U frames locked waits k = record {
   level = k.level;
   kind = λ f more h. ap (λ x. same_kind x kind.SpinLock) (let s = frames f more in s.kind) ∙ k.kind f more h;
 }
-
-early_there : (l : Life) → is_past_cleanup l ≡ false → is_gone l ≡ false
-early_there life.Live h = refl
-early_there life.Asked h = refl
-early_there life.Cleaned h = absurd (let z : ⊥ = cc in z)
-early_there life.Gone h = absurd (let z : ⊥ = cc in z)
 
 ends_none : {A : Type 0} (plan : Plan) (d : Deed) (S : State A) → fits plan d S ≡ true → (x : ℕ) → is_past_cleanup (life_of S.tree x) ≡ false → Ends d x → ⊥
 ends_none plan (EndLife o) S f x h e = ended_apart S o.0 x f h e

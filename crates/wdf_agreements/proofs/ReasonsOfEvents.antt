@@ -71,6 +71,7 @@ use Rattle.wdf_agreements.proofs.Reasons.{AllReasons, IsTaken, Reason, takes}
 use Rattle.wdf_agreements.proofs.ReasonsOfCalls.{outcome_given, second_given}
 use Rattle.wdf_base.specs.declared.frame.Pending.{Pending}
 use Rattle.wdf_model.specs.parts.Cpus as cpus
+use Rattle.wdf_agreements.proofs.Lives.{noted_same}
 
 -- ---- what an object is in the plan, by its kind and its class
 
@@ -116,11 +117,6 @@ off_by_top C cpu f is_top once = elim (cases_Bool (contains f C.parked)) [
 
 -- ---- starts
 
-noted_kept : (c : Callback) (n : Node) → ((noted c n).life ≡ n.life) × ((noted c n).kind ≡ n.kind) × ((noted c n).class ≡ n.class)
-noted_kept callback.EvtCleanupCallback n = (refl, refl, refl)
-noted_kept callback.EvtDestroyCallback n = (refl, refl, refl)
-noted_kept _ n = (refl, refl, refl)
-
 -- what the effect of a start leaves alone
 pub record Before {A : Type 0} (plan : Plan) (S U : State A) : Type 0 where
   pub cpus : U.cpus ≡ S.cpus
@@ -153,7 +149,7 @@ pub top_is : (t : Option ℕ) (f : ℕ) → same_id t f ≡ true → t ≡ Some 
 top_is None f h = absurd (let z : ⊥ = cc in z)
 top_is (Some g) f h = ap Some (eqb-true g f h)
 
-spending_kept : {A : Type 0} (plan : Plan) (S : State A) (a : Frame) (n : ℕ) → FrameKept a (spending plan S a n)
+pub spending_kept : {A : Type 0} (plan : Plan) (S : State A) (a : Frame) (n : ℕ) → FrameKept a (spending plan S a n)
 spending_kept plan S a n = let k = goes_on_kept plan a in record { callback = k.callback; object = k.object; device = k.device }
 
 waits_in_call : {A : Type 0} (S : State A) (p : Option Pending) → waits_on S p ≡ true → is_some p ≡ true
@@ -226,7 +222,7 @@ module _ {A : Type 0} (plan : Plan) (H : ℕ → State A → Type 0) where
 
   note_effect : (S : State A) (o : ℕ) (c : Callback) → Effect S (Note (object_id o) c ∷ [])
   note_effect S o c =
-      let k = noted_kept c (node_of S.tree o) in (
+      let k = noted_same c (node_of S.tree o) in (
         (tt, tt),
         record {
           cpus = refl;

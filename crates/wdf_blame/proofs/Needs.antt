@@ -45,6 +45,7 @@ use Rattle.wdf_model.proofs.Tests.{not_false}
 use Rattle.wdf_blame.specs.Caused.{names_a_cause}
 use Rattle.wdf_blame.proofs.Members.{has_back, has_flat, has_front, has_mapped, has_range}
 use Rattle.wdf_blame.proofs.Endings.{AtRest, may_not}
+use Rattle.wdf_blame.proofs.Conjuncts.{five, four, three}
 
 -- ---- a search that finds nothing
 
@@ -143,9 +144,6 @@ pub free_one : (p : ℕ → Bool) (a n : ℕ) → list_all (λ cpu. not (p cpu))
 free_one p a zero h = absurd (let z : ⊥ = cc in z)
 free_one p a (suc n) h = free_by p a a n (not (p a)) refl h (free_one p (a + 1) n)
 
-three : (a b c : Bool) → a ≡ true → b ≡ true → c ≡ true → (a && b && c) ≡ true
-three a b c h k l = both (a && b) c (both a b h k) l
-
 -- ---- an object that is cleaned up
 
 declared_not : (declares began : Bool) → (not declares || began) ≡ false → (declares ≡ true) × (not began ≡ true)
@@ -158,16 +156,6 @@ none_there S o e = rw e refl
 
 no_references : (n : ℕ) → nat_lt 0 n ≡ false → (n == 0) ≡ true
 no_references n h = grind (arith, nat_tests)
-
-pub proper_start : (a b c d : Bool) → a ≡ true → b ≡ true → c ≡ true → d ≡ true → (a && b && c && d) ≡ true
-proper_start true true true true h k l n = refl
-proper_start true true true false h k l n = n
-proper_start true true false d h k l n = l
-proper_start true false c d h k l n = k
-proper_start false b c d h k l n = h
-
-pub five : (a b c d e : Bool) → a ≡ true → b ≡ true → c ≡ true → d ≡ true → e ≡ true → (a && b && c && d && e) ≡ true
-five a b c d e h k l n q = both (a && b && c && d) e (proper_start a b c d h k l n) q
 
 pub below_cpus : (cpu n : ℕ) → cpu < n → nat_lt cpu n ≡ true
 below_cpus cpu n h = grind (arith, nat_tests)
@@ -200,7 +188,7 @@ ending_waits plan m S o k c e rest d false left =
     (d.listed cpu (declared_by plan c (declared_in plan S o) parts.0)) in
     let no : may plan m S begins ≡ false = may_not plan m S true begins rest offered in
     let yes : may plan m S begins ≡ true =
-    proper_start (nat_lt cpu plan.cpus) (is_proper plan S (handle_in plan S o)) true (may_start plan m S cpu c o None) (below_cpus cpu plan.cpus within) (itself (handle_in plan S o).name) refl
+    four (nat_lt cpu plan.cpus) (is_proper plan S (handle_in plan S o)) true (may_start plan m S cpu c o None) (below_cpus cpu plan.cpus within) (itself (handle_in plan S o).name) refl
     (d.starts cpu found.2 parts.0 parts.1) in
     let z : ⊥ = cc in z
 
@@ -349,7 +337,7 @@ asked_waits plan m S rest o low asked uncleaned done empty h =
     three (is_asked (life_of S.tree o)) (list_all (λ x. is_past_cleanup (life_of S.tree x)) (children S.tree o))
     (not (is_asked (life_of S.tree (parent_of S.tree o))) || list_all (λ x. is_past_cleanup (life_of S.tree x)) (younger_siblings S.tree o))
     asked (all_past S (children S.tree o) alone.0) (siblings_past S o (is_asked (life_of S.tree (parent_of S.tree o))) refl (all_past S (waits_for_younger S o) alone.1)) in
-    let ready : clean_ready S o ≡ true = proper_start (may_clean S.tree o) (is_unused S o) (is_finished S o) (nothing_at S o) may_be (unused_by S o unused) done empty in
+    let ready : clean_ready S o ≡ true = four (may_clean S.tree o) (is_unused S o) (is_finished S o) (nothing_at S o) may_be (unused_by S o unused) done empty in
     clean_waits plan m S rest o low asked ready parts.3 (callback_over plan S callback.EvtCleanupCallback o) refl
 
 -- ---- the law

@@ -27,7 +27,8 @@ use Rattle.wdf_model.proofs.Counts.{one_or_two}
 use Rattle.wdf_blame_causes.specs.Starts.{dpc_may_run, first_may_run, has_callback}
 use Rattle.wdf_blame.proofs.Members.{Has, has_flat}
 use Rattle.wdf_blame.proofs.Endings.{AtRest, may_not}
-use Rattle.wdf_blame.proofs.Needs.{below_cpus, cpu_group, five, free_hold, none_first, none_if, placed_at, proper_start, unheld}
+use Rattle.wdf_blame.proofs.Needs.{below_cpus, cpu_group, free_hold, none_first, none_if, placed_at, unheld}
+use Rattle.wdf_blame.proofs.Conjuncts.{five, four}
 
 -- ---- where a DPC is queued
 
@@ -110,7 +111,7 @@ head_waits plan m S rest cpu o within queued may_be free fits =
     sym (ap (λ y. is_free_if_any S.locks (option_and_then (λ z. scope_of plan (dpc_function (kind_of S.tree z)) z (declared_in plan S z)) y)) at.1) ∙ free in
     let no : may plan m S e ≡ false = may_not plan m S true e rest offered in
     let comes : may plan m S e ≡ true =
-    proper_start (nat_lt cpu plan.cpus) (is_proper plan S (handle_in plan S x)) true (may_start plan m S cpu c x None) (below_cpus cpu plan.cpus within) (itself (handle_in plan S x).name) refl
+    four (nat_lt cpu plan.cpus) (is_proper plan S (handle_in plan S x)) true (may_start plan m S cpu c x None) (below_cpus cpu plan.cpus within) (itself (handle_in plan S x).name) refl
     (dpc_may plan m S cpu x c (function_is (kind_of S.tree x)) (both_right (is_live (life_of S.tree x)) (declares_in plan S c x) can) (both_left (is_live (life_of S.tree x)) (declares_in plan S c x) can) fits lock (same_head (dpc_head S.dpcs cpu) x at.1)) in
     let z : ⊥ = cc in z
 

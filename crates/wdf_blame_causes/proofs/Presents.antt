@@ -40,7 +40,8 @@ use Rattle.wdf_agreements.proofs.Reasons.{takes}
 use Rattle.wdf_blame.proofs.Members.{Has, has_flat, has_range}
 use Rattle.wdf_blame.proofs.Endings.{AtRest, may_not}
 use Rattle.wdf_blame.proofs.Forms.{while_on}
-use Rattle.wdf_blame.proofs.Needs.{below_cpus, cpu_group, five, free_one, none_first, none_if, none_least, placed_at, proper_start}
+use Rattle.wdf_blame.proofs.Needs.{below_cpus, cpu_group, free_one, none_first, none_if, none_least, placed_at}
+use Rattle.wdf_blame.proofs.Conjuncts.{five, four}
 
 -- ---- the front of a queue
 
@@ -192,7 +193,7 @@ queued_waits plan m S rest q r waits queue taken h =
     (placed_at plan m S (group.Starts left.0 rank.Handler) (declared_end plan) q e inside (start_here plan S left.0 q r c (front S.queues q) at by.1)) in
     let no : may plan m S e ≡ false = may_not plan m S true e rest offered in
     let comes : may plan m S e ≡ true =
-    proper_start (nat_lt left.0 plan.cpus) (is_proper plan S (handle_in plan S q)) (is_proper plan S (handle_in plan S r)) (may_start plan m S left.0 c q (Some (handle_in plan S r)))
+    four (nat_lt left.0 plan.cpus) (is_proper plan S (handle_in plan S q)) (is_proper plan S (handle_in plan S r)) (may_start plan m S left.0 c q (Some (handle_in plan S r)))
     (below_cpus left.0 plan.cpus within) (itself (handle_in plan S q).name) (itself (handle_in plan S r).name)
     (handler_may plan m S left.0 q (handle_in plan S r) c (handler_is plan q (info_of S.requests r).form c by.1) has live left.2 p.unlocked (presented plan S q r c p at by.1)) in
     let z : ⊥ = cc in z
@@ -256,7 +257,7 @@ returning_waits plan m S rest d q r returns queue declared h =
     (rw declared (placed_at plan m S (group.StartsFor left.0 rank.CanceledOnQueue q) (length S.requests.all) r e (place_there q S.requests.all r returns) refl)) in
     let no : may plan m S e ≡ false = may_not plan m S true e rest offered in
     let comes : may plan m S e ≡ true =
-    proper_start (nat_lt left.0 plan.cpus) (is_proper plan S (handle_in plan S q)) (is_proper plan S (handle_in plan S r)) (may_start plan m S left.0 callback.EvtIoCanceledOnQueue q (Some (handle_in plan S r)))
+    four (nat_lt left.0 plan.cpus) (is_proper plan S (handle_in plan S q)) (is_proper plan S (handle_in plan S r)) (may_start plan m S left.0 callback.EvtIoCanceledOnQueue q (Some (handle_in plan S r)))
     (below_cpus left.0 plan.cpus within) (itself (handle_in plan S q).name) (itself (handle_in plan S r).name)
     (five (declares_in plan S callback.EvtIoCanceledOnQueue q) (is_live (life_of S.tree q)) (level_fits S left.0 (queue_level plan q)) (is_open_to plan S q) (is_returning_to q (place_of S.requests r))
     (queue_has plan S callback.EvtIoCanceledOnQueue q is declared) live left.2 unlocked returns) in

@@ -32,6 +32,7 @@ use Rattle.wdf_model.proofs.KeptByDeeds.{is_arrival}
 use Rattle.wdf_agreements.proofs.Lists.{reads_same}
 use Rattle.wdf_agreements.proofs.Stays.{gives_up, gives_up_if, queues_closed, returns_closed, withdraws}
 use Rattle.wdf_agreements.proofs.ArrivedStay.{arrival_in, arrived_stay}
+use Rattle.wdf_agreements.proofs.Readers.{tree_of}
 
 -- ---- devices
 
@@ -98,9 +99,6 @@ made_other : (k : Kind) → is_request_kind k ≡ false → same_kind k kind.Req
 made_other kind.Request h = absurd (let z : ⊥ = cc in z)
 made_other _ h = refl
 
-abbrev tree_in : {A : Type 0} → State A → Tree
-tree_in S = S.tree
-
 pub parents_stay : {A : Type 0} (plan : Plan) (d : Deed) (S : State A) → is_arrival d ≡ false → fits plan d S ≡ true → ParentsStay S.tree (do_deed plan d S).tree
 parents_stay plan (Arrive device info p) S h f = absurd (let z : ⊥ = cc in z)
 parents_stay plan (Create k class parent) S h f =
@@ -114,14 +112,14 @@ parents_stay plan (Note o c) S h f = let k = noted_kept c (node_of S.tree o.0) i
 parents_stay plan (CleanUp o) S h f = node_changes S.tree o.0 (with_life life.Cleaned) refl refl
 parents_stay plan (EndLife o) S h f = object_ended S.tree o.0
 parents_stay plan (AskDeletion o) S h f = all_asked (subtree S.tree o.0) S
-parents_stay plan (Requeue r q) S h f = same_tree _ _ (gives_up tree_in (λ S Q R P. refl) S r.0)
-parents_stay plan (Forward r q) S h f = same_tree _ _ (gives_up tree_in (λ S Q R P. refl) S r.0)
-parents_stay plan (GiveBack r q) S h f = same_tree _ _ (gives_up tree_in (λ S Q R P. refl) S r.0)
-parents_stay plan (SendRequest r t forget) S h f = same_tree _ _ (gives_up_if tree_in (λ S Q R P. refl) S forget r.0)
+parents_stay plan (Requeue r q) S h f = same_tree _ _ (gives_up tree_of (λ S Q R P. refl) S r.0)
+parents_stay plan (Forward r q) S h f = same_tree _ _ (gives_up tree_of (λ S Q R P. refl) S r.0)
+parents_stay plan (GiveBack r q) S h f = same_tree _ _ (gives_up tree_of (λ S Q R P. refl) S r.0)
+parents_stay plan (SendRequest r t forget) S h f = same_tree _ _ (gives_up_if tree_of (λ S Q R P. refl) S forget r.0)
 parents_stay plan (CompleteRequest r) S h f =
-    tree_then S.tree (give_up S r.0).tree (do_deed plan (CompleteRequest r) S).tree (same_tree S.tree (give_up S r.0).tree (gives_up tree_in (λ S Q R P. refl) S r.0))
+    tree_then S.tree (give_up S r.0).tree (do_deed plan (CompleteRequest r) S).tree (same_tree S.tree (give_up S r.0).tree (gives_up tree_of (λ S Q R P. refl) S r.0))
     (all_asked (subtree (give_up S r.0).tree r.0) (record (give_up S r.0) { requests = requests.complete S.requests r.0 }))
-parents_stay plan (PurgeQueue q) S h f = same_tree _ _ (withdraws tree_in (λ S Q R P. refl) plan q.0 (waiting_in S.queues q.0) (record S { control = control.set_mode S.control q.0 mode.Purged }))
-parents_stay plan (CloseReturning d) S h f = same_tree _ _ (returns_closed tree_in (λ S Q R P. refl) (managed_queues plan d.0) S)
-parents_stay plan (CloseDevice d) S h f = same_tree _ _ (queues_closed tree_in (λ S Q R P. refl) (queues_of plan d.0) (record S { control = control.shut S.control d.0 }))
+parents_stay plan (PurgeQueue q) S h f = same_tree _ _ (withdraws tree_of (λ S Q R P. refl) plan q.0 (waiting_in S.queues q.0) (record S { control = control.set_mode S.control q.0 mode.Purged }))
+parents_stay plan (CloseReturning d) S h f = same_tree _ _ (returns_closed tree_of (λ S Q R P. refl) (managed_queues plan d.0) S)
+parents_stay plan (CloseDevice d) S h f = same_tree _ _ (queues_closed tree_of (λ S Q R P. refl) (queues_of plan d.0) (record S { control = control.shut S.control d.0 }))
 parents_stay plan _ S h f = same_tree S.tree S.tree refl

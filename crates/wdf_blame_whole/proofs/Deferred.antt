@@ -1,5 +1,5 @@
 -- The first DPC in each processor's list is of a live object that has the function; so the line of queued work names a cause.
-use Rattle.std.proofs.Common.{◌≡◌, ℕ, ◌==◌, Bool, true, false, ◌||◌, List, [], ◌∷◌, inl, inr, Option, Some, None, is_some, refl, ap, ◌∙◌}
+use Rattle.std.proofs.Common.{◌≡◌, ℕ, ◌==◌, Bool, true, false, List, [], ◌∷◌, inl, inr, Option, Some, None, is_some, refl, ap, ◌∙◌}
 use Rattle.std.proofs.lemmas.Bool.{or_cases}
 use Rattle.wdf_base.specs.Meaning.{Meaning}
 use Rattle.wdf_base.specs.Plan.{declared_of}
@@ -15,13 +15,12 @@ use Rattle.wdf_base.specs.declared.event.Event.{Event}
 use Rattle.wdf_base.specs.declared.event.Ending.TheVariants as ending
 use Rattle.wdf_base.specs.declared.wait.Cause.{Cause}
 use Rattle.wdf_base.specs.declared.wait.OpenThing.TheVariants as thing
-use Rattle.wdf_model.specs.declared.entries.Timed.{Timed}
 use Rattle.wdf_model.specs.Tables.{contains, first_of_list}
 use Rattle.wdf_model.specs.Plans.{declares, interrupt_of, script_on}
 use Rattle.wdf_model.specs.parts.Tree.{is_live, kind_of, life_of, made_as, node_of}
 use Rattle.wdf_model.specs.parts.Deferred.Dpcs.{dpc_head, dpcs_of, is_dpc_queued}
 use Rattle.wdf_model.specs.parts.Deferred.WorkItems.{is_work_queued}
-use Rattle.wdf_model.specs.parts.Deferred.Timers.{is_reached, is_timer_queued, timed_of, timer_due}
+use Rattle.wdf_model.specs.parts.Deferred.Timers.{is_timer_queued, timed_of, timer_due}
 use Rattle.wdf_model.specs.State.{State, declared_in, declares_in}
 use Rattle.wdf_model.specs.rules.Groups.{dpc_function}
 use Rattle.wdf_model.specs.rules.Ready.{IsRunOf, ending_of, is_open_work, state_after}
@@ -33,18 +32,19 @@ use Rattle.wdf_invariants.proofs.StillFrames.{live_there}
 use Rattle.wdf_agreements.proofs.Queued.{any_entry}
 use Rattle.wdf_power_laws.proofs.Belonging.{interrupt_found}
 use Rattle.wdf_blame.proofs.Stages.{line_named}
-use Rattle.wdf_blame.proofs.Works.{item_runs, timer_runs}
+use Rattle.wdf_blame.proofs.Works.{item_runs, third, timer_runs}
 use Rattle.wdf_blame_causes.specs.Starts.{first_may_run, has_callback}
 use Rattle.wdf_blame_causes.specs.Named.{DpcsMayRun}
 use Rattle.wdf_blame_causes.proofs.Lines.{line_names}
-use Rattle.wdf_blame_causes.proofs.Works.{item_live, timer_live}
+use Rattle.wdf_blame_causes.proofs.Works.{item_live, reached, timer_live}
 use Rattle.wdf_blame_whole.specs.Owners.{DpcsRun}
+use Rattle.wdf_agreements.proofs.Deferring.{work_of}
 use Rattle.wdf_blame_whole.proofs.Standing.{defers, ready_in}
 use Rattle.wdf_blame_whole.proofs.Lines.{line_tells}
 use Rattle.wdf_blame_whole.proofs.Quieted.{interrupt_live}
 use Rattle.wdf_blame_whole.proofs.Runs.{Known, known_now}
 use Rattle.wdf_blame_whole.proofs.Worked.{ready_has, work_may_run, works_now}
-use Rattle.wdf_blame_whole.proofs.Works.{WorkKept, work_of}
+use Rattle.wdf_blame_whole.proofs.Works.{WorkKept}
 
 head_in : (o : ℕ) (xs : List ℕ) → first_of_list xs ≡ Some o → contains o xs ≡ true
 head_in o [] h = absurd (let z : ⊥ = cc in z)
@@ -53,16 +53,6 @@ head_in o (x ∷ xs) h = let same : x ≡ o = cc in first (x == o) (contains o x
 some_is : {T : Type 0} (x : Option T) → is_some x ≡ true → (y : T) × (x ≡ Some y)
 some_is None h = absurd (let z : ⊥ = cc in z)
 some_is (Some y) h = (y, refl)
-
--- a timer whose tick is reached is queued
-reached : (now : ℕ) (t : Option Timed) → is_reached now t ≡ true → is_some t ≡ true
-reached now None h = absurd (let z : ⊥ = cc in z)
-reached now (Some t) h = refl
-
-third : (a b c : Bool) → (a || b || c) ≡ true → a ≡ false → b ≡ false → c ≡ true
-third true b c h e f = absurd (let z : ⊥ = cc in z)
-third false true c h e f = absurd (let z : ⊥ = cc in z)
-third false false c h e f = h
 
 reached_queued : {A : Type 0} (S : State A) (o : ℕ) → is_open_work S o ≡ true → is_dpc_queued S.dpcs o ≡ false → is_work_queued S.work_items o ≡ false → is_timer_queued S.timers o ≡ true
 reached_queued S o h off idle = reached S.clock (timed_of S.timers o) (third (is_dpc_queued S.dpcs o) (is_work_queued S.work_items o) (timer_due S.timers o S.clock) h off idle)

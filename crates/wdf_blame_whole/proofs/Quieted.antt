@@ -1,7 +1,7 @@
 -- At each place of every run of a resolved plan, an interrupt whose DPC is queued is live: it is enabled, or its device
 -- becomes quiet soon.
-use Rattle.std.proofs.Common.{◌≡◌, ℕ, zero, suc, ◌+◌, ◌<◌, ◌≤◌, true, false, not, ◌&&◌, ◌||◌, List, [], ◌∷◌, ◌++◌, inl, inr, Option, Some, None, is_some, drop, length, map, replicate, refl, sym, ap, subst, ◌∙◌, arith}
-use Rattle.std.specs.List.{list_all, list_any, range_with_len}
+use Rattle.std.proofs.Common.{◌≡◌, ℕ, zero, suc, ◌+◌, ◌<◌, ◌≤◌, true, false, not, ◌&&◌, ◌||◌, List, [], ◌∷◌, ◌++◌, inl, inr, Option, Some, None, is_some, drop, length, map, refl, sym, ap, subst, ◌∙◌, arith}
+use Rattle.std.specs.List.{list_all, range_with_len}
 use Rattle.std.proofs.lemmas.Bool.{cases_Bool, or_cases}
 use Rattle.wdf_base.specs.Meaning.{Meaning}
 use Rattle.wdf_base.specs.Callbacks.{row_of}
@@ -27,7 +27,7 @@ use Rattle.wdf_base.specs.declared.event.Stage.{Stage}
 use Rattle.wdf_base.specs.declared.event.Stage.TheVariants as stage
 use Rattle.wdf_base.specs.declared.event.Step.{Step}
 use Rattle.wdf_base.specs.declared.event.Step.TheVariants as step
-use Rattle.wdf_model.specs.Tables.{contains, entry, first_of_list}
+use Rattle.wdf_model.specs.Tables.{entry, first_of_list}
 use Rattle.wdf_model.specs.Plans.{as_interrupt, callback_irql, device_of, interrupt_of, interrupts_of, is_interrupt_of}
 use Rattle.wdf_model.specs.parts.Tree.{is_live, life_of, nearest_device}
 use Rattle.wdf_model.specs.parts.Cpus.{frame_of, is_running, top}
@@ -63,6 +63,7 @@ use Rattle.wdf_power_laws.proofs.Unmoved.{event_none, is_moving, none_moves}
 use Rattle.wdf_power_laws.specs.Steps.{StepsAndPowerAgree, enabled_says, phase_of}
 use Rattle.wdf_family_laws.proofs.Families.{declared_within}
 use Rattle.wdf_blame_whole.specs.Standing.{IsOver, is_live_device, is_part, is_part_of}
+use Rattle.wdf_agreements.proofs.Deferring.{none_queued}
 use Rattle.wdf_blame_whole.proofs.Soon.{IsSteady, Steady, comes_soon}
 use Rattle.wdf_blame_whole.proofs.Standing.{AllComes, Stands}
 use Rattle.wdf_blame_whole.proofs.Coming.{Facts, event_comes}
@@ -251,10 +252,6 @@ in_range P f off on_ a (suc n) (suc d) = in_range P f off on_ (a + 1) n d
 opening_steady : (plan : Plan) (d : ℕ) (x : Option DeviceInfo) → IsSteady (opening_sequence plan d x)
 opening_steady plan d None = record { left = tt; running = tt }
 opening_steady plan d (Some i) = record { left = tt; running = tt }
-
-none_queued : (x n : ℕ) → list_any (contains x) (replicate n []) ≡ true → ⊥
-none_queued x zero h = let z : ⊥ = cc in z
-none_queued x (suc n) h = none_queued x n h
 
 opening_quiet : {A : Type 0} (plan : Plan) (m : Meaning A) → Quieting plan (opening plan m)
 opening_quiet plan m = record {

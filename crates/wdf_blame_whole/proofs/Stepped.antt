@@ -29,13 +29,13 @@ use Rattle.wdf_model.specs.State.{State, declared_in, declares_in, handle_in}
 use Rattle.wdf_model.specs.laws.Agreement.{is_sequence}
 use Rattle.wdf_model.specs.rules.Ready.{IsRunOf, state_after}
 use Rattle.wdf_model.specs.rules.Starts.{interrupt_of_step}
-use Rattle.wdf_model.proofs.Maps.{entry_before, entry_last}
+use Rattle.wdf_model.proofs.Maps.{entry_last}
 use Rattle.wdf_model.proofs.Sames.{handle_decides}
 use Rattle.wdf_model.proofs.Tests.{both, both_left, both_right, itself}
 use Rattle.wdf_invariants.proofs.StillFrames.{live_there}
 use Rattle.wdf_agreements.proofs.Keeping.{at_the_end}
 use Rattle.wdf_agreements.proofs.Lists.{inside}
-use Rattle.wdf_power_laws.proofs.Declares.{own_device_of}
+use Rattle.wdf_power_laws.proofs.Declares.{front_stays, own_device_of}
 use Rattle.wdf_power_laws.proofs.Belonging.{interrupt_found}
 use Rattle.wdf_blame_causes.specs.Starts.{has_callback, step_may_run}
 use Rattle.wdf_blame_whole.specs.Owners.{StepsMayRun}
@@ -46,13 +46,6 @@ use Rattle.wdf_ready_once.proofs.Steps.{IsDeclaredStep, steps_declared}
 use Rattle.wdf_blame_whole.proofs.Runs.{Known, known_now, stands_now}
 
 -- ---- the nearest device of what is no device
-
-front_stays : (before : List ℕ) (ns : List Node) (o : ℕ) → o < length before → entry 1 (nearest_devices before ns) o ≡ entry 1 before o
-front_stays before [] o h = refl
-front_stays before (n ∷ ns) o h =
-    let more = length-append before (own_device before (length before) n ∷ []) in
-    front_stays (before ++ own_device before (length before) n ∷ []) ns o (omega arith)
-    ∙ entry_before 1 before (own_device before (length before) n) o (λ e. let z : ⊥ = omega arith in z)
 
 near_at : (before : List ℕ) (ns : List Node) (k : ℕ) → k < length ns → same_kind (entry gone ns k).kind kind.Device ≡ false → (entry gone ns k).parent.0 < length before + k
     → entry 1 (nearest_devices before ns) (length before + k) ≡ entry 1 (nearest_devices before ns) (entry gone ns k).parent.0

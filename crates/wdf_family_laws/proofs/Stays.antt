@@ -5,9 +5,6 @@ use Rattle.wdf_base.specs.declared.plan.Plan.{Plan}
 use Rattle.wdf_base.specs.declared.object.Kind.{Kind}
 use Rattle.wdf_base.specs.declared.object.Kind.TheVariants as kind
 use Rattle.wdf_base.specs.declared.object.Life.TheVariants as life
-use Rattle.wdf_base.specs.declared.object.Place.{Place}
-use Rattle.wdf_base.specs.declared.object.Place.TheVariants as place
-use Rattle.wdf_base.specs.declared.object.RequestInfo.{RequestInfo}
 use Rattle.wdf_base.specs.declared.call.Callback.{Callback}
 use Rattle.wdf_base.specs.declared.call.Callback.TheVariants as callback
 use Rattle.wdf_base.specs.declared.event.Event.{Event}
@@ -22,7 +19,7 @@ use Rattle.wdf_model.specs.parts.Control as control
 use Rattle.wdf_model.specs.State.{State}
 use Rattle.wdf_model.specs.declared.deed.Deed.{Deed}
 use Rattle.wdf_model.specs.declared.deed.Deed.TheVariants.{Create, MakeRequest, Arrive, AskDeletion, Refer, Unrefer, WriteCell, Note, CleanUp, EndLife, Requeue, Forward, GiveBack, SendRequest, CompleteRequest, PurgeQueue, CloseReturning, CloseDevice}
-use Rattle.wdf_model.specs.rules.Deeds.{arrive_at, ask_object, do_deed, give_up}
+use Rattle.wdf_model.specs.rules.Deeds.{ask_object, do_deed, give_up}
 use Rattle.wdf_model.specs.rules.Steps.{after, deeds, may}
 use Rattle.wdf_model.specs.laws.Fits.{fits}
 use Rattle.wdf_model.proofs.Tests.{both_left}
@@ -34,6 +31,7 @@ use Rattle.wdf_invariants.proofs.StillFrames.{asked_there, live_there}
 use Rattle.wdf_agreements.proofs.Keeping.{deeds_keep}
 use Rattle.wdf_agreements.proofs.Stays.{gives_up, gives_up_if, queues_closed, returns_closed, withdraws}
 use Rattle.wdf_agreements.proofs.Lists.{reads_same}
+use Rattle.wdf_agreements.proofs.Readers.{arrived_tree, tree_of}
 
 -- an object was there, with the parent, the kind and the class that it has
 pub record WasAt (T U : Tree) (x : ℕ) : Type 0 where
@@ -102,17 +100,10 @@ noted_kept : (c : Callback) (n : Node) → ((noted c n).life ≡ n.life) × ((no
 noted_kept callback.EvtDestroyCallback n = (refl, refl, refl, refl)
 noted_kept _ n = (refl, refl, refl, refl)
 
-pub arrived : {A : Type 0} (S : State A) (device : ℕ) (info : RequestInfo) (p : Place) → (arrive_at S device info p).tree ≡ tree.arrive S.tree device
-arrived S device info (place.Queued q) = refl
-arrived S device info _ = refl
-
-abbrev tree_of : {A : Type 0} → State A → Tree
-tree_of S = S.tree
-
 pub deed_stays : {A : Type 0} (plan : Plan) (d : Deed) (S : State A) → fits plan d S ≡ true → Stays S.tree (do_deed plan d S).tree
 deed_stays plan (Create k class parent) S f = made S.tree k class parent.0
 deed_stays plan (MakeRequest class parent) S f = made S.tree kind.Made class parent.0
-deed_stays plan (Arrive device info p) S f = subst (λ (V : Tree). Stays S.tree V) (sym (arrived S device.0 info p)) (made S.tree kind.Request 0 device.0)
+deed_stays plan (Arrive device info p) S f = subst (λ (V : Tree). Stays S.tree V) (sym (arrived_tree S device.0 info p)) (made S.tree kind.Request 0 device.0)
 deed_stays plan (AskDeletion o) S f = all_asked (subtree S.tree o.0) S
 deed_stays plan (Refer o) S f = changes S.tree o.0 (λ m. record m { references = m.references + 1 }) refl refl refl refl
 deed_stays plan (Unrefer o) S f = changes S.tree o.0 (λ m. record m { references = m.references - 1 }) refl refl refl refl

@@ -58,7 +58,7 @@ use Rattle.wdf_laws.specs.Signs.{shows}
 use Rattle.wdf_laws.specs.Laws.{is_enabled_in_power, is_entered}
 use Rattle.wdf_family_laws.proofs.Families.{Family}
 use Rattle.wdf_power_laws.specs.Steps.{is_for}
-use Rattle.wdf_power_laws.proofs.Calm.{Calm, deeds_calm, sound_after, sound_before}
+use Rattle.wdf_power_laws.proofs.Calm.{Calm, deeds_calm}
 use Rattle.wdf_power_laws.proofs.Declares.{declares_device, is_power_callback, once_by, own_device_of}
 use Rattle.wdf_power_laws.proofs.Events.{Kept, Staged, enabled_after, not_entry, not_exit, sequence_is, staged}
 use Rattle.wdf_power_laws.proofs.Happens.{end_elsewhere, found_pass, found_run, not_its, not_running, shown_for, stage_allowed, start_silent, taken_pass, taken_run}
@@ -69,6 +69,7 @@ use Rattle.wdf_power_laws.proofs.Standings.{Standing, Watch, owed, passes, safe}
 use Rattle.wdf_power_laws.proofs.Standings as standings
 use Rattle.wdf_power_laws.proofs.Tellings.{enabled_comes, enabled_stays}
 use Rattle.wdf_power_laws.proofs.Unmoved.{event_none, none_moves, start_effect_none, taking_none}
+use Rattle.wdf_agreements.proofs.LevelEvents.{sound_after, sound_before}
 use Rattle.wdf_interrupt_laws.proofs.Queues.{From, deeds_from, event_fine}
 use Rattle.wdf_interrupt_laws.proofs.Quieted.{asked_quieted, ended_quieted, exit_by, is_quieted, not_any, quiet_by, quieted_by, run_quieted}
 

@@ -38,7 +38,7 @@ use Rattle.wdf_model.specs.parts.Locks.{lock_of_callback}
 use Rattle.wdf_model.specs.Ids.{object_id}
 use Rattle.wdf_model.specs.declared.deed.Deed.{Deed}
 use Rattle.wdf_model.specs.declared.deed.Deed.TheVariants.{Arrive, CountArrival, FinishSending, TakeCancel, Withdraw}
-use Rattle.wdf_model.specs.rules.Deeds.{arrive_at, do_deed, do_deeds}
+use Rattle.wdf_model.specs.rules.Deeds.{do_deed, do_deeds}
 use Rattle.wdf_model.specs.rules.Calls.{is_met_then, outcome}
 use Rattle.wdf_model.specs.rules.Starts.{is_ready_for, new_frame, next_number, rank_ready_for}
 use Rattle.wdf_model.specs.rules.Posts.{arrival_deeds, arrival_info, arrival_place, cancel_at, cancel_deeds, cancel_reaches, due_of, post_answer, post_fits}
@@ -61,6 +61,7 @@ use Rattle.wdf_laws.specs.declared.sign.Sign.TheVariants as sign
 use Rattle.wdf_laws.specs.Events.{id_in, is_id, where_so}
 use Rattle.wdf_laws.specs.Signs.{shows}
 use Rattle.wdf_laws.specs.Laws.{is_cancel_due, law_7}
+use Rattle.wdf_agreements.proofs.Readers.{arrived_requests}
 use Rattle.wdf_request_laws.proofs.Happened.{ever_next, never_yet}
 use Rattle.wdf_request_laws.proofs.Happened.{comes}
 use Rattle.wdf_request_laws.proofs.Quiet.{event_none, is_loud_call, is_loud_event}
@@ -169,17 +170,13 @@ complete_event {A} plan m es S r s h g =
 
 -- ---- posts
 
-came : {A : Type 0} (S : State A) (device : ℕ) (info : RequestInfo) (p : Place) → (arrive_at S device info p).requests ≡ requests.arrive S.requests (next_id S.tree) p info
-came S device info (place.Queued q) = refl
-came S device info _ = refl
-
 arrival_still : {A : Type 0} {F B : ℕ → Bool} (plan : Plan) (S : State A) (agent : ℕ) (f : RequestForm) (length code device : ℕ) (b : Bool) → KeptIn F B S
     → StillGoes S.requests (do_deeds plan (CountArrival agent ∷ (if b then Arrive (object_id device) (arrival_info S agent f length code device) (arrival_place plan S f length device) ∷ [] else [])) S).requests
 arrival_still plan S agent f length code device false k = λ m c b x g. g
 arrival_still plan S agent f length code device true k =
     let info : RequestInfo = arrival_info S agent f length code device in
     let p : Place = arrival_place plan S f length device in
-    subst (StillGoes S.requests) (sym (came (do_deed plan (CountArrival agent) S) device info p)) (new_request_comes S.requests (next_id S.tree) p info k.room refl)
+    subst (StillGoes S.requests) (sym (arrived_requests (do_deed plan (CountArrival agent) S) device info p)) (new_request_comes S.requests (next_id S.tree) p info k.room refl)
 
 arrival_event : {A : Type 0} {F B : ℕ → Bool} (plan : Plan) (es : List Event) (S : State A) (e : Event) (agent : ℕ) (f : RequestForm) (length code device : ℕ) → ((x : ℕ) → shows (sign.MarkUndone x) e ≡ false) → ((x : ℕ) → shows (sign.CancelBegins x) e ≡ false)
     → KeptIn F B S → AllGo es S.requests → AllGo (es ++ e ∷ []) (do_deeds plan (arrival_deeds plan S agent f length code device) S).requests

@@ -48,12 +48,13 @@ use Rattle.wdf_laws.specs.Events.{argument_object, is_handler, pair_of, presente
 use Rattle.wdf_laws.specs.Signs.{shows}
 use Rattle.wdf_laws.specs.Words.{ever}
 use Rattle.wdf_laws.specs.Laws.{all_in_turn, is_in_order, is_in_turn, is_presented_in_turn, law_8, presented_at, presented_in}
+use Rattle.wdf_model.proofs.KeptMoves.{queue_here}
 use Rattle.wdf_request_laws.proofs.Happened.{ever_next}
 use Rattle.wdf_request_laws.proofs.Happened.{comes}
 use Rattle.wdf_request_laws.proofs.FirstParts.{did_reads, start_reads}
 use Rattle.wdf_request_laws.proofs.CancelsOverRuns.{started}
 use Rattle.wdf_request_laws.proofs.Gives.{call_of}
-use Rattle.wdf_request_laws.proofs.Lines.{all_more, each_in, first_before, first_passes, found_passes, line_here}
+use Rattle.wdf_request_laws.proofs.Lines.{all_more, each_in, first_before, first_passes, found_passes}
 use Rattle.wdf_request_laws.proofs.Entries.{LineSteps}
 use Rattle.wdf_request_laws.proofs.Orders.{in_order_at_each, next_each, steps_now}
 
@@ -64,7 +65,7 @@ pub record Takes {A : Type 0} (S T : State A) (t : Taking) : Type 0 where
   pub rest : waiting_in T.queues t.queue ≡ drop 1 (waiting_in S.queues t.queue)
 
 taken_from : {A : Type 0} (S T : State A) (q r : ℕ) → same_id (front S.queues q) r ≡ true → T.queues ≡ queues.take S.queues q → Takes S T (record { request = r; queue = q })
-taken_from S T q r h e = record { front = h; rest = ap (λ (Q : Queues). waiting_in Q q) e ∙ line_here S.queues q (drop 1) }
+taken_from S T q r h e = record { front = h; rest = ap (λ (Q : Queues). waiting_in Q q) e ∙ queue_here S.queues q (drop 1) }
 
 none_taken : {X : Type 0} (b : Bool) (t : Taking) (q : Option ℕ) → pair_of (where_so b None) q ≡ Some t → X
 none_taken true t q h = absurd (let z : ⊥ = cc in z)
@@ -146,7 +147,7 @@ did_takes {A} plan m S cpu c v t h is =
     ∙ did_reads (λ (T : State A). T.queues) (λ T L C. refl) plan S cpu.0 d.frame c v (frame_of S.cpus d.frame) ∙ g.taken in
     record {
       front = subst (λ (q : ℕ). same_id (front S.queues q) t.request ≡ true) g.queue g.front;
-      rest = subst (λ (q : ℕ). waiting_in (after plan m S (event.Did cpu c v)).queues q ≡ drop 1 (waiting_in S.queues q)) g.queue (ap (λ (Q : Queues). waiting_in Q (object_in c.a)) same ∙ line_here S.queues (object_in c.a) (drop 1));
+      rest = subst (λ (q : ℕ). waiting_in (after plan m S (event.Did cpu c v)).queues q ≡ drop 1 (waiting_in S.queues q)) g.queue (ap (λ (Q : Queues). waiting_in Q (object_in c.a)) same ∙ queue_here S.queues (object_in c.a) (drop 1));
     }
 
 takes : {A : Type 0} (plan : Plan) (m : Meaning A) (S : State A) (e : Event) (t : Taking) → may plan m S e ≡ true → presented e ≡ Some t → Takes S (after plan m S e) t

@@ -7,8 +7,6 @@ use Rattle.wdf_base.specs.Same.{same_kind}
 use Rattle.wdf_base.specs.Kinds.{declared_kind}
 use Rattle.wdf_base.specs.declared.plan.Plan.{Plan}
 use Rattle.wdf_base.specs.declared.object.Kind.TheVariants as kind
-use Rattle.wdf_base.specs.declared.object.Life.{Life}
-use Rattle.wdf_base.specs.declared.object.Life.TheVariants as life
 use Rattle.wdf_base.specs.declared.declared.Declared.{Declared}
 use Rattle.wdf_base.specs.declared.declared.Declared.TheVariants as declared
 use Rattle.wdf_base.specs.declared.declared.QueueInfo.{QueueInfo}
@@ -16,7 +14,7 @@ use Rattle.wdf_base.specs.declared.event.Event.{Event}
 use Rattle.wdf_model.specs.declared.entries.Node.{Node}
 use Rattle.wdf_model.specs.Tables.{entry}
 use Rattle.wdf_model.specs.Plans.{queue_of}
-use Rattle.wdf_model.specs.parts.Tree.{Tree, gone, is_gone, is_live, kind_of, life_of, made_as, nearest_device, nearest_devices, node_of, own_device, parent_of}
+use Rattle.wdf_model.specs.parts.Tree.{Tree, gone, is_live, kind_of, life_of, made_as, nearest_device, nearest_devices, node_of, own_device, parent_of}
 use Rattle.wdf_model.specs.State.{State, declared_in}
 use Rattle.wdf_model.specs.laws.OverRuns.{DeclaredAgree}
 use Rattle.wdf_model.proofs.Maps.{entry_before, entry_last}
@@ -26,6 +24,7 @@ use Rattle.wdf_agreements.proofs.LivesOver.{Lives}
 use Rattle.wdf_family_laws.proofs.Families.{Family}
 use Rattle.wdf_laws.specs.Laws.{is_managed_of}
 use Rattle.wdf_power_laws.proofs.Declares.{front_stays, is_device, own_device_of}
+use Rattle.wdf_invariants.proofs.StillFrames.{live_there}
 use Rattle.wdf_settled_laws.proofs.Queues.{queue_at}
 
 -- ---- the nearest device of an object that is no device is that of its parent
@@ -107,10 +106,6 @@ device_at (Some (declared.Device i)) h = (declared.Device i, refl, refl)
 device_at None h = absurd (let z : ⊥ = cc in z)
 device_at (Some _) h = absurd (let z : ⊥ = cc in z)
 
-pub not_gone : (l : Life) → is_live l ≡ true → is_gone l ≡ false
-not_gone life.Live h = refl
-not_gone _ h = absurd (let z : ⊥ = cc in z)
-
 is_some_device : (plan : Plan) (d : ℕ) → is_device (declared_of plan d) ≡ true → d ≢ 0
 is_some_device plan d h e = let z : is_device (declared_of plan 0) ≡ true = subst (λ y. is_device (declared_of plan y) ≡ true) e h in let y : ⊥ = cc in y
 
@@ -119,12 +114,12 @@ pub near_queue : {A : Type 0} (plan : Plan) (es : List Event) (S : State A) (q d
 near_queue plan es S q d resolved agree lives family of live =
     let T : Tree = S.tree in
     let at = queue_at (declared_of plan q) d of in
-    let there = family.declared q (declared.Queue at.0) at.1 (not_gone (life_of T q) live) in
+    let there = family.declared q (declared.Queue at.0) at.1 (live_there (life_of T q) live) in
     let above : parent_of T q ≡ d = there.0 ∙ at.2 in
     let device : is_device (declared_of plan d) ≡ true = ap (λ y. is_device (declared_of plan y)) (sym at.2) ∙ belongs plan q at.0 resolved at.1 in
     let up : is_live (life_of T d) ≡ true = subst (λ y. is_live (life_of T y) ≡ true) above (lives.above q live (λ e. is_some_device plan d device (sym above ∙ e))) in
     let info = device_at (declared_of plan d) device in
-    let kind_is : kind_of T d ≡ kind.Device = (family.declared d info.0 info.1 (not_gone (life_of T d) up)).1 ∙ ap (λ k. unwrap_or k kind.General) info.2 in
+    let kind_is : kind_of T d ≡ kind.Device = (family.declared d info.0 info.1 (live_there (life_of T d) up)).1 ∙ ap (λ k. unwrap_or k kind.General) info.2 in
     let declares : is_device (declared_in plan S d) ≡ true = ap (λ k. is_device (made_as plan (node_of T d) d k)) kind_is ∙ device in
     nearest_by T q (inside gone (λ (n : Node). is_live n.life) T.nodes q refl live) (ap (λ k. same_kind k kind.Device) there.1) (lives.older q live)
-    ∙ ap (nearest_device T) above ∙ own_device_of plan S d agree (not_gone (life_of T d) up) declares
+    ∙ ap (nearest_device T) above ∙ own_device_of plan S d agree (live_there (life_of T d) up) declares

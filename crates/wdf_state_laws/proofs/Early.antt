@@ -41,7 +41,8 @@ use Rattle.wdf_agreements.proofs.SoundRuns.{all_sound, known_place}
 use Rattle.wdf_agreements.proofs.Framing.{none_yet, off_it}
 use Rattle.wdf_agreements.proofs.FramesStay.{Begins, FramesGoOn, frames_by}
 use Rattle.wdf_state_laws.specs.States.{FramesBeforeCleanup}
-use Rattle.wdf_state_laws.proofs.Acts.{arrived, live_early, noted_kept, tree_of}
+use Rattle.wdf_agreements.proofs.Readers.{arrived_tree, tree_of}
+use Rattle.wdf_agreements.proofs.Lives.{live_early, noted_kept}
 use Rattle.wdf_state_laws.proofs.Beginnings.{AllEarly, Early, event_early}
 
 -- ---- an object that isn't past its cleanup isn't after a deed, until its cleanup or its end
@@ -80,7 +81,7 @@ others_stay T o x f n h = ap (λ (m : Node). is_past_cleanup m.life) (entry_put_
 early_still : {A : Type 0} (plan : Plan) (d : Deed) (S : State A) (x : ℕ) → (Finishes d x → ⊥) → is_past_cleanup (life_of S.tree x) ≡ false → is_past_cleanup (life_of (do_deed plan d S).tree x) ≡ false
 early_still plan (Create k class parent) S x n h = early_made S.tree k class parent.0 x h
 early_still plan (MakeRequest class parent) S x n h = early_made S.tree kind.Made class parent.0 x h
-early_still plan (Arrive device info p) S x n h = ap (λ T. is_past_cleanup (life_of T x)) (arrived S device.0 info p) ∙ early_made S.tree kind.Request 0 device.0 x h
+early_still plan (Arrive device info p) S x n h = ap (λ T. is_past_cleanup (life_of T x)) (arrived_tree S device.0 info p) ∙ early_made S.tree kind.Request 0 device.0 x h
 early_still plan (AskDeletion o) S x n h = all_asked (subtree S.tree o.0) S x h
 early_still plan (Refer o) S x n h = early_changes S.tree o.0 (λ m. record m { references = m.references + 1 }) refl x h
 early_still plan (Unrefer o) S x n h = early_changes S.tree o.0 (λ m. record m { references = m.references - 1 }) refl x h

@@ -38,7 +38,8 @@ use Rattle.wdf_agreements.proofs.Stays.{gives_up, gives_up_if, queues_closed, re
 use Rattle.wdf_agreements.proofs.Lists.{all_of_kept, inside, reads_same}
 use Rattle.wdf_agreements.proofs.LivesOver.{Lives, lives_at_each}
 use Rattle.wdf_state_laws.specs.States.{ParentsThere}
-use Rattle.wdf_state_laws.proofs.Acts.{arrived, noted_kept, tree_of}
+use Rattle.wdf_agreements.proofs.Readers.{arrived_tree, tree_of}
+use Rattle.wdf_agreements.proofs.Lives.{noted_kept}
 
 -- what isn't gone has no parent, or one that isn't gone
 abbrev pub Kin : Tree → Type 0
@@ -114,7 +115,7 @@ same_tree T U e q = subst Kin (sym e) q
 kin_by : {A : Type 0} (plan : Plan) (d : Deed) (S : State A) → fits plan d S ≡ true → Kin S.tree → Kin (do_deed plan d S).tree
 kin_by plan (Create k class parent) S f q = object_made S.tree k class parent.0 (search both_left) q
 kin_by plan (MakeRequest class parent) S f q = object_made S.tree kind.Made class parent.0 (search both_left) q
-kin_by plan (Arrive device info p) S f q = same_tree _ _ (arrived S device.0 info p) (object_made S.tree kind.Request 0 device.0 (search both_left) q)
+kin_by plan (Arrive device info p) S f q = same_tree _ _ (arrived_tree S device.0 info p) (object_made S.tree kind.Request 0 device.0 (search both_left) q)
 kin_by plan (AskDeletion o) S f q = all_asked (subtree S.tree o.0) S q
 kin_by plan (Refer o) S f q = object_changes S.tree o.0 (λ n. record n { references = n.references + 1 }) refl refl q
 kin_by plan (Unrefer o) S f q = object_changes S.tree o.0 (λ n. record n { references = n.references - 1 }) refl refl q

@@ -11,9 +11,6 @@ use Rattle.wdf_base.specs.declared.declared.Declared.{Declared}
 use Rattle.wdf_base.specs.declared.object.Kind.{Kind}
 use Rattle.wdf_base.specs.declared.object.Kind.TheVariants as kind
 use Rattle.wdf_base.specs.declared.object.Life.TheVariants as life
-use Rattle.wdf_base.specs.declared.object.Place.{Place}
-use Rattle.wdf_base.specs.declared.object.Place.TheVariants as place
-use Rattle.wdf_base.specs.declared.object.RequestInfo.{RequestInfo}
 use Rattle.wdf_base.specs.declared.call.Callback.{Callback}
 use Rattle.wdf_base.specs.declared.call.Callback.TheVariants as callback
 use Rattle.wdf_model.specs.declared.enums.Mode.TheVariants as mode
@@ -28,7 +25,7 @@ use Rattle.wdf_model.specs.parts.Control as control
 use Rattle.wdf_model.specs.State.{State}
 use Rattle.wdf_model.specs.declared.deed.Deed.{Deed}
 use Rattle.wdf_model.specs.declared.deed.Deed.TheVariants.{Create, MakeRequest, Arrive, AskDeletion, Refer, Unrefer, WriteCell, Note, CleanUp, EndLife, Requeue, Forward, GiveBack, SendRequest, CompleteRequest, PurgeQueue, CloseReturning, CloseDevice}
-use Rattle.wdf_model.specs.rules.Deeds.{arrive_at, ask_object, do_deed, do_deeds, give_up}
+use Rattle.wdf_model.specs.rules.Deeds.{ask_object, do_deed, do_deeds, give_up}
 use Rattle.wdf_model.specs.rules.Steps.{after, deeds, may}
 use Rattle.wdf_model.specs.rules.Ready.{IsRunOf, ready, state_after}
 use Rattle.wdf_model.proofs.Runs.{along_run}
@@ -45,7 +42,8 @@ use Rattle.wdf_model.specs.laws.FactsOfEvents.{IsTick}
 use Rattle.wdf_model.proofs.Follows.{follows}
 use Rattle.wdf_model.specs.parts.Tree.{is_gone}
 use Rattle.wdf_agreements.proofs.Keeping.{each_place}
-use Rattle.wdf_agreements.proofs.Keeping.{deeds_keep as keep_deeds}
+use Rattle.wdf_invariants.proofs.Trees.{cleaned_there}
+use Rattle.wdf_agreements.proofs.Readers.{arrived_tree, tree_of}
 use Rattle.wdf_trace_laws.proofs.Lasting.{Past, deed_keeps}
 use Rattle.wdf_model.specs.rules.Steps.{did_deeds}
 use Rattle.wdf_model.proofs.Deletion.{object_live, object_off}
@@ -56,7 +54,7 @@ use Rattle.wdf_laws.specs.declared.sign.Sign.TheVariants as sign
 use Rattle.wdf_laws.specs.Signs.{shows}
 use Rattle.wdf_laws.specs.Words.{ever}
 use Rattle.wdf_trace_laws.proofs.Words.{ever_next}
-use Rattle.wdf_trace_laws.proofs.Ends.{cleaned_there, comes, ends, ends_once}
+use Rattle.wdf_trace_laws.proofs.Ends.{comes, ends, ends_once}
 use Rattle.wdf_base.specs.declared.ids.Cpu.{Cpu}
 use Rattle.wdf_base.specs.declared.call.Arg.{Arg}
 use Rattle.wdf_base.specs.declared.call.Arg.TheVariants.{Val}
@@ -107,17 +105,10 @@ noted_kept : (c : Callback) (n : Node) → (noted c n).references ≡ n.referenc
 noted_kept callback.EvtDestroyCallback n = refl
 noted_kept _ n = refl
 
-arrived : {A : Type 0} (S : State A) (device : ℕ) (info : RequestInfo) (p : Place) → (arrive_at S device info p).tree ≡ tree.arrive S.tree device
-arrived S device info (place.Queued q) = refl
-arrived S device info _ = refl
-
-abbrev tree_of : {A : Type 0} → State A → Tree
-tree_of S = S.tree
-
 deed_same : {A : Type 0} (plan : Plan) (d : Deed) (S : State A) → is_counting d ≡ false → SameRefs S.tree (do_deed plan d S).tree
 deed_same plan (Create k class parent) S f x = made S.tree k class parent.0 x
 deed_same plan (MakeRequest class parent) S f x = made S.tree kind.Made class parent.0 x
-deed_same plan (Arrive device info p) S f x = same_tree _ _ (arrived S device.0 info p) x ∙ made S.tree kind.Request 0 device.0 x
+deed_same plan (Arrive device info p) S f x = same_tree _ _ (arrived_tree S device.0 info p) x ∙ made S.tree kind.Request 0 device.0 x
 deed_same plan (AskDeletion o) S f x = all_asked (subtree S.tree o.0) S x
 deed_same plan (Refer o) S f x = absurd (let z : ⊥ = cc in z)
 deed_same plan (Unrefer o) S f x = absurd (let z : ⊥ = cc in z)
