@@ -41,7 +41,7 @@ use Rattle.wdf_model.specs.rules.Calls.{is_met_then}
 use Rattle.wdf_model.specs.laws.FactsOfEvents.{IsTick}
 use Rattle.wdf_model.proofs.Follows.{follows}
 use Rattle.wdf_model.specs.parts.Tree.{is_gone}
-use Rattle.wdf_agreements.proofs.Keeping.{each_place}
+use Rattle.wdf_agreements.proofs.Keeping.{deeds_keep as keep_deeds, each_place}
 use Rattle.wdf_invariants.proofs.Trees.{cleaned_there}
 use Rattle.wdf_agreements.proofs.Readers.{arrived_tree, tree_of}
 use Rattle.wdf_trace_laws.proofs.Lasting.{Past, deed_keeps}
