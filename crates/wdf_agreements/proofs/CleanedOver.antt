@@ -9,18 +9,14 @@ use Rattle.wdf_base.specs.declared.object.Kind.TheVariants as kind
 use Rattle.wdf_base.specs.declared.object.Life.{Life}
 use Rattle.wdf_base.specs.declared.object.Life.TheVariants as life
 use Rattle.wdf_base.specs.declared.declared.Declared.{Declared}
-use Rattle.wdf_model.specs.declared.enums.Mode.TheVariants as mode
 use Rattle.wdf_model.specs.declared.entries.Node.{Node}
 use Rattle.wdf_model.specs.Tables.{entry}
-use Rattle.wdf_model.specs.Plans.{managed_queues, queues_of}
 use Rattle.wdf_model.specs.parts.Tree.{Tree, children, declared_node, gone, is_child, is_cleaned, is_gone, is_live, is_past_cleanup, life_of, may_clean, new_node, next_id, node_of, noted, opening_tree, parent_of, subtree, with_life, with_node}
 use Rattle.wdf_model.specs.parts.Tree as tree
 use Rattle.wdf_model.specs.parts.Requests as requests
-use Rattle.wdf_model.specs.parts.Queues.{waiting_in}
-use Rattle.wdf_model.specs.parts.Control as control
 use Rattle.wdf_model.specs.State.{State}
 use Rattle.wdf_model.specs.declared.deed.Deed.{Deed}
-use Rattle.wdf_model.specs.declared.deed.Deed.TheVariants.{Create, MakeRequest, Arrive, AskDeletion, Refer, Unrefer, WriteCell, Note, CleanUp, EndLife, Requeue, Forward, GiveBack, SendRequest, CompleteRequest, PurgeQueue, CloseReturning, CloseDevice}
+use Rattle.wdf_model.specs.declared.deed.Deed.TheVariants.{Create, MakeRequest, Arrive, AskDeletion, Refer, Unrefer, WriteCell, Note, CleanUp, EndLife, CompleteRequest}
 use Rattle.wdf_model.specs.rules.Deeds.{ask_object, do_deed, give_up}
 use Rattle.wdf_model.specs.rules.Starts.{clean_ready}
 use Rattle.wdf_model.specs.rules.Steps.{deeds}
@@ -33,10 +29,11 @@ use Rattle.wdf_model.proofs.Deletion.{object_live, object_off}
 use Rattle.wdf_model.proofs.FitsOfEvents.{event_fits}
 use Rattle.wdf_agreements.specs.Agreements.{CleanedInOrder}
 use Rattle.wdf_agreements.proofs.Keeping.{deeds_keep, each_place}
-use Rattle.wdf_agreements.proofs.Stays.{gives_up, gives_up_if, queues_closed, returns_closed, withdraws}
+use Rattle.wdf_agreements.proofs.Stays.{gives_up}
 use Rattle.wdf_agreements.proofs.Lists.{all_of_kept, inside, reads_same}
 use Rattle.wdf_agreements.proofs.Readers.{arrived_tree, tree_of}
 use Rattle.wdf_agreements.proofs.Lives.{asked_early, noted_kept}
+use Rattle.wdf_agreements.proofs.TreeStays.{tree_stays}
 
 -- what isn't past its cleanup has no cleaned parent
 abbrev pub InOrder : Tree → Type 0
@@ -153,16 +150,9 @@ deed_keeps plan (Note o c) S f q =
     object_changes S.tree o.0 (noted c) (ap is_past_cleanup k.0) (ap is_cleaned k.0) k.1 q
 deed_keeps plan (CleanUp o) S f q = cleaned S.tree o.0 (may_clean_at S o.0 f) q
 deed_keeps plan (EndLife o) S f q = ended S.tree o.0 q
-deed_keeps plan (Requeue r p) S f q = same_tree _ _ (gives_up tree_of (λ S Q R P. refl) S r.0) q
-deed_keeps plan (Forward r p) S f q = same_tree _ _ (gives_up tree_of (λ S Q R P. refl) S r.0) q
-deed_keeps plan (GiveBack r p) S f q = same_tree _ _ (gives_up tree_of (λ S Q R P. refl) S r.0) q
-deed_keeps plan (SendRequest r t forget) S f q = same_tree _ _ (gives_up_if tree_of (λ S Q R P. refl) S forget r.0) q
 deed_keeps plan (CompleteRequest r) S f q =
     all_asked (subtree (give_up S r.0).tree r.0) (record (give_up S r.0) { requests = requests.complete S.requests r.0 }) (same_tree _ _ (gives_up tree_of (λ S Q R P. refl) S r.0) q)
-deed_keeps plan (PurgeQueue p) S f q = same_tree _ _ (withdraws tree_of (λ S Q R P. refl) plan p.0 (waiting_in S.queues p.0) (record S { control = control.set_mode S.control p.0 mode.Purged })) q
-deed_keeps plan (CloseReturning d) S f q = same_tree _ _ (returns_closed tree_of (λ S Q R P. refl) (managed_queues plan d.0) S) q
-deed_keeps plan (CloseDevice d) S f q = same_tree _ _ (queues_closed tree_of (λ S Q R P. refl) (queues_of plan d.0) (record S { control = control.shut S.control d.0 })) q
-deed_keeps plan _ S f q = q
+deed_keeps plan d S f q = same_tree _ _ (tree_stays plan d S refl) q
 
 -- ---- the opening, and each place of a run
 

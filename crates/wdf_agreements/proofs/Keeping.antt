@@ -1,5 +1,5 @@
 -- What the opening has and each event keeps is so at each place of every run.
-use Rattle.std.proofs.Common.{◌≡◌, ℕ, ◌+◌, ◌≤◌, true, List, [], ◌∷◌, ◌⊎◌, inl, inr, length, take, sym, subst}
+use Rattle.std.proofs.Common.{◌≡◌, ℕ, ◌+◌, ◌≤◌, true, List, [], ◌∷◌, ◌⊎◌, inl, inr, length, take, sym, subst, Some, slice_get}
 use Rattle.std.proofs.Math.Seq.{take-length}
 use Rattle.wdf_base.specs.Meaning.{Meaning}
 use Rattle.wdf_base.specs.declared.plan.Plan.{Plan}
@@ -13,6 +13,7 @@ use Rattle.wdf_model.specs.rules.Ready.{IsRunOf, ready, state_after}
 use Rattle.wdf_model.specs.laws.FactsOfEvents.{IsTick}
 use Rattle.wdf_model.specs.laws.Fits.{all_fit, fits}
 use Rattle.wdf_model.specs.laws.OverRuns.{DeclaredAgree, FramesAgree, PlacesAgree}
+use Rattle.wdf_model.specs.Runs.{IsRun}
 use Rattle.wdf_model.proofs.Runs.{along_run}
 use Rattle.wdf_model.proofs.Tests.{both_left, both_right}
 use Rattle.wdf_model.proofs.Follows.{follows, state_goes_on}
@@ -79,3 +80,12 @@ deeds_keep plan Q keeps [] S h q = q
 deeds_keep plan Q keeps (d ∷ ds) S h q =
     deeds_keep plan Q keeps ds (do_deed plan d S) (both_right (fits plan d S) (all_fit plan ds (do_deed plan d S)) h)
     (keeps d S (both_left (fits plan d S) (all_fit plan ds (do_deed plan d S)) h) q)
+
+-- an event that isn't a tick may come
+pub comes : {A : Type 0} (plan : Plan) (m : Meaning A) (run : List Event) (k : ℕ) (e : Event) → IsRunOf plan m run → slice_get run k ≡ Some e → ((time : ℕ) → e ≡ event.Tick time → ⊥)
+    → may plan m (state_after plan m (take k run)) e ≡ true
+unfolding IsRun
+comes plan m run k e is_run at no_tick = elim (follows plan m (take k run) (is_run k e at).0 e (is_run k e at).1) [
+  | inl h ↦ h
+  | inr t ↦ absurd (no_tick _ t.tick)
+]

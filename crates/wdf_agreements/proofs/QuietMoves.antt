@@ -52,6 +52,7 @@ use Rattle.wdf_agreements.proofs.Leveled.{EarlyIfCalled, IsEarly, Leveled, await
 use Rattle.wdf_agreements.proofs.QuietDeeds.{all_quiet, is_quiet_deed}
 use Rattle.wdf_agreements.proofs.Readers.{cpus_of, tree_of}
 use Rattle.wdf_agreements.proofs.Lives.{early_there, noted_life}
+use Rattle.wdf_agreements.proofs.TreeStays.{tree_stays}
 
 abbrev pub LeveledIn : {A : Type 0} → Plan → State A → Type 0
 LeveledIn plan S = Leveled plan S.cpus S.locks S.tree
@@ -115,16 +116,9 @@ deed_early plan (WriteCell o k v) S f x n h = early_changes S.tree o.0 (λ m. re
 deed_early plan (Note o c) S f x n h = early_changes S.tree o.0 (noted c) (ap is_past_cleanup (noted_life c (node_of S.tree o.0))) x h
 deed_early plan (CleanUp o) S f x n h = ap (λ (m : Node). is_past_cleanup m.life) (entry_put_other gone S.tree.nodes o.0 x (with_life life.Cleaned (node_of S.tree o.0)) n) ∙ h
 deed_early plan (EndLife o) S f x n h = ap (λ (m : Node). is_past_cleanup m.life) (entry_put_other gone S.tree.nodes o.0 x gone (ended_apart S o.0 x f h)) ∙ h
-deed_early plan (Requeue r p) S f x n h = same_early _ _ x (gives_up tree_of (λ S Q R P. refl) S r.0) h
-deed_early plan (Forward r p) S f x n h = same_early _ _ x (gives_up tree_of (λ S Q R P. refl) S r.0) h
-deed_early plan (GiveBack r p) S f x n h = same_early _ _ x (gives_up tree_of (λ S Q R P. refl) S r.0) h
-deed_early plan (SendRequest r t forget) S f x n h = same_early _ _ x (gives_up_if tree_of (λ S Q R P. refl) S forget r.0) h
 deed_early plan (CompleteRequest r) S f x n h =
     all_asked (subtree (give_up S r.0).tree r.0) (record (give_up S r.0) { requests = requests.complete S.requests r.0 }) x (same_early _ _ x (gives_up tree_of (λ S Q R P. refl) S r.0) h)
-deed_early plan (PurgeQueue p) S f x n h = same_early _ _ x (withdraws tree_of (λ S Q R P. refl) plan p.0 (waiting_in S.queues p.0) (record S { control = control.set_mode S.control p.0 mode.Purged })) h
-deed_early plan (CloseReturning d) S f x n h = same_early _ _ x (returns_closed tree_of (λ S Q R P. refl) (managed_queues plan d.0) S) h
-deed_early plan (CloseDevice d) S f x n h = same_early _ _ x (queues_closed tree_of (λ S Q R P. refl) (queues_of plan d.0) (record S { control = control.shut S.control d.0 })) h
-deed_early plan _ S f x n h = h
+deed_early plan d S f x n h = same_early _ _ x (tree_stays plan d S refl) h
 
 -- ---- processors and locks that stay
 

@@ -4,27 +4,24 @@ use Rattle.wdf_base.specs.declared.plan.Plan.{Plan}
 use Rattle.wdf_base.specs.declared.object.Kind.{Kind}
 use Rattle.wdf_base.specs.declared.object.Kind.TheVariants as kind
 use Rattle.wdf_base.specs.declared.object.Life.TheVariants as life
-use Rattle.wdf_model.specs.declared.enums.Mode.TheVariants as mode
 use Rattle.wdf_model.specs.declared.entries.Node.{Node}
-use Rattle.wdf_model.specs.Plans.{managed_queues, queues_of}
 use Rattle.wdf_model.specs.parts.Tree.{Tree, class_of, gone, is_asked, is_gone, is_live, kind_of, life_of, new_node, next_id, node_of, noted, subtree, with_life, with_node}
 use Rattle.wdf_model.specs.parts.Tree as tree
 use Rattle.wdf_model.specs.parts.Requests as requests
-use Rattle.wdf_model.specs.parts.Queues.{waiting_in}
-use Rattle.wdf_model.specs.parts.Control as control
 use Rattle.wdf_model.specs.State.{State}
 use Rattle.wdf_model.specs.declared.deed.Deed.{Deed}
-use Rattle.wdf_model.specs.declared.deed.Deed.TheVariants.{Create, MakeRequest, Arrive, AskDeletion, Refer, Unrefer, WriteCell, Note, CleanUp, EndLife, Requeue, Forward, GiveBack, SendRequest, CompleteRequest, PurgeQueue, CloseReturning, CloseDevice}
+use Rattle.wdf_model.specs.declared.deed.Deed.TheVariants.{Create, MakeRequest, Arrive, AskDeletion, Refer, Unrefer, WriteCell, Note, CleanUp, EndLife, CompleteRequest}
 use Rattle.wdf_model.specs.rules.Deeds.{ask_object, do_deed, give_up}
 use Rattle.wdf_model.specs.laws.Fits.{fits}
 use Rattle.wdf_model.proofs.Tests.{both_left}
 use Rattle.wdf_model.proofs.Maps.{entry_before, entry_past, entry_put_other}
 use Rattle.wdf_model.proofs.Deletion.{object_live, object_off}
 use Rattle.wdf_invariants.proofs.StillFrames.{asked_there, live_there}
-use Rattle.wdf_agreements.proofs.Stays.{gives_up, gives_up_if, queues_closed, returns_closed, withdraws}
+use Rattle.wdf_agreements.proofs.Stays.{gives_up}
 use Rattle.wdf_agreements.proofs.Lists.{reads_same}
 use Rattle.wdf_agreements.proofs.Readers.{arrived_tree, tree_of}
 use Rattle.wdf_agreements.proofs.Lives.{noted_same}
+use Rattle.wdf_agreements.proofs.TreeStays.{tree_stays}
 
 -- an object that is there is there still, and what it was
 pub record StaysAt (T U : Tree) (x : ℕ) : Type 0 where
@@ -87,14 +84,7 @@ deed_there plan (CleanUp o) S f x n h =
     let asked : is_asked (life_of S.tree o.0) ≡ true = search both_left in
     there_changes S.tree o.0 (with_life life.Cleaned) (sym (asked_there (life_of S.tree o.0) asked)) refl refl x h
 deed_there plan (EndLife o) S f x n h = ends_object S.tree o.0 x n h
-deed_there plan (Requeue r p) S f x n h = there_same _ _ (gives_up tree_of (λ S Q R P. refl) S r.0) x h
-deed_there plan (Forward r p) S f x n h = there_same _ _ (gives_up tree_of (λ S Q R P. refl) S r.0) x h
-deed_there plan (GiveBack r p) S f x n h = there_same _ _ (gives_up tree_of (λ S Q R P. refl) S r.0) x h
-deed_there plan (SendRequest r t forget) S f x n h = there_same _ _ (gives_up_if tree_of (λ S Q R P. refl) S forget r.0) x h
 deed_there plan (CompleteRequest r) S f x n h =
     there_then S.tree (give_up S r.0).tree _ (there_same _ _ (gives_up tree_of (λ S Q R P. refl) S r.0))
     (all_asked (subtree (give_up S r.0).tree r.0) (record (give_up S r.0) { requests = requests.complete S.requests r.0 })) x h
-deed_there plan (PurgeQueue p) S f x n h = there_same _ _ (withdraws tree_of (λ S Q R P. refl) plan p.0 (waiting_in S.queues p.0) (record S { control = control.set_mode S.control p.0 mode.Purged })) x h
-deed_there plan (CloseReturning d) S f x n h = there_same _ _ (returns_closed tree_of (λ S Q R P. refl) (managed_queues plan d.0) S) x h
-deed_there plan (CloseDevice d) S f x n h = there_same _ _ (queues_closed tree_of (λ S Q R P. refl) (queues_of plan d.0) (record S { control = control.shut S.control d.0 })) x h
-deed_there plan _ S f x n h = record { there = h; kind = refl; class = refl }
+deed_there plan d S f x n h = there_same _ _ (tree_stays plan d S refl) x h

@@ -1,5 +1,5 @@
 -- A frame on a processor, or parked in a call, always has a cause; the top one waits in a call.
-use Rattle.std.proofs.Common.{◌≡◌, inl, ℕ, zero, suc, ◌+◌, ◌==◌, ◌<◌, Bool, true, false, not, ◌||◌, List, [], ◌∷◌, ◌++◌, Option, Some, None, is_some, filter, length, refl, sym, ap, ◌∙◌, arith, rules, take_while, slice_get, nat_lt, inr, option_map}
+use Rattle.std.proofs.Common.{◌≡◌, inl, ℕ, zero, suc, ◌+◌, ◌==◌, ◌<◌, Bool, true, false, not, ◌||◌, List, [], ◌∷◌, ◌++◌, Option, Some, None, is_some, filter, length, refl, sym, ap, ◌∙◌, arith, rules, take_while, nat_lt, inr, option_map}
 use Rattle.std.specs.Bool.{Decides}
 use Rattle.std.specs.List.{flat_map, list_any, range_with_len, list_all}
 use Rattle.std.proofs.lemmas.List.Sums.{length-filter}
@@ -54,11 +54,11 @@ use Rattle.wdf_model.proofs.Sames.{call_kind_decides, callback_decides, handle_d
 use Rattle.wdf_invariants.proofs.Holding.{HoldsIn, is_from}
 use Rattle.wdf_invariants.proofs.Totals.{same_total}
 use Rattle.wdf_invariants.proofs.HeldOverRuns.{from_by, holds_at_each}
-use Rattle.wdf_blame.proofs.Members.{Has, has_back, has_front, has_range, none_passes}
+use Rattle.wdf_blame.proofs.Members.{Has, at_of, has_back, has_front, has_range, none_passes}
 use Rattle.wdf_blame.proofs.Endings.{AtRest, at_rest, at_the_end, may_not}
 use Rattle.wdf_blame.proofs.Gives.{any_has}
 use Rattle.wdf_blame.proofs.Forms.{while_on}
-use Rattle.wdf_blame.proofs.Needs.{free_one, none_map, cpu_group, free_hold, front_none, none_first, none_if, none_least, none_there, placed_at, some_or}
+use Rattle.wdf_blame.proofs.Needs.{below_cpus, cpu_group, free_hold, free_one, front_none, none_first, none_if, none_least, none_map, none_there, placed_at, some_or}
 use Rattle.wdf_blame.proofs.Conjuncts.{four, three}
 
 -- ---- an event is itself
@@ -272,23 +272,6 @@ running_named plan m S rest held f h none =
     (none_first (pending_cause plan S (frame_of S.cpus f).pending) (cause_if (parked_for_cpu plan S f) cause.NoCpu ∷ []) one.1).0
 
 -- ---- parked frames
-
--- where an id is in a list
-record At (f : ℕ) (xs : List ℕ) : Type 0 where
-  place : ℕ
-  low : place < length xs
-  is : slice_get xs place ≡ Some f
-
-at_by : (f x : ℕ) (xs : List ℕ) (b : Bool) → (x == f) ≡ b → contains f (x ∷ xs) ≡ true → (contains f xs ≡ true → At f xs) → At f (x ∷ xs)
-at_by f x xs true e h rest = record { place = 0; low = omega arith; is = ap Some (grind (arith, nat_tests)) }
-at_by f x xs false e h rest = let more = rest (rw e at h) in record { place = suc more.place; low = let less : more.place < length xs = more.low in omega arith; is = more.is }
-
-at_of : (f : ℕ) (xs : List ℕ) → contains f xs ≡ true → At f xs
-at_of f [] h = absurd (let z : ⊥ = cc in z)
-at_of f (x ∷ xs) h = at_by f x xs (x == f) refl h (at_of f xs)
-
-below_cpus : (cpu n : ℕ) → cpu < n → nat_lt cpu n ≡ true
-below_cpus cpu n h = grind (arith, nat_tests)
 
 unpark_waits : {A : Type 0} (plan : Plan) (m : Meaning A) (S : State A) → AtRest plan m S true → (f cpu : ℕ) → cpu < plan.cpus → contains f S.cpus.parked ≡ true → is_empty_cpu S.cpus cpu ≡ true → wait_is_over S (frame_of S.cpus f).pending ≡ true → ⊥
 unpark_waits plan m S rest f cpu low parked empty over =

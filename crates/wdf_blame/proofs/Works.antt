@@ -15,7 +15,7 @@ use Rattle.wdf_model.specs.State.{State, declared_in, handle_in}
 use Rattle.wdf_model.specs.rules.Starts.{level_fits}
 use Rattle.wdf_model.specs.rules.Waits.{cause_if, no_cpu}
 use Rattle.wdf_model.proofs.Tests.{both, both_left, both_right, itself, not_false}
-use Rattle.wdf_blame.proofs.Members.{Has}
+use Rattle.wdf_blame.proofs.Members.{Has, at_of}
 use Rattle.wdf_base.specs.Meaning.{Meaning}
 use Rattle.wdf_base.specs.declared.event.Event.{Event}
 use Rattle.wdf_base.specs.declared.event.Event.TheVariants as event
@@ -29,7 +29,6 @@ use Rattle.wdf_model.specs.rules.Steps.{may}
 use Rattle.wdf_blame.proofs.Members.{has_flat}
 use Rattle.wdf_blame.proofs.Endings.{AtRest, may_not}
 use Rattle.wdf_model.specs.declared.entries.Timed.{Timed}
-use Rattle.wdf_model.specs.Tables.{contains}
 use Rattle.wdf_model.specs.parts.Tree.{is_live}
 use Rattle.wdf_model.specs.parts.Deferred.Dpcs.{is_dpc_queued}
 use Rattle.wdf_model.specs.parts.Deferred.Timers.{is_reached, timer_due}
@@ -41,19 +40,6 @@ use Rattle.wdf_blame.proofs.Needs.{below_cpus, cpu_group, free_one, none_first, 
 use Rattle.wdf_blame.proofs.Conjuncts.{five, four}
 
 -- ---- places
-
-record Place_of (o : ℕ) (xs : List ℕ) : Type 0 where
-  place : ℕ
-  low : place < length xs
-  is : slice_get xs place ≡ Some o
-
-at_by : (o x : ℕ) (xs : List ℕ) (b : Bool) → (x == o) ≡ b → contains o (x ∷ xs) ≡ true → (contains o xs ≡ true → Place_of o xs) → Place_of o (x ∷ xs)
-at_by o x xs true e h rest = record { place = 0; low = omega arith; is = ap Some (grind (arith, nat_tests)) }
-at_by o x xs false e h rest = let more = rest (rw e at h) in record { place = suc more.place; low = let less : more.place < length xs = more.low in omega arith; is = more.is }
-
-at_of : (o : ℕ) (xs : List ℕ) → contains o xs ≡ true → Place_of o xs
-at_of o [] h = absurd (let z : ⊥ = cc in z)
-at_of o (x ∷ xs) h = at_by o x xs (x == o) refl h (at_of o xs)
 
 record Place_of_timer (o : ℕ) (ts : List Timed) : Type 0 where
   place : ℕ

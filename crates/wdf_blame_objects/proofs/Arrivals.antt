@@ -7,19 +7,15 @@ use Rattle.wdf_base.specs.declared.object.Kind.{Kind}
 use Rattle.wdf_base.specs.declared.object.Kind.TheVariants as kind
 use Rattle.wdf_base.specs.declared.object.Life.TheVariants as life
 use Rattle.wdf_base.specs.Same.{same_kind}
-use Rattle.wdf_model.specs.declared.enums.Mode.TheVariants as mode
 use Rattle.wdf_model.specs.declared.entries.Node.{Node}
 use Rattle.wdf_model.specs.declared.entries.Request.{Request}
-use Rattle.wdf_model.specs.Plans.{managed_queues, queues_of}
 use Rattle.wdf_model.specs.parts.Tree.{Tree, gone, is_full, is_live, kind_of, life_of, new_node, next_id, node_of, noted, parent_of, subtree, with_life, with_node}
 use Rattle.wdf_model.specs.parts.Tree as tree
-use Rattle.wdf_model.specs.parts.Control as control
-use Rattle.wdf_model.specs.parts.Queues.{waiting_in}
 use Rattle.wdf_model.specs.parts.Requests.{Requests, info_of}
 use Rattle.wdf_model.specs.parts.Requests as requests
 use Rattle.wdf_model.specs.State.{State}
 use Rattle.wdf_model.specs.declared.deed.Deed.{Deed}
-use Rattle.wdf_model.specs.declared.deed.Deed.TheVariants.{Arrive, AskDeletion, CleanUp, CloseDevice, CloseReturning, CompleteRequest, Create, EndLife, Forward, GiveBack, MakeRequest, Note, PurgeQueue, Refer, Requeue, SendRequest, Unrefer, WriteCell}
+use Rattle.wdf_model.specs.declared.deed.Deed.TheVariants.{Arrive, AskDeletion, CleanUp, CompleteRequest, Create, EndLife, MakeRequest, Note, Refer, Unrefer, WriteCell}
 use Rattle.wdf_model.specs.rules.Deeds.{ask_object, do_deed, give_up}
 use Rattle.wdf_model.specs.rules.Faults.{is_never_deleted, is_request_kind}
 use Rattle.wdf_model.specs.laws.Fits.{fits}
@@ -30,9 +26,10 @@ use Rattle.wdf_model.proofs.Deletion.{object_live, object_off}
 use Rattle.wdf_model.proofs.Kept.{is_request}
 use Rattle.wdf_model.proofs.KeptByDeeds.{is_arrival}
 use Rattle.wdf_agreements.proofs.Lists.{reads_same}
-use Rattle.wdf_agreements.proofs.Stays.{gives_up, gives_up_if, queues_closed, returns_closed, withdraws}
+use Rattle.wdf_agreements.proofs.Stays.{gives_up}
 use Rattle.wdf_agreements.proofs.ArrivedStay.{arrival_in, arrived_stay}
 use Rattle.wdf_agreements.proofs.Readers.{tree_of}
+use Rattle.wdf_agreements.proofs.TreeStays.{tree_stays}
 
 -- ---- devices
 
@@ -112,14 +109,7 @@ parents_stay plan (Note o c) S h f = let k = noted_kept c (node_of S.tree o.0) i
 parents_stay plan (CleanUp o) S h f = node_changes S.tree o.0 (with_life life.Cleaned) refl refl
 parents_stay plan (EndLife o) S h f = object_ended S.tree o.0
 parents_stay plan (AskDeletion o) S h f = all_asked (subtree S.tree o.0) S
-parents_stay plan (Requeue r q) S h f = same_tree _ _ (gives_up tree_of (λ S Q R P. refl) S r.0)
-parents_stay plan (Forward r q) S h f = same_tree _ _ (gives_up tree_of (λ S Q R P. refl) S r.0)
-parents_stay plan (GiveBack r q) S h f = same_tree _ _ (gives_up tree_of (λ S Q R P. refl) S r.0)
-parents_stay plan (SendRequest r t forget) S h f = same_tree _ _ (gives_up_if tree_of (λ S Q R P. refl) S forget r.0)
 parents_stay plan (CompleteRequest r) S h f =
     tree_then S.tree (give_up S r.0).tree (do_deed plan (CompleteRequest r) S).tree (same_tree S.tree (give_up S r.0).tree (gives_up tree_of (λ S Q R P. refl) S r.0))
     (all_asked (subtree (give_up S r.0).tree r.0) (record (give_up S r.0) { requests = requests.complete S.requests r.0 }))
-parents_stay plan (PurgeQueue q) S h f = same_tree _ _ (withdraws tree_of (λ S Q R P. refl) plan q.0 (waiting_in S.queues q.0) (record S { control = control.set_mode S.control q.0 mode.Purged }))
-parents_stay plan (CloseReturning d) S h f = same_tree _ _ (returns_closed tree_of (λ S Q R P. refl) (managed_queues plan d.0) S)
-parents_stay plan (CloseDevice d) S h f = same_tree _ _ (queues_closed tree_of (λ S Q R P. refl) (queues_of plan d.0) (record S { control = control.shut S.control d.0 }))
-parents_stay plan _ S h f = same_tree S.tree S.tree refl
+parents_stay plan d S h f = same_tree _ _ (tree_stays plan d S refl)

@@ -26,8 +26,8 @@ use Rattle.wdf_model.specs.rules.Ready.{IsRunOf, state_after}
 use Rattle.wdf_model.proofs.Maps.{entry_map}
 use Rattle.wdf_model.proofs.Tests.{both_right}
 use Rattle.wdf_agreements.proofs.SoundRuns.{sound_place}
-use Rattle.wdf_agreements.proofs.Stays.{asks_all}
-use Rattle.wdf_queue_power_laws.proofs.Resuming.{blank_queue, closed, is_advance, is_resuming, none_more_by, noted, returned, undeclared, withdrawn}
+use Rattle.wdf_agreements.proofs.Stays.{asks_all, closed_power, returning_power, withdrawn_power}
+use Rattle.wdf_queue_power_laws.proofs.Resuming.{blank_queue, is_advance, is_resuming, none_more_by, noted, undeclared}
 use Rattle.wdf_power_laws.proofs.Runs.{mapped}
 use Rattle.wdf_agreements.proofs.Readers.{arrived_power, power_of}
 
@@ -67,9 +67,9 @@ still_noted plan (CompleteRequest r) S =
     ap (λ (P : Power). P.queues) (asks_all power_of (λ S T D W U. refl) (subtree (give_up S r.0).tree r.0) (record (give_up S r.0) { requests = requests.complete S.requests r.0 })) ∙ given S r.0
 still_noted plan (Arrive device info p) S = ap (λ (P : Power). P.queues) (arrived_power S device.0 info p)
 still_noted plan (AskDeletion o) S = ap (λ (P : Power). P.queues) (asks_all power_of (λ S T D W U. refl) (subtree S.tree o.0) S)
-still_noted plan (PurgeQueue q) S = ap (λ (P : Power). P.queues) (withdrawn plan q.0 (waiting_in S.queues q.0) (record S { control = control.set_mode S.control q.0 mode.Purged }))
-still_noted plan (CloseReturning d) S = ap (λ (P : Power). P.queues) (returned (managed_queues plan d.0) S)
-still_noted plan (CloseDevice d) S = ap (λ (P : Power). P.queues) (closed (queues_of plan d.0) (record S { control = control.shut S.control d.0 }))
+still_noted plan (PurgeQueue q) S = ap (λ (P : Power). P.queues) (withdrawn_power plan q.0 (waiting_in S.queues q.0) (record S { control = control.set_mode S.control q.0 mode.Purged }))
+still_noted plan (CloseReturning d) S = ap (λ (P : Power). P.queues) (returning_power (managed_queues plan d.0) S)
+still_noted plan (CloseDevice d) S = ap (λ (P : Power). P.queues) (closed_power (queues_of plan d.0) (record S { control = control.shut S.control d.0 }))
 still_noted plan (AdvancePower d (step.Pass s i)) S = advanced S.power d.0 s
 still_noted plan _ S = refl
 

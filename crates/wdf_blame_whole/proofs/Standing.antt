@@ -49,6 +49,7 @@ use Rattle.wdf_blame_whole.specs.Standing.{IsOver, is_live_device, is_part, is_p
 use Rattle.wdf_agreements.proofs.Subtrees.{live_unasked, unasked_stays}
 use Rattle.wdf_agreements.proofs.Readers.{arrived_tree, tree_of}
 use Rattle.wdf_agreements.proofs.Lives.{asked_off, cleaned_off, noted_kept}
+use Rattle.wdf_agreements.proofs.TreeStays.{tree_stays}
 use Rattle.wdf_blame_whole.proofs.Lasting.{Lasts, lasts_asked, lasts_ended, lasts_taken}
 use Rattle.wdf_blame_whole.proofs.Opened.{ArrivesWell, Opened, is_undone_request, opened_asked, opened_by, opened_completed}
 
@@ -171,14 +172,7 @@ lives_by plan (CleanUp o) S n f =
     let waits : is_asked (life_of S.tree o.0) ≡ true = search both_left in
     stay_changed S.tree o.0 (with_life life.Cleaned) (asked_off (life_of S.tree o.0) waits) (sym (asked_there (life_of S.tree o.0) waits)) refl
 lives_by plan (EndLife o) S n f = let done : is_cleaned (life_of S.tree o.0) ≡ true = search both_left in stay_ended S.tree o.0 done
-lives_by plan (Requeue r p) S n f = stay_same _ _ (gives_up tree_of (λ S Q R P. refl) S r.0)
-lives_by plan (Forward r p) S n f = stay_same _ _ (gives_up tree_of (λ S Q R P. refl) S r.0)
-lives_by plan (GiveBack r p) S n f = stay_same _ _ (gives_up tree_of (λ S Q R P. refl) S r.0)
-lives_by plan (SendRequest r t forget) S n f = stay_same _ _ (gives_up_if tree_of (λ S Q R P. refl) S forget r.0)
-lives_by plan (PurgeQueue p) S n f = stay_same _ _ (withdraws tree_of (λ S Q R P. refl) plan p.0 (waiting_in S.queues p.0) (record S { control = control.set_mode S.control p.0 mode.Purged }))
-lives_by plan (CloseReturning d) S n f = stay_same _ _ (returns_closed tree_of (λ S Q R P. refl) (managed_queues plan d.0) S)
-lives_by plan (CloseDevice d) S n f = stay_same _ _ (queues_closed tree_of (λ S Q R P. refl) (queues_of plan d.0) (record S { control = control.shut S.control d.0 }))
-lives_by plan _ S n f = stay_same S.tree S.tree refl
+lives_by plan d S n f = stay_same _ _ (tree_stays plan d S refl)
 
 -- ---- the steps of devices
 

@@ -71,13 +71,16 @@ opening_works plan m = record {
   timers = λ o h. absurd (let z : ⊥ = cc in z);
 }
 
-record KnownToo {A : Type 0} (plan : Plan) (S : State A) : Type 0 where
-  known : Known plan S
-  stands : Stands plan S
+pub record KnownToo {A : Type 0} (plan : Plan) (S : State A) : Type 0 where
+  pub known : Known plan S
+  pub stands : Stands plan S
+
+pub known_too : {A : Type 0} (plan : Plan) (m : Meaning A) → IsResolved plan → (run : List Event) → IsRunOf plan m run → KnownToo plan (state_after plan m run)
+known_too plan m resolved run is_run = record { known = known_now plan m resolved run is_run; stands = stands_now plan m run resolved is_run }
 
 pub works_at_each : {A : Type 0} (plan : Plan) (m : Meaning A) (run : List Event) → IsResolved plan → IsRunOf plan m run → (n : ℕ) → WorkKept plan (work_of (state_after plan m (take n run)))
 works_at_each {A} plan m run resolved is_run n = each_place_by plan m (λ (S : State A). KnownToo plan S) (λ (S : State A). WorkKept plan (work_of S))
-    (λ run is_run. record { known = known_now plan m resolved run is_run; stands = stands_now plan m run resolved is_run }) (opening_works plan m)
+    (known_too plan m resolved) (opening_works plan m)
     (λ S e k h w.
     deeds_work plan (deeds plan S e) S (event_fits plan m S e h) (all_sound plan m S e k.known.facts.known h) (event_apt plan m S e k.known.facts.known.known h) (event_comes plan S resolved k.known.facts k.stands m e h) w)
     (λ S time w. w)

@@ -36,10 +36,11 @@ use Rattle.wdf_laws.specs.Signs.{shows}
 use Rattle.wdf_laws.specs.Words.{ever, times}
 use Rattle.wdf_trace_laws.proofs.Words.{ever_next, never_yet}
 use Rattle.wdf_trace_laws.proofs.Cleanups.{ends_after_cleanup}
-use Rattle.wdf_trace_laws.proofs.Ends.{begins_early, cleanup_tells, comes, ends_once, never, told_at_each}
+use Rattle.wdf_trace_laws.proofs.Ends.{begins_early, cleanup_tells, ends_once, never, told_at_each}
 use Rattle.wdf_trace_laws.proofs.References.{ends_balanced}
 use Rattle.wdf_agreements.proofs.Lives.{early_there, live_early}
 use Rattle.wdf_agreements.proofs.Choices.{and_no, no_and, or_not}
+use Rattle.wdf_agreements.proofs.Keeping.{comes}
 use Rattle.wdf_family_laws.proofs.Families.{Family, First_by, First_none, Knows_declared, Knows_none, Knows_told, Tells, family_at_each, first, knows, told_still}
 use Rattle.wdf_family_laws.proofs.Telling.{Makes, event_makes}
 use Rattle.wdf_family_laws.proofs.Gone.{Known, cleaned_told, ended_told, ever_still, known_within}

@@ -31,7 +31,7 @@ use Rattle.wdf_model.specs.parts.Tree.{subtree}
 use Rattle.wdf_model.specs.parts.Queues.{waiting_in}
 use Rattle.wdf_model.specs.parts.Control as control
 use Rattle.wdf_model.specs.declared.enums.Mode.TheVariants as mode
-use Rattle.wdf_agreements.proofs.Stays.{asks_all}
+use Rattle.wdf_agreements.proofs.Stays.{asks_all, withdrawn_power}
 use Rattle.wdf_model.specs.State.{State, object_in, queue_delivers}
 use Rattle.wdf_model.specs.Ids.{cpu_of, object_id}
 use Rattle.wdf_model.specs.declared.deed.Deed.TheVariants.{Acknowledge, CompleteRequest, EnqueueDpc, EnqueueWork, Forward, GiveBack, MarkRequest, RegisterQueue, Requeue, SendRequest, StartTimer}
@@ -50,7 +50,7 @@ use Rattle.wdf_request_laws.proofs.Entries.{forward_by}
 use Rattle.wdf_request_laws.proofs.Gives.{call_of}
 use Rattle.wdf_agreements.proofs.Readers.{power_of}
 use Rattle.wdf_agreements.proofs.Choices.{and_no}
-use Rattle.wdf_held_laws.proofs.Holdings.{NotesChange, NotesStay, acknowledged_notes, completed_notes, given_notes, notes_same, withdrawn_power}
+use Rattle.wdf_held_laws.proofs.Holdings.{NotesChange, NotesStay, acknowledged_notes, completed_notes, given_notes, notes_same}
 use Rattle.wdf_request_laws.proofs.Marks.{front_queued}
 use Rattle.wdf_held_laws.proofs.HeldAsTold.{HeldAsTold, give_step, silent_step, take_step, unheld_noted, queued_unheld}
 

@@ -7,9 +7,15 @@ use Rattle.wdf_base.specs.declared.plan.Plan.{Plan}
 use Rattle.wdf_base.specs.declared.declared.Declared.{Declared}
 use Rattle.wdf_base.specs.declared.declared.Declared.TheVariants as declared
 use Rattle.wdf_base.specs.declared.declared.InterruptInfo.{InterruptInfo}
+use Rattle.wdf_base.specs.declared.declared.QueueInfo.{QueueInfo}
 use Rattle.wdf_base.specs.declared.declared.TargetInfo.{TargetInfo}
-use Rattle.wdf_model.specs.Plans.{as_device, as_interrupt, as_target, device_of, interrupt_of, target_of}
+use Rattle.wdf_model.specs.Plans.{as_device, as_interrupt, as_queue, as_target, device_of, interrupt_of, queue_of, target_of}
 use Rattle.wdf_model.proofs.Tests.{both_left, both_right}
+
+queue_found : (x : Option Declared) (i : QueueInfo) → as_queue x ≡ Some i → x ≡ Some (declared.Queue i)
+queue_found (Some (declared.Queue y)) i h = let same : y ≡ i = cc in ap (λ z. Some (declared.Queue z)) same
+queue_found None i h = absurd (let z : ⊥ = cc in z)
+queue_found (Some _) i h = absurd (let z : ⊥ = cc in z)
 
 pub interrupt_found : (x : Option Declared) (i : InterruptInfo) → as_interrupt x ≡ Some i → x ≡ Some (declared.Interrupt i)
 interrupt_found (Some (declared.Interrupt y)) i h = let same : y ≡ i = cc in ap (λ z. Some (declared.Interrupt z)) same
@@ -75,6 +81,9 @@ module _ (plan : Plan) where
   named_there : IsResolved plan → (o n : ℕ) → option_and_then device_named (declared_of plan o) ≡ Some n → is_some (device_of plan n) ≡ true
   named_there resolved zero n at = absurd (let z : ⊥ = cc in z)
   named_there resolved (suc o) n at = under_all plan.declared refl resolved.in_order o n at
+
+  pub device_of_queue : IsResolved plan → (q : ℕ) (i : QueueInfo) → queue_of plan q ≡ Some i → is_some (device_of plan i.device.0) ≡ true
+  device_of_queue resolved q i at = named_there resolved q i.device.0 (ap (option_and_then device_named) (queue_found (declared_of plan q) i at))
 
   pub device_of_interrupt : IsResolved plan → (o : ℕ) (i : InterruptInfo) → interrupt_of plan o ≡ Some i → is_some (device_of plan i.device.0) ≡ true
   device_of_interrupt resolved o i at = named_there resolved o i.device.0 (ap (option_and_then device_named) (interrupt_found (declared_of plan o) i at))

@@ -28,7 +28,7 @@ use Rattle.wdf_model.specs.Tables.{entry, flag}
 use Rattle.wdf_model.specs.Plans.{as_interrupt, declared_ids, declares, interrupt_of, is_interrupt_of, script_on}
 use Rattle.wdf_model.specs.parts.Pnp.{DEVICE_CALLBACKS, InterruptSteps, device_steps, interrupt_steps}
 use Rattle.wdf_model.specs.declared.entries.Node.{Node}
-use Rattle.wdf_model.specs.parts.Tree.{Tree, gone, is_gone, kind_of, life_of, made_as, nearest_device, nearest_devices, node_of, own_device}
+use Rattle.wdf_model.specs.parts.Tree.{Tree, gone, is_gone, kind_of, life_of, made_as, nearest_device, nearest_devices, node_of, own_device, parent_of}
 use Rattle.wdf_model.specs.State.{State, declared_in}
 use Rattle.wdf_model.specs.laws.OverRuns.{DeclaredAgree, is_declared_kind}
 use Rattle.wdf_model.proofs.Maps.{entry_before, entry_last}
@@ -36,6 +36,7 @@ use Rattle.wdf_model.proofs.Counts.{count_cons, equal, not_equal, one_or_two}
 use Rattle.wdf_model.proofs.Sames.{callback_decides}
 use Rattle.wdf_model.proofs.Tests.{both_left, both_right, not_true}
 use Rattle.wdf_agreements.proofs.LevelCalls.{all_fit_at}
+use Rattle.wdf_agreements.proofs.Lists.{inside}
 
 -- ---- callbacks of devices
 
@@ -253,3 +254,24 @@ own_device_of plan S o agree lives d =
     within p [] o off h = absurd (let z : ⊥ = cc in z)
     within p (n ∷ ns) zero off h = omega arith
     within p (n ∷ ns) (suc o) off h = let rest : o < length ns = within p ns o off h in omega arith
+
+pub by_parent : (before : List ℕ) (ns : List Node) (k : ℕ) → k < length ns → same_kind (entry gone ns k).kind kind.Device ≡ false → (entry gone ns k).parent.0 < length before + k
+    → entry 1 (nearest_devices before ns) (length before + k) ≡ entry 1 (nearest_devices before ns) (entry gone ns k).parent.0
+by_parent before [] k h off older = absurd (omega arith)
+by_parent before (n ∷ ns) zero h off older =
+    let x : ℕ = own_device before (length before) n in
+    let own : x ≡ entry 1 before n.parent.0 = ap (λ b. if b then length before else entry 1 before n.parent.0) off in
+    let more = length-append before (x ∷ []) in
+    let start : length before + 0 ≡ length before = omega arith in
+    let above : n.parent.0 < length before = omega arith in
+    rw start
+    (front_stays (before ++ x ∷ []) ns (length before) (omega arith) ∙ entry_last 1 before x ∙ own
+    ∙ sym (front_stays (before ++ x ∷ []) ns n.parent.0 (omega arith) ∙ entry_before 1 before x n.parent.0 (λ e. let z : ⊥ = omega arith in z)))
+by_parent before (n ∷ ns) (suc k) h off older =
+    let x : ℕ = own_device before (length before) n in
+    let more = length-append before (x ∷ []) in
+    let e : length before + suc k ≡ length (before ++ x ∷ []) + k = omega arith in
+    rw e (by_parent (before ++ x ∷ []) ns k (omega arith) off (omega arith))
+
+pub nearest_by : (T : Tree) (o : ℕ) → o < length T.nodes → same_kind (kind_of T o) kind.Device ≡ false → parent_of T o < o → nearest_device T o ≡ nearest_device T (parent_of T o)
+nearest_by T o h off older = let start : 0 + o ≡ o = omega arith in rw start at (by_parent [] T.nodes o h off (omega arith))

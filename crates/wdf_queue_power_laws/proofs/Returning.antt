@@ -42,6 +42,7 @@ use Rattle.wdf_agreements.proofs.Sound.{Sound}
 use Rattle.wdf_agreements.proofs.Stays.{asks_all, given, given_if}
 use Rattle.wdf_agreements.proofs.Readers.{requests_of}
 use Rattle.wdf_power_laws.proofs.Calm.{released_by}
+use Rattle.wdf_agreements.proofs.Places.{marked_place, unmarked_place}
 
 -- ---- the property
 
@@ -171,14 +172,6 @@ module _ (plan : Plan) (D : List DevicePower) where
   came S device info place.Owned s k = new_one S.requests (next_id S.tree) place.Owned info at_owned k
   came S device info (place.Sent t) s k = new_one S.requests (next_id S.tree) (place.Sent t) info (at_sent t) k
   came S device info place.Done s k = new_one S.requests (next_id S.tree) place.Done info at_done k
-
-  marked_place : (e : Request) (b : Bool) → (if b then e else with_mark marks.Marked e).place ≡ e.place
-  marked_place e true = refl
-  marked_place e false = refl
-
-  unmarked_place : (e : Request) (b : Bool) → (if b then with_mark marks.Unmarked e else e).place ≡ e.place
-  unmarked_place e true = refl
-  unmarked_place e false = refl
 
   -- a deed, before which the power of devices is D
   pub backed_by : {A : Type 0} (d : Deed) (S : State A) → Sound plan d S → devices_of S ≡ D → Backed plan D S.requests → Backed plan D (do_deed plan d S).requests

@@ -49,8 +49,8 @@ use Rattle.wdf_laws.specs.Signs.{shows}
 use Rattle.wdf_laws.specs.Words.{ever}
 use Rattle.wdf_laws.specs.Laws.{all_in_turn, is_in_order, is_in_turn, is_presented_in_turn, law_8, presented_at, presented_in}
 use Rattle.wdf_model.proofs.KeptMoves.{queue_here}
+use Rattle.wdf_agreements.proofs.Keeping.{comes}
 use Rattle.wdf_request_laws.proofs.Happened.{ever_next}
-use Rattle.wdf_request_laws.proofs.Happened.{comes}
 use Rattle.wdf_request_laws.proofs.FirstParts.{did_reads, start_reads}
 use Rattle.wdf_request_laws.proofs.CancelsOverRuns.{started}
 use Rattle.wdf_request_laws.proofs.Gives.{call_of}

@@ -50,7 +50,6 @@ use Rattle.wdf_laws.specs.Signs.{is_taking_of, shows}
 use Rattle.wdf_laws.specs.Words.{followed, stands}
 use Rattle.wdf_request_laws.proofs.Cancels.{stands_next}
 use Rattle.wdf_request_laws.proofs.CancelsOverRuns.{started}
-use Rattle.wdf_request_laws.proofs.Happened.{comes}
 use Rattle.wdf_held_laws.proofs.Holdings.{noted}
 use Rattle.wdf_held_laws.proofs.HoldingsOverRuns.{held_as_told_at_each}
 use Rattle.wdf_held_laws.proofs.Settled.{noted_at, noted_is, settles_acknowledged_at_each}
@@ -62,6 +61,7 @@ use Rattle.wdf_power_laws.proofs.Happens.{found_run, stage_allowed}
 use Rattle.wdf_power_laws.proofs.Laws.{comes_by}
 use Rattle.wdf_power_laws.proofs.Runs.{kept_at_each}
 use Rattle.wdf_invariants.proofs.StillFrames.{live_there}
+use Rattle.wdf_agreements.proofs.Keeping.{comes}
 use Rattle.wdf_settled_laws.proofs.Acks.{AckedDown, acked_after}
 use Rattle.wdf_settled_laws.proofs.Along.{fits, next}
 use Rattle.wdf_settled_laws.proofs.Course.{AllAcked, Course, OnCourse, TakesUp, course_after, followed_on, stood, up_in}

@@ -32,6 +32,7 @@ use Rattle.wdf_model.proofs.Counts.{one_or_two}
 use Rattle.wdf_agreements.proofs.Stays.{asks_all, given, given_if}
 use Rattle.wdf_agreements.proofs.Readers.{arrived_requests, requests_of}
 use Rattle.wdf_power_laws.proofs.Calm.{released_by}
+use Rattle.wdf_agreements.proofs.Places.{marked_place, unmarked_place}
 
 -- ---- requests
 
@@ -153,14 +154,6 @@ arrival_off _ q h = refl
 finished_off : (b : Bool) (s : Status) (p : Place) (q : ℕ) → is_returning_to q (finished_at b s p) ≡ true → is_returning_to q p ≡ true
 finished_off true s p q h = absurd (let z : ⊥ = cc in z)
 finished_off false s p q h = h
-
-marked_place : (e : Request) (b : Bool) → (if b then e else with_mark marks.Marked e).place ≡ e.place
-marked_place e true = refl
-marked_place e false = refl
-
-unmarked_place : (e : Request) (b : Bool) → (if b then with_mark marks.Unmarked e else e).place ≡ e.place
-unmarked_place e true = refl
-unmarked_place e false = refl
 
 module _ {A : Type 0} (plan : Plan) (S : State A) where
   abbrev p : ℕ → Bool

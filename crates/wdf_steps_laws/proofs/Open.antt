@@ -56,7 +56,7 @@ use Rattle.wdf_model.proofs.Fits.{wrong_kind_of_first}
 use Rattle.wdf_model.proofs.FitsOfCalls.{Clean}
 use Rattle.wdf_model.proofs.FitsOfEvents.{by_its_top}
 use Rattle.wdf_model.proofs.OwnEvents.{IsDid, IsWaiting, IsWoke, did_tells, waiting_tells, woke_tells}
-use Rattle.wdf_agreements.proofs.Stays.{asks_all}
+use Rattle.wdf_agreements.proofs.Stays.{asks_all, closed_power, returning_power}
 use Rattle.wdf_invariants.proofs.Releases.{holding_elsewhere}
 use Rattle.wdf_laws.specs.declared.sign.Sign.TheVariants as sign
 use Rattle.wdf_laws.specs.Events.{argument_object, is_handler, pair_of, value_object, where_so}
@@ -64,7 +64,7 @@ use Rattle.wdf_laws.specs.Signs.{is_taking_of, shows}
 use Rattle.wdf_request_laws.proofs.Cancels.{named}
 use Rattle.wdf_request_laws.proofs.FirstParts.{did_reads, start_reads, waiting_reads, woke_reads}
 use Rattle.wdf_request_laws.proofs.Gives.{call_of}
-use Rattle.wdf_held_laws.proofs.Holdings.{closed_power, is_holding, none_holds, noted, returning_power, taken_notes}
+use Rattle.wdf_held_laws.proofs.Holdings.{is_holding, none_holds, noted, taken_notes}
 use Rattle.wdf_held_laws.proofs.HeldByCalls.{call_power}
 use Rattle.wdf_held_laws.proofs.HoldingsOverRuns.{event_none, is_plain, waits_holding}
 use Rattle.wdf_held_laws.proofs.StillSuch.{Advances, By, StillSuch, deed_still, effect_still, forwards_still, gives_still, sends_still, still_completed, still_one, still_power, still_same, still_then}

@@ -9,18 +9,14 @@ use Rattle.wdf_base.specs.declared.declared.Declared.{Declared}
 use Rattle.wdf_base.specs.declared.object.Kind.{Kind}
 use Rattle.wdf_base.specs.declared.object.Kind.TheVariants as kind
 use Rattle.wdf_base.specs.declared.object.Life.TheVariants as life
-use Rattle.wdf_model.specs.declared.enums.Mode.TheVariants as mode
 use Rattle.wdf_model.specs.declared.entries.Node.{Node}
 use Rattle.wdf_model.specs.Tables.{entry}
-use Rattle.wdf_model.specs.Plans.{managed_queues, queues_of}
 use Rattle.wdf_model.specs.parts.Tree.{Tree, declared_node, gone, is_cleaned, is_live, life_of, node_of, noted, subtree, with_life, with_node}
 use Rattle.wdf_model.specs.parts.Tree as tree
 use Rattle.wdf_model.specs.parts.Requests as requests
-use Rattle.wdf_model.specs.parts.Queues.{waiting_in}
-use Rattle.wdf_model.specs.parts.Control as control
 use Rattle.wdf_model.specs.State.{State}
 use Rattle.wdf_model.specs.declared.deed.Deed.{Deed}
-use Rattle.wdf_model.specs.declared.deed.Deed.TheVariants.{Create, MakeRequest, Arrive, AskDeletion, Refer, Unrefer, WriteCell, Note, CleanUp, EndLife, Requeue, Forward, GiveBack, SendRequest, CompleteRequest, PurgeQueue, CloseReturning, CloseDevice}
+use Rattle.wdf_model.specs.declared.deed.Deed.TheVariants.{Create, MakeRequest, Arrive, AskDeletion, Refer, Unrefer, WriteCell, Note, CleanUp, EndLife, CompleteRequest}
 use Rattle.wdf_model.specs.rules.Deeds.{ask_object, do_deed, do_deeds, give_up}
 use Rattle.wdf_model.specs.rules.Steps.{after, deeds, may}
 use Rattle.wdf_model.specs.rules.Ready.{IsRunOf, ready, state_after}
@@ -30,7 +26,7 @@ use Rattle.wdf_model.proofs.Tests.{both_left, both_right, first, not_true, secon
 use Rattle.wdf_model.proofs.Maps.{entry_put_other, entry_put_same}
 use Rattle.wdf_model.proofs.Counts.{equal, one_or_two}
 use Rattle.wdf_model.proofs.Deletion.{object_live, object_off}
-use Rattle.wdf_agreements.proofs.Stays.{gives_up, gives_up_if, queues_closed, returns_closed, withdraws}
+use Rattle.wdf_agreements.proofs.Stays.{gives_up}
 use Rattle.wdf_agreements.proofs.Lists.{reads_same}
 use Rattle.wdf_laws.specs.declared.sign.Sign.TheVariants as sign
 use Rattle.wdf_laws.specs.Signs.{shows}
@@ -38,10 +34,12 @@ use Rattle.wdf_laws.specs.Words.{ever}
 use Rattle.wdf_agreements.proofs.Readers.{arrived_tree, tree_of}
 use Rattle.wdf_agreements.proofs.Lives.{noted_life}
 use Rattle.wdf_agreements.proofs.CleanedOver.{live_uncleaned, none_cleaned, unmade}
+use Rattle.wdf_agreements.proofs.Keeping.{comes}
+use Rattle.wdf_agreements.proofs.TreeStays.{tree_stays}
 use Rattle.wdf_trace_laws.proofs.Words.{ever_next}
 use Rattle.wdf_deeds.specs.MayDo.{is_cleanup}
 use Rattle.wdf_trace_laws.proofs.Untouched.{cleans, event_none, none_cleans}
-use Rattle.wdf_trace_laws.proofs.Ends.{comes, ends}
+use Rattle.wdf_trace_laws.proofs.Ends.{ends}
 
 -- C tells each object that is cleaned
 abbrev pub Seen : (ℕ → Bool) → Tree → Type 0
@@ -81,16 +79,9 @@ deed_keeps C plan (WriteCell o k v) S f q = object_changes C S.tree o.0 (λ n. r
 deed_keeps C plan (Note o c) S f q = object_changes C S.tree o.0 (noted c) (ap is_cleaned (noted_life c (node_of S.tree o.0))) q
 deed_keeps C plan (CleanUp o) S f q = absurd (let z : ⊥ = cc in z)
 deed_keeps C plan (EndLife o) S f q = ended C S.tree o.0 q
-deed_keeps C plan (Requeue r p) S f q = same_tree C _ _ (gives_up tree_of (λ S Q R P. refl) S r.0) q
-deed_keeps C plan (Forward r p) S f q = same_tree C _ _ (gives_up tree_of (λ S Q R P. refl) S r.0) q
-deed_keeps C plan (GiveBack r p) S f q = same_tree C _ _ (gives_up tree_of (λ S Q R P. refl) S r.0) q
-deed_keeps C plan (SendRequest r t forget) S f q = same_tree C _ _ (gives_up_if tree_of (λ S Q R P. refl) S forget r.0) q
 deed_keeps C plan (CompleteRequest r) S f q =
     all_asked C (subtree (give_up S r.0).tree r.0) (record (give_up S r.0) { requests = requests.complete S.requests r.0 }) (same_tree C _ _ (gives_up tree_of (λ S Q R P. refl) S r.0) q)
-deed_keeps C plan (PurgeQueue p) S f q = same_tree C _ _ (withdraws tree_of (λ S Q R P. refl) plan p.0 (waiting_in S.queues p.0) (record S { control = control.set_mode S.control p.0 mode.Purged })) q
-deed_keeps C plan (CloseReturning d) S f q = same_tree C _ _ (returns_closed tree_of (λ S Q R P. refl) (managed_queues plan d.0) S) q
-deed_keeps C plan (CloseDevice d) S f q = same_tree C _ _ (queues_closed tree_of (λ S Q R P. refl) (queues_of plan d.0) (record S { control = control.shut S.control d.0 })) q
-deed_keeps C plan _ S f q = q
+deed_keeps C plan d S f q = same_tree C _ _ (tree_stays plan d S refl) q
 
 deeds_keep : {A : Type 0} (C : ℕ → Bool) (plan : Plan) (ds : List Deed) (S : State A) → none_cleans ds ≡ true → Seen C S.tree → Seen C (do_deeds plan ds S).tree
 deeds_keep C plan [] S n q = q

@@ -12,7 +12,6 @@ use Rattle.wdf_base.specs.declared.call.Callback.TheVariants as callback
 use Rattle.wdf_base.specs.declared.event.Event.{Event}
 use Rattle.wdf_base.specs.declared.event.Event.TheVariants as event
 use Rattle.wdf_base.specs.Same.{same_callback}
-use Rattle.wdf_model.specs.Runs.{IsRun}
 use Rattle.wdf_model.specs.declared.entries.Node.{Node}
 use Rattle.wdf_model.specs.parts.Tree.{gone, is_asked, is_cleaned, is_gone, is_past_cleanup, life_of, node_of, with_life}
 use Rattle.wdf_model.specs.State.{State}
@@ -25,7 +24,7 @@ use Rattle.wdf_model.proofs.Follows.{follows, state_goes_on}
 use Rattle.wdf_model.proofs.FitsOfEvents.{event_fits}
 use Rattle.wdf_model.proofs.Tests.{both_left, both_right}
 use Rattle.wdf_model.proofs.Maps.{entry_put_same, put_long}
-use Rattle.wdf_agreements.proofs.Keeping.{deeds_keep}
+use Rattle.wdf_agreements.proofs.Keeping.{comes, deeds_keep}
 use Rattle.wdf_agreements.proofs.Lists.{inside}
 use Rattle.wdf_laws.specs.declared.sign.Sign.{Sign}
 use Rattle.wdf_laws.specs.declared.sign.Sign.TheVariants as sign
@@ -129,15 +128,6 @@ end_tells plan m = record { late = record { live = refl; asked = refl; gone = re
 pub never : {A : Type 0} (P : Life → Bool) (s : ℕ → Sign) (es : List Event) (S : State A) (o : ℕ) → Told P s es S → P (life_of S.tree o) ≡ false → (b : Bool) → ever (s o) es ≡ b → b ≡ false
 never P s es S o k no_ false h = refl
 never P s es S o k no_ true h = absurd (let yes_ : P (life_of S.tree o) ≡ true = (k o h).0 in let z : ⊥ = cc in z)
-
--- an event that isn't a tick may come
-pub comes : {A : Type 0} (plan : Plan) (m : Meaning A) (run : List Event) (k : ℕ) (e : Event) → IsRunOf plan m run → slice_get run k ≡ Some e → ((time : ℕ) → e ≡ event.Tick time → ⊥)
-    → may plan m (state_after plan m (take k run)) e ≡ true
-unfolding IsRun
-comes plan m run k e is_run at no_tick = elim (follows plan m (take k run) (is_run k e at).0 e (is_run k e at).1) [
-  | inl h ↦ h
-  | inr t ↦ absurd (no_tick _ t.tick)
-]
 
 pub cleaned_once : {A : Type 0} (plan : Plan) (m : Meaning A) (run : List Event) (k : ℕ) (o : Handle) → IsRunOf plan m run → slice_get run k ≡ Some (event.Cleanup o) → ever (sign.Cleaned o.id.0) (take k run) ≡ false
 cleaned_once plan m run k o is_run at =

@@ -5,17 +5,13 @@ use Rattle.wdf_base.specs.declared.object.Kind.{Kind}
 use Rattle.wdf_base.specs.declared.object.Kind.TheVariants as kind
 use Rattle.wdf_base.specs.declared.object.Life.{Life}
 use Rattle.wdf_base.specs.declared.object.Life.TheVariants as life
-use Rattle.wdf_model.specs.declared.enums.Mode.TheVariants as mode
 use Rattle.wdf_model.specs.declared.entries.Node.{Node}
-use Rattle.wdf_model.specs.Plans.{managed_queues, queues_of}
 use Rattle.wdf_model.specs.parts.Tree.{Tree, gone, is_asked, is_live, life_of, new_node, node_of, noted, subtree, with_life, with_node}
 use Rattle.wdf_model.specs.parts.Tree as tree
 use Rattle.wdf_model.specs.parts.Requests as requests
-use Rattle.wdf_model.specs.parts.Queues.{waiting_in}
-use Rattle.wdf_model.specs.parts.Control as control
 use Rattle.wdf_model.specs.State.{State}
 use Rattle.wdf_model.specs.declared.deed.Deed.{Deed}
-use Rattle.wdf_model.specs.declared.deed.Deed.TheVariants.{Create, MakeRequest, Arrive, AskDeletion, Refer, Unrefer, WriteCell, Note, CleanUp, EndLife, Requeue, Forward, GiveBack, SendRequest, CompleteRequest, PurgeQueue, CloseReturning, CloseDevice}
+use Rattle.wdf_model.specs.declared.deed.Deed.TheVariants.{Create, MakeRequest, Arrive, AskDeletion, Refer, Unrefer, WriteCell, Note, CleanUp, EndLife, CompleteRequest}
 use Rattle.wdf_model.specs.rules.Deeds.{ask_object, do_deed, give_up}
 use Rattle.wdf_model.specs.rules.Starts.{clean_ready}
 use Rattle.wdf_model.specs.laws.Fits.{fits}
@@ -23,10 +19,11 @@ use Rattle.wdf_model.proofs.Tests.{both_left, both_right}
 use Rattle.wdf_model.proofs.Maps.{entry_before, entry_put_other, entry_put_same, put_long}
 use Rattle.wdf_model.proofs.Counts.{one_or_two}
 use Rattle.wdf_model.proofs.Deletion.{object_live, object_off}
-use Rattle.wdf_agreements.proofs.Stays.{gives_up, gives_up_if, queues_closed, returns_closed, withdraws}
+use Rattle.wdf_agreements.proofs.Stays.{gives_up}
 use Rattle.wdf_agreements.proofs.Lists.{reads_same}
 use Rattle.wdf_agreements.proofs.Readers.{arrived_tree, tree_of}
 use Rattle.wdf_agreements.proofs.Lives.{noted_life}
+use Rattle.wdf_agreements.proofs.TreeStays.{tree_stays}
 
 -- a test of lives that no object passes before its cleanup, and each one passes that is gone
 pub record Late (P : Life → Bool) : Type 0 where
@@ -114,13 +111,6 @@ deed_keeps P F late plan (WriteCell o k v) S f q = object_changes P F S.tree o.0
 deed_keeps P F late plan (Note o c) S f q = object_changes P F S.tree o.0 (noted c) (ap P (noted_life c (node_of S.tree o.0))) q
 deed_keeps P F late plan (CleanUp o) S f q = cleaned P F late S.tree o.0 (asked_at S o.0 f) q
 deed_keeps P F late plan (EndLife o) S f q = ended P F late S.tree o.0 q
-deed_keeps P F late plan (Requeue r p) S f q = same_tree P F _ _ (gives_up tree_of (λ S Q R P. refl) S r.0) q
-deed_keeps P F late plan (Forward r p) S f q = same_tree P F _ _ (gives_up tree_of (λ S Q R P. refl) S r.0) q
-deed_keeps P F late plan (GiveBack r p) S f q = same_tree P F _ _ (gives_up tree_of (λ S Q R P. refl) S r.0) q
-deed_keeps P F late plan (SendRequest r t forget) S f q = same_tree P F _ _ (gives_up_if tree_of (λ S Q R P. refl) S forget r.0) q
 deed_keeps P F late plan (CompleteRequest r) S f q =
     all_asked P F late (subtree (give_up S r.0).tree r.0) (record (give_up S r.0) { requests = requests.complete S.requests r.0 }) (same_tree P F _ _ (gives_up tree_of (λ S Q R P. refl) S r.0) q)
-deed_keeps P F late plan (PurgeQueue p) S f q = same_tree P F _ _ (withdraws tree_of (λ S Q R P. refl) plan p.0 (waiting_in S.queues p.0) (record S { control = control.set_mode S.control p.0 mode.Purged })) q
-deed_keeps P F late plan (CloseReturning d) S f q = same_tree P F _ _ (returns_closed tree_of (λ S Q R P. refl) (managed_queues plan d.0) S) q
-deed_keeps P F late plan (CloseDevice d) S f q = same_tree P F _ _ (queues_closed tree_of (λ S Q R P. refl) (queues_of plan d.0) (record S { control = control.shut S.control d.0 })) q
-deed_keeps P F late plan _ S f q = q
+deed_keeps P F late plan d S f q = same_tree P F _ _ (tree_stays plan d S refl) q
