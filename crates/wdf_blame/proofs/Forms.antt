@@ -167,7 +167,7 @@ pending_so : {A : Type 0} (plan : Plan) (S : State A) (p : Option Pending) → G
 pending_so plan S None = gives_none _
 pending_so plan S (Some p) = call_so plan S p.call.kind p.call.count p.call.a p.call.b p.call.c
 
-weaker : (so also : Cause → Bool) (o : Option Cause) → ((x : Cause) → so x ≡ true → also x ≡ true) → Gives so o → Gives also o
+pub weaker : (so also : Cause → Bool) (o : Option Cause) → ((x : Cause) → so x ≡ true → also x ≡ true) → Gives so o → Gives also o
 weaker so also o h g x e = h x (g x e)
 
 empty_taken : {A : Type 0} (plan : Plan) (S : State A) → list_all (λ cpu. not (is_empty_cpu S.cpus cpu)) (all_cpus plan) ≡ all_taken plan S 0

@@ -2,8 +2,8 @@
 use Rattle.std.proofs.Common.{◌≡◌, ◌⊎◌, inl, inr, ℕ, zero, suc, ◌+◌, ◌==◌, ◌<◌, ◌≤◌, Bool, true, false, nat_lt, List, [], ◌∷◌, ◌++◌, length, filter, map, slice_get, Option, Some, None, refl, sym, ap, ◌∙◌, arith}
 use Rattle.std.specs.Prelude.{⊤, filter_map}
 use Rattle.std.proofs.lemmas.Bool.Decides.{nat_tests}
-use Rattle.std.specs.List.{flat_map, range_with_len}
-use Rattle.wdf_model.specs.Tables.{contains}
+use Rattle.std.specs.List.{flat_map, range_with_len, list_any}
+use Rattle.wdf_model.specs.Tables.{contains, entry}
 use Rattle.wdf_model.proofs.Counts.{one_or_two}
 
 -- ---- items of a list
@@ -146,3 +146,7 @@ at_by f x xs false e h rest = let more = rest (rw e at h) in record { place = su
 pub at_of : (f : ℕ) (xs : List ℕ) → contains f xs ≡ true → At f xs
 at_of f [] h = absurd (let z : ⊥ = cc in z)
 at_of f (x ∷ xs) h = at_by f x xs (x == f) refl h (at_of f xs)
+
+pub no_entry : {T : Type 0} (blank : T) (p : T → Bool) (xs : List T) → ((x : ℕ) → x < length xs → p (entry blank xs x) ≡ false) → list_any p xs ≡ false
+no_entry blank p [] h = refl
+no_entry blank p (x ∷ xs) h = rw (h 0 (omega arith)) (no_entry blank p xs (λ k low. h (suc k) (omega arith)))

@@ -15,7 +15,7 @@ use Rattle.wdf_model.specs.parts.Requests.{is_sent_to, place_of}
 use Rattle.wdf_model.specs.State.{State, held_from, handle_in}
 use Rattle.wdf_model.specs.rules.Waits.{by_frame, cause_if, request_line}
 use Rattle.wdf_model.proofs.Tests.{both, both_left, both_right, either_false, first, itself}
-use Rattle.wdf_blame.proofs.Members.{Has}
+use Rattle.wdf_blame.proofs.Members.{Has, no_entry}
 use Rattle.wdf_blame.proofs.Gives.{IfThere}
 use Rattle.wdf_base.specs.Meaning.{Meaning}
 use Rattle.wdf_base.specs.declared.event.Event.{Event}
@@ -63,10 +63,6 @@ settled_by S [] h = refl
 settled_by S (q ∷ qs) h =
     let parts = front_none (filter (is_on S.cpus q) (all_frames S.cpus)) (flat_map (λ x. filter (is_on S.cpus x) (all_frames S.cpus)) qs) h in
     both (nobody_on S.cpus q) (list_all (nobody_on S.cpus) qs) (none_there S q parts.0) (settled_by S qs parts.1)
-
-no_entry : {T : Type 0} (blank : T) (p : T → Bool) (xs : List T) → ((x : ℕ) → x < length xs → p (entry blank xs x) ≡ false) → list_any p xs ≡ false
-no_entry blank p [] h = refl
-no_entry blank p (x ∷ xs) h = rw (h 0 (omega arith)) (no_entry blank p xs (λ k low. h (suc k) (omega arith)))
 
 pub none_of : (p : ℕ → Bool) (xs : List ℕ) → list_any p xs ≡ false → (x : ℕ) → Has x xs → p x ≡ false
 none_of p [] h x k = absurd k

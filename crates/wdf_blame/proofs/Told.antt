@@ -50,7 +50,7 @@ use Rattle.wdf_blame.specs.Causes.{awaits_cpu, awaits_frame, awaits_request, has
 use Rattle.wdf_blame.proofs.Endings.{at_the_end}
 use Rattle.wdf_blame.proofs.Gives.{any_alike}
 use Rattle.wdf_blame.proofs.EachLine.{OfLines, each_line}
-use Rattle.wdf_blame.proofs.Forms.{LineSo, frame_so, lock_held, lock_of_list, none_left, not_fits, on_object, request_so, so_by}
+use Rattle.wdf_blame.proofs.Forms.{LineSo, frame_so, lock_held, lock_of_list, none_left, not_fits, on_object, request_so, so_by, weaker}
 use Rattle.wdf_blame.proofs.Objects.{object_so}
 
 -- ---- queued work
@@ -191,9 +191,6 @@ resumes_so plan S d =
 gives_where : (b : Bool) (p : Cause → Bool) (o : Option Cause) → Gives p o → Gives (λ x. b && p x) (if b then o else None)
 gives_where true p o g = g
 gives_where false p o g = gives_none (λ x. false && p x)
-
-weaker : (so also : Cause → Bool) (o : Option Cause) → ((x : Cause) → so x ≡ true → also x ≡ true) → Gives so o → Gives also o
-weaker so also o h g x e = h x (g x e)
 
 in_next : {A : Type 0} (plan : Plan) (S : State A) (d : ℕ) (s : Step) (x : Cause) → is_running_step S.pnp d ≡ false → ((follows_queues_up S.pnp d && keeps_resumes plan S d x) || keeps_next plan S d s x) ≡ true → keeps_step plan S d s x ≡ true
 in_next plan S d s x e h = rw e h

@@ -54,7 +54,7 @@ use Rattle.wdf_model.proofs.Sames.{call_kind_decides, callback_decides, handle_d
 use Rattle.wdf_invariants.proofs.Holding.{HoldsIn, is_from}
 use Rattle.wdf_invariants.proofs.Totals.{same_total}
 use Rattle.wdf_invariants.proofs.HeldOverRuns.{from_by, holds_at_each}
-use Rattle.wdf_blame.proofs.Members.{Has, at_of, has_back, has_front, has_range, none_passes}
+use Rattle.wdf_blame.proofs.Members.{Has, at_of, has_back, has_front, has_range, no_entry, none_passes}
 use Rattle.wdf_blame.proofs.Endings.{AtRest, at_rest, at_the_end, may_not}
 use Rattle.wdf_blame.proofs.Gives.{any_has}
 use Rattle.wdf_blame.proofs.Forms.{while_on}
@@ -176,10 +176,6 @@ held_number plan S h q =
 
 pub held_now : {A : Type 0} (plan : Plan) (m : Meaning A) (run : List Event) → IsRunOf plan m run → (q : ℕ) → held_count (state_after plan m run).queues q ≡ length (held_from (state_after plan m run) q)
 held_now plan m run is_run = held_number plan (state_after plan m run) (at_the_end plan m (λ S. HoldsIn plan S) run (holds_at_each plan m run is_run))
-
-no_entry : {T : Type 0} (blank : T) (p : T → Bool) (xs : List T) → ((x : ℕ) → x < length xs → p (entry blank xs x) ≡ false) → list_any p xs ≡ false
-no_entry blank p [] h = refl
-no_entry blank p (x ∷ xs) h = rw (h 0 (omega arith)) (no_entry blank p xs (λ k low. h (suc k) (omega arith)))
 
 none_at : {A : Type 0} (S : State A) (test : Place → Bool) → requests_where S test ≡ [] → list_any (λ (r : Request). test r.place) S.requests.all ≡ false
 none_at S test e =

@@ -109,7 +109,7 @@ handler_may plan m S cpu q r callback.EvtIoDefault is has live level free ready 
     five (declares_in plan S callback.EvtIoDefault q) (is_live (life_of S.tree q)) (level_fits S cpu (queue_level plan q)) (is_free_if_any S.locks (scope_of plan callback.EvtIoDefault q (declared_in plan S q))) (presents plan S callback.EvtIoDefault q r.id.0) has live level free ready
 handler_may plan m S cpu q r _ is has live level free ready = absurd (let z : ⊥ = cc in z)
 
-there_is : {T : Type 0} (o : Option T) → is_some o ≡ true → (x : T) × (o ≡ Some x)
+pub there_is : {T : Type 0} (o : Option T) → is_some o ≡ true → (x : T) × (o ≡ Some x)
 there_is None h = absurd (let z : ⊥ = cc in z)
 there_is (Some x) h = (x, refl)
 
@@ -155,8 +155,8 @@ presentable plan S q r h =
       cpu = none_if (no_cpu plan S (queue_level plan q)) cause.NoCpu cpus.0;
     }
 
-same_front : (o : Option ℕ) (r : ℕ) → o ≡ Some r → same_id o r ≡ true
-same_front o r e = rw e (itself r)
+pub same_there : (o : Option ℕ) (r : ℕ) → o ≡ Some r → same_id o r ≡ true
+same_there o r e = rw e (itself r)
 
 same_handler : (o : Option Callback) (c : Callback) → o ≡ Some c → same_option same_callback o (Some c) ≡ true
 same_handler o c e = rw e ((callback_decides c c).1 refl)
@@ -164,7 +164,7 @@ same_handler o c e = rw e ((callback_decides c c).1 refl)
 presented : {A : Type 0} (plan : Plan) (S : State A) (q r : ℕ) (c : Callback) → Presentable plan S q r → front S.queues q ≡ Some r → handler_for plan q (info_of S.requests r).form ≡ Some c → presents plan S c q r ≡ true
 presented plan S q r c p at h =
     five (not (is_manual_queue plan q)) (queue_delivers plan S q) (is_free S.queues q) (same_id (front S.queues q) r) (same_option same_callback (handler_for plan q (info_of S.requests r).form) (Some c))
-    (ap not p.unlike) p.delivers p.free (same_front (front S.queues q) r at) (same_handler (handler_for plan q (info_of S.requests r).form) c h)
+    (ap not p.unlike) p.delivers p.free (same_there (front S.queues q) r at) (same_handler (handler_for plan q (info_of S.requests r).form) c h)
 
 start_here : {A : Type 0} (plan : Plan) (S : State A) (cpu q r : ℕ) (c : Callback) (f : Option ℕ) → f ≡ Some r → handler_for plan q (info_of S.requests r).form ≡ Some c → option_and_then (handler_start plan S cpu q) f ≡ Some (starts_for plan S cpu c q r)
 start_here plan S cpu q r c f at h = rw at (ap (option_map (λ x. starts_for plan S cpu x q r)) h)

@@ -24,10 +24,8 @@ use Rattle.wdf_blame.proofs.Needs.{cpu_group, placed_at}
 use Rattle.wdf_blame.proofs.Tops.{top_waits}
 use Rattle.wdf_blame_objects.specs.Spinning.{Spins, is_spin_call}
 use Rattle.wdf_blame.proofs.Conjuncts.{three}
+use Rattle.wdf_blame_causes.proofs.Presents.{same_there}
 use Rattle.wdf_blame_objects.proofs.Calm.{Calm, calm_now}
-
-same_top : (o : Option ℕ) (f : ℕ) → o ≡ Some f → same_id o f ≡ true
-same_top o f e = subst (λ x. same_id x f ≡ true) (sym e) (itself f)
 
 module _ {A : Type 0} (plan : Plan) (m : Meaning A) (S : State A) (rest : AtRest plan m S true) (calm : Calm S.cpus) where
   -- a frame that waits at level 0 leaves its processor
@@ -36,7 +34,7 @@ module _ {A : Type 0} (plan : Plan) (m : Meaning A) (S : State A) (rest : AtRest
       let e : Event = parks cpu f in
       let offered : Has e (candidates plan m S) = cpu_group plan m S cpu (group.Parks cpu) e low (inr (inl refl)) (placed_at plan m S (group.Parks cpu) 1 0 e (omega arith) (ap (option_map (parks cpu)) at)) in
       let no : may plan m S e ≡ false = may_not plan m S true e rest offered in
-      let comes : may plan m S e ≡ true = three (same_id (top S.cpus cpu) f) (irql S.cpus cpu == 0) (waits_on S (frame_of S.cpus f).pending) (same_top (top S.cpus cpu) f at) free waits in
+      let comes : may plan m S e ≡ true = three (same_id (top S.cpus cpu) f) (irql S.cpus cpu == 0) (waits_on S (frame_of S.cpus f).pending) (same_there (top S.cpus cpu) f at) free waits in
       let z : ⊥ = cc in z
 
   spins_at : (cpu f : ℕ) (o : Option Pending) → cpu < plan.cpus → top S.cpus cpu ≡ Some f → (frame_of S.cpus f).pending ≡ o → waits_on S o ≡ true → Spins S cpu

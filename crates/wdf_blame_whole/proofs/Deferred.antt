@@ -39,6 +39,7 @@ use Rattle.wdf_blame_causes.proofs.Lines.{line_names}
 use Rattle.wdf_blame_causes.proofs.Works.{item_live, reached, timer_live}
 use Rattle.wdf_blame_whole.specs.Owners.{DpcsRun}
 use Rattle.wdf_agreements.proofs.Deferring.{work_of}
+use Rattle.wdf_blame_causes.proofs.Presents.{there_is}
 use Rattle.wdf_blame_whole.proofs.Standing.{defers, ready_in}
 use Rattle.wdf_blame_whole.proofs.Lines.{line_tells}
 use Rattle.wdf_blame_whole.proofs.Quieted.{interrupt_live}
@@ -49,10 +50,6 @@ use Rattle.wdf_blame_whole.proofs.Works.{WorkKept}
 head_in : (o : ℕ) (xs : List ℕ) → first_of_list xs ≡ Some o → contains o xs ≡ true
 head_in o [] h = absurd (let z : ⊥ = cc in z)
 head_in o (x ∷ xs) h = let same : x ≡ o = cc in first (x == o) (contains o xs) (ap (λ y. y == o) same ∙ itself o)
-
-some_is : {T : Type 0} (x : Option T) → is_some x ≡ true → (y : T) × (x ≡ Some y)
-some_is None h = absurd (let z : ⊥ = cc in z)
-some_is (Some y) h = (y, refl)
 
 reached_queued : {A : Type 0} (S : State A) (o : ℕ) → is_open_work S o ≡ true → is_dpc_queued S.dpcs o ≡ false → is_work_queued S.work_items o ≡ false → is_timer_queued S.timers o ≡ true
 reached_queued S o h off idle = reached S.clock (timed_of S.timers o) (third (is_dpc_queued S.dpcs o) (is_work_queued S.work_items o) (timer_due S.timers o S.clock) h off idle)
@@ -82,7 +79,7 @@ module _ {A : Type 0} (plan : Plan) (m : Meaning A) (run : List Event) (resolved
   queued_runs o queued = elim (or_cases (ready_in kind.Dpc S.tree o) (defers plan o) ((works_now plan m run resolved is_run).dpcs o queued)) [
     | inl e ↦ object_runs o e
     | inr e ↦
-        let x = some_is (interrupt_of plan o) (both_left (is_some (interrupt_of plan o)) (declares plan callback.EvtInterruptDpc o) e) in
+        let x = there_is (interrupt_of plan o) (both_left (is_some (interrupt_of plan o)) (declares plan callback.EvtInterruptDpc o) e) in
         interrupt_runs o x.0 x.1 (both_right (is_some (interrupt_of plan o)) (declares plan callback.EvtInterruptDpc o) e) queued
   ]
 
