@@ -7,7 +7,6 @@ use Rattle.wdf_base.specs.declared.value.Value.TheVariants.{Obj}
 use Rattle.wdf_base.specs.declared.call.Arg.{Arg}
 use Rattle.wdf_base.specs.declared.call.Arg.TheVariants.{Val}
 use Rattle.wdf_base.specs.declared.call.Call.{Call}
-use Rattle.wdf_base.specs.declared.call.CallKind.{CallKind}
 use Rattle.wdf_base.specs.declared.event.Access.{Access}
 use Rattle.wdf_base.specs.declared.event.Event.{Event}
 use Rattle.wdf_base.specs.declared.event.Event.TheVariants as event
@@ -114,9 +113,6 @@ pub stale_first : (v : View) (c : Call) → any_argument (is_stale v (signature_
 stale_first v c h =
     let t = is_stale v (signature_of c.kind).cleaned in
     (either_false (t (signature_of c.kind).a c.a) (t (signature_of c.kind).b c.b) (either_false (t (signature_of c.kind).a c.a || t (signature_of c.kind).b c.b) (t (signature_of c.kind).c c.c) h).0).0
-
-abbrev pub made : CallKind → ℕ → Arg → Arg → Arg → Call
-made k n a b x = record { kind = k; count = n; a = a; b = b; c = x }
 
 pub nothing_awaited : (plan : Plan) (T : Tree) (o : Option Pending) (n : ℕ) → o ≡ None → awaited plan T o n ≡ 0
 nothing_awaited plan T o n e = ap (λ p. awaited plan T p n) e

@@ -5,7 +5,7 @@ pub mod Readers
 pub mod Lives
 pub mod Choices
 pub mod Places
-pub mod TreeStays
+pub mod PartsStay
 pub mod CleanedOver
 pub mod LocksOnce
 pub mod AllOf

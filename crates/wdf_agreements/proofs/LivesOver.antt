@@ -34,7 +34,7 @@ use Rattle.wdf_agreements.proofs.Stays.{gives_up}
 use Rattle.wdf_agreements.proofs.Lists.{inside, reads_same}
 use Rattle.wdf_agreements.proofs.Readers.{arrived_tree, tree_of}
 use Rattle.wdf_agreements.proofs.Lives.{asked_off, cleaned_off, noted_kept}
-use Rattle.wdf_agreements.proofs.TreeStays.{tree_stays}
+use Rattle.wdf_agreements.proofs.PartsStay.{tree_stays}
 
 -- what is live has a live parent, or none, and that is older
 pub record Lives (T : Tree) : Type 0 where

@@ -43,3 +43,7 @@ arrived_locks S device info _ = refl
 pub arrived_power : {A : Type 0} (S : State A) (device : ℕ) (info : RequestInfo) (p : Place) → (arrive_at S device info p).power ≡ S.power
 arrived_power S device info (place.Queued q) = refl
 arrived_power S device info _ = refl
+
+pub arrived_cpus : {A : Type 0} (S : State A) (device : ℕ) (info : RequestInfo) (p : Place) → (arrive_at S device info p).cpus ≡ S.cpus
+arrived_cpus S device info (place.Queued q) = refl
+arrived_cpus S device info _ = refl

@@ -43,8 +43,8 @@ use Rattle.wdf_agreements.proofs.Reasons.{AllReasons, Reason, Receives, takes}
 use Rattle.wdf_invariants.proofs.Framed.{on}
 
 -- a call
-abbrev pub made : CallKind → ℕ → Arg → Arg → Arg → Call
-made k n a b x = record { kind = k; count = n; a = a; b = b; c = x }
+abbrev pub call_of : CallKind → ℕ → Arg → Arg → Arg → Call
+call_of k n a b x = record { kind = k; count = n; a = a; b = b; c = x }
 
 -- an object of the kind Interrupt is a declared one
 interrupt_by : (d : Option Declared) → option_and_then declared_kind d ≡ Some kind.Interrupt → is_some (as_interrupt d) ≡ true
@@ -146,7 +146,7 @@ module _ {A : Type 0} (plan : Plan) (H : ℕ → State A → Type 0) (S : State 
   work_given : (o : ℕ) → same_kind (kind_of S.tree o) kind.WorkItem ≡ true → Given (work_outcome S o).deeds
   work_given o k = either (is_live (life_of S.tree o)) (success (EnqueueWork (object_id o) ∷ [])) (success []) (λ h. ((h, k), tt)) (λ _. tt)
 
-  pub outcome_given : (cpu f : ℕ) (k : CallKind) (n : ℕ) (a b x : Arg) → DeclaredAgree plan S → Clean plan S cpu f (made k n a b x) → Given (outcome plan S cpu f (made k n a b x)).deeds
+  pub outcome_given : (cpu f : ℕ) (k : CallKind) (n : ℕ) (a b x : Arg) → DeclaredAgree plan S → Clean plan S cpu f (call_of k n a b x) → Given (outcome plan S cpu f (call_of k n a b x)).deeds
   outcome_given cpu f call.WdfObjectCreate n a b x d h = create_given (class_in a) (object_in b)
   outcome_given cpu f call.WdfSpinLockCreate n a b x d h = create_given (class_in a) (object_in b)
   outcome_given cpu f call.WdfWaitLockCreate n a b x d h = create_given (class_in a) (object_in b)
@@ -168,18 +168,18 @@ module _ {A : Type 0} (plan : Plan) (H : ℕ → State A → Type 0) (S : State 
   outcome_given cpu f call.WdfIoQueueRetrieveNextRequest n a b x d h = retrieve_given (object_in a)
   outcome_given cpu f call.WdfIoQueueReadyNotify n a b x d h = notify_given (object_in a) b
   outcome_given cpu f call.WdfInterruptQueueDpcForIsr n a b x d h =
-      isr_given cpu (object_in a) d (first_kind (view_of plan S cpu f) kind.Interrupt a (wrong_kind_of_first (view_of plan S cpu f) (made call.WdfInterruptQueueDpcForIsr n a b x) (h fault.WrongKind)))
+      isr_given cpu (object_in a) d (first_kind (view_of plan S cpu f) kind.Interrupt a (wrong_kind_of_first (view_of plan S cpu f) (call_of call.WdfInterruptQueueDpcForIsr n a b x) (h fault.WrongKind)))
   outcome_given cpu f call.WdfDpcEnqueue n a b x d h =
-      dpc_given cpu (object_in a) (first_kind (view_of plan S cpu f) kind.Dpc a (wrong_kind_of_first (view_of plan S cpu f) (made call.WdfDpcEnqueue n a b x) (h fault.WrongKind)))
+      dpc_given cpu (object_in a) (first_kind (view_of plan S cpu f) kind.Dpc a (wrong_kind_of_first (view_of plan S cpu f) (call_of call.WdfDpcEnqueue n a b x) (h fault.WrongKind)))
   outcome_given cpu f call.WdfTimerStart n a b x d h =
-      timer_given (object_in a) (number_in b) (first_kind (view_of plan S cpu f) kind.Timer a (wrong_kind_of_first (view_of plan S cpu f) (made call.WdfTimerStart n a b x) (h fault.WrongKind)))
+      timer_given (object_in a) (number_in b) (first_kind (view_of plan S cpu f) kind.Timer a (wrong_kind_of_first (view_of plan S cpu f) (call_of call.WdfTimerStart n a b x) (h fault.WrongKind)))
   outcome_given cpu f call.WdfWorkItemEnqueue n a b x d h =
-      work_given (object_in a) (first_kind (view_of plan S cpu f) kind.WorkItem a (wrong_kind_of_first (view_of plan S cpu f) (made call.WdfWorkItemEnqueue n a b x) (h fault.WrongKind)))
+      work_given (object_in a) (first_kind (view_of plan S cpu f) kind.WorkItem a (wrong_kind_of_first (view_of plan S cpu f) (call_of call.WdfWorkItemEnqueue n a b x) (h fault.WrongKind)))
   outcome_given cpu f call.WdfWorkItemFlush n a b x d h = tt
   outcome_given cpu f _ n a b x d h = (tt, tt)
 
   -- the second part is done by a frame that is there
-  pub second_given : (f : ℕ) (k : CallKind) (n : ℕ) (a b x : Arg) → 1 ≤ on S.cpus f → Given (second_deeds f (made k n a b x))
+  pub second_given : (f : ℕ) (k : CallKind) (n : ℕ) (a b x : Arg) → 1 ≤ on S.cpus f → Given (second_deeds f (call_of k n a b x))
   second_given f call.WdfSpinLockAcquire n a b x there = ((there, λ e. absurd (let z : ⊥ = cc in z)), tt)
   second_given f call.WdfWaitLockAcquire n a b x there = ((there, λ e. absurd (let z : ⊥ = cc in z)), tt)
   second_given f call.WdfInterruptAcquireLock n a b x there = ((there, λ e. absurd (let z : ⊥ = cc in z)), tt)

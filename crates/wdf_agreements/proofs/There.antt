@@ -21,7 +21,7 @@ use Rattle.wdf_agreements.proofs.Stays.{gives_up}
 use Rattle.wdf_agreements.proofs.Lists.{reads_same}
 use Rattle.wdf_agreements.proofs.Readers.{arrived_tree, tree_of}
 use Rattle.wdf_agreements.proofs.Lives.{noted_same}
-use Rattle.wdf_agreements.proofs.TreeStays.{tree_stays}
+use Rattle.wdf_agreements.proofs.PartsStay.{tree_stays}
 
 -- an object that is there is there still, and what it was
 pub record StaysAt (T U : Tree) (x : ℕ) : Type 0 where

@@ -29,7 +29,7 @@ use Rattle.wdf_agreements.proofs.Lists.{reads_same}
 use Rattle.wdf_agreements.proofs.Stays.{gives_up}
 use Rattle.wdf_agreements.proofs.ArrivedStay.{arrival_in, arrived_stay}
 use Rattle.wdf_agreements.proofs.Readers.{tree_of}
-use Rattle.wdf_agreements.proofs.TreeStays.{tree_stays}
+use Rattle.wdf_agreements.proofs.PartsStay.{tree_stays}
 
 -- ---- devices
 

@@ -49,7 +49,7 @@ use Rattle.wdf_blame_whole.specs.Standing.{IsOver, is_live_device, is_part, is_p
 use Rattle.wdf_agreements.proofs.Subtrees.{live_unasked, unasked_stays}
 use Rattle.wdf_agreements.proofs.Readers.{arrived_tree, tree_of}
 use Rattle.wdf_agreements.proofs.Lives.{asked_off, cleaned_off, noted_kept}
-use Rattle.wdf_agreements.proofs.TreeStays.{tree_stays}
+use Rattle.wdf_agreements.proofs.PartsStay.{tree_stays}
 use Rattle.wdf_blame_whole.proofs.Lasting.{Lasts, lasts_asked, lasts_ended, lasts_taken}
 use Rattle.wdf_blame_whole.proofs.Opened.{ArrivesWell, Opened, is_undone_request, opened_asked, opened_by, opened_completed}
 

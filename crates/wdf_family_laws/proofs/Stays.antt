@@ -28,7 +28,7 @@ use Rattle.wdf_agreements.proofs.Keeping.{deeds_keep}
 use Rattle.wdf_agreements.proofs.Stays.{gives_up}
 use Rattle.wdf_agreements.proofs.Lists.{reads_same}
 use Rattle.wdf_agreements.proofs.Readers.{arrived_tree, tree_of}
-use Rattle.wdf_agreements.proofs.TreeStays.{tree_stays}
+use Rattle.wdf_agreements.proofs.PartsStay.{tree_stays}
 
 -- an object was there, with the parent, the kind and the class that it has
 pub record WasAt (T U : Tree) (x : ℕ) : Type 0 where

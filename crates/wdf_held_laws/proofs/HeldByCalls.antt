@@ -47,9 +47,9 @@ use Rattle.wdf_invariants.proofs.Holding.{HoldsIn}
 use Rattle.wdf_laws.specs.Events.{argument_object, given_up, is_one, is_success, pair_of, taken, value_object, where_so}
 use Rattle.wdf_request_laws.proofs.Cancels.{named}
 use Rattle.wdf_request_laws.proofs.Entries.{forward_by}
-use Rattle.wdf_request_laws.proofs.Gives.{call_of}
 use Rattle.wdf_agreements.proofs.Readers.{power_of}
 use Rattle.wdf_agreements.proofs.Choices.{and_no}
+use Rattle.wdf_agreements.proofs.ReasonsOfCalls.{call_of}
 use Rattle.wdf_held_laws.proofs.Holdings.{NotesChange, NotesStay, acknowledged_notes, completed_notes, given_notes, notes_same}
 use Rattle.wdf_request_laws.proofs.Marks.{front_queued}
 use Rattle.wdf_held_laws.proofs.HeldAsTold.{HeldAsTold, give_step, silent_step, take_step, unheld_noted, queued_unheld}

@@ -42,10 +42,10 @@ use Rattle.wdf_invariants.proofs.HeldOverRuns.{from_by, holds_at_each}
 use Rattle.wdf_deeds.specs.MayDo.{may_do}
 use Rattle.wdf_deeds.proofs.Passing.{event_passes}
 use Rattle.wdf_request_laws.proofs.FirstParts.{did_reads, waiting_reads, woke_reads}
+use Rattle.wdf_agreements.proofs.ReasonsOfCalls.{call_of}
 use Rattle.wdf_held_laws.proofs.Holdings.{completed_notes, deeds_note, is_holding, none_holds}
 use Rattle.wdf_held_laws.proofs.HeldAsTold.{HeldAsTold, give_step, managed_some, silent_step, start_holds}
 use Rattle.wdf_held_laws.proofs.HeldByCalls.{call_notes, did_notes, is_holding_call}
-use Rattle.wdf_request_laws.proofs.Gives.{call_of}
 use Rattle.wdf_agreements.proofs.Keeping.{at_the_end}
 
 -- ---- events that take and give up nothing

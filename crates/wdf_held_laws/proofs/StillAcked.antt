@@ -54,7 +54,7 @@ use Rattle.wdf_laws.specs.Events.{argument_object, is_id, where_so}
 use Rattle.wdf_laws.specs.Signs.{shows}
 use Rattle.wdf_request_laws.proofs.Cancels.{named}
 use Rattle.wdf_request_laws.proofs.FirstParts.{did_reads, start_reads, waiting_reads, woke_reads}
-use Rattle.wdf_request_laws.proofs.Gives.{call_of}
+use Rattle.wdf_agreements.proofs.ReasonsOfCalls.{call_of}
 use Rattle.wdf_held_laws.proofs.Holdings.{is_holding, none_holds, noted}
 use Rattle.wdf_held_laws.proofs.HeldByCalls.{call_power}
 use Rattle.wdf_held_laws.proofs.HoldingsOverRuns.{event_none, is_plain, waits_holding}

@@ -63,11 +63,12 @@ use Rattle.wdf_laws.specs.Signs.{shows}
 use Rattle.wdf_laws.specs.Laws.{is_cancel_due, law_7}
 use Rattle.wdf_agreements.proofs.Readers.{arrived_requests}
 use Rattle.wdf_agreements.proofs.Keeping.{comes}
+use Rattle.wdf_agreements.proofs.ReasonsOfCalls.{call_of}
 use Rattle.wdf_request_laws.proofs.Happened.{ever_next, never_yet}
 use Rattle.wdf_request_laws.proofs.Quiet.{event_none, is_loud_call, is_loud_event}
 use Rattle.wdf_request_laws.proofs.Marks.{Goes, GoesAt, GoesOf, StillGoes, cancelled_off, completed_requests, deed_still, deeds_still, is_armed, is_told, new_request_comes, one_at, others_at}
 use Rattle.wdf_request_laws.proofs.FirstParts.{did_reads, start_reads}
-use Rattle.wdf_request_laws.proofs.Gives.{call_of, completes_off, completes_still}
+use Rattle.wdf_request_laws.proofs.Gives.{completes_off, completes_still}
 use Rattle.wdf_request_laws.proofs.Cancels.{AllGo, Begun, all_next, did_goes, has_begun, marks_stand, next_goes, was_posted}
 
 -- ---- calls

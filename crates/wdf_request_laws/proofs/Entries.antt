@@ -57,10 +57,11 @@ use Rattle.wdf_laws.specs.declared.sign.Sign.TheVariants as sign
 use Rattle.wdf_laws.specs.Events.{argument_object, headed, id_in, is_id, is_success, tailed, where_so}
 use Rattle.wdf_laws.specs.Signs.{shows}
 use Rattle.wdf_model.proofs.KeptMoves.{queue_elsewhere, queue_here}
+use Rattle.wdf_agreements.proofs.ReasonsOfCalls.{call_of}
 use Rattle.wdf_request_laws.proofs.Quiet.{event_none, is_loud_call, is_loud_event, outcome_none}
 use Rattle.wdf_request_laws.proofs.FirstParts.{did_reads}
 use Rattle.wdf_request_laws.proofs.Lines.{LinesShrink, Shrinks, all_such, deed_shrinks, deeds_shrink, fresh_of, given_lines, lines_same, shrinks_same}
-use Rattle.wdf_request_laws.proofs.Gives.{call_of, given_first}
+use Rattle.wdf_request_laws.proofs.Gives.{given_first}
 use Rattle.wdf_request_laws.proofs.Cancels.{named, where_told}
 use Rattle.wdf_request_laws.proofs.CancelsOverRuns.{waits_quietly}
 

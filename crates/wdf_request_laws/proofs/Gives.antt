@@ -9,7 +9,6 @@ use Rattle.wdf_base.specs.declared.object.Mark.TheVariants as marks
 use Rattle.wdf_base.specs.declared.object.Place.{Place}
 use Rattle.wdf_base.specs.declared.object.Place.TheVariants as place
 use Rattle.wdf_base.specs.declared.call.Arg.{Arg}
-use Rattle.wdf_base.specs.declared.call.Call.{Call}
 use Rattle.wdf_base.specs.declared.call.CallKind.{CallKind}
 use Rattle.wdf_base.specs.declared.call.CallKind.TheVariants as call
 use Rattle.wdf_base.specs.declared.event.Fault.TheVariants as fault
@@ -31,12 +30,9 @@ use Rattle.wdf_model.proofs.Maps.{entry_put_same}
 use Rattle.wdf_model.proofs.FitsOfCalls.{Clean}
 use Rattle.wdf_model.proofs.KeptByDeeds.{KeptIn, owned_of, owned_undone}
 use Rattle.wdf_laws.specs.Events.{is_one, is_success, is_undoing}
+use Rattle.wdf_agreements.proofs.ReasonsOfCalls.{call_of}
 use Rattle.wdf_request_laws.proofs.Quiet.{outcome_none}
 use Rattle.wdf_request_laws.proofs.Marks.{StillGoes, deed_still, deeds_still, completed_requests, enters_at_head, enters_at_tail, gives_back, is_armed, moves, withdrawn_unmarked}
-
--- a call by its parts
-abbrev pub call_of : CallKind → ℕ → Arg → Arg → Arg → Call
-call_of k n a b x = record { kind = k; count = n; a = a; b = b; c = x }
 
 -- What is done keeps how the marks go with what the events tell; and where the answer passes a test, this request has no
 -- mark after it.

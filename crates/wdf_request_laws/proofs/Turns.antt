@@ -50,10 +50,10 @@ use Rattle.wdf_laws.specs.Words.{ever}
 use Rattle.wdf_laws.specs.Laws.{all_in_turn, is_in_order, is_in_turn, is_presented_in_turn, law_8, presented_at, presented_in}
 use Rattle.wdf_model.proofs.KeptMoves.{queue_here}
 use Rattle.wdf_agreements.proofs.Keeping.{comes}
+use Rattle.wdf_agreements.proofs.ReasonsOfCalls.{call_of}
 use Rattle.wdf_request_laws.proofs.Happened.{ever_next}
 use Rattle.wdf_request_laws.proofs.FirstParts.{did_reads, start_reads}
 use Rattle.wdf_request_laws.proofs.CancelsOverRuns.{started}
-use Rattle.wdf_request_laws.proofs.Gives.{call_of}
 use Rattle.wdf_request_laws.proofs.Lines.{all_more, each_in, first_before, first_passes, found_passes}
 use Rattle.wdf_request_laws.proofs.Entries.{LineSteps}
 use Rattle.wdf_request_laws.proofs.Orders.{in_order_at_each, next_each, steps_now}

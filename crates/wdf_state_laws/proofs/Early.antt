@@ -39,7 +39,7 @@ use Rattle.wdf_agreements.proofs.FramesStay.{Begins, FramesGoOn, frames_by}
 use Rattle.wdf_state_laws.specs.States.{FramesBeforeCleanup}
 use Rattle.wdf_agreements.proofs.Readers.{arrived_tree, tree_of}
 use Rattle.wdf_agreements.proofs.Lives.{live_early, noted_kept}
-use Rattle.wdf_agreements.proofs.TreeStays.{tree_stays}
+use Rattle.wdf_agreements.proofs.PartsStay.{tree_stays}
 use Rattle.wdf_state_laws.proofs.Beginnings.{AllEarly, Early, event_early}
 
 -- ---- an object that isn't past its cleanup isn't after a deed, until its cleanup or its end

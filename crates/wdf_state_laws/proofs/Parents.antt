@@ -36,7 +36,7 @@ use Rattle.wdf_agreements.proofs.LivesOver.{Lives, lives_at_each}
 use Rattle.wdf_state_laws.specs.States.{ParentsThere}
 use Rattle.wdf_agreements.proofs.Readers.{arrived_tree, tree_of}
 use Rattle.wdf_agreements.proofs.Lives.{noted_kept}
-use Rattle.wdf_agreements.proofs.TreeStays.{tree_stays}
+use Rattle.wdf_agreements.proofs.PartsStay.{tree_stays}
 
 -- what isn't gone has no parent, or one that isn't gone
 abbrev pub Kin : Tree → Type 0

@@ -63,12 +63,12 @@ use Rattle.wdf_laws.specs.Events.{argument_object, is_handler, pair_of, value_ob
 use Rattle.wdf_laws.specs.Signs.{is_taking_of, shows}
 use Rattle.wdf_request_laws.proofs.Cancels.{named}
 use Rattle.wdf_request_laws.proofs.FirstParts.{did_reads, start_reads, waiting_reads, woke_reads}
-use Rattle.wdf_request_laws.proofs.Gives.{call_of}
 use Rattle.wdf_held_laws.proofs.Holdings.{is_holding, none_holds, noted, taken_notes}
 use Rattle.wdf_held_laws.proofs.HeldByCalls.{call_power}
 use Rattle.wdf_held_laws.proofs.HoldingsOverRuns.{event_none, is_plain, waits_holding}
 use Rattle.wdf_held_laws.proofs.StillSuch.{Advances, By, StillSuch, deed_still, effect_still, forwards_still, gives_still, sends_still, still_completed, still_one, still_power, still_same, still_then}
 use Rattle.wdf_agreements.proofs.Readers.{power_of}
+use Rattle.wdf_agreements.proofs.ReasonsOfCalls.{call_of}
 
 -- ---- one request
 

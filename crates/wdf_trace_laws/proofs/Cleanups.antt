@@ -35,7 +35,7 @@ use Rattle.wdf_agreements.proofs.Readers.{arrived_tree, tree_of}
 use Rattle.wdf_agreements.proofs.Lives.{noted_life}
 use Rattle.wdf_agreements.proofs.CleanedOver.{live_uncleaned, none_cleaned, unmade}
 use Rattle.wdf_agreements.proofs.Keeping.{comes}
-use Rattle.wdf_agreements.proofs.TreeStays.{tree_stays}
+use Rattle.wdf_agreements.proofs.PartsStay.{tree_stays}
 use Rattle.wdf_trace_laws.proofs.Words.{ever_next}
 use Rattle.wdf_deeds.specs.MayDo.{is_cleanup}
 use Rattle.wdf_trace_laws.proofs.Untouched.{cleans, event_none, none_cleans}

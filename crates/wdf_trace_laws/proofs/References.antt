@@ -40,7 +40,7 @@ use Rattle.wdf_model.specs.parts.Tree.{is_gone}
 use Rattle.wdf_agreements.proofs.Keeping.{comes, deeds_keep as keep_deeds, each_place}
 use Rattle.wdf_invariants.proofs.Trees.{cleaned_there}
 use Rattle.wdf_agreements.proofs.Readers.{arrived_tree, tree_of}
-use Rattle.wdf_agreements.proofs.TreeStays.{tree_stays}
+use Rattle.wdf_agreements.proofs.PartsStay.{tree_stays}
 use Rattle.wdf_trace_laws.proofs.Lasting.{Past, deed_keeps}
 use Rattle.wdf_model.specs.rules.Steps.{did_deeds}
 use Rattle.wdf_model.proofs.Deletion.{object_live, object_off}
