@@ -1,6 +1,6 @@
 -- A stage that a device waits for always has a cause, and so has each line of which that is said.
 use Rattle.wdf_blame.proofs.Works.{work_named}
-use Rattle.std.proofs.Common.{◌≡◌, inl, inr, ℕ, suc, ◌==◌, ◌<◌, slice_get, Bool, true, false, not, ◌&&◌, ◌||◌, List, [], ◌∷◌, Option, Some, None, is_some, filter, length, refl, ap, ◌∙◌, arith, rules}
+use Rattle.std.proofs.Common.{◌≡◌, inl, inr, ℕ, ◌==◌, ◌<◌, slice_get, Bool, true, false, not, ◌&&◌, ◌||◌, List, [], ◌∷◌, Option, Some, None, is_some, filter, length, refl, ap, ◌∙◌, arith, rules}
 use Rattle.std.specs.List.{flat_map, list_all, list_any}
 use Rattle.wdf_base.specs.declared.plan.Plan.{Plan}
 use Rattle.wdf_base.specs.declared.object.Place.{Place}
@@ -39,7 +39,6 @@ use Rattle.wdf_base.specs.declared.event.Step.{Step}
 use Rattle.wdf_base.specs.declared.event.Step.TheVariants as step
 use Rattle.std.specs.Bool.{Decides}
 use Rattle.wdf_model.specs.declared.entries.Request.{Request}
-use Rattle.wdf_model.specs.Tables.{entry}
 use Rattle.wdf_model.specs.Plans.{managed_queues}
 use Rattle.wdf_model.specs.parts.Requests.{no_request, request_of}
 use Rattle.wdf_model.specs.parts.Power.{unsettled}

@@ -40,7 +40,7 @@ use Rattle.wdf_model.specs.parts.Pnp.{follows_queues_up, is_running_step, next_s
 use Rattle.wdf_model.specs.parts.Deferred.Dpcs.{is_dpc_queued}
 use Rattle.wdf_model.specs.rules.Starts.{handle_id, is_unfinished_at, targets_at}
 use Rattle.wdf_model.specs.rules.Groups.{dpc_function}
-use Rattle.wdf_model.specs.rules.Waits.{asking_line, by_request, cpu_of_dpc, cpus_with_dpc, deferred_cause, deferred_line, device_line, dpc_cause, first_cause, frames_in_order, head_lock, object_of_step, queues_to_resume, quiet_frames, resume_cpus, resume_frames, resumes_cause, running_cause, runs_step, scope_holders, sequence_line, stage_cpus, stage_frames, stage_requests, step_cause, wait_lines, wait_list, work_cause}
+use Rattle.wdf_model.specs.rules.Waits.{by_request, cpu_of_dpc, cpus_with_dpc, deferred_cause, deferred_line, dpc_cause, first_cause, head_lock, object_of_step, queues_to_resume, quiet_frames, resume_cpus, resume_frames, resumes_cause, running_cause, runs_step, scope_holders, sequence_line, stage_cpus, stage_frames, stage_requests, step_cause, wait_list, work_cause}
 use Rattle.wdf_base.specs.Meaning.{Meaning}
 use Rattle.wdf_base.specs.declared.event.Event.{Event}
 use Rattle.wdf_base.specs.declared.event.Ending.TheVariants as ending
