@@ -28,20 +28,18 @@ use Rattle.wdf_base.specs.Same.{same_handle, same_option, same_post}
 use Rattle.wdf_model.specs.Tables.{flag}
 use Rattle.wdf_model.specs.Plans.{declares}
 use Rattle.wdf_model.specs.parts.Tree.{is_live, life_of, next_id}
-use Rattle.wdf_model.specs.parts.Cpus.{frame_of}
 use Rattle.wdf_model.specs.parts.Requests.{is_cancelled, is_owned, is_queued_in, mark_answer, place_of}
 use Rattle.wdf_model.specs.parts.Queues.{Queues, waiting_in}
 use Rattle.wdf_model.specs.parts.Queues as queues
 use Rattle.wdf_model.specs.parts.Control.{accepts, is_purged, mode_of}
 use Rattle.wdf_model.specs.State.{State, object_in}
 use Rattle.wdf_model.specs.Ids.{object_id}
-use Rattle.wdf_model.specs.declared.deed.Deed.{Deed}
 use Rattle.wdf_model.specs.declared.deed.Deed.TheVariants.{Acknowledge, Arrive, CompleteRequest, CountArrival, Forward, GiveBack, MarkRequest, Requeue, Withdraw}
 use Rattle.wdf_model.specs.rules.Deeds.{arrive_at, do_deed, do_deeds, give_up}
 use Rattle.wdf_model.specs.rules.Faults.{arg_is}
 use Rattle.wdf_model.specs.rules.Calls.{Outcome, forwards_nowhere, origin_or_none, outcome, refused, requeue_outcome, success}
 use Rattle.wdf_model.specs.rules.Posts.{arrival_info, arrival_place, arriving, cancel_at, cancel_deeds, cancel_reaches, due_of, post_answer, post_fits}
-use Rattle.wdf_model.specs.rules.Steps.{after, deeds, did_deeds, may, view_of}
+use Rattle.wdf_model.specs.rules.Steps.{after, deeds, may, view_of}
 use Rattle.wdf_model.specs.laws.FactsOfEvents.{IsTick}
 use Rattle.wdf_model.specs.laws.Fits.{all_fit}
 use Rattle.wdf_model.proofs.Tests.{both_right, not_false}
@@ -49,7 +47,6 @@ use Rattle.wdf_model.proofs.Counts.{one_or_two}
 use Rattle.wdf_model.proofs.Sames.{handle_same}
 use Rattle.wdf_model.proofs.Fits.{wrong_kind_of_first}
 use Rattle.wdf_model.proofs.FitsOfCalls.{Clean, outcome_fits}
-use Rattle.wdf_model.proofs.FitsOfEvents.{by_its_top}
 use Rattle.wdf_model.proofs.OwnEvents.{IsDid, did_tells, waiting_tells}
 use Rattle.wdf_model.proofs.KeptByDeeds.{KeptIn, owned_of}
 use Rattle.wdf_model.proofs.KeptTargets.{nowhere_yet}
@@ -59,7 +56,7 @@ use Rattle.wdf_laws.specs.Signs.{shows}
 use Rattle.wdf_model.proofs.KeptMoves.{queue_elsewhere, queue_here}
 use Rattle.wdf_agreements.proofs.ReasonsOfCalls.{call_of}
 use Rattle.wdf_request_laws.proofs.Quiet.{event_none, is_loud_call, is_loud_event, outcome_none}
-use Rattle.wdf_request_laws.proofs.FirstParts.{did_reads}
+use Rattle.wdf_request_laws.proofs.FirstParts.{did_after}
 use Rattle.wdf_request_laws.proofs.Lines.{LinesShrink, Shrinks, all_such, deed_shrinks, deeds_shrink, fresh_of, given_lines, lines_same, shrinks_same}
 use Rattle.wdf_request_laws.proofs.Gives.{given_first}
 use Rattle.wdf_request_laws.proofs.Cancels.{named, where_told}
@@ -220,8 +217,7 @@ did_steps : {A : Type 0} {F B : ℕ → Bool} (plan : Plan) (m : Meaning A) (S :
 did_steps {A} plan m S cpu c v h k =
     let d : IsDid plan S cpu.0 c v = did_tells plan m S cpu c v h in
     let same : (after plan m S (event.Did cpu c v)).queues ≡ (do_deeds plan (outcome plan S cpu.0 d.frame c).deeds S).queues =
-    ap (λ (ds : List Deed). (do_deeds plan ds S).queues) (by_its_top S cpu.0 d.frame (did_deeds plan S cpu.0 c v) d.about.top)
-    ∙ did_reads (λ (T : State A). T.queues) (λ T L C. refl) plan S cpu.0 d.frame c v (frame_of S.cpus d.frame) in
+    did_after (λ (T : State A). T.queues) (λ T L C. refl) plan S cpu.0 c v d in
     subst (LineSteps (event.Did cpu c v) S.queues) (sym same) (call_steps plan S cpu d.frame c.kind c.count c.a c.b c.c v d.about.clean d.answer k)
 
 -- ---- posts
