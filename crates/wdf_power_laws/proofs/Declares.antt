@@ -36,7 +36,6 @@ use Rattle.wdf_model.proofs.Counts.{count_cons, equal, not_equal, one_or_two}
 use Rattle.wdf_model.proofs.Sames.{callback_decides}
 use Rattle.wdf_model.proofs.Tests.{both_left, both_right, not_true}
 use Rattle.wdf_agreements.proofs.LevelCalls.{all_fit_at}
-use Rattle.wdf_agreements.proofs.Lists.{inside}
 
 -- ---- callbacks of devices
 

@@ -25,7 +25,6 @@ use Rattle.wdf_model.specs.parts.Queues.{waiting_in}
 use Rattle.wdf_model.specs.parts.Control as control
 use Rattle.wdf_model.specs.parts.Control.{is_closed}
 use Rattle.wdf_model.specs.parts.Power.{holding_of, is_held, no_device_power}
-use Rattle.wdf_model.specs.parts.Power as power
 use Rattle.wdf_model.specs.parts.Requests.{Requests, cancelled, closed_at, forgotten, info_of, is_in, is_marked, is_over, is_returning_to, made_info, marked, moved, no_request, place_of, request_of, unmarked, with_mark, with_request}
 use Rattle.wdf_model.specs.parts.Requests as requests
 use Rattle.wdf_model.specs.parts.Targets.{is_forgotten}

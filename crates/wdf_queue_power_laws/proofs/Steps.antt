@@ -24,7 +24,7 @@ use Rattle.wdf_base.specs.Callbacks.{row_of}
 use Rattle.wdf_base.specs.Same.{same_option, same_step}
 use Rattle.wdf_model.specs.Plans.{callback_irql}
 use Rattle.wdf_model.specs.parts.Tree.{nearest_device}
-use Rattle.wdf_model.specs.parts.Cpus.{frame_of, is_running, top}
+use Rattle.wdf_model.specs.parts.Cpus.{frame_of, is_running}
 use Rattle.wdf_model.specs.parts.Locks.{lock_of_callback}
 use Rattle.wdf_model.specs.parts.Power.{advance_stage, opening_power}
 use Rattle.wdf_model.specs.parts.Pnp.{Sequence, busy, is_running_step, left_after, next_step, running_step, steps_for, steps_left, taken_step}

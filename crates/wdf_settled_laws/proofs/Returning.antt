@@ -19,7 +19,6 @@ use Rattle.wdf_model.specs.parts.Requests as requests
 use Rattle.wdf_model.specs.parts.Queues.{waiting_in}
 use Rattle.wdf_model.specs.parts.Control as control
 use Rattle.wdf_model.specs.parts.Power.{holding_of, is_held, no_device_power}
-use Rattle.wdf_model.specs.parts.Power as power
 use Rattle.wdf_model.specs.parts.Targets.{is_forgotten}
 use Rattle.wdf_model.specs.State.{State, is_powered, is_with_driver, returns_to, withdrawn_place}
 use Rattle.wdf_model.specs.declared.deed.Deed.{Deed}
