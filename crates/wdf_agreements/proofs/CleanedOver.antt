@@ -8,25 +8,16 @@ use Rattle.wdf_base.specs.declared.object.Kind.{Kind}
 use Rattle.wdf_base.specs.declared.object.Kind.TheVariants as kind
 use Rattle.wdf_base.specs.declared.object.Life.{Life}
 use Rattle.wdf_base.specs.declared.object.Life.TheVariants as life
-use Rattle.wdf_base.specs.declared.object.Place.{Place}
-use Rattle.wdf_base.specs.declared.object.Place.TheVariants as place
-use Rattle.wdf_base.specs.declared.object.RequestInfo.{RequestInfo}
-use Rattle.wdf_base.specs.declared.call.Callback.{Callback}
-use Rattle.wdf_base.specs.declared.call.Callback.TheVariants as callback
 use Rattle.wdf_base.specs.declared.declared.Declared.{Declared}
-use Rattle.wdf_model.specs.declared.enums.Mode.TheVariants as mode
 use Rattle.wdf_model.specs.declared.entries.Node.{Node}
 use Rattle.wdf_model.specs.Tables.{entry}
-use Rattle.wdf_model.specs.Plans.{managed_queues, queues_of}
-use Rattle.wdf_model.specs.parts.Tree.{Tree, children, declared_node, gone, is_asked, is_child, is_cleaned, is_full, is_gone, is_live, is_past_cleanup, life_of, may_clean, new_node, next_id, node_of, noted, opening_tree, parent_of, subtree, with_life, with_node, younger_siblings}
+use Rattle.wdf_model.specs.parts.Tree.{Tree, children, declared_node, gone, is_child, is_cleaned, is_gone, is_live, is_past_cleanup, life_of, may_clean, new_node, next_id, node_of, noted, opening_tree, parent_of, subtree, with_life, with_node}
 use Rattle.wdf_model.specs.parts.Tree as tree
 use Rattle.wdf_model.specs.parts.Requests as requests
-use Rattle.wdf_model.specs.parts.Queues.{waiting_in}
-use Rattle.wdf_model.specs.parts.Control as control
 use Rattle.wdf_model.specs.State.{State}
 use Rattle.wdf_model.specs.declared.deed.Deed.{Deed}
-use Rattle.wdf_model.specs.declared.deed.Deed.TheVariants.{Create, MakeRequest, Arrive, AskDeletion, Refer, Unrefer, WriteCell, Note, CleanUp, EndLife, Requeue, Forward, GiveBack, SendRequest, CompleteRequest, PurgeQueue, CloseReturning, CloseDevice}
-use Rattle.wdf_model.specs.rules.Deeds.{arrive_at, ask_object, do_deed, give_up}
+use Rattle.wdf_model.specs.declared.deed.Deed.TheVariants.{Create, MakeRequest, Arrive, AskDeletion, Refer, Unrefer, WriteCell, Note, CleanUp, EndLife, CompleteRequest}
+use Rattle.wdf_model.specs.rules.Deeds.{ask_object, do_deed, give_up}
 use Rattle.wdf_model.specs.rules.Starts.{clean_ready}
 use Rattle.wdf_model.specs.rules.Steps.{deeds}
 use Rattle.wdf_model.specs.rules.Ready.{IsRunOf, state_after}
@@ -38,8 +29,11 @@ use Rattle.wdf_model.proofs.Deletion.{object_live, object_off}
 use Rattle.wdf_model.proofs.FitsOfEvents.{event_fits}
 use Rattle.wdf_agreements.specs.Agreements.{CleanedInOrder}
 use Rattle.wdf_agreements.proofs.Keeping.{deeds_keep, each_place}
-use Rattle.wdf_agreements.proofs.Stays.{gives_up, gives_up_if, queues_closed, returns_closed, withdraws}
+use Rattle.wdf_agreements.proofs.Stays.{gives_up}
 use Rattle.wdf_agreements.proofs.Lists.{all_of_kept, inside, reads_same}
+use Rattle.wdf_agreements.proofs.Readers.{arrived_tree, tree_of}
+use Rattle.wdf_agreements.proofs.Lives.{asked_early, noted_kept}
+use Rattle.wdf_agreements.proofs.PartsStay.{tree_stays}
 
 -- what isn't past its cleanup has no cleaned parent
 abbrev pub InOrder : Tree → Type 0
@@ -56,7 +50,7 @@ object_changes T o f past cleaned parent =
 
 -- ---- an object is made
 
-unmade : (T : Tree) (k : Kind) (class parent : ℕ) (x : ℕ) → is_cleaned (life_of (tree.create T k class parent) x) ≡ is_cleaned (life_of T x)
+pub unmade : (T : Tree) (k : Kind) (class parent : ℕ) (x : ℕ) → is_cleaned (life_of (tree.create T k class parent) x) ≡ is_cleaned (life_of T x)
 unmade T k class parent x = elim (one_or_two x (next_id T)) [
   | inl e ↦
       let new : is_cleaned (life_of (tree.create T k class parent) (next_id T)) ≡ false = ap (λ (n : Node). is_cleaned n.life) (entry_last gone T.nodes (new_node k class parent)) in
@@ -65,7 +59,7 @@ unmade T k class parent x = elim (one_or_two x (next_id T)) [
   | inr n ↦ ap (λ (m : Node). is_cleaned m.life) (entry_before gone T.nodes (new_node k class parent) x n)
 ]
 
-live_uncleaned : (l : Life) → is_live l ≡ true → is_cleaned l ≡ false
+pub live_uncleaned : (l : Life) → is_live l ≡ true → is_cleaned l ≡ false
 live_uncleaned life.Cleaned h = absurd (let z : ⊥ = cc in z)
 live_uncleaned _ h = refl
 
@@ -97,7 +91,7 @@ all_asked (x ∷ xs) S q = all_asked xs (ask_object S x) (asked_one S x (is_live
 
 -- ---- an object is cleaned up, or ends
 
-may_clean_at : {A : Type 0} (S : State A) (o : ℕ) → clean_ready S o ≡ true → may_clean S.tree o ≡ true
+pub may_clean_at : {A : Type 0} (S : State A) (o : ℕ) → clean_ready S o ≡ true → may_clean S.tree o ≡ true
 may_clean_at S o h = search (both_left, both_right)
 
 not_gone : (l : Life) → is_past_cleanup l ≡ false → not (is_gone l) ≡ true
@@ -140,25 +134,13 @@ ended T o q x h = elim (one_or_two x o) [
 
 -- ---- each deed
 
-noted_kept : (c : Callback) (n : Node) → ((noted c n).life ≡ n.life) × ((noted c n).parent.0 ≡ n.parent.0)
-noted_kept callback.EvtCleanupCallback n = (refl, refl)
-noted_kept callback.EvtDestroyCallback n = (refl, refl)
-noted_kept _ n = (refl, refl)
-
 same_tree : (T U : Tree) → U ≡ T → InOrder T → InOrder U
 same_tree T U e q = subst InOrder (sym e) q
-
-arrived : {A : Type 0} (S : State A) (device : ℕ) (info : RequestInfo) (p : Place) → (arrive_at S device info p).tree ≡ tree.arrive S.tree device
-arrived S device info (place.Queued q) = refl
-arrived S device info _ = refl
-
-abbrev tree_of : {A : Type 0} → State A → Tree
-tree_of S = S.tree
 
 deed_keeps : {A : Type 0} (plan : Plan) (d : Deed) (S : State A) → fits plan d S ≡ true → InOrder S.tree → InOrder (do_deed plan d S).tree
 deed_keeps plan (Create k class parent) S f q = object_made S.tree k class parent.0 (search (both_left, both_right)) q
 deed_keeps plan (MakeRequest class parent) S f q = object_made S.tree kind.Made class parent.0 (search (both_left, both_right)) q
-deed_keeps plan (Arrive device info p) S f q = same_tree _ _ (arrived S device.0 info p) (object_made S.tree kind.Request 0 device.0 (search (both_left, both_right)) q)
+deed_keeps plan (Arrive device info p) S f q = same_tree _ _ (arrived_tree S device.0 info p) (object_made S.tree kind.Request 0 device.0 (search (both_left, both_right)) q)
 deed_keeps plan (AskDeletion o) S f q = all_asked (subtree S.tree o.0) S q
 deed_keeps plan (Refer o) S f q = object_changes S.tree o.0 (λ n. record n { references = n.references + 1 }) refl refl refl q
 deed_keeps plan (Unrefer o) S f q = object_changes S.tree o.0 (λ n. record n { references = n.references - 1 }) refl refl refl q
@@ -168,16 +150,9 @@ deed_keeps plan (Note o c) S f q =
     object_changes S.tree o.0 (noted c) (ap is_past_cleanup k.0) (ap is_cleaned k.0) k.1 q
 deed_keeps plan (CleanUp o) S f q = cleaned S.tree o.0 (may_clean_at S o.0 f) q
 deed_keeps plan (EndLife o) S f q = ended S.tree o.0 q
-deed_keeps plan (Requeue r p) S f q = same_tree _ _ (gives_up tree_of (λ S Q R P. refl) S r.0) q
-deed_keeps plan (Forward r p) S f q = same_tree _ _ (gives_up tree_of (λ S Q R P. refl) S r.0) q
-deed_keeps plan (GiveBack r p) S f q = same_tree _ _ (gives_up tree_of (λ S Q R P. refl) S r.0) q
-deed_keeps plan (SendRequest r t forget) S f q = same_tree _ _ (gives_up_if tree_of (λ S Q R P. refl) S forget r.0) q
 deed_keeps plan (CompleteRequest r) S f q =
     all_asked (subtree (give_up S r.0).tree r.0) (record (give_up S r.0) { requests = requests.complete S.requests r.0 }) (same_tree _ _ (gives_up tree_of (λ S Q R P. refl) S r.0) q)
-deed_keeps plan (PurgeQueue p) S f q = same_tree _ _ (withdraws tree_of (λ S Q R P. refl) plan p.0 (waiting_in S.queues p.0) (record S { control = control.set_mode S.control p.0 mode.Purged })) q
-deed_keeps plan (CloseReturning d) S f q = same_tree _ _ (returns_closed tree_of (λ S Q R P. refl) (managed_queues plan d.0) S) q
-deed_keeps plan (CloseDevice d) S f q = same_tree _ _ (queues_closed tree_of (λ S Q R P. refl) (queues_of plan d.0) (record S { control = control.shut S.control d.0 })) q
-deed_keeps plan _ S f q = q
+deed_keeps plan d S f q = same_tree _ _ (tree_stays plan d S refl) q
 
 -- ---- the opening, and each place of a run
 
@@ -186,7 +161,7 @@ no_cleaned [] x = refl
 no_cleaned (d ∷ ds) zero = refl
 no_cleaned (d ∷ ds) (suc x) = no_cleaned ds x
 
-none_cleaned : (plan : Plan) (x : ℕ) → is_cleaned (life_of (opening_tree plan) x) ≡ false
+pub none_cleaned : (plan : Plan) (x : ℕ) → is_cleaned (life_of (opening_tree plan) x) ≡ false
 none_cleaned plan zero = refl
 none_cleaned plan (suc x) = no_cleaned plan.declared x
 
@@ -194,12 +169,6 @@ pub in_order_at_each : {A : Type 0} (plan : Plan) (m : Meaning A) (run : List Ev
 in_order_at_each {A} plan m run is_run n = each_place plan m (λ (S : State A). InOrder S.tree) (λ x h. none_cleaned plan (parent_of (opening_tree plan) x))
     (λ S e known may q. deeds_keep plan (λ (U : State A). InOrder U.tree) (deed_keeps plan) (deeds plan S e) S (event_fits plan m S e may) q)
     (λ S time q. q) run is_run n
-
-asked_early : (l : Life) → is_asked l ≡ true → is_past_cleanup l ≡ false
-asked_early life.Asked h = refl
-asked_early life.Live h = refl
-asked_early life.Cleaned h = absurd (let z : ⊥ = cc in z)
-asked_early life.Gone h = absurd (let z : ⊥ = cc in z)
 
 pub cleaned_in_order_at_each : {A : Type 0} (plan : Plan) (m : Meaning A) (run : List Event) → IsRunOf plan m run → (n : ℕ) → CleanedInOrder (state_after plan m (take n run))
 cleaned_in_order_at_each plan m run is_run n = record { above = λ o h. in_order_at_each plan m run is_run n o (asked_early (life_of (state_after plan m (take n run)).tree o) h) }

@@ -1,24 +1,20 @@
 -- Deferred work that is queued is of an object that is live, at each place of every run.
 use Rattle.std.proofs.Common.{◌≡◌, ◌≢◌, ℕ, zero, suc, ◌+◌, ◌-◌, Bool, true, false, ◌||◌, List, [], ◌∷◌, inl, inr, is_some, fold, slice_set, replicate, take, refl, sym, ap, subst, ◌∙◌, arith}
 use Rattle.std.specs.List.{list_any}
-use Rattle.std.proofs.lemmas.Bool.{or_cases}
 use Rattle.wdf_base.specs.Meaning.{Meaning}
 use Rattle.wdf_base.specs.declared.plan.Plan.{Plan}
 use Rattle.wdf_base.specs.declared.event.Event.{Event}
 use Rattle.wdf_base.specs.declared.object.Kind.{Kind}
 use Rattle.wdf_base.specs.declared.object.Kind.TheVariants as kind
-use Rattle.wdf_base.specs.declared.object.Life.{Life}
 use Rattle.wdf_base.specs.declared.object.Life.TheVariants as life
 use Rattle.wdf_base.specs.declared.object.Place.{Place}
 use Rattle.wdf_base.specs.declared.object.Place.TheVariants as place
 use Rattle.wdf_base.specs.declared.object.RequestInfo.{RequestInfo}
-use Rattle.wdf_base.specs.declared.call.Callback.{Callback}
-use Rattle.wdf_base.specs.declared.call.Callback.TheVariants as callback
 use Rattle.wdf_model.specs.declared.enums.Mode.TheVariants as mode
 use Rattle.wdf_model.specs.declared.entries.Node.{Node}
 use Rattle.wdf_model.specs.Tables.{contains}
 use Rattle.wdf_model.specs.Plans.{interrupt_of, managed_queues, queues_of}
-use Rattle.wdf_model.specs.parts.Tree.{Tree, gone, is_asked, is_cleaned, is_live, life_of, may_destroy, new_node, next_id, node_of, noted, subtree, with_life, with_node}
+use Rattle.wdf_model.specs.parts.Tree.{Tree, gone, is_asked, is_cleaned, is_live, life_of, new_node, next_id, node_of, noted, subtree, with_life, with_node}
 use Rattle.wdf_model.specs.parts.Tree as tree
 use Rattle.wdf_model.specs.parts.Requests as requests
 use Rattle.wdf_model.specs.parts.Queues.{waiting_in}
@@ -32,7 +28,7 @@ use Rattle.wdf_model.specs.declared.deed.Deed.TheVariants.{Create, MakeRequest, 
 use Rattle.wdf_model.specs.rules.Deeds.{arrive_at, ask_object, do_deed, give_up}
 use Rattle.wdf_model.specs.rules.Ready.{IsRunOf, state_after}
 use Rattle.wdf_model.specs.laws.Fits.{fits}
-use Rattle.wdf_model.proofs.Tests.{both_left, first, second}
+use Rattle.wdf_model.proofs.Tests.{both_left}
 use Rattle.wdf_model.proofs.Maps.{entry_before, entry_past, entry_put_other}
 use Rattle.wdf_model.proofs.Deletion.{object_live, object_off}
 use Rattle.wdf_agreements.specs.Agreements.{WorkIsLive}
@@ -41,6 +37,8 @@ use Rattle.wdf_agreements.proofs.Lists.{reads_same}
 use Rattle.wdf_agreements.proofs.Queued.{dpc_cancelled, dpc_enqueued, dpc_taken, timer_fired, timer_started, timer_stopped, work_cancelled, work_enqueued}
 use Rattle.wdf_agreements.proofs.Sound.{Sound}
 use Rattle.wdf_agreements.proofs.SoundRuns.{sound_place}
+use Rattle.wdf_agreements.proofs.Lives.{asked_off, cleaned_off, noted_life}
+use Rattle.wdf_agreements.proofs.Choices.{left_of, or_still}
 
 -- the objects and the queues of deferred work
 pub record Work : Type 0 where
@@ -58,12 +56,6 @@ pub record Deferring (plan : Plan) (w : Work) : Type 0 where
   pub timers : (o : ℕ) → is_timer_queued w.timers o ≡ true → is_live (life_of w.tree o) ≡ true
 
 -- ---- the objects change
-
-or_still : (a b c : Bool) → (a ≡ true → b ≡ true) → (a || c) ≡ true → (b || c) ≡ true
-or_still a b c h k = elim (or_cases a c k) [
-  | inl e ↦ first b c (h e)
-  | inr e ↦ second b c e
-]
 
 tree_changes : (plan : Plan) (w : Work) (T : Tree) → ((x : ℕ) → is_live (life_of w.tree x) ≡ true → is_live (life_of T x) ≡ true) → Deferring plan w → Deferring plan (record w { tree = T })
 tree_changes plan w T still k = record {
@@ -98,20 +90,7 @@ all_asked plan (x ∷ xs) S k = all_asked plan xs (ask_object S x) (asked_one pl
 
 -- ---- each deed
 
-noted_life : (c : Callback) (n : Node) → (noted c n).life ≡ n.life
-noted_life callback.EvtCleanupCallback n = refl
-noted_life callback.EvtDestroyCallback n = refl
-noted_life _ n = refl
-
-asked_off : (l : Life) → is_asked l ≡ true → false ≡ is_live l
-asked_off life.Live h = absurd (let z : ⊥ = cc in z)
-asked_off _ h = refl
-
-cleaned_off : (l : Life) → is_cleaned l ≡ true → false ≡ is_live l
-cleaned_off life.Live h = absurd (let z : ⊥ = cc in z)
-cleaned_off _ h = refl
-
-arrived : {A : Type 0} (S : State A) (device : ℕ) (info : RequestInfo) (p : Place) → work_of (arrive_at S device info p) ≡ record (work_of S) { tree = tree.arrive S.tree device }
+pub arrived : {A : Type 0} (S : State A) (device : ℕ) (info : RequestInfo) (p : Place) → work_of (arrive_at S device info p) ≡ record (work_of S) { tree = tree.arrive S.tree device }
 arrived S device info (place.Queued q) = refl
 arrived S device info _ = refl
 
@@ -175,7 +154,7 @@ deferring_by plan _ S f s q = q
 
 -- ---- each place of a run
 
-none_queued : (x n : ℕ) → list_any (contains x) (replicate n []) ≡ true → ⊥
+pub none_queued : (x n : ℕ) → list_any (contains x) (replicate n []) ≡ true → ⊥
 none_queued x zero h = let z : ⊥ = cc in z
 none_queued x (suc n) h = none_queued x n h
 
@@ -184,12 +163,8 @@ deferring_at_each {A} plan m run is_run n = sound_place plan m (λ (S : State A)
     (record { dpcs = λ o h. absurd (none_queued o plan.cpus h); items = λ o h. absurd (let z : ⊥ = cc in z); timers = λ o h. absurd (let z : ⊥ = cc in z) })
     (deferring_by plan) (λ e S q. q) run is_run n
 
-not_interrupt : (a : Bool) (i : Bool) → i ≡ false → (a || i) ≡ true → a ≡ true
-not_interrupt true i n h = refl
-not_interrupt false i n h = absurd (let z : ⊥ = cc in z)
-
 pub work_is_live_at_each : {A : Type 0} (plan : Plan) (m : Meaning A) (run : List Event) → IsRunOf plan m run → (n : ℕ) → WorkIsLive plan (state_after plan m (take n run))
 work_is_live_at_each plan m run is_run n =
     let S = state_after plan m (take n run) in
     let q = deferring_at_each plan m run is_run n in
-    record { dpcs = λ o n h. not_interrupt (is_live (life_of S.tree o)) (is_some (interrupt_of plan o)) n (q.dpcs o h); items = q.items; timers = q.timers }
+    record { dpcs = λ o n h. left_of (is_live (life_of S.tree o)) (is_some (interrupt_of plan o)) n (q.dpcs o h); items = q.items; timers = q.timers }

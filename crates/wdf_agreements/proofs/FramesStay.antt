@@ -1,31 +1,22 @@
 -- The frames that are there after a deed were there before it, with the same callback and object, but for one that begins.
 use Rattle.std.proofs.Common.{◌≡◌, ◌≢◌, ℕ, ◌==◌, ◌≤◌, Some, refl, sym, ap, subst, ◌∙◌, arith}
 use Rattle.wdf_base.specs.declared.plan.Plan.{Plan}
-use Rattle.wdf_base.specs.declared.object.Place.{Place}
-use Rattle.wdf_base.specs.declared.object.Place.TheVariants as place
-use Rattle.wdf_base.specs.declared.object.RequestInfo.{RequestInfo}
 use Rattle.wdf_base.specs.declared.frame.Frame.{Frame}
-use Rattle.wdf_model.specs.declared.enums.Mode.TheVariants as mode
 use Rattle.wdf_model.specs.declared.entries.Running.{Running}
 use Rattle.wdf_model.specs.Tables.{flag}
-use Rattle.wdf_model.specs.Plans.{managed_queues, queues_of}
-use Rattle.wdf_model.specs.parts.Tree.{subtree}
 use Rattle.wdf_model.specs.parts.Cpus.{Cpus, frame_of, no_frame}
 use Rattle.wdf_model.specs.parts.Cpus as cpus
-use Rattle.wdf_model.specs.parts.Requests as requests
-use Rattle.wdf_model.specs.parts.Queues.{waiting_in}
-use Rattle.wdf_model.specs.parts.Control as control
 use Rattle.wdf_model.specs.State.{State}
 use Rattle.wdf_model.specs.declared.deed.Deed.{Deed}
-use Rattle.wdf_model.specs.declared.deed.Deed.TheVariants.{Arrive, AskDeletion, PushFrame, GoOn, PopFrame, ParkFrame, UnparkFrame, Requeue, Forward, GiveBack, SendRequest, CompleteRequest, PurgeQueue, CloseReturning, CloseDevice}
-use Rattle.wdf_model.specs.rules.Deeds.{arrive_at, do_deed, give_up}
+use Rattle.wdf_model.specs.declared.deed.Deed.TheVariants.{PushFrame, GoOn, PopFrame, ParkFrame, UnparkFrame, Raise, Lower}
+use Rattle.wdf_model.specs.rules.Deeds.{do_deed}
 use Rattle.wdf_model.proofs.Maps.{entry_put_other, entry_put_same}
 use Rattle.wdf_model.proofs.Counts.{equal, not_equal, one_or_two}
 use Rattle.wdf_invariants.proofs.FrameCounts.{parks, pushed, unparks}
 use Rattle.wdf_invariants.proofs.Framed.{on}
 use Rattle.wdf_invariants.proofs.FrameMoves.{FrameKept, goes_kept, kept_same, pop_kept, pop_on}
-use Rattle.wdf_agreements.proofs.Stays.{asks_all, gives_up, gives_up_if, queues_closed, returns_closed, withdraws}
 use Rattle.wdf_agreements.proofs.Sound.{Sound}
+use Rattle.wdf_agreements.proofs.PartsStay.{cpus_stay}
 
 -- a frame that begins
 pub record Begins (C D : Cpus) (f : ℕ) (frame : Frame) : Type 0 where
@@ -56,13 +47,6 @@ begins C cpu f frame level none = record {
 same_frames : (C D : Cpus) → D ≡ C → FramesGoOn C D × NoneEnds C D
 same_frames C D e = subst (λ (E : Cpus). FramesGoOn C E × NoneEnds C E) (sym e) ((λ x h. (h, kept_same (frame_of C x) (frame_of C x) refl)), (λ x h. h))
 
-arrived : {A : Type 0} (S : State A) (device : ℕ) (info : RequestInfo) (p : Place) → (arrive_at S device info p).cpus ≡ S.cpus
-arrived S device info (place.Queued q) = refl
-arrived S device info _ = refl
-
-abbrev cpus_of : {A : Type 0} → State A → Cpus
-cpus_of S = S.cpus
-
 -- what becomes of the frames by a deed: one begins, or the top one ends, or none does
 abbrev pub FramesBy : {A : Type 0} → Plan → Deed → State A → Type 0
 FramesBy plan (PushFrame cpu f frame level) S = Begins S.cpus (cpus.push S.cpus cpu.0 f.0 frame level.0) f.0 frame
@@ -85,15 +69,6 @@ frames_by plan (UnparkFrame cpu f) S s = (
   (λ x h. (let e = unparks (λ y. y == x) S.cpus cpu.0 f.0 s in omega arith, kept_same (frame_of S.cpus x) (frame_of S.cpus x) refl)),
   (λ x h. let e = unparks (λ y. y == x) S.cpus cpu.0 f.0 s in omega arith),
 )
-frames_by plan (Arrive device info p) S s = same_frames _ _ (arrived S device.0 info p)
-frames_by plan (AskDeletion o) S s = same_frames _ _ (asks_all cpus_of (λ S T D W U. refl) (subtree S.tree o.0) S)
-frames_by plan (Requeue r p) S s = same_frames _ _ (gives_up cpus_of (λ S Q R P. refl) S r.0)
-frames_by plan (Forward r p) S s = same_frames _ _ (gives_up cpus_of (λ S Q R P. refl) S r.0)
-frames_by plan (GiveBack r p) S s = same_frames _ _ (gives_up cpus_of (λ S Q R P. refl) S r.0)
-frames_by plan (SendRequest r t forget) S s = same_frames _ _ (gives_up_if cpus_of (λ S Q R P. refl) S forget r.0)
-frames_by plan (CompleteRequest r) S s =
-    same_frames _ _ (asks_all cpus_of (λ S T D W U. refl) (subtree (give_up S r.0).tree r.0) (record (give_up S r.0) { requests = requests.complete S.requests r.0 }) ∙ gives_up cpus_of (λ S Q R P. refl) S r.0)
-frames_by plan (PurgeQueue p) S s = same_frames _ _ (withdraws cpus_of (λ S Q R P. refl) plan p.0 (waiting_in S.queues p.0) (record S { control = control.set_mode S.control p.0 mode.Purged }))
-frames_by plan (CloseReturning d) S s = same_frames _ _ (returns_closed cpus_of (λ S Q R P. refl) (managed_queues plan d.0) S)
-frames_by plan (CloseDevice d) S s = same_frames _ _ (queues_closed cpus_of (λ S Q R P. refl) (queues_of plan d.0) (record S { control = control.shut S.control d.0 }))
-frames_by plan _ S s = ((λ x h. (h, kept_same (frame_of S.cpus x) (frame_of S.cpus x) refl)), (λ x h. h))
+frames_by plan (Raise f level) S s = ((λ x h. (h, kept_same (frame_of S.cpus x) (frame_of S.cpus x) refl)), (λ x h. h))
+frames_by plan (Lower f level) S s = ((λ x h. (h, kept_same (frame_of S.cpus x) (frame_of S.cpus x) refl)), (λ x h. h))
+frames_by plan d S s = same_frames _ _ (cpus_stay plan d S refl)

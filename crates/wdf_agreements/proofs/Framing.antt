@@ -11,24 +11,16 @@ use Rattle.wdf_base.specs.declared.event.Event.{Event}
 use Rattle.wdf_base.specs.declared.event.Fault.TheVariants as fault
 use Rattle.wdf_base.specs.declared.frame.Frame.{Frame}
 use Rattle.wdf_base.specs.declared.object.LockRef.{LockRef}
-use Rattle.wdf_base.specs.declared.object.Place.{Place}
-use Rattle.wdf_base.specs.declared.object.Place.TheVariants as place
-use Rattle.wdf_base.specs.declared.object.RequestInfo.{RequestInfo}
 use Rattle.wdf_base.specs.Same.{same_lock}
-use Rattle.wdf_model.specs.declared.enums.Mode.TheVariants as mode
 use Rattle.wdf_model.specs.declared.entries.Held.{Held}
 use Rattle.wdf_model.specs.Tables.{flag}
-use Rattle.wdf_model.specs.Plans.{managed_queues, queues_of}
-use Rattle.wdf_model.specs.parts.Tree.{is_gone, life_of, may_destroy, subtree}
+use Rattle.wdf_model.specs.parts.Tree.{is_gone, life_of, may_destroy}
 use Rattle.wdf_model.specs.parts.Cpus.{Cpus, all_frames, frame_of, is_on, nobody_on, opening_cpus, top}
 use Rattle.wdf_model.specs.parts.Locks.{Locks, held_by_call, lock_of_callback}
-use Rattle.wdf_model.specs.parts.Requests as requests
-use Rattle.wdf_model.specs.parts.Queues.{waiting_in}
-use Rattle.wdf_model.specs.parts.Control as control
 use Rattle.wdf_model.specs.State.{State, declared_in, opening}
 use Rattle.wdf_model.specs.declared.deed.Deed.{Deed}
-use Rattle.wdf_model.specs.declared.deed.Deed.TheVariants.{Arrive, AskDeletion, EndLife, TakeLock, ReleaseLock, PushFrame, PopFrame, Requeue, Forward, GiveBack, SendRequest, CompleteRequest, PurgeQueue, CloseReturning, CloseDevice}
-use Rattle.wdf_model.specs.rules.Deeds.{arrive_at, counted, do_deed, do_deeds, give_up}
+use Rattle.wdf_model.specs.declared.deed.Deed.TheVariants.{EndLife, TakeLock, ReleaseLock, PushFrame, PopFrame}
+use Rattle.wdf_model.specs.rules.Deeds.{counted, do_deed, do_deeds}
 use Rattle.wdf_model.specs.rules.Starts.{release_if_any}
 use Rattle.wdf_model.specs.rules.Steps.{deeds}
 use Rattle.wdf_model.specs.rules.Ready.{IsRunOf, state_after}
@@ -39,13 +31,13 @@ use Rattle.wdf_model.proofs.FitsOfEvents.{event_fits}
 use Rattle.wdf_invariants.proofs.Framed.{on}
 use Rattle.wdf_invariants.proofs.FrameMoves.{FrameKept, seen}
 use Rattle.wdf_agreements.proofs.Keeping.{at_the_end, each_place}
-use Rattle.wdf_agreements.proofs.Stays.{asks_all, gives_up, gives_up_if, queues_closed, returns_closed, withdraws}
 use Rattle.wdf_agreements.proofs.Lists.{Each, each_behind, each_kept, each_still}
 use Rattle.wdf_agreements.proofs.LocksOnce.{lock_itself}
 use Rattle.wdf_agreements.proofs.Sound.{AllSound, Sound, lock_of_frame}
 use Rattle.wdf_agreements.proofs.SoundEvents.{HoldsNone, event_sound, same_declared}
 use Rattle.wdf_agreements.proofs.There.{StaysAt, deed_there}
 use Rattle.wdf_agreements.proofs.FramesStay.{Begins, FramesGoOn, NoneEnds, frames_by}
+use Rattle.wdf_agreements.proofs.PartsStay.{locks_stay}
 
 -- a lock is held by a frame that is there; one that no call took is that of the frame's callback
 abbrev pub IsHeld : {A : Type 0} → Plan → State A → Held → Type 0
@@ -90,13 +82,6 @@ framing_still plan S U go stay same k = record {
 
 -- ---- locks that stay
 
-arrived : {A : Type 0} (S : State A) (device : ℕ) (info : RequestInfo) (p : Place) → (arrive_at S device info p).locks ≡ S.locks
-arrived S device info (place.Queued q) = refl
-arrived S device info _ = refl
-
-abbrev locks_in : {A : Type 0} → State A → Locks
-locks_in S = S.locks
-
 abbrev pub LocksBy : {A : Type 0} → Plan → Deed → State A → Type 0
 LocksBy plan (TakeLock l f by_call) S = Unit {0}
 LocksBy plan (ReleaseLock l) S = Unit {0}
@@ -105,17 +90,7 @@ LocksBy plan d S = (do_deed plan d S).locks ≡ S.locks
 pub locks_by : {A : Type 0} (plan : Plan) (d : Deed) (S : State A) → LocksBy plan d S
 locks_by plan (TakeLock l f by_call) S = tt
 locks_by plan (ReleaseLock l) S = tt
-locks_by plan (Arrive device info p) S = arrived S device.0 info p
-locks_by plan (AskDeletion o) S = asks_all locks_in (λ S T D W U. refl) (subtree S.tree o.0) S
-locks_by plan (Requeue r p) S = gives_up locks_in (λ S Q R P. refl) S r.0
-locks_by plan (Forward r p) S = gives_up locks_in (λ S Q R P. refl) S r.0
-locks_by plan (GiveBack r p) S = gives_up locks_in (λ S Q R P. refl) S r.0
-locks_by plan (SendRequest r t forget) S = gives_up_if locks_in (λ S Q R P. refl) S forget r.0
-locks_by plan (CompleteRequest r) S = asks_all locks_in (λ S T D W U. refl) (subtree (give_up S r.0).tree r.0) (record (give_up S r.0) { requests = requests.complete S.requests r.0 }) ∙ gives_up locks_in (λ S Q R P. refl) S r.0
-locks_by plan (PurgeQueue p) S = withdraws locks_in (λ S Q R P. refl) plan p.0 (waiting_in S.queues p.0) (record S { control = control.set_mode S.control p.0 mode.Purged })
-locks_by plan (CloseReturning d) S = returns_closed locks_in (λ S Q R P. refl) (managed_queues plan d.0) S
-locks_by plan (CloseDevice d) S = queues_closed locks_in (λ S Q R P. refl) (queues_of plan d.0) (record S { control = control.shut S.control d.0 })
-locks_by plan _ S = refl
+locks_by plan d S = locks_stay plan d S refl
 
 -- ---- each deed
 

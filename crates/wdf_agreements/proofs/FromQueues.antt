@@ -1,6 +1,6 @@
 -- What a queue has to do with the device and the form of a request (here: it suits them), of the queue in which a request waits, to
 -- which it returns, and from which it came: deeds keep that, where arriving and forwarded requests go to queues that suit them.
-use Rattle.std.proofs.Common.{if◌then◌else◌, ◌≡◌, ℕ, ◌==◌, ◌≤◌, nat_lt, Bool, true, false, not, ◌&&◌, ◌⊎◌, List, [], ◌∷◌, inl, inr, Option, Some, None, is_some, map, fold, count_by, unwrap_or, take, refl, sym, ap, subst, ◌∙◌, arith}
+use Rattle.std.proofs.Common.{if◌then◌else◌, ◌≡◌, ℕ, ◌==◌, ◌≤◌, nat_lt, Bool, true, false, not, ◌&&◌, ◌⊎◌, List, [], ◌∷◌, inl, inr, Option, Some, None, is_some, map, fold, count_by, unwrap_or, refl, sym, ap, subst, ◌∙◌, arith}
 use Rattle.std.specs.Prelude.{⊤, option_map}
 use Rattle.std.proofs.lemmas.Bool.{eqb-true}
 use Rattle.wdf_base.specs.declared.ids.ObjectId.{ObjectId}
@@ -20,7 +20,7 @@ use Rattle.wdf_model.specs.declared.entries.Request.{Request}
 use Rattle.wdf_model.specs.Tables.{flag, same_id}
 use Rattle.wdf_model.specs.Plans.{declares, device_of_queue, managed_queues, queues_of}
 use Rattle.wdf_model.specs.parts.Tree.{is_live, kind_of, life_of, nearest_device, next_id, subtree}
-use Rattle.wdf_model.specs.parts.Requests.{Requests, cancelled, closed_at, forgotten, has_arrived, info_of, is_in, is_marked, is_over, is_owned, is_queued_in, is_returning_to, is_sent, made_info, marked, moved, no_request, origin_from, origin_of, place_of, request_of, unmarked, with_mark, with_request}
+use Rattle.wdf_model.specs.parts.Requests.{Requests, cancelled, closed_at, forgotten, has_arrived, info_of, is_in, is_marked, is_over, is_owned, is_queued_in, is_returning_to, is_sent, made_info, marked, moved, no_request, origin_from, place_of, request_of, unmarked, with_mark, with_request}
 use Rattle.wdf_model.specs.parts.Requests as requests
 use Rattle.wdf_model.specs.parts.Queues.{front, waiting_in}
 use Rattle.wdf_model.specs.parts.Control as control
@@ -42,6 +42,7 @@ use Rattle.wdf_base.specs.Meaning.{Meaning}
 use Rattle.wdf_model.specs.rules.Ready.{ready, state_after}
 use Rattle.wdf_model.proofs.Runs.{run_opens}
 use Rattle.wdf_model.proofs.LawsOverRuns.{history_now}
+use Rattle.wdf_agreements.proofs.Readers.{arrived_requests, requests_of}
 
 -- where an arrived request is only after it came from a queue
 abbrev came_from : Place → Bool
@@ -108,7 +109,7 @@ finished false st (place.Closing s) h = absurd (let z : ⊥ = cc in z)
 finished false st place.Owned h = absurd (let z : ⊥ = cc in z)
 finished false st place.Done h = absurd (let z : ⊥ = cc in z)
 
-waits_there : (n : ℕ) (b : Bool) → n ≡ flag b → 1 ≤ n → b ≡ true
+pub waits_there : (n : ℕ) (b : Bool) → n ≡ flag b → 1 ≤ n → b ≡ true
 waits_there n true e h = refl
 waits_there n false e h = absurd (omega arith)
 
@@ -131,13 +132,6 @@ owned_came _ h = absurd (let z : ⊥ = cc in z)
 withdrawn_moves : (b : Bool) (q : ℕ) (p : Place) → may_move p (if b then place.Returning (record { 0 = q }) else place.Closing status.Cancelled) ≡ true
 withdrawn_moves true q p = refl
 withdrawn_moves false q p = refl
-
-came : {A : Type 0} (S : State A) (device : ℕ) (info : RequestInfo) (p : Place) → (arrive_at S device info p).requests ≡ requests.arrive S.requests (next_id S.tree) p info
-came S device info (place.Queued q) = refl
-came S device info _ = refl
-
-abbrev requests_of : {A : Type 0} → State A → Requests
-requests_of S = S.requests
 
 placed : {A : Type 0} {F B : ℕ → Bool} (S : State A) → KeptIn F B S → Placed S
 placed S k = record {
@@ -317,8 +311,8 @@ module _ (plan : Plan) (Suits : ℕ → ℕ → RequestForm → Type 0) where
   back_to : {A : Type 0} (S : State A) (r q : ℕ) → Placed S → AllSuited S.requests → is_given S r ≡ true → origin_or_none S r ≡ q → SuitsIn S.requests q r
   back_to S r q k d given_ e =
       let owned : is_owned (place_of S.requests r) ≡ true = both_left (is_owned (place_of S.requests r)) (same_kind (kind_of S.tree r) kind.Request) given_ in
-      let came : has_arrived (request_of S.requests r) ≡ true = k.kinds r (both_right (is_owned (place_of S.requests r)) (same_kind (kind_of S.tree r) kind.Request) given_) in
-      origin_suits (info_of S.requests r).origin q (info_of S.requests r).device.0 (info_of S.requests r).form ((d r).held came (owned_came (place_of S.requests r) owned)) e (d r).from
+      let arrived_requests : has_arrived (request_of S.requests r) ≡ true = k.kinds r (both_right (is_owned (place_of S.requests r)) (same_kind (kind_of S.tree r) kind.Request) given_) in
+      origin_suits (info_of S.requests r).origin q (info_of S.requests r).device.0 (info_of S.requests r).form ((d r).held arrived_requests (owned_came (place_of S.requests r) owned)) e (d r).from
 
   same_requests : (R U : Requests) → U ≡ R → AllSuited R → AllSuited U
   same_requests R U e k = subst AllSuited (sym e) k
@@ -374,7 +368,7 @@ module _ (plan : Plan) (Suits : ℕ → ℕ → RequestForm → Type 0) where
   deed_suits (MakeRequest class parent) S f s p k =
       new_one S.requests (next_id S.tree) place.Owned (made_info (nearest_device S.tree parent.0)) (record { at = tt; from = tt; held = λ h c. absurd (let z : ⊥ = cc in z) }) k
   deed_suits (Arrive device info at) S f s p k =
-      same_requests (requests.arrive S.requests (next_id S.tree) at info) (arrive_at S device.0 info at).requests (came S device.0 info at)
+      same_requests (requests.arrive S.requests (next_id S.tree) at info) (arrive_at S device.0 info at).requests (arrived_requests S device.0 info at)
       (new_one S.requests (next_id S.tree) at info (arrives_well at info s.0 s.1 (both_right (is_live (life_of S.tree device.0) && nat_lt 0 info.arrival) (is_arrival_place at) f)) k)
   deed_suits (AskDeletion o) S f s p k = same_requests _ _ (asks_all requests_of (λ S T D W U. refl) (subtree S.tree o.0) S) k
   deed_suits (EndLife o) S f s p k = forgets S.requests o.0 k

@@ -1,5 +1,6 @@
 -- What the opening has and each event keeps is so at each place of every run.
-use Rattle.std.proofs.Common.{◌≡◌, ℕ, ◌+◌, ◌≤◌, true, List, [], ◌∷◌, ◌⊎◌, inl, inr, length, take, refl, ap, sym, subst}
+use Rattle.std.proofs.Common.{◌≡◌, ℕ, ◌+◌, ◌≤◌, true, List, [], ◌∷◌, ◌⊎◌, inl, inr, length, take, sym, subst, Some, slice_get}
+use Rattle.std.proofs.Math.Seq.{take-length}
 use Rattle.wdf_base.specs.Meaning.{Meaning}
 use Rattle.wdf_base.specs.declared.plan.Plan.{Plan}
 use Rattle.wdf_base.specs.declared.event.Event.{Event}
@@ -12,6 +13,7 @@ use Rattle.wdf_model.specs.rules.Ready.{IsRunOf, ready, state_after}
 use Rattle.wdf_model.specs.laws.FactsOfEvents.{IsTick}
 use Rattle.wdf_model.specs.laws.Fits.{all_fit, fits}
 use Rattle.wdf_model.specs.laws.OverRuns.{DeclaredAgree, FramesAgree, PlacesAgree}
+use Rattle.wdf_model.specs.Runs.{IsRun}
 use Rattle.wdf_model.proofs.Runs.{along_run}
 use Rattle.wdf_model.proofs.Tests.{both_left, both_right}
 use Rattle.wdf_model.proofs.Follows.{follows, state_goes_on}
@@ -29,17 +31,13 @@ pub record Known {A : Type 0} (plan : Plan) (S : State A) : Type 0 where
   pub room : length S.requests.all ≤ length S.tree.nodes
   pub kinds : (r : ℕ) → is_request S.tree r ≡ true → arrived S.requests r ≡ true
 
-take_all : {T : Type 0} (xs : List T) → take (length xs) xs ≡ xs
-take_all [] = refl
-take_all (x ∷ xs) = ap (λ ys. x ∷ ys) (take_all xs)
-
 pub known_now : {A : Type 0} (plan : Plan) (m : Meaning A) (run : List Event) → IsRunOf plan m run → Known plan (state_after plan m run)
 known_now plan m run is_run =
     let k = (history_now plan m run is_run).kept in
     record {
       places = record { queued = k.queued; sent = k.sent };
-      frames = subst (λ (es : List Event). FramesAgree (state_after plan m es)) (take_all run) (frames_agree_at_each plan m run is_run (length run));
-      declared = subst (λ (es : List Event). DeclaredAgree plan (state_after plan m es)) (take_all run) (declared_agree_at_each plan m run is_run (length run));
+      frames = subst (λ (es : List Event). FramesAgree (state_after plan m es)) (take-length run) (frames_agree_at_each plan m run is_run (length run));
+      declared = subst (λ (es : List Event). DeclaredAgree plan (state_after plan m es)) (take-length run) (declared_agree_at_each plan m run is_run (length run));
       room = k.room;
       kinds = k.kinds;
     }
@@ -73,7 +71,7 @@ each_place plan m Q = each_place_by plan m (Known plan) Q (known_now plan m)
 
 -- at the end of a run
 pub at_the_end : {A : Type 0} (plan : Plan) (m : Meaning A) (Q : State A → Type 0) (run : List Event) → Q (state_after plan m (take (length run) run)) → Q (state_after plan m run)
-at_the_end plan m Q run h = subst (λ (es : List Event). Q (state_after plan m es)) (take_all run) h
+at_the_end plan m Q run h = subst (λ (es : List Event). Q (state_after plan m es)) (take-length run) h
 
 -- what each deed that fits keeps, deeds that fit one after another keep
 pub deeds_keep : {A : Type 0} (plan : Plan) (Q : State A → Type 0) → ((d : Deed) (S : State A) → fits plan d S ≡ true → Q S → Q (do_deed plan d S))
@@ -82,3 +80,12 @@ deeds_keep plan Q keeps [] S h q = q
 deeds_keep plan Q keeps (d ∷ ds) S h q =
     deeds_keep plan Q keeps ds (do_deed plan d S) (both_right (fits plan d S) (all_fit plan ds (do_deed plan d S)) h)
     (keeps d S (both_left (fits plan d S) (all_fit plan ds (do_deed plan d S)) h) q)
+
+-- an event that isn't a tick may come
+pub comes : {A : Type 0} (plan : Plan) (m : Meaning A) (run : List Event) (k : ℕ) (e : Event) → IsRunOf plan m run → slice_get run k ≡ Some e → ((time : ℕ) → e ≡ event.Tick time → ⊥)
+    → may plan m (state_after plan m (take k run)) e ≡ true
+unfolding IsRun
+comes plan m run k e is_run at no_tick = elim (follows plan m (take k run) (is_run k e at).0 e (is_run k e at).1) [
+  | inl h ↦ h
+  | inr t ↦ absurd (no_tick _ t.tick)
+]

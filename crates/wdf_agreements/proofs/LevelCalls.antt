@@ -35,10 +35,10 @@ use Rattle.wdf_base.specs.SamePlan.{same_declared}
 use Rattle.wdf_model.specs.Tables.{entry}
 use Rattle.wdf_model.specs.Plans.{script_on}
 use Rattle.wdf_model.specs.parts.Tree.{Tree, is_past_cleanup, kind_of, life_of, made_as, node_of}
-use Rattle.wdf_model.specs.parts.Cpus.{frame_of, irql, is_empty_cpu, top}
+use Rattle.wdf_model.specs.parts.Cpus.{frame_of}
 use Rattle.wdf_model.specs.parts.Cpus as cpus
 use Rattle.wdf_model.specs.parts.Locks as locks
-use Rattle.wdf_model.specs.parts.Locks.{holds_by_call, lock_of_callback, object_lock}
+use Rattle.wdf_model.specs.parts.Locks.{holds_by_call, object_lock}
 use Rattle.wdf_model.specs.State.{State, declared_in, declares_in, object_in}
 use Rattle.wdf_model.specs.Ids.{frame_id}
 use Rattle.wdf_model.specs.declared.deed.Deed.{Deed}
@@ -60,7 +60,8 @@ use Rattle.wdf_agreements.proofs.Framing.{Framing}
 use Rattle.wdf_agreements.proofs.Leveled.{Leveled, awaited, gets, gives_back, is_interrupt_lock, plain_goes, takes, waits_for_lock}
 use Rattle.wdf_agreements.proofs.QuietDeeds.{all_quiet, outcome_none}
 use Rattle.wdf_agreements.proofs.QuietMoves.{LeveledIn}
-use Rattle.wdf_agreements.proofs.LevelEvents.{first_early, held_by_frame, made, nothing_awaited, quietly_goes, stale_first}
+use Rattle.wdf_agreements.proofs.LevelEvents.{first_early, held_by_frame, nothing_awaited, quietly_goes, stale_first}
+use Rattle.wdf_agreements.proofs.ReasonsOfCalls.{call_of}
 
 -- ---- calls
 
@@ -91,47 +92,47 @@ module _ {A : Type 0} (plan : Plan) (S : State A) (cpu f : ℕ) (frames : Framin
       subst (λ es. LeveledIn plan (do_deeds plan es S)) (sym e)
       (quietly_goes plan S ds f next there quiet (subst (λ es. all_fit plan es S ≡ true) e fit) (subst (λ es. AllSound plan es S) e sound) frames (answered_kept plan (frame_of S.cpus f) v) (answered_idle plan S f v idle) (λ p h a. no_acquire next.pending refl p h a) l)
 
-  first_of : (k : CallKind) (n : ℕ) (a b x : Arg) → Clean plan S cpu f (made k n a b x) → (w : Kind) → (signature_of k).a ≡ sort.ObjectOf w → (signature_of k).cleaned ≡ false → is_past_cleanup (life_of S.tree (object_in a)) ≡ false
+  first_of : (k : CallKind) (n : ℕ) (a b x : Arg) → Clean plan S cpu f (call_of k n a b x) → (w : Kind) → (signature_of k).a ≡ sort.ObjectOf w → (signature_of k).cleaned ≡ false → is_past_cleanup (life_of S.tree (object_in a)) ≡ false
   first_of k n a b x h w s c =
       let v = view_of plan S cpu f in
       first_early v w a
-      (subst (λ y. is_stale v y (sort.ObjectOf w) a ≡ false) c (subst (λ y. is_stale v (signature_of k).cleaned y a ≡ false) s (stale_first v (made k n a b x) (h fault.StaleHandle))))
-      (subst (λ y. is_wrong_kind v y a ≡ false) s (wrong_kind_of_first v (made k n a b x) (h fault.WrongKind)))
+      (subst (λ y. is_stale v y (sort.ObjectOf w) a ≡ false) c (subst (λ y. is_stale v (signature_of k).cleaned y a ≡ false) s (stale_first v (call_of k n a b x) (h fault.StaleHandle))))
+      (subst (λ y. is_wrong_kind v y a ≡ false) s (wrong_kind_of_first v (call_of k n a b x) (h fault.WrongKind)))
 
-  pub did_call : (k : CallKind) (n : ℕ) (a b x : Arg) (v : Value) → Clean plan S cpu f (made k n a b x) → DidKeeps plan S cpu f v (made k n a b x)
+  pub did_call : (k : CallKind) (n : ℕ) (a b x : Arg) (v : Value) → Clean plan S cpu f (call_of k n a b x) → DidKeeps plan S cpu f v (call_of k n a b x)
   did_call call.WdfSpinLockAcquire n a b x v h fit sound l = acquires call.WdfSpinLockAcquire n a b x v (first_of call.WdfSpinLockAcquire n a b x h kind.SpinLock refl refl) l
   did_call call.WdfWaitLockAcquire n a b x v h fit sound l = acquires call.WdfWaitLockAcquire n a b x v (first_of call.WdfWaitLockAcquire n a b x h kind.WaitLock refl refl) l
   did_call call.WdfInterruptAcquireLock n a b x v h fit sound l = acquires call.WdfInterruptAcquireLock n a b x v (first_of call.WdfInterruptAcquireLock n a b x h kind.Interrupt refl refl) l
   did_call call.WdfSpinLockRelease n a b x v h fit sound l = releases a v (not_false (holds_by_call S.locks f (object_lock (object_in a))) (h fault.LockNotHeld)) l
   did_call call.WdfWaitLockRelease n a b x v h fit sound l = releases a v (not_false (holds_by_call S.locks f (object_lock (object_in a))) (h fault.LockNotHeld)) l
   did_call call.WdfInterruptReleaseLock n a b x v h fit sound l = releases a v (not_false (holds_by_call S.locks f (object_lock (object_in a))) (h fault.LockNotHeld)) l
-  did_call k n a b x v h fit sound l = others (made k n a b x) v refl (outcome_none plan S cpu f k n a b x refl) fit sound l
+  did_call k n a b x v h fit sound l = others (call_of k n a b x) v refl (outcome_none plan S cpu f k n a b x refl) fit sound l
 
   abbrev WaitKeeps : Call → Type 0
   WaitKeeps c = is_met_then plan S c ≡ false → all_fit plan (waiting_deeds plan S cpu c f (frame_of S.cpus f)) S ≡ true → AllSound plan (waiting_deeds plan S cpu c f (frame_of S.cpus f)) S → LeveledIn plan S
       → LeveledIn plan (do_deeds plan (waiting_deeds plan S cpu c f (frame_of S.cpus f)) S)
 
   awaits_lock : (k : CallKind) (n : ℕ) (a b x : Arg) (v : Value) → is_acquire k ≡ true → is_past_cleanup (life_of S.tree (object_in a)) ≡ false → LeveledIn plan S
-      → Leveled plan (cpus.change (cpus.raise S.cpus f (level_of_kind plan (object_in a) (kind_of S.tree (object_in a)))) f (waiting (frame_of S.cpus f) (made k n a b x) v)) S.locks S.tree
+      → Leveled plan (cpus.change (cpus.raise S.cpus f (level_of_kind plan (object_in a) (kind_of S.tree (object_in a)))) f (waiting (frame_of S.cpus f) (call_of k n a b x) v)) S.locks S.tree
   awaits_lock k n a b x v is early l =
-      waits_for_lock plan S.cpus S.locks S.tree f (waiting (frame_of S.cpus f) (made k n a b x) v) l there (record { callback = refl; object = refl; device = refl }) (object_in a) early
+      waits_for_lock plan S.cpus S.locks S.tree f (waiting (frame_of S.cpus f) (call_of k n a b x) v) l there (record { callback = refl; object = refl; device = refl }) (object_in a) early
       (λ m. nothing_awaited plan S.tree (frame_of S.cpus f).pending m idle) (λ m. rw is refl) (λ p e. ap object_in (same_arg p e))
     where
-      same_arg : (p : Pending) → Some (record { call = made k n a b x; answer = v }) ≡ Some p → p.call.a ≡ a
-      same_arg p e = let same : record { call = made k n a b x; answer = v } ≡ p = cc in ap (λ (q : Pending). q.call.a) (sym same)
+      same_arg : (p : Pending) → Some (record { call = call_of k n a b x; answer = v }) ≡ Some p → p.call.a ≡ a
+      same_arg p e = let same : record { call = call_of k n a b x; answer = v } ≡ p = cc in ap (λ (q : Pending). q.call.a) (sym same)
 
-  waits_else : (k : CallKind) (n : ℕ) (a b x : Arg) → is_acquire k ≡ false → all_quiet (outcome plan S cpu f (made k n a b x)).deeds ≡ true → WaitKeeps (made k n a b x)
+  waits_else : (k : CallKind) (n : ℕ) (a b x : Arg) → is_acquire k ≡ false → all_quiet (outcome plan S cpu f (call_of k n a b x)).deeds ≡ true → WaitKeeps (call_of k n a b x)
   waits_else k n a b x off quiet unmet fit sound l =
-      let c : Call = made k n a b x in
+      let c : Call = call_of k n a b x in
       let next : Frame = waiting (frame_of S.cpus f) c (outcome plan S cpu f c).answer in
       quietly_goes plan S (outcome plan S cpu f c).deeds f next there quiet fit sound frames (record { callback = refl; object = refl; device = refl })
       (λ T m. rw off (sym (nothing_awaited plan T (frame_of S.cpus f).pending m idle)))
       (λ p e is. never p e is) l
     where
-      never : (p : Pending) → Some (record { call = made k n a b x; answer = (outcome plan S cpu f (made k n a b x)).answer }) ≡ Some p → is_acquire p.call.kind ≡ true → ⊥
-      never p e is = let same : record { call = made k n a b x; answer = (outcome plan S cpu f (made k n a b x)).answer } ≡ p = cc in let no_ : is_acquire p.call.kind ≡ false = sym (ap (λ (q : Pending). is_acquire q.call.kind) same) ∙ off in let z : ⊥ = cc in z
+      never : (p : Pending) → Some (record { call = call_of k n a b x; answer = (outcome plan S cpu f (call_of k n a b x)).answer }) ≡ Some p → is_acquire p.call.kind ≡ true → ⊥
+      never p e is = let same : record { call = call_of k n a b x; answer = (outcome plan S cpu f (call_of k n a b x)).answer } ≡ p = cc in let no_ : is_acquire p.call.kind ≡ false = sym (ap (λ (q : Pending). is_acquire q.call.kind) same) ∙ off in let z : ⊥ = cc in z
 
-  pub waits_call : (k : CallKind) (n : ℕ) (a b x : Arg) → Clean plan S cpu f (made k n a b x) → WaitKeeps (made k n a b x)
+  pub waits_call : (k : CallKind) (n : ℕ) (a b x : Arg) → Clean plan S cpu f (call_of k n a b x) → WaitKeeps (call_of k n a b x)
   waits_call call.WdfSpinLockAcquire n a b x h unmet fit sound l = awaits_lock call.WdfSpinLockAcquire n a b x _ refl (first_of call.WdfSpinLockAcquire n a b x h kind.SpinLock refl refl) l
   waits_call call.WdfWaitLockAcquire n a b x h unmet fit sound l = awaits_lock call.WdfWaitLockAcquire n a b x _ refl (first_of call.WdfWaitLockAcquire n a b x h kind.WaitLock refl refl) l
   waits_call call.WdfInterruptAcquireLock n a b x h unmet fit sound l = awaits_lock call.WdfInterruptAcquireLock n a b x _ refl (first_of call.WdfInterruptAcquireLock n a b x h kind.Interrupt refl refl) l
@@ -142,20 +143,20 @@ module _ {A : Type 0} (plan : Plan) (S : State A) (cpu f : ℕ) (frames : Framin
 
 -- a frame wakes
 module _ {A : Type 0} (plan : Plan) (S : State A) (f : ℕ) (there : 1 ≤ on S.cpus f) where
-  wakes_with : (k : CallKind) (n : ℕ) (a b x : Arg) (v : Value) → is_acquire k ≡ true → (frame_of S.cpus f).pending ≡ Some (record { call = made k n a b x; answer = v }) → LeveledIn plan S
+  wakes_with : (k : CallKind) (n : ℕ) (a b x : Arg) (v : Value) → is_acquire k ≡ true → (frame_of S.cpus f).pending ≡ Some (record { call = call_of k n a b x; answer = v }) → LeveledIn plan S
       → Leveled plan (cpus.change S.cpus f (answered plan (frame_of S.cpus f) v)) (locks.take S.locks (object_lock (object_in a)) f true) S.tree
   wakes_with k n a b x v is waits l =
-      gets plan S.cpus S.locks S.tree f (answered plan (frame_of S.cpus f) v) l there (answered_kept plan (frame_of S.cpus f) v) (object_in a) (l.awaits f (record { call = made k n a b x; answer = v }) there waits is)
+      gets plan S.cpus S.locks S.tree f (answered plan (frame_of S.cpus f) v) l there (answered_kept plan (frame_of S.cpus f) v) (object_in a) (l.awaits f (record { call = call_of k n a b x; answer = v }) there waits is)
       (λ m. ap (λ o. awaited plan S.tree o m) waits ∙ rw is refl) refl
 
-  wakes_else : (k : CallKind) (n : ℕ) (a b x : Arg) (v : Value) → is_acquire k ≡ false → (frame_of S.cpus f).pending ≡ Some (record { call = made k n a b x; answer = v }) → LeveledIn plan S
+  wakes_else : (k : CallKind) (n : ℕ) (a b x : Arg) (v : Value) → is_acquire k ≡ false → (frame_of S.cpus f).pending ≡ Some (record { call = call_of k n a b x; answer = v }) → LeveledIn plan S
       → LeveledIn plan (do_deed plan (GoOn (frame_id f) (answered plan (frame_of S.cpus f) v)) S)
   wakes_else k n a b x v off waits l =
       plain_goes plan S.cpus S.locks S.tree f (answered plan (frame_of S.cpus f) v) l there (answered_kept plan (frame_of S.cpus f) v)
       (λ m. sym (ap (λ o. awaited plan S.tree o m) waits ∙ rw off refl)) (λ p e a_. absurd (no_acquire None refl p e a_))
 
-  pub woke_call : (k : CallKind) (n : ℕ) (a b x : Arg) (v : Value) → (frame_of S.cpus f).pending ≡ Some (record { call = made k n a b x; answer = v }) → LeveledIn plan S
-      → LeveledIn plan (do_deeds plan (woke_deeds plan (made k n a b x) v f (frame_of S.cpus f)) S)
+  pub woke_call : (k : CallKind) (n : ℕ) (a b x : Arg) (v : Value) → (frame_of S.cpus f).pending ≡ Some (record { call = call_of k n a b x; answer = v }) → LeveledIn plan S
+      → LeveledIn plan (do_deeds plan (woke_deeds plan (call_of k n a b x) v f (frame_of S.cpus f)) S)
   woke_call call.WdfSpinLockAcquire n a b x v w l = wakes_with call.WdfSpinLockAcquire n a b x v refl w l
   woke_call call.WdfWaitLockAcquire n a b x v w l = wakes_with call.WdfWaitLockAcquire n a b x v refl w l
   woke_call call.WdfInterruptAcquireLock n a b x v w l = wakes_with call.WdfInterruptAcquireLock n a b x v refl w l
@@ -182,7 +183,7 @@ no_owner : (plan : Plan) (d : Declared) (c : ℕ) → same_declared d (declared.
 no_owner plan (declared.OfClass x) c h k = class_unlike (slice_get plan.classes x) k
 no_owner plan _ c h k = let z : ⊥ = cc in z
 
-all_fit_at : (p : Script → Bool) (d : Script) (ss : List Script) (i : ℕ) → list_all p ss ≡ true → i < length ss → p (entry d ss i) ≡ true
+pub all_fit_at : (p : Script → Bool) (d : Script) (ss : List Script) (i : ℕ) → list_all p ss ≡ true → i < length ss → p (entry d ss i) ≡ true
 all_fit_at p d [] i h within = absurd (omega arith)
 all_fit_at p d (s ∷ ss) zero h within = both_left (p s) (list_all p ss) h
 all_fit_at p d (s ∷ ss) (suc i) h within = all_fit_at p d ss i (both_right (p s) (list_all p ss) h) (omega arith)

@@ -7,7 +7,6 @@ use Rattle.wdf_base.specs.declared.value.Value.TheVariants.{Obj}
 use Rattle.wdf_base.specs.declared.call.Arg.{Arg}
 use Rattle.wdf_base.specs.declared.call.Arg.TheVariants.{Val}
 use Rattle.wdf_base.specs.declared.call.Call.{Call}
-use Rattle.wdf_base.specs.declared.call.CallKind.{CallKind}
 use Rattle.wdf_base.specs.declared.event.Access.{Access}
 use Rattle.wdf_base.specs.declared.event.Event.{Event}
 use Rattle.wdf_base.specs.declared.event.Event.TheVariants as event
@@ -35,12 +34,11 @@ use Rattle.wdf_model.specs.declared.deed.Deed.TheVariants.{GoOn}
 use Rattle.wdf_model.specs.rules.Deeds.{do_deed, do_deeds}
 use Rattle.wdf_model.specs.rules.Faults.{View, any_argument, is_acquire, is_stale, is_wrong_kind}
 use Rattle.wdf_model.specs.rules.Calls.{is_met}
-use Rattle.wdf_model.specs.rules.Steps.{at_next, changed, event_of_frame, event_of_top, own_event, spending, spends, stepped}
+use Rattle.wdf_model.specs.rules.Steps.{at_next, changed, event_of_frame, event_of_top, own_event, spends, stepped}
 use Rattle.wdf_model.specs.laws.Fits.{all_fit}
 use Rattle.wdf_model.proofs.Tests.{both, both_left, both_right, either_false}
 use Rattle.wdf_invariants.proofs.Framed.{on}
 use Rattle.wdf_invariants.proofs.FrameMoves.{FrameKept}
-use Rattle.wdf_invariants.proofs.NextFrames.{goes_on_kept}
 use Rattle.wdf_invariants.proofs.StepStates.{fit_before, in_turn}
 use Rattle.wdf_agreements.proofs.Sound.{AllSound}
 use Rattle.wdf_agreements.proofs.SoundEvents.{top_on}
@@ -73,9 +71,6 @@ pub moving : {A : Type 0} (plan : Plan) (S : State A) (cpu : ℕ) (next : Frame 
     → LeveledIn plan S → LeveledIn plan (do_deeds plan (elim there as (λ _. List Deed) [ None ↦ [] | Some f ↦ GoOn (frame_id f) (next (frame_of S.cpus f)) ∷ [] ]) S)
 moving plan S cpu next None t kept same k = k
 moving plan S cpu next (Some f) t kept same k = awaits_same plan S f (next (frame_of S.cpus f)) (top_on S.cpus cpu f t) (same f t) (kept (frame_of S.cpus f)) k
-
-pub spending_kept : {A : Type 0} (plan : Plan) (S : State A) (a : Frame) (n : ℕ) → FrameKept a (spending plan S a n)
-spending_kept plan S a n = let k = goes_on_kept plan a in record { callback = k.callback; object = k.object; device = k.device }
 
 -- ---- an access to a register is of a frame that doesn't wait
 
@@ -118,9 +113,6 @@ pub stale_first : (v : View) (c : Call) → any_argument (is_stale v (signature_
 stale_first v c h =
     let t = is_stale v (signature_of c.kind).cleaned in
     (either_false (t (signature_of c.kind).a c.a) (t (signature_of c.kind).b c.b) (either_false (t (signature_of c.kind).a c.a || t (signature_of c.kind).b c.b) (t (signature_of c.kind).c c.c) h).0).0
-
-abbrev pub made : CallKind → ℕ → Arg → Arg → Arg → Call
-made k n a b x = record { kind = k; count = n; a = a; b = b; c = x }
 
 pub nothing_awaited : (plan : Plan) (T : Tree) (o : Option Pending) (n : ℕ) → o ≡ None → awaited plan T o n ≡ 0
 nothing_awaited plan T o n e = ap (λ p. awaited plan T p n) e

@@ -20,7 +20,7 @@ use Rattle.wdf_base.specs.Same.{same_kind}
 use Rattle.wdf_model.specs.declared.entries.Held.{Held}
 use Rattle.wdf_model.specs.Tables.{same_id}
 use Rattle.wdf_model.specs.Plans.{callback_irql}
-use Rattle.wdf_model.specs.parts.Cpus.{frame_of, irql, is_empty_cpu, top}
+use Rattle.wdf_model.specs.parts.Cpus.{frame_of, top}
 use Rattle.wdf_model.specs.parts.Cpus as cpus
 use Rattle.wdf_model.specs.parts.Locks.{lock_of_callback}
 use Rattle.wdf_model.specs.State.{State, declared_in, declares_in, is_proper}
@@ -51,7 +51,7 @@ use Rattle.wdf_agreements.proofs.Leveled.{Leveled}
 use Rattle.wdf_agreements.proofs.LevelSteps.{ends, rearranged, starts}
 use Rattle.wdf_agreements.proofs.QuietDeeds.{all_quiet, post_none, stage_none, start_effect_none}
 use Rattle.wdf_agreements.proofs.QuietMoves.{LeveledIn, Quietly, quiet_deeds}
-use Rattle.wdf_agreements.proofs.LevelEvents.{at_next_waits, idle_at, moving, sound_after, sound_before, spending_kept, stepped_waits}
+use Rattle.wdf_agreements.proofs.LevelEvents.{at_next_waits, idle_at, moving, sound_after, sound_before, stepped_waits}
 use Rattle.wdf_model.specs.State.{opening}
 use Rattle.wdf_model.specs.rules.Ready.{IsRunOf, state_after}
 use Rattle.wdf_agreements.proofs.Keeping.{at_the_end, each_place_by}
@@ -60,6 +60,7 @@ use Rattle.wdf_agreements.proofs.SoundRuns.{all_known}
 use Rattle.wdf_agreements.proofs.Framing.{none_yet}
 use Rattle.wdf_agreements.proofs.LevelSteps.{less_own, with_own}
 use Rattle.wdf_agreements.proofs.LevelCalls.{did_call, unlike, waits_call, woke_call}
+use Rattle.wdf_agreements.proofs.ReasonsOfEvents.{spending_kept}
 
 -- ---- a callback starts
 

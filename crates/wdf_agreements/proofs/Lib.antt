@@ -1,10 +1,18 @@
 pub mod Keeping
 pub mod Stays
 pub mod Lists
+pub mod Readers
+pub mod Lives
+pub mod Choices
+pub mod Places
+pub mod PartsStay
 pub mod CleanedOver
 pub mod LocksOnce
+pub mod AllOf
 pub mod Sound
-pub mod SoundCalls
+pub mod Reasons
+pub mod ReasonsOfCalls
+pub mod ReasonsOfEvents
 pub mod SoundEvents
 pub mod There
 pub mod FramesStay
@@ -13,6 +21,7 @@ pub mod SoundRuns
 pub mod FramesLaws
 pub mod Queued
 pub mod Deferring
+pub mod ArrivedStay
 pub mod ArrivalsOnce
 pub mod Subtrees
 pub mod LivesOver

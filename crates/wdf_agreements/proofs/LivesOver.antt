@@ -8,28 +8,18 @@ use Rattle.wdf_base.specs.declared.plan.Plan.{Plan}
 use Rattle.wdf_base.specs.declared.event.Event.{Event}
 use Rattle.wdf_base.specs.declared.object.Kind.{Kind}
 use Rattle.wdf_base.specs.declared.object.Kind.TheVariants as kind
-use Rattle.wdf_base.specs.declared.object.Life.{Life}
 use Rattle.wdf_base.specs.declared.object.Life.TheVariants as life
-use Rattle.wdf_base.specs.declared.object.Place.{Place}
-use Rattle.wdf_base.specs.declared.object.Place.TheVariants as place
-use Rattle.wdf_base.specs.declared.object.RequestInfo.{RequestInfo}
-use Rattle.wdf_base.specs.declared.call.Callback.{Callback}
-use Rattle.wdf_base.specs.declared.call.Callback.TheVariants as callback
 use Rattle.wdf_base.specs.declared.declared.Declared.{Declared}
 use Rattle.wdf_base.specs.declared.declared.Declared.TheVariants as declared
-use Rattle.wdf_model.specs.declared.enums.Mode.TheVariants as mode
 use Rattle.wdf_model.specs.declared.entries.Node.{Node}
 use Rattle.wdf_model.specs.Tables.{contains, entry}
-use Rattle.wdf_model.specs.Plans.{managed_queues, queues_of}
 use Rattle.wdf_model.specs.parts.Tree.{Tree, declared_node, gone, is_asked, is_cleaned, is_live, life_of, new_node, next_id, node_of, noted, opening_tree, parent_of, subtree, with_life, with_node}
 use Rattle.wdf_model.specs.parts.Tree as tree
 use Rattle.wdf_model.specs.parts.Requests as requests
-use Rattle.wdf_model.specs.parts.Queues.{waiting_in}
-use Rattle.wdf_model.specs.parts.Control as control
 use Rattle.wdf_model.specs.State.{State}
 use Rattle.wdf_model.specs.declared.deed.Deed.{Deed}
-use Rattle.wdf_model.specs.declared.deed.Deed.TheVariants.{Create, MakeRequest, Arrive, AskDeletion, Refer, Unrefer, WriteCell, Note, CleanUp, EndLife, Requeue, Forward, GiveBack, SendRequest, CompleteRequest, PurgeQueue, CloseReturning, CloseDevice}
-use Rattle.wdf_model.specs.rules.Deeds.{arrive_at, ask_objects, do_deed, give_up}
+use Rattle.wdf_model.specs.declared.deed.Deed.TheVariants.{Create, MakeRequest, Arrive, AskDeletion, Refer, Unrefer, WriteCell, Note, CleanUp, EndLife, CompleteRequest}
+use Rattle.wdf_model.specs.rules.Deeds.{ask_objects, do_deed, give_up}
 use Rattle.wdf_model.specs.rules.Steps.{deeds}
 use Rattle.wdf_model.specs.rules.Ready.{IsRunOf, state_after}
 use Rattle.wdf_model.specs.laws.Fits.{fits}
@@ -40,8 +30,11 @@ use Rattle.wdf_model.proofs.FitsOfEvents.{event_fits}
 use Rattle.wdf_agreements.specs.Agreements.{LivesAgree}
 use Rattle.wdf_agreements.proofs.Subtrees.{asked_below, is_asked_with, kept_there, live_unasked, passes, unasked_stays}
 use Rattle.wdf_agreements.proofs.Keeping.{deeds_keep, each_place}
-use Rattle.wdf_agreements.proofs.Stays.{gives_up, gives_up_if, queues_closed, returns_closed, withdraws}
+use Rattle.wdf_agreements.proofs.Stays.{gives_up}
 use Rattle.wdf_agreements.proofs.Lists.{inside, reads_same}
+use Rattle.wdf_agreements.proofs.Readers.{arrived_tree, tree_of}
+use Rattle.wdf_agreements.proofs.Lives.{asked_off, cleaned_off, noted_kept}
+use Rattle.wdf_agreements.proofs.PartsStay.{tree_stays}
 
 -- what is live has a live parent, or none, and that is older
 pub record Lives (T : Tree) : Type 0 where
@@ -119,19 +112,6 @@ asked S o k =
 
 -- ---- each deed
 
-noted_kept : (c : Callback) (n : Node) → ((noted c n).life ≡ n.life) × ((noted c n).parent.0 ≡ n.parent.0)
-noted_kept callback.EvtCleanupCallback n = (refl, refl)
-noted_kept callback.EvtDestroyCallback n = (refl, refl)
-noted_kept _ n = (refl, refl)
-
-asked_off : (l : Life) → is_asked l ≡ true → false ≡ is_live l
-asked_off life.Live h = absurd (let z : ⊥ = cc in z)
-asked_off _ h = refl
-
-cleaned_off : (l : Life) → is_cleaned l ≡ true → false ≡ is_live l
-cleaned_off life.Live h = absurd (let z : ⊥ = cc in z)
-cleaned_off _ h = refl
-
 ended : (T : Tree) (o : ℕ) → is_cleaned (life_of T o) ≡ true → Lives T → Lives (tree.destroy T o)
 ended T o done = lives_same T (tree.destroy T o) (reads_same (λ n. is_live n.life) T o (λ _. gone) (cleaned_off (life_of T o) done))
     (λ x h. elim (one_or_two x o) [
@@ -142,17 +122,10 @@ ended T o done = lives_same T (tree.destroy T o) (reads_same (λ n. is_live n.li
 same_tree : (T U : Tree) → U ≡ T → Lives T → Lives U
 same_tree T U e q = subst Lives (sym e) q
 
-arrived : {A : Type 0} (S : State A) (device : ℕ) (info : RequestInfo) (p : Place) → (arrive_at S device info p).tree ≡ tree.arrive S.tree device
-arrived S device info (place.Queued q) = refl
-arrived S device info _ = refl
-
-abbrev tree_of : {A : Type 0} → State A → Tree
-tree_of S = S.tree
-
 lives_by : {A : Type 0} (plan : Plan) (d : Deed) (S : State A) → fits plan d S ≡ true → Lives S.tree → Lives (do_deed plan d S).tree
 lives_by plan (Create k class parent) S f q = object_made S.tree k class parent.0 (search both_left) q
 lives_by plan (MakeRequest class parent) S f q = object_made S.tree kind.Made class parent.0 (search both_left) q
-lives_by plan (Arrive device info p) S f q = same_tree _ _ (arrived S device.0 info p) (object_made S.tree kind.Request 0 device.0 (search both_left) q)
+lives_by plan (Arrive device info p) S f q = same_tree _ _ (arrived_tree S device.0 info p) (object_made S.tree kind.Request 0 device.0 (search both_left) q)
 lives_by plan (AskDeletion o) S f q = asked S o.0 q
 lives_by plan (Refer o) S f q = object_changes S.tree o.0 (λ n. record n { references = n.references + 1 }) refl refl q
 lives_by plan (Unrefer o) S f q = object_changes S.tree o.0 (λ n. record n { references = n.references - 1 }) refl refl q
@@ -162,15 +135,8 @@ lives_by plan (CleanUp o) S f q =
     let waits : is_asked (life_of S.tree o.0) ≡ true = search both_left in
     object_changes S.tree o.0 (with_life life.Cleaned) (asked_off (life_of S.tree o.0) waits) refl q
 lives_by plan (EndLife o) S f q = let done : is_cleaned (life_of S.tree o.0) ≡ true = search both_left in ended S.tree o.0 done q
-lives_by plan (Requeue r p) S f q = same_tree _ _ (gives_up tree_of (λ S Q R P. refl) S r.0) q
-lives_by plan (Forward r p) S f q = same_tree _ _ (gives_up tree_of (λ S Q R P. refl) S r.0) q
-lives_by plan (GiveBack r p) S f q = same_tree _ _ (gives_up tree_of (λ S Q R P. refl) S r.0) q
-lives_by plan (SendRequest r t forget) S f q = same_tree _ _ (gives_up_if tree_of (λ S Q R P. refl) S forget r.0) q
 lives_by plan (CompleteRequest r) S f q = asked (record (give_up S r.0) { requests = requests.complete S.requests r.0 }) r.0 (same_tree _ _ (gives_up tree_of (λ S Q R P. refl) S r.0) q)
-lives_by plan (PurgeQueue p) S f q = same_tree _ _ (withdraws tree_of (λ S Q R P. refl) plan p.0 (waiting_in S.queues p.0) (record S { control = control.set_mode S.control p.0 mode.Purged })) q
-lives_by plan (CloseReturning d) S f q = same_tree _ _ (returns_closed tree_of (λ S Q R P. refl) (managed_queues plan d.0) S) q
-lives_by plan (CloseDevice d) S f q = same_tree _ _ (queues_closed tree_of (λ S Q R P. refl) (queues_of plan d.0) (record S { control = control.shut S.control d.0 })) q
-lives_by plan _ S f q = q
+lives_by plan d S f q = same_tree _ _ (tree_stays plan d S refl) q
 
 -- ---- the opening of a resolved plan
 

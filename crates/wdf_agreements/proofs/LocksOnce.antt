@@ -7,31 +7,22 @@ use Rattle.wdf_base.specs.declared.plan.Plan.{Plan}
 use Rattle.wdf_base.specs.declared.event.Event.{Event}
 use Rattle.wdf_base.specs.declared.object.LockRef.{LockRef}
 use Rattle.wdf_base.specs.declared.object.LockRef.TheVariants as lock
-use Rattle.wdf_base.specs.declared.object.Place.{Place}
-use Rattle.wdf_base.specs.declared.object.Place.TheVariants as place
-use Rattle.wdf_base.specs.declared.object.RequestInfo.{RequestInfo}
 use Rattle.wdf_base.specs.Same.{same_lock}
-use Rattle.wdf_model.specs.declared.enums.Mode.TheVariants as mode
 use Rattle.wdf_model.specs.declared.entries.Held.{Held}
 use Rattle.wdf_model.specs.Tables.{flag}
-use Rattle.wdf_model.specs.Plans.{managed_queues, queues_of}
-use Rattle.wdf_model.specs.parts.Tree.{subtree}
 use Rattle.wdf_model.specs.parts.Locks.{Locks, is_free_hold, is_free_lock}
 use Rattle.wdf_model.specs.parts.Locks as locks
-use Rattle.wdf_model.specs.parts.Requests as requests
-use Rattle.wdf_model.specs.parts.Queues.{waiting_in}
-use Rattle.wdf_model.specs.parts.Control as control
 use Rattle.wdf_model.specs.State.{State}
 use Rattle.wdf_model.specs.declared.deed.Deed.{Deed}
-use Rattle.wdf_model.specs.declared.deed.Deed.TheVariants.{Arrive, AskDeletion, TakeLock, ReleaseLock, Requeue, Forward, GiveBack, SendRequest, CompleteRequest, PurgeQueue, CloseReturning, CloseDevice}
-use Rattle.wdf_model.specs.rules.Deeds.{arrive_at, do_deed, give_up}
+use Rattle.wdf_model.specs.declared.deed.Deed.TheVariants.{TakeLock, ReleaseLock}
+use Rattle.wdf_model.specs.rules.Deeds.{do_deed}
 use Rattle.wdf_model.specs.rules.Steps.{deeds}
 use Rattle.wdf_model.specs.rules.Ready.{IsRunOf, state_after}
 use Rattle.wdf_model.specs.laws.Fits.{fits}
 use Rattle.wdf_model.proofs.Counts.{count_behind, count_cons, count_of_one, equal, filter_less}
 use Rattle.wdf_model.proofs.FitsOfEvents.{event_fits}
 use Rattle.wdf_agreements.proofs.Keeping.{deeds_keep, each_place}
-use Rattle.wdf_agreements.proofs.Stays.{asks_all, gives_up, gives_up_if, queues_closed, returns_closed, withdraws}
+use Rattle.wdf_agreements.proofs.PartsStay.{locks_stay}
 
 -- ---- when two locks are one
 
@@ -89,31 +80,13 @@ released L l q x = let old = q x in let less = filter_less (λ (h : Held). same_
 
 -- ---- each deed
 
-abbrev locks_in : {A : Type 0} → State A → Locks
-locks_in S = S.locks
-
-arrived : {A : Type 0} (S : State A) (device : ℕ) (info : RequestInfo) (p : Place) → (arrive_at S device info p).locks ≡ S.locks
-arrived S device info (place.Queued q) = refl
-arrived S device info _ = refl
-
 same_once : (K L : Locks) → L ≡ K → Once K → Once L
 same_once K L e q = subst Once (sym e) q
 
 deed_keeps : {A : Type 0} (plan : Plan) (d : Deed) (S : State A) → fits plan d S ≡ true → Once S.locks → Once (do_deed plan d S).locks
 deed_keeps plan (TakeLock l f by_call) S free q = taken S.locks l f.0 by_call free q
 deed_keeps plan (ReleaseLock l) S h q = released S.locks l q
-deed_keeps plan (Arrive device info p) S h q = same_once _ _ (arrived S device.0 info p) q
-deed_keeps plan (AskDeletion o) S h q = same_once _ _ (asks_all locks_in (λ S T D W U. refl) (subtree S.tree o.0) S) q
-deed_keeps plan (Requeue r p) S f q = same_once _ _ (gives_up locks_in (λ S Q R P. refl) S r.0) q
-deed_keeps plan (Forward r p) S f q = same_once _ _ (gives_up locks_in (λ S Q R P. refl) S r.0) q
-deed_keeps plan (GiveBack r p) S f q = same_once _ _ (gives_up locks_in (λ S Q R P. refl) S r.0) q
-deed_keeps plan (SendRequest r t forget) S f q = same_once _ _ (gives_up_if locks_in (λ S Q R P. refl) S forget r.0) q
-deed_keeps plan (CompleteRequest r) S f q =
-    same_once _ _ (asks_all locks_in (λ S T D W U. refl) (subtree (give_up S r.0).tree r.0) (record (give_up S r.0) { requests = requests.complete S.requests r.0 }) ∙ gives_up locks_in (λ S Q R P. refl) S r.0) q
-deed_keeps plan (PurgeQueue p) S f q = same_once _ _ (withdraws locks_in (λ S Q R P. refl) plan p.0 (waiting_in S.queues p.0) (record S { control = control.set_mode S.control p.0 mode.Purged })) q
-deed_keeps plan (CloseReturning d) S f q = same_once _ _ (returns_closed locks_in (λ S Q R P. refl) (managed_queues plan d.0) S) q
-deed_keeps plan (CloseDevice d) S f q = same_once _ _ (queues_closed locks_in (λ S Q R P. refl) (queues_of plan d.0) (record S { control = control.shut S.control d.0 })) q
-deed_keeps plan _ S h q = q
+deed_keeps plan d S h q = same_once _ _ (locks_stay plan d S refl) q
 
 -- ---- each place of a run
 

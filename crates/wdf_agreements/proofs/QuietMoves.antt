@@ -10,29 +10,20 @@ use Rattle.wdf_base.specs.declared.object.Life.{Life}
 use Rattle.wdf_base.specs.declared.object.Life.TheVariants as life
 use Rattle.wdf_base.specs.declared.object.LockRef.{LockRef}
 use Rattle.wdf_base.specs.declared.object.LockRef.TheVariants as lock
-use Rattle.wdf_base.specs.declared.object.Place.{Place}
-use Rattle.wdf_base.specs.declared.object.Place.TheVariants as place
-use Rattle.wdf_base.specs.declared.object.RequestInfo.{RequestInfo}
-use Rattle.wdf_base.specs.declared.call.Callback.{Callback}
-use Rattle.wdf_base.specs.declared.call.Callback.TheVariants as callback
 use Rattle.wdf_base.specs.declared.frame.Pending.{Pending}
 use Rattle.wdf_base.specs.Same.{same_kind, same_lock}
-use Rattle.wdf_model.specs.declared.enums.Mode.TheVariants as mode
 use Rattle.wdf_model.specs.declared.entries.Held.{Held}
 use Rattle.wdf_model.specs.declared.entries.Node.{Node}
 use Rattle.wdf_model.specs.Tables.{flag}
-use Rattle.wdf_model.specs.Plans.{managed_queues, queues_of}
-use Rattle.wdf_model.specs.parts.Tree.{Tree, gone, is_asked, is_cleaned, is_gone, is_live, is_past_cleanup, kind_of, life_of, new_node, next_id, node_of, noted, subtree, with_life, with_node}
+use Rattle.wdf_model.specs.parts.Tree.{Tree, gone, is_cleaned, is_live, is_past_cleanup, kind_of, life_of, new_node, next_id, node_of, noted, subtree, with_life, with_node}
 use Rattle.wdf_model.specs.parts.Tree as tree
 use Rattle.wdf_model.specs.parts.Cpus.{Cpus, all_frames, frame_of}
 use Rattle.wdf_model.specs.parts.Locks.{Locks, is_free_lock, lock_of_callback, object_lock}
 use Rattle.wdf_model.specs.parts.Requests as requests
-use Rattle.wdf_model.specs.parts.Queues.{waiting_in}
-use Rattle.wdf_model.specs.parts.Control as control
 use Rattle.wdf_model.specs.State.{State, is_locked, is_waited_for, object_in, waits_for}
 use Rattle.wdf_model.specs.declared.deed.Deed.{Deed}
-use Rattle.wdf_model.specs.declared.deed.Deed.TheVariants.{Create, MakeRequest, Arrive, AskDeletion, Refer, Unrefer, WriteCell, Note, CleanUp, EndLife, PushFrame, GoOn, PopFrame, ParkFrame, UnparkFrame, Raise, Lower, TakeLock, ReleaseLock, Requeue, Forward, GiveBack, SendRequest, CompleteRequest, PurgeQueue, CloseReturning, CloseDevice}
-use Rattle.wdf_model.specs.rules.Deeds.{arrive_at, ask_object, do_deed, do_deeds, give_up}
+use Rattle.wdf_model.specs.declared.deed.Deed.TheVariants.{Create, MakeRequest, Arrive, AskDeletion, Refer, Unrefer, WriteCell, Note, CleanUp, EndLife, PushFrame, GoOn, PopFrame, ParkFrame, UnparkFrame, Raise, Lower, TakeLock, ReleaseLock, CompleteRequest}
+use Rattle.wdf_model.specs.rules.Deeds.{ask_object, do_deed, do_deeds, give_up}
 use Rattle.wdf_model.specs.rules.Calls.{level_of_kind}
 use Rattle.wdf_model.specs.rules.Faults.{is_acquire}
 use Rattle.wdf_model.specs.rules.Starts.{clean_ready, destroy_ready}
@@ -42,7 +33,7 @@ use Rattle.wdf_model.proofs.Maps.{entry_before, entry_past, entry_put_other}
 use Rattle.wdf_model.proofs.Counts.{count_cons, equal, one_or_two}
 use Rattle.wdf_model.proofs.Deletion.{object_live, object_off}
 use Rattle.wdf_invariants.proofs.Framed.{on}
-use Rattle.wdf_agreements.proofs.Stays.{asks_all, gives_up, gives_up_if, queues_closed, returns_closed, withdraws}
+use Rattle.wdf_agreements.proofs.Stays.{gives_up}
 use Rattle.wdf_agreements.proofs.Lists.{Each, each_still, reads_same}
 use Rattle.wdf_agreements.proofs.LocksOnce.{free_unheld}
 use Rattle.wdf_agreements.proofs.Sound.{AllSound}
@@ -52,6 +43,9 @@ use Rattle.wdf_agreements.proofs.Framing.{Framing, framing_by, locks_by, off_it}
 use Rattle.wdf_agreements.proofs.Counted.{called, height, is_called, same_of_each}
 use Rattle.wdf_agreements.proofs.Leveled.{EarlyIfCalled, IsEarly, Leveled, awaited, object_at}
 use Rattle.wdf_agreements.proofs.QuietDeeds.{all_quiet, is_quiet_deed}
+use Rattle.wdf_agreements.proofs.Readers.{arrived_tree, tree_of}
+use Rattle.wdf_agreements.proofs.Lives.{early_there, noted_life}
+use Rattle.wdf_agreements.proofs.PartsStay.{cpus_stay, tree_stays}
 
 abbrev pub LeveledIn : {A : Type 0} → Plan → State A → Type 0
 LeveledIn plan S = Leveled plan S.cpus S.locks S.tree
@@ -80,21 +74,6 @@ all_asked : {A : Type 0} (xs : List ℕ) (S : State A) (y : ℕ) → is_past_cle
 all_asked [] S y h = h
 all_asked (x ∷ xs) S y h = all_asked xs (ask_object S x) y (asked_one S x (is_live (life_of S.tree x)) refl y h)
 
-noted_life : (c : Callback) (n : Node) → (noted c n).life ≡ n.life
-noted_life callback.EvtCleanupCallback n = refl
-noted_life callback.EvtDestroyCallback n = refl
-noted_life _ n = refl
-
-arrived : {A : Type 0} (S : State A) (device : ℕ) (info : RequestInfo) (p : Place) → ((arrive_at S device info p).tree ≡ tree.arrive S.tree device) × ((arrive_at S device info p).cpus ≡ S.cpus)
-arrived S device info (place.Queued q) = (refl, refl)
-arrived S device info _ = (refl, refl)
-
-abbrev tree_of : {A : Type 0} → State A → Tree
-tree_of S = S.tree
-
-abbrev cpus_of : {A : Type 0} → State A → Cpus
-cpus_of S = S.cpus
-
 same_early : (T U : Tree) (x : ℕ) → U ≡ T → is_past_cleanup (life_of T x) ≡ false → is_past_cleanup (life_of U x) ≡ false
 same_early T U x e h = ap (λ (V : Tree). is_past_cleanup (life_of V x)) e ∙ h
 
@@ -118,7 +97,7 @@ ended_apart S o x f h e =
 deed_early : {A : Type 0} (plan : Plan) (d : Deed) (S : State A) → fits plan d S ≡ true → (x : ℕ) → (Cleans d x → ⊥) → is_past_cleanup (life_of S.tree x) ≡ false → is_past_cleanup (life_of (do_deed plan d S).tree x) ≡ false
 deed_early plan (Create k class parent) S f x n h = early_made S.tree k class parent.0 x h
 deed_early plan (MakeRequest class parent) S f x n h = early_made S.tree kind.Made class parent.0 x h
-deed_early plan (Arrive device info p) S f x n h = same_early _ _ x (arrived S device.0 info p).0 (early_made S.tree kind.Request 0 device.0 x h)
+deed_early plan (Arrive device info p) S f x n h = same_early _ _ x (arrived_tree S device.0 info p) (early_made S.tree kind.Request 0 device.0 x h)
 deed_early plan (AskDeletion o) S f x n h = all_asked (subtree S.tree o.0) S x h
 deed_early plan (Refer o) S f x n h = early_changes S.tree o.0 (λ m. record m { references = m.references + 1 }) refl x h
 deed_early plan (Unrefer o) S f x n h = early_changes S.tree o.0 (λ m. record m { references = m.references - 1 }) refl x h
@@ -126,16 +105,9 @@ deed_early plan (WriteCell o k v) S f x n h = early_changes S.tree o.0 (λ m. re
 deed_early plan (Note o c) S f x n h = early_changes S.tree o.0 (noted c) (ap is_past_cleanup (noted_life c (node_of S.tree o.0))) x h
 deed_early plan (CleanUp o) S f x n h = ap (λ (m : Node). is_past_cleanup m.life) (entry_put_other gone S.tree.nodes o.0 x (with_life life.Cleaned (node_of S.tree o.0)) n) ∙ h
 deed_early plan (EndLife o) S f x n h = ap (λ (m : Node). is_past_cleanup m.life) (entry_put_other gone S.tree.nodes o.0 x gone (ended_apart S o.0 x f h)) ∙ h
-deed_early plan (Requeue r p) S f x n h = same_early _ _ x (gives_up tree_of (λ S Q R P. refl) S r.0) h
-deed_early plan (Forward r p) S f x n h = same_early _ _ x (gives_up tree_of (λ S Q R P. refl) S r.0) h
-deed_early plan (GiveBack r p) S f x n h = same_early _ _ x (gives_up tree_of (λ S Q R P. refl) S r.0) h
-deed_early plan (SendRequest r t forget) S f x n h = same_early _ _ x (gives_up_if tree_of (λ S Q R P. refl) S forget r.0) h
 deed_early plan (CompleteRequest r) S f x n h =
     all_asked (subtree (give_up S r.0).tree r.0) (record (give_up S r.0) { requests = requests.complete S.requests r.0 }) x (same_early _ _ x (gives_up tree_of (λ S Q R P. refl) S r.0) h)
-deed_early plan (PurgeQueue p) S f x n h = same_early _ _ x (withdraws tree_of (λ S Q R P. refl) plan p.0 (waiting_in S.queues p.0) (record S { control = control.set_mode S.control p.0 mode.Purged })) h
-deed_early plan (CloseReturning d) S f x n h = same_early _ _ x (returns_closed tree_of (λ S Q R P. refl) (managed_queues plan d.0) S) h
-deed_early plan (CloseDevice d) S f x n h = same_early _ _ x (queues_closed tree_of (λ S Q R P. refl) (queues_of plan d.0) (record S { control = control.shut S.control d.0 })) h
-deed_early plan _ S f x n h = h
+deed_early plan d S f x n h = same_early _ _ x (tree_stays plan d S refl) h
 
 -- ---- processors and locks that stay
 
@@ -147,19 +119,7 @@ quiet_cpus plan (ParkFrame cpu) S h = absurd (let z : ⊥ = cc in z)
 quiet_cpus plan (UnparkFrame cpu f) S h = absurd (let z : ⊥ = cc in z)
 quiet_cpus plan (Raise f level) S h = absurd (let z : ⊥ = cc in z)
 quiet_cpus plan (Lower f level) S h = absurd (let z : ⊥ = cc in z)
-quiet_cpus plan (TakeLock l f by_call) S h = absurd (let z : ⊥ = cc in z)
-quiet_cpus plan (ReleaseLock l) S h = absurd (let z : ⊥ = cc in z)
-quiet_cpus plan (Arrive device info p) S h = (arrived S device.0 info p).1
-quiet_cpus plan (AskDeletion o) S h = asks_all cpus_of (λ S T D W U. refl) (subtree S.tree o.0) S
-quiet_cpus plan (Requeue r p) S h = gives_up cpus_of (λ S Q R P. refl) S r.0
-quiet_cpus plan (Forward r p) S h = gives_up cpus_of (λ S Q R P. refl) S r.0
-quiet_cpus plan (GiveBack r p) S h = gives_up cpus_of (λ S Q R P. refl) S r.0
-quiet_cpus plan (SendRequest r t forget) S h = gives_up_if cpus_of (λ S Q R P. refl) S forget r.0
-quiet_cpus plan (CompleteRequest r) S h = asks_all cpus_of (λ S T D W U. refl) (subtree (give_up S r.0).tree r.0) (record (give_up S r.0) { requests = requests.complete S.requests r.0 }) ∙ gives_up cpus_of (λ S Q R P. refl) S r.0
-quiet_cpus plan (PurgeQueue p) S h = withdraws cpus_of (λ S Q R P. refl) plan p.0 (waiting_in S.queues p.0) (record S { control = control.set_mode S.control p.0 mode.Purged })
-quiet_cpus plan (CloseReturning d) S h = returns_closed cpus_of (λ S Q R P. refl) (managed_queues plan d.0) S
-quiet_cpus plan (CloseDevice d) S h = queues_closed cpus_of (λ S Q R P. refl) (queues_of plan d.0) (record S { control = control.shut S.control d.0 })
-quiet_cpus plan _ S h = refl
+quiet_cpus plan d S h = cpus_stay plan d S refl
 
 pub quiet_locks : {A : Type 0} (plan : Plan) (d : Deed) (S : State A) → is_quiet_deed d ≡ true → (do_deed plan d S).locks ≡ S.locks
 quiet_locks plan (TakeLock l f by_call) S h = absurd (let z : ⊥ = cc in z)
@@ -280,12 +240,6 @@ tree_moves plan C L T U frames locked waits k = record {
   level = k.level;
   kind = λ f more h. ap (λ x. same_kind x kind.SpinLock) (let s = frames f more in s.kind) ∙ k.kind f more h;
 }
-
-early_there : (l : Life) → is_past_cleanup l ≡ false → is_gone l ≡ false
-early_there life.Live h = refl
-early_there life.Asked h = refl
-early_there life.Cleaned h = absurd (let z : ⊥ = cc in z)
-early_there life.Gone h = absurd (let z : ⊥ = cc in z)
 
 ends_none : {A : Type 0} (plan : Plan) (d : Deed) (S : State A) → fits plan d S ≡ true → (x : ℕ) → is_past_cleanup (life_of S.tree x) ≡ false → Ends d x → ⊥
 ends_none plan (EndLife o) S f x h e = ended_apart S o.0 x f h e

@@ -1,5 +1,5 @@
 -- What is so where a deed is done, beside what fits: of deferred work, of frames and their locks, and of queues and devices.
-use Rattle.std.proofs.Common.{if◌then◌else◌, ◌≡◌, ◌≢◌, refl, ℕ, ◌==◌, ◌≤◌, Bool, true, false, ◌||◌, List, [], ◌∷◌, ◌++◌, ◌⊎◌, Option, Some, None, is_some, count_by}
+use Rattle.std.proofs.Common.{◌≡◌, ◌≢◌, ℕ, ◌==◌, ◌≤◌, true, false, ◌||◌, List, ◌⊎◌, Option, Some, None, is_some, count_by}
 use Rattle.std.specs.Prelude.{⊤}
 use Rattle.wdf_base.specs.declared.plan.Plan.{Plan}
 use Rattle.wdf_base.specs.declared.object.LockRef.{LockRef}
@@ -14,10 +14,10 @@ use Rattle.wdf_model.specs.parts.Requests.{info_of}
 use Rattle.wdf_model.specs.State.{State, declared_in}
 use Rattle.wdf_model.specs.declared.deed.Deed.{Deed}
 use Rattle.wdf_model.specs.declared.deed.Deed.TheVariants.{Arrive, PushFrame, GoOn, PopFrame, ParkFrame, UnparkFrame, TakeLock, Requeue, Forward, GiveBack, EnqueueDpc, EnqueueWork, StartTimer}
-use Rattle.wdf_model.specs.rules.Deeds.{do_deed, do_deeds}
-use Rattle.wdf_model.specs.rules.Calls.{Outcome, origin_or_none}
+use Rattle.wdf_model.specs.rules.Calls.{origin_or_none}
 use Rattle.wdf_invariants.proofs.Framed.{on}
 use Rattle.wdf_invariants.proofs.FrameMoves.{FrameKept}
+use Rattle.wdf_agreements.proofs.AllOf.{AllOf}
 use Rattle.wdf_agreements.proofs.Lists.{Each}
 
 -- the lock that a frame took at its start, if any
@@ -58,14 +58,4 @@ Sound plan _ S = ⊤
 
 -- each of some deeds is so where it is done
 abbrev pub AllSound : {A : Type 0} → Plan → List Deed → State A → Type 0
-AllSound plan [] S = ⊤
-AllSound plan (d ∷ ds) S = Sound plan d S × AllSound plan ds (do_deed plan d S)
-
-pub sound_behind : {A : Type 0} (plan : Plan) (ds es : List Deed) (S : State A) → AllSound plan ds S → AllSound plan es (do_deeds plan ds S) → AllSound plan (ds ++ es) S
-sound_behind plan [] es S h k = k
-sound_behind plan (d ∷ ds) es S h k = (h.0, sound_behind plan ds es (do_deed plan d S) h.1 k)
-
-pub either_sound : {A : Type 0} (plan : Plan) (S : State A) (b : Bool) (x y : Outcome) → (b ≡ true → AllSound plan x.deeds S) → (b ≡ false → AllSound plan y.deeds S)
-    → AllSound plan (if b then x else y).deeds S
-either_sound plan S true x y h k = h refl
-either_sound plan S false x y h k = k refl
+AllSound {A} plan ds S = AllOf plan (λ (d : Deed) (U : State A). Sound plan d U) ds S

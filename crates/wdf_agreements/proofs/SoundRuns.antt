@@ -1,5 +1,5 @@
 -- What the opening has, and each deed that fits and is sound keeps, is so at each place of every run.
-use Rattle.std.proofs.Common.{◌≡◌, ℕ, true, List, [], ◌∷◌, take, refl}
+use Rattle.std.proofs.Common.{◌≡◌, ℕ, true, List, take, refl}
 use Rattle.wdf_base.specs.Meaning.{Meaning}
 use Rattle.wdf_base.specs.declared.plan.Plan.{Plan}
 use Rattle.wdf_base.specs.declared.event.Event.{Event}
@@ -10,21 +10,13 @@ use Rattle.wdf_model.specs.declared.deed.Deed.TheVariants.{PassTick}
 use Rattle.wdf_model.specs.rules.Deeds.{counted, do_deed, do_deeds}
 use Rattle.wdf_model.specs.rules.Steps.{after, deeds, may}
 use Rattle.wdf_model.specs.rules.Ready.{IsRunOf, state_after}
-use Rattle.wdf_model.specs.laws.Fits.{all_fit, fits}
-use Rattle.wdf_model.proofs.Tests.{both_left, both_right}
+use Rattle.wdf_model.specs.laws.Fits.{fits}
 use Rattle.wdf_model.proofs.FitsOfEvents.{event_fits}
 use Rattle.wdf_agreements.proofs.Keeping.{Known, each_place_by, known_now}
+use Rattle.wdf_agreements.proofs.AllOf.{all_keep}
 use Rattle.wdf_agreements.proofs.Sound.{AllSound, Sound}
 use Rattle.wdf_agreements.proofs.SoundEvents.{event_sound}
 use Rattle.wdf_agreements.proofs.Framing.{Framing, framing_now, holds_none}
-
--- what each such deed keeps, those deeds one after another keep
-pub sound_deeds_keep : {A : Type 0} (plan : Plan) (Q : State A → Type 0) → ((d : Deed) (S : State A) → fits plan d S ≡ true → Sound plan d S → Q S → Q (do_deed plan d S))
-    → (ds : List Deed) (S : State A) → all_fit plan ds S ≡ true → AllSound plan ds S → Q S → Q (do_deeds plan ds S)
-sound_deeds_keep plan Q keeps [] S h s q = q
-sound_deeds_keep plan Q keeps (d ∷ ds) S h s q =
-    sound_deeds_keep plan Q keeps ds (do_deed plan d S) (both_right (fits plan d S) (all_fit plan ds (do_deed plan d S)) h) s.1
-    (keeps d S (both_left (fits plan d S) (all_fit plan ds (do_deed plan d S)) h) s.0 q)
 
 -- what is known of a state of a run, of its frames and locks too
 pub record KnownAll {A : Type 0} (plan : Plan) (S : State A) : Type 0 where
@@ -47,7 +39,7 @@ pub sound_place : {A : Type 0} (plan : Plan) (m : Meaning A) (Q : State A → Ty
     → ((d : Deed) (S : State A) → fits plan d S ≡ true → Sound plan d S → Q S → Q (do_deed plan d S))
     → ((e : Event) (S : State A) → Q S → Q (counted m e S))
     → (run : List Event) → IsRunOf plan m run → (n : ℕ) → Q (state_after plan m (take n run))
-sound_place plan m Q opens keeps more run is_run n = known_place plan m Q opens
-    (λ S e k may_come q. more e (do_deeds plan (deeds plan S e) S) (sound_deeds_keep plan Q keeps (deeds plan S e) S (event_fits plan m S e may_come) (all_sound plan m S e k may_come) q))
+sound_place {A} plan m Q opens keeps more run is_run n = known_place plan m Q opens
+    (λ S e k may_come q. more e (do_deeds plan (deeds plan S e) S) (all_keep plan (λ (d : Deed) (U : State A). Sound plan d U) Q keeps (deeds plan S e) S (event_fits plan m S e may_come) (all_sound plan m S e k may_come) q))
     (λ S time q. more (event.Tick time) (do_deed plan PassTick S) (keeps PassTick S refl tt q))
     run is_run n

@@ -28,16 +28,11 @@ module _ {A X : Type 0} (reads : State A → X) where
 
   -- a reader of no queue, request or power
   module _ (apart : (S : State A) (Q : Queues) (R : Requests) (P : Power) → reads (record S { queues = Q; requests = R; power = P }) ≡ reads S) where
-    gives_up_by : (S : State A) (Q : Queues) (P : Power) (b : Bool) → reads (if b then record S { queues = Q; power = P } else S) ≡ reads S
-    gives_up_by S Q P true = apart S Q S.requests P
-    gives_up_by S Q P false = refl
-
     pub gives_up : (S : State A) (r : ℕ) → reads (give_up S r) ≡ reads S
-    gives_up S r = gives_up_by S _ _ (is_with_driver S r)
+    gives_up S r = given (λ T Q P. apart T Q T.requests P) S r
 
     pub gives_up_if : (S : State A) (forget : Bool) (r : ℕ) → reads (give_up_if forget S r) ≡ reads S
-    gives_up_if S true r = gives_up S r
-    gives_up_if S false r = refl
+    gives_up_if S forget r = given_if (λ T Q P. apart T Q T.requests P) S forget r
 
     pub withdraws : (plan : Plan) (q : ℕ) (rs : List ℕ) (S : State A) → reads (fold (withdraw plan q) S rs) ≡ reads S
     withdraws plan q [] S = refl
@@ -60,3 +55,15 @@ module _ {A X : Type 0} (reads : State A → X) where
     pub asks_all : (xs : List ℕ) (S : State A) → reads (fold ask_object S xs) ≡ reads S
     asks_all [] S = refl
     asks_all (x ∷ xs) S = asks_all xs (ask_object S x) ∙ asks_one S x (is_live (life_of S.tree x)) refl
+
+pub withdrawn_power : {A : Type 0} (plan : Plan) (q : ℕ) (rs : List ℕ) (S : State A) → (fold (withdraw plan q) S rs).power ≡ S.power
+withdrawn_power plan q [] S = refl
+withdrawn_power plan q (r ∷ rs) S = withdrawn_power plan q rs (withdraw plan q S r)
+
+pub returning_power : {A : Type 0} (qs : List ℕ) (S : State A) → (fold close_returning S qs).power ≡ S.power
+returning_power [] S = refl
+returning_power (q ∷ qs) S = returning_power qs (close_returning S q)
+
+pub closed_power : {A : Type 0} (qs : List ℕ) (S : State A) → (fold close_queue S qs).power ≡ S.power
+closed_power [] S = refl
+closed_power (q ∷ qs) S = closed_power qs (close_queue S q)

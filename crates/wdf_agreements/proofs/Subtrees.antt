@@ -13,6 +13,7 @@ use Rattle.wdf_model.proofs.Maps.{entry_before, entry_last, entry_put_other, ent
 use Rattle.wdf_model.proofs.Counts.{equal, not_equal, one_or_two}
 use Rattle.wdf_model.proofs.Deletion.{object_live, object_off}
 use Rattle.wdf_agreements.proofs.Queued.{any_filtered, any_none}
+use Rattle.wdf_agreements.proofs.Choices.{or_not}
 
 -- ---- the marks of what is below an object
 
@@ -111,10 +112,6 @@ off_then S x false h = rw (object_off S x h) h
 others_then : {A : Type 0} (S : State A) (x y : ℕ) (b : Bool) → is_live (life_of S.tree x) ≡ b → y ≢ x → node_of (ask_object S x).tree y ≡ node_of S.tree y
 others_then S x y true h n = rw (object_live S x h) (entry_put_other gone S.tree.nodes x y (with_life life.Asked (node_of S.tree x)) n)
 others_then S x y false h n = rw (object_off S x h) refl
-
-or_not : (a b : Bool) → a ≡ false → b ≡ false → (a || b) ≡ false
-or_not false b h k = k
-or_not true b h k = absurd (let z : ⊥ = cc in z)
 
 not_first : (x y : ℕ) (xs : List ℕ) → contains y (x ∷ xs) ≡ false → (y ≢ x) × (contains y xs ≡ false)
 not_first x y xs h = elim (cases_Bool (x == y)) [

@@ -4,30 +4,24 @@ use Rattle.wdf_base.specs.declared.plan.Plan.{Plan}
 use Rattle.wdf_base.specs.declared.object.Kind.{Kind}
 use Rattle.wdf_base.specs.declared.object.Kind.TheVariants as kind
 use Rattle.wdf_base.specs.declared.object.Life.TheVariants as life
-use Rattle.wdf_base.specs.declared.object.Place.{Place}
-use Rattle.wdf_base.specs.declared.object.Place.TheVariants as place
-use Rattle.wdf_base.specs.declared.object.RequestInfo.{RequestInfo}
-use Rattle.wdf_base.specs.declared.call.Callback.{Callback}
-use Rattle.wdf_base.specs.declared.call.Callback.TheVariants as callback
-use Rattle.wdf_model.specs.declared.enums.Mode.TheVariants as mode
 use Rattle.wdf_model.specs.declared.entries.Node.{Node}
-use Rattle.wdf_model.specs.Plans.{managed_queues, queues_of}
 use Rattle.wdf_model.specs.parts.Tree.{Tree, class_of, gone, is_asked, is_gone, is_live, kind_of, life_of, new_node, next_id, node_of, noted, subtree, with_life, with_node}
 use Rattle.wdf_model.specs.parts.Tree as tree
 use Rattle.wdf_model.specs.parts.Requests as requests
-use Rattle.wdf_model.specs.parts.Queues.{waiting_in}
-use Rattle.wdf_model.specs.parts.Control as control
 use Rattle.wdf_model.specs.State.{State}
 use Rattle.wdf_model.specs.declared.deed.Deed.{Deed}
-use Rattle.wdf_model.specs.declared.deed.Deed.TheVariants.{Create, MakeRequest, Arrive, AskDeletion, Refer, Unrefer, WriteCell, Note, CleanUp, EndLife, Requeue, Forward, GiveBack, SendRequest, CompleteRequest, PurgeQueue, CloseReturning, CloseDevice}
-use Rattle.wdf_model.specs.rules.Deeds.{arrive_at, ask_object, do_deed, give_up}
+use Rattle.wdf_model.specs.declared.deed.Deed.TheVariants.{Create, MakeRequest, Arrive, AskDeletion, Refer, Unrefer, WriteCell, Note, CleanUp, EndLife, CompleteRequest}
+use Rattle.wdf_model.specs.rules.Deeds.{ask_object, do_deed, give_up}
 use Rattle.wdf_model.specs.laws.Fits.{fits}
 use Rattle.wdf_model.proofs.Tests.{both_left}
 use Rattle.wdf_model.proofs.Maps.{entry_before, entry_past, entry_put_other}
 use Rattle.wdf_model.proofs.Deletion.{object_live, object_off}
 use Rattle.wdf_invariants.proofs.StillFrames.{asked_there, live_there}
-use Rattle.wdf_agreements.proofs.Stays.{gives_up, gives_up_if, queues_closed, returns_closed, withdraws}
+use Rattle.wdf_agreements.proofs.Stays.{gives_up}
 use Rattle.wdf_agreements.proofs.Lists.{reads_same}
+use Rattle.wdf_agreements.proofs.Readers.{arrived_tree, tree_of}
+use Rattle.wdf_agreements.proofs.Lives.{noted_same}
+use Rattle.wdf_agreements.proofs.PartsStay.{tree_stays}
 
 -- an object that is there is there still, and what it was
 pub record StaysAt (T U : Tree) (x : ℕ) : Type 0 where
@@ -65,18 +59,6 @@ all_asked : {A : Type 0} (xs : List ℕ) (S : State A) → StillThere S.tree (fo
 all_asked [] S = there_same S.tree S.tree refl
 all_asked (x ∷ xs) S = there_then S.tree (ask_object S x).tree (fold ask_object (ask_object S x) xs).tree (asked_one S x (is_live (life_of S.tree x)) refl) (all_asked xs (ask_object S x))
 
-noted_kept : (c : Callback) (n : Node) → ((noted c n).life ≡ n.life) × ((noted c n).kind ≡ n.kind) × ((noted c n).class ≡ n.class)
-noted_kept callback.EvtCleanupCallback n = (refl, refl, refl)
-noted_kept callback.EvtDestroyCallback n = (refl, refl, refl)
-noted_kept _ n = (refl, refl, refl)
-
-arrived : {A : Type 0} (S : State A) (device : ℕ) (info : RequestInfo) (p : Place) → (arrive_at S device info p).tree ≡ tree.arrive S.tree device
-arrived S device info (place.Queued q) = refl
-arrived S device info _ = refl
-
-abbrev tree_of : {A : Type 0} → State A → Tree
-tree_of S = S.tree
-
 pub ends_object : (T : Tree) (o x : ℕ) → x ≢ o → is_gone (life_of T x) ≡ false → StaysAt T (tree.destroy T o) x
 ends_object T o x n h =
     let same : node_of (tree.destroy T o) x ≡ node_of T x = entry_put_other gone T.nodes o x gone n in
@@ -90,26 +72,19 @@ Ends _ x = ⊥
 pub deed_there : {A : Type 0} (plan : Plan) (d : Deed) (S : State A) → fits plan d S ≡ true → (x : ℕ) → (Ends d x → ⊥) → is_gone (life_of S.tree x) ≡ false → StaysAt S.tree (do_deed plan d S).tree x
 deed_there plan (Create k class parent) S f x n h = there_made S.tree k class parent.0 x h
 deed_there plan (MakeRequest class parent) S f x n h = there_made S.tree kind.Made class parent.0 x h
-deed_there plan (Arrive device info p) S f x n h = subst (λ (V : Tree). StaysAt S.tree V x) (sym (arrived S device.0 info p)) (there_made S.tree kind.Request 0 device.0 x h)
+deed_there plan (Arrive device info p) S f x n h = subst (λ (V : Tree). StaysAt S.tree V x) (sym (arrived_tree S device.0 info p)) (there_made S.tree kind.Request 0 device.0 x h)
 deed_there plan (AskDeletion o) S f x n h = all_asked (subtree S.tree o.0) S x h
 deed_there plan (Refer o) S f x n h = there_changes S.tree o.0 (λ m. record m { references = m.references + 1 }) refl refl refl x h
 deed_there plan (Unrefer o) S f x n h = there_changes S.tree o.0 (λ m. record m { references = m.references - 1 }) refl refl refl x h
 deed_there plan (WriteCell o k v) S f x n h = there_changes S.tree o.0 (λ m. record m { cells = slice_set m.cells k v }) refl refl refl x h
 deed_there plan (Note o c) S f x n h =
-    let k = noted_kept c (node_of S.tree o.0) in
+    let k = noted_same c (node_of S.tree o.0) in
     there_changes S.tree o.0 (noted c) (ap is_gone k.0) k.1 k.2 x h
 deed_there plan (CleanUp o) S f x n h =
     let asked : is_asked (life_of S.tree o.0) ≡ true = search both_left in
     there_changes S.tree o.0 (with_life life.Cleaned) (sym (asked_there (life_of S.tree o.0) asked)) refl refl x h
 deed_there plan (EndLife o) S f x n h = ends_object S.tree o.0 x n h
-deed_there plan (Requeue r p) S f x n h = there_same _ _ (gives_up tree_of (λ S Q R P. refl) S r.0) x h
-deed_there plan (Forward r p) S f x n h = there_same _ _ (gives_up tree_of (λ S Q R P. refl) S r.0) x h
-deed_there plan (GiveBack r p) S f x n h = there_same _ _ (gives_up tree_of (λ S Q R P. refl) S r.0) x h
-deed_there plan (SendRequest r t forget) S f x n h = there_same _ _ (gives_up_if tree_of (λ S Q R P. refl) S forget r.0) x h
 deed_there plan (CompleteRequest r) S f x n h =
     there_then S.tree (give_up S r.0).tree _ (there_same _ _ (gives_up tree_of (λ S Q R P. refl) S r.0))
     (all_asked (subtree (give_up S r.0).tree r.0) (record (give_up S r.0) { requests = requests.complete S.requests r.0 })) x h
-deed_there plan (PurgeQueue p) S f x n h = there_same _ _ (withdraws tree_of (λ S Q R P. refl) plan p.0 (waiting_in S.queues p.0) (record S { control = control.set_mode S.control p.0 mode.Purged })) x h
-deed_there plan (CloseReturning d) S f x n h = there_same _ _ (returns_closed tree_of (λ S Q R P. refl) (managed_queues plan d.0) S) x h
-deed_there plan (CloseDevice d) S f x n h = there_same _ _ (queues_closed tree_of (λ S Q R P. refl) (queues_of plan d.0) (record S { control = control.shut S.control d.0 })) x h
-deed_there plan _ S f x n h = record { there = h; kind = refl; class = refl }
+deed_there plan d S f x n h = there_same _ _ (tree_stays plan d S refl) x h

@@ -1,6 +1,7 @@
 -- What the ending of a run says: nothing may follow, and something is any or nothing is.
-use Rattle.std.proofs.Common.{if◌then◌else◌, ◌≡◌, ℕ, ◌+◌, Bool, true, false, nat_lt, nat_le, List, [], ◌∷◌, Option, Some, None, refl, sym, ap, length, take, subst, arith}
+use Rattle.std.proofs.Common.{if◌then◌else◌, ◌≡◌, ℕ, ◌+◌, Bool, true, false, nat_lt, nat_le, List, [], ◌∷◌, Option, Some, None, refl, sym, length, take, subst, arith}
 use Rattle.std.proofs.lemmas.Bool.Decides.{nat_tests}
+use Rattle.std.proofs.Math.Seq.{take-length}
 use Rattle.wdf_base.specs.Meaning.{Meaning}
 use Rattle.wdf_base.specs.declared.plan.Plan.{Plan}
 use Rattle.wdf_base.specs.declared.event.Event.{Event}
@@ -86,10 +87,5 @@ pub stuck_lines : {A : Type 0} (plan : Plan) (m : Meaning A) (run : List Event) 
 unfolding wait_list
 stuck_lines plan m run ends = rw ends refl
 
--- what is so at each place of a run is so at its end
-take_all : {T : Type 0} (xs : List T) → take (length xs) xs ≡ xs
-take_all [] = refl
-take_all (x ∷ xs) = ap (λ ys. x ∷ ys) (take_all xs)
-
 pub at_the_end : {A : Type 0} (plan : Plan) (m : Meaning A) (Q : State A → Type 0) (run : List Event) → ((n : ℕ) → Q (state_after plan m (take n run))) → Q (state_after plan m run)
-at_the_end plan m Q run h = subst (λ (es : List Event). Q (state_after plan m es)) (take_all run) (h (length run))
+at_the_end plan m Q run h = subst (λ (es : List Event). Q (state_after plan m es)) (take-length run) (h (length run))

@@ -33,10 +33,11 @@ use Rattle.wdf_model.specs.parts.Deferred.WorkItems.{is_work_queued}
 use Rattle.wdf_model.specs.State.{State, declared_in, handle_in, held_from, is_held_from, is_powered, object_in, up_for}
 use Rattle.wdf_model.specs.rules.Starts.{level_fits}
 use Rattle.wdf_model.specs.rules.Waits.{above_in, ahead, all_cpus, by_frame, by_frame_on, by_lock, call_cause, cause_if, frame_cause, frames_above, holders_of, no_cpu, parked_for_cpu, pending_cause, queue_scope_held, queued_cause, request_line, requests_where, returning_cause}
-use Rattle.wdf_model.proofs.Tests.{both, first, second}
+use Rattle.wdf_model.proofs.Tests.{both, first, itself, second}
 use Rattle.wdf_blame.specs.Causes.{all_taken, has_lock, is_above, is_before, is_held_lock, is_so, is_taken, is_there, keeps, keeps_below, keeps_call, keeps_frame, keeps_parked, keeps_pending, keeps_queued, keeps_returning, runs_on}
 use Rattle.wdf_blame.proofs.Members.{Has}
-use Rattle.wdf_blame.proofs.Gives.{Gives, IfThere, all_alike, any_has, gives_first, gives_frame, gives_if, gives_map, gives_none, gives_request, has_either, has_gathered, has_kept, it_contains, least_has, same}
+use Rattle.wdf_blame.proofs.Gives.{Gives, IfThere, all_alike, any_has, gives_first, gives_frame, gives_if, gives_map, gives_none, gives_request, has_either, has_gathered, has_kept, it_contains, least_has}
+use Rattle.wdf_blame.proofs.Conjuncts.{three}
 
 -- ---- processors
 
@@ -64,7 +65,7 @@ lock_held S None = refl
 lock_held S (Some l) = held_by (hold_of S.locks l)
 
 pub lock_of_holder : {A : Type 0} (S : State A) (l : LockRef) (g : ℕ) → holder S.locks l ≡ Some g → has_lock S l g ≡ true
-lock_of_holder S l g e = rw e (same g)
+lock_of_holder S l g e = rw e (itself g)
 
 holders_by : (o : Option ℕ) (g : ℕ) → Has g (filter_map (λ x. x) (o ∷ [])) → o ≡ Some g
 holders_by None g h = absurd h
@@ -87,7 +88,7 @@ pub while_on : (f z : ℕ) (zs : List ℕ) → (z == f) ≡ false → take_while
 while_on f z zs e = let n : 1 + prefix_len (λ y. not (y == f)) zs ≡ suc (prefix_len (λ y. not (y == f)) zs) = omega arith in rw (e, n) refl
 
 before_first : (g f z : ℕ) (zs : List ℕ) → g ≡ z → contains f zs ≡ true → is_before g f (z ∷ zs) ≡ true
-before_first g f z zs e h = rw (e, same z) h
+before_first g f z zs e h = rw (e, itself z) h
 
 before_by : (g f z : ℕ) (zs : List ℕ) (b : Bool) → (z == f) ≡ b → contains f (z ∷ zs) ≡ true → Has g (take_while (λ y. not (y == f)) (z ∷ zs))
     → (contains f zs ≡ true → Has g (take_while (λ y. not (y == f)) zs) → is_before g f zs ≡ true) → is_before g f (z ∷ zs) ≡ true
@@ -119,9 +120,6 @@ on_object S o g h =
     let kept = has_kept (is_on S.cpus o) g (all_frames S.cpus) h in
     both (is_there S g) (is_on S.cpus o g) (it_contains g (all_frames S.cpus) kept.1) kept.0
 
-three : (a b c : Bool) → a ≡ true → b ≡ true → c ≡ true → (a && b && c) ≡ true
-three a b c h k l = both (a && b) c (both a b h k) l
-
 acquired : {A : Type 0} (plan : Plan) (S : State A) (so : Cause → Bool) (o : ℕ) → ((g : ℕ) → has_lock S (object_lock o) g ≡ true → so (cause.ByLock (handle_in plan S o) (frame_id g)) ≡ true) → Gives so (by_lock plan S o)
 acquired plan S so o h = gives_map so (λ g. cause.ByLock (handle_in plan S o) (frame_id g)) (holder S.locks (object_lock o)) (λ g e. h g (lock_of_holder S (object_lock o) g e))
 
@@ -136,9 +134,9 @@ either_so a b (inl h) = first a b h
 either_so a b (inr h) = second a b h
 
 call_so : {A : Type 0} (plan : Plan) (S : State A) (k : CallKind) (n : ℕ) (a b d : Arg) → Gives (keeps_call S (record { kind = k; count = n; a = a; b = b; c = d })) (call_cause plan S (record { kind = k; count = n; a = a; b = b; c = d }))
-call_so plan S call.WdfSpinLockAcquire n a b d = acquired plan S _ (object_in a) (λ g h. three true (object_in a == object_in a) (has_lock S (object_lock (object_in a)) g) refl (same (object_in a)) h)
-call_so plan S call.WdfWaitLockAcquire n a b d = acquired plan S _ (object_in a) (λ g h. three true (object_in a == object_in a) (has_lock S (object_lock (object_in a)) g) refl (same (object_in a)) h)
-call_so plan S call.WdfInterruptAcquireLock n a b d = acquired plan S _ (object_in a) (λ g h. three true (object_in a == object_in a) (has_lock S (object_lock (object_in a)) g) refl (same (object_in a)) h)
+call_so plan S call.WdfSpinLockAcquire n a b d = acquired plan S _ (object_in a) (λ g h. three true (object_in a == object_in a) (has_lock S (object_lock (object_in a)) g) refl (itself (object_in a)) h)
+call_so plan S call.WdfWaitLockAcquire n a b d = acquired plan S _ (object_in a) (λ g h. three true (object_in a == object_in a) (has_lock S (object_lock (object_in a)) g) refl (itself (object_in a)) h)
+call_so plan S call.WdfInterruptAcquireLock n a b d = acquired plan S _ (object_in a) (λ g h. three true (object_in a == object_in a) (has_lock S (object_lock (object_in a)) g) refl (itself (object_in a)) h)
 call_so plan S call.WdfIoQueueStopSynchronously n a b d = gives_request _ plan S (held_from S (object_in a)) (λ r h. held_is S (object_in a) r h)
 call_so plan S call.WdfIoQueueDrainSynchronously n a b d =
     gives_request _ plan S (held_from S (object_in a) ++ waiting_in S.queues (object_in a))
@@ -159,7 +157,7 @@ call_so plan S call.WdfWorkItemFlush n a b d =
     gives_first _ (by_frame_on S (object_in a) ∷ cause_if (is_work_queued S.work_items (object_in a)) (cause.ByWork (handle_in plan S (object_in a))) ∷ []) (
       gives_frame _ (filter (is_on S.cpus (object_in a)) (all_frames S.cpus)) (λ g h. on_object S (object_in a) g h),
       (
-        gives_if _ (is_work_queued S.work_items (object_in a)) (cause.ByWork (handle_in plan S (object_in a))) (λ h. three true (object_in a == object_in a) (is_work_queued S.work_items (object_in a)) refl (same (object_in a)) h),
+        gives_if _ (is_work_queued S.work_items (object_in a)) (cause.ByWork (handle_in plan S (object_in a))) (λ h. three true (object_in a == object_in a) (is_work_queued S.work_items (object_in a)) refl (itself (object_in a)) h),
         tt,
       ),
     )
@@ -169,7 +167,7 @@ pending_so : {A : Type 0} (plan : Plan) (S : State A) (p : Option Pending) → G
 pending_so plan S None = gives_none _
 pending_so plan S (Some p) = call_so plan S p.call.kind p.call.count p.call.a p.call.b p.call.c
 
-weaker : (so also : Cause → Bool) (o : Option Cause) → ((x : Cause) → so x ≡ true → also x ≡ true) → Gives so o → Gives also o
+pub weaker : (so also : Cause → Bool) (o : Option Cause) → ((x : Cause) → so x ≡ true → also x ≡ true) → Gives so o → Gives also o
 weaker so also o h g x e = h x (g x e)
 
 empty_taken : {A : Type 0} (plan : Plan) (S : State A) → list_all (λ cpu. not (is_empty_cpu S.cpus cpu)) (all_cpus plan) ≡ all_taken plan S 0
@@ -204,7 +202,7 @@ count_in r (x ∷ xs) h = count_in_by r x xs (x == r) refl h (count_in r xs)
 
 waits_there : {A : Type 0} (S : State A) (q : ObjectId) (r : ℕ) → PlacesAgree S → place_of S.requests r ≡ place.Queued q → contains r (waiting_in S.queues q.0) ≡ true
 waits_there S q r k e =
-    let one : is_queued_in q.0 (place_of S.requests r) ≡ true = rw e (same q.0) in
+    let one : is_queued_in q.0 (place_of S.requests r) ≡ true = rw e (itself q.0) in
     let times : count_by (λ x. x == r) (waiting_in S.queues q.0) ≡ 1 = k.queued q.0 r ∙ ap flag one in
     count_in r (waiting_in S.queues q.0) (omega arith)
 

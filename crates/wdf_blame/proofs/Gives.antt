@@ -1,8 +1,7 @@
 -- What a search for the first cause gives: one of those that it looks at, and each of these is so.
-use Rattle.std.proofs.Common.{if◌then◌else◌, ◌≡◌, ◌⊎◌, inl, inr, ℕ, ◌==◌, Bool, true, false, nat_le, List, [], ◌∷◌, ◌++◌, Option, Some, None, filter, fold, refl, sym, ap, ◌∙◌, arith}
+use Rattle.std.proofs.Common.{if◌then◌else◌, ◌≡◌, ◌⊎◌, inl, inr, ℕ, ◌==◌, Bool, true, false, nat_le, List, [], ◌∷◌, ◌++◌, Option, Some, None, filter, fold, refl, sym, ap, ◌∙◌}
 use Rattle.std.specs.Prelude.{⊤, option_map}
 use Rattle.std.specs.List.{flat_map, list_all, list_any}
-use Rattle.std.proofs.lemmas.Bool.Decides.{nat_tests}
 use Rattle.std.proofs.lemmas.Option.{same_Some}
 use Rattle.wdf_base.specs.declared.plan.Plan.{Plan}
 use Rattle.wdf_base.specs.declared.wait.Cause.{Cause}
@@ -11,7 +10,7 @@ use Rattle.wdf_model.specs.Ids.{frame_id}
 use Rattle.wdf_model.specs.Tables.{contains, least, lesser}
 use Rattle.wdf_model.specs.State.{State, handle_in}
 use Rattle.wdf_model.specs.rules.Waits.{by_frame, by_request, cause_if, first_cause}
-use Rattle.wdf_model.proofs.Tests.{first, second}
+use Rattle.wdf_model.proofs.Tests.{first, itself, second}
 use Rattle.wdf_blame.proofs.Members.{Each, Has}
 
 -- what is found is so
@@ -103,12 +102,9 @@ has_gathered f y (x ∷ xs) h = elim (has_either y (f x) (flat_map f xs) h) [
 
 -- ---- tests
 
-pub same : (x : ℕ) → (x == x) ≡ true
-same x = grind (arith, nat_tests)
-
 pub it_contains : (x : ℕ) (xs : List ℕ) → Has x xs → contains x xs ≡ true
 it_contains x [] h = absurd h
-it_contains x (y ∷ ys) (inl e) = first (y == x) (contains x ys) (rw e (same y))
+it_contains x (y ∷ ys) (inl e) = first (y == x) (contains x ys) (rw e (itself y))
 it_contains x (y ∷ ys) (inr h) = second (y == x) (contains x ys) (it_contains x ys h)
 
 pub any_has : {T : Type 0} (p : T → Bool) (x : T) (xs : List T) → Has x xs → p x ≡ true → list_any p xs ≡ true

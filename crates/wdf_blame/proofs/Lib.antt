@@ -1,3 +1,4 @@
+pub mod Conjuncts
 pub mod Members
 pub mod Endings
 pub mod Finished

@@ -104,7 +104,7 @@ frames_are plan S k d =
 
 -- ---- requests
 
-closes_as : (p : Place) (s : Status) → p ≡ place.Closing s → is_closing_with p s ≡ true
+pub closes_as : (p : Place) (s : Status) → p ≡ place.Closing s → is_closing_with p s ≡ true
 closes_as p s e = rw e ((status_decides s s).1 refl)
 
 never_closing : {A : Type 0} (plan : Plan) (m : Meaning A) (S : State A) → AtRest plan m S true → (r : ℕ) (s : Status) → r < length S.requests.all → place_of S.requests r ≡ place.Closing s → ⊥

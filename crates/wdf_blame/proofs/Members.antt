@@ -1,9 +1,9 @@
 -- What is in a list: of a range, of what is kept, of what is gathered.
-use Rattle.std.proofs.Common.{◌≡◌, ◌⊎◌, inl, inr, ℕ, zero, suc, ◌+◌, ◌==◌, ◌<◌, ◌≤◌, Bool, true, false, nat_lt, List, [], ◌∷◌, ◌++◌, length, filter, map, Option, Some, None, refl, sym, ap, ◌∙◌, arith}
+use Rattle.std.proofs.Common.{◌≡◌, ◌⊎◌, inl, inr, ℕ, zero, suc, ◌+◌, ◌==◌, ◌<◌, ◌≤◌, Bool, true, false, nat_lt, List, [], ◌∷◌, ◌++◌, length, filter, map, slice_get, Option, Some, None, refl, sym, ap, ◌∙◌, arith}
 use Rattle.std.specs.Prelude.{⊤, filter_map}
 use Rattle.std.proofs.lemmas.Bool.Decides.{nat_tests}
-use Rattle.std.specs.List.{flat_map, range_with_len}
-use Rattle.wdf_model.specs.Tables.{contains}
+use Rattle.std.specs.List.{flat_map, range_with_len, list_any}
+use Rattle.wdf_model.specs.Tables.{contains, entry}
 use Rattle.wdf_model.proofs.Counts.{one_or_two}
 
 -- ---- items of a list
@@ -130,3 +130,23 @@ map_behind f (x ∷ xs) ys = ap (λ zs. f x ∷ zs) (map_behind f xs ys)
 pub map_twice : {T U V : Type 0} (f : T → U) (g : U → V) (xs : List T) → map g (map f xs) ≡ map (λ x. g (f x)) xs
 map_twice f g [] = refl
 map_twice f g (x ∷ xs) = ap (λ zs. g (f x) ∷ zs) (map_twice f g xs)
+
+-- ---- an id in a list of ids
+
+-- where an id is in a list
+pub record At (f : ℕ) (xs : List ℕ) : Type 0 where
+  pub place : ℕ
+  pub low : place < length xs
+  pub is : slice_get xs place ≡ Some f
+
+at_by : (f x : ℕ) (xs : List ℕ) (b : Bool) → (x == f) ≡ b → contains f (x ∷ xs) ≡ true → (contains f xs ≡ true → At f xs) → At f (x ∷ xs)
+at_by f x xs true e h rest = record { place = 0; low = omega arith; is = ap Some (grind (arith, nat_tests)) }
+at_by f x xs false e h rest = let more = rest (rw e at h) in record { place = suc more.place; low = let less : more.place < length xs = more.low in omega arith; is = more.is }
+
+pub at_of : (f : ℕ) (xs : List ℕ) → contains f xs ≡ true → At f xs
+at_of f [] h = absurd (let z : ⊥ = cc in z)
+at_of f (x ∷ xs) h = at_by f x xs (x == f) refl h (at_of f xs)
+
+pub no_entry : {T : Type 0} (blank : T) (p : T → Bool) (xs : List T) → ((x : ℕ) → x < length xs → p (entry blank xs x) ≡ false) → list_any p xs ≡ false
+no_entry blank p [] h = refl
+no_entry blank p (x ∷ xs) h = rw (h 0 (omega arith)) (no_entry blank p xs (λ k low. h (suc k) (omega arith)))

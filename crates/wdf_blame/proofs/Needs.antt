@@ -27,6 +27,7 @@ use Rattle.wdf_base.specs.SamePlan.{same_declared}
 use Rattle.wdf_base.specs.declared.declared.Declared.{Declared}
 use Rattle.wdf_base.specs.declared.event.Event.{Event}
 use Rattle.wdf_base.specs.declared.event.Event.TheVariants as event
+use Rattle.wdf_base.specs.declared.rank.Rank.{Rank}
 use Rattle.wdf_base.specs.declared.rank.Rank.TheVariants as rank
 use Rattle.wdf_base.specs.declared.script.Script.{Script}
 use Rattle.wdf_model.specs.declared.enums.Group.{Group}
@@ -44,6 +45,7 @@ use Rattle.wdf_model.proofs.Tests.{not_false}
 use Rattle.wdf_blame.specs.Caused.{names_a_cause}
 use Rattle.wdf_blame.proofs.Members.{has_back, has_flat, has_front, has_mapped, has_range}
 use Rattle.wdf_blame.proofs.Endings.{AtRest, may_not}
+use Rattle.wdf_blame.proofs.Conjuncts.{five, four, three}
 
 -- ---- a search that finds nothing
 
@@ -142,19 +144,6 @@ pub free_one : (p : ℕ → Bool) (a n : ℕ) → list_all (λ cpu. not (p cpu))
 free_one p a zero h = absurd (let z : ⊥ = cc in z)
 free_one p a (suc n) h = free_by p a a n (not (p a)) refl h (free_one p (a + 1) n)
 
-no_start : {A : Type 0} (plan : Plan) (m : Meaning A) (S : State A) → AtRest plan m S true → (c : Callback) (o : ℕ) → no_cpu plan S 0 ≡ false
-    → ((cpu : ℕ) → cpu < plan.cpus → level_fits S cpu 0 ≡ true → (may plan m S (event.Start (record { 0 = cpu }) c (handle_in plan S o) None) ≡ true) × Has (event.Start (record { 0 = cpu }) c (handle_in plan S o) None) (candidates plan m S)) → ⊥
-no_start plan m S rest c o left h =
-    let found = free_one (λ cpu. level_fits S cpu 0) 0 plan.cpus left in
-    let low : found.0 < 0 + plan.cpus = found.1 in
-    let starts = h found.0 (omega arith) found.2 in
-    let no : may plan m S (event.Start (record { 0 = found.0 }) c (handle_in plan S o) None) ≡ false = may_not plan m S true _ rest starts.1 in
-    let yes = starts.0 in
-    let z : ⊥ = cc in z
-
-three : (a b c : Bool) → a ≡ true → b ≡ true → c ≡ true → (a && b && c) ≡ true
-three a b c h k l = both (a && b) c (both a b h k) l
-
 -- ---- an object that is cleaned up
 
 declared_not : (declares began : Bool) → (not declares || began) ≡ false → (declares ≡ true) × (not began ≡ true)
@@ -168,31 +157,40 @@ none_there S o e = rw e refl
 no_references : (n : ℕ) → nat_lt 0 n ≡ false → (n == 0) ≡ true
 no_references n h = grind (arith, nat_tests)
 
-pub proper_start : (a b c d : Bool) → a ≡ true → b ≡ true → c ≡ true → d ≡ true → (a && b && c && d) ≡ true
-proper_start true true true true h k l n = refl
-proper_start true true true false h k l n = n
-proper_start true true false d h k l n = l
-proper_start true false c d h k l n = k
-proper_start false b c d h k l n = h
-
-pub five : (a b c d e : Bool) → a ≡ true → b ≡ true → c ≡ true → d ≡ true → e ≡ true → (a && b && c && d && e) ≡ true
-five a b c d e h k l n q = both (a && b && c && d) e (proper_start a b c d h k l n) q
-
 pub below_cpus : (cpu n : ℕ) → cpu < n → nat_lt cpu n ≡ true
 below_cpus cpu n h = grind (arith, nat_tests)
 
-destroy_starts : {A : Type 0} (plan : Plan) (m : Meaning A) (S : State A) (o : ℕ) → o < next_id S.tree → is_cleaned (life_of S.tree o) ≡ true → destroy_ready S o ≡ true
-    → declares_in plan S callback.EvtDestroyCallback o ≡ true → not (started S.tree o callback.EvtDestroyCallback) ≡ true
-    → (cpu : ℕ) → cpu < plan.cpus → level_fits S cpu 0 ≡ true
-    → (may plan m S (event.Start (record { 0 = cpu }) callback.EvtDestroyCallback (handle_in plan S o) None) ≡ true) × Has (event.Start (record { 0 = cpu }) callback.EvtDestroyCallback (handle_in plan S o) None) (candidates plan m S)
-destroy_starts plan m S o low cleaned ready declares began cpu within fits =
-    let somewhere : is_declared_somewhere plan callback.EvtDestroyCallback ≡ true = declared_by plan callback.EvtDestroyCallback (declared_in plan S o) declares in (
-      proper_start (nat_lt cpu plan.cpus) (is_proper plan S (handle_in plan S o)) true (may_start plan m S cpu callback.EvtDestroyCallback o None) (below_cpus cpu plan.cpus within) (itself (handle_in plan S o).name) refl
-          (five (declares_in plan S callback.EvtDestroyCallback o) (is_cleaned (life_of S.tree o)) (level_fits S cpu 0) true (destroy_ready S o && not (started S.tree o callback.EvtDestroyCallback))
-          declares cleaned fits refl (both (destroy_ready S o) (not (started S.tree o callback.EvtDestroyCallback)) ready began)),
-      cpu_group plan m S cpu (group.Starts cpu rank.Destroy) (event.Start (record { 0 = cpu }) callback.EvtDestroyCallback (handle_in plan S o) None) within (inr (inr (inr (has_flat (groups_of_rank plan cpu) rank.Destroy (group.Starts cpu rank.Destroy) RANKS (inr (inr (inr (inr (inr (inr (inr (inr (inr (inr (inr (inr (inr (inl refl)))))))))))))) (inl refl)))))
-          (rw somewhere (placed_at plan m S (group.Starts cpu rank.Destroy) (next_id S.tree) o _ low refl)),
-    )
+-- how an object comes to one of its ends: a callback begins, or, where none is left to begin, the framework's event comes
+record Ending {A : Type 0} (plan : Plan) (m : Meaning A) (S : State A) (o : ℕ) (k : Rank) (c : Callback) (e : Event) : Type 0 where
+  ranked : Has k RANKS
+  grouped : (cpu : ℕ) → Has (group.Starts cpu k) (groups_of_rank plan cpu k)
+  listed : (cpu : ℕ) → is_declared_somewhere plan c ≡ true → Has (event.Start (record { 0 = cpu }) c (handle_in plan S o) None) (candidates_in plan m S (group.Starts cpu k))
+  starts : (cpu : ℕ) → level_fits S cpu 0 ≡ true → declares_in plan S c o ≡ true → not (started S.tree o c) ≡ true → may_start plan m S cpu c o None ≡ true
+  offered : Has e (candidates plan m S)
+  comes : callback_over plan S c o ≡ true → may plan m S e ≡ true
+  free : declares_in plan S c o ≡ true → not (started S.tree o c) ≡ true → no_cpu plan S 0 ≡ false
+
+-- one that may come to its end isn't in a stuck run
+ending_waits : {A : Type 0} (plan : Plan) (m : Meaning A) (S : State A) (o : ℕ) (k : Rank) (c : Callback) (e : Event) → AtRest plan m S true → Ending plan m S o k c e → (b : Bool) → callback_over plan S c o ≡ b → ⊥
+ending_waits plan m S o k c e rest d true over =
+    let no : may plan m S e ≡ false = may_not plan m S true e rest d.offered in
+    let yes : may plan m S e ≡ true = d.comes over in
+    let z : ⊥ = cc in z
+ending_waits plan m S o k c e rest d false left =
+    let parts = declared_not (declares_in plan S c o) (started S.tree o c) left in
+    let found = free_one (λ cpu. level_fits S cpu 0) 0 plan.cpus (d.free parts.0 parts.1) in
+    let cpu : ℕ = found.0 in
+    let low : cpu < 0 + plan.cpus = found.1 in
+    let within : cpu < plan.cpus = omega arith in
+    let begins : Event = event.Start (record { 0 = cpu }) c (handle_in plan S o) None in
+    let offered : Has begins (candidates plan m S) =
+    cpu_group plan m S cpu (group.Starts cpu k) begins within (inr (inr (inr (has_flat (groups_of_rank plan cpu) k (group.Starts cpu k) RANKS d.ranked (d.grouped cpu)))))
+    (d.listed cpu (declared_by plan c (declared_in plan S o) parts.0)) in
+    let no : may plan m S begins ≡ false = may_not plan m S true begins rest offered in
+    let yes : may plan m S begins ≡ true =
+    four (nat_lt cpu plan.cpus) (is_proper plan S (handle_in plan S o)) true (may_start plan m S cpu c o None) (below_cpus cpu plan.cpus within) (itself (handle_in plan S o).name) refl
+    (d.starts cpu found.2 parts.0 parts.1) in
+    let z : ⊥ = cc in z
 
 object_parts : {A : Type 0} (plan : Plan) (S : State A) (o : ℕ) → object_cause plan S o ≡ None
     → ((is_cleaned (life_of S.tree o) && nat_lt 0 (references_of S.tree o)) ≡ false) × (children_first S o ≡ []) × (users_that_keep S o ≡ []) × (object_cpus plan S o ≡ false)
@@ -214,21 +212,27 @@ cpu_left false true c true t h k = absurd (let z : ⊥ = cc in z)
 cpu_left false false c true t h (inl e) = absurd (let z : ⊥ = cc in z)
 cpu_left false false c true t h (inr e) = absurd (let z : ⊥ = cc in z)
 
+-- where none is said to be missing, a processor is free for a callback that is due
+cpu_free : {A : Type 0} (plan : Plan) (S : State A) (o : ℕ) → object_cpus plan S o ≡ false
+    → ((destroy_ready S o && declares_in plan S callback.EvtDestroyCallback o && not (started S.tree o callback.EvtDestroyCallback)) ≡ true) ⊎ ((clean_ready S o && declares_in plan S callback.EvtCleanupCallback o && not (started S.tree o callback.EvtCleanupCallback)) ≡ true)
+    → no_cpu plan S 0 ≡ false
+cpu_free plan S o left due =
+    cpu_left (clean_ready S o && declares_in plan S callback.EvtCleanupCallback o && not (started S.tree o callback.EvtCleanupCallback)) (destroy_ready S o && declares_in plan S callback.EvtDestroyCallback o && not (started S.tree o callback.EvtDestroyCallback))
+    (is_some (routine_due S.targets o)) (no_cpu plan S 0) (no_cpu plan S 2) left due
+
 -- an object that may end, with no processor taken for its callback, isn't in a stuck run
 destroy_waits : {A : Type 0} (plan : Plan) (m : Meaning A) (S : State A) → AtRest plan m S true → (o : ℕ) → o < next_id S.tree → is_cleaned (life_of S.tree o) ≡ true → destroy_ready S o ≡ true
     → object_cpus plan S o ≡ false → (b : Bool) → callback_over plan S callback.EvtDestroyCallback o ≡ b → ⊥
-destroy_waits plan m S rest o low cleaned ready left true e =
-    let e0 : Event = event.Destroy (handle_in plan S o) in
-    let offered : Has e0 (candidates plan m S) = framework_group plan m S group.Destroys e0 (inr (inr (inr (inl refl)))) (placed_at plan m S group.Destroys (next_id S.tree) o e0 low refl) in
-    let no : may plan m S e0 ≡ false = may_not plan m S true e0 rest offered in
-    let yes : may plan m S e0 ≡ true = three (is_proper plan S (handle_in plan S o)) (destroy_ready S o) (callback_over plan S callback.EvtDestroyCallback o) (itself (handle_in plan S o).name) ready e in
-    let z : ⊥ = cc in z
-destroy_waits plan m S rest o low cleaned ready left false e =
-    let parts = declared_not (declares_in plan S callback.EvtDestroyCallback o) (started S.tree o callback.EvtDestroyCallback) e in
-    no_start plan m S rest callback.EvtDestroyCallback o
-    (cpu_left (clean_ready S o && declares_in plan S callback.EvtCleanupCallback o && not (started S.tree o callback.EvtCleanupCallback)) (destroy_ready S o && declares_in plan S callback.EvtDestroyCallback o && not (started S.tree o callback.EvtDestroyCallback)) (is_some (routine_due S.targets o)) (no_cpu plan S 0) (no_cpu plan S 2) left
-    (inl (three (destroy_ready S o) (declares_in plan S callback.EvtDestroyCallback o) (not (started S.tree o callback.EvtDestroyCallback)) ready parts.0 parts.1)))
-    (destroy_starts plan m S o low cleaned ready parts.0 parts.1)
+destroy_waits plan m S rest o low cleaned ready left = ending_waits plan m S o rank.Destroy callback.EvtDestroyCallback (event.Destroy (handle_in plan S o)) rest (record {
+  ranked = inr (inr (inr (inr (inr (inr (inr (inr (inr (inr (inr (inr (inr (inl refl)))))))))))));
+  grouped = λ cpu. inl refl;
+  listed = λ cpu somewhere. rw somewhere (placed_at plan m S (group.Starts cpu rank.Destroy) (next_id S.tree) o _ low refl);
+  starts = λ cpu fits declares began. five (declares_in plan S callback.EvtDestroyCallback o) (is_cleaned (life_of S.tree o)) (level_fits S cpu 0) true (destroy_ready S o && not (started S.tree o callback.EvtDestroyCallback))
+      declares cleaned fits refl (both (destroy_ready S o) (not (started S.tree o callback.EvtDestroyCallback)) ready began);
+  offered = framework_group plan m S group.Destroys (event.Destroy (handle_in plan S o)) (inr (inr (inr (inl refl)))) (placed_at plan m S group.Destroys (next_id S.tree) o _ low refl);
+  comes = λ over. three (is_proper plan S (handle_in plan S o)) (destroy_ready S o) (callback_over plan S callback.EvtDestroyCallback o) (itself (handle_in plan S o).name) ready over;
+  free = λ declares began. cpu_free plan S o left (inl (three (destroy_ready S o) (declares_in plan S callback.EvtDestroyCallback o) (not (started S.tree o callback.EvtDestroyCallback)) ready declares began));
+})
 
 when_true : {T : Type 0} (b : Bool) (xs ys : List T) → b ≡ true → (if b then xs else ys) ≡ [] → xs ≡ []
 when_true true xs ys e h = h
@@ -255,34 +259,18 @@ cleaned_waits plan m S rest o low cleaned h =
 
 -- ---- an object that waits for its cleanup
 
-clean_starts : {A : Type 0} (plan : Plan) (m : Meaning A) (S : State A) (o : ℕ) → o < next_id S.tree → is_asked (life_of S.tree o) ≡ true → clean_ready S o ≡ true
-    → declares_in plan S callback.EvtCleanupCallback o ≡ true → not (started S.tree o callback.EvtCleanupCallback) ≡ true
-    → (cpu : ℕ) → cpu < plan.cpus → level_fits S cpu 0 ≡ true
-    → (may plan m S (event.Start (record { 0 = cpu }) callback.EvtCleanupCallback (handle_in plan S o) None) ≡ true) × Has (event.Start (record { 0 = cpu }) callback.EvtCleanupCallback (handle_in plan S o) None) (candidates plan m S)
-clean_starts plan m S o low asked ready declares began cpu within fits =
-    let somewhere : is_declared_somewhere plan callback.EvtCleanupCallback ≡ true = declared_by plan callback.EvtCleanupCallback (declared_in plan S o) declares in (
-      proper_start (nat_lt cpu plan.cpus) (is_proper plan S (handle_in plan S o)) true (may_start plan m S cpu callback.EvtCleanupCallback o None) (below_cpus cpu plan.cpus within) (itself (handle_in plan S o).name) refl
-          (five (declares_in plan S callback.EvtCleanupCallback o) (is_asked (life_of S.tree o)) (level_fits S cpu 0) true (clean_ready S o && not (started S.tree o callback.EvtCleanupCallback))
-          declares asked fits refl (both (clean_ready S o) (not (started S.tree o callback.EvtCleanupCallback)) ready began)),
-      cpu_group plan m S cpu (group.Starts cpu rank.Cleanup) (event.Start (record { 0 = cpu }) callback.EvtCleanupCallback (handle_in plan S o) None) within
-          (inr (inr (inr (has_flat (groups_of_rank plan cpu) rank.Cleanup (group.Starts cpu rank.Cleanup) RANKS (inr (inr (inr (inr (inr (inr (inr (inr (inr (inr (inr (inr (inl refl))))))))))))) (inl refl)))))
-          (rw somewhere (placed_at plan m S (group.Starts cpu rank.Cleanup) (next_id S.tree) o _ low refl)),
-    )
-
 clean_waits : {A : Type 0} (plan : Plan) (m : Meaning A) (S : State A) → AtRest plan m S true → (o : ℕ) → o < next_id S.tree → is_asked (life_of S.tree o) ≡ true → clean_ready S o ≡ true
     → object_cpus plan S o ≡ false → (b : Bool) → callback_over plan S callback.EvtCleanupCallback o ≡ b → ⊥
-clean_waits plan m S rest o low asked ready left true e =
-    let e0 : Event = event.Cleanup (handle_in plan S o) in
-    let offered : Has e0 (candidates plan m S) = framework_group plan m S group.Cleanups e0 (inr (inr (inl refl))) (placed_at plan m S group.Cleanups (next_id S.tree) o e0 low refl) in
-    let no : may plan m S e0 ≡ false = may_not plan m S true e0 rest offered in
-    let yes : may plan m S e0 ≡ true = three (is_proper plan S (handle_in plan S o)) (clean_ready S o) (callback_over plan S callback.EvtCleanupCallback o) (itself (handle_in plan S o).name) ready e in
-    let z : ⊥ = cc in z
-clean_waits plan m S rest o low asked ready left false e =
-    let parts = declared_not (declares_in plan S callback.EvtCleanupCallback o) (started S.tree o callback.EvtCleanupCallback) e in
-    no_start plan m S rest callback.EvtCleanupCallback o
-    (cpu_left (clean_ready S o && declares_in plan S callback.EvtCleanupCallback o && not (started S.tree o callback.EvtCleanupCallback)) (destroy_ready S o && declares_in plan S callback.EvtDestroyCallback o && not (started S.tree o callback.EvtDestroyCallback)) (is_some (routine_due S.targets o)) (no_cpu plan S 0) (no_cpu plan S 2) left
-    (inr (three (clean_ready S o) (declares_in plan S callback.EvtCleanupCallback o) (not (started S.tree o callback.EvtCleanupCallback)) ready parts.0 parts.1)))
-    (clean_starts plan m S o low asked ready parts.0 parts.1)
+clean_waits plan m S rest o low asked ready left = ending_waits plan m S o rank.Cleanup callback.EvtCleanupCallback (event.Cleanup (handle_in plan S o)) rest (record {
+  ranked = inr (inr (inr (inr (inr (inr (inr (inr (inr (inr (inr (inr (inl refl))))))))))));
+  grouped = λ cpu. inl refl;
+  listed = λ cpu somewhere. rw somewhere (placed_at plan m S (group.Starts cpu rank.Cleanup) (next_id S.tree) o _ low refl);
+  starts = λ cpu fits declares began. five (declares_in plan S callback.EvtCleanupCallback o) (is_asked (life_of S.tree o)) (level_fits S cpu 0) true (clean_ready S o && not (started S.tree o callback.EvtCleanupCallback))
+      declares asked fits refl (both (clean_ready S o) (not (started S.tree o callback.EvtCleanupCallback)) ready began);
+  offered = framework_group plan m S group.Cleanups (event.Cleanup (handle_in plan S o)) (inr (inr (inl refl))) (placed_at plan m S group.Cleanups (next_id S.tree) o _ low refl);
+  comes = λ over. three (is_proper plan S (handle_in plan S o)) (clean_ready S o) (callback_over plan S callback.EvtCleanupCallback o) (itself (handle_in plan S o).name) ready over;
+  free = λ declares began. cpu_free plan S o left (inr (three (clean_ready S o) (declares_in plan S callback.EvtCleanupCallback o) (not (started S.tree o callback.EvtCleanupCallback)) ready declares began));
+})
 
 pub front_none : {T : Type 0} (xs ys : List T) → xs ++ ys ≡ [] → (xs ≡ []) × (ys ≡ [])
 front_none [] ys h = (refl, h)
@@ -349,7 +337,7 @@ asked_waits plan m S rest o low asked uncleaned done empty h =
     three (is_asked (life_of S.tree o)) (list_all (λ x. is_past_cleanup (life_of S.tree x)) (children S.tree o))
     (not (is_asked (life_of S.tree (parent_of S.tree o))) || list_all (λ x. is_past_cleanup (life_of S.tree x)) (younger_siblings S.tree o))
     asked (all_past S (children S.tree o) alone.0) (siblings_past S o (is_asked (life_of S.tree (parent_of S.tree o))) refl (all_past S (waits_for_younger S o) alone.1)) in
-    let ready : clean_ready S o ≡ true = proper_start (may_clean S.tree o) (is_unused S o) (is_finished S o) (nothing_at S o) may_be (unused_by S o unused) done empty in
+    let ready : clean_ready S o ≡ true = four (may_clean S.tree o) (is_unused S o) (is_finished S o) (nothing_at S o) may_be (unused_by S o unused) done empty in
     clean_waits plan m S rest o low asked ready parts.3 (callback_over plan S callback.EvtCleanupCallback o) refl
 
 -- ---- the law

@@ -14,11 +14,12 @@ use Rattle.wdf_model.specs.parts.Requests.{is_sent_to, place_of}
 use Rattle.wdf_model.specs.parts.Targets.{is_undone}
 use Rattle.wdf_model.specs.State.{State, handle_in, waits_for}
 use Rattle.wdf_model.specs.rules.Waits.{at_target, by_frame, cause_if, children_first, frames_where, holders_of, no_cpu, not_cleaned, object_cause, object_cpus, references_cause, target_of_place, users, users_that_keep, waits_for_younger}
-use Rattle.wdf_model.proofs.Tests.{both, first, second}
+use Rattle.wdf_model.proofs.Tests.{both, first, itself, not_true, second}
 use Rattle.wdf_blame.specs.Causes.{has_lock, is_child_ahead, is_sibling_ahead, is_there, keeps_object, runs_on, uses}
 use Rattle.wdf_blame.proofs.Members.{Has}
-use Rattle.wdf_blame.proofs.Gives.{Gives, gives_first, gives_frame, gives_if, gives_map, gives_none, has_either, has_kept, it_contains, least_has, same}
+use Rattle.wdf_blame.proofs.Gives.{Gives, gives_first, gives_frame, gives_if, gives_map, gives_none, has_either, has_kept, it_contains, least_has}
 use Rattle.wdf_blame.proofs.Forms.{lock_of_list, none_left, on_object}
+use Rattle.wdf_blame.proofs.Conjuncts.{four}
 
 -- ---- tests
 
@@ -27,17 +28,6 @@ child_by true true past h k = refl
 child_by true false true h k = absurd (let e = k refl in let z : ⊥ = cc in z)
 child_by true false false h k = refl
 child_by false c p h k = h
-
-not_past : (b : Bool) → not b ≡ true → b ≡ false
-not_past true h = absurd (let z : ⊥ = cc in z)
-not_past false h = refl
-
-four : (a b c d : Bool) → a ≡ true → b ≡ true → c ≡ true → d ≡ true → (a && b && c && d) ≡ true
-four true true true true h k l m = refl
-four true true true false h k l m = m
-four true true false d h k l m = l
-four true false c d h k l m = k
-four false b c d h k l m = h
 
 -- ---- children and siblings
 
@@ -61,7 +51,7 @@ child_so S o x false e h =
     elim (has_either x (children S.tree o) (waits_for_younger S o) kept.1) as (λ _. (is_child_ahead S o x || is_sibling_ahead S o x) ≡ true) [
       | inl k ↦
           first (is_child_ahead S o x) (is_sibling_ahead S o x)
-          (child_by (is_child S.tree o x) (is_cleaned (life_of S.tree o)) (is_past_cleanup (life_of S.tree x)) (is_its_child S o x k) (λ _. not_past (is_past_cleanup (life_of S.tree x)) kept.0))
+          (child_by (is_child S.tree o x) (is_cleaned (life_of S.tree o)) (is_past_cleanup (life_of S.tree x)) (is_its_child S o x k) (λ _. not_true (is_past_cleanup (life_of S.tree x)) kept.0))
       | inr k ↦ second (is_child_ahead S o x) (is_sibling_ahead S o x) (sibling_by S o x (is_asked (life_of S.tree (parent_of S.tree o))) refl k kept.0)
     ]
 
@@ -104,7 +94,7 @@ taken_by false true false false h = h
 taken_by false false false false h = h
 
 at_place : (p : Place) (t : ℕ) → target_of_place p ≡ Some t → is_sent_to t p ≡ true
-at_place (place.Sent u) t e = rw (same_Some u.0 t e) (same t)
+at_place (place.Sent u) t e = rw (same_Some u.0 t e) (itself t)
 at_place _ t e = absurd (let z : ⊥ = cc in z)
 
 target_by : {A : Type 0} (plan : Plan) (S : State A) (o : ℕ) (b : Bool) → is_undone S.targets o ≡ b
@@ -115,7 +105,7 @@ target_by plan S o true e =
 target_by plan S o false e = gives_none (keeps_object plan S o)
 
 references_by : (cleaned : Bool) (n : ℕ) → (cleaned && nat_lt 0 n) ≡ true → (cleaned && n == n && nat_lt 0 n) ≡ true
-references_by true n h = rw (same n) h
+references_by true n h = rw (itself n) h
 references_by false n h = h
 
 pub object_so : {A : Type 0} (plan : Plan) (S : State A) (o : ℕ) → Gives (keeps_object plan S o) (object_cause plan S o)

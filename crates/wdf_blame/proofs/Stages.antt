@@ -1,6 +1,6 @@
 -- A stage that a device waits for always has a cause, and so has each line of which that is said.
 use Rattle.wdf_blame.proofs.Works.{work_named}
-use Rattle.std.proofs.Common.{◌≡◌, inl, inr, ℕ, suc, ◌==◌, ◌<◌, slice_get, Bool, true, false, not, ◌&&◌, ◌||◌, List, [], ◌∷◌, Option, Some, None, is_some, filter, length, refl, ap, ◌∙◌, arith, rules}
+use Rattle.std.proofs.Common.{◌≡◌, inl, inr, ℕ, ◌==◌, ◌<◌, slice_get, Bool, true, false, not, ◌&&◌, ◌||◌, List, [], ◌∷◌, Option, Some, None, is_some, filter, length, refl, ap, ◌∙◌, arith, rules}
 use Rattle.std.specs.List.{flat_map, list_all, list_any}
 use Rattle.wdf_base.specs.declared.plan.Plan.{Plan}
 use Rattle.wdf_base.specs.declared.object.Place.{Place}
@@ -14,8 +14,8 @@ use Rattle.wdf_model.specs.parts.Locks.{hold_of, holder, object_lock}
 use Rattle.wdf_model.specs.parts.Requests.{is_sent_to, place_of}
 use Rattle.wdf_model.specs.State.{State, held_from, handle_in}
 use Rattle.wdf_model.specs.rules.Waits.{by_frame, cause_if, request_line}
-use Rattle.wdf_model.proofs.Tests.{both, both_left, both_right, first, itself}
-use Rattle.wdf_blame.proofs.Members.{Has}
+use Rattle.wdf_model.proofs.Tests.{both, both_left, both_right, either_false, first, itself}
+use Rattle.wdf_blame.proofs.Members.{Has, no_entry}
 use Rattle.wdf_blame.proofs.Gives.{IfThere}
 use Rattle.wdf_base.specs.Meaning.{Meaning}
 use Rattle.wdf_base.specs.declared.event.Event.{Event}
@@ -39,7 +39,6 @@ use Rattle.wdf_base.specs.declared.event.Step.{Step}
 use Rattle.wdf_base.specs.declared.event.Step.TheVariants as step
 use Rattle.std.specs.Bool.{Decides}
 use Rattle.wdf_model.specs.declared.entries.Request.{Request}
-use Rattle.wdf_model.specs.Tables.{entry}
 use Rattle.wdf_model.specs.Plans.{managed_queues}
 use Rattle.wdf_model.specs.parts.Requests.{no_request, request_of}
 use Rattle.wdf_model.specs.parts.Power.{unsettled}
@@ -48,10 +47,10 @@ use Rattle.wdf_model.specs.parts.Queues.{held_count}
 use Rattle.wdf_model.specs.rules.Ready.{IsRunOf, ending_of, state_after}
 use Rattle.wdf_model.specs.rules.Starts.{handle_id, is_drained, is_unfinished_at, may_pass, resumes_over, stage_ready, step_ready, targets_at}
 use Rattle.wdf_model.specs.rules.Groups.{declared_end}
-use Rattle.wdf_model.specs.rules.Waits.{asking_line, by_request, deferred_line, device_line, frames_in_order, next_step_line, resumes_cause, sequence_line, stage_cpus, stage_frames, stage_requests, step_cause, wait_lines, wait_list}
+use Rattle.wdf_model.specs.rules.Waits.{by_request, next_step_line, resumes_cause, sequence_line, stage_cpus, stage_frames, stage_requests, step_cause, wait_list}
 use Rattle.wdf_blame.specs.Caused.{is_stage}
 use Rattle.wdf_blame.proofs.Members.{none_passes}
-use Rattle.wdf_blame.proofs.Endings.{at_rest, stuck_lines}
+use Rattle.wdf_blame.proofs.Endings.{at_rest}
 use Rattle.wdf_blame.proofs.EachLine.{OfLines, each_line}
 use Rattle.wdf_blame.proofs.Tops.{frame_named, held_now}
 use Rattle.wdf_blame.proofs.Needs.{front_none, framework_group, none_first, none_least, none_there, object_named, placed_at, some_or, unheld, free_hold}
@@ -64,18 +63,10 @@ settled_by S (q ∷ qs) h =
     let parts = front_none (filter (is_on S.cpus q) (all_frames S.cpus)) (flat_map (λ x. filter (is_on S.cpus x) (all_frames S.cpus)) qs) h in
     both (nobody_on S.cpus q) (list_all (nobody_on S.cpus) qs) (none_there S q parts.0) (settled_by S qs parts.1)
 
-no_entry : {T : Type 0} (blank : T) (p : T → Bool) (xs : List T) → ((x : ℕ) → x < length xs → p (entry blank xs x) ≡ false) → list_any p xs ≡ false
-no_entry blank p [] h = refl
-no_entry blank p (x ∷ xs) h = rw (h 0 (omega arith)) (no_entry blank p xs (λ k low. h (suc k) (omega arith)))
-
-pub neither : (a b : Bool) → (a || b) ≡ false → (a ≡ false) × (b ≡ false)
-neither true b h = absurd (let z : ⊥ = cc in z)
-neither false b h = (refl, h)
-
 pub none_of : (p : ℕ → Bool) (xs : List ℕ) → list_any p xs ≡ false → (x : ℕ) → Has x xs → p x ≡ false
 none_of p [] h x k = absurd k
-none_of p (y ∷ ys) h x (inl e) = ap p e ∙ (neither (p y) (list_any p ys) h).0
-none_of p (y ∷ ys) h x (inr k) = none_of p ys (neither (p y) (list_any p ys) h).1 x k
+none_of p (y ∷ ys) h x (inl e) = ap p e ∙ (either_false (p y) (list_any p ys) h).0
+none_of p (y ∷ ys) h x (inr k) = none_of p ys (either_false (p y) (list_any p ys) h).1 x k
 
 pub each_one : (p : ℕ → Bool) (xs : List ℕ) → ((x : ℕ) → Has x xs → p x ≡ true) → list_all p xs ≡ true
 each_one p [] h = refl
@@ -96,7 +87,7 @@ stage_itself s i = both (same_stage s s) (same_option same_handle i i) ((stage_d
 drained_by : {A : Type 0} (plan : Plan) (S : State A) (d : ℕ) → stage_requests plan S d stage.Removed ≡ [] → is_drained plan S d ≡ true
 drained_by plan S d h =
     let none : (r : ℕ) → r < length S.requests.all → (is_unfinished_at d (request_of S.requests r) ≡ false) × (list_any (λ t. is_sent_to t (place_of S.requests r)) (targets_at plan d) ≡ false) =
-    λ r low. neither (is_unfinished_at d (request_of S.requests r)) (list_any (λ t. is_sent_to t (place_of S.requests r)) (targets_at plan d))
+    λ r low. either_false (is_unfinished_at d (request_of S.requests r)) (list_any (λ t. is_sent_to t (place_of S.requests r)) (targets_at plan d))
     (none_passes (λ x. is_unfinished_at d (request_of S.requests x) || list_any (λ t. is_sent_to t (place_of S.requests x)) (targets_at plan d)) (ids_of S.requests.all) h r (has_range r 0 (length S.requests.all) (omega arith) (omega arith))) in
     both (not (list_any (is_unfinished_at d) S.requests.all)) (list_all (nothing_at S) (targets_at plan d))
     (ap not (no_entry no_request (is_unfinished_at d) S.requests.all (λ r low. (none r low).0)))

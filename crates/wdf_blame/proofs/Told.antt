@@ -40,7 +40,7 @@ use Rattle.wdf_model.specs.parts.Pnp.{follows_queues_up, is_running_step, next_s
 use Rattle.wdf_model.specs.parts.Deferred.Dpcs.{is_dpc_queued}
 use Rattle.wdf_model.specs.rules.Starts.{handle_id, is_unfinished_at, targets_at}
 use Rattle.wdf_model.specs.rules.Groups.{dpc_function}
-use Rattle.wdf_model.specs.rules.Waits.{asking_line, by_request, cpu_of_dpc, cpus_with_dpc, deferred_cause, deferred_line, device_line, dpc_cause, first_cause, frames_in_order, head_lock, object_of_step, queues_to_resume, quiet_frames, resume_cpus, resume_frames, resumes_cause, running_cause, runs_step, scope_holders, sequence_line, stage_cpus, stage_frames, stage_requests, step_cause, wait_lines, wait_list, work_cause}
+use Rattle.wdf_model.specs.rules.Waits.{by_request, cpu_of_dpc, cpus_with_dpc, deferred_cause, deferred_line, dpc_cause, first_cause, head_lock, object_of_step, queues_to_resume, quiet_frames, resume_cpus, resume_frames, resumes_cause, running_cause, runs_step, scope_holders, sequence_line, stage_cpus, stage_frames, stage_requests, step_cause, wait_list, work_cause}
 use Rattle.wdf_base.specs.Meaning.{Meaning}
 use Rattle.wdf_base.specs.declared.event.Event.{Event}
 use Rattle.wdf_base.specs.declared.event.Ending.TheVariants as ending
@@ -50,7 +50,7 @@ use Rattle.wdf_blame.specs.Causes.{awaits_cpu, awaits_frame, awaits_request, has
 use Rattle.wdf_blame.proofs.Endings.{at_the_end}
 use Rattle.wdf_blame.proofs.Gives.{any_alike}
 use Rattle.wdf_blame.proofs.EachLine.{OfLines, each_line}
-use Rattle.wdf_blame.proofs.Forms.{LineSo, frame_so, lock_held, lock_of_list, none_left, not_fits, on_object, request_so, so_by}
+use Rattle.wdf_blame.proofs.Forms.{LineSo, frame_so, lock_held, lock_of_list, none_left, not_fits, on_object, request_so, so_by, weaker}
 use Rattle.wdf_blame.proofs.Objects.{object_so}
 
 -- ---- queued work
@@ -191,9 +191,6 @@ resumes_so plan S d =
 gives_where : (b : Bool) (p : Cause → Bool) (o : Option Cause) → Gives p o → Gives (λ x. b && p x) (if b then o else None)
 gives_where true p o g = g
 gives_where false p o g = gives_none (λ x. false && p x)
-
-weaker : (so also : Cause → Bool) (o : Option Cause) → ((x : Cause) → so x ≡ true → also x ≡ true) → Gives so o → Gives also o
-weaker so also o h g x e = h x (g x e)
 
 in_next : {A : Type 0} (plan : Plan) (S : State A) (d : ℕ) (s : Step) (x : Cause) → is_running_step S.pnp d ≡ false → ((follows_queues_up S.pnp d && keeps_resumes plan S d x) || keeps_next plan S d s x) ≡ true → keeps_step plan S d s x ≡ true
 in_next plan S d s x e h = rw e h

@@ -1,9 +1,10 @@
 -- A frame on a processor, or parked in a call, always has a cause; the top one waits in a call.
-use Rattle.std.proofs.Common.{◌≡◌, inl, ℕ, zero, suc, ◌+◌, ◌==◌, ◌<◌, Bool, true, false, not, ◌&&◌, ◌||◌, List, [], ◌∷◌, ◌++◌, Option, Some, None, is_some, filter, length, refl, sym, ap, ◌∙◌, arith, rules, take_while, slice_get, nat_lt, ◌⊎◌, inr, option_map}
+use Rattle.std.proofs.Common.{◌≡◌, inl, ℕ, zero, suc, ◌+◌, ◌==◌, ◌<◌, Bool, true, false, not, ◌||◌, List, [], ◌∷◌, ◌++◌, Option, Some, None, is_some, filter, length, refl, sym, ap, ◌∙◌, arith, rules, take_while, nat_lt, inr, option_map}
 use Rattle.std.specs.Bool.{Decides}
 use Rattle.std.specs.List.{flat_map, list_any, range_with_len, list_all}
 use Rattle.std.proofs.lemmas.List.Sums.{length-filter}
 use Rattle.std.proofs.lemmas.Bool.Decides.{nat_tests}
+use Rattle.std.proofs.lemmas.Bool.{or_cases}
 use Rattle.wdf_base.specs.Meaning.{Meaning}
 use Rattle.wdf_base.specs.declared.plan.Plan.{Plan}
 use Rattle.wdf_base.specs.Same.{same_access, same_arg, same_call, same_callback, same_cpu, same_event, same_fault, same_handle, same_value}
@@ -48,25 +49,23 @@ use Rattle.wdf_model.specs.rules.Script.{intent_of, line_of}
 use Rattle.wdf_model.specs.rules.Starts.{shown}
 use Rattle.wdf_model.specs.rules.Steps.{may_unpark, wait_is_over, call_event, event_of_frame, fault_event, intent_event, is_own_event, may, own_event, spends, view_of, waits_on, woken_event}
 use Rattle.wdf_model.specs.rules.Waits.{above_in, by_frame, by_frame_on, by_lock, by_request, call_cause, cause_if, frame_cause, frames_above, parked_for_cpu, pending_cause, requests_where}
-use Rattle.wdf_model.proofs.Tests.{both_left, both_right, first, both, second, either_false}
+use Rattle.wdf_model.proofs.Tests.{both, both_left, both_right, either_false, first, itself, second}
 use Rattle.wdf_model.proofs.Sames.{call_kind_decides, callback_decides, handle_decides, value_decides}
 use Rattle.wdf_invariants.proofs.Holding.{HoldsIn, is_from}
 use Rattle.wdf_invariants.proofs.Totals.{same_total}
 use Rattle.wdf_invariants.proofs.HeldOverRuns.{from_by, holds_at_each}
-use Rattle.wdf_blame.proofs.Members.{Has, has_back, has_front, has_range, none_passes}
+use Rattle.wdf_blame.proofs.Members.{Has, at_of, has_back, has_front, has_range, no_entry, none_passes}
 use Rattle.wdf_blame.proofs.Endings.{AtRest, at_rest, at_the_end, may_not}
 use Rattle.wdf_blame.proofs.Gives.{any_has}
 use Rattle.wdf_blame.proofs.Forms.{while_on}
-use Rattle.wdf_blame.proofs.Needs.{free_one, none_map, cpu_group, free_hold, front_none, none_first, none_if, none_least, none_there, placed_at, some_or}
+use Rattle.wdf_blame.proofs.Needs.{below_cpus, cpu_group, free_hold, free_one, front_none, none_first, none_if, none_least, none_map, none_there, placed_at, some_or}
+use Rattle.wdf_blame.proofs.Conjuncts.{four, three}
 
 -- ---- an event is itself
 
-it_is : (n : ℕ) → (n == n) ≡ true
-it_is n = grind (arith, nat_tests)
-
 arg_itself : (a : Arg) → same_arg a a ≡ true
 arg_itself (Val v) = (value_decides v v).1 refl
-arg_itself (Class c) = it_is c
+arg_itself (Class c) = itself c
 
 access_decides : (a b : Access) → Decides (same_access a b) (a ≡ b)
 access_decides a b = search rules
@@ -75,53 +74,44 @@ fault_decides : (a b : Fault) → Decides (same_fault a b) (a ≡ b)
 fault_decides a b = search rules
 
 call_itself : (c : Call) → same_call c c ≡ true
-call_itself c = rw ((call_kind_decides c.kind c.kind).1 refl, it_is c.count, arg_itself c.a, arg_itself c.b, arg_itself c.c) refl
+call_itself c = rw ((call_kind_decides c.kind c.kind).1 refl, itself c.count, arg_itself c.a, arg_itself c.b, arg_itself c.c) refl
 
 -- ---- the own event of a processor may come
 
 offered_itself : {A : Type 0} (plan : Plan) (m : Meaning A) (S : State A) (cpu : ℕ) (e : Event) → own_event plan m S cpu ≡ Some e → same_event e e ≡ true → is_own_event plan m S (cpu_of cpu) e ≡ true
 offered_itself plan m S cpu e own is = rw own is
 
-two : (a b : Bool) → a ≡ true → b ≡ true → (a && b) ≡ true
-two a b h k = both a b h k
-
-three : (a b c : Bool) → a ≡ true → b ≡ true → c ≡ true → (a && b && c) ≡ true
-three a b c h k l = both (a && b) c (both a b h k) l
-
-four : (a b c d : Bool) → a ≡ true → b ≡ true → c ≡ true → d ≡ true → (a && b && c && d) ≡ true
-four a b c d h k l n = both (a && b && c) d (three a b c h k l) n
-
 did_may : {A : Type 0} (plan : Plan) (m : Meaning A) (S : State A) (cpu : ℕ) (c : Call) (o : Outcome) (b : Bool) → is_met_then plan S c ≡ b → own_event plan m S cpu ≡ Some (call_event plan S cpu c o) → may plan m S (call_event plan S cpu c o) ≡ true
 did_may plan m S cpu c o true e own =
-    rw e (offered_itself plan m S cpu (event.Did (cpu_of cpu) c o.answer) (rw e at own) (three (same_cpu (cpu_of cpu) (cpu_of cpu)) (same_call c c) (same_value o.answer o.answer) (it_is cpu) (call_itself c) ((value_decides o.answer o.answer).1 refl)))
+    rw e (offered_itself plan m S cpu (event.Did (cpu_of cpu) c o.answer) (rw e at own) (three (same_cpu (cpu_of cpu) (cpu_of cpu)) (same_call c c) (same_value o.answer o.answer) (itself cpu) (call_itself c) ((value_decides o.answer o.answer).1 refl)))
 did_may plan m S cpu c o false e own =
-    rw e (offered_itself plan m S cpu (event.Waiting (cpu_of cpu) c) (rw e at own) (two (same_cpu (cpu_of cpu) (cpu_of cpu)) (same_call c c) (it_is cpu) (call_itself c)))
+    rw e (offered_itself plan m S cpu (event.Waiting (cpu_of cpu) c) (rw e at own) (both (same_cpu (cpu_of cpu) (cpu_of cpu)) (same_call c c) (itself cpu) (call_itself c)))
 
 intent_may : {A : Type 0} (plan : Plan) (m : Meaning A) (S : State A) (cpu f : ℕ) (frame : Frame) (i : Intent) → own_event plan m S cpu ≡ Some (intent_event plan m S cpu f frame i) → may plan m S (intent_event plan m S cpu f frame i) ≡ true
 intent_may plan m S cpu f frame (intent.Local change next) own =
-    offered_itself plan m S cpu (event.Local (cpu_of cpu) (line_of plan frame)) own (two (same_cpu (cpu_of cpu) (cpu_of cpu)) (line_of plan frame == line_of plan frame) (it_is cpu) (it_is (line_of plan frame)))
-intent_may plan m S cpu f frame (intent.Log v) own = offered_itself plan m S cpu (event.Log (cpu_of cpu) v) own (two (same_cpu (cpu_of cpu) (cpu_of cpu)) (same_value v v) (it_is cpu) ((value_decides v v).1 refl))
-intent_may plan m S cpu f frame (intent.Spend n) own = offered_itself plan m S cpu (event.Spend (cpu_of cpu) n) own (two (same_cpu (cpu_of cpu) (cpu_of cpu)) (n == n) (it_is cpu) (it_is n))
+    offered_itself plan m S cpu (event.Local (cpu_of cpu) (line_of plan frame)) own (both (same_cpu (cpu_of cpu) (cpu_of cpu)) (line_of plan frame == line_of plan frame) (itself cpu) (itself (line_of plan frame)))
+intent_may plan m S cpu f frame (intent.Log v) own = offered_itself plan m S cpu (event.Log (cpu_of cpu) v) own (both (same_cpu (cpu_of cpu) (cpu_of cpu)) (same_value v v) (itself cpu) ((value_decides v v).1 refl))
+intent_may plan m S cpu f frame (intent.Spend n) own = offered_itself plan m S cpu (event.Spend (cpu_of cpu) n) own (both (same_cpu (cpu_of cpu) (cpu_of cpu)) (n == n) (itself cpu) (itself n))
 intent_may plan m S cpu f frame (intent.Get k) own =
     let v : ℕ = shown plan m S (device_of_register plan k) k in
     offered_itself plan m S cpu (event.Register (cpu_of cpu) access.Read k v) own
-    (four (same_cpu (cpu_of cpu) (cpu_of cpu)) (same_access access.Read access.Read) (k == k) (v == v) (it_is cpu) ((access_decides access.Read access.Read).1 refl) (it_is k) (it_is v))
+    (four (same_cpu (cpu_of cpu) (cpu_of cpu)) (same_access access.Read access.Read) (k == k) (v == v) (itself cpu) ((access_decides access.Read access.Read).1 refl) (itself k) (itself v))
 intent_may plan m S cpu f frame (intent.Put k v) own =
     offered_itself plan m S cpu (event.Register (cpu_of cpu) access.Write k v) own
-    (four (same_cpu (cpu_of cpu) (cpu_of cpu)) (same_access access.Write access.Write) (k == k) (v == v) (it_is cpu) ((access_decides access.Write access.Write).1 refl) (it_is k) (it_is v))
+    (four (same_cpu (cpu_of cpu) (cpu_of cpu)) (same_access access.Write access.Write) (k == k) (v == v) (itself cpu) ((access_decides access.Write access.Write).1 refl) (itself k) (itself v))
 intent_may plan m S cpu f frame (intent.Do c) own = did_may plan m S cpu c (outcome plan S cpu f c) (is_met_then plan S c) refl own
 intent_may plan m S cpu f frame (intent.Return v) own =
     offered_itself plan m S cpu (event.End (cpu_of cpu) frame.callback frame.object v) own
-    (four (same_cpu (cpu_of cpu) (cpu_of cpu)) (same_callback frame.callback frame.callback) (same_handle frame.object frame.object) (same_value v v) (it_is cpu) ((callback_decides frame.callback frame.callback).1 refl)
+    (four (same_cpu (cpu_of cpu) (cpu_of cpu)) (same_callback frame.callback frame.callback) (same_handle frame.object frame.object) (same_value v v) (itself cpu) ((callback_decides frame.callback frame.callback).1 refl)
     ((handle_decides frame.object frame.object).1 refl) ((value_decides v v).1 refl))
 intent_may plan m S cpu f frame intent.Broken own =
     offered_itself plan m S cpu (event.Fault (cpu_of cpu) fault.ScriptError (line_of plan frame)) own
-    (three (same_cpu (cpu_of cpu) (cpu_of cpu)) (same_fault fault.ScriptError fault.ScriptError) (line_of plan frame == line_of plan frame) (it_is cpu) ((fault_decides fault.ScriptError fault.ScriptError).1 refl) (it_is (line_of plan frame)))
+    (three (same_cpu (cpu_of cpu) (cpu_of cpu)) (same_fault fault.ScriptError fault.ScriptError) (line_of plan frame == line_of plan frame) (itself cpu) ((fault_decides fault.ScriptError fault.ScriptError).1 refl) (itself (line_of plan frame)))
 
 next_may : {A : Type 0} (plan : Plan) (m : Meaning A) (S : State A) (cpu f : ℕ) (frame : Frame) (i : Intent) (x : Option Fault) → own_event plan m S cpu ≡ Some (fault_event plan m S cpu f frame i x) → may plan m S (fault_event plan m S cpu f frame i x) ≡ true
 next_may plan m S cpu f frame i (Some x) own =
     offered_itself plan m S cpu (event.Fault (cpu_of cpu) x (line_of plan frame)) own
-    (three (same_cpu (cpu_of cpu) (cpu_of cpu)) (same_fault x x) (line_of plan frame == line_of plan frame) (it_is cpu) ((fault_decides x x).1 refl) (it_is (line_of plan frame)))
+    (three (same_cpu (cpu_of cpu) (cpu_of cpu)) (same_fault x x) (line_of plan frame == line_of plan frame) (itself cpu) ((fault_decides x x).1 refl) (itself (line_of plan frame)))
 next_may plan m S cpu f frame i None own = intent_may plan m S cpu f frame i own
 
 -- what a processor would do next may not come
@@ -154,7 +144,7 @@ met_by plan m S rest cpu p low own true e =
     let own_is : own_event plan m S cpu ≡ Some (event.Woke (cpu_of cpu) p.call p.answer) = own ∙ woken S cpu p e in
     absurd (own_waits plan m S rest cpu (event.Woke (cpu_of cpu) p.call p.answer) low own_is
     (offered_itself plan m S cpu (event.Woke (cpu_of cpu) p.call p.answer) own_is
-    (three (same_cpu (cpu_of cpu) (cpu_of cpu)) (same_call p.call p.call) (same_value p.answer p.answer) (it_is cpu) (call_itself p.call) ((value_decides p.answer p.answer).1 refl))))
+    (three (same_cpu (cpu_of cpu) (cpu_of cpu)) (same_call p.call p.call) (same_value p.answer p.answer) (itself cpu) (call_itself p.call) ((value_decides p.answer p.answer).1 refl))))
 
 pending_waits : {A : Type 0} (plan : Plan) (m : Meaning A) (S : State A) → AtRest plan m S true → (cpu f : ℕ) → cpu < plan.cpus → (p : Option Pending) → own_event plan m S cpu ≡ event_of_frame plan m S cpu f (frame_of S.cpus f) p → waits_on S p ≡ true
 pending_waits plan m S rest cpu f low None own =
@@ -186,10 +176,6 @@ held_number plan S h q =
 
 pub held_now : {A : Type 0} (plan : Plan) (m : Meaning A) (run : List Event) → IsRunOf plan m run → (q : ℕ) → held_count (state_after plan m run).queues q ≡ length (held_from (state_after plan m run) q)
 held_now plan m run is_run = held_number plan (state_after plan m run) (at_the_end plan m (λ S. HoldsIn plan S) run (holds_at_each plan m run is_run))
-
-no_entry : {T : Type 0} (blank : T) (p : T → Bool) (xs : List T) → ((x : ℕ) → x < length xs → p (entry blank xs x) ≡ false) → list_any p xs ≡ false
-no_entry blank p [] h = refl
-no_entry blank p (x ∷ xs) h = rw (h 0 (omega arith)) (no_entry blank p xs (λ k low. h (suc k) (omega arith)))
 
 none_at : {A : Type 0} (S : State A) (test : Place → Bool) → requests_where S test ≡ [] → list_any (λ (r : Request). test r.place) S.requests.all ≡ false
 none_at S test e =
@@ -283,23 +269,6 @@ running_named plan m S rest held f h none =
 
 -- ---- parked frames
 
--- where an id is in a list
-record At (f : ℕ) (xs : List ℕ) : Type 0 where
-  place : ℕ
-  low : place < length xs
-  is : slice_get xs place ≡ Some f
-
-at_by : (f x : ℕ) (xs : List ℕ) (b : Bool) → (x == f) ≡ b → contains f (x ∷ xs) ≡ true → (contains f xs ≡ true → At f xs) → At f (x ∷ xs)
-at_by f x xs true e h rest = record { place = 0; low = omega arith; is = ap Some (grind (arith, nat_tests)) }
-at_by f x xs false e h rest = let more = rest (rw e at h) in record { place = suc more.place; low = let less : more.place < length xs = more.low in omega arith; is = more.is }
-
-at_of : (f : ℕ) (xs : List ℕ) → contains f xs ≡ true → At f xs
-at_of f [] h = absurd (let z : ⊥ = cc in z)
-at_of f (x ∷ xs) h = at_by f x xs (x == f) refl h (at_of f xs)
-
-below_cpus : (cpu n : ℕ) → cpu < n → nat_lt cpu n ≡ true
-below_cpus cpu n h = grind (arith, nat_tests)
-
 unpark_waits : {A : Type 0} (plan : Plan) (m : Meaning A) (S : State A) → AtRest plan m S true → (f cpu : ℕ) → cpu < plan.cpus → contains f S.cpus.parked ≡ true → is_empty_cpu S.cpus cpu ≡ true → wait_is_over S (frame_of S.cpus f).pending ≡ true → ⊥
 unpark_waits plan m S rest f cpu low parked empty over =
     let e : Event = event.Unpark (cpu_of cpu) (record { 0 = f }) in
@@ -308,7 +277,7 @@ unpark_waits plan m S rest f cpu low parked empty over =
     let offered : Has e (candidates plan m S) = cpu_group plan m S cpu (group.Unparks cpu) e low (inr (inr (inl refl))) (placed_at plan m S (group.Unparks cpu) (length S.cpus.parked) at.place e at.low here) in
     let no : may plan m S e ≡ false = may_not plan m S true e rest offered in
     let comes : may plan m S e ≡ true =
-    two (nat_lt cpu plan.cpus) (may_unpark S cpu f) (below_cpus cpu plan.cpus low) (three (contains f S.cpus.parked) (is_empty_cpu S.cpus cpu) (wait_is_over S (frame_of S.cpus f).pending) parked empty over) in
+    both (nat_lt cpu plan.cpus) (may_unpark S cpu f) (below_cpus cpu plan.cpus low) (three (contains f S.cpus.parked) (is_empty_cpu S.cpus cpu) (wait_is_over S (frame_of S.cpus f).pending) parked empty over) in
     both_ways (may plan m S e) comes (ap not no)
 
 not_full : {A : Type 0} (plan : Plan) (m : Meaning A) (S : State A) → AtRest plan m S true → (f : ℕ) → contains f S.cpus.parked ≡ true → wait_is_over S (frame_of S.cpus f).pending ≡ true → parked_for_cpu plan S f ≡ false → ⊥
@@ -327,20 +296,16 @@ parked_by plan m S rest held f (Some p) false e k parked is none full = pending_
 parked_named : {A : Type 0} (plan : Plan) (m : Meaning A) (S : State A) → AtRest plan m S true → ((q : ℕ) → held_count S.queues q ≡ length (held_from S q)) → (f : ℕ) → is_waiting_parked S f ≡ true → frame_cause plan S f ≡ None → ⊥
 parked_named plan m S rest held f h none =
     let one = none_first (by_frame (frames_above S f)) (pending_cause plan S (frame_of S.cpus f).pending ∷ cause_if (parked_for_cpu plan S f) cause.NoCpu ∷ []) none in
-    let two = none_first (pending_cause plan S (frame_of S.cpus f).pending) (cause_if (parked_for_cpu plan S f) cause.NoCpu ∷ []) one.1 in
-    let last = none_first (cause_if (parked_for_cpu plan S f) cause.NoCpu) [] two.1 in
+    let both = none_first (pending_cause plan S (frame_of S.cpus f).pending) (cause_if (parked_for_cpu plan S f) cause.NoCpu ∷ []) one.1 in
+    let last = none_first (cause_if (parked_for_cpu plan S f) cause.NoCpu) [] both.1 in
     parked_by plan m S rest held f (frame_of S.cpus f).pending (wait_is_over S (frame_of S.cpus f).pending) refl refl
-    (both_left (contains f S.cpus.parked) (is_some (frame_of S.cpus f).pending) h) (both_right (contains f S.cpus.parked) (is_some (frame_of S.cpus f).pending) h) two.0 (none_if (parked_for_cpu plan S f) cause.NoCpu last.0)
-
-either_one : (a b : Bool) → (a || b) ≡ true → (a ≡ true) ⊎ (b ≡ true)
-either_one true b h = inl refl
-either_one false b h = inr h
+    (both_left (contains f S.cpus.parked) (is_some (frame_of S.cpus f).pending) h) (both_right (contains f S.cpus.parked) (is_some (frame_of S.cpus f).pending) h) both.0 (none_if (parked_for_cpu plan S f) cause.NoCpu last.0)
 
 pub frame_named : {A : Type 0} (plan : Plan) (m : Meaning A) (S : State A) → AtRest plan m S true → ((q : ℕ) → held_count S.queues q ≡ length (held_from S q)) → (f : ℕ) → (is_running plan S f || is_waiting_parked S f) ≡ true
     → is_some (frame_cause plan S f) ≡ true
 frame_named plan m S rest held f h =
     some_or (frame_cause plan S f)
-    (λ none. elim (either_one (is_running plan S f) (is_waiting_parked S f) h) as (λ _. ⊥) [
+    (λ none. elim (or_cases (is_running plan S f) (is_waiting_parked S f) h) as (λ _. ⊥) [
       | inl k ↦ running_named plan m S rest held f k none
       | inr k ↦ parked_named plan m S rest held f k none
     ])

@@ -14,8 +14,8 @@ use Rattle.wdf_model.specs.parts.Locks.{is_free_if_any, scope_of}
 use Rattle.wdf_model.specs.State.{State, declared_in, handle_in}
 use Rattle.wdf_model.specs.rules.Starts.{level_fits}
 use Rattle.wdf_model.specs.rules.Waits.{cause_if, no_cpu}
-use Rattle.wdf_model.proofs.Tests.{both, both_left, both_right, itself}
-use Rattle.wdf_blame.proofs.Members.{Has}
+use Rattle.wdf_model.proofs.Tests.{both, both_left, both_right, itself, not_false}
+use Rattle.wdf_blame.proofs.Members.{Has, at_of}
 use Rattle.wdf_base.specs.Meaning.{Meaning}
 use Rattle.wdf_base.specs.declared.event.Event.{Event}
 use Rattle.wdf_base.specs.declared.event.Event.TheVariants as event
@@ -29,7 +29,6 @@ use Rattle.wdf_model.specs.rules.Steps.{may}
 use Rattle.wdf_blame.proofs.Members.{has_flat}
 use Rattle.wdf_blame.proofs.Endings.{AtRest, may_not}
 use Rattle.wdf_model.specs.declared.entries.Timed.{Timed}
-use Rattle.wdf_model.specs.Tables.{contains}
 use Rattle.wdf_model.specs.parts.Tree.{is_live}
 use Rattle.wdf_model.specs.parts.Deferred.Dpcs.{is_dpc_queued}
 use Rattle.wdf_model.specs.parts.Deferred.Timers.{is_reached, timer_due}
@@ -37,22 +36,10 @@ use Rattle.wdf_model.specs.parts.Deferred.WorkItems.{is_work_queued}
 use Rattle.wdf_model.specs.rules.Ready.{is_open_work}
 use Rattle.wdf_model.specs.rules.Waits.{by_frame_on, deferred_cause, dpc_cause, scope_is_held, work_cause}
 use Rattle.wdf_blame.specs.Caused.{may_run}
-use Rattle.wdf_blame.proofs.Needs.{below_cpus, cpu_group, five, free_one, none_first, none_if, none_least, none_there, placed_at, proper_start, some_or}
+use Rattle.wdf_blame.proofs.Needs.{below_cpus, cpu_group, free_one, none_first, none_if, none_least, none_there, placed_at, some_or}
+use Rattle.wdf_blame.proofs.Conjuncts.{five, four}
 
 -- ---- places
-
-record Place_of (o : ℕ) (xs : List ℕ) : Type 0 where
-  place : ℕ
-  low : place < length xs
-  is : slice_get xs place ≡ Some o
-
-at_by : (o x : ℕ) (xs : List ℕ) (b : Bool) → (x == o) ≡ b → contains o (x ∷ xs) ≡ true → (contains o xs ≡ true → Place_of o xs) → Place_of o (x ∷ xs)
-at_by o x xs true e h rest = record { place = 0; low = omega arith; is = ap Some (grind (arith, nat_tests)) }
-at_by o x xs false e h rest = let more = rest (rw e at h) in record { place = suc more.place; low = let less : more.place < length xs = more.low in omega arith; is = more.is }
-
-at_of : (o : ℕ) (xs : List ℕ) → contains o xs ≡ true → Place_of o xs
-at_of o [] h = absurd (let z : ⊥ = cc in z)
-at_of o (x ∷ xs) h = at_by o x xs (x == o) refl h (at_of o xs)
 
 record Place_of_timer (o : ℕ) (ts : List Timed) : Type 0 where
   place : ℕ
@@ -73,19 +60,12 @@ started_by : (g : ℕ → Event) (t : Option Timed) (o : ℕ) → option_map (λ
 started_by g None o h = absurd (let z : ⊥ = cc in z)
 started_by g (Some t) o h = ap (λ x. Some (g x)) (same_Some t.timer.0 o h)
 
-is_free_by : (b : Bool) → not b ≡ false → b ≡ true
-is_free_by true h = refl
-is_free_by false h = absurd (let z : ⊥ = cc in z)
-
 work_parts : {A : Type 0} (plan : Plan) (S : State A) (c : Callback) (level o : ℕ) → work_cause plan S c level o ≡ None → (scope_is_held plan S c o ≡ false) × (nobody_on S.cpus o ≡ true) × (no_cpu plan S level ≡ false)
 work_parts plan S c level o h =
     let one = none_first (cause_if (scope_is_held plan S c o) cause.ScopeHeld) (by_frame_on S o ∷ cause_if (no_cpu plan S level) cause.NoCpu ∷ []) h in
-    let two = none_first (by_frame_on S o) (cause_if (no_cpu plan S level) cause.NoCpu ∷ []) one.1 in
-    let last = none_first (cause_if (no_cpu plan S level) cause.NoCpu) [] two.1 in
-    (none_if (scope_is_held plan S c o) cause.ScopeHeld one.0, none_there S o (none_least (λ f. cause.ByFrame (frame_id f)) (filter (is_on S.cpus o) (all_frames S.cpus)) two.0), none_if (no_cpu plan S level) cause.NoCpu last.0)
-
-two : (a b : Bool) → a ≡ true → b ≡ true → (a && b) ≡ true
-two a b h k = both a b h k
+    let both = none_first (by_frame_on S o) (cause_if (no_cpu plan S level) cause.NoCpu ∷ []) one.1 in
+    let last = none_first (cause_if (no_cpu plan S level) cause.NoCpu) [] both.1 in
+    (none_if (scope_is_held plan S c o) cause.ScopeHeld one.0, none_there S o (none_least (λ f. cause.ByFrame (frame_id f)) (filter (is_on S.cpus o) (all_frames S.cpus)) both.0), none_if (no_cpu plan S level) cause.NoCpu last.0)
 
 item_waits : {A : Type 0} (plan : Plan) (m : Meaning A) (S : State A) → AtRest plan m S true → (o : ℕ) → is_work_queued S.work_items o ≡ true → is_live (life_of S.tree o) ≡ true → declares_in plan S callback.EvtWorkItem o ≡ true
     → work_cause plan S callback.EvtWorkItem 0 o ≡ None → ⊥
@@ -102,9 +82,9 @@ item_waits plan m S rest o queued live declares h =
     (placed_at plan m S (group.Starts left.0 rank.Work) (length S.work_items.queued) at.place e at.low (ap (λ i. option_map (λ x. event.Start (record { 0 = left.0 }) callback.EvtWorkItem (handle_in plan S x) None) i) at.is)) in
     let no : may plan m S e ≡ false = may_not plan m S true e rest offered in
     let comes : may plan m S e ≡ true =
-    proper_start (nat_lt left.0 plan.cpus) (is_proper plan S (handle_in plan S o)) true (may_start plan m S left.0 callback.EvtWorkItem o None) (below_cpus left.0 plan.cpus within) (itself (handle_in plan S o).name) refl
+    four (nat_lt left.0 plan.cpus) (is_proper plan S (handle_in plan S o)) true (may_start plan m S left.0 callback.EvtWorkItem o None) (below_cpus left.0 plan.cpus within) (itself (handle_in plan S o).name) refl
     (five (declares_in plan S callback.EvtWorkItem o) (is_live (life_of S.tree o)) (level_fits S left.0 0) (is_free_if_any S.locks (scope_of plan callback.EvtWorkItem o (declared_in plan S o))) (is_work_queued S.work_items o && nobody_on S.cpus o)
-    declares live left.2 (is_free_by (is_free_if_any S.locks (scope_of plan callback.EvtWorkItem o (declared_in plan S o))) parts.0) (two (is_work_queued S.work_items o) (nobody_on S.cpus o) queued parts.1)) in
+    declares live left.2 (not_false (is_free_if_any S.locks (scope_of plan callback.EvtWorkItem o (declared_in plan S o))) parts.0) (both (is_work_queued S.work_items o) (nobody_on S.cpus o) queued parts.1)) in
     let z : ⊥ = cc in z
 
 timer_waits : {A : Type 0} (plan : Plan) (m : Meaning A) (S : State A) → AtRest plan m S true → (o : ℕ) → timer_due S.timers o S.clock ≡ true → is_live (life_of S.tree o) ≡ true → declares_in plan S callback.EvtTimerFunc o ≡ true
@@ -122,14 +102,14 @@ timer_waits plan m S rest o due live declares h =
     (placed_at plan m S (group.Starts left.0 rank.Timed) (length S.timers.queued) at.place e at.low (started_by (λ x. event.Start (record { 0 = left.0 }) callback.EvtTimerFunc (handle_in plan S x) None) (slice_get S.timers.queued at.place) o at.is)) in
     let no : may plan m S e ≡ false = may_not plan m S true e rest offered in
     let comes : may plan m S e ≡ true =
-    proper_start (nat_lt left.0 plan.cpus) (is_proper plan S (handle_in plan S o)) true (may_start plan m S left.0 callback.EvtTimerFunc o None) (below_cpus left.0 plan.cpus within) (itself (handle_in plan S o).name) refl
+    four (nat_lt left.0 plan.cpus) (is_proper plan S (handle_in plan S o)) true (may_start plan m S left.0 callback.EvtTimerFunc o None) (below_cpus left.0 plan.cpus within) (itself (handle_in plan S o).name) refl
     (five (declares_in plan S callback.EvtTimerFunc o) (is_live (life_of S.tree o)) (level_fits S left.0 2) (is_free_if_any S.locks (scope_of plan callback.EvtTimerFunc o (declared_in plan S o))) (timer_due S.timers o S.clock && nobody_on S.cpus o)
-    declares live left.2 (is_free_by (is_free_if_any S.locks (scope_of plan callback.EvtTimerFunc o (declared_in plan S o))) parts.0) (two (timer_due S.timers o S.clock) (nobody_on S.cpus o) due parts.1)) in
+    declares live left.2 (not_false (is_free_if_any S.locks (scope_of plan callback.EvtTimerFunc o (declared_in plan S o))) parts.0) (both (timer_due S.timers o S.clock) (nobody_on S.cpus o) due parts.1)) in
     let z : ⊥ = cc in z
 
 -- ---- the law
 
-third : (a b c : Bool) → (a || b || c) ≡ true → a ≡ false → b ≡ false → c ≡ true
+pub third : (a b c : Bool) → (a || b || c) ≡ true → a ≡ false → b ≡ false → c ≡ true
 third true b c h e f = absurd (let z : ⊥ = cc in z)
 third false true c h e f = absurd (let z : ⊥ = cc in z)
 third false false c h e f = h

@@ -27,7 +27,9 @@ use Rattle.wdf_model.proofs.Counts.{one_or_two}
 use Rattle.wdf_blame_causes.specs.Starts.{dpc_may_run, first_may_run, has_callback}
 use Rattle.wdf_blame.proofs.Members.{Has, has_flat}
 use Rattle.wdf_blame.proofs.Endings.{AtRest, may_not}
-use Rattle.wdf_blame.proofs.Needs.{below_cpus, cpu_group, five, free_hold, none_first, none_if, placed_at, proper_start, unheld}
+use Rattle.wdf_blame.proofs.Needs.{below_cpus, cpu_group, free_hold, none_first, none_if, placed_at, unheld}
+use Rattle.wdf_blame.proofs.Conjuncts.{five, four}
+use Rattle.wdf_blame_causes.proofs.Presents.{same_there, there_is}
 
 -- ---- where a DPC is queued
 
@@ -69,10 +71,6 @@ head_is : (o : ℕ) (xs : List ℕ) → contains o xs ≡ true → is_some (firs
 head_is o [] h = absurd (let z : ⊥ = cc in z)
 head_is o (x ∷ xs) h = refl
 
-there_is : {T : Type 0} (o : Option T) → is_some o ≡ true → (x : T) × (o ≡ Some x)
-there_is None h = absurd (let z : ⊥ = cc in z)
-there_is (Some x) h = (x, refl)
-
 abbrev is_dpc_function : Callback → Bool
 is_dpc_function callback.EvtDpcFunc = true
 is_dpc_function callback.EvtInterruptDpc = true
@@ -89,9 +87,6 @@ dpc_may plan m S cpu o callback.EvtDpcFunc is has live level free first =
 dpc_may plan m S cpu o callback.EvtInterruptDpc is has live level free first =
     five (declares_in plan S callback.EvtInterruptDpc o) (is_live (life_of S.tree o)) (level_fits S cpu 2) true (same_id (dpc_head S.dpcs cpu) o) has live level refl first
 dpc_may plan m S cpu o _ is has live level free first = absurd (let z : ⊥ = cc in z)
-
-same_head : (o : Option ℕ) (x : ℕ) → o ≡ Some x → same_id o x ≡ true
-same_head o x e = rw e (itself x)
 
 -- a processor whose first DPC may run, with its lock free, has a level that is as high
 pub head_waits : {A : Type 0} (plan : Plan) (m : Meaning A) (S : State A) → AtRest plan m S true → (cpu o : ℕ) → cpu < plan.cpus → contains o (dpcs_of S.dpcs cpu) ≡ true → dpc_may_run plan S cpu ≡ true
@@ -110,8 +105,8 @@ head_waits plan m S rest cpu o within queued may_be free fits =
     sym (ap (λ y. is_free_if_any S.locks (option_and_then (λ z. scope_of plan (dpc_function (kind_of S.tree z)) z (declared_in plan S z)) y)) at.1) ∙ free in
     let no : may plan m S e ≡ false = may_not plan m S true e rest offered in
     let comes : may plan m S e ≡ true =
-    proper_start (nat_lt cpu plan.cpus) (is_proper plan S (handle_in plan S x)) true (may_start plan m S cpu c x None) (below_cpus cpu plan.cpus within) (itself (handle_in plan S x).name) refl
-    (dpc_may plan m S cpu x c (function_is (kind_of S.tree x)) (both_right (is_live (life_of S.tree x)) (declares_in plan S c x) can) (both_left (is_live (life_of S.tree x)) (declares_in plan S c x) can) fits lock (same_head (dpc_head S.dpcs cpu) x at.1)) in
+    four (nat_lt cpu plan.cpus) (is_proper plan S (handle_in plan S x)) true (may_start plan m S cpu c x None) (below_cpus cpu plan.cpus within) (itself (handle_in plan S x).name) refl
+    (dpc_may plan m S cpu x c (function_is (kind_of S.tree x)) (both_right (is_live (life_of S.tree x)) (declares_in plan S c x) can) (both_left (is_live (life_of S.tree x)) (declares_in plan S c x) can) fits lock (same_there (dpc_head S.dpcs cpu) x at.1)) in
     let z : ⊥ = cc in z
 
 pub dpc_waits : {A : Type 0} (plan : Plan) (m : Meaning A) (S : State A) → AtRest plan m S true → length S.dpcs.lists ≡ plan.cpus → (o : ℕ) → is_dpc_queued S.dpcs o ≡ true → ((cpu : ℕ) → dpc_may_run plan S cpu ≡ true)

@@ -1,5 +1,4 @@
 pub mod Apt
-pub mod AptCalls
 pub mod AptEvents
 pub mod Parked
 pub mod Taken

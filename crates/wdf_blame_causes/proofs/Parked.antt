@@ -10,27 +10,20 @@ use Rattle.wdf_model.specs.Tables.{contains, entry, in_order, without}
 use Rattle.wdf_model.specs.parts.Cpus.{Cpus, frame_of, no_frame, parked_with, running, top, without_frame}
 use Rattle.wdf_model.specs.parts.Cpus as cpus
 use Rattle.wdf_model.specs.State.{State}
-use Rattle.wdf_model.specs.laws.Fits.{all_fit, fits}
+use Rattle.wdf_model.specs.laws.Fits.{fits}
 use Rattle.wdf_model.specs.declared.deed.Deed.{Deed}
 use Rattle.wdf_model.specs.declared.deed.Deed.TheVariants.{PushFrame, GoOn, PopFrame, ParkFrame, UnparkFrame, TakeStep, EndStep, EndLife}
-use Rattle.wdf_model.specs.rules.Deeds.{do_deed, do_deeds}
+use Rattle.wdf_model.specs.rules.Deeds.{do_deed}
 use Rattle.wdf_model.specs.rules.Ready.{IsRunOf, state_after}
 use Rattle.wdf_model.specs.rules.Steps.{deeds}
-use Rattle.wdf_model.proofs.Tests.{alone, both_left, both_right}
+use Rattle.wdf_model.proofs.Tests.{alone}
 use Rattle.wdf_model.proofs.Maps.{entry_put_other}
 use Rattle.wdf_model.proofs.FitsOfEvents.{event_fits}
 use Rattle.wdf_invariants.proofs.StillFrames.{Still, deeds_still}
+use Rattle.wdf_agreements.proofs.AllOf.{all_keep}
 use Rattle.wdf_agreements.proofs.Keeping.{each_place}
-use Rattle.wdf_blame_causes.proofs.Apt.{AllApt, Apt}
+use Rattle.wdf_blame_causes.proofs.Apt.{Apt}
 use Rattle.wdf_blame_causes.proofs.AptEvents.{event_apt}
-
--- what each deed that fits and is apt keeps, those deeds one after another keep
-pub apt_deeds_keep : {A : Type 0} (plan : Plan) (Q : State A → Type 0) → ((d : Deed) (S : State A) → fits plan d S ≡ true → Apt plan d S → Q S → Q (do_deed plan d S))
-    → (ds : List Deed) (S : State A) → all_fit plan ds S ≡ true → AllApt plan ds S → Q S → Q (do_deeds plan ds S)
-apt_deeds_keep plan Q keeps [] S h s q = q
-apt_deeds_keep plan Q keeps (d ∷ ds) S h s q =
-    apt_deeds_keep plan Q keeps ds (do_deed plan d S) (both_right (fits plan d S) (all_fit plan ds (do_deed plan d S)) h) s.1
-    (keeps d S (both_left (fits plan d S) (all_fit plan ds (do_deed plan d S)) h) s.0 q)
 
 -- ---- the parked frames
 
@@ -112,5 +105,5 @@ parking_by plan d S fit a q = stays S (do_deed plan d S) (deeds_still plan (d �
 
 pub parking_at_each : {A : Type 0} (plan : Plan) (m : Meaning A) (run : List Event) → IsRunOf plan m run → (n : ℕ) → Parking (state_after plan m (take n run)).cpus
 parking_at_each {A} plan m run is_run n = each_place plan m (λ (S : State A). Parking S.cpus) (record { waits = λ f h. absurd (let z : ⊥ = cc in z) })
-    (λ S e known may_come q. apt_deeds_keep plan (λ (U : State A). Parking U.cpus) (parking_by plan) (deeds plan S e) S (event_fits plan m S e may_come) (event_apt plan m S e known may_come) q)
+    (λ S e known may_come q. all_keep plan (λ (d : Deed) (U : State A). Apt plan d U) (λ (U : State A). Parking U.cpus) (parking_by plan) (deeds plan S e) S (event_fits plan m S e may_come) (event_apt plan m S e known may_come) q)
     (λ S time q. q) run is_run n

@@ -36,11 +36,12 @@ use Rattle.wdf_model.specs.rules.Waits.{ahead, cause_if, no_cpu, queue_scope_hel
 use Rattle.wdf_model.proofs.Tests.{both, both_left, both_right, itself, not_false}
 use Rattle.wdf_model.proofs.Sames.{callback_decides, kind_decides}
 use Rattle.wdf_blame_causes.specs.Starts.{is_live_queue}
-use Rattle.wdf_blame_causes.proofs.Apt.{takes}
+use Rattle.wdf_agreements.proofs.Reasons.{takes}
 use Rattle.wdf_blame.proofs.Members.{Has, has_flat, has_range}
 use Rattle.wdf_blame.proofs.Endings.{AtRest, may_not}
 use Rattle.wdf_blame.proofs.Forms.{while_on}
-use Rattle.wdf_blame.proofs.Needs.{below_cpus, cpu_group, five, free_one, none_first, none_if, none_least, placed_at, proper_start}
+use Rattle.wdf_blame.proofs.Needs.{below_cpus, cpu_group, free_one, none_first, none_if, none_least, placed_at}
+use Rattle.wdf_blame.proofs.Conjuncts.{five, four}
 
 -- ---- the front of a queue
 
@@ -108,7 +109,7 @@ handler_may plan m S cpu q r callback.EvtIoDefault is has live level free ready 
     five (declares_in plan S callback.EvtIoDefault q) (is_live (life_of S.tree q)) (level_fits S cpu (queue_level plan q)) (is_free_if_any S.locks (scope_of plan callback.EvtIoDefault q (declared_in plan S q))) (presents plan S callback.EvtIoDefault q r.id.0) has live level free ready
 handler_may plan m S cpu q r _ is has live level free ready = absurd (let z : ⊥ = cc in z)
 
-there_is : {T : Type 0} (o : Option T) → is_some o ≡ true → (x : T) × (o ≡ Some x)
+pub there_is : {T : Type 0} (o : Option T) → is_some o ≡ true → (x : T) × (o ≡ Some x)
 there_is None h = absurd (let z : ⊥ = cc in z)
 there_is (Some x) h = (x, refl)
 
@@ -154,8 +155,8 @@ presentable plan S q r h =
       cpu = none_if (no_cpu plan S (queue_level plan q)) cause.NoCpu cpus.0;
     }
 
-same_front : (o : Option ℕ) (r : ℕ) → o ≡ Some r → same_id o r ≡ true
-same_front o r e = rw e (itself r)
+pub same_there : (o : Option ℕ) (r : ℕ) → o ≡ Some r → same_id o r ≡ true
+same_there o r e = rw e (itself r)
 
 same_handler : (o : Option Callback) (c : Callback) → o ≡ Some c → same_option same_callback o (Some c) ≡ true
 same_handler o c e = rw e ((callback_decides c c).1 refl)
@@ -163,7 +164,7 @@ same_handler o c e = rw e ((callback_decides c c).1 refl)
 presented : {A : Type 0} (plan : Plan) (S : State A) (q r : ℕ) (c : Callback) → Presentable plan S q r → front S.queues q ≡ Some r → handler_for plan q (info_of S.requests r).form ≡ Some c → presents plan S c q r ≡ true
 presented plan S q r c p at h =
     five (not (is_manual_queue plan q)) (queue_delivers plan S q) (is_free S.queues q) (same_id (front S.queues q) r) (same_option same_callback (handler_for plan q (info_of S.requests r).form) (Some c))
-    (ap not p.unlike) p.delivers p.free (same_front (front S.queues q) r at) (same_handler (handler_for plan q (info_of S.requests r).form) c h)
+    (ap not p.unlike) p.delivers p.free (same_there (front S.queues q) r at) (same_handler (handler_for plan q (info_of S.requests r).form) c h)
 
 start_here : {A : Type 0} (plan : Plan) (S : State A) (cpu q r : ℕ) (c : Callback) (f : Option ℕ) → f ≡ Some r → handler_for plan q (info_of S.requests r).form ≡ Some c → option_and_then (handler_start plan S cpu q) f ≡ Some (starts_for plan S cpu c q r)
 start_here plan S cpu q r c f at h = rw at (ap (option_map (λ x. starts_for plan S cpu x q r)) h)
@@ -192,7 +193,7 @@ queued_waits plan m S rest q r waits queue taken h =
     (placed_at plan m S (group.Starts left.0 rank.Handler) (declared_end plan) q e inside (start_here plan S left.0 q r c (front S.queues q) at by.1)) in
     let no : may plan m S e ≡ false = may_not plan m S true e rest offered in
     let comes : may plan m S e ≡ true =
-    proper_start (nat_lt left.0 plan.cpus) (is_proper plan S (handle_in plan S q)) (is_proper plan S (handle_in plan S r)) (may_start plan m S left.0 c q (Some (handle_in plan S r)))
+    four (nat_lt left.0 plan.cpus) (is_proper plan S (handle_in plan S q)) (is_proper plan S (handle_in plan S r)) (may_start plan m S left.0 c q (Some (handle_in plan S r)))
     (below_cpus left.0 plan.cpus within) (itself (handle_in plan S q).name) (itself (handle_in plan S r).name)
     (handler_may plan m S left.0 q (handle_in plan S r) c (handler_is plan q (info_of S.requests r).form c by.1) has live left.2 p.unlocked (presented plan S q r c p at by.1)) in
     let z : ⊥ = cc in z
@@ -256,7 +257,7 @@ returning_waits plan m S rest d q r returns queue declared h =
     (rw declared (placed_at plan m S (group.StartsFor left.0 rank.CanceledOnQueue q) (length S.requests.all) r e (place_there q S.requests.all r returns) refl)) in
     let no : may plan m S e ≡ false = may_not plan m S true e rest offered in
     let comes : may plan m S e ≡ true =
-    proper_start (nat_lt left.0 plan.cpus) (is_proper plan S (handle_in plan S q)) (is_proper plan S (handle_in plan S r)) (may_start plan m S left.0 callback.EvtIoCanceledOnQueue q (Some (handle_in plan S r)))
+    four (nat_lt left.0 plan.cpus) (is_proper plan S (handle_in plan S q)) (is_proper plan S (handle_in plan S r)) (may_start plan m S left.0 callback.EvtIoCanceledOnQueue q (Some (handle_in plan S r)))
     (below_cpus left.0 plan.cpus within) (itself (handle_in plan S q).name) (itself (handle_in plan S r).name)
     (five (declares_in plan S callback.EvtIoCanceledOnQueue q) (is_live (life_of S.tree q)) (level_fits S left.0 (queue_level plan q)) (is_open_to plan S q) (is_returning_to q (place_of S.requests r))
     (queue_has plan S callback.EvtIoCanceledOnQueue q is declared) live left.2 unlocked returns) in

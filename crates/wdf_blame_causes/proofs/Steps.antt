@@ -38,7 +38,8 @@ use Rattle.wdf_blame.proofs.Members.{Has, has_flat, has_range}
 use Rattle.wdf_blame.proofs.Endings.{AtRest, may_not}
 use Rattle.wdf_blame.proofs.Gives.{any_has}
 use Rattle.wdf_blame.proofs.Stages.{each_one, handle_itself, none_of, stage_comes, stepping}
-use Rattle.wdf_blame.proofs.Needs.{below_cpus, cpu_group, five, free_one, front_none, no_count, none_first, none_if, none_least, placed_at, proper_start}
+use Rattle.wdf_blame.proofs.Needs.{below_cpus, cpu_group, free_one, front_none, no_count, none_first, none_if, none_least, placed_at}
+use Rattle.wdf_blame.proofs.Conjuncts.{five, four}
 use Rattle.wdf_blame_causes.proofs.Dpcs.{free_by_none, head_waits, listed_at}
 use Rattle.wdf_blame_causes.proofs.Presents.{kept_has}
 
@@ -137,7 +138,7 @@ callback_comes plan m S rest d c i low next calm unkept may_be h =
     (placed_at plan m S (group.Starts cpu rank.Sequence) (declared_end plan) d e low at) in
     let no : may plan m S e ≡ false = may_not plan m S true e rest offered in
     let comes : may plan m S e ≡ true =
-    proper_start (nat_lt cpu plan.cpus) (is_proper plan S (handle_in plan S o)) true (may_start plan m S cpu c o None) (below_cpus cpu plan.cpus within) (itself (handle_in plan S o).name) refl
+    four (nat_lt cpu plan.cpus) (is_proper plan S (handle_in plan S o)) true (may_start plan m S cpu c o None) (below_cpus cpu plan.cpus within) (itself (handle_in plan S o).name) refl
     (five (declares_in plan S c o) (life_fits S c o) (level_fits S cpu (callback_irql plan c o)) (is_free_if_any S.locks lock) (is_ready_for plan m S cpu c o None)
     has (lives S c o is live) left.2 free ranked) in
     let z : ⊥ = cc in z

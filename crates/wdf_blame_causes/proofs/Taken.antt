@@ -17,9 +17,10 @@ use Rattle.wdf_model.proofs.FitsOfEvents.{event_fits}
 use Rattle.wdf_invariants.proofs.HeldMoves.{Placed}
 use Rattle.wdf_agreements.proofs.FromQueues.{AllSuited, ArrivesAt, GoesWell, suited_by, suited_first}
 use Rattle.wdf_agreements.proofs.Keeping.{each_place}
-use Rattle.wdf_blame_causes.proofs.Apt.{Apt, IsTaken, takes}
+use Rattle.wdf_agreements.proofs.AllOf.{all_keep}
+use Rattle.wdf_agreements.proofs.Reasons.{IsTaken, takes}
+use Rattle.wdf_blame_causes.proofs.Apt.{Apt}
 use Rattle.wdf_blame_causes.proofs.AptEvents.{event_apt}
-use Rattle.wdf_blame_causes.proofs.Parked.{apt_deeds_keep}
 
 -- a queue suits the requests of a form that it takes
 abbrev pub TakesForm : Plan → ℕ → ℕ → RequestForm → Type 0
@@ -44,5 +45,5 @@ forms_by plan d S f s k = suited_by plan (TakesForm plan) d S f (goes_well plan 
 
 pub forms_at_each : {A : Type 0} (plan : Plan) (m : Meaning A) (run : List Event) → IsRunOf plan m run → (n : ℕ) → Forms plan (state_after plan m (take n run))
 forms_at_each {A} plan m run is_run n = each_place plan m (λ (S : State A). Forms plan S) (suited_first plan (TakesForm plan) m)
-    (λ S e known may_come q. apt_deeds_keep plan (λ (U : State A). Forms plan U) (forms_by plan) (deeds plan S e) S (event_fits plan m S e may_come) (event_apt plan m S e known may_come) q)
+    (λ S e known may_come q. all_keep plan (λ (d : Deed) (U : State A). Apt plan d U) (λ (U : State A). Forms plan U) (forms_by plan) (deeds plan S e) S (event_fits plan m S e may_come) (event_apt plan m S e known may_come) q)
     (λ S time q. forms_by plan PassTick S refl tt q) run is_run n

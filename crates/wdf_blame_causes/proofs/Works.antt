@@ -1,5 +1,5 @@
 -- A work item that is queued, or a timer whose tick is reached, is live.
-use Rattle.std.proofs.Common.{◌≡◌, ℕ, Bool, true, false, ◌||◌, List, Option, Some, None, is_some, refl}
+use Rattle.std.proofs.Common.{◌≡◌, ℕ, true, false, List, Option, Some, None, is_some, refl}
 use Rattle.wdf_base.specs.Meaning.{Meaning}
 use Rattle.wdf_base.specs.declared.plan.Plan.{Plan}
 use Rattle.wdf_base.specs.declared.event.Event.{Event}
@@ -13,6 +13,7 @@ use Rattle.wdf_model.specs.rules.Ready.{IsRunOf, is_open_work, state_after}
 use Rattle.wdf_agreements.specs.Agreements.{WorkIsLive}
 use Rattle.wdf_agreements.proofs.Deferring.{work_is_live_at_each}
 use Rattle.wdf_blame.proofs.Endings.{at_the_end}
+use Rattle.wdf_blame.proofs.Works.{third}
 
 work_is_live : {A : Type 0} (plan : Plan) (m : Meaning A) (run : List Event) → IsRunOf plan m run → WorkIsLive plan (state_after plan m run)
 work_is_live {A} plan m run is_run = at_the_end plan m (λ (S : State A). WorkIsLive plan S) run (work_is_live_at_each plan m run is_run)
@@ -20,14 +21,9 @@ work_is_live {A} plan m run is_run = at_the_end plan m (λ (S : State A). WorkIs
 pub item_live : {A : Type 0} (plan : Plan) (m : Meaning A) (run : List Event) → IsRunOf plan m run → (o : ℕ) → is_work_queued (state_after plan m run).work_items o ≡ true → is_live (life_of (state_after plan m run).tree o) ≡ true
 item_live plan m run is_run = (work_is_live plan m run is_run).items
 
-reached : (now : ℕ) (t : Option Timed) → is_reached now t ≡ true → is_some t ≡ true
+pub reached : (now : ℕ) (t : Option Timed) → is_reached now t ≡ true → is_some t ≡ true
 reached now None h = absurd (let z : ⊥ = cc in z)
 reached now (Some t) h = refl
-
-third : (a b c : Bool) → (a || b || c) ≡ true → a ≡ false → b ≡ false → c ≡ true
-third true b c h e f = absurd (let z : ⊥ = cc in z)
-third false true c h e f = absurd (let z : ⊥ = cc in z)
-third false false c h e f = h
 
 pub timer_live : {A : Type 0} (plan : Plan) (m : Meaning A) (run : List Event) → IsRunOf plan m run → (o : ℕ) → is_open_work (state_after plan m run) o ≡ true
     → is_dpc_queued (state_after plan m run).dpcs o ≡ false → is_work_queued (state_after plan m run).work_items o ≡ false → is_live (life_of (state_after plan m run).tree o) ≡ true

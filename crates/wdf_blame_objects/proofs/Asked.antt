@@ -44,11 +44,12 @@ use Rattle.wdf_invariants.proofs.StillFrames.{asked_there, live_there}
 use Rattle.wdf_agreements.proofs.Lists.{inside}
 use Rattle.wdf_blame.proofs.Members.{Has, has_flat, has_range}
 use Rattle.wdf_blame.proofs.Endings.{AtRest, at_rest, may_not}
-use Rattle.wdf_blame.proofs.Needs.{below_cpus, cpu_group, five, free_one, none_first, none_if, object_named, placed_at, proper_start, some_or}
+use Rattle.wdf_blame.proofs.Needs.{below_cpus, cpu_group, free_one, none_first, none_if, object_named, placed_at, some_or}
 use Rattle.wdf_blame_causes.proofs.Presents.{declared_within, has_image, kept_has}
-use Rattle.wdf_blame_whole.proofs.Belonging.{target_found}
+use Rattle.wdf_power_laws.proofs.Belonging.{target_found}
 use Rattle.wdf_blame_whole.proofs.Lines.{line_tells}
 use Rattle.wdf_blame_whole.proofs.Runs.{Known, known_now}
+use Rattle.wdf_blame.proofs.Conjuncts.{five, four}
 use Rattle.wdf_blame_objects.proofs.Runs.{GoesWell, goes_well}
 use Rattle.wdf_blame_objects.proofs.Sendings.{comes_or_waits}
 use Rattle.wdf_blame_objects.proofs.Places.{nothing_there, request_done}
@@ -175,7 +176,7 @@ module _ {A : Type 0} (plan : Plan) (m : Meaning A) (run : List Event) (resolved
       (placed_at plan m S (group.StartsFor left.0 rank.Completion t) (length (the_target S.targets t).sent) f.at e place_low here) in
       let no : may plan m S e ≡ false = may_not plan m S true e rest offered in
       let comes : may plan m S e ≡ true =
-      proper_start (nat_lt left.0 plan.cpus) (is_proper plan S (handle_in plan S t)) (is_proper plan S (handle_in plan S o)) (may_start plan m S left.0 callback.EvtRequestCompletion t (Some (handle_in plan S o)))
+      four (nat_lt left.0 plan.cpus) (is_proper plan S (handle_in plan S t)) (is_proper plan S (handle_in plan S o)) (may_start plan m S left.0 callback.EvtRequestCompletion t (Some (handle_in plan S o)))
       (below_cpus left.0 plan.cpus within) (itself (handle_in plan S t).name) (itself (handle_in plan S o).name)
       (five (declares_in plan S callback.EvtRequestCompletion t) (is_live (life_of S.tree t)) (level_fits S left.0 2) true (is_sent_to t (place_of S.requests o) && is_some (routine_due S.targets o))
       (routine_there t i at live) live left.2 refl (both (is_sent_to t (place_of S.requests o)) (is_some (routine_due S.targets o)) there due)) in

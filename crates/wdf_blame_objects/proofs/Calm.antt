@@ -42,7 +42,7 @@ use Rattle.wdf_model.specs.rules.Script.{intent_of, statement_at}
 use Rattle.wdf_model.specs.rules.Starts.{end_of_step, new_frame, next_number, release_if_any, stage_deeds, start_deeds, start_effect, take_if_any}
 use Rattle.wdf_model.specs.rules.Steps.{answered, by_top, deeds, did_deeds, goes_on, may, spending, stepped, view_of, waiting, waiting_deeds, woke_deeds}
 use Rattle.wdf_model.specs.rules.Posts.{post_deeds}
-use Rattle.wdf_model.proofs.Tests.{both, both_left, both_right, either_false}
+use Rattle.wdf_model.proofs.Tests.{both, both_left, both_right, either_false, itself}
 use Rattle.wdf_model.proofs.Maps.{entry_put_other, entry_put_same}
 use Rattle.wdf_model.proofs.Counts.{equal, not_equal, one_or_two}
 use Rattle.wdf_model.proofs.Fits.{first_kind, wrong_kind_of_first}
@@ -259,21 +259,18 @@ answered_calm {A} plan S f ds a acts none k =
 
 -- ---- calls
 
-acts_itself : (f : ℕ) → (f == f) ≡ true
-acts_itself f = equal f f refl
-
 second_acts : (f : ℕ) (k : CallKind) (n : ℕ) (a b x : Arg) → all_act f (second_deeds f (record { kind = k; count = n; a = a; b = b; c = x })) ≡ true
 second_acts f call.WdfInterruptAcquireLock n a b x = refl
 second_acts f _ n a b x = refl
 
 module _ {A : Type 0} (plan : Plan) (S : State A) (cpu f : ℕ) where
   outcome_acts : (k : CallKind) (n : ℕ) (a b x : Arg) → all_act f (outcome plan S cpu f (record { kind = k; count = n; a = a; b = b; c = x })).deeds ≡ true
-  outcome_acts call.WdfSpinLockAcquire n a b x = both (f == f) true (acts_itself f) refl
-  outcome_acts call.WdfWaitLockAcquire n a b x = both (f == f) true (acts_itself f) refl
-  outcome_acts call.WdfInterruptAcquireLock n a b x = both (f == f) true (acts_itself f) refl
-  outcome_acts call.WdfSpinLockRelease n a b x = both (f == f) true (acts_itself f) refl
-  outcome_acts call.WdfWaitLockRelease n a b x = both (f == f) true (acts_itself f) refl
-  outcome_acts call.WdfInterruptReleaseLock n a b x = both (f == f) true (acts_itself f) refl
+  outcome_acts call.WdfSpinLockAcquire n a b x = both (f == f) true (itself f) refl
+  outcome_acts call.WdfWaitLockAcquire n a b x = both (f == f) true (itself f) refl
+  outcome_acts call.WdfInterruptAcquireLock n a b x = both (f == f) true (itself f) refl
+  outcome_acts call.WdfSpinLockRelease n a b x = both (f == f) true (itself f) refl
+  outcome_acts call.WdfWaitLockRelease n a b x = both (f == f) true (itself f) refl
+  outcome_acts call.WdfInterruptReleaseLock n a b x = both (f == f) true (itself f) refl
   outcome_acts k n a b x = all_quiet_act f (outcome plan S cpu f (record { kind = k; count = n; a = a; b = b; c = x })).deeds (outcome_none plan S cpu f k n a b x refl)
 
   none_above : (n : ℕ) → nat_lt 0 n ≡ false → n ≡ 0
@@ -302,7 +299,7 @@ module _ {A : Type 0} (plan : Plan) (S : State A) (cpu f : ℕ) where
       let l : ℕ = (running C f).level.0 in
       let rest : List ℕ = levels_of C f in
       let same : max l v ≡ l = omega arith in
-      rw (acts_itself f) (ap (λ m. fold max m rest) same ∙ h)
+      rw (itself f) (ap (λ m. fold max m rest) same ∙ h)
 
   -- its first part leaves the frame at level 0
   waits_level : (k : CallKind) (n : ℕ) (a b x : Arg) → is_spin_call k ≡ false → Clean plan S cpu f (record { kind = k; count = n; a = a; b = b; c = x }) → is_met_then plan S (record { kind = k; count = n; a = a; b = b; c = x }) ≡ false → frame_level S.cpus f ≡ 0
@@ -360,7 +357,7 @@ starts_calm {A} plan S cpu c o r k =
     let ds : List Deed = start_effect plan S cpu c o.id.0 r in
     let es : List Deed = PushFrame (cpu_of cpu) (frame_id f) frame (irql_of level) ∷ take_if_any f l in
     let U : State A = do_deeds plan ds S in
-    let acts : all_act f (ds ++ es) ≡ true = all_act_after f ds es (all_quiet_act f ds (start_effect_none plan S cpu c o.id.0 r)) (both (f == f) (all_act f (take_if_any f l)) (acts_itself f) (taking_acts f l)) in
+    let acts : all_act f (ds ++ es) ≡ true = all_act_after f ds es (all_quiet_act f ds (start_effect_none plan S cpu c o.id.0 r)) (both (f == f) (all_act f (take_if_any f l)) (itself f) (taking_acts f l)) in
     calm_idle S.cpus (do_deeds plan (ds ++ es) S).cpus f (others_stay plan f (ds ++ es) S acts)
     (ap (λ (V : State A). (frame_of V.cpus f).pending) (in_turn plan ds es S) ∙ pushed U f frame level l) k
   where

@@ -18,7 +18,7 @@ use Rattle.wdf_model.specs.State.{State}
 use Rattle.wdf_model.specs.Ids.{object_id}
 use Rattle.wdf_model.specs.declared.deed.Deed.{Deed}
 use Rattle.wdf_model.specs.declared.deed.Deed.TheVariants.{Arrive, AskDeletion, CompleteRequest}
-use Rattle.wdf_model.specs.rules.Deeds.{arrive_at, ask_object, do_deed, give_up}
+use Rattle.wdf_model.specs.rules.Deeds.{ask_object, do_deed, give_up}
 use Rattle.wdf_model.specs.laws.Fits.{fits}
 use Rattle.wdf_model.proofs.Tests.{both_left, itself}
 use Rattle.wdf_model.proofs.Maps.{entry_before, entry_last, entry_put_other, entry_put_same}
@@ -29,10 +29,11 @@ use Rattle.wdf_invariants.proofs.HeldMoves.{Placed}
 use Rattle.wdf_agreements.proofs.Lists.{inside}
 use Rattle.wdf_agreements.proofs.Sound.{Sound}
 use Rattle.wdf_agreements.proofs.Stays.{asks_all, gives_up}
-use Rattle.wdf_family_laws.proofs.Stays.{arrived}
 use Rattle.wdf_blame_whole.proofs.Standing.{Comes, LivesStay, asks_none, lives_by}
 use Rattle.wdf_agreements.proofs.Subtrees.{live_unasked, parent_in, unasked_stays}
-use Rattle.wdf_blame_objects.proofs.Arrivals.{arrival_in, device_in, devices_stay, parents_stay}
+use Rattle.wdf_agreements.proofs.ArrivedStay.{arrival_in}
+use Rattle.wdf_agreements.proofs.Readers.{arrived_requests, arrived_tree, requests_of, tree_of}
+use Rattle.wdf_blame_objects.proofs.Arrivals.{device_in, devices_stay, parents_stay}
 
 pub record EndsWell {A : Type 0} (S : State A) : Type 0 where
   -- an object of the kind Request is a child of its device, and younger
@@ -78,7 +79,7 @@ module _ {A : Type 0} (plan : Plan) (d : Deed) (S : State A) (none : is_arrival 
       elim (devices_stay plan d S none x) [
         | inl e ↦ q.1 ∙ k.owner x q.0 ∙ sym e
         | inr zero_ ↦ absurd (
-            let came : nat_lt 0 (arrival_in U.requests x) ≡ true = (placed_then plan d S f p).kinds x h in
+            let arrived_requests : nat_lt 0 (arrival_in U.requests x) ≡ true = (placed_then plan d S f p).kinds x h in
             let off : nat_lt 0 (arrival_in U.requests x) ≡ false = ap (nat_lt 0) zero_ in
             let z : ⊥ = cc in z)
       ]
@@ -141,22 +142,16 @@ asks {A} plan S o f c p k = with_ended plan (AskDeletion (object_id o)) S refl f
       | inr was ↦ done_stays plan (AskDeletion (object_id o)) S f p x (request_within S.tree x q.0) (k.ended x q.0 was (live_was S S o refl k (parent_of S.tree x) above_here))
     ])
 
-abbrev tree_in : {A : Type 0} → State A → Tree
-tree_in S = S.tree
-
-abbrev requests_in : {A : Type 0} → State A → Requests
-requests_in S = S.requests
-
 completes : {A : Type 0} (plan : Plan) (S : State A) (r : ℕ) → fits plan (CompleteRequest (object_id r)) S ≡ true → Placed S → EndsWell S → EndsWell (do_deed plan (CompleteRequest (object_id r)) S)
 completes {A} plan S r f p k =
     let W : State A = record (give_up S r) { requests = requests.complete S.requests r } in
-    let same : W.tree ≡ S.tree = gives_up tree_in (λ S Q R P. refl) S r in
+    let same : W.tree ≡ S.tree = gives_up tree_of (λ S Q R P. refl) S r in
     with_ended plan (CompleteRequest (object_id r)) S refl f p k (λ x h off above.
     let q = parents_stay plan (CompleteRequest (object_id r)) S refl f x h in
     let above_here = subst (λ y. is_live (life_of (do_deed plan (CompleteRequest (object_id r)) S).tree y) ≡ true) q.1 above in
     elim (one_or_two x r) [
       | inl e ↦
-          let there : (do_deed plan (CompleteRequest (object_id r)) S).requests ≡ requests.complete S.requests r = asks_all requests_in (λ S T D W U. refl) (subtree (give_up S r).tree r) W in
+          let there : (do_deed plan (CompleteRequest (object_id r)) S).requests ≡ requests.complete S.requests r = asks_all requests_of (λ S T D W U. refl) (subtree (give_up S r).tree r) W in
           let done : is_done (place_of (requests.complete S.requests r) r) ≡ true = ap (λ (y : Request). is_done y.place) (entry_put_same no_request S.requests.all r (moved place.Done (request_of S.requests r))) in
           subst (λ y. is_done (place_of (do_deed plan (CompleteRequest (object_id r)) S).requests y) ≡ true) (sym e) (ap (λ (R : Requests). is_done (place_of R r)) there ∙ done)
       | inr n ↦ elim (cases_Bool (is_live (life_of S.tree x))) [
@@ -167,10 +162,6 @@ completes {A} plan S r f p k =
 
 -- ---- a request arrives
 
-came : {A : Type 0} (S : State A) (device : ℕ) (info : RequestInfo) (at : Place) → (arrive_at S device info at).requests ≡ requests.arrive S.requests (next_id S.tree) at info
-came S device info (place.Queued q) = refl
-came S device info _ = refl
-
 module _ {A : Type 0} (plan : Plan) (S : State A) (device : ℕ) (info : RequestInfo) (at : Place) (f : fits plan (Arrive (object_id device) info at) S ≡ true) (s : Sound plan (Arrive (object_id device) info at) S) (p : Placed S) (k : EndsWell S) where
   abbrev Then : State A
   Then = do_deed plan (Arrive (object_id device) info at) S
@@ -179,7 +170,7 @@ module _ {A : Type 0} (plan : Plan) (S : State A) (device : ℕ) (info : Request
   new = next_id S.tree
 
   tree_then : Then.tree ≡ tree.create S.tree kind.Request 0 device
-  tree_then = arrived S device info at
+  tree_then = arrived_tree S device info at
 
   here : node_of Then.tree (next_id S.tree) ≡ new_node kind.Request 0 device
   here = ap (λ T. node_of T (next_id S.tree)) tree_then ∙ entry_last gone S.tree.nodes (new_node kind.Request 0 device)
@@ -194,10 +185,10 @@ module _ {A : Type 0} (plan : Plan) (S : State A) (device : ℕ) (info : Request
   device_low = inside gone (λ n. is_live n.life) S.tree.nodes device refl device_live
 
   device_here : device_in Then.requests (next_id S.tree) ≡ device
-  device_here = ap (λ (R : Requests). device_in R (next_id S.tree)) (came S device info at) ∙ ap (λ (y : Request). y.info.device.0) (entry_put_same no_request S.requests.all (next_id S.tree) (record { place = at; info = info })) ∙ s.0
+  device_here = ap (λ (R : Requests). device_in R (next_id S.tree)) (arrived_requests S device info at) ∙ ap (λ (y : Request). y.info.device.0) (entry_put_same no_request S.requests.all (next_id S.tree) (record { place = at; info = info })) ∙ s.0
 
   device_there : (x : ℕ) → x ≢ next_id S.tree → device_in Then.requests x ≡ device_in S.requests x
-  device_there x n = ap (λ (R : Requests). device_in R x) (came S device info at) ∙ ap (λ (y : Request). y.info.device.0) (entry_put_other no_request S.requests.all (next_id S.tree) x (record { place = at; info = info }) n)
+  device_there x n = ap (λ (R : Requests). device_in R x) (arrived_requests S device info at) ∙ ap (λ (y : Request). y.info.device.0) (entry_put_other no_request S.requests.all (next_id S.tree) x (record { place = at; info = info }) n)
 
   was : (x : ℕ) → x ≢ next_id S.tree → is_request Then.tree x ≡ true → is_request S.tree x ≡ true
   was x n h = sym (ap (λ (m : Node). same_kind m.kind kind.Request) (there x n)) ∙ h

@@ -10,7 +10,7 @@ use Rattle.wdf_model.specs.declared.entries.Node.{Node}
 use Rattle.wdf_model.specs.declared.entries.Request.{Request}
 use Rattle.wdf_model.specs.Tables.{contains, flag}
 use Rattle.wdf_model.specs.Plans.{target_of}
-use Rattle.wdf_model.specs.parts.Tree.{Tree, is_live, kind_of, life_of, node_of, subtree}
+use Rattle.wdf_model.specs.parts.Tree.{is_live, kind_of, life_of, node_of, subtree}
 use Rattle.wdf_model.specs.parts.Requests.{is_cancelled, is_owned, is_sent_to, no_request, place_of}
 use Rattle.wdf_model.specs.parts.Requests as requests
 use Rattle.wdf_model.specs.parts.Targets.{Target, Targets, new_sending, pending, sending_in_order, takes_more, target_done, the_target, without_sending}
@@ -31,6 +31,7 @@ use Rattle.wdf_agreements.proofs.Queued.{any_entry}
 use Rattle.wdf_agreements.proofs.Stays.{gives_up}
 use Rattle.wdf_blame_whole.proofs.Standing.{Comes, Removable, lives_by}
 use Rattle.wdf_agreements.proofs.Subtrees.{unasked_stays}
+use Rattle.wdf_agreements.proofs.Readers.{tree_of}
 use Rattle.wdf_blame_objects.proofs.Sendings.{AllFair, all_targets, one_target, targets_stay}
 
 -- a target of the plan that is live
@@ -140,9 +141,6 @@ module _ {A : Type 0} (plan : Plan) (S W : State A) (o : ℕ) (same : W.tree ≡
             ap (λ (m : Node). is_live m.life) stays ∙ live
       ]
 
-abbrev tree_in : {A : Type 0} → State A → Tree
-tree_in S = S.tree
-
 -- ---- each deed
 
 pub sent_by : {A : Type 0} (plan : Plan) (d : Deed) (S : State A) → fits plan d S ≡ true → Comes plan d S → Placed S → AllFair plan S.targets → SentToLive plan S → SentToLive plan (do_deed plan d S)
@@ -154,7 +152,7 @@ sent_by plan (CompleteRequest r) S f c p fair k =
     let before = sent_before plan (CompleteRequest r) S refl in
     record {
       targets = λ t x h. k.targets t x (before t x h);
-      lives = λ t x h. still_live plan S (record (give_up S r.0) { requests = requests.complete S.requests r.0 }) r.0 (gives_up tree_in (λ S Q R P. refl) S r.0) p c k t x (before t x h);
+      lives = λ t x h. still_live plan S (record (give_up S r.0) { requests = requests.complete S.requests r.0 }) r.0 (gives_up tree_of (λ S Q R P. refl) S r.0) p c k t x (before t x h);
     }
 sent_by plan d S f c p fair k =
     let before = sent_before plan d S refl in

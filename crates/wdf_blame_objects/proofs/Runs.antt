@@ -23,9 +23,10 @@ use Rattle.wdf_invariants.proofs.HeldMoves.{Placed}
 use Rattle.wdf_agreements.proofs.Keeping.{at_the_end, each_place_by}
 use Rattle.wdf_agreements.proofs.Sound.{AllSound}
 use Rattle.wdf_agreements.proofs.SoundRuns.{all_sound}
-use Rattle.wdf_blame_whole.proofs.Standing.{AllComes, Stands}
+use Rattle.wdf_blame_whole.proofs.Standing.{AllComes}
 use Rattle.wdf_blame_whole.proofs.Coming.{event_comes}
-use Rattle.wdf_blame_whole.proofs.Runs.{Known, known_now, stands_now}
+use Rattle.wdf_blame_whole.proofs.Runs.{known_now}
+use Rattle.wdf_blame_whole.proofs.Worked.{KnownToo, known_too}
 use Rattle.wdf_blame_objects.proofs.Sendings.{AllFair, fair_by}
 use Rattle.wdf_blame_objects.proofs.Ended.{EndsWell, ends_by, placed_then}
 use Rattle.wdf_blame_objects.proofs.LiveTargets.{SentToLive, sent_by}
@@ -106,13 +107,6 @@ deeds_go_well {A} plan (d ∷ ds) S f s c p k =
     let fit : fits plan d S ≡ true = both_left (fits plan d S) (all_fit plan ds U) f in
     deeds_go_well plan ds U (both_right (fits plan d S) (all_fit plan ds U) f) s.1 c.1 (placed_then plan d S fit p)
     (record { ends = ends_by plan d S fit s.0 c.0 p k.ends; fair = fair_by plan d S k.fair; sent = sent_by plan d S fit c.0 p k.fair k.sent })
-
-record KnownToo {A : Type 0} (plan : Plan) (S : State A) : Type 0 where
-  known : Known plan S
-  stands : Stands plan S
-
-known_too : {A : Type 0} (plan : Plan) (m : Meaning A) → IsResolved plan → (run : List Event) → IsRunOf plan m run → KnownToo plan (state_after plan m run)
-known_too plan m resolved run is_run = record { known = known_now plan m resolved run is_run; stands = stands_now plan m run resolved is_run }
 
 goes_well_at_each : {A : Type 0} (plan : Plan) (m : Meaning A) (run : List Event) → IsResolved plan → IsRunOf plan m run → (n : ℕ) → GoesWell plan (state_after plan m (take n run))
 goes_well_at_each {A} plan m run resolved is_run n = each_place_by plan m (λ (S : State A). KnownToo plan S) (λ (S : State A). GoesWell plan S) (known_too plan m resolved) (goes_well_opens plan m resolved)

@@ -1,5 +1,5 @@
 -- In a stuck run each processor that has a frame spins.
-use Rattle.std.proofs.Common.{◌≡◌, ℕ, ◌==◌, ◌<◌, nat_le, Bool, true, false, ◌&&◌, List, [], ◌∷◌, inl, inr, Option, Some, None, option_map, refl, sym, ap, subst, arith, ◌∙◌}
+use Rattle.std.proofs.Common.{◌≡◌, ℕ, ◌==◌, ◌<◌, nat_le, Bool, true, false, List, [], ◌∷◌, inl, inr, Option, Some, None, option_map, refl, sym, ap, subst, arith, ◌∙◌}
 use Rattle.std.proofs.lemmas.Bool.{cases_Bool}
 use Rattle.std.proofs.lemmas.Bool.Decides.{nat_tests}
 use Rattle.wdf_base.specs.Meaning.{Meaning}
@@ -16,20 +16,16 @@ use Rattle.wdf_model.specs.rules.Steps.{may, waits_on}
 use Rattle.wdf_base.specs.declared.frame.Pending.{Pending}
 use Rattle.wdf_model.specs.rules.Calls.{is_met}
 use Rattle.wdf_model.proofs.Counts.{equal}
-use Rattle.wdf_model.proofs.Tests.{both, itself, not_true}
+use Rattle.wdf_model.proofs.Tests.{itself, not_true}
 use Rattle.wdf_blame.specs.Causes.{is_taken}
 use Rattle.wdf_blame.proofs.Members.{Has}
 use Rattle.wdf_blame.proofs.Endings.{AtRest, at_rest, may_not}
 use Rattle.wdf_blame.proofs.Needs.{cpu_group, placed_at}
 use Rattle.wdf_blame.proofs.Tops.{top_waits}
 use Rattle.wdf_blame_objects.specs.Spinning.{Spins, is_spin_call}
+use Rattle.wdf_blame.proofs.Conjuncts.{three}
+use Rattle.wdf_blame_causes.proofs.Presents.{same_there}
 use Rattle.wdf_blame_objects.proofs.Calm.{Calm, calm_now}
-
-same_top : (o : Option ℕ) (f : ℕ) → o ≡ Some f → same_id o f ≡ true
-same_top o f e = subst (λ x. same_id x f ≡ true) (sym e) (itself f)
-
-three : (a b c : Bool) → a ≡ true → b ≡ true → c ≡ true → (a && b && c) ≡ true
-three a b c h k l = both (a && b) c (both a b h k) l
 
 module _ {A : Type 0} (plan : Plan) (m : Meaning A) (S : State A) (rest : AtRest plan m S true) (calm : Calm S.cpus) where
   -- a frame that waits at level 0 leaves its processor
@@ -38,7 +34,7 @@ module _ {A : Type 0} (plan : Plan) (m : Meaning A) (S : State A) (rest : AtRest
       let e : Event = parks cpu f in
       let offered : Has e (candidates plan m S) = cpu_group plan m S cpu (group.Parks cpu) e low (inr (inl refl)) (placed_at plan m S (group.Parks cpu) 1 0 e (omega arith) (ap (option_map (parks cpu)) at)) in
       let no : may plan m S e ≡ false = may_not plan m S true e rest offered in
-      let comes : may plan m S e ≡ true = three (same_id (top S.cpus cpu) f) (irql S.cpus cpu == 0) (waits_on S (frame_of S.cpus f).pending) (same_top (top S.cpus cpu) f at) free waits in
+      let comes : may plan m S e ≡ true = three (same_id (top S.cpus cpu) f) (irql S.cpus cpu == 0) (waits_on S (frame_of S.cpus f).pending) (same_there (top S.cpus cpu) f at) free waits in
       let z : ⊥ = cc in z
 
   spins_at : (cpu f : ℕ) (o : Option Pending) → cpu < plan.cpus → top S.cpus cpu ≡ Some f → (frame_of S.cpus f).pending ≡ o → waits_on S o ≡ true → Spins S cpu

@@ -45,7 +45,7 @@ use Rattle.wdf_invariants.proofs.StillFrames.{live_there}
 use Rattle.wdf_agreements.proofs.Lists.{inside}
 use Rattle.wdf_blame.proofs.Members.{Has, has_flat, has_range}
 use Rattle.wdf_blame.proofs.Endings.{AtRest, may_not}
-use Rattle.wdf_blame.proofs.Needs.{below_cpus, cpu_group, five, free_one, front_none, no_count, none_first, none_if, none_least, placed_at, proper_start}
+use Rattle.wdf_blame.proofs.Needs.{below_cpus, cpu_group, free_one, front_none, no_count, none_first, none_if, none_least, placed_at}
 use Rattle.wdf_blame_causes.specs.Starts.{step_may_run}
 use Rattle.wdf_blame_causes.proofs.Dpcs.{free_by_none}
 use Rattle.wdf_blame.proofs.Stages.{none_of, stage_comes}
@@ -53,6 +53,7 @@ use Rattle.wdf_blame_causes.proofs.Steps.{callback_comes, none_gathered}
 use Rattle.wdf_blame_causes.proofs.Presents.{declared_within, has_image, kept_has, queue_there}
 use Rattle.wdf_queue_power_laws.proofs.Resuming.{device_noted, noted}
 use Rattle.wdf_blame_whole.specs.Standing.{is_live_device, is_part, is_part_of}
+use Rattle.wdf_blame.proofs.Conjuncts.{five, four}
 use Rattle.wdf_blame_whole.proofs.Standing.{Stands}
 use Rattle.wdf_blame_whole.proofs.Coming.{Facts}
 use Rattle.wdf_blame_whole.proofs.Queues.{queue_is}
@@ -138,7 +139,7 @@ module _ {A : Type 0} (plan : Plan) (m : Meaning A) (S : State A) (rest : AtRest
       (rw has (placed_at plan m S (group.StartsFor left.0 rank.Resume q) (length S.requests.all) r e low refl)) in
       let no_ : may plan m S e ≡ false = may_not plan m S true e rest offered in
       let comes : may plan m S e ≡ true =
-      proper_start (nat_lt left.0 plan.cpus) (is_proper plan S (handle_in plan S q)) (is_proper plan S (handle_in plan S r)) (may_start plan m S left.0 callback.EvtIoResume q (Some (handle_in plan S r)))
+      four (nat_lt left.0 plan.cpus) (is_proper plan S (handle_in plan S q)) (is_proper plan S (handle_in plan S r)) (may_start plan m S left.0 callback.EvtIoResume q (Some (handle_in plan S r)))
       (below_cpus left.0 plan.cpus within) (itself (handle_in plan S q).name) (itself (handle_in plan S r).name)
       (five (declares_in plan S callback.EvtIoResume q) (is_live (life_of S.tree q)) (level_fits S left.0 (queue_level plan q)) (is_free_if_any S.locks lock) (resume_due S.power r && is_held_from S q r)
       runs live left.2 free (both (resume_due S.power r) (is_held_from S q r) due held_)) in

@@ -86,11 +86,10 @@ use Rattle.wdf_agreements.proofs.SoundRuns.{KnownAll}
 use Rattle.wdf_laws.specs.Family.{declared_parent}
 use Rattle.wdf_family_laws.proofs.Families.{declared_within}
 use Rattle.wdf_power_laws.proofs.Frames.{Runs, StepFrames, is_step}
-use Rattle.wdf_power_laws.proofs.Isrs.{as_found}
+use Rattle.wdf_power_laws.proofs.Belonging.{device_of_target, interrupt_found, target_found}
 use Rattle.wdf_power_laws.proofs.Happens.{found_pass, not_running}
 use Rattle.wdf_blame_whole.specs.Standing.{IsOver, is_live_device, is_part, is_part_of}
 use Rattle.wdf_agreements.proofs.Subtrees.{first_out, parent_in}
-use Rattle.wdf_blame_whole.proofs.Belonging.{device_of_target, target_found}
 use Rattle.wdf_blame_whole.proofs.Lasting.{Lasts, last_step}
 use Rattle.wdf_blame_whole.proofs.Standing.{AllComes, Removable, Stands, defers, ready_in}
 use Rattle.wdf_blame_whole.proofs.Plains.{comes_after, event_plain, outcome_plain, plain_comes, second_plain}
@@ -343,7 +342,7 @@ module _ {A : Type 0} (plan : Plan) (S : State A) (resolved : IsResolved plan) (
   no_dpc : (o : ℕ) (x : Option InterruptInfo) → interrupt_of plan o ≡ x → is_live (life_of S.tree o) ≡ true → same_kind (kind_of S.tree o) kind.Dpc ≡ true → is_some x ≡ true → ⊥
   no_dpc o None e live is h = let z : ⊥ = cc in z
   no_dpc o (Some i) e live is h =
-      let d : declared_of plan o ≡ Some (declared.Interrupt i) = as_found plan (declared_of plan o) i e in
+      let d : declared_of plan o ≡ Some (declared.Interrupt i) = interrupt_found (declared_of plan o) i e in
       let k_ : kind_of S.tree o ≡ kind.Interrupt = (facts.declared o (declared.Interrupt i) d (live_there (life_of S.tree o) live)).1 in
       let off : same_kind (kind_of S.tree o) kind.Dpc ≡ false = ap (λ y. same_kind y kind.Dpc) k_ in
       let z : ⊥ = cc in z

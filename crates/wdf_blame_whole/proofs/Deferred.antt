@@ -1,5 +1,5 @@
 -- The first DPC in each processor's list is of a live object that has the function; so the line of queued work names a cause.
-use Rattle.std.proofs.Common.{◌≡◌, ℕ, ◌==◌, Bool, true, false, ◌||◌, List, [], ◌∷◌, inl, inr, Option, Some, None, is_some, refl, ap, ◌∙◌}
+use Rattle.std.proofs.Common.{◌≡◌, ℕ, ◌==◌, Bool, true, false, List, [], ◌∷◌, inl, inr, Option, Some, None, is_some, refl, ap, ◌∙◌}
 use Rattle.std.proofs.lemmas.Bool.{or_cases}
 use Rattle.wdf_base.specs.Meaning.{Meaning}
 use Rattle.wdf_base.specs.Plan.{declared_of}
@@ -15,13 +15,12 @@ use Rattle.wdf_base.specs.declared.event.Event.{Event}
 use Rattle.wdf_base.specs.declared.event.Ending.TheVariants as ending
 use Rattle.wdf_base.specs.declared.wait.Cause.{Cause}
 use Rattle.wdf_base.specs.declared.wait.OpenThing.TheVariants as thing
-use Rattle.wdf_model.specs.declared.entries.Timed.{Timed}
 use Rattle.wdf_model.specs.Tables.{contains, first_of_list}
 use Rattle.wdf_model.specs.Plans.{declares, interrupt_of, script_on}
 use Rattle.wdf_model.specs.parts.Tree.{is_live, kind_of, life_of, made_as, node_of}
 use Rattle.wdf_model.specs.parts.Deferred.Dpcs.{dpc_head, dpcs_of, is_dpc_queued}
 use Rattle.wdf_model.specs.parts.Deferred.WorkItems.{is_work_queued}
-use Rattle.wdf_model.specs.parts.Deferred.Timers.{is_reached, is_timer_queued, timed_of, timer_due}
+use Rattle.wdf_model.specs.parts.Deferred.Timers.{is_timer_queued, timed_of, timer_due}
 use Rattle.wdf_model.specs.State.{State, declared_in, declares_in}
 use Rattle.wdf_model.specs.rules.Groups.{dpc_function}
 use Rattle.wdf_model.specs.rules.Ready.{IsRunOf, ending_of, is_open_work, state_after}
@@ -31,38 +30,26 @@ use Rattle.wdf_model.proofs.Sames.{kind_decides}
 use Rattle.wdf_model.proofs.Tests.{both, both_left, both_right, first, itself}
 use Rattle.wdf_invariants.proofs.StillFrames.{live_there}
 use Rattle.wdf_agreements.proofs.Queued.{any_entry}
-use Rattle.wdf_power_laws.proofs.Isrs.{as_found}
+use Rattle.wdf_power_laws.proofs.Belonging.{interrupt_found}
 use Rattle.wdf_blame.proofs.Stages.{line_named}
-use Rattle.wdf_blame.proofs.Works.{item_runs, timer_runs}
+use Rattle.wdf_blame.proofs.Works.{item_runs, third, timer_runs}
 use Rattle.wdf_blame_causes.specs.Starts.{first_may_run, has_callback}
 use Rattle.wdf_blame_causes.specs.Named.{DpcsMayRun}
 use Rattle.wdf_blame_causes.proofs.Lines.{line_names}
-use Rattle.wdf_blame_causes.proofs.Works.{item_live, timer_live}
+use Rattle.wdf_blame_causes.proofs.Works.{item_live, reached, timer_live}
 use Rattle.wdf_blame_whole.specs.Owners.{DpcsRun}
+use Rattle.wdf_agreements.proofs.Deferring.{work_of}
+use Rattle.wdf_blame_causes.proofs.Presents.{there_is}
 use Rattle.wdf_blame_whole.proofs.Standing.{defers, ready_in}
 use Rattle.wdf_blame_whole.proofs.Lines.{line_tells}
 use Rattle.wdf_blame_whole.proofs.Quieted.{interrupt_live}
 use Rattle.wdf_blame_whole.proofs.Runs.{Known, known_now}
 use Rattle.wdf_blame_whole.proofs.Worked.{ready_has, work_may_run, works_now}
-use Rattle.wdf_blame_whole.proofs.Works.{WorkKept, work_of}
+use Rattle.wdf_blame_whole.proofs.Works.{WorkKept}
 
 head_in : (o : ℕ) (xs : List ℕ) → first_of_list xs ≡ Some o → contains o xs ≡ true
 head_in o [] h = absurd (let z : ⊥ = cc in z)
 head_in o (x ∷ xs) h = let same : x ≡ o = cc in first (x == o) (contains o xs) (ap (λ y. y == o) same ∙ itself o)
-
-some_is : {T : Type 0} (x : Option T) → is_some x ≡ true → (y : T) × (x ≡ Some y)
-some_is None h = absurd (let z : ⊥ = cc in z)
-some_is (Some y) h = (y, refl)
-
--- a timer whose tick is reached is queued
-reached : (now : ℕ) (t : Option Timed) → is_reached now t ≡ true → is_some t ≡ true
-reached now None h = absurd (let z : ⊥ = cc in z)
-reached now (Some t) h = refl
-
-third : (a b c : Bool) → (a || b || c) ≡ true → a ≡ false → b ≡ false → c ≡ true
-third true b c h e f = absurd (let z : ⊥ = cc in z)
-third false true c h e f = absurd (let z : ⊥ = cc in z)
-third false false c h e f = h
 
 reached_queued : {A : Type 0} (S : State A) (o : ℕ) → is_open_work S o ≡ true → is_dpc_queued S.dpcs o ≡ false → is_work_queued S.work_items o ≡ false → is_timer_queued S.timers o ≡ true
 reached_queued S o h off idle = reached S.clock (timed_of S.timers o) (third (is_dpc_queued S.dpcs o) (is_work_queued S.work_items o) (timer_due S.timers o S.clock) h off idle)
@@ -83,7 +70,7 @@ module _ {A : Type 0} (plan : Plan) (m : Meaning A) (run : List Event) (resolved
   interrupt_runs o x at has queued =
       let n : Known plan S = known_now plan m resolved run is_run in
       let live : is_live (life_of S.tree o) ≡ true = interrupt_live plan m run resolved is_run o x at queued in
-      let same : kind_of S.tree o ≡ kind.Interrupt = (n.facts.declared o (declared.Interrupt x) (as_found plan (declared_of plan o) x at) (live_there (life_of S.tree o) live)).1 in
+      let same : kind_of S.tree o ≡ kind.Interrupt = (n.facts.declared o (declared.Interrupt x) (interrupt_found (declared_of plan o) x at) (live_there (life_of S.tree o) live)).1 in
       let told : declared_in plan S o ≡ declared_of plan o = ap (made_as plan (node_of S.tree o) o) same in
       ap (λ k. has_callback plan S (dpc_function k) o) same
       ∙ both (is_live (life_of S.tree o)) (declares_in plan S callback.EvtInterruptDpc o) live (ap (λ y. is_some (script_on plan callback.EvtInterruptDpc y)) told ∙ has)
@@ -92,7 +79,7 @@ module _ {A : Type 0} (plan : Plan) (m : Meaning A) (run : List Event) (resolved
   queued_runs o queued = elim (or_cases (ready_in kind.Dpc S.tree o) (defers plan o) ((works_now plan m run resolved is_run).dpcs o queued)) [
     | inl e ↦ object_runs o e
     | inr e ↦
-        let x = some_is (interrupt_of plan o) (both_left (is_some (interrupt_of plan o)) (declares plan callback.EvtInterruptDpc o) e) in
+        let x = there_is (interrupt_of plan o) (both_left (is_some (interrupt_of plan o)) (declares plan callback.EvtInterruptDpc o) e) in
         interrupt_runs o x.0 x.1 (both_right (is_some (interrupt_of plan o)) (declares plan callback.EvtInterruptDpc o) e) queued
   ]
 

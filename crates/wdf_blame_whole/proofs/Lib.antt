@@ -1,7 +1,6 @@
 pub mod Lasting
 pub mod Opened
 pub mod Standing
-pub mod Belonging
 pub mod Plains
 pub mod Coming
 pub mod Runs

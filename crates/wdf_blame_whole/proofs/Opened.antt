@@ -16,7 +16,7 @@ use Rattle.wdf_model.specs.Plans.{managed_queues, queues_of}
 use Rattle.wdf_model.specs.parts.Tree.{kind_of, nearest_device, next_id, subtree}
 use Rattle.wdf_model.specs.parts.Queues.{front, waiting_in}
 use Rattle.wdf_model.specs.parts.Control as control
-use Rattle.wdf_model.specs.parts.Requests.{Requests, cancelled, closed_at, forgotten, has_arrived, is_closing, is_done, is_in, is_marked, is_over, is_owned, is_queued_in, is_returning_to, is_sent, made_info, marked, moved, no_request, place_of, request_of, unmarked, with_mark, with_request}
+use Rattle.wdf_model.specs.parts.Requests.{Requests, cancelled, closed_at, forgotten, has_arrived, is_done, is_in, is_marked, is_over, is_owned, is_queued_in, is_returning_to, is_sent, made_info, marked, moved, no_request, place_of, request_of, unmarked, with_mark, with_request}
 use Rattle.wdf_model.specs.parts.Requests as requests
 use Rattle.wdf_model.specs.parts.Targets.{is_forgotten, is_undone, routine_due}
 use Rattle.wdf_model.specs.State.{State, withdrawn_place}
@@ -34,6 +34,9 @@ use Rattle.wdf_agreements.proofs.Sound.{Sound}
 use Rattle.wdf_agreements.proofs.Stays.{asks_all, given, given_if}
 use Rattle.wdf_model.proofs.KeptByDeeds.{owned_undone}
 use Rattle.wdf_room.proofs.DoableStarts.{queued_undone}
+use Rattle.wdf_agreements.proofs.Readers.{requests_of}
+use Rattle.wdf_agreements.proofs.Places.{returning_undone, sent_undone}
+use Rattle.wdf_agreements.proofs.FromQueues.{waits_there}
 
 -- ---- the property
 
@@ -50,18 +53,6 @@ Opened plan L R = (r : ℕ) → IsOpened plan L r (request_of R r)
 
 -- ---- where a request is that isn't done
 
-returning_undone : (q : ℕ) (p : Place) → is_returning_to q p ≡ true → is_done p ≡ false
-returning_undone q place.Done h = absurd (let z : ⊥ = cc in z)
-returning_undone q _ h = refl
-
-sent_undone : (p : Place) → is_sent p ≡ true → is_done p ≡ false
-sent_undone place.Done h = absurd (let z : ⊥ = cc in z)
-sent_undone _ h = refl
-
-waits_there : (n : ℕ) (b : Bool) → n ≡ flag b → 1 ≤ n → b ≡ true
-waits_there n true e h = refl
-waits_there n false e h = absurd (omega arith)
-
 queued_there : {A : Type 0} (S : State A) (q r : ℕ) → Placed S → 1 ≤ count_by (λ x. x == r) (waiting_in S.queues q) → is_done (place_of S.requests r) ≡ false
 queued_there S q r k more = queued_undone q (place_of S.requests r) (waits_there (count_by (λ x. x == r) (waiting_in S.queues q)) (is_queued_in q (place_of S.requests r)) (k.queued q r) more)
 
@@ -73,9 +64,6 @@ front_there S q r k h =
 
 given_undone : {A : Type 0} (S : State A) (r : ℕ) → is_given S r ≡ true → is_done (place_of S.requests r) ≡ false
 given_undone S r h = owned_undone (place_of S.requests r) (both_left (is_owned (place_of S.requests r)) (same_kind (kind_of S.tree r) kind.Request) h)
-
-abbrev requests_of : {A : Type 0} → State A → Requests
-requests_of S = S.requests
 
 module _ (plan : Plan) (L : ℕ → Bool) where
   -- ---- one request changes

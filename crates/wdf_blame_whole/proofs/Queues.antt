@@ -1,5 +1,5 @@
 -- A queue in which a request waits, or to which one returns, is live.
-use Rattle.std.proofs.Common.{◌≡◌, ◌≢◌, ℕ, ◌==◌, Bool, true, false, not, ◌&&◌, List, inl, inr, Option, Some, is_some, option_map, length, unwrap_or, refl, sym, ap, ◌∙◌}
+use Rattle.std.proofs.Common.{◌≡◌, ◌≢◌, ℕ, ◌==◌, Bool, true, false, ◌&&◌, List, inl, inr, Option, Some, is_some, option_map, length, unwrap_or, refl, sym, ap, ◌∙◌}
 use Rattle.std.proofs.lemmas.Bool.{or_cases}
 use Rattle.wdf_base.specs.Meaning.{Meaning}
 use Rattle.wdf_base.specs.Plan.{declared_of}
@@ -30,6 +30,8 @@ use Rattle.wdf_agreements.proofs.OfDevices.{OfItsDevice, devices_at_each}
 use Rattle.wdf_blame_causes.specs.Starts.{is_live_queue}
 use Rattle.wdf_blame_whole.specs.Standing.{is_part, is_part_of}
 use Rattle.wdf_blame_whole.specs.Owners.{QueuesLive}
+use Rattle.wdf_agreements.proofs.Choices.{and_not}
+use Rattle.wdf_agreements.proofs.Places.{inside_undone}
 use Rattle.wdf_blame_whole.proofs.Opened.{is_undone_request}
 use Rattle.wdf_blame_whole.proofs.Standing.{Stands}
 use Rattle.wdf_blame_whole.proofs.Coming.{Facts}
@@ -40,10 +42,6 @@ pub queue_is : (plan : Plan) (q d : ℕ) (x : Option Declared) → declared_of p
 queue_is plan q d (Some (declared.Queue i)) e h n = (i, e, h)
 queue_is plan q d _ e h n = absurd (n (sym h))
 
-in_undone : (q : ℕ) (p : Place) → is_in q p ≡ true → is_done p ≡ false
-in_undone q place.Done h = absurd (let z : ⊥ = cc in z)
-in_undone q _ h = refl
-
 in_made : (q : ℕ) (p : Place) → is_in q p ≡ true → is_made_place p ≡ false
 in_made q (place.Queued x) h = refl
 in_made q (place.Returning x) h = refl
@@ -52,11 +50,6 @@ in_made q _ h = absurd (let z : ⊥ = cc in z)
 arrived_by : (e : Request) (b : Bool) → has_arrived e ≡ b → (has_arrived e ≡ false → is_made_place e.place ≡ true) → is_made_place e.place ≡ false → has_arrived e ≡ true
 arrived_by e true h made off = h
 arrived_by e false h made off = absurd (let t = made h in let z : ⊥ = cc in z)
-
-undone_in : (a b : Bool) → a ≡ true → b ≡ false → (a && not b) ≡ true
-undone_in true false h k = refl
-undone_in true true h k = absurd (let z : ⊥ = cc in z)
-undone_in false b h k = absurd (let z : ⊥ = cc in z)
 
 module _ {A : Type 0} (plan : Plan) (S : State A) (facts : Facts plan S) (placed : Placed S) (of : AllSuited plan (OfItsDevice plan) S.requests) (k : Stands plan S) where
   at_queue : (q r : ℕ) → is_in q (place_of S.requests r) ≡ true → device_of_queue plan q ≡ (info_of S.requests r).device.0
@@ -70,7 +63,7 @@ module _ {A : Type 0} (plan : Plan) (S : State A) (facts : Facts plan S) (placed
       let e : Request = request_of S.requests r in
       let d : ℕ = e.info.device.0 in
       let came : has_arrived e ≡ true = arrived_by e (has_arrived e) refl (placed.made r) (in_made q e.place h) in
-      let undone : is_undone_request e ≡ true = undone_in (has_arrived e) (is_done e.place) came (in_undone q e.place h) in
+      let undone : is_undone_request e ≡ true = and_not (has_arrived e) (is_done e.place) came (inside_undone q e.place h) in
       let dev : (is_some (device_of plan d) && is_live (life_of S.tree d)) ≡ true = (k.opened r).1 undone in
       let is : is_some (device_of plan d) ≡ true = both_left (is_some (device_of plan d)) (is_live (life_of S.tree d)) dev in
       let live : is_live (life_of S.tree d) ≡ true = both_right (is_some (device_of plan d)) (is_live (life_of S.tree d)) dev in

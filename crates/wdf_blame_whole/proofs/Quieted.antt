@@ -1,7 +1,7 @@
 -- At each place of every run of a resolved plan, an interrupt whose DPC is queued is live: it is enabled, or its device
 -- becomes quiet soon.
-use Rattle.std.proofs.Common.{◌≡◌, ℕ, zero, suc, ◌+◌, ◌<◌, ◌≤◌, true, false, not, ◌&&◌, ◌||◌, List, [], ◌∷◌, ◌++◌, inl, inr, Option, Some, None, is_some, drop, length, map, replicate, refl, sym, ap, subst, ◌∙◌, arith}
-use Rattle.std.specs.List.{list_all, list_any, range_with_len}
+use Rattle.std.proofs.Common.{◌≡◌, ℕ, zero, suc, ◌+◌, ◌<◌, ◌≤◌, true, false, not, ◌&&◌, ◌||◌, List, [], ◌∷◌, ◌++◌, inl, inr, Option, Some, None, is_some, drop, length, map, refl, sym, ap, subst, ◌∙◌, arith}
+use Rattle.std.specs.List.{list_all, range_with_len}
 use Rattle.std.proofs.lemmas.Bool.{cases_Bool, or_cases}
 use Rattle.wdf_base.specs.Meaning.{Meaning}
 use Rattle.wdf_base.specs.Callbacks.{row_of}
@@ -27,7 +27,7 @@ use Rattle.wdf_base.specs.declared.event.Stage.{Stage}
 use Rattle.wdf_base.specs.declared.event.Stage.TheVariants as stage
 use Rattle.wdf_base.specs.declared.event.Step.{Step}
 use Rattle.wdf_base.specs.declared.event.Step.TheVariants as step
-use Rattle.wdf_model.specs.Tables.{contains, entry, first_of_list}
+use Rattle.wdf_model.specs.Tables.{entry, first_of_list}
 use Rattle.wdf_model.specs.Plans.{as_interrupt, callback_irql, device_of, interrupt_of, interrupts_of, is_interrupt_of}
 use Rattle.wdf_model.specs.parts.Tree.{is_live, life_of, nearest_device}
 use Rattle.wdf_model.specs.parts.Cpus.{frame_of, is_running, top}
@@ -57,12 +57,13 @@ use Rattle.wdf_agreements.proofs.Lists.{all_of_kept}
 use Rattle.wdf_agreements.proofs.SoundEvents.{top_on}
 use Rattle.wdf_power_laws.proofs.Frames.{Runs, is_step}
 use Rattle.wdf_power_laws.proofs.Happens.{both_of, found_pass, not_running, taken_pass}
-use Rattle.wdf_power_laws.proofs.Isrs.{as_found, device_of_it}
+use Rattle.wdf_power_laws.proofs.Belonging.{device_of_interrupt, interrupt_found}
 use Rattle.wdf_power_laws.proofs.Runs.{steps_agree_at_each}
 use Rattle.wdf_power_laws.proofs.Unmoved.{event_none, is_moving, none_moves}
 use Rattle.wdf_power_laws.specs.Steps.{StepsAndPowerAgree, enabled_says, phase_of}
 use Rattle.wdf_family_laws.proofs.Families.{declared_within}
 use Rattle.wdf_blame_whole.specs.Standing.{IsOver, is_live_device, is_part, is_part_of}
+use Rattle.wdf_agreements.proofs.Deferring.{none_queued}
 use Rattle.wdf_blame_whole.proofs.Soon.{IsSteady, Steady, comes_soon}
 use Rattle.wdf_blame_whole.proofs.Standing.{AllComes, Stands}
 use Rattle.wdf_blame_whole.proofs.Coming.{Facts, event_comes}
@@ -252,10 +253,6 @@ opening_steady : (plan : Plan) (d : ℕ) (x : Option DeviceInfo) → IsSteady (o
 opening_steady plan d None = record { left = tt; running = tt }
 opening_steady plan d (Some i) = record { left = tt; running = tt }
 
-none_queued : (x n : ℕ) → list_any (contains x) (replicate n []) ≡ true → ⊥
-none_queued x zero h = let z : ⊥ = cc in z
-none_queued x (suc n) h = none_queued x n h
-
 opening_quiet : {A : Type 0} (plan : Plan) (m : Meaning A) → Quieting plan (opening plan m)
 opening_quiet plan m = record {
   steady = λ d. in_range IsSteady (λ x. opening_sequence plan x (device_of plan x)) (record { left = tt; running = tt }) (λ x. opening_steady plan x (device_of plan x)) 0 (suc (length plan.declared)) d;
@@ -292,10 +289,10 @@ interrupt_live {A} plan m run resolved is_run i x at queued =
     let k : Stands plan S = stands_now plan m run resolved is_run in
     let q : Quieting plan S = quieting_now plan m run resolved is_run in
     let power : StepsAndPowerAgree plan S = at_the_end plan m (λ (S : State A). StepsAndPowerAgree plan S) run (steps_agree_at_each plan m run resolved is_run (length run)) in
-    let dev : is_some (device_of plan d) ≡ true = device_of_it plan resolved i x at in
+    let dev : is_some (device_of plan d) ≡ true = device_of_interrupt plan resolved i x at in
     let mine : is_interrupt_of d (interrupt_of plan i) ≡ true = ap (is_interrupt_of d) at ∙ itself d in
     let soon : (is_enabled S.interrupts i || comes_soon (steps_left S.pnp d)) ≡ true = q.dpcs d i mine queued in
-    let part : is_part_of plan d i ≡ true = both (is_part d (declared_of plan i)) (is_some (device_of plan d)) (ap (is_part d) (as_found plan (declared_of plan i) x at) ∙ itself d) dev in
+    let part : is_part_of plan d i ≡ true = both (is_part d (declared_of plan i)) (is_some (device_of plan d)) (ap (is_part d) (interrupt_found (declared_of plan i) x at) ∙ itself d) dev in
     elim (cases_Bool (is_live_device plan S d)) [
       | inl on_ ↦ k.parts d i part (both_right (is_some (device_of plan d)) (is_live (life_of S.tree d)) on_)
       | inr off ↦ absurd (

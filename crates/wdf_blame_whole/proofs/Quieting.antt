@@ -39,6 +39,7 @@ use Rattle.wdf_model.proofs.Deletion.{object_live, object_off}
 use Rattle.wdf_agreements.proofs.Stays.{asks_all, gives_up, gives_up_if, queues_closed, returns_closed, withdraws}
 use Rattle.wdf_agreements.proofs.Queued.{dpc_cancelled, dpc_enqueued, dpc_taken}
 use Rattle.wdf_power_laws.proofs.Happens.{not_running}
+use Rattle.wdf_agreements.proofs.Choices.{left_of}
 use Rattle.wdf_blame_whole.proofs.Lasting.{passed_left}
 use Rattle.wdf_blame_whole.proofs.Soon.{IsSteady, Unquiet, at_running, comes_soon, may_fail, soon_ended, steady_asked, steady_ended, steady_taken}
 use Rattle.wdf_blame_whole.proofs.Standing.{Comes}
@@ -180,15 +181,11 @@ moves_one plan S n f steady dpcs k = record {
   ];
 }
 
-or_left : (a b : Bool) → b ≡ false → (a || b) ≡ true → a ≡ true
-or_left true b e h = refl
-or_left false b e h = absurd (let z : ⊥ = cc in z)
-
 -- a step is taken
 soon_passed : (s : Stage) (j : Option Handle) (q : Sequence) (ss : List Step) (a : Bool) → (s ≡ stage.Quiet → ⊥) → (a || comes_soon (step.Pass s j ∷ ss)) ≡ true → (a || comes_soon ss) ≡ true
 soon_passed stage.Quiet j q ss a no_quiet h = absurd (no_quiet refl)
 soon_passed stage.Disabled j q ss a no_quiet h = h
-soon_passed _ j q ss a no_quiet h = first a (comes_soon ss) (or_left a false refl h)
+soon_passed _ j q ss a no_quiet h = first a (comes_soon ss) (left_of a false refl h)
 
 soon_taken : (q : Sequence) (ss : List Step) (a : Bool) → q.left ≡ ss → ((j : Option Handle) (ts : List Step) → ss ≡ step.Pass stage.Quiet j ∷ ts → ⊥) → (a || comes_soon ss) ≡ true → (a || comes_soon (taken_step q).left) ≡ true
 soon_taken q [] a e no_quiet h = rw e h
@@ -197,7 +194,7 @@ soon_taken q (step.Pass s j ∷ ss) a e no_quiet h =
     rw e (subst (λ ts. (a || comes_soon ts) ≡ true) (sym (passed_left s (record q { left = ss }))) (soon_passed s j q ss a (λ is. no_quiet j ss (ap (λ y. step.Pass y j ∷ ss) is)) h))
 
 left_by : (ss : List Step) (a : Bool) → (a || comes_soon []) ≡ true → (a || comes_soon ss) ≡ true
-left_by ss a h = first a (comes_soon ss) (or_left a false refl h)
+left_by ss a h = first a (comes_soon ss) (left_of a false refl h)
 
 asks : {A : Type 0} (plan : Plan) (n : ℕ) (a : Ask) (S : State A) → fits plan (AskDevice (object_id n) a) S ≡ true → Quieting plan S → Quieting plan (do_deed plan (AskDevice (object_id n) a) S)
 asks plan n a S f k =

@@ -1,7 +1,6 @@
 -- A resume is due only for a request that is held from a queue with EvtIoResume, at each place of every run.
-use Rattle.std.proofs.Common.{if◌then◌else◌, ◌≡◌, ℕ, suc, ◌+◌, Bool, true, false, ◌&&◌, List, None, length, take, refl, sym, ap, subst, ◌∙◌, arith}
+use Rattle.std.proofs.Common.{if◌then◌else◌, ◌≡◌, ℕ, suc, ◌+◌, Bool, true, false, ◌&&◌, List, length, take, refl, sym, ap, subst, ◌∙◌, arith}
 use Rattle.wdf_base.specs.Meaning.{Meaning}
-use Rattle.wdf_base.specs.Plan.{declared_of}
 use Rattle.wdf_base.specs.declared.plan.Plan.{Plan}
 use Rattle.wdf_base.specs.declared.call.Callback.TheVariants as callback
 use Rattle.wdf_base.specs.declared.event.Event.{Event}
@@ -27,9 +26,10 @@ use Rattle.wdf_model.specs.rules.Ready.{IsRunOf, state_after}
 use Rattle.wdf_model.proofs.Maps.{entry_map}
 use Rattle.wdf_model.proofs.Tests.{both_right}
 use Rattle.wdf_agreements.proofs.SoundRuns.{sound_place}
-use Rattle.wdf_agreements.proofs.Stays.{asks_all}
-use Rattle.wdf_queue_power_laws.proofs.Resuming.{arrived, closed, is_advance, is_resuming, none_more_by, noted, returned, undeclared, withdrawn}
+use Rattle.wdf_agreements.proofs.Stays.{asks_all, closed_power, returning_power, withdrawn_power}
+use Rattle.wdf_queue_power_laws.proofs.Resuming.{blank_queue, is_advance, is_resuming, none_more_by, noted, undeclared}
 use Rattle.wdf_power_laws.proofs.Runs.{mapped}
+use Rattle.wdf_agreements.proofs.Readers.{arrived_power, power_of}
 
 -- ---- what power notes of queues stays
 
@@ -56,9 +56,6 @@ advanced : (P : Power) (d : ℕ) (s : Stage) → (advance_stage P d s).queues �
 advanced P d stage.QueuesDown = refl
 advanced P d _ = refl
 
-abbrev power_of : {A : Type 0} → State A → Power
-power_of S = S.power
-
 still_noted : {A : Type 0} (plan : Plan) (d : Deed) (S : State A) → (do_deed plan d S).power.queues ≡ S.power.queues
 still_noted plan (Present q r) S = held_by S.power r.0 q.0 (is_managed plan q.0)
 still_noted plan (Receive q r) S = held_by S.power r.0 q.0 (is_managed plan q.0)
@@ -68,18 +65,15 @@ still_noted plan (GiveBack r q) S = given S r.0
 still_noted plan (SendRequest r t forget) S = given_if S forget r.0
 still_noted plan (CompleteRequest r) S =
     ap (λ (P : Power). P.queues) (asks_all power_of (λ S T D W U. refl) (subtree (give_up S r.0).tree r.0) (record (give_up S r.0) { requests = requests.complete S.requests r.0 })) ∙ given S r.0
-still_noted plan (Arrive device info p) S = ap (λ (P : Power). P.queues) (arrived S device.0 info p)
+still_noted plan (Arrive device info p) S = ap (λ (P : Power). P.queues) (arrived_power S device.0 info p)
 still_noted plan (AskDeletion o) S = ap (λ (P : Power). P.queues) (asks_all power_of (λ S T D W U. refl) (subtree S.tree o.0) S)
-still_noted plan (PurgeQueue q) S = ap (λ (P : Power). P.queues) (withdrawn plan q.0 (waiting_in S.queues q.0) (record S { control = control.set_mode S.control q.0 mode.Purged }))
-still_noted plan (CloseReturning d) S = ap (λ (P : Power). P.queues) (returned (managed_queues plan d.0) S)
-still_noted plan (CloseDevice d) S = ap (λ (P : Power). P.queues) (closed (queues_of plan d.0) (record S { control = control.shut S.control d.0 }))
+still_noted plan (PurgeQueue q) S = ap (λ (P : Power). P.queues) (withdrawn_power plan q.0 (waiting_in S.queues q.0) (record S { control = control.set_mode S.control q.0 mode.Purged }))
+still_noted plan (CloseReturning d) S = ap (λ (P : Power). P.queues) (returning_power (managed_queues plan d.0) S)
+still_noted plan (CloseDevice d) S = ap (λ (P : Power). P.queues) (closed_power (queues_of plan d.0) (record S { control = control.shut S.control d.0 }))
 still_noted plan (AdvancePower d (step.Pass s i)) S = advanced S.power d.0 s
 still_noted plan _ S = refl
 
 -- ---- power notes of each queue whether it has EvtIoResume
-
-blank_queue : (plan : Plan) (q : ℕ) → declared_of plan q ≡ None → opening_queue_power plan q ≡ no_queue_power
-blank_queue plan q e = rw e refl
 
 resumes_noted : (plan : Plan) (P : Power) (q : ℕ) → P.queues ≡ (opening_power plan).queues → (queue_power P q).resumes ≡ declares plan callback.EvtIoResume q
 resumes_noted plan P q same =

@@ -9,12 +9,9 @@ use Rattle.wdf_base.specs.declared.declared.Declared.{Declared}
 use Rattle.wdf_base.specs.declared.event.Ask.{Ask}
 use Rattle.wdf_base.specs.declared.object.Kind.{Kind}
 use Rattle.wdf_base.specs.declared.object.Kind.TheVariants as kind
-use Rattle.wdf_base.specs.declared.object.Life.{Life}
 use Rattle.wdf_base.specs.declared.object.Life.TheVariants as life
 use Rattle.wdf_base.specs.declared.object.Place.{Place}
 use Rattle.wdf_base.specs.declared.object.Place.TheVariants as place
-use Rattle.wdf_base.specs.declared.object.RequestInfo.{RequestInfo}
-use Rattle.wdf_base.specs.declared.call.Callback.{Callback}
 use Rattle.wdf_base.specs.declared.call.Callback.TheVariants as callback
 use Rattle.wdf_base.specs.Same.{same_kind}
 use Rattle.wdf_model.specs.declared.enums.Mode.TheVariants as mode
@@ -22,12 +19,12 @@ use Rattle.wdf_model.specs.declared.entries.Node.{Node}
 use Rattle.wdf_model.specs.declared.entries.Request.{Request}
 use Rattle.wdf_model.specs.Tables.{contains, first_of_list}
 use Rattle.wdf_model.specs.Plans.{declares, device_of, interrupt_of, managed_queues, queues_of, target_of}
-use Rattle.wdf_model.specs.parts.Tree.{Tree, gone, is_asked, is_cleaned, is_gone, is_live, kind_of, life_of, new_node, next_id, node_of, noted, parent_of, subtree, with_life, with_node}
+use Rattle.wdf_model.specs.parts.Tree.{Tree, gone, is_asked, is_cleaned, is_gone, is_live, kind_of, life_of, new_node, node_of, noted, parent_of, subtree, with_life, with_node}
 use Rattle.wdf_model.specs.parts.Tree as tree
 use Rattle.wdf_model.specs.parts.Queues.{waiting_in}
 use Rattle.wdf_model.specs.parts.Control as control
 use Rattle.wdf_model.specs.parts.Interrupts.{is_enabled}
-use Rattle.wdf_model.specs.parts.Requests.{Requests, has_arrived, is_done, request_of}
+use Rattle.wdf_model.specs.parts.Requests.{has_arrived, is_done, request_of}
 use Rattle.wdf_model.specs.parts.Requests as requests
 use Rattle.wdf_model.specs.parts.Pnp.{Pnp, Sequence, is_running_step, left_after, next_step, no_sequence, sequence_of, steps_for, steps_left, taken_step, with_sequence}
 use Rattle.wdf_model.specs.State.{State, nothing_at}
@@ -50,6 +47,9 @@ use Rattle.wdf_agreements.proofs.Stays.{gives_up, gives_up_if, queues_closed, re
 use Rattle.wdf_family_laws.proofs.Families.{declared_within}
 use Rattle.wdf_blame_whole.specs.Standing.{IsOver, is_live_device, is_part, is_part_of}
 use Rattle.wdf_agreements.proofs.Subtrees.{live_unasked, unasked_stays}
+use Rattle.wdf_agreements.proofs.Readers.{arrived_tree, tree_of}
+use Rattle.wdf_agreements.proofs.Lives.{asked_off, cleaned_off, noted_kept}
+use Rattle.wdf_agreements.proofs.PartsStay.{tree_stays}
 use Rattle.wdf_blame_whole.proofs.Lasting.{Lasts, lasts_asked, lasts_ended, lasts_taken}
 use Rattle.wdf_blame_whole.proofs.Opened.{ArrivesWell, Opened, is_undone_request, opened_asked, opened_by, opened_completed}
 
@@ -147,29 +147,10 @@ ended_root T o h = elim (one_or_two 0 o) [
   | inr n ↦ let it = entry_put_other gone T.nodes o 0 gone n in record { parent = ap (λ (m : Node). m.parent.0) it ∙ h.parent; gone = ap (λ (m : Node). is_gone m.life) it ∙ h.gone }
 ]
 
-cleaned_off : (l : Life) → is_cleaned l ≡ true → false ≡ is_live l
-cleaned_off life.Live h = absurd (let z : ⊥ = cc in z)
-cleaned_off _ h = refl
-
-asked_off : (l : Life) → is_asked l ≡ true → false ≡ is_live l
-asked_off life.Live h = absurd (let z : ⊥ = cc in z)
-asked_off _ h = refl
-
 stay_ended : (T : Tree) (o : ℕ) → is_cleaned (life_of T o) ≡ true → LivesStay T (tree.destroy T o)
 stay_ended T o done =
     let same = reads_same (λ n. is_live n.life) T o (λ _. gone) (cleaned_off (life_of T o) done) in
     record { gains = λ x h. same x ∙ h; was = λ x low h. sym (same x) ∙ h; root = λ some h. ended_root T o h }
-
-noted_kept : (c : Callback) (n : Node) → ((noted c n).life ≡ n.life) × ((noted c n).parent.0 ≡ n.parent.0)
-noted_kept callback.EvtDestroyCallback n = (refl, refl)
-noted_kept _ n = (refl, refl)
-
-arrived : {A : Type 0} (S : State A) (device : ℕ) (info : RequestInfo) (p : Place) → (arrive_at S device info p).tree ≡ tree.arrive S.tree device
-arrived S device info (place.Queued q) = refl
-arrived S device info _ = refl
-
-abbrev tree_of : {A : Type 0} → State A → Tree
-tree_of S = S.tree
 
 -- a deed that asks for no deletion
 abbrev pub asks_none : Deed → Bool
@@ -182,7 +163,7 @@ lives_by plan (AskDeletion o) S n f = absurd (let z : ⊥ = cc in z)
 lives_by plan (CompleteRequest r) S n f = absurd (let z : ⊥ = cc in z)
 lives_by plan (Create k class parent) S n f = stay_made S.tree k class parent.0
 lives_by plan (MakeRequest class parent) S n f = stay_made S.tree kind.Made class parent.0
-lives_by plan (Arrive device info p) S n f = subst (LivesStay S.tree) (sym (arrived S device.0 info p)) (stay_made S.tree kind.Request 0 device.0)
+lives_by plan (Arrive device info p) S n f = subst (LivesStay S.tree) (sym (arrived_tree S device.0 info p)) (stay_made S.tree kind.Request 0 device.0)
 lives_by plan (Refer o) S n f = stay_changed S.tree o.0 (λ m. record m { references = m.references + 1 }) refl refl refl
 lives_by plan (Unrefer o) S n f = stay_changed S.tree o.0 (λ m. record m { references = m.references - 1 }) refl refl refl
 lives_by plan (WriteCell o k v) S n f = stay_changed S.tree o.0 (λ m. record m { cells = slice_set m.cells k v }) refl refl refl
@@ -191,14 +172,7 @@ lives_by plan (CleanUp o) S n f =
     let waits : is_asked (life_of S.tree o.0) ≡ true = search both_left in
     stay_changed S.tree o.0 (with_life life.Cleaned) (asked_off (life_of S.tree o.0) waits) (sym (asked_there (life_of S.tree o.0) waits)) refl
 lives_by plan (EndLife o) S n f = let done : is_cleaned (life_of S.tree o.0) ≡ true = search both_left in stay_ended S.tree o.0 done
-lives_by plan (Requeue r p) S n f = stay_same _ _ (gives_up tree_of (λ S Q R P. refl) S r.0)
-lives_by plan (Forward r p) S n f = stay_same _ _ (gives_up tree_of (λ S Q R P. refl) S r.0)
-lives_by plan (GiveBack r p) S n f = stay_same _ _ (gives_up tree_of (λ S Q R P. refl) S r.0)
-lives_by plan (SendRequest r t forget) S n f = stay_same _ _ (gives_up_if tree_of (λ S Q R P. refl) S forget r.0)
-lives_by plan (PurgeQueue p) S n f = stay_same _ _ (withdraws tree_of (λ S Q R P. refl) plan p.0 (waiting_in S.queues p.0) (record S { control = control.set_mode S.control p.0 mode.Purged }))
-lives_by plan (CloseReturning d) S n f = stay_same _ _ (returns_closed tree_of (λ S Q R P. refl) (managed_queues plan d.0) S)
-lives_by plan (CloseDevice d) S n f = stay_same _ _ (queues_closed tree_of (λ S Q R P. refl) (queues_of plan d.0) (record S { control = control.shut S.control d.0 }))
-lives_by plan _ S n f = stay_same S.tree S.tree refl
+lives_by plan d S n f = stay_same _ _ (tree_stays plan d S refl)
 
 -- ---- the steps of devices
 

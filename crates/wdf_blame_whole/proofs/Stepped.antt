@@ -1,5 +1,5 @@
 -- A device with a step left is live, and a step that is a callback is that of a live object of it that has it.
-use Rattle.std.proofs.Common.{if◌then◌else◌, ◌≡◌, ℕ, zero, suc, ◌+◌, ◌==◌, ◌<◌, true, false, ◌&&◌, List, [], ◌∷◌, ◌++◌, inl, inr, Option, Some, None, is_some, length, refl, sym, ap, ◌∙◌, arith, length-append}
+use Rattle.std.proofs.Common.{if◌then◌else◌, ◌≡◌, ℕ, ◌==◌, ◌<◌, true, false, ◌&&◌, List, inl, inr, Option, Some, None, is_some, length, refl, sym, ap, ◌∙◌}
 use Rattle.std.proofs.lemmas.Bool.{cases_Bool, eqb-true}
 use Rattle.wdf_base.specs.Meaning.{Meaning}
 use Rattle.wdf_base.specs.Callbacks.{row_of}
@@ -21,22 +21,21 @@ use Rattle.wdf_base.specs.declared.event.Event.{Event}
 use Rattle.wdf_base.specs.declared.event.Step.{Step}
 use Rattle.wdf_base.specs.declared.event.Step.TheVariants as step
 use Rattle.wdf_model.specs.declared.entries.Node.{Node}
-use Rattle.wdf_model.specs.Tables.{entry, first_of_list}
+use Rattle.wdf_model.specs.Tables.{first_of_list}
 use Rattle.wdf_model.specs.Plans.{as_device, as_interrupt, declares, device_of, interrupt_of, is_interrupt_of, script_on}
-use Rattle.wdf_model.specs.parts.Tree.{Tree, gone, is_live, kind_of, life_of, made_as, name_as, nearest_device, nearest_devices, node_of, own_device, parent_of}
+use Rattle.wdf_model.specs.parts.Tree.{gone, is_live, kind_of, life_of, made_as, name_as, nearest_device, node_of, parent_of}
 use Rattle.wdf_model.specs.parts.Pnp.{interrupt_name, next_step}
 use Rattle.wdf_model.specs.State.{State, declared_in, declares_in, handle_in}
 use Rattle.wdf_model.specs.laws.Agreement.{is_sequence}
 use Rattle.wdf_model.specs.rules.Ready.{IsRunOf, state_after}
 use Rattle.wdf_model.specs.rules.Starts.{interrupt_of_step}
-use Rattle.wdf_model.proofs.Maps.{entry_before, entry_last}
 use Rattle.wdf_model.proofs.Sames.{handle_decides}
 use Rattle.wdf_model.proofs.Tests.{both, both_left, both_right, itself}
 use Rattle.wdf_invariants.proofs.StillFrames.{live_there}
 use Rattle.wdf_agreements.proofs.Keeping.{at_the_end}
 use Rattle.wdf_agreements.proofs.Lists.{inside}
-use Rattle.wdf_power_laws.proofs.Declares.{own_device_of}
-use Rattle.wdf_power_laws.proofs.Isrs.{as_found}
+use Rattle.wdf_power_laws.proofs.Declares.{nearest_by, own_device_of}
+use Rattle.wdf_power_laws.proofs.Belonging.{interrupt_found}
 use Rattle.wdf_blame_causes.specs.Starts.{has_callback, step_may_run}
 use Rattle.wdf_blame_whole.specs.Owners.{StepsMayRun}
 use Rattle.wdf_blame_whole.specs.Standing.{is_live_device, is_part, is_part_of}
@@ -44,33 +43,6 @@ use Rattle.wdf_blame_whole.proofs.Standing.{Stands}
 use Rattle.wdf_blame_whole.proofs.Coming.{Facts}
 use Rattle.wdf_ready_once.proofs.Steps.{IsDeclaredStep, steps_declared}
 use Rattle.wdf_blame_whole.proofs.Runs.{Known, known_now, stands_now}
-
--- ---- the nearest device of what is no device
-
-front_stays : (before : List ℕ) (ns : List Node) (o : ℕ) → o < length before → entry 1 (nearest_devices before ns) o ≡ entry 1 before o
-front_stays before [] o h = refl
-front_stays before (n ∷ ns) o h =
-    let more = length-append before (own_device before (length before) n ∷ []) in
-    front_stays (before ++ own_device before (length before) n ∷ []) ns o (omega arith)
-    ∙ entry_before 1 before (own_device before (length before) n) o (λ e. let z : ⊥ = omega arith in z)
-
-near_at : (before : List ℕ) (ns : List Node) (k : ℕ) → k < length ns → same_kind (entry gone ns k).kind kind.Device ≡ false → (entry gone ns k).parent.0 < length before + k
-    → entry 1 (nearest_devices before ns) (length before + k) ≡ entry 1 (nearest_devices before ns) (entry gone ns k).parent.0
-near_at before [] k h d low = absurd (omega arith)
-near_at before (n ∷ ns) zero h d low =
-    let x : ℕ = own_device before (length before) n in
-    let own : x ≡ entry 1 before n.parent.0 = ap (λ b. if b then length before else entry 1 before n.parent.0) d in
-    let more = length-append before (x ∷ []) in
-    let start : length before + 0 ≡ length before = omega arith in
-    rw start (front_stays (before ++ x ∷ []) ns (length before) (omega arith) ∙ entry_last 1 before x ∙ own ∙ sym (front_stays before (n ∷ ns) n.parent.0 (omega arith)))
-near_at before (n ∷ ns) (suc k) h d low =
-    let x : ℕ = own_device before (length before) n in
-    let more = length-append before (x ∷ []) in
-    let e : length before + suc k ≡ length (before ++ x ∷ []) + k = omega arith in
-    rw e (near_at (before ++ x ∷ []) ns k (omega arith) d (omega arith))
-
-nearest_above : (T : Tree) (o : ℕ) → o < length T.nodes → same_kind (kind_of T o) kind.Device ≡ false → parent_of T o < o → nearest_device T o ≡ nearest_device T (parent_of T o)
-nearest_above T o h d low = let start : 0 + o ≡ o = omega arith in rw start at (near_at [] T.nodes o h d (omega arith))
 
 -- ---- a step
 
@@ -124,7 +96,7 @@ module _ {A : Type 0} (plan : Plan) (S : State A) (resolved : IsResolved plan) (
       let o : ℕ = i.id.0 in
       let is : is_some (device_of plan d) ≡ true = both_left (is_some (device_of plan d)) (is_live (life_of S.tree d)) dev in
       let up : is_live (life_of S.tree d) ≡ true = both_right (is_some (device_of plan d)) (is_live (life_of S.tree d)) dev in
-      let as_ : declared_of plan o ≡ Some (declared.Interrupt x) = as_found plan (declared_of plan o) x at in
+      let as_ : declared_of plan o ≡ Some (declared.Interrupt x) = interrupt_found (declared_of plan o) x at in
       let part : is_part_of plan d o ≡ true = both (is_part d (declared_of plan o)) (is_some (device_of plan d)) (ap (is_part d) as_ ∙ own) is in
       let live : is_live (life_of S.tree o) ≡ true = k.parts d o part up in
       let there = live_there (life_of S.tree o) live in
@@ -140,7 +112,7 @@ module _ {A : Type 0} (plan : Plan) (S : State A) (resolved : IsResolved plan) (
       let kind_d : kind_of S.tree d ≡ kind.Device = (facts.declared d (declared.Device j.0) j.1 there_d).1 in
       let as_d : declared_in plan S d ≡ declared_of plan d = made_declared plan (node_of S.tree d) d (kind_of S.tree d) kind_d in
       let near_d : nearest_device S.tree d ≡ d = own_device_of plan S d facts.known.known.declared there_d (let it : declared_in plan S d ≡ Some (declared.Device j.0) = as_d ∙ j.1 in rw it refl) in
-      let near : nearest_device S.tree o ≡ d = nearest_above S.tree o within (ap (λ y. same_kind y kind.Device) kind_) low ∙ ap (nearest_device S.tree) parent ∙ near_d in
+      let near : nearest_device S.tree o ≡ d = nearest_by S.tree o within (ap (λ y. same_kind y kind.Device) kind_) low ∙ ap (nearest_device S.tree) parent ∙ near_d in
       let named : (handle_in plan S o).name ≡ i.name = ap (name_as plan) (told ∙ as_) ∙ sym name in
       let handle : handle_in plan S o ≡ i = ap (handle_with i) named in
       let it : interrupt_of_step plan S o ≡ Some i = ap (λ b. if b then Some (handle_in plan S o) else None) (ap is_some at) ∙ ap Some handle in

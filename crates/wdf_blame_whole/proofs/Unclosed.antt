@@ -16,13 +16,10 @@ use Rattle.wdf_model.specs.State.{State, handle_in, is_proper}
 use Rattle.wdf_model.specs.rules.Groups.{candidate, candidates, candidates_in, completion_at, groups, groups_of_cpu}
 use Rattle.wdf_model.specs.rules.Steps.{is_closing_with, may}
 use Rattle.wdf_model.proofs.Tests.{both, itself}
-use Rattle.wdf_model.proofs.Sames.{status_decides}
 use Rattle.wdf_blame.proofs.Members.{Has, has_back, has_flat, has_mapped, has_range}
 use Rattle.wdf_blame.proofs.Endings.{AtRest, may_not}
 use Rattle.wdf_agreements.proofs.Lists.{inside}
-
-closes_as : (p : Place) (s : Status) → p ≡ place.Closing s → is_closing_with p s ≡ true
-closes_as p s e = rw e ((status_decides s s).1 refl)
+use Rattle.wdf_blame.proofs.Listed.{closes_as}
 
 closing_is : (p : Place) → is_closing p ≡ true → (s : Status) × (p ≡ place.Closing s)
 closing_is (place.Closing s) h = (s, refl)

@@ -1,6 +1,5 @@
 -- Queued work is live and has its function, at each place of every run of a resolved plan.
-use Rattle.std.proofs.Common.{◌≡◌, ℕ, zero, suc, ◌+◌, Bool, true, false, not, ◌||◌, List, [], ◌∷◌, Option, Some, None, is_some, length, map, option_map, replicate, slice_get, take, unwrap_or, refl, sym, ap, subst, ◌∙◌, arith}
-use Rattle.std.specs.List.{list_any}
+use Rattle.std.proofs.Common.{◌≡◌, ℕ, zero, suc, ◌+◌, Bool, true, false, not, ◌||◌, List, [], ◌∷◌, Option, Some, None, is_some, length, map, option_map, slice_get, take, unwrap_or, refl, sym, ap, subst, ◌∙◌, arith}
 use Rattle.wdf_base.specs.Meaning.{Meaning}
 use Rattle.wdf_base.specs.Kinds.{class_kind}
 use Rattle.wdf_base.specs.Resolved.{IsResolved, classes_complete, function_of, has_script}
@@ -18,7 +17,7 @@ use Rattle.wdf_base.specs.declared.call.Callback.{Callback}
 use Rattle.wdf_base.specs.declared.call.Callback.TheVariants as callback
 use Rattle.wdf_base.specs.declared.event.Event.{Event}
 use Rattle.wdf_model.specs.declared.entries.Node.{Node}
-use Rattle.wdf_model.specs.Tables.{contains, entry}
+use Rattle.wdf_model.specs.Tables.{entry}
 use Rattle.wdf_model.specs.Plans.{kind_of_class, script_on}
 use Rattle.wdf_model.specs.parts.Tree.{declared_node, gone, is_live, made_as, node_of}
 use Rattle.wdf_model.specs.State.{State, declares_in, opening}
@@ -37,10 +36,11 @@ use Rattle.wdf_blame_causes.specs.Starts.{has_callback}
 use Rattle.wdf_blame_causes.proofs.Apt.{AllApt}
 use Rattle.wdf_blame_causes.proofs.AptEvents.{event_apt}
 use Rattle.wdf_blame_whole.specs.Owners.{WorkMayRun}
+use Rattle.wdf_agreements.proofs.Deferring.{none_queued, work_of}
 use Rattle.wdf_blame_whole.proofs.Standing.{AllComes, Stands, ready_in}
 use Rattle.wdf_blame_whole.proofs.Coming.{event_comes}
 use Rattle.wdf_blame_whole.proofs.Runs.{Known, known_now, stands_now}
-use Rattle.wdf_blame_whole.proofs.Works.{WorkKept, is_classed, is_work_kind, work_of, works_by}
+use Rattle.wdf_blame_whole.proofs.Works.{WorkKept, is_classed, is_work_kind, works_by}
 
 -- ---- each place of a run
 
@@ -63,10 +63,6 @@ classed_open : {A : Type 0} (plan : Plan) (m : Meaning A) (o : ℕ) → is_class
 classed_open plan m zero = refl
 classed_open plan m (suc o) = opening_plain plan plan.declared o
 
-none_queued : (x n : ℕ) → list_any (contains x) (replicate n []) ≡ true → ⊥
-none_queued x zero h = let z : ⊥ = cc in z
-none_queued x (suc n) h = none_queued x n h
-
 opening_works : {A : Type 0} (plan : Plan) (m : Meaning A) → WorkKept plan (work_of (opening plan m))
 opening_works plan m = record {
   classes = classed_open plan m;
@@ -75,13 +71,16 @@ opening_works plan m = record {
   timers = λ o h. absurd (let z : ⊥ = cc in z);
 }
 
-record KnownToo {A : Type 0} (plan : Plan) (S : State A) : Type 0 where
-  known : Known plan S
-  stands : Stands plan S
+pub record KnownToo {A : Type 0} (plan : Plan) (S : State A) : Type 0 where
+  pub known : Known plan S
+  pub stands : Stands plan S
+
+pub known_too : {A : Type 0} (plan : Plan) (m : Meaning A) → IsResolved plan → (run : List Event) → IsRunOf plan m run → KnownToo plan (state_after plan m run)
+known_too plan m resolved run is_run = record { known = known_now plan m resolved run is_run; stands = stands_now plan m run resolved is_run }
 
 pub works_at_each : {A : Type 0} (plan : Plan) (m : Meaning A) (run : List Event) → IsResolved plan → IsRunOf plan m run → (n : ℕ) → WorkKept plan (work_of (state_after plan m (take n run)))
 works_at_each {A} plan m run resolved is_run n = each_place_by plan m (λ (S : State A). KnownToo plan S) (λ (S : State A). WorkKept plan (work_of S))
-    (λ run is_run. record { known = known_now plan m resolved run is_run; stands = stands_now plan m run resolved is_run }) (opening_works plan m)
+    (known_too plan m resolved) (opening_works plan m)
     (λ S e k h w.
     deeds_work plan (deeds plan S e) S (event_fits plan m S e h) (all_sound plan m S e k.known.facts.known h) (event_apt plan m S e k.known.facts.known.known h) (event_comes plan S resolved k.known.facts k.stands m e h) w)
     (λ S time w. w)

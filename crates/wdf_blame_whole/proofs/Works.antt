@@ -1,14 +1,10 @@
 -- Queued work is of its kind, and has its function: each deed keeps this.
-use Rattle.std.proofs.Common.{◌≡◌, ◌≢◌, ℕ, ◌+◌, ◌-◌, Bool, true, false, not, ◌&&◌, ◌||◌, List, [], ◌∷◌, inl, inr, fold, slice_set, refl, sym, ap, subst, ◌∙◌, arith}
-use Rattle.std.proofs.lemmas.Bool.{or_cases}
+use Rattle.std.proofs.Common.{◌≡◌, ◌≢◌, ℕ, ◌+◌, ◌-◌, Bool, true, false, not, ◌||◌, List, [], ◌∷◌, inl, inr, fold, slice_set, refl, sym, ap, subst, ◌∙◌, arith}
 use Rattle.wdf_base.specs.declared.plan.Plan.{Plan}
 use Rattle.wdf_base.specs.declared.object.Kind.{Kind}
 use Rattle.wdf_base.specs.declared.object.Kind.TheVariants as kind
 use Rattle.wdf_base.specs.declared.object.Life.{Life}
 use Rattle.wdf_base.specs.declared.object.Life.TheVariants as life
-use Rattle.wdf_base.specs.declared.object.Place.{Place}
-use Rattle.wdf_base.specs.declared.object.Place.TheVariants as place
-use Rattle.wdf_base.specs.declared.object.RequestInfo.{RequestInfo}
 use Rattle.wdf_base.specs.declared.call.Callback.{Callback}
 use Rattle.wdf_base.specs.declared.call.Callback.TheVariants as callback
 use Rattle.wdf_model.specs.declared.enums.Mode.TheVariants as mode
@@ -19,15 +15,15 @@ use Rattle.wdf_model.specs.parts.Tree as tree
 use Rattle.wdf_model.specs.parts.Requests as requests
 use Rattle.wdf_model.specs.parts.Queues.{waiting_in}
 use Rattle.wdf_model.specs.parts.Control as control
-use Rattle.wdf_model.specs.parts.Deferred.Dpcs.{Dpcs, is_dpc_queued}
-use Rattle.wdf_model.specs.parts.Deferred.WorkItems.{WorkItems, is_work_queued}
-use Rattle.wdf_model.specs.parts.Deferred.Timers.{Timers, is_timer_queued}
+use Rattle.wdf_model.specs.parts.Deferred.Dpcs.{is_dpc_queued}
+use Rattle.wdf_model.specs.parts.Deferred.WorkItems.{is_work_queued}
+use Rattle.wdf_model.specs.parts.Deferred.Timers.{is_timer_queued}
 use Rattle.wdf_model.specs.State.{State}
 use Rattle.wdf_model.specs.declared.deed.Deed.{Deed}
 use Rattle.wdf_model.specs.declared.deed.Deed.TheVariants.{Create, MakeRequest, Arrive, AskDeletion, Refer, Unrefer, WriteCell, Note, CleanUp, EndLife, Requeue, Forward, GiveBack, SendRequest, CompleteRequest, PurgeQueue, CloseReturning, CloseDevice, EnqueueDpc, CancelDpc, TakeDpc, EnqueueWork, CancelWork, StartTimer, StopTimer, FireTimer}
-use Rattle.wdf_model.specs.rules.Deeds.{arrive_at, ask_object, do_deed, give_up}
+use Rattle.wdf_model.specs.rules.Deeds.{ask_object, do_deed, give_up}
 use Rattle.wdf_model.specs.laws.Fits.{fits}
-use Rattle.wdf_model.proofs.Tests.{both, both_left, first, second}
+use Rattle.wdf_model.proofs.Tests.{both, both_left, second}
 use Rattle.wdf_model.proofs.Maps.{entry_before, entry_last, entry_put_other, entry_put_same}
 use Rattle.wdf_model.proofs.Counts.{one_or_two}
 use Rattle.wdf_model.proofs.Sames.{kind_decides}
@@ -38,6 +34,8 @@ use Rattle.wdf_agreements.proofs.Queued.{dpc_cancelled, dpc_enqueued, dpc_taken,
 use Rattle.wdf_agreements.proofs.Sound.{Sound}
 use Rattle.wdf_base.specs.Same.{same_kind}
 use Rattle.wdf_blame_causes.proofs.Apt.{Apt}
+use Rattle.wdf_agreements.proofs.Choices.{no_and, or_still}
+use Rattle.wdf_agreements.proofs.Deferring.{Work, arrived, work_of}
 use Rattle.wdf_blame_whole.proofs.Standing.{Comes, defers, is_ready, ready_in}
 
 -- the kinds whose objects are queued as work
@@ -51,16 +49,6 @@ is_work_kind _ = false
 abbrev pub is_classed : Plan → Node → Bool
 is_classed plan n = not (is_work_kind n.kind) || same_kind (kind_of_class plan n.class) n.kind
 
--- the objects and the queues of deferred work
-pub record Work : Type 0 where
-  pub tree : Tree
-  pub dpcs : Dpcs
-  pub items : WorkItems
-  pub timers : Timers
-
-abbrev pub work_of : {A : Type 0} → State A → Work
-work_of S = record { tree = S.tree; dpcs = S.dpcs; items = S.work_items; timers = S.timers }
-
 pub record WorkKept (plan : Plan) (w : Work) : Type 0 where
   pub classes : (o : ℕ) → is_classed plan (node_of w.tree o) ≡ true
   pub dpcs : (o : ℕ) → is_dpc_queued w.dpcs o ≡ true → (ready_in kind.Dpc w.tree o || defers plan o) ≡ true
@@ -68,12 +56,6 @@ pub record WorkKept (plan : Plan) (w : Work) : Type 0 where
   pub timers : (o : ℕ) → is_timer_queued w.timers o ≡ true → ready_in kind.Timer w.tree o ≡ true
 
 -- ---- the objects change
-
-or_still : (a b c : Bool) → (a ≡ true → b ≡ true) → (a || c) ≡ true → (b || c) ≡ true
-or_still a b c h k = elim (or_cases a c k) [
-  | inl e ↦ first b c (h e)
-  | inr e ↦ second b c e
-]
 
 tree_changes : (plan : Plan) (w : Work) (T : Tree) → ((x : ℕ) → is_classed plan (node_of T x) ≡ true) → ((k : Kind) (x : ℕ) → ready_in k w.tree x ≡ true → ready_in k T x ≡ true) → WorkKept plan w → WorkKept plan (record w { tree = T })
 tree_changes plan w T classed still k = record {
@@ -133,10 +115,6 @@ cleaned_off : (l : Life) → is_cleaned l ≡ true → is_live l ≡ false
 cleaned_off life.Live h = absurd (let z : ⊥ = cc in z)
 cleaned_off _ h = refl
 
-unready : (a b : Bool) → a ≡ false → (a && b) ≡ false
-unready false b h = refl
-unready true b h = absurd (let z : ⊥ = cc in z)
-
 -- an object ends: it wasn't live
 ended : (plan : Plan) (w : Work) (o : ℕ) → is_cleaned (life_of w.tree o) ≡ true → WorkKept plan w → WorkKept plan (record w { tree = tree.destroy w.tree o })
 ended plan w o done k =
@@ -145,11 +123,7 @@ ended plan w o done k =
       | inl e ↦ ap (λ y. is_classed plan (node_of (tree.destroy w.tree o) y)) e ∙ ap (is_classed plan) (entry_put_same gone w.tree.nodes o gone)
       | inr n ↦ ap (is_classed plan) (entry_put_other gone w.tree.nodes o x gone n) ∙ k.classes x
     ])
-    (λ j x h. reads_same (is_ready j) w.tree o (λ _. gone) (sym (unready (is_live (life_of w.tree o)) (same_kind (node_of w.tree o).kind j) (cleaned_off (life_of w.tree o) done))) x ∙ h) k
-
-arrived : {A : Type 0} (S : State A) (device : ℕ) (info : RequestInfo) (p : Place) → work_of (arrive_at S device info p) ≡ record (work_of S) { tree = tree.arrive S.tree device }
-arrived S device info (place.Queued q) = refl
-arrived S device info _ = refl
+    (λ j x h. reads_same (is_ready j) w.tree o (λ _. gone) (sym (no_and (is_live (life_of w.tree o)) (same_kind (node_of w.tree o).kind j) (cleaned_off (life_of w.tree o) done))) x ∙ h) k
 
 same_work : (plan : Plan) (v w : Work) → w ≡ v → WorkKept plan v → WorkKept plan w
 same_work plan v w e k = subst (WorkKept plan) (sym e) k
@@ -168,7 +142,7 @@ works_by plan (WriteCell o k v) S f s a c q = changed plan (work_of S) o.0 (λ m
 works_by plan (Note o x) S f s a c q = let n = noted_same plan x (node_of S.tree o.0) in changed plan (work_of S) o.0 (noted x) n.0 n.1 q
 works_by plan (CleanUp o) S f s a c q =
     let asked : is_asked (life_of S.tree o.0) ≡ true = search both_left in
-    changed plan (work_of S) o.0 (with_life life.Cleaned) (λ k. sym (unready (is_live (life_of S.tree o.0)) (same_kind (node_of S.tree o.0).kind k) (asked_off (life_of S.tree o.0) asked))) refl q
+    changed plan (work_of S) o.0 (with_life life.Cleaned) (λ k. sym (no_and (is_live (life_of S.tree o.0)) (same_kind (node_of S.tree o.0).kind k) (asked_off (life_of S.tree o.0) asked))) refl q
 works_by plan (EndLife o) S f s a c q = let done : is_cleaned (life_of S.tree o.0) ≡ true = search both_left in ended plan (work_of S) o.0 done q
 works_by plan (Requeue r p) S f s a c q = same_work plan _ _ (gives_up work_of (λ S Q R P. refl) S r.0) q
 works_by plan (Forward r p) S f s a c q = same_work plan _ _ (gives_up work_of (λ S Q R P. refl) S r.0) q

@@ -44,7 +44,7 @@ use Rattle.wdf_model.proofs.LawsOverRuns as laws_over_runs
 use Rattle.wdf_model.proofs.OwnEvents.{did_tells, waiting_tells}
 use Rattle.wdf_model.proofs.Sames.{call_kind_decides}
 use Rattle.wdf_invariants.proofs.StillFrames.{asked_there}
-use Rattle.wdf_agreements.proofs.Keeping.{known_now}
+use Rattle.wdf_agreements.proofs.Keeping.{comes, known_now}
 use Rattle.wdf_laws.specs.declared.sign.Sign.{Sign}
 use Rattle.wdf_laws.specs.declared.sign.Sign.TheVariants as sign
 use Rattle.wdf_laws.specs.declared.sign.Told.{Told}
@@ -55,7 +55,7 @@ use Rattle.wdf_laws.specs.Signs.{shows}
 use Rattle.wdf_laws.specs.Words.{ever}
 use Rattle.wdf_trace_laws.proofs.Words.{ever_next, never_yet}
 use Rattle.wdf_trace_laws.proofs.Completions.{completes_at_each}
-use Rattle.wdf_trace_laws.proofs.Ends.{cleans, cleanup_tells, comes, told_at_each}
+use Rattle.wdf_trace_laws.proofs.Ends.{cleans, cleanup_tells, told_at_each}
 use Rattle.wdf_deeds.specs.MayDo.{completing}
 use Rattle.wdf_deeds.proofs.Walk.{event_may}
 use Rattle.wdf_family_laws.proofs.Families.{Family, family_at_each, one_event, told_later, told_still}

@@ -28,6 +28,7 @@ use Rattle.wdf_laws.specs.Events.{told}
 use Rattle.wdf_laws.specs.Family.{declared_parent, first_told, is_told, tells_of, told_class}
 use Rattle.wdf_laws.specs.Family as law
 use Rattle.wdf_family_laws.specs.Family.{ClassesAgree, FamilyAgrees, is_known}
+use Rattle.wdf_base.proofs.WordLaws.{find_passes}
 use Rattle.wdf_family_laws.proofs.Stays.{Stays, WasAt, event_stays, stays_same}
 use Rattle.wdf_family_laws.proofs.Telling.{Makes, event_makes}
 
@@ -47,10 +48,6 @@ found_passes_first : {T : Type 0} (p : T → Bool) (y : T) (ys : List T) (x : T)
 found_passes_first p y ys x true e rest h = let same : y ≡ x = cc in subst (λ z. p z ≡ true) same e
 found_passes_first p y ys x false e rest h = rest h
 
-found_passes : {T : Type 0} (p : T → Bool) (xs : List T) (x : T) → find p xs ≡ Some x → p x ≡ true
-found_passes p [] x h = absurd (let z : ⊥ = cc in z)
-found_passes p (y ∷ ys) x h = found_passes_first p y ys x (p y) refl (found_passes p ys x) h
-
 -- an event that tells of an object, and what it tells
 pub record Tells (plan : Plan) (o : ℕ) (e : Event) (t : Told) : Type 0 where
   pub told : told plan e ≡ Some t
@@ -68,7 +65,7 @@ pub data First (plan : Plan) (all : List Event) (o : ℕ) : Type 0 where
 first_by : (plan : Plan) (all : List Event) (o : ℕ) (found : Option Event) → find (tells_of plan o) all ≡ found → First plan all o
 first_by plan all o None h = First_none h (ap (option_and_then (told plan)) h)
 first_by plan all o (Some e) h =
-    let t = tells_by plan o e (told plan e) refl (found_passes (tells_of plan o) all e h) in
+    let t = tells_by plan o e (told plan e) refl (find_passes (tells_of plan o) all e h) in
     First_by e t.0 h t.1 (ap (option_and_then (told plan)) h ∙ t.1.told)
 
 pub first : (plan : Plan) (all : List Event) (o : ℕ) → First plan all o

@@ -1,5 +1,5 @@
 -- What is gone had its end, and what is past its cleanup had that: at each place of every run.
-use Rattle.std.proofs.Common.{◌≡◌, ℕ, zero, suc, ◌+◌, ◌<◌, Bool, true, false, not, ◌||◌, List, [], ◌∷◌, ◌++◌, ◌⊎◌, inl, inr, Some, length, map, slice_get, take, refl, sym, ap, subst, ◌∙◌, arith}
+use Rattle.std.proofs.Common.{◌≡◌, ℕ, zero, suc, ◌+◌, ◌<◌, Bool, true, false, not, List, [], ◌∷◌, ◌++◌, ◌⊎◌, inl, inr, Some, length, map, slice_get, take, refl, sym, ap, subst, ◌∙◌, arith}
 use Rattle.std.specs.List.{list_all}
 use Rattle.std.proofs.lemmas.Bool.{cases_Bool}
 use Rattle.wdf_base.specs.Meaning.{Meaning}
@@ -31,7 +31,7 @@ use Rattle.wdf_model.specs.laws.Fits.{all_fit, fits}
 use Rattle.wdf_model.specs.laws.FactsOfEvents.{IsTick}
 use Rattle.wdf_model.proofs.Runs.{along_run}
 use Rattle.wdf_model.proofs.Follows.{follows, state_goes_on}
-use Rattle.wdf_model.proofs.Tests.{both, both_left, both_right, not_true}
+use Rattle.wdf_model.proofs.Tests.{both, both_left, both_right, first, not_true, second}
 use Rattle.wdf_model.proofs.Counts.{equal, one_or_two}
 use Rattle.wdf_model.proofs.Maps.{entry_put_other}
 use Rattle.wdf_model.proofs.OwnEvents.{did_tells, waiting_tells}
@@ -145,19 +145,11 @@ known_within plan es T x k (inr p) = (k.after x p.0 p.1).1
 abbrev GoneTold : {A : Type 0} → Plan → List Event → State A → Type 0
 GoneTold plan es S = (x : ℕ) → Known plan es x → is_gone (life_of S.tree x) ≡ true → (ever (sign.Cleaned x) es ≡ true) × (ever (sign.Destroyed x) es ≡ true)
 
-still : (a b : Bool) → a ≡ true → (a || b) ≡ true
-still true b h = refl
-still false b h = absurd (let z : ⊥ = cc in z)
-
-now_ : (a b : Bool) → b ≡ true → (a || b) ≡ true
-now_ true b h = refl
-now_ false b h = h
-
 pub ever_still : (s : Sign) (es : List Event) (e : Event) → ever s es ≡ true → ever s (es ++ e ∷ []) ≡ true
-ever_still s es e h = ever_next s es e ∙ still (ever s es) (shows s e) h
+ever_still s es e h = ever_next s es e ∙ first (ever s es) (shows s e) h
 
 pub ever_now : (s : Sign) (es : List Event) (e : Event) → shows s e ≡ true → ever s (es ++ e ∷ []) ≡ true
-ever_now s es e h = ever_next s es e ∙ now_ (ever s es) (shows s e) h
+ever_now s es e h = ever_next s es e ∙ second (ever s es) (shows s e) h
 
 -- what is known after one event more was known before, or is told now
 known_next : (plan : Plan) (es : List Event) (e : Event) (x : ℕ) → Known plan (es ++ e ∷ []) x → Known plan es x ⊎ ((t : Told) × Tells plan x e t)

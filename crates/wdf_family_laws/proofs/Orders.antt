@@ -1,7 +1,7 @@
 -- Below a cleaned object all is cleaned, so nothing begins there but destroy callbacks; and an object ends after its children.
 use Rattle.std.proofs.Common.{if◌then◌else◌, ◌≡◌, ◌≢◌, ℕ, zero, suc, ◌+◌, ◌-◌, ◌<◌, ◌≤◌, ◌==◌, Bool, true, false, not, ◌&&◌, ◌||◌, List, [], ◌∷◌, ◌++◌, ◌⊎◌, inl, inr, Option, Some, None, drop, find, length, slice_get, take, refl, sym, ap, subst, ◌∙◌, arith}
 use Rattle.std.specs.List.{list_all}
-use Rattle.std.proofs.lemmas.Bool.{cases_Bool, eqb-true}
+use Rattle.std.proofs.lemmas.Bool.{cases_Bool, eqb-true, false_from_ne_true}
 use Rattle.wdf_base.specs.Meaning.{Meaning}
 use Rattle.wdf_base.specs.declared.ids.Handle.{Handle}
 use Rattle.wdf_base.specs.declared.plan.Plan.{Plan}
@@ -36,8 +36,11 @@ use Rattle.wdf_laws.specs.Signs.{shows}
 use Rattle.wdf_laws.specs.Words.{ever, times}
 use Rattle.wdf_trace_laws.proofs.Words.{ever_next, never_yet}
 use Rattle.wdf_trace_laws.proofs.Cleanups.{ends_after_cleanup}
-use Rattle.wdf_trace_laws.proofs.Ends.{begins_early, cleanup_tells, comes, ends_once, live_early, never, told_at_each}
+use Rattle.wdf_trace_laws.proofs.Ends.{begins_early, cleanup_tells, ends_once, never, told_at_each}
 use Rattle.wdf_trace_laws.proofs.References.{ends_balanced}
+use Rattle.wdf_agreements.proofs.Lives.{early_there, live_early}
+use Rattle.wdf_agreements.proofs.Choices.{and_no, no_and, or_not}
+use Rattle.wdf_agreements.proofs.Keeping.{comes}
 use Rattle.wdf_family_laws.proofs.Families.{Family, First_by, First_none, Knows_declared, Knows_none, Knows_told, Tells, family_at_each, first, knows, told_still}
 use Rattle.wdf_family_laws.proofs.Telling.{Makes, event_makes}
 use Rattle.wdf_family_laws.proofs.Gone.{Known, cleaned_told, ended_told, ever_still, known_within}
@@ -95,10 +98,6 @@ earlier_or_later (suc n) (suc j) = elim (earlier_or_later n j) [
   | inr h ↦ inr (omega arith)
 ]
 
-not_yes : (b : Bool) → (b ≡ true → ⊥) → b ≡ false
-not_yes true h = absurd (h refl)
-not_yes false h = refl
-
 tells_it : (plan : Plan) (o : ℕ) (e : Event) (t : Told) → Tells plan o e t → tells_of plan o e ≡ true
 tells_it plan o e t k = ap (law.is_told o) k.told ∙ equal t.object o k.object
 
@@ -111,7 +110,7 @@ later_live {A} plan m run n x t is_run none some_ = elim (first plan run x) [
       let at = found_place (tells_of plan x) run e found in
       elim (earlier_or_later n at.0) [
         | inl early ↦ absurd (told_already e u tells at.0 (slice_get-take run n at.0 early ∙ at.1))
-        | inr late ↦ not_yes (ever (sign.Cleaned t.parent) (take n run)) (λ yes.
+        | inr late ↦ false_from_ne_true (ever (sign.Cleaned t.parent) (take n run)) (λ yes.
             let S : State A = state_after plan m (take at.0 run) in
             let made : Makes plan S.tree (after plan m S e).tree u = makes_at plan m run at.0 e u is_run at.1 tells.told in
             let off : ever (sign.Cleaned u.parent) (take at.0 run) ≡ false =
@@ -163,12 +162,6 @@ pub late_by : (l : Life) → is_gone l ≡ true → is_past_cleanup l ≡ true
 late_by life.Gone h = refl
 late_by _ h = absurd (let z : ⊥ = cc in z)
 
-there_by : (l : Life) → is_past_cleanup l ≡ false → is_gone l ≡ false
-there_by life.Live h = refl
-there_by life.Asked h = refl
-there_by life.Cleaned h = absurd (let z : ⊥ = cc in z)
-there_by life.Gone h = absurd (let z : ⊥ = cc in z)
-
 -- at the cleanup of an object, what is below it was cleaned
 below_cleaned : {A : Type 0} (plan : Plan) (m : Meaning A) (run : List Event) (k x : ℕ) (o : Handle) → IsRunOf plan m run → slice_get run k ≡ Some (event.Cleanup o) → law.parent_of plan run x ≡ o.id.0 → law.parent_of plan run x ≢ 0
     → ever (sign.Cleaned (law.parent_of plan run x)) (take (suc k) run) ≡ true → ever (sign.Cleaned x) (take (suc k) run) ≡ true
@@ -183,7 +176,7 @@ below_cleaned {A} plan m run k x o is_run at up some_ done =
         | inl late ↦ cleaned_told plan m run is_run (suc k) x known late
         | inr early ↦ absurd (
             let order : is_cleaned (life_of U.tree (parent_of U.tree x)) ≡ false = in_order_at_each plan m run is_run (suc k) x early in
-            let is : parent_of U.tree x ≡ o.id.0 = parent (there_by (life_of U.tree x) early) ∙ up in
+            let is : parent_of U.tree x ≡ o.id.0 = parent (early_there (life_of U.tree x) early) ∙ up in
             let off : is_cleaned (life_of U.tree o.id.0) ≡ false = subst (λ y. is_cleaned (life_of U.tree y) ≡ false) is order in
             let z : ⊥ = cc in z)
       ]
@@ -217,29 +210,17 @@ closed_at : {A : Type 0} (plan : Plan) (m : Meaning A) (run : List Event) → Is
 closed_at plan m run is_run zero x some_ done = absurd (let no_ = never_yet (sign.Cleaned (law.parent_of plan run x)) in let z : ⊥ = cc in z)
 closed_at plan m run is_run (suc k) x some_ done = closed_by plan m run k x (slice_get run k) is_run refl (closed_at plan m run is_run k) some_ done
 
-either_no : (a b : Bool) → a ≡ false → b ≡ false → (a || b) ≡ false
-either_no true b h k = absurd (let z : ⊥ = cc in z)
-either_no false b h k = k
-
-no_and : (a b : Bool) → a ≡ false → (a && b) ≡ false
-no_and true b h = absurd (let z : ⊥ = cc in z)
-no_and false b h = refl
-
-and_no : (a b : Bool) → b ≡ false → (a && b) ≡ false
-and_no true b h = h
-and_no false b h = refl
-
 none_above : (plan : Plan) (all before : List Event) → Closed plan all before → (n o : ℕ) → ever (sign.Cleaned o) before ≡ false → cleaned_above plan all before n o ≡ false
 none_above plan all before closed zero o h = refl
 none_above plan all before closed (suc n) o h =
     let p : ℕ = law.parent_of plan all o in
-    either_no (ever (sign.Cleaned o) before) (not (p == 0) && cleaned_above plan all before n p) h
+    or_not (ever (sign.Cleaned o) before) (not (p == 0) && cleaned_above plan all before n p) h
     (elim (cases_Bool (p == 0)) [
       | inl root ↦ no_and (not (p == 0)) (cleaned_above plan all before n p) (ap not root)
       | inr above ↦
           let some_ : p ≢ 0 = λ e. (let z : (p == 0) ≡ true = equal p 0 e in let w : ⊥ = cc in w) in
           and_no (not (p == 0)) (cleaned_above plan all before n p)
-          (none_above plan all before closed n p (not_yes (ever (sign.Cleaned p) before) (λ yes. let on_ = closed o some_ yes in let z : ⊥ = cc in z)))
+          (none_above plan all before closed n p (false_from_ne_true (ever (sign.Cleaned p) before) (λ yes. let on_ = closed o some_ yes in let z : ⊥ = cc in z)))
     ])
 
 law_3_by : {A : Type 0} (plan : Plan) (m : Meaning A) (run : List Event) (k : ℕ) (e : Event) → IsRunOf plan m run → slice_get run k ≡ Some e → law_3 plan run (take k run) e ≡ true

@@ -5,24 +5,17 @@ use Rattle.wdf_base.specs.declared.plan.Plan.{Plan}
 use Rattle.wdf_base.specs.declared.object.Kind.{Kind}
 use Rattle.wdf_base.specs.declared.object.Kind.TheVariants as kind
 use Rattle.wdf_base.specs.declared.object.Life.TheVariants as life
-use Rattle.wdf_base.specs.declared.object.Place.{Place}
-use Rattle.wdf_base.specs.declared.object.Place.TheVariants as place
-use Rattle.wdf_base.specs.declared.object.RequestInfo.{RequestInfo}
 use Rattle.wdf_base.specs.declared.call.Callback.{Callback}
 use Rattle.wdf_base.specs.declared.call.Callback.TheVariants as callback
 use Rattle.wdf_base.specs.declared.event.Event.{Event}
-use Rattle.wdf_model.specs.declared.enums.Mode.TheVariants as mode
 use Rattle.wdf_model.specs.declared.entries.Node.{Node}
-use Rattle.wdf_model.specs.Plans.{managed_queues, queues_of}
 use Rattle.wdf_model.specs.parts.Tree.{Tree, class_of, gone, is_asked, is_gone, is_live, kind_of, life_of, new_node, next_id, node_of, noted, parent_of, subtree, with_life, with_node}
 use Rattle.wdf_model.specs.parts.Tree as tree
 use Rattle.wdf_model.specs.parts.Requests as requests
-use Rattle.wdf_model.specs.parts.Queues.{waiting_in}
-use Rattle.wdf_model.specs.parts.Control as control
 use Rattle.wdf_model.specs.State.{State}
 use Rattle.wdf_model.specs.declared.deed.Deed.{Deed}
-use Rattle.wdf_model.specs.declared.deed.Deed.TheVariants.{Create, MakeRequest, Arrive, AskDeletion, Refer, Unrefer, WriteCell, Note, CleanUp, EndLife, Requeue, Forward, GiveBack, SendRequest, CompleteRequest, PurgeQueue, CloseReturning, CloseDevice}
-use Rattle.wdf_model.specs.rules.Deeds.{arrive_at, ask_object, do_deed, give_up}
+use Rattle.wdf_model.specs.declared.deed.Deed.TheVariants.{Create, MakeRequest, Arrive, AskDeletion, Refer, Unrefer, WriteCell, Note, CleanUp, EndLife, CompleteRequest}
+use Rattle.wdf_model.specs.rules.Deeds.{ask_object, do_deed, give_up}
 use Rattle.wdf_model.specs.rules.Steps.{after, deeds, may}
 use Rattle.wdf_model.specs.laws.Fits.{fits}
 use Rattle.wdf_model.proofs.Tests.{both_left}
@@ -32,8 +25,10 @@ use Rattle.wdf_model.proofs.Deletion.{object_live, object_off}
 use Rattle.wdf_model.proofs.FitsOfEvents.{event_fits}
 use Rattle.wdf_invariants.proofs.StillFrames.{asked_there, live_there}
 use Rattle.wdf_agreements.proofs.Keeping.{deeds_keep}
-use Rattle.wdf_agreements.proofs.Stays.{gives_up, gives_up_if, queues_closed, returns_closed, withdraws}
+use Rattle.wdf_agreements.proofs.Stays.{gives_up}
 use Rattle.wdf_agreements.proofs.Lists.{reads_same}
+use Rattle.wdf_agreements.proofs.Readers.{arrived_tree, tree_of}
+use Rattle.wdf_agreements.proofs.PartsStay.{tree_stays}
 
 -- an object was there, with the parent, the kind and the class that it has
 pub record WasAt (T U : Tree) (x : ℕ) : Type 0 where
@@ -102,17 +97,10 @@ noted_kept : (c : Callback) (n : Node) → ((noted c n).life ≡ n.life) × ((no
 noted_kept callback.EvtDestroyCallback n = (refl, refl, refl, refl)
 noted_kept _ n = (refl, refl, refl, refl)
 
-pub arrived : {A : Type 0} (S : State A) (device : ℕ) (info : RequestInfo) (p : Place) → (arrive_at S device info p).tree ≡ tree.arrive S.tree device
-arrived S device info (place.Queued q) = refl
-arrived S device info _ = refl
-
-abbrev tree_of : {A : Type 0} → State A → Tree
-tree_of S = S.tree
-
 pub deed_stays : {A : Type 0} (plan : Plan) (d : Deed) (S : State A) → fits plan d S ≡ true → Stays S.tree (do_deed plan d S).tree
 deed_stays plan (Create k class parent) S f = made S.tree k class parent.0
 deed_stays plan (MakeRequest class parent) S f = made S.tree kind.Made class parent.0
-deed_stays plan (Arrive device info p) S f = subst (λ (V : Tree). Stays S.tree V) (sym (arrived S device.0 info p)) (made S.tree kind.Request 0 device.0)
+deed_stays plan (Arrive device info p) S f = subst (λ (V : Tree). Stays S.tree V) (sym (arrived_tree S device.0 info p)) (made S.tree kind.Request 0 device.0)
 deed_stays plan (AskDeletion o) S f = all_asked (subtree S.tree o.0) S
 deed_stays plan (Refer o) S f = changes S.tree o.0 (λ m. record m { references = m.references + 1 }) refl refl refl refl
 deed_stays plan (Unrefer o) S f = changes S.tree o.0 (λ m. record m { references = m.references - 1 }) refl refl refl refl
@@ -122,17 +110,10 @@ deed_stays plan (CleanUp o) S f =
     let asked : is_asked (life_of S.tree o.0) ≡ true = search both_left in
     changes S.tree o.0 (with_life life.Cleaned) (sym (asked_there (life_of S.tree o.0) asked)) refl refl refl
 deed_stays plan (EndLife o) S f = ended S.tree o.0
-deed_stays plan (Requeue r p) S f = stays_same _ _ (gives_up tree_of (λ S Q R P. refl) S r.0)
-deed_stays plan (Forward r p) S f = stays_same _ _ (gives_up tree_of (λ S Q R P. refl) S r.0)
-deed_stays plan (GiveBack r p) S f = stays_same _ _ (gives_up tree_of (λ S Q R P. refl) S r.0)
-deed_stays plan (SendRequest r t forget) S f = stays_same _ _ (gives_up_if tree_of (λ S Q R P. refl) S forget r.0)
 deed_stays plan (CompleteRequest r) S f =
     stays_then S.tree (give_up S r.0).tree _ (stays_same _ _ (gives_up tree_of (λ S Q R P. refl) S r.0))
     (all_asked (subtree (give_up S r.0).tree r.0) (record (give_up S r.0) { requests = requests.complete S.requests r.0 }))
-deed_stays plan (PurgeQueue p) S f = stays_same _ _ (withdraws tree_of (λ S Q R P. refl) plan p.0 (waiting_in S.queues p.0) (record S { control = control.set_mode S.control p.0 mode.Purged }))
-deed_stays plan (CloseReturning d) S f = stays_same _ _ (returns_closed tree_of (λ S Q R P. refl) (managed_queues plan d.0) S)
-deed_stays plan (CloseDevice d) S f = stays_same _ _ (queues_closed tree_of (λ S Q R P. refl) (queues_of plan d.0) (record S { control = control.shut S.control d.0 }))
-deed_stays plan _ S f = stays_same S.tree S.tree refl
+deed_stays plan d S f = stays_same _ _ (tree_stays plan d S refl)
 
 -- an event that may come leaves what was there, or ends it
 pub event_stays : {A : Type 0} (plan : Plan) (m : Meaning A) (S : State A) (e : Event) → may plan m S e ≡ true → Stays S.tree (after plan m S e).tree

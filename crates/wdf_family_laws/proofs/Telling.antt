@@ -49,7 +49,7 @@ use Rattle.wdf_model.proofs.FitsOfEvents.{by_its_top}
 use Rattle.wdf_laws.specs.declared.sign.Told.{Told}
 use Rattle.wdf_laws.specs.Events.{argument_object, id_in, or_none, told, told_by_call, told_of, value_object}
 use Rattle.wdf_laws.specs.Family.{told_class}
-use Rattle.wdf_family_laws.proofs.Stays.{arrived}
+use Rattle.wdf_agreements.proofs.Readers.{arrived_tree}
 
 -- what is told of an object: it is made now
 pub record Makes (plan : Plan) (T U : Tree) (t : Told) : Type 0 where
@@ -173,7 +173,7 @@ arrival_makes {A} plan S agent f length code device (Some h) t true live same e 
     let so : Some one ≡ Some t = subst (λ (x : Handle). told_of device None (id_in (Some x)) ≡ Some t) (sym it) e in
     let is : one ≡ t = cc in
     let S_ : State A = do_deed plan (CountArrival agent) S in
-    subst (λ (U : Tree). Makes plan S.tree U t) (sym (arrived S_ device (arrival_info S agent f length code device) (arrival_place plan S f length device)))
+    subst (λ (U : Tree). Makes plan S.tree U t) (sym (arrived_tree S_ device (arrival_info S agent f length code device) (arrival_place plan S f length device)))
     (subst (λ x. Makes plan S.tree (tree.arrive S.tree device) x) is (new_makes plan S.tree kind.Request 0 device None live refl (λ none. refl)))
 
 post_makes : {A : Type 0} (plan : Plan) (S : State A) (agent : ℕ) (p : Post) (answer : Option Handle) (t : Told) → same_option same_handle (post_answer plan S agent p) answer ≡ true

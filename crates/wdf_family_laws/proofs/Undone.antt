@@ -21,7 +21,7 @@ use Rattle.wdf_model.specs.parts.Targets.{is_forgotten}
 use Rattle.wdf_model.specs.State.{State, returns_to, withdrawn_place}
 use Rattle.wdf_model.specs.declared.deed.Deed.{Deed}
 use Rattle.wdf_model.specs.declared.deed.Deed.TheVariants.{MakeRequest, Arrive, AskDeletion, EndLife, Present, Receive, Requeue, Forward, GiveBack, Withdraw, MarkRequest, UnmarkRequest, CancelRequest, TakeCancel, SendRequest, FinishSending, ComeBack, CompleteRequest, PurgeQueue, CloseReturning, CloseDevice}
-use Rattle.wdf_model.specs.rules.Deeds.{arrive_at, cancel_in, close_queue, close_returning, do_deed, do_deeds, finished_at, give_up, give_up_if, queued, withdraw}
+use Rattle.wdf_model.specs.rules.Deeds.{cancel_in, close_queue, close_returning, do_deed, do_deeds, finished_at, give_up, give_up_if, queued, withdraw}
 use Rattle.wdf_model.specs.laws.Fits.{all_fit, fits, is_arrival_place}
 use Rattle.wdf_model.proofs.Tests.{both_left, both_right}
 use Rattle.wdf_model.proofs.Maps.{entry_map, entry_put_other, entry_put_same, entry_set_other, set_read}
@@ -30,6 +30,7 @@ use Rattle.wdf_agreements.proofs.Lists.{Each}
 use Rattle.wdf_agreements.proofs.Stays.{asks_all, given, given_if}
 use Rattle.std.specs.List.{list_all}
 use Rattle.wdf_deeds.specs.MayDo.{completing, may_do}
+use Rattle.wdf_agreements.proofs.Readers.{arrived_requests, requests_of}
 
 -- a request that arrived is done
 abbrev pub is_finished_request : Request → Bool
@@ -132,10 +133,6 @@ arrival_undone : (p : Place) → is_arrival_place p ≡ true → is_done p ≡ f
 arrival_undone place.Done h = absurd (let z : ⊥ = cc in z)
 arrival_undone _ h = refl
 
-arrived : {A : Type 0} (S : State A) (device : ℕ) (info : RequestInfo) (p : Place) → (arrive_at S device info p).requests ≡ requests.arrive S.requests (next_id S.tree) p info
-arrived S device info (place.Queued q) = refl
-arrived S device info _ = refl
-
 finish_undone : (b : Bool) (s : Status) (p : Place) → requests.is_sent p ≡ true → is_done (finished_at b s p) ≡ false
 finish_undone true s p h = refl
 finish_undone false s (place.Sent t) h = refl
@@ -145,16 +142,13 @@ finish_undone false s (place.Closing c) h = refl
 finish_undone false s place.Owned h = refl
 finish_undone false s place.Done h = absurd (let z : ⊥ = cc in z)
 
-abbrev requests_in : {A : Type 0} → State A → Requests
-requests_in S = S.requests
-
 -- the request that a deed completes
 abbrev pub Completes : Deed → ℕ → Type 0
 Completes (CompleteRequest r) x = x ≡ r.0
 Completes _ x = ⊥
 
 given_then : {A : Type 0} (S : State A) (r : ℕ) (U : Requests) → WasFinished (give_up S r).requests U → WasFinished S.requests U
-given_then {A} S r U h = was_then S.requests (give_up S r).requests U (same_requests S.requests (give_up S r).requests (given requests_in (λ S Q P. refl) S r)) h
+given_then {A} S r U h = was_then S.requests (give_up S r).requests U (same_requests S.requests (give_up S r).requests (given requests_of (λ S Q P. refl) S r)) h
 
 pub completed_one : (R : Requests) (r x : ℕ) → x ≢ r → finished (requests.complete R r) x ≡ true → finished R x ≡ true
 completed_one R r x n h = sym (ap is_finished_request (entry_put_other no_request R.all r x (moved place.Done (request_of R r)) n)) ∙ h
@@ -162,8 +156,8 @@ completed_one R r x n h = sym (ap is_finished_request (entry_put_other no_reques
 pub deed_finishes : {A : Type 0} (plan : Plan) (d : Deed) (S : State A) → fits plan d S ≡ true → (x : ℕ) → (Completes d x → ⊥) → finished (do_deed plan d S).requests x ≡ true → finished S.requests x ≡ true
 deed_finishes plan (MakeRequest class parent) S f x n h = put_in S.requests (next_id S.tree) place.Owned (made_info (nearest_device S.tree parent.0)) refl x h
 deed_finishes plan (Arrive device info p) S f x n h =
-    put_in S.requests (next_id S.tree) p info (arrival_undone p (search both_right)) x (sym (ap (λ (R : Requests). finished R x) (arrived S device.0 info p)) ∙ h)
-deed_finishes plan (AskDeletion o) S f x n h = same_requests S.requests (do_deed plan (AskDeletion o) S).requests (asks_all requests_in (λ S T D W U. refl) (subtree S.tree o.0) S) x h
+    put_in S.requests (next_id S.tree) p info (arrival_undone p (search both_right)) x (sym (ap (λ (R : Requests). finished R x) (arrived_requests S device.0 info p)) ∙ h)
+deed_finishes plan (AskDeletion o) S f x n h = same_requests S.requests (do_deed plan (AskDeletion o) S).requests (asks_all requests_of (λ S T D W U. refl) (subtree S.tree o.0) S) x h
 deed_finishes plan (EndLife o) S f x n h = forgets S.requests o.0 x h
 deed_finishes plan (Present q r) S f x n h = moved_to S.requests r.0 place.Owned refl x h
 deed_finishes plan (Receive q r) S f x n h = moved_to S.requests r.0 place.Owned refl x h
@@ -176,13 +170,13 @@ deed_finishes plan (UnmarkRequest r) S f x n h = changed S.requests r.0 unmarked
 deed_finishes plan (CancelRequest r) S f x n h = changed S.requests r.0 cancelled (λ k. k) x h
 deed_finishes plan (TakeCancel r) S f x n h = changed S.requests r.0 (with_mark marks.Taken) (λ k. k) x h
 deed_finishes plan (SendRequest r t forget) S f x n h =
-    was_then S.requests (give_up_if forget S r.0).requests (do_deed plan (SendRequest r t forget) S).requests (same_requests S.requests (give_up_if forget S r.0).requests (given_if requests_in (λ S Q P. refl) S forget r.0))
+    was_then S.requests (give_up_if forget S r.0).requests (do_deed plan (SendRequest r t forget) S).requests (same_requests S.requests (give_up_if forget S r.0).requests (given_if requests_of (λ S Q P. refl) S forget r.0))
     (moved_to (give_up_if forget S r.0).requests r.0 (place.Sent (record { 0 = t.0 })) refl) x h
 deed_finishes plan (FinishSending r s) S f x n h = moved_to S.requests r.0 (finished_at (is_forgotten S.targets r.0) s (place_of S.requests r.0)) (finish_undone (is_forgotten S.targets r.0) s (place_of S.requests r.0) (search both_left)) x h
 deed_finishes plan (ComeBack r) S f x n h = moved_to S.requests r.0 place.Owned refl x h
 deed_finishes {A} plan (CompleteRequest r) S f x n h =
     let U : State A = record (give_up S r.0) { requests = requests.complete S.requests r.0 } in
-    completed_one S.requests r.0 x n (same_requests U.requests (do_deed plan (CompleteRequest r) S).requests (asks_all requests_in (λ S T D W U. refl) (subtree (give_up S r.0).tree r.0) U) x h)
+    completed_one S.requests r.0 x n (same_requests U.requests (do_deed plan (CompleteRequest r) S).requests (asks_all requests_of (λ S T D W U. refl) (subtree (give_up S r.0).tree r.0) U) x h)
 deed_finishes plan (PurgeQueue q) S f x n h = all_withdrawn plan q.0 (waiting_in S.queues q.0) (record S { control = control.set_mode S.control q.0 mode.Purged }) x h
 deed_finishes plan (CloseReturning d) S f x n h = all_returning (managed_queues plan d.0) S x h
 deed_finishes plan (CloseDevice d) S f x n h = all_closed (queues_of plan d.0) (record S { control = control.shut S.control d.0 }) x h

@@ -35,7 +35,7 @@ use Rattle.wdf_laws.specs.Laws.{is_managed_of}
 use Rattle.wdf_laws.specs.Signs.{is_taking_of, shows}
 use Rattle.wdf_laws.specs.Words.{stands}
 use Rattle.wdf_request_laws.proofs.Cancels.{stands_next}
-use Rattle.wdf_request_laws.proofs.Gives.{call_of}
+use Rattle.wdf_agreements.proofs.ReasonsOfCalls.{call_of}
 use Rattle.wdf_held_laws.proofs.Holdings.{noted}
 use Rattle.wdf_held_laws.proofs.HeldAsTold.{HeldAsTold, is_taken}
 use Rattle.wdf_held_laws.proofs.HoldingsOverRuns.{either_held, held_opens, holds_now}

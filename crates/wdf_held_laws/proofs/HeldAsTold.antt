@@ -43,6 +43,7 @@ use Rattle.wdf_laws.specs.Words.{stands}
 use Rattle.wdf_request_laws.proofs.Cancels.{stands_next}
 use Rattle.wdf_request_laws.proofs.CancelsOverRuns.{started}
 use Rattle.wdf_request_laws.proofs.FirstParts.{start_reads}
+use Rattle.wdf_agreements.proofs.Choices.{and_no}
 use Rattle.wdf_held_laws.proofs.Holdings.{NotesChange, NotesStay, deed_notes, noted, notes_same, taken_notes}
 use Rattle.wdf_request_laws.proofs.Marks.{front_queued}
 use Rattle.wdf_request_laws.proofs.Standing.{stands_no_more, stays_standing}
@@ -59,7 +60,7 @@ HeldAsTold plan es P = (r q : ℕ) → is_managed plan q ≡ true → is_taken r
 -- no power-managed queue has the number 0
 pub managed_some : (plan : Plan) (q : ℕ) → is_managed plan q ≡ true → (0 == q) ≡ false
 managed_some plan q h = elim (one_or_two 0 q) [
-  | inl e ↦ absurd (let never : is_managed plan 0 ≡ true = subst (λ (p : ℕ). is_managed plan p ≡ true) (sym e) h in let z : ⊥ = cc in z)
+  | inl e ↦ absurd (let and_no : is_managed plan 0 ≡ true = subst (λ (p : ℕ). is_managed plan p ≡ true) (sym e) h in let z : ⊥ = cc in z)
   | inr n ↦ not_equal 0 q n
 ]
 
@@ -83,10 +84,6 @@ give_step plan es e P O x t g change held r q h = stands_next (sign.TakingFrom r
       ∙ held r q h ∙ sym (ap (λ m. m == q) (change.others r n))
 ]
 
-pub never : (a b : Bool) → b ≡ false → (a && b) ≡ false
-never true b k = k
-never false b k = refl
-
 taking_told : (e : Event) (x p r q : ℕ) → taken e ≡ Some (record { request = x; queue = p }) → shows (sign.TakingFrom r q) e ≡ (x == r && p == q)
 taking_told e x p r q t = ap (is_taking_of r q) t
 
@@ -107,7 +104,7 @@ module _ (plan : Plan) (es : List Event) (e : Event) (P : Power) (x p : ℕ) (t 
           ∙ sym (equal (noted O r) q (ap (noted O) at ∙ change.here ∙ here))
       | inr d ↦
           stands_next (sign.TakingFrom r q) (sign.GivingUp r) es e
-          ∙ stays_standing (shows (sign.TakingFrom r q) e) (shows (sign.GivingUp r) e) (is_taken r q es) (taking_told e x p r q t ∙ never (x == r) (p == q) (not_equal p q d)) (ap (is_id r) g)
+          ∙ stays_standing (shows (sign.TakingFrom r q) e) (shows (sign.GivingUp r) e) (is_taken r q es) (taking_told e x p r q t ∙ and_no (x == r) (p == q) (not_equal p q d)) (ap (is_id r) g)
           ∙ held r q h ∙ ap (λ n. n == q) (ap (noted P) at ∙ free) ∙ managed_some plan q h
           ∙ sym (not_equal (noted O r) q (λ y. d (sym (ap (noted O) at ∙ change.here) ∙ y)))
     ]
@@ -118,7 +115,7 @@ module _ (plan : Plan) (es : List Event) (e : Event) (P : Power) (x p : ℕ) (t 
 
   pub take_step : (u : Bool) → is_managed plan p ≡ u → HeldAsTold plan es P → HeldAsTold plan (es ++ e ∷ []) (if u then power.held_more P x p else P)
   take_step true m held r q h = take_managed (power.held_more P x p) (taken_notes P p x) held r q h
-  take_step false m held r q h = others_taken P r q (never (x == r) (p == q) (not_equal p q (λ y. apart_from m q h y))) refl held h
+  take_step false m held r q h = others_taken P r q (and_no (x == r) (p == q) (not_equal p q (λ y. apart_from m q h y))) refl held h
 
 -- ---- what isn't held is noted nowhere
 

@@ -31,7 +31,7 @@ use Rattle.wdf_model.specs.parts.Tree.{subtree}
 use Rattle.wdf_model.specs.parts.Queues.{waiting_in}
 use Rattle.wdf_model.specs.parts.Control as control
 use Rattle.wdf_model.specs.declared.enums.Mode.TheVariants as mode
-use Rattle.wdf_agreements.proofs.Stays.{asks_all}
+use Rattle.wdf_agreements.proofs.Stays.{asks_all, withdrawn_power}
 use Rattle.wdf_model.specs.State.{State, object_in, queue_delivers}
 use Rattle.wdf_model.specs.Ids.{cpu_of, object_id}
 use Rattle.wdf_model.specs.declared.deed.Deed.TheVariants.{Acknowledge, CompleteRequest, EnqueueDpc, EnqueueWork, Forward, GiveBack, MarkRequest, RegisterQueue, Requeue, SendRequest, StartTimer}
@@ -47,10 +47,12 @@ use Rattle.wdf_invariants.proofs.Holding.{HoldsIn}
 use Rattle.wdf_laws.specs.Events.{argument_object, given_up, is_one, is_success, pair_of, taken, value_object, where_so}
 use Rattle.wdf_request_laws.proofs.Cancels.{named}
 use Rattle.wdf_request_laws.proofs.Entries.{forward_by}
-use Rattle.wdf_request_laws.proofs.Gives.{call_of}
-use Rattle.wdf_held_laws.proofs.Holdings.{NotesChange, NotesStay, acknowledged_notes, completed_notes, given_notes, notes_same, power_of, withdrawn_power}
+use Rattle.wdf_agreements.proofs.Readers.{power_of}
+use Rattle.wdf_agreements.proofs.Choices.{and_no}
+use Rattle.wdf_agreements.proofs.ReasonsOfCalls.{call_of}
+use Rattle.wdf_held_laws.proofs.Holdings.{NotesChange, NotesStay, acknowledged_notes, completed_notes, given_notes, notes_same}
 use Rattle.wdf_request_laws.proofs.Marks.{front_queued}
-use Rattle.wdf_held_laws.proofs.HeldAsTold.{HeldAsTold, give_step, never, silent_step, take_step, unheld_noted, queued_unheld}
+use Rattle.wdf_held_laws.proofs.HeldAsTold.{HeldAsTold, give_step, silent_step, take_step, unheld_noted, queued_unheld}
 
 -- ---- calls that leave the notes
 
@@ -196,7 +198,7 @@ module _ {A : Type 0} {F B : ℕ → Bool} (plan : Plan) (es : List Event) (S : 
       sends plan es S hold held cpu (call_of call.WdfRequestSend n a b x) v (object_in b) (may_send S (object_in a) (object_in b)) (arg_is x 1) answer refl
       (λ forget well. ap (λ u. where_so u (argument_object a)) (both (arg_is x 1) (is_one v) forget well) ∙ it)
       (λ comes. ap (λ u. where_so (u && is_one v) (argument_object a)) comes)
-      (λ badly. ap (λ u. where_so u (argument_object a)) (never (arg_is x 1) (is_one v) badly))
+      (λ badly. ap (λ u. where_so u (argument_object a)) (and_no (arg_is x 1) (is_one v) badly))
   did_notes cpu f call.WdfIoQueueRetrieveNextRequest n a b x v clean answer =
       let it = named (view_of plan S cpu.0 f) (call_of call.WdfIoQueueRetrieveNextRequest n a b x) refl (wrong_kind_of_first (view_of plan S cpu.0 f) (call_of call.WdfIoQueueRetrieveNextRequest n a b x) (clean fault.WrongKind)) in
       takes_if plan es S hold held cpu (call_of call.WdfIoQueueRetrieveNextRequest n a b x) v (object_in a) (is_parallel_queue plan (object_in a)) (not (queue_delivers plan S (object_in a))) kept answer

@@ -1,11 +1,8 @@
 -- From which power-managed queue the driver holds a request, as power notes it: what leaves that as it is, and what the
 -- deeds do that take a request from a queue or give it up.
-use Rattle.std.proofs.Common.{◌≡◌, ◌≢◌, ℕ, Bool, true, false, not, List, [], ◌∷◌, fold, refl, sym, ap, subst, ◌∙◌}
+use Rattle.std.proofs.Common.{◌≡◌, ◌≢◌, ℕ, Bool, true, false, not, List, [], ◌∷◌, refl, sym, ap, subst, ◌∙◌}
 use Rattle.std.specs.List.{list_all}
 use Rattle.wdf_base.specs.declared.plan.Plan.{Plan}
-use Rattle.wdf_base.specs.declared.object.Place.{Place}
-use Rattle.wdf_base.specs.declared.object.Place.TheVariants as place
-use Rattle.wdf_base.specs.declared.object.RequestInfo.{RequestInfo}
 use Rattle.wdf_base.specs.declared.event.Stage.{Stage}
 use Rattle.wdf_base.specs.declared.event.Stage.TheVariants as stage
 use Rattle.wdf_base.specs.declared.event.Step.{Step}
@@ -23,12 +20,13 @@ use Rattle.wdf_model.specs.State.{State}
 use Rattle.wdf_model.specs.Ids.{object_id}
 use Rattle.wdf_model.specs.declared.deed.Deed.{Deed}
 use Rattle.wdf_model.specs.declared.deed.Deed.TheVariants.{Arrive, AskDeletion, Acknowledge, AdvancePower, AskStop, CloseDevice, CloseReturning, CompleteRequest, Forward, GiveBack, Present, PurgeQueue, Receive, Requeue, Resume, SendRequest}
-use Rattle.wdf_model.specs.rules.Deeds.{arrive_at, close_queue, close_returning, do_deed, do_deeds, give_up, withdraw}
+use Rattle.wdf_model.specs.rules.Deeds.{do_deed, do_deeds, give_up}
 use Rattle.wdf_model.proofs.Tests.{both_left, both_right, not_true}
 use Rattle.wdf_model.proofs.Maps.{entry_map}
-use Rattle.wdf_agreements.proofs.Stays.{asks_all}
+use Rattle.wdf_agreements.proofs.Stays.{asks_all, closed_power, returning_power, withdrawn_power}
 use Rattle.wdf_invariants.proofs.Holding.{HoldsIn}
 use Rattle.wdf_invariants.proofs.Releases.{Notes, gives_up, holding_elsewhere, holding_here, same_holding}
+use Rattle.wdf_agreements.proofs.Readers.{arrived_power, power_of}
 
 -- the queue that is noted for a request, 0 for none
 abbrev pub noted : Power → ℕ → ℕ
@@ -37,9 +35,6 @@ noted P r = (holding_of P r).queue.0
 -- the notes stay
 abbrev pub NotesStay : Power → Power → Type 0
 NotesStay P O = (x : ℕ) → noted O x ≡ noted P x
-
-abbrev pub power_of : {A : Type 0} → State A → Power
-power_of S = S.power
 
 pub notes_same : (P O : Power) → O ≡ P → NotesStay P O
 notes_same P O e x = ap (λ (Q : Power). noted Q x) e
@@ -60,22 +55,6 @@ stage_notes P d _ x = refl
 step_notes : (P : Power) (d : ℕ) (s : Step) → NotesStay P (power.advance P d s)
 step_notes P d (step.Run c i) x = refl
 step_notes P d (step.Pass s i) x = stage_notes P d s x
-
-pub withdrawn_power : {A : Type 0} (plan : Plan) (q : ℕ) (rs : List ℕ) (S : State A) → (fold (withdraw plan q) S rs).power ≡ S.power
-withdrawn_power plan q [] S = refl
-withdrawn_power plan q (r ∷ rs) S = withdrawn_power plan q rs (withdraw plan q S r)
-
-pub returning_power : {A : Type 0} (qs : List ℕ) (S : State A) → (fold close_returning S qs).power ≡ S.power
-returning_power [] S = refl
-returning_power (q ∷ qs) S = returning_power qs (close_returning S q)
-
-pub closed_power : {A : Type 0} (qs : List ℕ) (S : State A) → (fold close_queue S qs).power ≡ S.power
-closed_power [] S = refl
-closed_power (q ∷ qs) S = closed_power qs (close_queue S q)
-
-pub arrived_power : {A : Type 0} (S : State A) (device : ℕ) (info : RequestInfo) (p : Place) → (arrive_at S device info p).power ≡ S.power
-arrived_power S device info (place.Queued q) = refl
-arrived_power S device info _ = refl
 
 -- a deed that takes a request from a queue, gives one up, or acknowledges one
 abbrev pub is_holding : Deed → Bool

@@ -14,14 +14,12 @@ use Rattle.wdf_base.specs.declared.event.Event.{Event}
 use Rattle.wdf_base.specs.declared.event.Event.TheVariants as event
 use Rattle.wdf_model.specs.Tables.{same_id}
 use Rattle.wdf_model.specs.Plans.{is_managed}
-use Rattle.wdf_model.specs.parts.Cpus.{frame_of}
 use Rattle.wdf_model.specs.State.{State}
 use Rattle.wdf_model.specs.declared.deed.Deed.{Deed}
 use Rattle.wdf_model.specs.rules.Deeds.{do_deeds}
 use Rattle.wdf_model.specs.rules.Calls.{is_met_then, outcome}
-use Rattle.wdf_model.specs.rules.Steps.{after, deeds, did_deeds, may, waiting_deeds, woke_deeds}
+use Rattle.wdf_model.specs.rules.Steps.{after, deeds, may}
 use Rattle.wdf_model.proofs.Counts.{not_equal}
-use Rattle.wdf_model.proofs.FitsOfEvents.{by_its_top}
 use Rattle.wdf_model.proofs.OwnEvents.{IsDid, IsWaiting, IsWoke, did_tells, waiting_tells, woke_tells}
 use Rattle.wdf_model.proofs.KeptByDeeds.{KeptIn}
 use Rattle.wdf_model.specs.laws.Agreement.{managed_origin}
@@ -41,11 +39,11 @@ use Rattle.wdf_invariants.proofs.Holding.{holder}
 use Rattle.wdf_invariants.proofs.HeldOverRuns.{from_by, holds_at_each}
 use Rattle.wdf_deeds.specs.MayDo.{may_do}
 use Rattle.wdf_deeds.proofs.Passing.{event_passes}
-use Rattle.wdf_request_laws.proofs.FirstParts.{did_reads, waiting_reads, woke_reads}
+use Rattle.wdf_request_laws.proofs.FirstParts.{did_after, waiting_after, woke_after}
+use Rattle.wdf_agreements.proofs.ReasonsOfCalls.{call_of}
 use Rattle.wdf_held_laws.proofs.Holdings.{completed_notes, deeds_note, is_holding, none_holds}
 use Rattle.wdf_held_laws.proofs.HeldAsTold.{HeldAsTold, give_step, managed_some, silent_step, start_holds}
 use Rattle.wdf_held_laws.proofs.HeldByCalls.{call_notes, did_notes, is_holding_call}
-use Rattle.wdf_request_laws.proofs.Gives.{call_of}
 use Rattle.wdf_agreements.proofs.Keeping.{at_the_end}
 
 -- ---- events that take and give up nothing
@@ -93,16 +91,14 @@ module _ {A : Type 0} {F B : ℕ → Bool} (plan : Plan) (m : Meaning A) (es : L
   did_held cpu c v h =
       let d : IsDid plan S cpu.0 c v = did_tells plan m S cpu c v h in
       subst (HeldAsTold plan (es ++ event.Did cpu c v ∷ []))
-      (sym (ap (λ (ds : List Deed). (do_deeds plan ds S).power) (by_its_top S cpu.0 d.frame (did_deeds plan S cpu.0 c v) d.about.top)
-      ∙ did_reads (λ (T : State A). T.power) (λ T L C. refl) plan S cpu.0 d.frame c v (frame_of S.cpus d.frame)))
+      (sym (did_after (λ (T : State A). T.power) (λ T L C. refl) plan S cpu.0 c v d))
       (did_notes plan es S kept hold held cpu d.frame c.kind c.count c.a c.b c.c v d.about.clean d.answer)
 
   waiting_held : (cpu : Cpu) (c : Call) → may plan m S (event.Waiting cpu c) ≡ true → Held (event.Waiting cpu c)
   waiting_held cpu c h =
       let d : IsWaiting plan S cpu.0 c = waiting_tells plan m S cpu c h in
       subst (HeldAsTold plan (es ++ event.Waiting cpu c ∷ []))
-      (sym (ap (λ (ds : List Deed). (do_deeds plan ds S).power) (by_its_top S cpu.0 d.frame (waiting_deeds plan S cpu.0 c) d.about.top)
-      ∙ waiting_reads (λ (T : State A). T.power) (λ T L C. refl) plan S cpu.0 d.frame c (frame_of S.cpus d.frame)))
+      (sym (waiting_after (λ (T : State A). T.power) (λ T L C. refl) plan S cpu.0 c d))
       (silent_step plan es (event.Waiting cpu c) S.power (do_deeds plan (outcome plan S cpu.0 d.frame c).deeds S).power refl refl
       (call_notes plan S cpu.0 d.frame c.kind c.count c.a c.b c.c (waits_holding plan S c.kind c.count c.a c.b c.c d.unmet)) held)
 
@@ -110,8 +106,7 @@ module _ {A : Type 0} {F B : ℕ → Bool} (plan : Plan) (m : Meaning A) (es : L
   woke_held cpu c v h =
       let d : IsWoke S cpu.0 c v = woke_tells plan m S cpu c v h in
       subst (HeldAsTold plan (es ++ event.Woke cpu c v ∷ []))
-      (sym (ap (λ (ds : List Deed). (do_deeds plan ds S).power) (by_its_top S cpu.0 d.frame (woke_deeds plan c v) d.top)
-      ∙ woke_reads (λ (T : State A). T.power) (λ T L C. refl) plan S d.frame c v (frame_of S.cpus d.frame)))
+      (sym (woke_after (λ (T : State A). T.power) (λ T L C. refl) plan S cpu.0 c v d))
       (silent_step plan es (event.Woke cpu c v) S.power S.power refl refl (λ x. refl) held)
 
   event_held : (e : Event) → may plan m S e ≡ true → Held e

@@ -27,7 +27,7 @@ use Rattle.wdf_invariants.proofs.PowerQueues.{queues_at_each}
 use Rattle.wdf_laws.specs.declared.sign.Sign.TheVariants as sign
 use Rattle.wdf_laws.specs.Laws.{is_managed_of}
 use Rattle.wdf_laws.specs.Words.{stands}
-use Rattle.wdf_request_laws.proofs.Happened.{comes}
+use Rattle.wdf_agreements.proofs.Keeping.{comes}
 use Rattle.wdf_held_laws.proofs.Holdings.{noted}
 use Rattle.wdf_held_laws.proofs.HoldingsOverRuns.{held_at_each}
 

@@ -24,7 +24,6 @@ use Rattle.wdf_base.specs.declared.event.Step.TheVariants as step
 use Rattle.wdf_base.specs.Callbacks.{row_of}
 use Rattle.wdf_model.specs.declared.entries.Holding.{Holding}
 use Rattle.wdf_model.specs.Plans.{callback_irql, is_managed, is_parallel_queue}
-use Rattle.wdf_model.specs.parts.Cpus.{frame_of}
 use Rattle.wdf_model.specs.parts.Control.{accepts, is_purged, mode_of}
 use Rattle.wdf_model.specs.parts.Locks.{lock_of_callback}
 use Rattle.wdf_model.specs.parts.Queues.{front}
@@ -39,22 +38,21 @@ use Rattle.wdf_model.specs.rules.Deeds.{do_deed, do_deeds}
 use Rattle.wdf_model.specs.rules.Faults.{arg_is}
 use Rattle.wdf_model.specs.rules.Calls.{forwards_nowhere, may_send, origin_or_none, outcome, refused, retrieve_front, success}
 use Rattle.wdf_model.specs.rules.Starts.{effect, effect_for, new_frame, next_number, take_if_any}
-use Rattle.wdf_model.specs.rules.Steps.{after, deeds, did_deeds, may, view_of, waiting_deeds, woke_deeds}
+use Rattle.wdf_model.specs.rules.Steps.{after, deeds, may, view_of}
 use Rattle.wdf_model.specs.laws.FactsOfEvents.{IsTick}
 use Rattle.wdf_model.proofs.Maps.{entry_map}
 use Rattle.wdf_model.proofs.Tests.{both_left, both_right, itself, not_true}
 use Rattle.wdf_model.proofs.Counts.{one_or_two}
 use Rattle.wdf_model.proofs.Fits.{wrong_kind_of_first}
 use Rattle.wdf_model.proofs.FitsOfCalls.{Clean}
-use Rattle.wdf_model.proofs.FitsOfEvents.{by_its_top}
 use Rattle.wdf_model.proofs.OwnEvents.{IsDid, IsWaiting, IsWoke, did_tells, waiting_tells, woke_tells}
 use Rattle.wdf_invariants.proofs.Releases.{holding_elsewhere}
 use Rattle.wdf_laws.specs.declared.sign.Sign.TheVariants as sign
 use Rattle.wdf_laws.specs.Events.{argument_object, is_id, where_so}
 use Rattle.wdf_laws.specs.Signs.{shows}
 use Rattle.wdf_request_laws.proofs.Cancels.{named}
-use Rattle.wdf_request_laws.proofs.FirstParts.{did_reads, start_reads, waiting_reads, woke_reads}
-use Rattle.wdf_request_laws.proofs.Gives.{call_of}
+use Rattle.wdf_request_laws.proofs.FirstParts.{did_after, start_reads, waiting_after, woke_after}
+use Rattle.wdf_agreements.proofs.ReasonsOfCalls.{call_of}
 use Rattle.wdf_held_laws.proofs.Holdings.{is_holding, none_holds, noted}
 use Rattle.wdf_held_laws.proofs.HeldByCalls.{call_power}
 use Rattle.wdf_held_laws.proofs.HoldingsOverRuns.{event_none, is_plain, waits_holding}
@@ -184,24 +182,21 @@ module _ {A : Type 0} (plan : Plan) (m : Meaning A) (S : State A) where
   did_steps cpu c v h =
       let d : IsDid plan S cpu.0 c v = did_tells plan m S cpu c v h in
       subst (AckStep (event.Did cpu c v) S.power)
-      (sym (ap (λ (ds : List Deed). (do_deeds plan ds S).power) (by_its_top S cpu.0 d.frame (did_deeds plan S cpu.0 c v) d.about.top)
-      ∙ did_reads (λ (T : State A). T.power) (λ T L C. refl) plan S cpu.0 d.frame c v (frame_of S.cpus d.frame)))
+      (sym (did_after (λ (T : State A). T.power) (λ T L C. refl) plan S cpu.0 c v d))
       (did_acked plan S cpu d.frame c.kind c.count c.a c.b c.c v d.about.clean)
 
   waiting_steps : (cpu : Cpu) (c : Call) → may plan m S (event.Waiting cpu c) ≡ true → Acks (event.Waiting cpu c)
   waiting_steps cpu c h =
       let d : IsWaiting plan S cpu.0 c = waiting_tells plan m S cpu c h in
       subst (AckStep (event.Waiting cpu c) S.power)
-      (sym (ap (λ (ds : List Deed). (do_deeds plan ds S).power) (by_its_top S cpu.0 d.frame (waiting_deeds plan S cpu.0 c) d.about.top)
-      ∙ waiting_reads (λ (T : State A). T.power) (λ T L C. refl) plan S cpu.0 d.frame c (frame_of S.cpus d.frame)))
+      (sym (waiting_after (λ (T : State A). T.power) (λ T L C. refl) plan S cpu.0 c d))
       (still_event (event.Waiting cpu c) S.power (do_deeds plan (outcome plan S cpu.0 d.frame c).deeds S).power (still_power kept S.power (do_deeds plan (outcome plan S cpu.0 d.frame c).deeds S).power (call_power plan S cpu.0 d.frame c.kind c.count c.a c.b c.c (waits_holding plan S c.kind c.count c.a c.b c.c d.unmet))))
 
   woke_steps : (cpu : Cpu) (c : Call) (v : Value) → may plan m S (event.Woke cpu c v) ≡ true → Acks (event.Woke cpu c v)
   woke_steps cpu c v h =
       let d : IsWoke S cpu.0 c v = woke_tells plan m S cpu c v h in
       subst (AckStep (event.Woke cpu c v) S.power)
-      (sym (ap (λ (ds : List Deed). (do_deeds plan ds S).power) (by_its_top S cpu.0 d.frame (woke_deeds plan c v) d.top)
-      ∙ woke_reads (λ (T : State A). T.power) (λ T L C. refl) plan S d.frame c v (frame_of S.cpus d.frame)))
+      (sym (woke_after (λ (T : State A). T.power) (λ T L C. refl) plan S cpu.0 c v d))
       (still_event (event.Woke cpu c v) S.power S.power (still_power kept S.power S.power refl))
 
   pub event_acks : (e : Event) → may plan m S e ≡ true → Acks e

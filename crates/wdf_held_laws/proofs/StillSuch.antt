@@ -1,6 +1,6 @@
 -- Of the requests held from power-managed queues, those that are acknowledged, or those that aren't (`on` says which, of an
 -- acknowledgement): one is such after a deed only where it was before, held from the same queue.
-use Rattle.std.proofs.Common.{if◌then◌else◌, ◌≡◌, ℕ, Bool, true, false, ◌&&◌, List, [], ◌∷◌, inl, inr, refl, sym, ap, subst, ◌∙◌}
+use Rattle.std.proofs.Common.{if◌then◌else◌, ◌≡◌, ℕ, Bool, true, false, ◌&&◌, [], ◌∷◌, inl, inr, refl, sym, ap, subst, ◌∙◌}
 use Rattle.std.specs.Prelude.{⊤}
 use Rattle.wdf_base.specs.declared.plan.Plan.{Plan}
 use Rattle.wdf_base.specs.declared.rank.Rank.{Rank}
@@ -22,10 +22,11 @@ use Rattle.wdf_model.specs.rules.Deeds.{do_deed, do_deeds, give_up, release_powe
 use Rattle.wdf_model.specs.rules.Calls.{Outcome, number, success}
 use Rattle.wdf_model.specs.rules.Starts.{effect}
 use Rattle.wdf_model.proofs.Counts.{one_or_two}
-use Rattle.wdf_agreements.proofs.Stays.{asks_all}
+use Rattle.wdf_agreements.proofs.Stays.{asks_all, closed_power, returning_power, withdrawn_power}
 use Rattle.wdf_invariants.proofs.Releases.{holding_elsewhere, holding_here}
 use Rattle.wdf_request_laws.proofs.Entries.{forward_by}
-use Rattle.wdf_held_laws.proofs.Holdings.{arrived_power, closed_power, completed_power, is_holding, power_of, returning_power, withdrawn_power}
+use Rattle.wdf_agreements.proofs.Readers.{arrived_power, power_of}
+use Rattle.wdf_held_laws.proofs.Holdings.{completed_power, is_holding}
 
 give_power : {A : Type 0} (S : State A) (r : ℕ) (b : Bool) → is_with_driver S r ≡ b → (give_up S r).power ≡ (if b then release_power S.power r else S.power)
 give_power S r true e = rw e refl

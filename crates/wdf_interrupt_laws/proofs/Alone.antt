@@ -25,10 +25,10 @@ use Rattle.wdf_agreements.proofs.Sound.{lock_of_frame}
 use Rattle.wdf_laws.specs.declared.sign.Stacked.{Stacked}
 use Rattle.wdf_laws.specs.Frames.{frames_after, is_on}
 use Rattle.wdf_laws.specs.Laws.{alone_row, is_alone, is_with_interrupt, takes_interrupt_lock}
-use Rattle.wdf_trace_laws.proofs.Ends.{comes}
 use Rattle.wdf_scope_laws.proofs.Frames.{AgreesAfter, IsBegun, agrees_at_each}
 use Rattle.wdf_scope_laws.proofs.Scopes.{one_of, own_unfree}
 use Rattle.wdf_scope_laws.proofs.Stacks.{told_stack}
+use Rattle.wdf_agreements.proofs.Keeping.{comes}
 
 -- such a callback takes the interrupt's lock
 locks_it : (plan : Plan) (c : Callback) (o : ℕ) (d : Option Declared) → takes_interrupt_lock c ≡ true → lock_of_callback plan c o d ≡ Some (object_lock o)

@@ -32,14 +32,11 @@ use Rattle.wdf_power_laws.proofs.Isrs.{serves_at_each}
 use Rattle.wdf_power_laws.proofs.Laws.{comes_by, disables_at_each, enables_at_each, ready_at}
 use Rattle.wdf_power_laws.proofs.Runs.{kept_at_each}
 use Rattle.wdf_power_laws.proofs.Tellings.{enabled_stays}
+use Rattle.wdf_agreements.proofs.Deferring.{none_queued}
 use Rattle.wdf_interrupt_laws.proofs.Alone.{alone_at_each}
 use Rattle.wdf_interrupt_laws.proofs.Served.{Serves, keeps}
 
 -- ---- the opening
-
-none_queued : (x n : ℕ) → list_any (contains x) (replicate n []) ≡ true → ⊥
-none_queued x zero h = let z : ⊥ = cc in z
-none_queued x (suc n) h = none_queued x n h
 
 none_active : (plan : Plan) (i : ℕ) → (entry false [] i || list_any (contains i) (replicate plan.cpus [])) ≡ true → ⊥
 none_active plan i h = none_queued i plan.cpus h

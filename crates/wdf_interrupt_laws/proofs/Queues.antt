@@ -18,7 +18,7 @@ use Rattle.wdf_model.specs.parts.Tree.{is_live, life_of}
 use Rattle.wdf_model.specs.parts.Interrupts.{is_enabled}
 use Rattle.wdf_model.specs.parts.Deferred.Dpcs.{is_dpc_queued}
 use Rattle.wdf_model.specs.Plans.{declares}
-use Rattle.wdf_model.specs.parts.Cpus.{frame_of, top}
+use Rattle.wdf_model.specs.parts.Cpus.{frame_of}
 use Rattle.wdf_model.specs.State.{State, object_in}
 use Rattle.wdf_model.specs.declared.deed.Deed.{Deed}
 use Rattle.wdf_model.specs.declared.deed.Deed.TheVariants.{Arrive, CompleteRequest, EnqueueDpc, Forward, GiveBack, GoOn, Requeue, SendRequest}

@@ -58,17 +58,18 @@ use Rattle.wdf_laws.specs.Signs.{shows}
 use Rattle.wdf_laws.specs.Laws.{is_enabled_in_power, is_entered}
 use Rattle.wdf_family_laws.proofs.Families.{Family}
 use Rattle.wdf_power_laws.specs.Steps.{is_for}
-use Rattle.wdf_power_laws.proofs.Calm.{Calm, deeds_calm, sound_after, sound_before}
+use Rattle.wdf_power_laws.proofs.Calm.{Calm, deeds_calm}
 use Rattle.wdf_power_laws.proofs.Declares.{declares_device, is_power_callback, once_by, own_device_of}
 use Rattle.wdf_power_laws.proofs.Events.{Kept, Staged, enabled_after, not_entry, not_exit, sequence_is, staged}
 use Rattle.wdf_power_laws.proofs.Happens.{end_elsewhere, found_pass, found_run, not_its, not_running, shown_for, stage_allowed, start_silent, taken_pass, taken_run}
 use Rattle.wdf_power_laws.proofs.Holding.{Silent, watch}
-use Rattle.wdf_power_laws.proofs.Isrs.{as_found, device_of_it}
+use Rattle.wdf_power_laws.proofs.Belonging.{device_of_interrupt, interrupt_found}
 use Rattle.wdf_power_laws.proofs.Passing.{enabling}
 use Rattle.wdf_power_laws.proofs.Standings.{Standing, Watch, owed, passes, safe}
 use Rattle.wdf_power_laws.proofs.Standings as standings
 use Rattle.wdf_power_laws.proofs.Tellings.{enabled_comes, enabled_stays}
 use Rattle.wdf_power_laws.proofs.Unmoved.{event_none, none_moves, start_effect_none, taking_none}
+use Rattle.wdf_agreements.proofs.LevelEvents.{sound_after, sound_before}
 use Rattle.wdf_interrupt_laws.proofs.Queues.{From, deeds_from, event_fine}
 use Rattle.wdf_interrupt_laws.proofs.Quieted.{asked_quieted, ended_quieted, exit_by, is_quieted, not_any, quiet_by, quieted_by, run_quieted}
 
@@ -129,7 +130,7 @@ module _ {A : Type 0} (plan : Plan) (m : Meaning A) (S : State A) (es : List Eve
       by : (x : Option InterruptInfo) → interrupt_of plan o ≡ x → (not (is_some x) || is_enabled S.interrupts o) ≡ true
       by None e = refl
       by (Some i) e =
-          let d : declared_of plan o ≡ Some (declared.Interrupt i) = as_found plan (declared_of plan o) i e in
+          let d : declared_of plan o ≡ Some (declared.Interrupt i) = interrupt_found (declared_of plan o) i e in
           let k_ : kind_of S.tree o ≡ kind.Interrupt = (family.declared o (declared.Interrupt i) d (live_there (life_of S.tree o) live)).1 in
           absurd (let off : same_kind (kind_of S.tree o) kind.Dpc ≡ false = ap (λ y. same_kind y kind.Dpc) k_ in let z : ⊥ = cc in z)
 
@@ -157,7 +158,7 @@ module _ {A : Type 0} (plan : Plan) (m : Meaning A) (S : State A) (es : List Eve
 
   watched_of : (i : ℕ) (x : InterruptInfo) → interrupt_of plan i ≡ Some x → (watch plan x.device.0 i).watched ≡ true
   watched_of i x at =
-      both (is_some (device_of plan x.device.0)) (is_interrupt_of x.device.0 (interrupt_of plan i)) (device_of_it plan resolved i x at) (subst (λ y. is_interrupt_of x.device.0 y ≡ true) (sym at) (itself x.device.0))
+      both (is_some (device_of plan x.device.0)) (is_interrupt_of x.device.0 (interrupt_of plan i)) (device_of_interrupt plan resolved i x at) (subst (λ y. is_interrupt_of x.device.0 y ≡ true) (sym at) (itself x.device.0))
 
   in_power : (i : ℕ) (x : InterruptInfo) → interrupt_of plan i ≡ Some x → is_active S i ≡ true → is_enabled_in_power plan es i x.device.0 ≡ true
   in_power i x at a = elim (or_cases (is_enabled S.interrupts i) (is_dpc_queued S.dpcs i) a) [

@@ -1,5 +1,5 @@
 -- What deeds leave alone that begin no frame and move no device: what devices have left, their power, and their interrupts.
-use Rattle.std.proofs.Common.{if◌then◌else◌, ◌≡◌, ℕ, Bool, true, false, not, List, [], ◌∷◌, ◌++◌, fold, refl, ap, ◌∙◌}
+use Rattle.std.proofs.Common.{if◌then◌else◌, ◌≡◌, ℕ, Bool, true, false, not, List, [], ◌∷◌, fold, refl, ap, ◌∙◌}
 use Rattle.wdf_base.specs.declared.plan.Plan.{Plan}
 use Rattle.wdf_base.specs.declared.object.Place.{Place}
 use Rattle.wdf_base.specs.declared.object.Place.TheVariants as place
@@ -20,7 +20,7 @@ use Rattle.wdf_model.specs.State.{State, is_with_driver}
 use Rattle.wdf_model.specs.declared.deed.Deed.{Deed}
 use Rattle.wdf_model.specs.declared.deed.Deed.TheVariants.{Arrive, AskDeletion, PushFrame, PopFrame, Present, Receive, Requeue, Forward, GiveBack, SendRequest, CompleteRequest, PurgeQueue, CloseReturning, CloseDevice, AskDevice, TakeStep, EndStep, AdvancePower, EnableInterrupt, DisableInterrupt}
 use Rattle.wdf_model.specs.rules.Deeds.{arrive_at, close_queue, close_returning, do_deed, do_deeds, give_up, give_up_if, withdraw}
-use Rattle.wdf_model.proofs.Tests.{both_left, both_right}
+use Rattle.wdf_model.proofs.Tests.{both_left, both_right, not_true}
 use Rattle.wdf_agreements.proofs.Stays.{asks_all, gives_up, gives_up_if, queues_closed, returns_closed, withdraws}
 use Rattle.wdf_agreements.proofs.Sound.{AllSound, Sound}
 use Rattle.wdf_agreements.proofs.FramesStay.{FramesGoOn, frames_by}
@@ -49,7 +49,7 @@ calm_then S U V a b = record { pnp = b.pnp ∙ a.pnp; devices = b.devices ∙ a.
 abbrev devices_in : {A : Type 0} → State A → List DevicePower
 devices_in S = S.power.devices
 
-released_by : (P : Power) (r : ℕ) (b : Bool) → (if b then power.held_less P r else P).devices ≡ P.devices
+pub released_by : (P : Power) (r : ℕ) (b : Bool) → (if b then power.held_less P r else P).devices ≡ P.devices
 released_by P r true = refl
 released_by P r false = refl
 
@@ -144,21 +144,8 @@ calm_by plan d S h s =
     let e : rest_in (do_deed plan d S) ≡ rest_in S = rest_by plan d S h in
     record { pnp = ap (λ (r : Rest). r.0) e; devices = devices_by plan d S h; interrupts = ap (λ (r : Rest). r.1) e; frames = goes_by plan d S h s }
 
-not_moving : (b : Bool) → not b ≡ true → b ≡ false
-not_moving true h = absurd (let z : ⊥ = cc in z)
-not_moving false h = refl
-
 pub deeds_calm : {A : Type 0} (plan : Plan) (ds : List Deed) (S : State A) → none_moves ds ≡ true → AllSound plan ds S → Calm S (do_deeds plan ds S)
 deeds_calm plan [] S h s = calm_same S
 deeds_calm plan (d ∷ ds) S h s =
-    calm_then S (do_deed plan d S) _ (calm_by plan d S (not_moving (is_moving d) (both_left (not (is_moving d)) (none_moves ds) h)) s.0)
+    calm_then S (do_deed plan d S) _ (calm_by plan d S (not_true (is_moving d) (both_left (not (is_moving d)) (none_moves ds) h)) s.0)
     (deeds_calm plan ds (do_deed plan d S) (both_right (not (is_moving d)) (none_moves ds) h) s.1)
-
--- the deeds before and after are sound where they are done
-pub sound_before : {A : Type 0} (plan : Plan) (ds es : List Deed) (S : State A) → AllSound plan (ds ++ es) S → AllSound plan ds S
-sound_before plan [] es S h = tt
-sound_before plan (d ∷ ds) es S h = (h.0, sound_before plan ds es (do_deed plan d S) h.1)
-
-pub sound_after : {A : Type 0} (plan : Plan) (ds es : List Deed) (S : State A) → AllSound plan (ds ++ es) S → AllSound plan es (do_deeds plan ds S)
-sound_after plan [] es S h = h
-sound_after plan (d ∷ ds) es S h = sound_after plan ds es (do_deed plan d S) h.1

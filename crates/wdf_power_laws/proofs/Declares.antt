@@ -3,6 +3,7 @@ use Rattle.std.proofs.Common.{if◌then◌else◌, ◌≡◌, ℕ, zero, suc, �
 use Rattle.std.specs.List.{list_all, list_any, range_with_len}
 use Rattle.std.proofs.lemmas.Bool.{eqb-true}
 use Rattle.std.proofs.lemmas.List.Quantifiers.{position-Some}
+use Rattle.std.proofs.Math.Bool.{or-false}
 use Rattle.wdf_base.specs.declared.plan.Plan.{Plan}
 use Rattle.wdf_base.specs.declared.object.Kind.{Kind}
 use Rattle.wdf_base.specs.declared.object.Kind.TheVariants as kind
@@ -27,13 +28,14 @@ use Rattle.wdf_model.specs.Tables.{entry, flag}
 use Rattle.wdf_model.specs.Plans.{as_interrupt, declared_ids, declares, interrupt_of, is_interrupt_of, script_on}
 use Rattle.wdf_model.specs.parts.Pnp.{DEVICE_CALLBACKS, InterruptSteps, device_steps, interrupt_steps}
 use Rattle.wdf_model.specs.declared.entries.Node.{Node}
-use Rattle.wdf_model.specs.parts.Tree.{Tree, gone, is_gone, kind_of, life_of, made_as, nearest_device, nearest_devices, node_of, own_device}
+use Rattle.wdf_model.specs.parts.Tree.{Tree, gone, is_gone, kind_of, life_of, made_as, nearest_device, nearest_devices, node_of, own_device, parent_of}
 use Rattle.wdf_model.specs.State.{State, declared_in}
 use Rattle.wdf_model.specs.laws.OverRuns.{DeclaredAgree, is_declared_kind}
 use Rattle.wdf_model.proofs.Maps.{entry_before, entry_last}
 use Rattle.wdf_model.proofs.Counts.{count_cons, equal, not_equal, one_or_two}
 use Rattle.wdf_model.proofs.Sames.{callback_decides}
 use Rattle.wdf_model.proofs.Tests.{both_left, both_right, not_true}
+use Rattle.wdf_agreements.proofs.LevelCalls.{all_fit_at}
 
 -- ---- callbacks of devices
 
@@ -67,11 +69,6 @@ owns_device plan (declared.Device a) _ h k = absurd (let z : ⊥ = cc in z)
 owns_device plan (declared.OfClass c) y h k = absurd (class_unlike (slice_get plan.classes c) k)
 owns_device plan _ y h k = absurd (let z : ⊥ = cc in z)
 
-fit_at : (p : Script → Bool) (d : Script) (ss : List Script) (i : ℕ) → list_all p ss ≡ true → i < length ss → p (entry d ss i) ≡ true
-fit_at p d [] i h within = absurd (omega arith)
-fit_at p d (s ∷ ss) zero h within = both_left (p s) (list_all p ss) h
-fit_at p d (s ∷ ss) (suc i) h within = fit_at p d ss i (both_right (p s) (list_all p ss) h) (omega arith)
-
 owned_by : (plan : Plan) (c : Callback) (x : Declared) (ss : List Script) (found : Option ℕ) → is_power_callback c ≡ true → list_all (script_fits plan) ss ≡ true → position (is_script_of c x) ss ≡ found → is_some found ≡ true → is_device (Some x) ≡ true
 owned_by plan c x ss None power fits at h = absurd (let z : ⊥ = cc in z)
 owned_by plan c x [] (Some i) power fits at h = absurd (let z : ⊥ = cc in z)
@@ -79,7 +76,7 @@ owned_by plan c x (t ∷ ts) (Some i) power fits at h =
     let p = position-Some (is_script_of c x) (t ∷ ts) i t at in
     let s : Script = entry t (t ∷ ts) i in
     let it : (same_callback s.callback c && same_declared s.owner x) ≡ true = p.1 in
-    let fit : script_fits plan s ≡ true = fit_at (script_fits plan) t (t ∷ ts) i fits p.0 in
+    let fit : script_fits plan s ≡ true = all_fit_at (script_fits plan) t (t ∷ ts) i fits p.0 in
     let same : s.callback ≡ c = (callback_decides s.callback c).0 (both_left (same_callback s.callback c) (same_declared s.owner x) it) in
     let own : owner_fits plan (row_of s.callback).owner s.owner ≡ true = both_left (owner_fits plan (row_of s.callback).owner s.owner) _ fit in
     owns_device plan s.owner x (both_right (same_callback s.callback c) (same_declared s.owner x) it)
@@ -91,10 +88,6 @@ declares_device plan c None resolved power h = absurd (let z : ⊥ = cc in z)
 declares_device plan c (Some x) resolved power h = owned_by plan c x plan.scripts (script_of plan c x) power resolved.scripts_fit refl h
 
 -- ---- steps
-
-or_no : (b : Bool) → (b || false) ≡ b
-or_no true = refl
-or_no false = refl
 
 any_kept_by : {T : Type 0} (p q : T → Bool) (x : T) (xs : List T) (b : Bool) → q x ≡ b → list_any p (filter q xs) ≡ list_any (λ y. p y && q y) xs → list_any p (if b then x ∷ filter q xs else filter q xs) ≡ ((p x && b) || list_any (λ y. p y && q y) xs)
 any_kept_by p q x xs true e h = by_test (p x)
@@ -114,7 +107,7 @@ any_kept p q (x ∷ xs) = any_kept_by p q x xs (q x) refl (any_kept p q xs)
 
 -- a device runs EvtDeviceD0Entry exactly where it declares it
 pub entry_declared : (plan : Plan) (d : ℕ) → list_any (same_callback callback.EvtDeviceD0Entry) (device_steps plan d).callbacks ≡ declares plan callback.EvtDeviceD0Entry d
-entry_declared plan d = any_kept (same_callback callback.EvtDeviceD0Entry) (λ c. declares plan c d) DEVICE_CALLBACKS ∙ or_no (declares plan callback.EvtDeviceD0Entry d)
+entry_declared plan d = any_kept (same_callback callback.EvtDeviceD0Entry) (λ c. declares plan c d) DEVICE_CALLBACKS ∙ or-false (declares plan callback.EvtDeviceD0Entry d)
 
 -- ---- interrupts
 
@@ -260,3 +253,24 @@ own_device_of plan S o agree lives d =
     within p [] o off h = absurd (let z : ⊥ = cc in z)
     within p (n ∷ ns) zero off h = omega arith
     within p (n ∷ ns) (suc o) off h = let rest : o < length ns = within p ns o off h in omega arith
+
+pub by_parent : (before : List ℕ) (ns : List Node) (k : ℕ) → k < length ns → same_kind (entry gone ns k).kind kind.Device ≡ false → (entry gone ns k).parent.0 < length before + k
+    → entry 1 (nearest_devices before ns) (length before + k) ≡ entry 1 (nearest_devices before ns) (entry gone ns k).parent.0
+by_parent before [] k h off older = absurd (omega arith)
+by_parent before (n ∷ ns) zero h off older =
+    let x : ℕ = own_device before (length before) n in
+    let own : x ≡ entry 1 before n.parent.0 = ap (λ b. if b then length before else entry 1 before n.parent.0) off in
+    let more = length-append before (x ∷ []) in
+    let start : length before + 0 ≡ length before = omega arith in
+    let above : n.parent.0 < length before = omega arith in
+    rw start
+    (front_stays (before ++ x ∷ []) ns (length before) (omega arith) ∙ entry_last 1 before x ∙ own
+    ∙ sym (front_stays (before ++ x ∷ []) ns n.parent.0 (omega arith) ∙ entry_before 1 before x n.parent.0 (λ e. let z : ⊥ = omega arith in z)))
+by_parent before (n ∷ ns) (suc k) h off older =
+    let x : ℕ = own_device before (length before) n in
+    let more = length-append before (x ∷ []) in
+    let e : length before + suc k ≡ length (before ++ x ∷ []) + k = omega arith in
+    rw e (by_parent (before ++ x ∷ []) ns k (omega arith) off (omega arith))
+
+pub nearest_by : (T : Tree) (o : ℕ) → o < length T.nodes → same_kind (kind_of T o) kind.Device ≡ false → parent_of T o < o → nearest_device T o ≡ nearest_device T (parent_of T o)
+nearest_by T o h off older = let start : 0 + o ≡ o = omega arith in rw start at (by_parent [] T.nodes o h off (omega arith))

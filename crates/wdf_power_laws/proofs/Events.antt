@@ -28,7 +28,7 @@ use Rattle.wdf_model.specs.parts.Tree.{is_gone, life_of, nearest_device}
 use Rattle.wdf_model.specs.parts.Cpus.{Cpus, frame_of, top}
 use Rattle.wdf_model.specs.parts.Locks.{lock_of_callback}
 use Rattle.wdf_model.specs.parts.Power.{Power, advance_stage, no_device_power}
-use Rattle.wdf_model.specs.parts.Pnp.{Pnp, Sequence, busy, is_running_step, next_step, no_sequence, running_step, sequence_of, steps_for, steps_left}
+use Rattle.wdf_model.specs.parts.Pnp.{Sequence, busy, is_running_step, next_step, no_sequence, running_step, sequence_of, steps_for, steps_left}
 use Rattle.wdf_model.specs.parts.Pnp as pnp
 use Rattle.wdf_model.specs.parts.Interrupts.{Interrupts, is_enabled}
 use Rattle.wdf_model.specs.parts.Interrupts as interrupts
@@ -56,12 +56,13 @@ use Rattle.wdf_agreements.proofs.SoundEvents.{top_on}
 use Rattle.wdf_agreements.proofs.SoundRuns.{KnownAll, all_sound}
 use Rattle.wdf_agreements.proofs.FramesStay.{Begins, FramesGoOn, frames_by}
 use Rattle.wdf_power_laws.specs.Steps.{is_for}
+use Rattle.wdf_agreements.proofs.LevelEvents.{sound_after, sound_before}
 use Rattle.wdf_power_laws.proofs.Holding.{Silent, watch}
 use Rattle.wdf_power_laws.proofs.Standings as standings
 use Rattle.wdf_power_laws.proofs.Passing.{enabling, power_by}
 use Rattle.wdf_power_laws.proofs.Unmoved.{event_none, none_moves, releasing_none, start_effect_none, taking_none}
 use Rattle.wdf_power_laws.proofs.Declares.{declares_device, is_power_callback, own_device_of}
-use Rattle.wdf_power_laws.proofs.Calm.{Calm, calm_same, deeds_calm, sound_after, sound_before}
+use Rattle.wdf_power_laws.proofs.Calm.{Calm, calm_same, deeds_calm}
 use Rattle.wdf_power_laws.proofs.Frames.{Runs, StepFrames, begun_other, begun_step, frames_kept, is_step, was_step}
 use Rattle.wdf_power_laws.proofs.Happens.{AllHold, end_elsewhere, found_pass, found_run, hold_asked, hold_begun, hold_ended, hold_passed, hold_same, hold_silent, not_running, stage_allowed, start_silent, taken_pass, taken_run}
 

@@ -12,4 +12,5 @@ pub mod Frames
 pub mod Events
 pub mod Runs
 pub mod Laws
+pub mod Belonging
 pub mod Isrs

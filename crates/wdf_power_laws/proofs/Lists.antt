@@ -4,6 +4,7 @@ use Rattle.std.specs.Bool.{beq}
 use Rattle.std.specs.List.{flat_map, list_any}
 use Rattle.std.proofs.lemmas.List.{reverse-append}
 use Rattle.std.proofs.lemmas.List.Concat.{flat_map-cons}
+use Rattle.std.proofs.Math.Bool.{and-false, or-false}
 use Rattle.wdf_base.specs.declared.ids.Handle.{Handle}
 use Rattle.wdf_base.specs.declared.call.Callback.{Callback}
 use Rattle.wdf_base.specs.declared.call.Callback.TheVariants as callback
@@ -38,10 +39,6 @@ pub record Suits (w : Watch) (p : DeviceSteps) : Type 0 where
 
 -- ---- tests
 
-or_no : (b : Bool) → (b || false) ≡ b
-or_no true = refl
-or_no false = refl
-
 or_yes : (b : Bool) → (b || true) ≡ true
 or_yes true = refl
 or_yes false = refl
@@ -49,10 +46,6 @@ or_yes false = refl
 and_yes : (b : Bool) → (b && true) ≡ b
 and_yes true = refl
 and_yes false = refl
-
-and_no : (b : Bool) → (b && false) ≡ false
-and_no true = refl
-and_no false = refl
 
 not_flagged : (b : Bool) → flag b ≡ 0 → b ≡ false
 not_flagged true n = absurd (omega arith)
@@ -98,9 +91,9 @@ module _ (w : Watch) where
           phase = k.phase;
           hardware = k.hardware;
           up = k.up;
-          on = rw other (or_no b.on ∙ k.on);
+          on = rw other (or-false b.on ∙ k.on);
           entered = k.entered;
-          since = rw (other, or_no b.since) k.since;
+          since = rw (other, or-false b.since) k.since;
           clean = refl;
           plain = k.plain;
         }))
@@ -148,7 +141,7 @@ module _ (w : Watch) where
     disables_mine : (x : InterruptSteps) (E C : Bool) (a : Standing) → w.watched ≡ true → is_mine x ≡ true → Is w P H U true E true C a → Leads w (disable_steps x) a (Is w P H U false E true C)
     disables_mine x E C a is mine h =
         leads_on (passing stage.Disabled (Some x.interrupt) {a = a} {Q = Is w P H U false E true C} (rw (mine, is, h.on) refl)
-        (record { phase = h.phase; hardware = h.hardware; up = h.up; on = rw mine (and_no a.on); entered = h.entered; since = h.since; clean = h.clean; plain = h.plain }))
+        (record { phase = h.phase; hardware = h.hardware; up = h.up; on = rw mine (and-false a.on); entered = h.entered; since = h.since; clean = h.clean; plain = h.plain }))
         (λ b k. may_run_if x.disables callback.EvtInterruptDisable x.interrupt (let s : (not w.watched || b.since) ≡ true = k.since in let t : b.since ≡ true = rw is at s in rw (mine, is, t) refl) k k)
 
     disables_none : (xs : List InterruptSteps) (O E S C : Bool) (a : Standing) → count_by is_mine xs ≡ 0 → Is w P H U O E S C a → Leads w (flat_map disable_steps xs) a (Is w P H U O E S C)

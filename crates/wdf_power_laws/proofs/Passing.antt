@@ -1,5 +1,6 @@
 -- What holds of a device and one of its interrupts is kept by each stage that the device passes.
 use Rattle.std.proofs.Common.{if◌then◌else◌, ◌≡◌, ℕ, ◌==◌, Bool, true, false, not, ◌&&◌, ◌||◌, List, [], ◌∷◌, ◌++◌, Option, Some, None, is_some, refl, sym, subst, ◌∙◌}
+use Rattle.std.proofs.Math.Bool.{or-false}
 use Rattle.wdf_base.specs.declared.ids.Handle.{Handle}
 use Rattle.wdf_base.specs.declared.plan.Plan.{Plan}
 use Rattle.wdf_base.specs.declared.event.Event.{Event}
@@ -32,10 +33,6 @@ enabling stage.Enabled mine x = if mine then true else x
 enabling stage.Disabled mine x = if mine then false else x
 enabling _ mine x = x
 
-or_no : (b : Bool) → (b || false) ≡ b
-or_no true = refl
-or_no false = refl
-
 module _ (plan : Plan) (es : List Event) (device : Handle) (i : ℕ) where
   abbrev w : Watch
   w = watch plan device.id.0 i
@@ -50,7 +47,7 @@ module _ (plan : Plan) (es : List Event) (device : Handle) (i : ℕ) where
       and_yes : (b : Bool) → b ≡ true → (b && true) ≡ true
       and_yes true h = refl
       and_yes false h = absurd (let z : ⊥ = cc in z)
-  on_more a false x m e = or_no a.on ∙ e
+  on_more a false x m e = or-false a.on ∙ e
 
   on_less : (a : Standing) (mine x : Bool) → a.on ≡ (w.watched && x) → (a.on && not mine) ≡ (w.watched && (if mine then false else x))
   on_less a true x e = and_no a.on ∙ sym (and_no w.watched)
@@ -83,9 +80,9 @@ module _ (plan : Plan) (es : List Event) (device : Handle) (i : ℕ) where
       let t : Told plan (es ++ e ∷ []) device.id.0 i a = told_silent plan es e device.id.0 i a (record { entered = refl; exit = refl; enabled = m; disabled = refl; up = refl; down = refl }) k in
       record {
         entered = t.entered;
-        since = λ x y. t.since x (sym (or_no a.since) ∙ y);
-        on = λ x. t.on (sym (or_no a.on) ∙ x);
-        lasting = λ x. t.lasting (sym (or_no a.on) ∙ x);
+        since = λ x y. t.since x (sym (or-false a.since) ∙ y);
+        on = λ x. t.on (sym (or-false a.on) ∙ x);
+        lasting = λ x. t.lasting (sym (or-false a.on) ∙ x);
         power = t.power;
       }
 

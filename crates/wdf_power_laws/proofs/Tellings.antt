@@ -67,7 +67,7 @@ never p es e n = came_next p es e ∙ rw n (or_no (ever p es))
 
 -- ---- the words of a device and an interrupt
 
-or_more : (a b c : Bool) → (b ≡ true → c ≡ true) → (a || b) ≡ true → (a || c) ≡ true
+pub or_more : (a b c : Bool) → (b ≡ true → c ≡ true) → (a || b) ≡ true → (a || c) ≡ true
 or_more true b c h k = refl
 or_more false b c h k = h k
 

@@ -1,12 +1,9 @@
 -- For which held requests a resume is due: no deed makes one due but `queues_up`, by which power goes on.
-use Rattle.std.proofs.Common.{if◌then◌else◌, ◌≡◌, ℕ, zero, suc, ◌+◌, ◌==◌, ◌≤◌, Bool, true, false, ◌&&◌, List, [], ◌∷◌, ◌⊎◌, inl, inr, None, fold, length, refl, sym, ap, subst, ◌∙◌, arith}
+use Rattle.std.proofs.Common.{if◌then◌else◌, ◌≡◌, ℕ, zero, suc, ◌+◌, ◌==◌, ◌≤◌, Bool, true, false, ◌&&◌, ◌⊎◌, inl, inr, None, length, refl, sym, ap, subst, ◌∙◌, arith}
 use Rattle.std.proofs.lemmas.Bool.{eqb-true}
 use Rattle.std.proofs.lemmas.Option.{slice_get_past}
 use Rattle.wdf_base.specs.Plan.{declared_of}
 use Rattle.wdf_base.specs.declared.plan.Plan.{Plan}
-use Rattle.wdf_base.specs.declared.object.Place.{Place}
-use Rattle.wdf_base.specs.declared.object.Place.TheVariants as place
-use Rattle.wdf_base.specs.declared.object.RequestInfo.{RequestInfo}
 use Rattle.wdf_model.specs.declared.enums.Mode.TheVariants as mode
 use Rattle.wdf_model.specs.declared.entries.Holding.{Holding}
 use Rattle.wdf_model.specs.Tables.{entry}
@@ -21,13 +18,14 @@ use Rattle.wdf_model.specs.State.{State, is_with_driver}
 use Rattle.wdf_model.specs.Ids.{object_id}
 use Rattle.wdf_model.specs.declared.deed.Deed.{Deed}
 use Rattle.wdf_model.specs.declared.deed.Deed.TheVariants.{Acknowledge, AdvancePower, Arrive, AskDeletion, AskStop, CloseDevice, CloseReturning, CompleteRequest, Forward, GiveBack, Present, PurgeQueue, Receive, Requeue, Resume, SendRequest}
-use Rattle.wdf_model.specs.rules.Deeds.{arrive_at, close_queue, close_returning, do_deed, give_up, give_up_if, withdraw}
+use Rattle.wdf_model.specs.rules.Deeds.{do_deed, give_up, give_up_if}
 use Rattle.wdf_model.proofs.Tests.{both, both_left, both_right}
 use Rattle.wdf_model.proofs.Maps.{entry_put_other, entry_put_same}
 use Rattle.wdf_model.proofs.Counts.{equal, one_or_two}
 use Rattle.wdf_agreements.proofs.Queued.{any_entry}
-use Rattle.wdf_agreements.proofs.Stays.{asks_all}
+use Rattle.wdf_agreements.proofs.Stays.{asks_all, closed_power, returning_power, withdrawn_power}
 use Rattle.wdf_power_laws.proofs.Runs.{mapped}
+use Rattle.wdf_agreements.proofs.Readers.{arrived_power, power_of}
 
 -- ---- one request
 
@@ -85,25 +83,6 @@ given_if : {A : Type 0} (S : State A) (forget : Bool) (r : ℕ) → NoneMore S.p
 given_if S true r = given S r
 given_if S false r = same_power S.power S.power refl
 
-abbrev power_of : {A : Type 0} → State A → Power
-power_of S = S.power
-
-pub withdrawn : {A : Type 0} (plan : Plan) (q : ℕ) (rs : List ℕ) (S : State A) → (fold (withdraw plan q) S rs).power ≡ S.power
-withdrawn plan q [] S = refl
-withdrawn plan q (r ∷ rs) S = withdrawn plan q rs (withdraw plan q S r)
-
-pub returned : {A : Type 0} (qs : List ℕ) (S : State A) → (fold close_returning S qs).power ≡ S.power
-returned [] S = refl
-returned (q ∷ qs) S = returned qs (close_returning S q)
-
-pub closed : {A : Type 0} (qs : List ℕ) (S : State A) → (fold close_queue S qs).power ≡ S.power
-closed [] S = refl
-closed (q ∷ qs) S = closed qs (close_queue S q)
-
-pub arrived : {A : Type 0} (S : State A) (device : ℕ) (info : RequestInfo) (p : Place) → (arrive_at S device info p).power ≡ S.power
-arrived S device info (place.Queued q) = refl
-arrived S device info _ = refl
-
 completed : {A : Type 0} (plan : Plan) (S : State A) (r : ℕ) → NoneMore S.power (do_deed plan (CompleteRequest (object_id r)) S).power
 completed plan S r =
     subst (NoneMore S.power) (sym (asks_all power_of (λ S T D W U. refl) (subtree (give_up S r).tree r) (record (give_up S r) { requests = requests.complete S.requests r }))) (given S r)
@@ -123,11 +102,11 @@ none_more_by plan (Forward r q) S h = given S r.0
 none_more_by plan (GiveBack r q) S h = given S r.0
 none_more_by plan (SendRequest r t forget) S h = given_if S forget r.0
 none_more_by plan (CompleteRequest r) S h = completed plan S r.0
-none_more_by plan (Arrive device info p) S h = same_power S.power _ (arrived S device.0 info p)
+none_more_by plan (Arrive device info p) S h = same_power S.power _ (arrived_power S device.0 info p)
 none_more_by plan (AskDeletion o) S h = same_power S.power _ (asks_all power_of (λ S T D W U. refl) (subtree S.tree o.0) S)
-none_more_by plan (PurgeQueue q) S h = same_power S.power _ (withdrawn plan q.0 (waiting_in S.queues q.0) (record S { control = control.set_mode S.control q.0 mode.Purged }))
-none_more_by plan (CloseReturning d) S h = same_power S.power _ (returned (managed_queues plan d.0) S)
-none_more_by plan (CloseDevice d) S h = same_power S.power _ (closed (queues_of plan d.0) (record S { control = control.shut S.control d.0 }))
+none_more_by plan (PurgeQueue q) S h = same_power S.power _ (withdrawn_power plan q.0 (waiting_in S.queues q.0) (record S { control = control.set_mode S.control q.0 mode.Purged }))
+none_more_by plan (CloseReturning d) S h = same_power S.power _ (returning_power (managed_queues plan d.0) S)
+none_more_by plan (CloseDevice d) S h = same_power S.power _ (closed_power (queues_of plan d.0) (record S { control = control.shut S.control d.0 }))
 none_more_by plan (Acknowledge r) S h = one_changes S.power r.0 (λ y. record y { acknowledged = true }) (λ y t. (t, refl))
 none_more_by plan (AskStop r) S h = one_changes S.power r.0 (λ y. record y { stop_asked = true }) (λ y t. (t, refl))
 none_more_by plan (Resume r) S h = one_changes S.power r.0 (λ y. record y { resume_due = false }) (λ y. not_due y (record y { resume_due = false }) refl)
@@ -139,7 +118,7 @@ pub undeclared : (plan : Plan) (q : ℕ) → suc (length plan.declared) ≤ q �
 undeclared plan zero h = absurd (omega arith)
 undeclared plan (suc k) h = slice_get_past plan.declared k (omega arith)
 
-blank_queue : (plan : Plan) (q : ℕ) → declared_of plan q ≡ None → opening_queue_power plan q ≡ no_queue_power
+pub blank_queue : (plan : Plan) (q : ℕ) → declared_of plan q ≡ None → opening_queue_power plan q ≡ no_queue_power
 blank_queue plan q e = rw e refl
 
 -- power notes the device of each queue

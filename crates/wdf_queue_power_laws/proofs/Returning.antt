@@ -24,8 +24,7 @@ use Rattle.wdf_model.specs.parts.Tree.{nearest_device, next_id, subtree}
 use Rattle.wdf_model.specs.parts.Queues.{waiting_in}
 use Rattle.wdf_model.specs.parts.Control as control
 use Rattle.wdf_model.specs.parts.Control.{is_closed}
-use Rattle.wdf_model.specs.parts.Power.{Power, holding_of, is_held, no_device_power}
-use Rattle.wdf_model.specs.parts.Power as power
+use Rattle.wdf_model.specs.parts.Power.{holding_of, is_held, no_device_power}
 use Rattle.wdf_model.specs.parts.Requests.{Requests, cancelled, closed_at, forgotten, info_of, is_in, is_marked, is_over, is_returning_to, made_info, marked, moved, no_request, place_of, request_of, unmarked, with_mark, with_request}
 use Rattle.wdf_model.specs.parts.Requests as requests
 use Rattle.wdf_model.specs.parts.Targets.{is_forgotten}
@@ -40,6 +39,9 @@ use Rattle.wdf_model.proofs.Counts.{equal, one_or_two}
 use Rattle.wdf_invariants.proofs.Exchanges.{contained}
 use Rattle.wdf_agreements.proofs.Sound.{Sound}
 use Rattle.wdf_agreements.proofs.Stays.{asks_all, given, given_if}
+use Rattle.wdf_agreements.proofs.Readers.{requests_of}
+use Rattle.wdf_power_laws.proofs.Calm.{released_by}
+use Rattle.wdf_agreements.proofs.Places.{marked_place, unmarked_place}
 
 -- ---- the property
 
@@ -51,22 +53,15 @@ powered_by plan D q = not (is_managed plan q) || (entry no_device_power D (devic
 abbrev pub Backed : Plan → List DevicePower → Requests → Type 0
 Backed plan D R = (x q : ℕ) → is_returning_to q (place_of R x) ≡ true → powered_by plan D q ≡ true
 
-abbrev requests_of : {A : Type 0} → State A → Requests
-requests_of S = S.requests
-
 abbrev devices_of : {A : Type 0} → State A → List DevicePower
 devices_of S = S.power.devices
-
-released_devices : (P : Power) (r : ℕ) (b : Bool) → (if b then power.held_less P r else P).devices ≡ P.devices
-released_devices P r true = refl
-released_devices P r false = refl
 
 given_by : {A : Type 0} (S U : State A) (b : Bool) → devices_of U ≡ devices_of S → devices_of (if b then U else S) ≡ devices_of S
 given_by S U true h = h
 given_by S U false h = refl
 
 given_devices : {A : Type 0} (S : State A) (r : ℕ) → devices_of (give_up S r) ≡ devices_of S
-given_devices S r = given_by S _ (is_with_driver S r) (released_devices S.power r (is_held (holding_of S.power r)))
+given_devices S r = given_by S _ (is_with_driver S r) (released_by S.power r (is_held (holding_of S.power r)))
 
 module _ (plan : Plan) (D : List DevicePower) where
   abbrev At : Place → Type 0
@@ -176,14 +171,6 @@ module _ (plan : Plan) (D : List DevicePower) where
   came S device info place.Owned s k = new_one S.requests (next_id S.tree) place.Owned info at_owned k
   came S device info (place.Sent t) s k = new_one S.requests (next_id S.tree) (place.Sent t) info (at_sent t) k
   came S device info place.Done s k = new_one S.requests (next_id S.tree) place.Done info at_done k
-
-  marked_place : (e : Request) (b : Bool) → (if b then e else with_mark marks.Marked e).place ≡ e.place
-  marked_place e true = refl
-  marked_place e false = refl
-
-  unmarked_place : (e : Request) (b : Bool) → (if b then with_mark marks.Unmarked e else e).place ≡ e.place
-  unmarked_place e true = refl
-  unmarked_place e false = refl
 
   -- a deed, before which the power of devices is D
   pub backed_by : {A : Type 0} (d : Deed) (S : State A) → Sound plan d S → devices_of S ≡ D → Backed plan D S.requests → Backed plan D (do_deed plan d S).requests

@@ -24,7 +24,7 @@ use Rattle.wdf_base.specs.Callbacks.{row_of}
 use Rattle.wdf_base.specs.Same.{same_option, same_step}
 use Rattle.wdf_model.specs.Plans.{callback_irql}
 use Rattle.wdf_model.specs.parts.Tree.{nearest_device}
-use Rattle.wdf_model.specs.parts.Cpus.{frame_of, is_running, top}
+use Rattle.wdf_model.specs.parts.Cpus.{frame_of, is_running}
 use Rattle.wdf_model.specs.parts.Locks.{lock_of_callback}
 use Rattle.wdf_model.specs.parts.Power.{advance_stage, opening_power}
 use Rattle.wdf_model.specs.parts.Pnp.{Sequence, busy, is_running_step, left_after, next_step, running_step, steps_for, steps_left, taken_step}
@@ -48,10 +48,11 @@ use Rattle.wdf_agreements.proofs.Sound.{AllSound, Sound}
 use Rattle.wdf_agreements.proofs.SoundEvents.{top_on}
 use Rattle.wdf_agreements.proofs.SoundRuns.{KnownAll, all_sound}
 use Rattle.wdf_power_laws.proofs.Unmoved.{event_none, is_moving, none_moves, start_effect_none, taking_none}
-use Rattle.wdf_power_laws.proofs.Calm.{Calm, deeds_calm, sound_after, sound_before}
+use Rattle.wdf_power_laws.proofs.Calm.{Calm, deeds_calm}
 use Rattle.wdf_power_laws.proofs.Frames.{Runs, StepFrames, is_step}
 use Rattle.wdf_power_laws.proofs.Happens.{found_pass, not_running}
 use Rattle.wdf_power_laws.proofs.Events.{sequence_is}
+use Rattle.wdf_agreements.proofs.LevelEvents.{sound_after, sound_before}
 use Rattle.wdf_queue_power_laws.proofs.Returning.{Backed, backed_by, backed_down, backed_more}
 use Rattle.wdf_queue_power_laws.proofs.Resuming.{is_advance, none_more_by}
 use Rattle.wdf_queue_power_laws.proofs.Dues.{AllFit, Dues, IsDue, all_fit_asked, all_fit_ended, all_fit_kept, all_fit_taken, dues_kept, dues_passed, dues_with, goes_down, none_left, none_ready, none_running, others_stay, up_stays}

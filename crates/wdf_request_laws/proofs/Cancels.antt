@@ -44,9 +44,10 @@ use Rattle.wdf_laws.specs.declared.sign.Sign.TheVariants as sign
 use Rattle.wdf_laws.specs.Events.{argument_object, is_id, is_success, is_undoing, where_so}
 use Rattle.wdf_laws.specs.Signs.{shows}
 use Rattle.wdf_laws.specs.Words.{ever, stands, stands_step}
+use Rattle.wdf_agreements.proofs.ReasonsOfCalls.{call_of}
 use Rattle.wdf_request_laws.proofs.Happened.{ever_next}
 use Rattle.wdf_request_laws.proofs.Marks.{GoesAt, GoesOf, StillGoes, is_armed, is_told, one_at, others_at}
-use Rattle.wdf_request_laws.proofs.Gives.{Gives, call_of, each_gives}
+use Rattle.wdf_request_laws.proofs.Gives.{Gives, each_gives}
 
 -- ---- words
 

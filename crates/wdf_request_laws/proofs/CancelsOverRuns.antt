@@ -29,20 +29,18 @@ use Rattle.wdf_base.specs.declared.event.Post.TheVariants as post
 use Rattle.wdf_base.specs.Same.{same_callback, same_handle, same_option, same_post}
 use Rattle.wdf_model.specs.declared.entries.Request.{Request}
 use Rattle.wdf_model.specs.parts.Tree.{is_live, life_of, next_id}
-use Rattle.wdf_model.specs.parts.Cpus.{frame_of}
 use Rattle.wdf_model.specs.parts.Requests.{Requests, cancelled, is_cancelled, is_closing, is_done, is_due, is_owned, mark_cancelled, mark_of, no_request, place_of, request_of, with_mark}
 use Rattle.wdf_model.specs.parts.Requests as requests
 use Rattle.wdf_model.specs.State.{State, declared_in, handle_in, is_held_from, is_proper}
 use Rattle.wdf_model.specs.Plans.{callback_irql}
 use Rattle.wdf_model.specs.parts.Locks.{lock_of_callback}
 use Rattle.wdf_model.specs.Ids.{object_id}
-use Rattle.wdf_model.specs.declared.deed.Deed.{Deed}
 use Rattle.wdf_model.specs.declared.deed.Deed.TheVariants.{Arrive, CountArrival, FinishSending, TakeCancel, Withdraw}
-use Rattle.wdf_model.specs.rules.Deeds.{arrive_at, do_deed, do_deeds}
+use Rattle.wdf_model.specs.rules.Deeds.{do_deed, do_deeds}
 use Rattle.wdf_model.specs.rules.Calls.{is_met_then, outcome}
 use Rattle.wdf_model.specs.rules.Starts.{is_ready_for, new_frame, next_number, rank_ready_for}
 use Rattle.wdf_model.specs.rules.Posts.{arrival_deeds, arrival_info, arrival_place, cancel_at, cancel_deeds, cancel_reaches, due_of, post_answer, post_fits}
-use Rattle.wdf_model.specs.rules.Steps.{after, deeds, did_deeds, is_closing_with, may}
+use Rattle.wdf_model.specs.rules.Steps.{after, deeds, is_closing_with, may}
 use Rattle.wdf_model.specs.rules.Ready.{IsRunOf, ready, state_after}
 use Rattle.wdf_model.specs.laws.FactsOfEvents.{IsTick}
 use Rattle.wdf_model.specs.laws.Fits.{fits}
@@ -53,7 +51,7 @@ use Rattle.wdf_model.proofs.Maps.{entry_put_same, put_long}
 use Rattle.wdf_model.proofs.Counts.{one_or_two}
 use Rattle.wdf_model.proofs.Sames.{handle_same}
 use Rattle.wdf_model.proofs.OwnEvents.{IsDid, did_tells, waiting_tells}
-use Rattle.wdf_model.proofs.FitsOfEvents.{by_its_top, event_fits}
+use Rattle.wdf_model.proofs.FitsOfEvents.{event_fits}
 use Rattle.wdf_model.proofs.KeptMoves.{within}
 use Rattle.wdf_model.proofs.KeptByDeeds.{KeptIn, closing_undone, owned_undone}
 use Rattle.wdf_model.proofs.LawsOverRuns.{history_now}
@@ -61,12 +59,14 @@ use Rattle.wdf_laws.specs.declared.sign.Sign.TheVariants as sign
 use Rattle.wdf_laws.specs.Events.{id_in, is_id, where_so}
 use Rattle.wdf_laws.specs.Signs.{shows}
 use Rattle.wdf_laws.specs.Laws.{is_cancel_due, law_7}
+use Rattle.wdf_agreements.proofs.Readers.{arrived_requests}
+use Rattle.wdf_agreements.proofs.Keeping.{comes}
+use Rattle.wdf_agreements.proofs.ReasonsOfCalls.{call_of}
 use Rattle.wdf_request_laws.proofs.Happened.{ever_next, never_yet}
-use Rattle.wdf_request_laws.proofs.Happened.{comes}
 use Rattle.wdf_request_laws.proofs.Quiet.{event_none, is_loud_call, is_loud_event}
 use Rattle.wdf_request_laws.proofs.Marks.{Goes, GoesAt, GoesOf, StillGoes, cancelled_off, completed_requests, deed_still, deeds_still, is_armed, is_told, new_request_comes, one_at, others_at}
-use Rattle.wdf_request_laws.proofs.FirstParts.{did_reads, start_reads}
-use Rattle.wdf_request_laws.proofs.Gives.{call_of, completes_off, completes_still}
+use Rattle.wdf_request_laws.proofs.FirstParts.{did_after, start_reads}
+use Rattle.wdf_request_laws.proofs.Gives.{completes_off, completes_still}
 use Rattle.wdf_request_laws.proofs.Cancels.{AllGo, Begun, all_next, did_goes, has_begun, marks_stand, next_goes, was_posted}
 
 -- ---- calls
@@ -76,7 +76,7 @@ did_event : {A : Type 0} {F B : ℕ → Bool} (plan : Plan) (m : Meaning A) (es 
 did_event {A} plan m es S cpu c v h k g =
     let d : IsDid plan S cpu.0 c v = did_tells plan m S cpu c v h in
     let same : (after plan m S (event.Did cpu c v)).requests ≡ (do_deeds plan (outcome plan S cpu.0 d.frame c).deeds S).requests =
-    ap (λ (ds : List Deed). (do_deeds plan ds S).requests) (by_its_top S cpu.0 d.frame (did_deeds plan S cpu.0 c v) d.about.top) ∙ did_reads (λ (T : State A). T.requests) (λ T L C. refl) plan S cpu.0 d.frame c v (frame_of S.cpus d.frame) in
+    did_after (λ (T : State A). T.requests) (λ T L C. refl) plan S cpu.0 c v d in
     subst (AllGo (es ++ event.Did cpu c v ∷ [])) (sym same) (did_goes plan es S cpu d.frame c.kind k c.count c.a c.b c.c v d.about.clean d.answer g)
 
 -- a call that waits gives nothing up
@@ -169,17 +169,13 @@ complete_event {A} plan m es S r s h g =
 
 -- ---- posts
 
-came : {A : Type 0} (S : State A) (device : ℕ) (info : RequestInfo) (p : Place) → (arrive_at S device info p).requests ≡ requests.arrive S.requests (next_id S.tree) p info
-came S device info (place.Queued q) = refl
-came S device info _ = refl
-
 arrival_still : {A : Type 0} {F B : ℕ → Bool} (plan : Plan) (S : State A) (agent : ℕ) (f : RequestForm) (length code device : ℕ) (b : Bool) → KeptIn F B S
     → StillGoes S.requests (do_deeds plan (CountArrival agent ∷ (if b then Arrive (object_id device) (arrival_info S agent f length code device) (arrival_place plan S f length device) ∷ [] else [])) S).requests
 arrival_still plan S agent f length code device false k = λ m c b x g. g
 arrival_still plan S agent f length code device true k =
     let info : RequestInfo = arrival_info S agent f length code device in
     let p : Place = arrival_place plan S f length device in
-    subst (StillGoes S.requests) (sym (came (do_deed plan (CountArrival agent) S) device info p)) (new_request_comes S.requests (next_id S.tree) p info k.room refl)
+    subst (StillGoes S.requests) (sym (arrived_requests (do_deed plan (CountArrival agent) S) device info p)) (new_request_comes S.requests (next_id S.tree) p info k.room refl)
 
 arrival_event : {A : Type 0} {F B : ℕ → Bool} (plan : Plan) (es : List Event) (S : State A) (e : Event) (agent : ℕ) (f : RequestForm) (length code device : ℕ) → ((x : ℕ) → shows (sign.MarkUndone x) e ≡ false) → ((x : ℕ) → shows (sign.CancelBegins x) e ≡ false)
     → KeptIn F B S → AllGo es S.requests → AllGo (es ++ e ∷ []) (do_deeds plan (arrival_deeds plan S agent f length code device) S).requests

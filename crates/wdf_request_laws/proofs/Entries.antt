@@ -28,20 +28,18 @@ use Rattle.wdf_base.specs.Same.{same_handle, same_option, same_post}
 use Rattle.wdf_model.specs.Tables.{flag}
 use Rattle.wdf_model.specs.Plans.{declares}
 use Rattle.wdf_model.specs.parts.Tree.{is_live, life_of, next_id}
-use Rattle.wdf_model.specs.parts.Cpus.{frame_of}
 use Rattle.wdf_model.specs.parts.Requests.{is_cancelled, is_owned, is_queued_in, mark_answer, place_of}
 use Rattle.wdf_model.specs.parts.Queues.{Queues, waiting_in}
 use Rattle.wdf_model.specs.parts.Queues as queues
 use Rattle.wdf_model.specs.parts.Control.{accepts, is_purged, mode_of}
 use Rattle.wdf_model.specs.State.{State, object_in}
 use Rattle.wdf_model.specs.Ids.{object_id}
-use Rattle.wdf_model.specs.declared.deed.Deed.{Deed}
 use Rattle.wdf_model.specs.declared.deed.Deed.TheVariants.{Acknowledge, Arrive, CompleteRequest, CountArrival, Forward, GiveBack, MarkRequest, Requeue, Withdraw}
 use Rattle.wdf_model.specs.rules.Deeds.{arrive_at, do_deed, do_deeds, give_up}
 use Rattle.wdf_model.specs.rules.Faults.{arg_is}
 use Rattle.wdf_model.specs.rules.Calls.{Outcome, forwards_nowhere, origin_or_none, outcome, refused, requeue_outcome, success}
 use Rattle.wdf_model.specs.rules.Posts.{arrival_info, arrival_place, arriving, cancel_at, cancel_deeds, cancel_reaches, due_of, post_answer, post_fits}
-use Rattle.wdf_model.specs.rules.Steps.{after, deeds, did_deeds, may, view_of}
+use Rattle.wdf_model.specs.rules.Steps.{after, deeds, may, view_of}
 use Rattle.wdf_model.specs.laws.FactsOfEvents.{IsTick}
 use Rattle.wdf_model.specs.laws.Fits.{all_fit}
 use Rattle.wdf_model.proofs.Tests.{both_right, not_false}
@@ -49,17 +47,18 @@ use Rattle.wdf_model.proofs.Counts.{one_or_two}
 use Rattle.wdf_model.proofs.Sames.{handle_same}
 use Rattle.wdf_model.proofs.Fits.{wrong_kind_of_first}
 use Rattle.wdf_model.proofs.FitsOfCalls.{Clean, outcome_fits}
-use Rattle.wdf_model.proofs.FitsOfEvents.{by_its_top}
 use Rattle.wdf_model.proofs.OwnEvents.{IsDid, did_tells, waiting_tells}
-use Rattle.wdf_model.proofs.KeptByDeeds.{KeptIn}
+use Rattle.wdf_model.proofs.KeptByDeeds.{KeptIn, owned_of}
 use Rattle.wdf_model.proofs.KeptTargets.{nowhere_yet}
 use Rattle.wdf_laws.specs.declared.sign.Sign.TheVariants as sign
 use Rattle.wdf_laws.specs.Events.{argument_object, headed, id_in, is_id, is_success, tailed, where_so}
 use Rattle.wdf_laws.specs.Signs.{shows}
+use Rattle.wdf_model.proofs.KeptMoves.{queue_elsewhere, queue_here}
+use Rattle.wdf_agreements.proofs.ReasonsOfCalls.{call_of}
 use Rattle.wdf_request_laws.proofs.Quiet.{event_none, is_loud_call, is_loud_event, outcome_none}
-use Rattle.wdf_request_laws.proofs.FirstParts.{did_reads}
-use Rattle.wdf_request_laws.proofs.Lines.{LinesShrink, Shrinks, all_such, deed_shrinks, deeds_shrink, fresh_of, given_lines, line_elsewhere, line_here, lines_same, shrinks_same}
-use Rattle.wdf_request_laws.proofs.Gives.{call_of, given_first, owned_in}
+use Rattle.wdf_request_laws.proofs.FirstParts.{did_after}
+use Rattle.wdf_request_laws.proofs.Lines.{LinesShrink, Shrinks, all_such, deed_shrinks, deeds_shrink, fresh_of, given_lines, lines_same, shrinks_same}
+use Rattle.wdf_request_laws.proofs.Gives.{given_first}
 use Rattle.wdf_request_laws.proofs.Cancels.{named, where_told}
 use Rattle.wdf_request_laws.proofs.CancelsOverRuns.{waits_quietly}
 
@@ -112,9 +111,9 @@ head_steps plan S e r q h x = elim (one_or_two x q) [
     r,
     h,
     subst (λ (y : ℕ). waiting_in (do_deed plan (Requeue (object_id r) (object_id q)) S).queues y ≡ r ∷ waiting_in S.queues y) (sym at)
-        (line_here (give_up S r).queues q (λ rs. r ∷ rs) ∙ ap (λ rs. r ∷ rs) (given_lines S r q)),
+        (queue_here (give_up S r).queues q (λ rs. r ∷ rs) ∙ ap (λ rs. r ∷ rs) (given_lines S r q)),
   ))
-  | inr n ↦ inl (shrinks_same (waiting_in S.queues x) (waiting_in (do_deed plan (Requeue (object_id r) (object_id q)) S).queues x) (line_elsewhere (give_up S r).queues q x (λ rs. r ∷ rs) n ∙ given_lines S r x))
+  | inr n ↦ inl (shrinks_same (waiting_in S.queues x) (waiting_in (do_deed plan (Requeue (object_id r) (object_id q)) S).queues x) (queue_elsewhere (give_up S r).queues q x (λ rs. r ∷ rs) n ∙ given_lines S r x))
 ]
 
 tail_steps : {A : Type 0} (plan : Plan) (S : State A) (e : Event) (r q : ℕ) → tailed e ≡ Some r → headed e ≡ None → (x : ℕ) → LineStep e (waiting_in S.queues x) (waiting_in (do_deed plan (Forward (object_id r) (object_id q)) S).queues x)
@@ -124,9 +123,9 @@ tail_steps plan S e r q h none x = elim (one_or_two x q) [
     h,
     none,
     subst (λ (y : ℕ). waiting_in (do_deed plan (Forward (object_id r) (object_id q)) S).queues y ≡ waiting_in S.queues y ++ r ∷ []) (sym at)
-        (line_here (give_up S r).queues q (λ rs. rs ++ r ∷ []) ∙ ap (λ rs. rs ++ r ∷ []) (given_lines S r q)),
+        (queue_here (give_up S r).queues q (λ rs. rs ++ r ∷ []) ∙ ap (λ rs. rs ++ r ∷ []) (given_lines S r q)),
   ))
-  | inr n ↦ inl (shrinks_same (waiting_in S.queues x) (waiting_in (do_deed plan (Forward (object_id r) (object_id q)) S).queues x) (line_elsewhere (give_up S r).queues q x (λ rs. rs ++ r ∷ []) n ∙ given_lines S r x))
+  | inr n ↦ inl (shrinks_same (waiting_in S.queues x) (waiting_in (do_deed plan (Forward (object_id r) (object_id q)) S).queues x) (queue_elsewhere (give_up S r).queues q x (λ rs. rs ++ r ∷ []) n ∙ given_lines S r x))
 ]
 
 requeue_steps : {A : Type 0} (plan : Plan) (S : State A) (e : Event) (r q : ℕ) (u : Bool) → headed e ≡ Some r → (x : ℕ)
@@ -179,7 +178,7 @@ module _ {A : Type 0} {F B : ℕ → Bool} (plan : Plan) (S : State A) (cpu : Cp
   stop_steps true e it fit = shrink_steps stopping S.queues S.queues (lines_same S.queues S.queues refl) (λ y. rw e refl)
   stop_steps false e it fit =
       back_steps (call_of call.WdfRequestStopAcknowledge n a b x) (origin_or_none S (object_in a)) refl (ap (λ t. where_so (not t) (argument_object a)) e ∙ it) refl
-      (owned_in S (object_in a) (given_first plan S (object_in a) (origin_or_none S (object_in a)) fit))
+      (owned_of S (object_in a) (given_first plan S (object_in a) (origin_or_none S (object_in a)) fit))
 
   mark_steps : (u : Bool) → LineSteps (event.Did cpu (call_of call.WdfRequestMarkCancelableEx n a b x) v) S.queues
       (do_deeds plan (if u then record { answer = Stat (mark_answer S.requests (object_in a)); deeds = MarkRequest (object_id (object_in a)) ∷ [] } else refused status.InvalidDeviceRequest).deeds S).queues
@@ -218,8 +217,7 @@ did_steps : {A : Type 0} {F B : ℕ → Bool} (plan : Plan) (m : Meaning A) (S :
 did_steps {A} plan m S cpu c v h k =
     let d : IsDid plan S cpu.0 c v = did_tells plan m S cpu c v h in
     let same : (after plan m S (event.Did cpu c v)).queues ≡ (do_deeds plan (outcome plan S cpu.0 d.frame c).deeds S).queues =
-    ap (λ (ds : List Deed). (do_deeds plan ds S).queues) (by_its_top S cpu.0 d.frame (did_deeds plan S cpu.0 c v) d.about.top)
-    ∙ did_reads (λ (T : State A). T.queues) (λ T L C. refl) plan S cpu.0 d.frame c v (frame_of S.cpus d.frame) in
+    did_after (λ (T : State A). T.queues) (λ T L C. refl) plan S cpu.0 c v d in
     subst (LineSteps (event.Did cpu c v) S.queues) (sym same) (call_steps plan S cpu d.frame c.kind c.count c.a c.b c.c v d.about.clean d.answer k)
 
 -- ---- posts
@@ -236,9 +234,9 @@ arrives_in S e device info (place.Queued q) h t x = elim (one_or_two x q.0) [
     next_id S.tree,
     t,
     h,
-    subst (λ (y : ℕ). waiting_in (queues.enter S.queues q.0 (next_id S.tree)) y ≡ waiting_in S.queues y ++ next_id S.tree ∷ []) (sym at) (line_here S.queues q.0 (λ rs. rs ++ next_id S.tree ∷ [])),
+    subst (λ (y : ℕ). waiting_in (queues.enter S.queues q.0 (next_id S.tree)) y ≡ waiting_in S.queues y ++ next_id S.tree ∷ []) (sym at) (queue_here S.queues q.0 (λ rs. rs ++ next_id S.tree ∷ [])),
   ))
-  | inr n ↦ inl (shrinks_same (waiting_in S.queues x) (waiting_in (queues.enter S.queues q.0 (next_id S.tree)) x) (line_elsewhere S.queues q.0 x (λ rs. rs ++ next_id S.tree ∷ []) n))
+  | inr n ↦ inl (shrinks_same (waiting_in S.queues x) (waiting_in (queues.enter S.queues q.0 (next_id S.tree)) x) (queue_elsewhere S.queues q.0 x (λ rs. rs ++ next_id S.tree ∷ []) n))
 ]
 arrives_in S e device info _ h t x = inl (λ P E l. l)
 

@@ -9,7 +9,6 @@ use Rattle.wdf_base.specs.declared.object.Mark.TheVariants as marks
 use Rattle.wdf_base.specs.declared.object.Place.{Place}
 use Rattle.wdf_base.specs.declared.object.Place.TheVariants as place
 use Rattle.wdf_base.specs.declared.call.Arg.{Arg}
-use Rattle.wdf_base.specs.declared.call.Call.{Call}
 use Rattle.wdf_base.specs.declared.call.CallKind.{CallKind}
 use Rattle.wdf_base.specs.declared.call.CallKind.TheVariants as call
 use Rattle.wdf_base.specs.declared.event.Fault.TheVariants as fault
@@ -26,17 +25,14 @@ use Rattle.wdf_model.specs.rules.Deeds.{do_deed, do_deeds, give_up, give_up_if, 
 use Rattle.wdf_model.specs.rules.Faults.{arg_is}
 use Rattle.wdf_model.specs.rules.Calls.{Outcome, acknowledge_outcome, forward_outcome, forwards_nowhere, may_send, number, origin_or_none, outcome, refused, requeue_outcome, send_outcome, success}
 use Rattle.wdf_model.specs.laws.Fits.{all_fit, fits, is_given}
-use Rattle.wdf_model.proofs.Tests.{both_left, both_right, not_false}
+use Rattle.wdf_model.proofs.Tests.{both_left, not_false}
 use Rattle.wdf_model.proofs.Maps.{entry_put_same}
 use Rattle.wdf_model.proofs.FitsOfCalls.{Clean}
-use Rattle.wdf_model.proofs.KeptByDeeds.{KeptIn, owned_undone}
+use Rattle.wdf_model.proofs.KeptByDeeds.{KeptIn, owned_of, owned_undone}
 use Rattle.wdf_laws.specs.Events.{is_one, is_success, is_undoing}
+use Rattle.wdf_agreements.proofs.ReasonsOfCalls.{call_of}
 use Rattle.wdf_request_laws.proofs.Quiet.{outcome_none}
 use Rattle.wdf_request_laws.proofs.Marks.{StillGoes, deed_still, deeds_still, completed_requests, enters_at_head, enters_at_tail, gives_back, is_armed, moves, withdrawn_unmarked}
-
--- a call by its parts
-abbrev pub call_of : CallKind → ℕ → Arg → Arg → Arg → Call
-call_of k n a b x = record { kind = k; count = n; a = a; b = b; c = x }
 
 -- What is done keeps how the marks go with what the events tell; and where the answer passes a test, this request has no
 -- mark after it.
@@ -73,14 +69,11 @@ given_first plan S r q f = given_by (is_cancelled S.requests r || is_purged (mod
     given_by true h = both_left (is_given S r) true h
     given_by false h = both_left (is_given S r) true h
 
-pub owned_in : {A : Type 0} (S : State A) (r : ℕ) → is_given S r ≡ true → is_owned (place_of S.requests r) ≡ true
-owned_in S r h = search (both_left, both_right)
-
 requeue_gives : {A : Type 0} (plan : Plan) (S : State A) (r q : ℕ) (t : Value → Bool) → is_given S r ≡ true → Gives plan S (requeue_outcome S r q) r t
 requeue_gives plan S r q t h =
     gives_if plan S r t (is_cancelled S.requests r || is_purged (mode_of S.control q)) (success (GiveBack (object_id r) (object_id q) ∷ [])) (success (Requeue (object_id r) (object_id q) ∷ []))
     (λ _. gives_by plan S r t (Stat status.Success) (GiveBack (object_id r) (object_id q) ∷ []) (gives_back plan S r q) (back_off plan S r q))
-    (λ _. gives_by plan S r t (Stat status.Success) (Requeue (object_id r) (object_id q) ∷ []) (enters_at_head plan S r q (owned_in S r h)) (away (give_up S r).requests r (queued q) refl))
+    (λ _. gives_by plan S r t (Stat status.Success) (Requeue (object_id r) (object_id q) ∷ []) (enters_at_head plan S r q (owned_of S r h)) (away (give_up S r).requests r (queued q) refl))
 
 forward_gives : {A : Type 0} (plan : Plan) (S : State A) (r q : ℕ) → all_fit plan (forward_outcome plan S r q).deeds S ≡ true → Gives plan S (forward_outcome plan S r q) r is_success
 forward_gives plan S r q f =
@@ -92,7 +85,7 @@ forward_gives plan S r q f =
     (λ open_. gives_if plan S r is_success (is_cancelled S.requests r) (success (GiveBack (object_id r) (object_id q) ∷ [])) (success (Forward (object_id r) (object_id q) ∷ []))
     (λ _. gives_by plan S r is_success (Stat status.Success) (GiveBack (object_id r) (object_id q) ∷ []) (gives_back plan S r q) (back_off plan S r q))
     (λ there. gives_by plan S r is_success (Stat status.Success) (Forward (object_id r) (object_id q) ∷ [])
-    (enters_at_tail plan S r q (owned_in S r (both_left (is_given S r) (accepts S.control q) (both_left (is_given S r && accepts S.control q) true (rw (somewhere, open_, there) at f)))))
+    (enters_at_tail plan S r q (owned_of S r (both_left (is_given S r) (accepts S.control q) (both_left (is_given S r && accepts S.control q) true (rw (somewhere, open_, there) at f)))))
     (away (give_up S r).requests r (queued q) refl))))
 
 send_gives : {A : Type 0} {F B : ℕ → Bool} (plan : Plan) (S : State A) (r to : ℕ) (forget : Bool) → all_fit plan (send_outcome S r to forget).deeds S ≡ true → KeptIn F B S → Gives plan S (send_outcome S r to forget) r is_one

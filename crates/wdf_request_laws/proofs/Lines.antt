@@ -1,6 +1,6 @@
 -- Lines of waiting requests: a line that loses some of its items keeps the order of the rest. Each deed shrinks the lines,
 -- but for those that let a request enter.
-use Rattle.std.proofs.Common.{if◌then◌else◌, ◌≡◌, ◌≢◌, ℕ, ◌+◌, ◌==◌, Bool, true, false, not, ◌&&◌, List, [], ◌∷◌, ◌++◌, inl, inr, Option, Some, None, count_by, drop, filter, fold, refl, sym, ap, subst, arith}
+use Rattle.std.proofs.Common.{if◌then◌else◌, ◌≡◌, ℕ, ◌+◌, ◌==◌, Bool, true, false, not, ◌&&◌, List, [], ◌∷◌, ◌++◌, inl, inr, Option, Some, None, count_by, drop, filter, fold, refl, sym, ap, subst, arith}
 use Rattle.std.proofs.lemmas.Bool.{eqb-true, or_cases}
 use Rattle.std.specs.List.{list_all}
 use Rattle.wdf_base.specs.declared.plan.Plan.{Plan}
@@ -19,9 +19,10 @@ use Rattle.wdf_model.specs.declared.deed.Deed.TheVariants.{Arrive, AskDeletion, 
 use Rattle.wdf_model.specs.rules.Deeds.{close_queue, close_returning, do_deed, do_deeds, give_up, give_up_if, release_line, withdraw}
 use Rattle.wdf_model.specs.Plans.{managed_queues}
 use Rattle.wdf_model.proofs.Tests.{both, both_left, both_right, first, itself, not_true, second}
-use Rattle.wdf_model.proofs.Maps.{entry_map, entry_put_other, entry_put_same}
+use Rattle.wdf_model.proofs.Maps.{entry_map}
 use Rattle.wdf_model.proofs.Counts.{count_cons, equal, one_or_two}
 use Rattle.wdf_agreements.proofs.Stays.{asks_all}
+use Rattle.wdf_model.proofs.KeptMoves.{queue_elsewhere, queue_here}
 use Rattle.wdf_request_laws.proofs.Quiet.{is_loud, none_loud}
 
 -- ---- lines
@@ -83,19 +84,12 @@ lines_then Q U V h k q = shrinks_then (waiting_in Q q) (waiting_in U q) (waiting
 pub lines_same : (Q U : Queues) → U ≡ Q → LinesShrink Q U
 lines_same Q U e q = shrinks_same (waiting_in Q q) (waiting_in U q) (ap (λ (V : Queues). waiting_in V q) e)
 
--- one line changes, and the others stay
-pub line_here : (Q : Queues) (q : ℕ) (f : List ℕ → List ℕ) → waiting_in (with_waiting Q q f) q ≡ f (waiting_in Q q)
-line_here Q q f = entry_put_same [] Q.waiting q (f (waiting_in Q q))
-
-pub line_elsewhere : (Q : Queues) (q x : ℕ) (f : List ℕ → List ℕ) → x ≢ q → waiting_in (with_waiting Q q f) x ≡ waiting_in Q x
-line_elsewhere Q q x f n = entry_put_other [] Q.waiting q x (f (waiting_in Q q)) n
-
 one_line : (Q : Queues) (q : ℕ) (f : List ℕ → List ℕ) → Shrinks (waiting_in Q q) (f (waiting_in Q q)) → LinesShrink Q (with_waiting Q q f)
 one_line Q q f h x = elim (one_or_two x q) [
   | inl e ↦
       subst (λ (y : ℕ). Shrinks (waiting_in Q y) (waiting_in (with_waiting Q q f) y)) (sym e)
-      (shrinks_then (waiting_in Q q) (f (waiting_in Q q)) (waiting_in (with_waiting Q q f) q) h (shrinks_same (f (waiting_in Q q)) (waiting_in (with_waiting Q q f) q) (line_here Q q f)))
-  | inr n ↦ shrinks_same (waiting_in Q x) (waiting_in (with_waiting Q q f) x) (line_elsewhere Q q x f n)
+      (shrinks_then (waiting_in Q q) (f (waiting_in Q q)) (waiting_in (with_waiting Q q f) q) h (shrinks_same (f (waiting_in Q q)) (waiting_in (with_waiting Q q f) q) (queue_here Q q f)))
+  | inr n ↦ shrinks_same (waiting_in Q x) (waiting_in (with_waiting Q q f) x) (queue_elsewhere Q q x f n)
 ]
 
 line_cancelled : (Q : Queues) (r : ℕ) → LinesShrink Q (queues.take_cancelled Q r)

@@ -16,7 +16,7 @@ use Rattle.wdf_model.specs.declared.entries.Request.{Request}
 use Rattle.wdf_model.specs.Tables.{entry, flag, put, same_id}
 use Rattle.wdf_model.specs.Plans.{managed_queues, queues_of}
 use Rattle.wdf_model.specs.parts.Tree.{nearest_device, next_id, subtree}
-use Rattle.wdf_model.specs.parts.Requests.{Requests, cancelled, closed_at, forgotten, info_of, is_cancelled, is_done, is_due, is_in, is_marked, is_over, is_owned, is_queued_in, is_returning_to, is_sent, made_info, mark_at, mark_of, marked, moved, no_request, place_of, request_of, unmarked, with_mark, with_request}
+use Rattle.wdf_model.specs.parts.Requests.{Requests, cancelled, closed_at, forgotten, info_of, is_cancelled, is_done, is_due, is_in, is_marked, is_over, is_owned, is_queued_in, is_returning_to, is_sent, made_info, mark_at, mark_of, moved, no_request, place_of, request_of, unmarked, with_mark, with_request}
 use Rattle.wdf_model.specs.parts.Requests as requests
 use Rattle.wdf_model.specs.parts.Queues.{front, waiting_in}
 use Rattle.wdf_model.specs.parts.Queues as queues
@@ -33,6 +33,8 @@ use Rattle.wdf_model.proofs.Maps.{as_long, entry_map, entry_put_other, entry_put
 use Rattle.wdf_model.proofs.Counts.{flag_yes, front_leaves, one_or_two}
 use Rattle.wdf_model.proofs.KeptByDeeds.{KeptIn, deed_keeps, is_arrival, owned_undone}
 use Rattle.wdf_agreements.proofs.Stays.{asks_all, given, given_if}
+use Rattle.wdf_agreements.proofs.Readers.{requests_of}
+use Rattle.wdf_agreements.proofs.Places.{inside_undone, returning_undone, sent_undone}
 use Rattle.wdf_request_laws.proofs.Quiet.{is_loud, none_loud}
 
 -- ---- one request
@@ -233,18 +235,6 @@ queued_undone : (q : ℕ) (p : Place) → is_queued_in q p ≡ true → is_done 
 queued_undone q place.Done h = absurd (let z : ⊥ = cc in z)
 queued_undone q _ h = refl
 
-returning_undone : (q : ℕ) (p : Place) → is_returning_to q p ≡ true → is_done p ≡ false
-returning_undone q place.Done h = absurd (let z : ⊥ = cc in z)
-returning_undone q _ h = refl
-
-inside_undone : (q : ℕ) (p : Place) → is_in q p ≡ true → is_done p ≡ false
-inside_undone q place.Done h = absurd (let z : ⊥ = cc in z)
-inside_undone q _ h = refl
-
-sent_undone : (p : Place) → is_sent p ≡ true → is_done p ≡ false
-sent_undone (place.Sent t) h = refl
-sent_undone _ h = absurd (let z : ⊥ = cc in z)
-
 finished_undone : (forgotten_ : Bool) (s : Status) (p : Place) → is_sent p ≡ true → is_done (finished_at forgotten_ s p) ≡ false
 finished_undone true s p h = refl
 finished_undone false s p h = sent_undone p h
@@ -264,9 +254,6 @@ front_queued S q r h k =
     flag_yes (is_queued_in q (place_of S.requests r)) (count_by (λ x. x == r) (drop 1 (waiting_in S.queues q))) (omega arith)
 
 -- ---- deeds
-
-abbrev requests_of : {A : Type 0} → State A → Requests
-requests_of S = S.requests
 
 all_withdrawn : {A : Type 0} (plan : Plan) (q : ℕ) (rs : List ℕ) (S : State A) → StillGoes S.requests (fold (withdraw plan q) S rs).requests
 all_withdrawn plan q [] S = λ m c b x g. g

@@ -23,16 +23,14 @@ use Rattle.wdf_base.specs.Callbacks.{row_of}
 use Rattle.wdf_base.specs.Same.{same_call_kind}
 use Rattle.wdf_model.specs.Tables.{contains, same_id}
 use Rattle.wdf_model.specs.Plans.{callback_irql, is_parallel_queue}
-use Rattle.wdf_model.specs.parts.Cpus.{frame_of}
 use Rattle.wdf_model.specs.parts.Locks.{lock_of_callback}
 use Rattle.wdf_model.specs.parts.Queues.{Queues, front, waiting_in}
 use Rattle.wdf_model.specs.parts.Queues as queues
 use Rattle.wdf_model.specs.State.{State, declared_in, object_in, queue_delivers}
-use Rattle.wdf_model.specs.declared.deed.Deed.{Deed}
 use Rattle.wdf_model.specs.rules.Deeds.{do_deeds}
 use Rattle.wdf_model.specs.rules.Calls.{Outcome, outcome, refused, retrieve_front, retrieve_outcome}
 use Rattle.wdf_model.specs.rules.Starts.{effect_for, new_frame, next_number, rank_ready_for}
-use Rattle.wdf_model.specs.rules.Steps.{after, did_deeds, may}
+use Rattle.wdf_model.specs.rules.Steps.{after, may}
 use Rattle.wdf_model.specs.Runs.{IsRun}
 use Rattle.wdf_model.specs.rules.Ready.{IsRunOf, ready, state_after}
 use Rattle.wdf_model.proofs.Tests.{both, both_left, both_right, first, itself}
@@ -41,19 +39,19 @@ use Rattle.wdf_model.proofs.Follows.{state_goes_on}
 use Rattle.wdf_model.proofs.Counts.{one_or_two}
 use Rattle.wdf_model.proofs.Sames.{call_kind_decides}
 use Rattle.wdf_model.proofs.OwnEvents.{IsDid, did_tells}
-use Rattle.wdf_model.proofs.FitsOfEvents.{by_its_top}
 use Rattle.wdf_laws.specs.declared.sign.Sign.TheVariants as sign
 use Rattle.wdf_laws.specs.declared.sign.Taking.{Taking}
 use Rattle.wdf_laws.specs.Events.{argument_object, is_handler, pair_of, presented, value_object, where_so}
 use Rattle.wdf_laws.specs.Signs.{shows}
 use Rattle.wdf_laws.specs.Words.{ever}
 use Rattle.wdf_laws.specs.Laws.{all_in_turn, is_in_order, is_in_turn, is_presented_in_turn, law_8, presented_at, presented_in}
+use Rattle.wdf_model.proofs.KeptMoves.{queue_here}
+use Rattle.wdf_agreements.proofs.Keeping.{comes}
+use Rattle.wdf_agreements.proofs.ReasonsOfCalls.{call_of}
 use Rattle.wdf_request_laws.proofs.Happened.{ever_next}
-use Rattle.wdf_request_laws.proofs.Happened.{comes}
-use Rattle.wdf_request_laws.proofs.FirstParts.{did_reads, start_reads}
+use Rattle.wdf_request_laws.proofs.FirstParts.{did_after, start_reads}
 use Rattle.wdf_request_laws.proofs.CancelsOverRuns.{started}
-use Rattle.wdf_request_laws.proofs.Gives.{call_of}
-use Rattle.wdf_request_laws.proofs.Lines.{all_more, each_in, first_before, first_passes, found_passes, line_here}
+use Rattle.wdf_request_laws.proofs.Lines.{all_more, each_in, first_before, first_passes, found_passes}
 use Rattle.wdf_request_laws.proofs.Entries.{LineSteps}
 use Rattle.wdf_request_laws.proofs.Orders.{in_order_at_each, next_each, steps_now}
 
@@ -64,7 +62,7 @@ pub record Takes {A : Type 0} (S T : State A) (t : Taking) : Type 0 where
   pub rest : waiting_in T.queues t.queue ≡ drop 1 (waiting_in S.queues t.queue)
 
 taken_from : {A : Type 0} (S T : State A) (q r : ℕ) → same_id (front S.queues q) r ≡ true → T.queues ≡ queues.take S.queues q → Takes S T (record { request = r; queue = q })
-taken_from S T q r h e = record { front = h; rest = ap (λ (Q : Queues). waiting_in Q q) e ∙ line_here S.queues q (drop 1) }
+taken_from S T q r h e = record { front = h; rest = ap (λ (Q : Queues). waiting_in Q q) e ∙ queue_here S.queues q (drop 1) }
 
 none_taken : {X : Type 0} (b : Bool) (t : Taking) (q : Option ℕ) → pair_of (where_so b None) q ≡ Some t → X
 none_taken true t q h = absurd (let z : ⊥ = cc in z)
@@ -142,11 +140,10 @@ did_takes {A} plan m S cpu c v t h is =
     let g : Retrieves plan S (object_in c.a) (outcome plan S cpu.0 d.frame c) t =
     subst (RetrieveTakes plan S cpu.0 d.frame) (sym ((call_kind_decides c.kind call.WdfIoQueueRetrieveNextRequest).0 kind_is)) (retrieve_takes plan S cpu.0 d.frame) c.count c.a c.b c.c v t d.answer told in
     let same : (after plan m S (event.Did cpu c v)).queues ≡ queues.take S.queues (object_in c.a) =
-    ap (λ (ds : List Deed). (do_deeds plan ds S).queues) (by_its_top S cpu.0 d.frame (did_deeds plan S cpu.0 c v) d.about.top)
-    ∙ did_reads (λ (T : State A). T.queues) (λ T L C. refl) plan S cpu.0 d.frame c v (frame_of S.cpus d.frame) ∙ g.taken in
+    did_after (λ (T : State A). T.queues) (λ T L C. refl) plan S cpu.0 c v d ∙ g.taken in
     record {
       front = subst (λ (q : ℕ). same_id (front S.queues q) t.request ≡ true) g.queue g.front;
-      rest = subst (λ (q : ℕ). waiting_in (after plan m S (event.Did cpu c v)).queues q ≡ drop 1 (waiting_in S.queues q)) g.queue (ap (λ (Q : Queues). waiting_in Q (object_in c.a)) same ∙ line_here S.queues (object_in c.a) (drop 1));
+      rest = subst (λ (q : ℕ). waiting_in (after plan m S (event.Did cpu c v)).queues q ≡ drop 1 (waiting_in S.queues q)) g.queue (ap (λ (Q : Queues). waiting_in Q (object_in c.a)) same ∙ queue_here S.queues (object_in c.a) (drop 1));
     }
 
 takes : {A : Type 0} (plan : Plan) (m : Meaning A) (S : State A) (e : Event) (t : Taking) → may plan m S e ≡ true → presented e ≡ Some t → Takes S (after plan m S e) t

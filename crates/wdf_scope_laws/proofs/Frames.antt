@@ -66,6 +66,7 @@ use Rattle.wdf_ready_once.proofs.Numbers.{number_is}
 use Rattle.wdf_trace_laws.proofs.Words.{any_weaker, found_counts}
 use Rattle.wdf_deeds.specs.MayDo.{is_end, is_park, is_start, is_unpark, may_do, releasing}
 use Rattle.wdf_deeds.proofs.Passing.{event_passes}
+use Rattle.wdf_agreements.proofs.ReasonsOfEvents.{top_on}
 use Rattle.wdf_scope_laws.proofs.Stacks.{popped_apart, popped_here, pushed_apart, pushed_here, told_stack, told_top}
 use Rattle.wdf_scope_laws.proofs.Holding.{Goes, Holds, HoldsBut, Kept, deeds_hold, deeds_stacks, goes_cpus, goes_then, is_moving, is_other_hold, is_own_hold, is_special, none_special, not_own, own_holds, release_holds}
 use Rattle.wdf_agreements.proofs.Keeping.{at_the_end}
@@ -371,9 +372,6 @@ step_end : {A : Type 0} (plan : Plan) (S T : State A) (ss : List Stacked) (bs : 
 step_end plan S T ss bs rank.Sequence c o v q = record { stacks = q.stacks; begun = q.begun; holds = q.holds }
 step_end plan S T ss bs _ c o v q = q
 
-top_there : (C : Cpus) (cpu f : ℕ) → top C cpu ≡ Some f → 1 ≤ on C f
-top_there C cpu f t = let e = pop_on C cpu f t f in let one : flag (f == f) ≡ 1 = ap flag (equal f f refl) in omega arith
-
 end_step : {A : Type 0} (plan : Plan) (m : Meaning A) (ss : List Stacked) (bs : List Begun) (S : State A) (k : Cpu) (c : Callback) (o : Handle) (v : Value) → may plan m S (event.End k c o v) ≡ true → KnownAll plan S → Once S.locks → Agrees plan ss bs S
     → Agrees plan (without_top k.0 ss) (without_ended (top_of k.0 ss) bs) (after plan m S (event.End k c o v))
 end_step {A} plan m ss bs S k c o v h known once q =
@@ -389,7 +387,7 @@ end_step {A} plan m ss bs S k c o v h known once q =
     let same : V.cpus ≡ S.cpus = release_cpus plan S l in
     let framing : Framing plan V = released l known.framing in
     let top_ : top V.cpus k.0 ≡ Some f = ap (λ (C : Cpus). top C k.0) same ∙ d.about.top in
-    let but : HoldsBut plan V (λ g. g ≡ f) = given_back plan S f l own (top_there S.cpus k.0 f d.about.top) once q.holds in
+    let but : HoldsBut plan V (λ g. g ≡ f) = given_back plan S f l own (top_on S.cpus k.0 f d.about.top) once q.holds in
     let begun : Each (IsBegun V) bs = subst (λ (C : Cpus). Each (λ x. (1 ≤ on C x.frame) × ((frame_of C x.frame).callback ≡ x.callback) × ((frame_of C x.frame).object.id.0 ≡ x.object)) bs) (sym same) q.begun in
     let popped : Agrees plan (without_top k.0 ss) (without_ended (top_of k.0 ss) bs) (do_deed plan (PopFrame k) V) =
     pop_step plan ss bs V k.0 f top_ sound.1.0 framing (λ x. q.stacks x ∙ sym (ap (λ (C : Cpus). stack_of C x) same)) begun but in

@@ -47,10 +47,11 @@ use Rattle.wdf_laws.specs.Family.{first_told, scope_on, tells_of, told_class}
 use Rattle.wdf_laws.specs.Family as law
 use Rattle.wdf_laws.specs.Frames.{frames_after}
 use Rattle.wdf_laws.specs.Laws.{is_free_scope, is_under, law_2, needs}
-use Rattle.wdf_trace_laws.proofs.Ends.{cleaned_there, comes}
 use Rattle.wdf_family_laws.proofs.Families.{Family, First_by, First_none, Knows_declared, Knows_none, Knows_told, family_at_each, first, knows, told_still}
 use Rattle.wdf_family_laws.proofs.Orders.{earlier_or_later, found_place, makes_at, take_drop}
 use Rattle.wdf_family_laws.proofs.Stays.{event_stays}
+use Rattle.wdf_invariants.proofs.Trees.{cleaned_there}
+use Rattle.wdf_agreements.proofs.Keeping.{comes}
 use Rattle.wdf_scope_laws.proofs.Frames.{AgreesAfter, IsBegun, agrees_at_each, fewer}
 use Rattle.wdf_scope_laws.proofs.Holding.{is_own_hold, own_holds}
 

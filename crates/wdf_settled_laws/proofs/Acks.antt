@@ -1,7 +1,7 @@
 -- A request that is acknowledged in the state was acknowledged after the last `queues_down` of its device, and the queues of
 -- the device are down.
 use Rattle.std.proofs.Common.{◌≡◌, ℕ, ◌==◌, Bool, true, false, not, ◌&&◌, ◌||◌, List, [], ◌∷◌, ◌++◌, inl, inr, Option, Some, None, refl, sym, ap, subst, ◌∙◌}
-use Rattle.std.proofs.lemmas.Bool.{eqb-true}
+use Rattle.std.proofs.lemmas.Bool.{eqb-true, false_from_ne_true}
 use Rattle.wdf_base.specs.Meaning.{Meaning}
 use Rattle.wdf_base.specs.declared.ids.Cpu.{Cpu}
 use Rattle.wdf_base.specs.declared.ids.Handle.{Handle}
@@ -58,10 +58,6 @@ not_both_up e d x u a = not_so a
 not_both_down : (e : Event) (d x : ℕ) → shows (sign.QueuesDown d) e ≡ true → shows (sign.Acknowledgement x) e ≡ true → ⊥
 not_both_down (event.Did cpu c v) d x u a = not_so u
 not_both_down e d x u a = not_so a
-
-is_off : (b : Bool) → (b ≡ true → ⊥) → b ≡ false
-is_off true h = absurd (h refl)
-is_off false h = refl
 
 -- ---- the queues of a device stay down
 
@@ -143,7 +139,7 @@ module _ {A : Type 0} (plan : Plan) (m : Meaning A) (S U : State A) (es : List E
     (origins : (x q d : ℕ) → is_acked (holding_of U.power x) ≡ true → is_managed_of d (queue_of plan q) ≡ true → noted U.power x ≡ q → shows (sign.Acknowledgement x) e ≡ true → same_id (origin_of S.requests x) q ≡ true)
     (comes_ : (x : ℕ) → shows (sign.Acknowledgement x) e ≡ true → may plan m S e ≡ true) where
   no_rise : (x : ℕ) → is_acked (holding_of U.power x) ≡ true → (d : ℕ) → is_managed_of d (queue_of plan (noted U.power x)) ≡ true → shows (sign.QueuesUp d) e ≡ false
-  no_rise x t d of = is_off (shows (sign.QueuesUp d) e) (λ u.
+  no_rise x t d of = false_from_ne_true (shows (sign.QueuesUp d) e) (λ u.
       not_both_up e d x u (risen (shows (sign.Acknowledgement x) e) (stands (sign.Acknowledgement x) (sign.QueuesUp d) es) (shows (sign.QueuesUp d) e) u (sym (stands_next (sign.Acknowledgement x) (sign.QueuesUp d) es e) ∙ since x t d of)))
 
   pub acked_after : AckStep e S.power U.power → AckedDown plan U (es ++ e ∷ [])

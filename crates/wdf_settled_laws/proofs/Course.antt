@@ -17,11 +17,11 @@ use Rattle.wdf_model.specs.declared.entries.DevicePower.{DevicePower}
 use Rattle.wdf_model.specs.Tables.{entry}
 use Rattle.wdf_model.specs.Plans.{queue_of}
 use Rattle.wdf_model.specs.parts.Power.{Power, advance_stage, no_device_power}
-use Rattle.wdf_model.specs.parts.Pnp.{Pnp, Sequence, busy, is_running_step, is_success, left_after, left_after_failure, no_sequence, running_step, sequence_of, steps_for, steps_left, taken_step}
+use Rattle.wdf_model.specs.parts.Pnp.{Pnp, Sequence, is_success, left_after, left_after_failure, no_sequence, sequence_of, steps_for, taken_step}
 use Rattle.wdf_model.specs.parts.Pnp as pnp
 use Rattle.wdf_model.specs.State.{State}
 use Rattle.wdf_model.proofs.Maps.{entry_put_other, entry_put_same}
-use Rattle.wdf_model.proofs.Tests.{both, both_left, both_right, first, not_true}
+use Rattle.wdf_model.proofs.Tests.{both, both_left, both_right, not_true}
 use Rattle.wdf_model.proofs.Counts.{equal, not_equal, one_or_two}
 use Rattle.wdf_laws.specs.declared.sign.Sign.{Sign}
 use Rattle.wdf_laws.specs.declared.sign.Sign.TheVariants as sign
@@ -29,22 +29,12 @@ use Rattle.wdf_laws.specs.Laws.{is_managed_of}
 use Rattle.wdf_laws.specs.Signs.{shows}
 use Rattle.wdf_laws.specs.Words.{ever, followed, stands}
 use Rattle.wdf_request_laws.proofs.Cancels.{stands_next}
-use Rattle.wdf_request_laws.proofs.Happened.{ever_next}
 use Rattle.wdf_power_laws.proofs.Happens.{taken_pass, taken_run}
+use Rattle.wdf_family_laws.proofs.Gone.{ever_now, ever_still}
 use Rattle.wdf_settled_laws.proofs.Along.{Way, asked, failed, fits, may_begin, may_pass, next, passes}
 use Rattle.wdf_settled_laws.proofs.Moves.{Asked, Begun, Ended, Moved, Passed, Unmoved}
 
 -- ---- words
-
-pub ever_on : (p : Sign) (es : List Event) (e : Event) → ever p es ≡ true → ever p (es ++ e ∷ []) ≡ true
-ever_on p es e h = ever_next p es e ∙ first (ever p es) (shows p e) h
-
-pub ever_now : (p : Sign) (es : List Event) (e : Event) → shows p e ≡ true → ever p (es ++ e ∷ []) ≡ true
-ever_now p es e h = ever_next p es e ∙ by_tests (ever p es) (shows p e) h
-  where
-    by_tests : (a b : Bool) → b ≡ true → (a || b) ≡ true
-    by_tests true b h = refl
-    by_tests false b h = h
 
 -- what stood before is still followed, or is followed now
 not_standing : (p s q : Bool) → p ≡ false → (s ≡ false) → not (p || (s && not q)) ≡ true
@@ -60,12 +50,12 @@ ended_now false s false h k = absurd (let z : ⊥ = cc in z)
 
 pub followed_on : (p q : Sign) (es : List Event) (e : Event) → shows p e ≡ false → followed p q es ≡ true → followed p q (es ++ e ∷ []) ≡ true
 followed_on p q es e off h =
-    both (ever p (es ++ e ∷ [])) (not (stands p q (es ++ e ∷ []))) (ever_on p es e (both_left (ever p es) (not (stands p q es)) h))
+    both (ever p (es ++ e ∷ [])) (not (stands p q (es ++ e ∷ []))) (ever_still p es e (both_left (ever p es) (not (stands p q es)) h))
     (ap not (stands_next p q es e) ∙ not_standing (shows p e) (stands p q es) (shows q e) off (not_true (stands p q es) (both_right (ever p es) (not (stands p q es)) h)))
 
 pub followed_now : (p q : Sign) (es : List Event) (e : Event) → shows p e ≡ false → shows q e ≡ true → ever p es ≡ true → followed p q (es ++ e ∷ []) ≡ true
 followed_now p q es e off on h =
-    both (ever p (es ++ e ∷ [])) (not (stands p q (es ++ e ∷ []))) (ever_on p es e h)
+    both (ever p (es ++ e ∷ [])) (not (stands p q (es ++ e ∷ []))) (ever_still p es e h)
     (ap not (stands_next p q es e) ∙ ended_now (shows p e) (stands p q es) (shows q e) off on)
 
 -- ---- what is held of a device
@@ -126,7 +116,7 @@ module _ (plan : Plan) (D : List DevicePower) (es : List Event) (e : Event) (d :
     way = k.way;
     fits = left;
     idle = idle;
-    down = λ h. let old = k.down h in (ever_on (sign.QueuesDown d) es e old.0, old.1);
+    down = λ h. let old = k.down h in (ever_still (sign.QueuesDown d) es e old.0, old.1);
     settled = settled_on k.settled;
   }
 

@@ -50,7 +50,6 @@ use Rattle.wdf_laws.specs.Signs.{is_taking_of, shows}
 use Rattle.wdf_laws.specs.Words.{followed, stands}
 use Rattle.wdf_request_laws.proofs.Cancels.{stands_next}
 use Rattle.wdf_request_laws.proofs.CancelsOverRuns.{started}
-use Rattle.wdf_request_laws.proofs.Happened.{comes}
 use Rattle.wdf_held_laws.proofs.Holdings.{noted}
 use Rattle.wdf_held_laws.proofs.HoldingsOverRuns.{held_as_told_at_each}
 use Rattle.wdf_held_laws.proofs.Settled.{noted_at, noted_is, settles_acknowledged_at_each}
@@ -61,11 +60,12 @@ use Rattle.wdf_power_laws.proofs.Events.{Kept, staged}
 use Rattle.wdf_power_laws.proofs.Happens.{found_run, stage_allowed}
 use Rattle.wdf_power_laws.proofs.Laws.{comes_by}
 use Rattle.wdf_power_laws.proofs.Runs.{kept_at_each}
+use Rattle.wdf_invariants.proofs.StillFrames.{live_there}
+use Rattle.wdf_agreements.proofs.Keeping.{comes}
 use Rattle.wdf_settled_laws.proofs.Acks.{AckedDown, acked_after}
 use Rattle.wdf_settled_laws.proofs.Along.{fits, next}
 use Rattle.wdf_settled_laws.proofs.Course.{AllAcked, Course, OnCourse, TakesUp, course_after, followed_on, stood, up_in}
 use Rattle.wdf_settled_laws.proofs.Moves.{Asked, Begun, Change, Ended, Moved, Passed, Unmoved, changes}
-use Rattle.wdf_settled_laws.proofs.Near.{not_gone}
 use Rattle.wdf_settled_laws.proofs.Never.{no_stage_of_clock, no_tick, not_so, not_such}
 use Rattle.wdf_settled_laws.proofs.Queues.{is_of}
 use Rattle.wdf_settled_laws.proofs.ReturnsUp.{ReturnsUp, returns_after}
@@ -247,7 +247,7 @@ module _ {A : Type 0} (plan : Plan) (m : Meaning A) (run : List Event) (resolved
       let parts = start_parts plan m S cpu.0 callback.EvtDeviceD0Exit o.id.0 r start in
       let live : is_live (life_of S.tree o.id.0) ≡ true = parts.1 in
       let d : ℕ = nearest_device S.tree o.id.0 in
-      let own : d ≡ o.id.0 = own_device_of plan S o.id.0 (known_at n).known.declared (not_gone (life_of S.tree o.id.0) live) (declares_device plan callback.EvtDeviceD0Exit (declared_in plan S o.id.0) resolved refl parts.0) in
+      let own : d ≡ o.id.0 = own_device_of plan S o.id.0 (known_at n).known.declared (live_there (life_of S.tree o.id.0) live) (declares_device plan callback.EvtDeviceD0Exit (declared_in plan S o.id.0) resolved refl parts.0) in
       let x : Step = step_of plan S callback.EvtDeviceD0Exit o.id.0 in
       let ready_ : step_ready S d x ≡ true = exit_ready n cpu o r h in
       let now : same_option same_step (next_step S.pnp d) (Some x) ≡ true = both_left (same_option same_step (next_step S.pnp d) (Some x)) (not (is_running_step S.pnp d)) (both_left (same_option same_step (next_step S.pnp d) (Some x) && not (is_running_step S.pnp d)) _ ready_) in

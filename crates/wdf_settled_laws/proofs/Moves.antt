@@ -26,7 +26,7 @@ use Rattle.wdf_model.specs.parts.Cpus.{Cpus, frame_of, top}
 use Rattle.wdf_model.specs.parts.Cpus as cpus
 use Rattle.wdf_model.specs.parts.Locks.{lock_of_callback}
 use Rattle.wdf_model.specs.parts.Power.{advance_stage}
-use Rattle.wdf_model.specs.parts.Pnp.{Pnp, busy, is_running_step, next_step, running_step, steps_left}
+use Rattle.wdf_model.specs.parts.Pnp.{busy, is_running_step, next_step, running_step, steps_left}
 use Rattle.wdf_model.specs.parts.Pnp as pnp
 use Rattle.wdf_model.specs.State.{State, declared_in, is_proper}
 use Rattle.wdf_model.specs.Ids.{cpu_of, frame_id, irql_of, object_id}
@@ -54,10 +54,11 @@ use Rattle.wdf_laws.specs.Signs.{shows}
 use Rattle.wdf_request_laws.proofs.CancelsOverRuns.{started}
 use Rattle.wdf_request_laws.proofs.FirstParts.{start_reads}
 use Rattle.wdf_power_laws.proofs.Unmoved.{event_none, none_moves, start_effect_none, taking_none}
-use Rattle.wdf_power_laws.proofs.Calm.{Calm, deeds_calm, sound_after, sound_before}
+use Rattle.wdf_power_laws.proofs.Calm.{Calm, deeds_calm}
 use Rattle.wdf_power_laws.proofs.Frames.{Runs}
 use Rattle.wdf_power_laws.proofs.Happens.{found_pass, found_run, not_running}
 use Rattle.wdf_power_laws.proofs.Events.{Kept, sequence_is, staged}
+use Rattle.wdf_agreements.proofs.LevelEvents.{sound_after, sound_before}
 
 -- it is no stage at which queues go up or down
 abbrev pub NoStage : Event → Type 0

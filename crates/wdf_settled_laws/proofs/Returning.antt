@@ -17,10 +17,8 @@ use Rattle.wdf_model.specs.parts.Tree.{nearest_device, next_id, subtree}
 use Rattle.wdf_model.specs.parts.Requests.{Requests, cancelled, closed_at, forgotten, info_of, is_in, is_marked, is_over, is_returning_to, made_info, marked, moved, no_request, place_of, request_of, unmarked, with_mark, with_request}
 use Rattle.wdf_model.specs.parts.Requests as requests
 use Rattle.wdf_model.specs.parts.Queues.{waiting_in}
-use Rattle.wdf_model.specs.parts.Control.{is_closed}
 use Rattle.wdf_model.specs.parts.Control as control
-use Rattle.wdf_model.specs.parts.Power.{Power, advance_stage, holding_of, is_held, no_device_power, queues_up}
-use Rattle.wdf_model.specs.parts.Power as power
+use Rattle.wdf_model.specs.parts.Power.{holding_of, is_held, no_device_power}
 use Rattle.wdf_model.specs.parts.Targets.{is_forgotten}
 use Rattle.wdf_model.specs.State.{State, is_powered, is_with_driver, returns_to, withdrawn_place}
 use Rattle.wdf_model.specs.declared.deed.Deed.{Deed}
@@ -31,6 +29,9 @@ use Rattle.wdf_model.proofs.Tests.{both_right, first, second}
 use Rattle.wdf_model.proofs.Maps.{entry_map, entry_put_other, entry_put_same, entry_set_other, set_read}
 use Rattle.wdf_model.proofs.Counts.{one_or_two}
 use Rattle.wdf_agreements.proofs.Stays.{asks_all, given, given_if}
+use Rattle.wdf_agreements.proofs.Readers.{arrived_requests, requests_of}
+use Rattle.wdf_power_laws.proofs.Calm.{released_by}
+use Rattle.wdf_agreements.proofs.Places.{marked_place, unmarked_place}
 
 -- ---- requests
 
@@ -133,19 +134,12 @@ purged plan q (r ∷ rs) S =
 
 -- ---- what is given up
 
-released : (P : Power) (r : ℕ) (b : Bool) → (if b then power.held_less P r else P).devices ≡ P.devices
-released P r true = refl
-released P r false = refl
-
 given_by : {A : Type 0} (S U : State A) (b : Bool) → U.power.devices ≡ S.power.devices → (if b then U else S).power.devices ≡ S.power.devices
 given_by S U true h = h
 given_by S U false h = refl
 
 given_devices : {A : Type 0} (S : State A) (r : ℕ) → (give_up S r).power.devices ≡ S.power.devices
-given_devices S r = given_by S _ (is_with_driver S r) (released S.power r (is_held (holding_of S.power r)))
-
-abbrev pub requests_of : {A : Type 0} → State A → Requests
-requests_of S = S.requests
+given_devices S r = given_by S _ (is_with_driver S r) (released_by S.power r (is_held (holding_of S.power r)))
 
 given_requests : {A : Type 0} (S : State A) (r : ℕ) → (give_up S r).requests ≡ S.requests
 given_requests S r = given requests_of (λ S Q P. refl) S r
@@ -156,21 +150,9 @@ arrival_off : (p : Place) (q : ℕ) → is_arrival_place p ≡ true → is_retur
 arrival_off (place.Returning x) q h = absurd (let z : ⊥ = cc in z)
 arrival_off _ q h = refl
 
-came : {A : Type 0} (S : State A) (device : ℕ) (info : RequestInfo) (p : Place) → (arrive_at S device info p).requests ≡ requests.arrive S.requests (next_id S.tree) p info
-came S device info (place.Queued q) = refl
-came S device info _ = refl
-
 finished_off : (b : Bool) (s : Status) (p : Place) (q : ℕ) → is_returning_to q (finished_at b s p) ≡ true → is_returning_to q p ≡ true
 finished_off true s p q h = absurd (let z : ⊥ = cc in z)
 finished_off false s p q h = h
-
-marked_place : (e : Request) (b : Bool) → (if b then e else with_mark marks.Marked e).place ≡ e.place
-marked_place e true = refl
-marked_place e false = refl
-
-unmarked_place : (e : Request) (b : Bool) → (if b then with_mark marks.Unmarked e else e).place ≡ e.place
-unmarked_place e true = refl
-unmarked_place e false = refl
 
 module _ {A : Type 0} (plan : Plan) (S : State A) where
   abbrev p : ℕ → Bool
@@ -195,7 +177,7 @@ module _ {A : Type 0} (plan : Plan) (S : State A) where
   by_deed (Arrive device info to) f =
       let is : is_arrival_place to ≡ true = search both_right in
       comes_then p S.requests (requests.arrive S.requests (next_id S.tree) to info) (arrive_at S device.0 info to).requests (comes_new p S.requests (next_id S.tree) to info (λ q. arrival_off to q is))
-      (comes_same p (requests.arrive S.requests (next_id S.tree) to info) (arrive_at S device.0 info to).requests (came S device.0 info to))
+      (comes_same p (requests.arrive S.requests (next_id S.tree) to info) (arrive_at S device.0 info to).requests (arrived_requests S device.0 info to))
   by_deed (AskDeletion o) f = comes_same p S.requests _ (asks_all requests_of (λ S T D W U. refl) (subtree S.tree o.0) S)
   by_deed (EndLife o) f = comes_forgotten p S.requests o.0
   by_deed (Present q r) f = comes_away p S.requests r.0 place.Owned (λ q. refl)

@@ -37,8 +37,10 @@ use Rattle.wdf_agreements.proofs.Stays.{asks_all}
 use Rattle.wdf_deeds.specs.MayDo.{is_stage, may_do}
 use Rattle.wdf_deeds.proofs.Passing.{event_passes}
 use Rattle.wdf_power_laws.proofs.Calm.{deeds_calm}
+use Rattle.wdf_agreements.proofs.Readers.{requests_of}
+use Rattle.wdf_power_laws.proofs.Tellings.{or_more}
 use Rattle.wdf_settled_laws.proofs.Queues.{of_device, of_each}
-use Rattle.wdf_settled_laws.proofs.Returning.{Comes, all_closed, all_returning, by_deed, comes_same, powered_same, requests_of}
+use Rattle.wdf_settled_laws.proofs.Returning.{Comes, all_closed, all_returning, by_deed, comes_same, powered_same}
 
 abbrev pub ReturnsUp : {A : Type 0} → Plan → State A → Type 0
 ReturnsUp plan S = (r q : ℕ) → is_returning_to q (place_of S.requests r) ≡ true → is_powered plan S q ≡ true
@@ -146,16 +148,12 @@ raised P n stage.QueuesUp low d h = elim (one_or_two d n) [
 ]
 raised P n _ low d h = h
 
-or_second : (a b c : Bool) → (b ≡ true → c ≡ true) → (a || b) ≡ true → (a || c) ≡ true
-or_second true b c h k = refl
-or_second false b c h k = h k
-
 module _ {A : Type 0} (plan : Plan) (S : State A) (n : ℕ) (j : Option Handle) (k : ReturnsUp plan S) where
   stage_raises : (s : Stage) → is_lowering s ≡ false → (do_deeds plan (stage_deeds plan n s j) S).power.devices ≡ (advance_stage S.power n s).devices → ReturnsUp plan (do_deeds plan (stage_deeds plan n s j) S)
   stage_raises s low same r q h =
       let was : is_returning_to q (place_of S.requests r) ≡ true = never_is (is_returning_to q (place_of S.requests r)) q (stage_comes plan S n s j r q h) in
       ap (λ D. not (is_managed plan q) || (entry no_device_power D (device_of_queue plan q)).up) same
-      ∙ or_second (not (is_managed plan q)) (up_in S.power (device_of_queue plan q)) (up_in (advance_stage S.power n s) (device_of_queue plan q)) (raised S.power n s low (device_of_queue plan q)) (k r q was)
+      ∙ or_more (not (is_managed plan q)) (up_in S.power (device_of_queue plan q)) (up_in (advance_stage S.power n s) (device_of_queue plan q)) (raised S.power n s low (device_of_queue plan q)) (k r q was)
 
   stage_lowers : (do_deeds plan (stage_deeds plan n stage.QueuesDown j) S).power.devices ≡ (advance_stage S.power n stage.QueuesDown).devices → ReturnsUp plan (do_deeds plan (stage_deeds plan n stage.QueuesDown j) S)
   stage_lowers same r q h =
@@ -164,7 +162,7 @@ module _ {A : Type 0} (plan : Plan) (S : State A) (n : ℕ) (j : Option Handle) 
       ap (λ D. not (is_managed plan q) || (entry no_device_power D (device_of_queue plan q)).up) same
       ∙ elim (cases_Bool (is_managed plan q)) [
         | inr off ↦ rw off refl
-        | inl on ↦ or_second (not (is_managed plan q)) (up_in S.power (device_of_queue plan q)) (up_in (advance_stage S.power n stage.QueuesDown) (device_of_queue plan q))
+        | inl on ↦ or_more (not (is_managed plan q)) (up_in S.power (device_of_queue plan q)) (up_in (advance_stage S.power n stage.QueuesDown) (device_of_queue plan q))
             (λ up. ap (λ p. p.up) (entry_put_other no_device_power S.power.devices n (device_of_queue plan q) (record (entry no_device_power S.power.devices n) { up = false }) (elsewhere on)) ∙ up) (k r q was)
       ]
     where

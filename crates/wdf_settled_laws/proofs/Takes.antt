@@ -1,6 +1,6 @@
 -- A request is taken from a power-managed queue only while the queues of its device are up.
-use Rattle.std.proofs.Common.{if◌then◌else◌, ◌≡◌, ℕ, ◌==◌, Bool, true, false, not, ◌&&◌, ◌||◌, ◌⊎◌, inl, inr, Option, Some, None, refl, sym, ap, subst}
-use Rattle.std.proofs.lemmas.Bool.{eqb-true}
+use Rattle.std.proofs.Common.{if◌then◌else◌, ◌≡◌, ℕ, ◌==◌, Bool, true, false, not, ◌&&◌, ◌||◌, inl, inr, Option, Some, None, refl, sym, ap, subst}
+use Rattle.std.proofs.lemmas.Bool.{eqb-true, or_cases}
 use Rattle.wdf_base.specs.Meaning.{Meaning}
 use Rattle.wdf_base.specs.declared.ids.Cpu.{Cpu}
 use Rattle.wdf_base.specs.declared.ids.Handle.{Handle}
@@ -55,10 +55,6 @@ same_some x y h = let z : x ≡ y = cc in z
 handler_is : (x : Rank) → is_handler x ≡ true → x ≡ rank.Handler
 handler_is rank.Handler h = refl
 handler_is _ h = absurd (let z : ⊥ = cc in z)
-
-or_cases : (a b : Bool) → (a || b) ≡ true → (a ≡ true) ⊎ (b ≡ true)
-or_cases true b h = inl refl
-or_cases false b h = inr h
 
 module _ {A : Type 0} (plan : Plan) (m : Meaning A) (S : State A) (returns : ReturnsUp plan S) (r q d : ℕ) (of : is_managed_of d (queue_of plan q) ≡ true) where
   up_where : is_powered plan S q ≡ true → up_in S.power.devices d ≡ true

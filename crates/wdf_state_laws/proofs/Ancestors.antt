@@ -1,6 +1,6 @@
 -- All objects below a cleaned one are cleaned or gone, at each place of every run.
-use Rattle.std.proofs.Common.{◌≡◌, ℕ, zero, suc, ◌+◌, ◌==◌, Bool, true, false, ◌||◌, List, [], ◌∷◌, ◌++◌, ◌⊎◌, inl, inr, length, map, take, refl, sym, ap, subst, ◌∙◌, arith, length-append}
-use Rattle.std.proofs.lemmas.Bool.{cases_Bool, eqb-true}
+use Rattle.std.proofs.Common.{◌≡◌, ℕ, zero, suc, ◌+◌, ◌==◌, Bool, true, false, ◌||◌, List, [], ◌∷◌, ◌++◌, inl, inr, length, map, take, refl, sym, ap, subst, ◌∙◌, arith, length-append}
+use Rattle.std.proofs.lemmas.Bool.{cases_Bool, eqb-true, or_cases}
 use Rattle.wdf_base.specs.Meaning.{Meaning}
 use Rattle.wdf_base.specs.declared.plan.Plan.{Plan}
 use Rattle.wdf_base.specs.declared.event.Event.{Event}
@@ -92,14 +92,10 @@ past_below T r q o n h = elim (cases_Bool (is_past_cleanup (life_of T o))) [
 abbrev Reaches : Tree → ℕ → ℕ → Type 0
 Reaches T o x = (n : ℕ) × (ancestor T n x ≡ o)
 
-either_of : (a b : Bool) → (a || b) ≡ true → (a ≡ true) ⊎ (b ≡ true)
-either_of true b h = inl refl
-either_of false b h = inr h
-
 reached_by_mark : (T : Tree) (o x : ℕ) (n : Node) (before : List Bool) → n ≡ node_of T x → (n.parent.0 == o || entry false before n.parent.0) ≡ true → ((j : ℕ) → entry false before j ≡ true → Reaches T o j) → Reaches T o x
 reached_by_mark T o x n before here h k =
     let up : parent_of T x ≡ n.parent.0 = ap (λ (m : Node). m.parent.0) (sym here) in
-    elim (either_of (n.parent.0 == o) (entry false before n.parent.0) h) [
+    elim (or_cases (n.parent.0 == o) (entry false before n.parent.0) h) [
       | inl e ↦ (0, up ∙ eqb-true n.parent.0 o e)
       | inr e ↦ let r : Reaches T o n.parent.0 = k n.parent.0 e in (suc r.0, ap (ancestor T r.0) up ∙ r.1)
     ]

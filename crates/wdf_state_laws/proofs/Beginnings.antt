@@ -26,7 +26,7 @@ use Rattle.wdf_deeds.specs.MayDo.{is_start, may_do}
 use Rattle.wdf_deeds.proofs.Walk.{plain_start}
 use Rattle.wdf_deeds.proofs.Passing.{PassesBeside, event_passes, start_effect_passes, start_of}
 use Rattle.wdf_agreements.proofs.SoundEvents.{start_effect_sound}
-use Rattle.wdf_state_laws.proofs.Acts.{asked_early, live_early}
+use Rattle.wdf_agreements.proofs.Lives.{asked_early, live_early}
 
 -- a frame begins before its object's cleanup, but for that of a destroy callback
 abbrev pub Early : {A : Type 0} → Deed → State A → Type 0

@@ -10,18 +10,14 @@ use Rattle.wdf_base.specs.declared.object.Life.TheVariants as life
 use Rattle.wdf_base.specs.declared.call.Callback.TheVariants as callback
 use Rattle.wdf_base.specs.declared.event.Event.{Event}
 use Rattle.wdf_base.specs.declared.frame.Frame.{Frame}
-use Rattle.wdf_model.specs.declared.enums.Mode.TheVariants as mode
 use Rattle.wdf_model.specs.declared.entries.Node.{Node}
-use Rattle.wdf_model.specs.Plans.{managed_queues, queues_of}
 use Rattle.wdf_model.specs.parts.Tree.{Tree, gone, is_live, is_past_cleanup, life_of, may_clean, may_destroy, new_node, next_id, node_of, noted, subtree, with_life, with_node}
 use Rattle.wdf_model.specs.parts.Tree as tree
 use Rattle.wdf_model.specs.parts.Cpus.{frame_of, nobody_on}
 use Rattle.wdf_model.specs.parts.Requests as requests
-use Rattle.wdf_model.specs.parts.Queues.{waiting_in}
-use Rattle.wdf_model.specs.parts.Control as control
 use Rattle.wdf_model.specs.State.{State, is_locked, is_waited_for, nothing_at, opening}
 use Rattle.wdf_model.specs.declared.deed.Deed.{Deed}
-use Rattle.wdf_model.specs.declared.deed.Deed.TheVariants.{Create, MakeRequest, Arrive, AskDeletion, Refer, Unrefer, WriteCell, Note, CleanUp, EndLife, PushFrame, PopFrame, Requeue, Forward, GiveBack, SendRequest, CompleteRequest, PurgeQueue, CloseReturning, CloseDevice}
+use Rattle.wdf_model.specs.declared.deed.Deed.TheVariants.{Create, MakeRequest, Arrive, AskDeletion, Refer, Unrefer, WriteCell, Note, CleanUp, EndLife, PushFrame, PopFrame, CompleteRequest}
 use Rattle.wdf_model.specs.rules.Deeds.{ask_object, do_deed, do_deeds, give_up}
 use Rattle.wdf_model.specs.rules.Starts.{is_finished, is_unused}
 use Rattle.wdf_model.specs.rules.Steps.{deeds}
@@ -34,14 +30,16 @@ use Rattle.wdf_model.proofs.Deletion.{object_live, object_off}
 use Rattle.wdf_model.proofs.FitsOfEvents.{event_fits}
 use Rattle.wdf_invariants.proofs.Framed.{on}
 use Rattle.wdf_invariants.proofs.FrameMoves.{FrameKept}
-use Rattle.wdf_agreements.proofs.Stays.{gives_up, gives_up_if, queues_closed, returns_closed, withdraws}
+use Rattle.wdf_agreements.proofs.Stays.{gives_up}
 use Rattle.wdf_agreements.proofs.Lists.{reads_same}
 use Rattle.wdf_agreements.proofs.Sound.{AllSound, Sound}
 use Rattle.wdf_agreements.proofs.SoundRuns.{all_sound, known_place}
 use Rattle.wdf_agreements.proofs.Framing.{none_yet, off_it}
 use Rattle.wdf_agreements.proofs.FramesStay.{Begins, FramesGoOn, frames_by}
 use Rattle.wdf_state_laws.specs.States.{FramesBeforeCleanup}
-use Rattle.wdf_state_laws.proofs.Acts.{arrived, live_early, noted_kept, tree_of}
+use Rattle.wdf_agreements.proofs.Readers.{arrived_tree, tree_of}
+use Rattle.wdf_agreements.proofs.Lives.{live_early, noted_kept}
+use Rattle.wdf_agreements.proofs.PartsStay.{tree_stays}
 use Rattle.wdf_state_laws.proofs.Beginnings.{AllEarly, Early, event_early}
 
 -- ---- an object that isn't past its cleanup isn't after a deed, until its cleanup or its end
@@ -80,7 +78,7 @@ others_stay T o x f n h = ap (λ (m : Node). is_past_cleanup m.life) (entry_put_
 early_still : {A : Type 0} (plan : Plan) (d : Deed) (S : State A) (x : ℕ) → (Finishes d x → ⊥) → is_past_cleanup (life_of S.tree x) ≡ false → is_past_cleanup (life_of (do_deed plan d S).tree x) ≡ false
 early_still plan (Create k class parent) S x n h = early_made S.tree k class parent.0 x h
 early_still plan (MakeRequest class parent) S x n h = early_made S.tree kind.Made class parent.0 x h
-early_still plan (Arrive device info p) S x n h = ap (λ T. is_past_cleanup (life_of T x)) (arrived S device.0 info p) ∙ early_made S.tree kind.Request 0 device.0 x h
+early_still plan (Arrive device info p) S x n h = ap (λ T. is_past_cleanup (life_of T x)) (arrived_tree S device.0 info p) ∙ early_made S.tree kind.Request 0 device.0 x h
 early_still plan (AskDeletion o) S x n h = all_asked (subtree S.tree o.0) S x h
 early_still plan (Refer o) S x n h = early_changes S.tree o.0 (λ m. record m { references = m.references + 1 }) refl x h
 early_still plan (Unrefer o) S x n h = early_changes S.tree o.0 (λ m. record m { references = m.references - 1 }) refl x h
@@ -88,16 +86,9 @@ early_still plan (WriteCell o k v) S x n h = early_changes S.tree o.0 (λ m. rec
 early_still plan (Note o c) S x n h = early_changes S.tree o.0 (noted c) (ap is_past_cleanup (noted_kept c (node_of S.tree o.0)).0) x h
 early_still plan (CleanUp o) S x n h = others_stay S.tree o.0 x (with_life life.Cleaned) n h
 early_still plan (EndLife o) S x n h = others_stay S.tree o.0 x (λ _. gone) n h
-early_still plan (Requeue r p) S x n h = early_same _ _ (gives_up tree_of (λ S Q R P. refl) S r.0) x h
-early_still plan (Forward r p) S x n h = early_same _ _ (gives_up tree_of (λ S Q R P. refl) S r.0) x h
-early_still plan (GiveBack r p) S x n h = early_same _ _ (gives_up tree_of (λ S Q R P. refl) S r.0) x h
-early_still plan (SendRequest r t forget) S x n h = early_same _ _ (gives_up_if tree_of (λ S Q R P. refl) S forget r.0) x h
 early_still plan (CompleteRequest r) S x n h =
     all_asked (subtree (give_up S r.0).tree r.0) (record (give_up S r.0) { requests = requests.complete S.requests r.0 }) x (early_same S.tree (give_up S r.0).tree (gives_up tree_of (λ S Q R P. refl) S r.0) x h)
-early_still plan (PurgeQueue p) S x n h = early_same _ _ (withdraws tree_of (λ S Q R P. refl) plan p.0 (waiting_in S.queues p.0) (record S { control = control.set_mode S.control p.0 mode.Purged })) x h
-early_still plan (CloseReturning d) S x n h = early_same _ _ (returns_closed tree_of (λ S Q R P. refl) (managed_queues plan d.0) S) x h
-early_still plan (CloseDevice d) S x n h = early_same _ _ (queues_closed tree_of (λ S Q R P. refl) (queues_of plan d.0) (record S { control = control.shut S.control d.0 })) x h
-early_still plan _ S x n h = h
+early_still plan d S x n h = early_same _ _ (tree_stays plan d S refl) x h
 
 -- ---- frames
 

@@ -10,19 +10,15 @@ use Rattle.wdf_base.specs.declared.object.Kind.{Kind}
 use Rattle.wdf_base.specs.declared.object.Kind.TheVariants as kind
 use Rattle.wdf_base.specs.declared.object.Life.TheVariants as life
 use Rattle.wdf_base.specs.declared.declared.Declared.{Declared}
-use Rattle.wdf_model.specs.declared.enums.Mode.TheVariants as mode
 use Rattle.wdf_model.specs.declared.entries.Node.{Node}
 use Rattle.wdf_model.specs.Tables.{entry}
-use Rattle.wdf_model.specs.Plans.{managed_queues, queues_of}
 use Rattle.wdf_model.specs.parts.Tree.{Tree, children, declared_node, gone, is_asked, is_child, is_cleaned, is_gone, is_live, life_of, may_destroy, new_node, next_id, node_of, noted, opening_tree, parent_of, references_of, subtree, with_life, with_node}
 use Rattle.wdf_model.specs.parts.Tree as tree
 use Rattle.wdf_model.specs.parts.Cpus.{nobody_on}
 use Rattle.wdf_model.specs.parts.Requests as requests
-use Rattle.wdf_model.specs.parts.Queues.{waiting_in}
-use Rattle.wdf_model.specs.parts.Control as control
 use Rattle.wdf_model.specs.State.{State}
 use Rattle.wdf_model.specs.declared.deed.Deed.{Deed}
-use Rattle.wdf_model.specs.declared.deed.Deed.TheVariants.{Create, MakeRequest, Arrive, AskDeletion, Refer, Unrefer, WriteCell, Note, CleanUp, EndLife, Requeue, Forward, GiveBack, SendRequest, CompleteRequest, PurgeQueue, CloseReturning, CloseDevice}
+use Rattle.wdf_model.specs.declared.deed.Deed.TheVariants.{Create, MakeRequest, Arrive, AskDeletion, Refer, Unrefer, WriteCell, Note, CleanUp, EndLife, CompleteRequest}
 use Rattle.wdf_model.specs.rules.Deeds.{ask_object, do_deed, give_up}
 use Rattle.wdf_model.specs.rules.Steps.{deeds}
 use Rattle.wdf_model.specs.rules.Ready.{IsRunOf, state_after}
@@ -34,11 +30,13 @@ use Rattle.wdf_model.proofs.Deletion.{object_live, object_off}
 use Rattle.wdf_model.proofs.FitsOfEvents.{event_fits}
 use Rattle.wdf_invariants.proofs.StillFrames.{asked_there, live_there}
 use Rattle.wdf_agreements.proofs.Keeping.{deeds_keep, each_place}
-use Rattle.wdf_agreements.proofs.Stays.{gives_up, gives_up_if, queues_closed, returns_closed, withdraws}
+use Rattle.wdf_agreements.proofs.Stays.{gives_up}
 use Rattle.wdf_agreements.proofs.Lists.{all_of_kept, inside, reads_same}
 use Rattle.wdf_agreements.proofs.LivesOver.{Lives, lives_at_each}
 use Rattle.wdf_state_laws.specs.States.{ParentsThere}
-use Rattle.wdf_state_laws.proofs.Acts.{arrived, noted_kept, tree_of}
+use Rattle.wdf_agreements.proofs.Readers.{arrived_tree, tree_of}
+use Rattle.wdf_agreements.proofs.Lives.{noted_kept}
+use Rattle.wdf_agreements.proofs.PartsStay.{tree_stays}
 
 -- what isn't gone has no parent, or one that isn't gone
 abbrev pub Kin : Tree → Type 0
@@ -114,7 +112,7 @@ same_tree T U e q = subst Kin (sym e) q
 kin_by : {A : Type 0} (plan : Plan) (d : Deed) (S : State A) → fits plan d S ≡ true → Kin S.tree → Kin (do_deed plan d S).tree
 kin_by plan (Create k class parent) S f q = object_made S.tree k class parent.0 (search both_left) q
 kin_by plan (MakeRequest class parent) S f q = object_made S.tree kind.Made class parent.0 (search both_left) q
-kin_by plan (Arrive device info p) S f q = same_tree _ _ (arrived S device.0 info p) (object_made S.tree kind.Request 0 device.0 (search both_left) q)
+kin_by plan (Arrive device info p) S f q = same_tree _ _ (arrived_tree S device.0 info p) (object_made S.tree kind.Request 0 device.0 (search both_left) q)
 kin_by plan (AskDeletion o) S f q = all_asked (subtree S.tree o.0) S q
 kin_by plan (Refer o) S f q = object_changes S.tree o.0 (λ n. record n { references = n.references + 1 }) refl refl q
 kin_by plan (Unrefer o) S f q = object_changes S.tree o.0 (λ n. record n { references = n.references - 1 }) refl refl q
@@ -124,16 +122,9 @@ kin_by plan (CleanUp o) S f q =
     let waits : is_asked (life_of S.tree o.0) ≡ true = search both_left in
     object_changes S.tree o.0 (with_life life.Cleaned) (sym (asked_there (life_of S.tree o.0) waits)) refl q
 kin_by plan (EndLife o) S f q = ended S.tree o.0 (both_left (may_destroy S.tree o.0) (nobody_on S.cpus o.0) f) q
-kin_by plan (Requeue r p) S f q = same_tree _ _ (gives_up tree_of (λ S Q R P. refl) S r.0) q
-kin_by plan (Forward r p) S f q = same_tree _ _ (gives_up tree_of (λ S Q R P. refl) S r.0) q
-kin_by plan (GiveBack r p) S f q = same_tree _ _ (gives_up tree_of (λ S Q R P. refl) S r.0) q
-kin_by plan (SendRequest r t forget) S f q = same_tree _ _ (gives_up_if tree_of (λ S Q R P. refl) S forget r.0) q
 kin_by plan (CompleteRequest r) S f q =
     all_asked (subtree (give_up S r.0).tree r.0) (record (give_up S r.0) { requests = requests.complete S.requests r.0 }) (same_tree _ _ (gives_up tree_of (λ S Q R P. refl) S r.0) q)
-kin_by plan (PurgeQueue p) S f q = same_tree _ _ (withdraws tree_of (λ S Q R P. refl) plan p.0 (waiting_in S.queues p.0) (record S { control = control.set_mode S.control p.0 mode.Purged })) q
-kin_by plan (CloseReturning d) S f q = same_tree _ _ (returns_closed tree_of (λ S Q R P. refl) (managed_queues plan d.0) S) q
-kin_by plan (CloseDevice d) S f q = same_tree _ _ (queues_closed tree_of (λ S Q R P. refl) (queues_of plan d.0) (record S { control = control.shut S.control d.0 })) q
-kin_by plan _ S f q = q
+kin_by plan d S f q = same_tree _ _ (tree_stays plan d S refl) q
 
 -- ---- the opening, and each place of a run
 

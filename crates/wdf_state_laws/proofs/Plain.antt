@@ -27,7 +27,7 @@ use Rattle.wdf_model.specs.State.{State, withdrawn_place}
 use Rattle.wdf_model.specs.Ids.{object_id}
 use Rattle.wdf_model.specs.declared.deed.Deed.{Deed}
 use Rattle.wdf_model.specs.declared.deed.Deed.TheVariants.{MakeRequest, Arrive, CountArrival, AskDeletion, EndLife, Present, Receive, Requeue, Forward, GiveBack, Withdraw, MarkRequest, UnmarkRequest, CancelRequest, TakeCancel, SendRequest, FinishSending, ComeBack, CompleteRequest, PurgeQueue, CloseReturning, CloseDevice}
-use Rattle.wdf_model.specs.rules.Deeds.{arrive_at, close_queue, close_returning, do_deed, do_deeds, finished_at, give_up, queued, withdraw}
+use Rattle.wdf_model.specs.rules.Deeds.{close_queue, close_returning, do_deed, do_deeds, finished_at, give_up, queued, withdraw}
 use Rattle.wdf_model.specs.rules.Posts.{arrival_info, arrival_place}
 use Rattle.wdf_model.specs.rules.Steps.{deeds}
 use Rattle.wdf_model.specs.rules.Ready.{IsRunOf, state_after}
@@ -42,6 +42,7 @@ use Rattle.wdf_request_laws.proofs.Marks.{is_armed}
 use Rattle.wdf_request_laws.proofs.Cancels.{AllGo}
 use Rattle.wdf_request_laws.proofs.CancelsOverRuns.{all_go_at_each}
 use Rattle.wdf_state_laws.specs.States.{MarksAgree}
+use Rattle.wdf_agreements.proofs.Readers.{arrived_requests, requests_of}
 
 -- a request that is marked isn't cancelled
 abbrev pub Plain : Request → Type 0
@@ -114,9 +115,6 @@ comes R r p info off k x = elim (one_or_two x r) [
 
 -- ---- deeds by which nothing arrives
 
-abbrev requests_of : {A : Type 0} → State A → Requests
-requests_of S = S.requests
-
 same_requests : (R U : Requests) → U ≡ R → AllPlain R → AllPlain U
 same_requests R U e k = subst AllPlain (sym e) k
 
@@ -173,16 +171,12 @@ deeds_plain plan (d ∷ ds) S h k =
     let none : is_arrival d ≡ false = not_true (is_arrival d) (both_left (not (is_arrival d)) (none_arrives ds) h) in
     deeds_plain plan ds (do_deed plan d S) (both_right (not (is_arrival d)) (none_arrives ds) h) (plain_by plan d S none k)
 
-came : {A : Type 0} (S : State A) (device : ℕ) (info : RequestInfo) (p : Place) → (arrive_at S device info p).requests ≡ requests.arrive S.requests (next_id S.tree) p info
-came S device info (place.Queued q) = refl
-came S device info _ = refl
-
 arrival_by : {A : Type 0} (plan : Plan) (S : State A) (agent : ℕ) (f : RequestForm) (length code device : ℕ) (b : Bool) → AllPlain S.requests
     → AllPlain (do_deeds plan (CountArrival agent ∷ (if b then Arrive (object_id device) (arrival_info S agent f length code device) (arrival_place plan S f length device) ∷ [] else [])) S).requests
 arrival_by plan S agent f length code device true k =
     let info : RequestInfo = arrival_info S agent f length code device in
     let p : Place = arrival_place plan S f length device in
-    same_requests _ _ (came (do_deed plan (CountArrival agent) S) device info p) (comes S.requests (next_id S.tree) p info refl k)
+    same_requests _ _ (arrived_requests (do_deed plan (CountArrival agent) S) device info p) (comes S.requests (next_id S.tree) p info refl k)
 arrival_by plan S agent f length code device false k = k
 
 arrival_event : {A : Type 0} (plan : Plan) (S : State A) (e : Event) → is_arrival_event e ≡ true → AllPlain S.requests → AllPlain (do_deeds plan (deeds plan S e) S).requests

@@ -31,7 +31,6 @@ use Rattle.wdf_power_laws.proofs.Unmoved as unmoved
 use Rattle.wdf_model.specs.declared.entries.Holding.{Holding}
 use Rattle.wdf_model.specs.Plans.{callback_irql, is_managed, is_parallel_queue, managed_queues, queues_of}
 use Rattle.wdf_model.specs.parts.Tree.{subtree}
-use Rattle.wdf_model.specs.parts.Cpus.{frame_of}
 use Rattle.wdf_model.specs.parts.Control.{accepts, is_purged, mode_of}
 use Rattle.wdf_model.specs.parts.Control as control
 use Rattle.wdf_model.specs.parts.Locks.{lock_of_callback}
@@ -47,27 +46,27 @@ use Rattle.wdf_model.specs.rules.Deeds.{do_deed, do_deeds}
 use Rattle.wdf_model.specs.rules.Faults.{arg_is}
 use Rattle.wdf_model.specs.rules.Calls.{Outcome, forwards_nowhere, may_send, origin_or_none, outcome, refused, retrieve_front, success}
 use Rattle.wdf_model.specs.rules.Starts.{effect, effect_for, end_of_step, new_frame, next_number, release_if_any, take_if_any}
-use Rattle.wdf_model.specs.rules.Steps.{after, deeds, did_deeds, may, view_of, waiting_deeds, woke_deeds}
+use Rattle.wdf_model.specs.rules.Steps.{after, deeds, may, view_of}
 use Rattle.wdf_model.specs.laws.FactsOfEvents.{IsTick}
 use Rattle.wdf_model.proofs.Maps.{entry_map}
 use Rattle.wdf_model.proofs.Tests.{both, both_left, both_right, first, itself, not_true, second}
 use Rattle.wdf_model.proofs.Counts.{one_or_two}
 use Rattle.wdf_model.proofs.Fits.{wrong_kind_of_first}
 use Rattle.wdf_model.proofs.FitsOfCalls.{Clean}
-use Rattle.wdf_model.proofs.FitsOfEvents.{by_its_top}
 use Rattle.wdf_model.proofs.OwnEvents.{IsDid, IsWaiting, IsWoke, did_tells, waiting_tells, woke_tells}
-use Rattle.wdf_agreements.proofs.Stays.{asks_all}
+use Rattle.wdf_agreements.proofs.Stays.{asks_all, closed_power, returning_power}
 use Rattle.wdf_invariants.proofs.Releases.{holding_elsewhere}
 use Rattle.wdf_laws.specs.declared.sign.Sign.TheVariants as sign
 use Rattle.wdf_laws.specs.Events.{argument_object, is_handler, pair_of, value_object, where_so}
 use Rattle.wdf_laws.specs.Signs.{is_taking_of, shows}
 use Rattle.wdf_request_laws.proofs.Cancels.{named}
-use Rattle.wdf_request_laws.proofs.FirstParts.{did_reads, start_reads, waiting_reads, woke_reads}
-use Rattle.wdf_request_laws.proofs.Gives.{call_of}
-use Rattle.wdf_held_laws.proofs.Holdings.{closed_power, is_holding, none_holds, noted, power_of, returning_power, taken_notes}
+use Rattle.wdf_request_laws.proofs.FirstParts.{did_after, start_reads, waiting_after, woke_after}
+use Rattle.wdf_held_laws.proofs.Holdings.{is_holding, none_holds, noted, taken_notes}
 use Rattle.wdf_held_laws.proofs.HeldByCalls.{call_power}
 use Rattle.wdf_held_laws.proofs.HoldingsOverRuns.{event_none, is_plain, waits_holding}
 use Rattle.wdf_held_laws.proofs.StillSuch.{Advances, By, StillSuch, deed_still, effect_still, forwards_still, gives_still, sends_still, still_completed, still_one, still_power, still_same, still_then}
+use Rattle.wdf_agreements.proofs.Readers.{power_of}
+use Rattle.wdf_agreements.proofs.ReasonsOfCalls.{call_of}
 
 -- ---- one request
 
@@ -244,24 +243,21 @@ module _ {A : Type 0} (plan : Plan) (m : Meaning A) (S : State A) where
   did_steps cpu c v h =
       let d : IsDid plan S cpu.0 c v = did_tells plan m S cpu c v h in
       subst (OpenStep (event.Did cpu c v) S.power)
-      (sym (ap (λ (ds : List Deed). (do_deeds plan ds S).power) (by_its_top S cpu.0 d.frame (did_deeds plan S cpu.0 c v) d.about.top)
-      ∙ did_reads (λ (T : State A). T.power) (λ T L C. refl) plan S cpu.0 d.frame c v (frame_of S.cpus d.frame)))
+      (sym (did_after (λ (T : State A). T.power) (λ T L C. refl) plan S cpu.0 c v d))
       (did_opens plan S cpu d.frame c.kind c.count c.a c.b c.c v d.about.clean d.answer)
 
   waiting_steps : (cpu : Cpu) (c : Call) → may plan m S (event.Waiting cpu c) ≡ true → Opens (event.Waiting cpu c)
   waiting_steps cpu c h =
       let d : IsWaiting plan S cpu.0 c = waiting_tells plan m S cpu c h in
       subst (OpenStep (event.Waiting cpu c) S.power)
-      (sym (ap (λ (ds : List Deed). (do_deeds plan ds S).power) (by_its_top S cpu.0 d.frame (waiting_deeds plan S cpu.0 c) d.about.top)
-      ∙ waiting_reads (λ (T : State A). T.power) (λ T L C. refl) plan S cpu.0 d.frame c (frame_of S.cpus d.frame)))
+      (sym (waiting_after (λ (T : State A). T.power) (λ T L C. refl) plan S cpu.0 c d))
       (before (event.Waiting cpu c) S.power (do_deeds plan (outcome plan S cpu.0 d.frame c).deeds S).power (still_power not S.power (do_deeds plan (outcome plan S cpu.0 d.frame c).deeds S).power (call_power plan S cpu.0 d.frame c.kind c.count c.a c.b c.c (waits_holding plan S c.kind c.count c.a c.b c.c d.unmet))))
 
   woke_steps : (cpu : Cpu) (c : Call) (v : Value) → may plan m S (event.Woke cpu c v) ≡ true → Opens (event.Woke cpu c v)
   woke_steps cpu c v h =
       let d : IsWoke S cpu.0 c v = woke_tells plan m S cpu c v h in
       subst (OpenStep (event.Woke cpu c v) S.power)
-      (sym (ap (λ (ds : List Deed). (do_deeds plan ds S).power) (by_its_top S cpu.0 d.frame (woke_deeds plan c v) d.top)
-      ∙ woke_reads (λ (T : State A). T.power) (λ T L C. refl) plan S d.frame c v (frame_of S.cpus d.frame)))
+      (sym (woke_after (λ (T : State A). T.power) (λ T L C. refl) plan S cpu.0 c v d))
       (before (event.Woke cpu c v) S.power S.power (still_power not S.power S.power refl))
 
   pub event_opens : (e : Event) → may plan m S e ≡ true → Opens e

@@ -1,5 +1,5 @@
 -- While the queues of a device are down, and its next step isn't `settled`, all that is held of it is acknowledged.
-use Rattle.std.proofs.Common.{if◌then◌else◌, ◌≡◌, ◌≢◌, ℕ, ◌==◌, nat_lt, Bool, true, false, not, ◌&&◌, ◌||◌, List, [], ◌∷◌, inl, inr, Option, Some, None, is_some, ◌++◌, drop, filter, length, refl, sym, ap, subst, ◌∙◌, arith}
+use Rattle.std.proofs.Common.{◌≡◌, ◌≢◌, ℕ, ◌==◌, nat_lt, Bool, true, false, not, ◌&&◌, ◌||◌, List, [], ◌∷◌, inl, inr, Option, Some, None, ◌++◌, drop, length, refl, sym, ap, subst, ◌∙◌, arith}
 use Rattle.std.specs.List.{list_all}
 use Rattle.std.proofs.lemmas.Bool.{eqb-true}
 use Rattle.wdf_base.specs.declared.ids.Handle.{Handle}
@@ -27,7 +27,7 @@ use Rattle.wdf_laws.specs.Laws.{is_managed_of}
 use Rattle.wdf_laws.specs.Signs.{shows}
 use Rattle.wdf_held_laws.proofs.Holdings.{noted}
 use Rattle.wdf_held_laws.proofs.Settled.{held_there, none_unsettled}
-use Rattle.wdf_settled_laws.proofs.Course.{TakesUp, not_shown, passed_left, up_by, up_here, up_in, up_there}
+use Rattle.wdf_settled_laws.proofs.Course.{TakesUp, passed_left, up_by, up_here, up_in, up_there}
 use Rattle.wdf_settled_laws.proofs.Moves as moves
 use Rattle.wdf_settled_laws.proofs.Moves.{Moved}
 use Rattle.wdf_settled_laws.proofs.Never.{not_so, not_such}

@@ -1,5 +1,5 @@
 -- Nothing is unsettled while the queues of a device are down, at each place of every run.
-use Rattle.std.proofs.Common.{if◌then◌else◌, ◌≡◌, ℕ, zero, suc, ◌+◌, nat_lt, Bool, true, false, not, ◌&&◌, List, [], ◌∷◌, ◌++◌, ◌⊎◌, inl, inr, Option, Some, None, filter, slice_get, take, refl, sym, ap, subst, ◌∙◌}
+use Rattle.std.proofs.Common.{if◌then◌else◌, ◌≡◌, ℕ, zero, suc, nat_lt, Bool, true, false, not, List, [], ◌∷◌, ◌⊎◌, inl, inr, Option, Some, None, filter, slice_get, take, refl, sym, ap, subst, ◌∙◌}
 use Rattle.wdf_base.specs.Meaning.{Meaning}
 use Rattle.wdf_base.specs.Resolved.{IsResolved}
 use Rattle.wdf_base.specs.declared.plan.Plan.{Plan}
@@ -7,10 +7,9 @@ use Rattle.wdf_base.specs.declared.event.Event.{Event}
 use Rattle.wdf_base.specs.declared.event.Event.TheVariants as event
 use Rattle.wdf_model.specs.Tables.{ids_of}
 use Rattle.wdf_model.specs.Plans.{is_managed}
-use Rattle.wdf_model.specs.parts.Power.{Power, acknowledged, holding_of, is_held, is_held_at, is_unsettled_at, opening_power, unsettled}
+use Rattle.wdf_model.specs.parts.Power.{Power, acknowledged, holding_of, is_held, is_held_at, is_unsettled_at, opening_power}
 use Rattle.wdf_model.specs.State.{State}
-use Rattle.wdf_model.specs.rules.Deeds.{counted, do_deeds}
-use Rattle.wdf_model.specs.rules.Steps.{after, deeds, may}
+use Rattle.wdf_model.specs.rules.Steps.{after, may}
 use Rattle.wdf_model.specs.rules.Ready.{IsRunOf, ready, state_after}
 use Rattle.wdf_model.specs.laws.FactsOfEvents.{IsTick}
 use Rattle.wdf_model.proofs.Follows.{state_goes_on}
@@ -29,9 +28,9 @@ use Rattle.wdf_settled_laws.proofs.Never.{not_so}
 use Rattle.wdf_settled_laws.proofs.ReturnsUp.{ReturnsUp, returns_after}
 use Rattle.wdf_settled_laws.proofs.Takes.{takes_up}
 use Rattle.wdf_steps_laws.specs.Settled.{NothingUnsettled}
-use Rattle.wdf_steps_laws.proofs.Open.{either_opens, is_open}
+use Rattle.wdf_steps_laws.proofs.Open.{either_opens}
 use Rattle.wdf_steps_laws.proofs.Runs.{courses_at, moves_at}
-use Rattle.wdf_steps_laws.proofs.Unsettled.{AllSettled, Settled, settled_after}
+use Rattle.wdf_steps_laws.proofs.Unsettled.{Settled, settled_after}
 use Rattle.wdf_held_laws.proofs.AckedAsTold.{managed_note}
 
 managed_noted : {A : Type 0} (plan : Plan) (U : State A) → HoldsIn plan U → (x : ℕ) → is_held (holding_of U.power x) ≡ true → is_managed plan (noted U.power x) ≡ true

@@ -1,5 +1,5 @@
 -- What is cleaned had its cleanup: at each place of every run.
-use Rattle.std.proofs.Common.{◌≡◌, ℕ, zero, suc, ◌+◌, ◌-◌, Bool, true, false, not, ◌||◌, List, [], ◌∷◌, ◌++◌, inl, inr, Some, map, fold, slice_get, slice_set, take, refl, sym, ap, subst, ◌∙◌, arith}
+use Rattle.std.proofs.Common.{◌≡◌, ℕ, zero, suc, ◌+◌, ◌-◌, Bool, true, false, not, List, [], ◌∷◌, ◌++◌, inl, inr, Some, map, fold, slice_get, slice_set, take, refl, sym, ap, subst, ◌∙◌}
 use Rattle.wdf_base.specs.Meaning.{Meaning}
 use Rattle.wdf_base.specs.declared.ids.Handle.{Handle}
 use Rattle.wdf_base.specs.declared.plan.Plan.{Plan}
@@ -8,43 +8,38 @@ use Rattle.wdf_base.specs.declared.event.Event.TheVariants as event
 use Rattle.wdf_base.specs.declared.declared.Declared.{Declared}
 use Rattle.wdf_base.specs.declared.object.Kind.{Kind}
 use Rattle.wdf_base.specs.declared.object.Kind.TheVariants as kind
-use Rattle.wdf_base.specs.declared.object.Life.{Life}
 use Rattle.wdf_base.specs.declared.object.Life.TheVariants as life
-use Rattle.wdf_base.specs.declared.object.Place.{Place}
-use Rattle.wdf_base.specs.declared.object.Place.TheVariants as place
-use Rattle.wdf_base.specs.declared.object.RequestInfo.{RequestInfo}
-use Rattle.wdf_base.specs.declared.call.Callback.{Callback}
-use Rattle.wdf_base.specs.declared.call.Callback.TheVariants as callback
-use Rattle.wdf_model.specs.declared.enums.Mode.TheVariants as mode
 use Rattle.wdf_model.specs.declared.entries.Node.{Node}
 use Rattle.wdf_model.specs.Tables.{entry}
-use Rattle.wdf_model.specs.Plans.{managed_queues, queues_of}
-use Rattle.wdf_model.specs.parts.Tree.{Tree, declared_node, gone, is_cleaned, is_live, life_of, new_node, next_id, node_of, noted, opening_tree, subtree, with_life, with_node}
+use Rattle.wdf_model.specs.parts.Tree.{Tree, declared_node, gone, is_cleaned, is_live, life_of, node_of, noted, subtree, with_life, with_node}
 use Rattle.wdf_model.specs.parts.Tree as tree
 use Rattle.wdf_model.specs.parts.Requests as requests
-use Rattle.wdf_model.specs.parts.Queues.{waiting_in}
-use Rattle.wdf_model.specs.parts.Control as control
 use Rattle.wdf_model.specs.State.{State}
 use Rattle.wdf_model.specs.declared.deed.Deed.{Deed}
-use Rattle.wdf_model.specs.declared.deed.Deed.TheVariants.{Create, MakeRequest, Arrive, AskDeletion, Refer, Unrefer, WriteCell, Note, CleanUp, EndLife, Requeue, Forward, GiveBack, SendRequest, CompleteRequest, PurgeQueue, CloseReturning, CloseDevice}
-use Rattle.wdf_model.specs.rules.Deeds.{arrive_at, ask_object, do_deed, do_deeds, give_up}
+use Rattle.wdf_model.specs.declared.deed.Deed.TheVariants.{Create, MakeRequest, Arrive, AskDeletion, Refer, Unrefer, WriteCell, Note, CleanUp, EndLife, CompleteRequest}
+use Rattle.wdf_model.specs.rules.Deeds.{ask_object, do_deed, do_deeds, give_up}
 use Rattle.wdf_model.specs.rules.Steps.{after, deeds, may}
 use Rattle.wdf_model.specs.rules.Ready.{IsRunOf, ready, state_after}
 use Rattle.wdf_model.proofs.Runs.{along_run}
 use Rattle.wdf_model.proofs.Follows.{state_goes_on}
-use Rattle.wdf_model.proofs.Tests.{both_left, both_right, not_true}
-use Rattle.wdf_model.proofs.Maps.{entry_before, entry_last, entry_past, entry_put_other, entry_put_same}
+use Rattle.wdf_model.proofs.Tests.{both_left, both_right, first, not_true, second}
+use Rattle.wdf_model.proofs.Maps.{entry_put_other, entry_put_same}
 use Rattle.wdf_model.proofs.Counts.{equal, one_or_two}
 use Rattle.wdf_model.proofs.Deletion.{object_live, object_off}
-use Rattle.wdf_agreements.proofs.Stays.{gives_up, gives_up_if, queues_closed, returns_closed, withdraws}
+use Rattle.wdf_agreements.proofs.Stays.{gives_up}
 use Rattle.wdf_agreements.proofs.Lists.{reads_same}
 use Rattle.wdf_laws.specs.declared.sign.Sign.TheVariants as sign
 use Rattle.wdf_laws.specs.Signs.{shows}
 use Rattle.wdf_laws.specs.Words.{ever}
+use Rattle.wdf_agreements.proofs.Readers.{arrived_tree, tree_of}
+use Rattle.wdf_agreements.proofs.Lives.{noted_life}
+use Rattle.wdf_agreements.proofs.CleanedOver.{live_uncleaned, none_cleaned, unmade}
+use Rattle.wdf_agreements.proofs.Keeping.{comes}
+use Rattle.wdf_agreements.proofs.PartsStay.{tree_stays}
 use Rattle.wdf_trace_laws.proofs.Words.{ever_next}
 use Rattle.wdf_deeds.specs.MayDo.{is_cleanup}
 use Rattle.wdf_trace_laws.proofs.Untouched.{cleans, event_none, none_cleans}
-use Rattle.wdf_trace_laws.proofs.Ends.{comes, ends}
+use Rattle.wdf_trace_laws.proofs.Ends.{ends}
 
 -- C tells each object that is cleaned
 abbrev pub Seen : (ℕ → Bool) → Tree → Type 0
@@ -53,21 +48,8 @@ Seen C T = (x : ℕ) → is_cleaned (life_of T x) ≡ true → C x ≡ true
 object_changes : (C : ℕ → Bool) (T : Tree) (o : ℕ) (f : Node → Node) → is_cleaned (f (node_of T o)).life ≡ is_cleaned (life_of T o) → Seen C T → Seen C (with_node T o f)
 object_changes C T o f same k x h = k x (sym (reads_same (λ n. is_cleaned n.life) T o f same x) ∙ h)
 
-unmade : (T : Tree) (k : Kind) (class parent : ℕ) (x : ℕ) → is_cleaned (life_of (tree.create T k class parent) x) ≡ is_cleaned (life_of T x)
-unmade T k class parent x = elim (one_or_two x (next_id T)) [
-  | inl e ↦
-      let new : is_cleaned (life_of (tree.create T k class parent) (next_id T)) ≡ false = ap (λ (n : Node). is_cleaned n.life) (entry_last gone T.nodes (new_node k class parent)) in
-      let old : is_cleaned (life_of T (next_id T)) ≡ false = ap (λ (n : Node). is_cleaned n.life) (entry_past gone T.nodes (next_id T) (omega arith)) in
-      rw e (new ∙ sym old)
-  | inr n ↦ ap (λ (m : Node). is_cleaned m.life) (entry_before gone T.nodes (new_node k class parent) x n)
-]
-
 object_made : (C : ℕ → Bool) (T : Tree) (k : Kind) (class parent : ℕ) → Seen C T → Seen C (tree.create T k class parent)
 object_made C T k class parent q x h = q x (sym (unmade T k class parent x) ∙ h)
-
-live_uncleaned : (l : Life) → is_live l ≡ true → is_cleaned l ≡ false
-live_uncleaned life.Cleaned h = absurd (let z : ⊥ = cc in z)
-live_uncleaned _ h = refl
 
 asked_one : {A : Type 0} (C : ℕ → Bool) (S : State A) (x : ℕ) (b : Bool) → is_live (life_of S.tree x) ≡ b → Seen C S.tree → Seen C (ask_object S x).tree
 asked_one {A} C S x true e q = subst (λ (U : State A). Seen C U.tree) (sym (object_live S x e)) (object_changes C S.tree x (with_life life.Asked) (sym (live_uncleaned (life_of S.tree x) e)) q)
@@ -83,41 +65,23 @@ ended C T o q x h = elim (one_or_two x o) [
   | inr n ↦ q x (sym (ap (λ (m : Node). is_cleaned m.life) (entry_put_other gone T.nodes o x gone n)) ∙ h)
 ]
 
-noted_kept : (c : Callback) (n : Node) → (noted c n).life ≡ n.life
-noted_kept callback.EvtDestroyCallback n = refl
-noted_kept _ n = refl
-
 same_tree : (C : ℕ → Bool) (T U : Tree) → U ≡ T → Seen C T → Seen C U
 same_tree C T U e q = subst (Seen C) (sym e) q
-
-arrived : {A : Type 0} (S : State A) (device : ℕ) (info : RequestInfo) (p : Place) → (arrive_at S device info p).tree ≡ tree.arrive S.tree device
-arrived S device info (place.Queued q) = refl
-arrived S device info _ = refl
-
-abbrev tree_of : {A : Type 0} → State A → Tree
-tree_of S = S.tree
 
 deed_keeps : {A : Type 0} (C : ℕ → Bool) (plan : Plan) (d : Deed) (S : State A) → cleans d ≡ false → Seen C S.tree → Seen C (do_deed plan d S).tree
 deed_keeps C plan (Create k class parent) S f q = object_made C S.tree k class parent.0 q
 deed_keeps C plan (MakeRequest class parent) S f q = object_made C S.tree kind.Made class parent.0 q
-deed_keeps C plan (Arrive device info p) S f q = same_tree C _ _ (arrived S device.0 info p) (object_made C S.tree kind.Request 0 device.0 q)
+deed_keeps C plan (Arrive device info p) S f q = same_tree C _ _ (arrived_tree S device.0 info p) (object_made C S.tree kind.Request 0 device.0 q)
 deed_keeps C plan (AskDeletion o) S f q = all_asked C (subtree S.tree o.0) S q
 deed_keeps C plan (Refer o) S f q = object_changes C S.tree o.0 (λ n. record n { references = n.references + 1 }) refl q
 deed_keeps C plan (Unrefer o) S f q = object_changes C S.tree o.0 (λ n. record n { references = n.references - 1 }) refl q
 deed_keeps C plan (WriteCell o k v) S f q = object_changes C S.tree o.0 (λ n. record n { cells = slice_set n.cells k v }) refl q
-deed_keeps C plan (Note o c) S f q = object_changes C S.tree o.0 (noted c) (ap is_cleaned (noted_kept c (node_of S.tree o.0))) q
+deed_keeps C plan (Note o c) S f q = object_changes C S.tree o.0 (noted c) (ap is_cleaned (noted_life c (node_of S.tree o.0))) q
 deed_keeps C plan (CleanUp o) S f q = absurd (let z : ⊥ = cc in z)
 deed_keeps C plan (EndLife o) S f q = ended C S.tree o.0 q
-deed_keeps C plan (Requeue r p) S f q = same_tree C _ _ (gives_up tree_of (λ S Q R P. refl) S r.0) q
-deed_keeps C plan (Forward r p) S f q = same_tree C _ _ (gives_up tree_of (λ S Q R P. refl) S r.0) q
-deed_keeps C plan (GiveBack r p) S f q = same_tree C _ _ (gives_up tree_of (λ S Q R P. refl) S r.0) q
-deed_keeps C plan (SendRequest r t forget) S f q = same_tree C _ _ (gives_up_if tree_of (λ S Q R P. refl) S forget r.0) q
 deed_keeps C plan (CompleteRequest r) S f q =
     all_asked C (subtree (give_up S r.0).tree r.0) (record (give_up S r.0) { requests = requests.complete S.requests r.0 }) (same_tree C _ _ (gives_up tree_of (λ S Q R P. refl) S r.0) q)
-deed_keeps C plan (PurgeQueue p) S f q = same_tree C _ _ (withdraws tree_of (λ S Q R P. refl) plan p.0 (waiting_in S.queues p.0) (record S { control = control.set_mode S.control p.0 mode.Purged })) q
-deed_keeps C plan (CloseReturning d) S f q = same_tree C _ _ (returns_closed tree_of (λ S Q R P. refl) (managed_queues plan d.0) S) q
-deed_keeps C plan (CloseDevice d) S f q = same_tree C _ _ (queues_closed tree_of (λ S Q R P. refl) (queues_of plan d.0) (record S { control = control.shut S.control d.0 })) q
-deed_keeps C plan _ S f q = q
+deed_keeps C plan d S f q = same_tree C _ _ (tree_stays plan d S refl) q
 
 deeds_keep : {A : Type 0} (C : ℕ → Bool) (plan : Plan) (ds : List Deed) (S : State A) → none_cleans ds ≡ true → Seen C S.tree → Seen C (do_deeds plan ds S).tree
 deeds_keep C plan [] S n q = q
@@ -130,19 +94,11 @@ deeds_keep C plan (d ∷ ds) S n q =
 more_told : (C D : ℕ → Bool) (T : Tree) → ((x : ℕ) → C x ≡ true → D x ≡ true) → Seen C T → Seen D T
 more_told C D T more k x h = more x (k x h)
 
-still : (a b : Bool) → a ≡ true → (a || b) ≡ true
-still true b h = refl
-still false b h = absurd (let z : ⊥ = cc in z)
-
-now_ : (a b : Bool) → b ≡ true → (a || b) ≡ true
-now_ true b h = refl
-now_ false b h = h
-
 told_still : (es : List Event) (e : Event) (x : ℕ) → ever (sign.Cleaned x) es ≡ true → ever (sign.Cleaned x) (es ++ e ∷ []) ≡ true
-told_still es e x h = ever_next (sign.Cleaned x) es e ∙ still (ever (sign.Cleaned x) es) (shows (sign.Cleaned x) e) h
+told_still es e x h = ever_next (sign.Cleaned x) es e ∙ first (ever (sign.Cleaned x) es) (shows (sign.Cleaned x) e) h
 
 told_now : (es : List Event) (e : Event) (x : ℕ) → shows (sign.Cleaned x) e ≡ true → ever (sign.Cleaned x) (es ++ e ∷ []) ≡ true
-told_now es e x h = ever_next (sign.Cleaned x) es e ∙ now_ (ever (sign.Cleaned x) es) (shows (sign.Cleaned x) e) h
+told_now es e x h = ever_next (sign.Cleaned x) es e ∙ second (ever (sign.Cleaned x) es) (shows (sign.Cleaned x) e) h
 
 abbrev pub AllSeen : {A : Type 0} → List Event → State A → Type 0
 AllSeen es S = Seen (λ x. ever (sign.Cleaned x) es) S.tree
@@ -182,10 +138,6 @@ no_cleaned : (ds : List Declared) (x : ℕ) → is_cleaned (entry gone (map decl
 no_cleaned [] x = refl
 no_cleaned (d ∷ ds) zero = refl
 no_cleaned (d ∷ ds) (suc x) = no_cleaned ds x
-
-none_cleaned : (plan : Plan) (x : ℕ) → is_cleaned (life_of (opening_tree plan) x) ≡ false
-none_cleaned plan zero = refl
-none_cleaned plan (suc x) = no_cleaned plan.declared x
 
 seen_opens : {A : Type 0} (plan : Plan) (m : Meaning A) → AllSeen [] (state_after plan m [])
 unfolding state_after

@@ -1,5 +1,5 @@
 -- A request is completed once, after it arrived.
-use Rattle.std.proofs.Common.{◌≡◌, ℕ, suc, ◌==◌, ◌≤◌, Bool, true, false, not, ◌&&◌, List, [], ◌∷◌, ◌++◌, Option, Some, None, take, count_by, slice_get, refl, sym, ap, subst, ◌∙◌, arith}
+use Rattle.std.proofs.Common.{◌≡◌, ℕ, suc, ◌==◌, ◌≤◌, Bool, true, false, ◌&&◌, List, [], ◌∷◌, ◌++◌, Option, Some, None, take, count_by, slice_get, refl, sym, ap, subst, ◌∙◌, arith}
 use Rattle.std.specs.List.{list_any}
 use Rattle.wdf_base.specs.Meaning.{Meaning}
 use Rattle.wdf_base.specs.declared.ids.Handle.{Handle}
@@ -24,6 +24,7 @@ use Rattle.wdf_laws.specs.Signs.{shows}
 use Rattle.wdf_laws.specs.Words.{ever}
 use Rattle.wdf_laws.specs.Events.{argument_object, brought_to, completed, id_in, is_id, is_there, where_so}
 use Rattle.wdf_laws.specs.Laws.{completes_once}
+use Rattle.wdf_agreements.proofs.Choices.{and_not}
 use Rattle.wdf_trace_laws.proofs.Words.{any_weaker, counted_twice, ever_is}
 
 -- ---- an arrival shows its sign
@@ -65,9 +66,6 @@ never_before r before e c most true h =
     let twice = counted_twice (completes r) before e found c in
     absurd (omega arith)
 
-both_hold : (a b : Bool) → a ≡ true → b ≡ false → (a && not b) ≡ true
-both_hold a b h k = rw h (rw k refl)
-
 completes_by : {A : Type 0} (plan : Plan) (m : Meaning A) (run : List Event) (k : ℕ) (e : Event) → IsRunOf plan m run → slice_get run k ≡ Some e → (x : Option ℕ) → completed e ≡ x
     → completes_once (take k run) x ≡ true
 completes_by plan m run k e is_run at None h = refl
@@ -77,7 +75,7 @@ completes_by plan m run k e is_run at (Some r) h =
     let front : CompletedOnce (take (suc k) run) = completed_once plan m (take (suc k) run) (run_front (ready plan m) run (suc k) is_run) in
     let most : count_by (completes r) (take k run ++ e ∷ []) ≤ 1 = subst (λ es. count_by (completes r) es ≤ 1) (take_next run k e at) (front.once r) in
     let came : ever (sign.Arrival r) (take k run) ≡ true = ever_is (sign.Arrival r) (take k run) ∙ any_weaker (arrives r) (shows (sign.Arrival r)) (arrival_shows r) (take k run) ((completed_once plan m run is_run).after k r e at c) in
-    both_hold (ever (sign.Arrival r) (take k run)) (ever (sign.Completion r) (take k run)) came (never_before r (take k run) e c most (ever (sign.Completion r) (take k run)) refl)
+    and_not (ever (sign.Arrival r) (take k run)) (ever (sign.Completion r) (take k run)) came (never_before r (take k run) e c most (ever (sign.Completion r) (take k run)) refl)
 
 pub completes_at_each : {A : Type 0} (plan : Plan) (m : Meaning A) (run : List Event) (k : ℕ) (e : Event) → IsRunOf plan m run → slice_get run k ≡ Some e
     → completes_once (take k run) (completed e) ≡ true

@@ -12,9 +12,8 @@ use Rattle.wdf_base.specs.declared.call.Callback.TheVariants as callback
 use Rattle.wdf_base.specs.declared.event.Event.{Event}
 use Rattle.wdf_base.specs.declared.event.Event.TheVariants as event
 use Rattle.wdf_base.specs.Same.{same_callback}
-use Rattle.wdf_model.specs.Runs.{IsRun}
 use Rattle.wdf_model.specs.declared.entries.Node.{Node}
-use Rattle.wdf_model.specs.parts.Tree.{gone, is_asked, is_cleaned, is_gone, is_live, is_past_cleanup, life_of, node_of, with_life}
+use Rattle.wdf_model.specs.parts.Tree.{gone, is_asked, is_cleaned, is_gone, is_past_cleanup, life_of, node_of, with_life}
 use Rattle.wdf_model.specs.State.{State}
 use Rattle.wdf_model.specs.rules.Starts.{life_fits}
 use Rattle.wdf_model.specs.rules.Steps.{after, deeds, may}
@@ -25,12 +24,15 @@ use Rattle.wdf_model.proofs.Follows.{follows, state_goes_on}
 use Rattle.wdf_model.proofs.FitsOfEvents.{event_fits}
 use Rattle.wdf_model.proofs.Tests.{both_left, both_right}
 use Rattle.wdf_model.proofs.Maps.{entry_put_same, put_long}
-use Rattle.wdf_agreements.proofs.Keeping.{deeds_keep}
+use Rattle.wdf_agreements.proofs.Keeping.{comes, deeds_keep}
 use Rattle.wdf_agreements.proofs.Lists.{inside}
 use Rattle.wdf_laws.specs.declared.sign.Sign.{Sign}
 use Rattle.wdf_laws.specs.declared.sign.Sign.TheVariants as sign
 use Rattle.wdf_laws.specs.Signs.{shows}
 use Rattle.wdf_laws.specs.Words.{ever}
+use Rattle.wdf_invariants.proofs.Trees.{cleaned_there}
+use Rattle.wdf_agreements.proofs.Lives.{asked_early, live_early}
+use Rattle.wdf_agreements.proofs.Choices.{left_of}
 use Rattle.wdf_trace_laws.proofs.Words.{ever_next, never_yet}
 use Rattle.wdf_trace_laws.proofs.Lasting.{Late, Past, asked_at, deed_keeps}
 
@@ -57,14 +59,10 @@ step_by_may {A} P s plan m marks es S e h k x told =
     (deeds_keep plan (λ (U : State A). Past P (λ y. ever (s y) es) U.tree) (deed_keeps P (λ y. ever (s y) es) marks.late plan) (deeds plan S e) S (event_fits plan m S e h) k)
     x (ever (s x) es) refl (sym (ever_next (s x) es e) ∙ told)
 
-no_more : (b c : Bool) → c ≡ false → (b || c) ≡ true → b ≡ true
-no_more true c e h = refl
-no_more false c e h = absurd (let z : ⊥ = cc in z)
-
 step_by_tick : {A : Type 0} (P : Life → Bool) (s : ℕ → Sign) (plan : Plan) (m : Meaning A) → Marks P s plan m → (es : List Event) (S : State A) (time : ℕ)
     → Told P s es S → Told P s (es ++ event.Tick time ∷ []) (after plan m S (event.Tick time))
 step_by_tick P s plan m marks es S time k x told =
-    k x (no_more (ever (s x) es) (shows (s x) (event.Tick time)) (marks.quiet x time) (sym (ever_next (s x) es (event.Tick time)) ∙ told))
+    k x (left_of (ever (s x) es) (shows (s x) (event.Tick time)) (marks.quiet x time) (sym (ever_next (s x) es (event.Tick time)) ∙ told))
 
 step_by_either : {A : Type 0} (P : Life → Bool) (s : ℕ → Sign) (plan : Plan) (m : Meaning A) → Marks P s plan m → (es : List Event) (S : State A) (offered : List Event) (e : Event)
     → (may plan m S e ≡ true) ⊎ IsTick m S offered e → Told P s es S → Told P s (es ++ e ∷ []) (after plan m S e)
@@ -130,31 +128,6 @@ end_tells plan m = record { late = record { live = refl; asked = refl; gone = re
 pub never : {A : Type 0} (P : Life → Bool) (s : ℕ → Sign) (es : List Event) (S : State A) (o : ℕ) → Told P s es S → P (life_of S.tree o) ≡ false → (b : Bool) → ever (s o) es ≡ b → b ≡ false
 never P s es S o k no_ false h = refl
 never P s es S o k no_ true h = absurd (let yes_ : P (life_of S.tree o) ≡ true = (k o h).0 in let z : ⊥ = cc in z)
-
-asked_early : (l : Life) → is_asked l ≡ true → is_past_cleanup l ≡ false
-asked_early life.Asked h = refl
-asked_early life.Live h = refl
-asked_early life.Cleaned h = absurd (let z : ⊥ = cc in z)
-asked_early life.Gone h = absurd (let z : ⊥ = cc in z)
-
-pub live_early : (l : Life) → is_live l ≡ true → is_past_cleanup l ≡ false
-live_early life.Live h = refl
-live_early life.Asked h = refl
-live_early life.Cleaned h = absurd (let z : ⊥ = cc in z)
-live_early life.Gone h = absurd (let z : ⊥ = cc in z)
-
-pub cleaned_there : (l : Life) → is_cleaned l ≡ true → is_gone l ≡ false
-cleaned_there life.Gone h = absurd (let z : ⊥ = cc in z)
-cleaned_there _ h = refl
-
--- an event that isn't a tick may come
-pub comes : {A : Type 0} (plan : Plan) (m : Meaning A) (run : List Event) (k : ℕ) (e : Event) → IsRunOf plan m run → slice_get run k ≡ Some e → ((time : ℕ) → e ≡ event.Tick time → ⊥)
-    → may plan m (state_after plan m (take k run)) e ≡ true
-unfolding IsRun
-comes plan m run k e is_run at no_tick = elim (follows plan m (take k run) (is_run k e at).0 e (is_run k e at).1) [
-  | inl h ↦ h
-  | inr t ↦ absurd (no_tick _ t.tick)
-]
 
 pub cleaned_once : {A : Type 0} (plan : Plan) (m : Meaning A) (run : List Event) (k : ℕ) (o : Handle) → IsRunOf plan m run → slice_get run k ≡ Some (event.Cleanup o) → ever (sign.Cleaned o.id.0) (take k run) ≡ false
 cleaned_once plan m run k o is_run at =

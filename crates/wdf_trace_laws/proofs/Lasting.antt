@@ -5,31 +5,25 @@ use Rattle.wdf_base.specs.declared.object.Kind.{Kind}
 use Rattle.wdf_base.specs.declared.object.Kind.TheVariants as kind
 use Rattle.wdf_base.specs.declared.object.Life.{Life}
 use Rattle.wdf_base.specs.declared.object.Life.TheVariants as life
-use Rattle.wdf_base.specs.declared.object.Place.{Place}
-use Rattle.wdf_base.specs.declared.object.Place.TheVariants as place
-use Rattle.wdf_base.specs.declared.object.RequestInfo.{RequestInfo}
-use Rattle.wdf_base.specs.declared.call.Callback.{Callback}
-use Rattle.wdf_base.specs.declared.call.Callback.TheVariants as callback
-use Rattle.wdf_model.specs.declared.enums.Mode.TheVariants as mode
 use Rattle.wdf_model.specs.declared.entries.Node.{Node}
-use Rattle.wdf_model.specs.Plans.{managed_queues, queues_of}
-use Rattle.wdf_model.specs.parts.Tree.{Tree, gone, is_asked, is_live, life_of, may_clean, new_node, next_id, node_of, noted, subtree, with_life, with_node}
+use Rattle.wdf_model.specs.parts.Tree.{Tree, gone, is_asked, is_live, life_of, new_node, node_of, noted, subtree, with_life, with_node}
 use Rattle.wdf_model.specs.parts.Tree as tree
 use Rattle.wdf_model.specs.parts.Requests as requests
-use Rattle.wdf_model.specs.parts.Queues.{waiting_in}
-use Rattle.wdf_model.specs.parts.Control as control
 use Rattle.wdf_model.specs.State.{State}
 use Rattle.wdf_model.specs.declared.deed.Deed.{Deed}
-use Rattle.wdf_model.specs.declared.deed.Deed.TheVariants.{Create, MakeRequest, Arrive, AskDeletion, Refer, Unrefer, WriteCell, Note, CleanUp, EndLife, Requeue, Forward, GiveBack, SendRequest, CompleteRequest, PurgeQueue, CloseReturning, CloseDevice}
-use Rattle.wdf_model.specs.rules.Deeds.{arrive_at, ask_object, do_deed, give_up}
+use Rattle.wdf_model.specs.declared.deed.Deed.TheVariants.{Create, MakeRequest, Arrive, AskDeletion, Refer, Unrefer, WriteCell, Note, CleanUp, EndLife, CompleteRequest}
+use Rattle.wdf_model.specs.rules.Deeds.{ask_object, do_deed, give_up}
 use Rattle.wdf_model.specs.rules.Starts.{clean_ready}
 use Rattle.wdf_model.specs.laws.Fits.{fits}
 use Rattle.wdf_model.proofs.Tests.{both_left, both_right}
 use Rattle.wdf_model.proofs.Maps.{entry_before, entry_put_other, entry_put_same, put_long}
 use Rattle.wdf_model.proofs.Counts.{one_or_two}
 use Rattle.wdf_model.proofs.Deletion.{object_live, object_off}
-use Rattle.wdf_agreements.proofs.Stays.{gives_up, gives_up_if, queues_closed, returns_closed, withdraws}
+use Rattle.wdf_agreements.proofs.Stays.{gives_up}
 use Rattle.wdf_agreements.proofs.Lists.{reads_same}
+use Rattle.wdf_agreements.proofs.Readers.{arrived_tree, tree_of}
+use Rattle.wdf_agreements.proofs.Lives.{noted_life}
+use Rattle.wdf_agreements.proofs.PartsStay.{tree_stays}
 
 -- a test of lives that no object passes before its cleanup, and each one passes that is gone
 pub record Late (P : Life → Bool) : Type 0 where
@@ -77,9 +71,6 @@ all_asked : {A : Type 0} (P : Life → Bool) (F : ℕ → Bool) → Late P → (
 all_asked P F late [] S q = q
 all_asked P F late (x ∷ xs) S q = all_asked P F late xs (ask_object S x) (asked_one P F late S x (is_live (life_of S.tree x)) refl q)
 
-pub may_clean_at : {A : Type 0} (S : State A) (o : ℕ) → clean_ready S o ≡ true → may_clean S.tree o ≡ true
-may_clean_at S o h = search (both_left, both_right)
-
 pub asked_at : {A : Type 0} (S : State A) (o : ℕ) → clean_ready S o ≡ true → is_asked (life_of S.tree o) ≡ true
 asked_at S o h = search (both_left, both_right)
 
@@ -106,38 +97,20 @@ ended P F late T o q x h =
 
 -- ---- each deed
 
-noted_kept : (c : Callback) (n : Node) → (noted c n).life ≡ n.life
-noted_kept callback.EvtDestroyCallback n = refl
-noted_kept _ n = refl
-
 same_tree : (P : Life → Bool) (F : ℕ → Bool) (T U : Tree) → U ≡ T → Past P F T → Past P F U
 same_tree P F T U e q = subst (Past P F) (sym e) q
-
-arrived : {A : Type 0} (S : State A) (device : ℕ) (info : RequestInfo) (p : Place) → (arrive_at S device info p).tree ≡ tree.arrive S.tree device
-arrived S device info (place.Queued q) = refl
-arrived S device info _ = refl
-
-abbrev tree_of : {A : Type 0} → State A → Tree
-tree_of S = S.tree
 
 pub deed_keeps : {A : Type 0} (P : Life → Bool) (F : ℕ → Bool) → Late P → (plan : Plan) (d : Deed) (S : State A) → fits plan d S ≡ true → Past P F S.tree → Past P F (do_deed plan d S).tree
 deed_keeps P F late plan (Create k class parent) S f q = object_made P F S.tree k class parent.0 q
 deed_keeps P F late plan (MakeRequest class parent) S f q = object_made P F S.tree kind.Made class parent.0 q
-deed_keeps P F late plan (Arrive device info p) S f q = same_tree P F _ _ (arrived S device.0 info p) (object_made P F S.tree kind.Request 0 device.0 q)
+deed_keeps P F late plan (Arrive device info p) S f q = same_tree P F _ _ (arrived_tree S device.0 info p) (object_made P F S.tree kind.Request 0 device.0 q)
 deed_keeps P F late plan (AskDeletion o) S f q = all_asked P F late (subtree S.tree o.0) S q
 deed_keeps P F late plan (Refer o) S f q = object_changes P F S.tree o.0 (λ n. record n { references = n.references + 1 }) refl q
 deed_keeps P F late plan (Unrefer o) S f q = object_changes P F S.tree o.0 (λ n. record n { references = n.references - 1 }) refl q
 deed_keeps P F late plan (WriteCell o k v) S f q = object_changes P F S.tree o.0 (λ n. record n { cells = slice_set n.cells k v }) refl q
-deed_keeps P F late plan (Note o c) S f q = object_changes P F S.tree o.0 (noted c) (ap P (noted_kept c (node_of S.tree o.0))) q
+deed_keeps P F late plan (Note o c) S f q = object_changes P F S.tree o.0 (noted c) (ap P (noted_life c (node_of S.tree o.0))) q
 deed_keeps P F late plan (CleanUp o) S f q = cleaned P F late S.tree o.0 (asked_at S o.0 f) q
 deed_keeps P F late plan (EndLife o) S f q = ended P F late S.tree o.0 q
-deed_keeps P F late plan (Requeue r p) S f q = same_tree P F _ _ (gives_up tree_of (λ S Q R P. refl) S r.0) q
-deed_keeps P F late plan (Forward r p) S f q = same_tree P F _ _ (gives_up tree_of (λ S Q R P. refl) S r.0) q
-deed_keeps P F late plan (GiveBack r p) S f q = same_tree P F _ _ (gives_up tree_of (λ S Q R P. refl) S r.0) q
-deed_keeps P F late plan (SendRequest r t forget) S f q = same_tree P F _ _ (gives_up_if tree_of (λ S Q R P. refl) S forget r.0) q
 deed_keeps P F late plan (CompleteRequest r) S f q =
     all_asked P F late (subtree (give_up S r.0).tree r.0) (record (give_up S r.0) { requests = requests.complete S.requests r.0 }) (same_tree P F _ _ (gives_up tree_of (λ S Q R P. refl) S r.0) q)
-deed_keeps P F late plan (PurgeQueue p) S f q = same_tree P F _ _ (withdraws tree_of (λ S Q R P. refl) plan p.0 (waiting_in S.queues p.0) (record S { control = control.set_mode S.control p.0 mode.Purged })) q
-deed_keeps P F late plan (CloseReturning d) S f q = same_tree P F _ _ (returns_closed tree_of (λ S Q R P. refl) (managed_queues plan d.0) S) q
-deed_keeps P F late plan (CloseDevice d) S f q = same_tree P F _ _ (queues_closed tree_of (λ S Q R P. refl) (queues_of plan d.0) (record S { control = control.shut S.control d.0 })) q
-deed_keeps P F late plan _ S f q = q
+deed_keeps P F late plan d S f q = same_tree P F _ _ (tree_stays plan d S refl) q

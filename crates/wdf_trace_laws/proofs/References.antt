@@ -11,24 +11,17 @@ use Rattle.wdf_base.specs.declared.declared.Declared.{Declared}
 use Rattle.wdf_base.specs.declared.object.Kind.{Kind}
 use Rattle.wdf_base.specs.declared.object.Kind.TheVariants as kind
 use Rattle.wdf_base.specs.declared.object.Life.TheVariants as life
-use Rattle.wdf_base.specs.declared.object.Place.{Place}
-use Rattle.wdf_base.specs.declared.object.Place.TheVariants as place
-use Rattle.wdf_base.specs.declared.object.RequestInfo.{RequestInfo}
 use Rattle.wdf_base.specs.declared.call.Callback.{Callback}
 use Rattle.wdf_base.specs.declared.call.Callback.TheVariants as callback
-use Rattle.wdf_model.specs.declared.enums.Mode.TheVariants as mode
 use Rattle.wdf_model.specs.declared.entries.Node.{Node}
 use Rattle.wdf_model.specs.Tables.{entry}
-use Rattle.wdf_model.specs.Plans.{managed_queues, queues_of}
 use Rattle.wdf_model.specs.parts.Tree.{Tree, declared_node, gone, is_cleaned, is_live, life_of, new_node, next_id, node_of, noted, opening_tree, subtree, with_life, with_node}
 use Rattle.wdf_model.specs.parts.Tree as tree
 use Rattle.wdf_model.specs.parts.Requests as requests
-use Rattle.wdf_model.specs.parts.Queues.{waiting_in}
-use Rattle.wdf_model.specs.parts.Control as control
 use Rattle.wdf_model.specs.State.{State}
 use Rattle.wdf_model.specs.declared.deed.Deed.{Deed}
-use Rattle.wdf_model.specs.declared.deed.Deed.TheVariants.{Create, MakeRequest, Arrive, AskDeletion, Refer, Unrefer, WriteCell, Note, CleanUp, EndLife, Requeue, Forward, GiveBack, SendRequest, CompleteRequest, PurgeQueue, CloseReturning, CloseDevice}
-use Rattle.wdf_model.specs.rules.Deeds.{arrive_at, ask_object, do_deed, do_deeds, give_up}
+use Rattle.wdf_model.specs.declared.deed.Deed.TheVariants.{Create, MakeRequest, Arrive, AskDeletion, Refer, Unrefer, WriteCell, Note, CleanUp, EndLife, CompleteRequest}
+use Rattle.wdf_model.specs.rules.Deeds.{ask_object, do_deed, do_deeds, give_up}
 use Rattle.wdf_model.specs.rules.Steps.{after, deeds, may}
 use Rattle.wdf_model.specs.rules.Ready.{IsRunOf, ready, state_after}
 use Rattle.wdf_model.proofs.Runs.{along_run}
@@ -44,19 +37,21 @@ use Rattle.wdf_model.specs.rules.Calls.{is_met_then}
 use Rattle.wdf_model.specs.laws.FactsOfEvents.{IsTick}
 use Rattle.wdf_model.proofs.Follows.{follows}
 use Rattle.wdf_model.specs.parts.Tree.{is_gone}
-use Rattle.wdf_agreements.proofs.Keeping.{each_place}
-use Rattle.wdf_agreements.proofs.Keeping.{deeds_keep as keep_deeds}
+use Rattle.wdf_agreements.proofs.Keeping.{comes, deeds_keep as keep_deeds, each_place}
+use Rattle.wdf_invariants.proofs.Trees.{cleaned_there}
+use Rattle.wdf_agreements.proofs.Readers.{arrived_tree, tree_of}
+use Rattle.wdf_agreements.proofs.PartsStay.{tree_stays}
 use Rattle.wdf_trace_laws.proofs.Lasting.{Past, deed_keeps}
 use Rattle.wdf_model.specs.rules.Steps.{did_deeds}
 use Rattle.wdf_model.proofs.Deletion.{object_live, object_off}
-use Rattle.wdf_agreements.proofs.Stays.{gives_up, gives_up_if, queues_closed, returns_closed, withdraws}
+use Rattle.wdf_agreements.proofs.Stays.{gives_up}
 use Rattle.wdf_agreements.proofs.Lists.{reads_same}
 use Rattle.wdf_laws.specs.declared.sign.Sign.{Sign}
 use Rattle.wdf_laws.specs.declared.sign.Sign.TheVariants as sign
 use Rattle.wdf_laws.specs.Signs.{shows}
 use Rattle.wdf_laws.specs.Words.{ever}
 use Rattle.wdf_trace_laws.proofs.Words.{ever_next}
-use Rattle.wdf_trace_laws.proofs.Ends.{cleaned_there, comes, ends, ends_once}
+use Rattle.wdf_trace_laws.proofs.Ends.{ends, ends_once}
 use Rattle.wdf_base.specs.declared.ids.Cpu.{Cpu}
 use Rattle.wdf_base.specs.declared.call.Arg.{Arg}
 use Rattle.wdf_base.specs.declared.call.Arg.TheVariants.{Val}
@@ -107,17 +102,10 @@ noted_kept : (c : Callback) (n : Node) → (noted c n).references ≡ n.referenc
 noted_kept callback.EvtDestroyCallback n = refl
 noted_kept _ n = refl
 
-arrived : {A : Type 0} (S : State A) (device : ℕ) (info : RequestInfo) (p : Place) → (arrive_at S device info p).tree ≡ tree.arrive S.tree device
-arrived S device info (place.Queued q) = refl
-arrived S device info _ = refl
-
-abbrev tree_of : {A : Type 0} → State A → Tree
-tree_of S = S.tree
-
 deed_same : {A : Type 0} (plan : Plan) (d : Deed) (S : State A) → is_counting d ≡ false → SameRefs S.tree (do_deed plan d S).tree
 deed_same plan (Create k class parent) S f x = made S.tree k class parent.0 x
 deed_same plan (MakeRequest class parent) S f x = made S.tree kind.Made class parent.0 x
-deed_same plan (Arrive device info p) S f x = same_tree _ _ (arrived S device.0 info p) x ∙ made S.tree kind.Request 0 device.0 x
+deed_same plan (Arrive device info p) S f x = same_tree _ _ (arrived_tree S device.0 info p) x ∙ made S.tree kind.Request 0 device.0 x
 deed_same plan (AskDeletion o) S f x = all_asked (subtree S.tree o.0) S x
 deed_same plan (Refer o) S f x = absurd (let z : ⊥ = cc in z)
 deed_same plan (Unrefer o) S f x = absurd (let z : ⊥ = cc in z)
@@ -125,16 +113,9 @@ deed_same plan (WriteCell o k v) S f x = changes S.tree o.0 (λ n. record n { ce
 deed_same plan (Note o c) S f x = changes S.tree o.0 (noted c) (noted_kept c (node_of S.tree o.0)) x
 deed_same plan (CleanUp o) S f x = changes S.tree o.0 (with_life life.Cleaned) refl x
 deed_same plan (EndLife o) S f x = absurd (let z : ⊥ = cc in z)
-deed_same plan (Requeue r p) S f x = same_tree _ _ (gives_up tree_of (λ S Q R P. refl) S r.0) x
-deed_same plan (Forward r p) S f x = same_tree _ _ (gives_up tree_of (λ S Q R P. refl) S r.0) x
-deed_same plan (GiveBack r p) S f x = same_tree _ _ (gives_up tree_of (λ S Q R P. refl) S r.0) x
-deed_same plan (SendRequest r t forget) S f x = same_tree _ _ (gives_up_if tree_of (λ S Q R P. refl) S forget r.0) x
 deed_same plan (CompleteRequest r) S f x =
     all_asked (subtree (give_up S r.0).tree r.0) (record (give_up S r.0) { requests = requests.complete S.requests r.0 }) x ∙ same_tree _ _ (gives_up tree_of (λ S Q R P. refl) S r.0) x
-deed_same plan (PurgeQueue p) S f x = same_tree _ _ (withdraws tree_of (λ S Q R P. refl) plan p.0 (waiting_in S.queues p.0) (record S { control = control.set_mode S.control p.0 mode.Purged })) x
-deed_same plan (CloseReturning d) S f x = same_tree _ _ (returns_closed tree_of (λ S Q R P. refl) (managed_queues plan d.0) S) x
-deed_same plan (CloseDevice d) S f x = same_tree _ _ (queues_closed tree_of (λ S Q R P. refl) (queues_of plan d.0) (record S { control = control.shut S.control d.0 })) x
-deed_same plan _ S f x = refl
+deed_same plan d S f x = same_tree _ _ (tree_stays plan d S refl) x
 
 deeds_same : {A : Type 0} (plan : Plan) (ds : List Deed) (S : State A) → none_counts ds ≡ true → SameRefs S.tree (do_deeds plan ds S).tree
 deeds_same plan [] S n x = refl

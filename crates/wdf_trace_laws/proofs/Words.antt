@@ -8,6 +8,7 @@ use Rattle.wdf_model.proofs.Counts.{count_behind, count_of_one, count_cons}
 use Rattle.wdf_laws.specs.declared.sign.Sign.{Sign}
 use Rattle.wdf_laws.specs.Signs.{shows}
 use Rattle.wdf_laws.specs.Words.{ever, came_step}
+use Rattle.wdf_model.proofs.Tests.{first, second}
 
 or_nested : (a b c : Bool) → ((a || b) || c) ≡ (a || (b || c))
 or_nested true b c = refl
@@ -26,18 +27,10 @@ pub ever_is : (p : Sign) (es : List Event) → ever p es ≡ list_any (shows p) 
 unfolding ever
 ever_is p es = came_or p false es
 
-or_left_true : (a b : Bool) → a ≡ true → (a || b) ≡ true
-or_left_true true b h = refl
-or_left_true false b h = absurd (let z : ⊥ = cc in z)
-
-or_right_true : (a b : Bool) → b ≡ true → (a || b) ≡ true
-or_right_true true b h = refl
-or_right_true false b h = h
-
 weaker_step : {X : Type 0} (p q : X → Bool) (x : X) (xs : List X) (b : Bool) → p x ≡ b → (p x ≡ true → q x ≡ true) → (list_any p xs ≡ true → list_any q xs ≡ true) → (b || list_any p xs) ≡ true
     → (q x || list_any q xs) ≡ true
-weaker_step p q x xs true e h more a = or_left_true (q x) (list_any q xs) (h e)
-weaker_step p q x xs false e h more a = or_right_true (q x) (list_any q xs) (more a)
+weaker_step p q x xs true e h more a = first (q x) (list_any q xs) (h e)
+weaker_step p q x xs false e h more a = second (q x) (list_any q xs) (more a)
 
 -- a weaker test finds what a stronger one does
 pub any_weaker : {X : Type 0} (p q : X → Bool) → ((x : X) → p x ≡ true → q x ≡ true) → (xs : List X) → list_any p xs ≡ true → list_any q xs ≡ true
