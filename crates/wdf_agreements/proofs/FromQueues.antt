@@ -1,5 +1,7 @@
--- What a queue has to do with the device and the form of a request (here: it suits them), of the queue in which a request waits, to
--- which it returns, and from which it came: deeds keep that, where arriving and forwarded requests go to queues that suit them.
+-- A relation of a queue with the device and the form of a request: here, the queue suits them. It is so of the queue in
+-- which a request waits, of the one to which it returns, and of the one from which it came. Deeds keep that, where
+-- arriving and forwarded requests go to queues that suit them. A requeued request has to go to the queue from which it
+-- came, and one that is given back to that queue or to one that suits it.
 use Rattle.std.proofs.Common.{if◌then◌else◌, ◌≡◌, ℕ, ◌==◌, ◌≤◌, nat_lt, Bool, true, false, not, ◌&&◌, ◌⊎◌, List, [], ◌∷◌, inl, inr, Option, Some, None, is_some, map, fold, count_by, unwrap_or, refl, sym, ap, subst, ◌∙◌, arith}
 use Rattle.std.specs.Prelude.{⊤, option_map}
 use Rattle.std.proofs.lemmas.Bool.{eqb-true}

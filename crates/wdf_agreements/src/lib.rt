@@ -47,8 +47,8 @@ pub fn waiting_agree<A>()
     ensures { (plan : Plan) (m : Meaning A) (run : List Event) → IsRunOf plan m run → (n : ℕ) → WaitingAgree plan (state_after plan m (take n run)) }
 {}
 
-/// At each place of every run of a resolved plan, the level of each processor is that of its top frame's callback, or of
-/// a lock that this frame holds or waits for, whichever is the greatest.
+/// At each place of every run of a resolved plan, the level of each processor is the greatest of the levels of its top
+/// frame. These are the level of the frame's callback, and those of the locks that it holds or waits for.
 pub fn levels_agree<A>()
     ensures { (plan : Plan) (m : Meaning A) (run : List Event) → IsResolved plan → IsRunOf plan m run → (n : ℕ) → levels_agree plan (state_after plan m (take n run)) ≡ true }
 {}

@@ -37,8 +37,9 @@ may_run plan S o =
     not (is_dpc_queued S.dpcs o) && is_live (life_of S.tree o)
     && (if is_work_queued S.work_items o then declares_in plan S callback.EvtWorkItem o else declares_in plan S callback.EvtTimerFunc o)
 
--- Queued work, but for a DPC, that is live and has its callback; a frame that is on a processor, or is parked in a call; a device whose next step is such a stage, and none that waits for resumes; an object that is cleaned up, or one that is
--- no request under way and to which no request is sent.
+-- Queued work, but for a DPC, that is live and has its callback. A frame that is on a processor, or is parked in a
+-- call. A device whose next step is such a stage, and none that waits for resumes. An object that is cleaned up, or one
+-- that is no request under way and to which no request is sent.
 abbrev pub names_a_cause : {A : Type 0} → Plan → State A → OpenThing → Bool
 names_a_cause plan S (thing.Waiting f c o) = is_running plan S f.0 || is_waiting_parked S f.0
 names_a_cause plan S (thing.Sequence d s) = is_stage s && not (is_running_step S.pnp d.id.0) && not (follows_queues_up S.pnp d.id.0)

@@ -123,8 +123,8 @@ abbrev pub keeps_parked : {A : Type 0} → Plan → State A → ℕ → Cause �
 keeps_parked plan S f cause.NoCpu = contains f S.cpus.parked && wait_is_over S (frame_of S.cpus f).pending && all_taken plan S 0
 keeps_parked plan S f _ = false
 
--- The cause of a frame's line is so: the frame that it names is above it, or keeps what it waits for; the lock, the
--- request or the work item that it names is what its call waits for; or no processor is left for it.
+-- The cause of a frame's line is so. The frame that it names is above it, or keeps what it waits for. The lock, the
+-- request or the work item that it names is what its call waits for. Or no processor is left for it.
 abbrev pub keeps_frame : {A : Type 0} → Plan → State A → ℕ → Cause → Bool
 keeps_frame plan S f x = keeps_below S f x || keeps_pending S (frame_of S.cpus f).pending x || keeps_parked plan S f x
 
@@ -218,16 +218,17 @@ abbrev pub has_lock_if_any : {A : Type 0} → State A → Option LockRef → ℕ
 has_lock_if_any S None f = false
 has_lock_if_any S (Some l) f = has_lock S l f
 
--- a request that a stage waits for: for `settled` one that is held from the device's power-managed queues and isn't
--- acknowledged, for `removed` one that arrived for the device and isn't done, or that is at one of its targets
+-- a request that a stage waits for. For `settled` it is held from the device's power-managed queues and isn't
+-- acknowledged. For `removed` it arrived for the device and isn't done, or it is at one of the device's targets.
 abbrev pub awaits_request : {A : Type 0} → Plan → State A → ℕ → Stage → ℕ → Bool
 awaits_request plan S d stage.Settled r = is_unsettled_at S.power d (holding_of S.power r)
 awaits_request plan S d stage.Removed r =
     is_unfinished_at d (request_of S.requests r) || list_any (λ t. is_sent_to t (place_of S.requests r)) (targets_at plan d)
 awaits_request plan S d _ r = false
 
--- a frame that a stage waits for: for `settled` one that runs on a power-managed queue of the device, for `disabled` the
--- one that holds the interrupt's lock, for `quiet` one that runs EvtInterruptDpc, or holds the lock of the DPC before it
+-- a frame that a stage waits for. For `settled` it runs on a power-managed queue of the device. For `disabled` it holds
+-- the interrupt's lock. For `quiet` it runs EvtInterruptDpc, or holds the lock that the first DPC needs on a processor
+-- with a DPC of the device.
 abbrev pub awaits_frame : {A : Type 0} → Plan → State A → ℕ → Stage → Option Handle → ℕ → Bool
 awaits_frame plan S d stage.Settled i f = list_any (λ q. runs_on S q f) (managed_queues plan d)
 awaits_frame plan S d stage.Disabled i f = has_lock S (object_lock (handle_id i)) f

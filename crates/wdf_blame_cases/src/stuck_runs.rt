@@ -5,8 +5,9 @@ ghost use Rattle.wdf_blame_cases.specs.StuckObjects.{child_with_a_reference_plan
 ghost use Rattle.wdf_blame_cases.specs.StuckRequests.{cannot_return_plan, cannot_return_events, cannot_return_waits, full_and_behind_plan, full_and_behind_events, full_and_behind_waits, stopped_plan, stopped_events, stopped_waits, unpowered_and_manual_plan, unpowered_and_manual_events, unpowered_and_manual_waits};
 ghost use Rattle.wdf_blame_cases.specs.StuckSequences.{callback_of_a_step_plan, callback_of_a_step_events, callback_of_a_step_waits, disabled_waits_for_a_frame_plan, disabled_waits_for_a_frame_events, disabled_waits_for_a_frame_waits, enable_waits_for_a_frame_plan, enable_waits_for_a_frame_events, enable_waits_for_a_frame_waits, flush_of_what_is_kept_plan, flush_of_what_is_kept_events, flush_of_what_is_kept_waits, flush_of_what_runs_plan, flush_of_what_runs_events, flush_of_what_runs_waits, quiet_waits_for_a_frame_plan, quiet_waits_for_a_frame_events, quiet_waits_for_a_frame_waits, removed_waits_for_a_request_plan, removed_waits_for_a_request_events, removed_waits_for_a_request_waits, resume_never_ends_plan, resume_never_ends_events, resume_never_ends_waits, settled_waits_for_a_frame_plan, settled_waits_for_a_frame_events, settled_waits_for_a_frame_waits};
 
-/// The callback of a device's step waits until a queue is drained, and the queue has no power before that step: the
-/// frame names the request, the request `unpowered`, the device the frame, and Plug and Play the device.
+/// The callback of a device's step waits until a queue is drained, and the queue has no power before that step. The
+/// frame names the request, the request `unpowered`, and the device the frame. The Plug and Play manager waits for the
+/// device, and its line names no cause.
 pub fn callback_of_a_step()
     ensures { IsShown callback_of_a_step_plan callback_of_a_step_events ending.Stuck callback_of_a_step_waits }
 {}
@@ -29,8 +30,8 @@ pub fn deleted_while_it_is_held()
     ensures { IsShown deleted_while_it_is_held_plan deleted_while_it_is_held_events ending.Stuck deleted_while_it_is_held_waits }
 {}
 
-/// A work item is deleted by its own callback, which then waits for a request in a manual queue: the line of the work
-/// item names the frame, that of the frame the request, that of the request `manual`.
+/// A work item is deleted by its own callback, which then waits for a request in a manual queue. The line of the work
+/// item names the frame, that of the frame the request, and that of the request `manual`.
 pub fn deleted_while_it_runs()
     ensures { IsShown deleted_while_it_runs_plan deleted_while_it_runs_events ending.Stuck deleted_while_it_runs_waits }
 {}

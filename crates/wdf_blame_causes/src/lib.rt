@@ -1,5 +1,5 @@
-//! Laws over all runs on how they end: the line of a frame, of a request in a queue or on its way out of one, of a device
-//! or of queued work names a cause, where what the line is about may start.
+//! Laws over all runs on how they end: a line names a cause, where what the line is about may start. It is the line of
+//! a frame, of a request in a queue or on its way out of one, of a device or of queued work.
 #![tactic(auto)]
 
 ghost use Rattle.std.specs.Prelude.{◌≡◌, ℕ, true, false, List, Option, Some, is_some, slice_get, take};
@@ -67,8 +67,8 @@ pub fn devices_at_quiet_name_a_cause<A>()
         → is_running_step (state_after plan m run).pnp d.id.0 ≡ false → follows_queues_up (state_after plan m run).pnp d.id.0 ≡ false → DpcsMayRun plan (state_after plan m run) → is_some x ≡ true }
 {}
 
-/// The line of a device whose next step is a callback always names a cause, where the callback is that of a live object of
-/// the device that has it, and the step doesn't come after `queues_up`.
+/// The line of a device whose next step is a callback always names a cause, on two conditions. The callback is that of
+/// a live object of the device that has it, and the step doesn't come after `queues_up`.
 pub fn devices_at_callbacks_name_a_cause<A>()
     ensures { (plan : Plan) (m : Meaning A) (run : List Event) → IsResolved plan → IsRunOf plan m run → ending_of plan m run ≡ ending.Stuck → (k : ℕ) (d : Handle) (c : Callback) (i : Option Handle) (x : Option Cause)
         → slice_get (wait_list plan m run) k ≡ Some (record { thing = thing.Sequence d (step.Run c i); cause = x })

@@ -25,8 +25,9 @@ pub record ArrivedEnd {A : Type 0} (S : State A) : Type 0 where
 abbrev pub comes_next : {A : Type 0} → Plan → State A → Bool → Callback → ℕ → Bool
 comes_next plan S ready c o = ready && declares_in plan S c o && not (started S.tree o c)
 
--- An object finds no processor: its cleanup callback or its destroy callback is the next to come for it, and each processor
--- has a frame; or it is a request with which its target is done, and each has a level at which no completion routine starts.
+-- An object finds no processor in two cases. Its cleanup callback or its destroy callback is the next to come for it,
+-- and each processor has a frame. Or it is a request with which its target is done, and each processor has a level at
+-- which no completion routine starts.
 abbrev pub finds_no_cpu : {A : Type 0} → Plan → State A → ℕ → Bool
 finds_no_cpu plan S o =
     ((comes_next plan S (clean_ready S o) callback.EvtCleanupCallback o || comes_next plan S (destroy_ready S o) callback.EvtDestroyCallback o) && all_taken plan S 0)

@@ -41,31 +41,31 @@ pub fn deleted_objects_name_a_cause<A>()
         → slice_get (wait_list plan m run) k ≡ Some (record { thing = thing.Leaving o; cause = x }) → is_some x ≡ true }
 {}
 
-/// In a run that ends stuck, each line of the wait list whose row names causes has one: all but those of requests that the
-/// driver owns or has sent, and that of the Plug and Play manager.
+/// In a run that ends stuck, each line of the wait list whose row names causes has one. These are all lines but those
+/// of requests that the driver owns or has sent, and that of the Plug and Play manager.
 pub fn each_line_names_a_cause<A>()
     ensures { (plan : Plan) (m : Meaning A) (run : List Event) → IsResolved plan → IsRunOf plan m run → ending_of plan m run ≡ ending.Stuck → (k : ℕ) (t : OpenThing) (x : Option Cause)
         → slice_get (wait_list plan m run) k ≡ Some (record { thing = t; cause = x }) → has_no_cause t ≡ false → is_some x ≡ true }
 {}
 
-/// In a run that ends stuck, a processor that can't take a start of some level spins: its top frame waits on it for a spin
-/// lock or for an interrupt's lock, at a level above 0. So where a line names `cpus`, the processors that could take the
-/// start have a frame that spins, or that is under such a frame.
+/// In a run that ends stuck, a processor that can't take a start of some level spins. Its top frame waits on it for a
+/// spin lock or for an interrupt's lock, at a level above 0. So where a line names `cpus`, the processors that could
+/// take the start have a frame that spins, or that is under such a frame.
 pub fn taken_processors_spin<A>()
     ensures { (plan : Plan) (m : Meaning A) (run : List Event) → IsRunOf plan m run → ending_of plan m run ≡ ending.Stuck → (level cpu : ℕ) → cpu < plan.cpus
         → is_taken (state_after plan m run) level cpu ≡ true → Spins (state_after plan m run) cpu }
 {}
 
-/// Where the line of an object that is being deleted names `cpus`, its cleanup callback or its destroy callback is the next
-/// to come for it and each processor has a frame; or it is a request with which its target is done, and no processor can
-/// take the completion routine.
+/// Where the line of an object that is being deleted names `cpus`, one of two cases is so. Its cleanup callback or its
+/// destroy callback is the next to come for it, and each processor has a frame. Or it is a request with which its
+/// target is done, and no processor can take the completion routine.
 pub fn objects_find_no_processor<A>()
     ensures { (plan : Plan) (m : Meaning A) (run : List Event) → IsRunOf plan m run → ending_of plan m run ≡ ending.Stuck → (k : ℕ) (o : Handle)
         → slice_get (wait_list plan m run) k ≡ Some (record { thing = thing.Leaving o; cause = Some cause.NoCpu }) → finds_no_cpu plan (state_after plan m run) o.id.0 ≡ true }
 {}
 
-/// In a run that ends stuck, the next step of a device is a callback or one of `settled`, `disabled`, `quiet` and `removed`,
-/// where it doesn't come after `queues_up`: no other stage is ever waited for.
+/// In a run that ends stuck, the next step of a device is a callback or one of `settled`, `disabled`, `quiet` and
+/// `removed`, where it doesn't come after `queues_up`. No other stage is waited for there.
 pub fn devices_wait_at_steps<A>()
     ensures { (plan : Plan) (m : Meaning A) (run : List Event) → IsResolved plan → IsRunOf plan m run → ending_of plan m run ≡ ending.Stuck → (k : ℕ) (d : Handle) (s : Step) (x : Option Cause)
         → slice_get (wait_list plan m run) k ≡ Some (record { thing = thing.Sequence d s; cause = x })

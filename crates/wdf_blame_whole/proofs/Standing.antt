@@ -1,5 +1,5 @@
--- A live device has its queues, interrupts and targets, only a live device has requests that aren't done, or steps left: each deed
--- keeps this that asks for the deletion of nothing but what may go.
+-- A live device has its queues, interrupts and targets. Only a live device has requests that aren't done, or steps
+-- left. Each deed that asks for the deletion of nothing but what may go keeps this.
 use Rattle.std.proofs.Common.{◌≡◌, ℕ, ◌+◌, ◌-◌, ◌==◌, ◌<◌, ◌≤◌, Bool, true, false, not, ◌&&◌, ◌||◌, List, [], ◌∷◌, inl, inr, Option, Some, None, is_some, fold, length, slice_set, refl, sym, ap, subst, ◌∙◌, arith}
 use Rattle.std.specs.Prelude.{⊤}
 use Rattle.std.proofs.lemmas.Bool.{cases_Bool}
@@ -73,8 +73,8 @@ pub record Stands {A : Type 0} (plan : Plan) (S : State A) : Type 0 where
   pub lasts : (d : ℕ) → Lasts (steps_left S.pnp d)
   pub over : (d : ℕ) → is_live_device plan S d ≡ false → IsOver (sequence_of S.pnp d)
 
--- an object may be deleted with what is below it: with a queue, an interrupt or a target its device goes, a device that
--- goes is over and has no request that isn't done, and nothing is at a target that goes
+-- an object may be deleted with what is below it. With a queue, an interrupt or a target its device goes. A device that
+-- goes is over and has no request that isn't done. Nothing is at a target that goes.
 pub record Removable {A : Type 0} (plan : Plan) (S : State A) (o : ℕ) : Type 0 where
   pub parts : (d x : ℕ) → is_part_of plan d x ≡ true → is_live (life_of S.tree x) ≡ true → contains x (subtree S.tree o) ≡ true → contains d (subtree S.tree o) ≡ true
   pub devices : (d : ℕ) → is_live_device plan S d ≡ true → contains d (subtree S.tree o) ≡ true → IsOver (sequence_of S.pnp d) × ((r : ℕ) → is_unfinished_at d (request_of S.requests r) ≡ false)

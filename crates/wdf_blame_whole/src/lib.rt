@@ -1,6 +1,6 @@
-//! Laws over all runs on how they end: each line of a stuck run's wait list that is about a frame, a request in a queue or
-//! on its way out of one, a device, or queued work names a cause. What the laws of `wdf_blame_causes` ask of queues, of
-//! queued work and of steps is so at each place of every run of a resolved plan.
+//! Laws over all runs on how they end: lines of a stuck run's wait list name a cause. Each does that is about a frame,
+//! a request in a queue or on its way out of one, a device, or queued work. What the laws of `wdf_blame_causes` ask of
+//! queues, of queued work and of steps is so at each place of every run of a resolved plan.
 #![tactic(auto)]
 
 ghost use Rattle.std.specs.Prelude.{◌≡◌, ℕ, true, false, List, Option, Some, is_some, slice_get, take};
@@ -42,7 +42,7 @@ pub fn queued_work_may_run<A>()
     ensures { (plan : Plan) (m : Meaning A) (run : List Event) → IsResolved plan → IsRunOf plan m run → (n : ℕ) → WorkMayRun plan (state_after plan m (take n run)) }
 {}
 
-/// At each place of every run of a resolved plan, a device that has a step left is live; and its next step, where that is a
+/// At each place of every run of a resolved plan, a device that has a step left is live. Its next step, where that is a
 /// callback, is that of the device or of an interrupt of it, which is live and declares it.
 pub fn steps_of_devices_may_run<A>()
     ensures { (plan : Plan) (m : Meaning A) (run : List Event) → IsResolved plan → IsRunOf plan m run → (n : ℕ) → StepsMayRun plan (state_after plan m (take n run)) }
@@ -67,9 +67,9 @@ pub fn devices_name_a_cause<A>()
         → slice_get (wait_list plan m run) k ≡ Some (record { thing = thing.Sequence d s; cause = x }) → is_some x ≡ true }
 {}
 
-/// In a run that ends stuck, a sequence of Plug and Play under way waits for a request that isn't about to be completed, for
-/// the frame of a callback, or for processors that are all taken. It never waits for a stage, a completion, a cleanup or a
-/// destruction that the framework could take.
+/// In a run that ends stuck, a sequence of Plug and Play under way waits for one of three things. It waits for a
+/// request that isn't about to be completed, for the frame of a callback, or for processors that are taken. It never
+/// waits for a stage, a completion, a cleanup or a destruction that the framework could take.
 pub fn sequences_never_wait_for_the_framework<A>()
     ensures { (plan : Plan) (m : Meaning A) (run : List Event) → IsResolved plan → IsRunOf plan m run → ending_of plan m run ≡ ending.Stuck → (k : ℕ) (d : Handle) (s : Step) (x : Option Cause)
         → slice_get (wait_list plan m run) k ≡ Some (record { thing = thing.Sequence d s; cause = x }) → WaitsForOthers plan (state_after plan m run) d s x }

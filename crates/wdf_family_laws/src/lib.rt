@@ -10,8 +10,8 @@ ghost use Rattle.wdf_model.specs.rules.Ready.{IsRunOf, state_after};
 ghost use Rattle.wdf_laws.specs.Laws.{law_1, law_3, law_9};
 ghost use Rattle.wdf_family_laws.specs.Family.{ClassesAgree, FamilyAgrees};
 
-/// At each place of every run, what the plan and the events before tell of an object's parent is what the tree has,
-/// where the object is there; and nothing is told of an object before it is made.
+/// At each place of every run, what the plan and the events before say of an object's parent is what the tree has,
+/// where the object is there. They say nothing of an object before it is made.
 pub fn runs_tell_parents<A>()
     ensures { (plan : Plan) (m : Meaning A) (run : List Event) → IsRunOf plan m run → (n : ℕ) → FamilyAgrees plan (take n run) (state_after plan m (take n run)) }
 {}

@@ -14,8 +14,9 @@ ghost use Rattle.wdf_frame_events.specs.Agents.{HasFittingAgents};
 ghost use Rattle.wdf_frame_events.specs.Fitting.{HasFittingNumbers};
 ghost use Rattle.wdf_frame_events.specs.Values.{HasPlanValues};
 
-/// At each place of every run of a resolved plan whose numbers fit, with agents whose numbers fit, each variable of a
-/// frame, each context cell, and each call that waits, with its answer, is of the plan.
+/// At each place of every run of a resolved plan whose numbers fit, with agents whose numbers fit, what the state keeps
+/// for scripts is of the plan. It is the handles and the variables of each frame, the call in which the frame waits, with
+/// its answer, and each context cell. The lengths and codes of frames and requests fit 64 bits.
 pub fn values_are_of_plan<A>()
     ensures { (plan : Plan) (m : Meaning A) (run : List Event) → IsResolved plan → HasFittingNumbers plan → HasFittingAgents plan m → IsRunOf plan m run
         → (n : ℕ) → HasPlanValues plan (state_after plan m (take n run)) }

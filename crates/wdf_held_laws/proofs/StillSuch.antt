@@ -1,5 +1,6 @@
--- Of the requests held from power-managed queues, those that are acknowledged, or those that aren't (`on` says which, of an
--- acknowledgement): one is such after a deed only where it was before, held from the same queue.
+-- Of the requests held from power-managed queues, those that are acknowledged, or those that aren't: `on` says which, of
+-- an acknowledgement. After a deed that takes or acknowledges none, one is such only where it was before, held from the
+-- same queue.
 use Rattle.std.proofs.Common.{if◌then◌else◌, ◌≡◌, ℕ, Bool, true, false, ◌&&◌, [], ◌∷◌, inl, inr, refl, sym, ap, subst, ◌∙◌}
 use Rattle.std.specs.Prelude.{⊤}
 use Rattle.wdf_base.specs.declared.plan.Plan.{Plan}

@@ -33,7 +33,7 @@ pub fn runs_settle_acknowledged<A>()
 {}
 
 /// In every run, a device passes `settled` only after each request that is held from a power-managed queue of it, as the
-/// events before say, was acknowledged: it wasn't given up since, and the device's queues didn't go up since.
+/// events before say, was acknowledged. It wasn't given up since, and the device's queues didn't go up since.
 pub fn runs_settle_after_acknowledgements<A>()
     ensures { (plan : Plan) (m : Meaning A) (run : List Event) (k : ℕ) (device : Handle) (j : Option Handle) (r q : ℕ) → IsRunOf plan m run
         → slice_get run k ≡ Some (event.Stage device stage.Settled j) → is_managed_of device.id.0 (queue_of plan q) ≡ true

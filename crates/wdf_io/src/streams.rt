@@ -65,8 +65,8 @@ impl<R: Read> Source for ReadSource<R> {
 }
 
 /// A sink over a writer. It is seen as what the writer has taken, where the writer says that, and as its
-/// count of faults, which rises at each error of the writer and at each call at which it takes nothing.
-/// After the count's last value each call fails. A standard stream says nothing of what it has taken.
+/// count of faults. The count rises at each error of the writer and at each call at which the writer takes
+/// nothing. After the count's last value each call fails. A standard stream says nothing of what it has taken.
 #[derive(Drop)]
 pub struct WriteSink<W: Write> {
     inner: W,

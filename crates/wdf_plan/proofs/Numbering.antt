@@ -24,7 +24,7 @@ places k [] h = tt
 places k (x ∷ xs) h =
     (rw ((bytes_eq-Decides x.name x.name).1 refl) refl, shift x k xs (suc k) xs h.0 (places (suc k) xs h.1))
 
--- the number of each name is its place behind `driver` and `req`
+-- the number of each name is its place after `driver` and `req`
 pub numbers : (ds : List Declaration) → AreDistinct ds → EveryAt (λ i d. name_number ds d.name ≡ i + 2) 0 ds
 unfolding name_number
 numbers ds h =

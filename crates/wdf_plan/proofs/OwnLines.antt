@@ -45,7 +45,7 @@ one_class scene j k p q there there' is is' e =
 
 -- ---- a declaration is told by the number of its name
 
--- the number of a declaration's name is its place behind `driver` and `req`
+-- the number of a declaration's name is its place after `driver` and `req`
 abbrev IsNumbered : List Declaration → Declaration → Type 0
 IsNumbered ds d = HasPlace (λ i x. name_number ds x.name ≡ i + 2) 0 ds d
 

@@ -20,8 +20,9 @@ use Rattle.wdf_plan.proofs.Nesting.{stands_inside, IsBody, IsCounted, open_befor
 abbrev pub skips : ℕ → ℕ
 skips k = k - (k - 1)
 
--- a way that began in these blocks is at a line before which `blocks` are open and the next statement has number n: the
--- innermost of those that are left is passed over with those in it, and statements count that only their ends have
+-- a way that began in the blocks `start` is at a line before which `blocks` are open and the next statement has number n.
+-- While blocks are passed over, they are the innermost one of `start` that the way hasn't left, and those in it. The
+-- number of the way is at most n and one for each open `repeat`, whose end is a statement.
 pub record IsAlong (start : List Nest) (way : Course) (blocks : List Nest) (n : ℕ) : Type 0 where
   pub number : way.number ≤ n + loops blocks
   pub depth : length blocks + way.left + skips way.skipping ≡ length start + way.skipping

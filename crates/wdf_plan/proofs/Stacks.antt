@@ -42,7 +42,7 @@ abbrev pub with_block : List Opener → ℕ → Option Block → List Opener
 with_block stack k None = stack
 with_block stack k (Some b) = record { block = b; line = k } ∷ stack
 
--- behind `else` the block is that of the `if`
+-- after `else` the block is that of the `if`
 abbrev turned : List Opener → List Opener
 turned [] = []
 turned (x ∷ xs) = record x { block = block.Else } ∷ xs

@@ -20,8 +20,9 @@ pub fn handles_are_named<A>()
     ensures { (plan : Plan) (S : State A) → IsResolved plan → (o : ℕ) → (handle_in plan S o).name < length plan.names }
 {}
 
-/// An event that may follow a run of a resolved plan is an event of the plan, where it is the start of a callback, a
-/// frame's leaving or coming back, a stage, a completion by the framework, a cleanup, a destruction, or a tick.
+/// An event of the framework that may follow a run of a resolved plan is an event of the plan. Such an event is the start
+/// of a callback, a frame's leaving or coming back, a stage, a completion by the framework, a cleanup, a destruction, or
+/// a tick.
 pub fn framework_events_are_of_plan<A>()
     ensures { (plan : Plan) (m : Meaning A) (run : List Event) (place : ℕ) (e : Event) → IsResolved plan → IsRunOf plan m run
         → slice_get (ready plan m run) place ≡ Some e → is_of_framework e ≡ true → IsEventOf plan e }

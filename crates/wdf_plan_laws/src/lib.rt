@@ -27,7 +27,7 @@ pub fn heads_are_written()
 {}
 
 /// Of a scene in which nothing is refused: the objects of the plan after the driver object, its classes and its
-/// registers are those of the lines that declare them, in the order of the text, each with its name and its
+/// registers are those of the lines that declare them. They are in the order of the text, each with its name and its
 /// numbers. A class names its parent.
 pub fn declarations_are_written()
     ensures objects { (scene : Scene) → first_refusal scene ≡ None → map (written.object_line (plan_of scene)) (plan_of scene).declared ≡ None ∷ map Some (forms_that is_object scene.lines) }
@@ -53,29 +53,30 @@ pub fn attributes_are_those_of_the_blocks()
     ensures classes { (scene : Scene) → Paired (IsClassGiven scene) (placed_that is_class scene) (plan_of scene).classes }
 {}
 
-/// Of a scene that stands for a text: the period of a dpc, timer or workitem class of the plan is the number of the
-/// first `period` line in the block of its line, or 0 where there is none.
+/// Of a scene that stands for a text: a dpc, timer or workitem class of the plan has the period that the block of its
+/// line gives. It is the number of the first `period` line in the block, or 0 where there is none.
 pub fn periods_are_written()
     ensures { (scene : Scene) → IsScene scene → Paired (IsPeriodTold scene) (placed_that is_class scene) (plan_of scene).classes }
 {}
 
 /// Of a scene in which nothing is refused: the `when` lines of the plan, and what its Plug and Play manager posts,
-/// are the text's lines of these forms, in their order, each with its number, its names and its numbers.
+/// are the text's lines of these forms. They are in the order of the text, each with its number, its names and its
+/// numbers.
 pub fn whens_and_asks_are_written()
     ensures whens { (scene : Scene) → first_refusal scene ≡ None → map (written.when_line (plan_of scene)) (plan_of scene).whens ≡ lines_that is_when scene.lines }
     ensures asks { (scene : Scene) → first_refusal scene ≡ None → map (written.post_line (plan_of scene)) (plan_of scene).pnp ≡ map Some (lines_that is_ask scene.lines) }
 {}
 
-/// Of a scene that stands for a text, and in which nothing is refused: the agents of the plan are the apps, the
-/// devices and the targets of the lines, in their order and with their names, and each posts what the lines with
-/// `at` say that stand in its block.
+/// Of a scene that stands for a text, and in which nothing is refused: the agents of the plan are the apps, then the
+/// devices, then the targets of the lines. Each sort is in the order of its lines, with their names. An app or a device
+/// posts what the lines with `at` in its block say. A target posts by no line.
 pub fn agents_are_written()
     ensures { (scene : Scene) → IsScene scene → first_refusal scene ≡ None → AreAgentsTold (plan_of scene) scene }
 {}
 
-/// Of such a scene: the callbacks of the plan are those of the `on` lines, in their order, each on what its block
-/// declares; and its statements are the statement lines of its own block, in their order, with their variables,
-/// registers, classes and expressions. The end of a `repeat` has a statement and no line of its own.
+/// Of such a scene: the callbacks of the plan are those of the `on` lines, in their order. Each is on what the block
+/// around its line declares. Its statements are the statement lines of its own block, in their order, with their
+/// variables, registers, classes and expressions. The end of a `repeat` has a statement and no line of its own.
 pub fn callbacks_are_written()
     ensures { (scene : Scene) → IsScene scene → first_refusal scene ≡ None → Paired (IsCallbackTold (plan_of scene) scene) (placed_that is_on scene) (plan_of scene).scripts }
 {}
@@ -92,7 +93,7 @@ pub fn picks_are_written()
 {}
 
 /// Of a scene that stands for a text, and in which nothing is refused: the numbers that the plan keeps in 8, 16 or 32
-/// bits are within the limits of a scenario, and those that no limit bounds are at most the number of its lines.
+/// bits are within the limits of a scenario. Those that no limit bounds are at most the number of the scene's lines.
 pub fn numbers_fit_their_types()
     ensures { (scene : Scene) → IsScene scene → first_refusal scene ≡ None → NumbersFit scene }
 {}

@@ -21,9 +21,11 @@ fn is_data(form: RequestForm) -> bool
     }
 }
 
-/// The place of a request that arrives for a queue: it is completed at once where the queue doesn't
-/// accept, where the queue takes no request of no length, or where the queue has no handler for it; else
-/// it waits. (KMDF)
+/// The place of a request that arrives for a queue. It is completed at once in three cases, and else it
+/// waits. (KMDF)
+/// - The queue doesn't accept.
+/// - It is a read or a write of no length, and the queue takes none of no length.
+/// - The queue isn't manual and has no handler for it.
 fn place_in_queue<A: Agent>(
     plan: &IndexedPlan,
     parts: &Parts<A>,

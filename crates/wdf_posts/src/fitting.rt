@@ -51,9 +51,12 @@ fn may_finish<A: Agent>(
     }
 }
 
-/// Whether the form of a post fits its agent, and its names are the plan's: any agent posts requests,
-/// and cancels of its own; the Plug and Play manager asks while the device has no step under way; a
-/// device acts on what is its own; a target is done with what is sent to it. (own)
+/// Whether the form of a post fits its agent, and its names are the plan's. (own)
+/// - Any agent posts requests, while fewer than `ARRIVALS` have arrived.
+/// - Any agent posts cancels of its own.
+/// - The Plug and Play manager asks while the device has no step left and no callback of a step runs.
+/// - A device acts on what is its own.
+/// - A target may be done with a request that is sent to it and that it isn't done with yet.
 pub fn post_fits<A: Agent>(plan: &IndexedPlan, parts: &Parts<A>, agent: u16, post: &Post) -> bool
     ensures { result ≡ posts.post_fits plan.now parts.now agent post.now }
 {

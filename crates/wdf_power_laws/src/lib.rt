@@ -55,7 +55,7 @@ pub fn runs_notify_with_power<A>()
 {}
 
 /// In every run of a resolved plan, EvtInterruptIsr begins on an interrupt only after the interrupt was enabled, its
-/// device entered then, not after it was disabled, and not after the device's EvtDeviceD0Exit has begun since.
+/// device entered then. Since then the interrupt wasn't disabled, and the device's EvtDeviceD0Exit hasn't begun.
 pub fn runs_serve_when_enabled<A>()
     ensures { (plan : Plan) (m : Meaning A) (run : List Event) (k : ℕ) (cpu : Cpu) (o : Handle) (r : Option Handle) (x : InterruptInfo) → IsResolved plan
         → IsRunOf plan m run → slice_get run k ≡ Some (event.Start cpu callback.EvtInterruptIsr o r) → interrupt_of plan o.id.0 ≡ Some x

@@ -1,5 +1,5 @@
 -- While a resume is due for what is held from a queue, the queues of its device are up, and the device waits right after
--- `queues_up`: what each change of a device's steps and power makes of it.
+-- `queues_up`. What each change of a device's steps and power makes of this.
 use Rattle.std.proofs.Common.{◌≡◌, ◌≢◌, ℕ, Bool, true, false, not, ◌&&◌, ◌||◌, List, [], ◌∷◌, inl, inr, Option, Some, None, drop, refl, sym, ap, subst, ◌∙◌}
 use Rattle.wdf_base.specs.declared.ids.Handle.{Handle}
 use Rattle.wdf_base.specs.declared.plan.Plan.{Plan}

@@ -1,5 +1,5 @@
--- A request returns to a power-managed queue only while the queues of its device are up: each deed keeps this that leaves
--- the power of devices alone, and so does `queues_down`, which closes what returns to them.
+-- A request returns to a power-managed queue only while the queues of its device are up. Each deed that leaves the power
+-- of devices alone keeps this, and so does `queues_down`, which closes what returns to them.
 use Rattle.std.proofs.Common.{if◌then◌else◌, ◌≡◌, ◌≢◌, ℕ, zero, suc, ◌==◌, ◌<◌, Bool, true, false, not, ◌&&◌, ◌||◌, List, [], ◌∷◌, inl, inr, Option, Some, None, filter, fold, map, length, option_map, unwrap_or, refl, sym, ap, subst, ◌∙◌, arith}
 use Rattle.std.proofs.lemmas.Bool.{eqb-true}
 use Rattle.std.proofs.lemmas.Option.{slice_get_within}

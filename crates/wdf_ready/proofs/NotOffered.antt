@@ -1,5 +1,5 @@
--- What is not offered: of an idle group nothing; at a place where no callback is due, or on an object whose life doesn't
--- let its callback start, no start; and no cleanup of an object whose turn hasn't come.
+-- What is not offered. Nothing is offered of an idle group. No start is offered at a place where no callback is due, or
+-- on an object whose life doesn't let its callback start. No cleanup is offered of an object whose turn hasn't come.
 use Rattle.std.proofs.Common.{if◌then◌else◌, Bool, true, false, not, ◌&&◌, ◌==◌, nat_lt, ℕ, zero, suc, ◌≡◌, ◌<◌, ◌≤◌, List, [], ◌∷◌, length, Option, Some, None, option_map, is_some, unwrap_or, slice_get, ◌||◌, refl, arith}
 use Rattle.std.proofs.lemmas.Bool.{eqb-false, eqb-true, le-ltb, ltb-false}
 use Rattle.std.specs.List.{list_all, list_any}

@@ -74,8 +74,8 @@ search_len plan S g = if is_idle plan S g then 0 else places_in plan S g
 
 -- ---- places at which something may come
 
--- the first id from one on that a rank's callback may start on, as far as lives say: a cleanup callback on what is Asked
--- and has its turn, a destroy callback on what is cleaned, another on any
+-- the first id from one on that a rank's callback may start on, as far as lives say. A cleanup callback may start on what
+-- is Asked and has its turn, a destroy callback on what is cleaned, another on any.
 abbrev pub next_start : {A : Type 0} → State A → Rank → ℕ → Option ℕ
 next_start S rank.Cleanup from = find (λ o. nat_le from o && has_turn S.tree o) (ids_of S.tree.nodes)
 next_start S rank.Destroy from = find (λ o. nat_le from o && is_cleaned (life_of S.tree o)) (ids_of S.tree.nodes)

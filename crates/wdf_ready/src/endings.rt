@@ -24,10 +24,13 @@ pub fn waits_for_time<A: Agent>(parts: &Parts<A>) -> bool
     parts.cpus().any_spends(now) || parts.timers().any_later_timer(now) || any_posts_later(parts)
 }
 
-/// Whether something is open: a frame; an arrived request that isn't done, or a made one that is sent; a
-/// device with steps left; an object whose deletion hasn't come to its end; a queued DPC or work item, or
-/// a timer whose tick is reached; or what the Plug and Play manager asks now of a device with a sequence
-/// under way. (own)
+/// Whether something is open: one of these. (own)
+/// - A frame.
+/// - An arrived request that isn't done, or a made one that is sent.
+/// - A device with steps left.
+/// - An object whose deletion hasn't come to its end.
+/// - A queued DPC or work item, or a timer whose tick is reached.
+/// - What the Plug and Play manager asks now of a device with a sequence under way.
 pub fn is_open<A: Agent>(plan: &IndexedPlan, parts: &Parts<A>) -> bool
     ensures { result ≡ ready.is_open plan.now A.meaning parts.now }
 {

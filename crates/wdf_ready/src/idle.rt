@@ -72,8 +72,8 @@ fn can_be_due<A: Agent>(plan: &IndexedPlan, parts: &Parts<A>, rank: Rank, object
     }
 }
 
-/// Whether nothing may come of a group, as the processor and what is counted say: no frame comes back to a
-/// processor that isn't empty, no callback starts on one whose level is too high, and none for a request where none
+/// Whether nothing may come of a group, as the processor and what is counted say. No frame comes back to a
+/// processor that isn't empty. No callback starts on one whose level is too high, and none for a request where none
 /// can be due.
 pub(crate) fn is_idle<A: Agent>(plan: &IndexedPlan, parts: &Parts<A>, group: Group) -> bool
     ensures { result ≡ idle.is_idle plan.now parts.now group }

@@ -60,8 +60,9 @@ fn search_len<A: Agent>(plan: &IndexedPlan, parts: &Parts<A>, group: Group) -> u
     }
 }
 
-/// The first place from one on, of so many that a search goes over, whose candidate may come, as far as a look at
-/// what is due, closing or cleaned, or whose turn to be cleaned up has come, says.
+/// A place of a group, `from` or one after it, such that nothing may come of the places from `from` up to it. `None`
+/// comes only where nothing may come of any place from `from` on. It is found by a look at what is due, closing or
+/// cleaned, and at whose turn to be cleaned up has come. `end` is how many places a search goes over.
 fn next_place<A: Agent>(
     plan: &IndexedPlan,
     parts: &Parts<A>,

@@ -16,8 +16,8 @@ pub record QueuedOnce {A : Type 0} (S : State A) : Type 0 where
   pub items : (o : ℕ) → count_by (λ x. x == o) S.work_items.queued ≤ 1
   pub timers : (o : ℕ) → count_by (λ (t : Timed). t.timer.0 == o) S.timers.queued ≤ 1
 
--- a step of this device: its callback has the rank of steps, and is the device's or that of an interrupt of the device; a
--- stage has an interrupt, with its name, exactly where it is passed for one
+-- a step of this device: its callback has the rank of steps, and is the device's or that of an interrupt of the device.
+-- A stage has an interrupt, with its name, exactly where it is passed for one.
 abbrev pub IsStepOf : Plan → ℕ → Step → Type 0
 IsStepOf plan d (step.Run c None) = ((row_of c).rank ≡ rank.Sequence) × (is_some (device_of plan d) ≡ true)
 IsStepOf plan d (step.Run c (Some i)) = ((row_of c).rank ≡ rank.Sequence) × (is_interrupt_of d (interrupt_of plan i.id.0) ≡ true)

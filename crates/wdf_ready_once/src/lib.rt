@@ -13,8 +13,8 @@ pub fn queued_once<A>()
     ensures { (plan : Plan) (m : Meaning A) (run : List Event) → IsRunOf plan m run → (n : ℕ) → QueuedOnce (state_after plan m (take n run)) }
 {}
 
-/// At each place of every run, the next step of a device is one of its own: the callback of it or of one of its
-/// interrupts, with the rank of steps, or a stage, with an interrupt exactly where it is passed for one.
+/// At each place of every run, the next step of a device is one of its own. It is a callback of the device or of one
+/// of its interrupts, with the rank of steps, or a stage. A stage has an interrupt exactly where it is passed for one.
 pub fn steps_owned<A>()
     ensures { (plan : Plan) (m : Meaning A) (run : List Event) → IsRunOf plan m run → (n : ℕ) → StepsOwned plan (state_after plan m (take n run)) }
 {}

@@ -1,5 +1,5 @@
--- At each place of every run, each line of waiting requests is in the order that the events tell: those that entered at
--- the head come first, the later the earlier, and then those that entered at the tail, the earlier the earlier.
+-- At each place of every run, each line of waiting requests is in the order that the events say. First come those that
+-- entered at the head, the last of them first. Then come those that entered at the tail, the first of them first.
 use Rattle.std.proofs.Common.{if◌then◌else◌, ◌≡◌, ℕ, zero, suc, Bool, true, false, not, ◌&&◌, ◌||◌, List, [], ◌∷◌, ◌++◌, inl, inr, Some, None, map, slice_get, take, refl, sym, ap, subst, ◌∙◌}
 use Rattle.std.specs.List.{list_all}
 use Rattle.wdf_base.specs.Meaning.{Meaning}

@@ -14,8 +14,8 @@ pub fn runs_cancel_once<A>()
         → slice_get run k ≡ Some e → law_7 (take k run) e ≡ true }
 {}
 
-/// In every run, a queue presents from its head: who entered at the head before who entered at the tail, the later of
-/// two at the head first, and the earlier of two at the tail first.
+/// In every run, a queue presents from its head. Of two requests that wait, one that entered at the head comes before one
+/// that entered at the tail. Of two at the head the later one comes first, and of two at the tail the earlier one.
 pub fn runs_present_in_turn<A>()
     ensures { (plan : Plan) (m : Meaning A) (run : List Event) (k : ℕ) (e : Event) → IsRunOf plan m run
         → slice_get run k ≡ Some e → law_8 (take k run) e ≡ true }

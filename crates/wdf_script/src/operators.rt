@@ -54,8 +54,8 @@ fn value_by(operator: Operator, a: Value, b: Value) -> Option<Value>
     }
 }
 
-/// What an operator makes of its operands: none where one of them has no value, where the divisor is 0,
-/// and where one isn't a number and the operator asks more than whether the two are one.
+/// What an operator makes of its operands. It is none where one of them has no value, and where the divisor
+/// is 0. It is also none where one isn't a number and the operator is neither `Equals` nor `Differs`.
 pub fn operands_by(operator: Operator, left: Option<Value>, right: Option<Value>) -> Option<Value>
     ensures { result ≡ script.operands_by operator left right }
 {

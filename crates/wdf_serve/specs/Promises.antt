@@ -30,9 +30,9 @@ pub record Promises (words : List (List ℕ)) (s : Sourcing) (k : Sinking) (answ
   pub fault : IsTrue (writes_run words) → answer ≡ 3 → (f : Fault) × WroteRunTo s k 3 (ending.Fault f)
   pub stuck : IsTrue (writes_run words) → answer ≡ 4 → WroteRunTo s k 4 ending.Stuck
   pub limit : IsTrue (writes_run words) → answer ≡ 5 → WroteRunTo s k 5 ending.Limit
-  -- For `run`, an input that is told and within the limit, and counts of faults that don't rise: what is written is why
-  -- the input has no plan, or the text of some run of the plan that has ended, with its ending's status; or the answer is
-  -- out of memory.
+  -- For `run`, an input that is told and within the limit, and counts of faults that don't rise: the answer is out of
+  -- memory, or one of two texts is written. It is why the input has no plan, or the text of some run of the plan that has
+  -- ended, with its ending's status.
   pub threads : is_run words ≡ true → (input : List ℕ) → IsGiven s input → Stayed k.faults_before k.faults_after
       → (answer ≡ 15) ⊎ ((text : List ℕ) × RunsByThreads input text answer × Gains k.before k.after text)
   -- So for each plan that stands for the input, a run of it is made and its text is written.

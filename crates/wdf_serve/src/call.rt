@@ -16,10 +16,11 @@ use wdf_turn::Gate;
 
 /// Serves the words after the program's name, and answers the status to end with.
 ///
-/// `run` reads a scenario from the source and runs it on the machine whose processors are threads: a worker for
-/// each processor, one for the framework and the clock, and one for all agents, each of which passes the gate before
-/// each of its turns. It writes the trace of the run that they made, which is another one each time. For every other
-/// list of words this is [`top_plain`]. The statuses are those of [`top_plain`]: `run` answers as `order` does.
+/// `run` reads a scenario from the source and runs it on the machine whose processors are threads. There is a worker
+/// for each processor, one for the framework and the clock, and one for all agents. Each of them passes the gate
+/// before each of its turns. `run` writes the trace of the run that they made, which is another one each time. For
+/// every other list of words this is [`top_plain`]. The statuses are those of [`top_plain`]: `run` answers as
+/// `order` does.
 ///
 /// It always returns for every form but `run`; for `run` it returns if the gate and the threads do.
 pub fn top<R: Threads + Sync, S: Source, K: Sink, G: Gate + Sync>(
@@ -30,8 +31,8 @@ pub fn top<R: Threads + Sync, S: Source, K: Sink, G: Gate + Sync>(
     sink: &mut K,
     gate: &G,
 ) -> u8
-    // Which text is due with which status, when each status comes, and the headline: what is written for `order`, `seed N`
-    // and `run` with 0, 3, 4 or 5 is the text of a run of the written machine.
+    // Which text is due with which status, when each status comes, and the headline. The headline is that what is written
+    // for `order`, `seed N` and `run` with 0, 3, 4 or 5 is the text of a run of the written machine.
     ensures promises { Promises (map string_bytes words.now)
         (sourcing (S.left source.old) (S.left source.new) (S.faults source.old) (S.faults source.new))
         (sinking (K.written sink.old) (K.written sink.new) (K.faults sink.old) (K.faults sink.new))

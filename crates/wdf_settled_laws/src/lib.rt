@@ -16,14 +16,16 @@ ghost use Rattle.wdf_model.specs.rules.Ready.{IsRunOf};
 ghost use Rattle.wdf_laws.specs.Laws.{all_acknowledged, law_6};
 
 /// In every run of a resolved plan, a device passes `settled` only after each request that is held from a power-managed
-/// queue of it, as the events before say, was acknowledged after the last `queues_down` of the device.
+/// queue of it was acknowledged. What is held is as the events before say, and the acknowledgement came after the last
+/// `queues_down` of the device.
 pub fn runs_settle_after_queues_down<A>()
     ensures { (plan : Plan) (m : Meaning A) (run : List Event) (k : ℕ) (device : Handle) (j : Option Handle) → IsResolved plan → IsRunOf plan m run
         → slice_get run k ≡ Some (event.Stage device stage.Settled j) → all_acknowledged plan (take k run) (Some device.id.0) ≡ true }
 {}
 
 /// In every run of a resolved plan, the EvtDeviceD0Exit of a device begins only after each request that is held from a
-/// power-managed queue of it, as the events before say, was acknowledged after the last `queues_down` of the device.
+/// power-managed queue of it was acknowledged. What is held is as the events before say, and the acknowledgement came
+/// after the last `queues_down` of the device.
 pub fn runs_exit_after_queues_down<A>()
     ensures { (plan : Plan) (m : Meaning A) (run : List Event) (k : ℕ) (cpu : Cpu) (o : Handle) (r : Option Handle) → IsResolved plan → IsRunOf plan m run
         → slice_get run k ≡ Some (event.Start cpu callback.EvtDeviceD0Exit o r) → all_acknowledged plan (take k run) (Some o.id.0) ≡ true }

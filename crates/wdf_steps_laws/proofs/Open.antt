@@ -1,5 +1,5 @@
--- A request is held and not acknowledged, after an event, only where it was so before, held from the same queue, or where the
--- event takes it from the queue or brings the queues of its device up.
+-- After an event, a request is held and not acknowledged in three cases only. It was so before, held from the same queue,
+-- or the event takes it from the queue, or the event brings the queues of its device up.
 use Rattle.std.proofs.Common.{if◌then◌else◌, ◌≡◌, ℕ, ◌+◌, ◌==◌, Bool, true, false, not, ◌&&◌, ◌||◌, List, [], ◌∷◌, ◌++◌, ◌⊎◌, inl, inr, Option, Some, None, refl, sym, ap, subst, ◌∙◌}
 use Rattle.wdf_base.specs.Meaning.{Meaning}
 use Rattle.wdf_base.specs.declared.ids.Cpu.{Cpu}

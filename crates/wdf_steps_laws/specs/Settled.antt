@@ -23,7 +23,7 @@ settles_next [] = false
 settles_next (s ∷ ss) = settles s
 
 -- Where the queues of a device are down, the driver holds no request from its power-managed queues that isn't
--- acknowledged, unless the device's next step is `settled`: so from `settled` to the next `queues_up`, while it sleeps,
--- and before it was ever up.
+-- acknowledged, unless the device's next step is `settled`. So it is from `settled` to the next `queues_up`, while the
+-- device sleeps, and before it was ever up.
 abbrev pub NothingUnsettled : {A : Type 0} → State A → Type 0
 NothingUnsettled S = (d : ℕ) → queues_up S.power d ≡ false → settles_next (steps_left S.pnp d) ≡ false → unsettled S.power d ≡ []

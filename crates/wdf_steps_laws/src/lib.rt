@@ -11,15 +11,16 @@ ghost use Rattle.wdf_model.specs.rules.Ready.{IsRunOf, state_after};
 ghost use Rattle.wdf_steps_laws.specs.Courses.{StepsComeFromLists};
 ghost use Rattle.wdf_steps_laws.specs.Settled.{NothingUnsettled};
 
-/// At each place of every run of a resolved plan, the step of a device whose callback runs, if there is one, followed by
-/// the steps left, is the end of one of the lists that the machine gives for its phase, or of the tail after a failure.
+/// At each place of every run of a resolved plan, the steps of a device that are under way are the end of a list that the
+/// machine gives. They are the step whose callback runs, if there is one, followed by the steps left. The list is one of
+/// those for the device's phase, or the tail after a failure.
 pub fn steps_come_from_lists<A>()
     ensures { (plan : Plan) (m : Meaning A) (run : List Event) → IsResolved plan → IsRunOf plan m run → (n : ℕ) → StepsComeFromLists (state_after plan m (take n run)) }
 {}
 
-/// At each place of every run of a resolved plan, where the queues of a device are down and its next step isn't `settled`,
-/// the driver holds no request from its power-managed queues that isn't acknowledged. So it is from `settled` to the next
-/// `queues_up`.
+/// At each place of every run of a resolved plan, nothing is unsettled of a device whose queues are down and whose next
+/// step isn't `settled`. That is: the driver holds no request from the device's power-managed queues that isn't
+/// acknowledged. So it is from `settled` to the next `queues_up`.
 pub fn nothing_unsettled<A>()
     ensures { (plan : Plan) (m : Meaning A) (run : List Event) → IsResolved plan → IsRunOf plan m run → (n : ℕ) → NothingUnsettled (state_after plan m (take n run)) }
 {}

@@ -7,11 +7,15 @@ ghost use Rattle.wdf_parse.specs.declared.refusal.ParseRefusal.{ParseRefusal};
 ghost use Rattle.wdf_parse.specs.Texts.{reading};
 ghost use Rattle.wdf_text_laws.specs.FirstRefusal.{IsFirstRefusal};
 
-/// What the reading of a text says as its refusal is the first refusal that the text has: the lines before it are
-/// spelled by lines of the language that may stand where they do, and after them stands a foreign byte; or else,
-/// after whole pieces, no token or too large a number; or else a line that is none or may not stand there; or the
-/// text ends there, before its first three lines or inside a block. And each text that has such a first refusal is
-/// refused so.
+/// What the reading of a text says as its refusal is the first refusal that the text has. The lines before it are
+/// spelled by lines of the language that may stand where they do. After them comes one of these:
+///
+/// - The next line has a foreign byte.
+/// - It has none, and after whole pieces of it comes no token or too large a number.
+/// - It has tokens, and they are no line, or one that may not stand there.
+/// - The text ends there, before its first three lines or inside a block.
+///
+/// And each text that has such a first refusal is refused so.
 pub fn refusals_are_first()
     ensures told { (text : List ℕ) (e : ParseRefusal) → reading text ≡ Err e → IsFirstRefusal text e }
     ensures each { (text : List ℕ) (e : ParseRefusal) → IsFirstRefusal text e → reading text ≡ Err e }

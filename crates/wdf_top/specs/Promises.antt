@@ -27,9 +27,9 @@ use Rattle.wdf_top.specs.declared.words.Form.TheVariants.{Check, Replay, Gen, Lo
 pub record PlainPromises (form : Option Form) (s : Sourcing) (k : Sinking) (answer : ℕ) : Type 0 where
   -- Which text is due with which status. It is written whole, or the sink fails and a front of it is written.
   pub told : Tells (service_of form) s k answer
-  -- For `order` and `seed N`, an input that is told and within the limit, and counts of faults that don't rise: what is
-  -- written is why the input has no plan, or the trace of the run that the plan's picks, or the words of the seed, make of
-  -- it, with its ending's status; or the answer is out of memory.
+  -- For `order` and `seed N`, an input that is told and within the limit, and counts of faults that don't rise: the answer
+  -- is out of memory, or one of two texts is written. It is why the input has no plan, or the trace of the plan's run with
+  -- its ending's status. The plan's picks, or the words of the seed, make this run.
   pub runs : (picks : Picks) → picks_for form ≡ Some picks
       → (input : List ℕ) → IsGiven s input → Stayed k.faults_before k.faults_after
       → (answer ≡ 15) ⊎ ((text : List ℕ) × Runs picks input text answer × Gains k.before k.after text)
@@ -53,8 +53,9 @@ pub record PlainPromises (form : Option Form) (s : Sourcing) (k : Sinking) (answ
   pub no_trace : form ≡ Some Replay → (input : List ℕ) → IsGiven s input → Stayed k.faults_before k.faults_after
       → (plan : Plan) → HasPlan (scenario_in input) plan → trace_in input ≡ []
       → (answer ≡ 15) ⊎ ((answer ≡ 6) × Gains k.before k.after (refused_line 1 why.Missing))
-  -- `gen N` writes the text of the scenario that N generates, and `load N` the summary of the run that the words of N make of
-  -- that scenario's plan, with its ending's status; or the answer is out of memory.
+  -- Where the sink's count of faults doesn't rise, `gen N` writes the text of the scenario that N generates, with status 0,
+  -- or the answer is out of memory. `load N` likewise writes the summary of a run, with its ending's status. It is the run
+  -- that the words of N make of that scenario's plan.
   pub generated : (n : ℕ) → form ≡ Some (Gen n) → Stayed k.faults_before k.faults_after
       → (answer ≡ 15) ⊎ ((answer ≡ 0) × Gains k.before k.after (printed (scenario.generated n)))
   pub summed : (n : ℕ) → form ≡ Some (Load n) → Stayed k.faults_before k.faults_after
@@ -85,8 +86,8 @@ pub record PlainPromises (form : Option Form) (s : Sourcing) (k : Sinking) (answ
   pub accepted_always : form ≡ Some Replay → (input : List ℕ) → IsGiven s input
       → (plan : Plan) → HasPlan (scenario_in input) plan
       → (run : List Event) → IsWhole plan agent_meaning (trace_in input) run → Unhindered 0 answer
-  -- For `order` and `seed N`, 0, 3, 4 and 5 come only where the trace of a run was written that ended so; for `load N` only
-  -- where the summary of such a run was written.
+  -- For `order` and `seed N`, 0, 3, 4 and 5 come only where the trace of a run was written that ended so. For `load N`, 3,
+  -- 4 and 5 come only where the summary of such a run was written. For no other words do 3, 4 and 5 come.
   pub finished : (picks : Picks) → picks_for form ≡ Some picks → answer ≡ 0 → WroteRun picks s k ending.Finished
   pub fault : answer ≡ 3 → (f : Fault) × WroteFor form s k (ending.Fault f)
   pub stuck : answer ≡ 4 → WroteFor form s k ending.Stuck

@@ -54,8 +54,8 @@ impl Gate for TwoEnter<'_> {
     }
 }
 
-/// Holds each worker in its first pass until two workers have entered theirs, and each but the last one, which is that of
-/// all agents, in its second pass until an agent has heard of an event.
+/// Holds each worker in its first pass until two workers have entered theirs. In its second pass it holds each worker but
+/// the last one until an agent has heard of an event. The last worker is that of all agents.
 #[derive(Drop)]
 pub struct UntilHeard<'a> {
     /// What the workers have come to.

@@ -26,8 +26,8 @@ kept_from (suc turns) test plan picks S x =
 unfoldable pub is_kept : (State AnyAgent → Bool) → Plan → ℕ → Bool
 is_kept test plan turns = kept_from turns test plan plan.picks (opening plan agents) None
 
--- The events are the run that the plan's picks determine; it ends so; in each of its states the parts agree; and these are the
--- lines of its wait list, which only a stuck run has.
+-- The events are the run that the plan's picks determine, and it ends so. In each of its states the parts agree. These
+-- are the lines of its wait list, which only a stuck run has.
 pub record IsShown (plan : Plan) (events : List Event) (ending : Ending) (waits : List WaitLine) : Type 0 where
   pub worked : IsWorked plan events ending
   pub agree : is_kept (agrees plan) plan (length events) ≡ true

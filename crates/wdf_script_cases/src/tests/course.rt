@@ -85,8 +85,8 @@ static COURSE: [Statement; 8] = [
     },
 ];
 
-/// The lines of the steps in their order: one at each `repeat`, one at each end of a body, none at `else`
-/// and at the end of an `if`; at last the line of the `on`.
+/// The lines of the steps in their order. There is one at each `repeat` and one at each end of a body, and
+/// none at `else` and at the end of an `if`. The last one is the line of the `on`.
 static COURSE_LINES: [u32; 18] = [
     11, 12, 13, 12, 13, 12, 15, 16, 11, 12, 13, 12, 13, 12, 15, 18, 11, 10,
 ];
