@@ -11,7 +11,7 @@ use Rattle.wdf_scene.specs.declared.line.SceneLine.TheVariants as line
 
 -- where the text stands between two lines
 pub record Position : Type 0 where
-  -- 1, or 2 after `version 2`
+  -- 1, or 2 behind `version 2`
   pub version : ℕ
   -- how many of the first three lines were seen
   pub headers : ℕ

@@ -46,7 +46,7 @@ pub data Argument : Type 0 where
 pub data Written : Type 0 where
   -- a form without expressions and picks
   Plain : SceneLine → Written
-  -- the numbers after `picks`
+  -- the numbers behind `picks`
   Picked : List ℕ → Written
   -- a statement with one expression
   Single : StatementHead → Tree → Written
@@ -136,7 +136,7 @@ written_size (Single h t) = size t
 written_size (Calling kind into a b c) = argument_size a + argument_size b + argument_size c
 written_size _ = 0
 
--- the numbers after `picks`
+-- the numbers behind `picks`
 abbrev pub picks_in : Written → List ℕ
 picks_in (Picked ns) = ns
 picks_in _ = []
