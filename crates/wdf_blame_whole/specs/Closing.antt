@@ -11,7 +11,7 @@ use Rattle.wdf_model.specs.parts.Requests.{is_closing, place_of}
 use Rattle.wdf_model.specs.State.{State}
 use Rattle.wdf_blame.specs.Causes.{keeps_step}
 
--- a request, the frame of a callback, or processors that are all taken
+-- the cause is a request, the frame of a callback, or `cpus`
 abbrev pub is_in_hand : Cause → Bool
 is_in_hand (cause.ByRequest r) = true
 is_in_hand (cause.ByFrame f) = true

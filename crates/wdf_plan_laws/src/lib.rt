@@ -27,8 +27,8 @@ pub fn heads_are_written()
 {}
 
 /// Of a scene in which nothing is refused: the objects of the plan after the driver object, its classes and its
-/// registers are those of the lines that declare them. They are in the order of the text, each with its name and its
-/// numbers. A class names its parent.
+/// registers are those of the lines that declare them. They are in the order of the text, each as its line declares it. A
+/// class names its parent.
 pub fn declarations_are_written()
     ensures objects { (scene : Scene) → first_refusal scene ≡ None → map (written.object_line (plan_of scene)) (plan_of scene).declared ≡ None ∷ map Some (forms_that is_object scene.lines) }
     ensures classes { (scene : Scene) → first_refusal scene ≡ None → map (written.class_line (plan_of scene)) (plan_of scene).classes ≡ forms_that is_class scene.lines }
