@@ -49,7 +49,7 @@ fn add_word(all: &mut Vec<String>, alloc: Global, word: &str) -> Result<(), Memo
     Ok(())
 }
 
-/// The words that stand after the program's name.
+/// The words that come after the program's name.
 fn words_of(alloc: Global, words: &str) -> Result<Vec<String>, Memory> {
     let mut all = Vec::new(alloc);
     for word in words.split_whitespace() {

@@ -1,4 +1,4 @@
--- The deeds of each call that no fault stands in the way of have their reasons: the one walk over all calls.
+-- The deeds of each call that no fault is in the way of have their reasons: the one walk over all calls.
 use Rattle.std.proofs.Common.{List, ◌≤◌, if◌then◌else◌, ◌≡◌, ℕ, ◌==◌, Bool, true, false, not, ◌&&◌, ◌||◌, [], ◌∷◌, inl, inr, Option, Some, None, is_some, option_and_then, refl, ap, ◌∙◌}
 use Rattle.std.proofs.lemmas.Bool.{eqb-true}
 use Rattle.wdf_base.specs.declared.plan.Plan.{Plan}

@@ -1,4 +1,4 @@
-//! A plan that is made by hand gives back what stands at each number.
+//! A plan that is made by hand gives back what is at each number.
 ghost use Rattle.std.specs.Prelude.{◌<◌};
 
 use std::alloc::Global;

@@ -113,7 +113,7 @@ abbrev pub keeps_pending : {A : Type 0} → State A → Option Pending → Cause
 keeps_pending S None x = false
 keeps_pending S (Some p) x = keeps_call S p.call x
 
--- a frame that stands above this one on its processor
+-- a frame that is above this one on its processor
 abbrev pub keeps_below : {A : Type 0} → State A → ℕ → Cause → Bool
 keeps_below S f (cause.ByFrame g) = is_above S g.0 f
 keeps_below S f _ = false

@@ -14,7 +14,7 @@ use Rattle.wdf_blocks.specs.declared.attribute.Attribute.TheVariants as attribut
 use Rattle.wdf_blocks.specs.Attribute.{gives, is_device_wide}
 use Rattle.wdf_blocks.specs.Forms.{opens, is_end, is_driver}
 
--- how deep in the block the next line stands, where this one stands at this depth and doesn't end the block
+-- how deep in the block the next line is, where this one is at this depth and doesn't end the block
 abbrev pub depth_after : ℕ → SceneLine → ℕ
 depth_after depth form = cond (opens form) (suc depth) (cond (is_end form) (depth - 1) depth)
 

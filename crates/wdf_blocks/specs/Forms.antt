@@ -1,4 +1,4 @@
--- What the forms of lines are, and which names and expressions stand in them.
+-- What the forms of lines are, and which names and expressions are in them.
 use Rattle.std.specs.Prelude.{Bool, true, false, ℕ, suc, List, Option, Some, None}
 use Rattle.std.specs.Option.{is_some}
 use Rattle.wdf_base.specs.declared.object.Kind.{Kind}
@@ -78,12 +78,12 @@ assigned_name (line.Call k into a b c) = into
 assigned_name (line.Get x r) = Some x
 assigned_name _ = None
 
--- the nodes that end after an argument, where n stand before it
+-- the nodes that end after an argument, where n come before it
 unfoldable pub nodes_after : ℕ → SceneArg → ℕ
 nodes_after n (arg.Expression e) = suc e
 nodes_after n _ = n
 
--- how many nodes stand up to the end of the line, where n stand before it
+-- how many nodes there are up to the end of the line, where n come before it
 unfoldable pub nodes_end : ℕ → SceneLine → ℕ
 nodes_end n (line.Let x e) = suc e
 nodes_end n (line.Call k into a b c) = nodes_after (nodes_after (nodes_after n a) b) c

@@ -1,4 +1,4 @@
--- Where the lines of a scene stand: the open block, device and callback, and what was counted before.
+-- Where the lines of a scene are: the open block, device and callback, and what was counted before.
 use Rattle.std.specs.Prelude.{Bool, ℕ, suc, ◌+◌, ◌-◌, ◌==◌, List, [], ◌∷◌, length, Some, None, cond}
 use Rattle.wdf_base.specs.Same.{same_option}
 use Rattle.wdf_scene.specs.declared.line.SceneLine.{SceneLine}
@@ -81,17 +81,17 @@ counted c form picks =
       picks = c.picks + picks;
     }
 
--- a line that stands here
+-- a line that is here
 abbrev pub placed_line : ℕ → Stand → Counts → NumberedLine → Placed
 placed_line k o c l =
     record { at = k; number = l.number; form = l.form; picks = length l.picks; stand = o; counts = c }
 
--- the lines from line k on, where they stand
+-- the lines from line k on, and where they are
 unfoldable pub placed_from : ℕ → Stand → Counts → List NumberedLine → List Placed
 placed_from k o c [] = []
 placed_from k o c (l ∷ ls) =
     placed_line k o c l ∷ placed_from (suc k) (opened_by o k l.form) (counted c l.form (length l.picks)) ls
 
--- the lines of a scene, where they stand
+-- the lines of a scene, and where they are
 unfoldable pub placed : Scene → List Placed
 placed scene = placed_from 0 outside nothing scene.lines

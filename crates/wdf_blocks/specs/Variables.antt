@@ -31,7 +31,7 @@ unfoldable pub variables_in : Scene → Option ℕ → List (List ℕ)
 variables_in scene None = []
 variables_in scene (Some k) = variables scene k
 
--- the variables of the callback in which a line stands
+-- the variables of the callback in which a line is
 unfoldable pub variables_at : Scene → Placed → List (List ℕ)
 variables_at scene p = variables_in scene p.stand.callback
 

@@ -170,7 +170,7 @@ fn nodes_after(before: u64, arg: &SceneArg) -> u64
     }
 }
 
-/// How many nodes of expressions stand up to the end of a line, where `before` stand before it.
+/// How many nodes of expressions there are up to the end of a line, where `before` come before it.
 #[tactic(auto, unfolding(crate::specs::Forms::nodes_end))]
 pub fn nodes_end(before: u64, form: &SceneLine) -> u64
     ensures { result ≡ forms.nodes_end before form.now }

@@ -17,13 +17,13 @@ pub struct Stand {
     pub nested: u32,
 }
 
-/// How many of each stand before a line.
+/// How many of each come before a line.
 #[derive(Clone, Copy, Debug, PartialEq, Eq)]
 pub struct Counts {
     /// Nodes of expressions.
     pub nodes: u64,
     pub devices: u32,
-    /// How many objects stand before the last of these devices.
+    /// How many objects come before the last of these devices.
     pub device: u32,
     /// Devices, queues, interrupts and targets.
     pub objects: u32,

@@ -6,7 +6,7 @@ use crate::placed::{Counts, Placed, Stand, counted, nothing, opened_by, outside}
 use std::marker::Model;
 use wdf_scene::Scene;
 
-/// The lines of a scene from one on, where they stand.
+/// The lines of a scene from one on, and where they are.
 #[derive(Drop)]
 pub struct Walk<'a> {
     scene: &'a Scene,

@@ -1,4 +1,4 @@
--- Lemmas on the events so far: what may follow them, how the run stands, and the next one.
+-- Lemmas on the events so far: what may follow them, the ending of the run, and the next one.
 use Rattle.std.proofs.Common.{if◌then◌else◌, Bool, true, false, ◌⊎◌, inl, inr, ◌&&◌, ℕ, zero, suc, ◌≡◌, ◌+◌, ◌<◌, ◌≤◌, ◌^◌, List, [], ◌∷◌, ◌++◌, filter, length, position, Option, Some, None, is_none, is_some, refl, sym, ap, subst, ◌∙◌, arith, length-append, slice_get, nat_lt, nat_le, take}
 use Rattle.std.proofs.lemmas.Bool.Decides.{nat_tests}
 use Rattle.std.proofs.lemmas.Bool.{lt-ltb, ltb-true, ltb-false}
@@ -304,7 +304,7 @@ module _ {A : Type 0} (m : Meaning A) (plan : Plan) (journal : List Event) (S : 
         room = u.room;
       }
 
-  -- ---- how the run stands
+  -- ---- the ending of the run
 
   run_by : (xs : List Event) → 0 < length xs → ending.Running ≡ ending_by plan m (state_after plan m journal) (last_fault journal) xs
   run_by [] h = absurd (omega arith)

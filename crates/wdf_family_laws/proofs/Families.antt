@@ -1,4 +1,4 @@
--- What the plan and the events tell of an object that is there is what the tree has, at each place of every run.
+-- What the plan and the events say of an object that is there is what the tree has, at each place of every run.
 use Rattle.std.proofs.Common.{if◌then◌else◌, ◌≡◌, ℕ, zero, suc, ◌+◌, ◌<◌, ◌≤◌, Bool, true, false, ◌||◌, List, [], ◌∷◌, ◌++◌, ◌⊎◌, inl, inr, Option, Some, None, find, is_some, length, map, option_and_then, slice_get, take, unwrap_or, refl, sym, ap, subst, ◌∙◌, arith}
 use Rattle.std.proofs.lemmas.Bool.{eqb-true}
 use Rattle.std.proofs.lemmas.Option.{slice_get_within}
@@ -32,7 +32,7 @@ use Rattle.wdf_base.proofs.WordLaws.{find_passes}
 use Rattle.wdf_family_laws.proofs.Stays.{Stays, WasAt, event_stays, stays_same}
 use Rattle.wdf_family_laws.proofs.Telling.{Makes, event_makes}
 
--- ---- the earliest event that tells of an object
+-- ---- the earliest event that says something of an object
 
 found_first : {T : Type 0} (p : T → Bool) (y : T) (ys zs : List T) (x : T) (b : Bool) → p y ≡ b → ((find p ys ≡ Some x) → find p (ys ++ zs) ≡ Some x) → (if b then Some y else find p ys) ≡ Some x
     → (if b then Some y else find p (ys ++ zs)) ≡ Some x
@@ -48,7 +48,7 @@ found_passes_first : {T : Type 0} (p : T → Bool) (y : T) (ys : List T) (x : T)
 found_passes_first p y ys x true e rest h = let same : y ≡ x = cc in subst (λ z. p z ≡ true) same e
 found_passes_first p y ys x false e rest h = rest h
 
--- an event that tells of an object, and what it tells
+-- an event that says something of an object, and what it says
 pub record Tells (plan : Plan) (o : ℕ) (e : Event) (t : Told) : Type 0 where
   pub told : told plan e ≡ Some t
   pub object : t.object ≡ o
@@ -57,7 +57,7 @@ tells_by : (plan : Plan) (o : ℕ) (e : Event) (found : Option Told) → told pl
 tells_by plan o e None h is = absurd (let z : ⊥ = cc in z)
 tells_by plan o e (Some t) h is = (t, record { told = h; object = eqb-true t.object o is })
 
--- what is told first is told by the earliest event, and else no event tells of the object
+-- what is told first is told by the earliest event, and else no event says anything of the object
 pub data First (plan : Plan) (all : List Event) (o : ℕ) : Type 0 where
   First_by : (e : Event) (t : Told) → find (tells_of plan o) all ≡ Some e → Tells plan o e t → first_told plan all o ≡ Some t → First plan all o
   First_none : find (tells_of plan o) all ≡ None → first_told plan all o ≡ None → First plan all o
@@ -85,7 +85,7 @@ told_later plan es more o h = elim (first plan es o) [
   | First_none none is ↦ ap (option_and_then (told plan)) (find_behind (tells_of plan o) es more none)
 ]
 
--- what one event tells
+-- what one event says
 pub one_event : (plan : Plan) (e : Event) (t : Told) → told plan e ≡ Some t → first_told plan (e ∷ []) t.object ≡ Some t
 one_event plan e t h = by (tells_of plan t.object e) refl (ap (is_told t.object) h ∙ itself t.object)
   where
@@ -107,7 +107,7 @@ told_first plan e o t h = elim (first plan (e ∷ []) o) [
     only {x} true y f = let k : (if true then Some e else None) ≡ Some x = rw y at f in let same : e ≡ x = cc in same
     only {x} false y f = let k : (if false then Some e else None) ≡ Some x = rw y at f in absurd (let z : ⊥ = cc in z)
 
--- what is told after one event more was told before, or this event tells it
+-- what is told after one event more was told before, or this event says it
 pub told_next : (plan : Plan) (es : List Event) (e : Event) (o : ℕ) (t : Told) → first_told plan (es ++ e ∷ []) o ≡ Some t
     → (first_told plan es o ≡ Some t) ⊎ ((first_told plan es o ≡ None) × Tells plan o e t)
 told_next plan es e o t h = by (first_told plan es o) refl

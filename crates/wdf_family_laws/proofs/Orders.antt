@@ -57,7 +57,7 @@ found_place_first : {T : Type 0} (p : T → Bool) (y : T) (ys : List T) (x : T) 
 found_place_first p y ys x true e rest h = (0, h)
 found_place_first p y ys x false e rest h = let r = rest h in (suc r.0, r.1)
 
--- what is found stands somewhere
+-- what is found is at some place
 pub found_place : {T : Type 0} (p : T → Bool) (xs : List T) (x : T) → find p xs ≡ Some x → (j : ℕ) × (slice_get xs j ≡ Some x)
 found_place p [] x h = absurd (let z : ⊥ = cc in z)
 found_place p (y ∷ ys) x h = found_place_first p y ys x (p y) refl (found_place p ys x) h
@@ -85,7 +85,7 @@ ever_later s run n j h e = let same : n + (j - n) ≡ j = omega arith in subst (
 no_tick : (plan : Plan) (e : Event) (t : Told) → told plan e ≡ Some t → (time : ℕ) → e ≡ event.Tick time → ⊥
 no_tick plan e t h time same = let none : None ≡ Some t = subst (λ x. told plan x ≡ Some t) same h in let z : ⊥ = cc in z
 
--- what an event of a run tells of is made there
+-- an object of which an event of a run says something is made there
 pub makes_at : {A : Type 0} (plan : Plan) (m : Meaning A) (run : List Event) (j : ℕ) (e : Event) (t : Told) → IsRunOf plan m run → slice_get run j ≡ Some e → told plan e ≡ Some t
     → Makes plan (state_after plan m (take j run)).tree (after plan m (state_after plan m (take j run)) e).tree t
 makes_at plan m run j e t is_run at h = event_makes plan m (state_after plan m (take j run)) e t (comes plan m run j e is_run at (no_tick plan e t h)) h
@@ -307,7 +307,7 @@ declared_children plan m run k o is_run at (suc n) h =
     both (declared_ended plan run (take k run) o.id.0 n) (is_ended_child plan run (take k run) o.id.0 (n + 1)) (declared_children plan m run k o is_run at n (omega arith))
     (subst (λ y. is_ended_child plan run (take k run) o.id.0 y ≡ true) e (child_by plan m run k (suc n) o is_run at (inl (d.0, d.1))))
 
--- what an event of a run tells of is known in the run
+-- an object of which an event of a run says something is known in the run
 told_known : (plan : Plan) (run : List Event) (j : ℕ) (e : Event) (t : Told) → slice_get run j ≡ Some e → told plan e ≡ Some t → Known plan run t.object
 told_known plan run j e t at h = elim (first plan run t.object) [
   | First_by f u found tells is ↦ inr (u, is)

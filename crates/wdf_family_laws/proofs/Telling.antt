@@ -1,4 +1,4 @@
--- An event that tells of an object makes it: the next one, under a live parent.
+-- An event that says something of an object makes it: the next one, under a live parent.
 use Rattle.std.proofs.Common.{if◌then◌else◌, ◌≡◌, ℕ, ◌<◌, Bool, true, false, not, ◌&&◌, List, [], ◌∷◌, ◌++◌, Option, Some, None, length, option_map, slice_get, unwrap_or, refl, sym, ap, subst, ◌∙◌, arith, append-nil, length-append}
 use Rattle.wdf_base.specs.Meaning.{Meaning}
 use Rattle.wdf_base.specs.declared.ids.Cpu.{Cpu}

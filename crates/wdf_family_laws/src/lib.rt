@@ -16,7 +16,7 @@ pub fn runs_tell_parents<A>()
     ensures { (plan : Plan) (m : Meaning A) (run : List Event) → IsRunOf plan m run → (n : ℕ) → FamilyAgrees plan (take n run) (state_after plan m (take n run)) }
 {}
 
-/// At each place of every run, what the events before tell of an object's class is what the tree has, where the object
+/// At each place of every run, what the events before say of an object's class is what the tree has, where the object
 /// is there.
 pub fn runs_tell_classes<A>()
     ensures { (plan : Plan) (m : Meaning A) (run : List Event) → IsRunOf plan m run → (n : ℕ) → ClassesAgree plan (take n run) (state_after plan m (take n run)) }

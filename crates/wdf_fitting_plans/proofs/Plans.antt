@@ -63,7 +63,7 @@ every_flat : {T U : Type 0} (Q : U → Type 0) (f : T → List U) → ((x : T) �
 every_flat Q f each [] = tt
 every_flat Q f each (x ∷ xs) = every_append Q (f x) (flat_map f xs) (each x) (every_flat Q f each xs)
 
--- ---- the lines of a scene where they stand
+-- ---- the lines of a scene where they are
 
 abbrev PlacedFits : ℕ → Placed → Type 0
 PlacedFits most p = FormFits p.form × (p.number ≤ most)

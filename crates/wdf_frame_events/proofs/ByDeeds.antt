@@ -1,4 +1,4 @@
--- Deeds that tell values of the plan keep values of the plan.
+-- Deeds that give values of the plan keep values of the plan.
 use Rattle.std.proofs.Common.{if◌then◌else◌, ◌≡◌, ℕ, zero, suc, ◌+◌, ◌-◌, ◌<◌, ◌^◌, Bool, true, false, List, [], ◌∷◌, length, map, fold, replicate, slice_set, slice_index_or, Option, Some, None, inl, inr, refl, sym, subst, arith}
 use Rattle.std.specs.Prelude.{⊤}
 use Rattle.wdf_base.specs.Resolved.{IsResolved}
@@ -45,7 +45,7 @@ use Rattle.wdf_trace.specs.Events.{IsValueOf}
 use Rattle.wdf_plan_events.proofs.ProperNames.{some_name}
 use Rattle.wdf_frame_events.specs.Values.{HasFrameValues, HasPlanValues, HasSmallNumbers}
 
--- ---- what a deed tells
+-- ---- what a deed gives
 
 abbrev pub TellsOf : Plan → Deed → Type 0
 TellsOf plan (PushFrame cpu f frame level) = HasFrameValues plan frame

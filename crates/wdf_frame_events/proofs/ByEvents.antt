@@ -1,4 +1,4 @@
--- What the deeds of an event tell is of the plan, where the event is.
+-- What the deeds of an event give is of the plan, where the event is.
 use Rattle.std.proofs.Common.{if◌then◌else◌, ◌≡◌, ℕ, suc, ◌+◌, ◌<◌, ◌≤◌, ◌^◌, Bool, true, false, List, [], ◌∷◌, ◌++◌, length, replicate, Option, Some, None, option_and_then, unwrap_or, inl, inr, refl, sym, ap, subst, arith, length-append}
 use Rattle.wdf_base.specs.Callbacks.{row_of}
 use Rattle.wdf_base.specs.Meaning.{Meaning}

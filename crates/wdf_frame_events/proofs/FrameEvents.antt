@@ -49,7 +49,7 @@ doable_front plan (d ∷ ds) es S k = (k.0, doable_front plan ds es (do_deed pla
 
 -- ---- the events of frames
 
--- a step inside a frame, and what a frame tells
+-- a step inside a frame, and what a frame says
 abbrev pub is_of_frame : Event → Bool
 is_of_frame (event.Local cpu line) = true
 is_of_frame (event.Log cpu v) = true

@@ -1,4 +1,4 @@
--- What a frame is about to do tells values, calls, registers and lines of the plan.
+-- What a frame is about to do gives values, calls, registers and lines of the plan.
 use Rattle.std.proofs.Common.{if◌then◌else◌, ◌≡◌, ℕ, zero, suc, ◌+◌, ◌-◌, ◌==◌, ◌<◌, ◌≤◌, ◌^◌, Bool, true, false, ◌&&◌, nat_le, nat_lt, List, [], ◌∷◌, length, Option, Some, None, option_map, unwrap_or, slice_get, refl, sym, subst, arith}
 use Rattle.std.specs.List.{list_all}
 use Rattle.std.proofs.lemmas.Bool.{leb-true, ltb-true}
@@ -38,7 +38,7 @@ use Rattle.wdf_frame_events.specs.Fitting.{HasFittingLines, HasFittingNumbers}
 use Rattle.wdf_frame_events.specs.Values.{HasFrameValues}
 use Rattle.wdf_frame_events.proofs.Expressions.{IsResultOf, result_of}
 
--- ---- what an intent tells
+-- ---- what an intent gives
 
 abbrev pub IsChangeOf : Plan → Change → Type 0
 IsChangeOf plan (change.Assign variable v) = IsValueOf plan v

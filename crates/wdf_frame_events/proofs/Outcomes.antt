@@ -1,4 +1,4 @@
--- What a call answers, and what its deeds tell, are of the plan.
+-- What a call answers, and what its deeds give, are of the plan.
 use Rattle.std.proofs.Common.{if◌then◌else◌, ◌≡◌, ℕ, ◌+◌, ◌<◌, ◌≤◌, ◌^◌, Bool, true, false, not, ◌&&◌, ◌||◌, List, [], ◌∷◌, ◌++◌, length, Option, Some, None, refl, sym, subst, arith}
 use Rattle.wdf_base.specs.Meaning.{Meaning}
 use Rattle.wdf_base.specs.declared.plan.Plan.{Plan}
@@ -42,7 +42,7 @@ value_of_argument plan false a h = subst (λ x. IsValueOf plan (value_in x)) (sy
 value_of_argument plan true (Val v) h = h
 value_of_argument plan true (Class c) h = omega arith
 
--- the answer is of the plan, where the deeds can be done, and so is what they tell
+-- the answer is of the plan, where the deeds can be done, and so is what they give
 pub record OutcomeOf {A : Type 0} (plan : Plan) (S : State A) (o : Outcome) : Type 0 where
   pub answers : AreDoable plan o.deeds S → IsValueOf plan o.answer
   pub tells : AllTellOf plan o.deeds

@@ -50,7 +50,7 @@ so_far apps posts = record {
   picks = 0;
 }
 
--- a read where it stands
+-- a read at its place
 abbrev read_at : ℕ → ℕ → ℕ → ℕ → ℕ → ℕ → ℕ → Placed
 read_at b apps at number posts k w =
     placed_line at (in_app b) (so_far apps posts) (record { number = number; form = read_form k w; picks = [] })

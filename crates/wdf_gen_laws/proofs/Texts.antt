@@ -109,7 +109,7 @@ all_written k (w ∷ ws) h =
     ap (λ b. b && list_all (λ (v : WrittenLine). is_written v.written) (numbered (suc k) ws)) here
     ∙ all_written (suc k) ws (second_of_both (is_good w) (list_all is_good ws) h)
 
--- ---- each line stands where it may
+-- ---- each line is where it may be
 
 -- the forms of some lines
 abbrev forms : ℕ → List Written → List SceneLine

@@ -1,4 +1,4 @@
--- A taking of a request from a power-managed queue stands, with no giving up since, exactly where power notes that the
+-- A taking of a request from a power-managed queue came, with no giving up since, exactly where power notes that the
 -- driver holds it from there: what each event makes of both.
 use Rattle.std.proofs.Common.{if◌then◌else◌, ◌≡◌, ℕ, ◌==◌, Bool, true, false, not, ◌&&◌, ◌||◌, List, [], ◌∷◌, ◌++◌, inl, inr, Option, Some, None, refl, sym, ap, subst, ◌∙◌}
 use Rattle.wdf_base.specs.Meaning.{Meaning}

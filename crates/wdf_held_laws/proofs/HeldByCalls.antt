@@ -1,4 +1,4 @@
--- A taking from a power-managed queue stands, with no giving up since, exactly where power notes it: what calls make of
+-- A taking from a power-managed queue came, with no giving up since, exactly where power notes it: what calls make of
 -- both.
 use Rattle.std.proofs.Common.{if◌then◌else◌, ◌≡◌, ℕ, Bool, true, false, not, ◌&&◌, ◌||◌, List, [], ◌∷◌, ◌++◌, Option, Some, None, refl, sym, ap, subst, ◌∙◌}
 use Rattle.wdf_base.specs.declared.ids.Cpu.{Cpu}

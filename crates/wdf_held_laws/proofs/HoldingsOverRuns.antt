@@ -1,4 +1,4 @@
--- At each place of every run, a taking of a request from a power-managed queue stands, with no giving up since, exactly
+-- At each place of every run, a taking of a request from a power-managed queue came, with no giving up since, exactly
 -- where the driver holds the request from that queue.
 use Rattle.std.proofs.Common.{◌≡◌, ℕ, ◌+◌, ◌==◌, Bool, true, false, not, List, [], ◌∷◌, ◌++◌, ◌⊎◌, inl, inr, Option, Some, None, length, take, refl, sym, ap, subst, ◌∙◌}
 use Rattle.std.proofs.lemmas.Bool.{cases_Bool}

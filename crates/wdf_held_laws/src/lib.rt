@@ -17,7 +17,7 @@ ghost use Rattle.wdf_laws.specs.declared.sign.Sign.TheVariants as sign;
 ghost use Rattle.wdf_laws.specs.Words.{stands};
 ghost use Rattle.wdf_laws.specs.Laws.{is_managed_of};
 
-/// At each place of every run, a taking of a request from a power-managed queue stands, with no giving up since, exactly
+/// At each place of every run, a taking of a request from a power-managed queue came, with no giving up since, exactly
 /// where the driver holds the request from that queue.
 pub fn held_as_told<A>()
     ensures { (plan : Plan) (m : Meaning A) (run : List Event) (n r q : ℕ) → IsRunOf plan m run → is_managed plan q ≡ true

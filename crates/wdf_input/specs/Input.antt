@@ -2,12 +2,12 @@
 use Rattle.std.specs.Prelude.{◌≡◌, ℕ, ◌≤◌, List, [], ◌++◌, length, ⊤, Option, None, Some}
 use Rattle.wdf_io.specs.Outside.{Takes}
 
--- a source that tells what it has left has nothing left
+-- a source that says what it has left has nothing left
 abbrev pub UsesUp : Option (List ℕ) → Option (List ℕ) → Type 0
 UsesUp None after = ⊤
 UsesUp (Some left) after = after ≡ Some []
 
--- the bytes were all that a source had left, where it tells what it has left, and nothing is left of it
+-- the bytes were all that a source had left, where it says what it has left, and nothing is left of it
 abbrev pub TakesAll : Option (List ℕ) → Option (List ℕ) → List ℕ → Type 0
 TakesAll None after bytes = ⊤
 TakesAll (Some left) after bytes = (left ≡ bytes) × (after ≡ Some [])

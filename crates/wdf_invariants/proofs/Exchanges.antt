@@ -63,7 +63,7 @@ joined_count : (p : ℕ → Bool) (f : ℕ → List ℕ) (qs : List ℕ) → cou
 joined_count p f [] = refl
 joined_count p f (q ∷ qs) = let both_ = count_behind p (f q) (flat_map f qs) in let rest = joined_count p f qs in omega arith
 
--- where each of one list is kept for one of the other at most, as a test tells, they are as many as pass it
+-- where each of one list is kept for one of the other at most, as a test says, they are as many as pass it
 pub joined_filters : (p u : ℕ → Bool) (keep : ℕ → ℕ → Bool) (qs rs : List ℕ) → ((r : ℕ) → count_by (λ q. keep q r && p r) qs ≡ flag (u r))
     → count_by p (flat_map (λ q. filter (keep q) rs) qs) ≡ count_by u rs
 joined_filters p u keep qs rs h =

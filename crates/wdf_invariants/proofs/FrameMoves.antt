@@ -23,7 +23,7 @@ pub flag_small : (b : Bool) → flag b ≤ 1
 flag_small true = omega arith
 flag_small false = omega arith
 
--- a frame that stands where another stood, as far as it is a step's
+-- a frame that is where another was, as far as it is a step's
 pub record FrameKept (a b : Frame) : Type 0 where
   pub callback : b.callback ≡ a.callback
   pub object : b.object ≡ a.object

@@ -8,7 +8,7 @@ use Rattle.wdf_model.specs.parts.Tree.{gone, nearest_devices, own_device}
 use Rattle.wdf_model.proofs.Maps.{entry_before, entry_last}
 use Rattle.wdf_model.proofs.Counts.{one_or_two}
 
--- a node that stands where another stood, as far as its nearest device goes
+-- a node that is where another was, as far as its nearest device goes
 pub record Alike (Fine : ℕ → Type 0) (n m : Node) : Type 0 where
   pub device : same_kind m.kind kind.Device ≡ same_kind n.kind kind.Device
   pub parent : m.parent.0 ≡ n.parent.0

@@ -1,4 +1,4 @@
--- What deeds keep of the tree: nearest devices, and that what is gone stands below nothing.
+-- What deeds keep of the tree: nearest devices, and that what is gone is below nothing.
 use Rattle.std.proofs.Common.{◌≡◌, ◌≢◌, ℕ, zero, suc, ◌+◌, ◌==◌, ◌<◌, ◌≤◌, true, false, not, ◌&&◌, [], ◌∷◌, ◌++◌, ◌⊎◌, inl, inr, length, count_by, refl, ap, sym, subst, ◌∙◌, arith, length-append}
 use Rattle.std.specs.List.{range_with_len}
 use Rattle.std.proofs.lemmas.Bool.{cases_Bool, eqb-true}
@@ -112,7 +112,7 @@ no_children : (n : ℕ) → (n == 0) ≡ true → 1 ≤ n → ⊥
 no_children zero e h = omega arith
 no_children (suc n) e h = let same : suc n ≡ 0 = eqb-true (suc n) 0 e in omega arith
 
--- no object stands below what may end
+-- no object is below what may end
 childless : (T : Tree) (x i : ℕ) → Rooted T → may_destroy T x ≡ true → i < length T.nodes → parent_of T i ≢ x
 childless T x i r h within = λ e.
     let cleaned : is_cleaned (life_of T x) ≡ true = both_left (is_cleaned (life_of T x)) _ (both_left (is_cleaned (life_of T x) && _) (length (children T x) == 0) h) in

@@ -1,4 +1,4 @@
--- What power tells of a device's unsettled requests is what the requests tell of them.
+-- What power says of a device's unsettled requests is what the requests say of them.
 use Rattle.std.proofs.Common.{if◌then◌else◌, ◌≡◌, ◌≢◌, ℕ, zero, suc, ◌+◌, ◌==◌, ◌<◌, ◌≤◌, nat_lt, Bool, true, false, not, ◌&&◌, ◌||◌, List, [], ◌∷◌, ◌⊎◌, inl, inr, Option, Some, None, option_map, unwrap_or, map, take, length, count_by, slice_get, refl, ap, sym, ◌∙◌, arith}
 use Rattle.std.specs.List.{flat_map, list_all, range_with_len}
 use Rattle.std.proofs.lemmas.Bool.{cases_Bool, eqb-true}

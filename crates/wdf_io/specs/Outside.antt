@@ -13,13 +13,13 @@ counted count = min (count + 1) last_count
 abbrev pub Rose : ℕ → ℕ → Type 0
 Rose before after = (before < after) ⊎ (before ≡ last_count)
 
--- a source that tells what it has left had the bytes at its front, and has only the rest after them
+-- a source that says what it has left had the bytes at its front, and has only the rest after them
 abbrev pub Takes : Option (List ℕ) → Option (List ℕ) → List ℕ → Type 0
 Takes None after bytes = ⊤
 Takes (Some left) None bytes = ⊥
 Takes (Some left) (Some rest) bytes = left ≡ bytes ++ rest
 
--- a sink that tells what was written has the bytes after what it had
+-- a sink that says what was written has the bytes after what it had
 abbrev pub Gains : Option (List ℕ) → Option (List ℕ) → List ℕ → Type 0
 Gains None after bytes = ⊤
 Gains (Some written) None bytes = ⊥

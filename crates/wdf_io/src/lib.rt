@@ -22,14 +22,14 @@ pub struct Failed;
 
 /// Where bytes come from, in order.
 pub trait Source {
-    // The bytes not yet read, where the source tells them.
+    // The bytes not yet read, where the source says what they are.
     ghost left: { Self → Option (List ℕ) };
 
     // How often a call failed. It never falls.
     ghost faults: { Self → ℕ };
 
     /// Fills the front of `buf` with the next bytes and answers how many: 0 is the end of the input.
-    /// What stands after them in `buf` is left open.
+    /// What is after them in `buf` is left open.
     ///
     /// # Errors
     ///
@@ -47,7 +47,7 @@ pub trait Source {
 
 /// Where bytes go, in order.
 pub trait Sink {
-    // The bytes written, where the sink tells them.
+    // The bytes written, where the sink says what they are.
     ghost written: { Self → Option (List ℕ) };
 
     // How often a call failed. It never falls.

@@ -30,7 +30,7 @@ impl Model for MemSink {
 
 impl MemSink {
     /// An empty sink that can hold `room` bytes, for which it takes all its memory now. Exactly the
-    /// calls whose numbers, from 1, stand in `fail_at` fail, and those at which no room is left.
+    /// calls whose numbers, from 1, are in `fail_at` fail, and those at which no room is left.
     pub fn new(alloc: Global, room: usize, fail_at: Vec<u64>) -> Result<MemSink, Memory>
         ensures { IfOk result (λ sink. sink ≡ record { written = []; room = room; calls = record { fail_at = fail_at.items; made = 0; faults = 0 } }) }
     {

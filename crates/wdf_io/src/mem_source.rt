@@ -29,7 +29,7 @@ impl Model for MemSource {
 }
 
 impl MemSource {
-    /// A source of these bytes. Exactly the calls whose numbers, from 1, stand in `fail_at` fail.
+    /// A source of these bytes. Exactly the calls whose numbers, from 1, are in `fail_at` fail.
     pub fn new(bytes: Vec<u8>, fail_at: Vec<u64>, piece: usize) -> MemSource
         requires { 1 ≤ piece }
         ensures { result ≡ record { left = bytes.items; piece = piece; calls = record { fail_at = fail_at.items; made = 0; faults = 0 } } }

@@ -1,4 +1,4 @@
--- What one event is: which request it brings, completes, takes or gives up, and what it tells of an object.
+-- What one event is: which request it brings, completes, takes or gives up, and what it says of an object.
 use Rattle.std.specs.Prelude.{if◌then◌else◌, ℕ, Bool, true, false, ◌==◌, not, ◌&&◌, ◌||◌, Option, Some, None}
 use Rattle.wdf_base.specs.declared.ids.Handle.{Handle}
 use Rattle.wdf_base.specs.declared.plan.Plan.{Plan}
@@ -254,7 +254,7 @@ is_made_under_argument call.WdfWaitLockCreate = true
 is_made_under_argument call.WdfRequestCreate = true
 is_made_under_argument _ = false
 
--- what the answer of a create call tells of the new object
+-- what the answer of a create call says of the new object
 abbrev pub told_by_call : Plan → CallKind → Arg → Arg → Value → Option Told
 told_by_call plan k (Val v) b answer = None
 told_by_call plan k (Class c) b answer =
@@ -262,7 +262,7 @@ told_by_call plan k (Class c) b answer =
     else if is_made_under_argument k then told_of (or_none (argument_object b)) (Some c) (value_object answer)
     else None
 
--- what an event tells of an object: an arrival, or the answer of a create call
+-- what an event says of an object: an arrival, or the answer of a create call
 abbrev pub told : Plan → Event → Option Told
 told plan (event.Posted agent p answer) = told_of (or_none (brought_to p)) None (where_so (is_there (brought_to p)) (id_in answer))
 told plan (event.Did cpu c answer) = told_by_call plan c.kind c.a c.b answer

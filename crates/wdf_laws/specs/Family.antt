@@ -1,4 +1,4 @@
--- Parents and classes, as the plan and the whole list of events tell them: the plan first, then the earliest event.
+-- Parents and classes, as the plan and the whole list of events give them: the plan first, then the earliest event.
 use Rattle.std.specs.Prelude.{ℕ, zero, suc, ◌+◌, Bool, false, ◌==◌, not, ◌&&◌, ◌||◌, List, length, Option, Some, None, option_and_then, option_map, find}
 use Rattle.wdf_base.specs.declared.plan.Plan.{Plan}
 use Rattle.wdf_base.specs.declared.declared.Declared.{Declared}
@@ -13,7 +13,7 @@ use Rattle.wdf_laws.specs.declared.sign.Told.{Told}
 use Rattle.wdf_laws.specs.Events.{told}
 use Rattle.wdf_laws.specs.Words.{ever}
 
--- an event tells of this object
+-- an event says something of this object
 abbrev pub is_told : ℕ → Option Told → Bool
 is_told o None = false
 is_told o (Some t) = t.object == o
@@ -21,7 +21,7 @@ is_told o (Some t) = t.object == o
 abbrev pub tells_of : Plan → ℕ → Event → Bool
 tells_of plan o e = is_told o (told plan e)
 
--- what the earliest event that tells of an object tells
+-- what the earliest event that says something of an object says
 abbrev pub first_told : Plan → List Event → ℕ → Option Told
 first_told plan all o = option_and_then (told plan) (find (tells_of plan o) all)
 
@@ -52,7 +52,7 @@ cleaned_above plan all before zero o = false
 cleaned_above plan all before (suc n) o =
     ever (sign.Cleaned o) before || (not (parent_of plan all o == 0) && cleaned_above plan all before n (parent_of plan all o))
 
--- an object has no more objects above it than the plan and the events tell of
+-- an object has no more objects above it than the plan and the events give
 abbrev pub most_above : Plan → List Event → ℕ
 most_above plan all = length plan.declared + length all + 1
 

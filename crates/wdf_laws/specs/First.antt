@@ -30,7 +30,7 @@ abbrev pub broken_in : Plan → List Event → ℕ → Option Event → Option �
 broken_in plan all k None = None
 broken_in plan all k (Some e) = broken_by plan all (take k all) (frames_after (take k all)) e
 
--- the same of the event that k events stand before
+-- the same of the event that k events come before
 abbrev pub broken_at : Plan → List Event → ℕ → Option ℕ
 broken_at plan all k = broken_in plan all k (slice_get all k)
 

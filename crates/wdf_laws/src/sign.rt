@@ -57,7 +57,7 @@ pub struct Taking {
     pub queue: u32,
 }
 
-/// What an event tells of an object: its parent, 0 for none, and the class that it was made from.
+/// What an event says of an object: its parent, 0 for none, and the class that it was made from.
 #[derive(Clone, Copy, Debug)]
 pub struct Told {
     pub object: u32,
@@ -80,7 +80,7 @@ pub struct Begun {
     pub object: u32,
 }
 
-/// What stands now, and what stood when a sign came last.
+/// What holds now, and what held when a sign came last.
 #[derive(Clone, Copy, Debug)]
 pub struct Moment {
     pub current: bool,

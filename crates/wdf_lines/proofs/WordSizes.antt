@@ -1,4 +1,4 @@
--- No word of a table is longer than 40 bytes, and none has a blank.
+-- No word of a table is longer than 40 bytes.
 use Rattle.std.proofs.Common.{◌≤◌, length, lit≤}
 use Rattle.wdf_base.specs.declared.value.Status.{Status}
 use Rattle.wdf_base.specs.declared.value.Status.TheVariants as status

@@ -1,4 +1,4 @@
--- How often something stands in a list, after the changes that lines and targets make.
+-- How often something is in a list, after the changes that lines and targets make.
 use Rattle.std.proofs.Common.{if◌then◌else◌, ◌⊎◌, inl, inr, nat_lt, ◌≡◌, ◌≢◌, ℕ, zero, suc, ◌+◌, ◌==◌, ◌≤◌, Bool, true, false, not, ◌&&◌, List, [], ◌∷◌, ◌++◌, Some, None, map, filter, find, drop, count_by, refl, ap, sym, ◌∙◌, arith}
 use Rattle.std.specs.List.{flat_map}
 use Rattle.std.proofs.lemmas.List.Sums.{sum_by-append}
@@ -133,7 +133,7 @@ pub front_leaves : (r y : ℕ) (xs : List ℕ) → same_id (first_of_list xs) y 
 front_leaves r y [] h = absurd (let z : ⊥ = cc in z)
 front_leaves r y (x ∷ xs) h = let same : x ≡ y = eqb-true x y h in rw (← same) (count_cons (λ z. z == r) x xs)
 
--- one leaves, wherever it stands
+-- one leaves, wherever it is
 pub it_leaves : (r : ℕ) (xs : List ℕ) → count_by (λ x. x == r) (without r xs) ≡ 0
 it_leaves r xs = filter_none (λ x. x == r) (λ x. not (x == r)) (λ x h. not_true (x == r) h) xs
 
@@ -233,7 +233,7 @@ found_at_its_target r (x ∷ ts) (suc t) h =
     find_behind (λ s. s.request.0 == r) x.sent (flat_map (λ y. y.sent) ts) (none_found (λ s. s.request.0 == r) x.sent (h 0 (λ e. let z : ⊥ = cc in z)))
     ∙ found_at_its_target r ts t (λ u n. h (suc u) (λ e. n (let k : u ≡ t = omega arith in k)))
 
--- ---- what a count tells
+-- ---- what a count says
 
 pub flag_yes : (b : Bool) (n : ℕ) → flag b ≡ suc n → b ≡ true
 flag_yes true n h = refl

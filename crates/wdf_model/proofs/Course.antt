@@ -19,7 +19,7 @@ pub record IsCourse (plan : Plan) (c : Course) : Type 0 where
   pub picked : IsPickedFrom (ready plan agents) plan.picks [] c.events
   pub ending : c.ending ≡ ending_of plan agents c.events
 
--- where a course stands: its events so far, the state after them, their last fault, and the picks that are left
+-- where a course is: its events so far, the state after them, their last fault, and the picks that are left
 record Stands (plan : Plan) (picks : List ℕ) (events : List Event) (S : State AnyAgent) (x : Option Fault) : Type 0 where
   state : S ≡ state_after plan agents events
   fault : x ≡ last_fault events

@@ -48,7 +48,7 @@ pub either_fits : {A : Type 0} (plan : Plan) (S : State A) (b : Bool) (x y : Out
 either_fits plan S true x y h k = h refl
 either_fits plan S false x y h k = k refl
 
--- ---- what no fault tells of a call
+-- ---- what no fault says of a call
 
 pub wrong_kind_of_first : (v : View) (c : Call) → call_faults v c fault.WrongKind ≡ false → is_wrong_kind v (signature_of c.kind).a c.a ≡ false
 wrong_kind_of_first v c h =

@@ -1,4 +1,4 @@
--- The row of each call fits where no fault stands in its way.
+-- The row of each call fits where no fault is in its way.
 use Rattle.std.proofs.Common.{◌≡◌, ℕ, Bool, true, false, not, ◌&&◌, ◌||◌, [], ◌∷◌, refl}
 use Rattle.wdf_base.specs.declared.plan.Plan.{Plan}
 use Rattle.wdf_base.specs.declared.call.Arg.{Arg}
@@ -33,7 +33,7 @@ use Rattle.wdf_model.proofs.Fits.{create_fits, either_fits, first_kind, forgets_
 abbrev made : CallKind → ℕ → Arg → Arg → Arg → Call
 made k n a b x = record { kind = k; count = n; a = a; b = b; c = x }
 
--- no fault stands in the way of a call of frame f
+-- no fault is in the way of a call of frame f
 abbrev pub Clean : {A : Type 0} → Plan → State A → ℕ → ℕ → Call → Type 0
 Clean plan S cpu f c = (x : Fault) → call_faults (view_of plan S cpu f) c x ≡ false
 

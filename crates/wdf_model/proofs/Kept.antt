@@ -14,7 +14,7 @@ use Rattle.wdf_model.proofs.Counts.{one_or_two}
 
 -- ---- readers
 
--- how often a request stands in a queue's line, and among a target's sendings
+-- how often a request is in a queue's line, and among a target's sendings
 abbrev pub stands : Queues → ℕ → ℕ → ℕ
 stands Q q r = count_by (λ x. x == r) (waiting_in Q q)
 
@@ -40,9 +40,9 @@ is_made_place _ = false
 
 -- ---- the invariant
 
--- F tells the requests that were completed, and B those that arrived.
+-- F says which requests were completed, and B which arrived.
 pub record Kept (F B : ℕ → Bool) (R : Requests) (Q : Queues) (T : Targets) (N : Tree) : Type 0 where
-  -- a request is Queued where it stands in that queue's line, once; and Sent where that target has it, once
+  -- a request is Queued where it is in that queue's line, once; and Sent where that target has it, once
   pub queued : (q r : ℕ) → stands Q q r ≡ flag (is_queued_in q (place_of R r))
   pub sent : (t r : ℕ) → sends T t r ≡ flag (is_sent_to t (place_of R r))
   -- no request is numbered beyond the objects

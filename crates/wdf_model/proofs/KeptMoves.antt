@@ -244,7 +244,7 @@ enter_line {F} {B} {R} {Q} {Q'} {T} {N} q r k there old came e = move_request r 
     (λ t x n. omega arith)
     (λ t h. k.returns t r h)
 
--- a request leaves the line in which it stands
+-- a request leaves the line that it is in
 pub leave_line : {F B : ℕ → Bool} {R : Requests} {Q Q' : Queues} {T : Targets} {N : Tree} (r : ℕ) (p : Place) → Kept F B R Q T N → is_done (place_of R r) ≡ false → ((t : ℕ) → is_sent_to t (place_of R r) ≡ false)
     → is_still p ≡ true → (arrived R r ≡ false → is_made_place p ≡ true) → ((q x : ℕ) → x ≢ r → stands Q' q x ≡ stands Q q x) → ((q : ℕ) → stands Q' q r ≡ 0)
     → Kept F B (requests.move_to R r p) Q' T N
@@ -315,7 +315,7 @@ present_front {F} {B} {R} {Q} {T} {N} q r k h =
 cancelled_line : (Q : Queues) (r p : ℕ) → waiting_in (queues.take_cancelled Q r) p ≡ without r (waiting_in Q p)
 cancelled_line Q r p = entry_map [] Q.waiting (without r) p refl
 
--- a request leaves its line, wherever it stands
+-- a request leaves its line, wherever it is
 pub withdraw_from_line : {F B : ℕ → Bool} {R : Requests} {Q : Queues} {T : Targets} {N : Tree} (r : ℕ) (p : Place) → Kept F B R Q T N → is_done (place_of R r) ≡ false → ((t : ℕ) → is_sent_to t (place_of R r) ≡ false)
     → is_still p ≡ true → (arrived R r ≡ false → is_made_place p ≡ true) → Kept F B (requests.move_to R r p) (queues.take_cancelled Q r) T N
 withdraw_from_line {F} {B} {R} {Q} r p k there unsent new made = leave_line r p k there unsent new made

@@ -56,7 +56,7 @@ entry_map blank [] g (suc id) e = sym e
 entry_map blank (x ∷ xs) g zero e = refl
 entry_map blank (x ∷ xs) g (suc id) e = entry_map blank xs g id e
 
--- after the end stand blank entries
+-- after the end come blank entries
 pub entry_past : {T : Type 0} (blank : T) (xs : List T) (id : ℕ) → length xs ≤ id → entry blank xs id ≡ blank
 entry_past blank [] id h = refl
 entry_past blank (x ∷ xs) zero h = absurd (omega arith)

@@ -1,5 +1,5 @@
--- What a frame's own event tells: which frame is on top, what it is about to do, and that no fault
--- stands in its way.
+-- What a frame's own event says: which frame is on top, what it is about to do, and that no fault
+-- is in its way.
 use Rattle.std.proofs.Common.{if◌then◌else◌, ◌≡◌, ℕ, zero, suc, Bool, true, false, List, [], ◌∷◌, Option, Some, None, find, slice_get, refl, subst}
 use Rattle.wdf_base.specs.Meaning.{Meaning}
 use Rattle.wdf_base.specs.declared.ids.Cpu.{Cpu}
@@ -57,7 +57,7 @@ no_fault v i h fault.HardwareReleased = not_found (holds_of v i) FAULTS h 13 fau
 no_fault v i h fault.SyncInOwnScope = not_found (holds_of v i) FAULTS h 14 fault.SyncInOwnScope refl
 no_fault v i h fault.ScriptError = not_found (holds_of v i) FAULTS h 15 fault.ScriptError refl
 
--- ---- what an own event tells
+-- ---- what an own event says
 
 -- frame f is on top of the processor, doesn't wait or spend, is about to do this, and may
 pub record IsAbout {A : Type 0} (plan : Plan) (S : State A) (cpu f : ℕ) (i : Intent) : Type 0 where

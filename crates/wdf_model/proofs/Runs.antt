@@ -5,7 +5,7 @@ use Rattle.std.proofs.Math.Seq.{take-append_seam}
 use Rattle.std.proofs.lemmas.Option.{slice_get_within}
 use Rattle.wdf_model.specs.Runs.{IsRun, IsPickedFrom, Picked, picked_place}
 
--- what stands in a list with one item more: an item of the list, or the new one
+-- what is in a list with one item more: an item of the list, or the new one
 pub split_last : {E : Type 0} (xs : List E) (x y : E) (k : ℕ) → slice_get (xs ++ x ∷ []) k ≡ Some y → ((k < length xs) × (slice_get xs k ≡ Some y)) ⊎ ((k ≡ length xs) × (x ≡ y))
 split_last [] x y zero h = inr (refl, cc)
 split_last [] x y (suc k) h = absurd (let z : ⊥ = cc in z)
@@ -57,14 +57,14 @@ run_goes_on ready run event place is_run here = λ k next h.
       | inr p ↦ (place, rw (p.0, take-append_seam run (event ∷ []), ← p.1) here)
     ]
 
--- what stands in the first n items
+-- what is in the first n items
 pub in_front : {E : Type 0} (xs : List E) (n k : ℕ) (y : E) → slice_get (take n xs) k ≡ Some y → (k < n) × (slice_get xs k ≡ Some y)
 in_front xs zero k y h = absurd (let z : ⊥ = cc in z)
 in_front [] (suc n) k y h = absurd (let z : ⊥ = cc in z)
 in_front (x ∷ xs) (suc n) zero y h = (omega arith, h)
 in_front (x ∷ xs) (suc n) (suc k) y h = let p = in_front xs n k y h in (let b : k < n = p.0 in omega arith, p.1)
 
--- what stands in two lists, one after the other
+-- what is in two lists, one after the other
 pub split_front : {E : Type 0} (xs ys : List E) (k : ℕ) (y : E) → slice_get (xs ++ ys) k ≡ Some y
     → ((k < length xs) × (slice_get xs k ≡ Some y)) ⊎ ((j : ℕ) × (k ≡ length xs + j) × (slice_get ys j ≡ Some y))
 split_front [] ys k y h = inr (k, omega arith, h)

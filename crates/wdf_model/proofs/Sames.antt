@@ -82,7 +82,7 @@ woke_by_parts l k d c w v x y z = let e : l ≡ k = cpu_same l k x in cc
 end_by_parts : (l k : Cpu) (d c : Callback) (p o : Handle) (w v : Value) → l.0 ≡ k.0 → d ≡ c → p ≡ o → w ≡ v → event.End l d p w ≡ event.End k c o v
 end_by_parts l k d c p o w v x y u z = let e : l ≡ k = cpu_same l k x in cc
 
--- the events of frames that tell a call, and an end
+-- the events of frames that give a call, and an end
 pub did_same : (e : Event) (k : Cpu) (c : Call) (v : Value) → same_event e (event.Did k c v) ≡ true → e ≡ event.Did k c v
 did_same (event.Did l d w) k c v h =
     let x : l.0 ≡ k.0 = search (rules, both_left, both_right) in

@@ -1,4 +1,4 @@
--- What tests tell, in the forms that proofs over the machine use.
+-- What tests say, in the forms that proofs over the machine use.
 use Rattle.std.proofs.Common.{if◌then◌else◌, ◌≡◌, ℕ, zero, suc, ◌==◌, nat_lt, Bool, true, false, not, ◌&&◌, ◌||◌, List, [], ◌∷◌, ◌⊎◌, inl, inr, Some, filter, slice_get, refl, arith}
 use Rattle.std.proofs.lemmas.Bool.Decides.{nat_tests}
 use Rattle.std.proofs.lemmas.Bool.{eq-eqb}
@@ -28,7 +28,7 @@ pub decided : (a : Bool) → (a ≡ true) ⊎ (a ≡ false)
 decided true = inl refl
 decided false = inr refl
 
--- what stands in a filtered list passes the test
+-- what is in a filtered list passes the test
 pub in_filter_of : {T : Type 0} (p : T → Bool) (y : T) (ys : List T) (b : Bool) → p y ≡ b
     → ((k : ℕ) (x : T) → slice_get (filter p ys) k ≡ Some x → p x ≡ true)
     → (k : ℕ) (x : T) → slice_get (if b then y ∷ filter p ys else filter p ys) k ≡ Some x → p x ≡ true

@@ -12,7 +12,7 @@ pub record IsReadBack (s : Scene) : Type 0 where
   pub stands : StandsFor (printed s) again
   pub same : without_numbers again ≡ without_numbers s
 
--- a refusal tells that no scene stands for the text
+-- a refusal says that no scene stands for the text
 abbrev pub IsNoScene : List ℕ → ParseRefusal → Type 0
 IsNoScene text refusal.Memory = Unit {0}
 IsNoScene text e = (scene : Scene) → StandsFor text scene → ⊥

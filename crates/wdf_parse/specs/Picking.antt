@@ -13,7 +13,7 @@ use Rattle.wdf_parse.specs.Standing.{standing_after}
 abbrev pub with_line : Scene → ℕ → SceneLine → List ℕ → Scene
 with_line s number form ns = record s { lines = s.lines ++ record { number = number; form = form; picks = ns } ∷ [] }
 
--- the line is placed, if it may stand there
+-- the line is placed, if it may come there
 abbrev pub placed : Reader → ℕ → SceneLine → List ℕ → Reader
 placed r number form ns = record { builder = with_line r.builder number form ns; place = standing_after r.place number form }
 

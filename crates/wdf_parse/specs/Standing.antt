@@ -1,4 +1,4 @@
--- Where a text stands between two lines, with the lines that opened the blocks.
+-- Where a text is between two lines, with the lines that opened the blocks.
 use Rattle.std.specs.Prelude.{ℕ, List, [], ◌∷◌, Option, Some, None}
 use Rattle.wdf_scene.specs.declared.line.SceneLine.{SceneLine}
 use Rattle.wdf_scene.specs.Blocks.{Position, front, moved, blocks_after, openers_after}
@@ -19,7 +19,7 @@ shifted s number form = record {
   openers = openers_after s.openers number form;
 }
 
--- after a line that may stand there
+-- after a line that may come there
 abbrev pub standing_after : Standing → ℕ → SceneLine → Standing
 standing_after s number form = record { position = moved s.position form; openers = openers_after s.openers number form }
 

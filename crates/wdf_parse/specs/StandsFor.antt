@@ -38,7 +38,7 @@ version_tokens = word keyword.Version ∷ token.Number 2 ∷ []
 abbrev pub version_lines : ℕ → ℕ → List TokenLine
 version_lines version number = if version == 2 then record { number = number; tokens = version_tokens } ∷ [] else []
 
--- a scene stands for a text: the text's lines are spelled by the scene's, each of which may stand where it does
+-- a scene stands for a text: the text's lines are spelled by the scene's, each of which may come where it does
 pub record StandsFor (text : List ℕ) (scene : Scene) : Type 0 where
   -- the number of the line `version 2`
   pub first : ℕ

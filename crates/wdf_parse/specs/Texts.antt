@@ -32,7 +32,7 @@ with_written r number w = record {
   place = standing_after r.place number (line_at (next_node r.builder) w);
 }
 
--- the line, if there is one and it may stand there
+-- the line, if there is one and it may come there
 abbrev pub line_taken : Reader → ℕ → Option Written → Option Reader
 line_taken r number None = None
 line_taken r number (Some w) =
@@ -51,7 +51,7 @@ is_version _ = false
 abbrev pub is_at_front : Position → Bool
 is_at_front p = (p.version == 1) && (p.headers == 0)
 
--- the tokens of a line: `version 2` in front of all others, or a line that may stand there
+-- the tokens of a line: `version 2` in front of all others, or a line that may come there
 abbrev pub tokens_taken : Reader → ℕ → List Token → Option Reader
 tokens_taken r number ts =
     if is_version ts && is_at_front r.place.position then Some (opening 2) else line_taken r number (read_written ts)
@@ -98,12 +98,12 @@ finished past (Err e) = Err e
 unfoldable pub reading : List ℕ → Result Scene ParseRefusal
 reading text = finished (length (lines_of text) + 1) (after_lines (Ok (opening 1)) 1 (lines_of text))
 
--- an error tells the refusal, or out of memory
+-- an error gives the refusal, or out of memory
 abbrev pub IsRefusalOf : {A : Type 0} → Result A ParseRefusal → ParseRefusal → Type 0
 IsRefusalOf r refusal.Memory = Unit {0}
 IsRefusalOf r e = r ≡ Err e
 
--- an answer tells whether some tokens are taken
+-- an answer says whether some tokens are taken
 abbrev pub AreTaken : Option Reader → Bool → Reader → Type 0
 AreTaken None false new = Unit {0}
 AreTaken (Some r) true new = new ≡ r

@@ -1,4 +1,4 @@
-//! Where the text stands between two lines: which blocks are open.
+//! Where the text is between two lines: which blocks are open.
 ghost use Rattle.std.specs.Prelude.{◌≡◌, ◌==◌, ◌&&◌, OnOk};
 ghost use Rattle.wdf_scene.specs.Blocks as blocks;
 
@@ -11,7 +11,7 @@ use wdf_scene::{Block, InterruptLevel, SceneLine};
 /// How many `if` and `repeat` of a callback may be open at a time.
 const NESTING_LIMIT: usize = 16;
 
-/// Where the text stands between two lines.
+/// Where the text is between two lines.
 #[derive(Debug, Drop)]
 pub struct Place {
     version: u8,

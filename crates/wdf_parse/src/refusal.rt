@@ -9,7 +9,7 @@ pub enum ParseRefusal {
     /// No token begins at this column, or a name that is too long. Columns count bytes from 1.
     #[error("line {line}, column {col}: no token")]
     BadToken { line: u32, col: u32 },
-    /// The tokens are no line that may stand there, or the text ends before its first three lines:
+    /// The tokens are no line that may come there, or the text ends before its first three lines:
     /// then it is the line past the last.
     #[error("line {line}: no line that may be here")]
     BadLine { line: u32 },

@@ -19,7 +19,7 @@ pub enum Act {
     IsQueued(ObjectId, bool),
 }
 
-/// A work item is queued once, and the queued ones stand by their ids.
+/// A work item is queued once, and the queued ones come in the order of their ids.
 static ACTS: [Act; 8] = [
     Act::Cancel(ONE, false),
     Act::Enqueue(ONE, true),

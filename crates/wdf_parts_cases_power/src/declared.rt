@@ -108,7 +108,7 @@ static OF_TARGETS: [(u32, Declaration); 6] = [
 /// Classes by their numbers, with the numbers of their names, 0 for what is no class.
 static CLASSES: [(u16, u32); 3] = [(0, 2), (1, 3), (2, 0)];
 
-/// A callback is declared by the object in whose block it stands, and by no other: those of the plan
+/// A callback is declared by the object in whose block it is, and by no other: those of the plan
 /// with interrupts.
 static CALLBACKS: [(Callback, ObjectId, bool); 10] = [
     (Callback::EvtInterruptEnable, FIRST, true),

@@ -60,7 +60,7 @@ abbrev pub with_child_in : Plan → List Event → ℕ → Option Event → List
 with_child_in plan all o None children = children
 with_child_in plan all o (Some e) children = with_child plan all o (told plan e) children
 
--- the declared ones, and those that the first k events tell of, one for each such event
+-- the declared ones, and those that the first k events give, one for each such event
 unfoldable pub children_by : Plan → List Event → ℕ → ℕ → List ℕ
 children_by plan all o zero = declared_children plan all o (length plan.declared)
 children_by plan all o (suc k) = with_child_in plan all o (slice_get all k) (children_by plan all o k)

@@ -1,4 +1,4 @@
--- What the events tell of objects, read once.
+-- What the events say of objects, read once.
 use Rattle.std.specs.Prelude.{if◌then◌else◌, ◌≡◌, ℕ, nat_eq, List, Option, Some, None}
 use Rattle.std.specs.HashMap.{HashMap, get}
 use Rattle.wdf_base.specs.declared.plan.Plan.{Plan}
@@ -16,6 +16,6 @@ abbrev pub with_told : ℕ → Option Told → Option Told → Option Told
 with_told o t (Some kept) = Some kept
 with_told o t None = if is_told o t then t else None
 
--- for each object, what the earliest event that tells of it tells
+-- for each object, what the earliest event that says anything of it says
 pub record AreTold {S : Type 0} (plan : Plan) (all : List Event) (told : HashMap ℕ Told S) : Type 0 where
   pub first_is : (o : ℕ) → get nat_eq told o ≡ first_told plan all o

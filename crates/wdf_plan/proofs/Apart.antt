@@ -9,7 +9,7 @@ use Rattle.wdf_blocks.specs.declared.placed.Stand.{Stand}
 use Rattle.wdf_blocks.specs.Placed.{counted, opened_by, placed_line, placed_from}
 use Rattle.wdf_refusals.proofs.Every.{Every, every_map, every_kept, every_both, any_none}
 
--- each item stands so to each one after it
+-- each item is so related to each one after it
 abbrev pub Pairs : {P : Type 0} → (P → P → Type 0) → List P → Type 0
 Pairs R [] = Unit {0}
 Pairs R (p ∷ ps) = Every (R p) ps × Pairs R ps
@@ -35,7 +35,7 @@ from_line k o c (l ∷ ls) =
     let next = from_line (suc k) (opened_by o k l.form) (counted c l.form (length l.picks)) ls in
     (omega arith, every_map (λ p. suc k ≤ p.at) (λ p. k ≤ p.at) (λ p h. omega (arith, h)) (placed_from (suc k) (opened_by o k l.form) (counted c l.form (length l.picks)) ls) next)
 
--- what holds of each two lines, of which the first stands before the second
+-- what holds of each two lines, of which the first comes before the second
 pub line_pairs : (Q : Placed → Type 0) (R : Placed → Placed → Type 0) → ((p q : Placed) → p.at < q.at → Q p → Q q → R p q) → (k : ℕ) (o : Stand) (c : Counts) (ls : List NumberedLine) → Every Q (placed_from k o c ls) → Pairs R (placed_from k o c ls)
 unfolding placed_from
 line_pairs Q R f k o c [] h = tt

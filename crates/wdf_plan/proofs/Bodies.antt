@@ -1,4 +1,4 @@
--- After the line that begins a callback stand the callback's lines, with its end among them.
+-- After the line that begins a callback come the callback's lines, with its end among them.
 use Rattle.std.proofs.Common.{◌≡◌, ◌⊎◌, inl, inr, ℕ, zero, suc, ◌-◌, Bool, true, false, not, nat_lt, List, [], ◌∷◌, map, drop, length, Option, Some, None, refl, ap, ◌∙◌, arith}
 use Rattle.std.specs.Prelude.{◌==◌, IsTrue}
 use Rattle.std.specs.List.{prefix_len}
@@ -76,7 +76,7 @@ not_outside q e f = by_block (innermost q.blocks) e (and_parts (q.headers == 3) 
 
 -- ---- one line of a callback
 
--- the line ends the callback, or may stand in it
+-- the line ends the callback, or may be in it
 abbrev IsBodyLine : ℕ → SceneLine → List Block → Type 0
 IsBodyLine d form behind =
     (ends_block d form ≡ true) ⊎ ((ends_block d form ≡ false) × (stands_inside d form ≡ true) × IsInside (depth_after d form) behind)

@@ -67,7 +67,7 @@ any_script scene c d k p there s =
     let f : Placed → Option Script = λ q. script_on scene (declarations scene) q q.form in
     place_there (is_script_of c d) (filter_map f (placed scene)) (any_from f (is_script_of c d) (placed scene) k p s.script there s.is s.passes)
 
--- the line that begins the callback stands in this block, so its owner is the block's
+-- the line that begins the callback is in this block, so its owner is the block's
 owner_told : (scene : Scene) (b : ℕ) (q p : Placed) (d : Declared) → slice_get (placed scene) b ≡ Some q → p.stand.block ≡ Some b → (o : IsOwner scene p) → owner_at scene (declarations scene) q q.form ≡ Some d → owner_of scene (declarations scene) p p.stand.block ≡ Some d
 owner_told scene b q p d there block' o e =
     let line' : o.home.line ≡ b = one_value p.stand.block o.home.line b o.home.block block' in
@@ -91,7 +91,7 @@ calls_step scene s none p there kind opens c d e None is h = absurd (let z : ⊥
 calls_step scene s none p there kind opens c d e (Some g) is h =
     given_script scene s none p.at p c d there e g (given_stands scene s p.at p kind (attribute.On c) g there opens refl is)
 
--- a line whose callbacks may stand there, and what is called has its script
+-- a line whose callbacks may be there, and what is called has its script
 record IsCalled (scene : Scene) (p : Placed) : Type 0 where
   fits : wrong_callback scene p p.form ≡ false
   calls : Calls scene p p.form

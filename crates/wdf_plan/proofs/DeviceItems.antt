@@ -1,4 +1,4 @@
--- The objects and the registers of a plan stand at their places, and what a device does is about its own.
+-- The objects and the registers of a plan are at their places, and what a device does is about its own.
 use Rattle.std.proofs.Common.{◌≡◌, ℕ, ◌+◌, true, false, ◌&&◌, List, [], Option, Some, None, slice_get, refl, ap}
 use Rattle.std.proofs.lemmas.Bool.{and_parts, and_from, eq-eqb, eqb-true, not-false}
 use Rattle.std.specs.Prelude.{◌==◌}
@@ -43,12 +43,12 @@ use Rattle.wdf_plan.proofs.Places.{indexed, found_has}
 abbrev pub register_at : Scene → Placed → Option RegisterInfo
 register_at scene p = register_on (declarations scene) p p.form
 
--- the object and the register of a line stand where the counts tell
+-- the object and the register of a line are where the counts say
 pub record HasItems (scene : Scene) (p : Placed) : Type 0 where
   pub object : (x : Declared) → object_on scene (declarations scene) p ≡ Some x → slice_get (objects_of scene) p.counts.objects ≡ Some x
   pub register : (x : RegisterInfo) → register_at scene p ≡ Some x → slice_get (filter_map (register_at scene) (placed scene)) p.counts.registers ≡ Some x
 
--- the register of a line stands at its place
+-- the register of a line is at its place
 abbrev RegisterThere : Scene → Placed → Type 0
 RegisterThere scene p =
     (x : RegisterInfo) → register_at scene p ≡ Some x → slice_get (filter_map (register_at scene) (placed scene)) p.counts.registers ≡ Some x

@@ -1,4 +1,4 @@
--- What is known of the device in which a line stands.
+-- What is known of the device in which a line is.
 use Rattle.std.proofs.Common.{◌≡◌, ℕ, zero, suc, ◌-◌, Bool, true, false, cond, List, [], ◌∷◌, ◌++◌, length, Option, Some, None, slice_get, refl, ap, sym, ◌∙◌, arith, append_assoc, length-append, ◌<◌}
 use Rattle.std.proofs.lemmas.Bool.{and_parts}
 use Rattle.std.specs.Prelude.{◌==◌, option_map, map, option_and_then}
@@ -81,7 +81,7 @@ devices_from whole front k o c (l ∷ ls) long is h =
     let longer : length (front ++ p ∷ []) ≡ suc k = omega (arith, length-append front (p ∷ []), long) in
     (h, devices_from whole (front ++ p ∷ []) (suc k) (opened_by o k l.form) (counted c l.form (length l.picks)) ls longer (is ∙ sym (append_assoc front (p ∷ []) rest)) (device_after whole o c k l (is_device l.form) refl there h))
 
--- the device in which a line stands was begun by its line, and so many objects were declared before
+-- the device in which a line is was begun by its line, and so many objects were declared before
 pub devices_known : (scene : Scene) → Every (λ p. HasDevice (placed scene) p.stand p.counts) (placed scene)
 unfolding placed
 devices_known scene =
@@ -107,9 +107,9 @@ pub same_device : (scene : Scene) (i j k : ℕ) (p q : Placed) → slice_get (pl
 same_device scene i j k p q there there' e e' =
     same_order (placed scene) k p.counts.device q.counts.device (device_of_line scene i k p there e) (device_of_line scene j k q there' e')
 
--- ---- lines that stand only in a device
+-- ---- lines that come only in a device
 
--- lines that stand only in a device, outside its blocks
+-- lines that come only in a device, outside its blocks
 abbrev pub belongs : SceneLine → Bool
 belongs (line.Queue n dispatch) = true
 belongs (line.Interrupt n level) = true
@@ -128,7 +128,7 @@ may_belong q (line.When access r action after) b m = m
 may_belong q (line.At tick action) b m = m
 may_belong q _ b m = absurd (let z : ⊥ = cc in z)
 
--- the line stands in a device and in no block inside it
+-- the line is in a device and in no block inside it
 pub record IsInside (o : Stand) : Type 0 where
   pub line : ℕ
   pub block : o.block ≡ Some line
@@ -137,7 +137,7 @@ pub record IsInside (o : Stand) : Type 0 where
 inside_open : (stack : List Opener) → IsInDevice stack → IsInside (stand_of stack)
 inside_open stack d = rw d.is (record { line = d.line; block = refl; device = refl })
 
--- such a line stands in a device
+-- such a line is in a device
 pub stands_inside : (whole : List Placed) (stack : List Opener) (p : Placed) → IsStacked whole stack p → belongs p.form ≡ true → IsInside p.stand
 stands_inside whole stack p s b =
     let inner : in_device (innermost (map block_of stack)) ≡ true = rw (← s.blocks) (may_belong s.position p.form b s.may) in
@@ -165,7 +165,7 @@ block_tells test scene o b form e f =
 
 -- ---- what is known of an accepted line
 
--- the line of the device in which a line stands that stands only there
+-- of a line that comes only in a device: the line of that device
 pub record IsHome (scene : Scene) (p : Placed) : Type 0 where
   pub line : ℕ
   pub block : p.stand.block ≡ Some line
@@ -173,7 +173,7 @@ pub record IsHome (scene : Scene) (p : Placed) : Type 0 where
   pub own : IsDeviceAt (placed scene) line p.counts.device
   pub counted : 0 < p.counts.devices
 
--- an accepted line, where it stands
+-- an accepted line, at its place
 pub record IsKnown (scene : Scene) (p : Placed) : Type 0 where
   pub there : slice_get (placed scene) p.at ≡ Some p
   pub accepted : IsAccepted scene p

@@ -59,7 +59,7 @@ unfolding declarations
 all_fresh scene each =
     every_kept declared_on (IsAccepted scene) (IsFresh (declarations scene)) (fresh_line scene) (placed scene) each
 
--- ---- the declarations stand in the order of their lines
+-- ---- the declarations come in the order of their lines
 
 rising_all : (scene : Scene) → AreRising (λ (d : Declaration). d.at) 0 (declarations scene)
 unfolding declarations placed

@@ -1,4 +1,4 @@
--- The line that gives a block an attribute stands in the block, and each line in a block gives it what it says.
+-- The line that gives a block an attribute is in the block, and each line in a block gives it what it says.
 use Rattle.std.proofs.Common.{◌≡◌, ℕ, zero, suc, ◌+◌, ◌-◌, ◌<◌, ◌≤◌, Bool, true, false, not, cond, List, [], ◌∷◌, ◌++◌, drop, length, Option, Some, None, slice_get, refl, ap, sym, subst, ◌∙◌, arith}
 use Rattle.wdf_scene.specs.declared.block.Block.{Block}
 use Rattle.wdf_scene.specs.declared.line.SceneLine.{SceneLine}
@@ -20,7 +20,7 @@ use Rattle.wdf_plan.proofs.Stacks.{Opener, stand_of, with_block, stack_after, be
 use Rattle.wdf_plan.proofs.Stacking.{passed}
 use Rattle.wdf_plan.proofs.Inside.{gives_some, attribute_quiet, block_told, no_callback_open, split, after_opener}
 
--- ---- what is found stands in the block
+-- ---- what is found is in the block
 
 -- line g gives the attribute in the block of line b, in no callback
 record IsFound (whole : List Placed) (b : ℕ) (a : Attribute) (k g : ℕ) : Type 0 where
@@ -70,7 +70,7 @@ found_from whole a inner x outer k o c (l ∷ ls) g w h e =
     let s = split inner x outer k l.form u in
     found_earlier whole s.own.line x.line a k g s.line (found_from whole a s.within s.own outer (suc k) (opened_by o k l.form) (counted c l.form (length l.picks)) ls g w (rw s.is at h.1) (rw s.depth at f)))
 
--- the line that gives a block an attribute stands in that block, in no callback
+-- the line that gives a block an attribute is in that block, in no callback
 pub record IsGiven (scene : Scene) (b g : ℕ) (a : Attribute) : Type 0 where
   pub line : Placed
   pub there : slice_get (placed scene) g ≡ Some line
@@ -79,7 +79,7 @@ pub record IsGiven (scene : Scene) (b g : ℕ) (a : Attribute) : Type 0 where
   pub no_callback : line.stand.callback ≡ None
   pub after : b < g
 
--- what is found stands in the block
+-- what is found is in the block
 pub given_stands : (scene : Scene) → IsScene scene → (b : ℕ) (opener : Placed) (blk : Block) (a : Attribute) (g : ℕ) → slice_get (placed scene) b ≡ Some opener → opened opener.form ≡ Some blk → is_device_wide a ≡ false → given scene b a ≡ Some g → IsGiven scene b g a
 unfolding given
 given_stands scene s b opener blk a g there opens' w e =
@@ -88,7 +88,7 @@ given_stands scene s b opener blk a g there opens' w e =
     let past : suc b ≤ g = f.after in
     record { line = f.line; there = f.there; gives_it = f.gives_it; block = f.block; no_callback = f.no_callback; after = omega arith }
 
--- ---- what stands in a block is found
+-- ---- what is in a block is found
 
 -- the innermost open block was opened by line b
 record IsInnermost (xs : List Opener) (b : ℕ) : Type 0 where
@@ -104,7 +104,7 @@ record HasOpener (whole : List Placed) (b : ℕ) : Type 0 where
   there : slice_get whole b ≡ Some placed'
   opens' : opened placed'.form ≡ Some block
 
--- the block that a line stands in, outside callbacks, is the innermost open one
+-- the block that a line is in, outside callbacks, is the innermost open one
 innermost_line : (xs : List Opener) (b : ℕ) → AreFitting xs → (stand_of xs).block ≡ Some b → (stand_of xs).callback ≡ None → IsInnermost xs b
 innermost_line [] b f e n = absurd (let z : ⊥ = cc in z)
 innermost_line (x ∷ xs) b f e n =
@@ -131,12 +131,12 @@ not_here b xs m n =
     let opened' : HasNot b (m.head ∷ m.outer) = subst (HasNot b) m.is n in
     opened'.0 m.line
 
--- a line stands in the block of line b
+-- a line is in the block of line b
 record StandsIn (p : Placed) (b : ℕ) : Type 0 where
   block : p.stand.block ≡ Some b
   no_callback : p.stand.callback ≡ None
 
--- after the end of a block no line stands in it
+-- after the end of a block no line is in it
 never_again : (whole : List Placed) (b k : ℕ) (o : Stand) (c : Counts) (stack : List Opener) (ls : List NumberedLine) (n : ℕ) (p : Placed) → b < k → HasNot b stack → AreStacked whole k o c stack ls → slice_get (placed_from k o c ls) n ≡ Some p → StandsIn p b → ⊥
 unfolding placed_from
 never_again whole b k o c stack [] n p h not h' e i = absurd (let z : ⊥ = cc in z)

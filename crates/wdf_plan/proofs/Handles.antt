@@ -36,7 +36,7 @@ thing_kind thing.Interrupt = Some kind.Interrupt
 thing_kind thing.Target = Some kind.Target
 thing_kind _ = None
 
--- the object of this declaration stands at its place
+-- the object of this declaration is at its place
 record IsPlaced (scene : Scene) (d : Declaration) (k : Kind) : Type 0 where
   object : Declared
   there : slice_get (objects_of scene) d.order ≡ Some object

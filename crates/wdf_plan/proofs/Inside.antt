@@ -1,4 +1,4 @@
--- What is known inside a block: which lines give attributes there, which block a stand tells, and what opens and ends in it.
+-- What is known in a block: which lines give attributes there, which block a stand gives, and what opens and ends in it.
 use Rattle.std.proofs.Common.{◌≡◌, ℕ, ◌<◌, Bool, true, false, List, [], ◌∷◌, ◌++◌, map, length, Option, Some, None, refl, ap, sym, ◌∙◌, arith}
 use Rattle.std.specs.Option.{is_some}
 use Rattle.wdf_scene.specs.declared.block.Block.{Block}
@@ -55,7 +55,7 @@ gives_some (attribute.For own) _ e = absurd (let z : ⊥ = cc in z)
 gives_some (attribute.On own) (line.On c) e = refl
 gives_some (attribute.On own) _ e = absurd (let z : ⊥ = cc in z)
 
--- such a line stands in no callback
+-- such a line is in no callback
 pub attribute_quiet : (q : Position) (form : SceneLine) → is_some (attribute_of form) ≡ true → may_stand q form ≡ true → in_callback (innermost q.blocks) ≡ false
 unfolding attribute_of
 attribute_quiet q (line.Scope None) e m = heir_quiet (innermost q.blocks) m
@@ -71,7 +71,7 @@ attribute_quiet q (line.For f) e m = queue_quiet (innermost q.blocks) m
 attribute_quiet q (line.On c) e m = owner_quiet (innermost q.blocks) m
 attribute_quiet q _ e m = absurd (let z : ⊥ = cc in z)
 
--- ---- the block that a stand tells
+-- ---- the block that a stand gives
 
 -- outside callbacks it is the innermost open one
 pub block_told : (x : Opener) (xs : List Opener) → in_callback (Some x.block) ≡ false → (stand_of (x ∷ xs)).block ≡ Some x.line

@@ -15,7 +15,7 @@ use Rattle.wdf_blocks.specs.Blocks.{depth_after, ends_block}
 use Rattle.wdf_blocks.specs.Forms.{opens, is_end}
 use Rattle.wdf_plan.specs.Scripts.{nest_at, outer, loops, is_loop, again, nests_after, act_on, plain_act, statement_on, statement_at, number_after, statements_in}
 
--- a line may stand in a callback, where so many of its blocks are open
+-- a line may be in a callback, where so many of its blocks are open
 abbrev pub stands_inside : ℕ → SceneLine → Bool
 stands_inside d (line.If e) = nat_lt d 16
 stands_inside d (line.Repeat e) = nat_lt d 16

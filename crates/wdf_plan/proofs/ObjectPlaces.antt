@@ -1,4 +1,4 @@
--- The object of a line stands in the plan at the place that the counts tell.
+-- The object of a line is in the plan at the place that the counts give.
 use Rattle.std.proofs.Common.{◌≡◌, ℕ, suc, ◌+◌, List, [], Some, slice_get, refl, arith}
 use Rattle.std.specs.List.{filter_map}
 use Rattle.wdf_base.specs.declared.declared.Declared.{Declared}
@@ -18,18 +18,18 @@ use Rattle.wdf_plan.proofs.Places.{indexed}
 abbrev pub objects_of : Scene → List Declared
 objects_of scene = filter_map (object_on scene (declarations scene)) (placed scene)
 
--- the object of a line stands at its place
+-- the object of a line is at its place
 abbrev pub ObjectThere : Scene → Placed → Type 0
 ObjectThere scene p =
     (x : Declared) → object_on scene (declarations scene) p ≡ Some x → slice_get (objects_of scene) p.counts.objects ≡ Some x
 
--- each stands there
+-- each is there
 pub objects_there : (scene : Scene) → Every (ObjectThere scene) (placed scene)
 unfolding placed counted
 objects_there scene =
     indexed is_object (λ c. c.objects) (object_on scene (declarations scene)) (λ c f n. refl) (λ p. object_tells scene (declarations scene) p p.at p.form) (objects_of scene) [] 0 outside nothing scene.lines refl refl
 
--- in the plan they stand after the driver and the request
+-- in the plan they come after the driver and the request
 pub object_place : (scene : Scene) (order : ℕ) → declared_of (plan_of scene) (order + 2) ≡ slice_get (objects_of scene) order
 unfolding plan_of plan_with all_objects
 object_place scene order =

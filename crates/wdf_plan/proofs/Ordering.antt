@@ -1,4 +1,4 @@
--- The objects of a plan stand in the order of their devices.
+-- The objects of a plan come in the order of their devices.
 use Rattle.std.proofs.Common.{◌≡◌, ℕ, suc, ◌+◌, ◌<◌, Bool, true, false, not, cond, ◌&&◌, List, [], ◌∷◌, length, Some, refl, sym, arith, slice_get}
 use Rattle.std.proofs.lemmas.Bool.{lt-ltb, eq-eqb, ne_eqb}
 use Rattle.std.specs.Prelude.{◌==◌}
@@ -26,7 +26,7 @@ use Rattle.wdf_plan.proofs.Stacking.{IsPassed, every_passed}
 abbrev is_inside : SceneLine → Bool
 is_inside form = is_object form && not (is_device form)
 
--- such a line stands only in a device
+-- such a line comes only in a device
 belongs_inside : (form : SceneLine) → is_inside form ≡ true → belongs form ≡ true
 unfolding is_object is_device
 belongs_inside (line.Queue n dispatch) e = refl

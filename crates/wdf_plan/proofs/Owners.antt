@@ -40,13 +40,13 @@ is_of_device (Some block.Queue) = true
 is_of_device (Some block.Target) = true
 is_of_device _ = false
 
--- two lines that stand in one device
+-- two lines that are in one device
 pub record IsShared (p q : Placed) : Type 0 where
   pub device : ℕ
   pub one : p.stand.device ≡ Some device
   pub other : q.stand.device ≡ Some device
 
--- a line that stands in a block with callbacks, and in none of these
+-- a line that is in a block with callbacks, and in none of these
 pub record IsInBlock (scene : Scene) (p : Placed) : Type 0 where
   pub line : ℕ
   pub opener : Placed

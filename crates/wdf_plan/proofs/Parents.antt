@@ -63,7 +63,7 @@ device_stand whole p stack s n working e =
     let stack' : stack ≡ [] = none_open stack (sym (ap (λ bs. is_none (innermost bs)) s.blocks) ∙ free) in
     ap (λ (o : Stand). o.device) s.stand ∙ ap (λ xs. (stand_of xs).device) stack'
 
--- the object of a line stands at its place, and a device stands in none
+-- the object of a line is at its place, and a device is in no device
 record IsLevelled (scene : Scene) (p : Placed) : Type 0 where
   there : ObjectThere scene p
   free : (n : List ℕ) (working : Bool) → p.form ≡ line.Device n working → p.stand.device ≡ None

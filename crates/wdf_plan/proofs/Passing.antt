@@ -249,7 +249,7 @@ end_of_branch blocks n middle closing second rest =
     out : passed (blocks ++ nest.Branch ∷ []) (way 0 0 n) line.Else ≡ Some (way 1 0 n)
     out = refl
 
--- at the `end` of a `repeat` stands a statement
+-- there is a statement at the `end` of a `repeat`
 pub end_of_loop : (blocks : List Nest) (own start n closing : ℕ) (rest : List NumberedLine) → onward (blocks ++ nest.Loop own start ∷ []) n (numbered closing line.End ∷ rest) ≡ n
 unfolding passed is_end
 end_of_loop blocks own start n closing rest =

@@ -1,4 +1,4 @@
--- The item of a line stands in the list at the place that counts the lines of its sort before it.
+-- The item of a line is in the list at the place that counts the lines of its sort before it.
 use Rattle.std.proofs.Common.{◌≡◌, ℕ, suc, ◌+◌, Bool, true, false, cond, List, [], ◌∷◌, ◌++◌, length, Option, Some, None, find, slice_get, refl, sym, subst, ◌∙◌, arith, append_assoc, length-append}
 use Rattle.std.specs.Option.{is_some}
 use Rattle.std.specs.List.{filter_map, cons_option}
@@ -61,7 +61,7 @@ at_front whole front (Some y) rest n e is x f =
     let same : y ≡ x = cc in
     rw (is, ← e, ← same) (item_after front y rest)
 
--- where the item of each line stands in the list
+-- where the item of each line is in the list
 pub indexed : {X : Type 0} (is : SceneLine → Bool) (count : Counts → ℕ) (g : Placed → Option X) → ((c : Counts) (f : SceneLine) (n : ℕ) → count (counted c f n) ≡ one_more (count c) (is f)) → ((p : Placed) → is_some (g p) ≡ is p.form) → (whole front : List X) (k : ℕ) (o : Stand) (c : Counts) (ls : List NumberedLine) → length front ≡ count c → whole ≡ front ++ filter_map g (placed_from k o c ls) → Every (λ p. (x : X) → g p ≡ Some x → slice_get whole (count p.counts) ≡ Some x) (placed_from k o c ls)
 unfolding placed_from
 indexed is count g adds tells whole front k o c [] long e = tt

@@ -73,7 +73,7 @@ unfolding sums
 hit_once j k [] r = omega arith
 hit_once j k (b ∷ bs) r = hit_step j b bs (j == b) refl r.1 (hit_once j (suc b) bs r.1)
 
--- ---- each line stands in one block
+-- ---- each line is in one block
 
 -- the items of a line in the block of line b
 abbrev item_in : {X : Type 0} → (Placed → Option X) → ℕ → Placed → Option X

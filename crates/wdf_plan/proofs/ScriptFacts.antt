@@ -119,7 +119,7 @@ script_statements scene k s each p c there is body =
 
 -- ---- the scripts
 
--- where a line that begins a callback stands, and that its callback ends
+-- where a line that begins a callback is, and that its callback ends
 abbrev IsKnown : Scene → Placed → Type 0
 IsKnown scene p = (slice_get (placed scene) p.at ≡ Some p) × HasBody scene p
 

@@ -1,4 +1,4 @@
--- Each line of a scene stands where the open blocks tell, and after it the next one does.
+-- Each line of a scene is where the open blocks say, and so is the next one after it.
 use Rattle.std.proofs.Common.{◌≡◌, ℕ, zero, suc, ◌+◌, ◌-◌, ◌<◌, ◌≤◌, true, false, not, List, [], ◌∷◌, ◌++◌, map, drop, length, Option, Some, None, slice_get, refl, ap, sym, ◌∙◌, arith, append_assoc, length-append}
 use Rattle.std.proofs.lemmas.Bool.{eq-eqb, ne_eqb, and_parts, not-true}
 use Rattle.std.specs.Prelude.{◌==◌, nat_lt}
@@ -20,7 +20,7 @@ use Rattle.wdf_refusals.proofs.Heads.{form_of, Ends, stood}
 use Rattle.wdf_plan.proofs.Places.{item_there}
 use Rattle.wdf_plan.proofs.Stacks.{Opener, block_of, pushed, stand_of, stack_after, begun, opens_in, AreBefore, IsOpened, AreOpened, IsStacked, AreStacked, AreFitting, fitting, IsInDevice, none_open, device_open, IsQuiet, quiet, IsInCallback, in_a_callback, owner_quiet}
 
--- ---- after an `end` the outer block stands as it did
+-- ---- after an `end` the outer block is as it was
 
 restored : (o : Stand) (c : Option ℕ) (n : ℕ) → o.callback ≡ c → o.nested ≡ n → record o { callback = c; nested = n } ≡ o
 restored o c n e f = rw (← e, ← f) refl
@@ -36,14 +36,14 @@ branch_closed k o c =
     let less : o.nested + 1 - 1 ≡ o.nested = omega arith in
     rw (c.is, more, less) refl
 
--- the end of a block that stands outside all others
+-- the end of a block that is outside all others
 alone_closed : (b : Block) (k : ℕ) (xs : List Opener) → xs ≡ [] → closed (pushed b k outside) ≡ outside → closed (pushed b k (stand_of xs)) ≡ stand_of xs
 alone_closed b k xs e h = rw e h
 
 device_closed : (k : ℕ) → closed (pushed block.Device k outside) ≡ outside
 device_closed k = rw (eq-eqb k k refl) refl
 
--- the end of what stands in a device, which was opened later than the device
+-- the end of what is in a device, which was opened later than the device
 inside_closed : (b : Block) (k : ℕ) (xs : List Opener) → AreBefore k xs → IsInDevice xs → ((d : ℕ) → d < k → closed (pushed b k (pushed block.Device d outside)) ≡ pushed block.Device d outside) → closed (pushed b k (stand_of xs)) ≡ stand_of xs
 inside_closed b k xs before d h =
     let below = rw d.is at before in
@@ -267,7 +267,7 @@ there_from whole k o c stack [] h = tt
 there_from whole k o c stack (l ∷ ls) h =
     (h.0.there, there_from whole (suc k) (opened_by o k l.form) (counted c l.form (length l.picks)) (stack_after stack k l.form) ls h.1)
 
--- each line stands at its place
+-- each line is at its place
 pub every_there : (scene : Scene) → IsScene scene → Every (λ p. slice_get (placed scene) p.at ≡ Some p) (placed scene)
 unfolding placed
 every_there scene s = there_from (placed scene) 0 outside nothing [] scene.lines (all_stacked scene s)

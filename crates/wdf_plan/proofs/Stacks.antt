@@ -1,4 +1,4 @@
--- The blocks that are open at a line, with the lines that opened them: what stands where, and what was counted there.
+-- The blocks that are open at a line, with the lines that opened them: what is where, and what was counted there.
 use Rattle.std.proofs.Common.{◌≡◌, ℕ, suc, ◌+◌, ◌<◌, Bool, true, false, List, [], ◌∷◌, map, drop, length, Option, Some, None, slice_get, refl, ap}
 use Rattle.std.specs.Option.{is_none}
 use Rattle.wdf_scene.specs.declared.block.Block.{Block}
@@ -23,7 +23,7 @@ pub record Opener : Type 0 where
 abbrev pub block_of : Opener → Block
 block_of x = x.block
 
--- the stand in a block that line k opened, where that line stands so
+-- the stand in a block that line k opened, where that line has the given stand
 abbrev pub pushed : Block → ℕ → Stand → Stand
 pushed block.On k o = record o { callback = Some k; nested = 0 }
 pushed block.If k o = record o { nested = o.nested + 1 }
@@ -42,7 +42,7 @@ abbrev pub with_block : List Opener → ℕ → Option Block → List Opener
 with_block stack k None = stack
 with_block stack k (Some b) = record { block = b; line = k } ∷ stack
 
--- after `else` the block is that of the `if`
+-- `else` makes the innermost open block an else block, with the line of its `if`
 abbrev turned : List Opener → List Opener
 turned [] = []
 turned (x ∷ xs) = record x { block = block.Else } ∷ xs
@@ -88,7 +88,7 @@ abbrev pub AreOpened : List Placed → List Opener → Type 0
 AreOpened whole [] = Unit {0}
 AreOpened whole (x ∷ xs) = IsOpened whole x xs × AreOpened whole xs
 
--- a line may stand where these blocks are open, and stands there
+-- a line may be where these blocks are open, and is there
 pub record IsStacked (whole : List Placed) (stack : List Opener) (p : Placed) : Type 0 where
   pub position : Position
   pub may : may_stand position p.form ≡ true
@@ -107,7 +107,7 @@ AreStacked whole k o c stack (l ∷ ls) =
 
 -- ---- what fits
 
--- each stands in a block where it may, opened before it
+-- each is in a block where it may be, opened before it
 abbrev pub AreFitting : List Opener → Type 0
 AreFitting [] = Unit {0}
 AreFitting (x ∷ xs) =
@@ -118,12 +118,12 @@ pub fitting : (whole : List Placed) (k : ℕ) (stack : List Opener) → AreBefor
 fitting whole k [] b h = tt
 fitting whole k (x ∷ xs) b h = (h.0.fits, b.1, fitting whole x.line xs b.1 h.1)
 
--- a block that only stands outside all others
+-- a block that comes only outside all others
 pub none_open : (xs : List Opener) → is_none (innermost (map block_of xs)) ≡ true → xs ≡ []
 none_open [] e = refl
 none_open (x ∷ xs) e = absurd (let z : ⊥ = cc in z)
 
--- inside a device stands what belongs to it, and outside it nothing
+-- inside a device is what belongs to it, and outside it nothing
 pub record IsInDevice (xs : List Opener) : Type 0 where
   pub line : ℕ
   pub is : xs ≡ record { block = block.Device; line = line } ∷ []

@@ -145,7 +145,7 @@ else_line (_ ∷ bs) l ls own inside e h = absurd (let z : ⊥ = cc in z)
 
 -- ---- a line of a callback
 
--- the line may stand where these blocks of a callback are open
+-- the line may be where these blocks of a callback are open
 abbrev may_be : List Block → SceneLine → Bool
 may_be bs line.End = true
 may_be bs line.Else = in_if (innermost bs)

@@ -41,7 +41,7 @@ classes_of scene = filter_map (class_at scene) (placed scene)
 abbrev registers_of : Scene → List RegisterInfo
 registers_of scene = filter_map (register_at scene) (placed scene)
 
--- the class of a line stands at its place
+-- the class of a line is at its place
 abbrev pub ClassThere : Scene → Placed → Type 0
 ClassThere scene p = (x : ClassInfo) → class_at scene p ≡ Some x → slice_get (classes_of scene) p.counts.classes ≡ Some x
 

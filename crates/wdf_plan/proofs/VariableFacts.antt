@@ -143,7 +143,7 @@ line_step scene s each stack h (Some k) e =
     let b = callback_begun (placed scene) stack k h e in
     variables_bound scene s each k b.opener b.callback b.there b.is
 
--- the variables of the callback in which a line stands are at most 16
+-- the variables of the callback in which a line is are at most 16
 pub line_variables : (scene : Scene) → IsScene scene → Every (IsAccepted scene) (placed scene) → Every (λ p. length (variables_at scene p) ≤ 16) (placed scene)
 unfolding variables_at
 line_variables scene s each =

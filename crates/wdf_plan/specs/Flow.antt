@@ -72,7 +72,7 @@ abbrev pub plain_statement : List Declaration → List (List ℕ) → NumberedLi
 plain_statement names variables l next =
     option_map (λ a. record { line = l.number; next = next; act = a }) (plain_act names variables l.form)
 
--- the statements of a body that stands in `depth` loops, where its first has number `start` and its last goes on to `after`
+-- the statements of a body that is in `depth` loops, where its first has number `start` and its last goes on to `after`
 unfoldable pub flow : List Declaration → List (List ℕ) → ℕ → ℕ → ℕ → Body → List Statement
 flow names variables depth start after Empty = []
 flow names variables depth start after (Plain l is rest) =
@@ -99,7 +99,7 @@ flow names variables depth start after (Repeat h body closing rest) =
 
 -- ---- callbacks
 
--- line k begins a callback: after it stand the lines of a body and an `end`, and the callback's statements are the body's
+-- line k begins a callback: after it come the lines of a body and an `end`, and the callback's statements are the body's
 pub record HasTree (scene : Scene) (k : ℕ) : Type 0 where
   pub body : Body
   pub closing : ℕ

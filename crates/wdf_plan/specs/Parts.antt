@@ -91,7 +91,7 @@ target_info names order n delay status depth =
       depth = depth;
     }
 
--- the object that line b declares, where line p stands in the same device or declares one
+-- the object that line b declares, where line p is in the same device or declares one
 unfoldable pub object_of : Scene → List Declaration → Placed → ℕ → SceneLine → Option Declared
 object_of scene names p b (line.Device n working) =
     Some (declared.Device (device_info scene names b n working))
@@ -171,7 +171,7 @@ device_post names number device (line.At tick a) =
     Some (post_at number tick (post.Act (action_of names device a)))
 device_post names number device _ = None
 
--- the line stands in the block of line b
+-- the line is in the block of line b
 abbrev pub stands_in : ℕ → Placed → Bool
 stands_in b p = same_option ◌==◌ p.stand.block (Some b)
 

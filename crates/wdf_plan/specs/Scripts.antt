@@ -209,7 +209,7 @@ act_on names variables blocks after n (line.Repeat e) rest =
 act_on names variables blocks after n line.End rest = again blocks (nest_at blocks 0)
 act_on names variables blocks after n form rest = plain_act names variables form
 
--- the line of the text that a statement tells: the end of a `repeat` tells the `repeat`
+-- the line of the text that a statement gives: the end of a `repeat` gives the `repeat`
 abbrev pub loop_line : ℕ → Option Nest → ℕ
 loop_line number (Some (nest.Loop own n)) = own
 loop_line number _ = number

@@ -8,11 +8,11 @@ struct Bound {
     limit: Limit,
     /// The line of the number.
     line: u32,
-    /// What stands before it.
+    /// What comes before it.
     front: &'static str,
     within: &'static str,
     past: &'static str,
-    /// What stands after it.
+    /// What comes after it.
     back: &'static str,
 }
 
@@ -214,15 +214,15 @@ static NUMBERS: [Bound; 24] = [
     },
 ];
 
-/// Lines that may stand so often, and one more.
+/// Lines that may come so often, and one more.
 struct Many {
     limit: Limit,
-    /// What stands before them, after the first three lines.
+    /// What comes before them, after the first three lines.
     front: &'static str,
     /// The lines, before and after their number.
     before: &'static str,
     after: &'static str,
-    /// How often they may stand.
+    /// How often they may come.
     bound: u32,
     /// What is one too many after them, and its line.
     more: &'static str,
@@ -333,7 +333,7 @@ fn push_number(text: &mut String, number: u32) -> Result<(), Memory> {
     Ok(())
 }
 
-/// The lines as often as they may stand.
+/// The lines as often as they may come.
 fn push_lines(text: &mut String, many: &Many) -> Result<(), Memory> {
     for number in 0..many.bound {
         text.push_str(many.before)?;
@@ -343,7 +343,7 @@ fn push_lines(text: &mut String, many: &Many) -> Result<(), Memory> {
     Ok(())
 }
 
-/// The scenario with the lines as often as they may stand, and this after them.
+/// The scenario with the lines as often as they may come, and this after them.
 fn repeated(alloc: Global, many: &Many, more: &str) -> Result<String, Memory> {
     let mut text = String::new(alloc);
     text.push_str("cpus 1\nlimit 9\nobjects 99\n")?;
@@ -371,7 +371,7 @@ fn bounds_number(alloc: Global, bound: &Bound) -> bool {
         && answer_of_number(alloc, bound.front, bound.past, bound.back) == past
 }
 
-/// Whether there is a plan with the lines as often as they may stand, and none with one more.
+/// Whether there is a plan with the lines as often as they may come, and none with one more.
 fn bounds_lines(alloc: Global, many: &Many) -> bool {
     let past = Some(refused(many.line, many.limit));
     answer_of_lines(alloc, many, "") == Some(Answer::Resolved)

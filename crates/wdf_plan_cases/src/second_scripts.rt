@@ -6,7 +6,7 @@ use wdf_base::{
     Act, ArgNode, CallKind, Callback, ContextWord, ExprNode, Operator, Plan, Statement, Status,
 };
 
-/// The nodes of the expressions; the operands of an operator stand before it.
+/// The nodes of the expressions; the operands of an operator come before it.
 static NODES: [ExprNode; 37] = [
     // The timer.
     ExprNode::Number(1),
@@ -341,7 +341,7 @@ pub fn has_scripts(plan: &Plan) -> bool {
     callbacks::has_scripts(plan, &OBJECTS, &SCRIPTS, &STATEMENTS)
 }
 
-/// Whether the nodes of expressions stand in the order of the text.
+/// Whether the nodes of expressions are in the order of the text.
 pub fn has_nodes(plan: &Plan) -> bool {
     plan.exprs.as_slice() == NODES.as_slice()
 }

@@ -10,8 +10,8 @@ use wdf_base::{
     TargetInfo,
 };
 
-/// Three devices: the interrupts, queues and targets of each stand mixed. One app and the most classes
-/// stand before the devices, the other app and two classes after them.
+/// Three devices: the interrupts, queues and targets of each are mixed. One app and the most classes
+/// come before the devices, the other app and two classes after them.
 const TEXT: &str = "version 2
 # Comments and empty lines count as lines alone.
 cpus 3
@@ -428,7 +428,7 @@ static REGISTERS: [RegisterInfo; 3] = [
     },
 ];
 
-/// Whether the names stand in the order of their lines.
+/// Whether the names are in the order of their lines.
 fn has_all_names(plan: &Plan) -> bool {
     plan.cpus == 3 && plan.limit == 5000 && plan.objects == 40 && has_names(plan, &NAMES)
 }
@@ -440,7 +440,7 @@ fn has_objects(plan: &Plan) -> bool {
         && plan.registers.as_slice() == REGISTERS.as_slice()
 }
 
-/// Whether the picks stand one after the other.
+/// Whether the picks come one after the other.
 fn has_picks(plan: &Plan) -> bool {
     plan.picks.as_slice() == [3, 1, 4, 1, 5].as_slice()
 }

@@ -1,4 +1,4 @@
--- The events that tell no value of a script: starts of callbacks, moves of frames, and those of the framework and the clock.
+-- The events that give no value of a script: starts of callbacks, moves of frames, and those of the framework and the clock.
 use Rattle.std.specs.Prelude.{Bool, true, false}
 use Rattle.wdf_base.specs.declared.event.Event.{Event}
 use Rattle.wdf_base.specs.declared.event.Event.TheVariants as event

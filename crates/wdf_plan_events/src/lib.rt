@@ -1,4 +1,4 @@
-//! Laws over all runs of the machine: which events are events of the plan, so that a line of a trace tells them.
+//! Laws over all runs of the machine: which events are events of the plan, so that a line of a trace gives them.
 #![tactic(auto)]
 
 ghost use Rattle.std.specs.Prelude.{◌≡◌, ◌<◌, ℕ, true, List, Option, Some, length, slice_get};

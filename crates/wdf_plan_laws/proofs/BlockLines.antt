@@ -1,4 +1,4 @@
--- The posts that stand in the block of a line are those of the lines up to the block's end.
+-- The posts that are in the block of a line are those of the lines up to the block's end.
 use Rattle.std.proofs.Common.{◌≡◌, ℕ, zero, suc, ◌+◌, ◌<◌, ◌≤◌, Bool, true, false, cond, List, [], ◌∷◌, ◌++◌, length, drop, map, Option, Some, None, slice_get, refl, ap, sym, subst, ◌∙◌, arith}
 use Rattle.std.proofs.lemmas.Bool.{ne_eqb, eq-eqb}
 use Rattle.std.specs.List.{filter_map, cons_option}
@@ -23,7 +23,7 @@ use Rattle.wdf_plan.proofs.Stacking.{IsPassed, passed, every_passed}
 use Rattle.wdf_plan.proofs.Stacks.{Opener, block_of, stand_of, with_block, stack_after, AreBefore, IsStacked, AreStacked, AreFitting, fitting, opens_in, none_open, device_open}
 use Rattle.wdf_plan_laws.specs.Told.{is_app_post, is_device_post, kept_line, lines_that, until_end, block_lines}
 
--- ---- where a post stands
+-- ---- where a post is
 
 -- one block is open, and no callback
 pub record IsAlone (stack : List Opener) : Type 0 where
@@ -32,7 +32,7 @@ pub record IsAlone (stack : List Opener) : Type 0 where
   pub is : stack ≡ record { block = block; line = line } ∷ []
   pub quiet : in_callback (Some block) ≡ false
 
--- lines with these forms stand right in a block
+-- lines with these forms are directly in a block
 abbrev pub AreAlone : (SceneLine → Bool) → Type 0
 AreAlone test = (whole : List Placed) (stack : List Opener) (p : Placed) → IsStacked whole stack p → test p.form ≡ true → IsAlone stack
 
@@ -72,7 +72,7 @@ alone_told whole stack p s a =
 
 -- ---- one line
 
--- a line that passes and stands in the block of line b
+-- a line that passes and is in the block of line b
 abbrev pub own_line : (SceneLine → Bool) → ℕ → Placed → Option NumberedLine
 own_line test b p = cond (stands_in b p) (kept_line test p.number p.form) None
 
@@ -100,7 +100,7 @@ not_step test alone whole stack b p s n true e =
     let one : HasNot b (record { block = a.block; line = a.line } ∷ []) = subst (HasNot b) a.is n in
     other_line test b a.line p (alone_told whole stack p s a) one.0
 
--- where that block isn't open no line stands in it
+-- where that block isn't open no line is in it
 not_there : (test : SceneLine → Bool) → AreAlone test → (whole : List Placed) (stack : List Opener) (b : ℕ) (p : Placed) → IsStacked whole stack p → HasNot b stack → own_line test b p ≡ None
 not_there test alone whole stack b p s n = not_step test alone whole stack b p s n (test p.form) refl
 
@@ -178,7 +178,7 @@ in_block test alone no_end whole b inner x outer k o c (l ∷ ls) own less n s =
 
 -- ---- before it
 
--- a line that passes stands in a block that was opened before
+-- a line that passes is in a block that was opened before
 abbrev IsLater : (SceneLine → Bool) → ℕ → Placed → Type 0
 IsLater test b p = p.at ≤ b → own_line test b p ≡ None
 

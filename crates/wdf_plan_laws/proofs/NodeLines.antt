@@ -66,7 +66,7 @@ line_told scene e p a =
     let known = (or_parts (unknown_word names p.stand.device p.form) (list_any (unknown_node names (variables_at scene p)) (nodes_of scene p)) a.known).1 in
     nodes_told scene e (variables_at scene p) (nodes_of scene p) known
 
--- ---- where they stand
+-- ---- where they are
 
 piece : {T : Type 0} (all here rest : List T) (base n : ℕ) → drop base all ≡ here ++ rest → length here ≡ n → take n (drop base all) ≡ here
 piece all here rest base n e long = rw e (take_at here rest n long)
@@ -79,7 +79,7 @@ same_long : (scene : Scene) (names : List Declaration) (p : Placed) → length (
 unfolding nodes_on
 same_long scene names p = length-map (nodes_of scene p) (node_of names (variables_at scene p))
 
--- after the nodes of a line stand those of the next
+-- after the nodes of a line come those of the next
 head_after : (base e : ℕ) (h : StatementHead) → nodes_end base (head_line h e) ≡ suc e
 unfolding nodes_end
 head_after base e (head.Let x) = refl
@@ -150,7 +150,7 @@ long_piece xs b n h =
     let e : length (drop b xs) ≡ length xs - b = length-drop b xs in
     length-take-le n (drop b xs) (omega arith)
 
--- the nodes of each line from one on stand in the plan where they stand in the scene
+-- the nodes of each line from one on are in the plan where they are in the scene
 pieces_from : (scene : Scene) (k : ℕ) (o : Stand) (c : Counts) (ls : List NumberedLine) → drop c.nodes (plan_of scene).exprs ≡ flat_map (nodes_on scene (declarations scene)) (placed_from k o c ls) → c.nodes ≤ length scene.exprs → Every (IsSpread scene) (placed_from k o c ls) → Every (λ p. take (node_count p) (drop p.counts.nodes (plan_of scene).exprs) ≡ nodes_on scene (declarations scene) p) (placed_from k o c ls)
 unfolding placed_from counted nodes_of
 pieces_from scene k o c [] is within h = tt

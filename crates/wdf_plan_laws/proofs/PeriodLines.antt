@@ -28,7 +28,7 @@ use Rattle.wdf_plan.proofs.Stacks.{Opener, block_of, IsStacked, AreStacked, AreF
 use Rattle.wdf_plan_laws.specs.Told.{until_end, block_lines, placed_that, Paired, period_told, IsPeriodTold}
 use Rattle.wdf_plan_laws.proofs.Pairs.{Both, paired}
 
--- ---- where a period stands
+-- ---- where a period is
 
 -- a class's block is the only one that is open
 abbrev IsOnly : List Opener → Type 0

@@ -110,7 +110,7 @@ IsPeriodTold scene p (class.Deferred name k parent serialize period) =
 
 -- ---- callbacks and agents, one after another
 
--- the lines with these forms, where they stand
+-- the lines with these forms, where they are
 abbrev pub placed_that : (SceneLine → Bool) → Scene → List Placed
 placed_that test scene = filter_map (λ p. cond (test p.form) (Some p) None) (placed scene)
 

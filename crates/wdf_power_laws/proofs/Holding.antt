@@ -30,7 +30,7 @@ watch plan d i = record {
   interrupt = i;
 }
 
--- what the events tell of where the device stands
+-- what the events say of where the device is
 pub record Told (plan : Plan) (es : List Event) (d i : ℕ) (a : Standing) : Type 0 where
   pub entered : a.entered ≡ true → is_entered plan es d ≡ true
   pub since : (watch plan d i).watched ≡ true → a.since ≡ true → is_enabled_in_power plan es i d ≡ true

@@ -1,4 +1,4 @@
--- The laws of a trace on power and on interrupts, as far as they follow from where devices stand.
+-- The laws of a trace on power and on interrupts, as far as they follow from where devices are.
 use Rattle.std.proofs.Common.{if◌then◌else◌, ◌≡◌, ℕ, ◌==◌, Bool, true, false, not, ◌&&◌, ◌||◌, List, ◌∷◌, ◌⊎◌, inl, inr, Option, Some, None, drop, is_some, slice_get, take, refl, sym, ap, subst, ◌∙◌}
 use Rattle.std.proofs.lemmas.Bool.{eqb-true}
 use Rattle.wdf_base.specs.Meaning.{Meaning}

@@ -61,7 +61,7 @@ module _ (plan : Plan) (es : List Event) (device : Handle) (i : ℕ) where
       and_one true = refl
       and_one false = refl
 
-  -- ---- what the events tell after it
+  -- ---- what the events say after it
 
   told_enabled : (a : Standing) (h : Handle) (mine : Bool) → (h.id.0 == i) ≡ mine → a.entered ≡ true → Told plan es device.id.0 i a
       → Told plan (es ++ event.Stage device stage.Enabled (Some h) ∷ []) device.id.0 i (record a { on = a.on || mine; since = a.since || mine; clean = a.clean && not mine })
@@ -158,7 +158,7 @@ module _ (plan : Plan) (es : List Event) (device : Handle) (i : ℕ) where
   told_by stage.Sleeping j a m k = told_other a (passes w stage.Sleeping j a) (event.Stage device stage.Sleeping j) refl refl refl refl (record { entered = refl; exit = refl; enabled = refl; disabled = refl; up = refl; down = refl }) k
   told_by stage.Removed j a m k = told_other a (passes w stage.Removed j a) (event.Stage device stage.Removed j) refl refl refl refl (record { entered = refl; exit = refl; enabled = refl; disabled = refl; up = refl; down = refl }) k
 
-  -- ---- where the device stands after it
+  -- ---- where the device is after it
 
   record After (s : Stage) (j : Option Handle) (q : Sequence) (p : DevicePower) (enabled : Bool) (a : Standing) : Type 0 where
     steps : (passed s q).steps ≡ q.steps

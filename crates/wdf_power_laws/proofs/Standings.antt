@@ -1,5 +1,5 @@
--- A test that is carried along the steps left of a device: where the device stands, what each step asks for, and how it
--- stands after the step.
+-- A test that is carried along the steps left of a device: where the device is, what each step asks for, and where it
+-- is after the step.
 use Rattle.std.proofs.Common.{◌≡◌, ℕ, Bool, true, false, not, ◌&&◌, ◌||◌, List, [], ◌∷◌, ◌++◌, Option, Some, None, is_some, refl}
 use Rattle.std.specs.Bool.{beq}
 use Rattle.wdf_base.specs.declared.ids.Handle.{Handle}
@@ -22,7 +22,7 @@ pub record Watch : Type 0 where
   pub watched : Bool
   pub interrupt : ℕ
 
--- where the device stands
+-- where the device is
 pub record Standing : Type 0 where
   pub phase : Phase
   pub hardware : Bool

@@ -31,7 +31,7 @@ never_yet : (p : Sign) → ever p [] ≡ false
 unfolding ever
 never_yet p = refl
 
--- what stands now, of a moment
+-- what holds now, of a moment
 moment_now : (p a b : Sign) (es : List Event) (m : Moment) → (fold (moment_step p a b) m es).current ≡ fold (stands_step a b) m.current es
 moment_now p a b [] m = refl
 moment_now p a b (e ∷ es) m = moment_now p a b es (moment_step p a b m e)
@@ -44,7 +44,7 @@ stood_next p a b es e =
 
 -- ---- one sign
 
--- it stands, and what ends it doesn't come
+-- it holds, and what ends it doesn't come
 pub stays : (p q : Sign) (es : List Event) (e : Event) → shows q e ≡ false → stands p q es ≡ true → stands p q (es ++ e ∷ []) ≡ true
 stays p q es e n h = stands_next p q es e ∙ second (shows p e) (stands p q es && not (shows q e)) (rw (h, n) refl)
 

@@ -26,7 +26,7 @@ pub fn steps_and_power_agree<A>()
 {}
 
 /// In every run of a resolved plan, a power-managed queue presents a request only while its device has power, as the
-/// events before tell it.
+/// events before say.
 pub fn runs_present_with_power<A>()
     ensures { (plan : Plan) (m : Meaning A) (run : List Event) (k : ℕ) (e : Event) → IsResolved plan → IsRunOf plan m run
         → slice_get run k ≡ Some e → presented_with_power plan (take k run) (presented e) ≡ true }
@@ -48,7 +48,7 @@ pub fn runs_disable_after_enabled<A>()
 {}
 
 /// In every run of a resolved plan, EvtIoQueueState begins on a power-managed queue only while its device has power, as
-/// the events before tell it.
+/// the events before say.
 pub fn runs_notify_with_power<A>()
     ensures { (plan : Plan) (m : Meaning A) (run : List Event) (k : ℕ) (cpu : Cpu) (o : Handle) (r : Option Handle) → IsResolved plan → IsRunOf plan m run
         → slice_get run k ≡ Some (event.Start cpu callback.EvtIoQueueState o r) → has_power plan (take k run) (queue_of plan o.id.0) ≡ true }

@@ -22,14 +22,14 @@ pub fn requests_and_power_agree<A>()
 {}
 
 /// In every run of a resolved plan, EvtIoCanceledOnQueue begins on a power-managed queue only while its device has power,
-/// as the events before tell it.
+/// as the events before say.
 pub fn runs_return_with_power<A>()
     ensures { (plan : Plan) (m : Meaning A) (run : List Event) (k : ℕ) (cpu : Cpu) (o : Handle) (r : Option Handle) → IsResolved plan → IsRunOf plan m run
         → slice_get run k ≡ Some (event.Start cpu callback.EvtIoCanceledOnQueue o r) → has_power plan (take k run) (queue_of plan o.id.0) ≡ true }
 {}
 
 /// In every run of a resolved plan, EvtIoResume begins on a power-managed queue only while its device has power, as the
-/// events before tell it.
+/// events before say.
 pub fn runs_resume_with_power<A>()
     ensures { (plan : Plan) (m : Meaning A) (run : List Event) (k : ℕ) (cpu : Cpu) (o : Handle) (r : Option Handle) → IsResolved plan → IsRunOf plan m run
         → slice_get run k ≡ Some (event.Start cpu callback.EvtIoResume o r) → has_power plan (take k run) (queue_of plan o.id.0) ≡ true }

@@ -1,4 +1,4 @@
--- Lists in which nothing stands twice.
+-- Lists in which nothing comes twice.
 use Rattle.std.proofs.Common.{if◌then◌else◌, ◌≡◌, ℕ, zero, suc, ◌+◌, ◌==◌, ◌<◌, ◌≤◌, Bool, true, false, not, List, [], ◌∷◌, ◌++◌, Option, Some, None, map, filter, count_by, filter_map, slice_get, refl, sym, ap, subst, ◌∙◌, arith, eq-eqb}
 use Rattle.std.specs.Prelude.{⊤}
 use Rattle.std.specs.List.{cons_option, flat_map, list_any, range_with_len}
@@ -14,7 +14,7 @@ abbrev pub OnceBy : {T K : Type 0} → (T → K) → List T → Type 0
 OnceBy key [] = ⊤
 OnceBy key (x ∷ xs) = Each (λ y. key x ≡ key y → ⊥) xs × OnceBy key xs
 
--- nothing stands twice
+-- nothing comes twice
 abbrev pub Once : {T : Type 0} → List T → Type 0
 Once xs = OnceBy (λ x. x) xs
 
@@ -102,7 +102,7 @@ once_tested k (x ∷ xs) h =
     let n : list_any (λ y. k x == k y) xs ≡ false = not_true (list_any (λ y. k x == k y) xs) (both_left (not (list_any (λ y. k x == k y) xs)) (all_differ (λ x y. k x == k y) xs) h) in
     (no_other k x xs n, once_tested k xs (both_right (not (list_any (λ y. k x == k y) xs)) (all_differ (λ x y. k x == k y) xs) h))
 
--- ---- what stands at places
+-- ---- what is at places
 
 placed_by : {T : Type 0} (P : T → Type 0) (o : Option T) (ys : List T) → ((y : T) → o ≡ Some y → P y) → Each P ys
     → Each P (cons_option o ys)
@@ -120,7 +120,7 @@ first_once : {T : Type 0} (o : Option T) (ys : List T) → ((x : T) → o ≡ So
 first_once None ys h k = k
 first_once (Some x) ys h k = (h x refl, k)
 
--- what stands at one place only
+-- what is at one place only
 pub once_placed : {T : Type 0} (c : ℕ → Option T) (a n : ℕ) → ((j k : ℕ) (e : T) → j < a + n → k < a + n → c j ≡ Some e → c k ≡ Some e → j ≡ k) → Once (filter_map c (range_with_len a n))
 once_placed c a zero h = tt
 once_placed {T} c a (suc n) h =

@@ -1,4 +1,4 @@
--- Each candidate tells its group, and its place in it.
+-- Each candidate gives its group, and its place in it.
 use Rattle.std.proofs.Common.{if◌then◌else◌, ◌≡◌, ℕ, ◌==◌, ◌<◌, ◌≤◌, Bool, true, false, List, Option, Some, None, is_some, count_by, option_map, option_and_then, slice_get, refl, sym, ap, subst, ◌∙◌, arith}
 use Rattle.std.specs.List.{flat_map}
 use Rattle.std.proofs.lemmas.Bool.{eqb-true}
@@ -56,7 +56,7 @@ use Rattle.wdf_ready_once.specs.Owned.{IsStepOf, QueuedOnce, StepsOwned}
 use Rattle.wdf_ready_once.proofs.GroupsOnce.{groups_known, groups_once, is_known_group, is_rank_for}
 use Rattle.wdf_ready_once.proofs.OnceEach.{Once, counted_once, each_placed, once_flat, once_placed}
 
--- ---- what an event tells
+-- ---- what an event gives
 
 abbrev start_group : ℕ → Rank → ℕ → Group
 start_group cpu r o = if is_rank_for r then group.StartsFor cpu r o else group.Starts cpu r

@@ -114,7 +114,7 @@ every_both P Q (x ∷ xs) h g = ((h.0, g.0), every_both P Q xs h.1 g.1)
 
 -- ---- places
 
--- what stands at place n after the first j
+-- what is at place n after the first j
 pub drop_get : {T : Type 0} (xs : List T) (j n m : ℕ) (x : T) → m ≡ j + n → slice_get xs m ≡ Some x → slice_get (drop j xs) n ≡ Some x
 drop_get [] j n m x i e = absurd (let z : ⊥ = cc in z)
 drop_get (y ∷ ys) zero n m x i e =

@@ -19,11 +19,11 @@ lost : (forms : List SceneLine) → after_lines None forms ≡ None
 lost [] = refl
 lost (f ∷ fs) = lost fs
 
--- after a line that may not stand there no text ends
+-- after a line that may not come there no text ends
 gone : (forms : List SceneLine) → IsSomeAnd (after_lines None forms) (λ q. IsTrue (is_outside q)) → ⊥
 gone forms h = rw (lost forms) at h
 
--- where a text goes on after a line, the line may stand there
+-- where a text goes on after a line, the line may come there
 pub stood : (q : Position) (form : SceneLine) (forms : List SceneLine) (b : Bool) → may_stand q form ≡ b → IsSomeAnd (after_lines (cond b (Some (moved q form)) None) forms) (λ x. IsTrue (is_outside x)) → (may_stand q form ≡ true) × Ends (moved q form) forms
 stood q form forms true e h = (e, h)
 stood q form forms false e h = absurd (gone forms h)

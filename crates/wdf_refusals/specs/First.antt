@@ -37,7 +37,7 @@ refused scene names variables p =
     (option_or (if_holds (incompatible_level scene names p p.form) (refusal.IncompatibleLevel p.number))
     (if_holds (no_parent names p.form) (refusal.NoParent p.number))))))
 
--- the refusal of a line where it stands in the scene
+-- the refusal of a line where it is in the scene
 unfoldable pub refused_at : Scene → Placed → Option PlanRefusal
 refused_at scene p = refused scene (declarations scene) (variables_at scene p) p
 

@@ -27,7 +27,7 @@ unfoldable pub over_objects : List Declaration → SceneLine → Bool
 over_objects names (line.Objects n) = not (is_from 1 4096 n) || nat_le n (object_count names)
 over_objects names _ = false
 
--- so many of a sort stand before a line of that sort
+-- so many of a sort come before a line of that sort
 abbrev pub is_one_too_many : Bool → ℕ → ℕ → Bool
 is_one_too_many is bound before = is && nat_le bound before
 
@@ -90,7 +90,7 @@ exceeds names variables p limit.Ticks = over_ticks p.form
 unfoldable pub exceeded : List Declaration → List (List ℕ) → Placed → Option Limit
 exceeded names variables p = find (exceeds names variables p) LIMITS
 
--- the word by which a refusal tells a limit
+-- the word by which a refusal names a limit
 abbrev pub limit_word : Limit → List ℕ
 limit_word limit.Cpus = codes "cpus"
 limit_word limit.Limit = codes "limit"

@@ -18,7 +18,7 @@ use Rattle.wdf_replay.specs.declared.verdict.Verdict.TheVariants.{Accepted, Refu
 use Rattle.wdf_replay.specs.Lines.{fed, trace_lines}
 use Rattle.wdf_replay.specs.Texts.{text_of, event_lines, end_lines, lines_so_far}
 
--- the event stands among these
+-- the event is among these
 abbrev pub IsAmong : Event → List Event → Type 0
 IsAmong event events = (place : ℕ) × (slice_get events place ≡ Some event)
 

@@ -1,5 +1,5 @@
 -- EvtRequestCancel begins once for a request, which was cancelled while marked: each event keeps how the marks go with
--- what the events tell.
+-- what the events say.
 use Rattle.std.proofs.Common.{if◌then◌else◌, ◌≡◌, ℕ, ◌<◌, Bool, true, false, not, ◌&&◌, ◌||◌, List, [], ◌∷◌, ◌++◌, ◌⊎◌, inl, inr, Some, length, refl, sym, ap, subst, ◌∙◌}
 use Rattle.std.proofs.lemmas.Bool.{cases_Bool, eqb-true, or_cases}
 use Rattle.std.proofs.lemmas.List.Sums.{fold-append}
@@ -65,7 +65,7 @@ was_posted x es = ever (sign.CancelPosted x) es
 abbrev pub has_begun : ℕ → List Event → Bool
 has_begun x es = ever (sign.CancelBegins x) es
 
--- each request goes with what the events tell of it
+-- each request goes with what the events say of it
 abbrev pub AllGo : List Event → Requests → Type 0
 AllGo es R = (x : ℕ) → GoesAt (marks_stand x es) (was_posted x es) (has_begun x es) R x
 

@@ -1,4 +1,4 @@
--- At each place of every run, the marks go with what the events tell; so EvtRequestCancel begins once, for a request that
+-- At each place of every run, the marks go with what the events say; so EvtRequestCancel begins once, for a request that
 -- was cancelled while marked.
 use Rattle.std.proofs.Common.{if◌then◌else◌, ◌≡◌, ℕ, ◌+◌, ◌==◌, ◌<◌, ◌≤◌, Bool, true, false, not, ◌&&◌, List, [], ◌∷◌, ◌++◌, ◌⊎◌, inl, inr, Option, Some, None, option_map, length, take, slice_get, refl, sym, ap, subst, ◌∙◌, arith}
 use Rattle.std.proofs.lemmas.Bool.{cases_Bool, eqb-true}
@@ -88,7 +88,7 @@ waits_quietly plan S call.WdfRequestForwardToIoQueue n a b x h = absurd (let z :
 waits_quietly plan S call.WdfRequestStopAcknowledge n a b x h = absurd (let z : ⊥ = cc in z)
 waits_quietly plan S _ n a b x h = refl
 
--- ---- events that tell nothing of marks
+-- ---- events that say nothing of marks
 
 calm : {A : Type 0} {F B : ℕ → Bool} (plan : Plan) (m : Meaning A) (es : List Event) (S : State A) (e : Event) → is_loud_event e ≡ false → ((x : ℕ) → shows (sign.MarkUndone x) e ≡ false)
     → ((x : ℕ) → shows (sign.CancelBegins x) e ≡ true → Begun (after plan m S e).requests x) → may plan m S e ≡ true → KeptIn F B S → AllGo es S.requests → AllGo (es ++ e ∷ []) (after plan m S e).requests

@@ -1,4 +1,4 @@
--- What each event does to the lines of waiting requests: they shrink, or the request that the event tells enters one.
+-- What each event does to the lines of waiting requests: they shrink, or the request that the event gives enters one.
 use Rattle.std.proofs.Common.{if◌then◌else◌, ◌≡◌, ℕ, ◌+◌, ◌==◌, Bool, true, false, not, ◌&&◌, ◌||◌, List, [], ◌∷◌, ◌++◌, ◌⊎◌, inl, inr, Option, Some, None, count_by, refl, sym, ap, subst, ◌∙◌}
 use Rattle.std.proofs.lemmas.Bool.{eqb-true, or_cases}
 use Rattle.std.specs.List.{list_all}
@@ -62,7 +62,7 @@ use Rattle.wdf_request_laws.proofs.Gives.{given_first}
 use Rattle.wdf_request_laws.proofs.Cancels.{named, where_told}
 use Rattle.wdf_request_laws.proofs.CancelsOverRuns.{waits_quietly}
 
--- a line shrinks, or the request that the event tells enters it at its head or at its tail
+-- a line shrinks, or the request that the event gives enters it at its head or at its tail
 abbrev pub LineStep : Event → List ℕ → List ℕ → Type 0
 LineStep e xs ys =
     Shrinks xs ys ⊎ (((r : ℕ) × (headed e ≡ Some r) × (ys ≡ r ∷ xs)) ⊎ ((r : ℕ) × (tailed e ≡ Some r) × (headed e ≡ None) × (ys ≡ xs ++ r ∷ [])))

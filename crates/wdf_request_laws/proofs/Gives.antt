@@ -34,7 +34,7 @@ use Rattle.wdf_agreements.proofs.ReasonsOfCalls.{call_of}
 use Rattle.wdf_request_laws.proofs.Quiet.{outcome_none}
 use Rattle.wdf_request_laws.proofs.Marks.{StillGoes, deed_still, deeds_still, completed_requests, enters_at_head, enters_at_tail, gives_back, is_armed, moves, withdrawn_unmarked}
 
--- What is done keeps how the marks go with what the events tell; and where the answer passes a test, this request has no
+-- What is done keeps how the marks go with what the events say; and where the answer passes a test, this request has no
 -- mark after it.
 pub record Gives {A : Type 0} (plan : Plan) (S : State A) (o : Outcome) (r : ℕ) (t : Value → Bool) : Type 0 where
   pub still : StillGoes S.requests (do_deeds plan o.deeds S).requests

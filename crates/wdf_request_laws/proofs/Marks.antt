@@ -1,4 +1,4 @@
--- How a request's mark goes with what the events tell of it: what each deed keeps, but for those that mark, cancel or
+-- How a request's mark goes with what the events say of it: what each deed keeps, but for those that mark, cancel or
 -- complete a request.
 use Rattle.std.proofs.Common.{if◌then◌else◌, ◌≡◌, ◌≢◌, ℕ, ◌+◌, ◌==◌, ◌<◌, ◌≤◌, Bool, true, false, not, ◌&&◌, List, [], ◌∷◌, ◌⊎◌, inl, inr, is_some, length, count_by, drop, map, fold, refl, sym, ap, subst, ◌∙◌, arith}
 use Rattle.std.proofs.lemmas.Bool.{cases_Bool}
@@ -44,13 +44,13 @@ is_armed marks.Marked = true
 is_armed marks.Due = true
 is_armed _ = false
 
--- a mark is one that the events tell: m says that a good marking stands, and c that a cancel was posted
+-- a mark is one that the events give: m says that a good marking holds, and c that a cancel was posted
 abbrev pub is_told : Bool → Bool → Mark → Bool
 is_told m c marks.Marked = m
 is_told m c marks.Due = m && c
 is_told m c _ = true
 
--- A mark of a request at a place, cancelled or not, goes with what the events tell; b says that its EvtRequestCancel began.
+-- A mark of a request at a place, cancelled or not, goes with what the events say; b says that its EvtRequestCancel began.
 pub record Goes (m c b : Bool) (p : Place) (k : Mark) (z : Bool) : Type 0 where
   pub told : is_told m c k ≡ true
   pub owned : is_armed k ≡ true → is_owned p ≡ true
@@ -137,7 +137,7 @@ pub record GoesAt (m c b : Bool) (R : Requests) (r : ℕ) : Type 0 where
   -- a request whose EvtRequestCancel began has its entry
   pub there : b ≡ true → r < length R.all
 
--- whatever the events tell of each request, it goes with what was, and with what is
+-- whatever the events say of each request, it goes with what was, and with what is
 abbrev pub StillGoes : Requests → Requests → Type 0
 StillGoes R U = (m c b : Bool) (x : ℕ) → GoesAt m c b R x → GoesAt m c b U x
 

@@ -26,7 +26,7 @@ use Rattle.wdf_request_laws.proofs.Lines.{Line, all_at_tail, all_more, all_such,
 use Rattle.wdf_request_laws.proofs.Standing.{stands_no_more, stays_standing}
 use Rattle.wdf_request_laws.proofs.Entries.{LineStep, LineSteps, either_steps}
 
--- ---- words of requests that an event doesn't tell
+-- ---- words of requests that an event doesn't give
 
 abbrev pub entered : List Event → ℕ → Bool
 entered es x = ever (sign.Entry x) es
@@ -58,7 +58,7 @@ same_followed p q es e h k = rw (same_ever p es e h, same_stands p q es e h k) r
 abbrev order_by : Bool → Bool → Bool → Bool → Bool
 order_by a b c d = if a then not b || c else not b && d
 
--- the order of two requests that an event doesn't tell is as before
+-- the order of two requests that an event doesn't give is as before
 same_order : (es : List Event) (e : Event) (x y : ℕ) → is_new e x ≡ true → is_new e y ≡ true → is_in_order (es ++ e ∷ []) x y ≡ is_in_order es x y
 same_order es e x y n m =
     let u : (shows (sign.Entry x) e ≡ false) × (shows (sign.AtHead x) e ≡ false) = untold e x n in

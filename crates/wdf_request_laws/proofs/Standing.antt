@@ -1,4 +1,4 @@
--- What one event more makes of a word that stands.
+-- What one event more makes of a word that holds.
 use Rattle.std.proofs.Common.{◌≡◌, Bool, true, false, not, ◌&&◌, ◌||◌, refl}
 
 -- an event that shows neither sign

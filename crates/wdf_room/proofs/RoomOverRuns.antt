@@ -1,4 +1,4 @@
--- The room is kept at each place of every run, and each event that may follow can be done: the induction
+-- The room is kept at each place of every run, and each event that may follow can be done. This is the induction
 -- along runs, from what an event grows and from the table of what its deeds ask.
 use Rattle.std.proofs.Common.{◌≡◌, ℕ, true, List, [], ◌⊎◌, inl, inr, Some, length, take, slice_get, refl, sym, subst}
 use Rattle.std.proofs.Math.Seq.{take-length}

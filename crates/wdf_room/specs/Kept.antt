@@ -1,4 +1,4 @@
--- What is so at each place of every run, and gives each deed its room: the tables keep their sizes, what
+-- What is so at each place of every run, and gives each deed its room. The tables keep their sizes, what
 -- grows does so by one an event at most, and what is named is there. (own)
 use Rattle.std.specs.Prelude.{◌≡◌, ℕ, suc, ◌+◌, ◌<◌, ◌≤◌, true, ⊤, length, Option, Some, None, All}
 use Rattle.wdf_base.specs.declared.plan.Plan.{Plan}

@@ -37,7 +37,7 @@ pub enum Refusal {
 }
 
 impl Refusal {
-    /// The line that tells the refusal, with its line feed.
+    /// The line that gives the refusal, with its line feed.
     pub fn line(self) -> Message
         ensures { result ≡ refusal_line self }
     {

@@ -1,4 +1,4 @@
--- A write of a changed item, and a write of the item that stands there.
+-- A write of a changed item, and a write of the item that is there.
 use Rattle.std.proofs.Common.{◌≡◌, ℕ, zero, suc, ◌-◌, Bool, true, false, cond, List, [], ◌∷◌, ◌++◌, length, slice_get, slice_set, Some, refl, ap, ◌∙◌}
 use Rattle.wdf_base.specs.declared.declared.PostLine.{PostLine}
 use Rattle.wdf_base.specs.declared.script.AgentInfo.{AgentInfo}

@@ -1,4 +1,4 @@
--- Which lines may stand where: what a line does to the blocks that are open.
+-- Which lines may come where: what a line does to the blocks that are open.
 use Rattle.std.specs.Prelude.{Bool, true, false, ℕ, ◌==◌, ◌&&◌, not, nat_lt, List, [], ◌∷◌, length, drop, Option, Some, None, option_map, IsSomeAnd, IsTrue, if◌then◌else◌}
 use Rattle.std.specs.List.{take_while}
 use Rattle.std.specs.Option.{is_none, option_and_then}
@@ -9,9 +9,9 @@ use Rattle.wdf_scene.specs.declared.line.InterruptLevel.TheVariants as level
 use Rattle.wdf_scene.specs.declared.line.SceneLine.{SceneLine}
 use Rattle.wdf_scene.specs.declared.line.SceneLine.TheVariants as line
 
--- where the text stands between two lines
+-- where the text is between two lines
 pub record Position : Type 0 where
-  -- 1, or 2 behind `version 2`
+  -- 1, or 2 after `version 2`
   pub version : ℕ
   -- how many of the first three lines were seen
   pub headers : ℕ
@@ -92,7 +92,7 @@ in_branch (Some block.Else) = true
 in_branch (Some block.Repeat) = true
 in_branch _ = false
 
--- where a statement may stand
+-- where a statement may come
 abbrev pub in_callback : Option Block → Bool
 in_callback (Some block.On) = true
 in_callback b = in_branch b
@@ -101,7 +101,7 @@ in_callback b = in_branch b
 abbrev pub nesting : List Block → ℕ
 nesting blocks = length (take_while (λ b. in_branch (Some b)) blocks)
 
--- where a statement that opens a block may stand: at most 16 of them are open at a time
+-- where a statement that opens a block may come: at most 16 of them are open at a time
 abbrev pub may_nest : List Block → Bool
 may_nest blocks = in_callback (innermost blocks) && nat_lt (nesting blocks) 16
 
@@ -110,7 +110,7 @@ abbrev pub has_level : ℕ → InterruptLevel → Bool
 has_level version (level.Numbered n) = true
 has_level version level.AtPassive = version == 2
 
--- whether a line may stand at a position
+-- whether a line may come at a position
 abbrev pub may_stand : Position → SceneLine → Bool
 may_stand p (line.Cpus n) = p.headers == 0
 may_stand p (line.Limit n) = p.headers == 1
@@ -195,20 +195,20 @@ noted p line.Pnp = record p { pnp = true }
 noted p line.Order = record p { order = true }
 noted p _ = p
 
--- the position after a line that may stand there
+-- the position after a line that may come there
 abbrev pub moved : Position → SceneLine → Position
 moved p form = record (noted p form) { blocks = blocks_after p.blocks form }
 
--- the position after a line, if the line may stand there
+-- the position after a line, if the line may come there
 abbrev pub after_line : Position → SceneLine → Option Position
 after_line p form = if may_stand p form then Some (moved p form) else None
 
--- the position after some lines, if each may stand where it does
+-- the position after some lines, if each may come where it does
 abbrev pub after_lines : Option Position → List SceneLine → Option Position
 after_lines p [] = p
 after_lines p (form ∷ forms) = after_lines (option_and_then (λ q. after_line q form) p) forms
 
--- the lines of a text: each may stand where it does, and in the end no block is open
+-- the lines of a text: each may come where it does, and in the end no block is open
 abbrev pub IsWhole : ℕ → List SceneLine → Type 0
 IsWhole version forms = IsSomeAnd (after_lines (Some (front version)) forms) (λ p. IsTrue (is_outside p))
 

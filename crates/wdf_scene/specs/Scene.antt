@@ -1,4 +1,4 @@
--- What a scene tells, by number, and how a pick is added to it.
+-- What a scene says, by number, and how a pick is added to it.
 use Rattle.std.specs.Prelude.{◌≡◌, ℕ, ◌-◌, List, [], ◌∷◌, ◌++◌, length, Option, Some, None, slice_get, IsSomeAnd}
 use Rattle.wdf_scene.specs.declared.line.NumberedLine.{NumberedLine}
 use Rattle.wdf_scene.specs.declared.line.SceneLine.TheVariants as line

@@ -46,7 +46,7 @@ pub data Argument : Type 0 where
 pub data Written : Type 0 where
   -- a form without expressions and picks
   Plain : SceneLine → Written
-  -- the numbers behind `picks`
+  -- the numbers after `picks`
   Picked : List ℕ → Written
   -- a statement with one expression
   Single : StatementHead → Tree → Written
@@ -136,7 +136,7 @@ written_size (Single h t) = size t
 written_size (Calling kind into a b c) = argument_size a + argument_size b + argument_size c
 written_size _ = 0
 
--- the numbers behind `picks`
+-- the numbers after `picks`
 abbrev pub picks_in : Written → List ℕ
 picks_in (Picked ns) = ns
 picks_in _ = []
@@ -182,7 +182,7 @@ pub record WrittenLine : Type 0 where
   pub number : ℕ
   pub written : Written
 
--- the lines of a scene, and the nodes of their expressions: each node stands once, in the order of the text
+-- the lines of a scene, and the nodes of their expressions: each node comes once, in the order of the text
 abbrev pub lines_at : ℕ → List WrittenLine → List NumberedLine
 lines_at base [] = []
 lines_at base (w ∷ ws) =
@@ -196,7 +196,7 @@ exprs_at base (w ∷ ws) = nodes_at base w.written ++ exprs_at (base + written_s
 abbrev pub scene_of : ℕ → List WrittenLine → Scene
 scene_of v ws = record { version = v; lines = lines_at 0 ws; exprs = exprs_at 0 ws }
 
--- each line is one of the language and stands where it may
+-- each line is one of the language and comes where it may
 pub record AreLines (version : ℕ) (ws : List WrittenLine) : Type 0 where
   pub known : (version ≡ 1) ⊎ (version ≡ 2)
   pub written : IsTrue (list_all (λ w. is_written w.written) ws)

@@ -46,7 +46,7 @@ pub enum SceneExpr {
     },
 }
 
-/// What stands before the one expression of a statement.
+/// What comes before the one expression of a statement.
 #[derive(Clone, Copy, Debug, PartialEq, Eq)]
 pub enum StatementHead {
     Let(Name),

@@ -4,7 +4,7 @@ ghost use Rattle.wdf_scene.specs.Scene.{picks_of};
 use crate::line::{NumberedLine, SceneExpr, SceneLine};
 use wdf_base::{Items, MANY};
 
-/// A scenario as the lines of its text. A block's lines stand between its first line and its `end`.
+/// A scenario as the lines of its text. A block's lines are between its first line and its `end`.
 #[derive(Debug, Drop)]
 pub struct Scene {
     /// The version of the text: 1, or 2 where it begins with `version 2`.

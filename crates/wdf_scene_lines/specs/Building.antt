@@ -25,7 +25,7 @@ pub record BuildsTree (t : Tree) (rest : List Token) (e : ℕ) (left : List Toke
   pub number : e ≡ root (next_node old) t
   pub built : new ≡ with_nodes old (nodes (next_node old) t)
 
--- an answer tells what is read, or that nothing is
+-- an answer says what is read, or that nothing is
 abbrev pub IsTreeRead : TreeReading → Option ℕ → List Token → Scene → Scene → Type 0
 IsTreeRead NoTree None left old new = Unit {0}
 IsTreeRead (TreeBefore t rest) (Some e) left old new = BuildsTree t rest e left old new
@@ -61,7 +61,7 @@ abbrev pub form_line : Form → SceneLine
 form_line (form.Line l) = l
 form_line form.Picked = line.Picks
 
--- its picks, where these tokens stand after the first word
+-- its picks, where these tokens come after the first word
 abbrev pub form_picks : Form → List Token → List ℕ
 form_picks (form.Line l) ts = []
 form_picks form.Picked ts = map number_in ts

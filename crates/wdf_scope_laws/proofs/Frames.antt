@@ -1,5 +1,5 @@
--- What events tell of frames is what the processors have, and each frame that is there holds its lock: at each place of every
--- run.
+-- What events say of frames is what the processors have, and each frame that is there holds its lock: at each place of
+-- every run.
 use Rattle.std.proofs.Common.{◌≡◌, ℕ, ◌≢◌, zero, suc, ◌+◌, ◌==◌, ◌≤◌, Bool, true, false, not, ◌&&◌, List, [], ◌∷◌, ◌++◌, ◌⊎◌, inl, inr, Option, Some, None, count_by, drop, length, option_map, replicate, slice_get, take, refl, sym, ap, subst, ◌∙◌, arith, length-append}
 use Rattle.std.proofs.lemmas.Bool.{cases_Bool, eqb-true}
 use Rattle.std.proofs.lemmas.Grind.{fold-append}
@@ -75,7 +75,7 @@ use Rattle.wdf_agreements.proofs.Keeping.{at_the_end}
 abbrev pub IsBegun : {A : Type 0} → State A → Begun → Type 0
 IsBegun S b = (1 ≤ on S.cpus b.frame) × ((frame_of S.cpus b.frame).callback ≡ b.callback) × ((frame_of S.cpus b.frame).object.id.0 ≡ b.object)
 
--- What events tell of frames is what the processors have, and frames hold their locks.
+-- What events say of frames is what the processors have, and frames hold their locks.
 pub record Agrees {A : Type 0} (plan : Plan) (ss : List Stacked) (bs : List Begun) (S : State A) : Type 0 where
   pub stacks : (cpu : ℕ) → told_stack cpu ss ≡ stack_of S.cpus cpu
   pub begun : Each (IsBegun S) bs
@@ -423,7 +423,7 @@ number_step F _ = refl
 
 -- ---- each place of a run
 
--- what events tell of frames, after some of them
+-- what events say of frames, after some of them
 pub record AgreesAfter {A : Type 0} (plan : Plan) (es : List Event) (S : State A) : Type 0 where
   pub number : (frames_after es).number ≡ length es
   pub agrees : Agrees plan (frames_after es).stacks (frames_after es).begun S

@@ -137,7 +137,7 @@ not_later {A} plan m run k x t is_run there none is = elim (first plan run x) [
           let z : ⊥ = cc in z
     ]
 
--- ---- the scope that events tell is the state's
+-- ---- the scope that events give is the state's
 
 none_scope : (plan : Plan) (k : CallbackLock) (o : ℕ) → scope_needed plan k o None ≡ None
 none_scope plan callback_lock.NoLock o = refl
@@ -149,7 +149,7 @@ own_scope plan callback_lock.NoLock o d s h = absurd (let z : ⊥ = cc in z)
 own_scope plan callback_lock.ParentScope o d s h = h
 own_scope plan callback_lock.QueueLock o d s h = h
 
--- what an object that is there is in the plan, as all events tell it, is what it is in the state, or nothing tells it
+-- what an object that is there is in the plan, as all events give it, is what it is in the state, or nothing gives it
 same_made : {A : Type 0} (plan : Plan) (m : Meaning A) (run : List Event) (k x : ℕ) → IsResolved plan → IsRunOf plan m run → is_gone (life_of (state_after plan m (take k run)).tree x) ≡ false
     → (law.made_as plan run x ≡ declared_in plan (state_after plan m (take k run)) x) ⊎ (law.made_as plan run x ≡ None)
 same_made {A} plan m run k x resolved is_run there =

@@ -12,7 +12,7 @@ use Rattle.wdf_base.specs.declared.script.Act.TheVariants as act
 use Rattle.wdf_base.specs.declared.script.Statement.{Statement}
 use Rattle.wdf_model.specs.rules.Script.{value_of}
 
--- what stands alone in an expression
+-- what is alone in an expression
 abbrev pub is_atom : ExprNode → Bool
 is_atom (node.Binary op left right) = false
 is_atom _ = true

@@ -1,4 +1,4 @@
-//! Driver scripts: what the statement does at which a frame stands, with its expressions evaluated.
+//! Driver scripts: what the statement does at which a frame is, with its expressions evaluated.
 //! It takes no memory, and any plan and any frame will do.
 #![tactic(auto)]
 

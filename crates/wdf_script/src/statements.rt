@@ -1,4 +1,4 @@
-//! What the statement does at which a frame stands.
+//! What the statement does at which a frame is.
 ghost use Rattle.std.specs.Prelude.{◌≡◌, unwrap_or, option_map, slice_get};
 ghost use Rattle.wdf_model.specs.rules.Script as script;
 
@@ -122,7 +122,7 @@ fn act_intent(plan: &Plan, frame: &Frame, next: u32, act: Act) -> Intent
     }
 }
 
-/// The statement at which a frame stands, none at the callback's end.
+/// The statement at which a frame is, none at the callback's end.
 pub fn statement_at(plan: &Plan, frame: &Frame) -> Option<Statement>
     ensures { result ≡ script.statement_at plan.now frame.now }
 {
@@ -133,7 +133,7 @@ pub fn statement_at(plan: &Plan, frame: &Frame) -> Option<Statement>
     }
 }
 
-/// What the statement does at which a frame stands; at the callback's end it returns SUCCESS.
+/// What the statement does at which a frame is; at the callback's end it returns SUCCESS.
 pub fn next(plan: &Plan, frame: &Frame) -> Intent
     ensures { result ≡ script.intent_of plan.now frame.now }
 {
@@ -154,7 +154,7 @@ fn end_line(plan: &Plan, frame: &Frame) -> u32
     }
 }
 
-/// The line that is told of a step or a fault of a frame: that of the statement at which it stands, and
+/// The line that is told of a step or a fault of a frame: that of the statement at which it is, and
 /// at the callback's end that of its `on`.
 pub fn line_of(plan: &Plan, frame: &Frame) -> u32
     ensures { result ≡ script.line_of plan.now frame.now }

@@ -53,7 +53,7 @@ pub const FRAME: Frame = Frame {
     pending: None,
 };
 
-/// A plan with these nodes, and one script, whose `on` stands at line 10.
+/// A plan with these nodes, and one script, whose `on` is at line 10.
 pub fn plan_of(
     alloc: Global,
     exprs: Items<ExprNode, MANY>,

@@ -123,7 +123,7 @@ no_plan_always false form s k answer told h = given.no_plan_by (service_of form)
 
 -- ---- a plan
 
--- what `run` answers to an input for which a plan stands is the text of some run of it
+-- what `run` answers to an input that has a plan is the text of some run of it
 plan_run : (input : List ℕ) (plan : Plan) → HasPlan input plan → (text : List ℕ) (status : ℕ) → RunsByThreads input text status → IsSomeTrace plan text status
 plan_run input plan has text status (inl (inl r)) = absurd (r.1 has.0 has.1)
 plan_run input plan has text status (inl (inr r)) = absurd (given.two_plans input r.0 r.1 has.0 has.1 has.2)

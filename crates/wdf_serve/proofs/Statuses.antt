@@ -65,7 +65,7 @@ pub run_never : (n : ℕ) (s : Sourcing) (k : Sinking) (answer : ℕ) → is_run
 run_never n s k answer fails other (text, status, due, inl said) same = differs is_run_status n status fails (run_status s text status due) (sym said.0 ∙ same)
 run_never n s k answer fails other (text, status, due, inr said) same = other (sym same ∙ said.0)
 
--- what is told without an answer to the input is what `check` would tell
+-- what is said without an answer to the input is what `check` would say
 pub as_check : (n : ℕ) (s : Sourcing) (k : Sinking) (answer : ℕ) → is_answer_status n ≡ false → n ≢ 13 → TellsByThreads s k answer → answer ≡ n → Tells Canonical s k answer
 as_check n s k answer fails other (text, status, inl h, inl said) same = absurd (differs is_answer_status n status fails (run_answers h.0 text status h.2) (sym said.0 ∙ same))
 as_check n s k answer fails other (text, status, inr h, inl said) same = (text, status, inr h, inl said)

@@ -1,4 +1,4 @@
--- What `run` tells, from what was read and from what became of the plan.
+-- What `run` says, from what was read and from what became of the plan.
 use Rattle.std.proofs.Common.{ℕ, ◌≡◌, inl, inr, List, refl, subst}
 use Rattle.wdf_base.specs.declared.plan.Plan.{Plan}
 use Rattle.wdf_base.specs.declared.event.Event.{Event}

@@ -25,7 +25,7 @@ pub record Promises (words : List (List ℕ)) (s : Sourcing) (k : Sinking) (answ
   -- machine from the opening of the whole input's plan. That run has ended, the status is its ending's, and it keeps the
   -- nine laws of a trace.
   pub headline : IsTrue (writes_run words) → IsTrue (is_end_status answer) → WroteSomeRun s k answer
-  -- Which ending each of them tells.
+  -- Which ending each of them says.
   pub finished : IsTrue (writes_run words) → answer ≡ 0 → WroteRunTo s k 0 ending.Finished
   pub fault : IsTrue (writes_run words) → answer ≡ 3 → (f : Fault) × WroteRunTo s k 3 (ending.Fault f)
   pub stuck : IsTrue (writes_run words) → answer ≡ 4 → WroteRunTo s k 4 ending.Stuck
@@ -42,7 +42,7 @@ pub record Promises (words : List (List ℕ)) (s : Sourcing) (k : Sinking) (answ
   -- For all other words, what the top call without threads promises: of `check`, `order`, `seed N`, `replay`, `gen N` and
   -- `load N`, each with what it writes, and of words of no form.
   pub plain : is_run words ≡ false → PlainPromises (form_of_words words) s k answer
-  -- 6 comes only for `replay`, where a line of the trace is bad, and tells the first such line with its reason.
+  -- 6 comes only for `replay`, where a line of the trace is bad, and gives the first such line with its reason.
   pub bad_line_only : answer ≡ 6 → (form_of_words words ≡ Some Replay) × WroteRefused s k
   -- An answer to an input comes only where the input was read to its end.
   pub whole_input : IsTrue (reads_input words) → answer ≢ 12 → answer ≢ 13 → answer ≢ 14 → answer ≢ 15 → UsesUp s.before s.after

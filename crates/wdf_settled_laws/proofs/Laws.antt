@@ -141,7 +141,7 @@ module _ {A : Type 0} (plan : Plan) (m : Meaning A) (run : List Event) (resolved
   kept_at : (n : ℕ) → Kept plan (at_place n) (take n run)
   kept_at n = kept_at_each plan m run resolved is_run n
 
-  -- what the events of a step tell after it
+  -- what the events of a step say after it
   told_next : (n : ℕ) (e : Event) → slice_get run n ≡ Some e → AsTold plan (take n run ++ e ∷ []) (after plan m (at_place n) e).power
   told_next n e at =
       subst (λ (U : State A). AsTold plan (take n run ++ e ∷ []) U.power) (state_goes_on plan m (take n run) e)

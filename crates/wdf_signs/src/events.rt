@@ -503,7 +503,7 @@ fn told_by_call(plan: &Plan, call: &Call, answer: Value) -> Option<Told>
     }
 }
 
-/// What an event tells of an object.
+/// What an event says of an object.
 pub fn told(plan: &Plan, event: &Event) -> Option<Told>
     ensures { result ≡ told.told plan.now event.now }
 {

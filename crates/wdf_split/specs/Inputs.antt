@@ -18,7 +18,7 @@ is_idle (b ∷ bytes) = if is_blank b then is_idle bytes else b == 35
 abbrev pub is_trace_first : List ℕ → Bool
 is_trace_first text = bytes_eq (take 5 text) (codes "trace") && is_idle (drop 5 text)
 
--- the text's only token is `trace`: blanks may stand before it, blanks and a comment after it
+-- the text's only token is `trace`: blanks may come before it, blanks and a comment after it
 abbrev pub is_trace_alone : List ℕ → Bool
 is_trace_alone [] = false
 is_trace_alone (b ∷ bytes) = if is_blank b then is_trace_alone bytes else is_trace_first (b ∷ bytes)

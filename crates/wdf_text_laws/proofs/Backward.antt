@@ -56,7 +56,7 @@ fault_fails : (now : Reader) (number : ℕ) (line : List ℕ) (f : TokenFault) �
 unfolding after_line
 fault_fails now number line f e = ap (after_tokens now number) e
 
--- ---- a line that may not stand there
+-- ---- a line that may not come there
 
 mark_only : (w : List ℕ) (k : Option Keyword) (n : ℕ) → keyword_of w ≡ k → version_mark k n ≡ true → token.Word w ∷ token.Number n ∷ [] ≡ version_tokens
 mark_only w (Some keyword.Version) n is h =

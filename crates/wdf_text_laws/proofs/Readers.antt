@@ -30,7 +30,7 @@ after_append (Ok r) n (x ∷ xs) ys =
 
 -- ---- what a reader has of the lines that were read
 
--- the number of its first node doesn't tell where a line may stand
+-- the number of its first node doesn't say where a line may come
 head_stands : (p : Position) (h : StatementHead) (a b : ℕ) → may_stand p (head_line h a) ≡ may_stand p (head_line h b)
 head_stands p (head.Let x) a b = refl
 head_stands p (head.Put r) a b = refl

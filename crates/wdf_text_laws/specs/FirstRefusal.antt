@@ -23,7 +23,7 @@ abbrev pub openers_from : List ℕ → List NumberedLine → List ℕ
 openers_from openers [] = openers
 openers_from openers (l ∷ ls) = openers_from (openers_after openers l.number l.form) ls
 
--- some lines are spelled by lines of the language, each of which may stand where it does; `version 2` may stand in front
+-- some lines are spelled by lines of the language, each of which may come where it does; `version 2` may come in front
 pub record AreRead (lines : List (List ℕ)) : Type 0 where
   pub version : ℕ
   pub known : (version ≡ 1) ⊎ (version ≡ 2)
@@ -32,7 +32,7 @@ pub record AreRead (lines : List (List ℕ)) : Type 0 where
   pub ws : List WrittenLine
   pub tokens : token_lines 1 lines ≡ Some (version_lines version first ++ map spelled_line ws)
   pub written : IsTrue (list_all (λ w. is_written w.written) ws)
-  -- where the next line stands
+  -- where the next line is
   pub position : Position
   pub stand : blocks.after_lines (Some (front version)) (map (λ l. l.form) (lines_at 0 ws)) ≡ Some position
 
@@ -83,7 +83,7 @@ pub record HasBadPiece (text : List ℕ) (number column : ℕ) (f : TokenFault) 
   pub plain : IsTrue (list_all is_plain at.line)
   pub stuck : IsStuck at.line column f
 
--- it has tokens, and no line of the language that they spell may stand there; `version 2` may stand only in front
+-- it has tokens, and no line of the language that they spell may come there; `version 2` may come only in front
 pub record HasBadLine (text : List ℕ) (number : ℕ) : Type 0 where
   pub at : HasLine text number
   pub tokens : List Token

@@ -8,11 +8,11 @@ ghost use Rattle.wdf_parse.specs.Texts.{reading};
 ghost use Rattle.wdf_text_laws.specs.FirstRefusal.{IsFirstRefusal};
 
 /// What the reading of a text says as its refusal is the first refusal that the text has. The lines before it are
-/// spelled by lines of the language that may stand where they do. After them comes one of these:
+/// spelled by lines of the language that may come where they do. After them comes one of these:
 ///
 /// - The next line has a foreign byte.
 /// - It has none, and after whole pieces of it comes no token or too large a number.
-/// - It has tokens, and they are no line, or one that may not stand there.
+/// - It has tokens, and they are no line, or one that may not come there.
 /// - The text ends there, before its first three lines or inside a block.
 ///
 /// And each text that has such a first refusal is refused so.

@@ -94,7 +94,7 @@ printed_inside b h =
     let other : (b ≡ 10 → ⊥) = λ (e : b ≡ 10). let z : ⊥ = absurd (omega arith) in z in
     ap not (ne_eqb b 10 other)
 
--- what may stand after a token: nothing, or a blank
+-- what may come after a token: nothing, or a blank
 pub data Stops : List ℕ → Type 0 where
   AtEnd : Stops []
   AtBlank : (rest : List ℕ) → Stops (32 ∷ rest)

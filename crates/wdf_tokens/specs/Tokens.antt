@@ -21,7 +21,7 @@ use Rattle.wdf_tokens.specs.declared.lexer.Piece.{Piece}
 abbrev pub is_plain : ℕ → Bool
 is_plain b = b == 9 || b == 10 || b == 13 || (nat_le 32 b && nat_le b 126)
 
--- space, tab and CR stand between tokens
+-- space, tab and CR are between tokens
 abbrev pub is_blank : ℕ → Bool
 is_blank b = b == 32 || b == 9 || b == 13
 

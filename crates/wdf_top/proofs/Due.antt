@@ -1,4 +1,4 @@
--- What a form that reads tells, from what was read and from what became of the plan.
+-- What a form that reads says, from what was read and from what became of the plan.
 use Rattle.std.proofs.Common.{ℕ, ◌≡◌, ◌≤◌, ◌⊎◌, inl, inr, List, [], length, Option, Some, None, refl, subst, sym, ◌∙◌, arith}
 use Rattle.std.proofs.lemmas.List.{append-nil}
 use Rattle.wdf_scene.specs.declared.scene.Scene.{Scene}

@@ -19,7 +19,7 @@ use Rattle.wdf_top.proofs.Statuses.{IsReader, ToldBy}
 
 -- ---- what was read
 
--- the answer's own status: any but those that tell why there is none
+-- the answer's own status: any but those that say why there is none
 due_answered : (way : Answering) (s : Sourcing) (text : List ℕ) (status : ℕ) → IsReadDue way s text status → status ≢ 12 → status ≢ 14 → status ≢ 15 → IsAnswered way s text status
 due_answered way s text status (inl p) a b c = p
 due_answered way s text status (inr (inl p)) a b c = absurd (b p.3)
@@ -46,7 +46,7 @@ whole_input way s k answer told a b c d =
     let h : (text : List ℕ) × IsAnswered way s text answer × Gains k.before k.after text = answered way s k answer told a b c d in
     all_used s.before s.after h.1.0 h.1.1.0
 
--- a source that tells what it has left told no more bytes than were taken
+-- from a source that says what it has left, no more bytes are taken than it had left
 counted_within : (left bytes : List ℕ) (after : Option (List ℕ)) → Takes (Some left) after bytes → length bytes ≤ length left
 counted_within left bytes None h = absurd h
 counted_within left bytes (Some rest) h = omega (arith, ap length h, length-append bytes rest)
@@ -207,7 +207,7 @@ no_plan_always way s k answer told input given refusal refused = unless_given wa
 
 -- ---- a plan
 
--- what is answered to an input for which a plan stands is the trace of its run
+-- what is answered to an input that has a plan is the trace of its run
 plan_traced : (picks : Picks) (input : List ℕ) (plan : Plan) → HasPlan input plan → (text : List ℕ) (status : ℕ) → Answers (running picks) input text status → IsTraceOf plan (picks_of picks plan) text status
 plan_traced picks input plan has text status (inl (inl r)) = absurd (r.1 has.0 has.1)
 plan_traced picks input plan has text status (inl (inr r)) = absurd (two_plans input r.0 r.1 has.0 has.1 has.2)

@@ -64,7 +64,7 @@ whole_not_refused plan trace run line y resolved whole refused =
 
 -- ---- what is written
 
--- what is answered to an input for whose scenario a plan stands is the verdict on its trace
+-- what is answered to an input whose scenario has a plan is the verdict on its trace
 judged_plan : (input : List ℕ) (plan : Plan) → HasPlan (scenario_in input) plan → (text : List ℕ) (status : ℕ) → Answers judging input text status → IsVerdict plan (trace_in input) text status
 judged_plan input plan has text status (inl (inl r)) = absurd (r.1 has.0 has.1)
 judged_plan input plan has text status (inl (inr r)) = absurd (two_plans (scenario_in input) r.0 r.1 has.0 has.1 has.2)

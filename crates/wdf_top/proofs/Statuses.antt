@@ -180,7 +180,7 @@ sink_rose v s k answer told same =
 
 -- ---- forms of words
 
--- what a form that reads its input tells
+-- what a form that reads its input says
 abbrev pub ToldBy : Answering → Sourcing → Sinking → ℕ → Type 0
 ToldBy a s k answer = (text : List ℕ) × (status : ℕ) × IsReadDue a s text status × Says k text status answer
 

@@ -63,7 +63,7 @@ is_status n = n == 0 || n == 2 || n == 3 || n == 4 || n == 5 || n == 6 || n == 1
 abbrev pub Stayed : ℕ → ℕ → Type 0
 Stayed before after = Rose before after → ⊥
 
--- a source tells that this input is left, of at most the limit, and no read of it fails
+-- a source says that this input is left, of at most the limit, and no read of it fails
 pub record IsGiven (s : Sourcing) (input : List ℕ) : Type 0 where
   pub told : s.before ≡ Some input
   pub small : length input ≤ INPUT_LIMIT

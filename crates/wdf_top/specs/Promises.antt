@@ -75,7 +75,7 @@ pub record PlainPromises (form : Option Form) (s : Sourcing) (k : Sinking) (answ
       × HasNoPlan (scenario_by (service_of form) input) refusal
   pub no_plan_always : IsTrue (is_reading form) → (input : List ℕ) → IsGiven s input
       → (refusal : PlanRefusal) → HasNoPlan (scenario_by (service_of form) input) refusal → Unhindered 11 answer
-  -- 6 comes exactly where a line of the trace is bad, and tells the first such line with its reason.
+  -- 6 comes exactly where a line of the trace is bad, and gives the first such line with its reason.
   pub bad_line_only : answer ≡ 6 → (form ≡ Some Replay) × WroteRefused s k
   pub bad_line_always : form ≡ Some Replay → (input : List ℕ) → IsGiven s input
       → (plan : Plan) → HasPlan (scenario_in input) plan

@@ -62,7 +62,7 @@ counted_back plan h (suc (suc (suc zero))) small x y z u v w number cpu verb nam
     (argument_of-argument_text plan h x u, argument_of-argument_text plan h y v, argument_of-argument_text plan h z w)
 counted_back plan h (suc (suc (suc (suc n)))) small x y z u v w number cpu verb name rest = absurd (omega (arith, small))
 
--- the answer stands after the arguments and an arrow
+-- the answer comes after the arguments and an arrow
 counted_answer : (plan : Plan) (n : ℕ) → n ≤ 3 → (x y z : Arg) (number cpu verb name answer : List ℕ) → word (n + 5) (counted_line plan n x y z number cpu verb name (codes "->" ∷ answer ∷ [])) ≡ answer
 counted_answer plan zero small x y z number cpu verb name answer = refl
 counted_answer plan (suc zero) small x y z number cpu verb name answer = refl

@@ -20,7 +20,7 @@ abbrev pub In : ℕ → List ℕ → Type 0
 In n [] = ⊥
 In n (x ∷ xs) = (n ≡ x) ⊎ In n xs
 
--- no number stands twice
+-- no number comes twice
 abbrev pub Unique : List ℕ → Type 0
 Unique [] = Unit {0}
 Unique (x ∷ xs) = (In x xs → ⊥) × Unique xs

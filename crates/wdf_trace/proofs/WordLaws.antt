@@ -1,4 +1,4 @@
--- The words of the tables have no blank, and those that a line must tell from others differ from these.
+-- The words of the tables have no blank, and those that a line must distinguish from others differ from these.
 use Rattle.std.proofs.Common.{◌≡◌, true, false, refl, codes}
 use Rattle.std.specs.Char.{is_ascii_digit}
 use Rattle.std.specs.List.{list_all}

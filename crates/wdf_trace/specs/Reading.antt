@@ -1,4 +1,4 @@
--- The words of a line, and what each names: a word is taken for what stands at its place.
+-- The words of a line, and what each names: a word is taken for what is at its place.
 use Rattle.std.specs.Prelude.{if◌then◌else◌, ℕ, ◌==◌, ◌+◌, ◌^◌, nat_lt, Bool, List, [], drop, codes, Option, position, unwrap_or, slice_get}
 use Rattle.std.specs.List.{slice_split, list_any}
 use Rattle.std.specs.Str.{bytes_eq}

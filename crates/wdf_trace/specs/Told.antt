@@ -1,4 +1,4 @@
--- The event that the words of a line tell, if they tell any: each word is taken for what stands at its place.
+-- The event that the words of a line give, if they give any: each word is taken for what is at its place.
 use Rattle.std.specs.Prelude.{if◌then◌else◌, ℕ, ◌==◌, ◌+◌, nat_lt, Bool, true, false, List, length, Option, Some, None, unwrap_or}
 use Rattle.wdf_base.specs.declared.plan.Plan.{Plan}
 use Rattle.wdf_base.specs.declared.ids.Handle.{Handle}
@@ -154,6 +154,6 @@ told plan ws (Some verb.Lower) = posted_in plan ws (post.Act (action.Lower (obje
 told plan ws (Some verb.Done) = posted_in plan ws (post.Done (object_of plan (word 3 ws)) (status_in (word 4 ws))) None
 told plan ws (Some verb.Tick) = event.Tick (number_of (word 3 ws))
 
--- the event that the words of a line tell
+-- the event that the words of a line give
 abbrev pub event_in : Plan → List (List ℕ) → Event
 event_in plan ws = told plan ws (verb_of (word 2 ws))

@@ -1,4 +1,4 @@
--- The words that tell the kinds of events.
+-- The words that give the kinds of events.
 use Rattle.std.specs.Prelude.{List, ℕ, Option, find, codes}
 use Rattle.std.specs.Str.{bytes_eq}
 use Rattle.wdf_trace.specs.declared.verb.Verb.{Verb}

@@ -1,4 +1,4 @@
--- Which texts are lines of an ending and lines of a wait list, and what such a line tells.
+-- Which texts are lines of an ending and lines of a wait list, and what such a line gives.
 use Rattle.std.specs.Prelude.{if◌then◌else◌, ◌≡◌, ◌≢◌, ℕ, ◌+◌, ◌^◌, ◌<◌, Bool, true, false, List, codes, Option, Some, None}
 use Rattle.std.specs.Str.{bytes_eq}
 use Rattle.wdf_base.specs.declared.plan.Plan.{Plan}
@@ -29,7 +29,7 @@ use Rattle.wdf_trace.specs.Told.{callback_named, callback_in, stage_in}
 abbrev pub IsEndingText : List ℕ → Type 0
 IsEndingText text = (events : ℕ) × (e : Ending) × (events < 2 ^ 64) × (e ≢ ending.Running) × (ending_text events e ≡ text)
 
--- the ending that a word tells; a fault is any
+-- the ending that a word gives; a fault is any
 abbrev pub ending_of : List ℕ → Ending
 ending_of w =
     if bytes_eq w (codes "finished") then ending.Finished
@@ -96,17 +96,17 @@ IsCauseOf plan (Some (cause.ByChild c)) = IsHandleOf plan c
 IsCauseOf plan (Some (cause.AtTarget t)) = IsHandleOf plan t
 IsCauseOf plan _ = Unit {0}
 
--- the lines whose texts are lines of a wait list: the form and the cause stand in one row
+-- the lines whose texts are lines of a wait list: the form and the cause are in one row
 abbrev pub IsWaitOf : Plan → WaitLine → Type 0
 IsWaitOf plan w = (has_cause w.thing w.cause ≡ true) × IsThingOf plan w.thing × IsCauseOf plan w.cause
 
--- ---- what a line of a wait list tells
+-- ---- what a line of a wait list gives
 
 -- a frame that a word names
 abbrev pub frame_of : List ℕ → FrameId
 frame_of w = record { 0 = short_of w }
 
--- the cause with this word, whose parts stand after place k
+-- the cause with this word, whose parts come after place k
 abbrev pub cause_with : Plan → ℕ → List (List ℕ) → Option CauseWord → Option Cause
 cause_with plan k ws None = None
 cause_with plan k ws (Some cause_word.Frame) = Some (cause.ByFrame (frame_of (word (k + 1) ws)))
@@ -124,7 +124,7 @@ cause_with plan k ws (Some cause_word.References) = Some (cause.References (shor
 cause_with plan k ws (Some cause_word.Child) = Some (cause.ByChild (object_of plan (word (k + 1) ws)))
 cause_with plan k ws (Some cause_word.Sent) = Some (cause.AtTarget (object_of plan (word (k + 1) ws)))
 
--- the cause that stands from place k on
+-- the cause that comes from place k on
 abbrev pub cause_in : Plan → ℕ → List (List ℕ) → Option Cause
 cause_in plan k ws = cause_with plan k ws (cause_word_of (word k ws))
 
@@ -156,7 +156,7 @@ object_line plan ws =
     else if bytes_eq (word 1 ws) (codes "queued") then queued_line plan ws
     else record { thing = thing.Leaving (object_of plan (word 0 ws)); cause = cause_in plan 1 ws }
 
--- the line that these words tell
+-- the line that these words give
 abbrev pub wait_in : Plan → List (List ℕ) → WaitLine
 wait_in plan ws =
     if bytes_eq (word 0 ws) (codes "frame") then record { thing = thing.Waiting (frame_of (word 1 ws)) (callback_in (word 2 ws)) (object_of plan (word 3 ws)); cause = cause_in plan 5 ws }

@@ -324,7 +324,7 @@ fn told(plan: &Plan, text: &[u8], verb: Option<Verb>) -> Event
     }
 }
 
-/// The event that a line tells, if it tells any.
+/// The event that a line gives, if it gives any.
 pub fn event_in(plan: &Plan, text: &[u8]) -> Event
     ensures { result ≡ event_in plan.now (words text.now) }
 {

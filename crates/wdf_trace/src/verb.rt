@@ -1,7 +1,7 @@
 ghost use Rattle.std.specs.Prelude.{◌≡◌};
 ghost use Rattle.wdf_trace.specs.Verbs.{verb_word, verb_of};
 
-/// What an event does, as the third word of its line tells it. What the Plug and Play manager asks
+/// What an event does, as the third word of its line gives it. What the Plug and Play manager asks
 /// has words of its own, but for `start`.
 #[derive(Clone, Copy, Debug, PartialEq, Eq)]
 pub enum Verb {

@@ -12,7 +12,7 @@ use crate::valid::is_handle;
 use wdf_base::{Cause, Ending, Fault, FrameId, OpenThing, Plan, Step, WaitLine};
 use wdf_lines::{ending_line, wait_line};
 
-/// The ending that a word tells; a fault is any. A run that goes on has no word.
+/// The ending that a word gives; a fault is any. A run that goes on has no word.
 fn ending_of(word: &[u8]) -> Ending
     ensures { result ≡ ending_of word.now }
 {
@@ -59,7 +59,7 @@ fn frame_of(word: &[u8]) -> FrameId
     FrameId(short_of(word))
 }
 
-/// The cause that stands from this place on.
+/// The cause that comes from this place on.
 fn cause_in(plan: &Plan, place: usize, text: &[u8]) -> Option<Cause>
     requires { place < 16 }
     ensures { result ≡ cause_in plan.now place (words text.now) }
@@ -189,7 +189,7 @@ fn object_line(plan: &Plan, text: &[u8]) -> WaitLine
     }
 }
 
-/// The line of a wait list that a text tells, if it tells any.
+/// The line of a wait list that a text gives, if it gives any.
 fn wait_in(plan: &Plan, text: &[u8]) -> WaitLine
     ensures { result ≡ wait_in plan.now (words text.now) }
 {
@@ -248,7 +248,7 @@ fn is_cause(plan: &Plan, cause: Option<Cause>) -> bool
     }
 }
 
-/// Whether a cause stands in the row of what is open.
+/// Whether a cause is in the row of what is open.
 fn has_cause(thing: OpenThing, cause: Option<Cause>) -> bool
     ensures { result ≡ has_cause thing cause }
 {

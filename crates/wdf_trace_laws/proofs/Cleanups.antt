@@ -41,7 +41,7 @@ use Rattle.wdf_deeds.specs.MayDo.{is_cleanup}
 use Rattle.wdf_trace_laws.proofs.Untouched.{cleans, event_none, none_cleans}
 use Rattle.wdf_trace_laws.proofs.Ends.{ends}
 
--- C tells each object that is cleaned
+-- C is true of each object that is cleaned
 abbrev pub Seen : (ℕ → Bool) → Tree → Type 0
 Seen C T = (x : ℕ) → is_cleaned (life_of T x) ≡ true → C x ≡ true
 

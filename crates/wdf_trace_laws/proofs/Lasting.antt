@@ -31,7 +31,7 @@ pub record Late (P : Life → Bool) : Type 0 where
   pub asked : P life.Asked ≡ false
   pub gone : P life.Gone ≡ true
 
--- the objects that F tells were made, and pass the test
+-- the objects of which F is true were made, and pass the test
 abbrev pub Past : (Life → Bool) → (ℕ → Bool) → Tree → Type 0
 Past P F T = (x : ℕ) → F x ≡ true → (P (life_of T x) ≡ true) × (x < length T.nodes)
 

@@ -123,7 +123,7 @@ deeds_same plan (d ∷ ds) S n x =
     deeds_same plan ds (do_deed plan d S) (both_right (not (is_counting d)) (none_counts ds) n) x
     ∙ deed_same plan d S (not_true (is_counting d) (both_left (not (is_counting d)) (none_counts ds) n)) x
 
--- ---- what one event tells
+-- ---- what one event says
 
 times_next : (p : Sign) (es : List Event) (e : Event) → times p (es ++ e ∷ []) ≡ times p es + flag (shows p e)
 unfolding times

@@ -9,7 +9,7 @@ use Rattle.wdf_turn.specs.Notes.{Note, notes_from, notes_beyond, times, within, 
 use Rattle.wdf_turn.specs.Tokens.{IsGrown}
 use Rattle.wdf_turn.proofs.Prefixes.{prefix_get, All-weaken}
 
--- what stands after a list that one event follows
+-- what comes after a list that one event follows
 drop_after : (xs : List Event) (e : Event) → drop (length xs) (xs ++ e ∷ []) ≡ e ∷ []
 drop_after [] e = refl
 drop_after (x ∷ xs) e = drop_after xs e

@@ -106,7 +106,7 @@ module _ {T : Type 0} where
   abbrev pub IsWhole : {R : Type 0} → (T → R) → (T → List Event) → Token T → T → Type 0
   IsWhole root events v x = ((o : T) → v.opening ≡ Some o → root x ≡ root o) × IsPrefix v.seen (events x)
 
-  -- What the steps tell. The slot has the value's place 0.
+  -- What the steps say. The slot has the value's place 0.
 
   -- the try of the holder word: at 0 it has won, and the slot is the seat's; else it found another seat's number
   abbrev pub Tries : {R : Type 0} → (T → R) → (T → List Event) → Step (Option T) → Sat T → ℕ → Sat T → Type 0

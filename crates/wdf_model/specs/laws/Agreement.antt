@@ -28,7 +28,7 @@ use Rattle.wdf_model.specs.State.{State, held_from, is_with_driver, object_in}
 use Rattle.wdf_model.specs.rules.Calls.{lock_level}
 use Rattle.wdf_model.specs.rules.Faults.{is_acquire}
 
--- ---- the level of a processor, by the locks that its top frame holds or spins for (KMDF)
+-- ---- the level of a processor, by the locks that its top frame holds or spins for; 0 where no frame is (KMDF)
 
 abbrev pub level_of_lock : {A : Type 0} → Plan → State A → LockRef → ℕ
 level_of_lock plan S (lock.Object o) = lock_level plan S o.0

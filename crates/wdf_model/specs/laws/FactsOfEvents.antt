@@ -8,8 +8,9 @@ use Rattle.wdf_model.specs.parts.Cpus.{running}
 use Rattle.wdf_model.specs.State.{State}
 use Rattle.wdf_model.specs.rules.Ready.{waits_for_time}
 
--- Nothing but the script's side of frame f is other than before, and one event more is counted: not the
--- agents, no part but the processors, no other frame, no stack, and not the level of frame f.
+-- Nothing but the script's side of frame f is other than before, and one event more is counted. As before are
+-- the agents, all parts but the processors, all other frames, the stacks, the parked frames, the held levels
+-- and the level of frame f.
 pub record MovesOnlyFrame {A : Type 0} (f : ℕ) (old new : State A) : Type 0 where
   pub rest : new ≡ record old { cpus = new.cpus; number = old.number + 1 }
   pub stacks : new.cpus.stacks ≡ old.cpus.stacks

@@ -17,8 +17,9 @@ use Rattle.wdf_base.specs.Plan.{declared_of}
 use Rattle.wdf_model.specs.parts.Locks.{lock_of_callback}
 use Rattle.wdf_model.specs.parts.Pnp.{DEVICE_CALLBACKS}
 
--- the driver object 1, the device 2, its queue 3 and its interrupt 4, under one scope; work items of the
--- classes 0 to 3: serialized under the queue and under the device, and not serialized under either
+-- the driver object 1, the device 2, its queue 3 and its interrupt 4, under one scope. The classes 0 to 3 are
+-- work items. Class 0 is serialized under the queue and class 1 under the device. Class 2 is under the queue
+-- and class 3 under the device, and they aren't serialized.
 abbrev pub plan_under : Scope → Plan
 plan_under s = record {
   cpus = 1;

@@ -215,7 +215,8 @@ cpus_with_dpc plan S d = filter (has_dpc_of plan S d) (all_cpus plan)
 abbrev pub head_lock : {A : Type 0} → Plan → State A → ℕ → Option LockRef
 head_lock plan S cpu = option_and_then (λ o. scope_of plan (dpc_function (kind_of S.tree o)) o (declared_in plan S o)) (dpc_head S.dpcs cpu)
 
--- what keeps `quiet`: EvtInterruptDpc runs, or a lock is held that the DPC before it needs
+-- what keeps `quiet`: EvtInterruptDpc runs, or a lock is held that the first DPC of a processor needs,
+-- where a DPC of the device is in that processor's list
 abbrev pub quiet_frames : {A : Type 0} → Plan → State A → ℕ → List ℕ
 quiet_frames plan S d =
     frames_where S (runs_step d callback.EvtInterruptDpc) ++ flat_map (λ cpu. holders_of S (head_lock plan S cpu)) (cpus_with_dpc plan S d)

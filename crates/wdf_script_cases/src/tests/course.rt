@@ -108,7 +108,7 @@ fn change(frame: &mut Frame, change: Change) {
     }
 }
 
-/// The frame goes on after the statement at which it stands.
+/// The frame goes on after the statement at which it is.
 fn go_on(plan: &Plan, frame: &mut Frame) {
     if let Intent::Local {
         change: changed,

@@ -57,13 +57,13 @@ static NODES: [ExprNode; 22] = [
         left: 0,
         right: 15,
     },
-    // node 20: its right operand doesn't stand before it
+    // node 20: its right operand doesn't come before it
     ExprNode::Binary {
         operator: Operator::Equals,
         left: 0,
         right: 20,
     },
-    // node 21: its left operand doesn't stand before it
+    // node 21: its left operand doesn't come before it
     ExprNode::Binary {
         operator: Operator::Equals,
         left: 90,

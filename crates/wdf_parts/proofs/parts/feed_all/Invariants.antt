@@ -1,4 +1,4 @@
--- The agents before the index were told, and the others stand as they were.
+-- The agents before the index were told, and the others are as they were.
 use Rattle.std.proofs.Common.{◌≡◌, ◌++◌, map, take, drop}
 use Rattle.wdf_parts.proofs.parts.feed_all.Given as goal
 

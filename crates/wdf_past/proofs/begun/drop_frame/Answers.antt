@@ -1,4 +1,4 @@
--- The closure tells the frame's callback from the others.
+-- The closure tells apart the frame's callback and the others.
 use Rattle.std.proofs.Common.{rules}
 use Rattle.std.proofs.lemmas.Fn.{filter_same}
 use Rattle.wdf_past.proofs.begun.drop_frame.Goals as goal

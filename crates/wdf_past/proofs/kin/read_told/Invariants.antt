@@ -1,4 +1,4 @@
--- What the events so far tell.
+-- What the events so far say.
 use Rattle.std.proofs.Common.{◌≡◌, ℕ, nat_eq, take}
 use Rattle.std.specs.HashMap.{get}
 use Rattle.wdf_laws.specs.Family.{first_told}

@@ -1,4 +1,4 @@
--- What is added is what stands after the first argument.
+-- What is added is what comes after the first argument.
 use Rattle.std.proofs.Common.{refl, ap, ◌∙◌}
 use Rattle.std.proofs.lemmas.Iterator.Adapters.{items_from_extend, YieldsList-from_skip, YieldsList-from_vec}
 use Rattle.std.specs.Vec.Iter.{into_iter_items}

@@ -1,4 +1,4 @@
--- What `run` tells, of a plan and of a refusal.
+-- What `run` says, of a plan and of a refusal.
 use Rattle.wdf_base.specs.Resolved.{IsResolved}
 use Rattle.wdf_serve.specs.Runs.{threading}
 use Rattle.wdf_serve.proofs.Telling.{plan_told}

@@ -1,4 +1,4 @@
--- What stands after the blanks.
+-- What comes after the blanks.
 use Rattle.std.proofs.Common.{sym}
 use Rattle.wdf_split.proofs.Marks.{idle_first, idle_none}
 use Rattle.wdf_split.proofs.mark.is_idle.Goals as goal

@@ -1,4 +1,4 @@
--- The word stands after the blanks, or doesn't.
+-- The word comes after the blanks, or doesn't.
 use Rattle.std.proofs.Common.{sym, ◌∙◌}
 use Rattle.wdf_split.proofs.Marks.{trace_there, no_trace_there}
 use Rattle.wdf_split.proofs.mark.is_trace_alone.Goals as goal

@@ -1,4 +1,4 @@
--- The scenario and the trace, from the place where the first line `trace` stands.
+-- The scenario and the trace, from the place where the first line `trace` is.
 use Rattle.std.proofs.Common.{sym, ◌∙◌}
 use Rattle.wdf_split.proofs.Parting.{at_opens, at_goes_on, scenario_ends, trace_begins}
 use Rattle.wdf_split.proofs.parts.split.Goals as goal

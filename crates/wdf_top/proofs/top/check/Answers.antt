@@ -1,4 +1,4 @@
--- What `check` tells, of a scene and of a refusal.
+-- What `check` says, of a scene and of a refusal.
 use Rattle.std.proofs.Common.{arith}
 use Rattle.wdf_top.specs.Answers.{checking}
 use Rattle.wdf_top.proofs.Due.{check_told, refusal_told}

@@ -1,4 +1,4 @@
--- What `replay` tells, of an input and of a refusal.
+-- What `replay` says, of an input and of a refusal.
 use Rattle.wdf_top.specs.Answers.{judging}
 use Rattle.wdf_top.proofs.Due.{refusal_told}
 use Rattle.wdf_top.proofs.top.judge.Goals as goal

@@ -1,4 +1,4 @@
--- What `order` and `seed N` tell, of a plan and of a refusal.
+-- What `order` and `seed N` say, of a plan and of a refusal.
 use Rattle.wdf_top.specs.Answers.{running}
 use Rattle.wdf_top.proofs.Due.{run_told, refusal_told}
 use Rattle.wdf_top.proofs.Resolving.{text_plan_resolved}

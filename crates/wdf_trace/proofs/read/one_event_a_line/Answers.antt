@@ -1,4 +1,4 @@
--- Both events are the one that the line tells.
+-- Both events are the one that the line gives.
 use Rattle.std.proofs.Common.{sym, ap, ◌∙◌}
 use Rattle.wdf_trace.specs.Reading.{word, words, number_of}
 use Rattle.wdf_trace.specs.Told.{event_in}

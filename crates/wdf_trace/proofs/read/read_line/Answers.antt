@@ -1,4 +1,4 @@
--- The event of a line is the one that its words tell, so that no other has the line.
+-- The event of a line is the one that its words give, so that no other has the line.
 use Rattle.std.proofs.Common.{ℕ, Option, Some, ap, sym, subst, ◌∙◌}
 use Rattle.std.proofs.lemmas.Bool.{iff_false}
 use Rattle.wdf_base.specs.declared.event.Event.{Event}

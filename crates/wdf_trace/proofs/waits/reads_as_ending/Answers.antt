@@ -1,4 +1,4 @@
--- The ending that a line tells is the one that it is tried for.
+-- The ending that a line gives is the one that it is tried for.
 use Rattle.std.proofs.Common.{ap, ◌∙◌, ◌<◌, ◌^◌, ℕ, subst, sym}
 use Rattle.wdf_trace.specs.Reading.{word, number_of}
 use Rattle.wdf_trace.specs.Waits.{ending_of}

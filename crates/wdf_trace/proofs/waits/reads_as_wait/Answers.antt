@@ -1,4 +1,4 @@
--- The wait line that a line tells has the same text.
+-- The wait line that a line gives has the same text.
 use Rattle.wdf_trace.proofs.ResolvedLaws.{HasNames-resolved}
 use Rattle.wdf_trace.proofs.WaitLaws.{wait_read}
 use Rattle.wdf_trace.proofs.waits.reads_as_wait.Goals as goal

@@ -1,4 +1,4 @@
--- The children that the events so far tell of, after the declared ones.
+-- The children that the events so far give, after the declared ones.
 use Rattle.std.proofs.Common.{◌≡◌, ℕ}
 use Rattle.wdf_past.specs.Maps.{group_at}
 use Rattle.wdf_past.specs.Groups.{children_by}
