@@ -36,6 +36,7 @@ LAW_CRATES = {
     "wdf_fitting_plans",
     "wdf_plan_laws",
     "wdf_text_laws",
+    "wdf_split_laws",
     "wdf_replay_laws",
     "wdf_gen_laws",
     "wdf_trace_laws",

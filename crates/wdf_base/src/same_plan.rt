@@ -7,7 +7,7 @@ use crate::declared::{
     Declared, DeviceInfo, DispatchKind, ExecutionLevel, InterruptInfo, QueueInfo, Scope, Serves,
     TargetInfo,
 };
-use crate::same::{same_irql, same_object_id, same_status};
+use crate::same::same_object_id;
 
 /// Whether the two are one.
 pub fn same_scope(a: Scope, b: Scope) -> bool
@@ -30,12 +30,7 @@ pub fn same_dispatch(a: DispatchKind, b: DispatchKind) -> bool
     ensures value { result ≡ same.same_dispatch a b }
     ensures exact { IsTrue result ↔ (a ≡ b) }
 {
-    match (a, b) {
-        (DispatchKind::Sequential, DispatchKind::Sequential) => true,
-        (DispatchKind::Parallel(x), DispatchKind::Parallel(y)) => x == y,
-        (DispatchKind::Manual, DispatchKind::Manual) => true,
-        _ => false,
-    }
+    a == b
 }
 
 /// Whether the two are one.
@@ -43,7 +38,7 @@ pub fn same_serves(a: Serves, b: Serves) -> bool
     ensures value { result ≡ same.same_serves a b }
     ensures exact { IsTrue result ↔ (a ≡ b) }
 {
-    a.rest == b.rest && a.read == b.read && a.write == b.write && a.control == b.control
+    a == b
 }
 
 /// Whether the two declared devices are one.
@@ -51,10 +46,7 @@ pub fn same_device(a: &DeviceInfo, b: &DeviceInfo) -> bool
     ensures value { result ≡ same.same_device a.now b.now }
     ensures exact { IsTrue result ↔ (a.now ≡ b.now) }
 {
-    a.name == b.name
-        && a.working == b.working
-        && same_scope(a.scope, b.scope)
-        && same_execution_level(a.level, b.level)
+    a == b
 }
 
 /// Whether the two declared queues are one.
@@ -77,7 +69,7 @@ pub fn same_interrupt(a: &InterruptInfo, b: &InterruptInfo) -> bool
     ensures value { result ≡ same.same_interrupt a.now b.now }
     ensures exact { IsTrue result ↔ (a.now ≡ b.now) }
 {
-    a.name == b.name && same_object_id(a.device, b.device) && same_irql(a.level, b.level)
+    a == b
 }
 
 /// Whether the two declared targets are one.
@@ -85,11 +77,7 @@ pub fn same_target(a: &TargetInfo, b: &TargetInfo) -> bool
     ensures value { result ≡ same.same_target a.now b.now }
     ensures exact { IsTrue result ↔ (a.now ≡ b.now) }
 {
-    a.name == b.name
-        && same_object_id(a.device, b.device)
-        && a.delay == b.delay
-        && same_status(a.status, b.status)
-        && a.depth == b.depth
+    a == b
 }
 
 /// Whether the two are declared as one.

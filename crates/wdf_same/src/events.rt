@@ -3,11 +3,11 @@ ghost use Rattle.std.specs.Prelude.{◌≡◌, ◌↔◌, IsTrue};
 ghost use Rattle.wdf_base.specs.Same as same;
 
 use crate::plain::{
-    same_access, same_ask, same_call, same_cpu, same_fault, same_frame_id, same_handle,
-    same_option_handle, same_stage, same_value,
+    same_access, same_call, same_cpu, same_fault, same_frame_id, same_handle, same_option_handle,
+    same_stage, same_value,
 };
 use wdf_base::{
-    Action, Actor, Ask, Cpu, Ending, Event, Fault, Post, Stage, Step, same_callback, same_status,
+    Action, Actor, Ending, Event, Fault, Post, Stage, Step, same_callback, same_status,
 };
 
 /// Whether the two actors are one.
@@ -15,13 +15,7 @@ pub fn same_actor(a: Actor, b: Actor) -> bool
     ensures value { result ≡ same.same_actor a b }
     ensures exact { IsTrue result ↔ (a ≡ b) }
 {
-    match (a, b) {
-        (Actor::Cpu(x), Actor::Cpu(y)) => { x == y }
-        (Actor::Framework, Actor::Framework) => true,
-        (Actor::Agent(x), Actor::Agent(y)) => { x == y }
-        (Actor::Clock, Actor::Clock) => true,
-        _ => false,
-    }
+    a == b
 }
 
 /// Whether the two steps are one.
@@ -59,28 +53,7 @@ pub fn same_action(a: Action, b: Action) -> bool
     ensures value { result ≡ same.same_action a b }
     ensures exact { IsTrue result ↔ (a ≡ b) }
 {
-    match (a, b) {
-        (
-            Action::Set { register, value },
-            Action::Set {
-                register: other_register,
-                value: other_value,
-            },
-        ) => { register == other_register && value == other_value }
-        (
-            Action::Raise { interrupt },
-            Action::Raise {
-                interrupt: other_interrupt,
-            },
-        ) => { same_handle(interrupt, other_interrupt) }
-        (
-            Action::Lower { interrupt },
-            Action::Lower {
-                interrupt: other_interrupt,
-            },
-        ) => { same_handle(interrupt, other_interrupt) }
-        _ => false,
-    }
+    a == b
 }
 
 /// Whether the two posts are one.
@@ -88,63 +61,7 @@ pub fn same_post(a: &Post, b: &Post) -> bool
     ensures value { result ≡ same.same_post a.now b.now }
     ensures exact { IsTrue result ↔ (a.now ≡ b.now) }
 {
-    match (a, b) {
-        (
-            Post::Read { device, length },
-            Post::Read {
-                device: other_device,
-                length: other_length,
-            },
-        ) => { same_handle(*device, *other_device) && *length == *other_length }
-        (
-            Post::Write { device, length },
-            Post::Write {
-                device: other_device,
-                length: other_length,
-            },
-        ) => { same_handle(*device, *other_device) && *length == *other_length }
-        (
-            Post::Control {
-                device,
-                code,
-                length,
-            },
-            Post::Control {
-                device: other_device,
-                code: other_code,
-                length: other_length,
-            },
-        ) => {
-            same_handle(*device, *other_device) && *code == *other_code && *length == *other_length
-        }
-        (
-            Post::Cancel { arrival },
-            Post::Cancel {
-                arrival: other_arrival,
-            },
-        ) => { *arrival == *other_arrival }
-        (
-            Post::Ask { ask, device },
-            Post::Ask {
-                ask: other_ask,
-                device: other_device,
-            },
-        ) => { same_ask(*ask, *other_ask) && same_handle(*device, *other_device) }
-        (
-            Post::Act { action },
-            Post::Act {
-                action: other_action,
-            },
-        ) => { same_action(*action, *other_action) }
-        (
-            Post::Done { request, status },
-            Post::Done {
-                request: other_request,
-                status: other_status,
-            },
-        ) => { same_handle(*request, *other_request) && same_status(*status, *other_status) }
-        _ => false,
-    }
+    a == b
 }
 
 /// Whether the two events are one.
@@ -347,12 +264,5 @@ pub fn same_ending(a: Ending, b: Ending) -> bool
     ensures value { result ≡ same.same_ending a b }
     ensures exact { IsTrue result ↔ (a ≡ b) }
 {
-    match (a, b) {
-        (Ending::Running, Ending::Running) => true,
-        (Ending::Finished, Ending::Finished) => true,
-        (Ending::Limit, Ending::Limit) => true,
-        (Ending::Fault(x), Ending::Fault(y)) => { same_fault(x, y) }
-        (Ending::Stuck, Ending::Stuck) => true,
-        _ => false,
-    }
+    a == b
 }

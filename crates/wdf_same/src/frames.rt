@@ -31,24 +31,7 @@ pub fn same_change(a: Change, b: Change) -> bool
     ensures value { result ≡ same.same_change a b }
     ensures exact { IsTrue result ↔ (a ≡ b) }
 {
-    match (a, b) {
-        (
-            Change::Assign { variable, value },
-            Change::Assign {
-                variable: other_variable,
-                value: other_value,
-            },
-        ) => { variable == other_variable && same_value(value, other_value) }
-        (Change::Branch, Change::Branch) => true,
-        (
-            Change::Count { depth, left },
-            Change::Count {
-                depth: other_depth,
-                left: other_left,
-            },
-        ) => { depth == other_depth && left == other_left }
-        _ => false,
-    }
+    a == b
 }
 
 /// Whether the two intents are one.

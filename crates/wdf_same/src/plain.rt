@@ -4,7 +4,7 @@ ghost use Rattle.wdf_base.specs.Same as same;
 
 use wdf_base::{
     Access, Arg, Ask, Call, CallKind, Cpu, Fault, FrameId, Handle, Kind, Life, LockRef, Mark, Name,
-    ObjectId, Place, RequestForm, RequestInfo, Stage, Value, same_object_id, same_status,
+    ObjectId, Place, RequestForm, RequestInfo, Stage, Value,
 };
 
 /// Whether the two are one.
@@ -108,7 +108,7 @@ pub fn same_handle(a: Handle, b: Handle) -> bool
     ensures value { result ≡ same.same_handle a b }
     ensures exact { IsTrue result ↔ (a ≡ b) }
 {
-    same_object_id(a.id, b.id) && a.name == b.name
+    a == b
 }
 
 /// Whether both are none, or both the same.
@@ -116,11 +116,7 @@ pub fn same_option_handle(a: Option<Handle>, b: Option<Handle>) -> bool
     ensures value { result ≡ same.same_option same.same_handle a b }
     ensures exact { IsTrue result ↔ (a ≡ b) }
 {
-    match (a, b) {
-        (Some(a), Some(b)) => same_handle(a, b),
-        (None, None) => true,
-        _ => false,
-    }
+    a == b
 }
 
 /// Whether both are none, or both the same.
@@ -128,11 +124,7 @@ pub fn same_option_object_id(a: Option<ObjectId>, b: Option<ObjectId>) -> bool
     ensures value { result ≡ same.same_option same.same_object_id a b }
     ensures exact { IsTrue result ↔ (a ≡ b) }
 {
-    match (a, b) {
-        (Some(a), Some(b)) => same_object_id(a, b),
-        (None, None) => true,
-        _ => false,
-    }
+    a == b
 }
 
 /// Whether the two values are one.
@@ -140,12 +132,7 @@ pub fn same_value(a: Value, b: Value) -> bool
     ensures value { result ≡ same.same_value a b }
     ensures exact { IsTrue result ↔ (a ≡ b) }
 {
-    match (a, b) {
-        (Value::Num(x), Value::Num(y)) => { x == y }
-        (Value::Obj(x), Value::Obj(y)) => { same_handle(x, y) }
-        (Value::Stat(x), Value::Stat(y)) => { same_status(x, y) }
-        _ => false,
-    }
+    a == b
 }
 
 /// Whether the two places are one.
@@ -153,15 +140,7 @@ pub fn same_place(a: Place, b: Place) -> bool
     ensures value { result ≡ same.same_place a b }
     ensures exact { IsTrue result ↔ (a ≡ b) }
 {
-    match (a, b) {
-        (Place::Queued(x), Place::Queued(y)) => { same_object_id(x, y) }
-        (Place::Returning(x), Place::Returning(y)) => { same_object_id(x, y) }
-        (Place::Closing(x), Place::Closing(y)) => { same_status(x, y) }
-        (Place::Owned, Place::Owned) => true,
-        (Place::Sent(x), Place::Sent(y)) => { same_object_id(x, y) }
-        (Place::Done, Place::Done) => true,
-        _ => false,
-    }
+    a == b
 }
 
 /// Whether the two locks are one.
@@ -169,12 +148,7 @@ pub fn same_lock(a: LockRef, b: LockRef) -> bool
     ensures value { result ≡ same.same_lock a b }
     ensures exact { IsTrue result ↔ (a ≡ b) }
 {
-    match (a, b) {
-        (LockRef::Object(x), LockRef::Object(y)) => { same_object_id(x, y) }
-        (LockRef::DeviceScope(x), LockRef::DeviceScope(y)) => { same_object_id(x, y) }
-        (LockRef::QueueScope(x), LockRef::QueueScope(y)) => { same_object_id(x, y) }
-        _ => false,
-    }
+    a == b
 }
 
 /// Whether the two infos of requests are one.
@@ -182,16 +156,7 @@ pub fn same_request_info(a: &RequestInfo, b: &RequestInfo) -> bool
     ensures value { result ≡ same.same_request_info a.now b.now }
     ensures exact { IsTrue result ↔ (a.now ≡ b.now) }
 {
-    same_object_id(a.device, b.device)
-        && same_request_form(a.form, b.form)
-        && a.length == b.length
-        && a.code == b.code
-        && same_option_object_id(a.origin, b.origin)
-        && a.agent == b.agent
-        && a.arrival == b.arrival
-        && same_mark(a.mark, b.mark)
-        && a.cancelled == b.cancelled
-        && a.received == b.received
+    a == b
 }
 
 /// Whether the two arguments are one.
@@ -199,11 +164,7 @@ pub fn same_arg(a: Arg, b: Arg) -> bool
     ensures value { result ≡ same.same_arg a b }
     ensures exact { IsTrue result ↔ (a ≡ b) }
 {
-    match (a, b) {
-        (Arg::Val(x), Arg::Val(y)) => { same_value(x, y) }
-        (Arg::Class(x), Arg::Class(y)) => { x == y }
-        _ => false,
-    }
+    a == b
 }
 
 /// Whether the two calls are one.

@@ -34,6 +34,7 @@ promised form s k answer told = record {
   accepted_only = λ is_replay. judged.accepted_only s k answer (rw is_replay at told);
   accepted_always = λ is_replay. judged.accepted_always s k answer (rw is_replay at told);
   finished = λ picks by. cause.finished picks s k answer (cause.runs form picks s k answer by told);
+  summed_finished = λ n is_load. cause.summed_finished n s k answer (rw is_load at told);
   fault = cause.fault form s k answer told;
   stuck = cause.stuck form s k answer told;
   limit = cause.limit form s k answer told;

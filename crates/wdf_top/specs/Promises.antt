@@ -18,7 +18,7 @@ use Rattle.wdf_say.specs.Refusals.{no_memory_line}
 use Rattle.wdf_say.specs.Said.{Sinking, IsCutShort}
 use Rattle.wdf_split.specs.Inputs.{scenario_in, trace_in}
 use Rattle.wdf_top.specs.Answers.{Runs, Checks, Judges, HasNoScene, HasNoPlan, HasPlan, IsTraceOf, IsVerdict, IsSummaryOf, picks_of, refused_line}
-use Rattle.wdf_top.specs.Causes.{is_reading, is_status, picks_for, IsGiven, Stayed, Unhindered, WroteAccepted, WroteFor, WroteRefused, WroteRun}
+use Rattle.wdf_top.specs.Causes.{is_reading, is_status, picks_for, IsGiven, Stayed, Unhindered, WroteAccepted, WroteFor, WroteRefused, WroteRun, WroteSummary}
 use Rattle.wdf_top.specs.Top.{Sourcing, IsDue, Tells, scenario_by, service_of}
 use Rattle.wdf_top.specs.declared.run.Picks.{Picks}
 use Rattle.wdf_top.specs.declared.words.Form.{Form}
@@ -86,9 +86,10 @@ pub record PlainPromises (form : Option Form) (s : Sourcing) (k : Sinking) (answ
   pub accepted_always : form ≡ Some Replay → (input : List ℕ) → IsGiven s input
       → (plan : Plan) → HasPlan (scenario_in input) plan
       → (run : List Event) → IsWhole plan agent_meaning (trace_in input) run → Unhindered 0 answer
-  -- For `order` and `seed N`, 0, 3, 4 and 5 come only where the trace of a run was written that ended so. For `load N`, 3,
-  -- 4 and 5 come only where the summary of such a run was written. For no other words do 3, 4 and 5 come.
+  -- For `order` and `seed N`, 0, 3, 4 and 5 come only where the trace of a run was written that ended so. For `load N` they
+  -- come only where the summary of such a run was written. For no other words do 3, 4 and 5 come.
   pub finished : (picks : Picks) → picks_for form ≡ Some picks → answer ≡ 0 → WroteRun picks s k ending.Finished
+  pub summed_finished : (n : ℕ) → form ≡ Some (Load n) → answer ≡ 0 → WroteSummary n k ending.Finished
   pub fault : answer ≡ 3 → (f : Fault) × WroteFor form s k (ending.Fault f)
   pub stuck : answer ≡ 4 → WroteFor form s k ending.Stuck
   pub limit : answer ≡ 5 → WroteFor form s k ending.Limit
