@@ -55,10 +55,7 @@ impl Variables {
     pub fn number(&self, name: &Name) -> Option<u64>
         ensures { result ≡ spec.variable_number self.now name.now }
     {
-        match self.names.get_index_of(name) {
-            Some(number) => Some(number as u64),
-            None => None,
-        }
+        self.names.get_index_of(name).map(|number| number as u64)
     }
 }
 

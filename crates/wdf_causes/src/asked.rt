@@ -55,10 +55,7 @@ impl FrameTest {
 fn waits_for(o: ObjectId, pending: Option<Pending>) -> bool
     ensures { result ≡ state.waits_for o.0 pending }
 {
-    match pending {
-        Some(pending) => object_in(pending.call.a).0 == o.0,
-        None => false,
-    }
+    pending.is_some_and(|pending| object_in(pending.call.a).0 == o.0)
 }
 
 impl RequestTest {
@@ -131,8 +128,6 @@ fn is_sent_from(plan: &IndexedPlan, d: ObjectId, place: Place) -> bool
 fn is_target_of(plan: &IndexedPlan, d: ObjectId, t: ObjectId) -> bool
     ensures { result ≡ asked.is_target_at plan.now d.0 t.0 }
 {
-    match plan.target_of(t) {
-        Some(target) => target.device.0 == d.0,
-        None => false,
-    }
+    plan.target_of(t)
+        .is_some_and(|target| target.device.0 == d.0)
 }

@@ -34,10 +34,8 @@ pub fn no_cpu<A: Agent>(plan: &IndexedPlan, parts: &Parts<A>, level: Irql) -> bo
 fn is_interrupt_of(plan: &IndexedPlan, d: ObjectId, i: ObjectId) -> bool
     ensures { result ≡ is_interrupt_at plan.now d.0 i.0 }
 {
-    match plan.interrupt_of(i) {
-        Some(interrupt) => interrupt.device.0 == d.0,
-        None => false,
-    }
+    plan.interrupt_of(i)
+        .is_some_and(|interrupt| interrupt.device.0 == d.0)
 }
 
 #[tactic(auto, using(crate::proofs::OnDeclared::queued_at_first, crate::proofs::OnDeclared::queued_after, crate::proofs::OnDeclared::queued_here, crate::proofs::OnDeclared::queued_nowhere))]

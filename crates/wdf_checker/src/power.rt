@@ -145,10 +145,7 @@ pub fn keeps_interrupts(past: &Past, frames: &Frames, event: &Event) -> bool
 fn works_at_opening(device: Option<DeviceInfo>) -> bool
     ensures { result ≡ laws.works_at_opening device }
 {
-    match device {
-        Some(d) => d.working,
-        None => false,
-    }
+    device.is_some_and(|d| d.working)
 }
 
 fn is_up_from_opening(past: &Past, device: u32) -> bool

@@ -22,10 +22,7 @@ impl FrameTest {
     {
         match self {
             FrameTest::On(object) => frame.object.id.0 == object.0,
-            FrameTest::WaitsFor(object) => match wait_key(frame) {
-                Some(awaited) => awaited.0 == object.0,
-                None => false,
-            },
+            FrameTest::WaitsFor(object) => wait_key(frame) == Some(object),
             FrameTest::Runs(callback, device) => {
                 same_callback(frame.callback, callback) && frame.device.id.0 == device.0
             }

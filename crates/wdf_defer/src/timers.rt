@@ -73,10 +73,7 @@ fn tick_of(timed: Option<Timed>) -> u64
 fn tick_if(timed: Option<Timed>) -> Option<u64>
     ensures { result ≡ tick_if timed }
 {
-    match timed {
-        Some(timed) => Some(timed.tick),
-        None => None,
-    }
+    timed.map(|timed| timed.tick)
 }
 
 /// The earlier of two ticks, as far as they are there.
@@ -167,10 +164,7 @@ impl Timers {
     pub fn timer_due(&self, o: ObjectId, now: u64) -> bool
         ensures { result ≡ timers.timer_due self.now o.0 now }
     {
-        match self.timed_of(o) {
-            Some(timed) => timed.tick <= now,
-            None => false,
-        }
+        self.timed_of(o).is_some_and(|timed| timed.tick <= now)
     }
 
     /// The least due tick, `None` exactly where no timer is queued.

@@ -49,10 +49,7 @@ impl Model for Device {
 fn is_due(now: u64, tick: Option<u64>) -> bool
     ensures { result ≡ model.is_due_at now tick }
 {
-    match tick {
-        Some(tick) => tick <= now,
-        None => false,
-    }
+    tick.is_some_and(|tick| tick <= now)
 }
 
 /// A tick that is later, if there is one.

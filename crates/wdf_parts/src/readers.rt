@@ -122,8 +122,5 @@ impl<A: Agent> Parts<A> {
 pub(crate) fn is_id(found: Option<ObjectId>, id: ObjectId) -> bool
     ensures { result ≡ same_id (option_map (λ o. o.0) found) id.0 }
 {
-    match found {
-        Some(other) => other.0 == id.0,
-        None => false,
-    }
+    found == Some(id)
 }

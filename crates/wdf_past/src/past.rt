@@ -54,10 +54,7 @@ fn event_at(events: &[Event], k: usize) -> &Event
 fn device_with(interrupt: Option<InterruptInfo>) -> Option<u32>
     ensures { result ≡ past.device_with interrupt }
 {
-    match interrupt {
-        Some(i) => Some(i.device.0),
-        None => None,
-    }
+    interrupt.map(|i| i.device.0)
 }
 
 fn device_of_interrupt(plan: &Plan, interrupt: Option<u32>) -> Option<u32>

@@ -76,8 +76,5 @@ fn place_in(id: u32, ids: &Places) -> usize
 fn id_at(ids: &[u32], place: usize) -> Option<ObjectId>
     ensures { option_map (λ o. o.0) result ≡ slice_get ids.now place }
 {
-    match ids.get(place) {
-        Some(id) => Some(ObjectId(*id)),
-        None => None,
-    }
+    ids.get(place).map(|id| ObjectId(*id))
 }

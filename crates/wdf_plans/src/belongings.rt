@@ -100,20 +100,16 @@ impl IndexedPlan {
     fn is_interrupt_of(&self, device: ObjectId, i: ObjectId) -> bool
         ensures { result ≡ plans.is_interrupt_of device.0 (plans.interrupt_of self.now i.0) }
     {
-        match self.interrupt_of(i) {
-            Some(interrupt) => interrupt.device.0 == device.0,
-            None => false,
-        }
+        self.interrupt_of(i)
+            .is_some_and(|interrupt| interrupt.device.0 == device.0)
     }
 
     /// Whether an id is that of a target of this device.
     fn is_target_of(&self, device: ObjectId, t: ObjectId) -> bool
         ensures { result ≡ plans.is_target_of device.0 (plans.target_of self.now t.0) }
     {
-        match self.target_of(t) {
-            Some(target) => target.device.0 == device.0,
-            None => false,
-        }
+        self.target_of(t)
+            .is_some_and(|target| target.device.0 == device.0)
     }
 }
 

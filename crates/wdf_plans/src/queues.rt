@@ -21,50 +21,38 @@ impl IndexedPlan {
     pub fn is_managed(&self, q: ObjectId) -> bool
         ensures { result ≡ plans.is_managed self.now q.0 }
     {
-        match self.queue_of(q) {
-            Some(queue) => queue.powered,
-            None => false,
-        }
+        self.queue_of(q).is_some_and(|queue| queue.powered)
     }
 
     /// Whether a queue presents its requests only when it is asked. (KMDF: a manual queue)
     pub fn is_manual_queue(&self, q: ObjectId) -> bool
         ensures { result ≡ plans.is_manual_queue self.now q.0 }
     {
-        match self.queue_of(q) {
-            Some(queue) => is_manual(queue.dispatch),
-            None => false,
-        }
+        self.queue_of(q)
+            .is_some_and(|queue| is_manual(queue.dispatch))
     }
 
     /// Whether a queue presents several requests at a time. (KMDF: a parallel queue)
     pub fn is_parallel_queue(&self, q: ObjectId) -> bool
         ensures { result ≡ plans.is_parallel_queue self.now q.0 }
     {
-        match self.queue_of(q) {
-            Some(queue) => is_parallel(queue.dispatch),
-            None => false,
-        }
+        self.queue_of(q)
+            .is_some_and(|queue| is_parallel(queue.dispatch))
     }
 
     /// Whether a queue takes reads and writes of length 0; false for what is none.
     pub fn takes_empty(&self, q: ObjectId) -> bool
         ensures { result ≡ posts.takes_empty (plans.queue_of self.now q.0) }
     {
-        match self.queue_of(q) {
-            Some(queue) => queue.zero,
-            None => false,
-        }
+        self.queue_of(q).is_some_and(|queue| queue.zero)
     }
 
     /// Whether an id is that of a queue of this device.
     pub fn is_queue_of(&self, device: ObjectId, q: ObjectId) -> bool
         ensures { result ≡ plans.is_queue_of device.0 (plans.queue_of self.now q.0) }
     {
-        match self.queue_of(q) {
-            Some(queue) => queue.device.0 == device.0,
-            None => false,
-        }
+        self.queue_of(q)
+            .is_some_and(|queue| queue.device.0 == device.0)
     }
 
     /// The queue of a device for a type of requests, else its default queue, if there is one. (KMDF)

@@ -101,10 +101,9 @@ impl Pnp {
     pub fn follows_queues_up(&self, d: ObjectId) -> bool
         ensures { result ≡ pnp.follows_queues_up self.now d.0 }
     {
-        match self.devices.get(d.0 as usize) {
-            Some(device) => device.follows_queues_up(),
-            None => false,
-        }
+        self.devices
+            .get(d.0 as usize)
+            .is_some_and(|device| device.follows_queues_up())
     }
 
     /// The Plug and Play manager asks something of a device, which has the steps of that list left:

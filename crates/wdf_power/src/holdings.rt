@@ -109,10 +109,7 @@ fn count_unsettled(queues: &[QueuePower], holdings: &[Holding], d: ObjectId) -> 
 fn is_at(d: ObjectId, device: Option<ObjectId>) -> bool
     ensures { result ≡ is_at d.0 device }
 {
-    match device {
-        Some(device) => device.0 == d.0,
-        None => false,
-    }
+    device == Some(d)
 }
 
 /// The list of the requests that are held at a device; those of all ids that no device can have are on one.

@@ -15,10 +15,7 @@ fn device_power(plan: &Plan, id: usize) -> DevicePower
     requires { id < 2 ^ 32 }
     ensures { result ≡ opening_device_at plan.now id }
 {
-    let working = match device_of(plan, ObjectId(id as u32)) {
-        Some(device) => device.working,
-        None => false,
-    };
+    let working = device_of(plan, ObjectId(id as u32)).is_some_and(|device| device.working);
     DevicePower {
         up: working,
         hardware: working,

@@ -94,10 +94,7 @@ fn next_place<A: Agent>(
 fn place_of(id: Option<ObjectId>) -> Option<usize>
     ensures { result ≡ option_map (λ o. o.0) id }
 {
-    match id {
-        Some(id) => Some(id.0 as usize),
-        None => None,
-    }
+    id.map(|id| id.0 as usize)
 }
 
 /// How many events may come of a group's places.

@@ -151,10 +151,7 @@ fn over_variables(variables: &Variables, assigned: &Option<Name>) -> bool
 fn is_past(number: Option<u64>) -> bool
     ensures { result ≡ spec.is_past number }
 {
-    match number {
-        Some(number) => number >= 16,
-        None => false,
-    }
+    number.is_some_and(|number| number >= 16)
 }
 
 #[tactic(auto, unfolding(crate::specs::Limits::over_level))]

@@ -101,10 +101,9 @@ impl Arrivals {
     fn has_slot(&self, agent: u16, k: u32) -> bool
         ensures { result ≡ has_slot_for self.now.rows agent k }
     {
-        match self.rows.get(agent as usize) {
-            Some(row) => (k as usize) < row.len(),
-            None => false,
-        }
+        self.rows
+            .get(agent as usize)
+            .is_some_and(|row| (k as usize) < row.len())
     }
 
     /// The id of the request that an arrival made and one more, or 0.

@@ -357,8 +357,5 @@ impl Requests {
 fn is_for(id: ObjectId, key: Option<ObjectId>) -> bool
     ensures { result ≡ is_at id.0 key }
 {
-    match key {
-        Some(other) => other.0 == id.0,
-        None => false,
-    }
+    key == Some(id)
 }

@@ -14,10 +14,7 @@ use wdf_same::{same_call_kind, same_stage};
 fn id_in(handle: Option<Handle>) -> Option<u32>
     ensures { result ≡ told.id_in handle }
 {
-    match handle {
-        Some(h) => Some(h.id.0),
-        None => None,
-    }
+    handle.map(|h| h.id.0)
 }
 
 fn value_object(value: Value) -> Option<u32>
@@ -186,10 +183,7 @@ fn brought_to(post: &Post) -> Option<u32>
 fn is_there(id: Option<u32>) -> bool
     ensures { result ≡ told.is_there id }
 {
-    match id {
-        Some(_) => true,
-        None => false,
-    }
+    id.is_some()
 }
 
 /// The request that arrives.

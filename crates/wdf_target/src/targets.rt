@@ -71,10 +71,9 @@ impl Targets {
     pub fn takes_more(&self, t: ObjectId) -> bool
         ensures { result ≡ targets.takes_more self.now t.0 }
     {
-        match self.targets.get(t.0 as usize) {
-            Some(target) => target.takes_more(),
-            None => false,
-        }
+        self.targets
+            .get(t.0 as usize)
+            .is_some_and(|target| target.takes_more())
     }
 
     /// The k-th request that a target holds, by rising id from 0.
@@ -106,20 +105,15 @@ impl Targets {
     pub fn is_forgotten(&self, r: ObjectId) -> bool
         ensures { result ≡ targets.is_forgotten self.now r.0 }
     {
-        match self.sending_of(r) {
-            Some(sending) => sending.forgotten,
-            None => false,
-        }
+        self.sending_of(r).is_some_and(|sending| sending.forgotten)
     }
 
     /// Whether a target holds the request, and isn't done with it.
     pub fn is_undone(&self, r: ObjectId) -> bool
         ensures { result ≡ targets.is_undone self.now r.0 }
     {
-        match self.sending_of(r) {
-            Some(sending) => sending.outcome.is_none(),
-            None => false,
-        }
+        self.sending_of(r)
+            .is_some_and(|sending| sending.outcome.is_none())
     }
 
     /// The status with which the completion routine of the request is due: `None` exactly where no
