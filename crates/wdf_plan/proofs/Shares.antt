@@ -4,7 +4,7 @@ use Rattle.std.proofs.Math.Seq.{take-suc}
 use Rattle.std.proofs.lemmas.List.{length-take-le}
 use Rattle.std.proofs.lemmas.List.Elements.{filter_map-append}
 use Rattle.std.specs.Option.{option_to_list}
-use Rattle.std.specs.Prelude.{option_and_then, ◌==◌}
+use Rattle.std.specs.Prelude.{option_and_then, option_map, ◌==◌}
 use Rattle.std.specs.List.{filter_map, cons_option}
 use Rattle.wdf_base.specs.declared.declared.PostLine.{PostLine}
 use Rattle.wdf_base.specs.Same.{same_option}
@@ -13,11 +13,12 @@ use Rattle.wdf_scene.specs.declared.line.SceneLine.TheVariants as line
 use Rattle.wdf_scene.specs.declared.scene.Scene.{Scene}
 use Rattle.wdf_blocks.specs.declared.declaration.Declaration.{Declaration}
 use Rattle.wdf_blocks.specs.declared.placed.Placed.{Placed}
+use Rattle.wdf_plan.specs.declared.agents.AgentSort.TheVariants as sort
 use Rattle.wdf_plan.specs.declared.posts.Posted.{Posted}
 use Rattle.wdf_refusals.specs.Numbers.{name_number}
 use Rattle.wdf_plan.specs.Parts.{agent, app_post, app_post_in, app_agent, device_post, device_post_in, device_agent}
 use Rattle.wdf_blocks.specs.Placed.{placed}
-use Rattle.wdf_plan.specs.Posts.{posted, app_posted, device_posted, post_in, app_with, device_with}
+use Rattle.wdf_plan.specs.Posts.{posted, app_posted, device_posted, post_in, agent_name, agent_with}
 use Rattle.wdf_refusals.proofs.Every.{composed}
 use Rattle.wdf_refusals.proofs.Fitting.{gathered_few}
 
@@ -31,14 +32,14 @@ unfolding posted post_in
 share block b None = none_in (same_option ◌==◌ block (Some b))
 share block b (Some x) = refl
 
-app_same : (scene : Scene) (names : List Declaration) (p : Placed) (form : SceneLine) → app_with names (filter_map (app_posted names) (placed scene)) p form ≡ app_agent scene names p form
-unfolding app_with app_agent
+app_same : (scene : Scene) (names : List Declaration) (p : Placed) (form : SceneLine) → option_map (λ n. agent (name_number names n) (filter_map (post_in p.at) (filter_map (app_posted names) (placed scene)))) (agent_name sort.App form) ≡ app_agent scene names p form
+unfolding agent_name app_agent
 app_same scene names p (line.App n) =
     ap (λ posts. Some (agent (name_number names n) posts)) (composed (app_posted names) (post_in p.at) (app_post_in names p.at) (λ q. share q.stand.block p.at (app_post names q.number q.form)) (placed scene))
 app_same scene names p _ = refl
 
-device_same : (scene : Scene) (names : List Declaration) (p : Placed) (form : SceneLine) → device_with names (filter_map (device_posted names) (placed scene)) p form ≡ device_agent scene names p form
-unfolding device_with device_agent
+device_same : (scene : Scene) (names : List Declaration) (p : Placed) (form : SceneLine) → option_map (λ n. agent (name_number names n) (filter_map (post_in p.at) (filter_map (device_posted names) (placed scene)))) (agent_name sort.Device form) ≡ device_agent scene names p form
+unfolding agent_name device_agent
 device_same scene names p (line.Device n working) =
     ap (λ posts. Some (agent (name_number names n) posts)) (composed (device_posted names) (post_in p.at) (device_post_in names p.at) (λ q. share q.stand.block p.at (device_post names q.number q.stand.device q.form)) (placed scene))
 device_same scene names p _ = refl
@@ -47,13 +48,15 @@ pub kept_same : {P T : Type 0} (f g : P → Option T) → ((p : P) → f p ≡ g
 kept_same f g e [] = refl
 kept_same f g e (p ∷ ps) = rw (e p, kept_same f g e ps) refl
 
-pub apps_same : (scene : Scene) (names : List Declaration) → filter_map (λ p. app_with names (filter_map (app_posted names) (placed scene)) p p.form) (placed scene) ≡ filter_map (λ p. app_agent scene names p p.form) (placed scene)
+pub apps_same : (scene : Scene) (names : List Declaration) → filter_map (agent_with sort.App names (filter_map (app_posted names) (placed scene))) (placed scene) ≡ filter_map (λ p. app_agent scene names p p.form) (placed scene)
+unfolding agent_with
 apps_same scene names =
-    kept_same (λ p. app_with names (filter_map (app_posted names) (placed scene)) p p.form) (λ p. app_agent scene names p p.form) (λ p. app_same scene names p p.form) (placed scene)
+    kept_same (agent_with sort.App names (filter_map (app_posted names) (placed scene))) (λ p. app_agent scene names p p.form) (λ p. app_same scene names p p.form) (placed scene)
 
-pub devices_same : (scene : Scene) (names : List Declaration) → filter_map (λ p. device_with names (filter_map (device_posted names) (placed scene)) p p.form) (placed scene) ≡ filter_map (λ p. device_agent scene names p p.form) (placed scene)
+pub devices_same : (scene : Scene) (names : List Declaration) → filter_map (agent_with sort.Device names (filter_map (device_posted names) (placed scene))) (placed scene) ≡ filter_map (λ p. device_agent scene names p p.form) (placed scene)
+unfolding agent_with
 devices_same scene names =
-    kept_same (λ p. device_with names (filter_map (device_posted names) (placed scene)) p p.form) (λ p. device_agent scene names p p.form) (λ p. device_same scene names p p.form) (placed scene)
+    kept_same (agent_with sort.Device names (filter_map (device_posted names) (placed scene))) (λ p. device_agent scene names p p.form) (λ p. device_same scene names p p.form) (placed scene)
 
 -- ---- a share is taken post by post
 

@@ -8,6 +8,8 @@ use Rattle.wdf_scene.specs.declared.line.SceneLine.{SceneLine}
 use Rattle.wdf_scene.specs.declared.line.SceneLine.TheVariants as line
 use Rattle.wdf_blocks.specs.declared.declaration.Declaration.{Declaration}
 use Rattle.wdf_blocks.specs.declared.placed.Placed.{Placed}
+use Rattle.wdf_plan.specs.declared.agents.AgentSort.{AgentSort}
+use Rattle.wdf_plan.specs.declared.agents.AgentSort.TheVariants as sort
 use Rattle.wdf_plan.specs.declared.posts.Posted.{Posted}
 use Rattle.wdf_refusals.specs.Numbers.{name_number}
 use Rattle.wdf_plan.specs.Parts.{agent, app_post, device_post}
@@ -26,12 +28,14 @@ device_posted names p = posted p.stand.block (device_post names p.number p.stand
 unfoldable pub post_in : ℕ → Posted → Option PostLine
 post_in b x = cond (same_option ◌==◌ x.block (Some b)) (Some x.post) None
 
--- an app, or a device, with what its block has of all posts
-unfoldable pub app_with : List Declaration → List Posted → Placed → SceneLine → Option AgentInfo
-app_with names all p (line.App n) = Some (agent (name_number names n) (filter_map (post_in p.at) all))
-app_with names all p _ = None
+-- the name that a line declares for an agent of a sort
+unfoldable pub agent_name : AgentSort → SceneLine → Option (List ℕ)
+agent_name sort.App (line.App n) = Some n
+agent_name sort.App _ = None
+agent_name sort.Device (line.Device n working) = Some n
+agent_name sort.Device _ = None
 
-unfoldable pub device_with : List Declaration → List Posted → Placed → SceneLine → Option AgentInfo
-device_with names all p (line.Device n working) =
-    Some (agent (name_number names n) (filter_map (post_in p.at) all))
-device_with names all p _ = None
+-- an agent of a sort, with what its block has of all posts of that sort
+unfoldable pub agent_with : AgentSort → List Declaration → List Posted → Placed → Option AgentInfo
+agent_with s names all p =
+    option_map (λ n. agent (name_number names n) (filter_map (post_in p.at) all)) (agent_name s p.form)

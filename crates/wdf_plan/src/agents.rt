@@ -5,7 +5,7 @@ ghost use Rattle.wdf_plan.specs.Posts as shares;
 
 use crate::posts::{Posted, posts_in, with_block};
 use std::alloc::Global;
-use wdf_base::{AgentInfo, Items, MANY, Memory, Post, PostLine};
+use wdf_base::{AgentInfo, Items, MANY, Memory, Name, Post, PostLine};
 use wdf_blocks::declaration::Wanted;
 use wdf_blocks::placed::Placed;
 use wdf_refusals::names::Names;
@@ -169,96 +169,74 @@ impl Part for DevicePosts<'_> {
     }
 }
 
-#[tactic(auto, unfolding(crate::specs::Posts::app_with))]
-fn app_agent(
-    alloc: Global,
-    names: &Names,
-    posts: &[Posted],
-    placed: &Placed,
-    form: &SceneLine,
-) -> Result<Option<AgentInfo>, Memory>
-    requires { length posts.now < 2 ^ 32 }
-    ensures { IfOk result (λ o. o ≡ shares.app_with names.now posts.now placed.now form.now) }
+/// The sorts of agents that have posts of their own.
+#[derive(Clone, Copy, Debug, PartialEq, Eq)]
+pub enum AgentSort {
+    App,
+    Device,
+}
+
+/// The name that a line declares for an agent of this sort.
+#[tactic(auto, unfolding(crate::specs::Posts::agent_name))]
+fn agent_name(sort: AgentSort, form: &SceneLine) -> Option<Name>
+    ensures { result ≡ shares.agent_name sort form.now }
 {
-    match form {
-        SceneLine::App { name } => {
-            let name = name_number(names, name);
-            let posts = posts_in(alloc, posts, placed.at)?;
-            Ok(Some(AgentInfo { name, posts }))
-        }
-        _ => Ok(None),
+    match sort {
+        AgentSort::App => match form {
+            SceneLine::App { name } => Some(*name),
+            _ => None,
+        },
+        AgentSort::Device => match form {
+            SceneLine::Device { name, .. } => Some(*name),
+            _ => None,
+        },
     }
 }
 
-/// The apps, with their share of the posts of apps.
+#[tactic(auto, unfolding(crate::specs::Posts::agent_with))]
+fn agent_with(
+    alloc: Global,
+    sort: AgentSort,
+    names: &Names,
+    posts: &[Posted],
+    placed: &Placed,
+) -> Result<Option<AgentInfo>, Memory>
+    requires { length posts.now < 2 ^ 32 }
+    ensures { IfOk result (λ o. o ≡ shares.agent_with sort names.now posts.now placed.now) }
+{
+    match agent_name(sort, &placed.form) {
+        Some(name) => {
+            let name = name_number(names, &name);
+            let posts = posts_in(alloc, posts, placed.at)?;
+            Ok(Some(AgentInfo { name, posts }))
+        }
+        None => Ok(None),
+    }
+}
+
+/// The agents of one sort, with their share of the posts of that sort.
 #[derive(Drop)]
-pub struct Apps<'a> {
+pub struct Agents<'a> {
     pub alloc: Global,
+    pub sort: AgentSort,
     pub names: &'a Names,
     pub posts: &'a Items<Posted, MANY>,
 }
 
-impl Part for Apps<'_> {
+impl Part for Agents<'_> {
     type Item = AgentInfo;
 
-    ghost part = { λ s p. shares.app_with s.names.now s.posts.now p p.form };
+    ghost part = { λ s. shares.agent_with s.sort s.names.now s.posts.now };
 
     ghost fits = { λ s p. Unit {0} };
 
     fn take(&self, line: &Placed) -> Result<Option<AgentInfo>, Memory> {
-        app_agent(
+        agent_with(
             self.alloc,
+            self.sort,
             self.names,
             self.posts.as_slice(),
             line,
-            &line.form,
-        )
-    }
-}
-
-#[tactic(auto, unfolding(crate::specs::Posts::device_with))]
-fn device_agent(
-    alloc: Global,
-    names: &Names,
-    posts: &[Posted],
-    placed: &Placed,
-    form: &SceneLine,
-) -> Result<Option<AgentInfo>, Memory>
-    requires { length posts.now < 2 ^ 32 }
-    ensures { IfOk result (λ o. o ≡ shares.device_with names.now posts.now placed.now form.now) }
-{
-    match form {
-        SceneLine::Device { name, .. } => {
-            let name = name_number(names, name);
-            let posts = posts_in(alloc, posts, placed.at)?;
-            Ok(Some(AgentInfo { name, posts }))
-        }
-        _ => Ok(None),
-    }
-}
-
-/// The devices as those that post, with their share of the posts of devices.
-#[derive(Drop)]
-pub struct Devices<'a> {
-    pub alloc: Global,
-    pub names: &'a Names,
-    pub posts: &'a Items<Posted, MANY>,
-}
-
-impl Part for Devices<'_> {
-    type Item = AgentInfo;
-
-    ghost part = { λ s p. shares.device_with s.names.now s.posts.now p p.form };
-
-    ghost fits = { λ s p. Unit {0} };
-
-    fn take(&self, line: &Placed) -> Result<Option<AgentInfo>, Memory> {
-        device_agent(
-            self.alloc,
-            self.names,
-            self.posts.as_slice(),
-            line,
-            &line.form,
         )
     }
 }

@@ -9,7 +9,7 @@ ghost use Rattle.wdf_refusals.specs.First as first;
 ghost use Rattle.wdf_plan.specs.Fitting.{CanPlan};
 ghost use Rattle.wdf_plan.specs.Plans as plans;
 
-use crate::agents::{AppPosts, Apps, DevicePosts, Devices, PnpPosts, Targets};
+use crate::agents::{AgentSort, Agents, AppPosts, DevicePosts, PnpPosts, Targets};
 use crate::nodes::{all_nodes, all_picks};
 use crate::objects::{Classes, Objects, Registers, Whens};
 use crate::posts::Posted;
@@ -90,15 +90,17 @@ fn all_agents(alloc: Global, scene: &Scene, names: &Names) -> Result<Items<Agent
 {
     let mut agents = Items::new(alloc);
     let posts: Items<Posted, MANY> = gather(alloc, scene, &AppPosts { names })?;
-    let apps = Apps {
+    let apps = Agents {
         alloc,
+        sort: AgentSort::App,
         names,
         posts: &posts,
     };
     gather_after(scene, &apps, &mut agents)?;
     let posts: Items<Posted, MANY> = gather(alloc, scene, &DevicePosts { names })?;
-    let devices = Devices {
+    let devices = Agents {
         alloc,
+        sort: AgentSort::Device,
         names,
         posts: &posts,
     };

@@ -261,7 +261,7 @@ fn onward(
 /// blocks, its number, and the lines after it.
 #[derive(Clone, Copy)]
 pub struct Round<'a> {
-    pub blocks: &'a [Nest],
+    pub open_before: &'a [Nest],
     pub open_after: &'a [Nest],
     pub detours: &'a [Detour],
     pub number: u64,
@@ -311,9 +311,9 @@ pub fn detours_after(
 ) -> Result<Vec<Detour>, Memory>
     requires lines { length round.now.lines.now < 2 ^ 32 }
     requires number { round.now.number < 2 ^ 32 }
-    requires kept { scripts.AreDetours 0 round.now.blocks.now round.now.lines.now round.now.detours.now }
-    requires each { length round.now.detours.now ≡ length round.now.blocks.now }
-    requires after { round.now.open_after.now ≡ scripts.nests_after round.now.blocks.now round.now.number line.now.number line.now.form }
+    requires kept { scripts.AreDetours 0 round.now.open_before.now round.now.lines.now round.now.detours.now }
+    requires each { length round.now.detours.now ≡ length round.now.open_before.now }
+    requires after { round.now.open_after.now ≡ scripts.nests_after round.now.open_before.now round.now.number line.now.number line.now.form }
     ensures kept { IfOk result (λ v. scripts.AreDetours 0 round.now.open_after.now round.now.lines.now v.items) }
     ensures each { IfOk result (λ v. length v.items ≡ length round.now.open_after.now) }
 {
@@ -330,8 +330,8 @@ fn act_on(names: &Names, variables: &Variables, round: &Round, form: &SceneLine)
     requires lines { length round.now.lines.now < 2 ^ 32 }
     requires number { round.now.number < 2 ^ 32 }
     requires kept { scripts.AreDetours 0 round.now.open_after.now round.now.lines.now round.now.detours.now }
-    requires fits { IfSome (scripts.act_on names.now variables.now round.now.blocks.now round.now.open_after.now round.now.number form.now (drop round.now.from round.now.lines.now)) IsFitAct }
-    ensures { result ≡ scripts.act_on names.now variables.now round.now.blocks.now round.now.open_after.now round.now.number form.now (drop round.now.from round.now.lines.now) }
+    requires fits { IfSome (scripts.act_on names.now variables.now round.now.open_before.now round.now.open_after.now round.now.number form.now (drop round.now.from round.now.lines.now)) IsFitAct }
+    ensures { result ≡ scripts.act_on names.now variables.now round.now.open_before.now round.now.open_after.now round.now.number form.now (drop round.now.from round.now.lines.now) }
 {
     match form {
         SceneLine::If { test } => Some(Act::If {
@@ -346,7 +346,7 @@ fn act_on(names: &Names, variables: &Variables, round: &Round, form: &SceneLine)
         }),
         SceneLine::Repeat { count } => Some(Act::Repeat {
             count: *count,
-            depth: loops(round.blocks),
+            depth: loops(round.open_before),
             past: beyond(
                 round.open_after,
                 round.detours,
@@ -355,7 +355,7 @@ fn act_on(names: &Names, variables: &Variables, round: &Round, form: &SceneLine)
                 round.from,
             ),
         }),
-        SceneLine::End => again(round.blocks, nest_at(round.blocks, 0)),
+        SceneLine::End => again(round.open_before, nest_at(round.open_before, 0)),
         _ => plain_act(names, variables, form),
     }
 }
@@ -393,12 +393,12 @@ pub fn statement_on(
     requires lines { length round.now.lines.now < 2 ^ 32 }
     requires number { round.now.number < 2 ^ 32 }
     requires kept { scripts.AreDetours 0 round.now.open_after.now round.now.lines.now round.now.detours.now }
-    requires fits { IfSome (scripts.statement_on names.now variables.now round.now.blocks.now round.now.open_after.now round.now.number line.now (drop round.now.from round.now.lines.now)) IsFitStatement }
-    ensures { result ≡ scripts.statement_on names.now variables.now round.now.blocks.now round.now.open_after.now round.now.number line.now (drop round.now.from round.now.lines.now) }
+    requires fits { IfSome (scripts.statement_on names.now variables.now round.now.open_before.now round.now.open_after.now round.now.number line.now (drop round.now.from round.now.lines.now)) IsFitStatement }
+    ensures { result ≡ scripts.statement_on names.now variables.now round.now.open_before.now round.now.open_after.now round.now.number line.now (drop round.now.from round.now.lines.now) }
 {
     match act_on(names, variables, round, &line.form) {
         Some(act) => Some(Statement {
-            line: told_line(round.blocks, line.number, &line.form),
+            line: told_line(round.open_before, line.number, &line.form),
             next: onward(
                 round.open_after,
                 round.detours,

@@ -33,12 +33,12 @@ fn add_statement(
 ) -> Result<Vec<Detour>, Memory>
     requires lines { length round.now.lines.now < 2 ^ 32 }
     requires number { round.now.number < 2 ^ 32 }
-    requires kept { scripts.AreDetours 0 round.now.blocks.now round.now.lines.now round.now.detours.now }
-    requires each { length round.now.detours.now ≡ length round.now.blocks.now }
-    requires after { round.now.open_after.now ≡ scripts.nests_after round.now.blocks.now round.now.number line.now.number line.now.form }
-    requires fits { IfSome (scripts.statement_on names.now variables.now round.now.blocks.now round.now.open_after.now round.now.number line.now (drop round.now.from round.now.lines.now)) IsFitStatement }
-    requires room { length (statements.old ++ option_to_list (scripts.statement_on names.now variables.now round.now.blocks.now round.now.open_after.now round.now.number line.now (drop round.now.from round.now.lines.now))) < 2 ^ 32 }
-    ensures added { OnOk result (statements.new ≡ statements.old ++ option_to_list (scripts.statement_on names.now variables.now round.now.blocks.now round.now.open_after.now round.now.number line.now (drop round.now.from round.now.lines.now))) }
+    requires kept { scripts.AreDetours 0 round.now.open_before.now round.now.lines.now round.now.detours.now }
+    requires each { length round.now.detours.now ≡ length round.now.open_before.now }
+    requires after { round.now.open_after.now ≡ scripts.nests_after round.now.open_before.now round.now.number line.now.number line.now.form }
+    requires fits { IfSome (scripts.statement_on names.now variables.now round.now.open_before.now round.now.open_after.now round.now.number line.now (drop round.now.from round.now.lines.now)) IsFitStatement }
+    requires room { length (statements.old ++ option_to_list (scripts.statement_on names.now variables.now round.now.open_before.now round.now.open_after.now round.now.number line.now (drop round.now.from round.now.lines.now))) < 2 ^ 32 }
+    ensures added { OnOk result (statements.new ≡ statements.old ++ option_to_list (scripts.statement_on names.now variables.now round.now.open_before.now round.now.open_after.now round.now.number line.now (drop round.now.from round.now.lines.now))) }
     ensures kept { IfOk result (λ v. scripts.AreDetours 0 round.now.open_after.now round.now.lines.now v.items) }
     ensures each { IfOk result (λ v. length v.items ≡ length round.now.open_after.now) }
 {
@@ -79,7 +79,7 @@ fn statements_from(
             Err(error) => return Err(error),
         };
         let round = Round {
-            blocks: open,
+            open_before: open,
             open_after: after.as_slice(),
             detours: detours.as_slice(),
             number,
