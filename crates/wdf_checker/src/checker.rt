@@ -1,8 +1,7 @@
 //! The checker: the first law that is broken.
-ghost use Rattle.std.specs.Prelude.{◌≡◌, ◌<◌, length, take, slice_get, IfOk, Some};
+ghost use Rattle.std.specs.Prelude.{◌≡◌, ◌<◌, length, slice_get, IfOk, Some};
 ghost use Rattle.wdf_laws.specs.First as first;
 ghost use Rattle.wdf_laws.specs.First.{IsFirstBroken};
-ghost use Rattle.wdf_laws.specs.Frames.{frames_after};
 ghost use Rattle.wdf_past.specs.Past.{before};
 
 use crate::laws::{keeps_cancels, keeps_cleanups, keeps_completions, keeps_ends, keeps_scopes};

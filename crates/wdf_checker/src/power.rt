@@ -7,9 +7,7 @@ ghost use Rattle.wdf_past.specs.Past.{before, device_of_interrupt};
 ghost use Rattle.wdf_model.specs.Plans as plans;
 ghost use Rattle.wdf_checker.specs.Tests as tests;
 
-use wdf_base::{
-    Callback, DeviceInfo, Event, InterruptInfo, ObjectId, Plan, QueueInfo, Rank, Stage,
-};
+use wdf_base::{Callback, DeviceInfo, Event, InterruptInfo, ObjectId, QueueInfo, Rank, Stage};
 use wdf_declared::{declares, device_of, interrupt_of, queue_of};
 use wdf_laws::{Begun, Sign, Stacked, Taking};
 use wdf_past::{Frames, Past, is_on};

@@ -1,5 +1,5 @@
 //! The codes of signs, by which they are looked up.
-ghost use Rattle.std.specs.Prelude.{◌≡◌, ℕ, List, [], ◌∷◌, OnOk};
+ghost use Rattle.std.specs.Prelude.{◌≡◌, ℕ, List, OnOk};
 ghost use Rattle.wdf_past.specs.Codes as codes;
 
 use std::collections::HashMap;

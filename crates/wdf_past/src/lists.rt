@@ -1,7 +1,6 @@
 //! Lists by device and by queue, and what each queue has presented.
 ghost use Rattle.std.specs.Prelude.{◌≡◌, ℕ, [], OnOk};
 ghost use Rattle.wdf_laws.specs.Events as told;
-ghost use Rattle.wdf_model.specs.Plans as plans;
 ghost use Rattle.wdf_past.specs.Maps as maps;
 ghost use Rattle.wdf_past.specs.Groups as groups;
 ghost use Rattle.wdf_past.specs.Order as order;

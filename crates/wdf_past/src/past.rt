@@ -1,5 +1,5 @@
 //! The events that were read so far, and the laws' words over them.
-ghost use Rattle.std.specs.Prelude.{◌≡◌, ◌+◌, ◌<◌, ◌≤◌, ℕ, length, take, slice_get, IfOk, Some};
+ghost use Rattle.std.specs.Prelude.{◌≡◌, ◌+◌, ◌<◌, ◌≤◌, length, slice_get, IfOk, Some};
 ghost use Rattle.wdf_laws.specs.Family as family;
 ghost use Rattle.wdf_laws.specs.Words as words;
 ghost use Rattle.wdf_laws.specs.declared.sign.Sign.TheVariants as sign;
