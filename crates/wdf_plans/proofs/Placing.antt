@@ -52,8 +52,3 @@ module _ (numbers : List ℕ) (number : ℕ) where
 
 pub shorter : (place : ℕ) (left rest : List ℕ) → left ≡ place ∷ rest → length rest < length left
 shorter place left rest e = omega (arith, ap length e)
-
--- the number at a place that was found
-pub named_at : (names : List ℕ) (number from : ℕ) (place : Option ℕ) → IsFirstAt names number from (place_of names place) → IfSome place (λ k. k < length names) → IfSome place (λ k. slice_index names k ≡ number)
-named_at names number from None first l = tt
-named_at names number from (Some k) first l = first.here l

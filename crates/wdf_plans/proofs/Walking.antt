@@ -1,11 +1,12 @@
 -- Walks over the scripts of one name, and over what belongs to one device.
-use Rattle.std.proofs.Common.{◌≡◌, ◌≢◌, ℕ, zero, suc, ◌+◌, ◌-◌, ◌<◌, ◌≤◌, ◌==◌, ◌&&◌, Bool, true, false, List, [], ◌∷◌, length, map, filter, get_or, slice_get, slice_index, Option, Some, None, inl, inr, refl, sym, ap, ◌∙◌, subst, arith}
+use Rattle.std.proofs.Common.{◌≡◌, ◌≢◌, ℕ, zero, suc, ◌+◌, ◌-◌, ◌<◌, ◌≤◌, ◌==◌, ◌&&◌, Bool, true, false, List, [], ◌∷◌, length, map, filter, get_or, position, slice_get, slice_index, Option, Some, None, inl, inr, refl, sym, ap, ◌∙◌, subst, arith}
 use Rattle.std.specs.List.{All, range_with_len}
 use Rattle.std.proofs.lemmas.List.Elements.{All-filter}
 use Rattle.std.proofs.lemmas.List.FromFn.{get_or-range_with_len, length-range_with_len}
 use Rattle.std.proofs.lemmas.Bool.{cases_lt, eqb-true}
 use Rattle.std.proofs.lemmas.Bool.Decides.{nat_tests}
 use Rattle.std.proofs.lemmas.List.{length-map}
+use Rattle.std.proofs.lemmas.Option.{slice_get_within}
 use Rattle.wdf_base.specs.declared.call.Callback.{Callback}
 use Rattle.wdf_base.specs.declared.declared.Declared.{Declared}
 use Rattle.wdf_base.specs.declared.declared.Declared.TheVariants as declared
@@ -17,7 +18,8 @@ use Rattle.wdf_base.specs.SamePlan.{same_declared}
 use Rattle.wdf_model.specs.Plans.{as_interrupt, as_queue, as_target, declared_ids, is_interrupt_of, is_queue_of, is_target_of, queue_of, queues_of}
 use Rattle.wdf_plans.specs.Belongings.{ids_at, ids_of, is_of}
 use Rattle.wdf_plans.specs.Keys.{belongs_to, device_over, devices_over, owner_name, script_name, script_names}
-use Rattle.wdf_plans.specs.Places.{IsFirstAt, places_of}
+use Rattle.wdf_plans.specs.Places.{places_of}
+use Rattle.wdf_plans.proofs.Finding.{first_place, no_place}
 use Rattle.wdf_plans.specs.declared.belongings.Sort.{Sort}
 use Rattle.wdf_plans.specs.declared.belongings.Sort.TheVariants as sort
 
@@ -49,38 +51,59 @@ other_by plan false a b false e h = refl
 other_script : (plan : Plan) (c : Callback) (owner : Declared) (s : Script) → script_name plan s ≢ owner_name plan owner → is_script_of c owner s ≡ false
 other_script plan c owner s h = other_by plan (same_callback s.callback c) s.owner owner (same_declared s.owner owner) refl h
 
--- the scripts before the next of the name, where none of those before the last one is the one
-pub failed_on : (plan : Plan) (c : Callback) (owner : Declared) (names : List ℕ) (from at : ℕ) → names ≡ script_names plan → IsFirstAt names (owner_name plan owner) from at
-    → ((j : ℕ) (s : Script) → j < from → slice_get plan.scripts j ≡ Some s → is_script_of c owner s ≡ false)
-    → (j : ℕ) (s : Script) → j < at → slice_get plan.scripts j ≡ Some s → is_script_of c owner s ≡ false
-failed_on plan c owner names from at is first before j s l e = elim (cases_lt j from) as (λ _. is_script_of c owner s ≡ false) [
-  | inl early ↦ before j s early e
-  | inr late ↦
-      let name : slice_index names j ≡ script_name plan s = ap (λ xs. slice_index xs j) is ∙ read_mapped (script_name plan) plan.scripts j s e in
-      let other : slice_index names j ≢ owner_name plan owner = first.passed j late l in
-      other_script plan c owner s (λ z. other (name ∙ z))
-]
+module _ (plan : Plan) (c : Callback) (owner : Declared) where
+  -- no script below a place is the one
+  abbrev HasNone : ℕ → Type 0
+  HasNone n = (j : ℕ) (s : Script) → j < n → slice_get plan.scripts j ≡ Some s → is_script_of c owner s ≡ false
 
--- one script more isn't the one
-failed_by : (p : Script → Bool) (scripts : List Script) (n : ℕ) (x : Script) → slice_get scripts n ≡ Some x → p x ≡ false → ((j : ℕ) (s : Script) → j < n → slice_get scripts j ≡ Some s → p s ≡ false)
-    → (j : ℕ) (s : Script) → j < n + 1 → slice_get scripts j ≡ Some s → p s ≡ false
-failed_by p scripts n x at this before j s l e = elim (cases_lt j n) as (λ _. p s ≡ false) [
-  | inl early ↦ before j s early e
-  | inr late ↦
-      let same : j ≡ n = omega arith in
-      let there : slice_get scripts n ≡ Some s = subst (λ k. slice_get scripts k ≡ Some s) same e in
-      let is : s ≡ x = cc in
-      ap p is ∙ this
-]
+  -- The first of these places whose script is the one leads to it; where there is none, no script is the one.
+  abbrev pub Leads : List ℕ → Type 0
+  Leads [] = position (is_script_of c owner) plan.scripts ≡ None
+  Leads (k ∷ ks) =
+      (k < length plan.scripts)
+      × ((s : Script) → slice_get plan.scripts k ≡ Some s → is_script_of c owner s ≡ true → position (is_script_of c owner) plan.scripts ≡ Some k)
+      × ((s : Script) → slice_get plan.scripts k ≡ Some s → is_script_of c owner s ≡ false → Leads ks)
 
-pub failed_more : (plan : Plan) (c : Callback) (owner : Declared) (names : List ℕ) (n at : ℕ) (x : Script) → names ≡ script_names plan → slice_index names n ≡ owner_name plan owner → IsFirstAt names (slice_index names n) (n + 1) at
-    → slice_get plan.scripts n ≡ Some x → is_script_of c owner x ≡ false → ((j : ℕ) (s : Script) → j < n → slice_get plan.scripts j ≡ Some s → is_script_of c owner s ≡ false)
-    → (j : ℕ) (s : Script) → j < at → slice_get plan.scripts j ≡ Some s → is_script_of c owner s ≡ false
-failed_more plan c owner names n at x is named first here this before =
-    failed_on plan c owner names (n + 1) at is (subst (λ k. IsFirstAt names k (n + 1) at) named first) (failed_by (is_script_of c owner) plan.scripts n x here this before)
+  none_more : (n : ℕ) → HasNone n → ((s : Script) → slice_get plan.scripts n ≡ Some s → is_script_of c owner s ≡ false) → HasNone (n + 1)
+  none_more n before here j s l e = elim (cases_lt j n) as (λ _. is_script_of c owner s ≡ false) [
+    | inl early ↦ before j s early e
+    | inr late ↦
+        let same : j ≡ n = omega arith in
+        here s (subst (λ k. slice_get plan.scripts k ≡ Some s) same e)
+  ]
 
-pub names_long : (plan : Plan) (names : List ℕ) → names ≡ script_names plan → length names ≡ length plan.scripts
-names_long plan names is = ap length is ∙ length-map plan.scripts (script_name plan)
+  module _ (names : List ℕ) (is : names ≡ script_names plan) where
+    long : length names ≡ length plan.scripts
+    long = ap length is ∙ length-map plan.scripts (script_name plan)
+
+    other_named : (n : ℕ) (s : Script) → (slice_index names n == owner_name plan owner) ≡ false → slice_get plan.scripts n ≡ Some s → is_script_of c owner s ≡ false
+    other_named n s h e =
+        let name : slice_index names n ≡ script_name plan s = ap (λ xs. slice_index xs n) is ∙ read_mapped (script_name plan) plan.scripts n s e in
+        let other : slice_index names n ≢ owner_name plan owner = grind (arith, nat_tests) in
+        other_script plan c owner s (λ z. other (name ∙ z))
+
+    leads_by : (n : ℕ) (ks : List ℕ) (b : Bool) → (slice_index names n == owner_name plan owner) ≡ b → n < length names → HasNone n
+        → (HasNone (n + 1) → Leads (filter (λ k. slice_index names k == owner_name plan owner) ks)) → Leads (filter (λ k. slice_index names k == owner_name plan owner) (n ∷ ks))
+    leads_by n ks false e l before rest = rw e (rest (none_more n before (λ s at. other_named n s e at)))
+    leads_by n ks true e l before rest =
+        rw e (
+          (let all = long in omega arith),
+          (λ s at this. first_place (is_script_of c owner) plan.scripts n s before at this),
+          (λ s at this. rest (none_more n before (λ x here. let same : x ≡ s = cc in ap (is_script_of c owner) same ∙ this))),
+        )
+
+    leads_from : (m n : ℕ) → n + m ≡ length names → HasNone n → Leads (filter (λ k. slice_index names k == owner_name plan owner) (range_with_len n m))
+    leads_from zero n e before =
+        let all = long in
+        no_place (is_script_of c owner) plan.scripts (λ j s at. let l = slice_get_within plan.scripts j s at in before j s (omega arith) at)
+    leads_from (suc m) n e before =
+        leads_by n (range_with_len (n + 1) m) (slice_index names n == owner_name plan owner) refl (omega arith) before (leads_from m (n + 1) (omega arith))
+
+    -- the places of the owner's name lead to the script
+    pub leads : (places : List ℕ) → places ≡ places_of names (owner_name plan owner) → Leads places
+    leads places e =
+        let all : length names - 0 ≡ length names = omega arith in
+        rw (e, all) (leads_from (length names) 0 (omega arith) (λ j s l at. absurd (omega arith)))
 
 -- ---- what belongs to a device
 

@@ -88,12 +88,10 @@ fn script_among(plan: &Plan, names: &Places, callback: Callback, owner: &Declare
     requires { names.now ≡ keys.script_names plan.now }
     ensures { result ≡ script_of plan.now callback owner.now }
 {
-    let mut at = names.first(owner_name(plan, owner));
-    'walk: while let Some(script) = at {
+    'walk: for script in names.of(owner_name(plan, owner)) {
         if plan.scripts.item(script).is_of(callback, owner) {
             return Some(script);
         }
-        at = names.after(script);
     }
     None
 }
