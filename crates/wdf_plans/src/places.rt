@@ -110,7 +110,7 @@ impl Places {
     }
 
     /// The next place of the number at a place.
-    pub fn after(&self, place: u32) -> Option<u32>
+    fn after(&self, place: u32) -> Option<u32>
         requires { place < length self.now }
         ensures next { IsFirstAt self.now (slice_index self.now place) (place + 1) (place_of self.now result) }
         ensures within { IfSome result (λ place. place < length self.now) }
