@@ -42,10 +42,7 @@ fn add_nodes(
     ensures { OnOk result (nodes.new ≡ nodes.old ++ map (scripts.node_of names.now variables.now) all.now) }
 {
     for node in all {
-        match add_node(names, variables, node, nodes) {
-            Ok(()) => {}
-            Err(error) => return Err(error),
-        }
+        add_node(names, variables, node, nodes)?;
     }
     Ok(())
 }
@@ -97,15 +94,9 @@ pub fn all_nodes(
     let mut walk = Walk::new(scene);
     while let Some(placed) = walk.next() {
         let next = placed.stand.callback;
-        variables = match entered(alloc, scene, callback, variables, next) {
-            Ok(entered) => entered,
-            Err(error) => return Err(error),
-        };
+        variables = entered(alloc, scene, callback, variables, next)?;
         callback = next;
-        match add_line(scene, names, &variables, &placed, &mut nodes) {
-            Ok(()) => {}
-            Err(error) => return Err(error),
-        }
+        add_line(scene, names, &variables, &placed, &mut nodes)?;
     }
     Ok(nodes)
 }
@@ -115,10 +106,7 @@ fn add_picks(all: &[u64], picks: &mut Items<u64, MANY>) -> Result<(), Memory>
     ensures { OnOk result (picks.new ≡ picks.old ++ all.now) }
 {
     for pick in all {
-        match picks.push(*pick) {
-            Ok(()) => {}
-            Err(error) => return Err(error),
-        }
+        picks.push(*pick)?;
     }
     Ok(())
 }
@@ -130,10 +118,7 @@ pub fn all_picks(alloc: Global, lines: &[NumberedLine]) -> Result<Items<u64, MAN
 {
     let mut picks = Items::new(alloc);
     for line in lines {
-        match add_picks(line.picks.as_slice(), &mut picks) {
-            Ok(()) => {}
-            Err(error) => return Err(error),
-        }
+        add_picks(line.picks.as_slice(), &mut picks)?;
     }
     Ok(picks)
 }

@@ -44,10 +44,7 @@ pub fn posts_in(alloc: Global, all: &[Posted], block: u32) -> Result<Items<PostL
 {
     let mut posts = Items::new(alloc);
     for posted in all {
-        match add_found(&mut posts, post_in(posted, block)) {
-            Ok(()) => {}
-            Err(error) => return Err(error),
-        }
+        add_found(&mut posts, post_in(posted, block))?;
     }
     Ok(posts)
 }

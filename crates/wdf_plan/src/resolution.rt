@@ -51,10 +51,7 @@ fn add_names(all: &[Declaration], names: &mut Items<Name, MANY>) -> Result<(), M
     ensures { OnOk result (names.new ≡ names.old ++ map plans.name_in all.now) }
 {
     for declaration in all {
-        match names.push(declaration.name) {
-            Ok(()) => {}
-            Err(error) => return Err(error),
-        }
+        names.push(declaration.name)?;
     }
     Ok(())
 }

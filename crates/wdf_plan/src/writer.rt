@@ -74,10 +74,7 @@ fn statements_from(
             return Ok(statements);
         }
         let number = u64::from(statements.len());
-        let after = match nests_after(alloc, open, number, line.number, &line.form) {
-            Ok(after) => after,
-            Err(error) => return Err(error),
-        };
+        let after = nests_after(alloc, open, number, line.number, &line.form)?;
         let round = Round {
             open_before: open,
             open_after: after.as_slice(),
@@ -86,10 +83,7 @@ fn statements_from(
             lines,
             from: at + 1,
         };
-        detours = match add_statement(alloc, names, variables, &round, line, &mut statements) {
-            Ok(detours) => detours,
-            Err(error) => return Err(error),
-        };
+        detours = add_statement(alloc, names, variables, &round, line, &mut statements)?;
         blocks = after;
         at += 1;
     }

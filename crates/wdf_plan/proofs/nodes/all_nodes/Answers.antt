@@ -6,7 +6,7 @@ loop-placed-init c =
     listing_begins _ _ _ _ _ c.new-walk.ensures c.new-variables.ensures c.new-nodes.ensures
 
 pub add_line-requires-clause-own : goal.add_line-requires-clause-own
-add_line-requires-clause-own c = listing_own _ _ _ c.in-Ok.ensures
+add_line-requires-clause-own c = listing_own _ _ _ c.in_ok-variables.ensures
 
 pub add_line-requires-clause-fit : goal.add_line-requires-clause-fit
 add_line-requires-clause-fit c =

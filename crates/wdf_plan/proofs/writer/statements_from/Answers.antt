@@ -10,17 +10,17 @@ returns-then-ends_callback c =
 
 pub add_statement-requires-clause-fits : goal.add_statement-requires-clause-fits
 add_statement-requires-clause-fits c =
-    next_fits IsFitStatement _ _ _ (writing_next c.args.names.now c.args.variables.now c.args.lines.now c.args.from c.loop-at.blocks.items c.as_slice-open.result.now c.in-Ok.after.items c.as_slice.result.now c.loop-at.statements c.from-number.result c.loop-at.at c.index-lines-at.result c.loop-at.invariant.0 c.loop-at-test.true c.index-lines-at.is c.as_slice-open.ensures.value c.if-ends_callback.ensures (c.from-number.ensures ∙ c.len.ensures.value) c.in-Ok.ensures c.as_slice.ensures.value) c.requires.fit
+    next_fits IsFitStatement _ _ _ (writing_next c.args.names.now c.args.variables.now c.args.lines.now c.args.from c.loop-at.blocks.items c.as_slice-open.result.now c.in_ok-after.after.items c.as_slice.result.now c.loop-at.statements c.from-number.result c.loop-at.at c.index-lines-at.result c.loop-at.invariant.0 c.loop-at-test.true c.index-lines-at.is c.as_slice-open.ensures.value c.if-ends_callback.ensures (c.from-number.ensures ∙ c.len.ensures.value) c.in_ok-after.ensures c.as_slice.ensures.value) c.requires.fit
 
 pub add_statement-requires-clause-room : goal.add_statement-requires-clause-room
 add_statement-requires-clause-room c =
-    next_room _ _ _ _ (writing_next c.args.names.now c.args.variables.now c.args.lines.now c.args.from c.loop-at.blocks.items c.as_slice-open.result.now c.in-Ok.after.items c.as_slice.result.now c.loop-at.statements c.from-number.result c.loop-at.at c.index-lines-at.result c.loop-at.invariant.0 c.loop-at-test.true c.index-lines-at.is c.as_slice-open.ensures.value c.if-ends_callback.ensures (c.from-number.ensures ∙ c.len.ensures.value) c.in-Ok.ensures c.as_slice.ensures.value) c.requires.room
+    next_room _ _ _ _ (writing_next c.args.names.now c.args.variables.now c.args.lines.now c.args.from c.loop-at.blocks.items c.as_slice-open.result.now c.in_ok-after.after.items c.as_slice.result.now c.loop-at.statements c.from-number.result c.loop-at.at c.index-lines-at.result c.loop-at.invariant.0 c.loop-at-test.true c.index-lines-at.is c.as_slice-open.ensures.value c.if-ends_callback.ensures (c.from-number.ensures ∙ c.len.ensures.value) c.in_ok-after.ensures c.as_slice.ensures.value) c.requires.room
 
 pub loop-at-preserved : goal.loop-at-preserved
 loop-at-preserved c = (
-  writing_more _ _ _ _ c.loop-at.blocks.items c.as_slice-open.result.now c.in-Ok.after.items c.as_slice.result.now c.loop-at.statements _ c.from-number.result c.loop-at.at c.index-lines-at.result c.loop-at.invariant.0 c.loop-at-test.true c.index-lines-at.is c.as_slice-open.ensures.value c.if-ends_callback.ensures (c.from-number.ensures ∙ c.len.ensures.value) c.in-Ok.ensures c.as_slice.ensures.value c.in-Ok-add_statement.ensures.added,
-  rw c.as_slice.ensures.value at c.in-Ok-add_statement.ensures.kept,
-  rw c.as_slice.ensures.value at c.in-Ok-add_statement.ensures.each,
+  writing_more _ _ _ _ c.loop-at.blocks.items c.as_slice-open.result.now c.in_ok-after.after.items c.as_slice.result.now c.loop-at.statements _ c.from-number.result c.loop-at.at c.index-lines-at.result c.loop-at.invariant.0 c.loop-at-test.true c.index-lines-at.is c.as_slice-open.ensures.value c.if-ends_callback.ensures (c.from-number.ensures ∙ c.len.ensures.value) c.in_ok-after.ensures c.as_slice.ensures.value c.in_ok-detours.ensures.added,
+  rw c.as_slice.ensures.value at c.in_ok-detours.ensures.kept,
+  rw c.as_slice.ensures.value at c.in_ok-detours.ensures.each,
 )
 
 pub returns : goal.returns
