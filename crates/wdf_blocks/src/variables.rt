@@ -71,10 +71,7 @@ fn assigned_from(alloc: Global, lines: &[NumberedLine], from: u32) -> Result<Var
         if ends_block(depth, &line.form) {
             return Ok(variables);
         }
-        match variables.add_assigned(assigned_name(&line.form)) {
-            Ok(()) => {}
-            Err(error) => return Err(error),
-        }
+        variables.add_assigned(assigned_name(&line.form))?;
         depth = depth_after(depth, &line.form);
         at += 1;
     }

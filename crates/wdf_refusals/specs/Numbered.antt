@@ -1,5 +1,5 @@
 -- Each name has a number, and each object an id, that fits 32 bits.
-use Rattle.std.specs.Prelude.{ℕ, ◌+◌, ◌<◌, ◌^◌, List, [], ◌∷◌, length}
+use Rattle.std.specs.Prelude.{◌+◌, ◌<◌, ◌^◌, List, [], ◌∷◌, length}
 use Rattle.wdf_blocks.specs.declared.declaration.Declaration.{Declaration}
 
 -- each item has the property

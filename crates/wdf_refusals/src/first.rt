@@ -73,10 +73,7 @@ pub fn declared(alloc: Global, scene: &Scene) -> Result<Names, Memory>
     let mut names = Names::new(alloc);
     let mut walk = Walk::new(scene);
     while let Some(placed) = walk.next() {
-        match add_declared(&mut names, declared_by(&placed, &placed.form)) {
-            Ok(()) => {}
-            Err(error) => return Err(error),
-        }
+        add_declared(&mut names, declared_by(&placed, &placed.form))?;
     }
     Ok(names)
 }
@@ -95,10 +92,7 @@ pub fn first_refusal(
     let mut walk = Walk::new(heritage.scene());
     while let Some(placed) = walk.next() {
         let next = placed.stand.callback;
-        variables = match entered(alloc, heritage.scene(), callback, variables, next) {
-            Ok(entered) => entered,
-            Err(error) => return Err(error),
-        };
+        variables = entered(alloc, heritage.scene(), callback, variables, next)?;
         callback = next;
         match refused(heritage, names, &variables, &placed) {
             Some(refusal) => return Ok(Some(refusal)),

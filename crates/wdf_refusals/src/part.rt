@@ -41,10 +41,7 @@ pub fn gather_after<P: Part, const CEILING: u64>(
 {
     let mut walk = Walk::new(scene);
     while let Some(line) = walk.next() {
-        match take_into(part, &line, items) {
-            Ok(()) => {}
-            Err(error) => return Err(error),
-        }
+        take_into(part, &line, items)?;
     }
     Ok(())
 }

@@ -7,7 +7,7 @@ returns-then-ends_block c =
 
 pub loop-at-preserved : goal.loop-at-preserved
 loop-at-preserved c =
-    collect_more _ _ _ _ _ _ _ c.index-lines-at.result _ c.loop-at.invariant c.loop-at-test.true c.index-lines-at.is c.if-ends_block.ensures c.assigned_name.ensures c.in-Ok.ensures c.depth_after-depth.ensures
+    collect_more _ _ _ _ _ _ _ c.index-lines-at.result _ c.loop-at.invariant c.loop-at-test.true c.index-lines-at.is c.if-ends_block.ensures c.assigned_name.ensures c.in_ok-add_assigned.ensures c.depth_after-depth.ensures
 
 pub returns : goal.returns
 returns c = collect_end _ _ _ _ _ c.loop-at.invariant c.loop-at-test.false
