@@ -156,7 +156,7 @@ deed_keeps plan d S f q = same_tree _ _ (tree_stays plan d S refl) q
 
 -- ---- the opening, and each place of a run
 
-no_cleaned : (ds : List Declared) (x : ℕ) → is_cleaned (entry gone (map declared_node ds) x).life ≡ false
+pub no_cleaned : (ds : List Declared) (x : ℕ) → is_cleaned (entry gone (map declared_node ds) x).life ≡ false
 no_cleaned [] x = refl
 no_cleaned (d ∷ ds) zero = refl
 no_cleaned (d ∷ ds) (suc x) = no_cleaned ds x

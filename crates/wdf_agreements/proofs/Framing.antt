@@ -1,6 +1,5 @@
 -- At each place of every run a frame's object isn't gone, and a lock is held by a frame that is there.
-use Rattle.std.proofs.Common.{◌≡◌, ◌≢◌, ℕ, zero, suc, ◌==◌, ◌≤◌, nat_lt, Bool, true, false, not, ◌&&◌, List, [], ◌∷◌, inl, inr, Option, Some, None, length, filter, replicate, count_by, take, refl, sym, ap, subst, ◌∙◌, arith}
-use Rattle.std.specs.List.{flat_map}
+use Rattle.std.proofs.Common.{◌≡◌, ◌≢◌, ℕ, ◌==◌, ◌≤◌, nat_lt, Bool, true, false, not, ◌&&◌, List, [], ◌∷◌, inl, inr, Option, Some, None, length, filter, count_by, take, refl, sym, ap, subst, ◌∙◌, arith}
 use Rattle.std.proofs.lemmas.Bool.{cases_Bool, eqb-true}
 use Rattle.std.proofs.lemmas.Bool.Decides.{nat_tests}
 use Rattle.std.proofs.lemmas.List.Sums.{length-filter}
@@ -15,7 +14,7 @@ use Rattle.wdf_base.specs.Same.{same_lock}
 use Rattle.wdf_model.specs.declared.entries.Held.{Held}
 use Rattle.wdf_model.specs.Tables.{flag}
 use Rattle.wdf_model.specs.parts.Tree.{is_gone, life_of, may_destroy}
-use Rattle.wdf_model.specs.parts.Cpus.{Cpus, all_frames, frame_of, is_on, nobody_on, opening_cpus, top}
+use Rattle.wdf_model.specs.parts.Cpus.{Cpus, all_frames, frame_of, is_on, nobody_on, top}
 use Rattle.wdf_model.specs.parts.Locks.{Locks, held_by_call, lock_of_callback}
 use Rattle.wdf_model.specs.State.{State, declared_in, opening}
 use Rattle.wdf_model.specs.declared.deed.Deed.{Deed}
@@ -26,7 +25,7 @@ use Rattle.wdf_model.specs.rules.Steps.{deeds}
 use Rattle.wdf_model.specs.rules.Ready.{IsRunOf, state_after}
 use Rattle.wdf_model.specs.laws.Fits.{all_fit, fits}
 use Rattle.wdf_model.proofs.Tests.{both, both_left, both_right}
-use Rattle.wdf_model.proofs.Counts.{count_behind, count_cons, equal, one_or_two}
+use Rattle.wdf_model.proofs.Counts.{count_cons, equal, one_or_two}
 use Rattle.wdf_model.proofs.FitsOfEvents.{event_fits}
 use Rattle.wdf_invariants.proofs.Framed.{on}
 use Rattle.wdf_invariants.proofs.FrameMoves.{FrameKept, seen}
@@ -38,6 +37,7 @@ use Rattle.wdf_agreements.proofs.SoundEvents.{HoldsNone, event_sound, same_decla
 use Rattle.wdf_agreements.proofs.There.{StaysAt, deed_there}
 use Rattle.wdf_agreements.proofs.FramesStay.{Begins, FramesGoOn, NoneEnds, frames_by}
 use Rattle.wdf_agreements.proofs.PartsStay.{locks_stay}
+use Rattle.wdf_invariants.proofs.StepsOverRuns.{none_yet}
 
 -- a lock is held by a frame that is there; one that no call took is that of the frame's callback
 abbrev pub IsHeld : {A : Type 0} → Plan → State A → Held → Type 0
@@ -193,13 +193,6 @@ holds_none plan S k cpu c o v d =
     released_all plan S d.frame (lock_of_callback plan c o.id.0 (declared_in plan S o.id.0)) same (by_no_call S.locks d.frame (d.about.clean fault.ReturnHoldingLock)) k.held
 
 -- ---- each place of a run
-
-no_stacks : (p : ℕ → Bool) (n : ℕ) → count_by p (flat_map (λ (fs : List ℕ). fs) (replicate n [])) ≡ 0
-no_stacks p zero = refl
-no_stacks p (suc n) = let e = count_behind p [] (flat_map (λ (fs : List ℕ). fs) (replicate n [])) in let rest = no_stacks p n in omega arith
-
-pub none_yet : (plan : Plan) (p : ℕ → Bool) → count_by p (all_frames (opening_cpus plan)) ≡ 0
-none_yet plan p = let e = count_behind p (flat_map (λ (fs : List ℕ). fs) (replicate plan.cpus [])) [] in let none = no_stacks p plan.cpus in omega arith
 
 opens : {A : Type 0} (plan : Plan) (m : Meaning A) → Framing plan (opening plan m)
 opens plan m = record { there = λ f more. absurd (let e = none_yet plan (λ x. x == f) in omega arith); held = tt }

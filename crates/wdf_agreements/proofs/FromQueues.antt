@@ -37,7 +37,7 @@ use Rattle.wdf_model.specs.laws.Fits.{fits, is_arrival_place, is_given}
 use Rattle.wdf_model.proofs.Tests.{both_left, both_right}
 use Rattle.wdf_model.proofs.Maps.{entry_map, entry_put_other, entry_put_same, entry_set_other, set_read}
 use Rattle.wdf_model.proofs.Counts.{at_head, equal, front_leaves, one_or_two}
-use Rattle.wdf_model.proofs.KeptByDeeds.{KeptIn, deed_keeps}
+use Rattle.wdf_model.proofs.KeptByDeeds.{deed_keeps}
 use Rattle.wdf_invariants.proofs.HeldMoves.{Placed}
 use Rattle.wdf_agreements.proofs.Stays.{asks_all, given, given_if}
 use Rattle.wdf_base.specs.Meaning.{Meaning}
@@ -45,6 +45,7 @@ use Rattle.wdf_model.specs.rules.Ready.{ready, state_after}
 use Rattle.wdf_model.proofs.Runs.{run_opens}
 use Rattle.wdf_model.proofs.LawsOverRuns.{history_now}
 use Rattle.wdf_agreements.proofs.Readers.{arrived_requests, requests_of}
+use Rattle.wdf_invariants.proofs.HeldOverRuns.{placed}
 
 -- where an arrived request is only after it came from a queue
 abbrev came_from : Place → Bool
@@ -134,19 +135,6 @@ owned_came _ h = absurd (let z : ⊥ = cc in z)
 withdrawn_moves : (b : Bool) (q : ℕ) (p : Place) → may_move p (if b then place.Returning (record { 0 = q }) else place.Closing status.Cancelled) ≡ true
 withdrawn_moves true q p = refl
 withdrawn_moves false q p = refl
-
-placed : {A : Type 0} {F B : ℕ → Bool} (S : State A) → KeptIn F B S → Placed S
-placed S k = record {
-  queued = k.queued;
-  sent = k.sent;
-  room = k.room;
-  kinds = k.kinds;
-  made = k.made;
-  returns = k.returns;
-  ended = λ r h. absurd (let z : ⊥ = cc in z);
-  numbered = λ r h. absurd (let z : ⊥ = cc in z);
-  begun = λ r h. refl;
-}
 
 opening_placed : {A : Type 0} (plan : Plan) (m : Meaning A) → Placed (opening plan m)
 unfolding state_after

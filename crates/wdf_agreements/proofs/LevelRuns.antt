@@ -44,7 +44,7 @@ use Rattle.wdf_agreements.proofs.Keeping.{Known}
 use Rattle.wdf_agreements.proofs.Lists.{each_still}
 use Rattle.wdf_agreements.proofs.LocksOnce.{Once}
 use Rattle.wdf_agreements.proofs.Sound.{AllSound}
-use Rattle.wdf_agreements.proofs.SoundEvents.{Before, start_effect_sound, top_is, top_on}
+use Rattle.wdf_agreements.proofs.SoundEvents.{Before, start_effect_sound, top_on}
 use Rattle.wdf_agreements.proofs.SoundRuns.{KnownAll, all_sound}
 use Rattle.wdf_agreements.proofs.Framing.{Framing, IsHeld}
 use Rattle.wdf_agreements.proofs.Leveled.{Leveled}
@@ -57,10 +57,11 @@ use Rattle.wdf_model.specs.rules.Ready.{IsRunOf, state_after}
 use Rattle.wdf_agreements.proofs.Keeping.{at_the_end, each_place_by}
 use Rattle.wdf_agreements.proofs.LocksOnce.{once_at_each}
 use Rattle.wdf_agreements.proofs.SoundRuns.{all_known}
-use Rattle.wdf_agreements.proofs.Framing.{none_yet}
+use Rattle.wdf_invariants.proofs.StepsOverRuns.{none_yet}
 use Rattle.wdf_agreements.proofs.LevelSteps.{less_own, with_own}
 use Rattle.wdf_agreements.proofs.LevelCalls.{did_call, unlike, waits_call, woke_call}
 use Rattle.wdf_agreements.proofs.ReasonsOfEvents.{spending_kept}
+use Rattle.wdf_invariants.proofs.StepTable.{top_is}
 
 -- ---- a callback starts
 

@@ -217,7 +217,7 @@ awaited_still plan T U (Some p) n h = by_kind (is_acquire p.call.kind) refl
     by_kind true e = ap (λ k. flag (level_of_kind plan (object_in p.call.a) k == n)) (h p refl e)
     by_kind false e = refl
 
-each_two : {T : Type 0} (P Q R : T → Type 0) → ((x : T) → P x → Q x → R x) → (xs : List T) → Each P xs → Each Q xs → Each R xs
+pub each_two : {T : Type 0} (P Q R : T → Type 0) → ((x : T) → P x → Q x → R x) → (xs : List T) → Each P xs → Each Q xs → Each R xs
 each_two P Q R h [] p q = tt
 each_two P Q R h (x ∷ xs) p q = (h x p.0 q.0, each_two P Q R h xs p.1 q.1)
 

@@ -72,6 +72,7 @@ use Rattle.wdf_agreements.proofs.ReasonsOfCalls.{outcome_given, second_given}
 use Rattle.wdf_base.specs.declared.frame.Pending.{Pending}
 use Rattle.wdf_model.specs.parts.Cpus as cpus
 use Rattle.wdf_agreements.proofs.Lives.{noted_same}
+use Rattle.wdf_invariants.proofs.StepTable.{top_is}
 
 -- ---- what an object is in the plan, by its kind and its class
 
@@ -144,10 +145,6 @@ top_on C cpu f t = let e = pop_on C cpu f t f in let one : flag (f == f) ≡ 1 =
 pub on_still : {A : Type 0} (S U : State A) (f : ℕ) → Still S U → on U.cpus f ≡ on S.cpus f
 on_still S U f k =
     ap (λ ss. count_by (λ (x : ℕ). x == f) (flat_map (λ (fs : List ℕ). fs) ss ++ U.cpus.parked)) k.stacks ∙ ap (λ ps. count_by (λ (x : ℕ). x == f) (flat_map (λ (fs : List ℕ). fs) S.cpus.stacks ++ ps)) k.parked
-
-pub top_is : (t : Option ℕ) (f : ℕ) → same_id t f ≡ true → t ≡ Some f
-top_is None f h = absurd (let z : ⊥ = cc in z)
-top_is (Some g) f h = ap Some (eqb-true g f h)
 
 pub spending_kept : {A : Type 0} (plan : Plan) (S : State A) (a : Frame) (n : ℕ) → FrameKept a (spending plan S a n)
 spending_kept plan S a n = let k = goes_on_kept plan a in record { callback = k.callback; object = k.object; device = k.device }
@@ -303,13 +300,13 @@ module _ {A : Type 0} (plan : Plan) (H : ℕ → State A → Type 0) where
       let all : all_fit plan (ds ++ es ++ GoOn (frame_id f) next ∷ []) S ≡ true = subst (λ xs. all_fit plan xs S ≡ true) (by_its_top S cpu f (did_deeds plan S cpu c v) d.about.top) fit in
       let fits_two : all_fit plan (ds ++ es) S ≡ true = fit_before plan (ds ++ es) (GoOn (frame_id f) next ∷ []) S all in
       let fits_one : all_fit plan ds S ≡ true = fit_before plan ds es S fits_two in
-      let still : all_still ds ≡ true = outcome_none plan S cpu f c.kind c.count c.a c.b c.c in
+      let still : all_still ds ≡ true = outcome_none plan S cpu f c in
       let same = on_still S (do_deeds plan ds S) f (deeds_still plan ds S still fits_one) in
       let there = top_on S.cpus cpu f d.about.top in
       by_its_top_given S cpu f (did_deeds plan S cpu c v) d.about.top
       (goes_on_given S (ds ++ es) f next
       (behind ds es S (outcome_given plan H S cpu f c.kind c.count c.a c.b c.c known.declared d.about.clean) (second_given plan H (do_deeds plan ds S) f c.kind c.count c.a c.b c.c (omega arith)))
-      (none_behind ds es still (second_none f c.kind c.count c.a c.b c.c)) fits_two (answered_kept plan (frame_of S.cpus f) v) (off_by_top S.cpus cpu f d.about.top (known.frames.once f)))
+      (none_behind ds es still (second_none f c)) fits_two (answered_kept plan (frame_of S.cpus f) v) (off_by_top S.cpus cpu f d.about.top (known.frames.once f)))
 
   waiting_given : (S : State A) → Known plan S → (cpu : ℕ) (c : Call) → IsWaiting plan S cpu c → all_fit plan (by_top S cpu (waiting_deeds plan S cpu c)) S ≡ true → Given (by_top S cpu (waiting_deeds plan S cpu c)) S
   waiting_given S known cpu c d fit =
@@ -318,7 +315,7 @@ module _ {A : Type 0} (plan : Plan) (H : ℕ → State A → Type 0) where
       let next : Frame = waiting (frame_of S.cpus f) c (outcome plan S cpu f c).answer in
       let all : all_fit plan (ds ++ GoOn (frame_id f) next ∷ []) S ≡ true = subst (λ xs. all_fit plan xs S ≡ true) (by_its_top S cpu f (waiting_deeds plan S cpu c) d.about.top) fit in
       by_its_top_given S cpu f (waiting_deeds plan S cpu c) d.about.top
-      (goes_on_given S ds f next (outcome_given plan H S cpu f c.kind c.count c.a c.b c.c known.declared d.about.clean) (outcome_none plan S cpu f c.kind c.count c.a c.b c.c)
+      (goes_on_given S ds f next (outcome_given plan H S cpu f c.kind c.count c.a c.b c.c known.declared d.about.clean) (outcome_none plan S cpu f c)
       (fit_before plan ds (GoOn (frame_id f) next ∷ []) S all) (record { callback = refl; object = refl; device = refl }) (off_by_top S.cpus cpu f d.about.top (known.frames.once f)))
 
   woke_given : (S : State A) → Known plan S → (cpu : ℕ) (c : Call) (v : Value) → IsWoke S cpu c v → all_fit plan (by_top S cpu (woke_deeds plan c v)) S ≡ true → Given (by_top S cpu (woke_deeds plan c v)) S
@@ -328,7 +325,7 @@ module _ {A : Type 0} (plan : Plan) (H : ℕ → State A → Type 0) where
       let next : Frame = answered plan (frame_of S.cpus f) v in
       let all : all_fit plan (es ++ GoOn (frame_id f) next ∷ []) S ≡ true = subst (λ xs. all_fit plan xs S ≡ true) (by_its_top S cpu f (woke_deeds plan c v) d.top) fit in
       by_its_top_given S cpu f (woke_deeds plan c v) d.top
-      (goes_on_given S es f next (second_given plan H S f c.kind c.count c.a c.b c.c (top_on S.cpus cpu f d.top)) (second_none f c.kind c.count c.a c.b c.c)
+      (goes_on_given S es f next (second_given plan H S f c.kind c.count c.a c.b c.c (top_on S.cpus cpu f d.top)) (second_none f c)
       (fit_before plan es (GoOn (frame_id f) next ∷ []) S all) (answered_kept plan (frame_of S.cpus f) v) (off_by_top S.cpus cpu f d.top (known.frames.once f)))
 
   moving_given : (S : State A) → Known plan S → (cpu : ℕ) (next : Frame → Frame) (there : Option ℕ) → top S.cpus cpu ≡ there → ((a : Frame) → FrameKept a (next a))

@@ -21,7 +21,7 @@ use Rattle.wdf_agreements.proofs.AllOf.{all_give}
 use Rattle.wdf_agreements.proofs.Sound.{AllSound, Sound}
 use Rattle.wdf_agreements.proofs.Reasons.{Reason}
 use Rattle.wdf_agreements.proofs.ReasonsOfEvents.{event_given, start_effect_given}
-pub use Rattle.wdf_agreements.proofs.ReasonsOfEvents.{Before, same_declared, top_is, top_on}
+pub use Rattle.wdf_agreements.proofs.ReasonsOfEvents.{Before, same_declared, top_on}
 
 -- a frame that ends holds no lock
 abbrev NoLock : {A : Type 0} → ℕ → State A → Type 0

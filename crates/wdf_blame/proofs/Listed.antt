@@ -1,5 +1,5 @@
 -- Every open thing of a stuck run has its line, in the order of the table.
-use Rattle.std.proofs.Common.{◌≡◌, inl, inr, ℕ, suc, ◌+◌, ◌==◌, ◌<◌, ◌≤◌, Bool, true, false, not, ◌&&◌, ◌||◌, nat_lt, List, [], ◌∷◌, ◌++◌, Option, Some, None, map, length, length-append, count_by, refl, ap, ◌∙◌, arith}
+use Rattle.std.proofs.Common.{◌≡◌, inl, inr, ℕ, suc, ◌+◌, ◌==◌, ◌<◌, ◌≤◌, Bool, true, false, not, ◌&&◌, ◌||◌, nat_lt, List, [], ◌∷◌, ◌++◌, Option, Some, None, map, length, count_by, refl, ap, ◌∙◌, arith}
 use Rattle.std.specs.Prelude.{filter_map}
 use Rattle.std.specs.List.{flat_map, range_with_len}
 use Rattle.wdf_base.specs.Meaning.{Meaning}
@@ -35,35 +35,20 @@ use Rattle.wdf_model.specs.rules.Ready.{IsRunOf, ending_of, is_open_post, is_ope
 use Rattle.wdf_model.specs.rules.Waits.{asking_line, deferred_line, device_line, frame_line, frames_in_order, object_line, request_line, sequence_line, wait_lines, wait_list}
 use Rattle.wdf_model.specs.laws.OverRuns.{DeclaredAgree, FramesAgree, is_declared_kind}
 use Rattle.wdf_model.proofs.Tests.{both, itself}
-use Rattle.wdf_model.proofs.Counts.{count_no, count_yes}
 use Rattle.wdf_model.proofs.Sames.{status_decides}
-use Rattle.wdf_model.proofs.Maps.{entry_before, entry_past}
+use Rattle.wdf_model.proofs.Maps.{entry_past}
 use Rattle.wdf_invariants.proofs.StepsOverRuns.{frames_agree_at_each}
 use Rattle.wdf_invariants.proofs.DeclaredOverRuns.{declared_agree_at_each}
 use Rattle.wdf_blame.specs.Open.{asked_thing, device_thing, frame_thing, frames_there, open_things, request_thing, sequence_thing, things_of}
 use Rattle.wdf_blame.proofs.Members.{Has, below_range, chosen, each_kept, has_back, has_flat, has_mapped, has_range, map_behind, map_twice, same_kept}
 use Rattle.wdf_blame.proofs.Endings.{AtRest, at_rest, at_the_end, may_not, stuck_lines}
+use Rattle.wdf_invariants.proofs.Nearest.{front_stays}
+use Rattle.wdf_invariants.proofs.FrameMoves.{contained}
 
 -- ---- frames
 
-in_count_by : (f x : ℕ) (xs : List ℕ) (b : Bool) → (x == f) ≡ b → contains f (x ∷ xs) ≡ true → (contains f xs ≡ true → 1 ≤ count_by (λ y. y == f) xs) → 1 ≤ count_by (λ y. y == f) (x ∷ xs)
-in_count_by f x xs true e h rest = let more = count_yes (λ y. y == f) x xs e in omega arith
-in_count_by f x xs false e h rest = let same = count_no (λ y. y == f) x xs e in let less = rest (rw e at h) in omega arith
-
-in_count : (f : ℕ) (xs : List ℕ) → contains f xs ≡ true → 1 ≤ count_by (λ y. y == f) xs
-in_count f [] h = absurd (let z : ⊥ = cc in z)
-in_count f (x ∷ xs) h = in_count_by f x xs (x == f) refl h (in_count f xs)
-
--- those before stay
-stays : (before : List ℕ) (ns : List Node) (o : ℕ) → o < length before → entry 1 (nearest_devices before ns) o ≡ entry 1 before o
-stays before [] o h = refl
-stays before (n ∷ ns) o h =
-    let more = length-append before (own_device before (length before) n ∷ []) in
-    stays (before ++ own_device before (length before) n ∷ []) ns o (omega arith)
-    ∙ entry_before 1 before (own_device before (length before) n) o (λ e. let z : ⊥ = omega arith in z)
-
 first_device : (n : Node) (ns : List Node) → same_kind n.kind kind.Device ≡ false → entry 1 (nearest_devices [] (n ∷ ns)) 0 ≡ 1
-first_device n ns e = stays (own_device [] 0 n ∷ []) ns 0 (omega arith) ∙ rw e refl
+first_device n ns e = front_stays (own_device [] 0 n ∷ []) ns 0 (omega arith) ∙ rw e refl
 
 no_device_by : (k : Kind) → (is_declared_kind k ≡ true → None ≡ Some k) → same_kind k kind.Device ≡ false
 no_device_by kind.Device h = absurd (let k = h refl in let z : ⊥ = cc in z)
@@ -89,7 +74,7 @@ past_by plan S k d f low is =
     omega arith
 
 off_by : (f : ℕ) (xs : List ℕ) (b : Bool) → contains f xs ≡ b → (1 ≤ count_by (λ x. x == f) xs → ⊥) → b ≡ false
-off_by f xs true e h = absurd (h (in_count f xs e))
+off_by f xs true e h = absurd (h (contained f xs e))
 off_by f xs false e h = refl
 
 past_frames : {A : Type 0} (plan : Plan) (S : State A) → FramesAgree S → DeclaredAgree plan S → (f : ℕ) → length S.cpus.frames ≤ f → contains f (all_frames S.cpus) ≡ false

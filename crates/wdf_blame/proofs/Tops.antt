@@ -2,7 +2,6 @@
 use Rattle.std.proofs.Common.{◌≡◌, inl, ℕ, zero, suc, ◌+◌, ◌==◌, ◌<◌, Bool, true, false, not, ◌||◌, List, [], ◌∷◌, ◌++◌, Option, Some, None, is_some, filter, length, refl, sym, ap, ◌∙◌, arith, rules, take_while, nat_lt, inr, option_map}
 use Rattle.std.specs.Bool.{Decides}
 use Rattle.std.specs.List.{flat_map, list_any, range_with_len, list_all}
-use Rattle.std.proofs.lemmas.List.Sums.{length-filter}
 use Rattle.std.proofs.lemmas.Bool.Decides.{nat_tests}
 use Rattle.std.proofs.lemmas.Bool.{or_cases}
 use Rattle.wdf_base.specs.Meaning.{Meaning}
@@ -39,8 +38,7 @@ use Rattle.wdf_model.specs.parts.Queues.{held_count, is_empty_queue, waiting_in}
 use Rattle.wdf_model.specs.parts.Cpus.{nobody_on}
 use Rattle.wdf_model.specs.parts.Deferred.Timers.{any_later_timer}
 use Rattle.wdf_model.specs.parts.Deferred.WorkItems.{is_work_queued}
-use Rattle.wdf_model.specs.State.{State, handle_in, held_from, is_held_from, is_with_driver, nothing_at, object_in}
-use Rattle.wdf_model.specs.parts.Requests.{origin_of}
+use Rattle.wdf_model.specs.State.{State, handle_in, held_from, nothing_at, object_in}
 use Rattle.wdf_model.specs.rules.Calls.{Outcome, is_met, is_met_then, nothing_held, nothing_returns, outcome}
 use Rattle.wdf_model.specs.rules.Faults.{arg_is, fault_of}
 use Rattle.wdf_model.specs.rules.Groups.{unparks, candidates, candidate}
@@ -51,9 +49,8 @@ use Rattle.wdf_model.specs.rules.Steps.{may_unpark, wait_is_over, call_event, ev
 use Rattle.wdf_model.specs.rules.Waits.{above_in, by_frame, by_frame_on, by_lock, by_request, call_cause, cause_if, frame_cause, frames_above, parked_for_cpu, pending_cause, requests_where}
 use Rattle.wdf_model.proofs.Tests.{both, both_left, both_right, either_false, first, itself, second}
 use Rattle.wdf_model.proofs.Sames.{call_kind_decides, callback_decides, handle_decides, value_decides}
-use Rattle.wdf_invariants.proofs.Holding.{HoldsIn, is_from}
-use Rattle.wdf_invariants.proofs.Totals.{same_total}
-use Rattle.wdf_invariants.proofs.HeldOverRuns.{from_by, holds_at_each}
+use Rattle.wdf_invariants.proofs.Holding.{HoldsIn}
+use Rattle.wdf_invariants.proofs.HeldOverRuns.{holds_at_each, held_number}
 use Rattle.wdf_blame.proofs.Members.{Has, at_of, has_back, has_front, has_range, no_entry, none_passes}
 use Rattle.wdf_blame.proofs.Endings.{AtRest, at_rest, at_the_end, may_not}
 use Rattle.wdf_blame.proofs.Gives.{any_has}
@@ -167,12 +164,6 @@ pub top_frames_wait : {A : Type 0} (plan : Plan) (m : Meaning A) (run : List Eve
 top_frames_wait plan m run is_run ends cpu f low at = top_waits plan m (state_after plan m run) (at_rest plan m run true ends) cpu f low at
 
 -- ---- what it waits for is named
-
-held_number : {A : Type 0} (plan : Plan) (S : State A) → HoldsIn plan S → (q : ℕ) → held_count S.queues q ≡ length (held_from S q)
-held_number plan S h q =
-    h.counts q (length S.requests.all) (omega arith)
-    ∙ sym (same_total (is_from S.requests S.targets q) (is_held_from S q) 0 (length S.requests.all) (λ r above. from_by (is_with_driver S r) (origin_of S.requests r) q))
-    ∙ sym (length-filter (is_held_from S q) (ids_of S.requests.all))
 
 pub held_now : {A : Type 0} (plan : Plan) (m : Meaning A) (run : List Event) → IsRunOf plan m run → (q : ℕ) → held_count (state_after plan m run).queues q ≡ length (held_from (state_after plan m run) q)
 held_now plan m run is_run = held_number plan (state_after plan m run) (at_the_end plan m (λ S. HoldsIn plan S) run (holds_at_each plan m run is_run))

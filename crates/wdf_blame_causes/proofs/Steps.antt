@@ -12,7 +12,6 @@ use Rattle.wdf_base.specs.declared.call.Callback.TheVariants as callback
 use Rattle.wdf_base.specs.declared.event.Event.{Event}
 use Rattle.wdf_base.specs.declared.event.Stage.TheVariants as stage
 use Rattle.wdf_base.specs.declared.event.Step.TheVariants as step
-use Rattle.wdf_base.specs.declared.rank.Rank.{Rank}
 use Rattle.wdf_base.specs.declared.rank.Rank.TheVariants as rank
 use Rattle.wdf_base.specs.declared.wait.Cause.TheVariants as cause
 use Rattle.wdf_base.specs.Same.{same_callback, same_handle, same_option}
@@ -42,6 +41,7 @@ use Rattle.wdf_blame.proofs.Needs.{below_cpus, cpu_group, free_one, front_none, 
 use Rattle.wdf_blame.proofs.Conjuncts.{five, four}
 use Rattle.wdf_blame_causes.proofs.Dpcs.{free_by_none, head_waits, listed_at}
 use Rattle.wdf_blame_causes.proofs.Presents.{kept_has}
+use Rattle.wdf_invariants.proofs.StepEvents.{sequence_is}
 
 -- ---- lists
 
@@ -96,10 +96,6 @@ lives : {A : Type 0} (S : State A) (c : Callback) (o : ℕ) → is_sequence (row
 lives S callback.EvtCleanupCallback o is h = absurd (let z : ⊥ = cc in z)
 lives S callback.EvtDestroyCallback o is h = absurd (let z : ⊥ = cc in z)
 lives S _ o is h = h
-
-sequence_is : (k : Rank) → is_sequence k ≡ true → k ≡ rank.Sequence
-sequence_is rank.Sequence h = refl
-sequence_is _ h = absurd (let z : ⊥ = cc in z)
 
 begins_at : {A : Type 0} (plan : Plan) (S : State A) (cpu d : ℕ) (c : Callback) (i : Option Handle) → start_of_step plan S cpu d (step.Run c i) ≡ Some (starts plan S cpu c (object_of_step d i))
 begins_at plan S cpu d c None = refl

@@ -1,5 +1,5 @@
 -- A resume is due only for a request that is held from a queue with EvtIoResume, at each place of every run.
-use Rattle.std.proofs.Common.{if◌then◌else◌, ◌≡◌, ℕ, suc, ◌+◌, Bool, true, false, ◌&&◌, List, length, take, refl, sym, ap, subst, ◌∙◌, arith}
+use Rattle.std.proofs.Common.{◌≡◌, ℕ, suc, ◌+◌, Bool, true, false, ◌&&◌, List, length, take, refl, sym, ap, subst, ◌∙◌, arith}
 use Rattle.wdf_base.specs.Meaning.{Meaning}
 use Rattle.wdf_base.specs.declared.plan.Plan.{Plan}
 use Rattle.wdf_base.specs.declared.call.Callback.TheVariants as callback
@@ -7,71 +7,22 @@ use Rattle.wdf_base.specs.declared.event.Event.{Event}
 use Rattle.wdf_base.specs.declared.event.Stage.{Stage}
 use Rattle.wdf_base.specs.declared.event.Stage.TheVariants as stage
 use Rattle.wdf_base.specs.declared.event.Step.TheVariants as step
-use Rattle.wdf_model.specs.declared.enums.Mode.TheVariants as mode
 use Rattle.wdf_model.specs.declared.entries.Holding.{Holding}
 use Rattle.wdf_model.specs.declared.entries.QueuePower.{QueuePower}
 use Rattle.wdf_model.specs.Tables.{entry}
-use Rattle.wdf_model.specs.Plans.{declares, is_managed, managed_queues, queues_of}
-use Rattle.wdf_model.specs.parts.Tree.{subtree}
-use Rattle.wdf_model.specs.parts.Requests as requests
-use Rattle.wdf_model.specs.parts.Queues.{waiting_in}
-use Rattle.wdf_model.specs.parts.Control as control
+use Rattle.wdf_model.specs.Plans.{declares}
 use Rattle.wdf_model.specs.parts.Power.{Power, advance_stage, holding_of, is_held, is_held_at, no_holding, no_queue_power, opening_power, opening_queue_power, queue_power, with_up, woken}
-use Rattle.wdf_model.specs.parts.Power as power
-use Rattle.wdf_model.specs.State.{State, is_with_driver}
+use Rattle.wdf_model.specs.State.{State}
 use Rattle.wdf_model.specs.declared.deed.Deed.{Deed}
-use Rattle.wdf_model.specs.declared.deed.Deed.TheVariants.{Arrive, AskDeletion, Present, Receive, Requeue, Forward, GiveBack, SendRequest, CompleteRequest, PurgeQueue, CloseReturning, CloseDevice, AdvancePower}
-use Rattle.wdf_model.specs.rules.Deeds.{do_deed, give_up, give_up_if}
+use Rattle.wdf_model.specs.declared.deed.Deed.TheVariants.{AdvancePower}
+use Rattle.wdf_model.specs.rules.Deeds.{do_deed}
 use Rattle.wdf_model.specs.rules.Ready.{IsRunOf, state_after}
 use Rattle.wdf_model.proofs.Maps.{entry_map}
 use Rattle.wdf_model.proofs.Tests.{both_right}
 use Rattle.wdf_agreements.proofs.SoundRuns.{sound_place}
-use Rattle.wdf_agreements.proofs.Stays.{asks_all, closed_power, returning_power, withdrawn_power}
 use Rattle.wdf_queue_power_laws.proofs.Resuming.{blank_queue, is_advance, is_resuming, none_more_by, noted, undeclared}
 use Rattle.wdf_power_laws.proofs.Runs.{mapped}
-use Rattle.wdf_agreements.proofs.Readers.{arrived_power, power_of}
-
--- ---- what power notes of queues stays
-
-held_by : (P : Power) (r q : ℕ) (b : Bool) → (if b then power.held_more P r q else P).queues ≡ P.queues
-held_by P r q true = refl
-held_by P r q false = refl
-
-released_by : (P : Power) (r : ℕ) (b : Bool) → (if b then power.held_less P r else P).queues ≡ P.queues
-released_by P r true = refl
-released_by P r false = refl
-
-given_by : {A : Type 0} (S U : State A) (b : Bool) → U.power.queues ≡ S.power.queues → (if b then U else S).power.queues ≡ S.power.queues
-given_by S U true h = h
-given_by S U false h = refl
-
-given : {A : Type 0} (S : State A) (r : ℕ) → (give_up S r).power.queues ≡ S.power.queues
-given S r = given_by S _ (is_with_driver S r) (released_by S.power r (is_held (holding_of S.power r)))
-
-given_if : {A : Type 0} (S : State A) (forget : Bool) (r : ℕ) → (give_up_if forget S r).power.queues ≡ S.power.queues
-given_if S true r = given S r
-given_if S false r = refl
-
-advanced : (P : Power) (d : ℕ) (s : Stage) → (advance_stage P d s).queues ≡ P.queues
-advanced P d stage.QueuesDown = refl
-advanced P d _ = refl
-
-still_noted : {A : Type 0} (plan : Plan) (d : Deed) (S : State A) → (do_deed plan d S).power.queues ≡ S.power.queues
-still_noted plan (Present q r) S = held_by S.power r.0 q.0 (is_managed plan q.0)
-still_noted plan (Receive q r) S = held_by S.power r.0 q.0 (is_managed plan q.0)
-still_noted plan (Requeue r q) S = given S r.0
-still_noted plan (Forward r q) S = given S r.0
-still_noted plan (GiveBack r q) S = given S r.0
-still_noted plan (SendRequest r t forget) S = given_if S forget r.0
-still_noted plan (CompleteRequest r) S =
-    ap (λ (P : Power). P.queues) (asks_all power_of (λ S T D W U. refl) (subtree (give_up S r.0).tree r.0) (record (give_up S r.0) { requests = requests.complete S.requests r.0 })) ∙ given S r.0
-still_noted plan (Arrive device info p) S = ap (λ (P : Power). P.queues) (arrived_power S device.0 info p)
-still_noted plan (AskDeletion o) S = ap (λ (P : Power). P.queues) (asks_all power_of (λ S T D W U. refl) (subtree S.tree o.0) S)
-still_noted plan (PurgeQueue q) S = ap (λ (P : Power). P.queues) (withdrawn_power plan q.0 (waiting_in S.queues q.0) (record S { control = control.set_mode S.control q.0 mode.Purged }))
-still_noted plan (CloseReturning d) S = ap (λ (P : Power). P.queues) (returning_power (managed_queues plan d.0) S)
-still_noted plan (CloseDevice d) S = ap (λ (P : Power). P.queues) (closed_power (queues_of plan d.0) (record S { control = control.shut S.control d.0 }))
-still_noted plan (AdvancePower d (step.Pass s i)) S = advanced S.power d.0 s
-still_noted plan _ S = refl
+use Rattle.wdf_invariants.proofs.PowerQueues.{deed_queues}
 
 -- ---- power notes of each queue whether it has EvtIoResume
 
@@ -121,7 +72,7 @@ due_by plan (AdvancePower d (step.Pass s i)) S k x due = stage_due plan S.power 
 due_by plan d S k x due = others_due plan d S refl k x due
 
 resumable_by : {A : Type 0} (plan : Plan) (d : Deed) (S : State A) → Resumable plan S → Resumable plan (do_deed plan d S)
-resumable_by plan d S k = record { queues = still_noted plan d S ∙ k.queues; due = due_by plan d S k }
+resumable_by plan d S k = record { queues = deed_queues plan d S ∙ k.queues; due = due_by plan d S k }
 
 pub resumable_at_each : {A : Type 0} (plan : Plan) (m : Meaning A) (run : List Event) → IsRunOf plan m run → (n : ℕ) → Resumable plan (state_after plan m (take n run))
 resumable_at_each {A} plan m run is_run n = sound_place plan m (λ (S : State A). Resumable plan S) (record { queues = refl; due = λ x h. absurd (let z : ⊥ = cc in z) })

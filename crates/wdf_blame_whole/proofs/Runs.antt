@@ -39,6 +39,7 @@ use Rattle.wdf_blame_whole.specs.Standing.{IsOver, is_part}
 use Rattle.wdf_blame_whole.proofs.Lasting.{Lasts}
 use Rattle.wdf_blame_whole.proofs.Standing.{AllComes, Stands, stands_by}
 use Rattle.wdf_blame_whole.proofs.Coming.{Facts, event_comes}
+use Rattle.wdf_room.proofs.NamesOfSteps.{opening_left}
 
 -- ---- the opening
 
@@ -73,10 +74,6 @@ in_range f a (suc n) (suc d) = elim (in_range f (a + 1) n d) [
 
 blank_over : IsOver no_sequence
 blank_over = record { phase = refl; left = refl; running = refl }
-
-opening_left : (plan : Plan) (d : ℕ) (x : Option DeviceInfo) → (opening_sequence plan d x).left ≡ []
-opening_left plan d None = refl
-opening_left plan d (Some i) = refl
 
 opening_over : (plan : Plan) (d : ℕ) (x : Option DeviceInfo) → is_some x ≡ false → IsOver (opening_sequence plan d x)
 opening_over plan d None h = blank_over

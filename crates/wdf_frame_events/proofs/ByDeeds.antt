@@ -1,9 +1,8 @@
 -- Deeds that give values of the plan keep values of the plan.
-use Rattle.std.proofs.Common.{if◌then◌else◌, ◌≡◌, ℕ, zero, suc, ◌+◌, ◌-◌, ◌<◌, ◌^◌, Bool, true, false, List, [], ◌∷◌, length, map, fold, replicate, slice_set, slice_index_or, Option, Some, None, inl, inr, refl, sym, subst, arith}
+use Rattle.std.proofs.Common.{if◌then◌else◌, ◌≡◌, ℕ, zero, suc, ◌+◌, ◌-◌, Bool, true, false, List, [], ◌∷◌, length, map, fold, replicate, slice_set, slice_index_or, Option, Some, None, inl, inr, refl, sym, subst, arith}
 use Rattle.std.specs.Prelude.{⊤}
 use Rattle.wdf_base.specs.Resolved.{IsResolved}
 use Rattle.wdf_base.specs.declared.plan.Plan.{Plan}
-use Rattle.wdf_base.specs.declared.frame.Frame.{Frame}
 use Rattle.wdf_base.specs.declared.object.Kind.{Kind}
 use Rattle.wdf_base.specs.declared.object.Kind.TheVariants as kind
 use Rattle.wdf_base.specs.declared.object.Life.TheVariants as life
@@ -25,7 +24,6 @@ use Rattle.wdf_model.specs.Plans.{managed_queues, queues_of}
 use Rattle.wdf_model.specs.parts.Tree.{Tree, gone, is_live, life_of, nearest_device, new_node, next_id, node_of, noted, subtree, with_life, with_node}
 use Rattle.wdf_model.specs.parts.Tree as tree
 use Rattle.wdf_model.specs.parts.Cpus.{Cpus, blank_frame, frame_of, no_frame, running, top, without_frame}
-use Rattle.wdf_model.specs.parts.Cpus as cpus
 use Rattle.wdf_model.specs.parts.Requests.{Requests, cancelled, closed_at, forgotten, info_of, is_in, is_marked, is_over, is_returning_to, made_info, marked, moved, no_request, place_of, request_of, unmarked, with_mark, with_request}
 use Rattle.wdf_model.specs.parts.Requests as requests
 use Rattle.wdf_model.specs.parts.Queues.{waiting_in}
@@ -38,9 +36,11 @@ use Rattle.wdf_model.specs.rules.Deeds.{arrive_at, ask_object, close_queue, clos
 use Rattle.wdf_model.proofs.Counts.{one_or_two}
 use Rattle.wdf_model.proofs.Deletion.{object_live, object_off}
 use Rattle.wdf_model.proofs.Maps.{entry_before, entry_last, entry_map, entry_put_other, entry_put_same, entry_set_other, set_read}
-use Rattle.wdf_agreements.proofs.Lists.{Each, reads_same}
+use Rattle.wdf_agreements.proofs.Lists.{Each}
+use Rattle.wdf_agreements.proofs.PartsStay.{tree_stays}
 use Rattle.wdf_agreements.proofs.QuietMoves.{quiet_cpus}
-use Rattle.wdf_agreements.proofs.Stays.{asks_all, given, given_if, gives_up, gives_up_if, queues_closed, returns_closed, withdraws}
+use Rattle.wdf_agreements.proofs.Readers.{tree_of}
+use Rattle.wdf_agreements.proofs.Stays.{asks_all, given, given_if, gives_up}
 use Rattle.wdf_trace.specs.Events.{IsValueOf}
 use Rattle.wdf_plan_events.proofs.ProperNames.{some_name}
 use Rattle.wdf_frame_events.specs.Values.{HasFrameValues, HasPlanValues, HasSmallNumbers}
@@ -148,9 +148,6 @@ arrived_tree : {A : Type 0} (plan : Plan) (S : State A) (device : ℕ) (info : R
 arrived_tree plan S device info (place.Queued q) each = node_comes plan S.tree kind.Request 0 device each
 arrived_tree plan S device info _ each = node_comes plan S.tree kind.Request 0 device each
 
-abbrev tree_of : {A : Type 0} → State A → Tree
-tree_of S = S.tree
-
 same_cells : (plan : Plan) (T U : Tree) → U ≡ T → CellsOf plan T → CellsOf plan U
 same_cells plan T U e each = subst (λ (V : Tree). CellsOf plan V) (sym e) each
 
@@ -165,16 +162,9 @@ cells_by plan (WriteCell o k v) S t each = node_changes plan S.tree o.0 (λ n. r
 cells_by plan (Note o c) S t each = node_changes plan S.tree o.0 (noted c) (noted_cells plan c (node_of S.tree o.0) (each o.0)) each
 cells_by plan (CleanUp o) S t each = node_changes plan S.tree o.0 (with_life life.Cleaned) (each o.0) each
 cells_by plan (EndLife o) S t each = node_changes plan S.tree o.0 (λ _. gone) (zeros plan 8) each
-cells_by plan (Requeue r q) S t each = same_cells plan S.tree _ (gives_up tree_of (λ S Q R P. refl) S r.0) each
-cells_by plan (Forward r q) S t each = same_cells plan S.tree _ (gives_up tree_of (λ S Q R P. refl) S r.0) each
-cells_by plan (GiveBack r q) S t each = same_cells plan S.tree _ (gives_up tree_of (λ S Q R P. refl) S r.0) each
-cells_by plan (SendRequest r u forget) S t each = same_cells plan S.tree _ (gives_up_if tree_of (λ S Q R P. refl) S forget r.0) each
 cells_by plan (CompleteRequest r) S t each =
     asked_all plan (subtree (give_up S r.0).tree r.0) (record (give_up S r.0) { requests = requests.complete S.requests r.0 }) (same_cells plan S.tree _ (gives_up tree_of (λ S Q R P. refl) S r.0) each)
-cells_by plan (PurgeQueue q) S t each = same_cells plan S.tree _ (withdraws tree_of (λ S Q R P. refl) plan q.0 (waiting_in S.queues q.0) (record S { control = control.set_mode S.control q.0 mode.Purged })) each
-cells_by plan (CloseReturning d) S t each = same_cells plan S.tree _ (returns_closed tree_of (λ S Q R P. refl) (managed_queues plan d.0) S) each
-cells_by plan (CloseDevice d) S t each = same_cells plan S.tree _ (queues_closed tree_of (λ S Q R P. refl) (queues_of plan d.0) (record S { control = control.shut S.control d.0 })) each
-cells_by plan _ S t each = each
+cells_by plan d S t each = same_cells plan S.tree _ (tree_stays plan d S refl) each
 
 -- ---- requests
 

@@ -7,8 +7,6 @@ use Rattle.wdf_base.specs.declared.ids.Handle.{Handle}
 use Rattle.wdf_base.specs.declared.plan.Plan.{Plan}
 use Rattle.wdf_base.specs.declared.rank.Rank.{Rank}
 use Rattle.wdf_base.specs.declared.rank.Rank.TheVariants as rank
-use Rattle.wdf_base.specs.declared.object.Place.{Place}
-use Rattle.wdf_base.specs.declared.object.Place.TheVariants as place
 use Rattle.wdf_base.specs.declared.call.Callback.{Callback}
 use Rattle.wdf_base.specs.declared.call.Callback.TheVariants as callback
 use Rattle.wdf_base.specs.declared.event.Event.{Event}
@@ -19,7 +17,7 @@ use Rattle.wdf_model.specs.Tables.{same_id}
 use Rattle.wdf_model.specs.Plans.{callback_irql, is_managed}
 use Rattle.wdf_model.specs.parts.Locks.{lock_of_callback}
 use Rattle.wdf_model.specs.parts.Queues.{front}
-use Rattle.wdf_model.specs.parts.Requests.{is_queued_in, is_returning_to, place_of, request_of}
+use Rattle.wdf_model.specs.parts.Requests.{place_of, request_of}
 use Rattle.wdf_model.specs.parts.Power.{Power}
 use Rattle.wdf_model.specs.parts.Power as power
 use Rattle.wdf_model.specs.parts.Targets.{is_forgotten}
@@ -47,6 +45,7 @@ use Rattle.wdf_agreements.proofs.Choices.{and_no}
 use Rattle.wdf_held_laws.proofs.Holdings.{NotesChange, NotesStay, deed_notes, noted, notes_same, taken_notes}
 use Rattle.wdf_request_laws.proofs.Marks.{front_queued}
 use Rattle.wdf_request_laws.proofs.Standing.{stands_no_more, stays_standing}
+use Rattle.wdf_invariants.proofs.HeldByDeeds.{queued_unheld, returning_unheld}
 
 -- ---- words
 
@@ -121,14 +120,6 @@ module _ (plan : Plan) (es : List Event) (e : Event) (P : Power) (x p : ℕ) (t 
 
 pub unheld_noted : {A : Type 0} (plan : Plan) (S : State A) (r : ℕ) → HoldsIn plan S → held_at (is_forgotten S.targets r) (place_of S.requests r) ≡ false → noted S.power r ≡ 0
 unheld_noted plan S r h off = h.holdings r ∙ ap (managed_origin plan) (unheld (is_forgotten S.targets r) (request_of S.requests r) off)
-
-pub queued_unheld : (forgotten : Bool) (q : ℕ) (p : Place) → is_queued_in q p ≡ true → held_at forgotten p ≡ false
-queued_unheld forgotten q (place.Queued o) h = refl
-queued_unheld forgotten q _ h = absurd (let z : ⊥ = cc in z)
-
-returning_unheld : (forgotten : Bool) (q : ℕ) (p : Place) → is_returning_to q p ≡ true → held_at forgotten p ≡ false
-returning_unheld forgotten q (place.Returning o) h = refl
-returning_unheld forgotten q _ h = absurd (let z : ⊥ = cc in z)
 
 -- ---- starts
 

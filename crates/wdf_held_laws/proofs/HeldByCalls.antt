@@ -52,7 +52,8 @@ use Rattle.wdf_agreements.proofs.Choices.{and_no}
 use Rattle.wdf_agreements.proofs.ReasonsOfCalls.{call_of}
 use Rattle.wdf_held_laws.proofs.Holdings.{NotesChange, NotesStay, acknowledged_notes, completed_notes, given_notes, notes_same}
 use Rattle.wdf_request_laws.proofs.Marks.{front_queued}
-use Rattle.wdf_held_laws.proofs.HeldAsTold.{HeldAsTold, give_step, silent_step, take_step, unheld_noted, queued_unheld}
+use Rattle.wdf_held_laws.proofs.HeldAsTold.{HeldAsTold, give_step, silent_step, take_step, unheld_noted}
+use Rattle.wdf_invariants.proofs.HeldByDeeds.{queued_unheld}
 
 -- ---- calls that leave the notes
 

@@ -27,6 +27,7 @@ use Rattle.wdf_agreements.proofs.Stays.{asks_all, closed_power, returning_power,
 use Rattle.wdf_invariants.proofs.Holding.{HoldsIn}
 use Rattle.wdf_invariants.proofs.Releases.{Notes, gives_up, holding_elsewhere, holding_here, same_holding}
 use Rattle.wdf_agreements.proofs.Readers.{arrived_power, power_of}
+use Rattle.wdf_invariants.proofs.HeldByDeeds.{woken_by}
 
 -- the queue that is noted for a request, 0 for none
 abbrev pub noted : Power → ℕ → ℕ
@@ -40,10 +41,6 @@ pub notes_same : (P O : Power) → O ≡ P → NotesStay P O
 notes_same P O e x = ap (λ (Q : Power). noted Q x) e
 
 -- ---- deeds that leave the notes
-
-woken_by : (P : Power) (d : ℕ) (h : Holding) (b : Bool) → is_held_at P d h ≡ b → (woken P d h).queue.0 ≡ h.queue.0
-woken_by P d h true e = rw e refl
-woken_by P d h false e = rw e refl
 
 woken_notes : (P : Power) (d : ℕ) → NotesStay P (wake_holdings P d)
 woken_notes P d x = ap (λ (h : Holding). h.queue.0) (entry_map power.no_holding P.holdings (woken P d) x refl) ∙ woken_by P d (holding_of P x) (is_held_at P d (holding_of P x)) refl

@@ -1,7 +1,7 @@
 -- A device passes `settled` only where power notes, of each request that is held from a power-managed queue of it, that
 -- it is acknowledged.
-use Rattle.std.proofs.Common.{◌≡◌, ℕ, zero, suc, ◌+◌, ◌<◌, ◌==◌, Bool, true, false, not, List, [], ◌∷◌, Option, Some, None, inl, inr, length, map, option_map, unwrap_or, slice_get, take, refl, sym, ap, subst, ◌∙◌, arith}
-use Rattle.std.specs.List.{list_all, range_with_len}
+use Rattle.std.proofs.Common.{◌≡◌, ℕ, zero, suc, ◌+◌, ◌<◌, ◌==◌, Bool, true, false, not, List, [], ◌∷◌, Option, Some, None, inl, inr, length, option_map, unwrap_or, slice_get, take, refl, sym, ap, subst, ◌∙◌, arith}
+use Rattle.std.specs.List.{list_all}
 use Rattle.std.proofs.lemmas.Bool.{cases_Bool, eqb-true}
 use Rattle.wdf_base.specs.Meaning.{Meaning}
 use Rattle.wdf_base.specs.declared.plan.Plan.{Plan}
@@ -30,6 +30,7 @@ use Rattle.wdf_laws.specs.Words.{stands}
 use Rattle.wdf_agreements.proofs.Keeping.{comes}
 use Rattle.wdf_held_laws.proofs.Holdings.{noted}
 use Rattle.wdf_held_laws.proofs.HoldingsOverRuns.{held_at_each}
+use Rattle.wdf_invariants.proofs.Unsettled.{entry_of_range}
 
 -- ---- queues of the plan
 
@@ -42,11 +43,6 @@ managed_below : (plan : Plan) (q : ℕ) → is_managed plan q ≡ true → q < s
 managed_below plan zero h = omega arith
 managed_below plan (suc k) h = let i = found_within plan.declared k (as_queue (slice_get plan.declared k)) refl h in omega arith
 
-mapped_at : {T : Type 0} (blank : T) (f : ℕ → T) (a n k : ℕ) → k < n → entry blank (map f (range_with_len a n)) k ≡ f (a + k)
-mapped_at blank f a zero k h = absurd (omega arith)
-mapped_at blank f a (suc n) zero h = let e : a ≡ a + 0 = omega arith in ap f e
-mapped_at blank f a (suc n) (suc k) h = let e : (a + 1) + k ≡ a + suc k = omega arith in mapped_at blank f (a + 1) n k (omega arith) ∙ ap f e
-
 pub managed_by : (d : ℕ) (x : Option QueueInfo) → is_managed_of d x ≡ true → (unwrap_or (option_map (λ (i : QueueInfo). i.powered) x) false ≡ true) × (unwrap_or (option_map (λ (i : QueueInfo). i.device.0) x) 0 ≡ d)
 managed_by d None h = absurd (let z : ⊥ = cc in z)
 managed_by d (Some i) h = (both_left i.powered (i.device.0 == d) h, eqb-true i.device.0 d (both_right i.powered (i.device.0 == d) h))
@@ -55,7 +51,7 @@ managed_by d (Some i) h = (both_left i.powered (i.device.0 == d) h, eqb-true i.d
 pub held_there : (plan : Plan) (P : Power) (d r q : ℕ) → P.queues ≡ (opening_power plan).queues → noted P r ≡ q → is_managed_of d (queue_of plan q) ≡ true → is_held_at P d (holding_of P r) ≡ true
 held_there plan P d r q same at h =
     let parts = managed_by d (queue_of plan q) h in
-    let it : queue_power P q ≡ opening_queue_power plan q = ap (λ qs. entry no_queue_power qs q) same ∙ mapped_at no_queue_power (opening_queue_power plan) 0 (suc (length plan.declared)) q (managed_below plan q parts.0) ∙ ap (opening_queue_power plan) (let e : 0 + q ≡ q = omega arith in e) in
+    let it : queue_power P q ≡ opening_queue_power plan q = ap (λ qs. entry no_queue_power qs q) same ∙ entry_of_range no_queue_power (opening_queue_power plan) 0 (suc (length plan.declared)) q (managed_below plan q parts.0) ∙ ap (opening_queue_power plan) (let e : 0 + q ≡ q = omega arith in e) in
     rw at (both _ ((queue_power P q).device.0 == d) (positive q (not_equal q 0 (λ e. no_zero e parts.0))) (equal (queue_power P q).device.0 d (ap (λ y. y.device.0) it ∙ parts.1)))
   where
     no_zero : {n : ℕ} → n ≡ 0 → is_managed plan n ≡ true → ⊥

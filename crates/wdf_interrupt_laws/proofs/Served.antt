@@ -60,7 +60,7 @@ use Rattle.wdf_family_laws.proofs.Families.{Family}
 use Rattle.wdf_power_laws.specs.Steps.{is_for}
 use Rattle.wdf_power_laws.proofs.Calm.{Calm, deeds_calm}
 use Rattle.wdf_power_laws.proofs.Declares.{declares_device, is_power_callback, once_by, own_device_of}
-use Rattle.wdf_power_laws.proofs.Events.{Kept, Staged, enabled_after, not_entry, not_exit, sequence_is, staged}
+use Rattle.wdf_power_laws.proofs.Events.{Kept, Staged, enabled_after, not_entry, not_exit, staged}
 use Rattle.wdf_power_laws.proofs.Happens.{end_elsewhere, found_pass, found_run, not_its, not_running, shown_for, stage_allowed, start_silent, taken_pass, taken_run}
 use Rattle.wdf_power_laws.proofs.Holding.{Silent, watch}
 use Rattle.wdf_power_laws.proofs.Belonging.{device_of_interrupt, interrupt_found}
@@ -72,6 +72,7 @@ use Rattle.wdf_power_laws.proofs.Unmoved.{event_none, none_moves, start_effect_n
 use Rattle.wdf_agreements.proofs.LevelEvents.{sound_after, sound_before}
 use Rattle.wdf_interrupt_laws.proofs.Queues.{From, deeds_from, event_fine}
 use Rattle.wdf_interrupt_laws.proofs.Quieted.{asked_quieted, ended_quieted, exit_by, is_quieted, not_any, quiet_by, quieted_by, run_quieted}
+use Rattle.wdf_invariants.proofs.StepEvents.{sequence_is}
 
 -- an interrupt is enabled, or its DPC is queued
 abbrev pub is_active : {A : Type 0} → State A → ℕ → Bool

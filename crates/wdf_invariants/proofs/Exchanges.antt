@@ -96,7 +96,7 @@ all_joined p f (q ∷ qs) h = list_all-append p (f q) (flat_map f qs) ∙ both (
 
 -- ---- ids
 
-none_from : (a n : ℕ) → count_by (λ (x : ℕ). false) (range_with_len a n) ≡ 0
+pub none_from : (a n : ℕ) → count_by (λ (x : ℕ). false) (range_with_len a n) ≡ 0
 none_from a zero = refl
 none_from a (suc n) = none_from (a + 1) n
 

@@ -140,7 +140,7 @@ contained_by : (f x : ℕ) (xs : List ℕ) (b : Bool) → (x == f) ≡ b → con
 contained_by f x xs true e h rest = let a = at_head f x xs in let yes : flag (x == f) ≡ 1 = ap flag e in omega arith
 contained_by f x xs false e h rest = let a = at_head f x xs in let more = rest (rw e at h) in omega arith
 
-contained : (f : ℕ) (xs : List ℕ) → contains f xs ≡ true → 1 ≤ count_by (λ y. y == f) xs
+pub contained : (f : ℕ) (xs : List ℕ) → contains f xs ≡ true → 1 ≤ count_by (λ y. y == f) xs
 contained f [] h = absurd (let z : ⊥ = cc in z)
 contained f (x ∷ xs) h = contained_by f x xs (x == f) refl h (contained f xs)
 

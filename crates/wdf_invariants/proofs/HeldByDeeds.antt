@@ -1,5 +1,5 @@
 -- Each deed that fits keeps what is held in step with what is counted and noted of it: a line for each.
-use Rattle.std.proofs.Common.{map, Option, Some, None, is_none, option_map, length, ◌||◌, if◌then◌else◌, ◌≡◌, ◌≢◌, ℕ, ◌==◌, ◌≤◌, Bool, true, false, ◌&&◌, List, [], ◌∷◌, ◌++◌, ◌⊎◌, inl, inr, is_some, fold, count_by, refl, ap, sym, subst, ◌∙◌, arith}
+use Rattle.std.proofs.Common.{map, Option, Some, None, is_none, option_map, ◌||◌, if◌then◌else◌, ◌≡◌, ◌≢◌, ℕ, ◌==◌, ◌≤◌, Bool, true, false, ◌&&◌, List, [], ◌∷◌, ◌⊎◌, inl, inr, is_some, fold, count_by, refl, ap, sym, subst, ◌∙◌, arith}
 use Rattle.std.proofs.lemmas.List.{length-map}
 use Rattle.std.proofs.lemmas.Bool.{cases_Bool}
 use Rattle.wdf_base.specs.declared.plan.Plan.{Plan}
@@ -17,8 +17,8 @@ use Rattle.wdf_model.specs.declared.enums.Mode.TheVariants as mode
 use Rattle.wdf_model.specs.declared.entries.Request.{Request}
 use Rattle.wdf_model.specs.declared.entries.Holding.{Holding}
 use Rattle.wdf_model.specs.Plans.{managed_queues, queues_of}
-use Rattle.wdf_model.specs.Tables.{ids_of, flag}
-use Rattle.wdf_model.specs.parts.Tree.{nearest_device, next_id}
+use Rattle.wdf_model.specs.Tables.{flag}
+use Rattle.wdf_model.specs.parts.Tree.{nearest_device}
 use Rattle.wdf_model.specs.parts.Requests.{cancelled, is_marked, is_owned, is_queued_in, is_returning_to, is_sent, made_info, marked, moved, place_of, request_of, unmarked, with_mark, Requests, forgotten, is_done, is_over, no_request, closed_at, is_in}
 use Rattle.wdf_model.specs.parts.Requests as requests
 use Rattle.wdf_model.specs.parts.Queues as queues
@@ -48,7 +48,7 @@ use Rattle.wdf_invariants.proofs.HeldMoves.{Placed, away, away_cancelled, came_b
 
 -- ---- places from which nothing is held
 
-queued_unheld : (forgotten : Bool) (q : ℕ) (p : Place) → is_queued_in q p ≡ true → held_at forgotten p ≡ false
+pub queued_unheld : (forgotten : Bool) (q : ℕ) (p : Place) → is_queued_in q p ≡ true → held_at forgotten p ≡ false
 queued_unheld forgotten q (place.Queued o) h = refl
 queued_unheld forgotten q (place.Returning o) h = refl
 queued_unheld forgotten q (place.Closing s) h = refl
@@ -56,7 +56,7 @@ queued_unheld forgotten q place.Owned h = absurd (let z : ⊥ = cc in z)
 queued_unheld forgotten q (place.Sent t) h = absurd (let z : ⊥ = cc in z)
 queued_unheld forgotten q place.Done h = refl
 
-returning_unheld : (forgotten : Bool) (q : ℕ) (p : Place) → is_returning_to q p ≡ true → held_at forgotten p ≡ false
+pub returning_unheld : (forgotten : Bool) (q : ℕ) (p : Place) → is_returning_to q p ≡ true → held_at forgotten p ≡ false
 returning_unheld forgotten q (place.Queued o) h = refl
 returning_unheld forgotten q (place.Returning o) h = refl
 returning_unheld forgotten q (place.Closing s) h = refl
@@ -125,7 +125,7 @@ all_queues_closed plan (q ∷ qs) S h = all_queues_closed plan qs (close_queue S
 
 -- ---- power
 
-woken_by : (P : Power) (d : ℕ) (h : Holding) (b : Bool) → is_held_at P d h ≡ b → (woken P d h).queue.0 ≡ h.queue.0
+pub woken_by : (P : Power) (d : ℕ) (h : Holding) (b : Bool) → is_held_at P d h ≡ b → (woken P d h).queue.0 ≡ h.queue.0
 woken_by P d h true e = rw e refl
 woken_by P d h false e = rw e refl
 

@@ -1,13 +1,12 @@
 -- The laws on what is held, at each place of every run.
-use Rattle.std.proofs.Common.{if◌then◌else◌, ◌≡◌, ℕ, zero, suc, ◌+◌, ◌==◌, Bool, true, false, ◌&&◌, List, [], ◌∷◌, ◌⊎◌, inl, inr, Option, Some, None, map, take, length, count_by, refl, sym, subst, ◌∙◌, arith}
-use Rattle.std.specs.List.{list_all, range_with_len}
+use Rattle.std.proofs.Common.{if◌then◌else◌, ◌≡◌, ℕ, zero, suc, ◌==◌, Bool, true, false, ◌&&◌, List, [], ◌∷◌, ◌⊎◌, inl, inr, Option, Some, None, map, take, length, refl, sym, subst, ◌∙◌, arith}
+use Rattle.std.specs.List.{list_all}
 use Rattle.std.proofs.lemmas.List.Sums.{length-filter}
 use Rattle.wdf_base.specs.Meaning.{Meaning}
 use Rattle.wdf_base.specs.declared.plan.Plan.{Plan}
 use Rattle.wdf_base.specs.declared.event.Event.{Event}
-use Rattle.wdf_base.specs.declared.declared.QueueInfo.{QueueInfo}
 use Rattle.wdf_model.specs.Tables.{entry, ids_of, same_id}
-use Rattle.wdf_model.specs.Plans.{declared_ids, queue_of}
+use Rattle.wdf_model.specs.Plans.{declared_ids}
 use Rattle.wdf_model.specs.parts.Requests.{origin_of}
 use Rattle.wdf_model.specs.parts.Queues.{held_count}
 use Rattle.wdf_model.specs.parts.Power.{holding_of}
@@ -28,6 +27,7 @@ use Rattle.wdf_invariants.proofs.Totals.{same_total}
 use Rattle.wdf_invariants.proofs.Holding.{HoldsIn, is_from}
 use Rattle.wdf_invariants.proofs.HeldMoves.{Placed}
 use Rattle.wdf_invariants.proofs.HeldByDeeds.{deeds_hold}
+use Rattle.wdf_invariants.proofs.Exchanges.{none_from}
 
 -- ---- the opening
 
@@ -36,20 +36,16 @@ queues_open [] q = refl
 queues_open (i ∷ ids) zero = refl
 queues_open (i ∷ ids) (suc q) = queues_open ids q
 
-none_counted : (a n : ℕ) → count_by (λ (r : ℕ). false) (range_with_len a n) ≡ 0
-none_counted a zero = refl
-none_counted a (suc n) = none_counted (a + 1) n
-
 opening_holds : {A : Type 0} (plan : Plan) (m : Meaning A) → HoldsIn plan (opening plan m)
 opening_holds plan m = record {
-  counts = λ q n within. queues_open (declared_ids plan) q ∙ sym (none_counted 0 n);
+  counts = λ q n within. queues_open (declared_ids plan) q ∙ sym (none_from 0 n);
   holdings = λ r. refl;
 }
 
 -- ---- one event more
 
 -- what was completed and what arrived doesn't matter here
-placed : {A : Type 0} {F B : ℕ → Bool} (S : State A) → KeptIn F B S → Placed S
+pub placed : {A : Type 0} {F B : ℕ → Bool} (S : State A) → KeptIn F B S → Placed S
 placed S k = record {
   queued = k.queued;
   sent = k.sent;
@@ -84,7 +80,7 @@ pub each_passes : {X : Type 0} (p : X → Bool) → ((x : X) → p x ≡ true) �
 each_passes p h [] = refl
 each_passes p h (x ∷ xs) = both (p x) (list_all p xs) (h x) (each_passes p h xs)
 
-with_true : (b : Bool) → (b && true) ≡ b
+pub with_true : (b : Bool) → (b && true) ≡ b
 with_true true = refl
 with_true false = refl
 
@@ -98,7 +94,7 @@ from_by true (Some p) q = with_true (p == q)
 from_by false None q = refl
 from_by false (Some p) q = with_false (p == q)
 
-held_number : {A : Type 0} (plan : Plan) (S : State A) → HoldsIn plan S → (q : ℕ) → held_count S.queues q ≡ length (held_from S q)
+pub held_number : {A : Type 0} (plan : Plan) (S : State A) → HoldsIn plan S → (q : ℕ) → held_count S.queues q ≡ length (held_from S q)
 held_number plan S h q =
     h.counts q (length S.requests.all) (omega arith)
     ∙ sym (same_total (is_from S.requests S.targets q) (is_held_from S q) 0 (length S.requests.all) (λ r above. from_by (is_with_driver S r) (origin_of S.requests r) q))

@@ -18,11 +18,11 @@ longer_one : (xs : List ℕ) (x : ℕ) → length (xs ++ x ∷ []) ≡ suc (leng
 longer_one xs x = let e = length-append xs (x ∷ []) in omega arith
 
 -- those before stay
-stays : (before : List ℕ) (ns : List Node) (o : ℕ) → o < length before → entry 1 (nearest_devices before ns) o ≡ entry 1 before o
-stays before [] o h = refl
-stays before (n ∷ ns) o h =
+pub front_stays : (before : List ℕ) (ns : List Node) (o : ℕ) → o < length before → entry 1 (nearest_devices before ns) o ≡ entry 1 before o
+front_stays before [] o h = refl
+front_stays before (n ∷ ns) o h =
     let more = longer_one before (own_device before (length before) n) in
-    stays (before ++ own_device before (length before) n ∷ []) ns o (omega arith)
+    front_stays (before ++ own_device before (length before) n ∷ []) ns o (omega arith)
     ∙ entry_before 1 before (own_device before (length before) n) o (λ e. let z : ⊥ = omega arith in z)
 
 own_alike : (n m : Node) (b : Bool) (o x y : ℕ) → same_kind n.kind kind.Device ≡ b → same_kind m.kind kind.Device ≡ b → x ≡ y → (if same_kind m.kind kind.Device then o else x) ≡ (if same_kind n.kind kind.Device then o else y)
@@ -41,7 +41,7 @@ module _ (Fine : ℕ → Type 0) where
   pub nearest_stays : (before later : List ℕ) (ns ms : List Node) → length before ≡ length later → ((j : ℕ) → Fine j → entry 1 later j ≡ entry 1 before j)
       → ((i : ℕ) → i < length ns → Fine (length before + i) → Alike Fine (entry gone ns i) (entry gone ms i)) → length ns ≤ length ms
       → (o : ℕ) → Fine o → o < length before + length ns → entry 1 (nearest_devices later ms) o ≡ entry 1 (nearest_devices before ns) o
-  nearest_stays before later [] ms long same alike shorter o fine inside = stays later ms o (omega arith) ∙ same o fine
+  nearest_stays before later [] ms long same alike shorter o fine inside = front_stays later ms o (omega arith) ∙ same o fine
   nearest_stays before later (n ∷ ns) [] long same alike shorter o fine inside = absurd (omega arith)
   nearest_stays before later (n ∷ ns) (m ∷ ms) long same alike shorter o fine inside =
       let x : ℕ = own_device before (length before) n in

@@ -8,9 +8,7 @@ use Rattle.wdf_base.specs.declared.event.Stage.TheVariants as stage
 use Rattle.wdf_base.specs.declared.event.Step.{Step}
 use Rattle.wdf_base.specs.declared.event.Step.TheVariants as step
 use Rattle.wdf_base.specs.declared.object.Place.TheVariants as place
-use Rattle.wdf_base.specs.declared.value.Status.TheVariants as status
 use Rattle.wdf_model.specs.declared.enums.Mode.TheVariants as mode
-use Rattle.wdf_model.specs.Tables.{ids_of}
 use Rattle.wdf_model.specs.Plans.{is_managed, managed_queues, queues_of}
 use Rattle.wdf_model.specs.parts.Requests as requests
 use Rattle.wdf_model.specs.parts.Requests.{is_returning_to, place_of}
@@ -83,7 +81,7 @@ arrived_queues S device info _ = refl
 
 -- ---- deeds, events and runs
 
-deed_queues : {A : Type 0} (plan : Plan) (d : Deed) (S : State A) → (do_deed plan d S).power.queues ≡ S.power.queues
+pub deed_queues : {A : Type 0} (plan : Plan) (d : Deed) (S : State A) → (do_deed plan d S).power.queues ≡ S.power.queues
 deed_queues plan (Arrive device info p) S = arrived_queues S device.0 info p
 deed_queues plan (AskDeletion o) S = deleted_queues S o.0
 deed_queues plan (Present q r) S = held_queues S.power r.0 q.0 (is_managed plan q.0)

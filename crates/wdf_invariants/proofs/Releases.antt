@@ -14,9 +14,8 @@ use Rattle.wdf_model.specs.parts.Power as power
 use Rattle.wdf_model.specs.State.{State, is_with_driver}
 use Rattle.wdf_model.specs.rules.Deeds.{give_up, hold_power, release_line, release_power}
 use Rattle.wdf_model.specs.laws.Agreement.{managed_origin}
-use Rattle.wdf_model.proofs.Maps.{entry_map, entry_put_other, entry_put_same}
+use Rattle.wdf_model.proofs.Maps.{entry_put_other, entry_put_same}
 use Rattle.wdf_model.proofs.Counts.{equal, not_equal, one_or_two}
-use Rattle.wdf_model.proofs.KeptMoves.{queue_elsewhere, queue_here}
 use Rattle.wdf_invariants.proofs.Holding.{Holds, HoldsIn, holder, holds_by_turn, is_counted, is_from}
 
 -- ---- lines

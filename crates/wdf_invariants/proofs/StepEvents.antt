@@ -1,5 +1,6 @@
 -- Starts and ends of callbacks keep the steps' callbacks in step with their frames.
-use Rattle.std.proofs.Common.{◌≡◌, ℕ, zero, suc, ◌+◌, ◌==◌, ◌<◌, ◌≤◌, Bool, true, false, not, ◌&&◌, List, [], ◌∷◌, ◌++◌, ◌⊎◌, inl, inr, Option, Some, None, length, refl, ap, sym, subst, ◌∙◌, arith}
+use Rattle.std.proofs.Common.{◌≡◌, ℕ, ◌+◌, ◌==◌, ◌<◌, ◌≤◌, Bool, true, false, not, ◌&&◌, List, [], ◌∷◌, ◌++◌, inl, inr, Option, Some, None, length, refl, ap, sym, subst, ◌∙◌, arith}
+use Rattle.std.proofs.lemmas.Bool.{cases_lt}
 use Rattle.wdf_base.specs.Meaning.{Meaning}
 use Rattle.wdf_base.specs.declared.plan.Plan.{Plan}
 use Rattle.wdf_base.specs.declared.ids.Handle.{Handle}
@@ -32,7 +33,7 @@ use Rattle.wdf_model.proofs.Tests.{both_left, both_right, not_true}
 use Rattle.wdf_model.proofs.Counts.{equal}
 use Rattle.wdf_model.proofs.OwnEvents.{IsEnd}
 use Rattle.wdf_invariants.proofs.Trees.{cleaned_there}
-use Rattle.wdf_invariants.proofs.StillDeeds.{all_still, effect_for_none, effect_none, releasing_none}
+use Rattle.wdf_invariants.proofs.StillDeeds.{all_still, releasing_none, start_none}
 use Rattle.wdf_invariants.proofs.StillFrames.{Still, asked_there, deeds_still, live_there}
 use Rattle.wdf_invariants.proofs.Framed.{on}
 use Rattle.wdf_invariants.proofs.FrameMoves.{fresh, pop_on}
@@ -41,34 +42,24 @@ use Rattle.wdf_invariants.proofs.StepStates.{StepsIn, begun, deeds_stay, ended_i
 
 -- ---- where a callback may start
 
-lives_within : {A : Type 0} (S : State A) (c : Callback) (o : ℕ) → life_fits S c o ≡ true → is_gone (life_of S.tree o) ≡ false
+pub lives_within : {A : Type 0} (S : State A) (c : Callback) (o : ℕ) → life_fits S c o ≡ true → is_gone (life_of S.tree o) ≡ false
 lives_within S callback.EvtCleanupCallback o h = asked_there (life_of S.tree o) h
 lives_within S callback.EvtDestroyCallback o h = cleaned_there (life_of S.tree o) h
 lives_within S _ o h = live_there (life_of S.tree o) h
 
-less_or_past : (o n : ℕ) → (o < n) ⊎ (n ≤ o)
-less_or_past zero zero = inr (omega arith)
-less_or_past zero (suc n) = inl (omega arith)
-less_or_past (suc o) zero = inr (omega arith)
-less_or_past (suc o) (suc n) = elim (less_or_past o n) [ inl l ↦ inl (omega arith) | inr l ↦ inr (omega arith) ]
-
 within_tree : (T : Tree) (o : ℕ) → is_gone (life_of T o) ≡ false → o < length T.nodes
-within_tree T o h = elim (less_or_past o (length T.nodes)) [
+within_tree T o h = elim (cases_lt o (length T.nodes)) [
   | inl l ↦ l
   | inr l ↦ absurd (let past : is_gone (life_of T o) ≡ true = ap (λ (n : Node). is_gone n.life) (entry_past gone T.nodes o l) in let z : ⊥ = cc in z)
 ]
 
-sequence_is : (k : Rank) → is_sequence k ≡ true → k ≡ rank.Sequence
+pub sequence_is : (k : Rank) → is_sequence k ≡ true → k ≡ rank.Sequence
 sequence_is rank.Sequence h = refl
 sequence_is _ h = absurd (let z : ⊥ = cc in z)
 
 -- ---- starts
 
 module _ {A : Type 0} (plan : Plan) (m : Meaning A) (S : State A) (cpu : ℕ) (c : Callback) (o : Handle) where
-  starts_other : (r : Option Handle) → is_sequence (row_of c).rank ≡ false → all_still (start_effect plan S cpu c o.id.0 r) ≡ true
-  starts_other None h = effect_none plan S (row_of c).rank cpu c o.id.0 h
-  starts_other (Some r) h = effect_for_none (row_of c).rank o.id.0 r.id.0
-
   other_starts : (r : Option Handle) → is_sequence (row_of c).rank ≡ false → o.id.0 < length S.tree.nodes → all_fit plan (start_deeds plan S cpu c o r) S ≡ true
       → StepsIn S.number S.number S → StepsIn S.number (S.number + 1) (do_deeds plan (start_deeds plan S cpu c o r) S)
   other_starts r other within fit h =
@@ -77,8 +68,8 @@ module _ {A : Type 0} (plan : Plan) (m : Meaning A) (S : State A) (cpu : ℕ) (c
       let level : ℕ = callback_irql plan c o.id.0 in
       let es : List Deed = PushFrame (cpu_of cpu) (frame_id (S.number + 1)) frame (irql_of level) ∷ take_if_any (S.number + 1) (lock_of_callback plan c o.id.0 (declared_in plan S o.id.0)) in
       let U : State A = do_deeds plan ds S in
-      let s : Still S U = deeds_still plan ds S (starts_other r other) (fit_before plan ds es S fit) in
-      let hU : StepsIn S.number S.number U = deeds_stay plan ds S S.number S.number S.number (omega arith) (starts_other r other) (fit_before plan ds es S fit) h in
+      let s : Still S U = deeds_still plan ds S (start_none plan S cpu c o.id.0 r other) (fit_before plan ds es S fit) in
+      let hU : StepsIn S.number S.number U = deeds_stay plan ds S S.number S.number S.number (omega arith) (start_none plan S cpu c o.id.0 r other) (fit_before plan ds es S fit) h in
       subst (λ (V : State A). StepsIn S.number (S.number + 1) V) (sym (in_turn plan ds es S))
       (begun plan U S.number cpu frame level (lock_of_callback plan c o.id.0 (declared_in plan S o.id.0)) hU U.pnp
       (other_begins U.cpus cpu (S.number + 1) frame level (fresh U.cpus U.tree S.number (S.number + 1) hU.framed (omega arith)) U.pnp hU.stepping other)

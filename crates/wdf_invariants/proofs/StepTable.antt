@@ -57,22 +57,22 @@ on_top plan S cpu f what ds next t same still k fit h =
 did_keeps : {A : Type 0} (plan : Plan) (S : State A) (cpu : ℕ) (c : Call) (v : Value) → IsDid plan S cpu c v → Keeps plan S (by_top S cpu (did_deeds plan S cpu c v))
 did_keeps plan S cpu c v d =
     on_top plan S cpu d.frame (did_deeds plan S cpu c v) ((outcome plan S cpu d.frame c).deeds ++ second_deeds d.frame c) (answered plan (frame_of S.cpus d.frame) v) d.about.top refl
-    (none_behind (outcome plan S cpu d.frame c).deeds (second_deeds d.frame c) (outcome_none plan S cpu d.frame c.kind c.count c.a c.b c.c) (second_none d.frame c.kind c.count c.a c.b c.c))
+    (none_behind (outcome plan S cpu d.frame c).deeds (second_deeds d.frame c) (outcome_none plan S cpu d.frame c) (second_none d.frame c))
     (answered_kept plan (frame_of S.cpus d.frame) v)
 
 waiting_keeps : {A : Type 0} (plan : Plan) (S : State A) (cpu : ℕ) (c : Call) → IsWaiting plan S cpu c → Keeps plan S (by_top S cpu (waiting_deeds plan S cpu c))
 waiting_keeps plan S cpu c d =
     on_top plan S cpu d.frame (waiting_deeds plan S cpu c) (outcome plan S cpu d.frame c).deeds (waiting (frame_of S.cpus d.frame) c (outcome plan S cpu d.frame c).answer) d.about.top refl
-    (outcome_none plan S cpu d.frame c.kind c.count c.a c.b c.c) (record { callback = refl; object = refl; device = refl })
+    (outcome_none plan S cpu d.frame c) (record { callback = refl; object = refl; device = refl })
 
 woke_keeps : {A : Type 0} (plan : Plan) (S : State A) (cpu : ℕ) (c : Call) (v : Value) → IsWoke S cpu c v → Keeps plan S (by_top S cpu (woke_deeds plan c v))
 woke_keeps plan S cpu c v d =
     on_top plan S cpu d.frame (woke_deeds plan c v) (second_deeds d.frame c) (answered plan (frame_of S.cpus d.frame) v) d.top refl
-    (second_none d.frame c.kind c.count c.a c.b c.c) (answered_kept plan (frame_of S.cpus d.frame) v)
+    (second_none d.frame c) (answered_kept plan (frame_of S.cpus d.frame) v)
 
 -- ---- a frame parks, or comes back
 
-top_is : (t : Option ℕ) (f : ℕ) → same_id t f ≡ true → t ≡ Some f
+pub top_is : (t : Option ℕ) (f : ℕ) → same_id t f ≡ true → t ≡ Some f
 top_is None f h = absurd (let z : ⊥ = cc in z)
 top_is (Some g) f h = ap Some (eqb-true g f h)
 

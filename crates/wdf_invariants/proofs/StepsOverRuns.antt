@@ -30,12 +30,12 @@ use Rattle.wdf_invariants.proofs.StepTable.{event_keeps_steps, tick_keeps_steps}
 
 -- ---- the opening
 
-no_stacks : (p : ℕ → Bool) (n : ℕ) → count_by p (flat_map (λ (fs : List ℕ). fs) (replicate n [])) ≡ 0
+pub no_stacks : (p : ℕ → Bool) (n : ℕ) → count_by p (flat_map (λ (fs : List ℕ). fs) (replicate n [])) ≡ 0
 no_stacks p zero = refl
 no_stacks p (suc n) = let e = count_behind p [] (flat_map (λ (fs : List ℕ). fs) (replicate n [])) in let rest = no_stacks p n in omega arith
 
-no_frames : (plan : Plan) (p : ℕ → Bool) → count_by p (all_frames (opening_cpus plan)) ≡ 0
-no_frames plan p = let e = count_behind p (flat_map (λ (fs : List ℕ). fs) (replicate plan.cpus [])) [] in let none = no_stacks p plan.cpus in omega arith
+pub none_yet : (plan : Plan) (p : ℕ → Bool) → count_by p (all_frames (opening_cpus plan)) ≡ 0
+none_yet plan p = let e = count_behind p (flat_map (λ (fs : List ℕ). fs) (replicate plan.cpus [])) [] in let none = no_stacks p plan.cpus in omega arith
 
 rests : (plan : Plan) (d : ℕ) (i : Option DeviceInfo) → (opening_sequence plan d i).running ≡ None
 rests plan d None = refl
@@ -46,12 +46,12 @@ all_rest plan [] d = refl
 all_rest plan (i ∷ ids) zero = rests plan i (device_of plan i)
 all_rest plan (i ∷ ids) (suc d) = all_rest plan ids d
 
-declared_stand : (ds : List Declared) (o : ℕ) → is_gone (entry gone (map declared_node ds) o).life ≡ true → (entry gone (map declared_node ds) o).parent.0 ≡ 0
+pub declared_stand : (ds : List Declared) (o : ℕ) → is_gone (entry gone (map declared_node ds) o).life ≡ true → (entry gone (map declared_node ds) o).parent.0 ≡ 0
 declared_stand [] o h = refl
 declared_stand (d ∷ ds) zero h = absurd (let z : ⊥ = cc in z)
 declared_stand (d ∷ ds) (suc o) h = declared_stand ds o h
 
-opening_hollow : (plan : Plan) (o : ℕ) → is_gone (life_of (opening_tree plan) o) ≡ true → parent_of (opening_tree plan) o ≡ 0
+pub opening_hollow : (plan : Plan) (o : ℕ) → is_gone (life_of (opening_tree plan) o) ≡ true → parent_of (opening_tree plan) o ≡ 0
 opening_hollow plan zero h = refl
 opening_hollow plan (suc o) h = declared_stand plan.declared o h
 
@@ -59,13 +59,13 @@ opening_steps : {A : Type 0} (plan : Plan) (m : Meaning A) → StepsIn 0 0 (open
 opening_steps plan m = record {
   number = refl;
   framed = record {
-    once = λ f. let e = no_frames plan (λ x. x == f) in omega arith;
-    old = λ f is. let e = no_frames plan (λ x. x == f) in absurd (omega arith);
-    known = λ f is. let e = no_frames plan (λ x. x == f) in absurd (omega arith);
-    there = λ f is. let e = no_frames plan (λ x. x == f) in absurd (omega arith);
+    once = λ f. let e = none_yet plan (λ x. x == f) in omega arith;
+    old = λ f is. let e = none_yet plan (λ x. x == f) in absurd (omega arith);
+    known = λ f is. let e = none_yet plan (λ x. x == f) in absurd (omega arith);
+    there = λ f is. let e = none_yet plan (λ x. x == f) in absurd (omega arith);
   };
   rooted = record { hollow = opening_hollow plan; root = refl; some = omega arith };
-  stepping = record { steps = λ d. no_frames plan (λ f. is_step_frame d (frame_of (opening_cpus plan) f)) ∙ sym (ap (λ r. flag (is_some r)) (all_rest plan (declared_ids plan) d)) };
+  stepping = record { steps = λ d. none_yet plan (λ f. is_step_frame d (frame_of (opening_cpus plan) f)) ∙ sym (ap (λ r. flag (is_some r)) (all_rest plan (declared_ids plan) d)) };
 }
 
 -- ---- one event more

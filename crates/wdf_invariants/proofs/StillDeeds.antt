@@ -1,47 +1,25 @@
 -- Calls, starts, stages and posts leave the frames and the steps alone, but for what starts or ends them.
-use Rattle.std.proofs.Common.{if◌then◌else◌, ◌≡◌, ℕ, Bool, true, false, not, ◌&&◌, ◌||◌, List, [], ◌∷◌, ◌++◌, Option, Some, None, map, option_and_then, refl}
-use Rattle.std.specs.List.{flat_map, list_all}
-use Rattle.wdf_base.specs.declared.object.RequestForm.{RequestForm}
-use Rattle.wdf_base.specs.declared.object.RequestForm.TheVariants as form
-use Rattle.wdf_model.specs.Tables.{flag}
-use Rattle.wdf_model.specs.laws.Agreement.{is_sequence}
+use Rattle.std.proofs.Common.{◌≡◌, ℕ, Bool, true, false, ◌||◌, List, [], ◌∷◌, ◌++◌, Option, Some, None, refl}
+use Rattle.std.specs.List.{list_all}
 use Rattle.wdf_base.specs.declared.plan.Plan.{Plan}
 use Rattle.wdf_base.specs.declared.ids.Handle.{Handle}
-use Rattle.wdf_base.specs.declared.value.Value.TheVariants.{Obj, Stat}
-use Rattle.wdf_base.specs.declared.value.Status.TheVariants as status
-use Rattle.wdf_base.specs.declared.object.Kind.{Kind}
-use Rattle.wdf_base.specs.declared.object.Kind.TheVariants as kind
 use Rattle.wdf_base.specs.declared.object.LockRef.{LockRef}
-use Rattle.wdf_base.specs.declared.object.Place.{Place}
-use Rattle.wdf_base.specs.declared.object.Place.TheVariants as place
-use Rattle.wdf_base.specs.declared.call.Arg.{Arg}
-use Rattle.wdf_base.specs.declared.call.CallKind.{CallKind}
-use Rattle.wdf_base.specs.declared.call.CallKind.TheVariants as call
+use Rattle.wdf_base.specs.declared.call.Call.{Call}
 use Rattle.wdf_base.specs.declared.call.Callback.{Callback}
-use Rattle.wdf_base.specs.declared.rank.Rank.{Rank}
-use Rattle.wdf_base.specs.declared.rank.Rank.TheVariants as rank
+use Rattle.wdf_base.specs.declared.event.Event.{Event}
 use Rattle.wdf_base.specs.declared.event.Post.{Post}
-use Rattle.wdf_base.specs.declared.event.Post.TheVariants as post
 use Rattle.wdf_base.specs.declared.event.Stage.{Stage}
-use Rattle.wdf_base.specs.declared.event.Stage.TheVariants as stage
-use Rattle.wdf_base.specs.declared.call.Callback.TheVariants as callback
-use Rattle.wdf_model.specs.parts.Tree.{is_full, is_live, life_of}
-use Rattle.wdf_model.specs.parts.Control.{accepts, is_purged, mode_of}
-use Rattle.wdf_model.specs.parts.Interrupts.{is_enabled}
-use Rattle.wdf_model.specs.parts.Deferred.Dpcs.{is_dpc_queued}
-use Rattle.wdf_model.specs.parts.Deferred.Timers.{is_timer_queued}
-use Rattle.wdf_model.specs.Plans.{declares, is_manual_queue, is_parallel_queue, kind_of_class, managed_queues, parent_of_class, queues_of}
-use Rattle.wdf_model.specs.parts.Queues.{front}
-use Rattle.wdf_model.specs.parts.Requests.{arrival_of, is_cancelled, mark_answer, place_of}
-use Rattle.wdf_model.specs.State.{State, object_in, queue_delivers}
-use Rattle.wdf_model.specs.Ids.{cpu_of, object_id}
+use Rattle.wdf_base.specs.Callbacks.{row_of}
+use Rattle.wdf_model.specs.laws.Agreement.{is_sequence}
+use Rattle.wdf_model.specs.State.{State}
 use Rattle.wdf_model.specs.declared.deed.Deed.{Deed}
-use Rattle.wdf_model.specs.declared.deed.Deed.TheVariants.{Acknowledge, Arrive, CountArrival, EndLife, EndStep, ParkFrame, TakeStep, UnparkFrame, EnqueueDpc, EnqueueWork, Forward, GiveBack, GoOn, MarkRequest, PopFrame, PushFrame, RegisterQueue, Requeue, SendRequest, StartTimer}
-use Rattle.wdf_model.specs.rules.Faults.{arg_is}
-use Rattle.wdf_model.specs.rules.Calls.{Outcome, acknowledge_outcome, class_in, create_outcome, creation, forward_outcome, forwards_nowhere, mark_outcome, may_send, new_handle, number, number_in, origin_or_none, outcome, requeue_outcome, retrieve_front, retrieve_outcome, refused, second_deeds, send_outcome, success}
-use Rattle.wdf_model.specs.rules.Starts.{effect, effect_for, release_if_any, stage_effect, take_if_any}
-use Rattle.wdf_model.specs.rules.Posts.{arrival_info, arrival_place, cancel_at, cancel_deeds, in_reach, post_deeds}
-use Rattle.wdf_model.proofs.Tests.{both, both_left, both_right}
+use Rattle.wdf_model.specs.declared.deed.Deed.TheVariants.{EndLife, EndStep, GoOn, ParkFrame, PopFrame, PushFrame, TakeStep, UnparkFrame}
+use Rattle.wdf_model.specs.rules.Calls.{outcome, second_deeds}
+use Rattle.wdf_model.specs.rules.Starts.{release_if_any, stage_effect, start_effect, take_if_any}
+use Rattle.wdf_model.specs.rules.Posts.{post_deeds}
+use Rattle.wdf_deeds.specs.MayDo.{ends_step, goes_on, is_destruction, is_end, is_park, is_stage, is_start, is_unpark, starts_step}
+use Rattle.wdf_deeds.proofs.Walk.{all_after, plain_frame, plain_stage, plain_start}
+use Rattle.wdf_deeds.proofs.Passing.{Passes, PassesBeside, first_of, outcome_passes, post_of, post_passes, second_of, second_passes, stage_of, stage_passes, start_effect_passes, start_of}
 
 -- a deed that leaves the processors' lists, the frames but for their levels, and the steps alone, and ends no object
 abbrev pub is_still_deed : Deed → Bool
@@ -59,102 +37,42 @@ abbrev pub all_still : List Deed → Bool
 all_still ds = list_all is_still_deed ds
 
 pub none_behind : (ds es : List Deed) → all_still ds ≡ true → all_still es ≡ true → all_still (ds ++ es) ≡ true
-none_behind [] es h k = k
-none_behind (d ∷ ds) es h k = both (is_still_deed d) (all_still (ds ++ es)) (both_left (is_still_deed d) (all_still ds) h) (none_behind ds es (both_right (is_still_deed d) (all_still ds) h) k)
+none_behind ds es h k = all_after is_still_deed ds es h k
 
-pub either_none : (b : Bool) (x y : Outcome) → all_still x.deeds ≡ true → all_still y.deeds ≡ true → all_still (if b then x else y).deeds ≡ true
-either_none true x y h k = h
-either_none false x y h k = k
+-- which of the other deeds an event may do
+abbrev moves : Event → List Bool
+moves e = is_start e ∷ goes_on e ∷ is_end e ∷ is_park e ∷ is_unpark e ∷ (is_stage e || starts_step e) ∷ ends_step e ∷ is_destruction e ∷ []
 
-creation_none : (k : Kind) (class parent : ℕ) → all_still (creation k class parent ∷ []) ≡ true
-creation_none kind.Made class parent = refl
-creation_none _ class parent = refl
+still_beside : (plain e : Event) → moves e ≡ moves plain → PassesBeside is_still_deed plain e
+still_beside plain e same (PushFrame cpu f frame level) h k = absurd (let z : ⊥ = cc in z)
+still_beside plain e same (GoOn f frame) h k = absurd (let z : ⊥ = cc in z)
+still_beside plain e same (PopFrame cpu) h k = absurd (let z : ⊥ = cc in z)
+still_beside plain e same (ParkFrame cpu) h k = absurd (let z : ⊥ = cc in z)
+still_beside plain e same (UnparkFrame cpu f) h k = absurd (let z : ⊥ = cc in z)
+still_beside plain e same (TakeStep d) h k = absurd (let z : ⊥ = cc in z)
+still_beside plain e same (EndStep d s result) h k = absurd (let z : ⊥ = cc in z)
+still_beside plain e same (EndLife o) h k = absurd (let z : ⊥ = cc in z)
+still_beside plain e same _ h k = refl
 
-create_none : {A : Type 0} (plan : Plan) (S : State A) (class parent : ℕ) → all_still (create_outcome plan S class parent).deeds ≡ true
-create_none plan S class parent =
-    either_none (not (is_live (life_of S.tree parent))) (refused status.DeletePending)
-    (if is_full S.tree then refused status.InsufficientResources else record { answer = Obj (new_handle plan S class); deeds = creation (kind_of_class plan class) class parent ∷ [] }) refl
-    (either_none (is_full S.tree) (refused status.InsufficientResources) (record { answer = Obj (new_handle plan S class); deeds = creation (kind_of_class plan class) class parent ∷ [] }) refl
-    (creation_none (kind_of_class plan class) class parent))
+still_post : (p : Post) → Passes is_still_deed (post_of p)
+still_post p (PushFrame cpu f frame level) h = absurd (let z : ⊥ = cc in z)
+still_post p (GoOn f frame) h = absurd (let z : ⊥ = cc in z)
+still_post p (PopFrame cpu) h = absurd (let z : ⊥ = cc in z)
+still_post p (ParkFrame cpu) h = absurd (let z : ⊥ = cc in z)
+still_post p (UnparkFrame cpu f) h = absurd (let z : ⊥ = cc in z)
+still_post p (TakeStep d) h = absurd (let z : ⊥ = cc in z)
+still_post p (EndStep d s result) h = absurd (let z : ⊥ = cc in z)
+still_post p (EndLife o) h = absurd (let z : ⊥ = cc in z)
+still_post p _ h = refl
 
-requeue_none : {A : Type 0} (S : State A) (r q : ℕ) → all_still (requeue_outcome S r q).deeds ≡ true
-requeue_none S r q = either_none (is_cancelled S.requests r || is_purged (mode_of S.control q)) (success (GiveBack (object_id r) (object_id q) ∷ [])) (success (Requeue (object_id r) (object_id q) ∷ [])) refl refl
+pub outcome_none : {A : Type 0} (plan : Plan) (S : State A) (cpu f : ℕ) (c : Call) → all_still (outcome plan S cpu f c).deeds ≡ true
+outcome_none plan S cpu f c = outcome_passes is_still_deed plan S cpu f c (still_beside plain_frame (first_of c) refl)
 
-mark_none : {A : Type 0} (plan : Plan) (S : State A) (r : ℕ) → all_still (mark_outcome plan S r).deeds ≡ true
-mark_none plan S r =
-    either_none (declares plan callback.EvtRequestCancel (origin_or_none S r)) (record { answer = Stat (mark_answer S.requests r); deeds = MarkRequest (object_id r) ∷ [] }) (refused status.InvalidDeviceRequest) refl refl
+pub second_none : (f : ℕ) (c : Call) → all_still (second_deeds f c) ≡ true
+second_none f c = second_passes is_still_deed f c (still_beside plain_frame (second_of c) refl)
 
-forward_none : {A : Type 0} (plan : Plan) (S : State A) (r q : ℕ) → all_still (forward_outcome plan S r q).deeds ≡ true
-forward_none plan S r q =
-    either_none (forwards_nowhere plan S r q) (refused status.InvalidDeviceRequest)
-    (if not (accepts S.control q) then refused status.WdfBusy else if is_cancelled S.requests r then success (GiveBack (object_id r) (object_id q) ∷ []) else success (Forward (object_id r) (object_id q) ∷ [])) refl
-    (either_none (not (accepts S.control q)) (refused status.WdfBusy) (if is_cancelled S.requests r then success (GiveBack (object_id r) (object_id q) ∷ []) else success (Forward (object_id r) (object_id q) ∷ [])) refl
-    (either_none (is_cancelled S.requests r) (success (GiveBack (object_id r) (object_id q) ∷ [])) (success (Forward (object_id r) (object_id q) ∷ [])) refl refl))
-
-acknowledge_none : {A : Type 0} (S : State A) (r : ℕ) (b : Arg) → all_still (acknowledge_outcome S r b).deeds ≡ true
-acknowledge_none S r b = either_none (arg_is b 0) (success (Acknowledge (object_id r) ∷ [])) (requeue_outcome S r (origin_or_none S r)) refl (requeue_none S r (origin_or_none S r))
-
-send_none : {A : Type 0} (S : State A) (r t : ℕ) (forget : Bool) → all_still (send_outcome S r t forget).deeds ≡ true
-send_none S r t forget = either_none (may_send S r t) (number 1 (SendRequest (object_id r) (object_id t) forget ∷ [])) (number 0 []) refl refl
-
-front_none : {A : Type 0} (plan : Plan) (S : State A) (q : ℕ) (there : Option ℕ) → all_still (retrieve_front plan S q there).deeds ≡ true
-front_none plan S q None = refl
-front_none plan S q (Some r) = refl
-
-retrieve_none : {A : Type 0} (plan : Plan) (S : State A) (q : ℕ) → all_still (retrieve_outcome plan S q).deeds ≡ true
-retrieve_none plan S q =
-    either_none (is_parallel_queue plan q) (refused status.InvalidDeviceState) (if not (queue_delivers plan S q) then refused status.WdfPaused else retrieve_front plan S q (front S.queues q)) refl
-    (either_none (not (queue_delivers plan S q)) (refused status.WdfPaused) (retrieve_front plan S q (front S.queues q)) refl (front_none plan S q (front S.queues q)))
-
-pub outcome_none : {A : Type 0} (plan : Plan) (S : State A) (cpu f : ℕ) (k : CallKind) (n : ℕ) (a b x : Arg) → all_still (outcome plan S cpu f (record { kind = k; count = n; a = a; b = b; c = x })).deeds ≡ true
-outcome_none plan S cpu f call.WdfObjectCreate n a b x = create_none plan S (class_in a) (object_in b)
-outcome_none plan S cpu f call.WdfSpinLockCreate n a b x = create_none plan S (class_in a) (object_in b)
-outcome_none plan S cpu f call.WdfWaitLockCreate n a b x = create_none plan S (class_in a) (object_in b)
-outcome_none plan S cpu f call.WdfRequestCreate n a b x = create_none plan S (class_in a) (object_in b)
-outcome_none plan S cpu f call.WdfDpcCreate n a b x = create_none plan S (class_in a) (parent_of_class plan (class_in a))
-outcome_none plan S cpu f call.WdfTimerCreate n a b x = create_none plan S (class_in a) (parent_of_class plan (class_in a))
-outcome_none plan S cpu f call.WdfWorkItemCreate n a b x = create_none plan S (class_in a) (parent_of_class plan (class_in a))
-outcome_none plan S cpu f call.WdfRequestMarkCancelableEx n a b x = mark_none plan S (object_in a)
-outcome_none plan S cpu f call.WdfRequestRequeue n a b x = requeue_none S (object_in a) (origin_or_none S (object_in a))
-outcome_none plan S cpu f call.WdfRequestForwardToIoQueue n a b x = forward_none plan S (object_in a) (object_in b)
-outcome_none plan S cpu f call.WdfRequestStopAcknowledge n a b x = acknowledge_none S (object_in a) b
-outcome_none plan S cpu f call.WdfRequestSend n a b x = send_none S (object_in a) (object_in b) (arg_is x 1)
-outcome_none plan S cpu f call.WdfIoQueueRetrieveNextRequest n a b x = retrieve_none plan S (object_in a)
-outcome_none plan S cpu f call.WdfIoQueueReadyNotify n a b x =
-    either_none (is_manual_queue plan (object_in a) && declares plan callback.EvtIoQueueState (object_in a)) (success (RegisterQueue (object_id (object_in a)) (not (arg_is b 0)) ∷ [])) (refused status.InvalidDeviceRequest) refl refl
-outcome_none plan S cpu f call.WdfInterruptQueueDpcForIsr n a b x =
-    either_none (is_enabled S.interrupts (object_in a) && declares plan callback.EvtInterruptDpc (object_in a) && not (is_dpc_queued S.dpcs (object_in a))) (number 1 (EnqueueDpc (cpu_of cpu) (object_id (object_in a)) ∷ [])) (number 0 []) refl refl
-outcome_none plan S cpu f call.WdfDpcEnqueue n a b x =
-    either_none (is_live (life_of S.tree (object_in a)) && not (is_dpc_queued S.dpcs (object_in a))) (number 1 (EnqueueDpc (cpu_of cpu) (object_id (object_in a)) ∷ [])) (number 0 []) refl refl
-outcome_none plan S cpu f call.WdfTimerStart n a b x =
-    either_none (is_live (life_of S.tree (object_in a))) (number (flag (is_timer_queued S.timers (object_in a))) (StartTimer (object_id (object_in a)) (number_in b) ∷ [])) (number 0 []) refl refl
-outcome_none plan S cpu f call.WdfWorkItemEnqueue n a b x = either_none (is_live (life_of S.tree (object_in a))) (success (EnqueueWork (object_id (object_in a)) ∷ [])) (success []) refl refl
-outcome_none plan S cpu f _ n a b x = refl
-
-pub second_none : (f : ℕ) (k : CallKind) (n : ℕ) (a b x : Arg) → all_still (second_deeds f (record { kind = k; count = n; a = a; b = b; c = x })) ≡ true
-second_none f call.WdfSpinLockAcquire n a b x = refl
-second_none f call.WdfWaitLockAcquire n a b x = refl
-second_none f call.WdfInterruptAcquireLock n a b x = refl
-second_none f _ n a b x = refl
-
-pub effect_for_none : (k : Rank) (o r : ℕ) → all_still (effect_for k o r) ≡ true
-effect_for_none rank.Completion o r = refl
-effect_for_none rank.Cancel o r = refl
-effect_for_none rank.CanceledOnQueue o r = refl
-effect_for_none rank.Stop o r = refl
-effect_for_none rank.Resume o r = refl
-effect_for_none rank.Handler o r = refl
-effect_for_none _ o r = refl
-
-pub effect_none : {A : Type 0} (plan : Plan) (S : State A) (k : Rank) (cpu : ℕ) (c : Callback) (o : ℕ) → is_sequence k ≡ false → all_still (effect plan S k cpu c o) ≡ true
-effect_none plan S rank.Deferred cpu c o h = refl
-effect_none plan S rank.Timed cpu c o h = refl
-effect_none plan S rank.QueueState cpu c o h = refl
-effect_none plan S rank.Sequence cpu c o h = absurd (let z : ⊥ = cc in z)
-effect_none plan S rank.Work cpu c o h = refl
-effect_none plan S rank.Cleanup cpu c o h = refl
-effect_none plan S rank.Destroy cpu c o h = refl
-effect_none plan S _ cpu c o h = refl
+pub start_none : {A : Type 0} (plan : Plan) (S : State A) (cpu : ℕ) (c : Callback) (o : ℕ) (r : Option Handle) → is_sequence (row_of c).rank ≡ false → all_still (start_effect plan S cpu c o r) ≡ true
+start_none plan S cpu c o r h = start_effect_passes is_still_deed plan S cpu c o r (still_beside plain_start (start_of c) (rw h refl))
 
 pub taking_none : (f : ℕ) (l : Option LockRef) → all_still (take_if_any f l) ≡ true
 taking_none f None = refl
@@ -165,31 +83,7 @@ releasing_none None = refl
 releasing_none (Some l) = refl
 
 pub stage_none : (plan : Plan) (d : ℕ) (s : Stage) (i : Option Handle) → all_still (stage_effect plan d s i) ≡ true
-stage_none plan d stage.Enabled i = refl
-stage_none plan d stage.Disabled i = refl
-stage_none plan d stage.QueuesDown i = refl
-stage_none plan d stage.Closed i = refl
-stage_none plan d stage.Removed i = refl
-stage_none plan d _ i = refl
-
-cancel_none : (p : Place) (r : ℕ) → all_still (cancel_at p r) ≡ true
-cancel_none (place.Queued q) r = refl
-cancel_none _ r = refl
-
-cancel_of_none : {A : Type 0} (S : State A) (r : Option ℕ) → all_still (cancel_deeds S r) ≡ true
-cancel_of_none S None = refl
-cancel_of_none S (Some r) = cancel_none (place_of S.requests r) r
-
-arrival_none : {A : Type 0} (plan : Plan) (S : State A) (agent : ℕ) (f : RequestForm) (length code device : ℕ) (b : Bool)
-    → all_still (CountArrival agent ∷ (if b then Arrive (object_id device) (arrival_info S agent f length code device) (arrival_place plan S f length device) ∷ [] else [])) ≡ true
-arrival_none plan S agent f length code device true = refl
-arrival_none plan S agent f length code device false = refl
+stage_none plan d s i = stage_passes is_still_deed plan d s i (still_beside plain_stage (stage_of s) refl)
 
 pub post_none : {A : Type 0} (plan : Plan) (S : State A) (agent : ℕ) (p : Post) → all_still (post_deeds plan S agent p) ≡ true
-post_none plan S agent (post.Read device length) = arrival_none plan S agent form.Read length 0 device.id.0 (is_live (life_of S.tree device.id.0))
-post_none plan S agent (post.Write device length) = arrival_none plan S agent form.Write length 0 device.id.0 (is_live (life_of S.tree device.id.0))
-post_none plan S agent (post.Control device code length) = arrival_none plan S agent form.Control length code device.id.0 (is_live (life_of S.tree device.id.0))
-post_none plan S agent (post.Cancel k) = cancel_of_none S (option_and_then (in_reach S) (arrival_of S.requests agent k))
-post_none plan S agent (post.Ask a device) = refl
-post_none plan S agent (post.Act action) = refl
-post_none plan S agent (post.Done r s) = refl
+post_none plan S agent p = post_passes is_still_deed plan S agent p (still_post p)

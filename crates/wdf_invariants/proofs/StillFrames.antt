@@ -11,14 +11,11 @@ use Rattle.wdf_base.specs.declared.object.RequestInfo.{RequestInfo}
 use Rattle.wdf_base.specs.declared.call.Callback.{Callback}
 use Rattle.wdf_base.specs.declared.call.Callback.TheVariants as callback
 use Rattle.wdf_base.specs.declared.event.Ask.{Ask}
-use Rattle.wdf_base.specs.declared.value.Status.TheVariants as status
 use Rattle.wdf_model.specs.declared.enums.Mode.TheVariants as mode
 use Rattle.wdf_model.specs.declared.entries.Node.{Node}
-use Rattle.wdf_model.specs.declared.entries.Running.{Running}
 use Rattle.wdf_model.specs.Plans.{managed_queues, queues_of}
-use Rattle.wdf_model.specs.Tables.{change_at, ids_of}
 use Rattle.wdf_model.specs.parts.Tree.{children, is_past_cleanup, Tree, is_asked, is_gone, is_live, life_of, may_clean, node_of, noted, subtree, with_life}
-use Rattle.wdf_model.specs.parts.Cpus.{Cpus, frame_of, no_frame, running}
+use Rattle.wdf_model.specs.parts.Cpus.{frame_of}
 use Rattle.wdf_model.specs.parts.Queues.{Queues, waiting_in}
 use Rattle.wdf_model.specs.parts.Control as control
 use Rattle.wdf_model.specs.parts.Power.{Power}
@@ -77,7 +74,7 @@ asked_there life.Asked h = refl
 asked_there life.Cleaned h = refl
 asked_there life.Gone h = absurd (let z : ⊥ = cc in z)
 
-asked_at : {A : Type 0} (S : State A) (o : ℕ) → clean_ready S o ≡ true → is_asked (life_of S.tree o) ≡ true
+pub asked_at : {A : Type 0} (S : State A) (o : ℕ) → clean_ready S o ≡ true → is_asked (life_of S.tree o) ≡ true
 asked_at S o h = both_left (is_asked (life_of S.tree o)) (list_all (λ x. is_past_cleanup (life_of S.tree x)) (children S.tree o)) (both_left (is_asked (life_of S.tree o) && list_all (λ x. is_past_cleanup (life_of S.tree x)) (children S.tree o)) _ (both_left (may_clean S.tree o) (is_unused S o) (both_left (may_clean S.tree o && is_unused S o) (is_finished S o) (both_left (may_clean S.tree o && is_unused S o && is_finished S o) (nothing_at S o) h))))
 
 asked_one : {A : Type 0} (S : State A) (x : ℕ) (b : Bool) → is_live (life_of S.tree x) ≡ b → Still S (ask_object S x)

@@ -1,7 +1,7 @@
 -- What power says of a device's unsettled requests is what the requests say of them.
 use Rattle.std.proofs.Common.{if◌then◌else◌, ◌≡◌, ◌≢◌, ℕ, zero, suc, ◌+◌, ◌==◌, ◌<◌, ◌≤◌, nat_lt, Bool, true, false, not, ◌&&◌, ◌||◌, List, [], ◌∷◌, ◌⊎◌, inl, inr, Option, Some, None, option_map, unwrap_or, map, take, length, count_by, slice_get, refl, ap, sym, ◌∙◌, arith}
 use Rattle.std.specs.List.{flat_map, list_all, range_with_len}
-use Rattle.std.proofs.lemmas.Bool.{cases_Bool, eqb-true}
+use Rattle.std.proofs.lemmas.Bool.{cases_lt, eqb-true}
 use Rattle.std.proofs.lemmas.Bool.Decides.{nat_tests}
 use Rattle.std.proofs.lemmas.List.Sums.{length-filter}
 use Rattle.wdf_base.specs.declared.plan.Plan.{Plan}
@@ -45,7 +45,7 @@ device_by : (d : ℕ) (i : Option QueueInfo) → unwrap_or (option_map (λ (x : 
 device_by d None h = absurd (let z : ⊥ = cc in z)
 device_by d (Some i) h = refl
 
-entry_of_range : {X : Type 0} (blank : X) (f : ℕ → X) (a n k : ℕ) → k < n → entry blank (map f (range_with_len a n)) k ≡ f (a + k)
+pub entry_of_range : {X : Type 0} (blank : X) (f : ℕ → X) (a n k : ℕ) → k < n → entry blank (map f (range_with_len a n)) k ≡ f (a + k)
 entry_of_range blank f a zero k h = absurd (omega arith)
 entry_of_range blank f a (suc n) zero h = ap f (let e : a ≡ a + 0 = omega arith in e)
 entry_of_range blank f a (suc n) (suc k) h = entry_of_range blank f (a + 1) n k (omega arith) ∙ ap f (let e : (a + 1) + k ≡ a + suc k = omega arith in e)
@@ -141,12 +141,6 @@ told_by : (plan : Plan) (d : ℕ) (open_ : Bool) (q : ℕ) (from : Option ℕ) �
 told_by plan d open_ q None e at managed o = absurd (let z : ⊥ = cc in z)
 told_by plan d open_ q (Some p) e at managed o = let it : p ≡ q = eqb-true p q e in rw (it, at, managed, o) refl
 
-less_or_not : (a b : ℕ) → (a < b) ⊎ (b ≤ a)
-less_or_not a b = elim (cases_Bool (nat_lt a b)) [
-  | inl e ↦ inl (grind (arith, nat_tests))
-  | inr e ↦ inr (grind (arith, nat_tests))
-]
-
 abbrev passes : {A : Type 0} → State A → ℕ → ℕ → Bool
 passes S d r = is_unsettled_at S.power d (holding_of S.power r)
 
@@ -190,7 +184,7 @@ module _ {A : Type 0} (plan : Plan) (S : State A) (h : HoldsIn plan S) (same : S
   told : (q r : ℕ) → is_queue_of d (queue_of plan q) ≡ true → is_managed plan q ≡ true → is_held_from S q r ≡ true → not (acknowledged S.power r) ≡ true → contains r (unsettled S.power d) ≡ true
   told q r at managed held open_ =
       let p : passes S d r ≡ true = passes_by r ∙ told_by plan d (not (acknowledged S.power r)) q (holder S.requests S.targets r) (sym (from_same q r) ∙ held) at managed open_ in
-      let inside : r < 0 + length S.power.holdings = let i = inside_holdings r p (less_or_not r (length S.power.holdings)) in omega arith in
+      let inside : r < 0 + length S.power.holdings = let i = inside_holdings r p (cases_lt r (length S.power.holdings)) in omega arith in
       contained (passes S d) r 0 (length S.power.holdings) p (omega arith) inside
 
   each_told : list_all (λ r. contains r (unsettled S.power d)) (unsettled_of plan S d) ≡ true

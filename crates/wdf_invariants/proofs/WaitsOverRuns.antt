@@ -1,7 +1,6 @@
 -- Whether a call waits is told from the state before it: the test says the same as doing the call's first part and testing.
-use Rattle.std.proofs.Common.{if◌then◌else◌, ◌≡◌, ◌≢◌, ℕ, zero, suc, ◌+◌, ◌-◌, ◌==◌, ◌≤◌, Bool, true, false, not, ◌&&◌, ◌||◌, List, [], ◌∷◌, ◌⊎◌, inl, inr, fold, count_by, take, refl, sym, ap, ◌∙◌, arith}
+use Rattle.std.proofs.Common.{if◌then◌else◌, ◌≡◌, ◌≢◌, ℕ, zero, suc, ◌-◌, ◌==◌, ◌≤◌, Bool, true, false, not, ◌&&◌, ◌||◌, List, [], ◌∷◌, fold, count_by, refl, sym, ap, ◌∙◌, arith}
 use Rattle.std.specs.List.{list_any}
-use Rattle.std.proofs.lemmas.Bool.{cases_Bool}
 use Rattle.wdf_base.specs.Meaning.{Meaning}
 use Rattle.wdf_base.specs.declared.plan.Plan.{Plan}
 use Rattle.wdf_base.specs.declared.event.Event.{Event}
@@ -18,7 +17,6 @@ use Rattle.wdf_model.specs.declared.entries.Request.{Request}
 use Rattle.wdf_model.specs.Tables.{entry, flag, put}
 use Rattle.wdf_model.specs.parts.Requests.{cancelled, info_of, is_queued_in, is_returning_to, moved, no_request, place_of, request_of}
 use Rattle.wdf_model.specs.parts.Queues.{held_count, waiting_in}
-use Rattle.wdf_model.specs.parts.Queues as queues
 use Rattle.wdf_model.specs.parts.Control.{Control, control_of, is_closed}
 use Rattle.wdf_model.specs.parts.Control as control
 use Rattle.wdf_model.specs.State.{State, is_powered, object_in, returns_to, withdrawn_place}
@@ -29,9 +27,10 @@ use Rattle.wdf_model.specs.rules.Deeds.{do_deed, do_deeds, withdraw}
 use Rattle.wdf_model.specs.rules.Calls.{is_met, is_met_then, nothing_held, nothing_returns, outcome, purge_returns}
 use Rattle.wdf_model.specs.rules.Ready.{IsRunOf, state_after}
 use Rattle.wdf_model.proofs.Maps.{entry_put_other, entry_put_same}
-use Rattle.wdf_model.proofs.Counts.{at_head, equal, flag_yes, one_or_two}
+use Rattle.wdf_model.proofs.Counts.{at_head, equal, flag_yes}
 use Rattle.wdf_model.proofs.KeptByDeeds.{KeptIn}
 use Rattle.wdf_model.proofs.LawsOverRuns.{history_now}
+use Rattle.wdf_invariants.proofs.FrameMoves.{flag_small}
 
 -- ---- what is returning after one request is withdrawn
 
@@ -147,10 +146,6 @@ returns_still : {A : Type 0} (plan : Plan) (S : State A) (q : ℕ) → returns_t
 returns_still plan S q =
     ap (λ b. declares plan callback.EvtIoCanceledOnQueue q && not b && is_powered plan S q)
     (closed_by S.control q (device_of_queue plan q) (is_closed S.control (control_of S.control q).device.0) refl)
-
-flag_small : (b : Bool) → flag b ≤ 1
-flag_small true = omega arith
-flag_small false = omega arith
 
 apart : (h a p : Bool) → (h && not (a || p)) ≡ ((h && not a) && not p)
 apart true true p = refl

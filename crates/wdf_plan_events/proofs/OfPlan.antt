@@ -42,7 +42,7 @@ use Rattle.wdf_model.proofs.Tests.{both_left, both_right}
 use Rattle.wdf_invariants.proofs.FrameMoves.{parked_once}
 use Rattle.wdf_agreements.proofs.Keeping.{Known, at_the_end, known_now}
 use Rattle.wdf_agreements.proofs.Lists.{inside}
-use Rattle.wdf_agreements.proofs.SoundEvents.{top_is, top_on}
+use Rattle.wdf_agreements.proofs.SoundEvents.{top_on}
 use Rattle.wdf_room.specs.Kept.{RoomKept}
 use Rattle.wdf_room.specs.Room.{AreDoable}
 use Rattle.wdf_room.proofs.DoableRuns.{ready_doable}
@@ -51,6 +51,7 @@ use Rattle.wdf_ready_once.proofs.Numbers.{number_is, within_limit_of}
 use Rattle.wdf_trace.specs.Events.{IsEventOf, IsHandleOf}
 use Rattle.wdf_plan_events.specs.Framework.{is_of_framework}
 use Rattle.wdf_plan_events.proofs.ProperNames.{proper_name}
+use Rattle.wdf_invariants.proofs.StepTable.{top_is}
 
 -- ---- bounds
 

@@ -36,6 +36,7 @@ use Rattle.wdf_model.proofs.Counts.{count_cons, equal, not_equal, one_or_two}
 use Rattle.wdf_model.proofs.Sames.{callback_decides}
 use Rattle.wdf_model.proofs.Tests.{both_left, both_right, not_true}
 use Rattle.wdf_agreements.proofs.LevelCalls.{all_fit_at}
+use Rattle.wdf_invariants.proofs.Nearest.{front_stays}
 
 -- ---- callbacks of devices
 
@@ -207,13 +208,6 @@ no_working plan d zero resolved h = absurd (let z : ⊥ = cc in z)
 no_working plan d (suc i) resolved h = works_by plan d i (slice_get plan.declared i) resolved refl h
 
 -- a device is its own nearest device
-pub front_stays : (before : List ℕ) (ns : List Node) (o : ℕ) → o < length before → entry 1 (nearest_devices before ns) o ≡ entry 1 before o
-front_stays before [] o h = refl
-front_stays before (n ∷ ns) o h =
-    let more = length-append before (own_device before (length before) n ∷ []) in
-    front_stays (before ++ own_device before (length before) n ∷ []) ns o (omega arith)
-    ∙ entry_before 1 before (own_device before (length before) n) o (λ e. let z : ⊥ = omega arith in z)
-
 own_at : (before : List ℕ) (ns : List Node) (k : ℕ) → k < length ns → same_kind (entry gone ns k).kind kind.Device ≡ true → entry 1 (nearest_devices before ns) (length before + k) ≡ length before + k
 own_at before [] k h d = absurd (omega arith)
 own_at before (n ∷ ns) zero h d =

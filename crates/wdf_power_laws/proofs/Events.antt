@@ -65,6 +65,7 @@ use Rattle.wdf_power_laws.proofs.Declares.{declares_device, is_power_callback, o
 use Rattle.wdf_power_laws.proofs.Calm.{Calm, calm_same, deeds_calm}
 use Rattle.wdf_power_laws.proofs.Frames.{Runs, StepFrames, begun_other, begun_step, frames_kept, is_step, was_step}
 use Rattle.wdf_power_laws.proofs.Happens.{AllHold, end_elsewhere, found_pass, found_run, hold_asked, hold_begun, hold_ended, hold_passed, hold_same, hold_silent, not_running, stage_allowed, start_silent, taken_pass, taken_run}
+use Rattle.wdf_invariants.proofs.StepEvents.{sequence_is}
 
 pub record Kept {A : Type 0} (plan : Plan) (S : State A) (es : List Event) : Type 0 where
   pub hold : AllHold plan S.pnp S.power.devices S.interrupts es
@@ -89,10 +90,6 @@ not_exit _ h = refl
 pub not_entry : (c : Callback) → is_sequence (row_of c).rank ≡ false → same_callback c callback.EvtDeviceD0Entry ≡ false
 not_entry callback.EvtDeviceD0Entry h = absurd (let z : ⊥ = cc in z)
 not_entry _ h = refl
-
-pub sequence_is : (k : Rank) → is_sequence k ≡ true → k ≡ rank.Sequence
-sequence_is rank.Sequence h = refl
-sequence_is _ h = absurd (let z : ⊥ = cc in z)
 
 power_is : (c x : Callback) → same_callback c x ≡ true → is_power_callback x ≡ true → is_power_callback c ≡ true
 power_is c x h p = let same : c ≡ x = (callback_decides c x).0 h in subst (λ y. is_power_callback y ≡ true) (sym same) p

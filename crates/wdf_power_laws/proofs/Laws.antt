@@ -50,8 +50,9 @@ use Rattle.wdf_laws.specs.Events.{argument_object, id_in, is_handler, pair_of, p
 use Rattle.wdf_power_laws.proofs.Standings.{begins, could_fail, may_begin, owed, safe}
 use Rattle.wdf_power_laws.proofs.Holding.{watch}
 use Rattle.wdf_power_laws.proofs.Happens.{found_run, not_running}
-use Rattle.wdf_power_laws.proofs.Events.{Kept, sequence_is}
+use Rattle.wdf_power_laws.proofs.Events.{Kept}
 use Rattle.wdf_power_laws.proofs.Runs.{kept_at_each}
+use Rattle.wdf_invariants.proofs.StepEvents.{sequence_is}
 
 -- ---- a queue that has power
 

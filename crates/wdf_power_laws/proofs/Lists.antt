@@ -19,6 +19,7 @@ use Rattle.wdf_model.specs.parts.Pnp.{DeviceSteps, InterruptSteps, disable_steps
 use Rattle.wdf_model.proofs.Counts.{count_behind, count_cons, count_no, count_of_one}
 use Rattle.wdf_model.proofs.Tests.{both}
 use Rattle.wdf_power_laws.proofs.Standings.{Leads, Standing, Watch, begins, could_fail, leads_on, may_begin, may_pass, passes, rests, succeeds}
+use Rattle.wdf_invariants.proofs.HeldOverRuns.{with_true}
 
 -- what is known of a standing; the last three tests ask for nothing where they are false
 pub record Is (w : Watch) (P : Phase) (H U O E S C : Bool) (b : Standing) : Type 0 where
@@ -42,10 +43,6 @@ pub record Suits (w : Watch) (p : DeviceSteps) : Type 0 where
 or_yes : (b : Bool) → (b || true) ≡ true
 or_yes true = refl
 or_yes false = refl
-
-and_yes : (b : Bool) → (b && true) ≡ b
-and_yes true = refl
-and_yes false = refl
 
 not_flagged : (b : Bool) → flag b ≡ 0 → b ≡ false
 not_flagged true n = absurd (omega arith)
@@ -135,7 +132,7 @@ module _ (w : Watch) where
     disables_other : (x : InterruptSteps) (O E S C : Bool) (a : Standing) → is_mine x ≡ false → Is w P H U O E S C a → Leads w (disable_steps x) a (Is w P H U O E S C)
     disables_other x O E S C a other h =
         leads_on (passing stage.Disabled (Some x.interrupt) {a = a} {Q = Is w P H U O E S C} (rw other refl)
-        (record { phase = h.phase; hardware = h.hardware; up = h.up; on = rw other (and_yes a.on ∙ h.on); entered = h.entered; since = h.since; clean = h.clean; plain = h.plain }))
+        (record { phase = h.phase; hardware = h.hardware; up = h.up; on = rw other (with_true a.on ∙ h.on); entered = h.entered; since = h.since; clean = h.clean; plain = h.plain }))
         (λ b k. may_run_if x.disables callback.EvtInterruptDisable x.interrupt (rw other refl) k k)
 
     disables_mine : (x : InterruptSteps) (E C : Bool) (a : Standing) → w.watched ≡ true → is_mine x ≡ true → Is w P H U true E true C a → Leads w (disable_steps x) a (Is w P H U false E true C)

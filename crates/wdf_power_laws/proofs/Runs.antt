@@ -28,7 +28,6 @@ use Rattle.wdf_model.specs.laws.FactsOfEvents.{IsTick}
 use Rattle.wdf_model.proofs.Runs.{along_run}
 use Rattle.wdf_model.proofs.Follows.{follows, state_goes_on}
 use Rattle.wdf_model.proofs.Tests.{both, both_right, first}
-use Rattle.wdf_agreements.proofs.Framing.{none_yet}
 use Rattle.wdf_agreements.proofs.SoundRuns.{all_known}
 use Rattle.wdf_laws.specs.Words.{stands}
 use Rattle.wdf_laws.specs.declared.sign.Sign.TheVariants as sign
@@ -40,6 +39,7 @@ use Rattle.wdf_power_laws.proofs.Holding.{Holds, watch}
 use Rattle.wdf_power_laws.proofs.Lists.{not_either}
 use Rattle.wdf_power_laws.proofs.Declares.{declares_device, entry_declared, is_device, no_working, once_by}
 use Rattle.wdf_power_laws.proofs.Events.{Kept, keeps, quiet}
+use Rattle.wdf_invariants.proofs.StepsOverRuns.{none_yet}
 
 -- ---- the opening
 

@@ -51,11 +51,11 @@ use Rattle.wdf_power_laws.proofs.Unmoved.{event_none, is_moving, none_moves, sta
 use Rattle.wdf_power_laws.proofs.Calm.{Calm, deeds_calm}
 use Rattle.wdf_power_laws.proofs.Frames.{Runs, StepFrames, is_step}
 use Rattle.wdf_power_laws.proofs.Happens.{found_pass, not_running}
-use Rattle.wdf_power_laws.proofs.Events.{sequence_is}
 use Rattle.wdf_agreements.proofs.LevelEvents.{sound_after, sound_before}
 use Rattle.wdf_queue_power_laws.proofs.Returning.{Backed, backed_by, backed_down, backed_more}
 use Rattle.wdf_queue_power_laws.proofs.Resuming.{is_advance, none_more_by}
 use Rattle.wdf_queue_power_laws.proofs.Dues.{AllFit, Dues, IsDue, all_fit_asked, all_fit_ended, all_fit_kept, all_fit_taken, dues_kept, dues_passed, dues_with, goes_down, none_left, none_ready, none_running, others_stay, up_stays}
+use Rattle.wdf_invariants.proofs.StepEvents.{sequence_is}
 
 -- only with power do requests return to queues, and are resumes due
 pub record WithPower {A : Type 0} (plan : Plan) (S : State A) : Type 0 where

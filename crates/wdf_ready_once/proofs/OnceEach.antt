@@ -8,6 +8,7 @@ use Rattle.wdf_model.specs.Tables.{flag}
 use Rattle.wdf_model.proofs.Counts.{count_cons, equal}
 use Rattle.wdf_model.proofs.Tests.{both_left, both_right, either_false, not_true}
 use Rattle.wdf_agreements.proofs.Lists.{Each, each_behind, each_still}
+use Rattle.wdf_agreements.proofs.QuietMoves.{each_two}
 
 -- no two items have one key
 abbrev pub OnceBy : {T K : Type 0} → (T → K) → List T → Type 0
@@ -25,10 +26,6 @@ once_from key (x ∷ xs) h = (each_still (λ y. key x ≡ key y → ⊥) (λ y. 
 pub each_flat : {X T : Type 0} (P : T → Type 0) (f : X → List T) (xs : List X) → Each (λ x. Each P (f x)) xs → Each P (flat_map f xs)
 each_flat P f [] h = tt
 each_flat P f (x ∷ xs) h = each_behind P (f x) (flat_map f xs) h.0 (each_flat P f xs h.1)
-
-pub each_both : {T : Type 0} (P Q R : T → Type 0) → ((x : T) → P x → Q x → R x) → (xs : List T) → Each P xs → Each Q xs → Each R xs
-each_both P Q R h [] p q = tt
-each_both P Q R h (x ∷ xs) p q = (h x p.0 q.0, each_both P Q R h xs p.1 q.1)
 
 pub each_of_all : {T : Type 0} (P : T → Type 0) → ((x : T) → P x) → (xs : List T) → Each P xs
 each_of_all P h [] = tt
@@ -52,7 +49,7 @@ once_flat key kx f [] a h o = tt
 once_flat key kx f (x ∷ xs) a h o =
     once_behind (λ e. key e ≡ kx x) (f x) (flat_map f xs) h.0
     (each_flat (λ e. key e ≡ kx x → ⊥) f xs
-    (each_both (λ y. kx x ≡ kx y → ⊥) (λ y. Each (λ e. key e ≡ kx y) (f y)) (λ y. Each (λ e. key e ≡ kx x → ⊥) (f y))
+    (each_two (λ y. kx x ≡ kx y → ⊥) (λ y. Each (λ e. key e ≡ kx y) (f y)) (λ y. Each (λ e. key e ≡ kx x → ⊥) (f y))
     (λ y n k. each_still (λ e. key e ≡ kx y) (λ e. key e ≡ kx x → ⊥) (λ e i j. n (sym j ∙ i)) (f y) k) xs a.0 h.1))
     o.0 (once_flat key kx f xs a.1 h.1 o.1)
 

@@ -47,6 +47,7 @@ use Rattle.std.proofs.lemmas.Bool.{or_cases}
 use Rattle.wdf_model.proofs.Sames.{callback_decides}
 use Rattle.wdf_trace.specs.Events.{is_for_interrupt}
 use Rattle.wdf_ready_once.specs.Owned.{IsStepOf, StepsOwned}
+use Rattle.wdf_ready_once.proofs.OnceEach.{each_of_all, each_image}
 
 -- ---- what the lists of steps are made of
 
@@ -266,14 +267,6 @@ steps_by plan _ S q = q
 
 -- ---- the opening
 
-each_all : {T : Type 0} (P : T → Type 0) → ((x : T) → P x) → (xs : List T) → Each P xs
-each_all P h [] = tt
-each_all P h (x ∷ xs) = (h x, each_all P h xs)
-
-each_mapped : {S T : Type 0} (P : T → Type 0) (g : S → T) (xs : List S) → Each (λ x. P (g x)) xs → Each P (map g xs)
-each_mapped P g [] h = tt
-each_mapped P g (x ∷ xs) h = (h.0, each_mapped P g xs h.1)
-
 in_range : {T : Type 0} (P : ℕ → T → Type 0) (blank : T) (f : ℕ → T) → ((x : ℕ) → P x blank) → ((x : ℕ) → P x (f x)) → (a n k x : ℕ) → x ≡ a + k → P x (entry blank (map f (range_with_len a n)) k)
 in_range P blank f off on a zero k x e = off x
 in_range P blank f off on a (suc n) zero x e = let same : x ≡ a = omega (arith, e) in subst (λ y. P x (f y)) same (on x)
@@ -284,9 +277,9 @@ none_own plan d = record { parts = record { callbacks = tt; interrupts = tt }; l
 
 parts_own : (plan : Plan) (d : ℕ) → is_some (device_of plan d) ≡ true → Parts plan d (device_steps plan d)
 parts_own plan d is = record {
-  callbacks = each_kept (λ c. ⊤) (IsCallbackOf plan d) (λ c. declares plan c d) (λ c t e. (e, is)) DEVICE_CALLBACKS (each_all (λ c. ⊤) (λ c. tt) DEVICE_CALLBACKS);
-  interrupts = each_mapped (IsInterruptOf plan d) (interrupt_steps plan) (interrupts_of plan d)
-      (each_kept (λ i. ⊤) (λ i. IsInterruptOf plan d (interrupt_steps plan i)) (λ i. is_interrupt_of d (interrupt_of plan i)) (λ i t e. (e, refl, (λ x. x), (λ x. x))) (declared_ids plan) (each_all (λ i. ⊤) (λ i. tt) (declared_ids plan)));
+  callbacks = each_kept (λ c. ⊤) (IsCallbackOf plan d) (λ c. declares plan c d) (λ c t e. (e, is)) DEVICE_CALLBACKS (each_of_all (λ c. ⊤) (λ c. tt) DEVICE_CALLBACKS);
+  interrupts = each_image (IsInterruptOf plan d) (interrupt_steps plan) (interrupts_of plan d)
+      (each_kept (λ i. ⊤) (λ i. IsInterruptOf plan d (interrupt_steps plan i)) (λ i. is_interrupt_of d (interrupt_of plan i)) (λ i t e. (e, refl, (λ x. x), (λ x. x))) (declared_ids plan) (each_of_all (λ i. ⊤) (λ i. tt) (declared_ids plan)));
 }
 
 opening_by : (plan : Plan) (d : ℕ) (o : Option DeviceInfo) → device_of plan d ≡ o → OwnSequence plan d (opening_sequence plan d o)

@@ -37,7 +37,8 @@ use Rattle.wdf_room.specs.Room.{AreDoable, IsThere}
 use Rattle.wdf_room.proofs.DoableDeclared.{kind_there}
 use Rattle.wdf_room.proofs.Doable.{Fine, cpu_there, doable_after, levels_few, locks_few, may_give_up, origin_there, references_few, top_few, top_there}
 use Rattle.wdf_room.proofs.DoableFrames.{goes_on_after}
-use Rattle.wdf_room.proofs.DoableOutcomes.{acknowledge_doable, arrived_request, create_doable, dpc_doable, forward_doable, isr_doable, mark_doable, may_purge, mode_there, not_gone_there, notify_doable, owned_undone, queue_there, requeue_doable, retrieve_doable, send_doable, target_there, timer_doable, work_doable}
+use Rattle.wdf_room.proofs.DoableOutcomes.{acknowledge_doable, arrived_request, create_doable, dpc_doable, forward_doable, isr_doable, mark_doable, may_purge, mode_there, not_gone_there, notify_doable, queue_there, requeue_doable, retrieve_doable, send_doable, target_there, timer_doable, work_doable}
+use Rattle.wdf_model.proofs.KeptByDeeds.{owned_undone}
 
 -- a call
 abbrev made : CallKind → ℕ → Arg → Arg → Arg → Call
@@ -164,7 +165,7 @@ module _ {A : Type 0} {plan : Plan} {S : State A} (k : Fine plan S) where
   did_doable cpu c v d =
       rw (by_its_top S cpu.0 d.frame (did_deeds plan S cpu.0 c v) d.about.top)
       (goes_on_after plan ((outcome plan S cpu.0 d.frame c).deeds ++ second_deeds d.frame c) S d.frame (answered plan (frame_of S.cpus d.frame) v) (top_there k cpu.0 d.frame d.about.top)
-      (none_behind (outcome plan S cpu.0 d.frame c).deeds (second_deeds d.frame c) (outcome_none plan S cpu.0 d.frame c.kind c.count c.a c.b c.c) (second_none d.frame c.kind c.count c.a c.b c.c))
+      (none_behind (outcome plan S cpu.0 d.frame c).deeds (second_deeds d.frame c) (outcome_none plan S cpu.0 d.frame c) (second_none d.frame c))
       (doable_after plan (outcome plan S cpu.0 d.frame c).deeds (second_deeds d.frame c) S (outcome_doable cpu.0 d.frame d.about.top c.kind c.count c.a c.b c.c d.about.clean)
       (second_then cpu.0 d.frame d.about.top c.kind c.count c.a c.b c.c d.met)))
 
@@ -172,5 +173,5 @@ module _ {A : Type 0} {plan : Plan} {S : State A} (k : Fine plan S) where
   waiting_doable cpu c d =
       rw (by_its_top S cpu.0 d.frame (waiting_deeds plan S cpu.0 c) d.about.top)
       (goes_on_after plan (outcome plan S cpu.0 d.frame c).deeds S d.frame (waiting (frame_of S.cpus d.frame) c (outcome plan S cpu.0 d.frame c).answer) (top_there k cpu.0 d.frame d.about.top)
-      (outcome_none plan S cpu.0 d.frame c.kind c.count c.a c.b c.c)
+      (outcome_none plan S cpu.0 d.frame c)
       (outcome_doable cpu.0 d.frame d.about.top c.kind c.count c.a c.b c.c d.about.clean))

@@ -145,7 +145,7 @@ module _ {A : Type 0} {plan : Plan} {S : State A} (k : Fine plan S) where
   woke_doable cpu c v w =
       rw (by_its_top S cpu.0 w.frame (woke_deeds plan c v) w.top)
       (goes_on_after plan (second_deeds w.frame c) S w.frame (answered plan (frame_of S.cpus w.frame) v) (top_there k cpu.0 w.frame w.top)
-      (second_none w.frame c.kind c.count c.a c.b c.c)
+      (second_none w.frame c)
       (second_doable plan S w.frame c.kind c.count c.a c.b c.c (top_few k cpu.0 w.frame w.top) (locks_few k) w.met))
 
   -- ---- a frame leaves its processor, and comes back

@@ -13,7 +13,7 @@ use Rattle.wdf_base.specs.Same.{same_kind}
 use Rattle.wdf_model.specs.Tables.{flag, same_id}
 use Rattle.wdf_model.specs.Plans.{declares, is_manual_queue, is_parallel_queue, kind_of_class}
 use Rattle.wdf_model.specs.parts.Tree.{gone, is_full, is_gone, is_live, kind_of, life_of}
-use Rattle.wdf_model.specs.parts.Requests.{has_arrived, is_cancelled, is_done, is_owned, is_queued_in, is_sent_to, mark_answer, no_request, place_of}
+use Rattle.wdf_model.specs.parts.Requests.{has_arrived, is_cancelled, is_owned, is_queued_in, is_sent_to, mark_answer, no_request, place_of}
 use Rattle.wdf_model.specs.parts.Queues.{front}
 use Rattle.wdf_model.specs.parts.Control.{accepts, is_purged, mode_of}
 use Rattle.wdf_model.specs.parts.Interrupts.{is_enabled}
@@ -33,10 +33,7 @@ use Rattle.wdf_room.specs.Room.{AreDoable, HasRoomForObject, IsQueue, IsRequest,
 use Rattle.wdf_room.proofs.Doable.{Fine, apart, arrived_few, clock_small, declared_room, either_doable, inside, may_give_up, objects_few, origin_there, request_here, request_room, room_of}
 use Rattle.wdf_room.proofs.DoableStarts.{held_request, present_doable, waiting_request}
 use Rattle.wdf_room.proofs.DoablePosts.{accepting_queue}
-
-pub owned_undone : (p : Place) → is_owned p ≡ true → is_done p ≡ false
-owned_undone place.Done h = absurd (let z : ⊥ = cc in z)
-owned_undone _ h = refl
+use Rattle.wdf_model.proofs.KeptByDeeds.{owned_undone}
 
 owned_waits_nowhere : (p : Place) (q : ℕ) → is_owned p ≡ true → is_queued_in q p ≡ false
 owned_waits_nowhere (place.Queued x) q h = absurd (let z : ⊥ = cc in z)

@@ -45,6 +45,7 @@ use Rattle.wdf_room.specs.Kept.{table_size}
 use Rattle.wdf_room.specs.Room.{AreDoable, IsRequest, IsThere, MayHold}
 use Rattle.wdf_room.proofs.Doable.{Fine, clock_small, cpu_of_plan, doable_after, held_few, inside, locks_few, next_frame_few, next_frame_fresh, request_here, stack_there}
 use Rattle.wdf_room.proofs.DoableFrames.{flagged, same_there}
+use Rattle.wdf_invariants.proofs.StepTable.{top_is}
 
 -- ---- places and ids
 
@@ -63,10 +64,6 @@ queued_undone q _ h = refl
 returning_undone : (q : ℕ) (p : Place) → is_returning_to q p ≡ true → is_done p ≡ false
 returning_undone q place.Done h = absurd (let z : ⊥ = cc in z)
 returning_undone q _ h = refl
-
-same_is : (o : Option ℕ) (r : ℕ) → same_id o r ≡ true → o ≡ Some r
-same_is None r h = absurd (let z : ⊥ = cc in z)
-same_is (Some x) r h = ap Some (eqb-true x r h)
 
 step_there : (found : Option Step) (s : Step) → same_option same_step found (Some s) ≡ true → is_some found ≡ true
 step_there None s h = h
@@ -146,7 +143,7 @@ module _ {A : Type 0} {plan : Plan} {S : State A} (k : Fine plan S) where
       let size = k.room.sizes.waiting in
       let first = front_leaves r r (waiting_in S.queues q) h in
       let one : flag (r == r) ≡ 1 = ap flag (equal r r refl) in
-      ((same_is (front S.queues q) r h, may_hold q r (omega arith) (waiting_request q r (omega arith))), tt)
+      ((top_is (front S.queues q) r h, may_hold q r (omega arith) (waiting_request q r (omega arith))), tt)
 
   pub step_device : (d : ℕ) (s : Step) → step_ready S d s ≡ true → d < length S.pnp.devices
   step_device d s h =

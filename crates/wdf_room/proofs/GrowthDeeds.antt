@@ -19,7 +19,7 @@ use Rattle.wdf_model.specs.declared.entries.HeldLevel.{HeldLevel}
 use Rattle.wdf_model.specs.declared.entries.Node.{Node}
 use Rattle.wdf_model.specs.declared.entries.Request.{Request}
 use Rattle.wdf_model.specs.Plans.{managed_queues, queues_of}
-use Rattle.wdf_model.specs.Tables.{change_at, entry, flag, put}
+use Rattle.wdf_model.specs.Tables.{change_at, entry, put}
 use Rattle.wdf_model.specs.parts.Tree.{Tree, children, gone, is_asked, is_cleaned, is_live, life_of, may_destroy, new_node, next_id, node_of, noted, references_in, references_of, subtree, with_life, with_node}
 use Rattle.wdf_model.specs.parts.Cpus.{Cpus, less_one, levels_without, top}
 use Rattle.wdf_model.specs.parts.Requests.{Requests, cancelled, close, close_returning, closed_at, forgotten, is_in, is_returning_to, marked, moved, no_request, place_of, request_of, unmarked, with_mark, with_request}
@@ -42,6 +42,7 @@ use Rattle.wdf_model.proofs.Deletion.{object_live, object_off}
 use Rattle.wdf_room.specs.Room.{AreDoable, IsDoable}
 use Rattle.wdf_room.proofs.GrowthMaps.{element_counts, filtered, one_more, put_keeps, put_sums, within}
 use Rattle.wdf_room.proofs.GrowthCounts.{Gain, Grows, arrivals_change, clock_changes, counts_of, gains, grows_at_most, grows_less, grows_on, grows_then, held_changes, is_gain, levels_change, locks_change, no_more, nothing, objects_change, objects_grow, requests_change, same_counts, Holding_more, Object_more, Reference_more}
+use Rattle.wdf_invariants.proofs.FrameMoves.{flag_small}
 
 -- ---- objects
 
@@ -81,10 +82,6 @@ object_made S n R d none one within few =
     let same = made_references S.tree n none in
     objects_grow (gains d) (counts_of S) (length (S.tree.nodes ++ n ∷ [])) (length R.all) R.arrived (references_in (record S.tree { nodes = S.tree.nodes ++ n ∷ [] }))
     (omega arith) (omega arith) (λ h. let short = within h in omega arith) (omega arith) (omega arith)
-
-flag_small : (b : Bool) → flag b ≤ 1
-flag_small true = omega arith
-flag_small false = omega arith
 
 -- a request is made, with the id of its object
 request_made : {A : Type 0} (S : State A) (n : Node) (p : Place) (info : RequestInfo) (d : Deed) → n.references ≡ 0 → gains d Object_more ≡ 1

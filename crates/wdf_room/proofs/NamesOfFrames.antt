@@ -12,6 +12,7 @@ use Rattle.wdf_model.specs.parts.Cpus.{Cpus, all_frames, no_frame, opening_cpus,
 use Rattle.wdf_model.specs.parts.Cpus as cpus
 use Rattle.wdf_model.proofs.Tests.{first, itself, second}
 use Rattle.wdf_model.proofs.Maps.{put_long}
+use Rattle.wdf_invariants.proofs.HeldPlaces.{put_inside}
 
 -- ---- lists of numbers
 
@@ -87,18 +88,12 @@ frames_named C h =
 pub named_frames : (C : Cpus) → FramesNamed C → (f : ℕ) → contains f (all_frames C) ≡ true → f < length C.frames
 named_frames C k = below_contained (length C.frames) (all_frames C) (All-append (λ x. x < length C.frames) (stacked C.stacks) C.parked k.stacks k.parked)
 
-put_reaches : {T : Type 0} (blank : T) (xs : List T) (id : ℕ) (new : T) → id < length (put blank xs id new)
-put_reaches blank [] zero new = omega arith
-put_reaches blank [] (suc id) new = let e = put_reaches blank [] id new in omega arith
-put_reaches blank (x ∷ xs) zero new = omega arith
-put_reaches blank (x ∷ xs) (suc id) new = let e = put_reaches blank xs id new in omega arith
-
 pub pushed_named : (C : Cpus) (cpu f : ℕ) (frame : Frame) (level : ℕ) → FramesNamed C → FramesNamed (cpus.push C cpu f frame level)
 pushed_named C cpu f frame level k =
     let new : Running = record { frame = frame; level = record { 0 = level } } in
     let n = length (put no_frame C.frames f new) in
     let more : length C.frames ≤ n = put_long no_frame C.frames f new in
-    let here : f < n = put_reaches no_frame C.frames f new in
+    let here : f < n = put_inside no_frame C.frames f new in
     let old : AllBelow n (stacked C.stacks) = below_more (length C.frames) n (stacked C.stacks) more k.stacks in
     record {
       stacks = stacks_below n C.stacks cpu (f ∷ stack_of C cpu) (All-cons (λ x. x < n) f (stack_of C cpu) here (stack_below n C.stacks cpu old)) old;

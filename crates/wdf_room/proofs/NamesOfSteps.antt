@@ -264,12 +264,12 @@ end_step_named plan Q d s result k = with_named plan Q d (λ q. record q { left 
 
 -- ---- the opening
 
-rests : (plan : Plan) (d : ℕ) (i : Option DeviceInfo) → (opening_sequence plan d i).left ≡ []
-rests plan d None = refl
-rests plan d (Some i) = refl
+pub opening_left : (plan : Plan) (d : ℕ) (i : Option DeviceInfo) → (opening_sequence plan d i).left ≡ []
+opening_left plan d None = refl
+opening_left plan d (Some i) = refl
 
 opened : (plan : Plan) (d : ℕ) → SequenceNamed plan d (opening_sequence plan d (device_of plan d))
-opened plan d = record { left = subst (StepsThere plan) (sym (rests plan d (device_of plan d))) (none_there plan); made_of = refl }
+opened plan d = record { left = subst (StepsThere plan) (sym (opening_left plan d (device_of plan d))) (none_there plan); made_of = refl }
 
 past_by : (plan : Plan) (k : ℕ) (found : Option Declared) → slice_get plan.declared k ≡ found → length plan.declared ≤ k → as_device found ≡ None
 past_by plan k None e h = refl

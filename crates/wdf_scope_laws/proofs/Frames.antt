@@ -52,7 +52,7 @@ use Rattle.wdf_invariants.proofs.Framed.{on}
 use Rattle.wdf_invariants.proofs.FrameMoves.{FrameKept, pop_on}
 use Rattle.wdf_invariants.proofs.StepStates.{fit_before, in_turn}
 use Rattle.wdf_agreements.proofs.FramesStay.{Begins, frames_by}
-use Rattle.wdf_agreements.proofs.Framing.{Framing, framing_by, lock_stays, none_yet}
+use Rattle.wdf_agreements.proofs.Framing.{Framing, framing_by, lock_stays}
 use Rattle.wdf_agreements.proofs.Lists.{Each, each_behind, each_kept, each_still}
 use Rattle.wdf_agreements.proofs.LocksOnce.{Once, lock_itself, once_at_each}
 use Rattle.wdf_agreements.proofs.QuietDeeds.{all_quiet, is_quiet_deed, start_effect_none}
@@ -70,6 +70,7 @@ use Rattle.wdf_agreements.proofs.ReasonsOfEvents.{top_on}
 use Rattle.wdf_scope_laws.proofs.Stacks.{popped_apart, popped_here, pushed_apart, pushed_here, told_stack, told_top}
 use Rattle.wdf_scope_laws.proofs.Holding.{Goes, Holds, HoldsBut, Kept, deeds_hold, deeds_stacks, goes_cpus, goes_then, is_moving, is_other_hold, is_own_hold, is_special, none_special, not_own, own_holds, release_holds}
 use Rattle.wdf_agreements.proofs.Keeping.{at_the_end}
+use Rattle.wdf_invariants.proofs.StepsOverRuns.{none_yet}
 
 -- a callback that has begun and not ended is that of a frame that is there
 abbrev pub IsBegun : {A : Type 0} → State A → Begun → Type 0

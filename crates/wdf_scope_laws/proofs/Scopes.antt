@@ -10,7 +10,6 @@ use Rattle.wdf_base.specs.declared.plan.Plan.{Plan}
 use Rattle.wdf_base.specs.declared.object.LockRef.{LockRef}
 use Rattle.wdf_base.specs.declared.object.Kind.TheVariants as kind
 use Rattle.wdf_base.specs.declared.call.Callback.{Callback}
-use Rattle.wdf_base.specs.declared.call.Callback.TheVariants as callback
 use Rattle.wdf_base.specs.declared.rank.CallbackLock.{CallbackLock}
 use Rattle.wdf_base.specs.declared.rank.CallbackLock.TheVariants as callback_lock
 use Rattle.wdf_base.specs.declared.declared.Declared.{Declared}
@@ -35,7 +34,6 @@ use Rattle.wdf_model.proofs.Follows.{follows, state_goes_on}
 use Rattle.wdf_model.proofs.Tests.{both_left, both_right}
 use Rattle.wdf_model.proofs.Counts.{equal}
 use Rattle.wdf_model.proofs.OwnEvents.{not_found}
-use Rattle.wdf_invariants.proofs.StillFrames.{asked_there, live_there}
 use Rattle.wdf_agreements.proofs.Framing.{Framing, framing_at_each}
 use Rattle.wdf_agreements.proofs.Lists.{Each, inside}
 use Rattle.wdf_agreements.proofs.LocksOnce.{free_unheld, one_lock}
@@ -50,10 +48,10 @@ use Rattle.wdf_laws.specs.Laws.{is_free_scope, is_under, law_2, needs}
 use Rattle.wdf_family_laws.proofs.Families.{Family, First_by, First_none, Knows_declared, Knows_none, Knows_told, family_at_each, first, knows, told_still}
 use Rattle.wdf_family_laws.proofs.Orders.{earlier_or_later, found_place, makes_at, take_drop}
 use Rattle.wdf_family_laws.proofs.Stays.{event_stays}
-use Rattle.wdf_invariants.proofs.Trees.{cleaned_there}
 use Rattle.wdf_agreements.proofs.Keeping.{comes}
 use Rattle.wdf_scope_laws.proofs.Frames.{AgreesAfter, IsBegun, agrees_at_each, fewer}
 use Rattle.wdf_scope_laws.proofs.Holding.{is_own_hold, own_holds}
+use Rattle.wdf_invariants.proofs.StepEvents.{lives_within}
 
 -- ---- a resolved plan declares no class as an object
 
@@ -184,11 +182,6 @@ lock_by_scope {A} plan m run k x c s resolved is_run there is =
 
 -- ---- a start
 
-begins_there : {A : Type 0} (S : State A) (c : Callback) (o : ℕ) → life_fits S c o ≡ true → is_gone (life_of S.tree o) ≡ false
-begins_there S callback.EvtCleanupCallback o h = asked_there (life_of S.tree o) h
-begins_there S callback.EvtDestroyCallback o h = cleaned_there (life_of S.tree o) h
-begins_there S _ o h = live_there (life_of S.tree o) h
-
 start_parts : {A : Type 0} (plan : Plan) (m : Meaning A) (S : State A) (cpu : Cpu) (c : Callback) (o : Handle) (r : Option Handle) → may plan m S (event.Start cpu c o r) ≡ true
     → (life_fits S c o.id.0 ≡ true) × (is_free_if_any S.locks (lock_of_callback plan c o.id.0 (declared_in plan S o.id.0)) ≡ true)
 start_parts plan m S cpu c o r h = (search (both_left, both_right), search (both_left, both_right))
@@ -223,7 +216,7 @@ no_one_under {A} plan m run k cpu c o r s resolved is_run at scope some_ =
     let S : State A = state_after plan m (take k run) in
     let h : may plan m S (event.Start cpu c o r) ≡ true = comes plan m run k (event.Start cpu c o r) is_run at (λ time e. let z : ⊥ = cc in z) in
     let parts = start_parts plan m S cpu c o r h in
-    let mine : lock_of_callback plan c o.id.0 (declared_in plan S o.id.0) ≡ Some s = lock_by_scope plan m run k o.id.0 c s resolved is_run (begins_there S c o.id.0 parts.0) scope in
+    let mine : lock_of_callback plan c o.id.0 (declared_in plan S o.id.0) ≡ Some s = lock_by_scope plan m run k o.id.0 c s resolved is_run (lives_within S c o.id.0 parts.0) scope in
     let free : is_free_lock S.locks s ≡ true = subst (λ l. is_free_if_any S.locks l ≡ true) mine parts.1 in
     let agrees : AgreesAfter plan (take k run) S = agrees_at_each plan m run is_run k in
     let b = one_of (is_under plan run s) (IsBegun S) (frames_after (take k run)).begun some_ agrees.agrees.begun in

@@ -38,7 +38,6 @@ use Rattle.wdf_model.proofs.Runs.{run_front, take_ended, take_next}
 use Rattle.wdf_model.proofs.Counts.{equal}
 use Rattle.wdf_model.proofs.Sames.{callback_decides}
 use Rattle.wdf_model.proofs.Tests.{both, both_left, both_right}
-use Rattle.wdf_agreements.proofs.Framing.{none_yet}
 use Rattle.wdf_agreements.proofs.LivesOver.{lives_at_each}
 use Rattle.wdf_agreements.proofs.SoundRuns.{KnownAll, all_known, all_sound}
 use Rattle.wdf_family_laws.proofs.Families.{family_at_each}
@@ -71,6 +70,7 @@ use Rattle.wdf_settled_laws.proofs.Queues.{is_of}
 use Rattle.wdf_settled_laws.proofs.ReturnsUp.{ReturnsUp, returns_after}
 use Rattle.wdf_settled_laws.proofs.Stops.{StopFrames, start_parts, stops_after}
 use Rattle.wdf_settled_laws.proofs.Takes.{takes_up}
+use Rattle.wdf_invariants.proofs.StepsOverRuns.{none_yet}
 
 -- what holds of devices, of frames of EvtIoStop, and of requests that are acknowledged or return
 pub record Settles {A : Type 0} (plan : Plan) (S : State A) (es : List Event) : Type 0 where

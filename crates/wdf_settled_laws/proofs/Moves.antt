@@ -57,8 +57,9 @@ use Rattle.wdf_power_laws.proofs.Unmoved.{event_none, none_moves, start_effect_n
 use Rattle.wdf_power_laws.proofs.Calm.{Calm, deeds_calm}
 use Rattle.wdf_power_laws.proofs.Frames.{Runs}
 use Rattle.wdf_power_laws.proofs.Happens.{found_pass, found_run, not_running}
-use Rattle.wdf_power_laws.proofs.Events.{Kept, sequence_is, staged}
+use Rattle.wdf_power_laws.proofs.Events.{Kept, staged}
 use Rattle.wdf_agreements.proofs.LevelEvents.{sound_after, sound_before}
+use Rattle.wdf_invariants.proofs.StepEvents.{sequence_is}
 
 -- it is no stage at which queues go up or down
 abbrev pub NoStage : Event → Type 0

@@ -1,15 +1,14 @@
 -- All objects below a cleaned one are cleaned or gone, at each place of every run.
-use Rattle.std.proofs.Common.{◌≡◌, ℕ, zero, suc, ◌+◌, ◌==◌, Bool, true, false, ◌||◌, List, [], ◌∷◌, ◌++◌, inl, inr, length, map, take, refl, sym, ap, subst, ◌∙◌, arith, length-append}
+use Rattle.std.proofs.Common.{◌≡◌, ℕ, zero, suc, ◌+◌, ◌==◌, Bool, true, false, ◌||◌, List, [], ◌∷◌, ◌++◌, inl, inr, length, take, refl, sym, ap, subst, ◌∙◌, arith, length-append}
 use Rattle.std.proofs.lemmas.Bool.{cases_Bool, eqb-true, or_cases}
 use Rattle.wdf_base.specs.Meaning.{Meaning}
 use Rattle.wdf_base.specs.declared.plan.Plan.{Plan}
 use Rattle.wdf_base.specs.declared.event.Event.{Event}
 use Rattle.wdf_base.specs.declared.object.Life.{Life}
 use Rattle.wdf_base.specs.declared.object.Life.TheVariants as life
-use Rattle.wdf_base.specs.declared.declared.Declared.{Declared}
 use Rattle.wdf_model.specs.declared.entries.Node.{Node}
 use Rattle.wdf_model.specs.Tables.{entry}
-use Rattle.wdf_model.specs.parts.Tree.{Tree, below_marks, declared_node, gone, is_below, is_cleaned, is_gone, is_past_cleanup, life_of, node_of, opening_tree, parent_of}
+use Rattle.wdf_model.specs.parts.Tree.{Tree, below_marks, gone, is_below, is_cleaned, is_gone, is_past_cleanup, life_of, node_of, parent_of}
 use Rattle.wdf_model.specs.State.{State}
 use Rattle.wdf_model.specs.declared.deed.Deed.{Deed}
 use Rattle.wdf_model.specs.declared.deed.Deed.TheVariants.{EndLife, EndStep, GoOn, ParkFrame, PopFrame, PushFrame, TakeStep, UnparkFrame}
@@ -26,6 +25,7 @@ use Rattle.wdf_invariants.proofs.StillFrames.{deeds_still}
 use Rattle.wdf_agreements.proofs.Keeping.{deeds_keep, each_place}
 use Rattle.wdf_agreements.proofs.CleanedOver.{InOrder, in_order_at_each}
 use Rattle.wdf_state_laws.specs.States.{NothingBelowCleaned, ancestor}
+use Rattle.wdf_invariants.proofs.StepsOverRuns.{opening_hollow}
 
 -- ---- what is gone has no parent
 
@@ -40,17 +40,8 @@ rooted_by plan (EndStep d s result) S fit r = r
 rooted_by plan (EndLife o) S fit r = rooted_still S.tree o.0 r
 rooted_by plan d S fit r = (deeds_still plan (d ∷ []) S refl (both (fits plan d S) true fit refl)).tree.rooted r
 
-hollow_first : (ds : List Declared) (x : ℕ) → is_gone (entry gone (map declared_node ds) x).life ≡ true → (entry gone (map declared_node ds) x).parent.0 ≡ 0
-hollow_first [] x h = refl
-hollow_first (d ∷ ds) zero h = absurd (let z : ⊥ = cc in z)
-hollow_first (d ∷ ds) (suc x) h = hollow_first ds x h
-
-hollow_opens : (plan : Plan) (x : ℕ) → is_gone (life_of (opening_tree plan) x) ≡ true → parent_of (opening_tree plan) x ≡ 0
-hollow_opens plan zero h = refl
-hollow_opens plan (suc x) h = hollow_first plan.declared x h
-
 pub rooted_at_each : {A : Type 0} (plan : Plan) (m : Meaning A) (run : List Event) → IsRunOf plan m run → (n : ℕ) → Rooted (state_after plan m (take n run)).tree
-rooted_at_each {A} plan m run is_run n = each_place plan m (λ (S : State A). Rooted S.tree) (record { hollow = hollow_opens plan; root = refl; some = omega arith })
+rooted_at_each {A} plan m run is_run n = each_place plan m (λ (S : State A). Rooted S.tree) (record { hollow = opening_hollow plan; root = refl; some = omega arith })
     (λ S e known may_come r. deeds_keep plan (λ (U : State A). Rooted U.tree) (rooted_by plan) (deeds plan S e) S (event_fits plan m S e may_come) r)
     (λ S time r. r) run is_run n
 

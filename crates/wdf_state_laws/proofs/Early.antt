@@ -34,13 +34,14 @@ use Rattle.wdf_agreements.proofs.Stays.{gives_up}
 use Rattle.wdf_agreements.proofs.Lists.{reads_same}
 use Rattle.wdf_agreements.proofs.Sound.{AllSound, Sound}
 use Rattle.wdf_agreements.proofs.SoundRuns.{all_sound, known_place}
-use Rattle.wdf_agreements.proofs.Framing.{none_yet, off_it}
+use Rattle.wdf_agreements.proofs.Framing.{off_it}
 use Rattle.wdf_agreements.proofs.FramesStay.{Begins, FramesGoOn, frames_by}
 use Rattle.wdf_state_laws.specs.States.{FramesBeforeCleanup}
 use Rattle.wdf_agreements.proofs.Readers.{arrived_tree, tree_of}
 use Rattle.wdf_agreements.proofs.Lives.{live_early, noted_kept}
 use Rattle.wdf_agreements.proofs.PartsStay.{tree_stays}
 use Rattle.wdf_state_laws.proofs.Beginnings.{AllEarly, Early, event_early}
+use Rattle.wdf_invariants.proofs.StepsOverRuns.{none_yet}
 
 -- ---- an object that isn't past its cleanup isn't after a deed, until its cleanup or its end
 

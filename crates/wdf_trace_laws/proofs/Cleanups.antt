@@ -1,16 +1,14 @@
 -- What is cleaned had its cleanup: at each place of every run.
-use Rattle.std.proofs.Common.{◌≡◌, ℕ, zero, suc, ◌+◌, ◌-◌, Bool, true, false, not, List, [], ◌∷◌, ◌++◌, inl, inr, Some, map, fold, slice_get, slice_set, take, refl, sym, ap, subst, ◌∙◌}
+use Rattle.std.proofs.Common.{◌≡◌, ℕ, ◌+◌, ◌-◌, Bool, true, false, not, List, [], ◌∷◌, ◌++◌, inl, inr, Some, fold, slice_get, slice_set, take, refl, sym, ap, subst, ◌∙◌}
 use Rattle.wdf_base.specs.Meaning.{Meaning}
 use Rattle.wdf_base.specs.declared.ids.Handle.{Handle}
 use Rattle.wdf_base.specs.declared.plan.Plan.{Plan}
 use Rattle.wdf_base.specs.declared.event.Event.{Event}
 use Rattle.wdf_base.specs.declared.event.Event.TheVariants as event
-use Rattle.wdf_base.specs.declared.declared.Declared.{Declared}
 use Rattle.wdf_base.specs.declared.object.Kind.{Kind}
 use Rattle.wdf_base.specs.declared.object.Kind.TheVariants as kind
 use Rattle.wdf_base.specs.declared.object.Life.TheVariants as life
 use Rattle.wdf_model.specs.declared.entries.Node.{Node}
-use Rattle.wdf_model.specs.Tables.{entry}
 use Rattle.wdf_model.specs.parts.Tree.{Tree, declared_node, gone, is_cleaned, is_live, life_of, node_of, noted, subtree, with_life, with_node}
 use Rattle.wdf_model.specs.parts.Tree as tree
 use Rattle.wdf_model.specs.parts.Requests as requests
@@ -133,11 +131,6 @@ each_seen plan m es S (event.Complete q s) k = other_seen plan m es S (event.Com
 each_seen plan m es S (event.Destroy o) k = other_seen plan m es S (event.Destroy o) refl k
 each_seen plan m es S (event.Posted agent p answer) k = other_seen plan m es S (event.Posted agent p answer) refl k
 each_seen plan m es S (event.Tick t) k = other_seen plan m es S (event.Tick t) refl k
-
-no_cleaned : (ds : List Declared) (x : ℕ) → is_cleaned (entry gone (map declared_node ds) x).life ≡ false
-no_cleaned [] x = refl
-no_cleaned (d ∷ ds) zero = refl
-no_cleaned (d ∷ ds) (suc x) = no_cleaned ds x
 
 seen_opens : {A : Type 0} (plan : Plan) (m : Meaning A) → AllSeen [] (state_after plan m [])
 unfolding state_after

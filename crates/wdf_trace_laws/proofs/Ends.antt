@@ -34,7 +34,8 @@ use Rattle.wdf_invariants.proofs.Trees.{cleaned_there}
 use Rattle.wdf_agreements.proofs.Lives.{asked_early, live_early}
 use Rattle.wdf_agreements.proofs.Choices.{left_of}
 use Rattle.wdf_trace_laws.proofs.Words.{ever_next, never_yet}
-use Rattle.wdf_trace_laws.proofs.Lasting.{Late, Past, asked_at, deed_keeps}
+use Rattle.wdf_trace_laws.proofs.Lasting.{Late, Past, deed_keeps}
+use Rattle.wdf_invariants.proofs.StillFrames.{asked_at}
 
 -- ---- what was told of lives, at each place of a run
 

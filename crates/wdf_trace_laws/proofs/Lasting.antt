@@ -13,9 +13,7 @@ use Rattle.wdf_model.specs.State.{State}
 use Rattle.wdf_model.specs.declared.deed.Deed.{Deed}
 use Rattle.wdf_model.specs.declared.deed.Deed.TheVariants.{Create, MakeRequest, Arrive, AskDeletion, Refer, Unrefer, WriteCell, Note, CleanUp, EndLife, CompleteRequest}
 use Rattle.wdf_model.specs.rules.Deeds.{ask_object, do_deed, give_up}
-use Rattle.wdf_model.specs.rules.Starts.{clean_ready}
 use Rattle.wdf_model.specs.laws.Fits.{fits}
-use Rattle.wdf_model.proofs.Tests.{both_left, both_right}
 use Rattle.wdf_model.proofs.Maps.{entry_before, entry_put_other, entry_put_same, put_long}
 use Rattle.wdf_model.proofs.Counts.{one_or_two}
 use Rattle.wdf_model.proofs.Deletion.{object_live, object_off}
@@ -24,6 +22,7 @@ use Rattle.wdf_agreements.proofs.Lists.{reads_same}
 use Rattle.wdf_agreements.proofs.Readers.{arrived_tree, tree_of}
 use Rattle.wdf_agreements.proofs.Lives.{noted_life}
 use Rattle.wdf_agreements.proofs.PartsStay.{tree_stays}
+use Rattle.wdf_invariants.proofs.StillFrames.{asked_at}
 
 -- a test of lives that no object passes before its cleanup, and each one passes that is gone
 pub record Late (P : Life → Bool) : Type 0 where
@@ -70,9 +69,6 @@ asked_one {A} P F late S x false e q = subst (λ (U : State A). Past P F U.tree)
 all_asked : {A : Type 0} (P : Life → Bool) (F : ℕ → Bool) → Late P → (xs : List ℕ) (S : State A) → Past P F S.tree → Past P F (fold ask_object S xs).tree
 all_asked P F late [] S q = q
 all_asked P F late (x ∷ xs) S q = all_asked P F late xs (ask_object S x) (asked_one P F late S x (is_live (life_of S.tree x)) refl q)
-
-pub asked_at : {A : Type 0} (S : State A) (o : ℕ) → clean_ready S o ≡ true → is_asked (life_of S.tree o) ≡ true
-asked_at S o h = search (both_left, both_right)
 
 cleaned : (P : Life → Bool) (F : ℕ → Bool) → Late P → (T : Tree) (o : ℕ) → is_asked (life_of T o) ≡ true → Past P F T → Past P F (tree.clean T o)
 cleaned P F late T o asked q x h =
