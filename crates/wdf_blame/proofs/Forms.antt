@@ -1,5 +1,5 @@
 -- What the lines of frames, requests and objects name is so.
-use Rattle.std.proofs.Common.{if◌then◌else◌, ◌≡◌, ◌⊎◌, inl, inr, ℕ, suc, ◌+◌, ◌==◌, ◌≤◌, Bool, true, false, not, ◌&&◌, ◌||◌, nat_lt, nat_le, List, [], ◌∷◌, ◌++◌, Option, Some, None, is_some, filter, count_by, take_while, refl, sym, ap, ◌∙◌, arith}
+use Rattle.std.proofs.Common.{if◌then◌else◌, ◌≡◌, ◌⊎◌, inl, inr, ℕ, suc, ◌+◌, ◌==◌, Bool, true, false, not, ◌&&◌, ◌||◌, nat_lt, nat_le, List, [], ◌∷◌, ◌++◌, Option, Some, None, is_some, filter, count_by, take_while, refl, sym, ap, ◌∙◌, arith}
 use Rattle.std.specs.Prelude.{filter_map, option_map}
 use Rattle.std.specs.List.{list_all, prefix_len}
 use Rattle.std.proofs.lemmas.Bool.Decides.{nat_tests}
@@ -20,7 +20,6 @@ use Rattle.wdf_base.specs.declared.wait.WaitLine.{WaitLine}
 use Rattle.wdf_model.specs.Ids.{frame_id}
 use Rattle.wdf_model.specs.declared.entries.Held.{Held}
 use Rattle.wdf_base.specs.declared.ids.ObjectId.{ObjectId}
-use Rattle.wdf_model.proofs.Counts.{count_no}
 use Rattle.wdf_model.specs.laws.OverRuns.{PlacesAgree}
 use Rattle.wdf_model.specs.Tables.{contains, flag, ids_of, least}
 use Rattle.wdf_model.specs.Plans.{is_managed, is_manual_queue, queue_level}
@@ -38,6 +37,7 @@ use Rattle.wdf_blame.specs.Causes.{all_taken, has_lock, is_above, is_before, is_
 use Rattle.wdf_blame.proofs.Members.{Has}
 use Rattle.wdf_blame.proofs.Gives.{Gives, IfThere, all_alike, any_has, gives_first, gives_frame, gives_if, gives_map, gives_none, gives_request, has_either, has_gathered, has_kept, it_contains, least_has}
 use Rattle.wdf_blame.proofs.Conjuncts.{three}
+use Rattle.wdf_invariants.proofs.FrameMoves.{listed}
 
 -- ---- processors
 
@@ -192,19 +192,11 @@ frame_so plan S f =
 
 -- ---- requests
 
-count_in_by : (r x : ℕ) (xs : List ℕ) (b : Bool) → (x == r) ≡ b → 1 ≤ count_by (λ y. y == r) (x ∷ xs) → (1 ≤ count_by (λ y. y == r) xs → contains r xs ≡ true) → contains r (x ∷ xs) ≡ true
-count_in_by r x xs true e h rest = first (x == r) (contains r xs) e
-count_in_by r x xs false e h rest = second (x == r) (contains r xs) (rest (let less = count_no (λ y. y == r) x xs e in omega arith))
-
-count_in : (r : ℕ) (xs : List ℕ) → 1 ≤ count_by (λ y. y == r) xs → contains r xs ≡ true
-count_in r [] h = absurd (omega arith)
-count_in r (x ∷ xs) h = count_in_by r x xs (x == r) refl h (count_in r xs)
-
 waits_there : {A : Type 0} (S : State A) (q : ObjectId) (r : ℕ) → PlacesAgree S → place_of S.requests r ≡ place.Queued q → contains r (waiting_in S.queues q.0) ≡ true
 waits_there S q r k e =
     let one : is_queued_in q.0 (place_of S.requests r) ≡ true = rw e (itself q.0) in
     let times : count_by (λ x. x == r) (waiting_in S.queues q.0) ≡ 1 = k.queued q.0 r ∙ ap flag one in
-    count_in r (waiting_in S.queues q.0) (omega arith)
+    listed r (waiting_in S.queues q.0) (omega arith)
 
 unpowered_by : (managed up : Bool) → not (not managed || up) ≡ true → (managed && not up) ≡ true
 unpowered_by true true h = h

@@ -41,7 +41,7 @@ use Rattle.wdf_blame_causes.proofs.Taken.{Forms, TakesForm, forms_at_each}
 use Rattle.wdf_blame_causes.proofs.Presents.{queued_waits, returning_waits}
 use Rattle.wdf_blame_causes.proofs.Dpcs.{dpc_waits, listed_at}
 use Rattle.wdf_blame_causes.proofs.Steps.{callback_comes, quiet_waits}
-use Rattle.wdf_room.proofs.Doable.{listed}
+use Rattle.wdf_invariants.proofs.FrameMoves.{listed}
 
 -- what is known of the state of a stuck run
 pub record AtEnd {A : Type 0} (plan : Plan) (m : Meaning A) (S : State A) : Type 0 where

@@ -93,6 +93,7 @@ use Rattle.wdf_agreements.proofs.Subtrees.{first_out, parent_in}
 use Rattle.wdf_blame_whole.proofs.Lasting.{Lasts, last_step}
 use Rattle.wdf_blame_whole.proofs.Standing.{AllComes, Removable, Stands, defers, ready_in}
 use Rattle.wdf_blame_whole.proofs.Plains.{comes_after, event_plain, outcome_plain, plain_comes, second_plain}
+use Rattle.wdf_model.proofs.KeptByDeeds.{owned_undone}
 
 -- ---- what is known of a state of a run
 
@@ -245,10 +246,6 @@ module _ {A : Type 0} (plan : Plan) (S : State A) (resolved : IsResolved plan) (
   closing_undone : (p : Place) → is_closing p ≡ true → is_done p ≡ false
   closing_undone place.Done h = absurd (let z : ⊥ = cc in z)
   closing_undone _ h = refl
-
-  owned_undone : (p : Place) → is_owned p ≡ true → is_done p ≡ false
-  owned_undone place.Done h = absurd (let z : ⊥ = cc in z)
-  owned_undone _ h = refl
 
   completed_undone : (r : ℕ) → (is_closing (place_of S.requests r) || is_given S r) ≡ true → is_done (place_of S.requests r) ≡ false
   completed_undone r h = elim (or_cases (is_closing (place_of S.requests r)) (is_given S r) h) [

@@ -34,7 +34,7 @@ use Rattle.wdf_agreements.proofs.Sound.{Sound}
 use Rattle.wdf_agreements.proofs.Stays.{asks_all, given, given_if}
 use Rattle.wdf_model.proofs.KeptByDeeds.{owned_undone}
 use Rattle.wdf_room.proofs.DoableStarts.{queued_undone}
-use Rattle.wdf_agreements.proofs.Readers.{requests_of}
+use Rattle.wdf_agreements.proofs.Readers.{requests_of, arrived_requests}
 use Rattle.wdf_agreements.proofs.Places.{returning_undone, sent_undone}
 use Rattle.wdf_agreements.proofs.FromQueues.{waits_there}
 
@@ -178,10 +178,6 @@ module _ (plan : Plan) (L : ℕ → Bool) where
       let e : (give_up S r).requests ≡ S.requests = given requests_of (λ S Q P. refl) S r in
       moves (give_up S r).requests r (queued q) (still_there S.requests (give_up S r).requests r e old) (as_before S.requests (give_up S r).requests e k)
 
-  came : {A : Type 0} (S : State A) (device : ℕ) (info : RequestInfo) (p : Place) → (arrive_at S device info p).requests ≡ requests.arrive S.requests (next_id S.tree) p info
-  came S device info (place.Queued x) = refl
-  came S device info _ = refl
-
   marked_it : (r : ℕ) (e : Request) (b : Bool) → IsOpened plan L r e → IsOpened plan L r (if b then e else with_mark marks.Marked e)
   marked_it r e true k = k
   marked_it r e false k = k
@@ -210,7 +206,7 @@ module _ (plan : Plan) (L : ℕ → Bool) where
       → Opened plan L (do_deed plan d S).requests
   opened_by (MakeRequest class parent) S f s p room comes k = new_one S.requests (next_id S.tree) place.Owned (made_info (nearest_device S.tree parent.0)) (λ h. room, λ h. absurd (let z : ⊥ = cc in z)) k
   opened_by (Arrive device info at) S f s p room comes k =
-      as_before (requests.arrive S.requests (next_id S.tree) at info) (arrive_at S device.0 info at).requests (came S device.0 info at)
+      as_before (requests.arrive S.requests (next_id S.tree) at info) (arrive_at S device.0 info at).requests (arrived_requests S device.0 info at)
       (new_one S.requests (next_id S.tree) at info (λ h. room, λ h. ap L s.0 ∙ comes) k)
   opened_by (AskDeletion o) S f s p room comes k = opened_asked S o.0 k
   opened_by (EndLife o) S f s p room comes k = forgets S.requests o.0 k

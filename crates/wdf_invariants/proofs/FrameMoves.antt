@@ -11,7 +11,7 @@ use Rattle.wdf_model.specs.parts.Cpus.{Cpus, all_frames, frame_of, no_frame, run
 use Rattle.wdf_model.specs.parts.Cpus as cpus
 use Rattle.wdf_model.specs.laws.Agreement.{is_sequence, is_step_frame}
 use Rattle.wdf_model.proofs.Maps.{entry_put_other, entry_put_same}
-use Rattle.wdf_model.proofs.Counts.{at_head, count_behind, count_cons, equal, not_equal, one_or_two}
+use Rattle.wdf_model.proofs.Counts.{count_no, at_head, count_behind, count_cons, equal, not_equal, one_or_two}
 use Rattle.wdf_invariants.proofs.FrameCounts.{popped, pushed, same_on}
 use Rattle.wdf_invariants.proofs.Framed.{Framed, on, step_frames}
 
@@ -143,6 +143,14 @@ contained_by f x xs false e h rest = let a = at_head f x xs in let more = rest (
 pub contained : (f : ℕ) (xs : List ℕ) → contains f xs ≡ true → 1 ≤ count_by (λ y. y == f) xs
 contained f [] h = absurd (let z : ⊥ = cc in z)
 contained f (x ∷ xs) h = contained_by f x xs (x == f) refl h (contained f xs)
+
+listed_by : (r x : ℕ) (xs : List ℕ) (b : Bool) → (x == r) ≡ b → 1 ≤ count_by (λ y. y == r) (x ∷ xs) → (1 ≤ count_by (λ y. y == r) xs → contains r xs ≡ true) → contains r (x ∷ xs) ≡ true
+listed_by r x xs true e h rest = rw e refl
+listed_by r x xs false e h rest = rw e (rest (let k = count_no (λ y. y == r) x xs e in omega arith))
+
+pub listed : (r : ℕ) (xs : List ℕ) → 1 ≤ count_by (λ y. y == r) xs → contains r xs ≡ true
+listed r [] h = absurd (omega arith)
+listed r (x ∷ xs) h = listed_by r x xs (x == r) refl h (listed r xs)
 
 pub parked_once : (C : Cpus) (f : ℕ) → on C f ≤ 1 → contains f C.parked ≡ true → count_by (λ y. y == f) C.parked ≡ 1
 parked_once C f once h =

@@ -18,7 +18,7 @@ use Rattle.wdf_laws.specs.declared.sign.Sign.TheVariants as sign
 use Rattle.wdf_laws.specs.Signs.{shows}
 use Rattle.wdf_laws.specs.Words.{stands}
 use Rattle.wdf_laws.specs.Laws.{is_enabled_in_power, is_entered}
-use Rattle.wdf_power_laws.proofs.Standings.{Standing, Watch, begins, could_fail, fails, may_begin, owed, safe, succeeds}
+use Rattle.wdf_power_laws.proofs.Standings.{Standing, Watch, begins, could_fail, fails, may_begin, owed, safe, succeeds, succeeded_same}
 use Rattle.wdf_power_laws.proofs.Lists.{Suits, not_either}
 use Rattle.wdf_power_laws.proofs.Begun.{asked, failed}
 use Rattle.wdf_power_laws.proofs.Tellings.{enabled_stays, entered_comes, entered_stays, power_stays, powered, stays}
@@ -186,10 +186,6 @@ module _ (plan : Plan) (es : List Event) (e : Event) (d i : ℕ) where
   told_failure callback.EvtDeviceD0Entry a s k =
       told_entry callback.EvtDeviceD0Entry false (not (watch plan d i).entry) a s (λ h. first (not (declares plan callback.EvtDeviceD0Entry d)) (stands (sign.Entered d) (sign.NotEntered d) (es ++ e ∷ [])) h) k
   told_failure c a s k = told_silent a (silent_end c false s refl) k
-
-  succeeded_same : (c : Callback) (a : Standing) → ((succeeds c a).phase ≡ a.phase) × ((succeeds c a).up ≡ a.up) × ((succeeds c a).hardware ≡ a.hardware) × ((succeeds c a).on ≡ a.on)
-  succeeded_same callback.EvtDeviceD0Entry a = (refl, refl, refl, refl)
-  succeeded_same _ a = (refl, refl, refl, refl)
 
   failed_same : (w : Watch) (c : Callback) (a : Standing) → ((fails w c a).phase ≡ a.phase) × ((fails w c a).up ≡ a.up) × ((fails w c a).hardware ≡ a.hardware) × ((fails w c a).on ≡ a.on)
   failed_same w callback.EvtDeviceD0Entry a = (refl, refl, refl, refl)

@@ -13,7 +13,6 @@ use Rattle.wdf_base.specs.declared.event.Event.{Event}
 use Rattle.wdf_base.specs.declared.event.Event.TheVariants as event
 use Rattle.wdf_base.specs.declared.event.Step.{Step}
 use Rattle.wdf_base.specs.declared.event.Step.TheVariants as step
-use Rattle.wdf_base.specs.declared.call.Callback.{Callback}
 use Rattle.wdf_model.specs.declared.enums.Phase.TheVariants.{Removed}
 use Rattle.wdf_model.specs.Tables.{entry}
 use Rattle.wdf_model.specs.Plans.{as_device, declared_ids, declares, device_of, interrupt_of, is_interrupt_of}
@@ -32,7 +31,7 @@ use Rattle.wdf_agreements.proofs.SoundRuns.{all_known}
 use Rattle.wdf_laws.specs.Words.{stands}
 use Rattle.wdf_laws.specs.declared.sign.Sign.TheVariants as sign
 use Rattle.wdf_power_laws.specs.Steps.{StepsAndPowerAgree, enabled_says, hardware_says, queues_say}
-use Rattle.wdf_power_laws.proofs.Standings.{Standing, Watch, could_fail, owed, rests, safe, succeeds}
+use Rattle.wdf_power_laws.proofs.Standings.{Standing, Watch, could_fail, owed, rests, safe, succeeds, succeeded_same}
 use Rattle.wdf_power_laws.proofs.Begun.{enabled_agrees, hardware_agrees, queues_agree}
 use Rattle.wdf_power_laws.proofs.Tellings.{powered_yet}
 use Rattle.wdf_power_laws.proofs.Holding.{Holds, watch}
@@ -167,30 +166,26 @@ kept_at_each {A} plan m run resolved is_run n = along_run (λ es. Kept plan (sta
 
 -- ---- the law on what is left
 
-succeeded_up : (c : Callback) (a : Standing) → ((succeeds c a).phase ≡ a.phase) × ((succeeds c a).up ≡ a.up) × ((succeeds c a).hardware ≡ a.hardware) × ((succeeds c a).on ≡ a.on)
-succeeded_up callback.EvtDeviceD0Entry a = (refl, refl, refl, refl)
-succeeded_up _ a = (refl, refl, refl, refl)
-
 module _ (w : Watch) where
   queues_owed : (r : Option Step) (ss : List Step) (a : Standing) → owed w r ss a ≡ true → a.up ≡ queues_say a.phase ss
   queues_owed None ss a h = queues_agree w ss a h
   queues_owed (Some (step.Pass s j)) ss a h = absurd (let z : ⊥ = cc in z)
   queues_owed (Some (step.Run c j)) ss a h =
-      let t = succeeded_up c a in
+      let t = succeeded_same c a in
       sym t.1 ∙ queues_agree w ss (succeeds c a) (both_right (could_fail w c a) (safe w ss (succeeds c a)) h) ∙ ap (λ q. queues_say q ss) t.0
 
   hardware_owed : (r : Option Step) (ss : List Step) (a : Standing) → owed w r ss a ≡ true → a.hardware ≡ hardware_says a.phase ss
   hardware_owed None ss a h = hardware_agrees w ss a h
   hardware_owed (Some (step.Pass s j)) ss a h = absurd (let z : ⊥ = cc in z)
   hardware_owed (Some (step.Run c j)) ss a h =
-      let t = succeeded_up c a in
+      let t = succeeded_same c a in
       sym t.2 ∙ hardware_agrees w ss (succeeds c a) (both_right (could_fail w c a) (safe w ss (succeeds c a)) h) ∙ ap (λ q. hardware_says q ss) t.0
 
   enabled_owed : (r : Option Step) (ss : List Step) (a : Standing) → w.watched ≡ true → owed w r ss a ≡ true → a.on ≡ enabled_says w.interrupt a.phase ss
   enabled_owed None ss a is h = enabled_agrees w ss a is h
   enabled_owed (Some (step.Pass s j)) ss a is h = absurd (let z : ⊥ = cc in z)
   enabled_owed (Some (step.Run c j)) ss a is h =
-      let t = succeeded_up c a in
+      let t = succeeded_same c a in
       sym t.3 ∙ enabled_agrees w ss (succeeds c a) is (both_right (could_fail w c a) (safe w ss (succeeds c a)) h) ∙ ap (λ q. enabled_says w.interrupt q ss) t.0
 
 pub steps_agree_at_each : {A : Type 0} (plan : Plan) (m : Meaning A) (run : List Event) → IsResolved plan → IsRunOf plan m run → (n : ℕ) → StepsAndPowerAgree plan (state_after plan m (take n run))

@@ -156,3 +156,8 @@ safe_by w [] a h = h.after
 safe_by w (s ∷ ss) a h =
     both (may_take w s a) (safe w ss (next w s a)) (both_left (may_take w s a) (well w ss (next w s a)) h.well)
     (safe_by w ss (next w s a) (record { well = both_right (may_take w s a) (well w ss (next w s a)) h.well; after = h.after }))
+
+-- where a callback succeeds, the phase, the queues, the hardware and what is enabled stay
+pub succeeded_same : (c : Callback) (a : Standing) → ((succeeds c a).phase ≡ a.phase) × ((succeeds c a).up ≡ a.up) × ((succeeds c a).hardware ≡ a.hardware) × ((succeeds c a).on ≡ a.on)
+succeeded_same callback.EvtDeviceD0Entry a = (refl, refl, refl, refl)
+succeeded_same _ a = (refl, refl, refl, refl)

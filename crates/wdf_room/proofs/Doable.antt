@@ -21,7 +21,7 @@ use Rattle.wdf_model.specs.rules.Steps.{is_cpu}
 use Rattle.wdf_model.specs.laws.OverRuns.{DeclaredAgree, FramesAgree, PlacesAgree}
 use Rattle.wdf_model.proofs.Counts.{count_no, count_yes, equal}
 use Rattle.wdf_invariants.proofs.FrameCounts.{popped}
-use Rattle.wdf_invariants.proofs.FrameMoves.{none_or_some}
+use Rattle.wdf_invariants.proofs.FrameMoves.{none_or_some, listed}
 use Rattle.wdf_room.specs.Kept.{RoomKept, table_size}
 use Rattle.wdf_room.specs.Room.{AGENTS, AreDoable, IsRequest, MayGiveUp}
 
@@ -51,14 +51,6 @@ not_listed_by r x xs false e h rest = rw e (rest (let k = count_no (λ y. y == r
 pub not_listed : (r : ℕ) (xs : List ℕ) → count_by (λ y. y == r) xs ≡ 0 → contains r xs ≡ false
 not_listed r [] h = refl
 not_listed r (x ∷ xs) h = not_listed_by r x xs (x == r) refl h (not_listed r xs)
-
-listed_by : (r x : ℕ) (xs : List ℕ) (b : Bool) → (x == r) ≡ b → 1 ≤ count_by (λ y. y == r) (x ∷ xs) → (1 ≤ count_by (λ y. y == r) xs → contains r xs ≡ true) → contains r (x ∷ xs) ≡ true
-listed_by r x xs true e h rest = rw e refl
-listed_by r x xs false e h rest = rw e (rest (let k = count_no (λ y. y == r) x xs e in omega arith))
-
-pub listed : (r : ℕ) (xs : List ℕ) → 1 ≤ count_by (λ y. y == r) xs → contains r xs ≡ true
-listed r [] h = absurd (omega arith)
-listed r (x ∷ xs) h = listed_by r x xs (x == r) refl h (listed r xs)
 
 pub nowhere : (r : ℕ) (lines : List (List ℕ)) → ((q : ℕ) → count_by (λ y. y == r) (entry [] lines q) ≡ 0) → list_any (contains r) lines ≡ false
 nowhere r [] h = refl
