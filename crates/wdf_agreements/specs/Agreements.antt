@@ -37,7 +37,7 @@ pub record WorkIsLive {A : Type 0} (plan : Plan) (S : State A) : Type 0 where
 pub record ArrivalsAgree {A : Type 0} (S : State A) : Type 0 where
   pub once : (r s : ℕ) → has_arrived (request_of S.requests r) ≡ true → (info_of S.requests r).agent ≡ (info_of S.requests s).agent → (info_of S.requests r).arrival ≡ (info_of S.requests s).arrival → r ≡ s
 
--- A live object has a live parent, but for the driver object, which has none.
+-- The parent of a live object is live, if it has one.
 pub record LivesAgree {A : Type 0} (S : State A) : Type 0 where
   pub above : (o : ℕ) → is_live (life_of S.tree o) ≡ true → parent_of S.tree o ≢ 0 → is_live (life_of S.tree (parent_of S.tree o)) ≡ true
 

@@ -36,8 +36,7 @@ pub fn arrivals_agree<A>()
     ensures { (plan : Plan) (m : Meaning A) (run : List Event) → IsRunOf plan m run → (n : ℕ) → ArrivalsAgree (state_after plan m (take n run)) }
 {}
 
-/// At each place of every run of a resolved plan, a live object has a live parent, but for the driver object, which has
-/// none.
+/// At each place of every run of a resolved plan, the parent of a live object is live, if it has one.
 pub fn lives_agree<A>()
     ensures { (plan : Plan) (m : Meaning A) (run : List Event) → IsResolved plan → IsRunOf plan m run → (n : ℕ) → LivesAgree (state_after plan m (take n run)) }
 {}

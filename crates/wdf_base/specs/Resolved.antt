@@ -86,7 +86,7 @@ reserved_words =
 abbrev pub is_reserved : List ℕ → Bool
 is_reserved word = list_any (bytes_eq word) reserved_words || is_cpu_word word
 
--- the names of apps, which are the agents before the devices and the targets
+-- the number of a declared device's name, none for another object
 abbrev pub device_name : Declared → Option ℕ
 device_name (declared.Device d) = Some d.name
 device_name _ = None
@@ -103,6 +103,7 @@ posting_names plan = filter_map device_name plan.declared ++ filter_map target_n
 abbrev pub app_count : Plan → ℕ
 app_count plan = length plan.agents - length (posting_names plan)
 
+-- the apps, which are the agents before the devices and the targets
 abbrev pub apps : Plan → List AgentInfo
 apps plan = take (app_count plan) plan.agents
 
@@ -255,13 +256,14 @@ device_post plan device p =
       | post.Done r s ↦ false
     ])
 
--- the agents of the devices, by the ids of the devices; a target has no line
+-- the ids of the devices among these objects, of which the first has this id
 abbrev pub device_ids : ℕ → List Declared → List ℕ
 device_ids id [] = []
 device_ids id (declared.Device d ∷ ds) = id ∷ device_ids (suc id) ds
 device_ids id (_ ∷ ds) = device_ids (suc id) ds
 
--- the posts of each agent against the device that it is; after the devices come the targets, without posts
+-- the posts of each agent against the device that it is, by the ids of the devices; after the devices come
+-- the targets, without posts
 abbrev pub device_posts_fit : Plan → List ℕ → List AgentInfo → Bool
 device_posts_fit plan [] as' = list_all (λ a. length a.posts == 0) as'
 device_posts_fit plan (id ∷ ids) [] = true
@@ -350,10 +352,11 @@ script_fits plan s =
 abbrev pub same_script : Script → Script → Bool
 same_script a b = same_callback a.callback b.callback && same_declared a.owner b.owner
 
--- what this object can't do without is declared
+-- whether the plan has a script of this callback on this object
 abbrev pub has_script : Plan → Callback → Declared → Bool
 has_script plan c o = is_some (script_of plan c o)
 
+-- the callbacks that this object can't do without are declared
 abbrev pub declared_complete : Plan → Declared → Bool
 declared_complete plan (declared.Interrupt i) =
     has_script plan callback.EvtInterruptIsr (declared.Interrupt i)

@@ -17,8 +17,8 @@ pub enum Scope {
     Unscoped,
 }
 
-/// The level at which the callbacks of a device or a queue run, after the attribute `level` and its
-/// defaults.
+/// The execution level of a device or a queue, after the attribute `level` and its defaults. The callbacks
+/// of a queue run at it. Those of a device run at PASSIVE_LEVEL.
 #[derive(Clone, Copy, Debug, PartialEq, Eq)]
 pub enum ExecutionLevel {
     Passive,

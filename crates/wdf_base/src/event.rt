@@ -29,19 +29,29 @@ pub enum Ask {
 /// A step that the framework itself takes in a Plug and Play or power sequence.
 #[derive(Clone, Copy, Debug, PartialEq, Eq, Hash)]
 pub enum Stage {
+    /// The device gets its hardware.
     Hardware,
+    /// The device gives its hardware back.
     NoHardware,
     /// An interrupt is put on the list of enabled ones.
     Enabled,
     /// An interrupt is taken off that list.
     Disabled,
+    /// The device's power-managed queues come up.
     QueuesUp,
+    /// The device's power-managed queues go down.
     QueuesDown,
+    /// What the driver holds from the power-managed queues is acknowledged, and none of their callbacks runs.
     Settled,
+    /// No EvtInterruptDpc of the device is queued or runs.
     Quiet,
+    /// The device's queues are Purged for good.
     Closed,
+    /// The device is Working.
     Working,
+    /// The device is Sleeping.
     Sleeping,
+    /// The device is Removed, and its deletion is asked.
     Removed,
 }
 
@@ -242,7 +252,8 @@ pub enum Fault {
     ScriptError,
 }
 
-/// How a run ends: whether a step may follow, and if not, why.
+/// How a run ends: whether a step may follow, and if not, why. Of the reasons a fault comes first, then the
+/// limit, then whether something is open.
 #[derive(Clone, Copy, Debug, PartialEq, Eq)]
 pub enum Ending {
     /// A step may follow.

@@ -1,6 +1,6 @@
 use std::alloc::{AllocError, AllocFailed};
 
-/// Want of memory: the one free answer of every call that takes memory.
+/// Memory is out. Each call that takes memory may answer this, and no contract says when.
 #[derive(Clone, Copy, Debug, PartialEq, Eq)]
 pub struct Memory;
 

@@ -76,7 +76,8 @@ pub enum RequestForm {
 pub enum LockRef {
     /// The lock of a spin lock, a wait lock or an interrupt.
     Object(ObjectId),
-    /// The lock that serializes the callbacks of a device and of its queues.
+    /// The scope lock of a device. It serializes the callbacks of its queues whose scope is the device, and
+    /// serialized work under that device or those queues.
     DeviceScope(ObjectId),
     /// The lock that serializes the callbacks of a queue.
     QueueScope(ObjectId),
@@ -85,7 +86,8 @@ pub enum LockRef {
 /// What is kept of a request beside its place.
 #[derive(Clone, Copy, Debug, PartialEq, Eq)]
 pub struct RequestInfo {
-    /// The device that it arrived at, or the nearest one above a made request.
+    /// The device that it arrived at. Of a made request the nearest device at or above its parent, or the
+    /// driver object.
     pub device: ObjectId,
     pub form: RequestForm,
     /// The bytes that it asks for.
@@ -94,13 +96,13 @@ pub struct RequestInfo {
     pub code: u64,
     /// The queue from which it last became Owned.
     pub origin: Option<ObjectId>,
-    /// The agent that posted it.
+    /// The agent that posted it, 0 for a made request.
     pub agent: u16,
-    /// Its number among that agent's arrivals, from 1.
+    /// Its number among that agent's arrivals, from 1; 0 for a made request.
     pub arrival: u32,
     pub mark: Mark,
     /// Whether it was cancelled.
     pub cancelled: bool,
-    /// Whether it was once Owned.
+    /// Whether it became Owned since it arrived or was made.
     pub received: bool,
 }

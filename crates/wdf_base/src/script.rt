@@ -131,7 +131,7 @@ pub struct Statement {
     /// The line of the text; for the end of a `repeat`'s body, that of the `repeat`.
     pub line: u32,
     /// The number of the statement that follows it, where it doesn't go elsewhere. The number of
-    /// statements stands for the callback's end.
+    /// statements means the callback's end.
     pub next: u32,
     pub act: Act,
 }

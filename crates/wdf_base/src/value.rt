@@ -1,6 +1,6 @@
 use crate::ids::Handle;
 
-/// How a call, a callback or a request ended. Statuses are told by name, not by NTSTATUS number.
+/// How a call, a callback or a request ended. A status has a name here, and no NTSTATUS number.
 #[derive(Clone, Copy, Debug, PartialEq, Eq, Hash)]
 pub enum Status {
     Success,

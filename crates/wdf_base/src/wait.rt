@@ -35,15 +35,15 @@ pub enum OpenThing {
         device: Handle,
         step: Step,
     },
-    /// An object whose deletion hasn't come to its end, or that waits for its target.
+    /// An object whose deletion was asked and hasn't come to its end.
     Leaving {
         object: Handle,
     },
-    /// A DPC, a timer or a work item that is queued.
+    /// A queued DPC or work item, or a timer whose tick is reached.
     Deferred {
         object: Handle,
     },
-    /// The Plug and Play manager with a post that is due for a device.
+    /// The Plug and Play manager with a post that is due, for a device with a sequence under way.
     Asking {
         device: Handle,
     },
@@ -54,9 +54,9 @@ pub enum OpenThing {
 pub enum Cause {
     /// A frame keeps it.
     ByFrame { frame: FrameId },
-    /// A frame holds the lock that it needs; a scope lock is named by its device or queue.
+    /// A frame holds the lock that the call asks for.
     ByLock { lock: Handle, frame: FrameId },
-    /// A request isn't settled.
+    /// A request keeps it.
     ByRequest { request: Handle },
     /// A work item is still queued.
     ByWork { work: Handle },
@@ -76,7 +76,7 @@ pub enum Cause {
     NoCpu,
     /// The driver holds references.
     References { count: u32 },
-    /// A child must go first.
+    /// A child or a younger sibling must go first.
     ByChild { child: Handle },
     /// It is at a target.
     AtTarget { target: Handle },

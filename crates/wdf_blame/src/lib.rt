@@ -30,7 +30,7 @@ ghost use Rattle.wdf_blame.specs.Caused.{has_no_cause, is_stage};
 ghost use Rattle.wdf_blame.specs.Causes.{keeps_deferred, keeps_frame, keeps_object, keeps_queued, keeps_returning, keeps_step};
 ghost use Rattle.wdf_blame.specs.Left.{NothingLeft};
 
-/// The wait list of a stuck run has a line for each open thing, once, in the order of the table, and for nothing else.
+/// The wait list of a stuck run has a line for each open thing, once, in the order of `open_things`, and for nothing else.
 /// The open things are each frame that is there, each open request, each device with steps left, and each object whose
 /// deletion hasn't come to its end. All queued work is open too, and the Plug and Play manager where it waits. So no
 /// request of a stuck run is only about to be completed.
@@ -118,14 +118,15 @@ pub fn asked_objects_name_a_cause<A>()
 {}
 
 /// The line of a device whose next step is a stage other than `quiet` always names a cause, where the step doesn't come
-/// after `queues_up`. Its sequence never waits for a stage that the framework could take.
+/// after `queues_up` and no callback of a step of the device runs. Its sequence never waits for a stage that the framework
+/// could take.
 pub fn stages_name_a_cause<A>()
     ensures { (plan : Plan) (m : Meaning A) (run : List Event) → IsRunOf plan m run → ending_of plan m run ≡ ending.Stuck → (k : ℕ) (d : Handle) (s : Step) (x : Option Cause)
         → slice_get (wait_list plan m run) k ≡ Some (record { thing = thing.Sequence d s; cause = x }) → is_stage s ≡ true → is_running_step (state_after plan m run).pnp d.id.0 ≡ false → follows_queues_up (state_after plan m run).pnp d.id.0 ≡ false → is_some x ≡ true }
 {}
 
-/// In a stuck run the top frame of each processor waits in a call whose condition isn't met: no callback only hasn't gone
-/// on, and none spends time.
+/// In a stuck run the top frame of each processor waits in a call whose condition isn't met. None could go on, and none
+/// spends time.
 pub fn top_frames_wait<A>()
     ensures { (plan : Plan) (m : Meaning A) (run : List Event) → IsRunOf plan m run → ending_of plan m run ≡ ending.Stuck → (cpu f : ℕ) → cpu < plan.cpus
         → top (state_after plan m run).cpus cpu ≡ Some f → waits_on (state_after plan m run) (frame_of (state_after plan m run).cpus f).pending ≡ true }

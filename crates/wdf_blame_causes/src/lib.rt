@@ -1,5 +1,6 @@
 //! Laws over all runs on how they end: a line names a cause, where what the line is about may start. It is the line of
-//! a frame, of a request in a queue or on its way out of one, of a device or of queued work.
+//! a frame, of a request in a queue or on its way out of one, of a device or of queued work. Each plan is resolved, but in
+//! `parked_frames_wait` and `queued_work_items_name_a_cause`.
 #![tactic(auto)]
 
 ghost use Rattle.std.specs.Prelude.{◌≡◌, ℕ, true, false, List, Option, Some, is_some, slice_get, take};
@@ -60,15 +61,17 @@ pub fn dpcs_name_a_cause<A>()
 {}
 
 /// The line of a device whose next step is `quiet` always names a cause, where the first DPC in each processor's list is of
-/// a live object that has the function.
+/// a live object that has the function. The step doesn't come after `queues_up`, and no callback of a step of the device
+/// runs.
 pub fn devices_at_quiet_name_a_cause<A>()
     ensures { (plan : Plan) (m : Meaning A) (run : List Event) → IsResolved plan → IsRunOf plan m run → ending_of plan m run ≡ ending.Stuck → (k : ℕ) (d : Handle) (i : Option Handle) (x : Option Cause)
         → slice_get (wait_list plan m run) k ≡ Some (record { thing = thing.Sequence d (step.Pass stage.Quiet i); cause = x })
         → is_running_step (state_after plan m run).pnp d.id.0 ≡ false → follows_queues_up (state_after plan m run).pnp d.id.0 ≡ false → DpcsMayRun plan (state_after plan m run) → is_some x ≡ true }
 {}
 
-/// The line of a device whose next step is a callback always names a cause, on two conditions. The callback is that of
-/// a live object of the device that has it, and the step doesn't come after `queues_up`.
+/// The line of a device whose next step is a callback always names a cause, on three conditions. The callback is that of
+/// a live object of the device that has it; the step doesn't come after `queues_up`; and no callback of a step of the
+/// device runs.
 pub fn devices_at_callbacks_name_a_cause<A>()
     ensures { (plan : Plan) (m : Meaning A) (run : List Event) → IsResolved plan → IsRunOf plan m run → ending_of plan m run ≡ ending.Stuck → (k : ℕ) (d : Handle) (c : Callback) (i : Option Handle) (x : Option Cause)
         → slice_get (wait_list plan m run) k ≡ Some (record { thing = thing.Sequence d (step.Run c i); cause = x })

@@ -1,5 +1,6 @@
 //! Laws over all runs on how they end: the line of an object that is being deleted always names a cause, and so does each
-//! line of a stuck run's wait list that has causes. `cpus` means that the processors spin.
+//! line of a stuck run's wait list that has causes. `cpus` means that the processors spin. Each plan is resolved, but in
+//! `taken_processors_spin` and `objects_find_no_processor`.
 #![tactic(auto)]
 
 ghost use Rattle.std.specs.Prelude.{◌≡◌, ◌<◌, ℕ, true, false, List, Option, Some, is_some, slice_get, take};
@@ -64,8 +65,9 @@ pub fn objects_find_no_processor<A>()
         → slice_get (wait_list plan m run) k ≡ Some (record { thing = thing.Leaving o; cause = Some cause.NoCpu }) → finds_no_cpu plan (state_after plan m run) o.id.0 ≡ true }
 {}
 
-/// In a run that ends stuck, the next step of a device is a callback or one of `settled`, `disabled`, `quiet` and
-/// `removed`, where it doesn't come after `queues_up`. No other stage is waited for there.
+/// In a stuck run of a resolved plan, a device's next step is a callback or one of `settled`, `disabled`, `quiet` and
+/// `removed`. So it is where the step doesn't come after `queues_up`, and no callback of a step of the device runs. No
+/// other stage is waited for there.
 pub fn devices_wait_at_steps<A>()
     ensures { (plan : Plan) (m : Meaning A) (run : List Event) → IsResolved plan → IsRunOf plan m run → ending_of plan m run ≡ ending.Stuck → (k : ℕ) (d : Handle) (s : Step) (x : Option Cause)
         → slice_get (wait_list plan m run) k ≡ Some (record { thing = thing.Sequence d s; cause = x })

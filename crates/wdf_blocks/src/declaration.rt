@@ -11,11 +11,17 @@ use wdf_scene::SceneLine;
 /// What a name is declared as.
 #[derive(Clone, Copy, Debug, PartialEq, Eq)]
 pub enum Thing {
+    /// A device.
     Device,
+    /// A queue.
     Queue,
+    /// An interrupt.
     Interrupt,
+    /// A target.
     Target,
+    /// A register.
     Register,
+    /// An app.
     App,
     /// A class of objects of this kind.
     Class(Kind),
@@ -24,6 +30,7 @@ pub enum Thing {
 /// A name and what it is declared as.
 #[derive(Clone, Copy, Debug)]
 pub struct Declaration {
+    /// The name.
     pub name: Name,
     /// The number of its line in the text.
     pub number: u32,
@@ -31,6 +38,7 @@ pub struct Declaration {
     pub at: u32,
     /// The line of the device in which it is declared.
     pub device: Option<u32>,
+    /// What the name is declared as.
     pub thing: Thing,
     /// How many of its sort were declared before: objects, classes, registers or apps.
     pub order: u32,
@@ -148,7 +156,7 @@ impl Declaration {
         }
     }
 
-    /// What a place in the text can need it to be, other than anything at all. Each thing has three, some of them twice.
+    /// Three things that a place in the text can need it to be, some of them the same. An app is only what suits any need.
     pub fn uses(&self) -> [Wanted; 3] {
         let device = self.device;
         match self.thing {

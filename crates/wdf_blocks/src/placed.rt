@@ -11,7 +11,9 @@ use wdf_scene::SceneLine;
 pub struct Stand {
     /// The innermost block that is no part of a callback.
     pub block: Option<u32>,
+    /// The device.
     pub device: Option<u32>,
+    /// The callback.
     pub callback: Option<u32>,
     /// How many `if` and `repeat` are open in the callback.
     pub nested: u32,
@@ -22,14 +24,19 @@ pub struct Stand {
 pub struct Counts {
     /// Nodes of expressions.
     pub nodes: u64,
+    /// Devices.
     pub devices: u32,
     /// How many objects come before the last of these devices.
     pub device: u32,
     /// Devices, queues, interrupts and targets.
     pub objects: u32,
+    /// Apps.
     pub apps: u32,
+    /// Registers.
     pub registers: u32,
+    /// Classes.
     pub classes: u32,
+    /// Statements.
     pub statements: u32,
     /// Lines with `at`.
     pub posts: u32,
@@ -44,10 +51,13 @@ pub struct Placed {
     pub at: u32,
     /// Its number in the text, from 1.
     pub number: u32,
+    /// What the line says.
     pub form: SceneLine,
     /// How many numbers it has, if it is a `picks` line.
     pub picks: u32,
+    /// Where it is.
     pub stand: Stand,
+    /// What comes before it.
     pub counts: Counts,
 }
 

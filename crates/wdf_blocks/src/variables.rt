@@ -79,6 +79,10 @@ fn assigned_from(alloc: Global, lines: &[NumberedLine], from: u32) -> Result<Var
 }
 
 /// The variables of the callback that line `callback` begins.
+///
+/// # Errors
+///
+/// [`Memory`] where memory was refused.
 pub fn variables_of(alloc: Global, scene: &Scene, callback: u32) -> Result<Variables, Memory>
     ensures { IfOk result (λ v. v ≡ spec.variables scene.now callback) }
 {
@@ -101,6 +105,10 @@ fn variables_in(alloc: Global, scene: &Scene, callback: Option<u32>) -> Result<V
 }
 
 /// The variables of the callback `next`, where `variables` are those of the callback `last`.
+///
+/// # Errors
+///
+/// [`Memory`] where memory was refused.
 pub fn entered(
     alloc: Global,
     scene: &Scene,

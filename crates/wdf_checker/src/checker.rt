@@ -47,6 +47,10 @@ fn event_at(events: &[Event], k: usize) -> &Event
 
 /// The first law that is broken, and the place of the event that breaks it, counted from 1; None exactly where no law is
 /// broken. It is the least place, and there the least number.
+///
+/// # Errors
+///
+/// [`Memory`] where memory was refused. Nothing is said of the list then.
 pub fn check(alloc: Global, plan: &Plan, events: &[Event]) -> Result<Option<(u8, usize)>, Memory>
     ensures { IfOk result (λ found. IsFirstBroken plan.now events.now found) }
 {

@@ -140,7 +140,7 @@ fn is_cancel_due(past: &Past, request: Option<u32>) -> bool
     }
 }
 
-/// A cancel callback comes once, for a request that was cancelled while marked.
+/// A cancel callback comes once, for a request that is marked and whose cancel was posted.
 pub fn keeps_cancels(past: &Past, event: &Event) -> bool
     ensures { result ≡ laws.law_7 (before past.now) event.now }
 {

@@ -1,6 +1,6 @@
 //! The checker of the laws of a trace.
 //!
-//! It reads the events once, and tests each by what `wdf_past` keeps of those before.
+//! It goes through the events in turn, and tests each by what `wdf_past` keeps of those before.
 #![tactic(auto)]
 
 mod checker;

@@ -116,7 +116,8 @@ fn interrupt_rows(
     }
 }
 
-/// The callbacks of an interrupt begin only where it is enabled, on an entered device, one after the other.
+/// EvtInterruptEnable begins only on an entered device, and an interrupt's other callbacks only after it was enabled
+/// there. Those with its lock begin alone.
 pub fn keeps_interrupts(past: &Past, frames: &Frames, event: &Event) -> bool
     ensures { result ≡ laws.law_4 past.now.plan (before past.now) frames.now event.now }
 {

@@ -71,8 +71,11 @@ impl<A: Agent> Model for Core<A> {
 }
 
 impl<A: Agent> Core<A> {
-    /// The opening of the plan's run, with these agents. It takes all the memory that the run needs. On
-    /// [`Memory`] the plan and the agents are dropped.
+    /// The opening of the plan's run, with these agents. It takes all the memory that the run needs.
+    ///
+    /// # Errors
+    ///
+    /// [`Memory`] where that memory was refused. The plan and the agents are dropped then.
     pub fn make(alloc: Global, plan: Plan, agents: Vec<A>) -> Result<Core<A>, Memory>
         requires resolved { IsResolved plan }
         requires agents { agents.items ≡ opening_agents plan A.meaning }

@@ -28,7 +28,7 @@ impl Model for Counts {
 }
 
 impl Counts {
-    /// Nothing is counted.
+    /// Nothing is counted. It takes room for each id that an object may have. On [`Memory`] nothing is made.
     pub fn make(alloc: Global) -> Result<Counts, Memory>
         ensures { IfOk result (λ made. made ≡ []) }
     {

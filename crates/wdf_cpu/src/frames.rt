@@ -28,7 +28,7 @@ impl Cpus {
         FrameId(frame_in(&self.stacks, self.parked.as_slice(), place))
     }
 
-    /// How many frames run on an object.
+    /// How many frames are on an object, on a processor or parked.
     pub fn frames_on(&self, o: ObjectId) -> u32
         ensures { result ≡ cpus.frames_on self.now o.0 }
     {
@@ -39,7 +39,7 @@ impl Cpus {
         }
     }
 
-    /// Whether no frame runs on an object.
+    /// Whether no frame is on an object, on a processor or parked.
     pub fn nobody_on(&self, o: ObjectId) -> bool
         ensures { result ≡ cpus.nobody_on self.now o.0 }
     {
@@ -57,7 +57,7 @@ impl Cpus {
         }
     }
 
-    /// Whether a frame of this callback runs on a device, or on what has it as nearest device.
+    /// Whether a frame of this callback, on a processor or parked, is on a device, or on what has it as nearest device.
     pub fn is_running(&self, callback: Callback, device: ObjectId) -> bool
         ensures { result ≡ cpus.is_running self.now callback device.0 }
     {

@@ -17,7 +17,7 @@ pub fn declared_at(plan: &Plan, o: ObjectId) -> Option<Declared>
     }
 }
 
-/// The device with this id, if it is one's.
+/// The device with this id; `None` where no device has it.
 pub fn device_of(plan: &Plan, o: ObjectId) -> Option<DeviceInfo>
     ensures { result ≡ plans.device_of plan.now o.0 }
 {
@@ -27,7 +27,7 @@ pub fn device_of(plan: &Plan, o: ObjectId) -> Option<DeviceInfo>
     }
 }
 
-/// The queue with this id, if it is one's.
+/// The queue with this id; `None` where no queue has it.
 pub fn queue_of(plan: &Plan, o: ObjectId) -> Option<QueueInfo>
     ensures { result ≡ plans.queue_of plan.now o.0 }
 {
@@ -37,7 +37,7 @@ pub fn queue_of(plan: &Plan, o: ObjectId) -> Option<QueueInfo>
     }
 }
 
-/// The interrupt with this id, if it is one's.
+/// The interrupt with this id; `None` where no interrupt has it.
 pub fn interrupt_of(plan: &Plan, o: ObjectId) -> Option<InterruptInfo>
     ensures { result ≡ plans.interrupt_of plan.now o.0 }
 {
@@ -47,7 +47,7 @@ pub fn interrupt_of(plan: &Plan, o: ObjectId) -> Option<InterruptInfo>
     }
 }
 
-/// The target with this id, if it is one's.
+/// The target with this id; `None` where no target has it.
 pub fn target_of(plan: &Plan, o: ObjectId) -> Option<TargetInfo>
     ensures { result ≡ plans.target_of plan.now o.0 }
 {

@@ -118,7 +118,7 @@ fn agent_of(
 }
 
 /// The agents of a plan's run, by number: the Plug and Play manager, then the apps, the devices and
-/// the targets.
+/// the targets. On [`Memory`] nothing is made.
 pub fn agents(alloc: Global, plan: &Plan) -> Result<Vec<AnyAgent>, Memory>
     ensures { IfOk result (λ all. all.items ≡ map (agent_meaning.begin plan.now) (range_with_len 0 (1 + length plan.now.agents))) }
 {

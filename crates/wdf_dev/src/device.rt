@@ -147,8 +147,8 @@ fn ahead_of(now: u64, actions: &[DeviceAction]) -> Ahead
 }
 
 impl Device {
-    /// A declared device before its first event. `Memory` also where an action names an interrupt
-    /// whose id has no room.
+    /// A declared device before its first event. It takes room for the level line of each interrupt that
+    /// an action names. On [`Memory`] nothing is made.
     pub fn make(alloc: Global, plan: &Plan, device: ObjectId, agent: u16) -> Result<Device, Memory>
         requires { agent ≤ length plan.now.agents }
         ensures { IfOk result (λ made. made ≡ model.device_at plan.now device.0 agent) }

@@ -176,7 +176,7 @@ fn drop_request(sent: &mut Vec<SentRequest>, r: ObjectId)
 
 impl LowerTarget {
     /// The agent of a declared target, with nothing sent to it. One that isn't declared takes
-    /// nothing.
+    /// nothing. [`Memory`] comes also where its depth doesn't fit `usize`.
     pub fn make(alloc: Global, plan: &Plan, o: ObjectId, agent: u16) -> Result<LowerTarget, Memory>
         ensures { IfOk result (λ made. made ≡ target.target_at plan.now o.0 agent) }
     {

@@ -196,10 +196,7 @@ impl Writer {
         let mut rng = SplitMix64::seed_from_u64(n);
         for k in 0..READS {
             let word = rng.next_u64();
-            match self.add_read(a, k, word) {
-                Ok(()) => {}
-                Err(error) => return Err(error),
-            }
+            self.add_read(a, k, word)?;
         }
         Ok(())
     }

@@ -32,7 +32,7 @@ impl Model for Links {
 }
 
 impl Links {
-    /// As many empty lists, and as many items, each on none of them. All memory is taken here, and
+    /// `lists` empty lists, and `items` items on none of them. All memory is taken here, and
     /// it is written only as far as lists and items are used. On [`Memory`] nothing is made.
     pub fn make(alloc: Global, lists: u32, items: u32) -> Result<Links, Memory>
         requires lists { lists < 2 ^ 31 }

@@ -33,8 +33,8 @@ pub fn runs_defer_when_enabled<A>()
         → is_enabled_in_power plan (take k run) o.id.0 x.device.0 ≡ true }
 {}
 
-/// In every run of a resolved plan, each event keeps the fourth law: the callbacks of an interrupt begin only while it may be
-/// served, and alone.
+/// In every run of a resolved plan, each event keeps the fourth law. EvtInterruptEnable begins only on an entered device, and
+/// an interrupt's other callbacks only after it was enabled there. Those with its lock begin alone.
 pub fn runs_call_interrupts_in_power<A>()
     ensures { (plan : Plan) (m : Meaning A) (run : List Event) (k : ℕ) (e : Event) → IsResolved plan → IsRunOf plan m run
         → slice_get run k ≡ Some e → law_4 plan (take k run) (frames_after (take k run)) e ≡ true }

@@ -41,8 +41,8 @@ pub fn declared_agree<A>()
     ensures { (plan : Plan) (m : Meaning A) (run : List Event) → IsRunOf plan m run → (n : ℕ) → DeclaredAgree plan (state_after plan m (take n run)) }
 {}
 
-/// At each place of every run, each frame is there once, on a processor or parked, with the number of an event of the
-/// run, and it knows the nearest device of its object.
+/// At each place of every run, each frame is there once, on a processor or parked. Its number isn't above
+/// that of the events. Its object was made, and it knows the nearest device of that.
 pub fn frames_agree<A>()
     ensures { (plan : Plan) (m : Meaning A) (run : List Event) → IsRunOf plan m run → (n : ℕ) → FramesAgree (state_after plan m (take n run)) }
 {}

@@ -1,4 +1,4 @@
--- Sources and sinks that hold their bytes in memory, and fail at the calls that they are told.
+-- Sources and sinks that hold their bytes in memory, and fail at the calls whose numbers they are given.
 use Rattle.std.specs.Prelude.{ℕ, ◌+◌, ◌-◌, min, List, ◌++◌, length, drop, Contains}
 use Rattle.wdf_io.specs.Outside.{counted}
 

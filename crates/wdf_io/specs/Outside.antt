@@ -9,7 +9,7 @@ last_count = 2 ^ 64 - 1
 abbrev pub counted : ℕ → ℕ
 counted count = min (count + 1) last_count
 
--- a count rose in a call, or stood at its last value before it
+-- a count rose in a call, or was at its last value before it
 abbrev pub Rose : ℕ → ℕ → Type 0
 Rose before after = (before < after) ⊎ (before ≡ last_count)
 

@@ -23,6 +23,7 @@ impl Model for Calls {
 }
 
 impl Calls {
+    /// No call so far; the calls with these numbers, from 1, fail.
     pub fn new(fail_at: Vec<u64>) -> Calls
         ensures { result ≡ record { fail_at = fail_at.items; made = 0; faults = 0 } }
     {

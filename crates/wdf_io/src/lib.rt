@@ -16,7 +16,7 @@ pub use mem_sink::MemSink;
 pub use mem_source::MemSource;
 pub use streams::{ReadSource, WriteSink};
 
-/// The outside didn't do what it was asked. The object that answers it has counted a fault.
+/// The outside didn't do what it was asked. The object that answers it has counted a fault, up to 2^64 - 1.
 #[derive(Clone, Copy, Debug, PartialEq, Eq)]
 pub struct Failed;
 
@@ -25,7 +25,7 @@ pub trait Source {
     // The bytes not yet read, where the source says what they are.
     ghost left: { Self → Option (List ℕ) };
 
-    // How often a call failed. It never falls.
+    // How often a call failed, counted up to 2^64 - 1. It never falls.
     ghost faults: { Self → ℕ };
 
     /// Fills the front of `buf` with the next bytes and answers how many: 0 is the end of the input.
@@ -33,7 +33,7 @@ pub trait Source {
     ///
     /// # Errors
     ///
-    /// `Failed` only where the count of faults rose. Nothing is taken then, and `buf` is left open.
+    /// `Failed` only where the count of faults rose or was at its last value. Nothing is taken then, and `buf` is left open.
     fn read(&mut self, buf: &mut [u8]) -> Result<usize, Failed>
         requires { 0 < length buf.old }
         ensures within { IfOk result (λ n. n ≤ length buf.new) }
@@ -50,7 +50,7 @@ pub trait Sink {
     // The bytes written, where the sink says what they are.
     ghost written: { Self → Option (List ℕ) };
 
-    // How often a call failed. It never falls.
+    // How often a call failed, counted up to 2^64 - 1. It never falls.
     ghost faults: { Self → ℕ };
 
     // A failed call brought the sink from the one to the other.
@@ -60,7 +60,7 @@ pub trait Sink {
     ///
     /// # Errors
     ///
-    /// `Failed` only where the count of faults rose. Nothing is appended then.
+    /// `Failed` only where the count of faults rose or was at its last value. Nothing is appended then.
     fn write(&mut self, piece: &[u8]) -> Result<usize, Failed>
         requires { 0 < length piece.now }
         ensures some { IfOk result (λ n. 0 < n) }

@@ -9,7 +9,7 @@ use std::alloc::Global;
 use std::marker::Model;
 use wdf_base::Memory;
 
-/// A sink that keeps at most `room` bytes in memory and fails at the calls that it is told.
+/// A sink that keeps at most `room` bytes in memory and fails at the calls whose numbers it is given.
 #[derive(Drop)]
 pub struct MemSink {
     bytes: Vec<u8>,
@@ -30,7 +30,8 @@ impl Model for MemSink {
 
 impl MemSink {
     /// An empty sink that can hold `room` bytes, for which it takes all its memory now. Exactly the
-    /// calls whose numbers, from 1, are in `fail_at` fail, and those at which no room is left.
+    /// calls whose numbers, from 1, are in `fail_at` fail, and those at which no room is left. [`Memory`] where that
+    /// memory was refused.
     pub fn new(alloc: Global, room: usize, fail_at: Vec<u64>) -> Result<MemSink, Memory>
         ensures { IfOk result (λ sink. sink ≡ record { written = []; room = room; calls = record { fail_at = fail_at.items; made = 0; faults = 0 } }) }
     {

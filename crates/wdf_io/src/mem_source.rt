@@ -8,7 +8,7 @@ use super::{Failed, Source};
 use std::marker::Model;
 
 /// A source over bytes in memory that gives at most `piece` bytes in a call and fails at the calls
-/// that it is told.
+/// whose numbers it is given.
 #[derive(Drop)]
 pub struct MemSource {
     bytes: Vec<u8>,

@@ -13,13 +13,14 @@ pub record KeepsAt (plan : Plan) (run : List Event) (k : ℕ) (e : Event) : Type
   pub scoped : law_2 plan run (frames_after (take k run)) e ≡ true
   -- after the cleanup of an object nothing begins on it or below it but its destroy callback
   pub cleaned : law_3 plan run (take k run) e ≡ true
-  -- an interrupt's callbacks begin only while it may be served, and alone
+  -- an interrupt is enabled only on an entered device, and its other callbacks begin only after that; those with its lock
+  -- begin alone
   pub served : law_4 plan (take k run) (frames_after (take k run)) e ≡ true
   -- a power-managed queue works only while its device has power
   pub powered : law_5 plan (take k run) e ≡ true
   -- a device loses power only after each request that is held was acknowledged
   pub acknowledged : law_6 plan (take k run) e ≡ true
-  -- a cancel callback comes once, for a request that was cancelled while marked
+  -- a cancel callback comes once, for a request that is marked and whose cancel was posted
   pub cancelled : law_7 (take k run) e ≡ true
   -- a queue presents from its head
   pub in_turn : law_8 (take k run) e ≡ true

@@ -121,7 +121,7 @@ abbrev pub arrived : Event → Option ℕ
 arrived (event.Posted agent p answer) = where_so (is_there (brought_to p)) (id_in answer)
 arrived _ = None
 
--- the device for which a request arrives
+-- the device to which a read, a write or a control is posted, whatever the answer
 abbrev pub arrived_at : Event → Option ℕ
 arrived_at (event.Posted agent p answer) = brought_to p
 arrived_at _ = None

@@ -25,7 +25,7 @@ tells_of plan o e = is_told o (told plan e)
 abbrev pub first_told : Plan → List Event → ℕ → Option Told
 first_told plan all o = option_and_then (told plan) (find (tells_of plan o) all)
 
--- the parent of a declared object, 0 for none: the driver's of a device, the device's of the rest
+-- the parent of a declared object, 0 for none: of a device the driver object, of the rest their device
 abbrev pub declared_parent : Declared → ℕ
 declared_parent declared.Driver = 0
 declared_parent (declared.Device d) = 1

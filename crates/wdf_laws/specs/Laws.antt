@@ -85,7 +85,7 @@ is_enabled_in_power plan before i d =
     stands (sign.Enabled i) (sign.ExitBegins d) before
     && (not (declares plan callback.EvtDeviceD0Entry d) || stood_at (sign.Enabled i) (sign.Entered d) (sign.NotEntered d) before)
 
--- no callback of the interrupt with its lock has begun and not ended
+-- the callbacks that run under their interrupt's lock
 abbrev pub takes_interrupt_lock : Callback → Bool
 takes_interrupt_lock callback.EvtInterruptIsr = true
 takes_interrupt_lock callback.EvtInterruptEnable = true

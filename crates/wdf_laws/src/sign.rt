@@ -1,7 +1,7 @@
 //! The plain types of the laws' words.
 use wdf_base::Callback;
 
-/// What an event is looked for as. Requests, interrupts, devices and objects are told by their ids.
+/// What is looked for in events. Requests, interrupts, devices and objects are named by their ids.
 #[derive(Clone, Copy, Debug)]
 pub enum Sign {
     /// A request arrives.

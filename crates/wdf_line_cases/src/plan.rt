@@ -87,10 +87,7 @@ fn names(alloc: Global) -> Result<Items<Name, MANY>, Memory> {
     let mut names = Items::new(alloc);
     for name in NAMES {
         if name.len() <= 32 && names.len() < 100 {
-            match names.push(Name::new(name.as_bytes())) {
-                Ok(()) => {}
-                Err(memory) => return Err(memory),
-            }
+            names.push(Name::new(name.as_bytes()))?;
         }
     }
     Ok(names)
@@ -105,10 +102,7 @@ fn items<T: Copy + Drop, const CEILING: u64>(
     let mut items = Items::new(alloc);
     for item in all {
         if items.len() < 99 {
-            match items.push(*item) {
-                Ok(()) => {}
-                Err(memory) => return Err(memory),
-            }
+            items.push(*item)?;
         }
     }
     Ok(items)
@@ -127,10 +121,7 @@ fn agents(alloc: Global, names: &[u32]) -> Result<Items<AgentInfo, FEW>, Memory>
     let mut agents = Items::new(alloc);
     for name in names {
         if agents.len() < 100 {
-            match agents.push(agent(alloc, *name)) {
-                Ok(()) => {}
-                Err(memory) => return Err(memory),
-            }
+            agents.push(agent(alloc, *name))?;
         }
     }
     Ok(agents)

@@ -27,7 +27,7 @@ pub fn scope_of(
 }
 
 /// The lock that a callback takes at its start and gives back at its end; None exactly where there
-/// is none. (KMDF: an interrupt's callbacks take its lock)
+/// is none. (KMDF: an interrupt's callbacks take its lock, but for EvtInterruptDpc)
 pub fn lock_of_callback(
     plan: &Plan,
     callback: Callback,

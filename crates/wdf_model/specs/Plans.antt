@@ -131,12 +131,12 @@ script_on plan c (Some d) = script_of plan c d
 abbrev pub declares : Plan → Callback → ℕ → Bool
 declares plan c id = is_some (script_on plan c (declared_of plan id))
 
--- the handler of a queue for a type of requests: that for the type, else that for all types (KMDF)
 abbrev pub typed_handler : RequestForm → Callback
 typed_handler form.Read = callback.EvtIoRead
 typed_handler form.Write = callback.EvtIoWrite
 typed_handler form.Control = callback.EvtIoDeviceControl
 
+-- the handler of a queue for a type of requests: that for the type, else that for all types (KMDF)
 abbrev pub handler_for : Plan → ℕ → RequestForm → Option Callback
 handler_for plan q f =
     if declares plan (typed_handler f) q then Some (typed_handler f)
@@ -256,13 +256,13 @@ place_in id ids = unwrap_or (position (λ other. other == id) ids) (length ids)
 abbrev pub agent_of_device : Plan → ℕ → ℕ
 agent_of_device plan d = first_device_agent plan + place_in d (devices_of plan)
 
--- the device of an agent, if it is one's
+-- the device with this agent, None where no device has it
 abbrev pub device_of_agent : Plan → ℕ → Option ℕ
 device_of_agent plan a =
     if nat_lt a (first_device_agent plan) then None
     else slice_get (devices_of plan) (a - first_device_agent plan)
 
--- the target of an agent, if it is one's
+-- the target with this agent, None where no target has it
 abbrev pub target_of_agent : Plan → ℕ → Option ℕ
 target_of_agent plan a =
     if nat_lt a (first_device_agent plan + length (devices_of plan)) then None

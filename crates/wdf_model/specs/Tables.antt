@@ -39,11 +39,11 @@ in_order_by key x (y ∷ ys) = if nat_lt (key x) (key y) then x ∷ y ∷ ys els
 abbrev pub in_order : ℕ → List ℕ → List ℕ
 in_order id ids = in_order_by (λ x. x) id ids
 
--- the least number of a list
 abbrev pub lesser : Option ℕ → ℕ → Option ℕ
 lesser None n = Some n
 lesser (Some m) n = if nat_le m n then Some m else Some n
 
+-- the least number of a list
 abbrev pub least : List ℕ → Option ℕ
 least ns = fold lesser None ns
 

@@ -137,11 +137,11 @@ pub enum Deed {
         queue: ObjectId,
         request: ObjectId,
     },
-    /// A request becomes cancelable.
+    /// A request becomes cancelable, unless it is cancelled.
     MarkRequest {
         request: ObjectId,
     },
-    /// A request is no longer cancelable.
+    /// A request is no longer cancelable, if its cancel isn't due or taken.
     UnmarkRequest {
         request: ObjectId,
     },
@@ -172,7 +172,7 @@ pub enum Deed {
     CompleteRequest {
         request: ObjectId,
     },
-    /// A control call of a queue.
+    /// A queue gets a mode, unless its device is closed.
     SetMode {
         queue: ObjectId,
         mode: Mode,
@@ -215,7 +215,7 @@ pub enum Deed {
     Resume {
         request: ObjectId,
     },
-    /// A sequence begins.
+    /// A device gets the steps that an ask gives it in its phase; none where that changes nothing.
     AskDevice {
         device: ObjectId,
         ask: Ask,
@@ -259,7 +259,7 @@ pub enum Deed {
     CancelWork {
         object: ObjectId,
     },
-    /// A timer is due so many ticks from now.
+    /// A timer is due so many ticks from now, at most 1,000,000.
     StartTimer {
         object: ObjectId,
         ticks: u64,

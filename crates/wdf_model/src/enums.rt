@@ -1,6 +1,7 @@
 use wdf_base::Rank;
 
-/// The mode of a queue: what its last control call was.
+/// The mode of a queue: Started at the opening, then as its last control call says. The queues of a closed
+/// device are Purged.
 #[derive(Clone, Copy, Debug, PartialEq, Eq)]
 pub enum Mode {
     Started,
@@ -12,7 +13,7 @@ pub enum Mode {
 /// How far a device has come.
 #[derive(Clone, Copy, Debug, PartialEq, Eq)]
 pub enum Phase {
-    /// It was never started.
+    /// It never was Working, and isn't Removed.
     Off,
     Working,
     Sleeping,
@@ -30,8 +31,8 @@ pub enum Group {
     Unparks { cpu: u8 },
     /// The starts of one rank on a processor.
     Starts { cpu: u8, rank: Rank },
-    /// The starts of one rank on a processor for the requests of a queue or of a target, a place for
-    /// each id.
+    /// The starts of one rank on a processor for requests: of a queue, with a place for each id, or of a
+    /// target, with a place for each request that is sent to it.
     StartsFor { cpu: u8, rank: Rank, object: u32 },
     /// The stages of the devices, a place for each id.
     Stages,

@@ -31,7 +31,7 @@ pub fn each_fault_once()
     ensures none { map fault_in_deal DONE_RIGHT ≡ replicate 16 None }
 {}
 
-/// The lock of each callback under each scope.
+/// The lock of each callback under each scope, on one device with a queue, an interrupt and four classes.
 #[tactic(auto, using(crate::proofs::FactsOfLocks::each_lock))]
 pub fn lock_of_each_callback()
     ensures { (s : Scope) → locks_under s ≡ locks_expected s }

@@ -55,8 +55,11 @@ fn read_text(alloc: Global, text: &[u8]) -> Result<Scene, ParseRefusal>
     }
 }
 
-/// The scene that stands for a text, or the text's first refusal. The time grows with the length of
-/// the text.
+/// The scene that stands for a text.
+///
+/// # Errors
+///
+/// The text's first refusal, where no scene stands for it; [`ParseRefusal::Memory`] where memory was refused.
 pub fn parse(alloc: Global, text: &[u8]) -> Result<Scene, ParseRefusal>
     requires { length text.now ≤ TEXT_LIMIT }
     ensures stands { IfOk result (StandsFor text.now) }

@@ -48,6 +48,10 @@ fn print_scene(alloc: Global, scene: &Scene) -> Result<Vec<u8>, Memory>
 }
 
 /// The canonical text of a scene: one space between two tokens, and no empty line.
+///
+/// # Errors
+///
+/// [`Memory`] where memory was refused.
 pub fn print(alloc: Global, scene: &Scene) -> Result<Vec<u8>, Memory>
     ensures text { IfOk result (λ text. text.items ≡ printing.printed scene.now) }
     ensures canonical { (source : List ℕ) (stands : StandsFor source scene.now) → IfOk result (λ text. text.items ≡ canonical_text scene.now.version stands.ws) }

@@ -99,10 +99,7 @@ fn all_declared(alloc: Global, objects: &[Object]) -> Result<Items<Declared, MAN
     let mut items = Items::new(alloc);
     for object in objects {
         if items.len() < 99 {
-            match items.push(declared(*object)) {
-                Ok(()) => {}
-                Err(error) => return Err(error),
-            }
+            items.push(declared(*object))?;
         }
     }
     Ok(items)
@@ -120,10 +117,7 @@ fn all_classes(alloc: Global, names: &[u32]) -> Result<Items<ClassInfo, FEW>, Me
     let mut items = Items::new(alloc);
     for name in names {
         if items.len() < 99 {
-            match items.push(class(*name)) {
-                Ok(()) => {}
-                Err(error) => return Err(error),
-            }
+            items.push(class(*name))?;
         }
     }
     Ok(items)
@@ -146,10 +140,7 @@ fn all_scripts(
     let mut items = Items::new(alloc);
     for (callback, object) in callbacks {
         if items.len() < 99 {
-            match items.push(script(alloc, *callback, *object)) {
-                Ok(()) => {}
-                Err(error) => return Err(error),
-            }
+            items.push(script(alloc, *callback, *object))?;
         }
     }
     Ok(items)

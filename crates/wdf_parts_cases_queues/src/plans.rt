@@ -44,10 +44,7 @@ fn items<T: Copy + Drop, const CEILING: u64>(
     let mut items = Items::new(alloc);
     for item in all {
         if items.len() < 99 {
-            match items.push(*item) {
-                Ok(()) => {}
-                Err(error) => return Err(error),
-            }
+            items.push(*item)?;
         }
     }
     Ok(items)

@@ -1,4 +1,4 @@
--- What the events say of objects, read once.
+-- What the events say of objects.
 use Rattle.std.specs.Prelude.{if◌then◌else◌, ◌≡◌, ℕ, nat_eq, List, Option, Some, None}
 use Rattle.std.specs.HashMap.{HashMap, get}
 use Rattle.wdf_base.specs.declared.plan.Plan.{Plan}

@@ -50,6 +50,10 @@ impl Frames {
     }
 
     /// One event more.
+    ///
+    /// # Errors
+    ///
+    /// [`Memory`] where memory was refused. Nothing is said of the frames then.
     pub fn step(&mut self, event: &Event) -> Result<(), Memory>
         requires { self.old.number + 1 < 2 ^ 64 }
         ensures { OnOk result (self.new ≡ frames.frames_step self.old event.now) }

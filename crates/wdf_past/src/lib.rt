@@ -1,7 +1,7 @@
 //! What the events of a trace have said so far, for the laws of a trace.
 //!
-//! The events are read once. What the laws' words ask of those before is kept: when each sign came last, and short lists by
-//! device, queue and parent.
+//! Parents, classes and children are read from the whole list first. Then each event is taken in turn. What the laws' words
+//! ask of those before is kept: when each sign came last, and short lists by device, queue and parent.
 #![tactic(auto)]
 
 mod begun;

@@ -67,7 +67,11 @@ fn device_of_interrupt(plan: &Plan, interrupt: Option<u32>) -> Option<u32>
 }
 
 impl<'a> Past<'a> {
-    /// Nothing of a list was read.
+    /// The list before its first event.
+    ///
+    /// # Errors
+    ///
+    /// [`Memory`] where memory was refused.
     pub fn open(alloc: Global, plan: &'a Plan, all: &'a [Event]) -> Result<Past<'a>, Memory>
         ensures { IfOk result (λ opened. opened ≡ record { plan = plan.now; all = all.now; number = 0 }) }
     {
@@ -96,7 +100,7 @@ impl<'a> Past<'a> {
         self.kin.scope_on(callback, o)
     }
 
-    /// An object has no more objects above it than the plan and the events name.
+    /// How many objects at most are looked at from an object upwards: one more than the declared ones and the events.
     pub fn most_above(&self) -> usize
         ensures { result ≡ family.most_above self.now.plan self.now.all }
     {
@@ -252,7 +256,11 @@ impl<'a> Past<'a> {
         }
     }
 
-    /// One event more.
+    /// Takes the next event of the list in.
+    ///
+    /// # Errors
+    ///
+    /// [`Memory`] where memory was refused. What was known is dropped then.
     pub fn step(mut self, alloc: Global) -> Result<Past<'a>, Memory>
         requires { self.number < length self.all }
         ensures { IfOk result (λ next. next ≡ record { plan = self.entry.plan; all = self.entry.all; number = self.entry.number + 1 }) }

@@ -3,6 +3,7 @@
 /// A presentation of a request that had entered a queue.
 #[derive(Clone, Copy, Debug)]
 pub struct Shown {
+    /// The queue that presents it.
     pub queue: u32,
     /// Its last entry was at the head.
     pub at_head: bool,

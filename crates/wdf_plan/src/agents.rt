@@ -172,7 +172,9 @@ impl Part for DevicePosts<'_> {
 /// The sorts of agents that have posts of their own.
 #[derive(Clone, Copy, Debug, PartialEq, Eq)]
 pub enum AgentSort {
+    /// Apps.
     App,
+    /// Devices, with the lines `at` of their blocks.
     Device,
 }
 

@@ -383,6 +383,7 @@ fn told_line(blocks: &[Nest], number: u32, form: &SceneLine) -> u32
     }
 }
 
+/// The statement of a line, if it has one.
 #[tactic(auto, unfolding(crate::specs::Scripts::statement_on))]
 pub fn statement_on(
     names: &Names,
@@ -412,6 +413,7 @@ pub fn statement_on(
     }
 }
 
+/// Whether a line ends the callback, where these blocks are open.
 pub fn ends_callback(blocks: &[Nest], form: &SceneLine) -> bool
     ensures { result ≡ scripts.ends_callback blocks.now form.now }
 {

@@ -1,4 +1,4 @@
-//! The scripts of a plan and the nodes of its expressions.
+//! The scripts of a plan, with their statements.
 ghost use Rattle.std.specs.Prelude.{◌≡◌, ◌++◌, [], ◌+◌, ◌<◌, ◌^◌, ◌-◌, suc, IfOk, IfSome, OnOk, length, drop, take, map};
 ghost use Rattle.std.specs.List.{flat_map};
 ghost use Rattle.std.specs.Option.{option_to_list};

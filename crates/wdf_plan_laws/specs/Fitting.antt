@@ -22,7 +22,7 @@ HasFitLevel _ = Unit {0}
 abbrev pub IsOrderFit : Scene → Declaration → Type 0
 IsOrderFit scene d = d.order + 2 ≤ length scene.lines
 
--- the lines of a scene are fewer than 2 ^ 32, as their type says
+-- the numbers of a scene's plan are within the limits, or at most the number of its lines (below 2 ^ 32, as their type says)
 pub record NumbersFit (scene : Scene) : Type 0 where
   pub cpus : header_of (form_at scene 0) ≤ 8
   pub limit : header_of (form_at scene 1) ≤ 200000

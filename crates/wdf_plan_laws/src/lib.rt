@@ -45,8 +45,8 @@ pub fn devices_are_those_of_the_blocks()
 {}
 
 /// Each device and each queue of the plan has the scope and the level that its block gives it, else its device's, else
-/// the `driver` block's, else none and DISPATCH_LEVEL. A queue takes the types of requests that its block says, has
-/// power but where its block says `power off`, and takes lengths of 0 where it says so. A dpc, timer or workitem class is
+/// the `driver` block's, else none and DISPATCH_LEVEL. A queue takes the types of requests that its block says, is
+/// power-managed but where its block says `power off`, and takes lengths of 0 where it says so. A dpc, timer or workitem class is
 /// serialized where its block says so.
 pub fn attributes_are_those_of_the_blocks()
     ensures objects { (scene : Scene) → Paired (AreObjectsGiven scene) (placed_that is_object scene) (drop 1 (plan_of scene).declared) }

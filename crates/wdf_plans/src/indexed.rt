@@ -33,7 +33,11 @@ impl Model for IndexedPlan {
 }
 
 impl IndexedPlan {
-    /// The plan with its tables. On [`Memory`] the plan is dropped.
+    /// The plan with its tables.
+    ///
+    /// # Errors
+    ///
+    /// [`Memory`] where memory for the tables was refused. The plan is dropped then.
     pub fn make(alloc: Global, plan: Plan) -> Result<IndexedPlan, Memory>
         ensures { IfOk result (λ made. made ≡ plan) }
     {

@@ -9,7 +9,9 @@ use wdf_base::{Declared, Memory, ObjectId, Plan};
 /// What has an agent of its own, besides the Plug and Play manager and the apps.
 #[derive(Clone, Copy, Debug, PartialEq, Eq)]
 pub enum Owner {
+    /// A device.
     Device,
+    /// A target.
     Target,
 }
 
@@ -24,6 +26,10 @@ fn is_of(owner: Owner, object: &Declared) -> bool
 }
 
 /// The ids of the declared objects of this sort.
+///
+/// # Errors
+///
+/// [`Memory`] where memory was refused.
 pub fn ids_of(alloc: Global, plan: &Plan, owner: Owner) -> Result<Vec<u32>, Memory>
     ensures ids { IfOk result (λ ids. ids.items ≡ owners.ids_of owner plan.now) }
     ensures names { IfOk result (λ ids. length ids.items ≡ length (owners.names_of owner plan.now)) }

@@ -7,7 +7,7 @@ use std::marker::Model;
 use wdf_base::Memory;
 
 /// A list of numbers, made once, with chains by which the places of a number are found in their order.
-/// Those of a number that is below the count of heads are found without a look at any other's.
+/// Where each number is below the count of heads, those of one are found without a look at any other's.
 ///
 /// (`wdf_ilist::Links` has at most 2^31 items, and keeps an owner and two neighbours of each, where one serves.)
 ///

@@ -36,7 +36,7 @@ impl Pnp {
         Ok(Pnp { devices })
     }
 
-    /// How many ids of devices there are, from 0.
+    /// How many entries the table of devices has. It has one for the id 0 and for each declared object.
     pub fn device_len(&self) -> usize
         ensures { result ≡ length self.now.devices }
     {
@@ -127,8 +127,9 @@ impl Pnp {
         device.take();
     }
 
-    /// The callback of a step of a device ends with a value. A refused query leaves no step, and a
-    /// failed start ends the device. (own)
+    /// The callback of a step of a device ends with a value. Where a query fails, no step is left. Where
+    /// EvtDevicePrepareHardware or EvtDeviceD0Entry fails, the steps of the device's end are left. Other
+    /// results change nothing. (own)
     pub fn ended(&mut self, d: ObjectId, step: Step, value: Value)
         requires there { d.0 < length self.old.devices }
         ensures done { self.new ≡ pnp.ended self.old d.0 step value }

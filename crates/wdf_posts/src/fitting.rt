@@ -52,7 +52,7 @@ fn may_finish<A: Agent>(
 }
 
 /// Whether the form of a post fits its agent, and its names are the plan's. (own)
-/// - Any agent posts requests, while fewer than `ARRIVALS` have arrived.
+/// - Any agent posts requests, while fewer than 4,096 have arrived.
 /// - Any agent posts cancels of its own.
 /// - The Plug and Play manager asks while the device has no step left and no callback of a step runs.
 /// - A device acts on what is its own.

@@ -72,7 +72,7 @@ impl Power {
         })
     }
 
-    /// How many ids of devices there are, from 0.
+    /// How many entries the table of devices has. It has one for the id 0 and for each declared object.
     pub fn device_len(&self) -> usize
         ensures { result ≡ length self.now.devices }
     {

@@ -74,7 +74,8 @@ impl Control {
         seen(&self.closed, entry_at(&self.kept, NO_CONTROL, q.0))
     }
 
-    /// The mode of a queue: what its last control call was. (KMDF)
+    /// The mode of a queue: Started at the opening, then as its last control call says. It is Purged where
+    /// its device is closed, and for what is no queue. (KMDF)
     pub fn mode_of(&self, q: ObjectId) -> Mode
         ensures { result ≡ control.mode_of self.now q.0 }
     {

@@ -110,10 +110,7 @@ fn push_processors(made: &mut Vec<Group>, plan: &IndexedPlan) -> Result<(), Memo
     ensures { OnOk result (made.new.items ≡ made.old.items ++ flat_map (groups.groups_of_cpu plan.now) (range_with_len 0 plan.now.cpus)) }
 {
     for cpu in 0..plan.plan().cpus() {
-        match push_processor(made, plan, cpu) {
-            Ok(()) => {}
-            Err(error) => return Err(error),
-        }
+        push_processor(made, plan, cpu)?;
     }
     Ok(())
 }
@@ -134,10 +131,7 @@ fn push_ranks(made: &mut Vec<Group>, plan: &IndexedPlan, cpu: u8) -> Result<(), 
     ensures { OnOk result (made.new.items ≡ made.old.items ++ flat_map (groups.groups_of_rank plan.now cpu) groups.RANKS) }
 {
     for rank in &RANKS {
-        match push_rank(made, plan, cpu, *rank) {
-            Ok(()) => {}
-            Err(error) => return Err(error),
-        }
+        push_rank(made, plan, cpu, *rank)?;
     }
     Ok(())
 }

@@ -1,4 +1,5 @@
-//! Laws over all runs of the machine: nothing is ready twice.
+//! Laws over all runs of the machine: nothing is ready twice, what is queued is queued once, a device's next step is one of
+//! its own, and the events are counted and limited.
 #![tactic(auto)]
 
 ghost use Rattle.std.specs.Prelude.{◌≡◌, ◌≤◌, ℕ, List, Some, length, slice_get, take};

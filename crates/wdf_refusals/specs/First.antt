@@ -13,7 +13,7 @@ use Rattle.wdf_blocks.specs.Placed.{placed}
 use Rattle.wdf_refusals.specs.Rows.{unknown_name, twice_named, wrong_callback, incompatible_level, no_parent}
 use Rattle.wdf_blocks.specs.Variables.{variables_at}
 
--- the first refusal of those whose test holds
+-- a refusal, if its test holds
 abbrev pub if_holds : Bool → PlanRefusal → Option PlanRefusal
 if_holds holds r = cond holds (Some r) None
 

@@ -1,4 +1,4 @@
--- The limits of a scenario, in the order in which they are told.
+-- The limits of a scenario. A line past several is refused for the first in the order of `Limit`.
 use Rattle.std.specs.Prelude.{Bool, false, not, ℕ, ◌+◌, ◌&&◌, ◌||◌, nat_lt, nat_le, List, Option, Some, None, find, codes}
 use Rattle.wdf_base.specs.Resolved.{is_from, is_ticks}
 use Rattle.wdf_base.specs.declared.declared.DispatchKind.TheVariants as dispatch

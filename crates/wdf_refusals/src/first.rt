@@ -65,6 +65,10 @@ fn add_declared(names: &mut Names, found: Option<Declaration>) -> Result<(), Mem
 }
 
 /// The declarations of a scene.
+///
+/// # Errors
+///
+/// [`Memory`] where memory was refused.
 pub fn declared(alloc: Global, scene: &Scene) -> Result<Names, Memory>
     requires { IsScene scene.now }
     ensures { IfOk result (λ n. n ≡ declarations scene.now) }
@@ -79,6 +83,10 @@ pub fn declared(alloc: Global, scene: &Scene) -> Result<Names, Memory>
 }
 
 /// The refusal of the first line that has one.
+///
+/// # Errors
+///
+/// [`Memory`] where memory was refused.
 pub fn first_refusal(
     alloc: Global,
     heritage: &Heritage,

@@ -14,14 +14,18 @@ use wdf_scene::{Scene, SceneLine};
 /// What the lines of a block give it; None where it inherits.
 #[derive(Clone, Copy, Debug, PartialEq, Eq, Drop)]
 pub struct Given {
+    /// The level, if a line `level` gives one.
     pub level: Option<ExecutionLevel>,
+    /// The scope, if a line `scope` gives one.
     pub scope: Option<Scope>,
 }
 
 /// The level and the scope that count for a device or a queue.
 #[derive(Clone, Copy, Debug, PartialEq, Eq, Drop)]
 pub struct Effective {
+    /// The level.
     pub level: ExecutionLevel,
+    /// The scope.
     pub scope: Scope,
 }
 
@@ -106,6 +110,10 @@ fn item(items: &[Option<Given>], at: usize) -> Option<Option<Given>>
 
 impl<'a> Heritage<'a> {
     /// The heritage of a scene.
+    ///
+    /// # Errors
+    ///
+    /// [`Memory`] where memory was refused.
     pub fn new(alloc: Global, scene: &'a Scene) -> Result<Heritage<'a>, Memory>
         ensures { IfOk result (λ h. h ≡ scene.now) }
     {

@@ -77,6 +77,10 @@ pub fn action_of(names: &Names, device: Option<u32>, action: &SceneAction) -> Ac
 }
 
 /// Adds an item at the end, if there is one.
+///
+/// # Errors
+///
+/// [`Memory`] where memory was refused. Nothing is said of the list then.
 pub fn add_found<T: Drop, const CEILING: u64>(
     items: &mut Items<T, CEILING>,
     found: Option<T>,

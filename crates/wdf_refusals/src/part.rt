@@ -29,6 +29,10 @@ pub trait Part {
 }
 
 /// Adds to a list what a part has of each line, in the order of the text.
+///
+/// # Errors
+///
+/// [`Memory`] where memory was refused. Nothing is said of the list then.
 pub fn gather_after<P: Part, const CEILING: u64>(
     scene: &Scene,
     part: &P,
@@ -46,7 +50,11 @@ pub fn gather_after<P: Part, const CEILING: u64>(
     Ok(())
 }
 
-/// The list: what it has of each line, in the order of the text.
+/// The list of what a part has of each line, in the order of the text.
+///
+/// # Errors
+///
+/// [`Memory`] where memory was refused.
 pub fn gather<P: Part, const CEILING: u64>(
     alloc: Global,
     scene: &Scene,

@@ -8,11 +8,12 @@ pub enum PlanRefusal {
     /// A name stands for nothing there.
     #[error("line {line}: unknown name")]
     UnknownName { line: u32 },
-    /// A name or an attribute was given before: `first` is the number of the first line that gives it, or
-    /// 0 where it is a word of the language.
+    /// A name or an attribute was given before, or a variable has the name of something declared, also further down.
+    /// `first` is the number of the first line that gives it, or 0 where it is a word of the language.
     #[error("line {line}: given before in line {first}")]
     TwiceNamed { line: u32, first: u32 },
-    /// A callback or an attribute isn't of its block, or a block lacks the callback that it needs.
+    /// A callback or an attribute isn't of its block, a block lacks the callback that it needs, or an interrupt is in a
+    /// working device.
     #[error("line {line}: wrong callback")]
     WrongCallback { line: u32 },
     /// A number is out of its bounds, or the line makes one too many: `limit` is the first such bound.

@@ -3,11 +3,11 @@ use wdf_base::Ending;
 /// Why a line of a trace is refused.
 #[derive(Clone, Copy, Debug, PartialEq, Eq)]
 pub enum Why {
-    /// The line is the text of no event, of no ending and of no line of a wait list.
+    /// No line feed ends the line, or it is the text of no event, of no ending and of no line of a wait list.
     NotALine,
     /// The line is that of an event that may not follow, or that has another number or another answer.
     NotReady,
-    /// The line is that of an ending or of a wait list, and isn't the run's.
+    /// The line is that of an ending or of a wait list, and isn't the next line of the run's text.
     WrongEnding,
     /// The trace stops before the last line of the run's text.
     Missing,

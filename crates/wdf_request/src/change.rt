@@ -23,8 +23,7 @@ pub(crate) const NO_REQUEST: Request = Request {
     },
 };
 
-/// The mark of a request that comes to a place: none again where it enters a queue, leaves one or
-/// is sent. (KMDF)
+/// The mark of a request that comes to a place: none again, but where it becomes Owned or Done. (KMDF)
 fn mark_at(place: Place, mark: Mark) -> Mark
     ensures { result ≡ requests.mark_at place mark }
 {

@@ -214,7 +214,8 @@ impl Requests {
         self.closing.len()
     }
 
-    /// The request that the framework will complete with as many of them before it, by id.
+    /// The k-th request that the framework will complete, by rising id from 0; `None` exactly where there
+    /// are fewer.
     pub fn closing_at(&self, k: u32) -> Option<ObjectId>
         ensures { option_map (λ r. r.0) result ≡ slice_get (closing_requests self.now) k }
     {
@@ -273,8 +274,8 @@ impl Requests {
         }
     }
 
-    /// A request comes to another place. Its mark is none again where it enters a queue, leaves one
-    /// or is sent; where it becomes Owned from a queue, that is its origin. (KMDF)
+    /// A request comes to another place. Its mark is none again, but where it becomes Owned or Done. Where
+    /// it becomes Owned from a queue, that is its origin. (KMDF)
     pub fn move_to(&mut self, r: ObjectId, place: Place)
         requires there { r.0 < length self.old.all }
         ensures done { self.new ≡ requests.move_to self.old r.0 place }

@@ -8,7 +8,7 @@ ghost use Rattle.wdf_base.specs.declared.event.Event.{Event};
 ghost use Rattle.wdf_model.specs.rules.Ready.{IsRunOf};
 ghost use Rattle.wdf_laws.specs.Laws.{law_7, law_8};
 
-/// In every run, EvtRequestCancel begins once for a request, and only for one that was cancelled while it was marked.
+/// In every run, EvtRequestCancel begins once for a request, and only for one that is marked and whose cancel was posted.
 pub fn runs_cancel_once<A>()
     ensures { (plan : Plan) (m : Meaning A) (run : List Event) (k : ℕ) (e : Event) → IsRunOf plan m run
         → slice_get run k ≡ Some e → law_7 (take k run) e ≡ true }

@@ -1,4 +1,4 @@
-//! The room that a run takes: what each deed asks of the state is there at each place of every run.
+//! The room that a run takes: what each deed asks of the state is there at each place of every run of a resolved plan.
 #![tactic(auto)]
 
 ghost use Rattle.std.specs.Prelude.{◌≡◌, ℕ, List, Some, slice_get, take};

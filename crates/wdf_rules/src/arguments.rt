@@ -24,7 +24,7 @@ fn is_object_sort(sort: Sort) -> bool
     matches!(sort, Sort::AnyObject | Sort::ObjectOf(_) | Sort::AnyRequest)
 }
 
-/// Whether an argument is an object that no call may name, or that this call may not.
+/// Whether the sort asks for an object, and the argument is gone, or cleaned up where `cleaned_too` is false.
 pub fn is_stale<V: View>(view: &V, cleaned_too: bool, sort: Sort, argument: Arg) -> bool
     ensures { result ≡ faults.is_stale (V.seen view.now) cleaned_too sort argument }
 {
@@ -56,7 +56,7 @@ fn has_sort(kind: Kind, sort: Sort) -> bool
     }
 }
 
-/// Whether an argument isn't an object of the needed kind.
+/// Whether the sort asks for an object, and the argument is none of the needed kind.
 pub fn is_wrong_kind<V: View>(view: &V, sort: Sort, argument: Arg) -> bool
     ensures { result ≡ faults.is_wrong_kind (V.seen view.now) sort argument }
 {
@@ -103,7 +103,7 @@ pub fn any_wrong_kind<V: View>(view: &V, call: &Call) -> bool
         || is_wrong_kind(view, row.c, call.c)
 }
 
-/// Whether some number or status argument of a call is none, or too great.
+/// Whether some status or number argument of a call has the wrong kind of value, or is too great.
 pub fn any_script_error(call: &Call) -> bool
     ensures { result ≡ faults.any_argument faults.is_script_error call.now }
 {

@@ -113,7 +113,7 @@ fn is_owned(place: Place) -> bool
     matches!(place, Place::Owned)
 }
 
-/// Whether a mark is set and its cancel isn't due.
+/// Whether a request with this mark is cancelable: its cancel is neither due nor taken.
 pub fn is_marked(mark: Mark) -> bool
     ensures { result ≡ requests.is_marked mark }
 {

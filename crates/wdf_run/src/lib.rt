@@ -23,7 +23,7 @@ pub fn run_order<A: Agent>(core: &mut Core<A>, picks: &[u64])
 }
 
 /// Goes on from the journal by the words of `SplitMix64::seed_from_u64(seed)`, first to last, until no
-/// event may follow. A run has no more events than its limit, so it asks for no more words. It takes no
+/// event may follow. A run has no more events than its limit, so no later word picks one. It takes no
 /// memory.
 pub fn run_seed<A: Agent>(core: &mut Core<A>, seed: u64)
     ensures plan { core.new.plan ≡ core.old.plan }

@@ -9,7 +9,7 @@ use Rattle.wdf_model.specs.rules.Ready.{ending_of}
 use Rattle.wdf_model.specs.rules.Waits.{wait_list}
 use Rattle.wdf_lines.specs.Endings.{ending_text, wait_lines}
 
--- the status of a run that ended so; a run that goes on has none
+-- the status of a run that ended so; 0, too, for a run that goes on, which has none
 abbrev pub status_of : Ending → ℕ
 status_of ending.Running = 0
 status_of ending.Finished = 0

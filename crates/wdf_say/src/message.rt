@@ -1,4 +1,4 @@
-//! Messages of one line, built without heap.
+//! Short messages, built without heap.
 ghost use Rattle.std.specs.Prelude.{◌≡◌, ◌+◌, ◌≤◌, [], ◌++◌, length, decimal};
 
 use arrayvec::ArrayVec;

@@ -208,7 +208,7 @@ abbrev pub after_lines : Option Position → List SceneLine → Option Position
 after_lines p [] = p
 after_lines p (form ∷ forms) = after_lines (option_and_then (λ q. after_line q form) p) forms
 
--- the lines of a text: each may come where it does, and in the end no block is open
+-- the lines of a text: each may come where it does, the first three are there, and in the end no block is open
 abbrev pub IsWhole : ℕ → List SceneLine → Type 0
 IsWhole version forms = IsSomeAnd (after_lines (Some (front version)) forms) (λ p. IsTrue (is_outside p))
 

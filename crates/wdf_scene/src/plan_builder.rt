@@ -9,7 +9,7 @@ use wdf_base::{
     PostLine, RegisterInfo, Script, Statement, WhenLine,
 };
 
-/// A plan that is being filled. A call that answers [`Memory`] leaves it as it was.
+/// A plan that is being filled. A call answers [`Memory`] where memory was refused, and leaves the plan as it was.
 #[derive(Debug, Drop)]
 pub struct PlanBuilder {
     alloc: Global,
@@ -47,7 +47,7 @@ impl PlanBuilder {
         PlanBuilder { alloc, plan }
     }
 
-    /// Adds a name and answers its number. `driver` and `req` come first.
+    /// Adds a name and answers its number. The caller adds `driver` and `req` first.
     pub fn name(&mut self, n: Name) -> Result<u32, Memory>
         requires { length self.old.names + 1 < 2 ^ 32 }
         ensures number { IfOk result (λ k. k ≡ length self.old.names) }

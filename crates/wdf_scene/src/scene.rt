@@ -9,6 +9,7 @@ use wdf_base::{Items, MANY};
 pub struct Scene {
     /// The version of the text: 1, or 2 where it begins with `version 2`.
     pub version: u8,
+    /// The lines, in the order of the text.
     pub lines: Items<NumberedLine, MANY>,
     /// The nodes of all expressions, in the order of the text.
     pub exprs: Items<SceneExpr, MANY>,

@@ -7,7 +7,7 @@ use std::alloc::Global;
 use std::marker::Model;
 use wdf_base::{Items, Memory};
 
-/// A scene that is being filled. A call that answers [`Memory`] leaves it as it was.
+/// A scene that is being filled. A call answers [`Memory`] where memory was refused, and leaves the scene as it was.
 #[derive(Debug, Drop)]
 pub struct SceneBuilder {
     alloc: Global,

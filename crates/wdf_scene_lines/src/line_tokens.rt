@@ -131,6 +131,10 @@ fn add_picks(tokens: &mut Vec<Token>, picks: &[u64]) -> Result<(), Memory>
 }
 
 /// Adds the tokens of a line of the scene.
+///
+/// # Errors
+///
+/// [`Memory`] where memory was refused. Nothing is said of `tokens` then.
 pub fn add_line(
     tokens: &mut Vec<Token>,
     scene: &Scene,

@@ -35,7 +35,8 @@ fn variable_value(frame: &Frame, variable: u8) -> Value
     value.copied().unwrap_or(Value::Num(0))
 }
 
-/// The value of expression `e` in a frame: none where a divisor is 0 or a value has the wrong kind.
+/// The value of expression `e` in a frame. It is none where a divisor is 0 or a value has the wrong kind.
+/// It is also none where a node isn't there, or an operand doesn't come before its operator.
 pub fn value_of(plan: &Plan, frame: &Frame, e: u32) -> Option<Value>
     ensures { result ≡ script.value_of plan.now frame.now e }
 {

@@ -154,8 +154,8 @@ fn end_line(plan: &Plan, frame: &Frame) -> u32
     }
 }
 
-/// The line that is told of a step or a fault of a frame: that of the statement at which it is, and
-/// at the callback's end that of its `on`.
+/// The line that a step or a fault of a frame names: that of the statement at which it is, and at the
+/// callback's end that of its `on`.
 pub fn line_of(plan: &Plan, frame: &Frame) -> u32
     ensures { result ≡ script.line_of plan.now frame.now }
 {

@@ -93,10 +93,7 @@ pub fn add<T: Drop>(list: &mut Items<T, MANY>, item: T) -> Result<(), Memory> {
 pub fn nodes_of(alloc: Global, all: &[ExprNode]) -> Result<Items<ExprNode, MANY>, Memory> {
     let mut nodes = Items::new(alloc);
     for node in all {
-        match add(&mut nodes, *node) {
-            Ok(()) => {}
-            Err(error) => return Err(error),
-        }
+        add(&mut nodes, *node)?;
     }
     Ok(nodes)
 }

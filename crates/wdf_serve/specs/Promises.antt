@@ -52,10 +52,10 @@ pub record Promises (words : List (List ℕ)) (s : Sourcing) (k : Sinking) (answ
   -- 2 comes exactly where the words are neither `run` nor one of the other forms, unless the sink fails.
   pub usage_only : answer ≡ 2 → (is_run words ≡ false) × (form_of_words words ≡ None)
   pub usage_always : is_run words ≡ false → form_of_words words ≡ None → (answer ≡ 2) ⊎ (answer ≡ 13)
-  -- 10 comes exactly where no scene stands for the scenario.
+  -- 10 comes only where no scene stands for the scenario. There a given input is answered 10, 13 or 15.
   pub no_scene_only : answer ≡ 10 → (input : List ℕ) × TakesAll s.before s.after input × HasNoScene (scenario_for words input)
   pub no_scene_always : IsTrue (reads_input words) → (input : List ℕ) → IsGiven s input → HasNoScene (scenario_for words input) → Unhindered 10 answer
-  -- 11 comes exactly where a scene stands for the scenario and has no plan.
+  -- 11 comes only where a scene stands for the scenario and has no plan. There a given input is answered 11, 13 or 15.
   pub no_plan_only : answer ≡ 11 → (input : List ℕ) × (refusal : PlanRefusal) × TakesAll s.before s.after input × HasNoPlan (scenario_for words input) refusal
   pub no_plan_always : IsTrue (reads_input words) → (input : List ℕ) → IsGiven s input
       → (refusal : PlanRefusal) → HasNoPlan (scenario_for words input) refusal → Unhindered 11 answer
@@ -67,12 +67,13 @@ pub record Promises (words : List (List ℕ)) (s : Sourcing) (k : Sinking) (answ
   pub failed_write : k.faults_before < k.faults_after → (answer ≡ 13) × ((text : List ℕ) × (status : ℕ) × IsDueFor words s text status × IsCutShort k text)
   pub no_failed_write : Stayed k.faults_before k.faults_after → (answer ≢ 13) × ((text : List ℕ) × IsDueFor words s text answer × Gains k.before k.after text)
   pub whole_text : answer ≢ 13 → (k.faults_after ≡ k.faults_before) × ((text : List ℕ) × IsDueFor words s text answer × Gains k.before k.after text)
-  -- 14 comes exactly where the byte past the limit was read.
+  -- 14 comes only where the byte past the limit was read. There, for a source that says what it has left, the answer is 14
+  -- or 13.
   pub too_large_only : answer ≡ 14 → TakesCount s.before s.after 1048577
   pub too_large_always : (input : List ℕ) → s.before ≡ Some input → TakesCount s.before s.after 1048577 → (answer ≡ 14) ⊎ (answer ≡ 13)
   pub large_input : IsTrue (reads_input words) → (input : List ℕ) → s.before ≡ Some input → 1048576 < length input
       → Stayed s.faults_before s.faults_after → Unhindered 14 answer
-  -- Out of memory is told before a byte of a trace is written.
+  -- With 15, the line `out of memory` is all that is written.
   pub memory_first : answer ≡ 15 → Gains k.before k.after no_memory_line
   -- No other status comes.
   pub listed : IsTrue (is_status answer)

@@ -26,8 +26,8 @@ abbrev pub LacksMemory : Arguments → Type 0
 LacksMemory (Ok arguments) = ⊥
 LacksMemory (Err error) = error_kind error ≡ OutOfMemory
 
--- What the program does for its arguments: it keeps what the top call promises for the words after its name; or memory
--- for the words is refused, nothing is read, and that is told.
+-- What the program does for its arguments: it keeps what the top call promises for the words after its name. Or memory
+-- for the words is refused: then nothing is read, and the line `out of memory` is due with 15.
 abbrev pub Serves : Arguments → Sourcing → Sinking → ℕ → Type 0
 Serves arguments s k answer =
     Promises (words_after_name arguments) s k answer

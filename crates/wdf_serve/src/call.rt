@@ -18,7 +18,7 @@ use wdf_turn::Gate;
 ///
 /// `run` reads a scenario from the source and runs it on the machine whose processors are threads. There is a worker
 /// for each processor, one for the framework and the clock, and one for all agents. Each of them passes the gate
-/// before each of its turns. `run` writes the trace of the run that they made, which is another one each time. For
+/// before each of its turns. `run` writes the trace of the run that they made, which may be another one each time. For
 /// every other list of words this is [`top_plain`]. The statuses are those of [`top_plain`]: `run` answers as
 /// `order` does.
 ///

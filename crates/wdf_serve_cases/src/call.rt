@@ -38,10 +38,7 @@ fn add_word(all: &mut Vec<String>, alloc: Global, word: &str) -> Result<(), Memo
 fn words_of(alloc: Global, words: &str) -> Result<Vec<String>, Memory> {
     let mut all = Vec::new(alloc);
     for word in words.split_whitespace() {
-        match add_word(&mut all, alloc, word) {
-            Ok(()) => {}
-            Err(memory) => return Err(memory),
-        }
+        add_word(&mut all, alloc, word)?;
     }
     Ok(all)
 }

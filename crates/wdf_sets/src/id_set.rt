@@ -121,7 +121,7 @@ impl IdSet {
         below
     }
 
-    /// The member that has as many before it, `None` where there are no more than these.
+    /// The k-th member, by rising id from 0; `None` exactly where there are fewer.
     pub fn at(&self, k: u32) -> Option<u32>
         ensures { result ≡ slice_get (members self.now) k }
     {

@@ -196,7 +196,7 @@ pub fn arrived(event: &Event) -> Option<u32>
     }
 }
 
-/// The device for which a request arrives.
+/// The device to which a read, a write or a control is posted, whatever the answer.
 pub fn arrived_at(event: &Event) -> Option<u32>
     ensures { result ≡ told.arrived_at event.now }
 {

@@ -1,5 +1,5 @@
-//! What one event says to the laws of a trace: the request that it completes, the queue that it fills, the device that it
-//! enters, and so on. Each function is the definition of its name in `wdf_laws`.
+//! What one event says to the laws of a trace: the request that it completes, the presentation that it is, the device that
+//! it enters, and so on. Each function is the definition of its name in `wdf_laws`.
 #![tactic(auto)]
 
 mod events;

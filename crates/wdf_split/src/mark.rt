@@ -83,7 +83,7 @@ fn text_of_line(line: &[u8]) -> &[u8]
     &line[..within_len(line)]
 }
 
-/// Whether a line's only token is `trace`.
+/// Whether a line's only token is `trace`, and each of its bytes is one that a scenario may have.
 pub fn is_mark(line: &[u8]) -> bool
     ensures { result ≡ is_mark line.now }
 {

@@ -14,8 +14,8 @@ pub struct Parts {
     pub trace: usize,
 }
 
-/// Finds the first line of an input whose only token is `trace`. The scenario is the bytes before it and the
-/// trace is the bytes after it. Without such a line all is scenario, and the trace has no bytes. (own)
+/// Finds the first line of an input whose only token is `trace`, with bytes that a scenario may have. The scenario is
+/// the bytes before it and the trace is the bytes after it. Without such a line all is scenario, and the trace has no bytes. (own)
 pub fn split(input: &[u8]) -> Parts
     ensures scenario_within { result.scenario ≤ length input.now }
     ensures trace_within { result.trace ≤ length input.now }

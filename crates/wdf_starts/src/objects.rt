@@ -25,8 +25,9 @@ pub fn is_finished<A: Agent>(parts: &Parts<A>, o: ObjectId) -> bool
         && (!same_kind(kind, Kind::Made) || !is_sent(place))
 }
 
-/// Whether the cleanup of an object may come: its deletion is asked, what is below it is cleaned up, and
-/// nothing uses it. (KMDF)
+/// Whether the cleanup of an object may come. Its deletion is asked, its children are cleaned up, and its
+/// turn among its siblings has come. Nothing uses it, it is no request under way, and no request is sent
+/// to it. (KMDF; own: the younger sibling first)
 pub fn clean_ready<A: Agent>(parts: &Parts<A>, o: ObjectId) -> bool
     ensures { result ≡ starts.clean_ready parts.now o.0 }
 {

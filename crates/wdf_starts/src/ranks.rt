@@ -44,7 +44,7 @@ fn presents<A: Agent>(
         && is_callback(plan.handler_for(q, parts.requests().info(r).form), callback)
 }
 
-/// Whether a callback of a rank starts on an object for a request. A callback that is for none doesn't.
+/// Whether a callback of a rank is due on an object for a request. A callback that is for none isn't.
 pub fn rank_ready_for<A: Agent>(
     plan: &IndexedPlan,
     parts: &Parts<A>,
@@ -68,7 +68,7 @@ pub fn rank_ready_for<A: Agent>(
     }
 }
 
-/// Whether a callback of a rank starts on an object, for no request. A callback that is for one doesn't.
+/// Whether a callback of a rank is due on an object, for no request. A callback that is for one isn't.
 pub fn rank_ready<A: Agent>(
     plan: &IndexedPlan,
     parts: &Parts<A>,
@@ -96,7 +96,7 @@ pub fn rank_ready<A: Agent>(
     }
 }
 
-/// Whether a callback starts on an object by its rank, with a request where it is for one.
+/// Whether a callback is due on an object by its rank, with a request where it is for one.
 pub fn is_ready_for<A: Agent>(
     plan: &IndexedPlan,
     parts: &Parts<A>,

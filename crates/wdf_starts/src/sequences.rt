@@ -29,8 +29,13 @@ pub fn step_ready<A: Agent>(parts: &Parts<A>, d: ObjectId, step: Step) -> bool
         && (!parts.pnp().follows_queues_up(d) || resumes_over(parts, d))
 }
 
-/// Whether what a stage waits for is so: acknowledgements, a free lock, no EvtInterruptDpc, or no
-/// request left. (own)
+/// Whether what a stage waits for is so. (own)
+///
+/// - `settled`: held requests are acknowledged, and no frame is on a power-managed queue of the device.
+/// - `disabled`: the interrupt's lock is free.
+/// - `quiet`: no EvtInterruptDpc of the device is queued or runs.
+/// - `removed`: its arrived requests are done, and nothing is sent to its targets.
+/// - The others wait for nothing.
 pub fn stage_ready<A: Agent>(
     plan: &IndexedPlan,
     parts: &Parts<A>,

@@ -1,4 +1,4 @@
-//! How many events of a run are such.
+//! How many requests arrived in a run, and how many completions it has.
 ghost use Rattle.std.specs.Prelude.{◌≡◌, ◌≤◌, length};
 ghost use Rattle.wdf_summary.specs.Counts.{arrivals, completions};
 

@@ -48,6 +48,10 @@ fn push_rest(out: &mut Vec<u8>, tokens: &[Token]) -> Result<(), Memory>
 }
 
 /// Adds a line with these tokens: one space between two, and a line feed.
+///
+/// # Errors
+///
+/// [`Memory`] where memory was refused. Nothing is said of `out` then.
 pub fn push_line(out: &mut Vec<u8>, tokens: &[Token]) -> Result<(), Memory>
     ensures { OnOk result (out.new.items ≡ out.old.items ++ texts.line_text tokens.now) }
 {

@@ -59,7 +59,7 @@ picks_for (Some (Load n)) = None
 abbrev pub is_status : ℕ → Bool
 is_status n = n == 0 || n == 2 || n == 3 || n == 4 || n == 5 || n == 6 || n == 10 || n == 11 || n == 12 || n == 13 || n == 14 || n == 15
 
--- a count that didn't rise in a call
+-- a count that didn't rise in a call, and wasn't at its last value before it
 abbrev pub Stayed : ℕ → ℕ → Type 0
 Stayed before after = Rose before after → ⊥
 
@@ -98,7 +98,8 @@ WroteFor form s k e =
     ((picks : Picks) × (picks_for form ≡ Some picks) × WroteRun picks s k e)
     ⊎ ((n : ℕ) × (form ≡ Some (Load n)) × WroteSummary n k e)
 
--- the whole input was read, a plan stands for its scenario, and its trace is the text of a run that ended so
+-- the whole input was read, a plan stands for its scenario, its trace is the text of a run that has ended, and the line
+-- that says so was written
 pub record WroteAccepted (s : Sourcing) (k : Sinking) : Type 0 where
   pub input : List ℕ
   pub whole : TakesAll s.before s.after input
@@ -108,7 +109,8 @@ pub record WroteAccepted (s : Sourcing) (k : Sinking) : Type 0 where
   pub accepted : verdict.IsAccepted plan agent_meaning (trace_in input) ending
   pub written : Gains k.before k.after (accepted_line (length accepted.run) ending)
 
--- the whole input was read, a plan stands for its scenario, and this line of its trace is the first bad one, for this reason
+-- the whole input was read, a plan stands for its scenario, this line of its trace is the first bad one, for this reason,
+-- and the line that says so was written
 pub record WroteRefused (s : Sourcing) (k : Sinking) : Type 0 where
   pub input : List ℕ
   pub whole : TakesAll s.before s.after input

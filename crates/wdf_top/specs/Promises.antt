@@ -65,17 +65,18 @@ pub record PlainPromises (form : Option Form) (s : Sourcing) (k : Sinking) (answ
   -- 2 comes exactly where the words are no form, unless the sink fails.
   pub usage_only : answer ≡ 2 → form ≡ None
   pub usage_always : form ≡ None → (answer ≡ 2) ⊎ (answer ≡ 13)
-  -- 10 comes exactly where no scene stands for the scenario: for `replay` the bytes before the first line `trace`, else the
-  -- input.
+  -- 10 comes only where no scene stands for the scenario: for `replay` the bytes before the first line `trace`, else the
+  -- input. There a given input (`IsGiven`) is answered 10, 13 or 15.
   pub no_scene_only : answer ≡ 10 → (input : List ℕ) × TakesAll s.before s.after input × HasNoScene (scenario_by (service_of form) input)
   pub no_scene_always : IsTrue (is_reading form) → (input : List ℕ) → IsGiven s input
       → HasNoScene (scenario_by (service_of form) input) → Unhindered 10 answer
-  -- 11 comes exactly where a scene stands for the scenario and has no plan.
+  -- 11 comes only where a scene stands for the scenario and has no plan. There a given input is answered 11, 13 or 15.
   pub no_plan_only : answer ≡ 11 → (input : List ℕ) × (refusal : PlanRefusal) × TakesAll s.before s.after input
       × HasNoPlan (scenario_by (service_of form) input) refusal
   pub no_plan_always : IsTrue (is_reading form) → (input : List ℕ) → IsGiven s input
       → (refusal : PlanRefusal) → HasNoPlan (scenario_by (service_of form) input) refusal → Unhindered 11 answer
-  -- 6 comes exactly where a line of the trace is bad, and gives the first such line with its reason.
+  -- 6 comes only where a line of the trace is bad, and gives the first such line with its reason. There a given input is
+  -- answered 6, 13 or 15.
   pub bad_line_only : answer ≡ 6 → (form ≡ Some Replay) × WroteRefused s k
   pub bad_line_always : form ≡ Some Replay → (input : List ℕ) → IsGiven s input
       → (plan : Plan) → HasPlan (scenario_in input) plan
@@ -108,12 +109,13 @@ pub record PlainPromises (form : Option Form) (s : Sourcing) (k : Sinking) (answ
       × IsDue (service_of form) s text answer × Gains k.before k.after text)
   pub whole_text : answer ≢ 13 → (k.faults_after ≡ k.faults_before) × ((text : List ℕ)
       × IsDue (service_of form) s text answer × Gains k.before k.after text)
-  -- 14 comes exactly where the byte past the limit was read.
+  -- 14 comes only where the byte past the limit was read. There, for a source that says what it has left, the answer is 14
+  -- or 13.
   pub too_large_only : answer ≡ 14 → TakesCount s.before s.after 1048577
   pub too_large_always : (input : List ℕ) → s.before ≡ Some input → TakesCount s.before s.after 1048577 → (answer ≡ 14) ⊎ (answer ≡ 13)
   pub large_input : IsTrue (is_reading form) → (input : List ℕ) → s.before ≡ Some input → 1048576 < length input
       → Stayed s.faults_before s.faults_after → Unhindered 14 answer
-  -- Out of memory is told before a byte of a trace is written.
+  -- With 15, the line `out of memory` is all that is written.
   pub memory_first : answer ≡ 15 → Gains k.before k.after no_memory_line
   -- No other status comes.
   pub listed : IsTrue (is_status answer)

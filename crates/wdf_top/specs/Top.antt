@@ -1,4 +1,4 @@
--- What the program answers and what it writes, for each form of words. (own)
+-- What the top call without threads answers and what it writes, for each form of words. (own)
 use Rattle.std.specs.Prelude.{ℕ, ◌≡◌, ◌≤◌, ◌+◌, ◌⊎◌, List, length, codes, Option, None, Some}
 use Rattle.wdf_io.specs.Outside.{Rose}
 use Rattle.wdf_parse.specs.Printing.{printed}
@@ -107,7 +107,7 @@ IsDue Judgement s text status = IsReadDue judging s text status
 IsDue (Scenario n) s text status = IsUnread s × IsScenario n text status
 IsDue (Summary n) s text status = IsUnread s × IsSummary n text status
 
--- What the program answers and what it writes: the text that is due, with its status, or a front of it.
+-- What that call answers and what it writes: the text that is due, with its status, or a front of it.
 abbrev pub Tells : Service → Sourcing → Sinking → ℕ → Type 0
 Tells service s k answer = (text : List ℕ) × (status : ℕ) × IsDue service s text status × Says k text status answer
 

@@ -9,7 +9,7 @@ ghost use Rattle.wdf_dev.specs.Agents.{agent_meaning};
 ghost use Rattle.wdf_replay.specs.Texts.{text_of};
 ghost use Rattle.wdf_top.specs.Answers.{HasPlan, IsTraceOf};
 
-/// The plan of each text is resolved. So by the laws of `wdf_trace` each line of its traces is that of one event.
+/// Each plan that a text has is resolved. So by `one_event_a_line` of `wdf_trace` no two of its events share a line.
 pub fn plans_of_texts_are_resolved()
     ensures { (input : List ℕ) (plan : Plan) → HasPlan input plan → IsResolved plan }
 {}
@@ -21,7 +21,7 @@ pub fn traces_are_of_runs()
         × (text ≡ text_of plan agent_meaning run) }
 {}
 
-/// A plan and its picks have one trace, with one status.
+/// A plan and its picks have at most one trace, with one status.
 pub fn one_trace_a_plan()
     ensures { (plan : Plan) (picks text other : List ℕ) (status another : ℕ) → IsTraceOf plan picks text status → IsTraceOf plan picks other another
         → (text ≡ other) × (status ≡ another) }

@@ -66,6 +66,10 @@ fn run_listed(alloc: Global, plan: Plan) -> Result<Core<AnyAgent>, Memory>
 }
 
 /// The run that the words of a seed make.
+///
+/// # Errors
+///
+/// [`Memory`] where memory for the agents or for the run was refused. The plan is dropped then.
 pub fn run_seeded(alloc: Global, plan: Plan, seed: u64) -> Result<Core<AnyAgent>, Memory>
     requires { IsResolved plan }
     ensures plan { IfOk result (λ core. core.plan ≡ plan) }
@@ -77,6 +81,10 @@ pub fn run_seeded(alloc: Global, plan: Plan, seed: u64) -> Result<Core<AnyAgent>
 }
 
 /// The opening of a plan, with its agents.
+///
+/// # Errors
+///
+/// [`Memory`] where memory for the agents or for the run was refused. The plan is dropped then.
 pub fn opening(alloc: Global, plan: Plan) -> Result<Core<AnyAgent>, Memory>
     requires { IsResolved plan }
     ensures plan { IfOk result (λ core. core.plan ≡ plan) }

@@ -18,6 +18,11 @@ use wdf_plan::resolve;
 use wdf_say::Refusal;
 
 /// Reads the whole input and resolves its scene.
+///
+/// # Errors
+///
+/// [`Refusal`]: a read failed, the input has more than [`TEXT_LIMIT`] bytes, no scene stands for it, its scene has no
+/// plan, or memory was refused.
 pub fn read_plan<S: Source>(alloc: Global, source: &mut S) -> Result<Plan, Refusal>
     ensures plan { IfOk result (λ plan. (input : List ℕ) × IsRead (sourcing (S.left source.old) (S.left source.new) (S.faults source.old) (S.faults source.new)) input × HasPlan input plan) }
     ensures cause { IfErr result (λ refusal. IsCause all_of (sourcing (S.left source.old) (S.left source.new) (S.faults source.old) (S.faults source.new)) refusal) }
@@ -29,6 +34,10 @@ pub fn read_plan<S: Source>(alloc: Global, source: &mut S) -> Result<Plan, Refus
 }
 
 /// Reads the whole input, whose scene has a plan, and prints the scene in canonical form.
+///
+/// # Errors
+///
+/// [`Refusal`], as of [`read_plan`].
 pub fn read_canonical<S: Source>(alloc: Global, source: &mut S) -> Result<Vec<u8>, Refusal>
     ensures text { IfOk result (λ text. (input : List ℕ) × (scene : Scene) × (stands : StandsFor input scene) × IsRead (sourcing (S.left source.old) (S.left source.new) (S.faults source.old) (S.faults source.new)) input × (first_refusal scene ≡ None) × (text.items ≡ canonical_text scene.version stands.ws)) }
     ensures cause { IfErr result (λ refusal. IsCause all_of (sourcing (S.left source.old) (S.left source.new) (S.faults source.old) (S.faults source.new)) refusal) }
@@ -41,6 +50,10 @@ pub fn read_canonical<S: Source>(alloc: Global, source: &mut S) -> Result<Vec<u8
 }
 
 /// Reads the whole input.
+///
+/// # Errors
+///
+/// [`Refusal`]: a read failed, the input has more than [`TEXT_LIMIT`] bytes, or memory was refused.
 pub fn read_input<S: Source>(alloc: Global, source: &mut S) -> Result<Vec<u8>, Refusal>
     ensures text { IfOk result (λ text. IsRead (sourcing (S.left source.old) (S.left source.new) (S.faults source.old) (S.faults source.new)) text.items) }
     ensures cause { IfErr result (λ refusal. IsCause scenario_in (sourcing (S.left source.old) (S.left source.new) (S.faults source.old) (S.faults source.new)) refusal) }
@@ -50,6 +63,10 @@ pub fn read_input<S: Source>(alloc: Global, source: &mut S) -> Result<Vec<u8>, R
 }
 
 /// The plan of a text's scene.
+///
+/// # Errors
+///
+/// [`Refusal`]: no scene stands for the text, its scene has no plan, or memory was refused.
 pub fn plan_of_text(alloc: Global, text: &[u8]) -> Result<Plan, Refusal>
     requires { length text.now ≤ TEXT_LIMIT }
     ensures plan { IfOk result (HasPlan text.now) }

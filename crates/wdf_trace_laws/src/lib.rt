@@ -24,13 +24,13 @@ pub fn runs_complete_once<A>()
         → slice_get run k ≡ Some e → completes_once (take k run) (completed e) ≡ true }
 {}
 
-/// In every run, no cleanup of an object comes before a cleanup of it.
+/// In every run, an object is cleaned up at most once.
 pub fn runs_clean_up_once<A>()
     ensures { (plan : Plan) (m : Meaning A) (run : List Event) (k : ℕ) (o : Handle) → IsRunOf plan m run
         → slice_get run k ≡ Some (event.Cleanup o) → ever (sign.Cleaned o.id.0) (take k run) ≡ false }
 {}
 
-/// In every run, no end of an object comes before an end of it.
+/// In every run, an object ends at most once.
 pub fn runs_end_once<A>()
     ensures { (plan : Plan) (m : Meaning A) (run : List Event) (k : ℕ) (o : Handle) → IsRunOf plan m run
         → slice_get run k ≡ Some (event.Destroy o) → ever (sign.Destroyed o.id.0) (take k run) ≡ false }

@@ -25,6 +25,7 @@ pub enum Attempt<T> {
 /// There was no memory. The value comes back.
 #[derive(Drop)]
 pub struct Refused<T> {
+    /// The value that was to be shared.
     pub value: T,
 }
 

@@ -23,7 +23,7 @@ const TURNS_AN_EVENT: u32 = 4;
 ///
 /// # Errors
 ///
-/// [`Memory`], with the core dropped, where memory for the seats was refused. Nothing has run then.
+/// [`Memory`], with the core dropped, where memory for the seats or for the turnstile was refused. Nothing has run then.
 pub fn run_threads<R: Threads + Sync, A: Agent + Send, G: Gate + Sync>(
     rt: &R,
     alloc: Global,

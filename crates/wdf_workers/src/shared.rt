@@ -16,7 +16,7 @@ use wdf_turn::{Gate, Seat, Turn};
 ///
 /// # Errors
 ///
-/// [`Memory`], with the value dropped, where memory for the seats was refused.
+/// [`Memory`], with the value dropped, where memory for the seats or for the turnstile was refused.
 pub fn share<R: Threads + Sync, T: Advance + Send + Drop, G: Gate + Sync>(
     rt: &R,
     alloc: Global,

@@ -31,6 +31,7 @@ pub trait Advance: Chronicle {
 /// The machine of a run that workers share. Its root is the plan, and its history is the journal.
 #[derive(Drop)]
 pub struct RunState<A: Agent> {
+    /// The machine.
     pub core: Core<A>,
 }
 

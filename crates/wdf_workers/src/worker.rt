@@ -11,11 +11,13 @@ use wdf_turn::{Attempt, Gate, Seat, Turn};
 /// What all workers of a run know: how many processors the machine has, and how many turns each has.
 #[derive(Clone, Copy, Debug)]
 pub struct Shift {
+    /// How many processors the machine has.
     pub processors: u8,
+    /// How many turns each worker has.
     pub turns: u32,
 }
 
-/// How often a worker whose turn added nothing looks whether the history has grown, before its next turn.
+/// How often, at most, a worker whose turn added nothing looks whether the history has grown, before its next turn.
 const LOOKS: u32 = 100;
 
 /// A turn: one try to take the value, one event at most, and the value goes back.
@@ -35,7 +37,7 @@ fn take_turn<T: Advance>(turn: &Turn<T>, seat: &mut Seat<T>, crew: Crew) -> Prog
 }
 
 /// Lets other threads run until the history is longer than this, or until it was looked at so many times. So a worker
-/// that has nothing to do keeps the value from no other, and doesn't use its turns up.
+/// that has nothing to do keeps the value from no other, and uses its turns up slowly.
 fn await_growth<T: Advance>(turn: &Turn<T>, seat: &mut Seat<T>, length: u64)
     requires { IsIdleSeat turn.now seat.old }
     ensures idle { IsIdleSeat turn.now seat.new }

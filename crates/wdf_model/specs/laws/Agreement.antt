@@ -37,7 +37,7 @@ level_of_lock plan S _ = 0
 abbrev pub levels_held : {A : Type 0} → Plan → State A → ℕ → List ℕ
 levels_held plan S f = map (λ (h : Held). level_of_lock plan S h.lock) (filter (λ h. h.frame.0 == f) S.locks.held)
 
--- the lock that a pending call asks for
+-- the level of the lock that a pending call asks for
 abbrev pub level_awaited : {A : Type 0} → Plan → State A → Option Pending → List ℕ
 level_awaited plan S None = []
 level_awaited plan S (Some p) = if is_acquire p.call.kind then lock_level plan S (object_in p.call.a) ∷ [] else []

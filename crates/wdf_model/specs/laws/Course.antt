@@ -12,7 +12,7 @@ use Rattle.wdf_model.specs.rules.Ready.{IsPickedRun, ready_in, fault_in, unless_
 use Rattle.wdf_model.specs.agents.AnyAgent.{AnyAgent, agents}
 use Rattle.wdf_model.specs.rules.Waits.{if_stuck, wait_lines}
 
--- a run so far: its events, the state after them, what may follow, and how it ends
+-- a run so far: its plan, its events, the state after them, and how it ends
 pub record Course : Type 0 where
   pub plan : Plan
   pub events : List Event

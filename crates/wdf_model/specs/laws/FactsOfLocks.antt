@@ -1,5 +1,5 @@
 -- What a reader expects of the locks of callbacks: the lock of each under each scope, on one device with
--- a queue, an interrupt and objects of five classes.
+-- a queue, an interrupt and objects of four classes.
 use Rattle.std.specs.Prelude.{ℕ, true, false, List, [], ◌∷◌, ◌++◌, map, replicate, Option, Some, None}
 use Rattle.wdf_base.specs.declared.plan.Plan.{Plan}
 use Rattle.wdf_base.specs.declared.object.LockRef.{LockRef}

@@ -39,7 +39,8 @@ pub record PlacesAgree {A : Type 0} (S : State A) : Type 0 where
 pub record DeclaredAgree {A : Type 0} (plan : Plan) (S : State A) : Type 0 where
   pub declared : (o : ℕ) → is_declared_kind (kind_of S.tree o) ≡ true → option_and_then declared_kind (declared_of plan o) ≡ Some (kind_of S.tree o)
 
--- Each frame is there once, on a processor or parked; its number is that of an event of the run; and it knows the nearest device of its object.
+-- Each frame is there once, on a processor or parked, and no number is above that of the events. Its
+-- object was made, and it knows the nearest device of that.
 pub record FramesAgree {A : Type 0} (S : State A) : Type 0 where
   pub once : (f : ℕ) → count_by (λ x. x == f) (all_frames S.cpus) ≤ 1
   pub numbered : (f : ℕ) → 1 ≤ count_by (λ x. x == f) (all_frames S.cpus) → f ≤ S.number

@@ -65,10 +65,10 @@ top C cpu = first_of_list (stack_of C cpu)
 abbrev pub is_empty_cpu : Cpus → ℕ → Bool
 is_empty_cpu C cpu = length (stack_of C cpu) == 0
 
--- the level of a frame: the greatest of its callback's and of those that it holds
 abbrev pub levels_of : Cpus → ℕ → List ℕ
 levels_of C f = map (λ (l : HeldLevel). l.level.0) (filter (λ (l : HeldLevel). l.frame.0 == f) C.levels)
 
+-- the level of a frame: the greatest of its callback's and of those that it holds
 abbrev pub frame_level : Cpus → ℕ → ℕ
 frame_level C f = fold max (running C f).level.0 (levels_of C f)
 

@@ -38,7 +38,7 @@ scope_needed plan callback_lock.QueueLock o d = scope_lock o d
 abbrev pub scope_of : Plan → Callback → ℕ → Option Declared → Option LockRef
 scope_of plan c o d = scope_needed plan (row_of c).lock o d
 
--- an interrupt's callbacks take its lock (KMDF)
+-- an interrupt's callbacks take its lock, but for EvtInterruptDpc (KMDF)
 abbrev pub own_lock : CallbackLock → ℕ → Option LockRef → Option LockRef
 own_lock callback_lock.InterruptLock o scope = Some (object_lock o)
 own_lock _ o scope = scope

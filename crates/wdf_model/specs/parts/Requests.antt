@@ -115,7 +115,7 @@ arrive R r p info = record {
   arrived = R.arrived + flag (nat_lt 0 info.arrival);
 }
 
--- the mark is none again where the request enters a queue, leaves one or is sent
+-- the mark is none again, but where the request becomes Owned or Done
 abbrev pub mark_at : Place → Mark → Mark
 mark_at place.Owned m = m
 mark_at place.Done m = m

@@ -231,7 +231,7 @@ by_top S cpu deeds = elim (top S.cpus cpu) as (λ _. List Deed) [
   | Some f ↦ deeds f (frame_of S.cpus f)
 ]
 
--- the answer of a frame's pending call
+-- what a call does that is answered at once: both its parts, and the frame goes on
 abbrev pub did_deeds : {A : Type 0} → Plan → State A → ℕ → Call → Value → ℕ → Frame → List Deed
 did_deeds plan S cpu c v f frame =
     (outcome plan S cpu f c).deeds ++ second_deeds f c ++ GoOn (frame_id f) (answered plan frame v) ∷ []

@@ -188,7 +188,7 @@ request_line plan S r place.Done = None
 abbrev pub runs_step : ℕ → Callback → Frame → Bool
 runs_step d c frame = same_callback frame.callback c && frame.device.id.0 == d
 
--- the requests of a device whose resume is due
+-- the requests that the driver holds from this queue and whose resume is due
 abbrev pub resumes_at : {A : Type 0} → Plan → State A → ℕ → List ℕ
 resumes_at plan S q = filter (resume_due S.power) (held_from S q)
 
@@ -204,10 +204,11 @@ scope_holders plan S queues = flat_map (λ q. holders_of S (scope_of plan callba
 abbrev pub resume_frames : {A : Type 0} → Plan → State A → ℕ → List ℕ
 resume_frames plan S d = frames_where S (runs_step d callback.EvtIoResume) ++ scope_holders plan S (queues_to_resume plan S d)
 
--- the processors in whose list a DPC of the device is
+-- a DPC of the device is in this processor's list
 abbrev pub has_dpc_of : {A : Type 0} → Plan → State A → ℕ → ℕ → Bool
 has_dpc_of plan S d cpu = list_any (λ i. contains i (dpcs_of S.dpcs cpu)) (interrupts_of plan d)
 
+-- the processors in whose list a DPC of the device is
 abbrev pub cpus_with_dpc : {A : Type 0} → Plan → State A → ℕ → List ℕ
 cpus_with_dpc plan S d = filter (has_dpc_of plan S d) (all_cpus plan)
 
@@ -285,13 +286,14 @@ device_line plan S d = sequence_line plan S d (running_step S.pnp d) (next_step 
 
 -- ---- objects
 
--- the children and the younger siblings that must go first
+-- the younger siblings, where the deletion of the parent was asked
 abbrev pub waits_for_younger : {A : Type 0} → State A → ℕ → List ℕ
 waits_for_younger S o = if is_asked (life_of S.tree (parent_of S.tree o)) then younger_siblings S.tree o else []
 
 abbrev pub not_cleaned : {A : Type 0} → State A → List ℕ → List ℕ
 not_cleaned S os = filter (λ x. not (is_past_cleanup (life_of S.tree x))) os
 
+-- the children and the younger siblings that must go first
 abbrev pub children_first : {A : Type 0} → State A → ℕ → List ℕ
 children_first S o =
     if is_cleaned (life_of S.tree o) then children S.tree o

@@ -36,7 +36,7 @@ impl Tree {
         }
     }
 
-    /// Whether an object is below another, by one or more steps from child to parent.
+    /// Whether `below` is below `o`, by one or more steps from child to parent.
     #[tactic(auto, using(crate::proofs::Marks::below_by_parent))]
     pub fn is_below(&self, o: ObjectId, below: ObjectId) -> bool
         ensures { result ≡ tree.is_below self.now o.0 below.0 }
@@ -58,7 +58,7 @@ impl Tree {
     }
 
     /// Asks the deletion of an object and of what is below it (KMDF): of each that is live. It visits
-    /// no others. What was visited is then in `subtree`.
+    /// no others. `subtree` is room for the walk; what it has afterwards isn't stated.
     pub fn ask_delete(&mut self, o: ObjectId, subtree: &mut Subtree)
         ensures done { self.new ≡ tree.ask_delete self.old o.0 }
         ensures size { length self.new.nodes ≡ length self.old.nodes }

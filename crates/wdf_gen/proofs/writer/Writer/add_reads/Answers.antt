@@ -14,9 +14,9 @@ loop-k-init c = record {
 pub loop-k-preserved : goal.loop-k-preserved
 loop-k-preserved c = record {
   written =
-      read_added c.loop-k.self c.add_read.new.self c.args.a c.loop-k.k c.next_u64-word.result (stream_of splitmix_steps c.loop-k.rng) (stream_of splitmix_steps c.next_u64-word.new.self) c.loop-k-test.true c.next_u64-word.ensures c.in-Ok.ensures.written
+      read_added c.loop-k.self c.add_read.new.self c.args.a c.loop-k.k c.next_u64-word.result (stream_of splitmix_steps c.loop-k.rng) (stream_of splitmix_steps c.next_u64-word.new.self) c.loop-k-test.true c.next_u64-word.ensures c.in_ok-add_read.ensures.written
       ∙ c.loop-k.invariant.written;
-  lines = omega (arith, c.in-Ok.ensures.lines, c.loop-k.invariant.lines);
+  lines = omega (arith, c.in_ok-add_read.ensures.lines, c.loop-k.invariant.lines);
 }
 
 pub returns-clause-written : goal.returns-clause-written
