@@ -31,10 +31,10 @@ abbrev idle_at : List ℕ → Bool
 idle_at [] = true
 idle_at (b ∷ bytes) = b == 35
 
-idle_more : (b : ℕ) (bytes : List ℕ) → is_blank b ≡ true → is_idle (b ∷ bytes) ≡ is_idle bytes
+pub idle_more : (b : ℕ) (bytes : List ℕ) → is_blank b ≡ true → is_idle (b ∷ bytes) ≡ is_idle bytes
 idle_more b bytes is = ap (λ t. if t then is_idle bytes else b == 35) is
 
-idle_here : (b : ℕ) (bytes : List ℕ) → is_blank b ≡ false → is_idle (b ∷ bytes) ≡ (b == 35)
+pub idle_here : (b : ℕ) (bytes : List ℕ) → is_blank b ≡ false → is_idle (b ∷ bytes) ≡ (b == 35)
 idle_here b bytes is = ap (λ t. if t then is_idle bytes else b == 35) is
 
 idle_by : (b : ℕ) (bytes : List ℕ) (test : Bool) → is_blank b ≡ test → is_idle bytes ≡ idle_at (unblanked bytes) → is_idle (b ∷ bytes) ≡ idle_at (unblanked (b ∷ bytes))
@@ -66,10 +66,10 @@ abbrev trace_at : List ℕ → Bool
 trace_at [] = false
 trace_at (b ∷ bytes) = is_trace_first (b ∷ bytes)
 
-alone_more : (b : ℕ) (bytes : List ℕ) → is_blank b ≡ true → is_trace_alone (b ∷ bytes) ≡ is_trace_alone bytes
+pub alone_more : (b : ℕ) (bytes : List ℕ) → is_blank b ≡ true → is_trace_alone (b ∷ bytes) ≡ is_trace_alone bytes
 alone_more b bytes is = ap (λ t. if t then is_trace_alone bytes else is_trace_first (b ∷ bytes)) is
 
-alone_here : (b : ℕ) (bytes : List ℕ) → is_blank b ≡ false → is_trace_alone (b ∷ bytes) ≡ is_trace_first (b ∷ bytes)
+pub alone_here : (b : ℕ) (bytes : List ℕ) → is_blank b ≡ false → is_trace_alone (b ∷ bytes) ≡ is_trace_first (b ∷ bytes)
 alone_here b bytes is = ap (λ t. if t then is_trace_alone bytes else is_trace_first (b ∷ bytes)) is
 
 alone_by : (b : ℕ) (bytes : List ℕ) (test : Bool) → is_blank b ≡ test → is_trace_alone bytes ≡ trace_at (unblanked bytes) → is_trace_alone (b ∷ bytes) ≡ trace_at (unblanked (b ∷ bytes))

@@ -15,6 +15,7 @@ use Rattle.wdf_tokens.specs.Tokens.{is_blank, is_name_byte, is_plain, letters_pi
 use Rattle.wdf_tokens.proofs.BothParts.{first_part, second_part}
 use Rattle.wdf_tokens.proofs.LineReading.{tokens_from_skip}
 use Rattle.wdf_split.specs.Inputs.{is_idle, is_mark, is_trace_alone, is_trace_first, is_within}
+use Rattle.wdf_split.proofs.Marks.{alone_here, alone_more, idle_here, idle_more}
 use Rattle.wdf_split_laws.proofs.Pieces.{IsSaid, piece_named, piece_said}
 
 -- ---- no token
@@ -29,12 +30,6 @@ blank_read column b bytes is = rw is refl
 
 comment_read : (column b : ℕ) (bytes : List ℕ) → is_blank b ≡ false → (b == 35) ≡ true → tokens_from column 0 (b ∷ bytes) ≡ Ok []
 comment_read column b bytes unblank is = rw (unblank, is) (skipped (suc column) (length (b ∷ bytes) - 1) bytes (omega arith))
-
-idle_more : (b : ℕ) (bytes : List ℕ) → is_blank b ≡ true → is_idle (b ∷ bytes) ≡ is_idle bytes
-idle_more b bytes is = ap (λ t. if t then is_idle bytes else b == 35) is
-
-idle_here : (b : ℕ) (bytes : List ℕ) → is_blank b ≡ false → is_idle (b ∷ bytes) ≡ (b == 35)
-idle_here b bytes is = ap (λ t. if t then is_idle bytes else b == 35) is
 
 idle_by : (column b : ℕ) (bytes : List ℕ) (blank : Bool) → is_blank b ≡ blank → (is_idle bytes ≡ true → tokens_from (suc column) 0 bytes ≡ Ok []) → is_idle (b ∷ bytes) ≡ true → tokens_from column 0 (b ∷ bytes) ≡ Ok []
 idle_by column b bytes true is rest idle = blank_read column b bytes is ∙ rest (sym (idle_more b bytes is) ∙ idle)
@@ -103,12 +98,6 @@ first_reads column b bytes is =
     let idle : is_idle (drop 5 text) ≡ true = second_part (bytes_eq (take 5 text) (codes "trace")) (is_idle (drop 5 text)) is in
     let parts : text ≡ codes "trace" ++ drop 5 text = sym (take-append-drop 5 text) ∙ ap (λ w. w ++ drop 5 text) word in
     ap (tokens_from column 0) parts ∙ word_reads column (drop 5 text) idle
-
-alone_more : (b : ℕ) (bytes : List ℕ) → is_blank b ≡ true → is_trace_alone (b ∷ bytes) ≡ is_trace_alone bytes
-alone_more b bytes is = ap (λ t. if t then is_trace_alone bytes else is_trace_first (b ∷ bytes)) is
-
-alone_here : (b : ℕ) (bytes : List ℕ) → is_blank b ≡ false → is_trace_alone (b ∷ bytes) ≡ is_trace_first (b ∷ bytes)
-alone_here b bytes is = ap (λ t. if t then is_trace_alone bytes else is_trace_first (b ∷ bytes)) is
 
 alone_by : (column b : ℕ) (bytes : List ℕ) (blank : Bool) → is_blank b ≡ blank → (is_trace_alone bytes ≡ true → tokens_from (suc column) 0 bytes ≡ Ok (token.Word (codes "trace") ∷ [])) → is_trace_alone (b ∷ bytes) ≡ true → tokens_from column 0 (b ∷ bytes) ≡ Ok (token.Word (codes "trace") ∷ [])
 alone_by column b bytes true is rest alone = blank_read column b bytes is ∙ rest (sym (alone_more b bytes is) ∙ alone)
