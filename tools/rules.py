@@ -139,7 +139,7 @@ def gather():
             for name, contract, start, end in functions_of(path):
                 lines = text.split("\n")[start:end]
                 key = f"{crate}::{name}"
-                for edit in sorted(folder.glob("must-fail/*.edit")):
+                for edit in sorted([*folder.glob("must-fail/*.edit"), *folder.glob("wrong/*.edit")]):
                     told = edit.read_text().split("\n")
                     if told[0] == f"file: {path.relative_to(folder)}" and any(told[1][5:] in line for line in lines):
                         edits.setdefault(key, []).append(edit.stem)
