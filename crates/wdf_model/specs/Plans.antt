@@ -108,8 +108,8 @@ is_target_of device (Some t) = t.device.0 == device
 abbrev pub device_of_queue : Plan → ℕ → ℕ
 device_of_queue plan q = unwrap_or (option_map (λ i. i.device.0) (queue_of plan q)) 0
 
--- whether queue q is power-managed: each queue is, unless the text says `power off`; false for an id that is no
--- queue's (KMDF)
+-- whether queue q is power-managed, as each is unless the text says `power off`; false for an id that is no queue's
+-- (KMDF)
 abbrev pub is_managed : Plan → ℕ → Bool
 is_managed plan q = unwrap_or (option_map (λ i. i.powered) (queue_of plan q)) false
 

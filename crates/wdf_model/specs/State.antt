@@ -60,7 +60,8 @@ pub record State (A : Type 0) : Type 0 where
 abbrev pub opening_agents : {A : Type 0} → Plan → Meaning A → List A
 opening_agents plan m = map (m.begin plan) (range_with_len 0 (agent_count plan))
 
--- The opening: what is declared lives, working devices are powered up, and nothing runs or waits.
+-- own: the state before the first event. What is declared lives, what the text calls working has power, and nothing
+-- runs or waits.
 abbrev pub opening : {A : Type 0} → Plan → Meaning A → State A
 opening plan m = record {
   tree = opening_tree plan;
@@ -115,13 +116,13 @@ is_powered plan S q = not (is_managed plan q) || up_for plan S q
 abbrev pub queue_delivers : {A : Type 0} → Plan → State A → ℕ → Bool
 queue_delivers plan S q = delivers S.control q (is_powered plan S q)
 
--- a received request that is cancelled in queue q goes back to the driver, by EvtIoCanceledOnQueue (KMDF); own: not
--- where the device is closed or the queue has no power
+-- whether a received request that is cancelled in queue q goes back to the driver, by EvtIoCanceledOnQueue: not where
+-- the device is closed or the queue has no power (KMDF)
 abbrev pub returns_to : {A : Type 0} → Plan → State A → ℕ → Bool
 returns_to plan S q =
     declares plan callback.EvtIoCanceledOnQueue q && not (is_closed S.control (device_of_queue plan q)) && is_powered plan S q
 
--- where request r goes that is cancelled in queue q: back to the driver, else the framework completes it with
+-- where request r goes that is cancelled in queue q: back to the driver, else it is completed by the framework with
 -- CANCELLED (KMDF)
 abbrev pub withdrawn_place : {A : Type 0} → Plan → State A → ℕ → ℕ → Place
 withdrawn_place plan S q r =
@@ -133,8 +134,7 @@ nothing_at S t = not (list_any (λ (r : Request). is_sent_to t r.place) S.reques
 
 -- ---- frames
 
--- the id of the object that an argument names, 0 for a number, a status or a class; a call is about the object in its
--- first argument
+-- the id of the object that an argument names, 0 for a number, a status or a class
 abbrev pub object_in : Arg → ℕ
 object_in (Val (Obj h)) = h.id.0
 object_in (Val (Num n)) = 0
@@ -170,6 +170,6 @@ declares_in plan S c o = is_some (script_in plan S c o)
 abbrev pub handle_in : {A : Type 0} → Plan → State A → ℕ → Handle
 handle_in plan S o = handle_of plan S.tree o
 
--- whether a handle has the name of its object, as each value that the machine made has
+-- whether a handle has the number of its object's name, besides the id
 abbrev pub is_proper : {A : Type 0} → Plan → State A → Handle → Bool
 is_proper plan S h = h.name == (handle_in plan S h.id.0).name

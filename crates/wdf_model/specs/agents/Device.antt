@@ -50,8 +50,7 @@ at_action l = elim l.post as (λ _. Option DeviceAction) [
 abbrev pub among : List DeviceAction → DeviceAction → List DeviceAction
 among ls l = in_order_by (λ (m : DeviceAction). m.line) l ls
 
--- the actions of device d, whose agent has this number: those with `when` and those with `at`, in the order of the
--- text
+-- the actions of device d, whose agent has this number: with `when` and with `at`, in the order of the text
 abbrev pub device_actions : Plan → ℕ → ℕ → List DeviceAction
 device_actions plan d agent = fold among (filter_map (when_action plan d) plan.whens) (filter_map at_action (posts_of plan agent))
 
@@ -84,8 +83,8 @@ act_on h (action.Set k v) = with_register h k v
 act_on h (action.Raise i) = record h { raised = put false h.raised i.id.0 true }
 act_on h (action.Lower i) = record h { raised = put false h.raised i.id.0 false }
 
--- whether access a, a read or a write, of register k triggers an action with this `when` line; an action without one
--- is never triggered
+-- whether access a (a read or a write) of register k triggers an action that has this `when` line; without one it is
+-- never triggered
 abbrev pub triggers : Access → ℕ → Option WhenLine → Bool
 triggers a k None = false
 triggers a k (Some w) = same_access w.access a && w.register == k

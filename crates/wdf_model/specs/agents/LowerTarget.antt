@@ -127,8 +127,7 @@ target_after t _ = t
 abbrev pub is_due_sent : ℕ → SentRequest → Bool
 is_due_sent now s = s.told || nat_le s.tick now
 
--- the status with which the target is done with a request: CANCELLED where it was to be cancelled, else the declared
--- one
+-- the status with which the target is done with a request: CANCELLED where it was to be cancelled, else its own
 abbrev pub final_status : Status → SentRequest → Status
 final_status own s = if s.told then status.Cancelled else own
 

@@ -46,7 +46,7 @@ blank_frame = record {
   pending = None;
 }
 
--- the same, with its level
+-- what reads for a number that no frame has, with PASSIVE_LEVEL
 abbrev pub no_frame : Running
 no_frame = record { frame = blank_frame; level = record { 0 = 0 } }
 

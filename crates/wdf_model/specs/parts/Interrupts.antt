@@ -12,7 +12,7 @@ pub record Interrupts : Type 0 where
 abbrev pub is_enabled : Interrupts → ℕ → Bool
 is_enabled I i = entry false I.enabled i
 
--- the service routine of interrupt i is due: its level line is 1 (the last argument says so), and it is enabled
+-- whether the service routine of interrupt i is due: its level line, the last argument, is up, and it is enabled
 -- (KMDF)
 abbrev pub isr_due : Interrupts → ℕ → Bool → Bool
 isr_due I i line = line && is_enabled I i

@@ -29,15 +29,15 @@ abbrev pub parent_lock : Plan → Option Declared → Option LockRef
 parent_lock plan (Some (declared.OfClass c)) = serial_lock plan (slice_get plan.classes c)
 parent_lock plan _ = None
 
--- the scope lock that a callback on object o needs, if any; d is what o is in the plan, and an interrupt's lock is no
--- scope lock (KMDF)
+-- the scope lock that a callback on object o needs, if any: d is what o is in the plan. An interrupt's lock is no
+-- scope lock (KMDF).
 abbrev pub scope_needed : Plan → CallbackLock → ℕ → Option Declared → Option LockRef
 scope_needed plan callback_lock.NoLock o d = None
 scope_needed plan callback_lock.InterruptLock o d = None
 scope_needed plan callback_lock.ParentScope o d = parent_lock plan d
 scope_needed plan callback_lock.QueueLock o d = scope_lock o d
 
--- the scope lock that callback c on object o needs, if any; a declared object is found by its id, others by their
+-- the scope lock that callback c on object o needs, if any: a declared object is found by its id, each other by its
 -- class in d
 abbrev pub scope_of : Plan → Callback → ℕ → Option Declared → Option LockRef
 scope_of plan c o d = scope_needed plan (row_of c).lock o d

@@ -81,7 +81,8 @@ abbrev pub self_managed_start : Bool → Callback
 self_managed_start false = callback.EvtDeviceSelfManagedIoInit
 self_managed_start true = callback.EvtDeviceSelfManagedIoRestart
 
--- the list Up, in order; `ever` says that the device ever was Working (own, after KMDF)
+-- the list Up: D0Entry, each interrupt enabled, D0EntryPostInterruptsEnabled, `queues_up`, self-managed I/O,
+-- `working`; `ever` says that the device ever was Working (own, after KMDF)
 abbrev pub up_steps : DeviceSteps → Bool → List Step
 up_steps p ever =
     run p callback.EvtDeviceD0Entry ++ flat_map enable_steps p.interrupts ++ run p callback.EvtDeviceD0EntryPostInterruptsEnabled
@@ -92,7 +93,8 @@ abbrev pub quiet_steps : List InterruptSteps → List Step
 quiet_steps [] = []
 quiet_steps (i ∷ is) = pass stage.Quiet
 
--- the list Down, in order; own: the interrupts in reverse order
+-- the list Down: self-managed I/O, `queues_down`, `settled`, D0ExitPreInterruptsDisabled, each interrupt disabled,
+-- `quiet`, D0Exit (own, after KMDF); own: the interrupts in reverse order
 abbrev pub down_steps : DeviceSteps → List Step
 down_steps p =
     run p callback.EvtDeviceSelfManagedIoSuspend ++ pass stage.QueuesDown ++ pass stage.Settled ++ run p callback.EvtDeviceD0ExitPreInterruptsDisabled
@@ -107,7 +109,8 @@ abbrev pub flush_steps : DeviceSteps → Bool → List Step
 flush_steps p false = []
 flush_steps p true = run p callback.EvtDeviceSelfManagedIoFlush ++ run p callback.EvtDeviceSelfManagedIoCleanup
 
--- the end of a device, from where its hardware is gone; `ever` says that it ever was Working (own, after KMDF)
+-- the end of a device: `no_hardware`, `closed`, self-managed I/O flushed and cleaned up, `removed`; `ever` says that
+-- it ever was Working (own, after KMDF)
 abbrev pub end_steps : DeviceSteps → Bool → List Step
 end_steps p ever = pass stage.NoHardware ++ pass stage.Closed ++ flush_steps p ever ++ pass stage.Removed
 
@@ -180,13 +183,13 @@ running_step Q d = (sequence_of Q d).running
 abbrev pub is_running_step : Pnp → ℕ → Bool
 is_running_step Q d = is_some (running_step Q d)
 
--- whether a sequence of device d is under way: a step is left, or its callback runs; then no further post is taken
--- for it
+-- whether a sequence of device d is under way: a step is left, or its callback runs. Then no further post is taken
+-- for it.
 abbrev pub busy : Pnp → ℕ → Bool
 busy Q d = is_running_step Q d || not (length (steps_left Q d) == 0)
 
--- whether this next step is the one after `queues_up`: self-managed I/O, or where the device doesn't declare it the
--- stage `working`
+-- whether this next step is the one after `queues_up`: self-managed I/O, or without such a callback the stage
+-- `working`
 abbrev pub follows_up : Sequence → Option Step → Bool
 follows_up q (Some (step.Run c i)) = same_callback c callback.EvtDeviceSelfManagedIoInit || same_callback c callback.EvtDeviceSelfManagedIoRestart
 follows_up q (Some (step.Pass stage.Working i)) = length (run q.steps (self_managed_start q.ever_working)) == 0
@@ -202,7 +205,8 @@ follows_queues_up Q d = follows_up (sequence_of Q d) (next_step Q d)
 abbrev pub with_sequence : Pnp → ℕ → (Sequence → Sequence) → Pnp
 with_sequence Q d f = record { devices = change_at no_sequence Q.devices d f }
 
--- device d gets the steps of post a, by its phase; the callers see to it that no sequence is under way
+-- own: device d gets the steps of what the manager asks, by its phase; that is asked only while no sequence is under
+-- way
 abbrev pub ask : Pnp → ℕ → Ask → Pnp
 ask Q d a = with_sequence Q d (λ q. record q { left = steps_for q.steps q.ever_working q.phase a })
 
@@ -231,8 +235,8 @@ taken Q d = with_sequence Q d taken_step
 abbrev pub is_success : Value → Bool
 is_success v = same_value v (Stat status.Success)
 
--- the steps that are left after callback c of a device ended with a value other than SUCCESS; with the callbacks that
--- aren't in the table nothing changes
+-- the steps that are left after callback c of a device ended with a value other than SUCCESS. With the callbacks that
+-- aren't in the table nothing changes.
 abbrev pub left_after_failure : Sequence → Callback → List Step
 -- own: a refused query leaves the device as it was
 left_after_failure q callback.EvtDeviceQueryStop = []

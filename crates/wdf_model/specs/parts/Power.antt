@@ -16,8 +16,7 @@ use Rattle.wdf_model.specs.declared.entries.DevicePower.{DevicePower}
 use Rattle.wdf_model.specs.declared.entries.QueuePower.{QueuePower}
 use Rattle.wdf_model.specs.declared.entries.Holding.{Holding}
 
--- what is kept of power: for each device, for each queue, and for each request that is held from a power-managed
--- queue
+-- what is kept of power: of each device, of each queue, and of each request that is held from a power-managed queue
 pub record Power : Type 0 where
   -- by the device's id
   pub devices : List DevicePower
@@ -134,7 +133,7 @@ woken P d h =
     if is_held_at P d h then record { queue = h.queue; acknowledged = false; stop_asked = false; resume_due = (queue_power P h.queue.0).resumes }
     else h
 
--- each request that is held from a power-managed queue of device d is woken so
+-- each request that is held from a power-managed queue of device d, as these queues come up
 abbrev pub wake_holdings : Power → ℕ → Power
 wake_holdings P d = record P { holdings = map (woken P d) P.holdings }
 

@@ -48,18 +48,16 @@ request_of R r = entry no_request R.all r
 abbrev pub place_of : Requests → ℕ → Place
 place_of R r = (request_of R r).place
 
--- what is kept of request r beside its place: where it is from, its length and code, its mark, and whether it is
--- cancelled
+-- what is kept of request r beside its place: its source, length and code, its mark, and whether it is cancelled
 abbrev pub info_of : Requests → ℕ → RequestInfo
 info_of R r = (request_of R r).info
 
--- the mark of request r: none, Marked (cancelable), Due (its cancel callback is to come) or Taken (that has started)
+-- the mark of request r: none, Marked (cancelable), Due (its cancel callback is to come), Taken (that has started)
 -- (KMDF)
 abbrev pub mark_of : Requests → ℕ → Mark
 mark_of R r = (info_of R r).mark
 
--- the id of the queue from which request r last became Owned; None before that, and for a request that the driver
--- made
+-- the id of the queue from which request r last became Owned; None before that, and for one that the driver made
 abbrev pub origin_of : Requests → ℕ → Option ℕ
 origin_of R r = option_map (λ q. q.0) (info_of R r).origin
 
@@ -144,8 +142,7 @@ mark_at place.Owned m = m
 mark_at place.Done m = m
 mark_at _ m = marks.Unmarked
 
--- the origin of a request that goes from one place to another: the queue from which it becomes Owned, else the old
--- one
+-- the origin of a request that goes from one place to another: the queue from which it becomes Owned, else as before
 abbrev pub origin_from : Place → Place → Option ObjectId → Option ObjectId
 origin_from (place.Queued q) place.Owned old = Some q
 origin_from (place.Returning q) place.Owned old = Some q

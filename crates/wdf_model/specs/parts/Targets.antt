@@ -70,7 +70,7 @@ is_undone_sending (Some s) = is_at_target s.outcome
 abbrev pub is_undone : Targets → ℕ → Bool
 is_undone T r = is_undone_sending (sending_of T r)
 
--- the status that the completion routine of a sent request gets; None before the target is done, and for one that was
+-- the status that the completion routine of a sent request gets; None before the target is done, and where it was
 -- forgotten
 abbrev pub routine_outcome : Sending → Option Status
 routine_outcome s = if s.forgotten then None else s.outcome
@@ -106,8 +106,8 @@ without_sending r t = record t { sent = filter (λ s. not (s.request.0 == r)) t.
 abbrev pub done_sending : ℕ → Status → Sending → Sending
 done_sending r status s = if s.request.0 == r then record s { outcome = Some status } else s
 
--- a target after it is done with request r, with this status; of a forgotten request nothing is kept, for none comes
--- back (KMDF)
+-- a target after it is done with request r, with this status; a forgotten request doesn't come back, and nothing is
+-- kept of it (KMDF)
 abbrev pub target_done : ℕ → Status → Target → Target
 target_done r status t =
     record t { sent = filter (λ s. not (s.request.0 == r && s.forgotten)) (map (done_sending r status) t.sent) }

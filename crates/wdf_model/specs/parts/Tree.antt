@@ -133,8 +133,8 @@ counted T = count_by counts T.nodes
 abbrev pub is_full : Tree → Bool
 is_full T = not (nat_lt (counted T) T.limit)
 
--- what object o of a kind is in the plan: declared under its id, or else of its class; an arrived request is nothing
--- there
+-- what object o of a kind is in the plan: declared under its id, or else of its class. A request that arrived is
+-- nothing there.
 abbrev pub made_as : Plan → Node → ℕ → Kind → Option Declared
 made_as plan n o kind.Request = None
 made_as plan n o kind.Driver = declared_of plan o
@@ -165,8 +165,8 @@ handle_of plan T o = record { id = record { 0 = o }; name = name_as plan (declar
 abbrev pub own_device : List ℕ → ℕ → Node → ℕ
 own_device before o n = if same_kind n.kind kind.Device then o else entry 1 before n.parent.0
 
--- the nearest devices of all objects by id, those before the first of the list being known; a parent's id is less
--- than its child's
+-- the nearest devices of all objects by id, those before the first of the list being known: a parent comes before its
+-- children
 abbrev pub nearest_devices : List ℕ → List Node → List ℕ
 nearest_devices before [] = before
 nearest_devices before (n ∷ ns) = nearest_devices (before ++ own_device before (length before) n ∷ []) ns
@@ -175,7 +175,7 @@ nearest_devices before (n ∷ ns) = nearest_devices (before ++ own_device before
 abbrev pub nearest_device : Tree → ℕ → ℕ
 nearest_device T o = entry 1 (nearest_devices [] T.nodes) o
 
--- for each object by id whether it is below o: its parent is o, or is below o; a parent's id is less than its child's
+-- for each object by id whether it is below o: its parent is o, or is below o. A parent comes before its children.
 abbrev pub below_marks : ℕ → List Bool → List Node → List Bool
 below_marks o before [] = before
 below_marks o before (n ∷ ns) = below_marks o (before ++ (n.parent.0 == o || entry false before n.parent.0) ∷ []) ns
@@ -200,7 +200,7 @@ is_child T o x = parent_of T x == o && not (is_gone (life_of T x))
 abbrev pub children : Tree → ℕ → List ℕ
 children T o = filter (is_child T o) (ids_of T.nodes)
 
--- the children of object o's parent that were made after o
+-- the children of object o's parent that were made after o and aren't gone
 abbrev pub younger_siblings : Tree → ℕ → List ℕ
 younger_siblings T o = filter (nat_lt o) (children T (parent_of T o))
 
@@ -298,7 +298,7 @@ device_of_declared (declared.OfClass c) = 0
 abbrev pub declared_node : Declared → Node
 declared_node d = new_node (unwrap_or (declared_kind d) kind.General) 0 (device_of_declared d)
 
--- the objects at the opening: the id 0 that none has, then the driver object, then what is declared, in the order of
--- the text (own)
+-- own: the objects at the opening: the id 0 that none has, the driver object, then what is declared, in the order of
+-- the text
 abbrev pub opening_tree : Plan → Tree
 opening_tree plan = record { limit = plan.objects; nodes = gone ∷ map declared_node plan.declared }
