@@ -191,9 +191,9 @@ busy Q d = is_running_step Q d || not (length (steps_left Q d) == 0)
 -- whether this next step is the one after `queues_up`: self-managed I/O, or without such a callback the stage
 -- `working`
 abbrev pub follows_up : Sequence → Option Step → Bool
-follows_up q (Some (step.Run c i)) = same_callback c callback.EvtDeviceSelfManagedIoInit || same_callback c callback.EvtDeviceSelfManagedIoRestart
-follows_up q (Some (step.Pass stage.Working i)) = length (run q.steps (self_managed_start q.ever_working)) == 0
-follows_up q _ = false
+follows_up sequence (Some (step.Run c i)) = same_callback c callback.EvtDeviceSelfManagedIoInit || same_callback c callback.EvtDeviceSelfManagedIoRestart
+follows_up sequence (Some (step.Pass stage.Working i)) = length (run sequence.steps (self_managed_start sequence.ever_working)) == 0
+follows_up sequence _ = false
 
 -- whether the next step of device d is the one after `queues_up`, which waits until nothing is to be resumed
 abbrev pub follows_queues_up : Pnp → ℕ → Bool
@@ -208,24 +208,24 @@ with_sequence Q d f = record { devices = change_at no_sequence Q.devices d f }
 -- own: device d gets the steps of what the manager asks, by its phase; that is asked only while no sequence is under
 -- way
 abbrev pub ask : Pnp → ℕ → Ask → Pnp
-ask Q d a = with_sequence Q d (λ q. record q { left = steps_for q.steps q.ever_working q.phase a })
+ask Q d a = with_sequence Q d (λ sequence. record sequence { left = steps_for sequence.steps sequence.ever_working sequence.phase a })
 
 -- what a stage does to a device's phase; the stages that aren't in the table do nothing to it
 abbrev pub passed : Stage → Sequence → Sequence
-passed stage.Working q = record q { phase = Working; ever_working = true }
-passed stage.Sleeping q = record q { phase = Sleeping }
-passed stage.Removed q = record q { phase = Removed }
-passed _ q = q
+passed stage.Working sequence = record sequence { phase = Working; ever_working = true }
+passed stage.Sleeping sequence = record sequence { phase = Sleeping }
+passed stage.Removed sequence = record sequence { phase = Removed }
+passed _ sequence = sequence
 
 -- a device takes a step, if there is one: its callback runs, or its stage is passed
 abbrev pub with_step : Option Step → Sequence → Sequence
-with_step None q = q
-with_step (Some (step.Run c i)) q = record q { running = Some (step.Run c i) }
-with_step (Some (step.Pass s i)) q = passed s q
+with_step None sequence = sequence
+with_step (Some (step.Run c i)) sequence = record sequence { running = Some (step.Run c i) }
+with_step (Some (step.Pass s i)) sequence = passed s sequence
 
 -- a device takes its next step, which is no longer left
 abbrev pub taken_step : Sequence → Sequence
-taken_step q = with_step (first_of_list q.left) (record q { left = drop 1 q.left })
+taken_step sequence = with_step (first_of_list sequence.left) (record sequence { left = drop 1 sequence.left })
 
 -- device d takes its next step
 abbrev pub taken : Pnp → ℕ → Pnp
@@ -239,22 +239,22 @@ is_success v = same_value v (Stat status.Success)
 -- aren't in the table nothing changes.
 abbrev pub left_after_failure : Sequence → Callback → List Step
 -- own: a refused query leaves the device as it was
-left_after_failure q callback.EvtDeviceQueryStop = []
-left_after_failure q callback.EvtDeviceQueryRemove = []
+left_after_failure sequence callback.EvtDeviceQueryStop = []
+left_after_failure sequence callback.EvtDeviceQueryRemove = []
 -- own: a device that can't prepare its hardware is removed, and has none to release
-left_after_failure q callback.EvtDevicePrepareHardware = end_steps q.steps q.ever_working
+left_after_failure sequence callback.EvtDevicePrepareHardware = end_steps sequence.steps sequence.ever_working
 -- own: a device that can't power up is removed
-left_after_failure q callback.EvtDeviceD0Entry = tail_steps q.steps q.ever_working
-left_after_failure q _ = q.left
+left_after_failure sequence callback.EvtDeviceD0Entry = tail_steps sequence.steps sequence.ever_working
+left_after_failure sequence _ = sequence.left
 
 -- the steps that are left after a callback ended with this result; own: only the results in the table above count
 abbrev pub left_after : Sequence → Step → Value → List Step
-left_after q (step.Pass s i) result = q.left
-left_after q (step.Run c i) result = if is_success result then q.left else left_after_failure q c
+left_after sequence (step.Pass s i) result = sequence.left
+left_after sequence (step.Run c i) result = if is_success result then sequence.left else left_after_failure sequence c
 
 -- the callback of a step of device d ends with this result
 abbrev pub ended : Pnp → ℕ → Step → Value → Pnp
-ended Q d s result = with_sequence Q d (λ q. record q { left = left_after q s result; running = None })
+ended Q d s result = with_sequence Q d (λ sequence. record sequence { left = left_after sequence s result; running = None })
 
 -- ---- the opening
 
