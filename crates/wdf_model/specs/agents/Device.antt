@@ -130,7 +130,7 @@ due_action h = find (λ l. is_due_at h.clock l.tick) h.actions
 abbrev pub without_tick : DeviceAction → DeviceAction
 without_tick l = record l { tick = None }
 
--- the first action that is due isn't any more
+-- the actions, of which the first that is due at tick `now` is due no more
 abbrev pub first_done : ℕ → List DeviceAction → List DeviceAction
 first_done now [] = []
 first_done now (l ∷ ls) = if is_due_at now l.tick then without_tick l ∷ ls else l ∷ first_done now ls

@@ -80,12 +80,12 @@ levels_of C f = map (λ (l : HeldLevel). l.level.0) (filter (λ (l : HeldLevel).
 abbrev pub frame_level : Cpus → ℕ → ℕ
 frame_level C f = fold max (running C f).level.0 (levels_of C f)
 
--- the level of a processor, by its top frame; PASSIVE_LEVEL, 0, where it has none
+-- the level of a processor whose top frame this is; PASSIVE_LEVEL, 0, where it has none
 abbrev pub level_of_top : Cpus → Option ℕ → ℕ
 level_of_top C None = 0
 level_of_top C (Some f) = frame_level C f
 
--- KMDF: the level of a processor, 0 where it is empty, else its top frame's
+-- KMDF: the level of a processor: that of its top frame, or PASSIVE_LEVEL, 0, where it is empty
 abbrev pub irql : Cpus → ℕ → ℕ
 irql C cpu = level_of_top C (top C cpu)
 

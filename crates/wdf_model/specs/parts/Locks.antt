@@ -65,7 +65,7 @@ scope_of_object plan o _ = None
 abbrev pub hold_of : Locks → LockRef → Option Held
 hold_of L l = find (λ h. same_lock h.lock l) L.held
 
--- the frame that holds a lock, none where it is free
+-- the number of the frame that holds lock l, None where it is free
 abbrev pub holder : Locks → LockRef → Option ℕ
 holder L l = option_map (λ h. h.frame.0) (hold_of L l)
 

@@ -93,8 +93,8 @@ abbrev pub quiet_steps : List InterruptSteps → List Step
 quiet_steps [] = []
 quiet_steps (i ∷ is) = pass stage.Quiet
 
--- the list Down: self-managed I/O, `queues_down`, `settled`, D0ExitPreInterruptsDisabled, each interrupt disabled,
--- `quiet`, D0Exit (own, after KMDF); own: the interrupts in reverse order
+-- the list Down: self-managed I/O suspended, `queues_down`, `settled`, D0ExitPreInterruptsDisabled, each interrupt
+-- disabled, `quiet`, D0Exit (own, after KMDF); own: the interrupts in reverse order
 abbrev pub down_steps : DeviceSteps → List Step
 down_steps p =
     run p callback.EvtDeviceSelfManagedIoSuspend ++ pass stage.QueuesDown ++ pass stage.Settled ++ run p callback.EvtDeviceD0ExitPreInterruptsDisabled

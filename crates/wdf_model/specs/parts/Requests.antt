@@ -19,7 +19,8 @@ pub record Requests : Type 0 where
   -- how many requests arrived
   pub arrived : ℕ
 
--- own: a made request has no origin, its form is control, and its length, code, agent and arrival are 0
+-- own: what is kept of a request that the driver makes, whose nearest device this is: no origin, the form control,
+-- and 0 for length, code, agent and arrival
 abbrev pub made_info : ℕ → RequestInfo
 made_info device = record {
   device = record { 0 = device };

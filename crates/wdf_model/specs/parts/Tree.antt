@@ -154,7 +154,7 @@ name_as plan None = 1
 name_as plan (Some (declared.OfClass c)) = name_of_class plan c
 name_as plan (Some d) = unwrap_or (declared_name d) 0
 
--- an object as events and values name it
+-- object o as events and values name it: its id, with the number of its name
 abbrev pub handle_of : Plan → Tree → ℕ → Handle
 handle_of plan T o = record { id = record { 0 = o }; name = name_as plan (declared_as plan T o) }
 

@@ -11,7 +11,7 @@ pub record Timers : Type 0 where
 
 -- ---- readers
 
--- own: the most ticks from a start to the due tick
+-- own: the most ticks from the start of a timer to its due tick; a greater number counts as this one
 abbrev pub LONGEST : ℕ
 LONGEST = 1000000
 
