@@ -32,6 +32,7 @@ use Rattle.wdf_model.specs.parts.Deferred.WorkItems.{WorkItems, no_work_items}
 use Rattle.wdf_model.specs.parts.Deferred.Timers.{Timers, no_timers}
 use Rattle.wdf_model.specs.parts.Targets.{Targets, opening_targets, is_forgotten}
 
+-- the whole state between two events; A is the type of what is kept of an agent
 pub record State (A : Type 0) : Type 0 where
   pub tree : Tree
   pub cpus : Cpus
@@ -55,11 +56,12 @@ pub record State (A : Type 0) : Type 0 where
   -- how many events there were
   pub number : ℕ
 
--- the agents as they are at the opening
+-- the agents, by number, as they are at the opening of the plan's run; m says what an agent is
 abbrev pub opening_agents : {A : Type 0} → Plan → Meaning A → List A
 opening_agents plan m = map (m.begin plan) (range_with_len 0 (agent_count plan))
 
--- The opening: what is declared lives, working devices are powered up, and nothing runs or waits.
+-- own: the state before the first event. What is declared lives, what the text calls working has power, and nothing
+-- runs or waits.
 abbrev pub opening : {A : Type 0} → Plan → Meaning A → State A
 opening plan m = record {
   tree = opening_tree plan;
@@ -83,83 +85,91 @@ opening plan m = record {
 
 -- ---- requests and queues
 
--- the driver holds a request: it is Owned, or Sent and will come back (KMDF)
+-- whether the driver holds a request at this place: it is Owned, or Sent and will come back; `forgotten` says that it
+-- was sent with SendAndForget (KMDF)
 abbrev pub held_at : Bool → Place → Bool
 held_at forgotten place.Owned = true
 held_at forgotten (place.Sent t) = not forgotten
 held_at forgotten _ = false
 
+-- whether the driver holds request r, wherever it came from; of an id that is no request it is false (KMDF)
 abbrev pub is_with_driver : {A : Type 0} → State A → ℕ → Bool
 is_with_driver S r = held_at (is_forgotten S.targets r) (place_of S.requests r)
 
+-- whether the driver holds request r, and queue q is the one from which r last became Owned (KMDF)
 abbrev pub is_held_from : {A : Type 0} → State A → ℕ → ℕ → Bool
 is_held_from S q r = same_id (origin_of S.requests r) q && is_with_driver S r
 
--- the requests with this origin that the driver holds, by rising id
+-- the requests from queue q that the driver holds, by rising id
 abbrev pub held_from : {A : Type 0} → State A → ℕ → List ℕ
 held_from S q = filter (is_held_from S q) (ids_of S.requests.all)
 
--- a queue's device has its queues up
+-- whether the device of queue q has its queues up
 abbrev pub up_for : {A : Type 0} → Plan → State A → ℕ → Bool
 up_for plan S q = queues_up S.power (device_of_queue plan q)
 
--- KMDF: a queue has power that isn't power-managed, or whose device's queues are up
+-- KMDF: queue q has power where it isn't power-managed, or its device's queues are up
 abbrev pub is_powered : {A : Type 0} → Plan → State A → ℕ → Bool
 is_powered plan S q = not (is_managed plan q) || up_for plan S q
 
--- a queue delivers, by its mode and by power (KMDF)
+-- whether queue q delivers, by its mode and by power (KMDF)
 abbrev pub queue_delivers : {A : Type 0} → Plan → State A → ℕ → Bool
 queue_delivers plan S q = delivers S.control q (is_powered plan S q)
 
--- a received request that is cancelled in this queue goes back to the driver, by EvtIoCanceledOnQueue (KMDF)
+-- whether a received request that is cancelled in queue q goes back to the driver, by EvtIoCanceledOnQueue: not where
+-- the device is closed or the queue has no power (KMDF)
 abbrev pub returns_to : {A : Type 0} → Plan → State A → ℕ → Bool
 returns_to plan S q =
     declares plan callback.EvtIoCanceledOnQueue q && not (is_closed S.control (device_of_queue plan q)) && is_powered plan S q
 
--- where a request goes that is cancelled in a queue
+-- where request r goes that is cancelled in queue q: back to the driver, else it is completed by the framework with
+-- CANCELLED (KMDF)
 abbrev pub withdrawn_place : {A : Type 0} → Plan → State A → ℕ → ℕ → Place
 withdrawn_place plan S q r =
     if (info_of S.requests r).received && returns_to plan S q then place.Returning (record { 0 = q }) else place.Closing status.Cancelled
 
--- no request is Sent to a target
+-- whether no request, arrived or made, is Sent to target t
 abbrev pub nothing_at : {A : Type 0} → State A → ℕ → Bool
 nothing_at S t = not (list_any (λ (r : Request). is_sent_to t r.place) S.requests.all)
 
 -- ---- frames
 
--- the object that a call is about: its first argument
+-- the id of the object that an argument names, 0 for a number, a status or a class
 abbrev pub object_in : Arg → ℕ
 object_in (Val (Obj h)) = h.id.0
 object_in (Val (Num n)) = 0
 object_in (Val (Stat s)) = 0
 object_in (Class c) = 0
 
+-- whether what a frame waits for is a call about object o; false for a frame that doesn't wait
 abbrev pub waits_for : ℕ → Option Pending → Bool
 waits_for o None = false
 waits_for o (Some p) = object_in p.call.a == o
 
--- a frame waits for an object
+-- whether some frame waits in a call about object o
 abbrev pub is_waited_for : {A : Type 0} → State A → ℕ → Bool
 is_waited_for S o = list_any (λ f. waits_for o (frame_of S.cpus f).pending) (all_frames S.cpus)
 
--- the lock of an object is held
+-- whether some frame holds object o as a lock: a spin lock, a wait lock or an interrupt
 abbrev pub is_locked : {A : Type 0} → State A → ℕ → Bool
 is_locked S o = not (is_free_lock S.locks (object_lock o))
 
--- what an object is in the plan
+-- what object o is in the plan: declared there, or of a class
 abbrev pub declared_in : {A : Type 0} → Plan → State A → ℕ → Option Declared
 declared_in plan S o = declared_as plan S.tree o
 
--- the script of a callback on an object
+-- the number of the script of callback c on object o, None where o doesn't declare it
 abbrev pub script_in : {A : Type 0} → Plan → State A → Callback → ℕ → Option ℕ
 script_in plan S c o = script_on plan c (declared_in plan S o)
 
+-- whether object o, or the class that it was made from, declares callback c
 abbrev pub declares_in : {A : Type 0} → Plan → State A → Callback → ℕ → Bool
 declares_in plan S c o = is_some (script_in plan S c o)
 
+-- object o as events and values name it: its id, with the number of its name
 abbrev pub handle_in : {A : Type 0} → Plan → State A → ℕ → Handle
 handle_in plan S o = handle_of plan S.tree o
 
--- a handle is that of its object
+-- whether a handle has the number of its object's name, besides the id
 abbrev pub is_proper : {A : Type 0} → Plan → State A → Handle → Bool
 is_proper plan S h = h.name == (handle_in plan S h.id.0).name

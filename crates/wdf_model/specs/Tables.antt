@@ -3,18 +3,18 @@
 use Rattle.std.specs.Prelude.{if◌then◌else◌, ℕ, zero, suc, min, ◌+◌, ◌-◌, ◌^◌, Bool, true, false, ◌==◌, nat_lt, nat_le, not, List, [], ◌∷◌, length, filter, Option, Some, None, fold, slice_index_or}
 use Rattle.std.specs.List.{list_any, range_with_len}
 
--- the entry of an id
+-- the entry of an id in a map, the blank one where the map doesn't reach that far
 abbrev pub entry : {T : Type 0} → T → List T → ℕ → T
 entry blank xs id = slice_index_or xs id blank
 
--- the map with this entry for an id; blank entries fill the way to it
+-- the map with entry `new` for an id; blank entries fill the way to it
 abbrev pub put : {T : Type 0} → T → List T → ℕ → T → List T
 put blank [] zero new = new ∷ []
 put blank [] (suc id) new = blank ∷ put blank [] id new
 put blank (x ∷ xs) zero new = new ∷ xs
 put blank (x ∷ xs) (suc id) new = x ∷ put blank xs id new
 
--- the map with the entry of an id changed
+-- the map with the entry of an id changed by f
 abbrev pub change_at : {T : Type 0} → T → List T → ℕ → (T → T) → List T
 change_at blank xs id f = put blank xs id (f (entry blank xs id))
 
@@ -30,7 +30,7 @@ contains id ids = list_any (λ other. other == id) ids
 abbrev pub without : ℕ → List ℕ → List ℕ
 without id ids = filter (λ other. not (other == id)) ids
 
--- a list that rises by a number of its items, with an item more
+-- a list that rises by the number `key` of its items, with item x more; after those with the same number
 abbrev pub in_order_by : {T : Type 0} → (T → ℕ) → T → List T → List T
 in_order_by key x [] = x ∷ []
 in_order_by key x (y ∷ ys) = if nat_lt (key x) (key y) then x ∷ y ∷ ys else y ∷ in_order_by key x ys
@@ -39,6 +39,7 @@ in_order_by key x (y ∷ ys) = if nat_lt (key x) (key y) then x ∷ y ∷ ys els
 abbrev pub in_order : ℕ → List ℕ → List ℕ
 in_order id ids = in_order_by (λ x. x) id ids
 
+-- the least of the numbers seen so far, if any, and of n
 abbrev pub lesser : Option ℕ → ℕ → Option ℕ
 lesser None n = Some n
 lesser (Some m) n = if nat_le m n then Some m else Some n
@@ -56,7 +57,7 @@ same_id (Some other) id = other == id
 abbrev pub LAST_TICK : ℕ
 LAST_TICK = 2 ^ 64 - 1
 
--- a tick that is so much later
+-- the tick that is `more` ticks after `now`, at most the last tick
 abbrev pub tick_after : ℕ → ℕ → ℕ
 tick_after now more = min (now + more) LAST_TICK
 
@@ -65,7 +66,7 @@ abbrev pub flag : Bool → ℕ
 flag true = 1
 flag false = 0
 
--- the first of a list
+-- the first item of a list, None for an empty list
 abbrev pub first_of_list : {T : Type 0} → List T → Option T
 first_of_list [] = None
 first_of_list (x ∷ xs) = Some x

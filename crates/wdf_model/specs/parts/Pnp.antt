@@ -36,6 +36,7 @@ pub record DeviceSteps : Type 0 where
   -- its interrupts in order
   pub interrupts : List InterruptSteps
 
+-- what is kept of a device for Plug and Play: what its steps are made of, its phase, and the steps that are left
 pub record Sequence : Type 0 where
   pub steps : DeviceSteps
   pub phase : Phase
@@ -46,63 +47,78 @@ pub record Sequence : Type 0 where
   -- the step whose callback runs
   pub running : Option Step
 
+-- the power sequences of all devices
 pub record Pnp : Type 0 where
   -- by the device's id
   pub devices : List Sequence
 
 -- ---- the lists of steps; a callback that isn't declared isn't in them
 
+-- the step of callback c of the device itself, no step where it doesn't declare c
 abbrev pub run : DeviceSteps → Callback → List Step
 run p c = if list_any (same_callback c) p.callbacks then step.Run c None ∷ [] else []
 
+-- the step that is a stage of the framework, which is always in its list
 abbrev pub pass : Stage → List Step
 pass s = step.Pass s None ∷ []
 
+-- the step of callback c of an interrupt, where it declares c
 abbrev pub run_if : Bool → Callback → Handle → List Step
 run_if true c i = step.Run c (Some i) ∷ []
 run_if false c i = []
 
+-- power-up of one interrupt: its EvtInterruptEnable, then the stage `enabled`
 abbrev pub enable_steps : InterruptSteps → List Step
 enable_steps i = run_if i.enables callback.EvtInterruptEnable i.interrupt ++ step.Pass stage.Enabled (Some i.interrupt) ∷ []
 
+-- power-down of one interrupt: the stage `disabled`, then its EvtInterruptDisable
 abbrev pub disable_steps : InterruptSteps → List Step
 disable_steps i = step.Pass stage.Disabled (Some i.interrupt) ∷ run_if i.disables callback.EvtInterruptDisable i.interrupt
 
--- the first power-up of a device, or a later one
+-- the callback for self-managed I/O at a power-up: Init at the first of a device, Restart at later ones; `true` says
+-- that it ever was Working (KMDF)
 abbrev pub self_managed_start : Bool → Callback
 self_managed_start false = callback.EvtDeviceSelfManagedIoInit
 self_managed_start true = callback.EvtDeviceSelfManagedIoRestart
 
+-- the list Up: D0Entry, each interrupt enabled, D0EntryPostInterruptsEnabled, `queues_up`, self-managed I/O,
+-- `working`; `ever` says that the device ever was Working (own, after KMDF)
 abbrev pub up_steps : DeviceSteps → Bool → List Step
 up_steps p ever =
     run p callback.EvtDeviceD0Entry ++ flat_map enable_steps p.interrupts ++ run p callback.EvtDeviceD0EntryPostInterruptsEnabled
     ++ pass stage.QueuesUp ++ run p (self_managed_start ever) ++ pass stage.Working
 
+-- the stage `quiet`, for a device with an interrupt (own)
 abbrev pub quiet_steps : List InterruptSteps → List Step
 quiet_steps [] = []
 quiet_steps (i ∷ is) = pass stage.Quiet
 
--- own: the interrupts in reverse order
+-- the list Down: self-managed I/O suspended, `queues_down`, `settled`, D0ExitPreInterruptsDisabled, each interrupt
+-- disabled, `quiet`, D0Exit (own, after KMDF); own: the interrupts in reverse order
 abbrev pub down_steps : DeviceSteps → List Step
 down_steps p =
     run p callback.EvtDeviceSelfManagedIoSuspend ++ pass stage.QueuesDown ++ pass stage.Settled ++ run p callback.EvtDeviceD0ExitPreInterruptsDisabled
     ++ flat_map disable_steps (reverse p.interrupts) ++ quiet_steps p.interrupts ++ run p callback.EvtDeviceD0Exit
 
+-- the list Hard: a device gets its hardware, and the driver prepares it (own, after KMDF)
 abbrev pub hard_steps : DeviceSteps → List Step
 hard_steps p = pass stage.Hardware ++ run p callback.EvtDevicePrepareHardware
 
+-- the callbacks that flush and clean up self-managed I/O, for a device that ever was Working (own, after KMDF)
 abbrev pub flush_steps : DeviceSteps → Bool → List Step
 flush_steps p false = []
 flush_steps p true = run p callback.EvtDeviceSelfManagedIoFlush ++ run p callback.EvtDeviceSelfManagedIoCleanup
 
--- the end of a device, from where its hardware is given back
+-- the end of a device: `no_hardware`, `closed`, self-managed I/O flushed and cleaned up, `removed`; `ever` says that
+-- it ever was Working (own, after KMDF)
 abbrev pub end_steps : DeviceSteps → Bool → List Step
 end_steps p ever = pass stage.NoHardware ++ pass stage.Closed ++ flush_steps p ever ++ pass stage.Removed
 
+-- the list Tail: the driver releases the hardware, then the end (own, after KMDF)
 abbrev pub tail_steps : DeviceSteps → Bool → List Step
 tail_steps p ever = run p callback.EvtDeviceReleaseHardware ++ end_steps p ever
 
--- what each post asks of a device in each phase; none where it changes nothing
+-- what each post asks of a device that is Off; the posts that aren't in the table change nothing
 abbrev pub steps_off : DeviceSteps → Bool → Ask → List Step
 -- own: its hardware, and the first power-up
 steps_off p ever asks.Start = hard_steps p ++ up_steps p ever
@@ -111,6 +127,7 @@ steps_off p ever asks.Remove = pass stage.Closed ++ pass stage.Removed
 steps_off p ever asks.Surprise = pass stage.Closed ++ pass stage.Removed
 steps_off p ever _ = []
 
+-- what each post asks of a device that is Working; the posts that aren't in the table change nothing
 abbrev pub steps_working : DeviceSteps → Bool → Ask → List Step
 -- own: power-down
 steps_working p ever asks.Sleep = down_steps p ++ pass stage.Sleeping
@@ -124,7 +141,8 @@ steps_working p ever asks.Remove = run p callback.EvtDeviceQueryRemove ++ down_s
 steps_working p ever asks.Surprise = run p callback.EvtDeviceSurpriseRemoval ++ down_steps p ++ tail_steps p ever
 steps_working p ever _ = []
 
--- own: a sleeping device is removed without being woken, and rebalance does nothing to it
+-- what each post asks of a device that is Sleeping; own: it is removed without being woken, and rebalance does
+-- nothing to it
 abbrev pub steps_sleeping : DeviceSteps → Bool → Ask → List Step
 -- own: power-up
 steps_sleeping p ever asks.Wake = up_steps p ever
@@ -132,6 +150,7 @@ steps_sleeping p ever asks.Remove = run p callback.EvtDeviceQueryRemove ++ tail_
 steps_sleeping p ever asks.Surprise = run p callback.EvtDeviceSurpriseRemoval ++ tail_steps p ever
 steps_sleeping p ever _ = []
 
+-- the steps that post a gives a device in its phase; one that is Removed takes none (own)
 abbrev pub steps_for : DeviceSteps → Bool → Phase → Ask → List Step
 steps_for p ever Off a = steps_off p ever a
 steps_for p ever Working a = steps_working p ever a
@@ -140,88 +159,102 @@ steps_for p ever Removed a = []
 
 -- ---- readers
 
+-- what reads for an id that is no device's: Removed, with no step left
 abbrev pub no_sequence : Sequence
 no_sequence = record { steps = record { callbacks = []; interrupts = [] }; phase = Removed; ever_working = false; left = []; running = None }
 
+-- what is kept of device d for Plug and Play
 abbrev pub sequence_of : Pnp → ℕ → Sequence
 sequence_of Q d = entry no_sequence Q.devices d
 
+-- the steps that device d has left; empty where no sequence is under way
 abbrev pub steps_left : Pnp → ℕ → List Step
 steps_left Q d = (sequence_of Q d).left
 
+-- the step of device d that comes next, None where none is left
 abbrev pub next_step : Pnp → ℕ → Option Step
 next_step Q d = first_of_list (steps_left Q d)
 
--- the step whose callback runs
+-- the step of device d whose callback runs, None where none does
 abbrev pub running_step : Pnp → ℕ → Option Step
 running_step Q d = (sequence_of Q d).running
 
+-- whether the callback of a step of device d runs: the next step waits for its end
 abbrev pub is_running_step : Pnp → ℕ → Bool
 is_running_step Q d = is_some (running_step Q d)
 
--- a sequence is under way: a step is left, or its callback runs
+-- whether a sequence of device d is under way: a step is left, or its callback runs. Then no further post is taken
+-- for it.
 abbrev pub busy : Pnp → ℕ → Bool
 busy Q d = is_running_step Q d || not (length (steps_left Q d) == 0)
 
--- `queues_up` is what comes before this step in the list Up
+-- whether this next step is the one after `queues_up`: self-managed I/O, or without such a callback the stage
+-- `working`
 abbrev pub follows_up : Sequence → Option Step → Bool
-follows_up q (Some (step.Run c i)) = same_callback c callback.EvtDeviceSelfManagedIoInit || same_callback c callback.EvtDeviceSelfManagedIoRestart
-follows_up q (Some (step.Pass stage.Working i)) = length (run q.steps (self_managed_start q.ever_working)) == 0
-follows_up q _ = false
+follows_up sequence (Some (step.Run c i)) = same_callback c callback.EvtDeviceSelfManagedIoInit || same_callback c callback.EvtDeviceSelfManagedIoRestart
+follows_up sequence (Some (step.Pass stage.Working i)) = length (run sequence.steps (self_managed_start sequence.ever_working)) == 0
+follows_up sequence _ = false
 
+-- whether the next step of device d is the one after `queues_up`, which waits until nothing is to be resumed
 abbrev pub follows_queues_up : Pnp → ℕ → Bool
 follows_queues_up Q d = follows_up (sequence_of Q d) (next_step Q d)
 
 -- ---- acts
 
+-- what is kept of device d changes by f, and no other
 abbrev pub with_sequence : Pnp → ℕ → (Sequence → Sequence) → Pnp
 with_sequence Q d f = record { devices = change_at no_sequence Q.devices d f }
 
--- the Plug and Play manager asks something of a device
+-- own: device d gets the steps of what the manager asks, by its phase; that is asked only while no sequence is under
+-- way
 abbrev pub ask : Pnp → ℕ → Ask → Pnp
-ask Q d a = with_sequence Q d (λ q. record q { left = steps_for q.steps q.ever_working q.phase a })
+ask Q d a = with_sequence Q d (λ sequence. record sequence { left = steps_for sequence.steps sequence.ever_working sequence.phase a })
 
--- what a stage does to the phase
+-- what a stage does to a device's phase; the stages that aren't in the table do nothing to it
 abbrev pub passed : Stage → Sequence → Sequence
-passed stage.Working q = record q { phase = Working; ever_working = true }
-passed stage.Sleeping q = record q { phase = Sleeping }
-passed stage.Removed q = record q { phase = Removed }
-passed _ q = q
+passed stage.Working sequence = record sequence { phase = Working; ever_working = true }
+passed stage.Sleeping sequence = record sequence { phase = Sleeping }
+passed stage.Removed sequence = record sequence { phase = Removed }
+passed _ sequence = sequence
 
--- a step is taken: a callback runs, or a stage is passed
+-- a device takes a step, if there is one: its callback runs, or its stage is passed
 abbrev pub with_step : Option Step → Sequence → Sequence
-with_step None q = q
-with_step (Some (step.Run c i)) q = record q { running = Some (step.Run c i) }
-with_step (Some (step.Pass s i)) q = passed s q
+with_step None sequence = sequence
+with_step (Some (step.Run c i)) sequence = record sequence { running = Some (step.Run c i) }
+with_step (Some (step.Pass s i)) sequence = passed s sequence
 
+-- a device takes its next step, which is no longer left
 abbrev pub taken_step : Sequence → Sequence
-taken_step q = with_step (first_of_list q.left) (record q { left = drop 1 q.left })
+taken_step sequence = with_step (first_of_list sequence.left) (record sequence { left = drop 1 sequence.left })
 
+-- device d takes its next step
 abbrev pub taken : Pnp → ℕ → Pnp
 taken Q d = with_sequence Q d taken_step
 
+-- whether a callback ended with the value SUCCESS
 abbrev pub is_success : Value → Bool
 is_success v = same_value v (Stat status.Success)
 
--- what is left after a callback that failed: a refused query empties the list; a failed start removes the device
+-- the steps that are left after callback c of a device ended with a value other than SUCCESS. With the callbacks that
+-- aren't in the table nothing changes.
 abbrev pub left_after_failure : Sequence → Callback → List Step
 -- own: a refused query leaves the device as it was
-left_after_failure q callback.EvtDeviceQueryStop = []
-left_after_failure q callback.EvtDeviceQueryRemove = []
+left_after_failure sequence callback.EvtDeviceQueryStop = []
+left_after_failure sequence callback.EvtDeviceQueryRemove = []
 -- own: a device that can't prepare its hardware is removed, and has none to release
-left_after_failure q callback.EvtDevicePrepareHardware = end_steps q.steps q.ever_working
+left_after_failure sequence callback.EvtDevicePrepareHardware = end_steps sequence.steps sequence.ever_working
 -- own: a device that can't power up is removed
-left_after_failure q callback.EvtDeviceD0Entry = tail_steps q.steps q.ever_working
-left_after_failure q _ = q.left
+left_after_failure sequence callback.EvtDeviceD0Entry = tail_steps sequence.steps sequence.ever_working
+left_after_failure sequence _ = sequence.left
 
--- own: the results of other callbacks are ignored
+-- the steps that are left after a callback ended with this result; own: only the results in the table above count
 abbrev pub left_after : Sequence → Step → Value → List Step
-left_after q (step.Pass s i) result = q.left
-left_after q (step.Run c i) result = if is_success result then q.left else left_after_failure q c
+left_after sequence (step.Pass s i) result = sequence.left
+left_after sequence (step.Run c i) result = if is_success result then sequence.left else left_after_failure sequence c
 
--- the callback of a step ends
+-- the callback of a step of device d ends with this result
 abbrev pub ended : Pnp → ℕ → Step → Value → Pnp
-ended Q d s result = with_sequence Q d (λ q. record q { left = left_after q s result; running = None })
+ended Q d s result = with_sequence Q d (λ sequence. record sequence { left = left_after sequence s result; running = None })
 
 -- ---- the opening
 
@@ -233,10 +266,12 @@ DEVICE_CALLBACKS =
     ∷ callback.EvtDeviceSelfManagedIoSuspend ∷ callback.EvtDeviceSelfManagedIoFlush ∷ callback.EvtDeviceSelfManagedIoCleanup ∷ callback.EvtDeviceQueryStop
     ∷ callback.EvtDeviceQueryRemove ∷ callback.EvtDeviceSurpriseRemoval ∷ []
 
+-- the number of an interrupt's name, 0 for an id that is no interrupt's
 abbrev pub interrupt_name : Option InterruptInfo → ℕ
 interrupt_name None = 0
 interrupt_name (Some i) = i.name
 
+-- interrupt i, and which of EvtInterruptEnable and EvtInterruptDisable it declares
 abbrev pub interrupt_steps : Plan → ℕ → InterruptSteps
 interrupt_steps plan i = record {
   interrupt = record { id = record { 0 = i }; name = interrupt_name (interrupt_of plan i) };
@@ -244,17 +279,19 @@ interrupt_steps plan i = record {
   disables = declares plan callback.EvtInterruptDisable i;
 }
 
+-- what the steps of device d are made of, which the plan says for the whole run
 abbrev pub device_steps : Plan → ℕ → DeviceSteps
 device_steps plan d = record {
   callbacks = filter (λ c. declares plan c d) DEVICE_CALLBACKS;
   interrupts = map (interrupt_steps plan) (interrupts_of plan d);
 }
 
--- own: a working device was powered up, without callbacks
+-- own: a device that the text calls working was powered up before, without callbacks; each other is Off
 abbrev pub opening_phase : Bool → Phase
 opening_phase true = Working
 opening_phase false = Off
 
+-- device d at the opening, by what is declared of it: no step is left
 abbrev pub opening_sequence : Plan → ℕ → Option DeviceInfo → Sequence
 opening_sequence plan d None = no_sequence
 opening_sequence plan d (Some i) = record {
@@ -265,5 +302,6 @@ opening_sequence plan d (Some i) = record {
   running = None;
 }
 
+-- all devices at the opening
 abbrev pub opening_pnp : Plan → Pnp
 opening_pnp plan = record { devices = map (λ d. opening_sequence plan d (device_of plan d)) (declared_ids plan) }

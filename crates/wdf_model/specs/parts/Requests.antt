@@ -12,13 +12,15 @@ use Rattle.wdf_base.specs.declared.object.RequestInfo.{RequestInfo}
 use Rattle.wdf_model.specs.Tables.{entry, put, change_at, ids_of, flag}
 use Rattle.wdf_model.specs.declared.entries.Request.{Request}
 
+-- all requests, those that arrived from agents and those that the driver made
 pub record Requests : Type 0 where
   -- by id; what is no request, or is gone, is Done
   pub all : List Request
   -- how many requests arrived
   pub arrived : ℕ
 
--- own: a made request has no origin, its form is control, and its length, code, agent and arrival are 0
+-- own: what is kept of a request that the driver makes, whose nearest device this is: no origin, the form control,
+-- and 0 for length, code, agent and arrival
 abbrev pub made_info : ℕ → RequestInfo
 made_info device = record {
   device = record { 0 = device };
@@ -33,184 +35,221 @@ made_info device = record {
   received = false;
 }
 
+-- what reads for an id that is no request, and for one that is gone: Done, and not cancelled
 abbrev pub no_request : Request
 no_request = record { place = place.Done; info = made_info 0 }
 
 -- ---- readers
 
+-- request r: its place, and what is kept of it
 abbrev pub request_of : Requests → ℕ → Request
 request_of R r = entry no_request R.all r
 
+-- the place of request r: queued, returning, closing, owned, sent or done; Done for an id that is no request
 abbrev pub place_of : Requests → ℕ → Place
 place_of R r = (request_of R r).place
 
+-- what is kept of request r beside its place: its source, length and code, its mark, and whether it is cancelled
 abbrev pub info_of : Requests → ℕ → RequestInfo
 info_of R r = (request_of R r).info
 
+-- the mark of request r: none, Marked (cancelable), Due (its cancel callback is to come), Taken (that has started)
+-- (KMDF)
 abbrev pub mark_of : Requests → ℕ → Mark
 mark_of R r = (info_of R r).mark
 
+-- the id of the queue from which request r last became Owned; None before that, and for one that the driver made
 abbrev pub origin_of : Requests → ℕ → Option ℕ
 origin_of R r = option_map (λ q. q.0) (info_of R r).origin
 
+-- whether request r is cancelled: by the app that sent it, or in a queue that was purged (KMDF)
 abbrev pub is_cancelled : Requests → ℕ → Bool
 is_cancelled R r = (info_of R r).cancelled
 
+-- whether a request at this place is the driver's to complete, to move or to send (KMDF)
 abbrev pub is_owned : Place → Bool
 is_owned place.Owned = true
 is_owned _ = false
 
+-- whether a request at this place is completed
 abbrev pub is_done : Place → Bool
 is_done place.Done = true
 is_done _ = false
 
+-- whether the framework is about to complete a request at this place; the place has the status
 abbrev pub is_closing : Place → Bool
 is_closing (place.Closing s) = true
 is_closing _ = false
 
+-- whether a request at this place is sent to a target; own: also when the target is done and the completion routine
+-- hasn't started
 abbrev pub is_sent : Place → Bool
 is_sent (place.Sent t) = true
 is_sent _ = false
 
+-- whether a request at this place is sent to target t
 abbrev pub is_sent_to : ℕ → Place → Bool
 is_sent_to t (place.Sent u) = u.0 == t
 is_sent_to t _ = false
 
+-- whether a request at this place was cancelled in queue q and has EvtIoCanceledOnQueue due there (KMDF)
 abbrev pub is_returning_to : ℕ → Place → Bool
 is_returning_to q (place.Returning p) = p.0 == q
 is_returning_to q _ = false
 
+-- whether a request at this place waits in queue q
 abbrev pub is_queued_in : ℕ → Place → Bool
 is_queued_in q (place.Queued p) = p.0 == q
 is_queued_in q _ = false
 
+-- whether a request is cancelable: the driver marked it, and no cancel has come (KMDF)
 abbrev pub is_marked : Mark → Bool
 is_marked marks.Marked = true
 is_marked _ = false
 
+-- whether a cancelable request was cancelled, and EvtRequestCancel hasn't started (KMDF)
 abbrev pub is_due : Mark → Bool
 is_due marks.Due = true
 is_due _ = false
 
--- a request that arrived, and was not made by the driver: arrivals are numbered from 1
+-- whether a request arrived from an agent, and was not made by the driver: arrivals are numbered from 1 (own)
 abbrev pub has_arrived : Request → Bool
 has_arrived r = nat_lt 0 r.info.arrival
 
--- the request of an agent's arrival, if that made one
+-- whether request r is that of the arrival with number k of an agent; the number 0 is none
 abbrev pub is_arrival : Requests → ℕ → ℕ → ℕ → Bool
 is_arrival R agent k r = nat_lt 0 k && (info_of R r).agent == agent && (info_of R r).arrival == k
 
+-- the request of the arrival with number k of an agent, None where that made none or it is gone
 abbrev pub arrival_of : Requests → ℕ → ℕ → Option ℕ
 arrival_of R agent k = find (is_arrival R agent k) (ids_of R.all)
 
 -- ---- acts
 
+-- request r changes by f, and no other
 abbrev pub with_request : Requests → ℕ → (Request → Request) → Requests
 with_request R r f = record R { all = change_at no_request R.all r f }
 
--- a request is there from now on
+-- request r is there from now on, at place p; one that came from an agent is counted
 abbrev pub arrive : Requests → ℕ → Place → RequestInfo → Requests
 arrive R r p info = record {
   all = put no_request R.all r (record { place = p; info = info });
   arrived = R.arrived + flag (nat_lt 0 info.arrival);
 }
 
--- the mark is none again, but where the request becomes Owned or Done
+-- the mark of a request that comes to a new place: none again, but where it becomes Owned or Done
 abbrev pub mark_at : Place → Mark → Mark
 mark_at place.Owned m = m
 mark_at place.Done m = m
 mark_at _ m = marks.Unmarked
 
--- a request that becomes Owned from a queue has that as origin
+-- the origin of a request that goes from one place to another: the queue from which it becomes Owned, else as before
 abbrev pub origin_from : Place → Place → Option ObjectId → Option ObjectId
 origin_from (place.Queued q) place.Owned old = Some q
 origin_from (place.Returning q) place.Owned old = Some q
 origin_from _ _ old = old
 
+-- whether the driver ever had a request, once it comes to a new place: from the first time that it is Owned
 abbrev pub received_at : Place → Bool → Bool
 received_at place.Owned old = true
 received_at _ old = old
 
+-- a request at its new place p, with what changes by that: its mark, its origin, and whether the driver ever had it
 abbrev pub moved : Place → Request → Request
 moved p r = record {
   place = p;
   info = record r.info { mark = mark_at p r.info.mark; origin = origin_from r.place p r.info.origin; received = received_at p r.info.received };
 }
 
+-- request r goes to place p
 abbrev pub move_to : Requests → ℕ → Place → Requests
 move_to R r p = with_request R r (moved p)
 
+-- a request with mark m, and nothing else changed
 abbrev pub with_mark : Mark → Request → Request
 with_mark m r = record r { info = record r.info { mark = m } }
 
--- a request that isn't cancelled becomes cancelable
+-- a request becomes cancelable, unless it is cancelled already (KMDF)
 abbrev pub marked : Request → Request
 marked r = if r.info.cancelled then r else with_mark marks.Marked r
 
+-- request r becomes cancelable, unless it is cancelled already
 abbrev pub mark : Requests → ℕ → Requests
 mark R r = with_request R r marked
 
+-- what marking request r answers: CANCELLED where it is cancelled, which leaves it unmarked, else SUCCESS (KMDF)
 abbrev pub mark_answer : Requests → ℕ → Status
 mark_answer R r = if is_cancelled R r then status.Cancelled else status.Success
 
--- only a mark whose cancel isn't due is taken away
+-- a request is no longer cancelable; a mark whose cancel is due or taken stays (KMDF)
 abbrev pub unmarked : Request → Request
 unmarked r = if is_marked r.info.mark then with_mark marks.Unmarked r else r
 
+-- request r is no longer cancelable; a mark whose cancel is due or taken stays
 abbrev pub unmark : Requests → ℕ → Requests
 unmark R r = with_request R r unmarked
 
+-- what unmarking answers: SUCCESS where it came before the cancel, CANCELLED where it came after,
+-- INVALID_DEVICE_REQUEST without a mark (KMDF)
 abbrev pub answer_of_mark : Mark → Status
 answer_of_mark marks.Marked = status.Success
 answer_of_mark marks.Due = status.Cancelled
 answer_of_mark marks.Taken = status.Cancelled
 answer_of_mark marks.Unmarked = status.InvalidDeviceRequest
 
+-- what unmarking request r answers, by its mark before the call
 abbrev pub unmark_answer : Requests → ℕ → Status
 unmark_answer R r = answer_of_mark (mark_of R r)
 
--- a cancelable request that is cancelled has EvtRequestCancel due
+-- the mark of a request that is cancelled: a cancelable one has EvtRequestCancel due, each other mark stays (KMDF)
 abbrev pub mark_cancelled : Mark → Mark
 mark_cancelled marks.Marked = marks.Due
 mark_cancelled m = m
 
+-- a request that is cancelled from now on; its place stays
 abbrev pub cancelled : Request → Request
 cancelled r = record r { info = record r.info { cancelled = true; mark = mark_cancelled r.info.mark } }
 
+-- request r is cancelled from now on; its place stays
 abbrev pub cancel : Requests → ℕ → Requests
 cancel R r = with_request R r cancelled
 
+-- EvtRequestCancel for request r starts, and its mark is Taken
 abbrev pub take_cancel : Requests → ℕ → Requests
 take_cancel R r = with_request R r (with_mark marks.Taken)
 
+-- request r is completed
 abbrev pub complete : Requests → ℕ → Requests
 complete R r = move_to R r place.Done
 
--- a request at one of some places is to be completed with CANCELLED
+-- a request is to be completed by the framework with CANCELLED, if its place is one of those that `here` names
 abbrev pub closed_at : (Place → Bool) → Request → Request
 closed_at here r = if here r.place then moved (place.Closing status.Cancelled) r else r
 
--- what returns to a queue is to be completed with CANCELLED
+-- each request that returns from queue q is to be completed by the framework with CANCELLED (own)
 abbrev pub close_returning : Requests → ℕ → Requests
 close_returning R q = record R { all = map (closed_at (is_returning_to q)) R.all }
 
+-- whether a request at this place waits in queue q or returns from it
 abbrev pub is_in : ℕ → Place → Bool
 is_in q p = is_queued_in q p || is_returning_to q p
 
--- what waits in a queue or returns to it is to be completed with CANCELLED
+-- each request that waits in queue q or returns from it is to be completed by the framework with CANCELLED (own)
 abbrev pub close : Requests → ℕ → Requests
 close R q = record R { all = map (closed_at (is_in q)) R.all }
 
--- a request that the framework is done with: completed, or made by the driver and given to nobody
+-- whether nothing more can come of a request: it is completed, or the driver made it and has it
 abbrev pub is_over : Request → Bool
 is_over r = is_done r.place || (is_owned r.place && is_none r.info.origin)
 
+-- a request whose object is destroyed: nothing is kept of it, once nothing more can come of it
 abbrev pub forgotten : Request → Request
 forgotten r = if is_over r then no_request else r
 
--- of a request that is gone nothing is kept
+-- request r is gone with its object, and nothing of it is kept
 abbrev pub forget : Requests → ℕ → Requests
 forget R r = record R { all = slice_set R.all r (forgotten (request_of R r)) }
 
+-- at the opening no request is there
 abbrev pub no_requests : Requests
 no_requests = record { all = []; arrived = 0 }
