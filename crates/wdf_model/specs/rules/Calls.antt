@@ -110,8 +110,8 @@ mark_outcome plan S r =
     if declares plan callback.EvtRequestCancel (origin_or_none S r) then record { answer = Stat (mark_answer S.requests r); deeds = MarkRequest (object_id r) ∷ [] }
     else refused status.InvalidDeviceRequest
 
--- request r goes to the head of queue q, from which it came (KMDF). One that is cancelled, or whose queue is
--- Purged, is cancelled in the queue at once. (own)
+-- request r goes to the head of queue q, from which it came. One that is cancelled, or whose queue is Purged, is
+-- cancelled in the queue at once. (KMDF)
 abbrev pub requeue_outcome : {A : Type 0} → State A → ℕ → ℕ → Outcome
 requeue_outcome S r q =
     if is_cancelled S.requests r || is_purged (mode_of S.control q) then success (GiveBack (object_id r) (object_id q) ∷ []) else success (Requeue (object_id r) (object_id q) ∷ [])
@@ -123,8 +123,8 @@ forwards_nowhere plan S r q =
     origin_or_none S r == q || not (device_of_queue plan q == (info_of S.requests r).device.0)
     || not (is_manual_queue plan q || has_handler plan q (info_of S.requests r).form)
 
--- request r goes to the tail of queue q; WDF_BUSY where q doesn't accept (KMDF). One that is cancelled is cancelled
--- in q at once. (own)
+-- request r goes to the tail of queue q; WDF_BUSY where q doesn't accept. One that is cancelled is cancelled in q
+-- at once. (KMDF)
 abbrev pub forward_outcome : {A : Type 0} → Plan → State A → ℕ → ℕ → Outcome
 forward_outcome plan S r q =
     if forwards_nowhere plan S r q then refused status.InvalidDeviceRequest

@@ -108,7 +108,7 @@ callback_for rank.Cancel = callback.EvtRequestCancel
 callback_for rank.CanceledOnQueue = callback.EvtIoCanceledOnQueue
 callback_for rank.Stop = callback.EvtIoStop
 callback_for rank.Resume = callback.EvtIoResume
--- completion routines; no other rank is asked for
+-- completion routines have rows of their own where this is used; no other rank comes here
 callback_for _ = callback.EvtRequestCompletion
 
 -- how many places the starts of a rank for the requests of object o have

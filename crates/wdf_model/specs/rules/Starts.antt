@@ -195,7 +195,7 @@ presents plan S c q r =
 
 -- when callback c of object o may start for request r, by its rank
 abbrev pub rank_ready_for : {A : Type 0} → Plan → State A → Rank → Callback → ℕ → ℕ → Bool
--- own: a sent request is done, and wasn't forgotten
+-- KMDF: a sent request is done, and wasn't forgotten; own: the callback's object is its target
 rank_ready_for plan S rank.Completion c o r = is_sent_to o (place_of S.requests r) && is_some (routine_due S.targets r)
 -- KMDF: the request's mark is due, on the queue that it came from
 rank_ready_for plan S rank.Cancel c o r = is_due (mark_of S.requests r) && is_held_from S o r
@@ -256,7 +256,7 @@ may_start plan m S cpu c o r =
 
 -- what the start of a callback on object o for request r does of its rank's own
 abbrev pub effect_for : Rank → ℕ → ℕ → List Deed
--- own: it is owned again
+-- KMDF: it is owned again
 effect_for rank.Completion o r = ComeBack (object_id r) ∷ []
 -- KMDF: its cancel is taken
 effect_for rank.Cancel o r = TakeCancel (object_id r) ∷ []
