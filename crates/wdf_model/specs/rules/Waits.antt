@@ -123,9 +123,9 @@ call_cause plan S c = elim c.kind as (λ _. Option Cause) [
   | call.WdfInterruptAcquireLock ↦ by_lock plan S (object_in c.a)
   -- the requests that the driver holds from the queue
   | call.WdfIoQueueStopSynchronously ↦ by_request plan S (held_from S (object_in c.a))
-  -- these, and what waits in it
+  -- the same, and what waits in the queue
   | call.WdfIoQueueDrainSynchronously ↦ by_request plan S (held_from S (object_in c.a) ++ waiting_in S.queues (object_in c.a))
-  -- these, and what returns to it
+  -- what the driver holds from the queue, and what returns to it
   | call.WdfIoQueuePurgeSynchronously ↦ by_request plan S (held_from S (object_in c.a) ++ requests_where S (is_returning_to (object_in c.a)))
   -- what is sent to the target
   | call.WdfIoTargetStop ↦ by_request plan S (requests_where S (is_sent_to (object_in c.a)))
@@ -189,7 +189,7 @@ queued_cause plan S q r =
     ∷ cause_if (no_cpu plan S (queue_level plan q)) cause.NoCpu
     ∷ [])
 
--- why the EvtIoCanceledOnQueue of queue q doesn't start for a request
+-- why the EvtIoCanceledOnQueue of queue q doesn't start for a request: the scope lock, or no processor
 abbrev pub returning_cause : {A : Type 0} → Plan → State A → ℕ → Option Cause
 returning_cause plan S q =
     first_cause (cause_if (queue_scope_held plan S q) cause.ScopeHeld ∷ cause_if (no_cpu plan S (queue_level plan q)) cause.NoCpu ∷ [])
@@ -376,7 +376,8 @@ abbrev pub references_cause : {A : Type 0} → State A → ℕ → Option Cause
 references_cause S o =
     cause_if (is_cleaned (life_of S.tree o) && nat_lt 0 (references_of S.tree o)) (cause.References (references_of S.tree o))
 
--- why object o isn't gone
+-- why object o isn't gone: references, a child or sibling, a frame, no processor, or its target, the first that
+-- holds
 abbrev pub object_cause : {A : Type 0} → Plan → State A → ℕ → Option Cause
 object_cause plan S o =
     first_cause (
