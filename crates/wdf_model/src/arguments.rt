@@ -1,3 +1,5 @@
+//! What an argument of a call names.
+
 ghost use Rattle.std.specs.Prelude.{◌≡◌};
 ghost use Rattle.wdf_model.specs.State.{object_in};
 

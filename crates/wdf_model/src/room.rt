@@ -1,3 +1,5 @@
+//! How much room maps and lists of a run need, in entries.
+
 /// The most events of a run. (own)
 pub const EVENTS: u32 = 200_000;
 

@@ -25,20 +25,23 @@ pub record Deal : Type 0 where
   pub view : View
   pub about : Intent
 
+-- that the frame of view v is about to do i
 abbrev pub deal : View → Intent → Deal
 deal v i = record { view = v; about = i }
 
+-- the fault of it, none where it is done right
 abbrev pub fault_in_deal : Deal → Option Fault
 fault_in_deal d = fault_of d.view d.about
 
--- with these ids: the queue has 3, its request 5
+-- the object with this id; the queue has 3, its request 5
 abbrev pub thing : ℕ → Handle
 thing id = record { id = record { 0 = id }; name = 0 }
 
--- a frame of this queue's EvtIoRead for the request
+-- a frame of the EvtIoRead of queue 3 for request 5
 abbrev pub reading : Frame
 reading = record blank_frame { callback = callback.EvtIoRead; object = thing 3; request = Some (thing 5) }
 
+-- a frame of the EvtIoStop of queue 3 for request 5
 abbrev pub stopping : Frame
 stopping = record blank_frame { callback = callback.EvtIoStop; object = thing 3; request = Some (thing 5) }
 
@@ -64,18 +67,19 @@ calm = record {
   hardware = λ k. true;
 }
 
--- a call about one object
+-- call k about the object with this id
 abbrev pub calls : CallKind → ℕ → Intent
 calls k id = intent.Do (record { kind = k; count = 1; a = Val (Obj (thing id)); b = Val (Num 0); c = Val (Num 0) })
 
--- the request is completed with this value
+-- request 5 is completed with value v
 abbrev pub completes : Value → Intent
 completes v = intent.Do (record { kind = call.WdfRequestComplete; count = 2; a = Val (Obj (thing 5)); b = Val v; c = Val (Num 0) })
 
+-- the status with which a request is completed that went well
 abbrev pub well : Value
 well = Stat status.Success
 
--- the sixteen mistakes
+-- the sixteen mistakes, in the order of the table of faults
 abbrev pub MISTAKES : List Deal
 MISTAKES =
     -- the request is gone
@@ -112,7 +116,7 @@ MISTAKES =
     ∷ deal calm (completes (Num 5))
     ∷ []
 
--- the same done right
+-- next to each mistake the same done right
 abbrev pub DONE_RIGHT : List Deal
 DONE_RIGHT =
     -- its deletion is asked

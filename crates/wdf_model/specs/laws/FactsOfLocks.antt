@@ -59,14 +59,15 @@ OF_DEFERRED = callback.EvtDpcFunc ∷ callback.EvtTimerFunc ∷ callback.EvtWork
 abbrev pub OF_INTERRUPT : List Callback
 OF_INTERRUPT = callback.EvtInterruptIsr ∷ callback.EvtInterruptEnable ∷ callback.EvtInterruptDisable ∷ []
 
--- the lock of each of these callbacks on a declared object
+-- the lock of each of these callbacks on the declared object o, under scope s
 abbrev pub locks_on : Scope → ℕ → List Callback → List (Option LockRef)
 locks_on s o cs = map (λ c. lock_of_callback (plan_under s) c o (declared_of (plan_under s) o)) cs
 
--- the same for an object of a class
+-- the locks of the functions of deferred objects, on an object of class k under scope s; its id, 9, doesn't matter
 abbrev pub locks_of_class : Scope → ℕ → List (Option LockRef)
 locks_of_class s k = map (λ c. lock_of_callback (plan_under s) c 9 (Some (declared.OfClass k))) OF_DEFERRED
 
+-- the locks under scope s, as the definitions give them, in six lists
 abbrev pub locks_under : Scope → List (List (Option LockRef))
 locks_under s =
     locks_on s 3 OF_QUEUE
@@ -77,18 +78,19 @@ locks_under s =
     ∷ locks_on s 2 (DEVICE_CALLBACKS ++ callback.EvtCleanupCallback ∷ callback.EvtDestroyCallback ∷ callback.EvtRequestCompletion ∷ [])
     ∷ []
 
--- the lock of a queue's callbacks: its device's, its own, or none
+-- the lock of a queue's callbacks: its device's, its own, or none (KMDF)
 abbrev pub lock_by_scope : Scope → Option LockRef
 lock_by_scope scope.PerDevice = Some (lock.DeviceScope (record { 0 = 2 }))
 lock_by_scope scope.PerQueue = Some (lock.QueueScope (record { 0 = 3 }))
 lock_by_scope scope.Unscoped = None
 
--- the lock that serializes what has the device as parent
+-- the lock that serializes what has the device as parent: the device's, where that is the scope (KMDF)
 abbrev pub device_lock_by_scope : Scope → Option LockRef
 device_lock_by_scope scope.PerDevice = Some (lock.DeviceScope (record { 0 = 2 }))
 device_lock_by_scope _ = None
 
--- queue callbacks and serialized work take the scope's lock, an interrupt's callbacks its own, the others none
+-- the same six lists as a reader expects them: queue callbacks and serialized work take the scope's lock, an
+-- interrupt's callbacks its own, but for EvtInterruptDpc, and the others none (KMDF)
 abbrev pub locks_expected : Scope → List (List (Option LockRef))
 locks_expected s =
     replicate 9 (lock_by_scope s)

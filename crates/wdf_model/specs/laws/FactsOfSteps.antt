@@ -14,7 +14,7 @@ use Rattle.wdf_model.specs.declared.enums.Phase.{Phase}
 use Rattle.wdf_model.specs.declared.enums.Phase.TheVariants as phase
 use Rattle.wdf_model.specs.parts.Pnp.{DeviceSteps, DEVICE_CALLBACKS}
 
--- the last of a list
+-- the last of a list, none of an empty one
 abbrev pub last_of : {T : Type 0} → List T → Option T
 last_of [] = None
 last_of (x ∷ []) = Some x
@@ -34,20 +34,22 @@ stage_reached phase.Sleeping ask.Remove = Some stage.Removed
 stage_reached phase.Sleeping ask.Surprise = Some stage.Removed
 stage_reached _ _ = None
 
--- the step that passes a stage
+-- the step that passes this stage, if there is one
 abbrev pub passing : Option Stage → Option Step
 passing s = option_map (λ x. step.Pass x None) s
 
--- a device with all callbacks and one interrupt, whose two step callbacks are declared
+-- a device with all callbacks and the one interrupt i, whose two step callbacks are declared
 abbrev pub whole_device : Handle → DeviceSteps
 whole_device i = record {
   callbacks = DEVICE_CALLBACKS;
   interrupts = record { interrupt = i; enables = true; disables = true } ∷ [];
 }
 
+-- the step that runs the device's callback c
 abbrev pub runs : Callback → Step
 runs c = step.Run c None
 
+-- the step that passes stage s, which isn't about an interrupt
 abbrev pub passes : Stage → Step
 passes s = step.Pass s None
 
@@ -55,7 +57,7 @@ passes s = step.Pass s None
 abbrev pub HARD : List Step
 HARD = passes stage.Hardware ∷ runs callback.EvtDevicePrepareHardware ∷ []
 
--- the power-up whose last callback is this one
+-- the power-up with the interrupt i; callback c is the one that starts self-managed I/O, the first time or again
 abbrev pub up_by : Handle → Callback → List Step
 up_by i c =
     runs callback.EvtDeviceD0Entry
@@ -67,6 +69,7 @@ up_by i c =
     ∷ passes stage.Working
     ∷ []
 
+-- the power-down with the interrupt i
 abbrev pub down_with : Handle → List Step
 down_with i =
     runs callback.EvtDeviceSelfManagedIoSuspend
@@ -90,7 +93,8 @@ TAIL =
     ∷ passes stage.Removed
     ∷ []
 
--- the steps that each post gives such a device in each phase; before it was Working it is Off
+-- the steps that each post gives such a device in each phase, after KMDF but own in their order. Before it was
+-- Working it is Off.
 abbrev pub whole_steps : Handle → Phase → Ask → List Step
 whole_steps i phase.Off ask.Start = HARD ++ up_by i callback.EvtDeviceSelfManagedIoInit
 whole_steps i phase.Off ask.Remove = passes stage.Closed ∷ passes stage.Removed ∷ []
@@ -104,9 +108,10 @@ whole_steps i phase.Working ask.Surprise = runs callback.EvtDeviceSurpriseRemova
 whole_steps i phase.Sleeping ask.Wake = up_by i callback.EvtDeviceSelfManagedIoRestart
 whole_steps i phase.Sleeping ask.Remove = runs callback.EvtDeviceQueryRemove ∷ TAIL
 whole_steps i phase.Sleeping ask.Surprise = runs callback.EvtDeviceSurpriseRemoval ∷ TAIL
+-- a post that changes nothing
 whole_steps i _ _ = []
 
--- whether a device of a phase was ever Working
+-- whether a device of this phase was ever Working; here one that was removed had been
 abbrev pub was_working : Phase → Bool
 was_working phase.Off = false
 was_working _ = true

@@ -23,13 +23,13 @@ use Rattle.wdf_model.specs.rules.Faults.{is_never_deleted, is_request_kind}
 use Rattle.wdf_model.specs.rules.Calls.{may_send}
 use Rattle.wdf_model.specs.rules.Starts.{clean_ready, destroy_ready}
 
--- where a request may be that arrives
+-- where a request may be that arrives: in a queue, or closing
 abbrev pub is_arrival_place : Place → Bool
 is_arrival_place (place.Queued q) = true
 is_arrival_place (place.Closing s) = true
 is_arrival_place _ = false
 
--- an arrived request, in the driver's hands
+-- request r arrived, and is Owned by the driver
 abbrev pub is_given : {A : Type 0} → State A → ℕ → Bool
 is_given S r = is_owned (place_of S.requests r) && same_kind (kind_of S.tree r) kind.Request
 
@@ -40,6 +40,7 @@ is_reached place.Owned = true
 is_reached (place.Sent t) = true
 is_reached _ = false
 
+-- whether deed d may be done in state S: one row for each kind of deed that asks for something
 abbrev pub fits : {A : Type 0} → Plan → Deed → State A → Bool
 -- an object is made under a live parent while there is room, and is no request and nothing that is declared
 fits plan (Create k class parent) S = is_live (life_of S.tree parent.0) && not (is_full S.tree) && not (is_request_kind k) && not (is_never_deleted k)
@@ -81,9 +82,10 @@ fits plan (Resume r) S = is_with_driver S r.0 && resume_due S.power r.0
 -- a sequence begins where none is under way; a step is left, and no callback of one runs
 fits plan (AskDevice d a) S = not (busy S.pnp d.0)
 fits plan (TakeStep d) S = is_some (next_step S.pnp d.0) && not (is_running_step S.pnp d.0)
+-- the other deeds ask for nothing
 fits plan _ S = true
 
--- each of some deeds fits where it is done
+-- each of these deeds fits where it is done, after those before it
 abbrev pub all_fit : {A : Type 0} → Plan → List Deed → State A → Bool
 all_fit plan [] S = true
 all_fit plan (d ∷ ds) S = fits plan d S && all_fit plan ds (do_deed plan d S)

@@ -32,7 +32,9 @@ is_declared_kind _ = false
 
 -- A request is Queued exactly where it waits in that queue, once, and Sent exactly where that target has it, once.
 pub record PlacesAgree {A : Type 0} (S : State A) : Type 0 where
+  -- how often queue q lists request r: once if r's place is that queue, else never
   pub queued : (q r : ℕ) → count_by (λ x. x == r) (waiting_in S.queues q) ≡ flag (is_queued_in q (place_of S.requests r))
+  -- how often target t lists request r: once if r's place is that target, else never
   pub sent : (t r : ℕ) → count_by (λ s. s.request.0 == r) (the_target S.targets t).sent ≡ flag (is_sent_to t (place_of S.requests r))
 
 -- An object of a kind that only the scenario declares is a declared one, of that kind.
@@ -42,33 +44,41 @@ pub record DeclaredAgree {A : Type 0} (plan : Plan) (S : State A) : Type 0 where
 -- Each frame is there once, on a processor or parked, and no number is above that of the events. Its
 -- object was made, and it knows the nearest device of that.
 pub record FramesAgree {A : Type 0} (S : State A) : Type 0 where
+  -- no frame is there twice
   pub once : (f : ℕ) → count_by (λ x. x == f) (all_frames S.cpus) ≤ 1
+  -- the number of a frame is that of an event
   pub numbered : (f : ℕ) → 1 ≤ count_by (λ x. x == f) (all_frames S.cpus) → f ≤ S.number
+  -- the frame's device is the nearest one at or above its object
   pub device : (f : ℕ) → 1 ≤ count_by (λ x. x == f) (all_frames S.cpus) → (frame_of S.cpus f).device.id.0 ≡ nearest_device S.tree (frame_of S.cpus f).object.id.0
+  -- the frame's object has an id that was given out
   pub object : (f : ℕ) → 1 ≤ count_by (λ x. x == f) (all_frames S.cpus) → (frame_of S.cpus f).object.id.0 < length S.tree.nodes
 
--- an event completes a request: the driver's call, or the framework
+-- event e completes request r: the driver's call, or the framework
 abbrev pub completes : ℕ → Event → Bool
 completes r (event.Did cpu c answer) = same_call_kind c.kind call.WdfRequestComplete && object_in c.a == r
 completes r (event.Complete request s) = request.id.0 == r
 completes r _ = false
 
+-- the posts by which an app makes a request
 abbrev pub is_arrival_post : Post → Bool
 is_arrival_post (post.Read device length) = true
 is_arrival_post (post.Write device length) = true
 is_arrival_post (post.Control device code length) = true
 is_arrival_post _ = false
 
+-- an answer is the handle of request r
 abbrev pub is_answer : ℕ → Option Handle → Bool
 is_answer r None = false
 is_answer r (Some h) = h.id.0 == r
 
--- an event is the arrival of a request
+-- event e is the arrival of request r
 abbrev pub arrives : ℕ → Event → Bool
 arrives r (event.Posted agent p answer) = is_arrival_post p && is_answer r answer
 arrives r _ = false
 
 -- No request is completed twice, and none before it arrives.
 pub record CompletedOnce (run : List Event) : Type 0 where
+  -- request r is completed at most once
   pub once : (r : ℕ) → count_by (completes r) run ≤ 1
+  -- where event k completes request r, an event before it is the arrival of r
   pub after : (k r : ℕ) (e : Event) → slice_get run k ≡ Some e → completes r e ≡ true → list_any (arrives r) (take k run) ≡ true

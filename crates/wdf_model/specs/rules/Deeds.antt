@@ -46,7 +46,8 @@ use Rattle.wdf_model.specs.State.{State, is_with_driver, withdrawn_place}
 
 -- ---- deletion
 
--- the deletion of one object is asked, and it leaves its queue, if it is live
+-- the deletion of object o is asked if it is live, and a DPC, timer or work item leaves its queue at once (KMDF,
+-- own in that it only asks). What isn't live stays as it is.
 abbrev pub ask_object : {A : Type 0} → State A → ℕ → State A
 ask_object S o =
     if is_live (life_of S.tree o) then record S {
@@ -56,24 +57,29 @@ ask_object S o =
       timers = timers.stop S.timers o;
     } else S
 
--- KMDF: deleting an object deletes its descendants
+-- the deletion of object o and of all that is below it is asked (KMDF: deleting an object deletes its descendants)
 abbrev pub ask_objects : {A : Type 0} → State A → ℕ → State A
 ask_objects S o = fold ask_object S (subtree S.tree o)
 
 -- ---- requests that the driver gets and gives up
 
--- a request is held from a queue: it counts for power where the queue is power-managed
+-- power, when the driver gets request r from queue q: r is noted as held if q is power-managed (KMDF)
 abbrev pub hold_power : Plan → Power → ℕ → ℕ → Power
 hold_power plan P r q = if is_managed plan q then power.held_more P r q else P
 
+-- power, when the driver gives up request r: what was noted of r goes, with its acknowledgement and its resume
+-- (KMDF)
 abbrev pub release_power : Power → ℕ → Power
 release_power P r = if is_held (holding_of P r) then power.held_less P r else P
 
+-- the queues, when the driver gives up a request that came from queue q: one request less is held from q; as they
+-- were where it came from none
 abbrev pub release_line : Queues → Option ℕ → Queues
 release_line Q None = Q
 release_line Q (Some q) = queues.let_go Q q
 
--- the driver gives up a request, if it holds it
+-- the driver gives up request r: it isn't held from its queue any more. Nothing changes where the driver doesn't
+-- hold it. (KMDF)
 abbrev pub give_up : {A : Type 0} → State A → ℕ → State A
 give_up S r =
     if is_with_driver S r then record S {
@@ -81,56 +87,63 @@ give_up S r =
       power = release_power S.power r;
     } else S
 
+-- request r gets place p, and its mark and its origin what goes with that
 abbrev pub with_place : {A : Type 0} → State A → ℕ → Place → State A
 with_place S r p = record S { requests = requests.move_to S.requests r p }
 
+-- the place of a request that waits in queue q
 abbrev pub queued : ℕ → Place
 queued q = place.Queued (record { 0 = q })
 
--- a request enters a queue at the tail, or at the head
+-- request r enters queue q at the tail; where q was empty, notification that is registered becomes due (KMDF)
 abbrev pub enter_at_tail : {A : Type 0} → State A → ℕ → ℕ → State A
 enter_at_tail S q r = record S {
   queues = queues.enter S.queues q r;
   control = control.entered S.control q (is_empty_queue S.queues q);
 }
 
+-- request r enters queue q at the head; notification as at the tail (KMDF)
 abbrev pub enter_at_head : {A : Type 0} → State A → ℕ → ℕ → State A
 enter_at_head S q r = record S {
   queues = queues.requeue S.queues q r;
   control = control.entered S.control q (is_empty_queue S.queues q);
 }
 
--- KMDF: a request is cancelled in a queue; it is cancelled from then on
+-- request r is cancelled in queue q: it is cancelled from then on, and returns to the driver or is to be completed
+-- with CANCELLED (KMDF)
 abbrev pub cancel_in : {A : Type 0} → Plan → State A → ℕ → ℕ → State A
 cancel_in plan S q r = record S { requests = requests.move_to (requests.cancel S.requests r) r (withdrawn_place plan S q r) }
 
--- a waiting request is: it leaves the queue
+-- request r, which waits in queue q, leaves it and is cancelled in it (KMDF)
 abbrev pub withdraw : {A : Type 0} → Plan → ℕ → State A → ℕ → State A
 withdraw plan q S r = cancel_in plan (record S { queues = queues.take_cancelled S.queues r }) q r
 
--- what returns to a queue is to be completed with CANCELLED
+-- what returns to queue q is to be completed with CANCELLED, without its EvtIoCanceledOnQueue (own)
 abbrev pub close_returning : {A : Type 0} → State A → ℕ → State A
 close_returning S q = record S { requests = requests.close_returning S.requests q }
 
--- what waits in a queue or returns to it is to be completed with CANCELLED
+-- what waits in queue q or returns to it is to be completed with CANCELLED (own)
 abbrev pub close_queue : {A : Type 0} → State A → ℕ → State A
 close_queue S q = record S { queues = queues.clear S.queues q; requests = requests.close S.requests q }
 
--- a sent request that doesn't come back is no longer held
+-- the driver gives up request r when it sends it, if it won't come back; else it holds it on
 abbrev pub give_up_if : {A : Type 0} → Bool → State A → ℕ → State A
 give_up_if false S r = S
 give_up_if true S r = give_up S r
 
--- the place of a request with which its target is done: it stays where it is if it comes back
+-- the place of a request when its target is done with it, with status s (KMDF). One that comes back stays at p,
+-- which is Sent; one that was forgotten is to be completed with s.
 abbrev pub finished_at : Bool → Status → Place → Place
 finished_at false s p = p
 finished_at true s p = place.Closing s
 
--- a request that arrives and waits enters its queue
+-- an arrived request r enters the queue that its place names, at the tail; with any other place it waits nowhere
 abbrev pub enter_if_queued : {A : Type 0} → State A → Place → ℕ → State A
 enter_if_queued S (place.Queued q) r = enter_at_tail S q.0 r
 enter_if_queued S _ r = S
 
+-- a request arrives at a device: it is the next object, a child of the device, and waits where its place p is a
+-- queue (KMDF)
 abbrev pub arrive_at : {A : Type 0} → State A → ℕ → RequestInfo → Place → State A
 arrive_at S device info p =
     enter_if_queued
@@ -139,20 +152,27 @@ arrive_at S device info p =
 
 -- ---- the deeds
 
+-- the state after one deed. A row without a comment changes one part, by that part's act; the others say what moves
+-- together.
 abbrev pub do_deed : {A : Type 0} → Plan → Deed → State A → State A
 do_deed plan (Create k class parent) S = record S { tree = tree.create S.tree k class parent.0 }
+-- KMDF: a request that the driver makes is Owned; own: its device is the nearest one at or above its parent
 do_deed plan (MakeRequest class parent) S = record S {
   tree = tree.create S.tree kind.Made class parent.0;
   requests = requests.arrive S.requests (next_id S.tree) place.Owned (made_info (nearest_device S.tree parent.0));
 }
+-- KMDF: the object, its place, and the queue in which it waits
 do_deed plan (Arrive device info p) S = arrive_at S device.0 info p
+-- own: also where no request is made
 do_deed plan (CountArrival agent) S = record S { arrivals = change_at 0 S.arrivals agent suc }
+-- KMDF: of the object and of what is below it
 do_deed plan (AskDeletion o) S = ask_objects S o.0
 do_deed plan (Refer o) S = record S { tree = tree.reference S.tree o.0 }
 do_deed plan (Unrefer o) S = record S { tree = tree.dereference S.tree o.0 }
 do_deed plan (WriteCell o k v) S = record S { tree = tree.set S.tree o.0 k v }
 do_deed plan (Note o c) S = record S { tree = tree.note_start S.tree o.0 c }
 do_deed plan (CleanUp o) S = record S { tree = tree.clean S.tree o.0 }
+-- KMDF: the object is gone, and what was known of it as a request with it
 do_deed plan (EndLife o) S = record S { tree = tree.destroy S.tree o.0; requests = requests.forget S.requests o.0 }
 do_deed plan (PushFrame cpu f frame level) S = record S { cpus = cpus.push S.cpus cpu.0 f.0 frame level.0 }
 do_deed plan (GoOn f frame) S = record S { cpus = cpus.change S.cpus f.0 frame }
@@ -163,33 +183,46 @@ do_deed plan (ParkFrame cpu) S = record S { cpus = cpus.park S.cpus cpu.0 }
 do_deed plan (UnparkFrame cpu f) S = record S { cpus = cpus.unpark S.cpus cpu.0 f.0 }
 do_deed plan (TakeLock l f by_call) S = record S { locks = locks.take S.locks l f.0 by_call }
 do_deed plan (ReleaseLock l) S = record S { locks = locks.release S.locks l }
+-- KMDF: the front leaves the queue and is Owned; it counts as held from the queue, and for power
 do_deed plan (Present q r) S = record S {
   queues = queues.take S.queues q.0;
   requests = requests.move_to S.requests r.0 place.Owned;
   power = hold_power plan S.power r.0 q.0;
 }
+-- KMDF: the same for one that returns, which had left the queue before
 do_deed plan (Receive q r) S = record S {
   queues = queues.hold S.queues q.0;
   requests = requests.move_to S.requests r.0 place.Owned;
   power = hold_power plan S.power r.0 q.0;
 }
+-- KMDF: given up, and at the head of the queue
 do_deed plan (Requeue r q) S = enter_at_head (with_place (give_up S r.0) r.0 (queued q.0)) q.0 r.0
+-- KMDF: given up, and at the tail of the queue
 do_deed plan (Forward r q) S = enter_at_tail (with_place (give_up S r.0) r.0 (queued q.0)) q.0 r.0
+-- KMDF: given up, and cancelled in the queue at once; it is never on the queue's list
 do_deed plan (GiveBack r q) S = cancel_in plan (give_up S r.0) q.0 r.0
+-- KMDF: off the queue's list, and cancelled in the queue
 do_deed plan (Withdraw q r) S = withdraw plan q.0 S r.0
 do_deed plan (MarkRequest r) S = record S { requests = requests.mark S.requests r.0 }
 do_deed plan (UnmarkRequest r) S = record S { requests = requests.unmark S.requests r.0 }
 do_deed plan (CancelRequest r) S = record S { requests = requests.cancel S.requests r.0 }
 do_deed plan (TakeCancel r) S = record S { requests = requests.take_cancel S.requests r.0 }
+-- KMDF: at the target; given up too if it won't come back
 do_deed plan (SendRequest r t forget) S =
     with_place (record (give_up_if forget S r.0) { targets = targets.send S.targets t.0 r.0 forget }) r.0 (place.Sent (record { 0 = t.0 }))
+-- KMDF: the target's answer is noted; a request that was forgotten is to be completed with it
 do_deed plan (FinishSending r s) S =
     with_place (record S { targets = targets.done S.targets r.0 s }) r.0 (finished_at (is_forgotten S.targets r.0) s (place_of S.requests r.0))
+-- KMDF: no longer at the target, and Owned again
 do_deed plan (ComeBack r) S = with_place (record S { targets = targets.back S.targets r.0 }) r.0 place.Owned
+-- KMDF: given up and Done, and its deletion is asked
 do_deed plan (CompleteRequest r) S = ask_objects (record (give_up S r.0) { requests = requests.complete S.requests r.0 }) r.0
 do_deed plan (SetMode q m) S = record S { control = control.set_mode S.control q.0 m }
+-- KMDF: the queue is Purged, and each request that waits is cancelled in it, the front first
 do_deed plan (PurgeQueue q) S = fold (withdraw plan q.0) (record S { control = control.set_mode S.control q.0 mode.Purged }) (waiting_in S.queues q.0)
+-- own: in each power-managed queue of the device
 do_deed plan (CloseReturning d) S = fold close_returning S (managed_queues plan d.0)
+-- own: the device's queues are Purged for good, and nothing waits in one or returns to one
 do_deed plan (CloseDevice d) S = fold close_queue (record S { control = control.shut S.control d.0 }) (queues_of plan d.0)
 do_deed plan (RegisterQueue q on) S = record S { control = control.notify S.control q.0 on }
 do_deed plan (NotifyQueue q) S = record S { control = control.notified S.control q.0 }
@@ -214,17 +247,17 @@ do_deed plan (StopTarget t) S = record S { targets = targets.stop S.targets t.0 
 do_deed plan (StartTarget t) S = record S { targets = targets.start S.targets t.0 }
 do_deed plan PassTick S = record S { clock = S.clock + 1 }
 
--- one deed after another
+-- the state after these deeds, done one after another
 abbrev pub do_deeds : {A : Type 0} → Plan → List Deed → State A → State A
 do_deeds plan [] S = S
 do_deeds plan (d ∷ ds) S = do_deeds plan ds (do_deed plan d S)
 
--- own: each agent hears of an event, but for what stays inside a frame
+-- the agents when they have heard of event e: each of them hears of it, but for what stays inside a frame (own)
 abbrev pub told : {A : Type 0} → Meaning A → Event → List A → List A
 told m (event.Local cpu line) agents = agents
 told m (event.Log cpu v) agents = agents
 told m e agents = map (λ a. m.fold a e) agents
 
--- the agents hear of an event, and it is counted
+-- the state when the agents have heard of event e and it is counted
 abbrev pub counted : {A : Type 0} → Meaning A → Event → State A → State A
 counted m e S = record S { agents = told m e S.agents; number = S.number + 1 }

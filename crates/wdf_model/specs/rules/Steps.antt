@@ -46,7 +46,7 @@ use Rattle.wdf_model.specs.rules.Posts.{may_post, post_deeds}
 
 -- ---- a frame's own event
 
--- what a frame on a processor sees of the state
+-- what frame f on processor cpu sees of the state; its faults are judged by this alone
 abbrev pub view_of : {A : Type 0} → Plan → State A → ℕ → ℕ → View
 view_of plan S cpu f = record {
   frame = frame_of S.cpus f;
@@ -68,88 +68,99 @@ view_of plan S cpu f = record {
   hardware = λ k. has_hardware S.power (device_of_register plan k);
 }
 
--- a call without a fault is answered, or waits where its condition isn't met once its first part is done
+-- call c without a fault, with outcome o: it is answered, or waits where its condition isn't met once its first
+-- part is done
 abbrev pub call_event : {A : Type 0} → Plan → State A → ℕ → Call → Outcome → Event
 call_event plan S cpu c o =
     if is_met_then plan S c then event.Did (cpu_of cpu) c o.answer else event.Waiting (cpu_of cpu) c
 
--- the event of an intent without a fault
+-- the event of what frame f on processor cpu is about to do, where that is no fault
 abbrev pub intent_event : {A : Type 0} → Plan → Meaning A → State A → ℕ → ℕ → Frame → Intent → Event
 intent_event plan m S cpu f frame (intent.Local change next) = event.Local (cpu_of cpu) (line_of plan frame)
 intent_event plan m S cpu f frame (intent.Log v) = event.Log (cpu_of cpu) v
 intent_event plan m S cpu f frame (intent.Spend n) = event.Spend (cpu_of cpu) n
+-- own: a read answers what the device shows at this moment
 intent_event plan m S cpu f frame (intent.Get k) = event.Register (cpu_of cpu) access.Read k (shown plan m S (device_of_register plan k) k)
 intent_event plan m S cpu f frame (intent.Put k v) = event.Register (cpu_of cpu) access.Write k v
 intent_event plan m S cpu f frame (intent.Do c) = call_event plan S cpu c (outcome plan S cpu f c)
 intent_event plan m S cpu f frame (intent.Return v) = event.End (cpu_of cpu) frame.callback frame.object v
 intent_event plan m S cpu f frame intent.Broken = event.Fault (cpu_of cpu) fault.ScriptError (line_of plan frame)
 
--- a fault comes in place of what the frame is about to do
+-- the event of a frame that is about to do i: the fault, if there is one, comes in its place
 abbrev pub fault_event : {A : Type 0} → Plan → Meaning A → State A → ℕ → ℕ → Frame → Intent → Option Fault → Event
 fault_event plan m S cpu f frame i (Some x) = event.Fault (cpu_of cpu) x (line_of plan frame)
 fault_event plan m S cpu f frame i None = intent_event plan m S cpu f frame i
 
+-- the event of frame f on processor cpu that is about to do i
 abbrev pub next_event : {A : Type 0} → Plan → Meaning A → State A → ℕ → ℕ → Frame → Intent → Event
 next_event plan m S cpu f frame i = fault_event plan m S cpu f frame i (fault_of (view_of plan S cpu f) i)
 
--- a frame that waits wakes where its condition is met
+-- a frame on processor cpu whose call p waits wakes where the call's condition is met; none where it isn't (KMDF)
 abbrev pub woken_event : {A : Type 0} → State A → ℕ → Pending → Option Event
 woken_event S cpu p = if is_met S p.call then Some (event.Woke (cpu_of cpu) p.call p.answer) else None
 
+-- the event of frame f on processor cpu: a frame that waits can only wake, any other takes its next statement
 abbrev pub event_of_frame : {A : Type 0} → Plan → Meaning A → State A → ℕ → ℕ → Frame → Option Pending → Option Event
 event_of_frame plan m S cpu f frame (Some p) = woken_event S cpu p
 event_of_frame plan m S cpu f frame None = Some (next_event plan m S cpu f frame (intent_of plan frame))
 
--- a frame spends while its tick is later than the clock
+-- a frame spends while its tick is later than the clock (own)
 abbrev pub spends : {A : Type 0} → State A → Frame → Bool
 spends S frame = nat_lt S.clock frame.until
 
+-- the event of the top frame f of processor cpu; none on an empty processor, and none while the frame spends
 abbrev pub event_of_top : {A : Type 0} → Plan → Meaning A → State A → ℕ → Option ℕ → Option Event
 event_of_top plan m S cpu None = None
 event_of_top plan m S cpu (Some f) =
     if spends S (frame_of S.cpus f) then None else event_of_frame plan m S cpu f (frame_of S.cpus f) (frame_of S.cpus f).pending
 
--- the one event of a processor's top frame, beside leaving the processor: none where the frame spends, or waits in vain
+-- the one event of a processor's top frame, beside leaving the processor: none where the frame spends, or waits in
+-- vain
 abbrev pub own_event : {A : Type 0} → Plan → Meaning A → State A → ℕ → Option Event
 own_event plan m S cpu = event_of_top plan m S cpu (top S.cpus cpu)
 
 -- ---- parking
 
--- a wait that isn't over
+-- a call p waits, and its wait isn't over; no where nothing waits
 abbrev pub waits_on : {A : Type 0} → State A → Option Pending → Bool
 waits_on S None = false
 waits_on S (Some p) = not (is_met S p.call)
 
--- a wait that is over
+-- a call p waits, and its wait is over; no where nothing waits
 abbrev pub wait_is_over : {A : Type 0} → State A → Option Pending → Bool
 wait_is_over S None = false
 wait_is_over S (Some p) = is_met S p.call
 
--- own: a frame that waits at PASSIVE_LEVEL leaves its processor
+-- own: frame f may leave processor cpu: it is the top frame there, waits, and the processor's level is
+-- PASSIVE_LEVEL
 abbrev pub may_park : {A : Type 0} → State A → ℕ → ℕ → Bool
 may_park S cpu f = same_id (top S.cpus cpu) f && irql S.cpus cpu == 0 && waits_on S (frame_of S.cpus f).pending
 
--- own: and comes back to an empty one when its wait is over
+-- own: parked frame f may come back to processor cpu: that is empty, and the frame's wait is over
 abbrev pub may_unpark : {A : Type 0} → State A → ℕ → ℕ → Bool
 may_unpark S cpu f = contains f S.cpus.parked && is_empty_cpu S.cpus cpu && wait_is_over S (frame_of S.cpus f).pending
 
 -- ---- what may come: one row for each kind of event
 
+-- e is the event of the top frame of processor cpu
 abbrev pub is_own_event : {A : Type 0} → Plan → Meaning A → State A → Cpu → Event → Bool
 is_own_event plan m S cpu e = same_option same_event (own_event plan m S cpu.0) (Some e)
 
+-- a place is Closing with status t
 abbrev pub is_closing_with : Place → Status → Bool
 is_closing_with (place.Closing s) t = same_status s t
 is_closing_with _ t = false
 
+-- a request's handle is proper, or there is none
 abbrev pub is_proper_if_any : {A : Type 0} → Plan → State A → Option Handle → Bool
 is_proper_if_any plan S None = true
 is_proper_if_any plan S (Some h) = is_proper plan S h
 
--- a processor of the plan
+-- cpu is a processor of the plan, which are counted from 0
 abbrev pub is_cpu : Plan → Cpu → Bool
 is_cpu plan cpu = nat_lt cpu.0 plan.cpus
 
+-- event e may come in state S: one row for each kind of event
 abbrev pub may : {A : Type 0} → Plan → Meaning A → State A → Event → Bool
 -- a callback starts by its row of the table of callbacks
 may plan m S (event.Start cpu c o r) = is_cpu plan cpu && is_proper plan S o && is_proper_if_any plan S r && may_start plan m S cpu.0 c o.id.0 r
@@ -173,76 +184,88 @@ may plan m S (event.Complete r s) = is_proper plan S r && is_closing_with (place
 -- a cleanup and a destruction come by the rules of the tree, after their callbacks
 may plan m S (event.Cleanup o) = is_proper plan S o && clean_ready S o.id.0 && callback_over plan S callback.EvtCleanupCallback o.id.0
 may plan m S (event.Destroy o) = is_proper plan S o && destroy_ready S o.id.0 && callback_over plan S callback.EvtDestroyCallback o.id.0
+-- own: an agent posts what it has due, with the answer that the state gives
 may plan m S (event.Posted agent p answer) = may_post plan m S agent p answer
 -- own: time passes where nothing else may come
 may plan m S (event.Tick time) = false
 
 -- ---- the state after an event: one row for each kind of event
 
--- a frame at the statement that follows
+-- a frame after this statement; at the callback's end it stays where it is
 abbrev pub at_next : Frame → Option Statement → Frame
 at_next frame None = frame
 at_next frame (Some s) = record frame { at = s.next }
 
+-- a frame after its next statement
 abbrev pub goes_on : Plan → Frame → Frame
 goes_on plan frame = at_next frame (statement_at plan frame)
 
+-- a frame whose variable with this number has value v
 abbrev pub with_variable : Frame → ℕ → Value → Frame
 with_variable frame variable v = record frame { variables = slice_set frame.variables variable v }
 
+-- a frame whose variable with this number, if any, has the answer v
 abbrev pub with_answer : Frame → Option ℕ → Value → Frame
 with_answer frame None v = frame
 with_answer frame (Some variable) v = with_variable frame variable v
 
--- the variable that gets the answer of a statement, if any
+-- the number of the variable that gets the answer of an act; only calls and reads of registers have an answer
 abbrev pub result_of_act : Act → Option ℕ
 result_of_act (act.Call k into a b c) = into
 result_of_act (act.Get variable register) = Some variable
 result_of_act _ = None
 
+-- the variable that gets the answer of a statement, if there is a statement and it has one
 abbrev pub result_of : Option Statement → Option ℕ
 result_of None = None
 result_of (Some s) = result_of_act s.act
 
--- a frame whose statement is answered goes on
+-- a frame whose statement is answered with v: its variable has the answer, it is at the next statement, and waits
+-- no more
 abbrev pub answered : Plan → Frame → Value → Frame
 answered plan frame v = record (with_answer (goes_on plan frame) (result_of (statement_at plan frame)) v) { pending = None }
 
+-- a frame after a `let`, an `if` or a `repeat`: a variable has a value, or a `repeat` has so many turns left
 abbrev pub changed : Frame → Change → Frame
 changed frame (change.Assign variable v) = with_variable frame variable v
 changed frame change.Branch = frame
 changed frame (change.Count depth left) = record frame { counters = slice_set frame.counters depth left }
 
--- a step inside a frame
+-- a frame after a step inside it; no other intent changes it so
 abbrev pub stepped : Frame → Intent → Frame
 stepped frame (intent.Local c next) = record (changed frame c) { at = next }
 stepped frame _ = frame
 
+-- a frame that spends n ticks from now, after which it goes on with the statement after `spend` (own)
 abbrev pub spending : {A : Type 0} → Plan → State A → Frame → ℕ → Frame
 spending plan S frame n = record (goes_on plan frame) { until = S.clock + n }
 
+-- a frame that waits in call c, which will answer v
 abbrev pub waiting : Frame → Call → Value → Frame
 waiting frame c v = record frame { pending = Some (record { call = c; answer = v }) }
 
--- what the top frame of a processor does, by its number and itself
+-- what the top frame of processor cpu does, by its number and itself; nothing on an empty processor
 abbrev pub by_top : {A : Type 0} → State A → ℕ → (ℕ → Frame → List Deed) → List Deed
 by_top S cpu deeds = elim (top S.cpus cpu) as (λ _. List Deed) [
   | None ↦ []
   | Some f ↦ deeds f (frame_of S.cpus f)
 ]
 
--- what a call does that is answered at once: both its parts, and the frame goes on
+-- what call c of frame f does that is answered with v at once: both its parts, and the frame goes on
 abbrev pub did_deeds : {A : Type 0} → Plan → State A → ℕ → Call → Value → ℕ → Frame → List Deed
 did_deeds plan S cpu c v f frame =
     (outcome plan S cpu f c).deeds ++ second_deeds f c ++ GoOn (frame_id f) (answered plan frame v) ∷ []
 
+-- what call c of frame f does that has to wait: its first part, and the frame waits
 abbrev pub waiting_deeds : {A : Type 0} → Plan → State A → ℕ → Call → ℕ → Frame → List Deed
 waiting_deeds plan S cpu c f frame =
     (outcome plan S cpu f c).deeds ++ GoOn (frame_id f) (waiting frame c (outcome plan S cpu f c).answer) ∷ []
 
+-- what call c of frame f does when its wait is over: its second part, and the frame goes on with answer v
 abbrev pub woke_deeds : Plan → Call → Value → ℕ → Frame → List Deed
 woke_deeds plan c v f frame = second_deeds f c ++ GoOn (frame_id f) (answered plan frame v) ∷ []
 
+-- what event e does to state S, as a list of deeds: one row for each kind of event
 abbrev pub deeds : {A : Type 0} → Plan → State A → Event → List Deed
 -- the callback's own effect, its frame on top, its lock
 deeds plan S (event.Start cpu c o r) = start_deeds plan S cpu.0 c o r
@@ -276,6 +299,6 @@ deeds plan S (event.Posted agent p answer) = post_deeds plan S agent p
 -- own: the clock is one more
 deeds plan S (event.Tick time) = PassTick ∷ []
 
--- the state after an event: its deeds are done, the agents hear of it, and it is counted
+-- the state after event e: its deeds are done, the agents hear of it, and it is counted
 abbrev pub after : {A : Type 0} → Plan → Meaning A → State A → Event → State A
 after plan m S e = counted m e (do_deeds plan (deeds plan S e) S)
