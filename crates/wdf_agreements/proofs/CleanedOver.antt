@@ -9,9 +9,10 @@ use Rattle.wdf_base.specs.declared.object.Kind.TheVariants as kind
 use Rattle.wdf_base.specs.declared.object.Life.{Life}
 use Rattle.wdf_base.specs.declared.object.Life.TheVariants as life
 use Rattle.wdf_base.specs.declared.declared.Declared.{Declared}
+use Rattle.wdf_base.specs.Lives.{is_cleaned, is_gone, is_live, is_past_cleanup}
 use Rattle.wdf_model.specs.declared.entries.Node.{Node}
 use Rattle.wdf_model.specs.Tables.{entry}
-use Rattle.wdf_model.specs.parts.Tree.{Tree, children, declared_node, gone, is_child, is_cleaned, is_gone, is_live, is_past_cleanup, life_of, may_clean, new_node, next_id, node_of, noted, opening_tree, parent_of, subtree, with_life, with_node}
+use Rattle.wdf_model.specs.parts.Tree.{Tree, children, declared_node, gone, is_child, life_of, may_clean, new_node, next_id, node_of, noted, opening_tree, parent_of, subtree, with_life, with_node}
 use Rattle.wdf_model.specs.parts.Tree as tree
 use Rattle.wdf_model.specs.parts.Requests as requests
 use Rattle.wdf_model.specs.State.{State}

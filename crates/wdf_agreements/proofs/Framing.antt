@@ -11,9 +11,10 @@ use Rattle.wdf_base.specs.declared.event.Fault.TheVariants as fault
 use Rattle.wdf_base.specs.declared.frame.Frame.{Frame}
 use Rattle.wdf_base.specs.declared.object.LockRef.{LockRef}
 use Rattle.wdf_base.specs.Same.{same_lock}
+use Rattle.wdf_base.specs.Lives.{is_gone}
 use Rattle.wdf_model.specs.declared.entries.Held.{Held}
 use Rattle.wdf_model.specs.Tables.{flag}
-use Rattle.wdf_model.specs.parts.Tree.{is_gone, life_of, may_destroy}
+use Rattle.wdf_model.specs.parts.Tree.{life_of, may_destroy}
 use Rattle.wdf_model.specs.parts.Cpus.{Cpus, all_frames, frame_of, is_on, nobody_on, top}
 use Rattle.wdf_model.specs.parts.Locks.{Locks, held_by_call, lock_of_callback}
 use Rattle.wdf_model.specs.State.{State, declared_in, opening}

@@ -21,8 +21,8 @@ use Rattle.wdf_model.specs.declared.enums.Mode.TheVariants as mode
 use Rattle.wdf_model.specs.declared.entries.Request.{Request}
 use Rattle.wdf_model.specs.Tables.{flag, same_id}
 use Rattle.wdf_model.specs.Plans.{declares, device_of_queue, managed_queues, queues_of}
-use Rattle.wdf_model.specs.parts.Tree.{is_live, kind_of, life_of, nearest_device, next_id, subtree}
-use Rattle.wdf_model.specs.parts.Requests.{Requests, cancelled, closed_at, forgotten, has_arrived, info_of, is_in, is_marked, is_over, is_owned, is_queued_in, is_returning_to, is_sent, made_info, marked, moved, no_request, origin_from, place_of, request_of, unmarked, with_mark, with_request}
+use Rattle.wdf_model.specs.parts.Tree.{kind_of, life_of, nearest_device, next_id, subtree}
+use Rattle.wdf_model.specs.parts.Requests.{Requests, cancelled, closed_at, forgotten, has_arrived, info_of, is_in, is_over, made_info, marked, moved, no_request, origin_from, place_of, request_of, unmarked, with_mark, with_request}
 use Rattle.wdf_model.specs.parts.Requests as requests
 use Rattle.wdf_model.specs.parts.Queues.{front, waiting_in}
 use Rattle.wdf_model.specs.parts.Control as control
@@ -41,6 +41,8 @@ use Rattle.wdf_model.proofs.KeptByDeeds.{deed_keeps}
 use Rattle.wdf_invariants.proofs.HeldMoves.{Placed}
 use Rattle.wdf_agreements.proofs.Stays.{asks_all, given, given_if}
 use Rattle.wdf_base.specs.Meaning.{Meaning}
+use Rattle.wdf_base.specs.Lives.{is_live}
+use Rattle.wdf_base.specs.Places.{is_marked, is_owned, is_queued_in, is_returning_to, is_sent}
 use Rattle.wdf_model.specs.rules.Ready.{ready, state_after}
 use Rattle.wdf_model.proofs.Runs.{run_opens}
 use Rattle.wdf_model.proofs.LawsOverRuns.{history_now}

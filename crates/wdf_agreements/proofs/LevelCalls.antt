@@ -32,9 +32,10 @@ use Rattle.wdf_base.specs.Kinds.{class_kind}
 use Rattle.wdf_base.specs.Plan.{is_script_of}
 use Rattle.wdf_base.specs.Same.{same_callback, same_kind, same_option}
 use Rattle.wdf_base.specs.SamePlan.{same_declared}
+use Rattle.wdf_base.specs.Lives.{is_past_cleanup}
 use Rattle.wdf_model.specs.Tables.{entry}
 use Rattle.wdf_model.specs.Plans.{script_on}
-use Rattle.wdf_model.specs.parts.Tree.{Tree, is_past_cleanup, kind_of, life_of, made_as, node_of}
+use Rattle.wdf_model.specs.parts.Tree.{Tree, kind_of, life_of, made_as, node_of}
 use Rattle.wdf_model.specs.parts.Cpus.{frame_of}
 use Rattle.wdf_model.specs.parts.Cpus as cpus
 use Rattle.wdf_model.specs.parts.Locks as locks

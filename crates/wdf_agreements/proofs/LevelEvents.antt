@@ -24,7 +24,8 @@ use Rattle.wdf_base.specs.declared.script.Statement.{Statement}
 use Rattle.wdf_base.specs.declared.signature.Sort.TheVariants as sort
 use Rattle.wdf_base.specs.Calls.{signature_of}
 use Rattle.wdf_base.specs.Same.{same_event, same_option}
-use Rattle.wdf_model.specs.parts.Tree.{Tree, is_cleaned, is_gone, is_past_cleanup}
+use Rattle.wdf_base.specs.Lives.{is_cleaned, is_gone, is_past_cleanup}
+use Rattle.wdf_model.specs.parts.Tree.{Tree}
 use Rattle.wdf_model.specs.parts.Cpus.{frame_of, top}
 use Rattle.wdf_model.specs.parts.Locks.{holds_by_call}
 use Rattle.wdf_model.specs.State.{State, object_in}

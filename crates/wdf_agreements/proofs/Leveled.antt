@@ -12,11 +12,12 @@ use Rattle.wdf_base.specs.declared.object.LockRef.{LockRef}
 use Rattle.wdf_base.specs.declared.object.LockRef.TheVariants as lock
 use Rattle.wdf_base.specs.Callbacks.{row_of}
 use Rattle.wdf_base.specs.Same.{same_kind, same_lock}
+use Rattle.wdf_base.specs.Lives.{is_past_cleanup}
 use Rattle.wdf_model.specs.declared.entries.Held.{Held}
 use Rattle.wdf_model.specs.declared.entries.Running.{Running}
 use Rattle.wdf_model.specs.Tables.{flag}
 use Rattle.wdf_model.specs.Plans.{callback_irql}
-use Rattle.wdf_model.specs.parts.Tree.{Tree, declared_as, is_past_cleanup, kind_of, life_of}
+use Rattle.wdf_model.specs.parts.Tree.{Tree, declared_as, kind_of, life_of}
 use Rattle.wdf_model.specs.parts.Cpus.{Cpus, frame_of, levels_without, no_frame, running, top}
 use Rattle.wdf_model.specs.parts.Cpus as cpus
 use Rattle.wdf_model.specs.parts.Locks.{Locks, lock_of_callback}

@@ -11,9 +11,10 @@ use Rattle.wdf_base.specs.declared.object.Kind.TheVariants as kind
 use Rattle.wdf_base.specs.declared.object.Life.TheVariants as life
 use Rattle.wdf_base.specs.declared.declared.Declared.{Declared}
 use Rattle.wdf_base.specs.declared.declared.Declared.TheVariants as declared
+use Rattle.wdf_base.specs.Lives.{is_asked, is_cleaned, is_live}
 use Rattle.wdf_model.specs.declared.entries.Node.{Node}
 use Rattle.wdf_model.specs.Tables.{contains, entry}
-use Rattle.wdf_model.specs.parts.Tree.{Tree, declared_node, gone, is_asked, is_cleaned, is_live, life_of, new_node, next_id, node_of, noted, opening_tree, parent_of, subtree, with_life, with_node}
+use Rattle.wdf_model.specs.parts.Tree.{Tree, declared_node, gone, life_of, new_node, next_id, node_of, noted, opening_tree, parent_of, subtree, with_life, with_node}
 use Rattle.wdf_model.specs.parts.Tree as tree
 use Rattle.wdf_model.specs.parts.Requests as requests
 use Rattle.wdf_model.specs.State.{State}

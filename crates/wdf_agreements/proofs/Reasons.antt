@@ -8,9 +8,10 @@ use Rattle.wdf_base.specs.declared.object.Place.{Place}
 use Rattle.wdf_base.specs.declared.object.Place.TheVariants as place
 use Rattle.wdf_base.specs.declared.object.RequestForm.{RequestForm}
 use Rattle.wdf_base.specs.Same.{same_kind}
+use Rattle.wdf_base.specs.Lives.{is_gone, is_live}
 use Rattle.wdf_model.specs.Tables.{contains}
 use Rattle.wdf_model.specs.Plans.{declares, device_of_queue, has_handler, interrupt_of, is_manual_queue, kind_of_class}
-use Rattle.wdf_model.specs.parts.Tree.{is_gone, is_live, kind_of, life_of}
+use Rattle.wdf_model.specs.parts.Tree.{kind_of, life_of}
 use Rattle.wdf_model.specs.parts.Cpus.{frame_of, top}
 use Rattle.wdf_model.specs.parts.Requests.{info_of}
 use Rattle.wdf_model.specs.State.{State}

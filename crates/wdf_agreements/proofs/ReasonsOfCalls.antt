@@ -17,9 +17,10 @@ use Rattle.wdf_base.specs.declared.declared.Declared.TheVariants as declared
 use Rattle.wdf_base.specs.Kinds.{declared_kind}
 use Rattle.wdf_base.specs.Plan.{declared_of}
 use Rattle.wdf_base.specs.Same.{same_kind}
+use Rattle.wdf_base.specs.Lives.{is_live}
 use Rattle.wdf_model.specs.Tables.{flag}
 use Rattle.wdf_model.specs.Plans.{declares, device_of_queue, as_interrupt, interrupt_of, is_manual_queue, is_parallel_queue, kind_of_class, parent_of_class}
-use Rattle.wdf_model.specs.parts.Tree.{is_full, is_live, kind_of, life_of}
+use Rattle.wdf_model.specs.parts.Tree.{is_full, kind_of, life_of}
 use Rattle.wdf_model.specs.parts.Requests.{info_of, is_cancelled, mark_answer}
 use Rattle.wdf_model.specs.parts.Queues.{front}
 use Rattle.wdf_model.specs.parts.Control.{accepts, is_purged, mode_of}

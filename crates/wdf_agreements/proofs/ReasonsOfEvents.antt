@@ -35,7 +35,7 @@ use Rattle.wdf_model.specs.declared.entries.Node.{Node}
 use Rattle.wdf_model.specs.declared.entries.Running.{Running}
 use Rattle.wdf_model.specs.Tables.{contains, flag, same_id}
 use Rattle.wdf_model.specs.Plans.{callback_irql, declared_ids, device_of_queue, first_there, is_queue_of, queue_for, queue_of, queues_of, serves, serves_rest}
-use Rattle.wdf_model.specs.parts.Tree.{Tree, class_of, declared_as, is_gone, is_live, kind_of, life_of, made_as, node_of, noted}
+use Rattle.wdf_model.specs.parts.Tree.{Tree, class_of, declared_as, kind_of, life_of, made_as, node_of, noted}
 use Rattle.wdf_model.specs.parts.Cpus.{Cpus, frame_of, no_frame, top, irql}
 use Rattle.wdf_model.specs.parts.Locks.{lock_of_callback}
 use Rattle.wdf_model.specs.parts.Requests.{arrival_of, place_of}
@@ -70,6 +70,7 @@ use Rattle.wdf_agreements.proofs.Sound.{WaitsAt, lock_of_frame}
 use Rattle.wdf_agreements.proofs.Reasons.{AllReasons, IsTaken, Reason, takes}
 use Rattle.wdf_agreements.proofs.ReasonsOfCalls.{outcome_given, second_given}
 use Rattle.wdf_base.specs.declared.frame.Pending.{Pending}
+use Rattle.wdf_base.specs.Lives.{is_gone, is_live}
 use Rattle.wdf_model.specs.parts.Cpus as cpus
 use Rattle.wdf_agreements.proofs.Lives.{noted_same}
 use Rattle.wdf_invariants.proofs.StepTable.{top_is}

@@ -1,7 +1,8 @@
 -- What several deeds leave alone: a reader of a state that they don't reach reads the same.
 use Rattle.std.proofs.Common.{if◌then◌else◌, ◌≡◌, ℕ, Bool, true, false, List, [], ◌∷◌, fold, refl, ap, ◌∙◌}
 use Rattle.wdf_base.specs.declared.plan.Plan.{Plan}
-use Rattle.wdf_model.specs.parts.Tree.{Tree, is_live, life_of}
+use Rattle.wdf_base.specs.Lives.{is_live}
+use Rattle.wdf_model.specs.parts.Tree.{Tree, life_of}
 use Rattle.wdf_model.specs.parts.Requests.{Requests}
 use Rattle.wdf_model.specs.parts.Queues.{Queues}
 use Rattle.wdf_model.specs.parts.Power.{Power}

@@ -5,7 +5,8 @@ use Rattle.std.proofs.lemmas.Bool.{cases_Bool, eqb-true, or_cases}
 use Rattle.wdf_model.specs.declared.entries.Node.{Node}
 use Rattle.wdf_model.specs.Tables.{contains, entry}
 use Rattle.wdf_base.specs.declared.object.Life.TheVariants as life
-use Rattle.wdf_model.specs.parts.Tree.{Tree, below_marks, gone, is_live, life_of, node_of, parent_of, subtree, with_life}
+use Rattle.wdf_base.specs.Lives.{is_live}
+use Rattle.wdf_model.specs.parts.Tree.{Tree, below_marks, gone, life_of, node_of, parent_of, subtree, with_life}
 use Rattle.wdf_model.specs.State.{State}
 use Rattle.wdf_model.specs.rules.Deeds.{ask_object}
 use Rattle.wdf_model.proofs.Tests.{both_left, both_right, first, second}

@@ -3,8 +3,9 @@ use Rattle.std.specs.Prelude.{◌≡◌, ◌≢◌, ℕ, ◌==◌, ◌≤◌, tr
 use Rattle.wdf_base.specs.declared.plan.Plan.{Plan}
 use Rattle.wdf_base.specs.declared.object.LockRef.{LockRef}
 use Rattle.wdf_base.specs.Same.{same_lock}
+use Rattle.wdf_base.specs.Lives.{is_asked, is_cleaned, is_gone, is_live}
 use Rattle.wdf_model.specs.Plans.{device_of_queue, interrupt_of}
-use Rattle.wdf_model.specs.parts.Tree.{is_asked, is_cleaned, is_gone, is_live, life_of, parent_of}
+use Rattle.wdf_model.specs.parts.Tree.{life_of, parent_of}
 use Rattle.wdf_model.specs.parts.Cpus.{all_frames, frame_of}
 use Rattle.wdf_model.specs.parts.Locks.{holder}
 use Rattle.wdf_model.specs.parts.Requests.{has_arrived, info_of, request_of}

@@ -2,6 +2,7 @@
 use Rattle.std.specs.Prelude.{Bool, true, false, ℕ}
 use Rattle.wdf_base.specs.declared.call.Callback.{Callback}
 use Rattle.wdf_base.specs.declared.call.Callback.TheVariants as callback
+use Rattle.wdf_base.specs.declared.object.Kind.{Kind}
 use Rattle.wdf_base.specs.declared.object.Kind.TheVariants as kind
 use Rattle.wdf_base.specs.declared.rank.Rank.{Rank}
 use Rattle.wdf_base.specs.declared.rank.Rank.TheVariants as rank
@@ -79,3 +80,9 @@ carries_request rank.Stop = true
 carries_request rank.Resume = true
 carries_request rank.Handler = true
 carries_request _ = false
+
+-- what an entry of a DPC list runs, by the kind of its object: EvtInterruptDpc of an interrupt, EvtDpcFunc of a DPC
+-- (KMDF)
+abbrev pub dpc_function : Kind → Callback
+dpc_function kind.Interrupt = callback.EvtInterruptDpc
+dpc_function _ = callback.EvtDpcFunc

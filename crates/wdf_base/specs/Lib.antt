@@ -9,3 +9,5 @@ pub mod Resolved
 pub mod Same
 pub mod SamePlan
 pub mod Words
+pub mod Places
+pub mod Lives

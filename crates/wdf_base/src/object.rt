@@ -1,3 +1,9 @@
+ghost use Rattle.std.specs.Prelude.{◌≡◌};
+ghost use Rattle.wdf_base.specs.Callbacks.{dpc_function};
+ghost use Rattle.wdf_base.specs.Lives as lives;
+ghost use Rattle.wdf_base.specs.Places as places;
+
+use crate::call::Callback;
 use crate::ids::ObjectId;
 use crate::value::Status;
 
@@ -22,6 +28,18 @@ pub enum Kind {
     Made,
 }
 
+impl Kind {
+    /// The callback that an entry of a DPC list runs: EvtInterruptDpc of an interrupt, else EvtDpcFunc. (KMDF)
+    pub fn dpc_function(self) -> Callback
+        ensures { result ≡ dpc_function self }
+    {
+        match self {
+            Kind::Interrupt => Callback::EvtInterruptDpc,
+            _ => Callback::EvtDpcFunc,
+        }
+    }
+}
+
 /// How far the deletion of an object has come.
 #[derive(Clone, Copy, Debug, PartialEq, Eq)]
 pub enum Life {
@@ -32,6 +50,36 @@ pub enum Life {
     Cleaned,
     /// It was destroyed.
     Gone,
+}
+
+impl Life {
+    /// Whether the object is there and its deletion wasn't asked.
+    pub fn is_live(self) -> bool
+        ensures { result ≡ lives.is_live self }
+    {
+        matches!(self, Life::Live)
+    }
+
+    /// Whether the deletion was asked, and the cleanup is still to come.
+    pub fn is_asked(self) -> bool
+        ensures { result ≡ lives.is_asked self }
+    {
+        matches!(self, Life::Asked)
+    }
+
+    /// Whether the cleanup is done, and the object's end is still to come.
+    pub fn is_cleaned(self) -> bool
+        ensures { result ≡ lives.is_cleaned self }
+    {
+        matches!(self, Life::Cleaned)
+    }
+
+    /// Whether the object is destroyed, or never was.
+    pub fn is_gone(self) -> bool
+        ensures { result ≡ lives.is_gone self }
+    {
+        matches!(self, Life::Gone)
+    }
 }
 
 /// Where a request is.
@@ -51,6 +99,56 @@ pub enum Place {
     Done,
 }
 
+impl Place {
+    /// Whether the request is the driver's to complete, to move or to send. (KMDF)
+    pub fn is_owned(self) -> bool
+        ensures { result ≡ places.is_owned self }
+    {
+        matches!(self, Place::Owned)
+    }
+
+    /// Whether the request is completed.
+    pub fn is_done(self) -> bool
+        ensures { result ≡ places.is_done self }
+    {
+        matches!(self, Place::Done)
+    }
+
+    /// Whether the framework is about to complete the request.
+    pub fn is_closing(self) -> bool
+        ensures { result ≡ places.is_closing self }
+    {
+        matches!(self, Place::Closing(_))
+    }
+
+    /// Whether the request is sent to some target.
+    pub fn is_sent(self) -> bool
+        ensures { result ≡ places.is_sent self }
+    {
+        matches!(self, Place::Sent(_))
+    }
+
+    /// Whether the request is sent to this target.
+    pub fn is_sent_to(self, target: ObjectId) -> bool
+        ensures { result ≡ places.is_sent_to target.0 self }
+    {
+        match self {
+            Place::Sent(other) => other.0 == target.0,
+            _ => false,
+        }
+    }
+
+    /// Whether the request was cancelled in this queue, and EvtIoCanceledOnQueue is due for it there. (KMDF)
+    pub fn is_returning_to(self, queue: ObjectId) -> bool
+        ensures { result ≡ places.is_returning_to queue.0 self }
+    {
+        match self {
+            Place::Returning(other) => other.0 == queue.0,
+            _ => false,
+        }
+    }
+}
+
 /// Whether the driver has made a request cancelable.
 #[derive(Clone, Copy, Debug, PartialEq, Eq)]
 pub enum Mark {
@@ -61,6 +159,22 @@ pub enum Mark {
     Due,
     /// EvtRequestCancel has started for it.
     Taken,
+}
+
+impl Mark {
+    /// Whether the request is cancelable: the driver marked it, and no cancel has come. (KMDF)
+    pub fn is_marked(self) -> bool
+        ensures { result ≡ places.is_marked self }
+    {
+        matches!(self, Mark::Marked)
+    }
+
+    /// Whether a cancelable request was cancelled, and EvtRequestCancel hasn't started. (KMDF)
+    pub fn is_due(self) -> bool
+        ensures { result ≡ places.is_due self }
+    {
+        matches!(self, Mark::Due)
+    }
 }
 
 /// What a request asks for.

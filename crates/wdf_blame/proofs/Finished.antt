@@ -8,12 +8,14 @@ use Rattle.wdf_base.specs.declared.event.Ending.TheVariants as ending
 use Rattle.wdf_base.specs.declared.event.Step.{Step}
 use Rattle.wdf_base.specs.declared.object.Place.{Place}
 use Rattle.wdf_base.specs.declared.object.Place.TheVariants as place
+use Rattle.wdf_base.specs.Lives.{is_asked, is_cleaned, is_gone}
+use Rattle.wdf_base.specs.Places.{is_done, is_sent}
 use Rattle.wdf_model.specs.declared.entries.Node.{Node}
 use Rattle.wdf_model.specs.Tables.{entry}
 use Rattle.wdf_model.specs.Plans.{devices_of}
-use Rattle.wdf_model.specs.parts.Tree.{gone, is_asked, is_cleaned, is_gone, life_of}
+use Rattle.wdf_model.specs.parts.Tree.{gone, life_of}
 use Rattle.wdf_model.specs.parts.Cpus.{all_frames, frame_of}
-use Rattle.wdf_model.specs.parts.Requests.{has_arrived, is_done, is_sent, no_request, place_of, request_of}
+use Rattle.wdf_model.specs.parts.Requests.{has_arrived, no_request, place_of, request_of}
 use Rattle.wdf_model.specs.parts.Pnp.{is_running_step, running_step, steps_left}
 use Rattle.wdf_model.specs.parts.Deferred.Timers.{timer_due}
 use Rattle.wdf_model.specs.parts.Deferred.Dpcs.{is_dpc_queued}

@@ -20,12 +20,13 @@ use Rattle.wdf_base.specs.declared.wait.WaitLine.{WaitLine}
 use Rattle.wdf_model.specs.Ids.{frame_id}
 use Rattle.wdf_model.specs.declared.entries.Held.{Held}
 use Rattle.wdf_base.specs.declared.ids.ObjectId.{ObjectId}
+use Rattle.wdf_base.specs.Places.{is_queued_in, is_returning_to, is_sent_to}
 use Rattle.wdf_model.specs.laws.OverRuns.{PlacesAgree}
 use Rattle.wdf_model.specs.Tables.{contains, flag, ids_of, least}
 use Rattle.wdf_model.specs.Plans.{is_managed, is_manual_queue, queue_level}
 use Rattle.wdf_model.specs.parts.Cpus.{all_frames, frame_of, irql, is_empty_cpu, is_on}
 use Rattle.wdf_model.specs.parts.Locks.{hold_of, holder, is_free_hold, is_free_if_any, object_lock, scope_of}
-use Rattle.wdf_model.specs.parts.Requests.{is_queued_in, is_returning_to, is_sent_to, place_of}
+use Rattle.wdf_model.specs.parts.Requests.{place_of}
 use Rattle.wdf_model.specs.parts.Queues.{is_free, waiting_in}
 use Rattle.wdf_model.specs.parts.Control.{delivers_in, mode_of}
 use Rattle.wdf_model.specs.parts.Deferred.WorkItems.{is_work_queued}

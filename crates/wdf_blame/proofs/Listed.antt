@@ -18,6 +18,7 @@ use Rattle.wdf_base.specs.declared.object.Place.TheVariants as place
 use Rattle.wdf_base.specs.declared.value.Status.{Status}
 use Rattle.wdf_base.specs.declared.wait.OpenThing.{OpenThing}
 use Rattle.wdf_base.specs.declared.wait.WaitLine.{WaitLine}
+use Rattle.wdf_base.specs.Places.{is_done, is_sent}
 use Rattle.wdf_model.specs.declared.entries.Node.{Node}
 use Rattle.wdf_model.specs.declared.entries.Running.{Running}
 use Rattle.wdf_model.specs.declared.enums.Group.TheVariants as group
@@ -25,7 +26,7 @@ use Rattle.wdf_model.specs.Tables.{contains, entry, first_of_list, ids_of}
 use Rattle.wdf_model.specs.Plans.{devices_of}
 use Rattle.wdf_model.specs.parts.Tree.{gone, kind_of, nearest_device, nearest_devices, own_device}
 use Rattle.wdf_model.specs.parts.Cpus.{all_frames, no_frame, running}
-use Rattle.wdf_model.specs.parts.Requests.{has_arrived, is_done, is_sent, place_of, request_of}
+use Rattle.wdf_model.specs.parts.Requests.{has_arrived, place_of, request_of}
 use Rattle.wdf_model.specs.parts.Pnp.{running_step, steps_left}
 use Rattle.wdf_model.specs.State.{State, handle_in, is_proper}
 use Rattle.wdf_model.specs.rules.Posts.{due_of}

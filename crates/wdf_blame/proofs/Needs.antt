@@ -12,7 +12,7 @@ use Rattle.wdf_base.specs.declared.wait.OpenThing.TheVariants as thing
 use Rattle.wdf_model.specs.Ids.{frame_id}
 use Rattle.wdf_model.specs.declared.entries.Held.{Held}
 use Rattle.wdf_model.specs.Tables.{least, lesser}
-use Rattle.wdf_model.specs.parts.Tree.{children, is_asked, is_cleaned, is_past_cleanup, life_of, parent_of, references_of, younger_siblings}
+use Rattle.wdf_model.specs.parts.Tree.{children, life_of, parent_of, references_of, younger_siblings}
 use Rattle.wdf_model.specs.parts.Cpus.{all_frames, frame_of, is_on}
 use Rattle.wdf_model.specs.parts.Locks.{hold_of, holder, is_free_hold, is_free_lock, object_lock}
 use Rattle.wdf_model.specs.State.{State, declared_in, handle_in, waits_for}
@@ -30,6 +30,7 @@ use Rattle.wdf_base.specs.declared.event.Event.TheVariants as event
 use Rattle.wdf_base.specs.declared.rank.Rank.{Rank}
 use Rattle.wdf_base.specs.declared.rank.Rank.TheVariants as rank
 use Rattle.wdf_base.specs.declared.script.Script.{Script}
+use Rattle.wdf_base.specs.Lives.{is_asked, is_cleaned, is_past_cleanup}
 use Rattle.wdf_model.specs.declared.enums.Group.{Group}
 use Rattle.wdf_model.specs.declared.enums.Group.TheVariants as group
 use Rattle.wdf_model.specs.Plans.{script_on}

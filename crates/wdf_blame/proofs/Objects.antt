@@ -6,11 +6,13 @@ use Rattle.wdf_base.specs.declared.plan.Plan.{Plan}
 use Rattle.wdf_base.specs.declared.object.Place.{Place}
 use Rattle.wdf_base.specs.declared.object.Place.TheVariants as place
 use Rattle.wdf_base.specs.declared.wait.Cause.TheVariants as cause
+use Rattle.wdf_base.specs.Lives.{is_asked, is_cleaned, is_past_cleanup}
+use Rattle.wdf_base.specs.Places.{is_sent_to}
 use Rattle.wdf_model.specs.Tables.{ids_of, least}
-use Rattle.wdf_model.specs.parts.Tree.{children, is_asked, is_child, is_cleaned, is_past_cleanup, life_of, parent_of, references_of, younger_siblings}
+use Rattle.wdf_model.specs.parts.Tree.{children, is_child, life_of, parent_of, references_of, younger_siblings}
 use Rattle.wdf_model.specs.parts.Cpus.{all_frames, frame_of, is_on}
 use Rattle.wdf_model.specs.parts.Locks.{object_lock}
-use Rattle.wdf_model.specs.parts.Requests.{is_sent_to, place_of}
+use Rattle.wdf_model.specs.parts.Requests.{place_of}
 use Rattle.wdf_model.specs.parts.Targets.{is_undone}
 use Rattle.wdf_model.specs.State.{State, handle_in, waits_for}
 use Rattle.wdf_model.specs.rules.Waits.{at_target, by_frame, cause_if, children_first, frames_where, holders_of, no_cpu, not_cleaned, object_cause, object_cpus, references_cause, target_of_place, users, users_that_keep, waits_for_younger}

@@ -11,7 +11,7 @@ use Rattle.wdf_model.specs.Ids.{frame_id}
 use Rattle.wdf_model.specs.Tables.{ids_of}
 use Rattle.wdf_model.specs.parts.Cpus.{all_frames, is_on}
 use Rattle.wdf_model.specs.parts.Locks.{hold_of, holder, object_lock}
-use Rattle.wdf_model.specs.parts.Requests.{is_sent_to, place_of}
+use Rattle.wdf_model.specs.parts.Requests.{place_of}
 use Rattle.wdf_model.specs.State.{State, held_from, handle_in}
 use Rattle.wdf_model.specs.rules.Waits.{by_frame, cause_if, request_line}
 use Rattle.wdf_model.proofs.Tests.{both, both_left, both_right, either_false, first, itself}
@@ -37,6 +37,7 @@ use Rattle.wdf_base.specs.declared.event.Stage.{Stage}
 use Rattle.wdf_base.specs.declared.event.Stage.TheVariants as stage
 use Rattle.wdf_base.specs.declared.event.Step.{Step}
 use Rattle.wdf_base.specs.declared.event.Step.TheVariants as step
+use Rattle.wdf_base.specs.Places.{is_sent_to}
 use Rattle.std.specs.Bool.{Decides}
 use Rattle.wdf_model.specs.declared.entries.Request.{Request}
 use Rattle.wdf_model.specs.Plans.{managed_queues}

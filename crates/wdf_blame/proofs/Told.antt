@@ -15,7 +15,7 @@ use Rattle.wdf_model.specs.Tables.{ids_of}
 use Rattle.wdf_model.specs.Plans.{queue_level}
 use Rattle.wdf_model.specs.parts.Cpus.{all_frames, frame_of, is_on}
 use Rattle.wdf_model.specs.parts.Locks.{is_free_if_any, object_lock, scope_of}
-use Rattle.wdf_model.specs.parts.Requests.{is_sent_to, place_of}
+use Rattle.wdf_model.specs.parts.Requests.{place_of}
 use Rattle.wdf_model.specs.parts.Deferred.WorkItems.{is_work_queued}
 use Rattle.wdf_model.specs.State.{State, declared_in, handle_in}
 use Rattle.wdf_model.specs.rules.Starts.{level_fits}
@@ -39,11 +39,12 @@ use Rattle.wdf_model.specs.parts.Power.{holding_of, is_unsettled_at}
 use Rattle.wdf_model.specs.parts.Pnp.{follows_queues_up, is_running_step, next_step, running_step}
 use Rattle.wdf_model.specs.parts.Deferred.Dpcs.{is_dpc_queued}
 use Rattle.wdf_model.specs.rules.Starts.{handle_id, is_unfinished_at, targets_at}
-use Rattle.wdf_model.specs.rules.Groups.{dpc_function}
 use Rattle.wdf_model.specs.rules.Waits.{by_request, cpu_of_dpc, cpus_with_dpc, deferred_cause, deferred_line, dpc_cause, first_cause, head_lock, object_of_step, queues_to_resume, quiet_frames, resume_cpus, resume_frames, resumes_cause, running_cause, runs_step, scope_holders, sequence_line, stage_cpus, stage_frames, stage_requests, step_cause, wait_list, work_cause}
 use Rattle.wdf_base.specs.Meaning.{Meaning}
 use Rattle.wdf_base.specs.declared.event.Event.{Event}
 use Rattle.wdf_base.specs.declared.event.Ending.TheVariants as ending
+use Rattle.wdf_base.specs.Places.{is_sent_to}
+use Rattle.wdf_base.specs.Callbacks.{dpc_function}
 use Rattle.wdf_model.specs.rules.Ready.{IsRunOf, ending_of, state_after}
 use Rattle.wdf_model.proofs.LawsOverRuns.{places_agree}
 use Rattle.wdf_blame.specs.Causes.{awaits_cpu, awaits_frame, awaits_request, has_lock_if_any, keeps_deferred, keeps_dpc, keeps_next, keeps_resumes, keeps_running, keeps_step, keeps_work, runs_callback}

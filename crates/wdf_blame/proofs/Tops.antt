@@ -26,6 +26,7 @@ use Rattle.wdf_base.specs.declared.frame.Intent.{Intent}
 use Rattle.wdf_base.specs.declared.frame.Intent.TheVariants as intent
 use Rattle.wdf_base.specs.declared.frame.Pending.{Pending}
 use Rattle.wdf_base.specs.declared.wait.Cause.TheVariants as cause
+use Rattle.wdf_base.specs.Places.{is_returning_to, is_sent_to}
 use Rattle.wdf_model.specs.Ids.{cpu_of, frame_id}
 use Rattle.wdf_model.specs.declared.entries.Request.{Request}
 use Rattle.wdf_model.specs.declared.enums.Group.TheVariants as group
@@ -33,7 +34,7 @@ use Rattle.wdf_model.specs.Tables.{contains, entry, first_of_list, ids_of}
 use Rattle.wdf_model.specs.Plans.{device_of_register}
 use Rattle.wdf_model.specs.parts.Cpus.{is_empty_cpu, all_frames, frame_of, is_on, stack_of, top}
 use Rattle.wdf_model.specs.parts.Locks.{hold_of, holder, is_free_lock, object_lock}
-use Rattle.wdf_model.specs.parts.Requests.{is_returning_to, is_sent_to, no_request, place_of}
+use Rattle.wdf_model.specs.parts.Requests.{no_request, place_of}
 use Rattle.wdf_model.specs.parts.Queues.{held_count, is_empty_queue, waiting_in}
 use Rattle.wdf_model.specs.parts.Cpus.{nobody_on}
 use Rattle.wdf_model.specs.parts.Deferred.Timers.{any_later_timer}

@@ -20,6 +20,7 @@ use Rattle.wdf_base.specs.Meaning.{Meaning}
 use Rattle.wdf_base.specs.declared.event.Event.{Event}
 use Rattle.wdf_base.specs.declared.event.Event.TheVariants as event
 use Rattle.wdf_base.specs.declared.rank.Rank.TheVariants as rank
+use Rattle.wdf_base.specs.Lives.{is_live}
 use Rattle.wdf_model.specs.declared.enums.Group.TheVariants as group
 use Rattle.wdf_model.specs.parts.Cpus.{nobody_on}
 use Rattle.wdf_model.specs.State.{declares_in, is_proper}
@@ -29,7 +30,6 @@ use Rattle.wdf_model.specs.rules.Steps.{may}
 use Rattle.wdf_blame.proofs.Members.{has_flat}
 use Rattle.wdf_blame.proofs.Endings.{AtRest, may_not}
 use Rattle.wdf_model.specs.declared.entries.Timed.{Timed}
-use Rattle.wdf_model.specs.parts.Tree.{is_live}
 use Rattle.wdf_model.specs.parts.Deferred.Dpcs.{is_dpc_queued}
 use Rattle.wdf_model.specs.parts.Deferred.Timers.{is_reached, timer_due}
 use Rattle.wdf_model.specs.parts.Deferred.WorkItems.{is_work_queued}

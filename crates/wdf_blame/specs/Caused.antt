@@ -8,9 +8,10 @@ use Rattle.wdf_base.specs.declared.event.Step.{Step}
 use Rattle.wdf_base.specs.declared.event.Step.TheVariants as step
 use Rattle.wdf_base.specs.declared.wait.OpenThing.{OpenThing}
 use Rattle.wdf_base.specs.declared.wait.OpenThing.TheVariants as thing
+use Rattle.wdf_base.specs.Lives.{is_cleaned, is_live}
 use Rattle.wdf_model.specs.Tables.{contains}
 use Rattle.wdf_model.specs.parts.Cpus.{frame_of, stack_of}
-use Rattle.wdf_model.specs.parts.Tree.{is_cleaned, is_live, life_of}
+use Rattle.wdf_model.specs.parts.Tree.{life_of}
 use Rattle.wdf_model.specs.parts.Pnp.{follows_queues_up, is_running_step}
 use Rattle.wdf_model.specs.parts.Deferred.Dpcs.{is_dpc_queued}
 use Rattle.wdf_model.specs.parts.Deferred.WorkItems.{is_work_queued}

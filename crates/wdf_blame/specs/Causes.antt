@@ -19,12 +19,15 @@ use Rattle.wdf_base.specs.declared.wait.Cause.TheVariants as cause
 use Rattle.wdf_base.specs.declared.wait.OpenThing.{OpenThing}
 use Rattle.wdf_base.specs.declared.wait.OpenThing.TheVariants as thing
 use Rattle.wdf_base.specs.Same.{same_callback}
+use Rattle.wdf_base.specs.Lives.{is_asked, is_cleaned, is_past_cleanup}
+use Rattle.wdf_base.specs.Places.{is_returning_to, is_sent_to}
+use Rattle.wdf_base.specs.Callbacks.{dpc_function}
 use Rattle.wdf_model.specs.Tables.{contains, same_id}
 use Rattle.wdf_model.specs.Plans.{callback_irql, device_of_queue, is_managed, is_manual_queue, managed_queues, queue_level}
-use Rattle.wdf_model.specs.parts.Tree.{is_asked, is_child, is_cleaned, is_past_cleanup, kind_of, life_of, parent_of, references_of}
+use Rattle.wdf_model.specs.parts.Tree.{is_child, kind_of, life_of, parent_of, references_of}
 use Rattle.wdf_model.specs.parts.Cpus.{all_frames, frame_of, irql, is_empty_cpu, is_on}
 use Rattle.wdf_model.specs.parts.Locks.{holder, lock_of_callback, object_lock, scope_of}
-use Rattle.wdf_model.specs.parts.Requests.{is_returning_to, is_sent_to, place_of, request_of}
+use Rattle.wdf_model.specs.parts.Requests.{place_of, request_of}
 use Rattle.wdf_model.specs.parts.Queues.{is_free, waiting_in}
 use Rattle.wdf_model.specs.parts.Control.{delivers_in, mode_of}
 use Rattle.wdf_model.specs.parts.Power.{holding_of, is_unsettled_at, queues_up}
@@ -36,7 +39,6 @@ use Rattle.wdf_model.specs.State.{State, declared_in, is_held_from, object_in, w
 use Rattle.wdf_model.specs.rules.Faults.{is_acquire}
 use Rattle.wdf_model.specs.rules.Starts.{handle_id, is_unfinished_at, targets_at}
 use Rattle.wdf_model.specs.rules.Steps.{wait_is_over}
-use Rattle.wdf_model.specs.rules.Groups.{dpc_function}
 use Rattle.wdf_model.specs.rules.Waits.{cpu_of_dpc, cpus_with_dpc, head_lock, object_of_step, queues_to_resume}
 
 -- ---- words for several forms of line

@@ -2,11 +2,13 @@
 use Rattle.std.specs.Prelude.{◌≡◌, ℕ, true, false, [], None}
 use Rattle.wdf_base.specs.Meaning.{Meaning}
 use Rattle.wdf_base.specs.declared.plan.Plan.{Plan}
+use Rattle.wdf_base.specs.Lives.{is_asked, is_cleaned, is_gone}
+use Rattle.wdf_base.specs.Places.{is_done, is_sent}
 use Rattle.wdf_model.specs.Tables.{contains}
 use Rattle.wdf_model.specs.Plans.{devices_of}
-use Rattle.wdf_model.specs.parts.Tree.{is_asked, is_cleaned, is_gone, life_of}
+use Rattle.wdf_model.specs.parts.Tree.{life_of}
 use Rattle.wdf_model.specs.parts.Cpus.{all_frames}
-use Rattle.wdf_model.specs.parts.Requests.{has_arrived, is_done, is_sent, place_of, request_of}
+use Rattle.wdf_model.specs.parts.Requests.{has_arrived, place_of, request_of}
 use Rattle.wdf_model.specs.parts.Pnp.{running_step, steps_left}
 use Rattle.wdf_model.specs.parts.Deferred.Timers.{timer_due}
 use Rattle.wdf_model.specs.parts.Deferred.Dpcs.{is_dpc_queued}

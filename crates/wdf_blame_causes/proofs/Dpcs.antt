@@ -12,13 +12,15 @@ use Rattle.wdf_base.specs.declared.object.Kind.TheVariants as kind
 use Rattle.wdf_base.specs.declared.event.Event.{Event}
 use Rattle.wdf_base.specs.declared.rank.Rank.TheVariants as rank
 use Rattle.wdf_base.specs.declared.wait.Cause.TheVariants as cause
+use Rattle.wdf_base.specs.Lives.{is_live}
+use Rattle.wdf_base.specs.Callbacks.{dpc_function}
 use Rattle.wdf_model.specs.declared.enums.Group.TheVariants as group
 use Rattle.wdf_model.specs.Tables.{contains, entry, first_of_list, same_id}
-use Rattle.wdf_model.specs.parts.Tree.{is_live, kind_of, life_of}
+use Rattle.wdf_model.specs.parts.Tree.{kind_of, life_of}
 use Rattle.wdf_model.specs.parts.Locks.{hold_of, holder, is_free_if_any, scope_of}
 use Rattle.wdf_model.specs.parts.Deferred.Dpcs.{dpc_head, dpcs_of, is_dpc_queued}
 use Rattle.wdf_model.specs.State.{State, declared_in, declares_in, handle_in, is_proper}
-use Rattle.wdf_model.specs.rules.Groups.{candidates, dpc_function, groups_of_rank, RANKS, starts}
+use Rattle.wdf_model.specs.rules.Groups.{candidates, groups_of_rank, RANKS, starts}
 use Rattle.wdf_model.specs.rules.Starts.{level_fits, may_start}
 use Rattle.wdf_model.specs.rules.Steps.{may}
 use Rattle.wdf_model.specs.rules.Waits.{cause_if, cpu_of_dpc, dpc_cause, head_lock, holders_of, scope_is_held}

@@ -12,10 +12,11 @@ use Rattle.wdf_base.specs.declared.event.Stage.TheVariants as stage
 use Rattle.wdf_base.specs.declared.event.Step.{Step}
 use Rattle.wdf_base.specs.declared.event.Step.TheVariants as step
 use Rattle.wdf_base.specs.declared.wait.WaitLine.{WaitLine}
+use Rattle.wdf_base.specs.Places.{is_queued_in, is_returning_to}
 use Rattle.wdf_model.specs.Tables.{contains, flag, ids_of}
 use Rattle.wdf_model.specs.parts.Cpus.{all_frames}
 use Rattle.wdf_model.specs.parts.Queues.{held_count, waiting_in}
-use Rattle.wdf_model.specs.parts.Requests.{is_queued_in, is_returning_to, place_of}
+use Rattle.wdf_model.specs.parts.Requests.{place_of}
 use Rattle.wdf_model.specs.parts.Pnp.{follows_queues_up, is_running_step, next_step, running_step}
 use Rattle.wdf_model.specs.State.{State, held_from}
 use Rattle.wdf_model.specs.laws.OverRuns.{DeclaredAgree}

@@ -18,15 +18,17 @@ use Rattle.wdf_base.specs.declared.wait.Cause.TheVariants as cause
 use Rattle.wdf_base.specs.Kinds.{declared_kind}
 use Rattle.wdf_base.specs.Plan.{declared_of}
 use Rattle.wdf_base.specs.Same.{same_callback, same_kind, same_option}
+use Rattle.wdf_base.specs.Lives.{is_live}
+use Rattle.wdf_base.specs.Places.{is_returning_to}
 use Rattle.wdf_model.specs.declared.entries.Request.{Request}
 use Rattle.wdf_model.specs.declared.enums.Group.TheVariants as group
 use Rattle.wdf_model.specs.laws.OverRuns.{DeclaredAgree, is_declared_kind}
 use Rattle.wdf_model.specs.Tables.{contains, entry, first_of_list, least, same_id}
 use Rattle.wdf_model.specs.Plans.{as_queue, declared_ids, declares, handler_for, has_handler, is_manual_queue, queue_level, queue_of, script_on, typed_handler}
-use Rattle.wdf_model.specs.parts.Tree.{is_live, kind_of, life_of, made_as, node_of}
+use Rattle.wdf_model.specs.parts.Tree.{kind_of, life_of, made_as, node_of}
 use Rattle.wdf_model.specs.parts.Locks.{is_free_if_any, scope_of}
 use Rattle.wdf_model.specs.parts.Queues.{front, is_free, waiting_in}
-use Rattle.wdf_model.specs.parts.Requests.{info_of, is_returning_to, no_request, place_of}
+use Rattle.wdf_model.specs.parts.Requests.{info_of, no_request, place_of}
 use Rattle.wdf_model.specs.parts.Control.{delivers_in, mode_of}
 use Rattle.wdf_model.specs.State.{State, declared_in, declares_in, handle_in, is_powered, is_proper, queue_delivers}
 use Rattle.wdf_model.specs.rules.Groups.{candidates, declared_end, groups_of_rank, handler_start, queues_in, RANKS, starts_for}

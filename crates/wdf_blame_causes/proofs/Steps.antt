@@ -15,11 +15,12 @@ use Rattle.wdf_base.specs.declared.event.Step.TheVariants as step
 use Rattle.wdf_base.specs.declared.rank.Rank.TheVariants as rank
 use Rattle.wdf_base.specs.declared.wait.Cause.TheVariants as cause
 use Rattle.wdf_base.specs.Same.{same_callback, same_handle, same_option}
+use Rattle.wdf_base.specs.Lives.{is_live}
 use Rattle.wdf_model.specs.Ids.{frame_id}
 use Rattle.wdf_model.specs.declared.enums.Group.TheVariants as group
 use Rattle.wdf_model.specs.Tables.{contains}
 use Rattle.wdf_model.specs.Plans.{callback_irql, interrupts_of}
-use Rattle.wdf_model.specs.parts.Tree.{is_live, life_of, nearest_device}
+use Rattle.wdf_model.specs.parts.Tree.{life_of, nearest_device}
 use Rattle.wdf_model.specs.parts.Cpus.{all_frames, frame_of, is_running}
 use Rattle.wdf_model.specs.parts.Locks.{is_free_if_any, lock_of_callback}
 use Rattle.wdf_model.specs.parts.Pnp.{follows_queues_up, is_running_step, next_step}

@@ -5,13 +5,13 @@ use Rattle.wdf_base.specs.declared.object.Kind.TheVariants as kind
 use Rattle.wdf_base.specs.declared.call.Callback.{Callback}
 use Rattle.wdf_base.specs.declared.event.Step.{Step}
 use Rattle.wdf_base.specs.declared.event.Step.TheVariants as step
-use Rattle.wdf_base.specs.Callbacks.{row_of}
+use Rattle.wdf_base.specs.Callbacks.{row_of, dpc_function}
 use Rattle.wdf_base.specs.Same.{same_handle, same_kind, same_option}
-use Rattle.wdf_model.specs.parts.Tree.{is_live, kind_of, life_of, nearest_device}
+use Rattle.wdf_base.specs.Lives.{is_live}
+use Rattle.wdf_model.specs.parts.Tree.{kind_of, life_of, nearest_device}
 use Rattle.wdf_model.specs.parts.Deferred.Dpcs.{dpc_head}
 use Rattle.wdf_model.specs.State.{State, declares_in}
 use Rattle.wdf_model.specs.laws.Agreement.{is_sequence}
-use Rattle.wdf_model.specs.rules.Groups.{dpc_function}
 use Rattle.wdf_model.specs.rules.Starts.{interrupt_of_step}
 use Rattle.wdf_model.specs.rules.Waits.{object_of_step}
 

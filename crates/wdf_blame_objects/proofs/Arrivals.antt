@@ -7,9 +7,10 @@ use Rattle.wdf_base.specs.declared.object.Kind.{Kind}
 use Rattle.wdf_base.specs.declared.object.Kind.TheVariants as kind
 use Rattle.wdf_base.specs.declared.object.Life.TheVariants as life
 use Rattle.wdf_base.specs.Same.{same_kind}
+use Rattle.wdf_base.specs.Lives.{is_live}
 use Rattle.wdf_model.specs.declared.entries.Node.{Node}
 use Rattle.wdf_model.specs.declared.entries.Request.{Request}
-use Rattle.wdf_model.specs.parts.Tree.{Tree, gone, is_full, is_live, kind_of, life_of, new_node, next_id, node_of, noted, parent_of, subtree, with_life, with_node}
+use Rattle.wdf_model.specs.parts.Tree.{Tree, gone, is_full, kind_of, life_of, new_node, next_id, node_of, noted, parent_of, subtree, with_life, with_node}
 use Rattle.wdf_model.specs.parts.Tree as tree
 use Rattle.wdf_model.specs.parts.Requests.{Requests, info_of}
 use Rattle.wdf_model.specs.parts.Requests as requests

@@ -24,12 +24,14 @@ use Rattle.wdf_base.specs.declared.value.Status.{Status}
 use Rattle.wdf_base.specs.declared.wait.Cause.{Cause}
 use Rattle.wdf_base.specs.declared.wait.Cause.TheVariants as cause
 use Rattle.wdf_base.specs.declared.wait.OpenThing.TheVariants as thing
+use Rattle.wdf_base.specs.Lives.{is_asked, is_cleaned, is_gone, is_live}
+use Rattle.wdf_base.specs.Places.{is_done, is_sent, is_sent_to}
 use Rattle.wdf_model.specs.declared.entries.Sending.{Sending}
 use Rattle.wdf_model.specs.declared.enums.Group.TheVariants as group
 use Rattle.wdf_model.specs.Tables.{flag, least}
 use Rattle.wdf_model.specs.Plans.{as_target, declared_ids, declares, script_on, target_of, targets_of}
-use Rattle.wdf_model.specs.parts.Tree.{gone, is_asked, is_cleaned, is_gone, is_live, kind_of, life_of, made_as, next_id, node_of, started}
-use Rattle.wdf_model.specs.parts.Requests.{is_done, is_sent, is_sent_to, place_of}
+use Rattle.wdf_model.specs.parts.Tree.{gone, kind_of, life_of, made_as, next_id, node_of, started}
+use Rattle.wdf_model.specs.parts.Requests.{place_of}
 use Rattle.wdf_model.specs.parts.Targets.{Targets, is_at_target, is_undone, is_undone_sending, routine_due, routine_outcome, sending_of, the_target}
 use Rattle.wdf_model.specs.State.{State, declares_in, handle_in, is_proper, nothing_at}
 use Rattle.wdf_model.specs.rules.Groups.{candidates, groups_of_rank, RANKS, starts_for}

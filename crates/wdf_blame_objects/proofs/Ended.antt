@@ -7,12 +7,14 @@ use Rattle.wdf_base.specs.declared.object.Place.{Place}
 use Rattle.wdf_base.specs.declared.object.Place.TheVariants as place
 use Rattle.wdf_base.specs.declared.object.RequestInfo.{RequestInfo}
 use Rattle.wdf_base.specs.Same.{same_kind}
+use Rattle.wdf_base.specs.Lives.{is_live}
+use Rattle.wdf_base.specs.Places.{is_done}
 use Rattle.wdf_model.specs.declared.entries.Node.{Node}
 use Rattle.wdf_model.specs.declared.entries.Request.{Request}
 use Rattle.wdf_model.specs.Tables.{contains}
-use Rattle.wdf_model.specs.parts.Tree.{Tree, gone, is_live, life_of, new_node, next_id, node_of, parent_of, subtree}
+use Rattle.wdf_model.specs.parts.Tree.{Tree, gone, life_of, new_node, next_id, node_of, parent_of, subtree}
 use Rattle.wdf_model.specs.parts.Tree as tree
-use Rattle.wdf_model.specs.parts.Requests.{Requests, is_done, moved, no_request, place_of, request_of}
+use Rattle.wdf_model.specs.parts.Requests.{Requests, moved, no_request, place_of, request_of}
 use Rattle.wdf_model.specs.parts.Requests as requests
 use Rattle.wdf_model.specs.State.{State}
 use Rattle.wdf_model.specs.Ids.{object_id}

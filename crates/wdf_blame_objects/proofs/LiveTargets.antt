@@ -6,12 +6,14 @@ use Rattle.std.proofs.lemmas.Bool.Decides.{nat_tests}
 use Rattle.wdf_base.specs.declared.plan.Plan.{Plan}
 use Rattle.wdf_base.specs.declared.object.Kind.TheVariants as kind
 use Rattle.wdf_base.specs.Same.{same_kind}
+use Rattle.wdf_base.specs.Lives.{is_live}
+use Rattle.wdf_base.specs.Places.{is_owned, is_sent_to}
 use Rattle.wdf_model.specs.declared.entries.Node.{Node}
 use Rattle.wdf_model.specs.declared.entries.Request.{Request}
 use Rattle.wdf_model.specs.Tables.{contains, flag}
 use Rattle.wdf_model.specs.Plans.{target_of}
-use Rattle.wdf_model.specs.parts.Tree.{is_live, kind_of, life_of, node_of, subtree}
-use Rattle.wdf_model.specs.parts.Requests.{is_cancelled, is_owned, is_sent_to, no_request, place_of}
+use Rattle.wdf_model.specs.parts.Tree.{kind_of, life_of, node_of, subtree}
+use Rattle.wdf_model.specs.parts.Requests.{is_cancelled, no_request, place_of}
 use Rattle.wdf_model.specs.parts.Requests as requests
 use Rattle.wdf_model.specs.parts.Targets.{Target, Targets, new_sending, pending, sending_in_order, takes_more, target_done, the_target, without_sending}
 use Rattle.wdf_model.specs.parts.Targets as targets

@@ -6,11 +6,13 @@ use Rattle.wdf_base.specs.Meaning.{Meaning}
 use Rattle.wdf_base.specs.Resolved.{IsResolved}
 use Rattle.wdf_base.specs.declared.plan.Plan.{Plan}
 use Rattle.wdf_base.specs.declared.event.Event.{Event}
+use Rattle.wdf_base.specs.Lives.{is_live}
+use Rattle.wdf_base.specs.Places.{is_done, is_sent_to}
 use Rattle.wdf_model.specs.declared.entries.Request.{Request}
 use Rattle.wdf_model.specs.Tables.{flag}
 use Rattle.wdf_model.specs.Plans.{device_of, target_of}
-use Rattle.wdf_model.specs.parts.Tree.{is_live, life_of, parent_of}
-use Rattle.wdf_model.specs.parts.Requests.{has_arrived, is_done, is_sent_to, no_request, place_of, request_of}
+use Rattle.wdf_model.specs.parts.Tree.{life_of, parent_of}
+use Rattle.wdf_model.specs.parts.Requests.{has_arrived, no_request, place_of, request_of}
 use Rattle.wdf_model.specs.State.{State, nothing_at}
 use Rattle.wdf_model.specs.rules.Ready.{IsRunOf, ready, state_after}
 use Rattle.wdf_model.proofs.Runs.{run_front}

@@ -5,9 +5,11 @@ use Rattle.wdf_base.specs.declared.call.Callback.{Callback}
 use Rattle.wdf_base.specs.declared.call.Callback.TheVariants as callback
 use Rattle.wdf_base.specs.declared.object.Kind.TheVariants as kind
 use Rattle.wdf_base.specs.Same.{same_kind}
+use Rattle.wdf_base.specs.Lives.{is_live}
+use Rattle.wdf_base.specs.Places.{is_done, is_sent_to}
 use Rattle.wdf_model.specs.Plans.{target_of}
-use Rattle.wdf_model.specs.parts.Tree.{is_live, kind_of, life_of, started}
-use Rattle.wdf_model.specs.parts.Requests.{is_done, is_sent_to, place_of}
+use Rattle.wdf_model.specs.parts.Tree.{kind_of, life_of, started}
+use Rattle.wdf_model.specs.parts.Requests.{place_of}
 use Rattle.wdf_model.specs.parts.Targets.{routine_due}
 use Rattle.wdf_model.specs.State.{State, declares_in}
 use Rattle.wdf_model.specs.rules.Starts.{clean_ready, destroy_ready}

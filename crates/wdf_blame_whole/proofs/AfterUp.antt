@@ -18,18 +18,20 @@ use Rattle.wdf_base.specs.declared.event.Stage.TheVariants as stage
 use Rattle.wdf_base.specs.declared.event.Step.{Step}
 use Rattle.wdf_base.specs.declared.event.Step.TheVariants as step
 use Rattle.wdf_base.specs.declared.wait.Cause.TheVariants as cause
+use Rattle.wdf_base.specs.Lives.{is_live}
+use Rattle.wdf_base.specs.Places.{is_done}
 use Rattle.wdf_model.specs.Ids.{frame_id}
 use Rattle.wdf_model.specs.declared.enums.Group.TheVariants as group
 use Rattle.wdf_model.specs.declared.entries.Holding.{Holding}
 use Rattle.wdf_model.specs.declared.entries.Request.{Request}
 use Rattle.wdf_model.specs.Tables.{entry, ids_of, same_id}
 use Rattle.wdf_model.specs.Plans.{as_queue, declared_ids, declares, device_of, device_of_queue, is_managed, is_queue_of, managed_queues, queue_level, queue_of, queues_of, script_on}
-use Rattle.wdf_model.specs.parts.Tree.{is_live, kind_of, life_of, made_as, node_of}
+use Rattle.wdf_model.specs.parts.Tree.{kind_of, life_of, made_as, node_of}
 use Rattle.wdf_model.specs.parts.Cpus.{all_frames, frame_of, is_running}
 use Rattle.wdf_model.specs.parts.Locks.{is_free_if_any, scope_of}
 use Rattle.wdf_model.specs.parts.Power.{any_resume_due, holding_of, is_held, is_held_at, no_holding, queue_power, resume_due}
 use Rattle.wdf_model.specs.parts.Pnp.{follows_queues_up, follows_up, is_running_step, next_step, sequence_of}
-use Rattle.wdf_model.specs.parts.Requests.{is_done, no_request, origin_of, place_of}
+use Rattle.wdf_model.specs.parts.Requests.{no_request, origin_of, place_of}
 use Rattle.wdf_model.specs.parts.Targets.{is_forgotten}
 use Rattle.wdf_model.specs.State.{State, declared_in, declares_in, handle_in, held_at, held_from, is_held_from, is_proper, is_with_driver}
 use Rattle.wdf_model.specs.laws.Agreement.{managed_origin}

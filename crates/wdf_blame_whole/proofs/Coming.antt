@@ -43,14 +43,16 @@ use Rattle.wdf_base.specs.declared.event.Stage.TheVariants as stage
 use Rattle.wdf_base.specs.declared.event.Step.{Step}
 use Rattle.wdf_base.specs.declared.event.Step.TheVariants as step
 use Rattle.wdf_base.specs.declared.frame.Frame.{Frame}
+use Rattle.wdf_base.specs.Lives.{is_cleaned, is_gone, is_live}
+use Rattle.wdf_base.specs.Places.{is_closing, is_done, is_owned}
 use Rattle.wdf_model.specs.Tables.{contains}
 use Rattle.wdf_model.specs.Plans.{as_device, as_interrupt, declares, device_of, interrupt_of, is_target_of, target_of}
-use Rattle.wdf_model.specs.parts.Tree.{gone, is_cleaned, is_gone, is_live, kind_of, life_of, nearest_device, parent_of, subtree}
+use Rattle.wdf_model.specs.parts.Tree.{gone, kind_of, life_of, nearest_device, parent_of, subtree}
 use Rattle.wdf_model.specs.parts.Cpus.{frame_of, top}
 use Rattle.wdf_model.specs.parts.Locks.{lock_of_callback}
 use Rattle.wdf_model.specs.parts.Interrupts.{is_enabled}
 use Rattle.wdf_model.specs.parts.Deferred.Dpcs.{is_dpc_queued}
-use Rattle.wdf_model.specs.parts.Requests.{is_closing, is_done, is_owned, no_request, place_of, request_of}
+use Rattle.wdf_model.specs.parts.Requests.{no_request, place_of, request_of}
 use Rattle.wdf_model.specs.parts.Pnp.{Sequence, is_running_step, next_step, no_sequence, running_step, sequence_of, steps_left, taken_step}
 use Rattle.wdf_model.specs.parts.Pnp as pnp
 use Rattle.wdf_model.specs.State.{State, declared_in, is_proper, nothing_at, object_in}

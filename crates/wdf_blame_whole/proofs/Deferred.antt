@@ -15,14 +15,15 @@ use Rattle.wdf_base.specs.declared.event.Event.{Event}
 use Rattle.wdf_base.specs.declared.event.Ending.TheVariants as ending
 use Rattle.wdf_base.specs.declared.wait.Cause.{Cause}
 use Rattle.wdf_base.specs.declared.wait.OpenThing.TheVariants as thing
+use Rattle.wdf_base.specs.Lives.{is_live}
+use Rattle.wdf_base.specs.Callbacks.{dpc_function}
 use Rattle.wdf_model.specs.Tables.{contains, first_of_list}
 use Rattle.wdf_model.specs.Plans.{declares, interrupt_of, script_on}
-use Rattle.wdf_model.specs.parts.Tree.{is_live, kind_of, life_of, made_as, node_of}
+use Rattle.wdf_model.specs.parts.Tree.{kind_of, life_of, made_as, node_of}
 use Rattle.wdf_model.specs.parts.Deferred.Dpcs.{dpc_head, dpcs_of, is_dpc_queued}
 use Rattle.wdf_model.specs.parts.Deferred.WorkItems.{is_work_queued}
 use Rattle.wdf_model.specs.parts.Deferred.Timers.{is_timer_queued, timed_of, timer_due}
 use Rattle.wdf_model.specs.State.{State, declared_in, declares_in}
-use Rattle.wdf_model.specs.rules.Groups.{dpc_function}
 use Rattle.wdf_model.specs.rules.Ready.{IsRunOf, ending_of, is_open_work, state_after}
 use Rattle.wdf_model.specs.rules.Waits.{wait_list}
 use Rattle.std.specs.Prelude.{slice_get}

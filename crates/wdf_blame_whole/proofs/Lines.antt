@@ -12,7 +12,8 @@ use Rattle.wdf_base.specs.declared.wait.Cause.{Cause}
 use Rattle.wdf_base.specs.declared.wait.WaitLine.{WaitLine}
 use Rattle.wdf_base.specs.declared.wait.OpenThing.{OpenThing}
 use Rattle.wdf_base.specs.declared.wait.OpenThing.TheVariants as thing
-use Rattle.wdf_model.specs.parts.Requests.{is_queued_in, is_returning_to, place_of}
+use Rattle.wdf_base.specs.Places.{is_queued_in, is_returning_to}
+use Rattle.wdf_model.specs.parts.Requests.{place_of}
 use Rattle.wdf_model.specs.parts.Pnp.{next_step, running_step}
 use Rattle.wdf_model.specs.State.{State}
 use Rattle.wdf_model.specs.rules.Ready.{ending_of, is_leaving, is_open_work, state_after}

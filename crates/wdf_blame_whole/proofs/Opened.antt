@@ -9,6 +9,7 @@ use Rattle.wdf_base.specs.declared.object.Place.{Place}
 use Rattle.wdf_base.specs.declared.object.Place.TheVariants as place
 use Rattle.wdf_base.specs.declared.object.RequestInfo.{RequestInfo}
 use Rattle.wdf_base.specs.Same.{same_kind}
+use Rattle.wdf_base.specs.Places.{is_done, is_marked, is_owned, is_queued_in, is_returning_to, is_sent}
 use Rattle.wdf_model.specs.declared.enums.Mode.TheVariants as mode
 use Rattle.wdf_model.specs.declared.entries.Request.{Request}
 use Rattle.wdf_model.specs.Tables.{flag, same_id}
@@ -16,7 +17,7 @@ use Rattle.wdf_model.specs.Plans.{managed_queues, queues_of}
 use Rattle.wdf_model.specs.parts.Tree.{kind_of, nearest_device, next_id, subtree}
 use Rattle.wdf_model.specs.parts.Queues.{front, waiting_in}
 use Rattle.wdf_model.specs.parts.Control as control
-use Rattle.wdf_model.specs.parts.Requests.{Requests, cancelled, closed_at, forgotten, has_arrived, is_done, is_in, is_marked, is_over, is_owned, is_queued_in, is_returning_to, is_sent, made_info, marked, moved, no_request, place_of, request_of, unmarked, with_mark, with_request}
+use Rattle.wdf_model.specs.parts.Requests.{Requests, cancelled, closed_at, forgotten, has_arrived, is_in, is_over, made_info, marked, moved, no_request, place_of, request_of, unmarked, with_mark, with_request}
 use Rattle.wdf_model.specs.parts.Requests as requests
 use Rattle.wdf_model.specs.parts.Targets.{is_forgotten, is_undone, routine_due}
 use Rattle.wdf_model.specs.State.{State, withdrawn_place}

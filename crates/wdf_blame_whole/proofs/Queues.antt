@@ -13,10 +13,12 @@ use Rattle.wdf_base.specs.declared.object.Kind.TheVariants as kind
 use Rattle.wdf_base.specs.declared.object.Place.{Place}
 use Rattle.wdf_base.specs.declared.object.Place.TheVariants as place
 use Rattle.wdf_base.specs.declared.event.Event.{Event}
+use Rattle.wdf_base.specs.Lives.{is_live}
+use Rattle.wdf_base.specs.Places.{is_done, is_queued_in, is_returning_to}
 use Rattle.wdf_model.specs.declared.entries.Request.{Request}
 use Rattle.wdf_model.specs.Plans.{as_queue, device_of, device_of_queue}
-use Rattle.wdf_model.specs.parts.Tree.{is_live, kind_of, life_of}
-use Rattle.wdf_model.specs.parts.Requests.{has_arrived, info_of, is_done, is_in, is_queued_in, is_returning_to, place_of, request_of}
+use Rattle.wdf_model.specs.parts.Tree.{kind_of, life_of}
+use Rattle.wdf_model.specs.parts.Requests.{has_arrived, info_of, is_in, place_of, request_of}
 use Rattle.wdf_model.specs.State.{State}
 use Rattle.wdf_model.specs.rules.Ready.{IsRunOf, state_after}
 use Rattle.wdf_model.proofs.Tests.{both, both_left, both_right, first, itself, second}

@@ -27,9 +27,10 @@ use Rattle.wdf_base.specs.declared.event.Stage.{Stage}
 use Rattle.wdf_base.specs.declared.event.Stage.TheVariants as stage
 use Rattle.wdf_base.specs.declared.event.Step.{Step}
 use Rattle.wdf_base.specs.declared.event.Step.TheVariants as step
+use Rattle.wdf_base.specs.Lives.{is_live}
 use Rattle.wdf_model.specs.Tables.{entry, first_of_list}
 use Rattle.wdf_model.specs.Plans.{as_interrupt, callback_irql, device_of, interrupt_of, interrupts_of, is_interrupt_of}
-use Rattle.wdf_model.specs.parts.Tree.{is_live, life_of, nearest_device}
+use Rattle.wdf_model.specs.parts.Tree.{life_of, nearest_device}
 use Rattle.wdf_model.specs.parts.Cpus.{frame_of, is_running}
 use Rattle.wdf_model.specs.parts.Locks.{lock_of_callback}
 use Rattle.wdf_model.specs.parts.Interrupts.{is_enabled}

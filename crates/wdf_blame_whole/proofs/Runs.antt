@@ -10,9 +10,10 @@ use Rattle.wdf_base.specs.declared.declared.Declared.{Declared}
 use Rattle.wdf_base.specs.declared.declared.DeviceInfo.{DeviceInfo}
 use Rattle.wdf_base.specs.declared.event.Event.{Event}
 use Rattle.wdf_base.specs.declared.object.Kind.TheVariants as kind
+use Rattle.wdf_base.specs.Lives.{is_gone, is_live}
 use Rattle.wdf_model.specs.Tables.{entry}
 use Rattle.wdf_model.specs.Plans.{as_device, device_of}
-use Rattle.wdf_model.specs.parts.Tree.{declared_node, gone, is_gone, is_live, kind_of, life_of, opening_tree, parent_of}
+use Rattle.wdf_model.specs.parts.Tree.{declared_node, gone, kind_of, life_of, opening_tree, parent_of}
 use Rattle.wdf_model.specs.parts.Pnp.{Sequence, no_sequence, opening_pnp, opening_sequence, sequence_of}
 use Rattle.wdf_model.specs.State.{State, opening}
 use Rattle.wdf_model.specs.declared.deed.Deed.{Deed}

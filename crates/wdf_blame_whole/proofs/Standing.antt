@@ -14,17 +14,19 @@ use Rattle.wdf_base.specs.declared.object.Place.{Place}
 use Rattle.wdf_base.specs.declared.object.Place.TheVariants as place
 use Rattle.wdf_base.specs.declared.call.Callback.TheVariants as callback
 use Rattle.wdf_base.specs.Same.{same_kind}
+use Rattle.wdf_base.specs.Lives.{is_asked, is_cleaned, is_gone, is_live}
+use Rattle.wdf_base.specs.Places.{is_done}
 use Rattle.wdf_model.specs.declared.enums.Mode.TheVariants as mode
 use Rattle.wdf_model.specs.declared.entries.Node.{Node}
 use Rattle.wdf_model.specs.declared.entries.Request.{Request}
 use Rattle.wdf_model.specs.Tables.{contains, first_of_list}
 use Rattle.wdf_model.specs.Plans.{declares, device_of, interrupt_of, managed_queues, queues_of, target_of}
-use Rattle.wdf_model.specs.parts.Tree.{Tree, gone, is_asked, is_cleaned, is_gone, is_live, kind_of, life_of, new_node, node_of, noted, parent_of, subtree, with_life, with_node}
+use Rattle.wdf_model.specs.parts.Tree.{Tree, gone, kind_of, life_of, new_node, node_of, noted, parent_of, subtree, with_life, with_node}
 use Rattle.wdf_model.specs.parts.Tree as tree
 use Rattle.wdf_model.specs.parts.Queues.{waiting_in}
 use Rattle.wdf_model.specs.parts.Control as control
 use Rattle.wdf_model.specs.parts.Interrupts.{is_enabled}
-use Rattle.wdf_model.specs.parts.Requests.{has_arrived, is_done, request_of}
+use Rattle.wdf_model.specs.parts.Requests.{has_arrived, request_of}
 use Rattle.wdf_model.specs.parts.Requests as requests
 use Rattle.wdf_model.specs.parts.Pnp.{Pnp, Sequence, is_running_step, left_after, next_step, no_sequence, sequence_of, steps_for, steps_left, taken_step, with_sequence}
 use Rattle.wdf_model.specs.State.{State, nothing_at}

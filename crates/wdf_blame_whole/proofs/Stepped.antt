@@ -20,10 +20,11 @@ use Rattle.wdf_base.specs.declared.rank.Rank.TheVariants as rank
 use Rattle.wdf_base.specs.declared.event.Event.{Event}
 use Rattle.wdf_base.specs.declared.event.Step.{Step}
 use Rattle.wdf_base.specs.declared.event.Step.TheVariants as step
+use Rattle.wdf_base.specs.Lives.{is_live}
 use Rattle.wdf_model.specs.declared.entries.Node.{Node}
 use Rattle.wdf_model.specs.Tables.{first_of_list}
 use Rattle.wdf_model.specs.Plans.{as_device, as_interrupt, declares, device_of, interrupt_of, is_interrupt_of, script_on}
-use Rattle.wdf_model.specs.parts.Tree.{gone, is_live, kind_of, life_of, made_as, name_as, nearest_device, node_of, parent_of}
+use Rattle.wdf_model.specs.parts.Tree.{gone, kind_of, life_of, made_as, name_as, nearest_device, node_of, parent_of}
 use Rattle.wdf_model.specs.parts.Pnp.{interrupt_name, next_step}
 use Rattle.wdf_model.specs.State.{State, declared_in, declares_in, handle_in}
 use Rattle.wdf_model.specs.laws.Agreement.{is_sequence}

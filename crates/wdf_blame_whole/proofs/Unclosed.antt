@@ -9,9 +9,10 @@ use Rattle.wdf_base.specs.declared.event.Event.TheVariants as event
 use Rattle.wdf_base.specs.declared.object.Place.{Place}
 use Rattle.wdf_base.specs.declared.object.Place.TheVariants as place
 use Rattle.wdf_base.specs.declared.value.Status.{Status}
+use Rattle.wdf_base.specs.Places.{is_closing}
 use Rattle.wdf_model.specs.declared.entries.Request.{Request}
 use Rattle.wdf_model.specs.declared.enums.Group.TheVariants as group
-use Rattle.wdf_model.specs.parts.Requests.{is_closing, no_request, place_of}
+use Rattle.wdf_model.specs.parts.Requests.{no_request, place_of}
 use Rattle.wdf_model.specs.State.{State, handle_in, is_proper}
 use Rattle.wdf_model.specs.rules.Groups.{candidate, candidates, candidates_in, completion_at, groups, groups_of_cpu}
 use Rattle.wdf_model.specs.rules.Steps.{is_closing_with, may}

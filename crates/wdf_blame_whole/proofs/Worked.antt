@@ -16,10 +16,11 @@ use Rattle.wdf_base.specs.declared.object.Kind.TheVariants as kind
 use Rattle.wdf_base.specs.declared.call.Callback.{Callback}
 use Rattle.wdf_base.specs.declared.call.Callback.TheVariants as callback
 use Rattle.wdf_base.specs.declared.event.Event.{Event}
+use Rattle.wdf_base.specs.Lives.{is_live}
 use Rattle.wdf_model.specs.declared.entries.Node.{Node}
 use Rattle.wdf_model.specs.Tables.{entry}
 use Rattle.wdf_model.specs.Plans.{kind_of_class, script_on}
-use Rattle.wdf_model.specs.parts.Tree.{declared_node, gone, is_live, made_as, node_of}
+use Rattle.wdf_model.specs.parts.Tree.{declared_node, gone, made_as, node_of}
 use Rattle.wdf_model.specs.State.{State, declares_in, opening}
 use Rattle.wdf_model.specs.declared.deed.Deed.{Deed}
 use Rattle.wdf_model.specs.rules.Deeds.{do_deed, do_deeds}

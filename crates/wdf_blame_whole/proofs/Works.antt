@@ -10,7 +10,7 @@ use Rattle.wdf_base.specs.declared.call.Callback.TheVariants as callback
 use Rattle.wdf_model.specs.declared.enums.Mode.TheVariants as mode
 use Rattle.wdf_model.specs.declared.entries.Node.{Node}
 use Rattle.wdf_model.specs.Plans.{kind_of_class, managed_queues, queues_of}
-use Rattle.wdf_model.specs.parts.Tree.{Tree, gone, is_asked, is_cleaned, is_live, kind_of, life_of, new_node, next_id, node_of, noted, subtree, with_life, with_node}
+use Rattle.wdf_model.specs.parts.Tree.{Tree, gone, kind_of, life_of, new_node, next_id, node_of, noted, subtree, with_life, with_node}
 use Rattle.wdf_model.specs.parts.Tree as tree
 use Rattle.wdf_model.specs.parts.Requests as requests
 use Rattle.wdf_model.specs.parts.Queues.{waiting_in}
@@ -33,6 +33,7 @@ use Rattle.wdf_agreements.proofs.Lists.{inside, reads_same}
 use Rattle.wdf_agreements.proofs.Queued.{dpc_cancelled, dpc_enqueued, dpc_taken, timer_fired, timer_started, timer_stopped, work_cancelled, work_enqueued}
 use Rattle.wdf_agreements.proofs.Sound.{Sound}
 use Rattle.wdf_base.specs.Same.{same_kind}
+use Rattle.wdf_base.specs.Lives.{is_asked, is_cleaned, is_live}
 use Rattle.wdf_blame_causes.proofs.Apt.{Apt}
 use Rattle.wdf_agreements.proofs.Choices.{no_and, or_still}
 use Rattle.wdf_agreements.proofs.Deferring.{Work, arrived, work_of}

@@ -3,6 +3,7 @@ use Rattle.std.specs.Prelude.{◌≡◌, ℕ, true, Some}
 use Rattle.wdf_base.specs.declared.plan.Plan.{Plan}
 use Rattle.wdf_base.specs.declared.call.Callback.TheVariants as callback
 use Rattle.wdf_base.specs.declared.event.Step.{Step}
+use Rattle.wdf_base.specs.Callbacks.{dpc_function}
 use Rattle.wdf_model.specs.parts.Tree.{kind_of}
 use Rattle.wdf_model.specs.parts.Requests.{is_in, place_of}
 use Rattle.wdf_model.specs.parts.Pnp.{next_step}
@@ -10,7 +11,6 @@ use Rattle.wdf_model.specs.parts.Deferred.Dpcs.{is_dpc_queued}
 use Rattle.wdf_model.specs.parts.Deferred.WorkItems.{is_work_queued}
 use Rattle.wdf_model.specs.parts.Deferred.Timers.{is_timer_queued}
 use Rattle.wdf_model.specs.State.{State}
-use Rattle.wdf_model.specs.rules.Groups.{dpc_function}
 use Rattle.wdf_blame_causes.specs.Starts.{has_callback, is_live_queue, step_may_run}
 use Rattle.wdf_blame_whole.specs.Standing.{is_live_device}
 

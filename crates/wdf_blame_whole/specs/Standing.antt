@@ -4,9 +4,10 @@ use Rattle.wdf_base.specs.declared.plan.Plan.{Plan}
 use Rattle.wdf_base.specs.declared.declared.Declared.{Declared}
 use Rattle.wdf_base.specs.declared.declared.Declared.TheVariants as declared
 use Rattle.wdf_base.specs.Plan.{declared_of}
+use Rattle.wdf_base.specs.Lives.{is_live}
 use Rattle.wdf_model.specs.declared.enums.Phase.TheVariants.{Removed}
 use Rattle.wdf_model.specs.Plans.{device_of}
-use Rattle.wdf_model.specs.parts.Tree.{is_live, life_of}
+use Rattle.wdf_model.specs.parts.Tree.{life_of}
 use Rattle.wdf_model.specs.parts.Pnp.{Sequence}
 use Rattle.wdf_model.specs.State.{State}
 

@@ -1,20 +1,21 @@
 //! Objects: how they are made, and their context cells.
 ghost use Rattle.std.specs.Prelude.{◌≡◌};
+ghost use Rattle.wdf_base.specs.Lives.{is_live};
 ghost use Rattle.wdf_model.specs.Plans as plans;
 ghost use Rattle.wdf_model.specs.parts.Tree as tree;
 ghost use Rattle.wdf_model.specs.rules.Calls as calls;
 
 use crate::answers::{Outcome, answer, refused};
-use wdf_base::{Agent, Handle, Kind, Life, ObjectId, Status, Value};
+use wdf_base::{Agent, Handle, Kind, ObjectId, Status, Value};
 use wdf_model::Deed;
 use wdf_parts::{Deeds, Parts};
 use wdf_plans::IndexedPlan;
 
 /// Whether an object is live: its deletion wasn't asked. (KMDF)
 pub(crate) fn is_live<A: Agent>(parts: &Parts<A>, o: ObjectId) -> bool
-    ensures { result ≡ tree.is_live (tree.life_of parts.now.tree o.0) }
+    ensures { result ≡ is_live (tree.life_of parts.now.tree o.0) }
 {
-    matches!(parts.tree().life(o), Life::Live)
+    parts.tree().life(o).is_live()
 }
 
 /// The object that is made next, of a class.

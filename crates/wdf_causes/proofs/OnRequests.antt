@@ -6,10 +6,11 @@ use Rattle.wdf_base.specs.declared.object.Place.{Place}
 use Rattle.wdf_base.specs.declared.object.Place.TheVariants as place
 use Rattle.wdf_base.specs.declared.event.Stage.TheVariants as stage
 use Rattle.wdf_base.specs.declared.ids.ObjectId.{ObjectId}
+use Rattle.wdf_base.specs.Places.{is_sent_to}
 use Rattle.wdf_model.specs.Tables.{ids_of, least, lesser}
 use Rattle.wdf_model.specs.State.{State, held_from, is_held_from}
 use Rattle.wdf_model.specs.parts.Power.{resume_due}
-use Rattle.wdf_model.specs.parts.Requests.{is_sent_to, place_of, request_of}
+use Rattle.wdf_model.specs.parts.Requests.{place_of, request_of}
 use Rattle.wdf_model.specs.rules.Starts.{is_unfinished_at, targets_at}
 use Rattle.wdf_model.specs.rules.Waits.{stage_requests}
 use Rattle.std.proofs.lemmas.Bool.{cases_lt}

@@ -5,9 +5,10 @@ use Rattle.wdf_base.specs.declared.frame.Frame.{Frame}
 use Rattle.wdf_base.specs.declared.object.Place.{Place}
 use Rattle.wdf_base.specs.declared.object.Place.TheVariants as place
 use Rattle.wdf_base.specs.Same.{same_callback}
+use Rattle.wdf_base.specs.Places.{is_returning_to, is_sent_to}
 use Rattle.wdf_model.specs.declared.entries.Request.{Request}
 use Rattle.wdf_model.specs.Plans.{is_target_of, target_of}
-use Rattle.wdf_model.specs.parts.Requests.{is_returning_to, is_sent_to, place_of, request_of}
+use Rattle.wdf_model.specs.parts.Requests.{place_of, request_of}
 use Rattle.wdf_model.specs.parts.Power.{resume_due}
 use Rattle.wdf_model.specs.State.{State, is_held_from, waits_for}
 use Rattle.wdf_model.specs.rules.Starts.{is_unfinished_at}

@@ -1,5 +1,6 @@
 //! What is asked of frames and of requests.
 ghost use Rattle.std.specs.Prelude.{◌≡◌};
+ghost use Rattle.wdf_base.specs.Places.{is_done, is_returning_to, is_sent_to};
 ghost use Rattle.wdf_model.specs.State as state;
 ghost use Rattle.wdf_model.specs.parts.Requests as requests;
 ghost use Rattle.wdf_model.specs.rules.Starts as starts;
@@ -66,30 +67,10 @@ impl RequestTest {
         match self {
             RequestTest::HeldFrom(q) => parts.is_held_from(q, r),
             RequestTest::ResumeDue(q) => { parts.is_held_from(q, r) && parts.power().resume_due(r) }
-            RequestTest::ReturningTo(q) => is_returning_to(q, parts.requests().place(r)),
-            RequestTest::SentTo(t) => is_sent_to(t, parts.requests().place(r)),
+            RequestTest::ReturningTo(q) => parts.requests().place(r).is_returning_to(q),
+            RequestTest::SentTo(t) => parts.requests().place(r).is_sent_to(t),
             RequestTest::LeftAt(d) => is_left_at(plan, d, parts.requests().request(r)),
         }
-    }
-}
-
-/// Whether a request returns to this queue.
-fn is_returning_to(q: ObjectId, place: Place) -> bool
-    ensures { result ≡ requests.is_returning_to q.0 place }
-{
-    match place {
-        Place::Returning(other) => other.0 == q.0,
-        _ => false,
-    }
-}
-
-/// Whether a request is sent to this target.
-fn is_sent_to(t: ObjectId, place: Place) -> bool
-    ensures { result ≡ requests.is_sent_to t.0 place }
-{
-    match place {
-        Place::Sent(other) => other.0 == t.0,
-        _ => false,
     }
 }
 
@@ -104,14 +85,7 @@ fn is_left_at(plan: &IndexedPlan, d: ObjectId, request: Request) -> bool
 fn is_unfinished_at(d: ObjectId, request: Request) -> bool
     ensures { result ≡ starts.is_unfinished_at d.0 request }
 {
-    0 < request.info.arrival && request.info.device.0 == d.0 && !is_done(request.place)
-}
-
-/// Whether a request is completed.
-pub fn is_done(place: Place) -> bool
-    ensures { result ≡ requests.is_done place }
-{
-    matches!(place, Place::Done)
+    0 < request.info.arrival && request.info.device.0 == d.0 && !request.place.is_done()
 }
 
 /// Whether a request is sent to a target of a device.

@@ -1,11 +1,11 @@
 //! Which processors are left for a start, and what is in their lists of DPCs.
 ghost use Rattle.std.specs.Prelude.{◌≡◌};
 ghost use Rattle.wdf_base.specs.declared.event.Stage.TheVariants as stage;
-ghost use Rattle.wdf_model.specs.rules.Groups.{dpc_function};
+ghost use Rattle.wdf_base.specs.Callbacks.{dpc_function};
 ghost use Rattle.wdf_model.specs.rules.Waits as waits;
 ghost use Rattle.wdf_causes.specs.Keepers.{is_interrupt_at};
 
-use wdf_base::{Agent, Callback, Cpu, Irql, Kind, LockRef, ObjectId};
+use wdf_base::{Agent, Cpu, Irql, LockRef, ObjectId};
 use wdf_lock::scope_of;
 use wdf_parts::Parts;
 use wdf_plans::IndexedPlan;
@@ -83,16 +83,6 @@ pub fn cpu_of_dpc<A: Agent>(plan: &IndexedPlan, parts: &Parts<A>, o: ObjectId) -
     Cpu(0)
 }
 
-/// The function of a queued DPC object, or of an interrupt.
-pub fn dpc_function(kind: Kind) -> Callback
-    ensures { result ≡ dpc_function kind }
-{
-    match kind {
-        Kind::Interrupt => Callback::EvtInterruptDpc,
-        _ => Callback::EvtDpcFunc,
-    }
-}
-
 /// The scope lock that the first DPC of a processor's list needs.
 pub fn head_lock<A: Agent>(plan: &IndexedPlan, parts: &Parts<A>, cpu: Cpu) -> Option<LockRef>
     ensures { result ≡ waits.head_lock plan.now parts.now cpu.0 }
@@ -100,7 +90,7 @@ pub fn head_lock<A: Agent>(plan: &IndexedPlan, parts: &Parts<A>, cpu: Cpu) -> Op
     match parts.dpcs().dpc_head(cpu) {
         Some(o) => scope_of(
             plan.plan(),
-            dpc_function(parts.tree().kind(o)),
+            parts.tree().kind(o).dpc_function(),
             o,
             parts.declared_in(plan, o),
         ),

@@ -2,9 +2,9 @@
 ghost use Rattle.std.specs.Prelude.{◌≡◌, filter};
 ghost use Rattle.wdf_model.specs.Tables.{ids_of, least};
 ghost use Rattle.wdf_base.specs.declared.event.Stage.TheVariants as stage;
+ghost use Rattle.wdf_base.specs.Places.{is_returning_to, is_sent_to};
 ghost use Rattle.wdf_model.specs.State.{held_from, waits_for};
 ghost use Rattle.wdf_model.specs.parts.Cpus.{all_frames, frame_of, is_on};
-ghost use Rattle.wdf_model.specs.parts.Requests.{is_returning_to, is_sent_to};
 ghost use Rattle.wdf_model.specs.rules.Waits as waits;
 ghost use Rattle.wdf_causes.specs.Keepers.{some_resume};
 ghost use Rattle.wdf_causes.specs.Asked.{is_so_of_frame, is_so_of_request};

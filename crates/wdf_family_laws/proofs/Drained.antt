@@ -22,8 +22,10 @@ use Rattle.wdf_base.specs.declared.event.Post.{Post}
 use Rattle.wdf_base.specs.declared.signature.Sort.TheVariants as sort
 use Rattle.wdf_base.specs.Calls.{signature_of}
 use Rattle.wdf_base.specs.Same.{same_call_kind, same_kind}
-use Rattle.wdf_model.specs.parts.Tree.{is_asked, is_gone, kind_of, life_of, next_id}
-use Rattle.wdf_model.specs.parts.Requests.{Requests, is_done, place_of, request_of}
+use Rattle.wdf_base.specs.Lives.{is_asked, is_gone}
+use Rattle.wdf_base.specs.Places.{is_done}
+use Rattle.wdf_model.specs.parts.Tree.{kind_of, life_of, next_id}
+use Rattle.wdf_model.specs.parts.Requests.{Requests, place_of, request_of}
 use Rattle.wdf_model.specs.parts.Requests as requests
 use Rattle.wdf_model.specs.State.{State, object_in}
 use Rattle.wdf_model.specs.rules.Calls.{is_met_then}

@@ -13,7 +13,7 @@ use Rattle.wdf_base.specs.Kinds.{declared_kind}
 use Rattle.wdf_base.specs.Plan.{declared_of}
 use Rattle.wdf_model.specs.declared.entries.Node.{Node}
 use Rattle.wdf_model.specs.Tables.{entry}
-use Rattle.wdf_model.specs.parts.Tree.{Tree, declared_as, declared_node, gone, is_gone, kind_of, life_of, opening_tree, parent_of}
+use Rattle.wdf_model.specs.parts.Tree.{Tree, declared_as, declared_node, gone, kind_of, life_of, opening_tree, parent_of}
 use Rattle.wdf_model.specs.State.{State, declared_in}
 use Rattle.wdf_model.specs.rules.Steps.{after, may}
 use Rattle.wdf_model.specs.rules.Ready.{IsRunOf, ready, state_after}
@@ -29,6 +29,7 @@ use Rattle.wdf_laws.specs.Family.{declared_parent, first_told, is_told, tells_of
 use Rattle.wdf_laws.specs.Family as law
 use Rattle.wdf_family_laws.specs.Family.{ClassesAgree, FamilyAgrees, is_known}
 use Rattle.wdf_base.proofs.WordLaws.{find_passes}
+use Rattle.wdf_base.specs.Lives.{is_gone}
 use Rattle.wdf_family_laws.proofs.Stays.{Stays, WasAt, event_stays, stays_same}
 use Rattle.wdf_family_laws.proofs.Telling.{Makes, event_makes}
 

@@ -17,9 +17,10 @@ use Rattle.wdf_base.specs.declared.event.Event.{Event}
 use Rattle.wdf_base.specs.declared.event.Event.TheVariants as event
 use Rattle.wdf_base.specs.declared.frame.Frame.{Frame}
 use Rattle.wdf_base.specs.Plan.{declared_of}
+use Rattle.wdf_base.specs.Lives.{is_cleaned, is_gone, is_past_cleanup}
 use Rattle.wdf_model.specs.declared.entries.Node.{Node}
 use Rattle.wdf_model.specs.Tables.{entry}
-use Rattle.wdf_model.specs.parts.Tree.{Tree, declared_node, gone, is_cleaned, is_gone, is_past_cleanup, life_of, opening_tree}
+use Rattle.wdf_model.specs.parts.Tree.{Tree, declared_node, gone, life_of, opening_tree}
 use Rattle.wdf_model.specs.parts.Cpus.{frame_of}
 use Rattle.wdf_model.specs.State.{State}
 use Rattle.wdf_model.specs.declared.deed.Deed.{Deed}

@@ -11,9 +11,10 @@ use Rattle.wdf_base.specs.declared.event.Event.TheVariants as event
 use Rattle.wdf_base.specs.Plan.{declared_of}
 use Rattle.wdf_base.specs.Same.{same_callback}
 use Rattle.wdf_model.specs.declared.entries.Node.{Node}
-use Rattle.wdf_model.specs.parts.Tree.{Tree, children, gone, is_child, is_cleaned, is_gone, is_past_cleanup, life_of, node_of, parent_of, with_life}
+use Rattle.wdf_model.specs.parts.Tree.{Tree, children, gone, is_child, life_of, node_of, parent_of, with_life}
 use Rattle.wdf_base.specs.declared.object.Life.{Life}
 use Rattle.wdf_base.specs.declared.object.Life.TheVariants as life
+use Rattle.wdf_base.specs.Lives.{is_cleaned, is_gone, is_past_cleanup}
 use Rattle.wdf_model.specs.State.{State}
 use Rattle.wdf_model.specs.rules.Steps.{after, may}
 use Rattle.wdf_model.specs.rules.Ready.{IsRunOf, state_after}

@@ -8,8 +8,9 @@ use Rattle.wdf_base.specs.declared.object.Life.TheVariants as life
 use Rattle.wdf_base.specs.declared.call.Callback.{Callback}
 use Rattle.wdf_base.specs.declared.call.Callback.TheVariants as callback
 use Rattle.wdf_base.specs.declared.event.Event.{Event}
+use Rattle.wdf_base.specs.Lives.{is_asked, is_gone, is_live}
 use Rattle.wdf_model.specs.declared.entries.Node.{Node}
-use Rattle.wdf_model.specs.parts.Tree.{Tree, class_of, gone, is_asked, is_gone, is_live, kind_of, life_of, new_node, next_id, node_of, noted, parent_of, subtree, with_life, with_node}
+use Rattle.wdf_model.specs.parts.Tree.{Tree, class_of, gone, kind_of, life_of, new_node, next_id, node_of, noted, parent_of, subtree, with_life, with_node}
 use Rattle.wdf_model.specs.parts.Tree as tree
 use Rattle.wdf_model.specs.parts.Requests as requests
 use Rattle.wdf_model.specs.State.{State}

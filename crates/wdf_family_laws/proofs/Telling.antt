@@ -28,9 +28,10 @@ use Rattle.wdf_base.specs.declared.event.Post.TheVariants as post
 use Rattle.wdf_base.specs.declared.frame.Frame.{Frame}
 use Rattle.wdf_base.specs.Kinds.{class_kind}
 use Rattle.wdf_base.specs.Same.{same_handle, same_option, same_post}
+use Rattle.wdf_base.specs.Lives.{is_gone, is_live}
 use Rattle.wdf_model.specs.declared.entries.Node.{Node}
 use Rattle.wdf_model.specs.Plans.{kind_of_class, parent_of_class}
-use Rattle.wdf_model.specs.parts.Tree.{Tree, declared_as, gone, is_full, is_gone, is_live, kind_of, life_of, made_as, new_node, next_id, node_of, parent_of}
+use Rattle.wdf_model.specs.parts.Tree.{Tree, declared_as, gone, is_full, kind_of, life_of, made_as, new_node, next_id, node_of, parent_of}
 use Rattle.wdf_model.specs.parts.Tree as tree
 use Rattle.wdf_model.specs.parts.Cpus.{frame_of}
 use Rattle.wdf_model.specs.State.{State, object_in}

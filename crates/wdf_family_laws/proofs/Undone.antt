@@ -8,11 +8,12 @@ use Rattle.wdf_base.specs.declared.object.RequestInfo.{RequestInfo}
 use Rattle.wdf_base.specs.declared.value.Status.{Status}
 use Rattle.wdf_base.specs.declared.value.Status.TheVariants as status
 use Rattle.wdf_base.specs.declared.event.Event.{Event}
+use Rattle.wdf_base.specs.Places.{is_done, is_marked, is_returning_to, is_sent}
 use Rattle.wdf_model.specs.declared.enums.Mode.TheVariants as mode
 use Rattle.wdf_model.specs.declared.entries.Request.{Request}
 use Rattle.wdf_model.specs.Plans.{managed_queues, queues_of}
 use Rattle.wdf_model.specs.parts.Tree.{nearest_device, next_id, subtree}
-use Rattle.wdf_model.specs.parts.Requests.{Requests, cancelled, closed_at, forgotten, has_arrived, info_of, is_done, is_in, is_marked, is_over, is_returning_to, made_info, marked, moved, no_request, place_of, request_of, unmarked, with_mark, with_request}
+use Rattle.wdf_model.specs.parts.Requests.{Requests, cancelled, closed_at, forgotten, has_arrived, info_of, is_in, is_over, made_info, marked, moved, no_request, place_of, request_of, unmarked, with_mark, with_request}
 use Rattle.wdf_model.specs.parts.Requests as requests
 use Rattle.wdf_model.specs.parts.Queues.{waiting_in}
 use Rattle.wdf_model.specs.parts.Queues as queues
@@ -133,7 +134,7 @@ arrival_undone : (p : Place) → is_arrival_place p ≡ true → is_done p ≡ f
 arrival_undone place.Done h = absurd (let z : ⊥ = cc in z)
 arrival_undone _ h = refl
 
-finish_undone : (b : Bool) (s : Status) (p : Place) → requests.is_sent p ≡ true → is_done (finished_at b s p) ≡ false
+finish_undone : (b : Bool) (s : Status) (p : Place) → is_sent p ≡ true → is_done (finished_at b s p) ≡ false
 finish_undone true s p h = refl
 finish_undone false s (place.Sent t) h = refl
 finish_undone false s (place.Queued q) h = refl

@@ -13,9 +13,10 @@ use Rattle.wdf_base.specs.declared.call.Callback.TheVariants as callback
 use Rattle.wdf_base.specs.declared.value.Status.TheVariants as status
 use Rattle.wdf_base.specs.declared.value.Value.{Value}
 use Rattle.wdf_base.specs.declared.value.Value.TheVariants.{Num, Obj, Stat}
+use Rattle.wdf_base.specs.Lives.{is_live}
 use Rattle.wdf_model.specs.Tables.{flag}
 use Rattle.wdf_model.specs.Plans.{declares, is_manual_queue, is_parallel_queue, kind_of_class, parent_of_class}
-use Rattle.wdf_model.specs.parts.Tree.{is_full, is_live, life_of}
+use Rattle.wdf_model.specs.parts.Tree.{is_full, life_of}
 use Rattle.wdf_model.specs.parts.Control.{accepts, is_purged, mode_of}
 use Rattle.wdf_model.specs.parts.Interrupts.{is_enabled}
 use Rattle.wdf_model.specs.parts.Deferred.Dpcs.{is_dpc_queued}

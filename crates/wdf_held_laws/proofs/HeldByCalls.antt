@@ -16,9 +16,10 @@ use Rattle.wdf_base.specs.declared.call.Callback.TheVariants as callback
 use Rattle.wdf_base.specs.declared.event.Event.{Event}
 use Rattle.wdf_base.specs.declared.event.Event.TheVariants as event
 use Rattle.wdf_base.specs.declared.event.Fault.TheVariants as fault
+use Rattle.wdf_base.specs.Lives.{is_live}
 use Rattle.wdf_model.specs.Tables.{flag, same_id}
 use Rattle.wdf_model.specs.Plans.{declares, is_managed, is_manual_queue, is_parallel_queue, kind_of_class, parent_of_class}
-use Rattle.wdf_model.specs.parts.Tree.{is_full, is_live, life_of}
+use Rattle.wdf_model.specs.parts.Tree.{is_full, life_of}
 use Rattle.wdf_model.specs.parts.Control.{accepts, is_purged, mode_of}
 use Rattle.wdf_model.specs.parts.Interrupts.{is_enabled}
 use Rattle.wdf_model.specs.parts.Queues.{front}

@@ -28,8 +28,9 @@ use Rattle.wdf_base.specs.declared.event.Stage.{Stage}
 use Rattle.wdf_base.specs.declared.event.Stage.TheVariants as stage
 use Rattle.wdf_base.specs.declared.event.Step.{Step}
 use Rattle.wdf_base.specs.declared.event.Step.TheVariants as step
+use Rattle.wdf_base.specs.Lives.{is_gone, is_live}
 use Rattle.wdf_model.specs.Plans.{callback_irql, device_of, interrupt_of, interrupts_of, is_interrupt_of}
-use Rattle.wdf_model.specs.parts.Tree.{is_gone, is_live, kind_of, life_of, nearest_device}
+use Rattle.wdf_model.specs.parts.Tree.{kind_of, life_of, nearest_device}
 use Rattle.wdf_model.specs.parts.Cpus.{is_running}
 use Rattle.wdf_model.specs.Ids.{frame_id, irql_of, object_id}
 use Rattle.wdf_model.specs.parts.Locks.{lock_of_callback}

@@ -15,11 +15,12 @@ use Rattle.wdf_base.specs.declared.declared.Declared.{Declared}
 use Rattle.wdf_base.specs.declared.declared.Declared.TheVariants as declared
 use Rattle.wdf_base.specs.Kinds.{declared_kind}
 use Rattle.wdf_base.specs.Plan.{declared_of}
+use Rattle.wdf_base.specs.Lives.{is_live}
 use Rattle.wdf_model.specs.declared.enums.Mode.TheVariants as mode
 use Rattle.wdf_model.specs.declared.entries.Node.{Node}
 use Rattle.wdf_model.specs.Tables.{entry}
 use Rattle.wdf_model.specs.Plans.{managed_queues, queues_of}
-use Rattle.wdf_model.specs.parts.Tree.{Tree, asked_if_live, declared_node, gone, is_full, is_live, kind_of, life_of, new_node, next_id, node_of, noted, subtree, with_life, with_node}
+use Rattle.wdf_model.specs.parts.Tree.{Tree, asked_if_live, declared_node, gone, is_full, kind_of, life_of, new_node, next_id, node_of, noted, subtree, with_life, with_node}
 use Rattle.wdf_model.specs.parts.Tree as tree
 use Rattle.wdf_model.specs.parts.Requests as requests
 use Rattle.wdf_model.specs.parts.Queues.{waiting_in}

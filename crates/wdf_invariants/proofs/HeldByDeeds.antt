@@ -13,13 +13,14 @@ use Rattle.wdf_base.specs.declared.event.Stage.TheVariants as stage
 use Rattle.wdf_base.specs.declared.event.Step.{Step}
 use Rattle.wdf_base.specs.declared.event.Step.TheVariants as step
 use Rattle.wdf_base.specs.declared.value.Status.TheVariants as status
+use Rattle.wdf_base.specs.Places.{is_done, is_marked, is_owned, is_queued_in, is_returning_to, is_sent}
 use Rattle.wdf_model.specs.declared.enums.Mode.TheVariants as mode
 use Rattle.wdf_model.specs.declared.entries.Request.{Request}
 use Rattle.wdf_model.specs.declared.entries.Holding.{Holding}
 use Rattle.wdf_model.specs.Plans.{managed_queues, queues_of}
 use Rattle.wdf_model.specs.Tables.{flag}
 use Rattle.wdf_model.specs.parts.Tree.{nearest_device}
-use Rattle.wdf_model.specs.parts.Requests.{cancelled, is_marked, is_owned, is_queued_in, is_returning_to, is_sent, made_info, marked, moved, place_of, request_of, unmarked, with_mark, Requests, forgotten, is_done, is_over, no_request, closed_at, is_in}
+use Rattle.wdf_model.specs.parts.Requests.{cancelled, made_info, marked, moved, place_of, request_of, unmarked, with_mark, Requests, forgotten, is_over, no_request, closed_at, is_in}
 use Rattle.wdf_model.specs.parts.Requests as requests
 use Rattle.wdf_model.specs.parts.Queues as queues
 use Rattle.wdf_model.specs.parts.Queues.{waiting_in, Queues, held_count}

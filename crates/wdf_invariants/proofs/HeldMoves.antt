@@ -5,11 +5,12 @@ use Rattle.wdf_base.specs.declared.value.Status.{Status}
 use Rattle.wdf_base.specs.declared.object.Place.{Place}
 use Rattle.wdf_base.specs.declared.object.Place.TheVariants as place
 use Rattle.wdf_base.specs.declared.object.RequestInfo.{RequestInfo}
+use Rattle.wdf_base.specs.Places.{is_owned, is_queued_in, is_returning_to, is_sent, is_sent_to}
 use Rattle.wdf_model.specs.declared.entries.Request.{Request}
 use Rattle.wdf_model.specs.declared.entries.Sending.{Sending}
 use Rattle.wdf_model.specs.Tables.{flag, same_id}
 use Rattle.wdf_model.specs.parts.Tree.{next_id}
-use Rattle.wdf_model.specs.parts.Requests.{Requests, cancelled, is_owned, is_queued_in, is_returning_to, is_sent, is_sent_to, moved, no_request, place_of, request_of, with_request}
+use Rattle.wdf_model.specs.parts.Requests.{Requests, cancelled, moved, no_request, place_of, request_of, with_request}
 use Rattle.wdf_model.specs.parts.Requests as requests
 use Rattle.wdf_model.specs.parts.Queues.{Queues, front, held_count, waiting_in}
 use Rattle.wdf_model.specs.parts.Queues as queues

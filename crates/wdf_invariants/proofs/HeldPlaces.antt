@@ -5,9 +5,10 @@ use Rattle.wdf_base.specs.declared.value.Status.{Status}
 use Rattle.wdf_base.specs.declared.value.Status.TheVariants as status
 use Rattle.wdf_base.specs.declared.object.Place.{Place}
 use Rattle.wdf_base.specs.declared.object.Place.TheVariants as place
+use Rattle.wdf_base.specs.Places.{is_marked, is_owned, is_queued_in, is_returning_to, is_sent}
 use Rattle.wdf_model.specs.declared.entries.Request.{Request}
 use Rattle.wdf_model.specs.Tables.{put}
-use Rattle.wdf_model.specs.parts.Requests.{Requests, is_marked, is_owned, is_queued_in, is_returning_to, is_sent, marked, moved, request_of, unmarked, with_request}
+use Rattle.wdf_model.specs.parts.Requests.{Requests, marked, moved, request_of, unmarked, with_request}
 use Rattle.wdf_model.specs.parts.Targets.{Targets, is_forgotten}
 use Rattle.wdf_model.specs.State.{held_at}
 use Rattle.wdf_model.specs.rules.Deeds.{finished_at}

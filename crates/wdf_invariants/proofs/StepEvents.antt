@@ -12,9 +12,10 @@ use Rattle.wdf_base.specs.declared.rank.Rank.TheVariants as rank
 use Rattle.wdf_base.specs.declared.frame.Frame.{Frame}
 use Rattle.wdf_base.specs.Callbacks.{row_of}
 use Rattle.wdf_base.specs.Same.{same_option, same_step}
+use Rattle.wdf_base.specs.Lives.{is_gone}
 use Rattle.wdf_model.specs.declared.entries.Node.{Node}
 use Rattle.wdf_model.specs.Plans.{callback_irql}
-use Rattle.wdf_model.specs.parts.Tree.{Tree, gone, is_gone, life_of, nearest_device}
+use Rattle.wdf_model.specs.parts.Tree.{Tree, gone, life_of, nearest_device}
 use Rattle.wdf_model.specs.parts.Cpus.{frame_of, top}
 use Rattle.wdf_model.specs.Tables.{first_of_list, entry, flag}
 use Rattle.wdf_model.specs.parts.Locks.{is_free_if_any, lock_of_callback}

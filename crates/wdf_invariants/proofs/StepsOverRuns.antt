@@ -7,10 +7,11 @@ use Rattle.wdf_base.specs.declared.declared.Declared.{Declared}
 use Rattle.wdf_base.specs.declared.declared.DeviceInfo.{DeviceInfo}
 use Rattle.wdf_base.specs.declared.event.Event.{Event}
 use Rattle.wdf_base.specs.declared.event.Event.TheVariants as event
+use Rattle.wdf_base.specs.Lives.{is_gone}
 use Rattle.wdf_model.specs.laws.OverRuns.{FramesAgree}
 use Rattle.wdf_model.specs.Tables.{entry, flag}
 use Rattle.wdf_model.specs.Plans.{declared_ids, device_of, devices_of}
-use Rattle.wdf_model.specs.parts.Tree.{declared_node, gone, is_gone, life_of, opening_tree, parent_of}
+use Rattle.wdf_model.specs.parts.Tree.{declared_node, gone, life_of, opening_tree, parent_of}
 use Rattle.wdf_model.specs.parts.Cpus.{all_frames, frame_of, opening_cpus}
 use Rattle.wdf_model.specs.parts.Pnp.{is_running_step, no_sequence, opening_sequence}
 use Rattle.wdf_model.specs.State.{State, opening}

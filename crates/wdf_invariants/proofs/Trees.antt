@@ -8,9 +8,10 @@ use Rattle.wdf_base.specs.declared.object.Kind.TheVariants as kind
 use Rattle.wdf_base.specs.declared.object.Life.{Life}
 use Rattle.wdf_base.specs.declared.object.Life.TheVariants as life
 use Rattle.wdf_base.specs.Same.{same_kind}
+use Rattle.wdf_base.specs.Lives.{is_cleaned, is_gone}
 use Rattle.wdf_model.specs.declared.entries.Node.{Node}
 use Rattle.wdf_model.specs.Tables.{entry, flag}
-use Rattle.wdf_model.specs.parts.Tree.{Tree, children, gone, is_child, is_cleaned, is_gone, life_of, may_destroy, nearest_device, new_node, node_of, parent_of, with_node}
+use Rattle.wdf_model.specs.parts.Tree.{Tree, children, gone, is_child, life_of, may_destroy, nearest_device, new_node, node_of, parent_of, with_node}
 use Rattle.wdf_model.specs.parts.Tree as tree
 use Rattle.wdf_model.proofs.Maps.{entry_before, entry_last, entry_put_other, entry_put_same, put_long}
 use Rattle.wdf_model.proofs.Tests.{both, both_left, both_right}

@@ -12,10 +12,11 @@ use Rattle.wdf_base.specs.declared.call.Call.{Call}
 use Rattle.wdf_base.specs.declared.call.Callback.TheVariants as callback
 use Rattle.wdf_base.specs.declared.call.CallKind.{CallKind}
 use Rattle.wdf_base.specs.declared.call.CallKind.TheVariants as call
+use Rattle.wdf_base.specs.Places.{is_queued_in, is_returning_to}
 use Rattle.wdf_model.specs.declared.enums.Mode.TheVariants as mode
 use Rattle.wdf_model.specs.declared.entries.Request.{Request}
 use Rattle.wdf_model.specs.Tables.{entry, flag, put}
-use Rattle.wdf_model.specs.parts.Requests.{cancelled, info_of, is_queued_in, is_returning_to, moved, no_request, place_of, request_of}
+use Rattle.wdf_model.specs.parts.Requests.{cancelled, info_of, moved, no_request, place_of, request_of}
 use Rattle.wdf_model.specs.parts.Queues.{held_count, waiting_in}
 use Rattle.wdf_model.specs.parts.Control.{Control, control_of, is_closed}
 use Rattle.wdf_model.specs.parts.Control as control

@@ -3,9 +3,10 @@ use Rattle.std.proofs.Common.{◌≡◌, ◌≢◌, ℕ, zero, suc, ◌==◌, Bo
 use Rattle.std.specs.List.{range_with_len}
 use Rattle.wdf_base.specs.declared.object.Life.TheVariants as life
 use Rattle.wdf_base.specs.declared.plan.Plan.{Plan}
+use Rattle.wdf_base.specs.Lives.{is_live}
 use Rattle.wdf_model.specs.declared.entries.Node.{Node}
 use Rattle.wdf_model.specs.Tables.{entry, put}
-use Rattle.wdf_model.specs.parts.Tree.{Tree, below_marks, gone, is_below, is_live, life_of, node_of, subtree, with_life, with_node}
+use Rattle.wdf_model.specs.parts.Tree.{Tree, below_marks, gone, is_below, life_of, node_of, subtree, with_life, with_node}
 use Rattle.wdf_model.specs.parts.Deferred.Dpcs as dpcs
 use Rattle.wdf_model.specs.parts.Deferred.WorkItems as work_items
 use Rattle.wdf_model.specs.parts.Deferred.Timers as timers

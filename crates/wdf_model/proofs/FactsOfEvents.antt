@@ -12,7 +12,8 @@ use Rattle.wdf_base.specs.declared.call.Callback.TheVariants as callback
 use Rattle.wdf_base.specs.declared.event.Event.{Event}
 use Rattle.wdf_base.specs.declared.event.Event.TheVariants as event
 use Rattle.wdf_base.specs.declared.frame.Frame.{Frame}
-use Rattle.wdf_model.specs.parts.Tree.{is_gone, is_live, is_asked, is_cleaned, life_of}
+use Rattle.wdf_base.specs.Lives.{is_asked, is_cleaned, is_gone, is_live}
+use Rattle.wdf_model.specs.parts.Tree.{life_of}
 use Rattle.wdf_model.specs.parts.Cpus.{no_frame, running, frame_of, top}
 use Rattle.wdf_model.specs.Plans.{callback_irql}
 use Rattle.wdf_model.specs.parts.Locks.{is_free_if_any, lock_of_callback}

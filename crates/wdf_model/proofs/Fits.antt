@@ -19,9 +19,11 @@ use Rattle.wdf_base.specs.declared.declared.DeferredKind.TheVariants as deferred
 use Rattle.wdf_base.specs.Calls.{signature_of}
 use Rattle.wdf_base.specs.Kinds.{class_kind}
 use Rattle.wdf_base.specs.Same.{same_kind}
+use Rattle.wdf_base.specs.Lives.{is_live}
+use Rattle.wdf_base.specs.Places.{is_owned}
 use Rattle.wdf_model.specs.Plans.{declares, is_parallel_queue, kind_of_class}
-use Rattle.wdf_model.specs.parts.Tree.{is_full, is_live, kind_of, life_of}
-use Rattle.wdf_model.specs.parts.Requests.{is_cancelled, is_owned, mark_answer, place_of}
+use Rattle.wdf_model.specs.parts.Tree.{is_full, kind_of, life_of}
+use Rattle.wdf_model.specs.parts.Requests.{is_cancelled, mark_answer, place_of}
 use Rattle.wdf_model.specs.parts.Queues.{front}
 use Rattle.wdf_model.specs.parts.Control.{accepts, is_purged, mode_of}
 use Rattle.wdf_model.specs.State.{State, object_in, queue_delivers}

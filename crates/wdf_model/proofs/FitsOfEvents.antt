@@ -34,11 +34,13 @@ use Rattle.wdf_base.specs.declared.frame.Frame.{Frame}
 use Rattle.wdf_base.specs.Callbacks.{row_of}
 use Rattle.wdf_base.specs.declared.call.Callback.TheVariants as callback
 use Rattle.wdf_base.specs.Same.{same_handle, same_option, same_post, same_step}
+use Rattle.wdf_base.specs.Lives.{is_live}
+use Rattle.wdf_base.specs.Places.{is_closing, is_done, is_sent, is_sent_to}
 use Rattle.wdf_model.specs.Plans.{callback_irql, managed_queues, queue_for, queues_of, has_handler, is_manual_queue, queue_of, target_of_agent}
-use Rattle.wdf_model.specs.parts.Tree.{is_live, life_of, nearest_device}
+use Rattle.wdf_model.specs.parts.Tree.{life_of, nearest_device}
 use Rattle.wdf_model.specs.parts.Cpus.{frame_of, top}
 use Rattle.wdf_model.specs.parts.Locks.{is_free_if_any, is_free_lock, lock_of_callback}
-use Rattle.wdf_model.specs.parts.Requests.{arrival_of, is_closing, is_done, is_sent, is_sent_to, place_of}
+use Rattle.wdf_model.specs.parts.Requests.{arrival_of, place_of}
 use Rattle.wdf_model.specs.parts.Control.{accepts}
 use Rattle.wdf_model.specs.parts.Pnp.{is_running_step, next_step}
 use Rattle.wdf_model.specs.State.{State, declared_in, declares_in, is_proper, is_with_driver}

@@ -5,9 +5,10 @@ use Rattle.wdf_base.specs.declared.object.Kind.TheVariants as kind
 use Rattle.wdf_base.specs.declared.object.Place.{Place}
 use Rattle.wdf_base.specs.declared.object.Place.TheVariants as place
 use Rattle.wdf_base.specs.Same.{same_kind}
+use Rattle.wdf_base.specs.Places.{is_done, is_queued_in, is_sent_to}
 use Rattle.wdf_model.specs.Tables.{flag}
 use Rattle.wdf_model.specs.parts.Tree.{Tree, kind_of}
-use Rattle.wdf_model.specs.parts.Requests.{Requests, has_arrived, is_done, is_queued_in, is_sent_to, place_of, request_of}
+use Rattle.wdf_model.specs.parts.Requests.{Requests, has_arrived, place_of, request_of}
 use Rattle.wdf_model.specs.parts.Queues.{Queues, waiting_in}
 use Rattle.wdf_model.specs.parts.Targets.{Targets, the_target}
 use Rattle.wdf_model.proofs.Counts.{one_or_two}

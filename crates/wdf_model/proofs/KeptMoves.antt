@@ -2,11 +2,12 @@
 use Rattle.std.proofs.Common.{◌≡◌, ◌≢◌, ℕ, zero, suc, ◌+◌, ◌==◌, ◌<◌, ◌≤◌, Bool, true, false, List, [], ◌∷◌, ◌++◌, ◌⊎◌, inl, inr, drop, length, count_by, refl, ap, sym, ◌∙◌, arith}
 use Rattle.wdf_base.specs.declared.object.Place.{Place}
 use Rattle.wdf_base.specs.declared.object.Place.TheVariants as place
+use Rattle.wdf_base.specs.Places.{is_done, is_queued_in, is_sent_to}
 use Rattle.std.proofs.lemmas.Bool.{eqb-true}
 use Rattle.wdf_model.specs.declared.entries.Request.{Request}
 use Rattle.wdf_model.specs.Tables.{entry, without, flag, same_id}
 use Rattle.wdf_model.specs.parts.Tree.{Tree}
-use Rattle.wdf_model.specs.parts.Requests.{Requests, has_arrived, is_done, is_queued_in, is_sent_to, moved, no_request, place_of, request_of, with_request}
+use Rattle.wdf_model.specs.parts.Requests.{Requests, has_arrived, moved, no_request, place_of, request_of, with_request}
 use Rattle.wdf_model.specs.parts.Requests as requests
 use Rattle.wdf_model.specs.parts.Queues.{Queues, front, waiting_in, with_waiting}
 use Rattle.wdf_model.specs.parts.Queues as queues

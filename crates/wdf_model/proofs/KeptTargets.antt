@@ -8,13 +8,14 @@ use Rattle.wdf_base.specs.declared.object.Place.TheVariants as place
 use Rattle.wdf_base.specs.declared.object.RequestInfo.{RequestInfo}
 use Rattle.wdf_base.specs.declared.value.Status.{Status}
 use Rattle.wdf_base.specs.Same.{same_kind}
+use Rattle.wdf_base.specs.Places.{is_done, is_queued_in, is_sent, is_sent_to}
 use Rattle.wdf_model.specs.declared.entries.Node.{Node}
 use Rattle.wdf_model.specs.declared.entries.Request.{Request}
 use Rattle.wdf_model.specs.declared.entries.Sending.{Sending}
 use Rattle.wdf_model.specs.Tables.{flag}
 use Rattle.wdf_model.specs.parts.Tree.{Tree, gone, new_node, next_id}
 use Rattle.wdf_model.specs.parts.Tree as tree
-use Rattle.wdf_model.specs.parts.Requests.{Requests, has_arrived, is_done, is_queued_in, is_sent, is_sent_to, no_request, place_of, request_of}
+use Rattle.wdf_model.specs.parts.Requests.{Requests, has_arrived, no_request, place_of, request_of}
 use Rattle.wdf_model.specs.parts.Requests as requests
 use Rattle.wdf_model.specs.parts.Queues.{Queues}
 use Rattle.wdf_model.specs.parts.Targets.{Target, Targets, done_sending, is_forgotten, is_forgotten_sending, new_sending, no_target, sending_in_order, target_done, the_target, without_sending}

@@ -24,12 +24,14 @@ use Rattle.wdf_base.specs.declared.event.Event.{Event}
 use Rattle.wdf_base.specs.declared.event.Event.TheVariants as event
 use Rattle.wdf_base.specs.declared.event.Post.TheVariants as post
 use Rattle.wdf_base.specs.Same.{same_call_kind, same_handle, same_kind, same_option, same_post}
+use Rattle.wdf_base.specs.Lives.{is_live}
+use Rattle.wdf_base.specs.Places.{is_closing, is_done}
 use Rattle.wdf_model.specs.declared.entries.Request.{Request}
 use Rattle.wdf_model.specs.Runs.{IsRun}
 use Rattle.wdf_model.specs.Tables.{entry, flag}
 use Rattle.wdf_model.specs.Plans.{declared_ids, queue_of, target_of}
-use Rattle.wdf_model.specs.parts.Tree.{declared_node, gone, is_live, kind_of, life_of, next_id, opening_tree}
-use Rattle.wdf_model.specs.parts.Requests.{Requests, has_arrived, is_closing, is_done, moved, place_of}
+use Rattle.wdf_model.specs.parts.Tree.{declared_node, gone, kind_of, life_of, next_id, opening_tree}
+use Rattle.wdf_model.specs.parts.Requests.{Requests, has_arrived, moved, place_of}
 use Rattle.wdf_model.specs.parts.Requests as requests
 use Rattle.wdf_model.specs.parts.Targets.{no_target, opening_target}
 use Rattle.wdf_model.specs.State.{State, object_in, opening}

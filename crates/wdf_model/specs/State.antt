@@ -15,13 +15,14 @@ use Rattle.wdf_base.specs.declared.call.Callback.{Callback}
 use Rattle.wdf_base.specs.declared.call.Callback.TheVariants as callback
 use Rattle.wdf_base.specs.declared.frame.Pending.{Pending}
 use Rattle.wdf_base.specs.declared.declared.Declared.{Declared}
+use Rattle.wdf_base.specs.Places.{is_sent_to}
 use Rattle.wdf_model.specs.declared.entries.Request.{Request}
 use Rattle.wdf_model.specs.Tables.{ids_of, same_id}
 use Rattle.wdf_model.specs.Plans.{agent_count, device_of_queue, declares, is_managed, script_on}
 use Rattle.wdf_model.specs.parts.Tree.{Tree, opening_tree, declared_as, handle_of}
 use Rattle.wdf_model.specs.parts.Cpus.{Cpus, opening_cpus, frame_of, all_frames}
 use Rattle.wdf_model.specs.parts.Locks.{Locks, no_locks, object_lock, is_free_lock}
-use Rattle.wdf_model.specs.parts.Requests.{Requests, no_requests, place_of, info_of, origin_of, is_sent_to}
+use Rattle.wdf_model.specs.parts.Requests.{Requests, no_requests, place_of, info_of, origin_of}
 use Rattle.wdf_model.specs.parts.Queues.{Queues, opening_queues}
 use Rattle.wdf_model.specs.parts.Control.{Control, opening_control, delivers, is_closed}
 use Rattle.wdf_model.specs.parts.Power.{Power, opening_power, queues_up}

@@ -2,8 +2,9 @@ ghost use Rattle.std.specs.Prelude.{◌≡◌, ◌<◌, ℕ, true, List, [], ◌
 ghost use Rattle.wdf_base.specs.Meaning.{Meaning};
 ghost use Rattle.wdf_base.specs.declared.plan.Plan.{Plan};
 ghost use Rattle.wdf_base.specs.declared.event.Event.{Event};
+ghost use Rattle.wdf_base.specs.Places.{is_done};
 ghost use Rattle.wdf_model.specs.parts.Tree.{next_id};
-ghost use Rattle.wdf_model.specs.parts.Requests.{is_done, place_of};
+ghost use Rattle.wdf_model.specs.parts.Requests.{place_of};
 ghost use Rattle.wdf_model.specs.State.{State};
 ghost use Rattle.wdf_model.specs.rules.Steps.{deeds, may};
 ghost use Rattle.wdf_model.specs.rules.Ready.{IsRunOf, ready, state_after};

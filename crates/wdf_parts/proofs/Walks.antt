@@ -1,9 +1,10 @@
 -- Walks over ids: the deletion of a subtree, and a purge.
 use Rattle.std.proofs.Common.{◌==◌, Bool, true, false, ◌≡◌, ℕ, zero, suc, ◌<◌, ◌≤◌, List, [], ◌∷◌, length, fold, map, count_by, Some, None, refl, ap, sym, ◌∙◌, arith, eq-eqb}
 use Rattle.wdf_base.specs.declared.plan.Plan.{Plan}
+use Rattle.wdf_base.specs.Lives.{is_live}
 use Rattle.wdf_model.specs.Tables.{entry, first_of_list, without}
 use Rattle.wdf_model.specs.parts.Queues.{front, waiting_in}
-use Rattle.wdf_model.specs.parts.Tree.{is_live, life_of, subtree}
+use Rattle.wdf_model.specs.parts.Tree.{life_of, subtree}
 use Rattle.wdf_model.specs.State.{State}
 use Rattle.wdf_model.specs.rules.Deeds.{ask_object, ask_objects, withdraw}
 use Rattle.wdf_model.proofs.Counts.{count_no, count_yes}

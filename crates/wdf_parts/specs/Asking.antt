@@ -1,12 +1,13 @@
 -- The deletion of an object is asked: what of the state this concerns.
 use Rattle.std.specs.Prelude.{if◌then◌else◌, ℕ}
+use Rattle.wdf_base.specs.Lives.{is_live}
 use Rattle.wdf_model.specs.parts.Deferred.Dpcs as dpcs_of
 use Rattle.wdf_model.specs.parts.Deferred.Dpcs.{Dpcs}
 use Rattle.wdf_model.specs.parts.Deferred.Timers as timers_of
 use Rattle.wdf_model.specs.parts.Deferred.Timers.{Timers}
 use Rattle.wdf_model.specs.parts.Deferred.WorkItems as work_items_of
 use Rattle.wdf_model.specs.parts.Deferred.WorkItems.{WorkItems}
-use Rattle.wdf_model.specs.parts.Tree.{Tree, ask_one, is_live, life_of}
+use Rattle.wdf_model.specs.parts.Tree.{Tree, ask_one, life_of}
 
 -- the tree, and the queues that an object leaves
 pub record Askable : Type 0 where

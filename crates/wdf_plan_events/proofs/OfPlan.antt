@@ -28,8 +28,9 @@ use Rattle.wdf_base.specs.declared.event.Event.TheVariants as event
 use Rattle.wdf_base.specs.declared.rank.Rank.{Rank}
 use Rattle.wdf_base.specs.declared.rank.Rank.TheVariants as rank
 use Rattle.wdf_base.specs.Callbacks.{carries_request, row_of}
+use Rattle.wdf_base.specs.Lives.{is_asked, is_cleaned, is_live}
 use Rattle.wdf_model.specs.Tables.{same_id}
-use Rattle.wdf_model.specs.parts.Tree.{gone, is_asked, is_cleaned, is_live, life_of, may_destroy}
+use Rattle.wdf_model.specs.parts.Tree.{gone, life_of, may_destroy}
 use Rattle.wdf_model.specs.parts.Cpus.{all_frames, top}
 use Rattle.wdf_model.specs.State.{State, is_proper}
 use Rattle.wdf_model.specs.declared.deed.Deed.{Deed}

@@ -21,8 +21,9 @@ use Rattle.wdf_base.specs.declared.object.Place.TheVariants as place
 use Rattle.wdf_base.specs.Kinds.{declared_name}
 use Rattle.wdf_base.specs.Plan.{declared_of}
 use Rattle.wdf_base.specs.Same.{same_handle, same_option, same_post}
+use Rattle.wdf_base.specs.Lives.{is_live}
 use Rattle.wdf_model.specs.Plans.{device_of_agent, target_of_agent}
-use Rattle.wdf_model.specs.parts.Tree.{is_live, life_of}
+use Rattle.wdf_model.specs.parts.Tree.{life_of}
 use Rattle.wdf_model.specs.parts.Requests.{place_of}
 use Rattle.wdf_model.specs.parts.Pnp.{busy}
 use Rattle.wdf_model.specs.State.{State, handle_in, is_proper}

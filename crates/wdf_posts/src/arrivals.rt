@@ -1,10 +1,11 @@
 //! Requests that arrive. (KMDF, but for what is marked own)
 ghost use Rattle.std.specs.Prelude.{◌≡◌, ◌+◌, ◌<◌, ◌^◌};
+ghost use Rattle.wdf_base.specs.Lives.{is_live};
 ghost use Rattle.wdf_model.specs.Tables.{entry};
-ghost use Rattle.wdf_model.specs.parts.Tree.{is_live, life_of};
+ghost use Rattle.wdf_model.specs.parts.Tree.{life_of};
 ghost use Rattle.wdf_model.specs.rules.Posts as posts;
 
-use wdf_base::{Agent, Handle, Life, Mark, ObjectId, Place, RequestForm, RequestInfo, Status};
+use wdf_base::{Agent, Handle, Mark, ObjectId, Place, RequestForm, RequestInfo, Status};
 use wdf_model::Deed;
 use wdf_parts::{Deeds, Parts};
 use wdf_plans::IndexedPlan;
@@ -92,7 +93,7 @@ fn arrival_info<A: Agent>(
 fn is_live<A: Agent>(parts: &Parts<A>, o: ObjectId) -> bool
     ensures { result ≡ is_live (life_of parts.now.tree o.0) }
 {
-    matches!(parts.tree().life(o), Life::Live)
+    parts.tree().life(o).is_live()
 }
 
 /// The request that an arrival makes; a device that isn't live takes none.

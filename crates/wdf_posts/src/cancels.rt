@@ -1,5 +1,6 @@
 //! Cancels of requests that arrived. (KMDF, but for what is marked own)
 ghost use Rattle.std.specs.Prelude.{◌≡◌, ◌∷◌, ◌||◌, [], option_map};
+ghost use Rattle.wdf_base.specs.Places.{is_closing, is_done};
 ghost use Rattle.wdf_model.specs.parts.Requests as definition;
 ghost use Rattle.wdf_model.specs.rules.Posts as posts;
 
@@ -10,7 +11,7 @@ use wdf_request::Requests;
 
 /// Whether a request is completed, or about to be.
 fn is_past_reach(place: Place) -> bool
-    ensures { result ≡ (definition.is_done place || definition.is_closing place) }
+    ensures { result ≡ (is_done place || is_closing place) }
 {
     matches!(place, Place::Done | Place::Closing(_))
 }

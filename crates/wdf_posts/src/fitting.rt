@@ -1,10 +1,10 @@
 //! Whether the form of a post fits its agent, and its names are the plan's.
 ghost use Rattle.std.specs.Prelude.{◌≡◌, option_map};
-ghost use Rattle.wdf_model.specs.parts.Requests.{is_sent_to};
+ghost use Rattle.wdf_base.specs.Places.{is_sent_to};
 ghost use Rattle.wdf_model.specs.rules.Posts as posts;
 
 use crate::planned::{action_fits, is_handle};
-use wdf_base::{Agent, Handle, Kind, ObjectId, Place, Post};
+use wdf_base::{Agent, Handle, Kind, ObjectId, Post};
 use wdf_parts::Parts;
 use wdf_plans::IndexedPlan;
 
@@ -21,16 +21,6 @@ fn may_arrive<A: Agent>(plan: &IndexedPlan, parts: &Parts<A>, device: Handle) ->
     is_handle(plan, Kind::Device, device) && parts.requests().arrived() < ARRIVALS
 }
 
-/// Whether a request is sent to this target.
-fn is_sent_to(target: ObjectId, place: Place) -> bool
-    ensures { result ≡ is_sent_to target.0 place }
-{
-    match place {
-        Place::Sent(other) => other.0 == target.0,
-        _ => false,
-    }
-}
-
 /// Whether an agent's target may be done with a request: it is sent there, and the target isn't done
 /// with it. An agent that is no target's never may. (own)
 fn may_finish<A: Agent>(
@@ -44,7 +34,7 @@ fn may_finish<A: Agent>(
     match target {
         Some(target) => {
             parts.is_proper(plan, request)
-                && is_sent_to(target, parts.requests().place(request.id))
+                && parts.requests().place(request.id).is_sent_to(target)
                 && parts.targets().is_undone(request.id)
         }
         None => false,

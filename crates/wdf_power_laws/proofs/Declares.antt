@@ -24,11 +24,12 @@ use Rattle.wdf_base.specs.Plan.{declared_of, is_script_of, script_of}
 use Rattle.wdf_base.specs.Resolved.{IsResolved, declared_fits, is_from, is_working, owner_fits, script_fits}
 use Rattle.wdf_base.specs.Same.{same_callback, same_kind, same_option}
 use Rattle.wdf_base.specs.SamePlan.{same_declared}
+use Rattle.wdf_base.specs.Lives.{is_gone}
 use Rattle.wdf_model.specs.Tables.{entry, flag}
 use Rattle.wdf_model.specs.Plans.{as_interrupt, declared_ids, declares, interrupt_of, is_interrupt_of, script_on}
 use Rattle.wdf_model.specs.parts.Pnp.{DEVICE_CALLBACKS, InterruptSteps, device_steps, interrupt_steps}
 use Rattle.wdf_model.specs.declared.entries.Node.{Node}
-use Rattle.wdf_model.specs.parts.Tree.{Tree, gone, is_gone, kind_of, life_of, made_as, nearest_device, nearest_devices, node_of, own_device, parent_of}
+use Rattle.wdf_model.specs.parts.Tree.{Tree, gone, kind_of, life_of, made_as, nearest_device, nearest_devices, node_of, own_device, parent_of}
 use Rattle.wdf_model.specs.State.{State, declared_in}
 use Rattle.wdf_model.specs.laws.OverRuns.{DeclaredAgree, is_declared_kind}
 use Rattle.wdf_model.proofs.Maps.{entry_before, entry_last}

@@ -1,9 +1,10 @@
 -- What the requests that return to queues, and the resumes that are due, say of the power of devices.
 use Rattle.std.specs.Prelude.{◌≡◌, ℕ, true, false}
 use Rattle.wdf_base.specs.declared.plan.Plan.{Plan}
+use Rattle.wdf_base.specs.Places.{is_returning_to}
 use Rattle.wdf_model.specs.parts.Power.{holding_of, is_held_at, queues_up, resume_due}
 use Rattle.wdf_model.specs.parts.Pnp.{follows_queues_up, is_running_step}
-use Rattle.wdf_model.specs.parts.Requests.{is_returning_to, place_of}
+use Rattle.wdf_model.specs.parts.Requests.{place_of}
 use Rattle.wdf_model.specs.State.{State, is_powered}
 
 -- a device's queues are up, it waits at the step right after `queues_up`, and no callback of a step of it runs

@@ -4,9 +4,10 @@ use Rattle.std.specs.Prelude.{nat_le}
 use Rattle.std.proofs.lemmas.Bool.{cases_lt, le-leb, leb-true}
 use Rattle.wdf_base.specs.declared.plan.Plan.{Plan}
 use Rattle.wdf_base.specs.declared.rank.Rank.TheVariants as rank
+use Rattle.wdf_base.specs.Places.{is_due}
 use Rattle.wdf_model.specs.State.{State, is_held_from}
 use Rattle.wdf_model.specs.Tables.{ids_of}
-use Rattle.wdf_model.specs.parts.Requests.{Requests, is_due, mark_of}
+use Rattle.wdf_model.specs.parts.Requests.{Requests, mark_of}
 use Rattle.wdf_model.specs.rules.Groups.{places_if}
 use Rattle.wdf_request.specs.Closing.{due_requests}
 use Rattle.wdf_ready.specs.Idle.{IsNext, NoneFrom, is_due_at}

@@ -20,6 +20,9 @@ use Rattle.wdf_base.specs.declared.object.RequestForm.{RequestForm}
 use Rattle.wdf_base.specs.declared.object.RequestForm.TheVariants as form
 use Rattle.wdf_base.specs.declared.rank.Rank.{Rank}
 use Rattle.wdf_base.specs.declared.rank.Rank.TheVariants as rank
+use Rattle.wdf_base.specs.Places.{is_returning_to}
+use Rattle.wdf_base.specs.Lives.{is_asked, is_cleaned, is_past_cleanup}
+use Rattle.wdf_base.specs.Callbacks.{dpc_function}
 use Rattle.wdf_model.specs.Ids.{cpu_of}
 use Rattle.wdf_model.specs.declared.entries.Request.{Request}
 use Rattle.wdf_model.specs.declared.entries.Sending.{Sending}
@@ -34,10 +37,10 @@ use Rattle.wdf_model.specs.parts.Deferred.Dpcs.{dpc_head}
 use Rattle.wdf_model.specs.parts.Locks.{is_free_if_any, lock_of_callback}
 use Rattle.wdf_model.specs.parts.Power.{stop_was_asked}
 use Rattle.wdf_model.specs.parts.Queues.{front}
-use Rattle.wdf_model.specs.parts.Requests.{info_of, is_returning_to, no_request}
+use Rattle.wdf_model.specs.parts.Requests.{info_of, no_request}
 use Rattle.wdf_model.specs.parts.Targets.{the_target}
-use Rattle.wdf_model.specs.parts.Tree.{children, is_asked, is_cleaned, is_past_cleanup, kind_of, life_of, may_clean, nearest_device, parent_of, started, younger_siblings}
-use Rattle.wdf_model.specs.rules.Groups.{callback_for, dpc_function, handler_start, if_there, start_at, starts, starts_for, unparks}
+use Rattle.wdf_model.specs.parts.Tree.{children, kind_of, life_of, may_clean, nearest_device, parent_of, started, younger_siblings}
+use Rattle.wdf_model.specs.rules.Groups.{callback_for, handler_start, if_there, start_at, starts, starts_for, unparks}
 use Rattle.wdf_model.specs.rules.Starts.{clean_ready, is_finished, is_ready_for, is_unused, level_fits, life_fits, may_start}
 use Rattle.wdf_model.specs.rules.Steps.{is_cpu, is_proper_if_any, may, wait_is_over}
 use Rattle.wdf_ready.specs.Idle.{can_be_due, highest_level, is_due_at, is_idle, is_sending_due, is_too_high, settles_next}

@@ -14,11 +14,13 @@ use Rattle.wdf_base.specs.declared.call.Callback.TheVariants as callback
 use Rattle.wdf_base.specs.declared.plan.Plan.{Plan}
 use Rattle.wdf_base.specs.declared.rank.Rank.{Rank}
 use Rattle.wdf_base.specs.declared.rank.Rank.TheVariants as rank
+use Rattle.wdf_base.specs.Lives.{is_cleaned}
+use Rattle.wdf_base.specs.Places.{is_closing}
 use Rattle.wdf_model.specs.declared.enums.Group.{Group}
 use Rattle.wdf_model.specs.declared.enums.Group.TheVariants as group
 use Rattle.wdf_model.specs.Tables.{ids_of}
-use Rattle.wdf_model.specs.parts.Tree.{is_cleaned, life_of, next_id}
-use Rattle.wdf_model.specs.parts.Requests.{is_closing, place_of}
+use Rattle.wdf_model.specs.parts.Tree.{life_of, next_id}
+use Rattle.wdf_model.specs.parts.Requests.{place_of}
 use Rattle.wdf_model.specs.State.{State, handle_in, is_proper}
 use Rattle.wdf_model.specs.rules.Starts.{callback_over, clean_ready, destroy_ready}
 use Rattle.wdf_model.specs.rules.Steps.{may}

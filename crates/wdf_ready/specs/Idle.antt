@@ -11,6 +11,8 @@ use Rattle.wdf_base.specs.declared.event.Stage.TheVariants as stage
 use Rattle.wdf_base.specs.declared.event.Step.TheVariants as step
 use Rattle.wdf_base.specs.declared.rank.Rank.{Rank}
 use Rattle.wdf_base.specs.declared.rank.Rank.TheVariants as rank
+use Rattle.wdf_base.specs.Places.{is_returning_to}
+use Rattle.wdf_base.specs.Lives.{is_cleaned}
 use Rattle.wdf_model.specs.declared.entries.Request.{Request}
 use Rattle.wdf_model.specs.declared.entries.Sending.{Sending}
 use Rattle.wdf_model.specs.declared.enums.Group.{Group}
@@ -20,9 +22,8 @@ use Rattle.wdf_model.specs.State.{State}
 use Rattle.wdf_model.specs.Tables.{ids_of}
 use Rattle.wdf_model.specs.parts.Cpus.{is_empty_cpu}
 use Rattle.wdf_model.specs.parts.Pnp.{next_step}
-use Rattle.wdf_model.specs.parts.Requests.{is_returning_to}
 use Rattle.wdf_model.specs.parts.Targets.{the_target}
-use Rattle.wdf_model.specs.parts.Tree.{is_cleaned, life_of, nearest_device}
+use Rattle.wdf_model.specs.parts.Tree.{life_of, nearest_device}
 use Rattle.wdf_model.specs.rules.Groups.{callback_for, places_in}
 use Rattle.wdf_model.specs.rules.Starts.{level_fits, rank_ready_for}
 use Rattle.wdf_tree.specs.Turns.{has_turn}

@@ -1,12 +1,13 @@
 //! The candidates of each group, by place.
 ghost use Rattle.std.specs.Prelude.{◌≡◌, ◌<◌, ◌≤◌, ◌^◌, length, slice_get, option_map};
 ghost use Rattle.wdf_base.specs.declared.rank.Rank.TheVariants as rank;
+ghost use Rattle.wdf_base.specs.Callbacks.{dpc_function};
 ghost use Rattle.wdf_model.specs.declared.enums.Group.TheVariants as group;
 ghost use Rattle.wdf_model.specs.rules.Groups as groups;
 ghost use Rattle.wdf_model.specs.parts.Cpus as cpus;
 ghost use Rattle.wdf_model.specs.parts.Targets as targets;
 
-use wdf_base::{Agent, Callback, Cpu, Event, Kind, ObjectId, Place, Rank, Step, same_callback};
+use wdf_base::{Agent, Callback, Cpu, Event, ObjectId, Place, Rank, Step, same_callback};
 use wdf_model::Group;
 use wdf_parts::Parts;
 use wdf_plans::IndexedPlan;
@@ -50,16 +51,6 @@ fn starts_for<A: Agent>(
     }
 }
 
-/// The function of a queued DPC, or of an interrupt's.
-fn dpc_function(kind: Kind) -> Callback
-    ensures { result ≡ groups.dpc_function kind }
-{
-    match kind {
-        Kind::Interrupt => Callback::EvtInterruptDpc,
-        _ => Callback::EvtDpcFunc,
-    }
-}
-
 /// The service routine of an interrupt.
 fn isr_start<A: Agent>(plan: &IndexedPlan, parts: &Parts<A>, cpu: Cpu, i: ObjectId) -> Option<Event>
     ensures { result ≡ groups.start_at plan.now parts.now cpu.0 rank.Isr i.0 }
@@ -81,7 +72,7 @@ fn dpc_start<A: Agent>(
     ensures { result ≡ groups.start_at plan.now parts.now cpu.0 rank.Deferred place }
 {
     let o = parts.dpcs().dpc_head(cpu)?;
-    let callback = dpc_function(parts.tree().kind(o));
+    let callback = parts.tree().kind(o).dpc_function();
     Some(starts(plan, parts, cpu, callback, o))
 }
 

@@ -26,8 +26,9 @@ use Rattle.wdf_base.specs.declared.object.RequestForm.{RequestForm}
 use Rattle.wdf_base.specs.declared.object.RequestForm.TheVariants as form
 use Rattle.wdf_base.specs.declared.rank.Rank.{Rank}
 use Rattle.wdf_base.specs.declared.rank.Rank.TheVariants as rank
-use Rattle.wdf_base.specs.Callbacks.{row_of}
+use Rattle.wdf_base.specs.Callbacks.{row_of, dpc_function}
 use Rattle.wdf_base.specs.Plan.{declared_of}
+use Rattle.wdf_base.specs.Places.{is_sent_to}
 use Rattle.wdf_model.specs.Ids.{cpu_of}
 use Rattle.wdf_model.specs.declared.enums.Group.{Group}
 use Rattle.wdf_model.specs.declared.enums.Group.TheVariants as group
@@ -37,7 +38,7 @@ use Rattle.wdf_model.specs.Tables.{flag}
 use Rattle.wdf_model.specs.Plans.{as_device, as_interrupt, declares, device_of, handler_for, interrupt_of, is_interrupt_of, queue_of, typed_handler}
 use Rattle.wdf_model.specs.parts.Tree.{kind_of}
 use Rattle.wdf_model.specs.parts.Cpus.{frame_of, top}
-use Rattle.wdf_model.specs.parts.Requests.{info_of, is_sent_to, place_of}
+use Rattle.wdf_model.specs.parts.Requests.{info_of, place_of}
 use Rattle.wdf_model.specs.parts.Queues.{front}
 use Rattle.wdf_model.specs.parts.Pnp.{next_step}
 use Rattle.wdf_model.specs.parts.Deferred.Dpcs.{dpc_head}
@@ -48,7 +49,7 @@ use Rattle.wdf_model.specs.rules.Posts.{due_of}
 use Rattle.wdf_model.specs.rules.Steps.{event_of_frame, event_of_top, fault_event, intent_event, spends, view_of}
 use Rattle.wdf_model.specs.rules.Script.{intent_of}
 use Rattle.wdf_model.specs.rules.Faults.{fault_of}
-use Rattle.wdf_model.specs.rules.Groups.{candidate, candidates, candidates_in, completion_at, dpc_function, groups, handler_start, if_there, parks, places_in, places_of_rank, posted, stage_of_step, start_at, start_for, start_of_step, starts, starts_for, unparks}
+use Rattle.wdf_model.specs.rules.Groups.{candidate, candidates, candidates_in, completion_at, groups, handler_start, if_there, parks, places_in, places_of_rank, posted, stage_of_step, start_at, start_for, start_of_step, starts, starts_for, unparks}
 use Rattle.wdf_model.proofs.Counts.{count_behind}
 use Rattle.wdf_agreements.proofs.Keeping.{Known}
 use Rattle.wdf_agreements.proofs.Lists.{each_still}

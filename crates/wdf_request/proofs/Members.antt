@@ -4,10 +4,11 @@ use Rattle.std.proofs.lemmas.List.{length-replicate}
 use Rattle.std.specs.List.{filter, find, range_with_len}
 use Rattle.std.proofs.lemmas.Bool.{cases_eq}
 use Rattle.std.proofs.lemmas.Bool.Decides.{nat_tests}
+use Rattle.wdf_base.specs.Places.{is_closing, is_due}
 use Rattle.wdf_model.specs.declared.entries.Request.{Request}
 use Rattle.wdf_model.specs.declared.room.TheConstants.{OBJECTS}
 use Rattle.wdf_model.specs.Tables.{entry, put}
-use Rattle.wdf_model.specs.parts.Requests.{is_closing, is_due, no_request}
+use Rattle.wdf_model.specs.parts.Requests.{no_request}
 use Rattle.wdf_model.proofs.Maps.{entry_put_same, entry_put_other, entry_past}
 use Rattle.wdf_sets.specs.Members.{is_in, members, rank}
 use Rattle.wdf_sets.proofs.Ranks.{one, rank_more, rank_mono}

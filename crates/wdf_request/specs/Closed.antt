@@ -1,7 +1,8 @@
 -- Which requests of a queue are closed.
 use Rattle.std.specs.Prelude.{Bool}
 use Rattle.wdf_base.specs.declared.object.Place.{Place}
-use Rattle.wdf_model.specs.parts.Requests.{is_in, is_returning_to}
+use Rattle.wdf_base.specs.Places.{is_returning_to}
+use Rattle.wdf_model.specs.parts.Requests.{is_in}
 use Rattle.wdf_request.specs.declared.requests.closing.ClosedPart.{ClosedPart}
 use Rattle.wdf_request.specs.declared.requests.closing.ClosedPart.TheVariants as part
 

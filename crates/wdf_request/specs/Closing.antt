@@ -1,9 +1,10 @@
 -- The requests that the framework will complete, and those for which EvtRequestCancel is due, as sets of ids.
 use Rattle.std.specs.Prelude.{ℕ, ◌≡◌, ◌≤◌, Bool, List, filter, length}
+use Rattle.wdf_base.specs.Places.{is_closing, is_due}
 use Rattle.wdf_model.specs.declared.entries.Request.{Request}
 use Rattle.wdf_model.specs.declared.room.TheConstants.{OBJECTS}
 use Rattle.wdf_model.specs.Tables.{entry, ids_of}
-use Rattle.wdf_model.specs.parts.Requests.{Requests, is_closing, is_due, mark_of, no_request, place_of}
+use Rattle.wdf_model.specs.parts.Requests.{Requests, mark_of, no_request, place_of}
 use Rattle.wdf_sets.specs.Members.{is_in}
 
 -- their ids, rising

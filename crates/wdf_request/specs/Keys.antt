@@ -3,8 +3,9 @@ use Rattle.std.specs.Prelude.{if◌then◌else◌, ◌&&◌, not, Option, Some, 
 use Rattle.wdf_base.specs.declared.ids.ObjectId.{ObjectId}
 use Rattle.wdf_base.specs.declared.object.Place.{Place}
 use Rattle.wdf_base.specs.declared.object.Place.TheVariants as place
+use Rattle.wdf_base.specs.Places.{is_done}
 use Rattle.wdf_model.specs.declared.entries.Request.{Request}
-use Rattle.wdf_model.specs.parts.Requests.{has_arrived, is_done}
+use Rattle.wdf_model.specs.parts.Requests.{has_arrived}
 
 -- the queue that a request is Returning to
 abbrev pub returning_queue : Place → Option ObjectId

@@ -1,8 +1,9 @@
 -- The requests that the fields stand for, and what is kept beside them.
 use Rattle.std.specs.Prelude.{◌≡◌, ◌≤◌, count_by, length, vec_capacity}
+use Rattle.wdf_base.specs.Places.{is_closing, is_due}
 use Rattle.wdf_model.specs.declared.room.TheConstants.{OBJECTS}
 use Rattle.wdf_model.specs.declared.entries.Request.{Request}
-use Rattle.wdf_model.specs.parts.Requests.{Requests, is_closing, is_due}
+use Rattle.wdf_model.specs.parts.Requests.{Requests}
 use Rattle.wdf_model.specs.rules.Ready.{is_open_request}
 use Rattle.wdf_counts.specs.Counts.{AreCounted}
 use Rattle.wdf_request.specs.Arrivals.{IsNoted}

@@ -55,7 +55,7 @@ pub(crate) fn moved(place: Place, request: Request) -> Request
         info: RequestInfo {
             mark: mark_at(place, info.mark),
             origin: origin_from(request.place, place, info.origin),
-            received: info.received || matches!(place, Place::Owned),
+            received: info.received || place.is_owned(),
             ..info
         },
     }
@@ -89,7 +89,7 @@ pub(crate) fn marked(request: Request) -> Request
 pub(crate) fn unmarked(request: Request) -> Request
     ensures { result ≡ requests.unmarked request }
 {
-    if matches!(request.info.mark, Mark::Marked) {
+    if request.info.mark.is_marked() {
         with_mark(Mark::Unmarked, request)
     } else {
         request

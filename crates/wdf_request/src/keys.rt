@@ -2,11 +2,10 @@
 
 ghost use Rattle.std.specs.Prelude.{◌≡◌};
 ghost use Rattle.wdf_model.specs.Tables.{flag};
-ghost use Rattle.wdf_model.specs.parts.Requests as requests;
 ghost use Rattle.wdf_model.specs.rules.Ready.{is_open_request};
 ghost use Rattle.wdf_request.specs.Keys as keys;
 
-use wdf_base::{Mark, ObjectId, Place};
+use wdf_base::{ObjectId, Place};
 use wdf_model::Request;
 
 /// The queue that a request is Returning to.
@@ -33,7 +32,7 @@ pub(crate) fn sent_target(place: Place) -> Option<ObjectId>
 pub(crate) fn unfinished_device(request: Request) -> Option<ObjectId>
     ensures { result ≡ keys.unfinished_device request }
 {
-    if request.info.arrival > 0 && !matches!(request.place, Place::Done) {
+    if request.info.arrival > 0 && !request.place.is_done() {
         Some(request.info.device)
     } else {
         None
@@ -46,23 +45,9 @@ pub(crate) fn open_flag(request: Request) -> u32
     ensures { result ≡ flag (is_open_request request) }
 {
     let is_open = if request.info.arrival > 0 {
-        !matches!(request.place, Place::Done)
+        !request.place.is_done()
     } else {
-        matches!(request.place, Place::Sent(_))
+        request.place.is_sent()
     };
     if is_open { 1 } else { 0 }
-}
-
-/// Whether the framework will complete a request at this place.
-pub(crate) fn is_closing(place: Place) -> bool
-    ensures { result ≡ requests.is_closing place }
-{
-    matches!(place, Place::Closing(_))
-}
-
-/// Whether EvtRequestCancel is due for a request with this mark.
-pub(crate) fn is_due(mark: Mark) -> bool
-    ensures { result ≡ requests.is_due mark }
-{
-    matches!(mark, Mark::Due)
 }

@@ -1,8 +1,9 @@
 ghost use Rattle.std.specs.Prelude.{◌≡◌, ◌<◌, ◌≤◌, ◌==◌, IfOk, find, length, max, nat_le, option_map, slice_get};
 ghost use Rattle.std.specs.List.{list_any};
+ghost use Rattle.wdf_base.specs.Places.{is_returning_to, is_sent_to};
 ghost use Rattle.wdf_model.specs.Tables.{put};
 ghost use Rattle.wdf_model.specs.parts.Requests as requests;
-ghost use Rattle.wdf_model.specs.parts.Requests.{is_returning_to, is_sent_to, no_request};
+ghost use Rattle.wdf_model.specs.parts.Requests.{no_request};
 ghost use Rattle.wdf_model.specs.rules.Ready.{is_open_request};
 ghost use Rattle.wdf_model.specs.rules.Starts.{is_unfinished_at};
 ghost use Rattle.wdf_counts.specs.Counts.{is_at};
@@ -14,7 +15,7 @@ use crate::arrivals::Arrivals;
 use crate::change::{
     NO_REQUEST, answer_of_mark, cancelled, forgotten, marked, moved, unmarked, with_mark,
 };
-use crate::keys::{is_closing, is_due, open_flag, returning_queue, sent_target, unfinished_device};
+use crate::keys::{open_flag, returning_queue, sent_target, unfinished_device};
 use std::alloc::Global;
 use std::marker::Model;
 use wdf_base::{Mark, Memory, ObjectId, Place, Plan, RequestInfo, Status};
@@ -252,8 +253,8 @@ impl Requests {
         self.unfinished
             .moves(unfinished_device(old), unfinished_device(request));
         self.open_count = self.open_count + open_flag(request) - open_flag(old);
-        self.closing.put(r.0, is_closing(request.place));
-        self.due.put(r.0, is_due(request.info.mark));
+        self.closing.put(r.0, request.place.is_closing());
+        self.due.put(r.0, request.info.mark.is_due());
         let info = &request.info;
         self.arrivals.note(info.agent, info.arrival, r.0);
         put_at(&mut self.all, NO_REQUEST, r.0, request);

@@ -22,9 +22,10 @@ use Rattle.wdf_base.specs.declared.event.Event.TheVariants as event
 use Rattle.wdf_base.specs.declared.event.Fault.TheVariants as fault
 use Rattle.wdf_base.specs.Calls.{signature_of}
 use Rattle.wdf_base.specs.Same.{same_call_kind}
+use Rattle.wdf_base.specs.Places.{is_owned}
 use Rattle.wdf_model.specs.declared.entries.Request.{Request}
 use Rattle.wdf_model.specs.Plans.{declares}
-use Rattle.wdf_model.specs.parts.Requests.{Requests, cancelled, is_cancelled, is_owned, mark_answer, mark_of, marked, place_of, request_of, with_mark}
+use Rattle.wdf_model.specs.parts.Requests.{Requests, cancelled, is_cancelled, mark_answer, mark_of, marked, place_of, request_of, with_mark}
 use Rattle.wdf_model.specs.parts.Requests as requests
 use Rattle.wdf_model.specs.State.{State, object_in}
 use Rattle.wdf_model.specs.Ids.{object_id}

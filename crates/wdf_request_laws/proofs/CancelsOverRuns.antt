@@ -27,9 +27,11 @@ use Rattle.wdf_base.specs.declared.event.Event.TheVariants as event
 use Rattle.wdf_base.specs.declared.event.Post.{Post}
 use Rattle.wdf_base.specs.declared.event.Post.TheVariants as post
 use Rattle.wdf_base.specs.Same.{same_callback, same_handle, same_option, same_post}
+use Rattle.wdf_base.specs.Lives.{is_live}
+use Rattle.wdf_base.specs.Places.{is_closing, is_done, is_due, is_owned}
 use Rattle.wdf_model.specs.declared.entries.Request.{Request}
-use Rattle.wdf_model.specs.parts.Tree.{is_live, life_of, next_id}
-use Rattle.wdf_model.specs.parts.Requests.{Requests, cancelled, is_cancelled, is_closing, is_done, is_due, is_owned, mark_cancelled, mark_of, no_request, place_of, request_of, with_mark}
+use Rattle.wdf_model.specs.parts.Tree.{life_of, next_id}
+use Rattle.wdf_model.specs.parts.Requests.{Requests, cancelled, is_cancelled, mark_cancelled, mark_of, no_request, place_of, request_of, with_mark}
 use Rattle.wdf_model.specs.parts.Requests as requests
 use Rattle.wdf_model.specs.State.{State, declared_in, handle_in, is_held_from, is_proper}
 use Rattle.wdf_model.specs.Plans.{callback_irql}

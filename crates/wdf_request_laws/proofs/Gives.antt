@@ -13,9 +13,10 @@ use Rattle.wdf_base.specs.declared.call.CallKind.{CallKind}
 use Rattle.wdf_base.specs.declared.call.CallKind.TheVariants as call
 use Rattle.wdf_base.specs.declared.event.Fault.TheVariants as fault
 use Rattle.wdf_base.specs.Same.{same_call_kind}
+use Rattle.wdf_base.specs.Places.{is_done, is_due, is_marked, is_owned}
 use Rattle.wdf_model.specs.declared.entries.Request.{Request}
 use Rattle.wdf_model.specs.parts.Control.{accepts, is_purged, mode_of}
-use Rattle.wdf_model.specs.parts.Requests.{Requests, is_cancelled, is_due, is_done, is_marked, is_owned, mark_at, mark_of, moved, no_request, place_of, request_of, unmark_answer, unmarked, with_mark}
+use Rattle.wdf_model.specs.parts.Requests.{Requests, is_cancelled, mark_at, mark_of, moved, no_request, place_of, request_of, unmark_answer, unmarked, with_mark}
 use Rattle.wdf_model.specs.parts.Requests as requests
 use Rattle.wdf_model.specs.State.{State, object_in, withdrawn_place}
 use Rattle.wdf_model.specs.Ids.{object_id}

@@ -11,12 +11,13 @@ use Rattle.wdf_base.specs.declared.object.Mark.TheVariants as marks
 use Rattle.wdf_base.specs.declared.object.Place.{Place}
 use Rattle.wdf_base.specs.declared.object.Place.TheVariants as place
 use Rattle.wdf_base.specs.declared.object.RequestInfo.{RequestInfo}
+use Rattle.wdf_base.specs.Places.{is_done, is_due, is_marked, is_owned, is_queued_in, is_returning_to, is_sent}
 use Rattle.wdf_model.specs.declared.enums.Mode.TheVariants as mode
 use Rattle.wdf_model.specs.declared.entries.Request.{Request}
 use Rattle.wdf_model.specs.Tables.{entry, flag, put, same_id}
 use Rattle.wdf_model.specs.Plans.{managed_queues, queues_of}
 use Rattle.wdf_model.specs.parts.Tree.{nearest_device, next_id, subtree}
-use Rattle.wdf_model.specs.parts.Requests.{Requests, cancelled, closed_at, forgotten, info_of, is_cancelled, is_done, is_due, is_in, is_marked, is_over, is_owned, is_queued_in, is_returning_to, is_sent, made_info, mark_at, mark_of, moved, no_request, place_of, request_of, unmarked, with_mark, with_request}
+use Rattle.wdf_model.specs.parts.Requests.{Requests, cancelled, closed_at, forgotten, info_of, is_cancelled, is_in, is_over, made_info, mark_at, mark_of, moved, no_request, place_of, request_of, unmarked, with_mark, with_request}
 use Rattle.wdf_model.specs.parts.Requests as requests
 use Rattle.wdf_model.specs.parts.Queues.{front, waiting_in}
 use Rattle.wdf_model.specs.parts.Queues as queues

@@ -7,11 +7,12 @@ use Rattle.wdf_base.specs.declared.ids.Cpu.{Cpu}
 use Rattle.wdf_base.specs.declared.object.Kind.TheVariants as kind
 use Rattle.wdf_base.specs.Same.{same_kind}
 use Rattle.wdf_base.specs.Resolved.{IsResolved, app_count, device_name, posting_names, target_name}
+use Rattle.wdf_base.specs.Places.{is_done, is_queued_in}
 use Rattle.wdf_model.specs.declared.room.TheConstants.{EVENTS, FRAMES, OBJECTS}
 use Rattle.wdf_model.specs.Tables.{contains, entry, first_of_list, flag}
 use Rattle.wdf_model.specs.parts.Tree.{kind_of, references_in}
 use Rattle.wdf_model.specs.parts.Cpus.{all_frames, top}
-use Rattle.wdf_model.specs.parts.Requests.{has_arrived, is_done, is_queued_in, no_request, origin_of, place_of, request_of}
+use Rattle.wdf_model.specs.parts.Requests.{has_arrived, no_request, origin_of, place_of, request_of}
 use Rattle.wdf_model.specs.parts.Queues.{held_in, is_waiting}
 use Rattle.wdf_model.specs.State.{State}
 use Rattle.wdf_model.specs.declared.deed.Deed.{Deed}

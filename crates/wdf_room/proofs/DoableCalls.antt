@@ -16,10 +16,12 @@ use Rattle.wdf_base.specs.declared.plan.Plan.{Plan}
 use Rattle.wdf_base.specs.declared.event.Fault.TheVariants as fault
 use Rattle.wdf_base.specs.Calls.{signature_of}
 use Rattle.wdf_base.specs.Same.{same_kind}
+use Rattle.wdf_base.specs.Lives.{is_cleaned, is_gone}
+use Rattle.wdf_base.specs.Places.{is_owned}
 use Rattle.wdf_model.specs.Plans.{parent_of_class}
-use Rattle.wdf_model.specs.parts.Tree.{is_cleaned, is_gone, kind_of}
+use Rattle.wdf_model.specs.parts.Tree.{kind_of}
 use Rattle.wdf_model.specs.parts.Cpus.{frame_of, top}
-use Rattle.wdf_model.specs.parts.Requests.{is_owned, place_of}
+use Rattle.wdf_model.specs.parts.Requests.{place_of}
 use Rattle.wdf_model.specs.State.{State, object_in}
 use Rattle.wdf_model.specs.rules.Deeds.{do_deeds}
 use Rattle.wdf_model.specs.rules.Faults.{View, any_argument, call_faults, is_script_error, is_stale, is_wrong_kind}

@@ -10,10 +10,12 @@ use Rattle.wdf_base.specs.declared.call.Arg.{Arg}
 use Rattle.wdf_base.specs.declared.call.Callback.TheVariants as callback
 use Rattle.wdf_base.specs.declared.plan.Plan.{Plan}
 use Rattle.wdf_base.specs.Same.{same_kind}
+use Rattle.wdf_base.specs.Lives.{is_gone, is_live}
+use Rattle.wdf_base.specs.Places.{is_owned, is_queued_in, is_sent_to}
 use Rattle.wdf_model.specs.Tables.{flag, same_id}
 use Rattle.wdf_model.specs.Plans.{declares, is_manual_queue, is_parallel_queue, kind_of_class}
-use Rattle.wdf_model.specs.parts.Tree.{gone, is_full, is_gone, is_live, kind_of, life_of}
-use Rattle.wdf_model.specs.parts.Requests.{has_arrived, is_cancelled, is_owned, is_queued_in, is_sent_to, mark_answer, no_request, place_of}
+use Rattle.wdf_model.specs.parts.Tree.{gone, is_full, kind_of, life_of}
+use Rattle.wdf_model.specs.parts.Requests.{has_arrived, is_cancelled, mark_answer, no_request, place_of}
 use Rattle.wdf_model.specs.parts.Queues.{front}
 use Rattle.wdf_model.specs.parts.Control.{accepts, is_purged, mode_of}
 use Rattle.wdf_model.specs.parts.Interrupts.{is_enabled}

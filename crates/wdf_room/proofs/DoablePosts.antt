@@ -15,9 +15,11 @@ use Rattle.wdf_base.specs.declared.event.Post.{Post}
 use Rattle.wdf_base.specs.declared.event.Post.TheVariants as post
 use Rattle.wdf_base.specs.Resolved.{is_handle}
 use Rattle.wdf_base.specs.Same.{same_option, same_post}
+use Rattle.wdf_base.specs.Lives.{is_live}
+use Rattle.wdf_base.specs.Places.{is_closing, is_done, is_queued_in, is_sent_to}
 use Rattle.wdf_model.specs.Plans.{has_handler, is_manual_queue, queue_for, queue_of, target_of_agent}
-use Rattle.wdf_model.specs.parts.Tree.{is_live, life_of, next_id}
-use Rattle.wdf_model.specs.parts.Requests.{arrival_of, is_closing, is_done, is_queued_in, is_sent_to, no_request, place_of}
+use Rattle.wdf_model.specs.parts.Tree.{life_of, next_id}
+use Rattle.wdf_model.specs.parts.Requests.{arrival_of, no_request, place_of}
 use Rattle.wdf_model.specs.parts.Control.{accepts, accepts_in, no_control}
 use Rattle.wdf_model.specs.State.{State}
 use Rattle.wdf_model.specs.Ids.{object_id}

@@ -10,10 +10,12 @@ use Rattle.wdf_base.specs.declared.event.Stage.TheVariants as stage
 use Rattle.wdf_base.specs.declared.event.Step.{Step}
 use Rattle.wdf_base.specs.declared.event.Step.TheVariants as step
 use Rattle.wdf_base.specs.Same.{same_handle, same_option, same_stage, same_step}
+use Rattle.wdf_base.specs.Lives.{is_asked}
+use Rattle.wdf_base.specs.Places.{is_done}
 use Rattle.wdf_model.specs.declared.room.TheConstants.{OBJECTS}
 use Rattle.wdf_model.specs.Tables.{first_of_list}
-use Rattle.wdf_model.specs.parts.Tree.{is_asked, life_of, may_destroy}
-use Rattle.wdf_model.specs.parts.Requests.{is_done, place_of}
+use Rattle.wdf_model.specs.parts.Tree.{life_of, may_destroy}
+use Rattle.wdf_model.specs.parts.Requests.{place_of}
 use Rattle.wdf_model.specs.parts.Cpus.{nobody_on}
 use Rattle.wdf_model.specs.parts.Pnp.{next_step, steps_left}
 use Rattle.wdf_model.specs.State.{State}

@@ -22,13 +22,15 @@ use Rattle.wdf_base.specs.declared.frame.Frame.{Frame}
 use Rattle.wdf_base.specs.Callbacks.{row_of}
 use Rattle.wdf_base.specs.Resolved.{class_fits, period_fits}
 use Rattle.wdf_base.specs.Same.{same_option, same_step}
+use Rattle.wdf_base.specs.Lives.{is_asked, is_cleaned}
+use Rattle.wdf_base.specs.Places.{is_done, is_queued_in, is_returning_to, is_sent_to}
 use Rattle.wdf_model.specs.declared.entries.Timed.{Timed}
 use Rattle.wdf_model.specs.Tables.{first_of_list, flag, same_id}
 use Rattle.wdf_model.specs.Plans.{callback_irql, class_period, period_of}
-use Rattle.wdf_model.specs.parts.Tree.{class_of, gone, is_asked, is_cleaned, life_of, nearest_device}
+use Rattle.wdf_model.specs.parts.Tree.{class_of, gone, life_of, nearest_device}
 use Rattle.wdf_model.specs.parts.Cpus.{nobody_on}
 use Rattle.wdf_model.specs.parts.Locks.{is_free_if_any, lock_of_callback}
-use Rattle.wdf_model.specs.parts.Requests.{is_done, is_queued_in, is_returning_to, is_sent_to, place_of}
+use Rattle.wdf_model.specs.parts.Requests.{place_of}
 use Rattle.wdf_model.specs.parts.Queues.{front, waiting_in}
 use Rattle.wdf_model.specs.parts.Control.{no_control, notify_due}
 use Rattle.wdf_model.specs.parts.Pnp.{next_step, no_sequence}

@@ -13,6 +13,8 @@ use Rattle.wdf_base.specs.declared.object.RequestInfo.{RequestInfo}
 use Rattle.wdf_base.specs.declared.call.Callback.{Callback}
 use Rattle.wdf_base.specs.declared.call.Callback.TheVariants as callback
 use Rattle.wdf_base.specs.Same.{same_lock}
+use Rattle.wdf_base.specs.Lives.{is_asked, is_cleaned, is_live}
+use Rattle.wdf_base.specs.Places.{is_returning_to}
 use Rattle.wdf_model.specs.declared.enums.Mode.TheVariants as mode
 use Rattle.wdf_model.specs.declared.entries.Held.{Held}
 use Rattle.wdf_model.specs.declared.entries.HeldLevel.{HeldLevel}
@@ -20,9 +22,9 @@ use Rattle.wdf_model.specs.declared.entries.Node.{Node}
 use Rattle.wdf_model.specs.declared.entries.Request.{Request}
 use Rattle.wdf_model.specs.Plans.{managed_queues, queues_of}
 use Rattle.wdf_model.specs.Tables.{change_at, entry, put}
-use Rattle.wdf_model.specs.parts.Tree.{Tree, children, gone, is_asked, is_cleaned, is_live, life_of, may_destroy, new_node, next_id, node_of, noted, references_in, references_of, subtree, with_life, with_node}
+use Rattle.wdf_model.specs.parts.Tree.{Tree, children, gone, life_of, may_destroy, new_node, next_id, node_of, noted, references_in, references_of, subtree, with_life, with_node}
 use Rattle.wdf_model.specs.parts.Cpus.{Cpus, less_one, levels_without, top}
-use Rattle.wdf_model.specs.parts.Requests.{Requests, cancelled, close, close_returning, closed_at, forgotten, is_in, is_returning_to, marked, moved, no_request, place_of, request_of, unmarked, with_mark, with_request}
+use Rattle.wdf_model.specs.parts.Requests.{Requests, cancelled, close, close_returning, closed_at, forgotten, is_in, marked, moved, no_request, place_of, request_of, unmarked, with_mark, with_request}
 use Rattle.wdf_model.specs.parts.Requests as requests
 use Rattle.wdf_model.specs.parts.Queues.{Queues, held_in, hold, let_go, take_cancelled, waiting_in}
 use Rattle.wdf_model.specs.parts.Queues as queues

@@ -8,7 +8,8 @@ use Rattle.wdf_base.specs.declared.object.RequestForm.TheVariants as form
 use Rattle.wdf_base.specs.declared.event.Event.{Event}
 use Rattle.wdf_base.specs.declared.event.Event.TheVariants as event
 use Rattle.wdf_base.specs.declared.event.Post.TheVariants as post
-use Rattle.wdf_model.specs.parts.Tree.{is_live, life_of}
+use Rattle.wdf_base.specs.Lives.{is_live}
+use Rattle.wdf_model.specs.parts.Tree.{life_of}
 use Rattle.wdf_model.specs.State.{State, opening}
 use Rattle.wdf_model.specs.Ids.{object_id}
 use Rattle.wdf_model.specs.declared.deed.Deed.{Deed}

@@ -7,10 +7,11 @@ use Rattle.wdf_base.specs.declared.plan.Plan.{Plan}
 use Rattle.wdf_base.specs.declared.object.Place.{Place}
 use Rattle.wdf_base.specs.declared.object.Place.TheVariants as place
 use Rattle.wdf_base.specs.declared.object.RequestInfo.{RequestInfo}
+use Rattle.wdf_base.specs.Lives.{is_live}
 use Rattle.wdf_model.specs.declared.enums.Mode.TheVariants as mode
 use Rattle.wdf_model.specs.Tables.{put, without}
 use Rattle.wdf_model.specs.Plans.{agent_count, managed_queues, queues_of}
-use Rattle.wdf_model.specs.parts.Tree.{is_live, life_of, next_id, subtree}
+use Rattle.wdf_model.specs.parts.Tree.{life_of, next_id, subtree}
 use Rattle.wdf_model.specs.parts.Cpus.{stack_of}
 use Rattle.wdf_model.specs.parts.Requests.{origin_of}
 use Rattle.wdf_model.specs.parts.Requests as requests

@@ -4,9 +4,10 @@ use Rattle.std.specs.Prelude.{◌≡◌, ℕ, ◌+◌, ◌<◌, ◌≤◌, ◌^�
 use Rattle.wdf_base.specs.declared.plan.Plan.{Plan}
 use Rattle.wdf_base.specs.declared.object.Place.{Place}
 use Rattle.wdf_base.specs.declared.object.Place.TheVariants as place
+use Rattle.wdf_base.specs.Lives.{is_asked, is_live}
 use Rattle.wdf_model.specs.declared.room.TheConstants.{EVENTS, FRAMES, OBJECTS}
 use Rattle.wdf_model.specs.Tables.{contains, entry}
-use Rattle.wdf_model.specs.parts.Tree.{is_asked, is_full, is_live, life_of, may_destroy, next_id, references_in}
+use Rattle.wdf_model.specs.parts.Tree.{is_full, life_of, may_destroy, next_id, references_in}
 use Rattle.wdf_model.specs.parts.Cpus.{all_frames, top}
 use Rattle.wdf_model.specs.parts.Locks.{is_free_lock}
 use Rattle.wdf_model.specs.parts.Requests.{origin_of}

@@ -4,7 +4,7 @@ ghost use Rattle.wdf_base.specs.Calls as calls;
 ghost use Rattle.wdf_model.specs.rules.Faults as faults;
 
 use crate::view::View;
-use wdf_base::{Arg, Call, Kind, Life, Sort, Value};
+use wdf_base::{Arg, Call, Kind, Sort, Value};
 use wdf_same::same_kind;
 
 /// Whether an argument is this number.
@@ -31,8 +31,7 @@ pub fn is_stale<V: View>(view: &V, cleaned_too: bool, sort: Sort, argument: Arg)
     match argument {
         Arg::Val(Value::Obj(handle)) => {
             let life = view.life(handle.id);
-            is_object_sort(sort)
-                && (matches!(life, Life::Gone) || (matches!(life, Life::Cleaned) && !cleaned_too))
+            is_object_sort(sort) && (life.is_gone() || (life.is_cleaned() && !cleaned_too))
         }
         _ => false,
     }

@@ -3,8 +3,8 @@ ghost use Rattle.wdf_model.specs.rules.Faults as faults;
 
 use crate::arguments::{any_script_error, any_stale, any_wrong_kind};
 use crate::groups::{
-    forgets_made, gives_up, greatest_level, holds_lock, holds_scope, is_acquire, is_due, is_marked,
-    is_never_deleted, is_not_owned, is_release, is_stop_of, waits_for_others,
+    forgets_made, gives_up, greatest_level, holds_lock, holds_scope, is_acquire, is_never_deleted,
+    is_not_owned, is_release, is_stop_of, waits_for_others,
 };
 use crate::view::View;
 use wdf_base::{Call, CallKind, FAULTS, Fault, Intent, LockRef, same_object_id};
@@ -21,11 +21,11 @@ fn call_faults<V: View>(view: &V, call: &Call, fault: Fault) -> bool
         Fault::WrongKind => any_wrong_kind(view, call) || forgets_made(view, call),
         Fault::IrqlTooHigh => greatest_level(view, call) < view.irql().0,
         Fault::NotOwned => is_not_owned(view, call, object),
-        Fault::CompleteWhileMarked => gives_up(call) && is_marked(view.mark(object)),
-        Fault::CompleteBeforeCancelCallback => gives_up(call) && is_due(view.mark(object)),
+        Fault::CompleteWhileMarked => gives_up(call) && view.mark(object).is_marked(),
+        Fault::CompleteBeforeCancelCallback => gives_up(call) && view.mark(object).is_due(),
         Fault::MarkedTwice => {
             same_call_kind(call.kind, CallKind::WdfRequestMarkCancelableEx)
-                && (is_marked(view.mark(object)) || is_due(view.mark(object)))
+                && (view.mark(object).is_marked() || view.mark(object).is_due())
         }
         Fault::AckOutsideStop => {
             same_call_kind(call.kind, CallKind::WdfRequestStopAcknowledge)

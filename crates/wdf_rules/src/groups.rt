@@ -1,8 +1,8 @@
 //! Groups of calls, and what each needs of its request or lock.
 ghost use Rattle.std.specs.Prelude.{◌≡◌};
 ghost use Rattle.wdf_base.specs.Calls as calls;
+ghost use Rattle.wdf_base.specs.Places.{is_owned};
 ghost use Rattle.wdf_model.specs.Tables as tables;
-ghost use Rattle.wdf_model.specs.parts.Requests as requests;
 ghost use Rattle.wdf_model.specs.rules.Faults as faults;
 
 use crate::arguments::is_number;
@@ -106,37 +106,16 @@ pub fn greatest_level<V: View>(view: &V, call: &Call) -> u8
     }
 }
 
-/// Whether a request is in the driver's hands.
-fn is_owned(place: Place) -> bool
-    ensures { result ≡ requests.is_owned place }
-{
-    matches!(place, Place::Owned)
-}
-
-/// Whether a request with this mark is cancelable: its cancel is neither due nor taken.
-pub fn is_marked(mark: Mark) -> bool
-    ensures { result ≡ requests.is_marked mark }
-{
-    matches!(mark, Mark::Marked)
-}
-
-/// Whether the cancel of a marked request is due.
-pub fn is_due(mark: Mark) -> bool
-    ensures { result ≡ requests.is_due mark }
-{
-    matches!(mark, Mark::Due)
-}
-
 /// Whether a request is not in the driver's hands as a call needs it.
 pub fn is_not_owned<V: View>(view: &V, call: &Call, r: ObjectId) -> bool
     ensures { result ≡ faults.is_not_owned (V.seen view.now) call.now r.0 }
 {
     match call.kind {
         CallKind::WdfRequestStopAcknowledge => {
-            !view.held(r) || (is_return_at_stop(call) && !is_owned(view.place(r)))
+            !view.held(r) || (is_return_at_stop(call) && !view.place(r).is_owned())
         }
         CallKind::WdfRequestIsCanceled => !view.held(r),
-        _ => needs_owned(call.kind) && !is_owned(view.place(r)),
+        _ => needs_owned(call.kind) && !view.place(r).is_owned(),
     }
 }
 

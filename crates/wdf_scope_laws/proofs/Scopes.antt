@@ -20,8 +20,9 @@ use Rattle.wdf_base.specs.Callbacks.{row_of}
 use Rattle.wdf_base.specs.Kinds.{declared_kind}
 use Rattle.wdf_base.specs.Plan.{declared_of}
 use Rattle.wdf_base.specs.Same.{same_lock}
+use Rattle.wdf_base.specs.Lives.{is_gone}
 use Rattle.wdf_model.specs.declared.entries.Held.{Held}
-use Rattle.wdf_model.specs.parts.Tree.{Tree, declared_as, gone, is_gone, kind_of, life_of, made_as, node_of}
+use Rattle.wdf_model.specs.parts.Tree.{Tree, declared_as, gone, kind_of, life_of, made_as, node_of}
 use Rattle.wdf_model.specs.parts.Cpus.{frame_of}
 use Rattle.wdf_model.specs.parts.Locks.{is_free_if_any, is_free_lock, lock_of_callback, own_lock, scope_needed, scope_of}
 use Rattle.wdf_model.specs.State.{State, declared_in}

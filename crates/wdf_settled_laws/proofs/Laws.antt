@@ -19,9 +19,10 @@ use Rattle.wdf_base.specs.declared.event.Stage.TheVariants as stage
 use Rattle.wdf_base.specs.declared.event.Step.{Step}
 use Rattle.wdf_base.specs.declared.event.Step.TheVariants as step
 use Rattle.wdf_base.specs.Same.{same_call_kind, same_callback, same_option, same_step}
+use Rattle.wdf_base.specs.Lives.{is_live}
 use Rattle.wdf_model.specs.Tables.{entry, same_id}
 use Rattle.wdf_model.specs.Plans.{declared_ids, device_of, is_managed, queue_of}
-use Rattle.wdf_model.specs.parts.Tree.{is_live, life_of, nearest_device}
+use Rattle.wdf_model.specs.parts.Tree.{life_of, nearest_device}
 use Rattle.wdf_model.specs.parts.Requests.{origin_of}
 use Rattle.wdf_model.specs.parts.Power.{acknowledged, holding_of, is_held, opening_power, queue_power}
 use Rattle.wdf_model.specs.parts.Pnp.{Sequence, is_running_step, next_step, no_sequence, opening_pnp, opening_sequence, sequence_of, steps_left}

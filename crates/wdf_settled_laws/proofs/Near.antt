@@ -10,9 +10,10 @@ use Rattle.wdf_base.specs.declared.declared.Declared.{Declared}
 use Rattle.wdf_base.specs.declared.declared.Declared.TheVariants as declared
 use Rattle.wdf_base.specs.declared.declared.QueueInfo.{QueueInfo}
 use Rattle.wdf_base.specs.declared.event.Event.{Event}
+use Rattle.wdf_base.specs.Lives.{is_live}
 use Rattle.wdf_model.specs.declared.entries.Node.{Node}
 use Rattle.wdf_model.specs.Plans.{as_device, as_queue, queue_of}
-use Rattle.wdf_model.specs.parts.Tree.{Tree, gone, is_live, kind_of, life_of, made_as, nearest_device, node_of, parent_of}
+use Rattle.wdf_model.specs.parts.Tree.{Tree, gone, kind_of, life_of, made_as, nearest_device, node_of, parent_of}
 use Rattle.wdf_model.specs.State.{State, declared_in}
 use Rattle.wdf_model.specs.laws.OverRuns.{DeclaredAgree}
 use Rattle.wdf_agreements.proofs.Lists.{inside}

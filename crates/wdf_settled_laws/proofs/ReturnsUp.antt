@@ -12,11 +12,12 @@ use Rattle.wdf_base.specs.declared.event.Stage.TheVariants as stage
 use Rattle.wdf_base.specs.declared.event.Step.TheVariants as step
 use Rattle.wdf_base.specs.declared.value.Status.TheVariants as status
 use Rattle.wdf_base.specs.declared.object.Place.TheVariants as place
+use Rattle.wdf_base.specs.Places.{is_returning_to}
 use Rattle.wdf_model.specs.declared.entries.Request.{Request}
 use Rattle.wdf_model.specs.Tables.{entry}
 use Rattle.wdf_model.specs.Plans.{device_of_queue, is_managed, managed_queues, queues_of}
 use Rattle.wdf_model.specs.parts.Tree.{subtree}
-use Rattle.wdf_model.specs.parts.Requests.{closed_at, is_returning_to, moved, no_request, place_of, request_of}
+use Rattle.wdf_model.specs.parts.Requests.{closed_at, moved, no_request, place_of, request_of}
 use Rattle.wdf_model.specs.parts.Control as control
 use Rattle.wdf_model.specs.parts.Power.{Power, advance_stage, no_device_power}
 use Rattle.wdf_model.specs.State.{State, is_powered}

@@ -17,9 +17,10 @@ use Rattle.wdf_base.specs.declared.event.Step.{Step}
 use Rattle.wdf_base.specs.declared.event.Step.TheVariants as step
 use Rattle.wdf_base.specs.declared.frame.Frame.{Frame}
 use Rattle.wdf_base.specs.Same.{same_callback, same_option, same_step}
+use Rattle.wdf_base.specs.Lives.{is_live}
 use Rattle.wdf_model.specs.declared.entries.DevicePower.{DevicePower}
 use Rattle.wdf_model.specs.Plans.{callback_irql, device_of_queue, is_managed, managed_queues, queue_of}
-use Rattle.wdf_model.specs.parts.Tree.{is_live, life_of, nearest_device}
+use Rattle.wdf_model.specs.parts.Tree.{life_of, nearest_device}
 use Rattle.wdf_model.specs.parts.Cpus.{Cpus, frame_of, nobody_on}
 use Rattle.wdf_model.specs.parts.Locks.{is_free_if_any, lock_of_callback}
 use Rattle.wdf_model.specs.parts.Power.{stop_was_asked, unsettled}

@@ -2,7 +2,6 @@
 ghost use Rattle.std.specs.Prelude.{◌≡◌};
 ghost use Rattle.wdf_model.specs.rules.Starts as starts;
 
-use crate::checks::{is_done, is_sent};
 use wdf_base::{Agent, Callback, Kind, ObjectId};
 use wdf_parts::Parts;
 use wdf_plans::IndexedPlan;
@@ -21,8 +20,8 @@ pub fn is_finished<A: Agent>(parts: &Parts<A>, o: ObjectId) -> bool
 {
     let kind = parts.tree().kind(o);
     let place = parts.requests().place(o);
-    (!same_kind(kind, Kind::Request) || is_done(place))
-        && (!same_kind(kind, Kind::Made) || !is_sent(place))
+    (!same_kind(kind, Kind::Request) || place.is_done())
+        && (!same_kind(kind, Kind::Made) || !place.is_sent())
 }
 
 /// Whether the cleanup of an object may come. Its deletion is asked, its children are cleaned up, and its

@@ -2,7 +2,7 @@
 ghost use Rattle.std.specs.Prelude.{◌≡◌};
 ghost use Rattle.wdf_model.specs.rules.Starts as starts;
 
-use crate::checks::{is_callback, is_due, is_id, is_returning_to, is_sent_to, is_step};
+use crate::checks::{is_callback, is_id, is_step};
 use crate::lines::isr_due;
 use crate::objects::{clean_ready, destroy_ready};
 use crate::sequences::{step_of, step_ready};
@@ -57,10 +57,10 @@ pub fn rank_ready_for<A: Agent>(
 {
     match rank {
         Rank::Completion => {
-            is_sent_to(o, parts.requests().place(r)) && parts.targets().routine_due(r).is_some()
+            parts.requests().place(r).is_sent_to(o) && parts.targets().routine_due(r).is_some()
         }
-        Rank::Cancel => is_due(parts.requests().info(r).mark) && parts.is_held_from(o, r),
-        Rank::CanceledOnQueue => is_returning_to(o, parts.requests().place(r)),
+        Rank::Cancel => parts.requests().info(r).mark.is_due() && parts.is_held_from(o, r),
+        Rank::CanceledOnQueue => parts.requests().place(r).is_returning_to(o),
         Rank::Stop => stop_is_due(plan, parts, o, r),
         Rank::Resume => parts.power().resume_due(r) && parts.is_held_from(o, r),
         Rank::Handler => presents(plan, parts, callback, o, r),

@@ -4,7 +4,6 @@ ghost use Rattle.wdf_model.specs.State.{declared_in};
 ghost use Rattle.wdf_model.specs.parts.Locks.{is_free_if_any, lock_of_callback};
 ghost use Rattle.wdf_model.specs.rules.Starts as starts;
 
-use crate::checks::{is_asked, is_cleaned, is_live};
 use crate::ranks::is_ready_for;
 use wdf_base::{Agent, Callback, Cpu, Handle, Irql, LockRef, ObjectId};
 use wdf_lock::lock_of_callback;
@@ -17,9 +16,9 @@ pub fn life_fits<A: Agent>(parts: &Parts<A>, callback: Callback, o: ObjectId) ->
     ensures { result ≡ starts.life_fits parts.now callback o.0 }
 {
     match callback {
-        Callback::EvtCleanupCallback => is_asked(parts.tree().life(o)),
-        Callback::EvtDestroyCallback => is_cleaned(parts.tree().life(o)),
-        _ => is_live(parts.tree().life(o)),
+        Callback::EvtCleanupCallback => parts.tree().life(o).is_asked(),
+        Callback::EvtDestroyCallback => parts.tree().life(o).is_cleaned(),
+        _ => parts.tree().life(o).is_live(),
     }
 }
 

@@ -11,8 +11,9 @@ use Rattle.wdf_base.specs.declared.call.Callback.{Callback}
 use Rattle.wdf_base.specs.declared.call.Callback.TheVariants as callback
 use Rattle.wdf_base.specs.declared.event.Event.{Event}
 use Rattle.wdf_base.specs.declared.event.Event.TheVariants as event
+use Rattle.wdf_base.specs.Lives.{is_past_cleanup}
 use Rattle.wdf_model.specs.Plans.{callback_irql}
-use Rattle.wdf_model.specs.parts.Tree.{is_past_cleanup, life_of}
+use Rattle.wdf_model.specs.parts.Tree.{life_of}
 use Rattle.wdf_model.specs.parts.Locks.{lock_of_callback}
 use Rattle.wdf_model.specs.State.{State, declared_in, is_proper}
 use Rattle.wdf_model.specs.Ids.{cpu_of, frame_id, irql_of}

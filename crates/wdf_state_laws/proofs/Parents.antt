@@ -10,9 +10,10 @@ use Rattle.wdf_base.specs.declared.object.Kind.{Kind}
 use Rattle.wdf_base.specs.declared.object.Kind.TheVariants as kind
 use Rattle.wdf_base.specs.declared.object.Life.TheVariants as life
 use Rattle.wdf_base.specs.declared.declared.Declared.{Declared}
+use Rattle.wdf_base.specs.Lives.{is_asked, is_cleaned, is_gone, is_live}
 use Rattle.wdf_model.specs.declared.entries.Node.{Node}
 use Rattle.wdf_model.specs.Tables.{entry}
-use Rattle.wdf_model.specs.parts.Tree.{Tree, children, declared_node, gone, is_asked, is_child, is_cleaned, is_gone, is_live, life_of, may_destroy, new_node, next_id, node_of, noted, opening_tree, parent_of, references_of, subtree, with_life, with_node}
+use Rattle.wdf_model.specs.parts.Tree.{Tree, children, declared_node, gone, is_child, life_of, may_destroy, new_node, next_id, node_of, noted, opening_tree, parent_of, references_of, subtree, with_life, with_node}
 use Rattle.wdf_model.specs.parts.Tree as tree
 use Rattle.wdf_model.specs.parts.Cpus.{nobody_on}
 use Rattle.wdf_model.specs.parts.Requests as requests

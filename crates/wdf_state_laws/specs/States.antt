@@ -2,9 +2,11 @@
 use Rattle.std.specs.Prelude.{◌≡◌, ◌≢◌, ℕ, zero, suc, ◌==◌, ◌≤◌, true, false, count_by}
 use Rattle.wdf_base.specs.declared.call.Callback.TheVariants as callback
 use Rattle.wdf_base.specs.Same.{same_callback}
-use Rattle.wdf_model.specs.parts.Tree.{Tree, is_below, is_cleaned, is_gone, is_past_cleanup, life_of, parent_of}
+use Rattle.wdf_base.specs.Lives.{is_cleaned, is_gone, is_past_cleanup}
+use Rattle.wdf_base.specs.Places.{is_due, is_marked, is_owned}
+use Rattle.wdf_model.specs.parts.Tree.{Tree, is_below, life_of, parent_of}
 use Rattle.wdf_model.specs.parts.Cpus.{all_frames, frame_of}
-use Rattle.wdf_model.specs.parts.Requests.{is_cancelled, is_due, is_marked, is_owned, mark_of, place_of}
+use Rattle.wdf_model.specs.parts.Requests.{is_cancelled, mark_of, place_of}
 use Rattle.wdf_model.specs.State.{State}
 
 -- A request that is marked is Owned and isn't cancelled; one whose cancel is due is Owned and is cancelled.

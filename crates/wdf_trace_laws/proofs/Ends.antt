@@ -12,8 +12,9 @@ use Rattle.wdf_base.specs.declared.call.Callback.TheVariants as callback
 use Rattle.wdf_base.specs.declared.event.Event.{Event}
 use Rattle.wdf_base.specs.declared.event.Event.TheVariants as event
 use Rattle.wdf_base.specs.Same.{same_callback}
+use Rattle.wdf_base.specs.Lives.{is_asked, is_cleaned, is_gone, is_past_cleanup}
 use Rattle.wdf_model.specs.declared.entries.Node.{Node}
-use Rattle.wdf_model.specs.parts.Tree.{gone, is_asked, is_cleaned, is_gone, is_past_cleanup, life_of, node_of, with_life}
+use Rattle.wdf_model.specs.parts.Tree.{gone, life_of, node_of, with_life}
 use Rattle.wdf_model.specs.State.{State}
 use Rattle.wdf_model.specs.rules.Starts.{life_fits}
 use Rattle.wdf_model.specs.rules.Steps.{after, deeds, may}

@@ -15,7 +15,7 @@ use Rattle.wdf_base.specs.declared.call.Callback.{Callback}
 use Rattle.wdf_base.specs.declared.call.Callback.TheVariants as callback
 use Rattle.wdf_model.specs.declared.entries.Node.{Node}
 use Rattle.wdf_model.specs.Tables.{entry}
-use Rattle.wdf_model.specs.parts.Tree.{Tree, declared_node, gone, is_cleaned, is_live, life_of, new_node, next_id, node_of, noted, opening_tree, subtree, with_life, with_node}
+use Rattle.wdf_model.specs.parts.Tree.{Tree, declared_node, gone, life_of, new_node, next_id, node_of, noted, opening_tree, subtree, with_life, with_node}
 use Rattle.wdf_model.specs.parts.Tree as tree
 use Rattle.wdf_model.specs.parts.Requests as requests
 use Rattle.wdf_model.specs.State.{State}
@@ -36,7 +36,6 @@ use Rattle.wdf_model.proofs.FitsOfEvents.{event_fits}
 use Rattle.wdf_model.specs.rules.Calls.{is_met_then}
 use Rattle.wdf_model.specs.laws.FactsOfEvents.{IsTick}
 use Rattle.wdf_model.proofs.Follows.{follows}
-use Rattle.wdf_model.specs.parts.Tree.{is_gone}
 use Rattle.wdf_agreements.proofs.Keeping.{comes, deeds_keep as keep_deeds, each_place}
 use Rattle.wdf_invariants.proofs.Trees.{cleaned_there}
 use Rattle.wdf_agreements.proofs.Readers.{arrived_tree, tree_of}
@@ -61,6 +60,7 @@ use Rattle.wdf_base.specs.declared.call.CallKind.TheVariants as call
 use Rattle.wdf_base.specs.declared.value.Value.{Value}
 use Rattle.wdf_base.specs.declared.value.Value.TheVariants.{Obj}
 use Rattle.wdf_base.specs.Same.{same_call_kind}
+use Rattle.wdf_base.specs.Lives.{is_cleaned, is_gone, is_live}
 use Rattle.wdf_model.specs.Tables.{flag}
 use Rattle.wdf_model.specs.parts.Tree.{references_of}
 use Rattle.wdf_model.specs.State.{object_in}

@@ -5,10 +5,11 @@ use Rattle.std.specs.List.{list_all, range_with_len}
 use Rattle.std.proofs.lemmas.Bool.{eq-eqb, false≢true, lt-ltb, le-ltb, ne_eqb}
 use Rattle.wdf_base.specs.declared.object.Life.{Life}
 use Rattle.wdf_base.specs.declared.object.Life.TheVariants as life
+use Rattle.wdf_base.specs.Lives.{is_asked, is_gone, is_past_cleanup}
 use Rattle.wdf_ilist.specs.Family.{last_of}
 use Rattle.wdf_model.specs.Tables.{entry, ids_of, same_id}
 use Rattle.wdf_model.specs.declared.entries.Node.{Node}
-use Rattle.wdf_model.specs.parts.Tree.{Tree, children, gone, is_asked, is_child, is_gone, is_past_cleanup, life_of, parent_of, younger_siblings}
+use Rattle.wdf_model.specs.parts.Tree.{Tree, children, gone, is_child, life_of, parent_of, younger_siblings}
 use Rattle.wdf_tree.specs.Kin.{is_kin, is_left, is_waiting, places}
 use Rattle.wdf_tree.proofs.Kin.{last_place, no_places, places_by_ids}
 

@@ -8,6 +8,7 @@ use Rattle.wdf_base.specs.Same.{same_kind, same_life}
 use Rattle.wdf_base.specs.declared.object.Kind.TheVariants as kind
 use Rattle.wdf_base.specs.declared.object.Life.{Life}
 use Rattle.wdf_base.specs.declared.object.Life.TheVariants as life
+use Rattle.wdf_base.specs.Lives.{is_asked, is_cleaned, is_gone, is_past_cleanup}
 use Rattle.wdf_ilist.specs.Family.{Family, after_on, first_of, list_of}
 use Rattle.wdf_ilist.proofs.Lists.{list_of_first}
 use Rattle.wdf_maps.specs.Least.{lesser_if}
@@ -15,7 +16,7 @@ use Rattle.wdf_maps.proofs.Leasts.{least_append}
 use Rattle.wdf_model.specs.Tables.{entry, ids_of, least, lesser}
 use Rattle.wdf_model.specs.declared.entries.Node.{Node}
 use Rattle.wdf_model.specs.declared.room.TheConstants.{OBJECTS}
-use Rattle.wdf_model.specs.parts.Tree.{Tree, children, gone, is_asked, is_child, is_cleaned, is_gone, is_past_cleanup, life_of, parent_of, younger_siblings}
+use Rattle.wdf_model.specs.parts.Tree.{Tree, children, gone, is_child, life_of, parent_of, younger_siblings}
 use Rattle.wdf_tree.specs.GoFirst.{go_first}
 use Rattle.wdf_tree.specs.Inside.{EndsAlone, ends_alone}
 use Rattle.wdf_tree.specs.Kin.{HoldsKin, is_kin, is_waiting, places, is_left}

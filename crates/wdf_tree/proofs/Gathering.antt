@@ -6,11 +6,12 @@ use Rattle.std.proofs.lemmas.Bool.{and_parts, and_right, cases_eq, cases_lt, eq-
 use Rattle.std.proofs.lemmas.List.{append-nil}
 use Rattle.wdf_base.specs.declared.object.Kind.TheVariants as kind
 use Rattle.wdf_base.specs.Same.{same_kind}
+use Rattle.wdf_base.specs.Lives.{is_gone}
 use Rattle.wdf_ilist.specs.Family.{Family, is_on, list_at}
 use Rattle.wdf_model.specs.Tables.{entry}
 use Rattle.wdf_model.specs.declared.entries.Node.{Node}
 use Rattle.wdf_model.specs.declared.room.TheConstants.{OBJECTS}
-use Rattle.wdf_model.specs.parts.Tree.{Tree, gone, is_below, is_child, is_gone, life_of, node_of, parent_of, subtree}
+use Rattle.wdf_model.specs.parts.Tree.{Tree, gone, is_below, is_child, life_of, node_of, parent_of, subtree}
 use Rattle.wdf_model.proofs.Maps.{entry_past}
 use Rattle.wdf_sets.specs.Members.{is_in, members, rank}
 use Rattle.wdf_tree.specs.Gathering.{AreGathered, is_found, is_within}

@@ -12,11 +12,12 @@ use Rattle.wdf_base.specs.declared.object.Kind.TheVariants as kind
 use Rattle.wdf_base.specs.declared.object.Life.{Life}
 use Rattle.wdf_base.specs.declared.object.Life.TheVariants as life
 use Rattle.wdf_base.specs.Same.{same_kind, same_life}
+use Rattle.wdf_base.specs.Lives.{is_asked, is_cleaned, is_gone, is_live, is_past_cleanup}
 use Rattle.wdf_ilist.specs.Family.{Family, without}
 use Rattle.wdf_model.specs.Tables.{entry}
 use Rattle.wdf_model.specs.declared.entries.Node.{Node}
 use Rattle.wdf_model.specs.declared.room.TheConstants.{OBJECTS}
-use Rattle.wdf_model.specs.parts.Tree.{Tree, counts, children, gone, is_asked, is_cleaned, is_gone, is_live, is_past_cleanup, life_of, may_destroy, nearest_devices, own_device, references_in, references_of}
+use Rattle.wdf_model.specs.parts.Tree.{Tree, counts, children, gone, life_of, may_destroy, nearest_devices, own_device, references_in, references_of}
 use Rattle.wdf_model.proofs.Maps.{entry_before, entry_set_other, as_long}
 use Rattle.wdf_tree.specs.Inside.{EndsAlone, IsKept, ends_alone}
 use Rattle.wdf_tree.specs.Kin.{HoldsKin, is_left, is_waiting, joined}

@@ -7,10 +7,11 @@ use Rattle.std.proofs.lemmas.Bool.Decides.{nat_tests}
 use Rattle.std.proofs.lemmas.List.{length-replicate}
 use Rattle.wdf_base.specs.declared.object.Life.{Life}
 use Rattle.wdf_base.specs.declared.object.Life.TheVariants as life
+use Rattle.wdf_base.specs.Lives.{is_asked, is_cleaned, is_live}
 use Rattle.wdf_model.specs.Tables.{entry, ids_of}
 use Rattle.wdf_model.specs.declared.entries.Node.{Node}
 use Rattle.wdf_model.specs.declared.room.TheConstants.{OBJECTS}
-use Rattle.wdf_model.specs.parts.Tree.{Tree, gone, is_asked, is_cleaned, is_live, life_of}
+use Rattle.wdf_model.specs.parts.Tree.{Tree, gone, life_of}
 use Rattle.wdf_model.proofs.Maps.{entry_before, entry_last, entry_past}
 use Rattle.wdf_sets.specs.Members.{is_in, members, rank}
 use Rattle.wdf_sets.proofs.Ranks.{members_where, one, rank_more, rank_mono}

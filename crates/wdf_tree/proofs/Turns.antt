@@ -6,12 +6,13 @@ use Rattle.std.proofs.lemmas.Bool.{and_right, cases_eq, cases_lt, eq-eqb, falseâ
 use Rattle.std.proofs.lemmas.List.{length_push, length-replicate}
 use Rattle.wdf_base.specs.declared.object.Life.{Life}
 use Rattle.wdf_base.specs.declared.object.Life.TheVariants as life
+use Rattle.wdf_base.specs.Lives.{is_asked, is_gone, is_live, is_past_cleanup}
 use Rattle.wdf_ilist.specs.Family.{Family, is_on, last_of, list_at, without}
 use Rattle.wdf_ilist.proofs.Lists.{map_at}
 use Rattle.wdf_model.specs.Tables.{entry, ids_of, same_id}
 use Rattle.wdf_model.specs.declared.entries.Node.{Node}
 use Rattle.wdf_model.specs.declared.room.TheConstants.{OBJECTS}
-use Rattle.wdf_model.specs.parts.Tree.{Tree, gone, is_asked, is_gone, is_live, is_past_cleanup, life_of, parent_of}
+use Rattle.wdf_model.specs.parts.Tree.{Tree, gone, life_of, parent_of}
 use Rattle.wdf_model.proofs.Maps.{as_long, entry_before, entry_last, entry_past, entry_set_other}
 use Rattle.wdf_sets.specs.Members.{is_in, members, rank}
 use Rattle.wdf_sets.proofs.Ranks.{members_where}

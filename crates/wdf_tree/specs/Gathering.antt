@@ -1,8 +1,9 @@
 -- The subtree of an object, as it is gathered by rising ids.
 use Rattle.std.specs.Prelude.{ℕ, ◌≡◌, ◌<◌, ◌≤◌, Bool, false, ◌==◌, nat_lt, not, ◌&&◌, ◌||◌, List, length, filter, vec_capacity}
 use Rattle.std.specs.List.{range_with_len}
+use Rattle.wdf_base.specs.Lives.{is_gone}
 use Rattle.wdf_model.specs.declared.room.TheConstants.{OBJECTS}
-use Rattle.wdf_model.specs.parts.Tree.{Tree, is_below, is_child, is_gone, life_of, parent_of}
+use Rattle.wdf_model.specs.parts.Tree.{Tree, is_below, is_child, life_of, parent_of}
 use Rattle.wdf_sets.specs.Members.{is_in}
 use Rattle.wdf_tree.specs.declared.tree.gather.Subtree.TheInside.{Inside}
 

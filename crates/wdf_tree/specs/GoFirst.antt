@@ -1,6 +1,7 @@
 -- What has to go before an object, in the order of cleanups and destructions.
 use Rattle.std.specs.Prelude.{if◌then◌else◌, ℕ, not, List, [], ◌++◌, filter}
-use Rattle.wdf_model.specs.parts.Tree.{Tree, children, is_asked, is_cleaned, is_past_cleanup, life_of, parent_of, younger_siblings}
+use Rattle.wdf_base.specs.Lives.{is_asked, is_cleaned, is_past_cleanup}
+use Rattle.wdf_model.specs.parts.Tree.{Tree, children, life_of, parent_of, younger_siblings}
 
 -- the younger siblings, where the deletion of the parent was asked too
 abbrev pub siblings_first : Tree → ℕ → List ℕ

@@ -4,11 +4,12 @@ use Rattle.std.specs.List.{list_all}
 use Rattle.wdf_base.specs.declared.ids.ObjectId.{ObjectId}
 use Rattle.wdf_base.specs.declared.object.Kind.TheVariants as kind
 use Rattle.wdf_base.specs.Same.{same_kind}
+use Rattle.wdf_base.specs.Lives.{is_gone}
 use Rattle.wdf_ilist.specs.Family.{Family}
 use Rattle.wdf_model.specs.Tables.{entry}
 use Rattle.wdf_model.specs.declared.entries.Node.{Node}
 use Rattle.wdf_model.specs.declared.room.TheConstants.{OBJECTS}
-use Rattle.wdf_model.specs.parts.Tree.{Tree, counts, gone, is_gone, nearest_devices}
+use Rattle.wdf_model.specs.parts.Tree.{Tree, counts, gone, nearest_devices}
 use Rattle.wdf_tree.specs.Kin.{HoldsKin, is_left, is_waiting}
 use Rattle.wdf_tree.specs.Leaving.{HoldsLeaving}
 use Rattle.wdf_tree.specs.Turns.{HoldsTurns}

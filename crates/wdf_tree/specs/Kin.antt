@@ -1,10 +1,10 @@
 -- The children of each object that have come so far in their deletion, as families of lists hold them.
 use Rattle.std.specs.Prelude.{if◌then◌else◌, ℕ, ◌≡◌, ◌+◌, ◌<◌, ◌==◌, Bool, not, ◌&&◌, nat_lt, List, [], ◌∷◌, ◌++◌, length, slice_set}
 use Rattle.wdf_base.specs.declared.object.Life.{Life}
+use Rattle.wdf_base.specs.Lives.{is_gone, is_past_cleanup}
 use Rattle.wdf_ilist.specs.Family.{Family, list_at}
 use Rattle.wdf_model.specs.declared.entries.Node.{Node}
 use Rattle.wdf_model.specs.declared.room.TheConstants.{OBJECTS}
-use Rattle.wdf_model.specs.parts.Tree.{is_gone, is_past_cleanup}
 
 -- an object that is left
 abbrev pub is_left : Life → Bool

@@ -1,10 +1,11 @@
 -- The objects whose deletion isn't finished, as sets of ids.
 use Rattle.std.specs.Prelude.{ℕ, ◌≡◌, ◌≤◌, Bool, List, length}
 use Rattle.wdf_base.specs.declared.object.Life.{Life}
+use Rattle.wdf_base.specs.Lives.{is_asked, is_cleaned}
 use Rattle.wdf_model.specs.Tables.{entry}
 use Rattle.wdf_model.specs.declared.entries.Node.{Node}
 use Rattle.wdf_model.specs.declared.room.TheConstants.{OBJECTS}
-use Rattle.wdf_model.specs.parts.Tree.{gone, is_asked, is_cleaned}
+use Rattle.wdf_model.specs.parts.Tree.{gone}
 use Rattle.wdf_sets.specs.Members.{is_in}
 
 -- A set has a bit for each object, and its members are the objects in a life that passes a test.

@@ -1,7 +1,8 @@
 -- What the making of an object answers.
 use Rattle.std.specs.Prelude.{if◌then◌else◌, ℕ, not, Result, Ok, Err}
 use Rattle.wdf_base.specs.declared.ids.ObjectId.{ObjectId}
-use Rattle.wdf_model.specs.parts.Tree.{Tree, is_live, is_full, life_of, next_id}
+use Rattle.wdf_base.specs.Lives.{is_live}
+use Rattle.wdf_model.specs.parts.Tree.{Tree, is_full, life_of, next_id}
 use Rattle.wdf_tree.specs.declared.tree.CreateRefusal.{CreateRefusal}
 use Rattle.wdf_tree.specs.declared.tree.CreateRefusal.TheVariants.{ParentDeleted, Full}
 

@@ -1,11 +1,12 @@
 -- The objects whose deletion was asked, and whose turn among their siblings has come, as a set of ids.
 use Rattle.std.specs.Prelude.{ℕ, ◌≡◌, ◌≤◌, ◌⊎◌, Bool, not, ◌&&◌, ◌||◌, List, length}
 use Rattle.std.specs.List.{list_all}
+use Rattle.wdf_base.specs.Lives.{is_asked, is_past_cleanup}
 use Rattle.wdf_ilist.specs.Family.{last_of, list_at}
 use Rattle.wdf_model.specs.Tables.{entry, same_id}
 use Rattle.wdf_model.specs.declared.entries.Node.{Node}
 use Rattle.wdf_model.specs.declared.room.TheConstants.{OBJECTS}
-use Rattle.wdf_model.specs.parts.Tree.{Tree, gone, is_asked, is_past_cleanup, life_of, parent_of, younger_siblings}
+use Rattle.wdf_model.specs.parts.Tree.{Tree, gone, life_of, parent_of, younger_siblings}
 use Rattle.wdf_sets.specs.Members.{is_in}
 
 -- the deletion of an object was asked, and, where that of its parent was asked too, each younger sibling has been cleaned up

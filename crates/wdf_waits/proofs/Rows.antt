@@ -3,8 +3,8 @@ use Rattle.std.proofs.Common.{◌≡◌, ℕ, ◌++◌, refl, ap, ◌∙◌}
 use Rattle.wdf_base.specs.declared.plan.Plan.{Plan}
 use Rattle.wdf_base.specs.declared.call.Call.{Call}
 use Rattle.wdf_base.specs.declared.call.CallKind.TheVariants as call
+use Rattle.wdf_base.specs.Places.{is_returning_to, is_sent_to}
 use Rattle.wdf_model.specs.State.{State, held_from, object_in}
-use Rattle.wdf_model.specs.parts.Requests.{is_returning_to, is_sent_to}
 use Rattle.wdf_model.specs.rules.Waits.{by_request, call_cause, requests_where}
 
 pub purge_row : {A : Type 0} (plan : Plan) (S : State A) (c : Call) (q : ℕ) → c.kind ≡ call.WdfIoQueuePurgeSynchronously → q ≡ object_in c.a

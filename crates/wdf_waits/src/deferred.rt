@@ -5,8 +5,7 @@ ghost use Rattle.wdf_model.specs.rules.Waits as waits;
 
 use wdf_base::{Agent, Callback, Cause, Irql, ObjectId, OpenThing, WaitLine};
 use wdf_causes::{
-    DISPATCH_LEVEL, PASSIVE_LEVEL, by_frame_on, cpu_of_dpc, dpc_function, head_lock, no_cpu,
-    scope_is_held,
+    DISPATCH_LEVEL, PASSIVE_LEVEL, by_frame_on, cpu_of_dpc, head_lock, no_cpu, scope_is_held,
 };
 use wdf_parts::Parts;
 use wdf_plans::IndexedPlan;
@@ -27,7 +26,7 @@ fn dpc_cause<A: Agent>(plan: &IndexedPlan, parts: &Parts<A>, o: ObjectId) -> Opt
     ensures { result ≡ waits.dpc_cause plan.now parts.now o.0 }
 {
     let cpu = cpu_of_dpc(plan, parts, o);
-    if scope_is_held(plan, parts, dpc_function(parts.tree().kind(o)), o)
+    if scope_is_held(plan, parts, parts.tree().kind(o).dpc_function(), o)
         || !parts.locks().is_free_if_any(head_lock(plan, parts, cpu))
     {
         return Some(Cause::ScopeHeld);

@@ -1,8 +1,8 @@
 //! The lines of frames: what each waits for.
 ghost use Rattle.std.specs.Prelude.{◌≡◌, ◌∷◌, ◌++◌, []};
 ghost use Rattle.wdf_base.specs.declared.wait.Cause.TheVariants as cause;
+ghost use Rattle.wdf_base.specs.Places.{is_returning_to, is_sent_to};
 ghost use Rattle.wdf_model.specs.parts.Deferred.WorkItems.{is_work_queued};
-ghost use Rattle.wdf_model.specs.parts.Requests.{is_returning_to, is_sent_to};
 ghost use Rattle.wdf_model.specs.State as state;
 ghost use Rattle.wdf_model.specs.parts.Queues.{waiting_in};
 ghost use Rattle.wdf_model.specs.rules.Steps as steps;

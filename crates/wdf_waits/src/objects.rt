@@ -1,14 +1,14 @@
 //! The lines of objects whose deletion hasn't come to its end.
 ghost use Rattle.std.specs.Prelude.{◌≡◌, ◌<◌, length, option_map};
 ghost use Rattle.wdf_base.specs.declared.wait.Cause.TheVariants as cause;
+ghost use Rattle.wdf_base.specs.Lives.{is_asked, is_cleaned};
 ghost use Rattle.wdf_model.specs.State.{handle_in};
 ghost use Rattle.wdf_model.specs.Tables.{least};
-ghost use Rattle.wdf_model.specs.parts.Tree as tree;
 ghost use Rattle.wdf_model.specs.rules.Ready as ready;
 ghost use Rattle.wdf_model.specs.rules.Waits as waits;
 ghost use Rattle.wdf_waits.specs.Lines as lines;
 
-use wdf_base::{Agent, Callback, Cause, Life, ObjectId, OpenThing, Place, WaitLine};
+use wdf_base::{Agent, Callback, Cause, ObjectId, OpenThing, Place, WaitLine};
 use wdf_causes::{
     DISPATCH_LEVEL, PASSIVE_LEVEL, by_frame, least_lock_holder, least_on, least_waiting_for, no_cpu,
 };
@@ -17,25 +17,11 @@ use wdf_parts::Parts;
 use wdf_plans::IndexedPlan;
 use wdf_starts::{clean_ready, destroy_ready};
 
-/// Whether the deletion of an object is asked, and its cleanup isn't done.
-fn is_asked(life: Life) -> bool
-    ensures { result ≡ tree.is_asked life }
-{
-    matches!(life, Life::Asked)
-}
-
-/// Whether the cleanup of an object is done, and it isn't destroyed.
-fn is_cleaned(life: Life) -> bool
-    ensures { result ≡ tree.is_cleaned life }
-{
-    matches!(life, Life::Cleaned)
-}
-
 /// Whether the deletion of an object is asked and hasn't come to its end.
 pub(crate) fn is_leaving<A: Agent>(parts: &Parts<A>, o: ObjectId) -> bool
     ensures { result ≡ ready.is_leaving parts.now o.0 }
 {
-    is_asked(parts.tree().life(o)) || is_cleaned(parts.tree().life(o))
+    parts.tree().life(o).is_asked() || parts.tree().life(o).is_cleaned()
 }
 
 /// The driver holds references to an object that is cleaned up.
@@ -43,7 +29,7 @@ fn references_cause<A: Agent>(parts: &Parts<A>, o: ObjectId) -> Option<Cause>
     ensures { result ≡ waits.references_cause parts.now o.0 }
 {
     let count = parts.tree().references(o);
-    if is_cleaned(parts.tree().life(o)) && 0 < count {
+    if parts.tree().life(o).is_cleaned() && 0 < count {
         Some(Cause::References { count })
     } else {
         None
@@ -87,7 +73,7 @@ fn least_user<A: Agent>(parts: &Parts<A>, o: ObjectId) -> Option<u32>
 fn least_user_that_keeps<A: Agent>(parts: &Parts<A>, o: ObjectId) -> Option<u32>
     ensures { result ≡ least (waits.users_that_keep parts.now o.0) }
 {
-    if is_cleaned(parts.tree().life(o)) {
+    if parts.tree().life(o).is_cleaned() {
         least_on(parts, o)
     } else {
         least_user(parts, o)

@@ -1,16 +1,16 @@
 //! The lines of requests: where each is, and why it stays there.
 ghost use Rattle.std.specs.Prelude.{◌≡◌, option_map};
 ghost use Rattle.wdf_base.specs.declared.wait.Cause.TheVariants as cause;
+ghost use Rattle.wdf_base.specs.Places.{is_sent};
 ghost use Rattle.wdf_model.specs.State.{handle_in};
 ghost use Rattle.wdf_model.specs.Tables.{least};
-ghost use Rattle.wdf_model.specs.parts.Requests as requests;
 ghost use Rattle.wdf_waits.specs.Lines as lines;
 ghost use Rattle.wdf_model.specs.parts.Control as control;
 ghost use Rattle.wdf_model.specs.rules.Ready as ready;
 ghost use Rattle.wdf_model.specs.rules.Waits as waits;
 
 use wdf_base::{Agent, Callback, Cause, ObjectId, OpenThing, Place, WaitLine};
-use wdf_causes::{is_done, least_ahead, no_cpu, scope_is_held};
+use wdf_causes::{least_ahead, no_cpu, scope_is_held};
 use wdf_model::{Mode, Request};
 use wdf_parts::Parts;
 use wdf_plans::IndexedPlan;
@@ -144,12 +144,5 @@ pub(crate) fn is_open_request(request: &Request) -> bool
     ensures { result ≡ ready.is_open_request request.now }
 {
     let has_arrived = 0 < request.info.arrival;
-    (has_arrived && !is_done(request.place)) || (!has_arrived && is_sent(request.place))
-}
-
-/// Whether a request is sent to some target.
-fn is_sent(place: Place) -> bool
-    ensures { result ≡ requests.is_sent place }
-{
-    matches!(place, Place::Sent(_))
+    (has_arrived && !request.place.is_done()) || (!has_arrived && request.place.is_sent())
 }

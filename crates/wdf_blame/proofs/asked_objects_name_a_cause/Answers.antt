@@ -1,7 +1,8 @@
 -- The clause is the lemma on lines that name a cause, for this form.
 use Rattle.std.proofs.Common.{◌&&◌}
 use Rattle.wdf_base.specs.declared.wait.OpenThing.TheVariants as thing
-use Rattle.wdf_model.specs.parts.Tree.{is_cleaned, life_of}
+use Rattle.wdf_base.specs.Lives.{is_cleaned}
+use Rattle.wdf_model.specs.parts.Tree.{life_of}
 use Rattle.wdf_model.specs.State.{nothing_at}
 use Rattle.wdf_model.specs.rules.Ready.{state_after}
 use Rattle.wdf_model.specs.rules.Starts.{is_finished}

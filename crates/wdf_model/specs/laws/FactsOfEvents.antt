@@ -3,7 +3,8 @@ use Rattle.std.specs.Prelude.{ℕ, ◌+◌, ◌≡◌, ◌≢◌, Bool, true, fa
 use Rattle.wdf_base.specs.declared.event.Event.{Event}
 use Rattle.wdf_base.specs.declared.event.Event.TheVariants as event
 use Rattle.wdf_base.specs.Meaning.{Meaning}
-use Rattle.wdf_model.specs.parts.Tree.{Tree, is_gone, life_of}
+use Rattle.wdf_base.specs.Lives.{is_gone}
+use Rattle.wdf_model.specs.parts.Tree.{Tree, life_of}
 use Rattle.wdf_model.specs.parts.Cpus.{running}
 use Rattle.wdf_model.specs.State.{State}
 use Rattle.wdf_model.specs.rules.Ready.{waits_for_time}

@@ -6,10 +6,12 @@ use Rattle.wdf_base.specs.declared.object.Kind.TheVariants as kind
 use Rattle.wdf_base.specs.declared.object.Place.{Place}
 use Rattle.wdf_base.specs.declared.object.Place.TheVariants as place
 use Rattle.wdf_base.specs.Same.{same_kind}
+use Rattle.wdf_base.specs.Lives.{is_live}
+use Rattle.wdf_base.specs.Places.{is_closing, is_due, is_owned, is_queued_in, is_returning_to, is_sent}
 use Rattle.wdf_model.specs.Tables.{same_id}
-use Rattle.wdf_model.specs.parts.Tree.{is_full, is_live, kind_of, life_of, references_of, started}
+use Rattle.wdf_model.specs.parts.Tree.{is_full, kind_of, life_of, references_of, started}
 use Rattle.wdf_model.specs.parts.Locks.{is_free_lock}
-use Rattle.wdf_model.specs.parts.Requests.{is_closing, is_due, is_owned, is_queued_in, is_returning_to, is_sent, mark_of, place_of}
+use Rattle.wdf_model.specs.parts.Requests.{mark_of, place_of}
 use Rattle.wdf_model.specs.parts.Queues.{front}
 use Rattle.wdf_model.specs.parts.Control.{accepts}
 use Rattle.wdf_model.specs.parts.Power.{acknowledged, resume_due, stop_was_asked}

@@ -13,10 +13,11 @@ use Rattle.wdf_base.specs.declared.event.Event.TheVariants as event
 use Rattle.wdf_base.specs.declared.event.Post.{Post}
 use Rattle.wdf_base.specs.declared.event.Post.TheVariants as post
 use Rattle.wdf_base.specs.Same.{same_call_kind}
+use Rattle.wdf_base.specs.Places.{is_queued_in, is_sent_to}
 use Rattle.wdf_model.specs.Tables.{flag}
 use Rattle.wdf_model.specs.parts.Tree.{kind_of, nearest_device}
 use Rattle.wdf_model.specs.parts.Cpus.{all_frames, frame_of}
-use Rattle.wdf_model.specs.parts.Requests.{is_queued_in, is_sent_to, place_of}
+use Rattle.wdf_model.specs.parts.Requests.{place_of}
 use Rattle.wdf_model.specs.parts.Queues.{waiting_in}
 use Rattle.wdf_model.specs.parts.Targets.{the_target}
 use Rattle.wdf_model.specs.State.{State, object_in}

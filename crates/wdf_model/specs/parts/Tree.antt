@@ -16,6 +16,7 @@ use Rattle.wdf_base.specs.declared.call.Callback.TheVariants as callback
 use Rattle.wdf_base.specs.Kinds.{declared_kind, declared_name}
 use Rattle.wdf_base.specs.Plan.{declared_of}
 use Rattle.wdf_base.specs.Same.{same_kind}
+use Rattle.wdf_base.specs.Lives.{is_asked, is_cleaned, is_gone, is_live, is_past_cleanup}
 use Rattle.wdf_model.specs.Tables.{entry, change_at, ids_of}
 use Rattle.wdf_model.specs.Plans.{name_of_class}
 use Rattle.wdf_model.specs.declared.entries.Node.{Node}
@@ -90,32 +91,6 @@ references_in T = sum (map (λ (n : Node). n.references) T.nodes)
 -- the value in context cell k of object o; cells are 0 to 7, and a greater k reads as the number 0 (own)
 abbrev pub cell_of : Tree → ℕ → ℕ → Value
 cell_of T o k = slice_index_or (node_of T o).cells k (Num 0)
-
--- whether an object is there and its deletion wasn't asked
-abbrev pub is_live : Life → Bool
-is_live life.Live = true
-is_live _ = false
-
--- whether the deletion of an object was asked, and its cleanup is still to come
-abbrev pub is_asked : Life → Bool
-is_asked life.Asked = true
-is_asked _ = false
-
--- whether the cleanup of an object is done, and its end is still to come
-abbrev pub is_cleaned : Life → Bool
-is_cleaned life.Cleaned = true
-is_cleaned _ = false
-
--- whether an object is destroyed, or never was
-abbrev pub is_gone : Life → Bool
-is_gone life.Gone = true
-is_gone _ = false
-
--- whether the cleanup of an object is done, or the object is gone
-abbrev pub is_past_cleanup : Life → Bool
-is_past_cleanup life.Cleaned = true
-is_past_cleanup life.Gone = true
-is_past_cleanup _ = false
 
 -- the id of the object that is made next; ids aren't used again (own)
 abbrev pub next_id : Tree → ℕ

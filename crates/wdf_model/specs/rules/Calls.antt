@@ -13,17 +13,18 @@ use Rattle.wdf_base.specs.declared.object.Kind.TheVariants as kind
 use Rattle.wdf_base.specs.declared.call.Arg.{Arg}
 use Rattle.wdf_base.specs.declared.call.Arg.TheVariants.{Val, Class}
 use Rattle.wdf_base.specs.declared.call.Call.{Call}
-use Rattle.wdf_base.specs.declared.call.CallKind.{CallKind}
 use Rattle.wdf_base.specs.declared.call.CallKind.TheVariants as call
 use Rattle.wdf_base.specs.declared.call.Callback.TheVariants as callback
+use Rattle.wdf_base.specs.Lives.{is_live}
+use Rattle.wdf_base.specs.Places.{is_returning_to}
 use Rattle.wdf_model.specs.declared.enums.Mode.TheVariants as mode
 use Rattle.wdf_model.specs.declared.entries.Request.{Request}
 use Rattle.wdf_model.specs.Tables.{flag}
 use Rattle.wdf_model.specs.Plans.{declares, device_of_queue, has_handler, interrupt_level, is_manual_queue, is_parallel_queue, kind_of_class, name_of_class, parent_of_class}
-use Rattle.wdf_model.specs.parts.Tree.{life_of, is_live, is_full, next_id, cell_of, kind_of}
+use Rattle.wdf_model.specs.parts.Tree.{life_of, is_full, next_id, cell_of, kind_of}
 use Rattle.wdf_model.specs.parts.Cpus.{nobody_on}
 use Rattle.wdf_model.specs.parts.Locks.{object_lock, is_free_lock}
-use Rattle.wdf_model.specs.parts.Requests.{info_of, origin_of, is_cancelled, is_returning_to, mark_answer, unmark_answer}
+use Rattle.wdf_model.specs.parts.Requests.{info_of, origin_of, is_cancelled, mark_answer, unmark_answer}
 use Rattle.wdf_model.specs.parts.Queues.{front, held_count, is_empty_queue, waiting_in}
 use Rattle.wdf_model.specs.parts.Control.{accepts, mode_of, is_purged}
 use Rattle.wdf_model.specs.parts.Interrupts.{is_enabled}

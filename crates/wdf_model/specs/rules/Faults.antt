@@ -28,10 +28,10 @@ use Rattle.wdf_base.specs.declared.frame.Intent.TheVariants as intent
 use Rattle.wdf_base.specs.declared.words.TheConstants.{FAULTS}
 use Rattle.wdf_base.specs.Calls.{signature_of}
 use Rattle.wdf_base.specs.Same.{same_kind, same_callback, same_call_kind, same_value}
+use Rattle.wdf_base.specs.Lives.{is_cleaned, is_gone}
+use Rattle.wdf_base.specs.Places.{is_due, is_marked, is_owned}
 use Rattle.wdf_model.specs.Tables.{same_id}
-use Rattle.wdf_model.specs.parts.Tree.{is_gone, is_cleaned}
 use Rattle.wdf_model.specs.parts.Locks.{object_lock}
-use Rattle.wdf_model.specs.parts.Requests.{is_owned, is_marked, is_due}
 use Rattle.wdf_model.specs.State.{object_in}
 
 -- what one top frame sees of one state

@@ -5,8 +5,6 @@ use Rattle.wdf_base.specs.Meaning.{Meaning}
 use Rattle.wdf_base.specs.declared.plan.Plan.{Plan}
 use Rattle.wdf_base.specs.declared.object.Place.{Place}
 use Rattle.wdf_base.specs.declared.object.Place.TheVariants as place
-use Rattle.wdf_base.specs.declared.object.Kind.{Kind}
-use Rattle.wdf_base.specs.declared.object.Kind.TheVariants as kind
 use Rattle.wdf_base.specs.declared.call.Callback.{Callback}
 use Rattle.wdf_base.specs.declared.call.Callback.TheVariants as callback
 use Rattle.wdf_base.specs.declared.rank.Rank.{Rank}
@@ -17,6 +15,7 @@ use Rattle.wdf_base.specs.declared.event.Post.{Post}
 use Rattle.wdf_base.specs.declared.event.Step.{Step}
 use Rattle.wdf_base.specs.declared.event.Step.TheVariants as step
 use Rattle.wdf_base.specs.Same.{same_callback}
+use Rattle.wdf_base.specs.Callbacks.{dpc_function}
 use Rattle.wdf_model.specs.Ids.{cpu_of}
 use Rattle.wdf_model.specs.declared.enums.Group.{Group}
 use Rattle.wdf_model.specs.declared.enums.Group.TheVariants as group
@@ -145,12 +144,6 @@ starts_for plan S cpu c o r = event.Start (cpu_of cpu) c (handle_in plan S o) (S
 abbrev pub if_there : Bool → Event → Option Event
 if_there true e = Some e
 if_there false e = None
-
--- what an entry of a DPC list runs, by the kind of its object: EvtInterruptDpc of an interrupt, EvtDpcFunc of a DPC
--- (KMDF)
-abbrev pub dpc_function : Kind → Callback
-dpc_function kind.Interrupt = callback.EvtInterruptDpc
-dpc_function _ = callback.EvtDpcFunc
 
 -- the presenting of request r, the front of queue q, on processor cpu; none where q has no handler for its type
 abbrev pub handler_start : {A : Type 0} → Plan → State A → ℕ → ℕ → ℕ → Option Event

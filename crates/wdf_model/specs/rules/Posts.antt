@@ -16,10 +16,12 @@ use Rattle.wdf_base.specs.declared.event.Post.{Post}
 use Rattle.wdf_base.specs.declared.event.Post.TheVariants as post
 use Rattle.wdf_base.specs.Same.{same_handle, same_option, same_post}
 use Rattle.wdf_base.specs.Resolved.{is_handle, action_fits}
+use Rattle.wdf_base.specs.Lives.{is_live}
+use Rattle.wdf_base.specs.Places.{is_closing, is_done, is_sent_to}
 use Rattle.wdf_model.specs.Tables.{entry}
 use Rattle.wdf_model.specs.Plans.{device_of_agent, target_of_agent, has_handler, is_manual_queue, queue_for, queue_of}
-use Rattle.wdf_model.specs.parts.Tree.{life_of, is_live, next_id}
-use Rattle.wdf_model.specs.parts.Requests.{arrival_of, is_closing, is_done, is_sent_to, place_of}
+use Rattle.wdf_model.specs.parts.Tree.{life_of, next_id}
+use Rattle.wdf_model.specs.parts.Requests.{arrival_of, place_of}
 use Rattle.wdf_model.specs.parts.Control.{accepts}
 use Rattle.wdf_model.specs.parts.Pnp.{busy}
 use Rattle.wdf_model.specs.parts.Targets.{is_undone}

@@ -10,12 +10,14 @@ use Rattle.wdf_base.specs.declared.event.Ending.{Ending}
 use Rattle.wdf_base.specs.declared.event.Ending.TheVariants as ending
 use Rattle.wdf_base.specs.declared.event.Post.{Post}
 use Rattle.wdf_base.specs.declared.event.Post.TheVariants as post
+use Rattle.wdf_base.specs.Lives.{is_asked, is_cleaned}
+use Rattle.wdf_base.specs.Places.{is_done, is_sent}
 use Rattle.wdf_model.specs.declared.entries.Request.{Request}
 use Rattle.wdf_model.specs.Tables.{ids_of}
 use Rattle.wdf_model.specs.Plans.{devices_of}
-use Rattle.wdf_model.specs.parts.Tree.{is_asked, is_cleaned, life_of}
+use Rattle.wdf_model.specs.parts.Tree.{life_of}
 use Rattle.wdf_model.specs.parts.Cpus.{all_frames, frame_of}
-use Rattle.wdf_model.specs.parts.Requests.{has_arrived, is_done, is_sent, request_of}
+use Rattle.wdf_model.specs.parts.Requests.{has_arrived, request_of}
 use Rattle.wdf_model.specs.parts.Pnp.{busy, steps_left}
 use Rattle.wdf_model.specs.parts.Deferred.Timers.{any_later_timer, timer_due}
 use Rattle.wdf_model.specs.parts.Deferred.Dpcs.{is_dpc_queued}

@@ -1,6 +1,7 @@
 //! The requests of a queue are closed: the framework will complete them.
 
 ghost use Rattle.std.specs.Prelude.{◌≡◌, ◌<◌, length, map};
+ghost use Rattle.wdf_base.specs.Places.{is_returning_to};
 ghost use Rattle.wdf_model.specs.parts.Requests as requests;
 ghost use Rattle.wdf_request.specs.Closed.{is_part};
 
@@ -15,16 +16,6 @@ enum ClosedPart {
     Returning(ObjectId),
     /// Those that wait in it too.
     Whole(ObjectId),
-}
-
-/// Whether a request at this place returns to a queue.
-fn is_returning_to(q: ObjectId, place: Place) -> bool
-    ensures { result ≡ requests.is_returning_to q.0 place }
-{
-    match place {
-        Place::Returning(queue) => queue.0 == q.0,
-        _ => false,
-    }
 }
 
 /// Whether a request at this place waits in a queue or returns to it.
@@ -43,7 +34,7 @@ impl ClosedPart {
         ensures { result ≡ is_part self place }
     {
         match self {
-            ClosedPart::Returning(q) => is_returning_to(q, place),
+            ClosedPart::Returning(q) => place.is_returning_to(q),
             ClosedPart::Whole(q) => is_in(q, place),
         }
     }

@@ -2,6 +2,7 @@
 
 ghost use Rattle.std.specs.Prelude.{◌≡◌, ◌+◌, ◌-◌, ◌<◌, ◌≤◌, ◌==◌, ◌||◌, ℕ, IfSome, IsTrue, drop, false, find, length, nat_lt, option_map};
 ghost use Rattle.std.specs.List.{list_all, range_with_len};
+ghost use Rattle.wdf_base.specs.Lives.{is_asked, is_past_cleanup};
 ghost use Rattle.wdf_model.specs.Tables.{same_id};
 ghost use Rattle.wdf_model.specs.parts.Tree as tree;
 
@@ -82,7 +83,7 @@ impl Tree {
     #[tactic(auto, using(crate::proofs::Children::no_waiting_child))]
     fn are_children_clean(&self, o: ObjectId) -> bool
         requires there { o.0 < length self.now.nodes }
-        ensures { result ≡ list_all (λ x. tree.is_past_cleanup (tree.life_of self.now x)) (tree.children self.now o.0) }
+        ensures { result ≡ list_all (λ x. is_past_cleanup (tree.life_of self.now x)) (tree.children self.now o.0) }
     {
         self.waiting.is_empty(o.0)
     }
@@ -90,9 +91,9 @@ impl Tree {
     /// Whether each younger sibling of an object whose deletion was asked has been cleaned up.
     #[tactic(auto, using(crate::proofs::Children::last_waiting))]
     fn are_younger_clean(&self, o: ObjectId) -> bool
-        requires asked { IsTrue (tree.is_asked (tree.life_of self.now o.0)) }
-        requires parent { IsTrue (tree.is_asked (tree.life_of self.now (tree.parent_of self.now o.0))) }
-        ensures { result ≡ list_all (λ x. tree.is_past_cleanup (tree.life_of self.now x)) (tree.younger_siblings self.now o.0) }
+        requires asked { IsTrue (is_asked (tree.life_of self.now o.0)) }
+        requires parent { IsTrue (is_asked (tree.life_of self.now (tree.parent_of self.now o.0))) }
+        ensures { result ≡ list_all (λ x. is_past_cleanup (tree.life_of self.now x)) (tree.younger_siblings self.now o.0) }
     {
         is_id(self.waiting.back(self.parent(o).0), o.0)
     }
@@ -113,7 +114,7 @@ impl Tree {
     /// The cleanup of an object is done.
     #[tactic(auto, using(crate::proofs::Kept::there_if_asked, wdf_model::proofs::Maps::put_within))]
     pub fn clean(&mut self, o: ObjectId)
-        requires asked { IsTrue (tree.is_asked (tree.life_of self.old o.0)) }
+        requires asked { IsTrue (is_asked (tree.life_of self.old o.0)) }
         ensures done { self.new ≡ tree.clean self.old o.0 }
         ensures size { length self.new.nodes ≡ length self.old.nodes }
     {

@@ -1,6 +1,7 @@
 //! How objects come to be: those that the plan declares, those that calls make, and requests.
 
 ghost use Rattle.std.specs.Prelude.{◌≡◌, ◌<◌, ◌++◌, ◌∷◌, [], IfOk, if◌then◌else◌, true, false, is_ok, length};
+ghost use Rattle.wdf_base.specs.Lives.{is_live};
 ghost use Rattle.wdf_model.specs.parts.Tree as tree;
 ghost use Rattle.wdf_ilist.specs.Family.{is_on_any};
 ghost use Rattle.wdf_tree.specs.Kin.{joined};
@@ -139,7 +140,7 @@ impl Tree {
     #[tactic(auto, using(crate::proofs::Kept::few_counts))]
     fn enter(&mut self, node: Node)
         requires room { length self.old.nodes < OBJECTS }
-        requires live { tree.is_live node.life ≡ true }
+        requires live { is_live node.life ≡ true }
         ensures { self.new ≡ record self.old { nodes = self.old.nodes ++ node ∷ [] } }
     {
         let device = self.nearest_for(&node);

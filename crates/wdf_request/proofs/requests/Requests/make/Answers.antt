@@ -1,8 +1,8 @@
 -- Nothing is kept of no request.
 use Rattle.std.proofs.Common.{refl, lit≤, arith}
 use Rattle.std.specs.Prelude.{IfOk, IsErr, Result, Ok, Err}
+use Rattle.wdf_base.specs.Places.{is_closing, is_due}
 use Rattle.wdf_model.specs.declared.entries.Request.{Request}
-use Rattle.wdf_model.specs.parts.Requests.{is_closing, is_due}
 use Rattle.wdf_request.specs.Keys.{returning_queue, sent_target, unfinished_device}
 use Rattle.wdf_counts.proofs.Counting.{none_counted}
 use Rattle.wdf_request.proofs.Members.{empty_set}

@@ -1,9 +1,10 @@
 -- What is kept stays right.
 use Rattle.std.proofs.Common.{◌≡◌, ◌<◌, length, refl, ap, length-set, ◌∙◌, arith}
+use Rattle.wdf_base.specs.Places.{is_closing, is_due}
 use Rattle.wdf_model.specs.declared.entries.Request.{Request}
 use Rattle.wdf_model.specs.declared.room.TheConstants.{OBJECTS}
 use Rattle.wdf_model.specs.Tables.{entry}
-use Rattle.wdf_model.specs.parts.Requests.{Requests, is_closing, is_due, no_request}
+use Rattle.wdf_model.specs.parts.Requests.{Requests, no_request}
 use Rattle.wdf_model.specs.rules.Ready.{is_open_request}
 use Rattle.wdf_model.proofs.Maps.{put_short, put_within}
 use Rattle.wdf_request.specs.Keys.{returning_queue, sent_target, unfinished_device}

@@ -1,9 +1,10 @@
 use Rattle.std.proofs.Common.{◌≡◌, ◌<◌, true, length, refl, sym, ap, ◌∙◌, arith}
 use Rattle.wdf_base.specs.declared.object.Life.TheVariants as life
 use Rattle.wdf_base.specs.Same.{same_life}
+use Rattle.wdf_base.specs.Lives.{is_live}
 use Rattle.wdf_model.specs.Tables.{entry}
 use Rattle.wdf_model.specs.declared.entries.Node.{Node}
-use Rattle.wdf_model.specs.parts.Tree.{Tree, gone, is_live, life_of}
+use Rattle.wdf_model.specs.parts.Tree.{Tree, gone, life_of}
 use Rattle.wdf_tree.proofs.Kept.{kept_by_write, live_stands, read_entry}
 use Rattle.wdf_tree.proofs.Leaving.{leaving_by_ask}
 use Rattle.wdf_tree.proofs.Turns.{turns_by_ask}

@@ -1,7 +1,8 @@
 use Rattle.std.proofs.Common.{◌≡◌, true, refl, sym, ap, ◌∙◌}
+use Rattle.wdf_base.specs.Lives.{is_asked}
 use Rattle.wdf_model.specs.Tables.{entry}
 use Rattle.wdf_model.specs.declared.entries.Node.{Node}
-use Rattle.wdf_model.specs.parts.Tree.{Tree, gone, is_asked, life_of, parent_of}
+use Rattle.wdf_model.specs.parts.Tree.{Tree, gone, life_of, parent_of}
 use Rattle.wdf_tree.proofs.Kept.{asked_stands, kept_by_cleanup, read_entry, there_if_asked}
 use Rattle.wdf_tree.proofs.Leaving.{leaving_by_cleanup}
 use Rattle.wdf_tree.proofs.Turns.{turns_after_cleanup}

@@ -1,6 +1,6 @@
 -- The members of the set are those objects.
 use Rattle.std.proofs.Common.{refl}
-use Rattle.wdf_model.specs.parts.Tree.{is_cleaned}
+use Rattle.wdf_base.specs.Lives.{is_cleaned}
 use Rattle.wdf_tree.proofs.Leaving.{first_passing}
 use Rattle.wdf_tree.proofs.tree.Tree.cleaned_from.Goals as goal
 

@@ -2,9 +2,10 @@ use Rattle.std.proofs.Common.{◌≡◌, true, false, List, Some, length, option
 use Rattle.std.proofs.lemmas.Bool.{not-true, not-false}
 use Rattle.wdf_base.specs.declared.object.Life.TheVariants as life
 use Rattle.wdf_base.specs.Same.{same_life}
+use Rattle.wdf_base.specs.Lives.{is_asked, is_cleaned}
 use Rattle.wdf_ilist.specs.Family.{after_on, first_of, list_at, list_of}
 use Rattle.wdf_model.specs.declared.entries.Node.{Node}
-use Rattle.wdf_model.specs.parts.Tree.{Tree, is_asked, is_cleaned, life_of, parent_of}
+use Rattle.wdf_model.specs.parts.Tree.{Tree, life_of, parent_of}
 use Rattle.wdf_tree.specs.Kin.{HoldsKin, is_kin, is_left, is_waiting, places}
 use Rattle.wdf_maps.specs.Least.{lesser_if}
 use Rattle.wdf_tree.specs.Inside.{EndsAlone}
