@@ -122,10 +122,15 @@ cancel_deeds S (Some r) = cancel_at (place_of S.requests r) r
 
 -- what post p of an agent answers: the request that arrives, or that is cancelled; none for other posts
 abbrev pub post_answer : {A : Type 0} → Plan → State A → ℕ → Post → Option Handle
+-- the request that arrives
 post_answer plan S agent (post.Read device length) = arrival_answer S device.id.0
+-- the same
 post_answer plan S agent (post.Write device length) = arrival_answer S device.id.0
+-- the same
 post_answer plan S agent (post.Control device code length) = arrival_answer S device.id.0
+-- the request that is cancelled, if there is one
 post_answer plan S agent (post.Cancel k) = option_map (handle_in plan S) (cancel_reaches S agent k)
+-- these three answer nothing
 post_answer plan S agent (post.Ask a device) = None
 post_answer plan S agent (post.Act action) = None
 post_answer plan S agent (post.Done request s) = None

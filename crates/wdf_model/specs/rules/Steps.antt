@@ -68,25 +68,32 @@ view_of plan S cpu f = record {
   hardware = λ k. has_hardware S.power (device_of_register plan k);
 }
 
--- call c without a fault, with outcome o: it is answered, or waits where its condition isn't met once its first
--- part is done
+-- call c without a fault, with outcome o: it is answered at once, or waits where its condition isn't met once its
+-- first part is done (KMDF)
 abbrev pub call_event : {A : Type 0} → Plan → State A → ℕ → Call → Outcome → Event
 call_event plan S cpu c o =
     if is_met_then plan S c then event.Did (cpu_of cpu) c o.answer else event.Waiting (cpu_of cpu) c
 
 -- the event of what frame f on processor cpu is about to do, where that is no fault
 abbrev pub intent_event : {A : Type 0} → Plan → Meaning A → State A → ℕ → ℕ → Frame → Intent → Event
+-- own: a `let`, an `if` or a `repeat`, by its line
 intent_event plan m S cpu f frame (intent.Local change next) = event.Local (cpu_of cpu) (line_of plan frame)
+-- own: a `log`, with its value
 intent_event plan m S cpu f frame (intent.Log v) = event.Log (cpu_of cpu) v
+-- own: a `spend`, with its number of ticks
 intent_event plan m S cpu f frame (intent.Spend n) = event.Spend (cpu_of cpu) n
--- own: a read answers what the device shows at this moment
+-- own: a read of register k, with what the device shows at this moment
 intent_event plan m S cpu f frame (intent.Get k) = event.Register (cpu_of cpu) access.Read k (shown plan m S (device_of_register plan k) k)
+-- own: a write of value v to register k
 intent_event plan m S cpu f frame (intent.Put k v) = event.Register (cpu_of cpu) access.Write k v
+-- KMDF: a call, by its row
 intent_event plan m S cpu f frame (intent.Do c) = call_event plan S cpu c (outcome plan S cpu f c)
+-- KMDF: the callback ends with this value
 intent_event plan m S cpu f frame (intent.Return v) = event.End (cpu_of cpu) frame.callback frame.object v
+-- own: a statement that has no meaning
 intent_event plan m S cpu f frame intent.Broken = event.Fault (cpu_of cpu) fault.ScriptError (line_of plan frame)
 
--- the event of a frame that is about to do i: the fault, if there is one, comes in its place
+-- the event of a frame that is about to do i: the fault, if there is one, comes in its place (own)
 abbrev pub fault_event : {A : Type 0} → Plan → Meaning A → State A → ℕ → ℕ → Frame → Intent → Option Fault → Event
 fault_event plan m S cpu f frame i (Some x) = event.Fault (cpu_of cpu) x (line_of plan frame)
 fault_event plan m S cpu f frame i None = intent_event plan m S cpu f frame i
