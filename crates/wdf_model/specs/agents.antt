@@ -4,3 +4,5 @@ pub mod PnpManager
 pub mod Device
 pub mod LowerTarget
 pub mod AnyAgent
+pub mod IdlePolicy
+pub mod IdleAgent
