@@ -4,3 +4,7 @@ pub mod PnpManager
 pub mod Device
 pub mod LowerTarget
 pub mod AnyAgent
+pub mod Chains
+pub mod Connector
+pub mod StackManager
+pub mod StackAgent
