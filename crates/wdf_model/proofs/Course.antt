@@ -10,7 +10,7 @@ use Rattle.wdf_model.specs.Runs.{IsPickedFrom}
 use Rattle.wdf_model.specs.State.{State, opening}
 use Rattle.wdf_model.specs.rules.Steps.{after}
 use Rattle.wdf_model.specs.rules.Ready.{ending_by, ending_of, fault_in, last_fault, ready, ready_in, state_after, unless_fault}
-use Rattle.wdf_model.specs.agents.AnyAgent.{AnyAgent, agents}
+use Rattle.wdf_model.specs.agents.AnyAgent.{agents}
 use Rattle.wdf_model.specs.laws.Course.{CourseOf, IsWorked, IsWorkedWith, ending_at, events_of, pick, run_by, run_from, run_with, stopped, with_picked}
 use Rattle.wdf_model.proofs.Runs.{picked_goes_on, picked_opens}
 use Rattle.wdf_model.proofs.Follows.{last_fault_of, state_goes_on}

@@ -1,9 +1,8 @@
 -- Stacks of devices: which target sends down to which device, and the chains that they make. (own)
-use Rattle.std.specs.Prelude.{if◌then◌else◌, ℕ, zero, suc, Bool, true, false, ◌==◌, nat_lt, ◌&&◌, ◌||◌, List, [], ◌++◌, length, map, filter, find, Option, Some, None, is_some, option_map, option_and_then, unwrap_or, slice_index_or, codes}
+use Rattle.std.specs.Prelude.{if◌then◌else◌, ℕ, Bool, nat_lt, ◌&&◌, List, [], ◌++◌, find, Option, Some, None, is_some, option_map, option_and_then, unwrap_or, slice_index_or, codes}
 use Rattle.std.specs.Str.{bytes_eq}
 use Rattle.wdf_base.specs.declared.plan.Plan.{Plan}
 use Rattle.wdf_base.specs.declared.ids.Handle.{Handle}
-use Rattle.wdf_base.specs.declared.declared.DeviceInfo.{DeviceInfo}
 use Rattle.wdf_base.specs.declared.declared.TargetInfo.{TargetInfo}
 use Rattle.wdf_model.specs.Tables.{same_id}
 use Rattle.wdf_model.specs.Plans.{device_of, devices_of, target_of, targets_of, is_target_of}

@@ -1,6 +1,6 @@
 -- A connector: the target of a device that is connected to the device below. What is sent to it arrives there, and is done
 -- as that device completes it. It is a fold of the events of the run. (own)
-use Rattle.std.specs.Prelude.{if◌then◌else◌, ℕ, ◌+◌, ◌-◌, Bool, true, false, ◌==◌, nat_lt, nat_le, not, ◌&&◌, ◌||◌, List, [], ◌∷◌, ◌++◌, length, map, filter, find, count_by, sum_by, Option, Some, None, option_map, unwrap_or}
+use Rattle.std.specs.Prelude.{if◌then◌else◌, ℕ, ◌-◌, Bool, true, false, ◌==◌, nat_lt, nat_le, not, ◌&&◌, ◌||◌, List, [], ◌∷◌, ◌++◌, length, map, filter, find, count_by, sum_by, Option, Some, None, option_map, unwrap_or}
 use Rattle.std.specs.List.{filter_map}
 use Rattle.wdf_base.specs.declared.plan.Plan.{Plan}
 use Rattle.wdf_base.specs.declared.ids.Handle.{Handle}
@@ -29,7 +29,7 @@ use Rattle.wdf_model.specs.State.{object_in}
 use Rattle.wdf_model.specs.rules.Faults.{arg_is}
 use Rattle.wdf_model.specs.rules.Posts.{ARRIVALS}
 use Rattle.wdf_model.specs.agents.LowerTarget.{handle_in_arg}
-use Rattle.wdf_model.specs.agents.Chains.{connected_to, device_handle}
+use Rattle.wdf_model.specs.agents.Chains.{device_handle}
 
 pub record Connector : Type 0 where
   -- its number among the agents

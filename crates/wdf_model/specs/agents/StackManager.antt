@@ -1,6 +1,6 @@
 -- The stack manager, in place of the Plug and Play manager: it posts each line for the whole chain of the line's device,
 -- a post when the one before has ended. It is a fold of the events of the run. (own)
-use Rattle.std.specs.Prelude.{if◌then◌else◌, ℕ, zero, suc, ◌+◌, Bool, true, false, ◌==◌, nat_lt, nat_le, not, ◌&&◌, ◌||◌, List, [], length, map, find, Option, Some, None, option_map, option_and_then, unwrap_or, slice_get}
+use Rattle.std.specs.Prelude.{if◌then◌else◌, ℕ, zero, suc, ◌+◌, Bool, true, false, ◌==◌, nat_lt, nat_le, not, ◌&&◌, List, length, map, find, Option, Some, None, option_map, option_and_then, unwrap_or, slice_get}
 use Rattle.wdf_base.specs.declared.plan.Plan.{Plan}
 use Rattle.wdf_base.specs.declared.ids.Handle.{Handle}
 use Rattle.wdf_base.specs.declared.value.Value.{Value}
