@@ -18,6 +18,7 @@ use Rattle.wdf_base.specs.declared.call.CallKind.{CallKind}
 use Rattle.wdf_base.specs.declared.call.CallKind.TheVariants as call
 use Rattle.wdf_base.specs.declared.declared.Declared.{Declared}
 use Rattle.wdf_base.specs.declared.declared.Declared.TheVariants as declared
+use Rattle.wdf_base.specs.declared.declared.QueueInfo.{QueueInfo}
 use Rattle.wdf_base.specs.declared.declared.TargetInfo.{TargetInfo}
 use Rattle.wdf_base.specs.declared.event.Event.{Event}
 use Rattle.wdf_base.specs.declared.event.Event.TheVariants as event
@@ -26,7 +27,7 @@ use Rattle.wdf_base.specs.Same.{same_call_kind, same_handle, same_kind, same_opt
 use Rattle.wdf_model.specs.declared.entries.Request.{Request}
 use Rattle.wdf_model.specs.Runs.{IsRun}
 use Rattle.wdf_model.specs.Tables.{entry, flag}
-use Rattle.wdf_model.specs.Plans.{declared_ids, target_of}
+use Rattle.wdf_model.specs.Plans.{declared_ids, queue_of, target_of}
 use Rattle.wdf_model.specs.parts.Tree.{declared_node, gone, is_live, kind_of, life_of, next_id, opening_tree}
 use Rattle.wdf_model.specs.parts.Requests.{Requests, has_arrived, is_closing, is_done, moved, place_of}
 use Rattle.wdf_model.specs.parts.Requests as requests

@@ -5,6 +5,8 @@ use Rattle.std.specs.Prelude.{if◌then◌else◌, ℕ, max, Bool, true, false, 
 use Rattle.std.specs.Bool.{beq}
 use Rattle.std.specs.List.{flat_map, list_all, list_any, range_with_len}
 use Rattle.wdf_base.specs.declared.plan.Plan.{Plan}
+use Rattle.wdf_base.specs.declared.object.Kind.{Kind}
+use Rattle.wdf_base.specs.declared.object.Kind.TheVariants as kind
 use Rattle.wdf_base.specs.declared.object.LockRef.{LockRef}
 use Rattle.wdf_base.specs.declared.object.LockRef.TheVariants as lock
 use Rattle.wdf_base.specs.declared.rank.Rank.{Rank}
@@ -14,7 +16,8 @@ use Rattle.wdf_base.specs.declared.frame.Pending.{Pending}
 use Rattle.wdf_base.specs.Callbacks.{row_of}
 use Rattle.wdf_model.specs.declared.entries.Held.{Held}
 use Rattle.wdf_model.specs.Tables.{contains, ids_of}
-use Rattle.wdf_model.specs.Plans.{declared_ids, devices_of, is_managed, managed_queues}
+use Rattle.wdf_model.specs.Plans.{declared_ids, devices_of, interrupt_level, is_managed, managed_queues}
+use Rattle.wdf_model.specs.parts.Tree.{Tree, kind_of}
 use Rattle.wdf_model.specs.parts.Cpus.{all_frames, frame_of, irql, running, top}
 use Rattle.wdf_model.specs.parts.Requests.{is_queued_in, is_sent_to, origin_of, place_of}
 use Rattle.wdf_model.specs.parts.Queues.{held_count, waiting_in}

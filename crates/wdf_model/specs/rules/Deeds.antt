@@ -3,17 +3,26 @@
 use Rattle.std.specs.Prelude.{if◌then◌else◌, ℕ, suc, ◌+◌, Bool, true, false, List, [], ◌∷◌, map, fold, Option, Some, None}
 use Rattle.wdf_base.specs.Meaning.{Meaning}
 use Rattle.wdf_base.specs.declared.plan.Plan.{Plan}
+use Rattle.wdf_base.specs.declared.value.Value.{Value}
 use Rattle.wdf_base.specs.declared.value.Status.{Status}
+use Rattle.wdf_base.specs.declared.value.Status.TheVariants as status
+use Rattle.wdf_base.specs.declared.object.Kind.{Kind}
 use Rattle.wdf_base.specs.declared.object.Kind.TheVariants as kind
 use Rattle.wdf_base.specs.declared.object.Place.{Place}
 use Rattle.wdf_base.specs.declared.object.Place.TheVariants as place
+use Rattle.wdf_base.specs.declared.object.LockRef.{LockRef}
 use Rattle.wdf_base.specs.declared.object.RequestInfo.{RequestInfo}
+use Rattle.wdf_base.specs.declared.call.Callback.{Callback}
+use Rattle.wdf_base.specs.declared.event.Ask.{Ask}
+use Rattle.wdf_base.specs.declared.event.Step.{Step}
 use Rattle.wdf_base.specs.declared.event.Event.{Event}
 use Rattle.wdf_base.specs.declared.event.Event.TheVariants as event
+use Rattle.wdf_base.specs.declared.frame.Frame.{Frame}
+use Rattle.wdf_model.specs.declared.enums.Mode.{Mode}
 use Rattle.wdf_model.specs.declared.enums.Mode.TheVariants as mode
 use Rattle.wdf_model.specs.declared.deed.Deed.{Deed}
 use Rattle.wdf_model.specs.declared.deed.Deed.TheVariants.{Create, MakeRequest, Arrive, CountArrival, AskDeletion, Refer, Unrefer, WriteCell, Note, CleanUp, EndLife, PushFrame, GoOn, Raise, Lower, PopFrame, ParkFrame, UnparkFrame, TakeLock, ReleaseLock, Present, Receive, Requeue, Forward, GiveBack, Withdraw, MarkRequest, UnmarkRequest, CancelRequest, TakeCancel, SendRequest, FinishSending, ComeBack, CompleteRequest, SetMode, PurgeQueue, CloseReturning, CloseDevice, RegisterQueue, NotifyQueue, AdvancePower, Acknowledge, AskStop, Resume, AskDevice, TakeStep, EndStep, EnableInterrupt, DisableInterrupt, EnqueueDpc, CancelDpc, TakeDpc, EnqueueWork, CancelWork, StartTimer, StopTimer, FireTimer, StopTarget, StartTarget, PassTick}
-use Rattle.wdf_model.specs.Tables.{change_at}
+use Rattle.wdf_model.specs.Tables.{change_at, ids_of}
 use Rattle.wdf_model.specs.Plans.{is_managed, queues_of, managed_queues}
 use Rattle.wdf_model.specs.parts.Tree.{life_of, is_live, next_id, nearest_device, subtree}
 use Rattle.wdf_model.specs.parts.Tree as tree

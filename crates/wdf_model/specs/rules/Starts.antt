@@ -1,7 +1,7 @@
 -- Starts of callbacks, steps of sequences, cleanups and destructions: when each may come, and what it does.
 -- (KMDF, but for what is marked own)
-use Rattle.std.specs.Prelude.{if◌then◌else◌, ℕ, ◌+◌, Bool, true, false, ◌==◌, nat_lt, not, ◌&&◌, ◌||◌, List, [], ◌∷◌, ◌++◌, length, filter, replicate, Option, Some, None, is_some, unwrap_or, slice_get, option_map}
-use Rattle.std.specs.List.{list_any, list_all}
+use Rattle.std.specs.Prelude.{if◌then◌else◌, ℕ, ◌+◌, Bool, true, false, ◌==◌, nat_lt, not, ◌&&◌, ◌||◌, List, [], ◌∷◌, ◌++◌, length, map, filter, replicate, Option, Some, None, is_some, unwrap_or, slice_get, option_map}
+use Rattle.std.specs.List.{list_any, list_all, flat_map}
 use Rattle.wdf_base.specs.Meaning.{Meaning}
 use Rattle.wdf_base.specs.declared.plan.Plan.{Plan}
 use Rattle.wdf_base.specs.declared.ids.Handle.{Handle}
@@ -23,7 +23,7 @@ use Rattle.wdf_base.specs.declared.frame.Frame.{Frame}
 use Rattle.wdf_base.specs.Callbacks.{row_of}
 use Rattle.wdf_base.specs.Same.{same_callback, same_kind, same_step, same_option}
 use Rattle.wdf_model.specs.declared.entries.Request.{Request}
-use Rattle.wdf_model.specs.Plans.{agent_of_device, callback_irql, handler_for, interrupt_of, interrupts_of, is_managed, is_manual_queue, is_target_of, managed_queues, period_of, target_of, declared_ids}
+use Rattle.wdf_model.specs.Plans.{agent_of_device, callback_irql, handler_for, interrupt_of, interrupts_of, is_managed, is_manual_queue, is_target_of, managed_queues, period_of, queues_of, target_of, declared_ids}
 use Rattle.wdf_model.specs.Tables.{same_id}
 use Rattle.wdf_model.specs.parts.Tree.{class_of, kind_of, life_of, is_live, is_asked, is_cleaned, may_clean, may_destroy, nearest_device, started}
 use Rattle.wdf_model.specs.parts.Cpus.{irql, is_empty_cpu, is_running, nobody_on}

@@ -5,6 +5,7 @@ use Rattle.std.specs.List.{filter_map, flat_map, list_all, list_any, range_with_
 use Rattle.wdf_base.specs.Meaning.{Meaning}
 use Rattle.wdf_base.specs.declared.plan.Plan.{Plan}
 use Rattle.wdf_base.specs.declared.ids.Handle.{Handle}
+use Rattle.wdf_base.specs.declared.ids.FrameId.{FrameId}
 use Rattle.wdf_base.specs.declared.object.Place.{Place}
 use Rattle.wdf_base.specs.declared.object.Place.TheVariants as place
 use Rattle.wdf_base.specs.declared.object.LockRef.{LockRef}
@@ -30,7 +31,7 @@ use Rattle.wdf_base.specs.declared.wait.WaitLine.{WaitLine}
 use Rattle.wdf_base.specs.Same.{same_callback}
 use Rattle.wdf_model.specs.Ids.{frame_id}
 use Rattle.wdf_model.specs.Tables.{contains, first_of_list, ids_of, least}
-use Rattle.wdf_model.specs.Plans.{callback_irql, interrupts_of, is_manual_queue, managed_queues, queue_level}
+use Rattle.wdf_model.specs.Plans.{callback_irql, interrupts_of, is_managed, is_manual_queue, managed_queues, queue_level}
 use Rattle.wdf_model.specs.parts.Tree.{children, is_asked, is_cleaned, is_past_cleanup, kind_of, life_of, parent_of, references_of, started, younger_siblings}
 use Rattle.wdf_model.specs.parts.Cpus.{all_frames, frame_of, is_empty_cpu, is_on}
 use Rattle.wdf_model.specs.parts.Locks.{holder, is_free_if_any, lock_of_callback, object_lock, scope_of}
@@ -42,7 +43,7 @@ use Rattle.wdf_model.specs.parts.Pnp.{follows_queues_up, next_step, running_step
 use Rattle.wdf_model.specs.parts.Deferred.Dpcs.{dpc_head, dpcs_of, is_dpc_queued}
 use Rattle.wdf_model.specs.parts.Deferred.WorkItems.{is_work_queued}
 use Rattle.wdf_model.specs.parts.Targets.{is_undone, routine_due}
-use Rattle.wdf_model.specs.State.{State, declared_in, declares_in, handle_in, held_from, object_in, waits_for, is_powered}
+use Rattle.wdf_model.specs.State.{State, declared_in, declares_in, handle_in, held_from, object_in, up_for, waits_for, is_powered}
 use Rattle.wdf_model.specs.rules.Starts.{clean_ready, destroy_ready, handle_id, is_unfinished_at, level_fits, targets_at}
 use Rattle.wdf_model.specs.rules.Posts.{due_of}
 use Rattle.wdf_model.specs.rules.Steps.{wait_is_over}
