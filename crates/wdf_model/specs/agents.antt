@@ -6,3 +6,7 @@ pub mod LowerTarget
 pub mod AnyAgent
 pub mod IdlePolicy
 pub mod IdleAgent
+pub mod Chains
+pub mod Connector
+pub mod StackManager
+pub mod StackAgent

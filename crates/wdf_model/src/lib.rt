@@ -11,6 +11,7 @@ pub mod facts_of_tables;
 pub mod laws;
 pub mod laws_of_runs;
 mod room;
+mod stack;
 pub mod worked;
 
 pub use arguments::object_in;
@@ -21,3 +22,4 @@ pub use entries::{
 };
 pub use enums::{Group, Mode, Phase};
 pub use room::{EVENTS, FRAMES, OBJECTS};
+pub use stack::{Arrival, AskPost, Descent, Forwarded, StackDevice};

@@ -1,6 +1,6 @@
 ghost use Rattle.std.specs.Prelude.{◌≡◌, ℕ};
 
-use wdf_model::{Sending, Timed};
+use wdf_model::{Arrival, Sending, Timed};
 
 /// What a list has by rising id.
 pub trait Entry: Copy {
@@ -30,6 +30,14 @@ impl Entry for Timed {
 
 impl Entry for Sending {
     ghost id = { λ s. s.request.0 };
+
+    fn id(&self) -> u32 {
+        self.request.0
+    }
+}
+
+impl Entry for Arrival {
+    ghost id = { λ a. a.request.0 };
 
     fn id(&self) -> u32 {
         self.request.0
