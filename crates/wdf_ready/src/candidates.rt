@@ -14,7 +14,7 @@ use wdf_posts::{due_of, post_answer};
 use wdf_steps::own_event;
 
 /// The start of a callback on an object.
-fn starts<A: Agent>(
+pub(crate) fn starts<A: Agent>(
     plan: &IndexedPlan,
     parts: &Parts<A>,
     cpu: Cpu,
@@ -32,7 +32,7 @@ fn starts<A: Agent>(
 }
 
 /// The start of a callback on an object for a request.
-fn starts_for<A: Agent>(
+pub(crate) fn starts_for<A: Agent>(
     plan: &IndexedPlan,
     parts: &Parts<A>,
     cpu: Cpu,
@@ -51,7 +51,7 @@ fn starts_for<A: Agent>(
 }
 
 /// The function of a queued DPC, or of an interrupt's.
-fn dpc_function(kind: Kind) -> Callback
+pub(crate) fn dpc_function(kind: Kind) -> Callback
     ensures { result ≡ groups.dpc_function kind }
 {
     match kind {
