@@ -1,29 +1,18 @@
 -- A frame on a processor, or parked in a call, always has a cause; the top one waits in a call.
 use Rattle.std.proofs.Common.{◌≡◌, inl, ℕ, zero, suc, ◌+◌, ◌==◌, ◌<◌, Bool, true, false, not, ◌||◌, List, [], ◌∷◌, ◌++◌, Option, Some, None, is_some, filter, length, refl, sym, ap, ◌∙◌, arith, rules, take_while, nat_lt, inr, option_map}
-use Rattle.std.specs.Bool.{Decides}
 use Rattle.std.specs.List.{flat_map, list_any, range_with_len, list_all}
 use Rattle.std.proofs.lemmas.Bool.Decides.{nat_tests}
 use Rattle.std.proofs.lemmas.Bool.{or_cases}
 use Rattle.wdf_base.specs.Meaning.{Meaning}
 use Rattle.wdf_base.specs.declared.plan.Plan.{Plan}
-use Rattle.wdf_base.specs.Same.{same_access, same_arg, same_call, same_callback, same_cpu, same_event, same_fault, same_handle, same_value}
 use Rattle.wdf_base.specs.declared.object.Place.{Place}
 use Rattle.wdf_blame.specs.Caused.{is_running, is_waiting_parked}
 use Rattle.wdf_base.specs.declared.call.Arg.{Arg}
-use Rattle.wdf_base.specs.declared.call.Arg.TheVariants.{Val, Class}
-use Rattle.wdf_base.specs.declared.call.Call.{Call}
 use Rattle.wdf_base.specs.declared.call.CallKind.{CallKind}
 use Rattle.wdf_base.specs.declared.call.CallKind.TheVariants as call
-use Rattle.wdf_base.specs.declared.event.Access.{Access}
-use Rattle.wdf_base.specs.declared.event.Access.TheVariants as access
 use Rattle.wdf_base.specs.declared.event.Event.{Event}
 use Rattle.wdf_base.specs.declared.event.Event.TheVariants as event
 use Rattle.wdf_base.specs.declared.event.Ending.TheVariants as ending
-use Rattle.wdf_base.specs.declared.event.Fault.{Fault}
-use Rattle.wdf_base.specs.declared.event.Fault.TheVariants as fault
-use Rattle.wdf_base.specs.declared.frame.Frame.{Frame}
-use Rattle.wdf_base.specs.declared.frame.Intent.{Intent}
-use Rattle.wdf_base.specs.declared.frame.Intent.TheVariants as intent
 use Rattle.wdf_base.specs.declared.frame.Pending.{Pending}
 use Rattle.wdf_base.specs.declared.wait.Cause.TheVariants as cause
 use Rattle.wdf_base.specs.Places.{is_returning_to, is_sent_to}
@@ -31,7 +20,6 @@ use Rattle.wdf_model.specs.Ids.{cpu_of, frame_id}
 use Rattle.wdf_model.specs.declared.entries.Request.{Request}
 use Rattle.wdf_model.specs.declared.enums.Group.TheVariants as group
 use Rattle.wdf_model.specs.Tables.{contains, entry, first_of_list, ids_of}
-use Rattle.wdf_model.specs.Plans.{device_of_register}
 use Rattle.wdf_model.specs.parts.Cpus.{is_empty_cpu, all_frames, frame_of, is_on, stack_of, top}
 use Rattle.wdf_model.specs.parts.Locks.{hold_of, holder, is_free_lock, object_lock}
 use Rattle.wdf_model.specs.parts.Requests.{no_request, place_of}
@@ -40,16 +28,15 @@ use Rattle.wdf_model.specs.parts.Cpus.{nobody_on}
 use Rattle.wdf_model.specs.parts.Deferred.Timers.{any_later_timer}
 use Rattle.wdf_model.specs.parts.Deferred.WorkItems.{is_work_queued}
 use Rattle.wdf_model.specs.State.{State, handle_in, held_from, nothing_at, object_in}
-use Rattle.wdf_model.specs.rules.Calls.{Outcome, is_met, is_met_then, nothing_held, nothing_returns, outcome}
+use Rattle.wdf_model.specs.rules.Calls.{is_met, nothing_held, nothing_returns}
 use Rattle.wdf_model.specs.rules.Faults.{arg_is, fault_of}
 use Rattle.wdf_model.specs.rules.Groups.{unparks, candidates, candidate}
 use Rattle.wdf_model.specs.rules.Ready.{IsRunOf, any_spends, ending_of, state_after}
-use Rattle.wdf_model.specs.rules.Script.{intent_of, line_of}
-use Rattle.wdf_model.specs.rules.Starts.{shown}
-use Rattle.wdf_model.specs.rules.Steps.{may_unpark, wait_is_over, call_event, event_of_frame, fault_event, intent_event, is_own_event, may, own_event, spends, view_of, waits_on, woken_event}
+use Rattle.wdf_model.specs.rules.Script.{intent_of}
+use Rattle.wdf_model.specs.rules.Steps.{may_unpark, wait_is_over, event_of_frame, fault_event, may, own_event, spends, view_of, waits_on, woken_event}
 use Rattle.wdf_model.specs.rules.Waits.{above_in, by_frame, by_frame_on, by_lock, by_request, call_cause, cause_if, frame_cause, frames_above, parked_for_cpu, pending_cause, requests_where}
-use Rattle.wdf_model.proofs.Tests.{both, both_left, both_right, either_false, first, itself, second}
-use Rattle.wdf_model.proofs.Sames.{call_kind_decides, callback_decides, handle_decides, value_decides}
+use Rattle.wdf_model.proofs.Tests.{both, both_left, both_right, either_false, first, second}
+use Rattle.law_machine_own.proofs.MayCome.{own_may}
 use Rattle.wdf_invariants.proofs.Holding.{HoldsIn}
 use Rattle.wdf_invariants.proofs.HeldOverRuns.{holds_at_each, held_number}
 use Rattle.wdf_blame.proofs.Members.{Has, at_of, has_back, has_front, has_range, no_entry, none_passes}
@@ -57,64 +44,12 @@ use Rattle.wdf_blame.proofs.Endings.{AtRest, at_rest, at_the_end, may_not}
 use Rattle.wdf_blame.proofs.Gives.{any_has}
 use Rattle.wdf_blame.proofs.Forms.{while_on}
 use Rattle.wdf_blame.proofs.Needs.{below_cpus, cpu_group, free_hold, free_one, front_none, none_first, none_if, none_least, none_map, none_there, placed_at, some_or}
-use Rattle.wdf_blame.proofs.Conjuncts.{four, three}
-
--- ---- an event is itself
-
-arg_itself : (a : Arg) → same_arg a a ≡ true
-arg_itself (Val v) = (value_decides v v).1 refl
-arg_itself (Class c) = itself c
-
-access_decides : (a b : Access) → Decides (same_access a b) (a ≡ b)
-access_decides a b = search rules
-
-fault_decides : (a b : Fault) → Decides (same_fault a b) (a ≡ b)
-fault_decides a b = search rules
-
-call_itself : (c : Call) → same_call c c ≡ true
-call_itself c = rw ((call_kind_decides c.kind c.kind).1 refl, itself c.count, arg_itself c.a, arg_itself c.b, arg_itself c.c) refl
-
--- ---- the own event of a processor may come
-
-offered_itself : {A : Type 0} (plan : Plan) (m : Meaning A) (S : State A) (cpu : ℕ) (e : Event) → own_event plan m S cpu ≡ Some e → same_event e e ≡ true → is_own_event plan m S (cpu_of cpu) e ≡ true
-offered_itself plan m S cpu e own is = rw own is
-
-did_may : {A : Type 0} (plan : Plan) (m : Meaning A) (S : State A) (cpu : ℕ) (c : Call) (o : Outcome) (b : Bool) → is_met_then plan S c ≡ b → own_event plan m S cpu ≡ Some (call_event plan S cpu c o) → may plan m S (call_event plan S cpu c o) ≡ true
-did_may plan m S cpu c o true e own =
-    rw e (offered_itself plan m S cpu (event.Did (cpu_of cpu) c o.answer) (rw e at own) (three (same_cpu (cpu_of cpu) (cpu_of cpu)) (same_call c c) (same_value o.answer o.answer) (itself cpu) (call_itself c) ((value_decides o.answer o.answer).1 refl)))
-did_may plan m S cpu c o false e own =
-    rw e (offered_itself plan m S cpu (event.Waiting (cpu_of cpu) c) (rw e at own) (both (same_cpu (cpu_of cpu) (cpu_of cpu)) (same_call c c) (itself cpu) (call_itself c)))
-
-intent_may : {A : Type 0} (plan : Plan) (m : Meaning A) (S : State A) (cpu f : ℕ) (frame : Frame) (i : Intent) → own_event plan m S cpu ≡ Some (intent_event plan m S cpu f frame i) → may plan m S (intent_event plan m S cpu f frame i) ≡ true
-intent_may plan m S cpu f frame (intent.Local change next) own =
-    offered_itself plan m S cpu (event.Local (cpu_of cpu) (line_of plan frame)) own (both (same_cpu (cpu_of cpu) (cpu_of cpu)) (line_of plan frame == line_of plan frame) (itself cpu) (itself (line_of plan frame)))
-intent_may plan m S cpu f frame (intent.Log v) own = offered_itself plan m S cpu (event.Log (cpu_of cpu) v) own (both (same_cpu (cpu_of cpu) (cpu_of cpu)) (same_value v v) (itself cpu) ((value_decides v v).1 refl))
-intent_may plan m S cpu f frame (intent.Spend n) own = offered_itself plan m S cpu (event.Spend (cpu_of cpu) n) own (both (same_cpu (cpu_of cpu) (cpu_of cpu)) (n == n) (itself cpu) (itself n))
-intent_may plan m S cpu f frame (intent.Get k) own =
-    let v : ℕ = shown plan m S (device_of_register plan k) k in
-    offered_itself plan m S cpu (event.Register (cpu_of cpu) access.Read k v) own
-    (four (same_cpu (cpu_of cpu) (cpu_of cpu)) (same_access access.Read access.Read) (k == k) (v == v) (itself cpu) ((access_decides access.Read access.Read).1 refl) (itself k) (itself v))
-intent_may plan m S cpu f frame (intent.Put k v) own =
-    offered_itself plan m S cpu (event.Register (cpu_of cpu) access.Write k v) own
-    (four (same_cpu (cpu_of cpu) (cpu_of cpu)) (same_access access.Write access.Write) (k == k) (v == v) (itself cpu) ((access_decides access.Write access.Write).1 refl) (itself k) (itself v))
-intent_may plan m S cpu f frame (intent.Do c) own = did_may plan m S cpu c (outcome plan S cpu f c) (is_met_then plan S c) refl own
-intent_may plan m S cpu f frame (intent.Return v) own =
-    offered_itself plan m S cpu (event.End (cpu_of cpu) frame.callback frame.object v) own
-    (four (same_cpu (cpu_of cpu) (cpu_of cpu)) (same_callback frame.callback frame.callback) (same_handle frame.object frame.object) (same_value v v) (itself cpu) ((callback_decides frame.callback frame.callback).1 refl)
-    ((handle_decides frame.object frame.object).1 refl) ((value_decides v v).1 refl))
-intent_may plan m S cpu f frame intent.Broken own =
-    offered_itself plan m S cpu (event.Fault (cpu_of cpu) fault.ScriptError (line_of plan frame)) own
-    (three (same_cpu (cpu_of cpu) (cpu_of cpu)) (same_fault fault.ScriptError fault.ScriptError) (line_of plan frame == line_of plan frame) (itself cpu) ((fault_decides fault.ScriptError fault.ScriptError).1 refl) (itself (line_of plan frame)))
-
-next_may : {A : Type 0} (plan : Plan) (m : Meaning A) (S : State A) (cpu f : ℕ) (frame : Frame) (i : Intent) (x : Option Fault) → own_event plan m S cpu ≡ Some (fault_event plan m S cpu f frame i x) → may plan m S (fault_event plan m S cpu f frame i x) ≡ true
-next_may plan m S cpu f frame i (Some x) own =
-    offered_itself plan m S cpu (event.Fault (cpu_of cpu) x (line_of plan frame)) own
-    (three (same_cpu (cpu_of cpu) (cpu_of cpu)) (same_fault x x) (line_of plan frame == line_of plan frame) (itself cpu) ((fault_decides x x).1 refl) (itself (line_of plan frame)))
-next_may plan m S cpu f frame i None own = intent_may plan m S cpu f frame i own
+use Rattle.wdf_blame.proofs.Conjuncts.{three}
 
 -- what a processor would do next may not come
-own_waits : {A : Type 0} (plan : Plan) (m : Meaning A) (S : State A) → AtRest plan m S true → (cpu : ℕ) (e : Event) → cpu < plan.cpus → own_event plan m S cpu ≡ Some e → may plan m S e ≡ true → ⊥
-own_waits plan m S rest cpu e low own comes =
+own_waits : {A : Type 0} (plan : Plan) (m : Meaning A) (S : State A) → AtRest plan m S true → (cpu : ℕ) (e : Event) → cpu < plan.cpus → own_event plan m S cpu ≡ Some e → ⊥
+own_waits plan m S rest cpu e low own =
+    let comes : may plan m S e ≡ true = own_may plan m S cpu e own in
     let offered : Has e (candidates plan m S) = cpu_group plan m S cpu (group.OwnEvent cpu) e low (inl refl) (placed_at plan m S (group.OwnEvent cpu) 1 0 e (omega arith) own) in
     let no : may plan m S e ≡ false = may_not plan m S true e rest offered in
     let z : ⊥ = cc in z
@@ -140,14 +75,11 @@ met_by : {A : Type 0} (plan : Plan) (m : Meaning A) (S : State A) → AtRest pla
 met_by plan m S rest cpu p low own false e = rw e refl
 met_by plan m S rest cpu p low own true e =
     let own_is : own_event plan m S cpu ≡ Some (event.Woke (cpu_of cpu) p.call p.answer) = own ∙ woken S cpu p e in
-    absurd (own_waits plan m S rest cpu (event.Woke (cpu_of cpu) p.call p.answer) low own_is
-    (offered_itself plan m S cpu (event.Woke (cpu_of cpu) p.call p.answer) own_is
-    (three (same_cpu (cpu_of cpu) (cpu_of cpu)) (same_call p.call p.call) (same_value p.answer p.answer) (itself cpu) (call_itself p.call) ((value_decides p.answer p.answer).1 refl))))
+    absurd (own_waits plan m S rest cpu (event.Woke (cpu_of cpu) p.call p.answer) low own_is)
 
 pending_waits : {A : Type 0} (plan : Plan) (m : Meaning A) (S : State A) → AtRest plan m S true → (cpu f : ℕ) → cpu < plan.cpus → (p : Option Pending) → own_event plan m S cpu ≡ event_of_frame plan m S cpu f (frame_of S.cpus f) p → waits_on S p ≡ true
 pending_waits plan m S rest cpu f low None own =
-    absurd (own_waits plan m S rest cpu (fault_event plan m S cpu f (frame_of S.cpus f) (intent_of plan (frame_of S.cpus f)) (fault_of (view_of plan S cpu f) (intent_of plan (frame_of S.cpus f)))) low own
-    (next_may plan m S cpu f (frame_of S.cpus f) (intent_of plan (frame_of S.cpus f)) (fault_of (view_of plan S cpu f) (intent_of plan (frame_of S.cpus f))) own))
+    absurd (own_waits plan m S rest cpu (fault_event plan m S cpu f (frame_of S.cpus f) (intent_of plan (frame_of S.cpus f)) (fault_of (view_of plan S cpu f) (intent_of plan (frame_of S.cpus f)))) low own)
 pending_waits plan m S rest cpu f low (Some p) own = met_by plan m S rest cpu p low own (is_met S p.call) refl
 
 spends_by : {A : Type 0} (plan : Plan) (m : Meaning A) (S : State A) → AtRest plan m S true → (cpu f : ℕ) → cpu < plan.cpus → top S.cpus cpu ≡ Some f → (b : Bool) → spends S (frame_of S.cpus f) ≡ b → waits_on S (frame_of S.cpus f).pending ≡ true

@@ -6,3 +6,6 @@ pub mod Passing
 pub mod AnyOf
 pub mod Kept
 pub mod Cancels
+pub mod Own
+pub mod Straight
+pub mod Begins

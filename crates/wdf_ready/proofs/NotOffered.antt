@@ -43,7 +43,19 @@ use Rattle.wdf_model.specs.parts.Tree.{children, kind_of, life_of, may_clean, ne
 use Rattle.wdf_model.specs.rules.Groups.{callback_for, handler_start, if_there, start_at, starts, starts_for, unparks}
 use Rattle.wdf_model.specs.rules.Starts.{clean_ready, is_finished, is_ready_for, is_unused, level_fits, life_fits, may_start}
 use Rattle.wdf_model.specs.rules.Steps.{is_cpu, is_proper_if_any, may, wait_is_over}
-use Rattle.wdf_ready.specs.Idle.{can_be_due, highest_level, is_due_at, is_idle, is_sending_due, is_too_high, settles_next}
+use Rattle.wdf_base.specs.Callbacks.{row_of}
+use Rattle.wdf_base.specs.Same.{same_callback, same_option}
+use Rattle.wdf_base.specs.declared.event.Step.{Step}
+use Rattle.wdf_model.specs.Plans.{interrupt_of, is_manual_queue}
+use Rattle.wdf_model.specs.State.{queue_delivers}
+use Rattle.wdf_model.specs.Tables.{same_id}
+use Rattle.wdf_model.specs.parts.Control.{notify_due}
+use Rattle.wdf_model.specs.parts.Interrupts.{is_enabled}
+use Rattle.wdf_model.specs.parts.Pnp.{steps_left}
+use Rattle.wdf_model.specs.parts.Queues.{is_free, waiting_in}
+use Rattle.wdf_model.specs.rules.Groups.{stage_of_step, start_of_step}
+use Rattle.wdf_model.specs.rules.Starts.{line_is_up, presents, rank_ready_for}
+use Rattle.wdf_ready.specs.Idle.{can_be_due, can_start_at, highest_level, is_due_at, is_idle, is_sending_due, is_too_high, settles_next}
 use Rattle.wdf_ready.specs.Search.{if_allowed, offered}
 use Rattle.wdf_tree.specs.Turns.{has_turn}
 
@@ -97,6 +109,21 @@ handler_low_by plan q f c false false h = absurd (let z : ⊥ = cc in z)
 
 handler_low : (plan : Plan) (q : ℕ) (f : RequestForm) (c : Callback) → handler_for plan q f ≡ Some c → callback_irql plan c q ≤ 2
 handler_low plan q f c h = handler_low_by plan q f c (declares plan (typed_handler f) q) (declares plan callback.EvtIoDefault q) h
+
+typed_ranked : (f : RequestForm) → (row_of (typed_handler f)).rank ≡ rank.Handler
+typed_ranked form.Read = refl
+typed_ranked form.Write = refl
+typed_ranked form.Control = refl
+
+handler_ranked_by : (plan : Plan) (q : ℕ) (f : RequestForm) (c : Callback) (typed any : Bool)
+    → (if typed then Some (typed_handler f) else if any then Some callback.EvtIoDefault else None) ≡ Some c → (row_of c).rank ≡ rank.Handler
+handler_ranked_by plan q f c true any h = let same : typed_handler f ≡ c = cc in rw (← same) (typed_ranked f)
+handler_ranked_by plan q f c false true h = let same : callback.EvtIoDefault ≡ c = cc in rw (← same) refl
+handler_ranked_by plan q f c false false h = absurd (let z : ⊥ = cc in z)
+
+-- a handler has the rank of handlers
+handler_ranked : (plan : Plan) (q : ℕ) (f : RequestForm) (c : Callback) → handler_for plan q f ≡ Some c → (row_of c).rank ≡ rank.Handler
+handler_ranked plan q f c h = handler_ranked_by plan q f c (declares plan (typed_handler f) q) (declares plan callback.EvtIoDefault q) h
 
 dpc_low : (plan : Plan) (k : Kind) (o : ℕ) → callback_irql plan (dpc_function k) o ≤ 2
 dpc_low plan kind.Interrupt o = omega arith
@@ -279,6 +306,56 @@ module _ {A : Type 0} (plan : Plan) (m : Meaning A) (S : State A) where
   idle_offers_none (group.Starts cpu r) k h = no_start cpu r k h
   idle_offers_none (group.StartsFor cpu r o) k h = no_start_for cpu r o k (one_fails (level_fits S cpu (callback_irql plan (callback_for r) o)) (can_be_due plan S r o) h)
   idle_offers_none _ k h = absurd (let z : ⊥ = cc in z)
+
+  -- ---- starts that one part rules out
+
+  unfree : (c : Callback) (q r : ℕ) → is_free S.queues q ≡ false → presents plan S c q r ≡ false
+  unfree c q r h =
+      left_fails (not (is_manual_queue plan q) && queue_delivers plan S q && is_free S.queues q && same_id (front S.queues q) r) (same_option same_callback (handler_for plan q (info_of S.requests r).form) (Some c))
+      (left_fails (not (is_manual_queue plan q) && queue_delivers plan S q && is_free S.queues q) (same_id (front S.queues q) r)
+      (right_fails (not (is_manual_queue plan q) && queue_delivers plan S q) (is_free S.queues q) h))
+
+  not_presented : (c : Callback) (q r : ℕ) → (row_of c).rank ≡ rank.Handler → is_free S.queues q ≡ false → rank_ready_for plan S (row_of c).rank c q r ≡ false
+  not_presented c q r ranked h = rw ranked (unfree c q r h)
+
+  none_waits : (n : ℕ) (b : Bool) → (suc n == 0) ≡ b → b ≡ false
+  none_waits n true e = absurd (let zero_is = eqb-true (suc n) 0 e in omega arith)
+  none_waits n false e = refl
+
+  not_free_by : (empty free : Bool) → empty ≡ false → (not empty && free) ≡ false → free ≡ false
+  not_free_by true free e h = absurd (let z : ⊥ = cc in z)
+  not_free_by false free e h = h
+
+  no_front_by : (cpu q : ℕ) (waiting : List ℕ) → (not (length waiting == 0) && is_free S.queues q) ≡ false → if_allowed plan m S (option_and_then (handler_start plan S cpu q) (first_of_list waiting)) ≡ None
+  no_front_by cpu q [] h = refl
+  no_front_by cpu q (r ∷ rest) h =
+      let busy : is_free S.queues q ≡ false = not_free_by (length (r ∷ rest) == 0) (is_free S.queues q) (none_waits (length rest) (length (r ∷ rest) == 0) refl) h in
+      not_mapped (λ c. starts_for plan S cpu c q r) (handler_for plan q (info_of S.requests r).form)
+      (λ c e. not_ready cpu c q (Some (handle_in plan S r)) (not_presented c q r (handler_ranked plan q (info_of S.requests r).form c e) busy))
+
+  no_step_by : (cpu d : ℕ) (left : List Step) → nat_lt 0 (length left) ≡ false → if_allowed plan m S (option_and_then (start_of_step plan S cpu d) (first_of_list left)) ≡ None
+  no_step_by cpu d [] h = refl
+  no_step_by cpu d (s ∷ left) h = absurd (let some = ltb-false 0 (length (s ∷ left)) h in omega arith)
+
+  -- no callback starts where one part rules it out
+  pub cannot_start : (cpu : ℕ) (r : Rank) (k : ℕ) → can_start_at S r k ≡ false → offered plan m S (group.Starts cpu r) k ≡ None
+  cannot_start cpu rank.Isr k h =
+      not_there (is_some (interrupt_of plan k)) (starts plan S cpu callback.EvtInterruptIsr k)
+      (not_ready cpu callback.EvtInterruptIsr k None (right_fails (line_is_up plan m S k) (is_enabled S.interrupts k) h))
+  cannot_start cpu rank.QueueState k h =
+      not_there (is_some (queue_of plan k)) (starts plan S cpu callback.EvtIoQueueState k)
+      (not_ready cpu callback.EvtIoQueueState k None (left_fails (notify_due S.control k) (queue_delivers plan S k) h))
+  cannot_start cpu rank.Handler k h = no_front_by cpu k (waiting_in S.queues k) h
+  cannot_start cpu rank.Sequence k h = no_step_by cpu k (steps_left S.pnp k) h
+  cannot_start cpu _ k h = absurd (let z : ⊥ = cc in z)
+
+  no_stage_by : (d : ℕ) (left : List Step) → nat_lt 0 (length left) ≡ false → if_allowed plan m S (option_and_then (stage_of_step plan S d) (first_of_list left)) ≡ None
+  no_stage_by d [] h = refl
+  no_stage_by d (s ∷ left) h = absurd (let some = ltb-false 0 (length (s ∷ left)) h in omega arith)
+
+  -- no stage comes of a device without a step left
+  pub no_stage : (d : ℕ) → can_start_at S rank.Sequence d ≡ false → offered plan m S group.Stages d ≡ None
+  no_stage d h = no_stage_by d (steps_left S.pnp d) h
 
   -- no cleanup callback starts on an object whose turn hasn't come, and no destroy callback on one that isn't cleaned
   pub no_cleanup_start : (cpu o : ℕ) → has_turn S.tree o ≡ false → offered plan m S (group.Starts cpu rank.Cleanup) o ≡ None

@@ -27,9 +27,9 @@ use Rattle.wdf_model.specs.rules.Steps.{may}
 use Rattle.wdf_model.specs.rules.Groups.{completion_at, is_declared_somewhere, places_for, places_if, places_in}
 use Rattle.wdf_request.specs.Closing.{closing_requests}
 use Rattle.wdf_tree.specs.Turns.{has_turn}
-use Rattle.wdf_ready.specs.Idle.{IsNext, NoneFrom, is_due_at, is_idle, next_start, search_len}
+use Rattle.wdf_ready.specs.Idle.{IsNext, NoneFrom, can_start_at, is_due_at, is_idle, next_start, search_len}
 use Rattle.wdf_ready.specs.Search.{Skips, offered, offered_from}
-use Rattle.wdf_ready.proofs.NotOffered.{idle_offers_none, no_cleanup_start, no_destroy_start, not_due, not_its_turn}
+use Rattle.wdf_ready.proofs.NotOffered.{cannot_start, idle_offers_none, no_cleanup_start, no_destroy_start, no_stage, not_due, not_its_turn}
 use Rattle.wdf_ready.proofs.Places.{all_passed, past}
 
 -- ---- what a search over ids found
@@ -246,7 +246,13 @@ module _ {A : Type 0} (plan : Plan) (m : Meaning A) (S : State A) where
   declared_places true n from h = refl
   declared_places false n from h = absurd (omega arith)
 
-  start_answer_by : (cpu : ℕ) (r : Rank) (from : ℕ) (o : Option ℕ) → from < places_in plan S (group.Starts cpu r) → places_in plan S (group.Starts cpu r) ≤ 2 ^ 32 → next_start S r from ≡ o
+  startable_by : (cpu : ℕ) (r : Rank) (from : ℕ) (o : Option ℕ) → from < places_in plan S (group.Starts cpu r) → places_in plan S (group.Starts cpu r) ≤ 2 ^ 32
+      → MatchOption o (NoneFrom (can_start_at S r) from (places_in plan S (group.Starts cpu r))) (λ x. IsNext (can_start_at S r) from (places_in plan S (group.Starts cpu r)) x)
+      → MatchOption o (offered_from plan m S (group.Starts cpu r) from ≡ []) (λ x. Skips plan m S (group.Starts cpu r) from x)
+  startable_by cpu r from None below few h = next_ends plan m S (group.Starts cpu r) (can_start_at S r) (cannot_start plan m S cpu r) from below h
+  startable_by cpu r from (Some x) below few h = next_skips plan m S (group.Starts cpu r) (can_start_at S r) (cannot_start plan m S cpu r) from x few h
+
+  pub start_answer_by : (cpu : ℕ) (r : Rank) (from : ℕ) (o : Option ℕ) → from < places_in plan S (group.Starts cpu r) → places_in plan S (group.Starts cpu r) ≤ 2 ^ 32 → next_start S r from ≡ o
       → MatchOption o (offered_from plan m S (group.Starts cpu r) from ≡ []) (λ x. Skips plan m S (group.Starts cpu r) from x)
   start_answer_by cpu rank.Cleanup from o below few e =
       let all = ap (λ n. find (λ x. nat_le from x && has_turn S.tree x) (range_with_len 0 n)) (declared_places (is_declared_somewhere plan callback.EvtCleanupCallback) (next_id S.tree) from below) in
@@ -260,6 +266,41 @@ module _ {A : Type 0} (plan : Plan) (m : Meaning A) (S : State A) where
       (λ x h. skips_by plan m S (group.Starts cpu rank.Destroy) (λ y. is_cleaned (life_of S.tree y)) (no_destroy_start plan m S cpu) from x few (all ∙ h))
   start_answer_by cpu r from o below few e =
       subst (λ p. MatchOption p (offered_from plan m S (group.Starts cpu r) from ≡ []) (λ x. Skips plan m S (group.Starts cpu r) from x)) e (stays (group.Starts cpu r) from below few)
+
+  pub startable_answer : (cpu : ℕ) (r : Rank) (from end : ℕ) (o : Option ℕ) → end ≡ places_in plan S (group.Starts cpu r) → from < end → end ≤ 2 ^ 32
+      → MatchOption o (NoneFrom (can_start_at S r) from end) (λ x. IsNext (can_start_at S r) from end x) → MatchOption o (offered_from plan m S (group.Starts cpu r) from ≡ []) (λ x. Skips plan m S (group.Starts cpu r) from x)
+  startable_answer cpu r from end o all = subst
+      (λ n. from < n → n ≤ 2 ^ 32
+      → MatchOption o (NoneFrom (can_start_at S r) from n) (λ x. IsNext (can_start_at S r) from n x) → MatchOption o (offered_from plan m S (group.Starts cpu r) from ≡ []) (λ x. Skips plan m S (group.Starts cpu r) from x))
+      (sym all) (startable_by cpu r from o)
+
+  stages_by : (from : ℕ) (o : Option ℕ) → from < places_in plan S group.Stages → places_in plan S group.Stages ≤ 2 ^ 32
+      → MatchOption o (NoneFrom (can_start_at S rank.Sequence) from (places_in plan S group.Stages)) (λ x. IsNext (can_start_at S rank.Sequence) from (places_in plan S group.Stages) x)
+      → MatchOption o (offered_from plan m S group.Stages from ≡ []) (λ x. Skips plan m S group.Stages from x)
+  stages_by from None below few h = next_ends plan m S group.Stages (can_start_at S rank.Sequence) (no_stage plan m S) from below h
+  stages_by from (Some x) below few h = next_skips plan m S group.Stages (can_start_at S rank.Sequence) (no_stage plan m S) from x few h
+
+  pub stages_answer : (g : Group) (from end : ℕ) (o : Option ℕ) → group.Stages ≡ g → end ≡ places_in plan S g → from < end → end ≤ 2 ^ 32
+      → MatchOption o (NoneFrom (can_start_at S rank.Sequence) from end) (λ x. IsNext (can_start_at S rank.Sequence) from end x) → MatchOption o (offered_from plan m S g from ≡ []) (λ x. Skips plan m S g from x)
+  stages_answer g from end o is =
+      subst
+      (λ h. end ≡ places_in plan S h → from < end → end ≤ 2 ^ 32
+      → MatchOption o (NoneFrom (can_start_at S rank.Sequence) from end) (λ x. IsNext (can_start_at S rank.Sequence) from end x) → MatchOption o (offered_from plan m S h from ≡ []) (λ x. Skips plan m S h from x))
+      is
+      (λ all. subst
+      (λ n. from < n → n ≤ 2 ^ 32
+      → MatchOption o (NoneFrom (can_start_at S rank.Sequence) from n) (λ x. IsNext (can_start_at S rank.Sequence) from n x) → MatchOption o (offered_from plan m S group.Stages from ≡ []) (λ x. Skips plan m S group.Stages from x))
+      (sym all) (stages_by from o))
+
+  pub group_answer : (g h : Group) (from : ℕ) (o : Option ℕ) → h ≡ g → MatchOption o (offered_from plan m S h from ≡ []) (λ x. Skips plan m S h from x) → MatchOption o (offered_from plan m S g from ≡ []) (λ x. Skips plan m S g from x)
+  group_answer g h from o is found = subst (λ x. MatchOption o (offered_from plan m S x from ≡ []) (λ y. Skips plan m S x from y)) is found
+
+  pub found_start : (cpu : ℕ) (r t : Rank) (from end : ℕ) (o : Option ℕ) → t ≡ r → end ≡ places_in plan S (group.Starts cpu r) → from < end → end ≤ 2 ^ 32 → next_start S t from ≡ o
+      → MatchOption o (offered_from plan m S (group.Starts cpu r) from ≡ []) (λ x. Skips plan m S (group.Starts cpu r) from x)
+  found_start cpu r t from end o is =
+      subst
+      (λ u. end ≡ places_in plan S (group.Starts cpu u) → from < end → end ≤ 2 ^ 32 → next_start S t from ≡ o → MatchOption o (offered_from plan m S (group.Starts cpu u) from ≡ []) (λ x. Skips plan m S (group.Starts cpu u) from x))
+      is (λ all below few e. start_answer_by cpu t from o (omega arith) (omega arith) e)
 
   pub start_answer : (g : Group) (cpu : ℕ) (r : Rank) (from : ℕ) (o : Option ℕ) → group.Starts cpu r ≡ g → from < places_in plan S g → places_in plan S g ≤ 2 ^ 32 → next_start S r from ≡ o
       → MatchOption o (offered_from plan m S g from ≡ []) (λ x. Skips plan m S g from x)

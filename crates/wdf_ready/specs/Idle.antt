@@ -1,6 +1,6 @@
 -- When nothing may come of a group, as levels and counts say without a look at its places; and of which places of a
 -- group for requests something may come. (own)
-use Rattle.std.specs.Prelude.{if◌then◌else◌, ℕ, Bool, true, false, not, ◌&&◌, ◌≡◌, ◌<◌, ◌≤◌, nat_le, Option, Some, None, find, slice_get}
+use Rattle.std.specs.Prelude.{if◌then◌else◌, ℕ, Bool, true, false, not, ◌&&◌, ◌≡◌, ◌<◌, ◌≤◌, nat_le, nat_lt, length, Option, Some, None, find, slice_get}
 use Rattle.std.specs.List.{list_any}
 use Rattle.wdf_base.specs.Callbacks.{row_of}
 use Rattle.wdf_base.specs.Same.{same_option, same_step}
@@ -21,7 +21,10 @@ use Rattle.wdf_model.specs.Plans.{callback_irql, is_managed}
 use Rattle.wdf_model.specs.State.{State}
 use Rattle.wdf_model.specs.Tables.{ids_of}
 use Rattle.wdf_model.specs.parts.Cpus.{is_empty_cpu}
-use Rattle.wdf_model.specs.parts.Pnp.{next_step}
+use Rattle.wdf_model.specs.parts.Control.{notify_due}
+use Rattle.wdf_model.specs.parts.Interrupts.{is_enabled}
+use Rattle.wdf_model.specs.parts.Pnp.{next_step, steps_left}
+use Rattle.wdf_model.specs.parts.Queues.{is_empty_queue, is_free}
 use Rattle.wdf_model.specs.parts.Targets.{the_target}
 use Rattle.wdf_model.specs.parts.Tree.{life_of, nearest_device}
 use Rattle.wdf_model.specs.rules.Groups.{callback_for, places_in}
@@ -53,6 +56,15 @@ settles_next S d = same_option same_step (next_step S.pnp d) (Some (step.Pass st
 -- a queue is power-managed, and its device is between `queues_down` and `settled`
 abbrev pub is_stopping : {A : Type 0} → Plan → State A → ℕ → Bool
 is_stopping plan S q = is_managed plan q && settles_next S (nearest_device S.tree q)
+
+-- a callback of a rank can start on an object, as one part says: of a service routine the interrupt is enabled, a
+-- notification is due, for a handler a request waits and the queue is free, a step is left
+abbrev pub can_start_at : {A : Type 0} → State A → Rank → ℕ → Bool
+can_start_at S rank.Isr i = is_enabled S.interrupts i
+can_start_at S rank.QueueState q = notify_due S.control q
+can_start_at S rank.Handler q = not (is_empty_queue S.queues q) && is_free S.queues q
+can_start_at S rank.Sequence d = nat_lt 0 (length (steps_left S.pnp d))
+can_start_at S _ o = true
 
 -- a callback of a rank for requests can be due on an object
 abbrev pub can_be_due : {A : Type 0} → Plan → State A → Rank → ℕ → Bool

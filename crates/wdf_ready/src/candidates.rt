@@ -15,7 +15,7 @@ use wdf_posts::{due_of, post_answer};
 use wdf_steps::own_event;
 
 /// The start of a callback on an object.
-fn starts<A: Agent>(
+pub(crate) fn starts<A: Agent>(
     plan: &IndexedPlan,
     parts: &Parts<A>,
     cpu: Cpu,
@@ -33,7 +33,7 @@ fn starts<A: Agent>(
 }
 
 /// The start of a callback on an object for a request.
-fn starts_for<A: Agent>(
+pub(crate) fn starts_for<A: Agent>(
     plan: &IndexedPlan,
     parts: &Parts<A>,
     cpu: Cpu,

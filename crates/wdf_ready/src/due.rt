@@ -1,4 +1,4 @@
-//! The places of the groups for requests at which a callback is due.
+//! The places of the groups at which a callback is due, or can start.
 ghost use Rattle.std.specs.Prelude.{◌≡◌, ◌<◌, ◌≤◌, ◌^◌, length, MatchOption};
 ghost use Rattle.wdf_base.specs.declared.rank.Rank.TheVariants as rank;
 ghost use Rattle.wdf_model.specs.parts.Targets as targets;
@@ -115,4 +115,36 @@ pub(crate) fn next_due<A: Agent>(
         Rank::Cancel => next_cancel(plan, parts, object, from, end),
         _ => next_of_all(plan, parts, rank, object, from, end),
     }
+}
+
+/// Whether a callback of a rank can start on an object, as one part says.
+fn can_start_at<A: Agent>(parts: &Parts<A>, rank: Rank, o: ObjectId) -> bool
+    ensures { result ≡ idle.can_start_at parts.now rank o.0 }
+{
+    match rank {
+        Rank::Isr => parts.interrupts().is_enabled(o),
+        Rank::QueueState => parts.control().notify_due(o),
+        Rank::Handler => !parts.queues().is_empty(o) && parts.queues().is_free(o),
+        Rank::Sequence => parts.pnp().steps_left(o) > 0,
+        _ => true,
+    }
+}
+
+/// The first place from one on below an end at which a callback of a rank can start.
+pub(crate) fn next_startable<A: Agent>(
+    parts: &Parts<A>,
+    rank: Rank,
+    from: usize,
+    end: usize,
+) -> Option<usize>
+    requires small { end ≤ 2 ^ 32 }
+    ensures { MatchOption result (idle.NoneFrom (idle.can_start_at parts.now rank) from end)
+        (λ place. idle.IsNext (idle.can_start_at parts.now rank) from end place) }
+{
+    for place in from..end {
+        if can_start_at(parts, rank, ObjectId(place as u32)) {
+            return Some(place);
+        }
+    }
+    None
 }

@@ -4,11 +4,13 @@
 
 mod actor;
 mod candidates;
+mod direct;
 mod due;
 mod endings;
 mod groups;
 mod idle;
 mod search;
+mod started;
 
 pub use actor::is_by;
 pub use endings::{is_open, waits_for_time};

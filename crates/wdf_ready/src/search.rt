@@ -1,22 +1,25 @@
 //! The search over the groups and their places.
 ghost use Rattle.std.specs.Prelude.{◌≡◌, ◌+◌, ◌<◌, ◌≤◌, ◌^◌, [], Some, None, length, position, slice_get, option_map, MatchOption, MatchResult};
+ghost use Rattle.wdf_model.specs.declared.enums.Group.TheVariants as group;
 ghost use Rattle.wdf_model.specs.rules.Groups as groups;
 ghost use Rattle.wdf_ready.specs.Actors as actors;
 ghost use Rattle.wdf_ready.specs.Idle as idle;
 ghost use Rattle.wdf_ready.specs.Search as search;
 
 use crate::actor::is_by;
-use crate::candidates::{candidate, places_in};
-use crate::due::next_due;
+use crate::candidates::{candidate, completion_at, places_in};
+use crate::direct::{cleanup_offered, completion_offered, completions_len, end_offered, own_len};
+use crate::due::{next_due, next_startable};
 use crate::idle::is_idle;
-use wdf_base::{Actor, Agent, Event, ObjectId, Rank};
+use crate::started::start_offered;
+use wdf_base::{Actor, Agent, Cpu, Event, ObjectId, Rank};
 use wdf_model::Group;
 use wdf_parts::Parts;
 use wdf_plans::IndexedPlan;
-use wdf_steps::may;
+use wdf_steps::{may, own_event};
 
-/// The candidate of a group at a place, if it may come.
-fn offered<A: Agent>(
+/// The candidate of a group at a place, if its test says that it may come.
+fn tested<A: Agent>(
     plan: &IndexedPlan,
     parts: &Parts<A>,
     group: Group,
@@ -35,15 +38,50 @@ fn offered<A: Agent>(
     }
 }
 
-/// The first id from one on that a rank's callback may start on, as far as its life says.
-fn next_start<A: Agent>(parts: &Parts<A>, rank: Rank, from: usize) -> Option<usize>
-    requires { from < 2 ^ 32 }
-    ensures { result ≡ idle.next_start parts.now rank from }
+/// The candidate of a group at a place, if it may come. A frame's own event may, and so may each completion.
+fn offered<A: Agent>(
+    plan: &IndexedPlan,
+    parts: &Parts<A>,
+    group: Group,
+    place: usize,
+) -> Option<Event>
+    requires within { place < groups.places_in plan.now parts.now group }
+    requires small { place < 2 ^ 32 }
+    requires agents { length parts.now.agents ≤ 2 ^ 16 }
+    ensures { result ≡ search.offered plan.now A.meaning parts.now group place }
 {
+    match group {
+        Group::OwnEvent { cpu } => own_event(plan, parts, Cpu(cpu)),
+        Group::Starts { cpu, rank } => start_offered(plan, parts, Cpu(cpu), rank, place),
+        Group::Completions => completion_at(plan, parts, ObjectId(place as u32)),
+        Group::Cleanups => cleanup_offered(plan, parts, ObjectId(place as u32)),
+        Group::Destroys => end_offered(plan, parts, ObjectId(place as u32)),
+        _ => tested(plan, parts, group, place),
+    }
+}
+
+/// The first place from one on at which a callback of a rank can start on a processor. It is found by a look at whose
+/// turn to be cleaned up has come, at what is cleaned, and else at one part's say.
+fn next_start<A: Agent>(
+    plan: &IndexedPlan,
+    parts: &Parts<A>,
+    cpu: u8,
+    rank: Rank,
+    from: usize,
+    end: usize,
+) -> Option<usize>
+    requires all { end ≡ groups.places_in plan.now parts.now (group.Starts cpu rank) }
+    requires below { from < end }
+    requires few { end ≤ 2 ^ 32 }
+    ensures { MatchOption result (search.offered_from plan.now A.meaning parts.now (group.Starts cpu rank) from ≡ [])
+        (λ place. search.Skips plan.now A.meaning parts.now (group.Starts cpu rank) from place) }
+{
+    let _ = plan;
+    let _cpu = cpu;
     match rank {
         Rank::Cleanup => place_of(parts.tree().turn_from(ObjectId(from as u32))),
         Rank::Destroy => place_of(parts.tree().cleaned_from(ObjectId(from as u32))),
-        _ => Some(from),
+        _ => next_startable(parts, rank, from, end),
     }
 }
 
@@ -79,10 +117,11 @@ fn next_place<A: Agent>(
         return None;
     }
     match group {
-        Group::Starts { rank, .. } => next_start(parts, rank, from),
+        Group::Starts { cpu, rank } => next_start(plan, parts, cpu, rank, from, end),
         Group::StartsFor { rank, object, .. } => {
             next_due(plan, parts, rank, ObjectId(object), from, end)
         }
+        Group::Stages => next_startable(parts, Rank::Sequence, from, end),
         Group::Completions => place_of(parts.requests().next_closing(ObjectId(from as u32))),
         Group::Cleanups => place_of(parts.tree().turn_from(ObjectId(from as u32))),
         Group::Destroys => place_of(parts.tree().cleaned_from(ObjectId(from as u32))),
@@ -97,8 +136,21 @@ fn place_of(id: Option<ObjectId>) -> Option<usize>
     id.map(|id| id.0 as usize)
 }
 
-/// How many events may come of a group's places.
+/// How many events may come of a group's places. Completions are counted without a search.
 fn offered_len<A: Agent>(plan: &IndexedPlan, parts: &Parts<A>, group: Group) -> usize
+    requires agents { length parts.now.agents ≤ 2 ^ 16 }
+    ensures length { result ≡ length (search.offered_from plan.now A.meaning parts.now group 0) }
+    ensures small { result ≤ 2 ^ 32 }
+{
+    match group {
+        Group::OwnEvent { cpu } => own_len(plan, parts, Cpu(cpu)),
+        Group::Completions => completions_len(plan, parts),
+        _ => searched_len(plan, parts, group),
+    }
+}
+
+/// The same, by a search.
+fn searched_len<A: Agent>(plan: &IndexedPlan, parts: &Parts<A>, group: Group) -> usize
     requires agents { length parts.now.agents ≤ 2 ^ 16 }
     ensures length { result ≡ length (search.offered_from plan.now A.meaning parts.now group 0) }
     ensures small { result ≤ 2 ^ 32 }
@@ -118,6 +170,23 @@ fn offered_len<A: Agent>(plan: &IndexedPlan, parts: &Parts<A>, group: Group) -> 
 /// The k-th of the events that may come of a group's places, or how many places of a list are left after
 /// them.
 fn offered_at<A: Agent>(
+    plan: &IndexedPlan,
+    parts: &Parts<A>,
+    group: Group,
+    k: usize,
+) -> Result<Event, usize>
+    requires agents { length parts.now.agents ≤ 2 ^ 16 }
+    ensures { MatchResult result (λ event. slice_get (search.offered_from plan.now A.meaning parts.now group 0) k ≡ Some event)
+        (λ rest. length (search.offered_from plan.now A.meaning parts.now group 0) + rest ≡ k) }
+{
+    match group {
+        Group::Completions => completion_offered(plan, parts, k),
+        _ => searched_at(plan, parts, group, k),
+    }
+}
+
+/// The same, by a search.
+fn searched_at<A: Agent>(
     plan: &IndexedPlan,
     parts: &Parts<A>,
     group: Group,

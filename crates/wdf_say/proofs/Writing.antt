@@ -1,5 +1,6 @@
 -- Lemmas on what a sink gains, and on the lines of a run.
 use Rattle.std.proofs.Common.{ℕ, zero, suc, ◌≡◌, ◌+◌, ◌<◌, ◌≤◌, List, [], ◌∷◌, ◌++◌, length, take, Option, Some, None, ◌⊎◌, inl, inr, refl, sym, ap, subst, ◌∙◌, arith, codes, length-append, append_assoc, slice_get, le_of_lt}
+use Rattle.std.specs.Prelude.{Result, Ok, Err, OnOk, OnErr}
 use Rattle.std.proofs.lemmas.List.{append-nil}
 use Rattle.std.proofs.Math.Seq.{take-append-add}
 use Rattle.std.proofs.lemmas.List.{take-append-le}
@@ -18,6 +19,19 @@ gains_more (Some a) None c xs ys p q = absurd p
 gains_more (Some a) (Some b) None xs ys p q = absurd q
 gains_more (Some a) (Some b) (Some c) xs ys p q = q ∙ rw (p, append_assoc) refl
 
+-- what follows from a call that went well, or from one that failed
+pub ok_gives : {T E P Q : Type 0} (r : Result T E) → (P → Q) → OnOk r P → OnOk r Q
+ok_gives (Ok x) f p = f p
+ok_gives (Err x) f p = tt
+
+pub err_gives : {T E P Q : Type 0} (r : Result T E) → (P → Q) → OnErr r P → OnErr r Q
+err_gives (Ok x) f p = tt
+err_gives (Err x) f p = f p
+
+pub both_err : {T E P Q R : Type 0} (r : Result T E) → (P → Q → R) → OnErr r P → OnErr r Q → OnErr r R
+both_err (Ok x) f p q = tt
+both_err (Err x) f p q = f p q
+
 -- nothing is gained
 pub gains_nothing : (a : Option (List ℕ)) → Gains a a []
 gains_nothing None = tt
@@ -27,6 +41,28 @@ gains_nothing (Some a) = sym (append-nil a)
 pub front_behind : (xs ys zs : List ℕ) (n : ℕ) → n ≤ length ys → take (length xs + n) ((xs ++ ys) ++ zs) ≡ xs ++ take n ys
 front_behind xs ys zs n h =
     rw (append_assoc, take-append-add xs (ys ++ zs) n, take-append-le n ys zs h) refl
+
+-- a page that begins has nothing, and nothing was written
+pub record Paged (first now : Option (List ℕ)) (page text : List ℕ) : Type 0 where
+  pub out : List ℕ
+  pub gained : Gains first now out
+  pub is : out ++ page ≡ text
+
+pub none_paged : (first : Option (List ℕ)) (page : List ℕ) → page ≡ [] → Paged first first page []
+none_paged first page e = record { out = []; gained = gains_nothing first; is = e }
+
+-- a line more is on the page, or what was on it is written
+pub page_more : (first before now : Option (List ℕ)) (old new text line : List ℕ) → Paged first before old text
+    → ((out : List ℕ) × (Gains before now out × (out ++ new ≡ old ++ line))) → Paged first now new (text ++ line)
+page_more first before now old new text line p (out, (gains, e)) = record {
+  out = p.out ++ out;
+  gained = gains_more first before now p.out out p.gained gains;
+  is = append_assoc p.out out new ∙ ap (λ xs. p.out ++ xs) e ∙ sym (append_assoc p.out old line) ∙ ap (λ xs. xs ++ line) p.is;
+}
+
+-- the page is written whole
+pub page_out : (first before now : Option (List ℕ)) (page text : List ℕ) → Paged first before page text → Gains before now page → Gains first now text
+page_out first before now page text p gains = subst (λ xs. Gains first now xs) p.is (gains_more first before now p.out page p.gained gains)
 
 -- the lines of the first events and of the next one
 pub lines_next : (plan : Plan) (events : List Event) (event : Event) (n k : ℕ) → slice_get events k ≡ Some event
@@ -131,3 +167,26 @@ cut_behind a b c first before after front piece rest text gained low high cut te
   within = omega (arith, ap length text_is, length-append (front ++ piece) rest, length-append front piece, cut.within);
   front = rw (text_is, front_behind front piece rest cut.size (le_of_lt cut.within)) (gains_more a b c front (take cut.size piece) gained cut.front);
 }
+
+-- a text of which a page was cut short was cut short
+pub cut_on_page : (a b c : Option (List ℕ)) (first before after : ℕ) (page text rest all : List ℕ)
+    → Paged a b page text → first ≤ before → before ≤ after
+    → IsCutShort (record { before = b; after = c; faults_before = before; faults_after = after }) page
+    → all ≡ text ++ rest
+    → IsCutShort (record { before = a; after = c; faults_before = first; faults_after = after }) all
+cut_on_page a b c first before after page text rest all p low high cut e =
+    cut_behind a b c first before after p.out page rest all p.gained low high cut (e ∙ ap (λ xs. xs ++ rest) (sym p.is))
+
+-- a piece of which a front was written was cut short
+pub cut_front : (a b : Option (List ℕ)) (first after : ℕ) (piece : List ℕ) → ((n : ℕ) × (n < length piece) × Gains a b (take n piece)) → Rose first after
+    → IsCutShort (record { before = a; after = b; faults_before = first; faults_after = after }) piece
+cut_front a b first after piece (n, below, front) rose = record { rose = rose; size = n; within = below; front = front }
+
+-- all events
+pub all_lines : (plan : Plan) (events : List Event) (n k : ℕ) → length events ≡ k → lines_from plan n (take k events) ≡ lines_from plan n events
+all_lines plan [] n k e = let zero_is : k ≡ 0 = sym e in rw zero_is refl
+all_lines plan (x ∷ xs) n zero e = absurd (omega arith)
+all_lines plan (x ∷ xs) n (suc k) e = ap (λ ls. (line_text plan n x ++ codes "\n") ++ ls) (all_lines plan xs (n + 1) k (omega arith))
+
+pub nothing_rests : (xs : List ℕ) → xs ≡ xs ++ []
+nothing_rests xs = sym (append-nil xs)

@@ -2,6 +2,7 @@
 #![tactic(auto)]
 
 mod message;
+mod page;
 mod refusal;
 mod texts;
 mod trace;

@@ -1,5 +1,5 @@
 //! Writing the trace of a run.
-ghost use Rattle.std.specs.Prelude.{◌≡◌, ◌≢◌, ◌+◌, ◌<◌, ◌≤◌, ◌++◌, length, codes, OnOk, OnErr};
+ghost use Rattle.std.specs.Prelude.{◌≡◌, ◌≢◌, ◌+◌, ◌<◌, ◌≤◌, ◌++◌, List, ℕ, length, codes, OnOk, OnErr};
 ghost use Rattle.wdf_io.specs.Outside.{Gains, EndsRefused};
 ghost use Rattle.wdf_model.specs.rules.Ready.{ending_of};
 ghost use Rattle.wdf_model.specs.rules.Waits.{wait_list};
@@ -9,6 +9,7 @@ ghost use Rattle.wdf_replay.specs.Texts.{text_of};
 ghost use Rattle.wdf_say.specs.Said.{Says, IsCutShort, sinking};
 ghost use Rattle.wdf_say.specs.Endings.{status_of, ending_lines};
 
+use crate::page::{Page, add_line};
 use crate::texts::SINK_FAULT;
 use wdf_base::{Agent, Ending, Event, Plan, WaitLine};
 use wdf_core::Core;
@@ -28,23 +29,26 @@ fn write_line<K: Sink>(sink: &mut K, mut line: Line) -> Result<(), Failed>
     write_all(sink, line.bytes())
 }
 
-/// Writes the line of an event.
-fn write_event<K: Sink>(
+/// Adds the line of an event to a page.
+fn add_event<K: Sink>(
     sink: &mut K,
+    page: &mut Page,
     plan: &Plan,
     number: usize,
     event: &Event,
 ) -> Result<(), Failed>
-    ensures whole { OnOk result (Gains (K.written sink.old) (K.written sink.new) (line_text plan.now number event.now ++ codes "\n")) }
-    ensures cut { OnErr result (IsCutShort (sinking (K.written sink.old) (K.written sink.new) (K.faults sink.old) (K.faults sink.new)) (line_text plan.now number event.now ++ codes "\n")) }
+    ensures whole { OnOk result ((out : List ℕ) × (Gains (K.written sink.old) (K.written sink.new) out × (out ++ page.new ≡ page.old ++ (line_text plan.now number event.now ++ codes "\n")))) }
+    ensures cut { OnErr result (IsCutShort (sinking (K.written sink.old) (K.written sink.new) (K.faults sink.old) (K.faults sink.new)) page.old) }
     ensures quiet { OnOk result (K.faults sink.new ≡ K.faults sink.old) }
     ensures never_falls { K.faults sink.old ≤ K.faults sink.new }
     ensures not_again { OnErr result (EndsRefused K.refused K.faults sink.old sink.new) }
 {
-    write_line(sink, line_of(plan, number, event))
+    let mut line = line_of(plan, number, event);
+    line.push_line_feed();
+    add_line(sink, page, line.bytes())
 }
 
-/// Writes a line for each event of the journal.
+/// Writes a line for each event of the journal, many in one call of the sink.
 fn write_events<A: Agent, K: Sink>(core: &Core<A>, sink: &mut K) -> Result<(), Failed>
     ensures whole { OnOk result (Gains (K.written sink.old) (K.written sink.new) (lines_from core.now.plan 1 core.now.journal)) }
     ensures cut { OnErr result (IsCutShort (sinking (K.written sink.old) (K.written sink.new) (K.faults sink.old) (K.faults sink.new)) (lines_from core.now.plan 1 core.now.journal)) }
@@ -52,14 +56,15 @@ fn write_events<A: Agent, K: Sink>(core: &Core<A>, sink: &mut K) -> Result<(), F
     ensures never_falls { K.faults sink.old ≤ K.faults sink.new }
     ensures not_again { OnErr result (EndsRefused K.refused K.faults sink.old sink.new) }
 {
+    let mut page = Page::new();
     for k in 0..core.journal_len() {
         let event = core.journal_at(k);
-        match write_event(sink, core.plan(), k + 1, &event) {
+        match add_event(sink, &mut page, core.plan(), k + 1, &event) {
             Ok(()) => {}
             Err(failed) => return Err(failed),
         }
     }
-    Ok(())
+    write_all(sink, page.bytes())
 }
 
 /// Writes the line of how the run ended.

@@ -1,6 +1,6 @@
 -- What isn't due, closing or cleaned, or whose turn hasn't come, is passed over.
 use Rattle.std.proofs.Common.{sym, ◌∙◌}
-use Rattle.wdf_ready.proofs.Skips.{cleanups_answer, completions_answer, destroys_answer, due_answer, searched, search_over, start_answer, stays}
+use Rattle.wdf_ready.proofs.Skips.{cleanups_answer, completions_answer, destroys_answer, due_answer, group_answer, searched, search_over, stages_answer, stays}
 use Rattle.wdf_ready.proofs.search.next_place.Goals as goal
 
 pub returns-then-from-end : goal.returns-then-from-end
@@ -8,8 +8,12 @@ returns-then-from-end g c = search_over c.args.plan.now g.A.Agent.meaning c.args
 
 pub returns-in-Starts : goal.returns-in-Starts
 returns-in-Starts g c =
+    group_answer c.args.plan.now g.A.Agent.meaning c.args.parts.now c.args.group _ c.args.from c.next_start.result (sym c.in-Starts.is) c.next_start.ensures
+
+pub returns-in-Stages : goal.returns-in-Stages
+returns-in-Stages g c =
     let all = searched c.args.plan.now g.A.Agent.meaning c.args.parts.now c.args.group c.args.from c.args.end c.requires.all c.if-from-end.false c.requires.few in
-    start_answer c.args.plan.now g.A.Agent.meaning c.args.parts.now c.args.group _ c.in-Starts.rank c.args.from c.next_start.result (sym c.in-Starts.is) all.below all.few (sym c.next_start.ensures)
+    stages_answer c.args.plan.now g.A.Agent.meaning c.args.parts.now c.args.group c.args.from c.args.end c.next_startable.result (sym c.in-Stages.is) all.is c.if-from-end.false c.requires.few c.next_startable.ensures
 
 pub returns-in-StartsFor : goal.returns-in-StartsFor
 returns-in-StartsFor g c =

@@ -1,13 +1,13 @@
--- As many events as were counted were passed.
+-- As many events as are no longer left were passed.
 use Rattle.std.proofs.Common.{◌-◌, ◌≤◌, ◌^◌}
 use Rattle.wdf_ready.specs.Search.{offered_from}
 use Rattle.wdf_ready.proofs.Passing.{Passed}
-use Rattle.wdf_ready.proofs.search.offered_len.Given as goal
+use Rattle.wdf_ready.proofs.search.searched_at.Given as goal
 
 abbrev pub invariant-search : goal.invariant-search
 invariant-search g l = record {
-  passed : Passed (offered_from l.plan g.A.Agent.meaning l.parts l.group 0) (offered_from l.plan g.A.Agent.meaning l.parts l.group l.at) l.count;
-  few : l.count ≤ l.at;
+  passed : Passed (offered_from l.plan g.A.Agent.meaning l.parts l.group 0) (offered_from l.plan g.A.Agent.meaning l.parts l.group l.at) (l.k - l.left);
+  few : l.left ≤ l.k;
   within : l.at ≤ 2 ^ 32;
 }
 

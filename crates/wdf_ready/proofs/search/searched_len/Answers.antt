@@ -2,8 +2,8 @@
 use Rattle.std.proofs.Common.{sym, ◌∙◌, arith}
 use Rattle.wdf_ready.specs.Search.{offered_from}
 use Rattle.wdf_ready.proofs.Passing.{offers, offers_none, passes, takes}
-use Rattle.wdf_ready.proofs.search.offered_len.Goals as goal
-use Rattle.wdf_ready.proofs.search.offered_len.Goals.{then-is_some, else-is_some}
+use Rattle.wdf_ready.proofs.search.searched_len.Goals as goal
+use Rattle.wdf_ready.proofs.search.searched_len.Goals.{then-is_some, else-is_some}
 
 pub search-preserved : goal.search-preserved
 search-preserved g c =

@@ -2,8 +2,8 @@
 use Rattle.std.proofs.Common.{◌≡◌, ◌+◌, ◌-◌, Some, None, sym, ap, ◌∙◌, slice_get, subst, arith}
 use Rattle.wdf_ready.specs.Search.{offered, offered_from}
 use Rattle.wdf_ready.proofs.Passing.{Passed, hits, passes, takes}
-use Rattle.wdf_ready.proofs.search.offered_at.Goals as goal
-use Rattle.wdf_ready.proofs.search.offered_at.Goals.{in-Some-offered+else-left-eq0, in_default-offered}
+use Rattle.wdf_ready.proofs.search.searched_at.Goals as goal
+use Rattle.wdf_ready.proofs.search.searched_at.Goals.{in-Some-offered+else-left-eq0, in_default-offered}
 
 pub returns-then-left-eq0 : goal.returns-then-left-eq0
 returns-then-left-eq0 g c =
