@@ -10,11 +10,12 @@ use Rattle.wdf_base.specs.declared.object.Place.{Place}
 use Rattle.wdf_base.specs.declared.object.Place.TheVariants as place
 use Rattle.wdf_base.specs.declared.plan.Plan.{Plan}
 use Rattle.wdf_base.specs.declared.value.Status.{Status}
+use Rattle.wdf_base.specs.Places.{is_closing}
 use Rattle.wdf_model.specs.State.{State, handle_in, is_proper}
 use Rattle.wdf_model.specs.Tables.{ids_of}
 use Rattle.wdf_model.specs.declared.enums.Group.{Group}
 use Rattle.wdf_model.specs.declared.enums.Group.TheVariants as group
-use Rattle.wdf_model.specs.parts.Requests.{is_closing, place_of}
+use Rattle.wdf_model.specs.parts.Requests.{place_of}
 use Rattle.wdf_model.specs.rules.Groups.{candidate, completion_at}
 use Rattle.wdf_model.specs.rules.Starts.{callback_over, clean_ready, destroy_ready}
 use Rattle.wdf_model.specs.rules.Steps.{is_closing_with, may}

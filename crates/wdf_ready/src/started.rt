@@ -7,7 +7,7 @@ ghost use Rattle.wdf_model.specs.rules.Steps as steps;
 ghost use Rattle.wdf_model.specs.parts.Targets as targets;
 ghost use Rattle.wdf_ready.specs.Search as search;
 
-use crate::candidates::{callback_for, dpc_function, starts, starts_for};
+use crate::candidates::{callback_for, starts, starts_for};
 use wdf_base::{Agent, Callback, Cpu, Event, ObjectId, Rank, Step};
 use wdf_parts::Parts;
 use wdf_plans::IndexedPlan;
@@ -113,7 +113,7 @@ fn dpc_start<A: Agent>(
     ensures { result ≡ search.if_allowed plan.now A.meaning parts.now (groups.start_at plan.now parts.now cpu.0 rank.Deferred place) }
 {
     let o = parts.dpcs().dpc_head(cpu)?;
-    let callback = dpc_function(parts.tree().kind(o));
+    let callback = parts.tree().kind(o).dpc_function();
     start_if(plan, parts, cpu, callback, o)
 }
 
