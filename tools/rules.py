@@ -16,44 +16,8 @@ ROOT = Path(__file__).resolve().parent.parent
 CRATES = ROOT / "crates"
 RULES = ROOT / "tools" / "rules.txt"
 PAGE = ROOT / "docs" / "RULES.md"
-LAW_CRATES = {
-    "wdf_model",
-    "wdf_deeds",
-    "wdf_invariants",
-    "wdf_agreements",
-    "wdf_blame",
-    "wdf_blame_causes",
-    "wdf_blame_whole",
-    "wdf_blame_objects",
-    "wdf_blame_cases",
-    "wdf_room",
-    "wdf_ready_once",
-    "wdf_run_lines",
-    "wdf_run_texts",
-    "wdf_plan_events",
-    "wdf_frame_events",
-    "wdf_fitting_agents",
-    "wdf_fitting_plans",
-    "wdf_plan_laws",
-    "wdf_text_laws",
-    "wdf_split_laws",
-    "wdf_replay_laws",
-    "wdf_gen_laws",
-    "wdf_trace_laws",
-    "wdf_family_laws",
-    "wdf_scope_laws",
-    "wdf_power_laws",
-    "wdf_queue_power_laws",
-    "wdf_interrupt_laws",
-    "wdf_request_laws",
-    "wdf_held_laws",
-    "wdf_state_laws",
-    "wdf_settled_laws",
-    "wdf_steps_laws",
-    "wdf_kept_laws",
-    "wdf_laws_cases",
-    "wdf_worked",
-}
+LAWS = "law_"
+TESTS = "test_"
 
 HEAD = """# The rules of the machine, and where each is kept
 
@@ -143,10 +107,10 @@ def gather():
                     told = edit.read_text().split("\n")
                     if told[0] == f"file: {path.relative_to(folder)}" and any(told[1][5:] in line for line in lines):
                         edits.setdefault(key, []).append(edit.stem)
-                is_test = "tests" in path.parts or ("_cases" in crate and crate not in LAW_CRATES)
+                is_test = "tests" in path.parts or crate.startswith(TESTS)
                 if is_test:
                     continue
-                table = laws if crate in LAW_CRATES else code
+                table = laws if crate.startswith(LAWS) else code
                 for definition in set(cited(contract, names, modules)):
                     table.setdefault(definition, []).append(key)
     return code, laws, edits

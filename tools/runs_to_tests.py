@@ -3,7 +3,7 @@
 
     python3 tools/runs_to_tests.py
 
-For each folder SUBJECT of tools/runs it writes crates/wdf_worked_texts/src/SUBJECT.rt: of each run its name,
+For each folder SUBJECT of tools/runs it writes crates/test_worked_texts/src/SUBJECT.rt: of each run its name,
 its scenario and its trace as they are in NAME.scn and NAME.out, how many events the trace has and how it
 ends. No text is changed. A file's layout is that of `rt fmt`.
 """
@@ -13,7 +13,7 @@ import sys
 
 ROOT = os.path.dirname(os.path.dirname(os.path.abspath(__file__)))
 RUNS = os.path.join(ROOT, "tools", "runs")
-CRATE = os.path.join(ROOT, "crates", "wdf_worked_texts", "src")
+CRATE = os.path.join(ROOT, "crates", "test_worked_texts", "src")
 
 ENDING = re.compile(r"^(finished|limit|fault|stuck) (\d+)$", re.MULTILINE)
 FAULT = re.compile(r" fault (\w+) \d+\n(?=fault )")

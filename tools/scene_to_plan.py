@@ -1,16 +1,16 @@
 #!/usr/bin/env python3
 """Turns scenarios and their traces into antt: a plan as a record, the events and the wait list as lists.
 
-    tools/scene_to_plan.py specs tools/runs/power/*.scn > crates/wdf_worked/specs/RunsOfPower.antt
-    tools/scene_to_plan.py proofs tools/runs/power/*.scn > crates/wdf_worked/proofs/RunsOfPower.antt
-    tools/scene_to_plan.py specs SCENARIOS OF tools/stuck > crates/wdf_blame_cases/specs/StuckObjects.antt
-    tools/scene_to_plan.py proofs tools/stuck/*.scn > crates/wdf_blame_cases/proofs/StuckRuns.antt
-    tools/scene_to_plan.py specs tools/silent/*.scn > crates/wdf_blame_cases/specs/SilentRuns.antt
+    tools/scene_to_plan.py specs tools/runs/power/*.scn > crates/law_machine_worked/specs/RunsOfPower.antt
+    tools/scene_to_plan.py proofs tools/runs/power/*.scn > crates/law_machine_worked/proofs/RunsOfPower.antt
+    tools/scene_to_plan.py specs SCENARIOS OF tools/stuck > crates/law_stuck_worked/specs/StuckObjects.antt
+    tools/scene_to_plan.py proofs tools/stuck/*.scn > crates/law_stuck_worked/proofs/StuckRuns.antt
+    tools/scene_to_plan.py specs tools/silent/*.scn > crates/law_stuck_worked/specs/SilentRuns.antt
 
 Each argument after the first is the path of a scenario `NAME.scn` with its trace beside it in `NAME.out`;
 NAME names the run. `specs` gives the plan, the events and the wait list of each, `proofs` that the definitions
 of wdf_model compute them. The runs of tools/stuck have three files of specs: StuckObjects, StuckRequests and
-StuckSequences. They and those of tools/spinning are for crates/wdf_blame_cases, and so
+StuckSequences. They and those of tools/spinning are for crates/law_stuck_worked, and so
 are those of tools/silent, which targets never answer: of these only the specs are written here. What it writes
 still has to go through `rt tidy` in the crate. It serves the worked runs alone: what the program reads is read
 by its own parser.
@@ -534,7 +534,7 @@ class Script:
 
 
 # The modules of the stuck runs.
-BLAMED = {name: f"wdf_blame_cases.specs.{name.capitalize()}Runs" for name in ("stuck", "spinning", "silent")}
+BLAMED = {name: f"law_stuck_worked.specs.{name.capitalize()}Runs" for name in ("stuck", "spinning", "silent")}
 
 SPECS_HEAD = """-- Worked runs: the plan of each, its events, and what it waits for where it is stuck. Made by
 -- tools/scene_to_plan.py from the scenarios and traces of FOLDER.
@@ -571,22 +571,22 @@ use Rattle.wdf_base.specs.declared.event.Step.TheVariants as step
 use Rattle.wdf_base.specs.declared.wait.OpenThing.TheVariants as thing
 use Rattle.wdf_base.specs.declared.wait.Cause.TheVariants as cause
 use Rattle.wdf_base.specs.declared.wait.WaitLine.{WaitLine}
-use Rattle.wdf_worked.specs.Writing.{h, p, f, c, at, s, line}
+use Rattle.law_machine_worked.specs.Writing.{h, p, f, c, at, s, line}
 """
 
 PROOFS_HEAD = """-- Worked runs, computed from the definitions. Made by tools/scene_to_plan.py.
 use Rattle.std.proofs.Common.{[], refl}
 use Rattle.wdf_base.specs.declared.event.Ending.TheVariants as ending
 use Rattle.wdf_base.specs.declared.event.Fault.TheVariants as fault
-use Rattle.wdf_model.specs.laws.Course.{run_by}
+use Rattle.law_machine_base.specs.Course.{run_by}
 use Rattle.wdf_model.specs.rules.Script.{value_of}
-use Rattle.wdf_model.proofs.Course.{worked_of}
-use Rattle.wdf_worked.specs.Shown.{IsShown, is_kept}
+use Rattle.law_machine_base.proofs.Course.{worked_of}
+use Rattle.law_machine_worked.specs.Shown.{IsShown, is_kept}
 """
 
 # Where a run's ending is another than that it goes on.
-OVER = "use Rattle.wdf_worked.proofs.Ended.{over}\n"
-STUCK_OVER = "use Rattle.wdf_blame_cases.proofs.Over.{stuck_is_over}\n"
+OVER = "use Rattle.law_machine_worked.proofs.Ended.{over}\n"
+STUCK_OVER = "use Rattle.law_stuck_worked.proofs.Over.{stuck_is_over}\n"
 
 class Run:
     """A worked run: its scenario, its events, its ending and its wait list."""
@@ -637,7 +637,7 @@ def main():
         head = SPECS_HEAD.replace("FOLDER", "tools/" + (folder if folder in BLAMED else "runs"))
         parts = [head] + [run.definitions() for run in runs]
     else:
-        module = BLAMED.get(folder, "wdf_worked.specs.RunsOf" + folder.capitalize())
+        module = BLAMED.get(folder, "law_machine_worked.specs.RunsOf" + folder.capitalize())
         words = [f"{r.label}_{w}" for r in runs for w in ("plan", "events", "waits") if w != "waits" or r.waits]
         cited = f"use Rattle.{module}.{{{', '.join(words)}}}"
         used, over = (STUCK_OVER, "stuck_is_over") if folder in BLAMED else (OVER, "(over {} refl)")

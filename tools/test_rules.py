@@ -50,7 +50,7 @@ pub fn takes_once()
 EDIT = "file: src/lib.rt\nold:     queue.front\nnew:     0\n"
 RULES = "Queues\na queue gives its front | takes\na queue drops | drops\nits front is kept | Queue.front\n"
 WANTED = [
-    "| a queue gives its front | `takes` | `wdf_part::takes`, `wdf_part::also_takes` | `wdf_model::takes_once` | `front_is_zero` |",
+    "| a queue gives its front | `takes` | `wdf_part::takes`, `wdf_part::also_takes` | `law_queue::takes_once` | `front_is_zero` |",
     "| a queue drops | `drops` |  |  |  |",
     "| its front is kept | `Queue.front` |  |  |  |",
 ]
@@ -66,7 +66,7 @@ def page_of(rules_text):
     with tempfile.TemporaryDirectory() as room:
         rules.CRATES, rules.RULES = Path(room) / "crates", Path(room) / "rules.txt"
         put(rules.CRATES / "wdf_model/specs/Queues.antt", MODEL)
-        put(rules.CRATES / "wdf_model/src/lib.rt", LAW)
+        put(rules.CRATES / "law_queue/src/lib.rt", LAW)
         put(rules.CRATES / "wdf_part/src/lib.rt", PART)
         put(rules.CRATES / "wdf_part/must-fail/front_is_zero.edit", EDIT)
         put(rules.RULES, rules_text)

@@ -2,9 +2,9 @@
 use Rattle.std.proofs.Common.{[], refl}
 use Rattle.wdf_base.specs.declared.event.Ending.TheVariants as ending
 use Rattle.wdf_model.specs.agents.StackAgent.{stack_agents}
-use Rattle.wdf_model.specs.laws.Course.{run_with}
+use Rattle.law_machine_base.specs.Course.{run_with}
 use Rattle.wdf_model.specs.rules.Script.{value_of}
-use Rattle.wdf_model.proofs.Course.{worked_with}
+use Rattle.law_machine_base.proofs.Course.{worked_with}
 use Rattle.law_stack_worked.specs.Shown.{IsStackRun}
 use Rattle.law_stack_worked.proofs.Ended.{over}
 use Rattle.law_stack_worked.specs.StackRuns.{status_comes_up_plan, status_comes_up_events, starts_from_the_bottom_plan, starts_from_the_bottom_events}

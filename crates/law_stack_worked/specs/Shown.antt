@@ -5,7 +5,7 @@ use Rattle.wdf_base.specs.declared.event.Ending.{Ending}
 use Rattle.wdf_base.specs.declared.plan.Plan.{Plan}
 use Rattle.wdf_base.specs.declared.wait.WaitLine.{WaitLine}
 use Rattle.wdf_model.specs.agents.StackAgent.{stack_agents}
-use Rattle.wdf_model.specs.laws.Course.{IsWorkedWith, run_with, waits_with}
+use Rattle.law_machine_base.specs.Course.{IsWorkedWith, run_with, waits_with}
 
 -- The events are the run that the plan's picks determine with the agents of the word `stack`, and it ends so. These are the
 -- lines of its wait list, which only a stuck run has.

@@ -9,7 +9,7 @@ use crate::answers::{Outcome, answer, refused};
 use wdf_base::{Agent, Handle, Kind, ObjectId, Status, Value};
 use wdf_model::Deed;
 use wdf_parts::{Deeds, Parts};
-use wdf_plans::IndexedPlan;
+use wdf_plan_index::IndexedPlan;
 
 /// Whether an object is live: its deletion wasn't asked. (KMDF)
 pub(crate) fn is_live<A: Agent>(parts: &Parts<A>, o: ObjectId) -> bool

@@ -10,7 +10,7 @@ use crate::creation::is_live;
 use wdf_base::{Agent, Callback, Cpu, ObjectId};
 use wdf_model::Deed;
 use wdf_parts::{Deeds, Parts};
-use wdf_plans::IndexedPlan;
+use wdf_plan_index::IndexedPlan;
 
 /// An interrupt's DPC is queued last on a processor: that of an enabled one that declares an
 /// EvtInterruptDpc and isn't queued already. (KMDF)

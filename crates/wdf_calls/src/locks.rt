@@ -6,7 +6,7 @@ use crate::answers::{Outcome, does, success};
 use wdf_base::{Agent, FrameId, Irql, Kind, LockRef, ObjectId};
 use wdf_model::Deed;
 use wdf_parts::{Deeds, Parts};
-use wdf_plans::IndexedPlan;
+use wdf_plan_index::IndexedPlan;
 
 /// The level of an object's lock, by its kind: DISPATCH_LEVEL for a spin lock, an interrupt's for its
 /// own. (KMDF)

@@ -6,7 +6,7 @@ use crate::answers::{Outcome, answer, does, refused};
 use wdf_base::{Agent, Arg, Callback, ObjectId, Status, Value};
 use wdf_model::{Deed, Mode};
 use wdf_parts::{Deeds, Parts};
-use wdf_plans::IndexedPlan;
+use wdf_plan_index::IndexedPlan;
 use wdf_rules::is_number;
 
 /// The front of a queue, if there is one, is presented to the caller. (KMDF)

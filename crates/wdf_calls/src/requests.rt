@@ -11,7 +11,7 @@ use crate::creation::is_live;
 use wdf_base::{Agent, Arg, Callback, Mark, ObjectId, Status, Value};
 use wdf_model::{Deed, Mode};
 use wdf_parts::{Deeds, Parts};
-use wdf_plans::IndexedPlan;
+use wdf_plan_index::IndexedPlan;
 use wdf_rules::is_number;
 
 /// The queue from which a request last became Owned; the id 0 for none.

@@ -18,7 +18,7 @@ use crate::requests::{
 use wdf_base::{Agent, Call, CallKind, Cpu, FrameId};
 use wdf_model::{Deed, Mode, object_in};
 use wdf_parts::{Deeds, Parts};
-use wdf_plans::IndexedPlan;
+use wdf_plan_index::IndexedPlan;
 use wdf_rules::is_number;
 
 /// What a call of a frame on a processor answers and does; of a call that waits, its first part.

@@ -9,7 +9,7 @@ ghost use Rattle.wdf_model.specs.rules.Calls as calls;
 use wdf_base::{Agent, Call, CallKind, FrameId, LockRef, ObjectId};
 use wdf_model::{Deed, object_in};
 use wdf_parts::{Deeds, Parts};
-use wdf_plans::IndexedPlan;
+use wdf_plan_index::IndexedPlan;
 use wdf_rules::is_number;
 
 /// Whether nobody holds the lock of an object.

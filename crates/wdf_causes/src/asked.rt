@@ -9,7 +9,7 @@ ghost use Rattle.wdf_causes.specs.Asked as asked;
 use wdf_base::{Agent, Callback, Frame, ObjectId, Pending, Place, same_callback};
 use wdf_model::{Request, object_in};
 use wdf_parts::Parts;
-use wdf_plans::IndexedPlan;
+use wdf_plan_index::IndexedPlan;
 
 /// What is asked of a frame.
 #[derive(Clone, Copy, Debug, PartialEq, Eq)]

@@ -11,7 +11,7 @@ use crate::least::least_on;
 use wdf_base::{Agent, Callback, Cause, FrameId, LockRef, ObjectId};
 use wdf_lock::scope_of;
 use wdf_parts::Parts;
-use wdf_plans::IndexedPlan;
+use wdf_plan_index::IndexedPlan;
 
 /// A frame keeps it, if there is one.
 pub fn by_frame(frame: Option<u32>) -> Option<Cause>

@@ -8,7 +8,7 @@ ghost use Rattle.wdf_causes.specs.Keepers.{is_interrupt_at};
 use wdf_base::{Agent, Cpu, Irql, LockRef, ObjectId};
 use wdf_lock::scope_of;
 use wdf_parts::Parts;
-use wdf_plans::IndexedPlan;
+use wdf_plan_index::IndexedPlan;
 use wdf_starts::level_fits;
 
 /// The level of DPCs, of timers and of completion routines.

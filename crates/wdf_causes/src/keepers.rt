@@ -13,7 +13,7 @@ use wdf_base::{Agent, Callback, Cpu, ObjectId};
 use wdf_lock::scope_of;
 use wdf_maps::lesser_if;
 use wdf_parts::Parts;
-use wdf_plans::IndexedPlan;
+use wdf_plan_index::IndexedPlan;
 
 /// The frame that holds the lock that the first DPC of a processor's list needs, where a DPC of the
 /// device is in that list.

@@ -14,7 +14,7 @@ use wdf_base::{Agent, Callback, ObjectId};
 use wdf_cpu::Cpus;
 use wdf_maps::lesser_if;
 use wdf_parts::Parts;
-use wdf_plans::IndexedPlan;
+use wdf_plan_index::IndexedPlan;
 
 #[tactic(auto, using(crate::proofs::OnFrames::frames_at_first, crate::proofs::OnFrames::frame_kept, crate::proofs::OnFrames::frame_passed, crate::proofs::OnFrames::frames_at_last))]
 /// The least number of the frames of which it is so.

@@ -12,7 +12,7 @@ use crate::least::{least_left_at, least_running};
 use wdf_base::{Agent, Callback, Cause, Handle, ObjectId, Stage};
 use wdf_maps::lesser_if;
 use wdf_parts::Parts;
-use wdf_plans::IndexedPlan;
+use wdf_plan_index::IndexedPlan;
 
 /// The id of an object, 0 where there is none.
 fn handle_id(object: Option<Handle>) -> ObjectId

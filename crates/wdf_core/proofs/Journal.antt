@@ -18,18 +18,18 @@ use Rattle.wdf_model.specs.rules.Groups.{groups}
 use Rattle.wdf_model.specs.rules.Ready.{allowed, ending_by, ending_of, ending_without_fault, final_ending, last_fault, or_tick, ready, state_after, unless_fault, waits_for_time}
 use Rattle.wdf_model.specs.rules.Steps.{after, deeds, may}
 use Rattle.wdf_model.proofs.Runs.{run_goes_on, run_opens}
-use Rattle.wdf_model.proofs.Follows.{follows, state_goes_on}
-use Rattle.wdf_room.specs.Kept.{RoomKept}
-use Rattle.wdf_room.specs.Room.{AreDoable}
-use Rattle.wdf_room.proofs.Doable.{Fine, agents_few}
-use Rattle.wdf_room.proofs.DoableRuns.{fine_after}
-use Rattle.wdf_room.proofs.RoomLaws.{each_event_is_doable, room_is_kept}
+use Rattle.law_machine_base.proofs.Follows.{follows, state_goes_on}
+use Rattle.law_machine_room.specs.Kept.{RoomKept}
+use Rattle.wdf_model.specs.rules.Room.{AreDoable}
+use Rattle.law_machine_room.proofs.Doable.{Fine, agents_few}
+use Rattle.law_machine_room.proofs.DoableRuns.{fine_after}
+use Rattle.law_machine_room.proofs.RoomLaws.{each_event_is_doable, room_is_kept}
 use Rattle.wdf_steps.proofs.Parts.{number_kept}
 use Rattle.wdf_ready.specs.Search.{events_of, has_places}
 use Rattle.wdf_ready.proofs.Grouping.{few_groups}
 use Rattle.wdf_ready.proofs.Kept.{fewer_kept, same_events}
 use Rattle.wdf_model.specs.rules.Waits.{if_stuck, wait_lines, wait_list}
-use Rattle.wdf_model.specs.laws.FactsOfEvents.{IsTick}
+use Rattle.law_machine_base.specs.FactsOfEvents.{IsTick}
 use Rattle.wdf_steps.specs.Clock.{FitsClock}
 use Rattle.wdf_core.specs.Course.{IsUnderWay}
 use Rattle.wdf_core.specs.Going.{goes_on, tick_if}

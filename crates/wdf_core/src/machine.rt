@@ -16,7 +16,7 @@ use std::mem;
 use wdf_base::{Actor, Agent, Ending, Event, Fault, Memory, Plan, WaitLine};
 use wdf_model::Group;
 use wdf_parts::Parts;
-use wdf_plans::IndexedPlan;
+use wdf_plan_index::IndexedPlan;
 use wdf_ready::{allowed_at, allowed_len, first_by, groups_of, is_by, is_open, waits_for_time};
 use wdf_steps::step;
 use wdf_waits::{wait_line_at, wait_lines_len};

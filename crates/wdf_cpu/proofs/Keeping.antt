@@ -11,19 +11,18 @@ use Rattle.wdf_model.specs.declared.entries.HeldLevel.{HeldLevel}
 use Rattle.wdf_model.specs.parts.Cpus.{Cpus, all_frames, frame_of, less_one, levels_of, levels_without, no_frame, opening_cpus, parked_with, running, stack_of, top, without_frame}
 use Rattle.wdf_model.specs.parts.Cpus as cpus
 use Rattle.wdf_model.proofs.Maps.{put_within, set_as_it_was}
-use Rattle.wdf_counts.specs.Counts.{count_at}
-use Rattle.wdf_counts.proofs.Counting.{room_for_one}
+use Rattle.wdf_maps.specs.Counts.{count_at}
+use Rattle.wdf_maps.proofs.Counting.{room_for_one}
 use Rattle.wdf_cpu.specs.Keys.{CountsFrames, Swapped, object_key, wait_key}
 use Rattle.wdf_cpu.specs.Kept.{IsKept, IsSound, cpus_in}
 use Rattle.wdf_cpu.specs.declared.cpus.Cpus.TheInside.{Inside}
 use Rattle.wdf_cpu.specs.Levels.{held_by}
-use Rattle.wdf_invariants.proofs.Framed.{on}
-use Rattle.wdf_invariants.proofs.FrameMoves.{seen}
 use Rattle.wdf_cpu.proofs.Live.{few_frames, live_is_off, live_is_on, live_park, live_pop, live_push, live_unpark, parked_once, top_goes_off}
 use Rattle.wdf_cpu.proofs.Numbers.{absent_from}
 use Rattle.wdf_cpu.proofs.Passing.{passing_change, passing_change_off, passing_park, passing_pop, passing_push, passing_unpark}
 use Rattle.wdf_cpu.proofs.Peaks.{peaks_change, peaks_lower, peaks_pop, peaks_push, peaks_raise}
 use Rattle.wdf_cpu.proofs.Swapping.{counts_follow}
+use Rattle.wdf_model.proofs.FrameCounts.{on, seen}
 
 -- ---- what is counted
 

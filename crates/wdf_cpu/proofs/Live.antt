@@ -10,10 +10,8 @@ use Rattle.wdf_model.specs.parts.Cpus as cpus
 use Rattle.wdf_model.proofs.Maps.{entry_past, entry_put_other, entry_put_same, put_short}
 use Rattle.wdf_model.proofs.Counts.{at_head, count_behind, equal, not_equal, one_or_two}
 use Rattle.wdf_cpu.specs.Kept.{IsLive}
-use Rattle.wdf_invariants.proofs.FrameCounts.{parks, pushed, unparks}
-use Rattle.wdf_invariants.proofs.FrameMoves.{flag_small}
-use Rattle.wdf_invariants.proofs.FrameMoves as moves
-use Rattle.wdf_invariants.proofs.Framed.{on}
+use Rattle.wdf_model.proofs.FrameCounts.{flag_small, on, parks, pushed, unparks}
+use Rattle.wdf_model.proofs.FrameCounts as moves
 use Rattle.wdf_cpu.proofs.Numbers.{few_numbers}
 use Rattle.wdf_cpu.proofs.Passing.{pop_leaves}
 

@@ -4,8 +4,8 @@ use Rattle.std.proofs.Math.Bool.{not-not}
 use Rattle.std.proofs.lemmas.List.Sums.{length-filter}
 use Rattle.std.proofs.lemmas.List.Filters.{length-filter_both}
 use Rattle.wdf_model.specs.Tables.{contains, flag, in_order, without}
-use Rattle.wdf_rising.specs.Places.{entry_of, with_entry}
-use Rattle.wdf_rising.proofs.EntriesById.{others_absent}
+use Rattle.wdf_maps.specs.Places.{entry_of, with_entry}
+use Rattle.wdf_maps.proofs.EntriesById.{others_absent}
 use Rattle.wdf_model.proofs.Counts.{at_head, equal, filter_less, it_leaves, one_or_two, others_stay}
 
 -- what a list does not contain is in it no time

@@ -7,8 +7,7 @@ use Rattle.wdf_model.specs.parts.Cpus.{Cpus, all_frames, frame_of, no_frame, run
 use Rattle.wdf_model.specs.parts.Cpus as cpus
 use Rattle.wdf_model.proofs.Maps.{entry_put_other, entry_put_same}
 use Rattle.wdf_model.proofs.Counts.{count_cons, it_leaves}
-use Rattle.wdf_invariants.proofs.FrameCounts.{parks, popped, pushed, same_on, unparks}
-use Rattle.wdf_invariants.proofs.Framed.{on}
+use Rattle.wdf_model.proofs.FrameCounts.{on, parks, popped, pushed, same_on, unparks}
 
 abbrev pub passing : (Frame → Bool) → Cpus → ℕ
 passing test C = count_by (λ f. test (frame_of C f)) (all_frames C)

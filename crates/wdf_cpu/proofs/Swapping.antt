@@ -6,8 +6,8 @@ use Rattle.wdf_base.specs.declared.ids.ObjectId.{ObjectId}
 use Rattle.wdf_model.specs.declared.room.TheConstants.{OBJECTS}
 use Rattle.wdf_model.specs.Tables.{entry, flag, same_id}
 use Rattle.wdf_model.specs.parts.Cpus.{Cpus}
-use Rattle.wdf_counts.specs.Counts.{is_at, moved_count}
-use Rattle.wdf_counts.proofs.Counting.{at_moved}
+use Rattle.wdf_maps.specs.Counts.{is_at, moved_count}
+use Rattle.wdf_maps.proofs.Counting.{at_moved}
 use Rattle.wdf_cpu.specs.Keys.{CountsFrames, Swapped, keyed}
 
 -- what is of an id

@@ -17,10 +17,9 @@ use Rattle.wdf_model.specs.Tables.{flag, in_order, put}
 use Rattle.wdf_model.specs.parts.Cpus.{Cpus, all_frames, frame_of, levels_without, no_frame, opening_cpus, parked_with, stack_of, top, without_frame}
 use Rattle.wdf_model.specs.parts.Cpus as cpus
 use Rattle.wdf_model.proofs.Counts.{count_cons, count_no, count_yes, equal, not_equal}
-use Rattle.wdf_invariants.proofs.Framed.{on}
-use Rattle.wdf_invariants.proofs.FrameMoves.{seen}
 use Rattle.wdf_cpu.specs.Spending.{Came, IsMoved, IsPlaceFor, SpendUntil, Went}
 use Rattle.wdf_cpu.proofs.Passing.{passing_change, passing_change_off, passing_park, passing_pop, passing_push, passing_unpark}
+use Rattle.wdf_model.proofs.FrameCounts.{on, seen}
 
 -- ---- tests of ticks
 

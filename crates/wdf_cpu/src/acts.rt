@@ -5,14 +5,13 @@ ghost use Rattle.wdf_model.specs.Tables.{change_at, contains};
 ghost use Rattle.wdf_model.specs.declared.entries.Running.{Running};
 ghost use Rattle.wdf_model.specs.parts.Cpus as cpus;
 ghost use Rattle.wdf_model.specs.parts.Cpus.{no_frame};
-ghost use Rattle.wdf_counts.specs.Counts.{count_at, moved_count};
+ghost use Rattle.wdf_maps.specs.Counts.{count_at, moved_count};
 
 use crate::cpus::{Cpus, NO_FRAME, object_key, wait_key};
 use crate::stack::{pop_from, push_on};
 use crate::untils::move_until_if;
 use wdf_base::{Cpu, Frame, FrameId, Irql, ObjectId};
-use wdf_counts::Counts;
-use wdf_maps::{entry_at, put_at};
+use wdf_maps::{Counts, entry_at, put_at};
 use wdf_model::{EVENTS, FRAMES, Running};
 
 impl Cpus {

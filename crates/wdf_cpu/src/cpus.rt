@@ -9,9 +9,8 @@ use crate::untils::Untils;
 use std::alloc::Global;
 use std::marker::Model;
 use wdf_base::{Callback, Frame, Handle, Irql, Memory, ObjectId, Plan, Status, VARIABLES, Value};
-use wdf_counts::Counts;
+use wdf_maps::{Counts, Rising};
 use wdf_model::{FRAMES, Running, object_in};
-use wdf_rising::Rising;
 
 /// The handle of no object.
 const NO_HANDLE: Handle = Handle {

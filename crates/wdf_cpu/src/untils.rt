@@ -9,7 +9,7 @@ use wdf_base::Memory;
 use wdf_model::FRAMES;
 
 /// The ticks until which frames spend, each as often as frames have it. No call but [`Untils::make`]
-/// takes memory, and none looks at each tick. No list of `wdf_rising` can hold them: that has each key
+/// takes memory, and none looks at each tick. No list of `wdf_maps` can hold them: that has each key
 /// at most once, and keys of 32 bits.
 ///
 /// Contracts see the list of the ticks, which rise.

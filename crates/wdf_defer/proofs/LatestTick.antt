@@ -5,9 +5,9 @@ use Rattle.std.proofs.lemmas.Bool.{eqb-true}
 use Rattle.std.proofs.lemmas.Bool.Decides.{nat_tests}
 use Rattle.wdf_model.specs.declared.entries.Timed.{Timed}
 use Rattle.wdf_model.specs.Tables.{in_order_by}
-use Rattle.wdf_rising.specs.Places.{rises, entry_of, others, with_entry}
-use Rattle.wdf_rising.proofs.PlacesOfKeys.{none_below, rises_rest}
-use Rattle.wdf_rising.proofs.EntriesById.{others_absent}
+use Rattle.wdf_maps.specs.Places.{rises, entry_of, others, with_entry}
+use Rattle.wdf_maps.proofs.PlacesOfKeys.{none_below, rises_rest}
+use Rattle.wdf_maps.proofs.EntriesById.{others_absent}
 use Rattle.wdf_defer.specs.Ticks.{Replaces, due_tick, latest_of, timer_id}
 
 -- a timer is due later where the greatest due tick is

@@ -4,9 +4,9 @@ use Rattle.std.proofs.lemmas.Bool.{eqb-true}
 use Rattle.std.proofs.lemmas.Bool.Decides.{nat_tests}
 use Rattle.wdf_model.specs.declared.entries.Timed.{Timed}
 use Rattle.wdf_model.specs.Tables.{in_order_by, least, lesser}
-use Rattle.wdf_rising.specs.Places.{rises, entry_of, others, with_entry}
-use Rattle.wdf_rising.proofs.PlacesOfKeys.{none_below, rises_rest}
-use Rattle.wdf_rising.proofs.EntriesById.{others_absent}
+use Rattle.wdf_maps.specs.Places.{rises, entry_of, others, with_entry}
+use Rattle.wdf_maps.proofs.PlacesOfKeys.{none_below, rises_rest}
+use Rattle.wdf_maps.proofs.EntriesById.{others_absent}
 use Rattle.wdf_defer.specs.Ticks.{ReplacesFirst, earlier, earliest_of, is_earliest, tick_if, timer_id}
 
 -- ---- the earlier of two ticks

@@ -3,8 +3,8 @@ use Rattle.std.proofs.Common.{if◌then◌else◌, ◌≡◌, ◌≢◌, ℕ, �
 use Rattle.std.proofs.lemmas.Bool.Decides.{nat_tests}
 use Rattle.wdf_model.specs.declared.entries.Timed.{Timed}
 use Rattle.wdf_model.specs.parts.Deferred.Timers.{Timers, timed_of, fired, stop, later_by}
-use Rattle.wdf_rising.specs.Places.{rises, entry_of, with_entry}
-use Rattle.wdf_rising.proofs.EntriesById.{entry_below, entry_key, map_present, map_absent, others_absent}
+use Rattle.wdf_maps.specs.Places.{rises, entry_of, with_entry}
+use Rattle.wdf_maps.proofs.EntriesById.{entry_below, entry_key, map_present, map_absent, others_absent}
 use Rattle.wdf_defer.specs.Ticks.{timer_id}
 
 -- a periodic timer is due later

@@ -2,7 +2,7 @@
 use Rattle.std.specs.Prelude.{◌≡◌, true}
 use Rattle.wdf_model.specs.declared.room.TheConstants.{OBJECTS}
 use Rattle.wdf_model.specs.parts.Deferred.Timers.{Timers}
-use Rattle.wdf_rising.specs.Places.{rises}
+use Rattle.wdf_maps.specs.Places.{rises}
 use Rattle.wdf_defer.specs.Ticks.{earliest_of, latest_of, timer_id}
 use Rattle.wdf_defer.specs.declared.timers.Timers.TheInside.{Inside}
 

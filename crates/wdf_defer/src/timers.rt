@@ -1,14 +1,14 @@
 ghost use Rattle.std.specs.Prelude.{◌≡◌, ◌+◌, ◌<◌, ◌^◌, IfOk, IfSome, Some, length, map, slice_get, true};
 ghost use Rattle.wdf_model.specs.parts.Deferred.Timers as timers;
 ghost use Rattle.wdf_model.specs.Tables as tables;
-ghost use Rattle.wdf_rising.specs.Places.{rises, with_entry};
+ghost use Rattle.wdf_maps.specs.Places.{rises, with_entry};
 ghost use Rattle.wdf_defer.specs.Ticks.{Replaces, ReplacesFirst, due_tick, earlier, earliest_of, is_earliest, latest_of, tick_if, timer_id};
 
 use std::alloc::Global;
 use std::marker::Model;
 use wdf_base::{Memory, ObjectId, Plan};
+use wdf_maps::Rising;
 use wdf_model::{OBJECTS, Timed};
-use wdf_rising::Rising;
 
 /// The most ticks from the start of a timer to its due tick. (own)
 const LONGEST: u64 = 1_000_000;

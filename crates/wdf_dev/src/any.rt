@@ -2,8 +2,8 @@ ghost use Rattle.std.specs.Prelude.{◌≡◌, ◌+◌, ◌-◌, ◌≤◌, leng
 ghost use Rattle.std.specs.List.{range_with_len};
 ghost use Rattle.wdf_model.specs.Plans.{devices_of, targets_of};
 ghost use Rattle.wdf_dev.specs.Agents.{agent_at, agent_meaning, device_or_target};
-ghost use Rattle.wdf_plans.specs.Owners.{names_of};
-ghost use Rattle.wdf_plans.specs.declared.owners.Owner.TheVariants as owner;
+ghost use Rattle.wdf_plan_index.specs.Owners.{names_of};
+ghost use Rattle.wdf_plan_index.specs.declared.owners.Owner.TheVariants as owner;
 
 use crate::app::App;
 use crate::device::Device;
@@ -11,7 +11,7 @@ use crate::lower_target::LowerTarget;
 use crate::pnp_manager::PnpManager;
 use std::alloc::Global;
 use wdf_base::{Agent, Event, Memory, ObjectId, Plan, Post};
-use wdf_plans::{Owner, ids_of};
+use wdf_plan_index::{Owner, ids_of};
 
 /// An agent of a run, of any kind.
 #[derive(Debug, Drop)]

@@ -1,2 +1,5 @@
 pub mod Beyond
 pub mod Leasts
+pub mod Counting
+pub mod PlacesOfKeys
+pub mod EntriesById

@@ -1,1 +1,4 @@
 pub mod Least
+pub mod Counts
+pub mod Places
+pub mod Rising

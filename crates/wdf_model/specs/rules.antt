@@ -2,6 +2,8 @@
 pub mod Script
 -- what changes, as a list of deeds, each an act of one part
 pub mod Deeds
+-- what each deed asks of the state, so that it can be done
+pub mod Room
 -- the sixteen faults of a driver
 pub mod Faults
 -- what each framework call answers and does, and which calls wait

@@ -7,14 +7,14 @@ ghost use Rattle.wdf_model.specs.parts.Targets as targets;
 ghost use Rattle.wdf_model.specs.parts.Targets.{sending_of, takes_more};
 ghost use Rattle.wdf_model.specs.rules.Deeds as deeds;
 ghost use Rattle.wdf_model.specs.Tables.{change_at, entry};
-ghost use Rattle.wdf_room.specs.Room.{AreDoable, IsDoable, MayGiveUp};
+ghost use Rattle.wdf_model.specs.rules.Room.{AreDoable, IsDoable, MayGiveUp};
 
 use crate::list::Deeds;
 use crate::parts::Parts;
 use wdf_base::{Agent, ObjectId, Place, Status};
 use wdf_maps::{entry_at, put_at};
 use wdf_model::Deed;
-use wdf_plans::IndexedPlan;
+use wdf_plan_index::IndexedPlan;
 
 impl<A: Agent> Parts<A> {
     /// Does a deed that can be done.

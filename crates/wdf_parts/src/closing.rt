@@ -4,12 +4,12 @@ ghost use Rattle.wdf_model.specs.Plans as plans;
 ghost use Rattle.wdf_model.specs.parts.Control as control;
 ghost use Rattle.wdf_model.specs.parts.Queues as queues;
 ghost use Rattle.wdf_model.specs.rules.Deeds as deeds;
-ghost use Rattle.wdf_room.specs.Room.{MayPurge};
+ghost use Rattle.wdf_model.specs.rules.Room.{MayPurge};
 
 use crate::parts::Parts;
 use wdf_base::{Agent, ObjectId};
 use wdf_model::{Deed, Mode};
-use wdf_plans::IndexedPlan;
+use wdf_plan_index::IndexedPlan;
 
 impl<A: Agent> Parts<A> {
     /// The front of a queue.

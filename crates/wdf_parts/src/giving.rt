@@ -3,12 +3,12 @@ ghost use Rattle.std.specs.Prelude.{◌≡◌, ◌<◌, false, Some, length, unw
 ghost use Rattle.wdf_model.specs.declared.room.TheConstants.{OBJECTS};
 ghost use Rattle.wdf_model.specs.rules.Deeds as deeds;
 ghost use Rattle.wdf_model.specs.parts.Queues as queues;
-ghost use Rattle.wdf_room.specs.Room.{IsQueue, IsRequest, MayEnter, MayGiveUp, MayHold};
+ghost use Rattle.wdf_model.specs.rules.Room.{IsQueue, IsRequest, MayEnter, MayGiveUp, MayHold};
 
 use crate::parts::Parts;
 use wdf_base::{Agent, ObjectId, Place};
 use wdf_model::Deed;
-use wdf_plans::IndexedPlan;
+use wdf_plan_index::IndexedPlan;
 
 impl<A: Agent> Parts<A> {
     /// The driver gives up a request, if it holds it.

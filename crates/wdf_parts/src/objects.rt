@@ -7,7 +7,7 @@ ghost use Rattle.wdf_model.specs.parts.Requests as requests;
 ghost use Rattle.wdf_model.specs.parts.Tree as tree;
 ghost use Rattle.wdf_model.specs.rules.Deeds as deeds;
 ghost use Rattle.wdf_parts.specs.Asking.{askable, asked};
-ghost use Rattle.wdf_room.specs.Room.{HasRoomForObject, MayEnterIfQueued, MayGiveUp};
+ghost use Rattle.wdf_model.specs.rules.Room.{HasRoomForObject, MayEnterIfQueued, MayGiveUp};
 
 use crate::parts::Parts;
 use wdf_base::{Agent, Kind, Life, Mark, ObjectId, Place, RequestForm, RequestInfo};

@@ -11,7 +11,7 @@ use wdf_defer::{Dpcs, Timers, WorkItems};
 use wdf_intr::Interrupts;
 use wdf_lock::Locks;
 use wdf_maps::entry_at;
-use wdf_plans::IndexedPlan;
+use wdf_plan_index::IndexedPlan;
 use wdf_pnp::Pnp;
 use wdf_power::Power;
 use wdf_qctl::Control;

@@ -5,7 +5,7 @@ ghost use Rattle.wdf_model.specs.State as state;
 
 use crate::parts::Parts;
 use wdf_base::{Agent, Callback, Declared, Handle, LockRef, ObjectId, Place, Status};
-use wdf_plans::IndexedPlan;
+use wdf_plan_index::IndexedPlan;
 
 impl<A: Agent> Parts<A> {
     /// Whether the driver holds a request: it is Owned, or Sent and will come back. (KMDF)

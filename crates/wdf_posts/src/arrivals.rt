@@ -8,7 +8,7 @@ ghost use Rattle.wdf_model.specs.rules.Posts as posts;
 use wdf_base::{Agent, Handle, Mark, ObjectId, Place, RequestForm, RequestInfo, Status};
 use wdf_model::Deed;
 use wdf_parts::{Deeds, Parts};
-use wdf_plans::IndexedPlan;
+use wdf_plan_index::IndexedPlan;
 
 /// The number of the name that a request which arrives prints as: `req`.
 const REQUEST_NAME: u32 = 1;

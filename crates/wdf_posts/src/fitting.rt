@@ -6,7 +6,7 @@ ghost use Rattle.wdf_model.specs.rules.Posts as posts;
 use crate::planned::{action_fits, is_handle};
 use wdf_base::{Agent, Handle, Kind, ObjectId, Post};
 use wdf_parts::Parts;
-use wdf_plans::IndexedPlan;
+use wdf_plan_index::IndexedPlan;
 
 /// The most requests that arrive in one run. (own)
 const ARRIVALS: u32 = 4_096;

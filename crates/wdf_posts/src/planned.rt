@@ -7,7 +7,7 @@ ghost use Rattle.wdf_base.specs.Same as same;
 ghost use Rattle.wdf_base.specs.declared.object.Kind.TheVariants as kind;
 
 use wdf_base::{Action, Declared, Handle, Kind, ObjectId};
-use wdf_plans::IndexedPlan;
+use wdf_plan_index::IndexedPlan;
 use wdf_same::same_kind;
 
 /// Whether a handle is that of a declared object of this kind, with its name.

@@ -10,7 +10,7 @@ use crate::fitting::post_fits;
 use wdf_base::{Agent, Handle, Post, RequestForm};
 use wdf_model::Deed;
 use wdf_parts::{Deeds, Parts};
-use wdf_plans::IndexedPlan;
+use wdf_plan_index::IndexedPlan;
 use wdf_same::{same_option_handle, same_post};
 
 /// What a post answers: the request that an arrival makes, or that a cancel reaches.

@@ -9,8 +9,8 @@ use Rattle.wdf_model.specs.declared.room.TheConstants.{OBJECTS}
 use Rattle.wdf_model.specs.Tables.{entry, flag}
 use Rattle.wdf_model.specs.parts.Power as power
 use Rattle.wdf_model.proofs.Counts.{count_cons}
-use Rattle.wdf_counts.specs.Counts.{AreCounted, is_at}
-use Rattle.wdf_counts.proofs.Counting.{any_counted, any_same}
+use Rattle.wdf_maps.specs.Counts.{AreCounted, is_at}
+use Rattle.wdf_maps.proofs.Counting.{any_counted, any_same}
 use Rattle.wdf_power.specs.Power.{device_at, due_at, unsettled_at}
 
 -- tests that agree count alike

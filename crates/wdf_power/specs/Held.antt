@@ -5,7 +5,7 @@ use Rattle.wdf_model.specs.declared.entries.QueuePower.{QueuePower}
 use Rattle.wdf_model.specs.declared.entries.Holding.{Holding}
 use Rattle.wdf_model.specs.Tables.{entry}
 use Rattle.wdf_model.specs.parts.Power.{Power, no_holding}
-use Rattle.wdf_counts.specs.Counts.{AreCounted}
+use Rattle.wdf_maps.specs.Counts.{AreCounted}
 use Rattle.wdf_ilist.specs.Family.{is_on, list_at}
 use Rattle.wdf_power.specs.declared.holdings.Holdings.TheInside.{Inside}
 use Rattle.wdf_power.specs.Power.{due_at, held_list, is_list, unsettled_at}

@@ -1,6 +1,6 @@
 ghost use Rattle.std.specs.Prelude.{◌≡◌, ◌<◌, ◌≤◌, IfOk, IfSome, Some, count_by, if◌then◌else◌, length, map, option_map};
 ghost use Rattle.std.specs.List.{list_any};
-ghost use Rattle.wdf_counts.specs.Counts.{is_at};
+ghost use Rattle.wdf_maps.specs.Counts.{is_at};
 ghost use Rattle.wdf_model.specs.Tables.{entry, least, lesser, put};
 ghost use Rattle.wdf_model.specs.parts.Power as power;
 ghost use Rattle.wdf_power.specs.Held.{AreListed};
@@ -10,9 +10,8 @@ use crate::opening::opening_queues;
 use std::alloc::Global;
 use std::marker::Model;
 use wdf_base::{Memory, ObjectId, Plan};
-use wdf_counts::Counts;
 use wdf_ilist::Links;
-use wdf_maps::{entry_at, lesser_if, put_at};
+use wdf_maps::{Counts, entry_at, lesser_if, put_at};
 use wdf_model::{Holding, OBJECTS, QueuePower};
 
 /// Of a queue that there isn't.

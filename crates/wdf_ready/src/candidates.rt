@@ -10,7 +10,7 @@ ghost use Rattle.wdf_model.specs.parts.Targets as targets;
 use wdf_base::{Agent, Callback, Cpu, Event, ObjectId, Place, Rank, Step, same_callback};
 use wdf_model::Group;
 use wdf_parts::Parts;
-use wdf_plans::IndexedPlan;
+use wdf_plan_index::IndexedPlan;
 use wdf_posts::{due_of, post_answer};
 use wdf_steps::own_event;
 

@@ -9,7 +9,7 @@ ghost use Rattle.wdf_ready.specs.Search as search;
 use crate::candidates::completion_at;
 use wdf_base::{Agent, Callback, Cpu, Event, Frame, ObjectId};
 use wdf_parts::Parts;
-use wdf_plans::IndexedPlan;
+use wdf_plan_index::IndexedPlan;
 use wdf_starts::{callback_over, clean_ready, destroy_ready};
 use wdf_steps::waits_on;
 

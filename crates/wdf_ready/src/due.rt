@@ -8,7 +8,7 @@ ghost use Rattle.wdf_ready.specs.Idle as idle;
 use crate::candidates::callback_for;
 use wdf_base::{Agent, Callback, ObjectId, Rank};
 use wdf_parts::Parts;
-use wdf_plans::IndexedPlan;
+use wdf_plan_index::IndexedPlan;
 use wdf_starts::rank_ready_for;
 
 /// Whether the completion routine of what is sent to a target is due, by its place.

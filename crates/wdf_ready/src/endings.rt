@@ -9,7 +9,7 @@ ghost use Rattle.wdf_model.specs.rules.Ready as ready;
 use crate::candidates::declared_end;
 use wdf_base::{Agent, ObjectId, Post};
 use wdf_parts::Parts;
-use wdf_plans::IndexedPlan;
+use wdf_plan_index::IndexedPlan;
 use wdf_posts::due_of;
 
 /// The agent that is the Plug and Play manager. (own)

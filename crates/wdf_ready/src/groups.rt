@@ -9,7 +9,7 @@ use crate::candidates::{callback_for, is_declared_somewhere};
 use std::alloc::Global;
 use wdf_base::{Callback, Memory, ObjectId, Rank};
 use wdf_model::Group;
-use wdf_plans::IndexedPlan;
+use wdf_plan_index::IndexedPlan;
 
 /// The ranks of callbacks, in the order of their starts. (own)
 const RANKS: [Rank; 14] = [

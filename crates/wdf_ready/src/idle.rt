@@ -6,7 +6,7 @@ use crate::candidates::callback_for;
 use wdf_base::{Agent, Cpu, Irql, ObjectId, Rank, Stage, Step};
 use wdf_model::Group;
 use wdf_parts::Parts;
-use wdf_plans::IndexedPlan;
+use wdf_plan_index::IndexedPlan;
 use wdf_same::same_step;
 use wdf_starts::level_fits;
 

@@ -15,7 +15,7 @@ use crate::started::start_offered;
 use wdf_base::{Actor, Agent, Cpu, Event, ObjectId, Rank};
 use wdf_model::Group;
 use wdf_parts::Parts;
-use wdf_plans::IndexedPlan;
+use wdf_plan_index::IndexedPlan;
 use wdf_steps::{may, own_event};
 
 /// The candidate of a group at a place, if its test says that it may come.

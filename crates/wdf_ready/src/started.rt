@@ -10,7 +10,7 @@ ghost use Rattle.wdf_ready.specs.Search as search;
 use crate::candidates::{callback_for, starts, starts_for};
 use wdf_base::{Agent, Callback, Cpu, Event, ObjectId, Rank, Step};
 use wdf_parts::Parts;
-use wdf_plans::IndexedPlan;
+use wdf_plan_index::IndexedPlan;
 use wdf_starts::may_start;
 
 /// Whether it is a processor of the plan.

@@ -8,7 +8,7 @@ use Rattle.wdf_base.specs.Places.{is_done, is_returning_to, is_sent_to}
 use Rattle.wdf_model.specs.declared.entries.Request.{Request}
 use Rattle.wdf_model.specs.parts.Requests.{has_arrived}
 use Rattle.wdf_model.specs.rules.Starts.{is_unfinished_at}
-use Rattle.wdf_counts.specs.Counts.{is_at}
+use Rattle.wdf_maps.specs.Counts.{is_at}
 use Rattle.wdf_request.specs.Keys.{returning_queue, sent_target, unfinished_device}
 
 pub is_at_queue : (q : ℕ) (p : Place) → is_at q (returning_queue p) ≡ is_returning_to q p

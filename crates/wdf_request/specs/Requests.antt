@@ -5,7 +5,7 @@ use Rattle.wdf_model.specs.declared.room.TheConstants.{OBJECTS}
 use Rattle.wdf_model.specs.declared.entries.Request.{Request}
 use Rattle.wdf_model.specs.parts.Requests.{Requests}
 use Rattle.wdf_model.specs.rules.Ready.{is_open_request}
-use Rattle.wdf_counts.specs.Counts.{AreCounted}
+use Rattle.wdf_maps.specs.Counts.{AreCounted}
 use Rattle.wdf_request.specs.Arrivals.{IsNoted}
 use Rattle.wdf_request.specs.Closing.{IsSetOf}
 use Rattle.wdf_request.specs.Keys.{returning_queue, sent_target, unfinished_device}

@@ -6,7 +6,7 @@ ghost use Rattle.wdf_model.specs.parts.Requests as requests;
 ghost use Rattle.wdf_model.specs.parts.Requests.{no_request};
 ghost use Rattle.wdf_model.specs.rules.Ready.{is_open_request};
 ghost use Rattle.wdf_model.specs.rules.Starts.{is_unfinished_at};
-ghost use Rattle.wdf_counts.specs.Counts.{is_at};
+ghost use Rattle.wdf_maps.specs.Counts.{is_at};
 ghost use Rattle.wdf_request.specs.Closing.{closing_requests, due_requests};
 
 mod closing;
@@ -19,8 +19,7 @@ use crate::keys::{open_flag, returning_queue, sent_target, unfinished_device};
 use std::alloc::Global;
 use std::marker::Model;
 use wdf_base::{Mark, Memory, ObjectId, Place, Plan, RequestInfo, Status};
-use wdf_counts::Counts;
-use wdf_maps::{entry_at, object_at, put_at};
+use wdf_maps::{Counts, entry_at, object_at, put_at};
 use wdf_model::{EVENTS, OBJECTS, Request};
 use wdf_sets::IdSet;
 
@@ -201,7 +200,7 @@ impl Requests {
 
     /// Whether some request keeps the run from its end: it arrived and isn't done, or the driver
     /// made it and it is sent.
-    #[tactic(auto, using(wdf_counts::proofs::Counting::any_counted))]
+    #[tactic(auto, using(wdf_maps::proofs::Counting::any_counted))]
     pub fn some_open(&self) -> bool
         ensures { result ≡ list_any is_open_request self.now.all }
     {

@@ -7,8 +7,8 @@ use Rattle.wdf_input.specs.Input.{TakesAll, TakesAtMost, TakesCount, UsesUp}
 use Rattle.wdf_io.specs.Outside.{Gains, Rose, Takes}
 use Rattle.wdf_parse.proofs.Uniqueness.{one_stands}
 use Rattle.wdf_refusals.specs.declared.refusal.PlanRefusal.{PlanRefusal}
-use Rattle.wdf_say.specs.Refusals.{no_memory_line}
-use Rattle.wdf_say.specs.Said.{Sinking, IsCutShort, Says}
+use Rattle.wdf_output.specs.Refusals.{no_memory_line}
+use Rattle.wdf_output.specs.Said.{Sinking, IsCutShort, Says}
 use Rattle.wdf_serve.specs.Runs.{IsSomeTrace, RunsByThreads, threading}
 use Rattle.wdf_serve.specs.Told.{IsDueAs, TellsAs, TellsByThreads}
 use Rattle.wdf_serve.specs.Words.{reads_as, scenario_as}

@@ -8,12 +8,12 @@ use Rattle.wdf_scene.specs.declared.scene.Scene.{Scene}
 use Rattle.wdf_model.specs.rules.Ready.{ending_of, ready}
 use Rattle.wdf_model.proofs.Runs.{picked_is_run, run_opens}
 use Rattle.wdf_dev.specs.Agents.{agent_meaning}
-use Rattle.wdf_kept_laws.proofs.Together.{all_kept}
+use Rattle.law_trace_all.proofs.Together.{all_kept}
 use Rattle.wdf_io.specs.Outside.{Gains}
 use Rattle.wdf_parse.specs.StandsFor.{StandsFor}
 use Rattle.wdf_plan.specs.Plans.{plan_of}
-use Rattle.wdf_say.specs.Endings.{status_of}
-use Rattle.wdf_say.specs.Said.{Sinking}
+use Rattle.wdf_output.specs.Endings.{status_of}
+use Rattle.wdf_output.specs.Said.{Sinking}
 use Rattle.wdf_serve.specs.Runs.{IsSomeTrace, WroteRunTo, WroteSomeRun, is_end_status, threading}
 use Rattle.wdf_serve.specs.Told.{TellsAs, TellsByThreads}
 use Rattle.wdf_serve.specs.Words.{has_picks, writes_run_as}

@@ -1,6 +1,6 @@
 -- What is told, for words that are `run` and for others.
 use Rattle.std.proofs.Common.{ℕ, ◌≡◌, true, false, List}
-use Rattle.wdf_say.specs.Said.{Sinking}
+use Rattle.wdf_output.specs.Said.{Sinking}
 use Rattle.wdf_top.specs.Top.{Sourcing, Tells, service_of}
 use Rattle.wdf_top.specs.Words.{form_of_words}
 use Rattle.wdf_serve.specs.Told.{TellsAs, TellsWords}

@@ -1,6 +1,6 @@
 -- What the top call promises, from what is told.
 use Rattle.std.proofs.Common.{ℕ, ◌≡◌, Bool, true, false, List, Option, Some, refl, arith}
-use Rattle.wdf_say.specs.Said.{Sinking}
+use Rattle.wdf_output.specs.Said.{Sinking}
 use Rattle.wdf_serve.specs.Promises.{Promises}
 use Rattle.wdf_serve.specs.Runs.{threading}
 use Rattle.wdf_serve.specs.Told.{TellsAs, TellsWords}

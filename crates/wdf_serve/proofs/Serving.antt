@@ -1,7 +1,7 @@
 -- What the program does for its arguments.
 use Rattle.std.proofs.Common.{ℕ, ◌≡◌, inl, inr, IsTrue, List, refl}
-use Rattle.wdf_say.specs.Refusals.{no_memory_line}
-use Rattle.wdf_say.specs.Said.{Sinking, Says}
+use Rattle.wdf_output.specs.Refusals.{no_memory_line}
+use Rattle.wdf_output.specs.Said.{Sinking, Says}
 use Rattle.wdf_serve.specs.Promises.{Promises}
 use Rattle.wdf_serve.specs.Runs.{WroteSomeRun, is_end_status}
 use Rattle.wdf_serve.specs.Serving.{Arguments, Serves, words_after_name}

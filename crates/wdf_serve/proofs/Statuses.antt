@@ -2,8 +2,8 @@
 use Rattle.std.proofs.Common.{ℕ, ◌≡◌, ◌≢◌, inl, inr, Bool, true, false, List, refl, sym, ◌∙◌}
 use Rattle.wdf_base.specs.declared.event.Ending.{Ending}
 use Rattle.wdf_base.specs.declared.event.Ending.TheVariants as ending
-use Rattle.wdf_say.specs.Endings.{status_of}
-use Rattle.wdf_say.specs.Said.{Sinking}
+use Rattle.wdf_output.specs.Endings.{status_of}
+use Rattle.wdf_output.specs.Said.{Sinking}
 use Rattle.wdf_serve.specs.Runs.{threading}
 use Rattle.wdf_serve.specs.Told.{TellsByThreads}
 use Rattle.wdf_top.specs.Answers.{Answers}

@@ -8,10 +8,10 @@ use Rattle.wdf_dev.specs.Agents.{agent_meaning}
 use Rattle.wdf_refusals.specs.declared.refusal.PlanRefusal.TheVariants as plans
 use Rattle.wdf_plan.specs.Plans.{plan_of}
 use Rattle.wdf_replay.specs.Texts.{text_of}
-use Rattle.wdf_say.specs.Endings.{status_of}
-use Rattle.wdf_say.specs.Refusals.{no_memory_line}
-use Rattle.wdf_say.specs.Said.{Sinking, Says}
-use Rattle.wdf_say.specs.declared.refusal.Refusal.TheVariants.{NoPlan}
+use Rattle.wdf_output.specs.Endings.{status_of}
+use Rattle.wdf_output.specs.Refusals.{no_memory_line}
+use Rattle.wdf_output.specs.Said.{Sinking, Says}
+use Rattle.wdf_output.specs.declared.refusal.Refusal.TheVariants.{NoPlan}
 use Rattle.wdf_serve.specs.Runs.{IsSomeTrace, TellsSomeRun, threading}
 use Rattle.wdf_serve.specs.Told.{TellsByThreads}
 use Rattle.wdf_top.specs.Answers.{HasPlan}

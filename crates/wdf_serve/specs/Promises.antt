@@ -6,8 +6,8 @@ use Rattle.wdf_base.specs.declared.event.Fault.{Fault}
 use Rattle.wdf_input.specs.Input.{TakesAll, TakesAtMost, TakesCount, UsesUp}
 use Rattle.wdf_io.specs.Outside.{Rose, Gains}
 use Rattle.wdf_refusals.specs.declared.refusal.PlanRefusal.{PlanRefusal}
-use Rattle.wdf_say.specs.Refusals.{no_memory_line}
-use Rattle.wdf_say.specs.Said.{Sinking, IsCutShort}
+use Rattle.wdf_output.specs.Refusals.{no_memory_line}
+use Rattle.wdf_output.specs.Said.{Sinking, IsCutShort}
 use Rattle.wdf_serve.specs.Runs.{IsSomeTrace, RunsByThreads, WroteRunTo, WroteSomeRun, is_end_status}
 use Rattle.wdf_serve.specs.Told.{IsDueFor, TellsWords}
 use Rattle.wdf_serve.specs.Words.{is_run, reads_input, scenario_for, writes_run}

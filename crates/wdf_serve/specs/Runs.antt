@@ -9,10 +9,10 @@ use Rattle.wdf_dev.specs.Agents.{agent_meaning}
 use Rattle.wdf_plan.specs.Plans.{plan_of}
 use Rattle.wdf_replay.specs.Texts.{text_of}
 use Rattle.wdf_io.specs.Outside.{Gains}
-use Rattle.wdf_say.specs.Endings.{status_of}
-use Rattle.wdf_say.specs.Refusals.{no_memory_line}
-use Rattle.wdf_say.specs.Said.{Sinking, Says}
-use Rattle.wdf_kept_laws.specs.Kept.{KeepsLaws}
+use Rattle.wdf_output.specs.Endings.{status_of}
+use Rattle.wdf_output.specs.Refusals.{no_memory_line}
+use Rattle.wdf_output.specs.Said.{Sinking, Says}
+use Rattle.law_trace_all.specs.Kept.{KeepsLaws}
 use Rattle.wdf_top.specs.Answers.{Answering, Answers, HasPlan}
 use Rattle.wdf_top.specs.Top.{Sourcing, IsRead}
 

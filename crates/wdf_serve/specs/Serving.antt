@@ -7,8 +7,8 @@ use Rattle.std.specs.declared.io.Error.{Error}
 use Rattle.std.specs.declared.io.ErrorKind.TheVariants.{OutOfMemory}
 use Rattle.std.specs.declared.string.String.{String}
 use Rattle.std.specs.declared.vec.IntoIter.{IntoIter}
-use Rattle.wdf_say.specs.Refusals.{no_memory_line}
-use Rattle.wdf_say.specs.Said.{Sinking, Says}
+use Rattle.wdf_output.specs.Refusals.{no_memory_line}
+use Rattle.wdf_output.specs.Said.{Sinking, Says}
 use Rattle.wdf_serve.specs.Promises.{Promises}
 use Rattle.wdf_top.specs.Top.{Sourcing, IsUnread}
 

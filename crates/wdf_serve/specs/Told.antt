@@ -1,6 +1,6 @@
 -- What the program answers and what it writes, for all words that it serves. (own)
 use Rattle.std.specs.Prelude.{ℕ, Bool, true, false, List, Option}
-use Rattle.wdf_say.specs.Said.{Sinking, Says}
+use Rattle.wdf_output.specs.Said.{Sinking, Says}
 use Rattle.wdf_top.specs.declared.words.Form.{Form}
 use Rattle.wdf_top.specs.Top.{Sourcing, IsDue, IsReadDue, service_of}
 use Rattle.wdf_top.specs.Words.{form_of_words}

@@ -1,7 +1,7 @@
 //! The top call, for all words.
 ghost use Rattle.std.specs.Prelude.{◌≡◌, map, string_bytes};
 ghost use Rattle.wdf_io.specs.Outside.{EndsRefused};
-ghost use Rattle.wdf_say.specs.Said.{sinking};
+ghost use Rattle.wdf_output.specs.Said.{sinking};
 ghost use Rattle.wdf_serve.specs.Promises.{Promises};
 ghost use Rattle.wdf_serve.specs.Told.{TellsWords};
 ghost use Rattle.wdf_top.specs.Top.{sourcing};

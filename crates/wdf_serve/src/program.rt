@@ -3,8 +3,8 @@ ghost use Rattle.std.specs.Prelude.{◌≡◌, IfOk, IsErr, IsTrue, map, drop, s
 ghost use Rattle.std.specs.Vec.Iter.{into_iter_items};
 ghost use Rattle.wdf_io.specs.Outside.{EndsRefused};
 ghost use Rattle.wdf_io.specs.Streams.{RefusedBy};
-ghost use Rattle.wdf_say.specs.Refusals.{no_memory_line};
-ghost use Rattle.wdf_say.specs.Said.{Says, sinking};
+ghost use Rattle.wdf_output.specs.Refusals.{no_memory_line};
+ghost use Rattle.wdf_output.specs.Said.{Says, sinking};
 ghost use Rattle.wdf_serve.specs.Runs.{WroteSomeRun, is_end_status};
 ghost use Rattle.wdf_serve.specs.Serving.{Serves, LacksMemory, words_after_name};
 ghost use Rattle.wdf_serve.specs.Words.{writes_run};
@@ -18,7 +18,7 @@ use std::io;
 use std::io::{ErrorKind, Read, Write};
 use std::thread::Threads;
 use wdf_io::{ReadSource, WriteSink};
-use wdf_say::{Refusal, tell};
+use wdf_output::{Refusal, tell};
 use wdf_turn::Gate;
 
 /// Serves the program's arguments over a reader and a writer, and answers the status to end with: it is

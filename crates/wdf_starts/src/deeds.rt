@@ -12,7 +12,7 @@ use wdf_base::{
 };
 use wdf_model::Deed;
 use wdf_parts::{Deeds, Parts};
-use wdf_plans::IndexedPlan;
+use wdf_plan_index::IndexedPlan;
 
 /// What a start of this rank does of its own, for a request. (KMDF)
 fn effect_for(rank: Rank, o: ObjectId, r: ObjectId) -> Option<Deed>

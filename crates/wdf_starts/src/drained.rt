@@ -6,7 +6,7 @@ ghost use Rattle.wdf_model.specs.rules.Starts as starts;
 
 use wdf_base::{Agent, ObjectId};
 use wdf_parts::Parts;
-use wdf_plans::IndexedPlan;
+use wdf_plan_index::IndexedPlan;
 
 /// Whether all arrived requests of a device are done, and nothing is sent to its targets.
 pub fn is_drained<A: Agent>(plan: &IndexedPlan, parts: &Parts<A>, d: ObjectId) -> bool

@@ -6,7 +6,7 @@ ghost use Rattle.wdf_model.specs.rules.Starts as starts;
 
 use wdf_base::{Agent, ObjectId};
 use wdf_parts::Parts;
-use wdf_plans::IndexedPlan;
+use wdf_plan_index::IndexedPlan;
 
 /// The number from which an agent numbers the level lines of its interrupts, after its registers.
 const LINES: u32 = 64;

@@ -4,7 +4,7 @@ ghost use Rattle.wdf_model.specs.rules.Starts as starts;
 
 use wdf_base::{Agent, Callback, Kind, ObjectId};
 use wdf_parts::Parts;
-use wdf_plans::IndexedPlan;
+use wdf_plan_index::IndexedPlan;
 use wdf_same::same_kind;
 
 /// Whether no frame runs on an object, holds its lock or waits for it.

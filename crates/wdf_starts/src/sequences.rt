@@ -10,7 +10,7 @@ use crate::settled::{is_quiet, is_settled};
 use wdf_base::{Agent, Callback, Handle, LockRef, ObjectId, Stage, Step};
 use wdf_model::Deed;
 use wdf_parts::{Deeds, Parts};
-use wdf_plans::IndexedPlan;
+use wdf_plan_index::IndexedPlan;
 
 /// Whether the step after `queues_up` needn't wait: no resume is due, and no EvtIoResume runs.
 pub fn resumes_over<A: Agent>(parts: &Parts<A>, d: ObjectId) -> bool

@@ -8,7 +8,7 @@ ghost use Rattle.wdf_model.specs.rules.Starts as starts;
 
 use wdf_base::{Agent, Callback, ObjectId};
 use wdf_parts::Parts;
-use wdf_plans::IndexedPlan;
+use wdf_plan_index::IndexedPlan;
 
 /// Whether no EvtInterruptDpc of a device is queued or runs.
 pub fn is_quiet<A: Agent>(plan: &IndexedPlan, parts: &Parts<A>, d: ObjectId) -> bool

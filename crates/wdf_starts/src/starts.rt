@@ -8,7 +8,7 @@ use crate::ranks::is_ready_for;
 use wdf_base::{Agent, Callback, Cpu, Handle, Irql, LockRef, ObjectId};
 use wdf_lock::lock_of_callback;
 use wdf_parts::Parts;
-use wdf_plans::IndexedPlan;
+use wdf_plan_index::IndexedPlan;
 
 /// Whether an object's life fits a callback on it: it is live, but for its cleanup and destroy
 /// callbacks.

@@ -7,7 +7,7 @@ use Rattle.wdf_model.specs.State.{State}
 use Rattle.wdf_model.specs.declared.deed.Deed.{Deed}
 use Rattle.wdf_model.specs.rules.Deeds.{counted, do_deed, do_deeds}
 use Rattle.wdf_model.proofs.Counting.{counted_first, counting_commutes}
-use Rattle.wdf_room.specs.Room.{AreDoable}
+use Rattle.wdf_model.specs.rules.Room.{AreDoable}
 
 pub done_after : {A : Type 0} (plan : Plan) (ds es : List Deed) (S : State A) → do_deeds plan (ds ++ es) S ≡ do_deeds plan es (do_deeds plan ds S)
 done_after plan [] es S = refl

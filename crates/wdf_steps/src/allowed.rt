@@ -10,7 +10,7 @@ use wdf_base::{
     Agent, Callback, Cpu, Event, FrameId, Handle, ObjectId, Place, Status, same_status,
 };
 use wdf_parts::Parts;
-use wdf_plans::IndexedPlan;
+use wdf_plan_index::IndexedPlan;
 use wdf_posts::may_post;
 use wdf_same::same_event;
 use wdf_starts::{callback_over, clean_ready, destroy_ready, may_pass, may_start};

@@ -13,7 +13,7 @@ use wdf_base::{Agent, Call, Cpu, Event, Frame, FrameId, Value};
 use wdf_calls::{outcome, second_deeds};
 use wdf_model::Deed;
 use wdf_parts::{Deeds, Parts};
-use wdf_plans::IndexedPlan;
+use wdf_plan_index::IndexedPlan;
 use wdf_posts::post_deeds;
 use wdf_script::next;
 use wdf_starts::{end_deeds, stage_deeds, start_deeds};

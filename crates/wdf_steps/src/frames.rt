@@ -3,7 +3,7 @@ ghost use Rattle.std.specs.Prelude.{◌≡◌, ◌+◌, ◌<◌, ◌^◌, slice_
 ghost use Rattle.wdf_model.specs.rules.Steps as steps;
 
 use wdf_base::{Act, Call, Change, Frame, Intent, Pending, Statement, VARIABLES, Value};
-use wdf_plans::IndexedPlan;
+use wdf_plan_index::IndexedPlan;
 use wdf_script::statement_at;
 
 /// A frame at the statement that follows.

@@ -11,7 +11,7 @@ use crate::view::TopFrame;
 use wdf_base::{Access, Agent, Call, Cpu, Event, Fault, Frame, FrameId, Intent, Pending};
 use wdf_calls::{is_met, is_met_then, outcome};
 use wdf_parts::Parts;
-use wdf_plans::IndexedPlan;
+use wdf_plan_index::IndexedPlan;
 use wdf_rules::fault_of;
 use wdf_script::{line_of, next};
 use wdf_starts::shown;

@@ -3,13 +3,13 @@ ghost use Rattle.std.specs.Prelude.{◌≡◌, ℕ, ◌+◌, ◌<◌, ◌^◌};
 ghost use Rattle.wdf_model.specs.rules.Steps as steps;
 ghost use Rattle.wdf_model.specs.rules.Deeds.{do_deeds};
 ghost use Rattle.wdf_model.specs.Tables.{entry};
-ghost use Rattle.wdf_room.specs.Room.{AreDoable};
+ghost use Rattle.wdf_model.specs.rules.Room.{AreDoable};
 ghost use Rattle.wdf_steps.specs.Clock.{FitsClock};
 
 use crate::course::{Course, deeds};
 use wdf_base::{Agent, Event};
 use wdf_parts::Parts;
-use wdf_plans::IndexedPlan;
+use wdf_plan_index::IndexedPlan;
 
 /// Does the deeds of an event.
 #[tactic(auto, using(crate::proofs::Parts::done_after, crate::proofs::Parts::doable_first, crate::proofs::Parts::doable_then))]

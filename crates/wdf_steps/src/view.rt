@@ -4,7 +4,7 @@ ghost use Rattle.std.specs.Prelude.{◌≡◌};
 use wdf_base::{Agent, Cpu, Frame, FrameId, Irql, Kind, Life, LockRef, Mark, ObjectId, Place};
 use wdf_lock::scope_of_object;
 use wdf_parts::Parts;
-use wdf_plans::IndexedPlan;
+use wdf_plan_index::IndexedPlan;
 use wdf_rules::View;
 
 /// The top frame of a processor in a state.

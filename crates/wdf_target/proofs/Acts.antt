@@ -6,8 +6,8 @@ use Rattle.wdf_base.specs.declared.value.Status.{Status}
 use Rattle.wdf_model.specs.Tables.{entry, put}
 use Rattle.wdf_model.specs.parts.Targets.{Target, Targets, no_target, takes_more, sending_of, new_sending, sending_in_order, without_sending, target_done, with_target, back, done}
 use Rattle.wdf_model.proofs.Maps.{entry_past, entry_blanked, entry_set_other, entry_put_same, entry_put_other, put_within}
-use Rattle.wdf_rising.specs.Places.{entry_of}
-use Rattle.wdf_rising.proofs.EntriesById.{entry_added, entry_beside, entry_left, entry_removed}
+use Rattle.wdf_maps.specs.Places.{entry_of}
+use Rattle.wdf_maps.proofs.EntriesById.{entry_added, entry_beside, entry_left, entry_removed}
 use Rattle.wdf_target.specs.Target.{request_id}
 use Rattle.wdf_target.specs.Targets.{is_with, IsKept}
 use Rattle.wdf_target.proofs.Kept.{with_itself, with_other, its_target, other_target, no_target_has, target_within, found_there, none_changes, one_changes, Moves}

@@ -11,7 +11,7 @@ use Rattle.wdf_model.specs.Tables.{entry}
 use Rattle.wdf_model.specs.Plans.{target_of}
 use Rattle.wdf_model.specs.parts.Targets.{Target, no_target, opening_target, sending_of}
 use Rattle.wdf_model.proofs.Maps.{entry_past, entry_set_other}
-use Rattle.wdf_rising.specs.Places.{entry_of}
+use Rattle.wdf_maps.specs.Places.{entry_of}
 use Rattle.wdf_target.specs.Target.{request_id}
 use Rattle.wdf_target.specs.Targets.{is_with, IsKept}
 

@@ -5,9 +5,9 @@ use Rattle.std.proofs.lemmas.Bool.Decides.{nat_tests}
 use Rattle.wdf_base.specs.declared.value.Status.{Status}
 use Rattle.wdf_model.specs.declared.entries.Sending.{Sending}
 use Rattle.wdf_model.specs.parts.Targets.{Target, done_sending, target_done, without_sending, new_sending, sending_in_order}
-use Rattle.wdf_rising.specs.Places.{rises, entry_of, others, with_entry}
-use Rattle.wdf_rising.proofs.PlacesOfKeys.{none_below, rises_rest, rises_with_entry}
-use Rattle.wdf_rising.proofs.EntriesById.{entry_below, entry_key, others_absent, map_absent, map_present, entry_put, entry_removed}
+use Rattle.wdf_maps.specs.Places.{rises, entry_of, others, with_entry}
+use Rattle.wdf_maps.proofs.PlacesOfKeys.{none_below, rises_rest, rises_with_entry}
+use Rattle.wdf_maps.proofs.EntriesById.{entry_below, entry_key, others_absent, map_absent, map_present, entry_put, entry_removed}
 use Rattle.wdf_target.specs.Target.{request_id}
 
 -- the test of `target_done`

@@ -3,7 +3,7 @@ use Rattle.std.specs.Prelude.{ℕ, ◌≡◌, min, true}
 use Rattle.wdf_model.specs.declared.room.TheConstants.{OBJECTS}
 use Rattle.wdf_model.specs.declared.entries.Sending.{Sending}
 use Rattle.wdf_model.specs.parts.Targets.{Target}
-use Rattle.wdf_rising.specs.Places.{rises}
+use Rattle.wdf_maps.specs.Places.{rises}
 use Rattle.wdf_target.specs.declared.target.Target.TheInside.{Inside}
 
 abbrev pub target_in : Inside → Target

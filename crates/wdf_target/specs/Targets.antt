@@ -4,7 +4,7 @@ use Rattle.wdf_base.specs.declared.ids.ObjectId.{ObjectId}
 use Rattle.wdf_model.specs.declared.room.TheConstants.{OBJECTS}
 use Rattle.wdf_model.specs.Tables.{entry}
 use Rattle.wdf_model.specs.parts.Targets.{Target, Targets, no_target}
-use Rattle.wdf_rising.specs.Places.{entry_of}
+use Rattle.wdf_maps.specs.Places.{entry_of}
 use Rattle.wdf_target.specs.declared.targets.Targets.TheInside.{Inside}
 use Rattle.wdf_target.specs.Target.{request_id}
 

@@ -1,13 +1,13 @@
 ghost use Rattle.std.specs.Prelude.{◌≡◌, ◌<◌, ◌&&◌, IfOk, None, [], is_some, length, nat_lt, not, slice_get};
 ghost use Rattle.wdf_model.specs.parts.Targets as targets;
-ghost use Rattle.wdf_rising.specs.Places.{entry_of};
+ghost use Rattle.wdf_maps.specs.Places.{entry_of};
 ghost use Rattle.wdf_target.specs.Target.{request_id};
 
 use std::alloc::Global;
 use std::marker::Model;
 use wdf_base::{Memory, ObjectId, Status, TargetInfo};
+use wdf_maps::Rising;
 use wdf_model::{OBJECTS, Sending};
-use wdf_rising::Rising;
 
 /// An I/O target. For an object that is none it is stopped, and holds nothing.
 #[derive(Drop)]

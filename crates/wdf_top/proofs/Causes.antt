@@ -16,12 +16,12 @@ use Rattle.wdf_top.specs.declared.run.Picks.{Picks}
 use Rattle.wdf_top.specs.declared.run.Picks.TheVariants.{Listed, Seeded}
 use Rattle.wdf_top.specs.declared.words.Form.{Form}
 use Rattle.wdf_top.specs.declared.words.Form.TheVariants.{Check, Order, Seed, Replay, Gen, Load}
-use Rattle.wdf_say.specs.Endings.{status_of}
+use Rattle.wdf_output.specs.Endings.{status_of}
 use Rattle.wdf_top.specs.Answers.{Answering, Answers, HasNoScene, HasNoPlan, HasPlan, IsTraceOf, IsSummaryOf, picks_of, running, checking, judging}
 use Rattle.wdf_top.specs.Causes.{WroteRun, WroteSummary, WroteFor, is_reading, picks_for, Stayed}
 use Rattle.wdf_input.specs.Input.{TakesAll, TakesCount}
-use Rattle.wdf_say.specs.Refusals.{no_memory_line}
-use Rattle.wdf_say.specs.Said.{Sinking, IsCutShort}
+use Rattle.wdf_output.specs.Refusals.{no_memory_line}
+use Rattle.wdf_output.specs.Said.{Sinking, IsCutShort}
 use Rattle.wdf_top.specs.Top.{Sourcing, Service, IsAnswered, IsReadDue, Tells, Usage, Canonical, Run, Judgement, Scenario, Summary, scenario_by, service_of}
 use Rattle.wdf_top.proofs.Ended.{has_ended}
 use Rattle.wdf_top.proofs.Given.{answered}

@@ -16,15 +16,15 @@ use Rattle.wdf_plan.specs.Plans.{plan_of}
 use Rattle.wdf_input.specs.declared.input.TheConstants.{INPUT_LIMIT}
 use Rattle.wdf_top.specs.declared.run.Picks.{Picks}
 use Rattle.wdf_top.specs.declared.run.Picks.TheVariants.{Seeded}
-use Rattle.wdf_say.specs.declared.refusal.Refusal.{Refusal}
-use Rattle.wdf_say.specs.declared.refusal.Refusal.TheVariants.{ReadFault, TooLarge, NoMemory, NoScene, NoPlan}
+use Rattle.wdf_output.specs.declared.refusal.Refusal.{Refusal}
+use Rattle.wdf_output.specs.declared.refusal.Refusal.TheVariants.{ReadFault, TooLarge, NoMemory, NoScene, NoPlan}
 use Rattle.wdf_replay.specs.Texts.{text_of}
-use Rattle.wdf_say.specs.Endings.{status_of}
+use Rattle.wdf_output.specs.Endings.{status_of}
 use Rattle.wdf_top.specs.Answers.{Answering, HasPlan, IsTraceOf, IsVerdict, IsSummaryOf, picks_of, running, judging}
 use Rattle.wdf_top.specs.Causes.{IsCause, IsTextCause}
 use Rattle.wdf_input.specs.Input.{TakesAll, TakesAtMost}
-use Rattle.wdf_say.specs.Refusals.{refusal_line, refusal_status, parse_line, plan_line, read_fault_line, too_large_line, no_memory_line}
-use Rattle.wdf_say.specs.Said.{Sinking, Says}
+use Rattle.wdf_output.specs.Refusals.{refusal_line, refusal_status, parse_line, plan_line, read_fault_line, too_large_line, no_memory_line}
+use Rattle.wdf_output.specs.Said.{Sinking, Says}
 use Rattle.wdf_split.specs.Inputs.{scenario_in, trace_in}
 use Rattle.wdf_summary.specs.Counts.{summary_text}
 use Rattle.wdf_gen.specs.Generated.{generated}

@@ -13,7 +13,7 @@ use Rattle.wdf_top.specs.declared.run.Picks.{Picks}
 use Rattle.wdf_top.specs.Answers.{Answering, Answers, HasNoScene, HasNoPlan, HasPlan, IsTraceOf, picks_of, running, checking, judging}
 use Rattle.wdf_top.specs.Causes.{IsGiven, Stayed, Unhindered}
 use Rattle.wdf_input.specs.Input.{TakesAll, TakesAtMost, TakesCount, UsesUp}
-use Rattle.wdf_say.specs.Said.{Sinking, IsCutShort}
+use Rattle.wdf_output.specs.Said.{Sinking, IsCutShort}
 use Rattle.wdf_top.specs.Top.{Sourcing, IsAnswered, IsReadDue, Tells, Usage, Canonical, Run, Judgement, Scenario, Summary, Service, scenario_by}
 use Rattle.wdf_top.proofs.Statuses.{IsReader, ToldBy}
 

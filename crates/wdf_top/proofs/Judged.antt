@@ -26,7 +26,7 @@ use Rattle.wdf_replay.specs.Verdicts.{GivesVerdict, IsAccepted, IsBad, IsLeft, I
 use Rattle.wdf_replay.proofs.Complete.{complete}
 use Rattle.wdf_replay.proofs.RunLines.{end_lines_over}
 use Rattle.wdf_split.specs.Inputs.{scenario_in, trace_in}
-use Rattle.wdf_say.specs.Said.{Sinking, Says}
+use Rattle.wdf_output.specs.Said.{Sinking, Says}
 use Rattle.wdf_top.specs.declared.words.Form.{Form}
 use Rattle.wdf_top.specs.declared.words.Form.TheVariants.{Check, Order, Seed, Replay, Gen, Load}
 use Rattle.wdf_top.specs.declared.run.Picks.TheVariants.{Listed, Seeded}

@@ -1,6 +1,6 @@
 -- What the top call promises, from what is told.
 use Rattle.std.proofs.Common.{ℕ, Option, Some}
-use Rattle.wdf_say.specs.Said.{Sinking}
+use Rattle.wdf_output.specs.Said.{Sinking}
 use Rattle.wdf_top.specs.declared.words.Form.{Form}
 use Rattle.wdf_top.specs.Answers.{running, checking, judging}
 use Rattle.wdf_top.specs.Promises.{PlainPromises}

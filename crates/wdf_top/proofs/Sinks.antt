@@ -2,7 +2,7 @@
 use Rattle.std.proofs.Common.{ℕ, ◌≡◌, ◌≢◌, ◌<◌, inl, inr, List, sym, ◌∙◌, arith}
 use Rattle.wdf_io.specs.Outside.{Gains}
 use Rattle.wdf_top.specs.Causes.{Stayed}
-use Rattle.wdf_say.specs.Said.{Sinking, IsCutShort}
+use Rattle.wdf_output.specs.Said.{Sinking, IsCutShort}
 use Rattle.wdf_top.specs.Top.{Sourcing, Service, IsDue, Tells}
 use Rattle.wdf_top.proofs.Statuses.{due_no_sink}
 

@@ -5,8 +5,8 @@ use Rattle.wdf_base.specs.declared.event.Ending.TheVariants as ending
 use Rattle.wdf_scene.specs.declared.scene.Scene.{Scene}
 use Rattle.wdf_io.specs.Outside.{Rose}
 use Rattle.wdf_parse.specs.StandsFor.{StandsFor}
-use Rattle.wdf_say.specs.Endings.{status_of}
-use Rattle.wdf_say.specs.Said.{Sinking, IsCutShort, Says}
+use Rattle.wdf_output.specs.Endings.{status_of}
+use Rattle.wdf_output.specs.Said.{Sinking, IsCutShort, Says}
 use Rattle.wdf_top.specs.declared.run.Picks.{Picks}
 use Rattle.wdf_top.specs.declared.words.Form.{Form}
 use Rattle.wdf_top.specs.declared.words.Form.TheVariants.{Check, Order, Seed, Replay, Gen, Load}

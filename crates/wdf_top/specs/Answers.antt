@@ -22,8 +22,8 @@ use Rattle.wdf_replay.specs.declared.verdict.Why.{Why}
 use Rattle.wdf_replay.specs.declared.verdict.Why.TheVariants as why
 use Rattle.wdf_replay.specs.Texts.{text_of}
 use Rattle.wdf_replay.specs.Verdicts as verdict
-use Rattle.wdf_say.specs.Endings.{status_of}
-use Rattle.wdf_say.specs.Refusals.{parse_line, plan_line}
+use Rattle.wdf_output.specs.Endings.{status_of}
+use Rattle.wdf_output.specs.Refusals.{parse_line, plan_line}
 use Rattle.wdf_split.specs.Inputs.{scenario_in, trace_in}
 use Rattle.wdf_summary.specs.Counts.{summary_text}
 use Rattle.wdf_top.specs.declared.run.Picks.{Picks}

@@ -22,13 +22,13 @@ use Rattle.wdf_io.specs.Outside.{Rose, Gains}
 use Rattle.wdf_top.specs.declared.words.Form.{Form}
 use Rattle.wdf_top.specs.declared.words.Form.TheVariants.{Check, Order, Seed, Replay, Gen, Load}
 use Rattle.wdf_input.specs.declared.input.TheConstants.{INPUT_LIMIT}
-use Rattle.wdf_say.specs.declared.refusal.Refusal.{Refusal}
-use Rattle.wdf_say.specs.declared.refusal.Refusal.TheVariants.{ReadFault, TooLarge, NoMemory, NoScene, NoPlan}
+use Rattle.wdf_output.specs.declared.refusal.Refusal.{Refusal}
+use Rattle.wdf_output.specs.declared.refusal.Refusal.TheVariants.{ReadFault, TooLarge, NoMemory, NoScene, NoPlan}
 use Rattle.wdf_top.specs.declared.run.Picks.{Picks}
 use Rattle.wdf_top.specs.declared.run.Picks.TheVariants.{Listed, Seeded}
 use Rattle.wdf_top.specs.Answers.{HasPlan, picks_of, accepted_line, refused_line}
 use Rattle.wdf_input.specs.Input.{TakesAll, TakesCount, TakesAtMost}
-use Rattle.wdf_say.specs.Said.{Sinking}
+use Rattle.wdf_output.specs.Said.{Sinking}
 use Rattle.wdf_top.specs.Top.{Sourcing, IsRead}
 
 -- ---- forms of words

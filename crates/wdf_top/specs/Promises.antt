@@ -14,8 +14,8 @@ use Rattle.wdf_refusals.specs.declared.refusal.PlanRefusal.{PlanRefusal}
 use Rattle.wdf_replay.specs.declared.verdict.Why.{Why}
 use Rattle.wdf_replay.specs.declared.verdict.Why.TheVariants as why
 use Rattle.wdf_replay.specs.Verdicts.{IsRefused, IsWhole}
-use Rattle.wdf_say.specs.Refusals.{no_memory_line}
-use Rattle.wdf_say.specs.Said.{Sinking, IsCutShort}
+use Rattle.wdf_output.specs.Refusals.{no_memory_line}
+use Rattle.wdf_output.specs.Said.{Sinking, IsCutShort}
 use Rattle.wdf_split.specs.Inputs.{scenario_in, trace_in}
 use Rattle.wdf_top.specs.Answers.{Runs, Checks, Judges, HasNoScene, HasNoPlan, HasPlan, IsTraceOf, IsVerdict, IsSummaryOf, picks_of, refused_line}
 use Rattle.wdf_top.specs.Causes.{is_reading, is_status, picks_for, IsGiven, Stayed, Unhindered, WroteAccepted, WroteFor, WroteRefused, WroteRun, WroteSummary}

@@ -11,8 +11,8 @@ use Rattle.wdf_top.specs.declared.run.Picks.TheVariants.{Listed, Seeded}
 use Rattle.wdf_input.specs.declared.input.TheConstants.{INPUT_LIMIT}
 use Rattle.wdf_top.specs.Answers.{Answering, Answers, running, checking, judging, IsTraceOf, IsVerdict, IsSummaryOf}
 use Rattle.wdf_input.specs.Input.{TakesAll, TakesCount, TakesAtMost}
-use Rattle.wdf_say.specs.Refusals.{read_fault_line, too_large_line, no_memory_line}
-use Rattle.wdf_say.specs.Said.{Sinking, Says}
+use Rattle.wdf_output.specs.Refusals.{read_fault_line, too_large_line, no_memory_line}
+use Rattle.wdf_output.specs.Said.{Sinking, Says}
 use Rattle.wdf_split.specs.Inputs.{scenario_in}
 
 abbrev pub usage_line : List ℕ

@@ -3,15 +3,15 @@ ghost use Rattle.std.specs.Prelude.{◌≡◌, IfOk};
 ghost use Rattle.wdf_gen.specs.Generated.{generated};
 ghost use Rattle.wdf_io.specs.Outside.{EndsRefused};
 ghost use Rattle.wdf_parse.specs.Printing.{printed};
-ghost use Rattle.wdf_say.specs.Said.{sinking};
+ghost use Rattle.wdf_output.specs.Said.{sinking};
 ghost use Rattle.wdf_top.specs.Top.{TellsScenario};
 
 use std::alloc::Global;
 use wdf_base::Memory;
 use wdf_gen::generate;
 use wdf_io::Sink;
+use wdf_output::{Refusal, say, tell};
 use wdf_parse::print;
-use wdf_say::{Refusal, say, tell};
 
 /// Writes the scenario that a number generates, or the line `out of memory`.
 pub fn tell_generated<K: Sink>(alloc: Global, number: u64, sink: &mut K) -> u8

@@ -6,7 +6,7 @@ ghost use Rattle.wdf_io.specs.Outside.{EndsRefused};
 ghost use Rattle.wdf_model.specs.rules.Ready.{IsPickedRun};
 ghost use Rattle.wdf_plan.specs.Plans.{plan_of};
 ghost use Rattle.wdf_run.specs.Seeds.{seed_words};
-ghost use Rattle.wdf_say.specs.Said.{sinking};
+ghost use Rattle.wdf_output.specs.Said.{sinking};
 ghost use Rattle.wdf_top.specs.Top.{TellsSummary};
 
 use crate::run::run_seeded;
@@ -16,8 +16,8 @@ use wdf_core::Core;
 use wdf_dev::AnyAgent;
 use wdf_gen::generate;
 use wdf_io::Sink;
+use wdf_output::{Refusal, say, status_of, tell};
 use wdf_plan::resolve;
-use wdf_say::{Refusal, say, status_of, tell};
 use wdf_summary::summary;
 
 /// Runs the scenario that a number generates by the words of the same number, and writes the summary of the

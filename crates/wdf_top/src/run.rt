@@ -6,7 +6,7 @@ ghost use Rattle.wdf_model.specs.rules.Ready.{IsPickedRun};
 ghost use Rattle.wdf_dev.specs.Agents.{agent_meaning};
 ghost use Rattle.wdf_run.specs.Seeds.{seed_words};
 ghost use Rattle.wdf_top.specs.Answers.{picks_of};
-ghost use Rattle.wdf_say.specs.Said.{sinking};
+ghost use Rattle.wdf_output.specs.Said.{sinking};
 ghost use Rattle.wdf_top.specs.Top.{TellsPlan};
 
 use std::alloc::Global;
@@ -14,8 +14,8 @@ use wdf_base::{Memory, Plan};
 use wdf_core::Core;
 use wdf_dev::{AnyAgent, agents};
 use wdf_io::Sink;
+use wdf_output::{Refusal, tell, write_run};
 use wdf_run::{run_order, run_seed};
-use wdf_say::{Refusal, tell, write_run};
 
 /// What picks the events of a run.
 #[derive(Clone, Copy, Debug, PartialEq, Eq)]

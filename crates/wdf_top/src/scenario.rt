@@ -13,9 +13,9 @@ use std::alloc::Global;
 use wdf_base::Plan;
 use wdf_input::read_whole;
 use wdf_io::Source;
+use wdf_output::Refusal;
 use wdf_parse::{TEXT_LIMIT, parse, print};
 use wdf_plan::resolve;
-use wdf_say::Refusal;
 
 /// Reads the whole input and resolves its scene.
 ///

@@ -1,7 +1,7 @@
 //! The top call without threads.
 ghost use Rattle.std.specs.Prelude.{◌≡◌, map, string_bytes};
 ghost use Rattle.wdf_io.specs.Outside.{EndsRefused};
-ghost use Rattle.wdf_say.specs.Said.{sinking};
+ghost use Rattle.wdf_output.specs.Said.{sinking};
 ghost use Rattle.wdf_top.specs.Promises.{PlainPromises};
 ghost use Rattle.wdf_top.specs.Top.{Canonical, Run, Judgement, service_of, Tells, sourcing};
 ghost use Rattle.wdf_top.specs.Words.{form_of_words};
@@ -14,7 +14,7 @@ use crate::verdict::judge_input;
 use crate::words::{Form, form_of};
 use std::alloc::Global;
 use wdf_io::{Sink, Source};
-use wdf_say::{say, tell};
+use wdf_output::{say, tell};
 
 /// What is written for words of no form.
 const USAGE: &[u8] = b"usage: kmdfsim check | order | seed N | run | replay | gen N | load N\n";

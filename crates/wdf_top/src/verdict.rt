@@ -2,7 +2,7 @@
 ghost use Rattle.std.specs.Prelude.{◌≡◌, ◌≢◌, ◌≤◌, [], length};
 ghost use Rattle.wdf_base.specs.Resolved.{IsResolved};
 ghost use Rattle.wdf_io.specs.Outside.{EndsRefused};
-ghost use Rattle.wdf_say.specs.Said.{Says, sinking};
+ghost use Rattle.wdf_output.specs.Said.{Says, sinking};
 ghost use Rattle.wdf_top.specs.Answers.{accepted_line, refused_line, verdict_line, verdict_status, why_word};
 ghost use Rattle.wdf_top.specs.Top.{IsRead, Judgement, Sourcing, Tells, TellsVerdict};
 
@@ -13,9 +13,9 @@ use wdf_base::{Ending, Plan};
 use wdf_core::Core;
 use wdf_dev::AnyAgent;
 use wdf_io::Sink;
+use wdf_output::{Message, Refusal, ending_word, say, tell};
 use wdf_parse::TEXT_LIMIT;
 use wdf_replay::{Verdict, Why, from_place, replay};
-use wdf_say::{Message, Refusal, ending_word, say, tell};
 use wdf_split::split;
 
 /// The status of a trace that is refused.

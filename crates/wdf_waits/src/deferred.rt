@@ -8,7 +8,7 @@ use wdf_causes::{
     DISPATCH_LEVEL, PASSIVE_LEVEL, by_frame_on, cpu_of_dpc, head_lock, no_cpu, scope_is_held,
 };
 use wdf_parts::Parts;
-use wdf_plans::IndexedPlan;
+use wdf_plan_index::IndexedPlan;
 use wdf_starts::level_fits;
 
 /// Whether an object is a queued DPC or work item, or a timer whose tick is reached.

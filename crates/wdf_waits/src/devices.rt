@@ -13,7 +13,7 @@ use wdf_causes::{
 use wdf_lock::lock_of_callback;
 use wdf_maps::lesser_if;
 use wdf_parts::Parts;
-use wdf_plans::IndexedPlan;
+use wdf_plan_index::IndexedPlan;
 
 /// The object of a step's callback: the interrupt, or the device where there is none.
 fn object_of_step(d: ObjectId, interrupt: Option<Handle>) -> ObjectId

@@ -17,7 +17,7 @@ use wdf_causes::{
 use wdf_maps::lesser_if;
 use wdf_model::object_in;
 use wdf_parts::Parts;
-use wdf_plans::IndexedPlan;
+use wdf_plan_index::IndexedPlan;
 
 /// The least request that the driver holds from a queue.
 fn by_held<A: Agent>(plan: &IndexedPlan, parts: &Parts<A>, q: ObjectId) -> Option<Cause>

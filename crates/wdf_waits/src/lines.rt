@@ -6,7 +6,7 @@ ghost use Rattle.wdf_waits.specs.Lines as lines;
 use crate::section::{SECTIONS, Section, has_line, line_in, section_end};
 use wdf_base::{Agent, WaitLine};
 use wdf_parts::Parts;
-use wdf_plans::IndexedPlan;
+use wdf_plan_index::IndexedPlan;
 
 #[tactic(auto, using(crate::proofs::OnLines::lines_at_first, crate::proofs::OnLines::line_counts, crate::proofs::OnLines::line_skips, crate::proofs::OnLines::lines_at_end))]
 /// How many lines a section has.

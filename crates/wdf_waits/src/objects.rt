@@ -14,7 +14,7 @@ use wdf_causes::{
 };
 use wdf_maps::lesser_if;
 use wdf_parts::Parts;
-use wdf_plans::IndexedPlan;
+use wdf_plan_index::IndexedPlan;
 use wdf_starts::{clean_ready, destroy_ready};
 
 /// Whether the deletion of an object is asked and hasn't come to its end.

@@ -13,7 +13,7 @@ use wdf_base::{Agent, Callback, Cause, ObjectId, OpenThing, Place, WaitLine};
 use wdf_causes::{least_ahead, no_cpu, scope_is_held};
 use wdf_model::{Mode, Request};
 use wdf_parts::Parts;
-use wdf_plans::IndexedPlan;
+use wdf_plan_index::IndexedPlan;
 
 /// Whether a queue delivers in a mode. (KMDF)
 fn delivers_in(mode: Mode) -> bool

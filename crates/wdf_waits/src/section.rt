@@ -12,7 +12,7 @@ use crate::requests::{has_line_at, is_open_request, request_line};
 use wdf_base::{Agent, FrameId, ObjectId, OpenThing, Post, WaitLine};
 use wdf_model::Request;
 use wdf_parts::Parts;
-use wdf_plans::IndexedPlan;
+use wdf_plan_index::IndexedPlan;
 use wdf_posts::due_of;
 
 /// The sections of the wait list.

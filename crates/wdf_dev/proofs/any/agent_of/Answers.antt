@@ -3,7 +3,7 @@ use Rattle.std.proofs.Common.{◌≡◌, ◌+◌, ◌-◌, ◌<◌, ◌≤◌, l
 use Rattle.std.specs.Result.{IfOk}
 use Rattle.wdf_model.specs.Plans.{devices_of, first_device_agent, targets_of}
 use Rattle.wdf_dev.specs.Agents.{device_or_target}
-use Rattle.wdf_plans.proofs.Owning.{apps_are}
+use Rattle.wdf_plan_index.proofs.Owning.{apps_are}
 use Rattle.wdf_dev.proofs.Owning.{owned}
 use Rattle.wdf_dev.proofs.any.agent_of.Goals as goal
 

@@ -3,7 +3,7 @@ use Rattle.std.proofs.Common.{add-one, refl, sym, ◌∙◌}
 use Rattle.wdf_base.specs.Plan.{posts_of}
 use Rattle.wdf_model.specs.agents.Device.{at_action}
 use Rattle.wdf_dev.proofs.Gathering.{fold_last}
-use Rattle.wdf_plans.proofs.Gathering.{kept, passed}
+use Rattle.wdf_plan_index.proofs.Gathering.{kept, passed}
 use Rattle.wdf_dev.proofs.device_lines.actions_of.Goals as goal
 use Rattle.wdf_dev.proofs.device_lines.actions_of.Goals.{in-Some+in_ok-put_among, in_default}
 

@@ -1,7 +1,7 @@
 -- One line more.
 use Rattle.std.proofs.Common.{add-one, refl, sym, ◌∙◌}
 use Rattle.wdf_model.specs.agents.Device.{when_action}
-use Rattle.wdf_plans.proofs.Gathering.{kept, passed}
+use Rattle.wdf_plan_index.proofs.Gathering.{kept, passed}
 use Rattle.wdf_dev.proofs.device_lines.when_actions.Goals as goal
 use Rattle.wdf_dev.proofs.device_lines.when_actions.Goals.{in-Some+in_ok-push, in_default}
 

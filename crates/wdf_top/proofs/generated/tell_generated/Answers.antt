@@ -2,7 +2,7 @@
 use Rattle.std.proofs.Common.{inl, inr, refl, arith}
 use Rattle.wdf_gen.specs.Generated.{generated}
 use Rattle.wdf_parse.specs.Printing.{printed}
-use Rattle.wdf_say.specs.Refusals.{no_memory_line}
+use Rattle.wdf_output.specs.Refusals.{no_memory_line}
 use Rattle.wdf_top.proofs.generated.tell_generated.Goals as goal
 
 pub returns-in-Ok : goal.returns-in-Ok

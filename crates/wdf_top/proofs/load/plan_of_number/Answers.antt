@@ -1,6 +1,6 @@
 -- The scene that was generated has a text.
 use Rattle.wdf_gen.specs.Generated.{generated}
-use Rattle.wdf_gen_laws.proofs.Texts.{generated_stands}
+use Rattle.law_generated.proofs.Texts.{generated_stands}
 use Rattle.wdf_parse.proofs.ProperNames.{stands_scene}
 use Rattle.wdf_parse.specs.Printing.{printed}
 use Rattle.wdf_top.proofs.load.plan_of_number.Goals as goal

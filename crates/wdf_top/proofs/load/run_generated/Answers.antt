@@ -2,8 +2,8 @@
 use Rattle.std.proofs.Common.{refl}
 use Rattle.wdf_base.specs.Resolved.{IsResolved}
 use Rattle.wdf_gen.specs.Generated.{generated}
-use Rattle.wdf_gen_laws.proofs.Plans.{generated_accepted}
-use Rattle.wdf_gen_laws.proofs.Texts.{generated_stands}
+use Rattle.law_generated.proofs.Plans.{generated_accepted}
+use Rattle.law_generated.proofs.Texts.{generated_stands}
 use Rattle.wdf_parse.specs.Printing.{printed}
 use Rattle.wdf_plan.specs.Plans.{plan_of}
 use Rattle.wdf_top.proofs.Resolving.{text_plan_resolved}

@@ -1,6 +1,6 @@
 -- The run that was made is summed up.
 use Rattle.std.proofs.Common.{sym, ◌∙◌}
-use Rattle.wdf_say.proofs.Sinks.{ending_no_sink}
+use Rattle.wdf_output.proofs.Sinks.{ending_no_sink}
 use Rattle.wdf_top.proofs.Due.{summary_told}
 use Rattle.wdf_top.proofs.load.tell_summary.Goals as goal
 

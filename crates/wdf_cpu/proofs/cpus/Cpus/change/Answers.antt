@@ -7,7 +7,6 @@ use Rattle.wdf_model.specs.declared.entries.Running.{Running}
 use Rattle.wdf_model.specs.parts.Cpus.{Cpus, frame_of, no_frame, running}
 use Rattle.wdf_cpu.specs.Keys.{object_key, wait_key}
 use Rattle.wdf_cpu.specs.Kept.{cpus_in}
-use Rattle.wdf_invariants.proofs.Framed.{on}
 use Rattle.wdf_cpu.proofs.Keeping.{kept_change_by, on_counted, on_fits, wait_counted, waits_fit}
 use Rattle.wdf_model.specs.declared.room.TheConstants.{FRAMES}
 use Rattle.wdf_cpu.specs.Spending.{IsMoved}
@@ -15,6 +14,7 @@ use Rattle.wdf_cpu.proofs.Live.{few_frames, live_is_off, live_is_on}
 use Rattle.wdf_cpu.proofs.Swapping.{swapped_by}
 use Rattle.wdf_cpu.proofs.Ticks.{few_ticks, spending_change_by, until_there}
 use Rattle.wdf_cpu.proofs.cpus.Cpus.change.Goals as goal
+use Rattle.wdf_model.proofs.FrameCounts.{on}
 
 pub moves_if-requires : goal.moves_if-requires
 moves_if-requires c = on_fits c.self.inside c.self.invariant c.object_key.result

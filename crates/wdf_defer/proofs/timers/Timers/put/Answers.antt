@@ -1,7 +1,7 @@
 use Rattle.std.proofs.Common.{max, ap, sym, ◌∙◌, arith}
 use Rattle.wdf_model.specs.declared.room.TheConstants.{OBJECTS}
-use Rattle.wdf_rising.proofs.PlacesOfKeys.{rises_with_entry}
-use Rattle.wdf_rising.proofs.EntriesById.{absent_short}
+use Rattle.wdf_maps.proofs.PlacesOfKeys.{rises_with_entry}
+use Rattle.wdf_maps.proofs.EntriesById.{absent_short}
 use Rattle.wdf_defer.specs.Ticks.{due_tick, earlier, earliest_of, latest_of, tick_if, timer_id}
 use Rattle.wdf_defer.proofs.LeastTick.{first_came}
 use Rattle.wdf_defer.proofs.LatestTick.{came}

@@ -1,6 +1,6 @@
 use Rattle.std.proofs.Common.{max, ap, sym, ◌∙◌}
 use Rattle.wdf_model.specs.declared.room.TheConstants.{OBJECTS}
-use Rattle.wdf_rising.proofs.PlacesOfKeys.{rises_others}
+use Rattle.wdf_maps.proofs.PlacesOfKeys.{rises_others}
 use Rattle.wdf_defer.specs.Ticks.{due_tick, earlier, earliest_of, latest_of, tick_if, timer_id}
 use Rattle.wdf_defer.proofs.LeastTick.{first_went}
 use Rattle.wdf_defer.proofs.LatestTick.{went}

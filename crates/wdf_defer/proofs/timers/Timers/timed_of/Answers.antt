@@ -1,7 +1,7 @@
 use Rattle.std.proofs.Common.{◌≡◌, subst, true}
 use Rattle.wdf_model.specs.declared.room.TheConstants.{OBJECTS}
 use Rattle.wdf_model.specs.parts.Deferred.Timers.{Timers}
-use Rattle.wdf_rising.specs.Places.{rises}
+use Rattle.wdf_maps.specs.Places.{rises}
 use Rattle.wdf_defer.specs.Ticks.{timer_id}
 use Rattle.wdf_defer.proofs.TimersThatFire.{objects_alone}
 use Rattle.wdf_defer.proofs.timers.Timers.timed_of.Goals as goal

@@ -3,7 +3,7 @@ use Rattle.std.proofs.Common.{◌≡◌, ◌≤◌, ◌<◌, ◌==◌, ℕ, coun
 use Rattle.wdf_model.specs.parts.Queues.{waiting_in}
 use Rattle.wdf_model.specs.declared.deed.Deed.TheVariants.{PurgeQueue}
 use Rattle.wdf_model.specs.rules.Deeds.{do_deed, withdraw}
-use Rattle.wdf_room.specs.Room.{IsRequest}
+use Rattle.wdf_model.specs.rules.Room.{IsRequest}
 use Rattle.wdf_parts.proofs.parts.Parts.purge.Given as goal
 
 abbrev pub invariant-waiting : goal.invariant-waiting

@@ -1,6 +1,6 @@
 -- At first nothing is held and nothing is counted.
 use Rattle.std.proofs.Common.{refl, arith}
-use Rattle.wdf_counts.proofs.Counting.{none_counted}
+use Rattle.wdf_maps.proofs.Counting.{none_counted}
 use Rattle.wdf_power.specs.Power.{due_at, unsettled_at}
 use Rattle.wdf_power.proofs.holdings.Holdings.make.Goals as goal
 

@@ -3,7 +3,7 @@ use Rattle.std.proofs.Common.{◌≡◌, ap, sym, refl, ◌∙◌, arith}
 use Rattle.wdf_model.specs.Tables.{entry}
 use Rattle.wdf_model.specs.parts.Power.{holding_of, no_holding}
 use Rattle.wdf_model.proofs.Maps.{put_short}
-use Rattle.wdf_counts.proofs.Counting.{counted_put, room_by_entries}
+use Rattle.wdf_maps.proofs.Counting.{counted_put, room_by_entries}
 use Rattle.wdf_power.specs.Power.{due_at, unsettled_at}
 use Rattle.wdf_power.proofs.holdings.Holdings.write.Goals as goal
 

@@ -4,7 +4,7 @@ use Rattle.std.specs.Prelude.{IfOk, IsErr, Result, Ok, Err}
 use Rattle.wdf_base.specs.Places.{is_closing, is_due}
 use Rattle.wdf_model.specs.declared.entries.Request.{Request}
 use Rattle.wdf_request.specs.Keys.{returning_queue, sent_target, unfinished_device}
-use Rattle.wdf_counts.proofs.Counting.{none_counted}
+use Rattle.wdf_maps.proofs.Counting.{none_counted}
 use Rattle.wdf_request.proofs.Members.{empty_set}
 use Rattle.wdf_request.proofs.Noting.{none_noted}
 use Rattle.wdf_request.proofs.requests.Requests.make.Goals as goal

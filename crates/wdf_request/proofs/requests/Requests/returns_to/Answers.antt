@@ -1,6 +1,6 @@
 -- There is one where the count isn't 0.
 use Rattle.wdf_model.specs.declared.entries.Request.{Request}
-use Rattle.wdf_counts.proofs.Counting.{any_at}
+use Rattle.wdf_maps.proofs.Counting.{any_at}
 use Rattle.wdf_request.proofs.Belonging.{is_at_queue}
 use Rattle.wdf_request.proofs.requests.Requests.returns_to.Goals as goal
 

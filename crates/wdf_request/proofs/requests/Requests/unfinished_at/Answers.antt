@@ -1,7 +1,7 @@
 -- There is one where the count isn't 0.
 use Rattle.wdf_model.specs.rules.Starts.{is_unfinished_at}
 use Rattle.wdf_request.specs.Keys.{unfinished_device}
-use Rattle.wdf_counts.proofs.Counting.{any_at}
+use Rattle.wdf_maps.proofs.Counting.{any_at}
 use Rattle.wdf_request.proofs.Belonging.{is_at_device}
 use Rattle.wdf_request.proofs.requests.Requests.unfinished_at.Goals as goal
 

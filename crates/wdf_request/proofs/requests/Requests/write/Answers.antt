@@ -8,7 +8,7 @@ use Rattle.wdf_model.specs.parts.Requests.{Requests, no_request}
 use Rattle.wdf_model.specs.rules.Ready.{is_open_request}
 use Rattle.wdf_model.proofs.Maps.{put_short, put_within}
 use Rattle.wdf_request.specs.Keys.{returning_queue, sent_target, unfinished_device}
-use Rattle.wdf_counts.proofs.Counting.{count_put, counted_put}
+use Rattle.wdf_maps.proofs.Counting.{count_put, counted_put}
 use Rattle.wdf_request.proofs.Members.{set_put}
 use Rattle.wdf_request.proofs.Noting.{noted_put}
 use Rattle.wdf_request.proofs.requests.Requests.write.Goals as goal

@@ -1,8 +1,8 @@
 use Rattle.std.proofs.Common.{◌<◌, length, sym, ◌∙◌, subst, arith}
 use Rattle.wdf_model.specs.declared.room.TheConstants.{OBJECTS}
 use Rattle.wdf_model.specs.parts.Targets.{Target}
-use Rattle.wdf_rising.proofs.PlacesOfKeys.{rises_with_entry}
-use Rattle.wdf_rising.proofs.EntriesById.{absent_short}
+use Rattle.wdf_maps.proofs.PlacesOfKeys.{rises_with_entry}
+use Rattle.wdf_maps.proofs.EntriesById.{absent_short}
 use Rattle.wdf_target.specs.Target.{request_id}
 use Rattle.wdf_target.proofs.Sendings.{added}
 use Rattle.wdf_target.proofs.target.Target.add.Goals as goal

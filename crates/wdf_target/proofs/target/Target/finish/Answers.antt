@@ -1,8 +1,8 @@
 use Rattle.std.proofs.Common.{ℕ, ◌≡◌, None, Some, sym, ap, ◌∙◌, subst, arith}
 use Rattle.wdf_model.specs.declared.room.TheConstants.{OBJECTS}
-use Rattle.wdf_rising.specs.Places.{entry_of}
-use Rattle.wdf_rising.proofs.PlacesOfKeys.{rises_others, rises_with_entry}
-use Rattle.wdf_rising.proofs.EntriesById.{entry_key, entry_below}
+use Rattle.wdf_maps.specs.Places.{entry_of}
+use Rattle.wdf_maps.proofs.PlacesOfKeys.{rises_others, rises_with_entry}
+use Rattle.wdf_maps.proofs.EntriesById.{entry_key, entry_below}
 use Rattle.wdf_target.specs.Target.{request_id}
 use Rattle.wdf_target.proofs.Sendings.{done_absent, finished_kept, finished_forgotten}
 use Rattle.wdf_target.proofs.target.Target.finish.Goals as goal

@@ -1,6 +1,6 @@
 use Rattle.std.proofs.Common.{◌∙◌}
 use Rattle.wdf_model.specs.declared.room.TheConstants.{OBJECTS}
-use Rattle.wdf_rising.proofs.PlacesOfKeys.{rises_others}
+use Rattle.wdf_maps.proofs.PlacesOfKeys.{rises_others}
 use Rattle.wdf_target.specs.Target.{request_id}
 use Rattle.wdf_target.proofs.target.Target.remove.Goals as goal
 

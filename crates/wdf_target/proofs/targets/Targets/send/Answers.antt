@@ -1,6 +1,6 @@
 use Rattle.std.proofs.Common.{◌≡◌, None, sym, ap, subst, ◌∙◌, arith}
 use Rattle.wdf_model.specs.parts.Targets.{Target, new_sending, sending_in_order}
-use Rattle.wdf_rising.specs.Places.{entry_of}
+use Rattle.wdf_maps.specs.Places.{entry_of}
 use Rattle.wdf_target.specs.Target.{request_id}
 use Rattle.wdf_target.proofs.Kept.{kept_moved, no_target_has}
 use Rattle.wdf_target.proofs.Acts.{read_as, nothing_kept, send_moves, taker_within, target_written}

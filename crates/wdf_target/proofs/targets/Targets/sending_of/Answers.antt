@@ -1,7 +1,7 @@
 use Rattle.std.proofs.Common.{◌≡◌, Some, None, sym, ap, ◌∙◌, rules}
 use Rattle.wdf_model.specs.Tables.{entry}
 use Rattle.wdf_model.specs.parts.Targets.{sending_of}
-use Rattle.wdf_rising.specs.Places.{entry_of}
+use Rattle.wdf_maps.specs.Places.{entry_of}
 use Rattle.wdf_target.specs.Target.{request_id}
 use Rattle.wdf_target.proofs.Kept.{target_within, found_none, found_there}
 use Rattle.wdf_target.proofs.Acts.{read_as}

@@ -1,0 +1,14 @@
+pub mod Cut
+pub mod OneRun
+pub mod TableWords
+pub mod Unfed
+pub mod OfPlan
+pub mod Posting
+pub mod ProperNames
+pub mod Expressions
+pub mod Intents
+pub mod ByDeeds
+pub mod Outcomes
+pub mod FrameEvents
+pub mod ByEvents
+pub mod OverRuns

@@ -1,0 +1,17 @@
+pub mod Course
+pub mod OwnEvents
+pub mod Fits
+pub mod FitsOfCalls
+pub mod FitsOfEvents
+pub mod Kept
+pub mod KeptMoves
+pub mod KeptTargets
+pub mod KeptByDeeds
+pub mod Arrivals
+pub mod LawsOverRuns
+pub mod Follows
+pub mod Deletion
+pub mod FactsOfEvents
+pub mod FactsOfSteps
+pub mod FactsOfFaults
+pub mod FactsOfLocks

@@ -1,0 +1,12 @@
+pub mod Acts
+pub mod Plain
+pub mod Ancestors
+pub mod Parents
+pub mod Beginnings
+pub mod Early
+pub mod Lists
+pub mod Courses
+pub mod Runs
+pub mod Open
+pub mod Unsettled
+pub mod UnsettledRuns

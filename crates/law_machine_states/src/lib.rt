@@ -1,0 +1,5 @@
+//! Laws over all runs of the machine: what its states agree on of marks, cleanups and frames, and of sequences.
+#![tactic(auto)]
+
+pub mod objects;
+pub mod sequences;

@@ -1,0 +1,5 @@
+pub mod Cut
+pub mod Whole
+pub mod Fitting
+pub mod Scenes
+pub mod Plans

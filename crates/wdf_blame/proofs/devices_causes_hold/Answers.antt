@@ -1,7 +1,0 @@
--- The clause is the lemma on lines, for this form.
-use Rattle.wdf_base.specs.declared.wait.OpenThing.TheVariants as thing
-use Rattle.wdf_blame.proofs.Told.{line_so}
-use Rattle.wdf_blame.proofs.devices_causes_hold.Goals as goal
-
-pub returns : goal.returns
-returns g c = λ plan m run is_run ends k d s x h. line_so plan m run is_run ends k (thing.Sequence d s) x h

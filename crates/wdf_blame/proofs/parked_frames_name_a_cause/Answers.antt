@@ -1,9 +1,0 @@
--- The clause is the lemma on lines that name a cause, for this form.
-use Rattle.wdf_base.specs.declared.wait.OpenThing.TheVariants as thing
-use Rattle.wdf_model.specs.rules.Ready.{state_after}
-use Rattle.wdf_blame.proofs.Stages.{line_named}
-use Rattle.wdf_blame.proofs.Tops.{one_parked}
-use Rattle.wdf_blame.proofs.parked_frames_name_a_cause.Goals as goal
-
-pub returns : goal.returns
-returns g k = λ plan m run is_run ends k f c o x h at waits. line_named plan m run is_run ends k (record { thing = thing.Waiting f c o; cause = x }) h (one_parked plan (state_after plan m run) f.0 at waits)

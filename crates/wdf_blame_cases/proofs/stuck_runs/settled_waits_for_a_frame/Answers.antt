@@ -1,6 +1,0 @@
--- The clause is the lemma on what is computed.
-use Rattle.wdf_blame_cases.proofs.StuckRuns.{settled_waits_for_a_frame}
-use Rattle.wdf_blame_cases.proofs.stuck_runs.settled_waits_for_a_frame.Goals as goal
-
-pub returns : goal.returns
-returns c = settled_waits_for_a_frame

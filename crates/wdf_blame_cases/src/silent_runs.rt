@@ -1,9 +1,0 @@
-//! Runs that are stuck since a target never answers. The targets of the program do, so these have agents of their own.
-ghost use Rattle.wdf_blame_cases.specs.Silence.{IsSilentRun};
-ghost use Rattle.wdf_blame_cases.specs.SilentRuns.{never_answered_plan, never_answered_events, never_answered_waits};
-
-/// The driver makes a request, sends it and deletes it, and the target never answers: the object's line names `sent`, and
-/// the request's line names nothing.
-pub fn never_answered()
-    ensures { IsSilentRun never_answered_plan never_answered_events never_answered_waits }
-{}

@@ -1,7 +1,0 @@
--- The clause is the lemma on what is so of each line, for this form.
-use Rattle.wdf_base.specs.declared.wait.OpenThing.TheVariants as thing
-use Rattle.wdf_blame_causes.proofs.Lines.{line_names}
-use Rattle.wdf_blame_causes.proofs.dpcs_name_a_cause.Goals as goal
-
-pub returns : goal.returns
-returns g c = λ plan m run resolved is_run ends k o x h queued may_be. (line_names plan m run resolved is_run ends k (record { thing = thing.Deferred o; cause = x }) h).1 queued may_be

@@ -1,7 +1,0 @@
--- The clause is the lemma on what is so of each line, for this form.
-use Rattle.wdf_base.specs.declared.wait.OpenThing.TheVariants as thing
-use Rattle.wdf_blame_causes.proofs.Lines.{line_names}
-use Rattle.wdf_blame_causes.proofs.frames_name_a_cause.Goals as goal
-
-pub returns : goal.returns
-returns g c = λ plan m run resolved is_run ends k f c o x h. line_names plan m run resolved is_run ends k (record { thing = thing.Waiting f c o; cause = x }) h

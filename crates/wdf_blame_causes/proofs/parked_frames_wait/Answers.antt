@@ -1,6 +1,0 @@
--- The clause is the lemma on parked frames.
-use Rattle.wdf_blame_causes.proofs.Parked.{parking_at_each}
-use Rattle.wdf_blame_causes.proofs.parked_frames_wait.Goals as goal
-
-pub returns : goal.returns
-returns g c = λ plan m run is_run n f h. (parking_at_each plan m run is_run n).waits f h

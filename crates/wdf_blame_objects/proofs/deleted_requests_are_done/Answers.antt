@@ -1,6 +1,0 @@
--- The clause is the lemma on requests that arrived.
-use Rattle.wdf_blame_objects.proofs.Places.{ended_at_each}
-use Rattle.wdf_blame_objects.proofs.deleted_requests_are_done.Goals as goal
-
-pub returns : goal.returns
-returns g c = λ plan m run resolved is_run n. ended_at_each plan m run resolved is_run n

@@ -1,6 +1,0 @@
--- The clause is the lemma on devices.
-use Rattle.wdf_blame_whole.proofs.Devices.{device_named}
-use Rattle.wdf_blame_whole.proofs.devices_name_a_cause.Goals as goal
-
-pub returns : goal.returns
-returns g c = λ plan m run resolved is_run ends k d s x h. device_named plan m run resolved is_run ends k d s x h

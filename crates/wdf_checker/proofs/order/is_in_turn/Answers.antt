@@ -1,6 +1,0 @@
--- By what the queue has presented.
-use Rattle.wdf_checker.proofs.Turns.{turn_by}
-use Rattle.wdf_checker.proofs.order.is_in_turn.Goals as goal
-
-pub returns : goal.returns
-returns c = turn_by c.args.past.now c.args.later _ _ _ c.last-entry.ensures.value c.stands-at_head.ensures c.last-entry.ensures.within c.is_next.ensures

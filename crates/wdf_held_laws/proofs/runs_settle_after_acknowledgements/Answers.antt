@@ -1,6 +1,0 @@
--- The clause is the lemma on acknowledgements before `settled`.
-use Rattle.wdf_held_laws.proofs.AckedAsTold.{settles_after_at_each}
-use Rattle.wdf_held_laws.proofs.runs_settle_after_acknowledgements.Goals as goal
-
-pub returns : goal.returns
-returns g c = settles_after_at_each

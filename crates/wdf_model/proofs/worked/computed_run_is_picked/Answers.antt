@@ -1,6 +1,0 @@
--- The clause is the lemma on what is computed.
-use Rattle.wdf_model.proofs.Course.{run_by_is_picked}
-use Rattle.wdf_model.proofs.worked.computed_run_is_picked.Goals as goal
-
-pub returns : goal.returns
-returns c = run_by_is_picked

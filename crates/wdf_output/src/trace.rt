@@ -1,0 +1,170 @@
+//! Writing the trace of a run.
+ghost use Rattle.std.specs.Prelude.{◌≡◌, ◌≢◌, ◌+◌, ◌<◌, ◌≤◌, ◌++◌, List, ℕ, length, codes, OnOk, OnErr};
+ghost use Rattle.wdf_io.specs.Outside.{Gains, EndsRefused};
+ghost use Rattle.wdf_model.specs.rules.Ready.{ending_of};
+ghost use Rattle.wdf_model.specs.rules.Waits.{wait_list};
+ghost use Rattle.wdf_lines.specs.Lines.{line_text, lines_from};
+ghost use Rattle.wdf_lines.specs.Endings.{ending_text, ending_word, wait_text, wait_lines};
+ghost use Rattle.wdf_replay.specs.Texts.{text_of};
+ghost use Rattle.wdf_output.specs.Said.{Says, IsCutShort, sinking};
+ghost use Rattle.wdf_output.specs.Endings.{status_of, ending_lines};
+
+use crate::page::{Page, add_line};
+use crate::texts::SINK_FAULT;
+use wdf_base::{Agent, Ending, Event, Plan, WaitLine};
+use wdf_core::Core;
+use wdf_io::{Failed, Sink, write_all};
+use wdf_lines::{LINE_LIMIT, Line, ending_line, line_of, wait_line};
+
+/// Writes a line and its line feed.
+fn write_line<K: Sink>(sink: &mut K, mut line: Line) -> Result<(), Failed>
+    requires { length line < LINE_LIMIT }
+    ensures whole { OnOk result (Gains (K.written sink.old) (K.written sink.new) (line ++ codes "\n")) }
+    ensures cut { OnErr result (IsCutShort (sinking (K.written sink.old) (K.written sink.new) (K.faults sink.old) (K.faults sink.new)) (line ++ codes "\n")) }
+    ensures quiet { OnOk result (K.faults sink.new ≡ K.faults sink.old) }
+    ensures never_falls { K.faults sink.old ≤ K.faults sink.new }
+    ensures not_again { OnErr result (EndsRefused K.refused K.faults sink.old sink.new) }
+{
+    line.push_line_feed();
+    write_all(sink, line.bytes())
+}
+
+/// Adds the line of an event to a page.
+fn add_event<K: Sink>(
+    sink: &mut K,
+    page: &mut Page,
+    plan: &Plan,
+    number: usize,
+    event: &Event,
+) -> Result<(), Failed>
+    ensures whole { OnOk result ((out : List ℕ) × (Gains (K.written sink.old) (K.written sink.new) out × (out ++ page.new ≡ page.old ++ (line_text plan.now number event.now ++ codes "\n")))) }
+    ensures cut { OnErr result (IsCutShort (sinking (K.written sink.old) (K.written sink.new) (K.faults sink.old) (K.faults sink.new)) page.old) }
+    ensures quiet { OnOk result (K.faults sink.new ≡ K.faults sink.old) }
+    ensures never_falls { K.faults sink.old ≤ K.faults sink.new }
+    ensures not_again { OnErr result (EndsRefused K.refused K.faults sink.old sink.new) }
+{
+    let mut line = line_of(plan, number, event);
+    line.push_line_feed();
+    add_line(sink, page, line.bytes())
+}
+
+/// Writes a line for each event of the journal, many in one call of the sink.
+fn write_events<A: Agent, K: Sink>(core: &Core<A>, sink: &mut K) -> Result<(), Failed>
+    ensures whole { OnOk result (Gains (K.written sink.old) (K.written sink.new) (lines_from core.now.plan 1 core.now.journal)) }
+    ensures cut { OnErr result (IsCutShort (sinking (K.written sink.old) (K.written sink.new) (K.faults sink.old) (K.faults sink.new)) (lines_from core.now.plan 1 core.now.journal)) }
+    ensures quiet { OnOk result (K.faults sink.new ≡ K.faults sink.old) }
+    ensures never_falls { K.faults sink.old ≤ K.faults sink.new }
+    ensures not_again { OnErr result (EndsRefused K.refused K.faults sink.old sink.new) }
+{
+    let mut page = Page::new();
+    for k in 0..core.journal_len() {
+        let event = core.journal_at(k);
+        match add_event(sink, &mut page, core.plan(), k + 1, &event) {
+            Ok(()) => {}
+            Err(failed) => return Err(failed),
+        }
+    }
+    write_all(sink, page.bytes())
+}
+
+/// Writes the line of how the run ended.
+fn write_ending<A: Agent, K: Sink>(core: &Core<A>, sink: &mut K) -> Result<(), Failed>
+    requires { ending_of core.now.plan A.meaning core.now.journal ≢ Ending.Running }
+    ensures whole { OnOk result (Gains (K.written sink.old) (K.written sink.new) (ending_text (length core.now.journal) (ending_of core.now.plan A.meaning core.now.journal) ++ codes "\n")) }
+    ensures cut { OnErr result (IsCutShort (sinking (K.written sink.old) (K.written sink.new) (K.faults sink.old) (K.faults sink.new)) (ending_text (length core.now.journal) (ending_of core.now.plan A.meaning core.now.journal) ++ codes "\n")) }
+    ensures quiet { OnOk result (K.faults sink.new ≡ K.faults sink.old) }
+    ensures never_falls { K.faults sink.old ≤ K.faults sink.new }
+    ensures not_again { OnErr result (EndsRefused K.refused K.faults sink.old sink.new) }
+{
+    write_line(sink, ending_line(core.journal_len(), core.ending()))
+}
+
+/// Writes a line of the wait list.
+fn write_wait<K: Sink>(sink: &mut K, plan: &Plan, wait: &WaitLine) -> Result<(), Failed>
+    ensures whole { OnOk result (Gains (K.written sink.old) (K.written sink.new) (wait_text plan.now wait.now ++ codes "\n")) }
+    ensures cut { OnErr result (IsCutShort (sinking (K.written sink.old) (K.written sink.new) (K.faults sink.old) (K.faults sink.new)) (wait_text plan.now wait.now ++ codes "\n")) }
+    ensures quiet { OnOk result (K.faults sink.new ≡ K.faults sink.old) }
+    ensures never_falls { K.faults sink.old ≤ K.faults sink.new }
+    ensures not_again { OnErr result (EndsRefused K.refused K.faults sink.old sink.new) }
+{
+    write_line(sink, wait_line(plan, wait))
+}
+
+/// Writes the wait list, a line for each open thing. A run that isn't stuck has none.
+fn write_waits<A: Agent, K: Sink>(core: &Core<A>, sink: &mut K) -> Result<(), Failed>
+    ensures whole { OnOk result (Gains (K.written sink.old) (K.written sink.new) (wait_lines core.now.plan (wait_list core.now.plan A.meaning core.now.journal))) }
+    ensures cut { OnErr result (IsCutShort (sinking (K.written sink.old) (K.written sink.new) (K.faults sink.old) (K.faults sink.new)) (wait_lines core.now.plan (wait_list core.now.plan A.meaning core.now.journal))) }
+    ensures quiet { OnOk result (K.faults sink.new ≡ K.faults sink.old) }
+    ensures never_falls { K.faults sink.old ≤ K.faults sink.new }
+    ensures not_again { OnErr result (EndsRefused K.refused K.faults sink.old sink.new) }
+{
+    for k in 0..core.wait_len() {
+        let wait = core.wait_at(k);
+        match write_wait(sink, core.plan(), &wait) {
+            Ok(()) => {}
+            Err(failed) => return Err(failed),
+        }
+    }
+    Ok(())
+}
+
+/// Writes the line of how the run ended, and the wait list of a stuck run.
+fn write_end<A: Agent, K: Sink>(core: &Core<A>, sink: &mut K) -> Result<(), Failed>
+    requires { ending_of core.now.plan A.meaning core.now.journal ≢ Ending.Running }
+    ensures whole { OnOk result (Gains (K.written sink.old) (K.written sink.new) (ending_lines core.now.plan A.meaning core.now.journal)) }
+    ensures cut { OnErr result (IsCutShort (sinking (K.written sink.old) (K.written sink.new) (K.faults sink.old) (K.faults sink.new)) (ending_lines core.now.plan A.meaning core.now.journal)) }
+    ensures quiet { OnOk result (K.faults sink.new ≡ K.faults sink.old) }
+    ensures never_falls { K.faults sink.old ≤ K.faults sink.new }
+    ensures not_again { OnErr result (EndsRefused K.refused K.faults sink.old sink.new) }
+{
+    match write_ending(core, sink) {
+        Ok(()) => write_waits(core, sink),
+        Err(failed) => Err(failed),
+    }
+}
+
+/// Writes the trace of a run that has ended, and answers the status of its ending, or
+/// [`SINK_FAULT`] where the sink fails. It takes no memory.
+#[tactic(auto, using(crate::proofs::Sinks::ending_no_sink, crate::proofs::Sinks::ends_later))]
+pub fn write_run<A: Agent, K: Sink>(core: &Core<A>, sink: &mut K) -> u8
+    requires { ending_of core.now.plan A.meaning core.now.journal ≢ Ending.Running }
+    ensures said { Says (sinking (K.written sink.old) (K.written sink.new) (K.faults sink.old) (K.faults sink.new))
+        (text_of core.now.plan A.meaning core.now.journal)
+        (status_of (ending_of core.now.plan A.meaning core.now.journal)) result }
+    ensures never_falls { K.faults sink.old ≤ K.faults sink.new }
+    ensures not_again { result ≡ 13 → EndsRefused K.refused K.faults sink.old sink.new }
+{
+    match write_events(core, sink) {
+        Ok(()) => match write_end(core, sink) {
+            Ok(()) => status_of(core.ending()),
+            Err(_) => SINK_FAULT,
+        },
+        Err(_) => SINK_FAULT,
+    }
+}
+
+/// The status of a run that ended so.
+pub fn status_of(ending: Ending) -> u8
+    ensures { result ≡ status_of ending }
+{
+    match ending {
+        Ending::Running | Ending::Finished => 0,
+        Ending::Fault(_) => 3,
+        Ending::Stuck => 4,
+        Ending::Limit => 5,
+    }
+}
+
+/// The word of an ending; a run that goes on has none.
+pub fn ending_word(ending: Ending) -> &'static [u8]
+    ensures value { result.now ≡ ending_word ending }
+    ensures small { length result.now ≤ 8 }
+{
+    match ending {
+        Ending::Running => b"",
+        Ending::Finished => b"finished",
+        Ending::Limit => b"limit",
+        Ending::Fault(_) => b"fault",
+        Ending::Stuck => b"stuck",
+    }
+}

@@ -1,8 +1,0 @@
--- The declared children so far.
-use Rattle.std.proofs.Common.{◌≡◌, ℕ}
-use Rattle.wdf_past.specs.Maps.{group_at}
-use Rattle.wdf_past.specs.Groups.{declared_children}
-use Rattle.wdf_past.proofs.kin.Kin.read_declared.Given as goal
-
-abbrev pub invariant-loop-n : goal.invariant-loop-n
-invariant-loop-n l = (o : ℕ) → group_at l.children o ≡ declared_children l.self.plan l.self.all o l.n

@@ -1,3 +1,0 @@
-pub mod OfPlan
-pub mod Posting
-pub mod ProperNames

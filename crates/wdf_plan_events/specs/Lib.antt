@@ -1,2 +1,0 @@
-pub mod Framework
-pub mod PostNumbers

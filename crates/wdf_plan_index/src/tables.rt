@@ -1,0 +1,41 @@
+ghost use Rattle.std.specs.Prelude.{IfOk};
+ghost use Rattle.wdf_plan_index.specs.Tables.{AreTables};
+
+use crate::keys::{devices_over, script_names};
+use crate::owners::{Owner, ids_of};
+use crate::places::Places;
+use std::alloc::Global;
+use wdf_base::{Memory, Plan};
+
+/// What is found in a plan without a search through all that is declared.
+#[derive(Drop)]
+pub(crate) struct Tables {
+    /// The ids of the devices, rising.
+    pub(crate) devices: Places,
+    /// The ids of the targets, rising.
+    pub(crate) targets: Vec<u32>,
+    /// For each script the number of the name of what it is declared on.
+    pub(crate) script_names: Places,
+    /// For each declared object the device that it belongs to.
+    pub(crate) belongings: Places,
+}
+
+/// The tables of a plan.
+pub(crate) fn tables_of(alloc: Global, plan: &Plan) -> Result<Tables, Memory>
+    ensures { IfOk result (λ tables. AreTables plan.now tables) }
+{
+    let ids = ids_of(alloc, plan, Owner::Device)?;
+    let devices = Places::make(alloc, ids, plan.declared_len())?;
+    let targets = ids_of(alloc, plan, Owner::Target)?;
+    let _scripts = plan.script_len();
+    let names = script_names(alloc, plan)?;
+    let script_names = Places::make(alloc, names, plan.name_len())?;
+    let over = devices_over(alloc, plan)?;
+    let belongings = Places::make(alloc, over, plan.declared_len().saturating_add(1))?;
+    Ok(Tables {
+        devices,
+        targets,
+        script_names,
+        belongings,
+    })
+}

@@ -1,9 +1,0 @@
-use Rattle.wdf_blocks.specs.Placed.{placed}
-use Rattle.wdf_plan.specs.Plans.{plan_of}
-use Rattle.wdf_plan_laws.specs.Told.{AreNodesTold}
-use Rattle.wdf_plan_laws.proofs.NodeLines.{nodes_are}
-use Rattle.wdf_plan_laws.proofs.Pairs.{each_of}
-use Rattle.wdf_plan_laws.proofs.expressions_are_written.Goals as goal
-
-pub returns : goal.returns
-returns c = λ scene s e. each_of (AreNodesTold (plan_of scene) scene) (placed scene) (nodes_are scene s e)

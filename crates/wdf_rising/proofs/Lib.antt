@@ -1,2 +1,0 @@
-pub mod PlacesOfKeys
-pub mod EntriesById

@@ -1,4 +1,0 @@
-pub mod Cut
-pub mod OneRun
-pub mod TableWords
-pub mod Unfed

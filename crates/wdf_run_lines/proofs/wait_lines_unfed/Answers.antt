@@ -1,6 +1,0 @@
--- The clause is the lemma on lines of the wait list.
-use Rattle.wdf_run_lines.proofs.Unfed.{wait_unfed}
-use Rattle.wdf_run_lines.proofs.wait_lines_unfed.Goals as goal
-
-pub returns : goal.returns
-returns c = λ plan h w. (wait_unfed plan h w).each

@@ -1,5 +1,0 @@
-use Rattle.std.proofs.Common.{◌≡◌}
-use Rattle.wdf_sets_cases.proofs.rising.first_wrong.Given as goal
-
-abbrev pub invariant-all : goal.invariant-all
-invariant-all l = l.timers.room ≡ 4

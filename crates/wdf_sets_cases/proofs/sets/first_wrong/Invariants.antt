@@ -1,5 +1,0 @@
-use Rattle.std.proofs.Common.{◌≤◌, length}
-use Rattle.wdf_sets_cases.proofs.sets.first_wrong.Given as goal
-
-abbrev pub invariant-all : goal.invariant-all
-invariant-all l = l.fn.bound ≤ length l.set

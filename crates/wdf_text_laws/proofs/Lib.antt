@@ -1,4 +1,0 @@
-pub mod Backward
-pub mod Columns
-pub mod Onward
-pub mod Readers

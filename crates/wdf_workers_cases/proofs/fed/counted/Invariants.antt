@@ -1,6 +1,0 @@
--- The agents so far are those that were handed out.
-use Rattle.std.proofs.Common.{◌≡◌}
-use Rattle.wdf_workers_cases.proofs.fed.counted.Given as goal
-
-abbrev pub invariant-loop-agent : goal.invariant-loop-agent
-invariant-loop-agent l = l.all.items ≡ l.yielded
