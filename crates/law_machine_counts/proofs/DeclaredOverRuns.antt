@@ -46,7 +46,7 @@ use Rattle.law_machine_base.proofs.FitsOfEvents.{event_fits}
 -- ---- kinds that stay
 
 -- what is of a declared kind was of it before
-abbrev KindsStay : Tree → Tree → Type 0
+abbrev pub KindsStay : Tree → Tree → Type 0
 KindsStay T U = (o : ℕ) → is_declared_kind (kind_of U o) ≡ true → kind_of U o ≡ kind_of T o
 
 kinds_then : (T U V : Tree) → KindsStay T U → KindsStay U V → KindsStay T V
@@ -147,7 +147,7 @@ deed_kinds plan (CloseReturning d) S f = same_tree _ _ (all_returning (managed_q
 deed_kinds plan (CloseDevice d) S f = same_tree _ _ (all_closed (queues_of plan d.0) (record S { control = control.shut S.control d.0 }))
 deed_kinds plan _ S f = λ o h. refl
 
-deeds_kinds : {A : Type 0} (plan : Plan) (ds : List Deed) (S : State A) → all_fit plan ds S ≡ true → KindsStay S.tree (do_deeds plan ds S).tree
+pub deeds_kinds : {A : Type 0} (plan : Plan) (ds : List Deed) (S : State A) → all_fit plan ds S ≡ true → KindsStay S.tree (do_deeds plan ds S).tree
 deeds_kinds plan [] S f = λ o h. refl
 deeds_kinds plan (d ∷ ds) S f =
     kinds_then S.tree (do_deed plan d S).tree (do_deeds plan ds (do_deed plan d S)).tree (deed_kinds plan d S (both_left (fits plan d S) (all_fit plan ds (do_deed plan d S)) f))

@@ -83,7 +83,7 @@ released L l q x = let old = q x in let less = filter_less (λ (h : Held). same_
 same_once : (K L : Locks) → L ≡ K → Once K → Once L
 same_once K L e q = subst Once (sym e) q
 
-deed_keeps : {A : Type 0} (plan : Plan) (d : Deed) (S : State A) → fits plan d S ≡ true → Once S.locks → Once (do_deed plan d S).locks
+pub deed_keeps : {A : Type 0} (plan : Plan) (d : Deed) (S : State A) → fits plan d S ≡ true → Once S.locks → Once (do_deed plan d S).locks
 deed_keeps plan (TakeLock l f by_call) S free q = taken S.locks l f.0 by_call free q
 deed_keeps plan (ReleaseLock l) S h q = released S.locks l q
 deed_keeps plan d S h q = same_once _ _ (locks_stay plan d S refl) q

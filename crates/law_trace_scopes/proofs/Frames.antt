@@ -404,10 +404,10 @@ end_step {A} plan m ss bs S k c o v h known once q =
 -- ---- all events
 
 -- what a step asks for, and what it gives
-abbrev Steps : {A : Type 0} → Plan → Meaning A → Frames → State A → Event → Type 0
+abbrev pub Steps : {A : Type 0} → Plan → Meaning A → Frames → State A → Event → Type 0
 Steps plan m F S e = Agrees plan (frames_step F e).stacks (frames_step F e).begun (after plan m S e)
 
-event_step : {A : Type 0} (plan : Plan) (m : Meaning A) (F : Frames) (S : State A) (e : Event) → may plan m S e ≡ true → KnownAll plan S → Once S.locks → F.number ≡ S.number → Agrees plan F.stacks F.begun S → Steps plan m F S e
+pub event_step : {A : Type 0} (plan : Plan) (m : Meaning A) (F : Frames) (S : State A) (e : Event) → may plan m S e ≡ true → KnownAll plan S → Once S.locks → F.number ≡ S.number → Agrees plan F.stacks F.begun S → Steps plan m F S e
 event_step plan m F S (event.Start k c o r) h known once n q =
     subst (λ f. Agrees plan (pushed k.0 f F.stacks) (F.begun ++ record { frame = f; callback = c; object = o.id.0 } ∷ []) (after plan m S (event.Start k c o r))) (ap (λ x. x + 1) (sym n))
     (start_step plan m F.stacks F.begun S k c o r h known q)
@@ -418,7 +418,7 @@ event_step plan m F S (event.Did k c v) h known once n q = did_step plan m F.sta
 event_step plan m F S (event.Waiting k c) h known once n q = quiet_step plan m F.stacks F.begun S (event.Waiting k c) h known refl refl refl refl (waits_not plan S c.kind c.count c.a c.b c.c (waiting_tells plan m S k c h).unmet) q
 event_step plan m F S e h known once n q = quiet_step plan m F.stacks F.begun S e h known refl refl refl refl refl q
 
-number_step : (F : Frames) (e : Event) → (frames_step F e).number ≡ F.number + 1
+pub number_step : (F : Frames) (e : Event) → (frames_step F e).number ≡ F.number + 1
 number_step F (event.Start cpu c o r) = refl
 number_step F _ = refl
 
