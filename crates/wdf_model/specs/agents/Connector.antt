@@ -31,6 +31,7 @@ use Rattle.wdf_model.specs.rules.Posts.{ARRIVALS}
 use Rattle.wdf_model.specs.agents.LowerTarget.{handle_in_arg}
 use Rattle.wdf_model.specs.agents.Chains.{device_handle}
 
+-- the agent of a connected target: what it was sent, what it posted at the device below, and what became of that (own)
 pub record Connector : Type 0 where
   -- its number among the agents
   pub agent : ℕ

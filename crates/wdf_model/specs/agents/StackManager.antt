@@ -24,6 +24,7 @@ use Rattle.wdf_model.specs.parts.Pnp.{is_success, opening_phase}
 use Rattle.wdf_model.specs.agents.App.{later_line}
 use Rattle.wdf_model.specs.agents.Chains.{above, below, device_handle}
 
+-- the Plug and Play manager of stacks: each line is posted for the whole chain of its device, post after post (own)
 pub record StackManager : Type 0 where
   -- what its lines post, in their order
   pub lines : List PostLine
@@ -35,6 +36,7 @@ pub record StackManager : Type 0 where
   pub rest : Option AskPost
   -- the post whose end it waits for
   pub awaited : Option AskPost
+  -- the tick of the run
   pub clock : ℕ
 
 -- ---- the opening
