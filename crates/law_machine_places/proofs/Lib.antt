@@ -1,0 +1,5 @@
+pub mod Members
+pub mod Rows
+pub mod Found
+pub mod Listed
+pub mod Exactly
