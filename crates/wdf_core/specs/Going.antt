@@ -13,3 +13,8 @@ goes_on plan journal = is_none (last_fault journal) && nat_lt (length journal) p
 abbrev pub tick_if : Bool → ℕ → Option Event
 tick_if true clock = Some (event.Tick (clock + 1))
 tick_if false clock = None
+
+-- a tick of the clock
+abbrev pub is_tick : Event → Bool
+is_tick (event.Tick time) = true
+is_tick _ = false

@@ -1,4 +1,4 @@
-ghost use Rattle.std.specs.Prelude.{◌≡◌, ◌<◌, ◌≤◌, ◌+◌, ◌^◌, ◌++◌, ◌∷◌, ℕ, [], IfOk, IsFalse, IsTrue, None, Some, length, nat_lt, slice_get, true, vec_capacity};
+ghost use Rattle.std.specs.Prelude.{◌≡◌, ◌<◌, ◌≤◌, ◌+◌, ◌^◌, ◌++◌, ◌∷◌, ◌↔◌, ℕ, [], IfOk, IsFalse, IsTrue, None, Some, length, nat_lt, slice_get, true, vec_capacity};
 ghost use Rattle.wdf_base.specs.Resolved.{IsResolved};
 ghost use Rattle.wdf_base.specs.declared.event.Event.{Event};
 ghost use Rattle.wdf_base.specs.declared.event.Event.TheVariants as event;
@@ -7,7 +7,8 @@ ghost use Rattle.wdf_model.specs.State.{opening_agents};
 ghost use Rattle.wdf_model.specs.rules.Ready.{IsRunOf, allowed, ending_of, ending_without_fault, last_fault, ready, state_after, waits_for_time};
 ghost use Rattle.wdf_model.specs.rules.Waits.{wait_list};
 ghost use Rattle.wdf_core.specs.Course.{IsUnderWay};
-ghost use Rattle.wdf_core.specs.Going.{goes_on, tick_if};
+ghost use Rattle.wdf_core.specs.Going.{goes_on, is_tick, tick_if};
+ghost use Rattle.law_machine_places.specs.Placed.{IsAmong};
 ghost use Rattle.wdf_ready.specs.Actors.{is_by as is_step_of};
 
 use std::alloc::Global;
@@ -17,7 +18,10 @@ use wdf_base::{Actor, Agent, Ending, Event, Fault, Memory, Plan, WaitLine};
 use wdf_model::Group;
 use wdf_parts::Parts;
 use wdf_plan_index::IndexedPlan;
-use wdf_ready::{allowed_at, allowed_len, first_by, groups_of, is_by, is_open, waits_for_time};
+use wdf_ready::{
+    allowed_at, allowed_len, first_by, groups_of, is_allowed, is_by, is_open, waits_for_time,
+};
+use wdf_same::same_event;
 use wdf_steps::step;
 use wdf_waits::{wait_line_at, wait_lines_len};
 
@@ -32,6 +36,13 @@ fn opening_parts<A: Agent>(
     ensures { IfOk result (λ parts. parts ≡ state_after plan.now A.meaning []) }
 {
     Parts::make(alloc, plan, agents)
+}
+
+/// Whether an event is a tick of the clock.
+fn is_tick(event: &Event) -> bool
+    ensures { result ≡ is_tick event.now }
+{
+    matches!(event, Event::Tick { .. })
 }
 
 /// The machine of one run: its plan, the events so far, and what may follow them.
@@ -281,6 +292,54 @@ impl<A: Agent> Core<A> {
                 self.take(event);
                 true
             }
+            None => false,
+        }
+    }
+
+    /// Goes on by this event, and answers true, exactly where it is among those that may follow; else nothing changes. It
+    /// looks for no other event, but for a tick, and takes no memory.
+    pub fn apply_event(&mut self, event: &Event) -> bool
+        ensures plan { self.new.plan ≡ self.old.plan }
+        ensures taken { IsTrue result → IsAmong event.now (ready self.old.plan A.meaning self.old.journal) × (self.new.journal ≡ self.old.journal ++ event.now ∷ []) }
+        ensures left { IsFalse result → (self.new.journal ≡ self.old.journal) × (IsAmong event.now (ready self.old.plan A.meaning self.old.journal) → ⊥) }
+    {
+        if self.may_follow(event) {
+            self.take(*event);
+            true
+        } else {
+            false
+        }
+    }
+
+    /// Whether an event is among those that may follow.
+    fn may_follow(&self, event: &Event) -> bool
+        ensures { IsTrue result ↔ IsAmong event.now (ready self.now.plan A.meaning self.now.journal) }
+    {
+        let _ = &self.plan;
+        if !self.goes_on() {
+            return false;
+        }
+        if is_tick(event) {
+            self.is_first(event)
+        } else {
+            self.is_allowed(event)
+        }
+    }
+
+    /// Whether an event is among those that may come, time aside.
+    fn is_allowed(&self, event: &Event) -> bool
+        requires { goes_on self.now.plan self.now.journal ≡ true }
+        ensures { IsTrue result ↔ IsAmong event.now (allowed self.now.plan A.meaning (state_after self.now.plan A.meaning self.now.journal)) }
+    {
+        is_allowed(&self.plan, &self.parts, event)
+    }
+
+    /// Whether an event is the first that may follow.
+    fn is_first(&self, event: &Event) -> bool
+        ensures { IsTrue result ↔ (slice_get (ready self.now.plan A.meaning self.now.journal) 0 ≡ Some event.now) }
+    {
+        match self.first_ready() {
+            Some(first) => same_event(&first, event),
             None => false,
         }
     }

@@ -400,7 +400,7 @@ pub(crate) fn is_declared_somewhere(plan: &IndexedPlan, callback: Callback) -> b
 }
 
 /// How many places the starts of a rank have; a callback that nothing declares has none.
-fn places_of_rank<A: Agent>(plan: &IndexedPlan, parts: &Parts<A>, rank: Rank) -> usize
+pub(crate) fn places_of_rank<A: Agent>(plan: &IndexedPlan, parts: &Parts<A>, rank: Rank) -> usize
     ensures value { result ≡ groups.places_of_rank plan.now parts.now rank }
     ensures small { result ≤ 2 ^ 32 }
 {
@@ -427,7 +427,12 @@ fn places_if(plan: &IndexedPlan, callback: Callback, places: u32) -> usize
 }
 
 /// How many places the starts of a rank for the requests of an object have.
-fn places_for<A: Agent>(plan: &IndexedPlan, parts: &Parts<A>, rank: Rank, o: ObjectId) -> usize
+pub(crate) fn places_for<A: Agent>(
+    plan: &IndexedPlan,
+    parts: &Parts<A>,
+    rank: Rank,
+    o: ObjectId,
+) -> usize
     ensures value { result ≡ groups.places_for plan.now parts.now rank o.0 }
     ensures small { result ≤ 2 ^ 32 }
 {

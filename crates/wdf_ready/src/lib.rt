@@ -1,8 +1,9 @@
 //! What may follow in a state: the candidates of each group, in their order, and the search over them;
-//! what is open there, and what waits for time.
+//! whether one event is among them, without a search; what is open there, and what waits for time.
 #![tactic(auto)]
 
 mod actor;
+mod among;
 mod candidates;
 mod direct;
 mod due;
@@ -13,6 +14,7 @@ mod search;
 mod started;
 
 pub use actor::is_by;
+pub use among::is_allowed;
 pub use endings::{is_open, waits_for_time};
 pub use groups::groups_of;
 pub use search::{allowed_at, allowed_len, first_by};

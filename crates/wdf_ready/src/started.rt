@@ -14,7 +14,7 @@ use wdf_plan_index::IndexedPlan;
 use wdf_starts::may_start;
 
 /// Whether it is a processor of the plan.
-fn is_cpu(plan: &IndexedPlan, cpu: Cpu) -> bool
+pub(crate) fn is_cpu(plan: &IndexedPlan, cpu: Cpu) -> bool
     ensures { result ≡ steps.is_cpu plan.now cpu }
 {
     cpu.0 < plan.plan().cpus()

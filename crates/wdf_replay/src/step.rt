@@ -15,37 +15,7 @@ use crate::verdict::Why;
 use wdf_base::{Agent, Ending, Event, Plan, WaitLine};
 use wdf_core::Core;
 use wdf_lines::{ending_line, wait_line};
-use wdf_same::same_event;
 use wdf_trace::{read_line, reads_as_ending, reads_as_wait};
-
-/// The place of an event among those that may follow; `None` exactly where it isn't among them.
-fn place_of<A: Agent>(core: &Core<A>, event: &Event) -> Option<usize>
-    ensures found { IfSome result (λ k. slice_get (ready core.now.plan A.meaning core.now.journal) k ≡ Some event.now) }
-    ensures within { IfSome result (λ k. k < length (ready core.now.plan A.meaning core.now.journal)) }
-    ensures none { IfNone result (IsAmong event.now (ready core.now.plan A.meaning core.now.journal) → ⊥) }
-{
-    for k in 0..core.ready_len() {
-        if same_event(&core.ready_at(k), event) {
-            return Some(k);
-        }
-    }
-    None
-}
-
-/// The place of an event with this number among those that may follow; `None` exactly where it isn't among
-/// them, or has another number.
-fn next_place<A: Agent>(core: &Core<A>, number: usize, event: &Event) -> Option<usize>
-    ensures found { IfSome result (λ k. slice_get (ready core.now.plan A.meaning core.now.journal) k ≡ Some event.now) }
-    ensures within { IfSome result (λ k. k < length (ready core.now.plan A.meaning core.now.journal)) }
-    ensures number { IfSome result (λ k. number ≡ length core.now.journal + 1) }
-    ensures none { IfNone result (number ≡ length core.now.journal + 1 → IsAmong event.now (ready core.now.plan A.meaning core.now.journal) → ⊥) }
-{
-    if number > 0 && number - 1 == core.journal_len() {
-        place_of(core, event)
-    } else {
-        None
-    }
-}
 
 /// Goes on by an event with this number, and answers true, exactly where it may follow.
 fn take_event<A: Agent>(core: &mut Core<A>, number: usize, event: &Event) -> bool
@@ -53,13 +23,7 @@ fn take_event<A: Agent>(core: &mut Core<A>, number: usize, event: &Event) -> boo
     ensures taken { IsTrue result → (number ≡ length core.old.journal + 1) × IsAmong event.now (ready core.old.plan A.meaning core.old.journal) × (core.new.journal ≡ core.old.journal ++ event.now ∷ []) }
     ensures left { IsFalse result → (core.new.journal ≡ core.old.journal) × (number ≡ length core.old.journal + 1 → IsAmong event.now (ready core.old.plan A.meaning core.old.journal) → ⊥) }
 {
-    match next_place(core, number, event) {
-        Some(k) => {
-            core.apply(k);
-            true
-        }
-        None => false,
-    }
+    number > 0 && number - 1 == core.journal_len() && core.apply_event(event)
 }
 
 /// What a text is, as far as events go.

@@ -1,0 +1,21 @@
+-- The test is that of the state at hand, which is that of a run.
+use Rattle.std.proofs.Common.{◌↔◌, subst}
+use Rattle.std.specs.Prelude.{IsTrue}
+use Rattle.wdf_model.specs.State.{State}
+use Rattle.wdf_model.specs.rules.Ready.{allowed}
+use Rattle.law_machine_places.specs.Placed.{IsAmong}
+use Rattle.wdf_core.proofs.Following.{agree_now, owned_now}
+use Rattle.wdf_core.proofs.Journal.{agents_small}
+use Rattle.wdf_core.proofs.machine.Core.is_allowed.Goals as goal
+
+pub is_allowed-requires-clause-agents : goal.is_allowed-requires-clause-agents
+is_allowed-requires-clause-agents g c = agents_small g.A.Agent.meaning c.self.inside.plan c.self.inside.journal.items c.self.inside.parts c.self.inside.groups.items _ c.self.invariant (rw (← c.self.view_is) at c.requires)
+
+pub is_allowed-requires-clause-agree : goal.is_allowed-requires-clause-agree
+is_allowed-requires-clause-agree g c = agree_now g.A.Agent.meaning c.self.inside.plan c.self.inside.journal.items c.self.inside.parts c.self.inside.groups.items _ c.self.invariant
+
+pub is_allowed-requires-clause-owned : goal.is_allowed-requires-clause-owned
+is_allowed-requires-clause-owned g c = owned_now g.A.Agent.meaning c.self.inside.plan c.self.inside.journal.items c.self.inside.parts c.self.inside.groups.items _ c.self.invariant
+
+pub returns : goal.returns
+returns g c = rw (← c.self.view_is) (rw c.self.invariant.state at c.is_allowed.ensures)
