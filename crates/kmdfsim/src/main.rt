@@ -17,7 +17,7 @@ fn main(rt: HostRuntime) -> ExitCode {
         env::args(&rt),
         &mut source,
         &mut sink,
-        &OpenGate,
+        &OpenGate { clock: &rt },
     );
     ExitCode::from(status)
 }

@@ -52,6 +52,10 @@ impl Gate for TwoEnter<'_> {
             self.0.enter();
         }
     }
+
+    fn rest(&self, _looks: u32) {
+        thread::yield_now();
+    }
 }
 
 /// Holds each worker in its first pass until two workers have entered theirs. In its second pass it holds each worker but
@@ -74,5 +78,9 @@ impl Gate for UntilHeard<'_> {
         if turn == 1 && worker != self.agents {
             self.watch.hold(self.heard, 1);
         }
+    }
+
+    fn rest(&self, _looks: u32) {
+        thread::yield_now();
     }
 }

@@ -23,3 +23,8 @@ pub record IsUnderWay {A : Type 0} (m : Meaning A) (plan : Plan) (journal : List
   pub within : length journal ≤ plan.limit
   pub groups : all ≡ filter (has_places plan) (groups plan)
   pub room : plan.limit ≤ space
+
+-- All that a core keeps: this, and room for a count for each group.
+pub record IsSound {A : Type 0} (m : Meaning A) (plan : Plan) (journal : List Event) (S : State A) (all : List Group) (space counts : ℕ) : Type 0 where
+  pub way : IsUnderWay m plan journal S all space
+  pub counts : length all ≤ counts

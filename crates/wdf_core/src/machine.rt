@@ -1,4 +1,4 @@
-ghost use Rattle.std.specs.Prelude.{◌≡◌, ◌<◌, ◌≤◌, ◌+◌, ◌^◌, ◌++◌, ◌∷◌, ◌↔◌, ℕ, [], IfOk, IsFalse, IsTrue, None, Some, length, nat_lt, slice_get, true, vec_capacity};
+ghost use Rattle.std.specs.Prelude.{◌≡◌, ◌<◌, ◌≤◌, ◌+◌, ◌^◌, ◌++◌, ◌∷◌, ◌↔◌, ◌%◌, ℕ, [], IfOk, IsFalse, IsTrue, MatchOption, None, Some, length, nat_lt, slice_get, true, vec_capacity};
 ghost use Rattle.wdf_base.specs.Resolved.{IsResolved};
 ghost use Rattle.wdf_base.specs.declared.event.Event.{Event};
 ghost use Rattle.wdf_base.specs.declared.event.Event.TheVariants as event;
@@ -19,7 +19,8 @@ use wdf_model::Group;
 use wdf_parts::Parts;
 use wdf_plan_index::IndexedPlan;
 use wdf_ready::{
-    allowed_at, allowed_len, first_by, groups_of, is_allowed, is_by, is_open, waits_for_time,
+    allowed_at, allowed_len, first_by, groups_of, is_allowed, is_by, is_open, picked,
+    waits_for_time,
 };
 use wdf_same::same_event;
 use wdf_steps::step;
@@ -54,6 +55,8 @@ pub struct Core<A: Agent> {
     /// The groups of candidates that can have places, in their order.
     groups: Vec<Group>,
     journal: Vec<Event>,
+    /// Room for how many events may come of each group, while one is picked.
+    counts: Vec<usize>,
 }
 
 impl<A: Agent> Drop for Core<A> {
@@ -64,6 +67,7 @@ impl<A: Agent> Drop for Core<A> {
             parts,
             groups: _,
             journal: _,
+            counts: _,
         } = self;
         mem::drop(plan);
         mem::drop(parts);
@@ -72,13 +76,13 @@ impl<A: Agent> Drop for Core<A> {
 
 impl<A: Agent> Model for Core<A> {
     ghost use Rattle.std.specs.Prelude.{vec_capacity};
-    ghost use Rattle.wdf_core.specs.Course.{Course, IsUnderWay};
+    ghost use Rattle.wdf_core.specs.Course.{Course, IsSound};
 
     ghost Value = { Course };
 
     ghost view = { λ c. record { plan = c.plan; journal = c.journal.items } };
 
-    ghost invariant = { λ c. IsUnderWay A.meaning c.plan c.journal.items c.parts c.groups.items (vec_capacity c.journal) };
+    ghost invariant = { λ c. IsSound A.meaning c.plan c.journal.items c.parts c.groups.items (vec_capacity c.journal) (vec_capacity c.counts) };
 }
 
 impl<A: Agent> Core<A> {
@@ -96,14 +100,22 @@ impl<A: Agent> Core<A> {
         let plan = IndexedPlan::make(alloc, plan)?;
         let groups = groups_of(alloc, &plan)?;
         let journal = Vec::with_capacity(alloc, plan.plan().limit() as usize)?;
+        let counts = Vec::with_capacity(alloc, groups.len())?;
         let parts = opening_parts(alloc, &plan, agents)?;
-        Ok(Core::begun(plan, parts, groups, journal))
+        Ok(Core::begun(plan, parts, groups, journal, counts))
     }
 
     /// The core of an opening.
-    fn begun(plan: IndexedPlan, parts: Parts<A>, groups: Vec<Group>, journal: Vec<Event>) -> Core<A>
+    fn begun(
+        plan: IndexedPlan,
+        parts: Parts<A>,
+        groups: Vec<Group>,
+        journal: Vec<Event>,
+        counts: Vec<usize>,
+    ) -> Core<A>
         requires under_way { IsUnderWay A.meaning plan [] parts groups.items (vec_capacity journal) }
         requires empty { journal.items ≡ [] }
+        requires room { length groups.items ≤ vec_capacity counts }
         ensures plan { result.plan ≡ plan }
         ensures journal { result.journal ≡ [] }
     {
@@ -112,6 +124,7 @@ impl<A: Agent> Core<A> {
             parts,
             groups,
             journal,
+            counts,
         }
     }
 
@@ -294,6 +307,58 @@ impl<A: Agent> Core<A> {
             }
             None => false,
         }
+    }
+
+    /// Goes on by the event that a pick names among those that may follow, and answers true; false, and nothing changes,
+    /// where none may. The events of each group are counted once. It takes no memory.
+    pub fn apply_pick(&mut self, pick: u64) -> bool
+        ensures plan { self.new.plan ≡ self.old.plan }
+        ensures taken { IsTrue result → (event : Event) × (slice_get (ready self.old.plan A.meaning self.old.journal) (pick % length (ready self.old.plan A.meaning self.old.journal)) ≡ Some event)
+            × (self.new.journal ≡ self.old.journal ++ event ∷ []) }
+        ensures room { IsTrue result → length self.old.journal < self.old.plan.limit }
+        ensures over { IsFalse result → (ready self.old.plan A.meaning self.old.journal ≡ []) × (self.new.journal ≡ self.old.journal) }
+    {
+        match self.pick_ready(pick) {
+            Some(event) => {
+                self.take(event);
+                true
+            }
+            None => false,
+        }
+    }
+
+    /// The event that a pick names among those that may follow; `None` exactly where none may.
+    fn pick_ready(&mut self, pick: u64) -> Option<Event>
+        ensures plan { self.new.plan ≡ self.old.plan }
+        ensures journal { self.new.journal ≡ self.old.journal }
+        ensures picked { MatchOption result (ready self.old.plan A.meaning self.old.journal ≡ [])
+            (λ event. slice_get (ready self.old.plan A.meaning self.old.journal) (pick % length (ready self.old.plan A.meaning self.old.journal)) ≡ Some event) }
+    {
+        if !self.goes_on() {
+            return None;
+        }
+        match self.pick_allowed(pick) {
+            Some(event) => Some(event),
+            None => self.tick_if_waiting(),
+        }
+    }
+
+    /// The event that a pick names among those that may come, time aside; `None` exactly where none may.
+    fn pick_allowed(&mut self, pick: u64) -> Option<Event>
+        requires { goes_on self.old.plan self.old.journal ≡ true }
+        ensures plan { self.new.plan ≡ self.old.plan }
+        ensures journal { self.new.journal ≡ self.old.journal }
+        ensures picked { MatchOption result (allowed self.old.plan A.meaning (state_after self.old.plan A.meaning self.old.journal) ≡ [])
+            (λ event. slice_get (allowed self.old.plan A.meaning (state_after self.old.plan A.meaning self.old.journal))
+            (pick % length (allowed self.old.plan A.meaning (state_after self.old.plan A.meaning self.old.journal))) ≡ Some event) }
+    {
+        picked(
+            &self.plan,
+            &self.parts,
+            &self.groups,
+            &mut self.counts,
+            pick,
+        )
     }
 
     /// Goes on by this event, and answers true, exactly where it is among those that may follow; else nothing changes. It

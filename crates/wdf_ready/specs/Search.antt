@@ -27,6 +27,10 @@ offered plan m S group place = if_allowed plan m S (candidate plan m S group pla
 abbrev pub offered_from : {A : Type 0} → Plan → Meaning A → State A → Group → ℕ → List Event
 offered_from plan m S group place = filter_map (offered plan m S group) (range_with_len place (places_in plan S group - place))
 
+-- how many events may come of a group
+abbrev pub offered_len : {A : Type 0} → Plan → Meaning A → State A → Group → ℕ
+offered_len plan m S g = length (offered_from plan m S g 0)
+
 -- nothing may come of a group's places from one on up to another, which is one
 pub record Skips {A : Type 0} (plan : Plan) (m : Meaning A) (S : State A) (group : Group) (from place : ℕ) : Type 0 where
   pub passed : offered_from plan m S group from ≡ offered_from plan m S group place

@@ -5,6 +5,7 @@
 mod actor;
 mod among;
 mod candidates;
+mod counted;
 mod direct;
 mod due;
 mod endings;
@@ -15,6 +16,7 @@ mod started;
 
 pub use actor::is_by;
 pub use among::is_allowed;
+pub use counted::picked;
 pub use endings::{is_open, waits_for_time};
 pub use groups::groups_of;
 pub use search::{allowed_at, allowed_len, first_by};

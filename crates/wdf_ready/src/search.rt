@@ -137,7 +137,7 @@ fn place_of(id: Option<ObjectId>) -> Option<usize>
 }
 
 /// How many events may come of a group's places. Completions are counted without a search.
-fn offered_len<A: Agent>(plan: &IndexedPlan, parts: &Parts<A>, group: Group) -> usize
+pub(crate) fn offered_len<A: Agent>(plan: &IndexedPlan, parts: &Parts<A>, group: Group) -> usize
     requires agents { length parts.now.agents ≤ 2 ^ 16 }
     ensures length { result ≡ length (search.offered_from plan.now A.meaning parts.now group 0) }
     ensures small { result ≤ 2 ^ 32 }
@@ -169,7 +169,7 @@ fn searched_len<A: Agent>(plan: &IndexedPlan, parts: &Parts<A>, group: Group) ->
 
 /// The k-th of the events that may come of a group's places, or how many places of a list are left after
 /// them.
-fn offered_at<A: Agent>(
+pub(crate) fn offered_at<A: Agent>(
     plan: &IndexedPlan,
     parts: &Parts<A>,
     group: Group,

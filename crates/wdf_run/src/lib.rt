@@ -58,30 +58,5 @@ fn go_by<A: Agent>(core: &mut Core<A>, pick: u64) -> bool
     if pick == 0 {
         return core.apply_first();
     }
-    go_by_count(core, pick)
-}
-
-/// The same, by the count of the events that may follow.
-fn go_by_count<A: Agent>(core: &mut Core<A>, pick: u64) -> bool
-    ensures plan { core.new.plan ≡ core.old.plan }
-    ensures taken { IsTrue result → (event : Event) × (slice_get (ready core.old.plan A.meaning core.old.journal) (pick % length (ready core.old.plan A.meaning core.old.journal)) ≡ Some event)
-        × (core.new.journal ≡ core.old.journal ++ event ∷ []) }
-    ensures room { IsTrue result → length core.old.journal < core.old.plan.limit }
-    ensures over { IsFalse result → (ready core.old.plan A.meaning core.old.journal ≡ []) × (core.new.journal ≡ core.old.journal) }
-{
-    let count = core.ready_len();
-    if count == 0 {
-        return false;
-    }
-    core.apply(place_of(pick, count));
-    true
-}
-
-/// The place that a pick names among so many events.
-fn place_of(pick: u64, count: usize) -> usize
-    requires { 0 < count }
-    ensures place { result ≡ pick % count }
-    ensures below { result < count }
-{
-    (pick % count as u64) as usize
+    core.apply_pick(pick)
 }

@@ -1,10 +1,29 @@
 //! A gate that holds nobody.
+use std::thread;
+use std::time::{Clock, Duration};
 use wdf_turn::Gate;
 
-/// A gate that holds no worker.
-#[derive(Clone, Copy, Debug)]
-pub struct OpenGate;
+/// How often a worker looks before it sleeps between two looks.
+const BRISK_LOOKS: u32 = 20;
 
-impl Gate for OpenGate {
+/// How long it sleeps, in microseconds.
+const NAP: u64 = 50;
+
+/// A gate that holds no worker. One that has nothing to do sleeps after its first looks, so that it takes no processor
+/// from those that have.
+pub struct OpenGate<'a, C: Clock> {
+    /// By what a worker sleeps.
+    pub clock: &'a C,
+}
+
+impl<C: Clock> Gate for OpenGate<'_, C> {
     fn pass(&self, _worker: u32, _turn: u32) {}
+
+    fn rest(&self, looks: u32) {
+        if looks < BRISK_LOOKS {
+            thread::yield_now();
+        } else {
+            thread::sleep(self.clock, Duration::from_micros(NAP));
+        }
+    }
 }

@@ -3,7 +3,6 @@
 #![tactic(auto)]
 
 mod allowed;
-mod course;
 mod frames;
 mod own;
 mod taking;

@@ -1,25 +1,244 @@
-//! The state after an event.
-ghost use Rattle.std.specs.Prelude.{◌≡◌, ℕ, ◌+◌, ◌<◌, ◌^◌};
-ghost use Rattle.wdf_model.specs.rules.Steps as steps;
-ghost use Rattle.wdf_model.specs.rules.Deeds.{do_deeds};
+//! The state after an event: one function for each kind of event that the top frame of a processor takes.
+ghost use Rattle.std.specs.Prelude.{◌≡◌, ℕ, ◌∷◌, ◌+◌, ◌++◌, ◌<◌, ◌^◌, []};
+ghost use Rattle.wdf_model.specs.Ids.{frame_id};
 ghost use Rattle.wdf_model.specs.Tables.{entry};
+ghost use Rattle.wdf_model.specs.rules.Deeds.{do_deeds};
 ghost use Rattle.wdf_model.specs.rules.Room.{AreDoable};
+ghost use Rattle.wdf_model.specs.rules.Script as script;
+ghost use Rattle.wdf_model.specs.rules.Steps as steps;
 ghost use Rattle.wdf_steps.specs.Clock.{FitsClock};
+ghost use Rattle.wdf_steps.specs.Moves.{goes_on_with, spends_on};
 
-use crate::course::{Course, deeds};
-use wdf_base::{Agent, Event};
-use wdf_parts::Parts;
+use crate::frames::{answered, goes_on, spending, stepped, waiting};
+use wdf_base::{Agent, Call, Cpu, Event, Frame, FrameId, Value};
+use wdf_calls::{outcome, second_deeds};
+use wdf_model::Deed;
+use wdf_parts::{Deeds, Parts};
 use wdf_plan_index::IndexedPlan;
+use wdf_posts::post_deeds;
+use wdf_script::next;
+use wdf_starts::{end_deeds, stage_deeds, start_deeds};
 
-/// Does the deeds of an event.
-#[tactic(auto, using(crate::proofs::Parts::done_after, crate::proofs::Parts::doable_first, crate::proofs::Parts::doable_then))]
-fn take_course<A: Agent>(plan: &IndexedPlan, parts: &mut Parts<A>, course: &Course)
-    requires { AreDoable plan.now course.now parts.old }
-    ensures { parts.new ≡ do_deeds plan.now course.now parts.old }
+/// A frame goes on.
+fn go_on<A: Agent>(plan: &IndexedPlan, parts: &mut Parts<A>, number: FrameId, frame: Frame)
+    requires { AreDoable plan.now (Deed.GoOn number frame ∷ []) parts.old }
+    ensures { parts.new ≡ do_deeds plan.now (Deed.GoOn number frame ∷ []) parts.old }
 {
-    parts.do_deeds(plan, &course.call);
-    parts.do_deeds(plan, &course.second);
-    parts.do_deeds(plan, &course.frame);
+    parts.do_deed(plan, Deed::GoOn { number, frame });
+}
+
+/// A step inside the top frame.
+fn step_inside<A: Agent>(plan: &IndexedPlan, parts: &mut Parts<A>, cpu: Cpu)
+    requires { AreDoable plan.now (steps.by_top parts.old cpu.0 (λ f frame. Deed.GoOn (frame_id f) (steps.stepped frame (script.intent_of plan.now frame)) ∷ [])) parts.old }
+    ensures { parts.new ≡ do_deeds plan.now (steps.by_top parts.old cpu.0 (λ f frame. Deed.GoOn (frame_id f) (steps.stepped frame (script.intent_of plan.now frame)) ∷ [])) parts.old }
+{
+    let Some(number) = parts.cpus().top(cpu) else {
+        return;
+    };
+    let frame = parts.cpus().frame(number);
+    let after = stepped(frame, &next(plan.plan(), frame));
+    go_on(plan, parts, number, after);
+}
+
+/// The top frame prints a value, and goes on.
+fn print<A: Agent>(plan: &IndexedPlan, parts: &mut Parts<A>, cpu: Cpu)
+    requires { AreDoable plan.now (steps.by_top parts.old cpu.0 (λ f frame. Deed.GoOn (frame_id f) (steps.goes_on plan.now frame) ∷ [])) parts.old }
+    ensures { parts.new ≡ do_deeds plan.now (steps.by_top parts.old cpu.0 (λ f frame. Deed.GoOn (frame_id f) (steps.goes_on plan.now frame) ∷ [])) parts.old }
+{
+    let Some(number) = parts.cpus().top(cpu) else {
+        return;
+    };
+    let after = goes_on(plan, parts.cpus().frame(number));
+    go_on(plan, parts, number, after);
+}
+
+/// The top frame begins to spend a number of ticks.
+fn spend<A: Agent>(plan: &IndexedPlan, parts: &mut Parts<A>, cpu: Cpu, ticks: u64)
+    requires fits { parts.old.clock + ticks < 2 ^ 64 }
+    requires doable { AreDoable plan.now (steps.by_top parts.old cpu.0 (spends_on plan.now parts.old ticks)) parts.old }
+    ensures { parts.new ≡ do_deeds plan.now (steps.by_top parts.old cpu.0 (spends_on plan.now parts.old ticks)) parts.old }
+{
+    let Some(number) = parts.cpus().top(cpu) else {
+        return;
+    };
+    let after = spending(plan, parts.cpus().frame(number), parts.now(), ticks);
+    go_on(plan, parts, number, after);
+}
+
+/// A register is read or written by the top frame.
+fn access<A: Agent>(plan: &IndexedPlan, parts: &mut Parts<A>, cpu: Cpu, value: u64)
+    requires { AreDoable plan.now (steps.by_top parts.old cpu.0 (goes_on_with plan.now value)) parts.old }
+    ensures { parts.new ≡ do_deeds plan.now (steps.by_top parts.old cpu.0 (goes_on_with plan.now value)) parts.old }
+{
+    let Some(number) = parts.cpus().top(cpu) else {
+        return;
+    };
+    let after = answered(plan, parts.cpus().frame(number), Value::Num(value));
+    go_on(plan, parts, number, after);
+}
+
+/// What a part of a call does is done, and the frame goes on.
+#[tactic(auto, using(crate::proofs::Parts::done_after, crate::proofs::Parts::doable_first, crate::proofs::Parts::doable_then))]
+fn do_part<A: Agent>(
+    plan: &IndexedPlan,
+    parts: &mut Parts<A>,
+    part: &Deeds,
+    number: FrameId,
+    frame: Frame,
+)
+    requires { AreDoable plan.now (part.now ++ Deed.GoOn number frame ∷ []) parts.old }
+    ensures { parts.new ≡ do_deeds plan.now (part.now ++ Deed.GoOn number frame ∷ []) parts.old }
+{
+    parts.do_deeds(plan, part);
+    go_on(plan, parts, number, frame);
+}
+
+/// What both parts of a call do is done, and the frame goes on.
+#[tactic(auto, using(crate::proofs::Parts::done_after, crate::proofs::Parts::doable_first, crate::proofs::Parts::doable_then))]
+fn do_both<A: Agent>(
+    plan: &IndexedPlan,
+    parts: &mut Parts<A>,
+    first: &Deeds,
+    second: &Deeds,
+    number: FrameId,
+    frame: Frame,
+)
+    requires { AreDoable plan.now (first.now ++ second.now ++ Deed.GoOn number frame ∷ []) parts.old }
+    ensures { parts.new ≡ do_deeds plan.now (first.now ++ second.now ++ Deed.GoOn number frame ∷ []) parts.old }
+{
+    parts.do_deeds(plan, first);
+    parts.do_deeds(plan, second);
+    go_on(plan, parts, number, frame);
+}
+
+/// A call is answered: its first part, its second, and the frame goes on.
+fn answer<A: Agent>(plan: &IndexedPlan, parts: &mut Parts<A>, cpu: Cpu, call: &Call, value: Value)
+    requires { AreDoable plan.now (steps.by_top parts.old cpu.0 (steps.did_deeds plan.now parts.old cpu.0 call.now value)) parts.old }
+    ensures { parts.new ≡ do_deeds plan.now (steps.by_top parts.old cpu.0 (steps.did_deeds plan.now parts.old cpu.0 call.now value)) parts.old }
+{
+    let Some(number) = parts.cpus().top(cpu) else {
+        return;
+    };
+    let after = answered(plan, parts.cpus().frame(number), value);
+    let outcome = outcome(plan, parts, cpu, number, call);
+    let second = second_deeds(number, call);
+    do_both(plan, parts, &outcome.deeds, &second, number, after);
+}
+
+/// The first part of a call is done, and the frame waits for the rest.
+fn wait<A: Agent>(plan: &IndexedPlan, parts: &mut Parts<A>, cpu: Cpu, call: &Call)
+    requires { AreDoable plan.now (steps.by_top parts.old cpu.0 (steps.waiting_deeds plan.now parts.old cpu.0 call.now)) parts.old }
+    ensures { parts.new ≡ do_deeds plan.now (steps.by_top parts.old cpu.0 (steps.waiting_deeds plan.now parts.old cpu.0 call.now)) parts.old }
+{
+    let Some(number) = parts.cpus().top(cpu) else {
+        return;
+    };
+    let outcome = outcome(plan, parts, cpu, number, call);
+    let after = waiting(parts.cpus().frame(number), call, outcome.answer);
+    do_part(plan, parts, &outcome.deeds, number, after);
+}
+
+/// A wait is over: the second part of its call is done, and the frame goes on.
+fn wake<A: Agent>(plan: &IndexedPlan, parts: &mut Parts<A>, cpu: Cpu, call: &Call, value: Value)
+    requires { AreDoable plan.now (steps.by_top parts.old cpu.0 (steps.woke_deeds plan.now call.now value)) parts.old }
+    ensures { parts.new ≡ do_deeds plan.now (steps.by_top parts.old cpu.0 (steps.woke_deeds plan.now call.now value)) parts.old }
+{
+    let Some(number) = parts.cpus().top(cpu) else {
+        return;
+    };
+    let after = answered(plan, parts.cpus().frame(number), value);
+    let second = second_deeds(number, call);
+    do_part(plan, parts, &second, number, after);
+}
+
+/// What these deeds do is done.
+fn do_all<A: Agent>(plan: &IndexedPlan, parts: &mut Parts<A>, deeds: Deeds)
+    requires { AreDoable plan.now deeds parts.old }
+    ensures { parts.new ≡ do_deeds plan.now deeds parts.old }
+{
+    parts.do_deeds(plan, &deeds);
+}
+
+/// One deed is done.
+fn do_one<A: Agent>(plan: &IndexedPlan, parts: &mut Parts<A>, deed: Deed)
+    requires { AreDoable plan.now (deed ∷ []) parts.old }
+    ensures { parts.new ≡ do_deeds plan.now (deed ∷ []) parts.old }
+{
+    parts.do_deed(plan, deed);
+}
+
+/// Does the deeds of an event, one row for each kind.
+fn take<A: Agent>(plan: &IndexedPlan, parts: &mut Parts<A>, event: &Event)
+    requires number { parts.old.number + 1 < 2 ^ 32 }
+    requires arrivals { (agent : ℕ) → entry 0 parts.old.arrivals agent + 1 < 2 ^ 32 }
+    requires clock { FitsClock parts.old event.now }
+    requires doable { AreDoable plan.now (steps.deeds plan.now parts.old event.now) parts.old }
+    ensures { parts.new ≡ do_deeds plan.now (steps.deeds plan.now parts.old event.now) parts.old }
+{
+    match event {
+        Event::Start {
+            cpu,
+            callback,
+            object,
+            request,
+        } => {
+            let deeds = start_deeds(plan, parts, *cpu, *callback, *object, *request);
+            do_all(plan, parts, deeds);
+        }
+        Event::Local { cpu, .. } => step_inside(plan, parts, *cpu),
+        Event::Log { cpu, .. } => print(plan, parts, *cpu),
+        Event::Spend { cpu, ticks } => spend(plan, parts, *cpu, *ticks),
+        Event::Register { cpu, value, .. } => access(plan, parts, *cpu, *value),
+        Event::Did {
+            cpu,
+            call,
+            answer: value,
+        } => answer(plan, parts, *cpu, call, *value),
+        Event::Waiting { cpu, call } => wait(plan, parts, *cpu, call),
+        Event::Woke { cpu, call, answer } => wake(plan, parts, *cpu, call, *answer),
+        Event::Park { cpu, .. } => do_one(plan, parts, Deed::ParkFrame { cpu: *cpu }),
+        Event::Unpark { cpu, frame } => do_one(
+            plan,
+            parts,
+            Deed::UnparkFrame {
+                cpu: *cpu,
+                frame: *frame,
+            },
+        ),
+        Event::End {
+            cpu,
+            callback,
+            object,
+            value,
+        } => {
+            let deeds = end_deeds(plan, parts, *cpu, *callback, object.id, *value);
+            do_all(plan, parts, deeds);
+        }
+        Event::Fault { .. } => {}
+        Event::Stage {
+            device,
+            stage,
+            interrupt,
+        } => do_all(
+            plan,
+            parts,
+            stage_deeds(plan, device.id, *stage, *interrupt),
+        ),
+        Event::Complete { request, .. } => do_one(
+            plan,
+            parts,
+            Deed::CompleteRequest {
+                request: request.id,
+            },
+        ),
+        Event::Cleanup { object } => do_one(plan, parts, Deed::CleanUp { object: object.id }),
+        Event::Destroy { object } => do_one(plan, parts, Deed::EndLife { object: object.id }),
+        Event::Posted { agent, post, .. } => {
+            let deeds = post_deeds(plan, parts, *agent, post);
+            do_all(plan, parts, deeds);
+        }
+        Event::Tick { .. } => do_one(plan, parts, Deed::PassTick),
+    }
 }
 
 /// The state after an event that may follow: its deeds are done, the agents hear of it, and it is counted.
@@ -30,7 +249,6 @@ pub fn step<A: Agent>(plan: &IndexedPlan, parts: &mut Parts<A>, event: &Event)
     requires doable { AreDoable plan.now (steps.deeds plan.now parts.old event.now) parts.old }
     ensures { parts.new ≡ steps.after plan.now A.meaning parts.old event.now }
 {
-    let course = deeds(plan, parts, event);
-    take_course(plan, parts, &course);
+    take(plan, parts, event);
     parts.count(event);
 }

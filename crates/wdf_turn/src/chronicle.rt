@@ -4,11 +4,14 @@ ghost use Rattle.wdf_base.specs.declared.event.Event.{Event};
 
 use wdf_base::Event;
 
-/// What a worker calls before each of its turns. A gate may slow a worker down, and changes nothing
-/// else.
+/// What a worker calls before each of its turns, and while it has nothing to do. A gate may slow a worker down, and
+/// changes nothing else.
 pub trait Gate {
     /// Worker `worker` is about to begin its turn `turn`. Both count from 0.
     fn pass(&self, worker: u32, turn: u32);
+
+    /// A worker that has nothing to do has looked so often, in vain, whether the history has grown. It lets others run.
+    fn rest(&self, looks: u32);
 }
 
 /// A value with a history: a list of events that grows, on a root that stays.

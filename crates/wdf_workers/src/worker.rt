@@ -20,6 +20,9 @@ pub struct Shift {
 /// How often, at most, a worker whose turn added nothing looks whether the history has grown, before its next turn.
 const LOOKS: u32 = 100;
 
+/// After so many turns in which nobody added anything a worker leaves. What it leaves, the caller does.
+const VAIN_TURNS: u32 = 32;
+
 /// A turn: one try to take the value, one event at most, and the value goes back.
 fn take_turn<T: Advance>(turn: &Turn<T>, seat: &mut Seat<T>, crew: Crew) -> Progress
     requires { IsIdleSeat turn.now seat.old }
@@ -36,39 +39,54 @@ fn take_turn<T: Advance>(turn: &Turn<T>, seat: &mut Seat<T>, crew: Crew) -> Prog
     }
 }
 
-/// Lets other threads run until the history is longer than this, or until it was looked at so many times. So a worker
-/// that has nothing to do keeps the value from no other, and uses its turns up slowly.
-fn await_growth<T: Advance>(turn: &Turn<T>, seat: &mut Seat<T>, length: u64)
+/// Lets other threads run until the history is longer than this, and answers true; false where it was looked at so many
+/// times in vain. So a worker that has nothing to do keeps the value from no other, and uses its turns up slowly.
+fn await_growth<T: Advance, G: Gate>(
+    turn: &Turn<T>,
+    seat: &mut Seat<T>,
+    length: u64,
+    gate: &G,
+) -> bool
     requires { IsIdleSeat turn.now seat.old }
     ensures idle { IsIdleSeat turn.now seat.new }
     ensures same { IsSameSeat seat.old seat.new }
 {
-    for _look in 0..LOOKS {
-        thread::yield_now();
+    for look in 0..LOOKS {
+        gate.rest(look);
         if turn.seen(seat) > length {
-            return;
+            return true;
         }
     }
+    false
 }
 
-/// A turn, and after one that added nothing the wait for the next. Answers false only where nothing may follow.
-fn turn_and_wait<T: Advance>(turn: &Turn<T>, seat: &mut Seat<T>, crew: Crew) -> bool
+/// A turn, and after one that added nothing the wait for the next. It comes to `Added` where the history has grown, by
+/// this worker or by another.
+fn turn_and_wait<T: Advance, G: Gate>(
+    turn: &Turn<T>,
+    seat: &mut Seat<T>,
+    crew: Crew,
+    gate: &G,
+) -> Progress
     requires { IsIdleSeat turn.now seat.old }
     ensures idle { IsIdleSeat turn.now seat.new }
     ensures same { IsSameSeat seat.old seat.new }
 {
     let length = turn.seen(seat);
     match take_turn(turn, seat, crew) {
-        Progress::Added => true,
         Progress::Waits => {
-            await_growth(turn, seat, length);
-            true
+            if await_growth(turn, seat, length, gate) {
+                Progress::Added
+            } else {
+                Progress::Waits
+            }
         }
-        Progress::Over => false,
+        progress => progress,
     }
 }
 
-/// All turns of a worker, or fewer where nothing may follow any more. It passes the gate before each.
+/// All turns of a worker, or fewer: it leaves where nothing may follow any more, or where nobody has added anything for
+/// so many of its turns. It passes the gate before each.
 fn work<T: Advance, G: Gate>(
     turn: &Turn<T>,
     seat: &mut Seat<T>,
@@ -82,10 +100,13 @@ fn work<T: Advance, G: Gate>(
 {
     let crew = crew_of(worker, shift.processors);
     let number = u32::try_from(worker).unwrap_or(u32::MAX);
+    let mut vain = 0;
     for k in 0..shift.turns {
         gate.pass(number, k);
-        if !turn_and_wait(turn, seat, crew) {
-            return;
+        match turn_and_wait(turn, seat, crew, gate) {
+            Progress::Added => vain = 0,
+            Progress::Waits if vain < VAIN_TURNS => vain += 1,
+            _ => return,
         }
     }
 }

@@ -4,10 +4,10 @@ use Rattle.wdf_core.proofs.Journal.{agents_small, found, groups_small}
 use Rattle.wdf_core.proofs.machine.Core.allowed_len.Goals as goal
 
 pub allowed_len-requires-clause-agents : goal.allowed_len-requires-clause-agents
-allowed_len-requires-clause-agents g c = agents_small g.A.Agent.meaning c.self.inside.plan c.self.inside.journal.items c.self.inside.parts c.self.inside.groups.items _ c.self.invariant (rw (← c.self.view_is) at c.requires)
+allowed_len-requires-clause-agents g c = agents_small g.A.Agent.meaning c.self.inside.plan c.self.inside.journal.items c.self.inside.parts c.self.inside.groups.items _ c.self.invariant.way (rw (← c.self.view_is) at c.requires)
 
 pub allowed_len-requires-clause-few : goal.allowed_len-requires-clause-few
-allowed_len-requires-clause-few g c = rw c.deref.ensures.value (groups_small g.A.Agent.meaning c.self.inside.plan c.self.inside.journal.items c.self.inside.parts c.self.inside.groups.items _ c.self.invariant)
+allowed_len-requires-clause-few g c = rw c.deref.ensures.value (groups_small g.A.Agent.meaning c.self.inside.plan c.self.inside.journal.items c.self.inside.parts c.self.inside.groups.items _ c.self.invariant.way)
 
 pub returns-clause-length : goal.returns-clause-length
-returns-clause-length g c = rw (← c.self.view_is) ((rw c.deref.ensures.value at c.allowed_len.ensures.length) ∙ ap length (found g.A.Agent.meaning c.self.inside.plan c.self.inside.journal.items c.self.inside.parts c.self.inside.groups.items _ c.self.invariant))
+returns-clause-length g c = rw (← c.self.view_is) ((rw c.deref.ensures.value at c.allowed_len.ensures.length) ∙ ap length (found g.A.Agent.meaning c.self.inside.plan c.self.inside.journal.items c.self.inside.parts c.self.inside.groups.items _ c.self.invariant.way))

@@ -3,7 +3,7 @@ use Rattle.std.proofs.Common.{refl}
 use Rattle.wdf_core.proofs.machine.Core.begun.Goals as goal
 
 pub invariant_of-result : goal.invariant_of-result
-invariant_of-result g c = rw c.requires.empty c.requires.under_way
+invariant_of-result g c = record { way = rw c.requires.empty c.requires.under_way; counts = c.requires.room }
 
 pub returns-clause-plan : goal.returns-clause-plan
 returns-clause-plan g c = refl

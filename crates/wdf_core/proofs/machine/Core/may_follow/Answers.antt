@@ -7,4 +7,4 @@ use Rattle.wdf_core.proofs.machine.Core.may_follow.Goals as goal
 pub returns-then-not-goes_on : goal.returns-then-not-goes_on
 returns-then-not-goes_on g c =
     let stopped : goes_on c.self.inside.plan c.self.inside.journal.items ≡ false = (sym (rw (← c.self.view_is) at c.goes_on.ensures)) ∙ c.if-not-goes_on.true in
-    rw (← c.self.view_is) (by_none g.A.Agent.meaning c.self.inside.plan c.self.inside.journal.items c.self.inside.parts c.self.inside.groups.items _ c.self.invariant c.args.event.now stopped)
+    rw (← c.self.view_is) (by_none g.A.Agent.meaning c.self.inside.plan c.self.inside.journal.items c.self.inside.parts c.self.inside.groups.items _ c.self.invariant.way c.args.event.now stopped)
