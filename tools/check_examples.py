@@ -8,8 +8,8 @@ fenced block `kmdf` of the guide is a whole scenario; `kmdf blocks`, `kmdf devic
 are put where such lines belong, with the declarations below. A block `trace` is the run that `order`
 writes for the example before it. Each file of examples/ must also run to its end, with the status that its
 first comment names (`the status 4`), or with 0. What `order` writes of a file, and what `seed N` writes for each N
-below SEEDS (3 where it isn't named), must be accepted by `replay`. Of each scenario of tools/runs, tools/stuck and
-tools/spinning `order` must write the trace beside it. Those traces were made by hand or by another program.
+below SEEDS (3 where it isn't named), must be accepted by `replay`. Of each scenario of tools/runs, scenarios/stuck and
+scenarios/spinning `order` must write the trace beside it. Those traces were made by hand or by another program.
 """
 
 import os
