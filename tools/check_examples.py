@@ -24,11 +24,10 @@ import sys
 
 sys.dont_write_bytecode = True
 import try_seeds
+from built import PROGRAM, ROOT, program_at
 
-ROOT = os.path.dirname(os.path.dirname(os.path.abspath(__file__)))
 GUIDE = os.path.join("docs", "SCENARIO.md")
 DOCUMENTS = (GUIDE, os.path.join("docs", "FROM_C.md"), "README.md")
-PROGRAM = os.path.join(ROOT, "crates", "kmdfsim", "out", "kmdfsim")
 
 HEAD = "cpus 1\nlimit 100\nobjects 64\n"
 DECLARED = """class Note object
@@ -258,9 +257,7 @@ def check_worked(program):
 
 
 def main():
-    program = os.path.abspath(sys.argv[1]) if len(sys.argv) > 1 else PROGRAM
-    if not os.path.exists(program):
-        sys.exit(f"{program} isn't there: build the program first (./kmdfsim check < examples/first-read.kmdf)")
+    program = program_at(sys.argv[1] if len(sys.argv) > 1 else PROGRAM)
     seeds = int(sys.argv[2]) if len(sys.argv) > 2 else 3
     parts = [(f"examples of {path}", check_document(program, path)) for path in DOCUMENTS]
     parts.append(("slips", check_slips(program)))
