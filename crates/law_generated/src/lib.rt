@@ -1,4 +1,5 @@
-//! What holds of each generated scenario. The functions do nothing: their contracts are the laws.
+//! Laws of each generated scenario: it is the scene of its printed text, and has a plan. The functions do nothing: their
+//! contracts are the laws.
 #![tactic(auto)]
 
 ghost use Rattle.std.specs.Prelude.{◌≡◌, ℕ, None};

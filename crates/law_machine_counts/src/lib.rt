@@ -1,4 +1,4 @@
-//! More laws over all runs of the machine: what its parts keep of one another.
+//! Laws over all runs of the machine: what is counted, and what is kept twice, agrees.
 #![tactic(auto)]
 
 ghost use Rattle.std.specs.Prelude.{◌≡◌, ℕ, List, take};

@@ -1,5 +1,13 @@
 //! Laws over all runs of the machine: what its parts agree on of locks, levels, frames, lives, deferred work, arrivals and
 //! the devices of requests.
+//!
+//! # Choices
+//!
+//! - **Why does the law on lives ask for a resolved plan?** A deletion goes down from parent to child by rising ids.
+//!   In a plan that no text has, a queue could be declared before its device, or name a device that isn't there; it
+//!   would stay live where its parent doesn't.
+//! - **Why does the law on levels ask for one?** Its proof uses that no script of an interrupt's callback belongs to
+//!   a class of spin locks: such a callback would hold a lock above its own level.
 #![tactic(auto)]
 
 ghost use Rattle.std.specs.Prelude.{◌≡◌, ℕ, true, List, take};

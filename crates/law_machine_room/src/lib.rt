@@ -1,4 +1,9 @@
 //! The room that a run takes: what each deed asks of the state is there at each place of every run of a resolved plan.
+//!
+//! # Choices
+//!
+//! - **What bounds what the parts are asked?** Laws over every run of a resolved plan (`law_machine_room`): at each
+//!   place each part has room for the next event, so `apply` asks nothing but a place.
 #![tactic(auto)]
 
 ghost use Rattle.std.specs.Prelude.{◌≡◌, ℕ, List, Some, slice_get, take};

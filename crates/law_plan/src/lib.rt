@@ -1,6 +1,14 @@
 //! What the plan of a text is: written out again with names in place of the numbers of names, it is the lines of
 //! the text. The functions do nothing: their contracts are the laws. `specs/WrittenOut.antt` has a line form for
 //! each item of a plan, and `specs/Told.antt` says which lines of the scene these are.
+//!
+//! # Choices
+//!
+//! - **How is it said that each number of a plan is that of the name that was written?** A plan is written out again.
+//!   `crates/law_plan/specs/WrittenOut.antt` has one line form for each item, with the name of the thing in place of
+//!   its number. A law says that these are the lines of the text. An object is written by its id, a register, a class
+//!   and a variable by its number. A number of nothing is written as `driver` or as an empty text, which no line can
+//!   have as a name.
 #![tactic(auto)]
 
 ghost use Rattle.std.specs.Prelude.{◌≡◌, ◌∷◌, List, None, Some, codes, drop, map, take};

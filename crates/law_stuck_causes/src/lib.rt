@@ -1,4 +1,18 @@
 //! Laws over all runs on how they end: what a stuck run's wait list says of it, and what a finished run has left.
+//!
+//! # Choices
+//!
+//! - **What is a true cause?** A test of the state for each form of line, in the words of the machine, with no search
+//!   in it: the definitions in `crates/law_stuck_causes/specs/Causes.antt`. A law says that each line passes it. A
+//!   cause that some form can't have passes no test.
+//! - **When must a line name a cause?** Where what it is about could start once each cause of its row is gone. A law
+//!   that a line names one has as premises only what keeps a start back and is no cause: that the object is live and
+//!   has the callback. Where an invariant gives such a premise, the law is stated without it.
+//! - **Where may a law ask more of the state?** Only where the laws that it is built on don't say it. So they don't
+//!   say that a parked frame waits in a call, that what is queued is live and has its callback, or that no request is
+//!   at an object that is being deleted. Each such condition is a premise of its law, in its own words. The laws of
+//!   `law_stuck_named` are without those on queues, on queued work and on steps, and the laws of `law_stuck_objects`
+//!   are without those on objects that are being deleted. They prove them of every run of a resolved plan.
 #![tactic(auto)]
 
 ghost use Rattle.std.specs.Prelude.{◌≡◌, ◌<◌, ℕ, true, false, List, Option, None, Some, is_some, slice_get};

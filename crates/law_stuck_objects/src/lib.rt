@@ -1,6 +1,13 @@
 //! Laws over all runs on how they end: the line of an object that is being deleted always names a cause, and so does each
 //! line of a stuck run's wait list that has causes. `cpus` means that the processors spin. Each plan is resolved, but in
 //! `taken_processors_spin` and `objects_find_no_processor`.
+//!
+//! # Choices
+//!
+//! - **What does `cpus` say?** That each processor which could take the start is taken: it has a frame, or one of as
+//!   high a level. A DPC can start on its own processor alone, and at `quiet` one such processor does. That each such
+//!   frame spins, or is under one that does, is no part of the test: `taken_processors_spin` of `law_stuck_objects`
+//!   proves it of a stuck run.
 #![tactic(auto)]
 
 ghost use Rattle.std.specs.Prelude.{◌≡◌, ◌<◌, ℕ, true, false, List, Option, Some, is_some, slice_get, take};

@@ -1,5 +1,5 @@
-//! Laws of a trace on parents and children that every run of the written machine keeps, whatever the plan and the agents
-//! are.
+//! The laws 1, 3 and 9 of a trace, on parents and children. Every run of the written machine keeps them, whatever the plan
+//! and the agents are, since events say what the parents and the classes of the tree are.
 #![tactic(auto)]
 
 ghost use Rattle.std.specs.Prelude.{◌≡◌, ℕ, true, List, Some, slice_get, take};

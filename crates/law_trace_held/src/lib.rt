@@ -1,5 +1,5 @@
-//! Laws of a trace on the requests that the driver holds, which every run of the written machine keeps, whatever the
-//! plan and the agents are.
+//! The events say which requests the driver holds, and a device is settled only after these were acknowledged. So it is in
+//! every run of the written machine, whatever the plan and the agents are: the greater part of law 6 of a trace.
 #![tactic(auto)]
 
 ghost use Rattle.std.specs.Prelude.{◌≡◌, ◌&&◌, ℕ, true, List, Option, Some, slice_get, take};

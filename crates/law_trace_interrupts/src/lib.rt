@@ -1,4 +1,4 @@
-//! The law of a trace on interrupts, which every run of a resolved plan keeps, whatever the agents are.
+//! Law 4 of a trace, on interrupts, which every run of a resolved plan keeps, whatever the agents are.
 #![tactic(auto)]
 
 ghost use Rattle.std.specs.Prelude.{◌≡◌, ℕ, true, List, Option, Some, slice_get, take};

@@ -1,4 +1,4 @@
-//! Laws of a trace that every run of the written machine keeps, whatever the plan and the agents are.
+//! What every run does once, whatever the plan and the agents are: parts of the laws 1, 3 and 9 of a trace.
 #![tactic(auto)]
 
 ghost use Rattle.std.specs.Prelude.{◌≡◌, ℕ, true, false, List, Option, Some, slice_get, take};

@@ -1,4 +1,12 @@
-//! Laws of a trace on power and on interrupts that every run of a resolved plan keeps, whatever the agents are.
+//! Parts of the laws 4 and 5 of a trace, on interrupts and on power, that every run of a resolved plan keeps, whatever the
+//! agents are. The steps that a device has left agree with its power.
+//!
+//! # Choices
+//!
+//! - **How is it said that the steps left agree with power?** By the first step left of two that undo one another.
+//!   Where neither is left, by the last of `working`, `sleeping` and `removed` among the steps left, or by the phase
+//!   where none of these is. The proof carries a test along the steps left, shown once for each list, and no list of
+//!   the steps taken.
 #![tactic(auto)]
 
 ghost use Rattle.std.specs.Prelude.{◌≡◌, ◌&&◌, ℕ, true, List, Option, Some, slice_get, take};

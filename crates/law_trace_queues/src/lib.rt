@@ -1,4 +1,4 @@
-//! The law of a trace on power, which every run of a resolved plan keeps, whatever the agents are.
+//! Law 5 of a trace, on power, which every run of a resolved plan keeps, whatever the agents are.
 #![tactic(auto)]
 
 ghost use Rattle.std.specs.Prelude.{◌≡◌, ℕ, true, List, Option, Some, slice_get, take};

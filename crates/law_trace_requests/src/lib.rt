@@ -1,4 +1,5 @@
-//! Laws of a trace on requests, which every run of the written machine keeps, whatever the plan and the agents are.
+//! The laws 7 and 8 of a trace, on cancel callbacks and on the order of presentations. Every run of the written machine
+//! keeps them, whatever the plan and the agents are.
 #![tactic(auto)]
 
 ghost use Rattle.std.specs.Prelude.{◌≡◌, ℕ, true, List, Some, slice_get, take};

@@ -1,4 +1,4 @@
-//! The law of a trace on what a device waits for as it loses power, which every run of a resolved plan keeps, whatever the
+//! Law 6 of a trace, on what a device waits for as it loses power. Every run of a resolved plan keeps it, whatever the
 //! agents are.
 #![tactic(auto)]
 

@@ -1,3 +1,9 @@
+//! What a plan declares: devices, queues, interrupts, targets, classes, registers, posts.
+//!
+//! # Choices
+//!
+//! - **Does a post line have variants of its own?** It is a tick and a `Post`: each line of an app, of `pnp` and of a
+//!   device gives exactly one form of post. `Done` has no line.
 ghost use Rattle.std.specs.Prelude.{◌≡◌};
 ghost use Rattle.wdf_base.specs.Kinds as kinds;
 

@@ -1,3 +1,18 @@
+//! Events, posts, stages, faults, endings, and who takes a step of the machine.
+//!
+//! # Choices
+//!
+//! - **Get and put of a register: one kind of event or two?** One, `Event::Register`, with `Access` Read or Write.
+//!   The table of events has one row for both, and a device's `when` lines speak of the same two accesses.
+//! - **What does an event keep?** What its line prints, and nothing else. A `Local` and a `Fault` keep the line of
+//!   the text that they print. `Stage` and `Start` keep their interrupt and their request as an `Option`: a rule, and
+//!   not the type, says where there is one (`enabled` and `disabled`; the ranks that carry a request). So lines are
+//!   read and printed by one form.
+//! - **What answers a post that is no arrival and no cancel?** `answer` is None, and prints nothing.
+//! - **What is a post of a device?** `Post::Act` holds an `Action` (set, raise, lower), which `when` and `at` lines
+//!   of the plan hold too.
+//! - **Which number does a cancel carry?** `arrival`, the number of the arrival among the app's own, from 1, as its
+//!   line prints it (64 bits, as any number of the text).
 use crate::call::{Call, Callback};
 use crate::ids::{Cpu, FrameId, Handle};
 use crate::value::{Status, Value};

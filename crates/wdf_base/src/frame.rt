@@ -1,3 +1,19 @@
+//! Frames, and what a frame is about to do.
+//!
+//! # Choices
+//!
+//! - **What is a step of a sequence?** `Step::Run` (a callback) or `Step::Pass` (a stage), each with the interrupt
+//!   that it is for, if any: a device may have several. A wait line drops the interrupt when it prints, as its form
+//!   has no place for it.
+//! - **How does a frame know its statements?** It keeps the number of its script, and the number of the statement in
+//!   it. The object alone doesn't determine the script of a class object.
+//! - **What does a frame wait for?** `Pending`: the call, and the answer that it gets when the wait is over. The
+//!   object that it waits for is an argument of the call. DpcCancel and TimerStop need the answer that was found when
+//!   the wait began.
+//! - **When does a frame spend?** Where `until` is later than the clock; it starts as 0.
+//! - **What parts has an intent?** What the event prints. `Local` also keeps what it changes (`Change`: a variable,
+//!   nothing, or the count of a `repeat`) and where the frame goes on, so that no one evaluates the statement twice.
+//!   The other intents go on at the statement's `next`.
 use crate::call::{Call, Callback};
 use crate::ids::Handle;
 use crate::value::{Status, Value};

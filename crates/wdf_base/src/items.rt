@@ -1,3 +1,11 @@
+//! Lists that are read by number.
+//!
+//! # Choices
+//!
+//! - **How long may a list be?** A list (`Items`) has a ceiling in its type: 2^32, or 65,535 where its numbers have
+//!   16 bits (classes, agents). So every reader of a length answers a number that fits, with no condition. A builder
+//!   asks that the list with the new item stays below its ceiling, which for the last number is one less than its
+//!   type would hold; the limits of a scenario are far below.
 ghost use Rattle.std.specs.Prelude.{◌≡◌, ◌+◌, ◌<◌, ◌^◌, ◌++◌, ◌∷◌, [], length, is_ok, Some, ◌==◌, if◌then◌else◌, slice_get};
 ghost use Rattle.std.specs.Borrow.{sem};
 

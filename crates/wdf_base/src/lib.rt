@@ -1,5 +1,11 @@
 //! The plain types that every layer of `kmdfsim` speaks of: ids, names, values, calls, events,
 //! endings, the plan of a run and the trait of an agent.
+//!
+//! # Choices
+//!
+//! - **Which derives?** Copy, comparison and Debug on all plain types. `Hash` on ids, handles and statuses, on
+//!   `Value`, `Callback`, `CallKind`, `LockRef` and `Actor`, and on some enums without fields. It isn't on the
+//!   others, since no map has them as keys.
 #![tactic(auto)]
 
 mod agent;

@@ -1,3 +1,15 @@
+//! The plan of a run, and its readers.
+//!
+//! # Choices
+//!
+//! - **Are scopes and levels of the plan the written ones?** They are the effective ones, after all defaults. Nobody
+//!   above needs the written ones, and the driver's own are gone with them.
+//! - **What are agents of the plan?** From 1 on: the apps in the order of the text, the devices by id, the targets by
+//!   id; each is added by the number of its name. The lines `at` of a device are its posts, and a target has none.
+//! - **By what is a script found?** By its callback and the whole of what it is declared on; no two scripts of a
+//!   resolved plan agree in both.
+//! - **What is the plan's second reader of names?** `object_named` finds the declared object with a name's number.
+//!   Only tests call it.
 ghost use Rattle.std.specs.Prelude.{◌≡◌, ◌+◌, ◌<◌, ◌≤◌, ◌^◌, length, Some, IfSome, position, slice_get, option_map};
 ghost use Rattle.wdf_base.specs.Plan.{declared_of, posts_of, statements_of, script_of, agent_of, is_script_of, object_named};
 ghost use Rattle.wdf_base.specs.Kinds.{has_name};

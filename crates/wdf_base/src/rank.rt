@@ -1,3 +1,10 @@
+//! Callbacks by rank: the order in which starts are offered, and each callback's object, level and lock.
+//!
+//! # Choices
+//!
+//! - **Are ranks numbers?** They are the enum `Rank`, with `number` from 1 to 14. Definitions and code match on it.
+//! - **What is in a callback's row?** Rank, object, level and lock, by callback and not by rank: ranks 2 and 11 have
+//!   callbacks with different rows.
 ghost use Rattle.std.specs.Prelude.{◌≡◌};
 ghost use Rattle.wdf_base.specs.Callbacks as table;
 

@@ -1,4 +1,11 @@
 //! The tests of equality that the plan's look-ups need.
+//!
+//! # Choices
+//!
+//! - **How is equality of an enum without fields defined?** By the place of the variant, as the language compares it
+//!   (`sameb` of the enum's own type). For structs and enums with fields: field by field, by cases. Each test is a
+//!   definition into Bool with a function of the same name, which ensures both that it computes this and that it is
+//!   true exactly where the two are equal.
 ghost use Rattle.std.specs.Prelude.{◌≡◌, ◌↔◌, IsTrue};
 ghost use Rattle.wdf_base.specs.Same as same;
 

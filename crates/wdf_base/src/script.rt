@@ -1,3 +1,14 @@
+//! Scripts: expressions and statements, with numbers in place of names.
+//!
+//! # Choices
+//!
+//! - **What does a statement carry?** The line that it prints, the number of the statement that follows it, and for
+//!   `if` and `repeat` where to go otherwise. The count of statements of the script is the end of the callback.
+//! - **How does a `repeat` come round?** The end of its body is a statement of its own, `Again`. It prints the line
+//!   of the `repeat`, and knows the body's first statement and the depth of its counter. It isn't counted against the
+//!   limit of statements.
+//! - **How are variables numbered?** From 0 in each callback, in the order of the lines that first assign them. So a
+//!   frame keeps its sixteen variables in a row.
 ghost use Rattle.std.specs.Prelude.{◌≡◌};
 
 use crate::call::{CallKind, Callback};

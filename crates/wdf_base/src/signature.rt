@@ -1,3 +1,13 @@
+//! The framework calls: the level of each, and the sorts of its arguments.
+//!
+//! # Choices
+//!
+//! - **What is in a call's row?** Its greatest level, the sorts of its three arguments, and whether a Cleaned object
+//!   will do. The count of arguments follows from the row. The sort of a class argument says the kind of object that
+//!   is made, which the plan asks of the class. The bounds of script errors (a cell up to 7, the flag of
+//!   `WdfRequestSend` up to 1, the action of `WdfIoTargetStop` up to 2) are sorts too; other flags are any number.
+//! - **How does a level depend on an argument?** `DispatchIf(n)`: 2 where the second argument is the number n, else
+//!   0. It serves the flag 0 of two calls and the action 2 of one.
 ghost use Rattle.std.specs.Prelude.{◌≡◌, ◌≤◌};
 ghost use Rattle.wdf_base.specs.Calls as calls;
 

@@ -1,3 +1,9 @@
+//! The lines of a stuck run's wait list, with their causes.
+//!
+//! # Choices
+//!
+//! - **Wait lines: one type of cause, or one a form?** One `Cause` for all forms and an `Option`, since three forms
+//!   have none. That form and cause are in one row of the table is said by `IsWaitOf` of `wdf_trace`.
 use crate::call::Callback;
 use crate::event::Step;
 use crate::ids::{FrameId, Handle};

@@ -1,4 +1,13 @@
 //! The generated scenario: a large valid input, of which a number picks the reads.
+//!
+//! # Choices
+//!
+//! - **How is it said?** As the lines of its text, with expressions as trees; `scene_of` numbers their nodes. So that
+//!   it is the scene of a text needs no second definition.
+//! - **Which line numbers has it?** Those of its canonical text, so a fault of its run names the line that `gen N`
+//!   writes.
+//! - **How does an app find its words?** It goes over all words of the seed and keeps each fourth read. Four passes
+//!   over 2,900 words cost some microseconds, and no list of words has to be kept.
 #![tactic(auto)]
 
 ghost use Rattle.std.specs.Prelude.{◌≡◌, IfOk};

@@ -1,4 +1,4 @@
-//! The whole input of a source, read to its end.
+//! The whole input of a source, read to its end, and no further than one byte past the limit.
 #![tactic(auto)]
 
 mod input;

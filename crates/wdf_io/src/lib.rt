@@ -1,4 +1,11 @@
 //! The outside: where bytes come from and where they go.
+//!
+//! # Choices
+//!
+//! - **What do a source and a sink say of their content?** They may say nothing: the system's streams don't know it.
+//!   A clause that speaks of bytes then claims nothing of them.
+//! - **What does a read leave in the rest of its buffer?** It isn't said, since a reader of the system may write
+//!   there.
 #![tactic(auto)]
 
 ghost use Rattle.std.specs.Prelude.{◌≡◌, ℕ, ◌<◌, ◌≤◌, ◌↔◌, ◌++◌, Option, List, [], length, take, IfOk, IfSome, IsOk, OnOk, OnErr};

@@ -1,4 +1,8 @@
 //! The locks of a run: who holds which, and which scope lock a callback needs.
+//!
+//! # Choices
+//!
+//! - **Why does giving a lock back take no frame?** A lock has one holder.
 #![tactic(auto)]
 
 mod held;

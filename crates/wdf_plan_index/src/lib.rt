@@ -1,5 +1,11 @@
 //! A plan with tables over it, and what it says of its queues, interrupts, classes, callbacks and agents, by
 //! id and by number: what the rules of the machine ask.
+//!
+//! # Choices
+//!
+//! - **Who builds tables over a plan?** `IndexedPlan` of `wdf_plan_index`, once, before a run. It has the ids of the
+//!   devices and of the targets, what belongs to each device, and the scripts by the names of their owners. Its model
+//!   is the plan itself, so no contract speaks of tables, and more of them change no contract.
 #![tactic(auto)]
 
 mod agents;

@@ -1,4 +1,4 @@
-//! Runs of the machine to their ends.
+//! Runs of the machine to their ends: those that picks make, and those of the words of a seed, by one loop.
 #![tactic(auto)]
 
 mod picks;

@@ -1,5 +1,9 @@
 //! Small tests of equality of the plain types. Two values are one exactly where their variants and
 //! fields are; each test computes the definition of the same name.
+//!
+//! # Choices
+//!
+//! - **When are two handles equal?** Where both the id and the name are. In a run the id determines the name.
 #![tactic(auto)]
 
 mod events;

@@ -1,4 +1,19 @@
 //! A scenario as the lines of its text, and the builders of scenes and of plans.
+//!
+//! # Choices
+//!
+//! - **Is `version 2` a line of the scene?** No. It is the scene's `version`; the canonical text prints the line from
+//!   it. A second place for it could disagree.
+//! - **What are the words `inherit`?** The absence of a scope or a level: `Scope { scope: None }`. After resolution
+//!   no inherit is left.
+//! - **One variant for `class` lines?** Two: kinds that have no parent, and kinds with a parent, which may be missing
+//!   (the plan refuses that).
+//! - **What is a name in an expression?** Statuses and the words `self`, `device`, `request`, `length`, `code`,
+//!   `status` are distinguished at once, since no declared thing and no variable may have these names. Any other name
+//!   is `Named`, a variable or a declared object.
+//! - **Where are the numbers of a `picks` line?** With the line, as a list of its own, so that the form of a line can
+//!   be copied.
+//! - **Where are missing arguments of a call?** `NoArgument`, so that the count isn't kept twice.
 #![tactic(auto)]
 
 mod block;

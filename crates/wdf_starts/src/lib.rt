@@ -1,5 +1,13 @@
 //! Starts and ends of callbacks, steps of Plug and Play and power sequences, cleanups and ends of
 //! objects: when each may come, and what it does. (KMDF, but for what is marked own)
+//!
+//! # Choices
+//!
+//! - **How is a step after `queues_up` made to wait?** The step itself waits, until no resume is due and no
+//!   EvtIoResume runs. So the lists of steps have no stage for it. It is the step that is next when `queues_up` is
+//!   passed; those after it don't wait again.
+//! - **What does it mean that a frame holds an object?** That the object is a lock, or an interrupt, and the frame
+//!   has its lock.
 #![tactic(auto)]
 
 mod checks;

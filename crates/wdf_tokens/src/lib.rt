@@ -1,4 +1,17 @@
 //! The tokens of a line: what each word names, the tokens that a line's bytes are, the bytes of tokens.
+//!
+//! # Choices
+//!
+//! - **Names above 32 bytes.** Two callback names are longer: `EvtDeviceD0EntryPostInterruptsEnabled` and
+//!   `EvtDeviceD0ExitPreInterruptsDisabled`. Exactly these two words are tokens at their length, with a variant of
+//!   their own (`Token::LongName`), since a `Name` has 32 bytes at most. Where no callback name may come they make
+//!   the line a BadLine. Every other name above 32 bytes is a BadToken at its first byte.
+//! - **Tokens are taken greedily.** `1a` is the number 1 and the name `a`; `===` is `==` and `=`; `!` without `=`
+//!   after it is a BadToken. A byte that no text has counts inside a comment too. A leading zero is allowed and goes
+//!   away in the canonical form.
+//! - **What is a column where no token begins?** One to which whole pieces lead, each as long as it can be: that is
+//!   how tokens are cut. `crates/wdf_tokens/specs/Tokens.antt` says what such a piece is; the relation uses it and no
+//!   fold over the line.
 #![tactic(auto)]
 
 mod keyword;

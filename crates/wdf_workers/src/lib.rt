@@ -1,5 +1,23 @@
 //! The machine run by processors as threads. The core is in a turnstile, and one worker at a time takes
 //! it, applies one event at most and gives it back.
+//!
+//! # Choices
+//!
+//! - **Why is `run_threads` no call of `wdf_run`?** It is in `wdf_workers`, above `wdf_run` and `wdf_turn`. So a
+//!   change of the workers doesn't try the edits of `wdf_run` again, and who runs by picks needs no threads.
+//! - **Whose seat is the first?** A worker's, as each seat is: there is one seat for each worker. It is the last of
+//!   the row, so that the others are taken off first and joined into it.
+//! - **When does a worker stop early?** Where it has the core and nothing may follow. A worker whose own actors have
+//!   nothing to do goes on to its next turn.
+//! - **What does a worker do after a turn that added nothing?** It lets other threads run, and looks up to a hundred
+//!   times whether the history has grown, before its next turn. Without that it would use all its turns up while one
+//!   event is done, and the caller would do the run; and it would search the machine anew though nothing has changed.
+//!   It waits for nobody: the looks are counted.
+//! - **How often does a worker try?** Four times `limit` turns, and at most 2^32 - 1 of them.
+//! - **How does the caller finish?** By `run_order` with no picks, since a missing pick is 0. Where the workers came
+//!   to the end it adds nothing.
+//! - **What says that the journal is a run?** The core's own invariant: each core that comes out of a turnstile is
+//!   one. The turnstile adds that it is a core of this plan, whose journal begins with the given one.
 #![tactic(auto)]
 
 mod crew;
