@@ -1,5 +1,5 @@
 -- Lemmas on the events so far: what may follow them, the ending of the run, and the next one.
-use Rattle.std.proofs.Common.{if◌then◌else◌, Bool, true, false, ◌⊎◌, inl, inr, ◌&&◌, ℕ, zero, suc, ◌≡◌, ◌+◌, ◌<◌, ◌≤◌, ◌^◌, List, [], ◌∷◌, ◌++◌, filter, length, position, Option, Some, None, is_none, is_some, refl, sym, ap, subst, ◌∙◌, arith, length-append, slice_get, nat_lt, nat_le, take}
+use Rattle.std.proofs.Common.{if◌then◌else◌, Bool, true, false, ◌⊎◌, inl, inr, ◌&&◌, ℕ, zero, suc, ◌≡◌, ◌+◌, ◌<◌, ◌≤◌, ◌^◌, ◌%◌, MatchOption, List, [], ◌∷◌, ◌++◌, filter, length, position, Option, Some, None, is_none, is_some, refl, sym, ap, subst, ◌∙◌, arith, length-append, slice_get, nat_lt, nat_le, take}
 use Rattle.std.proofs.lemmas.Bool.Decides.{nat_tests}
 use Rattle.std.proofs.lemmas.Bool.{lt-ltb, ltb-true, ltb-false}
 use Rattle.wdf_base.specs.Meaning.{Meaning}
@@ -199,6 +199,31 @@ module _ {A : Type 0} (m : Meaning A) (plan : Plan) (journal : List Event) (S : 
   first_tick h none =
       first_tick_by (allowed plan m (state_after plan m journal)) (waits_for_time m (state_after plan m journal)) refl none
       ∙ ap (λ xs. slice_get xs 0) (sym (ready_going h))
+
+  -- ---- the one that a pick names
+
+  pick_by : (pick : ℕ) (xs : List Event) (e : Event) → slice_get xs (pick % length xs) ≡ Some e
+      → slice_get (or_tick m (state_after plan m journal) xs) (pick % length (or_tick m (state_after plan m journal) xs)) ≡ Some e
+  pick_by pick [] e h = absurd (let z : ⊥ = cc in z)
+  pick_by pick (x ∷ xs) e h = h
+
+  -- among those that may come, time aside, where there are some
+  pub pick_found : (pick : ℕ) (e : Event) → goes_on plan journal ≡ true → slice_get (allowed plan m (state_after plan m journal)) (pick % length (allowed plan m (state_after plan m journal))) ≡ Some e
+      → slice_get (ready plan m journal) (pick % length (ready plan m journal)) ≡ Some e
+  pick_found pick e h at = subst (λ xs. slice_get xs (pick % length xs) ≡ Some e) (sym (ready_going h)) (pick_by pick (allowed plan m (state_after plan m journal)) e at)
+
+  pick_tick_by : (pick : ℕ) (xs : List Event) (b : Bool) (o : Option Event) → xs ≡ [] → waits_for_time m (state_after plan m journal) ≡ b → o ≡ tick_if b (state_after plan m journal).clock
+      → MatchOption o (or_tick m (state_after plan m journal) xs ≡ []) (λ e. slice_get (or_tick m (state_after plan m journal) xs) (pick % length (or_tick m (state_after plan m journal) xs)) ≡ Some e)
+  pick_tick_by pick (x ∷ xs) b o e w is = absurd (let z : ⊥ = cc in z)
+  pick_tick_by pick [] false o e w is = rw (is, w) refl
+  pick_tick_by pick [] true o e w is = let first : pick % 1 ≡ 0 = omega arith in rw (is, w, first) refl
+
+  -- where none may come, it is the next tick, if something waits for it
+  pub pick_tick : (pick : ℕ) (o : Option Event) → goes_on plan journal ≡ true → allowed plan m (state_after plan m journal) ≡ [] → o ≡ tick_if (waits_for_time m (state_after plan m journal)) (state_after plan m journal).clock
+      → MatchOption o (ready plan m journal ≡ []) (λ e. slice_get (ready plan m journal) (pick % length (ready plan m journal)) ≡ Some e)
+  pick_tick pick o h none is =
+      subst (λ xs. MatchOption o (xs ≡ []) (λ e. slice_get xs (pick % length xs) ≡ Some e)) (sym (ready_going h))
+      (pick_tick_by pick (allowed plan m (state_after plan m journal)) (waits_for_time m (state_after plan m journal)) o none refl is)
 
   -- ---- the first of an actor
 
