@@ -66,9 +66,9 @@ HEAD = """# What one has to believe
 
 ## The headline
 
-> For every scenario and every interleaving of processors, applications, devices and Plug and Play requests: what the
-> program writes is the text of a run of the written machine from the scenario's opening state, every answer included. The run
-> ends at a driver fault, at the event limit, or where the machine has no further step. And every such run keeps nine laws.
+> For every scenario and every interleaving of processors, applications, devices and Plug and Play requests, what the program
+> writes is the text of a run of the written machine. It starts at the scenario's opening state, and includes every answer. The
+> run ends at a driver fault, at the event limit, or where the machine has no further step. And every such run keeps nine laws.
 
 It is said of the words `order`, `seed N` and `run`, where the status is 0, 3, 4 or 5. It is the clause `headline` in the contract
 of [`serve`](../crates/wdf_serve/src/program.rt), and the record `WroteSomeRun` spells it out. The other clauses say what else the

@@ -19,7 +19,7 @@ use Rattle.wdf_trace.specs.Told.{event_in}
 use Rattle.wdf_trace.proofs.EventLaws.{line_event}
 use Rattle.wdf_trace.proofs.ResolvedLaws.{HasNames-resolved}
 use Rattle.law_machine_once.proofs.Numbers.{within_limit_of}
-use Rattle.law_lines.specs.Texts.{run_text, HasPlanEvents}
+use Rattle.wdf_run_text.specs.Texts.{text_of, HasEventsOf}
 use Rattle.law_lines.proofs.Cut.{first_cut}
 use Rattle.law_lines.proofs.Unfed.{line_unfed}
 
@@ -53,7 +53,7 @@ shifted plan n e es x = append_assoc (line_text plan n e ++ codes "\n") (lines_f
 -- two runs that have ended, with a common front and the same text after it, are one
 after_front : {A : Type 0} (plan : Plan) (m : Meaning A) → IsResolved plan → (s es fs : List Event) (x y : List ℕ)
     → IsRunOf plan m (s ++ es) → IsRunOf plan m (s ++ fs) → (ending_of plan m (s ++ es) ≡ ending.Running → ⊥) → (ending_of plan m (s ++ fs) ≡ ending.Running → ⊥)
-    → HasPlanEvents plan (s ++ es) → HasPlanEvents plan (s ++ fs) → length (s ++ es) < 2 ^ 60
+    → HasEventsOf plan (s ++ es) → HasEventsOf plan (s ++ fs) → length (s ++ es) < 2 ^ 60
     → lines_from plan (length s + 1) es ++ x ≡ lines_from plan (length s + 1) fs ++ y → s ++ es ≡ s ++ fs
 after_front plan m h s [] [] x y run_a run_b over_a over_b valid_a valid_b small same = refl
 after_front plan m h s [] (f ∷ fs) x y run_a run_b over_a over_b valid_a valid_b small same =
@@ -65,7 +65,7 @@ after_front plan m h s (e ∷ es) (f ∷ fs) x y run_a run_b over_a over_b valid
     let cut = first_cut (line_text plan (length s + 1) e) (line_text plan (length s + 1) f) (lines_from plan (length s + 1 + 1) es ++ x) (lines_from plan (length s + 1 + 1) fs ++ y)
     (line_unfed plan h (length s + 1) e).each (line_unfed plan h (length s + 1) f).each
     (sym (shifted plan (length s + 1) e es x) ∙ same ∙ shifted plan (length s + 1) f fs y) in
-    let one : e ≡ f = same_event_of plan h (length s + 1) e f n (valid_a (length s) e (at_front s e es)) (valid_b (length s) f (at_front s f fs)) cut.0 in
+    let one : e ≡ f = same_event_of plan h (length s + 1) e f n (valid_a e (length s, at_front s e es)) (valid_b f (length s, at_front s f fs)) cut.0 in
     let next : length s + 1 + 1 ≡ length (s ++ e ∷ []) + 1 = omega (arith, length-append s (e ∷ [])) in
     let left_a : (s ++ e ∷ []) ++ es ≡ s ++ e ∷ es = append_assoc s (e ∷ []) es in
     let left_b : (s ++ e ∷ []) ++ fs ≡ s ++ f ∷ fs = append_assoc s (e ∷ []) fs ∙ ap (λ z. s ++ z ∷ fs) one in
@@ -73,14 +73,14 @@ after_front plan m h s (e ∷ es) (f ∷ fs) x y run_a run_b over_a over_b valid
     ∙ after_front plan m h (s ++ e ∷ []) es fs x y
     (subst (IsRunOf plan m) (sym left_a) run_a) (subst (IsRunOf plan m) (sym left_b) run_b)
     (subst (λ r. ending_of plan m r ≡ ending.Running → ⊥) (sym left_a) over_a) (subst (λ r. ending_of plan m r ≡ ending.Running → ⊥) (sym left_b) over_b)
-    (subst (HasPlanEvents plan) (sym left_a) valid_a) (subst (HasPlanEvents plan) (sym left_b) valid_b)
+    (subst (HasEventsOf plan) (sym left_a) valid_a) (subst (HasEventsOf plan) (sym left_b) valid_b)
     (rw left_a small)
     (subst (λ k. lines_from plan k es ++ x ≡ lines_from plan k fs ++ y) next cut.1)
     ∙ left_b
 
 pub same_text : {A : Type 0} (plan : Plan) (m : Meaning A) → IsResolved plan → (a b : List Event) → IsRunOf plan m a → IsRunOf plan m b
-    → (ending_of plan m a ≡ ending.Running → ⊥) → (ending_of plan m b ≡ ending.Running → ⊥) → HasPlanEvents plan a → HasPlanEvents plan b
-    → run_text plan m a ≡ run_text plan m b → a ≡ b
+    → (ending_of plan m a ≡ ending.Running → ⊥) → (ending_of plan m b ≡ ending.Running → ⊥) → HasEventsOf plan a → HasEventsOf plan b
+    → text_of plan m a ≡ text_of plan m b → a ≡ b
 same_text plan m h a b run_a run_b over_a over_b valid_a valid_b same =
     let few : length a ≤ plan.limit = within_limit_of plan m a run_a in
     let both = and_parts (nat_le 1 plan.limit) (nat_le plan.limit 200000) h.limit in

@@ -33,7 +33,8 @@ use Rattle.wdf_model.proofs.Tests.{both_left, both_right}
 use Rattle.law_machine_lives.proofs.Keeping.{at_the_end}
 use Rattle.wdf_model.specs.rules.Room.{AreDoable}
 use Rattle.law_machine_room.proofs.DoableRuns.{ready_doable}
-use Rattle.law_lines.specs.Texts.{HasPlanEvents, run_text}
+use Rattle.wdf_run_text.specs.Texts.{HasEventsOf, text_of}
+use Rattle.wdf_run_text.proofs.EventsOfPlans.{none_among, one_more}
 use Rattle.law_lines.proofs.OneRun.{same_text}
 use Rattle.wdf_trace.specs.Events.{IsEventOf, IsValueOf}
 use Rattle.law_lines.specs.Framework.{is_of_framework}
@@ -53,31 +54,22 @@ use Rattle.law_lines.proofs.FrameEvents.{frame_event_of, is_of_frame}
 pub record HasHeard {A : Type 0} (plan : Plan) (m : Meaning A) (a : A) : Type 0 where
   pub agent : ℕ
   pub events : List Event
-  pub of_plan : HasPlanEvents plan events
+  pub of_plan : HasEventsOf plan events
   pub same : a ≡ agent_after_events plan m agent events
 
 abbrev AllHave : {A : Type 0} → Plan → Meaning A → List A → Type 0
 AllHave {A} plan m as' = (k : ℕ) (a : A) → slice_get as' k ≡ Some a → HasHeard plan m a
 
-pub events_more : (plan : Plan) (run : List Event) (e : Event) → HasPlanEvents plan run → IsEventOf plan e → HasPlanEvents plan (run ++ e ∷ [])
-events_more plan run e h is k x at = elim (split_last run e x k at) [
-  | inl before ↦ h k x before.1
-  | inr last ↦ subst (IsEventOf plan) last.1 is
-]
-
-no_events : (plan : Plan) → HasPlanEvents plan []
-no_events plan k x at = absurd (let z : ⊥ = cc in z)
-
 begin_heard : {A : Type 0} (plan : Plan) (m : Meaning A) (ns : List ℕ) → AllHave plan m (map (m.begin plan) ns)
 begin_heard plan m [] k a at = absurd (let z : ⊥ = cc in z)
-begin_heard plan m (n ∷ ns) zero a at = record { agent = n; events = []; of_plan = no_events plan; same = let s : m.begin plan n ≡ a = cc in sym s }
+begin_heard plan m (n ∷ ns) zero a at = record { agent = n; events = []; of_plan = none_among plan; same = let s : m.begin plan n ≡ a = cc in sym s }
 begin_heard plan m (n ∷ ns) (suc k) a at = begin_heard plan m ns k a at
 
 hears_one : {A : Type 0} (plan : Plan) (m : Meaning A) (e : Event) (a c : A) → IsEventOf plan e → HasHeard plan m a → m.fold a e ≡ c → HasHeard plan m c
 hears_one plan m e a c is h s = record {
   agent = h.agent;
   events = h.events ++ e ∷ [];
-  of_plan = events_more plan h.events e h.of_plan is;
+  of_plan = one_more plan h.events e h.of_plan is;
   same = sym s ∙ ap (λ x. m.fold x e) h.same ∙ sym (fold-append m.fold (m.begin plan h.agent) h.events (e ∷ []));
 }
 
@@ -251,10 +243,10 @@ module _ {A : Type 0} (plan : Plan) (m : Meaning A) (h : IsResolved plan) (fit :
   next_of_plan run place e is_run at = ready_of run place e is_run (told_now run is_run) at
 
   -- and so each event of a run
-  pub run_of_plan : (run : List Event) → IsRunOf plan m run → HasPlanEvents plan run
+  pub run_of_plan : (run : List Event) → IsRunOf plan m run → HasEventsOf plan run
   run_of_plan run is_run =
-      subst (HasPlanEvents plan) (take-length run)
-      (along_run (HasPlanEvents plan) (ready plan m) run (no_events plan) (λ before e place so_far held at. events_more plan before e held (next_of_plan before place e so_far at)) is_run (length run))
+      subst (HasEventsOf plan) (take-length run)
+      (along_run (HasEventsOf plan) (ready plan m) run (none_among plan) (λ before e place so_far held at. one_more plan before e held (next_of_plan before place e so_far at)) is_run (length run))
 
 -- ---- the laws
 
@@ -267,10 +259,10 @@ pub next_event_of_plan : {A : Type 0} (plan : Plan) (m : Meaning A) (run : List 
 next_event_of_plan plan m run place e h fit agents is_run at = next_of_plan plan m h fit agents run place e is_run at
 
 pub events_of_plan : {A : Type 0} (plan : Plan) (m : Meaning A) (run : List Event) → IsResolved plan → HasFittingNumbers plan → HasFittingAgents plan m → IsRunOf plan m run
-    → HasPlanEvents plan run
+    → HasEventsOf plan run
 events_of_plan plan m run h fit agents is_run = run_of_plan plan m h fit agents run is_run
 
 pub one_run_by_text : {A : Type 0} (plan : Plan) (m : Meaning A) → IsResolved plan → HasFittingNumbers plan → HasFittingAgents plan m → (a b : List Event) → IsRunOf plan m a → IsRunOf plan m b
-    → (ending_of plan m a ≡ ending.Running → ⊥) → (ending_of plan m b ≡ ending.Running → ⊥) → run_text plan m a ≡ run_text plan m b → a ≡ b
+    → (ending_of plan m a ≡ ending.Running → ⊥) → (ending_of plan m b ≡ ending.Running → ⊥) → text_of plan m a ≡ text_of plan m b → a ≡ b
 one_run_by_text plan m h fit agents a b run_a run_b over_a over_b same =
     same_text plan m h a b run_a run_b over_a over_b (events_of_plan plan m a h fit agents run_a) (events_of_plan plan m b h fit agents run_b) same

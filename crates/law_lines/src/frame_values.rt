@@ -6,7 +6,7 @@ ghost use Rattle.wdf_base.specs.declared.plan.Plan.{Plan};
 ghost use Rattle.wdf_base.specs.declared.event.Event.{Event};
 ghost use Rattle.wdf_base.specs.declared.event.Ending.TheVariants as ending;
 ghost use Rattle.wdf_model.specs.rules.Ready.{IsRunOf, ending_of, ready, state_after};
-ghost use Rattle.law_lines.specs.Texts.{HasPlanEvents, run_text};
+ghost use Rattle.wdf_run_text.specs.Texts.{HasEventsOf, text_of};
 ghost use Rattle.wdf_trace.specs.Events.{IsEventOf};
 ghost use Rattle.law_lines.specs.Agents.{HasFittingAgents};
 ghost use Rattle.law_lines.specs.Fitting.{HasFittingNumbers};
@@ -30,11 +30,11 @@ pub fn events_are_of_plan<A>()
 /// Each event of every such run is an event of the plan.
 pub fn runs_are_of_plan<A>()
     ensures { (plan : Plan) (m : Meaning A) (run : List Event) → IsResolved plan → HasFittingNumbers plan → HasFittingAgents plan m → IsRunOf plan m run
-        → HasPlanEvents plan run }
+        → HasEventsOf plan run }
 {}
 
 /// Two such runs that have ended are one where their texts are the same.
 pub fn one_run_of_a_text<A>()
     ensures { (plan : Plan) (m : Meaning A) → IsResolved plan → HasFittingNumbers plan → HasFittingAgents plan m → (a b : List Event) → IsRunOf plan m a → IsRunOf plan m b
-        → ending_of plan m a ≢ ending.Running → ending_of plan m b ≢ ending.Running → run_text plan m a ≡ run_text plan m b → a ≡ b }
+        → ending_of plan m a ≢ ending.Running → ending_of plan m b ≢ ending.Running → text_of plan m a ≡ text_of plan m b → a ≡ b }
 {}

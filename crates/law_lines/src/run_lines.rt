@@ -12,7 +12,8 @@ ghost use Rattle.wdf_model.specs.rules.Ready.{IsRunOf, ending_of};
 ghost use Rattle.wdf_lines.specs.Lines.{line_text};
 ghost use Rattle.wdf_lines.specs.Endings.{ending_text, wait_text};
 ghost use Rattle.law_lines.specs.Feeds.{has_no_feed};
-ghost use Rattle.law_lines.specs.Texts.{as_lines, run_text, HasPlanEvents};
+ghost use Rattle.wdf_run_text.specs.Texts.{text_of, HasEventsOf};
+ghost use Rattle.law_lines.specs.Texts.{as_lines};
 
 /// The line of an event has no line feed, whatever the event and its number.
 pub fn event_lines_unfed()
@@ -38,6 +39,6 @@ pub fn lines_are_cut_once()
 /// Two runs of a resolved plan that have ended, and whose events are of the plan, are one where their texts are the same.
 pub fn one_run_a_text<A>()
     ensures { (plan : Plan) (m : Meaning A) → IsResolved plan → (a b : List Event) → IsRunOf plan m a → IsRunOf plan m b
-        → ending_of plan m a ≢ ending.Running → ending_of plan m b ≢ ending.Running → HasPlanEvents plan a → HasPlanEvents plan b
-        → run_text plan m a ≡ run_text plan m b → a ≡ b }
+        → ending_of plan m a ≢ ending.Running → ending_of plan m b ≢ ending.Running → HasEventsOf plan a → HasEventsOf plan b
+        → text_of plan m a ≡ text_of plan m b → a ≡ b }
 {}

@@ -14,10 +14,10 @@ use Rattle.wdf_lines.specs.Lines.{line_text, lines_from}
 use Rattle.wdf_lines.specs.Endings.{ending_text, wait_text, wait_lines}
 use Rattle.wdf_trace.proofs.Blanks.{Lacks}
 use Rattle.law_lines.proofs.Unfed.{line_unfed, ending_unfed, wait_unfed}
-use Rattle.wdf_replay.specs.Lines.{fed, with_byte, trace_lines, joined_lines}
-use Rattle.wdf_replay.specs.Texts.{text_of, event_lines, fed_wait, end_lines}
-use Rattle.wdf_replay.specs.Verdicts.{HasEventsOf, IsWhole}
-use Rattle.wdf_replay.proofs.Cutting.{lines_join}
+use Rattle.wdf_run_text.specs.Lines.{fed, with_byte, trace_lines, joined_lines}
+use Rattle.wdf_run_text.specs.Texts.{text_of, event_lines, fed_wait, end_lines, HasEventsOf}
+use Rattle.wdf_replay.specs.Verdicts.{IsWhole}
+use Rattle.wdf_run_text.proofs.Cutting.{lines_join}
 use Rattle.wdf_replay.proofs.RunLines.{end_lines_over, whole_joined}
 
 -- a text without a line feed, and its line feed, are the first line

@@ -25,7 +25,7 @@ use Rattle.wdf_model.specs.agents.LowerTarget.{done_post}
 use Rattle.wdf_model.proofs.Counts.{one_or_two}
 use Rattle.wdf_model.proofs.Maps.{entry_put_other, entry_put_same}
 use Rattle.law_machine_lives.proofs.Lists.{Each}
-use Rattle.law_lines.specs.Texts.{HasPlanEvents}
+use Rattle.wdf_run_text.specs.Texts.{HasEventsOf}
 use Rattle.wdf_trace.specs.Events.{IsEventOf}
 use Rattle.law_lines.specs.PostNumbers.{ActionNumbersFit, PostNumbersFit}
 use Rattle.wdf_dev.specs.Agents.{agent_after, agent_at, agent_due, agent_meaning, agent_value, device_or_target}
@@ -217,9 +217,9 @@ agent_keeps plan (agent.App p) e is f = app_keeps p e f
 agent_keeps plan (agent.Device d) e is f = device_keeps plan d e is f
 agent_keeps plan (agent.LowerTarget t) e is f = tt
 
-agents_keep : (plan : Plan) (a : AnyAgent) (es : List Event) → HasPlanEvents plan es → AgentFits a → AgentFits (fold agent_after a es)
+agents_keep : (plan : Plan) (a : AnyAgent) (es : List Event) → HasEventsOf plan es → AgentFits a → AgentFits (fold agent_after a es)
 agents_keep plan a [] is f = f
-agents_keep plan a (e ∷ es) is f = agents_keep plan (agent_after a e) es (λ k x at. is (suc k) x at) (agent_keeps plan a e (is 0 e refl) f)
+agents_keep plan a (e ∷ es) is f = agents_keep plan (agent_after a e) es (λ x among. is x (suc among.0, among.1)) (agent_keeps plan a e (is e (0, refl)) f)
 
 posts_fit : (a : AnyAgent) (p : Post) → AgentFits a → agent_due a ≡ Some p → PostNumbersFit p
 posts_fit (agent.PnpManager x) p f e = due_fits x.clock (next_line x) p (λ l at. f x.posted l at) e

@@ -6,9 +6,9 @@ ghost use Rattle.wdf_base.specs.declared.plan.Plan.{Plan};
 ghost use Rattle.wdf_base.specs.declared.event.Event.{Event};
 ghost use Rattle.wdf_base.specs.declared.event.Ending.TheVariants.{Running};
 ghost use Rattle.wdf_model.specs.rules.Ready.{IsRunOf, ending_of};
-ghost use Rattle.wdf_replay.specs.Lines.{trace_lines};
-ghost use Rattle.wdf_replay.specs.Texts.{text_of, event_lines, end_lines};
-ghost use Rattle.wdf_replay.specs.Verdicts.{HasEventsOf, IsWhole};
+ghost use Rattle.wdf_run_text.specs.Lines.{trace_lines};
+ghost use Rattle.wdf_run_text.specs.Texts.{text_of, event_lines, end_lines, HasEventsOf};
+ghost use Rattle.wdf_replay.specs.Verdicts.{IsWhole};
 
 /// For a resolved plan and a run that has ended: a trace is the text of the run exactly where its lines are those of the run.
 pub fn lines_of_texts<A>()

@@ -11,8 +11,7 @@ ghost use Rattle.wdf_refusals.specs.First.{first_refusal};
 ghost use Rattle.wdf_plan.specs.Plans.{plan_of};
 ghost use Rattle.wdf_model.specs.rules.Ready.{IsRunOf, ending_of};
 ghost use Rattle.wdf_dev.specs.Agents.{agent_meaning};
-ghost use Rattle.law_lines.specs.Texts.{HasPlanEvents};
-ghost use Rattle.wdf_replay.specs.Texts.{text_of};
+ghost use Rattle.wdf_run_text.specs.Texts.{text_of, HasEventsOf};
 ghost use Rattle.wdf_replay.specs.Verdicts.{IsWhole};
 ghost use Rattle.law_lines.specs.Agents.{HasFittingAgents};
 ghost use Rattle.law_lines.specs.Fitting.{HasFittingNumbers};
@@ -27,7 +26,7 @@ pub fn texts_of_runs_are_whole<A>()
 /// Each event of a run of a text's plan, with the agents of `wdf_dev`, is an event of the plan.
 pub fn runs_of_texts_are_of_plan()
     ensures { (text : List ℕ) (scene : Scene) (run : List Event) → length text ≤ 1048576 → StandsFor text scene → first_refusal scene ≡ None
-        → IsRunOf (plan_of scene) agent_meaning run → HasPlanEvents (plan_of scene) run }
+        → IsRunOf (plan_of scene) agent_meaning run → HasEventsOf (plan_of scene) run }
 {}
 
 /// For a text's plan and the agents of `wdf_dev`, a trace is one of those that `replay` accepts, with this run, exactly where

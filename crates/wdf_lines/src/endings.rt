@@ -7,9 +7,9 @@ use crate::pieces::*;
 use wdf_base::{Callback, Cause, Ending, FrameId, Handle, OpenThing, Plan, Step, WaitLine};
 
 /// The word of an ending; a run that goes on has none.
-fn word_of(ending: Ending) -> &'static [u8]
+pub fn ending_word(ending: Ending) -> &'static [u8]
     ensures value { result.now ≡ ending_word ending }
-    ensures small { length result.now ≤ 32 }
+    ensures small { length result.now ≤ 8 }
 {
     match ending {
         Ending::Running => b"",
@@ -27,7 +27,7 @@ pub fn ending_line(events: usize, ending: Ending) -> Line
     ensures small { length result < LINE_LIMIT }
 {
     let mut line = Line::new();
-    line.push(word_of(ending));
+    line.push(ending_word(ending));
     line.push_number(events as u64);
     line
 }

@@ -1,4 +1,5 @@
-//! The lines of a trace are written: one for each event, one for the ending, and those of the wait list.
+//! The lines of a trace are written: one for each event, one for the ending, and those of the wait list. Beside them short
+//! messages of bytes and numbers.
 //!
 //! # Choices
 //!
@@ -18,9 +19,11 @@
 mod endings;
 mod line;
 mod lines;
+mod message;
 mod pieces;
 
-pub use endings::{ending_line, wait_line};
+pub use endings::{ending_line, ending_word, wait_line};
 pub use line::{LINE_LIMIT, Line};
 pub use lines::line_of;
+pub use message::{Message, one_number, two_numbers};
 pub use pieces::name_bytes;

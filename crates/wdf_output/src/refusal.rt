@@ -3,9 +3,9 @@ ghost use Rattle.std.specs.Prelude.{◌≡◌, ◌++◌, codes, decimal};
 ghost use Rattle.wdf_refusals.specs.Limits.{limit_word};
 ghost use Rattle.wdf_output.specs.Refusals.{parse_line, parse_status, plan_line, plan_status, refusal_line, refusal_status};
 
-use crate::message::{Message, one_number, two_numbers};
 use wdf_base::Memory;
 use wdf_input::InputError;
+use wdf_lines::{Message, one_number, two_numbers};
 use wdf_parse::ParseRefusal;
 use wdf_plan::{Limit, PlanRefusal};
 

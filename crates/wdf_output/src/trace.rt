@@ -4,8 +4,8 @@ ghost use Rattle.wdf_io.specs.Outside.{Gains, EndsRefused};
 ghost use Rattle.wdf_model.specs.rules.Ready.{ending_of};
 ghost use Rattle.wdf_model.specs.rules.Waits.{wait_list};
 ghost use Rattle.wdf_lines.specs.Lines.{line_text, lines_from};
-ghost use Rattle.wdf_lines.specs.Endings.{ending_text, ending_word, wait_text, wait_lines};
-ghost use Rattle.wdf_replay.specs.Texts.{text_of};
+ghost use Rattle.wdf_lines.specs.Endings.{ending_text, wait_text, wait_lines};
+ghost use Rattle.wdf_run_text.specs.Texts.{text_of};
 ghost use Rattle.wdf_output.specs.Said.{Says, IsCutShort, sinking};
 ghost use Rattle.wdf_output.specs.Endings.{status_of, ending_lines};
 
@@ -152,19 +152,5 @@ pub fn status_of(ending: Ending) -> u8
         Ending::Fault(_) => 3,
         Ending::Stuck => 4,
         Ending::Limit => 5,
-    }
-}
-
-/// The word of an ending; a run that goes on has none.
-pub fn ending_word(ending: Ending) -> &'static [u8]
-    ensures value { result.now ≡ ending_word ending }
-    ensures small { length result.now ≤ 8 }
-{
-    match ending {
-        Ending::Running => b"",
-        Ending::Finished => b"finished",
-        Ending::Limit => b"limit",
-        Ending::Fault(_) => b"fault",
-        Ending::Stuck => b"stuck",
     }
 }

@@ -22,9 +22,9 @@ use Rattle.wdf_replay.specs.declared.verdict.Why.{Why}
 use Rattle.wdf_replay.specs.declared.verdict.Why.TheVariants as why
 use Rattle.wdf_replay.specs.declared.verdict.Verdict.{Verdict}
 use Rattle.wdf_replay.specs.declared.verdict.Verdict.TheVariants as verdict
-use Rattle.wdf_replay.specs.Lines.{fed}
-use Rattle.wdf_replay.specs.Texts.{event_lines, end_lines}
-use Rattle.wdf_replay.specs.Verdicts.{IsAmong, HasEventsOf, IsAccepted, IsRefused, IsBadFor, IsBad, IsWhole, GivesVerdict}
+use Rattle.wdf_run_text.specs.Lines.{fed}
+use Rattle.wdf_run_text.specs.Texts.{event_lines, end_lines, IsAmong, HasEventsOf}
+use Rattle.wdf_replay.specs.Verdicts.{IsAccepted, IsRefused, IsBadFor, IsBad, IsWhole, GivesVerdict}
 use Rattle.wdf_replay.proofs.RunLines.{fed_once, runs_on, no_end_lines}
 
 -- two events of the plan with one line are one

@@ -1,4 +1,3 @@
-pub mod Cutting
 pub mod RunLines
 pub mod Replayed
 pub mod Taken

@@ -4,10 +4,10 @@ use Rattle.std.proofs.lemmas.List.{drop_all}
 use Rattle.wdf_base.specs.Meaning.{Meaning}
 use Rattle.wdf_base.specs.declared.plan.Plan.{Plan}
 use Rattle.wdf_base.specs.declared.event.Event.{Event}
-use Rattle.wdf_replay.specs.Lines.{trace_lines, first_line}
-use Rattle.wdf_replay.specs.Texts.{end_lines, lines_so_far}
-use Rattle.wdf_replay.specs.Verdicts.{HasEventsOf}
-use Rattle.wdf_replay.proofs.Cutting.{line_there}
+use Rattle.wdf_run_text.specs.Lines.{trace_lines, first_line}
+use Rattle.wdf_run_text.specs.Texts.{end_lines, lines_so_far, HasEventsOf}
+use Rattle.wdf_run_text.proofs.Cutting.{line_there}
+use Rattle.wdf_run_text.proofs.EventsOfPlans.{none_among}
 
 pub record IsReplayedTo {A : Type 0} (plan : Plan) (m : Meaning A) (trace : List ℕ) (at number : ℕ) (run : List Event) (told : ℕ) : Type 0 where
   pub inside : at ≤ length trace
@@ -17,9 +17,6 @@ pub record IsReplayedTo {A : Type 0} (plan : Plan) (m : Meaning A) (trace : List
   pub small : number ≤ at + 1
   pub few : told + 1 ≤ number
   pub valid : HasEventsOf plan run
-
-none_among : (plan : Plan) → HasEventsOf plan []
-none_among plan = λ event among. let z : ⊥ = cc among.1 in absurd z
 
 no_events : (plan : Plan) (run : List Event) → run ≡ [] → HasEventsOf plan run
 no_events plan run is = subst (HasEventsOf plan) (sym is) (none_among plan)

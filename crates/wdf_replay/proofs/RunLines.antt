@@ -12,13 +12,13 @@ use Rattle.wdf_model.specs.rules.Ready.{IsRunOf, ending_of, ending_by, ready, la
 use Rattle.wdf_model.specs.rules.Waits.{wait_list}
 use Rattle.wdf_lines.specs.Lines.{line_text, lines_from}
 use Rattle.wdf_lines.specs.Endings.{ending_text, wait_text, wait_lines}
-use Rattle.wdf_replay.specs.Lines.{fed, trace_lines, joined_lines}
-use Rattle.wdf_replay.specs.Texts.{text_of, event_lines, fed_wait, last_lines, end_lines, lines_so_far}
-use Rattle.wdf_replay.specs.Verdicts.{IsAmong, HasEventsOf, IsLeft, IsBadLine}
+use Rattle.wdf_run_text.specs.Lines.{fed, trace_lines, joined_lines}
+use Rattle.wdf_run_text.specs.Texts.{text_of, event_lines, fed_wait, last_lines, end_lines, lines_so_far, IsAmong, HasEventsOf}
+use Rattle.wdf_replay.specs.Verdicts.{IsLeft, IsBadLine}
 use Rattle.wdf_replay.specs.declared.verdict.Verdict.TheVariants.{Accepted, RefusedAt}
 use Rattle.wdf_replay.specs.declared.verdict.Why.{Why}
 use Rattle.wdf_replay.specs.declared.verdict.Why.TheVariants as why
-use Rattle.wdf_replay.proofs.Cutting.{lines_join}
+use Rattle.wdf_run_text.proofs.Cutting.{lines_join}
 
 pub fed_once : (a b : List ℕ) → fed a ≡ fed b → a ≡ b
 fed_once a b h = append_cancel_right a b (codes "\n") h

@@ -16,9 +16,10 @@ use Rattle.wdf_replay.specs.declared.verdict.Why.{Why}
 use Rattle.wdf_replay.specs.declared.verdict.Why.TheVariants as why
 use Rattle.wdf_replay.specs.declared.step.Reading.{Reading}
 use Rattle.wdf_replay.specs.declared.step.Reading.TheVariants as reading
-use Rattle.wdf_replay.specs.Lines.{fed}
-use Rattle.wdf_replay.specs.Texts.{end_lines, fed_wait}
-use Rattle.wdf_replay.specs.Verdicts.{HasEventsOf, IsEventText, IsWaitText, IsBadLine}
+use Rattle.wdf_run_text.specs.Lines.{fed}
+use Rattle.wdf_run_text.specs.Texts.{end_lines, fed_wait}
+use Rattle.wdf_run_text.proofs.EventsOfPlans.{one_more}
+use Rattle.wdf_replay.specs.Verdicts.{IsEventText, IsWaitText, IsBadLine}
 use Rattle.wdf_replay.specs.Steps.{IsReadAs, IsTakenEnd, IsNoEventFor, IsTakenLine}
 use Rattle.wdf_replay.proofs.RunLines.{event_taken, end_taken, end_line_fed, fed_once}
 
@@ -54,13 +55,6 @@ read_no_event plan m old new text same r is resolved none left each = (
 )
 
 -- ---- a line that is taken
-
-one_more : (plan : Plan) (run : List Event) (e : Event) → HasEventsOf plan run → IsEventOf plan e → HasEventsOf plan (run ++ e ∷ [])
-one_more plan run e valid more = λ event among.
-    elim (split_last run e event among.0 among.1) [
-      | inl p ↦ valid event (among.0, p.1)
-      | inr p ↦ subst (IsEventOf plan) p.1 more
-    ]
 
 pub taken_event : {A : Type 0} (plan : Plan) (m : Meaning A) (old new : List Event) (told : ℕ) (text : List ℕ) (r : Reading)
     → r ≡ reading.Taken → told ≤ length (end_lines plan m old) → IsReadAs plan m old new text r → IsTakenLine plan m old new told (fed text) (Ok told)

@@ -11,8 +11,8 @@ use Rattle.wdf_replay.specs.declared.verdict.Why.{Why}
 use Rattle.wdf_replay.specs.declared.verdict.Why.TheVariants as why
 use Rattle.wdf_replay.specs.declared.step.Reading.{Reading}
 use Rattle.wdf_replay.specs.declared.step.Reading.TheVariants as reading
-use Rattle.wdf_replay.specs.Texts.{end_lines, lines_so_far}
-use Rattle.wdf_replay.specs.Verdicts.{IsAmong, HasEventsOf, IsEventText, IsWaitText, IsNotReady, IsBadLine}
+use Rattle.wdf_run_text.specs.Texts.{end_lines, lines_so_far, IsAmong, HasEventsOf}
+use Rattle.wdf_replay.specs.Verdicts.{IsEventText, IsWaitText, IsNotReady, IsBadLine}
 
 -- what a text is as far as events go, with the events before and after
 abbrev pub IsReadAs : {A : Type 0} → Plan → Meaning A → List Event → List Event → List ℕ → Reading → Type 0

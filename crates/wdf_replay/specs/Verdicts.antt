@@ -15,16 +15,8 @@ use Rattle.wdf_replay.specs.declared.verdict.Why.{Why}
 use Rattle.wdf_replay.specs.declared.verdict.Why.TheVariants.{NotALine, NotReady, WrongEnding, Missing}
 use Rattle.wdf_replay.specs.declared.verdict.Verdict.{Verdict}
 use Rattle.wdf_replay.specs.declared.verdict.Verdict.TheVariants.{Accepted, RefusedAt}
-use Rattle.wdf_replay.specs.Lines.{fed, trace_lines}
-use Rattle.wdf_replay.specs.Texts.{text_of, event_lines, end_lines, lines_so_far}
-
--- the event is among these
-abbrev pub IsAmong : Event → List Event → Type 0
-IsAmong event events = (place : ℕ) × (slice_get events place ≡ Some event)
-
--- each event is one of the plan
-abbrev pub HasEventsOf : Plan → List Event → Type 0
-HasEventsOf plan run = (event : Event) → IsAmong event run → IsEventOf plan event
+use Rattle.wdf_run_text.specs.Lines.{fed, trace_lines}
+use Rattle.wdf_run_text.specs.Texts.{text_of, event_lines, end_lines, lines_so_far, IsAmong, HasEventsOf}
 
 -- ---- which texts are lines
 

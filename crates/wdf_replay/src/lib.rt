@@ -21,11 +21,9 @@
 //!   the plan of a text.
 #![tactic(auto)]
 
-mod lines;
 mod replaying;
 mod step;
 mod verdict;
 
-pub use lines::{from_place, line_at};
 pub use replaying::replay;
 pub use verdict::{Verdict, Why};

@@ -1,17 +1,17 @@
 //! A trace is checked line by line.
 ghost use Rattle.std.specs.Prelude.{◌≡◌, ◌+◌, ◌≤◌, [], length, List};
 ghost use Rattle.wdf_base.specs.Resolved.{IsResolved};
-ghost use Rattle.wdf_replay.specs.Texts.{end_lines, lines_so_far};
-ghost use Rattle.wdf_replay.specs.Lines.{trace_lines};
+ghost use Rattle.wdf_run_text.specs.Texts.{end_lines, lines_so_far, HasEventsOf};
+ghost use Rattle.wdf_run_text.specs.Lines.{trace_lines};
 ghost use Rattle.wdf_base.specs.declared.event.Event.{Event};
 ghost use Rattle.wdf_model.specs.rules.Ready.{ending_of};
-ghost use Rattle.wdf_replay.specs.Verdicts.{GivesVerdict, HasEventsOf, IsLeft, IsWhole};
+ghost use Rattle.wdf_replay.specs.Verdicts.{GivesVerdict, IsLeft, IsWhole};
 
-use crate::lines::line_at;
 use crate::step::take_line;
 use crate::verdict::{Verdict, Why};
 use wdf_base::{Agent, Ending};
 use wdf_core::Core;
+use wdf_run_text::line_at;
 
 /// The verdict on a trace whose lines are all good.
 fn verdict_at_end<A: Agent>(core: &Core<A>, trace: &[u8], told: usize, number: usize) -> Verdict

@@ -5,16 +5,16 @@ ghost use Rattle.wdf_model.specs.rules.Ready.{IsRunOf, ending_of, ready};
 ghost use Rattle.wdf_model.specs.rules.Waits.{wait_list};
 ghost use Rattle.wdf_lines.specs.Endings.{ending_text, wait_text};
 ghost use Rattle.wdf_trace.specs.Waits.{IsEndingText};
-ghost use Rattle.wdf_replay.specs.Lines.{fed};
-ghost use Rattle.wdf_replay.specs.Texts.{end_lines, fed_wait};
-ghost use Rattle.wdf_replay.specs.Verdicts.{IsAmong, IsWaitText};
+ghost use Rattle.wdf_run_text.specs.Lines.{fed};
+ghost use Rattle.wdf_run_text.specs.Texts.{end_lines, fed_wait, IsAmong};
+ghost use Rattle.wdf_replay.specs.Verdicts.{IsWaitText};
 ghost use Rattle.wdf_replay.specs.Steps.{IsReadAs, IsTakenEnd, IsNoEventFor, IsTakenLine};
 
-use crate::lines::text_of_line;
 use crate::verdict::Why;
 use wdf_base::{Agent, Ending, Event, Plan, WaitLine};
 use wdf_core::Core;
 use wdf_lines::{ending_line, wait_line};
+use wdf_run_text::text_of_line;
 use wdf_same::same_event;
 use wdf_trace::{read_line, reads_as_ending, reads_as_wait};
 

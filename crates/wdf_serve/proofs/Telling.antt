@@ -7,7 +7,7 @@ use Rattle.wdf_model.specs.rules.Ready.{ending_of, IsRunOf}
 use Rattle.wdf_dev.specs.Agents.{agent_meaning}
 use Rattle.wdf_refusals.specs.declared.refusal.PlanRefusal.TheVariants as plans
 use Rattle.wdf_plan.specs.Plans.{plan_of}
-use Rattle.wdf_replay.specs.Texts.{text_of}
+use Rattle.wdf_run_text.specs.Texts.{text_of}
 use Rattle.wdf_output.specs.Endings.{status_of}
 use Rattle.wdf_output.specs.Refusals.{no_memory_line}
 use Rattle.wdf_output.specs.Said.{Sinking, Says}

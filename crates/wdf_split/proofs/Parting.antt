@@ -2,8 +2,8 @@
 use Rattle.std.proofs.Common.{ℕ, ◌≡◌, ◌+◌, ◌<◌, ◌≤◌, Bool, true, false, List, [], ◌∷◌, ◌++◌, length, drop, take, refl, sym, ap, ◌∙◌, arith, append_assoc}
 use Rattle.std.proofs.lemmas.List.{append-nil, drop_all, length-take-le, take-append-drop, take_all}
 use Rattle.std.proofs.Math.Seq.{take-append_seam, take-append-add}
-use Rattle.wdf_replay.specs.Lines.{trace_lines, first_line, joined_lines}
-use Rattle.wdf_replay.proofs.Cutting.{line_there, lines_join}
+use Rattle.wdf_run_text.specs.Lines.{trace_lines, first_line, joined_lines}
+use Rattle.wdf_run_text.proofs.Cutting.{line_there, lines_join}
 use Rattle.wdf_split.specs.Inputs.{is_mark, before_mark, after_mark, scenario_in, trace_in}
 
 -- the lines before the place are of the scenario

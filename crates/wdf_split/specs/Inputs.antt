@@ -3,7 +3,7 @@ use Rattle.std.specs.Prelude.{if◌then◌else◌, ℕ, ◌==◌, ◌&&◌, Bool
 use Rattle.std.specs.List.{list_all, take_while}
 use Rattle.std.specs.Str.{bytes_eq}
 use Rattle.wdf_tokens.specs.Tokens.{is_blank, is_plain}
-use Rattle.wdf_replay.specs.Lines.{trace_lines, joined_lines}
+use Rattle.wdf_run_text.specs.Lines.{trace_lines, joined_lines}
 
 -- a byte within a line: any but the line feed
 abbrev pub is_within : ℕ → Bool

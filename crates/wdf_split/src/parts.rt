@@ -3,7 +3,7 @@ ghost use Rattle.std.specs.Prelude.{◌≡◌, ◌+◌, ◌≤◌, drop, length,
 ghost use Rattle.wdf_split.specs.Inputs.{scenario_in, trace_in};
 
 use crate::mark::is_mark;
-use wdf_replay::line_at;
+use wdf_run_text::line_at;
 
 /// Where the scenario of an input ends, and where its trace begins.
 #[derive(Clone, Copy, Debug, PartialEq, Eq)]

@@ -6,7 +6,7 @@ ghost use Rattle.wdf_summary.specs.Counts.{summary_text};
 use crate::counts::{arrivals, completions};
 use wdf_base::Agent;
 use wdf_core::Core;
-use wdf_output::{Message, ending_word};
+use wdf_lines::{Message, ending_word};
 
 /// The lines of the counts.
 fn lines_of(events: usize, requests: usize, completed: usize) -> Message

@@ -18,7 +18,7 @@ use Rattle.wdf_top.specs.declared.run.Picks.{Picks}
 use Rattle.wdf_top.specs.declared.run.Picks.TheVariants.{Seeded}
 use Rattle.wdf_output.specs.declared.refusal.Refusal.{Refusal}
 use Rattle.wdf_output.specs.declared.refusal.Refusal.TheVariants.{ReadFault, TooLarge, NoMemory, NoScene, NoPlan}
-use Rattle.wdf_replay.specs.Texts.{text_of}
+use Rattle.wdf_run_text.specs.Texts.{text_of}
 use Rattle.wdf_output.specs.Endings.{status_of}
 use Rattle.wdf_top.specs.Answers.{Answering, HasPlan, IsTraceOf, IsVerdict, IsSummaryOf, picks_of, running, judging}
 use Rattle.wdf_top.specs.Causes.{IsCause, IsTextCause}

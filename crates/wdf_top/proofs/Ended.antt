@@ -9,7 +9,7 @@ use Rattle.wdf_model.specs.State.{State}
 use Rattle.wdf_model.specs.rules.Ready.{ending_of, final_ending, is_open, last_fault, ready, state_after, IsRunOf}
 use Rattle.wdf_model.proofs.Runs.{picked_is_run, picked_once, run_opens}
 use Rattle.wdf_dev.specs.Agents.{agent_meaning}
-use Rattle.wdf_replay.specs.Texts.{text_of}
+use Rattle.wdf_run_text.specs.Texts.{text_of}
 use Rattle.wdf_top.specs.Answers.{IsTraceOf}
 
 -- an ending by two tests is never that the run goes on

@@ -20,8 +20,8 @@ use Rattle.wdf_replay.specs.declared.verdict.Why.{Why}
 use Rattle.wdf_replay.specs.declared.verdict.Why.TheVariants as why
 use Rattle.wdf_replay.specs.declared.verdict.Verdict.{Verdict}
 use Rattle.wdf_replay.specs.declared.verdict.Verdict.TheVariants as verdict
-use Rattle.wdf_replay.specs.Lines.{fed, trace_lines}
-use Rattle.wdf_replay.specs.Texts.{event_lines, end_lines, fed_wait, lines_so_far}
+use Rattle.wdf_run_text.specs.Lines.{fed, trace_lines}
+use Rattle.wdf_run_text.specs.Texts.{event_lines, end_lines, fed_wait, lines_so_far}
 use Rattle.wdf_replay.specs.Verdicts.{GivesVerdict, IsAccepted, IsBad, IsLeft, IsRefused, IsWhole}
 use Rattle.wdf_replay.proofs.Complete.{complete}
 use Rattle.wdf_replay.proofs.RunLines.{end_lines_over}

@@ -20,7 +20,7 @@ use Rattle.wdf_replay.specs.declared.verdict.Verdict.{Verdict}
 use Rattle.wdf_replay.specs.declared.verdict.Verdict.TheVariants as verdicts
 use Rattle.wdf_replay.specs.declared.verdict.Why.{Why}
 use Rattle.wdf_replay.specs.declared.verdict.Why.TheVariants as why
-use Rattle.wdf_replay.specs.Texts.{text_of}
+use Rattle.wdf_run_text.specs.Texts.{text_of}
 use Rattle.wdf_replay.specs.Verdicts as verdict
 use Rattle.wdf_output.specs.Endings.{status_of}
 use Rattle.wdf_output.specs.Refusals.{parse_line, plan_line}

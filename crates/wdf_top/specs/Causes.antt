@@ -14,7 +14,7 @@ use Rattle.wdf_refusals.specs.First.{first_refusal}
 use Rattle.wdf_plan.specs.Plans.{plan_of}
 use Rattle.wdf_gen.specs.Generated.{generated}
 use Rattle.wdf_replay.specs.declared.verdict.Why.{Why}
-use Rattle.wdf_replay.specs.Texts.{text_of}
+use Rattle.wdf_run_text.specs.Texts.{text_of}
 use Rattle.wdf_replay.specs.Verdicts as verdict
 use Rattle.wdf_split.specs.Inputs.{scenario_in, trace_in}
 use Rattle.wdf_summary.specs.Counts.{summary_text}

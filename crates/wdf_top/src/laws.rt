@@ -6,7 +6,7 @@ ghost use Rattle.wdf_base.specs.declared.event.Ending.TheVariants as ending;
 ghost use Rattle.wdf_base.specs.Resolved.{IsResolved};
 ghost use Rattle.wdf_model.specs.rules.Ready.{ending_of, IsRunOf};
 ghost use Rattle.wdf_dev.specs.Agents.{agent_meaning};
-ghost use Rattle.wdf_replay.specs.Texts.{text_of};
+ghost use Rattle.wdf_run_text.specs.Texts.{text_of};
 ghost use Rattle.wdf_top.specs.Answers.{HasPlan, IsTraceOf};
 
 /// Each plan that a text has is resolved. So by `one_event_a_line` of `wdf_trace` no two of its events share a line.

@@ -13,9 +13,11 @@ use wdf_base::{Ending, Plan};
 use wdf_core::Core;
 use wdf_dev::AnyAgent;
 use wdf_io::Sink;
-use wdf_output::{Message, Refusal, ending_word, say, tell};
+use wdf_lines::{Message, ending_word};
+use wdf_output::{Refusal, say, tell};
 use wdf_parse::TEXT_LIMIT;
-use wdf_replay::{Verdict, Why, from_place, replay};
+use wdf_replay::{Verdict, Why, replay};
+use wdf_run_text::from_place;
 use wdf_split::split;
 
 /// The status of a trace that is refused.

@@ -1,7 +1,7 @@
 -- A line more is taken, or it is the first bad one.
 use Rattle.std.proofs.Common.{refl, ◌+◌, sym, subst, ◌∙◌, arith, length, drop}
 use Rattle.wdf_base.specs.Resolved.{IsResolved}
-use Rattle.wdf_replay.specs.Lines.{trace_lines}
+use Rattle.wdf_run_text.specs.Lines.{trace_lines}
 use Rattle.wdf_replay.proofs.Replayed.{replayed_opens, replayed_goes_on, next_line}
 use Rattle.wdf_replay.proofs.RunLines.{refused}
 use Rattle.wdf_replay.proofs.replaying.check_lines.Goals as goal

@@ -1,7 +1,7 @@
 -- The text is compared with the line that the wait list has there.
 use Rattle.std.proofs.Common.{arith}
 use Rattle.std.proofs.lemmas.Bool.{ltb-true}
-use Rattle.wdf_replay.specs.Lines.{fed}
+use Rattle.wdf_run_text.specs.Lines.{fed}
 use Rattle.wdf_replay.proofs.RunLines.{no_wait_past}
 use Rattle.wdf_replay.proofs.Taken.{wait_there}
 use Rattle.wdf_replay.proofs.step.is_wait_line.Goals as goal

@@ -3,7 +3,7 @@ use Rattle.std.proofs.Common.{◌≡◌, ℕ, suc, ◌+◌, ◌<◌, ◌≤◌, 
 use Rattle.std.specs.Prelude.{slice_index_or}
 use Rattle.std.proofs.lemmas.Bool.{eq-eqb, ne_eqb}
 use Rattle.std.proofs.lemmas.List.{drop_all, take_all, take_more}
-use Rattle.wdf_replay.specs.Lines.{with_byte, trace_lines, first_line, joined_lines}
+use Rattle.wdf_run_text.specs.Lines.{with_byte, trace_lines, first_line, joined_lines}
 
 -- the first line of some bytes, and the lines after it
 abbrev BeginsWith : List ℕ → List ℕ → Type 0

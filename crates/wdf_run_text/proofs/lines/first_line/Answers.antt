@@ -1,7 +1,7 @@
 -- The bytes before the place have no line feed.
 use Rattle.std.proofs.Common.{sym, arith}
-use Rattle.wdf_replay.proofs.Cutting.{inside_opens, inside_goes_on, inside_ends, inside_whole}
-use Rattle.wdf_replay.proofs.lines.first_line.Goals as goal
+use Rattle.wdf_run_text.proofs.Cutting.{inside_opens, inside_goes_on, inside_ends, inside_whole}
+use Rattle.wdf_run_text.proofs.lines.first_line.Goals as goal
 
 pub loop-k-init : goal.loop-k-init
 loop-k-init c = inside_opens c.args.trace.now

@@ -1,6 +1,6 @@
 //! The lines of a trace.
 ghost use Rattle.std.specs.Prelude.{◌≡◌, ◌≢◌, ◌+◌, ◌<◌, ◌≤◌, drop, length, IfSome, IfNone, ℕ, List};
-ghost use Rattle.wdf_replay.specs.Lines.{fed, first_line};
+ghost use Rattle.wdf_run_text.specs.Lines.{fed, first_line};
 
 /// The bytes from a place on.
 pub fn from_place(trace: &[u8], at: usize) -> &[u8]

@@ -1,5 +1,5 @@
--- The text of a run, and its lines.
-use Rattle.std.specs.Prelude.{ℕ, ◌+◌, List, [], ◌∷◌, ◌++◌, length, map, take, codes}
+-- The text of a run, and its lines; and that its events are of a plan.
+use Rattle.std.specs.Prelude.{◌≡◌, ℕ, ◌+◌, List, [], ◌∷◌, ◌++◌, length, map, take, codes, Some, slice_get}
 use Rattle.wdf_base.specs.Meaning.{Meaning}
 use Rattle.wdf_base.specs.declared.plan.Plan.{Plan}
 use Rattle.wdf_base.specs.declared.event.Event.{Event}
@@ -10,7 +10,8 @@ use Rattle.wdf_model.specs.rules.Ready.{ending_of}
 use Rattle.wdf_model.specs.rules.Waits.{wait_list}
 use Rattle.wdf_lines.specs.Lines.{line_text, lines_from}
 use Rattle.wdf_lines.specs.Endings.{ending_text, wait_text, wait_lines}
-use Rattle.wdf_replay.specs.Lines.{fed}
+use Rattle.wdf_trace.specs.Events.{IsEventOf}
+use Rattle.wdf_run_text.specs.Lines.{fed}
 
 -- The text of a run: a line for each event, the line of its ending, and a line for each line of its wait list.
 abbrev pub text_of : {A : Type 0} → Plan → Meaning A → List Event → List ℕ
@@ -38,3 +39,13 @@ end_lines plan m run = last_lines plan (length run) (wait_list plan m run) (endi
 -- the lines of a run's events, and this many of those after them
 abbrev pub lines_so_far : {A : Type 0} → Plan → Meaning A → List Event → ℕ → List (List ℕ)
 lines_so_far plan m run told = event_lines plan 1 run ++ take told (end_lines plan m run)
+
+-- ---- events of a plan
+
+-- the event is among these
+abbrev pub IsAmong : Event → List Event → Type 0
+IsAmong event events = (place : ℕ) × (slice_get events place ≡ Some event)
+
+-- each event is one of the plan
+abbrev pub HasEventsOf : Plan → List Event → Type 0
+HasEventsOf plan run = (event : Event) → IsAmong event run → IsEventOf plan event
