@@ -13,7 +13,7 @@ def program_of(words):
     """The program that the words name, or the built one of this tree; without a program the process ends."""
     program = words[1] if len(words) > 1 else PROGRAM
     if not os.path.exists(program):
-        sys.exit(f"no program at {program}: build it first, by `rt ci`")
+        sys.exit(f"no program at {program}: build it first, by `./kmdfsim check < examples/first-read.kmdf`")
     return program
 
 

@@ -1,7 +1,7 @@
 #!/usr/bin/env python3
 """How long the program takes to run an app of many reads, and how much memory.
 
-Not part of the gate. Prove and build the program first (`rt ci`), then from the root:
+Not part of the gate. Build the program first (`./kmdfsim check < examples/first-read.kmdf`), then from the root:
 
     python3 bench/order.py [PROGRAM]
 

@@ -1,7 +1,7 @@
 #!/usr/bin/env python3
 """How fast runs by threads are beside runs by a seed, with 1 to 8 processors.
 
-Not part of the gate. Prove and build the program first (`rt ci`), then from the root:
+Not part of the gate. Build the program first (`./kmdfsim check < examples/first-read.kmdf`), then from the root:
 
     python3 bench/run.py [PROGRAM]
 

@@ -1,15 +1,20 @@
 #!/usr/bin/env python3
-"""Runs the program on each example of docs/SCENARIO.md, on each file of examples/ and on the worked runs of tools/.
+"""Runs the program on each example of the documents, on the files of examples/ and scenarios/, and on the worked runs.
 
     python3 tools/check_examples.py [PROGRAM [SEEDS]]
 
-Each must be accepted by `check`, and what `check` writes must be left as it is by another `check`. A
-fenced block `kmdf` of the guide is a whole scenario; `kmdf blocks`, `kmdf device` and `kmdf statements`
-are put where such lines belong, with the declarations below. A block `trace` is the run that `order`
-writes for the example before it. Each file of examples/ must also run to its end, with the status that its
-first comment names (`the status 4`), or with 0. What `order` writes of a file, and what `seed N` writes for each N
-below SEEDS (3 where it isn't named), must be accepted by `replay`. Of each scenario of tools/runs, tools/stuck and
-tools/spinning `order` must write the trace beside it. Those traces were made by hand or by another program.
+In docs/SCENARIO.md, docs/FROM_C.md and README.md a fenced block `kmdf` is a whole scenario; `kmdf blocks`, `kmdf device` and
+`kmdf statements` are put where such lines belong, with the declarations below. `check` must accept each, and leave what it
+writes as it is. A block `trace` is the run that `order` writes for the example before it; `trace WORDS of FILE` is the end
+of what these words write for that file. A block `seeds` is a call of tools/try_seeds.py with the rows that it prints.
+
+The rows of "What a C programmer writes" must be refused so, and what is meant must be accepted. Of each name in the tables
+of refusals and faults scenarios/refused has a text; what it is answered is in its first line.
+
+Each file of examples/ and scenarios/ must run to its end, with the status that its first comment names (`the status 4`), or
+with 0. A comment `Seed N: ENDING` must be so. What `order` and `seed N` write, for each N below SEEDS (3 where it isn't
+named), must be accepted by `replay`. Of each scenario of tools/runs, scenarios/stuck and scenarios/spinning `order` must
+write the trace beside it. Those traces were made by hand or by another program.
 """
 
 import os
@@ -17,9 +22,12 @@ import re
 import subprocess
 import sys
 
-ROOT = os.path.dirname(os.path.dirname(os.path.abspath(__file__)))
+sys.dont_write_bytecode = True
+import try_seeds
+from built import PROGRAM, ROOT, program_at
+
 GUIDE = os.path.join("docs", "SCENARIO.md")
-PROGRAM = os.path.join(ROOT, "crates", "kmdfsim", "out", "kmdfsim")
+DOCUMENTS = (GUIDE, os.path.join("docs", "FROM_C.md"), "README.md")
 
 HEAD = "cpus 1\nlimit 100\nobjects 64\n"
 DECLARED = """class Note object
@@ -56,24 +64,22 @@ STATUS = re.compile(r"the status (\d+)")
 # The line of how a run ended, and the status that goes with it.
 ENDING = re.compile(r"^(finished|fault|stuck|limit) \d+$", re.MULTILINE)
 STATUSES = {"finished": 0, "fault": 3, "stuck": 4, "limit": 5}
-FENCED = re.compile(r"^```(kmdf|trace)(?: (\w+))?\n(.*?)^```$", re.MULTILINE | re.DOTALL)
+FENCED = re.compile(r"^```(kmdf|trace|seeds)(?: ([^\n]+))?\n(.*?)^```$", re.MULTILINE | re.DOTALL)
+SLIPS = re.compile(r"^\| written \|.*?\n\n", re.MULTILINE | re.DOTALL)
+# The sections of the guide with tables of names that say how a text, a plan, a trace or a driver is refused.
+NAMING = ("Keeping a trace, and checking it again", "When a text is refused", "When a plan is refused", "When the driver is at fault")
+SEED = re.compile(r"^# Seed (\d+): (.*)$", re.MULTILINE)
 
 
-def examples(guide):
-    """For each fenced block its line, and its scenario or the run that is due."""
-    for found in FENCED.finditer(guide):
-        line = guide.count("\n", 0, found.start()) + 1
-        form, place, text = found.groups()
-        if form == "kmdf":
-            before, after = AROUND[place or ""]
-            yield line, "check", before + text + after
-        else:
-            yield line, "order", text
+def read(*path):
+    with open(os.path.join(ROOT, *path), encoding="utf-8") as file:
+        return file.read()
 
 
 def call(program, words, text):
     """The status that the program ends with, and what it writes."""
-    done = subprocess.run([program, *words.split()], input=text.encode(), stdout=subprocess.PIPE, timeout=60)
+    given = text if isinstance(text, bytes) else text.encode()
+    done = subprocess.run([program, *words.split()], input=given, stdout=subprocess.PIPE, timeout=60)
     return done.returncode, done.stdout.decode()
 
 
@@ -87,22 +93,109 @@ def check(program, text):
     return None
 
 
-def check_guide(program):
-    """The faults of the guide's examples, and how many examples there are."""
+def check_trace(program, place, text, scenario):
+    """What is wrong with a run that a document shows, if anything is."""
+    if not place:
+        due = STATUSES[ENDING.search(text).group(1)], text
+        return None if call(program, "order", scenario) == due else "another run"
+    words, _, path = place.partition(" of ")
+    return None if ("\n" + call(program, words, read(path))[1]).endswith("\n" + text) else f"`{words}` writes something else at the end"
+
+
+def check_seeds(program, text):
+    """What is wrong with a call of tools/try_seeds.py and its rows, if anything is."""
+    first, _, rows = text.partition("\n")
+    words = first.split()
+    if words[:3] != ["$", "python3", "tools/try_seeds.py"]:
+        return f"no call of tools/try_seeds.py: {first}"
+    done = subprocess.run([sys.executable, *words[2:3], "--program", program, *words[3:]], cwd=ROOT, capture_output=True, text=True, check=False)
+    return None if done.stdout == rows else f"it prints\n{done.stdout}"
+
+
+def check_document(program, path):
+    """The faults of a document's examples, and how many there are."""
     faults, count, scenario = [], 0, ""
-    with open(os.path.join(ROOT, GUIDE), encoding="utf-8") as file:
-        guide = file.read()
-    for line, word, text in examples(guide):
-        count += 1
-        if word == "check":
-            scenario = text
-            fault = check(program, text)
+    text = read(path)
+    for found in FENCED.finditer(text):
+        form, place, shown = found.groups()
+        if form == "kmdf":
+            before, after = AROUND[place or ""]
+            scenario = before + shown + after
+            fault = check(program, scenario)
+        elif form == "trace":
+            fault = check_trace(program, place, shown, scenario)
         else:
-            due = STATUSES[ENDING.search(text).group(1)], text
-            fault = None if call(program, word, scenario) == due else "another run"
+            fault = check_seeds(program, shown)
+        count += 1
         if fault:
-            faults.append(f"{GUIDE}:{line}: {fault}")
+            faults.append(f"{path}:{text.count(chr(10), 0, found.start()) + 1}: {fault}")
     return faults, count
+
+
+def written_out(cell):
+    """The statements in a cell of the table of slips, with an `if` above a first `else`, and with each `end`."""
+    lines = re.findall(r"`([^`]*)`", cell.split(": ")[0])
+    lines = [line for line in lines if line != "end"]
+    if lines[0].startswith("else"):
+        lines.insert(0, "if ( a == 1 )")
+    ends = sum(line.split()[0] in ("if", "while", "repeat") or line.startswith("else if") for line in lines)
+    return lines, "".join(line + "\n" for line in ["let a = 1", "let b = 2", *lines, *["end"] * ends])
+
+
+def check_slips(program):
+    """The faults of the table of what a C programmer writes, and how many rows it has."""
+    before, after = AROUND["statements"]
+    faults, rows = [], SLIPS.search(read(GUIDE)).group().strip().split("\n")[2:]
+    for row in rows:
+        written, name, meant = (cell.strip() for cell in row.strip("| ").split(" | "))
+        lines, text = written_out(written)
+        answer = call(program, "check", before + text + after)[1]
+        due = (before + "let a = 1\nlet b = 2\n").count("\n") + len(lines)
+        if not re.fullmatch(rf"\w+ refused at line {due}( column \d+)?: {name.strip('`')}\n", answer):
+            faults.append(f"{GUIDE}: {written}: {answer.strip()}, and not line {due}")
+        fault = check(program, before + written_out(meant)[1] + after)
+        if fault:
+            faults.append(f"{GUIDE}: {meant}: {fault}")
+    return faults, len(rows)
+
+
+def answered(program, words, text):
+    """What the program says of a text, in one line."""
+    status, answer = call(program, words, text)
+    return try_seeds.ending_of(status, answer.encode()) if words == "order" and status in try_seeds.ENDINGS else answer.split("\n")[0]
+
+
+def check_refused(program):
+    """The faults of scenarios/refused, and how many texts it has: each name of the guide's tables, and nothing else."""
+    faults, names = [], set()
+    guide = read(GUIDE)
+    for title in NAMING:
+        section = re.search(rf"^##+ {re.escape(title)}\n(.*?)(?=^##+ |\Z)", guide, re.MULTILINE | re.DOTALL).group(1)
+        for cell in re.findall(r"^\| (`[^|]*) \|", SLIPS.sub("", section + "\n"), re.MULTILINE):
+            names.update(name.split()[-1] for name in re.findall(r"`([^`]*)`", cell))
+    there = {name[:-5] for name in os.listdir(os.path.join(ROOT, "scenarios", "refused")) if name.endswith(".kmdf")}
+    faults += [f"scenarios/refused has no {name}.kmdf" for name in sorted(names - there)]
+    faults += [f"the guide has no name {name}" for name in sorted(there - names)]
+    for name in sorted(names & there):
+        text = read("scenarios", "refused", name + ".kmdf")
+        words, _, due = text.split("\n")[0].removeprefix("# ").partition(": ")
+        answer = answered(program, words, text)
+        if answer != due or name not in due.split():
+            faults.append(f"scenarios/refused/{name}.kmdf: {answer}")
+    return faults, len(there)
+
+
+def check_windows(program):
+    """The faults of texts as Windows writes them, and how many were tried: the lines end in CR LF, a mark, UTF-16."""
+    text = read("examples", "first-read.kmdf")
+    refused = (10, "parse refused at line 1: NotAscii\n")
+    tries = (
+        ("CR LF", text.replace("\n", "\r\n").encode(), call(program, "check", text)),
+        ("a byte order mark", b"\xef\xbb\xbf" + text.encode(), refused),
+        ("UTF-16", text.encode("utf-16"), refused),
+        ("UTF-16 without a mark", text.encode("utf-16-le"), refused),
+    )
+    return [f"{name}: {call(program, 'check', given)}" for name, given, due in tries if call(program, "check", given) != due], len(tries)
 
 
 def replayed(program, text, seeds):
@@ -115,48 +208,67 @@ def replayed(program, text, seeds):
     return None
 
 
+def check_file(program, text, seeds):
+    """What is wrong with a scenario that is to be run, if anything is."""
+    head = text.split("\ncpus")[0]
+    named = STATUS.search(head)
+    due = int(named.group(1)) if named else 0
+    fault = check(program, text)
+    if fault:
+        return fault
+    status = call(program, "order", text)[0]
+    if status != due:
+        return f"the run ends with {status}"
+    for seed, ending in SEED.findall(head):
+        found = answered_by_seed(program, seed, text)
+        if found != ending:
+            return f"seed {seed}: {found}"
+    return replayed(program, text, seeds)
+
+
+def answered_by_seed(program, seed, text):
+    status, trace = call(program, f"seed {seed}", text)
+    return try_seeds.ending_of(status, trace.encode())
+
+
 def check_files(program, seeds):
-    """The same for the files of examples/."""
-    faults = []
-    folder = os.path.join(ROOT, "examples")
-    names = sorted(name for name in os.listdir(folder) if name.endswith(".kmdf"))
-    for name in names:
-        with open(os.path.join(folder, name), encoding="utf-8") as file:
-            text = file.read()
-        fault = check(program, text)
-        named = STATUS.search(text.split("\ncpus")[0])
-        due = int(named.group(1)) if named else 0
-        if not fault:
-            status = call(program, "order", text)[0]
-            fault = f"the run ends with {status}" if status != due else replayed(program, text, seeds)
-        if fault:
-            faults.append(f"examples/{name}: {fault}")
-    return faults, len(names)
+    """The faults of the files of examples/ and scenarios/, and how many there are."""
+    faults, count = [], 0
+    for folder in ("examples", "scenarios/drivers", "scenarios/not-found"):
+        names = sorted(name for name in os.listdir(os.path.join(ROOT, folder)) if name.endswith(".kmdf"))
+        for name in names:
+            fault = check_file(program, read(folder, name), seeds)
+            if fault:
+                faults.append(f"{folder}/{name}: {fault}")
+        count += len(names)
+    return faults, count
 
 
 def check_worked(program):
-    """The scenarios of tools/ whose trace isn't the one beside them, and how many there are."""
-    folders = [folder for kind in ("runs", "stuck", "spinning") for folder, _, _ in os.walk(os.path.join(ROOT, "tools", kind))]
+    """The scenarios whose trace isn't the one beside them, and how many there are."""
+    tops = ("tools/runs", "scenarios/stuck", "scenarios/spinning")
+    folders = [folder for top in tops for folder, _, _ in os.walk(os.path.join(ROOT, top))]
     scenarios = sorted(os.path.join(folder, name) for folder in folders for name in os.listdir(folder) if name.endswith(".scn"))
     faults = []
     for path in scenarios:
-        with open(path, encoding="utf-8") as scenario, open(path[:-4] + ".out", encoding="utf-8") as trace:
-            if call(program, "order", scenario.read())[1] != trace.read():
-                faults.append(f"{os.path.relpath(path, ROOT)}: another run")
+        if call(program, "order", read(path))[1] != read(path[:-4] + ".out"):
+            faults.append(f"{os.path.relpath(path, ROOT)}: another run")
     return faults, len(scenarios)
 
 
 def main():
-    program = os.path.abspath(sys.argv[1]) if len(sys.argv) > 1 else PROGRAM
-    if not os.path.exists(program):
-        sys.exit(f"{program} isn't there: build the program first (./kmdfsim check < examples/first-read.kmdf)")
-    guide_faults, guide_count = check_guide(program)
-    file_faults, file_count = check_files(program, int(sys.argv[2]) if len(sys.argv) > 2 else 3)
-    worked_faults, worked_count = check_worked(program)
-    faults = guide_faults + file_faults + worked_faults
+    program = program_at(sys.argv[1] if len(sys.argv) > 1 else PROGRAM)
+    seeds = int(sys.argv[2]) if len(sys.argv) > 2 else 3
+    parts = [(f"examples of {path}", check_document(program, path)) for path in DOCUMENTS]
+    parts.append(("slips", check_slips(program)))
+    parts.append(("refusals", check_refused(program)))
+    parts.append(("texts of Windows", check_windows(program)))
+    parts.append(("files", check_files(program, seeds)))
+    parts.append(("worked runs", check_worked(program)))
+    faults = [fault for _, (some, _) in parts for fault in some]
     for fault in faults:
         print(fault)
-    print(f"{guide_count} examples of the guide, {file_count} files, {worked_count} worked runs, {len(faults)} faults")
+    print(", ".join(f"{count} {what}" for what, (_, count) in parts) + f", {len(faults)} faults")
     sys.exit(1 if faults else 0)
 
 

@@ -9,7 +9,7 @@ and, once, lines repeated up to each limit and one past it, and a text of the gr
 of `else`, of names that differ in their last digits, of one comment, of arbitrary bytes, of a name that is declared
 again and again and used, and texts that ask for the same long search again and again.
 
-Each text must be answered by `check` and by `order` with a status of the table in README, in one line where it is
+Each text must be answered by `check` and by `order` with a status of the table in docs/SCENARIO.md, in one line where it is
 refused, in less than two seconds of the processor and 400 MB, with no signal and nothing on the standard error.
 A row is printed for each text that isn't, with its name; `--keep FOLDER` keeps these texts. The status is 0 where
 all were, and else 1.
@@ -26,8 +26,9 @@ import sys
 import tempfile
 import threading
 
-ROOT = os.path.dirname(os.path.dirname(os.path.abspath(__file__)))
-PROGRAM = os.path.join(ROOT, "crates", "kmdfsim", "out", "kmdfsim")
+sys.dont_write_bytecode = True
+from built import PROGRAM, ROOT, program_at
+
 LIMIT = 1 << 20
 SECONDS, KILOBYTES = 2.0, 400 * 1024
 # What is written for each status of a refusal.
@@ -219,6 +220,7 @@ def main():
     parser.add_argument("first", metavar="FROM", type=int)
     parser.add_argument("last", metavar="TO", type=int)
     given = parser.parse_args()
+    given.program = program_at(given.program)
     if given.keep:
         os.makedirs(given.keep, exist_ok=True)
 

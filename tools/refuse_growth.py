@@ -25,8 +25,9 @@ import subprocess
 import sys
 import tempfile
 
-ROOT = os.path.dirname(os.path.dirname(os.path.abspath(__file__)))
-PROGRAM = os.path.join(ROOT, "crates", "kmdfsim", "out", "kmdfsim")
+sys.dont_write_bytecode = True
+from built import PROGRAM, ROOT, needs, program_at
+
 SCENARIOS = [os.path.join(ROOT, "examples", name) for name in ("first-read.kmdf", "deadlock.kmdf")]
 FORMS = ("check", "order", "seed 3", "replay", "run")
 ALONE = ("gen 1", "load 1")
@@ -172,9 +173,10 @@ def main():
     parser.add_argument("--each", metavar="N", type=int, default=200, help="try every request up to the N-th")
     parser.add_argument("scenarios", metavar="SCENARIO", nargs="*", default=SCENARIOS)
     given = parser.parse_args()
+    needs("gcc", "it builds the library that refuses")
     wrong = 0
     with tempfile.TemporaryDirectory() as folder:
-        refuser = Refuser(os.path.abspath(given.program), folder)
+        refuser = Refuser(program_at(given.program), folder)
         for path in given.scenarios:
             with open(path, "rb") as file:
                 scenario = file.read()

@@ -19,8 +19,9 @@ import os
 import subprocess
 import sys
 
-ROOT = os.path.dirname(os.path.dirname(os.path.abspath(__file__)))
-PROGRAM = os.path.join(ROOT, "crates", "kmdfsim", "out", "kmdfsim")
+sys.dont_write_bytecode = True
+from built import PROGRAM, ROOT, program_at
+
 # The program's statuses for the endings of a run.
 ENDINGS = {0: "finished", 3: "fault", 4: "stuck", 5: "limit"}
 # No run of an example takes as long.
@@ -69,8 +70,7 @@ def arguments():
     given = parser.parse_args()
     if given.runs < 1 or given.jobs < 1:
         parser.error("one run at least")
-    if not os.path.exists(given.program):
-        parser.error(f"no program at {given.program}: build it first, by `rt ci`")
+    given.program = program_at(given.program)
     for path in given.scenarios:
         if not os.path.exists(path):
             parser.error(f"no file {path}")

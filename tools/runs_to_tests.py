@@ -1,11 +1,12 @@
 #!/usr/bin/env python3
 """Writes the worked runs of tools/runs as tables for tests.
 
-    python3 tools/runs_to_tests.py
+    python3 tools/runs_to_tests.py [--check]
 
 For each folder SUBJECT of tools/runs it writes crates/test_worked_texts/src/SUBJECT.rt: of each run its name,
 its scenario and its trace as they are in NAME.scn and NAME.out, how many events the trace has and how it
-ends. No text is changed. A file's layout is that of `rt fmt`.
+ends. No text is changed. A file's layout is that of `rt fmt`. With --check it writes nothing, and says which file
+isn't what it would write.
 """
 import os
 import re
@@ -66,9 +67,16 @@ pub static RUNS: [Worked; {len(names)}] = [{rows}];
 
 
 def main():
+    others = []
     for subject in sorted(os.listdir(RUNS)):
-        with open(os.path.join(CRATE, subject + ".rt"), "w", encoding="ascii") as file:
-            file.write(table(subject))
+        path = os.path.join(CRATE, subject + ".rt")
+        if "--check" not in sys.argv[1:]:
+            with open(path, "w", encoding="ascii") as file:
+                file.write(table(subject))
+        else:
+            with open(path, encoding="ascii") as file:
+                others += [os.path.relpath(path, ROOT)] * (file.read() != table(subject))
+    sys.exit(f"not what tools/runs_to_tests.py writes: {' '.join(others)}" if others else 0)
 
 
 if __name__ == "__main__":

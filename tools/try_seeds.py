@@ -21,8 +21,9 @@ import subprocess
 import sys
 import time
 
-ROOT = os.path.dirname(os.path.dirname(os.path.abspath(__file__)))
-PROGRAM = os.path.join(ROOT, "crates", "kmdfsim", "out", "kmdfsim")
+sys.dont_write_bytecode = True
+from built import PROGRAM, program_at
+
 SEEDS = 2**64
 # The program's statuses for the endings of a run.
 ENDINGS = {0: "finished", 3: "fault", 4: "stuck", 5: "limit"}
@@ -114,6 +115,7 @@ def arguments():
         parser.error("FROM to TO is no range of seeds")
     if given.jobs < 1:
         parser.error("one run at least goes on at a time")
+    given.program = program_at(given.program)
     return given
 
 

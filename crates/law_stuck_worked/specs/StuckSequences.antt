@@ -1,5 +1,5 @@
 -- Worked runs of Plug and Play sequences: the plan of each, its events, and what it waits for where it is stuck. Made by
--- tools/scene_to_plan.py from the scenarios and traces of tools/stuck.
+-- tools/scene_to_plan.py from the scenarios and traces of scenarios/stuck.
 use Rattle.std.specs.Prelude.{List, [], ◌∷◌, Some, None, true, false, codes}
 use Rattle.wdf_base.specs.declared.declared.Declared.TheVariants as declared
 use Rattle.wdf_base.specs.declared.declared.ClassInfo.TheVariants as class

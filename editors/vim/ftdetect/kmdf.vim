@@ -1,0 +1,1 @@
+autocmd BufRead,BufNewFile *.kmdf,*.scn setfiletype kmdf
