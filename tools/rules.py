@@ -24,9 +24,9 @@ TESTS = ("test_", "check_")
 HEAD = """# The rules of the machine, and where each is kept
 
 `tools/rules.py` writes this page from `tools/rules.txt` and checks it in the gate: each name is there. `docs/MACHINE.md` explains
-the rules to a driver writer, in the same order of subjects. In a row:
+the rules to a driver writer, and links from each subject to its rules here. In a row:
 
-- **definition**: what the rule is. The signs and letters of definitions are explained at the end of `docs/MACHINE.md`.
+- **definition**: what the rule is. [How to read a definition](MACHINE.md#how-to-read-a-definition) explains the signs and letters.
 - **code**: functions whose contracts say that they are the definition.
 - **law**: a statement that is proved of all runs, or of all states, and that the rule is for, or that rests on it.
 - **wrong body**: an edit of the code that the prover refuses. The gate tries those in `must-fail/`, `tools/wrong_bodies.py` those in
