@@ -3,7 +3,8 @@
 
 Looked at are words in backquotes and links. A path is what has a slash and begins with a folder of the repository; one with a
 part in capitals, as crates/NAME/out, is a form. A word that begins as crates do is a crate, a function of one or a script. `f`
-of `crate` needs an f there: a function, a type, a definition, or a field. NAME.antt and NAME.rt have to be some crate's.
+of `crate` needs an f there: a function, a type, a definition, or a field. NAME.antt and NAME.rt have to be some crate's. And
+tools/README.md names each script of tools/.
 """
 
 import re
@@ -91,6 +92,13 @@ def wrong_in(page, names):
                 yield text.count("\n", 0, found.start()) + 1, f"{word} of {crate}"
 
 
+def not_in_the_index(root):
+    """The scripts of tools/ that its index doesn't name, and those that it names and that aren't there."""
+    told = {word for word in CODE.findall((root / "tools/README.md").read_text(encoding="utf-8")) if re.fullmatch(r"\w+\.py", word)}
+    there = {path.name for path in (root / "tools").glob("*.py")}
+    return sorted(there ^ told)
+
+
 def main():
     names = Names(ROOT)
     wrong = [
@@ -98,6 +106,7 @@ def main():
         for page in [ROOT / "README.md", *sorted((ROOT / "docs").glob("*.md"))]
         for number, what in wrong_in(page, names)
     ]
+    wrong += [f"tools/README.md: {script}" for script in not_in_the_index(ROOT)]
     sys.exit("\n".join(wrong) if wrong else 0)
 
 

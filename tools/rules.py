@@ -1,11 +1,13 @@
 #!/usr/bin/env python3
 """Writes docs/RULES.md from tools/rules.txt, or with --check says whether it is what would be written.
 
-tools/rules.txt has a rule a line: its words, a bar, and the definitions that state it, with commas between them. A
-definition is a name of crates/wdf_model, or of the crate in brackets after it; other brackets name a row. Each definition
-has to exist. The script adds the functions whose contracts cite it (code), the laws over it (functions without a body in
-the crates of laws), and the must-fail edits inside the code. A contract cites a definition where its file imports that
-name from the definition's crate, or says it after the name of a module of that crate.
+tools/rules.txt has a rule a line, with bars between its parts: its words, and the definitions that state it, with commas
+between them. Then, where the script doesn't find what shows most, its laws and its wrong bodies, by their names; `-` says that
+it has none of its own. A definition is a name of crates/wdf_model, or of the crate in brackets after it; other brackets name a
+row. Each name has to exist. The script adds the functions whose contracts cite a definition (code), and where no laws or
+wrong bodies are given, the laws over it (functions without a body in the crates whose names begin with law_) and the wrong
+bodies inside the code. A contract cites a definition where its file imports that name from the definition's crate, or says it
+after the name of a module of that crate.
 """
 
 import re
@@ -17,14 +19,21 @@ CRATES = ROOT / "crates"
 RULES = ROOT / "tools" / "rules.txt"
 PAGE = ROOT / "docs" / "RULES.md"
 LAWS = "law_"
-TESTS = "test_"
+TESTS = ("test_", "check_")
 
 HEAD = """# The rules of the machine, and where each is kept
 
-`tools/rules.py` writes this page from `tools/rules.txt` and checks it in the gate: each definition named here exists.
-Definitions are in `crates/wdf_model/specs` unless a crate is named. Code is a function whose contract cites the
-definition; a law is a function without a body that speaks of it; an edit is a wrong body that the prover refuses.
-`docs/MACHINE.md` explains the rules to a driver writer.
+`tools/rules.py` writes this page from `tools/rules.txt` and checks it in the gate: each name is there. `docs/MACHINE.md` explains
+the rules to a driver writer, and links from each subject to its rules here. In a row:
+
+- **definition**: what the rule is. [How to read a definition](MACHINE.md#how-to-read-a-definition) explains the signs and letters.
+- **code**: functions whose contracts say that they are the definition.
+- **law**: a statement that is proved of all runs, or of all states, and that the rule is for, or that rests on it.
+- **wrong body**: an edit of the code that the prover refuses. The gate tries those in `must-fail/`, `tools/wrong_bodies.py` those in
+  `wrong/`.
+
+A row without a law has those that hold of all rules: `each_event_fits` and `events_do_what_they_may`, in the crates
+`law_machine_base` and `law_machine_deeds`. A row without a wrong body has a contract like the others, and none is tried on it.
 """
 
 DEFINITION = re.compile(r"^(?:(?:abbrev|unfoldable)(?: pub)?|pub)? ?([A-Za-z_][A-Za-z0-9_']*) :", re.M)
@@ -44,17 +53,13 @@ def sources(crate, suffix):
 
 
 def names_of(crate):
-    """What a crate defines: definitions, types, fields and variants."""
-    names = set()
-    for path in sources(crate, ".antt"):
-        if "specs" in path.relative_to(CRATES).parts:
-            text = path.read_text()
-            for form in (DEFINITION, TYPE, MEMBER):
-                names.update(form.findall(text))
-    for path in sources(crate, ".rt"):
-        text = path.read_text()
-        for form in (RUST, VARIANT):
-            names.update(form.findall(text))
+    """What a crate defines, each name with its file: definitions before types, fields and variants."""
+    names = {}
+    antt = [path for path in sources(crate, ".antt") if "specs" in path.relative_to(CRATES).parts]
+    for paths, form in [(antt, DEFINITION), (antt, TYPE), (sources(crate, ".rt"), RUST), (antt, MEMBER), (sources(crate, ".rt"), VARIANT)]:
+        for path in paths:
+            for name in form.findall(path.read_text()):
+                names.setdefault(name, path)
     return names
 
 
@@ -92,62 +97,89 @@ def functions_of(path):
         yield FUNCTION.match(lines[start]).group(1), "\n".join(contract), start, end
 
 
-def gather():
-    """The functions by the definitions that their contracts cite, and the edits by the functions in which they are."""
-    code, laws, edits = {}, {}, {}
-    for folder in sorted(p for p in CRATES.iterdir() if p.is_dir()):
+class Found:
+    """What the crates have: functions, with their files, by the definitions that their contracts cite; wrong bodies by functions."""
+
+    def __init__(self):
+        self.code, self.laws, self.edits = {}, {}, {}
+        self.functions, self.wrong = {}, {}
+        for folder in sorted(p for p in CRATES.iterdir() if p.is_dir()):
+            self.gather(folder)
+
+    def gather(self, folder):
         crate = folder.name
+        edits = [(edit, edit.read_text().split("\n")) for edit in sorted([*folder.glob("must-fail/*.edit"), *folder.glob("wrong/*.edit")])]
+        for edit, _ in edits:
+            self.wrong.setdefault(edit.stem, []).append(edit)
         for path in sources(crate, ".rt"):
             text = path.read_text()
+            lines = text.split("\n")
             names, modules = imports_of(text)
+            mine = [(edit, told[1][5:]) for edit, told in edits if told[0] == f"file: {path.relative_to(folder)}"]
             for name, contract, start, end in functions_of(path):
-                lines = text.split("\n")[start:end]
                 key = f"{crate}::{name}"
-                for edit in sorted([*folder.glob("must-fail/*.edit"), *folder.glob("wrong/*.edit")]):
-                    told = edit.read_text().split("\n")
-                    if told[0] == f"file: {path.relative_to(folder)}" and any(told[1][5:] in line for line in lines):
-                        edits.setdefault(key, []).append(edit.stem)
-                is_test = "tests" in path.parts or crate.startswith(TESTS)
-                if is_test:
+                self.functions.setdefault(name, []).append((key, path))
+                for edit, old in mine:
+                    if any(old in line for line in lines[start:end]):
+                        self.edits.setdefault(key, []).append(edit)
+                if "tests" in path.parts or crate.startswith(TESTS):
                     continue
-                table = laws if crate.startswith(LAWS) else code
+                table = self.laws if crate.startswith(LAWS) else self.code
                 for definition in set(cited(contract, names, modules)):
-                    table.setdefault(definition, []).append(key)
-    return code, laws, edits
+                    table.setdefault(definition, []).append((key, path))
+
+    def law(self, name):
+        """The law with this name, with its file, or None where none or more than one has it."""
+        found = self.functions.get(name, [])
+        found = [law for law in found if law[0].startswith(LAWS)] or found
+        return found[0] if len(found) == 1 else None
+
+
+def link(shown, path):
+    return f"[`{shown}`](../{path.relative_to(CRATES.parent)})"
+
+
+def names_in(part):
+    return [name.strip() for name in part.split(",") if name.strip() and name.strip() != "-"]
 
 
 def parsed(text):
-    """The rules by subject: words, and definitions as (name, remark)."""
+    """The rules by subject: words, definitions as (name, remark), and the names of laws and of wrong bodies, or None."""
     subject = None
     for number, line in enumerate(text.split("\n"), 1):
         if not line or line.startswith("#"):
             continue
         if "|" not in line:
             subject = line
-            yield number, subject, None, None
+            yield number, subject, None, None, None, None
             continue
-        words, told = (part.strip() for part in line.rsplit("|", 1))
+        words, told, *given = (part.strip() for part in line.split("|"))
         found = [re.fullmatch(r"([A-Za-z_.']+)(?: \(([^)]*)\))?", d.strip()) for d in told.split(",") if d.strip()]
-        if None in found:
-            sys.exit(f"{RULES.name}, line {number}: can't be read: {told}")
-        yield number, subject, words, [(m.group(1), m.group(2)) for m in found]
+        if None in found or len(given) > 2:
+            sys.exit(f"{RULES.name}, line {number}: can't be read: {line}")
+        laws, edits = ([names_in(part) for part in given] + [None, None])[:2]
+        yield number, subject, words, [(m.group(1), m.group(2)) for m in found], laws, edits
 
 
 def several(items, definitions=(), most=3):
-    """The first few of a list, as code words: first those that have the name of a definition."""
-    items = sorted(set(items), key=lambda item: (item.split("::")[-1] not in definitions, item))
-    shown = ", ".join(f"`{item}`" for item in items[:most])
-    return shown + (f" and {len(items) - most} more" if len(items) > most else "")
+    """The first few of some files with what to show of each: those that have the name of a definition, if there are any."""
+    items = sorted(dict(items).items())
+    items = [item for item in items if item[0].split("::")[-1] in definitions] or items
+    return listed(items[:most]) + (f" and {len(items) - most} more" if len(items) > most else "")
+
+
+def listed(items):
+    return ", ".join(link(*item) for item in items)
 
 
 def page():
     """The page, or an end of the script where a name doesn't exist."""
-    known = {}
-    code, laws, edits = gather()
+    known, found = {}, Found()
     out, wrong = [HEAD], []
-    for number, subject, words, definitions in parsed(RULES.read_text()):
+
+    for number, subject, words, definitions, laws, edits in parsed(RULES.read_text()):
         if words is None:
-            out.append(f"\n## {subject}\n\n| rule | definition | code | law | edit |\n|---|---|---|---|---|")
+            out.append(f"\n## {subject}\n\n| rule | definition | code | law | wrong body |\n|---|---|---|---|---|")
             continue
         told, by_code, by_law, lasts = [], [], [], set()
         for name, remark in definitions:
@@ -158,11 +190,19 @@ def page():
                 known[crate] = names_of(crate)
             if last not in known[crate]:
                 wrong.append(f"{RULES.name}, line {number}: {crate} has no {name}")
-            told.append(f"`{name}`" + (f" ({remark})" if remark else ""))
-            by_code += code.get((crate, last), [])
-            by_law += laws.get((crate, last), [])
-        by_edit = [edit for key in by_code for edit in edits.get(key, [])]
-        out.append(f"| {words} | {', '.join(told)} | {several(by_code, lasts)} | {several(by_law)} | {several(by_edit)} |")
+                continue
+            told.append(link(name, known[crate][last]) + (f" ({remark})" if remark and crate != remark else ""))
+            by_code += found.code.get((crate, last), [])
+            by_law += found.laws.get((crate, last), [])
+        by_edit = [(edit.stem, edit) for key, _ in by_code for edit in found.edits.get(key, [])]
+        shown_laws, shown_edits = several(by_law), several(by_edit)
+        if laws is not None:
+            wrong += [f"{RULES.name}, line {number}: there is no law {name}" for name in laws if not found.law(name)]
+            shown_laws = listed(found.law(name) for name in laws if found.law(name))
+        if edits is not None:
+            wrong += [f"{RULES.name}, line {number}: there is no wrong body {name}" for name in edits if len(found.wrong.get(name, [])) != 1]
+            shown_edits = listed((name, found.wrong[name][0]) for name in edits if name in found.wrong)
+        out.append(f"| {words} | {', '.join(told)} | {several(by_code, lasts)} | {shown_laws} | {shown_edits} |")
     if wrong:
         sys.exit("\n".join(wrong))
     return "\n".join(out) + "\n"

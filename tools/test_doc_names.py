@@ -12,6 +12,7 @@ FILES = {
     "crates/wdf_text/src/lib.rt": "//! Text.\npub fn small() -> u32\n    ensures little { ⊤ }\n{\n    1\n}\n",
     "crates/wdf_text/specs/Texts.antt": "-- texts\nabbrev pub text_of : ℕ\ntext_of = 0\n",
     "tools/check_all.py": "",
+    "tools/README.md": "`check_all.py` and `check_none.py`\n",
     "docs/OTHER.md": "# Other things\n\n## What `it` is\n",
 }
 GOOD = """# A page
@@ -48,6 +49,8 @@ def main():
             found = list(doc_names.wrong_in(page, names))
             if found != wanted:
                 wrong.append(f"wanted {wanted}, found {found}")
+        if doc_names.not_in_the_index(root) != ["check_none.py"]:
+            wrong.append(f"of the index: {doc_names.not_in_the_index(root)}")
     sys.exit("\n".join(wrong) if wrong else 0)
 
 

@@ -48,11 +48,24 @@ pub fn takes_once()
 }
 """
 EDIT = "file: src/lib.rt\nold:     queue.front\nnew:     0\n"
-RULES = "Queues\na queue gives its front | takes\na queue drops | drops\nits front is kept | Queue.front\n"
+LAWS = "/// Another law.\npub fn drops_once()\n{\n}\n"
+RULES = """Queues
+a queue gives its front | takes
+a queue drops | drops | drops_once | -
+its front is kept | Queue.front | - | front_is_zero
+"""
+MODEL_FILE, PART_FILE = "../crates/wdf_model/specs/Queues.antt", "../crates/wdf_part/src/lib.rt"
 WANTED = [
-    "| a queue gives its front | `takes` | `wdf_part::takes`, `wdf_part::also_takes` | `law_queue::takes_once` | `front_is_zero` |",
-    "| a queue drops | `drops` |  |  |  |",
-    "| its front is kept | `Queue.front` |  |  |  |",
+    f"| a queue gives its front | [`takes`]({MODEL_FILE}) | [`wdf_part::takes`]({PART_FILE}) "
+    "| [`law_queue::takes_once`](../crates/law_queue/src/lib.rt) | [`front_is_zero`](../crates/wdf_part/must-fail/front_is_zero.edit) |",
+    f"| a queue drops | [`drops`]({MODEL_FILE}) |  | [`law_other::drops_once`](../crates/law_other/src/lib.rt) |  |",
+    f"| its front is kept | [`Queue.front`]({MODEL_FILE}) |  |  | [`front_is_zero`](../crates/wdf_part/must-fail/front_is_zero.edit) |",
+]
+# A rule that can't be written so, and what the script says then.
+REFUSED = [
+    ("no such rule | puts", "wdf_model has no puts"),
+    ("no such law | takes | puts_once", "there is no law puts_once"),
+    ("no such wrong body | takes | - | front_is_one", "there is no wrong body front_is_one"),
 ]
 
 
@@ -67,6 +80,7 @@ def page_of(rules_text):
         rules.CRATES, rules.RULES = Path(room) / "crates", Path(room) / "rules.txt"
         put(rules.CRATES / "wdf_model/specs/Queues.antt", MODEL)
         put(rules.CRATES / "law_queue/src/lib.rt", LAW)
+        put(rules.CRATES / "law_other/src/lib.rt", LAWS)
         put(rules.CRATES / "wdf_part/src/lib.rt", PART)
         put(rules.CRATES / "wdf_part/must-fail/front_is_zero.edit", EDIT)
         put(rules.RULES, rules_text)
@@ -79,9 +93,10 @@ def page_of(rules_text):
 def main():
     found = page_of(RULES).split("\n")
     wrong = [f"not found: {line}" for line in WANTED if line not in found]
-    said = page_of("Queues\nno such rule | puts\n")
-    if said != "rules.txt, line 2: wdf_model has no puts":
-        wrong.append(f"of a name that doesn't exist: {said}")
+    for rule, said in REFUSED:
+        heard = page_of(f"Queues\n{rule}\n")
+        if heard != f"rules.txt, line 2: {said}":
+            wrong.append(f"of {rule!r}: {heard}")
     sys.exit("\n".join([*wrong, *found]) if wrong else 0)
 
 
