@@ -7,12 +7,14 @@
 //!   change of the workers doesn't try the edits of `wdf_run` again, and who runs by picks needs no threads.
 //! - **Whose seat is the first?** A worker's, as each seat is: there is one seat for each worker. It is the last of
 //!   the row, so that the others are taken off first and joined into it.
-//! - **When does a worker stop early?** Where it has the core and nothing may follow. A worker whose own actors have
-//!   nothing to do goes on to its next turn.
-//! - **What does a worker do after a turn that added nothing?** It lets other threads run, and looks up to a hundred
-//!   times whether the history has grown, before its next turn. Without that it would use all its turns up while one
-//!   event is done, and the caller would do the run; and it would search the machine anew though nothing has changed.
-//!   It waits for nobody: the looks are counted.
+//! - **When does a worker stop early?** Where it has the core and nothing may follow; and where in 32 of its turns, one
+//!   after the other, nobody added anything. So a run ends soon where no thread can be made: each worker then waits for
+//!   others that don't run, leaves, and the caller does the rest.
+//! - **What does a worker do after a turn that added nothing?** It looks up to a hundred times whether the history has
+//!   grown, before its next turn. Without that it would use all its turns up while one event is done, and the caller
+//!   would do the run; and it would search the machine anew though nothing has changed. It waits for nobody: the looks
+//!   are counted. Between two looks it calls `rest` of the gate. That of the program sleeps, so that on a busy machine
+//!   no idle worker takes the processor of one that has work.
 //! - **How often does a worker try?** Four times `limit` turns, and at most 2^32 - 1 of them.
 //! - **How does the caller finish?** By `run_order` with no picks, since a missing pick is 0. Where the workers came
 //!   to the end it adds nothing.
