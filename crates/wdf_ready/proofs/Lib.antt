@@ -9,3 +9,4 @@ pub mod Cancels
 pub mod Own
 pub mod Straight
 pub mod Begins
+pub mod Counting

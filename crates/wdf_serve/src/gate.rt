@@ -11,6 +11,7 @@ const NAP: u64 = 50;
 
 /// A gate that holds no worker. One that has nothing to do sleeps after its first looks, so that it takes no processor
 /// from those that have. It doesn't yield: on a busy machine a thread that yields comes after all others.
+#[derive(Drop)]
 pub struct OpenGate<'a, C: Clock> {
     /// By what a worker sleeps.
     pub clock: &'a C,
