@@ -8,6 +8,7 @@ use Rattle.wdf_base.specs.declared.event.Event.{Event}
 use Rattle.wdf_base.specs.declared.event.Event.TheVariants as event
 use Rattle.wdf_base.specs.declared.event.Step.{Step}
 use Rattle.wdf_base.specs.declared.event.Step.TheVariants as step
+use Rattle.wdf_base.specs.declared.ids.Handle.{Handle}
 use Rattle.wdf_base.specs.declared.plan.Plan.{Plan}
 use Rattle.wdf_base.specs.declared.rank.Rank.{Rank}
 use Rattle.wdf_base.specs.declared.rank.Rank.TheVariants as rank
@@ -70,12 +71,16 @@ has_start_for plan S o r rank.Stop = has_queue plan o && nat_lt r (places_for pl
 has_start_for plan S o r rank.Resume = has_queue plan o && nat_lt r (places_for plan S rank.Resume o)
 has_start_for plan S o r _ = false
 
+-- a start has one
+abbrev pub has_start_if_any : {A : Type 0} → Plan → State A → Callback → ℕ → Option Handle → Bool
+has_start_if_any plan S c o None = has_start plan S c o (row_of c).rank
+has_start_if_any plan S c o (Some r) = has_start_for plan S o r.id.0 (row_of c).rank
+
 -- ---- events
 
 -- an event that may come has a place among the candidates, a row for each kind of event
 abbrev pub has_place : {A : Type 0} → Plan → State A → Event → Bool
-has_place plan S (event.Start cpu c o None) = has_start plan S c o.id.0 (row_of c).rank
-has_place plan S (event.Start cpu c o (Some r)) = has_start_for plan S o.id.0 r.id.0 (row_of c).rank
+has_place plan S (event.Start cpu c o r) = has_start_if_any plan S c o.id.0 r
 has_place plan S (event.Local cpu line) = is_cpu plan cpu
 has_place plan S (event.Log cpu v) = is_cpu plan cpu
 has_place plan S (event.Spend cpu n) = is_cpu plan cpu

@@ -10,3 +10,4 @@ pub mod Own
 pub mod Straight
 pub mod Begins
 pub mod Counting
+pub mod Decided

@@ -1,7 +1,5 @@
 //! Whether one event is among those that may come, by its own test and without a search for it.
 ghost use Rattle.std.specs.Prelude.{◌≡◌, ◌≤◌, ◌^◌, ◌↔◌, IsTrue, length};
-ghost use Rattle.wdf_base.specs.declared.event.Event.TheVariants as event;
-ghost use Rattle.wdf_base.specs.declared.ids.Cpu.{Cpu};
 ghost use Rattle.wdf_base.specs.declared.rank.Rank.TheVariants as rank;
 ghost use Rattle.law_machine_base.specs.OverRuns.{PlacesAgree};
 ghost use Rattle.law_machine_once.specs.Owned.{StepsOwned};
@@ -132,7 +130,7 @@ fn starts_somewhere<A: Agent>(
     object: Handle,
     request: Option<Handle>,
 ) -> bool
-    ensures { (cpu : Cpu) → result ≡ placed.has_place plan.now parts.now (event.Start cpu callback object request) }
+    ensures { result ≡ placed.has_start_if_any plan.now parts.now callback object.id.0 request }
 {
     match request {
         Some(r) => has_start_for(plan, parts, object.id, r.id, callback.row().rank),
@@ -172,7 +170,6 @@ fn has_place<A: Agent>(plan: &IndexedPlan, parts: &Parts<A>, event: &Event) -> b
 }
 
 /// Whether an event is among those that may come, time aside. It looks for no other.
-#[tactic(auto, using(law_machine_places::proofs::Exactly::exactly))]
 pub fn is_allowed<A: Agent>(plan: &IndexedPlan, parts: &Parts<A>, event: &Event) -> bool
     requires agents { length parts.now.agents ≤ 2 ^ 16 }
     requires agree { PlacesAgree parts.now }

@@ -1,5 +1,5 @@
 -- A group more is counted.
-use Rattle.std.proofs.Common.{◌≡◌, ◌+◌, [], ◌∷◌, ◌++◌, sym, subst, ap, ◌∙◌, drop, take, map, arith}
+use Rattle.std.proofs.Common.{◌+◌, [], ◌∷◌, ◌++◌, sym, subst, ap, ◌∙◌, drop, take, map, arith}
 use Rattle.wdf_ready.specs.Search.{events_of, offered_len}
 use Rattle.wdf_ready.proofs.Counting.{mapped_next}
 use Rattle.wdf_ready.proofs.Passing.{Passed, group_passes, index_there}

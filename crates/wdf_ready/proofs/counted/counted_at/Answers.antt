@@ -1,5 +1,5 @@
 -- The event is in this group, or the group is passed.
-use Rattle.std.proofs.Common.{◌≡◌, ◌-◌, ◌<◌, ◌≤◌, [], ap, sym, subst, drop, length, arith}
+use Rattle.std.proofs.Common.{◌≡◌, ◌-◌, ◌≤◌, [], ap, sym, drop, length, arith}
 use Rattle.wdf_model.specs.declared.enums.Group.TheVariants as group
 use Rattle.wdf_ready.specs.Search.{events_of, offered_len}
 use Rattle.wdf_ready.proofs.Counting.{count_of, in_group, past_group}
