@@ -5,7 +5,7 @@
 use std::env;
 use std::process::ExitCode;
 use wdf_io::{ReadSource, WriteSink};
-use wdf_serve::{OpenGate, serve};
+use wdf_serve::{SleepingGate, serve};
 
 /// Serves the program's arguments over its input and its output, and ends with the status that is answered.
 fn main(rt: HostRuntime) -> ExitCode {
@@ -17,7 +17,7 @@ fn main(rt: HostRuntime) -> ExitCode {
         env::args(&rt),
         &mut source,
         &mut sink,
-        &OpenGate { clock: &rt },
+        &SleepingGate { clock: &rt },
     );
     ExitCode::from(status)
 }

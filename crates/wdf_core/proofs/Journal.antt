@@ -208,9 +208,20 @@ module _ {A : Type 0} (m : Meaning A) (plan : Plan) (journal : List Event) (S : 
   pick_by pick (x ∷ xs) e h = h
 
   -- among those that may come, time aside, where there are some
-  pub pick_found : (pick : ℕ) (e : Event) → goes_on plan journal ≡ true → slice_get (allowed plan m (state_after plan m journal)) (pick % length (allowed plan m (state_after plan m journal))) ≡ Some e
+  pick_found : (pick : ℕ) (e : Event) → goes_on plan journal ≡ true → slice_get (allowed plan m (state_after plan m journal)) (pick % length (allowed plan m (state_after plan m journal))) ≡ Some e
       → slice_get (ready plan m journal) (pick % length (ready plan m journal)) ≡ Some e
   pick_found pick e h at = subst (λ xs. slice_get xs (pick % length xs) ≡ Some e) (sym (ready_going h)) (pick_by pick (allowed plan m (state_after plan m journal)) e at)
+
+  pick_of : (pick : ℕ) (o : Option Event) → goes_on plan journal ≡ true
+      → MatchOption o (allowed plan m (state_after plan m journal) ≡ []) (λ e. slice_get (allowed plan m (state_after plan m journal)) (pick % length (allowed plan m (state_after plan m journal))) ≡ Some e)
+      → MatchOption o (allowed plan m (state_after plan m journal) ≡ []) (λ e. slice_get (ready plan m journal) (pick % length (ready plan m journal)) ≡ Some e)
+  pick_of pick None h k = k
+  pick_of pick (Some e) h k = pick_found pick e h k
+
+  -- what the groups offer names what may follow
+  pub picked_ready : (pick : ℕ) (o : Option Event) → goes_on plan journal ≡ true → MatchOption o (events_of plan m S all ≡ []) (λ e. slice_get (events_of plan m S all) (pick % length (events_of plan m S all)) ≡ Some e)
+      → MatchOption o (allowed plan m (state_after plan m journal) ≡ []) (λ e. slice_get (ready plan m journal) (pick % length (ready plan m journal)) ≡ Some e)
+  picked_ready pick o h k = pick_of pick o h (subst (λ xs. MatchOption o (xs ≡ []) (λ e. slice_get xs (pick % length xs) ≡ Some e)) found k)
 
   pick_tick_by : (pick : ℕ) (xs : List Event) (b : Bool) (o : Option Event) → xs ≡ [] → waits_for_time m (state_after plan m journal) ≡ b → o ≡ tick_if b (state_after plan m journal).clock
       → MatchOption o (or_tick m (state_after plan m journal) xs ≡ []) (λ e. slice_get (or_tick m (state_after plan m journal) xs) (pick % length (or_tick m (state_after plan m journal) xs)) ≡ Some e)

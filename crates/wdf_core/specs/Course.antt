@@ -25,6 +25,6 @@ pub record IsUnderWay {A : Type 0} (m : Meaning A) (plan : Plan) (journal : List
   pub room : plan.limit ≤ space
 
 -- All that a core keeps: this, and room for a count for each group.
-pub record IsSound {A : Type 0} (m : Meaning A) (plan : Plan) (journal : List Event) (S : State A) (all : List Group) (space counts : ℕ) : Type 0 where
+pub record IsSound {A : Type 0} (m : Meaning A) (plan : Plan) (journal : List Event) (S : State A) (all : List Group) (space spare : ℕ) : Type 0 where
   pub way : IsUnderWay m plan journal S all space
-  pub counts : length all ≤ counts
+  pub counts : length all ≤ spare

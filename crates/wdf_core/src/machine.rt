@@ -327,30 +327,36 @@ impl<A: Agent> Core<A> {
         }
     }
 
-    /// The event that a pick names among those that may follow; `None` exactly where none may.
+    /// The event that a pick names among those that may follow; `None` exactly where none may. Nothing changes.
     fn pick_ready(&mut self, pick: u64) -> Option<Event>
-        ensures plan { self.new.plan ≡ self.old.plan }
-        ensures journal { self.new.journal ≡ self.old.journal }
+        ensures same { self.new ≡ self.old }
         ensures picked { MatchOption result (ready self.old.plan A.meaning self.old.journal ≡ [])
             (λ event. slice_get (ready self.old.plan A.meaning self.old.journal) (pick % length (ready self.old.plan A.meaning self.old.journal)) ≡ Some event) }
     {
-        if !self.goes_on() {
+        if self.is_over() {
             return None;
         }
         match self.pick_allowed(pick) {
             Some(event) => Some(event),
-            None => self.tick_if_waiting(),
+            None => self.pick_tick(pick),
         }
     }
 
-    /// The event that a pick names among those that may come, time aside; `None` exactly where none may.
+    /// Whether the run can't go on: its last event is a fault, or it has as many events as its limit.
+    fn is_over(&self) -> bool
+        ensures over { IsTrue result → ready self.now.plan A.meaning self.now.journal ≡ [] }
+        ensures going { IsFalse result → goes_on self.now.plan self.now.journal ≡ true }
+    {
+        let _ = &self.plan;
+        !self.goes_on()
+    }
+
+    /// The event that a pick names, where one may come, time aside; `None` exactly where none may. Nothing changes.
     fn pick_allowed(&mut self, pick: u64) -> Option<Event>
         requires { goes_on self.old.plan self.old.journal ≡ true }
-        ensures plan { self.new.plan ≡ self.old.plan }
-        ensures journal { self.new.journal ≡ self.old.journal }
+        ensures same { self.new ≡ self.old }
         ensures picked { MatchOption result (allowed self.old.plan A.meaning (state_after self.old.plan A.meaning self.old.journal) ≡ [])
-            (λ event. slice_get (allowed self.old.plan A.meaning (state_after self.old.plan A.meaning self.old.journal))
-            (pick % length (allowed self.old.plan A.meaning (state_after self.old.plan A.meaning self.old.journal))) ≡ Some event) }
+            (λ event. slice_get (ready self.old.plan A.meaning self.old.journal) (pick % length (ready self.old.plan A.meaning self.old.journal)) ≡ Some event) }
     {
         picked(
             &self.plan,
@@ -359,6 +365,18 @@ impl<A: Agent> Core<A> {
             &mut self.counts,
             pick,
         )
+    }
+
+    /// The event that a pick names, where none may come, time aside: the next tick, if something waits for it.
+    fn pick_tick(&self, pick: u64) -> Option<Event>
+        requires going { goes_on self.now.plan self.now.journal ≡ true }
+        requires none { allowed self.now.plan A.meaning (state_after self.now.plan A.meaning self.now.journal) ≡ [] }
+        ensures { MatchOption result (ready self.now.plan A.meaning self.now.journal ≡ [])
+            (λ event. slice_get (ready self.now.plan A.meaning self.now.journal) (pick % length (ready self.now.plan A.meaning self.now.journal)) ≡ Some event) }
+    {
+        let _ = &self.plan;
+        let _pick = pick;
+        self.tick_if_waiting()
     }
 
     /// Goes on by this event, and answers true, exactly where it is among those that may follow; else nothing changes. It

@@ -1,7 +1,19 @@
-//! A gate that holds nobody.
+//! Gates that hold nobody.
 use std::thread;
 use std::time::{Clock, Duration};
 use wdf_turn::Gate;
+
+/// A gate that holds no worker. One that has nothing to do lets others run.
+#[derive(Clone, Copy, Debug)]
+pub struct OpenGate;
+
+impl Gate for OpenGate {
+    fn pass(&self, _worker: u32, _turn: u32) {}
+
+    fn rest(&self, _looks: u32) {
+        thread::yield_now();
+    }
+}
 
 /// How often a worker looks at once, before it sleeps between two looks.
 const BRISK_LOOKS: u32 = 60;
@@ -9,15 +21,16 @@ const BRISK_LOOKS: u32 = 60;
 /// How long it sleeps, in microseconds.
 const NAP: u64 = 50;
 
-/// A gate that holds no worker. One that has nothing to do sleeps after its first looks, so that it takes no processor
-/// from those that have. It doesn't yield: on a busy machine a thread that yields comes after all others.
+/// The gate of the program. It holds no worker. One that has nothing to do sleeps after its first looks, so that it
+/// takes no processor from those that have. It doesn't yield: on a busy machine a thread that yields comes after all
+/// others.
 #[derive(Drop)]
-pub struct OpenGate<'a, C: Clock> {
+pub struct SleepingGate<'a, C: Clock> {
     /// By what a worker sleeps.
     pub clock: &'a C,
 }
 
-impl<C: Clock> Gate for OpenGate<'_, C> {
+impl<C: Clock> Gate for SleepingGate<'_, C> {
     fn pass(&self, _worker: u32, _turn: u32) {}
 
     fn rest(&self, looks: u32) {

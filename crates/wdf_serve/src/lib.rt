@@ -22,5 +22,5 @@ mod run;
 mod words;
 
 pub use call::top;
-pub use gate::OpenGate;
+pub use gate::{OpenGate, SleepingGate};
 pub use program::serve;
