@@ -19,7 +19,7 @@ use Rattle.wdf_top.proofs.Statuses.{differs}
 
 -- an answer to the whole input with the status of an end is a run that was written
 of_answer : (a : RunAgents) (by : Picking) (s : Sourcing) (k : Sinking) (answer : ℕ) (input text : List ℕ) (status : ℕ) → IsRead s input → Answers (running (meaning_of a) by) input text status
-    → answer ≡ status → Gains k.before k.after text → k.faults_after ≡ k.faults_before → IsTrue (is_end_status answer) → WroteSomeRun a s k answer
+    → answer ≡ status → Gains k.before k.after text → k.faults_after ≡ k.faults_before → IsTrue (is_end_status answer) → WroteSomeRun a by s k answer
 of_answer a by s k answer input text status is_read (inl (inl r)) same gained unfailed ends = absurd (differs is_end_status 10 answer refl ends (same ∙ r.4))
 of_answer a by s k answer input text status is_read (inl (inr r)) same gained unfailed ends = absurd (differs is_end_status 11 answer refl ends (same ∙ r.3))
 of_answer a by s k answer input text status is_read (inr (scene, stands, accepted, trace)) same gained unfailed ends =
@@ -32,6 +32,7 @@ of_answer a by s k answer input text status is_read (inr (scene, stands, accepte
       stands = has;
       run = trace.run;
       runs = runs;
+      made = trace.made;
       ended = made_ends (plan_of scene) (meaning_of a) by trace.run trace.made;
       status_is = same ∙ trace.status_is;
       keeps = all_kept (plan_of scene) (meaning_of a) trace.run (text_plan_resolved input (plan_of scene) has) runs;
@@ -39,21 +40,21 @@ of_answer a by s k answer input text status is_read (inr (scene, stands, accepte
       unfailed = unfailed;
     }
 
-wrote : (a : RunAgents) (by : Picking) (s : Sourcing) (k : Sinking) (answer : ℕ) → TellsBy (running (meaning_of a) by) s k answer → IsTrue (is_end_status answer) → WroteSomeRun a s k answer
+wrote : (a : RunAgents) (by : Picking) (s : Sourcing) (k : Sinking) (answer : ℕ) → TellsBy (running (meaning_of a) by) s k answer → IsTrue (is_end_status answer) → WroteSomeRun a by s k answer
 wrote a by s k answer (text, status, inl p, inl said) ends = of_answer a by s k answer p.0 text status p.1 p.2 said.0 said.1 said.2 ends
 wrote a by s k answer (text, status, inr (inl p), inl said) ends = absurd (differs is_end_status 14 answer refl ends (said.0 ∙ p.3))
 wrote a by s k answer (text, status, inr (inr (inl p)), inl said) ends = absurd (differs is_end_status 12 answer refl ends (said.0 ∙ p.3))
 wrote a by s k answer (text, status, inr (inr (inr p)), inl said) ends = absurd (differs is_end_status 15 answer refl ends (said.0 ∙ p.3))
 wrote a by s k answer (text, status, due, inr said) ends = absurd (differs is_end_status 13 answer refl ends said.0)
 
-pub headline : (v : Service) (a : RunAgents) (by : Picking) (s : Sourcing) (k : Sinking) (answer : ℕ) → Tells v s k answer → v ≡ Reads (Run a by) → IsTrue (is_end_status answer) → WroteSomeRun a s k answer
+pub headline : (v : Service) (a : RunAgents) (by : Picking) (s : Sourcing) (k : Sinking) (answer : ℕ) → Tells v s k answer → v ≡ Reads (Run a by) → IsTrue (is_end_status answer) → WroteSomeRun a by s k answer
 headline v a by s k answer told is ends = wrote a by s k answer (rw is at told) ends
 
 -- ---- how they ended
 
 -- the same, of a known status
-headline_of : (n : ℕ) → IsTrue (is_end_status n) → (v : Service) (a : RunAgents) (by : Picking) (s : Sourcing) (k : Sinking) (answer : ℕ) → Tells v s k answer → v ≡ Reads (Run a by) → answer ≡ n → WroteSomeRun a s k n
-headline_of n ends v a by s k answer told is same = subst (λ m. WroteSomeRun a s k m) same (headline v a by s k answer told is (rw same ends))
+headline_of : (n : ℕ) → IsTrue (is_end_status n) → (v : Service) (a : RunAgents) (by : Picking) (s : Sourcing) (k : Sinking) (answer : ℕ) → Tells v s k answer → v ≡ Reads (Run a by) → answer ≡ n → WroteSomeRun a by s k n
+headline_of n ends v a by s k answer told is same = subst (λ m. WroteSomeRun a by s k m) same (headline v a by s k answer told is (rw same ends))
 
 zero_finished : (e : Ending) → 0 ≡ status_of e → (e ≡ ending.Running → ⊥) → e ≡ ending.Finished
 zero_finished ending.Running is over = absurd (over refl)
@@ -84,23 +85,23 @@ five_limit ending.Stuck is = absurd (omega (arith, is))
 five_limit ending.Limit is = refl
 
 module _ (v : Service) (s : Sourcing) (k : Sinking) (answer : ℕ) (told : Tells v s k answer) (a : RunAgents) (by : Picking) (is : v ≡ Reads (Run a by)) where
-  pub finished : answer ≡ 0 → WroteRunTo a s k 0 ending.Finished
+  pub finished : answer ≡ 0 → WroteRunTo a by s k 0 ending.Finished
   finished same =
-      let w : WroteSomeRun a s k 0 = headline_of 0 refl v a by s k answer told is same in
+      let w : WroteSomeRun a by s k 0 = headline_of 0 refl v a by s k answer told is same in
       (w, zero_finished (ending_of w.plan (meaning_of a) w.run) w.status_is w.ended)
 
-  pub fault : answer ≡ 3 → (f : Fault) × WroteRunTo a s k 3 (ending.Fault f)
+  pub fault : answer ≡ 3 → (f : Fault) × WroteRunTo a by s k 3 (ending.Fault f)
   fault same =
-      let w : WroteSomeRun a s k 3 = headline_of 3 refl v a by s k answer told is same in
+      let w : WroteSomeRun a by s k 3 = headline_of 3 refl v a by s k answer told is same in
       let at : (f : Fault) × (ending_of w.plan (meaning_of a) w.run ≡ ending.Fault f) = three_fault (ending_of w.plan (meaning_of a) w.run) w.status_is in
       (at.0, (w, at.1))
 
-  pub stuck : answer ≡ 4 → WroteRunTo a s k 4 ending.Stuck
+  pub stuck : answer ≡ 4 → WroteRunTo a by s k 4 ending.Stuck
   stuck same =
-      let w : WroteSomeRun a s k 4 = headline_of 4 refl v a by s k answer told is same in
+      let w : WroteSomeRun a by s k 4 = headline_of 4 refl v a by s k answer told is same in
       (w, four_stuck (ending_of w.plan (meaning_of a) w.run) w.status_is)
 
-  pub limit : answer ≡ 5 → WroteRunTo a s k 5 ending.Limit
+  pub limit : answer ≡ 5 → WroteRunTo a by s k 5 ending.Limit
   limit same =
-      let w : WroteSomeRun a s k 5 = headline_of 5 refl v a by s k answer told is same in
+      let w : WroteSomeRun a by s k 5 = headline_of 5 refl v a by s k answer told is same in
       (w, five_limit (ending_of w.plan (meaning_of a) w.run) w.status_is)

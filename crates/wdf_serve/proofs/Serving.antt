@@ -26,7 +26,7 @@ lack_no_end : (k : Sinking) (answer : ℕ) → Says k no_memory_line 15 answer �
 lack_no_end k answer (inl said) ends = differs is_end_status 15 answer refl ends said.0
 lack_no_end k answer (inr said) ends = differs is_end_status 13 answer refl ends said.0
 
-pub headline : (arguments : Arguments) (s : Sourcing) (k : Sinking) (answer : ℕ) → Serves arguments s k answer → (a : RunAgents) (by : Picking) → service_for (words_after_name arguments) ≡ Reads (Run a by) → IsTrue (is_end_status answer) → WroteSomeRun a s k answer
+pub headline : (arguments : Arguments) (s : Sourcing) (k : Sinking) (answer : ℕ) → Serves arguments s k answer → (a : RunAgents) (by : Picking) → service_for (words_after_name arguments) ≡ Reads (Run a by) → IsTrue (is_end_status answer) → WroteSomeRun a by s k answer
 headline arguments s k answer (inl promises) = promises.headline
 headline arguments s k answer (inr lacks) = λ a by is ends. absurd (lack_no_end k answer lacks.1 ends)
 

@@ -16,14 +16,14 @@ pub record Promises (words : List (List ℕ)) (s : Sourcing) (k : Sinking) (answ
   -- comes.
   pub kept : ServicePromises (service_for words) s k answer
   -- Let the words ask for a run, by picks or by threads, and let the answer be 0, 3, 4 or 5. Then what was written is the text
-  -- of a run of the written machine from the opening of the whole input's plan, with the agents that the words ask for. That
-  -- run has ended, the status is its ending's, and it keeps the nine laws of a trace.
-  pub headline : (a : RunAgents) (by : Picking) → service_for words ≡ Reads (Run a by) → IsTrue (is_end_status answer) → WroteSomeRun a s k answer
+  -- of a run of the written machine from the opening of the whole input's plan, with the agents that the words ask for and
+  -- picked as they say. That run has ended, the status is its ending's, and it keeps the nine laws of a trace.
+  pub headline : (a : RunAgents) (by : Picking) → service_for words ≡ Reads (Run a by) → IsTrue (is_end_status answer) → WroteSomeRun a by s k answer
   -- Which ending each of them says.
-  pub finished : (a : RunAgents) (by : Picking) → service_for words ≡ Reads (Run a by) → answer ≡ 0 → WroteRunTo a s k 0 ending.Finished
-  pub fault : (a : RunAgents) (by : Picking) → service_for words ≡ Reads (Run a by) → answer ≡ 3 → (f : Fault) × WroteRunTo a s k 3 (ending.Fault f)
-  pub stuck : (a : RunAgents) (by : Picking) → service_for words ≡ Reads (Run a by) → answer ≡ 4 → WroteRunTo a s k 4 ending.Stuck
-  pub limit : (a : RunAgents) (by : Picking) → service_for words ≡ Reads (Run a by) → answer ≡ 5 → WroteRunTo a s k 5 ending.Limit
+  pub finished : (a : RunAgents) (by : Picking) → service_for words ≡ Reads (Run a by) → answer ≡ 0 → WroteRunTo a by s k 0 ending.Finished
+  pub fault : (a : RunAgents) (by : Picking) → service_for words ≡ Reads (Run a by) → answer ≡ 3 → (f : Fault) × WroteRunTo a by s k 3 (ending.Fault f)
+  pub stuck : (a : RunAgents) (by : Picking) → service_for words ≡ Reads (Run a by) → answer ≡ 4 → WroteRunTo a by s k 4 ending.Stuck
+  pub limit : (a : RunAgents) (by : Picking) → service_for words ≡ Reads (Run a by) → answer ≡ 5 → WroteRunTo a by s k 5 ending.Limit
   -- 2 comes exactly where the words are neither `run` nor one of the other forms, unless the sink fails.
   pub usage_only : answer ≡ 2 → (is_run words ≡ false) × (form_of_words words ≡ None)
   pub usage_always : is_run words ≡ false → form_of_words words ≡ None → (answer ≡ 2) ⊎ (answer ≡ 13)

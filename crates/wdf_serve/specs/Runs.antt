@@ -11,7 +11,7 @@ use Rattle.wdf_output.specs.Endings.{status_of}
 use Rattle.wdf_output.specs.Said.{Sinking}
 use Rattle.law_trace_all.specs.Kept.{KeepsLaws}
 use Rattle.wdf_top.specs.Agents.{RunAgents, meaning_of}
-use Rattle.wdf_top.specs.Answers.{HasPlan}
+use Rattle.wdf_top.specs.Answers.{HasPlan, IsRunBy, Picking}
 use Rattle.wdf_top.specs.Top.{Sourcing, IsRead}
 
 -- the statuses of a run that has ended
@@ -19,15 +19,16 @@ abbrev pub is_end_status : ℕ → Bool
 is_end_status n = n == 0 || n == 3 || n == 4 || n == 5
 
 -- The headline: the whole input was read and it has a plan. What was written is the text of a run of the written machine
--- from the plan's opening, every answer included, with these agents. That run has ended, the status is its ending's, and it
--- keeps the nine laws of a trace.
-pub record WroteSomeRun (a : RunAgents) (s : Sourcing) (k : Sinking) (status : ℕ) : Type 0 where
+-- from the plan's opening, every answer included, with these agents and picked so. That run has ended, the status is its
+-- ending's, and it keeps the nine laws of a trace.
+pub record WroteSomeRun (a : RunAgents) (by : Picking) (s : Sourcing) (k : Sinking) (status : ℕ) : Type 0 where
   pub input : List ℕ
   pub whole : IsRead s input
   pub plan : Plan
   pub stands : HasPlan input plan
   pub run : List Event
   pub runs : IsRunOf plan (meaning_of a) run
+  pub made : IsRunBy plan (meaning_of a) by run
   pub ended : ending_of plan (meaning_of a) run ≢ ending.Running
   pub status_is : status ≡ status_of (ending_of plan (meaning_of a) run)
   pub keeps : KeepsLaws plan run
@@ -35,5 +36,5 @@ pub record WroteSomeRun (a : RunAgents) (s : Sourcing) (k : Sinking) (status : �
   pub unfailed : k.faults_after ≡ k.faults_before
 
 -- the same, and the run ended so
-abbrev pub WroteRunTo : RunAgents → Sourcing → Sinking → ℕ → Ending → Type 0
-WroteRunTo a s k status e = (wrote : WroteSomeRun a s k status) × (ending_of wrote.plan (meaning_of a) wrote.run ≡ e)
+abbrev pub WroteRunTo : RunAgents → Picking → Sourcing → Sinking → ℕ → Ending → Type 0
+WroteRunTo a by s k status e = (wrote : WroteSomeRun a by s k status) × (ending_of wrote.plan (meaning_of a) wrote.run ≡ e)

@@ -46,7 +46,7 @@ pub fn serve<T: Threads + Sync, R: Read, W: Write, G: Gate + Sync>(
     // text of a run of the written machine from the opening of the whole input's plan, with the agents that the words ask
     // for. That run has ended, the status is its ending's, and it keeps the nine laws of a trace.
     ensures headline { (a : RunAgents) (by : Picking) → service_for (words_after_name arguments) ≡ Reads (Run a by) → IsTrue (is_end_status result)
-        → WroteSomeRun a (sourcing source.old.left source.new.left source.old.faults source.new.faults)
+        → WroteSomeRun a by (sourcing source.old.left source.new.left source.old.faults source.new.faults)
         (sinking sink.old.written sink.new.written sink.old.faults sink.new.faults) result }
     // Where memory for the words is refused, that is said and nothing is read.
     ensures lacking { LacksMemory arguments
