@@ -1,5 +1,5 @@
 -- The runs that were written, and how they ended.
-use Rattle.std.proofs.Common.{ℕ, ◌≡◌, ◌==◌, ◌||◌, inl, inr, true, IsTrue, List, refl, subst, ◌∙◌, arith}
+use Rattle.std.proofs.Common.{ℕ, ◌≡◌, inl, inr, IsTrue, List, refl, subst, ◌∙◌, arith}
 use Rattle.wdf_base.specs.declared.event.Ending.{Ending}
 use Rattle.wdf_base.specs.declared.event.Ending.TheVariants as ending
 use Rattle.wdf_base.specs.declared.event.Fault.{Fault}

@@ -1,5 +1,5 @@
 -- What the top call promises, from what is told.
-use Rattle.std.proofs.Common.{ℕ, ◌≡◌, List}
+use Rattle.std.proofs.Common.{ℕ, List}
 use Rattle.wdf_output.specs.Said.{Sinking}
 use Rattle.wdf_serve.specs.Promises.{Promises}
 use Rattle.wdf_serve.specs.Words.{is_run, service_for}

@@ -14,7 +14,7 @@ use Rattle.wdf_plan.specs.Plans.{plan_of}
 use Rattle.wdf_input.specs.declared.input.TheConstants.{INPUT_LIMIT}
 use Rattle.wdf_top.specs.Agents.{RunAgents, meaning_of}
 use Rattle.wdf_output.specs.Endings.{status_of}
-use Rattle.wdf_top.specs.Answers.{Answering, Answers, HasNoScene, HasNoPlan, HasPlan, IsTraceOf, IsSummaryOf, Picking, Canonical, Run, Judgement, answering_of, running}
+use Rattle.wdf_top.specs.Answers.{Answering, Answers, HasNoScene, HasNoPlan, HasPlan, IsTraceOf, IsSummaryOf, Picking, Canonical, Run, Judgement, answering_of}
 use Rattle.wdf_top.specs.Causes.{WroteRun, WroteSummary, WroteFor, Stayed}
 use Rattle.wdf_input.specs.Input.{TakesAll, TakesCount}
 use Rattle.wdf_output.specs.Refusals.{no_memory_line}

@@ -20,7 +20,7 @@ use Rattle.wdf_output.specs.declared.refusal.Refusal.{Refusal}
 use Rattle.wdf_output.specs.declared.refusal.Refusal.TheVariants.{ReadFault, TooLarge, NoMemory, NoScene, NoPlan}
 use Rattle.wdf_run_text.specs.Texts.{text_of}
 use Rattle.wdf_output.specs.Endings.{status_of}
-use Rattle.wdf_top.specs.Answers.{Answering, HasPlan, IsRunBy, IsTraceOf, IsVerdict, IsSummaryOf, Picking, picks_of, running, checking, judging}
+use Rattle.wdf_top.specs.Answers.{Answering, HasPlan, IsRunBy, IsTraceOf, IsVerdict, Picking, picks_of, running, checking, judging}
 use Rattle.wdf_top.specs.Causes.{IsCause, IsTextCause}
 use Rattle.wdf_input.specs.Input.{TakesAll, TakesAtMost}
 use Rattle.wdf_output.specs.Refusals.{refusal_line, refusal_status, parse_line, plan_line, read_fault_line, too_large_line, no_memory_line}

@@ -1,27 +1,24 @@
 -- The verdict on an input's trace, a lemma for each of the top call's clauses.
-use Rattle.std.proofs.Common.{ℕ, ◌≡◌, ◌+◌, ◌<◌, ◌≤◌, ◌^◌, ◌⊎◌, inl, inr, Bool, true, false, List, [], ◌∷◌, ◌++◌, length, codes, decimal, refl, sym, ap, subst, ◌∙◌, arith, ◌≢◌, length-append, map, nat_le}
+use Rattle.std.proofs.Common.{ℕ, ◌≡◌, ◌+◌, ◌⊎◌, inl, inr, List, [], ◌∷◌, ◌++◌, length, refl, sym, ap, subst, ◌∙◌, arith, length-append, map}
 use Rattle.wdf_base.specs.Resolved.{IsResolved}
 use Rattle.wdf_base.specs.declared.plan.Plan.{Plan}
 use Rattle.wdf_base.specs.declared.event.Event.{Event}
 use Rattle.wdf_base.specs.declared.event.Ending.{Ending}
 use Rattle.wdf_base.specs.declared.event.Ending.TheVariants as ending
-use Rattle.wdf_scene.specs.declared.scene.Scene.{Scene}
 use Rattle.wdf_model.specs.rules.Ready.{ending_of}
 use Rattle.wdf_model.specs.rules.Waits.{wait_list}
 use Rattle.wdf_dev.specs.Agents.{agent_meaning}
 use Rattle.wdf_io.specs.Outside.{Gains}
 use Rattle.wdf_input.specs.Input.{TakesAll}
-use Rattle.wdf_parse.specs.StandsFor.{StandsFor}
 use Rattle.wdf_parse.proofs.Uniqueness.{one_stands}
-use Rattle.wdf_refusals.specs.First.{first_refusal}
 use Rattle.wdf_plan.specs.Plans.{plan_of}
 use Rattle.wdf_lines.specs.Endings.{ending_text}
 use Rattle.wdf_replay.specs.declared.verdict.Why.{Why}
 use Rattle.wdf_replay.specs.declared.verdict.Why.TheVariants as why
 use Rattle.wdf_replay.specs.declared.verdict.Verdict.{Verdict}
 use Rattle.wdf_replay.specs.declared.verdict.Verdict.TheVariants as verdict
-use Rattle.wdf_run_text.specs.Lines.{fed, trace_lines}
-use Rattle.wdf_run_text.specs.Texts.{event_lines, end_lines, fed_wait, lines_so_far}
+use Rattle.wdf_run_text.specs.Lines.{fed}
+use Rattle.wdf_run_text.specs.Texts.{event_lines, fed_wait, lines_so_far}
 use Rattle.wdf_replay.specs.Verdicts.{GivesVerdict, IsAccepted, IsBad, IsLeft, IsRefused, IsWhole}
 use Rattle.wdf_replay.proofs.Complete.{complete}
 use Rattle.wdf_replay.proofs.RunLines.{end_lines_over}

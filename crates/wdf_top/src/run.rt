@@ -26,12 +26,7 @@ pub enum Picks {
 }
 
 /// Runs a plan with agents of this type, and writes the trace, or the line `out of memory`.
-pub fn tell_run<A: RunAgent, K: Sink>(
-    alloc: Global,
-    plan: Plan,
-    picks: Picks,
-    sink: &mut K,
-) -> u8
+pub fn tell_run<A: RunAgent, K: Sink>(alloc: Global, plan: Plan, picks: Picks, sink: &mut K) -> u8
     requires { IsResolved plan }
     ensures told { TellsPlan plan A.meaning (By picks)
         (sinking (K.written sink.old) (K.written sink.new) (K.faults sink.old) (K.faults sink.new))
