@@ -1,0 +1,15 @@
+use Rattle.std.specs.Prelude.{ℕ, Option}
+use Rattle.wdf_base.specs.declared.ids.Handle.{Handle}
+use Rattle.wdf_base.specs.declared.declared.PostLine.{PostLine}
+use Rattle.wdf_base.specs.declared.event.Post.{Post}
+use Rattle.wdf_base.specs.declared.script.Act.{Act}
+use Rattle.wdf_base.specs.declared.script.Statement.{Statement}
+
+abbrev pub h : ℕ → ℕ → Handle
+h id name = record { id = record { 0 = id }; name = name }
+
+abbrev pub at : ℕ → ℕ → Post → PostLine
+at number tick post = record { tick = tick; post = post; line = number }
+
+abbrev pub s : ℕ → ℕ → Act → Statement
+s line next act = record { line = line; next = next; act = act }

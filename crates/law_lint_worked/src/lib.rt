@@ -1,0 +1,2 @@
+//! Worked plans.
+#![tactic(auto)]
