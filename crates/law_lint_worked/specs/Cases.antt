@@ -1,5 +1,4 @@
--- Worked runs: the plan of each, its events, and what it waits for where it is stuck. Made by
--- tools/scene_to_plan.py from the scenarios and traces of tools/runs.
+-- Plans and their findings, which were worked out by hand.
 use Rattle.std.specs.Prelude.{List, [], ◌∷◌, Some, None, true, false, codes}
 use Rattle.wdf_base.specs.declared.declared.Declared.TheVariants as declared
 use Rattle.wdf_base.specs.declared.declared.ClassInfo.TheVariants as class
@@ -26,8 +25,9 @@ use Rattle.law_lint_worked.specs.Writing.{h, at, s}
 use Rattle.wdf_base.specs.declared.declared.PlainKind.TheVariants as plain
 use Rattle.law_lint_worked.specs.Computed.{Finding, found}
 
-abbrev pub row1_plan : Plan
-row1_plan = record {
+-- a request is unmarked before it is completed
+abbrev pub unmarked_plan : Plan
+unmarked_plan = record {
   cpus = 1;
   limit = 100;
   objects = 16;
@@ -65,11 +65,13 @@ row1_plan = record {
   picks = (0) ∷ (0) ∷ (0) ∷ (1) ∷ [];
 }
 
-abbrev pub row1_findings : List Finding
-row1_findings = []
+-- its findings
+abbrev pub unmarked_findings : List Finding
+unmarked_findings = []
 
-abbrev pub row2_plan : Plan
-row2_plan = record {
+-- it is completed whatever the unmark answers
+abbrev pub anyway_plan : Plan
+anyway_plan = record {
   cpus = 1;
   limit = 100;
   objects = 16;
@@ -106,11 +108,13 @@ row2_plan = record {
   picks = (0) ∷ (0) ∷ (0) ∷ (1) ∷ [];
 }
 
-abbrev pub row2_findings : List Finding
-row2_findings = (found 10 fault.NotOwned (8 ∷ 9 ∷ 10 ∷ [])) ∷ []
+-- its findings
+abbrev pub anyway_findings : List Finding
+anyway_findings = (found 10 fault.NotOwned (8 ∷ 9 ∷ 10 ∷ [])) ∷ []
 
-abbrev pub row3_plan : Plan
-row3_plan = record {
+-- a request is completed twice
+abbrev pub twice_plan : Plan
+twice_plan = record {
   cpus = 1;
   limit = 100;
   objects = 16;
@@ -139,9 +143,11 @@ row3_plan = record {
   picks = [];
 }
 
-abbrev pub row3_findings : List Finding
-row3_findings = (found 9 fault.NotOwned (8 ∷ 9 ∷ [])) ∷ []
+-- its findings
+abbrev pub twice_findings : List Finding
+twice_findings = (found 9 fault.NotOwned (8 ∷ 9 ∷ [])) ∷ []
 
+-- a test of the mark's answer decides
 abbrev pub decided_plan : Plan
 decided_plan = record {
   cpus = 1;
@@ -173,9 +179,11 @@ decided_plan = record {
   picks = [];
 }
 
+-- its findings
 abbrev pub decided_findings : List Finding
 decided_findings = []
 
+-- the same test the other way round doesn't
 abbrev pub undecided_plan : Plan
 undecided_plan = record {
   cpus = 1;
@@ -207,9 +215,11 @@ undecided_plan = record {
   picks = [];
 }
 
+-- its findings
 abbrev pub undecided_findings : List Finding
 undecided_findings = (found 12 fault.CompleteWhileMarked (8 ∷ 9 ∷ 12 ∷ [])) ∷ []
 
+-- requests are forwarded
 abbrev pub forwards_plan : Plan
 forwards_plan = record {
   cpus = 1;
@@ -241,9 +251,11 @@ forwards_plan = record {
   picks = [];
 }
 
+-- its findings
 abbrev pub forwards_findings : List Finding
 forwards_findings = []
 
+-- a body runs again
 abbrev pub loop_plan : Plan
 loop_plan = record {
   cpus = 1;
@@ -274,9 +286,11 @@ loop_plan = record {
   picks = [];
 }
 
+-- its findings
 abbrev pub loop_findings : List Finding
 loop_findings = (found 9 fault.NotOwned (8 ∷ 9 ∷ 8 ∷ 9 ∷ [])) ∷ []
 
+-- a lock is taken twice, its variable written
 abbrev pub locks_plan : Plan
 locks_plan = record {
   cpus = 1;
@@ -309,9 +323,11 @@ locks_plan = record {
   picks = [];
 }
 
+-- its findings
 abbrev pub locks_findings : List Finding
 locks_findings = (found 7 fault.ReturnHoldingLock (8 ∷ 9 ∷ 10 ∷ 11 ∷ 12 ∷ 7 ∷ [])) ∷ (found 10 fault.LockHeldAlready (8 ∷ 9 ∷ 10 ∷ [])) ∷ (found 12 fault.LockNotHeld (8 ∷ 9 ∷ 10 ∷ 11 ∷ 12 ∷ [])) ∷ []
 
+-- a stop is acknowledged twice
 abbrev pub stop_plan : Plan
 stop_plan = record {
   cpus = 1;
@@ -342,9 +358,11 @@ stop_plan = record {
   picks = [];
 }
 
+-- its findings
 abbrev pub stop_findings : List Finding
 stop_findings = (found 10 fault.AckOutsideStop (9 ∷ 10 ∷ [])) ∷ (found 11 fault.NotOwned (9 ∷ 10 ∷ 11 ∷ [])) ∷ []
 
+-- a stop is acknowledged on a queue with no scope
 abbrev pub unscoped_plan : Plan
 unscoped_plan = record {
   cpus = 1;
@@ -376,9 +394,11 @@ unscoped_plan = record {
   picks = [];
 }
 
+-- its findings
 abbrev pub unscoped_findings : List Finding
 unscoped_findings = (found 9 fault.NotOwned (8 ∷ 9 ∷ [])) ∷ (found 10 fault.NotOwned (8 ∷ 9 ∷ 10 ∷ [])) ∷ (found 11 fault.NotOwned (8 ∷ 9 ∷ 10 ∷ 11 ∷ [])) ∷ []
 
+-- a stop is acknowledged in a plan that sends
 abbrev pub sends_plan : Plan
 sends_plan = record {
   cpus = 1;
@@ -426,9 +446,11 @@ sends_plan = record {
   picks = [];
 }
 
+-- its findings
 abbrev pub sends_findings : List Finding
 sends_findings = (found 9 fault.NotOwned (9 ∷ [])) ∷ (found 16 fault.NotOwned (12 ∷ 13 ∷ 16 ∷ [])) ∷ []
 
+-- locks of interrupts
 abbrev pub interrupts_plan : Plan
 interrupts_plan = record {
   cpus = 1;
@@ -477,9 +499,11 @@ interrupts_plan = record {
   picks = [];
 }
 
+-- its findings
 abbrev pub interrupts_findings : List Finding
 interrupts_findings = (found 7 fault.LockHeldAlready (7 ∷ [])) ∷ (found 12 fault.LockNotHeld (10 ∷ 11 ∷ 12 ∷ [])) ∷ (found 14 fault.LockHeldAlready (10 ∷ 11 ∷ 12 ∷ 13 ∷ 14 ∷ [])) ∷ (found 17 fault.ReturnHoldingLock (18 ∷ 19 ∷ 17 ∷ [])) ∷ []
 
+-- a marked request is asked, marked again and completed
 abbrev pub marked_plan : Plan
 marked_plan = record {
   cpus = 1;
@@ -515,9 +539,11 @@ marked_plan = record {
   picks = [];
 }
 
+-- its findings
 abbrev pub marked_findings : List Finding
 marked_findings = (found 10 fault.NotOwned (8 ∷ 9 ∷ 10 ∷ [])) ∷ (found 11 fault.MarkedTwice (8 ∷ 9 ∷ 10 ∷ 11 ∷ [])) ∷ (found 12 fault.CompleteWhileMarked (8 ∷ 9 ∷ 10 ∷ 11 ∷ 12 ∷ [])) ∷ []
 
+-- two paths of different lengths
 abbrev pub paths_plan : Plan
 paths_plan = record {
   cpus = 1;
@@ -552,5 +578,6 @@ paths_plan = record {
   picks = [];
 }
 
+-- its findings
 abbrev pub paths_findings : List Finding
 paths_findings = (found 17 fault.NotOwned (8 ∷ 9 ∷ 16 ∷ 17 ∷ [])) ∷ []

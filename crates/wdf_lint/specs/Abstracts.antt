@@ -28,6 +28,7 @@ use Rattle.wdf_lint.specs.declared.state.HeldLock.TheVariants as lock
 abbrev pub callback_of : Plan → ℕ → Callback
 callback_of plan k = unwrap_or (option_map (λ (s : Script). s.callback) (slice_get plan.scripts k)) callback.EvtDestroyCallback
 
+-- what that callback is declared on
 abbrev pub owner_of : Plan → ℕ → Declared
 owner_of plan k = unwrap_or (option_map (λ (s : Script). s.owner) (slice_get plan.scripts k)) declared.Driver
 
@@ -35,6 +36,7 @@ owner_of plan k = unwrap_or (option_map (λ (s : Script). s.owner) (slice_get pl
 abbrev pub id_of : Plan → Declared → ℕ
 id_of plan d = unwrap_or (option_map (λ n. n + 1) (position (same_declared d) plan.declared)) 0
 
+-- a call of WdfRequestSend
 abbrev pub is_send : Act → Bool
 is_send (act.Call k into a b c) = same_call_kind k call.WdfRequestSend
 is_send _ = false
@@ -45,6 +47,7 @@ plan_sends plan = list_any (λ (s : Script). list_any (λ (x : Statement). is_se
 
 -- ---- the beginning
 
+-- KMDF: the callbacks that are started with a request have it from the beginning; EvtIoStop may acknowledge it
 abbrev pub hold_at_start : Callback → Hold
 hold_at_start callback.EvtIoRead = hold.Own
 hold_at_start callback.EvtIoWrite = hold.Own
@@ -69,6 +72,7 @@ start plan k = record {
 
 -- ---- changes
 
+-- at another statement
 abbrev pub go : Abstract → ℕ → Abstract
 go a at = record a { at = at }
 
@@ -77,9 +81,11 @@ abbrev pub lock_after : HeldLock → ℕ → HeldLock
 lock_after (lock.In v) x = if v == x then lock.Lost else lock.In v
 lock_after l x = l
 
+-- a variable is assigned; the lock that it named is in no variable then
 abbrev pub assign : Abstract → ℕ → Known → Abstract
 assign a x v = record a { variables = slice_set a.variables x v; lock = lock_after a.lock x }
 
+-- the answer of a call goes to its variable, if it has one
 abbrev pub answer : Abstract → Option ℕ → Known → Abstract
 answer a None v = a
 answer a (Some x) v = assign a x v

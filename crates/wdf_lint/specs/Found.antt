@@ -8,9 +8,11 @@ use Rattle.wdf_lint.specs.Steps.{breaks}
 use Rattle.wdf_lint.specs.Walks.{IsReached}
 use Rattle.wdf_lint.specs.Findings.{Finding, IsBig, IsFinding, Spot, rule_number}
 
+-- where it is
 abbrev pub spot_of : Found → Spot
 spot_of f = record { script = f.script; at = f.at; rule = f.rule }
 
+-- what is seen of it
 abbrev pub finding_of : Found → Finding
 finding_of f = record { line = f.line; rule = f.rule; path = f.path }
 

@@ -16,6 +16,7 @@ pub record Table : Type 0 where
   pub ranks : List ℕ
   pub paths : List (List ℕ)
 
+-- the table of a search
 abbrev pub table_of : Search → Table
 table_of s = record { states = s.states.keys; ranks = s.ranks.items; paths = s.paths }
 

@@ -41,6 +41,7 @@ use Rattle.wdf_lint.specs.Abstracts.{answer, assign, callback_of, go, id_of, own
 
 -- ---- expressions
 
+-- 0 and 1 are kept, other numbers are not
 abbrev pub known_number : ℕ → Known
 known_number n = if n == 0 then known.Zero else if n == 1 then known.One else known.Unknown
 
@@ -51,6 +52,7 @@ known_node a (Some (node.Variable v)) = slice_index_or a.variables v known.Zero
 known_node a (Some (node.Literal s)) = known.Stat s
 known_node a _ = known.Unknown
 
+-- what is known of an expression
 abbrev pub known_of : Plan → Abstract → ℕ → Known
 known_of plan a e = known_node a (slice_get plan.exprs e)
 
@@ -63,6 +65,7 @@ equal_known known.One known.One = Some true
 equal_known (known.Stat s) (known.Stat t) = Some (same_status s t)
 equal_known x y = Some false
 
+-- the other way round, where it is decided
 abbrev pub opposite : Option Bool → Option Bool
 opposite None = None
 opposite (Some b) = Some (not b)
@@ -73,6 +76,7 @@ written (Some (node.Number n)) = known_number n
 written (Some (node.Literal s)) = known.Stat s
 written _ = known.Unknown
 
+-- what is known of a variable, where the expression is one
 abbrev pub known_variable : Abstract → Option ExprNode → Known
 known_variable a (Some (node.Variable v)) = slice_index_or a.variables v known.Zero
 known_variable a _ = known.Unknown
@@ -83,23 +87,28 @@ decided_by plan a (Some (node.Binary operator.Equals left right)) = equal_known 
 decided_by plan a (Some (node.Binary operator.Differs left right)) = opposite (equal_known (known_variable a (slice_get plan.exprs left)) (written (slice_get plan.exprs right)))
 decided_by plan a _ = None
 
+-- whether the test of an `if` holds, where that is known
 abbrev pub decided : Plan → Abstract → ℕ → Option Bool
 decided plan a e = decided_by plan a (slice_get plan.exprs e)
 
 -- ---- arguments
 
+-- the expression of an argument
 abbrev pub node_of : Plan → ArgNode → Option ExprNode
 node_of plan (arg.Expression e) = slice_get plan.exprs e
 node_of plan _ = None
 
+-- an argument that is written as `request`
 abbrev pub is_request_word : Option ExprNode → Bool
 is_request_word (Some (node.Context context.OwnRequest)) = true
 is_request_word _ = false
 
+-- an argument that is written as the number 0
 abbrev pub is_zero : Option ExprNode → Bool
 is_zero (Some (node.Number n)) = n == 0
 is_zero _ = false
 
+-- the variable that an argument is
 abbrev pub variable_in : Option ExprNode → Option ℕ
 variable_in (Some (node.Variable v)) = Some v
 variable_in _ = None
@@ -122,19 +131,23 @@ takes_own_lock callback.EvtInterruptEnable = true
 takes_own_lock callback.EvtInterruptDisable = true
 takes_own_lock _ = false
 
+-- the lock that the callback took at its start
 abbrev pub is_own_lock : Plan → ℕ → ℕ → Bool
 is_own_lock plan k i = takes_own_lock (callback_of plan k) && id_of plan (owner_of plan k) == i
 
+-- a scope that keeps callbacks apart
 abbrev pub is_scoped : Scope → Bool
 is_scoped scope.Unscoped = false
 is_scoped _ = true
 
+-- a queue whose callbacks never run at one time
 abbrev pub is_scoped_queue : Declared → Bool
 is_scoped_queue (declared.Queue q) = is_scoped q.scope
 is_scoped_queue _ = false
 
 -- ---- the rule that a call breaks
 
+-- a rule, where its condition does not hold
 abbrev pub unless : Bool → Fault → Option Fault
 unless true x = None
 unless false x = Some x
@@ -145,24 +158,29 @@ rule_of_giving hold.Own = None
 rule_of_giving hold.Marked = Some fault.CompleteWhileMarked
 rule_of_giving _ = Some fault.NotOwned
 
+-- to mark it
 abbrev pub rule_of_marking : Hold → Option Fault
 rule_of_marking hold.Own = None
 rule_of_marking hold.Marked = Some fault.MarkedTwice
 rule_of_marking _ = Some fault.NotOwned
 
+-- the callback has the request, unmarked
 abbrev pub is_own : Hold → Bool
 is_own hold.Own = true
 is_own _ = false
 
+-- marked or not
 abbrev pub is_own_or_marked : Hold → Bool
 is_own_or_marked hold.Own = true
 is_own_or_marked hold.Marked = true
 is_own_or_marked _ = false
 
+-- the request is one to be acknowledged
 abbrev pub is_stop : Hold → Bool
 is_stop hold.Stop = true
 is_stop _ = false
 
+-- KMDF: once, in EvtIoStop. own: under a scope, and in a plan that sends nothing
 abbrev pub rule_of_acknowledging : Plan → ℕ → Abstract → Option Fault
 rule_of_acknowledging plan k a =
     if not (is_stop a.hold) || a.acknowledged then Some fault.AckOutsideStop
@@ -174,30 +192,37 @@ abbrev pub on_request : Bool → Option Fault → Option Fault
 on_request true rule = rule
 on_request false rule = Some fault.NotOwned
 
+-- no spin or wait lock is held
 abbrev pub is_free : HeldLock → Bool
 is_free lock.Free = true
 is_free _ = false
 
+-- the lock that is held is in this variable
 abbrev pub is_in : HeldLock → ℕ → Bool
 is_in (lock.In v) x = v == x
 is_in _ x = false
 
+-- own: a spin or wait lock, named by a variable, while none is held
 abbrev pub rule_of_acquiring : Abstract → Option ℕ → Option Fault
 rule_of_acquiring a None = Some fault.LockHeldAlready
 rule_of_acquiring a (Some v) = unless (is_free a.lock) fault.LockHeldAlready
 
+-- own: by the variable by which it was acquired
 abbrev pub rule_of_releasing : Abstract → Option ℕ → Option Fault
 rule_of_releasing a None = Some fault.LockNotHeld
 rule_of_releasing a (Some v) = unless (is_in a.lock v) fault.LockNotHeld
 
+-- KMDF: an interrupt's lock that this callback doesn't hold
 abbrev pub rule_of_acquiring_at : Plan → ℕ → Abstract → Option ℕ → Option Fault
 rule_of_acquiring_at plan k a None = Some fault.LockHeldAlready
 rule_of_acquiring_at plan k a (Some i) = unless (not (contains i a.interrupts) && not (is_own_lock plan k i)) fault.LockHeldAlready
 
+-- KMDF: one that it holds by a call
 abbrev pub rule_of_releasing_at : Abstract → Option ℕ → Option Fault
 rule_of_releasing_at a None = Some fault.LockNotHeld
 rule_of_releasing_at a (Some i) = unless (contains i a.interrupts) fault.LockNotHeld
 
+-- the rule that a call breaks with these arguments
 abbrev pub rule_of_call : Plan → ℕ → Abstract → CallKind → Option ExprNode → Option ExprNode → Option Fault
 rule_of_call plan k a call.WdfRequestComplete x y = on_request (is_request_word x) (rule_of_giving a.hold)
 rule_of_call plan k a call.WdfRequestRequeue x y = on_request (is_request_word x) (rule_of_giving a.hold)
@@ -222,22 +247,28 @@ pub record Way : Type 0 where
   pub hold : Hold
   pub answer : Known
 
+-- a way with these two
 abbrev pub way : Hold → Known → Way
 way h v = record { hold = h; answer = v }
 
+-- the three statuses that a walk may learn of a request
 abbrev pub success : Known
 success = known.Stat status.Success
 
+-- it could not be done
 abbrev pub invalid : Known
 invalid = known.Stat status.InvalidDeviceRequest
 
+-- it was cancelled
 abbrev pub cancelled : Known
 cancelled = known.Stat status.Cancelled
 
+-- KMDF: a request that was marked is the callback's again, or EvtRequestCancel has it
 abbrev pub ways_of_unmarking : Hold → List Way
 ways_of_unmarking hold.Marked = way hold.Own success ∷ way hold.Away cancelled ∷ way hold.Away invalid ∷ []
 ways_of_unmarking h = way h cancelled ∷ way h invalid ∷ []
 
+-- KMDF: what each call on a request answers, and who has the request then
 abbrev pub ways : CallKind → Hold → List Way
 ways call.WdfRequestComplete h = way hold.Away known.Unknown ∷ []
 ways call.WdfRequestRequeue h = way hold.Away known.Unknown ∷ []
@@ -256,14 +287,17 @@ abbrev pub acquired_at : Abstract → Option ℕ → Abstract
 acquired_at a None = a
 acquired_at a (Some i) = record a { interrupts = joined i a.interrupts }
 
+-- an interrupt's lock is given back
 abbrev pub released_at : Abstract → Option ℕ → Abstract
 released_at a None = a
 released_at a (Some i) = record a { interrupts = without i a.interrupts }
 
+-- a spin or wait lock is taken by a variable
 abbrev pub acquired : Abstract → Option ℕ → Abstract
 acquired a None = a
 acquired a (Some v) = record a { lock = lock.In v }
 
+-- all that a call changes beside the hold and the answer
 abbrev pub called : Plan → ℕ → Abstract → CallKind → Option ExprNode → Abstract
 called plan k a call.WdfRequestStopAcknowledge x = record a { acknowledged = true }
 called plan k a call.WdfSpinLockAcquire x = acquired a (variable_in x)
@@ -283,6 +317,7 @@ rule_of_leaving a = elim a.interrupts as (λ _. Option Fault) [
   | i ∷ is ↦ Some fault.ReturnHoldingLock
 ]
 
+-- the same at a statement that is there, or at the callback's end
 abbrev pub rule_at : Plan → ℕ → Abstract → Option Statement → Option Fault
 rule_at plan k a None = rule_of_leaving a
 rule_at plan k a (Some s) = elim s.act as (λ _. Option Fault) [
@@ -291,9 +326,11 @@ rule_at plan k a (Some s) = elim s.act as (λ _. Option Fault) [
   | _ ↦ None
 ]
 
+-- the statement of a state, none at the end
 abbrev pub statement_of : Plan → ℕ → Abstract → Option Statement
 statement_of plan k a = slice_get (statements_of plan k) a.at
 
+-- the rule that a state breaks, if it does
 abbrev pub breaks : Plan → ℕ → Abstract → Option Fault
 breaks plan k a = rule_at plan k a (statement_of plan k a)
 
@@ -301,15 +338,18 @@ breaks plan k a = rule_at plan k a (statement_of plan k a)
 abbrev pub by_way : Abstract → ℕ → Option ℕ → Way → Abstract
 by_way a next into w = go (answer (record a { hold = w.hold }) into w.answer) next
 
+-- the ways of the call, or one state more where it breaks a rule
 abbrev pub after_call : Plan → ℕ → Abstract → ℕ → CallKind → Option ℕ → Option ExprNode → Option Fault → List Abstract
 after_call plan k a next c into x None = map (by_way (called plan k a c x) next into) (ways c a.hold)
 after_call plan k a next c into x (Some rule) = go (answer a into known.Unknown) next ∷ []
 
+-- one branch where the test is decided, else both
 abbrev pub branches : Abstract → ℕ → ℕ → Option Bool → List Abstract
 branches a next otherwise None = go a next ∷ go a otherwise ∷ []
 branches a next otherwise (Some true) = go a next ∷ []
 branches a next otherwise (Some false) = go a otherwise ∷ []
 
+-- the states after one at a statement; after a return, and at the end, none
 abbrev pub steps_at : Plan → ℕ → Abstract → Option Statement → List Abstract
 steps_at plan k a None = []
 steps_at plan k a (Some s) = elim s.act as (λ _. List Abstract) [

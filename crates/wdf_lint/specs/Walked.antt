@@ -4,6 +4,7 @@ use Rattle.wdf_base.specs.declared.plan.Plan.{Plan}
 use Rattle.wdf_lint.specs.declared.walked.Walked.{Walked}
 use Rattle.wdf_lint.specs.Abstracts.{callback_of, id_of, owner_of, plan_sends}
 
+-- Each field of what is kept is what the plan says of the script.
 pub record IsOf (plan : Plan) (w : Walked) : Type 0 where
   pub callback : w.callback ≡ callback_of plan w.script
   pub owner : w.owner ≡ owner_of plan w.script

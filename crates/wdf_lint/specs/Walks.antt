@@ -7,6 +7,7 @@ use Rattle.wdf_lint.specs.declared.state.Abstract.{Abstract}
 use Rattle.wdf_lint.specs.Abstracts.{start}
 use Rattle.wdf_lint.specs.Steps.{breaks, statement_of, steps}
 
+-- an item of a list
 abbrev pub IsIn : {T : Type 0} → T → List T → Type 0
 IsIn x xs = (place : ℕ) × (slice_get xs place ≡ Some x)
 
@@ -20,6 +21,7 @@ IsWalk plan k (a ∷ b ∷ before) = IsIn a (steps plan k b) × IsWalk plan k (b
 abbrev pub IsReached : Plan → ℕ → Abstract → Type 0
 IsReached plan k a = (before : List Abstract) × IsWalk plan k (a ∷ before)
 
+-- the line of the `on` of script k
 abbrev pub line_of_callback : Plan → ℕ → ℕ
 line_of_callback plan k = unwrap_or (option_map (λ (s : Script). s.line) (slice_get plan.scripts k)) 0
 

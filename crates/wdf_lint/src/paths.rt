@@ -1,5 +1,5 @@
 //! Paths that share their beginnings.
-ghost use Rattle.std.specs.Prelude.{◌≡◌, ◌==◌, ◌<◌, ◌++◌, ◌∷◌, [], length, IfOk, OnOk, Some, slice_get};
+ghost use Rattle.std.specs.Prelude.{◌≡◌, ◌<◌, ◌++◌, ◌∷◌, [], length, IfOk, OnOk, Some, slice_get};
 ghost use Rattle.wdf_lint.specs.Paths.{longer, paths_of};
 
 use crate::lines::Lines;
@@ -48,13 +48,6 @@ impl Paths {
         ensures { result ≡ length self.now }
     {
         self.ends.len()
-    }
-
-    /// Whether there is no path.
-    pub fn is_empty(&self) -> bool
-        ensures { result ≡ (length self.now == 0) }
-    {
-        self.len() == 0
     }
 
     /// Adds the path that goes on path `before` by a line.

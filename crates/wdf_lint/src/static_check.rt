@@ -110,5 +110,6 @@ pub fn lint(alloc: Global, plan: &Plan) -> Result<LintAnswer, Memory>
         return Ok(LintAnswer::Clean);
     }
     found.sort_by_key(|f| (f.line, f.rule, f.script, f.at))?;
-    Ok(LintAnswer::Findings(FindingList::new(found)))
+    let list = FindingList::new(found);
+    Ok(LintAnswer::Findings(list))
 }

@@ -15,7 +15,7 @@ returns-then-is_empty c =
 
 pub returns : goal.returns
 returns c =
-    subst (λ fs. IsAnswer c.args.plan.now (answer.Findings fs)) (sym c.new.ensures)
+    subst (λ fs. IsAnswer c.args.plan.now (answer.Findings fs)) (sym c.new-list.ensures)
     (found_all c.args.plan.now c.in_ok-found.found.items c.sort_by_key.new.self.items c.in_ok-found.ensures c.sort_by_key.ensures.permutation
     (λ n d less. c.in_ok-sort_by_key.ensures.sorted (λ (f : Found). (f.line, f.rule, f.script, f.at)) (answers_always _ _ _ (λ f a r g h. search rules)) n d (let low : 0 ≤ n = omega arith in low) less)
     (some_list c.in_ok-found.found.items c.in_ok-found.found.len (search rules) (sym c.is_empty.ensures ∙ c.if-is_empty.false)))
