@@ -1,5 +1,5 @@
 -- A call that is answered is a step of the walk, by one of its ways.
-use Rattle.std.proofs.Common.{if◌then◌else◌, ◌≡◌, ◌≢◌, ℕ, zero, suc, ◌==◌, Bool, true, false, not, ◌&&◌, ◌||◌, List, [], ◌∷◌, map, Option, Some, None, slice_get, slice_set, refl, sym, ap, subst, ◌∙◌}
+use Rattle.std.proofs.Common.{if◌then◌else◌, ◌≡◌, ◌≢◌, ℕ, zero, suc, ◌+◌, ◌==◌, Bool, true, false, not, ◌&&◌, ◌||◌, List, [], ◌∷◌, length, map, Option, Some, None, slice_get, slice_set, refl, sym, ap, subst, ◌∙◌}
 use Rattle.std.specs.Prelude.{⊤}
 use Rattle.wdf_base.specs.declared.plan.Plan.{Plan}
 use Rattle.wdf_base.specs.declared.value.Value.{Value}
@@ -20,6 +20,7 @@ use Rattle.wdf_lint.specs.Abstracts.{answer, go}
 use Rattle.wdf_lint.specs.Steps.{Way, acquired, acquired_at, after_call, by_way, called, interrupt_in, node_of, released_at, rule_of_call, statement_of, steps, steps_at, variable_in, ways}
 use Rattle.wdf_lint.specs.Walks.{IsIn}
 use Rattle.law_lint.proofs.Known.{AllKnown, KnownIs, known_set}
+use Rattle.law_lint.proofs.Weights.{weight, written}
 use Rattle.law_lint.proofs.Frames.{Simulates}
 use Rattle.law_lint.proofs.Faults.{Calls}
 
@@ -48,11 +49,14 @@ called_variables plan k a call.WdfInterruptAcquireLock x = acquired_at_variables
 called_variables plan k a call.WdfInterruptReleaseLock x = released_at_variables a (interrupt_in plan k x)
 called_variables plan k a _ x = refl
 
-pub record CallWent (plan : Plan) (a : Abstract) (f : Frame) (h : Hold) (v : Value) : Type 0 where
+pub record CallWent (plan : Plan) (a : Abstract) (f : Frame) (h : Hold) (v : Value) (c : CallKind) (x : Option ExprNode) : Type 0 where
   pub state : Abstract
   pub is_in : IsIn state (steps plan f.script a)
   pub simulates : Simulates state (answered plan f v)
   pub hold : state.hold ≡ h
+  -- of locks it says what the call does
+  pub weighs : weight state ≡ weight (called plan f.script a c x)
+  pub interrupts : state.interrupts ≡ (called plan f.script a c x).interrupts
 
 answer_known : (b : Abstract) (f : Frame) (into : Option ℕ) (k : Known) (v : Value) → KnownIs k v → AllKnown b.variables f.variables → AllKnown (answer b into k).variables (with_answer f into v).variables
 answer_known b f None k v is h = h
@@ -62,13 +66,21 @@ answer_hold : (b : Abstract) (into : Option ℕ) (k : Known) → (answer b into 
 answer_hold b None k = refl
 answer_hold b (Some x) k = refl
 
+answer_weight : (b : Abstract) (into : Option ℕ) (k : Known) → weight (answer b into k) ≡ weight b
+answer_weight b None k = refl
+answer_weight b (Some x) k = ap (λ n. n + length b.interrupts) (written b.lock x)
+
+answer_interrupts : (b : Abstract) (into : Option ℕ) (k : Known) → (answer b into k).interrupts ≡ b.interrupts
+answer_interrupts b None k = refl
+answer_interrupts b (Some x) k = refl
+
 answer_at : (f : Frame) (into : Option ℕ) (v : Value) → (with_answer f into v).at ≡ f.at
 answer_at f None v = refl
 answer_at f (Some x) v = refl
 
 -- the states after a call that breaks no rule
 pub call_went : (plan : Plan) (a : Abstract) (f : Frame) (c : Call) (k : Calls plan f (statement_at plan f) c) (w : Way) (v : Value) → Simulates a f → rule_of_call plan f.script a k.kind (node_of plan k.x) (node_of plan k.y) ≡ None
-    → IsIn w (ways k.kind a.hold) → KnownIs w.answer v → CallWent plan a f w.hold v
+    → IsIn w (ways k.kind a.hold) → KnownIs w.answer v → CallWent plan a f w.hold v k.kind (node_of plan k.x)
 call_went plan a f c k w v s off is knows =
     let st : Statement = record { line = k.line; next = k.next; act = act.Call k.kind k.into k.x k.y k.z } in
     let b : Abstract = called plan f.script a k.kind (node_of plan k.x) in
@@ -85,4 +97,6 @@ call_went plan a f c k w v s off is knows =
         known = answer_known (record b { hold = w.hold }) (record f { at = k.next }) k.into w.answer v knows vars;
       });
       hold = answer_hold (record b { hold = w.hold }) k.into w.answer;
+      weighs = answer_weight (record b { hold = w.hold }) k.into w.answer;
+      interrupts = answer_interrupts (record b { hold = w.hold }) k.into w.answer;
     }

@@ -63,6 +63,8 @@ use Rattle.law_lint.proofs.Frames.{Simulates}
 use Rattle.law_lint.proofs.Grips.{Cancelable, LaterAt, Owned, is_armed}
 use Rattle.law_lint.proofs.Others.{Places, event_later}
 use Rattle.law_lint.proofs.Sane.{AllSane, Sane}
+use Rattle.wdf_model.specs.parts.Locks.{held_by_call}
+use Rattle.law_lint.proofs.Holdings.{deeds_fewer, none_both, none_take, taken_if_any}
 use Rattle.law_lint.proofs.Stands.{FrameBegins, FrameStands, Grasps, GripOf, InHand, Stands, begins_stands}
 use Rattle.law_lint.proofs.Events.{told}
 
@@ -296,9 +298,22 @@ pushed_frames C cpu f frame level none = (
 abbrev pub Numbered : {A : Type 0} → State A → Type 0
 Numbered S = on S.cpus (S.number + 1) ≡ 0
 
+effect_untaking : {A : Type 0} (plan : Plan) (S : State A) (k : Rank) (cpu : ℕ) (c : Callback) (o g : ℕ) → none_take g (effect plan S k cpu c o) ≡ true
+effect_untaking plan S rank.Deferred cpu c o g = refl
+effect_untaking plan S _ cpu c o g = refl
+
+effect_for_untaking : (k : Rank) (o r g : ℕ) → none_take g (effect_for k o r) ≡ true
+effect_for_untaking rank.Completion o r g = refl
+effect_for_untaking _ o r g = refl
+
+-- what a start does beside its frame takes no lock
+start_untaking : {A : Type 0} (plan : Plan) (S : State A) (cpu : ℕ) (c : Callback) (o : ℕ) (r : Option Handle) (g : ℕ) → none_take g (start_effect plan S cpu c o r) ≡ true
+start_untaking plan S cpu c o None g = effect_untaking plan S (row_of c).rank cpu c o g
+start_untaking plan S cpu c o (Some r) g = effect_for_untaking (row_of c).rank o r.id.0 g
+
 pub start_stands : {A : Type 0} (plan : Plan) (m : Meaning A) (S : State A) (k : Cpu) (c : Callback) (o : Handle) (r : Option Handle) → may plan m S (event.Start k c o r) ≡ true → Numbered S → Places S → AllSane S.requests → Stands plan S
     → Stands plan (after plan m S (event.Start k c o r))
-start_stands {A} plan m S k c o r h numbered places sane st = told plan m (event.Start k c o r) U (begins_stands plan S U f frame b st begins new later free)
+start_stands {A} plan m S k c o r h numbered places sane st = told plan m (event.Start k c o r) U (begins_stands plan S U f frame b st begins new later free fewer)
   where
     f : ℕ
     f = next_number S
@@ -387,6 +402,11 @@ start_stands {A} plan m S k c o r h numbered places sane st = told plan m (event
     hand_free hold.Away e q is i = absurd i
     hand_free hold.Stop e q is i = absurd i
 
+    -- its own lock is none that a call took
+    fewer : (g : ℕ) → held_by_call U.locks g ≤ held_by_call S.locks g
+    fewer g = deeds_fewer plan (deeds plan S (event.Start k c o r)) S g
+        (none_both g es (PushFrame (cpu_of k.0) (frame_id f) frame (irql_of level) ∷ take_if_any f l) (start_untaking plan S k.0 c o.id.0 r g) (taken_if_any g f l))
+
     new : FrameStands plan U f b
     new = record {
       reached = subst (λ (x : Frame). IsReached plan x.script b) (sym begins.here) ([], refl);
@@ -399,6 +419,8 @@ start_stands {A} plan m S k c o r h numbered places sane st = told plan m (event
           let w = with_request_ plan m S k.0 c o.id.0 r (owning_rank c (sym (ap is_own_or_marked holds) ∙ own)).0 ready in
           (w.0, ap (λ (x : Frame). x.request) begins.here ∙ w.1);
       waits = λ p e. absurd (let none : (frame_of U.cpus f).pending ≡ None = ap (λ (x : Frame). x.pending) begins.here in let z : ⊥ = cc in z);
+      few = let none = st.off f numbered in let less = fewer f in omega arith;
+      single = λ i. let z : 0 ≤ 1 = omega arith in z;
     }
 
     not_theirs : (g : ℕ) → 1 ≤ on S.cpus g → (x : ℕ) → Loose (request_of S.requests x) → Grasps S g (st.states g) x → ⊥

@@ -60,6 +60,13 @@ use Rattle.law_lint.proofs.Stands.{FrameGoes, FrameStands, InHand, Stands, goes_
 use Rattle.law_lint.proofs.Events.{answered_rest, goes_on_frames, top_there, told}
 use Rattle.law_lint.proofs.Faults.{Calls, calls, rule_off}
 use Rattle.law_lint.proofs.Answers.{CallWent, call_went}
+use Rattle.wdf_base.specs.declared.event.Fault.TheVariants as fault
+use Rattle.wdf_model.specs.parts.Locks.{held_by_call}
+use Rattle.wdf_model.specs.rules.Faults.{is_acquire, is_release}
+use Rattle.wdf_lint.specs.Steps.{called}
+use Rattle.law_lint.proofs.Weights.{Single}
+use Rattle.law_lint.proofs.Holdings.{event_fewer}
+use Rattle.law_lint.proofs.Locking.{Locked, did_locks, woke_locks}
 use Rattle.law_lint.proofs.Frames.{Simulates}
 use Rattle.wdf_model.proofs.FrameCounts.{on}
 
@@ -109,10 +116,11 @@ unknown_way call.WdfRequestMarkCancelableEx h off = absurd (let z : ⊥ = cc in 
 unknown_way call.WdfRequestUnmarkCancelable h off = absurd (let z : ⊥ = cc in z)
 unknown_way _ h off = (0, refl)
 
--- the frame is answered, the others may do what they may: the invariant stands
+-- the frame is answered, the others may do what they may: the invariant is kept
 answer_stands : {A : Type 0} (plan : Plan) (S U : State A) (f : ℕ) (v : Value) (st : Stands plan S) → FrameGoes S U f (answered plan (frame_of S.cpus f) v) → 1 ≤ on S.cpus f
-    → CallWent plan (st.states f) (frame_of S.cpus f) (st.states f).hold v → ((x : ℕ) → x < length S.requests.all → LaterAt x S.requests U.requests) → Stands plan U
-answer_stands plan S U f v st go there w later =
+    → (c : CallKind) (x : Option ExprNode) → CallWent plan (st.states f) (frame_of S.cpus f) (st.states f).hold v c x → ((x : ℕ) → x < length S.requests.all → LaterAt x S.requests U.requests)
+    → Locked S.locks U.locks f (called plan (frame_of S.cpus f).script (st.states f) c x) → Stands plan U
+answer_stands plan S U f v st go there c x_ w later l =
     let old : FrameStands plan S f (st.states f) = st.stands f there in
     let rest = answered_rest plan (frame_of S.cpus f) v in
     let now : (frame_of U.cpus f).request ≡ (frame_of S.cpus f).request = ap (λ (x : Frame). x.request) go.here ∙ rest.1 in
@@ -128,6 +136,8 @@ answer_stands plan S U f v st go there w later =
           (subst (λ h. GripOf h (request_of U.requests r.id.0)) (sym w.hold) (grip_later (st.states f).hold (request_of S.requests r.id.0) (request_of U.requests r.id.0) l.later g.0), omega arith);
       has = λ h. let is = old.has (subst (λ x. is_own_or_marked x ≡ true) w.hold h) in (is.0, now ∙ is.1);
       waits = λ p e. absurd (let none : (frame_of U.cpus f).pending ≡ None = ap (λ (x : Frame). x.pending) go.here in let z : ⊥ = cc in z);
+      few = let held = l.few in let weighs = w.weighs in omega arith;
+      single = subst Single (sym w.interrupts) l.single;
     })
     (λ x k.
     let has : (frame_of S.cpus f).request ≡ Some k.request = sym now ∙ k.has in
@@ -141,14 +151,43 @@ answer_stands plan S U f v st go there w later =
           (subst (λ h. InHand h U.requests k.request.id.0) w.hold (subst (λ y. InHand w.state.hold U.requests y) (sym k.same) k.in_hand)));
     })
     (λ g n more. stays_later plan S U g (st.states g) (st.stands g more) (λ r has. later r.id.0 ((st.stands g more).grips r has).1))
+    l.fewer
 
 -- a frame that is about to make a call on nothing of its own is answered as the walk says
-plain_went : {A : Type 0} (plan : Plan) (S : State A) (cpu f : ℕ) (a : Abstract) (c : Call) (v : Value) → IsClean plan → FrameStands plan S f a → intent_of plan (frame_of S.cpus f) ≡ intent.Do c → has_ways c.kind ≡ false
-    → CallWent plan a (frame_of S.cpus f) a.hold v
+plain_went : {A : Type 0} (plan : Plan) (S : State A) (cpu f : ℕ) (a : Abstract) (c : Call) (v : Value) → IsClean plan → FrameStands plan S f a → (does : intent_of plan (frame_of S.cpus f) ≡ intent.Do c) → has_ways c.kind ≡ false
+    → CallWent plan a (frame_of S.cpus f) a.hold v (calls plan (frame_of S.cpus f) c does).kind (node_of plan (calls plan (frame_of S.cpus f) c does).x)
 plain_went plan S cpu f a c v clean st does off =
     let k : Calls plan (frame_of S.cpus f) (statement_at plan (frame_of S.cpus f)) c = calls plan (frame_of S.cpus f) c does in
     let kind : c.kind ≡ k.kind = ap (λ (d : Call). d.kind) k.call in
     call_went plan a (frame_of S.cpus f) c k (way a.hold known.Unknown) v st.simulates (rule_off plan S cpu f a clean st c k) (unknown_way k.kind a.hold (sym (ap has_ways kind) ∙ off)) tt
+
+-- what a call that is answered leaves of locks
+pub did_locked : {A : Type 0} (plan : Plan) (S : State A) (k : Cpu) (f : ℕ) (c : Call) (v : Value) (a : Abstract) (d : IsDid plan S k.0 c v) → IsClean plan → FrameStands plan S d.frame a
+    → Locked S.locks (do_deeds plan (deeds plan S (event.Did k c v)) S).locks d.frame
+      (called plan (frame_of S.cpus d.frame).script a (calls plan (frame_of S.cpus d.frame) c d.about.about).kind (node_of plan (calls plan (frame_of S.cpus d.frame) c d.about.about).x))
+did_locked {A} plan S k f_ c v a d clean fs =
+    let f : ℕ = d.frame in
+    let frame : Frame = frame_of S.cpus f in
+    let s : Calls plan frame (statement_at plan frame) c = calls plan frame c d.about.about in
+    let kind : s.kind ≡ c.kind = sym (ap (λ (q : Call). q.kind) s.call) in
+    let same : deeds plan S (event.Did k c v) ≡ did_deeds plan S k.0 c v f frame = by_its_top S k.0 f (did_deeds plan S k.0 c v) d.about.top in
+    let rule : rule_of_call plan frame.script a s.kind (node_of plan s.x) (node_of plan s.y) ≡ None = rule_off plan S k.0 f a clean fs c s in
+    let fewer : is_acquire c.kind ≡ false → (g : ℕ) → held_by_call (do_deeds plan (did_deeds plan S k.0 c v f frame) S).locks g ≤ held_by_call S.locks g =
+      λ off g. subst (λ es. held_by_call (do_deeds plan es S).locks g ≤ held_by_call S.locks g) same (event_fewer plan S (event.Did k c v) g refl off) in
+    subst (λ es. Locked S.locks (do_deeds plan es S).locks f (called plan frame.script a s.kind (node_of plan s.x))) (sym same)
+    (subst (λ q. Locked S.locks (do_deeds plan (did_deeds plan S k.0 c v f frame) S).locks f (called plan frame.script a q (node_of plan s.x))) (sym kind)
+    (did_locks plan S k f frame a fs.few fs.single c.kind c.count c.a c.b c.c (node_of plan s.x) (node_of plan s.y) v (subst (λ q. rule_of_call plan frame.script a q (node_of plan s.x) (node_of plan s.y) ≡ None) kind rule) (d.about.clean fault.LockNotHeld) fewer))
+
+-- and one whose wait is over
+woke_locked : {A : Type 0} (plan : Plan) (S : State A) (k : Cpu) (f : ℕ) (c : Call) (v : Value) (a : Abstract) → IsClean plan → (fs : FrameStands plan S f a) → (does : intent_of plan (frame_of S.cpus f) ≡ intent.Do c) → is_release c.kind ≡ false
+    → Locked S.locks (do_deeds plan (woke_deeds plan c v f (frame_of S.cpus f)) S).locks f (called plan (frame_of S.cpus f).script a (calls plan (frame_of S.cpus f) c does).kind (node_of plan (calls plan (frame_of S.cpus f) c does).x))
+woke_locked {A} plan S k f c v a clean fs does off =
+    let frame : Frame = frame_of S.cpus f in
+    let s : Calls plan frame (statement_at plan frame) c = calls plan frame c does in
+    let kind : s.kind ≡ c.kind = sym (ap (λ (q : Call). q.kind) s.call) in
+    let rule : rule_of_call plan frame.script a s.kind (node_of plan s.x) (node_of plan s.y) ≡ None = rule_off plan S k.0 f a clean fs c s in
+    subst (λ q. Locked S.locks (do_deeds plan (woke_deeds plan c v f frame) S).locks f (called plan frame.script a q (node_of plan s.x))) (sym kind)
+    (woke_locks plan S k f frame a fs.few fs.single c.kind c.count c.a c.b c.c (node_of plan s.x) (node_of plan s.y) v (subst (λ q. rule_of_call plan frame.script a q (node_of plan s.x) (node_of plan s.y) ≡ None) kind rule) off)
 
 pub did_stands : {A : Type 0} (plan : Plan) (m : Meaning A) (S : State A) (k : Cpu) (c : Call) (v : Value) → IsClean plan → has_ways c.kind ≡ false → may plan m S (event.Did k c v) ≡ true
     → ((x : ℕ) → x < length S.requests.all → LaterAt x S.requests (do_deeds plan (deeds plan S (event.Did k c v)) S).requests) → Stands plan S
@@ -165,9 +204,9 @@ did_stands {A} plan m S k c v clean off h later st =
     told plan m (event.Did k c v) (do_deeds plan (deeds plan S (event.Did k c v)) S)
     (answer_stands plan S (do_deeds plan (deeds plan S (event.Did k c v)) S) f v st
     (subst (λ es. FrameGoes S (do_deeds plan es S) f (answered plan (frame_of S.cpus f) v)) (sym same) (still_goes plan S ds f (answered plan (frame_of S.cpus f) v) still fits_))
-    there
+    there (calls plan (frame_of S.cpus f) c d.about.about).kind (node_of plan (calls plan (frame_of S.cpus f) c d.about.about).x)
     (plain_went plan S k.0 f (st.states f) c v clean (st.stands f there) d.about.about off)
-    later)
+    later (did_locked plan S k f c v (st.states f) d clean (st.stands f there)))
 
 -- a call that no owner makes
 pub plain_stands : {A : Type 0} (plan : Plan) (m : Meaning A) (S : State A) (k : Cpu) (c : Call) (v : Value) → IsClean plan → has_ways c.kind ≡ false → is_owners_call c.kind ≡ false → may plan m S (event.Did k c v) ≡ true → Places S → Stands plan S
@@ -254,6 +293,8 @@ woke_stands {A} plan m S k c v clean h places st =
     told plan m (event.Woke k c v) (do_deeds plan (deeds plan S (event.Woke k c v)) S)
     (answer_stands plan S (do_deeds plan (deeds plan S (event.Woke k c v)) S) f v st
     (subst (λ es. FrameGoes S (do_deeds plan es S) f (answered plan (frame_of S.cpus f) v)) (sym same) (still_goes plan S (second_deeds f c) f (answered plan (frame_of S.cpus f) v) (second_none f c) fits_))
-    there
+    there (calls plan (frame_of S.cpus f) c w.0).kind (node_of plan (calls plan (frame_of S.cpus f) c w.0).x)
     (plain_went plan S k.0 f (st.states f) c v clean (st.stands f there) w.0 (off_request c.kind w.1))
-    (λ x old. event_later plan S (event.Woke k c v) x refl fit places old))
+    (λ x old. event_later plan S (event.Woke k c v) x refl fit places old)
+    (subst (λ es. Locked S.locks (do_deeds plan es S).locks f (called plan (frame_of S.cpus f).script (st.states f) (calls plan (frame_of S.cpus f) c w.0).kind (node_of plan (calls plan (frame_of S.cpus f) c w.0).x)))
+    (sym (by_its_top S k.0 f (woke_deeds plan c v) d.top)) (woke_locked plan S k f c v (st.states f) clean (st.stands f there) w.0 w.2)))

@@ -1,4 +1,4 @@
--- Where the invariant stands and the plan is clean, no frame has a fault that is about who owns a request; StopAcknowledge is for itself.
+-- Where the invariant holds and the plan is clean, no frame has a fault that is about who owns a request; StopAcknowledge is for itself.
 use Rattle.std.proofs.Common.{if◌then◌else◌, ◌≡◌, ◌≢◌, ℕ, ◌==◌, ◌≤◌, Bool, true, false, not, ◌&&◌, ◌||◌, nat_le, List, [], ◌∷◌, ◌⊎◌, inl, inr, Option, Some, None, find, slice_get, refl, sym, ap, subst, ◌∙◌, arith}
 use Rattle.wdf_base.specs.Meaning.{Meaning}
 use Rattle.wdf_base.specs.declared.plan.Plan.{Plan}

@@ -4,12 +4,15 @@ mod Frames
 mod Grips
 mod Calls
 mod Acting
+mod Weights
+mod Holdings
 mod Stands
 mod Events
 mod Faults
 mod Others
 mod Framework
 mod Answers
+mod Locking
 mod Dids
 mod Spent
 mod Owners

@@ -56,7 +56,10 @@ use Rattle.law_lint.proofs.Events.{answered_rest, top_there, told}
 use Rattle.law_lint.proofs.Faults.{Calls, calls, holds_so, rule_off}
 use Rattle.law_lint.proofs.Frames.{Simulates}
 use Rattle.law_lint.proofs.Answers.{CallWent, call_went}
-use Rattle.law_lint.proofs.Dids.{has_ways, still_goes}
+use Rattle.wdf_lint.specs.Steps.{called}
+use Rattle.law_lint.proofs.Weights.{Single}
+use Rattle.law_lint.proofs.Locking.{Locked}
+use Rattle.law_lint.proofs.Dids.{did_locked, has_ways, still_goes}
 use Rattle.wdf_model.proofs.FrameCounts.{on}
 
 -- what such a call does to its own request and to no other
@@ -193,7 +196,7 @@ owner_keeps {A} plan m S k c v clean row h places st = (
   told plan m (event.Did k c v) U
       (goes_stands plan S U f next b st
       (subst (λ es. FrameGoes S (do_deeds plan es S) f next) (sym same) (still_goes plan S ds f next still fits_))
-      there new shrinks stay),
+      there new shrinks stay locks_.fewer),
   λ all. subst AllSane (sym requests_) (deeds_sane plan o.deeds S fits_first go.sane all),
 )
   where
@@ -276,11 +279,14 @@ owner_keeps {A} plan m S k c v clean row h places st = (
     w : Way
     w = go.goes.way
 
-    went : CallWent plan a frame w.hold v
+    went : CallWent plan a frame w.hold v s.kind (node_of plan s.x)
     went = call_went plan a frame c s w v fs.simulates rule (subst (λ q. IsIn w (ways q a.hold)) kind go.goes.is_in) (subst (λ q. KnownIs w.answer q) (sym d.answer) go.goes.answered)
 
     b : Abstract
     b = went.state
+
+    locks_ : Locked S.locks U.locks f (called plan frame.script a s.kind (node_of plan s.x))
+    locks_ = did_locked plan S k f c v a d clean fs
 
     long : (x : ℕ) → x < length S.requests.all → StaysSpent x S.requests U.requests
     long x old = subst (λ (R : Requests). StaysSpent x S.requests R) (sym requests_) (deeds_spent plan o.deeds S x fits_first places old)
@@ -307,6 +313,8 @@ owner_keeps {A} plan m S k c v clean row h places st = (
           (subst (λ n. GripOf b.hold (request_of U.requests n)) (sym e) (subst (λ x. GripOf x (request_of U.requests (object_in c.a))) (sym went.hold) (subst (λ (R : Requests). GripOf w.hold (request_of R (object_in c.a))) (sym requests_) go.goes.grips)), let l = long q.id.0 old in let n = l.long in omega arith);
       has = λ _. (request.0, now ∙ request.1);
       waits = λ p e. absurd (let none : (frame_of U.cpus f).pending ≡ None = ap (λ (x : Frame). x.pending) goes_.here in let q : ⊥ = cc in q);
+      few = let held = locks_.few in let weighs = went.weighs in omega arith;
+      single = subst Single (sym went.interrupts) locks_.single;
     }
 
     shrinks : (x : ℕ) → Grasps U f b x → Grasps S f a x

@@ -68,6 +68,16 @@ use Rattle.wdf_model.specs.rules.Script.{intent_of, line_of}
 use Rattle.wdf_model.specs.rules.Steps.{intent_event, own_event, view_of}
 use Rattle.wdf_lint.specs.declared.state.Abstract.{Abstract}
 use Rattle.wdf_lint.specs.Abstracts.{start}
+use Rattle.std.proofs.lemmas.Bool.Decides.{nat_tests}
+use Rattle.wdf_base.specs.declared.script.Act.{Act}
+use Rattle.wdf_base.specs.declared.script.Act.TheVariants as act
+use Rattle.wdf_base.specs.declared.script.Statement.{Statement}
+use Rattle.wdf_base.specs.declared.frame.Frame.{Frame}
+use Rattle.wdf_model.specs.parts.Locks.{held_by_call}
+use Rattle.wdf_model.specs.rules.Script.{act_intent, intent_at, statement_at}
+use Rattle.wdf_lint.specs.Steps.{rule_at, rule_of_leaving, statement_of}
+use Rattle.law_lint.proofs.Weights.{left_weight}
+use Rattle.law_lint.proofs.Frames.{act_shape, shape, shape_of}
 use Rattle.law_lint.proofs.Acting.{Quiet}
 use Rattle.law_lint.proofs.Faults.{Keeps, call_quiet, fault_holds, stop_quiet}
 use Rattle.law_lint.proofs.FreeRuns.{free_place, runs_are_free}
@@ -121,7 +131,7 @@ places_after : {A : Type 0} (plan : Plan) (ds : List Deed) (S : State A) → all
 places_after plan [] S f k = k
 places_after plan (d ∷ ds) S f k = places_after plan ds (do_deed plan d S) (both_right (fits plan d S) (all_fit plan ds (do_deed plan d S)) f) (deed_keeps plan d S (both_left (fits plan d S) (all_fit plan ds (do_deed plan d S)) f) (λ _. refl) k)
 
--- ---- all that stands
+-- ---- the whole invariant
 
 pub record Standing {A : Type 0} (plan : Plan) (S : State A) : Type 0 where
   pub stands : Stands plan S
@@ -259,6 +269,7 @@ opening_standing plan m = record {
     states = λ f. start plan 0;
     stands = λ f more. absurd (let e = none_yet plan (λ x. x == f) in omega arith);
     alone = λ f g x fm gm. absurd (let e = none_yet plan (λ y. y == f) in omega arith);
+    off = λ f none. refl;
   };
   sane = λ x. record { armed = λ a. absurd (let z : ⊥ = cc in z); sent = λ s. absurd (let z : ⊥ = cc in z) };
   places = opening_places plan m;
@@ -331,7 +342,7 @@ pub record HasFault {A : Type 0} (plan : Plan) (S : State A) (cpu : ℕ) (x : Fa
 fault_same : (y x : Fault) → same_fault y x ≡ true → y ≡ x
 fault_same y x h = search rules
 
-faulted : {A : Type 0} (plan : Plan) (m : Meaning A) (S : State A) (k : Cpu) (x : Fault) (line : ℕ) (z : Event) → same_event z (event.Fault k x line) ≡ true → Own plan m S k.0 z → IsOfOwning x → HasFault plan S k.0 x
+faulted : {A : Type 0} (plan : Plan) (m : Meaning A) (S : State A) (k : Cpu) (x : Fault) (line : ℕ) (z : Event) → same_event z (event.Fault k x line) ≡ true → Own plan m S k.0 z → is_script_fault x ≡ false → HasFault plan S k.0 x
 faulted plan m S k x line z same (Wakes p e) is = absurd (let no_ = subst (λ y. same_event y (event.Fault k x line) ≡ true) e same in let q : ⊥ = cc in q)
 faulted plan m S k x line z same (Faults i a y w e) is =
     let s : same_event (event.Fault (cpu_of k.0) y (line_of plan (frame_of S.cpus a.frame))) (event.Fault k x line) ≡ true = subst (λ u. same_event u (event.Fault k x line) ≡ true) e same in
@@ -354,7 +365,6 @@ faulted plan m S k x line z same (Does i a clean e) is = absurd (by i a (subst (
     by intent.Broken a s =
         let one : fault.ScriptError ≡ x = fault_same fault.ScriptError x (both_right (same_cpu (cpu_of k.0) k) (same_fault fault.ScriptError x) (both_left (same_cpu (cpu_of k.0) k && same_fault fault.ScriptError x) (line_of plan (frame_of S.cpus a.frame) == line) s)) in
         let script : is_script_fault x ≡ true = ap is_script_fault (sym one) in
-        let off = (not_of_return x is).2 in
         let q : ⊥ = cc in q
 
 -- Where the plan is clean, no fault of a free run is about who owns a request, but NotOwned of a frame that is about to acknowledge.
@@ -370,7 +380,7 @@ sound {A} plan clean run free n k x line at is =
     by m (inr t) st = absurd (let e = t.1 in let q : ⊥ = cc in q)
     by m (inl h) st =
         let found = same_there (own_event plan m (free.states n) k.0) (event.Fault k x line) h in
-        let f : HasFault plan (free.states n) k.0 x = faulted plan m (free.states n) k x line found.0 found.2 (owns plan m (free.states n) k.0 found.0 found.1) is in
+        let f : HasFault plan (free.states n) k.0 x = faulted plan m (free.states n) k x line found.0 found.2 (owns plan m (free.states n) k.0 found.0 found.1) (not_of_return x is).2 in
         let there = top_there (free.states n).cpus k.0 f.acts.frame f.acts.top in
         let off = holds_off plan (free.states n) k.0 f.acts.frame (st.stands.states f.acts.frame) clean (st.stands.stands f.acts.frame there) f.intent f.acts.about x is f.holds in
         (f.intent, f.acts, off.0, off.1)
@@ -411,3 +421,57 @@ marks_are_kept plan m run n k x line clean is at = by (is_of_marks x) refl
     by : (b : Bool) → is_of_marks x ≡ b → b ≡ false
     by true e = absurd (no_fault_of_marks plan m clean run is n k x line at (of_marks x e))
     by false e = refl
+
+-- ---- a return
+
+-- a state at a return, or at the callback's end, breaks no rule only where it holds no lock
+leaving_act : (plan : Plan) (k : ℕ) (a : Abstract) (l n : ℕ) (x : Act) → shape_of x ≡ 6 → rule_at plan k a (Some (record { line = l; next = n; act = x })) ≡ rule_of_leaving a
+leaving_act plan k a l n (act.Return e) h = refl
+leaving_act plan k a l n _ h = absurd (let z : ⊥ = cc in z)
+
+leaving : (plan : Plan) (f : Frame) (a : Abstract) (s : Option Statement) (v : Value) → intent_at plan f s ≡ intent.Return v → rule_at plan f.script a s ≡ rule_of_leaving a
+leaving plan f a None v e = refl
+leaving plan f a (Some s) v e = leaving_act plan f.script a s.line s.next s.act (by (act_shape plan f s.next s.act))
+  where
+    by : (shape (act_intent plan f s.next s.act) ≡ 7) ⊎ (shape (act_intent plan f s.next s.act) ≡ shape_of s.act) → shape_of s.act ≡ 6
+    by (inl seven) = absurd (let six : shape (act_intent plan f s.next s.act) ≡ 6 = ap shape e in let wrong : 6 ≡ 7 = sym six ∙ seven in let z : ⊥ = omega arith in z)
+    by (inr same) = sym same ∙ ap shape e
+
+holds_some : (n : ℕ) → nat_lt 0 n ≡ true → 1 ≤ n
+holds_some n h = grind (arith, nat_tests)
+
+-- a frame of a clean plan that is about to return holds no lock by a call
+return_off : {A : Type 0} (plan : Plan) (S : State A) (cpu f : ℕ) (a : Abstract) → IsClean plan → FrameStands plan S f a → (i : Intent) → intent_of plan (frame_of S.cpus f) ≡ i → holds_of (view_of plan S cpu f) i fault.ReturnHoldingLock ≡ true → ⊥
+return_off plan S cpu f a clean st (intent.Return v) does h =
+    let frame : Frame = frame_of S.cpus f in
+    let here : statement_of plan frame.script a ≡ statement_at plan frame = rw st.simulates.at refl in
+    let rule : rule_of_leaving a ≡ None = sym (leaving plan frame a (statement_at plan frame) v does) ∙ ap (rule_at plan frame.script a) (sym here) ∙ clean frame.script a st.reached in
+    let none = left_weight a rule in
+    let few = st.few in
+    let some_ : 1 ≤ held_by_call S.locks f = holds_some (held_by_call S.locks f) h in
+    let z : ⊥ = omega arith in z
+return_off plan S cpu f a clean st (intent.Do c) does h = let z : ⊥ = cc in z
+return_off plan S cpu f a clean st (intent.Get r) does h = let z : ⊥ = cc in z
+return_off plan S cpu f a clean st (intent.Put r v) does h = let z : ⊥ = cc in z
+return_off plan S cpu f a clean st intent.Broken does h = let z : ⊥ = cc in z
+return_off plan S cpu f a clean st (intent.Local c next) does h = let z : ⊥ = cc in z
+return_off plan S cpu f a clean st (intent.Log v) does h = let z : ⊥ = cc in z
+return_off plan S cpu f a clean st (intent.Spend n) does h = let z : ⊥ = cc in z
+
+-- in a free run of a clean plan no callback ends with a lock that a call took
+pub returns_free : {A : Type 0} (plan : Plan) → IsClean plan → (run : List Event) (free : IsFreeRun A plan run) (n : ℕ) (k : Cpu) (line : ℕ) → slice_get run n ≡ Some (event.Fault k fault.ReturnHoldingLock line) → ⊥
+returns_free {A} plan clean run free n k line at =
+    let step = free.goes n (event.Fault k fault.ReturnHoldingLock line) at in
+    let within : n < length run = slice_get_within run n (event.Fault k fault.ReturnHoldingLock line) at in
+    by step.meaning step.may_come (standing_place plan clean run free n (omega arith))
+  where
+    by : (m : Meaning A) → (may plan m (free.states n) (event.Fault k fault.ReturnHoldingLock line) ≡ true) ⊎ ((time : ℕ) × (event.Fault k fault.ReturnHoldingLock line ≡ event.Tick time)) → Standing plan (free.states n) → ⊥
+    by m (inr t) st = let e = t.1 in let q : ⊥ = cc in q
+    by m (inl h) st =
+        let found = same_there (own_event plan m (free.states n) k.0) (event.Fault k fault.ReturnHoldingLock line) h in
+        let f : HasFault plan (free.states n) k.0 fault.ReturnHoldingLock = faulted plan m (free.states n) k fault.ReturnHoldingLock line found.0 found.2 (owns plan m (free.states n) k.0 found.0 found.1) refl in
+        let there = top_there (free.states n).cpus k.0 f.acts.frame f.acts.top in
+        return_off plan (free.states n) k.0 f.acts.frame (st.stands.states f.acts.frame) clean (st.stands.stands f.acts.frame there) f.intent f.acts.about f.holds
+
+pub locks_are_given_back : {A : Type 0} (plan : Plan) (m : Meaning A) (run : List Event) (n : ℕ) (k : Cpu) (line : ℕ) → IsClean plan → IsRunOf plan m run → slice_get run n ≡ Some (event.Fault k fault.ReturnHoldingLock line) → ⊥
+locks_are_given_back plan m run n k line clean is at = returns_free plan clean run (runs_are_free plan m run is) n k line at

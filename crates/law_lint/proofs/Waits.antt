@@ -53,7 +53,13 @@ use Rattle.wdf_model.specs.rules.Starts.{end_of_step, release_if_any}
 use Rattle.law_machine_base.specs.Fits.{all_fit}
 use Rattle.law_machine_base.proofs.OwnEvents.{IsEnd, IsWaiting, end_tells, waiting_tells}
 use Rattle.wdf_model.proofs.Maps.{entry_put_other}
-use Rattle.wdf_model.proofs.Counts.{equal}
+use Rattle.std.proofs.lemmas.Bool.Decides.{nat_tests}
+use Rattle.wdf_base.specs.declared.event.Fault.TheVariants as fault
+use Rattle.wdf_model.specs.parts.Locks.{held_by_call}
+use Rattle.wdf_model.specs.rules.Faults.{is_acquire, is_release}
+use Rattle.law_machine_deeds.specs.MayDo.{is_start, second_part}
+use Rattle.law_lint.proofs.Holdings.{event_fewer}
+use Rattle.wdf_model.proofs.Counts.{equal, not_equal, one_or_two}
 use Rattle.wdf_model.proofs.Tests.{both_left, both_right}
 use Rattle.law_machine_base.proofs.FitsOfEvents.{by_its_top, event_fits}
 use Rattle.wdf_model.proofs.FrameCounts.{on, parked_once, parks, popped, unparks}
@@ -145,6 +151,13 @@ waits_for_none plan S call.WdfRequestIsCanceled n x y z h = absurd (let q : ⊥ 
 waits_for_none plan S call.WdfRequestStopAcknowledge n x y z h = absurd (let q : ⊥ = cc in q)
 waits_for_none plan S _ n x y z h = (refl, refl)
 
+-- nor does a release
+waits_for_no_release : {A : Type 0} (plan : Plan) (S : State A) (k : CallKind) (n : ℕ) (x y z : Arg) → is_met_then plan S (calling k n x y z) ≡ false → is_release k ≡ false
+waits_for_no_release plan S call.WdfSpinLockRelease n x y z h = absurd (let q : ⊥ = cc in q)
+waits_for_no_release plan S call.WdfWaitLockRelease n x y z h = absurd (let q : ⊥ = cc in q)
+waits_for_no_release plan S call.WdfInterruptReleaseLock n x y z h = absurd (let q : ⊥ = cc in q)
+waits_for_no_release plan S _ n x y z h = refl
+
 pub waiting_stands : {A : Type 0} (plan : Plan) (m : Meaning A) (S : State A) (k : Cpu) (c : Call) → may plan m S (event.Waiting k c) ≡ true → Places S → Stands plan S → Stands plan (after plan m S (event.Waiting k c))
 waiting_stands {A} plan m S k c h places st =
     let d : IsWaiting plan S k.0 c = waiting_tells plan m S k c h in
@@ -178,8 +191,10 @@ waiting_stands {A} plan m S k c h places st =
       waits = λ p e.
           let it : Some (record { call = c; answer = v }) ≡ Some p = sym (ap (λ (x : Frame). x.pending) go.here) ∙ e in
           let call_ : c ≡ p.call = cc in
-          subst (λ (q : Call). (intent_of plan (frame_of U.cpus f) ≡ intent.Do q) × (is_on_request q.kind ≡ false)) call_
-          (ap (intent_of plan) go.here ∙ intent_same plan frame (Some (record { call = c; answer = v })) ∙ d.about.about, off.0);
+          subst (λ (q : Call). (intent_of plan (frame_of U.cpus f) ≡ intent.Do q) × (is_on_request q.kind ≡ false) × (is_release q.kind ≡ false)) call_
+          (ap (intent_of plan) go.here ∙ intent_same plan frame (Some (record { call = c; answer = v })) ∙ d.about.about, off.0, waits_for_no_release plan S c.kind c.count c.a c.b c.c d.unmet);
+      few = let less = event_fewer plan S (event.Waiting k c) f refl refl in let old = fs.few in omega arith;
+      single = fs.single;
     })
     (λ x g.
     let has = sym now ∙ g.has in
@@ -191,7 +206,8 @@ waiting_stands {A} plan m S k c h places st =
       in_hand = subst (λ y. InHand (st.states f).hold S.requests y) g.same
           (hand_before (st.states f).hold S.requests U.requests g.request.id.0 (later g.request.id.0 grip.1).later grip.0 (subst (λ y. InHand (st.states f).hold U.requests y) (sym g.same) g.in_hand));
     })
-    (λ g n more. stays_later plan S U g (st.states g) (st.stands g more) (λ r has. later r.id.0 ((st.stands g more).grips r has).1)))
+    (λ g n more. stays_later plan S U g (st.states g) (st.stands g more) (λ r has. later r.id.0 ((st.stands g more).grips r has).1))
+    (λ g n. event_fewer plan S (event.Waiting k c) g refl refl))
 
 -- ---- a frame parks, comes back, ends or has a fault
 
@@ -200,22 +216,29 @@ abbrev pub Once : Cpus → Type 0
 Once C = (f : ℕ) → on C f ≤ 1
 
 quiet_frames : {A : Type 0} (plan : Plan) (m : Meaning A) (S : State A) (e : Event) → FramesSame S.cpus (do_deeds plan (deeds plan S e) S).cpus
-    → ((x : ℕ) → x < length S.requests.all → LaterAt x S.requests (do_deeds plan (deeds plan S e) S).requests) → Stands plan S → Stands plan (after plan m S e)
-quiet_frames plan m S e frames later st = told plan m e (do_deeds plan (deeds plan S e) S) (fewer_stand plan S (do_deeds plan (deeds plan S e) S) st frames later)
+    → ((x : ℕ) → x < length S.requests.all → LaterAt x S.requests (do_deeds plan (deeds plan S e) S).requests) → is_start e ≡ false → second_part is_acquire e ≡ false
+    → ((x : ℕ) → on (do_deeds plan (deeds plan S e) S).cpus x ≡ 0 → (held_by_call S.locks x ≡ 0) ⊎ (on S.cpus x ≡ 0)) → Stands plan S → Stands plan (after plan m S e)
+quiet_frames plan m S e frames later no_start no_acquire ended st =
+    told plan m e (do_deeds plan (deeds plan S e) S)
+    (fewer_stand plan S (do_deeds plan (deeds plan S e) S) st frames later (λ g. event_fewer plan S e g no_start no_acquire)
+    (λ g none. let less = event_fewer plan S e g no_start no_acquire in elim (ended g none) [
+      | inl held ↦ omega arith
+      | inr off ↦ let was = st.off g off in omega arith
+    ]))
 
 pub park_stands : {A : Type 0} (plan : Plan) (m : Meaning A) (S : State A) (k : Cpu) (f : FrameId) → may plan m S (event.Park k f) ≡ true → Stands plan S → Stands plan (after plan m S (event.Park k f))
 park_stands plan m S k f h st =
     let on_top : top S.cpus k.0 ≡ Some f.0 = top_is (top S.cpus k.0) f.0 (both_left (same_id (top S.cpus k.0) f.0) (irql S.cpus k.0 == 0) (both_left (same_id (top S.cpus k.0) f.0 && irql S.cpus k.0 == 0) (waits_on S (frame_of S.cpus f.0).pending) h)) in
-    quiet_frames plan m S (event.Park k f) (λ x more. (let e = parks (λ y. y == x) S.cpus k.0 f.0 on_top in omega arith, refl)) (λ x old. at_same x S.requests S.requests refl) st
+    quiet_frames plan m S (event.Park k f) (λ x more. (let e = parks (λ y. y == x) S.cpus k.0 f.0 on_top in omega arith, refl)) (λ x old. at_same x S.requests S.requests refl) refl refl (λ x none. inr (let e = parks (λ y. y == x) S.cpus k.0 f.0 on_top in omega arith)) st
 
 pub unpark_stands : {A : Type 0} (plan : Plan) (m : Meaning A) (S : State A) (k : Cpu) (f : FrameId) → may plan m S (event.Unpark k f) ≡ true → Once S.cpus → Stands plan S → Stands plan (after plan m S (event.Unpark k f))
 unpark_stands plan m S k f h once st =
     let comes : may_unpark S k.0 f.0 ≡ true = both_right (is_cpu plan k) (may_unpark S k.0 f.0) h in
     let listed : contains f.0 S.cpus.parked ≡ true = both_left (contains f.0 S.cpus.parked) (is_empty_cpu S.cpus k.0) (both_left (contains f.0 S.cpus.parked && is_empty_cpu S.cpus k.0) (wait_is_over S (frame_of S.cpus f.0).pending) comes) in
-    quiet_frames plan m S (event.Unpark k f) (λ x more. (let e = unparks (λ y. y == x) S.cpus k.0 f.0 (parked_once S.cpus f.0 (once f.0) listed) in omega arith, refl)) (λ x old. at_same x S.requests S.requests refl) st
+    quiet_frames plan m S (event.Unpark k f) (λ x more. (let e = unparks (λ y. y == x) S.cpus k.0 f.0 (parked_once S.cpus f.0 (once f.0) listed) in omega arith, refl)) (λ x old. at_same x S.requests S.requests refl) refl refl (λ x none. inr (let e = unparks (λ y. y == x) S.cpus k.0 f.0 (parked_once S.cpus f.0 (once f.0) listed) in omega arith)) st
 
 pub fault_stands : {A : Type 0} (plan : Plan) (m : Meaning A) (S : State A) (k : Cpu) (x : Fault) (line : ℕ) → Stands plan S → Stands plan (after plan m S (event.Fault k x line))
-fault_stands plan m S k x line st = quiet_frames plan m S (event.Fault k x line) (λ y more. (more, refl)) (λ y old. at_same y S.requests S.requests refl) st
+fault_stands plan m S k x line st = quiet_frames plan m S (event.Fault k x line) (λ y more. (more, refl)) (λ y old. at_same y S.requests S.requests refl) refl refl (λ y none. inr none) st
 
 ended_cpus : {A : Type 0} (plan : Plan) (S : State A) (cpu : ℕ) (c : Callback) (o : ℕ) (v : Value) (l : Option LockRef) (r : Rank) → (do_deeds plan (release_if_any l ++ PopFrame (cpu_of cpu) ∷ end_of_step plan S r c o v) S).cpus ≡ cpus.pop S.cpus cpu
 ended_cpus plan S cpu c o v None rank.Sequence = refl
@@ -229,9 +252,20 @@ popped_frames C cpu f t once x more =
     let apart : x ≢ f = λ same. (let one : flag (f == x) ≡ 1 = ap flag (equal f x (sym same)) in let o = once x in let q : ⊥ = omega arith in q) in
     (omega arith, ap (λ (s : Option ℕ). (entry no_frame (without_frame C s) x).frame) t ∙ ap (λ (r : Running). r.frame) (entry_put_other no_frame C.frames f x no_frame apart))
 
+holds_none : (n : ℕ) → nat_lt 0 n ≡ false → n ≡ 0
+holds_none n h = grind (arith, nat_tests)
+
 pub end_stands : {A : Type 0} (plan : Plan) (m : Meaning A) (S : State A) (k : Cpu) (c : Callback) (o : Handle) (v : Value) → may plan m S (event.End k c o v) ≡ true → Once S.cpus → Places S → Stands plan S → Stands plan (after plan m S (event.End k c o v))
 end_stands plan m S k c o v h once places st =
     let d : IsEnd plan S k.0 c o v = end_tells plan m S k c o v h in
     quiet_frames plan m S (event.End k c o v)
     (subst (λ (C : Cpus). FramesSame S.cpus C) (sym (ended_cpus plan S k.0 c o.id.0 v (lock_of_callback plan c o.id.0 (declared_in plan S o.id.0)) (row_of c).rank)) (popped_frames S.cpus k.0 d.frame d.about.top once))
-    (λ x old. event_later plan S (event.End k c o v) x refl (event_fits plan m S (event.End k c o v) h) places old) st
+    (λ x old. event_later plan S (event.End k c o v) x refl (event_fits plan m S (event.End k c o v) h) places old) refl refl
+    (λ x none. elim (one_or_two x d.frame) [
+      | inl e ↦ inl (ap (held_by_call S.locks) e ∙ holds_none (held_by_call S.locks d.frame) (d.about.clean fault.ReturnHoldingLock))
+      | inr n ↦
+          let gone : on (cpus.pop S.cpus k.0) x ≡ 0 = sym (ap (λ (C : Cpus). on C x) (ended_cpus plan S k.0 c o.id.0 v (lock_of_callback plan c o.id.0 (declared_in plan S o.id.0)) (row_of c).rank)) ∙ none in
+          let count = popped (λ y. y == x) S.cpus k.0 d.frame d.about.top in
+          let other : flag (d.frame == x) ≡ 0 = ap flag (not_equal d.frame x (λ e. n (sym e))) in
+          inr (omega arith)
+    ]) st

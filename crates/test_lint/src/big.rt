@@ -3,7 +3,9 @@
 use crate::cases::{Due, answers, checked};
 use std::alloc::{AllocError, Global};
 
-const FRONT: &str = "cpus 1\nlimit 100\nobjects 16\ndevice D working\nqueue Q sequential\ndefault\non EvtIoRead\n";
+const FRONT: &str =
+    "cpus 1\nlimit 100\nobjects 16\ndevice D working\nqueue Q sequential\ndefault\non EvtIoRead\n";
+
 const BACK: &str = "end\nend\nend\n";
 
 /// The variables, each of which is 0 or 1 after its `if`.

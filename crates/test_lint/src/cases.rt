@@ -17,10 +17,6 @@ struct Case {
     due: &'static [Due],
 }
 
-const fn due(line: u32, rule: u8, path: &'static [u32]) -> Due {
-    Due { line, rule, path }
-}
-
 /// What is checked of the plan of a text, where it has one.
 pub fn checked(alloc: Global, text: &[u8]) -> Option<LintAnswer> {
     if text.len() > TEXT_LIMIT {
@@ -65,12 +61,20 @@ static CASES: [Case; 20] = [
     Case {
         what: "it is completed whatever the unmark answers",
         text: "cpus 1\nlimit 100\nobjects 16\ndevice D working\nqueue Q sequential\ndefault\non EvtIoRead\ncall m = WdfRequestMarkCancelableEx request\ncall u = WdfRequestUnmarkCancelable request\ncall WdfRequestComplete request SUCCESS\nend\non EvtRequestCancel\ncall WdfRequestComplete request CANCELLED\nend\nend\nend\n",
-        due: &[due(10, 4, &[8, 9, 10])],
+        due: &[Due {
+            line: 10,
+            rule: 4,
+            path: &[8, 9, 10],
+        }],
     },
     Case {
         what: "it is completed twice",
         text: "cpus 1\nlimit 100\nobjects 16\ndevice D working\nqueue Q sequential\ndefault\non EvtIoRead\ncall WdfRequestComplete request SUCCESS\ncall WdfRequestComplete request SUCCESS\nend\nend\nend\n",
-        due: &[due(9, 4, &[8, 9])],
+        due: &[Due {
+            line: 9,
+            rule: 4,
+            path: &[8, 9],
+        }],
     },
     Case {
         what: "a test of the mark's answer decides",
@@ -80,22 +84,38 @@ static CASES: [Case; 20] = [
     Case {
         what: "the same test the other way round doesn't",
         text: "cpus 1\nlimit 100\nobjects 16\ndevice D working\nqueue Q sequential\ndefault\non EvtIoRead\ncall m = WdfRequestMarkCancelableEx request\nif ( SUCCESS == m )\nreturn SUCCESS\nend\ncall WdfRequestComplete request m\nend\nend\nend\n",
-        due: &[due(12, 5, &[8, 9, 12])],
+        due: &[Due {
+            line: 12,
+            rule: 5,
+            path: &[8, 9, 12],
+        }],
     },
     Case {
         what: "a body runs again",
         text: "cpus 1\nlimit 100\nobjects 16\ndevice D working\nqueue Q sequential\ndefault\non EvtIoRead\nrepeat 2\ncall WdfRequestComplete request SUCCESS\nend\nend\nend\nend\n",
-        due: &[due(9, 4, &[8, 9, 8, 9])],
+        due: &[Due {
+            line: 9,
+            rule: 4,
+            path: &[8, 9, 8, 9],
+        }],
     },
     Case {
         what: "of two paths the shorter",
         text: "cpus 1\nlimit 100\nobjects 16\ndevice D working\nqueue Q sequential\ndefault\non EvtIoRead\nif length\nif code\nlet a = 1\nend\nelse\nlet a = 1\nlet b = 1\nend\nlet a = 0\ncall WdfRequestComplete a SUCCESS\nend\nend\nend\n",
-        due: &[due(17, 4, &[8, 9, 16, 17])],
+        due: &[Due {
+            line: 17,
+            rule: 4,
+            path: &[8, 9, 16, 17],
+        }],
     },
     Case {
         what: "of two paths of one length the lesser, which the first answer of the mark doesn't take",
         text: "cpus 1\nlimit 100\nobjects 16\ndevice D working\nqueue Q sequential\ndefault\non EvtIoRead\ncall m = WdfRequestMarkCancelableEx request\nif ( m == CANCELLED )\nlet a = 1\nelse\nlet a = 1\nend\ncall WdfRequestComplete a SUCCESS\nend\nend\nend\n",
-        due: &[due(14, 4, &[8, 9, 10, 14])],
+        due: &[Due {
+            line: 14,
+            rule: 4,
+            path: &[8, 9, 10, 14],
+        }],
     },
     Case {
         what: "a request that couldn't be forwarded is completed",
@@ -105,15 +125,31 @@ static CASES: [Case; 20] = [
     Case {
         what: "one that was forwarded is completed too",
         text: "cpus 1\nlimit 100\nobjects 16\ndevice D working\nqueue Q sequential\ndefault\non EvtIoRead\ncall f = WdfRequestForwardToIoQueue request R\nif ( f != INVALID_DEVICE_REQUEST )\ncall WdfRequestComplete request f\nend\nend\nend\nqueue R manual\nend\nend\n",
-        due: &[due(10, 4, &[8, 9, 10])],
+        due: &[Due {
+            line: 10,
+            rule: 4,
+            path: &[8, 9, 10],
+        }],
     },
     Case {
         what: "a lock is taken twice, its variable written, and the callback ends with it",
         text: "cpus 1\nlimit 100\nobjects 16\ndevice D working\nqueue Q sequential\ndefault\non EvtIoRead\ncall lock = GetContext device 0\ncall WdfSpinLockAcquire lock\ncall b = WdfSpinLockAcquire lock\nlet lock = 0\ncall WdfSpinLockRelease lock\nend\nend\nend\n",
         due: &[
-            due(7, 13, &[8, 9, 10, 11, 12, 7]),
-            due(10, 11, &[8, 9, 10]),
-            due(12, 12, &[8, 9, 10, 11, 12]),
+            Due {
+                line: 7,
+                rule: 13,
+                path: &[8, 9, 10, 11, 12, 7],
+            },
+            Due {
+                line: 10,
+                rule: 11,
+                path: &[8, 9, 10],
+            },
+            Due {
+                line: 12,
+                rule: 12,
+                path: &[8, 9, 10, 11, 12],
+            },
         ],
     },
     Case {
@@ -124,54 +160,142 @@ static CASES: [Case; 20] = [
     Case {
         what: "a return on the way leaves the lock",
         text: "cpus 1\nlimit 100\nobjects 16\ndevice D working\nqueue Q sequential\ndefault\non EvtIoRead\ncall lock = GetContext device 0\ncall WdfSpinLockAcquire lock\nif length\nreturn SUCCESS\nend\ncall WdfSpinLockRelease lock\nend\nend\nend\n",
-        due: &[due(11, 13, &[8, 9, 10, 11])],
+        due: &[Due {
+            line: 11,
+            rule: 13,
+            path: &[8, 9, 10, 11],
+        }],
     },
     Case {
         what: "a marked request is asked, marked again and completed",
         text: "cpus 1\nlimit 100\nobjects 16\ndevice D working\nqueue Q sequential\ndefault\non EvtIoRead\ncall m = WdfRequestMarkCancelableEx request\nif ( m == SUCCESS )\ncall c = WdfRequestIsCanceled request\ncall m = WdfRequestMarkCancelableEx request\ncall WdfRequestComplete request SUCCESS\ncall u = WdfRequestUnmarkCancelable request\nif ( u == SUCCESS )\ncall WdfRequestComplete request SUCCESS\nend\nend\nend\nend\nend\n",
         due: &[
-            due(10, 4, &[8, 9, 10]),
-            due(11, 7, &[8, 9, 10, 11]),
-            due(12, 5, &[8, 9, 10, 11, 12]),
+            Due {
+                line: 10,
+                rule: 4,
+                path: &[8, 9, 10],
+            },
+            Due {
+                line: 11,
+                rule: 7,
+                path: &[8, 9, 10, 11],
+            },
+            Due {
+                line: 12,
+                rule: 5,
+                path: &[8, 9, 10, 11, 12],
+            },
         ],
     },
     Case {
         what: "two rules at one statement, by two ways",
         text: "cpus 1\nlimit 100\nobjects 16\ndevice D working\nqueue Q sequential\ndefault\non EvtIoRead\ncall m = WdfRequestMarkCancelableEx request\nif ( m != SUCCESS )\ncall WdfRequestComplete request m\nend\ncall WdfRequestComplete request SUCCESS\nend\nend\nend\n",
-        due: &[due(12, 4, &[8, 9, 10, 12]), due(12, 5, &[8, 9, 12])],
+        due: &[
+            Due {
+                line: 12,
+                rule: 4,
+                path: &[8, 9, 10, 12],
+            },
+            Due {
+                line: 12,
+                rule: 5,
+                path: &[8, 9, 12],
+            },
+        ],
     },
     Case {
         what: "two callbacks have findings",
         text: "cpus 1\nlimit 100\nobjects 16\ndevice D working\nqueue Q sequential\ndefault\non EvtIoWrite\ncall WdfRequestRequeue request\ncall WdfRequestIsCanceled request\nend\non EvtIoRead\ncall WdfRequestRequeue request\ncall WdfRequestUnmarkCancelable request\nend\nend\nend\n",
-        due: &[due(9, 4, &[8, 9]), due(13, 4, &[12, 13])],
+        due: &[
+            Due {
+                line: 9,
+                rule: 4,
+                path: &[8, 9],
+            },
+            Due {
+                line: 13,
+                rule: 4,
+                path: &[12, 13],
+            },
+        ],
     },
     Case {
         what: "a stop is acknowledged twice, and gives the request back",
         text: "cpus 1\nlimit 100\nobjects 16\ndevice D working\nqueue Q sequential\nscope queue\ndefault\non EvtIoStop\ncall WdfRequestStopAcknowledge request 0\ncall WdfRequestStopAcknowledge request 0\ncall WdfRequestStopAcknowledge request 1\nend\nend\nend\n",
-        due: &[due(10, 8, &[9, 10]), due(11, 4, &[9, 10, 11])],
+        due: &[
+            Due {
+                line: 10,
+                rule: 8,
+                path: &[9, 10],
+            },
+            Due {
+                line: 11,
+                rule: 4,
+                path: &[9, 10, 11],
+            },
+        ],
     },
     Case {
         what: "a stop is acknowledged on a queue with no scope",
         text: "cpus 1\nlimit 100\nobjects 16\ndevice D working\nqueue Q sequential\ndefault\non EvtIoStop\nlet a = 0\ncall WdfRequestStopAcknowledge request a\ncall WdfRequestStopAcknowledge request 0\ncall WdfRequestStopAcknowledge request 0\nend\nend\nend\n",
         due: &[
-            due(9, 4, &[8, 9]),
-            due(10, 4, &[8, 9, 10]),
-            due(11, 4, &[8, 9, 10, 11]),
+            Due {
+                line: 9,
+                rule: 4,
+                path: &[8, 9],
+            },
+            Due {
+                line: 10,
+                rule: 4,
+                path: &[8, 9, 10],
+            },
+            Due {
+                line: 11,
+                rule: 4,
+                path: &[8, 9, 10, 11],
+            },
         ],
     },
     Case {
         what: "a stop is acknowledged in a plan that sends, and a sent request is asked",
         text: "cpus 1\nlimit 100\nobjects 16\ndevice D working\nqueue Q sequential\nscope queue\ndefault\non EvtIoStop\ncall WdfRequestStopAcknowledge request 0\nend\non EvtIoRead\ncall s = WdfRequestSend request Below 0\nif ( s == 0 )\ncall WdfRequestComplete request UNSUCCESSFUL\nelse\ncall WdfRequestIsCanceled request\nend\nend\nend\ntarget Below 1 SUCCESS 2\non EvtRequestCompletion\ncall WdfRequestComplete request status\nend\nend\nend\n",
-        due: &[due(9, 4, &[9]), due(16, 4, &[12, 13, 16])],
+        due: &[
+            Due {
+                line: 9,
+                rule: 4,
+                path: &[9],
+            },
+            Due {
+                line: 16,
+                rule: 4,
+                path: &[12, 13, 16],
+            },
+        ],
     },
     Case {
         what: "an interrupt's lock is taken in its service routine, given back twice, named by a variable, and kept",
         text: "cpus 1\nlimit 100\nobjects 16\ndevice D\ninterrupt Line 5\non EvtInterruptIsr\ncall WdfInterruptAcquireLock self\nend\non EvtInterruptDpc\ncall WdfInterruptAcquireLock self\ncall WdfInterruptReleaseLock Line\ncall WdfInterruptReleaseLock Line\nlet i = self\ncall WdfInterruptAcquireLock i\nend\nend\non EvtDeviceD0Entry\ncall WdfInterruptAcquireLock Line\nif length\ncall WdfInterruptReleaseLock Line\nend\nend\nend\n",
         due: &[
-            due(7, 11, &[7]),
-            due(12, 12, &[10, 11, 12]),
-            due(14, 11, &[10, 11, 12, 13, 14]),
-            due(17, 13, &[18, 19, 17]),
+            Due {
+                line: 7,
+                rule: 11,
+                path: &[7],
+            },
+            Due {
+                line: 12,
+                rule: 12,
+                path: &[10, 11, 12],
+            },
+            Due {
+                line: 14,
+                rule: 11,
+                path: &[10, 11, 12, 13, 14],
+            },
+            Due {
+                line: 17,
+                rule: 13,
+                path: &[18, 19, 17],
+            },
         ],
     },
 ];
@@ -179,6 +303,10 @@ static CASES: [Case; 20] = [
 #[test]
 fn each_text_has_the_findings_that_its_walks_have(rt: HostRuntime) {
     for case in &CASES {
-        assert!(rt; answers(checked(rt.alloc(), case.text.as_bytes()), case.due), "{}", case.what);
+        assert!(rt;
+            answers(checked(rt.alloc(), case.text.as_bytes()), case.due),
+            "{}",
+            case.what
+        );
     }
 }
