@@ -14,6 +14,8 @@ mod loads;
 #[cfg(test)]
 mod objects;
 #[cfg(test)]
+mod other_agents;
+#[cfg(test)]
 mod processors;
 #[cfg(test)]
 mod reads;

@@ -16,11 +16,13 @@ use crate::verdict::judge_input;
 use crate::words::{Form, form_of};
 use std::alloc::Global;
 use wdf_dev::AnyAgent;
+use wdf_idle::IdleAgent;
 use wdf_io::{Sink, Source};
 use wdf_output::{say, tell};
+use wdf_stack::StackAgent;
 
 /// What is written for words of no form.
-const USAGE: &[u8] = b"usage: kmdfsim check | order | seed N | run | replay | gen N | load N\n";
+const USAGE: &[u8] = b"usage: kmdfsim check | order | seed N | run | replay | gen N | load N | idle | stack\n";
 
 /// The status of words of no form.
 const USAGE_STATUS: u8 = 2;
@@ -34,7 +36,8 @@ const USAGE_STATUS: u8 = 2;
 /// `SplitMix64::seed_from_u64(N)` for picks, and takes no notice of the scenario's own. `replay` reads a scenario,
 /// a line `trace` and a trace, and writes the verdict on the trace. `gen N` reads nothing and writes the
 /// scenario that N generates. `load N` reads nothing, runs that scenario by the words of N, and writes the summary
-/// of the run. What is no form gets the usage line; so does `run`, which this call doesn't serve. Nothing else is
+/// of the run. `idle` and `stack` run as `order` does: `idle` with a policy that puts idle devices to sleep, `stack` with
+/// targets that are the queues of the device below. What is no form gets the usage line; so does `run`, which this call doesn't serve. Nothing else is
 /// written.
 ///
 /// | status | when |
@@ -82,6 +85,8 @@ fn answer<S: Source, K: Sink>(alloc: Global, form: Option<Form>, source: &mut S,
         Some(Form::Gen(number)) => tell_generated(alloc, number, sink),
         Some(Form::Replay) => judge(alloc, source, sink),
         Some(Form::Load(number)) => tell_summary(alloc, number, sink),
+        Some(Form::Idle) => run::<IdleAgent, S, K>(alloc, Picks::Listed, source, sink),
+        Some(Form::Stack) => run::<StackAgent, S, K>(alloc, Picks::Listed, source, sink),
     }
 }
 
