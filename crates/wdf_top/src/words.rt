@@ -24,6 +24,8 @@ pub enum Form {
     Idle,
     /// Write the run that they make where devices send their requests to the device below.
     Stack,
+    /// Write what the static check finds in the scenario's scripts.
+    Lint,
 }
 
 /// The form that the words after the program's name ask for, if they are one.
@@ -50,6 +52,8 @@ fn form_of_word(word: &str) -> Option<Form>
         Some(Form::Idle)
     } else if word == "stack" {
         Some(Form::Stack)
+    } else if word == "lint" {
+        Some(Form::Lint)
     } else {
         None
     }
