@@ -8,6 +8,8 @@ mod canonical;
 #[cfg(test)]
 mod faults;
 #[cfg(test)]
+mod findings;
+#[cfg(test)]
 mod generated;
 #[cfg(test)]
 mod loads;
