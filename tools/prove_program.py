@@ -5,7 +5,8 @@
 
 `./kmdfsim` calls it. It copies the crates that the program needs, by crates.txt, without their wrong bodies, and runs `rt ci`
 over the copy. The kit proves them side by side, as many at once as processors and memory allow, the longest chain first. What
-passed is kept beside the kit for the next call, and for the gate, where that folder can be written.
+passed is kept beside the kit for the next call, and for the gate, where that folder can be written. A program that the gate
+left here is taken as it is, where it is newer than all that it is made from.
 
 The standard error says how far it is: one line that changes on a terminal, else a line for each crate. Beside the program, in
 crates/kmdfsim/out, are then `sources`, the names of all files and folders that it is made from, with the time at which the
@@ -112,6 +113,14 @@ def note(paths, checksum, when):
 def is_made_of(checksum):
     """Whether the program that is there was made from sources with this checksum."""
     return os.access(os.path.join(OUT, PROGRAM), os.X_OK) and read(os.path.join(OUT, "sources.sum")).strip() == checksum
+
+
+def is_left_by_gate(paths):
+    """Whether a program is there that no call noted, and that is newer than all that it is made from."""
+    made = os.path.join(OUT, PROGRAM)
+    if not os.access(made, os.X_OK) or os.path.exists(os.path.join(OUT, "sources.sum")):
+        return False
+    return os.stat(made).st_mtime > max(os.stat(os.path.join(ROOT, path)).st_mtime for path in paths)
 
 
 def copied(room, names):
@@ -314,7 +323,7 @@ def main():
             lines = "".join(f"{name}: {' '.join(crates[name])}\n" for name in needs)
             paths = listed(needs)
             checksum = sum_of(ROOT, paths, lines)
-            if is_made_of(checksum):
+            if is_made_of(checksum) or is_left_by_gate(paths):
                 note(paths, checksum, began)
             else:
                 build(crates)

@@ -3,7 +3,8 @@
 
 What is tried: the first call proves only the crates that the program needs, and says a line for each; an unchanged call
 and one where only times changed prove nothing; a changed source, a new file and a removed one are found; where a proof
-fails or a signal comes, the end of the log is shown and no program is left in place; the wrong bodies aren't copied.
+fails or a signal comes, the end of the log is shown and no program is left in place; the wrong bodies aren't copied; what the
+gate left is taken where it is newer than the sources.
 """
 
 import os
@@ -104,6 +105,20 @@ def finds_changes(tree):
     check("and then all is as it was", tree.call()[3] == "")
 
 
+def takes_what_the_gate_left(tree):
+    out = os.path.join(tree.top, "crates/kmdfsim/out")
+    shutil.rmtree(out)
+    tree.put("crates/kmdfsim/out/kmdfsim", "#!/bin/sh\necho gate\n")
+    os.chmod(os.path.join(out, "kmdfsim"), 0o755)
+    check("the gate's program is taken", tree.call() == (0, "gate\n", "", ""))
+    shutil.rmtree(out)
+    tree.put("crates/kmdfsim/out/kmdfsim", "#!/bin/sh\necho gate\n")
+    os.chmod(os.path.join(out, "kmdfsim"), 0o755)
+    os.utime(os.path.join(tree.top, "crates/low/src/lib.rt"), (time.time() + 5, time.time() + 5))
+    check("but not where a source is newer", tree.call()[1::2] == ("two\n", "low mid kmdfsim"))
+    os.utime(os.path.join(tree.top, "crates/low/src/lib.rt"))
+
+
 def says_what_failed(tree):
     tree.put("crates/mid/src/wrong.rt", "")
     status, out, said, _ = tree.call()
@@ -130,6 +145,7 @@ def main():
         tree = Tree(top)
         proves_what_is_needed(tree)
         finds_changes(tree)
+        takes_what_the_gate_left(tree)
         says_what_failed(tree)
 
 
