@@ -1,10 +1,10 @@
 #!/usr/bin/env python3
 """A test of ./kmdfsim and tools/prove_program.py over a small made tree, with a made `rt` that proves nothing.
 
-What is tried: the first call proves only the crates that the program needs, and says a line for each; an unchanged call
-and one where only times changed prove nothing; a changed source, a new file and a removed one are found; where a proof
-fails or a signal comes, the end of the log is shown and no program is left in place; the wrong bodies aren't copied; what the
-gate left is taken where it is newer than the sources.
+The first call proves only the crates that the program needs, without their wrong bodies, and says a line for each. An
+unchanged call proves nothing, nor does one where only times changed. A changed source, a new file and a removed one are found.
+What the gate left is taken where it is newer than the sources. Where a proof fails or a signal comes, the end of the log is
+shown, nothing runs and no copy is left.
 """
 
 import os
