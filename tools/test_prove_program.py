@@ -57,17 +57,17 @@ class Tree:
         with open(path, "w", encoding="utf-8") as file:
             file.write(text)
 
-    def begin(self):
+    def begin(self, command):
         given = {**os.environ, "PATH": f"{self.top}/bin:{os.environ['PATH']}", "CALLS": self.calls, "TMPDIR": self.top}
         # A group of its own, to be sent a signal as one from a terminal.
         how = {"stdin": subprocess.DEVNULL, "stdout": subprocess.PIPE, "stderr": subprocess.PIPE, "text": True}
-        return subprocess.Popen(["./kmdfsim"], cwd=self.top, env=given, start_new_session=True, **how)
+        return subprocess.Popen([command], cwd=self.top, env=given, start_new_session=True, **how)
 
-    def call(self):
+    def call(self, command="./kmdfsim"):
         """The status, what was written and said, and which crates `rt` was called for."""
         if os.path.exists(self.calls):
             os.remove(self.calls)
-        run = self.begin()
+        run = self.begin(command)
         out, said = run.communicate(timeout=60)
         return run.returncode, out, said, self.called()
 
@@ -89,6 +89,8 @@ def proves_what_is_needed(tree):
     check("only the program's crates are proved", called == "low mid kmdfsim", called)
     check("each has its line", "kmdfsim: mid proved; " in said and "3 of 3 crates" in said, said)
     check("an unchanged call proves nothing", tree.call() == (0, "one\n", "", ""))
+    os.symlink(os.path.join(tree.top, "kmdfsim"), os.path.join(tree.top, "bin/simulate"))
+    check("nor does one by a link", tree.call("bin/simulate") == (0, "one\n", "", ""))
     os.utime(os.path.join(tree.top, "crates/low/src/lib.rt"))
     check("new times alone prove nothing", tree.call() == (0, "one\n", "", ""))
     tree.put("crates/law/src/lib.rt", "other\n")
@@ -125,7 +127,7 @@ def says_what_failed(tree):
     check("a failed proof runs nothing", (status, out) == (1, ""), status, out)
     check("the end of the log is shown", "rt: mid NOT PROVED" in said and "crates/kmdfsim/out/proving.log" in said, said)
     os.rename(os.path.join(tree.top, "crates/mid/src/wrong.rt"), os.path.join(tree.top, "crates/mid/src/slow.rt"))
-    run = tree.begin()
+    run = tree.begin("./kmdfsim")
     for _ in range(100):
         time.sleep(0.1)
         if os.path.exists(os.path.join(tree.top, "crates/kmdfsim/out/proving.log")) and tree.called().count("\n") >= 1:
