@@ -1,5 +1,5 @@
 -- What is left of findings from one of them on.
-use Rattle.std.proofs.Common.{ℕ, ◌≡◌, ◌<◌, ◌+◌, ◌++◌, zero, suc, List, [], ◌∷◌, length, drop, Some, slice_get, refl, sym, ap, ◌∙◌, arith, append_assoc}
+use Rattle.std.proofs.Common.{ℕ, ◌≡◌, ◌<◌, ◌+◌, ◌++◌, zero, suc, List, [], ◌∷◌, length, drop, Some, slice_get, refl, ap, ◌∙◌, arith, append_assoc}
 use Rattle.wdf_lint.specs.Findings.{Finding}
 use Rattle.wdf_lint_text.specs.Lines.{finding_lines, finding_text}
 

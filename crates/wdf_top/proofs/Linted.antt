@@ -1,7 +1,6 @@
 -- What the static check finds in an input's scripts, a lemma for each of the promises.
 use Rattle.std.proofs.Common.{ℕ, ◌≡◌, ◌⊎◌, inl, inr, List, [], ◌∷◌, length, Some, None, refl, sym, ◌∙◌, arith, slice_get}
 use Rattle.wdf_base.specs.declared.plan.Plan.{Plan}
-use Rattle.wdf_scene.specs.declared.scene.Scene.{Scene}
 use Rattle.wdf_lint.specs.Answers.{IsAnswer}
 use Rattle.wdf_lint.specs.Findings.{Finding, IsFinding, IsFindings, IsWalkTo, Spot}
 use Rattle.wdf_lint.specs.Steps.{breaks}

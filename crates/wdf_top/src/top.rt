@@ -23,7 +23,8 @@ use wdf_output::{say, tell};
 use wdf_stack::StackAgent;
 
 /// What is written for words of no form.
-const USAGE: &[u8] = b"usage: kmdfsim check | order | seed N | run | replay | gen N | load N | idle | stack | lint\n";
+const USAGE: &[u8] =
+    b"usage: kmdfsim check | order | seed N | run | replay | gen N | load N | idle | stack | lint\n";
 
 /// The status of words of no form.
 const USAGE_STATUS: u8 = 2;

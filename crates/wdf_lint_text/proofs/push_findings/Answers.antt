@@ -1,7 +1,5 @@
 -- One line is added.
 use Rattle.std.proofs.Common.{arith}
-use Rattle.wdf_lint.specs.Findings.{Finding}
-use Rattle.wdf_lint_text.specs.Lines.{finding_text}
 use Rattle.wdf_lint_text.proofs.Left.{line_added}
 use Rattle.wdf_lint_text.proofs.push_findings.Goals as goal
 
