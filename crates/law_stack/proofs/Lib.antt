@@ -6,6 +6,7 @@ pub mod Heard
 mod Held
 mod Levels
 mod Openings
+pub mod Served
 pub mod Requests
 mod Steps
 mod Targets

@@ -15,6 +15,7 @@ ghost use Rattle.law_machine_base.specs.OverRuns.{completes};
 ghost use Rattle.law_stack.specs.Agents.{IsStackMeaning};
 ghost use Rattle.law_stack.specs.Descents.{GoesDown, IsBelow, arrives_at};
 ghost use Rattle.law_stack.specs.Laws.{request_law};
+ghost use Rattle.wdf_stack.specs.Agents.{stack_meaning};
 
 /// Every run of a plan with the agents of the word `stack` keeps the laws on requests at each place. Each arrival by a
 /// connector belongs to a Send: there is one without an arrival whose request isn't done. Each `done` by a connector has its
@@ -33,4 +34,10 @@ pub fn each_level_completes_at_most_once<A>()
 pub fn each_level_completes_once<A>()
     ensures { (plan : Plan) (m : Meaning A) (run : List Event) (r x j : ℕ) (d : Handle) → IsRunOf plan m run → (down : GoesDown plan run r x) → arrives_at down.post d.id.0 ≡ true
         → down.place < j → slice_get run j ≡ Some (event.Destroy d) → count_by (completes x) run ≡ 1 }
+{}
+
+/// The agents of the program's word `stack` are such agents. So its runs keep the laws on requests at each place.
+pub fn runs_of_stack_go_down_and_come_up()
+    ensures agents { IsStackMeaning stack_meaning }
+    ensures requests { (plan : Plan) (run : List Event) (k : ℕ) (e : Event) → IsRunOf plan stack_meaning run → slice_get run k ≡ Some e → request_law plan (take k run) e ≡ true }
 {}
