@@ -1,2 +1,3 @@
+mod BrokenLists
 mod Ended
 pub mod StackRuns

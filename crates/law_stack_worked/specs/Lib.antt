@@ -1,3 +1,3 @@
-pub mod Writing
 pub mod Shown
 pub mod StackRuns
+pub mod Broken
