@@ -1,21 +1,31 @@
 -- The runs that were written, and how they ended.
 use Rattle.std.proofs.Common.{ℕ, ◌≡◌, inl, inr, IsTrue, List, refl, subst, ◌∙◌, arith}
+use Rattle.wdf_base.specs.declared.plan.Plan.{Plan}
+use Rattle.wdf_base.specs.declared.event.Event.{Event}
 use Rattle.wdf_base.specs.declared.event.Ending.{Ending}
 use Rattle.wdf_base.specs.declared.event.Ending.TheVariants as ending
 use Rattle.wdf_base.specs.declared.event.Fault.{Fault}
 use Rattle.wdf_model.specs.rules.Ready.{ending_of, IsRunOf}
 use Rattle.law_trace_all.proofs.Together.{all_kept}
+use Rattle.law_stack.proofs.Requests.{requests_keep}
+use Rattle.law_stack.proofs.Served.{stack_agents_are}
 use Rattle.wdf_io.specs.Outside.{Gains}
 use Rattle.wdf_plan.specs.Plans.{plan_of}
 use Rattle.wdf_output.specs.Endings.{status_of}
 use Rattle.wdf_output.specs.Said.{Sinking}
-use Rattle.wdf_serve.specs.Runs.{WroteRunTo, WroteSomeRun, is_end_status}
-use Rattle.wdf_top.specs.Agents.{RunAgents, meaning_of}
+use Rattle.wdf_serve.specs.Runs.{KeepsAgentLaws, WroteRunTo, WroteSomeRun, is_end_status}
+use Rattle.wdf_top.specs.Agents.{RunAgents, Usual, Idle, Stacked, meaning_of}
 use Rattle.wdf_top.specs.Answers.{Answers, HasPlan, Picking, Run, running}
 use Rattle.wdf_top.specs.Top.{Sourcing, IsRead, Reads, Service, Tells, TellsBy}
 use Rattle.wdf_top.proofs.Ended.{made_ends, made_runs}
 use Rattle.wdf_top.proofs.Resolving.{text_plan_resolved}
 use Rattle.wdf_top.proofs.Statuses.{differs}
+
+-- runs keep the laws of their agents
+own_kept : (a : RunAgents) (plan : Plan) (run : List Event) → IsRunOf plan (meaning_of a) run → KeepsAgentLaws a plan run
+own_kept Usual plan run runs = tt
+own_kept Idle plan run runs = tt
+own_kept Stacked plan run runs = λ k e at. requests_keep plan (meaning_of Stacked) run k e stack_agents_are runs at
 
 -- an answer to the whole input with the status of an end is a run that was written
 of_answer : (a : RunAgents) (by : Picking) (s : Sourcing) (k : Sinking) (answer : ℕ) (input text : List ℕ) (status : ℕ) → IsRead s input → Answers (running (meaning_of a) by) input text status
@@ -36,6 +46,7 @@ of_answer a by s k answer input text status is_read (inr (scene, stands, accepte
       ended = made_ends (plan_of scene) (meaning_of a) by trace.run trace.made;
       status_is = same ∙ trace.status_is;
       keeps = all_kept (plan_of scene) (meaning_of a) trace.run (text_plan_resolved input (plan_of scene) has) runs;
+      keeps_own = own_kept a (plan_of scene) trace.run runs;
       written = rw trace.text_is at gained;
       unfailed = unfailed;
     }
