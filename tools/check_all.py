@@ -24,12 +24,6 @@ from built import PROGRAM, ROOT, program_at
 
 # The name of a row, its script with arguments, and a command that it needs. P is put for the program.
 ROWS = (
-    ("sources", "tools/rules.py --check", None),
-    ("trust", "tools/trust.py --check", None),
-    ("runs", "tools/runs_to_tests.py --check", None),
-    ("editors", "tools/editors.py --check", None),
-    ("first-command", "tools/test_prove_program.py", None),
-    ("edits", "tools/wrong_bodies.py --look", None),
     ("examples", "tools/check_examples.py P 20", None),
     ("threads", "tools/run_many.py --program P 20", None),
     ("refused-growth", "tools/refuse_growth.py --program P", "gcc"),

@@ -127,14 +127,12 @@ def copied(room, names):
 
 
 def sizes(room, names):
-    """About how long each crate takes beside the others: its lines, those of definitions and lemmas for a part."""
+    """About how long each crate takes beside the others: as its lines of code, and what each check takes at least. Lines of lemmas add little."""
     found = {}
     for name in names:
-        found[name] = 500
+        found[name] = 200
         for at, _, files in os.walk(os.path.join(room, "crates", name)):
-            for file in files:
-                share = {".rt": 1.0, ".antt": 0.2}.get(os.path.splitext(file)[1], 0)
-                found[name] += share * read(os.path.join(at, file)).count("\n") if share else 0
+            found[name] += sum(read(os.path.join(at, file)).count("\n") for file in files if file.endswith(".rt"))
     return found
 
 

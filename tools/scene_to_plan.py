@@ -14,16 +14,16 @@ of wdf_model compute them. The runs of scenarios/stuck have three files of specs
 StuckSequences. They and those of scenarios/spinning are for crates/law_stuck_worked, and so
 are those of scenarios/silent, which targets never answer: of these only the specs are written here. What it writes
 =======
-    tools/scene_to_plan.py specs tools/runs/power/*.scn > crates/wdf_worked/specs/RunsOfPower.antt
-    tools/scene_to_plan.py proofs tools/runs/power/*.scn > crates/wdf_worked/proofs/RunsOfPower.antt
-    tools/scene_to_plan.py specs SCENARIOS OF scenarios/stuck > crates/wdf_blame_cases/specs/StuckObjects.antt
-    tools/scene_to_plan.py proofs scenarios/stuck/*.scn > crates/wdf_blame_cases/proofs/StuckRuns.antt
-    tools/scene_to_plan.py specs scenarios/silent/*.scn > crates/wdf_blame_cases/specs/SilentRuns.antt
+    tools/scene_to_plan.py specs tools/runs/power/*.scn > crates/law_machine_worked/specs/RunsOfPower.antt
+    tools/scene_to_plan.py proofs tools/runs/power/*.scn > crates/law_machine_worked/proofs/RunsOfPower.antt
+    tools/scene_to_plan.py specs SCENARIOS OF scenarios/stuck > crates/law_stuck_worked/specs/StuckObjects.antt
+    tools/scene_to_plan.py proofs scenarios/stuck/*.scn > crates/law_stuck_worked/proofs/StuckRuns.antt
+    tools/scene_to_plan.py specs scenarios/silent/*.scn > crates/law_stuck_worked/specs/SilentRuns.antt
 
 Each argument after the first is the path of a scenario `NAME.scn` with its trace beside it in `NAME.out`;
 NAME names the run. `specs` gives the plan, the events and the wait list of each, `proofs` that the definitions
 of wdf_model compute them. The runs of scenarios/stuck have three files of specs: StuckObjects, StuckRequests and
-StuckSequences. They and those of scenarios/spinning are for crates/wdf_blame_cases, and so
+StuckSequences. They and those of scenarios/spinning are for crates/law_stuck_worked, and so
 are those of scenarios/silent, which targets never answer: of these only the specs are written here. What it writes
 >>>>>>> 703844b2 (Scenarios that the guide links to are in scenarios/; the echo driver in C and as scenarios, with docs/FROM_C.md)
 still has to go through `rt tidy` in the crate. It serves the worked runs alone: what the program reads is read
