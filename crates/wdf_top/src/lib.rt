@@ -11,6 +11,7 @@
 //!   the first step, as all memory is.
 #![tactic(auto)]
 
+mod agents;
 mod generated;
 mod laws;
 mod load;
@@ -20,6 +21,7 @@ mod top;
 mod verdict;
 mod words;
 
+pub use agents::RunAgent;
 pub use laws::{one_trace_a_plan, plans_of_texts_are_resolved, traces_are_of_runs};
 pub use run::opening;
 pub use scenario::read_plan;

@@ -2,10 +2,12 @@
 ghost use Rattle.std.specs.Prelude.{◌≡◌, map, string_bytes};
 ghost use Rattle.wdf_io.specs.Outside.{EndsRefused};
 ghost use Rattle.wdf_output.specs.Said.{sinking};
-ghost use Rattle.wdf_top.specs.Promises.{PlainPromises};
-ghost use Rattle.wdf_top.specs.Top.{Canonical, Run, Judgement, service_of, Tells, sourcing};
+ghost use Rattle.wdf_top.specs.Answers.{By, checking, judging, running};
+ghost use Rattle.wdf_top.specs.Promises.{ServicePromises};
+ghost use Rattle.wdf_top.specs.Top.{service_of, Tells, TellsBy, sourcing};
 ghost use Rattle.wdf_top.specs.Words.{form_of_words};
 
+use crate::agents::RunAgent;
 use crate::generated::tell_generated;
 use crate::load::tell_summary;
 use crate::run::{Picks, tell_run};
@@ -13,6 +15,7 @@ use crate::scenario::{read_canonical, read_input, read_plan};
 use crate::verdict::judge_input;
 use crate::words::{Form, form_of};
 use std::alloc::Global;
+use wdf_dev::AnyAgent;
 use wdf_io::{Sink, Source};
 use wdf_output::{say, tell};
 
@@ -52,8 +55,8 @@ pub fn top_plain<S: Source, K: Sink>(
     source: &mut S,
     sink: &mut K,
 ) -> u8
-    // All that is promised of the answer; the record lists it.
-    ensures promises { PlainPromises (form_of_words (map string_bytes words.now))
+    // All that is promised of the answer to what the words ask for; the record lists it.
+    ensures promises { ServicePromises (service_of (form_of_words (map string_bytes words.now)))
         (sourcing (S.left source.old) (S.left source.new) (S.faults source.old) (S.faults source.new))
         (sinking (K.written sink.old) (K.written sink.new) (K.faults sink.old) (K.faults sink.new))
         result }
@@ -74,8 +77,8 @@ fn answer<S: Source, K: Sink>(alloc: Global, form: Option<Form>, source: &mut S,
     match form {
         None => say(sink, USAGE, USAGE_STATUS),
         Some(Form::Check) => check(alloc, source, sink),
-        Some(Form::Order) => run(alloc, Picks::Listed, source, sink),
-        Some(Form::Seed(seed)) => run(alloc, Picks::Seeded(seed), source, sink),
+        Some(Form::Order) => run::<AnyAgent, S, K>(alloc, Picks::Listed, source, sink),
+        Some(Form::Seed(seed)) => run::<AnyAgent, S, K>(alloc, Picks::Seeded(seed), source, sink),
         Some(Form::Gen(number)) => tell_generated(alloc, number, sink),
         Some(Form::Replay) => judge(alloc, source, sink),
         Some(Form::Load(number)) => tell_summary(alloc, number, sink),
@@ -84,7 +87,7 @@ fn answer<S: Source, K: Sink>(alloc: Global, form: Option<Form>, source: &mut S,
 
 /// Reads the input and writes its scene in canonical form, or says why it has no plan.
 fn check<S: Source, K: Sink>(alloc: Global, source: &mut S, sink: &mut K) -> u8
-    ensures told { Tells Canonical
+    ensures told { TellsBy checking
         (sourcing (S.left source.old) (S.left source.new) (S.faults source.old) (S.faults source.new))
         (sinking (K.written sink.old) (K.written sink.new) (K.faults sink.old) (K.faults sink.new))
         result }
@@ -96,23 +99,28 @@ fn check<S: Source, K: Sink>(alloc: Global, source: &mut S, sink: &mut K) -> u8
     }
 }
 
-/// Reads the input, runs its plan and writes the trace, or says why it can't.
-fn run<S: Source, K: Sink>(alloc: Global, picks: Picks, source: &mut S, sink: &mut K) -> u8
-    ensures told { Tells (Run picks)
+/// Reads the input, runs its plan with agents of this type and writes the trace, or says why it can't.
+fn run<A: RunAgent, S: Source, K: Sink>(
+    alloc: Global,
+    picks: Picks,
+    source: &mut S,
+    sink: &mut K,
+) -> u8
+    ensures told { TellsBy (running A.meaning (By picks))
         (sourcing (S.left source.old) (S.left source.new) (S.faults source.old) (S.faults source.new))
         (sinking (K.written sink.old) (K.written sink.new) (K.faults sink.old) (K.faults sink.new))
         result }
     ensures not_again { result ≡ 13 → EndsRefused K.refused K.faults sink.old sink.new }
 {
     match read_plan(alloc, source) {
-        Ok(plan) => tell_run(alloc, plan, picks, sink),
+        Ok(plan) => tell_run::<A, K>(alloc, plan, picks, sink),
         Err(refusal) => tell(sink, refusal),
     }
 }
 
 /// Reads the input and writes the verdict on its trace, or says why it can't.
 fn judge<S: Source, K: Sink>(alloc: Global, source: &mut S, sink: &mut K) -> u8
-    ensures told { Tells Judgement
+    ensures told { TellsBy judging
         (sourcing (S.left source.old) (S.left source.new) (S.faults source.old) (S.faults source.new))
         (sinking (K.written sink.old) (K.written sink.new) (K.faults sink.old) (K.faults sink.new))
         result }
