@@ -318,7 +318,7 @@ def build(crates):
         lines = "".join(f"{name}: {' '.join(crates[name])}\n" for name in needs)
         with open(os.path.join(room, "crates.txt"), "w", encoding="utf-8") as file:
             file.write(lines)
-        print(f"{PROGRAM}: proves the {len(needs)} crates of the program; what passed is kept, and README.md says how long it takes", file=sys.stderr, flush=True)
+        print(f"{PROGRAM}: proves the {len(needs)} crates of the program; README.md says how long it takes", file=sys.stderr, flush=True)
         status = prove(room, held.fileno(), needs)
         made = os.path.join(room, "crates", PROGRAM, "out", PROGRAM)
         if status or not os.path.exists(made):
@@ -356,7 +356,7 @@ def main():
             else:
                 build(crates)
     except (Stopped, KeyboardInterrupt):
-        print(f"\n{PROGRAM}: stopped; what passed is kept\n{end_of_log()}", file=sys.stderr)
+        print(f"\n{PROGRAM}: stopped; the next call takes what the kit has kept\n{end_of_log()}", file=sys.stderr)
         return 130
     return 0
 
