@@ -1,16 +1,13 @@
 -- What a frame is about to do, where a walk's state goes with it and breaks no rule: no fault of requests, and a step of the walk.
-use Rattle.std.proofs.Common.{if◌then◌else◌, ◌≡◌, ◌≢◌, ℕ, suc, ◌==◌, Bool, true, false, not, ◌&&◌, ◌||◌, List, [], ◌∷◌, ◌++◌, map, ◌⊎◌, inl, inr, Option, Some, None, is_none, unwrap_or, slice_get, slice_set, refl, sym, ap, subst, ◌∙◌}
-use Rattle.std.specs.Prelude.{⊤}
+use Rattle.std.proofs.Common.{◌≡◌, ℕ, Bool, true, false, not, ◌&&◌, Option, Some, None, unwrap_or, slice_get, refl, ap, subst, ◌∙◌}
 use Rattle.wdf_base.specs.declared.plan.Plan.{Plan}
 use Rattle.wdf_base.specs.declared.ids.Handle.{Handle}
 use Rattle.wdf_base.specs.declared.value.Value.{Value}
-use Rattle.wdf_base.specs.declared.value.Value.TheVariants.{Num, Obj, Stat}
-use Rattle.wdf_base.specs.declared.object.Mark.{Mark}
-use Rattle.wdf_base.specs.declared.object.Mark.TheVariants as marks
+use Rattle.wdf_base.specs.declared.value.Value.TheVariants.{Num}
 use Rattle.wdf_base.specs.declared.object.Place.{Place}
 use Rattle.wdf_base.specs.declared.object.Place.TheVariants as place
 use Rattle.wdf_base.specs.declared.call.Arg.{Arg}
-use Rattle.wdf_base.specs.declared.call.Arg.TheVariants.{Val, Class}
+use Rattle.wdf_base.specs.declared.call.Arg.TheVariants.{Val}
 use Rattle.wdf_base.specs.declared.call.Call.{Call}
 use Rattle.wdf_base.specs.declared.call.CallKind.{CallKind}
 use Rattle.wdf_base.specs.declared.call.CallKind.TheVariants as call
@@ -24,19 +21,18 @@ use Rattle.wdf_base.specs.declared.script.ExprNode.TheVariants as node
 use Rattle.wdf_base.specs.declared.script.ContextWord.TheVariants as context
 use Rattle.wdf_base.specs.Same.{same_call_kind}
 use Rattle.wdf_base.specs.Places.{is_due, is_marked, is_owned}
-use Rattle.wdf_model.specs.declared.entries.Request.{Request}
 use Rattle.wdf_model.specs.parts.Requests.{mark_of, place_of, request_of}
 use Rattle.wdf_model.specs.parts.Targets.{is_forgotten}
-use Rattle.wdf_model.specs.State.{State, held_at, is_with_driver, object_in}
+use Rattle.wdf_model.specs.State.{State, held_at, object_in}
 use Rattle.wdf_model.specs.rules.Faults.{View, arg_is, call_faults, gives_up, is_not_owned}
-use Rattle.wdf_model.specs.rules.Script.{arg_of, call_of, node_value, request_value, value_of, value_to}
+use Rattle.wdf_model.specs.rules.Script.{arg_of, node_value, request_value, value_of, value_to}
 use Rattle.wdf_model.specs.rules.Steps.{view_of}
-use Rattle.wdf_model.proofs.Tests.{both_left, either_false}
+use Rattle.wdf_model.proofs.Tests.{either_false}
 use Rattle.wdf_lint.specs.declared.state.Hold.{Hold}
 use Rattle.wdf_lint.specs.declared.state.Hold.TheVariants as hold
 use Rattle.wdf_lint.specs.declared.state.Abstract.{Abstract}
 use Rattle.wdf_lint.specs.Steps.{is_own, is_request_word, is_zero, node_of, on_request, rule_of_call, rule_of_giving, rule_of_marking, unless}
-use Rattle.law_lint.proofs.Grips.{Owned, is_armed}
+use Rattle.law_lint.proofs.Grips.{Owned}
 use Rattle.law_lint.proofs.Calls.{GripOf}
 
 -- ---- the argument

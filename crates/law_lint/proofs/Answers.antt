@@ -1,12 +1,10 @@
 -- A call that is answered is a step of the walk, by one of its ways.
-use Rattle.std.proofs.Common.{if◌then◌else◌, ◌≡◌, ◌≢◌, ℕ, zero, suc, ◌+◌, ◌==◌, Bool, true, false, not, ◌&&◌, ◌||◌, List, [], ◌∷◌, length, map, Option, Some, None, slice_get, slice_set, refl, sym, ap, subst, ◌∙◌}
-use Rattle.std.specs.Prelude.{⊤}
+use Rattle.std.proofs.Common.{◌≡◌, ℕ, zero, suc, ◌+◌, List, [], ◌∷◌, length, map, Option, Some, None, slice_get, refl, sym, ap, subst, ◌∙◌}
 use Rattle.wdf_base.specs.declared.plan.Plan.{Plan}
 use Rattle.wdf_base.specs.declared.value.Value.{Value}
 use Rattle.wdf_base.specs.declared.call.Call.{Call}
 use Rattle.wdf_base.specs.declared.call.CallKind.{CallKind}
 use Rattle.wdf_base.specs.declared.call.CallKind.TheVariants as call
-use Rattle.wdf_base.specs.declared.event.Fault.{Fault}
 use Rattle.wdf_base.specs.declared.frame.Frame.{Frame}
 use Rattle.wdf_base.specs.declared.script.Act.TheVariants as act
 use Rattle.wdf_base.specs.declared.script.ExprNode.{ExprNode}
@@ -16,7 +14,7 @@ use Rattle.wdf_model.specs.rules.Steps.{answered, with_answer}
 use Rattle.wdf_lint.specs.declared.state.Abstract.{Abstract}
 use Rattle.wdf_lint.specs.declared.state.Hold.{Hold}
 use Rattle.wdf_lint.specs.declared.state.Known.{Known}
-use Rattle.wdf_lint.specs.Abstracts.{answer, go}
+use Rattle.wdf_lint.specs.Abstracts.{answer}
 use Rattle.wdf_lint.specs.Steps.{Way, acquired, acquired_at, after_call, by_way, called, interrupt_in, node_of, released_at, rule_of_call, statement_of, steps, steps_at, variable_in, ways}
 use Rattle.wdf_lint.specs.Walks.{IsIn}
 use Rattle.law_lint.proofs.Known.{AllKnown, KnownIs, known_set}

@@ -1,6 +1,5 @@
 -- The invariant over the starts of callbacks: what a callback has of its request when it begins.
-use Rattle.std.proofs.Common.{if◌then◌else◌, ◌≡◌, ◌≢◌, ℕ, zero, suc, ◌+◌, ◌==◌, ◌<◌, ◌≤◌, nat_lt, Bool, true, false, not, ◌&&◌, ◌||◌, List, [], ◌∷◌, ◌++◌, ◌⊎◌, inl, inr, Option, Some, None, is_none, is_some, length, count_by, unwrap_or, option_map, get_or, position, replicate, slice_get, refl, sym, ap, subst, ◌∙◌, arith}
-use Rattle.std.specs.Prelude.{⊤}
+use Rattle.std.proofs.Common.{◌≡◌, ◌≢◌, ℕ, zero, suc, ◌+◌, ◌==◌, ◌<◌, ◌≤◌, Bool, true, false, ◌&&◌, List, [], ◌∷◌, inl, inr, Option, Some, None, is_none, is_some, length, unwrap_or, option_map, get_or, position, replicate, slice_get, refl, sym, ap, subst, ◌∙◌, arith}
 use Rattle.std.proofs.lemmas.List.Quantifiers.{position-Some}
 use Rattle.wdf_base.specs.Meaning.{Meaning}
 use Rattle.wdf_base.specs.declared.plan.Plan.{Plan}
@@ -22,29 +21,29 @@ use Rattle.wdf_base.specs.declared.rank.Rank.{Rank}
 use Rattle.wdf_base.specs.declared.rank.Rank.TheVariants as rank
 use Rattle.wdf_base.specs.declared.script.Script.{Script}
 use Rattle.wdf_base.specs.Callbacks.{row_of}
-use Rattle.wdf_base.specs.Plan.{is_script_of, script_of}
+use Rattle.wdf_base.specs.Plan.{is_script_of}
 use Rattle.wdf_base.specs.Same.{same_callback}
 use Rattle.wdf_base.specs.SamePlan.{same_declared}
 use Rattle.wdf_base.specs.Places.{is_done, is_due, is_marked, is_owned, is_queued_in, is_returning_to, is_sent, is_sent_to}
 use Rattle.wdf_model.specs.declared.entries.Request.{Request}
 use Rattle.wdf_model.specs.declared.entries.Running.{Running}
-use Rattle.wdf_model.specs.Ids.{cpu_of, frame_id, irql_of, object_id}
+use Rattle.wdf_model.specs.Ids.{cpu_of, frame_id, irql_of}
 use Rattle.wdf_model.specs.Tables.{flag, same_id}
 use Rattle.wdf_model.specs.Plans.{callback_irql, script_on}
 use Rattle.wdf_model.specs.parts.Cpus.{Cpus, frame_of, no_frame}
 use Rattle.wdf_model.specs.parts.Cpus as cpus
 use Rattle.wdf_model.specs.parts.Locks.{is_free_if_any, lock_of_callback}
 use Rattle.wdf_model.specs.parts.Queues.{front}
-use Rattle.wdf_model.specs.parts.Requests.{Requests, mark_at, mark_of, moved, no_request, origin_from, origin_of, place_of, request_of, with_mark}
+use Rattle.wdf_model.specs.parts.Requests.{Requests, mark_of, moved, no_request, origin_from, origin_of, place_of, request_of, with_mark}
 use Rattle.wdf_model.specs.parts.Targets.{is_forgotten}
 use Rattle.wdf_model.specs.State.{State, declared_in, declares_in, held_at, is_held_from, is_proper, is_with_driver, script_in}
 use Rattle.wdf_model.specs.declared.deed.Deed.{Deed}
 use Rattle.wdf_model.specs.declared.deed.Deed.TheVariants.{PushFrame}
-use Rattle.wdf_model.specs.rules.Deeds.{do_deed, do_deeds}
-use Rattle.wdf_model.specs.rules.Starts.{effect, effect_for, is_ready_for, level_fits, life_fits, may_start, new_frame, next_number, presents, rank_ready, rank_ready_for, start_deeds, start_effect, take_if_any}
+use Rattle.wdf_model.specs.rules.Deeds.{do_deeds}
+use Rattle.wdf_model.specs.rules.Starts.{effect, effect_for, is_ready_for, level_fits, life_fits, may_start, new_frame, next_number, presents, rank_ready, rank_ready_for, start_effect, take_if_any}
 use Rattle.wdf_model.specs.rules.Steps.{after, deeds, is_cpu, is_proper_if_any, may}
 use Rattle.wdf_model.proofs.Maps.{entry_put_other, entry_put_same}
-use Rattle.wdf_model.proofs.Counts.{equal, not_equal}
+use Rattle.wdf_model.proofs.Counts.{not_equal}
 use Rattle.wdf_model.proofs.Sames.{callback_decides}
 use Rattle.wdf_model.proofs.Tests.{both_left, both_right}
 use Rattle.law_machine_base.proofs.FitsOfEvents.{event_fits}

@@ -1,12 +1,10 @@
 -- The invariant over the calls that aren't on a callback's own request.
-use Rattle.std.proofs.Common.{if◌then◌else◌, ◌≡◌, ◌≢◌, ℕ, zero, suc, ◌+◌, ◌==◌, ◌<◌, ◌≤◌, nat_lt, Bool, true, false, not, ◌&&◌, ◌||◌, List, [], ◌∷◌, ◌++◌, ◌⊎◌, inl, inr, Option, Some, None, length, count_by, slice_get, unwrap_or, refl, sym, ap, subst, ◌∙◌, arith}
-use Rattle.std.specs.Prelude.{⊤}
+use Rattle.std.proofs.Common.{if◌then◌else◌, ◌≡◌, ℕ, ◌==◌, ◌<◌, ◌≤◌, Bool, true, false, not, ◌&&◌, List, [], ◌∷◌, ◌++◌, Option, Some, None, length, count_by, slice_get, unwrap_or, refl, sym, ap, subst, ◌∙◌, arith}
 use Rattle.std.specs.List.{flat_map, list_all}
 use Rattle.std.proofs.lemmas.Bool.{eqb-true}
 use Rattle.wdf_base.specs.Meaning.{Meaning}
 use Rattle.wdf_base.specs.declared.plan.Plan.{Plan}
 use Rattle.wdf_base.specs.declared.ids.Cpu.{Cpu}
-use Rattle.wdf_base.specs.declared.ids.Handle.{Handle}
 use Rattle.wdf_base.specs.declared.value.Value.{Value}
 use Rattle.wdf_base.specs.declared.value.Value.TheVariants.{Num}
 use Rattle.wdf_base.specs.declared.call.Arg.{Arg}
@@ -16,32 +14,26 @@ use Rattle.wdf_base.specs.Same.{same_call_kind}
 use Rattle.wdf_base.specs.declared.call.Call.{Call}
 use Rattle.wdf_base.specs.declared.call.CallKind.{CallKind}
 use Rattle.wdf_base.specs.declared.call.CallKind.TheVariants as call
-use Rattle.wdf_base.specs.declared.event.Event.{Event}
 use Rattle.wdf_base.specs.declared.event.Event.TheVariants as event
 use Rattle.wdf_base.specs.declared.frame.Frame.{Frame}
-use Rattle.wdf_base.specs.declared.frame.Pending.{Pending}
-use Rattle.wdf_base.specs.declared.frame.Intent.{Intent}
 use Rattle.wdf_base.specs.declared.frame.Intent.TheVariants as intent
-use Rattle.wdf_base.specs.declared.script.Act.{Act}
-use Rattle.wdf_base.specs.declared.script.Act.TheVariants as act
 use Rattle.wdf_base.specs.declared.script.ArgNode.{ArgNode}
 use Rattle.wdf_base.specs.declared.script.ArgNode.TheVariants as arg
 use Rattle.wdf_base.specs.declared.script.ExprNode.{ExprNode}
 use Rattle.wdf_base.specs.declared.script.ExprNode.TheVariants as node
-use Rattle.wdf_base.specs.declared.script.Statement.{Statement}
-use Rattle.wdf_model.specs.Ids.{cpu_of, frame_id, object_id}
-use Rattle.wdf_model.specs.parts.Cpus.{Cpus, all_frames, frame_of, top}
-use Rattle.wdf_model.specs.parts.Requests.{Requests, request_of}
+use Rattle.wdf_model.specs.Ids.{frame_id, object_id}
+use Rattle.wdf_model.specs.parts.Cpus.{all_frames, frame_of}
+use Rattle.wdf_model.specs.parts.Requests.{request_of}
 use Rattle.wdf_model.specs.State.{State, object_in}
 use Rattle.wdf_model.specs.declared.deed.Deed.{Deed}
 use Rattle.wdf_model.specs.declared.deed.Deed.TheVariants.{Acknowledge, GoOn}
-use Rattle.wdf_model.specs.rules.Calls.{is_met_then, origin_or_none, outcome, requeue_outcome, second_deeds, success}
+use Rattle.wdf_model.specs.rules.Calls.{origin_or_none, outcome, requeue_outcome, second_deeds, success}
 use Rattle.wdf_model.specs.rules.Deeds.{do_deed, do_deeds}
 use Rattle.wdf_model.specs.rules.Script.{arg_of, intent_of, node_value, statement_at, value_of, value_to}
 use Rattle.wdf_model.specs.rules.Faults.{arg_is}
-use Rattle.wdf_model.specs.rules.Steps.{after, answered, by_top, deeds, did_deeds, may, waiting, waiting_deeds, woke_deeds}
+use Rattle.wdf_model.specs.rules.Steps.{after, answered, deeds, did_deeds, may, woke_deeds}
 use Rattle.law_machine_base.specs.Fits.{all_fit}
-use Rattle.law_machine_base.proofs.OwnEvents.{IsDid, IsWaiting, IsWoke, did_tells, waiting_tells, woke_tells}
+use Rattle.law_machine_base.proofs.OwnEvents.{IsDid, IsWoke, did_tells, woke_tells}
 use Rattle.law_machine_base.proofs.FitsOfEvents.{by_its_top, event_fits}
 use Rattle.wdf_model.proofs.Tests.{both, both_left, both_right}
 use Rattle.law_machine_counts.proofs.StillDeeds.{all_still, none_behind, outcome_none, second_none}
@@ -50,11 +42,11 @@ use Rattle.law_machine_counts.proofs.StepStates.{fit_before, in_turn}
 use Rattle.wdf_lint.specs.declared.state.Abstract.{Abstract}
 use Rattle.wdf_lint.specs.declared.state.Hold.{Hold}
 use Rattle.wdf_lint.specs.declared.state.Known.TheVariants as known
-use Rattle.wdf_lint.specs.Steps.{Way, is_own_or_marked, is_request_word, is_zero, node_of, on_request, rule_of_acknowledging, rule_of_call, way, ways}
+use Rattle.wdf_lint.specs.Steps.{is_own_or_marked, is_request_word, is_zero, node_of, on_request, rule_of_acknowledging, rule_of_call, way, ways}
 use Rattle.wdf_lint.specs.Walks.{IsClean, IsIn, IsReached}
 use Rattle.law_lint.proofs.Acting.{calling}
 use Rattle.law_lint.proofs.Calls.{GripOf}
-use Rattle.law_lint.proofs.Grips.{Later, LaterAt}
+use Rattle.law_lint.proofs.Grips.{LaterAt}
 use Rattle.law_lint.proofs.Others.{Places, all_apart, deeds_later, event_later, is_owners, is_owners_call}
 use Rattle.law_lint.proofs.Stands.{FrameGoes, FrameStands, InHand, Stands, goes_stands, grip_later, hand_before, is_on_request, reaches, stays_later}
 use Rattle.law_lint.proofs.Events.{answered_rest, goes_on_frames, top_there, told}
@@ -164,7 +156,7 @@ plain_went plan S cpu f a c v clean st does off =
 -- what a call that is answered leaves of locks
 pub did_locked : {A : Type 0} (plan : Plan) (S : State A) (k : Cpu) (f : ℕ) (c : Call) (v : Value) (a : Abstract) (d : IsDid plan S k.0 c v) → IsClean plan → FrameStands plan S d.frame a
     → Locked S.locks (do_deeds plan (deeds plan S (event.Did k c v)) S).locks d.frame
-      (called plan (frame_of S.cpus d.frame).script a (calls plan (frame_of S.cpus d.frame) c d.about.about).kind (node_of plan (calls plan (frame_of S.cpus d.frame) c d.about.about).x))
+    (called plan (frame_of S.cpus d.frame).script a (calls plan (frame_of S.cpus d.frame) c d.about.about).kind (node_of plan (calls plan (frame_of S.cpus d.frame) c d.about.about).x))
 did_locked {A} plan S k f_ c v a d clean fs =
     let f : ℕ = d.frame in
     let frame : Frame = frame_of S.cpus f in
@@ -173,7 +165,7 @@ did_locked {A} plan S k f_ c v a d clean fs =
     let same : deeds plan S (event.Did k c v) ≡ did_deeds plan S k.0 c v f frame = by_its_top S k.0 f (did_deeds plan S k.0 c v) d.about.top in
     let rule : rule_of_call plan frame.script a s.kind (node_of plan s.x) (node_of plan s.y) ≡ None = rule_off plan S k.0 f a clean fs c s in
     let fewer : is_acquire c.kind ≡ false → (g : ℕ) → held_by_call (do_deeds plan (did_deeds plan S k.0 c v f frame) S).locks g ≤ held_by_call S.locks g =
-      λ off g. subst (λ es. held_by_call (do_deeds plan es S).locks g ≤ held_by_call S.locks g) same (event_fewer plan S (event.Did k c v) g refl off) in
+    λ off g. subst (λ es. held_by_call (do_deeds plan es S).locks g ≤ held_by_call S.locks g) same (event_fewer plan S (event.Did k c v) g refl off) in
     subst (λ es. Locked S.locks (do_deeds plan es S).locks f (called plan frame.script a s.kind (node_of plan s.x))) (sym same)
     (subst (λ q. Locked S.locks (do_deeds plan (did_deeds plan S k.0 c v f frame) S).locks f (called plan frame.script a q (node_of plan s.x))) (sym kind)
     (did_locks plan S k f frame a fs.few fs.single c.kind c.count c.a c.b c.c (node_of plan s.x) (node_of plan s.y) v (subst (λ q. rule_of_call plan frame.script a q (node_of plan s.x) (node_of plan s.y) ≡ None) kind rule) (d.about.clean fault.LockNotHeld) fewer))

@@ -1,6 +1,5 @@
 -- The invariant over events inside a frame.
-use Rattle.std.proofs.Common.{if◌then◌else◌, ◌≡◌, ◌≢◌, ℕ, zero, suc, ◌+◌, ◌==◌, ◌<◌, ◌≤◌, Bool, true, false, not, ◌&&◌, ◌||◌, List, [], ◌∷◌, ◌++◌, ◌⊎◌, inl, inr, Option, Some, None, length, count_by, find, nat_lt, refl, sym, ap, subst, ◌∙◌, arith}
-use Rattle.std.specs.List.{flat_map}
+use Rattle.std.proofs.Common.{if◌then◌else◌, ◌≡◌, ℕ, ◌==◌, ◌≤◌, Bool, true, false, ◌&&◌, ◌||◌, [], ◌∷◌, Option, Some, None, nat_lt, refl, sym, ap, subst, ◌∙◌, arith}
 use Rattle.wdf_base.specs.Meaning.{Meaning}
 use Rattle.wdf_base.specs.declared.plan.Plan.{Plan}
 use Rattle.wdf_base.specs.declared.ids.Cpu.{Cpu}
@@ -23,25 +22,22 @@ use Rattle.wdf_base.specs.Same.{same_access, same_cpu, same_event, same_option}
 use Rattle.wdf_model.specs.declared.entries.Running.{Running}
 use Rattle.wdf_model.specs.Ids.{cpu_of, frame_id}
 use Rattle.wdf_model.specs.Tables.{flag}
-use Rattle.wdf_model.specs.parts.Cpus.{Cpus, all_frames, frame_of, no_frame, running, stack_of, top}
-use Rattle.wdf_model.specs.parts.Cpus as cpus
+use Rattle.wdf_model.specs.parts.Cpus.{Cpus, frame_of, no_frame, running, top}
 use Rattle.wdf_model.specs.State.{State}
-use Rattle.wdf_model.specs.declared.deed.Deed.{Deed}
 use Rattle.wdf_model.specs.declared.deed.Deed.TheVariants.{GoOn}
 use Rattle.wdf_model.specs.rules.Calls.{is_met, is_met_then, outcome}
 use Rattle.wdf_model.specs.rules.Deeds.{counted, do_deed, do_deeds}
-use Rattle.wdf_model.specs.rules.Faults.{fault_of, holds_of}
+use Rattle.wdf_model.specs.rules.Faults.{fault_of}
 use Rattle.wdf_model.specs.rules.Script.{intent_of, statement_at}
-use Rattle.wdf_model.specs.rules.Steps.{after, answered, at_next, by_top, changed, deeds, goes_on, result_of, spending, with_answer, event_of_frame, event_of_top, fault_event, intent_event, is_own_event, may, next_event, own_event, spends, stepped, view_of}
+use Rattle.wdf_model.specs.rules.Steps.{after, answered, at_next, by_top, changed, deeds, goes_on, result_of, spending, with_answer, event_of_frame, event_of_top, fault_event, intent_event, is_own_event, may, own_event, spends, stepped, view_of}
 use Rattle.wdf_model.proofs.Maps.{entry_put_other, entry_put_same}
 use Rattle.wdf_model.proofs.Counts.{equal}
 use Rattle.law_machine_base.proofs.FitsOfEvents.{by_its_top}
-use Rattle.wdf_lint.specs.declared.state.Abstract.{Abstract}
 use Rattle.law_machine_counts.proofs.FrameMoves.{pop_on}
 use Rattle.wdf_model.proofs.Tests.{both_left, both_right}
 use Rattle.wdf_lint.specs.Steps.{steps}
 use Rattle.law_lint.proofs.Frames.{IsPlain, Went, local_goes, plain_goes, register_goes, shape}
-use Rattle.law_lint.proofs.Stands.{FrameGoes, FrameStands, Stands, inside_stands}
+use Rattle.law_lint.proofs.Stands.{FrameGoes, Stands, inside_stands}
 use Rattle.wdf_model.proofs.FrameCounts.{on}
 
 -- ---- what an own event says

@@ -1,15 +1,11 @@
 -- Where the invariant holds and the plan is clean, no frame has a fault that is about who owns a request; StopAcknowledge is for itself.
-use Rattle.std.proofs.Common.{if◌then◌else◌, ◌≡◌, ◌≢◌, ℕ, ◌==◌, ◌≤◌, Bool, true, false, not, ◌&&◌, ◌||◌, nat_le, List, [], ◌∷◌, ◌⊎◌, inl, inr, Option, Some, None, find, slice_get, refl, sym, ap, subst, ◌∙◌, arith}
-use Rattle.wdf_base.specs.Meaning.{Meaning}
+use Rattle.std.proofs.Common.{if◌then◌else◌, ◌≡◌, ℕ, ◌==◌, Bool, true, false, ◌&&◌, nat_le, List, [], ◌∷◌, Option, Some, None, find, refl, sym, ap, subst, ◌∙◌}
 use Rattle.wdf_base.specs.declared.plan.Plan.{Plan}
-use Rattle.wdf_base.specs.declared.ids.Cpu.{Cpu}
-use Rattle.wdf_base.specs.declared.ids.Handle.{Handle}
 use Rattle.wdf_base.specs.declared.value.Value.{Value}
 use Rattle.wdf_base.specs.declared.value.Value.TheVariants.{Num, Obj, Stat}
 use Rattle.wdf_base.specs.declared.call.Call.{Call}
 use Rattle.wdf_base.specs.declared.call.CallKind.{CallKind}
 use Rattle.wdf_base.specs.declared.call.CallKind.TheVariants as call
-use Rattle.wdf_base.specs.declared.event.Event.TheVariants as event
 use Rattle.wdf_base.specs.declared.event.Fault.{Fault}
 use Rattle.wdf_base.specs.declared.event.Fault.TheVariants as fault
 use Rattle.wdf_base.specs.declared.frame.Frame.{Frame}
@@ -27,7 +23,7 @@ use Rattle.wdf_model.specs.parts.Cpus.{frame_of}
 use Rattle.wdf_model.specs.parts.Requests.{request_of}
 use Rattle.wdf_model.specs.State.{State, object_in}
 use Rattle.wdf_model.specs.rules.Faults.{View, call_faults, fault_of, holds_of}
-use Rattle.wdf_model.specs.rules.Script.{REPEAT_LIMIT, SPEND_LIMIT, act_intent, again_intent, arg_of, call_of, if_intent, intent_at, intent_of, let_intent, log_intent, put_intent, repeat_intent, return_intent, spend_intent, statement_at, value_of}
+use Rattle.wdf_model.specs.rules.Script.{REPEAT_LIMIT, SPEND_LIMIT, act_intent, arg_of, call_of, if_intent, intent_at, intent_of, let_intent, log_intent, put_intent, repeat_intent, return_intent, spend_intent, statement_at, value_of}
 use Rattle.wdf_model.specs.rules.Steps.{view_of}
 use Rattle.wdf_model.proofs.Tests.{both_right}
 use Rattle.wdf_lint.specs.declared.state.Abstract.{Abstract}
@@ -36,10 +32,8 @@ use Rattle.wdf_lint.specs.declared.state.Hold.TheVariants as hold
 use Rattle.wdf_lint.specs.Steps.{breaks, is_own_or_marked, is_request_word, is_zero, node_of, rule_at, rule_of_call, statement_of}
 use Rattle.wdf_lint.specs.Walks.{IsClean}
 use Rattle.law_lint.proofs.Calls.{GripOf}
-use Rattle.law_lint.proofs.Frames.{Simulates}
-use Rattle.law_lint.proofs.Acting.{Quiet, calling, on_it, own_argument, quiet, stop_keeps, zero_argument}
-use Rattle.law_lint.proofs.Stands.{FrameStands, Stands}
-use Rattle.wdf_model.proofs.FrameCounts.{on}
+use Rattle.law_lint.proofs.Acting.{Quiet, on_it, own_argument, quiet, stop_keeps, zero_argument}
+use Rattle.law_lint.proofs.Stands.{FrameStands}
 
 -- ---- a call comes from a statement that calls
 

@@ -1,7 +1,5 @@
 -- A step of a frame is one of the steps of a walk, as far as the frame's place and variables go.
-use Rattle.std.proofs.Common.{if◌then◌else◌, ◌≡◌, ◌≢◌, ℕ, zero, suc, ◌-◌, ◌==◌, Bool, true, false, not, ◌&&◌, ◌||◌, nat_le, List, [], ◌∷◌, Option, Some, None, slice_get, slice_index_or, slice_set, ◌⊎◌, inl, inr, refl, sym, ap, subst, ◌∙◌, arith}
-use Rattle.std.specs.Prelude.{⊤}
-use Rattle.std.proofs.lemmas.Bool.{eqb-true}
+use Rattle.std.proofs.Common.{if◌then◌else◌, ◌≡◌, ◌≢◌, ℕ, ◌-◌, ◌==◌, Bool, true, false, ◌||◌, nat_le, List, [], ◌∷◌, Option, Some, None, slice_set, ◌⊎◌, inl, inr, refl, sym, ap, subst, ◌∙◌}
 use Rattle.wdf_base.specs.declared.plan.Plan.{Plan}
 use Rattle.wdf_base.specs.declared.value.Value.{Value}
 use Rattle.wdf_base.specs.declared.value.Value.TheVariants.{Num, Obj, Stat}
@@ -13,13 +11,10 @@ use Rattle.wdf_base.specs.declared.frame.Intent.TheVariants as intent
 use Rattle.wdf_base.specs.declared.script.Act.{Act}
 use Rattle.wdf_base.specs.declared.script.Act.TheVariants as act
 use Rattle.wdf_base.specs.declared.script.Statement.{Statement}
-use Rattle.wdf_model.specs.Tables.{flag}
 use Rattle.wdf_model.specs.rules.Script.{REPEAT_LIMIT, SPEND_LIMIT, act_intent, again_intent, if_intent, intent_at, intent_of, let_intent, log_intent, put_intent, repeat_intent, return_intent, runs_left, spend_intent, statement_at, value_of}
 use Rattle.wdf_model.specs.rules.Steps.{answered, at_next, goes_on, result_of, stepped, with_answer}
 use Rattle.wdf_lint.specs.declared.state.Known.{Known}
 use Rattle.wdf_lint.specs.declared.state.Known.TheVariants as known
-use Rattle.wdf_lint.specs.declared.state.Hold.{Hold}
-use Rattle.wdf_lint.specs.declared.state.HeldLock.{HeldLock}
 use Rattle.wdf_lint.specs.declared.state.Abstract.{Abstract}
 use Rattle.wdf_lint.specs.Abstracts.{assign, go, lock_after}
 use Rattle.wdf_lint.specs.Steps.{branches, decided, known_of, statement_of, steps, steps_at}

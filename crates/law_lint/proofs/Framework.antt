@@ -1,5 +1,5 @@
 -- The invariant over the events of the framework, of agents and of the clock.
-use Rattle.std.proofs.Common.{if◌then◌else◌, ◌≡◌, ◌≢◌, ℕ, ◌+◌, ◌==◌, ◌<◌, ◌≤◌, Bool, true, false, not, ◌&&◌, List, [], ◌∷◌, ◌++◌, ◌⊎◌, inl, inr, Option, Some, None, length, count_by, refl, sym, ap, subst, ◌∙◌, arith}
+use Rattle.std.proofs.Common.{◌≡◌, ℕ, ◌==◌, ◌<◌, ◌≤◌, Bool, true, false, List, [], ◌∷◌, ◌++◌, inl, inr, Option, length, count_by, refl, sym, ap, subst, ◌∙◌, arith}
 use Rattle.std.specs.List.{flat_map}
 use Rattle.wdf_base.specs.Meaning.{Meaning}
 use Rattle.wdf_base.specs.declared.plan.Plan.{Plan}
@@ -17,13 +17,12 @@ use Rattle.wdf_model.specs.Ids.{object_id}
 use Rattle.wdf_model.specs.parts.Cpus.{Cpus, all_frames, frame_of}
 use Rattle.wdf_model.specs.parts.Requests.{place_of, request_of}
 use Rattle.wdf_model.specs.State.{State, is_proper}
-use Rattle.wdf_model.specs.declared.deed.Deed.{Deed}
 use Rattle.wdf_model.specs.declared.deed.Deed.TheVariants.{AdvancePower, CompleteRequest, TakeStep}
 use Rattle.wdf_model.specs.rules.Deeds.{counted, do_deed, do_deeds}
 use Rattle.wdf_model.specs.rules.Starts.{stage_effect}
 use Rattle.wdf_model.specs.rules.Steps.{after, deeds, is_closing_with, may}
 use Rattle.law_machine_base.specs.Fits.{all_fit, fits}
-use Rattle.wdf_model.proofs.Tests.{both_left, both_right}
+use Rattle.wdf_model.proofs.Tests.{both_right}
 use Rattle.wdf_model.proofs.Counts.{one_or_two}
 use Rattle.law_machine_base.proofs.FitsOfEvents.{event_fits}
 use Rattle.law_machine_counts.proofs.StillDeeds.{all_still, post_none, stage_none}
@@ -108,7 +107,7 @@ stage_stands {A} plan m S d s i h k st =
     let T : State A = do_deed plan (TakeStep (object_id d.id.0)) S in
     let fit : all_fit plan (deeds plan S (event.Stage d s i)) S ≡ true = event_fits plan m S (event.Stage d s i) h in
     let still = deeds_still plan (AdvancePower (object_id d.id.0) (step.Pass s i) ∷ stage_effect plan d.id.0 s i) T (stage_none plan d.id.0 s i)
-      (both_right (fits plan (TakeStep (object_id d.id.0)) S) (all_fit plan (AdvancePower (object_id d.id.0) (step.Pass s i) ∷ stage_effect plan d.id.0 s i) T) fit) in
+    (both_right (fits plan (TakeStep (object_id d.id.0)) S) (all_fit plan (AdvancePower (object_id d.id.0) (step.Pass s i) ∷ stage_effect plan d.id.0 s i) T) fit) in
     quiet_event plan m S (event.Stage d s i) h refl refl
     (still_frames T (do_deeds plan (AdvancePower (object_id d.id.0) (step.Pass s i) ∷ stage_effect plan d.id.0 s i) T) still)
     (still_there T (do_deeds plan (AdvancePower (object_id d.id.0) (step.Pass s i) ∷ stage_effect plan d.id.0 s i) T) still)

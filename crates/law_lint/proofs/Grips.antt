@@ -1,11 +1,9 @@
 -- What a callback has of its request stays, whatever others do: no deed but those on the request by its owner takes it away.
-use Rattle.std.proofs.Common.{if◌then◌else◌, ◌≡◌, ◌≢◌, ℕ, ◌==◌, ◌<◌, ◌≤◌, Bool, true, false, not, ◌&&◌, ◌||◌, List, [], ◌∷◌, ◌⊎◌, inl, inr, Option, Some, None, is_some, is_none, length, count_by, map, fold, refl, sym, ap, subst, ◌∙◌, arith}
+use Rattle.std.proofs.Common.{if◌then◌else◌, ◌≡◌, ◌≢◌, ℕ, ◌==◌, ◌<◌, ◌≤◌, Bool, true, false, ◌&&◌, ◌||◌, List, [], ◌∷◌, ◌⊎◌, inl, inr, is_some, is_none, length, count_by, map, fold, refl, sym, ap, subst, arith}
 use Rattle.std.specs.Prelude.{⊤}
 use Rattle.std.proofs.lemmas.Bool.{cases_Bool}
 use Rattle.std.proofs.lemmas.List.{length-map}
 use Rattle.wdf_base.specs.declared.plan.Plan.{Plan}
-use Rattle.wdf_base.specs.declared.ids.ObjectId.{ObjectId}
-use Rattle.wdf_base.specs.declared.value.Status.{Status}
 use Rattle.wdf_base.specs.declared.value.Status.TheVariants as status
 use Rattle.wdf_base.specs.declared.object.Mark.{Mark}
 use Rattle.wdf_base.specs.declared.object.Mark.TheVariants as marks
@@ -15,7 +13,7 @@ use Rattle.wdf_base.specs.declared.object.RequestInfo.{RequestInfo}
 use Rattle.wdf_base.specs.Places.{is_closing, is_done, is_due, is_marked, is_owned, is_queued_in, is_returning_to, is_sent}
 use Rattle.wdf_model.specs.declared.enums.Mode.TheVariants as mode
 use Rattle.wdf_model.specs.declared.entries.Request.{Request}
-use Rattle.wdf_model.specs.Tables.{entry, flag, put, same_id}
+use Rattle.wdf_model.specs.Tables.{flag}
 use Rattle.wdf_model.specs.Plans.{managed_queues, queues_of}
 use Rattle.wdf_model.specs.parts.Tree.{nearest_device, next_id}
 use Rattle.wdf_model.specs.parts.Tree as tree
@@ -24,13 +22,13 @@ use Rattle.wdf_model.specs.parts.Requests as requests
 use Rattle.wdf_model.specs.parts.Queues.{waiting_in}
 use Rattle.wdf_model.specs.parts.Queues as queues
 use Rattle.wdf_model.specs.parts.Control as control
-use Rattle.wdf_model.specs.parts.Targets.{is_forgotten, is_undone, routine_due}
+use Rattle.wdf_model.specs.parts.Targets.{is_undone, routine_due}
 use Rattle.wdf_model.specs.State.{State, is_with_driver, returns_to, withdrawn_place}
 use Rattle.wdf_model.specs.declared.deed.Deed.{Deed}
 use Rattle.wdf_model.specs.declared.deed.Deed.TheVariants.{MakeRequest, Arrive, AskDeletion, EndLife, Present, Receive, Requeue, Forward, GiveBack, Withdraw, MarkRequest, UnmarkRequest, CancelRequest, TakeCancel, SendRequest, FinishSending, ComeBack, CompleteRequest, PurgeQueue, CloseReturning, CloseDevice}
-use Rattle.wdf_model.specs.rules.Deeds.{arrive_at, ask_objects, close_queue, close_returning, do_deed, do_deeds, enter_if_queued, finished_at, give_up, give_up_if, queued, withdraw}
-use Rattle.law_machine_base.specs.Fits.{all_fit, fits, is_reached}
-use Rattle.wdf_model.proofs.Tests.{both_left, both_right, either_false, itself}
+use Rattle.wdf_model.specs.rules.Deeds.{ask_objects, close_queue, close_returning, do_deed, enter_if_queued, give_up, give_up_if, queued, withdraw}
+use Rattle.law_machine_base.specs.Fits.{fits}
+use Rattle.wdf_model.proofs.Tests.{both_left, itself}
 use Rattle.wdf_model.proofs.Maps.{as_long, entry_map, entry_put_other, entry_put_same, entry_set_other, put_long, set_read}
 use Rattle.wdf_model.proofs.Counts.{count_cons, one_or_two}
 use Rattle.law_machine_base.proofs.Deletion.{asking_deletes}

@@ -1,16 +1,12 @@
 -- How many locks a frame holds by calls: what each deed and each event makes of that.
-use Rattle.std.proofs.Common.{◌≡◌, ◌≢◌, ℕ, ◌+◌, ◌==◌, ◌≤◌, Bool, true, false, not, ◌&&◌, ◌||◌, List, [], ◌∷◌, ◌++◌, Option, Some, None, filter, count_by, refl, sym, ap, subst, ◌∙◌, arith}
+use Rattle.std.proofs.Common.{◌≡◌, ◌≢◌, ℕ, ◌+◌, ◌==◌, ◌≤◌, Bool, true, false, not, ◌&&◌, ◌||◌, List, [], ◌∷◌, ◌++◌, Option, Some, None, filter, count_by, refl, sym, ap, ◌∙◌, arith}
 use Rattle.std.specs.List.{list_all, list_any}
 use Rattle.wdf_base.specs.declared.plan.Plan.{Plan}
 use Rattle.wdf_base.specs.declared.object.LockRef.{LockRef}
-use Rattle.wdf_base.specs.declared.call.CallKind.{CallKind}
-use Rattle.wdf_base.specs.declared.call.CallKind.TheVariants as call
 use Rattle.wdf_base.specs.declared.event.Event.{Event}
-use Rattle.wdf_base.specs.declared.frame.Frame.{Frame}
 use Rattle.wdf_base.specs.Same.{same_lock}
 use Rattle.wdf_model.specs.declared.entries.Held.{Held}
 use Rattle.wdf_model.specs.Tables.{flag}
-use Rattle.wdf_model.specs.Ids.{frame_id}
 use Rattle.wdf_model.specs.parts.Locks.{Locks, held_by_call, holds_by_call}
 use Rattle.wdf_model.specs.parts.Locks as locks
 use Rattle.wdf_model.specs.State.{State}
@@ -18,7 +14,7 @@ use Rattle.wdf_model.specs.declared.deed.Deed.{Deed}
 use Rattle.wdf_model.specs.declared.deed.Deed.TheVariants.{ReleaseLock, TakeLock}
 use Rattle.wdf_model.specs.rules.Deeds.{do_deed, do_deeds}
 use Rattle.wdf_model.specs.rules.Faults.{is_acquire}
-use Rattle.wdf_model.specs.rules.Starts.{release_if_any, take_if_any}
+use Rattle.wdf_model.specs.rules.Starts.{take_if_any}
 use Rattle.wdf_model.specs.rules.Steps.{deeds}
 use Rattle.wdf_model.proofs.Counts.{count_behind, count_cons, count_of_one, equal, filter_less, not_equal}
 use Rattle.wdf_model.proofs.Tests.{both_left, both_right, not_true}

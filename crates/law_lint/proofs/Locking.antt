@@ -1,36 +1,28 @@
 -- A call that is answered, and how many locks its frame holds by calls: no more than the state after it says.
-use Rattle.std.proofs.Common.{◌≡◌, ◌≢◌, ℕ, ◌+◌, ◌==◌, ◌≤◌, Bool, true, false, not, ◌&&◌, List, [], ◌∷◌, ◌++◌, Option, Some, None, refl, sym, ap, subst, ◌∙◌, arith}
+use Rattle.std.proofs.Common.{◌≡◌, ◌≢◌, ℕ, ◌+◌, ◌≤◌, true, false, Option, None, refl, sym, subst, arith}
 use Rattle.wdf_base.specs.declared.plan.Plan.{Plan}
 use Rattle.wdf_base.specs.declared.ids.Cpu.{Cpu}
 use Rattle.wdf_base.specs.declared.value.Value.{Value}
 use Rattle.wdf_base.specs.declared.call.Arg.{Arg}
-use Rattle.wdf_base.specs.declared.call.Call.{Call}
 use Rattle.wdf_base.specs.declared.call.CallKind.{CallKind}
 use Rattle.wdf_base.specs.declared.call.CallKind.TheVariants as call
-use Rattle.wdf_base.specs.declared.event.Event.TheVariants as event
 use Rattle.wdf_base.specs.declared.event.Fault.TheVariants as fault
 use Rattle.wdf_base.specs.declared.frame.Frame.{Frame}
 use Rattle.wdf_base.specs.declared.object.LockRef.{LockRef}
 use Rattle.wdf_base.specs.declared.script.ExprNode.{ExprNode}
-use Rattle.wdf_model.specs.Tables.{flag}
-use Rattle.wdf_model.specs.parts.Cpus.{frame_of, top}
 use Rattle.wdf_model.specs.parts.Locks.{Locks, held_by_call, holds_by_call, object_lock}
 use Rattle.wdf_model.specs.parts.Locks as locks
 use Rattle.wdf_model.specs.State.{State, object_in}
-use Rattle.wdf_model.specs.declared.deed.Deed.{Deed}
-use Rattle.wdf_model.specs.rules.Calls.{second_deeds}
 use Rattle.wdf_model.specs.rules.Deeds.{do_deeds}
 use Rattle.wdf_model.specs.rules.Faults.{call_faults, is_acquire, is_release}
-use Rattle.wdf_model.specs.rules.Steps.{deeds, did_deeds, view_of, woke_deeds}
-use Rattle.wdf_model.proofs.Counts.{equal, not_equal}
+use Rattle.wdf_model.specs.rules.Steps.{did_deeds, view_of, woke_deeds}
 use Rattle.wdf_model.proofs.Tests.{not_false}
-use Rattle.law_machine_base.proofs.FitsOfEvents.{by_its_top}
 use Rattle.wdf_lint.specs.declared.state.Abstract.{Abstract}
 use Rattle.wdf_lint.specs.declared.state.HeldLock.TheVariants as lock
 use Rattle.wdf_lint.specs.Steps.{called, interrupt_in, rule_of_call, variable_in}
 use Rattle.law_lint.proofs.Acting.{calling}
 use Rattle.law_lint.proofs.Weights.{Single, acquired_at_single, acquired_at_weight, acquired_single, acquired_weight, released_at_single, released_at_weight, released_weight, weight}
-use Rattle.law_lint.proofs.Holdings.{event_fewer, release_less, take_more, take_other}
+use Rattle.law_lint.proofs.Holdings.{release_less, take_more, take_other}
 
 -- what a frame and the others hold by calls, after a step of the frame to a state of this weight
 pub record Locked (K L : Locks) (f : ℕ) (b : Abstract) : Type 0 where

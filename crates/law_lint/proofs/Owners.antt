@@ -1,6 +1,5 @@
 -- The invariant over the calls by which a callback gives its own request up, or changes its mark.
-use Rattle.std.proofs.Common.{if◌then◌else◌, ◌≡◌, ◌≢◌, ℕ, zero, suc, ◌+◌, ◌==◌, ◌<◌, ◌≤◌, Bool, true, false, not, ◌&&◌, ◌||◌, List, [], ◌∷◌, ◌++◌, ◌⊎◌, inl, inr, Option, Some, None, length, append-nil, refl, sym, ap, subst, ◌∙◌, arith}
-use Rattle.std.specs.Prelude.{⊤}
+use Rattle.std.proofs.Common.{if◌then◌else◌, ◌≡◌, ◌≢◌, ℕ, ◌<◌, ◌≤◌, Bool, true, false, not, ◌||◌, List, [], ◌∷◌, ◌++◌, ◌⊎◌, inl, inr, Option, Some, None, length, append-nil, refl, sym, ap, subst, ◌∙◌, arith}
 use Rattle.wdf_base.specs.Meaning.{Meaning}
 use Rattle.wdf_base.specs.declared.plan.Plan.{Plan}
 use Rattle.wdf_base.specs.declared.ids.Cpu.{Cpu}
@@ -16,7 +15,6 @@ use Rattle.wdf_base.specs.declared.call.CallKind.TheVariants as call
 use Rattle.wdf_base.specs.declared.event.Event.TheVariants as event
 use Rattle.wdf_base.specs.declared.event.Fault.TheVariants as fault
 use Rattle.wdf_base.specs.declared.frame.Frame.{Frame}
-use Rattle.wdf_base.specs.declared.frame.Intent.TheVariants as intent
 use Rattle.wdf_base.specs.declared.script.ExprNode.{ExprNode}
 use Rattle.wdf_base.specs.Calls.{argument_count, signature_of}
 use Rattle.wdf_base.specs.Places.{is_marked}
@@ -29,9 +27,9 @@ use Rattle.wdf_model.specs.State.{State, object_in}
 use Rattle.wdf_model.specs.declared.deed.Deed.{Deed}
 use Rattle.wdf_model.specs.declared.deed.Deed.TheVariants.{Forward, GiveBack, GoOn, MarkRequest, Requeue, SendRequest}
 use Rattle.wdf_model.specs.rules.Calls.{Outcome, forwards_nowhere, may_send, number, origin_or_none, outcome, refused, second_deeds, success}
-use Rattle.wdf_model.specs.rules.Deeds.{do_deed, do_deeds}
+use Rattle.wdf_model.specs.rules.Deeds.{do_deeds}
 use Rattle.wdf_model.specs.rules.Faults.{arg_is}
-use Rattle.wdf_model.specs.rules.Script.{arg_of, intent_of, statement_at}
+use Rattle.wdf_model.specs.rules.Script.{arg_of, statement_at}
 use Rattle.wdf_model.specs.rules.Steps.{after, answered, deeds, did_deeds, may}
 use Rattle.law_machine_base.specs.Fits.{all_fit}
 use Rattle.wdf_model.proofs.Counts.{one_or_two}
@@ -42,12 +40,12 @@ use Rattle.law_machine_counts.proofs.StepStates.{fit_before, in_turn}
 use Rattle.wdf_lint.specs.declared.state.Abstract.{Abstract}
 use Rattle.wdf_lint.specs.declared.state.Hold.{Hold}
 use Rattle.wdf_lint.specs.declared.state.Hold.TheVariants as hold
-use Rattle.wdf_lint.specs.Steps.{Way, is_own_or_marked, is_request_word, node_of, on_request, rule_of_call, rule_of_giving, rule_of_marking, unless, ways}
+use Rattle.wdf_lint.specs.Steps.{Way, is_own_or_marked, is_request_word, node_of, rule_of_call, rule_of_giving, rule_of_marking, unless, ways}
 use Rattle.wdf_lint.specs.Walks.{IsClean, IsIn, IsReached}
 use Rattle.law_lint.proofs.Acting.{calling, giving_owns, marking_owns, on_it, own_argument}
 use Rattle.law_lint.proofs.Calls.{Goes, GripOf, InHand, complete_goes, forward_goes, mark_goes, requeue_goes, send_goes, unmark_marked_goes, unmark_owned_goes}
 use Rattle.law_lint.proofs.Known.{KnownIs}
-use Rattle.law_lint.proofs.Grips.{Apart, LaterAt}
+use Rattle.law_lint.proofs.Grips.{LaterAt}
 use Rattle.law_lint.proofs.Others.{AllApart, Places, deeds_later}
 use Rattle.law_lint.proofs.Spent.{StaysSpent, deeds_spent}
 use Rattle.law_lint.proofs.Sane.{AllSane, AllSaneDeeds, deeds_sane}

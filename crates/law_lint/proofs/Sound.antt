@@ -1,15 +1,12 @@
 -- In a free run of a clean plan no frame has a fault that is about who owns a request; of StopAcknowledge the first is for itself.
-use Rattle.std.proofs.Common.{if◌then◌else◌, ◌≡◌, ◌≢◌, ℕ, zero, suc, ◌+◌, ◌==◌, ◌<◌, ◌≤◌, nat_lt, Bool, true, false, not, ◌&&◌, ◌||◌, List, [], ◌∷◌, ◌++◌, ◌⊎◌, inl, inr, Option, Some, None, is_some, length, count_by, map, take, slice_get, refl, sym, ap, subst, ◌∙◌, arith}
-use Rattle.std.specs.Prelude.{⊤}
+use Rattle.std.proofs.Common.{if◌then◌else◌, ◌≡◌, ℕ, zero, suc, ◌+◌, ◌==◌, ◌<◌, ◌≤◌, nat_lt, Bool, true, false, not, ◌&&◌, ◌||◌, List, [], ◌∷◌, ◌⊎◌, inl, inr, Option, Some, None, is_some, length, map, slice_get, refl, sym, ap, subst, ◌∙◌, arith}
 use Rattle.std.specs.List.{list_all}
 use Rattle.wdf_base.specs.Meaning.{Meaning}
 use Rattle.wdf_base.specs.declared.plan.Plan.{Plan}
 use Rattle.wdf_base.specs.declared.ids.Cpu.{Cpu}
 use Rattle.wdf_base.specs.declared.ids.Handle.{Handle}
 use Rattle.wdf_base.specs.declared.value.Value.{Value}
-use Rattle.wdf_base.specs.declared.value.Status.{Status}
 use Rattle.wdf_base.specs.declared.object.Place.{Place}
-use Rattle.wdf_base.specs.declared.object.Place.TheVariants as place
 use Rattle.wdf_base.specs.declared.object.RequestForm.{RequestForm}
 use Rattle.wdf_base.specs.declared.call.Call.{Call}
 use Rattle.wdf_base.specs.declared.call.CallKind.{CallKind}
@@ -24,7 +21,7 @@ use Rattle.wdf_model.specs.Ids.{object_id}
 use Rattle.wdf_model.specs.Tables.{entry, flag}
 use Rattle.wdf_model.specs.Plans.{declared_ids, device_of, is_manual_queue, has_handler, queue_of, queue_for}
 use Rattle.wdf_model.specs.parts.Tree.{life_of}
-use Rattle.wdf_model.specs.parts.Cpus.{Cpus, frame_of, opening_cpus}
+use Rattle.wdf_model.specs.parts.Cpus.{frame_of, opening_cpus}
 use Rattle.wdf_model.specs.parts.Control.{accepts}
 use Rattle.wdf_model.specs.parts.Pnp.{no_sequence, opening_sequence}
 use Rattle.wdf_model.specs.State.{State, opening}
@@ -33,9 +30,8 @@ use Rattle.wdf_model.specs.declared.deed.Deed.TheVariants.{Arrive, CompleteReque
 use Rattle.law_machine_base.specs.Agreement.{is_step_frame}
 use Rattle.law_machine_base.specs.Fits.{all_fit, fits}
 use Rattle.wdf_model.specs.rules.Deeds.{counted, do_deed, do_deeds}
-use Rattle.wdf_model.specs.rules.Posts.{arrival_info, arrival_place, is_data, place_if_any, place_in_queue, takes_empty}
+use Rattle.wdf_model.specs.rules.Posts.{arrival_info, arrival_place, is_data, place_if_any, takes_empty}
 use Rattle.wdf_model.specs.rules.Ready.{state_after}
-use Rattle.wdf_model.specs.rules.Starts.{next_number}
 use Rattle.wdf_model.specs.rules.Steps.{after, deeds, may}
 use Rattle.wdf_model.proofs.Tests.{both, both_left, both_right}
 use Rattle.law_machine_base.proofs.FitsOfEvents.{event_fits}
@@ -52,7 +48,7 @@ use Rattle.law_machine_counts.proofs.StepTable.{event_keeps_steps, tick_keeps_st
 use Rattle.law_lint.specs.FreeRuns.{IsFreeRun, is_of_marks}
 use Rattle.wdf_lint.specs.Walks.{IsClean}
 use Rattle.law_lint.proofs.Others.{Places, is_owners, is_owners_call, is_owners_event, owners_event}
-use Rattle.law_lint.proofs.Sane.{AllSane, AllSaneDeeds, Sane, all_ask_none, deeds_sane, is_asking}
+use Rattle.law_lint.proofs.Sane.{AllSane, AllSaneDeeds, all_ask_none, deeds_sane, is_asking}
 use Rattle.law_lint.proofs.Stands.{FrameStands, Stands}
 use Rattle.std.proofs.Common.{rules}
 use Rattle.std.proofs.lemmas.Option.{slice_get_within}

@@ -1,20 +1,15 @@
 -- A request that is cancelled or completed stays so, also where its owner acts on it; and no request that is there goes.
-use Rattle.std.proofs.Common.{if◌then◌else◌, ◌≡◌, ◌≢◌, ℕ, ◌==◌, ◌<◌, ◌≤◌, Bool, true, false, not, ◌&&◌, ◌||◌, List, [], ◌∷◌, ◌⊎◌, inl, inr, length, refl, sym, ap, subst, ◌∙◌, arith}
-use Rattle.std.specs.Prelude.{⊤}
+use Rattle.std.proofs.Common.{if◌then◌else◌, ◌≡◌, ℕ, ◌<◌, ◌≤◌, Bool, true, false, ◌&&◌, List, [], ◌∷◌, inl, inr, length, refl, sym, subst, arith}
 use Rattle.wdf_base.specs.declared.plan.Plan.{Plan}
-use Rattle.wdf_base.specs.declared.object.Kind.TheVariants as kind
 use Rattle.wdf_base.specs.declared.object.Mark.{Mark}
 use Rattle.wdf_base.specs.declared.object.Mark.TheVariants as marks
 use Rattle.wdf_base.specs.declared.object.Place.{Place}
 use Rattle.wdf_base.specs.declared.object.Place.TheVariants as place
-use Rattle.wdf_base.specs.Same.{same_kind}
-use Rattle.wdf_base.specs.Places.{is_closing, is_done, is_marked, is_owned}
+use Rattle.wdf_base.specs.Places.{is_marked, is_owned}
 use Rattle.wdf_model.specs.declared.entries.Request.{Request}
-use Rattle.wdf_model.specs.parts.Tree.{kind_of}
 use Rattle.wdf_model.specs.parts.Requests.{Requests, cancelled, is_cancelled, mark_at, mark_cancelled, mark_of, marked, moved, no_request, place_of, request_of, unmarked, with_mark, with_request}
 use Rattle.wdf_model.specs.parts.Requests as requests
 use Rattle.wdf_model.specs.State.{State, withdrawn_place}
-use Rattle.wdf_model.specs.Ids.{object_id}
 use Rattle.wdf_model.specs.declared.deed.Deed.{Deed}
 use Rattle.wdf_model.specs.declared.deed.Deed.TheVariants.{CompleteRequest, Forward, GiveBack, MarkRequest, Requeue, SendRequest, UnmarkRequest}
 use Rattle.wdf_model.specs.rules.Deeds.{do_deed, do_deeds, give_up, give_up_if, queued}
@@ -24,7 +19,7 @@ use Rattle.wdf_model.proofs.Maps.{entry_put_other, entry_put_same, put_long}
 use Rattle.wdf_model.proofs.Counts.{one_or_two}
 use Rattle.law_machine_base.proofs.KeptByDeeds.{deed_keeps, owned_of, owned_undone}
 use Rattle.law_lint.proofs.Grips.{LaterAt, Spent, asked, deed_later, given_up, given_up_if}
-use Rattle.law_lint.proofs.Others.{Places, apart_of, is_owners}
+use Rattle.law_lint.proofs.Others.{Places, apart_of}
 
 -- request x stays spent, and stays
 pub record StaysSpent (x : ℕ) (R U : Requests) : Type 0 where

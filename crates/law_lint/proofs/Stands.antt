@@ -1,8 +1,6 @@
 -- The invariant of the requests' half: each frame is at a state that a walk comes to, has of its request what that says,
 -- and a request is in the hands of one frame at most.
-use Rattle.std.proofs.Common.{if◌then◌else◌, ◌≡◌, ◌≢◌, ℕ, ◌==◌, ◌<◌, ◌≤◌, Bool, true, false, not, ◌&&◌, ◌||◌, List, [], ◌∷◌, ◌++◌, ◌⊎◌, inl, inr, Option, Some, None, length, refl, sym, ap, subst, ◌∙◌, arith}
-use Rattle.std.specs.Prelude.{⊤}
-use Rattle.std.proofs.lemmas.Bool.{cases_Bool, eqb-true}
+use Rattle.std.proofs.Common.{if◌then◌else◌, ◌≡◌, ◌≢◌, ℕ, ◌==◌, ◌<◌, ◌≤◌, Bool, true, false, List, ◌∷◌, inl, inr, Some, None, length, refl, sym, ap, subst, ◌∙◌, arith}
 use Rattle.wdf_base.specs.declared.plan.Plan.{Plan}
 use Rattle.wdf_base.specs.declared.ids.Handle.{Handle}
 use Rattle.wdf_base.specs.declared.call.CallKind.{CallKind}
@@ -10,10 +8,9 @@ use Rattle.wdf_base.specs.declared.call.CallKind.TheVariants as call
 use Rattle.wdf_base.specs.declared.frame.Frame.{Frame}
 use Rattle.wdf_base.specs.declared.frame.Pending.{Pending}
 use Rattle.wdf_base.specs.declared.frame.Intent.TheVariants as intent
-use Rattle.wdf_base.specs.Places.{is_marked}
 use Rattle.wdf_model.specs.declared.entries.Request.{Request}
 use Rattle.wdf_model.specs.parts.Cpus.{frame_of}
-use Rattle.wdf_model.specs.parts.Requests.{Requests, mark_of, request_of}
+use Rattle.wdf_model.specs.parts.Requests.{Requests, request_of}
 use Rattle.wdf_model.specs.State.{State}
 use Rattle.wdf_model.specs.rules.Script.{intent_of}
 use Rattle.wdf_model.proofs.Counts.{equal, not_equal, one_or_two}
@@ -26,7 +23,7 @@ use Rattle.wdf_model.specs.rules.Faults.{is_release}
 use Rattle.law_lint.proofs.Weights.{Single, lock_weight, weight, written}
 use Rattle.wdf_model.specs.parts.Locks.{Locks, held_by_call}
 use Rattle.law_lint.proofs.Frames.{Assigned, One, Same, Simulates, Went, went_simulates}
-use Rattle.law_lint.proofs.Grips.{Cancelable, Later, LaterAt, Owned, Spent}
+use Rattle.law_lint.proofs.Grips.{Later, LaterAt}
 use Rattle.wdf_model.proofs.FrameCounts.{on}
 pub use Rattle.law_lint.proofs.Calls.{GripOf, InHand}
 

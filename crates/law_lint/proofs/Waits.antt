@@ -1,7 +1,5 @@
 -- The invariant over frames that begin to wait, leave their processor, come back, end or have a fault.
-use Rattle.std.proofs.Common.{if◌then◌else◌, ◌≡◌, ◌≢◌, ℕ, zero, suc, ◌+◌, ◌==◌, ◌<◌, ◌≤◌, nat_lt, Bool, true, false, not, ◌&&◌, ◌||◌, List, [], ◌∷◌, ◌++◌, ◌⊎◌, inl, inr, Option, Some, None, length, count_by, unwrap_or, slice_get, refl, sym, ap, subst, ◌∙◌, arith}
-use Rattle.std.specs.Prelude.{⊤}
-use Rattle.std.specs.List.{flat_map}
+use Rattle.std.proofs.Common.{if◌then◌else◌, ◌≡◌, ◌≢◌, ℕ, zero, suc, ◌==◌, ◌<◌, ◌≤◌, nat_lt, true, false, ◌&&◌, List, [], ◌∷◌, ◌++◌, ◌⊎◌, inl, inr, Option, Some, None, length, unwrap_or, slice_get, refl, sym, ap, subst, ◌∙◌, arith}
 use Rattle.wdf_base.specs.Meaning.{Meaning}
 use Rattle.wdf_base.specs.declared.plan.Plan.{Plan}
 use Rattle.wdf_base.specs.declared.ids.Cpu.{Cpu}
@@ -24,7 +22,6 @@ use Rattle.wdf_base.specs.Callbacks.{row_of}
 use Rattle.wdf_base.specs.declared.event.Fault.{Fault}
 use Rattle.wdf_base.specs.declared.frame.Frame.{Frame}
 use Rattle.wdf_base.specs.declared.frame.Pending.{Pending}
-use Rattle.wdf_base.specs.declared.frame.Intent.{Intent}
 use Rattle.wdf_base.specs.declared.frame.Intent.TheVariants as intent
 use Rattle.wdf_base.specs.declared.script.Act.{Act}
 use Rattle.wdf_base.specs.declared.script.Act.TheVariants as act
@@ -32,7 +29,6 @@ use Rattle.wdf_base.specs.declared.script.ArgNode.{ArgNode}
 use Rattle.wdf_base.specs.declared.script.ArgNode.TheVariants as arg
 use Rattle.wdf_base.specs.declared.script.ExprNode.{ExprNode}
 use Rattle.wdf_base.specs.declared.script.ExprNode.TheVariants as node
-use Rattle.wdf_base.specs.declared.script.Operator.{Operator}
 use Rattle.wdf_base.specs.declared.script.ContextWord.{ContextWord}
 use Rattle.wdf_base.specs.declared.script.ContextWord.TheVariants as context
 use Rattle.wdf_base.specs.declared.script.Statement.{Statement}
@@ -64,15 +60,13 @@ use Rattle.wdf_model.proofs.Tests.{both_left, both_right}
 use Rattle.law_machine_base.proofs.FitsOfEvents.{by_its_top, event_fits}
 use Rattle.wdf_model.proofs.FrameCounts.{on, parked_once, parks, popped, unparks}
 use Rattle.law_machine_counts.proofs.StepTable.{top_is}
-use Rattle.law_machine_counts.proofs.StillDeeds.{all_still, outcome_none}
+use Rattle.law_machine_counts.proofs.StillDeeds.{outcome_none}
 use Rattle.law_machine_counts.proofs.StepStates.{fit_before}
-use Rattle.wdf_lint.specs.declared.state.Abstract.{Abstract}
-use Rattle.wdf_lint.specs.Steps.{is_own_or_marked}
 use Rattle.wdf_lint.specs.Walks.{IsReached}
 use Rattle.law_lint.proofs.Acting.{calling}
 use Rattle.law_lint.proofs.Grips.{LaterAt, at_same}
 use Rattle.law_lint.proofs.Others.{Places, event_later, is_owners_call}
-use Rattle.law_lint.proofs.Stands.{FrameGoes, FrameStands, GripOf, InHand, Stands, fewer_stand, goes_stands, grip_later, hand_before, is_on_request, stays_later}
+use Rattle.law_lint.proofs.Stands.{FrameGoes, FrameStands, InHand, Stands, fewer_stand, goes_stands, grip_later, hand_before, is_on_request, stays_later}
 use Rattle.law_lint.proofs.Events.{top_there, told}
 use Rattle.law_lint.proofs.Frames.{Simulates}
 use Rattle.law_lint.proofs.Framework.{FramesSame}

@@ -1,7 +1,7 @@
 -- Free runs: at each event the agents may be of any meaning. So any post may come that fits, a register or a level
 -- line may show anything, what agents hear changes nothing that counts, and time may pass at any place. Events are
 -- not counted against the limit. (own)
-use Rattle.std.specs.Prelude.{◌≡◌, ◌⊎◌, ℕ, ◌+◌, Bool, true, false, List, take, Option, Some, None, slice_get}
+use Rattle.std.specs.Prelude.{◌≡◌, ◌⊎◌, ℕ, ◌+◌, Bool, true, false, List, take, Some, None, slice_get}
 use Rattle.wdf_base.specs.Meaning.{Meaning}
 use Rattle.wdf_base.specs.declared.plan.Plan.{Plan}
 use Rattle.wdf_base.specs.declared.event.Event.{Event}

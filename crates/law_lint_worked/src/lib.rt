@@ -14,7 +14,7 @@ pub fn findings_of_requests()
     ensures decided { findings_within 40 cases.decided_plan ≡ cases.decided_findings }
     ensures undecided { findings_within 40 cases.undecided_plan ≡ cases.undecided_findings }
     ensures forwards { findings_within 40 cases.forwards_plan ≡ cases.forwards_findings }
-    ensures loop { findings_within 40 cases.loop_plan ≡ cases.loop_findings }
+    ensures looping { findings_within 40 cases.loop_plan ≡ cases.loop_findings }
     ensures marked { findings_within 40 cases.marked_plan ≡ cases.marked_findings }
     ensures paths { findings_within 40 cases.paths_plan ≡ cases.paths_findings }
 {}

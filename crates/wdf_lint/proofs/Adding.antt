@@ -1,5 +1,5 @@
 -- A table to which the states are added that follow those of one path: each new state's path goes on it.
-use Rattle.std.proofs.Common.{◌≡◌, ◌≢◌, ℕ, zero, suc, ◌+◌, ◌-◌, ◌==◌, ◌<◌, ◌≤◌, Bool, true, false, ◌||◌, ◌⊎◌, inl, inr, List, [], ◌∷◌, ◌++◌, length, fold, Option, Some, None, slice_get, slice_index_or, get_or, refl, sym, ap, subst, ◌∙◌, arith}
+use Rattle.std.proofs.Common.{◌≡◌, ◌≢◌, ℕ, zero, suc, ◌+◌, ◌-◌, ◌==◌, ◌<◌, ◌≤◌, Bool, true, false, ◌||◌, inl, inr, List, [], ◌∷◌, ◌++◌, length, fold, Option, Some, None, slice_get, refl, sym, ap, subst, ◌∙◌, arith}
 use Rattle.std.specs.Prelude.{⊤}
 use Rattle.std.specs.List.{list_any}
 use Rattle.std.proofs.lemmas.Bool.Decides.{Decides-eqb}
@@ -7,9 +7,9 @@ use Rattle.std.proofs.lemmas.Option.{get_or_from_slice_get, slice_get_within}
 use Rattle.wdf_base.specs.declared.plan.Plan.{Plan}
 use Rattle.wdf_lint.specs.declared.state.Abstract.{Abstract}
 use Rattle.wdf_lint.specs.Walks.{IsIn, IsWalk, line_at, lines_of}
-use Rattle.wdf_lint.specs.Paths.{NoLater, goes_before, longer}
+use Rattle.wdf_lint.specs.Paths.{goes_before, longer}
 use Rattle.wdf_lint.specs.Searches.{Adding, IsTable, PathAt, Table, added, added_by, with_path, with_state}
-use Rattle.wdf_lint.proofs.Places.{GoesOn, as_before, before_or_not, get_last, in_last, item_at, not_both, on_by, on_from, on_itself, on_length, one_more, same_some, stays}
+use Rattle.wdf_lint.proofs.Places.{GoesOn, as_before, before_or_not, get_last, in_last, not_both, on_by, on_from, on_itself, on_length, one_more, same_some, stays}
 use Rattle.wdf_lint.proofs.PathOrder.{before_last}
 use Rattle.wdf_lint.proofs.SameState.{eq, eq_same}
 

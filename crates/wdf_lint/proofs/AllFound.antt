@@ -1,5 +1,5 @@
 -- The findings of all callbacks, put in order, are the answer.
-use Rattle.std.proofs.Common.{◌≡◌, ◌≢◌, ℕ, zero, suc, ◌+◌, ◌-◌, ◌==◌, ◌<◌, ◌≤◌, nat_lt, Bool, true, false, ◌&&◌, ◌||◌, ◌⊎◌, inl, inr, List, [], ◌∷◌, ◌++◌, length, get_or, map, Option, Some, None, option_map, slice_get, refl, sym, ap, subst, ◌∙◌, arith, Ordering, Less, Equal, Greater}
+use Rattle.std.proofs.Common.{◌≡◌, ℕ, zero, suc, ◌+◌, ◌-◌, ◌==◌, ◌<◌, ◌≤◌, nat_lt, Bool, true, false, ◌&&◌, ◌||◌, ◌⊎◌, inl, inr, List, [], ◌∷◌, ◌++◌, length, get_or, map, Option, Some, None, option_map, slice_get, refl, sym, ap, subst, ◌∙◌, arith, Ordering, Less, Equal}
 use Rattle.std.specs.Ordering.{is_lt, nat_cmp, ordering_then}
 use Rattle.std.specs.List.{sum_by}
 use Rattle.std.specs.List.Sorted.{IsPermutation}
@@ -10,15 +10,14 @@ use Rattle.std.proofs.lemmas.List.Sorted.{length_permutation, sum_by-IsPermutati
 use Rattle.std.proofs.lemmas.Option.{get_or_from_slice_get, slice_get-map, slice_get_past, slice_get_within}
 use Rattle.wdf_base.specs.declared.plan.Plan.{Plan}
 use Rattle.wdf_base.specs.declared.event.Fault.{Fault}
-use Rattle.wdf_base.specs.Plan.{script_statements, statements_of}
+use Rattle.wdf_base.specs.Plan.{script_statements}
 use Rattle.wdf_lint.specs.declared.state.Abstract.{Abstract}
 use Rattle.wdf_lint.specs.declared.findings.Found.{Found}
-use Rattle.wdf_lint.specs.declared.static_check.LintAnswer.{LintAnswer}
 use Rattle.wdf_lint.specs.declared.static_check.LintAnswer.TheVariants as answer
 use Rattle.wdf_lint.specs.Abstracts.{start}
 use Rattle.wdf_lint.specs.Steps.{breaks, rule_at, statement_of, steps, steps_at}
-use Rattle.wdf_lint.specs.Walks.{IsClean, IsIn, IsReached, IsWalk, line_of_callback}
-use Rattle.wdf_lint.specs.Findings.{Finding, IsBig, IsFinding, IsFindings, IsOfSize, IsOfStatement, IsWalkTo, STATES, Spot, comes_before, rule_number}
+use Rattle.wdf_lint.specs.Walks.{IsClean, IsReached, line_of_callback}
+use Rattle.wdf_lint.specs.Findings.{Finding, IsBig, IsFinding, IsWalkTo, STATES, Spot, comes_before, rule_number}
 use Rattle.wdf_lint.specs.Answers.{IsAnswer}
 use Rattle.wdf_lint.specs.Found.{IsAllOf, IsNoted, finding_of, spot_of}
 use Rattle.wdf_lint.proofs.Places.{before_or_not, in_both, in_moved, in_second, in_unmoved, item_at, not_both, on_by, same_some, sooner_or_there, stays}

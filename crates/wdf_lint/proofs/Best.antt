@@ -1,5 +1,5 @@
 -- The findings of a callback: of the states that break a rule at a statement the first in order has a best path.
-use Rattle.std.proofs.Common.{◌≡◌, ℕ, zero, suc, ◌+◌, ◌==◌, ◌<◌, ◌≤◌, nat_lt, Bool, true, false, ◌&&◌, ◌||◌, ◌⊎◌, inl, inr, List, [], ◌∷◌, ◌++◌, length, map, reverse, Option, Some, None, slice_get, refl, sym, ap, subst, ◌∙◌, arith}
+use Rattle.std.proofs.Common.{◌≡◌, ℕ, zero, suc, ◌+◌, ◌==◌, ◌<◌, ◌≤◌, nat_lt, Bool, true, false, ◌&&◌, ◌||◌, inl, inr, List, [], ◌∷◌, ◌++◌, length, Some, None, slice_get, refl, sym, ap, subst, ◌∙◌, arith}
 use Rattle.std.specs.List.{list_any}
 use Rattle.std.proofs.lemmas.Bool.Decides.{Decides-eqb}
 use Rattle.std.proofs.lemmas.List.{length-map, length-reverse}
@@ -9,14 +9,14 @@ use Rattle.wdf_base.specs.declared.event.Fault.{Fault}
 use Rattle.wdf_lint.specs.declared.state.Abstract.{Abstract}
 use Rattle.wdf_lint.specs.declared.findings.Found.{Found}
 use Rattle.wdf_lint.specs.Steps.{breaks}
-use Rattle.wdf_lint.specs.Walks.{IsIn, IsReached, IsWalk, line_at, line_of_callback, lines_of}
-use Rattle.wdf_lint.specs.Findings.{Finding, IsBest, IsBig, IsFinding, IsOfStatement, IsWalkTo, Spot, is_less, rule_number}
+use Rattle.wdf_lint.specs.Walks.{IsReached, line_at, lines_of}
+use Rattle.wdf_lint.specs.Findings.{IsBig, IsFinding, IsOfStatement, IsWalkTo, Spot, is_less, rule_number}
 use Rattle.wdf_lint.specs.Found.{IsAllOf, IsNoted, finding_of, spot_of}
-use Rattle.wdf_lint.specs.Paths.{NoLater, goes_before}
+use Rattle.wdf_lint.specs.Paths.{NoLater}
 use Rattle.wdf_lint.specs.Searches.{IsSearched, IsTable, PathAt, Table}
-use Rattle.wdf_lint.proofs.Places.{as_before, before_or_not, get_last, in_last, item_at, not_both, on_by, one_more, same_some, sooner_or_there, stays}
+use Rattle.wdf_lint.proofs.Places.{before_or_not, get_last, in_last, not_both, on_by, same_some, sooner_or_there, stays}
 use Rattle.wdf_lint.proofs.PathOrder.{later_then, no_less, no_shorter}
-use Rattle.wdf_lint.proofs.Searching.{not_big, path_of}
+use Rattle.wdf_lint.proofs.Searching.{not_big}
 
 -- a finding that is noted, of one of the first n states of a table: the first that breaks its rule at its statement
 pub record IsBreach (plan : Plan) (k : ℕ) (t : Table) (n : ℕ) (f : Found) : Type 0 where

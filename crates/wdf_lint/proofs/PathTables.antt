@@ -1,11 +1,11 @@
 -- What the paths of a list of ends are: each but the first is an earlier one with a line more.
-use Rattle.std.proofs.Common.{◌≡◌, ℕ, zero, suc, ◌+◌, ◌<◌, ◌≤◌, ◌⊎◌, inl, inr, List, [], ◌∷◌, ◌++◌, length, get_or, fold, reverse, Option, Some, slice_get, slice_index_or, refl, sym, ap, subst, ◌∙◌, arith}
+use Rattle.std.proofs.Common.{◌≡◌, ℕ, zero, suc, ◌+◌, ◌<◌, ◌⊎◌, inl, inr, List, [], ◌∷◌, ◌++◌, length, get_or, fold, reverse, Some, slice_get, refl, sym, ap, subst, ◌∙◌, arith}
 use Rattle.std.proofs.lemmas.List.{length-append, reverse-append}
 use Rattle.std.proofs.lemmas.List.Sums.{fold-append}
-use Rattle.std.proofs.lemmas.Option.{get_or_from_slice_get, slice_get_within}
+use Rattle.std.proofs.lemmas.Option.{get_or_from_slice_get}
 use Rattle.wdf_lint.specs.declared.paths.PathEnd.{PathEnd}
 use Rattle.wdf_lint.specs.Paths.{AreEnds, grow, longer, paths_of}
-use Rattle.wdf_lint.proofs.Places.{GoesOn, get_last, in_last, item_at, not_both, on_by, on_from, on_itself, on_length, same_some, stays}
+use Rattle.wdf_lint.proofs.Places.{GoesOn, get_last, in_last, item_at, not_both, on_by, on_from, on_itself, same_some, stays}
 
 pub paths_more : (ends : List PathEnd) (e : PathEnd) → paths_of (ends ++ e ∷ []) ≡ grow (paths_of ends) e
 unfolding paths_of

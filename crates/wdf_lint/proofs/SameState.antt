@@ -1,16 +1,12 @@
 -- The equality that the walk's table uses is that of states.
-use Rattle.std.proofs.Common.{◌==◌, nat_eq, ◌++◌, Contains, if◌then◌else◌, not, ◌≡◌, ℕ, zero, Bool, true, false, ◌&&◌, List, [], ◌∷◌, refl, sym, ap, subst, ◌∙◌, rules}
+use Rattle.std.proofs.Common.{◌==◌, nat_eq, ◌≡◌, Bool, true, false, ◌&&◌, List, [], ◌∷◌, refl, rules}
 use mathlib.Core.Bool.{beq}
 use Rattle.std.proofs.lemmas.Bool.Decides.{Decides-eqb}
 use Rattle.std.specs.Cmp.Lexicographic.{pointwise}
-use Rattle.wdf_base.specs.declared.value.Status.{Status}
 use Rattle.wdf_lint.specs.declared.state.Abstract.{Abstract}
 use Rattle.wdf_lint.specs.declared.state.Known.{Known}
-use Rattle.wdf_lint.specs.declared.state.Known.TheVariants as known
 use Rattle.wdf_lint.specs.declared.state.Hold.{Hold}
 use Rattle.wdf_lint.specs.declared.state.HeldLock.{HeldLock}
-use Rattle.wdf_lint.specs.declared.state.Hold.TheVariants as hold
-use Rattle.wdf_lint.specs.declared.state.HeldLock.TheVariants as lock
 use Rattle.wdf_lint.specs.contracts.state.AbstractPartialEq.TheImpl as impl
 use Rattle.wdf_lint.specs.contracts.state.KnownPartialEq.TheImpl as of_known
 use Rattle.wdf_lint.specs.contracts.state.HoldPartialEq.TheImpl as of_hold

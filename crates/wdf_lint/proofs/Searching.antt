@@ -1,5 +1,5 @@
 -- A search goes on, path by path; at its end it has each state that a walk comes to, by a path that isn't later.
-use Rattle.std.proofs.Common.{◌≡◌, ◌≢◌, ℕ, zero, suc, ◌+◌, ◌-◌, ◌<◌, ◌≤◌, Bool, true, false, ◌||◌, ◌⊎◌, inl, inr, List, [], ◌∷◌, ◌++◌, length, fold, get_or, map, reverse, take, drop, Option, Some, None, slice_get, refl, sym, ap, subst, ◌∙◌, arith}
+use Rattle.std.proofs.Common.{◌≡◌, ◌≢◌, ℕ, zero, suc, ◌+◌, ◌-◌, ◌<◌, ◌≤◌, Bool, true, false, ◌||◌, inl, inr, List, [], ◌∷◌, ◌++◌, length, fold, get_or, map, take, drop, Some, None, slice_get, refl, sym, ap, subst, ◌∙◌, arith}
 use Rattle.std.specs.Bool.{Decides}
 use Rattle.std.specs.Cmp.{IsEquivalence}
 use Rattle.std.specs.List.{IsDistinct, flat_map, list_any}
@@ -11,11 +11,11 @@ use Rattle.wdf_base.specs.declared.plan.Plan.{Plan}
 use Rattle.wdf_lint.specs.declared.state.Abstract.{Abstract}
 use Rattle.wdf_lint.specs.Abstracts.{start}
 use Rattle.wdf_lint.specs.Steps.{steps}
-use Rattle.wdf_lint.specs.Walks.{IsIn, IsReached, IsWalk, line_at, lines_of}
+use Rattle.wdf_lint.specs.Walks.{IsIn, IsWalk, line_at, lines_of}
 use Rattle.wdf_lint.specs.Findings.{IsBig, STATES}
 use Rattle.wdf_lint.specs.Paths.{NoLater, goes_before}
 use Rattle.wdf_lint.specs.Searches.{Adding, IsSearch, IsSearched, IsTable, PathAt, Table, added_by}
-use Rattle.wdf_lint.proofs.Places.{GoesOn, as_before, before_or_not, flat_in, in_flat, in_moved, in_range, in_unmoved, item_at, not_both, on_by, on_itself, on_length, range_in, same_some, stays}
+use Rattle.wdf_lint.proofs.Places.{as_before, before_or_not, flat_in, in_flat, in_moved, in_range, in_unmoved, item_at, not_both, on_itself, range_in, same_some, stays}
 use Rattle.wdf_lint.proofs.PathOrder.{before_more, before_then, later_more, later_then, shorter}
 use Rattle.wdf_lint.proofs.Adding.{IsAdded, IsAdding, IsNext, Rises, all_added}
 use Rattle.wdf_lint.proofs.SameState.{eq, eq_itself, eq_same}

@@ -1,5 +1,5 @@
 -- The abstract states of a callback: what a walk of its statements knows. (own)
-use Rattle.std.specs.Prelude.{if◌then◌else◌, ℕ, ◌+◌, ◌-◌, Bool, true, false, ◌==◌, List, [], replicate, Option, Some, None, is_some, option_map, unwrap_or, position, slice_get, slice_index_or, slice_set}
+use Rattle.std.specs.Prelude.{if◌then◌else◌, ℕ, ◌+◌, Bool, false, ◌==◌, [], replicate, Option, Some, None, option_map, unwrap_or, position, slice_get, slice_set}
 use Rattle.std.specs.List.{list_any}
 use Rattle.wdf_base.specs.declared.plan.Plan.{Plan}
 use Rattle.wdf_base.specs.declared.call.Callback.{Callback}
@@ -11,7 +11,6 @@ use Rattle.wdf_base.specs.declared.script.Script.{Script}
 use Rattle.wdf_base.specs.declared.script.Act.{Act}
 use Rattle.wdf_base.specs.declared.script.Act.TheVariants as act
 use Rattle.wdf_base.specs.declared.script.Statement.{Statement}
-use Rattle.wdf_base.specs.Plan.{statements_of}
 use Rattle.wdf_base.specs.Same.{same_call_kind}
 use Rattle.wdf_base.specs.SamePlan.{same_declared}
 use Rattle.wdf_lint.specs.declared.state.Abstract.{Abstract}

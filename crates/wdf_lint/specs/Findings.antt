@@ -1,5 +1,5 @@
 -- What `lint` answers: the findings of a plan, each with its path, in their order. (own)
-use Rattle.std.specs.Prelude.{◌≡◌, ◌≢◌, ◌<◌, ◌⊎◌, ℕ, ◌+◌, Bool, true, false, ◌==◌, nat_lt, ◌&&◌, ◌||◌, List, [], ◌∷◌, length, option_map, position, unwrap_or, Some, slice_get}
+use Rattle.std.specs.Prelude.{◌≡◌, ◌≢◌, ◌<◌, ◌⊎◌, ℕ, ◌+◌, Bool, true, false, ◌==◌, nat_lt, ◌&&◌, ◌||◌, List, [], ◌∷◌, length, position, unwrap_or, Some, slice_get}
 use Rattle.std.specs.List.{AllPairs}
 use Rattle.wdf_base.specs.declared.plan.Plan.{Plan}
 use Rattle.wdf_base.specs.declared.event.Fault.{Fault}

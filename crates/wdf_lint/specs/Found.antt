@@ -1,5 +1,5 @@
 -- The findings of the callbacks that were searched so far, as `lint` keeps them. (own)
-use Rattle.std.specs.Prelude.{◌≡◌, ◌<◌, ℕ, List, Some, slice_get}
+use Rattle.std.specs.Prelude.{◌≡◌, ℕ, List, Some, slice_get}
 use Rattle.wdf_base.specs.declared.plan.Plan.{Plan}
 use Rattle.wdf_base.specs.declared.event.Fault.{Fault}
 use Rattle.wdf_lint.specs.declared.state.Abstract.{Abstract}

@@ -13,15 +13,12 @@ use Rattle.wdf_base.specs.declared.declared.Scope.{Scope}
 use Rattle.wdf_base.specs.declared.declared.Scope.TheVariants as scope
 use Rattle.wdf_base.specs.declared.event.Fault.{Fault}
 use Rattle.wdf_base.specs.declared.event.Fault.TheVariants as fault
-use Rattle.wdf_base.specs.declared.script.Act.{Act}
 use Rattle.wdf_base.specs.declared.script.Act.TheVariants as act
 use Rattle.wdf_base.specs.declared.script.ArgNode.{ArgNode}
 use Rattle.wdf_base.specs.declared.script.ArgNode.TheVariants as arg
 use Rattle.wdf_base.specs.declared.script.ExprNode.{ExprNode}
 use Rattle.wdf_base.specs.declared.script.ExprNode.TheVariants as node
-use Rattle.wdf_base.specs.declared.script.ContextWord.{ContextWord}
 use Rattle.wdf_base.specs.declared.script.ContextWord.TheVariants as context
-use Rattle.wdf_base.specs.declared.script.Operator.{Operator}
 use Rattle.wdf_base.specs.declared.script.Operator.TheVariants as operator
 use Rattle.wdf_base.specs.declared.script.Statement.{Statement}
 use Rattle.wdf_base.specs.declared.rank.Owner.{Owner}
@@ -29,7 +26,7 @@ use Rattle.wdf_base.specs.declared.rank.Owner.TheVariants as owner
 use Rattle.wdf_base.specs.Callbacks.{row_of}
 use Rattle.wdf_base.specs.Plan.{statements_of}
 use Rattle.wdf_base.specs.Same.{same_kind, same_status}
-use Rattle.wdf_model.specs.Tables.{contains, without, same_id}
+use Rattle.wdf_model.specs.Tables.{contains, without}
 use Rattle.wdf_lint.specs.declared.state.Known.{Known}
 use Rattle.wdf_lint.specs.declared.state.Known.TheVariants as known
 use Rattle.wdf_lint.specs.declared.state.Hold.{Hold}

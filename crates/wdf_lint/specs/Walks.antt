@@ -1,5 +1,5 @@
 -- Walks through a callback, and when a plan is clean. (own)
-use Rattle.std.specs.Prelude.{◌≡◌, ⊤, ℕ, List, [], ◌∷◌, map, reverse, Option, Some, None, slice_get, unwrap_or, option_map}
+use Rattle.std.specs.Prelude.{◌≡◌, ℕ, List, [], ◌∷◌, map, reverse, Some, None, slice_get, unwrap_or, option_map}
 use Rattle.wdf_base.specs.declared.plan.Plan.{Plan}
 use Rattle.wdf_base.specs.declared.script.Script.{Script}
 use Rattle.wdf_model.specs.rules.Script.{line_of_statement}

@@ -1,5 +1,5 @@
 -- A search with too many states shows that the callback is too big; one at its end has all states.
-use Rattle.std.proofs.Common.{◌≡◌, ◌<◌, ◌≤◌, length, arith, rules}
+use Rattle.std.proofs.Common.{rules}
 use Rattle.wdf_lint.specs.Searches.{table_of}
 use Rattle.wdf_lint.proofs.Searching.{big, ends}
 use Rattle.wdf_lint.proofs.search.explore.Goals as goal

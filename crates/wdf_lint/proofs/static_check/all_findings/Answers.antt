@@ -1,5 +1,5 @@
 -- The findings of one callback more are put behind those of the others.
-use Rattle.std.proofs.Common.{◌≡◌, ◌<◌, ◌+◌, ◌++◌, [], length, ℕ, sym, ap, subst, ◌∙◌, arith, rules}
+use Rattle.std.proofs.Common.{◌≡◌, ◌<◌, ◌+◌, length, ℕ, sym, subst, arith}
 use Rattle.wdf_lint.specs.Found.{IsAllOf}
 use Rattle.wdf_lint.proofs.AllFound.{joined, none_found}
 use Rattle.wdf_lint.proofs.static_check.all_findings.Goals as goal

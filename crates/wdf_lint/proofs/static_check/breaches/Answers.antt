@@ -1,11 +1,9 @@
 -- A state that breaks no rule adds nothing; one that breaks a rule adds a finding, unless there is one of its statement and rule.
-use Rattle.std.proofs.Common.{◌≡◌, ◌<◌, ◌≤◌, ◌+◌, ◌++◌, ◌∷◌, [], ◌==◌, ◌&&◌, ℕ, true, false, length, None, Some, slice_get, refl, sym, ap, subst, ◌∙◌, arith, rules}
+use Rattle.std.proofs.Common.{◌≡◌, ◌<◌, ◌+◌, ◌++◌, ◌∷◌, [], ◌==◌, ◌&&◌, length, None, Some, slice_get, refl, sym, ap, subst, ◌∙◌, arith, rules}
 use Rattle.std.specs.List.{list_any}
 use Rattle.std.proofs.lemmas.Option.{slice_get_read}
 use Rattle.wdf_lint.specs.declared.findings.Found.{Found}
-use Rattle.wdf_lint.specs.Findings.{rule_number}
 use Rattle.wdf_lint.specs.Steps.{breaks, rule_at}
-use Rattle.wdf_lint.specs.Walks.{line_at}
 use Rattle.wdf_lint.specs.Searches.{PathAt, table_of}
 use Rattle.wdf_lint.proofs.Best.{AreBreaches, breaches_are_all, notes, passes, repeats}
 use Rattle.wdf_lint.proofs.static_check.breaches.Goals as goal

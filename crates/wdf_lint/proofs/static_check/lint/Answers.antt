@@ -1,5 +1,5 @@
 -- Nothing was found, or what was found is put in order.
-use Rattle.std.proofs.Common.{◌≡◌, ◌<◌, ◌≤◌, [], ℕ, length, sym, ap, subst, ◌∙◌, arith, rules}
+use Rattle.std.proofs.Common.{◌≡◌, ◌<◌, ◌≤◌, [], length, sym, subst, ◌∙◌, arith, rules}
 use Rattle.std.proofs.lemmas.List.Sorted.{answers_always}
 use Rattle.wdf_lint.specs.declared.findings.Found.{Found}
 use Rattle.wdf_lint.specs.declared.static_check.LintAnswer.TheVariants as answer

@@ -1,5 +1,5 @@
 -- The one finding is that of the size.
-use Rattle.std.proofs.Common.{◌≡◌, ◌∷◌, ◌++◌, [], List, refl, sym, ap, subst, ◌∙◌, rules, unwrap_or}
+use Rattle.std.proofs.Common.{◌≡◌, ◌∷◌, ◌++◌, [], List, refl, sym, ap, subst, ◌∙◌, unwrap_or}
 use Rattle.wdf_lint.specs.declared.findings.Found.{Found}
 use Rattle.wdf_lint.specs.Found.{IsAllOf}
 use Rattle.wdf_lint.proofs.AllFound.{size_is_all}
