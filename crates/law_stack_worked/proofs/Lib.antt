@@ -1,3 +1,4 @@
 mod BrokenLists
 mod Ended
 pub mod StackRuns
+mod LastRuns

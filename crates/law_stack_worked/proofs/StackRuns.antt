@@ -9,7 +9,7 @@ use Rattle.law_stack.specs.Laws.{keeps_stack_laws}
 use Rattle.law_stack.specs.Words.{passings, works}
 use Rattle.law_stack_worked.specs.Shown.{IsStackRun}
 use Rattle.law_stack_worked.proofs.Ended.{over}
-use Rattle.law_stack_worked.specs.StackRuns.{a_cancel_goes_down_plan, a_cancel_goes_down_events, a_made_request_goes_down_plan, a_made_request_goes_down_events, a_query_is_refused_plan, a_query_is_refused_events, a_sent_request_is_cancelled_plan, a_sent_request_is_cancelled_events, a_stopped_target_cancels_plan, a_stopped_target_cancels_events, depth_is_reached_plan, depth_is_reached_events, sleeps_and_wakes_plan, sleeps_and_wakes_events, starts_from_the_bottom_plan, starts_from_the_bottom_events, status_comes_up_plan, status_comes_up_events, the_bottom_fails_to_start_plan, the_bottom_fails_to_start_events, the_lower_device_is_gone_plan, the_lower_device_is_gone_events, the_lower_queue_is_stopped_plan, the_lower_queue_is_stopped_events, the_lower_queue_is_stopped_waits, the_middle_device_is_removed_plan, the_middle_device_is_removed_events}
+use Rattle.law_stack_worked.specs.StackRuns.{a_cancel_goes_down_plan, a_cancel_goes_down_events, a_made_request_goes_down_plan, a_made_request_goes_down_events, a_query_is_refused_plan, a_query_is_refused_events, a_sent_request_is_cancelled_plan, a_sent_request_is_cancelled_events, a_stopped_target_cancels_plan, a_stopped_target_cancels_events, depth_is_reached_plan, depth_is_reached_events, one_target_is_connected_plan, one_target_is_connected_events, sleeps_and_wakes_plan, sleeps_and_wakes_events, starts_from_the_bottom_plan, starts_from_the_bottom_events, status_comes_up_plan, status_comes_up_events, the_bottom_fails_to_start_plan, the_bottom_fails_to_start_events, the_lower_device_is_gone_plan, the_lower_device_is_gone_events, the_lower_queue_is_stopped_plan, the_lower_queue_is_stopped_events, the_lower_queue_is_stopped_waits, the_middle_device_is_removed_plan, the_middle_device_is_removed_events}
 
 pub a_cancel_goes_down : IsStackRun a_cancel_goes_down_plan a_cancel_goes_down_events ending.Finished []
 unfolding run_with value_of keeps_stack_laws passings works
@@ -55,6 +55,14 @@ pub depth_is_reached : IsStackRun depth_is_reached_plan depth_is_reached_events 
 unfolding run_with value_of keeps_stack_laws passings works
 depth_is_reached = record {
   worked = worked_with depth_is_reached_plan stack_agents 27 depth_is_reached_events ending.Finished refl refl (over ending.Finished refl);
+  stuck = refl;
+  keeps = refl;
+}
+
+pub one_target_is_connected : IsStackRun one_target_is_connected_plan one_target_is_connected_events ending.Finished []
+unfolding run_with value_of keeps_stack_laws passings works
+one_target_is_connected = record {
+  worked = worked_with one_target_is_connected_plan stack_agents 29 one_target_is_connected_events ending.Finished refl refl (over ending.Finished refl);
   stuck = refl;
   keeps = refl;
 }

@@ -594,6 +594,112 @@ depth_is_reached_events = event.Posted 1 (post.Read (h 2 2) 16) (Some (h 7 1))
     ∷ event.Destroy (h 7 1)
     ∷ []
 
+abbrev pub one_target_is_connected_plan : Plan
+one_target_is_connected_plan = record {
+  cpus = 1;
+  limit = 200;
+  objects = 32;
+  names = (codes "driver") ∷ (codes "req") ∷ (codes "D") ∷ (codes "Q") ∷ (codes "TO_F") ∷ (codes "TO_E") ∷ (codes "E") ∷ (codes "R") ∷ (codes "F") ∷ (codes "S") ∷ (codes "A") ∷ [];
+  declared = (declared.Driver)
+      ∷ (declared.Device (record { name = 2; working = true; scope = scope.Unscoped; level = level.Dispatch }))
+      ∷ (declared.Queue (record { name = 3; device = record { 0 = 2 }; dispatch = dispatch.Sequential; serves = record { rest = true; read = false; write = false; control = false }; powered = true; zero = false; scope = scope.Unscoped; level = level.Dispatch }))
+      ∷ (declared.Target (record { name = 4; device = record { 0 = 2 }; delay = 0; status = status.Success; depth = 4 }))
+      ∷ (declared.Target (record { name = 5; device = record { 0 = 2 }; delay = 3; status = status.Unsuccessful; depth = 4 }))
+      ∷ (declared.Device (record { name = 6; working = true; scope = scope.Unscoped; level = level.Dispatch }))
+      ∷ (declared.Queue (record { name = 7; device = record { 0 = 6 }; dispatch = dispatch.Sequential; serves = record { rest = true; read = false; write = false; control = false }; powered = true; zero = false; scope = scope.Unscoped; level = level.Dispatch }))
+      ∷ (declared.Device (record { name = 8; working = true; scope = scope.Unscoped; level = level.Dispatch }))
+      ∷ (declared.Queue (record { name = 9; device = record { 0 = 8 }; dispatch = dispatch.Sequential; serves = record { rest = true; read = false; write = false; control = false }; powered = true; zero = false; scope = scope.Unscoped; level = level.Dispatch }))
+      ∷ [];
+  classes = [];
+  registers = [];
+  whens = [];
+  pnp = [];
+  agents = (record { name = 10; posts = (at 42 0 (post.Read (h 2 2) 8)) ∷ (at 43 0 (post.Write (h 2 2) 8)) ∷ [] })
+      ∷ (record { name = 2; posts = [] })
+      ∷ (record { name = 6; posts = [] })
+      ∷ (record { name = 8; posts = [] })
+      ∷ (record { name = 4; posts = [] })
+      ∷ (record { name = 5; posts = [] })
+      ∷ [];
+  exprs = (node.Context context.OwnRequest) ∷ (node.Object (h 4 4)) ∷ (node.Number 0) ∷ (node.Context context.OwnRequest) ∷ (node.Object (h 5 5)) ∷ (node.Number 0) ∷ (node.Context context.OwnRequest) ∷ (node.Context context.CompletionStatus) ∷ (node.Context context.OwnRequest) ∷ (node.Context context.CompletionStatus) ∷ (node.Context context.OwnRequest) ∷ (node.Literal status.Success) ∷ (node.Context context.OwnRequest) ∷ (node.Literal status.Success) ∷ [];
+  scripts = (record {
+    callback = callback.EvtIoRead;
+    owner = declared.Queue (record { name = 3; device = record { 0 = 2 }; dispatch = dispatch.Sequential; serves = record { rest = true; read = false; write = false; control = false }; powered = true; zero = false; scope = scope.Unscoped; level = level.Dispatch });
+    line = 7;
+    statements = s 8 1 (act.Call call.WdfRequestSend (Some 0) (arg.Expression 0) (arg.Expression 1) (arg.Expression 2))
+        ∷ [];
+  })
+      ∷ (record {
+        callback = callback.EvtIoWrite;
+        owner = declared.Queue (record { name = 3; device = record { 0 = 2 }; dispatch = dispatch.Sequential; serves = record { rest = true; read = false; write = false; control = false }; powered = true; zero = false; scope = scope.Unscoped; level = level.Dispatch });
+        line = 10;
+        statements = s 11 1 (act.Call call.WdfRequestSend (Some 0) (arg.Expression 3) (arg.Expression 4) (arg.Expression 5))
+            ∷ [];
+      })
+      ∷ (record {
+        callback = callback.EvtRequestCompletion;
+        owner = declared.Target (record { name = 4; device = record { 0 = 2 }; delay = 0; status = status.Success; depth = 4 });
+        line = 15;
+        statements = s 16 1 (act.Call call.WdfRequestComplete None (arg.Expression 6) (arg.Expression 7) arg.NoArgument)
+            ∷ [];
+      })
+      ∷ (record {
+        callback = callback.EvtRequestCompletion;
+        owner = declared.Target (record { name = 5; device = record { 0 = 2 }; delay = 3; status = status.Unsuccessful; depth = 4 });
+        line = 20;
+        statements = s 21 1 (act.Call call.WdfRequestComplete None (arg.Expression 8) (arg.Expression 9) arg.NoArgument)
+            ∷ [];
+      })
+      ∷ (record {
+        callback = callback.EvtIoDefault;
+        owner = declared.Queue (record { name = 7; device = record { 0 = 6 }; dispatch = dispatch.Sequential; serves = record { rest = true; read = false; write = false; control = false }; powered = true; zero = false; scope = scope.Unscoped; level = level.Dispatch });
+        line = 28;
+        statements = s 29 1 (act.Call call.WdfRequestComplete None (arg.Expression 10) (arg.Expression 11) arg.NoArgument)
+            ∷ [];
+      })
+      ∷ (record {
+        callback = callback.EvtIoDefault;
+        owner = declared.Queue (record { name = 9; device = record { 0 = 8 }; dispatch = dispatch.Sequential; serves = record { rest = true; read = false; write = false; control = false }; powered = true; zero = false; scope = scope.Unscoped; level = level.Dispatch });
+        line = 36;
+        statements = s 37 1 (act.Call call.WdfRequestComplete None (arg.Expression 12) (arg.Expression 13) arg.NoArgument)
+            ∷ [];
+      })
+      ∷ [];
+  picks = [];
+}
+
+abbrev pub one_target_is_connected_events : List Event
+one_target_is_connected_events = event.Posted 1 (post.Read (h 2 2) 8) (Some (h 10 1))
+    ∷ event.Start (p 0) callback.EvtIoRead (h 3 3) (Some (h 10 1))
+    ∷ event.Did (p 0) (c call.WdfRequestSend 3 (Val (Obj (h 10 1))) (Val (Obj (h 4 4))) (Val (Num 0))) (Num 1)
+    ∷ event.End (p 0) callback.EvtIoRead (h 3 3) (Stat status.Success)
+    ∷ event.Posted 1 (post.Write (h 2 2) 8) (Some (h 11 1))
+    ∷ event.Posted 5 (post.Read (h 8 8) 8) (Some (h 12 1))
+    ∷ event.Start (p 0) callback.EvtIoDefault (h 9 9) (Some (h 12 1))
+    ∷ event.Did (p 0) (c call.WdfRequestComplete 2 (Val (Obj (h 12 1))) (Val (Stat status.Success)) (Val (Num 0))) (Stat status.Success)
+    ∷ event.End (p 0) callback.EvtIoDefault (h 9 9) (Stat status.Success)
+    ∷ event.Cleanup (h 12 1)
+    ∷ event.Destroy (h 12 1)
+    ∷ event.Posted 5 (post.Done (h 10 1) status.Success) None
+    ∷ event.Start (p 0) callback.EvtRequestCompletion (h 4 4) (Some (h 10 1))
+    ∷ event.Did (p 0) (c call.WdfRequestComplete 2 (Val (Obj (h 10 1))) (Val (Stat status.Success)) (Val (Num 0))) (Stat status.Success)
+    ∷ event.End (p 0) callback.EvtRequestCompletion (h 4 4) (Stat status.Success)
+    ∷ event.Start (p 0) callback.EvtIoWrite (h 3 3) (Some (h 11 1))
+    ∷ event.Did (p 0) (c call.WdfRequestSend 3 (Val (Obj (h 11 1))) (Val (Obj (h 5 5))) (Val (Num 0))) (Num 1)
+    ∷ event.End (p 0) callback.EvtIoWrite (h 3 3) (Stat status.Success)
+    ∷ event.Cleanup (h 10 1)
+    ∷ event.Destroy (h 10 1)
+    ∷ event.Tick 1
+    ∷ event.Tick 2
+    ∷ event.Tick 3
+    ∷ event.Posted 6 (post.Done (h 11 1) status.Unsuccessful) None
+    ∷ event.Start (p 0) callback.EvtRequestCompletion (h 5 5) (Some (h 11 1))
+    ∷ event.Did (p 0) (c call.WdfRequestComplete 2 (Val (Obj (h 11 1))) (Val (Stat status.Unsuccessful)) (Val (Num 0))) (Stat status.Success)
+    ∷ event.End (p 0) callback.EvtRequestCompletion (h 5 5) (Stat status.Success)
+    ∷ event.Cleanup (h 11 1)
+    ∷ event.Destroy (h 11 1)
+    ∷ []
+
 abbrev pub sleeps_and_wakes_plan : Plan
 sleeps_and_wakes_plan = record {
   cpus = 1;

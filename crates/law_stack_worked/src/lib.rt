@@ -8,8 +8,9 @@ pub mod broken;
 
 ghost use Rattle.std.specs.Prelude.{[]};
 ghost use Rattle.wdf_base.specs.declared.event.Ending.TheVariants as ending;
+ghost use Rattle.law_stack_worked.specs.LastArrival.{last_arrival_plan, last_arrival_events};
 ghost use Rattle.law_stack_worked.specs.Shown.{IsStackRun};
-ghost use Rattle.law_stack_worked.specs.StackRuns.{a_cancel_goes_down_plan, a_cancel_goes_down_events, a_made_request_goes_down_plan, a_made_request_goes_down_events, a_query_is_refused_plan, a_query_is_refused_events, a_sent_request_is_cancelled_plan, a_sent_request_is_cancelled_events, a_stopped_target_cancels_plan, a_stopped_target_cancels_events, depth_is_reached_plan, depth_is_reached_events, sleeps_and_wakes_plan, sleeps_and_wakes_events, starts_from_the_bottom_plan, starts_from_the_bottom_events, status_comes_up_plan, status_comes_up_events, the_bottom_fails_to_start_plan, the_bottom_fails_to_start_events, the_lower_device_is_gone_plan, the_lower_device_is_gone_events, the_lower_queue_is_stopped_plan, the_lower_queue_is_stopped_events, the_lower_queue_is_stopped_waits, the_middle_device_is_removed_plan, the_middle_device_is_removed_events};
+ghost use Rattle.law_stack_worked.specs.StackRuns.{a_cancel_goes_down_plan, a_cancel_goes_down_events, a_made_request_goes_down_plan, a_made_request_goes_down_events, a_query_is_refused_plan, a_query_is_refused_events, a_sent_request_is_cancelled_plan, a_sent_request_is_cancelled_events, a_stopped_target_cancels_plan, a_stopped_target_cancels_events, depth_is_reached_plan, depth_is_reached_events, one_target_is_connected_plan, one_target_is_connected_events, sleeps_and_wakes_plan, sleeps_and_wakes_events, starts_from_the_bottom_plan, starts_from_the_bottom_events, status_comes_up_plan, status_comes_up_events, the_bottom_fails_to_start_plan, the_bottom_fails_to_start_events, the_lower_device_is_gone_plan, the_lower_device_is_gone_events, the_lower_queue_is_stopped_plan, the_lower_queue_is_stopped_events, the_lower_queue_is_stopped_waits, the_middle_device_is_removed_plan, the_middle_device_is_removed_events};
 
 /// A cancel passes both connectors of a chain of three, and the status comes up.
 pub fn a_cancel_goes_down()
@@ -39,6 +40,11 @@ pub fn a_stopped_target_cancels()
 /// A target that holds as many as its depth takes no more.
 pub fn depth_is_reached()
     ensures { IsStackRun depth_is_reached_plan depth_is_reached_events ending.Finished [] }
+{}
+
+/// Only the first target of a device that names one is connected; the other one keeps its delay and its status.
+pub fn one_target_is_connected()
+    ensures { IsStackRun one_target_is_connected_plan one_target_is_connected_events ending.Finished [] }
 {}
 
 /// A sleep goes from the top down and a wake from the bottom up, and a request waits meanwhile.
@@ -74,4 +80,10 @@ pub fn the_lower_queue_is_stopped()
 /// A removal of the middle device removes the whole chain, from the top down.
 pub fn the_middle_device_is_removed()
     ensures { IsStackRun the_middle_device_is_removed_plan the_middle_device_is_removed_events ending.Finished [] }
+{}
+
+/// The last arrival that there is room for comes, and the next request is done with INSUFFICIENT_RESOURCES. The plan is a
+/// record: its app has 4,095 lines of requests.
+pub fn last_arrival()
+    ensures { IsStackRun last_arrival_plan last_arrival_events ending.Limit [] }
 {}
