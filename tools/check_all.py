@@ -28,6 +28,7 @@ ROWS = (
     ("threads", "tools/run_many.py --program P 20", None),
     ("refused-growth", "tools/refuse_growth.py --program P", "gcc"),
     ("hostile", "tools/hostile.py --program P 1 20", None),
+    ("lint", "tools/lint_search.py --program P --scenarios 20 --seeds 20", None),
     ("browser", "tools/view_in_browser.py P", "node"),
 )
 LONG = (("wrong-bodies", "tools/wrong_bodies.py", "rt"),)

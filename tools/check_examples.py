@@ -3,7 +3,7 @@
 
     python3 tools/check_examples.py [PROGRAM [SEEDS]]
 
-In docs/SCENARIO.md, docs/FROM_C.md and README.md a fenced block `kmdf` is a whole scenario; `kmdf blocks`, `kmdf device` and
+In README.md and the pages of docs/ a fenced block `kmdf` is a whole scenario; `kmdf blocks`, `kmdf device` and
 `kmdf statements` are put where such lines belong, with the declarations below. `check` must accept each, and leave what it
 writes as it is. A block `trace` is the run that `order` writes for the example before it; `trace WORDS of FILE` is the end
 of what these words write for that file. A block `seeds` is a call of tools/try_seeds.py with the rows that it prints.
@@ -27,7 +27,7 @@ import try_seeds
 from built import PROGRAM, ROOT, program_at
 
 GUIDE = os.path.join("docs", "SCENARIO.md")
-DOCUMENTS = (GUIDE, os.path.join("docs", "FROM_C.md"), "README.md")
+DOCUMENTS = ("README.md", *(os.path.join("docs", name) for name in sorted(os.listdir(os.path.join(ROOT, "docs"))) if name.endswith(".md")))
 
 HEAD = "cpus 1\nlimit 100\nobjects 64\n"
 DECLARED = """class Note object
@@ -259,7 +259,7 @@ def check_worked(program):
 def main():
     program = program_at(sys.argv[1] if len(sys.argv) > 1 else PROGRAM)
     seeds = int(sys.argv[2]) if len(sys.argv) > 2 else 3
-    parts = [(f"examples of {path}", check_document(program, path)) for path in DOCUMENTS]
+    parts = [(f"examples of {path}", check_document(program, path)) for path in DOCUMENTS if FENCED.search(read(path))]
     parts.append(("slips", check_slips(program)))
     parts.append(("refusals", check_refused(program)))
     parts.append(("texts of Windows", check_windows(program)))

@@ -5,7 +5,10 @@
 
 `./kmdfsim` calls it. It copies the crates that the program needs, by crates.txt, without their wrong bodies, and runs `rt ci`
 over the copy. The kit proves them side by side, as many at once as processors and memory allow, the longest chain first. What
-passed is kept beside the kit for the next call, and for the gate, where that folder can be written.
+passed is kept beside the kit for the next call, and for the gate, where that folder can be written. A program that the gate
+left here is taken as it is, where it is newer than all that it is made from. The kit keeps no program that only one of its
+compilers builds, so the program is kept here: by the checksum of all that it is made from and of the kit's line, below
+$XDG_CACHE_HOME or ~/.cache, for other clones.
 
 The standard error says how far it is: one line that changes on a terminal, else a line for each crate. Beside the program, in
 crates/kmdfsim/out, are then `sources`, the names of all files and folders that it is made from, with the time at which the
@@ -32,6 +35,8 @@ OUT = os.path.join(ROOT, "crates", PROGRAM, "out")
 LOG = os.path.join(OUT, "proving.log")
 # Folders of a crate that the program isn't made from: what was built, and wrong bodies.
 LEFT_OUT = ("out", "must-fail", "wrong")
+# Where built programs are kept for other clones, by checksum, and how many.
+KEPT, MOST = os.path.join(os.environ.get("XDG_CACHE_HOME") or os.path.expanduser("~/.cache"), PROGRAM), 5
 # Seconds between two looks at how far it is, and how many of the log's last lines are shown.
 PAUSE, LAST = 1.0, 20
 
@@ -74,8 +79,9 @@ def listed(names):
 
 
 def sum_of(top, paths, lines):
-    """A checksum of the names and the content of these files and folders below a folder, and of the crates' lines."""
-    found = hashlib.sha256(repr(lines).encode())
+    """A checksum of the names and the content of these files and folders below a folder, of the crates' lines and the kit's."""
+    identity = subprocess.run([kit(), "version"], stdin=subprocess.DEVNULL, stdout=subprocess.PIPE, check=False).stdout
+    found = hashlib.sha256(repr((lines, identity)).encode())
     for path in paths:
         whole, content = os.path.join(top, path), b""
         if path != "crates.txt" and os.path.isfile(whole):
@@ -112,6 +118,33 @@ def note(paths, checksum, when):
 def is_made_of(checksum):
     """Whether the program that is there was made from sources with this checksum."""
     return os.access(os.path.join(OUT, PROGRAM), os.X_OK) and read(os.path.join(OUT, "sources.sum")).strip() == checksum
+
+
+def install(made):
+    """Puts a program in its place, whole."""
+    shutil.copy(made, os.path.join(OUT, PROGRAM + ".new"))
+    os.replace(os.path.join(OUT, PROGRAM + ".new"), os.path.join(OUT, PROGRAM))
+
+
+def keep(made, checksum):
+    """Keeps a program for other clones, and lets the oldest go; without such a folder it isn't kept."""
+    try:
+        os.makedirs(KEPT, 0o700, exist_ok=True)
+        with tempfile.NamedTemporaryFile(dir=KEPT, delete=False) as room:
+            shutil.copy(made, room.name)
+        os.replace(room.name, os.path.join(KEPT, checksum))
+        for old in sorted(os.listdir(KEPT), key=lambda name: os.stat(os.path.join(KEPT, name)).st_mtime)[:-MOST]:
+            os.remove(os.path.join(KEPT, old))
+    except OSError:
+        pass
+
+
+def is_left_by_gate(paths):
+    """Whether a program is there that no call noted, and that is newer than all that it is made from."""
+    made = os.path.join(OUT, PROGRAM)
+    if not os.access(made, os.X_OK) or os.path.exists(os.path.join(OUT, "sources.sum")):
+        return False
+    return os.stat(made).st_mtime > max(os.stat(os.path.join(ROOT, path)).st_mtime for path in paths)
 
 
 def copied(room, names):
@@ -285,15 +318,16 @@ def build(crates):
         lines = "".join(f"{name}: {' '.join(crates[name])}\n" for name in needs)
         with open(os.path.join(room, "crates.txt"), "w", encoding="utf-8") as file:
             file.write(lines)
-        print(f"{PROGRAM}: proves the {len(needs)} crates of the program; what passed is kept, and README.md says how long it takes", file=sys.stderr, flush=True)
+        print(f"{PROGRAM}: proves the {len(needs)} crates of the program; README.md says how long it takes", file=sys.stderr, flush=True)
         status = prove(room, held.fileno(), needs)
         made = os.path.join(room, "crates", PROGRAM, "out", PROGRAM)
         if status or not os.path.exists(made):
             fail(f"the program isn't proved (`rt ci` ended with {status})\n{end_of_log()}")
-        shutil.copy(made, os.path.join(OUT, PROGRAM + ".new"))
-        os.replace(os.path.join(OUT, PROGRAM + ".new"), os.path.join(OUT, PROGRAM))
         paths = listed(needs)
-        note(paths, sum_of(room, paths, lines), began)
+        checksum = sum_of(room, paths, lines)
+        install(made)
+        keep(made, checksum)
+        note(paths, checksum, began)
 
 
 def main():
@@ -314,12 +348,15 @@ def main():
             lines = "".join(f"{name}: {' '.join(crates[name])}\n" for name in needs)
             paths = listed(needs)
             checksum = sum_of(ROOT, paths, lines)
-            if is_made_of(checksum):
+            if is_made_of(checksum) or is_left_by_gate(paths):
+                note(paths, checksum, began)
+            elif os.access(os.path.join(KEPT, checksum), os.X_OK):
+                install(os.path.join(KEPT, checksum))
                 note(paths, checksum, began)
             else:
                 build(crates)
     except (Stopped, KeyboardInterrupt):
-        print(f"\n{PROGRAM}: stopped; what passed is kept\n{end_of_log()}", file=sys.stderr)
+        print(f"\n{PROGRAM}: stopped; the next call takes what the kit has kept\n{end_of_log()}", file=sys.stderr)
         return 130
     return 0
 

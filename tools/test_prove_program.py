@@ -1,9 +1,10 @@
 #!/usr/bin/env python3
 """A test of ./kmdfsim and tools/prove_program.py over a small made tree, with a made `rt` that proves nothing.
 
-What is tried: the first call proves only the crates that the program needs, and says a line for each; an unchanged call
-and one where only times changed prove nothing; a changed source, a new file and a removed one are found; where a proof
-fails or a signal comes, the end of the log is shown and no program is left in place; the wrong bodies aren't copied.
+The first call proves only the crates that the program needs, without their wrong bodies, and says a line for each. An
+unchanged call proves nothing, nor does one where only times changed. A changed source, a new file and a removed one are found.
+What the gate left is taken where it is newer than the sources. Where a proof fails or a signal comes, the end of the log is
+shown, nothing runs and no copy is left.
 """
 
 import os
@@ -19,6 +20,7 @@ CRATES = "# the crates\nlow:\nmid: low std_like\nlaw: low\nkmdfsim: mid\n"
 # A made `rt ci`: notes that it was called, makes out/ of each crate, and says what the kit says. It proves no crate with a
 # file `src/wrong.rt`, and waits in one with a file `src/slow.rt`.
 RT = """#!/bin/sh
+[ "$*" = version ] && { echo "a kit"; exit; }
 [ "$*" = ci ] || exit 9
 [ -d .git ] && [ -f HANDLES ] && [ ! -e crates/low/must-fail ] || { echo "rt: no such repository"; exit 2; }
 echo "$(cut -d: -f1 crates.txt | tr '\\n' ' ')" >> "$CALLS"
@@ -56,17 +58,17 @@ class Tree:
         with open(path, "w", encoding="utf-8") as file:
             file.write(text)
 
-    def begin(self):
-        given = {**os.environ, "PATH": f"{self.top}/bin:{os.environ['PATH']}", "CALLS": self.calls, "TMPDIR": self.top}
+    def begin(self, command):
+        given = {**os.environ, "PATH": f"{self.top}/bin:{os.environ['PATH']}", "CALLS": self.calls, "TMPDIR": self.top, "XDG_CACHE_HOME": os.path.join(self.top, "cache")}
         # A group of its own, to be sent a signal as one from a terminal.
         how = {"stdin": subprocess.DEVNULL, "stdout": subprocess.PIPE, "stderr": subprocess.PIPE, "text": True}
-        return subprocess.Popen(["./kmdfsim"], cwd=self.top, env=given, start_new_session=True, **how)
+        return subprocess.Popen([command], cwd=self.top, env=given, start_new_session=True, **how)
 
-    def call(self):
+    def call(self, command="./kmdfsim"):
         """The status, what was written and said, and which crates `rt` was called for."""
         if os.path.exists(self.calls):
             os.remove(self.calls)
-        run = self.begin()
+        run = self.begin(command)
         out, said = run.communicate(timeout=60)
         return run.returncode, out, said, self.called()
 
@@ -88,6 +90,8 @@ def proves_what_is_needed(tree):
     check("only the program's crates are proved", called == "low mid kmdfsim", called)
     check("each has its line", "kmdfsim: mid proved; " in said and "3 of 3 crates" in said, said)
     check("an unchanged call proves nothing", tree.call() == (0, "one\n", "", ""))
+    os.symlink(os.path.join(tree.top, "kmdfsim"), os.path.join(tree.top, "bin/simulate"))
+    check("nor does one by a link", tree.call("bin/simulate") == (0, "one\n", "", ""))
     os.utime(os.path.join(tree.top, "crates/low/src/lib.rt"))
     check("new times alone prove nothing", tree.call() == (0, "one\n", "", ""))
     tree.put("crates/law/src/lib.rt", "other\n")
@@ -100,8 +104,26 @@ def finds_changes(tree):
     tree.put("crates/low/src/more.rt", "")
     check("a new file is found", tree.call()[3] == "low mid kmdfsim")
     os.remove(os.path.join(tree.top, "crates/low/src/more.rt"))
-    check("a removed file is found", tree.call()[3] == "low mid kmdfsim")
-    check("and then all is as it was", tree.call()[3] == "")
+    check("a removed file is found, and then all is as it was", tree.call() == (0, "two\n", "", ""))
+    shutil.rmtree(os.path.join(tree.top, "crates/kmdfsim/out"))
+    check("another clone takes the program that was kept", tree.call() == (0, "two\n", "", ""))
+    shutil.rmtree(os.path.join(tree.top, "cache"))
+    shutil.rmtree(os.path.join(tree.top, "crates/kmdfsim/out"))
+    check("without it the crates are proved", tree.call()[1::2] == ("two\n", "low mid kmdfsim"))
+
+
+def takes_what_the_gate_left(tree):
+    out = os.path.join(tree.top, "crates/kmdfsim/out")
+    shutil.rmtree(out)
+    tree.put("crates/kmdfsim/out/kmdfsim", "#!/bin/sh\necho gate\n")
+    os.chmod(os.path.join(out, "kmdfsim"), 0o755)
+    check("the gate's program is taken", tree.call() == (0, "gate\n", "", ""))
+    shutil.rmtree(out)
+    tree.put("crates/kmdfsim/out/kmdfsim", "#!/bin/sh\necho gate\n")
+    os.chmod(os.path.join(out, "kmdfsim"), 0o755)
+    os.utime(os.path.join(tree.top, "crates/low/src/lib.rt"), (time.time() + 5, time.time() + 5))
+    check("but not where a source is newer", tree.call()[:2] == (0, "two\n"))
+    os.utime(os.path.join(tree.top, "crates/low/src/lib.rt"))
 
 
 def says_what_failed(tree):
@@ -110,7 +132,7 @@ def says_what_failed(tree):
     check("a failed proof runs nothing", (status, out) == (1, ""), status, out)
     check("the end of the log is shown", "rt: mid NOT PROVED" in said and "crates/kmdfsim/out/proving.log" in said, said)
     os.rename(os.path.join(tree.top, "crates/mid/src/wrong.rt"), os.path.join(tree.top, "crates/mid/src/slow.rt"))
-    run = tree.begin()
+    run = tree.begin("./kmdfsim")
     for _ in range(100):
         time.sleep(0.1)
         if os.path.exists(os.path.join(tree.top, "crates/kmdfsim/out/proving.log")) and tree.called().count("\n") >= 1:
@@ -130,6 +152,7 @@ def main():
         tree = Tree(top)
         proves_what_is_needed(tree)
         finds_changes(tree)
+        takes_what_the_gate_left(tree)
         says_what_failed(tree)
 
 

@@ -1,64 +1,59 @@
--- The runs that processors make as threads, and what a run that was written is. (own)
-use Rattle.std.specs.Prelude.{ℕ, ◌≡◌, ◌≢◌, ◌⊎◌, ◌==◌, ◌||◌, Bool, List}
+-- What a run that was written is. (own)
+use Rattle.std.specs.Prelude.{ℕ, ◌≡◌, ◌≢◌, ◌==◌, ◌||◌, ⊤, Bool, true, List, Some, slice_get, take}
 use Rattle.wdf_base.specs.declared.plan.Plan.{Plan}
 use Rattle.wdf_base.specs.declared.event.Event.{Event}
 use Rattle.wdf_base.specs.declared.event.Ending.{Ending}
 use Rattle.wdf_base.specs.declared.event.Ending.TheVariants as ending
 use Rattle.wdf_model.specs.rules.Ready.{ending_of, IsRunOf}
-use Rattle.wdf_dev.specs.Agents.{agent_meaning}
-use Rattle.wdf_plan.specs.Plans.{plan_of}
 use Rattle.wdf_run_text.specs.Texts.{text_of}
 use Rattle.wdf_io.specs.Outside.{Gains}
 use Rattle.wdf_output.specs.Endings.{status_of}
-use Rattle.wdf_output.specs.Refusals.{no_memory_line}
-use Rattle.wdf_output.specs.Said.{Sinking, Says}
+use Rattle.wdf_output.specs.Said.{Sinking}
 use Rattle.law_trace_all.specs.Kept.{KeepsLaws}
-use Rattle.wdf_top.specs.Answers.{Answering, Answers, HasPlan}
+use Rattle.law_idle.specs.Law.{keeps_idle_law}
+use Rattle.law_stack.specs.Laws.{request_law}
+use Rattle.wdf_top.specs.Agents.{RunAgents, Usual, Idle, Stacked, meaning_of}
+use Rattle.wdf_top.specs.Answers.{HasPlan, IsRunBy, Picking}
 use Rattle.wdf_top.specs.Top.{Sourcing, IsRead}
-
--- The text of some run of the plan that has ended, with the status of its ending.
-pub record IsSomeTrace (plan : Plan) (text : List ℕ) (status : ℕ) : Type 0 where
-  pub run : List Event
-  pub runs : IsRunOf plan agent_meaning run
-  pub ended : ending_of plan agent_meaning run ≢ ending.Running
-  pub text_is : text ≡ text_of plan agent_meaning run
-  pub status_is : status ≡ status_of (ending_of plan agent_meaning run)
-
--- `run` writes the text of some run of the scene's plan
-abbrev pub threading : Answering
-threading = record {
-  scenario = λ input. input;
-  writes = λ input scenario scene stands text status. IsSomeTrace (plan_of scene) text status;
-}
-
--- What `run` answers to an input.
-abbrev pub RunsByThreads : List ℕ → List ℕ → ℕ → Type 0
-RunsByThreads = Answers threading
-
--- What becomes of a plan: the text of some run of it, or the line `out of memory`; or a front of either.
-abbrev pub TellsSomeRun : Plan → Sinking → ℕ → Type 0
-TellsSomeRun plan k answer = (text : List ℕ) × (status : ℕ) × (IsSomeTrace plan text status ⊎ ((text ≡ no_memory_line) × (status ≡ 15))) × Says k text status answer
 
 -- the statuses of a run that has ended
 abbrev pub is_end_status : ℕ → Bool
 is_end_status n = n == 0 || n == 3 || n == 4 || n == 5
 
+-- each event of a run with the idle policy keeps the law on idle runs: when time passes no device sleeps with a pending
+-- request, none that is idle is awake past its timeout, and each goes to sleep exactly when it has been idle that long
+abbrev pub KeepsIdleLaw : Plan → List Event → Type 0
+KeepsIdleLaw plan run = (k : ℕ) (e : Event) → slice_get run k ≡ Some e → keeps_idle_law plan (take k run) e ≡ true
+
+-- each event of a run with stacks of devices keeps the laws on requests that go down a stack: each arrival by a connector
+-- belongs to a Send, and each `done` by one has its cause in the events before it
+abbrev pub KeepsStackLaws : Plan → List Event → Type 0
+KeepsStackLaws plan run = (k : ℕ) (e : Event) → slice_get run k ≡ Some e → request_law plan (take k run) e ≡ true
+
+-- the laws that runs with these agents keep beside the nine
+abbrev pub KeepsAgentLaws : RunAgents → Plan → List Event → Type 0
+KeepsAgentLaws Usual plan run = ⊤
+KeepsAgentLaws Idle plan run = KeepsIdleLaw plan run
+KeepsAgentLaws Stacked plan run = KeepsStackLaws plan run
+
 -- The headline: the whole input was read and it has a plan. What was written is the text of a run of the written machine
--- from the plan's opening, every answer included, with the program's agents. That run has ended, the status is its
--- ending's, and it keeps the nine laws of a trace.
-pub record WroteSomeRun (s : Sourcing) (k : Sinking) (status : ℕ) : Type 0 where
+-- from the plan's opening, every answer included, with these agents and picked so. That run has ended, the status is its
+-- ending's, and it keeps the nine laws of a trace and those of its agents.
+pub record WroteSomeRun (a : RunAgents) (by : Picking) (s : Sourcing) (k : Sinking) (status : ℕ) : Type 0 where
   pub input : List ℕ
   pub whole : IsRead s input
   pub plan : Plan
   pub stands : HasPlan input plan
   pub run : List Event
-  pub runs : IsRunOf plan agent_meaning run
-  pub ended : ending_of plan agent_meaning run ≢ ending.Running
-  pub status_is : status ≡ status_of (ending_of plan agent_meaning run)
+  pub runs : IsRunOf plan (meaning_of a) run
+  pub made : IsRunBy plan (meaning_of a) by run
+  pub ended : ending_of plan (meaning_of a) run ≢ ending.Running
+  pub status_is : status ≡ status_of (ending_of plan (meaning_of a) run)
   pub keeps : KeepsLaws plan run
-  pub written : Gains k.before k.after (text_of plan agent_meaning run)
+  pub keeps_own : KeepsAgentLaws a plan run
+  pub written : Gains k.before k.after (text_of plan (meaning_of a) run)
   pub unfailed : k.faults_after ≡ k.faults_before
 
 -- the same, and the run ended so
-abbrev pub WroteRunTo : Sourcing → Sinking → ℕ → Ending → Type 0
-WroteRunTo s k status e = (wrote : WroteSomeRun s k status) × (ending_of wrote.plan agent_meaning wrote.run ≡ e)
+abbrev pub WroteRunTo : RunAgents → Picking → Sourcing → Sinking → ℕ → Ending → Type 0
+WroteRunTo a by s k status e = (wrote : WroteSomeRun a by s k status) × (ending_of wrote.plan (meaning_of a) wrote.run ≡ e)

@@ -3,8 +3,8 @@ ghost use Rattle.std.specs.Prelude.{◌≡◌, map, string_bytes};
 ghost use Rattle.wdf_io.specs.Outside.{EndsRefused};
 ghost use Rattle.wdf_output.specs.Said.{sinking};
 ghost use Rattle.wdf_serve.specs.Promises.{Promises};
-ghost use Rattle.wdf_serve.specs.Told.{TellsWords};
-ghost use Rattle.wdf_top.specs.Top.{sourcing};
+ghost use Rattle.wdf_serve.specs.Words.{service_for};
+ghost use Rattle.wdf_top.specs.Top.{sourcing, Tells};
 
 use crate::run::run_input;
 use crate::words::is_run;
@@ -22,7 +22,8 @@ use wdf_turn::Gate;
 /// every other list of words this is [`top_plain`]. The statuses are those of [`top_plain`]: `run` answers as
 /// `order` does.
 ///
-/// It always returns for every form but `run`; for `run` it returns if the gate and the threads do.
+/// For every form but `run` it is [`top_plain`], which always returns; no clause says that of this call. For `run` it returns
+/// if the gate and the threads do.
 pub fn top<R: Threads + Sync, S: Source, K: Sink, G: Gate + Sync>(
     rt: &R,
     alloc: Global,
@@ -32,7 +33,7 @@ pub fn top<R: Threads + Sync, S: Source, K: Sink, G: Gate + Sync>(
     gate: &G,
 ) -> u8
     // Which text is due with which status, when each status comes, and the headline. The headline is that what is written
-    // for `order`, `seed N` and `run` with 0, 3, 4 or 5 is the text of a run of the written machine.
+    // with 0, 3, 4 or 5 for words that ask for a run is the text of a run of the written machine.
     ensures promises { Promises (map string_bytes words.now)
         (sourcing (S.left source.old) (S.left source.new) (S.faults source.old) (S.faults source.new))
         (sinking (K.written sink.old) (K.written sink.new) (K.faults sink.old) (K.faults sink.new))
@@ -52,7 +53,7 @@ fn answer<R: Threads + Sync, S: Source, K: Sink, G: Gate + Sync>(
     sink: &mut K,
     gate: &G,
 ) -> u8
-    ensures told { TellsWords (map string_bytes words.now)
+    ensures told { Tells (service_for (map string_bytes words.now))
         (sourcing (S.left source.old) (S.left source.new) (S.faults source.old) (S.faults source.new))
         (sinking (K.written sink.old) (K.written sink.new) (K.faults sink.old) (K.faults sink.new))
         result }

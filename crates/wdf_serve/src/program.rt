@@ -7,9 +7,11 @@ ghost use Rattle.wdf_output.specs.Refusals.{no_memory_line};
 ghost use Rattle.wdf_output.specs.Said.{Says, sinking};
 ghost use Rattle.wdf_serve.specs.Runs.{WroteSomeRun, is_end_status};
 ghost use Rattle.wdf_serve.specs.Serving.{Serves, LacksMemory, words_after_name};
-ghost use Rattle.wdf_serve.specs.Words.{writes_run};
+ghost use Rattle.wdf_serve.specs.Words.{service_for};
+ghost use Rattle.wdf_top.specs.Agents.{RunAgents};
+ghost use Rattle.wdf_top.specs.Answers.{Picking, Run};
 ghost use Rattle.wdf_top.specs.Causes.{is_status};
-ghost use Rattle.wdf_top.specs.Top.{IsUnread, sourcing};
+ghost use Rattle.wdf_top.specs.Top.{IsUnread, Reads, sourcing};
 
 use crate::call::top;
 use std::alloc::{AllocError, Global};
@@ -40,11 +42,12 @@ pub fn serve<T: Threads + Sync, R: Read, W: Write, G: Gate + Sync>(
         (sourcing source.old.left source.new.left source.old.faults source.new.faults)
         (sinking sink.old.written sink.new.written sink.old.faults sink.new.faults)
         result }
-    // For `order`, `seed N` and `run`, 0, 3, 4 and 5 come only where what was written is the text of a run of the written
-    // machine from the opening of the whole input's plan. That run has ended, the status is its ending's, and it keeps the
-    // nine laws of a trace.
-    ensures headline { IsTrue (writes_run (words_after_name arguments)) → IsTrue (is_end_status result)
-        → WroteSomeRun (sourcing source.old.left source.new.left source.old.faults source.new.faults)
+    // For words that ask for a run, as `order`, `seed N`, `run`, `idle` and `stack` do, 0, 3, 4 and 5 come only where what was
+    // written is the text of a run of the written machine from the opening of the whole input's plan, with the agents that
+    // the words ask for. That run has ended, the status is its ending's, and it keeps the nine laws of a trace and those of
+    // its agents.
+    ensures headline { (a : RunAgents) (by : Picking) → service_for (words_after_name arguments) ≡ Reads (Run a by) → IsTrue (is_end_status result)
+        → WroteSomeRun a by (sourcing source.old.left source.new.left source.old.faults source.new.faults)
         (sinking sink.old.written sink.new.written sink.old.faults sink.new.faults) result }
     // Where memory for the words is refused, that is said and nothing is read.
     ensures lacking { LacksMemory arguments

@@ -6,9 +6,8 @@ ghost use Rattle.wdf_dev.specs.Agents.{agent_meaning};
 ghost use Rattle.wdf_io.specs.Outside.{EndsRefused};
 ghost use Rattle.wdf_model.specs.rules.Ready.{ending_of, IsRunOf};
 ghost use Rattle.wdf_output.specs.Said.{sinking};
-ghost use Rattle.wdf_serve.specs.Runs.{TellsSomeRun};
-ghost use Rattle.wdf_serve.specs.Told.{TellsByThreads};
-ghost use Rattle.wdf_top.specs.Top.{sourcing};
+ghost use Rattle.wdf_top.specs.Answers.{Freely, running};
+ghost use Rattle.wdf_top.specs.Top.{sourcing, TellsBy, TellsPlan};
 
 use std::alloc::Global;
 use std::thread::Threads;
@@ -29,7 +28,7 @@ pub fn run_input<R: Threads + Sync, S: Source, K: Sink, G: Gate + Sync>(
     sink: &mut K,
     gate: &G,
 ) -> u8
-    ensures told { TellsByThreads
+    ensures told { TellsBy (running agent_meaning Freely)
         (sourcing (S.left source.old) (S.left source.new) (S.faults source.old) (S.faults source.new))
         (sinking (K.written sink.old) (K.written sink.new) (K.faults sink.old) (K.faults sink.new))
         result }
@@ -50,7 +49,7 @@ fn tell_some_run<R: Threads + Sync, K: Sink, G: Gate + Sync>(
     gate: &G,
 ) -> u8
     requires { IsResolved plan }
-    ensures told { TellsSomeRun plan
+    ensures told { TellsPlan plan agent_meaning Freely
         (sinking (K.written sink.old) (K.written sink.new) (K.faults sink.old) (K.faults sink.new))
         result }
     ensures not_again { result ≡ 13 → EndsRefused K.refused K.faults sink.old sink.new }
@@ -73,6 +72,6 @@ fn run_plan<R: Threads + Sync, G: Gate + Sync>(
     ensures run { IfOk result (λ core. IsRunOf plan agent_meaning core.journal) }
     ensures ended { IfOk result (λ core. ending_of plan agent_meaning core.journal ≢ ending.Running) }
 {
-    let core = opening(alloc, plan)?;
+    let core = opening::<AnyAgent>(alloc, plan)?;
     run_threads(rt, alloc, core, gate)
 }

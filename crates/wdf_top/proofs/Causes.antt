@@ -1,5 +1,5 @@
 -- When each status comes, a lemma for each of the top call's clauses.
-use Rattle.std.proofs.Common.{ℕ, ◌≡◌, ◌+◌, ◌⊎◌, inl, inr, true, false, IsTrue, List, Option, Some, None, refl, sym, subst, ◌∙◌, arith, ◌≢◌}
+use Rattle.std.proofs.Common.{ℕ, ◌≡◌, ◌+◌, ◌⊎◌, inl, inr, true, false, List, refl, sym, ◌∙◌, arith, ◌≢◌}
 use Rattle.wdf_base.specs.declared.plan.Plan.{Plan}
 use Rattle.wdf_base.specs.declared.event.Ending.{Ending}
 use Rattle.wdf_base.specs.declared.event.Ending.TheVariants as ending
@@ -12,20 +12,17 @@ use Rattle.wdf_gen.specs.Generated.{generated}
 use Rattle.wdf_refusals.specs.declared.refusal.PlanRefusal.{PlanRefusal}
 use Rattle.wdf_plan.specs.Plans.{plan_of}
 use Rattle.wdf_input.specs.declared.input.TheConstants.{INPUT_LIMIT}
-use Rattle.wdf_top.specs.declared.run.Picks.{Picks}
-use Rattle.wdf_top.specs.declared.run.Picks.TheVariants.{Listed, Seeded}
-use Rattle.wdf_top.specs.declared.words.Form.{Form}
-use Rattle.wdf_top.specs.declared.words.Form.TheVariants.{Check, Order, Seed, Replay, Gen, Load}
+use Rattle.wdf_top.specs.Agents.{RunAgents, meaning_of}
 use Rattle.wdf_output.specs.Endings.{status_of}
-use Rattle.wdf_top.specs.Answers.{Answering, Answers, HasNoScene, HasNoPlan, HasPlan, IsTraceOf, IsSummaryOf, picks_of, running, checking, judging}
-use Rattle.wdf_top.specs.Causes.{WroteRun, WroteSummary, WroteFor, is_reading, picks_for, Stayed}
+use Rattle.wdf_top.specs.Answers.{Answering, Answers, HasNoScene, HasNoPlan, HasPlan, IsTraceOf, IsSummaryOf, Picking, Canonical, Run, Judgement, Findings, answering_of}
+use Rattle.wdf_top.specs.Causes.{WroteRun, WroteSummary, WroteFor, Stayed}
 use Rattle.wdf_input.specs.Input.{TakesAll, TakesCount}
 use Rattle.wdf_output.specs.Refusals.{no_memory_line}
 use Rattle.wdf_output.specs.Said.{Sinking, IsCutShort}
-use Rattle.wdf_top.specs.Top.{Sourcing, Service, IsAnswered, IsReadDue, Tells, Usage, Canonical, Run, Judgement, Scenario, Summary, scenario_by, service_of}
-use Rattle.wdf_top.proofs.Ended.{has_ended}
+use Rattle.wdf_top.specs.Top.{Sourcing, Service, IsAnswered, IsReadDue, Tells, TellsBy, Usage, Reads, Scenario, Summary, reads_input, scenario_by}
+use Rattle.wdf_top.proofs.Ended.{has_ended, made_ends}
 use Rattle.wdf_top.proofs.Given.{answered}
-use Rattle.wdf_top.proofs.Statuses.{ToldBy, Fits, AreAnswers, is_answer_status, is_own_status, is_load_status, load_status, run_own, check_own, judge_own, run_answers, check_answers, judge_answers, differs, third, usage_answers, scenario_never, run_never, check_never, judge_never, summary_never, is_check_status, is_judge_status}
+use Rattle.wdf_top.proofs.Statuses.{Fits, AreAnswers, is_answer_status, is_own_status, read_status, reads_answers, reads_own, reads_never, reads_no_usage, differs, third, usage_answers, scenario_never, summary_never}
 
 -- ---- faults
 
@@ -36,16 +33,14 @@ due_rose way own s text status (inr (inl p)) same = absurd (omega (arith, p.3))
 due_rose way own s text status (inr (inr (inl p))) same = p.0
 due_rose way own s text status (inr (inr (inr p))) same = absurd (omega (arith, p.3))
 
-told_rose : (way : Answering) → AreAnswers way → (s : Sourcing) (k : Sinking) (answer : ℕ) → ToldBy way s k answer → answer ≡ 12 → Rose s.faults_before s.faults_after
+told_rose : (way : Answering) → AreAnswers way → (s : Sourcing) (k : Sinking) (answer : ℕ) → TellsBy way s k answer → answer ≡ 12 → Rose s.faults_before s.faults_after
 told_rose way own s k answer (text, status, due, inl said) same = due_rose way own s text status due (sym said.0 ∙ same)
 told_rose way own s k answer (text, status, due, inr said) same = absurd (omega (arith, said.0))
 
 pub source_rose : (v : Service) (s : Sourcing) (k : Sinking) (answer : ℕ) → Tells v s k answer → answer ≡ 12 → Rose s.faults_before s.faults_after
 source_rose Usage s k answer told same = absurd (third answer 2 13 12 (usage_answers s k answer told) (λ h. omega arith) (λ h. omega arith) same)
-source_rose Canonical s k answer told same = told_rose checking check_answers s k answer told same
-source_rose (Run picks) s k answer told same = told_rose (running picks) (run_answers picks) s k answer told same
+source_rose (Reads r) s k answer told same = told_rose (answering_of r) (reads_answers r) s k answer told same
 source_rose (Scenario m) s k answer told same = absurd (scenario_never m 12 s k answer (λ h. omega arith) (λ h. omega arith) (λ h. omega arith) told same)
-source_rose Judgement s k answer told same = told_rose judging judge_answers s k answer told same
 source_rose (Summary m) s k answer told same = absurd (summary_never m 12 s k answer refl (λ h. omega arith) told same)
 
 -- 14 is due where the byte past the limit was read
@@ -55,16 +50,14 @@ due_large way own s text status (inr (inl p)) same = p.0
 due_large way own s text status (inr (inr (inl p))) same = absurd (omega (arith, p.3))
 due_large way own s text status (inr (inr (inr p))) same = absurd (omega (arith, p.3))
 
-told_large : (way : Answering) → AreAnswers way → (s : Sourcing) (k : Sinking) (answer : ℕ) → ToldBy way s k answer → answer ≡ 14 → TakesCount s.before s.after (INPUT_LIMIT + 1)
+told_large : (way : Answering) → AreAnswers way → (s : Sourcing) (k : Sinking) (answer : ℕ) → TellsBy way s k answer → answer ≡ 14 → TakesCount s.before s.after (INPUT_LIMIT + 1)
 told_large way own s k answer (text, status, due, inl said) same = due_large way own s text status due (sym said.0 ∙ same)
 told_large way own s k answer (text, status, due, inr said) same = absurd (omega (arith, said.0))
 
 pub large_only : (v : Service) (s : Sourcing) (k : Sinking) (answer : ℕ) → Tells v s k answer → answer ≡ 14 → TakesCount s.before s.after (INPUT_LIMIT + 1)
 large_only Usage s k answer told same = absurd (third answer 2 13 14 (usage_answers s k answer told) (λ h. omega arith) (λ h. omega arith) same)
-large_only Canonical s k answer told same = told_large checking check_answers s k answer told same
-large_only (Run picks) s k answer told same = told_large (running picks) (run_answers picks) s k answer told same
+large_only (Reads r) s k answer told same = told_large (answering_of r) (reads_answers r) s k answer told same
 large_only (Scenario m) s k answer told same = absurd (scenario_never m 14 s k answer (λ h. omega arith) (λ h. omega arith) (λ h. omega arith) told same)
-large_only Judgement s k answer told same = told_large judging judge_answers s k answer told same
 large_only (Summary m) s k answer told same = absurd (summary_never m 14 s k answer refl (λ h. omega arith) told same)
 
 -- the line of `out of memory` is due with 15
@@ -74,7 +67,7 @@ due_memory way own s text status (inr (inl p)) same = absurd (omega (arith, p.3)
 due_memory way own s text status (inr (inr (inl p))) same = absurd (omega (arith, p.3))
 due_memory way own s text status (inr (inr (inr p))) same = p.2
 
-told_memory : (way : Answering) → AreAnswers way → (s : Sourcing) (k : Sinking) (answer : ℕ) → ToldBy way s k answer → answer ≡ 15 → Gains k.before k.after no_memory_line
+told_memory : (way : Answering) → AreAnswers way → (s : Sourcing) (k : Sinking) (answer : ℕ) → TellsBy way s k answer → answer ≡ 15 → Gains k.before k.after no_memory_line
 told_memory way own s k answer (text, status, due, inl said) same =
     let gained : Gains k.before k.after text = said.1 in
     let line : text ≡ no_memory_line = due_memory way own s text status due (sym said.0 ∙ same) in
@@ -90,15 +83,13 @@ ended_no_memory ending.Limit h = omega (arith, h)
 
 pub memory_line : (v : Service) (s : Sourcing) (k : Sinking) (answer : ℕ) → Tells v s k answer → answer ≡ 15 → Gains k.before k.after no_memory_line
 memory_line Usage s k answer told same = absurd (third answer 2 13 15 (usage_answers s k answer told) (λ h. omega arith) (λ h. omega arith) same)
-memory_line Canonical s k answer told same = told_memory checking check_answers s k answer told same
-memory_line (Run picks) s k answer told same = told_memory (running picks) (run_answers picks) s k answer told same
+memory_line (Reads r) s k answer told same = told_memory (answering_of r) (reads_answers r) s k answer told same
 memory_line (Scenario m) s k answer (text, status, (unread, inl h), inl said) same = absurd (omega (arith, h.1, said.0, same))
 memory_line (Scenario m) s k answer (text, status, (unread, inr h), inl said) same =
     let gained : Gains k.before k.after text = said.1 in
     let line : text ≡ no_memory_line = h.0 in
     rw line at gained
 memory_line (Scenario m) s k answer (text, status, due, inr said) same = absurd (omega (arith, said.0, same))
-memory_line Judgement s k answer told same = told_memory judging judge_answers s k answer told same
 memory_line (Summary m) s k answer (text, status, (unread, inl h), inl said) same = absurd (ended_no_memory (ending_of (plan_of (generated m)) agent_meaning h.run) (sym h.status_is ∙ sym said.0 ∙ same))
 memory_line (Summary m) s k answer (text, status, (unread, inr h), inl said) same =
     let gained : Gains k.before k.after text = said.1 in
@@ -109,7 +100,7 @@ memory_line (Summary m) s k answer (text, status, due, inr said) same = absurd (
 -- ---- an input that has no plan
 
 -- the answer to the whole input, with a status that such an answer has
-pub whole_answer : (way : Answering) (n : ℕ) → is_answer_status n ≡ true → (s : Sourcing) (k : Sinking) (answer : ℕ) → ToldBy way s k answer → answer ≡ n
+pub whole_answer : (way : Answering) (n : ℕ) → is_answer_status n ≡ true → (s : Sourcing) (k : Sinking) (answer : ℕ) → TellsBy way s k answer → answer ≡ n
     → (text : List ℕ) × IsAnswered way s text n × Gains k.before k.after text
 whole_answer way n is s k answer told same =
     let no : (m : ℕ) → is_answer_status m ≡ false → answer ≡ m → ⊥ = λ m fails h. differs is_answer_status m answer fails (rw same is) h in
@@ -122,7 +113,7 @@ ten_is way own input text (inl (inl r)) = r.1
 ten_is way own input text (inl (inr r)) = absurd (omega (arith, r.3))
 ten_is way own input text (inr r) = absurd (differs is_own_status 10 10 refl (own input r.0 r.1 text 10 r.3) refl)
 
-told_ten : (way : Answering) → Fits is_own_status way → (s : Sourcing) (k : Sinking) (answer : ℕ) → ToldBy way s k answer → answer ≡ 10
+told_ten : (way : Answering) → Fits is_own_status way → (s : Sourcing) (k : Sinking) (answer : ℕ) → TellsBy way s k answer → answer ≡ 10
     → (input : List ℕ) × TakesAll s.before s.after input × HasNoScene (way.scenario input)
 told_ten way own s k answer told same =
     let whole : (text : List ℕ) × IsAnswered way s text 10 × Gains k.before k.after text = whole_answer way 10 refl s k answer told same in
@@ -131,9 +122,7 @@ told_ten way own s k answer told same =
 pub no_scene_only : (v : Service) (s : Sourcing) (k : Sinking) (answer : ℕ) → Tells v s k answer → answer ≡ 10
     → (input : List ℕ) × TakesAll s.before s.after input × HasNoScene (scenario_by v input)
 no_scene_only Usage s k answer told same = absurd (third answer 2 13 10 (usage_answers s k answer told) (λ h. omega arith) (λ h. omega arith) same)
-no_scene_only Canonical s k answer told same = told_ten checking check_own s k answer told same
-no_scene_only (Run picks) s k answer told same = told_ten (running picks) (run_own picks) s k answer told same
-no_scene_only Judgement s k answer told same = told_ten judging judge_own s k answer told same
+no_scene_only (Reads r) s k answer told same = told_ten (answering_of r) (reads_own r) s k answer told same
 no_scene_only (Scenario m) s k answer told same = absurd (scenario_never m 10 s k answer (λ h. omega arith) (λ h. omega arith) (λ h. omega arith) told same)
 no_scene_only (Summary m) s k answer told same = absurd (summary_never m 10 s k answer refl (λ h. omega arith) told same)
 
@@ -143,7 +132,7 @@ eleven_is way own input text (inl (inl r)) = absurd (omega (arith, r.4))
 eleven_is way own input text (inl (inr r)) = (r.0, r.1)
 eleven_is way own input text (inr r) = absurd (differs is_own_status 11 11 refl (own input r.0 r.1 text 11 r.3) refl)
 
-told_eleven : (way : Answering) → Fits is_own_status way → (s : Sourcing) (k : Sinking) (answer : ℕ) → ToldBy way s k answer → answer ≡ 11
+told_eleven : (way : Answering) → Fits is_own_status way → (s : Sourcing) (k : Sinking) (answer : ℕ) → TellsBy way s k answer → answer ≡ 11
     → (input : List ℕ) × (refusal : PlanRefusal) × TakesAll s.before s.after input × HasNoPlan (way.scenario input) refusal
 told_eleven way own s k answer told same =
     let whole : (text : List ℕ) × IsAnswered way s text 11 × Gains k.before k.after text = whole_answer way 11 refl s k answer told same in
@@ -153,48 +142,46 @@ told_eleven way own s k answer told same =
 pub no_plan_only : (v : Service) (s : Sourcing) (k : Sinking) (answer : ℕ) → Tells v s k answer → answer ≡ 11
     → (input : List ℕ) × (refusal : PlanRefusal) × TakesAll s.before s.after input × HasNoPlan (scenario_by v input) refusal
 no_plan_only Usage s k answer told same = absurd (third answer 2 13 11 (usage_answers s k answer told) (λ h. omega arith) (λ h. omega arith) same)
-no_plan_only Canonical s k answer told same = told_eleven checking check_own s k answer told same
-no_plan_only (Run picks) s k answer told same = told_eleven (running picks) (run_own picks) s k answer told same
-no_plan_only Judgement s k answer told same = told_eleven judging judge_own s k answer told same
+no_plan_only (Reads r) s k answer told same = told_eleven (answering_of r) (reads_own r) s k answer told same
 no_plan_only (Scenario m) s k answer told same = absurd (scenario_never m 11 s k answer (λ h. omega arith) (λ h. omega arith) (λ h. omega arith) told same)
 no_plan_only (Summary m) s k answer told same = absurd (summary_never m 11 s k answer refl (λ h. omega arith) told same)
 
 -- ---- runs
 
--- a trace was written of a run with this status
-pub record Wrote (picks : Picks) (s : Sourcing) (k : Sinking) (status : ℕ) : Type 0 where
+-- the text of a run was written, with this status
+pub record Wrote (a : RunAgents) (by : Picking) (s : Sourcing) (k : Sinking) (status : ℕ) : Type 0 where
   pub ends : Ending
   pub status_is : status ≡ status_of ends
   pub over : ends ≡ ending.Running → ⊥
-  pub wrote : WroteRun picks s k ends
+  pub wrote : WroteRun a by s k ends
 
--- the trace of a plan's run
-trace_wrote : (picks : Picks) (s : Sourcing) (k : Sinking) (input text : List ℕ) (plan : Plan) (status : ℕ) → TakesAll s.before s.after input → HasPlan input plan → IsTraceOf plan (picks_of picks plan) text status → Gains k.before k.after text → Wrote picks s k status
-trace_wrote picks s k input text plan status whole has trace gained = record {
-  ends = ending_of plan agent_meaning trace.run;
+-- the text of a plan's run
+trace_wrote : (a : RunAgents) (by : Picking) (s : Sourcing) (k : Sinking) (input text : List ℕ) (plan : Plan) (status : ℕ) → TakesAll s.before s.after input → HasPlan input plan → IsTraceOf plan (meaning_of a) by text status → Gains k.before k.after text → Wrote a by s k status
+trace_wrote a by s k input text plan status whole has trace gained = record {
+  ends = ending_of plan (meaning_of a) trace.run;
   status_is = trace.status_is;
-  over = has_ended plan agent_meaning trace.run trace.picked.ends;
+  over = made_ends plan (meaning_of a) by trace.run trace.made;
   wrote = record {
     input = input;
     whole = whole;
     plan = plan;
     stands = has;
     run = trace.run;
-    picked = trace.picked;
+    made = trace.made;
     ends = refl;
     written = rw trace.text_is at gained;
   };
 }
 
-answer_wrote : (picks : Picks) (s : Sourcing) (k : Sinking) (input text : List ℕ) (n : ℕ) → n ≢ 10 → n ≢ 11 → TakesAll s.before s.after input → Answers (running picks) input text n → Gains k.before k.after text → Wrote picks s k n
-answer_wrote picks s k input text n a b whole (inl (inl r)) gained = absurd (a r.4)
-answer_wrote picks s k input text n a b whole (inl (inr r)) gained = absurd (b r.3)
-answer_wrote picks s k input text n a b whole (inr (scene, stands, accepted, trace)) gained = trace_wrote picks s k input text (plan_of scene) n whole (scene, stands, accepted, refl) trace gained
+answer_wrote : (a : RunAgents) (by : Picking) (s : Sourcing) (k : Sinking) (input text : List ℕ) (n : ℕ) → n ≢ 10 → n ≢ 11 → TakesAll s.before s.after input → Answers (answering_of (Run a by)) input text n → Gains k.before k.after text → Wrote a by s k n
+answer_wrote a by s k input text n ten eleven whole (inl (inl r)) gained = absurd (ten r.4)
+answer_wrote a by s k input text n ten eleven whole (inl (inr r)) gained = absurd (eleven r.3)
+answer_wrote a by s k input text n ten eleven whole (inr (scene, stands, accepted, trace)) gained = trace_wrote a by s k input text (plan_of scene) n whole (scene, stands, accepted, refl) trace gained
 
-run_wrote : (picks : Picks) (n : ℕ) → is_answer_status n ≡ true → n ≢ 10 → n ≢ 11 → (s : Sourcing) (k : Sinking) (answer : ℕ) → Tells (Run picks) s k answer → answer ≡ n → Wrote picks s k n
-run_wrote picks n is a b s k answer told same =
-    let whole : (text : List ℕ) × IsAnswered (running picks) s text n × Gains k.before k.after text = whole_answer (running picks) n is s k answer told same in
-    answer_wrote picks s k whole.1.0 whole.0 n a b whole.1.1.0 whole.1.2 whole.2
+run_wrote : (a : RunAgents) (by : Picking) (n : ℕ) → is_answer_status n ≡ true → n ≢ 10 → n ≢ 11 → (s : Sourcing) (k : Sinking) (answer : ℕ) → TellsBy (answering_of (Run a by)) s k answer → answer ≡ n → Wrote a by s k n
+run_wrote a by n is ten eleven s k answer told same =
+    let whole : (text : List ℕ) × IsAnswered (answering_of (Run a by)) s text n × Gains k.before k.after text = whole_answer (answering_of (Run a by)) n is s k answer told same in
+    answer_wrote a by s k whole.1.0 whole.0 n ten eleven whole.1.1.0 whole.1.2 whole.2
 
 -- an ending with the status 0
 zero_finished : (W : Ending → Type 0) (e : Ending) → 0 ≡ status_of e → (e ≡ ending.Running → ⊥) → W e → W ending.Finished
@@ -225,16 +212,6 @@ five_limit W (ending.Fault f) is wrote = absurd (omega (arith, is))
 five_limit W ending.Stuck is wrote = absurd (omega (arith, is))
 five_limit W ending.Limit is wrote = wrote
 
--- a form that has picks writes their run
-pub runs : (form : Option Form) (picks : Picks) (s : Sourcing) (k : Sinking) (answer : ℕ) → picks_for form ≡ Some picks → Tells (service_of form) s k answer → Tells (Run picks) s k answer
-runs None picks s k answer h told = absurd (let z : ⊥ = cc in z)
-runs (Some Check) picks s k answer h told = absurd (let z : ⊥ = cc in z)
-runs (Some Order) picks s k answer h told = let same : Listed ≡ picks = cc in subst (λ (p : Picks). Tells (Run p) s k answer) same told
-runs (Some (Seed n)) picks s k answer h told = let same : Seeded n ≡ picks = cc in subst (λ (p : Picks). Tells (Run p) s k answer) same told
-runs (Some Replay) picks s k answer h told = absurd (let z : ⊥ = cc in z)
-runs (Some (Gen n)) picks s k answer h told = absurd (let z : ⊥ = cc in z)
-runs (Some (Load n)) picks s k answer h told = absurd (let z : ⊥ = cc in z)
-
 -- the summary of a run was written, with this status
 pub record Summed (n : ℕ) (k : Sinking) (status : ℕ) : Type 0 where
   pub ends : Ending
@@ -259,93 +236,87 @@ summary_wrote m n thirteen fifteen s k answer (text, status, (unread, inl h), in
       };
     }
 
--- only a form that has picks, and `load N`, answer 3, 4 and 5
-abbrev IsRunner : Option Form → Sourcing → Sinking → ℕ → Type 0
-IsRunner form s k answer =
-    ((picks : Picks) × (picks_for form ≡ Some picks) × Tells (Run picks) s k answer)
-    ⊎ ((n : ℕ) × (form ≡ Some (Load n)) × Tells (Summary n) s k answer)
+-- only a form that writes a run, and `load N`, answer 3, 4 and 5
+abbrev IsRunner : Service → Sourcing → Sinking → ℕ → Type 0
+IsRunner v s k answer =
+    ((a : RunAgents) × (by : Picking) × (v ≡ Reads (Run a by)) × TellsBy (answering_of (Run a by)) s k answer)
+    ⊎ ((n : ℕ) × (v ≡ Summary n) × Tells (Summary n) s k answer)
 
-run_only : (n : ℕ) → n ≢ 0 → n ≢ 2 → n ≢ 13 → n ≢ 15 → is_check_status n ≡ false → is_judge_status n ≡ false → (form : Option Form) (s : Sourcing) (k : Sinking) (answer : ℕ) → Tells (service_of form) s k answer → answer ≡ n → IsRunner form s k answer
-run_only n zero_not two thirteen fifteen fails fails_too None s k answer told same = absurd (third answer 2 13 n (usage_answers s k answer told) (λ h. two (sym h)) (λ h. thirteen (sym h)) same)
-run_only n zero_not two thirteen fifteen fails fails_too (Some Check) s k answer told same = absurd (check_never n s k answer fails thirteen told same)
-run_only n zero_not two thirteen fifteen fails fails_too (Some Order) s k answer told same = inl (Listed, refl, told)
-run_only n zero_not two thirteen fifteen fails fails_too (Some (Seed m)) s k answer told same = inl (Seeded m, refl, told)
-run_only n zero_not two thirteen fifteen fails fails_too (Some Replay) s k answer told same = absurd (judge_never n s k answer fails_too thirteen told same)
-run_only n zero_not two thirteen fifteen fails fails_too (Some (Gen m)) s k answer told same = absurd (scenario_never m n s k answer (λ h. zero_not (sym h)) (λ h. fifteen (sym h)) (λ h. thirteen (sym h)) told same)
-run_only n zero_not two thirteen fifteen fails fails_too (Some (Load m)) s k answer told same = inr (m, refl, told)
+run_only : (n : ℕ) → n ≢ 0 → n ≢ 2 → n ≢ 13 → n ≢ 15 → read_status Canonical n ≡ false → read_status Judgement n ≡ false → read_status Findings n ≡ false → (v : Service) (s : Sourcing) (k : Sinking) (answer : ℕ) → Tells v s k answer → answer ≡ n → IsRunner v s k answer
+run_only n zero_not two thirteen fifteen check judge lint Usage s k answer told same = absurd (third answer 2 13 n (usage_answers s k answer told) (λ h. two (sym h)) (λ h. thirteen (sym h)) same)
+run_only n zero_not two thirteen fifteen check judge lint (Reads Canonical) s k answer told same = absurd (reads_never Canonical n s k answer check thirteen told same)
+run_only n zero_not two thirteen fifteen check judge lint (Reads (Run a by)) s k answer told same = inl (a, by, refl, told)
+run_only n zero_not two thirteen fifteen check judge lint (Reads Judgement) s k answer told same = absurd (reads_never Judgement n s k answer judge thirteen told same)
+run_only n zero_not two thirteen fifteen check judge lint (Reads Findings) s k answer told same = absurd (reads_never Findings n s k answer lint thirteen told same)
+run_only n zero_not two thirteen fifteen check judge lint (Scenario m) s k answer told same = absurd (scenario_never m n s k answer (λ h. zero_not (sym h)) (λ h. fifteen (sym h)) (λ h. thirteen (sym h)) told same)
+run_only n zero_not two thirteen fifteen check judge lint (Summary m) s k answer told same = inr (m, refl, told)
 
-pub finished : (picks : Picks) (s : Sourcing) (k : Sinking) (answer : ℕ) → Tells (Run picks) s k answer → answer ≡ 0 → WroteRun picks s k ending.Finished
-finished picks s k answer told same =
-    let w : Wrote picks s k 0 = run_wrote picks 0 refl (λ h. omega arith) (λ h. omega arith) s k answer told same in
-    zero_finished (WroteRun picks s k) w.ends w.status_is w.over w.wrote
+pub finished : (a : RunAgents) (by : Picking) (s : Sourcing) (k : Sinking) (answer : ℕ) → TellsBy (answering_of (Run a by)) s k answer → answer ≡ 0 → WroteRun a by s k ending.Finished
+finished a by s k answer told same =
+    let w : Wrote a by s k 0 = run_wrote a by 0 refl (λ h. omega arith) (λ h. omega arith) s k answer told same in
+    zero_finished (WroteRun a by s k) w.ends w.status_is w.over w.wrote
 
 pub summed_finished : (n : ℕ) (s : Sourcing) (k : Sinking) (answer : ℕ) → Tells (Summary n) s k answer → answer ≡ 0 → WroteSummary n k ending.Finished
 summed_finished n s k answer told same =
     let w : Summed n k 0 = summary_wrote n 0 (λ h. omega arith) (λ h. omega arith) s k answer told same in
     zero_finished (WroteSummary n k) w.ends w.status_is w.over w.wrote
 
-fault_of : (form : Option Form) (s : Sourcing) (k : Sinking) (answer : ℕ) → IsRunner form s k answer → answer ≡ 3 → (f : Fault) × WroteFor form s k (ending.Fault f)
-fault_of form s k answer (inl by_run) same =
-    let w : Wrote by_run.0 s k 3 = run_wrote by_run.0 3 refl (λ h. omega arith) (λ h. omega arith) s k answer by_run.2 same in
-    let wrote : (f : Fault) × WroteRun by_run.0 s k (ending.Fault f) = three_fault (WroteRun by_run.0 s k) w.ends w.status_is w.wrote in
-    (wrote.0, inl (by_run.0, by_run.1, wrote.1))
-fault_of form s k answer (inr by_load) same =
+fault_of : (v : Service) (s : Sourcing) (k : Sinking) (answer : ℕ) → IsRunner v s k answer → answer ≡ 3 → (f : Fault) × WroteFor v s k (ending.Fault f)
+fault_of v s k answer (inl (a, by, is, told)) same =
+    let w : Wrote a by s k 3 = run_wrote a by 3 refl (λ h. omega arith) (λ h. omega arith) s k answer told same in
+    let wrote : (f : Fault) × WroteRun a by s k (ending.Fault f) = three_fault (WroteRun a by s k) w.ends w.status_is w.wrote in
+    (wrote.0, inl (a, by, is, wrote.1))
+fault_of v s k answer (inr by_load) same =
     let w : Summed by_load.0 k 3 = summary_wrote by_load.0 3 (λ h. omega arith) (λ h. omega arith) s k answer by_load.2 same in
     let wrote : (f : Fault) × WroteSummary by_load.0 k (ending.Fault f) = three_fault (WroteSummary by_load.0 k) w.ends w.status_is w.wrote in
     (wrote.0, inr (by_load.0, by_load.1, wrote.1))
 
-pub fault : (form : Option Form) (s : Sourcing) (k : Sinking) (answer : ℕ) → Tells (service_of form) s k answer → answer ≡ 3 → (f : Fault) × WroteFor form s k (ending.Fault f)
-fault form s k answer told same =
-    fault_of form s k answer (run_only 3 (λ h. omega arith) (λ h. omega arith) (λ h. omega arith) (λ h. omega arith) refl refl form s k answer told same) same
+pub fault : (v : Service) (s : Sourcing) (k : Sinking) (answer : ℕ) → Tells v s k answer → answer ≡ 3 → (f : Fault) × WroteFor v s k (ending.Fault f)
+fault v s k answer told same =
+    fault_of v s k answer (run_only 3 (λ h. omega arith) (λ h. omega arith) (λ h. omega arith) (λ h. omega arith) refl refl refl v s k answer told same) same
 
-stuck_of : (form : Option Form) (s : Sourcing) (k : Sinking) (answer : ℕ) → IsRunner form s k answer → answer ≡ 4 → WroteFor form s k ending.Stuck
-stuck_of form s k answer (inl by_run) same =
-    let w : Wrote by_run.0 s k 4 = run_wrote by_run.0 4 refl (λ h. omega arith) (λ h. omega arith) s k answer by_run.2 same in
-    inl (by_run.0, by_run.1, four_stuck (WroteRun by_run.0 s k) w.ends w.status_is w.wrote)
-stuck_of form s k answer (inr by_load) same =
+stuck_of : (v : Service) (s : Sourcing) (k : Sinking) (answer : ℕ) → IsRunner v s k answer → answer ≡ 4 → WroteFor v s k ending.Stuck
+stuck_of v s k answer (inl (a, by, is, told)) same =
+    let w : Wrote a by s k 4 = run_wrote a by 4 refl (λ h. omega arith) (λ h. omega arith) s k answer told same in
+    inl (a, by, is, four_stuck (WroteRun a by s k) w.ends w.status_is w.wrote)
+stuck_of v s k answer (inr by_load) same =
     let w : Summed by_load.0 k 4 = summary_wrote by_load.0 4 (λ h. omega arith) (λ h. omega arith) s k answer by_load.2 same in
     inr (by_load.0, by_load.1, four_stuck (WroteSummary by_load.0 k) w.ends w.status_is w.wrote)
 
-pub stuck : (form : Option Form) (s : Sourcing) (k : Sinking) (answer : ℕ) → Tells (service_of form) s k answer → answer ≡ 4 → WroteFor form s k ending.Stuck
-stuck form s k answer told same =
-    stuck_of form s k answer (run_only 4 (λ h. omega arith) (λ h. omega arith) (λ h. omega arith) (λ h. omega arith) refl refl form s k answer told same) same
+pub stuck : (v : Service) (s : Sourcing) (k : Sinking) (answer : ℕ) → Tells v s k answer → answer ≡ 4 → WroteFor v s k ending.Stuck
+stuck v s k answer told same =
+    stuck_of v s k answer (run_only 4 (λ h. omega arith) (λ h. omega arith) (λ h. omega arith) (λ h. omega arith) refl refl refl v s k answer told same) same
 
-limit_of : (form : Option Form) (s : Sourcing) (k : Sinking) (answer : ℕ) → IsRunner form s k answer → answer ≡ 5 → WroteFor form s k ending.Limit
-limit_of form s k answer (inl by_run) same =
-    let w : Wrote by_run.0 s k 5 = run_wrote by_run.0 5 refl (λ h. omega arith) (λ h. omega arith) s k answer by_run.2 same in
-    inl (by_run.0, by_run.1, five_limit (WroteRun by_run.0 s k) w.ends w.status_is w.wrote)
-limit_of form s k answer (inr by_load) same =
+limit_of : (v : Service) (s : Sourcing) (k : Sinking) (answer : ℕ) → IsRunner v s k answer → answer ≡ 5 → WroteFor v s k ending.Limit
+limit_of v s k answer (inl (a, by, is, told)) same =
+    let w : Wrote a by s k 5 = run_wrote a by 5 refl (λ h. omega arith) (λ h. omega arith) s k answer told same in
+    inl (a, by, is, five_limit (WroteRun a by s k) w.ends w.status_is w.wrote)
+limit_of v s k answer (inr by_load) same =
     let w : Summed by_load.0 k 5 = summary_wrote by_load.0 5 (λ h. omega arith) (λ h. omega arith) s k answer by_load.2 same in
     inr (by_load.0, by_load.1, five_limit (WroteSummary by_load.0 k) w.ends w.status_is w.wrote)
 
-pub limit : (form : Option Form) (s : Sourcing) (k : Sinking) (answer : ℕ) → Tells (service_of form) s k answer → answer ≡ 5 → WroteFor form s k ending.Limit
-limit form s k answer told same =
-    limit_of form s k answer (run_only 5 (λ h. omega arith) (λ h. omega arith) (λ h. omega arith) (λ h. omega arith) refl refl form s k answer told same) same
+pub limit : (v : Service) (s : Sourcing) (k : Sinking) (answer : ℕ) → Tells v s k answer → answer ≡ 5 → WroteFor v s k ending.Limit
+limit v s k answer told same =
+    limit_of v s k answer (run_only 5 (λ h. omega arith) (λ h. omega arith) (λ h. omega arith) (λ h. omega arith) refl refl refl v s k answer told same) same
 
 -- ---- words
 
 -- 2 is answered to words of no form
-pub usage_only : (form : Option Form) (s : Sourcing) (k : Sinking) (answer : ℕ) → Tells (service_of form) s k answer → answer ≡ 2 → form ≡ None
-usage_only None s k answer told same = refl
-usage_only (Some Check) s k answer told same = absurd (check_never 2 s k answer refl (λ h. omega arith) told same)
-usage_only (Some Order) s k answer told same = absurd (run_never Listed 2 s k answer refl (λ h. omega arith) told same)
-usage_only (Some (Seed n)) s k answer told same = absurd (run_never (Seeded n) 2 s k answer refl (λ h. omega arith) told same)
-usage_only (Some Replay) s k answer told same = absurd (judge_never 2 s k answer refl (λ h. omega arith) told same)
-usage_only (Some (Gen n)) s k answer told same = absurd (scenario_never n 2 s k answer (λ h. omega arith) (λ h. omega arith) (λ h. omega arith) told same)
-usage_only (Some (Load n)) s k answer told same = absurd (summary_never n 2 s k answer refl (λ h. omega arith) told same)
+pub usage_only : (v : Service) (s : Sourcing) (k : Sinking) (answer : ℕ) → Tells v s k answer → answer ≡ 2 → v ≡ Usage
+usage_only Usage s k answer told same = refl
+usage_only (Reads r) s k answer told same = absurd (reads_no_usage r s k answer told same)
+usage_only (Scenario n) s k answer told same = absurd (scenario_never n 2 s k answer (λ h. omega arith) (λ h. omega arith) (λ h. omega arith) told same)
+usage_only (Summary n) s k answer told same = absurd (summary_never n 2 s k answer refl (λ h. omega arith) told same)
 
-pub usage_always : (form : Option Form) (s : Sourcing) (k : Sinking) (answer : ℕ) → form ≡ None → Tells (service_of form) s k answer → (answer ≡ 2) ⊎ (answer ≡ 13)
-usage_always form s k answer h told = usage_answers s k answer (rw h at told)
+pub usage_always : (v : Service) (s : Sourcing) (k : Sinking) (answer : ℕ) → v ≡ Usage → Tells v s k answer → (answer ≡ 2) ⊎ (answer ≡ 13)
+usage_always v s k answer h told = usage_answers s k answer (rw h at told)
 
 -- a form that doesn't read leaves its source as it was
-pub unread : (form : Option Form) (s : Sourcing) (k : Sinking) (answer : ℕ) → is_reading form ≡ false → Tells (service_of form) s k answer → (s.after ≡ s.before) × (s.faults_after ≡ s.faults_before)
-unread None s k answer h (text, status, due, said) = due.0
-unread (Some Check) s k answer h told = absurd (let z : ⊥ = cc in z)
-unread (Some Order) s k answer h told = absurd (let z : ⊥ = cc in z)
-unread (Some (Seed n)) s k answer h told = absurd (let z : ⊥ = cc in z)
-unread (Some Replay) s k answer h told = absurd (let z : ⊥ = cc in z)
-unread (Some (Gen n)) s k answer h (text, status, due, said) = due.0
-unread (Some (Load n)) s k answer h (text, status, due, said) = due.0
+pub unread : (v : Service) (s : Sourcing) (k : Sinking) (answer : ℕ) → reads_input v ≡ false → Tells v s k answer → (s.after ≡ s.before) × (s.faults_after ≡ s.faults_before)
+unread Usage s k answer h (text, status, due, said) = due.0
+unread (Reads r) s k answer h told = absurd (let z : ⊥ = cc in z)
+unread (Scenario n) s k answer h (text, status, due, said) = due.0
+unread (Summary n) s k answer h (text, status, due, said) = due.0
 
 -- what `gen N` writes, where the sink doesn't fail
 pub generated_given : (n : ℕ) (s : Sourcing) (k : Sinking) (answer : ℕ) → Tells (Scenario n) s k answer → Stayed k.faults_before k.faults_after

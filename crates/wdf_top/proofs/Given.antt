@@ -1,6 +1,7 @@
 -- What a form that reads answers to its input.
 use Rattle.std.proofs.Common.{ℕ, ◌≡◌, ◌+◌, ◌<◌, ◌≤◌, ◌⊎◌, inl, inr, ◌++◌, List, [], length, Option, Some, None, sym, ap, ◌∙◌, arith, length-append, subst, ◌≢◌}
 use Rattle.std.proofs.lemmas.List.{append-nil}
+use Rattle.wdf_base.specs.Meaning.{Meaning}
 use Rattle.wdf_base.specs.declared.plan.Plan.{Plan}
 use Rattle.wdf_scene.specs.declared.scene.Scene.{Scene}
 use Rattle.wdf_io.specs.Outside.{Gains, Takes}
@@ -9,13 +10,12 @@ use Rattle.wdf_parse.specs.StandsFor.{StandsFor}
 use Rattle.wdf_refusals.specs.declared.refusal.PlanRefusal.{PlanRefusal}
 use Rattle.wdf_refusals.specs.First.{first_refusal}
 use Rattle.wdf_input.specs.declared.input.TheConstants.{INPUT_LIMIT}
-use Rattle.wdf_top.specs.declared.run.Picks.{Picks}
-use Rattle.wdf_top.specs.Answers.{Answering, Answers, HasNoScene, HasNoPlan, HasPlan, IsTraceOf, picks_of, running, checking, judging}
+use Rattle.wdf_top.specs.Answers.{Answering, Answers, HasNoScene, HasNoPlan, HasPlan, IsTraceOf, Picking, answering_of, running}
 use Rattle.wdf_top.specs.Causes.{IsGiven, Stayed, Unhindered}
 use Rattle.wdf_input.specs.Input.{TakesAll, TakesAtMost, TakesCount, UsesUp}
 use Rattle.wdf_output.specs.Said.{Sinking, IsCutShort}
-use Rattle.wdf_top.specs.Top.{Sourcing, IsAnswered, IsReadDue, Tells, Usage, Canonical, Run, Judgement, Scenario, Summary, Service, scenario_by}
-use Rattle.wdf_top.proofs.Statuses.{IsReader, ToldBy}
+use Rattle.wdf_top.specs.Top.{Sourcing, IsAnswered, IsReadDue, Tells, TellsBy, Usage, Reads, Scenario, Summary, Service, scenario_by}
+use Rattle.wdf_top.proofs.Statuses.{IsReader}
 
 -- ---- what was read
 
@@ -27,7 +27,7 @@ due_answered way s text status (inr (inr (inl p))) a b c = absurd (a p.3)
 due_answered way s text status (inr (inr (inr p))) a b c = absurd (c p.3)
 
 -- the answer to the whole input, where neither a fault nor out of memory is answered
-pub answered : (way : Answering) (s : Sourcing) (k : Sinking) (answer : ℕ) → ToldBy way s k answer → answer ≢ 12 → answer ≢ 13 → answer ≢ 14 → answer ≢ 15
+pub answered : (way : Answering) (s : Sourcing) (k : Sinking) (answer : ℕ) → TellsBy way s k answer → answer ≢ 12 → answer ≢ 13 → answer ≢ 14 → answer ≢ 15
     → (text : List ℕ) × IsAnswered way s text answer × Gains k.before k.after text
 answered way s k answer (text, status, due, inr p) a b c d = absurd (b p.0)
 answered way s k answer (text, status, due, inl p) a b c d = (
@@ -41,7 +41,7 @@ all_used : (before after : Option (List ℕ)) (input : List ℕ) → TakesAll be
 all_used None after input all = tt
 all_used (Some left) after input all = all.1
 
-pub whole_input : (way : Answering) (s : Sourcing) (k : Sinking) (answer : ℕ) → ToldBy way s k answer → answer ≢ 12 → answer ≢ 13 → answer ≢ 14 → answer ≢ 15 → UsesUp s.before s.after
+pub whole_input : (way : Answering) (s : Sourcing) (k : Sinking) (answer : ℕ) → TellsBy way s k answer → answer ≢ 12 → answer ≢ 13 → answer ≢ 14 → answer ≢ 15 → UsesUp s.before s.after
 whole_input way s k answer told a b c d =
     let h : (text : List ℕ) × IsAnswered way s text answer × Gains k.before k.after text = answered way s k answer told a b c d in
     all_used s.before s.after h.1.0 h.1.1.0
@@ -66,7 +66,7 @@ at_most_all None after input all small = ([], omega arith, tt)
 at_most_all (Some left) after input all small = (input, omega arith, all_taken left input after all)
 
 -- the source is read no further than the byte past the limit
-pub no_further : (way : Answering) (s : Sourcing) (k : Sinking) (answer : ℕ) → ToldBy way s k answer → TakesAtMost s.before s.after (INPUT_LIMIT + 1)
+pub no_further : (way : Answering) (s : Sourcing) (k : Sinking) (answer : ℕ) → TellsBy way s k answer → TakesAtMost s.before s.after (INPUT_LIMIT + 1)
 no_further way s k answer (text, status, inl p, said) = at_most_all s.before s.after p.0 p.1.0 p.1.1
 no_further way s k answer (text, status, inr (inl p), said) = (p.0.0, omega (arith, p.0.1), p.0.2)
 no_further way s k answer (text, status, inr (inr (inl p)), said) = (p.1.0, omega (arith, p.1.1), p.1.2)
@@ -101,7 +101,7 @@ due_large way s text status left told many (inr (inr (inr p))) =
     let more : TakesCount (Some left) s.after (INPUT_LIMIT + 1) = rw told at many in
     absurd (few_only left s.after few more)
 
-told_large : (way : Answering) (s : Sourcing) (k : Sinking) (answer : ℕ) (left : List ℕ) → s.before ≡ Some left → TakesCount s.before s.after (INPUT_LIMIT + 1) → ToldBy way s k answer → (answer ≡ 14) ⊎ (answer ≡ 13)
+told_large : (way : Answering) (s : Sourcing) (k : Sinking) (answer : ℕ) (left : List ℕ) → s.before ≡ Some left → TakesCount s.before s.after (INPUT_LIMIT + 1) → TellsBy way s k answer → (answer ≡ 14) ⊎ (answer ≡ 13)
 told_large way s k answer left told many (text, status, due, inl said) = inl (said.0 ∙ due_large way s text status left told many due)
 told_large way s k answer left told many (text, status, due, inr said) = inr said.0
 
@@ -115,10 +115,8 @@ unread_few left after same many =
 -- the byte past the limit was read: 14 is answered, unless the sink fails
 pub large_always : (v : Service) (s : Sourcing) (k : Sinking) (answer : ℕ) → Tells v s k answer → (left : List ℕ) → s.before ≡ Some left → TakesCount s.before s.after (INPUT_LIMIT + 1) → (answer ≡ 14) ⊎ (answer ≡ 13)
 large_always Usage s k answer (text, status, due, said) left told many = absurd (unread_few left s.after (due.0.0 ∙ told) (rw told at many))
-large_always Canonical s k answer h left told many = told_large checking s k answer left told many h
-large_always (Run picks) s k answer h left told many = told_large (running picks) s k answer left told many h
+large_always (Reads r) s k answer h left told many = told_large (answering_of r) s k answer left told many h
 large_always (Scenario n) s k answer (text, status, due, said) left told many = absurd (unread_few left s.after (due.0.0 ∙ told) (rw told at many))
-large_always Judgement s k answer h left told many = told_large judging s k answer left told many h
 large_always (Summary n) s k answer (text, status, due, said) left told many = absurd (unread_few left s.after (due.0.0 ∙ told) (rw told at many))
 
 -- what is due where more is left than the limit
@@ -132,7 +130,7 @@ due_over way s text status left told over stayed (inr (inl p)) = inl p.3
 due_over way s text status left told over stayed (inr (inr (inl p))) = absurd (stayed p.0)
 due_over way s text status left told over stayed (inr (inr (inr p))) = inr p.3
 
-pub over_always : (way : Answering) (s : Sourcing) (k : Sinking) (answer : ℕ) → ToldBy way s k answer → (left : List ℕ) → s.before ≡ Some left → INPUT_LIMIT < length left → Stayed s.faults_before s.faults_after → Unhindered 14 answer
+pub over_always : (way : Answering) (s : Sourcing) (k : Sinking) (answer : ℕ) → TellsBy way s k answer → (left : List ℕ) → s.before ≡ Some left → INPUT_LIMIT < length left → Stayed s.faults_before s.faults_after → Unhindered 14 answer
 over_always way s k answer (text, status, due, inr said) left told over stayed = inr (inl said.0)
 over_always way s k answer (text, status, due, inl said) left told over stayed =
     elim (due_over way s text status left told over stayed due) [
@@ -157,7 +155,7 @@ due_given way s text status input given (inr (inr (inl p))) = absurd (given.stay
 due_given way s text status input given (inr (inr (inr p))) = inl p.3
 
 -- What is written for an input that is given, where the sink doesn't fail: its answer, with its status, unless memory was wanting.
-pub answers_given : (way : Answering) (s : Sourcing) (k : Sinking) (answer : ℕ) → ToldBy way s k answer
+pub answers_given : (way : Answering) (s : Sourcing) (k : Sinking) (answer : ℕ) → TellsBy way s k answer
     → (input : List ℕ) → IsGiven s input → Stayed k.faults_before k.faults_after
     → (answer ≡ 15) ⊎ ((text : List ℕ) × Answers way input text answer × Gains k.before k.after text)
 answers_given way s k answer (text, status, due, inr p) input given kept = let cut : IsCutShort k text = p.1 in absurd (kept cut.rose)
@@ -168,7 +166,7 @@ answers_given way s k answer (text, status, due, inl p) input given kept =
     ]
 
 -- a status that each answer to the input has
-pub unless_given : (way : Answering) (n : ℕ) (s : Sourcing) (k : Sinking) (answer : ℕ) → ToldBy way s k answer
+pub unless_given : (way : Answering) (n : ℕ) (s : Sourcing) (k : Sinking) (answer : ℕ) → TellsBy way s k answer
     → (input : List ℕ) → IsGiven s input → ((text : List ℕ) (status : ℕ) → Answers way input text status → status ≡ n) → Unhindered n answer
 unless_given way n s k answer (text, status, due, inr p) input given each = inr (inl p.0)
 unless_given way n s k answer (text, status, due, inl p) input given each =
@@ -184,7 +182,7 @@ no_scene_status way input none_stands text status (inl (inl r)) = r.4
 no_scene_status way input none_stands text status (inl (inr r)) = absurd (none_stands r.1.0 r.1.1)
 no_scene_status way input none_stands text status (inr r) = absurd (none_stands r.0 r.1)
 
-pub no_scene_always : (way : Answering) (s : Sourcing) (k : Sinking) (answer : ℕ) → ToldBy way s k answer → (input : List ℕ) → IsGiven s input → HasNoScene (way.scenario input) → Unhindered 10 answer
+pub no_scene_always : (way : Answering) (s : Sourcing) (k : Sinking) (answer : ℕ) → TellsBy way s k answer → (input : List ℕ) → IsGiven s input → HasNoScene (way.scenario input) → Unhindered 10 answer
 no_scene_always way s k answer told input given none_stands = unless_given way 10 s k answer told input given (no_scene_status way input none_stands)
 
 -- ---- no plan
@@ -202,27 +200,27 @@ no_plan_status way input refusal refused text status (inl (inl r)) = absurd (r.1
 no_plan_status way input refusal refused text status (inl (inr r)) = r.3
 no_plan_status way input refusal refused text status (inr r) = absurd (two_plans (way.scenario input) refusal refused r.0 r.1 r.2)
 
-pub no_plan_always : (way : Answering) (s : Sourcing) (k : Sinking) (answer : ℕ) → ToldBy way s k answer → (input : List ℕ) → IsGiven s input → (refusal : PlanRefusal) → HasNoPlan (way.scenario input) refusal → Unhindered 11 answer
+pub no_plan_always : (way : Answering) (s : Sourcing) (k : Sinking) (answer : ℕ) → TellsBy way s k answer → (input : List ℕ) → IsGiven s input → (refusal : PlanRefusal) → HasNoPlan (way.scenario input) refusal → Unhindered 11 answer
 no_plan_always way s k answer told input given refusal refused = unless_given way 11 s k answer told input given (no_plan_status way input refusal refused)
 
 -- ---- a plan
 
--- what is answered to an input that has a plan is the trace of its run
-plan_traced : (picks : Picks) (input : List ℕ) (plan : Plan) → HasPlan input plan → (text : List ℕ) (status : ℕ) → Answers (running picks) input text status → IsTraceOf plan (picks_of picks plan) text status
-plan_traced picks input plan has text status (inl (inl r)) = absurd (r.1 has.0 has.1)
-plan_traced picks input plan has text status (inl (inr r)) = absurd (two_plans input r.0 r.1 has.0 has.1 has.2)
-plan_traced picks input plan has text status (inr (scene, stands, accepted, trace)) =
+-- what is answered to an input that has a plan is the text of a run of it
+plan_traced : {A : Type 0} (m : Meaning A) (by : Picking) (input : List ℕ) (plan : Plan) → HasPlan input plan → (text : List ℕ) (status : ℕ) → Answers (running m by) input text status → IsTraceOf plan m by text status
+plan_traced m by input plan has text status (inl (inl r)) = absurd (r.1 has.0 has.1)
+plan_traced m by input plan has text status (inl (inr r)) = absurd (two_plans input r.0 r.1 has.0 has.1 has.2)
+plan_traced m by input plan has text status (inr (scene, stands, accepted, trace)) =
     let same : scene ≡ has.0 = one_stands input scene has.0 stands has.1 in
     rw (has.3, ← same) trace
 
-pub run_given : (picks : Picks) (s : Sourcing) (k : Sinking) (answer : ℕ) → ToldBy (running picks) s k answer
+pub run_given : {A : Type 0} (m : Meaning A) (by : Picking) (s : Sourcing) (k : Sinking) (answer : ℕ) → TellsBy (running m by) s k answer
     → (input : List ℕ) → IsGiven s input → Stayed k.faults_before k.faults_after
     → (plan : Plan) → HasPlan input plan
-    → (answer ≡ 15) ⊎ ((text : List ℕ) × IsTraceOf plan (picks_of picks plan) text answer × Gains k.before k.after text)
-run_given picks s k answer told input given kept plan has =
-    elim (answers_given (running picks) s k answer told input given kept) [
+    → (answer ≡ 15) ⊎ ((text : List ℕ) × IsTraceOf plan m by text answer × Gains k.before k.after text)
+run_given m by s k answer told input given kept plan has =
+    elim (answers_given (running m by) s k answer told input given kept) [
       | inl h ↦ inl h
-      | inr h ↦ inr (h.0, plan_traced picks input plan has h.0 answer h.1, h.2)
+      | inr h ↦ inr (h.0, plan_traced m by input plan has h.0 answer h.1, h.2)
     ]
 
 -- ---- a form that reads

@@ -1,42 +1,36 @@
 -- The verdict on an input's trace, a lemma for each of the top call's clauses.
-use Rattle.std.proofs.Common.{ℕ, ◌≡◌, ◌+◌, ◌<◌, ◌≤◌, ◌^◌, ◌⊎◌, inl, inr, Bool, true, false, List, [], ◌∷◌, ◌++◌, length, codes, decimal, Option, Some, None, refl, sym, ap, subst, ◌∙◌, arith, ◌≢◌, length-append, map, nat_le}
+use Rattle.std.proofs.Common.{ℕ, ◌≡◌, ◌+◌, ◌⊎◌, inl, inr, List, [], ◌∷◌, ◌++◌, length, refl, sym, ap, subst, ◌∙◌, arith, length-append, map}
 use Rattle.wdf_base.specs.Resolved.{IsResolved}
 use Rattle.wdf_base.specs.declared.plan.Plan.{Plan}
 use Rattle.wdf_base.specs.declared.event.Event.{Event}
 use Rattle.wdf_base.specs.declared.event.Ending.{Ending}
 use Rattle.wdf_base.specs.declared.event.Ending.TheVariants as ending
-use Rattle.wdf_scene.specs.declared.scene.Scene.{Scene}
 use Rattle.wdf_model.specs.rules.Ready.{ending_of}
 use Rattle.wdf_model.specs.rules.Waits.{wait_list}
 use Rattle.wdf_dev.specs.Agents.{agent_meaning}
 use Rattle.wdf_io.specs.Outside.{Gains}
 use Rattle.wdf_input.specs.Input.{TakesAll}
-use Rattle.wdf_parse.specs.StandsFor.{StandsFor}
 use Rattle.wdf_parse.proofs.Uniqueness.{one_stands}
-use Rattle.wdf_refusals.specs.First.{first_refusal}
 use Rattle.wdf_plan.specs.Plans.{plan_of}
 use Rattle.wdf_lines.specs.Endings.{ending_text}
 use Rattle.wdf_replay.specs.declared.verdict.Why.{Why}
 use Rattle.wdf_replay.specs.declared.verdict.Why.TheVariants as why
 use Rattle.wdf_replay.specs.declared.verdict.Verdict.{Verdict}
 use Rattle.wdf_replay.specs.declared.verdict.Verdict.TheVariants as verdict
-use Rattle.wdf_run_text.specs.Lines.{fed, trace_lines}
-use Rattle.wdf_run_text.specs.Texts.{event_lines, end_lines, fed_wait, lines_so_far}
+use Rattle.wdf_run_text.specs.Lines.{fed}
+use Rattle.wdf_run_text.specs.Texts.{event_lines, fed_wait, lines_so_far}
 use Rattle.wdf_replay.specs.Verdicts.{GivesVerdict, IsAccepted, IsBad, IsLeft, IsRefused, IsWhole}
 use Rattle.wdf_replay.proofs.Complete.{complete}
 use Rattle.wdf_replay.proofs.RunLines.{end_lines_over}
 use Rattle.wdf_split.specs.Inputs.{scenario_in, trace_in}
 use Rattle.wdf_output.specs.Said.{Sinking, Says}
-use Rattle.wdf_top.specs.declared.words.Form.{Form}
-use Rattle.wdf_top.specs.declared.words.Form.TheVariants.{Check, Order, Seed, Replay, Gen, Load}
-use Rattle.wdf_top.specs.declared.run.Picks.TheVariants.{Listed, Seeded}
-use Rattle.wdf_top.specs.Answers.{Answers, HasPlan, IsVerdict, accepted_line, judging, refused_line, verdict_line, verdict_status}
+use Rattle.wdf_top.specs.Answers.{Answers, HasPlan, IsVerdict, Canonical, Run, Judgement, Findings, accepted_line, judging, refused_line, verdict_line, verdict_status}
 use Rattle.wdf_top.specs.Causes.{IsGiven, Stayed, Unhindered, WroteAccepted, WroteRefused}
-use Rattle.wdf_top.specs.Top.{Sourcing, IsAnswered, Tells, TellsVerdict, Usage, Canonical, Run, Judgement, Scenario, Summary, service_of}
+use Rattle.wdf_top.specs.Top.{Sourcing, Service, IsAnswered, Tells, TellsBy, TellsVerdict, Usage, Reads, Scenario, Summary}
 use Rattle.wdf_top.proofs.Causes.{whole_answer}
 use Rattle.wdf_top.proofs.Given.{answers_given, two_plans, unless_given}
 use Rattle.wdf_top.proofs.Resolving.{text_plan_resolved}
-use Rattle.wdf_top.proofs.Statuses.{ToldBy, check_never, run_never, scenario_never, summary_never, third, usage_answers}
+use Rattle.wdf_top.proofs.Statuses.{reads_never, scenario_never, summary_never, third, usage_answers}
 
 -- the verdict was said, with the number of the events that are left on the core
 pub verdict_told : (plan : Plan) (trace : List ℕ) (v : Verdict) (left : List Event) (k : Sinking) (answer : ℕ) → GivesVerdict plan agent_meaning trace v → IsLeft plan agent_meaning trace v left
@@ -72,7 +66,7 @@ judged_plan input plan has text status (inr (scene, stands, accepted, judged)) =
     let same : scene ≡ has.0 = one_stands (scenario_in input) scene has.0 stands has.1 in
     rw (has.3, ← same) judged
 
-pub verdict_given : (s : Sourcing) (k : Sinking) (answer : ℕ) → ToldBy judging s k answer
+pub verdict_given : (s : Sourcing) (k : Sinking) (answer : ℕ) → TellsBy judging s k answer
     → (input : List ℕ) → IsGiven s input → Stayed k.faults_before k.faults_after
     → (plan : Plan) → HasPlan (scenario_in input) plan
     → (answer ≡ 15) ⊎ ((text : List ℕ) × IsVerdict plan (trace_in input) text answer × Gains k.before k.after text)
@@ -110,7 +104,7 @@ missing_given_by k answer plan (inr (text, judged, gained)) =
     let is : (text ≡ refused_line 1 why.Missing) × (answer ≡ 6) = no_trace_verdict plan text answer judged in
     inr (is.1, rw is.0 at gained)
 
-pub missing_given : (s : Sourcing) (k : Sinking) (answer : ℕ) → ToldBy judging s k answer
+pub missing_given : (s : Sourcing) (k : Sinking) (answer : ℕ) → TellsBy judging s k answer
     → (input : List ℕ) → IsGiven s input → Stayed k.faults_before k.faults_after
     → (plan : Plan) → HasPlan (scenario_in input) plan → trace_in input ≡ []
     → (answer ≡ 15) ⊎ ((answer ≡ 6) × Gains k.before k.after (refused_line 1 why.Missing))
@@ -124,7 +118,7 @@ refused_status : (plan : Plan) (trace : List ℕ) (line : ℕ) (y : Why) → IsR
 refused_status plan trace line y resolved refused text status (inl h) = absurd (whole_not_refused plan trace _ line y resolved (whole_of plan trace h.0 h.1) refused)
 refused_status plan trace line y resolved refused text status (inr h) = h.4
 
-pub refused_always : (s : Sourcing) (k : Sinking) (answer : ℕ) → ToldBy judging s k answer → (input : List ℕ) → IsGiven s input → (plan : Plan) → HasPlan (scenario_in input) plan
+pub refused_always : (s : Sourcing) (k : Sinking) (answer : ℕ) → TellsBy judging s k answer → (input : List ℕ) → IsGiven s input → (plan : Plan) → HasPlan (scenario_in input) plan
     → (line : ℕ) (y : Why) → IsRefused plan agent_meaning (trace_in input) line y → Unhindered 6 answer
 refused_always s k answer told input given plan has line y refused =
     unless_given judging 6 s k answer told input given
@@ -135,7 +129,7 @@ accepted_status : (plan : Plan) (trace : List ℕ) (run : List Event) → IsReso
 accepted_status plan trace run resolved whole text status (inl h) = h.3
 accepted_status plan trace run resolved whole text status (inr h) = absurd (whole_not_refused plan trace run h.0 h.1 resolved whole h.2)
 
-pub accepted_always : (s : Sourcing) (k : Sinking) (answer : ℕ) → ToldBy judging s k answer → (input : List ℕ) → IsGiven s input → (plan : Plan) → HasPlan (scenario_in input) plan
+pub accepted_always : (s : Sourcing) (k : Sinking) (answer : ℕ) → TellsBy judging s k answer → (input : List ℕ) → IsGiven s input → (plan : Plan) → HasPlan (scenario_in input) plan
     → (run : List Event) → IsWhole plan agent_meaning (trace_in input) run → Unhindered 0 answer
 accepted_always s k answer told input given plan has run whole =
     unless_given judging 0 s k answer told input given
@@ -170,22 +164,22 @@ wrote_accepted s k input text whole (inr (scene, stands, accepted, inl (e, is_ac
   written = rw text_is at gained;
 }
 
-pub accepted_only : (s : Sourcing) (k : Sinking) (answer : ℕ) → ToldBy judging s k answer → answer ≡ 0 → WroteAccepted s k
+pub accepted_only : (s : Sourcing) (k : Sinking) (answer : ℕ) → TellsBy judging s k answer → answer ≡ 0 → WroteAccepted s k
 accepted_only s k answer told same =
     let all : (text : List ℕ) × IsAnswered judging s text 0 × Gains k.before k.after text = whole_answer judging 0 refl s k answer told same in
     wrote_accepted s k all.1.0 all.0 all.1.1.0 all.1.2 all.2
 
-judged_refused : (s : Sourcing) (k : Sinking) (answer : ℕ) → ToldBy judging s k answer → answer ≡ 6 → WroteRefused s k
+judged_refused : (s : Sourcing) (k : Sinking) (answer : ℕ) → TellsBy judging s k answer → answer ≡ 6 → WroteRefused s k
 judged_refused s k answer told same =
     let all : (text : List ℕ) × IsAnswered judging s text 6 × Gains k.before k.after text = whole_answer judging 6 refl s k answer told same in
     wrote_refused s k all.1.0 all.0 all.1.1.0 all.1.2 all.2
 
 -- only `replay` answers 6
-pub refused_only : (form : Option Form) (s : Sourcing) (k : Sinking) (answer : ℕ) → Tells (service_of form) s k answer → answer ≡ 6 → (form ≡ Some Replay) × WroteRefused s k
-refused_only None s k answer told same = absurd (third answer 2 13 6 (usage_answers s k answer told) (λ h. omega arith) (λ h. omega arith) same)
-refused_only (Some Check) s k answer told same = absurd (check_never 6 s k answer refl (λ h. omega arith) told same)
-refused_only (Some Order) s k answer told same = absurd (run_never Listed 6 s k answer refl (λ h. omega arith) told same)
-refused_only (Some (Seed n)) s k answer told same = absurd (run_never (Seeded n) 6 s k answer refl (λ h. omega arith) told same)
-refused_only (Some Replay) s k answer told same = (refl, judged_refused s k answer told same)
-refused_only (Some (Gen n)) s k answer told same = absurd (scenario_never n 6 s k answer (λ h. omega arith) (λ h. omega arith) (λ h. omega arith) told same)
-refused_only (Some (Load n)) s k answer told same = absurd (summary_never n 6 s k answer refl (λ h. omega arith) told same)
+pub refused_only : (v : Service) (s : Sourcing) (k : Sinking) (answer : ℕ) → Tells v s k answer → answer ≡ 6 → (v ≡ Reads Judgement) × WroteRefused s k
+refused_only Usage s k answer told same = absurd (third answer 2 13 6 (usage_answers s k answer told) (λ h. omega arith) (λ h. omega arith) same)
+refused_only (Reads Canonical) s k answer told same = absurd (reads_never Canonical 6 s k answer refl (λ h. omega arith) told same)
+refused_only (Reads (Run a by)) s k answer told same = absurd (reads_never (Run a by) 6 s k answer refl (λ h. omega arith) told same)
+refused_only (Reads Judgement) s k answer told same = (refl, judged_refused s k answer told same)
+refused_only (Reads Findings) s k answer told same = absurd (reads_never Findings 6 s k answer refl (λ h. omega arith) told same)
+refused_only (Scenario n) s k answer told same = absurd (scenario_never n 6 s k answer (λ h. omega arith) (λ h. omega arith) (λ h. omega arith) told same)
+refused_only (Summary n) s k answer told same = absurd (summary_never n 6 s k answer refl (λ h. omega arith) told same)

@@ -1,5 +1,5 @@
 -- The line of an accepted trace, put together.
-use Rattle.std.proofs.Common.{ℕ, ◌≡◌, List, [], ◌++◌, codes, decimal, refl, ap, ◌∙◌, sym, append_assoc}
+use Rattle.std.proofs.Common.{ℕ, ◌≡◌, ◌++◌, codes, decimal, ap, ◌∙◌, append_assoc}
 use Rattle.std.proofs.lemmas.List.{append-nil}
 use Rattle.wdf_base.specs.declared.event.Ending.{Ending}
 use Rattle.wdf_lines.specs.Endings.{ending_word}

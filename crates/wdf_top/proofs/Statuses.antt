@@ -1,19 +1,18 @@
 -- Which statuses each form of words may answer, and what they come from.
-use Rattle.std.proofs.Common.{ℕ, ◌≡◌, ◌==◌, ◌||◌, ◌⊎◌, inl, inr, Bool, true, false, IsTrue, List, Option, Some, None, refl, sym, ap, ◌∙◌, arith, ◌≢◌}
+use Rattle.std.proofs.Common.{ℕ, ◌≡◌, ◌==◌, ◌||◌, ◌⊎◌, inl, inr, Bool, true, false, IsTrue, List, refl, sym, ap, ◌∙◌, arith, ◌≢◌}
 use Rattle.wdf_base.specs.declared.event.Ending.{Ending}
 use Rattle.wdf_base.specs.declared.event.Ending.TheVariants as ending
 use Rattle.wdf_scene.specs.declared.scene.Scene.{Scene}
 use Rattle.wdf_io.specs.Outside.{Rose}
 use Rattle.wdf_parse.specs.StandsFor.{StandsFor}
+use Rattle.wdf_lint.specs.declared.static_check.LintAnswer.{LintAnswer}
+use Rattle.wdf_lint.specs.declared.static_check.LintAnswer.TheVariants as lint
+use Rattle.wdf_lint_text.specs.Lines.{answer_status}
 use Rattle.wdf_output.specs.Endings.{status_of}
-use Rattle.wdf_output.specs.Said.{Sinking, IsCutShort, Says}
-use Rattle.wdf_top.specs.declared.run.Picks.{Picks}
-use Rattle.wdf_top.specs.declared.words.Form.{Form}
-use Rattle.wdf_top.specs.declared.words.Form.TheVariants.{Check, Order, Seed, Replay, Gen, Load}
-use Rattle.wdf_top.specs.declared.run.Picks.TheVariants.{Listed, Seeded}
-use Rattle.wdf_top.specs.Answers.{Answering, Answers, running, checking, judging}
-use Rattle.wdf_top.specs.Causes.{is_reading, is_status}
-use Rattle.wdf_top.specs.Top.{Sourcing, IsDue, IsReadDue, IsSummary, Service, Tells, Usage, Canonical, Run, Judgement, Scenario, Summary, scenario_by, service_of}
+use Rattle.wdf_output.specs.Said.{Sinking, IsCutShort}
+use Rattle.wdf_top.specs.Answers.{Answering, Answers, Reading, Canonical, Run, Judgement, Findings, answering_of}
+use Rattle.wdf_top.specs.Causes.{is_status}
+use Rattle.wdf_top.specs.Top.{Sourcing, IsDue, IsReadDue, IsSummary, Service, Tells, TellsBy, Usage, Reads, Scenario, Summary, reads_input, scenario_by}
 
 -- ---- tests of statuses
 
@@ -33,113 +32,112 @@ due_fits p a own ten eleven twelve fourteen fifteen s text status (inr (inl h)) 
 due_fits p a own ten eleven twelve fourteen fifteen s text status (inr (inr (inl h))) = rw h.3 twelve
 due_fits p a own ten eleven twelve fourteen fifteen s text status (inr (inr (inr h))) = rw h.3 fifteen
 
--- the statuses that `order` and `seed N` answer, beside 13
-abbrev pub is_run_status : ℕ → Bool
-is_run_status n = n == 0 || n == 3 || n == 4 || n == 5 || n == 10 || n == 11 || n == 12 || n == 14 || n == 15
+-- a test that holds of each status of what a form writes for a scene that has a plan
+abbrev pub Meets : (ℕ → Bool) → Reading → Type 0
+Meets p Canonical = p 0 ≡ true
+Meets p (Run a by) = (p 0 ≡ true) × (p 3 ≡ true) × (p 4 ≡ true) × (p 5 ≡ true)
+Meets p Judgement = (p 0 ≡ true) × (p 6 ≡ true)
+Meets p Findings = (p 0 ≡ true) × (p 7 ≡ true)
 
--- those of `check`
-abbrev pub is_check_status : ℕ → Bool
-is_check_status n = n == 0 || n == 10 || n == 11 || n == 12 || n == 14 || n == 15
+-- a test that holds of 0, 3, 4 and 5 holds of each ending's status
+ended_meets : (p : ℕ → Bool) → p 0 ≡ true → p 3 ≡ true → p 4 ≡ true → p 5 ≡ true → (e : Ending) → p (status_of e) ≡ true
+ended_meets p a b c d ending.Running = a
+ended_meets p a b c d ending.Finished = a
+ended_meets p a b c d (ending.Fault f) = b
+ended_meets p a b c d ending.Stuck = c
+ended_meets p a b c d ending.Limit = d
 
--- those of `replay`
-abbrev pub is_judge_status : ℕ → Bool
-is_judge_status n = n == 0 || n == 6 || n == 10 || n == 11 || n == 12 || n == 14 || n == 15
+-- and one that holds of 0 and 7 holds of each answer's of the static check
+lint_meets : (p : ℕ → Bool) → p 0 ≡ true → p 7 ≡ true → (found : LintAnswer) → p (answer_status found) ≡ true
+lint_meets p a b lint.Clean = a
+lint_meets p a b (lint.Findings fs) = b
 
--- those of `load N`
+pub fits : (p : ℕ → Bool) (r : Reading) → Meets p r → Fits p (answering_of r)
+fits p Canonical m input scene stands text status h = rw h.1 m
+fits p (Run a by) m input scene stands text status h = rw h.status_is (ended_meets p m.0 m.1 m.2 m.3 _)
+fits p Judgement m input scene stands text status (inl h) = rw h.3 m.0
+fits p Judgement m input scene stands text status (inr h) = rw h.4 m.1
+fits p Findings m input scene stands text status h = rw h.3 (lint_meets p m.0 m.1 h.0)
+
+-- the statuses of what a form writes for a scene that has a plan
+abbrev pub own_status : Reading → ℕ → Bool
+own_status Canonical n = n == 0
+own_status (Run a by) n = n == 0 || n == 3 || n == 4 || n == 5
+own_status Judgement n = n == 0 || n == 6
+own_status Findings n = n == 0 || n == 7
+
+-- all statuses of a form that reads, beside 13
+abbrev pub read_status : Reading → ℕ → Bool
+read_status r n = n == 10 || n == 11 || n == 12 || n == 14 || n == 15 || own_status r n
+
+read_meets : (r : Reading) → Meets (read_status r) r
+read_meets Canonical = refl
+read_meets (Run a by) = (refl, refl, refl, refl)
+read_meets Judgement = (refl, refl)
+read_meets Findings = (refl, refl)
+
+pub due_status : (r : Reading) (s : Sourcing) (text : List ℕ) (status : ℕ) → IsReadDue (answering_of r) s text status → read_status r status ≡ true
+due_status r = due_fits (read_status r) (answering_of r) (fits (read_status r) r (read_meets r)) refl refl refl refl refl
+
+-- 2 and 13 are none of them
+no_usage : (r : Reading) → read_status r 2 ≡ false
+no_usage Canonical = refl
+no_usage (Run a by) = refl
+no_usage Judgement = refl
+no_usage Findings = refl
+
+no_sink : (r : Reading) → read_status r 13 ≡ false
+no_sink Canonical = refl
+no_sink (Run a by) = refl
+no_sink Judgement = refl
+no_sink Findings = refl
+
+-- the statuses of `load N`, beside 13
 abbrev pub is_load_status : ℕ → Bool
 is_load_status n = n == 0 || n == 3 || n == 4 || n == 5 || n == 15
 
--- a test that holds of 0, 3, 4 and 5 holds of what becomes of a plan
-run_fits : (p : ℕ → Bool) (picks : Picks) → ((e : Ending) → p (status_of e) ≡ true) → Fits p (running picks)
-run_fits p picks ended input scene stands text status h = rw h.status_is (ended _)
-
-scene_fits : (p : ℕ → Bool) → p 0 ≡ true → Fits p checking
-scene_fits p zero_is input scene stands text status h = rw h.1 zero_is
-
-judge_fits : (p : ℕ → Bool) → p 0 ≡ true → p 6 ≡ true → Fits p judging
-judge_fits p zero_is six input scene stands text status (inl h) = rw h.3 zero_is
-judge_fits p zero_is six input scene stands text status (inr h) = rw h.4 six
-
-ended_run : (e : Ending) → is_run_status (status_of e) ≡ true
-ended_run ending.Running = refl
-ended_run ending.Finished = refl
-ended_run (ending.Fault f) = refl
-ended_run ending.Stuck = refl
-ended_run ending.Limit = refl
-
-ended_listed : (e : Ending) → is_status (status_of e) ≡ true
-ended_listed ending.Running = refl
-ended_listed ending.Finished = refl
-ended_listed (ending.Fault f) = refl
-ended_listed ending.Stuck = refl
-ended_listed ending.Limit = refl
-
-pub run_status : (picks : Picks) (s : Sourcing) (text : List ℕ) (status : ℕ) → IsReadDue (running picks) s text status → is_run_status status ≡ true
-run_status picks = due_fits is_run_status (running picks) (run_fits is_run_status picks ended_run) refl refl refl refl refl
-
-pub check_status : (s : Sourcing) (text : List ℕ) (status : ℕ) → IsReadDue checking s text status → is_check_status status ≡ true
-check_status = due_fits is_check_status checking (scene_fits is_check_status refl) refl refl refl refl refl
-
-pub judge_status : (s : Sourcing) (text : List ℕ) (status : ℕ) → IsReadDue judging s text status → is_judge_status status ≡ true
-judge_status = due_fits is_judge_status judging (judge_fits is_judge_status refl refl) refl refl refl refl refl
-
-ended_load : (e : Ending) → is_load_status (status_of e) ≡ true
-ended_load ending.Running = refl
-ended_load ending.Finished = refl
-ended_load (ending.Fault f) = refl
-ended_load ending.Stuck = refl
-ended_load ending.Limit = refl
-
-summary_fits : (p : ℕ → Bool) → ((e : Ending) → p (status_of e) ≡ true) → p 15 ≡ true → (n : ℕ) (text : List ℕ) (status : ℕ) → IsSummary n text status → p status ≡ true
-summary_fits p ended fifteen n text status (inl h) = rw h.status_is (ended _)
-summary_fits p ended fifteen n text status (inr h) = rw h.1 fifteen
+summary_fits : (p : ℕ → Bool) → p 0 ≡ true → p 3 ≡ true → p 4 ≡ true → p 5 ≡ true → p 15 ≡ true → (n : ℕ) (text : List ℕ) (status : ℕ) → IsSummary n text status → p status ≡ true
+summary_fits p a b c d fifteen n text status (inl h) = rw h.status_is (ended_meets p a b c d _)
+summary_fits p a b c d fifteen n text status (inr h) = rw h.1 fifteen
 
 pub load_status : (n : ℕ) (text : List ℕ) (status : ℕ) → IsSummary n text status → is_load_status status ≡ true
-load_status = summary_fits is_load_status ended_load refl
+load_status = summary_fits is_load_status refl refl refl refl refl
 
 -- the statuses of the answers to a whole input
 abbrev pub is_answer_status : ℕ → Bool
-is_answer_status n = n == 0 || n == 3 || n == 4 || n == 5 || n == 6 || n == 10 || n == 11
-
-ended_answer : (e : Ending) → is_answer_status (status_of e) ≡ true
-ended_answer ending.Running = refl
-ended_answer ending.Finished = refl
-ended_answer (ending.Fault f) = refl
-ended_answer ending.Stuck = refl
-ended_answer ending.Limit = refl
+is_answer_status n = n == 0 || n == 3 || n == 4 || n == 5 || n == 6 || n == 7 || n == 10 || n == 11
 
 -- those of what is written for a scene that has a plan
 abbrev pub is_own_status : ℕ → Bool
-is_own_status n = n == 0 || n == 3 || n == 4 || n == 5 || n == 6
+is_own_status n = n == 0 || n == 3 || n == 4 || n == 5 || n == 6 || n == 7
 
-ended_own : (e : Ending) → is_own_status (status_of e) ≡ true
-ended_own ending.Running = refl
-ended_own ending.Finished = refl
-ended_own (ending.Fault f) = refl
-ended_own ending.Stuck = refl
-ended_own ending.Limit = refl
+own_meets : (r : Reading) → Meets is_own_status r
+own_meets Canonical = refl
+own_meets (Run a by) = (refl, refl, refl, refl)
+own_meets Judgement = (refl, refl)
+own_meets Findings = (refl, refl)
 
-pub run_own : (picks : Picks) → Fits is_own_status (running picks)
-run_own picks = run_fits is_own_status picks ended_own
-
-pub check_own : Fits is_own_status checking
-check_own = scene_fits is_own_status refl
-
-pub judge_own : Fits is_own_status judging
-judge_own = judge_fits is_own_status refl refl
+pub reads_own : (r : Reading) → Fits is_own_status (answering_of r)
+reads_own r = fits is_own_status r (own_meets r)
 
 -- each answer to a whole input has one of them
 abbrev pub AreAnswers : Answering → Type 0
 AreAnswers a = (input text : List ℕ) (status : ℕ) → Answers a input text status → is_answer_status status ≡ true
 
-pub run_answers : (picks : Picks) → AreAnswers (running picks)
-run_answers picks = answers_fit is_answer_status (running picks) (run_fits is_answer_status picks ended_answer) refl refl
+answer_meets : (r : Reading) → Meets is_answer_status r
+answer_meets Canonical = refl
+answer_meets (Run a by) = (refl, refl, refl, refl)
+answer_meets Judgement = (refl, refl)
+answer_meets Findings = (refl, refl)
 
-pub check_answers : AreAnswers checking
-check_answers = answers_fit is_answer_status checking (scene_fits is_answer_status refl) refl refl
+pub reads_answers : (r : Reading) → AreAnswers (answering_of r)
+reads_answers r = answers_fit is_answer_status (answering_of r) (fits is_answer_status r (answer_meets r)) refl refl
 
-pub judge_answers : AreAnswers judging
-judge_answers = answers_fit is_answer_status judging (judge_fits is_answer_status refl refl) refl refl
+listed_meets : (r : Reading) → Meets is_status r
+listed_meets Canonical = refl
+listed_meets (Run a by) = (refl, refl, refl, refl)
+listed_meets Judgement = (refl, refl)
+listed_meets Findings = (refl, refl)
 
 -- a status that fails a test isn't one that meets it
 pub differs : (p : ℕ → Bool) (n status : ℕ) → p n ≡ false → p status ≡ true → status ≡ n → ⊥
@@ -148,21 +146,17 @@ differs p n status fails meets same = let z : true ≡ false = sym meets ∙ (ap
 -- what is due for words has a status that the program may end with
 due_listed : (v : Service) (s : Sourcing) (text : List ℕ) (status : ℕ) → IsDue v s text status → is_status status ≡ true
 due_listed Usage s text status h = rw h.2 refl
-due_listed Canonical s text status h = due_fits is_status checking (scene_fits is_status refl) refl refl refl refl refl s text status h
-due_listed (Run picks) s text status h = due_fits is_status (running picks) (run_fits is_status picks ended_listed) refl refl refl refl refl s text status h
+due_listed (Reads r) s text status h = due_fits is_status (answering_of r) (fits is_status r (listed_meets r)) refl refl refl refl refl s text status h
 due_listed (Scenario n) s text status (unread, inl h) = rw h.1 refl
 due_listed (Scenario n) s text status (unread, inr h) = rw h.1 refl
-due_listed Judgement s text status h = due_fits is_status judging (judge_fits is_status refl refl) refl refl refl refl refl s text status h
-due_listed (Summary n) s text status h = summary_fits is_status ended_listed refl n text status h.1
+due_listed (Summary n) s text status h = summary_fits is_status refl refl refl refl refl n text status h.1
 
 -- what is due for words never has the status of a sink that failed
 pub due_no_sink : (v : Service) (s : Sourcing) (text : List ℕ) (status : ℕ) → IsDue v s text status → status ≡ 13 → ⊥
 due_no_sink Usage s text status h same = omega (arith, h.2)
-due_no_sink Canonical s text status h same = differs is_check_status 13 status refl (check_status s text status h) same
-due_no_sink (Run picks) s text status h same = differs is_run_status 13 status refl (run_status picks s text status h) same
+due_no_sink (Reads r) s text status h same = differs (read_status r) 13 status (no_sink r) (due_status r s text status h) same
 due_no_sink (Scenario n) s text status (unread, inl h) same = omega (arith, h.1, same)
 due_no_sink (Scenario n) s text status (unread, inr h) same = omega (arith, h.1, same)
-due_no_sink Judgement s text status h same = differs is_judge_status 13 status refl (judge_status s text status h) same
 due_no_sink (Summary n) s text status h same = differs is_load_status 13 status refl (load_status n text status h.1) same
 
 pub listed : (v : Service) (s : Sourcing) (k : Sinking) (answer : ℕ) → Tells v s k answer → IsTrue (is_status answer)
@@ -180,42 +174,31 @@ sink_rose v s k answer told same =
 
 -- ---- forms of words
 
--- what a form that reads its input says
-abbrev pub ToldBy : Answering → Sourcing → Sinking → ℕ → Type 0
-ToldBy a s k answer = (text : List ℕ) × (status : ℕ) × IsReadDue a s text status × Says k text status answer
-
 -- a form that reads answers its input in some way
 pub record IsReader (v : Service) (s : Sourcing) (k : Sinking) (answer : ℕ) : Type 1 where
   pub by : Answering
   pub part : (input : List ℕ) → by.scenario input ≡ scenario_by v input
-  pub told : ToldBy by s k answer
+  pub told : TellsBy by s k answer
 
-pub reads : (form : Option Form) (s : Sourcing) (k : Sinking) (answer : ℕ) → IsTrue (is_reading form) → Tells (service_of form) s k answer → IsReader (service_of form) s k answer
-reads None s k answer h told = absurd (let z : ⊥ = cc in z)
-reads (Some Check) s k answer h told = record { by = checking; part = λ input. refl; told = told }
-reads (Some Order) s k answer h told = record { by = running Listed; part = λ input. refl; told = told }
-reads (Some (Seed n)) s k answer h told = record { by = running (Seeded n); part = λ input. refl; told = told }
-reads (Some Replay) s k answer h told = record { by = judging; part = λ input. refl; told = told }
-reads (Some (Gen n)) s k answer h told = absurd (let z : ⊥ = cc in z)
-reads (Some (Load n)) s k answer h told = absurd (let z : ⊥ = cc in z)
+pub reads : (v : Service) (s : Sourcing) (k : Sinking) (answer : ℕ) → IsTrue (reads_input v) → Tells v s k answer → IsReader v s k answer
+reads Usage s k answer h told = absurd (let z : ⊥ = cc in z)
+reads (Reads r) s k answer h told = record { by = answering_of r; part = λ input. refl; told = told }
+reads (Scenario n) s k answer h told = absurd (let z : ⊥ = cc in z)
+reads (Summary n) s k answer h told = absurd (let z : ⊥ = cc in z)
 
--- the answer of a form that writes a run is none that it never answers
-pub run_never : (picks : Picks) (n : ℕ) (s : Sourcing) (k : Sinking) (answer : ℕ) → is_run_status n ≡ false → n ≢ 13 → Tells (Run picks) s k answer → answer ≡ n → ⊥
-run_never picks n s k answer fails other (text, status, due, inl said) same = differs is_run_status n status fails (run_status picks s text status due) (sym said.0 ∙ same)
-run_never picks n s k answer fails other (text, status, due, inr said) same = other (sym same ∙ said.0)
+-- the answer of a form that reads is none that it never answers
+pub reads_never : (r : Reading) (n : ℕ) (s : Sourcing) (k : Sinking) (answer : ℕ) → read_status r n ≡ false → n ≢ 13 → TellsBy (answering_of r) s k answer → answer ≡ n → ⊥
+reads_never r n s k answer fails other (text, status, due, inl said) same = differs (read_status r) n status fails (due_status r s text status due) (sym said.0 ∙ same)
+reads_never r n s k answer fails other (text, status, due, inr said) same = other (sym same ∙ said.0)
 
-pub check_never : (n : ℕ) (s : Sourcing) (k : Sinking) (answer : ℕ) → is_check_status n ≡ false → n ≢ 13 → Tells Canonical s k answer → answer ≡ n → ⊥
-check_never n s k answer fails other (text, status, due, inl said) same = differs is_check_status n status fails (check_status s text status due) (sym said.0 ∙ same)
-check_never n s k answer fails other (text, status, due, inr said) same = other (sym same ∙ said.0)
+-- nor is it the usage line's
+pub reads_no_usage : (r : Reading) (s : Sourcing) (k : Sinking) (answer : ℕ) → TellsBy (answering_of r) s k answer → answer ≡ 2 → ⊥
+reads_no_usage r s k answer = reads_never r 2 s k answer (no_usage r) (λ h. omega arith)
 
 -- words of no form answer 2 or 13
 pub usage_answers : (s : Sourcing) (k : Sinking) (answer : ℕ) → Tells Usage s k answer → (answer ≡ 2) ⊎ (answer ≡ 13)
 usage_answers s k answer (text, status, due, inl said) = inl (said.0 ∙ due.2)
 usage_answers s k answer (text, status, due, inr said) = inr said.0
-
-pub judge_never : (n : ℕ) (s : Sourcing) (k : Sinking) (answer : ℕ) → is_judge_status n ≡ false → n ≢ 13 → Tells Judgement s k answer → answer ≡ n → ⊥
-judge_never n s k answer fails other (text, status, due, inl said) same = differs is_judge_status n status fails (judge_status s text status due) (sym said.0 ∙ same)
-judge_never n s k answer fails other (text, status, due, inr said) same = other (sym same ∙ said.0)
 
 pub summary_never : (m n : ℕ) (s : Sourcing) (k : Sinking) (answer : ℕ) → is_load_status n ≡ false → n ≢ 13 → Tells (Summary m) s k answer → answer ≡ n → ⊥
 summary_never m n s k answer fails other (text, status, due, inl said) same = differs is_load_status n status fails (load_status m text status due.1) (sym said.0 ∙ same)

@@ -1,10 +1,12 @@
 -- What an input is answered: which text is to be written, and with which status. (own)
-use Rattle.std.specs.Prelude.{◌++◌, ℕ, ◌≡◌, ◌⊎◌, List, length, codes, decimal, None, Some, Err}
+use Rattle.std.specs.Prelude.{◌++◌, ℕ, ◌≡◌, ◌≢◌, ◌⊎◌, List, length, codes, decimal, None, Some, Err}
+use Rattle.wdf_base.specs.Meaning.{Meaning}
 use Rattle.wdf_base.specs.declared.plan.Plan.{Plan}
 use Rattle.wdf_base.specs.declared.event.Event.{Event}
 use Rattle.wdf_base.specs.declared.event.Ending.{Ending}
+use Rattle.wdf_base.specs.declared.event.Ending.TheVariants as ending
 use Rattle.wdf_scene.specs.declared.scene.Scene.{Scene}
-use Rattle.wdf_model.specs.rules.Ready.{ending_of, IsPickedRun}
+use Rattle.wdf_model.specs.rules.Ready.{ending_of, IsPickedRun, IsRunOf}
 use Rattle.wdf_dev.specs.Agents.{agent_meaning}
 use Rattle.wdf_lines.specs.Endings.{ending_text}
 use Rattle.wdf_run.specs.Seeds.{seed_words}
@@ -25,7 +27,11 @@ use Rattle.wdf_replay.specs.Verdicts as verdict
 use Rattle.wdf_output.specs.Endings.{status_of}
 use Rattle.wdf_output.specs.Refusals.{parse_line, plan_line}
 use Rattle.wdf_split.specs.Inputs.{scenario_in, trace_in}
+use Rattle.wdf_lint.specs.Answers.{IsAnswer}
+use Rattle.wdf_lint.specs.declared.static_check.LintAnswer.{LintAnswer}
+use Rattle.wdf_lint_text.specs.Lines.{answer_text, answer_status}
 use Rattle.wdf_summary.specs.Counts.{summary_text}
+use Rattle.wdf_top.specs.Agents.{RunAgents, meaning_of}
 use Rattle.wdf_top.specs.declared.run.Picks.{Picks}
 use Rattle.wdf_top.specs.declared.run.Picks.TheVariants.{Listed, Seeded}
 
@@ -50,12 +56,24 @@ abbrev pub picks_of : Picks → Plan → List ℕ
 picks_of Listed plan = plan.picks
 picks_of (Seeded seed) plan = seed_words seed plan.limit
 
--- The trace of the run that these picks make from the plan's opening.
-pub record IsTraceOf (plan : Plan) (picks : List ℕ) (text : List ℕ) (status : ℕ) : Type 0 where
+-- what picks the events of a run, one after the other
+pub data Picking : Type 0 where
+  -- the picks of the `order` block, or the words of a seed
+  By : Picks → Picking
+  -- no picks: processors as threads make the run, and it may be any
+  Freely : Picking
+
+-- the run of a plan with these agents is picked so: picks determine it; freely it is any that has ended
+abbrev pub IsRunBy : {A : Type 0} → Plan → Meaning A → Picking → List Event → Type 0
+IsRunBy plan m (By picks) run = IsPickedRun plan m (picks_of picks plan) run
+IsRunBy plan m Freely run = IsRunOf plan m run × (ending_of plan m run ≢ ending.Running)
+
+-- The text of a run of the plan with these agents that is picked so, from the plan's opening to its end, and its status.
+pub record IsTraceOf {A : Type 0} (plan : Plan) (m : Meaning A) (by : Picking) (text : List ℕ) (status : ℕ) : Type 0 where
   pub run : List Event
-  pub picked : IsPickedRun plan agent_meaning picks run
-  pub text_is : text ≡ text_of plan agent_meaning run
-  pub status_is : status ≡ status_of (ending_of plan agent_meaning run)
+  pub made : IsRunBy plan m by run
+  pub text_is : text ≡ text_of plan m run
+  pub status_is : status ≡ status_of (ending_of plan m run)
 
 -- The summary of the run that the words of a number make of the plan of its generated scenario.
 pub record IsSummaryOf (n : ℕ) (text : List ℕ) (status : ℕ) : Type 0 where
@@ -104,6 +122,12 @@ IsRefusedWith plan trace text status =
 abbrev pub IsVerdict : Plan → List ℕ → List ℕ → ℕ → Type 0
 IsVerdict plan trace text status = IsAcceptedWith plan trace text status ⊎ IsRefusedWith plan trace text status
 
+-- ---- the static check
+
+-- What the static check finds in the scripts of a plan, and its status.
+abbrev pub IsLinted : Plan → List ℕ → ℕ → Type 0
+IsLinted plan text status = (found : LintAnswer) × IsAnswer plan found × (text ≡ answer_text found) × (status ≡ answer_status found)
+
 -- ---- answers
 
 -- why a scenario has no plan: 10 where no scene stands for it, 11 where the scene has no plan
@@ -127,11 +151,11 @@ Answers a input text status =
     IsRefused (a.scenario input) text status
     ⊎ ((scene : Scene) × (stands : StandsFor (a.scenario input) scene) × (first_refusal scene ≡ None) × a.writes input (a.scenario input) scene stands text status)
 
--- `order` and `seed N` write the trace of the scene's plan
-abbrev pub running : Picks → Answering
-running picks = record {
+-- `order`, `seed N` and `run` write the text of a run of the scene's plan
+abbrev pub running : {A : Type 0} → Meaning A → Picking → Answering
+running m by = record {
   scenario = λ input. input;
-  writes = λ input scenario scene stands text status. IsTraceOf (plan_of scene) (picks_of picks (plan_of scene)) text status;
+  writes = λ input scenario scene stands text status. IsTraceOf (plan_of scene) m by text status;
 }
 
 -- `check` writes the scene in canonical form
@@ -148,14 +172,29 @@ judging = record {
   writes = λ input scenario scene stands text status. IsVerdict (plan_of scene) (trace_in input) text status;
 }
 
--- What `order` and `seed N` answer to an input.
-abbrev pub Runs : Picks → List ℕ → List ℕ → ℕ → Type 0
-Runs picks = Answers (running picks)
+-- `lint` writes what the static check finds in the scripts of the scene's plan
+abbrev pub linting : Answering
+linting = record {
+  scenario = λ input. input;
+  writes = λ input scenario scene stands text status. IsLinted (plan_of scene) text status;
+}
 
--- What `check` answers to an input.
-abbrev pub Checks : List ℕ → List ℕ → ℕ → Type 0
-Checks = Answers checking
+-- ---- forms of words
 
--- What `replay` answers to an input.
-abbrev pub Judges : List ℕ → List ℕ → ℕ → Type 0
-Judges = Answers judging
+-- what a form of words that reads its input asks for
+pub data Reading : Type 0 where
+  -- the input's scene in canonical form
+  Canonical : Reading
+  -- a run of the input's plan, with these agents and picked so
+  Run : RunAgents → Picking → Reading
+  -- the verdict on the input's trace
+  Judgement : Reading
+  -- what the static check finds in the scripts of the input's plan
+  Findings : Reading
+
+-- How it answers its input.
+abbrev pub answering_of : Reading → Answering
+answering_of Canonical = checking
+answering_of (Run a by) = running (meaning_of a) by
+answering_of Judgement = judging
+answering_of Findings = linting

@@ -1,5 +1,5 @@
 -- When each status comes. (own)
-use Rattle.std.specs.Prelude.{ℕ, ◌≡◌, ◌≤◌, ◌+◌, ◌⊎◌, ◌==◌, ◌||◌, Bool, true, false, List, length, Option, None, Some}
+use Rattle.std.specs.Prelude.{ℕ, ◌≡◌, ◌≤◌, ◌+◌, ◌⊎◌, ◌==◌, ◌||◌, Bool, List, length, Some}
 use Rattle.wdf_base.specs.declared.plan.Plan.{Plan}
 use Rattle.wdf_base.specs.declared.event.Event.{Event}
 use Rattle.wdf_base.specs.declared.event.Ending.{Ending}
@@ -19,45 +19,24 @@ use Rattle.wdf_replay.specs.Verdicts as verdict
 use Rattle.wdf_split.specs.Inputs.{scenario_in, trace_in}
 use Rattle.wdf_summary.specs.Counts.{summary_text}
 use Rattle.wdf_io.specs.Outside.{Rose, Gains}
-use Rattle.wdf_top.specs.declared.words.Form.{Form}
-use Rattle.wdf_top.specs.declared.words.Form.TheVariants.{Check, Order, Seed, Replay, Gen, Load}
 use Rattle.wdf_input.specs.declared.input.TheConstants.{INPUT_LIMIT}
 use Rattle.wdf_output.specs.declared.refusal.Refusal.{Refusal}
 use Rattle.wdf_output.specs.declared.refusal.Refusal.TheVariants.{ReadFault, TooLarge, NoMemory, NoScene, NoPlan}
-use Rattle.wdf_top.specs.declared.run.Picks.{Picks}
-use Rattle.wdf_top.specs.declared.run.Picks.TheVariants.{Listed, Seeded}
-use Rattle.wdf_top.specs.Answers.{HasPlan, picks_of, accepted_line, refused_line}
+use Rattle.wdf_top.specs.declared.run.Picks.TheVariants.{Seeded}
+use Rattle.wdf_top.specs.Agents.{RunAgents, meaning_of}
+use Rattle.wdf_top.specs.Answers.{HasPlan, Picking, IsRunBy, Run, picks_of, accepted_line, refused_line}
 use Rattle.wdf_input.specs.Input.{TakesAll, TakesCount, TakesAtMost}
+use Rattle.wdf_lint.specs.Answers.{IsAnswer}
+use Rattle.wdf_lint.specs.declared.static_check.LintAnswer.{LintAnswer}
+use Rattle.wdf_lint_text.specs.Lines.{answer_text}
 use Rattle.wdf_output.specs.Said.{Sinking}
-use Rattle.wdf_top.specs.Top.{Sourcing, IsRead}
-
--- ---- forms of words
-
--- the words are a form that reads its input
-abbrev pub is_reading : Option Form → Bool
-is_reading None = false
-is_reading (Some Check) = true
-is_reading (Some Order) = true
-is_reading (Some (Seed n)) = true
-is_reading (Some Replay) = true
-is_reading (Some (Gen n)) = false
-is_reading (Some (Load n)) = false
-
--- what picks the events of a run, where the words are a form that writes one
-abbrev pub picks_for : Option Form → Option Picks
-picks_for None = None
-picks_for (Some Check) = None
-picks_for (Some Order) = Some Listed
-picks_for (Some (Seed n)) = Some (Seeded n)
-picks_for (Some Replay) = None
-picks_for (Some (Gen n)) = None
-picks_for (Some (Load n)) = None
+use Rattle.wdf_top.specs.Top.{Sourcing, IsRead, Service, Reads, Summary}
 
 -- ---- statuses
 
 -- the statuses that the program may end with
 abbrev pub is_status : ℕ → Bool
-is_status n = n == 0 || n == 2 || n == 3 || n == 4 || n == 5 || n == 6 || n == 10 || n == 11 || n == 12 || n == 13 || n == 14 || n == 15
+is_status n = n == 0 || n == 2 || n == 3 || n == 4 || n == 5 || n == 6 || n == 7 || n == 10 || n == 11 || n == 12 || n == 13 || n == 14 || n == 15
 
 -- a count that didn't rise in a call, and wasn't at its last value before it
 abbrev pub Stayed : ℕ → ℕ → Type 0
@@ -73,16 +52,16 @@ pub record IsGiven (s : Sourcing) (input : List ℕ) : Type 0 where
 abbrev pub Unhindered : ℕ → ℕ → Type 0
 Unhindered status answer = (answer ≡ status) ⊎ ((answer ≡ 13) ⊎ (answer ≡ 15))
 
--- the whole input was read, these picks made a run of its plan that ended so, and its trace was written
-pub record WroteRun (picks : Picks) (s : Sourcing) (k : Sinking) (e : Ending) : Type 0 where
+-- the whole input was read, a run of its plan with these agents was picked so and ended so, and its text was written
+pub record WroteRun (a : RunAgents) (by : Picking) (s : Sourcing) (k : Sinking) (e : Ending) : Type 0 where
   pub input : List ℕ
   pub whole : TakesAll s.before s.after input
   pub plan : Plan
   pub stands : HasPlan input plan
   pub run : List Event
-  pub picked : IsPickedRun plan agent_meaning (picks_of picks plan) run
-  pub ends : ending_of plan agent_meaning run ≡ e
-  pub written : Gains k.before k.after (text_of plan agent_meaning run)
+  pub made : IsRunBy plan (meaning_of a) by run
+  pub ends : ending_of plan (meaning_of a) run ≡ e
+  pub written : Gains k.before k.after (text_of plan (meaning_of a) run)
 
 -- the words of a number made a run of the plan of its generated scenario that ended so, and its summary was written
 pub record WroteSummary (n : ℕ) (k : Sinking) (e : Ending) : Type 0 where
@@ -91,12 +70,12 @@ pub record WroteSummary (n : ℕ) (k : Sinking) (e : Ending) : Type 0 where
   pub ends : ending_of (plan_of (generated n)) agent_meaning run ≡ e
   pub written : Gains k.before k.after (summary_text run e)
 
--- the words are a form that writes a run, and the trace of one was written that ended so; or they are `load N`, and the
+-- the words are a form that writes a run, and the text of one was written that ended so; or they are `load N`, and the
 -- summary of such a run was written
-abbrev pub WroteFor : Option Form → Sourcing → Sinking → Ending → Type 0
-WroteFor form s k e =
-    ((picks : Picks) × (picks_for form ≡ Some picks) × WroteRun picks s k e)
-    ⊎ ((n : ℕ) × (form ≡ Some (Load n)) × WroteSummary n k e)
+abbrev pub WroteFor : Service → Sourcing → Sinking → Ending → Type 0
+WroteFor v s k e =
+    ((a : RunAgents) × (by : Picking) × (v ≡ Reads (Run a by)) × WroteRun a by s k e)
+    ⊎ ((n : ℕ) × (v ≡ Summary n) × WroteSummary n k e)
 
 -- the whole input was read, a plan stands for its scenario, its trace is the text of a run that has ended, and the line
 -- that says so was written
@@ -120,6 +99,15 @@ pub record WroteRefused (s : Sourcing) (k : Sinking) : Type 0 where
   pub why : Why
   pub refused : verdict.IsRefused plan agent_meaning (trace_in input) line why
   pub written : Gains k.before k.after (refused_line line why)
+
+-- the whole input was read, a plan stands for it, this is what the static check finds in its scripts, and that was written
+pub record WroteLint (s : Sourcing) (k : Sinking) (found : LintAnswer) : Type 0 where
+  pub input : List ℕ
+  pub whole : TakesAll s.before s.after input
+  pub plan : Plan
+  pub stands : HasPlan input plan
+  pub is : IsAnswer plan found
+  pub written : Gains k.before k.after (answer_text found)
 
 -- ---- refusals
 

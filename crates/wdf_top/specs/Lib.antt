@@ -1,3 +1,4 @@
+pub mod Agents
 pub mod Words
 pub mod Answers
 pub mod Top

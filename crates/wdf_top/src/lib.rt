@@ -11,8 +11,10 @@
 //!   the first step, as all memory is.
 #![tactic(auto)]
 
+mod agents;
 mod generated;
 mod laws;
+mod lint;
 mod load;
 mod run;
 mod scenario;
@@ -20,6 +22,7 @@ mod top;
 mod verdict;
 mod words;
 
+pub use agents::RunAgent;
 pub use laws::{one_trace_a_plan, plans_of_texts_are_resolved, traces_are_of_runs};
 pub use run::opening;
 pub use scenario::read_plan;

@@ -40,7 +40,7 @@ fn run_generated(alloc: Global, number: u64) -> Result<Core<AnyAgent>, Memory>
     ensures picked { IfOk result (λ core. IsPickedRun (plan_of (generated number)) agent_meaning (seed_words number (plan_of (generated number)).limit) core.journal) }
 {
     let plan = plan_of_number(alloc, number)?;
-    run_seeded(alloc, plan, number)
+    run_seeded::<AnyAgent>(alloc, plan, number)
 }
 
 /// The plan of the scenario that a number generates. Each such scenario has one, so the only error is out of memory.

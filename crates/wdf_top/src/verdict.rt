@@ -3,8 +3,8 @@ ghost use Rattle.std.specs.Prelude.{◌≡◌, ◌≢◌, ◌≤◌, [], length}
 ghost use Rattle.wdf_base.specs.Resolved.{IsResolved};
 ghost use Rattle.wdf_io.specs.Outside.{EndsRefused};
 ghost use Rattle.wdf_output.specs.Said.{Says, sinking};
-ghost use Rattle.wdf_top.specs.Answers.{accepted_line, refused_line, verdict_line, verdict_status, why_word};
-ghost use Rattle.wdf_top.specs.Top.{IsRead, Judgement, Sourcing, Tells, TellsVerdict};
+ghost use Rattle.wdf_top.specs.Answers.{accepted_line, judging, refused_line, verdict_line, verdict_status, why_word};
+ghost use Rattle.wdf_top.specs.Top.{IsRead, Sourcing, TellsBy, TellsVerdict};
 
 use crate::run::opening;
 use crate::scenario::plan_of_text;
@@ -95,7 +95,7 @@ fn tell_verdict<K: Sink>(alloc: Global, plan: Plan, trace: &[u8], sink: &mut K) 
         result }
     ensures not_again { result ≡ 13 → EndsRefused K.refused K.faults sink.old sink.new }
 {
-    match opening(alloc, plan) {
+    match opening::<AnyAgent>(alloc, plan) {
         Ok(mut core) => judge_trace(&mut core, trace, sink),
         Err(memory) => tell(sink, Refusal::from(memory)),
     }
@@ -104,7 +104,7 @@ fn tell_verdict<K: Sink>(alloc: Global, plan: Plan, trace: &[u8], sink: &mut K) 
 /// Writes the verdict on an input's trace, or says why its scenario has no plan.
 pub fn judge_input<K: Sink>(alloc: Global, input: &[u8], sink: &mut K) -> u8
     requires { length input.now ≤ TEXT_LIMIT }
-    ensures told { (s : Sourcing) → IsRead s input.now → Tells Judgement s
+    ensures told { (s : Sourcing) → IsRead s input.now → TellsBy judging s
         (sinking (K.written sink.old) (K.written sink.new) (K.faults sink.old) (K.faults sink.new))
         result }
     ensures not_again { result ≡ 13 → EndsRefused K.refused K.faults sink.old sink.new }

@@ -1,6 +1,5 @@
 -- The plan of each generated scenario is resolved.
 use Rattle.std.proofs.Common.{refl}
-use Rattle.wdf_base.specs.Resolved.{IsResolved}
 use Rattle.wdf_gen.specs.Generated.{generated}
 use Rattle.law_generated.proofs.Plans.{generated_accepted}
 use Rattle.law_generated.proofs.Texts.{generated_stands}

@@ -1,0 +1,17 @@
+pub mod Steps
+pub mod Since
+pub mod Told
+pub mod Lists
+pub mod Turns
+pub mod Rest
+pub mod RestRuns
+pub mod Meters
+pub mod Arriving
+pub mod Fresh
+pub mod Pending
+pub mod PendingEvents
+pub mod Policy
+pub mod PolicyRuns
+pub mod Ticks
+pub mod InTime
+pub mod Program

@@ -1,0 +1,4 @@
+pub mod Idling
+pub mod Law
+pub mod Policies
+pub mod Resting

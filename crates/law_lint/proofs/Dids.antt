@@ -1,0 +1,292 @@
+-- The invariant over the calls that aren't on a callback's own request.
+use Rattle.std.proofs.Common.{if◌then◌else◌, ◌≡◌, ℕ, ◌==◌, ◌<◌, ◌≤◌, Bool, true, false, not, ◌&&◌, List, [], ◌∷◌, ◌++◌, Option, Some, None, length, count_by, slice_get, unwrap_or, refl, sym, ap, subst, ◌∙◌, arith}
+use Rattle.std.specs.List.{flat_map, list_all}
+use Rattle.std.proofs.lemmas.Bool.{eqb-true}
+use Rattle.wdf_base.specs.Meaning.{Meaning}
+use Rattle.wdf_base.specs.declared.plan.Plan.{Plan}
+use Rattle.wdf_base.specs.declared.ids.Cpu.{Cpu}
+use Rattle.wdf_base.specs.declared.value.Value.{Value}
+use Rattle.wdf_base.specs.declared.value.Value.TheVariants.{Num}
+use Rattle.wdf_base.specs.declared.call.Arg.{Arg}
+use Rattle.wdf_base.specs.declared.call.Arg.TheVariants.{Val}
+use Rattle.wdf_base.specs.declared.event.Fault.{Fault}
+use Rattle.wdf_base.specs.Same.{same_call_kind}
+use Rattle.wdf_base.specs.declared.call.Call.{Call}
+use Rattle.wdf_base.specs.declared.call.CallKind.{CallKind}
+use Rattle.wdf_base.specs.declared.call.CallKind.TheVariants as call
+use Rattle.wdf_base.specs.declared.event.Event.TheVariants as event
+use Rattle.wdf_base.specs.declared.frame.Frame.{Frame}
+use Rattle.wdf_base.specs.declared.frame.Intent.TheVariants as intent
+use Rattle.wdf_base.specs.declared.script.ArgNode.{ArgNode}
+use Rattle.wdf_base.specs.declared.script.ArgNode.TheVariants as arg
+use Rattle.wdf_base.specs.declared.script.ExprNode.{ExprNode}
+use Rattle.wdf_base.specs.declared.script.ExprNode.TheVariants as node
+use Rattle.wdf_model.specs.Ids.{frame_id, object_id}
+use Rattle.wdf_model.specs.parts.Cpus.{all_frames, frame_of}
+use Rattle.wdf_model.specs.parts.Requests.{request_of}
+use Rattle.wdf_model.specs.State.{State, object_in}
+use Rattle.wdf_model.specs.declared.deed.Deed.{Deed}
+use Rattle.wdf_model.specs.declared.deed.Deed.TheVariants.{Acknowledge, GoOn}
+use Rattle.wdf_model.specs.rules.Calls.{origin_or_none, outcome, requeue_outcome, second_deeds, success}
+use Rattle.wdf_model.specs.rules.Deeds.{do_deed, do_deeds}
+use Rattle.wdf_model.specs.rules.Script.{arg_of, intent_of, node_value, statement_at, value_of, value_to}
+use Rattle.wdf_model.specs.rules.Faults.{arg_is}
+use Rattle.wdf_model.specs.rules.Steps.{after, answered, deeds, did_deeds, may, woke_deeds}
+use Rattle.law_machine_base.specs.Fits.{all_fit}
+use Rattle.law_machine_base.proofs.OwnEvents.{IsDid, IsWoke, did_tells, woke_tells}
+use Rattle.law_machine_base.proofs.FitsOfEvents.{by_its_top, event_fits}
+use Rattle.wdf_model.proofs.Tests.{both, both_left, both_right}
+use Rattle.law_machine_counts.proofs.StillDeeds.{all_still, none_behind, outcome_none, second_none}
+use Rattle.law_machine_counts.proofs.StillFrames.{Still, deeds_still}
+use Rattle.law_machine_counts.proofs.StepStates.{fit_before, in_turn}
+use Rattle.wdf_lint.specs.declared.state.Abstract.{Abstract}
+use Rattle.wdf_lint.specs.declared.state.Hold.{Hold}
+use Rattle.wdf_lint.specs.declared.state.Known.TheVariants as known
+use Rattle.wdf_lint.specs.Steps.{is_own_or_marked, is_request_word, is_zero, node_of, on_request, rule_of_acknowledging, rule_of_call, way, ways}
+use Rattle.wdf_lint.specs.Walks.{IsClean, IsIn, IsReached}
+use Rattle.law_lint.proofs.Acting.{calling}
+use Rattle.law_lint.proofs.Calls.{GripOf}
+use Rattle.law_lint.proofs.Grips.{LaterAt}
+use Rattle.law_lint.proofs.Others.{Places, all_apart, deeds_later, event_later, is_owners, is_owners_call}
+use Rattle.law_lint.proofs.Stands.{FrameGoes, FrameStands, InHand, Stands, goes_stands, grip_later, hand_before, is_on_request, reaches, stays_later}
+use Rattle.law_lint.proofs.Events.{answered_rest, goes_on_frames, top_there, told}
+use Rattle.law_lint.proofs.Faults.{Calls, calls, rule_off}
+use Rattle.law_lint.proofs.Answers.{CallWent, call_went}
+use Rattle.wdf_base.specs.declared.event.Fault.TheVariants as fault
+use Rattle.wdf_model.specs.parts.Locks.{held_by_call}
+use Rattle.wdf_model.specs.rules.Faults.{is_acquire, is_release}
+use Rattle.wdf_lint.specs.Steps.{called}
+use Rattle.law_lint.proofs.Weights.{Single}
+use Rattle.law_lint.proofs.Holdings.{event_fewer}
+use Rattle.law_lint.proofs.Locking.{Locked, did_locks, woke_locks}
+use Rattle.law_lint.proofs.Frames.{Simulates}
+use Rattle.wdf_model.proofs.FrameCounts.{on}
+
+-- ---- deeds that touch no frame, and then a frame goes on
+
+pub still_goes : {A : Type 0} (plan : Plan) (S : State A) (ds : List Deed) (f : ℕ) (next : Frame) → all_still ds ≡ true → all_fit plan ds S ≡ true
+    → FrameGoes S (do_deeds plan (ds ++ GoOn (frame_id f) next ∷ []) S) f next
+still_goes {A} plan S ds f next still fit =
+    let W : State A = do_deeds plan ds S in
+    let s : Still S W = deeds_still plan ds S still fit in
+    let g : FrameGoes W (do_deed plan (GoOn (frame_id f) next) W) f next = goes_on_frames plan W f next in
+    let same : all_frames W.cpus ≡ all_frames S.cpus = ap (λ ss. flat_map (λ (fs : List ℕ). fs) ss ++ W.cpus.parked) s.stacks ∙ ap (λ ps. flat_map (λ (fs : List ℕ). fs) S.cpus.stacks ++ ps) s.parked in
+    subst (λ (U : State A). FrameGoes S U f next) (sym (in_turn plan ds (GoOn (frame_id f) next ∷ []) S)) (record {
+      here = g.here;
+      others = λ x n. g.others x n ∙ s.frames x;
+      there = λ x. g.there x ∙ ap (λ fs. count_by (λ y. y == x) fs) same;
+    })
+
+-- ---- a call that is answered
+
+-- the calls whose ways are rows of the table
+abbrev pub has_ways : CallKind → Bool
+has_ways call.WdfRequestComplete = true
+has_ways call.WdfRequestRequeue = true
+has_ways call.WdfRequestForwardToIoQueue = true
+has_ways call.WdfRequestSend = true
+has_ways call.WdfRequestMarkCancelableEx = true
+has_ways call.WdfRequestUnmarkCancelable = true
+has_ways _ = false
+
+off_request : (k : CallKind) → is_on_request k ≡ false → has_ways k ≡ false
+off_request call.WdfRequestComplete off = absurd (let z : ⊥ = cc in z)
+off_request call.WdfRequestRequeue off = absurd (let z : ⊥ = cc in z)
+off_request call.WdfRequestForwardToIoQueue off = absurd (let z : ⊥ = cc in z)
+off_request call.WdfRequestSend off = absurd (let z : ⊥ = cc in z)
+off_request call.WdfRequestMarkCancelableEx off = absurd (let z : ⊥ = cc in z)
+off_request call.WdfRequestUnmarkCancelable off = absurd (let z : ⊥ = cc in z)
+off_request _ off = refl
+
+-- a call whose answer the walk doesn't know, and that leaves the request alone
+unknown_way : (k : CallKind) (h : Hold) → has_ways k ≡ false → IsIn (way h known.Unknown) (ways k h)
+unknown_way call.WdfRequestComplete h off = absurd (let z : ⊥ = cc in z)
+unknown_way call.WdfRequestRequeue h off = absurd (let z : ⊥ = cc in z)
+unknown_way call.WdfRequestForwardToIoQueue h off = absurd (let z : ⊥ = cc in z)
+unknown_way call.WdfRequestSend h off = absurd (let z : ⊥ = cc in z)
+unknown_way call.WdfRequestMarkCancelableEx h off = absurd (let z : ⊥ = cc in z)
+unknown_way call.WdfRequestUnmarkCancelable h off = absurd (let z : ⊥ = cc in z)
+unknown_way _ h off = (0, refl)
+
+-- the frame is answered, the others may do what they may: the invariant is kept
+answer_stands : {A : Type 0} (plan : Plan) (S U : State A) (f : ℕ) (v : Value) (st : Stands plan S) → FrameGoes S U f (answered plan (frame_of S.cpus f) v) → 1 ≤ on S.cpus f
+    → (c : CallKind) (x : Option ExprNode) → CallWent plan (st.states f) (frame_of S.cpus f) (st.states f).hold v c x → ((x : ℕ) → x < length S.requests.all → LaterAt x S.requests U.requests)
+    → Locked S.locks U.locks f (called plan (frame_of S.cpus f).script (st.states f) c x) → Stands plan U
+answer_stands plan S U f v st go there c x_ w later l =
+    let old : FrameStands plan S f (st.states f) = st.stands f there in
+    let rest = answered_rest plan (frame_of S.cpus f) v in
+    let now : (frame_of U.cpus f).request ≡ (frame_of S.cpus f).request = ap (λ (x : Frame). x.request) go.here ∙ rest.1 in
+    goes_stands plan S U f (answered plan (frame_of S.cpus f) v) w.state st go there
+    (record {
+      reached = subst (λ k. IsReached plan k w.state) (sym (ap (λ (x : Frame). x.script) go.here ∙ rest.0)) (reaches plan (frame_of S.cpus f).script (st.states f) w.state old.reached w.is_in);
+      simulates = subst (λ g. Simulates w.state g) (sym go.here) w.simulates;
+      grips = λ r has.
+          let g = old.grips r (sym now ∙ has) in
+          let l = later r.id.0 g.1 in
+          let long = l.long in
+          let within : r.id.0 < length S.requests.all = g.1 in
+          (subst (λ h. GripOf h (request_of U.requests r.id.0)) (sym w.hold) (grip_later (st.states f).hold (request_of S.requests r.id.0) (request_of U.requests r.id.0) l.later g.0), omega arith);
+      has = λ h. let is = old.has (subst (λ x. is_own_or_marked x ≡ true) w.hold h) in (is.0, now ∙ is.1);
+      waits = λ p e. absurd (let none : (frame_of U.cpus f).pending ≡ None = ap (λ (x : Frame). x.pending) go.here in let z : ⊥ = cc in z);
+      few = let held = l.few in let weighs = w.weighs in omega arith;
+      single = subst Single (sym w.interrupts) l.single;
+    })
+    (λ x k.
+    let has : (frame_of S.cpus f).request ≡ Some k.request = sym now ∙ k.has in
+    let g = old.grips k.request has in
+    record {
+      request = k.request;
+      has = has;
+      same = k.same;
+      in_hand = subst (λ y. InHand (st.states f).hold S.requests y) k.same
+          (hand_before (st.states f).hold S.requests U.requests k.request.id.0 (later k.request.id.0 g.1).later g.0
+          (subst (λ h. InHand h U.requests k.request.id.0) w.hold (subst (λ y. InHand w.state.hold U.requests y) (sym k.same) k.in_hand)));
+    })
+    (λ g n more. stays_later plan S U g (st.states g) (st.stands g more) (λ r has. later r.id.0 ((st.stands g more).grips r has).1))
+    l.fewer
+
+-- a frame that is about to make a call on nothing of its own is answered as the walk says
+plain_went : {A : Type 0} (plan : Plan) (S : State A) (cpu f : ℕ) (a : Abstract) (c : Call) (v : Value) → IsClean plan → FrameStands plan S f a → (does : intent_of plan (frame_of S.cpus f) ≡ intent.Do c) → has_ways c.kind ≡ false
+    → CallWent plan a (frame_of S.cpus f) a.hold v (calls plan (frame_of S.cpus f) c does).kind (node_of plan (calls plan (frame_of S.cpus f) c does).x)
+plain_went plan S cpu f a c v clean st does off =
+    let k : Calls plan (frame_of S.cpus f) (statement_at plan (frame_of S.cpus f)) c = calls plan (frame_of S.cpus f) c does in
+    let kind : c.kind ≡ k.kind = ap (λ (d : Call). d.kind) k.call in
+    call_went plan a (frame_of S.cpus f) c k (way a.hold known.Unknown) v st.simulates (rule_off plan S cpu f a clean st c k) (unknown_way k.kind a.hold (sym (ap has_ways kind) ∙ off)) tt
+
+-- what a call that is answered leaves of locks
+pub did_locked : {A : Type 0} (plan : Plan) (S : State A) (k : Cpu) (f : ℕ) (c : Call) (v : Value) (a : Abstract) (d : IsDid plan S k.0 c v) → IsClean plan → FrameStands plan S d.frame a
+    → Locked S.locks (do_deeds plan (deeds plan S (event.Did k c v)) S).locks d.frame
+    (called plan (frame_of S.cpus d.frame).script a (calls plan (frame_of S.cpus d.frame) c d.about.about).kind (node_of plan (calls plan (frame_of S.cpus d.frame) c d.about.about).x))
+did_locked {A} plan S k f_ c v a d clean fs =
+    let f : ℕ = d.frame in
+    let frame : Frame = frame_of S.cpus f in
+    let s : Calls plan frame (statement_at plan frame) c = calls plan frame c d.about.about in
+    let kind : s.kind ≡ c.kind = sym (ap (λ (q : Call). q.kind) s.call) in
+    let same : deeds plan S (event.Did k c v) ≡ did_deeds plan S k.0 c v f frame = by_its_top S k.0 f (did_deeds plan S k.0 c v) d.about.top in
+    let rule : rule_of_call plan frame.script a s.kind (node_of plan s.x) (node_of plan s.y) ≡ None = rule_off plan S k.0 f a clean fs c s in
+    let fewer : is_acquire c.kind ≡ false → (g : ℕ) → held_by_call (do_deeds plan (did_deeds plan S k.0 c v f frame) S).locks g ≤ held_by_call S.locks g =
+    λ off g. subst (λ es. held_by_call (do_deeds plan es S).locks g ≤ held_by_call S.locks g) same (event_fewer plan S (event.Did k c v) g refl off) in
+    subst (λ es. Locked S.locks (do_deeds plan es S).locks f (called plan frame.script a s.kind (node_of plan s.x))) (sym same)
+    (subst (λ q. Locked S.locks (do_deeds plan (did_deeds plan S k.0 c v f frame) S).locks f (called plan frame.script a q (node_of plan s.x))) (sym kind)
+    (did_locks plan S k f frame a fs.few fs.single c.kind c.count c.a c.b c.c (node_of plan s.x) (node_of plan s.y) v (subst (λ q. rule_of_call plan frame.script a q (node_of plan s.x) (node_of plan s.y) ≡ None) kind rule) (d.about.clean fault.LockNotHeld) fewer))
+
+-- and one whose wait is over
+woke_locked : {A : Type 0} (plan : Plan) (S : State A) (k : Cpu) (f : ℕ) (c : Call) (v : Value) (a : Abstract) → IsClean plan → (fs : FrameStands plan S f a) → (does : intent_of plan (frame_of S.cpus f) ≡ intent.Do c) → is_release c.kind ≡ false
+    → Locked S.locks (do_deeds plan (woke_deeds plan c v f (frame_of S.cpus f)) S).locks f (called plan (frame_of S.cpus f).script a (calls plan (frame_of S.cpus f) c does).kind (node_of plan (calls plan (frame_of S.cpus f) c does).x))
+woke_locked {A} plan S k f c v a clean fs does off =
+    let frame : Frame = frame_of S.cpus f in
+    let s : Calls plan frame (statement_at plan frame) c = calls plan frame c does in
+    let kind : s.kind ≡ c.kind = sym (ap (λ (q : Call). q.kind) s.call) in
+    let rule : rule_of_call plan frame.script a s.kind (node_of plan s.x) (node_of plan s.y) ≡ None = rule_off plan S k.0 f a clean fs c s in
+    subst (λ q. Locked S.locks (do_deeds plan (woke_deeds plan c v f frame) S).locks f (called plan frame.script a q (node_of plan s.x))) (sym kind)
+    (woke_locks plan S k f frame a fs.few fs.single c.kind c.count c.a c.b c.c (node_of plan s.x) (node_of plan s.y) v (subst (λ q. rule_of_call plan frame.script a q (node_of plan s.x) (node_of plan s.y) ≡ None) kind rule) off)
+
+pub did_stands : {A : Type 0} (plan : Plan) (m : Meaning A) (S : State A) (k : Cpu) (c : Call) (v : Value) → IsClean plan → has_ways c.kind ≡ false → may plan m S (event.Did k c v) ≡ true
+    → ((x : ℕ) → x < length S.requests.all → LaterAt x S.requests (do_deeds plan (deeds plan S (event.Did k c v)) S).requests) → Stands plan S
+    → Stands plan (after plan m S (event.Did k c v))
+did_stands {A} plan m S k c v clean off h later st =
+    let d : IsDid plan S k.0 c v = did_tells plan m S k c v h in
+    let f = d.frame in
+    let ds : List Deed = (outcome plan S k.0 f c).deeds ++ second_deeds f c in
+    let there : 1 ≤ on S.cpus f = top_there S.cpus k.0 f d.about.top in
+    let same : deeds plan S (event.Did k c v) ≡ ds ++ GoOn (frame_id f) (answered plan (frame_of S.cpus f) v) ∷ [] = by_its_top S k.0 f (did_deeds plan S k.0 c v) d.about.top in
+    let fit : all_fit plan (deeds plan S (event.Did k c v)) S ≡ true = event_fits plan m S (event.Did k c v) h in
+    let still : all_still ds ≡ true = none_behind (outcome plan S k.0 f c).deeds (second_deeds f c) (outcome_none plan S k.0 f c) (second_none f c) in
+    let fits_ : all_fit plan ds S ≡ true = fit_before plan ds (GoOn (frame_id f) (answered plan (frame_of S.cpus f) v) ∷ []) S (subst (λ es. all_fit plan es S ≡ true) same fit) in
+    told plan m (event.Did k c v) (do_deeds plan (deeds plan S (event.Did k c v)) S)
+    (answer_stands plan S (do_deeds plan (deeds plan S (event.Did k c v)) S) f v st
+    (subst (λ es. FrameGoes S (do_deeds plan es S) f (answered plan (frame_of S.cpus f) v)) (sym same) (still_goes plan S ds f (answered plan (frame_of S.cpus f) v) still fits_))
+    there (calls plan (frame_of S.cpus f) c d.about.about).kind (node_of plan (calls plan (frame_of S.cpus f) c d.about.about).x)
+    (plain_went plan S k.0 f (st.states f) c v clean (st.stands f there) d.about.about off)
+    later (did_locked plan S k f c v (st.states f) d clean (st.stands f there)))
+
+-- a call that no owner makes
+pub plain_stands : {A : Type 0} (plan : Plan) (m : Meaning A) (S : State A) (k : Cpu) (c : Call) (v : Value) → IsClean plan → has_ways c.kind ≡ false → is_owners_call c.kind ≡ false → may plan m S (event.Did k c v) ≡ true → Places S → Stands plan S
+    → Stands plan (after plan m S (event.Did k c v))
+plain_stands plan m S k c v clean off none h places st =
+    did_stands plan m S k c v clean off h (λ x old. event_later plan S (event.Did k c v) x none (event_fits plan m S (event.Did k c v) h) places old) st
+
+-- ---- StopAcknowledge
+
+zero_node : (f : Frame) (operand : ℕ → Option Value) (e : ℕ) (n : Option ExprNode) → is_zero n ≡ true → node_value f operand e n ≡ Some (Num 0)
+zero_node f operand e (Some (node.Number n)) h = ap (λ q. Some (Num q)) (eqb-true n 0 h)
+zero_node f operand e _ h = absurd (let z : ⊥ = cc in z)
+
+zero_value : (plan : Plan) (f : Frame) (e : ℕ) → is_zero (slice_get plan.exprs e) ≡ true → value_of plan f e ≡ Some (Num 0)
+unfolding value_of
+zero_value plan f e h = zero_node f (value_to e plan f) e (slice_get plan.exprs e) h
+
+zero_argument : (plan : Plan) (f : Frame) (y : ArgNode) → is_zero (node_of plan y) ≡ true → arg_is (arg_of plan f y) 0 ≡ true
+zero_argument plan f (arg.Expression e) h = ap (λ (o : Option Value). arg_is (Val (unwrap_or o (Num 0))) 0) (zero_value plan f e h)
+zero_argument plan f arg.NoArgument h = absurd (let z : ⊥ = cc in z)
+zero_argument plan f (arg.OfClass c) h = absurd (let z : ⊥ = cc in z)
+
+-- the deeds of an acknowledgement that keeps the request are no owner's
+acknowledging : {A : Type 0} (plan : Plan) (S : State A) (cpu f n : ℕ) (x y z : Arg) (b : Bool) → arg_is y 0 ≡ b → b ≡ true → list_all (λ d. not (is_owners d)) (if b then success (Acknowledge (object_id (object_in x)) ∷ []) else requeue_outcome S (object_in x) (origin_or_none S (object_in x))).deeds ≡ true
+acknowledging plan S cpu f n x y z true e h = refl
+acknowledging plan S cpu f n x y z false e h = absurd (let q : ⊥ = cc in q)
+
+none_owners : (ds es : List Deed) → list_all (λ d. not (is_owners d)) ds ≡ true → list_all (λ d. not (is_owners d)) es ≡ true → list_all (λ d. not (is_owners d)) (ds ++ es) ≡ true
+none_owners [] es h k = k
+none_owners (d ∷ ds) es h k = both (not (is_owners d)) (list_all (λ x. not (is_owners x)) (ds ++ es)) (both_left (not (is_owners d)) (list_all (λ x. not (is_owners x)) ds) h) (none_owners ds es (both_right (not (is_owners d)) (list_all (λ x. not (is_owners x)) ds) h) k)
+
+stop_at : {A : Type 0} (plan : Plan) (S : State A) (cpu f n : ℕ) (x y z : Arg) → arg_is y 0 ≡ true → list_all (λ d. not (is_owners d)) (outcome plan S cpu f (calling call.WdfRequestStopAcknowledge n x y z)).deeds ≡ true
+stop_at plan S cpu f n x y z h = acknowledging plan S cpu f n x y z (arg_is y 0) refl h
+
+on_both : (a b : Bool) (r : Option Fault) → on_request (a && b) r ≡ None → b ≡ true
+on_both true true r h = refl
+on_both true false r h = absurd (let z : ⊥ = cc in z)
+on_both false b r h = absurd (let z : ⊥ = cc in z)
+
+stops_zero : (plan : Plan) (script : ℕ) (a : Abstract) (k : CallKind) (px py : Option ExprNode) → rule_of_call plan script a k px py ≡ None → same_call_kind k call.WdfRequestStopAcknowledge ≡ true → is_zero py ≡ true
+stops_zero plan script a call.WdfRequestStopAcknowledge px py rule is = on_both (is_request_word px) (is_zero py) (rule_of_acknowledging plan script a) rule
+stops_zero plan script a _ px py rule is = absurd (let z : ⊥ = cc in z)
+
+is_kind : (k : CallKind) → same_call_kind k call.WdfRequestStopAcknowledge ≡ true → k ≡ call.WdfRequestStopAcknowledge
+is_kind call.WdfRequestStopAcknowledge h = refl
+is_kind _ h = absurd (let z : ⊥ = cc in z)
+
+-- its deeds are no owner's
+pub stop_none : {A : Type 0} (plan : Plan) (m : Meaning A) (S : State A) (k : Cpu) (c : Call) (v : Value) → IsClean plan → same_call_kind c.kind call.WdfRequestStopAcknowledge ≡ true → may plan m S (event.Did k c v) ≡ true → Stands plan S
+    → list_all (λ d. not (is_owners d)) (deeds plan S (event.Did k c v)) ≡ true
+stop_none {A} plan m S k c v clean stops h st =
+    let d : IsDid plan S k.0 c v = did_tells plan m S k c v h in
+    let f = d.frame in
+    let frame : Frame = frame_of S.cpus f in
+    let there : 1 ≤ on S.cpus f = top_there S.cpus k.0 f d.about.top in
+    let s : Calls plan frame (statement_at plan frame) c = calls plan frame c d.about.about in
+    let kind : c.kind ≡ s.kind = ap (λ (q : Call). q.kind) s.call in
+    let rule : rule_of_call plan frame.script (st.states f) s.kind (node_of plan s.x) (node_of plan s.y) ≡ None = rule_off plan S k.0 f (st.states f) clean (st.stands f there) c s in
+    let zero_ : is_zero (node_of plan s.y) ≡ true = stops_zero plan frame.script (st.states f) s.kind (node_of plan s.x) (node_of plan s.y) rule (sym (ap (λ q. same_call_kind q call.WdfRequestStopAcknowledge) kind) ∙ stops) in
+    let keeps : arg_is c.b 0 ≡ true = ap (λ (q : Call). arg_is q.b 0) s.call ∙ zero_argument plan frame s.y zero_ in
+    let it : c.kind ≡ call.WdfRequestStopAcknowledge = is_kind c.kind stops in
+    let none : list_all (λ d. not (is_owners d)) (outcome plan S k.0 f c).deeds ≡ true = subst (λ q. list_all (λ d. not (is_owners d)) (outcome plan S k.0 f (calling q c.count c.a c.b c.c)).deeds ≡ true) (sym it) (stop_at plan S k.0 f c.count c.a c.b c.c keeps) in
+    let second : list_all (λ d. not (is_owners d)) (second_deeds f c) ≡ true = subst (λ q. list_all (λ d. not (is_owners d)) (second_deeds f (calling q c.count c.a c.b c.c)) ≡ true) (sym it) refl in
+    let same : deeds plan S (event.Did k c v) ≡ ((outcome plan S k.0 f c).deeds ++ second_deeds f c) ++ GoOn (frame_id f) (answered plan frame v) ∷ [] = by_its_top S k.0 f (did_deeds plan S k.0 c v) d.about.top in
+    ap (λ es. list_all (λ d. not (is_owners d)) es) same
+    ∙ none_owners ((outcome plan S k.0 f c).deeds ++ second_deeds f c) (GoOn (frame_id f) (answered plan frame v) ∷ []) (none_owners (outcome plan S k.0 f c).deeds (second_deeds f c) none second) refl
+
+pub stop_stands : {A : Type 0} (plan : Plan) (m : Meaning A) (S : State A) (k : Cpu) (c : Call) (v : Value) → IsClean plan → same_call_kind c.kind call.WdfRequestStopAcknowledge ≡ true → may plan m S (event.Did k c v) ≡ true → Places S → Stands plan S
+    → Stands plan (after plan m S (event.Did k c v))
+stop_stands plan m S k c v clean stops h places st =
+    did_stands plan m S k c v clean (ap has_ways (is_kind c.kind stops)) h
+    (λ x old. deeds_later plan (deeds plan S (event.Did k c v)) S x (event_fits plan m S (event.Did k c v) h) places old (all_apart plan (deeds plan S (event.Did k c v)) S x (stop_none plan m S k c v clean stops h st))) st
+
+pub woke_stands : {A : Type 0} (plan : Plan) (m : Meaning A) (S : State A) (k : Cpu) (c : Call) (v : Value) → IsClean plan → may plan m S (event.Woke k c v) ≡ true → Places S → Stands plan S
+    → Stands plan (after plan m S (event.Woke k c v))
+woke_stands {A} plan m S k c v clean h places st =
+    let d : IsWoke S k.0 c v = woke_tells plan m S k c v h in
+    let f = d.frame in
+    let there : 1 ≤ on S.cpus f = top_there S.cpus k.0 f d.top in
+    let w = (st.stands f there).waits (record { call = c; answer = v }) d.waits in
+    let same : deeds plan S (event.Woke k c v) ≡ second_deeds f c ++ GoOn (frame_id f) (answered plan (frame_of S.cpus f) v) ∷ [] = by_its_top S k.0 f (woke_deeds plan c v) d.top in
+    let fit : all_fit plan (deeds plan S (event.Woke k c v)) S ≡ true = event_fits plan m S (event.Woke k c v) h in
+    let fits_ : all_fit plan (second_deeds f c) S ≡ true = fit_before plan (second_deeds f c) (GoOn (frame_id f) (answered plan (frame_of S.cpus f) v) ∷ []) S (subst (λ es. all_fit plan es S ≡ true) same fit) in
+    told plan m (event.Woke k c v) (do_deeds plan (deeds plan S (event.Woke k c v)) S)
+    (answer_stands plan S (do_deeds plan (deeds plan S (event.Woke k c v)) S) f v st
+    (subst (λ es. FrameGoes S (do_deeds plan es S) f (answered plan (frame_of S.cpus f) v)) (sym same) (still_goes plan S (second_deeds f c) f (answered plan (frame_of S.cpus f) v) (second_none f c) fits_))
+    there (calls plan (frame_of S.cpus f) c w.0).kind (node_of plan (calls plan (frame_of S.cpus f) c w.0).x)
+    (plain_went plan S k.0 f (st.states f) c v clean (st.stands f there) w.0 (off_request c.kind w.1))
+    (λ x old. event_later plan S (event.Woke k c v) x refl fit places old)
+    (subst (λ es. Locked S.locks (do_deeds plan es S).locks f (called plan (frame_of S.cpus f).script (st.states f) (calls plan (frame_of S.cpus f) c w.0).kind (node_of plan (calls plan (frame_of S.cpus f) c w.0).x)))
+    (sym (by_its_top S k.0 f (woke_deeds plan c v) d.top)) (woke_locked plan S k f c v (st.states f) clean (st.stands f there) w.0 w.2)))

@@ -1,0 +1,4 @@
+pub mod Changes
+pub mod Concerning
+pub mod Gathering
+pub mod Numbered

@@ -1,0 +1,9 @@
+pub mod Abstracts
+pub mod Steps
+pub mod Walked
+pub mod Walks
+pub mod Findings
+pub mod Answers
+pub mod Paths
+pub mod Searches
+pub mod Found
