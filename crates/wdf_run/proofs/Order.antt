@@ -59,8 +59,3 @@ run_goes_on {E} ready pick next after limit start run event place so_far room at
       let same : next 0 ≡ slice_index picks so_far.turns = so_far.further 0 ∙ ap pick e ∙ sym (has so_far.turns short) in
       so_far_goes_on ready picks start run event so_far.turns so_far.long (so_far.so_far picks has) (rw (← same, ← at) here);
 }
-
--- a list of no items
-pub nothing : {E : Type 0} (xs : List E) → length xs ≡ 0 → xs ≡ []
-nothing [] h = refl
-nothing (x ∷ xs) h = absurd (omega (arith, h))
