@@ -28,7 +28,7 @@ use Rattle.wdf_replay.specs.Verdicts.{IsAccepted, IsRefused, IsBadFor, IsBad, Is
 use Rattle.wdf_replay.proofs.RunLines.{fed_once, runs_on, no_end_lines}
 
 -- two events of the plan with one line are one
-same_line : (plan : Plan) → IsResolved plan → (j k : ℕ) (e f : Event) → j < 2 ^ 64 → k < 2 ^ 64 → IsEventOf plan e → IsEventOf plan f
+pub same_line : (plan : Plan) → IsResolved plan → (j k : ℕ) (e f : Event) → j < 2 ^ 64 → k < 2 ^ 64 → IsEventOf plan e → IsEventOf plan f
     → line_text plan j e ≡ line_text plan k f → (j ≡ k) × (e ≡ f)
 same_line plan resolved j k e f small fits valid right same =
     let names = HasNames-resolved plan resolved in (
@@ -37,12 +37,12 @@ same_line plan resolved j k e f small fits valid right same =
     )
 
 -- the first event after a front of a run may follow the front
-at_front : (s : List Event) (e : Event) (es : List Event) → slice_get (s ++ e ∷ es) (length s) ≡ Some e
+pub at_front : (s : List Event) (e : Event) (es : List Event) → slice_get (s ++ e ∷ es) (length s) ≡ Some e
 at_front s e es =
     let z : length s + 0 ≡ length s = omega arith in
     ap (λ k. slice_get (s ++ e ∷ es) k) (sym z) ∙ slice_get-append-right s (e ∷ es) 0
 
-follows : {A : Type 0} (plan : Plan) (m : Meaning A) (s : List Event) (e : Event) (es : List Event) → IsRunOf plan m (s ++ e ∷ es) → IsAmong e (ready plan m s)
+pub follows : {A : Type 0} (plan : Plan) (m : Meaning A) (s : List Event) (e : Event) (es : List Event) → IsRunOf plan m (s ++ e ∷ es) → IsAmong e (ready plan m s)
 unfolding IsRun
 follows plan m s e es is_run =
     let p = is_run (length s) e (at_front s e es) in
@@ -144,7 +144,7 @@ last_is_good plan m run told y [] over within is bad =
     ]
 last_is_good plan m run told y (line ∷ rest) over within is bad = bad.1 (at_place (end_lines plan m run) told line rest within is)
 
-next_is_good : {A : Type 0} (plan : Plan) (m : Meaning A) → IsResolved plan → (run : List Event) (told : ℕ) (y : Why) (e : Event) (es : List Event) (lines left : List (List ℕ))
+pub next_is_good : {A : Type 0} (plan : Plan) (m : Meaning A) → IsResolved plan → (run : List Event) (told : ℕ) (y : Why) (e : Event) (es : List Event) (lines left : List (List ℕ))
     → length run < 2 ^ 60 → told ≤ length (end_lines plan m run) → IsEventOf plan e → IsAmong e (ready plan m run)
     → fed (line_text plan (length run + 1) e) ∷ lines ≡ take told (end_lines plan m run) ++ left → IsBad plan m run told y left → ⊥
 next_is_good plan m resolved run told y e es lines left small within valid among same bad =
@@ -157,7 +157,7 @@ next_is_good plan m resolved run told y e es lines left small within valid among
     by_lines (line ∷ rest) is bad = event_is_good plan m resolved run e y line small valid among (sym (head_same _ _ _ _ is)) bad.0
 
 -- a run has no more events than its limit
-few : (plan : Plan) → IsResolved plan → (n : ℕ) → n ≤ plan.limit → n < 2 ^ 60
+pub few : (plan : Plan) → IsResolved plan → (n : ℕ) → n ≤ plan.limit → n < 2 ^ 60
 few plan resolved n below =
     let both = and_parts (nat_le 1 plan.limit) (nat_le plan.limit 200000) resolved.limit in
     let limit : plan.limit ≤ 200000 = leb-true plan.limit 200000 both.1 in
