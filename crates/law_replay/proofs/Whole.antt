@@ -29,7 +29,7 @@ whole_exactly plan m run trace h fit agents = (
   λ t. text_whole plan m run trace h t.0 t.1 (events_of_plan plan m run h fit agents t.0) t.2,
 )
 
-text_resolved : (text : List ℕ) (scene : Scene) → StandsFor text scene → first_refusal scene ≡ None → IsResolved (plan_of scene)
+pub text_resolved : (text : List ℕ) (scene : Scene) → StandsFor text scene → first_refusal scene ≡ None → IsResolved (plan_of scene)
 text_resolved text scene stands none = plan_resolved scene (stands_scene text scene stands) (stands_properly text scene stands) none
 
 pub events_of_text : (text : List ℕ) (scene : Scene) (run : List Event) → length text ≤ 1048576 → StandsFor text scene → first_refusal scene ≡ None

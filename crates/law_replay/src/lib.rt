@@ -5,3 +5,4 @@ pub mod fitting_agents;
 pub mod fitting_plans;
 pub mod lines_of_texts;
 pub mod texts_of_runs;
+pub mod verdicts;
