@@ -8,6 +8,8 @@
     tools/scene_to_plan.py specs scenarios/silent/*.scn > crates/law_stuck_worked/specs/SilentRuns.antt
     tools/scene_to_plan.py specs tools/stack/*.scn > crates/law_stack_worked/specs/StackRuns.antt
     tools/scene_to_plan.py proofs tools/stack/*.scn > crates/law_stack_worked/proofs/StackRuns.antt
+    tools/scene_to_plan.py specs tools/idle/*.scn > crates/law_idle_worked/specs/IdleRuns.antt
+    tools/scene_to_plan.py proofs tools/idle/*.scn > crates/law_idle_worked/proofs/IdleRuns.antt
 
 Each argument after the first is the path of a scenario `NAME.scn` with its trace beside it in `NAME.out`;
 NAME names the run. `specs` gives the plan, the events and the wait list of each, `proofs` that the definitions
@@ -604,6 +606,20 @@ use Rattle.law_stack_worked.specs.Shown.{IsStackRun}
 use Rattle.law_stack_worked.proofs.Ended.{over}
 """
 
+# Runs in which idle devices sleep.
+IDLE_HEAD = """-- Worked runs in which idle devices sleep, computed from the definitions. Made by tools/scene_to_plan.py.
+use Rattle.std.proofs.Common.{refl}
+use Rattle.wdf_base.specs.declared.event.Ending.TheVariants as ending
+use Rattle.wdf_model.specs.agents.IdleAgent.{idle_agents}
+use Rattle.wdf_model.specs.rules.Script.{value_of}
+use Rattle.law_machine_base.specs.Course.{run_with}
+use Rattle.law_machine_base.proofs.Course.{worked_with}
+use Rattle.law_idle_worked.proofs.Ended.{over}
+use Rattle.wdf_laws.specs.Words.{ever}
+use Rattle.law_idle.specs.Idling.{time_after, awake_rest, asleep_rest, is_held}
+use Rattle.law_idle_worked.specs.Shown.{IsIdleRun}
+"""
+
 
 class Run:
     """A worked run: its scenario, its events, its ending and its wait list."""
@@ -659,13 +675,27 @@ class Run:
             "}",
         ])
 
+    def idle_fact(self):
+        plan, events = f"{self.label}_plan", f"{self.label}_events"
+        return "\n".join([
+            f"pub {self.label} : IsIdleRun {plan} {events} {self.ending}",
+            "unfolding run_with value_of time_after awake_rest asleep_rest is_held ever",
+            f"{self.label} = record {{",
+            f"  worked = worked_with {plan} idle_agents {len(self.events)} {events} {self.ending} refl refl (over {self.ending} refl);",
+            "  kept = refl;",
+            "}",
+        ])
+
 
 def main():
     runs = [Run(path) for path in sys.argv[2:]]
     folder = os.path.basename(os.path.dirname(sys.argv[2]))
     if sys.argv[1] == "specs":
-        head = SPECS_HEAD.replace("FOLDER", "tools/" + (folder if folder in BLAMED or folder == "stack" else "runs"))
+        head = SPECS_HEAD.replace("FOLDER", "tools/" + (folder if folder in BLAMED or folder in ("stack", "idle") else "runs"))
         parts = [head] + [run.definitions() for run in runs]
+    elif folder == "idle":
+        cited = ", ".join(f"{r.label}_{w}" for r in runs for w in ("plan", "events"))
+        parts = [IDLE_HEAD + f"use Rattle.law_idle_worked.specs.IdleRuns.{{{cited}}}"] + [run.idle_fact() for run in runs]
     elif folder == "stack":
         words = [f"{r.label}_{w}" for r in runs for w in ("plan", "events", "waits") if w != "waits" or r.waits]
         cited = f"use Rattle.law_stack_worked.specs.StackRuns.{{{', '.join(words)}}}"
