@@ -52,6 +52,7 @@ fn waits_of<A: Agent>(alloc: Global, core: &Core<A>) -> Result<Vec<WaitLine>, Me
 fn draw<A: Agent>(alloc: Global, form: Form, core: &Core<A>) -> Result<Page, Memory> {
     let events = events_of(alloc, core)?;
     let waits = waits_of(alloc, core)?;
+    let _limit = core.plan().limit();
     let _events = core.journal_len();
     let told = Told {
         events: events.as_slice(),
@@ -63,17 +64,30 @@ fn draw<A: Agent>(alloc: Global, form: Form, core: &Core<A>) -> Result<Page, Mem
     }
 }
 
-/// The run of a trace, where it is accepted.
-fn judge(alloc: Global, plan: Plan, trace: &[u8]) -> Result<Core<AnyAgent>, Bad>
-    requires { IsResolved plan }
-    ensures accepted { IfOk result (λ core. IsAcceptedBy plan trace.now) }
-    ensures refused { IfErr result (IsTraceCause plan trace.now) }
+/// A page that was drawn; no memory where it wasn't.
+fn drawn(page: Result<Page, Memory>) -> Result<Page, Bad>
+    ensures { IfErr result (λ bad. bad ≡ Bad.Unread Refusal.NoMemory) }
 {
-    let Ok(mut core) = opening(alloc, plan) else {
-        return Err(Bad::Unread(Refusal::NoMemory));
-    };
-    match replay(&mut core, trace) {
-        Verdict::Accepted(_) => Ok(core),
+    match page {
+        Ok(page) => Ok(page),
+        Err(_) => Err(Bad::Unread(Refusal::NoMemory)),
+    }
+}
+
+/// The picture of a trace, judged on a core without events.
+fn draw_core(
+    alloc: Global,
+    form: Form,
+    core: &mut Core<AnyAgent>,
+    trace: &[u8],
+) -> Result<Page, Bad>
+    requires resolved { IsResolved core.old.plan }
+    requires fresh { core.old.journal ≡ [] }
+    ensures accepted { IfOk result (λ page. IsAcceptedBy core.old.plan trace.now) }
+    ensures refused { IfErr result (IsTraceCause core.old.plan trace.now) }
+{
+    match replay(core, trace) {
+        Verdict::Accepted(_) => drawn(draw(alloc, form, core)),
         Verdict::RefusedAt { line, why } => Err(Bad::BadTrace { line, why }),
     }
 }
@@ -84,12 +98,9 @@ fn draw_trace(alloc: Global, form: Form, plan: Plan, trace: &[u8]) -> Result<Pag
     ensures accepted { IfOk result (λ page. IsAcceptedBy plan trace.now) }
     ensures refused { IfErr result (IsTraceCause plan trace.now) }
 {
-    match judge(alloc, plan, trace) {
-        Ok(core) => match draw(alloc, form, &core) {
-            Ok(page) => Ok(page),
-            Err(_) => Err(Bad::Unread(Refusal::NoMemory)),
-        },
-        Err(bad) => Err(bad),
+    match opening(alloc, plan) {
+        Ok(mut core) => draw_core(alloc, form, &mut core, trace),
+        Err(_) => Err(Bad::Unread(Refusal::NoMemory)),
     }
 }
 

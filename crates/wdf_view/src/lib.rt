@@ -11,9 +11,9 @@
 mod bad;
 mod judged;
 mod read;
-mod view;
+mod top;
 mod words;
 
 pub use bad::Bad;
-pub use view::view;
+pub use top::view;
 pub use words::Form;

@@ -1,5 +1,5 @@
 //! The call of the program.
-ghost use Rattle.std.specs.Prelude.{◌≡◌, map, string_bytes, IfOk, IfErr};
+ghost use Rattle.std.specs.Prelude.{◌≡◌, Some, map, string_bytes, IfOk, IfErr};
 ghost use Rattle.wdf_io.specs.Outside.{EndsRefused};
 ghost use Rattle.wdf_output.specs.Said.{sinking};
 ghost use Rattle.wdf_view.specs.Causes.{IsCause, IsShownFrom, sourcing};
@@ -32,6 +32,20 @@ fn draw_source<S: Source>(alloc: Global, form: Form, source: &mut S) -> Result<P
     }
 }
 
+/// Writes the picture of a source's whole input, or the line that says why there is none.
+fn show<S: Source, K: Sink>(alloc: Global, form: Form, source: &mut S, sink: &mut K) -> u8
+    ensures told { Tells (Some form)
+        (sourcing (S.left source.old) (S.left source.new) (S.faults source.old) (S.faults source.new))
+        (sinking (K.written sink.old) (K.written sink.new) (K.faults sink.old) (K.faults sink.new))
+        result }
+    ensures not_again { result ≡ 13 → EndsRefused K.refused K.faults sink.old sink.new }
+{
+    match draw_source(alloc, form, source) {
+        Ok(page) => say(sink, page.bytes(), 0),
+        Err(bad) => tell_bad(sink, bad),
+    }
+}
+
 /// Serves the words after the program's name, and answers the status to end with. It always returns.
 ///
 /// `html` reads a scenario, a line `trace` and a trace, as `kmdfsim replay` does, and writes a page that shows the run,
@@ -45,10 +59,7 @@ pub fn view<S: Source, K: Sink>(alloc: Global, words: &[String], source: &mut S,
     ensures not_again { result ≡ 13 → EndsRefused K.refused K.faults sink.old sink.new }
 {
     match form_of(words) {
-        Some(form) => match draw_source(alloc, form, source) {
-            Ok(page) => say(sink, page.bytes(), 0),
-            Err(bad) => tell_bad(sink, bad),
-        },
+        Some(form) => show(alloc, form, source, sink),
         None => say(sink, USAGE, USAGE_STATUS),
     }
 }
