@@ -3,10 +3,9 @@
 #![tactic(auto)]
 
 use std::alloc::{AllocError, Global};
-use std::env;
 use std::env::Args;
-use std::io;
 use std::process::ExitCode;
+use std::{env, io};
 use wdf_io::{ReadSource, WriteSink};
 use wdf_view::view;
 
