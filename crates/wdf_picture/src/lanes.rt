@@ -260,7 +260,7 @@ impl Lanes {
     {
         let rows = rows_of_spans(alloc, spans, events)?;
         let count = (rows.free.len().min(ROWS)) as u32;
-        let height = count.saturating_mul(THIN).saturating_add(6);
+        let height = count.saturating_mul(THIN).saturating_add(6).max(ROW);
         let y = self.lane(LaneName::Word("requests"), height)?;
         for piece in requests.pieces() {
             let row = rows.row(piece.birth);

@@ -59,7 +59,7 @@ pub(crate) const STYLE: [&str; 64] = [
     "#legend, #places { margin: 4px 0; display: flex; flex-wrap: wrap; gap: 6px; }",
     ".k { padding: 1px 8px; border: 1px solid var(--soft); font-size: 12px; }",
     ".k.L0 { background: var(--l0); } .k.L2 { background: var(--l2); } .k.L3 { background: var(--l3); }",
-    ".k.wait { background: repeating-linear-gradient(45deg, transparent 0 4px, var(--soft) 4px 6px); }",
+    ".k.wait { padding-left: 24px; background: repeating-linear-gradient(45deg, transparent 0 4px, var(--soft) 4px 6px) left / 18px 100% no-repeat; }",
     ".k.park { border-style: dashed; } .k.call { border-bottom-width: 4px; }",
     ".k.queued { background: var(--queued); } .k.owned { background: var(--owned); } .k.sent { background: var(--sent); }",
     ".k.returning { background: var(--returning); border-style: dotted; } .k.done { background: var(--done); }",

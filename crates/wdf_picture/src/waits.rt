@@ -150,10 +150,10 @@ pub(crate) fn push_waits(page: &mut Page, plan: &Plan, waits: &[WaitLine]) -> Re
         "\">\n",
     )?;
     page.markup(
-        "<defs><marker id=\"tip\" viewBox=\"0 0 10 10\" refX=\"9\" refY=\"5\" markerWidth=\"9\" markerHeight=\"9\" orient=\"auto\"><path d=\"M0 0L10 5L0 10z\"/></marker>",
+        "<defs><marker id=\"tip\" viewBox=\"0 0 10 10\" refX=\"9\" refY=\"5\" markerUnits=\"userSpaceOnUse\" markerWidth=\"12\" markerHeight=\"12\" orient=\"auto\"><path d=\"M0 0L10 5L0 10z\"/></marker>",
     )?;
     page.markup(
-        "<marker id=\"red\" viewBox=\"0 0 10 10\" refX=\"9\" refY=\"5\" markerWidth=\"9\" markerHeight=\"9\" orient=\"auto\"><path d=\"M0 0L10 5L0 10z\"/></marker></defs>\n",
+        "<marker id=\"red\" viewBox=\"0 0 10 10\" refX=\"9\" refY=\"5\" markerUnits=\"userSpaceOnUse\" markerWidth=\"12\" markerHeight=\"12\" orient=\"auto\"><path d=\"M0 0L10 5L0 10z\"/></marker></defs>\n",
     )?;
     for at in 0..waits.len() {
         push_wait(page, plan, waits, at)?;
