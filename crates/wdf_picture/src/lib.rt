@@ -1,0 +1,24 @@
+//! A run as a picture: one page of HTML with an SVG in it, and a script that zooms and searches it.
+//!
+//! # Choices
+//!
+//! - **What does the page need besides itself?** Nothing: no other file and no address. Without its script it is the same
+//!   picture, and each shape has its trace line as a title.
+//! - **How is a shape placed?** From slot to slot, in an SVG of its own that clips its label. So the script moves a shape by
+//!   two attributes, and the program writes shapes of all kinds by one function.
+//! - **What of large runs?** Past [`MERGED_FROM`] events shapes of less than a pixel are merged into blocks. All shapes are
+//!   in the page too, in an inert template from which the script takes those that a zoom shows.
+//! - **How does text of the trace reach the page?** By `Page::text` of `wdf_page` alone.
+#![tactic(auto)]
+
+mod lanes;
+mod layout;
+mod level;
+mod page;
+mod script;
+mod shape;
+mod style;
+mod waits;
+
+pub use layout::MERGED_FROM;
+pub use page::{Told, html};

@@ -1,0 +1,438 @@
+//! The page.
+ghost use Rattle.std.specs.Prelude.{◌<◌, ◌^◌, length};
+
+use crate::lanes::Lanes;
+use crate::layout::{MERGED_FROM, Scale, lanes_of};
+use crate::script::SCRIPT;
+use crate::shape::{Label, Lane, LaneName, Role, Shape, place_word};
+use crate::style::STYLE;
+use crate::waits::push_waits;
+use std::alloc::Global;
+use wdf_base::{Ending, Event, Handle, Memory, Plan, WaitLine};
+use wdf_lines::{ending_word, line_of, name_bytes};
+use wdf_page::Page;
+
+/// The most rows of the picture in which blocks are kept apart.
+const HEIGHT: usize = 65_536;
+
+/// A run that is told: its events, how it ended, and its wait list.
+#[derive(Drop)]
+pub struct Told<'a> {
+    pub events: &'a [Event],
+    pub ending: Ending,
+    pub waits: &'a [WaitLine],
+}
+
+/// Adds an object: its name, a dot and its id.
+pub(crate) fn push_object(page: &mut Page, plan: &Plan, object: Handle) -> Result<(), Memory> {
+    page.text(name_bytes(plan, object.name))?;
+    page.markup(".")?;
+    page.number(u64::from(object.id.0))
+}
+
+/// Adds a number as an attribute of this name.
+fn push_attribute(page: &mut Page, name: &'static str, value: u64) -> Result<(), Memory> {
+    page.markup(name)?;
+    page.number(value)?;
+    page.markup("\"")
+}
+
+/// Adds the label of a callback.
+fn push_callback(page: &mut Page, plan: &Plan, label: &Label) -> Result<(), Memory> {
+    let Label::Callback {
+        callback,
+        object,
+        request,
+        level,
+    } = label
+    else {
+        return Ok(());
+    };
+    page.markup(callback.word())?;
+    page.markup(" ")?;
+    push_object(page, plan, *object)?;
+    if let Some(request) = request {
+        page.markup(" ")?;
+        push_object(page, plan, *request)?;
+    }
+    page.markup(" @")?;
+    page.number(u64::from(*level))
+}
+
+/// Adds a label.
+fn push_label(page: &mut Page, plan: &Plan, label: &Label) -> Result<(), Memory> {
+    match *label {
+        Label::Nothing => Ok(()),
+        Label::Word(word) => page.markup(word),
+        Label::Callback { .. } => push_callback(page, plan, label),
+        Label::Request { request, told } => {
+            push_object(page, plan, request)?;
+            page.markup(" ")?;
+            page.markup(place_word(told))
+        }
+        Label::Count { word, count } => {
+            page.number(u64::from(count))?;
+            page.markup(" ")?;
+            page.markup(word)
+        }
+        Label::Time(time) => page.number(time),
+    }
+}
+
+fn role_class(role: Role) -> &'static str {
+    match role {
+        Role::Frame => " b",
+        Role::Request => " q",
+        Role::Other => "",
+    }
+}
+
+/// Adds the trace line of the event with this number.
+fn push_line(page: &mut Page, plan: &Plan, events: &[Event], number: u32) -> Result<(), Memory> {
+    if number == 0 {
+        return Ok(());
+    }
+    match events.get(number as usize - 1) {
+        Some(event) => page.text(line_of(plan, number as usize, event).bytes()),
+        None => Ok(()),
+    }
+}
+
+/// Adds the title of a shape: the trace line of its event, and of a box that of the last event in it.
+fn push_title(page: &mut Page, plan: &Plan, events: &[Event], shape: &Shape) -> Result<(), Memory> {
+    page.markup("<title>")?;
+    push_line(page, plan, events, shape.number)?;
+    if matches!(shape.role, Role::Frame) && shape.to > shape.number {
+        page.markup("\n")?;
+        push_line(page, plan, events, shape.to)?;
+    }
+    page.markup("</title>")
+}
+
+/// Adds the place of a shape.
+fn push_place(page: &mut Page, shape: &Shape, scale: &Scale) -> Result<(), Memory> {
+    let x = scale.x(shape.from);
+    let end = scale.x(shape.to);
+    push_attribute(page, " x=\"", x)?;
+    push_attribute(page, " y=\"", u64::from(shape.y))?;
+    push_attribute(page, " width=\"", end.saturating_sub(x).max(1))?;
+    push_attribute(page, " height=\"", u64::from(shape.height))
+}
+
+/// Adds what the script reads of a shape: its slots, its event and what it is about.
+fn push_data(page: &mut Page, shape: &Shape) -> Result<(), Memory> {
+    push_attribute(page, "\" data-a=\"", u64::from(shape.from))?;
+    push_attribute(page, " data-b=\"", u64::from(shape.to))?;
+    push_attribute(page, " data-n=\"", u64::from(shape.number))?;
+    push_attribute(page, " data-o=\"", u64::from(shape.about))?;
+    push_attribute(page, " data-r=\"", u64::from(shape.with))
+}
+
+/// Adds a shape.
+fn push_shape(
+    page: &mut Page,
+    plan: &Plan,
+    events: &[Event],
+    scale: &Scale,
+    shape: &Shape,
+) -> Result<(), Memory> {
+    page.markup("<svg class=\"")?;
+    page.markup(shape.look.class())?;
+    page.markup(role_class(shape.role))?;
+    push_data(page, shape)?;
+    push_place(page, shape, scale)?;
+    page.markup(">")?;
+    push_title(page, plan, events, shape)?;
+    page.markup("<rect width=\"100%\" height=\"100%\"/>")?;
+    if !matches!(shape.label, Label::Nothing) {
+        page.markup("<text x=\"3\" y=\"12\">")?;
+        push_label(page, plan, &shape.label)?;
+        page.markup("</text>")?;
+    }
+    page.markup("</svg>\n")
+}
+
+/// Adds all shapes as they are.
+fn push_shapes(
+    page: &mut Page,
+    plan: &Plan,
+    events: &[Event],
+    scale: &Scale,
+    shapes: &[Shape],
+) -> Result<(), Memory> {
+    for shape in shapes {
+        push_shape(page, plan, events, scale, shape)?;
+    }
+    Ok(())
+}
+
+/// Adds a block of shapes of less than a pixel.
+fn push_block(page: &mut Page, scale: &Scale, shape: &Shape) -> Result<(), Memory> {
+    page.markup("<rect class=\"m ")?;
+    page.markup(shape.look.class())?;
+    page.markup("\"")?;
+    push_attribute(page, " x=\"", scale.x(shape.from))?;
+    push_attribute(page, " y=\"", u64::from(shape.y))?;
+    page.markup(" width=\"2\"")?;
+    push_attribute(page, " height=\"", u64::from(shape.height))?;
+    page.markup("/>\n")
+}
+
+/// Adds the shapes that are a few pixels wide, and a block for those of one pixel that aren't.
+fn push_merged(
+    alloc: Global,
+    page: &mut Page,
+    plan: &Plan,
+    events: &[Event],
+    scale: &Scale,
+    shapes: &[Shape],
+) -> Result<(), Memory> {
+    let mut filled = vec![in alloc; 0u64; HEIGHT]?;
+    for shape in shapes {
+        let x = scale.x(shape.from);
+        let y = (shape.y as usize).min(HEIGHT - 1);
+        if scale.x(shape.to) > x.saturating_add(2) {
+            push_shape(page, plan, events, scale, shape)?;
+        } else if filled.as_slice().get(y).is_some_and(|to| *to <= x) {
+            push_block(page, scale, shape)?;
+            if y < filled.len() {
+                filled[y] = x.saturating_add(2);
+            }
+        }
+    }
+    Ok(())
+}
+
+/// Adds the name of a lane.
+fn push_name(page: &mut Page, plan: &Plan, lane: &Lane) -> Result<(), Memory> {
+    push_attribute(
+        page,
+        "<text class=\"lane\" x=\"6\" y=\"",
+        u64::from(lane.y.saturating_add(14)),
+    )?;
+    match lane.name {
+        LaneName::Word(word) => {
+            page.markup(" data-o=\"0\">")?;
+            page.markup(word)?;
+        }
+        LaneName::Cpu(cpu) => {
+            page.markup(" data-o=\"0\">cpu")?;
+            page.number(u64::from(cpu))?;
+        }
+        LaneName::Object(kind, object) => {
+            push_attribute(page, " data-o=\"", u64::from(object.id.0))?;
+            page.markup(">")?;
+            page.markup(kind)?;
+            push_object(page, plan, object)?;
+        }
+    }
+    page.markup("</text>\n")
+}
+
+/// Adds the names of the lanes.
+fn push_names(page: &mut Page, plan: &Plan, lanes: &Lanes) -> Result<(), Memory> {
+    push_attribute(
+        page,
+        "<svg id=\"names\" width=\"150\" height=\"",
+        u64::from(lanes.height.saturating_add(24)),
+    )?;
+    page.markup(">\n<g transform=\"translate(0 24)\">\n")?;
+    for lane in &lanes.lanes {
+        push_name(page, plan, lane)?;
+    }
+    page.markup("</g></svg>\n")
+}
+
+/// Adds a line below each lane.
+fn push_rules(page: &mut Page, lanes: &[Lane]) -> Result<(), Memory> {
+    for lane in lanes {
+        let y = u64::from(lane.y.saturating_add(lane.height).saturating_sub(1));
+        push_attribute(page, "<line class=\"rule\" x1=\"0\" x2=\"100%\" y1=\"", y)?;
+        push_attribute(page, " y2=\"", y)?;
+        page.markup("/>\n")?;
+    }
+    Ok(())
+}
+
+/// How many slots are from one number of the ruler to the next.
+fn step_of(slots: u32) -> u32
+    ensures { 0 < result }
+{
+    if slots <= 60 {
+        5
+    } else if slots <= 600 {
+        10
+    } else if slots <= 5_000 {
+        100
+    } else {
+        5_000
+    }
+}
+
+/// Adds the ruler of event numbers.
+fn push_ruler(page: &mut Page, scale: &Scale) -> Result<(), Memory> {
+    let step = step_of(scale.slots);
+    page.markup("<g id=\"ruler\">\n")?;
+    for k in 0..(scale.slots / step).saturating_add(1) {
+        let slot = k.saturating_mul(step);
+        push_attribute(
+            page,
+            "<text class=\"number\" y=\"14\" data-a=\"",
+            u64::from(slot),
+        )?;
+        push_attribute(page, " x=\"", scale.x(slot))?;
+        page.markup(">")?;
+        page.number(u64::from(slot) + 1)?;
+        page.markup("</text>\n")?;
+    }
+    page.markup("</g>\n")
+}
+
+/// Adds the picture of the lanes.
+fn push_plot(
+    alloc: Global,
+    page: &mut Page,
+    plan: &Plan,
+    events: &[Event],
+    scale: &Scale,
+    lanes: &Lanes,
+) -> Result<(), Memory> {
+    push_attribute(
+        page,
+        "<svg id=\"plot\" width=\"",
+        u64::from(scale.width) + 20,
+    )?;
+    push_attribute(
+        page,
+        " height=\"",
+        u64::from(lanes.height.saturating_add(24)),
+    )?;
+    push_attribute(page, " data-slots=\"", u64::from(scale.slots))?;
+    push_attribute(page, " data-width=\"", u64::from(scale.width))?;
+    page.markup(
+        ">\n<defs><pattern id=\"hatch\" width=\"6\" height=\"6\" patternUnits=\"userSpaceOnUse\" patternTransform=\"rotate(45)\"><rect class=\"stripe\" width=\"2.5\" height=\"6\"/></pattern></defs>\n",
+    )?;
+    push_ruler(page, scale)?;
+    page.markup("<g transform=\"translate(0 24)\">\n")?;
+    push_rules(page, lanes.lanes.as_slice())?;
+    page.markup("<g id=\"shapes\">\n")?;
+    if scale.slots > MERGED_FROM {
+        push_merged(alloc, page, plan, events, scale, lanes.shapes.as_slice())?;
+    } else {
+        push_shapes(page, plan, events, scale, lanes.shapes.as_slice())?;
+    }
+    page.markup("</g></g></svg>\n")
+}
+
+/// Adds all shapes of a large run, for the script.
+fn push_all(
+    page: &mut Page,
+    plan: &Plan,
+    events: &[Event],
+    scale: &Scale,
+    shapes: &[Shape],
+) -> Result<(), Memory> {
+    if scale.slots <= MERGED_FROM {
+        return Ok(());
+    }
+    page.markup("<template id=\"all\"><svg>\n")?;
+    push_shapes(page, plan, events, scale, shapes)?;
+    page.markup("</svg></template>\n")
+}
+
+/// Adds the trace line by line.
+fn push_lines(page: &mut Page, plan: &Plan, events: &[Event]) -> Result<(), Memory> {
+    page.markup("<details><summary>The trace</summary>\n<pre id=\"lines\">")?;
+    let mut number: usize = 1;
+    for event in events {
+        page.text(line_of(plan, number, event).bytes())?;
+        page.markup("\n")?;
+        number = number.saturating_add(1);
+    }
+    page.markup("</pre></details>\n")
+}
+
+/// What the ending of a run means.
+fn meaning_of(ending: Ending) -> &'static str {
+    match ending {
+        Ending::Running => "The run goes on.",
+        Ending::Finished => "The run finished: nothing is open.",
+        Ending::Fault(_) => "The run ended in a fault of the driver, at the red mark.",
+        Ending::Stuck => "The run is stuck: something is open, and nothing can happen.",
+        Ending::Limit => "The run was cut off at its limit of events.",
+    }
+}
+
+/// Adds parts of the page that are the same for all runs.
+fn push_parts(page: &mut Page, parts: &[&'static str]) -> Result<(), Memory> {
+    for part in parts {
+        page.markup(part)?;
+        page.markup("\n")?;
+    }
+    Ok(())
+}
+
+/// Adds the head of the page.
+fn push_head(page: &mut Page, told: &Told) -> Result<(), Memory> {
+    page.markup(
+        "<!DOCTYPE html>\n<html lang=\"en\">\n<head>\n<meta charset=\"utf-8\">\n<meta name=\"viewport\" content=\"width=device-width, initial-scale=1\">\n<link rel=\"icon\" href=\"data:,\">\n<title>",
+    )?;
+    push_ending(page, told)?;
+    page.markup("</title>\n<style>\n")?;
+    push_parts(page, &STYLE)?;
+    page.markup("</style>\n</head>\n<body>\n<header><h1>")?;
+    push_ending(page, told)?;
+    page.markup("</h1><p>")?;
+    page.markup(meaning_of(told.ending))?;
+    page.markup("</p></header>\n")
+}
+
+/// Adds the words of the run's ending.
+fn push_ending(page: &mut Page, told: &Told) -> Result<(), Memory> {
+    page.text(ending_word(told.ending))?;
+    page.markup(" after ")?;
+    page.number(told.events.len() as u64)?;
+    page.markup(" events")
+}
+
+/// The page of a run.
+///
+/// # Errors
+///
+/// [`Memory`] where memory was refused.
+pub fn html(alloc: Global, plan: &Plan, told: &Told) -> Result<Page, Memory>
+    requires { length told.now.events.now < 2 ^ 32 }
+{
+    let mut page = Page::new(alloc);
+    let lanes = lanes_of(alloc, plan, told.events)?;
+    let scale = Scale::of(told.events.len() as u32);
+    push_head(&mut page, told)?;
+    push_waits(&mut page, plan, told.waits)?;
+    page.markup("<div id=\"tools\" hidden></div>\n<main id=\"run\">\n")?;
+    push_names(&mut page, plan, &lanes)?;
+    push_plot(alloc, &mut page, plan, told.events, &scale, &lanes)?;
+    page.markup("</main>\n<p id=\"line\" aria-live=\"polite\"></p>\n")?;
+    push_legend(&mut page)?;
+    push_lines(&mut page, plan, told.events)?;
+    push_all(
+        &mut page,
+        plan,
+        told.events,
+        &scale,
+        lanes.shapes.as_slice(),
+    )?;
+    page.markup("<script>\n")?;
+    push_parts(&mut page, &SCRIPT)?;
+    page.markup("</script>\n</body>\n</html>\n")?;
+    Ok(page)
+}
+
+/// Adds what the colours and marks mean.
+fn push_legend(page: &mut Page) -> Result<(), Memory> {
+    page.markup(
+        "<p id=\"legend\"><span class=\"k L0\">@0 passive level</span> <span class=\"k L2\">@2 dispatch level</span> <span class=\"k L3\">@3.. device level</span> <span class=\"k wait\">waits</span> <span class=\"k park\">parked</span> <span class=\"k call\">call</span></p>\n",
+    )?;
+    page.markup(
+        "<p id=\"places\"><span class=\"k queued\">queued</span> <span class=\"k owned\">owned</span> <span class=\"k sent\">sent</span> <span class=\"k returning\">returning</span> <span class=\"k done\">done</span> <span class=\"k cancel\">cancel</span> <span class=\"k fault\">fault</span></p>\n",
+    )
+}

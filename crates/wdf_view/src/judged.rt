@@ -1,0 +1,118 @@
+//! A trace is judged, and its run is drawn.
+ghost use Rattle.std.specs.Prelude.{◌≡◌, ◌≤◌, ◌^◌, ◌<◌, [], length, IfOk, IfErr};
+ghost use Rattle.wdf_base.specs.Resolved.{IsResolved};
+ghost use Rattle.wdf_view.specs.Causes.{HasPlan, IsAcceptedBy, IsInputCause, IsShown, IsTraceCause};
+
+use crate::bad::Bad;
+use crate::read::plan_of_text;
+use crate::words::Form;
+use std::alloc::Global;
+use wdf_base::{Agent, Event, Memory, Plan, WaitLine};
+use wdf_core::Core;
+use wdf_dev::{AnyAgent, agents};
+use wdf_output::Refusal;
+use wdf_page::Page;
+use wdf_parse::TEXT_LIMIT;
+use wdf_picture::{Told, html};
+use wdf_replay::{Verdict, replay};
+use wdf_run_text::from_place;
+use wdf_split::split;
+
+/// The opening of a plan, with its agents.
+fn opening(alloc: Global, plan: Plan) -> Result<Core<AnyAgent>, Memory>
+    requires { IsResolved plan }
+    ensures plan { IfOk result (λ core. core.plan ≡ plan) }
+    ensures journal { IfOk result (λ core. core.journal ≡ []) }
+{
+    let agents = agents(alloc, &plan)?;
+    Core::make(alloc, plan, agents)
+}
+
+/// The events of a run.
+fn events_of<A: Agent>(alloc: Global, core: &Core<A>) -> Result<Vec<Event>, Memory>
+    ensures { IfOk result (λ events. events.items ≡ core.now.journal) }
+{
+    let mut events = Vec::new(alloc);
+    for k in 0..core.journal_len() {
+        events.push(core.journal_at(k))?;
+    }
+    Ok(events)
+}
+
+/// The wait list of a run.
+fn waits_of<A: Agent>(alloc: Global, core: &Core<A>) -> Result<Vec<WaitLine>, Memory> {
+    let mut waits = Vec::new(alloc);
+    for k in 0..core.wait_len() {
+        waits.push(core.wait_at(k))?;
+    }
+    Ok(waits)
+}
+
+/// The picture of the run on a core.
+fn draw<A: Agent>(alloc: Global, form: Form, core: &Core<A>) -> Result<Page, Memory> {
+    let events = events_of(alloc, core)?;
+    let waits = waits_of(alloc, core)?;
+    let _limit = core.plan().limit();
+    let _events = core.journal_len();
+    let told = Told {
+        events: events.as_slice(),
+        ending: core.ending(),
+        waits: waits.as_slice(),
+    };
+    match form {
+        Form::Html => html(alloc, core.plan(), &told),
+    }
+}
+
+/// A page that was drawn; no memory where it wasn't.
+fn drawn(page: Result<Page, Memory>) -> Result<Page, Bad>
+    ensures { IfErr result (λ bad. bad ≡ Bad.Unread Refusal.NoMemory) }
+{
+    match page {
+        Ok(page) => Ok(page),
+        Err(_) => Err(Bad::Unread(Refusal::NoMemory)),
+    }
+}
+
+/// The picture of a trace, judged on a core without events.
+fn draw_core(
+    alloc: Global,
+    form: Form,
+    core: &mut Core<AnyAgent>,
+    trace: &[u8],
+) -> Result<Page, Bad>
+    requires resolved { IsResolved core.old.plan }
+    requires fresh { core.old.journal ≡ [] }
+    ensures accepted { IfOk result (λ page. IsAcceptedBy core.old.plan trace.now) }
+    ensures refused { IfErr result (IsTraceCause core.old.plan trace.now) }
+{
+    match replay(core, trace) {
+        Verdict::Accepted(_) => drawn(draw(alloc, form, core)),
+        Verdict::RefusedAt { line, why } => Err(Bad::BadTrace { line, why }),
+    }
+}
+
+/// The picture of a plan's trace.
+fn draw_trace(alloc: Global, form: Form, plan: Plan, trace: &[u8]) -> Result<Page, Bad>
+    requires { IsResolved plan }
+    ensures accepted { IfOk result (λ page. IsAcceptedBy plan trace.now) }
+    ensures refused { IfErr result (IsTraceCause plan trace.now) }
+{
+    match opening(alloc, plan) {
+        Ok(mut core) => draw_core(alloc, form, &mut core, trace),
+        Err(_) => Err(Bad::Unread(Refusal::NoMemory)),
+    }
+}
+
+/// The picture of an input.
+pub(crate) fn draw_input(alloc: Global, form: Form, input: &[u8]) -> Result<Page, Bad>
+    requires { length input.now ≤ TEXT_LIMIT }
+    ensures shown { IfOk result (λ page. IsShown input.now) }
+    ensures cause { IfErr result (IsInputCause input.now) }
+{
+    let parts = split(input);
+    match plan_of_text(alloc, &input[..parts.scenario]) {
+        Ok(plan) => draw_trace(alloc, form, plan, from_place(input, parts.trace)),
+        Err(refusal) => Err(Bad::Unread(refusal)),
+    }
+}
