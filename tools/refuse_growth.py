@@ -13,7 +13,10 @@ tried (200 where none is named), and above it about each fiftieth part more; the
 
 Where a request is refused, the status has to be 15 and the whole answer the line `out of memory`, or the status 13 and the
 answer a front of that line. So nothing of a trace is written before it. A row is printed for each form, and a line for each
-wrong answer. The status is 0 where none is wrong, and else 1.
+wrong answer.
+
+The requests of runs of one scenario by several seeds are counted too. They have to be as many, whatever the run is, since all
+memory is taken before the first event. The status is 0 where nothing is wrong, and else 1.
 """
 
 import argparse
@@ -31,6 +34,8 @@ from built import PROGRAM, ROOT, needs, program_at
 SCENARIOS = [os.path.join(ROOT, "examples", name) for name in ("first-read.kmdf", "deadlock.kmdf")]
 FORMS = ("check", "order", "seed 3", "replay", "run")
 ALONE = ("gen 1", "load 1")
+VARIED = [os.path.join(ROOT, "examples", name) for name in ("echo-bug.kmdf", "eight-processors.kmdf")]
+SEEDS = range(20)
 LINE = b"out of memory\n"
 NO_MEMORY, WRITE_FAILED = 15, 13
 SECONDS = 60
@@ -167,6 +172,15 @@ def judge(refuser, name, words, text, each):
     return wrong
 
 
+def alike(refuser, name, text):
+    """Whether runs by several seeds request memory as often as each other, whatever their lengths: prints a row."""
+    runs = [refuser.run(f"seed {seed}", text, 0, 0) for seed in SEEDS]
+    requests = sorted({run[3] for run in runs})
+    lines = [run[1].count(b"\n") for run in runs]
+    print(f"{len(runs)} seeds < {name}: traces of {min(lines)} to {max(lines)} lines, requests: {', '.join(map(str, requests))}", flush=True)
+    return len(requests) == 1
+
+
 def main():
     parser = argparse.ArgumentParser(description=__doc__.splitlines()[0])
     parser.add_argument("--program", default=PROGRAM)
@@ -184,6 +198,9 @@ def main():
             for words in FORMS:
                 text = scenario + b"\ntrace\n" + trace if words == "replay" else scenario
                 wrong += judge(refuser, f"{words} < {os.path.basename(path)}", words, text, given.each)
+        for path in VARIED:
+            with open(path, "rb") as file:
+                wrong += not alike(refuser, os.path.basename(path), file.read())
         for words in ALONE:
             wrong += judge(refuser, words, words, b"", given.each)
     print(f"{wrong} answered wrongly")

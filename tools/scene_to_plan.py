@@ -1,31 +1,21 @@
 #!/usr/bin/env python3
 """Turns scenarios and their traces into antt: a plan as a record, the events and the wait list as lists.
 
-<<<<<<< HEAD
     tools/scene_to_plan.py specs tools/runs/power/*.scn > crates/law_machine_worked/specs/RunsOfPower.antt
     tools/scene_to_plan.py proofs tools/runs/power/*.scn > crates/law_machine_worked/proofs/RunsOfPower.antt
     tools/scene_to_plan.py specs SCENARIOS OF scenarios/stuck > crates/law_stuck_worked/specs/StuckObjects.antt
     tools/scene_to_plan.py proofs scenarios/stuck/*.scn > crates/law_stuck_worked/proofs/StuckRuns.antt
     tools/scene_to_plan.py specs scenarios/silent/*.scn > crates/law_stuck_worked/specs/SilentRuns.antt
+    tools/scene_to_plan.py specs tools/stack/*.scn > crates/law_stack_worked/specs/StackRuns.antt
+    tools/scene_to_plan.py proofs tools/stack/*.scn > crates/law_stack_worked/proofs/StackRuns.antt
+    tools/scene_to_plan.py specs tools/idle/*.scn > crates/law_idle_worked/specs/IdleRuns.antt
+    tools/scene_to_plan.py proofs tools/idle/*.scn > crates/law_idle_worked/proofs/IdleRuns.antt
 
 Each argument after the first is the path of a scenario `NAME.scn` with its trace beside it in `NAME.out`;
 NAME names the run. `specs` gives the plan, the events and the wait list of each, `proofs` that the definitions
 of wdf_model compute them. The runs of scenarios/stuck have three files of specs: StuckObjects, StuckRequests and
 StuckSequences. They and those of scenarios/spinning are for crates/law_stuck_worked, and so
 are those of scenarios/silent, which targets never answer: of these only the specs are written here. What it writes
-=======
-    tools/scene_to_plan.py specs tools/runs/power/*.scn > crates/law_machine_worked/specs/RunsOfPower.antt
-    tools/scene_to_plan.py proofs tools/runs/power/*.scn > crates/law_machine_worked/proofs/RunsOfPower.antt
-    tools/scene_to_plan.py specs SCENARIOS OF scenarios/stuck > crates/law_stuck_worked/specs/StuckObjects.antt
-    tools/scene_to_plan.py proofs scenarios/stuck/*.scn > crates/law_stuck_worked/proofs/StuckRuns.antt
-    tools/scene_to_plan.py specs scenarios/silent/*.scn > crates/law_stuck_worked/specs/SilentRuns.antt
-
-Each argument after the first is the path of a scenario `NAME.scn` with its trace beside it in `NAME.out`;
-NAME names the run. `specs` gives the plan, the events and the wait list of each, `proofs` that the definitions
-of wdf_model compute them. The runs of scenarios/stuck have three files of specs: StuckObjects, StuckRequests and
-StuckSequences. They and those of scenarios/spinning are for crates/law_stuck_worked, and so
-are those of scenarios/silent, which targets never answer: of these only the specs are written here. What it writes
->>>>>>> 703844b2 (Scenarios that the guide links to are in scenarios/; the echo driver in C and as scenarios, with docs/FROM_C.md)
 still has to go through `rt tidy` in the crate. It serves the worked runs alone: what the program reads is read
 by its own parser.
 """
@@ -602,6 +592,35 @@ use Rattle.law_machine_worked.specs.Shown.{IsShown, is_kept}
 OVER = "use Rattle.law_machine_worked.proofs.Ended.{over}\n"
 STUCK_OVER = "use Rattle.law_stuck_worked.proofs.Over.{stuck_is_over}\n"
 
+# Runs with stacks of devices.
+STACK_HEAD = """-- Worked runs with stacks of devices, computed from the definitions. Made by tools/scene_to_plan.py.
+use Rattle.std.proofs.Common.{[], refl}
+use Rattle.wdf_base.specs.declared.event.Ending.TheVariants as ending
+use Rattle.wdf_model.specs.agents.StackAgent.{stack_agents}
+use Rattle.wdf_model.specs.rules.Script.{value_of}
+use Rattle.law_machine_base.specs.Course.{run_with}
+use Rattle.law_machine_base.proofs.Course.{worked_with}
+use Rattle.law_stack.specs.Laws.{keeps_stack_laws}
+use Rattle.law_stack.specs.Words.{passings, works}
+use Rattle.law_stack_worked.specs.Shown.{IsStackRun}
+use Rattle.law_stack_worked.proofs.Ended.{over}
+"""
+
+# Runs in which idle devices sleep.
+IDLE_HEAD = """-- Worked runs in which idle devices sleep, computed from the definitions. Made by tools/scene_to_plan.py.
+use Rattle.std.proofs.Common.{refl}
+use Rattle.wdf_base.specs.declared.event.Ending.TheVariants as ending
+use Rattle.wdf_model.specs.agents.IdleAgent.{idle_agents}
+use Rattle.wdf_model.specs.rules.Script.{value_of}
+use Rattle.law_machine_base.specs.Course.{run_with}
+use Rattle.law_machine_base.proofs.Course.{worked_with}
+use Rattle.law_idle_worked.proofs.Ended.{over}
+use Rattle.wdf_laws.specs.Words.{ever}
+use Rattle.law_idle.specs.Idling.{time_after, awake_rest, asleep_rest, is_held}
+use Rattle.law_idle_worked.specs.Shown.{IsIdleRun}
+"""
+
+
 class Run:
     """A worked run: its scenario, its events, its ending and its wait list."""
 
@@ -630,6 +649,19 @@ class Run:
             f"{self.label}_waits = " + antt_list(self.waits),
         ] if self.waits else []))
 
+    def stack_fact(self):
+        waits = f"{self.label}_waits" if self.waits else "[]"
+        told = f"{self.label}_plan {self.label}_events {self.ending}"
+        return "\n".join([
+            f"pub {self.label} : IsStackRun {told} {waits}",
+            "unfolding run_with value_of keeps_stack_laws passings works",
+            f"{self.label} = record {{",
+            f"  worked = worked_with {self.label}_plan stack_agents {len(self.events)} {self.label}_events {self.ending} refl refl (over {self.ending} refl);",
+            "  stuck = refl;",
+            "  keeps = refl;",
+            "}",
+        ])
+
     def fact(self, over):
         waits = f"{self.label}_waits" if self.waits else "[]"
         told = f"{self.label}_plan {self.label}_events {self.ending}"
@@ -643,13 +675,31 @@ class Run:
             "}",
         ])
 
+    def idle_fact(self):
+        plan, events = f"{self.label}_plan", f"{self.label}_events"
+        return "\n".join([
+            f"pub {self.label} : IsIdleRun {plan} {events} {self.ending}",
+            "unfolding run_with value_of time_after awake_rest asleep_rest is_held ever",
+            f"{self.label} = record {{",
+            f"  worked = worked_with {plan} idle_agents {len(self.events)} {events} {self.ending} refl refl (over {self.ending} refl);",
+            "  kept = refl;",
+            "}",
+        ])
+
 
 def main():
     runs = [Run(path) for path in sys.argv[2:]]
     folder = os.path.basename(os.path.dirname(sys.argv[2]))
     if sys.argv[1] == "specs":
-        head = SPECS_HEAD.replace("FOLDER", "tools/" + (folder if folder in BLAMED else "runs"))
+        head = SPECS_HEAD.replace("FOLDER", "tools/" + (folder if folder in BLAMED or folder in ("stack", "idle") else "runs"))
         parts = [head] + [run.definitions() for run in runs]
+    elif folder == "idle":
+        cited = ", ".join(f"{r.label}_{w}" for r in runs for w in ("plan", "events"))
+        parts = [IDLE_HEAD + f"use Rattle.law_idle_worked.specs.IdleRuns.{{{cited}}}"] + [run.idle_fact() for run in runs]
+    elif folder == "stack":
+        words = [f"{r.label}_{w}" for r in runs for w in ("plan", "events", "waits") if w != "waits" or r.waits]
+        cited = f"use Rattle.law_stack_worked.specs.StackRuns.{{{', '.join(words)}}}"
+        parts = [STACK_HEAD + cited] + [run.stack_fact() for run in runs]
     else:
         module = BLAMED.get(folder, "law_machine_worked.specs.RunsOf" + folder.capitalize())
         words = [f"{r.label}_{w}" for r in runs for w in ("plan", "events", "waits") if w != "waits" or r.waits]

@@ -46,18 +46,18 @@ GROUPS = [
         "What acts on the framework from outside: Plug and Play, apps, devices, the drivers below.",
         "wdf_base/Meaning wdf_dev/Agents wdf_model/agents wdf_dev wdf_idle wdf_stack",
     ),
-    ("The nine laws", "What each run keeps, said by the plan and the events alone.", "law_trace_all wdf_laws/Laws wdf_laws"),
+    ("The laws", "What each run keeps, said by the plan and the events alone: the nine, and those of idle devices and of stacks.", "law_trace_all wdf_laws/Laws wdf_laws law_idle law_stack"),
     (
         "The text in",
         "Which plan the text of a scenario has, or why it has none: bytes, lines, tokens, blocks, names.",
-        "wdf_io wdf_input wdf_split wdf_parse wdf_scene_lines wdf_tokens wdf_text wdf_scene wdf_blocks wdf_refusals wdf_plan wdf_lint wdf_gen",
+        "wdf_io wdf_input wdf_split wdf_parse wdf_scene_lines wdf_tokens wdf_text wdf_scene wdf_blocks wdf_refusals wdf_plan wdf_lint wdf_lint_text wdf_gen",
     ),
     (
         "The lines out",
         "How a run is written, and which traces are accepted.",
         "wdf_run_text wdf_replay/Texts wdf_lines wdf_output wdf_replay wdf_trace wdf_summary wdf_run",
     ),
-    ("Plain values", "What a plan says by number, words, equality. All of the above speak of these.", "wdf_base/Plan wdf_base"),
+    ("Plain values", "What a plan says by number, words, equality. All of the above speak of these.", "wdf_base/Plan wdf_base wdf_maps"),
 ]
 
 HEAD = """# What one has to believe

@@ -1,5 +1,5 @@
 -- The laws on stacks of devices: tests of an event by the events before it. (own)
-use Rattle.std.specs.Prelude.{if◌then◌else◌, ℕ, ◌+◌, Bool, true, ◌==◌, nat_le, not, ◌&&◌, ◌||◌, List, count_by, Option, Some, None}
+use Rattle.std.specs.Prelude.{if◌then◌else◌, ℕ, ◌+◌, Bool, true, ◌==◌, nat_le, not, ◌&&◌, ◌||◌, List, [], ◌∷◌, ◌++◌, count_by, Option, Some, None}
 use Rattle.std.specs.List.{list_any}
 use Rattle.wdf_base.specs.declared.plan.Plan.{Plan}
 use Rattle.wdf_base.specs.declared.value.Status.{Status}
@@ -92,3 +92,12 @@ order_law plan before _ = true
 -- an event keeps the laws on stacks
 abbrev pub stack_law : Plan → List Event → Event → Bool
 stack_law plan before e = request_law plan before e && order_law plan before e
+
+-- each event of a list keeps them, after those before it
+abbrev pub keeps_from : Plan → List Event → List Event → Bool
+keeps_from plan before [] = true
+keeps_from plan before (e ∷ es) = stack_law plan before e && keeps_from plan (before ++ e ∷ []) es
+
+-- a list of events keeps the laws on stacks
+unfoldable pub keeps_stack_laws : Plan → List Event → Bool
+keeps_stack_laws plan events = keeps_from plan [] events

@@ -1,2 +1,4 @@
+mod BrokenLists
 mod Ended
 pub mod StackRuns
+mod LastRuns

@@ -1,3 +1,4 @@
-pub mod Writing
 pub mod Shown
 pub mod StackRuns
+pub mod Broken
+pub mod LastArrival

@@ -4,3 +4,4 @@ pub mod Onward
 pub mod Readers
 pub mod Pieces
 pub mod Marks
+pub mod Parted

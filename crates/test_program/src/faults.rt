@@ -113,8 +113,9 @@ fn a_refusal_that_is_not_written_is_a_failed_write(rt: HostRuntime) -> Result<()
 /// What is written in a number of pieces.
 struct Pieces {
     row: Row,
-    /// How many pieces: a trace goes line by line, and every other text in one piece.
-    writes: u64,
+    /// How many lines each write has: the events of a trace are written together, then its ending, then each line of its
+    /// wait list. Every other text goes in one piece.
+    writes: &'static [u64],
 }
 
 static WRITES: [Pieces; 8] = [
@@ -127,7 +128,7 @@ static WRITES: [Pieces; 8] = [
             status: 0,
             text: TWO_READS_AT_ONCE_RUN,
         },
-        writes: 13,
+        writes: &[12, 1],
     },
     // Three events, the ending and a line of the wait list.
     Pieces {
@@ -138,7 +139,7 @@ static WRITES: [Pieces; 8] = [
             status: 4,
             text: KEPT_RUN,
         },
-        writes: 5,
+        writes: &[3, 1, 1],
     },
     // Four events and the ending.
     Pieces {
@@ -149,7 +150,7 @@ static WRITES: [Pieces; 8] = [
             status: 0,
             text: BY_SEED_9,
         },
-        writes: 5,
+        writes: &[4, 1],
     },
     Pieces {
         row: Row {
@@ -159,7 +160,7 @@ static WRITES: [Pieces; 8] = [
             status: 0,
             text: ALL_DONE,
         },
-        writes: 1,
+        writes: &[4],
     },
     Pieces {
         row: Row {
@@ -169,7 +170,7 @@ static WRITES: [Pieces; 8] = [
             status: 0,
             text: ONE_READ,
         },
-        writes: 1,
+        writes: &[14],
     },
     Pieces {
         row: Row {
@@ -179,7 +180,7 @@ static WRITES: [Pieces; 8] = [
             status: 0,
             text: b"accepted finished 12\n",
         },
-        writes: 1,
+        writes: &[1],
     },
     Pieces {
         row: Row {
@@ -189,7 +190,7 @@ static WRITES: [Pieces; 8] = [
             status: 10,
             text: b"parse refused at line 2: BadLine\n",
         },
-        writes: 1,
+        writes: &[1],
     },
     Pieces {
         row: Row {
@@ -199,7 +200,7 @@ static WRITES: [Pieces; 8] = [
             status: 2,
             text: USAGE,
         },
-        writes: 1,
+        writes: &[1],
     },
 ];
 
@@ -217,13 +218,19 @@ fn first_lines(text: &'static [u8], count: u64) -> &'static [u8] {
     text
 }
 
-/// The status and the text that are due where the write with this number, from 1 on, fails: the lines before it,
-/// or all where there is no such write.
+/// The status and the text that are due where the write with this number, from 1 on, fails: the lines of the writes
+/// before it, or all where there is no such write.
 fn due(pieces: &Pieces, fails: u64) -> (u8, &'static [u8]) {
-    if pieces.writes < fails {
-        return (pieces.row.status, pieces.row.text);
+    let mut number: u64 = 1;
+    let mut before: u64 = 0;
+    for lines in pieces.writes {
+        if number == fails {
+            return (13, first_lines(pieces.row.text, before));
+        }
+        number = number.saturating_add(1);
+        before = before.saturating_add(*lines);
     }
-    (13, first_lines(pieces.row.text, fails.saturating_sub(1)))
+    (pieces.row.status, pieces.row.text)
 }
 
 /// Lets one write fail. Whether what is written is a front as is due.

@@ -8,11 +8,15 @@ mod canonical;
 #[cfg(test)]
 mod faults;
 #[cfg(test)]
+mod findings;
+#[cfg(test)]
 mod generated;
 #[cfg(test)]
 mod loads;
 #[cfg(test)]
 mod objects;
+#[cfg(test)]
+mod other_agents;
 #[cfg(test)]
 mod processors;
 #[cfg(test)]

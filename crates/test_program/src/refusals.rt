@@ -5,7 +5,8 @@ use std::alloc::Global;
 use std::test::Fail;
 use wdf_base::Memory;
 
-pub const USAGE: &[u8] = b"usage: kmdfsim check | order | seed N | run | replay | gen N | load N\n";
+pub const USAGE: &[u8] =
+    b"usage: kmdfsim check | order | seed N | run | replay | gen N | load N | idle | stack | lint\n";
 
 static NO_SCENE: [Row; 9] = [
     Row {

@@ -146,7 +146,7 @@ finished 8\n\
 ";
 
 /// The callback completes its request twice.
-const COMPLETED_TWICE: &[u8] = b"\
+pub const COMPLETED_TWICE: &[u8] = b"\
 cpus 1\n\
 limit 100\n\
 objects 16\n\

@@ -99,7 +99,8 @@ fn an_input_over_the_limit_is_refused(rt: HostRuntime) -> Result<(), Fail> {
 /// A scenario whose runs all have as many lines and one status.
 struct Pieces {
     scenario: &'static [u8],
-    lines: usize,
+    /// How many lines each write has: the events, the ending, and each line of the wait list.
+    writes: &'static [usize],
     status: u8,
     /// What `replay` says of its runs.
     verdict: &'static [u8],
@@ -108,13 +109,13 @@ struct Pieces {
 static PIECES: [Pieces; 2] = [
     Pieces {
         scenario: ONE_READ,
-        lines: 7,
+        writes: &[6, 1],
         status: 0,
         verdict: b"accepted finished 6\n",
     },
     Pieces {
         scenario: KEPT,
-        lines: 5,
+        writes: &[3, 1, 1],
         status: 4,
         verdict: b"accepted stuck 3\n",
     },
@@ -131,13 +132,27 @@ static MISSING: [&[u8]; 7] = [
     b"refused at line 7: Missing\n",
 ];
 
+/// How many lines come before the write with this number, from 1 on, if there is such a write.
+fn lines_before(writes: &[usize], number: usize) -> Option<usize> {
+    let mut at: usize = 1;
+    let mut before: usize = 0;
+    for lines in writes {
+        if at == number {
+            return Some(before);
+        }
+        at = at.saturating_add(1);
+        before = before.saturating_add(*lines);
+    }
+    None
+}
+
 /// The status and the verdict that are due where the write with this number fails.
 fn due_at(pieces: &Pieces, number: usize) -> (u8, &'static [u8]) {
-    if number > pieces.lines {
-        return (pieces.status, pieces.verdict);
-    }
-    match MISSING.get(number.saturating_sub(1)) {
-        Some(missing) => (13, *missing),
+    match lines_before(pieces.writes, number) {
+        Some(lines) => match MISSING.get(lines) {
+            Some(missing) => (13, *missing),
+            None => (pieces.status, pieces.verdict),
+        },
         None => (pieces.status, pieces.verdict),
     }
 }

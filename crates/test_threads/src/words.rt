@@ -5,7 +5,7 @@ use crate::texts::ONE_READ;
 use std::test::Fail;
 
 const USAGE: Text = Text::Is(
-    b"usage: kmdfsim check | order | seed N | run | replay | gen N | load N\n",
+    b"usage: kmdfsim check | order | seed N | run | replay | gen N | load N | idle | stack | lint\n",
 );
 
 /// Words with the status and the text that are due.

@@ -1,21 +1,33 @@
 -- The runs that were written, and how they ended.
 use Rattle.std.proofs.Common.{ℕ, ◌≡◌, inl, inr, IsTrue, List, refl, subst, ◌∙◌, arith}
+use Rattle.wdf_base.specs.Resolved.{IsResolved}
+use Rattle.wdf_base.specs.declared.plan.Plan.{Plan}
+use Rattle.wdf_base.specs.declared.event.Event.{Event}
 use Rattle.wdf_base.specs.declared.event.Ending.{Ending}
 use Rattle.wdf_base.specs.declared.event.Ending.TheVariants as ending
 use Rattle.wdf_base.specs.declared.event.Fault.{Fault}
 use Rattle.wdf_model.specs.rules.Ready.{ending_of, IsRunOf}
 use Rattle.law_trace_all.proofs.Together.{all_kept}
+use Rattle.law_idle.proofs.Program.{idle_runs_keep_law}
+use Rattle.law_stack.proofs.Requests.{requests_keep}
+use Rattle.law_stack.proofs.Served.{stack_agents_are}
 use Rattle.wdf_io.specs.Outside.{Gains}
 use Rattle.wdf_plan.specs.Plans.{plan_of}
 use Rattle.wdf_output.specs.Endings.{status_of}
 use Rattle.wdf_output.specs.Said.{Sinking}
-use Rattle.wdf_serve.specs.Runs.{WroteRunTo, WroteSomeRun, is_end_status}
-use Rattle.wdf_top.specs.Agents.{RunAgents, meaning_of}
+use Rattle.wdf_serve.specs.Runs.{KeepsAgentLaws, WroteRunTo, WroteSomeRun, is_end_status}
+use Rattle.wdf_top.specs.Agents.{RunAgents, Usual, Idle, Stacked, meaning_of}
 use Rattle.wdf_top.specs.Answers.{Answers, HasPlan, Picking, Run, running}
 use Rattle.wdf_top.specs.Top.{Sourcing, IsRead, Reads, Service, Tells, TellsBy}
 use Rattle.wdf_top.proofs.Ended.{made_ends, made_runs}
 use Rattle.wdf_top.proofs.Resolving.{text_plan_resolved}
 use Rattle.wdf_top.proofs.Statuses.{differs}
+
+-- runs keep the laws of their agents
+own_kept : (a : RunAgents) (plan : Plan) (run : List Event) → IsResolved plan → IsRunOf plan (meaning_of a) run → KeepsAgentLaws a plan run
+own_kept Usual plan run resolved runs = tt
+own_kept Idle plan run resolved runs = λ k e at. idle_runs_keep_law plan run k e resolved runs at
+own_kept Stacked plan run resolved runs = λ k e at. requests_keep plan (meaning_of Stacked) run k e stack_agents_are runs at
 
 -- an answer to the whole input with the status of an end is a run that was written
 of_answer : (a : RunAgents) (by : Picking) (s : Sourcing) (k : Sinking) (answer : ℕ) (input text : List ℕ) (status : ℕ) → IsRead s input → Answers (running (meaning_of a) by) input text status
@@ -24,6 +36,7 @@ of_answer a by s k answer input text status is_read (inl (inl r)) same gained un
 of_answer a by s k answer input text status is_read (inl (inr r)) same gained unfailed ends = absurd (differs is_end_status 11 answer refl ends (same ∙ r.3))
 of_answer a by s k answer input text status is_read (inr (scene, stands, accepted, trace)) same gained unfailed ends =
     let has : HasPlan input (plan_of scene) = (scene, stands, accepted, refl) in
+    let resolved : IsResolved (plan_of scene) = text_plan_resolved input (plan_of scene) has in
     let runs : IsRunOf (plan_of scene) (meaning_of a) trace.run = made_runs (plan_of scene) (meaning_of a) by trace.run trace.made in
     record {
       input = input;
@@ -35,7 +48,8 @@ of_answer a by s k answer input text status is_read (inr (scene, stands, accepte
       made = trace.made;
       ended = made_ends (plan_of scene) (meaning_of a) by trace.run trace.made;
       status_is = same ∙ trace.status_is;
-      keeps = all_kept (plan_of scene) (meaning_of a) trace.run (text_plan_resolved input (plan_of scene) has) runs;
+      keeps = all_kept (plan_of scene) (meaning_of a) trace.run resolved runs;
+      keeps_own = own_kept a (plan_of scene) trace.run resolved runs;
       written = rw trace.text_is at gained;
       unfailed = unfailed;
     }

@@ -4,7 +4,7 @@ use Rattle.wdf_dev.specs.Agents.{agent_meaning}
 use Rattle.wdf_output.specs.Said.{Sinking}
 use Rattle.wdf_top.specs.Answers.{Freely, running}
 use Rattle.wdf_top.specs.declared.words.Form.{Form}
-use Rattle.wdf_top.specs.declared.words.Form.TheVariants.{Check, Order, Seed, Replay, Gen, Load}
+use Rattle.wdf_top.specs.declared.words.Form.TheVariants.{Check, Order, Seed, Replay, Gen, Load, Idle, Stack, Lint}
 use Rattle.wdf_top.specs.Top.{Sourcing, Tells, TellsBy, Usage, service_of}
 use Rattle.wdf_top.specs.Words.{form_of_words}
 use Rattle.wdf_serve.specs.Words.{is_run, service_as, service_for}
@@ -25,6 +25,9 @@ usage_is false (Some (Seed n)) h = absurd (let z : ⊥ = cc in z)
 usage_is false (Some Replay) h = absurd (let z : ⊥ = cc in z)
 usage_is false (Some (Gen n)) h = absurd (let z : ⊥ = cc in z)
 usage_is false (Some (Load n)) h = absurd (let z : ⊥ = cc in z)
+usage_is false (Some Idle) h = absurd (let z : ⊥ = cc in z)
+usage_is false (Some Stack) h = absurd (let z : ⊥ = cc in z)
+usage_is false (Some Lint) h = absurd (let z : ⊥ = cc in z)
 
 pub usage_of : (words : List (List ℕ)) → is_run words ≡ false → form_of_words words ≡ None → service_for words ≡ Usage
 usage_of words other none_of = rw (other, none_of) refl

@@ -17,7 +17,8 @@ pub record Promises (words : List (List ℕ)) (s : Sourcing) (k : Sinking) (answ
   pub kept : ServicePromises (service_for words) s k answer
   -- Let the words ask for a run, by picks or by threads, and let the answer be 0, 3, 4 or 5. Then what was written is the text
   -- of a run of the written machine from the opening of the whole input's plan, with the agents that the words ask for and
-  -- picked as they say. That run has ended, the status is its ending's, and it keeps the nine laws of a trace.
+  -- picked as they say. That run has ended, the status is its ending's, and it keeps the nine laws of a trace
+  -- and those of its agents.
   pub headline : (a : RunAgents) (by : Picking) → service_for words ≡ Reads (Run a by) → IsTrue (is_end_status answer) → WroteSomeRun a by s k answer
   -- Which ending each of them says.
   pub finished : (a : RunAgents) (by : Picking) → service_for words ≡ Reads (Run a by) → answer ≡ 0 → WroteRunTo a by s k 0 ending.Finished

@@ -1,5 +1,5 @@
 -- What a run that was written is. (own)
-use Rattle.std.specs.Prelude.{ℕ, ◌≡◌, ◌≢◌, ◌==◌, ◌||◌, Bool, List}
+use Rattle.std.specs.Prelude.{ℕ, ◌≡◌, ◌≢◌, ◌==◌, ◌||◌, ⊤, Bool, true, List, Some, slice_get, take}
 use Rattle.wdf_base.specs.declared.plan.Plan.{Plan}
 use Rattle.wdf_base.specs.declared.event.Event.{Event}
 use Rattle.wdf_base.specs.declared.event.Ending.{Ending}
@@ -10,7 +10,9 @@ use Rattle.wdf_io.specs.Outside.{Gains}
 use Rattle.wdf_output.specs.Endings.{status_of}
 use Rattle.wdf_output.specs.Said.{Sinking}
 use Rattle.law_trace_all.specs.Kept.{KeepsLaws}
-use Rattle.wdf_top.specs.Agents.{RunAgents, meaning_of}
+use Rattle.law_idle.specs.Law.{keeps_idle_law}
+use Rattle.law_stack.specs.Laws.{request_law}
+use Rattle.wdf_top.specs.Agents.{RunAgents, Usual, Idle, Stacked, meaning_of}
 use Rattle.wdf_top.specs.Answers.{HasPlan, IsRunBy, Picking}
 use Rattle.wdf_top.specs.Top.{Sourcing, IsRead}
 
@@ -18,9 +20,25 @@ use Rattle.wdf_top.specs.Top.{Sourcing, IsRead}
 abbrev pub is_end_status : ℕ → Bool
 is_end_status n = n == 0 || n == 3 || n == 4 || n == 5
 
+-- each event of a run with the idle policy keeps the law on idle runs: when time passes no device sleeps with a pending
+-- request, none that is idle is awake past its timeout, and each goes to sleep exactly when it has been idle that long
+abbrev pub KeepsIdleLaw : Plan → List Event → Type 0
+KeepsIdleLaw plan run = (k : ℕ) (e : Event) → slice_get run k ≡ Some e → keeps_idle_law plan (take k run) e ≡ true
+
+-- each event of a run with stacks of devices keeps the laws on requests that go down a stack: each arrival by a connector
+-- belongs to a Send, and each `done` by one has its cause in the events before it
+abbrev pub KeepsStackLaws : Plan → List Event → Type 0
+KeepsStackLaws plan run = (k : ℕ) (e : Event) → slice_get run k ≡ Some e → request_law plan (take k run) e ≡ true
+
+-- the laws that runs with these agents keep beside the nine
+abbrev pub KeepsAgentLaws : RunAgents → Plan → List Event → Type 0
+KeepsAgentLaws Usual plan run = ⊤
+KeepsAgentLaws Idle plan run = KeepsIdleLaw plan run
+KeepsAgentLaws Stacked plan run = KeepsStackLaws plan run
+
 -- The headline: the whole input was read and it has a plan. What was written is the text of a run of the written machine
 -- from the plan's opening, every answer included, with these agents and picked so. That run has ended, the status is its
--- ending's, and it keeps the nine laws of a trace.
+-- ending's, and it keeps the nine laws of a trace and those of its agents.
 pub record WroteSomeRun (a : RunAgents) (by : Picking) (s : Sourcing) (k : Sinking) (status : ℕ) : Type 0 where
   pub input : List ℕ
   pub whole : IsRead s input
@@ -32,6 +50,7 @@ pub record WroteSomeRun (a : RunAgents) (by : Picking) (s : Sourcing) (k : Sinki
   pub ended : ending_of plan (meaning_of a) run ≢ ending.Running
   pub status_is : status ≡ status_of (ending_of plan (meaning_of a) run)
   pub keeps : KeepsLaws plan run
+  pub keeps_own : KeepsAgentLaws a plan run
   pub written : Gains k.before k.after (text_of plan (meaning_of a) run)
   pub unfailed : k.faults_after ≡ k.faults_before
 

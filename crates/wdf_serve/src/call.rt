@@ -22,7 +22,8 @@ use wdf_turn::Gate;
 /// every other list of words this is [`top_plain`]. The statuses are those of [`top_plain`]: `run` answers as
 /// `order` does.
 ///
-/// It always returns for every form but `run`; for `run` it returns if the gate and the threads do.
+/// For every form but `run` it is [`top_plain`], which always returns; no clause says that of this call. For `run` it returns
+/// if the gate and the threads do.
 pub fn top<R: Threads + Sync, S: Source, K: Sink, G: Gate + Sync>(
     rt: &R,
     alloc: Global,

@@ -42,9 +42,10 @@ pub fn serve<T: Threads + Sync, R: Read, W: Write, G: Gate + Sync>(
         (sourcing source.old.left source.new.left source.old.faults source.new.faults)
         (sinking sink.old.written sink.new.written sink.old.faults sink.new.faults)
         result }
-    // For words that ask for a run, as `order`, `seed N` and `run` do, 0, 3, 4 and 5 come only where what was written is the
-    // text of a run of the written machine from the opening of the whole input's plan, with the agents that the words ask
-    // for. That run has ended, the status is its ending's, and it keeps the nine laws of a trace.
+    // For words that ask for a run, as `order`, `seed N`, `run`, `idle` and `stack` do, 0, 3, 4 and 5 come only where what was
+    // written is the text of a run of the written machine from the opening of the whole input's plan, with the agents that
+    // the words ask for. That run has ended, the status is its ending's, and it keeps the nine laws of a trace and those of
+    // its agents.
     ensures headline { (a : RunAgents) (by : Picking) → service_for (words_after_name arguments) ≡ Reads (Run a by) → IsTrue (is_end_status result)
         → WroteSomeRun a by (sourcing source.old.left source.new.left source.old.faults source.new.faults)
         (sinking sink.old.written sink.new.written sink.old.faults sink.new.faults) result }

@@ -14,7 +14,7 @@ use Rattle.wdf_plan.specs.Plans.{plan_of}
 use Rattle.wdf_input.specs.declared.input.TheConstants.{INPUT_LIMIT}
 use Rattle.wdf_top.specs.Agents.{RunAgents, meaning_of}
 use Rattle.wdf_output.specs.Endings.{status_of}
-use Rattle.wdf_top.specs.Answers.{Answering, Answers, HasNoScene, HasNoPlan, HasPlan, IsTraceOf, IsSummaryOf, Picking, Canonical, Run, Judgement, answering_of}
+use Rattle.wdf_top.specs.Answers.{Answering, Answers, HasNoScene, HasNoPlan, HasPlan, IsTraceOf, IsSummaryOf, Picking, Canonical, Run, Judgement, Findings, answering_of}
 use Rattle.wdf_top.specs.Causes.{WroteRun, WroteSummary, WroteFor, Stayed}
 use Rattle.wdf_input.specs.Input.{TakesAll, TakesCount}
 use Rattle.wdf_output.specs.Refusals.{no_memory_line}
@@ -242,13 +242,14 @@ IsRunner v s k answer =
     ((a : RunAgents) × (by : Picking) × (v ≡ Reads (Run a by)) × TellsBy (answering_of (Run a by)) s k answer)
     ⊎ ((n : ℕ) × (v ≡ Summary n) × Tells (Summary n) s k answer)
 
-run_only : (n : ℕ) → n ≢ 0 → n ≢ 2 → n ≢ 13 → n ≢ 15 → read_status Canonical n ≡ false → read_status Judgement n ≡ false → (v : Service) (s : Sourcing) (k : Sinking) (answer : ℕ) → Tells v s k answer → answer ≡ n → IsRunner v s k answer
-run_only n zero_not two thirteen fifteen check judge Usage s k answer told same = absurd (third answer 2 13 n (usage_answers s k answer told) (λ h. two (sym h)) (λ h. thirteen (sym h)) same)
-run_only n zero_not two thirteen fifteen check judge (Reads Canonical) s k answer told same = absurd (reads_never Canonical n s k answer check thirteen told same)
-run_only n zero_not two thirteen fifteen check judge (Reads (Run a by)) s k answer told same = inl (a, by, refl, told)
-run_only n zero_not two thirteen fifteen check judge (Reads Judgement) s k answer told same = absurd (reads_never Judgement n s k answer judge thirteen told same)
-run_only n zero_not two thirteen fifteen check judge (Scenario m) s k answer told same = absurd (scenario_never m n s k answer (λ h. zero_not (sym h)) (λ h. fifteen (sym h)) (λ h. thirteen (sym h)) told same)
-run_only n zero_not two thirteen fifteen check judge (Summary m) s k answer told same = inr (m, refl, told)
+run_only : (n : ℕ) → n ≢ 0 → n ≢ 2 → n ≢ 13 → n ≢ 15 → read_status Canonical n ≡ false → read_status Judgement n ≡ false → read_status Findings n ≡ false → (v : Service) (s : Sourcing) (k : Sinking) (answer : ℕ) → Tells v s k answer → answer ≡ n → IsRunner v s k answer
+run_only n zero_not two thirteen fifteen check judge lint Usage s k answer told same = absurd (third answer 2 13 n (usage_answers s k answer told) (λ h. two (sym h)) (λ h. thirteen (sym h)) same)
+run_only n zero_not two thirteen fifteen check judge lint (Reads Canonical) s k answer told same = absurd (reads_never Canonical n s k answer check thirteen told same)
+run_only n zero_not two thirteen fifteen check judge lint (Reads (Run a by)) s k answer told same = inl (a, by, refl, told)
+run_only n zero_not two thirteen fifteen check judge lint (Reads Judgement) s k answer told same = absurd (reads_never Judgement n s k answer judge thirteen told same)
+run_only n zero_not two thirteen fifteen check judge lint (Reads Findings) s k answer told same = absurd (reads_never Findings n s k answer lint thirteen told same)
+run_only n zero_not two thirteen fifteen check judge lint (Scenario m) s k answer told same = absurd (scenario_never m n s k answer (λ h. zero_not (sym h)) (λ h. fifteen (sym h)) (λ h. thirteen (sym h)) told same)
+run_only n zero_not two thirteen fifteen check judge lint (Summary m) s k answer told same = inr (m, refl, told)
 
 pub finished : (a : RunAgents) (by : Picking) (s : Sourcing) (k : Sinking) (answer : ℕ) → TellsBy (answering_of (Run a by)) s k answer → answer ≡ 0 → WroteRun a by s k ending.Finished
 finished a by s k answer told same =
@@ -272,7 +273,7 @@ fault_of v s k answer (inr by_load) same =
 
 pub fault : (v : Service) (s : Sourcing) (k : Sinking) (answer : ℕ) → Tells v s k answer → answer ≡ 3 → (f : Fault) × WroteFor v s k (ending.Fault f)
 fault v s k answer told same =
-    fault_of v s k answer (run_only 3 (λ h. omega arith) (λ h. omega arith) (λ h. omega arith) (λ h. omega arith) refl refl v s k answer told same) same
+    fault_of v s k answer (run_only 3 (λ h. omega arith) (λ h. omega arith) (λ h. omega arith) (λ h. omega arith) refl refl refl v s k answer told same) same
 
 stuck_of : (v : Service) (s : Sourcing) (k : Sinking) (answer : ℕ) → IsRunner v s k answer → answer ≡ 4 → WroteFor v s k ending.Stuck
 stuck_of v s k answer (inl (a, by, is, told)) same =
@@ -284,7 +285,7 @@ stuck_of v s k answer (inr by_load) same =
 
 pub stuck : (v : Service) (s : Sourcing) (k : Sinking) (answer : ℕ) → Tells v s k answer → answer ≡ 4 → WroteFor v s k ending.Stuck
 stuck v s k answer told same =
-    stuck_of v s k answer (run_only 4 (λ h. omega arith) (λ h. omega arith) (λ h. omega arith) (λ h. omega arith) refl refl v s k answer told same) same
+    stuck_of v s k answer (run_only 4 (λ h. omega arith) (λ h. omega arith) (λ h. omega arith) (λ h. omega arith) refl refl refl v s k answer told same) same
 
 limit_of : (v : Service) (s : Sourcing) (k : Sinking) (answer : ℕ) → IsRunner v s k answer → answer ≡ 5 → WroteFor v s k ending.Limit
 limit_of v s k answer (inl (a, by, is, told)) same =
@@ -296,7 +297,7 @@ limit_of v s k answer (inr by_load) same =
 
 pub limit : (v : Service) (s : Sourcing) (k : Sinking) (answer : ℕ) → Tells v s k answer → answer ≡ 5 → WroteFor v s k ending.Limit
 limit v s k answer told same =
-    limit_of v s k answer (run_only 5 (λ h. omega arith) (λ h. omega arith) (λ h. omega arith) (λ h. omega arith) refl refl v s k answer told same) same
+    limit_of v s k answer (run_only 5 (λ h. omega arith) (λ h. omega arith) (λ h. omega arith) (λ h. omega arith) refl refl refl v s k answer told same) same
 
 -- ---- words
 

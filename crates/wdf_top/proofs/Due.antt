@@ -20,7 +20,7 @@ use Rattle.wdf_output.specs.declared.refusal.Refusal.{Refusal}
 use Rattle.wdf_output.specs.declared.refusal.Refusal.TheVariants.{ReadFault, TooLarge, NoMemory, NoScene, NoPlan}
 use Rattle.wdf_run_text.specs.Texts.{text_of}
 use Rattle.wdf_output.specs.Endings.{status_of}
-use Rattle.wdf_top.specs.Answers.{Answering, HasPlan, IsRunBy, IsTraceOf, IsVerdict, Picking, picks_of, running, checking, judging}
+use Rattle.wdf_top.specs.Answers.{Answering, HasPlan, IsRunBy, IsTraceOf, IsVerdict, Picking, picks_of, IsLinted, running, checking, judging, linting}
 use Rattle.wdf_top.specs.Causes.{IsCause, IsTextCause}
 use Rattle.wdf_input.specs.Input.{TakesAll, TakesAtMost}
 use Rattle.wdf_output.specs.Refusals.{refusal_line, refusal_status, parse_line, plan_line, read_fault_line, too_large_line, no_memory_line}
@@ -28,7 +28,7 @@ use Rattle.wdf_output.specs.Said.{Sinking, Says}
 use Rattle.wdf_split.specs.Inputs.{scenario_in, trace_in}
 use Rattle.wdf_summary.specs.Counts.{summary_text}
 use Rattle.wdf_gen.specs.Generated.{generated}
-use Rattle.wdf_top.specs.Top.{Sourcing, IsRead, TellsBy, TellsPlan, TellsVerdict, TellsSummary}
+use Rattle.wdf_top.specs.Top.{Sourcing, IsRead, TellsBy, TellsFindings, TellsPlan, TellsVerdict, TellsSummary}
 
 -- all that was left, within the limit, is at most the limit
 within_limit : (before after : Option (List ℕ)) (input : List ℕ) → TakesAll before after input → length input ≤ INPUT_LIMIT → TakesAtMost before after INPUT_LIMIT
@@ -47,6 +47,14 @@ run_told m by s k plan answer (input, is_read, has) (text, status, inl due, said
     (text, status, inl (input, is_read, inr (has.0, has.1, has.2, due_of)), said)
 run_told m by s k plan answer (input, is_read, has) (text, status, inr wants, said) =
     wanting (running m by) s k answer input is_read (rw (wants.0, wants.1) at said)
+
+-- so is one whose scripts were checked
+pub lint_told : (s : Sourcing) (k : Sinking) (plan : Plan) (answer : ℕ) → ((input : List ℕ) × IsRead s input × HasPlan input plan) → TellsFindings plan k answer → TellsBy linting s k answer
+lint_told s k plan answer (input, is_read, has) (text, status, inl due, said) =
+    let due_of : IsLinted (plan_of has.0) text status = rw has.3 at due in
+    (text, status, inl (input, is_read, inr (has.0, has.1, has.2, due_of)), said)
+lint_told s k plan answer (input, is_read, has) (text, status, inr wants, said) =
+    wanting linting s k answer input is_read (rw (wants.0, wants.1) at said)
 
 -- a scene that has a plan is written
 pub check_told : (s : Sourcing) (k : Sinking) (text : List ℕ) (answer : ℕ)

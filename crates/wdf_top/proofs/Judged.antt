@@ -24,7 +24,7 @@ use Rattle.wdf_replay.proofs.Complete.{complete}
 use Rattle.wdf_replay.proofs.RunLines.{end_lines_over}
 use Rattle.wdf_split.specs.Inputs.{scenario_in, trace_in}
 use Rattle.wdf_output.specs.Said.{Sinking, Says}
-use Rattle.wdf_top.specs.Answers.{Answers, HasPlan, IsVerdict, Canonical, Run, Judgement, accepted_line, judging, refused_line, verdict_line, verdict_status}
+use Rattle.wdf_top.specs.Answers.{Answers, HasPlan, IsVerdict, Canonical, Run, Judgement, Findings, accepted_line, judging, refused_line, verdict_line, verdict_status}
 use Rattle.wdf_top.specs.Causes.{IsGiven, Stayed, Unhindered, WroteAccepted, WroteRefused}
 use Rattle.wdf_top.specs.Top.{Sourcing, Service, IsAnswered, Tells, TellsBy, TellsVerdict, Usage, Reads, Scenario, Summary}
 use Rattle.wdf_top.proofs.Causes.{whole_answer}
@@ -180,5 +180,6 @@ refused_only Usage s k answer told same = absurd (third answer 2 13 6 (usage_ans
 refused_only (Reads Canonical) s k answer told same = absurd (reads_never Canonical 6 s k answer refl (λ h. omega arith) told same)
 refused_only (Reads (Run a by)) s k answer told same = absurd (reads_never (Run a by) 6 s k answer refl (λ h. omega arith) told same)
 refused_only (Reads Judgement) s k answer told same = (refl, judged_refused s k answer told same)
+refused_only (Reads Findings) s k answer told same = absurd (reads_never Findings 6 s k answer refl (λ h. omega arith) told same)
 refused_only (Scenario n) s k answer told same = absurd (scenario_never n 6 s k answer (λ h. omega arith) (λ h. omega arith) (λ h. omega arith) told same)
 refused_only (Summary n) s k answer told same = absurd (summary_never n 6 s k answer refl (λ h. omega arith) told same)

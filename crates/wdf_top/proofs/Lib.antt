@@ -4,6 +4,7 @@ pub mod Statuses
 pub mod Causes
 pub mod Ended
 pub mod Judged
+pub mod Linted
 pub mod Lines
 pub mod Sinks
 pub mod Resolving

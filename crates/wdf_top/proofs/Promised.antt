@@ -8,6 +8,7 @@ use Rattle.wdf_top.specs.Top.{Sourcing, Service, Tells}
 use Rattle.wdf_top.proofs.Causes as cause
 use Rattle.wdf_top.proofs.Given as given
 use Rattle.wdf_top.proofs.Judged as judged
+use Rattle.wdf_top.proofs.Linted as lint
 use Rattle.wdf_top.proofs.Sinks as sink
 use Rattle.wdf_top.proofs.Statuses as status
 
@@ -31,6 +32,11 @@ promised v s k answer told = record {
   bad_line_always = λ is. judged.refused_always s k answer (rw is at told);
   accepted_only = λ is. judged.accepted_only s k answer (rw is at told);
   accepted_always = λ is. judged.accepted_always s k answer (rw is at told);
+  linted = λ is. lint.linted_given s k answer (rw is at told);
+  found_only = lint.found_only v s k answer told;
+  found_always = λ is. lint.found_always s k answer (rw is at told);
+  clean_only = λ is. lint.clean_only s k answer (rw is at told);
+  clean_always = λ is. lint.clean_always s k answer (rw is at told);
   finished = λ a by is. cause.finished a by s k answer (rw is at told);
   summed_finished = λ n is. cause.summed_finished n s k answer (rw is at told);
   fault = cause.fault v s k answer told;

@@ -5,9 +5,12 @@ use Rattle.wdf_base.specs.declared.event.Ending.TheVariants as ending
 use Rattle.wdf_scene.specs.declared.scene.Scene.{Scene}
 use Rattle.wdf_io.specs.Outside.{Rose}
 use Rattle.wdf_parse.specs.StandsFor.{StandsFor}
+use Rattle.wdf_lint.specs.declared.static_check.LintAnswer.{LintAnswer}
+use Rattle.wdf_lint.specs.declared.static_check.LintAnswer.TheVariants as lint
+use Rattle.wdf_lint_text.specs.Lines.{answer_status}
 use Rattle.wdf_output.specs.Endings.{status_of}
 use Rattle.wdf_output.specs.Said.{Sinking, IsCutShort}
-use Rattle.wdf_top.specs.Answers.{Answering, Answers, Reading, Canonical, Run, Judgement, answering_of}
+use Rattle.wdf_top.specs.Answers.{Answering, Answers, Reading, Canonical, Run, Judgement, Findings, answering_of}
 use Rattle.wdf_top.specs.Causes.{is_status}
 use Rattle.wdf_top.specs.Top.{Sourcing, IsDue, IsReadDue, IsSummary, Service, Tells, TellsBy, Usage, Reads, Scenario, Summary, reads_input, scenario_by}
 
@@ -34,6 +37,7 @@ abbrev pub Meets : (ℕ → Bool) → Reading → Type 0
 Meets p Canonical = p 0 ≡ true
 Meets p (Run a by) = (p 0 ≡ true) × (p 3 ≡ true) × (p 4 ≡ true) × (p 5 ≡ true)
 Meets p Judgement = (p 0 ≡ true) × (p 6 ≡ true)
+Meets p Findings = (p 0 ≡ true) × (p 7 ≡ true)
 
 -- a test that holds of 0, 3, 4 and 5 holds of each ending's status
 ended_meets : (p : ℕ → Bool) → p 0 ≡ true → p 3 ≡ true → p 4 ≡ true → p 5 ≡ true → (e : Ending) → p (status_of e) ≡ true
@@ -43,17 +47,24 @@ ended_meets p a b c d (ending.Fault f) = b
 ended_meets p a b c d ending.Stuck = c
 ended_meets p a b c d ending.Limit = d
 
+-- and one that holds of 0 and 7 holds of each answer's of the static check
+lint_meets : (p : ℕ → Bool) → p 0 ≡ true → p 7 ≡ true → (found : LintAnswer) → p (answer_status found) ≡ true
+lint_meets p a b lint.Clean = a
+lint_meets p a b (lint.Findings fs) = b
+
 pub fits : (p : ℕ → Bool) (r : Reading) → Meets p r → Fits p (answering_of r)
 fits p Canonical m input scene stands text status h = rw h.1 m
 fits p (Run a by) m input scene stands text status h = rw h.status_is (ended_meets p m.0 m.1 m.2 m.3 _)
 fits p Judgement m input scene stands text status (inl h) = rw h.3 m.0
 fits p Judgement m input scene stands text status (inr h) = rw h.4 m.1
+fits p Findings m input scene stands text status h = rw h.3 (lint_meets p m.0 m.1 h.0)
 
 -- the statuses of what a form writes for a scene that has a plan
 abbrev pub own_status : Reading → ℕ → Bool
 own_status Canonical n = n == 0
 own_status (Run a by) n = n == 0 || n == 3 || n == 4 || n == 5
 own_status Judgement n = n == 0 || n == 6
+own_status Findings n = n == 0 || n == 7
 
 -- all statuses of a form that reads, beside 13
 abbrev pub read_status : Reading → ℕ → Bool
@@ -63,6 +74,7 @@ read_meets : (r : Reading) → Meets (read_status r) r
 read_meets Canonical = refl
 read_meets (Run a by) = (refl, refl, refl, refl)
 read_meets Judgement = (refl, refl)
+read_meets Findings = (refl, refl)
 
 pub due_status : (r : Reading) (s : Sourcing) (text : List ℕ) (status : ℕ) → IsReadDue (answering_of r) s text status → read_status r status ≡ true
 due_status r = due_fits (read_status r) (answering_of r) (fits (read_status r) r (read_meets r)) refl refl refl refl refl
@@ -72,11 +84,13 @@ no_usage : (r : Reading) → read_status r 2 ≡ false
 no_usage Canonical = refl
 no_usage (Run a by) = refl
 no_usage Judgement = refl
+no_usage Findings = refl
 
 no_sink : (r : Reading) → read_status r 13 ≡ false
 no_sink Canonical = refl
 no_sink (Run a by) = refl
 no_sink Judgement = refl
+no_sink Findings = refl
 
 -- the statuses of `load N`, beside 13
 abbrev pub is_load_status : ℕ → Bool
@@ -91,16 +105,17 @@ load_status = summary_fits is_load_status refl refl refl refl refl
 
 -- the statuses of the answers to a whole input
 abbrev pub is_answer_status : ℕ → Bool
-is_answer_status n = n == 0 || n == 3 || n == 4 || n == 5 || n == 6 || n == 10 || n == 11
+is_answer_status n = n == 0 || n == 3 || n == 4 || n == 5 || n == 6 || n == 7 || n == 10 || n == 11
 
 -- those of what is written for a scene that has a plan
 abbrev pub is_own_status : ℕ → Bool
-is_own_status n = n == 0 || n == 3 || n == 4 || n == 5 || n == 6
+is_own_status n = n == 0 || n == 3 || n == 4 || n == 5 || n == 6 || n == 7
 
 own_meets : (r : Reading) → Meets is_own_status r
 own_meets Canonical = refl
 own_meets (Run a by) = (refl, refl, refl, refl)
 own_meets Judgement = (refl, refl)
+own_meets Findings = (refl, refl)
 
 pub reads_own : (r : Reading) → Fits is_own_status (answering_of r)
 reads_own r = fits is_own_status r (own_meets r)
@@ -113,6 +128,7 @@ answer_meets : (r : Reading) → Meets is_answer_status r
 answer_meets Canonical = refl
 answer_meets (Run a by) = (refl, refl, refl, refl)
 answer_meets Judgement = (refl, refl)
+answer_meets Findings = (refl, refl)
 
 pub reads_answers : (r : Reading) → AreAnswers (answering_of r)
 reads_answers r = answers_fit is_answer_status (answering_of r) (fits is_answer_status r (answer_meets r)) refl refl
@@ -121,6 +137,7 @@ listed_meets : (r : Reading) → Meets is_status r
 listed_meets Canonical = refl
 listed_meets (Run a by) = (refl, refl, refl, refl)
 listed_meets Judgement = (refl, refl)
+listed_meets Findings = (refl, refl)
 
 -- a status that fails a test isn't one that meets it
 pub differs : (p : ℕ → Bool) (n status : ℕ) → p n ≡ false → p status ≡ true → status ≡ n → ⊥

@@ -27,6 +27,9 @@ use Rattle.wdf_replay.specs.Verdicts as verdict
 use Rattle.wdf_output.specs.Endings.{status_of}
 use Rattle.wdf_output.specs.Refusals.{parse_line, plan_line}
 use Rattle.wdf_split.specs.Inputs.{scenario_in, trace_in}
+use Rattle.wdf_lint.specs.Answers.{IsAnswer}
+use Rattle.wdf_lint.specs.declared.static_check.LintAnswer.{LintAnswer}
+use Rattle.wdf_lint_text.specs.Lines.{answer_text, answer_status}
 use Rattle.wdf_summary.specs.Counts.{summary_text}
 use Rattle.wdf_top.specs.Agents.{RunAgents, meaning_of}
 use Rattle.wdf_top.specs.declared.run.Picks.{Picks}
@@ -119,6 +122,12 @@ IsRefusedWith plan trace text status =
 abbrev pub IsVerdict : Plan → List ℕ → List ℕ → ℕ → Type 0
 IsVerdict plan trace text status = IsAcceptedWith plan trace text status ⊎ IsRefusedWith plan trace text status
 
+-- ---- the static check
+
+-- What the static check finds in the scripts of a plan, and its status.
+abbrev pub IsLinted : Plan → List ℕ → ℕ → Type 0
+IsLinted plan text status = (found : LintAnswer) × IsAnswer plan found × (text ≡ answer_text found) × (status ≡ answer_status found)
+
 -- ---- answers
 
 -- why a scenario has no plan: 10 where no scene stands for it, 11 where the scene has no plan
@@ -163,6 +172,13 @@ judging = record {
   writes = λ input scenario scene stands text status. IsVerdict (plan_of scene) (trace_in input) text status;
 }
 
+-- `lint` writes what the static check finds in the scripts of the scene's plan
+abbrev pub linting : Answering
+linting = record {
+  scenario = λ input. input;
+  writes = λ input scenario scene stands text status. IsLinted (plan_of scene) text status;
+}
+
 -- ---- forms of words
 
 -- what a form of words that reads its input asks for
@@ -173,9 +189,12 @@ pub data Reading : Type 0 where
   Run : RunAgents → Picking → Reading
   -- the verdict on the input's trace
   Judgement : Reading
+  -- what the static check finds in the scripts of the input's plan
+  Findings : Reading
 
 -- How it answers its input.
 abbrev pub answering_of : Reading → Answering
 answering_of Canonical = checking
 answering_of (Run a by) = running (meaning_of a) by
 answering_of Judgement = judging
+answering_of Findings = linting

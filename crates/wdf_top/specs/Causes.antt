@@ -26,6 +26,9 @@ use Rattle.wdf_top.specs.declared.run.Picks.TheVariants.{Seeded}
 use Rattle.wdf_top.specs.Agents.{RunAgents, meaning_of}
 use Rattle.wdf_top.specs.Answers.{HasPlan, Picking, IsRunBy, Run, picks_of, accepted_line, refused_line}
 use Rattle.wdf_input.specs.Input.{TakesAll, TakesCount, TakesAtMost}
+use Rattle.wdf_lint.specs.Answers.{IsAnswer}
+use Rattle.wdf_lint.specs.declared.static_check.LintAnswer.{LintAnswer}
+use Rattle.wdf_lint_text.specs.Lines.{answer_text}
 use Rattle.wdf_output.specs.Said.{Sinking}
 use Rattle.wdf_top.specs.Top.{Sourcing, IsRead, Service, Reads, Summary}
 
@@ -33,7 +36,7 @@ use Rattle.wdf_top.specs.Top.{Sourcing, IsRead, Service, Reads, Summary}
 
 -- the statuses that the program may end with
 abbrev pub is_status : ℕ → Bool
-is_status n = n == 0 || n == 2 || n == 3 || n == 4 || n == 5 || n == 6 || n == 10 || n == 11 || n == 12 || n == 13 || n == 14 || n == 15
+is_status n = n == 0 || n == 2 || n == 3 || n == 4 || n == 5 || n == 6 || n == 7 || n == 10 || n == 11 || n == 12 || n == 13 || n == 14 || n == 15
 
 -- a count that didn't rise in a call, and wasn't at its last value before it
 abbrev pub Stayed : ℕ → ℕ → Type 0
@@ -96,6 +99,15 @@ pub record WroteRefused (s : Sourcing) (k : Sinking) : Type 0 where
   pub why : Why
   pub refused : verdict.IsRefused plan agent_meaning (trace_in input) line why
   pub written : Gains k.before k.after (refused_line line why)
+
+-- the whole input was read, a plan stands for it, this is what the static check finds in its scripts, and that was written
+pub record WroteLint (s : Sourcing) (k : Sinking) (found : LintAnswer) : Type 0 where
+  pub input : List ℕ
+  pub whole : TakesAll s.before s.after input
+  pub plan : Plan
+  pub stands : HasPlan input plan
+  pub is : IsAnswer plan found
+  pub written : Gains k.before k.after (answer_text found)
 
 -- ---- refusals
 

@@ -9,6 +9,9 @@ use Rattle.wdf_dev.specs.Agents.{agent_meaning}
 use Rattle.wdf_gen.specs.Generated as scenario
 use Rattle.wdf_input.specs.Input.{TakesAll, TakesAtMost, TakesCount, UsesUp}
 use Rattle.wdf_io.specs.Outside.{Rose, Gains}
+use Rattle.wdf_lint.specs.Answers.{IsAnswer}
+use Rattle.wdf_lint.specs.Findings.{Finding}
+use Rattle.wdf_lint.specs.declared.static_check.LintAnswer.TheVariants as lint
 use Rattle.wdf_parse.specs.Printing.{printed}
 use Rattle.wdf_refusals.specs.declared.refusal.PlanRefusal.{PlanRefusal}
 use Rattle.wdf_replay.specs.declared.verdict.Why.{Why}
@@ -18,8 +21,8 @@ use Rattle.wdf_output.specs.Refusals.{no_memory_line}
 use Rattle.wdf_output.specs.Said.{Sinking, IsCutShort}
 use Rattle.wdf_split.specs.Inputs.{scenario_in, trace_in}
 use Rattle.wdf_top.specs.Agents.{RunAgents, meaning_of}
-use Rattle.wdf_top.specs.Answers.{Answers, HasNoScene, HasNoPlan, HasPlan, IsTraceOf, IsVerdict, IsSummaryOf, Picking, Reading, Run, Judgement, answering_of, refused_line}
-use Rattle.wdf_top.specs.Causes.{is_status, IsGiven, Stayed, Unhindered, WroteAccepted, WroteFor, WroteRefused, WroteRun, WroteSummary}
+use Rattle.wdf_top.specs.Answers.{Answers, HasNoScene, HasNoPlan, HasPlan, IsTraceOf, IsVerdict, IsSummaryOf, IsLinted, Picking, Reading, Run, Judgement, Findings, answering_of, refused_line}
+use Rattle.wdf_top.specs.Causes.{is_status, IsGiven, Stayed, Unhindered, WroteAccepted, WroteFor, WroteLint, WroteRefused, WroteRun, WroteSummary}
 use Rattle.wdf_top.specs.Top.{Sourcing, Service, Usage, Reads, Scenario, Summary, IsDue, Tells, reads_input, scenario_by}
 
 pub record ServicePromises (v : Service) (s : Sourcing) (k : Sinking) (answer : ℕ) : Type 0 where
@@ -79,6 +82,18 @@ pub record ServicePromises (v : Service) (s : Sourcing) (k : Sinking) (answer : 
   pub accepted_always : v ≡ Reads Judgement → (input : List ℕ) → IsGiven s input
       → (plan : Plan) → HasPlan (scenario_in input) plan
       → (run : List Event) → IsWhole plan agent_meaning (trace_in input) run → Unhindered 0 answer
+  -- For `lint`, each plan that stands for the input has what the static check finds in it written.
+  pub linted : v ≡ Reads Findings → (input : List ℕ) → IsGiven s input → Stayed k.faults_before k.faults_after
+      → (plan : Plan) → HasPlan input plan
+      → (answer ≡ 15) ⊎ ((text : List ℕ) × IsLinted plan text answer × Gains k.before k.after text)
+  -- 7 comes only for `lint`, where the static check finds something, and its findings are written. For `lint`, 0 comes only
+  -- where it finds nothing. There a given input is answered 7, or 0; or 13 or 15.
+  pub found_only : answer ≡ 7 → (v ≡ Reads Findings) × ((found : List Finding) × WroteLint s k (lint.Findings found))
+  pub found_always : v ≡ Reads Findings → (input : List ℕ) → IsGiven s input → (plan : Plan) → HasPlan input plan
+      → (found : List Finding) → IsAnswer plan (lint.Findings found) → Unhindered 7 answer
+  pub clean_only : v ≡ Reads Findings → answer ≡ 0 → WroteLint s k lint.Clean
+  pub clean_always : v ≡ Reads Findings → (input : List ℕ) → IsGiven s input → (plan : Plan) → HasPlan input plan
+      → IsAnswer plan lint.Clean → Unhindered 0 answer
   -- For a form that writes a run, 0, 3, 4 and 5 come only where the text of such a run was written that ended so. For
   -- `load N` they come only where the summary of a run was written. For no other words do 3, 4 and 5 come.
   pub finished : (a : RunAgents) (by : Picking) → v ≡ Reads (Run a by) → answer ≡ 0 → WroteRun a by s k ending.Finished

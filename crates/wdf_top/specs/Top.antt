@@ -6,17 +6,17 @@ use Rattle.wdf_gen.specs.Generated.{generated}
 use Rattle.wdf_base.specs.Meaning.{Meaning}
 use Rattle.wdf_base.specs.declared.plan.Plan.{Plan}
 use Rattle.wdf_top.specs.declared.words.Form.{Form}
-use Rattle.wdf_top.specs.declared.words.Form.TheVariants.{Check, Order, Seed, Replay, Gen, Load}
+use Rattle.wdf_top.specs.declared.words.Form.TheVariants as form
 use Rattle.wdf_top.specs.declared.run.Picks.TheVariants.{Listed, Seeded}
 use Rattle.wdf_input.specs.declared.input.TheConstants.{INPUT_LIMIT}
-use Rattle.wdf_top.specs.Agents.{Usual}
-use Rattle.wdf_top.specs.Answers.{Answering, Answers, Reading, Canonical, Run, Judgement, Picking, By, answering_of, IsTraceOf, IsVerdict, IsSummaryOf}
+use Rattle.wdf_top.specs.Agents.{Usual, Idle, Stacked}
+use Rattle.wdf_top.specs.Answers.{Answering, Answers, Reading, Canonical, Run, Judgement, Findings, Picking, By, answering_of, IsTraceOf, IsVerdict, IsSummaryOf, IsLinted}
 use Rattle.wdf_input.specs.Input.{TakesAll, TakesCount, TakesAtMost}
 use Rattle.wdf_output.specs.Refusals.{read_fault_line, too_large_line, no_memory_line}
 use Rattle.wdf_output.specs.Said.{Sinking, Says}
 
 abbrev pub usage_line : List ℕ
-usage_line = codes "usage: kmdfsim check | order | seed N | run | replay | gen N | load N\n"
+usage_line = codes "usage: kmdfsim check | order | seed N | run | replay | gen N | load N | idle | stack | lint\n"
 
 -- what a source has left and how many faults it has counted, before a call and after it
 pub record Sourcing : Type 0 where
@@ -75,12 +75,15 @@ pub data Service : Type 0 where
 -- What each form of words asks for, a row for each.
 abbrev pub service_of : Option Form → Service
 service_of None = Usage
-service_of (Some Check) = Reads Canonical
-service_of (Some Order) = Reads (Run Usual (By Listed))
-service_of (Some (Seed n)) = Reads (Run Usual (By (Seeded n)))
-service_of (Some Replay) = Reads Judgement
-service_of (Some (Gen n)) = Scenario n
-service_of (Some (Load n)) = Summary n
+service_of (Some form.Check) = Reads Canonical
+service_of (Some form.Order) = Reads (Run Usual (By Listed))
+service_of (Some (form.Seed n)) = Reads (Run Usual (By (Seeded n)))
+service_of (Some form.Replay) = Reads Judgement
+service_of (Some (form.Gen n)) = Scenario n
+service_of (Some (form.Load n)) = Summary n
+service_of (Some form.Idle) = Reads (Run Idle (By Listed))
+service_of (Some form.Stack) = Reads (Run Stacked (By Listed))
+service_of (Some form.Lint) = Reads Findings
 
 -- they are a form that reads its input
 abbrev pub reads_input : Service → Bool
@@ -118,6 +121,10 @@ TellsPlan plan m by k answer = (text : List ℕ) × (status : ℕ) × (IsTraceOf
 -- What becomes of a trace: the line of the verdict, or the line `out of memory`; or a front of either.
 abbrev pub TellsVerdict : Plan → List ℕ → Sinking → ℕ → Type 0
 TellsVerdict plan trace k answer = (text : List ℕ) × (status : ℕ) × (IsVerdict plan trace text status ⊎ ((text ≡ no_memory_line) × (status ≡ 15))) × Says k text status answer
+
+-- What becomes of the scripts of a plan: what the static check finds, or the line `out of memory`; or a front of either.
+abbrev pub TellsFindings : Plan → Sinking → ℕ → Type 0
+TellsFindings plan k answer = (text : List ℕ) × (status : ℕ) × (IsLinted plan text status ⊎ ((text ≡ no_memory_line) × (status ≡ 15))) × Says k text status answer
 
 -- What becomes of a number that generates a scenario: its text, or the line `out of memory`; or a front of either.
 abbrev pub TellsScenario : ℕ → Sinking → ℕ → Type 0

@@ -5,7 +5,7 @@ use Rattle.std.specs.Str.{bytes_eq}
 use Rattle.std.specs.Option.{option_and_then}
 use Rattle.std.specs.Char.{is_ascii_digit}
 use Rattle.wdf_top.specs.declared.words.Form.{Form}
-use Rattle.wdf_top.specs.declared.words.Form.TheVariants.{Check, Order, Seed, Replay, Gen, Load}
+use Rattle.wdf_top.specs.declared.words.Form.TheVariants.{Check, Order, Seed, Replay, Gen, Load, Idle, Stack, Lint}
 use Rattle.wdf_text.specs.Decimals.{small_number}
 
 -- the form of one word alone
@@ -14,7 +14,10 @@ form_of_word word =
     if bytes_eq word (codes "check") then Some Check
     else (if bytes_eq word (codes "order") then Some Order
     else (if bytes_eq word (codes "replay") then Some Replay
-    else None))
+    else (if bytes_eq word (codes "idle") then Some Idle
+    else (if bytes_eq word (codes "stack") then Some Stack
+    else (if bytes_eq word (codes "lint") then Some Lint
+    else None)))))
 
 -- the form of a word with a number after it
 abbrev pub form_with_number : List ℕ → ℕ → Option Form

@@ -14,6 +14,7 @@
 mod agents;
 mod generated;
 mod laws;
+mod lint;
 mod load;
 mod run;
 mod scenario;

@@ -2,13 +2,14 @@
 ghost use Rattle.std.specs.Prelude.{◌≡◌, map, string_bytes};
 ghost use Rattle.wdf_io.specs.Outside.{EndsRefused};
 ghost use Rattle.wdf_output.specs.Said.{sinking};
-ghost use Rattle.wdf_top.specs.Answers.{By, checking, judging, running};
+ghost use Rattle.wdf_top.specs.Answers.{By, checking, judging, linting, running};
 ghost use Rattle.wdf_top.specs.Promises.{ServicePromises};
 ghost use Rattle.wdf_top.specs.Top.{service_of, Tells, TellsBy, sourcing};
 ghost use Rattle.wdf_top.specs.Words.{form_of_words};
 
 use crate::agents::RunAgent;
 use crate::generated::tell_generated;
+use crate::lint::tell_findings;
 use crate::load::tell_summary;
 use crate::run::{Picks, tell_run};
 use crate::scenario::{read_canonical, read_input, read_plan};
@@ -16,11 +17,14 @@ use crate::verdict::judge_input;
 use crate::words::{Form, form_of};
 use std::alloc::Global;
 use wdf_dev::AnyAgent;
+use wdf_idle::IdleAgent;
 use wdf_io::{Sink, Source};
 use wdf_output::{say, tell};
+use wdf_stack::StackAgent;
 
 /// What is written for words of no form.
-const USAGE: &[u8] = b"usage: kmdfsim check | order | seed N | run | replay | gen N | load N\n";
+const USAGE: &[u8] =
+    b"usage: kmdfsim check | order | seed N | run | replay | gen N | load N | idle | stack | lint\n";
 
 /// The status of words of no form.
 const USAGE_STATUS: u8 = 2;
@@ -34,15 +38,18 @@ const USAGE_STATUS: u8 = 2;
 /// `SplitMix64::seed_from_u64(N)` for picks, and takes no notice of the scenario's own. `replay` reads a scenario,
 /// a line `trace` and a trace, and writes the verdict on the trace. `gen N` reads nothing and writes the
 /// scenario that N generates. `load N` reads nothing, runs that scenario by the words of N, and writes the summary
-/// of the run. What is no form gets the usage line; so does `run`, which this call doesn't serve. Nothing else is
+/// of the run. `idle` and `stack` run as `order` does: `idle` with a policy that puts idle devices to sleep, `stack` with
+/// targets that are the queues of the device below. `lint` writes what a walk of each callback's statements finds, a line
+/// for each finding, or `clean`. What is no form gets the usage line; so does `run`, which this call doesn't serve. Nothing else is
 /// written.
 ///
 /// | status | when |
 /// |---|---|
-/// | 0 | `check` or `replay` accepted; the run finished; `gen N` wrote its scenario |
+/// | 0 | `check` or `replay` accepted; `lint` found nothing; the run finished; `gen N` wrote its scenario |
 /// | 2 | the words are no form |
 /// | 3, 4, 5 | the run ended in a driver fault, stuck, at its limit |
 /// | 6 | `replay` found a bad line |
+/// | 7 | `lint` found something |
 /// | 10 | the input is no scenario |
 /// | 11 | the scenario has no plan |
 /// | 12 | a read failed |
@@ -82,6 +89,9 @@ fn answer<S: Source, K: Sink>(alloc: Global, form: Option<Form>, source: &mut S,
         Some(Form::Gen(number)) => tell_generated(alloc, number, sink),
         Some(Form::Replay) => judge(alloc, source, sink),
         Some(Form::Load(number)) => tell_summary(alloc, number, sink),
+        Some(Form::Idle) => run::<IdleAgent, S, K>(alloc, Picks::Listed, source, sink),
+        Some(Form::Stack) => run::<StackAgent, S, K>(alloc, Picks::Listed, source, sink),
+        Some(Form::Lint) => check_scripts(alloc, source, sink),
     }
 }
 
@@ -128,6 +138,20 @@ fn judge<S: Source, K: Sink>(alloc: Global, source: &mut S, sink: &mut K) -> u8
 {
     match read_input(alloc, source) {
         Ok(input) => judge_input(alloc, &input, sink),
+        Err(refusal) => tell(sink, refusal),
+    }
+}
+
+/// Reads the input and writes what the static check finds in its plan's scripts, or says why it can't.
+fn check_scripts<S: Source, K: Sink>(alloc: Global, source: &mut S, sink: &mut K) -> u8
+    ensures told { TellsBy linting
+        (sourcing (S.left source.old) (S.left source.new) (S.faults source.old) (S.faults source.new))
+        (sinking (K.written sink.old) (K.written sink.new) (K.faults sink.old) (K.faults sink.new))
+        result }
+    ensures not_again { result ≡ 13 → EndsRefused K.refused K.faults sink.old sink.new }
+{
+    match read_plan(alloc, source) {
+        Ok(plan) => tell_findings(alloc, plan, sink),
         Err(refusal) => tell(sink, refusal),
     }
 }

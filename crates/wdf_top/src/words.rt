@@ -20,6 +20,12 @@ pub enum Form {
     Gen(u64),
     /// Run the scenario that a number generates, by the words of that number, and write the summary.
     Load(u64),
+    /// Write the run that the scenario's own picks make where idle devices sleep.
+    Idle,
+    /// Write the run that they make where devices send their requests to the device below.
+    Stack,
+    /// Write what the static check finds in the scenario's scripts.
+    Lint,
 }
 
 /// The form that the words after the program's name ask for, if they are one.
@@ -42,6 +48,12 @@ fn form_of_word(word: &str) -> Option<Form>
         Some(Form::Order)
     } else if word == "replay" {
         Some(Form::Replay)
+    } else if word == "idle" {
+        Some(Form::Idle)
+    } else if word == "stack" {
+        Some(Form::Stack)
+    } else if word == "lint" {
+        Some(Form::Lint)
     } else {
         None
     }

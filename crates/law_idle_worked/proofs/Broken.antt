@@ -1,0 +1,23 @@
+-- The places at which lists break the law on idle runs, computed.
+use Rattle.std.proofs.Common.{◌≡◌, refl, Some}
+use Rattle.wdf_laws.specs.Words.{ever}
+use Rattle.law_idle.specs.Idling.{time_after, awake_rest, asleep_rest, is_held}
+use Rattle.law_idle_worked.specs.IdleRuns.{sleeps_when_unused_plan, hold_by_device_plan}
+use Rattle.law_idle_worked.specs.Shown.{first_break}
+use Rattle.law_idle_worked.specs.Broken.{early, late, forgotten, held}
+
+pub early_breaks : first_break sleeps_when_unused_plan early ≡ Some 1
+unfolding time_after awake_rest asleep_rest is_held ever
+early_breaks = refl
+
+pub late_breaks : first_break sleeps_when_unused_plan late ≡ Some 2
+unfolding time_after awake_rest asleep_rest is_held ever
+late_breaks = refl
+
+pub forgotten_breaks : first_break sleeps_when_unused_plan forgotten ≡ Some 16
+unfolding time_after awake_rest asleep_rest is_held ever
+forgotten_breaks = refl
+
+pub held_breaks : first_break hold_by_device_plan held ≡ Some 7
+unfolding time_after awake_rest asleep_rest is_held ever
+held_breaks = refl

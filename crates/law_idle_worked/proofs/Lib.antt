@@ -1,0 +1,4 @@
+mod Ended
+pub mod IdleRuns
+pub mod Broken
+pub mod Longest

@@ -1,0 +1,4 @@
+pub mod IdleRuns
+pub mod Shown
+pub mod Broken
+pub mod Longest

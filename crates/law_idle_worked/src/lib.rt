@@ -1,0 +1,121 @@
+//! Worked runs in which idle devices sleep, for each a law. It says that the events are the run which the written machine
+//! makes of its plan with the agents of the word `idle`, that the run ends as the trace says, and that each of its events
+//! keeps the law on idle runs. Lists that break that law, at which event. The scenarios and traces are in `tools/idle`.
+#![tactic(auto)]
+
+ghost use Rattle.std.specs.Prelude.{◌≡◌, Some};
+ghost use Rattle.wdf_base.specs.declared.event.Ending.TheVariants as ending;
+ghost use Rattle.law_idle_worked.specs.Shown.{IsIdleRun, first_break};
+ghost use Rattle.law_idle_worked.specs.Broken.{early, late, forgotten, held};
+ghost use Rattle.law_idle_worked.specs.Longest.{IsLongest};
+ghost use Rattle.law_idle_worked.specs.IdleRuns.{sleeps_when_unused_plan, sleeps_when_unused_events, held_awake_plan, held_awake_events, two_timeouts_plan, two_timeouts_events, both_at_one_tick_plan, both_at_one_tick_events, started_plan, started_events, used_for_a_while_plan, used_for_a_while_events, hold_by_device_plan, hold_by_device_events, hold_by_driver_plan, hold_by_driver_events, arrival_before_sleep_plan, arrival_before_sleep_events, arrival_within_sleep_plan, arrival_within_sleep_events, arrival_after_sleep_plan, arrival_after_sleep_events, cancelled_in_sleep_plan, cancelled_in_sleep_events, rebalanced_plan, rebalanced_events, refused_stop_plan, refused_stop_events, refused_removal_plan, refused_removal_events, removed_in_sleep_plan, removed_in_sleep_events, surprised_plan, surprised_events};
+
+/// A device that nobody uses goes to sleep, and a request wakes it.
+pub fn sleeps_when_unused()
+    ensures { IsIdleRun sleeps_when_unused_plan sleeps_when_unused_events ending.Finished }
+{}
+
+/// A device that its driver holds goes to sleep by its timeout after the end of the hold.
+pub fn held_awake()
+    ensures { IsIdleRun held_awake_plan held_awake_events ending.Finished }
+{}
+
+/// Two devices with different timeouts.
+pub fn two_timeouts()
+    ensures { IsIdleRun two_timeouts_plan two_timeouts_events ending.Finished }
+{}
+
+/// Two devices go to sleep at one tick, by their ids, and what the block `pnp` has for that tick comes after them.
+pub fn both_at_one_tick()
+    ensures { IsIdleRun both_at_one_tick_plan both_at_one_tick_events ending.Finished }
+{}
+
+/// A device that is started has its timeout from there on.
+pub fn started()
+    ensures { IsIdleRun started_plan started_events ending.Finished }
+{}
+
+/// A request that takes its time: the timeout begins with its completion.
+pub fn used_for_a_while()
+    ensures { IsIdleRun used_for_a_while_plan used_for_a_while_events ending.Finished }
+{}
+
+/// What the device itself sets in `IDLE_HOLD` holds it awake.
+pub fn hold_by_device()
+    ensures { IsIdleRun hold_by_device_plan hold_by_device_events ending.Finished }
+{}
+
+/// So does what the driver puts there, and a hold that is there at the opening.
+pub fn hold_by_driver()
+    ensures { IsIdleRun hold_by_driver_plan hold_by_driver_events ending.Finished }
+{}
+
+/// A request arrives at the tick of the sleep, before it: the device stays awake.
+pub fn arrival_before_sleep()
+    ensures { IsIdleRun arrival_before_sleep_plan arrival_before_sleep_events ending.Finished }
+{}
+
+/// A request arrives while the device is on its way to sleep: it is woken when it is asleep.
+pub fn arrival_within_sleep()
+    ensures { IsIdleRun arrival_within_sleep_plan arrival_within_sleep_events ending.Finished }
+{}
+
+/// A request arrives when the device has gone to sleep, and wakes it.
+pub fn arrival_after_sleep()
+    ensures { IsIdleRun arrival_after_sleep_plan arrival_after_sleep_events ending.Finished }
+{}
+
+/// A request that arrives in sleep is cancelled before anybody wakes the device: it stays asleep.
+pub fn cancelled_in_sleep()
+    ensures { IsIdleRun cancelled_in_sleep_plan cancelled_in_sleep_events ending.Finished }
+{}
+
+/// A rebalance begins the timeout anew.
+pub fn rebalanced()
+    ensures { IsIdleRun rebalanced_plan rebalanced_events ending.Finished }
+{}
+
+/// A device whose driver refuses to stop it is awake again, and its timeout begins there.
+pub fn refused_stop()
+    ensures { IsIdleRun refused_stop_plan refused_stop_events ending.Finished }
+{}
+
+/// A sleeping device whose driver refuses its removal is asleep, and is woken by a request.
+pub fn refused_removal()
+    ensures { IsIdleRun refused_removal_plan refused_removal_events ending.Finished }
+{}
+
+/// A device is removed while it sleeps; what arrives for it then isn't taken, and wakes nobody.
+pub fn removed_in_sleep()
+    ensures { IsIdleRun removed_in_sleep_plan removed_in_sleep_events ending.Finished }
+{}
+
+/// A device that is surprise-removed is neither put to sleep nor woken.
+pub fn surprised()
+    ensures { IsIdleRun surprised_plan surprised_events ending.Finished }
+{}
+
+/// A sleep a tick early breaks the law.
+pub fn early_breaks()
+    ensures { first_break sleeps_when_unused_plan early ≡ Some 1 }
+{}
+
+/// So does a tick at which an idle device is past its timeout,
+pub fn late_breaks()
+    ensures { first_break sleeps_when_unused_plan late ≡ Some 2 }
+{}
+
+/// one at which a device is asleep with a pending request,
+pub fn forgotten_breaks()
+    ensures { first_break sleeps_when_unused_plan forgotten ≡ Some 16 }
+{}
+
+/// and a sleep that takes the hold for idle time.
+pub fn held_breaks()
+    ensures { first_break hold_by_device_plan held ≡ Some 7 }
+{}
+
+/// A timeout above 1000000 is 1000000.
+pub fn timeouts_are_cut()
+    ensures { IsLongest }
+{}

@@ -1,0 +1,299 @@
+-- No earlier cause of a row is so.
+use Rattle.std.proofs.Common.{if◌then◌else◌, ◌≡◌, inl, inr, ℕ, suc, ◌+◌, ◌<◌, ◌≤◌, ◌==◌, Bool, true, false, not, ◌&&◌, ◌||◌, nat_lt, List, [], ◌∷◌, Option, Some, None, is_some, filter, count_by, slice_get, take_while, refl, sym, ap, ◌∙◌, subst, arith, eqb-true}
+use Rattle.std.specs.Prelude.{option_map}
+use Rattle.std.specs.List.{list_any}
+use Rattle.std.proofs.lemmas.Bool.{and_parts, cases_Bool, ltb-true}
+use Rattle.wdf_base.specs.declared.plan.Plan.{Plan}
+use Rattle.wdf_base.specs.declared.ids.ObjectId.{ObjectId}
+use Rattle.wdf_base.specs.declared.object.Place.{Place}
+use Rattle.wdf_base.specs.declared.object.Place.TheVariants as place
+use Rattle.wdf_base.specs.declared.call.Callback.{Callback}
+use Rattle.wdf_base.specs.declared.call.Callback.TheVariants as callback
+use Rattle.wdf_base.specs.declared.wait.Cause.{Cause}
+use Rattle.wdf_base.specs.declared.wait.Cause.TheVariants as cause
+use Rattle.wdf_base.specs.declared.wait.OpenThing.{OpenThing}
+use Rattle.wdf_base.specs.declared.wait.OpenThing.TheVariants as thing
+use Rattle.wdf_base.specs.declared.wait.WaitLine.{WaitLine}
+use Rattle.wdf_base.specs.Callbacks.{dpc_function}
+use Rattle.wdf_base.specs.Places.{is_queued_in}
+use Rattle.wdf_model.specs.Ids.{frame_id}
+use Rattle.wdf_model.specs.Tables.{contains, flag, least}
+use Rattle.wdf_model.specs.Plans.{is_managed, is_manual_queue, queue_level}
+use Rattle.wdf_model.specs.parts.Tree.{kind_of}
+use Rattle.wdf_model.specs.parts.Cpus.{all_frames, is_on}
+use Rattle.wdf_model.specs.parts.Locks.{is_free_if_any, scope_of}
+use Rattle.wdf_model.specs.parts.Requests.{place_of}
+use Rattle.wdf_model.specs.parts.Queues.{is_free, waiting_in}
+use Rattle.wdf_model.specs.parts.Control.{delivers_in, mode_of}
+use Rattle.wdf_model.specs.parts.Pnp.{next_step, running_step}
+use Rattle.wdf_model.specs.parts.Deferred.Dpcs.{is_dpc_queued}
+use Rattle.wdf_model.specs.parts.Deferred.WorkItems.{is_work_queued}
+use Rattle.wdf_base.specs.declared.event.Step.{Step}
+use Rattle.wdf_model.specs.State.{State, declared_in, handle_in, is_powered, up_for}
+use Rattle.wdf_model.specs.rules.Starts.{level_fits}
+use Rattle.wdf_model.specs.rules.Waits.{ahead, by_frame_on, cause_if, cpu_of_dpc, deferred_cause, deferred_line, device_line, dpc_cause, first_cause, frame_line, head_lock, no_cpu, object_line, queue_scope_held, queued_cause, request_line, returning_cause, scope_is_held, sequence_line, work_cause}
+use Rattle.wdf_model.proofs.Counts.{count_no, count_yes}
+use Rattle.wdf_model.proofs.Tests.{itself}
+use Rattle.law_machine_base.specs.OverRuns.{PlacesAgree}
+use Rattle.law_stuck_causes.specs.Causes.{is_before, keeps_deferred, keeps_dpc, keeps_queued, keeps_returning, keeps_work, runs_on}
+use Rattle.law_stuck_causes.proofs.EachLine.{OfLines}
+use Rattle.law_stuck_causes.proofs.Forms.{lock_held, none_left, not_fits, while_on}
+use Rattle.law_stuck_causes.proofs.Gives.{IfThere, any_has}
+use Rattle.law_stuck_causes.proofs.Members.{has_id}
+use Rattle.law_stuck_causes.proofs.Needs.{no_count}
+use Rattle.law_stuck_blame.specs.Blame.{comes_before, is_blamed, place_in_row}
+use Rattle.law_stuck_blame.proofs.Rows.{InPlace, no_later, placed_if, placed_map, there_if, there_least}
+
+-- no cause that comes before the one that is found is so
+abbrev pub IsFirstOf : (Cause → Bool) → (Cause → ℕ) → Option Cause → Type 0
+IsFirstOf so place o = (x y : Cause) → o ≡ Some x → nat_lt (place y) (place x) ≡ true → so y ≡ false
+
+-- a cause is there at its place of the row
+abbrev IsThere : (Cause → ℕ) → List (Option Cause) → Cause → Type 0
+IsThere place os y = (o : Option Cause) × (k : ℕ) × (place y ≡ k) × (slice_get os k ≡ Some o) × (is_some o ≡ true)
+
+-- where each cause that is so is there at its place, the first one is the first that is so
+first_in : (so : Cause → Bool) (place : Cause → ℕ) (os : List (Option Cause)) → InPlace place 0 os → ((y : Cause) → so y ≡ true → IsThere place os y) → IsFirstOf so place (first_cause os)
+first_in so place os row there x y found before =
+    elim (cases_Bool (so y)) [
+      | inl there_so ↦
+          let at = there y there_so in
+          let late : place x ≤ 0 + at.1 = no_later place 0 os x row found at.1 at.0 at.3 at.4 in
+          let early : place y < place x = ltb-true (place y) (place x) before in
+          absurd (omega (arith, late, early, at.2))
+      | inr off ↦ off
+    ]
+
+-- ---- requests that wait in a queue
+
+powered_by : (managed up : Bool) → (managed && not up) ≡ true → not (not managed || up) ≡ true
+powered_by true true h = h
+powered_by true false h = refl
+powered_by false up h = h
+
+later_by : (x z r : ℕ) (zs : List ℕ) (b : Bool) → (z == x) ≡ b → is_before x r (z ∷ zs) ≡ true → (is_before x r zs ≡ true → contains r zs ≡ true) → contains r zs ≡ true
+later_by x z r zs true e h rest = rw e at h
+later_by x z r zs false e h rest = rest (rw e at h)
+
+contains_by : (z r : ℕ) (zs : List ℕ) (b : Bool) → (z == r) ≡ b → contains r zs ≡ true → contains r (z ∷ zs) ≡ true
+contains_by z r zs true e h = rw e refl
+contains_by z r zs false e h = rw e h
+
+-- what another comes before is in the list
+later : (x r : ℕ) (zs : List ℕ) → is_before x r zs ≡ true → contains r zs ≡ true
+later x r [] h = absurd (let z : ⊥ = cc in z)
+later x r (z ∷ zs) h = contains_by z r zs (z == r) refl (later_by x z r zs (z == x) refl h (later x r zs))
+
+later_in_rest : (x z r : ℕ) (zs : List ℕ) → is_before x r (z ∷ zs) ≡ true → contains r zs ≡ true
+later_in_rest x z r zs h = later_by x z r zs (z == x) refl h (later x r zs)
+
+counted : (r : ℕ) (zs : List ℕ) → contains r zs ≡ true → 1 ≤ count_by (λ y. y == r) zs
+counted r [] h = absurd (let z : ⊥ = cc in z)
+counted r (z ∷ zs) h = by (z == r) refl (counted r zs)
+  where
+    by : (b : Bool) → (z == r) ≡ b → (contains r zs ≡ true → 1 ≤ count_by (λ y. y == r) zs) → 1 ≤ count_by (λ y. y == r) (z ∷ zs)
+    by true e rest = omega (arith, count_yes (λ y. y == r) z zs e)
+    by false e rest = omega (arith, count_no (λ y. y == r) z zs e, rest (rw e at h))
+
+-- where another comes before a request that is there once, something is ahead of it
+some_ahead : (x r : ℕ) (zs : List ℕ) → count_by (λ y. y == r) zs ≤ 1 → is_before x r zs ≡ true → take_while (λ y. not (y == r)) zs ≡ [] → ⊥
+some_ahead x r [] once h none = let z : ⊥ = cc in z
+some_ahead x r (z ∷ zs) once h none = by (z == r) refl
+  where
+    by : (b : Bool) → (z == r) ≡ b → ⊥
+    by true e =
+        let again : 1 ≤ count_by (λ y. y == r) zs = counted r zs (later_in_rest x z r zs h) in
+        absurd (omega (arith, once, again, count_yes (λ y. y == r) z zs e))
+    by false e = let z : ⊥ = cc (sym (while_on r z zs e) ∙ none) in z
+
+module _ {A : Type 0} (plan : Plan) (S : State A) (q r : ℕ) where
+  abbrev row_queued : List (Option Cause)
+  row_queued =
+      cause_if (not (delivers_in (mode_of S.control q))) cause.Stopped
+      ∷ cause_if (not (is_powered plan S q)) cause.Unpowered
+      ∷ cause_if (is_manual_queue plan q) cause.Manual
+      ∷ option_map (λ x. cause.Behind (handle_in plan S x)) (least (ahead S q r))
+      ∷ cause_if (not (is_free S.queues q)) cause.Full
+      ∷ cause_if (queue_scope_held plan S q) cause.ScopeHeld
+      ∷ cause_if (no_cpu plan S (queue_level plan q)) cause.NoCpu
+      ∷ []
+
+  abbrev place_queued : Cause → ℕ
+  place_queued y = place_in_row (thing.Queued (handle_in plan S r) (handle_in plan S q)) y
+
+  there_queued : count_by (λ y. y == r) (waiting_in S.queues q) ≤ 1 → (y : Cause) → keeps_queued plan S q r y ≡ true → IsThere place_queued row_queued y
+  there_queued once cause.Stopped h = (cause_if (not (delivers_in (mode_of S.control q))) cause.Stopped, 0, refl, refl, there_if (not (delivers_in (mode_of S.control q))) cause.Stopped h)
+  there_queued once cause.Unpowered h = (cause_if (not (is_powered plan S q)) cause.Unpowered, 1, refl, refl, there_if (not (is_powered plan S q)) cause.Unpowered (powered_by (is_managed plan q) (up_for plan S q) h))
+  there_queued once cause.Manual h = (cause_if (is_manual_queue plan q) cause.Manual, 2, refl, refl, there_if (is_manual_queue plan q) cause.Manual h)
+  there_queued once (cause.Behind x) h =
+      (option_map (λ x. cause.Behind (handle_in plan S x)) (least (ahead S q r)), 3, refl, refl, there_least (λ x. cause.Behind (handle_in plan S x)) (ahead S q r) (some_ahead x.id.0 r (waiting_in S.queues q) once h))
+  there_queued once cause.Full h = (cause_if (not (is_free S.queues q)) cause.Full, 4, refl, refl, there_if (not (is_free S.queues q)) cause.Full h)
+  there_queued once cause.ScopeHeld h =
+      (cause_if (queue_scope_held plan S q) cause.ScopeHeld, 5, refl, refl, there_if (queue_scope_held plan S q) cause.ScopeHeld (lock_held S (scope_of plan callback.EvtIoDefault q (declared_in plan S q)) ∙ h))
+  there_queued once cause.NoCpu h = (cause_if (no_cpu plan S (queue_level plan q)) cause.NoCpu, 6, refl, refl, there_if (no_cpu plan S (queue_level plan q)) cause.NoCpu (none_left plan S (queue_level plan q) ∙ h))
+  there_queued once _ h = absurd (let z : ⊥ = cc in z)
+
+  queued_first : count_by (λ y. y == r) (waiting_in S.queues q) ≤ 1 → IsFirstOf (keeps_queued plan S q r) place_queued (queued_cause plan S q r)
+  queued_first once = first_in (keeps_queued plan S q r) place_queued row_queued (
+    λ c e. placed_if place_queued 0 (not (delivers_in (mode_of S.control q))) cause.Stopped refl c e,
+    (
+      λ c e. placed_if place_queued 1 (not (is_powered plan S q)) cause.Unpowered refl c e,
+      (
+        λ c e. placed_if place_queued 2 (is_manual_queue plan q) cause.Manual refl c e,
+        (
+          λ c e. placed_map place_queued 3 (λ x. cause.Behind (handle_in plan S x)) (least (ahead S q r)) (λ k. refl) c e,
+          (
+            λ c e. placed_if place_queued 4 (not (is_free S.queues q)) cause.Full refl c e,
+            (
+              λ c e. placed_if place_queued 5 (queue_scope_held plan S q) cause.ScopeHeld refl c e,
+              (
+                λ c e. placed_if place_queued 6 (no_cpu plan S (queue_level plan q)) cause.NoCpu refl c e,
+                tt,
+              ),
+            ),
+          ),
+        ),
+      ),
+    ),
+  ) (there_queued once)
+
+-- ---- requests on their way out of one
+
+module _ {A : Type 0} (plan : Plan) (S : State A) (q r : ℕ) where
+  abbrev row_returning : List (Option Cause)
+  row_returning = cause_if (queue_scope_held plan S q) cause.ScopeHeld ∷ cause_if (no_cpu plan S (queue_level plan q)) cause.NoCpu ∷ []
+
+  abbrev place_returning : Cause → ℕ
+  place_returning y = place_in_row (thing.Returning (handle_in plan S r) (handle_in plan S q)) y
+
+  there_returning : (y : Cause) → keeps_returning plan S q y ≡ true → IsThere place_returning row_returning y
+  there_returning cause.ScopeHeld h =
+      (cause_if (queue_scope_held plan S q) cause.ScopeHeld, 0, refl, refl, there_if (queue_scope_held plan S q) cause.ScopeHeld (lock_held S (scope_of plan callback.EvtIoDefault q (declared_in plan S q)) ∙ h))
+  there_returning cause.NoCpu h = (cause_if (no_cpu plan S (queue_level plan q)) cause.NoCpu, 1, refl, refl, there_if (no_cpu plan S (queue_level plan q)) cause.NoCpu (none_left plan S (queue_level plan q) ∙ h))
+  there_returning _ h = absurd (let z : ⊥ = cc in z)
+
+  returning_first : IsFirstOf (keeps_returning plan S q) place_returning (returning_cause plan S q)
+  returning_first = first_in (keeps_returning plan S q) place_returning row_returning (
+    λ c e. placed_if place_returning 0 (queue_scope_held plan S q) cause.ScopeHeld refl c e,
+    (
+      λ c e. placed_if place_returning 1 (no_cpu plan S (queue_level plan q)) cause.NoCpu refl c e,
+      tt,
+    ),
+  ) there_returning
+
+-- ---- queued work
+
+on_it : {A : Type 0} (S : State A) (o f : ℕ) → runs_on S o f ≡ true → filter (is_on S.cpus o) (all_frames S.cpus) ≡ [] → ⊥
+on_it S o f h none =
+    let parts = and_parts (contains f (all_frames S.cpus)) (is_on S.cpus o f) h in
+    let some : list_any (is_on S.cpus o) (all_frames S.cpus) ≡ true = any_has (is_on S.cpus o) f (all_frames S.cpus) (has_id f (all_frames S.cpus) parts.0) parts.1 in
+    let z : ⊥ = cc (sym some ∙ no_count (is_on S.cpus o) (all_frames S.cpus) none) in z
+
+-- a row with nothing in the middle
+in_middle : (a b : Option Cause) → first_cause (a ∷ None ∷ b ∷ []) ≡ first_cause (a ∷ b ∷ [])
+in_middle None b = refl
+in_middle (Some c) b = refl
+
+first_by : (b : Bool) (place : Cause → ℕ) (p q : Cause → Bool) (o u : Option Cause) → IsFirstOf p place o → IsFirstOf q place u → IsFirstOf (λ x. if b then p x else q x) place (if b then o else u)
+first_by true place p q o u g h = g
+first_by false place p q o u g h = h
+
+module _ {A : Type 0} (plan : Plan) (S : State A) (o : ℕ) where
+  abbrev place_work : Cause → ℕ
+  place_work y = place_in_row (thing.Deferred (handle_in plan S o)) y
+
+  abbrev lock_test : Bool
+  lock_test = scope_is_held plan S (dpc_function (kind_of S.tree o)) o || not (is_free_if_any S.locks (head_lock plan S (cpu_of_dpc plan S o)))
+
+  abbrev cpu_test : Bool
+  cpu_test = not (level_fits S (cpu_of_dpc plan S o) 2)
+
+  abbrev row_dpc : List (Option Cause)
+  row_dpc = cause_if lock_test cause.ScopeHeld ∷ None ∷ cause_if cpu_test cause.NoCpu ∷ []
+
+  lock_is : lock_test ≡ keeps_dpc plan S o cause.ScopeHeld
+  lock_is = rw (lock_held S (scope_of plan (dpc_function (kind_of S.tree o)) o (declared_in plan S o)), lock_held S (head_lock plan S (cpu_of_dpc plan S o))) refl
+
+  there_dpc : (y : Cause) → keeps_dpc plan S o y ≡ true → IsThere place_work row_dpc y
+  there_dpc cause.ScopeHeld h = (cause_if lock_test cause.ScopeHeld, 0, refl, refl, there_if lock_test cause.ScopeHeld (lock_is ∙ h))
+  there_dpc cause.NoCpu h = (cause_if cpu_test cause.NoCpu, 2, refl, refl, there_if cpu_test cause.NoCpu (not_fits S 2 (cpu_of_dpc plan S o) ∙ h))
+  there_dpc _ h = absurd (let z : ⊥ = cc in z)
+
+  dpc_first : IsFirstOf (keeps_dpc plan S o) place_work (dpc_cause plan S o)
+  dpc_first =
+      let padded : IsFirstOf (keeps_dpc plan S o) place_work (first_cause row_dpc) = first_in (keeps_dpc plan S o) place_work row_dpc (
+        λ c e. placed_if place_work 0 lock_test cause.ScopeHeld refl c e,
+        (
+          λ c e. absurd (let z : ⊥ = cc in z),
+          (
+            λ c e. placed_if place_work 2 cpu_test cause.NoCpu refl c e,
+            tt,
+          ),
+        ),
+      ) there_dpc in
+      subst (IsFirstOf (keeps_dpc plan S o) place_work) (in_middle (cause_if lock_test cause.ScopeHeld) (cause_if cpu_test cause.NoCpu)) padded
+
+  module _ (c : Callback) (level : ℕ) where
+    abbrev row_work : List (Option Cause)
+    row_work = cause_if (scope_is_held plan S c o) cause.ScopeHeld ∷ by_frame_on S o ∷ cause_if (no_cpu plan S level) cause.NoCpu ∷ []
+
+    there_work : (y : Cause) → keeps_work plan S c level o y ≡ true → IsThere place_work row_work y
+    there_work cause.ScopeHeld h = (cause_if (scope_is_held plan S c o) cause.ScopeHeld, 0, refl, refl, there_if (scope_is_held plan S c o) cause.ScopeHeld (lock_held S (scope_of plan c o (declared_in plan S o)) ∙ h))
+    there_work (cause.ByFrame f) h = (by_frame_on S o, 1, refl, refl, there_least (λ g. cause.ByFrame (frame_id g)) (filter (is_on S.cpus o) (all_frames S.cpus)) (on_it S o f.0 h))
+    there_work cause.NoCpu h = (cause_if (no_cpu plan S level) cause.NoCpu, 2, refl, refl, there_if (no_cpu plan S level) cause.NoCpu (none_left plan S level ∙ h))
+    there_work _ h = absurd (let z : ⊥ = cc in z)
+
+    work_first : IsFirstOf (keeps_work plan S c level o) place_work (work_cause plan S c level o)
+    work_first = first_in (keeps_work plan S c level o) place_work row_work (
+      λ d e. placed_if place_work 0 (scope_is_held plan S c o) cause.ScopeHeld refl d e,
+      (
+        λ d e. placed_map place_work 1 (λ g. cause.ByFrame (frame_id g)) (least (filter (is_on S.cpus o) (all_frames S.cpus))) (λ k. refl) d e,
+        (
+          λ d e. placed_if place_work 2 (no_cpu plan S level) cause.NoCpu refl d e,
+          tt,
+        ),
+      ),
+    ) there_work
+
+  deferred_first : IsFirstOf (keeps_deferred plan S o) place_work (deferred_cause plan S o)
+  deferred_first =
+      first_by (is_dpc_queued S.dpcs o) place_work (keeps_dpc plan S o) (λ x. if is_work_queued S.work_items o then keeps_work plan S callback.EvtWorkItem 0 o x else keeps_work plan S callback.EvtTimerFunc 2 o x)
+      (dpc_cause plan S o) (if is_work_queued S.work_items o then work_cause plan S callback.EvtWorkItem 0 o else work_cause plan S callback.EvtTimerFunc 2 o)
+      dpc_first
+      (first_by (is_work_queued S.work_items o) place_work (keeps_work plan S callback.EvtWorkItem 0 o) (keeps_work plan S callback.EvtTimerFunc 2 o)
+      (work_cause plan S callback.EvtWorkItem 0 o) (work_cause plan S callback.EvtTimerFunc 2 o)
+      (work_first callback.EvtWorkItem 0) (work_first callback.EvtTimerFunc 2))
+
+-- ---- the lines
+
+abbrev pub LineFirst : {A : Type 0} → Plan → State A → WaitLine → Type 0
+LineFirst plan S l = (x y : Cause) → l.cause ≡ Some x → comes_before l.thing y x ≡ true → is_blamed plan S l.thing y ≡ false
+
+once_there : {A : Type 0} (S : State A) (q : ObjectId) (r : ℕ) → PlacesAgree S → place_of S.requests r ≡ place.Queued q → count_by (λ x. x == r) (waiting_in S.queues q.0) ≤ 1
+once_there S q r k e =
+    let one : is_queued_in q.0 (place_of S.requests r) ≡ true = rw e (itself q.0) in
+    let times : count_by (λ x. x == r) (waiting_in S.queues q.0) ≡ 1 = k.queued q.0 r ∙ ap flag one in
+    omega (arith, times)
+
+request_first : {A : Type 0} (plan : Plan) (S : State A) (r : ℕ) (p : Place) → PlacesAgree S → place_of S.requests r ≡ p → IfThere (LineFirst plan S) (request_line plan S r p)
+request_first plan S r place.Owned k e = λ x y none before. absurd (let z : ⊥ = cc in z)
+request_first plan S r (place.Sent t) k e = λ x y none before. absurd (let z : ⊥ = cc in z)
+request_first plan S r (place.Queued q) k e = queued_first plan S q.0 r (once_there S q r k e)
+request_first plan S r (place.Returning q) k e = returning_first plan S q.0 r
+request_first plan S r (place.Closing s) k e = tt
+request_first plan S r place.Done k e = tt
+
+device_first : {A : Type 0} (plan : Plan) (S : State A) (d : ℕ) (now next : Option Step) → IfThere (LineFirst plan S) (sequence_line plan S d now next)
+device_first plan S d (Some s) next = λ x y found before. absurd (let z : ⊥ = cc in z)
+device_first plan S d None (Some s) = λ x y found before. absurd (let z : ⊥ = cc in z)
+device_first plan S d None None = tt
+
+pub lines_first : {A : Type 0} (plan : Plan) (S : State A) → PlacesAgree S → OfLines plan S (LineFirst plan S)
+lines_first plan S k = record {
+  frames = λ f there. λ x y found before. absurd (let z : ⊥ = cc in z);
+  requests = λ r. request_first plan S r (place_of S.requests r) k refl;
+  devices = λ d low. device_first plan S d (running_step S.pnp d) (next_step S.pnp d);
+  objects = λ o low leaving. λ x y found before. absurd (let z : ⊥ = cc in z);
+  work = λ o opened. deferred_first plan S o;
+  asking = λ d. λ x y found before. absurd (let z : ⊥ = cc in z);
+}

@@ -1,0 +1,4 @@
+pub mod Rows
+pub mod First
+pub mod Spinning
+pub mod Explained
