@@ -1,13 +1,14 @@
 #!/usr/bin/env python3
 """Looks for a run of a clean scenario that has a fault which `lint` is there to rule out. Not part of the gate.
 
-    python3 tools/lint_search.py [--program PROGRAM] [--seeds N] [--scenarios N] [--first N]
+    python3 tools/lint_search.py [--program PROGRAM] [--seeds N] [--scenarios N] [--first N] [--before N]
 
 Makes random scripts with calls on requests, locks of both kinds, locks of interrupts and acknowledgements. Where `lint` finds
 something, the lines that it names are deleted, until it says `clean`. Then each scenario is run by so many seeds (100 if not
 given). A run that ends in one of the faults 4 to 8 and 11 to 13 is written, with its scenario and seed, and the status is 1.
-A row at the end says how often each call was reached, so that one sees what was looked at. Half of the scenarios have a second
-queue in the scope of the first and acknowledge in EvtIoStop; a third release locks by many ways, to come near LockNotHeld.
+Rows at the end say which of these faults the scripts had before the repair, by five seeds each (`--before`), and how often each
+call was reached, so that one sees what was looked at. Half of the scenarios have a second queue in the scope of the first and
+acknowledge in EvtIoStop; a third release locks by many ways, to come near LockNotHeld.
 """
 
 import argparse
@@ -41,6 +42,7 @@ ON_REQUEST = [
 ON_LOCKS = [
     "call l = GetContext device 0",
     "call m = GetContext device 1",
+    "call SetContext device 0 m",
     "call WdfSpinLockAcquire l",
     "call WdfSpinLockRelease l",
     "call WdfSpinLockAcquire m",
@@ -50,6 +52,7 @@ ON_LOCKS = [
     "call WdfInterruptReleaseLock Line",
 ]
 TESTS = ["( a == SUCCESS )", "( a != SUCCESS )", "( b == SUCCESS )", "( b != CANCELLED )", "( c == 1 )", "length"]
+GUARDED = ["call WdfSpinLock{} l", "call WdfSpinLock{} m", "call WdfInterrupt{}Lock Line"]
 HANDLERS = ["EvtIoRead", "EvtIoWrite", "EvtIoDeviceControl"]
 
 
@@ -74,9 +77,24 @@ def statements(chance, calls, depth=0):
             lines += ["return SUCCESS"]
         elif kind < 0.4:
             lines += [f"spend {chance.randint(1, 4)}"]
+        elif kind < 0.6 and depth < 2 and ON_LOCKS[0] in calls:
+            lines += guarded(chance, calls, depth)
         else:
             lines += [chance.choice(calls)]
     return lines
+
+
+def guarded(chance, calls, depth):
+    """Random statements between an acquisition and a release, most often of one lock."""
+    taken = chance.choice(GUARDED)
+    given = taken if chance.random() < 0.9 else chance.choice(GUARDED)
+    acquire = taken.format("Acquire")
+    release = given.format("Release")
+    first = [chance.choice(ON_LOCKS[:2]), "if ( length != 0 )"]
+    inside = statements(chance, calls, depth + 1) if chance.random() < 0.6 else [f"spend {chance.randint(1, 4)}"]
+    if chance.random() < 0.8:
+        return [first[0], acquire, *inside, release]
+    return [*first, acquire, *inside, release, "end"]
 
 
 def queue(chance, name, scope, calls, stops):
@@ -100,7 +118,7 @@ def scenario(seed):
     chance = random.Random(seed)
     stops = chance.random() < 0.5
     sends = not stops and chance.random() < 0.5
-    calls = ON_REQUEST + (ON_LOCKS if chance.random() < 0.34 else ON_LOCKS[:4] if chance.random() < 0.5 else [])
+    calls = ON_REQUEST + (ON_LOCKS if chance.random() < 0.34 else ON_LOCKS[:2] if chance.random() < 0.8 else [])
     if sends:
         calls = calls + ["call s = WdfRequestSend request Below 0"]
     scope = chance.choice(["device", "queue"]) if stops else chance.choice([None, "device", "queue"])
@@ -129,6 +147,17 @@ def run(program, words, lines):
     return done.returncode, done.stdout.decode()
 
 
+def taken_before(lines, end):
+    """What goes where no line that is named can: the last acquisition before the end of its callback, or all of one too big."""
+    if lines[end - 1].startswith("on "):
+        stop = next(number for number in range(end, len(lines)) if lines[number].startswith("on "))
+        return [number for number in range(end + 1, stop) if lines[number - 1].startswith("call ")]
+    for number in range(end, 0, -1):
+        if "Acquire" in lines[number - 1] or lines[number - 1].startswith("on "):
+            return [number]
+    return []
+
+
 def repaired(program, lines):
     """The scenario without the lines that the check names, and how often it was checked; none where it isn't accepted."""
     for _ in range(200):
@@ -139,12 +168,20 @@ def repaired(program, lines):
             return None
         named = {int(line.split()[1]) for line in written.splitlines()}
         simple = {number for number in named if lines[number - 1].split()[0] in ("call", "let", "return")}
-        if simple:
-            lines = [line for number, line in enumerate(lines, 1) if number not in simple]
-        else:
-            # A callback that ends with a lock, or is too big: its statements that take locks go.
-            lines = [line for line in lines if "Acquire" not in line and "Release" not in line]
+        gone = simple or {number for end in named for number in taken_before(lines, end)}
+        lines = [line for number, line in enumerate(lines, 1) if number not in gone]
     return None
+
+
+def faults(trace):
+    """The faults of a run that the check is there to rule out, each with its line."""
+    parted = [(line.split(), line) for line in trace.splitlines()]
+    return [(words[3], line) for words, line in parted if words[2:3] == ["fault"] and words[3] in FAULTS]
+
+
+def counts(counter):
+    """What was counted, by name."""
+    return ", ".join(f"{name} {count}" for name, count in sorted(counter.items()))
 
 
 def main():
@@ -152,30 +189,32 @@ def main():
     words.add_argument("--program", default=PROGRAM)
     words.add_argument("--seeds", type=int, default=100)
     words.add_argument("--scenarios", type=int, default=100)
+    words.add_argument("--before", type=int, default=5)
     words.add_argument("--first", type=int, default=1)
     given = words.parse_args()
     program = program_at(given.program)
-    seen, runs, clean, bad = collections.Counter(), 0, 0, 0
+    seen, before, runs, clean, bad = collections.Counter(), collections.Counter(), 0, 0, 0
     for seed in range(given.first, given.first + given.scenarios):
-        lines = repaired(program, scenario(seed))
+        lines = scenario(seed)
+        for number in range(given.before):
+            before.update(fault for fault, _ in faults(run(program, f"seed {number}", lines)[1]))
+        lines = repaired(program, lines)
         if lines is None:
             continue
         clean += 1
         for number in range(given.seeds):
-            status, trace = run(program, f"seed {number}", lines)
+            trace = run(program, f"seed {number}", lines)[1]
             runs += 1
-            for line in trace.splitlines():
-                parts = line.split()
-                if len(parts) > 3 and parts[2] in ("call", "start"):
-                    seen[parts[3]] += 1
-                if len(parts) > 3 and parts[2] == "fault" and parts[3] in FAULTS:
-                    bad += 1
-                    path = f"lint-search-{seed}-{number}.scn"
-                    with open(path, "w", encoding="utf-8") as file:
-                        file.write("\n".join(lines) + "\n")
-                    print(f"seed {number} of {os.path.abspath(path)}: {line}")
+            seen.update(line.split()[3] for line in trace.splitlines() if line.split()[2:3] in (["call"], ["start"]))
+            for _, line in faults(trace):
+                bad += 1
+                path = f"lint-search-{seed}-{number}.scn"
+                with open(path, "w", encoding="utf-8") as file:
+                    file.write("\n".join(lines) + "\n")
+                print(f"seed {number} of {os.path.abspath(path)}: {line}")
     print(f"{clean} clean scenarios, {runs} runs, {bad} with a fault that the check rules out")
-    print(", ".join(f"{name} {count}" for name, count in sorted(seen.items())))
+    print("before the repair:", counts(before))
+    print("in the runs:", counts(seen))
     return 1 if bad else 0
 
 
