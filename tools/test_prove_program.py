@@ -26,7 +26,7 @@ RT = """#!/bin/sh
 echo "$(cut -d: -f1 crates.txt | tr '\\n' ' ')" >> "$CALLS"
 for crate in $(cut -d: -f1 crates.txt); do
     mkdir -p crates/$crate/out
-    [ -f crates/$crate/src/slow.rt ] && sleep 60
+    [ -f crates/$crate/src/slow.rt ] && sleep 120
     [ -f crates/$crate/src/wrong.rt ] && { echo "rt: $crate NOT PROVED"; echo "0 passed, 1 failed"; exit 1; }
     echo "rt: $crate proved"
 done
@@ -34,6 +34,11 @@ cat crates/mid/src/lib.rt > crates/kmdfsim/out/kmdfsim
 chmod +x crates/kmdfsim/out/kmdfsim
 echo "3 passed, 0 failed"
 """
+
+
+def heed_signals():
+    for number in (signal.SIGINT, signal.SIGTERM, signal.SIGHUP):
+        signal.signal(number, signal.SIG_DFL)
 
 
 class Tree:
@@ -60,16 +65,17 @@ class Tree:
 
     def begin(self, command):
         given = {**os.environ, "PATH": f"{self.top}/bin:{os.environ['PATH']}", "CALLS": self.calls, "TMPDIR": self.top, "XDG_CACHE_HOME": os.path.join(self.top, "cache")}
-        # A group of its own, to be sent a signal as one from a terminal.
+        # A group of its own, to be sent a signal as one from a terminal; where the gate runs in the background, signals that
+        # it was told to ignore count again.
         how = {"stdin": subprocess.DEVNULL, "stdout": subprocess.PIPE, "stderr": subprocess.PIPE, "text": True}
-        return subprocess.Popen([command], cwd=self.top, env=given, start_new_session=True, **how)
+        return subprocess.Popen([command], cwd=self.top, env=given, start_new_session=True, preexec_fn=heed_signals, **how)
 
     def call(self, command="./kmdfsim"):
         """The status, what was written and said, and which crates `rt` was called for."""
         if os.path.exists(self.calls):
             os.remove(self.calls)
         run = self.begin(command)
-        out, said = run.communicate(timeout=60)
+        out, said = run.communicate(timeout=600)
         return run.returncode, out, said, self.called()
 
     def called(self):
@@ -133,12 +139,12 @@ def says_what_failed(tree):
     check("the end of the log is shown", "rt: mid NOT PROVED" in said and "crates/kmdfsim/out/proving.log" in said, said)
     os.rename(os.path.join(tree.top, "crates/mid/src/wrong.rt"), os.path.join(tree.top, "crates/mid/src/slow.rt"))
     run = tree.begin("./kmdfsim")
-    for _ in range(100):
+    for _ in range(3000):
         time.sleep(0.1)
         if os.path.exists(os.path.join(tree.top, "crates/kmdfsim/out/proving.log")) and tree.called().count("\n") >= 1:
             break
     os.killpg(run.pid, signal.SIGINT)
-    out, said = run.communicate(timeout=30)
+    out, said = run.communicate(timeout=600)
     check("a stopped call runs nothing", (run.returncode, out) == (130, ""), run.returncode, out, said)
     check("and shows the end of the log", "stopped" in said and "proving.log" in said, said)
     left = [name for name in os.listdir(tree.top) if name.startswith("kmdfsim-proving")]
