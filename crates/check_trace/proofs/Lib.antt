@@ -3,3 +3,4 @@ pub mod Turns
 pub mod Upwards
 pub mod Numbers
 pub mod Broken
+pub mod Exactly

@@ -1,8 +1,9 @@
 //! The checker: the first law that is broken.
-ghost use Rattle.std.specs.Prelude.{◌≡◌, ◌<◌, length, slice_get, IfOk, Some};
+ghost use Rattle.std.specs.Prelude.{◌≡◌, ◌↔◌, ◌<◌, length, slice_get, IfOk, IsNone, Some};
 ghost use Rattle.wdf_laws.specs.First as first;
 ghost use Rattle.wdf_laws.specs.First.{IsFirstBroken};
 ghost use Rattle.check_past.specs.Past.{before};
+ghost use Rattle.law_trace_all.specs.Kept.{KeepsLaws};
 
 use crate::laws::{keeps_cancels, keeps_cleanups, keeps_completions, keeps_ends, keeps_scopes};
 use crate::order::keeps_order;
@@ -45,13 +46,8 @@ fn event_at(events: &[Event], k: usize) -> &Event
     &events[k]
 }
 
-/// The first law that is broken, and the place of the event that breaks it, counted from 1; None exactly where no law is
-/// broken. It is the least place, and there the least number.
-///
-/// # Errors
-///
-/// [`Memory`] where memory was refused. Nothing is said of the list then.
-pub fn check(alloc: Global, plan: &Plan, events: &[Event]) -> Result<Option<(u8, usize)>, Memory>
+/// The first law that is broken, with its place.
+fn first_broken(alloc: Global, plan: &Plan, events: &[Event]) -> Result<Option<(u8, usize)>, Memory>
     ensures { IfOk result (λ found. IsFirstBroken plan.now events.now found) }
 {
     let mut frames = Frames::make(alloc);
@@ -66,4 +62,19 @@ pub fn check(alloc: Global, plan: &Plan, events: &[Event]) -> Result<Option<(u8,
         past = past.step(alloc)?;
     }
     Ok(None)
+}
+
+/// The first law that is broken, and the place of the event that breaks it, counted from 1; None exactly where no law is
+/// broken. It is the least place, and there the least number.
+///
+/// # Errors
+///
+/// [`Memory`] where memory was refused. Nothing is said of the list then.
+pub fn check(alloc: Global, plan: &Plan, events: &[Event]) -> Result<Option<(u8, usize)>, Memory>
+    // A law that is broken is the first one. Where it is none, no law is broken at any place.
+    ensures first { IfOk result (λ found. IsFirstBroken plan.now events.now found) }
+    // It is none exactly where the list keeps the nine laws, in the words of the headline of `wdf_serve`.
+    ensures kept { IfOk result (λ found. IsNone found ↔ KeepsLaws plan.now events.now) }
+{
+    first_broken(alloc, plan, events)
 }
