@@ -70,9 +70,9 @@ HEAD = """# What one has to believe
 > writes is the text of a run of the written machine. It starts at the scenario's opening state, and includes every answer. The
 > run ends at a driver fault, at the event limit, or where the machine has no further step. And every such run keeps nine laws.
 
-It is said of the words `order`, `seed N` and `run`, where the status is 0, 3, 4 or 5. It is the clause `headline` in the contract
-of [`serve`](../crates/wdf_serve/src/program.rt), and the record `WroteSomeRun` spells it out. The other clauses say what else the
-program promises: which text is due with which status, for all words and all input.
+It is said of the words `order`, `seed N`, `run`, `idle` and `stack`, where the status is 0, 3, 4 or 5. It is the clause
+`headline` in the contract of [`serve`](../crates/wdf_serve/src/program.rt), and the record `WroteSomeRun` spells it out. The other
+clauses say what else the program promises: which text is due with which status, for all words and all input.
 
 Whether the clauses hold needs no trust: the prover checks it. What they *mean* does, and that is in the definitions below.
 They are {lines} lines in {files} of the repository's {all_files} files of definitions, and {type_lines} lines of plain types in {types} files of
