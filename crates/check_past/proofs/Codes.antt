@@ -1,6 +1,7 @@
 -- What is noted at the code of a sign.
 use Rattle.std.proofs.Common.{◌≡◌, ℕ, Bool, true, false, ◌&&◌, ◌||◌, cond, if◌then◌else◌, nat_eq, List, [], ◌∷◌, Option, Some, None, refl, ap, ◌∙◌}
 use Rattle.std.specs.Cmp.Lexicographic.{pointwise}
+use Rattle.std.proofs.Math.Bool.{and-false}
 use Rattle.wdf_base.specs.declared.event.Event.{Event}
 use Rattle.wdf_laws.specs.declared.sign.Sign.{Sign}
 use Rattle.wdf_laws.specs.declared.sign.Sign.TheVariants as sign
@@ -21,17 +22,13 @@ single_case true false true = refl
 single_case true false false = refl
 single_case false b c = refl
 
-none_case : (a : Bool) → (a && false) ≡ false
-none_case true = refl
-none_case false = refl
-
 single_same : (kind id : ℕ) (q : List ℕ) → pointwise nat_eq (kind ∷ id ∷ 0 ∷ []) q ≡ is_single kind (Some id) q
 single_same kind id [] = refl
-single_same kind id (k ∷ []) = none_case (nat_eq kind k)
-single_same kind id (k ∷ x ∷ []) = ap (λ b. nat_eq kind k && b) (none_case (nat_eq id x)) ∙ none_case (nat_eq kind k)
+single_same kind id (k ∷ []) = and-false (nat_eq kind k)
+single_same kind id (k ∷ x ∷ []) = ap (λ b. nat_eq kind k && b) (and-false (nat_eq id x)) ∙ and-false (nat_eq kind k)
 single_same kind id (k ∷ x ∷ y ∷ []) = single_case (nat_eq kind k) (nat_eq id x) (nat_eq 0 y)
 single_same kind id (k ∷ x ∷ y ∷ z ∷ zs) =
-    ap (λ b. nat_eq kind k && (nat_eq id x && b)) (none_case (nat_eq 0 y)) ∙ ap (λ b. nat_eq kind k && b) (none_case (nat_eq id x)) ∙ none_case (nat_eq kind k)
+    ap (λ b. nat_eq kind k && (nat_eq id x && b)) (and-false (nat_eq 0 y)) ∙ ap (λ b. nat_eq kind k && b) (and-false (nat_eq id x)) ∙ and-false (nat_eq kind k)
 
 pair_case : (a b c : Bool) → (a && (b && (c && true))) ≡ (a && (b && c))
 pair_case true true true = refl
@@ -41,11 +38,11 @@ pair_case false b c = refl
 
 pair_same : (kind r s : ℕ) (q : List ℕ) → pointwise nat_eq (kind ∷ r ∷ s ∷ []) q ≡ is_pair kind (Some (record { request = r; queue = s })) q
 pair_same kind r s [] = refl
-pair_same kind r s (k ∷ []) = none_case (nat_eq kind k)
-pair_same kind r s (k ∷ x ∷ []) = ap (λ b. nat_eq kind k && b) (none_case (nat_eq r x)) ∙ none_case (nat_eq kind k)
+pair_same kind r s (k ∷ []) = and-false (nat_eq kind k)
+pair_same kind r s (k ∷ x ∷ []) = ap (λ b. nat_eq kind k && b) (and-false (nat_eq r x)) ∙ and-false (nat_eq kind k)
 pair_same kind r s (k ∷ x ∷ y ∷ []) = pair_case (nat_eq kind k) (nat_eq r x) (nat_eq s y)
 pair_same kind r s (k ∷ x ∷ y ∷ z ∷ zs) =
-    ap (λ b. nat_eq kind k && (nat_eq r x && b)) (none_case (nat_eq s y)) ∙ ap (λ b. nat_eq kind k && b) (none_case (nat_eq r x)) ∙ none_case (nat_eq kind k)
+    ap (λ b. nat_eq kind k && (nat_eq r x && b)) (and-false (nat_eq s y)) ∙ ap (λ b. nat_eq kind k && b) (and-false (nat_eq r x)) ∙ and-false (nat_eq kind k)
 
 pub single_noted : (kind id n : ℕ) (q : List ℕ) (o o' : Option ℕ) → o' ≡ cond (pointwise nat_eq (kind ∷ id ∷ 0 ∷ []) q) (Some n) o → or_zero o' ≡ noted kind (Some id) n q (or_zero o)
 unfolding noted
@@ -55,7 +52,7 @@ none_single : (kind : ℕ) (q : List ℕ) → is_single kind None q ≡ false
 none_single kind [] = refl
 none_single kind (k ∷ []) = refl
 none_single kind (k ∷ x ∷ []) = refl
-none_single kind (k ∷ x ∷ y ∷ []) = ap (λ b. nat_eq kind k && b) (none_case (nat_eq 0 y)) ∙ none_case (nat_eq kind k)
+none_single kind (k ∷ x ∷ y ∷ []) = ap (λ b. nat_eq kind k && b) (and-false (nat_eq 0 y)) ∙ and-false (nat_eq kind k)
 none_single kind (k ∷ x ∷ y ∷ z ∷ zs) = refl
 
 pub none_noted : (kind n : ℕ) (q : List ℕ) (kept : ℕ) → kept ≡ noted kind None n q kept
@@ -70,7 +67,7 @@ none_pair : (kind : ℕ) (q : List ℕ) → is_pair kind None q ≡ false
 none_pair kind [] = refl
 none_pair kind (k ∷ []) = refl
 none_pair kind (k ∷ x ∷ []) = refl
-none_pair kind (k ∷ x ∷ y ∷ []) = none_case (nat_eq kind k)
+none_pair kind (k ∷ x ∷ y ∷ []) = and-false (nat_eq kind k)
 none_pair kind (k ∷ x ∷ y ∷ z ∷ zs) = refl
 
 pub no_pair_noted : (kind n : ℕ) (q : List ℕ) (kept : ℕ) → kept ≡ noted_pair kind None n q kept
@@ -88,25 +85,6 @@ either false false n kept = refl
 -- at the code of a sign the number is noted where the event shows the sign
 pub sign_noted : (s : Sign) (e : Event) (n kept : ℕ) → noted_all e n (code_of s) kept ≡ (if shows s e then n else kept)
 unfolding noted noted_pair
-sign_noted (sign.Arrival r) e n kept = refl
-sign_noted (sign.Completion r) e n kept = refl
-sign_noted (sign.TakingFrom r q) e n kept = refl
-sign_noted (sign.GivingUp r) e n kept = refl
-sign_noted (sign.AtHead r) e n kept = refl
 sign_noted (sign.Entry r) e n kept = either _ _ n kept
-sign_noted (sign.Acknowledgement r) e n kept = refl
-sign_noted (sign.CancelPosted r) e n kept = refl
-sign_noted (sign.CancelBegins r) e n kept = refl
-sign_noted (sign.Marked r) e n kept = refl
-sign_noted (sign.MarkUndone r) e n kept = refl
-sign_noted (sign.Enabled i) e n kept = refl
-sign_noted (sign.Disabled i) e n kept = refl
-sign_noted (sign.QueuesUp d) e n kept = refl
-sign_noted (sign.QueuesDown d) e n kept = refl
-sign_noted (sign.Entered d) e n kept = refl
 sign_noted (sign.NotEntered d) e n kept = either _ _ n kept
-sign_noted (sign.ExitBegins d) e n kept = refl
-sign_noted (sign.Cleaned o) e n kept = refl
-sign_noted (sign.Destroyed o) e n kept = refl
-sign_noted (sign.Referenced o) e n kept = refl
-sign_noted (sign.Dereferenced o) e n kept = refl
+sign_noted _ e n kept = refl

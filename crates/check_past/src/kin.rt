@@ -1,7 +1,6 @@
 //! Parents and classes, and the scope locks of callbacks, from the whole list.
 ghost use Rattle.std.specs.Prelude.{◌≡◌, ℕ, nat_eq, length, OnOk, IfOk};
 ghost use Rattle.std.specs.HashMap.{get};
-ghost use Rattle.wdf_base.specs.Plan.{declared_of};
 ghost use Rattle.wdf_laws.specs.Events as told;
 ghost use Rattle.wdf_laws.specs.Family as family;
 ghost use Rattle.check_past.specs.Kin as kin;
@@ -14,6 +13,7 @@ use std::alloc::Global;
 use std::collections::HashMap;
 use std::marker::Model;
 use wdf_base::{Callback, Declared, Event, LockRef, Memory, ObjectId, Plan};
+use wdf_declared::declared_at;
 use wdf_laws::Told;
 use wdf_lock::scope_of;
 
@@ -59,17 +59,6 @@ fn read_told(alloc: Global, plan: &Plan, all: &[Event]) -> Result<HashMap<u32, T
         keep_told(&mut kept, told(plan, event))?;
     }
     Ok(kept)
-}
-
-/// What is declared under an id, if anything is.
-fn declared_of(plan: &Plan, o: u32) -> Option<Declared>
-    ensures { result ≡ declared_of plan.now o }
-{
-    if o == 0 {
-        None
-    } else {
-        plan.declared.as_slice().get(o as usize - 1).copied()
-    }
 }
 
 fn declared_parent(declared: &Declared) -> u32
@@ -136,7 +125,7 @@ impl<'a> Kin<'a> {
     pub fn parent_of(&self, o: u32) -> u32
         ensures { result ≡ family.parent_of self.now.plan self.now.all o }
     {
-        match declared_of(self.plan, o) {
+        match declared_at(self.plan, ObjectId(o)) {
             Some(declared) => declared_parent(&declared),
             None => told_parent(self.first_told(o)),
         }
@@ -145,7 +134,7 @@ impl<'a> Kin<'a> {
     fn made_as(&self, o: u32) -> Option<Declared>
         ensures { result ≡ family.made_as self.now.plan self.now.all o }
     {
-        match declared_of(self.plan, o) {
+        match declared_at(self.plan, ObjectId(o)) {
             Some(declared) => Some(declared),
             None => told_class(self.first_told(o)),
         }

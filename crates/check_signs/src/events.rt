@@ -1,13 +1,13 @@
 //! What one event is.
 ghost use Rattle.std.specs.Prelude.{◌≡◌};
 ghost use Rattle.wdf_laws.specs.Events as told;
-ghost use Rattle.wdf_model.specs.Plans as plans;
 ghost use Rattle.wdf_model.specs.rules.Faults as faults;
 
 use wdf_base::{
-    Arg, Call, CallKind, Callback, ClassInfo, Event, Handle, Plan, Post, Rank, Stage, Status,
-    Value, same_callback, same_status,
+    Arg, Call, CallKind, Callback, Event, Handle, Plan, Post, Rank, Stage, Status, Value,
+    same_callback, same_status,
 };
+use wdf_declared::parent_of_class;
 use wdf_laws::{Taking, Told};
 use wdf_same::{same_call_kind, same_stage};
 
@@ -463,15 +463,6 @@ fn is_made_under_argument(kind: CallKind) -> bool
     )
 }
 
-fn parent_of_class(plan: &Plan, class: u16) -> u32
-    ensures { result ≡ plans.parent_of_class plan.now class }
-{
-    match plan.classes.as_slice().get(class as usize) {
-        Some(ClassInfo::Deferred { parent, .. }) => parent.0,
-        _ => 0,
-    }
-}
-
 fn told_by_call(plan: &Plan, call: &Call, answer: Value) -> Option<Told>
     ensures { result ≡ told.told_by_call plan.now call.now.kind call.now.a call.now.b answer }
 {
@@ -480,7 +471,7 @@ fn told_by_call(plan: &Plan, call: &Call, answer: Value) -> Option<Told>
         Arg::Class(class) => {
             if is_made_under_class(call.kind) {
                 told_of(
-                    parent_of_class(plan, class),
+                    parent_of_class(plan, class).0,
                     Some(class),
                     value_object(answer),
                 )

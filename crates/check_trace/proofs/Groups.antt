@@ -3,6 +3,7 @@ use Rattle.std.proofs.Common.{◌≡◌, ℕ, zero, suc, ◌+◌, Bool, true, fa
 use Rattle.std.specs.List.{list_all}
 use Rattle.std.proofs.lemmas.List.{take_all}
 use Rattle.std.proofs.lemmas.List.Folds.{list_all-append}
+use Rattle.std.proofs.Math.Bool.{and-true, or-true}
 use Rattle.wdf_base.specs.declared.plan.Plan.{Plan}
 use Rattle.wdf_base.specs.declared.declared.QueueInfo.{QueueInfo}
 use Rattle.wdf_base.specs.declared.event.Event.{Event}
@@ -18,17 +19,13 @@ use Rattle.check_past.specs.Past.{Read, before}
 use Rattle.check_trace.specs.Tests.{is_done, has_ended, is_answered}
 use Rattle.check_past.proofs.Words.{step_in, at_next}
 
-and_true : (a : Bool) → (a && true) ≡ a
-and_true true = refl
-and_true false = refl
-
 -- one item more, asked too
 all_next : {X : Type 0} (p : X → Bool) (xs : List X) (x : X) → list_all p (xs ++ x ∷ []) ≡ (list_all p xs && p x)
-all_next p xs x = list_all-append p xs (x ∷ []) ∙ ap (λ b. list_all p xs && b) (and_true (p x))
+all_next p xs x = list_all-append p xs (x ∷ []) ∙ ap (λ b. list_all p xs && b) (and-true (p x))
 
 added_case : {X : Type 0} (p : X → Bool) (x : X) (xs : List X) (b : Bool) → list_all p (if b then xs ++ x ∷ [] else xs) ≡ (list_all p xs && (not b || p x))
 added_case p x xs true = all_next p xs x
-added_case p x xs false = sym (and_true (list_all p xs))
+added_case p x xs false = sym (and-true (list_all p xs))
 
 -- an item that is added where its id is this one
 all_added : {X : Type 0} (p : X → Bool) (id : Option ℕ) (x : X) (q : ℕ) (xs : List X) → list_all p (added_at id x q xs) ≡ (list_all p xs && (not (is_id q id) || p x))
@@ -36,12 +33,8 @@ all_added p id x q xs = added_case p x xs (is_id q id)
 
 -- ---- the requests of a device
 
-or_true : (a : Bool) → (a || true) ≡ true
-or_true true = refl
-or_true false = refl
-
 arrival_asked : (es : List Event) (d : ℕ) (device r : Option ℕ) (xs : List ℕ) → list_all (is_done es) (with_arrival d device r xs) ≡ (list_all (is_done es) xs && (not (is_id d device) || is_completed es r))
-arrival_asked es d device None xs = sym (and_true _) ∙ ap (λ b. list_all (is_done es) xs && b) (sym (or_true (not (is_id d device))))
+arrival_asked es d device None xs = sym (and-true _) ∙ ap (λ b. list_all (is_done es) xs && b) (sym (or-true (not (is_id d device))))
 arrival_asked es d device (Some r) xs = all_added (is_done es) device r d xs
 
 arrival_in : (es : List Event) (d : ℕ) (o : Option Event) (xs : List ℕ) → list_all (is_done es) (with_arrival_in d o xs) ≡ step_in (λ b e. b && is_settled es d e) (list_all (is_done es) xs) o
@@ -74,7 +67,7 @@ or_assoc true b c = refl
 or_assoc false b c = refl
 
 taking_asked : (plan : Plan) (es : List Event) (d : ℕ) (t : Option Taking) (xs : List Taking) → list_all (is_answered es d) (with_taking plan d t xs) ≡ (list_all (is_answered es d) xs && is_acknowledged plan es d t)
-taking_asked plan es d None xs = sym (and_true _)
+taking_asked plan es d None xs = sym (and-true _)
 taking_asked plan es d (Some t) xs =
     all_added (is_answered es d) (manager (queue_of plan t.queue)) t d xs
     ∙ ap (λ b. list_all (is_answered es d) xs && (not b || is_answered es d t)) (managed_is d (queue_of plan t.queue))
@@ -106,7 +99,7 @@ declared_by plan all es o (suc n) =
     ∙ ap (λ b. b && is_ended_child plan all es o (n + 1)) (declared_by plan all es o n)
 
 child_asked : (plan : Plan) (all es : List Event) (o : ℕ) (t : Option Told) (xs : List ℕ) → list_all (has_ended es) (with_child plan all o t xs) ≡ (list_all (has_ended es) xs && is_ended_told plan all es o t)
-child_asked plan all es o None xs = sym (and_true _)
+child_asked plan all es o None xs = sym (and-true _)
 child_asked plan all es o (Some t) xs = all_added (has_ended es) (Some (parent_of plan all t.object)) t.object o xs
 
 child_in : (plan : Plan) (all es : List Event) (o : ℕ) (x : Option Event) (xs : List ℕ)
@@ -125,7 +118,7 @@ within_step f a b (Some e) = and_assoc a b (f e)
 ended_by : (plan : Plan) (all es : List Event) (o k : ℕ)
     → list_all (has_ended es) (children_by plan all o k) ≡ (declared_ended plan all es o (length plan.declared) && list_all (is_ended_at plan all es o) (take k all))
 unfolding children_by
-ended_by plan all es o zero = declared_by plan all es o (length plan.declared) ∙ sym (and_true _)
+ended_by plan all es o zero = declared_by plan all es o (length plan.declared) ∙ sym (and-true _)
 ended_by plan all es o (suc k) =
     child_in plan all es o (slice_get all k) (children_by plan all o k)
     ∙ ap (λ b. step_in (λ c e. c && is_ended_at plan all es o e) b (slice_get all k)) (ended_by plan all es o k)

@@ -6,6 +6,7 @@ use Rattle.std.proofs.lemmas.Bool.Decides.{nat_tests}
 use Rattle.std.proofs.lemmas.List.{take-take, drop_all, drop-append-le, length-take, length-take-le}
 use Rattle.std.proofs.lemmas.List.Folds.{list_any-append}
 use Rattle.std.proofs.lemmas.Option.{slice_get_within}
+use Rattle.std.proofs.Math.Bool.{and-true}
 use Rattle.wdf_base.specs.declared.event.Event.{Event}
 use Rattle.wdf_laws.specs.declared.sign.Sign.{Sign}
 use Rattle.wdf_laws.specs.declared.sign.Sign.TheVariants as sign
@@ -143,10 +144,6 @@ turn_is all k n r r2 h =
 
 -- ---- what a queue has presented, one presentation more
 
-and_true : (a : Bool) → (a && true) ≡ a
-and_true true = refl
-and_true false = refl
-
 abbrev pub next_by : ℕ → Bool → ℕ → ℕ → List Shown → Bool
 next_by entry at_head te tn hs = (entry == 0) || (if at_head then nat_le tn entry && not (list_any (covers entry) hs) else nat_lt te entry)
 
@@ -173,10 +170,10 @@ shown_case q k entry te tn queue earlier true true true hs h h0 h1 h2 =
 shown_case q k entry te tn queue earlier false true true hs h h0 h1 h2 = head_tail k entry earlier te
 shown_case q k entry te tn queue earlier true false true hs h h0 h1 h2 = rw h (tail_head k entry earlier tn (list_any (covers entry) hs) h0 h1 h2)
 shown_case q k entry te tn queue earlier false false true hs h h0 h1 h2 = rw h (tail_tail k entry earlier te h0 h1)
-shown_case q k entry te tn queue earlier true true false hs h h0 h1 h2 = rw h (sym (and_true _))
-shown_case q k entry te tn queue earlier false true false hs h h0 h1 h2 = sym (and_true _)
-shown_case q k entry te tn queue earlier true false false hs h h0 h1 h2 = rw h (sym (and_true _))
-shown_case q k entry te tn queue earlier false false false hs h h0 h1 h2 = rw h (sym (and_true _))
+shown_case q k entry te tn queue earlier true true false hs h h0 h1 h2 = rw h (sym (and-true _))
+shown_case q k entry te tn queue earlier false true false hs h h0 h1 h2 = sym (and-true _)
+shown_case q k entry te tn queue earlier true false false hs h h0 h1 h2 = rw h (sym (and-true _))
+shown_case q k entry te tn queue earlier false false false hs h h0 h1 h2 = rw h (sym (and-true _))
 
 -- a presentation of one that hadn't
 unseen : (b hk at_head : Bool) (k entry earlier : ℕ) → nat_lt 0 earlier ≡ false → (not b || is_turn k entry earlier at_head hk) ≡ true
@@ -190,7 +187,7 @@ seen_case all q k entry te tn at_head b true t hs h seen h1 h2 =
     let h0 : 0 < last (sign.Entry t.request) all k = grind (arith, nat_tests) in
     shown_case q k entry te tn t.queue (last (sign.Entry t.request) all k) at_head (came_at_head (take k all) t.request) b hs h h0 h1 h2
 seen_case all q k entry te tn at_head b false t hs h seen h1 h2 =
-    sym (and_true _) ∙ ap (λ c. next_by entry at_head te tn hs && c) (sym (unseen b (came_at_head (take k all) t.request) at_head k entry (last (sign.Entry t.request) all k) seen))
+    sym (and-true _) ∙ ap (λ c. next_by entry at_head te tn hs && c) (sym (unseen b (came_at_head (take k all) t.request) at_head k entry (last (sign.Entry t.request) all k) seen))
 
 -- the test of one presentation, by its queue
 queue_case : (all : List Event) (k n : ℕ) (t later : Taking) (b : Bool) → nat_eq t.queue later.queue ≡ b → k ≤ n
@@ -204,7 +201,7 @@ next_in : (all : List Event) (k n te tn : ℕ) (later : Taking) (hs : List Shown
     let at_head : Bool = came_at_head (take n all) later.request in
     next_by entry at_head (with_entry later.queue (shown_by all k p) te) (with_number later.queue (shown_by all k p) tn) (with_head later.queue (shown_by all k p) hs)
     ≡ (next_by entry at_head te tn hs && is_in_turn (take k all) (drop k (take n all)) later p)
-next_in all k n te tn later hs None le h = sym (and_true _)
+next_in all k n te tn later hs None le h = sym (and-true _)
 next_in all k n te tn later hs (Some t) le h =
     seen_case all later.queue k (last (sign.Entry later.request) all n) te tn (came_at_head (take n all) later.request) (nat_eq t.queue later.queue) (nat_lt 0 (last (sign.Entry t.request) all k)) t hs refl refl (last_within (sign.Entry t.request) all k) h
     ∙ ap (λ c. next_by (last (sign.Entry later.request) all n) (came_at_head (take n all) later.request) te tn hs && c) (queue_case all k n t later (nat_eq t.queue later.queue) refl le)

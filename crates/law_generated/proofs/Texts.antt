@@ -5,6 +5,7 @@ use Rattle.std.specs.List.{list_all}
 use Rattle.std.proofs.Math.Nat.{mod-lt}
 use Rattle.std.proofs.lemmas.Bool.{lt-ltb}
 use Rattle.std.proofs.lemmas.List.Folds.{list_all-append}
+use Rattle.wdf_base.proofs.Tests.{both_left, both_right}
 use Rattle.wdf_scene.specs.declared.block.Block.TheVariants as block
 use Rattle.wdf_scene.specs.declared.line.SceneLine.{SceneLine}
 use Rattle.wdf_scene.specs.declared.line.SceneLine.TheVariants as line
@@ -76,14 +77,6 @@ text_good ws =
     (both_good (head_lines ++ a0) a1
     (both_good head_lines a0 head_good (app_good (codes "A0") 0 ws refl)) (app_good (codes "A1") 1 ws refl)) (app_good (codes "A2") 2 ws refl)) (app_good (codes "A3") 3 ws refl)
 
-first_of_both : (a b : Bool) → (a && b) ≡ true → a ≡ true
-first_of_both true b h = refl
-first_of_both false b h = absurd (let z : ⊥ = cc in z)
-
-second_of_both : (a b : Bool) → (a && b) ≡ true → b ≡ true
-second_of_both true b h = h
-second_of_both false b h = absurd (let z : ⊥ = cc in z)
-
 -- ---- the printed text is read as these lines
 
 line_spelled : (k : ℕ) (ts : List Token) (rest : List ℕ) (ls : List TokenLine) → list_all is_token ts ≡ true → is_there ts ≡ true → token_lines (suc k) (lines_of rest) ≡ Some ls → token_lines k (lines_of (line_text ts ++ rest)) ≡ Some (record { number = k; tokens = ts } ∷ ls)
@@ -96,18 +89,18 @@ line_spelled k (t ∷ ts) rest ls fit there behind =
 text_spelled : (k : ℕ) (ws : List Written) → list_all is_good ws ≡ true → token_lines k (lines_of (flat_map written_text (numbered k ws))) ≡ Some (map spelled_line (numbered k ws))
 text_spelled k [] h = refl
 text_spelled k (w ∷ ws) h =
-    let here = second_of_both (is_written w) (list_all is_token (written_tokens w) && is_there (written_tokens w)) (first_of_both (is_good w) (list_all is_good ws) h) in
+    let here = both_right (is_written w) (list_all is_token (written_tokens w) && is_there (written_tokens w)) (both_left (is_good w) (list_all is_good ws) h) in
     line_spelled k (written_tokens w) (flat_map written_text (numbered (suc k) ws)) (map spelled_line (numbered (suc k) ws))
-    (first_of_both (list_all is_token (written_tokens w)) (is_there (written_tokens w)) here)
-    (second_of_both (list_all is_token (written_tokens w)) (is_there (written_tokens w)) here)
-    (text_spelled (suc k) ws (second_of_both (is_good w) (list_all is_good ws) h))
+    (both_left (list_all is_token (written_tokens w)) (is_there (written_tokens w)) here)
+    (both_right (list_all is_token (written_tokens w)) (is_there (written_tokens w)) here)
+    (text_spelled (suc k) ws (both_right (is_good w) (list_all is_good ws) h))
 
 all_written : (k : ℕ) (ws : List Written) → list_all is_good ws ≡ true → list_all (λ (w : WrittenLine). is_written w.written) (numbered k ws) ≡ true
 all_written k [] h = refl
 all_written k (w ∷ ws) h =
-    let here = first_of_both (is_written w) (list_all is_token (written_tokens w) && is_there (written_tokens w)) (first_of_both (is_good w) (list_all is_good ws) h) in
+    let here = both_left (is_written w) (list_all is_token (written_tokens w) && is_there (written_tokens w)) (both_left (is_good w) (list_all is_good ws) h) in
     ap (λ b. b && list_all (λ (v : WrittenLine). is_written v.written) (numbered (suc k) ws)) here
-    ∙ all_written (suc k) ws (second_of_both (is_good w) (list_all is_good ws) h)
+    ∙ all_written (suc k) ws (both_right (is_good w) (list_all is_good ws) h)
 
 -- ---- each line is where it may be
 

@@ -14,7 +14,8 @@ use Rattle.wdf_model.specs.rules.Starts.{may_pass, stage_effect}
 use Rattle.wdf_model.proofs.Sames.{handle_decides}
 use Rattle.law_machine_once.specs.Owned.{IsStepOf, StepsOwned}
 use Rattle.law_machine_once.proofs.Steps.{steps_owned_at_each}
-use Rattle.wdf_trace.specs.Events.{is_for_interrupt, IsOptionalOf}
+use Rattle.wdf_base.specs.Stages.{is_for_interrupt}
+use Rattle.wdf_trace.specs.Events.{IsOptionalOf}
 use Rattle.law_lines.proofs.ProperNames.{name_of_interrupt}
 use Rattle.wdf_base.specs.Meaning.{Meaning}
 use Rattle.wdf_base.specs.Resolved.{IsResolved}

@@ -65,22 +65,16 @@ log_moves_frame plan m S cpu v f h =
 -- ---- what is named isn't gone
 
 asked_is_there : (l : Life) → is_asked l ≡ true → is_gone l ≡ false
-asked_is_there life.Live h = refl
-asked_is_there life.Asked h = refl
-asked_is_there life.Cleaned h = refl
 asked_is_there life.Gone h = absurd (let z : ⊥ = cc in z)
+asked_is_there _ h = refl
 
 cleaned_is_there : (l : Life) → is_cleaned l ≡ true → is_gone l ≡ false
-cleaned_is_there life.Live h = refl
-cleaned_is_there life.Asked h = refl
-cleaned_is_there life.Cleaned h = refl
 cleaned_is_there life.Gone h = absurd (let z : ⊥ = cc in z)
+cleaned_is_there _ h = refl
 
 live_is_there : (l : Life) → is_live l ≡ true → is_gone l ≡ false
-live_is_there life.Live h = refl
-live_is_there life.Asked h = refl
-live_is_there life.Cleaned h = refl
 live_is_there life.Gone h = absurd (let z : ⊥ = cc in z)
+live_is_there _ h = refl
 
 fitting_is_there : {A : Type 0} (S : State A) (c : Callback) (o : ℕ) → life_fits S c o ≡ true → is_gone (life_of S.tree o) ≡ false
 fitting_is_there S callback.EvtCleanupCallback o h = asked_is_there (life_of S.tree o) h

@@ -6,5 +6,4 @@ use Rattle.law_machine_base.specs.FactsOfLocks.{locks_under, locks_expected}
 
 pub each_lock : (s : Scope) → locks_under s ≡ locks_expected s
 each_lock scope.PerDevice = refl
-each_lock scope.PerQueue = refl
-each_lock scope.Unscoped = refl
+each_lock _ = refl

@@ -63,11 +63,7 @@ use Rattle.law_machine_base.proofs.FitsOfCalls.{outcome_fits}
 
 sent_somewhere : (t : ℕ) (p : Place) → is_sent_to t p ≡ true → is_sent p ≡ true
 sent_somewhere t (place.Sent u) h = refl
-sent_somewhere t (place.Queued q) h = h
-sent_somewhere t (place.Returning q) h = h
-sent_somewhere t (place.Closing s) h = h
-sent_somewhere t place.Owned h = h
-sent_somewhere t place.Done h = h
+sent_somewhere t _ h = h
 
 there_is : (found : Option Step) (s : Step) → same_option same_step found (Some s) ≡ true → is_some found ≡ true
 there_is None s h = h
@@ -234,11 +230,7 @@ stage_fits plan S d s i h =
 
 closes : (p : Place) (s : Status) → is_closing_with p s ≡ true → is_closing p ≡ true
 closes (place.Closing t) s h = refl
-closes (place.Queued q) s h = h
-closes (place.Returning q) s h = h
-closes place.Owned s h = h
-closes (place.Sent t) s h = h
-closes place.Done s h = h
+closes _ s h = h
 
 -- ---- posts
 

@@ -144,88 +144,49 @@ still_given S U r g h =
 -- ---- places
 
 pub owned_undone : (p : Place) → is_owned p ≡ true → is_done p ≡ false
-owned_undone place.Owned h = refl
-owned_undone (place.Queued q) h = refl
-owned_undone (place.Returning q) h = refl
-owned_undone (place.Closing s) h = refl
-owned_undone (place.Sent t) h = refl
 owned_undone place.Done h = absurd (let z : ⊥ = cc in z)
+owned_undone _ h = refl
 
 owned_still : (p : Place) → is_owned p ≡ true → is_still p ≡ true
-owned_still place.Owned h = refl
 owned_still (place.Queued q) h = absurd (let z : ⊥ = cc in z)
-owned_still (place.Returning q) h = refl
-owned_still (place.Closing s) h = refl
 owned_still (place.Sent t) h = absurd (let z : ⊥ = cc in z)
-owned_still place.Done h = refl
+owned_still _ h = refl
 
 reached_undone : (p : Place) → is_reached p ≡ true → is_done p ≡ false
-reached_undone place.Owned h = refl
-reached_undone (place.Queued q) h = refl
-reached_undone (place.Returning q) h = refl
-reached_undone (place.Closing s) h = refl
-reached_undone (place.Sent t) h = refl
 reached_undone place.Done h = absurd (let z : ⊥ = cc in z)
+reached_undone _ h = refl
 
 pub closing_undone : (p : Place) → is_closing p ≡ true → (is_done p ≡ false) × (is_still p ≡ true) × (is_made_place p ≡ false)
 closing_undone (place.Closing s) h = (refl, refl, refl)
-closing_undone place.Owned h = absurd (let z : ⊥ = cc in z)
-closing_undone (place.Queued q) h = absurd (let z : ⊥ = cc in z)
-closing_undone (place.Returning q) h = absurd (let z : ⊥ = cc in z)
-closing_undone (place.Sent t) h = absurd (let z : ⊥ = cc in z)
-closing_undone place.Done h = absurd (let z : ⊥ = cc in z)
+closing_undone _ h = absurd (let z : ⊥ = cc in z)
 
 returning_undone : (q : ℕ) (p : Place) → is_returning_to q p ≡ true → (is_done p ≡ false) × (is_still p ≡ true) × (is_made_place p ≡ false)
 returning_undone q (place.Returning r) h = (refl, refl, refl)
-returning_undone q place.Owned h = absurd (let z : ⊥ = cc in z)
-returning_undone q (place.Queued r) h = absurd (let z : ⊥ = cc in z)
-returning_undone q (place.Closing s) h = absurd (let z : ⊥ = cc in z)
-returning_undone q (place.Sent t) h = absurd (let z : ⊥ = cc in z)
-returning_undone q place.Done h = absurd (let z : ⊥ = cc in z)
+returning_undone q _ h = absurd (let z : ⊥ = cc in z)
 
 queued_unmade : (q : ℕ) (p : Place) → is_queued_in q p ≡ true → is_made_place p ≡ false
 queued_unmade q (place.Queued r) h = refl
-queued_unmade q (place.Returning r) h = absurd (let z : ⊥ = cc in z)
-queued_unmade q place.Owned h = absurd (let z : ⊥ = cc in z)
-queued_unmade q (place.Closing s) h = absurd (let z : ⊥ = cc in z)
-queued_unmade q (place.Sent t) h = absurd (let z : ⊥ = cc in z)
-queued_unmade q place.Done h = absurd (let z : ⊥ = cc in z)
+queued_unmade q _ h = absurd (let z : ⊥ = cc in z)
 
 unmade_unsent : (t : ℕ) (p : Place) → is_made_place p ≡ false → is_sent_to t p ≡ false
-unmade_unsent t (place.Queued r) h = refl
-unmade_unsent t (place.Returning r) h = refl
-unmade_unsent t (place.Closing s) h = refl
-unmade_unsent t place.Owned h = refl
 unmade_unsent t (place.Sent u) h = absurd (let z : ⊥ = cc in z)
-unmade_unsent t place.Done h = refl
+unmade_unsent t _ h = refl
 
 unmade_undone : (p : Place) → is_made_place p ≡ false → is_done p ≡ false
-unmade_undone (place.Queued r) h = refl
-unmade_undone (place.Returning r) h = refl
-unmade_undone (place.Closing s) h = refl
-unmade_undone place.Owned h = refl
-unmade_undone (place.Sent u) h = refl
 unmade_undone place.Done h = absurd (let z : ⊥ = cc in z)
+unmade_undone _ h = refl
 
 sent_is_reached : (p : Place) → is_sent p ≡ true → is_done p ≡ false
-sent_is_reached (place.Sent t) h = refl
-sent_is_reached (place.Queued r) h = refl
-sent_is_reached (place.Returning r) h = refl
-sent_is_reached (place.Closing s) h = refl
-sent_is_reached place.Owned h = refl
 sent_is_reached place.Done h = absurd (let z : ⊥ = cc in z)
+sent_is_reached _ h = refl
 
 withdrawn_by : (b : Bool) (q : ℕ) → (is_still (if b then place.Returning (record { 0 = q }) else place.Closing status.Cancelled) ≡ true) × (is_made_place (if b then place.Returning (record { 0 = q }) else place.Closing status.Cancelled) ≡ false)
 withdrawn_by true q = (refl, refl)
 withdrawn_by false q = (refl, refl)
 
 held_undone : (forgotten : Bool) (p : Place) → held_at forgotten p ≡ true → is_done p ≡ false
-held_undone forgotten place.Owned h = refl
-held_undone forgotten (place.Sent t) h = refl
-held_undone forgotten (place.Queued q) h = refl
-held_undone forgotten (place.Returning q) h = refl
-held_undone forgotten (place.Closing s) h = refl
 held_undone forgotten place.Done h = absurd (let z : ⊥ = cc in z)
+held_undone forgotten _ h = refl
 
 -- a request that is where none is that the driver made
 pub came_by_place : {F B : ℕ → Bool} {R : Requests} {Q : Queues} {T : Targets} {N : Tree} (r : ℕ) → Kept F B R Q T N → is_made_place (place_of R r) ≡ false → arrived R r ≡ true
@@ -412,12 +373,9 @@ unmarked_place q false e = rw e (refl, refl)
 
 -- what the framework is done with is in no queue and at no target
 over_still : (p : Place) (b : Bool) → (is_done p || (is_owned p && b)) ≡ true → is_still p ≡ true
-over_still place.Owned b h = refl
-over_still place.Done b h = refl
 over_still (place.Queued q) b h = absurd (let z : ⊥ = cc in z)
-over_still (place.Returning q) b h = refl
-over_still (place.Closing s) b h = refl
 over_still (place.Sent t) b h = absurd (let z : ⊥ = cc in z)
+over_still _ b h = refl
 
 -- what isn't sent isn't to be forgotten
 fewer_forgotten : (T : Targets) (t r : ℕ) → sends T t r ≡ 0 → forgets T t r ≡ 0

@@ -26,36 +26,20 @@ is_still _ = true
 
 pub still_unqueued : (q : ℕ) (p : Place) → is_still p ≡ true → is_queued_in q p ≡ false
 still_unqueued q (place.Queued r) h = absurd (let z : ⊥ = cc in z)
-still_unqueued q (place.Returning r) h = refl
-still_unqueued q (place.Closing s) h = refl
-still_unqueued q place.Owned h = refl
-still_unqueued q (place.Sent t) h = refl
-still_unqueued q place.Done h = refl
+still_unqueued q _ h = refl
 
 pub still_unsent : (t : ℕ) (p : Place) → is_still p ≡ true → is_sent_to t p ≡ false
-still_unsent t (place.Queued r) h = refl
-still_unsent t (place.Returning r) h = refl
-still_unsent t (place.Closing s) h = refl
-still_unsent t place.Owned h = refl
 still_unsent t (place.Sent u) h = absurd (let z : ⊥ = cc in z)
-still_unsent t place.Done h = refl
+still_unsent t _ h = refl
 
 pub queued_unsent : (q t : ℕ) (p : Place) → is_queued_in q p ≡ true → is_sent_to t p ≡ false
-queued_unsent q t (place.Queued r) h = refl
-queued_unsent q t (place.Returning r) h = refl
-queued_unsent q t (place.Closing s) h = refl
-queued_unsent q t place.Owned h = refl
 queued_unsent q t (place.Sent u) h = absurd (let z : ⊥ = cc in z)
-queued_unsent q t place.Done h = refl
+queued_unsent q t _ h = refl
 
 -- a request is in one line only
 pub queued_once : (q p : ℕ) (x : Place) → is_queued_in q x ≡ true → p ≢ q → is_queued_in p x ≡ false
 queued_once q p (place.Queued r) h n = not_equal r.0 p (λ e. n (sym e ∙ eqb-true r.0 q h))
-queued_once q p (place.Returning r) h n = refl
-queued_once q p (place.Closing s) h n = refl
-queued_once q p place.Owned h n = refl
-queued_once q p (place.Sent t) h n = refl
-queued_once q p place.Done h n = refl
+queued_once q p _ h n = refl
 
 -- ---- readers after a change
 
@@ -299,12 +283,8 @@ front_gone {F} {B} {R} {Q} q r k h p (inr other) =
     ∙ k.queued p r ∙ ap flag (queued_once q p (place_of R r) (front_queued q r k h) other)
 
 queued_undone : (q : ℕ) (p : Place) → is_queued_in q p ≡ true → is_done p ≡ false
-queued_undone q (place.Queued r) h = refl
-queued_undone q (place.Returning r) h = refl
-queued_undone q (place.Closing s) h = refl
-queued_undone q place.Owned h = refl
-queued_undone q (place.Sent t) h = refl
 queued_undone q place.Done h = absurd (let z : ⊥ = cc in z)
+queued_undone q _ h = refl
 
 -- the front becomes Owned
 pub present_front : {F B : ℕ → Bool} {R : Requests} {Q : Queues} {T : Targets} {N : Tree} (q r : ℕ) → Kept F B R Q T N → same_id (front Q q) r ≡ true → Kept F B (requests.move_to R r place.Owned) (queues.take Q q) T N

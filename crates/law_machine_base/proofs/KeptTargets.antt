@@ -1,6 +1,7 @@
 -- The moves of a request to a target, at it and back, and the requests that come into being.
 use Rattle.std.proofs.Common.{if◌then◌else◌, ◌≡◌, ◌≢◌, ℕ, suc, ◌==◌, Bool, true, false, not, ◌&&◌, List, [], ◌∷◌, ◌++◌, ◌⊎◌, inl, inr, filter, find, length, count_by, refl, ap, sym, ◌∙◌, arith, length-append}
 use Rattle.std.proofs.lemmas.Bool.{and_left}
+use Rattle.std.proofs.Math.Bool.{and-false}
 use Rattle.wdf_base.specs.declared.object.Kind.{Kind}
 use Rattle.wdf_base.specs.declared.object.Kind.TheVariants as kind
 use Rattle.wdf_base.specs.declared.object.Place.{Place}
@@ -27,10 +28,6 @@ use Rattle.law_machine_base.proofs.Kept.{Kept, arrived, forgets, is_made_place, 
 use Rattle.law_machine_base.proofs.KeptMoves.{is_still, move_request, still_unqueued, still_unsent, target_elsewhere, target_here}
 
 -- ---- a request is sent
-
-no_more : (b : Bool) → (b && false) ≡ false
-no_more true = refl
-no_more false = refl
 
 sent_others : (T : Targets) (t r : ℕ) (forget : Bool) (test : ℕ → Sending → Bool) (u x : ℕ) → test x (new_sending r forget) ≡ false → (u ≡ t) ⊎ (u ≢ t)
     → count_by (test x) (the_target (targets.send T t r forget) u).sent ≡ count_by (test x) (the_target T u).sent
@@ -61,25 +58,17 @@ send_request {F} {B} {R} {Q} {T} {N} r t forget k there old comes = move_request
     (λ u x n. sent_others T t r forget (λ y s. s.request.0 == y) u x (not_equal r x (λ e. n (sym e))) (one_or_two u t))
     (λ u. sent_once T t r forget (λ v. k.sent v r ∙ ap flag (still_unsent v (place_of R r) old)) u (one_or_two u t))
     (λ u x n. let e = sent_others T t r forget (λ y s. s.request.0 == y && s.forgotten) u x (and_left (r == x) forget (not_equal r x (λ e. n (sym e)))) (one_or_two u t) in omega arith)
-    (λ u h. sent_others T t r forget (λ y s. s.request.0 == y && s.forgotten) u r (rw (comes h) (no_more (r == r))) (one_or_two u t) ∙ k.returns u r h)
+    (λ u h. sent_others T t r forget (λ y s. s.request.0 == y && s.forgotten) u r (rw (comes h) (and-false (r == r))) (one_or_two u t) ∙ k.returns u r h)
 
 -- ---- it comes back
 
 sent_unqueued : (q : ℕ) (p : Place) → is_sent p ≡ true → is_queued_in q p ≡ false
-sent_unqueued q (place.Sent t) h = refl
 sent_unqueued q (place.Queued r) h = absurd (let z : ⊥ = cc in z)
-sent_unqueued q (place.Returning r) h = refl
-sent_unqueued q (place.Closing s) h = refl
-sent_unqueued q place.Owned h = refl
-sent_unqueued q place.Done h = refl
+sent_unqueued q _ h = refl
 
 sent_undone : (p : Place) → is_sent p ≡ true → is_done p ≡ false
-sent_undone (place.Sent t) h = refl
-sent_undone (place.Queued r) h = refl
-sent_undone (place.Returning r) h = refl
-sent_undone (place.Closing s) h = refl
-sent_undone place.Owned h = refl
 sent_undone place.Done h = absurd (let z : ⊥ = cc in z)
+sent_undone _ h = refl
 
 back_at : (T : Targets) (r u : ℕ) → (the_target (targets.back T r) u).sent ≡ filter (λ s. not (s.request.0 == r)) (the_target T u).sent
 back_at T r u = ap (λ (y : Target). y.sent) (entry_map no_target T.targets (without_sending r) u refl)

@@ -77,11 +77,7 @@ targets_open plan (i ∷ ids) (suc t) = targets_open plan ids t
 
 no_request_declared : (d : Declared) → same_kind (declared_node d).kind kind.Request ≡ false
 no_request_declared declared.Driver = refl
-no_request_declared (declared.Device d) = refl
-no_request_declared (declared.Queue q) = refl
-no_request_declared (declared.Interrupt i) = refl
-no_request_declared (declared.Target t) = refl
-no_request_declared (declared.OfClass c) = refl
+no_request_declared _ = refl
 
 none_declared : (ds : List Declared) (r : ℕ) → same_kind (entry gone (map declared_node ds) r).kind kind.Request ≡ false
 none_declared [] r = refl

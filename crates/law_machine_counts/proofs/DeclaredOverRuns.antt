@@ -162,12 +162,8 @@ still_declared : (plan : Plan) (T U : Tree) → KindsStay T U → DeclaredIn pla
 still_declared plan T U stay h o is = h o (ap is_declared_kind (sym (stay o is)) ∙ is) ∙ ap Some (sym (stay o is))
 
 one_declared : (d : Declared) → is_declared_kind (declared_node d).kind ≡ true → declared_kind d ≡ Some (declared_node d).kind
-one_declared declared.Driver h = refl
-one_declared (declared.Device d) h = refl
-one_declared (declared.Queue q) h = refl
-one_declared (declared.Interrupt i) h = refl
-one_declared (declared.Target t) h = refl
 one_declared (declared.OfClass c) h = absurd (let z : ⊥ = cc in z)
+one_declared _ h = refl
 
 list_declared : (ds : List Declared) (k : ℕ) → is_declared_kind (entry gone (map declared_node ds) k).kind ≡ true → option_and_then declared_kind (slice_get ds k) ≡ Some (entry gone (map declared_node ds) k).kind
 list_declared [] k h = absurd (let z : ⊥ = cc in z)

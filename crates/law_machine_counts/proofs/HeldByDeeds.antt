@@ -50,20 +50,14 @@ use Rattle.law_machine_counts.proofs.HeldMoves.{Placed, away, away_cancelled, ca
 -- ---- places from which nothing is held
 
 pub queued_unheld : (forgotten : Bool) (q : ℕ) (p : Place) → is_queued_in q p ≡ true → held_at forgotten p ≡ false
-queued_unheld forgotten q (place.Queued o) h = refl
-queued_unheld forgotten q (place.Returning o) h = refl
-queued_unheld forgotten q (place.Closing s) h = refl
 queued_unheld forgotten q place.Owned h = absurd (let z : ⊥ = cc in z)
 queued_unheld forgotten q (place.Sent t) h = absurd (let z : ⊥ = cc in z)
-queued_unheld forgotten q place.Done h = refl
+queued_unheld forgotten q _ h = refl
 
 pub returning_unheld : (forgotten : Bool) (q : ℕ) (p : Place) → is_returning_to q p ≡ true → held_at forgotten p ≡ false
-returning_unheld forgotten q (place.Queued o) h = refl
-returning_unheld forgotten q (place.Returning o) h = refl
-returning_unheld forgotten q (place.Closing s) h = refl
 returning_unheld forgotten q place.Owned h = absurd (let z : ⊥ = cc in z)
 returning_unheld forgotten q (place.Sent t) h = absurd (let z : ⊥ = cc in z)
-returning_unheld forgotten q place.Done h = refl
+returning_unheld forgotten q _ h = refl
 
 -- ---- cancels in a queue
 
@@ -99,12 +93,9 @@ waiting_unheld S q x k more = elim (cases_Bool (is_queued_in q (place_of S.reque
 
 -- what is in a queue isn't held, and isn't held then
 inside_unheld : (away : Bool) (q : ℕ) (p : Place) → is_in q p ≡ true → held_at away p ≡ false
-inside_unheld away q (place.Queued r) h = refl
-inside_unheld away q (place.Returning r) h = refl
-inside_unheld away q (place.Closing s) h = refl
 inside_unheld away q place.Owned h = absurd (let z : ⊥ = cc in z)
 inside_unheld away q (place.Sent t) h = absurd (let z : ⊥ = cc in z)
-inside_unheld away q place.Done h = refl
+inside_unheld away q _ h = refl
 
 closed_by : (away : Bool) (x : Request) (b : Bool) → (b ≡ true → held_at away x.place ≡ false) → held_by away (if b then moved (place.Closing status.Cancelled) x else x) ≡ held_by away x
 closed_by away x true unheld = let no_ = unheld refl in rw no_ refl
@@ -165,10 +156,7 @@ over_unheld : (away : Bool) (p : Place) (from : Option ObjectId) → (is_done p 
 over_unheld away place.Done from h = refl
 over_unheld away place.Owned None h = refl
 over_unheld away place.Owned (Some o) h = absurd (let z : ⊥ = cc in z)
-over_unheld away (place.Queued q) from h = absurd (let z : ⊥ = cc in z)
-over_unheld away (place.Returning q) from h = absurd (let z : ⊥ = cc in z)
-over_unheld away (place.Closing s) from h = absurd (let z : ⊥ = cc in z)
-over_unheld away (place.Sent t) from h = absurd (let z : ⊥ = cc in z)
+over_unheld away _ from h = absurd (let z : ⊥ = cc in z)
 
 forgotten_unheld : (away : Bool) (q : Request) (b : Bool) → is_over q ≡ b → held_by away (if b then no_request else q) ≡ held_by away q
 forgotten_unheld away q true e = sym (over_unheld away q.place q.info.origin e)

@@ -119,12 +119,8 @@ received {A} {plan} S q r h f =
 -- ---- targets
 
 owned_unsent : (t : ℕ) (p : Place) → is_owned p ≡ true → is_sent_to t p ≡ false
-owned_unsent t place.Owned h = refl
-owned_unsent t (place.Queued q) h = refl
-owned_unsent t (place.Returning q) h = refl
-owned_unsent t (place.Closing s) h = refl
 owned_unsent t (place.Sent u) h = absurd (let z : ⊥ = cc in z)
-owned_unsent t place.Done h = refl
+owned_unsent t _ h = refl
 
 nowhere_sent : {A : Type 0} (S : State A) (r : ℕ) → Placed S → is_owned (place_of S.requests r) ≡ true → (u : ℕ) → sends S.targets u r ≡ 0
 nowhere_sent S r k owned u = k.sent u r ∙ ap flag (owned_unsent u (place_of S.requests r) owned)

@@ -2,6 +2,7 @@
 use Rattle.std.proofs.Common.{if◌then◌else◌, ◌≡◌, ℕ, zero, suc, ◌==◌, Bool, true, false, ◌&&◌, List, [], ◌∷◌, ◌⊎◌, inl, inr, Option, Some, None, map, take, length, refl, sym, subst, ◌∙◌, arith}
 use Rattle.std.specs.List.{list_all}
 use Rattle.std.proofs.lemmas.List.Sums.{length-filter}
+use Rattle.std.proofs.Math.Bool.{and-false, and-true}
 use Rattle.wdf_base.specs.Meaning.{Meaning}
 use Rattle.wdf_base.specs.declared.plan.Plan.{Plan}
 use Rattle.wdf_base.specs.declared.event.Event.{Event}
@@ -80,19 +81,11 @@ pub each_passes : {X : Type 0} (p : X → Bool) → ((x : X) → p x ≡ true) �
 each_passes p h [] = refl
 each_passes p h (x ∷ xs) = both (p x) (list_all p xs) (h x) (each_passes p h xs)
 
-pub with_true : (b : Bool) → (b && true) ≡ b
-with_true true = refl
-with_true false = refl
-
-with_false : (b : Bool) → (b && false) ≡ false
-with_false true = refl
-with_false false = refl
-
 pub from_by : (b : Bool) (o : Option ℕ) (q : ℕ) → (same_id o q && b) ≡ same_id (if b then o else None) q
 from_by true None q = refl
-from_by true (Some p) q = with_true (p == q)
+from_by true (Some p) q = and-true (p == q)
 from_by false None q = refl
-from_by false (Some p) q = with_false (p == q)
+from_by false (Some p) q = and-false (p == q)
 
 pub held_number : {A : Type 0} (plan : Plan) (S : State A) → HoldsIn plan S → (q : ℕ) → held_count S.queues q ≡ length (held_from S q)
 held_number plan S h q =

@@ -34,12 +34,9 @@ moved_away forgotten p q h = rw h refl
 
 -- a place where no made request is isn't the driver's
 pub unmade_unheld : (forgotten : Bool) (p : Place) → is_made_place p ≡ false → held_at forgotten p ≡ false
-unmade_unheld forgotten (place.Queued q) h = refl
-unmade_unheld forgotten (place.Returning q) h = refl
-unmade_unheld forgotten (place.Closing s) h = refl
 unmade_unheld forgotten place.Owned h = absurd (let z : ⊥ = cc in z)
 unmade_unheld forgotten (place.Sent t) h = absurd (let z : ⊥ = cc in z)
-unmade_unheld forgotten place.Done h = refl
+unmade_unheld forgotten _ h = refl
 
 pub withdrawn_unheld : (b forgotten : Bool) (q : ℕ) → held_at forgotten (if b then place.Returning (record { 0 = q }) else place.Closing status.Cancelled) ≡ false
 withdrawn_unheld true forgotten q = refl
@@ -49,47 +46,27 @@ withdrawn_unheld false forgotten q = refl
 
 pub from_queue : (forgotten : Bool) (q : ℕ) (r : Request) (p : Place) → r.place ≡ p → is_queued_in q p ≡ true → (held_by forgotten r ≡ None) × (held_by forgotten (moved place.Owned r) ≡ Some q)
 from_queue forgotten q r (place.Queued o) e h = (rw e refl, rw e (ap Some (eqb-true o.0 q h)))
-from_queue forgotten q r (place.Returning o) e h = absurd (let z : ⊥ = cc in z)
-from_queue forgotten q r (place.Closing s) e h = absurd (let z : ⊥ = cc in z)
-from_queue forgotten q r place.Owned e h = absurd (let z : ⊥ = cc in z)
-from_queue forgotten q r (place.Sent t) e h = absurd (let z : ⊥ = cc in z)
-from_queue forgotten q r place.Done e h = absurd (let z : ⊥ = cc in z)
+from_queue forgotten q r _ e h = absurd (let z : ⊥ = cc in z)
 
 pub from_return : (forgotten : Bool) (q : ℕ) (r : Request) (p : Place) → r.place ≡ p → is_returning_to q p ≡ true → (held_by forgotten r ≡ None) × (held_by forgotten (moved place.Owned r) ≡ Some q)
 from_return forgotten q r (place.Returning o) e h = (rw e refl, rw e (ap Some (eqb-true o.0 q h)))
-from_return forgotten q r (place.Queued o) e h = absurd (let z : ⊥ = cc in z)
-from_return forgotten q r (place.Closing s) e h = absurd (let z : ⊥ = cc in z)
-from_return forgotten q r place.Owned e h = absurd (let z : ⊥ = cc in z)
-from_return forgotten q r (place.Sent t) e h = absurd (let z : ⊥ = cc in z)
-from_return forgotten q r place.Done e h = absurd (let z : ⊥ = cc in z)
+from_return forgotten q r _ e h = absurd (let z : ⊥ = cc in z)
 
 -- ---- a request that is sent, finished or back is held as before
 
 pub sent_held : (forgotten : Bool) (t : ℕ) (r : Request) (p : Place) → r.place ≡ p → is_owned p ≡ true → held_by false (moved (place.Sent (record { 0 = t })) r) ≡ held_by forgotten r
 sent_held forgotten t r place.Owned e h = rw e refl
-sent_held forgotten t r (place.Queued q) e h = absurd (let z : ⊥ = cc in z)
-sent_held forgotten t r (place.Returning q) e h = absurd (let z : ⊥ = cc in z)
-sent_held forgotten t r (place.Closing s) e h = absurd (let z : ⊥ = cc in z)
-sent_held forgotten t r (place.Sent u) e h = absurd (let z : ⊥ = cc in z)
-sent_held forgotten t r place.Done e h = absurd (let z : ⊥ = cc in z)
+sent_held forgotten t r _ e h = absurd (let z : ⊥ = cc in z)
 
 pub finished_held : (forgotten now : Bool) (s : Status) (r : Request) (p : Place) → r.place ≡ p → is_sent p ≡ true → (forgotten ≡ false → now ≡ false)
     → held_by now (moved (finished_at forgotten s p) r) ≡ held_by forgotten r
 finished_held true now s r (place.Sent t) e h comes = rw e refl
 finished_held false now s r (place.Sent t) e h comes = rw (e, comes refl) refl
-finished_held forgotten now s r (place.Queued q) e h comes = absurd (let z : ⊥ = cc in z)
-finished_held forgotten now s r (place.Returning q) e h comes = absurd (let z : ⊥ = cc in z)
-finished_held forgotten now s r (place.Closing t) e h comes = absurd (let z : ⊥ = cc in z)
-finished_held forgotten now s r place.Owned e h comes = absurd (let z : ⊥ = cc in z)
-finished_held forgotten now s r place.Done e h comes = absurd (let z : ⊥ = cc in z)
+finished_held forgotten now s r _ e h comes = absurd (let z : ⊥ = cc in z)
 
 pub back_held : (now forgotten : Bool) (r : Request) (p : Place) → r.place ≡ p → is_sent p ≡ true → forgotten ≡ false → held_by now (moved place.Owned r) ≡ held_by forgotten r
 back_held now forgotten r (place.Sent t) e h f = rw (e, f) refl
-back_held now forgotten r (place.Queued q) e h f = absurd (let z : ⊥ = cc in z)
-back_held now forgotten r (place.Returning q) e h f = absurd (let z : ⊥ = cc in z)
-back_held now forgotten r (place.Closing t) e h f = absurd (let z : ⊥ = cc in z)
-back_held now forgotten r place.Owned e h f = absurd (let z : ⊥ = cc in z)
-back_held now forgotten r place.Done e h f = absurd (let z : ⊥ = cc in z)
+back_held now forgotten r _ e h f = absurd (let z : ⊥ = cc in z)
 
 -- ---- marks
 

@@ -65,16 +65,12 @@ by_tree : {A : Type 0} (S : State A) (T : Tree) → TreeStays S.tree T → Still
 by_tree S T t = record { number = refl; stacks = refl; parked = refl; frames = λ f. refl; running = λ d. refl; tree = t }
 
 pub live_there : (l : Life) → is_live l ≡ true → is_gone l ≡ false
-live_there life.Live h = refl
-live_there life.Asked h = refl
-live_there life.Cleaned h = refl
 live_there life.Gone h = absurd (let z : ⊥ = cc in z)
+live_there _ h = refl
 
 pub asked_there : (l : Life) → is_asked l ≡ true → is_gone l ≡ false
-asked_there life.Live h = refl
-asked_there life.Asked h = refl
-asked_there life.Cleaned h = refl
 asked_there life.Gone h = absurd (let z : ⊥ = cc in z)
+asked_there _ h = refl
 
 pub asked_at : {A : Type 0} (S : State A) (o : ℕ) → clean_ready S o ≡ true → is_asked (life_of S.tree o) ≡ true
 asked_at S o h = both_left (is_asked (life_of S.tree o)) (list_all (λ x. is_past_cleanup (life_of S.tree x)) (children S.tree o)) (both_left (is_asked (life_of S.tree o) && list_all (λ x. is_past_cleanup (life_of S.tree x)) (children S.tree o)) _ (both_left (may_clean S.tree o) (is_unused S o) (both_left (may_clean S.tree o && is_unused S o) (is_finished S o) (both_left (may_clean S.tree o && is_unused S o && is_finished S o) (nothing_at S o) h))))

@@ -104,10 +104,8 @@ tree_grows T k class parent =
 -- ---- an object ends
 
 pub cleaned_there : (l : Life) → is_cleaned l ≡ true → is_gone l ≡ false
-cleaned_there life.Cleaned h = refl
-cleaned_there life.Live h = refl
-cleaned_there life.Asked h = refl
 cleaned_there life.Gone h = absurd (let z : ⊥ = cc in z)
+cleaned_there _ h = refl
 
 no_children : (n : ℕ) → (n == 0) ≡ true → 1 ≤ n → ⊥
 no_children zero e h = omega arith

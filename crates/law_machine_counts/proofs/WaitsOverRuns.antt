@@ -1,6 +1,7 @@
 -- Whether a call waits is told from the state before it: the test says the same as doing the call's first part and testing.
 use Rattle.std.proofs.Common.{if◌then◌else◌, ◌≡◌, ◌≢◌, ℕ, zero, suc, ◌-◌, ◌==◌, ◌≤◌, Bool, true, false, not, ◌&&◌, ◌||◌, List, [], ◌∷◌, fold, count_by, refl, sym, ap, ◌∙◌, arith}
 use Rattle.std.specs.List.{list_any}
+use Rattle.std.proofs.Math.Bool.{or-false}
 use Rattle.wdf_base.specs.Meaning.{Meaning}
 use Rattle.wdf_base.specs.declared.plan.Plan.{Plan}
 use Rattle.wdf_base.specs.declared.event.Event.{Event}
@@ -35,10 +36,6 @@ use Rattle.wdf_model.proofs.FrameCounts.{flag_small}
 
 -- ---- what is returning after one request is withdrawn
 
-or_false : (a : Bool) → (a || false) ≡ a
-or_false true = refl
-or_false false = refl
-
 or_turned : (a b : Bool) → (a || b) ≡ (b || a)
 or_turned true true = refl
 or_turned true false = refl
@@ -51,7 +48,7 @@ or_together false b c = refl
 
 -- one entry is written that passed no test before
 any_put : {T : Type 0} (p : T → Bool) (blank : T) (xs : List T) (id : ℕ) (new : T) → p blank ≡ false → p (entry blank xs id) ≡ false → list_any p (put blank xs id new) ≡ (list_any p xs || p new)
-any_put p blank [] zero new none old = or_false (p new)
+any_put p blank [] zero new none old = or-false (p new)
 any_put p blank [] (suc id) new none old = rw none (any_put p blank [] id new none none)
 any_put p blank (x ∷ xs) zero new none old = rw old (or_turned (p new) (list_any p xs))
 any_put p blank (x ∷ xs) (suc id) new none old = ap (λ b. p x || b) (any_put p blank xs id new none old) ∙ or_together (p x) (list_any p xs) (p new)
@@ -62,12 +59,8 @@ returned_by q true false = refl
 returned_by q false b = refl
 
 queued_stays : (q p : ℕ) (x : Place) → is_queued_in q x ≡ true → is_returning_to p x ≡ false
-queued_stays q p (place.Queued r) h = refl
 queued_stays q p (place.Returning r) h = absurd (let z : ⊥ = cc in z)
-queued_stays q p (place.Closing s) h = refl
-queued_stays q p place.Owned h = refl
-queued_stays q p (place.Sent t) h = refl
-queued_stays q p place.Done h = refl
+queued_stays q p _ h = refl
 
 abbrev returning : ℕ → Request → Bool
 returning q r = is_returning_to q r.place
@@ -83,7 +76,7 @@ one_withdrawn plan q S r queued =
     let old : Request = cancelled (request_of S.requests r) in
     let here : entry no_request (put no_request S.requests.all r old) r ≡ old = entry_put_same no_request S.requests.all r old in
     let first : list_any (returning q) (put no_request S.requests.all r old) ≡ list_any (returning q) S.requests.all =
-    any_put (returning q) no_request S.requests.all r old refl was ∙ ap (λ b. list_any (returning q) S.requests.all || b) was ∙ or_false (list_any (returning q) S.requests.all) in
+    any_put (returning q) no_request S.requests.all r old refl was ∙ ap (λ b. list_any (returning q) S.requests.all || b) was ∙ or-false (list_any (returning q) S.requests.all) in
     let p : Place = withdrawn_place plan S q r in
     any_put (returning q) no_request (put no_request S.requests.all r old) r (moved p (entry no_request (put no_request S.requests.all r old) r)) refl (ap (returning q) here ∙ was)
     ∙ ap (λ b. b || is_returning_to q p) first

@@ -1,7 +1,7 @@
 -- Facts of tests joined by "or" and "and".
 use Rattle.std.proofs.Common.{◌≡◌, Bool, true, false, ◌||◌, refl, inl, inr, ◌&&◌, not}
 use Rattle.std.proofs.lemmas.Bool.{or_cases}
-use Rattle.wdf_model.proofs.Tests.{first, second}
+use Rattle.wdf_model.proofs.Tests.{first, left_fails, right_fails, second}
 
 pub left_of : (a b : Bool) → b ≡ false → (a || b) ≡ true → a ≡ true
 left_of true b e h = refl
@@ -16,14 +16,6 @@ or_still a b c h k = elim (or_cases a c k) [
 pub or_not : (a b : Bool) → a ≡ false → b ≡ false → (a || b) ≡ false
 or_not false b h k = k
 or_not true b h k = absurd (let z : ⊥ = cc in z)
-
-pub no_and : (a b : Bool) → a ≡ false → (a && b) ≡ false
-no_and true b h = absurd (let z : ⊥ = cc in z)
-no_and false b h = refl
-
-pub and_no : (a b : Bool) → b ≡ false → (a && b) ≡ false
-and_no true b h = h
-and_no false b h = refl
 
 pub and_not : (a b : Bool) → a ≡ true → b ≡ false → (a && not b) ≡ true
 and_not a b h k = rw h (rw k refl)

@@ -57,8 +57,7 @@ at_next_waits a (Some s) = refl
 
 changed_waits : (a : Frame) (c : Change) → (changed a c).pending ≡ a.pending
 changed_waits a (change.Assign i v) = refl
-changed_waits a change.Branch = refl
-changed_waits a (change.Count depth left) = refl
+changed_waits a _ = refl
 
 pub stepped_waits : (a : Frame) (i : Intent) → (stepped a i).pending ≡ a.pending
 stepped_waits a (intent.Local c next) = changed_waits a c

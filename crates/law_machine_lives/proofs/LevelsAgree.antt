@@ -25,6 +25,7 @@ use Rattle.wdf_base.specs.declared.rank.CallbackLock.TheVariants as callback_loc
 use Rattle.wdf_base.specs.Callbacks.{row_of}
 use Rattle.wdf_base.specs.Plan.{declared_of}
 use Rattle.wdf_base.specs.Same.{same_kind}
+use Rattle.wdf_model.proofs.Tests.{all_three, both_left, both_right}
 use Rattle.wdf_model.specs.declared.entries.Held.{Held}
 use Rattle.wdf_model.specs.declared.entries.HeldLevel.{HeldLevel}
 use Rattle.wdf_model.specs.Tables.{flag}
@@ -168,8 +169,8 @@ split_at plan S f n b (h ∷ hs) low more =
         | inr under ↦ inr under
       ])
       | inl on_ ↦
-          let frame : h.frame.0 ≡ f = eqb-true h.frame.0 f (left (h.frame.0 == f) (level_of_lock plan S h.lock == n) on_) in
-          let level : level_of_lock plan S h.lock ≡ n = eqb-true (level_of_lock plan S h.lock) n (right (h.frame.0 == f) (level_of_lock plan S h.lock == n) on_) in
+          let frame : h.frame.0 ≡ f = eqb-true h.frame.0 f (both_left (h.frame.0 == f) (level_of_lock plan S h.lock == n) on_) in
+          let level : level_of_lock plan S h.lock ≡ n = eqb-true (level_of_lock plan S h.lock) n (both_right (h.frame.0 == f) (level_of_lock plan S h.lock == n) on_) in
           elim (cases_Bool h.by_call) [
             | inl by_call ↦
                 let yes_ : flag (is_called plan S.tree f n h) ≡ 1 = ap flag (all_on (h.frame.0 == f) h.by_call (height plan S.tree h.lock == n) (equal h.frame.0 f frame) by_call (equal (height plan S.tree h.lock) n (same_height plan S h.lock ∙ level))) in
@@ -177,19 +178,6 @@ split_at plan S f n b (h ∷ hs) low more =
             | inr start ↦ inr (let low_ = low.0 frame start in omega arith)
           ]
     ]
-  where
-    left : (a b : Bool) → (a && b) ≡ true → a ≡ true
-    left true b h = refl
-    left false b h = h
-
-    right : (a b : Bool) → (a && b) ≡ true → b ≡ true
-    right true b h = h
-    right false b h = absurd (let z : ⊥ = cc in z)
-
-    all_on : (a b c : Bool) → a ≡ true → b ≡ true → c ≡ true → (a && b && c) ≡ true
-    all_on true true c h k l = l
-    all_on true false c h k l = absurd (let z : ⊥ = cc in z)
-    all_on false b c h k l = absurd (let z : ⊥ = cc in z)
 
 awaited_by : {A : Type 0} (plan : Plan) (S : State A) (p : Pending) (n : ℕ) (b : Bool) → has n (if b then lock_level plan S (object_in p.call.a) ∷ [] else []) ≡ (if b then flag (lock_level plan S (object_in p.call.a) == n) else 0)
 awaited_by plan S p n true = let c = count_cons (λ y. y == n) (lock_level plan S (object_in p.call.a)) [] in let none : has n [] ≡ 0 = refl in omega arith

@@ -29,7 +29,7 @@ use Rattle.wdf_model.specs.rules.Calls.{level_of_kind}
 use Rattle.wdf_model.specs.rules.Faults.{is_acquire}
 use Rattle.wdf_model.specs.rules.Starts.{clean_ready, destroy_ready}
 use Rattle.law_machine_base.specs.Fits.{all_fit, fits}
-use Rattle.wdf_model.proofs.Tests.{both_left, both_right, not_false, not_true}
+use Rattle.wdf_model.proofs.Tests.{both_left, both_right, first, not_false, not_true, second}
 use Rattle.wdf_model.proofs.Maps.{entry_before, entry_past, entry_put_other}
 use Rattle.wdf_model.proofs.Counts.{count_cons, equal, one_or_two}
 use Rattle.law_machine_base.proofs.Deletion.{object_live, object_off}
@@ -163,18 +163,10 @@ unwaited S o h = let n : not (is_waited_for S o) ≡ true = search (both_left, b
 some_frame : (p : ℕ → Bool) (f : ℕ) (fs : List ℕ) → 1 ≤ count_by (λ x. x == f) fs → p f ≡ true → list_any p fs ≡ true
 some_frame p f [] more h = absurd (omega arith)
 some_frame p f (x ∷ xs) more h = elim (one_or_two x f) [
-  | inl e ↦ yes_first (p x) (list_any p xs) (ap p e ∙ h)
-  | inr n ↦ yes_second (p x) (list_any p xs) (some_frame p f xs (let c = count_cons (λ y. y == f) x xs in let no_ : flag (x == f) ≡ 0 = off (x == f) (λ e. n (eqb-true x f e)) in omega arith) h)
+  | inl e ↦ first (p x) (list_any p xs) (ap p e ∙ h)
+  | inr n ↦ second (p x) (list_any p xs) (some_frame p f xs (let c = count_cons (λ y. y == f) x xs in let no_ : flag (x == f) ≡ 0 = off (x == f) (λ e. n (eqb-true x f e)) in omega arith) h)
 ]
   where
-    yes_first : (a b : Bool) → a ≡ true → (a || b) ≡ true
-    yes_first true b h = refl
-    yes_first false b h = absurd (let z : ⊥ = cc in z)
-
-    yes_second : (a b : Bool) → b ≡ true → (a || b) ≡ true
-    yes_second true b h = refl
-    yes_second false b h = h
-
     off : (b : Bool) → (b ≡ true → ⊥) → flag b ≡ 0
     off true h = absurd (h refl)
     off false h = refl

@@ -28,11 +28,8 @@ lock_of_frame plan S f = lock_of_callback plan (frame_of S.cpus f).callback (fra
 -- a queue in which a request that arrives waits is its device's
 abbrev pub WaitsAt : Plan → Place → ℕ → Type 0
 WaitsAt plan (place.Queued q) device = device_of_queue plan q.0 ≡ device
-WaitsAt plan (place.Returning q) device = ⊥
 WaitsAt plan (place.Closing s) device = ⊤
-WaitsAt plan place.Owned device = ⊥
-WaitsAt plan (place.Sent t) device = ⊥
-WaitsAt plan place.Done device = ⊥
+WaitsAt plan _ device = ⊥
 
 abbrev pub Sound : {A : Type 0} → Plan → Deed → State A → Type 0
 -- what arrives is of the device at which it arrives

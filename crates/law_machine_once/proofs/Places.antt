@@ -157,8 +157,7 @@ dpc_rank _ = refl
 
 typed_rank : (f : RequestForm) → (row_of (typed_handler f)).rank ≡ rank.Handler
 typed_rank form.Read = refl
-typed_rank form.Write = refl
-typed_rank form.Control = refl
+typed_rank _ = refl
 
 handler_by : (f : RequestForm) (a b : Bool) (c : Callback) → (if a then Some (typed_handler f) else if b then Some callback.EvtIoDefault else None) ≡ Some c → (row_of c).rank ≡ rank.Handler
 handler_by f true b c h = ap (λ x. (row_of x).rank) (sym (some_is (typed_handler f) c h)) ∙ typed_rank f

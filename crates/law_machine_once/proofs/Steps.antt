@@ -45,7 +45,7 @@ use Rattle.law_machine_lives.proofs.SoundRuns.{sound_place}
 use Rattle.law_machine_lives.proofs.Stays.{gives_up, gives_up_if, withdraws, returns_closed, queues_closed, asks_all}
 use Rattle.std.proofs.lemmas.Bool.{or_cases}
 use Rattle.wdf_model.proofs.Sames.{callback_decides}
-use Rattle.wdf_trace.specs.Events.{is_for_interrupt}
+use Rattle.wdf_base.specs.Stages.{is_for_interrupt}
 use Rattle.law_machine_once.specs.Owned.{IsStepOf, StepsOwned}
 use Rattle.law_machine_once.proofs.OnceEach.{each_of_all, each_image}
 

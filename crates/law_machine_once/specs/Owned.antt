@@ -9,7 +9,7 @@ use Rattle.wdf_model.specs.declared.entries.Timed.{Timed}
 use Rattle.wdf_model.specs.Plans.{device_of, interrupt_of, is_interrupt_of}
 use Rattle.wdf_model.specs.parts.Pnp.{interrupt_name, next_step}
 use Rattle.wdf_model.specs.State.{State}
-use Rattle.wdf_trace.specs.Events.{is_for_interrupt}
+use Rattle.wdf_base.specs.Stages.{is_for_interrupt}
 
 -- A work item is queued at most once, and so is a timer.
 pub record QueuedOnce {A : Type 0} (S : State A) : Type 0 where

@@ -26,14 +26,8 @@ use Rattle.wdf_model.specs.rules.Faults.{fault_of}
 use Rattle.wdf_model.specs.rules.Script.{intent_of, line_of}
 use Rattle.wdf_model.specs.rules.Starts.{shown}
 use Rattle.wdf_model.specs.rules.Steps.{call_event, event_of_frame, event_of_top, fault_event, intent_event, is_own_event, may, own_event, spends, view_of, woken_event}
-use Rattle.wdf_model.proofs.Tests.{both, itself}
+use Rattle.wdf_model.proofs.Tests.{all_four, all_three, both, itself}
 use Rattle.wdf_model.proofs.Sames.{call_kind_decides, callback_decides, handle_decides, value_decides}
-
-three : (a b c : Bool) → a ≡ true → b ≡ true → c ≡ true → (a && b && c) ≡ true
-three a b c h k l = both (a && b) c (both a b h k) l
-
-four : (a b c d : Bool) → a ≡ true → b ≡ true → c ≡ true → d ≡ true → (a && b && c && d) ≡ true
-four a b c d h k l n = both (a && b && c) d (three a b c h k l) n
 
 -- ---- an event is itself
 
@@ -58,7 +52,7 @@ module _ {A : Type 0} (plan : Plan) (m : Meaning A) (S : State A) (cpu : ℕ) wh
 
   did_may : (c : Call) (o : Outcome) (b : Bool) → is_met_then plan S c ≡ b → own_event plan m S cpu ≡ Some (call_event plan S cpu c o) → may plan m S (call_event plan S cpu c o) ≡ true
   did_may c o true e own =
-      rw e (offered_itself (event.Did (cpu_of cpu) c o.answer) (rw e at own) (three (same_cpu (cpu_of cpu) (cpu_of cpu)) (same_call c c) (same_value o.answer o.answer) (itself cpu) (call_itself c) ((value_decides o.answer o.answer).1 refl)))
+      rw e (offered_itself (event.Did (cpu_of cpu) c o.answer) (rw e at own) (all_three (same_cpu (cpu_of cpu) (cpu_of cpu)) (same_call c c) (same_value o.answer o.answer) (itself cpu) (call_itself c) ((value_decides o.answer o.answer).1 refl)))
   did_may c o false e own =
       rw e (offered_itself (event.Waiting (cpu_of cpu) c) (rw e at own) (both (same_cpu (cpu_of cpu) (cpu_of cpu)) (same_call c c) (itself cpu) (call_itself c)))
 
@@ -70,23 +64,23 @@ module _ {A : Type 0} (plan : Plan) (m : Meaning A) (S : State A) (cpu : ℕ) wh
   intent_may f frame (intent.Get k) own =
       let v : ℕ = shown plan m S (device_of_register plan k) k in
       offered_itself (event.Register (cpu_of cpu) access.Read k v) own
-      (four (same_cpu (cpu_of cpu) (cpu_of cpu)) (same_access access.Read access.Read) (k == k) (v == v) (itself cpu) ((access_decides access.Read access.Read).1 refl) (itself k) (itself v))
+      (all_four (same_cpu (cpu_of cpu) (cpu_of cpu)) (same_access access.Read access.Read) (k == k) (v == v) (itself cpu) ((access_decides access.Read access.Read).1 refl) (itself k) (itself v))
   intent_may f frame (intent.Put k v) own =
       offered_itself (event.Register (cpu_of cpu) access.Write k v) own
-      (four (same_cpu (cpu_of cpu) (cpu_of cpu)) (same_access access.Write access.Write) (k == k) (v == v) (itself cpu) ((access_decides access.Write access.Write).1 refl) (itself k) (itself v))
+      (all_four (same_cpu (cpu_of cpu) (cpu_of cpu)) (same_access access.Write access.Write) (k == k) (v == v) (itself cpu) ((access_decides access.Write access.Write).1 refl) (itself k) (itself v))
   intent_may f frame (intent.Do c) own = did_may c (outcome plan S cpu f c) (is_met_then plan S c) refl own
   intent_may f frame (intent.Return v) own =
       offered_itself (event.End (cpu_of cpu) frame.callback frame.object v) own
-      (four (same_cpu (cpu_of cpu) (cpu_of cpu)) (same_callback frame.callback frame.callback) (same_handle frame.object frame.object) (same_value v v) (itself cpu) ((callback_decides frame.callback frame.callback).1 refl)
+      (all_four (same_cpu (cpu_of cpu) (cpu_of cpu)) (same_callback frame.callback frame.callback) (same_handle frame.object frame.object) (same_value v v) (itself cpu) ((callback_decides frame.callback frame.callback).1 refl)
       ((handle_decides frame.object frame.object).1 refl) ((value_decides v v).1 refl))
   intent_may f frame intent.Broken own =
       offered_itself (event.Fault (cpu_of cpu) fault.ScriptError (line_of plan frame)) own
-      (three (same_cpu (cpu_of cpu) (cpu_of cpu)) (same_fault fault.ScriptError fault.ScriptError) (line_of plan frame == line_of plan frame) (itself cpu) ((fault_decides fault.ScriptError fault.ScriptError).1 refl) (itself (line_of plan frame)))
+      (all_three (same_cpu (cpu_of cpu) (cpu_of cpu)) (same_fault fault.ScriptError fault.ScriptError) (line_of plan frame == line_of plan frame) (itself cpu) ((fault_decides fault.ScriptError fault.ScriptError).1 refl) (itself (line_of plan frame)))
 
   next_may : (f : ℕ) (frame : Frame) (i : Intent) (x : Option Fault) → own_event plan m S cpu ≡ Some (fault_event plan m S cpu f frame i x) → may plan m S (fault_event plan m S cpu f frame i x) ≡ true
   next_may f frame i (Some x) own =
       offered_itself (event.Fault (cpu_of cpu) x (line_of plan frame)) own
-      (three (same_cpu (cpu_of cpu) (cpu_of cpu)) (same_fault x x) (line_of plan frame == line_of plan frame) (itself cpu) ((fault_decides x x).1 refl) (itself (line_of plan frame)))
+      (all_three (same_cpu (cpu_of cpu) (cpu_of cpu)) (same_fault x x) (line_of plan frame == line_of plan frame) (itself cpu) ((fault_decides x x).1 refl) (itself (line_of plan frame)))
   next_may f frame i None own = intent_may f frame i own
 
   -- ---- whatever the top frame is
@@ -100,7 +94,7 @@ module _ {A : Type 0} (plan : Plan) (m : Meaning A) (S : State A) (cpu : ℕ) wh
       let is : woken_event S cpu p ≡ Some (event.Woke (cpu_of cpu) p.call p.answer) = rw met refl in
       kept (event.Woke (cpu_of cpu) p.call p.answer) e (at ∙ is) own
       (offered_itself (event.Woke (cpu_of cpu) p.call p.answer) (at ∙ is)
-      (three (same_cpu (cpu_of cpu) (cpu_of cpu)) (same_call p.call p.call) (same_value p.answer p.answer) (itself cpu) (call_itself p.call) ((value_decides p.answer p.answer).1 refl)))
+      (all_three (same_cpu (cpu_of cpu) (cpu_of cpu)) (same_call p.call p.call) (same_value p.answer p.answer) (itself cpu) (call_itself p.call) ((value_decides p.answer p.answer).1 refl)))
   woken_may p false e met at own = let none : woken_event S cpu p ≡ None = rw met refl in absurd (let z : ⊥ = cc in z)
 
   frame_may : (f : ℕ) (p : Option Pending) (e : Event) → own_event plan m S cpu ≡ event_of_frame plan m S cpu f (frame_of S.cpus f) p → own_event plan m S cpu ≡ Some e → may plan m S e ≡ true

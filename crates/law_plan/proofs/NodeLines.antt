@@ -88,8 +88,7 @@ head_after base e _ = refl
 argument_after : (base : ℕ) (a : Argument) → nodes_after base (numbered_argument base a) ≡ base + argument_size a
 unfolding nodes_after
 argument_after base Missing = omega arith
-argument_after base (Valued a) = omega arith
-argument_after base (OfClass n) = omega arith
+argument_after base _ = omega arith
 
 plain_after : (base : ℕ) (form : SceneLine) → is_plain_form form ≡ true → base ≤ nodes_end base form
 unfolding nodes_end

@@ -232,10 +232,8 @@ posts_fit (agent.LowerTarget t) p f e = done_fits _ p e
     done_fits (Some s) x h = let same : done_post t.status s ≡ x = cc in subst PostNumbersFit same tt
 
 shown_fits : (a : AnyAgent) (what : ℕ) → AgentFits a → agent_value a what < 2 ^ 64
-shown_fits (agent.PnpManager p) what f = omega arith
-shown_fits (agent.App p) what f = omega arith
 shown_fits (agent.Device d) what f = value_fits d what f
-shown_fits (agent.LowerTarget t) what f = omega arith
+shown_fits _ what f = omega arith
 
 either_agent : (b : Bool) (x y : AnyAgent) → AgentFits x → AgentFits y → AgentFits (if b then x else y)
 either_agent true x y h k = h

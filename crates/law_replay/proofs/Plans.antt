@@ -180,9 +180,7 @@ node_fits : (names : List Declaration) (vs : List (List ℕ)) (e : SceneExpr) �
 unfolding node_of
 node_fits names vs (expr.Number n) h = h
 node_fits names vs (expr.Named n) h = named_fits names n (variable_number vs n)
-node_fits names vs (expr.Literal s) h = tt
-node_fits names vs (expr.Context w) h = tt
-node_fits names vs (expr.Binary op l r) h = tt
+node_fits names vs _ h = tt
 
 own_nodes : (scene : Scene) (p : Placed) → Every ExprFits scene.exprs → Every ExprFits (nodes_of scene p)
 unfolding nodes_of

@@ -3,6 +3,7 @@ use Rattle.std.proofs.Common.{if◌then◌else◌, ◌≡◌, ℕ, zero, suc, �
 use Rattle.std.specs.List.{list_all}
 use Rattle.std.proofs.lemmas.Bool.{ltb-true}
 use Rattle.wdf_base.specs.Words.{call_word}
+use Rattle.wdf_model.proofs.Tests.{both_left, both_right}
 use Rattle.wdf_scene.specs.declared.line.NumberedLine.{NumberedLine}
 use Rattle.wdf_scene.specs.declared.line.SceneAction.{SceneAction}
 use Rattle.wdf_scene.specs.declared.line.SceneAction.TheVariants as action
@@ -19,7 +20,6 @@ use Rattle.wdf_tokens.specs.declared.token.Token.{Token}
 use Rattle.wdf_tokens.specs.declared.token.Token.TheVariants as token
 use Rattle.wdf_tokens.specs.Tokens.{line_reading, lines_of, with_byte}
 use Rattle.wdf_tokens.specs.WellFormed.{is_token}
-use Rattle.wdf_tokens.proofs.BothParts.{first_part, second_part}
 use Rattle.wdf_tokens.proofs.LexedTokens.{read_fit}
 use Rattle.wdf_scene_lines.specs.Spelling.{argument_then, atom_token, head_then, into_then, plain_tokens, tree_then, written_tokens}
 use Rattle.wdf_parse.specs.StandsFor.{StandsFor, TokenLine, spelled_line, token_lines, version_lines, with_token_line}
@@ -79,16 +79,16 @@ number_at : (ts : List Token) (k n : ℕ) → list_all is_token ts ≡ true → 
 number_at [] k n h at = absurd (let z : ⊥ = cc in z)
 number_at (token.Number x ∷ ts) zero n h at =
     let same : x ≡ n = cc in
-    let small : x < 2 ^ 64 = ltb-true x (2 ^ 64) (first_part (nat_lt x (2 ^ 64)) (list_all is_token ts) h) in
+    let small : x < 2 ^ 64 = ltb-true x (2 ^ 64) (both_left (nat_lt x (2 ^ 64)) (list_all is_token ts) h) in
     omega (arith, same, small)
-number_at (t ∷ ts) (suc k) n h at = number_at ts k n (second_part (is_token t) (list_all is_token ts) h) at
+number_at (t ∷ ts) (suc k) n h at = number_at ts k n (both_right (is_token t) (list_all is_token ts) h) at
 number_at (t ∷ ts) zero n h at = absurd (let z : ⊥ = cc in z)
 
 -- the tokens after the first n
 behind : (n : ℕ) (ts : List Token) → list_all is_token ts ≡ true → list_all is_token (drop n ts) ≡ true
 behind zero ts h = h
 behind (suc n) [] h = refl
-behind (suc n) (t ∷ ts) h = behind n ts (second_part (is_token t) (list_all is_token ts) h)
+behind (suc n) (t ∷ ts) h = behind n ts (both_right (is_token t) (list_all is_token ts) h)
 
 -- ---- forms
 
@@ -125,12 +125,7 @@ form_fits _ h = tt
 
 head_line_fits : (h : StatementHead) (e : ℕ) → FormFits (head_line h e)
 head_line_fits (head.Let x) e = tt
-head_line_fits (head.Put r) e = tt
-head_line_fits head.If e = tt
-head_line_fits head.Repeat e = tt
-head_line_fits head.Spend e = tt
-head_line_fits head.Log e = tt
-head_line_fits head.Return e = tt
+head_line_fits _ e = tt
 
 line_fits : (base : ℕ) (w : Written) → list_all is_token (written_tokens w) ≡ true → FormFits (line_at base w)
 line_fits base (Plain form) h = form_fits form h
@@ -157,9 +152,7 @@ Fit es rest = Every ExprFits es × (list_all is_token rest ≡ true)
 
 atom_fits : (a : Atom) (rest : List Token) → list_all is_token (atom_token a ∷ rest) ≡ true → ExprFits (atom_node a)
 atom_fits (Number n) rest h = number_at (token.Number n ∷ rest) 0 n h refl
-atom_fits (Named n) rest h = tt
-atom_fits (Literal s) rest h = tt
-atom_fits (Context w) rest h = tt
+atom_fits _ rest h = tt
 
 tree_fits : (t : Tree) (base : ℕ) (rest : List Token) → list_all is_token (tree_then t rest) ≡ true → Fit (nodes base t) rest
 tree_fits (Leaf a) base rest h = ((atom_fits a rest h, tt), behind 1 (atom_token a ∷ rest) h)

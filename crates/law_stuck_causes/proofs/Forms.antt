@@ -33,11 +33,10 @@ use Rattle.wdf_model.specs.parts.Deferred.WorkItems.{is_work_queued}
 use Rattle.wdf_model.specs.State.{State, declared_in, handle_in, held_from, is_held_from, is_powered, object_in, up_for}
 use Rattle.wdf_model.specs.rules.Starts.{level_fits}
 use Rattle.wdf_model.specs.rules.Waits.{above_in, ahead, all_cpus, by_frame, by_frame_on, by_lock, call_cause, cause_if, frame_cause, frames_above, holders_of, no_cpu, parked_for_cpu, pending_cause, queue_scope_held, queued_cause, request_line, requests_where, returning_cause}
-use Rattle.wdf_model.proofs.Tests.{both, first, itself, second}
+use Rattle.wdf_model.proofs.Tests.{all_three, both, first, itself, second}
 use Rattle.law_stuck_causes.specs.Causes.{all_taken, has_lock, is_above, is_before, is_held_lock, is_so, is_taken, is_there, keeps, keeps_below, keeps_call, keeps_frame, keeps_parked, keeps_pending, keeps_queued, keeps_returning, runs_on}
 use Rattle.law_stuck_causes.proofs.Members.{Has}
 use Rattle.law_stuck_causes.proofs.Gives.{Gives, IfThere, all_alike, any_has, gives_first, gives_frame, gives_if, gives_map, gives_none, gives_request, has_either, has_gathered, has_kept, it_contains, least_has}
-use Rattle.law_stuck_causes.proofs.Conjuncts.{three}
 use Rattle.wdf_model.proofs.FrameCounts.{listed}
 
 -- ---- processors
@@ -135,9 +134,9 @@ either_so a b (inl h) = first a b h
 either_so a b (inr h) = second a b h
 
 call_so : {A : Type 0} (plan : Plan) (S : State A) (k : CallKind) (n : ℕ) (a b d : Arg) → Gives (keeps_call S (record { kind = k; count = n; a = a; b = b; c = d })) (call_cause plan S (record { kind = k; count = n; a = a; b = b; c = d }))
-call_so plan S call.WdfSpinLockAcquire n a b d = acquired plan S _ (object_in a) (λ g h. three true (object_in a == object_in a) (has_lock S (object_lock (object_in a)) g) refl (itself (object_in a)) h)
-call_so plan S call.WdfWaitLockAcquire n a b d = acquired plan S _ (object_in a) (λ g h. three true (object_in a == object_in a) (has_lock S (object_lock (object_in a)) g) refl (itself (object_in a)) h)
-call_so plan S call.WdfInterruptAcquireLock n a b d = acquired plan S _ (object_in a) (λ g h. three true (object_in a == object_in a) (has_lock S (object_lock (object_in a)) g) refl (itself (object_in a)) h)
+call_so plan S call.WdfSpinLockAcquire n a b d = acquired plan S _ (object_in a) (λ g h. all_three true (object_in a == object_in a) (has_lock S (object_lock (object_in a)) g) refl (itself (object_in a)) h)
+call_so plan S call.WdfWaitLockAcquire n a b d = acquired plan S _ (object_in a) (λ g h. all_three true (object_in a == object_in a) (has_lock S (object_lock (object_in a)) g) refl (itself (object_in a)) h)
+call_so plan S call.WdfInterruptAcquireLock n a b d = acquired plan S _ (object_in a) (λ g h. all_three true (object_in a == object_in a) (has_lock S (object_lock (object_in a)) g) refl (itself (object_in a)) h)
 call_so plan S call.WdfIoQueueStopSynchronously n a b d = gives_request _ plan S (held_from S (object_in a)) (λ r h. held_is S (object_in a) r h)
 call_so plan S call.WdfIoQueueDrainSynchronously n a b d =
     gives_request _ plan S (held_from S (object_in a) ++ waiting_in S.queues (object_in a))
@@ -158,7 +157,7 @@ call_so plan S call.WdfWorkItemFlush n a b d =
     gives_first _ (by_frame_on S (object_in a) ∷ cause_if (is_work_queued S.work_items (object_in a)) (cause.ByWork (handle_in plan S (object_in a))) ∷ []) (
       gives_frame _ (filter (is_on S.cpus (object_in a)) (all_frames S.cpus)) (λ g h. on_object S (object_in a) g h),
       (
-        gives_if _ (is_work_queued S.work_items (object_in a)) (cause.ByWork (handle_in plan S (object_in a))) (λ h. three true (object_in a == object_in a) (is_work_queued S.work_items (object_in a)) refl (itself (object_in a)) h),
+        gives_if _ (is_work_queued S.work_items (object_in a)) (cause.ByWork (handle_in plan S (object_in a))) (λ h. all_three true (object_in a == object_in a) (is_work_queued S.work_items (object_in a)) refl (itself (object_in a)) h),
         tt,
       ),
     )

@@ -18,7 +18,7 @@ use Rattle.wdf_model.specs.parts.Locks.{hold_of, holder, is_free_hold, is_free_l
 use Rattle.wdf_model.specs.State.{State, declared_in, handle_in, waits_for}
 use Rattle.wdf_model.specs.rules.Starts.{level_fits}
 use Rattle.wdf_model.specs.rules.Waits.{at_target, by_frame, cause_if, children_first, frames_where, holders_of, no_cpu, not_cleaned, object_cause, object_cpus, references_cause, users, users_that_keep, waits_for_younger}
-use Rattle.wdf_model.proofs.Tests.{both, both_left, both_right, first, itself, second}
+use Rattle.wdf_model.proofs.Tests.{all_four, all_three, both, both_left, both_right, first, itself, second}
 use Rattle.law_stuck_causes.proofs.Members.{Has}
 use Rattle.wdf_base.specs.Meaning.{Meaning}
 use Rattle.wdf_base.specs.Plan.{is_script_of}
@@ -46,7 +46,7 @@ use Rattle.wdf_model.proofs.Tests.{not_false}
 use Rattle.law_stuck_causes.specs.Caused.{names_a_cause}
 use Rattle.law_stuck_causes.proofs.Members.{has_back, has_flat, has_front, has_mapped, has_range}
 use Rattle.law_stuck_causes.proofs.Endings.{AtRest, may_not}
-use Rattle.law_stuck_causes.proofs.Conjuncts.{five, four, three}
+use Rattle.law_stuck_causes.proofs.Conjuncts.{five}
 
 -- ---- a search that finds nothing
 
@@ -189,7 +189,7 @@ ending_waits plan m S o k c e rest d false left =
     (d.listed cpu (declared_by plan c (declared_in plan S o) parts.0)) in
     let no : may plan m S begins ≡ false = may_not plan m S true begins rest offered in
     let yes : may plan m S begins ≡ true =
-    four (nat_lt cpu plan.cpus) (is_proper plan S (handle_in plan S o)) true (may_start plan m S cpu c o None) (below_cpus cpu plan.cpus within) (itself (handle_in plan S o).name) refl
+    all_four (nat_lt cpu plan.cpus) (is_proper plan S (handle_in plan S o)) true (may_start plan m S cpu c o None) (below_cpus cpu plan.cpus within) (itself (handle_in plan S o).name) refl
     (d.starts cpu found.2 parts.0 parts.1) in
     let z : ⊥ = cc in z
 
@@ -198,12 +198,12 @@ object_parts : {A : Type 0} (plan : Plan) (S : State A) (o : ℕ) → object_cau
 object_parts plan S o h =
     let one = none_first (references_cause S o) (option_map (λ x. cause.ByChild (handle_in plan S x)) (least (children_first S o)) ∷ by_frame (users_that_keep S o) ∷ cause_if (object_cpus plan S o) cause.NoCpu ∷ at_target plan S o ∷ []) h in
     let two = none_first (option_map (λ x. cause.ByChild (handle_in plan S x)) (least (children_first S o))) (by_frame (users_that_keep S o) ∷ cause_if (object_cpus plan S o) cause.NoCpu ∷ at_target plan S o ∷ []) one.1 in
-    let three = none_first (by_frame (users_that_keep S o)) (cause_if (object_cpus plan S o) cause.NoCpu ∷ at_target plan S o ∷ []) two.1 in
-    let four = none_first (cause_if (object_cpus plan S o) cause.NoCpu) (at_target plan S o ∷ []) three.1 in (
+    let all_three = none_first (by_frame (users_that_keep S o)) (cause_if (object_cpus plan S o) cause.NoCpu ∷ at_target plan S o ∷ []) two.1 in
+    let all_four = none_first (cause_if (object_cpus plan S o) cause.NoCpu) (at_target plan S o ∷ []) all_three.1 in (
       none_if (is_cleaned (life_of S.tree o) && nat_lt 0 (references_of S.tree o)) (cause.References (references_of S.tree o)) one.0,
       none_least (λ x. cause.ByChild (handle_in plan S x)) (children_first S o) two.0,
-      none_least (λ f. cause.ByFrame (frame_id f)) (users_that_keep S o) three.0,
-      none_if (object_cpus plan S o) cause.NoCpu four.0,
+      none_least (λ f. cause.ByFrame (frame_id f)) (users_that_keep S o) all_three.0,
+      none_if (object_cpus plan S o) cause.NoCpu all_four.0,
     )
 
 cpu_left : (a b c n t : Bool) → (((a || b) && n) || (c && t)) ≡ false → (b ≡ true) ⊎ (a ≡ true) → n ≡ false
@@ -231,8 +231,8 @@ destroy_waits plan m S rest o low cleaned ready left = ending_waits plan m S o r
   starts = λ cpu fits declares began. five (declares_in plan S callback.EvtDestroyCallback o) (is_cleaned (life_of S.tree o)) (level_fits S cpu 0) true (destroy_ready S o && not (started S.tree o callback.EvtDestroyCallback))
       declares cleaned fits refl (both (destroy_ready S o) (not (started S.tree o callback.EvtDestroyCallback)) ready began);
   offered = framework_group plan m S group.Destroys (event.Destroy (handle_in plan S o)) (inr (inr (inr (inl refl)))) (placed_at plan m S group.Destroys (next_id S.tree) o _ low refl);
-  comes = λ over. three (is_proper plan S (handle_in plan S o)) (destroy_ready S o) (callback_over plan S callback.EvtDestroyCallback o) (itself (handle_in plan S o).name) ready over;
-  free = λ declares began. cpu_free plan S o left (inl (three (destroy_ready S o) (declares_in plan S callback.EvtDestroyCallback o) (not (started S.tree o callback.EvtDestroyCallback)) ready declares began));
+  comes = λ over. all_three (is_proper plan S (handle_in plan S o)) (destroy_ready S o) (callback_over plan S callback.EvtDestroyCallback o) (itself (handle_in plan S o).name) ready over;
+  free = λ declares began. cpu_free plan S o left (inl (all_three (destroy_ready S o) (declares_in plan S callback.EvtDestroyCallback o) (not (started S.tree o callback.EvtDestroyCallback)) ready declares began));
 })
 
 when_true : {T : Type 0} (b : Bool) (xs ys : List T) → b ≡ true → (if b then xs else ys) ≡ [] → xs ≡ []
@@ -255,7 +255,7 @@ cleaned_waits plan m S rest o low cleaned h =
     let unreferred : (references_of S.tree o == 0) ≡ true = no_references (references_of S.tree o) (cleaned_only (is_cleaned (life_of S.tree o)) (nat_lt 0 (references_of S.tree o)) parts.0 cleaned) in
     let ready : destroy_ready S o ≡ true =
     both (may_destroy S.tree o) (nobody_on S.cpus o)
-    (three (is_cleaned (life_of S.tree o)) (references_of S.tree o == 0) (length (children S.tree o) == 0) cleaned unreferred (rw childless refl)) (none_there S o unused) in
+    (all_three (is_cleaned (life_of S.tree o)) (references_of S.tree o == 0) (length (children S.tree o) == 0) cleaned unreferred (rw childless refl)) (none_there S o unused) in
     destroy_waits plan m S rest o low cleaned ready parts.3 (callback_over plan S callback.EvtDestroyCallback o) refl
 
 -- ---- an object that waits for its cleanup
@@ -269,8 +269,8 @@ clean_waits plan m S rest o low asked ready left = ending_waits plan m S o rank.
   starts = λ cpu fits declares began. five (declares_in plan S callback.EvtCleanupCallback o) (is_asked (life_of S.tree o)) (level_fits S cpu 0) true (clean_ready S o && not (started S.tree o callback.EvtCleanupCallback))
       declares asked fits refl (both (clean_ready S o) (not (started S.tree o callback.EvtCleanupCallback)) ready began);
   offered = framework_group plan m S group.Cleanups (event.Cleanup (handle_in plan S o)) (inr (inr (inl refl))) (placed_at plan m S group.Cleanups (next_id S.tree) o _ low refl);
-  comes = λ over. three (is_proper plan S (handle_in plan S o)) (clean_ready S o) (callback_over plan S callback.EvtCleanupCallback o) (itself (handle_in plan S o).name) ready over;
-  free = λ declares began. cpu_free plan S o left (inr (three (clean_ready S o) (declares_in plan S callback.EvtCleanupCallback o) (not (started S.tree o callback.EvtCleanupCallback)) ready declares began));
+  comes = λ over. all_three (is_proper plan S (handle_in plan S o)) (clean_ready S o) (callback_over plan S callback.EvtCleanupCallback o) (itself (handle_in plan S o).name) ready over;
+  free = λ declares began. cpu_free plan S o left (inr (all_three (clean_ready S o) (declares_in plan S callback.EvtCleanupCallback o) (not (started S.tree o callback.EvtCleanupCallback)) ready declares began));
 })
 
 pub front_none : {T : Type 0} (xs ys : List T) → xs ++ ys ≡ [] → (xs ≡ []) × (ys ≡ [])
@@ -299,7 +299,7 @@ unused_by S o h =
     let inner = front_none (filter (is_on S.cpus o) (all_frames S.cpus)) (holders_of S (Some (object_lock o))) outer.0 in
     let free : is_free_lock S.locks (object_lock o) ≡ true = free_hold (hold_of S.locks (object_lock o)) (unheld (holder S.locks (object_lock o)) inner.1) in
     let calm : is_waited_for S o ≡ false = no_count (λ f. waits_for o (frame_of S.cpus f).pending) (all_frames S.cpus) outer.1 in
-    three (nobody_on S.cpus o) (not (is_locked S o)) (not (is_waited_for S o)) (none_there S o inner.0) (ap (λ b. not (not b)) free) (ap not calm)
+    all_three (nobody_on S.cpus o) (not (is_locked S o)) (not (is_waited_for S o)) (none_there S o inner.0) (ap (λ b. not (not b)) free) (ap not calm)
 
 past_by : (p : ℕ → Bool) (x : ℕ) (xs : List ℕ) (b : Bool) → p x ≡ b → (if not b then x ∷ filter (λ y. not (p y)) xs else filter (λ y. not (p y)) xs) ≡ [] → (filter (λ y. not (p y)) xs ≡ [] → list_all p xs ≡ true)
     → (p x && list_all p xs) ≡ true
@@ -335,10 +335,10 @@ asked_waits plan m S rest o low asked uncleaned done empty h =
     let alone = kept_parts (λ x. not (is_past_cleanup (life_of S.tree x))) (children S.tree o) (waits_for_younger S o) none in
     let unused : users S o ≡ [] = when_false (is_cleaned (life_of S.tree o)) (filter (is_on S.cpus o) (all_frames S.cpus)) (users S o) uncleaned parts.2 in
     let may_be : may_clean S.tree o ≡ true =
-    three (is_asked (life_of S.tree o)) (list_all (λ x. is_past_cleanup (life_of S.tree x)) (children S.tree o))
+    all_three (is_asked (life_of S.tree o)) (list_all (λ x. is_past_cleanup (life_of S.tree x)) (children S.tree o))
     (not (is_asked (life_of S.tree (parent_of S.tree o))) || list_all (λ x. is_past_cleanup (life_of S.tree x)) (younger_siblings S.tree o))
     asked (all_past S (children S.tree o) alone.0) (siblings_past S o (is_asked (life_of S.tree (parent_of S.tree o))) refl (all_past S (waits_for_younger S o) alone.1)) in
-    let ready : clean_ready S o ≡ true = four (may_clean S.tree o) (is_unused S o) (is_finished S o) (nothing_at S o) may_be (unused_by S o unused) done empty in
+    let ready : clean_ready S o ≡ true = all_four (may_clean S.tree o) (is_unused S o) (is_finished S o) (nothing_at S o) may_be (unused_by S o unused) done empty in
     clean_waits plan m S rest o low asked ready parts.3 (callback_over plan S callback.EvtCleanupCallback o) refl
 
 -- ---- the law

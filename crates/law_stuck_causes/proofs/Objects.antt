@@ -16,12 +16,11 @@ use Rattle.wdf_model.specs.parts.Requests.{place_of}
 use Rattle.wdf_model.specs.parts.Targets.{is_undone}
 use Rattle.wdf_model.specs.State.{State, handle_in, waits_for}
 use Rattle.wdf_model.specs.rules.Waits.{at_target, by_frame, cause_if, children_first, frames_where, holders_of, no_cpu, not_cleaned, object_cause, object_cpus, references_cause, target_of_place, users, users_that_keep, waits_for_younger}
-use Rattle.wdf_model.proofs.Tests.{both, first, itself, not_true, second}
+use Rattle.wdf_model.proofs.Tests.{all_four, both, first, itself, not_true, second}
 use Rattle.law_stuck_causes.specs.Causes.{has_lock, is_child_ahead, is_sibling_ahead, is_there, keeps_object, runs_on, uses}
 use Rattle.law_stuck_causes.proofs.Members.{Has}
 use Rattle.law_stuck_causes.proofs.Gives.{Gives, gives_first, gives_frame, gives_if, gives_map, gives_none, has_either, has_kept, it_contains, least_has}
 use Rattle.law_stuck_causes.proofs.Forms.{lock_of_list, none_left, on_object}
-use Rattle.law_stuck_causes.proofs.Conjuncts.{four}
 
 -- ---- tests
 
@@ -40,7 +39,7 @@ sibling_by : {A : Type 0} (S : State A) (o x : ℕ) (b : Bool) → is_asked (lif
     → is_sibling_ahead S o x ≡ true
 sibling_by S o x true e h k =
     let kept = has_kept (nat_lt o) x (children S.tree (parent_of S.tree o)) h in
-    four (is_asked (life_of S.tree (parent_of S.tree o))) (is_child S.tree (parent_of S.tree o) x) (nat_lt o x) (not (is_past_cleanup (life_of S.tree x))) e (is_its_child S (parent_of S.tree o) x kept.1) kept.0 k
+    all_four (is_asked (life_of S.tree (parent_of S.tree o))) (is_child S.tree (parent_of S.tree o) x) (nat_lt o x) (not (is_past_cleanup (life_of S.tree x))) e (is_its_child S (parent_of S.tree o) x kept.1) kept.0 k
 sibling_by S o x false e h k = absurd h
 
 child_so : {A : Type 0} (S : State A) (o x : ℕ) (b : Bool) → is_cleaned (life_of S.tree o) ≡ b → Has x (if b then children S.tree o else not_cleaned S (children S.tree o ++ waits_for_younger S o))

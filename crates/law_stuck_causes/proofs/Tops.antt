@@ -35,7 +35,7 @@ use Rattle.wdf_model.specs.rules.Ready.{IsRunOf, any_spends, ending_of, state_af
 use Rattle.wdf_model.specs.rules.Script.{intent_of}
 use Rattle.wdf_model.specs.rules.Steps.{may_unpark, wait_is_over, event_of_frame, fault_event, may, own_event, spends, view_of, waits_on, woken_event}
 use Rattle.wdf_model.specs.rules.Waits.{above_in, by_frame, by_frame_on, by_lock, by_request, call_cause, cause_if, frame_cause, frames_above, parked_for_cpu, pending_cause, requests_where}
-use Rattle.wdf_model.proofs.Tests.{both, both_left, both_right, either_false, first, second}
+use Rattle.wdf_model.proofs.Tests.{all_three, both, both_left, both_right, either_false, first, second}
 use Rattle.law_machine_own.proofs.MayCome.{own_may}
 use Rattle.law_machine_counts.proofs.Holding.{HoldsIn}
 use Rattle.law_machine_counts.proofs.HeldOverRuns.{holds_at_each, held_number}
@@ -44,7 +44,6 @@ use Rattle.law_stuck_causes.proofs.Endings.{AtRest, at_rest, at_the_end, may_not
 use Rattle.law_stuck_causes.proofs.Gives.{any_has}
 use Rattle.law_stuck_causes.proofs.Forms.{while_on}
 use Rattle.law_stuck_causes.proofs.Needs.{below_cpus, cpu_group, free_hold, free_one, front_none, none_first, none_if, none_least, none_map, none_there, placed_at, some_or}
-use Rattle.law_stuck_causes.proofs.Conjuncts.{three}
 
 -- what a processor would do next may not come
 own_waits : {A : Type 0} (plan : Plan) (m : Meaning A) (S : State A) → AtRest plan m S true → (cpu : ℕ) (e : Event) → cpu < plan.cpus → own_event plan m S cpu ≡ Some e → ⊥
@@ -201,7 +200,7 @@ unpark_waits plan m S rest f cpu low parked empty over =
     let offered : Has e (candidates plan m S) = cpu_group plan m S cpu (group.Unparks cpu) e low (inr (inr (inl refl))) (placed_at plan m S (group.Unparks cpu) (length S.cpus.parked) at.place e at.low here) in
     let no : may plan m S e ≡ false = may_not plan m S true e rest offered in
     let comes : may plan m S e ≡ true =
-    both (nat_lt cpu plan.cpus) (may_unpark S cpu f) (below_cpus cpu plan.cpus low) (three (contains f S.cpus.parked) (is_empty_cpu S.cpus cpu) (wait_is_over S (frame_of S.cpus f).pending) parked empty over) in
+    both (nat_lt cpu plan.cpus) (may_unpark S cpu f) (below_cpus cpu plan.cpus low) (all_three (contains f S.cpus.parked) (is_empty_cpu S.cpus cpu) (wait_is_over S (frame_of S.cpus f).pending) parked empty over) in
     both_ways (may plan m S e) comes (ap not no)
 
 not_full : {A : Type 0} (plan : Plan) (m : Meaning A) (S : State A) → AtRest plan m S true → (f : ℕ) → contains f S.cpus.parked ≡ true → wait_is_over S (frame_of S.cpus f).pending ≡ true → parked_for_cpu plan S f ≡ false → ⊥

@@ -14,7 +14,7 @@ use Rattle.wdf_model.specs.parts.Locks.{is_free_if_any, scope_of}
 use Rattle.wdf_model.specs.State.{State, declared_in, handle_in}
 use Rattle.wdf_model.specs.rules.Starts.{level_fits}
 use Rattle.wdf_model.specs.rules.Waits.{cause_if, no_cpu}
-use Rattle.wdf_model.proofs.Tests.{both, both_left, both_right, itself, not_false}
+use Rattle.wdf_model.proofs.Tests.{all_four, both, both_left, both_right, itself, not_false}
 use Rattle.law_stuck_causes.proofs.Members.{Has, at_of}
 use Rattle.wdf_base.specs.Meaning.{Meaning}
 use Rattle.wdf_base.specs.declared.event.Event.{Event}
@@ -37,7 +37,7 @@ use Rattle.wdf_model.specs.rules.Ready.{is_open_work}
 use Rattle.wdf_model.specs.rules.Waits.{by_frame_on, deferred_cause, dpc_cause, scope_is_held, work_cause}
 use Rattle.law_stuck_causes.specs.Caused.{may_run}
 use Rattle.law_stuck_causes.proofs.Needs.{below_cpus, cpu_group, free_one, none_first, none_if, none_least, none_there, placed_at, some_or}
-use Rattle.law_stuck_causes.proofs.Conjuncts.{five, four}
+use Rattle.law_stuck_causes.proofs.Conjuncts.{five}
 
 -- ---- places
 
@@ -82,7 +82,7 @@ item_waits plan m S rest o queued live declares h =
     (placed_at plan m S (group.Starts left.0 rank.Work) (length S.work_items.queued) at.place e at.low (ap (λ i. option_map (λ x. event.Start (record { 0 = left.0 }) callback.EvtWorkItem (handle_in plan S x) None) i) at.is)) in
     let no : may plan m S e ≡ false = may_not plan m S true e rest offered in
     let comes : may plan m S e ≡ true =
-    four (nat_lt left.0 plan.cpus) (is_proper plan S (handle_in plan S o)) true (may_start plan m S left.0 callback.EvtWorkItem o None) (below_cpus left.0 plan.cpus within) (itself (handle_in plan S o).name) refl
+    all_four (nat_lt left.0 plan.cpus) (is_proper plan S (handle_in plan S o)) true (may_start plan m S left.0 callback.EvtWorkItem o None) (below_cpus left.0 plan.cpus within) (itself (handle_in plan S o).name) refl
     (five (declares_in plan S callback.EvtWorkItem o) (is_live (life_of S.tree o)) (level_fits S left.0 0) (is_free_if_any S.locks (scope_of plan callback.EvtWorkItem o (declared_in plan S o))) (is_work_queued S.work_items o && nobody_on S.cpus o)
     declares live left.2 (not_false (is_free_if_any S.locks (scope_of plan callback.EvtWorkItem o (declared_in plan S o))) parts.0) (both (is_work_queued S.work_items o) (nobody_on S.cpus o) queued parts.1)) in
     let z : ⊥ = cc in z
@@ -102,7 +102,7 @@ timer_waits plan m S rest o due live declares h =
     (placed_at plan m S (group.Starts left.0 rank.Timed) (length S.timers.queued) at.place e at.low (started_by (λ x. event.Start (record { 0 = left.0 }) callback.EvtTimerFunc (handle_in plan S x) None) (slice_get S.timers.queued at.place) o at.is)) in
     let no : may plan m S e ≡ false = may_not plan m S true e rest offered in
     let comes : may plan m S e ≡ true =
-    four (nat_lt left.0 plan.cpus) (is_proper plan S (handle_in plan S o)) true (may_start plan m S left.0 callback.EvtTimerFunc o None) (below_cpus left.0 plan.cpus within) (itself (handle_in plan S o).name) refl
+    all_four (nat_lt left.0 plan.cpus) (is_proper plan S (handle_in plan S o)) true (may_start plan m S left.0 callback.EvtTimerFunc o None) (below_cpus left.0 plan.cpus within) (itself (handle_in plan S o).name) refl
     (five (declares_in plan S callback.EvtTimerFunc o) (is_live (life_of S.tree o)) (level_fits S left.0 2) (is_free_if_any S.locks (scope_of plan callback.EvtTimerFunc o (declared_in plan S o))) (timer_due S.timers o S.clock && nobody_on S.cpus o)
     declares live left.2 (not_false (is_free_if_any S.locks (scope_of plan callback.EvtTimerFunc o (declared_in plan S o))) parts.0) (both (timer_due S.timers o S.clock) (nobody_on S.cpus o) due parts.1)) in
     let z : ⊥ = cc in z

@@ -39,7 +39,7 @@ use Rattle.wdf_model.specs.rules.Groups.{candidates, declared_end, groups_of_ran
 use Rattle.wdf_model.specs.rules.Starts.{level_fits, may_start, resumes_over}
 use Rattle.wdf_model.specs.rules.Steps.{may}
 use Rattle.wdf_model.specs.rules.Waits.{by_frame, cause_if, first_cause, frames_where, holders_of, no_cpu, queues_to_resume, resume_cpus, resume_frames, resumes_at, resumes_cause, runs_step, scope_holders, step_cause}
-use Rattle.wdf_model.proofs.Tests.{both, both_left, both_right, itself, second}
+use Rattle.wdf_model.proofs.Tests.{all_four, both, both_left, both_right, itself, second}
 use Rattle.wdf_model.proofs.Sames.{kind_decides}
 use Rattle.law_machine_counts.proofs.Holding.{HoldsIn, holder}
 use Rattle.law_machine_counts.proofs.HeldOverRuns.{from_by}
@@ -55,7 +55,7 @@ use Rattle.law_stuck_named_if.proofs.Steps.{callback_comes, none_gathered}
 use Rattle.law_stuck_named_if.proofs.Presents.{declared_within, has_image, kept_has, queue_there}
 use Rattle.law_trace_queues.proofs.Resuming.{device_noted, noted}
 use Rattle.law_stuck_named.specs.Standing.{is_live_device, is_part, is_part_of}
-use Rattle.law_stuck_causes.proofs.Conjuncts.{five, four}
+use Rattle.law_stuck_causes.proofs.Conjuncts.{five}
 use Rattle.law_stuck_named.proofs.Standing.{Stands}
 use Rattle.law_stuck_named.proofs.Coming.{Facts}
 use Rattle.law_stuck_named.proofs.Queues.{queue_is}
@@ -141,7 +141,7 @@ module _ {A : Type 0} (plan : Plan) (m : Meaning A) (S : State A) (rest : AtRest
       (rw has (placed_at plan m S (group.StartsFor left.0 rank.Resume q) (length S.requests.all) r e low refl)) in
       let no_ : may plan m S e ≡ false = may_not plan m S true e rest offered in
       let comes : may plan m S e ≡ true =
-      four (nat_lt left.0 plan.cpus) (is_proper plan S (handle_in plan S q)) (is_proper plan S (handle_in plan S r)) (may_start plan m S left.0 callback.EvtIoResume q (Some (handle_in plan S r)))
+      all_four (nat_lt left.0 plan.cpus) (is_proper plan S (handle_in plan S q)) (is_proper plan S (handle_in plan S r)) (may_start plan m S left.0 callback.EvtIoResume q (Some (handle_in plan S r)))
       (below_cpus left.0 plan.cpus within) (itself (handle_in plan S q).name) (itself (handle_in plan S r).name)
       (five (declares_in plan S callback.EvtIoResume q) (is_live (life_of S.tree q)) (level_fits S left.0 (queue_level plan q)) (is_free_if_any S.locks lock) (resume_due S.power r && is_held_from S q r)
       runs live left.2 free (both (resume_due S.power r) (is_held_from S q r) due held_)) in

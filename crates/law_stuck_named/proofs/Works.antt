@@ -23,7 +23,7 @@ use Rattle.wdf_model.specs.declared.deed.Deed.{Deed}
 use Rattle.wdf_model.specs.declared.deed.Deed.TheVariants.{Create, MakeRequest, Arrive, AskDeletion, Refer, Unrefer, WriteCell, Note, CleanUp, EndLife, Requeue, Forward, GiveBack, SendRequest, CompleteRequest, PurgeQueue, CloseReturning, CloseDevice, EnqueueDpc, CancelDpc, TakeDpc, EnqueueWork, CancelWork, StartTimer, StopTimer, FireTimer}
 use Rattle.wdf_model.specs.rules.Deeds.{ask_object, do_deed, give_up}
 use Rattle.law_machine_base.specs.Fits.{fits}
-use Rattle.wdf_model.proofs.Tests.{both, both_left, second}
+use Rattle.wdf_model.proofs.Tests.{both, both_left, left_fails, second}
 use Rattle.wdf_model.proofs.Maps.{entry_before, entry_last, entry_put_other, entry_put_same}
 use Rattle.wdf_model.proofs.Counts.{one_or_two}
 use Rattle.wdf_model.proofs.Sames.{kind_decides}
@@ -35,7 +35,7 @@ use Rattle.law_machine_lives.proofs.Sound.{Sound}
 use Rattle.wdf_base.specs.Same.{same_kind}
 use Rattle.wdf_base.specs.Lives.{is_asked, is_cleaned, is_live}
 use Rattle.law_stuck_named_if.proofs.Apt.{Apt}
-use Rattle.law_machine_lives.proofs.Choices.{no_and, or_still}
+use Rattle.law_machine_lives.proofs.Choices.{or_still}
 use Rattle.law_machine_lives.proofs.Deferring.{Work, arrived, work_of}
 use Rattle.law_stuck_named.proofs.Standing.{Comes, defers, is_ready, ready_in}
 
@@ -124,7 +124,7 @@ ended plan w o done k =
       | inl e ↦ ap (λ y. is_classed plan (node_of (tree.destroy w.tree o) y)) e ∙ ap (is_classed plan) (entry_put_same gone w.tree.nodes o gone)
       | inr n ↦ ap (is_classed plan) (entry_put_other gone w.tree.nodes o x gone n) ∙ k.classes x
     ])
-    (λ j x h. reads_same (is_ready j) w.tree o (λ _. gone) (sym (no_and (is_live (life_of w.tree o)) (same_kind (node_of w.tree o).kind j) (cleaned_off (life_of w.tree o) done))) x ∙ h) k
+    (λ j x h. reads_same (is_ready j) w.tree o (λ _. gone) (sym (left_fails (is_live (life_of w.tree o)) (same_kind (node_of w.tree o).kind j) (cleaned_off (life_of w.tree o) done))) x ∙ h) k
 
 same_work : (plan : Plan) (v w : Work) → w ≡ v → WorkKept plan v → WorkKept plan w
 same_work plan v w e k = subst (WorkKept plan) (sym e) k
@@ -143,7 +143,7 @@ works_by plan (WriteCell o k v) S f s a c q = changed plan (work_of S) o.0 (λ m
 works_by plan (Note o x) S f s a c q = let n = noted_same plan x (node_of S.tree o.0) in changed plan (work_of S) o.0 (noted x) n.0 n.1 q
 works_by plan (CleanUp o) S f s a c q =
     let asked : is_asked (life_of S.tree o.0) ≡ true = search both_left in
-    changed plan (work_of S) o.0 (with_life life.Cleaned) (λ k. sym (no_and (is_live (life_of S.tree o.0)) (same_kind (node_of S.tree o.0).kind k) (asked_off (life_of S.tree o.0) asked))) refl q
+    changed plan (work_of S) o.0 (with_life life.Cleaned) (λ k. sym (left_fails (is_live (life_of S.tree o.0)) (same_kind (node_of S.tree o.0).kind k) (asked_off (life_of S.tree o.0) asked))) refl q
 works_by plan (EndLife o) S f s a c q = let done : is_cleaned (life_of S.tree o.0) ≡ true = search both_left in ended plan (work_of S) o.0 done q
 works_by plan (Requeue r p) S f s a c q = same_work plan _ _ (gives_up work_of (λ S Q R P. refl) S r.0) q
 works_by plan (Forward r p) S f s a c q = same_work plan _ _ (gives_up work_of (λ S Q R P. refl) S r.0) q

@@ -24,13 +24,13 @@ use Rattle.wdf_model.specs.rules.Groups.{candidates, groups_of_rank, RANKS, star
 use Rattle.wdf_model.specs.rules.Starts.{level_fits, may_start}
 use Rattle.wdf_model.specs.rules.Steps.{may}
 use Rattle.wdf_model.specs.rules.Waits.{cause_if, cpu_of_dpc, dpc_cause, head_lock, holders_of, scope_is_held}
-use Rattle.wdf_model.proofs.Tests.{both_left, both_right, either_false, itself, not_false}
+use Rattle.wdf_model.proofs.Tests.{all_four, both_left, both_right, either_false, itself, not_false}
 use Rattle.wdf_model.proofs.Counts.{one_or_two}
 use Rattle.law_stuck_named_if.specs.Starts.{dpc_may_run, first_may_run, has_callback}
 use Rattle.law_stuck_causes.proofs.Members.{Has, has_flat}
 use Rattle.law_stuck_causes.proofs.Endings.{AtRest, may_not}
 use Rattle.law_stuck_causes.proofs.Needs.{below_cpus, cpu_group, free_hold, none_first, none_if, placed_at, unheld}
-use Rattle.law_stuck_causes.proofs.Conjuncts.{five, four}
+use Rattle.law_stuck_causes.proofs.Conjuncts.{five}
 use Rattle.law_stuck_named_if.proofs.Presents.{same_there, there_is}
 
 -- ---- where a DPC is queued
@@ -107,7 +107,7 @@ head_waits plan m S rest cpu o within queued may_be free fits =
     sym (ap (λ y. is_free_if_any S.locks (option_and_then (λ z. scope_of plan (dpc_function (kind_of S.tree z)) z (declared_in plan S z)) y)) at.1) ∙ free in
     let no : may plan m S e ≡ false = may_not plan m S true e rest offered in
     let comes : may plan m S e ≡ true =
-    four (nat_lt cpu plan.cpus) (is_proper plan S (handle_in plan S x)) true (may_start plan m S cpu c x None) (below_cpus cpu plan.cpus within) (itself (handle_in plan S x).name) refl
+    all_four (nat_lt cpu plan.cpus) (is_proper plan S (handle_in plan S x)) true (may_start plan m S cpu c x None) (below_cpus cpu plan.cpus within) (itself (handle_in plan S x).name) refl
     (dpc_may plan m S cpu x c (function_is (kind_of S.tree x)) (both_right (is_live (life_of S.tree x)) (declares_in plan S c x) can) (both_left (is_live (life_of S.tree x)) (declares_in plan S c x) can) fits lock (same_there (dpc_head S.dpcs cpu) x at.1)) in
     let z : ⊥ = cc in z
 

@@ -24,7 +24,7 @@ use Rattle.wdf_model.specs.rules.Groups.{declared_end}
 use Rattle.wdf_model.specs.rules.Ready.{IsRunOf, ending_of, is_open_work, state_after}
 use Rattle.wdf_model.specs.rules.Waits.{deferred_cause, deferred_line, dpc_cause, first_cause, frame_cause, frames_in_order, queued_cause, request_line, resumes_cause, returning_cause, sequence_line, step_cause, wait_list}
 use Rattle.wdf_model.specs.rules.Starts.{resumes_over}
-use Rattle.wdf_model.proofs.Tests.{first, itself}
+use Rattle.wdf_model.proofs.Tests.{first, itself, second}
 use Rattle.law_machine_base.proofs.LawsOverRuns.{history_now}
 use Rattle.law_machine_counts.proofs.DeclaredOverRuns.{declared_agree_at_each}
 use Rattle.law_machine_room.specs.Kept.{RoomKept}
@@ -83,13 +83,8 @@ in_stacks : (f : ℕ) (ss : List (List ℕ)) → contains f (flat_map (λ (fs : 
 in_stacks f [] h = h
 in_stacks f (s ∷ ss) h = elim (in_either f s (flat_map (λ (fs : List ℕ). fs) ss) h) as (λ _. list_any (contains f) (s ∷ ss) ≡ true) [
   | inl e ↦ rw e refl
-  | inr e ↦ later (contains f s) (list_any (contains f) ss) (in_stacks f ss e)
+  | inr e ↦ second (contains f s) (list_any (contains f) ss) (in_stacks f ss e)
 ]
-  where
-    later : (a b : Bool) → b ≡ true → (a || b) ≡ true
-    later true b e = refl
-    later false b e = e
-
 -- ---- the lines
 
 abbrev LineNamed : {A : Type 0} → Plan → State A → WaitLine → Type 0

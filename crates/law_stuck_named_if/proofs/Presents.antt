@@ -35,7 +35,7 @@ use Rattle.wdf_model.specs.rules.Groups.{candidates, declared_end, groups_of_ran
 use Rattle.wdf_model.specs.rules.Starts.{level_fits, may_start, presents}
 use Rattle.wdf_model.specs.rules.Steps.{may}
 use Rattle.wdf_model.specs.rules.Waits.{ahead, cause_if, no_cpu, queue_scope_held, queued_cause, returning_cause}
-use Rattle.wdf_model.proofs.Tests.{both, both_left, both_right, itself, not_false}
+use Rattle.wdf_model.proofs.Tests.{all_four, both, both_left, both_right, itself, not_false, right_so}
 use Rattle.wdf_model.proofs.Sames.{callback_decides, kind_decides}
 use Rattle.law_stuck_named_if.specs.Starts.{is_live_queue}
 use Rattle.law_machine_lives.proofs.Reasons.{takes}
@@ -43,7 +43,7 @@ use Rattle.law_stuck_causes.proofs.Members.{Has, has_flat, has_range}
 use Rattle.law_stuck_causes.proofs.Endings.{AtRest, may_not}
 use Rattle.law_stuck_causes.proofs.Forms.{while_on}
 use Rattle.law_stuck_causes.proofs.Needs.{below_cpus, cpu_group, free_one, none_first, none_if, none_least, placed_at}
-use Rattle.law_stuck_causes.proofs.Conjuncts.{five, four}
+use Rattle.law_stuck_causes.proofs.Conjuncts.{five}
 
 -- ---- the front of a queue
 
@@ -66,8 +66,7 @@ is_handler _ = false
 
 typed_is : (f : RequestForm) → is_handler (typed_handler f) ≡ true
 typed_is form.Read = refl
-typed_is form.Write = refl
-typed_is form.Control = refl
+typed_is _ = refl
 
 handler_by : (f : RequestForm) (a b : Bool) (c : Callback) → (if a then Some (typed_handler f) else if b then Some callback.EvtIoDefault else None) ≡ Some c → is_handler c ≡ true
 handler_by f true b c h = let same : typed_handler f ≡ c = cc in subst (λ x. is_handler x ≡ true) same (typed_is f)
@@ -142,8 +141,8 @@ presentable plan S q r h =
     let one = none_first (cause_if (not (delivers_in (mode_of S.control q))) cause.Stopped) (cause_if (not (is_powered plan S q)) cause.Unpowered ∷ a) h in
     let two = none_first (cause_if (not (is_powered plan S q)) cause.Unpowered) a one.1 in
     let three = none_first (cause_if (is_manual_queue plan q) cause.Manual) b two.1 in
-    let four = none_first (option_map (λ x. cause.Behind (handle_in plan S x)) (least (ahead S q r))) c three.1 in
-    let last = none_first (cause_if (not (is_free S.queues q)) cause.Full) d four.1 in
+    let all_four = none_first (option_map (λ x. cause.Behind (handle_in plan S x)) (least (ahead S q r))) c three.1 in
+    let last = none_first (cause_if (not (is_free S.queues q)) cause.Full) d all_four.1 in
     let scope = none_first (cause_if (queue_scope_held plan S q) cause.ScopeHeld) e last.1 in
     let cpus = none_first (cause_if (no_cpu plan S (queue_level plan q)) cause.NoCpu) [] scope.1 in
     record {
@@ -151,7 +150,7 @@ presentable plan S q r h =
           (not_false (delivers_in (mode_of S.control q)) (none_if (not (delivers_in (mode_of S.control q))) cause.Stopped one.0))
           (not_false (is_powered plan S q) (none_if (not (is_powered plan S q)) cause.Unpowered two.0));
       unlike = none_if (is_manual_queue plan q) cause.Manual three.0;
-      alone = none_least (λ x. cause.Behind (handle_in plan S x)) (ahead S q r) four.0;
+      alone = none_least (λ x. cause.Behind (handle_in plan S x)) (ahead S q r) all_four.0;
       free = not_false (is_free S.queues q) (none_if (not (is_free S.queues q)) cause.Full last.0);
       unlocked = not_false (is_open_to plan S q) (none_if (queue_scope_held plan S q) cause.ScopeHeld scope.0);
       cpu = none_if (no_cpu plan S (queue_level plan q)) cause.NoCpu cpus.0;
@@ -171,15 +170,11 @@ presented plan S q r c p at h =
 start_here : {A : Type 0} (plan : Plan) (S : State A) (cpu q r : ℕ) (c : Callback) (f : Option ℕ) → f ≡ Some r → handler_for plan q (info_of S.requests r).form ≡ Some c → option_and_then (handler_start plan S cpu q) f ≡ Some (starts_for plan S cpu c q r)
 start_here plan S cpu q r c f at h = rw at (ap (option_map (λ x. starts_for plan S cpu x q r)) h)
 
-not_manual : (a b : Bool) → a ≡ false → (a || b) ≡ true → b ≡ true
-not_manual true b e h = absurd (let z : ⊥ = cc in z)
-not_manual false b e h = h
-
 pub queued_waits : {A : Type 0} (plan : Plan) (m : Meaning A) (S : State A) → AtRest plan m S true → (q r : ℕ) → contains r (waiting_in S.queues q) ≡ true → is_live_queue S q ≡ true → takes plan q (info_of S.requests r).form ≡ true → queued_cause plan S q r ≡ None → ⊥
 queued_waits plan m S rest q r waits queue taken h =
     let p = presentable plan S q r h in
     let at : front S.queues q ≡ Some r = front_is r (waiting_in S.queues q) waits p.alone in
-    let by = there_is (handler_for plan q (info_of S.requests r).form) (not_manual (is_manual_queue plan q) (has_handler plan q (info_of S.requests r).form) p.unlike taken) in
+    let by = there_is (handler_for plan q (info_of S.requests r).form) (right_so (is_manual_queue plan q) (has_handler plan q (info_of S.requests r).form) p.unlike taken) in
     let c : Callback = by.0 in
     let live : is_live (life_of S.tree q) ≡ true = both_left (is_live (life_of S.tree q)) (same_kind (kind_of S.tree q) kind.Queue) queue in
     let declared : declares plan c q ≡ true = handler_has plan q (info_of S.requests r).form c by.1 in
@@ -195,7 +190,7 @@ queued_waits plan m S rest q r waits queue taken h =
     (placed_at plan m S (group.Starts left.0 rank.Handler) (declared_end plan) q e inside (start_here plan S left.0 q r c (front S.queues q) at by.1)) in
     let no : may plan m S e ≡ false = may_not plan m S true e rest offered in
     let comes : may plan m S e ≡ true =
-    four (nat_lt left.0 plan.cpus) (is_proper plan S (handle_in plan S q)) (is_proper plan S (handle_in plan S r)) (may_start plan m S left.0 c q (Some (handle_in plan S r)))
+    all_four (nat_lt left.0 plan.cpus) (is_proper plan S (handle_in plan S q)) (is_proper plan S (handle_in plan S r)) (may_start plan m S left.0 c q (Some (handle_in plan S r)))
     (below_cpus left.0 plan.cpus within) (itself (handle_in plan S q).name) (itself (handle_in plan S r).name)
     (handler_may plan m S left.0 q (handle_in plan S r) c (handler_is plan q (info_of S.requests r).form c by.1) has live left.2 p.unlocked (presented plan S q r c p at by.1)) in
     let z : ⊥ = cc in z
@@ -259,7 +254,7 @@ returning_waits plan m S rest d q r returns queue declared h =
     (rw declared (placed_at plan m S (group.StartsFor left.0 rank.CanceledOnQueue q) (length S.requests.all) r e (place_there q S.requests.all r returns) refl)) in
     let no : may plan m S e ≡ false = may_not plan m S true e rest offered in
     let comes : may plan m S e ≡ true =
-    four (nat_lt left.0 plan.cpus) (is_proper plan S (handle_in plan S q)) (is_proper plan S (handle_in plan S r)) (may_start plan m S left.0 callback.EvtIoCanceledOnQueue q (Some (handle_in plan S r)))
+    all_four (nat_lt left.0 plan.cpus) (is_proper plan S (handle_in plan S q)) (is_proper plan S (handle_in plan S r)) (may_start plan m S left.0 callback.EvtIoCanceledOnQueue q (Some (handle_in plan S r)))
     (below_cpus left.0 plan.cpus within) (itself (handle_in plan S q).name) (itself (handle_in plan S r).name)
     (five (declares_in plan S callback.EvtIoCanceledOnQueue q) (is_live (life_of S.tree q)) (level_fits S left.0 (queue_level plan q)) (is_open_to plan S q) (is_returning_to q (place_of S.requests r))
     (queue_has plan S callback.EvtIoCanceledOnQueue q is declared) live left.2 unlocked returns) in

@@ -31,7 +31,7 @@ use Rattle.wdf_model.specs.rules.Groups.{candidates, declared_end, groups_of_ran
 use Rattle.wdf_model.specs.rules.Starts.{interrupt_of_step, is_quiet, is_ready_for, level_fits, life_fits, may_start, rank_ready, resumes_over, step_of, step_ready}
 use Rattle.wdf_model.specs.rules.Steps.{may}
 use Rattle.wdf_model.specs.rules.Waits.{all_cpus, by_frame, by_request, cause_if, cpus_with_dpc, frames_where, has_dpc_of, head_lock, holders_of, no_cpu, object_of_step, quiet_frames, runs_step, stage_cpus, stage_frames, stage_requests, step_cause}
-use Rattle.wdf_model.proofs.Tests.{both, both_left, both_right, first, itself}
+use Rattle.wdf_model.proofs.Tests.{all_four, both, both_left, both_right, first, itself, not_false}
 use Rattle.wdf_model.proofs.Sames.{callback_decides, handle_decides}
 use Rattle.law_stuck_named_if.specs.Starts.{dpc_may_run, has_callback, step_may_run}
 use Rattle.law_stuck_causes.proofs.Members.{Has, has_flat, has_range}
@@ -39,7 +39,7 @@ use Rattle.law_stuck_causes.proofs.Endings.{AtRest, may_not}
 use Rattle.law_stuck_causes.proofs.Gives.{any_has}
 use Rattle.law_stuck_causes.proofs.Stages.{each_one, handle_itself, none_of, stage_comes, stepping}
 use Rattle.law_stuck_causes.proofs.Needs.{below_cpus, cpu_group, free_one, front_none, no_count, none_first, none_if, none_least, placed_at}
-use Rattle.law_stuck_causes.proofs.Conjuncts.{five, four}
+use Rattle.law_stuck_causes.proofs.Conjuncts.{five}
 use Rattle.law_stuck_named_if.proofs.Dpcs.{free_by_none, head_waits, listed_at}
 use Rattle.law_stuck_named_if.proofs.Presents.{kept_has}
 use Rattle.law_machine_counts.proofs.StepEvents.{sequence_is}
@@ -71,10 +71,6 @@ none_queued plan m S rest size may_be d unheld fits i its = elim (cases_Bool (is
       (fit_of (level_fits S cpu 2) (none_of (λ x. not (level_fits S x 2)) (cpus_with_dpc plan S d) fits cpu there)))
   | inr e ↦ ap not e
 ]
-  where
-    fit_of : (b : Bool) → not b ≡ false → b ≡ true
-    fit_of true h = refl
-    fit_of false h = absurd (let z : ⊥ = cc in z)
 
 pub quiet_waits : {A : Type 0} (plan : Plan) (m : Meaning A) (S : State A) → AtRest plan m S true → length S.dpcs.lists ≡ plan.cpus → ((cpu : ℕ) → dpc_may_run plan S cpu ≡ true) → (d : ℕ) (i : Option Handle) → d < declared_end plan
     → next_step S.pnp d ≡ Some (step.Pass stage.Quiet i) → not (is_running_step S.pnp d) ≡ true → not (follows_queues_up S.pnp d) ≡ true → step_cause plan S d (step.Pass stage.Quiet i) ≡ None → ⊥
@@ -135,7 +131,7 @@ callback_comes plan m S rest d c i low next calm unkept may_be h =
     (placed_at plan m S (group.Starts cpu rank.Sequence) (declared_end plan) d e low at) in
     let no : may plan m S e ≡ false = may_not plan m S true e rest offered in
     let comes : may plan m S e ≡ true =
-    four (nat_lt cpu plan.cpus) (is_proper plan S (handle_in plan S o)) true (may_start plan m S cpu c o None) (below_cpus cpu plan.cpus within) (itself (handle_in plan S o).name) refl
+    all_four (nat_lt cpu plan.cpus) (is_proper plan S (handle_in plan S o)) true (may_start plan m S cpu c o None) (below_cpus cpu plan.cpus within) (itself (handle_in plan S o).name) refl
     (five (declares_in plan S c o) (life_fits S c o) (level_fits S cpu (callback_irql plan c o)) (is_free_if_any S.locks lock) (is_ready_for plan m S cpu c o None)
     has (lives S c o is live) left.2 free ranked) in
     let z : ⊥ = cc in z

@@ -39,7 +39,7 @@ use Rattle.wdf_model.specs.rules.Ready.{IsRunOf, ending_of, state_after}
 use Rattle.wdf_model.specs.rules.Starts.{clean_ready, destroy_ready, is_finished, level_fits, may_start}
 use Rattle.wdf_model.specs.rules.Steps.{may}
 use Rattle.wdf_model.specs.rules.Waits.{at_target, by_frame, cause_if, children_first, no_cpu, object_cause, object_cpus, references_cause, target_of_place, users_that_keep, wait_list}
-use Rattle.wdf_model.proofs.Tests.{both, both_left, both_right, either_false, first, itself, second}
+use Rattle.wdf_model.proofs.Tests.{all_four, both, both_left, both_right, either_false, first, itself, second}
 use Rattle.wdf_model.proofs.Counts.{count_no, found_at_its_target, not_equal}
 use Rattle.law_machine_base.proofs.Kept.{is_request}
 use Rattle.law_machine_counts.proofs.StillFrames.{asked_there, live_there}
@@ -51,7 +51,7 @@ use Rattle.law_stuck_named_if.proofs.Presents.{declared_within, has_image, kept_
 use Rattle.law_trace_power.proofs.Belonging.{target_found}
 use Rattle.law_stuck_named.proofs.Lines.{line_tells}
 use Rattle.law_stuck_named.proofs.Runs.{Known, known_now}
-use Rattle.law_stuck_causes.proofs.Conjuncts.{five, four}
+use Rattle.law_stuck_causes.proofs.Conjuncts.{five}
 use Rattle.law_stuck_objects.proofs.Runs.{GoesWell, goes_well}
 use Rattle.law_stuck_objects.proofs.Sendings.{comes_or_waits}
 use Rattle.law_stuck_objects.proofs.Places.{nothing_there, request_done}
@@ -178,7 +178,7 @@ module _ {A : Type 0} (plan : Plan) (m : Meaning A) (run : List Event) (resolved
       (placed_at plan m S (group.StartsFor left.0 rank.Completion t) (length (the_target S.targets t).sent) f.at e place_low here) in
       let no : may plan m S e ≡ false = may_not plan m S true e rest offered in
       let comes : may plan m S e ≡ true =
-      four (nat_lt left.0 plan.cpus) (is_proper plan S (handle_in plan S t)) (is_proper plan S (handle_in plan S o)) (may_start plan m S left.0 callback.EvtRequestCompletion t (Some (handle_in plan S o)))
+      all_four (nat_lt left.0 plan.cpus) (is_proper plan S (handle_in plan S t)) (is_proper plan S (handle_in plan S o)) (may_start plan m S left.0 callback.EvtRequestCompletion t (Some (handle_in plan S o)))
       (below_cpus left.0 plan.cpus within) (itself (handle_in plan S t).name) (itself (handle_in plan S o).name)
       (five (declares_in plan S callback.EvtRequestCompletion t) (is_live (life_of S.tree t)) (level_fits S left.0 2) true (is_sent_to t (place_of S.requests o) && is_some (routine_due S.targets o))
       (routine_there t i at live) live left.2 refl (both (is_sent_to t (place_of S.requests o)) (is_some (routine_due S.targets o)) there due)) in
@@ -204,14 +204,14 @@ module _ {A : Type 0} (plan : Plan) (m : Meaning A) (run : List Event) (resolved
       let one : flag (is_sent_to t.0 (place_of S.requests o)) ≡ 1 = ap flag there in
       let live : is_live (life_of S.tree t.0) ≡ true = well.sent.lives t.0 o (omega arith) in
       let i = target_is t.0 (target_of plan t.0) refl (well.sent.targets t.0 o (omega arith)) in
-      let four = at_target plan S o ∷ [] in
-      let three = cause_if (object_cpus plan S o) cause.NoCpu ∷ four in
+      let all_four = at_target plan S o ∷ [] in
+      let three = cause_if (object_cpus plan S o) cause.NoCpu ∷ all_four in
       let two = by_frame (users_that_keep S o) ∷ three in
       let one_ = option_map (λ x. cause.ByChild (handle_in plan S x)) (least (children_first S o)) ∷ two in
       let a = none_first (references_cause S o) one_ none in
       let b = none_first (option_map (λ x. cause.ByChild (handle_in plan S x)) (least (children_first S o))) two a.1 in
       let c = none_first (by_frame (users_that_keep S o)) three b.1 in
-      let d = none_first (cause_if (object_cpus plan S o) cause.NoCpu) four c.1 in
+      let d = none_first (cause_if (object_cpus plan S o) cause.NoCpu) all_four c.1 in
       let last = none_first (at_target plan S o) [] d.1 in
       let cpus : object_cpus plan S o ≡ false = none_if (object_cpus plan S o) cause.NoCpu d.0 in
       let shown : (if is_undone S.targets o then Some (cause.AtTarget (handle_in plan S t.0)) else None) ≡ None =
@@ -228,12 +228,7 @@ module _ {A : Type 0} (plan : Plan) (m : Meaning A) (run : List Event) (resolved
 
   made_by : (o : ℕ) (b : Bool) → is_sent (place_of S.requests o) ≡ b → (b ≡ true → ⊥) → (not (same_kind (kind_of S.tree o) kind.Made) || not (is_sent (place_of S.requests o))) ≡ true
   made_by o true e h = absurd (h refl)
-  made_by o false e h = either_true (not (same_kind (kind_of S.tree o) kind.Made)) (not (is_sent (place_of S.requests o))) (ap not e)
-    where
-      either_true : (a b : Bool) → b ≡ true → (a || b) ≡ true
-      either_true true b h = refl
-      either_true false b h = h
-
+  made_by o false e h = second (not (same_kind (kind_of S.tree o) kind.Made)) (not (is_sent (place_of S.requests o))) (ap not e)
   request_by : (o : ℕ) (b : Bool) → is_request S.tree o ≡ b → is_live (life_of S.tree o) ≡ false → (not (same_kind (kind_of S.tree o) kind.Request) || is_done (place_of S.requests o)) ≡ true
   request_by o true e off = rw e (request_done plan m run resolved is_run o e off)
   request_by o false e off = rw e refl

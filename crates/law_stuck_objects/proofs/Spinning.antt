@@ -16,14 +16,13 @@ use Rattle.wdf_model.specs.rules.Steps.{may, waits_on}
 use Rattle.wdf_base.specs.declared.frame.Pending.{Pending}
 use Rattle.wdf_model.specs.rules.Calls.{is_met}
 use Rattle.wdf_model.proofs.Counts.{equal}
-use Rattle.wdf_model.proofs.Tests.{itself, not_true}
+use Rattle.wdf_model.proofs.Tests.{all_three, itself, not_true}
 use Rattle.law_stuck_causes.specs.Causes.{is_taken}
 use Rattle.law_stuck_causes.proofs.Members.{Has}
 use Rattle.law_stuck_causes.proofs.Endings.{AtRest, at_rest, may_not}
 use Rattle.law_stuck_causes.proofs.Needs.{cpu_group, placed_at}
 use Rattle.law_stuck_causes.proofs.Tops.{top_waits}
 use Rattle.law_stuck_objects.specs.Spinning.{Spins, is_spin_call}
-use Rattle.law_stuck_causes.proofs.Conjuncts.{three}
 use Rattle.law_stuck_named_if.proofs.Presents.{same_there}
 use Rattle.law_stuck_objects.proofs.Calm.{Calm, calm_now}
 
@@ -34,7 +33,7 @@ module _ {A : Type 0} (plan : Plan) (m : Meaning A) (S : State A) (rest : AtRest
       let e : Event = parks cpu f in
       let offered : Has e (candidates plan m S) = cpu_group plan m S cpu (group.Parks cpu) e low (inr (inl refl)) (placed_at plan m S (group.Parks cpu) 1 0 e (omega arith) (ap (option_map (parks cpu)) at)) in
       let no : may plan m S e ≡ false = may_not plan m S true e rest offered in
-      let comes : may plan m S e ≡ true = three (same_id (top S.cpus cpu) f) (irql S.cpus cpu == 0) (waits_on S (frame_of S.cpus f).pending) (same_there (top S.cpus cpu) f at) free waits in
+      let comes : may plan m S e ≡ true = all_three (same_id (top S.cpus cpu) f) (irql S.cpus cpu == 0) (waits_on S (frame_of S.cpus f).pending) (same_there (top S.cpus cpu) f at) free waits in
       let z : ⊥ = cc in z
 
   spins_at : (cpu f : ℕ) (o : Option Pending) → cpu < plan.cpus → top S.cpus cpu ≡ Some f → (frame_of S.cpus f).pending ≡ o → waits_on S o ≡ true → Spins S cpu

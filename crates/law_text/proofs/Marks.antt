@@ -7,12 +7,12 @@ use Rattle.std.proofs.lemmas.Bool.{and_from, eqb-true}
 use Rattle.std.proofs.lemmas.List.{take-append-drop}
 use Rattle.std.proofs.lemmas.List.Sums.{take_while-cons}
 use Rattle.std.proofs.lemmas.Slice.Eq.{bytes_eq-Decides}
+use Rattle.wdf_base.proofs.Tests.{both_left, both_right}
 use Rattle.wdf_tokens.specs.declared.lexer.TokenFault.{TokenFault}
 use Rattle.wdf_tokens.specs.declared.lexer.TokenFault.TheVariants.{NotAscii}
 use Rattle.wdf_tokens.specs.declared.token.Token.{Token}
 use Rattle.wdf_tokens.specs.declared.token.Token.TheVariants as token
 use Rattle.wdf_tokens.specs.Tokens.{is_blank, is_name_byte, is_plain, letters_piece, line_reading, piece_of, token_at, with_token, tokens_from}
-use Rattle.wdf_tokens.proofs.BothParts.{first_part, second_part}
 use Rattle.wdf_tokens.proofs.LineReading.{tokens_from_skip}
 use Rattle.wdf_split.specs.Inputs.{is_idle, is_mark, is_trace_alone, is_trace_first, is_within}
 use Rattle.wdf_split.proofs.Marks.{alone_here, alone_more, idle_here, idle_more}
@@ -94,8 +94,8 @@ word_reads column rest idle =
 first_reads : (column b : ℕ) (bytes : List ℕ) → is_trace_first (b ∷ bytes) ≡ true → tokens_from column 0 (b ∷ bytes) ≡ Ok (token.Word (codes "trace") ∷ [])
 first_reads column b bytes is =
     let text = b ∷ bytes in
-    let word : take 5 text ≡ codes "trace" = (bytes_eq-Decides (take 5 text) (codes "trace")).0 (first_part (bytes_eq (take 5 text) (codes "trace")) (is_idle (drop 5 text)) is) in
-    let idle : is_idle (drop 5 text) ≡ true = second_part (bytes_eq (take 5 text) (codes "trace")) (is_idle (drop 5 text)) is in
+    let word : take 5 text ≡ codes "trace" = (bytes_eq-Decides (take 5 text) (codes "trace")).0 (both_left (bytes_eq (take 5 text) (codes "trace")) (is_idle (drop 5 text)) is) in
+    let idle : is_idle (drop 5 text) ≡ true = both_right (bytes_eq (take 5 text) (codes "trace")) (is_idle (drop 5 text)) is in
     let parts : text ≡ codes "trace" ++ drop 5 text = sym (take-append-drop 5 text) ∙ ap (λ w. w ++ drop 5 text) word in
     ap (tokens_from column 0) parts ∙ word_reads column (drop 5 text) idle
 
@@ -157,8 +157,8 @@ pub mark_reads : (line : List ℕ) → is_mark line ≡ true → line_reading (t
 unfolding is_mark
 mark_reads line is =
     let text = take_while is_within line in
-    ap (λ t. if t then tokens_from 1 0 text else Err NotAscii) (first_part (list_all is_plain text) (is_trace_alone text) is)
-    ∙ alone_reads 1 text (second_part (list_all is_plain text) (is_trace_alone text) is)
+    ap (λ t. if t then tokens_from 1 0 text else Err NotAscii) (both_left (list_all is_plain text) (is_trace_alone text) is)
+    ∙ alone_reads 1 text (both_right (list_all is_plain text) (is_trace_alone text) is)
 
 mark_by : (text : List ℕ) (plain : Bool) → list_all is_plain text ≡ plain → line_reading text ≡ Ok (token.Word (codes "trace") ∷ []) → (list_all is_plain text && is_trace_alone text) ≡ true
 mark_by text true is reads =

@@ -33,33 +33,19 @@ after_append (Ok r) n (x ∷ xs) ys =
 -- the number of its first node doesn't say where a line may come
 head_stands : (p : Position) (h : StatementHead) (a b : ℕ) → may_stand p (head_line h a) ≡ may_stand p (head_line h b)
 head_stands p (head.Let x) a b = refl
-head_stands p (head.Put r) a b = refl
-head_stands p head.If a b = refl
-head_stands p head.Repeat a b = refl
-head_stands p head.Spend a b = refl
-head_stands p head.Log a b = refl
-head_stands p head.Return a b = refl
+head_stands p _ a b = refl
 
 pub stands_same : (p : Position) (w : Written) (a b : ℕ) → may_stand p (line_at a w) ≡ may_stand p (line_at b w)
-stands_same p (Plain form) a b = refl
-stands_same p (Picked ns) a b = refl
 stands_same p (Single h t) a b = head_stands p h _ _
-stands_same p (Calling kind into x y z) a b = refl
+stands_same p _ a b = refl
 
 head_openers : (openers : List ℕ) (number : ℕ) (h : StatementHead) (a b : ℕ) → openers_after openers number (head_line h a) ≡ openers_after openers number (head_line h b)
 head_openers openers number (head.Let x) a b = refl
-head_openers openers number (head.Put r) a b = refl
-head_openers openers number head.If a b = refl
-head_openers openers number head.Repeat a b = refl
-head_openers openers number head.Spend a b = refl
-head_openers openers number head.Log a b = refl
-head_openers openers number head.Return a b = refl
+head_openers openers number _ a b = refl
 
 openers_same : (openers : List ℕ) (number : ℕ) (w : Written) (a b : ℕ) → openers_after openers number (line_at a w) ≡ openers_after openers number (line_at b w)
-openers_same openers number (Plain form) a b = refl
-openers_same openers number (Picked ns) a b = refl
 openers_same openers number (Single h t) a b = head_openers openers number h _ _
-openers_same openers number (Calling kind into x y z) a b = refl
+openers_same openers number _ a b = refl
 
 -- the blocks that lines open, whatever the numbers of their nodes
 taken_openers : (ws : List WrittenLine) (r now : Reader) (base : ℕ) → taken_by (Some r) ws ≡ Some now → now.place.openers ≡ openers_from r.place.openers (lines_at base ws)

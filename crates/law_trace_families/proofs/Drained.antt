@@ -1,6 +1,7 @@
 -- A device ends after the completion of each request that arrived for it.
 use Rattle.std.proofs.Common.{◌≡◌, ◌≢◌, ℕ, zero, suc, ◌+◌, ◌<◌, ◌≤◌, ◌==◌, Bool, true, false, not, ◌||◌, List, [], ◌∷◌, ◌++◌, ◌⊎◌, inl, inr, Option, Some, None, drop, slice_get, take, refl, sym, ap, subst, ◌∙◌, arith}
 use Rattle.std.proofs.lemmas.Bool.{cases_Bool, eqb-true}
+use Rattle.std.proofs.Math.Bool.{or-true}
 use Rattle.wdf_base.specs.Meaning.{Meaning}
 use Rattle.wdf_base.specs.declared.ids.Cpu.{Cpu}
 use Rattle.wdf_base.specs.declared.ids.Handle.{Handle}
@@ -37,7 +38,7 @@ use Rattle.law_machine_base.specs.FactsOfEvents.{IsTick}
 use Rattle.law_machine_base.specs.OverRuns.{completes}
 use Rattle.wdf_model.proofs.Runs.{along_run, in_front, run_front, take-take-below, take_ended, take_next}
 use Rattle.law_machine_base.proofs.Follows.{follows, state_goes_on}
-use Rattle.wdf_model.proofs.Tests.{both, both_left, both_right, itself}
+use Rattle.wdf_model.proofs.Tests.{both, both_left, both_right, itself, right_so}
 use Rattle.wdf_model.proofs.Counts.{equal, one_or_two}
 use Rattle.law_machine_base.proofs.Fits.{wrong_kind_of_first}
 use Rattle.law_machine_base.proofs.FitsOfEvents.{event_fits}
@@ -164,10 +165,6 @@ ever_place_by s run k (Some e) at before h = elim (cases_Bool (ever s (take k ru
       let told_ : (ever s (take k run) || shows s e) ≡ true = sym (ever_next s (take k run) e) ∙ subst (λ es. ever s es ≡ true) (take_next run k e at) h in
       (k, omega arith, (e, at, right_so (ever s (take k run)) (shows s e) new told_))
 ]
-  where
-    right_so : (a b : Bool) → a ≡ false → (a || b) ≡ true → b ≡ true
-    right_so true b h k = absurd (let z : ⊥ = cc in z)
-    right_so false b h k = k
 
 pub ever_place : (s : Sign) (run : List Event) (k : ℕ) → ever s (take k run) ≡ true → (i : ℕ) × (i < k) × ((e : Event) × (slice_get run i ≡ Some e) × (shows s e ≡ true))
 ever_place s run zero h = absurd (let no_ = never_yet s in let z : ⊥ = cc in z)
@@ -268,11 +265,7 @@ settled_request {A} plan m run k j o x agent p is_run end early at to =
 settled_by : {A : Type 0} (plan : Plan) (m : Meaning A) (run : List Event) (k j : ℕ) (o : Handle) (agent : ℕ) (p : Post) (answer : Option Handle) → IsRunOf plan m run → slice_get run k ≡ Some (event.Destroy o) → j < k → slice_get run j ≡ Some (event.Posted agent p answer)
     → (b : Bool) → is_id o.id.0 (brought_to p) ≡ b → (to : Option ℕ) → brought_to p ≡ to → (not (is_id o.id.0 to) || is_completed (take k run) (where_so (is_there to) (id_in answer))) ≡ true
 settled_by plan m run k j o agent p answer is_run end early at b e None to = refl
-settled_by plan m run k j o agent p None is_run end early at b e (Some d) to = right_true (not (d == o.id.0))
-  where
-    right_true : (a : Bool) → (a || true) ≡ true
-    right_true true = refl
-    right_true false = refl
+settled_by plan m run k j o agent p None is_run end early at b e (Some d) to = or-true (not (d == o.id.0))
 settled_by plan m run k j o agent p (Some x) is_run end early at false e (Some d) to = let off : (d == o.id.0) ≡ false = sym (ap (is_id o.id.0) to) ∙ e in rw off refl
 settled_by plan m run k j o agent p (Some x) is_run end early at true e (Some d) to =
     let it : (d == o.id.0) ≡ true = sym (ap (is_id o.id.0) to) ∙ e in

@@ -20,7 +20,7 @@ use Rattle.wdf_model.specs.rules.Steps.{after, may}
 use Rattle.wdf_model.specs.rules.Ready.{IsRunOf, state_after}
 use Rattle.wdf_model.proofs.Runs.{slice_get-take, take_ended, take_next}
 use Rattle.law_machine_base.proofs.Follows.{state_goes_on}
-use Rattle.wdf_model.proofs.Tests.{both, both_left, both_right}
+use Rattle.wdf_model.proofs.Tests.{all_four, both, both_left, both_right, first, left_fails, right_fails, right_so, second}
 use Rattle.wdf_model.proofs.Counts.{equal}
 use Rattle.wdf_model.proofs.Maps.{entry_put_same}
 use Rattle.law_machine_base.proofs.OwnEvents.{not_found}
@@ -40,7 +40,7 @@ use Rattle.law_trace_once.proofs.Cleanups.{ends_after_cleanup}
 use Rattle.law_trace_once.proofs.Ends.{begins_early, cleanup_tells, ends_once, never, told_at_each}
 use Rattle.law_trace_once.proofs.References.{ends_balanced}
 use Rattle.law_machine_lives.proofs.Lives.{early_there, live_early}
-use Rattle.law_machine_lives.proofs.Choices.{and_no, no_and, or_not}
+use Rattle.law_machine_lives.proofs.Choices.{or_not}
 use Rattle.law_machine_lives.proofs.Keeping.{comes}
 use Rattle.law_trace_families.proofs.Families.{Family, First_by, First_none, Knows_declared, Knows_none, Knows_told, Tells, family_at_each, first, knows, told_still}
 use Rattle.law_trace_families.proofs.Telling.{Makes, event_makes}
@@ -202,10 +202,6 @@ closed_by plan m run k x (Some e) is_run at before some_ done =
           let o = cleanup_of p e shown in
           below_cleaned plan m run k x o.0 is_run (at ∙ ap Some o.1) (sym o.2) some_ done
     ]
-  where
-    right_so : (a b : Bool) → a ≡ false → (a || b) ≡ true → b ≡ true
-    right_so true b h k = absurd (let z : ⊥ = cc in z)
-    right_so false b h k = k
 
 closed_at : {A : Type 0} (plan : Plan) (m : Meaning A) (run : List Event) → IsRunOf plan m run → (n : ℕ) → Closed plan run (take n run)
 closed_at plan m run is_run zero x some_ done = absurd (let no_ = never_yet (sign.Cleaned (law.parent_of plan run x)) in let z : ⊥ = cc in z)
@@ -217,29 +213,21 @@ none_above plan all before closed (suc n) o h =
     let p : ℕ = law.parent_of plan all o in
     or_not (ever (sign.Cleaned o) before) (not (p == 0) && cleaned_above plan all before n p) h
     (elim (cases_Bool (p == 0)) [
-      | inl root ↦ no_and (not (p == 0)) (cleaned_above plan all before n p) (ap not root)
+      | inl root ↦ left_fails (not (p == 0)) (cleaned_above plan all before n p) (ap not root)
       | inr above ↦
           let some_ : p ≢ 0 = λ e. (let z : (p == 0) ≡ true = equal p 0 e in let w : ⊥ = cc in w) in
-          and_no (not (p == 0)) (cleaned_above plan all before n p)
+          right_fails (not (p == 0)) (cleaned_above plan all before n p)
           (none_above plan all before closed n p (false_from_ne_true (ever (sign.Cleaned p) before) (λ yes. let on_ = closed o some_ yes in let z : ⊥ = cc in z)))
     ])
 
 law_3_by : {A : Type 0} (plan : Plan) (m : Meaning A) (run : List Event) (k : ℕ) (e : Event) → IsRunOf plan m run → slice_get run k ≡ Some e → law_3 plan run (take k run) e ≡ true
 law_3_by plan m run k (event.Start cpu c o r) is_run at = elim (cases_Bool (same_callback c callback.EvtDestroyCallback)) [
-  | inl it ↦ left_so (same_callback c callback.EvtDestroyCallback) (not (cleaned_above plan run (take k run) (most_above plan run) o.id.0)) it
+  | inl it ↦ first (same_callback c callback.EvtDestroyCallback) (not (cleaned_above plan run (take k run) (most_above plan run) o.id.0)) it
   | inr other ↦
       let early : ever (sign.Cleaned o.id.0) (take k run) ≡ false = begins_early plan m run k cpu c o r is_run at other in
-      right_true (same_callback c callback.EvtDestroyCallback) (not (cleaned_above plan run (take k run) (most_above plan run) o.id.0))
+      second (same_callback c callback.EvtDestroyCallback) (not (cleaned_above plan run (take k run) (most_above plan run) o.id.0))
       (ap not (none_above plan run (take k run) (closed_at plan m run is_run k) (most_above plan run) o.id.0 early))
 ]
-  where
-    left_so : (a b : Bool) → a ≡ true → (a || b) ≡ true
-    left_so true b h = refl
-    left_so false b h = absurd (let z : ⊥ = cc in z)
-
-    right_true : (a b : Bool) → b ≡ true → (a || b) ≡ true
-    right_true true b h = refl
-    right_true false b h = h
 law_3_by plan m run k _ is_run at = refl
 
 pub law_3_at_each : {A : Type 0} (plan : Plan) (m : Meaning A) (run : List Event) (k : ℕ) (e : Event) → IsRunOf plan m run → slice_get run k ≡ Some e → law_3 plan run (take k run) e ≡ true
@@ -323,12 +311,9 @@ told_child : {A : Type 0} (plan : Plan) (m : Meaning A) (run : List Event) (k : 
 told_child plan m run k o is_run at j e here None h = refl
 told_child plan m run k o is_run at j e here (Some t) h = child_by plan m run k t.object o is_run at (told_known plan run j e t here h)
 
-four : (a b c d : Bool) → a ≡ true → b ≡ true → c ≡ true → d ≡ true → (a && b && c && d) ≡ true
-four a b c d ha hb hc hd = both (a && b && c) d (both (a && b) c (both a b ha hb) hc) hd
-
 ends_well_at : {A : Type 0} (plan : Plan) (m : Meaning A) (run : List Event) (k : ℕ) (o : Handle) → IsRunOf plan m run → slice_get run k ≡ Some (event.Destroy o) → ends_well plan run (take k run) (Some o.id.0) ≡ true
 ends_well_at plan m run k o is_run at =
-    four (ever (sign.Cleaned o.id.0) (take k run)) (not (ever (sign.Destroyed o.id.0) (take k run)))
+    all_four (ever (sign.Cleaned o.id.0) (take k run)) (not (ever (sign.Destroyed o.id.0) (take k run)))
     (declared_ended plan run (take k run) o.id.0 (length plan.declared) && list_all (is_ended_at plan run (take k run) o.id.0) run)
     (times (sign.Dereferenced o.id.0) (take k run) == times (sign.Referenced o.id.0) (take k run))
     (ends_after_cleanup plan m run k o is_run at) (ap not (ends_once plan m run k o is_run at))

@@ -28,7 +28,7 @@ use Rattle.wdf_model.specs.declared.deed.Deed.TheVariants.{AskStop, Present, Pus
 use Rattle.wdf_model.specs.rules.Deeds.{do_deed, do_deeds, hold_power}
 use Rattle.wdf_model.specs.rules.Starts.{effect, effect_for, new_frame, next_number, rank_ready_for, take_if_any}
 use Rattle.wdf_model.specs.rules.Steps.{after, may}
-use Rattle.wdf_model.proofs.Tests.{both, both_left, both_right}
+use Rattle.wdf_model.proofs.Tests.{both, both_left, both_right, right_fails}
 use Rattle.wdf_model.proofs.Counts.{equal, not_equal, one_or_two}
 use Rattle.law_machine_base.proofs.KeptByDeeds.{KeptIn}
 use Rattle.law_machine_base.specs.Agreement.{managed_origin}
@@ -41,7 +41,6 @@ use Rattle.wdf_laws.specs.Words.{stands}
 use Rattle.law_trace_requests.proofs.Cancels.{stands_next}
 use Rattle.law_trace_requests.proofs.CancelsOverRuns.{started}
 use Rattle.law_trace_requests.proofs.FirstParts.{start_reads}
-use Rattle.law_machine_lives.proofs.Choices.{and_no}
 use Rattle.law_trace_held.proofs.Holdings.{NotesChange, NotesStay, deed_notes, noted, notes_same, taken_notes}
 use Rattle.law_trace_requests.proofs.Marks.{front_queued}
 use Rattle.law_trace_requests.proofs.Standing.{stands_no_more, stays_standing}
@@ -59,7 +58,7 @@ HeldAsTold plan es P = (r q : ℕ) → is_managed plan q ≡ true → is_taken r
 -- no power-managed queue has the number 0
 pub managed_some : (plan : Plan) (q : ℕ) → is_managed plan q ≡ true → (0 == q) ≡ false
 managed_some plan q h = elim (one_or_two 0 q) [
-  | inl e ↦ absurd (let and_no : is_managed plan 0 ≡ true = subst (λ (p : ℕ). is_managed plan p ≡ true) (sym e) h in let z : ⊥ = cc in z)
+  | inl e ↦ absurd (let right_fails : is_managed plan 0 ≡ true = subst (λ (p : ℕ). is_managed plan p ≡ true) (sym e) h in let z : ⊥ = cc in z)
   | inr n ↦ not_equal 0 q n
 ]
 
@@ -103,7 +102,7 @@ module _ (plan : Plan) (es : List Event) (e : Event) (P : Power) (x p : ℕ) (t 
           ∙ sym (equal (noted O r) q (ap (noted O) at ∙ change.here ∙ here))
       | inr d ↦
           stands_next (sign.TakingFrom r q) (sign.GivingUp r) es e
-          ∙ stays_standing (shows (sign.TakingFrom r q) e) (shows (sign.GivingUp r) e) (is_taken r q es) (taking_told e x p r q t ∙ and_no (x == r) (p == q) (not_equal p q d)) (ap (is_id r) g)
+          ∙ stays_standing (shows (sign.TakingFrom r q) e) (shows (sign.GivingUp r) e) (is_taken r q es) (taking_told e x p r q t ∙ right_fails (x == r) (p == q) (not_equal p q d)) (ap (is_id r) g)
           ∙ held r q h ∙ ap (λ n. n == q) (ap (noted P) at ∙ free) ∙ managed_some plan q h
           ∙ sym (not_equal (noted O r) q (λ y. d (sym (ap (noted O) at ∙ change.here) ∙ y)))
     ]
@@ -114,7 +113,7 @@ module _ (plan : Plan) (es : List Event) (e : Event) (P : Power) (x p : ℕ) (t 
 
   pub take_step : (u : Bool) → is_managed plan p ≡ u → HeldAsTold plan es P → HeldAsTold plan (es ++ e ∷ []) (if u then power.held_more P x p else P)
   take_step true m held r q h = take_managed (power.held_more P x p) (taken_notes P p x) held r q h
-  take_step false m held r q h = others_taken P r q (and_no (x == r) (p == q) (not_equal p q (λ y. apart_from m q h y))) refl held h
+  take_step false m held r q h = others_taken P r q (right_fails (x == r) (p == q) (not_equal p q (λ y. apart_from m q h y))) refl held h
 
 -- ---- what isn't held is noted nowhere
 

@@ -40,7 +40,7 @@ use Rattle.wdf_model.specs.rules.Deeds.{do_deed, do_deeds, give_up}
 use Rattle.wdf_model.specs.rules.Faults.{arg_is}
 use Rattle.wdf_model.specs.rules.Calls.{Outcome, class_in, create_outcome, creation, forwards_nowhere, may_send, new_handle, number, number_in, origin_or_none, outcome, refused, requeue_outcome, retrieve_front, success}
 use Rattle.wdf_model.specs.rules.Steps.{view_of}
-use Rattle.wdf_model.proofs.Tests.{both, itself}
+use Rattle.wdf_model.proofs.Tests.{both, itself, right_fails}
 use Rattle.law_machine_base.proofs.Fits.{wrong_kind_of_first}
 use Rattle.law_machine_base.proofs.FitsOfCalls.{Clean}
 use Rattle.law_machine_base.proofs.KeptByDeeds.{KeptIn}
@@ -49,7 +49,6 @@ use Rattle.wdf_laws.specs.Events.{argument_object, given_up, is_one, is_success,
 use Rattle.law_trace_requests.proofs.Cancels.{named}
 use Rattle.law_trace_requests.proofs.Entries.{forward_by}
 use Rattle.law_machine_lives.proofs.Readers.{power_of}
-use Rattle.law_machine_lives.proofs.Choices.{and_no}
 use Rattle.law_machine_lives.proofs.ReasonsOfCalls.{call_of}
 use Rattle.law_trace_held.proofs.Holdings.{NotesChange, NotesStay, acknowledged_notes, completed_notes, given_notes, notes_same}
 use Rattle.law_trace_requests.proofs.Marks.{front_queued}
@@ -200,7 +199,7 @@ module _ {A : Type 0} {F B : ℕ → Bool} (plan : Plan) (es : List Event) (S : 
       sends plan es S hold held cpu (call_of call.WdfRequestSend n a b x) v (object_in b) (may_send S (object_in a) (object_in b)) (arg_is x 1) answer refl
       (λ forget well. ap (λ u. where_so u (argument_object a)) (both (arg_is x 1) (is_one v) forget well) ∙ it)
       (λ comes. ap (λ u. where_so (u && is_one v) (argument_object a)) comes)
-      (λ badly. ap (λ u. where_so u (argument_object a)) (and_no (arg_is x 1) (is_one v) badly))
+      (λ badly. ap (λ u. where_so u (argument_object a)) (right_fails (arg_is x 1) (is_one v) badly))
   did_notes cpu f call.WdfIoQueueRetrieveNextRequest n a b x v clean answer =
       let it = named (view_of plan S cpu.0 f) (call_of call.WdfIoQueueRetrieveNextRequest n a b x) refl (wrong_kind_of_first (view_of plan S cpu.0 f) (call_of call.WdfIoQueueRetrieveNextRequest n a b x) (clean fault.WrongKind)) in
       takes_if plan es S hold held cpu (call_of call.WdfIoQueueRetrieveNextRequest n a b x) v (object_in a) (is_parallel_queue plan (object_in a)) (not (queue_delivers plan S (object_in a))) kept answer

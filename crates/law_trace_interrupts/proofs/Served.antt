@@ -2,6 +2,7 @@
 use Rattle.std.proofs.Common.{if◌then◌else◌, ◌≡◌, ℕ, ◌≢◌, ◌==◌, Bool, true, false, not, ◌&&◌, ◌||◌, List, [], ◌∷◌, ◌++◌, inl, inr, Option, Some, None, is_some, drop, length, refl, sym, ap, subst, ◌∙◌, arith}
 use Rattle.std.specs.List.{list_all}
 use Rattle.std.proofs.lemmas.Bool.{cases_Bool, eqb-true, or_cases}
+use Rattle.std.proofs.Math.Bool.{and-false}
 use Rattle.wdf_base.specs.Meaning.{Meaning}
 use Rattle.wdf_base.specs.Plan.{declared_of}
 use Rattle.wdf_base.specs.Resolved.{IsResolved}
@@ -95,13 +96,9 @@ or_none false b n h = absurd (let z : ⊥ = cc in z)
 stage_by : (w : Watch) → w.watched ≡ true → (s : Stage) (j : Option Handle) (rest : List Step) (a : Standing) (on queued : Bool) → a.on ≡ on → (s ≡ stage.Quiet → queued ≡ false) → safe w rest (passes w s j a) ≡ true
     → ((on || queued) ≡ true → quiet_by s (is_quieted rest) ≡ true) → (enabling s (is_for w.interrupt j) on || (on || queued)) ≡ true → is_quieted rest ≡ true
 stage_by w watched stage.Enabled j rest a on queued is quiet ok before now = elim (cases_Bool (is_for w.interrupt j)) [
-  | inl e ↦ quieted_by w watched rest (passes w stage.Enabled j a) ok (let t : (a.clean && not (is_for w.interrupt j)) ≡ (a.clean && false) = ap (λ b. a.clean && not b) e in t ∙ off a.clean)
+  | inl e ↦ quieted_by w watched rest (passes w stage.Enabled j a) ok (let t : (a.clean && not (is_for w.interrupt j)) ≡ (a.clean && false) = ap (λ b. a.clean && not b) e in t ∙ and-false a.clean)
   | inr e ↦ before (or_self on queued (subst (λ (b : Bool). ((if b then true else on) || (on || queued)) ≡ true) e now))
 ]
-  where
-    off : (b : Bool) → (b && false) ≡ false
-    off true = refl
-    off false = refl
 stage_by w watched stage.Disabled j rest a on queued is quiet ok before now = before (by (is_for w.interrupt j) now)
   where
     by : (b : Bool) → ((if b then false else on) || (on || queued)) ≡ true → (on || queued) ≡ true

@@ -104,8 +104,7 @@ stage_elsewhere device _ j d h = (refl, refl, refl, refl)
 -- the same test of two modules
 success_same : (v : Value) → pnp.is_success v ≡ laws_success v
 success_same (Num n) = refl
-success_same (Obj o) = refl
-success_same (Stat s) = refl
+success_same _ = refl
 
 pub end_elsewhere : (cpu : Cpu) (c : Callback) (o : Handle) (v : Value) (d i : ℕ) (b : Bool) → same_callback c callback.EvtDeviceD0Entry ≡ b → (b ≡ true → (o.id.0 == d) ≡ false) → Silent d i (event.End cpu c o v)
 end_elsewhere cpu c o v d i false e h = record { entered = rw e refl; exit = refl; enabled = refl; disabled = refl; up = refl; down = refl }

@@ -4,7 +4,7 @@ use Rattle.std.specs.Bool.{beq}
 use Rattle.std.specs.List.{flat_map, list_any}
 use Rattle.std.proofs.lemmas.List.{reverse-append}
 use Rattle.std.proofs.lemmas.List.Concat.{flat_map-cons}
-use Rattle.std.proofs.Math.Bool.{and-false, or-false}
+use Rattle.std.proofs.Math.Bool.{and-false, and-true, or-false, or-true}
 use Rattle.wdf_base.specs.declared.ids.Handle.{Handle}
 use Rattle.wdf_base.specs.declared.call.Callback.{Callback}
 use Rattle.wdf_base.specs.declared.call.Callback.TheVariants as callback
@@ -19,7 +19,6 @@ use Rattle.wdf_model.specs.parts.Pnp.{DeviceSteps, InterruptSteps, disable_steps
 use Rattle.wdf_model.proofs.Counts.{count_behind, count_cons, count_no, count_of_one}
 use Rattle.wdf_model.proofs.Tests.{both}
 use Rattle.law_trace_power.proofs.Standings.{Leads, Standing, Watch, begins, could_fail, leads_on, may_begin, may_pass, passes, rests, succeeds}
-use Rattle.law_machine_counts.proofs.HeldOverRuns.{with_true}
 
 -- what is known of a standing; the last three tests ask for nothing where they are false
 pub record Is (w : Watch) (P : Phase) (H U O E S C : Bool) (b : Standing) : Type 0 where
@@ -39,10 +38,6 @@ pub record Suits (w : Watch) (p : DeviceSteps) : Type 0 where
   pub once : count_by (λ (x : InterruptSteps). x.interrupt.id.0 == w.interrupt) p.interrupts ≡ flag w.watched
 
 -- ---- tests
-
-or_yes : (b : Bool) → (b || true) ≡ true
-or_yes true = refl
-or_yes false = refl
 
 not_flagged : (b : Bool) → flag b ≡ 0 → b ≡ false
 not_flagged true n = absurd (omega arith)
@@ -103,9 +98,9 @@ module _ (w : Watch) where
           phase = k.phase;
           hardware = k.hardware;
           up = k.up;
-          on = rw mine (or_yes b.on);
+          on = rw mine (or-true b.on);
           entered = k.entered;
-          since = rw (is, mine, or_yes b.since) refl;
+          since = rw (is, mine, or-true b.since) refl;
           clean = refl;
           plain = k.plain;
         }))
@@ -132,7 +127,7 @@ module _ (w : Watch) where
     disables_other : (x : InterruptSteps) (O E S C : Bool) (a : Standing) → is_mine x ≡ false → Is w P H U O E S C a → Leads w (disable_steps x) a (Is w P H U O E S C)
     disables_other x O E S C a other h =
         leads_on (passing stage.Disabled (Some x.interrupt) {a = a} {Q = Is w P H U O E S C} (rw other refl)
-        (record { phase = h.phase; hardware = h.hardware; up = h.up; on = rw other (with_true a.on ∙ h.on); entered = h.entered; since = h.since; clean = h.clean; plain = h.plain }))
+        (record { phase = h.phase; hardware = h.hardware; up = h.up; on = rw other (and-true a.on ∙ h.on); entered = h.entered; since = h.since; clean = h.clean; plain = h.plain }))
         (λ b k. may_run_if x.disables callback.EvtInterruptDisable x.interrupt (rw other refl) k k)
 
     disables_mine : (x : InterruptSteps) (E C : Bool) (a : Standing) → w.watched ≡ true → is_mine x ≡ true → Is w P H U true E true C a → Leads w (disable_steps x) a (Is w P H U false E true C)
@@ -185,7 +180,7 @@ module _ (w : Watch) where
   quiets [] P H U E S C a n h =
       let none : w.watched ≡ false = not_flagged w.watched (sym n) in
       record { well = refl; after = record { phase = h.phase; hardware = h.hardware; up = h.up; on = h.on; entered = h.entered; since = h.since; clean = rw none refl; plain = h.plain } }
-  quiets (x ∷ xs) P H U E S C a n h = passing stage.Quiet None refl (record { phase = h.phase; hardware = h.hardware; up = h.up; on = h.on; entered = h.entered; since = h.since; clean = rw h.on (or_yes (not w.watched)); plain = h.plain })
+  quiets (x ∷ xs) P H U E S C a n h = passing stage.Quiet None refl (record { phase = h.phase; hardware = h.hardware; up = h.up; on = h.on; entered = h.entered; since = h.since; clean = rw h.on (or-true (not w.watched)); plain = h.plain })
 
   -- ---- entry and exit
 
@@ -198,7 +193,7 @@ module _ (w : Watch) where
   enters : (P : Phase) (S C : Bool) (a : Standing) (b : Bool) → b ≡ w.entry → Is w P true false false false S C a → Leads w (if b then step.Run callback.EvtDeviceD0Entry None ∷ [] else []) a (Is w P true false false true S C)
   enters P S C a true e h = record {
     well = rw (h.hardware, h.up, h.on) refl;
-    after = record { phase = h.phase; hardware = h.hardware; up = h.up; on = h.on; entered = refl; since = h.since; clean = h.clean; plain = or_yes w.entry };
+    after = record { phase = h.phase; hardware = h.hardware; up = h.up; on = h.on; entered = refl; since = h.since; clean = h.clean; plain = or-true w.entry };
   }
   enters P S C a false e h = record {
     well = refl;

@@ -1,6 +1,6 @@
 -- What holds of a device and one of its interrupts is kept by each stage that the device passes.
 use Rattle.std.proofs.Common.{if◌then◌else◌, ◌≡◌, ℕ, ◌==◌, Bool, true, false, not, ◌&&◌, ◌||◌, List, [], ◌∷◌, ◌++◌, Option, Some, None, is_some, refl, sym, subst, ◌∙◌}
-use Rattle.std.proofs.Math.Bool.{or-false}
+use Rattle.std.proofs.Math.Bool.{and-false, and-true, or-false, or-true}
 use Rattle.wdf_base.specs.declared.ids.Handle.{Handle}
 use Rattle.wdf_base.specs.declared.plan.Plan.{Plan}
 use Rattle.wdf_base.specs.declared.event.Event.{Event}
@@ -11,7 +11,7 @@ use Rattle.wdf_base.specs.declared.event.Step.{Step}
 use Rattle.wdf_base.specs.declared.event.Step.TheVariants as step
 use Rattle.wdf_model.specs.declared.entries.DevicePower.{DevicePower}
 use Rattle.wdf_model.specs.parts.Pnp.{Sequence, passed}
-use Rattle.wdf_model.proofs.Tests.{both_left, both_right, itself}
+use Rattle.wdf_model.proofs.Tests.{alone, both_left, both_right, itself}
 use Rattle.wdf_laws.specs.declared.sign.Sign.TheVariants as sign
 use Rattle.wdf_laws.specs.Laws.{is_enabled_in_power}
 use Rattle.law_trace_power.specs.Steps.{is_for}
@@ -38,29 +38,12 @@ module _ (plan : Plan) (es : List Event) (device : Handle) (i : ℕ) where
   w = watch plan device.id.0 i
 
   on_more : (a : Standing) (mine x : Bool) → (not mine || w.watched) ≡ true → a.on ≡ (w.watched && x) → (a.on || mine) ≡ (w.watched && (if mine then true else x))
-  on_more a true x m e = or_yes a.on ∙ sym (and_yes w.watched m)
-    where
-      or_yes : (b : Bool) → (b || true) ≡ true
-      or_yes true = refl
-      or_yes false = refl
-
-      and_yes : (b : Bool) → b ≡ true → (b && true) ≡ true
-      and_yes true h = refl
-      and_yes false h = absurd (let z : ⊥ = cc in z)
+  on_more a true x m e = or-true a.on ∙ sym (alone w.watched m)
   on_more a false x m e = or-false a.on ∙ e
 
   on_less : (a : Standing) (mine x : Bool) → a.on ≡ (w.watched && x) → (a.on && not mine) ≡ (w.watched && (if mine then false else x))
-  on_less a true x e = and_no a.on ∙ sym (and_no w.watched)
-    where
-      and_no : (b : Bool) → (b && false) ≡ false
-      and_no true = refl
-      and_no false = refl
-  on_less a false x e = and_one a.on ∙ e
-    where
-      and_one : (b : Bool) → (b && true) ≡ b
-      and_one true = refl
-      and_one false = refl
-
+  on_less a true x e = and-false a.on ∙ sym (and-false w.watched)
+  on_less a false x e = and-true a.on ∙ e
   -- ---- what the events say after it
 
   told_enabled : (a : Standing) (h : Handle) (mine : Bool) → (h.id.0 == i) ≡ mine → a.entered ≡ true → Told plan es device.id.0 i a

@@ -1,6 +1,7 @@
 -- What holds of devices holds at each place of every run of a resolved plan.
 use Rattle.std.proofs.Common.{◌≡◌, ℕ, zero, suc, ◌+◌, ◌==◌, ◌≤◌, Bool, true, false, not, ◌&&◌, ◌||◌, List, [], ◌∷◌, ◌++◌, ◌⊎◌, inl, inr, Option, Some, None, is_some, length, map, slice_get, take, refl, sym, ap, subst, ◌∙◌, arith}
 use Rattle.std.specs.List.{range_with_len}
+use Rattle.std.proofs.Math.Bool.{and-false}
 use Rattle.wdf_base.specs.Meaning.{Meaning}
 use Rattle.wdf_base.specs.Resolved.{IsResolved, is_working}
 use Rattle.wdf_base.specs.Plan.{declared_of}
@@ -86,13 +87,8 @@ module _ (plan : Plan) (resolved : IsResolved plan) (d i : ℕ) where
   rests_first info false e at = refl
   rests_first info true e at =
       let off : is_interrupt_of d (interrupt_of plan i) ≡ false = unwatched_if (is_interrupt_of d (interrupt_of plan i)) refl (works_as (declared_of plan d) info at ∙ e) in
-      let none : (watch plan d i).watched ≡ false = rw off (and_no (is_some (device_of plan d))) in
+      let none : (watch plan d i).watched ≡ false = rw off (and-false (is_some (device_of plan d))) in
       rw none refl
-    where
-      and_no : (b : Bool) → (b && false) ≡ false
-      and_no true = refl
-      and_no false = refl
-
   holds_first : (x : Option DeviceInfo) → device_of plan d ≡ x → Holds plan (opening_sequence plan d x) (opening_device_power x) false [] d i
   holds_first None at = record {
     standing = record { phase = Removed; hardware = false; entered = not (watch plan d i).entry; up = false; on = false; since = false; clean = false };
@@ -100,30 +96,22 @@ module _ (plan : Plan) (resolved : IsResolved plan) (d i : ℕ) where
     phase = refl;
     up = refl;
     hardware = refl;
-    on = sym (and_off (watch plan d i).watched);
+    on = sym (and-false (watch plan d i).watched);
     plain = not_either (watch plan d i) (watch plan d i).entry;
     owed = refl;
     told = record { entered = entered_yet; since = λ w h. absurd (let z : ⊥ = cc in z); on = λ h. absurd (let z : ⊥ = cc in z); lasting = λ h. absurd (let z : ⊥ = cc in z); power = λ h. absurd (let z : ⊥ = cc in z) };
   }
-    where
-      and_off : (b : Bool) → (b && false) ≡ false
-      and_off true = refl
-      and_off false = refl
   holds_first (Some info) at = record {
     standing = record { phase = opening_phase info.working; hardware = info.working; entered = not (watch plan d i).entry; up = info.working; on = false; since = false; clean = false };
     suits = record { entry = entry_declared plan d; once = once_by plan d i (is_interrupt_of d (interrupt_of plan i)) refl ∙ rw at refl };
     phase = refl;
     up = refl;
     hardware = refl;
-    on = sym (and_off (watch plan d i).watched);
+    on = sym (and-false (watch plan d i).watched);
     plain = not_either (watch plan d i) (watch plan d i).entry;
     owed = rests_first info info.working refl at;
     told = record { entered = entered_yet; since = λ w h. absurd (let z : ⊥ = cc in z); on = λ h. absurd (let z : ⊥ = cc in z); lasting = λ h. absurd (let z : ⊥ = cc in z); power = λ h. powered_yet plan d (rw at h) };
   }
-    where
-      and_off : (b : Bool) → (b && false) ≡ false
-      and_off true = refl
-      and_off false = refl
 
 kept_first : {A : Type 0} (plan : Plan) (m : Meaning A) → IsResolved plan → Kept plan (opening plan m) []
 kept_first plan m resolved = record {

@@ -1,6 +1,7 @@
 -- What the words on a device and its interrupts say after one event more.
 use Rattle.std.proofs.Common.{if◌then◌else◌, ◌≡◌, ℕ, Bool, true, false, not, ◌&&◌, ◌||◌, List, [], ◌∷◌, ◌++◌, fold, refl, ap, ◌∙◌}
 use Rattle.std.proofs.lemmas.Grind.{fold-append}
+use Rattle.std.proofs.Math.Bool.{or-false}
 use Rattle.wdf_base.specs.declared.plan.Plan.{Plan}
 use Rattle.wdf_base.specs.declared.call.Callback.TheVariants as callback
 use Rattle.wdf_base.specs.declared.event.Event.{Event}
@@ -59,12 +60,7 @@ stood_comes : (p a b : Sign) (es : List Event) (e : Event) → shows p e ≡ tru
 stood_comes p a b es e s = stood_next p a b es e ∙ rw s refl
 
 never : (p : Sign) (es : List Event) (e : Event) → shows p e ≡ false → ever p (es ++ e ∷ []) ≡ ever p es
-never p es e n = came_next p es e ∙ rw n (or_no (ever p es))
-  where
-    or_no : (b : Bool) → (b || false) ≡ b
-    or_no true = refl
-    or_no false = refl
-
+never p es e n = came_next p es e ∙ rw n (or-false (ever p es))
 -- ---- the words of a device and an interrupt
 
 pub or_more : (a b c : Bool) → (b ≡ true → c ≡ true) → (a || b) ≡ true → (a || c) ≡ true

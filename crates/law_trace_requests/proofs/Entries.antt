@@ -92,12 +92,8 @@ owned_nowhere : {A : Type 0} {F B : ℕ → Bool} (S : State A) (r q : ℕ) → 
 owned_nowhere S r q h k = k.queued q r ∙ ap flag (unqueued (place_of S.requests r) h)
   where
     unqueued : (p : Place) → is_owned p ≡ true → is_queued_in q p ≡ false
-    unqueued place.Owned e = refl
     unqueued (place.Queued p) e = absurd (let z : ⊥ = cc in z)
-    unqueued (place.Returning p) e = refl
-    unqueued (place.Sent t) e = refl
-    unqueued (place.Closing s) e = refl
-    unqueued place.Done e = refl
+    unqueued _ e = refl
 
 -- a step by one request, which waits nowhere before
 one_enters : {A : Type 0} {F B : ℕ → Bool} (S : State A) (e : Event) (U : Queues) (r : ℕ) → is_owned (place_of S.requests r) ≡ true → KeptIn F B S → ((x : ℕ) → shows (sign.Entry x) e ≡ true → x ≡ r)

@@ -32,7 +32,7 @@ use Rattle.wdf_model.specs.rules.Ready.{IsRunOf, state_after}
 use Rattle.wdf_model.specs.Runs.{IsRun}
 use Rattle.wdf_model.proofs.Runs.{slice_get-take, take_ended, take_next}
 use Rattle.law_machine_base.proofs.Follows.{follows, state_goes_on}
-use Rattle.wdf_model.proofs.Tests.{both_left, both_right}
+use Rattle.wdf_model.proofs.Tests.{both_left, both_right, right_so}
 use Rattle.wdf_model.proofs.Counts.{equal}
 use Rattle.law_machine_base.proofs.OwnEvents.{not_found}
 use Rattle.law_machine_lives.proofs.Framing.{Framing, framing_at_each}
@@ -190,11 +190,6 @@ start_parts plan m S cpu c o r h = (search (both_left, both_right), search (both
 found_by : (p : Begun → Bool) (P : Begun → Type 0) (b : Begun) (bs : List Begun) (t : Bool) → p b ≡ t → (list_any p bs ≡ true → Each P bs → (x : Begun) × (p x ≡ true) × P x) → (p b || list_any p bs) ≡ true → P b → Each P bs → (x : Begun) × (p x ≡ true) × P x
 found_by p P b bs true e rest h at all = (b, e, at)
 found_by p P b bs false e rest h at all = rest (right_so (p b) (list_any p bs) e h) all
-  where
-    right_so : (a c : Bool) → a ≡ false → (a || c) ≡ true → c ≡ true
-    right_so true c h k = absurd (let z : ⊥ = cc in z)
-    right_so false c h k = k
-
 -- what one of a list passes, and what is so of each
 pub one_of : (p : Begun → Bool) (P : Begun → Type 0) (bs : List Begun) → list_any p bs ≡ true → Each P bs → (x : Begun) × (p x ≡ true) × P x
 one_of p P [] h all = absurd (let z : ⊥ = cc in z)

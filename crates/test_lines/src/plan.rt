@@ -1,7 +1,6 @@
 //! The plan of the tests, with names and ids like those of the worked runs.
-ghost use Rattle.std.specs.Prelude.{◌<◌};
-
 use std::alloc::Global;
+use test_plans::items;
 use wdf_base::{
     AgentInfo, ClassInfo, Declared, DeferredKind, DeviceInfo, DispatchKind, Event, ExecutionLevel,
     FEW, Handle, InterruptInfo, Irql, Items, MANY, Memory, Name, ObjectId, PlainKind, Plan,
@@ -91,21 +90,6 @@ fn names(alloc: Global) -> Result<Items<Name, MANY>, Memory> {
         }
     }
     Ok(names)
-}
-
-fn items<T: Copy + Drop, const CEILING: u64>(
-    alloc: Global,
-    all: &[T],
-) -> Result<Items<T, CEILING>, Memory>
-    requires { 100 < CEILING }
-{
-    let mut items = Items::new(alloc);
-    for item in all {
-        if items.len() < 99 {
-            items.push(*item)?;
-        }
-    }
-    Ok(items)
 }
 
 /// An agent with no post.

@@ -1,14 +1,12 @@
 //! The locks under which callbacks run.
-ghost use Rattle.std.specs.Prelude.{◌<◌};
-
 use std::alloc::Global;
 use std::test::Fail;
+use test_plans::{PlanBuilder, items};
 use wdf_base::{
     Callback, ClassInfo, Declared, DeferredKind, DeviceInfo, DispatchKind, ExecutionLevel,
-    InterruptInfo, Irql, Items, LockRef, Memory, ObjectId, Plan, QueueInfo, Scope, Serves,
+    InterruptInfo, Irql, LockRef, Memory, ObjectId, Plan, QueueInfo, Scope, Serves,
 };
 use wdf_lock::{lock_of_callback, scope_of, scope_of_object};
-use wdf_scene::PlanBuilder;
 
 const DEVICE: ObjectId = ObjectId(2);
 
@@ -50,21 +48,6 @@ fn dpcs(parent: ObjectId, serialize: bool) -> ClassInfo {
         serialize,
         period: 0,
     }
-}
-
-fn items<T: Copy + Drop, const CEILING: u64>(
-    alloc: Global,
-    all: &[T],
-) -> Result<Items<T, CEILING>, Memory>
-    requires { 100 < CEILING }
-{
-    let mut items = Items::new(alloc);
-    for item in all {
-        if items.len() < 99 {
-            items.push(*item)?;
-        }
-    }
-    Ok(items)
 }
 
 /// A device and a queue with this scope, and classes of DPCs: with the queue as parent, with the

@@ -1,7 +1,7 @@
 //! Small plans, each from a list of what it declares.
 use std::alloc::Global;
+use test_plans::PlanBuilder;
 use wdf_base::*;
-use wdf_scene::PlanBuilder;
 
 pub const DRIVER: ObjectId = ObjectId(1);
 

@@ -1,13 +1,11 @@
 //! A plan with a device and three queues.
 
-ghost use Rattle.std.specs.Prelude.{◌<◌};
-
 use std::alloc::Global;
+use test_plans::{PlanBuilder, items};
 use wdf_base::{
     Declared, DeviceInfo, DispatchKind, ExecutionLevel, Handle, Items, MANY, Memory, ObjectId,
     Plan, Post, PostLine, QueueInfo, Scope, Serves,
 };
-use wdf_scene::PlanBuilder;
 
 pub(crate) const DEVICE: ObjectId = ObjectId(2);
 
@@ -33,21 +31,6 @@ fn queue(name: u32, dispatch: DispatchKind) -> Declared {
         scope: Scope::Unscoped,
         level: ExecutionLevel::Dispatch,
     })
-}
-
-fn items<T: Copy + Drop, const CEILING: u64>(
-    alloc: Global,
-    all: &[T],
-) -> Result<Items<T, CEILING>, Memory>
-    requires { 100 < CEILING }
-{
-    let mut items = Items::new(alloc);
-    for item in all {
-        if items.len() < 99 {
-            items.push(*item)?;
-        }
-    }
-    Ok(items)
 }
 
 /// The driver object, a device, a queue of each kind, of which the parallel one takes two.

@@ -1,7 +1,8 @@
 //! A small plan, and the trees that the cases begin with.
-ghost use Rattle.std.specs.Prelude.{◌≡◌, ◌<◌, []};
+ghost use Rattle.std.specs.Prelude.{◌≡◌, []};
 
 use std::alloc::Global;
+use test_plans::items;
 use wdf_base::*;
 use wdf_model::OBJECTS;
 use wdf_tree::Tree;
@@ -30,21 +31,6 @@ const DECLARED: [Declared; 3] = [
         level: ExecutionLevel::Passive,
     }),
 ];
-
-fn items<T: Copy + Drop, const CEILING: u64>(
-    alloc: Global,
-    all: &[T],
-) -> Result<Items<T, CEILING>, Memory>
-    requires { 100 < CEILING }
-{
-    let mut items = Items::new(alloc);
-    for item in all {
-        if items.len() < 99 {
-            items.push(*item)?;
-        }
-    }
-    Ok(items)
-}
 
 /// The plan of so many counted objects, with these declared ones and these classes.
 fn plan_of(

@@ -1,12 +1,12 @@
 //! A plan gives back what it was made from.
 use std::alloc::Global;
 use std::test::Fail;
+use test_plans::PlanBuilder;
 use wdf_base::{
     Access, Act, Action, Ask, Callback, ClassInfo, Declared, DeviceInfo, DispatchKind,
     ExecutionLevel, ExprNode, Handle, Memory, Name, ObjectId, PlainKind, Plan, Post, PostLine,
     QueueInfo, RegisterInfo, Scope, Serves, Statement, Status, WhenLine,
 };
-use wdf_scene::PlanBuilder;
 
 /// The one part of a plan.
 enum Part {

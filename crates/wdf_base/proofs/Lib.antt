@@ -1,3 +1,4 @@
 pub mod Padding
 pub mod PlainRead
 pub mod WordLaws
+pub mod Tests

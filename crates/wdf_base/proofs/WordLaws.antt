@@ -30,152 +30,42 @@ find_passes p (y ∷ ys) x e = found_first p (p y) y x (find p ys) refl (find_pa
 
 pub status-back : (x : Status) → status_of (status_word x) ≡ Some x
 status-back status.Success = refl
-status-back status.Cancelled = refl
-status-back status.Unsuccessful = refl
-status-back status.InvalidDeviceRequest = refl
-status-back status.InvalidDeviceState = refl
-status-back status.NoMoreEntries = refl
-status-back status.WdfPaused = refl
-status-back status.WdfBusy = refl
-status-back status.InsufficientResources = refl
-status-back status.DeletePending = refl
+status-back _ = refl
 
 pub status-only : (x : Status) (word : List ℕ) → status_of word ≡ Some x → status_word x ≡ word
 status-only x word e = (bytes_eq-Decides (status_word x) word).0 (find_passes (λ y. bytes_eq (status_word y) word) STATUSES x e)
 
 pub callback-back : (x : Callback) → callback_of (callback_word x) ≡ Some x
 callback-back callback.EvtInterruptIsr = refl
-callback-back callback.EvtDpcFunc = refl
-callback-back callback.EvtInterruptDpc = refl
-callback-back callback.EvtTimerFunc = refl
-callback-back callback.EvtRequestCompletion = refl
-callback-back callback.EvtRequestCancel = refl
-callback-back callback.EvtIoCanceledOnQueue = refl
-callback-back callback.EvtIoStop = refl
-callback-back callback.EvtIoResume = refl
-callback-back callback.EvtIoQueueState = refl
-callback-back callback.EvtIoRead = refl
-callback-back callback.EvtIoWrite = refl
-callback-back callback.EvtIoDeviceControl = refl
-callback-back callback.EvtIoDefault = refl
-callback-back callback.EvtDevicePrepareHardware = refl
-callback-back callback.EvtDeviceReleaseHardware = refl
-callback-back callback.EvtDeviceD0Entry = refl
-callback-back callback.EvtDeviceD0EntryPostInterruptsEnabled = refl
-callback-back callback.EvtDeviceD0ExitPreInterruptsDisabled = refl
-callback-back callback.EvtDeviceD0Exit = refl
-callback-back callback.EvtDeviceSelfManagedIoInit = refl
-callback-back callback.EvtDeviceSelfManagedIoRestart = refl
-callback-back callback.EvtDeviceSelfManagedIoSuspend = refl
-callback-back callback.EvtDeviceSelfManagedIoFlush = refl
-callback-back callback.EvtDeviceSelfManagedIoCleanup = refl
-callback-back callback.EvtDeviceQueryStop = refl
-callback-back callback.EvtDeviceQueryRemove = refl
-callback-back callback.EvtDeviceSurpriseRemoval = refl
-callback-back callback.EvtInterruptEnable = refl
-callback-back callback.EvtInterruptDisable = refl
-callback-back callback.EvtWorkItem = refl
-callback-back callback.EvtCleanupCallback = refl
-callback-back callback.EvtDestroyCallback = refl
+callback-back _ = refl
 
 pub callback-only : (x : Callback) (word : List ℕ) → callback_of word ≡ Some x → callback_word x ≡ word
 callback-only x word e = (bytes_eq-Decides (callback_word x) word).0 (find_passes (λ y. bytes_eq (callback_word y) word) CALLBACKS x e)
 
 pub call-back : (x : CallKind) → call_of (call_word x) ≡ Some x
 call-back call.WdfObjectCreate = refl
-call-back call.WdfSpinLockCreate = refl
-call-back call.WdfWaitLockCreate = refl
-call-back call.WdfRequestCreate = refl
-call-back call.WdfDpcCreate = refl
-call-back call.WdfTimerCreate = refl
-call-back call.WdfWorkItemCreate = refl
-call-back call.WdfObjectDelete = refl
-call-back call.WdfObjectReference = refl
-call-back call.WdfObjectDereference = refl
-call-back call.GetContext = refl
-call-back call.SetContext = refl
-call-back call.WdfSpinLockAcquire = refl
-call-back call.WdfSpinLockRelease = refl
-call-back call.WdfWaitLockAcquire = refl
-call-back call.WdfWaitLockRelease = refl
-call-back call.WdfInterruptAcquireLock = refl
-call-back call.WdfInterruptReleaseLock = refl
-call-back call.WdfRequestComplete = refl
-call-back call.WdfRequestMarkCancelableEx = refl
-call-back call.WdfRequestUnmarkCancelable = refl
-call-back call.WdfRequestIsCanceled = refl
-call-back call.WdfRequestRequeue = refl
-call-back call.WdfRequestForwardToIoQueue = refl
-call-back call.WdfRequestStopAcknowledge = refl
-call-back call.WdfRequestSend = refl
-call-back call.WdfRequestCancelSentRequest = refl
-call-back call.WdfIoQueueStart = refl
-call-back call.WdfIoQueueStop = refl
-call-back call.WdfIoQueueDrain = refl
-call-back call.WdfIoQueuePurge = refl
-call-back call.WdfIoQueueStopSynchronously = refl
-call-back call.WdfIoQueueDrainSynchronously = refl
-call-back call.WdfIoQueuePurgeSynchronously = refl
-call-back call.WdfIoQueueRetrieveNextRequest = refl
-call-back call.WdfIoQueueReadyNotify = refl
-call-back call.WdfInterruptQueueDpcForIsr = refl
-call-back call.WdfDpcEnqueue = refl
-call-back call.WdfDpcCancel = refl
-call-back call.WdfTimerStart = refl
-call-back call.WdfTimerStop = refl
-call-back call.WdfWorkItemEnqueue = refl
-call-back call.WdfWorkItemFlush = refl
-call-back call.WdfIoTargetStop = refl
-call-back call.WdfIoTargetStart = refl
+call-back _ = refl
 
 pub call-only : (x : CallKind) (word : List ℕ) → call_of word ≡ Some x → call_word x ≡ word
 call-only x word e = (bytes_eq-Decides (call_word x) word).0 (find_passes (λ y. bytes_eq (call_word y) word) CALL_KINDS x e)
 
 pub fault-back : (x : Fault) → fault_of (fault_word x) ≡ Some x
 fault-back fault.StaleHandle = refl
-fault-back fault.WrongKind = refl
-fault-back fault.IrqlTooHigh = refl
-fault-back fault.NotOwned = refl
-fault-back fault.CompleteWhileMarked = refl
-fault-back fault.CompleteBeforeCancelCallback = refl
-fault-back fault.MarkedTwice = refl
-fault-back fault.AckOutsideStop = refl
-fault-back fault.NoReferenceHeld = refl
-fault-back fault.DeleteNotAllowed = refl
-fault-back fault.LockHeldAlready = refl
-fault-back fault.LockNotHeld = refl
-fault-back fault.ReturnHoldingLock = refl
-fault-back fault.HardwareReleased = refl
-fault-back fault.SyncInOwnScope = refl
-fault-back fault.ScriptError = refl
+fault-back _ = refl
 
 pub fault-only : (x : Fault) (word : List ℕ) → fault_of word ≡ Some x → fault_word x ≡ word
 fault-only x word e = (bytes_eq-Decides (fault_word x) word).0 (find_passes (λ y. bytes_eq (fault_word y) word) FAULTS x e)
 
 pub stage-back : (x : Stage) → stage_of (stage_word x) ≡ Some x
 stage-back stage.Hardware = refl
-stage-back stage.NoHardware = refl
-stage-back stage.Enabled = refl
-stage-back stage.Disabled = refl
-stage-back stage.QueuesUp = refl
-stage-back stage.QueuesDown = refl
-stage-back stage.Settled = refl
-stage-back stage.Quiet = refl
-stage-back stage.Closed = refl
-stage-back stage.Working = refl
-stage-back stage.Sleeping = refl
-stage-back stage.Removed = refl
+stage-back _ = refl
 
 pub stage-only : (x : Stage) (word : List ℕ) → stage_of word ≡ Some x → stage_word x ≡ word
 stage-only x word e = (bytes_eq-Decides (stage_word x) word).0 (find_passes (λ y. bytes_eq (stage_word y) word) STAGES x e)
 
 pub ask-back : (x : Ask) → ask_of (ask_word x) ≡ Some x
 ask-back ask.Start = refl
-ask-back ask.Sleep = refl
-ask-back ask.Wake = refl
-ask-back ask.Rebalance = refl
-ask-back ask.Remove = refl
-ask-back ask.Surprise = refl
+ask-back _ = refl
 
 pub ask-only : (x : Ask) (word : List ℕ) → ask_of word ≡ Some x → ask_word x ≡ word
 ask-only x word e = (bytes_eq-Decides (ask_word x) word).0 (find_passes (λ y. bytes_eq (ask_word y) word) ASKS x e)

@@ -34,12 +34,14 @@ declared_name (declared.OfClass c) = None
 abbrev pub has_name : ℕ → Declared → Bool
 has_name n d = same_option ◌==◌ (declared_name d) (Some n)
 
+-- the kind of the objects of a class that has no parent
 abbrev pub plain_kind : PlainKind → Kind
 plain_kind plain.Object = kind.General
 plain_kind plain.SpinLock = kind.SpinLock
 plain_kind plain.WaitLock = kind.WaitLock
 plain_kind plain.Request = kind.Made
 
+-- the kind of the objects of a class that has a parent
 abbrev pub deferred_kind : DeferredKind → Kind
 deferred_kind deferred.Dpc = kind.Dpc
 deferred_kind deferred.Timer = kind.Timer

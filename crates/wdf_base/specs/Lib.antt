@@ -11,3 +11,4 @@ pub mod SamePlan
 pub mod Words
 pub mod Places
 pub mod Lives
+pub mod Stages

@@ -14,9 +14,11 @@ pub record IsPadded (bytes : List ℕ) (len : ℕ) : Type 0 where
 abbrev pub padded : List ℕ → List ℕ
 padded name = name ++ replicate (32 - length name) 0
 
+-- what is taken as the name has the length that was given
 pub length-front : (bytes : List ℕ) (len : ℕ) → IsPadded bytes len → length (take len bytes) ≡ len
 length-front bytes len h = length-take-le len bytes (omega (arith, h.room, h.small))
 
+-- the bytes of a name and the zeros after it are the 32 bytes
 pub padded-front : (bytes : List ℕ) (len : ℕ) → IsPadded bytes len → padded (take len bytes) ≡ bytes
 padded-front bytes len h =
     let e = length-front bytes len h in

@@ -91,6 +91,7 @@ abbrev pub device_name : Declared → Option ℕ
 device_name (declared.Device d) = Some d.name
 device_name _ = None
 
+-- the number of a declared target's name, none for another object
 abbrev pub target_name : Declared → Option ℕ
 target_name (declared.Target t) = Some t.name
 target_name _ = None
@@ -107,9 +108,11 @@ app_count plan = length plan.agents - length (posting_names plan)
 abbrev pub apps : Plan → List AgentInfo
 apps plan = take (app_count plan) plan.agents
 
+-- the number of an agent's name
 abbrev pub agent_name : AgentInfo → ℕ
 agent_name a = a.name
 
+-- the number of a register's name
 abbrev pub register_name : RegisterInfo → ℕ
 register_name r = r.name
 
@@ -153,6 +156,7 @@ abbrev pub is_working : Option Declared → Bool
 is_working (Some (declared.Device d)) = d.working
 is_working _ = false
 
+-- a parallel queue presents from 1 to 1,024 requests at a time (own)
 abbrev pub dispatch_fits : DispatchKind → Bool
 dispatch_fits (dispatch.Parallel n) = is_from 1 1024 n
 dispatch_fits _ = true
@@ -184,12 +188,15 @@ abbrev pub period_fits : DeferredKind → ℕ → Bool
 period_fits deferred.Timer n = is_ticks n
 period_fits _ n = n == 0
 
+-- the parent of a class is a device or a queue, only a timer has a period, and where its objects are serialized, the parent
+-- has the level that they need
 abbrev pub class_fits : Plan → ClassInfo → Bool
 class_fits plan (class.Plain name k) = true
 class_fits plan (class.Deferred name k parent serialize period) =
     (is_kind plan kind.Device parent.0 || is_kind plan kind.Queue parent.0) && period_fits k period
     && (not serialize || same_option same_execution_level (level_of (declared_of plan parent.0)) (Some (serial_level k)))
 
+-- the device of a register is declared
 abbrev pub register_fits : Plan → RegisterInfo → Bool
 register_fits plan r = is_kind plan kind.Device r.device.0
 
@@ -211,6 +218,7 @@ action_fits plan device (action.Raise i) =
 action_fits plan device (action.Lower i) =
     is_handle plan kind.Interrupt i && same_option ◌==◌ (device_of_interrupt (declared_of plan i.id.0)) device
 
+-- a `when` line acts after a number of ticks in its range, on its register's device
 abbrev pub when_fits : Plan → WhenLine → Bool
 when_fits plan w =
     is_ticks w.after && action_fits plan (device_of_register plan w.register) w.action
@@ -289,12 +297,15 @@ abbrev pub nodes_fit : Plan → ℕ → List ExprNode → Bool
 nodes_fit plan k [] = true
 nodes_fit plan k (n ∷ ns) = node_fits plan k n && nodes_fit plan (suc k) ns
 
+-- a node of an expression has this number
 abbrev pub is_expr : Plan → ℕ → Bool
 is_expr plan e = nat_lt e (length plan.exprs)
 
+-- a register has this number
 abbrev pub is_register : Plan → ℕ → Bool
 is_register plan k = nat_lt k (length plan.registers)
 
+-- a variable has this number: a callback has at most 16 (own)
 abbrev pub is_variable : ℕ → Bool
 is_variable v = nat_lt v 16
 
@@ -328,6 +339,7 @@ act_fits plan n (act.Spend e) = is_expr plan e
 act_fits plan n (act.Log e) = is_expr plan e
 act_fits plan n (act.Return e) = is_expr plan e
 
+-- a statement goes on within its callback's n statements, or at their end, and names what is there
 abbrev pub statement_fits : Plan → ℕ → Statement → Bool
 statement_fits plan n s = nat_le s.next n && act_fits plan n s.act
 
@@ -344,6 +356,7 @@ owner_fits plan owner.ClassOrDevice (declared.Device d) =
     list_any (same_declared (declared.Device d)) plan.declared
 owner_fits plan owner.ClassOrDevice _ = false
 
+-- a callback is of an object that may have it, and its statements fit
 abbrev pub script_fits : Plan → Script → Bool
 script_fits plan s =
     owner_fits plan (row_of s.callback).owner s.owner && list_all (statement_fits plan (length s.statements)) s.statements
@@ -393,6 +406,7 @@ counts_as_statement s =
       | act.Return e ↦ true
     ]
 
+-- how many statements of all callbacks count against the limit
 abbrev pub statement_count : Plan → ℕ
 statement_count plan = sum_by (λ s. count_by counts_as_statement s.statements) plan.scripts
 

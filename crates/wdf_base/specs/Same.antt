@@ -67,53 +67,69 @@ use Rattle.wdf_base.specs.contracts.event.Fault as fault
 
 -- ---- numbers, and enums without fields by the place of the variant
 
+-- equal ids of objects
 abbrev pub same_object_id : ObjectId → ObjectId → Bool
 same_object_id a b = a.0 == b.0
 
+-- equal levels
 abbrev pub same_irql : Irql → Irql → Bool
 same_irql a b = a.0 == b.0
 
+-- equal numbers of processors
 abbrev pub same_cpu : Cpu → Cpu → Bool
 same_cpu a b = a.0 == b.0
 
+-- equal numbers of frames
 abbrev pub same_frame_id : FrameId → FrameId → Bool
 same_frame_id a b = a.0 == b.0
 
+-- equal statuses
 abbrev pub same_status : Status → Status → Bool
 same_status a b = sameb status.the_type a b
 
+-- equal kinds of objects
 abbrev pub same_kind : Kind → Kind → Bool
 same_kind a b = sameb kind.the_type a b
 
+-- equal lives of objects
 abbrev pub same_life : Life → Life → Bool
 same_life a b = sameb life.the_type a b
 
+-- equal marks of requests
 abbrev pub same_mark : Mark → Mark → Bool
 same_mark a b = sameb mark.the_type a b
 
+-- equal forms of requests: read, write or control
 abbrev pub same_request_form : RequestForm → RequestForm → Bool
 same_request_form a b = sameb request_form.the_type a b
 
+-- equal callbacks
 abbrev pub same_callback : Callback → Callback → Bool
 same_callback a b = sameb callback.the_type a b
 
+-- equal framework calls, without their arguments
 abbrev pub same_call_kind : CallKind → CallKind → Bool
 same_call_kind a b = sameb call_kind.the_type a b
 
+-- equal asks of the Plug and Play manager
 abbrev pub same_ask : Ask → Ask → Bool
 same_ask a b = sameb ask.the_type a b
 
+-- equal stages
 abbrev pub same_stage : Stage → Stage → Bool
 same_stage a b = sameb stage.the_type a b
 
+-- equal accesses of a register: a read or a write
 abbrev pub same_access : Access → Access → Bool
 same_access a b = sameb access.the_type a b
 
+-- equal faults of a driver
 abbrev pub same_fault : Fault → Fault → Bool
 same_fault a b = sameb fault.the_type a b
 
 -- ---- optional values
 
+-- both are there and equal, or neither is there
 abbrev pub same_option : {T : Type 0} → (T → T → Bool) → Option T → Option T → Bool
 same_option same (Some a) (Some b) = same a b
 same_option same None None = true
@@ -121,18 +137,22 @@ same_option same _ _ = false
 
 -- ---- the rest, field by field; names by their bytes
 
+-- equal bytes of names
 abbrev pub same_name : List ℕ → List ℕ → Bool
 same_name a b = bytes_eq a b
 
+-- equal ids, with equal numbers of names
 abbrev pub same_handle : Handle → Handle → Bool
 same_handle a b = same_object_id a.id b.id && (a.name == b.name)
 
+-- equal values of scripts: numbers, handles or statuses, of one sort
 abbrev pub same_value : Value → Value → Bool
 same_value (value.Num a) (value.Num b) = (a == b)
 same_value (value.Obj a) (value.Obj b) = same_handle a b
 same_value (value.Stat a) (value.Stat b) = same_status a b
 same_value _ _ = false
 
+-- equal places of requests, with the queue, the target or the status that a place has
 abbrev pub same_place : Place → Place → Bool
 same_place (place.Queued a) (place.Queued b) = same_object_id a b
 same_place (place.Returning a) (place.Returning b) = same_object_id a b
@@ -142,23 +162,28 @@ same_place (place.Sent a) (place.Sent b) = same_object_id a b
 same_place place.Done place.Done = true
 same_place _ _ = false
 
+-- equal locks: of an object, or of a device's or a queue's scope
 abbrev pub same_lock : LockRef → LockRef → Bool
 same_lock (lock.Object a) (lock.Object b) = same_object_id a b
 same_lock (lock.DeviceScope a) (lock.DeviceScope b) = same_object_id a b
 same_lock (lock.QueueScope a) (lock.QueueScope b) = same_object_id a b
 same_lock _ _ = false
 
+-- equal in all that is kept of a request beside its place
 abbrev pub same_request_info : RequestInfo → RequestInfo → Bool
 same_request_info a b = same_object_id a.device b.device && same_request_form a.form b.form && (a.length == b.length) && (a.code == b.code) && same_option same_object_id a.origin b.origin && (a.agent == b.agent) && (a.arrival == b.arrival) && same_mark a.mark b.mark && beq a.cancelled b.cancelled && beq a.received b.received
 
+-- equal arguments of calls: values, or numbers of classes
 abbrev pub same_arg : Arg → Arg → Bool
 same_arg (arg.Val a) (arg.Val b) = same_value a b
 same_arg (arg.Class a) (arg.Class b) = (a == b)
 same_arg _ _ = false
 
+-- equal calls with equal arguments
 abbrev pub same_call : Call → Call → Bool
 same_call a b = same_call_kind a.kind b.kind && (a.count == b.count) && same_arg a.a b.a && same_arg a.b b.b && same_arg a.c b.c
 
+-- equal actors of events
 abbrev pub same_actor : Actor → Actor → Bool
 same_actor (actor.Cpu a) (actor.Cpu b) = (a == b)
 same_actor actor.Framework actor.Framework = true
@@ -166,17 +191,20 @@ same_actor (actor.Agent a) (actor.Agent b) = (a == b)
 same_actor actor.Clock actor.Clock = true
 same_actor _ _ = false
 
+-- equal steps of sequences: a callback that runs or a stage that is passed, each for one interrupt or none
 abbrev pub same_step : Step → Step → Bool
 same_step (step.Run callback interrupt) (step.Run callback' interrupt') = same_callback callback callback' && same_option same_handle interrupt interrupt'
 same_step (step.Pass stage interrupt) (step.Pass stage' interrupt') = same_stage stage stage' && same_option same_handle interrupt interrupt'
 same_step _ _ = false
 
+-- equal actions of a device
 abbrev pub same_action : Action → Action → Bool
 same_action (action.Set register value) (action.Set register' value') = (register == register') && (value == value')
 same_action (action.Raise interrupt) (action.Raise interrupt') = same_handle interrupt interrupt'
 same_action (action.Lower interrupt) (action.Lower interrupt') = same_handle interrupt interrupt'
 same_action _ _ = false
 
+-- equal posts of agents
 abbrev pub same_post : Post → Post → Bool
 same_post (post.Read device length) (post.Read device' length') = same_handle device device' && (length == length')
 same_post (post.Write device length) (post.Write device' length') = same_handle device device' && (length == length')
@@ -187,6 +215,7 @@ same_post (post.Act action) (post.Act action') = same_action action action'
 same_post (post.Done request status) (post.Done request' status') = same_handle request request' && same_status status status'
 same_post _ _ = false
 
+-- equal events: of one kind, and equal in each field
 abbrev pub same_event : Event → Event → Bool
 same_event (event.Start cpu callback object request) (event.Start cpu' callback' object' request') = same_cpu cpu cpu' && same_callback callback callback' && same_handle object object' && same_option same_handle request request'
 same_event (event.Local cpu line) (event.Local cpu' line') = same_cpu cpu cpu' && (line == line')
@@ -208,6 +237,7 @@ same_event (event.Posted agent post answer) (event.Posted agent' post' answer') 
 same_event (event.Tick time) (event.Tick time') = (time == time')
 same_event _ _ = false
 
+-- equal endings of runs
 abbrev pub same_ending : Ending → Ending → Bool
 same_ending ending.Running ending.Running = true
 same_ending ending.Finished ending.Finished = true
@@ -216,6 +246,7 @@ same_ending (ending.Fault a) (ending.Fault b) = same_fault a b
 same_ending ending.Stuck ending.Stuck = true
 same_ending _ _ = false
 
+-- equal open things of a wait list
 abbrev pub same_open_thing : OpenThing → OpenThing → Bool
 same_open_thing (thing.Waiting frame callback object) (thing.Waiting frame' callback' object') = same_frame_id frame frame' && same_callback callback callback' && same_handle object object'
 same_open_thing (thing.Owned request) (thing.Owned request') = same_handle request request'
@@ -228,6 +259,7 @@ same_open_thing (thing.Deferred object) (thing.Deferred object') = same_handle o
 same_open_thing (thing.Asking device) (thing.Asking device') = same_handle device device'
 same_open_thing _ _ = false
 
+-- equal causes of a wait list
 abbrev pub same_cause : Cause → Cause → Bool
 same_cause (cause.ByFrame frame) (cause.ByFrame frame') = same_frame_id frame frame'
 same_cause (cause.ByLock lock frame) (cause.ByLock lock' frame') = same_handle lock lock' && same_frame_id frame frame'
@@ -245,18 +277,22 @@ same_cause (cause.ByChild child) (cause.ByChild child') = same_handle child chil
 same_cause (cause.AtTarget target) (cause.AtTarget target') = same_handle target target'
 same_cause _ _ = false
 
+-- equal lines of a wait list
 abbrev pub same_wait_line : WaitLine → WaitLine → Bool
 same_wait_line a b = same_open_thing a.thing b.thing && same_option same_cause a.cause b.cause
 
+-- equal calls in which frames wait, with equal answers
 abbrev pub same_pending : Pending → Pending → Bool
 same_pending a b = same_call a.call b.call && same_value a.answer b.answer
 
+-- equal changes that a statement makes to what a frame keeps
 abbrev pub same_change : Change → Change → Bool
 same_change (change.Assign variable value) (change.Assign variable' value') = (variable == variable') && same_value value value'
 same_change change.Branch change.Branch = true
 same_change (change.Count depth left) (change.Count depth' left') = (depth == depth') && (left == left')
 same_change _ _ = false
 
+-- equal next steps of scripts
 abbrev pub same_intent : Intent → Intent → Bool
 same_intent (intent.Local change next) (intent.Local change' next') = same_change change change' && (next == next')
 same_intent (intent.Log a) (intent.Log b) = same_value a b
@@ -268,6 +304,7 @@ same_intent (intent.Return a) (intent.Return b) = same_value a b
 same_intent intent.Broken intent.Broken = true
 same_intent _ _ = false
 
+-- equal in all that is kept of a frame
 abbrev pub same_frame : Frame → Frame → Bool
 same_frame a b =
     same_callback a.callback b.callback && same_handle a.object b.object && same_handle a.device b.device && same_option same_handle a.request b.request

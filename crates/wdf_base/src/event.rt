@@ -13,6 +13,9 @@
 //!   of the plan hold too.
 //! - **Which number does a cancel carry?** `arrival`, the number of the arrival among the app's own, from 1, as its
 //!   line prints it (64 bits, as any number of the text).
+ghost use Rattle.std.specs.Prelude.{◌≡◌};
+ghost use Rattle.wdf_base.specs.Stages as stages;
+
 use crate::call::{Call, Callback};
 use crate::ids::{Cpu, FrameId, Handle};
 use crate::value::{Status, Value};
@@ -68,6 +71,15 @@ pub enum Stage {
     Sleeping,
     /// The device is Removed, and its deletion is asked.
     Removed,
+}
+
+impl Stage {
+    /// Whether the stage is passed for one interrupt.
+    pub fn is_for_interrupt(self) -> bool
+        ensures { result ≡ stages.is_for_interrupt self }
+    {
+        matches!(self, Stage::Enabled | Stage::Disabled)
+    }
 }
 
 /// One step of a Plug and Play or power sequence of a device.

@@ -7,6 +7,7 @@ use Rattle.std.specs.Char.{is_ascii_digit}
 use Rattle.std.specs.Option.{is_some}
 use Rattle.std.specs.List.{list_all, list_any}
 use Rattle.std.specs.Str.{bytes_eq}
+use Rattle.std.proofs.Math.Bool.{or-false}
 use Rattle.wdf_base.specs.declared.words.TheConstants.{STATUSES}
 use Rattle.wdf_base.specs.Words.{status_word, status_of}
 use Rattle.wdf_base.specs.Resolved.{is_reserved, is_cpu_word, reserved_words}
@@ -40,12 +41,8 @@ abbrev actor_words : List (List ℕ)
 actor_words =
     codes "req" ∷ codes "fw" ∷ codes "clock" ∷ codes "pnp" ∷ codes "driver" ∷ []
 
-or_false : (x : Bool) → (x || false) ≡ x
-or_false true = refl
-or_false false = refl
-
 actor_any : (n : List ℕ) → list_any (bytes_eq n) actor_words ≡ is_actor_word n
-actor_any n = rw (or_false (bytes_eq n (codes "driver"))) refl
+actor_any n = rw (or-false (bytes_eq n (codes "driver"))) refl
 
 cpu_step : (c l d : Bool) → (c && l && d) ≡ (l && (c && d))
 cpu_step true true d = refl

@@ -107,11 +107,7 @@ never (x ∷ xs) = never xs
 
 sent_by_place : (plan : Plan) (d : ℕ) (p : Place) → list_any (λ t. is_sent_to t p) (targets_at plan d) ≡ is_sent_from plan d p
 sent_by_place plan d (place.Sent t) = one_of_targets plan d t.0
-sent_by_place plan d (place.Queued q) = never (targets_at plan d)
-sent_by_place plan d (place.Returning q) = never (targets_at plan d)
-sent_by_place plan d (place.Closing s) = never (targets_at plan d)
-sent_by_place plan d place.Owned = never (targets_at plan d)
-sent_by_place plan d place.Done = never (targets_at plan d)
+sent_by_place plan d _ = never (targets_at plan d)
 
 same_by : (p q : ℕ → Bool) (x : ℕ) (xs : List ℕ) (b : Bool) → p x ≡ b → q x ≡ b → filter p xs ≡ filter q xs → filter p (x ∷ xs) ≡ filter q (x ∷ xs)
 same_by p q x xs true e f rest = rw (e, f) (ap (λ ys. x ∷ ys) rest)

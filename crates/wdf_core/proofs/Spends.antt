@@ -80,15 +80,13 @@ return_small (Some v) = tt
 
 act_small : (plan : Plan) (f : Frame) (next : ℕ) (a : Act) → SmallIntent (act_intent plan f next a)
 act_small plan f next (act.Let variable e) = let_small variable next (value_of plan f e)
-act_small plan f next (act.Call k into a b c) = tt
-act_small plan f next (act.Get variable register) = tt
 act_small plan f next (act.Put register e) = put_small register (value_of plan f e)
 act_small plan f next (act.If e otherwise) = if_small next otherwise (value_of plan f e)
 act_small plan f next (act.Repeat e depth past) = repeat_small next depth past (value_of plan f e)
-act_small plan f next (act.Again depth body) = tt
 act_small plan f next (act.Spend e) = spend_intent_small (value_of plan f e)
 act_small plan f next (act.Log e) = log_small (value_of plan f e)
 act_small plan f next (act.Return e) = return_small (value_of plan f e)
+act_small plan f next _ = tt
 
 statement_small : (plan : Plan) (f : Frame) (s : Option Statement) → SmallIntent (intent_at plan f s)
 statement_small plan f None = tt

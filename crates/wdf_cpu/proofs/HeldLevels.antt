@@ -8,6 +8,7 @@ use Rattle.std.proofs.lemmas.List.{append-nil, length-map, map-append, take_all,
 use Rattle.std.proofs.lemmas.List.Elements.{filter-append, filter_more}
 use Rattle.std.proofs.lemmas.List.Sums.{count_by-le-length, length-filter}
 use Rattle.std.proofs.lemmas.Bool.{cases_lt, eqb-true}
+use Rattle.wdf_model.proofs.Tests.{both_left}
 use Rattle.wdf_model.specs.declared.entries.HeldLevel.{HeldLevel}
 use Rattle.wdf_model.specs.Tables.{contains, entry, flag, put}
 use Rattle.wdf_model.specs.parts.Cpus.{less_one}
@@ -30,10 +31,6 @@ pub held_more : (f level : ℕ) (ls : List HeldLevel) (x : ℕ) (b : Bool) → (
 held_more f level ls x true e = rw e refl
 held_more f level ls x false e = rw e refl
 
-and_first : (a b : Bool) → (a && b) ≡ true → a ≡ true
-and_first true b h = refl
-and_first false b h = h
-
 kept_cons : (x : ℕ) (l : HeldLevel) (ls ms : List HeldLevel) (b : Bool) → (l.frame.0 == x) ≡ b → held_by ls x ≡ held_by ms x → held_by (l ∷ ls) x ≡ held_by (l ∷ ms) x
 kept_cons x l ls ms true e same = rw e (ap (λ ns. l.level.0 ∷ ns) same)
 kept_cons x l ls ms false e same = rw e same
@@ -46,7 +43,7 @@ apart : (l : HeldLevel) (f x : ℕ) → x ≢ f → (l.frame.0 == f) ≡ true �
 apart l f x n is = not_equal l.frame.0 x (λ e. n (sym e ∙ eqb-true l.frame.0 f is))
 
 less_one_keeps_at : (f level x : ℕ) (l : HeldLevel) (ls : List HeldLevel) (b : Bool) → x ≢ f → is_level f level l ≡ b → held_by (less_one f level ls) x ≡ held_by ls x → held_by (less_one f level (l ∷ ls)) x ≡ held_by (l ∷ ls) x
-less_one_keeps_at f level x l ls true n e rest = rw e (sym (gone_cons x l ls (apart l f x n (and_first (l.frame.0 == f) (l.level.0 == level) e))))
+less_one_keeps_at f level x l ls true n e rest = rw e (sym (gone_cons x l ls (apart l f x n (both_left (l.frame.0 == f) (l.level.0 == level) e))))
 less_one_keeps_at f level x l ls false n e rest = rw e (kept_cons x l (less_one f level ls) ls (l.frame.0 == x) refl rest)
 
 pub less_one_keeps : (f level x : ℕ) (ls : List HeldLevel) → x ≢ f → held_by (less_one f level ls) x ≡ held_by ls x

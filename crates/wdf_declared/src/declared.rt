@@ -74,6 +74,16 @@ pub fn name_of_class(plan: &Plan, class: u16) -> u32
     }
 }
 
+/// The parent that a class names; the id 0 where the call that makes the object names it, and for what is no class.
+pub fn parent_of_class(plan: &Plan, class: u16) -> ObjectId
+    ensures { result.0 ≡ plans.parent_of_class plan.now class }
+{
+    match class_at(plan, class) {
+        Some(ClassInfo::Deferred { parent, .. }) => parent,
+        _ => ObjectId(0),
+    }
+}
+
 /// Whether a declared object declares a callback. It looks through the plan's scripts.
 pub fn declares(plan: &Plan, callback: Callback, o: ObjectId) -> bool
     ensures { result ≡ plans.declares plan.now callback o.0 }

@@ -9,5 +9,6 @@
 mod declared;
 
 pub use declared::{
-    class_at, declared_at, declares, device_of, interrupt_of, name_of_class, queue_of, target_of,
+    class_at, declared_at, declares, device_of, interrupt_of, name_of_class, parent_of_class,
+    queue_of, target_of,
 };

@@ -17,8 +17,7 @@ length-nodes base (Node op l r) =
 
 length-argument : (a : Argument) → length (argument_nodes a) ≡ argument_size a
 length-argument Missing = refl
-length-argument (Valued a) = refl
-length-argument (OfClass n) = refl
+length-argument _ = refl
 
 length-line : (base : ℕ) (w : Written) → length (nodes_at base w) ≡ written_size w
 length-line base (Plain form) = refl

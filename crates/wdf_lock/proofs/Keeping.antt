@@ -30,8 +30,7 @@ kept_opening = record {
   where
     nothing_at : (l : LockRef) → held_at no_holders l ≡ None
     nothing_at (lock.Object o) = refl
-    nothing_at (lock.DeviceScope o) = refl
-    nothing_at (lock.QueueScope o) = refl
+    nothing_at _ = refl
 
 -- where a lock is free nothing is found
 free_is_none : (hold : Option Held) → is_free_hold hold ≡ true → hold ≡ None

@@ -12,15 +12,9 @@ use Rattle.wdf_output.specs.Refusals.{refusal_status}
 
 pub ending_no_sink : (e : Ending) → status_of e ≡ 13 → ⊥
 ending_no_sink ending.Running h = omega (arith, h)
-ending_no_sink ending.Finished h = omega (arith, h)
-ending_no_sink (ending.Fault f) h = omega (arith, h)
-ending_no_sink ending.Stuck h = omega (arith, h)
-ending_no_sink ending.Limit h = omega (arith, h)
+ending_no_sink _ h = omega (arith, h)
 
 pub refusal_no_sink : (refusal : Refusal) → refusal_status refusal ≡ 13 → ⊥
-refusal_no_sink ReadFault h = omega (arith, h)
-refusal_no_sink TooLarge h = omega (arith, h)
-refusal_no_sink NoMemory h = omega (arith, h)
 refusal_no_sink (NoScene (parse.NotAscii line)) h = omega (arith, h)
 refusal_no_sink (NoScene (parse.BadToken line col)) h = omega (arith, h)
 refusal_no_sink (NoScene (parse.BadLine line)) h = omega (arith, h)
@@ -34,6 +28,7 @@ refusal_no_sink (NoPlan (plan.OverLimit line bound)) h = omega (arith, h)
 refusal_no_sink (NoPlan (plan.IncompatibleLevel line)) h = omega (arith, h)
 refusal_no_sink (NoPlan (plan.NoParent line)) h = omega (arith, h)
 refusal_no_sink (NoPlan plan.Memory) h = omega (arith, h)
+refusal_no_sink _ h = omega (arith, h)
 
 -- no call before these failed either
 pub ends_later : {K : Type 0} (refused : K → K → Type 0) (faults : K → ℕ) (first old new : K) → faults old ≡ faults first

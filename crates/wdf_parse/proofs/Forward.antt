@@ -1,6 +1,7 @@
 -- The lines of a scene that stands for a text are read of it.
 use Rattle.std.proofs.Common.{◌≡◌, ℕ, suc, ◌+◌, Bool, true, false, cond, ◌&&◌, ◌⊎◌, inl, inr, List, [], ◌∷◌, ◌++◌, map, length, Option, Some, None, option_map, Result, Ok, Err, refl, ap, ◌∙◌, sym, subst, length-append}
 use Rattle.std.specs.List.{list_all}
+use Rattle.wdf_base.proofs.Tests.{both_left, both_right}
 use Rattle.wdf_scene.specs.declared.line.NumberedLine.{NumberedLine}
 use Rattle.wdf_scene.specs.declared.line.SceneLine.{SceneLine}
 use Rattle.wdf_scene.specs.Blocks.{Position, front, moved, may_stand}
@@ -9,7 +10,6 @@ use Rattle.wdf_scene.specs.Written.{Written, WrittenLine, is_written, line_at, n
 use Rattle.wdf_tokens.specs.declared.lexer.TokenFault.{TokenFault}
 use Rattle.wdf_tokens.specs.declared.token.Token.{Token}
 use Rattle.wdf_tokens.specs.Tokens.{line_reading}
-use Rattle.wdf_tokens.proofs.BothParts.{first_part, second_part}
 use Rattle.wdf_scene_lines.specs.Building.{next_node}
 use Rattle.wdf_scene_lines.specs.Reading.{read_written}
 use Rattle.wdf_scene_lines.specs.Spelling.{written_tokens}
@@ -93,7 +93,7 @@ split_goes r number l ls t ts rest (w ∷ ws) p onward is tokens e goods there =
     let behind : rest ≡ map spelled_line ws = cc in
     stands_goes r number l ls t ts w ws p (may_stand r.place.position (line_at (next_node r.builder) w.written)) onward is
     (ap (λ (x : TokenLine). x.tokens) first) (ap (λ (x : TokenLine). x.number) first) (tokens ∙ ap (λ (xs : List TokenLine). Some xs) behind)
-    (first_part (is_written w.written) (are_written ws) goods) (second_part (is_written w.written) (are_written ws) goods) refl there
+    (both_left (is_written w.written) (are_written ws) goods) (both_right (is_written w.written) (are_written ws) goods) refl there
 
 some_goes : (r : Reader) (number : ℕ) (l : List ℕ) (ls : List (List ℕ)) (t : Token) (ts : List Token) (rest : Option (List TokenLine)) (ws : List WrittenLine) (p : Position)
     → Goes (suc number) ls → line_reading l ≡ Ok (t ∷ ts) → token_lines (suc number) ls ≡ rest

@@ -3,6 +3,7 @@ use Rattle.std.proofs.Common.{◌≡◌, ℕ, suc, ◌+◌, Bool, true, false, c
 use Rattle.std.specs.Prelude.{◌==◌}
 use Rattle.std.specs.List.{list_all}
 use Rattle.std.proofs.lemmas.Bool.{eqb-true}
+use Rattle.std.proofs.Math.Bool.{and-false, and-true}
 use Rattle.wdf_scene.specs.declared.line.SceneLine.{SceneLine}
 use Rattle.wdf_scene.specs.declared.line.SceneLine.TheVariants as line
 use Rattle.wdf_scene.specs.Blocks.{Position, front, noted, moved, may_stand}
@@ -55,18 +56,10 @@ pub record History (r : Reader) (number : ℕ) (lines : List (List ℕ)) (now : 
   pub taken : taken_by (Some r) ws ≡ Some now
   pub tokens : token_lines number lines ≡ Some (map spelled_line ws)
 
-and_false : (a : Bool) → (a && false) ≡ false
-and_false true = refl
-and_false false = refl
-
-and_right : (a : Bool) → (a && true) ≡ a
-and_right true = refl
-and_right false = refl
-
 not_front_moved : (p : Position) (form : SceneLine) → is_at_front p ≡ false → is_at_front (moved p form) ≡ false
-not_front_moved p (line.Cpus n) h = and_false (p.version == 1)
-not_front_moved p (line.Limit n) h = and_false (p.version == 1)
-not_front_moved p (line.Objects n) h = and_false (p.version == 1)
+not_front_moved p (line.Cpus n) h = and-false (p.version == 1)
+not_front_moved p (line.Limit n) h = and-false (p.version == 1)
+not_front_moved p (line.Objects n) h = and-false (p.version == 1)
 not_front_moved p _ h = h
 
 first_not_front : (form : SceneLine) → may_stand (front 1) form ≡ true → is_at_front (moved (front 1) form) ≡ false
@@ -133,7 +126,7 @@ inside_by r now number l ls (Ok []) inside is onward e = empty_line r now number
 inside_by r now number l ls (Ok (t ∷ ts)) inside is onward e =
     let plain : tokens_taken r number (t ∷ ts) ≡ line_taken r number (read_written (t ∷ ts)) =
     ap (λ b. cond (is_version (t ∷ ts) && b) (Some (opening 2)) (line_taken r number (read_written (t ∷ ts)))) inside
-    ∙ ap (λ b. cond b (Some (opening 2)) (line_taken r number (read_written (t ∷ ts)))) (and_false (is_version (t ∷ ts))) in
+    ∙ ap (λ b. cond b (Some (opening 2)) (line_taken r number (read_written (t ∷ ts)))) (and-false (is_version (t ∷ ts))) in
     formed r now number l ls t ts (read_written (t ∷ ts)) is refl
     (λ w _. not_front_moved r.place.position (line_at (next_node r.builder) w) inside) onward
     (ap (λ o. after_lines (or_bad_line number o) (suc number) ls) (sym plain) ∙ e)
@@ -205,7 +198,7 @@ front_by number l ls now (Err f) is onward e = absurd (let z : ⊥ = cc in z)
 front_by number l ls now (Ok []) is onward e = front_empty number l ls now is (onward e)
 front_by number l ls now (Ok (t ∷ ts)) is onward e =
     front_marked number l ls t ts now (is_version (t ∷ ts)) is refl
-    (ap (λ b. after_lines (or_bad_line number (cond b (Some (opening 2)) (line_taken (opening 1) number (read_written (t ∷ ts))))) (suc number) ls) (sym (and_right (is_version (t ∷ ts)))) ∙ e)
+    (ap (λ b. after_lines (or_bad_line number (cond b (Some (opening 2)) (line_taken (opening 1) number (read_written (t ∷ ts))))) (suc number) ls) (sym (and-true (is_version (t ∷ ts)))) ∙ e)
 
 -- a text that is read is a list of lines
 pub front_history : (lines : List (List ℕ)) (number : ℕ) (now : Reader) → after_lines (Ok (opening 1)) number lines ≡ Ok now → FrontHistory number lines now

@@ -57,12 +57,8 @@ taken_next first text at number len line now next before inside is_len is_line s
     }
 
 refusal_passes : (r : Result Reader ParseRefusal) (e : ParseRefusal) (number : ℕ) (lines : List (List ℕ)) → IsRefusalOf r e → IsRefusalOf (after_lines r number lines) e
-refusal_passes r (refusal.NotAscii l) number lines h = ap (λ x. after_lines x number lines) h
-refusal_passes r (refusal.BadToken l c) number lines h = ap (λ x. after_lines x number lines) h
-refusal_passes r (refusal.BadLine l) number lines h = ap (λ x. after_lines x number lines) h
-refusal_passes r (refusal.Unclosed l) number lines h = ap (λ x. after_lines x number lines) h
-refusal_passes r (refusal.NumberTooLarge l c) number lines h = ap (λ x. after_lines x number lines) h
 refusal_passes r refusal.Memory number lines h = tt
+refusal_passes r _ number lines h = ap (λ x. after_lines x number lines) h
 
 -- a line is refused
 pub taken_refused : (first : Reader) (text : List ℕ) (at number len : ℕ) (line : List ℕ) (now : Reader) (e : ParseRefusal)

@@ -32,15 +32,11 @@ get_there exprs front x back e is at = ap (λ (xs : List SceneExpr). slice_get x
 
 leaf_spelled : (a : Atom) → leaf_tokens (atom_node a) ≡ atom_token a ∷ []
 leaf_spelled (Number n) = refl
-leaf_spelled (Named n) = refl
-leaf_spelled (Literal s) = refl
-leaf_spelled (Context w) = refl
+leaf_spelled _ = refl
 
 node_leaf : (deeper : ℕ → List Token) (a : Atom) → node_tokens deeper (atom_node a) ≡ atom_token a ∷ []
 node_leaf deeper (Number n) = refl
-node_leaf deeper (Named n) = refl
-node_leaf deeper (Literal s) = refl
-node_leaf deeper (Context w) = refl
+node_leaf deeper _ = refl
 
 expr_leaf : (d : ℕ) (exprs : List SceneExpr) (e : ℕ) (a : Atom) → slice_get exprs e ≡ Some (atom_node a) → expr_tokens d exprs e ≡ atom_token a ∷ []
 unfolding expr_tokens
@@ -90,8 +86,7 @@ arg_spelled (OfClass n) exprs front back base rest is at = refl
 
 length_argument : (a : Argument) → length (argument_nodes a) ≡ argument_size a
 length_argument Missing = refl
-length_argument (Valued v) = refl
-length_argument (OfClass n) = refl
+length_argument _ = refl
 
 plain_spelled : (exprs : List SceneExpr) (form : SceneLine) (ns : List ℕ) → is_plain_form form ≡ true → line_tokens exprs form ns ≡ plain_tokens form
 plain_spelled exprs line.Picks ns h = absurd (let z : ⊥ = cc in z)
@@ -107,12 +102,7 @@ plain_spelled exprs _ ns h = refl
 
 head_spelled : (exprs : List SceneExpr) (h : StatementHead) (e : ℕ) → line_tokens exprs (head_line h e) [] ≡ head_then h (expr_tokens 16 exprs e)
 head_spelled exprs (head.Let x) e = refl
-head_spelled exprs (head.Put r) e = refl
-head_spelled exprs head.If e = refl
-head_spelled exprs head.Repeat e = refl
-head_spelled exprs head.Spend e = refl
-head_spelled exprs head.Log e = refl
-head_spelled exprs head.Return e = refl
+head_spelled exprs _ e = refl
 
 both : (a b : Bool) → (a && b) ≡ true → (a ≡ true) × (b ≡ true)
 both true true h = (refl, refl)

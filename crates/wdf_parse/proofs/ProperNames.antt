@@ -6,6 +6,7 @@ use Rattle.std.specs.Int.{is_in_range}
 use Rattle.std.specs.List.{list_all}
 use Rattle.std.proofs.lemmas.List.Folds.{list_all-append}
 use Rattle.wdf_base.specs.Resolved.{is_name}
+use Rattle.wdf_base.proofs.Tests.{both, both_left, both_right}
 use Rattle.wdf_scene.specs.declared.line.NumberedLine.{NumberedLine}
 use Rattle.wdf_scene.specs.declared.line.SceneLine.{SceneLine}
 use Rattle.wdf_scene.specs.declared.line.SceneLine.TheVariants as line
@@ -19,14 +20,9 @@ use Rattle.wdf_tokens.specs.declared.token.Token.{Token}
 use Rattle.wdf_tokens.specs.declared.token.Token.TheVariants as token
 use Rattle.wdf_tokens.specs.Tokens.{line_reading, lines_of, is_name_byte}
 use Rattle.wdf_tokens.specs.WellFormed.{is_word, is_token}
-use Rattle.wdf_tokens.proofs.BothParts.{first_part, second_part}
 use Rattle.wdf_tokens.proofs.LexedTokens.{read_fit}
 use Rattle.wdf_scene_lines.specs.Spelling.{written_tokens, plain_tokens}
 use Rattle.wdf_parse.specs.StandsFor.{StandsFor, TokenLine, with_token_line, token_lines, spelled_line, version_lines}
-
-both : (x y : Bool) → x ≡ true → y ≡ true → (x && y) ≡ true
-both true y h e = e
-both false y h e = absurd (let z : ⊥ = cc in z)
 
 -- ---- the tokens of a text have a spelling
 
@@ -57,11 +53,11 @@ is_spelled w = list_all is_token (written_tokens w.written)
 all_spelled : (ws : List WrittenLine) → list_all is_fit (map spelled_line ws) ≡ true → list_all is_spelled ws ≡ true
 all_spelled [] h = refl
 all_spelled (w ∷ ws) h =
-    both (is_spelled w) (list_all is_spelled ws) (first_part (is_spelled w) (list_all is_fit (map spelled_line ws)) h) (all_spelled ws (second_part (is_spelled w) (list_all is_fit (map spelled_line ws)) h))
+    both (is_spelled w) (list_all is_spelled ws) (both_left (is_spelled w) (list_all is_fit (map spelled_line ws)) h) (all_spelled ws (both_right (is_spelled w) (list_all is_fit (map spelled_line ws)) h))
 
 after_version : (vs : List TokenLine) (ws : List WrittenLine) → list_all is_fit (vs ++ map spelled_line ws) ≡ true → list_all is_spelled ws ≡ true
 after_version vs ws h =
-    all_spelled ws (second_part (list_all is_fit vs) (list_all is_fit (map spelled_line ws)) (sym (list_all-append is_fit vs (map spelled_line ws)) ∙ h))
+    all_spelled ws (both_right (list_all is_fit vs) (list_all is_fit (map spelled_line ws)) (sym (list_all-append is_fit vs (map spelled_line ws)) ∙ h))
 
 -- ---- the declared name is one of the tokens
 
@@ -79,12 +75,12 @@ name_byte b = or_order (is_in_range 65 90 b) (is_in_range 97 122 b) (is_in_range
 name_bytes : (bs : List ℕ) → list_all is_name_byte bs ≡ true → list_all (λ x. is_ascii_alphanumeric x || (x == 95)) bs ≡ true
 name_bytes [] h = refl
 name_bytes (b ∷ bs) h =
-    both (is_ascii_alphanumeric b || (b == 95)) (list_all (λ x. is_ascii_alphanumeric x || (x == 95)) bs) (sym (name_byte b) ∙ first_part (is_name_byte b) (list_all is_name_byte bs) h) (name_bytes bs (second_part (is_name_byte b) (list_all is_name_byte bs) h))
+    both (is_ascii_alphanumeric b || (b == 95)) (list_all (λ x. is_ascii_alphanumeric x || (x == 95)) bs) (sym (name_byte b) ∙ both_left (is_name_byte b) (list_all is_name_byte bs) h) (name_bytes bs (both_right (is_name_byte b) (list_all is_name_byte bs) h))
 
 word_name : (n : List ℕ) → is_word n ≡ true → is_name n ≡ true
 word_name [] h = absurd (let z : ⊥ = cc in z)
 word_name (b ∷ bs) h =
-    both (is_ascii_alphabetic b) (list_all (λ x. is_ascii_alphanumeric x || (x == 95)) bs) (first_part (is_ascii_alphabetic b) (list_all is_name_byte (b ∷ bs)) h) (name_bytes bs (second_part (is_name_byte b) (list_all is_name_byte bs) (second_part (is_ascii_alphabetic b) (list_all is_name_byte (b ∷ bs)) h)))
+    both (is_ascii_alphabetic b) (list_all (λ x. is_ascii_alphanumeric x || (x == 95)) bs) (both_left (is_ascii_alphabetic b) (list_all is_name_byte (b ∷ bs)) h) (name_bytes bs (both_right (is_name_byte b) (list_all is_name_byte bs) (both_right (is_ascii_alphabetic b) (list_all is_name_byte (b ∷ bs)) h)))
 
 -- the second token is the name
 abbrev IsSecondProper : List Token → Type 0
@@ -93,8 +89,8 @@ IsSecondProper _ = Unit {0}
 
 second_name : (ts : List Token) → list_all is_token ts ≡ true → IsSecondProper ts
 second_name (t ∷ token.Word n ∷ ts) h =
-    let w : (is_word n && nat_le (length n) 32) ≡ true = first_part (is_word n && nat_le (length n) 32) (list_all is_token ts) (second_part (is_token t) (list_all is_token (token.Word n ∷ ts)) h) in
-    both (is_name n) (nat_le (length n) 32) (word_name n (first_part (is_word n) (nat_le (length n) 32) w)) (second_part (is_word n) (nat_le (length n) 32) w)
+    let w : (is_word n && nat_le (length n) 32) ≡ true = both_left (is_word n && nat_le (length n) 32) (list_all is_token ts) (both_right (is_token t) (list_all is_token (token.Word n ∷ ts)) h) in
+    both (is_name n) (nat_le (length n) 32) (word_name n (both_left (is_word n) (nat_le (length n) 32) w)) (both_right (is_word n) (nat_le (length n) 32) w)
 second_name _ h = tt
 
 form_proper : (form : SceneLine) → list_all is_token (plain_tokens form) ≡ true → is_proper_if_there (declared_name form) ≡ true
@@ -112,12 +108,7 @@ form_proper _ h = refl
 head_proper : (h : StatementHead) (e : ℕ) → is_proper_if_there (declared_name (head_line h e)) ≡ true
 unfolding declared_name
 head_proper (head.Let x) e = refl
-head_proper (head.Put r) e = refl
-head_proper head.If e = refl
-head_proper head.Repeat e = refl
-head_proper head.Spend e = refl
-head_proper head.Log e = refl
-head_proper head.Return e = refl
+head_proper _ e = refl
 
 written_proper : (base : ℕ) (w : Written) → list_all is_token (written_tokens w) ≡ true → is_proper_if_there (declared_name (line_at base w)) ≡ true
 unfolding declared_name
@@ -129,7 +120,7 @@ written_proper base (Calling kind into a b c) h = refl
 lines_proper : (base : ℕ) (ws : List WrittenLine) → list_all is_spelled ws ≡ true → list_all names_properly (lines_at base ws) ≡ true
 lines_proper base [] h = refl
 lines_proper base (w ∷ ws) h =
-    both (is_proper_if_there (declared_name (line_at base w.written))) (list_all names_properly (lines_at (base + written_size w.written) ws)) (written_proper base w.written (first_part (is_spelled w) (list_all is_spelled ws) h)) (lines_proper (base + written_size w.written) ws (second_part (is_spelled w) (list_all is_spelled ws) h))
+    both (is_proper_if_there (declared_name (line_at base w.written))) (list_all names_properly (lines_at (base + written_size w.written) ws)) (written_proper base w.written (both_left (is_spelled w) (list_all is_spelled ws) h)) (lines_proper (base + written_size w.written) ws (both_right (is_spelled w) (list_all is_spelled ws) h))
 
 pub stands_properly : (text : List ℕ) (s : Scene) → StandsFor text s → HasProperNames s
 stands_properly text s h =

@@ -2,11 +2,11 @@
 use Rattle.std.proofs.Common.{◌≡◌, ℕ, suc, ◌+◌, Bool, true, false, cond, ◌&&◌, ◌⊎◌, inl, inr, List, [], ◌∷◌, ◌++◌, map, length, Option, Some, None, option_map, Result, Ok, Err, IsSomeAnd, IsTrue, refl, ap, ◌∙◌, sym, subst, arith}
 use Rattle.std.specs.Prelude.{◌==◌, IfOk, IfErr}
 use Rattle.std.specs.Option.{is_none}
+use Rattle.wdf_base.proofs.Tests.{both_left, both_right}
 use Rattle.wdf_scene.specs.declared.block.Block.{Block}
 use Rattle.wdf_scene.specs.Blocks.{Position, front, innermost, is_outside, after_lines}
 use Rattle.wdf_scene.specs.Written.{lines_at, exprs_at}
 use Rattle.wdf_tokens.specs.Tokens.{lines_of}
-use Rattle.wdf_tokens.proofs.BothParts.{first_part, second_part}
 use Rattle.wdf_scene.specs.declared.line.NumberedLine.{NumberedLine}
 use Rattle.wdf_scene.specs.declared.line.SceneLine.{SceneLine}
 use Rattle.wdf_scene.specs.declared.scene.Scene.{Scene}
@@ -51,8 +51,8 @@ stands_read text s h =
     let a = adds h.ws r.now (opening s.version) r.taken in
     let same : f.at ≡ r.now.place.position = let both : Some f.at ≡ Some r.now.place.position = sym f.is ∙ a.position in cc in
     let ends : IsTrue (is_outside r.now.place.position) = subst (λ p. IsTrue (is_outside p)) same f.holds in
-    let headers : (r.now.place.position.headers == 3) ≡ true = first_part (r.now.place.position.headers == 3) (is_none (innermost r.now.place.position.blocks)) ends in
-    let inside : is_none (innermost r.now.place.position.blocks) ≡ true = second_part (r.now.place.position.headers == 3) (is_none (innermost r.now.place.position.blocks)) ends in
+    let headers : (r.now.place.position.headers == 3) ≡ true = both_left (r.now.place.position.headers == 3) (is_none (innermost r.now.place.position.blocks)) ends in
+    let inside : is_none (innermost r.now.place.position.blocks) ≡ true = both_right (r.now.place.position.headers == 3) (is_none (innermost r.now.place.position.blocks)) ends in
     let openers : r.now.place.openers ≡ [] = empty_list r.now.place.openers (a.balance refl ∙ no_blocks r.now.place.position.blocks inside) in
     let scene : s ≡ r.now.builder = h.is ∙ sym (scene_parts r.now.builder s.version (lines_at 0 h.ws) (exprs_at 0 h.ws) a.version a.lines a.exprs) in
     reading_ends text r.now r.gives headers openers ∙ ap (λ (x : Scene). Ok x) (sym scene)

@@ -98,8 +98,7 @@ period_line _ h = absurd (let z : ⊥ = cc in z)
 
 no_period : (k : DeferredKind) → period_fits k 0 ≡ true
 no_period deferred.Dpc = refl
-no_period deferred.Timer = refl
-no_period deferred.WorkItem = refl
+no_period _ = refl
 
 timer_fits : (name : List ℕ) (k : DeferredKind) (parent : Option (List ℕ)) (n : ℕ) → is_timer_block (line.DeferredClass name k parent) ≡ true → is_ticks n ≡ true → period_fits k n ≡ true
 unfolding is_timer_block

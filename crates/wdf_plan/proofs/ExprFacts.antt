@@ -76,12 +76,7 @@ AreBelow n _ = Unit {0}
 
 head_below : (n e : ℕ) (h : StatementHead) → e < n → AreBelow n (head_line h e)
 head_below n e (head.Let x) h = h
-head_below n e (head.Put r) h = h
-head_below n e head.If h = h
-head_below n e head.Repeat h = h
-head_below n e head.Spend h = h
-head_below n e head.Log h = h
-head_below n e head.Return h = h
+head_below n e _ h = h
 
 argument_below : (n base : ℕ) (a : Argument) → base + argument_size a ≤ n → IsBelow n (numbered_argument base a)
 argument_below n base Missing h = tt

@@ -71,10 +71,7 @@ with_option (Some x) xs ys = refl
 entry_own : (body : Body) (n : ℕ) → entry body n (n + size body) ≡ n
 unfolding size
 entry_own Empty n = omega arith
-entry_own (Plain l is tail) n = refl
-entry_own (If h branch closing tail) n = refl
-entry_own (IfElse h first middle second closing tail) n = refl
-entry_own (Repeat h body closing tail) n = refl
+entry_own _ n = refl
 
 -- the statements from the lines of a body on are the body's, and then those that follow it
 abbrev Flows : List Declaration → List (List ℕ) → List Nest → ℕ → ℕ → ℕ → Body → List NumberedLine → Type 0

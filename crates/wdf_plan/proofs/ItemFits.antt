@@ -125,9 +125,7 @@ act_small plan n (act.Again depth body) few long h =
     let less = ltb-true depth 16 both.0 in
     let near = leb-true body n both.1 in
     (omega (arith, less), omega (arith, near, long))
-act_small plan n (act.Spend e) few long h = tt
-act_small plan n (act.Log e) few long h = tt
-act_small plan n (act.Return e) few long h = tt
+act_small plan n _ few long h = tt
 
 statement_small : (plan : Plan) (n : ℕ) (s : Statement) → length plan.classes ≤ 256 → n < 2 ^ 32 → statement_fits plan n s ≡ true → IsFitStatement s
 statement_small plan n s few long h =

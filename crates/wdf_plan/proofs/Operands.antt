@@ -88,11 +88,7 @@ unfolding unknown_word
 head_fits scene device e (head.Let x) known below = lt-ltb e (node_count scene) below
 head_fits scene device e (head.Put r) known below =
     (known_register scene r known, lt-ltb e (node_count scene) below)
-head_fits scene device e head.If known below = lt-ltb e (node_count scene) below
-head_fits scene device e head.Repeat known below = lt-ltb e (node_count scene) below
-head_fits scene device e head.Spend known below = lt-ltb e (node_count scene) below
-head_fits scene device e head.Log known below = lt-ltb e (node_count scene) below
-head_fits scene device e head.Return known below = lt-ltb e (node_count scene) below
+head_fits scene device e _ known below = lt-ltb e (node_count scene) below
 
 written_fits : (scene : Scene) (device : Option ℕ) (base : ℕ) (w : Written) → is_written w ≡ true → unknown_word (declarations scene) device (line_at base w) ≡ false → AreBelow (node_count scene) (line_at base w) → HasNumbers (plan_of scene) (declarations scene) (line_at base w)
 written_fits scene device base (Plain form) is known below = plain_fits scene device form is known

@@ -226,9 +226,7 @@ unfolding lines_of size reach passed is_end is_else
 enter blocks n m after Empty rest e h = to_number blocks 0 0 n m rest (omega (arith, e)) ∙ h
 enter blocks n m after (Plain l is tail) rest e h =
     stop blocks (way 0 0 n) l (lines_of tail ++ rest) (let p = plain_form [] [] l.form is in rw (p.ends, p.other) refl)
-enter blocks n m after (If x branch closing tail) rest e h = refl
-enter blocks n m after (IfElse x first middle second closing tail) rest e h = refl
-enter blocks n m after (Repeat x body closing tail) rest e h = refl
+enter blocks n m after _ rest e h = refl
 
 -- an `end` of an `if` is nothing
 pub end_of_if : (blocks : List Nest) (n closing : ℕ) (rest : List NumberedLine) → onward (blocks ++ nest.Branch ∷ []) n (numbered closing line.End ∷ rest) ≡ onward blocks n rest

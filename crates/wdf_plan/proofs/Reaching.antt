@@ -4,6 +4,7 @@ use Rattle.std.specs.Prelude.{◌==◌}
 use Rattle.std.specs.List.{cons_option}
 use Rattle.std.proofs.lemmas.Bool.{eqb-true, eqb-false, eq-eqb, ne_eqb, ltb-true, le-ltb, and_right}
 use Rattle.std.proofs.lemmas.List.Sums.{count_by-le-length}
+use Rattle.std.proofs.Math.Bool.{and-true}
 use Rattle.wdf_base.specs.declared.script.Statement.{Statement}
 use Rattle.wdf_scene.specs.declared.line.NumberedLine.{NumberedLine}
 use Rattle.wdf_scene.specs.declared.line.SceneLine.{SceneLine}
@@ -136,11 +137,7 @@ ending zero form e = record { closes = e; alone = refl }
 ending (suc d) form e = absurd (let z : ⊥ = cc in z)
 
 pub same_end : (d : ℕ) (form : SceneLine) → (is_end form && (d == 0)) ≡ ends_block d form
-same_end zero form = plain (is_end form)
-  where
-    plain : (b : Bool) → (b && true) ≡ b
-    plain true = refl
-    plain false = refl
+same_end zero form = and-true (is_end form)
 same_end (suc d) form = and_right (is_end form) (suc d == 0) (ne_eqb (suc d) 0 (λ e. absurd (omega arith)))
 
 end_here : (names : List Declaration) (variables : List (List ℕ)) (blocks : List Nest) (n : ℕ) (l : NumberedLine) (ls : List NumberedLine) → ends_block (length blocks) l.form ≡ true → end_from names variables blocks n (l ∷ ls) ≡ n

@@ -57,9 +57,6 @@ stand_closed x xs f = by_block x.block x.line xs f.0 f.1 f.2
 
     by_block : (b : Block) (l : ℕ) (ys : List Opener) → opens_in b (innermost (map block_of ys)) ≡ true → AreBefore l ys → AreFitting ys → closed (pushed b l (stand_of ys)) ≡ stand_of ys
     by_block block.On l ys g b f = callback_closed l (stand_of ys) (quiet ys f (owner_quiet (innermost (map block_of ys)) g))
-    by_block block.If l ys g b f = branch_closed l (stand_of ys) (in_a_callback ys f g)
-    by_block block.Else l ys g b f = branch_closed l (stand_of ys) (in_a_callback ys f g)
-    by_block block.Repeat l ys g b f = branch_closed l (stand_of ys) (in_a_callback ys f g)
     by_block block.Driver l ys g b f = alone_closed block.Driver l ys (none_open ys g) refl
     by_block block.Class l ys g b f = alone_closed block.Class l ys (none_open ys g) refl
     by_block block.App l ys g b f = alone_closed block.App l ys (none_open ys g) refl
@@ -69,6 +66,7 @@ stand_closed x xs f = by_block x.block x.line xs f.0 f.1 f.2
     by_block block.Interrupt l ys g b f = inside_closed block.Interrupt l ys b (device_open ys f g) (λ d h. rw (apart d l h) refl)
     by_block block.Queue l ys g b f = inside_closed block.Queue l ys b (device_open ys f g) (λ d h. rw (apart d l h) refl)
     by_block block.Target l ys g b f = inside_closed block.Target l ys b (device_open ys f g) (λ d h. rw (apart d l h) refl)
+    by_block _ l ys g b f = branch_closed l (stand_of ys) (in_a_callback ys f g)
 
 -- ---- a line that opens a block
 

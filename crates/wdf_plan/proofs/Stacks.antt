@@ -165,10 +165,7 @@ quiet (x ∷ xs) f e = by_block x.block x.line xs f.0 f.2 e
     by_block block.Interrupt l ys g f e = inside block.Interrupt l ys (device_open ys f g) (λ d. record { no_callback = refl; no_nesting = refl })
     by_block block.Queue l ys g f e = inside block.Queue l ys (device_open ys f g) (λ d. record { no_callback = refl; no_nesting = refl })
     by_block block.Target l ys g f e = inside block.Target l ys (device_open ys f g) (λ d. record { no_callback = refl; no_nesting = refl })
-    by_block block.On l ys g f e = absurd (let z : ⊥ = cc in z)
-    by_block block.If l ys g f e = absurd (let z : ⊥ = cc in z)
-    by_block block.Else l ys g f e = absurd (let z : ⊥ = cc in z)
-    by_block block.Repeat l ys g f e = absurd (let z : ⊥ = cc in z)
+    by_block _ l ys g f e = absurd (let z : ⊥ = cc in z)
 
 -- a callback is open
 pub record IsInCallback (o : Stand) : Type 0 where

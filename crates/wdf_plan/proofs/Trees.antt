@@ -28,10 +28,8 @@ abbrev PicksNothing : NumberedLine → Type 0
 PicksNothing l = (l.form ≡ line.Picks → ⊥) → l.picks ≡ []
 
 nothing_picked : (base : ℕ) (w : Written) → (line_at base w ≡ line.Picks → ⊥) → picks_in w ≡ []
-nothing_picked base (Plain form) h = refl
 nothing_picked base (Picked ns) h = absurd (h refl)
-nothing_picked base (Single s t) h = refl
-nothing_picked base (Calling kind into a b c) h = refl
+nothing_picked base _ h = refl
 
 picks_nothing : (base : ℕ) (ws : List WrittenLine) → Every PicksNothing (lines_at base ws)
 picks_nothing base [] = tt

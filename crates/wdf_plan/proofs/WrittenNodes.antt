@@ -37,8 +37,7 @@ tree_end base (Node op l r) = omega arith
 
 argument_length : (a : Argument) → length (argument_nodes a) ≡ argument_size a
 argument_length Missing = refl
-argument_length (Valued a) = refl
-argument_length (OfClass n) = refl
+argument_length _ = refl
 
 written_length : (base : ℕ) (w : Written) → length (nodes_at base w) ≡ written_size w
 written_length base (Plain form) = refl
@@ -57,18 +56,12 @@ written_length base (Calling kind into a b c) =
 head_end : (base e : ℕ) (h : StatementHead) → nodes_end base (head_line h e) ≡ suc e
 unfolding nodes_end
 head_end base e (head.Let x) = refl
-head_end base e (head.Put r) = refl
-head_end base e head.If = refl
-head_end base e head.Repeat = refl
-head_end base e head.Spend = refl
-head_end base e head.Log = refl
-head_end base e head.Return = refl
+head_end base e _ = refl
 
 argument_end : (base : ℕ) (a : Argument) → nodes_after base (numbered_argument base a) ≡ base + argument_size a
 unfolding nodes_after
 argument_end base Missing = omega arith
-argument_end base (Valued a) = omega arith
-argument_end base (OfClass n) = omega arith
+argument_end base _ = omega arith
 
 plain_end : (base : ℕ) (form : SceneLine) → is_plain_form form ≡ true → nodes_end base form ≡ base
 unfolding nodes_end
@@ -160,9 +153,7 @@ ordered_append (x ∷ xs) ys k m e f g = (f.0, ordered_append xs ys (suc k) m (o
 
 ordered_atom : (k : ℕ) (a : Atom) → IsOrdered k (atom_node a)
 ordered_atom k (Number n) = tt
-ordered_atom k (Named n) = tt
-ordered_atom k (Literal s) = tt
-ordered_atom k (Context w) = tt
+ordered_atom k _ = tt
 
 ordered_tree : (base : ℕ) (t : Tree) → AreOrdered base (nodes base t)
 ordered_tree base (Leaf a) = (ordered_atom base a, tt)

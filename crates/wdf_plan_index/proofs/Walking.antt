@@ -158,8 +158,7 @@ none_of sort.Target plan device o h = no_target device (declared_of plan o) h
 
 none_first : (s : Sort) (plan : Plan) (device : ℕ) → is_of s plan device 0 ≡ false
 none_first sort.Queue plan device = refl
-none_first sort.Interrupt plan device = refl
-none_first sort.Target plan device = refl
+none_first _ plan device = refl
 
 -- of some numbers, those whose next one passes a test, by a test that these pass too
 shifted_by : (p q : ℕ → Bool) (a : ℕ) (xs ys : List ℕ) (b c : Bool) → q a ≡ b → p (a + 1) ≡ c → (q a ≡ false → p (a + 1) ≡ false) → map (λ k. k + 1) (filter (λ k. p (k + 1)) (filter q xs)) ≡ filter p ys

@@ -4,7 +4,7 @@ ghost use Rattle.wdf_model.specs.Plans as plans;
 
 use crate::indexed::IndexedPlan;
 use wdf_base::{ClassInfo, Kind, ObjectId};
-use wdf_declared::name_of_class;
+use wdf_declared::{name_of_class, parent_of_class};
 
 impl IndexedPlan {
     /// The kind of a class's objects; General for what is no class.
@@ -28,10 +28,7 @@ impl IndexedPlan {
     pub fn parent_of_class(&self, class: u16) -> ObjectId
         ensures { result.0 ≡ plans.parent_of_class self.now class }
     {
-        match self.class_at(class) {
-            Some(ClassInfo::Deferred { parent, .. }) => parent,
-            _ => ObjectId(0),
-        }
+        parent_of_class(&self.plan, class)
     }
 
     /// The period of a timer of a class, in ticks; 0 for none.

@@ -4,6 +4,7 @@ use Rattle.std.proofs.lemmas.Bool.{lt-ltb, ltb-true, ltb-false}
 use Rattle.std.specs.List.{list_any, range_with_len}
 use Rattle.std.specs.Option.{option_and_then}
 use Rattle.wdf_base.specs.declared.plan.Plan.{Plan}
+use Rattle.wdf_model.proofs.Tests.{second}
 use Rattle.wdf_model.specs.Tables.{entry, ids_of}
 use Rattle.wdf_model.specs.Plans.{declared_ids, device_of}
 use Rattle.wdf_model.specs.parts.Pnp.{steps_left}
@@ -39,16 +40,12 @@ range_ahead p a (suc n) = ap (λ b. p (a + 1) || b) (range_ahead p (a + 1) n)
 range_from_first : (p : ℕ → Bool) (n : ℕ) → list_any p (range_with_len 0 (suc n)) ≡ (p 0 || list_any (λ i. p (i + 1)) (range_with_len 0 n))
 range_from_first p n = ap (λ b. p 0 || b) (range_ahead p 0 n)
 
-or_true : (a b : Bool) → b ≡ true → (a || b) ≡ true
-or_true true b e = refl
-or_true false b e = e
-
 any_from : (p : ℕ → Bool) (a n i : ℕ) → i < n → p (a + i) ≡ true → list_any p (range_with_len a n) ≡ true
 any_from p a zero i h e = absurd (omega arith)
 any_from p a (suc n) zero h e = let same : a + 0 ≡ a = omega arith in let here : p a ≡ true = ap p (sym same) ∙ e in rw here refl
 any_from p a (suc n) (suc i) h e =
     let same : a + suc i ≡ a + 1 + i = omega arith in
-    or_true (p a) (list_any p (range_with_len (a + 1) n)) (any_from p (a + 1) n i (omega arith) (ap p (sym same) ∙ e))
+    second (p a) (list_any p (range_with_len (a + 1) n)) (any_from p (a + 1) n i (omega arith) (ap p (sym same) ∙ e))
 
 none_from : (p : ℕ → Bool) (a n : ℕ) → ((j : ℕ) → a ≤ j → j < a + n → p j ≡ false) → list_any p (range_with_len a n) ≡ false
 none_from p a zero none = refl

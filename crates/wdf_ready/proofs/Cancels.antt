@@ -5,17 +5,14 @@ use Rattle.std.proofs.lemmas.Bool.{cases_lt, le-leb, leb-true}
 use Rattle.wdf_base.specs.declared.plan.Plan.{Plan}
 use Rattle.wdf_base.specs.declared.rank.Rank.TheVariants as rank
 use Rattle.wdf_base.specs.Places.{is_due}
+use Rattle.wdf_model.proofs.Tests.{both_left, left_fails}
 use Rattle.wdf_model.specs.State.{State, is_held_from}
 use Rattle.wdf_model.specs.Tables.{ids_of}
 use Rattle.wdf_model.specs.parts.Requests.{Requests, mark_of}
 use Rattle.wdf_model.specs.rules.Groups.{places_if}
 use Rattle.wdf_request.specs.Closing.{due_requests}
 use Rattle.wdf_ready.specs.Idle.{IsNext, NoneFrom, is_due_at}
-use Rattle.wdf_ready.proofs.Skips.{First, find_filter, first_in, left_true, none_in, right_false}
-
-fails_first : (a b : Bool) → a ≡ false → (a && b) ≡ false
-fails_first true b h = absurd (let z : ⊥ = cc in z)
-fails_first false b h = refl
+use Rattle.wdf_ready.proofs.Skips.{First, find_filter, first_in, none_in, right_false}
 
 pub few_places : (b : Bool) (n end : ℕ) → end ≤ places_if b n → end ≤ n
 few_places true n end h = h
@@ -23,7 +20,7 @@ few_places false n end h = omega arith
 
 -- where EvtRequestCancel is due for no request, it isn't due on a queue
 pub not_on : {A : Type 0} (plan : Plan) (S : State A) (q p : ℕ) → is_due (mark_of S.requests p) ≡ false → is_due_at plan S rank.Cancel q p ≡ false
-not_on plan S q p h = fails_first (is_due (mark_of S.requests p)) (is_held_from S q p) h
+not_on plan S q p h = left_fails (is_due (mark_of S.requests p)) (is_held_from S q p) h
 
 module _ (R : Requests) (test : ℕ → Bool) (fails : (p : ℕ) → is_due (mark_of R p) ≡ false → test p ≡ false) (from at end : ℕ) (none : NoneFrom test from at) where
   -- nor at any place from one on up to another
@@ -49,7 +46,7 @@ module _ (R : Requests) (test : ℕ → Bool) (fails : (p : ℕ) → is_due (mar
     found = first_in (λ o. nat_le at o && is_due (mark_of R o)) 0 (length R.all) x (first_due (Some x) h)
 
     pub cancel_after : at ≤ x
-    cancel_after = leb-true at x (left_true (nat_le at x) (is_due (mark_of R x)) found.passes)
+    cancel_after = leb-true at x (both_left (nat_le at x) (is_due (mark_of R x)) found.passes)
 
     none_before : NoneFrom test from x
     none_before = further x (λ p after below. right_false (nat_le at p) (is_due (mark_of R p)) (le-leb at p after) (found.before p (omega arith) below))

@@ -136,15 +136,7 @@ module _ (plan : Plan) (few : length plan.declared ≤ 4096) where
   few_of_rank cpu rank.CanceledOnQueue = few_ids (λ id. is_some (queue_of plan id)) cpu rank.CanceledOnQueue
   few_of_rank cpu rank.Stop = few_ids (λ id. is_some (queue_of plan id)) cpu rank.Stop
   few_of_rank cpu rank.Resume = few_ids (λ id. is_some (queue_of plan id)) cpu rank.Resume
-  few_of_rank cpu rank.Isr = omega arith
-  few_of_rank cpu rank.Deferred = omega arith
-  few_of_rank cpu rank.Timed = omega arith
-  few_of_rank cpu rank.QueueState = omega arith
-  few_of_rank cpu rank.Handler = omega arith
-  few_of_rank cpu rank.Sequence = omega arith
-  few_of_rank cpu rank.Work = omega arith
-  few_of_rank cpu rank.Cleanup = omega arith
-  few_of_rank cpu rank.Destroy = omega arith
+  few_of_rank cpu _ = omega arith
 
   few_of_cpu : (cpu : ℕ) → length (groups_of_cpu plan cpu) ≤ 57361
   few_of_cpu cpu = let h = pieces (groups_of_rank plan cpu) 4097 (few_of_rank cpu) RANKS in omega (arith, h)

@@ -23,6 +23,7 @@ use Rattle.wdf_base.specs.declared.rank.Rank.TheVariants as rank
 use Rattle.wdf_base.specs.Places.{is_returning_to}
 use Rattle.wdf_base.specs.Lives.{is_asked, is_cleaned, is_past_cleanup}
 use Rattle.wdf_base.specs.Callbacks.{dpc_function}
+use Rattle.wdf_model.proofs.Tests.{left_fails, not_true, right_fails}
 use Rattle.wdf_model.specs.Ids.{cpu_of}
 use Rattle.wdf_model.specs.declared.entries.Request.{Request}
 use Rattle.wdf_model.specs.declared.entries.Sending.{Sending}
@@ -61,18 +62,6 @@ use Rattle.wdf_tree.specs.Turns.{has_turn}
 
 -- ---- conjunctions
 
-right_fails : (a b : Bool) → b ≡ false → (a && b) ≡ false
-right_fails true b h = h
-right_fails false b h = refl
-
-left_fails : (a b : Bool) → a ≡ false → (a && b) ≡ false
-left_fails true b h = absurd (let z : ⊥ = cc in z)
-left_fails false b h = refl
-
-not_true : (b : Bool) → not b ≡ true → b ≡ false
-not_true true h = absurd (let z : ⊥ = cc in z)
-not_true false h = refl
-
 -- one of two fails
 data Fails (a b : Bool) : Type 0 where
   first : a ≡ false → Fails a b
@@ -98,8 +87,7 @@ queue_low plan q = queue_low_by (queue_of plan q)
 
 handler_level : (plan : Plan) (q : ℕ) (f : RequestForm) → callback_irql plan (typed_handler f) q ≤ 2
 handler_level plan q form.Read = queue_low plan q
-handler_level plan q form.Write = queue_low plan q
-handler_level plan q form.Control = queue_low plan q
+handler_level plan q _ = queue_low plan q
 
 handler_low_by : (plan : Plan) (q : ℕ) (f : RequestForm) (c : Callback) (typed any : Bool)
     → (if typed then Some (typed_handler f) else if any then Some callback.EvtIoDefault else None) ≡ Some c → callback_irql plan c q ≤ 2
@@ -112,8 +100,7 @@ handler_low plan q f c h = handler_low_by plan q f c (declares plan (typed_handl
 
 typed_ranked : (f : RequestForm) → (row_of (typed_handler f)).rank ≡ rank.Handler
 typed_ranked form.Read = refl
-typed_ranked form.Write = refl
-typed_ranked form.Control = refl
+typed_ranked _ = refl
 
 handler_ranked_by : (plan : Plan) (q : ℕ) (f : RequestForm) (c : Callback) (typed any : Bool)
     → (if typed then Some (typed_handler f) else if any then Some callback.EvtIoDefault else None) ≡ Some c → (row_of c).rank ≡ rank.Handler

@@ -16,6 +16,7 @@ use Rattle.wdf_base.specs.declared.rank.Rank.{Rank}
 use Rattle.wdf_base.specs.declared.rank.Rank.TheVariants as rank
 use Rattle.wdf_base.specs.Lives.{is_cleaned}
 use Rattle.wdf_base.specs.Places.{is_closing}
+use Rattle.wdf_model.proofs.Tests.{both_left}
 use Rattle.wdf_model.specs.declared.enums.Group.{Group}
 use Rattle.wdf_model.specs.declared.enums.Group.TheVariants as group
 use Rattle.wdf_model.specs.Tables.{ids_of}
@@ -95,16 +96,12 @@ pub right_false : (a b : Bool) → a ≡ true → (a && b) ≡ false → b ≡ f
 right_false true b e h = h
 right_false false b e h = absurd (let z : ⊥ = cc in z)
 
-pub left_true : (a b : Bool) → (a && b) ≡ true → a ≡ true
-left_true true b h = refl
-left_true false b h = absurd (let z : ⊥ = cc in z)
-
 module _ {A : Type 0} (plan : Plan) (m : Meaning A) (S : State A) (g : Group) (test : ℕ → Bool) (none : (p : ℕ) → test p ≡ false → offered plan m S g p ≡ None) where
   skips_by : (from x : ℕ) → places_in plan S g ≤ 2 ^ 32 → find (λ o. nat_le from o && test o) (range_with_len 0 (places_in plan S g)) ≡ Some x → Skips plan m S g from x
   skips_by from x few h =
       let k : First (λ o. nat_le from o && test o) 0 (places_in plan S g) x = first_in (λ o. nat_le from o && test o) 0 (places_in plan S g) x h in
       let within = k.within in
-      let above : from ≤ x = leb-true from x (left_true (nat_le from x) (test x) k.passes) in
+      let above : from ≤ x = leb-true from x (both_left (nat_le from x) (test x) k.passes) in
       let more : from + (x - from) ≡ x = omega arith in
       record {
         passed = all_passed plan m S g from (x - from) (omega arith)

@@ -72,11 +72,7 @@ module _ {A : Type 0} (plan : Plan) (m : Meaning A) (S : State A) where
   offered_by r (place.Closing s) rest ids e more (suc k) =
       let is : offered plan m S group.Completions r ≡ Some (event.Complete (handle_in plan S r) s) = sym (completion_kept r) ∙ ap (completion_at plan S r) e in
       rw is (more k)
-  offered_by r (place.Queued q) rest ids e more k = let is : offered plan m S group.Completions r ≡ None = sym (completion_kept r) ∙ ap (completion_at plan S r) e in rw is (more k)
-  offered_by r (place.Owned) rest ids e more k = let is : offered plan m S group.Completions r ≡ None = sym (completion_kept r) ∙ ap (completion_at plan S r) e in rw is (more k)
-  offered_by r (place.Returning q) rest ids e more k = let is : offered plan m S group.Completions r ≡ None = sym (completion_kept r) ∙ ap (completion_at plan S r) e in rw is (more k)
-  offered_by r (place.Sent t) rest ids e more k = let is : offered plan m S group.Completions r ≡ None = sym (completion_kept r) ∙ ap (completion_at plan S r) e in rw is (more k)
-  offered_by r (place.Done) rest ids e more k = let is : offered plan m S group.Completions r ≡ None = sym (completion_kept r) ∙ ap (completion_at plan S r) e in rw is (more k)
+  offered_by r _ rest ids e more k = let is : offered plan m S group.Completions r ≡ None = sym (completion_kept r) ∙ ap (completion_at plan S r) e in rw is (more k)
 
   places_by : (ids : List ℕ) (k : ℕ) → slice_get (filter_map (offered plan m S group.Completions) ids) k ≡ option_and_then (λ x. offered plan m S group.Completions x) (slice_get (filter (λ r. is_closing (place_of S.requests r)) ids) k)
   places_by [] k = refl
@@ -88,11 +84,7 @@ module _ {A : Type 0} (plan : Plan) (m : Meaning A) (S : State A) where
   counted_by r (place.Closing s) rest ids e more =
       let is : offered plan m S group.Completions r ≡ Some (event.Complete (handle_in plan S r) s) = sym (completion_kept r) ∙ ap (completion_at plan S r) e in
       rw is (ap suc more)
-  counted_by r (place.Queued q) rest ids e more = let is : offered plan m S group.Completions r ≡ None = sym (completion_kept r) ∙ ap (completion_at plan S r) e in rw is more
-  counted_by r (place.Owned) rest ids e more = let is : offered plan m S group.Completions r ≡ None = sym (completion_kept r) ∙ ap (completion_at plan S r) e in rw is more
-  counted_by r (place.Returning q) rest ids e more = let is : offered plan m S group.Completions r ≡ None = sym (completion_kept r) ∙ ap (completion_at plan S r) e in rw is more
-  counted_by r (place.Sent t) rest ids e more = let is : offered plan m S group.Completions r ≡ None = sym (completion_kept r) ∙ ap (completion_at plan S r) e in rw is more
-  counted_by r (place.Done) rest ids e more = let is : offered plan m S group.Completions r ≡ None = sym (completion_kept r) ∙ ap (completion_at plan S r) e in rw is more
+  counted_by r _ rest ids e more = let is : offered plan m S group.Completions r ≡ None = sym (completion_kept r) ∙ ap (completion_at plan S r) e in rw is more
 
   count_by_ids : (ids : List ℕ) → length (filter_map (offered plan m S group.Completions) ids) ≡ length (filter (λ r. is_closing (place_of S.requests r)) ids)
   count_by_ids [] = refl

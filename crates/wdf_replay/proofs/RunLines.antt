@@ -83,10 +83,7 @@ end_taken plan m run told line here =
 pub last_lines_over : (plan : Plan) (events : ℕ) (waits : List WaitLine) (e : Ending) → (e ≡ ending.Running → ⊥)
     → last_lines plan events waits e ≡ fed (ending_text events e) ∷ map (fed_wait plan) waits
 last_lines_over plan events waits ending.Running over = absurd (over refl)
-last_lines_over plan events waits ending.Finished over = refl
-last_lines_over plan events waits ending.Limit over = refl
-last_lines_over plan events waits (ending.Fault f) over = refl
-last_lines_over plan events waits ending.Stuck over = refl
+last_lines_over plan events waits _ over = refl
 
 pub end_lines_over : {A : Type 0} (plan : Plan) (m : Meaning A) (run : List Event) → (ending_of plan m run ≡ ending.Running → ⊥)
     → end_lines plan m run ≡ fed (ending_text (length run) (ending_of plan m run)) ∷ map (fed_wait plan) (wait_list plan m run)

@@ -1,6 +1,6 @@
 -- What belongs to an id: the requests of a queue, a target or a device.
 use Rattle.std.proofs.Common.{if◌then◌else◌, ℕ, ◌≡◌, ◌==◌, ◌&&◌, not, Bool, true, false, Some, None, refl, sym}
-use Rattle.std.proofs.Math.Bool.{and-true}
+use Rattle.std.proofs.Math.Bool.{and-false, and-true}
 use Rattle.wdf_base.specs.declared.ids.ObjectId.{ObjectId}
 use Rattle.wdf_base.specs.declared.object.Place.{Place}
 use Rattle.wdf_base.specs.declared.object.Place.TheVariants as place
@@ -13,28 +13,16 @@ use Rattle.wdf_request.specs.Keys.{returning_queue, sent_target, unfinished_devi
 
 pub is_at_queue : (q : ℕ) (p : Place) → is_at q (returning_queue p) ≡ is_returning_to q p
 is_at_queue q (place.Queued o) = refl
-is_at_queue q (place.Returning o) = refl
-is_at_queue q (place.Closing s) = refl
-is_at_queue q place.Owned = refl
-is_at_queue q (place.Sent t) = refl
-is_at_queue q place.Done = refl
+is_at_queue q _ = refl
 
 pub is_at_target : (t : ℕ) (p : Place) → is_at t (sent_target p) ≡ is_sent_to t p
 is_at_target t (place.Queued o) = refl
-is_at_target t (place.Returning o) = refl
-is_at_target t (place.Closing s) = refl
-is_at_target t place.Owned = refl
-is_at_target t (place.Sent o) = refl
-is_at_target t place.Done = refl
+is_at_target t _ = refl
 
 both_by : (device : ObjectId) (d : ℕ) (arrived undone : Bool)
     → is_at d (if arrived && undone then Some device else None) ≡ (arrived && (device.0 == d) && undone)
 both_by device d true true = sym (and-true (device.0 == d))
-both_by device d true false = sym (none (device.0 == d))
-  where
-    none : (b : Bool) → (b && false) ≡ false
-    none true = refl
-    none false = refl
+both_by device d true false = sym (and-false (device.0 == d))
 both_by device d false undone = refl
 
 pub is_at_device : (d : ℕ) (r : Request) → is_at d (unfinished_device r) ≡ is_unfinished_at d r

@@ -1,14 +1,8 @@
 -- A write of a changed item, and a write of the item that is there.
 use Rattle.std.proofs.Common.{◌≡◌, ℕ, zero, suc, ◌-◌, Bool, true, false, cond, List, [], ◌∷◌, ◌++◌, length, slice_get, slice_set, Some, refl, ap, ◌∙◌}
-use Rattle.wdf_base.specs.declared.declared.PostLine.{PostLine}
-use Rattle.wdf_base.specs.declared.script.AgentInfo.{AgentInfo}
-use Rattle.wdf_base.specs.declared.script.Script.{Script}
-use Rattle.wdf_base.specs.declared.script.Statement.{Statement}
-use Rattle.wdf_base.specs.declared.plan.Plan.{Plan}
 use Rattle.wdf_scene.specs.declared.line.NumberedLine.{NumberedLine}
 use Rattle.wdf_scene.specs.declared.scene.Scene.{Scene}
 use Rattle.wdf_scene.specs.Change.{changed_at}
-use Rattle.wdf_scene.specs.PlanParts.{agent_with_post, with_post, script_with, with_statement}
 use Rattle.wdf_scene.specs.Scene.{line_with_pick, with_pick}
 
 pub set-changed : {T : Type 0} (f : T → T) (xs : List T) (k : ℕ) (x : T) → slice_get xs k ≡ Some x → slice_set xs k (f x) ≡ changed_at f k xs
@@ -27,21 +21,6 @@ set-more put more xs k x true old grown new here kept changed e =
     rw (e, changed) (set-changed more xs k x here)
 set-more put more xs k x false old grown new here kept changed e =
     rw (e, kept) (set-same xs k x here)
-
-pub statement_done : (plan : Plan) (k : ℕ) (s : Statement) (t : Script) (b : Bool) (new : List Statement) → slice_get plan.scripts k ≡ Some t → new ≡ cond b (t.statements ++ s ∷ []) t.statements → record plan { scripts = slice_set plan.scripts k (record t { statements = new }) } ≡ cond b (with_statement plan k s) plan
-statement_done plan k s t true new here e =
-    ap (λ (zs : List Script). record plan { scripts = zs }) (set-more (λ ys x. record x { statements = ys }) (script_with s) plan.scripts k t true t.statements (t.statements ++ s ∷ []) new here refl refl e)
-statement_done plan k s t false new here e =
-    ap (λ (zs : List Script). record plan { scripts = zs }) (set-more (λ ys x. record x { statements = ys }) (script_with s) plan.scripts k t false t.statements (t.statements ++ s ∷ []) new here refl refl e)
-
-post_more : (plan : Plan) (k : ℕ) (p : PostLine) (a : AgentInfo) (b : Bool) (new : List PostLine) → slice_get plan.agents k ≡ Some a → new ≡ cond b (a.posts ++ p ∷ []) a.posts → record plan { agents = slice_set plan.agents k (record a { posts = new }) } ≡ cond b (with_post plan (suc k) p) plan
-post_more plan k p a true new here e =
-    ap (λ (zs : List AgentInfo). record plan { agents = zs }) (set-more (λ ys x. record x { posts = ys }) (agent_with_post p) plan.agents k a true a.posts (a.posts ++ p ∷ []) new here refl refl e)
-post_more plan k p a false new here e =
-    ap (λ (zs : List AgentInfo). record plan { agents = zs }) (set-more (λ ys x. record x { posts = ys }) (agent_with_post p) plan.agents k a false a.posts (a.posts ++ p ∷ []) new here refl refl e)
-
-pub post_done : (plan : Plan) (agent k : ℕ) (p : PostLine) (a : AgentInfo) (b : Bool) (new : List PostLine) → agent ≡ suc k → slice_get plan.agents k ≡ Some a → new ≡ cond b (a.posts ++ p ∷ []) a.posts → record plan { agents = slice_set plan.agents k (record a { posts = new }) } ≡ cond b (with_post plan agent p) plan
-post_done plan agent k p a b new is here e = rw is (post_more plan k p a b new here e)
 
 pick_more : (scene : Scene) (n : ℕ) (l : NumberedLine) (b : Bool) (new : List ℕ) → slice_get scene.lines (length scene.lines - 1) ≡ Some l → new ≡ cond b (l.picks ++ n ∷ []) l.picks → record scene { lines = slice_set scene.lines (length scene.lines - 1) (record l { picks = new }) } ≡ cond b (with_pick scene n) scene
 pick_more scene n l true new here e =

@@ -24,25 +24,21 @@ use Rattle.wdf_scene.specs.Words.{plain_kind_word, plain_kind_of, deferred_kind_
 
 pub plain_kind-back : (x : PlainKind) → plain_kind_of (plain_kind_word x) ≡ Some x
 plain_kind-back plain_kind.Object = refl
-plain_kind-back plain_kind.SpinLock = refl
-plain_kind-back plain_kind.WaitLock = refl
-plain_kind-back plain_kind.Request = refl
+plain_kind-back _ = refl
 
 pub plain_kind-only : (x : PlainKind) (word : List ℕ) → plain_kind_of word ≡ Some x → plain_kind_word x ≡ word
 plain_kind-only x word e = (bytes_eq-Decides (plain_kind_word x) word).0 (find_passes (λ y. bytes_eq (plain_kind_word y) word) PLAIN_KINDS x e)
 
 pub deferred_kind-back : (x : DeferredKind) → deferred_kind_of (deferred_kind_word x) ≡ Some x
 deferred_kind-back deferred_kind.Dpc = refl
-deferred_kind-back deferred_kind.Timer = refl
-deferred_kind-back deferred_kind.WorkItem = refl
+deferred_kind-back _ = refl
 
 pub deferred_kind-only : (x : DeferredKind) (word : List ℕ) → deferred_kind_of word ≡ Some x → deferred_kind_word x ≡ word
 deferred_kind-only x word e = (bytes_eq-Decides (deferred_kind_word x) word).0 (find_passes (λ y. bytes_eq (deferred_kind_word y) word) DEFERRED_KINDS x e)
 
 pub scope-back : (x : Scope) → scope_of (scope_word x) ≡ Some x
 scope-back scope.PerDevice = refl
-scope-back scope.PerQueue = refl
-scope-back scope.Unscoped = refl
+scope-back _ = refl
 
 pub scope-only : (x : Scope) (word : List ℕ) → scope_of word ≡ Some x → scope_word x ≡ word
 scope-only x word e = (bytes_eq-Decides (scope_word x) word).0 (find_passes (λ y. bytes_eq (scope_word y) word) SCOPES x e)
@@ -56,8 +52,7 @@ level-only x word e = (bytes_eq-Decides (level_word x) word).0 (find_passes (λ 
 
 pub form-back : (x : RequestForm) → form_of (form_word x) ≡ Some x
 form-back form.Read = refl
-form-back form.Write = refl
-form-back form.Control = refl
+form-back _ = refl
 
 pub form-only : (x : RequestForm) (word : List ℕ) → form_of word ≡ Some x → form_word x ≡ word
 form-only x word e = (bytes_eq-Decides (form_word x) word).0 (find_passes (λ y. bytes_eq (form_word y) word) REQUEST_FORMS x e)
@@ -71,28 +66,14 @@ access-only x word e = (bytes_eq-Decides (access_word x) word).0 (find_passes (�
 
 pub operator-back : (x : Operator) → operator_of (operator_word x) ≡ Some x
 operator-back operator.Add = refl
-operator-back operator.Subtract = refl
-operator-back operator.Multiply = refl
-operator-back operator.Divide = refl
-operator-back operator.Remainder = refl
-operator-back operator.BitAnd = refl
-operator-back operator.BitOr = refl
-operator-back operator.BitXor = refl
-operator-back operator.Equals = refl
-operator-back operator.Differs = refl
-operator-back operator.Below = refl
-operator-back operator.AtMost = refl
+operator-back _ = refl
 
 pub operator-only : (x : Operator) (word : List ℕ) → operator_of word ≡ Some x → operator_word x ≡ word
 operator-only x word e = (bytes_eq-Decides (operator_word x) word).0 (find_passes (λ y. bytes_eq (operator_word y) word) OPERATORS x e)
 
 pub context-back : (x : ContextWord) → context_of (context_word x) ≡ Some x
 context-back context.OwnObject = refl
-context-back context.NearestDevice = refl
-context-back context.OwnRequest = refl
-context-back context.RequestLength = refl
-context-back context.RequestCode = refl
-context-back context.CompletionStatus = refl
+context-back _ = refl
 
 pub context-only : (x : ContextWord) (word : List ℕ) → context_of word ≡ Some x → context_word x ≡ word
 context-only x word e = (bytes_eq-Decides (context_word x) word).0 (find_passes (λ y. bytes_eq (context_word y) word) CONTEXT_WORDS x e)

@@ -1,7 +1,6 @@
 pub mod Blocks
 pub mod Change
 pub mod Naming
-pub mod PlanParts
 pub mod Scene
 pub mod Words
 pub mod Written

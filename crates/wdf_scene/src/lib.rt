@@ -1,4 +1,4 @@
-//! A scenario as the lines of its text, and the builders of scenes and of plans.
+//! A scenario as the lines of its text, and the builder of scenes.
 //!
 //! # Choices
 //!
@@ -18,7 +18,6 @@
 
 mod block;
 mod line;
-mod plan_builder;
 mod scene;
 mod scene_builder;
 mod words;
@@ -27,7 +26,6 @@ pub use block::Block;
 pub use line::{
     InterruptLevel, NumberedLine, SceneAction, SceneArg, SceneExpr, SceneLine, StatementHead,
 };
-pub use plan_builder::PlanBuilder;
 pub use scene::Scene;
 pub use scene_builder::SceneBuilder;
 pub use words::{

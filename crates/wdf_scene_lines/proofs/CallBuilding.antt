@@ -16,8 +16,7 @@ use Rattle.wdf_scene_lines.proofs.TreeBuilding.{with_nodes_twice}
 
 length_argument : (a : Argument) → length (argument_nodes a) ≡ argument_size a
 length_argument Missing = refl
-length_argument (Valued v) = refl
-length_argument (OfClass n) = refl
+length_argument _ = refl
 
 next_argument : (a : Argument) (old new : Scene) → new ≡ with_nodes old (argument_nodes a) → next_node new ≡ next_node old + argument_size a
 next_argument a old new is = ap next_node is ∙ length-append old.exprs (argument_nodes a) ∙ ap (λ n. next_node old + n) (length_argument a)

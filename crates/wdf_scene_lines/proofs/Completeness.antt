@@ -27,6 +27,7 @@ use Rattle.wdf_base.specs.declared.value.Status.{Status}
 use Rattle.wdf_base.specs.Calls.{signature_of}
 use Rattle.wdf_base.specs.Words.{callback_word, call_word, status_word, ask_word, status_of}
 use Rattle.wdf_base.proofs.WordLaws.{status-back, callback-back, call-back, ask-back}
+use Rattle.wdf_base.proofs.Tests.{both_left, both_right}
 use Rattle.wdf_scene.proofs.WordLaws.{access-back, plain_kind-back, deferred_kind-back, scope-back, level-back, form-back, context-back}
 use Rattle.wdf_scene.specs.Words.{access_word, plain_kind_word, deferred_kind_word, scope_word, level_word, form_word, context_word, context_of}
 use Rattle.wdf_scene.specs.declared.line.InterruptLevel.TheVariants as level
@@ -44,7 +45,6 @@ use Rattle.wdf_tokens.specs.declared.token.Token.TheVariants as token
 use Rattle.wdf_tokens.specs.Keywords.{keyword_word, keyword_of}
 use Rattle.wdf_tokens.specs.Named.{callback_named, call_named, status_named, context_named, ask_named, access_named, plain_kind_named, deferred_kind_named, scope_named, level_named, form_named}
 use Rattle.wdf_tokens.specs.WordTokens.{word, callback_token}
-use Rattle.wdf_tokens.proofs.BothParts.{first_part, second_part}
 use Rattle.wdf_tokens.proofs.KeywordLaws.{keyword_back}
 use Rattle.wdf_scene_lines.specs.Forms as forms
 use Rattle.wdf_scene_lines.specs.Reading.{word_atom, atom_of, first_token, atom_in, operator_in, name_in, is_open, is_close, TreeReading, NoTree, TreeBefore, leaf_read, closed_read, right_read, operator_read, left_read, read_tree, whole_tree, single_of, single_after, read_front, ArgumentReading, NoArgument, ArgumentBefore, valued_read, read_argument, third_read, second_read, first_read, call_front_of, call_front, call_after, is_number, number_in, picks_written, read_by, read_known, read_written}
@@ -98,26 +98,17 @@ context_back x = context-back x
 deferred_is_not_plain : (x : DeferredKind) → plain_kind_named (deferred_kind_word x) ≡ None
 unfolding plain_kind_named
 deferred_is_not_plain deferred_kind.Dpc = refl
-deferred_is_not_plain deferred_kind.Timer = refl
-deferred_is_not_plain deferred_kind.WorkItem = refl
+deferred_is_not_plain _ = refl
 
 context_is_no_status : (x : ContextWord) → status_named (context_word x) ≡ None
 unfolding status_named
 context_is_no_status context.OwnObject = refl
-context_is_no_status context.NearestDevice = refl
-context_is_no_status context.OwnRequest = refl
-context_is_no_status context.RequestLength = refl
-context_is_no_status context.RequestCode = refl
-context_is_no_status context.CompletionStatus = refl
+context_is_no_status _ = refl
 
 ask_is_no_keyword : (x : Ask) → keyword_of (ask_word x) ≡ None
 unfolding keyword_of
 ask_is_no_keyword ask.Start = refl
-ask_is_no_keyword ask.Sleep = refl
-ask_is_no_keyword ask.Wake = refl
-ask_is_no_keyword ask.Rebalance = refl
-ask_is_no_keyword ask.Remove = refl
-ask_is_no_keyword ask.Surprise = refl
+ask_is_no_keyword _ = refl
 
 scope_read : (x : Scope) (s : Option Scope) → s ≡ Some x → forms.scope_by (keyword_of (scope_word x)) s ≡ Some (line.Scope (Some x))
 unfolding keyword_of
@@ -243,8 +234,8 @@ none_is (Some x) h = absurd (let z : ⊥ = cc in z)
 named_read : (n : List ℕ) → is_proper_atom (Named n) ≡ true → word_atom n (status_named n) (context_named n) ≡ Named n
 unfolding status_named context_named
 named_read n h =
-    ap (λ s. word_atom n s (context_of n)) (none_is (status_of n) (first_part (is_none (status_of n)) (is_none (context_of n)) h))
-    ∙ ap (word_atom n None) (none_is (context_of n) (second_part (is_none (status_of n)) (is_none (context_of n)) h))
+    ap (λ s. word_atom n s (context_of n)) (none_is (status_of n) (both_left (is_none (status_of n)) (is_none (context_of n)) h))
+    ∙ ap (word_atom n None) (none_is (context_of n) (both_right (is_none (status_of n)) (is_none (context_of n)) h))
 
 atom_read : (a : Atom) → is_proper_atom a ≡ true → atom_of (atom_token a) ≡ Some a
 atom_read (Number n) h = refl
@@ -256,9 +247,7 @@ atom_read (Context w) h =
 
 atom_is_not_open : (a : Atom) → is_open (Some (atom_token a)) ≡ false
 atom_is_not_open (Number n) = refl
-atom_is_not_open (Named n) = refl
-atom_is_not_open (Literal s) = refl
-atom_is_not_open (Context w) = refl
+atom_is_not_open _ = refl
 
 -- an expression is read from its tokens
 tree_read : (d : ℕ) (t : Tree) (rest : List Token) → depth t ≤ d → is_proper t ≡ true → read_tree d (tree_then t rest) ≡ TreeBefore t rest
@@ -269,14 +258,14 @@ tree_read (suc d) (Leaf a) rest shallow proper =
     ∙ ap (λ o. leaf_read o rest) (atom_read a proper)
 tree_read zero (Node op l r) rest shallow proper = absurd (omega arith)
 tree_read (suc d) (Node op l r) rest shallow proper =
-    let left = tree_read d l (token.Infix op ∷ tree_then r (token.Close ∷ rest)) (omega arith) (first_part (is_proper l) (is_proper r) proper) in
-    let right = tree_read d r (token.Close ∷ rest) (omega arith) (second_part (is_proper l) (is_proper r) proper) in
+    let left = tree_read d l (token.Infix op ∷ tree_then r (token.Close ∷ rest)) (omega arith) (both_left (is_proper l) (is_proper r) proper) in
+    let right = tree_read d r (token.Close ∷ rest) (omega arith) (both_right (is_proper l) (is_proper r) proper) in
     ap (left_read (read_tree d)) left ∙ ap (right_read l op) right
 
 single_read : (h : StatementHead) (t : Tree) → is_written (Single h t) ≡ true → single_of h (whole_tree (read_tree 16 (tree_then t []))) ≡ Some (Single h t)
 single_read h t fits =
     ap (λ r. single_of h (whole_tree r))
-    (tree_read 16 t [] (leb-true (depth t) 16 (second_part (is_proper t) (nat_le (depth t) 16) fits)) (first_part (is_proper t) (nat_le (depth t) 16) fits))
+    (tree_read 16 t [] (leb-true (depth t) 16 (both_right (is_proper t) (nat_le (depth t) 16) fits)) (both_left (is_proper t) (nat_le (depth t) 16) fits))
 
 head_read : (h : StatementHead) (t : Tree) → is_written (Single h t) ≡ true → read_written (head_then h (tree_then t [])) ≡ Some (Single h t)
 head_read (head.Let x) t fits = by_first keyword.Let (token.Word x ∷ token.Assign ∷ tree_then t []) ∙ single_read (head.Let x) t fits
@@ -309,9 +298,7 @@ is_assign _ = false
 
 atom_not_assign : (a : Atom) → is_assign (Some (atom_token a)) ≡ false
 atom_not_assign (Number n) = refl
-atom_not_assign (Named n) = refl
-atom_not_assign (Literal s) = refl
-atom_not_assign (Context w) = refl
+atom_not_assign _ = refl
 
 argument_not_assign : (a : Argument) (rest : List Token) → is_assign (first_token rest) ≡ false → is_assign (first_token (argument_then a rest)) ≡ false
 argument_not_assign Missing rest h = h
@@ -325,10 +312,10 @@ bare_front f (t ∷ rest) h = refl
 
 arguments_read : (kind : CallKind) (into : Option (List ℕ)) (a b c : Argument) → is_written (Calling kind into a b c) ≡ true → first_read kind into (read_argument (signature_of kind).a (argument_then a (argument_then b (argument_then c [])))) ≡ Some (Calling kind into a b c)
 arguments_read kind into a b c h =
-    let ha = first_part (is_argument (signature_of kind).a a) (is_argument (signature_of kind).b b && is_argument (signature_of kind).c c) h in
-    let hbc = second_part (is_argument (signature_of kind).a a) (is_argument (signature_of kind).b b && is_argument (signature_of kind).c c) h in
-    let hb = first_part (is_argument (signature_of kind).b b) (is_argument (signature_of kind).c c) hbc in
-    let hc = second_part (is_argument (signature_of kind).b b) (is_argument (signature_of kind).c c) hbc in
+    let ha = both_left (is_argument (signature_of kind).a a) (is_argument (signature_of kind).b b && is_argument (signature_of kind).c c) h in
+    let hbc = both_right (is_argument (signature_of kind).a a) (is_argument (signature_of kind).b b && is_argument (signature_of kind).c c) h in
+    let hb = both_left (is_argument (signature_of kind).b b) (is_argument (signature_of kind).c c) hbc in
+    let hc = both_right (is_argument (signature_of kind).b b) (is_argument (signature_of kind).c c) hbc in
     ap (first_read kind into) (argument_read (signature_of kind).a a (argument_then b (argument_then c [])) ha)
     ∙ ap (second_read kind into a) (argument_read (signature_of kind).b b (argument_then c []) hb)
     ∙ ap (third_read kind into a b) (argument_read (signature_of kind).c c [] hc)

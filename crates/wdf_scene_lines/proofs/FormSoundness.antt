@@ -15,6 +15,7 @@ use Rattle.wdf_base.specs.declared.event.Ask.{Ask}
 use Rattle.wdf_base.specs.declared.object.RequestForm.{RequestForm}
 use Rattle.wdf_base.specs.Words.{callback_word}
 use Rattle.wdf_base.proofs.WordLaws.{status-only, callback-only, ask-only}
+use Rattle.wdf_base.proofs.Tests.{both_left, both_right}
 use Rattle.wdf_scene.proofs.WordLaws.{access-only, plain_kind-only, deferred_kind-only, scope-only, level-only, form-only}
 use Rattle.wdf_scene.specs.declared.line.InterruptLevel.TheVariants as level
 use Rattle.wdf_scene.specs.declared.line.SceneAction.{SceneAction}
@@ -33,7 +34,6 @@ use Rattle.wdf_tokens.specs.Named.{callback_named, status_named, ask_named, acce
 use Rattle.wdf_tokens.specs.WordTokens.{word, callback_token}
 use Rattle.wdf_tokens.specs.WellFormed.{is_word, is_token}
 use Rattle.wdf_tokens.proofs.KeywordLaws.{keyword_only}
-use Rattle.wdf_tokens.proofs.BothParts.{first_part, second_part}
 use Rattle.wdf_scene_lines.specs.Forms.{bare, one_number, one_name, class_of, child_class_of, class_line, working_device, device_line, passive_interrupt, interrupt_line, plain_queue, parallel_queue, queue_line, target_line, callback_line, scope_by, scope_line, level_by, level_line, register_line, set_action, wire_action, when_of, when_line, valued_at, named_at, control_at, cancel_at, at_line, for_line, power_by, power_line, get_line, plain_line}
 use Rattle.wdf_scene_lines.specs.Spelling.{plain_tokens, action_then}
 
@@ -268,11 +268,11 @@ callback_token_long c long =
 
 callback_spelled : (ts : List Token) (c : Callback) → list_all is_token ts ≡ true → callback_line ts ≡ Some c → word keyword.On ∷ callback_token c ∷ [] ≡ word keyword.On ∷ ts
 callback_spelled (token.Word n ∷ []) c fit e =
-    let short = second_part (is_word n) (nat_le (length n) 32) (first_part (is_token (token.Word n)) true fit) in
+    let short = both_right (is_word n) (nat_le (length n) 32) (both_left (is_token (token.Word n)) true fit) in
     ap (λ t. word keyword.On ∷ t ∷ []) (callback_token_word c n (callback_only c n e) short)
 callback_spelled (token.LongName d ∷ []) c fit e =
     let same : d ≡ c = cc in
-    let long = second_part (is_word (callback_word d)) (nat_lt 32 (length (callback_word d))) (first_part (is_token (token.LongName d)) true fit) in
+    let long = both_right (is_word (callback_word d)) (nat_lt 32 (length (callback_word d))) (both_left (is_token (token.LongName d)) true fit) in
     ap (λ x. word keyword.On ∷ callback_token x ∷ []) (sym same) ∙ ap (λ t. word keyword.On ∷ t ∷ []) (callback_token_long d long)
 callback_spelled _ c fit e = absurd (let z : ⊥ = cc in z)
 

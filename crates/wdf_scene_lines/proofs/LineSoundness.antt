@@ -12,6 +12,7 @@ use Rattle.wdf_base.specs.declared.value.Status.{Status}
 use Rattle.wdf_base.specs.Calls.{signature_of}
 use Rattle.wdf_base.specs.Words.{status_word, status_of, call_word}
 use Rattle.wdf_base.proofs.WordLaws.{status-only, call-only}
+use Rattle.wdf_base.proofs.Tests.{both, both_left, both_right}
 use Rattle.wdf_scene.proofs.WordLaws.{context-only}
 use Rattle.wdf_scene.specs.Words.{context_word, context_of}
 use Rattle.wdf_scene.specs.declared.line.SceneLine.{SceneLine}
@@ -26,7 +27,6 @@ use Rattle.wdf_tokens.specs.Keywords.{keyword_word, keyword_of}
 use Rattle.wdf_tokens.specs.Named.{call_named, status_named, context_named}
 use Rattle.wdf_tokens.specs.WordTokens.{word}
 use Rattle.wdf_tokens.specs.WellFormed.{is_token}
-use Rattle.wdf_tokens.proofs.BothParts.{first_part, second_part}
 use Rattle.wdf_tokens.proofs.KeywordLaws.{keyword_only}
 use Rattle.wdf_scene_lines.specs.declared.statements.Front.{Front}
 use Rattle.wdf_scene_lines.specs.declared.statements.CallFront.{CallFront}
@@ -92,15 +92,12 @@ leaf_spelled d (x ∷ xs) (Some a) t rest is e =
 abbrev AllSpelled : ℕ → Type 0
 AllSpelled d = (ts : List Token) (t : Tree) (rest : List Token) → read_tree d ts ≡ TreeBefore t rest → SpellsTree d ts t rest
 
-both_true : (a b : Bool) → a ≡ true → b ≡ true → (a && b) ≡ true
-both_true a b p q = rw p q
-
 closed_spelled : (d : ℕ) (op : Operator) (l r t : Tree) (ls rs qs rest : List Token) → SpellsTree d ls l (token.Infix op ∷ rs) → SpellsTree d rs r qs → closed_read (Node op l r) (is_close (first_token qs)) (drop 1 qs) ≡ TreeBefore t rest → SpellsTree (suc d) (token.Open ∷ ls) t rest
 closed_spelled d op l r t ls rs (token.Close ∷ qs) rest sl sr e =
     tree_moved (suc d) (token.Open ∷ ls) (Node op l r) t qs rest e (record {
       tokens = ap (λ xs. token.Open ∷ tree_then l (token.Infix op ∷ xs)) sr.tokens ∙ ap (λ xs. token.Open ∷ xs) sl.tokens;
       shallow = omega (arith, sl.shallow, sr.shallow);
-      proper = both_true (is_proper l) (is_proper r) sl.proper sr.proper;
+      proper = both (is_proper l) (is_proper r) sl.proper sr.proper;
     })
 closed_spelled d op l r t ls rs _ rest sl sr e = absurd (let z : ⊥ = cc in z)
 
@@ -136,7 +133,7 @@ single_spelled h front ts (TreeBefore t []) w is_front is e =
     let s : SpellsTree 16 ts t [] = tree_spelled 16 ts t [] is in
     line_moved front (Single h t) w e (record {
       tokens = ap (head_then h) s.tokens ∙ is_front;
-      written = both_true (is_proper t) (nat_le (depth t) 16) s.proper (le-leb (depth t) 16 s.shallow);
+      written = both (is_proper t) (nat_le (depth t) 16) s.proper (le-leb (depth t) 16 s.shallow);
     })
 single_spelled h front ts _ w is_front is e = absurd (let z : ⊥ = cc in z)
 
@@ -190,8 +187,8 @@ third_spelled kind into front ts us vs a b (ArgumentBefore c []) w is_front sa s
     line_moved front (Calling kind into a b c) w e (record {
       tokens = ap (λ xs. word keyword.Call ∷ into_then into (token.Word (call_word kind) ∷ xs))
           (ap (argument_then a) (ap (argument_then b) sc.tokens ∙ sb.tokens) ∙ sa.tokens) ∙ is_front;
-      written = both_true (is_argument (signature_of kind).a a) (is_argument (signature_of kind).b b && is_argument (signature_of kind).c c) sa.fits
-          (both_true (is_argument (signature_of kind).b b) (is_argument (signature_of kind).c c) sb.fits sc.fits);
+      written = both (is_argument (signature_of kind).a a) (is_argument (signature_of kind).b b && is_argument (signature_of kind).c c) sa.fits
+          (both (is_argument (signature_of kind).b b) (is_argument (signature_of kind).c c) sb.fits sc.fits);
     })
 third_spelled kind into front ts us vs a b _ w is_front sa sb is e = absurd (let z : ⊥ = cc in z)
 
@@ -264,5 +261,5 @@ known_spelled n (Some k) ts w fit is e = subst (λ x. SpellsLine (token.Word x �
 pub read_spelled : (ts : List Token) (w : Written) → list_all is_token ts ≡ true → read_written ts ≡ Some w → SpellsLine ts w
 unfolding read_written
 read_spelled [] w fit e = absurd (let z : ⊥ = cc in z)
-read_spelled (token.Word n ∷ ts) w fit e = known_spelled n (keyword_of n) ts w (second_part (is_token (token.Word n)) (list_all is_token ts) fit) refl e
+read_spelled (token.Word n ∷ ts) w fit e = known_spelled n (keyword_of n) ts w (both_right (is_token (token.Word n)) (list_all is_token ts) fit) refl e
 read_spelled (t ∷ ts) w fit e = absurd (let z : ⊥ = cc in z)

@@ -82,12 +82,8 @@ value-right-late plan f e left right op here late = value-node plan f e (node.Bi
 
 -- an atom has a value
 atom-value : (f : Frame) (of : ℕ → Option Value) (e : ℕ) (n : ExprNode) → IsTrue (is_atom n) → IsSome (node_value f of e (Some n))
-atom-value f of e (node.Number n) atom = refl
-atom-value f of e (node.Variable v) atom = refl
-atom-value f of e (node.Object h) atom = refl
-atom-value f of e (node.Literal s) atom = refl
-atom-value f of e (node.Context word) atom = refl
 atom-value f of e (node.Binary op left right) atom = absurd (let z : ⊥ = cc in z)
+atom-value f of e _ atom = refl
 
 pub atom_has_value : (plan : Plan) (f : Frame) (e : ℕ) (n : ExprNode) → slice_get plan.exprs e ≡ Some n → IsTrue (is_atom n)
     → IsSome (value_of plan f e)

@@ -73,30 +73,19 @@ headline_of n ends v a by s k answer told is same = subst (λ m. WroteSomeRun a 
 zero_finished : (e : Ending) → 0 ≡ status_of e → (e ≡ ending.Running → ⊥) → e ≡ ending.Finished
 zero_finished ending.Running is over = absurd (over refl)
 zero_finished ending.Finished is over = refl
-zero_finished (ending.Fault f) is over = absurd (omega (arith, is))
-zero_finished ending.Stuck is over = absurd (omega (arith, is))
-zero_finished ending.Limit is over = absurd (omega (arith, is))
+zero_finished _ is over = absurd (omega (arith, is))
 
 three_fault : (e : Ending) → 3 ≡ status_of e → (f : Fault) × (e ≡ ending.Fault f)
-three_fault ending.Running is = absurd (omega (arith, is))
-three_fault ending.Finished is = absurd (omega (arith, is))
 three_fault (ending.Fault f) is = (f, refl)
-three_fault ending.Stuck is = absurd (omega (arith, is))
-three_fault ending.Limit is = absurd (omega (arith, is))
+three_fault _ is = absurd (omega (arith, is))
 
 four_stuck : (e : Ending) → 4 ≡ status_of e → e ≡ ending.Stuck
-four_stuck ending.Running is = absurd (omega (arith, is))
-four_stuck ending.Finished is = absurd (omega (arith, is))
-four_stuck (ending.Fault f) is = absurd (omega (arith, is))
 four_stuck ending.Stuck is = refl
-four_stuck ending.Limit is = absurd (omega (arith, is))
+four_stuck _ is = absurd (omega (arith, is))
 
 five_limit : (e : Ending) → 5 ≡ status_of e → e ≡ ending.Limit
-five_limit ending.Running is = absurd (omega (arith, is))
-five_limit ending.Finished is = absurd (omega (arith, is))
-five_limit (ending.Fault f) is = absurd (omega (arith, is))
-five_limit ending.Stuck is = absurd (omega (arith, is))
 five_limit ending.Limit is = refl
+five_limit _ is = absurd (omega (arith, is))
 
 module _ (v : Service) (s : Sourcing) (k : Sinking) (answer : ℕ) (told : Tells v s k answer) (a : RunAgents) (by : Picking) (is : v ≡ Reads (Run a by)) where
   pub finished : answer ≡ 0 → WroteRunTo a by s k 0 ending.Finished

@@ -9,6 +9,7 @@ use Rattle.wdf_base.specs.declared.call.Callback.{Callback}
 use Rattle.wdf_base.specs.declared.script.Operator.{Operator}
 use Rattle.wdf_base.specs.Words.{callback_word, callback_of}
 use Rattle.wdf_base.proofs.WordLaws.{callback-only}
+use Rattle.wdf_base.proofs.Tests.{both, both_left, both_right}
 use Rattle.wdf_text.specs.Decimals.{number_after}
 use Rattle.wdf_tokens.specs.declared.lexer.Content.{Content}
 use Rattle.wdf_tokens.specs.declared.lexer.Content.TheVariants.{Whole, Blank, Foreign, TooLarge}
@@ -19,21 +20,15 @@ use Rattle.wdf_tokens.specs.declared.token.Token.{Token}
 use Rattle.wdf_tokens.specs.declared.token.Token.TheVariants as token
 use Rattle.wdf_tokens.specs.Tokens.{is_blank, is_plain, is_name_byte, piece, piece_of, digits_piece, letters_piece, number_content, name_content, long_name, long_content, operator_of, mark_token, pair_token, marks_piece, token_at, with_token, tokens_from, line_reading}
 use Rattle.wdf_tokens.specs.WellFormed.{is_word, is_token}
-use Rattle.wdf_tokens.proofs.BothParts.{first_part, second_part}
 
 -- a token of a piece has a spelling
 abbrev IsFit : Content → Type 0
 IsFit (Whole t) = is_token t ≡ true
-IsFit Blank = Unit {0}
-IsFit Foreign = Unit {0}
-IsFit TooLarge = Unit {0}
+IsFit _ = Unit {0}
 
 by_test : (b : Bool) (p q : Piece) → (b ≡ true → IsFit p.content) → (b ≡ false → IsFit q.content) → IsFit (cond b p q).content
 by_test true p q h e = h refl
 by_test false p q h e = e refl
-
-both : (a b : Bool) → a ≡ true → b ≡ true → (a && b) ≡ true
-both a b p q = rw p q
 
 -- numbers
 small_fit : (n : ℕ) (b : Bool) → nat_lt n (2 ^ 64) ≡ b → IsFit (number_content (cond b (Some n) None))

@@ -1,4 +1,3 @@
-pub mod BothParts
 pub mod KeywordLaws
 pub mod LexedTokens
 pub mod LineReading

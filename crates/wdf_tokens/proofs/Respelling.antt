@@ -12,6 +12,7 @@ use Rattle.wdf_base.specs.declared.script.Operator.{Operator}
 use Rattle.wdf_base.specs.declared.script.Operator.TheVariants as operator
 use Rattle.wdf_base.specs.Words.{callback_word}
 use Rattle.wdf_base.proofs.WordLaws.{callback-back}
+use Rattle.wdf_base.proofs.Tests.{both, both_left, both_right, not_true, second}
 use Rattle.wdf_scene.specs.Words.{operator_word}
 use Rattle.wdf_text.specs.Decimals.{small_number}
 use Rattle.wdf_text.proofs.ReadBack.{decimal_digits, small_number-decimal}
@@ -25,33 +26,25 @@ use Rattle.wdf_tokens.specs.declared.token.Token.TheVariants as token
 use Rattle.wdf_tokens.specs.TokenTexts.{token_text, rest_text, line_text, rest_bytes, line_bytes}
 use Rattle.wdf_tokens.specs.Tokens.{is_blank, is_plain, is_name_byte, is_inside, piece, piece_of, digits_piece, letters_piece, number_content, name_content, long_name, long_content, marks_piece, token_at, with_token, tokens_from, line_reading, lines_of, with_byte}
 use Rattle.wdf_tokens.specs.WellFormed.{is_word, is_token}
-use Rattle.wdf_tokens.proofs.BothParts.{first_part, second_part}
 use Rattle.wdf_tokens.proofs.LineReading.{tokens_from_head}
-
-and_true : (a b : Bool) → a ≡ true → b ≡ true → (a && b) ≡ true
-and_true a b p q = rw p q
-
-or_true : (a b : Bool) → b ≡ true → (a || b) ≡ true
-or_true true b h = refl
-or_true false b h = h
 
 list_all_append : (p : ℕ → Bool) (xs ys : List ℕ) → list_all p xs ≡ true → list_all p ys ≡ true → list_all p (xs ++ ys) ≡ true
 list_all_append p [] ys h e = e
-list_all_append p (x ∷ xs) ys h e = and_true (p x) (list_all p (xs ++ ys)) (first_part (p x) (list_all p xs) h) (list_all_append p xs ys (second_part (p x) (list_all p xs) h) e)
+list_all_append p (x ∷ xs) ys h e = both (p x) (list_all p (xs ++ ys)) (both_left (p x) (list_all p xs) h) (list_all_append p xs ys (both_right (p x) (list_all p xs) h) e)
 
 all_implies : (p q : ℕ → Bool) (xs : List ℕ) → ((b : ℕ) → p b ≡ true → q b ≡ true) → list_all p xs ≡ true → list_all q xs ≡ true
 all_implies p q [] h e = refl
-all_implies p q (x ∷ xs) h e = and_true (q x) (list_all q xs) (h x (first_part (p x) (list_all p xs) e)) (all_implies p q xs h (second_part (p x) (list_all p xs) e))
+all_implies p q (x ∷ xs) h e = both (q x) (list_all q xs) (h x (both_left (p x) (list_all p xs) e)) (all_implies p q xs h (both_right (p x) (list_all p xs) e))
 
 -- ranges of bytes
 in_range : (low high b : ℕ) → low ≤ b → b ≤ high → (nat_le low b && nat_le b high) ≡ true
-in_range low high b l h = and_true (nat_le low b) (nat_le b high) (le-leb low b l) (le-leb b high h)
+in_range low high b l h = both (nat_le low b) (nat_le b high) (le-leb low b l) (le-leb b high h)
 
 range_low : (low high b : ℕ) → (nat_le low b && nat_le b high) ≡ true → low ≤ b
-range_low low high b h = leb-true low b (first_part (nat_le low b) (nat_le b high) h)
+range_low low high b h = leb-true low b (both_left (nat_le low b) (nat_le b high) h)
 
 range_high : (low high b : ℕ) → (nat_le low b && nat_le b high) ≡ true → b ≤ high
-range_high low high b h = leb-true b high (second_part (nat_le low b) (nat_le b high) h)
+range_high low high b h = leb-true b high (both_right (nat_le low b) (nat_le b high) h)
 
 record Between (low b high : ℕ) : Type 0 where
   least : low ≤ b
@@ -86,7 +79,7 @@ name_printed : (b : ℕ) → is_name_byte b ≡ true → is_printed b ≡ true
 name_printed b h = let r = name_between b h in in_range 32 126 b (omega (arith, r.least)) (omega (arith, r.most))
 
 printed_plain : (b : ℕ) → is_printed b ≡ true → is_plain b ≡ true
-printed_plain b h = or_true (b == 9 || b == 10 || b == 13) (is_printed b) h
+printed_plain b h = second (b == 9 || b == 10 || b == 13) (is_printed b) h
 
 printed_inside : (b : ℕ) → is_printed b ≡ true → is_inside b ≡ true
 printed_inside b h =
@@ -108,8 +101,8 @@ front_taken : (p : ℕ → Bool) (xs rest : List ℕ) → p 32 ≡ false → lis
 front_taken p [] rest fails all stops = stopped p rest fails stops
 front_taken p (x ∷ xs) rest fails all stops =
     take_while-cons p x (xs ++ rest)
-    ∙ ap (λ b. cond b (x ∷ take_while p (xs ++ rest)) []) (first_part (p x) (list_all p xs) all)
-    ∙ ap (λ (ys : List ℕ). x ∷ ys) (front_taken p xs rest fails (second_part (p x) (list_all p xs) all) stops)
+    ∙ ap (λ b. cond b (x ∷ take_while p (xs ++ rest)) []) (both_left (p x) (list_all p xs) all)
+    ∙ ap (λ (ys : List ℕ). x ∷ ys) (front_taken p xs rest fails (both_right (p x) (list_all p xs) all) stops)
 
 not_equal : (b k : ℕ) → (b ≡ k → ⊥) → (b == k) ≡ false
 not_equal b k h = ne_eqb b k h
@@ -144,7 +137,7 @@ digits_front b bytes h =
 number_piece : (n : ℕ) (ds rest : List ℕ) → list_all is_ascii_digit ds ≡ true → small_number ds ≡ Some n → 0 < length ds → Stops rest → piece_of (ds ++ rest) ≡ piece (length ds) (Whole (token.Number n))
 number_piece n [] rest digits is some stops = absurd (omega arith)
 number_piece n (b ∷ ds) rest digits is some stops =
-    digits_front b (ds ++ rest) (first_part (is_ascii_digit b) (list_all is_ascii_digit ds) digits)
+    digits_front b (ds ++ rest) (both_left (is_ascii_digit b) (list_all is_ascii_digit ds) digits)
     ∙ ap digits_piece (front_taken is_ascii_digit (b ∷ ds) rest refl digits stops)
     ∙ ap (λ o. piece (length (b ∷ ds)) (number_content o)) is
 
@@ -160,8 +153,8 @@ letters_front b bytes h =
 word_piece : (w rest : List ℕ) → is_word w ≡ true → Stops rest → piece_of (w ++ rest) ≡ letters_piece w
 word_piece [] rest is stops = absurd (let z : ⊥ = cc in z)
 word_piece (b ∷ bytes) rest is stops =
-    letters_front b (bytes ++ rest) (first_part (is_ascii_alphabetic b) (list_all is_name_byte (b ∷ bytes)) is)
-    ∙ ap letters_piece (front_taken is_name_byte (b ∷ bytes) rest refl (second_part (is_ascii_alphabetic b) (list_all is_name_byte (b ∷ bytes)) is) stops)
+    letters_front b (bytes ++ rest) (both_left (is_ascii_alphabetic b) (list_all is_name_byte (b ∷ bytes)) is)
+    ∙ ap letters_piece (front_taken is_name_byte (b ∷ bytes) rest refl (both_right (is_ascii_alphabetic b) (list_all is_name_byte (b ∷ bytes)) is) stops)
 
 short_content : (w : List ℕ) → nat_le (length w) 32 ≡ true → name_content w ≡ Whole (token.Word w)
 short_content w short = ap (λ b. if b then Whole (token.Word w) else long_name w) short
@@ -215,11 +208,11 @@ assign_piece rest (AtBlank more) = refl
 pub token_piece : (t : Token) (rest : List ℕ) → is_token t ≡ true → Stops rest → piece_of (token_text t ++ rest) ≡ piece (length (token_text t)) (Whole t)
 token_piece (token.Number n) rest fit stops = let small : n < 2 ^ 64 = ltb-true n (2 ^ 64) fit in number_piece n (decimal n) rest (decimal_digits n small) (small_number-decimal n small) (decimal_nonempty n small) stops
 token_piece (token.Word w) rest fit stops =
-    word_piece w rest (first_part (is_word w) (nat_le (length w) 32) fit) stops
-    ∙ ap (piece (length w)) (short_content w (second_part (is_word w) (nat_le (length w) 32) fit))
+    word_piece w rest (both_left (is_word w) (nat_le (length w) 32) fit) stops
+    ∙ ap (piece (length w)) (short_content w (both_right (is_word w) (nat_le (length w) 32) fit))
 token_piece (token.LongName c) rest fit stops =
-    word_piece (callback_word c) rest (first_part (is_word (callback_word c)) (nat_lt 32 (length (callback_word c))) fit) stops
-    ∙ ap (piece (length (callback_word c))) (callback_content c (second_part (is_word (callback_word c)) (nat_lt 32 (length (callback_word c))) fit))
+    word_piece (callback_word c) rest (both_left (is_word (callback_word c)) (nat_lt 32 (length (callback_word c))) fit) stops
+    ∙ ap (piece (length (callback_word c))) (callback_content c (both_right (is_word (callback_word c)) (nat_lt 32 (length (callback_word c))) fit))
 token_piece token.Open rest fit stops = open_piece rest stops
 token_piece token.Close rest fit stops = close_piece rest stops
 token_piece token.Assign rest fit stops = assign_piece rest stops
@@ -237,12 +230,10 @@ operator_some _ = omega arith
 
 token_some : (t : Token) → is_token t ≡ true → 0 < length (token_text t)
 token_some (token.Number n) fit = let small : n < 2 ^ 64 = ltb-true n (2 ^ 64) fit in decimal_nonempty n small
-token_some (token.Word w) fit = word_some w (first_part (is_word w) (nat_le (length w) 32) fit)
-token_some (token.LongName c) fit = word_some (callback_word c) (first_part (is_word (callback_word c)) (nat_lt 32 (length (callback_word c))) fit)
-token_some token.Open fit = omega arith
-token_some token.Close fit = omega arith
-token_some token.Assign fit = omega arith
+token_some (token.Word w) fit = word_some w (both_left (is_word w) (nat_le (length w) 32) fit)
+token_some (token.LongName c) fit = word_some (callback_word c) (both_left (is_word (callback_word c)) (nat_lt 32 (length (callback_word c))) fit)
 token_some (token.Infix op) fit = operator_some op
+token_some _ fit = omega arith
 
 piece_read : (column : ℕ) (xs rest : List ℕ) (t : Token) → 0 < length xs → piece_of (xs ++ rest) ≡ piece (length xs) (Whole t) → tokens_from column 0 (xs ++ rest) ≡ with_token (Ok (Some t)) (tokens_from (column + length xs) 0 rest)
 piece_read column [] rest t some is = absurd (omega arith)
@@ -268,52 +259,40 @@ rest_read : (column : ℕ) (ts : List Token) → list_all is_token ts ≡ true �
 rest_read column [] fit = refl
 rest_read column (t ∷ ts) fit =
     blank_read column (token_text t ++ rest_bytes ts)
-    ∙ token_read (suc column) t (rest_bytes ts) (first_part (is_token t) (list_all is_token ts) fit) (rest_stops ts)
-    ∙ ap (with_token (Ok (Some t))) (rest_read (suc column + length (token_text t)) ts (second_part (is_token t) (list_all is_token ts) fit))
+    ∙ token_read (suc column) t (rest_bytes ts) (both_left (is_token t) (list_all is_token ts) fit) (rest_stops ts)
+    ∙ ap (with_token (Ok (Some t))) (rest_read (suc column + length (token_text t)) ts (both_right (is_token t) (list_all is_token ts) fit))
 
 tokens_read : (ts : List Token) → list_all is_token ts ≡ true → tokens_from 1 0 (line_bytes ts) ≡ Ok ts
 tokens_read [] fit = refl
 tokens_read (t ∷ ts) fit =
-    token_read 1 t (rest_bytes ts) (first_part (is_token t) (list_all is_token ts) fit) (rest_stops ts)
-    ∙ ap (with_token (Ok (Some t))) (rest_read (1 + length (token_text t)) ts (second_part (is_token t) (list_all is_token ts) fit))
+    token_read 1 t (rest_bytes ts) (both_left (is_token t) (list_all is_token ts) fit) (rest_stops ts)
+    ∙ ap (with_token (Ok (Some t))) (rest_read (1 + length (token_text t)) ts (both_right (is_token t) (list_all is_token ts) fit))
 
 -- each byte of a token is printed
 word_is_printed : (w : List ℕ) → is_word w ≡ true → list_all is_printed w ≡ true
 word_is_printed [] h = refl
-word_is_printed (b ∷ bytes) h = all_implies is_name_byte is_printed (b ∷ bytes) name_printed (second_part (is_ascii_alphabetic b) (list_all is_name_byte (b ∷ bytes)) h)
+word_is_printed (b ∷ bytes) h = all_implies is_name_byte is_printed (b ∷ bytes) name_printed (both_right (is_ascii_alphabetic b) (list_all is_name_byte (b ∷ bytes)) h)
 
 operator_is_printed : (op : Operator) → list_all is_printed (operator_word op) ≡ true
 operator_is_printed operator.Add = refl
-operator_is_printed operator.Subtract = refl
-operator_is_printed operator.Multiply = refl
-operator_is_printed operator.Divide = refl
-operator_is_printed operator.Remainder = refl
-operator_is_printed operator.BitAnd = refl
-operator_is_printed operator.BitOr = refl
-operator_is_printed operator.BitXor = refl
-operator_is_printed operator.Equals = refl
-operator_is_printed operator.Differs = refl
-operator_is_printed operator.Below = refl
-operator_is_printed operator.AtMost = refl
+operator_is_printed _ = refl
 
 token_is_printed : (t : Token) → is_token t ≡ true → list_all is_printed (token_text t) ≡ true
 token_is_printed (token.Number n) fit = let small : n < 2 ^ 64 = ltb-true n (2 ^ 64) fit in all_implies is_ascii_digit is_printed (decimal n) digit_printed (decimal_digits n small)
-token_is_printed (token.Word w) fit = word_is_printed w (first_part (is_word w) (nat_le (length w) 32) fit)
-token_is_printed (token.LongName c) fit = word_is_printed (callback_word c) (first_part (is_word (callback_word c)) (nat_lt 32 (length (callback_word c))) fit)
-token_is_printed token.Open fit = refl
-token_is_printed token.Close fit = refl
-token_is_printed token.Assign fit = refl
+token_is_printed (token.Word w) fit = word_is_printed w (both_left (is_word w) (nat_le (length w) 32) fit)
+token_is_printed (token.LongName c) fit = word_is_printed (callback_word c) (both_left (is_word (callback_word c)) (nat_lt 32 (length (callback_word c))) fit)
 token_is_printed (token.Infix op) fit = operator_is_printed op
+token_is_printed _ fit = refl
 
 rest_is_printed : (ts : List Token) → list_all is_token ts ≡ true → list_all is_printed (rest_bytes ts) ≡ true
 rest_is_printed [] fit = refl
 rest_is_printed (t ∷ ts) fit =
-    list_all_append is_printed (token_text t) (rest_bytes ts) (token_is_printed t (first_part (is_token t) (list_all is_token ts) fit)) (rest_is_printed ts (second_part (is_token t) (list_all is_token ts) fit))
+    list_all_append is_printed (token_text t) (rest_bytes ts) (token_is_printed t (both_left (is_token t) (list_all is_token ts) fit)) (rest_is_printed ts (both_right (is_token t) (list_all is_token ts) fit))
 
 line_is_printed : (ts : List Token) → list_all is_token ts ≡ true → list_all is_printed (line_bytes ts) ≡ true
 line_is_printed [] fit = refl
 line_is_printed (t ∷ ts) fit =
-    list_all_append is_printed (token_text t) (rest_bytes ts) (token_is_printed t (first_part (is_token t) (list_all is_token ts) fit)) (rest_is_printed ts (second_part (is_token t) (list_all is_token ts) fit))
+    list_all_append is_printed (token_text t) (rest_bytes ts) (token_is_printed t (both_left (is_token t) (list_all is_token ts) fit)) (rest_is_printed ts (both_right (is_token t) (list_all is_token ts) fit))
 
 -- tokens that are spelled in a line are read again
 pub line_is_read : (ts : List Token) → list_all is_token ts ≡ true → line_reading (line_bytes ts) ≡ Ok ts
@@ -333,14 +312,9 @@ line_ends (t ∷ ts) more = append_assoc (token_text t) (rest_text ts) more ∙ 
 line_cut : (xs more : List ℕ) → list_all is_inside xs ≡ true → lines_of (xs ++ (10 ∷ more)) ≡ xs ∷ lines_of more
 line_cut [] more h = refl
 line_cut (x ∷ xs) more h =
-    let here : (x == 10) ≡ false = not_end (x == 10) (first_part (is_inside x) (list_all is_inside xs) h) in
+    let here : (x == 10) ≡ false = not_true (x == 10) (both_left (is_inside x) (list_all is_inside xs) h) in
     ap (λ b. if b then [] ∷ lines_of (xs ++ (10 ∷ more)) else with_byte x (lines_of (xs ++ (10 ∷ more)))) here
-    ∙ ap (with_byte x) (line_cut xs more (second_part (is_inside x) (list_all is_inside xs) h))
-  where
-    not_end : (b : Bool) → not b ≡ true → b ≡ false
-    not_end true h = absurd (let z : ⊥ = cc in z)
-    not_end false h = refl
-
+    ∙ ap (with_byte x) (line_cut xs more (both_right (is_inside x) (list_all is_inside xs) h))
 -- a line of tokens is the first line of the text that it begins
 pub first_line_text : (ts : List Token) (more : List ℕ) → list_all is_token ts ≡ true → lines_of (line_text ts ++ more) ≡ line_bytes ts ∷ lines_of more
 first_line_text ts more fit = ap lines_of (line_ends ts more) ∙ line_cut (line_bytes ts) more (all_implies is_printed is_inside (line_bytes ts) printed_inside (line_is_printed ts fit))

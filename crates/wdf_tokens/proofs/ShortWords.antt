@@ -25,78 +25,19 @@ use Rattle.wdf_scene.specs.Words.{context_word, access_word, plain_kind_word, de
 
 pub call_short : (x : CallKind) → length (call_word x) ≤ 32
 call_short call.WdfObjectCreate = lit≤ tt
-call_short call.WdfSpinLockCreate = lit≤ tt
-call_short call.WdfWaitLockCreate = lit≤ tt
-call_short call.WdfRequestCreate = lit≤ tt
-call_short call.WdfDpcCreate = lit≤ tt
-call_short call.WdfTimerCreate = lit≤ tt
-call_short call.WdfWorkItemCreate = lit≤ tt
-call_short call.WdfObjectDelete = lit≤ tt
-call_short call.WdfObjectReference = lit≤ tt
-call_short call.WdfObjectDereference = lit≤ tt
-call_short call.GetContext = lit≤ tt
-call_short call.SetContext = lit≤ tt
-call_short call.WdfSpinLockAcquire = lit≤ tt
-call_short call.WdfSpinLockRelease = lit≤ tt
-call_short call.WdfWaitLockAcquire = lit≤ tt
-call_short call.WdfWaitLockRelease = lit≤ tt
-call_short call.WdfInterruptAcquireLock = lit≤ tt
-call_short call.WdfInterruptReleaseLock = lit≤ tt
-call_short call.WdfRequestComplete = lit≤ tt
-call_short call.WdfRequestMarkCancelableEx = lit≤ tt
-call_short call.WdfRequestUnmarkCancelable = lit≤ tt
-call_short call.WdfRequestIsCanceled = lit≤ tt
-call_short call.WdfRequestRequeue = lit≤ tt
-call_short call.WdfRequestForwardToIoQueue = lit≤ tt
-call_short call.WdfRequestStopAcknowledge = lit≤ tt
-call_short call.WdfRequestSend = lit≤ tt
-call_short call.WdfRequestCancelSentRequest = lit≤ tt
-call_short call.WdfIoQueueStart = lit≤ tt
-call_short call.WdfIoQueueStop = lit≤ tt
-call_short call.WdfIoQueueDrain = lit≤ tt
-call_short call.WdfIoQueuePurge = lit≤ tt
-call_short call.WdfIoQueueStopSynchronously = lit≤ tt
-call_short call.WdfIoQueueDrainSynchronously = lit≤ tt
-call_short call.WdfIoQueuePurgeSynchronously = lit≤ tt
-call_short call.WdfIoQueueRetrieveNextRequest = lit≤ tt
-call_short call.WdfIoQueueReadyNotify = lit≤ tt
-call_short call.WdfInterruptQueueDpcForIsr = lit≤ tt
-call_short call.WdfDpcEnqueue = lit≤ tt
-call_short call.WdfDpcCancel = lit≤ tt
-call_short call.WdfTimerStart = lit≤ tt
-call_short call.WdfTimerStop = lit≤ tt
-call_short call.WdfWorkItemEnqueue = lit≤ tt
-call_short call.WdfWorkItemFlush = lit≤ tt
-call_short call.WdfIoTargetStop = lit≤ tt
-call_short call.WdfIoTargetStart = lit≤ tt
+call_short _ = lit≤ tt
 
 pub status_short : (x : Status) → length (status_word x) ≤ 32
 status_short status.Success = lit≤ tt
-status_short status.Cancelled = lit≤ tt
-status_short status.Unsuccessful = lit≤ tt
-status_short status.InvalidDeviceRequest = lit≤ tt
-status_short status.InvalidDeviceState = lit≤ tt
-status_short status.NoMoreEntries = lit≤ tt
-status_short status.WdfPaused = lit≤ tt
-status_short status.WdfBusy = lit≤ tt
-status_short status.InsufficientResources = lit≤ tt
-status_short status.DeletePending = lit≤ tt
+status_short _ = lit≤ tt
 
 pub ask_short : (x : Ask) → length (ask_word x) ≤ 32
 ask_short ask.Start = lit≤ tt
-ask_short ask.Sleep = lit≤ tt
-ask_short ask.Wake = lit≤ tt
-ask_short ask.Rebalance = lit≤ tt
-ask_short ask.Remove = lit≤ tt
-ask_short ask.Surprise = lit≤ tt
+ask_short _ = lit≤ tt
 
 pub context_short : (x : ContextWord) → length (context_word x) ≤ 32
 context_short context.OwnObject = lit≤ tt
-context_short context.NearestDevice = lit≤ tt
-context_short context.OwnRequest = lit≤ tt
-context_short context.RequestLength = lit≤ tt
-context_short context.RequestCode = lit≤ tt
-context_short context.CompletionStatus = lit≤ tt
+context_short _ = lit≤ tt
 
 pub access_short : (x : Access) → length (access_word x) ≤ 32
 access_short access.Read = lit≤ tt
@@ -104,19 +45,15 @@ access_short access.Write = lit≤ tt
 
 pub plain_kind_short : (x : PlainKind) → length (plain_kind_word x) ≤ 32
 plain_kind_short plain_kind.Object = lit≤ tt
-plain_kind_short plain_kind.SpinLock = lit≤ tt
-plain_kind_short plain_kind.WaitLock = lit≤ tt
-plain_kind_short plain_kind.Request = lit≤ tt
+plain_kind_short _ = lit≤ tt
 
 pub deferred_kind_short : (x : DeferredKind) → length (deferred_kind_word x) ≤ 32
 deferred_kind_short deferred_kind.Dpc = lit≤ tt
-deferred_kind_short deferred_kind.Timer = lit≤ tt
-deferred_kind_short deferred_kind.WorkItem = lit≤ tt
+deferred_kind_short _ = lit≤ tt
 
 pub scope_short : (x : Scope) → length (scope_word x) ≤ 32
 scope_short scope.PerDevice = lit≤ tt
-scope_short scope.PerQueue = lit≤ tt
-scope_short scope.Unscoped = lit≤ tt
+scope_short _ = lit≤ tt
 
 pub level_short : (x : ExecutionLevel) → length (level_word x) ≤ 32
 level_short level.Passive = lit≤ tt
@@ -124,5 +61,4 @@ level_short level.Dispatch = lit≤ tt
 
 pub form_short : (x : RequestForm) → length (form_word x) ≤ 32
 form_short form.Read = lit≤ tt
-form_short form.Write = lit≤ tt
-form_short form.Control = lit≤ tt
+form_short _ = lit≤ tt

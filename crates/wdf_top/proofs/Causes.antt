@@ -76,10 +76,7 @@ told_memory way own s k answer (text, status, due, inr said) same = absurd (omeg
 
 ended_no_memory : (e : Ending) → status_of e ≡ 15 → ⊥
 ended_no_memory ending.Running h = omega (arith, h)
-ended_no_memory ending.Finished h = omega (arith, h)
-ended_no_memory (ending.Fault f) h = omega (arith, h)
-ended_no_memory ending.Stuck h = omega (arith, h)
-ended_no_memory ending.Limit h = omega (arith, h)
+ended_no_memory _ h = omega (arith, h)
 
 pub memory_line : (v : Service) (s : Sourcing) (k : Sinking) (answer : ℕ) → Tells v s k answer → answer ≡ 15 → Gains k.before k.after no_memory_line
 memory_line Usage s k answer told same = absurd (third answer 2 13 15 (usage_answers s k answer told) (λ h. omega arith) (λ h. omega arith) same)

@@ -123,11 +123,9 @@ judged_told s k plan answer input has (text, status, inr wants, said) is_read =
 
 -- why the input's scenario has no plan
 pub cause_of_text : (part : List ℕ → List ℕ) (s : Sourcing) (input : List ℕ) (refusal : Refusal) → IsRead s input → IsTextCause (part input) refusal → IsCause part s refusal
-cause_of_text part s input ReadFault is_read cause = absurd cause
-cause_of_text part s input TooLarge is_read cause = absurd cause
-cause_of_text part s input NoMemory is_read cause = absurd cause
 cause_of_text part s input (NoScene refusal) is_read cause = (input, is_read, cause.0, cause.1)
 cause_of_text part s input (NoPlan refusal) is_read cause = (input, cause.0, is_read, cause.1, cause.2)
+cause_of_text part s input _ is_read cause = absurd cause
 
 -- the summary of the run that a number's words make of its plan was said
 pub summary_told : (n : ℕ) (p : Plan) (run : List Event) (k : Sinking) (answer : ℕ) → p ≡ plan_of (generated n) → IsPickedRun (plan_of (generated n)) agent_meaning (picks_of (Seeded n) (plan_of (generated n))) run

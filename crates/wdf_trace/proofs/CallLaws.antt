@@ -23,14 +23,7 @@ use Rattle.wdf_trace.proofs.ValueLaws.{ap3, value_of-value_text, argument_of-arg
 
 one_at_most : (s : Sort) → one_argument s ≤ 1
 one_at_most sort.Absent = omega arith
-one_at_most (sort.Class k) = omega arith
-one_at_most sort.AnyObject = omega arith
-one_at_most (sort.ObjectOf k) = omega arith
-one_at_most sort.AnyRequest = omega arith
-one_at_most sort.AnyStatus = omega arith
-one_at_most sort.AnyNumber = omega arith
-one_at_most (sort.UpTo n) = omega arith
-one_at_most sort.AnyValue = omega arith
+one_at_most _ = omega arith
 
 -- no call takes more than three
 three_at_most : (plan : Plan) (c : Call) → IsCallOf plan c → c.count ≤ 3

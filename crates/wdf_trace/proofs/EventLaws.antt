@@ -223,14 +223,4 @@ read_each plan h text k e is_number is_event number event small v same = (
 pub callback_named-stage : (s : Stage) → callback_named (stage_word s) ≡ None
 unfolding callback_named
 callback_named-stage stage.Hardware = refl
-callback_named-stage stage.NoHardware = refl
-callback_named-stage stage.Enabled = refl
-callback_named-stage stage.Disabled = refl
-callback_named-stage stage.QueuesUp = refl
-callback_named-stage stage.QueuesDown = refl
-callback_named-stage stage.Settled = refl
-callback_named-stage stage.Quiet = refl
-callback_named-stage stage.Closed = refl
-callback_named-stage stage.Working = refl
-callback_named-stage stage.Sleeping = refl
-callback_named-stage stage.Removed = refl
+callback_named-stage _ = refl

@@ -46,10 +46,7 @@ words_joined w ws h hs = words_spaced w ws h hs
 
 ending_lacks : (e : Ending) → Lacks 32 (ending_word e)
 ending_lacks ending.Running = record { each = refl }
-ending_lacks ending.Finished = record { each = refl }
-ending_lacks ending.Limit = record { each = refl }
-ending_lacks (ending.Fault f) = record { each = refl }
-ending_lacks ending.Stuck = record { each = refl }
+ending_lacks _ = record { each = refl }
 
 ending_words : (n : ℕ) (e : Ending) → n < 2 ^ 64 → words (ending_text n e) ≡ ending_word e ∷ decimal n ∷ []
 ending_words n e small = words_joined (ending_word e) (decimal n ∷ []) (ending_lacks e) (digits_lack n small, tt)
@@ -57,17 +54,11 @@ ending_words n e small = words_joined (ending_word e) (decimal n ∷ []) (ending
 -- the ending of a word has that word; a fault is any
 ending_word_back : (e : Ending) → ending_word (ending_of (ending_word e)) ≡ ending_word e
 ending_word_back ending.Running = refl
-ending_word_back ending.Finished = refl
-ending_word_back ending.Limit = refl
-ending_word_back (ending.Fault f) = refl
-ending_word_back ending.Stuck = refl
+ending_word_back _ = refl
 
 ending_over : (e : Ending) → e ≢ ending.Running → ending_of (ending_word e) ≢ ending.Running
 ending_over ending.Running h = absurd (h refl)
-ending_over ending.Finished h = λ e. cc
-ending_over ending.Limit h = λ e. cc
-ending_over (ending.Fault f) h = λ e. cc
-ending_over ending.Stuck h = λ e. cc
+ending_over _ h = λ e. cc
 
 -- what is read loosely from the line of an ending has that line
 pub ending_read : (text : List ℕ) (k : ℕ) (e : Ending) → k ≡ number_of (word 1 (words text)) → e ≡ ending_of (word 0 (words text)) → IsEndingText text → (e ≢ ending.Running) × (ending_text k e ≡ text)
@@ -281,51 +272,15 @@ alone x (Some c) e = absurd (let z : ⊥ = cc in z)
 
 no_cause_owned : (r : Handle) (c : Cause) → has_cause (thing.Owned r) (Some c) ≡ true → ⊥
 no_cause_owned r (cause.ByFrame f) row = cc
-no_cause_owned r (cause.ByLock l g) row = cc
-no_cause_owned r (cause.ByRequest k) row = cc
-no_cause_owned r (cause.ByWork y) row = cc
-no_cause_owned r cause.Stopped row = cc
-no_cause_owned r cause.Unpowered row = cc
-no_cause_owned r cause.Manual row = cc
-no_cause_owned r (cause.Behind b) row = cc
-no_cause_owned r cause.Full row = cc
-no_cause_owned r cause.ScopeHeld row = cc
-no_cause_owned r cause.NoCpu row = cc
-no_cause_owned r (cause.References n) row = cc
-no_cause_owned r (cause.ByChild x) row = cc
-no_cause_owned r (cause.AtTarget t) row = cc
+no_cause_owned r _ row = cc
 
 no_cause_sent : (r t' : Handle) (c : Cause) → has_cause (thing.Sent r t') (Some c) ≡ true → ⊥
 no_cause_sent r t' (cause.ByFrame f) row = cc
-no_cause_sent r t' (cause.ByLock l g) row = cc
-no_cause_sent r t' (cause.ByRequest k) row = cc
-no_cause_sent r t' (cause.ByWork y) row = cc
-no_cause_sent r t' cause.Stopped row = cc
-no_cause_sent r t' cause.Unpowered row = cc
-no_cause_sent r t' cause.Manual row = cc
-no_cause_sent r t' (cause.Behind b) row = cc
-no_cause_sent r t' cause.Full row = cc
-no_cause_sent r t' cause.ScopeHeld row = cc
-no_cause_sent r t' cause.NoCpu row = cc
-no_cause_sent r t' (cause.References n) row = cc
-no_cause_sent r t' (cause.ByChild x) row = cc
-no_cause_sent r t' (cause.AtTarget t) row = cc
+no_cause_sent r t' _ row = cc
 
 no_cause_asking : (d : Handle) (c : Cause) → has_cause (thing.Asking d) (Some c) ≡ true → ⊥
 no_cause_asking d (cause.ByFrame f) row = cc
-no_cause_asking d (cause.ByLock l g) row = cc
-no_cause_asking d (cause.ByRequest k) row = cc
-no_cause_asking d (cause.ByWork y) row = cc
-no_cause_asking d cause.Stopped row = cc
-no_cause_asking d cause.Unpowered row = cc
-no_cause_asking d cause.Manual row = cc
-no_cause_asking d (cause.Behind b) row = cc
-no_cause_asking d cause.Full row = cc
-no_cause_asking d cause.ScopeHeld row = cc
-no_cause_asking d cause.NoCpu row = cc
-no_cause_asking d (cause.References n) row = cc
-no_cause_asking d (cause.ByChild x) row = cc
-no_cause_asking d (cause.AtTarget t) row = cc
+no_cause_asking d _ row = cc
 
 pub wait_back : (plan : Plan) → HasNames plan → (x : OpenThing) (c : Option Cause) → has_cause x c ≡ true → IsThingOf plan x → IsCauseOf plan c → wait_in plan (thing_words plan x ++ cause_words plan c) ≡ plain_wait x c
 wait_back plan h (thing.Waiting f b o) c row v w = waiting_back plan h f b o c v w
@@ -362,11 +317,6 @@ plain_sequence plan d (step.Run b i) c = refl
 plain_sequence plan d (step.Pass s i) c = refl
 
 pub plain_text : (plan : Plan) (x : OpenThing) (c : Option Cause) → wait_text plan (plain_wait x c) ≡ wait_text plan (line_of x c)
-plain_text plan (thing.Waiting f b o) c = refl
-plain_text plan (thing.Owned r) c = refl
-plain_text plan (thing.Sent r t) c = refl
-plain_text plan (thing.Queued r q) c = refl
-plain_text plan (thing.Returning r q) c = refl
 plain_text plan (thing.Sequence d s) c = plain_sequence plan d s c
 plain_text plan (thing.Leaving o) None = refl
 plain_text plan (thing.Leaving o) (Some (cause.ByFrame f)) = refl
@@ -383,8 +333,7 @@ plain_text plan (thing.Leaving o) (Some cause.NoCpu) = refl
 plain_text plan (thing.Leaving o) (Some (cause.References n)) = refl
 plain_text plan (thing.Leaving o) (Some (cause.ByChild x)) = refl
 plain_text plan (thing.Leaving o) (Some (cause.AtTarget t)) = refl
-plain_text plan (thing.Deferred o) c = refl
-plain_text plan (thing.Asking d) c = refl
+plain_text plan _ c = refl
 
 -- a sequence has a cause whatever its step
 sequence_row : (d : Handle) (s t : Step) (c : Option Cause) → has_cause (thing.Sequence d s) c ≡ true → has_cause (thing.Sequence d t) c ≡ true
@@ -405,11 +354,6 @@ sequence_row d s t (Some (cause.ByChild x)) row = row
 sequence_row d s t (Some (cause.AtTarget u)) row = row
 
 pub plain_IsWaitOf : (plan : Plan) (x : OpenThing) (c : Option Cause) → IsWaitOf plan (line_of x c) → IsWaitOf plan (plain_wait x c)
-plain_IsWaitOf plan (thing.Waiting f b o) c v = v
-plain_IsWaitOf plan (thing.Owned r) c v = v
-plain_IsWaitOf plan (thing.Sent r t) c v = v
-plain_IsWaitOf plan (thing.Queued r q) c v = v
-plain_IsWaitOf plan (thing.Returning r q) c v = v
 plain_IsWaitOf plan (thing.Sequence d s) c v = (sequence_row d s (plain_step s) c v.0, v.1, v.2)
 plain_IsWaitOf plan (thing.Leaving o) None v = v
 plain_IsWaitOf plan (thing.Leaving o) (Some (cause.ByFrame f)) v = v
@@ -426,8 +370,7 @@ plain_IsWaitOf plan (thing.Leaving o) (Some cause.NoCpu) v = v
 plain_IsWaitOf plan (thing.Leaving o) (Some (cause.References n)) v = v
 plain_IsWaitOf plan (thing.Leaving o) (Some (cause.ByChild x)) v = v
 plain_IsWaitOf plan (thing.Leaving o) (Some (cause.AtTarget t)) v = (refl, (v.1, v.2), tt)
-plain_IsWaitOf plan (thing.Deferred o) c v = v
-plain_IsWaitOf plan (thing.Asking d) c v = v
+plain_IsWaitOf plan _ c v = v
 
 -- what is read loosely from a line of a wait list has that line
 pub wait_read : (plan : Plan) → HasNames plan → (text : List ℕ) (w : WaitLine) → w ≡ wait_in plan (words text) → (wait : WaitLine) → IsWaitOf plan wait → wait_text plan wait ≡ text → (wait_text plan w ≡ text) × IsWaitOf plan w

@@ -9,14 +9,13 @@ use Rattle.wdf_base.specs.declared.call.Arg.TheVariants.{Val, Class}
 use Rattle.wdf_base.specs.declared.call.Call.{Call}
 use Rattle.wdf_base.specs.declared.event.Action.{Action}
 use Rattle.wdf_base.specs.declared.event.Action.TheVariants as action
-use Rattle.wdf_base.specs.declared.event.Stage.{Stage}
-use Rattle.wdf_base.specs.declared.event.Stage.TheVariants as stage
 use Rattle.wdf_base.specs.declared.event.Post.{Post}
 use Rattle.wdf_base.specs.declared.event.Post.TheVariants as post
 use Rattle.wdf_base.specs.declared.event.Event.{Event}
 use Rattle.wdf_base.specs.declared.event.Event.TheVariants as event
 use Rattle.wdf_base.specs.Calls.{signature_of, argument_count}
 use Rattle.wdf_base.specs.Callbacks.{row_of, carries_request}
+use Rattle.wdf_base.specs.Stages.{is_for_interrupt}
 
 -- an object with any id and any name of the plan
 abbrev pub IsHandleOf : Plan → Handle → Type 0
@@ -43,12 +42,6 @@ abbrev pub IsCallOf : Plan → Call → Type 0
 IsCallOf plan call =
     (call.count ≡ argument_count (signature_of call.kind)) × IsArgumentOf plan (nat_lt 0 call.count) call.a
     × IsArgumentOf plan (nat_lt 1 call.count) call.b × IsArgumentOf plan (nat_lt 2 call.count) call.c
-
--- a stage that is passed for one interrupt
-abbrev pub is_for_interrupt : Stage → Bool
-is_for_interrupt stage.Enabled = true
-is_for_interrupt stage.Disabled = true
-is_for_interrupt _ = false
 
 abbrev pub IsActionOf : Plan → Action → Type 0
 IsActionOf plan (action.Set r n) = (r < length plan.registers) × (n < 2 ^ 64)

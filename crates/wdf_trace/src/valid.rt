@@ -1,8 +1,8 @@
 ghost use Rattle.std.specs.Prelude.{◌≡◌, ◌↔◌, ◌≤◌, IsTrue, length, Option, is_some};
 ghost use Rattle.wdf_base.specs.Callbacks.{row_of, carries_request};
-ghost use Rattle.wdf_trace.specs.Events.{IsHandleOf, IsOptionalOf, IsValueOf, IsArgumentOf, IsCallOf, is_for_interrupt, IsActionOf, IsPostOf, IsEventOf};
+ghost use Rattle.wdf_trace.specs.Events.{IsHandleOf, IsOptionalOf, IsValueOf, IsArgumentOf, IsCallOf, IsActionOf, IsPostOf, IsEventOf};
 
-use wdf_base::{Action, Arg, Call, Callback, Event, Handle, Plan, Post, Stage, Value};
+use wdf_base::{Action, Arg, Call, Callback, Event, Handle, Plan, Post, Value};
 
 /// Whether an object has a name of the plan.
 pub fn is_handle(plan: &Plan, object: Handle) -> bool
@@ -59,13 +59,6 @@ fn is_carried(callback: Callback, request: Option<Handle>) -> bool
     ensures { IsTrue result ↔ (carries_request (row_of callback).rank ≡ is_some request) }
 {
     callback.row().rank.carries_request() == request.is_some()
-}
-
-/// Whether a stage is passed for one interrupt.
-fn is_for_interrupt(stage: Stage) -> bool
-    ensures { result ≡ is_for_interrupt stage }
-{
-    matches!(stage, Stage::Enabled | Stage::Disabled)
 }
 
 /// Whether what a device does names a register and an interrupt of the plan.
@@ -125,7 +118,7 @@ pub fn is_event(plan: &Plan, event: Event) -> bool
         } => {
             is_handle(plan, device)
                 && is_optional(plan, interrupt)
-                && is_for_interrupt(stage) == interrupt.is_some()
+                && stage.is_for_interrupt() == interrupt.is_some()
         }
         Event::Complete { request, .. } => is_handle(plan, request),
         Event::Cleanup { object } => is_handle(plan, object),

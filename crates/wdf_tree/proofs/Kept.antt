@@ -96,15 +96,11 @@ kept_at_first ns ds r s n kin waiting one first h k all empty none = rw (one, fi
 
 live_waits : (l : Life) → is_live l ≡ true → is_waiting l ≡ true
 live_waits life.Live h = refl
-live_waits life.Asked h = absurd (false≢true h)
-live_waits life.Cleaned h = absurd (false≢true h)
-live_waits life.Gone h = absurd (false≢true h)
+live_waits _ h = absurd (false≢true h)
 
 live_left : (l : Life) → is_live l ≡ true → is_gone l ≡ false
-live_left life.Live h = refl
-live_left life.Asked h = refl
-live_left life.Cleaned h = refl
 live_left life.Gone h = absurd (false≢true h)
+live_left _ h = refl
 
 pub kept_by_push : {ns : List Node} {ds : List ObjectId} {count r s : ℕ} {kin waiting : Family} (n : Node) (d : ObjectId) (id : ℕ) → IsKept ns ds count r s kin waiting → length ns < OBJECTS → is_live n.life ≡ true
     → d.0 ≡ own_device (nearest_devices [] ns) (length ns) n → id ≡ length ns
@@ -257,9 +253,7 @@ pub record IsLiving (l : Life) : Type 0 where
 
 pub live_stands : (l : Life) → same_life l life.Live ≡ true → IsLiving l
 live_stands life.Live h = record { live = refl; gone = refl; waits = refl }
-live_stands life.Asked h = absurd (false≢true h)
-live_stands life.Cleaned h = absurd (false≢true h)
-live_stands life.Gone h = absurd (false≢true h)
+live_stands _ h = absurd (false≢true h)
 
 -- the id 0 is not live
 pub none_live : {ns : List Node} {ds : List ObjectId} {count r s : ℕ} {kin waiting : Family} → IsKept ns ds count r s kin waiting → is_live (entry gone ns 0).life ≡ false
@@ -267,35 +261,25 @@ none_live {ns} {ds} {count} {r} {s} {kin} {waiting} h = gone_off (entry gone ns 
   where
     gone_off : (l : Life) → is_gone l ≡ true → is_live l ≡ false
     gone_off life.Live e = absurd (false≢true e)
-    gone_off life.Asked e = refl
-    gone_off life.Cleaned e = refl
-    gone_off life.Gone e = refl
+    gone_off _ e = refl
 
 pub asked_stands : (l : Life) → is_asked l ≡ true → is_gone l ≡ false
-asked_stands life.Live h = refl
-asked_stands life.Asked h = refl
-asked_stands life.Cleaned h = refl
 asked_stands life.Gone h = absurd (false≢true h)
+asked_stands _ h = refl
 
 -- the tests of a life, as code makes them
 pub asked_as_same : (l : Life) → same_life l life.Asked ≡ is_asked l
 asked_as_same life.Live = refl
-asked_as_same life.Asked = refl
-asked_as_same life.Cleaned = refl
-asked_as_same life.Gone = refl
+asked_as_same _ = refl
 
 pub cleaned_as_same : (l : Life) → same_life l life.Cleaned ≡ is_cleaned l
 cleaned_as_same life.Live = refl
-cleaned_as_same life.Asked = refl
-cleaned_as_same life.Cleaned = refl
-cleaned_as_same life.Gone = refl
+cleaned_as_same _ = refl
 
 -- what is cleaned up is not gone
 cleaned_stands : (l : Life) → is_cleaned l ≡ true → is_gone l ≡ false
-cleaned_stands life.Live h = refl
-cleaned_stands life.Asked h = refl
-cleaned_stands life.Cleaned h = refl
 cleaned_stands life.Gone h = absurd (false≢true h)
+cleaned_stands _ h = refl
 
 pub few_counted : {ns : List Node} {ds : List ObjectId} {count r s : ℕ} {kin waiting : Family} (o : ℕ) (n : Node) → IsKept ns ds count r s kin waiting → o < length ns → n ≡ slice_index_or ns o n
     → cond (counts n) 1 0 ≤ count
@@ -338,10 +322,8 @@ may_end T U o e h =
     }
 
 cleaned_off : (l : Life) → is_cleaned l ≡ true → is_waiting l ≡ false
-cleaned_off life.Live h = absurd (false≢true h)
-cleaned_off life.Asked h = absurd (false≢true h)
 cleaned_off life.Cleaned h = refl
-cleaned_off life.Gone h = absurd (false≢true h)
+cleaned_off _ h = absurd (false≢true h)
 
 pub kept_by_end : {ns : List Node} {ds : List ObjectId} {count r s : ℕ} {kin waiting : Family} (o less : ℕ) (n m : Node) (d : ObjectId) → IsKept ns ds count r s kin waiting → MayEnd ns o
     → n ≡ slice_index_or ns o n → m ≡ gone → d.0 ≡ 1 → less + cond (counts n) 1 0 ≡ count → IsKept (slice_set ns o m) (slice_set ds o d) less r s (record kin { lists = map (without o) kin.lists }) waiting

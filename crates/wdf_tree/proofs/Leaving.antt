@@ -82,15 +82,11 @@ leaving_at_first ns n asked cleaned one room a c =
 
 pub live_unasked : (l : Life) → is_live l ≡ true → is_asked l ≡ false
 live_unasked life.Live h = refl
-live_unasked life.Asked h = absurd (false≢true h)
-live_unasked life.Cleaned h = absurd (false≢true h)
-live_unasked life.Gone h = absurd (false≢true h)
+live_unasked _ h = absurd (false≢true h)
 
 live_uncleaned : (l : Life) → is_live l ≡ true → is_cleaned l ≡ false
 live_uncleaned life.Live h = refl
-live_uncleaned life.Asked h = absurd (false≢true h)
-live_uncleaned life.Cleaned h = absurd (false≢true h)
-live_uncleaned life.Gone h = absurd (false≢true h)
+live_uncleaned _ h = absurd (false≢true h)
 
 -- a live object more
 pub leaving_by_push : {ns : List Node} {asked cleaned : List Bool} (n : Node) → HoldsLeaving ns asked cleaned → is_live n.life ≡ true → HoldsLeaving (ns ++ n ∷ []) asked cleaned
@@ -126,10 +122,8 @@ leaving_by_cleanup {ns} {asked} {cleaned} o m h few there e = record {
 }
 
 pub cleaned_unasked : (l : Life) → is_cleaned l ≡ true → is_asked l ≡ false
-cleaned_unasked life.Live h = refl
 cleaned_unasked life.Asked h = absurd (false≢true h)
-cleaned_unasked life.Cleaned h = refl
-cleaned_unasked life.Gone h = refl
+cleaned_unasked _ h = refl
 
 -- an object that is cleaned up ends
 pub leaving_by_end : {ns : List Node} {asked cleaned : List Bool} (o : ℕ) (m : Node) → HoldsLeaving ns asked cleaned → length ns ≤ OBJECTS → o < length ns → is_cleaned (entry gone ns o).life ≡ true → m ≡ gone

@@ -99,10 +99,8 @@ turns_noted {ns} {ms} {ls} {ks} {before} {after} longer h k changed = record { r
 -- ---- children that wait
 
 unwaiting_unasked : (l : Life) → is_waiting l ≡ false → is_asked l ≡ false
-unwaiting_unasked life.Live h = refl
 unwaiting_unasked life.Asked h = absurd (false≢true (sym h))
-unwaiting_unasked life.Cleaned h = refl
-unwaiting_unasked life.Gone h = refl
+unwaiting_unasked _ h = refl
 
 -- a child that isn't on the list of those that wait isn't asked
 off_unasked : (ns : List Node) (waiting : Family) (o id : ℕ) → HoldsKin is_waiting ns waiting → o < OBJECTS → id < length ns → is_on id (list_at waiting.lists o) ≡ false → (entry gone ns id).parent.0 ≡ o

@@ -21,27 +21,19 @@ begins plan k false false e f = rw (e, f) (owned plan k (device_of_agent plan k)
 
 folds : (a : AnyAgent) (e : Event) → as_model (agent_after a e) ≡ model.agent_after (as_model a) e
 folds (agent.PnpManager p) e = refl
-folds (agent.App p) e = refl
-folds (agent.Device d) e = refl
-folds (agent.LowerTarget t) e = refl
+folds _ e = refl
 
 dues : (a : AnyAgent) → agent_due a ≡ model.agent_due (as_model a)
 dues (agent.PnpManager p) = refl
-dues (agent.App p) = refl
-dues (agent.Device d) = refl
-dues (agent.LowerTarget t) = refl
+dues _ = refl
 
 nexts : (a : AnyAgent) → agent_next a ≡ model.agent_next (as_model a)
 nexts (agent.PnpManager p) = refl
-nexts (agent.App p) = refl
-nexts (agent.Device d) = refl
-nexts (agent.LowerTarget t) = refl
+nexts _ = refl
 
 values : (a : AnyAgent) (what : ℕ) → agent_value a what ≡ model.agent_value (as_model a) what
 values (agent.PnpManager p) what = refl
-values (agent.App p) what = refl
-values (agent.Device d) what = refl
-values (agent.LowerTarget t) what = refl
+values _ what = refl
 
 pub returns-clause-begin : goal.returns-clause-begin
 returns-clause-begin c = λ plan k. begins plan k (k == 0) (is_app plan k) refl refl

@@ -1,6 +1,6 @@
 ghost use Rattle.std.specs.Prelude.{◌≡◌, ◌+◌, ◌<◌, ◌≤◌, ◌^◌, ◌++◌, ◌∷◌, [], length, is_ok, IfOk, if◌then◌else◌};
 ghost use Rattle.wdf_base.specs.Plan.{posts_of, statements_of};
-ghost use Rattle.wdf_scene.specs.PlanParts.{with_post, with_statement};
+ghost use Rattle.test_plans.specs.PlanParts.{with_post, with_statement};
 
 use std::alloc::Global;
 use std::marker::Model;
