@@ -85,6 +85,7 @@ in_stacks f (s ∷ ss) h = elim (in_either f s (flat_map (λ (fs : List ℕ). fs
   | inl e ↦ rw e refl
   | inr e ↦ second (contains f s) (list_any (contains f) ss) (in_stacks f ss e)
 ]
+
 -- ---- the lines
 
 abbrev LineNamed : {A : Type 0} → Plan → State A → WaitLine → Type 0

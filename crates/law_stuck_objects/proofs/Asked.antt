@@ -229,6 +229,7 @@ module _ {A : Type 0} (plan : Plan) (m : Meaning A) (run : List Event) (resolved
   made_by : (o : ℕ) (b : Bool) → is_sent (place_of S.requests o) ≡ b → (b ≡ true → ⊥) → (not (same_kind (kind_of S.tree o) kind.Made) || not (is_sent (place_of S.requests o))) ≡ true
   made_by o true e h = absurd (h refl)
   made_by o false e h = second (not (same_kind (kind_of S.tree o) kind.Made)) (not (is_sent (place_of S.requests o))) (ap not e)
+
   request_by : (o : ℕ) (b : Bool) → is_request S.tree o ≡ b → is_live (life_of S.tree o) ≡ false → (not (same_kind (kind_of S.tree o) kind.Request) || is_done (place_of S.requests o)) ≡ true
   request_by o true e off = rw e (request_done plan m run resolved is_run o e off)
   request_by o false e off = rw e refl

@@ -44,6 +44,7 @@ module _ (plan : Plan) (es : List Event) (device : Handle) (i : ℕ) where
   on_less : (a : Standing) (mine x : Bool) → a.on ≡ (w.watched && x) → (a.on && not mine) ≡ (w.watched && (if mine then false else x))
   on_less a true x e = and-false a.on ∙ sym (and-false w.watched)
   on_less a false x e = and-true a.on ∙ e
+
   -- ---- what the events say after it
 
   told_enabled : (a : Standing) (h : Handle) (mine : Bool) → (h.id.0 == i) ≡ mine → a.entered ≡ true → Told plan es device.id.0 i a

@@ -89,6 +89,7 @@ module _ (plan : Plan) (resolved : IsResolved plan) (d i : ℕ) where
       let off : is_interrupt_of d (interrupt_of plan i) ≡ false = unwatched_if (is_interrupt_of d (interrupt_of plan i)) refl (works_as (declared_of plan d) info at ∙ e) in
       let none : (watch plan d i).watched ≡ false = rw off (and-false (is_some (device_of plan d))) in
       rw none refl
+
   holds_first : (x : Option DeviceInfo) → device_of plan d ≡ x → Holds plan (opening_sequence plan d x) (opening_device_power x) false [] d i
   holds_first None at = record {
     standing = record { phase = Removed; hardware = false; entered = not (watch plan d i).entry; up = false; on = false; since = false; clean = false };

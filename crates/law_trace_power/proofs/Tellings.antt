@@ -61,6 +61,7 @@ stood_comes p a b es e s = stood_next p a b es e ∙ rw s refl
 
 never : (p : Sign) (es : List Event) (e : Event) → shows p e ≡ false → ever p (es ++ e ∷ []) ≡ ever p es
 never p es e n = came_next p es e ∙ rw n (or-false (ever p es))
+
 -- ---- the words of a device and an interrupt
 
 pub or_more : (a b c : Bool) → (b ≡ true → c ≡ true) → (a || b) ≡ true → (a || c) ≡ true

@@ -190,6 +190,7 @@ start_parts plan m S cpu c o r h = (search (both_left, both_right), search (both
 found_by : (p : Begun → Bool) (P : Begun → Type 0) (b : Begun) (bs : List Begun) (t : Bool) → p b ≡ t → (list_any p bs ≡ true → Each P bs → (x : Begun) × (p x ≡ true) × P x) → (p b || list_any p bs) ≡ true → P b → Each P bs → (x : Begun) × (p x ≡ true) × P x
 found_by p P b bs true e rest h at all = (b, e, at)
 found_by p P b bs false e rest h at all = rest (right_so (p b) (list_any p bs) e h) all
+
 -- what one of a list passes, and what is so of each
 pub one_of : (p : Begun → Bool) (P : Begun → Type 0) (bs : List Begun) → list_any p bs ≡ true → Each P bs → (x : Begun) × (p x ≡ true) × P x
 one_of p P [] h all = absurd (let z : ⊥ = cc in z)

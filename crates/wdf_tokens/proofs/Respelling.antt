@@ -315,6 +315,7 @@ line_cut (x ∷ xs) more h =
     let here : (x == 10) ≡ false = not_true (x == 10) (both_left (is_inside x) (list_all is_inside xs) h) in
     ap (λ b. if b then [] ∷ lines_of (xs ++ (10 ∷ more)) else with_byte x (lines_of (xs ++ (10 ∷ more)))) here
     ∙ ap (with_byte x) (line_cut xs more (both_right (is_inside x) (list_all is_inside xs) h))
+
 -- a line of tokens is the first line of the text that it begins
 pub first_line_text : (ts : List Token) (more : List ℕ) → list_all is_token ts ≡ true → lines_of (line_text ts ++ more) ≡ line_bytes ts ∷ lines_of more
 first_line_text ts more fit = ap lines_of (line_ends ts more) ∙ line_cut (line_bytes ts) more (all_implies is_printed is_inside (line_bytes ts) printed_inside (line_is_printed ts fit))
