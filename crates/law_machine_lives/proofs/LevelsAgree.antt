@@ -173,7 +173,7 @@ split_at plan S f n b (h ∷ hs) low more =
           let level : level_of_lock plan S h.lock ≡ n = eqb-true (level_of_lock plan S h.lock) n (both_right (h.frame.0 == f) (level_of_lock plan S h.lock == n) on_) in
           elim (cases_Bool h.by_call) [
             | inl by_call ↦
-                let yes_ : flag (is_called plan S.tree f n h) ≡ 1 = ap flag (all_on (h.frame.0 == f) h.by_call (height plan S.tree h.lock == n) (equal h.frame.0 f frame) by_call (equal (height plan S.tree h.lock) n (same_height plan S h.lock ∙ level))) in
+                let yes_ : flag (is_called plan S.tree f n h) ≡ 1 = ap flag (all_three (h.frame.0 == f) h.by_call (height plan S.tree h.lock == n) (equal h.frame.0 f frame) by_call (equal (height plan S.tree h.lock) n (same_height plan S h.lock ∙ level))) in
                 inl (omega arith)
             | inr start ↦ inr (let low_ = low.0 frame start in omega arith)
           ]

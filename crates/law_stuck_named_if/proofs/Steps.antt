@@ -68,7 +68,7 @@ none_queued plan m S rest size may_be d unheld fits i its = elim (cases_Bool (is
       let there : Has cpu (cpus_with_dpc plan S d) = kept_has (has_dpc_of plan S d) cpu (all_cpus plan) (has_range cpu 0 plan.cpus (omega arith) (omega arith)) it in
       head_waits plan m S rest cpu i within at.passes (may_be cpu)
       (free_by_none S (head_lock plan S cpu) (none_gathered (λ x. holders_of S (head_lock plan S x)) cpu (cpus_with_dpc plan S d) there unheld))
-      (fit_of (level_fits S cpu 2) (none_of (λ x. not (level_fits S x 2)) (cpus_with_dpc plan S d) fits cpu there)))
+      (not_false (level_fits S cpu 2) (none_of (λ x. not (level_fits S x 2)) (cpus_with_dpc plan S d) fits cpu there)))
   | inr e ↦ ap not e
 ]
 
