@@ -1,8 +1,8 @@
 //! Plans for tests: a builder of plans, and lists as plans have them.
 #![tactic(auto)]
 
-mod items;
+mod lists;
 mod plan_builder;
 
-pub use items::items;
+pub use lists::items;
 pub use plan_builder::PlanBuilder;
