@@ -20,7 +20,7 @@ use Rattle.wdf_model.specs.rules.Steps.{after, may}
 use Rattle.wdf_model.specs.rules.Ready.{IsRunOf, state_after}
 use Rattle.wdf_model.proofs.Runs.{slice_get-take, take_ended, take_next}
 use Rattle.law_machine_base.proofs.Follows.{state_goes_on}
-use Rattle.wdf_model.proofs.Tests.{all_four, both, both_left, both_right, first, left_fails, right_fails, right_so, second}
+use Rattle.wdf_model.proofs.Tests.{all_four, both, both_left, both_right, first as left_holds, left_fails, right_fails, right_so, second}
 use Rattle.wdf_model.proofs.Counts.{equal}
 use Rattle.wdf_model.proofs.Maps.{entry_put_same}
 use Rattle.law_machine_base.proofs.OwnEvents.{not_found}
@@ -222,7 +222,7 @@ none_above plan all before closed (suc n) o h =
 
 law_3_by : {A : Type 0} (plan : Plan) (m : Meaning A) (run : List Event) (k : ℕ) (e : Event) → IsRunOf plan m run → slice_get run k ≡ Some e → law_3 plan run (take k run) e ≡ true
 law_3_by plan m run k (event.Start cpu c o r) is_run at = elim (cases_Bool (same_callback c callback.EvtDestroyCallback)) [
-  | inl it ↦ first (same_callback c callback.EvtDestroyCallback) (not (cleaned_above plan run (take k run) (most_above plan run) o.id.0)) it
+  | inl it ↦ left_holds (same_callback c callback.EvtDestroyCallback) (not (cleaned_above plan run (take k run) (most_above plan run) o.id.0)) it
   | inr other ↦
       let early : ever (sign.Cleaned o.id.0) (take k run) ≡ false = begins_early plan m run k cpu c o r is_run at other in
       second (same_callback c callback.EvtDestroyCallback) (not (cleaned_above plan run (take k run) (most_above plan run) o.id.0))
