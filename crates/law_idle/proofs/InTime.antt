@@ -1,5 +1,5 @@
 -- A device isn't idle for longer than its timeout, and the law on idle runs.
-use Rattle.std.proofs.Common.{if◌then◌else◌, ◌≡◌, ◌≤◌, ◌<◌, ℕ, zero, suc, ◌+◌, ◌==◌, Bool, true, false, not, ◌&&◌, ◌||◌, nat_lt, nat_le, List, [], ◌∷◌, ◌++◌, inl, inr, Option, Some, None, filter, slice_get, take, is_some, refl, sym, ap, subst, ◌∙◌, arith}
+use Rattle.std.proofs.Common.{if◌then◌else◌, ◌≡◌, ◌≤◌, ◌<◌, ℕ, zero, suc, ◌+◌, ◌==◌, Bool, true, false, not, ◌&&◌, ◌||◌, nat_lt, nat_le, List, [], ◌∷◌, ◌++◌, inl, inr, Option, Some, None, filter, slice_get, take, is_some, refl, sym, ap, subst, ◌∙◌, arith, rules}
 use Rattle.std.specs.List.{list_all, list_any}
 use Rattle.std.proofs.lemmas.Bool.{eqb-true}
 use Rattle.std.proofs.lemmas.Bool.Decides.{nat_tests}
@@ -15,7 +15,7 @@ use Rattle.wdf_base.specs.declared.event.Event.{Event}
 use Rattle.wdf_base.specs.declared.event.Event.TheVariants as event
 use Rattle.wdf_base.specs.declared.event.Post.{Post}
 use Rattle.wdf_base.specs.declared.event.Post.TheVariants as post
-use Rattle.wdf_base.specs.Same.{same_option, same_post}
+use Rattle.wdf_base.specs.Same.{same_ask, same_handle, same_option, same_post}
 use Rattle.wdf_model.specs.Plans.{declared_ids, device_of, first_there}
 use Rattle.wdf_model.specs.State.{State}
 use Rattle.wdf_model.specs.rules.Posts.{due_of, post_fits}
@@ -28,7 +28,7 @@ use Rattle.wdf_model.proofs.Sames.{handle_decides}
 use Rattle.wdf_model.proofs.Tests.{both}
 use Rattle.law_trace_power.proofs.Laws.{comes_by}
 use Rattle.law_idle.specs.Idling.{Rest, has_pending, is_asleep, is_awake, is_held, is_idle, since, starts_anew, time_after, time_step}
-use Rattle.law_idle.specs.Law.{is_sent_to_sleep, is_sleep_of, is_well_rested, keeps_idle_law, rests_well, sleeps_in_time, takes_part}
+use Rattle.law_idle.specs.Law.{is_sent_to_sleep, is_sleep_of, is_wake_of, is_wanted, is_well_rested, is_woken_by_line, keeps_idle_law, rests_well, sleeps_in_time, takes_part}
 use Rattle.law_idle.specs.Policies.{HasPolicy}
 use Rattle.law_idle.proofs.PolicyRuns.{KnowsAll, knows_at}
 use Rattle.law_idle.proofs.Since.{since_more, time_more}
@@ -255,8 +255,18 @@ module _ {A : Type 0} (plan : Plan) (m : Meaning A) (policy : A → Option IdleP
 
   -- ---- the law where a device is put to sleep
 
-  asleep_by : (n : ℕ) (h : Handle) (q : Post) → q ≡ post.Ask asks.Sleep h → takes_part plan h.id.0 ≡ true → first_post (k n).now ≡ Some q → time_after (take n run) ≡ since plan h.id.0 (take n run) + timeout_of plan h.id.0
-  asleep_by n h q is part f =
+  abbrev slept_well : ℕ → ℕ → Bool
+  slept_well n d = is_idle plan d (take n run) && time_after (take n run) == since plan d (take n run) + timeout_of plan d
+
+  abbrev was_wanted : ℕ → ℕ → Bool
+  was_wanted n d = is_asleep d (take n run) && has_pending d (take n run)
+
+  later : (a b : Bool) → b ≡ true → (a || b) ≡ true
+  later true b h = refl
+  later false b h = h
+
+  asleep_by : (n : ℕ) (h : Handle) (q : Post) → q ≡ post.Ask asks.Sleep h → first_post (k n).now ≡ Some q → slept_well n h.id.0 ≡ true
+  asleep_by n h q is f =
       let first = is_first (k n).now.manager.clock (k n).now.devices q f in
       let d = is_due (k n).now.manager.clock first.device q first.due in
       let x : IdleDevice = first.device in
@@ -271,59 +281,101 @@ module _ {A : Type 0} (plan : Plan) (m : Meaning A) (policy : A → Option IdleP
             (let l = within (x.since + x.timeout) (k n).now.manager.clock b.2 in let s = w.told.since in let t = w.told.timeout in let c = (k n).clock in omega (arith, l, s, t, c)) in
             let most = in_time x.device.id.0 n w.info w.declared w.part idle in
             let exact : time_after (take n run) ≡ since plan x.device.id.0 (take n run) + timeout_of plan x.device.id.0 = omega (arith, long, most) in
-            subst (λ (y : Handle). time_after (take n run) ≡ since plan y.id.0 (take n run) + timeout_of plan y.id.0) device exact
+            let well : slept_well n x.device.id.0 ≡ true = both (is_idle plan x.device.id.0 (take n run)) _ idle (equals _ _ exact) in
+            subst (λ (y : Handle). slept_well n y.id.0 ≡ true) device well
       ]
 
-  by_line : (n : ℕ) (h : Handle) (q : Post) → q ≡ post.Ask asks.Sleep h → app_due (k n).now.manager ≡ Some q → is_sent_to_sleep plan h.id.0 ≡ true
-  by_line n h q is due =
-      let l = line_of (k n).now.manager q due in
-      let here : slice_get plan.pnp (k n).now.manager.posted ≡ Some l.0 = sym (ap (λ ls. slice_get ls (k n).now.manager.posted) (k n).lines) ∙ l.1 in
-      let sleeps : is_sleep_of h.id.0 l.0.post ≡ true = ap (is_sleep_of h.id.0) (l.2 ∙ is) ∙ equals h.id.0 h.id.0 refl in
-      any_at (λ (y : PostLine). is_sleep_of h.id.0 y.post) plan.pnp (k n).now.manager.posted l.0 here sleeps
+  -- ---- the law where a device is woken
 
-  sleeps_by : (n : ℕ) (h : Handle) (q : Post) (o : Option Post) (b : Bool) → q ≡ post.Ask asks.Sleep h → takes_part plan h.id.0 ≡ b → first_post (k n).now ≡ o → first_there o (app_due (k n).now.manager) ≡ Some q → sleeps_in_time plan (take n run) h.id.0 ≡ true
-  sleeps_by n h q o false is part f due = rw part refl
-  sleeps_by n h q None true is part f due = let s = by_line n h q is due in rw (part, s) refl
-  sleeps_by n h q (Some p) true is part f due =
-      let same : p ≡ q = cc in
-      let exact = asleep_by n h q is part (f ∙ ap Some same) in
-      later (not (takes_part plan h.id.0) || is_sent_to_sleep plan h.id.0) _ (equals (time_after (take n run)) (since plan h.id.0 (take n run) + timeout_of plan h.id.0) exact)
+  awake_by : (n : ℕ) (h : Handle) (q : Post) → q ≡ post.Ask asks.Wake h → first_post (k n).now ≡ Some q → was_wanted n h.id.0 ≡ true
+  awake_by n h q is f =
+      let first = is_first (k n).now.manager.clock (k n).now.devices q f in
+      let d = is_due (k n).now.manager.clock first.device q first.due in
+      let x : IdleDevice = first.device in
+      let w = (k n).devices first.place x first.at in
+      let same : post.Ask d.ask x.device ≡ post.Ask asks.Wake h = sym d.is ∙ is in
+      let device : x.device ≡ h = (let z : x.device ≡ h = cc in z) in
+      elim d.why [
+        | inl a ↦
+            let wanted : was_wanted n x.device.id.0 ≡ true = sym (wanted_as plan (take n run) x w.told) ∙ a.1 in
+            subst (λ (y : Handle). was_wanted n y.id.0 ≡ true) device wanted
+        | inr b ↦ absurd (let u = b.0 in let z : ⊥ = cc in z)
+      ]
+
+  -- ---- what a line of the manager posts
+
+  line_at : (n : ℕ) (q : Post) → app_due (k n).now.manager ≡ Some q → (l : PostLine) × (slice_get plan.pnp (k n).now.manager.posted ≡ Some l) × (l.post ≡ q)
+  line_at n q due =
+      let l = line_of (k n).now.manager q due in
+      (l.0, sym (ap (λ ls. slice_get ls (k n).now.manager.posted) (k n).lines) ∙ l.1, l.2)
+
+  sleep_line : (n : ℕ) (h : Handle) (q : Post) → q ≡ post.Ask asks.Sleep h → app_due (k n).now.manager ≡ Some q → is_sent_to_sleep plan h.id.0 ≡ true
+  sleep_line n h q is due =
+      let l = line_at n q due in
+      any_at (λ (y : PostLine). is_sleep_of h.id.0 y.post) plan.pnp (k n).now.manager.posted l.0 l.1 (ap (is_sleep_of h.id.0) (l.2 ∙ is) ∙ equals h.id.0 h.id.0 refl)
+
+  wake_line : (n : ℕ) (h : Handle) (q : Post) → q ≡ post.Ask asks.Wake h → app_due (k n).now.manager ≡ Some q → is_woken_by_line plan h.id.0 ≡ true
+  wake_line n h q is due =
+      let l = line_at n q due in
+      any_at (λ (y : PostLine). is_wake_of h.id.0 y.post) plan.pnp (k n).now.manager.posted l.0 l.1 (ap (is_wake_of h.id.0) (l.2 ∙ is) ∙ equals h.id.0 h.id.0 refl)
+
+  sleeps_by : (n : ℕ) (h : Handle) (q : Post) (o : Option Post) → q ≡ post.Ask asks.Sleep h → first_post (k n).now ≡ o → first_there o (app_due (k n).now.manager) ≡ Some q → sleeps_in_time plan (take n run) h.id.0 ≡ true
+  sleeps_by n h q None is f due = let s = sleep_line n h q is due in either (not (takes_part plan h.id.0)) (is_sent_to_sleep plan h.id.0) (slept_well n h.id.0) s
     where
-      later : (a b : Bool) → b ≡ true → (a || b) ≡ true
-      later true b h = refl
-      later false b h = h
+      either : (a b c : Bool) → b ≡ true → (a || b || c) ≡ true
+      either true b c h = refl
+      either false b c h = rw h refl
+  sleeps_by n h q (Some p) is f due =
+      let same : p ≡ q = cc in
+      third (not (takes_part plan h.id.0)) (is_sent_to_sleep plan h.id.0) (slept_well n h.id.0) (asleep_by n h q is (f ∙ ap Some same))
+    where
+      third : (a b c : Bool) → c ≡ true → (a || b || c) ≡ true
+      third true b c h = refl
+      third false b c h = later b c h
+
+  wakes_by : (n : ℕ) (h : Handle) (q : Post) (o : Option Post) → q ≡ post.Ask asks.Wake h → first_post (k n).now ≡ o → first_there o (app_due (k n).now.manager) ≡ Some q → is_wanted plan (take n run) h.id.0 ≡ true
+  wakes_by n h q None is f due = let s = wake_line n h q is due in either (not (takes_part plan h.id.0)) (is_woken_by_line plan h.id.0) (was_wanted n h.id.0) s
+    where
+      either : (a b c : Bool) → b ≡ true → (a || b || c) ≡ true
+      either true b c h = refl
+      either false b c h = rw h refl
+  wakes_by n h q (Some p) is f due =
+      let same : p ≡ q = cc in
+      third (not (takes_part plan h.id.0)) (is_woken_by_line plan h.id.0) (was_wanted n h.id.0) (awake_by n h q is (f ∙ ap Some same))
+    where
+      third : (a b c : Bool) → c ≡ true → (a || b || c) ≡ true
+      third true b c h = refl
+      third false b c h = later b c h
 
   -- ---- each event
 
-  same_sleep_by : (h g : Handle) (a : Ask) → same_post (post.Ask a g) (post.Ask asks.Sleep h) ≡ true → post.Ask a g ≡ post.Ask asks.Sleep h
-  same_sleep_by h g asks.Sleep e = ap (post.Ask asks.Sleep) ((handle_decides g h).0 e)
-  same_sleep_by h g _ e = absurd (let z : ⊥ = cc in z)
+  ask_is : (a b : Ask) → same_ask a b ≡ true → a ≡ b
+  ask_is a b h = search rules
 
-  same_sleep : (h : Handle) (q : Post) → same_post q (post.Ask asks.Sleep h) ≡ true → q ≡ post.Ask asks.Sleep h
-  same_sleep h (post.Ask a g) e = same_sleep_by h g a e
-  same_sleep h _ e = absurd (let z : ⊥ = cc in z)
+  due_ask : (a : Ask) (h : Handle) (o : Option Post) → same_option same_post o (Some (post.Ask a h)) ≡ true → o ≡ Some (post.Ask a h)
+  due_ask a h None e = absurd (let z : ⊥ = cc in z)
+  due_ask a h (Some (post.Ask b g)) e =
+      let one : b ≡ a = ask_is b a (left_of (same_ask b a) (same_handle g h) e) in
+      let two : g ≡ h = (handle_decides g h).0 (right_of (same_ask b a) (same_handle g h) e) in
+      rw (one, two) refl
+  due_ask a h (Some _) e = absurd (let z : ⊥ = cc in z)
 
-  due_sleep : (h : Handle) (o : Option Post) → same_option same_post o (Some (post.Ask asks.Sleep h)) ≡ true → (q : Post) × (o ≡ Some q) × (q ≡ post.Ask asks.Sleep h)
-  due_sleep h None e = absurd (let z : ⊥ = cc in z)
-  due_sleep h (Some q) e = (q, refl, same_sleep h q e)
-
-  sleeps : (n agent : ℕ) (h : Handle) (answer : Option Handle) → slice_get run n ≡ Some (event.Posted agent (post.Ask asks.Sleep h) answer) → sleeps_in_time plan (take n run) h.id.0 ≡ true
-  sleeps n agent h answer at = elim (comes_by plan m run n (event.Posted agent (post.Ask asks.Sleep h) answer) is_run at) [
+  asked : (n agent : ℕ) (a : Ask) (h : Handle) (answer : Option Handle) → slice_get run n ≡ Some (event.Posted agent (post.Ask a h) answer) → policy_due (k n).now ≡ Some (post.Ask a h)
+  asked n agent a h answer at = elim (comes_by plan m run n (event.Posted agent (post.Ask a h) answer) is_run at) [
     | inl may_come ↦
         let S : State A = state_after plan m (take n run) in
-        let p : Post = post.Ask asks.Sleep h in
+        let p : Post = post.Ask a h in
         let parts : (same_option same_post (due_of m S agent) (Some p) && post_fits plan S agent p) ≡ true = left_of (same_option same_post (due_of m S agent) (Some p) && post_fits plan S agent p) _ may_come in
         let fits : post_fits plan S agent p ≡ true = right_of (same_option same_post (due_of m S agent) (Some p)) (post_fits plan S agent p) parts in
         let manager : agent ≡ 0 = eqb-true agent 0 (left_of (agent == 0) _ (left_of (agent == 0 && _) _ fits)) in
         let due : same_option same_post (due_of m S 0) (Some p) ≡ true = subst (λ a. same_option same_post (due_of m S a) (Some p) ≡ true) manager (left_of (same_option same_post (due_of m S agent) (Some p)) (post_fits plan S agent p) parts) in
-        let q = due_sleep h (due_of m S 0) due in
-        let is : policy_due (k n).now ≡ Some q.0 = sym (due_is plan m policy has run resolved is_run n) ∙ q.1 in
-        sleeps_by n h q.0 (first_post (k n).now) (takes_part plan h.id.0) q.2 refl refl is
+        sym (due_is plan m policy has run resolved is_run n) ∙ due_ask a h (due_of m S 0) due
     | inr t ↦ absurd (let s = t.tick in let z : ⊥ = cc in z)
   ]
 
   asks_law : (n agent : ℕ) (a : Ask) (h : Handle) (answer : Option Handle) → slice_get run n ≡ Some (event.Posted agent (post.Ask a h) answer) → keeps_idle_law plan (take n run) (event.Posted agent (post.Ask a h) answer) ≡ true
-  asks_law n agent asks.Sleep h answer at = sleeps n agent h answer at
+  asks_law n agent asks.Sleep h answer at = sleeps_by n h (post.Ask asks.Sleep h) (first_post (k n).now) refl refl (asked n agent asks.Sleep h answer at)
+  asks_law n agent asks.Wake h answer at = wakes_by n h (post.Ask asks.Wake h) (first_post (k n).now) refl refl (asked n agent asks.Wake h answer at)
   asks_law n agent _ h answer at = refl
 
   posts_law : (n agent : ℕ) (p : Post) (answer : Option Handle) → slice_get run n ≡ Some (event.Posted agent p answer) → keeps_idle_law plan (take n run) (event.Posted agent p answer) ≡ true

@@ -46,8 +46,8 @@ pub record IsDue (now : ℕ) (x : IdleDevice) (q : Post) : Type 0 where
   pub ask : Ask
   pub is : q ≡ post.Ask ask x.device
   pub same : same_ask ask ask ≡ true
-  -- it is woken while it is asleep, or put to sleep while it is idle long enough
-  pub why : ((ask ≡ asks.Wake) × (x.asleep ≡ true)) ⊎ ((ask ≡ asks.Sleep) × (is_idle x ≡ true) × (nat_le (x.since + x.timeout) now ≡ true))
+  -- it is woken while it is asleep with a pending request, or put to sleep while it is idle long enough
+  pub why : ((ask ≡ asks.Wake) × (is_wanted x ≡ true)) ⊎ ((ask ≡ asks.Sleep) × (is_idle x ≡ true) × (nat_le (x.since + x.timeout) now ≡ true))
 
 left_of : (a b : Bool) → (a && b) ≡ true → a ≡ true
 left_of true b h = refl
@@ -59,7 +59,7 @@ right_of false b h = absurd (let z : ⊥ = cc in z)
 
 due_by : (now : ℕ) (x : IdleDevice) (q : Post) (b c : Bool) → is_wanted x ≡ b → (is_idle x && nat_le (x.since + x.timeout) now) ≡ c
     → (if b then Some (post.Ask asks.Wake x.device) else if c then Some (post.Ask asks.Sleep x.device) else None) ≡ Some q → IsDue now x q
-due_by now x q true c e f h = record { ask = asks.Wake; is = (let s : q ≡ post.Ask asks.Wake x.device = cc in s); same = refl; why = inl (refl, left_of x.asleep _ e) }
+due_by now x q true c e f h = record { ask = asks.Wake; is = (let s : q ≡ post.Ask asks.Wake x.device = cc in s); same = refl; why = inl (refl, e) }
 due_by now x q false true e f h = record {
   ask = asks.Sleep;
   is = (let s : q ≡ post.Ask asks.Sleep x.device = cc in s);
@@ -126,7 +126,7 @@ module _ {A : Type 0} (plan : Plan) (m : Meaning A) (policy : A → Option IdleP
       let d_ : ℕ = x.device.id.0 in
       let r : Rests (awake_rest plan d_ (take n run)) (asleep_rest d_ (take n run)) (sequence_of S.pnp d_) = rests_at plan m run resolved is_run d_ w.info w.declared n in
       elim d.why [
-        | inl a ↦ at_rest_free _ S.pnp d_ (r.asleep_is (sym (ap (λ (z : Rest). z.now) w.told.asleep) ∙ a.1))
+        | inl a ↦ at_rest_free _ S.pnp d_ (r.asleep_is (sym (ap (λ (z : Rest). z.now) w.told.asleep) ∙ left_of x.asleep _ a.1))
         | inr b ↦ at_rest_free _ S.pnp d_ (r.awake_is (sym (ap (λ (z : Rest). z.now) w.told.awake) ∙ left_of x.awake _ (left_of (x.awake && _) (not x.hold) b.1)))
       ]
 

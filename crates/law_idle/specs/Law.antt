@@ -30,17 +30,32 @@ abbrev pub is_sleep_of : ℕ → Post → Bool
 is_sleep_of d (post.Ask asks.Sleep n) = n.id.0 == d
 is_sleep_of d _ = false
 
+-- own: a post wakes device d
+abbrev pub is_wake_of : ℕ → Post → Bool
+is_wake_of d (post.Ask asks.Wake n) = n.id.0 == d
+is_wake_of d _ = false
+
 -- own: a line of the pnp block puts device d to sleep
 abbrev pub is_sent_to_sleep : Plan → ℕ → Bool
 is_sent_to_sleep plan d = list_any (λ (l : PostLine). is_sleep_of d l.post) plan.pnp
 
+-- own: a line of the pnp block wakes device d
+abbrev pub is_woken_by_line : Plan → ℕ → Bool
+is_woken_by_line plan d = list_any (λ (l : PostLine). is_wake_of d l.post) plan.pnp
+
 -- own: a device that takes part, and that no line of the pnp block puts to sleep, goes to sleep exactly when it has been
 -- idle for its timeout
 abbrev pub sleeps_in_time : Plan → List Event → ℕ → Bool
-sleeps_in_time plan before d = not (takes_part plan d) || is_sent_to_sleep plan d || time_after before == since plan d before + timeout_of plan d
+sleeps_in_time plan before d =
+    not (takes_part plan d) || is_sent_to_sleep plan d || (is_idle plan d before && time_after before == since plan d before + timeout_of plan d)
 
--- own: when time passes each device rests well, and a posted sleep is in time
+-- own: one that takes part, and that no line of the pnp block wakes, is woken when it is asleep with a pending request
+abbrev pub is_wanted : Plan → List Event → ℕ → Bool
+is_wanted plan before d = not (takes_part plan d) || is_woken_by_line plan d || (is_asleep d before && has_pending d before)
+
+-- own: when time passes each device rests well, a posted sleep is in time, and a posted wake is wanted
 abbrev pub keeps_idle_law : Plan → List Event → Event → Bool
 keeps_idle_law plan before (event.Tick time) = list_all (rests_well plan before) (devices_of plan)
 keeps_idle_law plan before (event.Posted agent (post.Ask asks.Sleep n) answer) = sleeps_in_time plan before n.id.0
+keeps_idle_law plan before (event.Posted agent (post.Ask asks.Wake n) answer) = is_wanted plan before n.id.0
 keeps_idle_law plan before _ = true
