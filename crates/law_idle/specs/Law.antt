@@ -1,5 +1,5 @@
 -- The law on runs in which idle devices sleep: a test of an event by the events before it. (own, after KMDF's S0 idle)
-use Rattle.std.specs.Prelude.{ℕ, ◌+◌, Bool, true, false, ◌==◌, nat_lt, nat_le, not, ◌&&◌, ◌||◌, List}
+use Rattle.std.specs.Prelude.{◌≡◌, ℕ, ◌+◌, Bool, true, false, ◌==◌, nat_lt, nat_le, not, ◌&&◌, ◌||◌, List, Some, slice_get, take}
 use Rattle.std.specs.List.{list_all, list_any}
 use Rattle.wdf_base.specs.declared.plan.Plan.{Plan}
 use Rattle.wdf_base.specs.declared.declared.PostLine.{PostLine}
@@ -59,3 +59,7 @@ keeps_idle_law plan before (event.Tick time) = list_all (rests_well plan before)
 keeps_idle_law plan before (event.Posted agent (post.Ask asks.Sleep n) answer) = sleeps_in_time plan before n.id.0
 keeps_idle_law plan before (event.Posted agent (post.Ask asks.Wake n) answer) = is_wanted plan before n.id.0
 keeps_idle_law plan before _ = true
+
+-- own: each event of a list keeps the law
+abbrev pub KeepsIdleLaw : Plan → List Event → Type 0
+KeepsIdleLaw plan run = (k : ℕ) (e : Event) → slice_get run k ≡ Some e → keeps_idle_law plan (take k run) e ≡ true

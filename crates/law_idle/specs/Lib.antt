@@ -1,4 +1,5 @@
 pub mod Idling
 pub mod Law
+pub mod First
 pub mod Policies
 pub mod Resting

@@ -5,7 +5,8 @@
 
 ghost use Rattle.std.specs.Prelude.{◌≡◌, Some};
 ghost use Rattle.wdf_base.specs.declared.event.Ending.TheVariants as ending;
-ghost use Rattle.law_idle_worked.specs.Shown.{IsIdleRun, first_break};
+ghost use Rattle.law_idle.specs.First.{first_break};
+ghost use Rattle.law_idle_worked.specs.Shown.{IsIdleRun};
 ghost use Rattle.law_idle_worked.specs.Broken.{early, late, forgotten, held, unheard, used, unwanted};
 ghost use Rattle.law_idle_worked.specs.Longest.{IsLongest};
 ghost use Rattle.law_idle_worked.specs.IdleRuns.{sleeps_when_unused_plan, sleeps_when_unused_events, held_awake_plan, held_awake_events, two_timeouts_plan, two_timeouts_events, both_at_one_tick_plan, both_at_one_tick_events, started_plan, started_events, used_for_a_while_plan, used_for_a_while_events, hold_by_device_plan, hold_by_device_events, hold_by_driver_plan, hold_by_driver_events, arrival_before_sleep_plan, arrival_before_sleep_events, arrival_within_sleep_plan, arrival_within_sleep_events, arrival_after_sleep_plan, arrival_after_sleep_events, cancelled_in_sleep_plan, cancelled_in_sleep_events, rebalanced_plan, rebalanced_events, refused_stop_plan, refused_stop_events, refused_removal_plan, refused_removal_events, removed_in_sleep_plan, removed_in_sleep_events, surprised_plan, surprised_events};
@@ -97,37 +98,37 @@ pub fn surprised()
 
 /// A sleep a tick early breaks the law.
 pub fn early_breaks()
-    ensures { first_break sleeps_when_unused_plan early ≡ Some 1 }
+    ensures { first_break sleeps_when_unused_plan early ≡ Some 2 }
 {}
 
 /// So does a tick at which an idle device is past its timeout,
 pub fn late_breaks()
-    ensures { first_break sleeps_when_unused_plan late ≡ Some 2 }
+    ensures { first_break sleeps_when_unused_plan late ≡ Some 3 }
 {}
 
 /// one at which a device is asleep with a pending request,
 pub fn forgotten_breaks()
-    ensures { first_break sleeps_when_unused_plan forgotten ≡ Some 16 }
+    ensures { first_break sleeps_when_unused_plan forgotten ≡ Some 17 }
 {}
 
 /// and a sleep that takes the hold for idle time.
 pub fn held_breaks()
-    ensures { first_break hold_by_device_plan held ≡ Some 7 }
+    ensures { first_break hold_by_device_plan held ≡ Some 8 }
 {}
 
 /// A sleep of a device that is held breaks the law,
 pub fn unheard_breaks()
-    ensures { first_break hold_by_device_plan unheard ≡ Some 3 }
+    ensures { first_break hold_by_device_plan unheard ≡ Some 4 }
 {}
 
 /// one of a device with a pending request,
 pub fn used_breaks()
-    ensures { first_break sleeps_when_unused_plan used ≡ Some 3 }
+    ensures { first_break sleeps_when_unused_plan used ≡ Some 4 }
 {}
 
 /// and a wake for which no request is pending.
 pub fn unwanted_breaks()
-    ensures { first_break sleeps_when_unused_plan unwanted ≡ Some 13 }
+    ensures { first_break sleeps_when_unused_plan unwanted ≡ Some 14 }
 {}
 
 /// A timeout above 1000000 is 1000000.

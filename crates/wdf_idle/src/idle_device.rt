@@ -89,7 +89,7 @@ fn clear(bits: &mut Vec<bool>, id: u32)
 }
 
 /// Whether a post takes a working device away.
-fn ends_awake(ask: Ask) -> bool
+pub fn ends_awake(ask: Ask) -> bool
     ensures { result ≡ model.ends_awake ask }
 {
     matches!(
@@ -99,7 +99,7 @@ fn ends_awake(ask: Ask) -> bool
 }
 
 /// Whether a post takes a sleeping device away.
-fn ends_asleep(ask: Ask) -> bool
+pub fn ends_asleep(ask: Ask) -> bool
     ensures { result ≡ model.ends_asleep ask }
 {
     matches!(ask, Ask::Wake | Ask::Remove | Ask::Surprise)

@@ -21,7 +21,7 @@ fn is_named(plan: &Plan, name: u32, word: &[u8]) -> bool
 }
 
 /// Whether a register is the device's with this name.
-fn is_register_named(plan: &Plan, device: ObjectId, word: &[u8], register: &RegisterInfo) -> bool
+pub fn is_register_named(plan: &Plan, device: ObjectId, word: &[u8], register: &RegisterInfo) -> bool
     ensures { result ≡ model.is_register_named plan.now device.0 word.now register.now }
 {
     same_object_id(register.device, device) && is_named(plan, register.name, word)
@@ -39,7 +39,7 @@ fn find_register(plan: &Plan, device: ObjectId, word: &[u8]) -> Option<usize>
 }
 
 /// The number of the device's register with this name, if it has one.
-fn register_named(plan: &Plan, device: ObjectId, word: &[u8]) -> Option<u32>
+pub fn register_named(plan: &Plan, device: ObjectId, word: &[u8]) -> Option<u32>
     ensures { result ≡ position (model.is_register_named plan.now device.0 word.now) plan.now.registers }
 {
     let _registers = plan.register_len();
@@ -48,7 +48,7 @@ fn register_named(plan: &Plan, device: ObjectId, word: &[u8]) -> Option<u32>
 }
 
 /// What the device's register with this name holds at the opening; 0 where it has none.
-fn opening_value(plan: &Plan, device: ObjectId, word: &[u8]) -> u64
+pub fn opening_value(plan: &Plan, device: ObjectId, word: &[u8]) -> u64
     ensures { result ≡ model.opening_value plan.now device.0 word.now }
 {
     match register_named(plan, device, word) {
@@ -58,7 +58,7 @@ fn opening_value(plan: &Plan, device: ObjectId, word: &[u8]) -> u64
 }
 
 /// After how many idle ticks the device goes to sleep; 0 where it takes no part.
-fn timeout_of(plan: &Plan, device: ObjectId) -> u64
+pub fn timeout_of(plan: &Plan, device: ObjectId) -> u64
     ensures { result ≡ model.timeout_of plan.now device.0 }
 {
     opening_value(plan, device, "IDLE_TIMEOUT".as_bytes()).min(LONGEST_TIMEOUT)
