@@ -7,10 +7,12 @@ Not part of the gate. Build the program first (`./kmdfsim check < examples/first
 
 Eight devices, and 64 to 256 apps that read 16 times each, every ten ticks. One device has an `IDLE_TIMEOUT`, since a name is
 declared once in a text. It is of 3 ticks: once the device is held awake, so that both runs have the same events, and once it isn't,
-so that it sleeps and is woken between the reads. Figures are seconds of the processor, the best of three runs, and microseconds an event.
-Aim: an event of `idle` takes at most 1.2 times one of `order`, and its cost doesn't grow with the apps.
+so that it sleeps and is woken between the reads. Figures are seconds of the processor, the best of three runs, microseconds an
+event, and the exponent of growth of `idle` since the size before: 1.0 says that twice the events take twice the time.
+Aim: an event of `idle` takes at most 1.2 times one of `order`, and the exponent is at most 1.
 """
 
+import math
 import sys
 
 from measure import program_of, run
@@ -46,13 +48,16 @@ def measured(program, words, text):
 def main():
     program = program_of(sys.argv)
     for hold in (1, 0):
+        before = None
         for apps in (64, 128, 256):
             text = scenario(apps, hold)
             (order, usual), (idle, events) = (measured(program, words, text) for words in ("order", "idle"))
             each = idle / events, order / usual
+            grows = f", exponent {math.log(idle / before[0]) / math.log(events / before[1]):.2f}" if before else ""
+            before = idle, events
             print(
                 f"hold {hold}, {apps} apps, {apps * READS} reads: idle {idle:.3f} s, {events} events, {each[0] * 1e6:.2f} us each;"
-                f" order {order:.3f} s, {usual} events, {each[1] * 1e6:.2f} us each; {each[0] / each[1]:.2f} times",
+                f" order {order:.3f} s, {usual} events, {each[1] * 1e6:.2f} us each; {each[0] / each[1]:.2f} times{grows}",
                 flush=True,
             )
 

@@ -21,7 +21,12 @@ fn is_named(plan: &Plan, name: u32, word: &[u8]) -> bool
 }
 
 /// Whether a register is the device's with this name.
-pub fn is_register_named(plan: &Plan, device: ObjectId, word: &[u8], register: &RegisterInfo) -> bool
+pub fn is_register_named(
+    plan: &Plan,
+    device: ObjectId,
+    word: &[u8],
+    register: &RegisterInfo,
+) -> bool
     ensures { result ≡ model.is_register_named plan.now device.0 word.now register.now }
 {
     same_object_id(register.device, device) && is_named(plan, register.name, word)
