@@ -2,7 +2,6 @@ pub mod Steps
 pub mod Since
 pub mod Told
 pub mod Lists
-pub mod Turns
 pub mod Rest
 pub mod RestRuns
 pub mod Meters

@@ -1,5 +1,5 @@
 -- What the words say of a device's rest is so at each place of every run of a resolved plan.
-use Rattle.std.proofs.Common.{◌≡◌, ℕ, zero, suc, ◌+◌, ◌≤◌, Bool, true, false, List, [], ◌∷◌, ◌++◌, ◌⊎◌, inl, inr, Option, Some, None, length, map, slice_get, take, refl, sym, ap, subst, ◌∙◌, arith}
+use Rattle.std.proofs.Common.{◌≡◌, ℕ, zero, suc, ◌+◌, ◌≤◌, Bool, true, false, List, [], ◌∷◌, ◌++◌, Option, Some, None, length, map, slice_get, take, refl, sym, ap, subst, ◌∙◌, arith}
 use Rattle.std.specs.List.{range_with_len}
 use Rattle.wdf_base.specs.Meaning.{Meaning}
 use Rattle.wdf_base.specs.Resolved.{IsResolved}
@@ -16,22 +16,19 @@ use Rattle.wdf_model.specs.Plans.{as_device, device_of}
 use Rattle.wdf_model.specs.parts.Tree.{kind_of, life_of, made_as, nearest_device, node_of}
 use Rattle.wdf_model.specs.parts.Pnp.{no_sequence, opening_sequence, sequence_of}
 use Rattle.wdf_model.specs.State.{State, declared_in}
-use Rattle.wdf_model.specs.rules.Deeds.{do_deeds}
-use Rattle.wdf_model.specs.rules.Steps.{after, deeds, may}
+use Rattle.wdf_model.specs.rules.Steps.{after}
 use Rattle.wdf_model.specs.rules.Ready.{IsRunOf, ready, state_after}
 use Rattle.wdf_model.proofs.Runs.{run_front, take_ended, take_next}
-use Rattle.law_machine_base.specs.FactsOfEvents.{IsTick}
 use Rattle.law_machine_base.proofs.Follows.{state_goes_on}
 use Rattle.law_machine_lives.proofs.SoundRuns.{KnownAll, all_known}
 use Rattle.law_trace_power.proofs.Declares.{is_device, own_device_of}
-use Rattle.law_trace_power.proofs.Laws.{comes_by}
-use Rattle.law_trace_power.proofs.Runs.{kept_at_each, mapped}
+use Rattle.law_trace_power.proofs.Runs.{mapped}
 use Rattle.law_trace_families.proofs.Families.{Family, family_at_each}
+use Rattle.law_trace_turns.proofs.Places.{turned_at}
 use Rattle.law_idle.specs.Idling.{asleep_rest, awake_rest, awake_step}
 use Rattle.law_idle.specs.Resting.{Rests}
 use Rattle.law_idle.proofs.Rest.{rests_on}
 use Rattle.law_idle.proofs.Since.{asleep_more, awake_more}
-use Rattle.law_idle.proofs.Turns.{Still, Turned, counted_too, turns}
 
 -- ---- the opening
 
@@ -99,12 +96,6 @@ module _ {A : Type 0} (plan : Plan) (m : Meaning A) (run : List Event) (resolved
   abbrev RestsAt : ℕ → Type 0
   RestsAt n = Rests (awake_rest plan d (take n run)) (asleep_rest d (take n run)) (sequence_of (at_place n).pnp d)
 
-  turned : (n : ℕ) (e : Event) → (may plan m (at_place n) e ≡ true) ⊎ IsTick m (at_place n) (ready plan m (take n run)) e → Turned (at_place n) (after plan m (at_place n) e) e
-  turned n e (inl h) =
-      let S : State A = at_place n in
-      counted_too m e S (do_deeds plan (deeds plan S e) S) e (turns plan m S (take n run) resolved (all_known plan m (take n run) (run_front (ready plan m) run n is_run)) (kept_at_each plan m run resolved is_run n) e h)
-  turned n e (inr t) = subst (λ x. Turned (at_place n) (after plan m (at_place n) x) x) (sym t.tick) (Still refl refl)
-
   near_at : (n : ℕ) (o : ℕ) → is_gone (life_of (at_place n).tree o) ≡ false → o ≡ d → nearest_device (at_place n).tree o ≡ d
   near_at n o lives is =
       subst (λ x. nearest_device (at_place n).tree x ≡ d) (sym is)
@@ -117,7 +108,7 @@ module _ {A : Type 0} (plan : Plan) (m : Meaning A) (run : List Event) (resolved
       (subst (λ (U : State A). Rests (awake_rest plan d (take n run ++ e ∷ [])) (asleep_rest d (take n run ++ e ∷ [])) (sequence_of U.pnp d)) (sym (state_goes_on plan m (take n run) e))
       (subst (λ W. Rests W (asleep_rest d (take n run ++ e ∷ [])) (sequence_of (after plan m (at_place n) e).pnp d)) (sym (awake_more plan d (take n run) e))
       (subst (λ Z. Rests (awake_step d (awake_rest plan d (take n run)) e) Z (sequence_of (after plan m (at_place n) e).pnp d)) (sym (asleep_more d (take n run) e))
-      (rests_on (at_place n) (after plan m (at_place n) e) d (awake_rest plan d (take n run)) (asleep_rest d (take n run)) (near_at n) k e (turned n e (comes_by plan m run n e is_run at))))))
+      (rests_on (at_place n) (after plan m (at_place n) e) d (awake_rest plan d (take n run)) (asleep_rest d (take n run)) (near_at n) k e (turned_at plan m run resolved is_run n e at)))))
 
   pub rests_at : (n : ℕ) → RestsAt n
   rests_at zero = rests_first plan m d info at_plan

@@ -1,13 +1,24 @@
 mod Alike
+mod Chains
 mod Connectors
 mod Counting
 mod Dues
+mod Firsts
 pub mod Heard
 mod Held
+mod Knowing
+mod Leading
 mod Levels
+mod Lines
+mod Members
 mod Openings
-pub mod Served
+pub mod Ordered
+mod Orders
 pub mod Requests
+mod Rising
+mod Sequences
+pub mod Served
 mod Steps
 mod Targets
+mod Turning
 mod Undone

@@ -32,12 +32,12 @@ past_range f a zero t h = refl
 past_range f a (suc n) zero h = absurd (omega (arith, h))
 past_range f a (suc n) (suc t) h = past_range f (a + 1) n t (omega (arith, h))
 
-none_past : {T : Type 0} (xs : List T) (k : ℕ) → length xs ≤ k → slice_get xs k ≡ None
+pub none_past : {T : Type 0} (xs : List T) (k : ℕ) → length xs ≤ k → slice_get xs k ≡ None
 none_past [] k h = refl
 none_past (x ∷ xs) zero h = absurd (omega (arith, h))
 none_past (x ∷ xs) (suc k) h = none_past xs k (omega (arith, h))
 
-within : {T : Type 0} (xs : List T) (k : ℕ) (x : T) → slice_get xs k ≡ Some x → k < length xs
+pub within : {T : Type 0} (xs : List T) (k : ℕ) (x : T) → slice_get xs k ≡ Some x → k < length xs
 within [] k x h = absurd (let z : ⊥ = cc in z)
 within (y ∷ xs) zero x h = omega arith
 within (y ∷ xs) (suc k) x h = let l = within xs k x h in omega (arith, l)

@@ -1,6 +1,6 @@
 //! The laws on stacks of devices, by the events of a run alone, and that every run with the agents of the word `stack` keeps
-//! those on requests. What a driver writer has of it: a request that goes down through several drivers is completed at most
-//! once at each level, and once where the device of that level was destroyed.
+//! them. What a driver writer has of it: a request that goes down through several drivers is completed at most once at each
+//! level, and once where the device of that level was destroyed. A stack comes up from the bottom and goes down from the top.
 #![tactic(auto)]
 
 ghost use Rattle.std.specs.Prelude.{◌≡◌, ◌≤◌, ◌<◌, ℕ, suc, true, count_by, List, Some, slice_get, take};
@@ -14,7 +14,7 @@ ghost use Rattle.wdf_model.specs.rules.Ready.{IsRunOf};
 ghost use Rattle.law_machine_base.specs.OverRuns.{completes};
 ghost use Rattle.law_stack.specs.Agents.{IsStackMeaning};
 ghost use Rattle.law_stack.specs.Descents.{GoesDown, IsBelow, arrives_at};
-ghost use Rattle.law_stack.specs.Laws.{request_law};
+ghost use Rattle.law_stack.specs.Laws.{order_law, request_law, stack_law};
 ghost use Rattle.wdf_stack.specs.Agents.{stack_meaning};
 
 /// Every run of a plan with the agents of the word `stack` keeps the laws on requests at each place. Each arrival by a
@@ -22,6 +22,12 @@ ghost use Rattle.wdf_stack.specs.Agents.{stack_meaning};
 /// cause in the events before it, with that status.
 pub fn requests_go_down_and_come_up<A>()
     ensures { (plan : Plan) (m : Meaning A) (run : List Event) (k : ℕ) (e : Event) → IsStackMeaning m → IsRunOf plan m run → slice_get run k ≡ Some e → request_law plan (take k run) e ≡ true }
+{}
+
+/// Every run of a resolved plan with these agents keeps the law on order at each place. A device is asked to start or wake only
+/// while the one below it is Working, and to sleep or go only while the one above it isn't.
+pub fn stacks_come_up_and_go_down_in_order<A>()
+    ensures { (plan : Plan) (m : Meaning A) (run : List Event) (k : ℕ) (e : Event) → IsStackMeaning m → IsResolved plan → IsRunOf plan m run → slice_get run k ≡ Some e → order_law plan (take k run) e ≡ true }
 {}
 
 /// A request that is any number of levels below another is completed at most once.
@@ -36,8 +42,10 @@ pub fn each_level_completes_once<A>()
         → down.place < j → slice_get run j ≡ Some (event.Destroy d) → count_by (completes x) run ≡ 1 }
 {}
 
-/// The agents of the program's word `stack` are such agents. So its runs keep the laws on requests at each place.
-pub fn runs_of_stack_go_down_and_come_up()
+/// The agents of the program's word `stack` are such agents. So its runs keep the laws on requests at each place, and those of a
+/// resolved plan keep all laws on stacks.
+pub fn runs_of_stack_keep_its_laws()
     ensures agents { IsStackMeaning stack_meaning }
     ensures requests { (plan : Plan) (run : List Event) (k : ℕ) (e : Event) → IsRunOf plan stack_meaning run → slice_get run k ≡ Some e → request_law plan (take k run) e ≡ true }
+    ensures all { (plan : Plan) (run : List Event) (k : ℕ) (e : Event) → IsResolved plan → IsRunOf plan stack_meaning run → slice_get run k ≡ Some e → stack_law plan (take k run) e ≡ true }
 {}

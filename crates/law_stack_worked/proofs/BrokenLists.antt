@@ -3,7 +3,8 @@ use Rattle.std.proofs.Common.{◌≡◌, false, refl}
 use Rattle.law_stack.specs.Laws.{keeps_stack_laws}
 use Rattle.law_stack.specs.Words.{passings, works}
 use Rattle.law_stack_worked.specs.Broken.{arrives_unsent, arrives_twice, done_before_arrival, done_with_another_status, done_before_completion, starts_from_the_top, removed_from_the_bottom}
-use Rattle.law_stack_worked.specs.StackRuns.{status_comes_up_plan, starts_from_the_bottom_plan, the_middle_device_is_removed_plan}
+use Rattle.law_stack_worked.specs.StackOrders.{starts_from_the_bottom_plan, the_middle_device_is_removed_plan}
+use Rattle.law_stack_worked.specs.StackRequests.{status_comes_up_plan}
 
 pub arrives_unsent_breaks : keeps_stack_laws status_comes_up_plan arrives_unsent ≡ false
 unfolding keeps_stack_laws passings works

@@ -11,7 +11,7 @@ use Rattle.wdf_base.specs.declared.value.Value.TheVariants.{Num, Obj, Stat}
 use Rattle.wdf_base.specs.declared.plan.Plan.{Plan}
 use Rattle.law_machine_worked.specs.Writing.{h, p, c, at}
 use Rattle.wdf_base.specs.declared.script.AgentInfo.{AgentInfo}
-use Rattle.law_stack_worked.specs.StackRuns.{status_comes_up_plan}
+use Rattle.law_stack_worked.specs.StackRequests.{status_comes_up_plan}
 
 -- an app that posts two reads at once, and has 4,093 more for a tick that the run doesn't reach
 abbrev pub with_lines : List AgentInfo → List AgentInfo

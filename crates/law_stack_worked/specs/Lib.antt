@@ -1,4 +1,5 @@
 pub mod Shown
-pub mod StackRuns
+pub mod StackRequests
+pub mod StackOrders
 pub mod Broken
 pub mod LastArrival

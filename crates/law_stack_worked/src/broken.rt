@@ -2,7 +2,8 @@
 ghost use Rattle.std.specs.Prelude.{◌≡◌, false};
 ghost use Rattle.law_stack.specs.Laws.{keeps_stack_laws};
 ghost use Rattle.law_stack_worked.specs.Broken as lists;
-ghost use Rattle.law_stack_worked.specs.StackRuns.{status_comes_up_plan, starts_from_the_bottom_plan, the_middle_device_is_removed_plan};
+ghost use Rattle.law_stack_worked.specs.StackOrders.{starts_from_the_bottom_plan, the_middle_device_is_removed_plan};
+ghost use Rattle.law_stack_worked.specs.StackRequests.{status_comes_up_plan};
 
 /// An arrival without a Send breaks the first law.
 pub fn arrives_unsent()

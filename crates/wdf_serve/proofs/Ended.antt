@@ -9,8 +9,7 @@ use Rattle.wdf_base.specs.declared.event.Fault.{Fault}
 use Rattle.wdf_model.specs.rules.Ready.{ending_of, IsRunOf}
 use Rattle.law_trace_all.proofs.Together.{all_kept}
 use Rattle.law_idle.proofs.Program.{idle_runs_keep_law}
-use Rattle.law_stack.proofs.Requests.{requests_keep}
-use Rattle.law_stack.proofs.Served.{stack_agents_are}
+use Rattle.law_stack.proofs.Served.{stack_runs_keep_laws}
 use Rattle.wdf_io.specs.Outside.{Gains}
 use Rattle.wdf_plan.specs.Plans.{plan_of}
 use Rattle.wdf_output.specs.Endings.{status_of}
@@ -27,7 +26,7 @@ use Rattle.wdf_top.proofs.Statuses.{differs}
 own_kept : (a : RunAgents) (plan : Plan) (run : List Event) → IsResolved plan → IsRunOf plan (meaning_of a) run → KeepsAgentLaws a plan run
 own_kept Usual plan run resolved runs = tt
 own_kept Idle plan run resolved runs = λ k e at. idle_runs_keep_law plan run k e resolved runs at
-own_kept Stacked plan run resolved runs = λ k e at. requests_keep plan (meaning_of Stacked) run k e stack_agents_are runs at
+own_kept Stacked plan run resolved runs = λ k e at. stack_runs_keep_laws plan run k e resolved runs at
 
 -- an answer to the whole input with the status of an end is a run that was written
 of_answer : (a : RunAgents) (by : Picking) (s : Sourcing) (k : Sinking) (answer : ℕ) (input text : List ℕ) (status : ℕ) → IsRead s input → Answers (running (meaning_of a) by) input text status

@@ -11,7 +11,7 @@ use Rattle.wdf_output.specs.Endings.{status_of}
 use Rattle.wdf_output.specs.Said.{Sinking}
 use Rattle.law_trace_all.specs.Kept.{KeepsLaws}
 use Rattle.law_idle.specs.Law.{KeepsIdleLaw}
-use Rattle.law_stack.specs.Laws.{request_law}
+use Rattle.law_stack.specs.Laws.{stack_law}
 use Rattle.wdf_top.specs.Agents.{RunAgents, Usual, Idle, Stacked, meaning_of}
 use Rattle.wdf_top.specs.Answers.{HasPlan, IsRunBy, Picking}
 use Rattle.wdf_top.specs.Top.{Sourcing, IsRead}
@@ -20,10 +20,11 @@ use Rattle.wdf_top.specs.Top.{Sourcing, IsRead}
 abbrev pub is_end_status : ℕ → Bool
 is_end_status n = n == 0 || n == 3 || n == 4 || n == 5
 
--- each event of a run with stacks of devices keeps the laws on requests that go down a stack: each arrival by a connector
--- belongs to a Send, and each `done` by one has its cause in the events before it
+-- each event of a run with stacks of devices keeps the laws on stacks: each arrival by a connector belongs to a Send; each
+-- `done` by one has its cause in the events before it; a device is asked to start or wake only while the one below it works,
+-- and to sleep or go only while the one above it doesn't
 abbrev pub KeepsStackLaws : Plan → List Event → Type 0
-KeepsStackLaws plan run = (k : ℕ) (e : Event) → slice_get run k ≡ Some e → request_law plan (take k run) e ≡ true
+KeepsStackLaws plan run = (k : ℕ) (e : Event) → slice_get run k ≡ Some e → stack_law plan (take k run) e ≡ true
 
 -- The laws that runs with these agents keep beside the nine. With the idle policy: when time passes no device sleeps with a
 -- pending request, none that is idle is awake past its timeout, each goes to sleep exactly when it has been idle that long, and

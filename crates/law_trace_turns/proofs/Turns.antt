@@ -1,5 +1,5 @@
 -- What an event does to the steps of devices, by what event it is.
-use Rattle.std.proofs.Common.{◌≡◌, ℕ, ◌≤◌, Bool, true, false, not, ◌&&◌, List, [], ◌∷◌, ◌++◌, Option, Some, None, drop, refl, sym, ap, subst, ◌∙◌}
+use Rattle.std.proofs.Common.{◌≡◌, ℕ, ◌≤◌, Bool, true, false, not, ◌&&◌, List, [], ◌∷◌, ◌++◌, Option, Some, None, refl, sym, ap, subst, ◌∙◌}
 use Rattle.wdf_base.specs.Meaning.{Meaning}
 use Rattle.wdf_base.specs.Resolved.{IsResolved}
 use Rattle.wdf_base.specs.declared.ids.Cpu.{Cpu}
@@ -54,31 +54,7 @@ use Rattle.law_trace_power.proofs.Frames.{Runs}
 use Rattle.law_trace_power.proofs.Happens.{found_pass, found_run, not_running}
 use Rattle.law_trace_power.proofs.Events.{Kept, staged}
 use Rattle.wdf_model.proofs.FrameCounts.{on}
-
-abbrev pub is_asking : Post → Bool
-is_asking (post.Ask a n) = true
-is_asking _ = false
-
--- an event that the words on rest may look at
-abbrev pub is_turning : Event → Bool
-is_turning (event.Stage n s j) = true
-is_turning (event.Posted agent p answer) = is_asking p
-is_turning (event.End cpu c o v) = is_sequence (row_of c).rank
-is_turning _ = false
-
-pub data Turned {A : Type 0} (S U : State A) (e : Event) : Type 0 where
-  -- nothing of devices
-  Still : is_turning e ≡ false → U.pnp ≡ S.pnp → Turned S U e
-  -- a step's callback begins
-  Begun : (n : ℕ) (c : Callback) (j : Option Handle) → is_turning e ≡ false → running_step S.pnp n ≡ None → steps_left S.pnp n ≡ step.Run c j ∷ drop 1 (steps_left S.pnp n) → U.pnp ≡ pnp.taken S.pnp n → Turned S U e
-  -- or ends
-  Ended : (cpu : Cpu) (c : Callback) (o : Handle) (v : Value) (j l : Option Handle) → e ≡ event.End cpu c o v → is_gone (life_of S.tree o.id.0) ≡ false
-      → running_step S.pnp (nearest_device S.tree o.id.0) ≡ Some (step.Run c j) → U.pnp ≡ pnp.ended S.pnp (nearest_device S.tree o.id.0) (step.Run c l) v → Turned S U e
-  -- a stage is passed
-  Passed : (n : Handle) (s : Stage) (j : Option Handle) → e ≡ event.Stage n s j → running_step S.pnp n.id.0 ≡ None → steps_left S.pnp n.id.0 ≡ step.Pass s j ∷ drop 1 (steps_left S.pnp n.id.0)
-      → U.pnp ≡ pnp.taken S.pnp n.id.0 → Turned S U e
-  -- something is asked of a device
-  Asked : (agent : ℕ) (a : Ask) (n : Handle) (answer : Option Handle) → e ≡ event.Posted agent (post.Ask a n) answer → busy S.pnp n.id.0 ≡ false → U.pnp ≡ pnp.ask S.pnp n.id.0 a → Turned S U e
+use Rattle.law_trace_turns.specs.Turned.{Asked, Begun, Ended, Passed, Still, Turned, is_turning}
 
 -- the count of an event turns nothing
 pub counted_too : {A : Type 0} (m : Meaning A) (f : Event) (S U : State A) (e : Event) → Turned S U e → Turned S (counted m f U) e
