@@ -1,2 +1,7 @@
 pub mod Rest
-pub mod Posted
+pub mod Agents
+pub mod Lines
+pub mod Devices
+pub mod Itself
+pub mod Arrived
+pub mod Due

@@ -1,5 +1,5 @@
 -- Where a run has finished or is stuck, nothing waits for time, and nothing that may come is due.
-use Rattle.std.proofs.Common.{◌≡◌, ◌⊎◌, inl, inr, ℕ, zero, suc, ◌+◌, ◌<◌, ◌==◌, Bool, true, false, not, ◌&&◌, ◌||◌, List, [], ◌∷◌, length, Option, Some, None, is_some, slice_get, refl, sym, ap, ◌∙◌, subst, arith}
+use Rattle.std.proofs.Common.{◌≡◌, ◌⊎◌, inl, inr, ℕ, zero, suc, ◌<◌, ◌==◌, Bool, true, false, ◌&&◌, ◌||◌, List, [], ◌∷◌, length, Option, Some, None, is_some, slice_get, refl, sym, ap, ◌∙◌}
 use Rattle.std.specs.Prelude.{option_and_then, option_map}
 use Rattle.std.specs.List.{list_any}
 use Rattle.std.proofs.lemmas.Bool.{and_from, cases_Bool}
@@ -11,7 +11,6 @@ use Rattle.wdf_base.specs.declared.event.Ask.TheVariants as ask
 use Rattle.wdf_base.specs.declared.ids.Handle.{Handle}
 use Rattle.wdf_base.specs.declared.plan.Plan.{Plan}
 use Rattle.wdf_base.specs.declared.event.Event.{Event}
-use Rattle.wdf_base.specs.declared.event.Event.TheVariants as event
 use Rattle.wdf_base.specs.declared.event.Ending.TheVariants as ending
 use Rattle.wdf_base.specs.declared.event.Action.{Action}
 use Rattle.wdf_base.specs.declared.event.Action.TheVariants as action
@@ -22,7 +21,7 @@ use Rattle.wdf_model.specs.parts.Deferred.Timers.{any_later_timer}
 use Rattle.wdf_model.specs.State.{State}
 use Rattle.wdf_model.specs.rules.Groups.{posted}
 use Rattle.wdf_model.specs.rules.Posts.{due_of, may_post, post_answer, post_fits}
-use Rattle.wdf_model.specs.rules.Ready.{any_spends, ending_of, state_after, waits_for_time}
+use Rattle.wdf_model.specs.rules.Ready.{any_spends, ending_of, state_after}
 use Rattle.wdf_model.proofs.Sames.{handle_decides, status_decides}
 use Rattle.wdf_model.proofs.Tests.{itself}
 use Rattle.law_stuck_causes.proofs.Endings.{AtRest, at_rest, may_not}

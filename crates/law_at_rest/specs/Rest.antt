@@ -1,12 +1,18 @@
 -- What is so of a state in which nothing may come before the limit of events. (own)
-use Rattle.std.specs.Prelude.{◌≡◌, ◌⊎◌, ◌≤◌, ℕ, false, List, length, Option, None, Some, slice_get}
+use Rattle.std.specs.Prelude.{◌≡◌, ◌⊎◌, ◌≤◌, ℕ, true, false, ⊤, length, None, Some, slice_get}
 use Rattle.wdf_base.specs.Meaning.{Meaning}
 use Rattle.wdf_base.specs.Plan.{posts_of}
 use Rattle.wdf_base.specs.declared.plan.Plan.{Plan}
 use Rattle.wdf_base.specs.declared.declared.PostLine.{PostLine}
+use Rattle.wdf_base.specs.declared.event.Ask.{Ask}
 use Rattle.wdf_base.specs.declared.event.Post.{Post}
+use Rattle.wdf_base.specs.declared.event.Post.TheVariants as post
+use Rattle.wdf_base.specs.declared.ids.Handle.{Handle}
+use Rattle.wdf_model.specs.declared.entries.DeviceAction.{DeviceAction}
 use Rattle.wdf_model.specs.agents.App as app
+use Rattle.wdf_model.specs.agents.Device.{Device}
 use Rattle.wdf_model.specs.parts.Deferred.Timers.{any_later_timer}
+use Rattle.wdf_model.specs.parts.Pnp.{busy}
 use Rattle.wdf_model.specs.State.{State}
 use Rattle.wdf_model.specs.rules.Posts.{due_of, post_fits}
 use Rattle.wdf_model.specs.rules.Ready.{any_spends}
@@ -24,16 +30,29 @@ pub record NothingComes {A : Type 0} (plan : Plan) (m : Meaning A) (S : State A)
   -- what an agent has due doesn't fit the machine's table of posts
   pub posts : (k : ℕ) (p : Post) → due_of m S k ≡ Some p → post_fits plan S k p ≡ false
 
--- all the lines of agent k have been posted; or the next of them is due, and can't come
-abbrev pub HasPosted : {A : Type 0} → Plan → State A → ℕ → app.App → Type 0
-HasPosted plan S k p = (length (posts_of plan k) ≤ p.posted) ⊎ ((l : PostLine) × (slice_get (posts_of plan k) p.posted ≡ Some l) × (post_fits plan S k l.post ≡ false))
+-- an app, whose agent has this number, has posted all its lines
+abbrev pub HasPosted : Plan → ℕ → app.App → Type 0
+HasPosted plan k p = length (posts_of plan k) ≤ p.posted
 
--- The manager and the apps have posted their lines. What a target is to be done with isn't said here.
-abbrev pub HasPostedAs : Plan → State AnyAgent → ℕ → AnyAgent → Type 0
-HasPostedAs plan S k (agent.PnpManager p) = HasPosted plan S k p
-HasPostedAs plan S k (agent.App p) = HasPosted plan S k p
-HasPostedAs plan S k _ = Unit {0}
+-- a post asks a device for a sequence while one of that device is under way: a step is left, or its callback runs
+abbrev pub IsAskedOfBusy : {A : Type 0} → State A → Post → Type 0
+IsAskedOfBusy S q = (a : Ask) × (d : Handle) × (q ≡ post.Ask a d) × (busy S.pnp d.id.0 ≡ true)
 
--- Each agent, by its number, has posted its lines.
-abbrev pub HasPostedAll : Plan → State AnyAgent → Type 0
-HasPostedAll plan S = (k : ℕ) (a : AnyAgent) → slice_get S.agents k ≡ Some a → HasPostedAs plan S k a
+-- the Plug and Play manager has posted all its lines, or the next of them is for a device that isn't done
+abbrev pub HasAsked : {A : Type 0} → Plan → State A → app.App → Type 0
+HasAsked plan S p = HasPosted plan 0 p ⊎ ((l : PostLine) × (slice_get (posts_of plan 0) p.posted ≡ Some l) × IsAskedOfBusy S l.post)
+
+-- a device has no action left: none of its lines has a tick at which it is to act
+abbrev pub HasActed : Device → Type 0
+HasActed d = (j : ℕ) (l : DeviceAction) → slice_get d.actions j ≡ Some l → l.tick ≡ None
+
+-- The agent with this number has nothing left to post. Of what a target is to be done with nothing is said here.
+abbrev pub IsOver : {A : Type 0} → Plan → State A → ℕ → AnyAgent → Type 0
+IsOver plan S k (agent.PnpManager p) = HasAsked plan S p
+IsOver plan S k (agent.App p) = HasPosted plan k p
+IsOver plan S k (agent.Device d) = HasActed d
+IsOver plan S k (agent.LowerTarget t) = ⊤
+
+-- Each agent has nothing left to post.
+abbrev pub AllOver : Plan → State AnyAgent → Type 0
+AllOver plan S = (k : ℕ) (a : AnyAgent) → slice_get S.agents k ≡ Some a → IsOver plan S k a

@@ -2,19 +2,22 @@
 //!
 //! # Choices
 //!
-//! - **Why is it not said that no post is due?** A post may be due that can't come: of the Plug and Play manager while the
-//!   device has a sequence under way, or an arrival where 4,096 requests have arrived. What is due is said to be
-//!   such a one: it doesn't fit, by the machine's table of posts. A cancel always fits, so none is due.
+//! - **Why is it not said that no post is due, of any agents?** A post may be due that can't come: of the Plug and Play
+//!   manager while the device has a sequence under way, or an arrival where 4,096 requests have arrived. What is due is
+//!   said to be such a one: it doesn't fit, by the machine's table of posts. A cancel always fits, so none is due.
+//! - **Why is more said of the program's agents?** A resolved plan has at most 4,096 lines that post. So no more requests
+//!   arrive than there is room for, and a post of an app, or of a device, always fits.
 #![tactic(auto)]
 
 ghost use Rattle.std.specs.Prelude.{◌≡◌, ◌⊎◌, List};
 ghost use Rattle.wdf_base.specs.Meaning.{Meaning};
+ghost use Rattle.wdf_base.specs.Resolved.{IsResolved};
 ghost use Rattle.wdf_base.specs.declared.plan.Plan.{Plan};
 ghost use Rattle.wdf_base.specs.declared.event.Event.{Event};
 ghost use Rattle.wdf_base.specs.declared.event.Ending.TheVariants as ending;
 ghost use Rattle.wdf_model.specs.rules.Ready.{IsRunOf, ending_of, state_after};
 ghost use Rattle.wdf_dev.specs.Agents.{agent_meaning};
-ghost use Rattle.law_at_rest.specs.Rest.{HasPostedAll, NothingComes};
+ghost use Rattle.law_at_rest.specs.Rest.{AllOver, NothingComes};
 
 /// Where a run has finished or is stuck, no frame spends time, and no timer and no agent waits for a later tick. What an
 /// agent has due doesn't fit the machine's table of posts, so it can't come. It holds for any plan and any agents.
@@ -23,10 +26,11 @@ pub fn nothing_comes<A>()
         → NothingComes plan m (state_after plan m run) }
 {}
 
-/// With the agents of `wdf_dev`, where a run has finished or is stuck, the Plug and Play manager and each app has posted all
-/// its lines, or has one due that can't come. No device has an action due or later.
+/// With the agents of `wdf_dev`, where a run of a resolved plan has finished or is stuck, each app has posted all its lines,
+/// and no device has an action due or later. The Plug and Play manager has posted all its lines; or the next one is for a
+/// device that isn't done with the sequence before it.
 pub fn lines_are_posted()
-    ensures { (plan : Plan) (run : List Event) → IsRunOf plan agent_meaning run
+    ensures { (plan : Plan) (run : List Event) → IsResolved plan → IsRunOf plan agent_meaning run
         → (ending_of plan agent_meaning run ≡ ending.Finished) ⊎ (ending_of plan agent_meaning run ≡ ending.Stuck)
-        → HasPostedAll plan (state_after plan agent_meaning run) }
+        → AllOver plan (state_after plan agent_meaning run) }
 {}

@@ -34,7 +34,7 @@ use Rattle.wdf_model.specs.rules.Starts.{level_fits}
 use Rattle.wdf_model.specs.rules.Waits.{ahead, by_frame_on, cause_if, cpu_of_dpc, deferred_cause, deferred_line, device_line, dpc_cause, first_cause, frame_line, head_lock, no_cpu, object_line, queue_scope_held, queued_cause, request_line, returning_cause, scope_is_held, sequence_line, work_cause}
 use Rattle.wdf_model.proofs.Counts.{count_no, count_yes}
 use Rattle.wdf_model.proofs.Tests.{itself}
-use Rattle.law_machine_base.specs.OverRuns.{PlacesAgree}
+use Rattle.law_machine_base.specs.OverRuns.{FramesAgree, PlacesAgree}
 use Rattle.law_stuck_causes.specs.Causes.{is_before, keeps_deferred, keeps_dpc, keeps_queued, keeps_returning, keeps_work, runs_on}
 use Rattle.law_stuck_causes.proofs.EachLine.{OfLines}
 use Rattle.law_stuck_causes.proofs.Forms.{lock_held, none_left, not_fits, while_on}
@@ -42,27 +42,12 @@ use Rattle.law_stuck_causes.proofs.Gives.{IfThere, any_has}
 use Rattle.law_stuck_causes.proofs.Members.{has_id}
 use Rattle.law_stuck_causes.proofs.Needs.{no_count}
 use Rattle.law_stuck_blame.specs.Blame.{comes_before, is_blamed, place_in_row}
-use Rattle.law_stuck_blame.proofs.Rows.{InPlace, no_later, placed_if, placed_map, there_if, there_least}
-
--- no cause that comes before the one that is found is so
-abbrev pub IsFirstOf : (Cause → Bool) → (Cause → ℕ) → Option Cause → Type 0
-IsFirstOf so place o = (x y : Cause) → o ≡ Some x → nat_lt (place y) (place x) ≡ true → so y ≡ false
-
--- a cause is there at its place of the row
-abbrev IsThere : (Cause → ℕ) → List (Option Cause) → Cause → Type 0
-IsThere place os y = (o : Option Cause) × (k : ℕ) × (place y ≡ k) × (slice_get os k ≡ Some o) × (is_some o ≡ true)
-
--- where each cause that is so is there at its place, the first one is the first that is so
-first_in : (so : Cause → Bool) (place : Cause → ℕ) (os : List (Option Cause)) → InPlace place 0 os → ((y : Cause) → so y ≡ true → IsThere place os y) → IsFirstOf so place (first_cause os)
-first_in so place os row there x y found before =
-    elim (cases_Bool (so y)) [
-      | inl there_so ↦
-          let at = there y there_so in
-          let late : place x ≤ 0 + at.1 = no_later place 0 os x row found at.1 at.0 at.3 at.4 in
-          let early : place y < place x = ltb-true (place y) (place x) before in
-          absurd (omega (arith, late, early, at.2))
-      | inr off ↦ off
-    ]
+use Rattle.law_stuck_blame.proofs.Ahead.{some_ahead}
+use Rattle.law_stuck_blame.proofs.Rows.{IsFirstOf, IsThere, first_in, placed_if, placed_map, there_if, there_least}
+use Rattle.law_stuck_blame.proofs.There.{frame_on, some_least}
+use Rattle.law_stuck_blame.proofs.FirstFrames.{frame_first}
+use Rattle.law_stuck_blame.proofs.FirstObjects.{object_first}
+use Rattle.law_stuck_blame.proofs.FirstDevices.{next_first, running_first}
 
 -- ---- requests that wait in a queue
 
@@ -70,41 +55,6 @@ powered_by : (managed up : Bool) → (managed && not up) ≡ true → not (not m
 powered_by true true h = h
 powered_by true false h = refl
 powered_by false up h = h
-
-later_by : (x z r : ℕ) (zs : List ℕ) (b : Bool) → (z == x) ≡ b → is_before x r (z ∷ zs) ≡ true → (is_before x r zs ≡ true → contains r zs ≡ true) → contains r zs ≡ true
-later_by x z r zs true e h rest = rw e at h
-later_by x z r zs false e h rest = rest (rw e at h)
-
-contains_by : (z r : ℕ) (zs : List ℕ) (b : Bool) → (z == r) ≡ b → contains r zs ≡ true → contains r (z ∷ zs) ≡ true
-contains_by z r zs true e h = rw e refl
-contains_by z r zs false e h = rw e h
-
--- what another comes before is in the list
-later : (x r : ℕ) (zs : List ℕ) → is_before x r zs ≡ true → contains r zs ≡ true
-later x r [] h = absurd (let z : ⊥ = cc in z)
-later x r (z ∷ zs) h = contains_by z r zs (z == r) refl (later_by x z r zs (z == x) refl h (later x r zs))
-
-later_in_rest : (x z r : ℕ) (zs : List ℕ) → is_before x r (z ∷ zs) ≡ true → contains r zs ≡ true
-later_in_rest x z r zs h = later_by x z r zs (z == x) refl h (later x r zs)
-
-counted : (r : ℕ) (zs : List ℕ) → contains r zs ≡ true → 1 ≤ count_by (λ y. y == r) zs
-counted r [] h = absurd (let z : ⊥ = cc in z)
-counted r (z ∷ zs) h = by (z == r) refl (counted r zs)
-  where
-    by : (b : Bool) → (z == r) ≡ b → (contains r zs ≡ true → 1 ≤ count_by (λ y. y == r) zs) → 1 ≤ count_by (λ y. y == r) (z ∷ zs)
-    by true e rest = omega (arith, count_yes (λ y. y == r) z zs e)
-    by false e rest = omega (arith, count_no (λ y. y == r) z zs e, rest (rw e at h))
-
--- where another comes before a request that is there once, something is ahead of it
-some_ahead : (x r : ℕ) (zs : List ℕ) → count_by (λ y. y == r) zs ≤ 1 → is_before x r zs ≡ true → take_while (λ y. not (y == r)) zs ≡ [] → ⊥
-some_ahead x r [] once h none = let z : ⊥ = cc in z
-some_ahead x r (z ∷ zs) once h none = by (z == r) refl
-  where
-    by : (b : Bool) → (z == r) ≡ b → ⊥
-    by true e =
-        let again : 1 ≤ count_by (λ y. y == r) zs = counted r zs (later_in_rest x z r zs h) in
-        absurd (omega (arith, once, again, count_yes (λ y. y == r) z zs e))
-    by false e = let z : ⊥ = cc (sym (while_on r z zs e) ∙ none) in z
 
 module _ {A : Type 0} (plan : Plan) (S : State A) (q r : ℕ) where
   abbrev row_queued : List (Option Cause)
@@ -119,7 +69,7 @@ module _ {A : Type 0} (plan : Plan) (S : State A) (q r : ℕ) where
       ∷ []
 
   abbrev place_queued : Cause → ℕ
-  place_queued y = place_in_row (thing.Queued (handle_in plan S r) (handle_in plan S q)) y
+  place_queued y = place_in_row plan S (thing.Queued (handle_in plan S r) (handle_in plan S q)) y
 
   there_queued : count_by (λ y. y == r) (waiting_in S.queues q) ≤ 1 → (y : Cause) → keeps_queued plan S q r y ≡ true → IsThere place_queued row_queued y
   there_queued once cause.Stopped h = (cause_if (not (delivers_in (mode_of S.control q))) cause.Stopped, 0, refl, refl, there_if (not (delivers_in (mode_of S.control q))) cause.Stopped h)
@@ -164,7 +114,7 @@ module _ {A : Type 0} (plan : Plan) (S : State A) (q r : ℕ) where
   row_returning = cause_if (queue_scope_held plan S q) cause.ScopeHeld ∷ cause_if (no_cpu plan S (queue_level plan q)) cause.NoCpu ∷ []
 
   abbrev place_returning : Cause → ℕ
-  place_returning y = place_in_row (thing.Returning (handle_in plan S r) (handle_in plan S q)) y
+  place_returning y = place_in_row plan S (thing.Returning (handle_in plan S r) (handle_in plan S q)) y
 
   there_returning : (y : Cause) → keeps_returning plan S q y ≡ true → IsThere place_returning row_returning y
   there_returning cause.ScopeHeld h =
@@ -183,12 +133,6 @@ module _ {A : Type 0} (plan : Plan) (S : State A) (q r : ℕ) where
 
 -- ---- queued work
 
-on_it : {A : Type 0} (S : State A) (o f : ℕ) → runs_on S o f ≡ true → filter (is_on S.cpus o) (all_frames S.cpus) ≡ [] → ⊥
-on_it S o f h none =
-    let parts = and_parts (contains f (all_frames S.cpus)) (is_on S.cpus o f) h in
-    let some : list_any (is_on S.cpus o) (all_frames S.cpus) ≡ true = any_has (is_on S.cpus o) f (all_frames S.cpus) (has_id f (all_frames S.cpus) parts.0) parts.1 in
-    let z : ⊥ = cc (sym some ∙ no_count (is_on S.cpus o) (all_frames S.cpus) none) in z
-
 -- a row with nothing in the middle
 in_middle : (a b : Option Cause) → first_cause (a ∷ None ∷ b ∷ []) ≡ first_cause (a ∷ b ∷ [])
 in_middle None b = refl
@@ -200,7 +144,7 @@ first_by false place p q o u g h = h
 
 module _ {A : Type 0} (plan : Plan) (S : State A) (o : ℕ) where
   abbrev place_work : Cause → ℕ
-  place_work y = place_in_row (thing.Deferred (handle_in plan S o)) y
+  place_work y = place_in_row plan S (thing.Deferred (handle_in plan S o)) y
 
   abbrev lock_test : Bool
   lock_test = scope_is_held plan S (dpc_function (kind_of S.tree o)) o || not (is_free_if_any S.locks (head_lock plan S (cpu_of_dpc plan S o)))
@@ -239,7 +183,7 @@ module _ {A : Type 0} (plan : Plan) (S : State A) (o : ℕ) where
 
     there_work : (y : Cause) → keeps_work plan S c level o y ≡ true → IsThere place_work row_work y
     there_work cause.ScopeHeld h = (cause_if (scope_is_held plan S c o) cause.ScopeHeld, 0, refl, refl, there_if (scope_is_held plan S c o) cause.ScopeHeld (lock_held S (scope_of plan c o (declared_in plan S o)) ∙ h))
-    there_work (cause.ByFrame f) h = (by_frame_on S o, 1, refl, refl, there_least (λ g. cause.ByFrame (frame_id g)) (filter (is_on S.cpus o) (all_frames S.cpus)) (on_it S o f.0 h))
+    there_work (cause.ByFrame f) h = (by_frame_on S o, 1, refl, refl, some_least (λ g. cause.ByFrame (frame_id g)) f.0 (filter (is_on S.cpus o) (all_frames S.cpus)) (frame_on S o f.0 h))
     there_work cause.NoCpu h = (cause_if (no_cpu plan S level) cause.NoCpu, 2, refl, refl, there_if (no_cpu plan S level) cause.NoCpu (none_left plan S level ∙ h))
     there_work _ h = absurd (let z : ⊥ = cc in z)
 
@@ -267,7 +211,7 @@ module _ {A : Type 0} (plan : Plan) (S : State A) (o : ℕ) where
 -- ---- the lines
 
 abbrev pub LineFirst : {A : Type 0} → Plan → State A → WaitLine → Type 0
-LineFirst plan S l = (x y : Cause) → l.cause ≡ Some x → comes_before l.thing y x ≡ true → is_blamed plan S l.thing y ≡ false
+LineFirst plan S l = (x y : Cause) → l.cause ≡ Some x → comes_before plan S l.thing y x ≡ true → is_blamed plan S l.thing y ≡ false
 
 once_there : {A : Type 0} (S : State A) (q : ObjectId) (r : ℕ) → PlacesAgree S → place_of S.requests r ≡ place.Queued q → count_by (λ x. x == r) (waiting_in S.queues q.0) ≤ 1
 once_there S q r k e =
@@ -283,17 +227,17 @@ request_first plan S r (place.Returning q) k e = returning_first plan S q.0 r
 request_first plan S r (place.Closing s) k e = tt
 request_first plan S r place.Done k e = tt
 
-device_first : {A : Type 0} (plan : Plan) (S : State A) (d : ℕ) (now next : Option Step) → IfThere (LineFirst plan S) (sequence_line plan S d now next)
-device_first plan S d (Some s) next = λ x y found before. absurd (let z : ⊥ = cc in z)
-device_first plan S d None (Some s) = λ x y found before. absurd (let z : ⊥ = cc in z)
-device_first plan S d None None = tt
+device_line_first : {A : Type 0} (plan : Plan) (S : State A) (d : ℕ) (now next : Option Step) → running_step S.pnp d ≡ now → IfThere (LineFirst plan S) (sequence_line plan S d now next)
+device_line_first plan S d (Some s) next e = running_first plan S d s e
+device_line_first plan S d None (Some s) e = next_first plan S d s e
+device_line_first plan S d None None e = tt
 
-pub lines_first : {A : Type 0} (plan : Plan) (S : State A) → PlacesAgree S → OfLines plan S (LineFirst plan S)
-lines_first plan S k = record {
-  frames = λ f there. λ x y found before. absurd (let z : ⊥ = cc in z);
+pub lines_first : {A : Type 0} (plan : Plan) (S : State A) → PlacesAgree S → FramesAgree S → OfLines plan S (LineFirst plan S)
+lines_first plan S k frames = record {
+  frames = λ f there. frame_first plan S f frames;
   requests = λ r. request_first plan S r (place_of S.requests r) k refl;
-  devices = λ d low. device_first plan S d (running_step S.pnp d) (next_step S.pnp d);
-  objects = λ o low leaving. λ x y found before. absurd (let z : ⊥ = cc in z);
+  devices = λ d low. device_line_first plan S d (running_step S.pnp d) (next_step S.pnp d) refl;
+  objects = λ o low leaving. object_first plan S o;
   work = λ o opened. deferred_first plan S o;
   asking = λ d. λ x y found before. absurd (let z : ⊥ = cc in z);
 }

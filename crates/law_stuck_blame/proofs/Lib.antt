@@ -1,4 +1,10 @@
 pub mod Rows
+pub mod There
+pub mod Ahead
+pub mod FirstFrames
+pub mod FirstObjects
+pub mod FirstDevices
 pub mod First
+pub mod Children
 pub mod Spinning
 pub mod Explained

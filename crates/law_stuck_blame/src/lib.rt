@@ -2,9 +2,8 @@
 //!
 //! # Choices
 //!
-//! - **Of which lines does it say that no earlier cause is so?** Of those of requests in a queue or on their way out of
-//!   one, and of queued work. Of the lines of frames, devices and objects it says that what they name is so. That this
-//!   is the first of its row is there only in the definition of the wait list.
+//! - **What is an earlier cause of a device's step?** Where the step follows `queues_up`, what keeps the resumes comes
+//!   before what keeps the step itself. So the place of a frame, or of the processors, in the row depends on the state.
 #![tactic(auto)]
 
 ghost use Rattle.std.specs.Prelude.{◌≡◌, List};
