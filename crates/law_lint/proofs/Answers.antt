@@ -1,5 +1,5 @@
 -- A call that is answered is a step of the walk, by one of its ways.
-use Rattle.std.proofs.Common.{◌≡◌, ℕ, zero, suc, ◌+◌, List, [], ◌∷◌, length, map, Option, Some, None, slice_get, refl, sym, ap, subst, ◌∙◌}
+use Rattle.std.proofs.Common.{◌≡◌, ℕ, zero, suc, List, [], ◌∷◌, map, Option, Some, None, slice_get, refl, sym, ap, subst, ◌∙◌}
 use Rattle.wdf_base.specs.declared.plan.Plan.{Plan}
 use Rattle.wdf_base.specs.declared.value.Value.{Value}
 use Rattle.wdf_base.specs.declared.call.Call.{Call}
@@ -14,12 +14,11 @@ use Rattle.wdf_model.specs.rules.Steps.{answered, with_answer}
 use Rattle.wdf_lint.specs.declared.state.Abstract.{Abstract}
 use Rattle.wdf_lint.specs.declared.state.Hold.{Hold}
 use Rattle.wdf_lint.specs.declared.state.Known.{Known}
-use Rattle.wdf_lint.specs.Abstracts.{answer}
+use Rattle.wdf_lint.specs.Abstracts.{answer, go}
 use Rattle.wdf_lint.specs.Steps.{Way, acquired, acquired_at, after_call, by_way, called, interrupt_in, node_of, released_at, rule_of_call, statement_of, steps, steps_at, variable_in, ways}
 use Rattle.wdf_lint.specs.Walks.{IsIn}
 use Rattle.law_lint.proofs.Known.{AllKnown, KnownIs, known_set}
-use Rattle.law_lint.proofs.Weights.{weight, written}
-use Rattle.law_lint.proofs.Frames.{Simulates}
+use Rattle.law_lint.proofs.Frames.{Assigned, One, Same, Simulates}
 use Rattle.law_lint.proofs.Faults.{Calls}
 
 in_map : {T U : Type 0} (f : T → U) (x : T) (xs : List T) (place : ℕ) → slice_get xs place ≡ Some x → slice_get (map f xs) place ≡ Some (f x)
@@ -52,9 +51,10 @@ pub record CallWent (plan : Plan) (a : Abstract) (f : Frame) (h : Hold) (v : Val
   pub is_in : IsIn state (steps plan f.script a)
   pub simulates : Simulates state (answered plan f v)
   pub hold : state.hold ≡ h
-  -- of locks it says what the call does
-  pub weighs : weight state ≡ weight (called plan f.script a c x)
+  -- of the rest it says what the call does, and then its answer
+  pub assigned : Assigned (called plan f.script a c x) f state (answered plan f v)
   pub interrupts : state.interrupts ≡ (called plan f.script a c x).interrupts
+  pub acknowledged : state.acknowledged ≡ (called plan f.script a c x).acknowledged
 
 answer_known : (b : Abstract) (f : Frame) (into : Option ℕ) (k : Known) (v : Value) → KnownIs k v → AllKnown b.variables f.variables → AllKnown (answer b into k).variables (with_answer f into v).variables
 answer_known b f None k v is h = h
@@ -64,9 +64,13 @@ answer_hold : (b : Abstract) (into : Option ℕ) (k : Known) → (answer b into 
 answer_hold b None k = refl
 answer_hold b (Some x) k = refl
 
-answer_weight : (b : Abstract) (into : Option ℕ) (k : Known) → weight (answer b into k) ≡ weight b
-answer_weight b None k = refl
-answer_weight b (Some x) k = ap (λ n. n + length b.interrupts) (written b.lock x)
+answer_assigned : (b : Abstract) (f : Frame) (into : Option ℕ) (k : Known) (v : Value) (h : Hold) (n : ℕ) → KnownIs k v → Assigned b f (go (answer (record b { hold = h }) into k) n) (record (with_answer (record f { at = n }) into v) { pending = None })
+answer_assigned b f None k v h n is = Same refl refl refl
+answer_assigned b f (Some x) k v h n is = One x k v is refl refl refl
+
+answer_acknowledged : (b : Abstract) (into : Option ℕ) (k : Known) → (answer b into k).acknowledged ≡ b.acknowledged
+answer_acknowledged b None k = refl
+answer_acknowledged b (Some x) k = refl
 
 answer_interrupts : (b : Abstract) (into : Option ℕ) (k : Known) → (answer b into k).interrupts ≡ b.interrupts
 answer_interrupts b None k = refl
@@ -95,6 +99,7 @@ call_went plan a f c k w v s off is knows =
         known = answer_known (record b { hold = w.hold }) (record f { at = k.next }) k.into w.answer v knows vars;
       });
       hold = answer_hold (record b { hold = w.hold }) k.into w.answer;
-      weighs = answer_weight (record b { hold = w.hold }) k.into w.answer;
+      assigned = subst (Assigned b f (by_way b k.next k.into w)) (sym next) (answer_assigned b f k.into w.answer v w.hold k.next knows);
       interrupts = answer_interrupts (record b { hold = w.hold }) k.into w.answer;
+      acknowledged = answer_acknowledged (record b { hold = w.hold }) k.into w.answer;
     }

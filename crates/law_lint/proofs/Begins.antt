@@ -1,6 +1,5 @@
 -- The invariant over the starts of callbacks: what a callback has of its request when it begins.
-use Rattle.std.proofs.Common.{◌≡◌, ◌≢◌, ℕ, zero, suc, ◌+◌, ◌==◌, ◌<◌, ◌≤◌, Bool, true, false, ◌&&◌, List, [], ◌∷◌, inl, inr, Option, Some, None, is_none, is_some, length, unwrap_or, option_map, get_or, position, replicate, slice_get, refl, sym, ap, subst, ◌∙◌, arith}
-use Rattle.std.proofs.lemmas.List.Quantifiers.{position-Some}
+use Rattle.std.proofs.Common.{◌≡◌, ◌≢◌, ℕ, zero, suc, ◌+◌, ◌==◌, ◌<◌, ◌≤◌, Bool, true, false, ◌&&◌, List, [], ◌∷◌, inl, inr, Option, Some, None, is_none, is_some, length, unwrap_or, option_map, replicate, refl, sym, ap, subst, ◌∙◌, arith}
 use Rattle.wdf_base.specs.Meaning.{Meaning}
 use Rattle.wdf_base.specs.declared.plan.Plan.{Plan}
 use Rattle.wdf_base.specs.declared.ids.Cpu.{Cpu}
@@ -60,26 +59,15 @@ use Rattle.wdf_lint.specs.Walks.{IsReached}
 use Rattle.law_lint.proofs.Known.{AllKnown}
 use Rattle.law_lint.proofs.Frames.{Simulates}
 use Rattle.law_lint.proofs.Grips.{Cancelable, LaterAt, Owned, is_armed}
+use Rattle.law_free_runs.proofs.FreeStates.{FreeState}
 use Rattle.law_lint.proofs.Others.{Places, event_later}
 use Rattle.law_lint.proofs.Sane.{AllSane, Sane}
-use Rattle.wdf_model.specs.parts.Locks.{held_by_call}
-use Rattle.law_lint.proofs.Holdings.{deeds_fewer, none_both, none_take, taken_if_any}
+use Rattle.law_lint.proofs.Holdings.{Left, deeds_left, none_both, none_lock, taken_if_any}
+use Rattle.law_lint.proofs.Began.{Began, found_by, interrupt_began}
 use Rattle.law_lint.proofs.Stands.{FrameBegins, FrameStands, Grasps, GripOf, InHand, Stands, begins_stands}
 use Rattle.law_lint.proofs.Events.{told}
 
 -- ---- the script of a callback is one of that callback
-
-abbrev FoundAt : {T : Type 0} → (T → Bool) → List T → ℕ → Type 0
-FoundAt {T} p xs k = (x : T) × (slice_get xs k ≡ Some x) × (p x ≡ true)
-
-item_within : {T : Type 0} (xs : List T) (k : ℕ) (d : T) → k < length xs → slice_get xs k ≡ Some (get_or xs k d)
-item_within [] k d h = absurd (omega arith)
-item_within (x ∷ xs) zero d h = refl
-item_within (x ∷ xs) (suc k) d h = item_within xs k d (omega arith)
-
-found_by : {T : Type 0} (p : T → Bool) (xs : List T) (k : ℕ) → position p xs ≡ Some k → FoundAt p xs k
-found_by p [] k h = absurd (let z : ⊥ = cc in z)
-found_by p (x ∷ xs) k h = let q = position-Some p (x ∷ xs) k x h in (get_or (x ∷ xs) k x, item_within (x ∷ xs) k x q.0, q.1)
 
 callback_at : (plan : Plan) (c : Callback) (d : Option Declared) (k : ℕ) → script_on plan c d ≡ Some k → callback_of plan k ≡ c
 callback_at plan c None k h = absurd (let z : ⊥ = cc in z)
@@ -297,23 +285,26 @@ pushed_frames C cpu f frame level none = (
 abbrev pub Numbered : {A : Type 0} → State A → Type 0
 Numbered S = on S.cpus (S.number + 1) ≡ 0
 
-effect_untaking : {A : Type 0} (plan : Plan) (S : State A) (k : Rank) (cpu : ℕ) (c : Callback) (o g : ℕ) → none_take g (effect plan S k cpu c o) ≡ true
-effect_untaking plan S rank.Deferred cpu c o g = refl
-effect_untaking plan S _ cpu c o g = refl
+effect_unlocking : {A : Type 0} (plan : Plan) (S : State A) (k : Rank) (cpu : ℕ) (c : Callback) (o g : ℕ) → none_lock g (effect plan S k cpu c o) ≡ true
+effect_unlocking plan S rank.Deferred cpu c o g = refl
+effect_unlocking plan S _ cpu c o g = refl
 
-effect_for_untaking : (k : Rank) (o r g : ℕ) → none_take g (effect_for k o r) ≡ true
-effect_for_untaking rank.Completion o r g = refl
-effect_for_untaking _ o r g = refl
+effect_for_unlocking : (k : Rank) (o r g : ℕ) → none_lock g (effect_for k o r) ≡ true
+effect_for_unlocking rank.Completion o r g = refl
+effect_for_unlocking _ o r g = refl
 
--- what a start does beside its frame takes no lock
-start_untaking : {A : Type 0} (plan : Plan) (S : State A) (cpu : ℕ) (c : Callback) (o : ℕ) (r : Option Handle) (g : ℕ) → none_take g (start_effect plan S cpu c o r) ≡ true
-start_untaking plan S cpu c o None g = effect_untaking plan S (row_of c).rank cpu c o g
-start_untaking plan S cpu c o (Some r) g = effect_for_untaking (row_of c).rank o r.id.0 g
+-- what a start does beside its frame takes no lock, and gives none back
+start_unlocking : {A : Type 0} (plan : Plan) (S : State A) (cpu : ℕ) (c : Callback) (o : ℕ) (r : Option Handle) (g : ℕ) → none_lock g (start_effect plan S cpu c o r) ≡ true
+start_unlocking plan S cpu c o None g = effect_unlocking plan S (row_of c).rank cpu c o g
+start_unlocking plan S cpu c o (Some r) g = effect_for_unlocking (row_of c).rank o r.id.0 g
 
-pub start_stands : {A : Type 0} (plan : Plan) (m : Meaning A) (S : State A) (k : Cpu) (c : Callback) (o : Handle) (r : Option Handle) → may plan m S (event.Start k c o r) ≡ true → Numbered S → Places S → AllSane S.requests → Stands plan S
+pub start_stands : {A : Type 0} (plan : Plan) (m : Meaning A) (S : State A) (k : Cpu) (c : Callback) (o : Handle) (r : Option Handle) → may plan m S (event.Start k c o r) ≡ true → Numbered S → FreeState plan S → AllSane S.requests → Stands plan S
     → Stands plan (after plan m S (event.Start k c o r))
-start_stands {A} plan m S k c o r h numbered places sane st = told plan m (event.Start k c o r) U (begins_stands plan S U f frame b st begins new later free fewer)
+start_stands {A} plan m S k c o r h numbered state sane st = told plan m (event.Start k c o r) U (begins_stands plan S U f frame b st begins new later free left)
   where
+    places : Places S
+    places = state.places
+
     f : ℕ
     f = next_number S
 
@@ -402,9 +393,9 @@ start_stands {A} plan m S k c o r h numbered places sane st = told plan m (event
     hand_free hold.Stop e q is i = absurd i
 
     -- its own lock is none that a call took
-    fewer : (g : ℕ) → held_by_call U.locks g ≤ held_by_call S.locks g
-    fewer g = deeds_fewer plan (deeds plan S (event.Start k c o r)) S g
-        (none_both g es (PushFrame (cpu_of k.0) (frame_id f) frame (irql_of level) ∷ take_if_any f l) (start_untaking plan S k.0 c o.id.0 r g) (taken_if_any g f l))
+    left : (g : ℕ) → Left S.locks U.locks g
+    left g = deeds_left plan (deeds plan S (event.Start k c o r)) S g
+        (none_both g es (PushFrame (cpu_of k.0) (frame_id f) frame (irql_of level) ∷ take_if_any f l) (start_unlocking plan S k.0 c o.id.0 r g) (taken_if_any g f l))
 
     new : FrameStands plan U f b
     new = record {
@@ -418,8 +409,16 @@ start_stands {A} plan m S k c o r h numbered places sane st = told plan m (event
           let w = with_request_ plan m S k.0 c o.id.0 r (owning_rank c (sym (ap is_own_or_marked holds) ∙ own)).0 ready in
           (w.0, ap (λ (x : Frame). x.request) begins.here ∙ w.1);
       waits = λ p e. absurd (let none : (frame_of U.cpus f).pending ≡ None = ap (λ (x : Frame). x.pending) begins.here in let z : ⊥ = cc in z);
-      few = let none = st.off f numbered in let less = fewer f in omega arith;
-      single = λ i. let z : 0 ≤ 1 = omega arith in z;
+      locks = record {
+        few = let none = st.off f numbered in let l = left f in let less = l.fewer in omega arith;
+        single = λ i. let z : 0 ≤ 1 = omega arith in z;
+        plain = λ res. tt;
+        interrupts = λ res i is. absurd (let z : ⊥ = cc in z);
+      };
+      began = subst (Began plan) (sym begins.here) (record {
+        callback = is_callback;
+        interrupt = λ res is. interrupt_began plan S c o.id.0 frame.script res (there_some (script_in plan S c o.id.0) declares_) is;
+      });
     }
 
     not_theirs : (g : ℕ) → 1 ≤ on S.cpus g → (x : ℕ) → Loose (request_of S.requests x) → Grasps S g (st.states g) x → ⊥

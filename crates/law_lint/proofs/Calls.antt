@@ -12,7 +12,7 @@ use Rattle.wdf_base.specs.Places.{is_marked}
 use Rattle.wdf_model.specs.declared.entries.Request.{Request}
 use Rattle.wdf_model.specs.Ids.{object_id}
 use Rattle.wdf_model.specs.Plans.{declares}
-use Rattle.wdf_model.specs.parts.Requests.{Requests, answer_of_mark, is_cancelled, mark_answer, mark_of, marked, no_request, place_of, request_of, unmark_answer, unmarked, with_mark, with_request}
+use Rattle.wdf_model.specs.parts.Requests.{Requests, answer_of_mark, is_cancelled, mark_answer, mark_of, marked, no_request, request_of, unmark_answer, unmarked, with_mark}
 use Rattle.wdf_model.specs.parts.Requests as requests
 use Rattle.wdf_model.specs.parts.Control.{accepts, is_purged, mode_of}
 use Rattle.wdf_model.specs.State.{State}

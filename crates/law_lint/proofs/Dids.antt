@@ -47,18 +47,19 @@ use Rattle.wdf_lint.specs.Walks.{IsClean, IsIn, IsReached}
 use Rattle.law_lint.proofs.Acting.{calling}
 use Rattle.law_lint.proofs.Calls.{GripOf}
 use Rattle.law_lint.proofs.Grips.{LaterAt}
-use Rattle.law_lint.proofs.Others.{Places, all_apart, deeds_later, event_later, is_owners, is_owners_call}
+use Rattle.law_lint.proofs.Others.{all_apart, deeds_later, event_later, is_owners, is_owners_call}
 use Rattle.law_lint.proofs.Stands.{FrameGoes, FrameStands, InHand, Stands, goes_stands, grip_later, hand_before, is_on_request, reaches, stays_later}
 use Rattle.law_lint.proofs.Events.{answered_rest, goes_on_frames, top_there, told}
 use Rattle.law_lint.proofs.Faults.{Calls, calls, rule_off}
 use Rattle.law_lint.proofs.Answers.{CallWent, call_went}
 use Rattle.wdf_base.specs.declared.event.Fault.TheVariants as fault
-use Rattle.wdf_model.specs.parts.Locks.{held_by_call}
 use Rattle.wdf_model.specs.rules.Faults.{is_acquire, is_release}
 use Rattle.wdf_lint.specs.Steps.{called}
-use Rattle.law_lint.proofs.Weights.{Single}
-use Rattle.law_lint.proofs.Holdings.{event_fewer}
-use Rattle.law_lint.proofs.Locking.{Locked, did_locks, woke_locks}
+use Rattle.law_free_runs.proofs.FreeStates.{FreeState}
+use Rattle.law_lint.proofs.Began.{Alike, Began, began_alike}
+use Rattle.law_lint.proofs.HeldAs.{HeldAs, held_assigned}
+use Rattle.law_lint.proofs.Holdings.{Left, event_left}
+use Rattle.law_lint.proofs.Locking.{Locked, Names, OfKind, did_locks, names, of_kind, woke_locks}
 use Rattle.law_lint.proofs.Frames.{Simulates}
 use Rattle.wdf_model.proofs.FrameCounts.{on}
 
@@ -111,14 +112,14 @@ unknown_way _ h off = (0, refl)
 -- the frame is answered, the others may do what they may: the invariant is kept
 answer_stands : {A : Type 0} (plan : Plan) (S U : State A) (f : ℕ) (v : Value) (st : Stands plan S) → FrameGoes S U f (answered plan (frame_of S.cpus f) v) → 1 ≤ on S.cpus f
     → (c : CallKind) (x : Option ExprNode) → CallWent plan (st.states f) (frame_of S.cpus f) (st.states f).hold v c x → ((x : ℕ) → x < length S.requests.all → LaterAt x S.requests U.requests)
-    → Locked S.locks U.locks f (called plan (frame_of S.cpus f).script (st.states f) c x) → Stands plan U
+    → Locked plan S.locks U.locks f (frame_of S.cpus f).variables (called plan (frame_of S.cpus f).script (st.states f) c x) → Stands plan U
 answer_stands plan S U f v st go there c x_ w later l =
     let old : FrameStands plan S f (st.states f) = st.stands f there in
     let rest = answered_rest plan (frame_of S.cpus f) v in
-    let now : (frame_of U.cpus f).request ≡ (frame_of S.cpus f).request = ap (λ (x : Frame). x.request) go.here ∙ rest.1 in
+    let now : (frame_of U.cpus f).request ≡ (frame_of S.cpus f).request = ap (λ (x : Frame). x.request) go.here ∙ rest.request in
     goes_stands plan S U f (answered plan (frame_of S.cpus f) v) w.state st go there
     (record {
-      reached = subst (λ k. IsReached plan k w.state) (sym (ap (λ (x : Frame). x.script) go.here ∙ rest.0)) (reaches plan (frame_of S.cpus f).script (st.states f) w.state old.reached w.is_in);
+      reached = subst (λ k. IsReached plan k w.state) (sym (ap (λ (x : Frame). x.script) go.here ∙ rest.script)) (reaches plan (frame_of S.cpus f).script (st.states f) w.state old.reached w.is_in);
       simulates = subst (λ g. Simulates w.state g) (sym go.here) w.simulates;
       grips = λ r has.
           let g = old.grips r (sym now ∙ has) in
@@ -128,8 +129,9 @@ answer_stands plan S U f v st go there c x_ w later l =
           (subst (λ h. GripOf h (request_of U.requests r.id.0)) (sym w.hold) (grip_later (st.states f).hold (request_of S.requests r.id.0) (request_of U.requests r.id.0) l.later g.0), omega arith);
       has = λ h. let is = old.has (subst (λ x. is_own_or_marked x ≡ true) w.hold h) in (is.0, now ∙ is.1);
       waits = λ p e. absurd (let none : (frame_of U.cpus f).pending ≡ None = ap (λ (x : Frame). x.pending) go.here in let z : ⊥ = cc in z);
-      few = let held = l.few in let weighs = w.weighs in omega arith;
-      single = subst Single (sym w.interrupts) l.single;
+      locks = subst (λ (x : Frame). HeldAs plan U.locks f x.variables w.state) (sym go.here)
+          (held_assigned plan U.locks f (called plan (frame_of S.cpus f).script (st.states f) c x_) (frame_of S.cpus f) w.state (answered plan (frame_of S.cpus f) v) w.assigned w.interrupts l.now);
+      began = began_alike plan (frame_of S.cpus f) (frame_of U.cpus f) (subst (Alike (frame_of S.cpus f)) (sym go.here) rest) old.began;
     })
     (λ x k.
     let has : (frame_of S.cpus f).request ≡ Some k.request = sym now ∙ k.has in
@@ -143,7 +145,7 @@ answer_stands plan S U f v st go there c x_ w later l =
           (subst (λ h. InHand h U.requests k.request.id.0) w.hold (subst (λ y. InHand w.state.hold U.requests y) (sym k.same) k.in_hand)));
     })
     (λ g n more. stays_later plan S U g (st.states g) (st.stands g more) (λ r has. later r.id.0 ((st.stands g more).grips r has).1))
-    l.fewer
+    l.others
 
 -- a frame that is about to make a call on nothing of its own is answered as the walk says
 plain_went : {A : Type 0} (plan : Plan) (S : State A) (cpu f : ℕ) (a : Abstract) (c : Call) (v : Value) → IsClean plan → FrameStands plan S f a → (does : intent_of plan (frame_of S.cpus f) ≡ intent.Do c) → has_ways c.kind ≡ false
@@ -153,38 +155,45 @@ plain_went plan S cpu f a c v clean st does off =
     let kind : c.kind ≡ k.kind = ap (λ (d : Call). d.kind) k.call in
     call_went plan a (frame_of S.cpus f) c k (way a.hold known.Unknown) v st.simulates (rule_off plan S cpu f a clean st c k) (unknown_way k.kind a.hold (sym (ap has_ways kind) ∙ off)) tt
 
+-- what the first argument of a call names, by its statement
+pub call_names : (plan : Plan) (frame : Frame) (c : Call) (s : Calls plan frame (statement_at plan frame) c) → Began plan frame → OfKind plan c.kind (object_in c.a) → Names plan frame c.kind (object_in c.a) (node_of plan s.x)
+call_names plan frame c s b of =
+    let first_ : c.a ≡ arg_of plan frame s.x = ap (λ (q : Call). q.a) s.call in
+    subst (λ (y : Arg). Names plan frame c.kind (object_in y) (node_of plan s.x)) (sym first_) (names plan frame c.kind s.x b (subst (λ (y : Arg). OfKind plan c.kind (object_in y)) first_ of))
+
 -- what a call that is answered leaves of locks
-pub did_locked : {A : Type 0} (plan : Plan) (S : State A) (k : Cpu) (f : ℕ) (c : Call) (v : Value) (a : Abstract) (d : IsDid plan S k.0 c v) → IsClean plan → FrameStands plan S d.frame a
-    → Locked S.locks (do_deeds plan (deeds plan S (event.Did k c v)) S).locks d.frame
+pub did_locked : {A : Type 0} (plan : Plan) (S : State A) (k : Cpu) (c : Call) (v : Value) (a : Abstract) (d : IsDid plan S k.0 c v) → FreeState plan S → IsClean plan → FrameStands plan S d.frame a
+    → Locked plan S.locks (do_deeds plan (deeds plan S (event.Did k c v)) S).locks d.frame (frame_of S.cpus d.frame).variables
     (called plan (frame_of S.cpus d.frame).script a (calls plan (frame_of S.cpus d.frame) c d.about.about).kind (node_of plan (calls plan (frame_of S.cpus d.frame) c d.about.about).x))
-did_locked {A} plan S k f_ c v a d clean fs =
+did_locked {A} plan S k c v a d free clean fs =
     let f : ℕ = d.frame in
     let frame : Frame = frame_of S.cpus f in
     let s : Calls plan frame (statement_at plan frame) c = calls plan frame c d.about.about in
     let kind : s.kind ≡ c.kind = sym (ap (λ (q : Call). q.kind) s.call) in
     let same : deeds plan S (event.Did k c v) ≡ did_deeds plan S k.0 c v f frame = by_its_top S k.0 f (did_deeds plan S k.0 c v) d.about.top in
     let rule : rule_of_call plan frame.script a s.kind (node_of plan s.x) (node_of plan s.y) ≡ None = rule_off plan S k.0 f a clean fs c s in
-    let fewer : is_acquire c.kind ≡ false → (g : ℕ) → held_by_call (do_deeds plan (did_deeds plan S k.0 c v f frame) S).locks g ≤ held_by_call S.locks g =
-    λ off g. subst (λ es. held_by_call (do_deeds plan es S).locks g ≤ held_by_call S.locks g) same (event_fewer plan S (event.Did k c v) g refl off) in
-    subst (λ es. Locked S.locks (do_deeds plan es S).locks f (called plan frame.script a s.kind (node_of plan s.x))) (sym same)
-    (subst (λ q. Locked S.locks (do_deeds plan (did_deeds plan S k.0 c v f frame) S).locks f (called plan frame.script a q (node_of plan s.x))) (sym kind)
-    (did_locks plan S k f frame a fs.few fs.single c.kind c.count c.a c.b c.c (node_of plan s.x) (node_of plan s.y) v (subst (λ q. rule_of_call plan frame.script a q (node_of plan s.x) (node_of plan s.y) ≡ None) kind rule) (d.about.clean fault.LockNotHeld) fewer))
+    let left : is_acquire c.kind ≡ false → is_release c.kind ≡ false → (g : ℕ) → Left S.locks (do_deeds plan (did_deeds plan S k.0 c v f frame) S).locks g =
+    λ off unreleased g. subst (λ es. Left S.locks (do_deeds plan es S).locks g) same (event_left plan S (event.Did k c v) g refl off unreleased) in
+    let named : Names plan frame c.kind (object_in c.a) (node_of plan s.x) = call_names plan frame c s fs.began (of_kind plan S free k.0 f c (d.about.clean fault.StaleHandle) (d.about.clean fault.WrongKind)) in
+    subst (λ es. Locked plan S.locks (do_deeds plan es S).locks f frame.variables (called plan frame.script a s.kind (node_of plan s.x))) (sym same)
+    (subst (λ q. Locked plan S.locks (do_deeds plan (did_deeds plan S k.0 c v f frame) S).locks f frame.variables (called plan frame.script a q (node_of plan s.x))) (sym kind)
+    (did_locks plan S k f frame a free.once fs.locks c.kind c.count c.a c.b c.c (node_of plan s.x) (node_of plan s.y) v (subst (λ q. rule_of_call plan frame.script a q (node_of plan s.x) (node_of plan s.y) ≡ None) kind rule) (d.about.clean fault.LockNotHeld) named left))
 
 -- and one whose wait is over
-woke_locked : {A : Type 0} (plan : Plan) (S : State A) (k : Cpu) (f : ℕ) (c : Call) (v : Value) (a : Abstract) → IsClean plan → (fs : FrameStands plan S f a) → (does : intent_of plan (frame_of S.cpus f) ≡ intent.Do c) → is_release c.kind ≡ false
-    → Locked S.locks (do_deeds plan (woke_deeds plan c v f (frame_of S.cpus f)) S).locks f (called plan (frame_of S.cpus f).script a (calls plan (frame_of S.cpus f) c does).kind (node_of plan (calls plan (frame_of S.cpus f) c does).x))
-woke_locked {A} plan S k f c v a clean fs does off =
+woke_locked : {A : Type 0} (plan : Plan) (S : State A) (k : Cpu) (f : ℕ) (c : Call) (v : Value) (a : Abstract) → FreeState plan S → IsClean plan → (fs : FrameStands plan S f a) → (does : intent_of plan (frame_of S.cpus f) ≡ intent.Do c) → is_release c.kind ≡ false → OfKind plan c.kind (object_in c.a)
+    → Locked plan S.locks (do_deeds plan (woke_deeds plan c v f (frame_of S.cpus f)) S).locks f (frame_of S.cpus f).variables (called plan (frame_of S.cpus f).script a (calls plan (frame_of S.cpus f) c does).kind (node_of plan (calls plan (frame_of S.cpus f) c does).x))
+woke_locked {A} plan S k f c v a free clean fs does off of =
     let frame : Frame = frame_of S.cpus f in
     let s : Calls plan frame (statement_at plan frame) c = calls plan frame c does in
     let kind : s.kind ≡ c.kind = sym (ap (λ (q : Call). q.kind) s.call) in
     let rule : rule_of_call plan frame.script a s.kind (node_of plan s.x) (node_of plan s.y) ≡ None = rule_off plan S k.0 f a clean fs c s in
-    subst (λ q. Locked S.locks (do_deeds plan (woke_deeds plan c v f frame) S).locks f (called plan frame.script a q (node_of plan s.x))) (sym kind)
-    (woke_locks plan S k f frame a fs.few fs.single c.kind c.count c.a c.b c.c (node_of plan s.x) (node_of plan s.y) v (subst (λ q. rule_of_call plan frame.script a q (node_of plan s.x) (node_of plan s.y) ≡ None) kind rule) off)
+    subst (λ q. Locked plan S.locks (do_deeds plan (woke_deeds plan c v f frame) S).locks f frame.variables (called plan frame.script a q (node_of plan s.x))) (sym kind)
+    (woke_locks plan S k f frame a free.once fs.locks c.kind c.count c.a c.b c.c (node_of plan s.x) (node_of plan s.y) v (subst (λ q. rule_of_call plan frame.script a q (node_of plan s.x) (node_of plan s.y) ≡ None) kind rule) off (call_names plan frame c s fs.began of))
 
-pub did_stands : {A : Type 0} (plan : Plan) (m : Meaning A) (S : State A) (k : Cpu) (c : Call) (v : Value) → IsClean plan → has_ways c.kind ≡ false → may plan m S (event.Did k c v) ≡ true
+pub did_stands : {A : Type 0} (plan : Plan) (m : Meaning A) (S : State A) (k : Cpu) (c : Call) (v : Value) → FreeState plan S → IsClean plan → has_ways c.kind ≡ false → may plan m S (event.Did k c v) ≡ true
     → ((x : ℕ) → x < length S.requests.all → LaterAt x S.requests (do_deeds plan (deeds plan S (event.Did k c v)) S).requests) → Stands plan S
     → Stands plan (after plan m S (event.Did k c v))
-did_stands {A} plan m S k c v clean off h later st =
+did_stands {A} plan m S k c v free clean off h later st =
     let d : IsDid plan S k.0 c v = did_tells plan m S k c v h in
     let f = d.frame in
     let ds : List Deed = (outcome plan S k.0 f c).deeds ++ second_deeds f c in
@@ -198,13 +207,13 @@ did_stands {A} plan m S k c v clean off h later st =
     (subst (λ es. FrameGoes S (do_deeds plan es S) f (answered plan (frame_of S.cpus f) v)) (sym same) (still_goes plan S ds f (answered plan (frame_of S.cpus f) v) still fits_))
     there (calls plan (frame_of S.cpus f) c d.about.about).kind (node_of plan (calls plan (frame_of S.cpus f) c d.about.about).x)
     (plain_went plan S k.0 f (st.states f) c v clean (st.stands f there) d.about.about off)
-    later (did_locked plan S k f c v (st.states f) d clean (st.stands f there)))
+    later (did_locked plan S k c v (st.states f) d free clean (st.stands f there)))
 
 -- a call that no owner makes
-pub plain_stands : {A : Type 0} (plan : Plan) (m : Meaning A) (S : State A) (k : Cpu) (c : Call) (v : Value) → IsClean plan → has_ways c.kind ≡ false → is_owners_call c.kind ≡ false → may plan m S (event.Did k c v) ≡ true → Places S → Stands plan S
+pub plain_stands : {A : Type 0} (plan : Plan) (m : Meaning A) (S : State A) (k : Cpu) (c : Call) (v : Value) → IsClean plan → has_ways c.kind ≡ false → is_owners_call c.kind ≡ false → may plan m S (event.Did k c v) ≡ true → FreeState plan S → Stands plan S
     → Stands plan (after plan m S (event.Did k c v))
-plain_stands plan m S k c v clean off none h places st =
-    did_stands plan m S k c v clean off h (λ x old. event_later plan S (event.Did k c v) x none (event_fits plan m S (event.Did k c v) h) places old) st
+plain_stands plan m S k c v clean off none h free st =
+    did_stands plan m S k c v free clean off h (λ x old. event_later plan S (event.Did k c v) x none (event_fits plan m S (event.Did k c v) h) free.places old) st
 
 -- ---- StopAcknowledge
 
@@ -266,15 +275,15 @@ stop_none {A} plan m S k c v clean stops h st =
     ap (λ es. list_all (λ d. not (is_owners d)) es) same
     ∙ none_owners ((outcome plan S k.0 f c).deeds ++ second_deeds f c) (GoOn (frame_id f) (answered plan frame v) ∷ []) (none_owners (outcome plan S k.0 f c).deeds (second_deeds f c) none second) refl
 
-pub stop_stands : {A : Type 0} (plan : Plan) (m : Meaning A) (S : State A) (k : Cpu) (c : Call) (v : Value) → IsClean plan → same_call_kind c.kind call.WdfRequestStopAcknowledge ≡ true → may plan m S (event.Did k c v) ≡ true → Places S → Stands plan S
+pub stop_stands : {A : Type 0} (plan : Plan) (m : Meaning A) (S : State A) (k : Cpu) (c : Call) (v : Value) → IsClean plan → same_call_kind c.kind call.WdfRequestStopAcknowledge ≡ true → may plan m S (event.Did k c v) ≡ true → FreeState plan S → Stands plan S
     → Stands plan (after plan m S (event.Did k c v))
-stop_stands plan m S k c v clean stops h places st =
-    did_stands plan m S k c v clean (ap has_ways (is_kind c.kind stops)) h
-    (λ x old. deeds_later plan (deeds plan S (event.Did k c v)) S x (event_fits plan m S (event.Did k c v) h) places old (all_apart plan (deeds plan S (event.Did k c v)) S x (stop_none plan m S k c v clean stops h st))) st
+stop_stands plan m S k c v clean stops h free st =
+    did_stands plan m S k c v free clean (ap has_ways (is_kind c.kind stops)) h
+    (λ x old. deeds_later plan (deeds plan S (event.Did k c v)) S x (event_fits plan m S (event.Did k c v) h) free.places old (all_apart plan (deeds plan S (event.Did k c v)) S x (stop_none plan m S k c v clean stops h st))) st
 
-pub woke_stands : {A : Type 0} (plan : Plan) (m : Meaning A) (S : State A) (k : Cpu) (c : Call) (v : Value) → IsClean plan → may plan m S (event.Woke k c v) ≡ true → Places S → Stands plan S
+pub woke_stands : {A : Type 0} (plan : Plan) (m : Meaning A) (S : State A) (k : Cpu) (c : Call) (v : Value) → IsClean plan → may plan m S (event.Woke k c v) ≡ true → FreeState plan S → Stands plan S
     → Stands plan (after plan m S (event.Woke k c v))
-woke_stands {A} plan m S k c v clean h places st =
+woke_stands {A} plan m S k c v clean h free st =
     let d : IsWoke S k.0 c v = woke_tells plan m S k c v h in
     let f = d.frame in
     let there : 1 ≤ on S.cpus f = top_there S.cpus k.0 f d.top in
@@ -285,8 +294,8 @@ woke_stands {A} plan m S k c v clean h places st =
     told plan m (event.Woke k c v) (do_deeds plan (deeds plan S (event.Woke k c v)) S)
     (answer_stands plan S (do_deeds plan (deeds plan S (event.Woke k c v)) S) f v st
     (subst (λ es. FrameGoes S (do_deeds plan es S) f (answered plan (frame_of S.cpus f) v)) (sym same) (still_goes plan S (second_deeds f c) f (answered plan (frame_of S.cpus f) v) (second_none f c) fits_))
-    there (calls plan (frame_of S.cpus f) c w.0).kind (node_of plan (calls plan (frame_of S.cpus f) c w.0).x)
-    (plain_went plan S k.0 f (st.states f) c v clean (st.stands f there) w.0 (off_request c.kind w.1))
-    (λ x old. event_later plan S (event.Woke k c v) x refl fit places old)
-    (subst (λ es. Locked S.locks (do_deeds plan es S).locks f (called plan (frame_of S.cpus f).script (st.states f) (calls plan (frame_of S.cpus f) c w.0).kind (node_of plan (calls plan (frame_of S.cpus f) c w.0).x)))
-    (sym (by_its_top S k.0 f (woke_deeds plan c v) d.top)) (woke_locked plan S k f c v (st.states f) clean (st.stands f there) w.0 w.2)))
+    there (calls plan (frame_of S.cpus f) c w.about).kind (node_of plan (calls plan (frame_of S.cpus f) c w.about).x)
+    (plain_went plan S k.0 f (st.states f) c v clean (st.stands f there) w.about (off_request c.kind w.on_request))
+    (λ x old. event_later plan S (event.Woke k c v) x refl fit free.places old)
+    (subst (λ es. Locked plan S.locks (do_deeds plan es S).locks f (frame_of S.cpus f).variables (called plan (frame_of S.cpus f).script (st.states f) (calls plan (frame_of S.cpus f) c w.about).kind (node_of plan (calls plan (frame_of S.cpus f) c w.about).x)))
+    (sym (by_its_top S k.0 f (woke_deeds plan c v) d.top)) (woke_locked plan S k f c v (st.states f) free clean (st.stands f there) w.about w.release w.kind)))

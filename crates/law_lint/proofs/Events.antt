@@ -36,6 +36,7 @@ use Rattle.law_machine_base.proofs.FitsOfEvents.{by_its_top}
 use Rattle.law_machine_counts.proofs.FrameMoves.{pop_on}
 use Rattle.wdf_model.proofs.Tests.{both_left, both_right}
 use Rattle.wdf_lint.specs.Steps.{steps}
+use Rattle.law_lint.proofs.Began.{Alike, alike_itself, alike_then}
 use Rattle.law_lint.proofs.Frames.{IsPlain, Went, local_goes, plain_goes, register_goes, shape}
 use Rattle.law_lint.proofs.Stands.{FrameGoes, Stands, inside_stands}
 use Rattle.wdf_model.proofs.FrameCounts.{on}
@@ -170,18 +171,18 @@ pub top_there : (C : Cpus) (cpu f : ℕ) → top C cpu ≡ Some f → 1 ≤ on C
 top_there C cpu f t = let e = pop_on C cpu f t f in let one : flag (f == f) ≡ 1 = ap flag (equal f f refl) in omega arith
 
 pub told : {A : Type 0} (plan : Plan) (m : Meaning A) (e : Event) (S : State A) → Stands plan S → Stands plan (counted m e S)
-told plan m e S st = record { states = st.states; stands = λ f more. let k = st.stands f more in record { reached = k.reached; simulates = k.simulates; grips = k.grips; has = k.has; waits = k.waits; few = k.few; single = k.single }; off = st.off; alone = λ f g x ft gt fg gg. st.alone f g x ft gt (record { request = fg.request; has = fg.has; same = fg.same; in_hand = fg.in_hand }) (record { request = gg.request; has = gg.has; same = gg.same; in_hand = gg.in_hand }) }
+told plan m e S st = record { states = st.states; stands = λ f more. let k = st.stands f more in record { reached = k.reached; simulates = k.simulates; grips = k.grips; has = k.has; waits = k.waits; locks = k.locks; began = k.began }; off = st.off; alone = λ f g x ft gt fg gg. st.alone f g x ft gt (record { request = fg.request; has = fg.has; same = fg.same; in_hand = fg.in_hand }) (record { request = gg.request; has = gg.has; same = gg.same; in_hand = gg.in_hand }) }
 
 -- a step that changes nothing but its frame
 frame_event : {A : Type 0} (plan : Plan) (m : Meaning A) (S : State A) (e : Event) (cpu : ℕ) (f : ℕ) (step : Frame → Frame) → top S.cpus cpu ≡ Some f → deeds plan S e ≡ by_top S cpu (λ g frame. GoOn (frame_id g) (step frame) ∷ [])
     → (st : Stands plan S) → Went (steps plan (frame_of S.cpus f).script (st.states f)) (st.states f) (frame_of S.cpus f) (step (frame_of S.cpus f))
-    → (step (frame_of S.cpus f)).script ≡ (frame_of S.cpus f).script → (step (frame_of S.cpus f)).request ≡ (frame_of S.cpus f).request → (step (frame_of S.cpus f)).pending ≡ None → Stands plan (after plan m S e)
-frame_event {A} plan m S e cpu f step t ds st w script request idle =
+    → Alike (frame_of S.cpus f) (step (frame_of S.cpus f)) → (step (frame_of S.cpus f)).pending ≡ None → Stands plan (after plan m S e)
+frame_event {A} plan m S e cpu f step t ds st w alike idle =
     let next : Frame = step (frame_of S.cpus f) in
     let same : deeds plan S e ≡ GoOn (frame_id f) next ∷ [] = ds ∙ by_its_top S cpu f (λ g frame. GoOn (frame_id g) (step frame) ∷ []) t in
     told plan m e (do_deeds plan (deeds plan S e) S)
     (subst (λ es. Stands plan (do_deeds plan es S)) (sym same)
-    (inside_stands plan S (do_deed plan (GoOn (frame_id f) next) S) f next st (goes_on_frames plan S f next) (top_there S.cpus cpu f t) refl refl w script request idle))
+    (inside_stands plan S (do_deed plan (GoOn (frame_id f) next) S) f next st (goes_on_frames plan S f next) (top_there S.cpus cpu f t) refl refl w alike idle))
 
 local_of : (i : Intent) → shape i ≡ 0 → (c : Change) × (next : ℕ) × (i ≡ intent.Local c next)
 local_of (intent.Local c next) h = (c, next, refl)
@@ -193,14 +194,18 @@ local_of (intent.Do c) h = absurd (let z : ⊥ = cc in z)
 local_of (intent.Return v) h = absurd (let z : ⊥ = cc in z)
 local_of intent.Broken h = absurd (let z : ⊥ = cc in z)
 
-changed_rest : (f : Frame) (c : Change) → ((changed f c).script ≡ f.script) × ((changed f c).request ≡ f.request) × ((changed f c).pending ≡ f.pending)
-changed_rest f (change.Assign x v) = (refl, refl, refl)
-changed_rest f change.Branch = (refl, refl, refl)
-changed_rest f (change.Count d l) = (refl, refl, refl)
+-- a frame whose place or variables change
+same_rest : (f g : Frame) → g.script ≡ f.script → g.callback ≡ f.callback → g.object ≡ f.object → g.request ≡ f.request → Alike f g
+same_rest f g s c o r = record { script = s; callback = c; object = o; request = r }
 
-next_rest : (f : Frame) (s : Option Statement) → ((at_next f s).script ≡ f.script) × ((at_next f s).request ≡ f.request) × ((at_next f s).pending ≡ f.pending)
-next_rest f None = (refl, refl, refl)
-next_rest f (Some s) = (refl, refl, refl)
+changed_rest : (f : Frame) (c : Change) → Alike f (changed f c) × ((changed f c).pending ≡ f.pending)
+changed_rest f (change.Assign x v) = (same_rest f (changed f (change.Assign x v)) refl refl refl refl, refl)
+changed_rest f change.Branch = (alike_itself f, refl)
+changed_rest f (change.Count d l) = (same_rest f (changed f (change.Count d l)) refl refl refl refl, refl)
+
+next_rest : (f : Frame) (s : Option Statement) → Alike f (at_next f s) × ((at_next f s).pending ≡ f.pending)
+next_rest f None = (alike_itself f, refl)
+next_rest f (Some s) = (same_rest f (at_next f (Some s)) refl refl refl refl, refl)
 
 pub local_stands : {A : Type 0} (plan : Plan) (m : Meaning A) (S : State A) (k : Cpu) (line : ℕ) → may plan m S (event.Local k line) ≡ true → Stands plan S → Stands plan (after plan m S (event.Local k line))
 local_stands plan m S k line h st =
@@ -213,37 +218,38 @@ local_stands plan m S k line h st =
     let rest = changed_rest f l.0 in
     frame_event plan m S (event.Local k line) k.0 a.frame (λ g. stepped g (intent_of plan g)) a.top refl st
     (subst (λ g. Went (steps plan f.script (st.states a.frame)) (st.states a.frame) f g) (sym next) (local_goes plan (st.states a.frame) f l.0 l.1 (st.stands a.frame (top_there S.cpus k.0 a.frame a.top)).simulates does))
-    (ap (λ (g : Frame). g.script) next ∙ rest.0) (ap (λ (g : Frame). g.request) next ∙ rest.1) (ap (λ (g : Frame). g.pending) next ∙ rest.2 ∙ a.idle)
+    (subst (Alike f) (sym next) (same_rest f (stepped f (intent.Local l.0 l.1)) rest.0.script rest.0.callback rest.0.object rest.0.request)) (ap (λ (g : Frame). g.pending) next ∙ rest.1 ∙ a.idle)
 
 plain_event : {A : Type 0} (plan : Plan) (m : Meaning A) (S : State A) (k : Cpu) (e : Event) (n : ℕ) (step : Frame → Frame) → ((x : Event) → same_event x e ≡ true → shown_shape x ≡ n) → nat_lt n 7 ≡ true → IsPlain n ≡ true → is_own_event plan m S k e ≡ true
     → deeds plan S e ≡ by_top S k.0 (λ g frame. GoOn (frame_id g) (step frame) ∷ [])
-    → ((f : Frame) → (step f).at ≡ (goes_on plan f).at) → ((f : Frame) → (step f).variables ≡ (goes_on plan f).variables) → ((f : Frame) → (step f).script ≡ f.script) → ((f : Frame) → (step f).request ≡ f.request) → ((f : Frame) → f.pending ≡ None → (step f).pending ≡ None)
+    → ((f : Frame) → (step f).at ≡ (goes_on plan f).at) → ((f : Frame) → (step f).variables ≡ (goes_on plan f).variables) → ((f : Frame) → Alike f (step f)) → ((f : Frame) → f.pending ≡ None → (step f).pending ≡ None)
     → Stands plan S → Stands plan (after plan m S e)
-plain_event plan m S k e n step shows low is h ds at vars script request idle st =
+plain_event plan m S k e n step shows low is h ds at vars alike idle st =
     let acts = acts_of plan m S k e n shows low h in
     let a = acts.1 in
     let f : Frame = frame_of S.cpus a.frame in
     frame_event plan m S e k.0 a.frame step a.top ds st
     (plain_goes plan (st.states a.frame) f (step f) acts.0 (st.stands a.frame (top_there S.cpus k.0 a.frame a.top)).simulates a.about (subst (λ q. IsPlain q ≡ true) (sym acts.2) is) (at f) (vars f))
-    (script f) (request f) (idle f a.idle)
+    (alike f) (idle f a.idle)
 
 pub log_stands : {A : Type 0} (plan : Plan) (m : Meaning A) (S : State A) (k : Cpu) (v : Value) → may plan m S (event.Log k v) ≡ true → Stands plan S → Stands plan (after plan m S (event.Log k v))
 log_stands plan m S k v h st = plain_event plan m S k (event.Log k v) 1 (goes_on plan) (λ x same. log_shown x k v same) refl refl h refl (λ f. refl) (λ f. refl)
-    (λ f. (next_rest f (statement_at plan f)).0) (λ f. (next_rest f (statement_at plan f)).1) (λ f i. (next_rest f (statement_at plan f)).2 ∙ i) st
+    (λ f. (next_rest f (statement_at plan f)).0) (λ f i. (next_rest f (statement_at plan f)).1 ∙ i) st
 
 pub spend_stands : {A : Type 0} (plan : Plan) (m : Meaning A) (S : State A) (k : Cpu) (n : ℕ) → may plan m S (event.Spend k n) ≡ true → Stands plan S → Stands plan (after plan m S (event.Spend k n))
 spend_stands plan m S k n h st = plain_event plan m S k (event.Spend k n) 2 (λ f. spending plan S f n) (λ x same. spend_shown x k n same) refl refl h refl (λ f. refl) (λ f. refl)
-    (λ f. (next_rest f (statement_at plan f)).0) (λ f. (next_rest f (statement_at plan f)).1) (λ f i. (next_rest f (statement_at plan f)).2 ∙ i) st
+    (λ f. let a = (next_rest f (statement_at plan f)).0 in same_rest f (spending plan S f n) a.script a.callback a.object a.request) (λ f i. (next_rest f (statement_at plan f)).1 ∙ i) st
 
-answer_rest : (f : Frame) (into : Option ℕ) (v : Value) → ((with_answer f into v).script ≡ f.script) × ((with_answer f into v).request ≡ f.request)
-answer_rest f None v = (refl, refl)
-answer_rest f (Some x) v = (refl, refl)
+answer_rest : (f : Frame) (into : Option ℕ) (v : Value) → Alike f (with_answer f into v)
+answer_rest f None v = alike_itself f
+answer_rest f (Some x) v = same_rest f (with_answer f (Some x) v) refl refl refl refl
 
-pub answered_rest : (plan : Plan) (f : Frame) (v : Value) → ((answered plan f v).script ≡ f.script) × ((answered plan f v).request ≡ f.request)
+pub answered_rest : (plan : Plan) (f : Frame) (v : Value) → Alike f (answered plan f v)
 answered_rest plan f v =
     let one = answer_rest (goes_on plan f) (result_of (statement_at plan f)) v in
     let two = next_rest f (statement_at plan f) in
-    (one.0 ∙ two.0, one.1 ∙ two.1)
+    let a = alike_then f (goes_on plan f) (with_answer (goes_on plan f) (result_of (statement_at plan f)) v) two.0 one in
+    same_rest f (answered plan f v) a.script a.callback a.object a.request
 
 accessed : (a : Access) (n : ℕ) → n ≡ access_shape a → (n == 3 || n == 4) ≡ true
 accessed access.Read n e = rw e refl
@@ -260,4 +266,4 @@ register_stands plan m S k w r v h st =
     let f : Frame = frame_of S.cpus a.frame in
     let rest = answered_rest plan f (Num v) in
     frame_event plan m S (event.Register k w r v) k.0 a.frame (λ g. answered plan g (Num v)) a.top refl st
-    (register_goes plan (st.states a.frame) f acts.0 (Num v) (st.stands a.frame (top_there S.cpus k.0 a.frame a.top)).simulates a.about (accessed w (shape acts.0) acts.2)) rest.0 rest.1 refl
+    (register_goes plan (st.states a.frame) f acts.0 (Num v) (st.stands a.frame (top_there S.cpus k.0 a.frame a.top)).simulates a.about (accessed w (shape acts.0) acts.2)) rest refl

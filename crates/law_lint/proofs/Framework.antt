@@ -18,7 +18,7 @@ use Rattle.wdf_model.specs.parts.Cpus.{Cpus, all_frames, frame_of}
 use Rattle.wdf_model.specs.parts.Requests.{place_of, request_of}
 use Rattle.wdf_model.specs.State.{State, is_proper}
 use Rattle.wdf_model.specs.declared.deed.Deed.TheVariants.{AdvancePower, CompleteRequest, TakeStep}
-use Rattle.wdf_model.specs.rules.Deeds.{counted, do_deed, do_deeds}
+use Rattle.wdf_model.specs.rules.Deeds.{do_deed, do_deeds}
 use Rattle.wdf_model.specs.rules.Starts.{stage_effect}
 use Rattle.wdf_model.specs.rules.Steps.{after, deeds, is_closing_with, may}
 use Rattle.law_machine_base.specs.Fits.{all_fit, fits}
@@ -30,10 +30,10 @@ use Rattle.law_machine_counts.proofs.StillFrames.{Still, deeds_still}
 use Rattle.law_lint.proofs.Grips.{LaterAt, at_same, is_armed}
 use Rattle.law_lint.proofs.Sane.{Sane}
 use Rattle.law_lint.proofs.Others.{Places, deeds_later, event_later}
-use Rattle.law_machine_deeds.specs.MayDo.{is_start, second_part}
+use Rattle.law_machine_deeds.specs.MayDo.{is_start, releasing, second_part}
 use Rattle.wdf_model.specs.rules.Faults.{is_acquire}
-use Rattle.wdf_model.specs.parts.Locks.{held_by_call}
-use Rattle.law_lint.proofs.Holdings.{event_fewer}
+use Rattle.law_lint.proofs.Events.{told}
+use Rattle.law_lint.proofs.Holdings.{event_left, left_same}
 use Rattle.law_lint.proofs.Stands.{Stands, fewer_stand}
 use Rattle.wdf_model.proofs.FrameCounts.{on}
 
@@ -51,25 +51,22 @@ still_there S U s x =
     let same : all_frames U.cpus ≡ all_frames S.cpus = ap (λ ss. flat_map (λ (fs : List ℕ). fs) ss ++ U.cpus.parked) s.stacks ∙ ap (λ ps. flat_map (λ (fs : List ℕ). fs) S.cpus.stacks ++ ps) s.parked in
     ap (λ fs. count_by (λ y. y == x) fs) same
 
-told : {A : Type 0} (plan : Plan) (m : Meaning A) (e : Event) (S : State A) → Stands plan S → Stands plan (counted m e S)
-told plan m e S st = record { states = st.states; stands = λ f more. let k = st.stands f more in record { reached = k.reached; simulates = k.simulates; grips = k.grips; has = k.has; waits = k.waits; few = k.few; single = k.single }; off = st.off; alone = λ f g x ft gt fg gg. st.alone f g x ft gt (record { request = fg.request; has = fg.has; same = fg.same; in_hand = fg.in_hand }) (record { request = gg.request; has = gg.has; same = gg.same; in_hand = gg.in_hand }) }
-
 -- ---- each kind of event
 
 -- an event whose deeds touch no frame, and that is no owner's
-quiet_event : {A : Type 0} (plan : Plan) (m : Meaning A) (S : State A) (e : Event) → may plan m S e ≡ true → is_start e ≡ false → second_part is_acquire e ≡ false → FramesSame S.cpus (do_deeds plan (deeds plan S e) S).cpus
+quiet_event : {A : Type 0} (plan : Plan) (m : Meaning A) (S : State A) (e : Event) → may plan m S e ≡ true → is_start e ≡ false → second_part is_acquire e ≡ false → releasing e ≡ false → FramesSame S.cpus (do_deeds plan (deeds plan S e) S).cpus
     → ((x : ℕ) → on (do_deeds plan (deeds plan S e) S).cpus x ≡ on S.cpus x)
     → ((x : ℕ) → x < length S.requests.all → LaterAt x S.requests (do_deeds plan (deeds plan S e) S).requests) → Stands plan S → Stands plan (after plan m S e)
-quiet_event plan m S e h no_start no_acquire frames there later st =
+quiet_event plan m S e h no_start no_acquire no_release frames there later st =
     told plan m e (do_deeds plan (deeds plan S e) S)
-    (fewer_stand plan S (do_deeds plan (deeds plan S e) S) st frames later (λ g. event_fewer plan S e g no_start no_acquire)
-    (λ g none. let less = event_fewer plan S e g no_start no_acquire in let was = st.off g (sym (there g) ∙ none) in omega arith))
+    (fewer_stand plan S (do_deeds plan (deeds plan S e) S) st frames later (λ g. event_left plan S e g no_start no_acquire no_release)
+    (λ g none. let l = event_left plan S e g no_start no_acquire no_release in let less = l.fewer in let was = st.off g (sym (there g) ∙ none) in omega arith))
 
-still_event : {A : Type 0} (plan : Plan) (m : Meaning A) (S : State A) (e : Event) → may plan m S e ≡ true → is_start e ≡ false → second_part is_acquire e ≡ false → all_still (deeds plan S e) ≡ true
+still_event : {A : Type 0} (plan : Plan) (m : Meaning A) (S : State A) (e : Event) → may plan m S e ≡ true → is_start e ≡ false → second_part is_acquire e ≡ false → releasing e ≡ false → all_still (deeds plan S e) ≡ true
     → ((x : ℕ) → x < length S.requests.all → LaterAt x S.requests (do_deeds plan (deeds plan S e) S).requests) → Stands plan S → Stands plan (after plan m S e)
-still_event plan m S e h no_start no_acquire still later st =
+still_event plan m S e h no_start no_acquire no_release still later st =
     let s = deeds_still plan (deeds plan S e) S still (event_fits plan m S e h) in
-    quiet_event plan m S e h no_start no_acquire (still_frames S (do_deeds plan (deeds plan S e) S) s) (still_there S (do_deeds plan (deeds plan S e) S) s) later st
+    quiet_event plan m S e h no_start no_acquire no_release (still_frames S (do_deeds plan (deeds plan S e) S) s) (still_there S (do_deeds plan (deeds plan S e) S) s) later st
 
 closing_at : (p : Place) (s : Status) → is_closing_with p s ≡ true → is_closing p ≡ true
 closing_at (place.Closing s) t h = refl
@@ -82,7 +79,7 @@ closing_at place.Done t h = absurd (let z : ⊥ = cc in z)
 pub completion_stands : {A : Type 0} (plan : Plan) (m : Meaning A) (S : State A) (r : Handle) (s : Status) → may plan m S (event.Complete r s) ≡ true → Places S → Stands plan S → Stands plan (after plan m S (event.Complete r s))
 completion_stands plan m S r s h k st =
     let closing : is_closing (place_of S.requests r.id.0) ≡ true = closing_at (place_of S.requests r.id.0) s (both_right (is_proper plan S r) (is_closing_with (place_of S.requests r.id.0) s) h) in
-    still_event plan m S (event.Complete r s) h refl refl refl
+    still_event plan m S (event.Complete r s) h refl refl refl refl
     (λ x old. deeds_later plan (CompleteRequest r.id ∷ []) S x (event_fits plan m S (event.Complete r s) h) k old
     (elim (one_or_two x r.id.0) [
       | inl e ↦ (inr (subst (λ y. is_closing (place_of S.requests y) ≡ true) (sym e) closing), tt)
@@ -93,13 +90,13 @@ completion_stands plan m S r s h k st =
 pub post_stands : {A : Type 0} (plan : Plan) (m : Meaning A) (S : State A) (agent : ℕ) (p : Post) (answer : Option Handle) → may plan m S (event.Posted agent p answer) ≡ true → Places S → Stands plan S
     → Stands plan (after plan m S (event.Posted agent p answer))
 post_stands plan m S agent p answer h k st =
-    still_event plan m S (event.Posted agent p answer) h refl refl (post_none plan S agent p) (λ x old. event_later plan S (event.Posted agent p answer) x refl (event_fits plan m S (event.Posted agent p answer) h) k old) st
+    still_event plan m S (event.Posted agent p answer) h refl refl refl (post_none plan S agent p) (λ x old. event_later plan S (event.Posted agent p answer) x refl (event_fits plan m S (event.Posted agent p answer) h) k old) st
 
 pub cleanup_stands : {A : Type 0} (plan : Plan) (m : Meaning A) (S : State A) (o : Handle) → may plan m S (event.Cleanup o) ≡ true → Places S → Stands plan S → Stands plan (after plan m S (event.Cleanup o))
-cleanup_stands plan m S o h k st = still_event plan m S (event.Cleanup o) h refl refl refl (λ x old. event_later plan S (event.Cleanup o) x refl (event_fits plan m S (event.Cleanup o) h) k old) st
+cleanup_stands plan m S o h k st = still_event plan m S (event.Cleanup o) h refl refl refl refl (λ x old. event_later plan S (event.Cleanup o) x refl (event_fits plan m S (event.Cleanup o) h) k old) st
 
 pub destroy_stands : {A : Type 0} (plan : Plan) (m : Meaning A) (S : State A) (o : Handle) → may plan m S (event.Destroy o) ≡ true → Places S → Stands plan S → Stands plan (after plan m S (event.Destroy o))
-destroy_stands plan m S o h k st = quiet_event plan m S (event.Destroy o) h refl refl (λ x more. (more, refl)) (λ x. refl) (λ x old. event_later plan S (event.Destroy o) x refl (event_fits plan m S (event.Destroy o) h) k old) st
+destroy_stands plan m S o h k st = quiet_event plan m S (event.Destroy o) h refl refl refl (λ x more. (more, refl)) (λ x. refl) (λ x old. event_later plan S (event.Destroy o) x refl (event_fits plan m S (event.Destroy o) h) k old) st
 
 pub stage_stands : {A : Type 0} (plan : Plan) (m : Meaning A) (S : State A) (d : Handle) (s : Stage) (i : Option Handle) → may plan m S (event.Stage d s i) ≡ true → Places S → Stands plan S
     → Stands plan (after plan m S (event.Stage d s i))
@@ -108,13 +105,13 @@ stage_stands {A} plan m S d s i h k st =
     let fit : all_fit plan (deeds plan S (event.Stage d s i)) S ≡ true = event_fits plan m S (event.Stage d s i) h in
     let still = deeds_still plan (AdvancePower (object_id d.id.0) (step.Pass s i) ∷ stage_effect plan d.id.0 s i) T (stage_none plan d.id.0 s i)
     (both_right (fits plan (TakeStep (object_id d.id.0)) S) (all_fit plan (AdvancePower (object_id d.id.0) (step.Pass s i) ∷ stage_effect plan d.id.0 s i) T) fit) in
-    quiet_event plan m S (event.Stage d s i) h refl refl
+    quiet_event plan m S (event.Stage d s i) h refl refl refl
     (still_frames T (do_deeds plan (AdvancePower (object_id d.id.0) (step.Pass s i) ∷ stage_effect plan d.id.0 s i) T) still)
     (still_there T (do_deeds plan (AdvancePower (object_id d.id.0) (step.Pass s i) ∷ stage_effect plan d.id.0 s i) T) still)
     (λ x old. event_later plan S (event.Stage d s i) x refl fit k old) st
 
 pub tick_stands : {A : Type 0} (plan : Plan) (m : Meaning A) (S : State A) (time : ℕ) → Stands plan S → Stands plan (after plan m S (event.Tick time))
-tick_stands plan m S time st = told plan m (event.Tick time) (do_deeds plan (deeds plan S (event.Tick time)) S) (fewer_stand plan S (do_deeds plan (deeds plan S (event.Tick time)) S) st (λ x more. (more, refl)) (λ x old. at_same x S.requests S.requests refl) (λ g. let z : held_by_call S.locks g ≤ held_by_call S.locks g = omega arith in z) st.off)
+tick_stands plan m S time st = told plan m (event.Tick time) (do_deeds plan (deeds plan S (event.Tick time)) S) (fewer_stand plan S (do_deeds plan (deeds plan S (event.Tick time)) S) st (λ x more. (more, refl)) (λ x old. at_same x S.requests S.requests refl) (λ g. left_same S.locks S.locks g refl) st.off)
 
 not_owned : (p : Place) → is_closing p ≡ true → is_owned p ≡ false
 not_owned (place.Closing s) h = refl

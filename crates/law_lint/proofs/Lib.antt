@@ -1,4 +1,3 @@
-mod FreeRuns
 mod Known
 mod Frames
 mod Grips
@@ -6,13 +5,15 @@ mod Calls
 mod Acting
 mod Weights
 mod Holdings
+mod HeldAs
+mod Began
+mod Locking
 mod Stands
 mod Events
 mod Faults
 mod Others
 mod Framework
 mod Answers
-mod Locking
 mod Dids
 mod Spent
 mod Owners
@@ -20,3 +21,5 @@ mod Waits
 mod Sane
 mod Begins
 mod Sound
+mod LockFaults
+mod Unstopped

@@ -13,7 +13,8 @@ use Rattle.wdf_model.specs.rules.Deeds.{do_deed, do_deeds}
 use Rattle.wdf_model.specs.rules.Steps.{deeds}
 use Rattle.law_machine_base.specs.Fits.{all_fit, fits}
 use Rattle.wdf_model.proofs.Tests.{both_left, both_right, not_true}
-use Rattle.law_machine_base.proofs.KeptByDeeds.{KeptIn, deed_keeps}
+use Rattle.law_machine_base.proofs.KeptByDeeds.{deed_keeps}
+pub use Rattle.law_free_runs.proofs.Places.{Places}
 use Rattle.law_machine_deeds.specs.MayDo.{calls, first_part, gives_back, gives_to_head, is_completion, may_do}
 use Rattle.law_machine_deeds.proofs.Walk.{all_pass, event_may}
 use Rattle.law_machine_deeds.proofs.Passing.{calls_among, first_among}
@@ -51,10 +52,6 @@ all_apart plan (d ∷ ds) S x h = (
   apart_of d S x (not_true (is_owners d) (both_left (not (is_owners d)) (list_all (λ e. not (is_owners e)) ds) h)),
   all_apart plan ds (do_deed plan d S) x (both_right (not (is_owners d)) (list_all (λ e. not (is_owners e)) ds) h),
 )
-
--- what is known of places and lines, whatever was told
-abbrev pub Places : {A : Type 0} → State A → Type 0
-Places S = KeptIn (λ _. false) (λ _. true) S
 
 pub deeds_later : {A : Type 0} (plan : Plan) (ds : List Deed) (S : State A) (x : ℕ) → all_fit plan ds S ≡ true → Places S → x < length S.requests.all → AllApart plan ds S x
     → LaterAt x S.requests (do_deeds plan ds S).requests

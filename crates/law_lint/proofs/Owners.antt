@@ -46,7 +46,7 @@ use Rattle.law_lint.proofs.Acting.{calling, giving_owns, marking_owns, on_it, ow
 use Rattle.law_lint.proofs.Calls.{Goes, GripOf, InHand, complete_goes, forward_goes, mark_goes, requeue_goes, send_goes, unmark_marked_goes, unmark_owned_goes}
 use Rattle.law_lint.proofs.Known.{KnownIs}
 use Rattle.law_lint.proofs.Grips.{LaterAt}
-use Rattle.law_lint.proofs.Others.{AllApart, Places, deeds_later}
+use Rattle.law_lint.proofs.Others.{AllApart, deeds_later}
 use Rattle.law_lint.proofs.Spent.{StaysSpent, deeds_spent}
 use Rattle.law_lint.proofs.Sane.{AllSane, AllSaneDeeds, deeds_sane}
 use Rattle.law_lint.proofs.Stands.{FrameGoes, FrameStands, Grasps, Stands, Stays, goes_stands, grip_later, hand_before, reaches}
@@ -55,7 +55,9 @@ use Rattle.law_lint.proofs.Faults.{Calls, calls, holds_so, rule_off}
 use Rattle.law_lint.proofs.Frames.{Simulates}
 use Rattle.law_lint.proofs.Answers.{CallWent, call_went}
 use Rattle.wdf_lint.specs.Steps.{called}
-use Rattle.law_lint.proofs.Weights.{Single}
+use Rattle.law_free_runs.proofs.FreeStates.{FreeState}
+use Rattle.law_lint.proofs.Began.{Alike, began_alike}
+use Rattle.law_lint.proofs.HeldAs.{HeldAs, held_assigned}
 use Rattle.law_lint.proofs.Locking.{Locked}
 use Rattle.law_lint.proofs.Dids.{did_locked, has_ways, still_goes}
 use Rattle.wdf_model.proofs.FrameCounts.{on}
@@ -188,13 +190,13 @@ at_spent R U x hold.Stop s g old free = record { grip = tt; within = let long = 
 
 -- ---- the event
 
-pub owner_keeps : {A : Type 0} (plan : Plan) (m : Meaning A) (S : State A) (k : Cpu) (c : Call) (v : Value) → IsClean plan → has_ways c.kind ≡ true → may plan m S (event.Did k c v) ≡ true → Places S → Stands plan S
+pub owner_keeps : {A : Type 0} (plan : Plan) (m : Meaning A) (S : State A) (k : Cpu) (c : Call) (v : Value) → IsClean plan → has_ways c.kind ≡ true → may plan m S (event.Did k c v) ≡ true → FreeState plan S → Stands plan S
     → Stands plan (after plan m S (event.Did k c v)) × (AllSane S.requests → AllSane (after plan m S (event.Did k c v)).requests)
-owner_keeps {A} plan m S k c v clean row h places st = (
+owner_keeps {A} plan m S k c v clean row h free st = (
   told plan m (event.Did k c v) U
       (goes_stands plan S U f next b st
       (subst (λ es. FrameGoes S (do_deeds plan es S) f next) (sym same) (still_goes plan S ds f next still fits_))
-      there new shrinks stay locks_.fewer),
+      there new shrinks stay locks_.others),
   λ all. subst AllSane (sym requests_) (deeds_sane plan o.deeds S fits_first go.sane all),
 )
   where
@@ -283,27 +285,27 @@ owner_keeps {A} plan m S k c v clean row h places st = (
     b : Abstract
     b = went.state
 
-    locks_ : Locked S.locks U.locks f (called plan frame.script a s.kind (node_of plan s.x))
-    locks_ = did_locked plan S k f c v a d clean fs
+    locks_ : Locked plan S.locks U.locks f frame.variables (called plan frame.script a s.kind (node_of plan s.x))
+    locks_ = did_locked plan S k c v a d free clean fs
 
     long : (x : ℕ) → x < length S.requests.all → StaysSpent x S.requests U.requests
-    long x old = subst (λ (R : Requests). StaysSpent x S.requests R) (sym requests_) (deeds_spent plan o.deeds S x fits_first places old)
+    long x old = subst (λ (R : Requests). StaysSpent x S.requests R) (sym requests_) (deeds_spent plan o.deeds S x fits_first free.places old)
 
     later : (x : ℕ) → x < length S.requests.all → AllApart plan o.deeds S x → LaterAt x S.requests U.requests
-    later x old ap_ = subst (λ (R : Requests). LaterAt x S.requests R) (sym requests_) (deeds_later plan o.deeds S x fits_first places old ap_)
+    later x old ap_ = subst (λ (R : Requests). LaterAt x S.requests R) (sym requests_) (deeds_later plan o.deeds S x fits_first free.places old ap_)
 
     goes_ : FrameGoes S U f next
     goes_ = subst (λ es. FrameGoes S (do_deeds plan es S) f next) (sym same) (still_goes plan S ds f next still fits_)
 
     now : (frame_of U.cpus f).request ≡ frame.request
-    now = ap (λ (x : Frame). x.request) goes_.here ∙ (answered_rest plan frame v).1
+    now = ap (λ (x : Frame). x.request) goes_.here ∙ (answered_rest plan frame v).request
 
     one_request : (q : Handle) → (frame_of U.cpus f).request ≡ Some q → q.id.0 ≡ object_in c.a
     one_request q has = let e : Some q ≡ Some request.0 = sym has ∙ now ∙ request.1 in let is : q ≡ request.0 = cc in ap (λ (x : Handle). x.id.0) is ∙ sym at_it
 
     new : FrameStands plan U f b
     new = record {
-      reached = subst (λ n. IsReached plan n b) (sym (ap (λ (x : Frame). x.script) goes_.here ∙ (answered_rest plan frame v).0)) (reaches plan frame.script a b fs.reached went.is_in);
+      reached = subst (λ n. IsReached plan n b) (sym (ap (λ (x : Frame). x.script) goes_.here ∙ (answered_rest plan frame v).script)) (reaches plan frame.script a b fs.reached went.is_in);
       simulates = subst (Simulates b) (sym goes_.here) went.simulates;
       grips = λ q has.
           let e = one_request q has in
@@ -311,8 +313,8 @@ owner_keeps {A} plan m S k c v clean row h places st = (
           (subst (λ n. GripOf b.hold (request_of U.requests n)) (sym e) (subst (λ x. GripOf x (request_of U.requests (object_in c.a))) (sym went.hold) (subst (λ (R : Requests). GripOf w.hold (request_of R (object_in c.a))) (sym requests_) go.goes.grips)), let l = long q.id.0 old in let n = l.long in omega arith);
       has = λ _. (request.0, now ∙ request.1);
       waits = λ p e. absurd (let none : (frame_of U.cpus f).pending ≡ None = ap (λ (x : Frame). x.pending) goes_.here in let q : ⊥ = cc in q);
-      few = let held = locks_.few in let weighs = went.weighs in omega arith;
-      single = subst Single (sym went.interrupts) locks_.single;
+      locks = subst (λ (x : Frame). HeldAs plan U.locks f x.variables b) (sym goes_.here) (held_assigned plan U.locks f (called plan frame.script a s.kind (node_of plan s.x)) frame b next went.assigned went.interrupts locks_.now);
+      began = began_alike plan frame (frame_of U.cpus f) (subst (Alike frame) (sym goes_.here) (answered_rest plan frame v)) fs.began;
     }
 
     shrinks : (x : ℕ) → Grasps U f b x → Grasps S f a x

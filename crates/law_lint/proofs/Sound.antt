@@ -1,5 +1,5 @@
 -- In a free run of a clean plan no frame has a fault that is about who owns a request; of StopAcknowledge the first is for itself.
-use Rattle.std.proofs.Common.{if◌then◌else◌, ◌≡◌, ℕ, zero, suc, ◌+◌, ◌==◌, ◌<◌, ◌≤◌, nat_lt, Bool, true, false, not, ◌&&◌, ◌||◌, List, [], ◌∷◌, ◌⊎◌, inl, inr, Option, Some, None, is_some, length, map, slice_get, refl, sym, ap, subst, ◌∙◌, arith}
+use Rattle.std.proofs.Common.{if◌then◌else◌, ◌≡◌, ℕ, ◌+◌, ◌==◌, ◌<◌, ◌≤◌, nat_lt, Bool, true, false, not, ◌&&◌, ◌||◌, List, [], ◌∷◌, ◌⊎◌, inl, inr, Option, Some, None, length, slice_get, refl, sym, ap, subst, ◌∙◌, arith}
 use Rattle.std.specs.List.{list_all}
 use Rattle.wdf_base.specs.Meaning.{Meaning}
 use Rattle.wdf_base.specs.declared.plan.Plan.{Plan}
@@ -11,43 +11,33 @@ use Rattle.wdf_base.specs.declared.object.RequestForm.{RequestForm}
 use Rattle.wdf_base.specs.declared.call.Call.{Call}
 use Rattle.wdf_base.specs.declared.call.CallKind.{CallKind}
 use Rattle.wdf_base.specs.declared.call.CallKind.TheVariants as call
-use Rattle.wdf_base.specs.declared.declared.DeviceInfo.{DeviceInfo}
 use Rattle.wdf_base.specs.declared.event.Event.{Event}
 use Rattle.wdf_base.specs.declared.event.Event.TheVariants as event
 use Rattle.wdf_base.specs.declared.event.Post.{Post}
 use Rattle.wdf_base.specs.declared.event.Post.TheVariants as post
 use Rattle.wdf_base.specs.Same.{same_call_kind}
 use Rattle.wdf_model.specs.Ids.{object_id}
-use Rattle.wdf_model.specs.Tables.{entry, flag}
-use Rattle.wdf_model.specs.Plans.{declared_ids, device_of, is_manual_queue, has_handler, queue_of, queue_for}
+use Rattle.wdf_model.specs.Plans.{is_manual_queue, has_handler, queue_of, queue_for}
 use Rattle.wdf_model.specs.parts.Tree.{life_of}
-use Rattle.wdf_model.specs.parts.Cpus.{frame_of, opening_cpus}
+use Rattle.wdf_model.specs.parts.Cpus.{frame_of}
 use Rattle.wdf_model.specs.parts.Control.{accepts}
-use Rattle.wdf_model.specs.parts.Pnp.{no_sequence, opening_sequence}
 use Rattle.wdf_model.specs.State.{State, opening}
 use Rattle.wdf_model.specs.declared.deed.Deed.{Deed}
 use Rattle.wdf_model.specs.declared.deed.Deed.TheVariants.{Arrive, CompleteRequest, CountArrival, SendRequest}
-use Rattle.law_machine_base.specs.Agreement.{is_step_frame}
-use Rattle.law_machine_base.specs.Fits.{all_fit, fits}
-use Rattle.wdf_model.specs.rules.Deeds.{counted, do_deed, do_deeds}
+use Rattle.law_machine_base.specs.Fits.{all_fit}
+use Rattle.wdf_model.specs.rules.Deeds.{do_deeds}
 use Rattle.wdf_model.specs.rules.Posts.{arrival_info, arrival_place, is_data, place_if_any, takes_empty}
-use Rattle.wdf_model.specs.rules.Ready.{state_after}
 use Rattle.wdf_model.specs.rules.Steps.{after, deeds, may}
 use Rattle.wdf_model.proofs.Tests.{both, both_left, both_right}
 use Rattle.law_machine_base.proofs.FitsOfEvents.{event_fits}
-use Rattle.law_machine_base.proofs.KeptByDeeds.{deed_keeps}
-use Rattle.law_machine_base.proofs.LawsOverRuns.{history}
-use Rattle.wdf_model.proofs.Runs.{run_opens}
-use Rattle.wdf_model.specs.rules.Ready.{IsRunOf, ready}
 use Rattle.law_machine_deeds.specs.MayDo.{is_request, may_do, posts}
 use Rattle.law_machine_deeds.proofs.Walk.{all_pass, event_may}
-use Rattle.law_machine_counts.proofs.Framed.{Framed}
 use Rattle.law_machine_counts.proofs.StepStates.{StepsIn}
-use Rattle.law_machine_counts.proofs.StepsOverRuns.{none_yet, opening_hollow}
-use Rattle.law_machine_counts.proofs.StepTable.{event_keeps_steps, tick_keeps_steps}
-use Rattle.law_lint.specs.FreeRuns.{IsFreeRun, is_of_marks}
+use Rattle.law_machine_counts.proofs.StepsOverRuns.{none_yet}
+use Rattle.law_free_runs.specs.FreeRuns.{IsFreeRun}
+use Rattle.law_lint.specs.Faults.{is_of_marks}
 use Rattle.wdf_lint.specs.Walks.{IsClean}
-use Rattle.law_lint.proofs.Others.{Places, is_owners, is_owners_call, is_owners_event, owners_event}
+use Rattle.law_lint.proofs.Others.{is_owners, is_owners_call, is_owners_event, owners_event}
 use Rattle.law_lint.proofs.Sane.{AllSane, AllSaneDeeds, all_ask_none, deeds_sane, is_asking}
 use Rattle.law_lint.proofs.Stands.{FrameStands, Stands}
 use Rattle.std.proofs.Common.{rules}
@@ -59,7 +49,7 @@ use Rattle.wdf_base.specs.declared.frame.Intent.TheVariants as intent
 use Rattle.wdf_base.specs.Same.{same_cpu, same_event, same_fault}
 use Rattle.wdf_model.specs.Ids.{cpu_of}
 use Rattle.wdf_model.specs.rules.Calls.{is_met_then, outcome}
-use Rattle.wdf_model.specs.rules.Faults.{View, call_faults, holds_of, is_fault_of_access, is_fault_of_return, is_script_fault}
+use Rattle.wdf_model.specs.rules.Faults.{View, call_faults, holds_of, is_fault_of_access, is_fault_of_return, is_script_fault, fault_of}
 use Rattle.wdf_model.specs.rules.Script.{intent_of, line_of}
 use Rattle.wdf_model.specs.rules.Steps.{intent_event, own_event, view_of}
 use Rattle.wdf_lint.specs.declared.state.Abstract.{Abstract}
@@ -76,7 +66,8 @@ use Rattle.law_lint.proofs.Weights.{left_weight}
 use Rattle.law_lint.proofs.Frames.{act_shape, shape, shape_of}
 use Rattle.law_lint.proofs.Acting.{Quiet}
 use Rattle.law_lint.proofs.Faults.{Keeps, call_quiet, fault_holds, stop_quiet}
-use Rattle.law_lint.proofs.FreeRuns.{free_place, runs_are_free}
+use Rattle.law_free_runs.proofs.FreeRuns.{free_place}
+use Rattle.law_free_runs.proofs.FreeStates.{FreeState, event_state, opening_state, tick_state}
 use Rattle.wdf_base.specs.declared.object.RequestForm.TheVariants as form
 use Rattle.wdf_base.specs.Lives.{is_live}
 use Rattle.wdf_base.specs.Places.{is_sent}
@@ -121,24 +112,12 @@ posted_sane plan S agent (post.Write device n) answer fit all = deeds_sane plan 
 posted_sane plan S agent (post.Control device code n) answer fit all = deeds_sane plan (deeds plan S (event.Posted agent (post.Control device code n) answer)) S fit (post_sane plan S agent form.Control n code device.id.0 (is_live (life_of S.tree device.id.0))) all
 posted_sane plan S agent p answer fit all = event_sane plan S (event.Posted agent p answer) refl refl fit all
 
--- ---- places
-
-places_after : {A : Type 0} (plan : Plan) (ds : List Deed) (S : State A) → all_fit plan ds S ≡ true → Places S → Places (do_deeds plan ds S)
-places_after plan [] S f k = k
-places_after plan (d ∷ ds) S f k = places_after plan ds (do_deed plan d S) (both_right (fits plan d S) (all_fit plan ds (do_deed plan d S)) f) (deed_keeps plan d S (both_left (fits plan d S) (all_fit plan ds (do_deed plan d S)) f) (λ _. refl) k)
-
 -- ---- the whole invariant
 
 pub record Standing {A : Type 0} (plan : Plan) (S : State A) : Type 0 where
   pub stands : Stands plan S
   pub sane : AllSane S.requests
-  pub places : Places S
-  pub steps : StepsIn S.number S.number S
-
-told_more : {A : Type 0} (m : Meaning A) (e : Event) (N : ℕ) (S : State A) → StepsIn N (N + 1) S → StepsIn (counted m e S).number (counted m e S).number (counted m e S)
-told_more m e N S h =
-    let more : N + 1 ≡ S.number + 1 = ap (λ n. n + 1) (sym h.number) in
-    record { number = refl; framed = subst (λ n. Framed S.cpus S.tree n) more h.framed; rooted = h.rooted; stepping = h.stepping }
+  pub state : FreeState plan S
 
 -- no frame has the next number
 next_free : {A : Type 0} (S : State A) → StepsIn S.number S.number S → on S.cpus (S.number + 1) ≡ 0
@@ -152,8 +131,7 @@ standing_by : {A : Type 0} (plan : Plan) (m : Meaning A) (S : State A) (e : Even
 standing_by plan m S e h k stands sane = record {
   stands = stands;
   sane = sane;
-  places = let p : Places (do_deeds plan (deeds plan S e) S) = places_after plan (deeds plan S e) S (event_fits plan m S e h) k.places in p;
-  steps = told_more m e S.number (do_deeds plan (deeds plan S e) S) (event_keeps_steps plan m S e h k.steps);
+  state = event_state plan m S e h k.state;
 }
 
 quiet_standing : {A : Type 0} (plan : Plan) (m : Meaning A) (S : State A) (e : Event) → may plan m S e ≡ true → is_owners_event e ≡ false → posts is_request e ≡ false → Standing plan S → Stands plan (after plan m S e) → Standing plan (after plan m S e)
@@ -182,82 +160,50 @@ both_all p q r h (d ∷ ds) a b = both (r d) (list_all r ds) (h d (both_left (p 
 
 did_standing : {A : Type 0} (plan : Plan) (m : Meaning A) (S : State A) (k : Cpu) (c : Call) (v : Value) → IsClean plan → may plan m S (event.Did k c v) ≡ true → Standing plan S → (b s : Bool) → has_ways c.kind ≡ b → same_call_kind c.kind call.WdfRequestStopAcknowledge ≡ s
     → Standing plan (after plan m S (event.Did k c v))
-did_standing plan m S k c v clean h st true s e f = let o = owner_keeps plan m S k c v clean e h st.places st.stands in standing_by plan m S (event.Did k c v) h st o.0 (o.1 st.sane)
+did_standing plan m S k c v clean h st true s e f = let o = owner_keeps plan m S k c v clean e h st.state st.stands in standing_by plan m S (event.Did k c v) h st o.0 (o.1 st.sane)
 did_standing plan m S k c v clean h st false true e f =
-    standing_by plan m S (event.Did k c v) h st (stop_stands plan m S k c v clean f h st.places st.stands)
+    standing_by plan m S (event.Did k c v) h st (stop_stands plan m S k c v clean f h st.state st.stands)
     (deeds_sane plan (deeds plan S (event.Did k c v)) S (event_fits plan m S (event.Did k c v) h) (all_ask_none plan (deeds plan S (event.Did k c v)) S
     (both_all (may_do (event.Did k c v)) (λ d. not (is_owners d)) (λ d. not (is_asking d)) (λ d a b. neither (event.Did k c v) d refl a b) (deeds plan S (event.Did k c v)) (event_may plan S (event.Did k c v)) (stop_none plan m S k c v clean f h st.stands))) st.sane)
 did_standing plan m S k c v clean h st false false e f =
     let off : is_owners_call c.kind ≡ false = rest_plain c.kind e f in
-    quiet_standing plan m S (event.Did k c v) h off refl st (plain_stands plan m S k c v clean e off h st.places st.stands)
+    quiet_standing plan m S (event.Did k c v) h off refl st (plain_stands plan m S k c v clean e off h st.state st.stands)
 
 waiting_off : {A : Type 0} (plan : Plan) (m : Meaning A) (S : State A) (k : Cpu) (c : Call) → may plan m S (event.Waiting k c) ≡ true → is_owners_call c.kind ≡ false
 waiting_off plan m S k c h = (waits_for_none plan S c.kind c.count c.a c.b c.c (waiting_tells plan m S k c h).unmet).1
 
 -- each event keeps it
 pub event_standing : {A : Type 0} (plan : Plan) (m : Meaning A) (S : State A) (e : Event) → IsClean plan → may plan m S e ≡ true → Standing plan S → Standing plan (after plan m S e)
-event_standing plan m S (event.Start k c o r) clean h st = quiet_standing plan m S (event.Start k c o r) h refl refl st (start_stands plan m S k c o r h (next_free S st.steps) st.places st.sane st.stands)
+event_standing plan m S (event.Start k c o r) clean h st = quiet_standing plan m S (event.Start k c o r) h refl refl st (start_stands plan m S k c o r h (next_free S st.state.steps) st.state st.sane st.stands)
 event_standing plan m S (event.Local k line) clean h st = quiet_standing plan m S (event.Local k line) h refl refl st (local_stands plan m S k line h st.stands)
 event_standing plan m S (event.Log k v) clean h st = quiet_standing plan m S (event.Log k v) h refl refl st (log_stands plan m S k v h st.stands)
 event_standing plan m S (event.Spend k n) clean h st = quiet_standing plan m S (event.Spend k n) h refl refl st (spend_stands plan m S k n h st.stands)
 event_standing plan m S (event.Register k a r v) clean h st = quiet_standing plan m S (event.Register k a r v) h refl refl st (register_stands plan m S k a r v h st.stands)
 event_standing plan m S (event.Did k c v) clean h st = did_standing plan m S k c v clean h st (has_ways c.kind) (same_call_kind c.kind call.WdfRequestStopAcknowledge) refl refl
-event_standing plan m S (event.Waiting k c) clean h st = quiet_standing plan m S (event.Waiting k c) h (waiting_off plan m S k c h) refl st (waiting_stands plan m S k c h st.places st.stands)
-event_standing plan m S (event.Woke k c v) clean h st = quiet_standing plan m S (event.Woke k c v) h refl refl st (woke_stands plan m S k c v clean h st.places st.stands)
+event_standing plan m S (event.Waiting k c) clean h st = quiet_standing plan m S (event.Waiting k c) h (waiting_off plan m S k c h) refl st (waiting_stands plan m S k c h st.state st.stands)
+event_standing plan m S (event.Woke k c v) clean h st = quiet_standing plan m S (event.Woke k c v) h refl refl st (woke_stands plan m S k c v clean h st.state st.stands)
 event_standing plan m S (event.Park k f) clean h st = quiet_standing plan m S (event.Park k f) h refl refl st (park_stands plan m S k f h st.stands)
-event_standing plan m S (event.Unpark k f) clean h st = quiet_standing plan m S (event.Unpark k f) h refl refl st (unpark_stands plan m S k f h st.steps.framed.once st.stands)
-event_standing plan m S (event.End k c o v) clean h st = quiet_standing plan m S (event.End k c o v) h refl refl st (end_stands plan m S k c o v h st.steps.framed.once st.places st.stands)
+event_standing plan m S (event.Unpark k f) clean h st = quiet_standing plan m S (event.Unpark k f) h refl refl st (unpark_stands plan m S k f h st.state.steps.framed.once st.stands)
+event_standing plan m S (event.End k c o v) clean h st = quiet_standing plan m S (event.End k c o v) h refl refl st (end_stands plan m S k c o v h st.state st.stands)
 event_standing plan m S (event.Fault k x line) clean h st = quiet_standing plan m S (event.Fault k x line) h refl refl st (fault_stands plan m S k x line st.stands)
-event_standing plan m S (event.Stage d s i) clean h st = quiet_standing plan m S (event.Stage d s i) h refl refl st (stage_stands plan m S d s i h st.places st.stands)
+event_standing plan m S (event.Stage d s i) clean h st = quiet_standing plan m S (event.Stage d s i) h refl refl st (stage_stands plan m S d s i h st.state.places st.stands)
 event_standing plan m S (event.Complete r s) clean h st =
-    standing_by plan m S (event.Complete r s) h st (completion_stands plan m S r s h st.places st.stands)
+    standing_by plan m S (event.Complete r s) h st (completion_stands plan m S r s h st.state.places st.stands)
     (deeds_sane plan (CompleteRequest r.id ∷ []) S (event_fits plan m S (event.Complete r s) h) (closing_unarmed plan m S r s h (st.sane r.id.0), tt) st.sane)
-event_standing plan m S (event.Cleanup o) clean h st = quiet_standing plan m S (event.Cleanup o) h refl refl st (cleanup_stands plan m S o h st.places st.stands)
-event_standing plan m S (event.Destroy o) clean h st = quiet_standing plan m S (event.Destroy o) h refl refl st (destroy_stands plan m S o h st.places st.stands)
+event_standing plan m S (event.Cleanup o) clean h st = quiet_standing plan m S (event.Cleanup o) h refl refl st (cleanup_stands plan m S o h st.state.places st.stands)
+event_standing plan m S (event.Destroy o) clean h st = quiet_standing plan m S (event.Destroy o) h refl refl st (destroy_stands plan m S o h st.state.places st.stands)
 event_standing plan m S (event.Posted agent p answer) clean h st =
-    standing_by plan m S (event.Posted agent p answer) h st (post_stands plan m S agent p answer h st.places st.stands) (posted_sane plan S agent p answer (event_fits plan m S (event.Posted agent p answer) h) st.sane)
+    standing_by plan m S (event.Posted agent p answer) h st (post_stands plan m S agent p answer h st.state.places st.stands) (posted_sane plan S agent p answer (event_fits plan m S (event.Posted agent p answer) h) st.sane)
 event_standing plan m S (event.Tick time) clean h st = absurd (let z : ⊥ = cc in z)
 
 pub tick_standing : {A : Type 0} (plan : Plan) (m : Meaning A) (S : State A) (time : ℕ) → Standing plan S → Standing plan (after plan m S (event.Tick time))
 tick_standing plan m S time st = record {
   stands = tick_stands plan m S time st.stands;
   sane = st.sane;
-  places = let p : Places S = st.places in p;
-  steps = told_more m (event.Tick time) S.number (do_deeds plan (deeds plan S (event.Tick time)) S) (tick_keeps_steps plan S time st.steps);
+  state = tick_state plan m S time st.state;
 }
 
 -- ---- the opening
-
-rests : (plan : Plan) (d : ℕ) (i : Option DeviceInfo) → (opening_sequence plan d i).running ≡ None
-rests plan d None = refl
-rests plan d (Some i) = refl
-
-all_rest : (plan : Plan) (ids : List ℕ) (d : ℕ) → (entry no_sequence (map (λ i. opening_sequence plan i (device_of plan i)) ids) d).running ≡ None
-all_rest plan [] d = refl
-all_rest plan (i ∷ ids) zero = rests plan i (device_of plan i)
-all_rest plan (i ∷ ids) (suc d) = all_rest plan ids d
-
-opening_steps : {A : Type 0} (plan : Plan) (m : Meaning A) → StepsIn 0 0 (opening plan m)
-opening_steps plan m = record {
-  number = refl;
-  framed = record {
-    once = λ f. let e = none_yet plan (λ x. x == f) in omega arith;
-    old = λ f is. let e = none_yet plan (λ x. x == f) in absurd (omega arith);
-    known = λ f is. let e = none_yet plan (λ x. x == f) in absurd (omega arith);
-    there = λ f is. let e = none_yet plan (λ x. x == f) in absurd (omega arith);
-  };
-  rooted = record { hollow = opening_hollow plan; root = refl; some = omega arith };
-  stepping = record { steps = λ d. none_yet plan (λ f. is_step_frame d (frame_of (opening_cpus plan) f)) ∙ sym (ap (λ r. flag (is_some r)) (all_rest plan (declared_ids plan) d)) };
-}
-
-first_state : {A : Type 0} (plan : Plan) (m : Meaning A) → state_after plan m [] ≡ opening plan m
-unfolding state_after
-first_state plan m = refl
-
-opening_places : {A : Type 0} (plan : Plan) (m : Meaning A) → Places (opening plan m)
-opening_places {A} plan m =
-    let k = (history plan m [] (run_opens (ready plan m)) 0).kept in
-    subst (λ (S : State A). Places S) (first_state plan m) (record { queued = k.queued; sent = k.sent; room = k.room; kinds = k.kinds; made = k.made; returns = k.returns; ended = λ r h. absurd (let z : ⊥ = cc in z); numbered = λ r h. absurd (let z : ⊥ = cc in z); begun = λ r h. refl })
 
 pub opening_standing : {A : Type 0} (plan : Plan) (m : Meaning A) → Standing plan (opening plan m)
 opening_standing plan m = record {
@@ -268,8 +214,7 @@ opening_standing plan m = record {
     off = λ f none. refl;
   };
   sane = λ x. record { armed = λ a. absurd (let z : ⊥ = cc in z); sent = λ s. absurd (let z : ⊥ = cc in z) };
-  places = opening_places plan m;
-  steps = opening_steps plan m;
+  state = opening_state plan m;
 }
 
 -- ---- each place of a free run
@@ -329,21 +274,22 @@ holds_off plan S cpu f a clean st (intent.Local c next) does x is h = absurd (le
 holds_off plan S cpu f a clean st (intent.Log v) does x is h = absurd (let z : ⊥ = cc in z)
 holds_off plan S cpu f a clean st (intent.Spend n) does x is h = absurd (let z : ⊥ = cc in z)
 
--- what a frame is about to do that has this fault
+-- what a frame is about to do that has this fault, as the first
 pub record HasFault {A : Type 0} (plan : Plan) (S : State A) (cpu : ℕ) (x : Fault) : Type 0 where
   pub intent : Intent
   pub acts : Acts plan S cpu intent
+  pub first : fault_of (view_of plan S cpu acts.frame) intent ≡ Some x
   pub holds : holds_of (view_of plan S cpu acts.frame) intent x ≡ true
 
 fault_same : (y x : Fault) → same_fault y x ≡ true → y ≡ x
 fault_same y x h = search rules
 
-faulted : {A : Type 0} (plan : Plan) (m : Meaning A) (S : State A) (k : Cpu) (x : Fault) (line : ℕ) (z : Event) → same_event z (event.Fault k x line) ≡ true → Own plan m S k.0 z → is_script_fault x ≡ false → HasFault plan S k.0 x
+pub faulted : {A : Type 0} (plan : Plan) (m : Meaning A) (S : State A) (k : Cpu) (x : Fault) (line : ℕ) (z : Event) → same_event z (event.Fault k x line) ≡ true → Own plan m S k.0 z → is_script_fault x ≡ false → HasFault plan S k.0 x
 faulted plan m S k x line z same (Wakes p e) is = absurd (let no_ = subst (λ y. same_event y (event.Fault k x line) ≡ true) e same in let q : ⊥ = cc in q)
 faulted plan m S k x line z same (Faults i a y w e) is =
     let s : same_event (event.Fault (cpu_of k.0) y (line_of plan (frame_of S.cpus a.frame))) (event.Fault k x line) ≡ true = subst (λ u. same_event u (event.Fault k x line) ≡ true) e same in
     let one : y ≡ x = fault_same y x (both_right (same_cpu (cpu_of k.0) k) (same_fault y x) (both_left (same_cpu (cpu_of k.0) k && same_fault y x) (line_of plan (frame_of S.cpus a.frame) == line) s)) in
-    record { intent = i; acts = a; holds = subst (λ u. holds_of (view_of plan S k.0 a.frame) i u ≡ true) one (fault_holds (view_of plan S k.0 a.frame) i y w) }
+    record { intent = i; acts = a; first = w ∙ ap Some one; holds = subst (λ u. holds_of (view_of plan S k.0 a.frame) i u ≡ true) one (fault_holds (view_of plan S k.0 a.frame) i y w) }
 faulted plan m S k x line z same (Does i a clean e) is = absurd (by i a (subst (λ u. same_event u (event.Fault k x line) ≡ true) e same))
   where
     by : (i : Intent) (a : Acts plan S k.0 i) → same_event (intent_event plan m S k.0 a.frame (frame_of S.cpus a.frame) i) (event.Fault k x line) ≡ true → ⊥
@@ -381,7 +327,7 @@ sound {A} plan clean run free n k x line at is =
         let off = holds_off plan (free.states n) k.0 f.acts.frame (st.stands.states f.acts.frame) clean (st.stands.stands f.acts.frame there) f.intent f.acts.about x is f.holds in
         (f.intent, f.acts, off.0, off.1)
 
--- ---- every run of a clean plan
+-- ---- every free run of a clean plan
 
 -- a fault of a request's mark
 pub data IsOfMarks : Fault → Type 0 where
@@ -399,10 +345,10 @@ of_owning x is = elim is as (λ y _. IsOfOwning y) [
 marks_other : (x : Fault) → IsOfMarks x → x ≡ fault.NotOwned → ⊥
 marks_other x is e = search rules
 
--- T5's half for the faults of marks, in every run with any agents
-pub no_fault_of_marks : {A : Type 0} (plan : Plan) (m : Meaning A) → IsClean plan → (run : List Event) → IsRunOf plan m run → (n : ℕ) (k : Cpu) (x : Fault) (line : ℕ) → slice_get run n ≡ Some (event.Fault k x line) → IsOfMarks x → ⊥
-no_fault_of_marks plan m clean run is n k x line at of =
-    let found = sound plan clean run (runs_are_free plan m run is) n k x line at (of_owning x of) in
+-- T5's half for the faults of marks, in every free run
+pub no_fault_of_marks : {A : Type 0} (plan : Plan) → IsClean plan → (run : List Event) → IsFreeRun A plan run → (n : ℕ) (k : Cpu) (x : Fault) (line : ℕ) → slice_get run n ≡ Some (event.Fault k x line) → IsOfMarks x → ⊥
+no_fault_of_marks plan clean run free n k x line at of =
+    let found = sound plan clean run free n k x line at (of_owning x of) in
     marks_other x of found.3
 
 of_marks : (x : Fault) → is_of_marks x ≡ true → IsOfMarks x
@@ -411,11 +357,11 @@ of_marks fault.CompleteBeforeCancelCallback h = CompletesDue
 of_marks fault.MarkedTwice h = MarksTwice
 of_marks _ h = absurd (let z : ⊥ = cc in z)
 
-pub marks_are_kept : {A : Type 0} (plan : Plan) (m : Meaning A) (run : List Event) (n : ℕ) (k : Cpu) (x : Fault) (line : ℕ) → IsClean plan → IsRunOf plan m run → slice_get run n ≡ Some (event.Fault k x line) → is_of_marks x ≡ false
-marks_are_kept plan m run n k x line clean is at = by (is_of_marks x) refl
+pub marks_are_kept : {A : Type 0} (plan : Plan) (run : List Event) (n : ℕ) (k : Cpu) (x : Fault) (line : ℕ) → IsClean plan → IsFreeRun A plan run → slice_get run n ≡ Some (event.Fault k x line) → is_of_marks x ≡ false
+marks_are_kept plan run n k x line clean free at = by (is_of_marks x) refl
   where
     by : (b : Bool) → is_of_marks x ≡ b → b ≡ false
-    by true e = absurd (no_fault_of_marks plan m clean run is n k x line at (of_marks x e))
+    by true e = absurd (no_fault_of_marks plan clean run free n k x line at (of_marks x e))
     by false e = refl
 
 -- ---- a return
@@ -443,7 +389,7 @@ return_off plan S cpu f a clean st (intent.Return v) does h =
     let here : statement_of plan frame.script a ≡ statement_at plan frame = rw st.simulates.at refl in
     let rule : rule_of_leaving a ≡ None = sym (leaving plan frame a (statement_at plan frame) v does) ∙ ap (rule_at plan frame.script a) (sym here) ∙ clean frame.script a st.reached in
     let none = left_weight a rule in
-    let few = st.few in
+    let few = st.locks.few in
     let some_ : 1 ≤ held_by_call S.locks f = holds_some (held_by_call S.locks f) h in
     let z : ⊥ = omega arith in z
 return_off plan S cpu f a clean st (intent.Do c) does h = let z : ⊥ = cc in z
@@ -469,5 +415,5 @@ returns_free {A} plan clean run free n k line at =
         let there = top_there (free.states n).cpus k.0 f.acts.frame f.acts.top in
         return_off plan (free.states n) k.0 f.acts.frame (st.stands.states f.acts.frame) clean (st.stands.stands f.acts.frame there) f.intent f.acts.about f.holds
 
-pub locks_are_given_back : {A : Type 0} (plan : Plan) (m : Meaning A) (run : List Event) (n : ℕ) (k : Cpu) (line : ℕ) → IsClean plan → IsRunOf plan m run → slice_get run n ≡ Some (event.Fault k fault.ReturnHoldingLock line) → ⊥
-locks_are_given_back plan m run n k line clean is at = returns_free plan clean run (runs_are_free plan m run is) n k line at
+pub locks_are_given_back : {A : Type 0} (plan : Plan) (run : List Event) (n : ℕ) (k : Cpu) (line : ℕ) → IsClean plan → IsFreeRun A plan run → slice_get run n ≡ Some (event.Fault k fault.ReturnHoldingLock line) → ⊥
+locks_are_given_back plan run n k line clean free at = returns_free plan clean run free n k line at

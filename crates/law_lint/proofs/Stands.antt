@@ -1,6 +1,6 @@
 -- The invariant of the requests' half: each frame is at a state that a walk comes to, has of its request what that says,
 -- and a request is in the hands of one frame at most.
-use Rattle.std.proofs.Common.{if◌then◌else◌, ◌≡◌, ◌≢◌, ℕ, ◌==◌, ◌<◌, ◌≤◌, Bool, true, false, List, ◌∷◌, inl, inr, Some, None, length, refl, sym, ap, subst, ◌∙◌, arith}
+use Rattle.std.proofs.Common.{if◌then◌else◌, ◌≡◌, ◌≢◌, ℕ, ◌==◌, ◌<◌, ◌≤◌, Bool, true, false, ◌∷◌, inl, inr, Some, None, length, refl, sym, ap, subst, ◌∙◌, arith}
 use Rattle.wdf_base.specs.declared.plan.Plan.{Plan}
 use Rattle.wdf_base.specs.declared.ids.Handle.{Handle}
 use Rattle.wdf_base.specs.declared.call.CallKind.{CallKind}
@@ -11,7 +11,7 @@ use Rattle.wdf_base.specs.declared.frame.Intent.TheVariants as intent
 use Rattle.wdf_model.specs.declared.entries.Request.{Request}
 use Rattle.wdf_model.specs.parts.Cpus.{frame_of}
 use Rattle.wdf_model.specs.parts.Requests.{Requests, request_of}
-use Rattle.wdf_model.specs.State.{State}
+use Rattle.wdf_model.specs.State.{State, object_in}
 use Rattle.wdf_model.specs.rules.Script.{intent_of}
 use Rattle.wdf_model.proofs.Counts.{equal, not_equal, one_or_two}
 use Rattle.wdf_lint.specs.declared.state.Abstract.{Abstract}
@@ -20,9 +20,12 @@ use Rattle.wdf_lint.specs.declared.state.Hold.TheVariants as hold
 use Rattle.wdf_lint.specs.Steps.{is_own_or_marked, steps}
 use Rattle.wdf_lint.specs.Walks.{IsIn, IsReached}
 use Rattle.wdf_model.specs.rules.Faults.{is_release}
-use Rattle.law_lint.proofs.Weights.{Single, lock_weight, weight, written}
+use Rattle.law_lint.proofs.Began.{Alike, Began, began_alike}
+use Rattle.law_lint.proofs.HeldAs.{HeldAs, held_assigned, held_later}
+use Rattle.law_lint.proofs.Holdings.{Left, left_same}
+use Rattle.law_lint.proofs.Locking.{OfKind}
 use Rattle.wdf_model.specs.parts.Locks.{Locks, held_by_call}
-use Rattle.law_lint.proofs.Frames.{Assigned, One, Same, Simulates, Went, went_simulates}
+use Rattle.law_lint.proofs.Frames.{Simulates, Went, went_simulates}
 use Rattle.law_lint.proofs.Grips.{Later, LaterAt}
 use Rattle.wdf_model.proofs.FrameCounts.{on}
 pub use Rattle.law_lint.proofs.Calls.{GripOf, InHand}
@@ -39,6 +42,13 @@ is_on_request call.WdfRequestIsCanceled = true
 is_on_request call.WdfRequestStopAcknowledge = true
 is_on_request _ = false
 
+-- what a frame waits in: a call of its statement, on no request of its own, that gives no lock back
+pub record Awaits (plan : Plan) (frame : Frame) (p : Pending) : Type 0 where
+  pub about : intent_of plan frame ≡ intent.Do p.call
+  pub on_request : is_on_request p.call.kind ≡ false
+  pub release : is_release p.call.kind ≡ false
+  pub kind : OfKind plan p.call.kind (object_in p.call.a)
+
 -- a frame is at a state that a walk of its callback comes to
 pub record FrameStands {A : Type 0} (plan : Plan) (S : State A) (f : ℕ) (a : Abstract) : Type 0 where
   pub reached : IsReached plan (frame_of S.cpus f).script a
@@ -47,10 +57,11 @@ pub record FrameStands {A : Type 0} (plan : Plan) (S : State A) (f : ℕ) (a : A
   pub grips : (r : Handle) → (frame_of S.cpus f).request ≡ Some r → GripOf a.hold (request_of S.requests r.id.0) × (r.id.0 < length S.requests.all)
   pub has : is_own_or_marked a.hold ≡ true → (r : Handle) × ((frame_of S.cpus f).request ≡ Some r)
   -- where it waits, the call is its statement's
-  pub waits : (p : Pending) → (frame_of S.cpus f).pending ≡ Some p → (intent_of plan (frame_of S.cpus f) ≡ intent.Do p.call) × (is_on_request p.call.kind ≡ false) × (is_release p.call.kind ≡ false)
-  -- by calls it holds no more locks than the state says, and each interrupt's once
-  pub few : held_by_call S.locks f ≤ weight a
-  pub single : Single a.interrupts
+  pub waits : (p : Pending) → (frame_of S.cpus f).pending ≡ Some p → Awaits plan (frame_of S.cpus f) p
+  -- by calls it holds the locks that the state says
+  pub locks : HeldAs plan S.locks f (frame_of S.cpus f).variables a
+  -- its script is its callback's
+  pub began : Began plan (frame_of S.cpus f)
 
 -- a frame has a request in its hands
 pub record Grasps {A : Type 0} (S : State A) (f : ℕ) (a : Abstract) (x : ℕ) : Type 0 where
@@ -65,15 +76,6 @@ pub record Stands {A : Type 0} (plan : Plan) (S : State A) : Type 0 where
   pub alone : (f g x : ℕ) → 1 ≤ on S.cpus f → 1 ≤ on S.cpus g → Grasps S f (states f) x → Grasps S g (states g) x → f ≡ g
   -- a frame that isn't there holds no lock by a call
   pub off : (f : ℕ) → on S.cpus f ≡ 0 → held_by_call S.locks f ≡ 0
-
--- ---- what a step inside a frame leaves of its locks
-
-went_weight : (after : List Abstract) (a : Abstract) (f g : Frame) (w : Went after a f g) → weight w.state ≡ weight a
-went_weight after a f g w = let n : length w.state.interrupts ≡ length a.interrupts = ap length w.interrupts in let l = by w.assigned in omega arith
-  where
-    by : Assigned a f w.state g → lock_weight w.state.lock ≡ lock_weight a.lock
-    by (Same e d l) = ap lock_weight l
-    by (One x k v is e d l) = ap lock_weight l ∙ written a.lock x
 
 -- ---- a walk goes on
 
@@ -123,15 +125,15 @@ stays_later plan S U g a st later = record {
   before = λ r has i. hand_before a.hold S.requests U.requests r.id.0 (later r has).later (st.grips r has).0 i;
 }
 
-moved_stands : {A : Type 0} (plan : Plan) (S U : State A) (g : ℕ) (a : Abstract) → frame_of U.cpus g ≡ frame_of S.cpus g → held_by_call U.locks g ≤ held_by_call S.locks g → Stays S U g a → FrameStands plan S g a → FrameStands plan U g a
-moved_stands plan S U g a e less s st = record {
-  few = let old = st.few in omega arith;
-  single = st.single;
+moved_stands : {A : Type 0} (plan : Plan) (S U : State A) (g : ℕ) (a : Abstract) → frame_of U.cpus g ≡ frame_of S.cpus g → Left S.locks U.locks g → Stays S U g a → FrameStands plan S g a → FrameStands plan U g a
+moved_stands plan S U g a e left s st = record {
+  locks = subst (λ (x : Frame). HeldAs plan U.locks g x.variables a) (sym e) (held_later plan S.locks U.locks g (frame_of S.cpus g).variables a left st.locks);
+  began = subst (Began plan) (sym e) st.began;
   reached = subst (λ (x : Frame). IsReached plan x.script a) (sym e) st.reached;
   simulates = subst (Simulates a) (sym e) st.simulates;
   grips = λ r has. s.grips r (sym (ap (λ (x : Frame). x.request) e) ∙ has);
   has = λ h. let is = st.has h in (is.0, ap (λ (x : Frame). x.request) e ∙ is.1);
-  waits = λ p w. subst (λ (x : Frame). (intent_of plan x ≡ intent.Do p.call) × (is_on_request p.call.kind ≡ false) × (is_release p.call.kind ≡ false)) (sym e) (st.waits p (sym (ap (λ (x : Frame). x.pending) e) ∙ w));
+  waits = λ p w. subst (λ (x : Frame). Awaits plan x p) (sym e) (st.waits p (sym (ap (λ (x : Frame). x.pending) e) ∙ w));
 }
 
 grasped_before : {A : Type 0} (S U : State A) (g x : ℕ) (a : Abstract) → frame_of U.cpus g ≡ frame_of S.cpus g → Stays S U g a → Grasps U g a x → Grasps S g a x
@@ -156,18 +158,18 @@ state_there states f b x n = rw (not_equal x f n) refl
 -- the invariant after a frame goes on
 pub goes_stands : {A : Type 0} (plan : Plan) (S U : State A) (f : ℕ) (next : Frame) (b : Abstract) (st : Stands plan S) → FrameGoes S U f next → 1 ≤ on S.cpus f
     → FrameStands plan U f b → ((x : ℕ) → Grasps U f b x → Grasps S f (st.states f) x)
-    → ((g : ℕ) → g ≢ f → 1 ≤ on S.cpus g → Stays S U g (st.states g)) → ((g : ℕ) → g ≢ f → held_by_call U.locks g ≤ held_by_call S.locks g) → Stands plan U
-goes_stands {A} plan S U f next b st go there new shrinks stay fewer = record {
+    → ((g : ℕ) → g ≢ f → 1 ≤ on S.cpus g → Stays S U g (st.states g)) → ((g : ℕ) → g ≢ f → Left S.locks U.locks g) → Stands plan U
+goes_stands {A} plan S U f next b st go there new shrinks stay left = record {
   off = λ g none. (let same = go.there g in let was : on S.cpus g ≡ 0 = sym same ∙ none in elim (one_or_two g f) [
     | inl e ↦ absurd (let here : 1 ≤ on S.cpus g = subst (λ y. 1 ≤ on S.cpus y) (sym e) there in let z : ⊥ = omega arith in z)
-    | inr n ↦ let less = fewer g n in let old = st.off g was in omega arith
+    | inr n ↦ let l = left g n in let less = l.fewer in let old = st.off g was in omega arith
   ]);
   states = with_state st.states f b;
   stands = λ g more. elim (one_or_two g f) [
     | inl e ↦ subst (λ y. FrameStands plan U y (with_state st.states f b y)) (sym e) (subst (FrameStands plan U f) (sym (state_here st.states f b)) new)
     | inr n ↦
         let was : 1 ≤ on S.cpus g = let same = go.there g in omega arith in
-        subst (FrameStands plan U g) (sym (state_there st.states f b g n)) (moved_stands plan S U g (st.states g) (go.others g n) (fewer g n) (stay g n was) (st.stands g was))
+        subst (FrameStands plan U g) (sym (state_there st.states f b g n)) (moved_stands plan S U g (st.states g) (go.others g n) (left g n) (stay g n was) (st.stands g was))
   ];
   alone = λ g h x gt ht gg hg.
       let gw : 1 ≤ on S.cpus g = let same = go.there g in omega arith in
@@ -188,20 +190,21 @@ goes_stands {A} plan S U f next b st go there new shrinks stay fewer = record {
 -- the frame goes on as a walk does, and no request changes
 pub inside_stands : {A : Type 0} (plan : Plan) (S U : State A) (f : ℕ) (next : Frame) (st : Stands plan S) → FrameGoes S U f next → 1 ≤ on S.cpus f → U.requests ≡ S.requests → U.locks ≡ S.locks
     → (w : Went (steps plan (frame_of S.cpus f).script (st.states f)) (st.states f) (frame_of S.cpus f) next)
-    → next.script ≡ (frame_of S.cpus f).script → next.request ≡ (frame_of S.cpus f).request → next.pending ≡ None → Stands plan U
-inside_stands {A} plan S U f next st go there same locks_ w script request idle =
+    → Alike (frame_of S.cpus f) next → next.pending ≡ None → Stands plan U
+inside_stands {A} plan S U f next st go there same locks_ w alike idle =
     let old : FrameStands plan S f (st.states f) = st.stands f there in
-    let now : (frame_of U.cpus f).request ≡ (frame_of S.cpus f).request = ap (λ (x : Frame). x.request) go.here ∙ request in
+    let now : (frame_of U.cpus f).request ≡ (frame_of S.cpus f).request = ap (λ (x : Frame). x.request) go.here ∙ alike.request in
     goes_stands plan S U f next w.state st go there
     (record {
-      reached = subst (λ k. IsReached plan k w.state) (sym (ap (λ (x : Frame). x.script) go.here ∙ script)) (reaches plan (frame_of S.cpus f).script (st.states f) w.state old.reached w.is_in);
+      reached = subst (λ k. IsReached plan k w.state) (sym (ap (λ (x : Frame). x.script) go.here ∙ alike.script)) (reaches plan (frame_of S.cpus f).script (st.states f) w.state old.reached w.is_in);
       simulates = subst (Simulates w.state) (sym go.here) (went_simulates (steps plan (frame_of S.cpus f).script (st.states f)) (st.states f) (frame_of S.cpus f) next w old.simulates.known);
       grips = λ r has. subst (λ (R : Requests). GripOf w.state.hold (request_of R r.id.0) × (r.id.0 < length R.all)) (sym same)
           (subst (λ h. GripOf h (request_of S.requests r.id.0) × (r.id.0 < length S.requests.all)) (sym w.hold) (old.grips r (sym now ∙ has)));
       has = λ h. let is = old.has (subst (λ x. is_own_or_marked x ≡ true) w.hold h) in (is.0, now ∙ is.1);
       waits = λ p e. absurd (let none : (frame_of U.cpus f).pending ≡ None = ap (λ (x : Frame). x.pending) go.here ∙ idle in let z : ⊥ = cc in z);
-      few = let held : held_by_call U.locks f ≡ held_by_call S.locks f = ap (λ (L : Locks). held_by_call L f) locks_ in let weighs = went_weight (steps plan (frame_of S.cpus f).script (st.states f)) (st.states f) (frame_of S.cpus f) next w in let old_ = old.few in omega arith;
-      single = subst Single (sym w.interrupts) old.single;
+      locks = subst (λ (x : Frame). HeldAs plan U.locks f x.variables w.state) (sym go.here) (subst (λ (L : Locks). HeldAs plan L f next.variables w.state) (sym locks_)
+          (held_assigned plan S.locks f (st.states f) (frame_of S.cpus f) w.state next w.assigned w.interrupts old.locks));
+      began = began_alike plan (frame_of S.cpus f) (frame_of U.cpus f) (subst (Alike (frame_of S.cpus f)) (sym go.here) alike) old.began;
     })
     (λ x k. record {
       request = k.request;
@@ -213,18 +216,18 @@ inside_stands {A} plan S U f next st go there same locks_ w script request idle 
       grips = λ r has. subst (λ (R : Requests). GripOf (st.states g).hold (request_of R r.id.0) × (r.id.0 < length R.all)) (sym same) ((st.stands g more).grips r has);
       before = λ r has i. subst (λ (R : Requests). InHand (st.states g).hold R r.id.0) same i;
     })
-    (λ g n. let held : held_by_call U.locks g ≡ held_by_call S.locks g = ap (λ (L : Locks). held_by_call L g) locks_ in omega arith)
+    (λ g n. left_same S.locks U.locks g locks_)
 
 -- ---- no frame goes on
 
 -- the frames that are there were there, and are as they were; others did to requests what others may
 pub fewer_stand : {A : Type 0} (plan : Plan) (S U : State A) → Stands plan S → ((x : ℕ) → 1 ≤ on U.cpus x → (1 ≤ on S.cpus x) × (frame_of U.cpus x ≡ frame_of S.cpus x))
     → ((x : ℕ) → x < length S.requests.all → LaterAt x S.requests U.requests)
-    → ((g : ℕ) → held_by_call U.locks g ≤ held_by_call S.locks g) → ((f : ℕ) → on U.cpus f ≡ 0 → held_by_call U.locks f ≡ 0) → Stands plan U
-fewer_stand {A} plan S U st same later fewer off = record {
+    → ((g : ℕ) → Left S.locks U.locks g) → ((f : ℕ) → on U.cpus f ≡ 0 → held_by_call U.locks f ≡ 0) → Stands plan U
+fewer_stand {A} plan S U st same later left off = record {
   states = st.states;
   off = off;
-  stands = λ g more. let is = same g more in moved_stands plan S U g (st.states g) is.1 (fewer g) (stay g is.0) (st.stands g is.0);
+  stands = λ g more. let is = same g more in moved_stands plan S U g (st.states g) is.1 (left g) (stay g is.0) (st.stands g is.0);
   alone = λ g h x gt ht gg hg.
       let gs = same g gt in
       let hs = same h ht in
@@ -245,11 +248,11 @@ pub record FrameBegins {A : Type 0} (S U : State A) (f : ℕ) (frame : Frame) : 
 pub begins_stands : {A : Type 0} (plan : Plan) (S U : State A) (f : ℕ) (frame : Frame) (b : Abstract) (st : Stands plan S) → FrameBegins S U f frame → FrameStands plan U f b
     → ((x : ℕ) → x < length S.requests.all → LaterAt x S.requests U.requests)
     → ((g x : ℕ) → 1 ≤ on S.cpus g → Grasps U f b x → Grasps S g (st.states g) x → ⊥)
-    → ((g : ℕ) → held_by_call U.locks g ≤ held_by_call S.locks g) → Stands plan U
-begins_stands {A} plan S U f frame b st k new later free fewer = record {
+    → ((g : ℕ) → Left S.locks U.locks g) → Stands plan U
+begins_stands {A} plan S U f frame b st k new later free left = record {
   off = λ g none. elim (one_or_two g f) [
-    | inl e ↦ let was : held_by_call S.locks g ≡ 0 = st.off g (ap (on S.cpus) e ∙ k.new) in let less = fewer g in omega arith
-    | inr n ↦ let is = k.others g n in let was : held_by_call S.locks g ≡ 0 = st.off g (sym is.0 ∙ none) in let less = fewer g in omega arith
+    | inl e ↦ let was : held_by_call S.locks g ≡ 0 = st.off g (ap (on S.cpus) e ∙ k.new) in let l = left g in let less = l.fewer in omega arith
+    | inr n ↦ let is = k.others g n in let was : held_by_call S.locks g ≡ 0 = st.off g (sym is.0 ∙ none) in let l = left g in let less = l.fewer in omega arith
   ];
   states = with_state st.states f b;
   stands = λ g more. elim (one_or_two g f) [
@@ -257,7 +260,7 @@ begins_stands {A} plan S U f frame b st k new later free fewer = record {
     | inr n ↦
         let is = k.others g n in
         let was : 1 ≤ on S.cpus g = let same = is.0 in omega arith in
-        subst (FrameStands plan U g) (sym (state_there st.states f b g n)) (moved_stands plan S U g (st.states g) is.1 (fewer g) (stay g was) (st.stands g was))
+        subst (FrameStands plan U g) (sym (state_there st.states f b g n)) (moved_stands plan S U g (st.states g) is.1 (left g) (stay g was) (st.stands g was))
   ];
   alone = λ g h x gt ht gg hg. elim (one_or_two g f) [
     | inl eg ↦ elim (one_or_two h f) [

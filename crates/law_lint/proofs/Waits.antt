@@ -38,23 +38,27 @@ use Rattle.wdf_model.specs.parts.Cpus.{Cpus, frame_of, irql, is_empty_cpu, no_fr
 use Rattle.wdf_model.specs.parts.Cpus as cpus
 use Rattle.wdf_model.specs.parts.Locks.{lock_of_callback}
 use Rattle.wdf_model.specs.declared.entries.Running.{Running}
-use Rattle.wdf_model.specs.State.{State, declared_in}
+use Rattle.wdf_model.specs.State.{State, declared_in, object_in}
 use Rattle.wdf_model.specs.declared.deed.Deed.{Deed}
 use Rattle.wdf_model.specs.declared.deed.Deed.TheVariants.{GoOn, PopFrame}
 use Rattle.wdf_model.specs.rules.Calls.{is_met_then, outcome}
 use Rattle.wdf_model.specs.rules.Deeds.{do_deeds}
 use Rattle.wdf_model.specs.rules.Script.{act_intent, arg_of, call_of, context_value, if_intent, intent_at, intent_of, let_intent, log_intent, node_value, operands_by, put_intent, repeat_intent, return_intent, spend_intent, statement_at, value_of, value_to}
 use Rattle.wdf_model.specs.rules.Steps.{after, deeds, is_cpu, may, may_unpark, wait_is_over, waiting, waiting_deeds, waits_on}
-use Rattle.wdf_model.specs.rules.Starts.{end_of_step, release_if_any}
+use Rattle.wdf_model.specs.rules.Starts.{end_deeds, end_of_step, release_if_any}
 use Rattle.law_machine_base.specs.Fits.{all_fit}
 use Rattle.law_machine_base.proofs.OwnEvents.{IsEnd, IsWaiting, end_tells, waiting_tells}
 use Rattle.wdf_model.proofs.Maps.{entry_put_other}
 use Rattle.std.proofs.lemmas.Bool.Decides.{nat_tests}
 use Rattle.wdf_base.specs.declared.event.Fault.TheVariants as fault
 use Rattle.wdf_model.specs.parts.Locks.{held_by_call}
-use Rattle.wdf_model.specs.rules.Faults.{is_acquire, is_release}
-use Rattle.law_machine_deeds.specs.MayDo.{is_start, second_part}
-use Rattle.law_lint.proofs.Holdings.{event_fewer}
+use Rattle.wdf_model.specs.rules.Faults.{is_release}
+use Rattle.law_free_runs.proofs.FreeStates.{FreeState}
+use Rattle.law_machine_lives.proofs.Sound.{lock_of_frame}
+use Rattle.law_lint.proofs.Began.{Alike, began_alike}
+use Rattle.law_lint.proofs.HeldAs.{HeldAs, held_later}
+use Rattle.law_lint.proofs.Holdings.{Left, ended_left, event_left, left_same}
+use Rattle.law_lint.proofs.Locking.{OfKind, of_kind}
 use Rattle.wdf_model.proofs.Counts.{equal, not_equal, one_or_two}
 use Rattle.wdf_model.proofs.Tests.{both_left, both_right}
 use Rattle.law_machine_base.proofs.FitsOfEvents.{by_its_top, event_fits}
@@ -65,7 +69,7 @@ use Rattle.law_machine_counts.proofs.StepStates.{fit_before}
 use Rattle.wdf_lint.specs.Walks.{IsReached}
 use Rattle.law_lint.proofs.Acting.{calling}
 use Rattle.law_lint.proofs.Grips.{LaterAt, at_same}
-use Rattle.law_lint.proofs.Others.{Places, event_later, is_owners_call}
+use Rattle.law_lint.proofs.Others.{event_later, is_owners_call}
 use Rattle.law_lint.proofs.Stands.{FrameGoes, FrameStands, InHand, Stands, fewer_stand, goes_stands, grip_later, hand_before, is_on_request, stays_later}
 use Rattle.law_lint.proofs.Events.{top_there, told}
 use Rattle.law_lint.proofs.Frames.{Simulates}
@@ -152,8 +156,8 @@ waits_for_no_release plan S call.WdfWaitLockRelease n x y z h = absurd (let q : 
 waits_for_no_release plan S call.WdfInterruptReleaseLock n x y z h = absurd (let q : ⊥ = cc in q)
 waits_for_no_release plan S _ n x y z h = refl
 
-pub waiting_stands : {A : Type 0} (plan : Plan) (m : Meaning A) (S : State A) (k : Cpu) (c : Call) → may plan m S (event.Waiting k c) ≡ true → Places S → Stands plan S → Stands plan (after plan m S (event.Waiting k c))
-waiting_stands {A} plan m S k c h places st =
+pub waiting_stands : {A : Type 0} (plan : Plan) (m : Meaning A) (S : State A) (k : Cpu) (c : Call) → may plan m S (event.Waiting k c) ≡ true → FreeState plan S → Stands plan S → Stands plan (after plan m S (event.Waiting k c))
+waiting_stands {A} plan m S k c h free st =
     let d : IsWaiting plan S k.0 c = waiting_tells plan m S k c h in
     let f = d.frame in
     let frame : Frame = frame_of S.cpus f in
@@ -168,8 +172,10 @@ waiting_stands {A} plan m S k c h places st =
     let fit : all_fit plan (deeds plan S (event.Waiting k c)) S ≡ true = event_fits plan m S (event.Waiting k c) h in
     let fits_ : all_fit plan ds S ≡ true = fit_before plan ds (GoOn (frame_id f) next ∷ []) S (subst (λ es. all_fit plan es S ≡ true) same fit) in
     let go : FrameGoes S U f next = subst (λ es. FrameGoes S (do_deeds plan es S) f next) (sym same) (still_goes plan S ds f next (outcome_none plan S k.0 f c) fits_) in
-    let later : (x : ℕ) → x < length S.requests.all → LaterAt x S.requests U.requests = λ x old. event_later plan S (event.Waiting k c) x off.1 fit places old in
+    let later : (x : ℕ) → x < length S.requests.all → LaterAt x S.requests U.requests = λ x old. event_later plan S (event.Waiting k c) x off.1 fit free.places old in
     let now : (frame_of U.cpus f).request ≡ frame.request = ap (λ (x : Frame). x.request) go.here in
+    let unreleased : is_release c.kind ≡ false = waits_for_no_release plan S c.kind c.count c.a c.b c.c d.unmet in
+    let left : (g : ℕ) → Left S.locks U.locks g = λ g. event_left plan S (event.Waiting k c) g refl refl unreleased in
     told plan m (event.Waiting k c) U
     (goes_stands plan S U f next (st.states f) st go there
     (record {
@@ -185,10 +191,14 @@ waiting_stands {A} plan m S k c h places st =
       waits = λ p e.
           let it : Some (record { call = c; answer = v }) ≡ Some p = sym (ap (λ (x : Frame). x.pending) go.here) ∙ e in
           let call_ : c ≡ p.call = cc in
-          subst (λ (q : Call). (intent_of plan (frame_of U.cpus f) ≡ intent.Do q) × (is_on_request q.kind ≡ false) × (is_release q.kind ≡ false)) call_
-          (ap (intent_of plan) go.here ∙ intent_same plan frame (Some (record { call = c; answer = v })) ∙ d.about.about, off.0, waits_for_no_release plan S c.kind c.count c.a c.b c.c d.unmet);
-      few = let less = event_fewer plan S (event.Waiting k c) f refl refl in let old = fs.few in omega arith;
-      single = fs.single;
+          record {
+            about = ap (intent_of plan) go.here ∙ intent_same plan frame (Some (record { call = c; answer = v })) ∙ d.about.about ∙ ap intent.Do call_;
+            on_request = ap (λ (q : Call). is_on_request q.kind) (sym call_) ∙ off.0;
+            release = ap (λ (q : Call). is_release q.kind) (sym call_) ∙ unreleased;
+            kind = subst (λ (q : Call). OfKind plan q.kind (object_in q.a)) call_ (of_kind plan S free k.0 f c (d.about.clean fault.StaleHandle) (d.about.clean fault.WrongKind));
+          };
+      locks = subst (λ (x : Frame). HeldAs plan U.locks f x.variables (st.states f)) (sym go.here) (held_later plan S.locks U.locks f frame.variables (st.states f) (left f) fs.locks);
+      began = began_alike plan frame (frame_of U.cpus f) (subst (Alike frame) (sym go.here) (record { script = refl; callback = refl; object = refl; request = refl })) fs.began;
     })
     (λ x g.
     let has = sym now ∙ g.has in
@@ -201,7 +211,7 @@ waiting_stands {A} plan m S k c h places st =
           (hand_before (st.states f).hold S.requests U.requests g.request.id.0 (later g.request.id.0 grip.1).later grip.0 (subst (λ y. InHand (st.states f).hold U.requests y) (sym g.same) g.in_hand));
     })
     (λ g n more. stays_later plan S U g (st.states g) (st.stands g more) (λ r has. later r.id.0 ((st.stands g more).grips r has).1))
-    (λ g n. event_fewer plan S (event.Waiting k c) g refl refl))
+    (λ g n. left g))
 
 -- ---- a frame parks, comes back, ends or has a fault
 
@@ -210,12 +220,12 @@ abbrev pub Once : Cpus → Type 0
 Once C = (f : ℕ) → on C f ≤ 1
 
 quiet_frames : {A : Type 0} (plan : Plan) (m : Meaning A) (S : State A) (e : Event) → FramesSame S.cpus (do_deeds plan (deeds plan S e) S).cpus
-    → ((x : ℕ) → x < length S.requests.all → LaterAt x S.requests (do_deeds plan (deeds plan S e) S).requests) → is_start e ≡ false → second_part is_acquire e ≡ false
+    → ((x : ℕ) → x < length S.requests.all → LaterAt x S.requests (do_deeds plan (deeds plan S e) S).requests) → ((g : ℕ) → Left S.locks (do_deeds plan (deeds plan S e) S).locks g)
     → ((x : ℕ) → on (do_deeds plan (deeds plan S e) S).cpus x ≡ 0 → (held_by_call S.locks x ≡ 0) ⊎ (on S.cpus x ≡ 0)) → Stands plan S → Stands plan (after plan m S e)
-quiet_frames plan m S e frames later no_start no_acquire ended st =
+quiet_frames plan m S e frames later left ended st =
     told plan m e (do_deeds plan (deeds plan S e) S)
-    (fewer_stand plan S (do_deeds plan (deeds plan S e) S) st frames later (λ g. event_fewer plan S e g no_start no_acquire)
-    (λ g none. let less = event_fewer plan S e g no_start no_acquire in elim (ended g none) [
+    (fewer_stand plan S (do_deeds plan (deeds plan S e) S) st frames later left
+    (λ g none. let l = left g in let less = l.fewer in elim (ended g none) [
       | inl held ↦ omega arith
       | inr off ↦ let was = st.off g off in omega arith
     ]))
@@ -223,16 +233,16 @@ quiet_frames plan m S e frames later no_start no_acquire ended st =
 pub park_stands : {A : Type 0} (plan : Plan) (m : Meaning A) (S : State A) (k : Cpu) (f : FrameId) → may plan m S (event.Park k f) ≡ true → Stands plan S → Stands plan (after plan m S (event.Park k f))
 park_stands plan m S k f h st =
     let on_top : top S.cpus k.0 ≡ Some f.0 = top_is (top S.cpus k.0) f.0 (both_left (same_id (top S.cpus k.0) f.0) (irql S.cpus k.0 == 0) (both_left (same_id (top S.cpus k.0) f.0 && irql S.cpus k.0 == 0) (waits_on S (frame_of S.cpus f.0).pending) h)) in
-    quiet_frames plan m S (event.Park k f) (λ x more. (let e = parks (λ y. y == x) S.cpus k.0 f.0 on_top in omega arith, refl)) (λ x old. at_same x S.requests S.requests refl) refl refl (λ x none. inr (let e = parks (λ y. y == x) S.cpus k.0 f.0 on_top in omega arith)) st
+    quiet_frames plan m S (event.Park k f) (λ x more. (let e = parks (λ y. y == x) S.cpus k.0 f.0 on_top in omega arith, refl)) (λ x old. at_same x S.requests S.requests refl) (λ g. left_same S.locks S.locks g refl) (λ x none. inr (let e = parks (λ y. y == x) S.cpus k.0 f.0 on_top in omega arith)) st
 
 pub unpark_stands : {A : Type 0} (plan : Plan) (m : Meaning A) (S : State A) (k : Cpu) (f : FrameId) → may plan m S (event.Unpark k f) ≡ true → Once S.cpus → Stands plan S → Stands plan (after plan m S (event.Unpark k f))
 unpark_stands plan m S k f h once st =
     let comes : may_unpark S k.0 f.0 ≡ true = both_right (is_cpu plan k) (may_unpark S k.0 f.0) h in
     let listed : contains f.0 S.cpus.parked ≡ true = both_left (contains f.0 S.cpus.parked) (is_empty_cpu S.cpus k.0) (both_left (contains f.0 S.cpus.parked && is_empty_cpu S.cpus k.0) (wait_is_over S (frame_of S.cpus f.0).pending) comes) in
-    quiet_frames plan m S (event.Unpark k f) (λ x more. (let e = unparks (λ y. y == x) S.cpus k.0 f.0 (parked_once S.cpus f.0 (once f.0) listed) in omega arith, refl)) (λ x old. at_same x S.requests S.requests refl) refl refl (λ x none. inr (let e = unparks (λ y. y == x) S.cpus k.0 f.0 (parked_once S.cpus f.0 (once f.0) listed) in omega arith)) st
+    quiet_frames plan m S (event.Unpark k f) (λ x more. (let e = unparks (λ y. y == x) S.cpus k.0 f.0 (parked_once S.cpus f.0 (once f.0) listed) in omega arith, refl)) (λ x old. at_same x S.requests S.requests refl) (λ g. left_same S.locks S.locks g refl) (λ x none. inr (let e = unparks (λ y. y == x) S.cpus k.0 f.0 (parked_once S.cpus f.0 (once f.0) listed) in omega arith)) st
 
 pub fault_stands : {A : Type 0} (plan : Plan) (m : Meaning A) (S : State A) (k : Cpu) (x : Fault) (line : ℕ) → Stands plan S → Stands plan (after plan m S (event.Fault k x line))
-fault_stands plan m S k x line st = quiet_frames plan m S (event.Fault k x line) (λ y more. (more, refl)) (λ y old. at_same y S.requests S.requests refl) refl refl (λ y none. inr none) st
+fault_stands plan m S k x line st = quiet_frames plan m S (event.Fault k x line) (λ y more. (more, refl)) (λ y old. at_same y S.requests S.requests refl) (λ g. left_same S.locks S.locks g refl) (λ y none. inr none) st
 
 ended_cpus : {A : Type 0} (plan : Plan) (S : State A) (cpu : ℕ) (c : Callback) (o : ℕ) (v : Value) (l : Option LockRef) (r : Rank) → (do_deeds plan (release_if_any l ++ PopFrame (cpu_of cpu) ∷ end_of_step plan S r c o v) S).cpus ≡ cpus.pop S.cpus cpu
 ended_cpus plan S cpu c o v None rank.Sequence = refl
@@ -249,12 +259,26 @@ popped_frames C cpu f t once x more =
 holds_none : (n : ℕ) → nat_lt 0 n ≡ false → n ≡ 0
 holds_none n h = grind (arith, nat_tests)
 
-pub end_stands : {A : Type 0} (plan : Plan) (m : Meaning A) (S : State A) (k : Cpu) (c : Callback) (o : Handle) (v : Value) → may plan m S (event.End k c o v) ≡ true → Once S.cpus → Places S → Stands plan S → Stands plan (after plan m S (event.End k c o v))
-end_stands plan m S k c o v h once places st =
+-- the locks that calls took stay where a callback ends
+ended_locks : {A : Type 0} (plan : Plan) (S : State A) (cpu : ℕ) (c : Callback) (o : Handle) (v : Value) → IsEnd plan S cpu c o v → FreeState plan S → (g : ℕ) → Left S.locks (do_deeds plan (end_deeds plan S cpu c o.id.0 v) S).locks g
+ended_locks {A} plan S cpu c o v d free g = by (lock_of_callback plan c o.id.0 (declared_in plan S o.id.0)) refl (row_of c).rank
+  where
+    own : lock_of_frame plan S d.frame ≡ lock_of_callback plan c o.id.0 (declared_in plan S o.id.0)
+    own = sym (ap (λ x. lock_of_callback plan x o.id.0 (declared_in plan S o.id.0)) d.callback ∙ ap (λ (x : Handle). lock_of_callback plan (frame_of S.cpus d.frame).callback x.id.0 (declared_in plan S x.id.0)) d.object)
+
+    by : (l : Option LockRef) → lock_of_callback plan c o.id.0 (declared_in plan S o.id.0) ≡ l → (r : Rank) → Left S.locks (do_deeds plan (release_if_any l ++ PopFrame (cpu_of cpu) ∷ end_of_step plan S r c o.id.0 v) S).locks g
+    by None e rank.Sequence = left_same S.locks S.locks g refl
+    by None e _ = left_same S.locks S.locks g refl
+    by (Some l) e rank.Sequence = ended_left S.locks l d.frame g free.once (free.agrees.holds d.frame (λ z. z) (top_there S.cpus cpu d.frame d.about.top) l (own ∙ e))
+    by (Some l) e _ = ended_left S.locks l d.frame g free.once (free.agrees.holds d.frame (λ z. z) (top_there S.cpus cpu d.frame d.about.top) l (own ∙ e))
+
+pub end_stands : {A : Type 0} (plan : Plan) (m : Meaning A) (S : State A) (k : Cpu) (c : Callback) (o : Handle) (v : Value) → may plan m S (event.End k c o v) ≡ true → FreeState plan S → Stands plan S → Stands plan (after plan m S (event.End k c o v))
+end_stands plan m S k c o v h free st =
     let d : IsEnd plan S k.0 c o v = end_tells plan m S k c o v h in
+    let once : Once S.cpus = free.steps.framed.once in
     quiet_frames plan m S (event.End k c o v)
     (subst (λ (C : Cpus). FramesSame S.cpus C) (sym (ended_cpus plan S k.0 c o.id.0 v (lock_of_callback plan c o.id.0 (declared_in plan S o.id.0)) (row_of c).rank)) (popped_frames S.cpus k.0 d.frame d.about.top once))
-    (λ x old. event_later plan S (event.End k c o v) x refl (event_fits plan m S (event.End k c o v) h) places old) refl refl
+    (λ x old. event_later plan S (event.End k c o v) x refl (event_fits plan m S (event.End k c o v) h) free.places old) (ended_locks plan S k.0 c o v d free)
     (λ x none. elim (one_or_two x d.frame) [
       | inl e ↦ inl (ap (held_by_call S.locks) e ∙ holds_none (held_by_call S.locks d.frame) (d.about.clean fault.ReturnHoldingLock))
       | inr n ↦

@@ -1,11 +1,11 @@
 -- How many locks a state of a walk says that its callback holds by calls, and what each step and each call makes of that.
-use Rattle.std.proofs.Common.{if◌then◌else◌, ◌≡◌, ℕ, suc, ◌+◌, ◌==◌, ◌≤◌, nat_lt, Bool, true, false, not, ◌&&◌, ◌||◌, List, [], ◌∷◌, Option, Some, None, filter, length, count_by, refl, sym, ap, subst, ◌∙◌, arith}
-use Rattle.std.proofs.lemmas.Bool.{eqb-true}
+use Rattle.std.proofs.Common.{if◌then◌else◌, ◌≡◌, ℕ, suc, ◌+◌, ◌==◌, ◌≤◌, nat_lt, Bool, true, false, not, ◌&&◌, ◌||◌, List, [], ◌∷◌, ◌⊎◌, inl, inr, Option, Some, None, filter, length, count_by, refl, sym, ap, subst, ◌∙◌, arith}
+use Rattle.std.proofs.lemmas.Bool.{cases_Bool, eqb-true}
 use Rattle.std.proofs.lemmas.List.{length-append}
 use Rattle.wdf_base.specs.declared.plan.Plan.{Plan}
 use Rattle.wdf_base.specs.declared.event.Fault.TheVariants as fault
 use Rattle.wdf_model.specs.Tables.{contains, flag, without}
-use Rattle.wdf_model.proofs.Counts.{count_behind, count_cons, filter_less}
+use Rattle.wdf_model.proofs.Counts.{count_behind, count_cons, filter_less, not_equal, one_or_two}
 use Rattle.wdf_model.proofs.Tests.{both_left, not_true}
 use Rattle.wdf_lint.specs.declared.state.Abstract.{Abstract}
 use Rattle.wdf_lint.specs.declared.state.HeldLock.{HeldLock}
@@ -42,11 +42,11 @@ written (lock.In v) x = by (v == x)
 rule_held : {T : Type 0} (b : Bool) (x y : T) → b ≡ true → b ≡ true
 rule_held b x y h = h
 
-kept_by : (b : Bool) → unless b fault.LockHeldAlready ≡ None → b ≡ true
+pub kept_by : (b : Bool) → unless b fault.LockHeldAlready ≡ None → b ≡ true
 kept_by true h = refl
 kept_by false h = absurd (let z : ⊥ = cc in z)
 
-given_by : (b : Bool) → unless b fault.LockNotHeld ≡ None → b ≡ true
+pub given_by : (b : Bool) → unless b fault.LockNotHeld ≡ None → b ≡ true
 given_by true h = refl
 given_by false h = absurd (let z : ⊥ = cc in z)
 
@@ -54,7 +54,7 @@ left_by : (b : Bool) → unless b fault.ReturnHoldingLock ≡ None → b ≡ tru
 left_by true h = refl
 left_by false h = absurd (let z : ⊥ = cc in z)
 
-free_weight : (l : HeldLock) → is_free l ≡ true → lock_weight l ≡ 0
+pub free_weight : (l : HeldLock) → is_free l ≡ true → lock_weight l ≡ 0
 free_weight lock.Free h = refl
 free_weight (lock.In v) h = absurd (let z : ⊥ = cc in z)
 free_weight lock.Lost h = absurd (let z : ⊥ = cc in z)
@@ -96,7 +96,7 @@ split_count q p (x ∷ xs) = by (p x) refl (split_count q p xs)
     by true e rest = rw e (let c = count_cons q x (filter p xs) in let d = count_cons q x xs in omega arith)
     by false e rest = rw e (let c = count_cons q x (filter (λ y. not (p y)) xs) in let d = count_cons q x xs in omega arith)
 
-absent : (i : ℕ) (ids : List ℕ) → contains i ids ≡ false → count_by (λ x. x == i) ids ≡ 0
+pub absent : (i : ℕ) (ids : List ℕ) → contains i ids ≡ false → count_by (λ x. x == i) ids ≡ 0
 absent i [] h = refl
 absent i (x ∷ xs) h = by (x == i) refl (absent i xs)
   where
@@ -139,6 +139,21 @@ joined_count i j ids =
     let one = count_cons (λ x. x == j) i (filter (λ x. nat_lt i x) ids) in
     let parts = split_count (λ x. x == j) (nat_lt i) ids in
     omega arith
+
+-- one that is among the joined ids is the new one, or was among them
+pub joined_contains : (i j : ℕ) (ids : List ℕ) → contains j (joined i ids) ≡ true → (i ≡ j) ⊎ (contains j ids ≡ true)
+joined_contains i j ids h = elim (one_or_two i j) [
+  | inl e ↦ inl e
+  | inr n ↦ elim (cases_Bool (contains j ids)) [
+    | inl e ↦ inr e
+    | inr e ↦ absurd (
+        let some_ = present j (joined i ids) h in
+        let all = joined_count i j ids in
+        let none = absent j ids e in
+        let other : flag (i == j) ≡ 0 = ap flag (not_equal i j n) in
+        let z : ⊥ = omega arith in z)
+  ]
+]
 
 pub acquired_at_weight : (plan : Plan) (k : ℕ) (a : Abstract) (o : Option ℕ) → rule_of_acquiring_at plan k a o ≡ None → weight (acquired_at a o) ≡ weight a + 1
 acquired_at_weight plan k a None h = absurd (let z : ⊥ = cc in z)

@@ -1,1 +1,1 @@
-pub mod FreeRuns
+pub mod Faults

@@ -1,5 +1,5 @@
-//! Laws of the static check, whatever the agents are. Every run is a free run. In a run of a clean plan no request is
-//! completed or marked against its mark, and no callback ends with a lock that it acquired.
+//! Laws of the static check, whatever the agents are. In a run of a clean plan no request is completed or marked against its
+//! mark, and no callback takes a lock that it holds, gives back one that it didn't take, or ends with one.
 #![tactic(auto)]
 
 pub mod laws;

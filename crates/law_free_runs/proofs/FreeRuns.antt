@@ -12,7 +12,7 @@ use Rattle.wdf_model.specs.rules.Ready.{IsRunOf, last_fault, ready, ready_in, st
 use Rattle.law_machine_base.specs.FactsOfEvents.{IsTick}
 use Rattle.wdf_model.proofs.Runs.{take_next}
 use Rattle.law_machine_base.proofs.Follows.{follows, state_goes_on}
-use Rattle.law_lint.specs.FreeRuns.{IsFreeRun}
+use Rattle.law_free_runs.specs.FreeRuns.{IsFreeRun}
 
 either : {A : Type 0} (plan : Plan) (m : Meaning A) (S : State A) (es : List Event) (e : Event) → (may plan m S e ≡ true) ⊎ IsTick m S es e → (may plan m S e ≡ true) ⊎ ((time : ℕ) × (e ≡ event.Tick time))
 either plan m S es e (inl h) = inl h

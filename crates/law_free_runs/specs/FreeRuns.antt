@@ -1,13 +1,11 @@
 -- Free runs: at each event the agents may be of any meaning. So any post may come that fits, a register or a level
 -- line may show anything, what agents hear changes nothing that counts, and time may pass at any place. Events are
 -- not counted against the limit. (own)
-use Rattle.std.specs.Prelude.{◌≡◌, ◌⊎◌, ℕ, ◌+◌, Bool, true, false, List, take, Some, None, slice_get}
+use Rattle.std.specs.Prelude.{◌≡◌, ◌⊎◌, ℕ, ◌+◌, true, List, take, Some, None, slice_get}
 use Rattle.wdf_base.specs.Meaning.{Meaning}
 use Rattle.wdf_base.specs.declared.plan.Plan.{Plan}
 use Rattle.wdf_base.specs.declared.event.Event.{Event}
 use Rattle.wdf_base.specs.declared.event.Event.TheVariants as event
-use Rattle.wdf_base.specs.declared.event.Fault.{Fault}
-use Rattle.wdf_base.specs.declared.event.Fault.TheVariants as fault
 use Rattle.wdf_model.specs.State.{State, opening}
 use Rattle.wdf_model.specs.rules.Steps.{after, may}
 use Rattle.wdf_model.specs.rules.Ready.{last_fault}
@@ -26,10 +24,3 @@ pub record IsFreeRun (A : Type 0) (plan : Plan) (run : List Event) : Type 0 wher
   pub opens : states 0 ≡ opening plan meaning
   pub goes : (k : ℕ) (e : Event) → slice_get run k ≡ Some e → FreeStep plan (states k) e (states (k + 1))
   pub ends : (k : ℕ) (e : Event) → slice_get run k ≡ Some e → last_fault (take k run) ≡ None
-
--- a fault of a request's mark: 5, 6 and 7
-abbrev pub is_of_marks : Fault → Bool
-is_of_marks fault.CompleteWhileMarked = true
-is_of_marks fault.CompleteBeforeCancelCallback = true
-is_of_marks fault.MarkedTwice = true
-is_of_marks _ = false

@@ -1,6 +1,0 @@
--- The clause is the lemma.
-use Rattle.law_lint.proofs.FreeRuns as lemmas
-use Rattle.law_lint.proofs.laws.runs_are_free.Goals as goal
-
-pub returns : goal.returns
-returns g c = lemmas.runs_are_free
