@@ -1,16 +1,14 @@
 -- The first item of a list that passes a test, or that a function answers.
-use Rattle.std.proofs.Common.{◌≡◌, ℕ, zero, suc, ◌+◌, ◌<◌, ◌≤◌, ◌⊎◌, inl, inr, Bool, true, false, List, [], ◌∷◌, find, length, Option, Some, None, is_some, slice_get, slice_index_or, slice_set, refl, ap, subst, ◌∙◌, arith}
+use Rattle.std.proofs.Common.{◌≡◌, ℕ, zero, suc, ◌+◌, ◌<◌, ◌≤◌, ◌⊎◌, inl, inr, Bool, true, false, not, ◌&&◌, List, [], ◌∷◌, find, length, Option, Some, None, is_some, slice_get, slice_index_or, slice_set, refl, ap, subst, ◌∙◌, arith}
 use Rattle.std.specs.List.{filter_map}
 use Rattle.std.proofs.lemmas.Bool.{cases_lt}
 use Rattle.std.proofs.lemmas.Option.{slice_get-get_or}
 use Rattle.wdf_model.specs.declared.stack.Descent.{Descent}
+use Rattle.wdf_model.specs.declared.stack.Descent.TheVariants as descent
 use Rattle.wdf_model.specs.declared.stack.Forwarded.{Forwarded}
 use Rattle.wdf_model.specs.Tables.{first_of_list}
-use Rattle.wdf_model.specs.agents.Connector.{first_arrived, is_waiting}
-
--- no item before a place passes
-abbrev pub NoneBefore : {T : Type 0} → (T → Bool) → ℕ → List T → Type 0
-NoneBefore {T} p n xs = (k : ℕ) (a : T) → k < n → slice_get xs k ≡ Some a → p a ≡ false
+use Rattle.wdf_model.specs.agents.Connector.{first_arrived, is_waiting, post_below, post_of}
+use Rattle.wdf_stack.specs.Line.{IsWaitingAt, NoneBefore, has_post}
 
 pub find_first : {T : Type 0} (p : T → Bool) (xs : List T) (n : ℕ) (d : T) → n < length xs → NoneBefore p n xs → p (slice_index_or xs n d) ≡ true → Some (slice_index_or xs n d) ≡ find p xs
 find_first p [] n d h before holds = absurd (omega (arith, h))
@@ -76,3 +74,36 @@ nothing_waits d [] n h before = refl
 nothing_waits d (f ∷ fs) n h before =
     let this : is_waiting f ≡ false = before zero f (omega (arith, h)) refl in
     rw this (ap (λ ys. f ∷ ys) (nothing_waits d fs (length fs) (omega arith) (λ k a l e. before (suc k) a (omega (arith, l, h)) e)))
+
+-- ---- who has a post
+
+-- a request has one whatever the room is
+post_by : (room : ℕ) (f : Forwarded) (d : Descent) → f.descent ≡ d → is_some (post_of room f) ≡ has_post f
+post_by room f descent.Waiting e = rw e refl
+post_by room f descent.Refused e = rw e refl
+post_by room f (descent.Completed s) e = rw e refl
+post_by room f (descent.Below lower number passed) e = rw e (below_by (f.cancelled && not passed) refl)
+  where
+    below_by : (b : Bool) → (f.cancelled && not passed) ≡ b → is_some (post_below f number passed) ≡ (f.cancelled && not passed)
+    below_by true h = rw h refl
+    below_by false h = rw h refl
+
+pub post_is_there : (room : ℕ) (f : Forwarded) → is_some (post_of room f) ≡ has_post f
+post_is_there room f = post_by room f f.descent refl
+
+pub none_posts : (room n : ℕ) (xs : List Forwarded) → NoneBefore has_post n xs → NoneBefore (λ x. is_some (post_of room x)) n xs
+none_posts room n xs none k a l at = post_is_there room a ∙ none k a l at
+
+-- none is behind the end
+pub none_in_all : {T : Type 0} (p : T → Bool) (n : ℕ) (xs : List T) → length xs ≤ n → NoneBefore p n xs → NoneBefore p (length xs) xs
+none_in_all p n xs past none k a l at = none k a (omega (arith, l, past)) at
+
+pub waits_at : (xs : List Forwarded) (n : ℕ) (d : Forwarded) → n < length xs → is_waiting (slice_index_or xs n d) ≡ true → IsWaitingAt xs n
+waits_at xs n d l waits f at =
+    let it = slice_get-get_or xs n d l in
+    let is : f ≡ slice_index_or xs n d = cc in
+    ap is_waiting is ∙ waits
+
+pub none_waits_at_end : (xs : List Forwarded) → IsWaitingAt xs (length xs)
+none_waits_at_end [] f at = absurd (let z : ⊥ = cc in z)
+none_waits_at_end (x ∷ xs) f at = none_waits_at_end xs f at

@@ -1,1 +1,3 @@
 pub mod Agents
+pub mod Spans
+pub mod Line

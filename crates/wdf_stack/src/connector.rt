@@ -10,6 +10,7 @@ ghost use Rattle.wdf_model.specs.agents.LowerTarget as target;
 ghost use Rattle.wdf_model.specs.rules.Faults as faults;
 
 use crate::chains::device_handle;
+use crate::line::Line;
 use std::alloc::Global;
 use std::marker::Model;
 use wdf_base::{
@@ -18,7 +19,7 @@ use wdf_base::{
 };
 use wdf_declared::target_of;
 use wdf_maps::Rising;
-use wdf_model::{Arrival, Descent, Forwarded, object_in};
+use wdf_model::{Arrival, object_in};
 use wdf_same::same_value;
 
 /// The most requests that arrive in one run.
@@ -34,8 +35,6 @@ pub struct Connector {
     target: ObjectId,
     /// The device below.
     lower: Handle,
-    /// The most requests that it keeps.
-    depth: u64,
     /// The agents before this number are the Plug and Play manager and the apps.
     first: usize,
     /// How many arrivals connectors may still post.
@@ -44,8 +43,8 @@ pub struct Connector {
     posted: u64,
     /// What the requests ask for that arrived.
     arrivals: Rising<Arrival>,
-    /// What was sent to it and isn't done, in the order of the sends.
-    sent: Vec<Forwarded>,
+    /// What was sent to it and isn't done, in the order of the sends, as many as its depth.
+    line: Line,
 }
 
 impl Model for Connector {
@@ -54,9 +53,9 @@ impl Model for Connector {
 
     ghost Value = { Connector };
 
-    ghost view = { λ s. record { agent = s.agent; target = s.target.0; lower = s.lower; depth = s.depth; first = s.first; room = s.room; posted = s.posted; arrivals = s.arrivals.entries; sent = s.sent.items } };
+    ghost view = { λ s. record { agent = s.agent; target = s.target.0; lower = s.lower; depth = s.line.room; first = s.first; room = s.room; posted = s.posted; arrivals = s.arrivals.entries; sent = s.line.sent } };
 
-    ghost invariant = { λ s. record { room : s.depth ≤ vec_capacity s.sent; kept : s.arrivals.room ≡ 4096 } };
+    ghost invariant = { λ s. s.arrivals.room ≡ 4096 };
 }
 
 /// The object that an argument names.
@@ -133,191 +132,9 @@ fn passed_down(lower: Handle, post: &Post) -> Post
     }
 }
 
-/// Whether a request has no arrival yet.
-fn is_waiting(sent: &Forwarded) -> bool
-    ensures { result ≡ connector.is_waiting sent.now }
-{
-    matches!(sent.descent, Descent::Waiting)
-}
-
-/// What an arrival makes of its request.
-fn arrived_below(number: u64, answer: Option<Handle>) -> Descent
-    ensures { result ≡ connector.arrived_below number answer }
-{
-    match answer {
-        Some(request) => Descent::Below {
-            lower: request.id,
-            number,
-            passed_on: false,
-        },
-        None => Descent::Refused,
-    }
-}
-
-/// An arrival is that of the first request that has none.
-fn set_first(sent: &mut [Forwarded], descent: Descent)
-    ensures { sent.new ≡ connector.first_arrived descent sent.old }
-{
-    for k in 0..sent.len() {
-        if is_waiting(&sent[k]) {
-            sent[k] = Forwarded { descent, ..sent[k] };
-            return;
-        }
-    }
-}
-
-/// A request as it is cancelled, if it is this one.
-fn cancelled_one(sent: Forwarded, r: ObjectId) -> Forwarded
-    ensures { result ≡ connector.cancelled_one r.0 sent }
-{
-    Forwarded {
-        cancelled: sent.cancelled || same_object_id(sent.request.id, r),
-        ..sent
-    }
-}
-
-/// A request is cancelled, if it is there.
-fn cancel_one(sent: &mut [Forwarded], r: ObjectId)
-    ensures { sent.new ≡ map (connector.cancelled_one r.0) sent.old }
-{
-    for k in 0..sent.len() {
-        sent[k] = cancelled_one(sent[k], r);
-    }
-}
-
-/// All that is there is cancelled.
-fn cancel_all(sent: &mut [Forwarded])
-    ensures { sent.new ≡ map connector.cancelled_any sent.old }
-{
-    for k in 0..sent.len() {
-        sent[k] = Forwarded {
-            cancelled: true,
-            ..sent[k]
-        };
-    }
-}
-
-/// What becomes of a request whose cancel is passed on, if it has this arrival.
-fn passed_on_at(descent: Descent, arrival: u64) -> Descent
-    ensures { result ≡ connector.passed_on_at arrival descent }
-{
-    match descent {
-        Descent::Below {
-            lower,
-            number,
-            passed_on,
-        } => Descent::Below {
-            lower,
-            number,
-            passed_on: passed_on || number == arrival,
-        },
-        other => other,
-    }
-}
-
-/// The cancel of a request is passed on.
-fn pass_on(sent: &mut [Forwarded], arrival: u64)
-    ensures { sent.new ≡ map (connector.passed_on_one arrival) sent.old }
-{
-    for k in 0..sent.len() {
-        sent[k] = Forwarded {
-            descent: passed_on_at(sent[k].descent, arrival),
-            ..sent[k]
-        };
-    }
-}
-
-/// What becomes of a request, if this is the one below that is completed.
-fn completed_at(descent: Descent, x: ObjectId, status: Status) -> Descent
-    ensures { result ≡ connector.completed_at x.0 status descent }
-{
-    match descent {
-        Descent::Below { lower, .. } if same_object_id(lower, x) => Descent::Completed(status),
-        other => other,
-    }
-}
-
-/// A request is completed, which some that was sent may wait for.
-fn complete(sent: &mut [Forwarded], x: ObjectId, status: Status)
-    ensures { sent.new ≡ map (connector.completed_one x.0 status) sent.old }
-{
-    for k in 0..sent.len() {
-        sent[k] = Forwarded {
-            descent: completed_at(sent[k].descent, x, status),
-            ..sent[k]
-        };
-    }
-}
-
-/// Takes a request away.
-fn drop_request(sent: &mut Vec<Forwarded>, r: ObjectId)
-    ensures items { sent.new.items ≡ filter (λ (f : Forwarded). not (f.request.id.0 == r.0)) sent.old.items }
-    ensures capacity { vec_capacity sent.new ≡ vec_capacity sent.old }
-{
-    sent.retain(|request| !same_object_id(request.request.id, r));
-}
-
-/// A request as done with a status.
-fn done_with(sent: &Forwarded, status: Status) -> Post
-    ensures { result ≡ connector.done_with sent.now status }
-{
-    Post::Done {
-        request: sent.request,
-        status,
-    }
-}
-
-/// The post for a request without an arrival.
-fn post_waiting(room: u64, sent: &Forwarded) -> Post
-    ensures { result ≡ connector.post_waiting room sent.now }
-{
-    if sent.cancelled {
-        done_with(sent, Status::Cancelled)
-    } else if room == 0 {
-        done_with(sent, Status::InsufficientResources)
-    } else {
-        sent.post
-    }
-}
-
-/// The post that is due for a request, if one is.
-fn post_of(room: u64, sent: &Forwarded) -> Option<Post>
-    ensures { result ≡ connector.post_of room sent.now }
-{
-    match sent.descent {
-        Descent::Completed(status) => Some(done_with(sent, status)),
-        Descent::Refused => Some(done_with(sent, Status::InvalidDeviceState)),
-        Descent::Waiting => Some(post_waiting(room, sent)),
-        Descent::Below {
-            number,
-            passed_on,
-            ..
-        } => {
-            if sent.cancelled && !passed_on {
-                Some(Post::Cancel { arrival: number })
-            } else {
-                None
-            }
-        }
-    }
-}
-
-/// The post for the first request that has one.
-fn first_post(room: u64, sent: &[Forwarded]) -> Option<Post>
-    ensures { result ≡ tables.first_of_list (filter_map (connector.post_of room) sent.now) }
-{
-    for request in sent {
-        let post = post_of(room, request);
-        if post.is_some() {
-            return post;
-        }
-    }
-    None
-}
-
 impl Connector {
     /// The connector of a target to a device, with nothing sent to it. [`Memory`] comes also where its depth doesn't fit
-    /// `usize`.
+    /// 16 bits.
     pub fn make(
         alloc: Global,
         plan: &Plan,
@@ -333,19 +150,18 @@ impl Connector {
             Some(info) => info.depth,
             None => 0,
         };
-        let Ok(room) = usize::try_from(depth) else {
+        let Ok(depth) = u16::try_from(depth) else {
             return Err(Memory);
         };
         Ok(Connector {
             agent,
             target: o,
             lower: device_handle(plan, lower),
-            depth,
             first,
             room: room_beside(&plan.agents.as_slice()[..first - 1]),
             posted: 0,
             arrivals: Rising::make(alloc, ARRIVALS)?,
-            sent: Vec::with_capacity(alloc, room)?,
+            line: Line::make(alloc, depth)?,
         })
     }
 
@@ -411,7 +227,7 @@ impl Connector {
         ensures { self.new ≡ connector.stop_called self.old call.now }
     {
         if names(call.a, self.target) && is_zero(call.b) {
-            cancel_all(self.sent.as_mut_slice());
+            self.line.cancel_all();
         }
     }
 
@@ -428,7 +244,7 @@ impl Connector {
     fn note_completion(&mut self, x: ObjectId, status: Status)
         ensures { self.new ≡ connector.with_completed self.old x.0 status }
     {
-        complete(self.sent.as_mut_slice(), x, status);
+        self.line.complete(x, status);
     }
 
     /// Takes notice of a post.
@@ -459,7 +275,7 @@ impl Connector {
         }
         if agent == self.agent {
             self.posted = self.posted.saturating_add(1);
-            set_first(self.sent.as_mut_slice(), arrived_below(self.posted, answer));
+            self.line.arrive(self.posted, answer);
         }
     }
 
@@ -485,7 +301,7 @@ impl Connector {
             self.cancel(request.id);
         }
         if agent == self.agent {
-            pass_on(self.sent.as_mut_slice(), arrival);
+            self.line.pass_on(arrival);
         }
     }
 
@@ -508,14 +324,9 @@ impl Connector {
         ensures { self.new ≡ connector.with_sent self.old request }
     {
         if let Some(request) = request {
-            if (self.sent.len() as u64) < self.depth {
+            if self.line.has_room() {
                 let post = self.post_for(request.id);
-                self.sent.push_reserved(Forwarded {
-                    request,
-                    post,
-                    cancelled: false,
-                    descent: Descent::Waiting,
-                });
+                self.line.push(request, post);
             }
         }
     }
@@ -524,20 +335,20 @@ impl Connector {
     fn cancel(&mut self, r: ObjectId)
         ensures { self.new ≡ connector.cancelled self.old r.0 }
     {
-        cancel_one(self.sent.as_mut_slice(), r);
+        self.line.cancel(r);
     }
 
     /// A request is here no more.
     fn let_go(&mut self, r: ObjectId)
         ensures { self.new ≡ connector.without_request self.old r.0 }
     {
-        drop_request(&mut self.sent, r);
+        self.line.let_go(r);
     }
 
     /// The post for the first request that has one, in the order of the sends.
     pub fn due(&self) -> Option<Post>
         ensures { result ≡ connector.connector_due self.now }
     {
-        first_post(self.room, self.sent.as_slice())
+        self.line.post(self.room)
     }
 }

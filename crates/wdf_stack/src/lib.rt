@@ -5,7 +5,10 @@
 mod agents;
 mod chains;
 mod connector;
+mod forwarded;
 mod laws;
+mod line;
+mod spans;
 mod stack_manager;
 
 pub use agents::{StackAgent, stack_agents};

@@ -1,6 +1,6 @@
 -- No device before the place is named.
 use Rattle.wdf_model.specs.agents.Chains.{names_device}
-use Rattle.wdf_stack.proofs.Finding.{NoneBefore}
+use Rattle.wdf_stack.specs.Line.{NoneBefore}
 use Rattle.wdf_stack.proofs.chains.named_device.Given as goal
 
 abbrev pub invariant-loop-device : goal.invariant-loop-device

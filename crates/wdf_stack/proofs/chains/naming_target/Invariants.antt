@@ -1,6 +1,6 @@
 -- No target before the place is of the device and names one.
 use Rattle.wdf_model.specs.agents.Chains.{is_naming}
-use Rattle.wdf_stack.proofs.Finding.{NoneBefore}
+use Rattle.wdf_stack.specs.Line.{NoneBefore}
 use Rattle.wdf_stack.proofs.chains.naming_target.Given as goal
 
 abbrev pub invariant-loop-target : goal.invariant-loop-target

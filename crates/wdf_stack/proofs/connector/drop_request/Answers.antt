@@ -1,7 +1,0 @@
--- The closure keeps the other requests.
-use Rattle.std.proofs.Common.{rules}
-use Rattle.std.proofs.lemmas.Fn.{filter_same}
-use Rattle.wdf_stack.proofs.connector.drop_request.Goals as goal
-
-pub returns-clause-items : goal.returns-clause-items
-returns-clause-items c = filter_same _ _ _ (λ x b f' k. search rules) _ _ c.retain.ensures.filtered
