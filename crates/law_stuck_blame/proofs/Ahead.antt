@@ -1,5 +1,5 @@
 -- Where another comes before an item of a list, something is ahead of it.
-use Rattle.std.proofs.Common.{◌≡◌, ℕ, ◌≤◌, ◌==◌, Bool, true, false, not, List, [], ◌∷◌, count_by, take_while, refl, sym, ap, ◌∙◌, arith}
+use Rattle.std.proofs.Common.{◌≡◌, ℕ, ◌≤◌, ◌==◌, Bool, true, false, not, List, [], ◌∷◌, count_by, take_while, refl, sym, ◌∙◌, arith}
 use Rattle.wdf_model.specs.Tables.{contains}
 use Rattle.wdf_model.proofs.Counts.{count_no, count_yes}
 use Rattle.law_stuck_causes.specs.Causes.{is_before}

@@ -1,5 +1,5 @@
 -- Each line of a stuck run's wait list explains why what it is about doesn't go on.
-use Rattle.std.proofs.Common.{◌≡◌, ℕ, ◌<◌, ◌≤◌, List, Option, Some, is_some, true, false, nat_le, slice_get, refl, sym, ap, ◌∙◌, subst, arith}
+use Rattle.std.proofs.Common.{◌≡◌, ℕ, ◌<◌, ◌≤◌, List, Some, true, nat_le, slice_get, refl, subst, arith}
 use Rattle.std.proofs.lemmas.Bool.{and_parts, leb-true}
 use Rattle.wdf_base.specs.Meaning.{Meaning}
 use Rattle.wdf_base.specs.Resolved.{IsResolved}
@@ -16,11 +16,9 @@ use Rattle.wdf_model.specs.rules.Waits.{wait_list}
 use Rattle.law_machine_base.specs.OverRuns.{FramesAgree, PlacesAgree}
 use Rattle.law_machine_base.proofs.LawsOverRuns.{places_agree}
 use Rattle.law_machine_counts.proofs.StepsOverRuns.{frames_agree_at_each}
-use Rattle.law_stuck_causes.specs.Causes.{is_taken, keeps}
 use Rattle.law_stuck_causes.proofs.EachLine.{each_line}
 use Rattle.law_stuck_causes.proofs.Endings.{at_the_end}
 use Rattle.law_stuck_causes.proofs.Told.{line_so}
-use Rattle.law_stuck_objects.specs.Spinning.{Spins}
 use Rattle.law_stuck_objects.proofs.Spinning.{taken_processors_spin}
 use Rattle.law_stuck_objects.proofs.Told.{each_line_named, objects_find_no_processor}
 use Rattle.law_stuck_blame.specs.Blame.{IsExplained, is_blamed}

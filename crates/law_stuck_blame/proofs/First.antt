@@ -1,8 +1,6 @@
 -- No earlier cause of a row is so.
-use Rattle.std.proofs.Common.{if◌then◌else◌, ◌≡◌, inl, inr, ℕ, suc, ◌+◌, ◌<◌, ◌≤◌, ◌==◌, Bool, true, false, not, ◌&&◌, ◌||◌, nat_lt, List, [], ◌∷◌, Option, Some, None, is_some, filter, count_by, slice_get, take_while, refl, sym, ap, ◌∙◌, subst, arith, eqb-true}
+use Rattle.std.proofs.Common.{if◌then◌else◌, ◌≡◌, ℕ, ◌≤◌, ◌==◌, Bool, true, false, not, ◌&&◌, ◌||◌, List, [], ◌∷◌, Option, Some, None, filter, count_by, refl, ap, ◌∙◌, subst, arith}
 use Rattle.std.specs.Prelude.{option_map}
-use Rattle.std.specs.List.{list_any}
-use Rattle.std.proofs.lemmas.Bool.{and_parts, cases_Bool, ltb-true}
 use Rattle.wdf_base.specs.declared.plan.Plan.{Plan}
 use Rattle.wdf_base.specs.declared.ids.ObjectId.{ObjectId}
 use Rattle.wdf_base.specs.declared.object.Place.{Place}
@@ -11,13 +9,12 @@ use Rattle.wdf_base.specs.declared.call.Callback.{Callback}
 use Rattle.wdf_base.specs.declared.call.Callback.TheVariants as callback
 use Rattle.wdf_base.specs.declared.wait.Cause.{Cause}
 use Rattle.wdf_base.specs.declared.wait.Cause.TheVariants as cause
-use Rattle.wdf_base.specs.declared.wait.OpenThing.{OpenThing}
 use Rattle.wdf_base.specs.declared.wait.OpenThing.TheVariants as thing
 use Rattle.wdf_base.specs.declared.wait.WaitLine.{WaitLine}
 use Rattle.wdf_base.specs.Callbacks.{dpc_function}
 use Rattle.wdf_base.specs.Places.{is_queued_in}
 use Rattle.wdf_model.specs.Ids.{frame_id}
-use Rattle.wdf_model.specs.Tables.{contains, flag, least}
+use Rattle.wdf_model.specs.Tables.{flag, least}
 use Rattle.wdf_model.specs.Plans.{is_managed, is_manual_queue, queue_level}
 use Rattle.wdf_model.specs.parts.Tree.{kind_of}
 use Rattle.wdf_model.specs.parts.Cpus.{all_frames, is_on}
@@ -31,16 +28,13 @@ use Rattle.wdf_model.specs.parts.Deferred.WorkItems.{is_work_queued}
 use Rattle.wdf_base.specs.declared.event.Step.{Step}
 use Rattle.wdf_model.specs.State.{State, declared_in, handle_in, is_powered, up_for}
 use Rattle.wdf_model.specs.rules.Starts.{level_fits}
-use Rattle.wdf_model.specs.rules.Waits.{ahead, by_frame_on, cause_if, cpu_of_dpc, deferred_cause, deferred_line, device_line, dpc_cause, first_cause, frame_line, head_lock, no_cpu, object_line, queue_scope_held, queued_cause, request_line, returning_cause, scope_is_held, sequence_line, work_cause}
-use Rattle.wdf_model.proofs.Counts.{count_no, count_yes}
+use Rattle.wdf_model.specs.rules.Waits.{ahead, by_frame_on, cause_if, cpu_of_dpc, deferred_cause, dpc_cause, first_cause, head_lock, no_cpu, queue_scope_held, queued_cause, request_line, returning_cause, scope_is_held, sequence_line, work_cause}
 use Rattle.wdf_model.proofs.Tests.{itself}
 use Rattle.law_machine_base.specs.OverRuns.{FramesAgree, PlacesAgree}
-use Rattle.law_stuck_causes.specs.Causes.{is_before, keeps_deferred, keeps_dpc, keeps_queued, keeps_returning, keeps_work, runs_on}
+use Rattle.law_stuck_causes.specs.Causes.{keeps_deferred, keeps_dpc, keeps_queued, keeps_returning, keeps_work}
 use Rattle.law_stuck_causes.proofs.EachLine.{OfLines}
-use Rattle.law_stuck_causes.proofs.Forms.{lock_held, none_left, not_fits, while_on}
-use Rattle.law_stuck_causes.proofs.Gives.{IfThere, any_has}
-use Rattle.law_stuck_causes.proofs.Members.{has_id}
-use Rattle.law_stuck_causes.proofs.Needs.{no_count}
+use Rattle.law_stuck_causes.proofs.Forms.{lock_held, none_left, not_fits}
+use Rattle.law_stuck_causes.proofs.Gives.{IfThere}
 use Rattle.law_stuck_blame.specs.Blame.{comes_before, is_blamed, place_in_row}
 use Rattle.law_stuck_blame.proofs.Ahead.{some_ahead}
 use Rattle.law_stuck_blame.proofs.Rows.{IsFirstOf, IsThere, first_in, placed_if, placed_map, there_if, there_least}

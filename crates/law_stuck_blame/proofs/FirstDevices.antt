@@ -1,6 +1,6 @@
 -- No earlier cause of the row of a device's step is so.
-use Rattle.std.proofs.Common.{if◌then◌else◌, ◌≡◌, ◌⊎◌, inl, inr, ℕ, ◌==◌, Bool, true, false, not, ◌&&◌, ◌||◌, nat_lt, List, [], ◌∷◌, ◌++◌, Option, Some, None, is_some, filter, refl, sym, ap, ◌∙◌, subst, eqb-true}
-use Rattle.std.specs.Prelude.{⊤, option_map}
+use Rattle.std.proofs.Common.{if◌then◌else◌, ◌≡◌, inl, inr, ℕ, ◌==◌, Bool, true, false, not, ◌&&◌, ◌||◌, nat_lt, List, [], ◌∷◌, Option, Some, None, is_some, filter, refl, sym, ap, ◌∙◌, subst, eqb-true}
+use Rattle.std.specs.Prelude.{⊤}
 use Rattle.std.specs.List.{flat_map, list_any}
 use Rattle.std.proofs.lemmas.Bool.{and_parts, or_cases}
 use Rattle.std.proofs.lemmas.Option.{same_Some}
@@ -18,14 +18,14 @@ use Rattle.wdf_base.specs.declared.wait.OpenThing.TheVariants as thing
 use Rattle.wdf_base.specs.Places.{is_sent_to}
 use Rattle.wdf_base.specs.Same.{same_callback}
 use Rattle.wdf_model.specs.Ids.{frame_id}
-use Rattle.wdf_model.specs.Tables.{contains, ids_of, least}
+use Rattle.wdf_model.specs.Tables.{least}
 use Rattle.wdf_model.specs.Plans.{callback_irql, managed_queues, queue_level}
 use Rattle.wdf_model.specs.parts.Cpus.{all_frames, frame_of, is_on}
 use Rattle.wdf_model.specs.parts.Locks.{lock_of_callback, object_lock, scope_of}
 use Rattle.wdf_model.specs.declared.entries.Request.{Request}
 use Rattle.wdf_model.specs.declared.entries.Holding.{Holding}
 use Rattle.wdf_model.specs.parts.Requests.{no_request, place_of, request_of}
-use Rattle.wdf_model.specs.parts.Power.{holding_of, is_unsettled_at, no_holding, unsettled}
+use Rattle.wdf_model.specs.parts.Power.{holding_of, is_unsettled_at, no_holding}
 use Rattle.wdf_model.specs.parts.Pnp.{follows_queues_up, is_running_step, running_step}
 use Rattle.wdf_model.specs.State.{State, declared_in, handle_in}
 use Rattle.wdf_model.specs.rules.Starts.{handle_id, is_unfinished_at, level_fits, targets_at}
@@ -34,7 +34,7 @@ use Rattle.law_stuck_causes.specs.Causes.{all_taken, awaits_cpu, awaits_frame, a
 use Rattle.law_stuck_causes.proofs.Members.{Has, has_back, has_flat, has_front, has_id}
 use Rattle.law_stuck_causes.proofs.Gives.{Gives, any_alike, gives_frame, it_contains}
 use Rattle.law_stuck_causes.proofs.Forms.{none_left, not_fits}
-use Rattle.law_stuck_blame.specs.Blame.{comes_before, is_blamed, place_in_row, place_of_next}
+use Rattle.law_stuck_blame.specs.Blame.{comes_before, is_blamed, place_of_next}
 use Rattle.law_stuck_blame.proofs.Rows.{IsFirstOf, IsThere, first_in, none_before, placed_if, placed_map, there_if}
 use Rattle.law_stuck_blame.proofs.There.{frame_on, has_passed, in_table, lock_by, lock_by_any, past_end, some_least, some_passes}
 

@@ -1,5 +1,5 @@
 -- No earlier cause of the row of an object that is being deleted is so; and a child that it names goes before it.
-use Rattle.std.proofs.Common.{if◌then◌else◌, ◌≡◌, inl, inr, ℕ, ◌==◌, Bool, true, false, not, ◌&&◌, ◌||◌, nat_lt, List, [], ◌∷◌, ◌++◌, Option, Some, None, is_some, filter, refl, sym, ap, ◌∙◌, subst, eqb-true}
+use Rattle.std.proofs.Common.{if◌then◌else◌, ◌≡◌, inl, inr, ℕ, ◌==◌, Bool, true, false, not, ◌&&◌, ◌||◌, nat_lt, List, [], ◌∷◌, ◌++◌, Option, Some, None, is_some, filter, refl, ◌∙◌, subst, eqb-true}
 use Rattle.std.specs.Prelude.{option_map}
 use Rattle.std.proofs.lemmas.Bool.{and_parts, or_cases}
 use Rattle.wdf_base.specs.declared.plan.Plan.{Plan}
@@ -19,7 +19,7 @@ use Rattle.wdf_model.specs.parts.Locks.{object_lock}
 use Rattle.wdf_model.specs.parts.Requests.{place_of}
 use Rattle.wdf_model.specs.parts.Targets.{is_undone}
 use Rattle.wdf_model.specs.State.{State, handle_in, waits_for}
-use Rattle.wdf_model.specs.rules.Waits.{at_target, by_frame, cause_if, children_first, first_cause, frames_where, holders_of, not_cleaned, object_cause, object_cpus, references_cause, target_of_place, users, users_that_keep, waits_for_younger}
+use Rattle.wdf_model.specs.rules.Waits.{at_target, by_frame, cause_if, children_first, frames_where, holders_of, not_cleaned, object_cause, object_cpus, references_cause, target_of_place, users, users_that_keep, waits_for_younger}
 use Rattle.wdf_model.proofs.Tests.{both, both_left, both_right, first, second}
 use Rattle.law_stuck_causes.specs.Causes.{has_lock, is_there, runs_on, uses}
 use Rattle.law_stuck_causes.proofs.Members.{Has, has_back, has_front, has_id}

@@ -1,11 +1,9 @@
 -- Where a line names `cpus`, the processors that could take the start spin.
-use Rattle.std.proofs.Common.{if◌then◌else◌, ◌≡◌, ◌⊎◌, inl, inr, ℕ, zero, suc, ◌+◌, ◌<◌, ◌≤◌, Bool, true, false, not, ◌&&◌, ◌||◌, nat_le, List, [], ◌∷◌, Option, Some, None, is_some, find, unwrap_or, refl, sym, ap, ◌∙◌, subst, arith}
+use Rattle.std.proofs.Common.{if◌then◌else◌, ◌≡◌, ◌⊎◌, inl, inr, ℕ, zero, suc, ◌+◌, ◌<◌, Bool, true, false, ◌&&◌, ◌||◌, List, [], ◌∷◌, Option, Some, None, is_some, find, unwrap_or, refl, ap, ◌∙◌, arith}
 use Rattle.std.specs.List.{list_all, list_any, range_with_len}
-use Rattle.std.proofs.lemmas.Bool.{and_parts, cases_Bool, leb-true}
-use Rattle.wdf_base.specs.Resolved.{IsResolved}
+use Rattle.std.proofs.lemmas.Bool.{and_parts}
 use Rattle.wdf_base.specs.declared.plan.Plan.{Plan}
 use Rattle.wdf_base.specs.declared.ids.Handle.{Handle}
-use Rattle.wdf_base.specs.declared.event.Stage.{Stage}
 use Rattle.wdf_base.specs.declared.event.Stage.TheVariants as stage
 use Rattle.wdf_base.specs.declared.event.Step.{Step}
 use Rattle.wdf_base.specs.declared.event.Step.TheVariants as step
@@ -26,7 +24,7 @@ use Rattle.wdf_model.specs.parts.Deferred.Dpcs.{dpcs_of, is_dpc_queued}
 use Rattle.wdf_model.specs.parts.Deferred.WorkItems.{is_work_queued}
 use Rattle.wdf_model.specs.State.{State}
 use Rattle.wdf_model.specs.rules.Waits.{all_cpus, cpu_of_dpc, cpus_with_dpc, has_dpc_of, object_of_step, queues_to_resume}
-use Rattle.law_stuck_causes.specs.Causes.{all_taken, is_taken, keeps_deferred, keeps_dpc, keeps_frame, keeps_next, keeps_parked, keeps_pending, keeps_resumes, keeps_running, keeps_step, keeps_work}
+use Rattle.law_stuck_causes.specs.Causes.{all_taken, is_taken, keeps_deferred, keeps_frame, keeps_next, keeps_parked, keeps_pending, keeps_resumes, keeps_running, keeps_work}
 use Rattle.law_stuck_causes.proofs.Gives.{has_kept, it_contains}
 use Rattle.law_stuck_causes.proofs.Members.{Has, below_range, has_range}
 use Rattle.law_stuck_objects.specs.Deleted.{comes_next, finds_no_cpu}
