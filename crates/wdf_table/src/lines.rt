@@ -1,0 +1,114 @@
+ghost use Rattle.std.specs.Prelude.{◌≡◌, ◌+◌, ◌-◌, ◌<◌, ◌≤◌, ◌^◌, ◌++◌, IfOk, OnOk};
+ghost use Rattle.wdf_table.specs.Lines.{kind_status, row_lines, row_text, table_status, table_text, total_text, worse};
+
+use crate::row::Row;
+use crate::tally::Tally;
+use std::alloc::Global;
+use wdf_base::Memory;
+use wdf_writing::Text;
+
+/// The status of a run that ends in a kind.
+fn kind_status(kind: &[u8]) -> u8
+    ensures { result ≡ kind_status kind.now }
+{
+    if kind.starts_with(b"fault ") {
+        3
+    } else if kind.starts_with(b"stuck") {
+        4
+    } else if kind.starts_with(b"limit") {
+        5
+    } else {
+        0
+    }
+}
+
+/// The worse of two statuses: 3, then 4, then 5, then 0.
+fn worse(a: u8, b: u8) -> u8
+    ensures { result ≡ worse a b }
+{
+    if a == 0 {
+        b
+    } else if b == 0 {
+        a
+    } else {
+        a.min(b)
+    }
+}
+
+/// Adds the line of a row.
+fn push_row(out: &mut Text, row: &Row) -> Result<(), Memory>
+    ensures { OnOk result (out.new ≡ out.old ++ row_text row.now) }
+{
+    out.push_number(row.count)?;
+    out.push(b" seeds, seed ")?;
+    out.push_number(row.seed)?;
+    out.push(b" in ")?;
+    out.push_number(row.events)?;
+    out.push(b" events: ")?;
+    out.push(row.kind.bytes())?;
+    out.push(b"\n")
+}
+
+/// Adds a line for each row.
+fn push_rows(out: &mut Text, rows: &[Row]) -> Result<(), Memory>
+    ensures { OnOk result (out.new ≡ out.old ++ row_lines rows.now) }
+{
+    for row in rows {
+        push_row(out, row)?;
+    }
+    Ok(())
+}
+
+/// Adds the last line of a table.
+fn push_total(out: &mut Text, from: u64, count: u64, events: u64) -> Result<(), Memory>
+    requires some { 0 < count }
+    requires fits { from + count ≤ 2 ^ 64 }
+    ensures { OnOk result (out.new ≡ out.old ++ total_text from count events) }
+{
+    out.push(b"seeds ")?;
+    out.push_number(from)?;
+    out.push(b" to ")?;
+    out.push_number(from + (count - 1))?;
+    out.push(b": ")?;
+    out.push_number(count)?;
+    out.push(b" runs, ")?;
+    out.push_number(events)?;
+    out.push(b" events\n")
+}
+
+impl Tally {
+    /// What is written of the rows: a line for each, and the last line, for so many seeds from this one on whose runs have
+    /// so many events.
+    ///
+    /// # Errors
+    ///
+    /// [`Memory`] where memory was refused.
+    pub fn text(&self, alloc: Global, from: u64, count: u64, events: u64) -> Result<Text, Memory>
+        requires some { 0 < count }
+        requires fits { from + count ≤ 2 ^ 64 }
+        ensures { IfOk result (λ text. text ≡ table_text self.now from count events) }
+    {
+        let mut out = Text::new(alloc);
+        push_rows(&mut out, self.rows())?;
+        push_total(&mut out, from, count, events)?;
+        Ok(out)
+    }
+
+    /// The status of the worst kind.
+    fn worst(&self) -> u8
+        ensures { result ≡ table_status self.now }
+    {
+        self.rows().iter().fold(
+            0,
+            |status, row| worse(status, kind_status(row.kind.bytes())),
+        )
+    }
+
+    /// The status of the rows: that of the worst kind, and 0 where each run finished.
+    pub fn status(&self) -> u8
+        ensures value { result ≡ table_status self.now }
+        ensures small { result ≤ 5 }
+    {
+        self.worst()
+    }
+}
