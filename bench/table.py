@@ -1,0 +1,148 @@
+#!/usr/bin/env python3
+"""One table of all kinds of work: how long an event takes by each word, how that grows, and what memory it takes.
+
+Not part of the gate. Build the program first (`./kmdfsim check < examples/first-read.kmdf`), then from the root:
+
+    python3 bench/table.py [PROGRAM] [KIND ..]
+
+Each kind of work is run at several sizes by `order`, by `seed 5`, by `replay` of the trace of that seed, and by `run`. A row
+has the size and the events of the run by the seed, and for each word microseconds of the processor for each event, the
+exponent of growth since the size before (1.0: twice the events take twice the time) and the most memory in MB. The seconds
+are the best of two runs; `run` has other events each time, and its column is by its own. An exponent is left out where the
+smaller size took less than 20 ms. Where KINDs are named, only they are run.
+"""
+
+import math
+import sys
+
+import machine
+from measure import PROGRAM, run
+
+RUNS = 2
+HEAD = "device D working\n"
+
+
+def locks(count):
+    """Eight processors, three queues under one device's lock, and a loop in each callback."""
+    text = machine.opening(cpus=8) + HEAD + "scope device\n"
+    forms = ("read", "EvtIoRead"), ("write", "EvtIoWrite"), ("control", "EvtIoDeviceControl")
+    for form, callback in forms:
+        text += f"queue Q{form} sequential\nfor {form}\non {callback}\n"
+        text += f"repeat {count}\nlet x = ( x + 1 )\nend\ncall WdfRequestComplete request SUCCESS\nend\nend\n"
+    text += "end\napp A\n"
+    for k in range(60):
+        text += ("at 0 read D 16\n", "at 0 write D 16\n", "at 0 control D 7 16\n")[k % 3]
+    return text + "end\n"
+
+
+def cancels(count):
+    """Requests that wait in a manual queue, each cancelled at once."""
+    posts = "".join(f"at 1 read D 16\nat 1 cancel {k + 1}\n" for k in range(count))
+    return machine.opening() + HEAD + "queue Q manual\ndefault\nend\nend\n" + f"app A\n{posts}end\n"
+
+
+def devices(count):
+    """As many devices with a sequential queue each, and a thousand reads in all."""
+    text = machine.opening()
+    for k in range(count):
+        text += f"device D{k} working\nqueue Q{k} sequential\ndefault\n{machine.COMPLETES}end\nend\n"
+    for k in range(count):
+        text += f"app A{k}\n" + f"at 0 read D{k} 16\n" * (1024 // count) + "end\n"
+    return text
+
+
+def made(kind, count, callback, body):
+    """A callback makes that many objects of a class, and does something with each."""
+    head = f"class C {kind} D\non {callback}\nend\nend\n" if callback else f"class C {kind} D\nend\n"
+    text = machine.opening() + head + "device D working\nqueue Q sequential\ndefault\non EvtIoDefault\n"
+    text += f"repeat {count}\nlet k = ( k + 1 )\n{body}end\n"
+    return text + "call WdfRequestComplete request SUCCESS\nend\nend\nend\napp A\nat 0 read D 16\nend\n"
+
+
+def timers(count):
+    """Timers that are started together, each due at a tick of its own."""
+    return made("timer", count, "EvtTimerFunc", "call o = WdfTimerCreate C\ncall was = WdfTimerStart o k\n")
+
+
+def work_items(count):
+    """Work items that are queued together."""
+    return made("workitem", count, "EvtWorkItem", "call o = WdfWorkItemCreate C\ncall WdfWorkItemEnqueue o\n")
+
+
+KINDS = {
+    "reads": (machine.reads, (500, 1000, 2000, 4000)),
+    "removals": (machine.removal, (510, 1020, 2040, 4080)),
+    "interrupts": (machine.interrupts, (25000, 50000, 100000, 200000)),
+    "loop": (machine.loop, (15250, 30500, 61000, 122000)),
+    "locks": (locks, (20, 40, 80, 160)),
+    "cancels": (cancels, (500, 1000, 2000)),
+    "queues": (machine.queues, (16, 32, 64, 128, 256)),
+    "devices": (devices, (1, 2, 4, 8)),
+    "timers": (timers, (250, 500, 1000)),
+    "work items": (work_items, (250, 500, 1000)),
+    "apps": (machine.apps, (4, 16, 64, 256)),
+}
+
+
+def events_of(trace):
+    """How many events the ending of a trace tells."""
+    for line in reversed(trace.splitlines()):
+        words = line.split(b" ")
+        if words[0] in (b"finished", b"limit", b"stuck"):
+            return int(words[1])
+    sys.exit(f"a trace without an ending: {trace[-100:]!r}")
+
+
+def best(program, words, text):
+    """The answer of a run, its best seconds of the processor, and the most memory."""
+    answer, seconds, memory = b"", [], []
+    for _ in range(RUNS):
+        answer, status, one = run(words, text, program)
+        if status not in (0, 4, 5):
+            sys.exit(f"{words} ended with status {status}: {answer[:100]!r}")
+        seconds.append(one[1])
+        memory.append(one[2])
+    return answer, min(seconds), max(memory)
+
+
+def columns(program, text):
+    """The events of the run by the seed, and for each word its events, seconds and memory."""
+    text = text.encode()
+    figures = {}
+    for words in ("order", "seed 5", "run"):
+        trace, seconds, memory = best(program, words, text)
+        if words == "seed 5":
+            seeded = trace
+        figures[words] = events_of(trace), seconds, memory
+    count = events_of(seeded)
+    _, seconds, memory = best(program, "replay", text + b"trace\n" + seeded)
+    figures["replay"] = count, seconds, memory
+    return count, figures
+
+
+def cell(now, before):
+    """What a column says of one size, beside the size before."""
+    events, seconds, memory = now
+    grown = "    "
+    if before and before[1] >= 0.02 and events != before[0]:
+        grown = f"{math.log(seconds / before[1]) / math.log(events / before[0]):4.2f}"
+    return f"{1e6 * seconds / events:9.2f} {grown} {memory:4.0f}"
+
+
+def main():
+    words = sys.argv[1:]
+    program = words.pop(0) if words and words[0] not in KINDS else PROGRAM
+    names = words or list(KINDS)
+    order = ("order", "seed 5", "replay", "run")
+    print(f"{'':24}" + "".join(f"| {name:17} " for name in order))
+    print(f"{'work':12}{'size':>6}{'events':>6}" + "| us/event grow  MB " * 4, flush=True)
+    for name in names:
+        before = {}
+        for size in KINDS[name][1]:
+            count, figures = columns(program, KINDS[name][0](size))
+            print(f"{name:12}{size:6}{count:6}" + "".join(f"|{cell(figures[w], before.get(w))} " for w in order), flush=True)
+            before = figures
+
+
+if __name__ == "__main__":
+    main()
