@@ -1,0 +1,5 @@
+pub mod Ways
+pub mod Near
+pub mod Stops
+pub mod FreeStops
+pub mod Alone

@@ -1,0 +1,2 @@
+pub mod StopsWait
+pub mod LocksApart
