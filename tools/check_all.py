@@ -29,7 +29,7 @@ ROWS = (
     ("refused-growth", "tools/refuse_growth.py --program P", "gcc"),
     ("hostile", "tools/hostile.py --program P 1 20", None),
     ("lint", "tools/lint_search.py --program P --scenarios 20 --seeds 20", None),
-    ("browser", "tools/view_in_browser.py P", "node"),
+    ("browser", "tools/check_view.py P", "chromium"),
 )
 LONG = (("wrong-bodies", "tools/wrong_bodies.py", "rt"),)
 

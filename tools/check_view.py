@@ -1,10 +1,13 @@
 #!/usr/bin/env python3
-"""check_view.py KMDFSIM KMDFVIEW [--pictures FOLDER]: looks at the pages of all examples in a browser.
+"""check_view.py KMDFSIM [KMDFVIEW] [--pictures FOLDER]: looks at the pages of all examples in a browser.
 
 It needs Debian's `chromium` (apt-get install chromium), and fails where there is none; the gate doesn't run it. For each
 example: the page has as many boxes as the trace has starts, and as many first pieces of spans as requests come to be;
 pointing at a box shows its trace line; a click dims what isn't about that object, and a second one nothing; the arrow keys
-go from event to event; the console has no message. It takes screenshots in light, in dark and at 400 pixels' width."""
+go from event to event, a drag moves the picture, a search finds the last event, a zoom makes it wider; without the script there
+are as many shapes; the console has no message. A trace with a line taken out gets the line and the status of `replay`. The JSON
+of `perfetto`, where the program has that word, has a slice for each start, its slices nest, and each span ends. The page of a run of 20,000 events opens with
+blocks, and a zoom draws what is in them. The pictures of the documents are those that the programs make. With --pictures it takes screenshots in light, in dark and at 400 pixels' width."""
 import base64
 import glob
 import json
@@ -127,11 +130,144 @@ def browser(folder):
         return started, Tab(json.load(it)["webSocketDebuggerUrl"])
 
 
+def words_of(viewer):
+    """The words that a viewer knows, by its line of usage."""
+    usage = subprocess.run([viewer], input="", capture_output=True, text=True, check=False).stdout
+    return usage.split()[2::2]
+
+
+def slices_nest(items):
+    """Whether the slices of each track lie apart or in one another, in the order in which a viewer takes them."""
+    tracks = {}
+    for item in items:
+        if item["ph"] == "X":
+            tracks.setdefault((item["pid"], item["tid"]), []).append((item["ts"], -item["dur"]))
+    for slices in tracks.values():
+        ends = []
+        for begin, length in sorted(slices):
+            while ends and ends[-1] <= begin:
+                ends.pop()
+            if ends and begin - length > ends[-1]:
+                return False
+            ends.append(begin - length)
+    return True
+
+
+def spans_end(items):
+    """Whether each span that begins ends, in the order of a stack for each sort and id."""
+    order, stacks = {"e": 0, "n": 1, "b": 2}, {}
+    told = [(item["ts"], k, item) for k, item in enumerate(items) if item["ph"] in order]
+    for _, _, item in sorted(told, key=lambda one: one[:2]):
+        stack = stacks.setdefault((item["cat"], item["id"]), [])
+        if item["ph"] == "b":
+            stack.append(item["name"])
+        elif item["ph"] == "e" and (not stack or stack.pop() != item["name"]):
+            return False
+    return not any(stacks.values())
+
+
+def look_at_json(name, trace, text):
+    """What is wrong with the JSON of a run."""
+    items = json.loads(text)["traceEvents"]
+    starts = re.findall(r"^(\d+) cpu\d+ start ", trace, re.M)
+    begun = {item["args"]["line"].split()[0] for item in items if item["ph"] == "X" and " start " in item["args"]["line"]}
+    spans = [item for item in items if item["ph"] == "b" and item["cat"] == "request" and "." in item["name"]]
+    bad = []
+    if begun != set(starts):
+        bad.append(f"{name}: the JSON has slices for other starts than the trace")
+    if len(spans) != births(trace):
+        bad.append(f"{name}: the JSON has {len(spans)} requests")
+    if not slices_nest(items):
+        bad.append(f"{name}: slices of the JSON don't nest")
+    if not spans_end(items):
+        bad.append(f"{name}: spans of the JSON don't end")
+    return bad
+
+
+def look_at_refusal(simulator, viewer, name, text, trace):
+    """What is wrong with the answer to a trace without its second line."""
+    lines = trace.splitlines(keepends=True)
+    given = text + "trace\n" + "".join(lines[:1] + lines[2:])
+    wanted = subprocess.run([simulator, "replay"], input=given, capture_output=True, text=True, check=False)
+    bad = []
+    for word in words_of(viewer):
+        got = subprocess.run([viewer, word], input=given, capture_output=True, text=True, check=False)
+        if (got.stdout, got.returncode) != (wanted.stdout, wanted.returncode):
+            bad.append(f"{name}: {word} answers {got.stdout[:80]!r} where replay answers {wanted.stdout!r}")
+    return bad
+
+
 def births(trace):
     """How many requests come to be in a trace."""
     arrived = re.findall(r"^\d+ \S+ (?:read|write|control) .* -> (?!none)\S+$", trace, re.M)
     made = re.findall(r"^\d+ cpu\d+ call WdfRequestCreate .* -> (?!INSUFF)\S+\.\d+$", trace, re.M)
     return len(arrived) + len(made)
+
+
+# What counts the shapes of a page.
+SHAPES = "document.querySelectorAll('#shapes svg.s').length"
+
+
+def opened(tab, page):
+    """Opens a page in a wide window, and waits until its script has run."""
+    tab.ask("Emulation.setDeviceMetricsOverride", width=1200, height=800, deviceScaleFactor=1, mobile=False)
+    tab.ask("Page.navigate", url="file://" + page)
+    for _ in range(600):
+        if tab.value("document.readyState") == "complete" and tab.value("location.href").endswith(page) and tab.value("!document.getElementById('tools').hidden"):
+            return
+        time.sleep(0.1)
+    sys.exit(f"{page} doesn't open")
+
+
+def without_script(tab, page):
+    """How many shapes a page has where no script runs."""
+    tab.ask("Emulation.setScriptExecutionDisabled", value=True)
+    tab.ask("Page.navigate", url="file://" + page)
+    for _ in range(600):
+        if tab.value("document.readyState") == "complete" and tab.value("location.href").endswith(page):
+            break
+        time.sleep(0.1)
+    count = tab.value(SHAPES)
+    tab.ask("Emulation.setScriptExecutionDisabled", value=False)
+    return count
+
+
+def move(tab, want, trace):
+    """Drags, zooms and searches."""
+    width = tab.value("Number(document.getElementById('plot').getAttribute('width'))")
+    tab.ask("Input.dispatchKeyEvent", type="keyDown", key="+", text="+")
+    tab.ask("Input.dispatchKeyEvent", type="keyDown", key="+", text="+")
+    want("a zoom makes it wider", tab.value("Number(document.getElementById('plot').getAttribute('width'))") > width, True)
+    tab.value("document.getElementById('run').scrollLeft = 0")
+    y = tab.value("document.getElementById('run').getBoundingClientRect().top") + 30
+    tab.mouse("mousePressed", 800, y, button="left", clickCount=1)
+    tab.mouse("mouseMoved", 600, y, button="left")
+    tab.mouse("mouseMoved", 500, y, button="left")
+    tab.mouse("mouseReleased", 500, y, button="left", clickCount=1)
+    room = tab.value("(r => r.scrollWidth - r.clientWidth)(document.getElementById('run'))")
+    want("a drag moves it", tab.value("document.getElementById('run').scrollLeft") > 0, room > 0)
+    last = [line for line in trace.splitlines() if re.match(r"\d+ ", line)][-1]
+    tab.value(f"(s => {{ s.value = {json.dumps(last)}; s.dispatchEvent(new KeyboardEvent('keydown', {{ key: 'Enter' }})); }})(document.querySelector('#tools input'))")
+    want("a search finds the last event", tab.value("document.getElementById('line').textContent"), last)
+
+
+def look_at_large(tab, trace, page):
+    """What is wrong with the page of a large run."""
+    opened(tab, page)
+    bad = []
+    starts = len(re.findall(r"^\d+ cpu\d+ start ", trace, re.M))
+    drawn, blocks = tab.value(SHAPES), tab.value("document.querySelectorAll('#shapes rect.m').length")
+    kept = tab.value("document.getElementById('all').content.querySelectorAll('svg.b').length")
+    if kept != starts:
+        bad.append(f"the large run has {kept} boxes in its page, and {starts} starts")
+    if not 0 < drawn + blocks < 20_000:
+        bad.append(f"the large run draws {drawn} shapes and {blocks} blocks at first")
+    for _ in range(12):
+        tab.ask("Input.dispatchKeyEvent", type="keyDown", key="+", text="+")
+    time.sleep(0.5)
+    if tab.value("document.querySelectorAll('#shapes svg.b').length") == 0:
+        bad.append("a zoom into the large run draws no box")
+    return bad + [f"the large run: {message}" for message in tab.messages]
 
 
 def look(tab, name, trace, page, pictures):
@@ -141,13 +277,10 @@ def look(tab, name, trace, page, pictures):
         if got != wanted:
             bad.append(f"{name}: {what}: {got!r}, and not {wanted!r}")
 
+    shapes = without_script(tab, page)
     tab.messages.clear()
-    tab.ask("Emulation.setDeviceMetricsOverride", width=1200, height=800, deviceScaleFactor=1, mobile=False)
-    tab.ask("Page.navigate", url="file://" + page)
-    for _ in range(300):
-        if tab.value("document.readyState") == "complete" and tab.value("!document.getElementById('tools').hidden"):
-            break
-        time.sleep(0.1)
+    opened(tab, page)
+    want("shapes without the script", shapes, tab.value(SHAPES))
     starts = re.findall(r"^\d+ cpu\d+ start .*$", trace, re.M)
     want("boxes", tab.value("document.querySelectorAll('#shapes svg.b').length"), len(starts))
     want("requests", tab.value("document.querySelectorAll('#shapes svg.q').length"), births(trace))
@@ -169,6 +302,7 @@ def look(tab, name, trace, page, pictures):
             tab.mouse(kind, *place, button="left", clickCount=1)
         time.sleep(0.1)
         want("a second click dims nothing", tab.value("document.querySelectorAll('#shapes .dim').length"), 0)
+        move(tab, want, trace)
     if pictures:
         base = os.path.join(pictures, name)
         tab.picture(base + "-light.png", 1200, 800, False)
@@ -179,6 +313,42 @@ def look(tab, name, trace, page, pictures):
     return bad
 
 
+def look_at_example(tab, simulator, viewer, path, folder, pictures):
+    """What is wrong with the picture of an example."""
+    name = os.path.basename(path)[: -len(".kmdf")]
+    with open(path, encoding="ascii") as it:
+        text = it.read()
+    trace = subprocess.run([simulator, "order"], input=text, capture_output=True, text=True, check=False).stdout
+    given = text + "trace\n" + trace
+    shown = subprocess.run([viewer, "html"], input=given, capture_output=True, text=True, check=False)
+    if shown.returncode != 0:
+        return [f"{name}: status {shown.returncode}: {shown.stdout[:200]}"]
+    page = os.path.join(folder, name + ".html")
+    with open(page, "w", encoding="ascii") as it:
+        it.write(shown.stdout)
+    bad = look(tab, name, trace, page, pictures) + look_at_refusal(simulator, viewer, name, text, trace)
+    if "perfetto" in words_of(viewer):
+        told = subprocess.run([viewer, "perfetto"], input=given, capture_output=True, text=True, check=True)
+        bad += look_at_json(name, trace, told.stdout)
+    return bad
+
+
+def large(simulator, viewer, folder):
+    """The trace and the page of a run of 20,000 events."""
+    sys.path.insert(0, os.path.join(here, "..", "bench"))
+    from machine import reads
+
+    text = reads(2850).replace("on EvtIoDefault\n", "on EvtIoDefault\nlet x = ( length + 1 )\n")
+    trace = subprocess.run([simulator, "order"], input=text, capture_output=True, text=True, check=True).stdout
+    began = time.monotonic()
+    shown = subprocess.run([viewer, "html"], input=text + "trace\n" + trace, capture_output=True, text=True, check=True).stdout
+    print(f"the large run: {trace.split()[-1]} events, a page of {len(shown) / 1e6:.1f} MB in {time.monotonic() - began:.2f} s", flush=True)
+    page = os.path.join(folder, "large.html")
+    with open(page, "w", encoding="ascii") as it:
+        it.write(shown)
+    return trace, page
+
+
 def main():
     words = sys.argv[1:]
     pictures = None
@@ -187,9 +357,12 @@ def main():
         pictures = os.path.abspath(words[k + 1])
         os.makedirs(pictures, exist_ok=True)
         del words[k : k + 2]
-    if len(words) != 2:
+    if len(words) not in (1, 2):
         sys.exit(__doc__)
-    simulator, viewer = words
+    simulator = words[0]
+    viewer = words[1] if len(words) == 2 else os.path.join(here, "..", "crates", "kmdfview", "out", "kmdfview")
+    if not os.access(viewer, os.X_OK):
+        sys.exit(f"no program at {viewer}: build it first, by `rt run` in crates/kmdfview")
     bad = []
     with tempfile.TemporaryDirectory(ignore_cleanup_errors=True) as folder:
         started, tab = browser(os.path.join(folder, "profile"))
@@ -198,24 +371,16 @@ def main():
                 tab.ask(domain + ".enable")
             examples = sorted(glob.glob(os.path.join(here, "..", "examples", "*.kmdf")))
             for path in examples:
-                name = os.path.basename(path)[: -len(".kmdf")]
-                with open(path, encoding="ascii") as it:
-                    text = it.read()
-                trace = subprocess.run([simulator, "order"], input=text, capture_output=True, text=True, check=False).stdout
-                shown = subprocess.run([viewer, "html"], input=text + "trace\n" + trace, capture_output=True, text=True, check=False)
-                if shown.returncode != 0:
-                    bad.append(f"{name}: status {shown.returncode}: {shown.stdout[:200]}")
-                    continue
-                page = os.path.join(folder, name + ".html")
-                with open(page, "w", encoding="ascii") as it:
-                    it.write(shown.stdout)
-                bad += look(tab, name, trace, page, pictures)
+                bad += look_at_example(tab, simulator, viewer, path, folder, pictures)
+            bad += look_at_large(tab, *large(simulator, viewer, folder))
+            checked = subprocess.run([sys.executable, os.path.join(here, "view", "pictures.py"), viewer, "--check"], capture_output=True, text=True, check=False)
+            bad += checked.stdout.splitlines() + checked.stderr.splitlines()[-1:]
         finally:
             started.terminate()
             started.wait()
     for line in bad:
         print(line)
-    print(f"{len(examples)} examples, {len(bad)} things wrong")
+    print(f"{len(examples)} examples and a large run, {len(bad)} things wrong")
     sys.exit(1 if bad else 0)
 
 

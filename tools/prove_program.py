@@ -1,9 +1,9 @@
 #!/usr/bin/env python3
-"""Proves and builds the program, where it isn't built or its sources changed.
+"""Proves and builds a program, where it isn't built or its sources changed.
 
-    python3 tools/prove_program.py
+    python3 tools/prove_program.py [kmdfsim | kmdfview]
 
-`./kmdfsim` calls it. It copies the crates that the program needs, by crates.txt, without their wrong bodies, and runs `rt ci`
+`./kmdfsim` and `./kmdfview` call it. It copies the crates that the program needs, by crates.txt, without their wrong bodies, and runs `rt ci`
 over the copy. The kit proves them side by side, as many at once as processors and memory allow, the longest chain first. What
 passed is kept beside the kit for the next call, and for the gate, where that folder can be written. A program that the gate
 left here is taken as it is, where it is newer than all that it is made from. The kit keeps no program that only one of its
@@ -11,7 +11,7 @@ compilers builds, so the program is kept here: by the checksum of all that it is
 $XDG_CACHE_HOME or ~/.cache, for other clones.
 
 The standard error says how far it is: one line that changes on a terminal, else a line for each crate. Beside the program, in
-crates/kmdfsim/out, are then `sources`, the names of all files and folders that it is made from, with the time at which the
+crates/NAME/out, are then `sources`, the names of all files and folders that it is made from, with the time at which the
 copy began, and `sources.sum`, a checksum of their content. Where only times changed, nothing is proved again.
 
 The status is 0 where the program is built, 1 where it isn't, and 130 where the call was stopped.
@@ -30,7 +30,7 @@ import tempfile
 import time
 
 ROOT = os.path.dirname(os.path.dirname(os.path.abspath(__file__)))
-PROGRAM = "kmdfsim"
+PROGRAM = sys.argv[1] if len(sys.argv) > 1 else "kmdfsim"
 OUT = os.path.join(ROOT, "crates", PROGRAM, "out")
 LOG = os.path.join(OUT, "proving.log")
 # Folders of a crate that the program isn't made from: what was built, and wrong bodies.

@@ -8,8 +8,8 @@ const NS = 'http://www.w3.org/2000/svg';
 let width = first, about = 0, at = 0, lines = null;
 const each = (list, f) => { for (const item of list) f(item); };
 const all = [...(kept ? kept.content : live).querySelectorAll('svg.s')].map(e => ({ e, a: Number(e.dataset.a), b: Number(e.dataset.b) }));
-const textOf = n => { lines = lines || byId('lines').textContent.split('\n'); return lines[n - 1] || ''; };
-const isAbout = e => about === 0 || Number(e.dataset.o) === about || Number(e.dataset.r) === about;
+const textOf = n => { lines = lines || byId('lines').textContent.split('\n'); return n === 0 ? 'from the beginning' : lines[n - 1] || ''; };
+const isAbout = e => about === 0 || e.classList.contains('column') || Number(e.dataset.o) === about || Number(e.dataset.r) === about;
 const place = (e, a, b) => { const x = a * width / slots; e.setAttribute('x', x); e.setAttribute('width', Math.max(1, b * width / slots - x)); };
 const dim = e => e.classList.toggle('dim', !isAbout(e));
 const here = document.createElementNS(NS, 'rect');
@@ -81,7 +81,7 @@ const pick = id => {
   each(names.querySelectorAll('text'), t => t.classList.toggle('dim', about !== 0 && Number(t.dataset.o) !== about));
 };
 const shapeAt = event => event.target.closest ? event.target.closest('svg.s') : null;
-plot.addEventListener('pointerover', event => { const s = shapeAt(event); if (s) say(Number(s.dataset.n)); });
+plot.addEventListener('pointermove', event => { const s = shapeAt(event); if (s) say(Number(s.dataset.n)); });
 let drag = null;
 run.addEventListener('pointerdown', event => { if (event.pointerType === 'mouse' && event.button === 0) drag = { x: event.clientX, left: run.scrollLeft, moved: false }; });
 addEventListener('pointermove', event => { if (drag) { const d = event.clientX - drag.x; if (Math.abs(d) > 4) drag.moved = true; if (drag.moved) run.scrollLeft = drag.left - d; } });
@@ -96,6 +96,9 @@ run.addEventListener('click', event => {
 run.addEventListener('wheel', event => { if (event.ctrlKey || event.altKey) { event.preventDefault(); zoom(event.deltaY < 0 ? 1.25 : 0.8, event.clientX); } }, { passive: false });
 run.addEventListener('scroll', later);
 addEventListener('resize', later);
+let before = 0;
+addEventListener('beforeprint', () => { before = width; width = 820; draw(); });
+addEventListener('afterprint', () => { if (before) { width = before; before = 0; draw(); } });
 addEventListener('keydown', event => {
   if (event.target.tagName === 'INPUT') return;
   const step = { ArrowRight: 1, ArrowLeft: -1, PageDown: 20, PageUp: -20 }[event.key];

@@ -5,7 +5,7 @@ use crate::lanes::Lanes;
 use crate::level::declared_at;
 use std::alloc::Global;
 use wdf_base::{Declared, Event, Handle, Memory, ObjectId, Plan};
-use wdf_spans::{boxes_of, frames_of, requests_of, spans_of, stages_of};
+use wdf_spans::{FrameBox, Frames, boxes_of, frames_of, requests_of, spans_of};
 
 /// Past so many events shapes of less than a pixel are merged into blocks.
 pub const MERGED_FROM: u32 = 5_000;
@@ -52,14 +52,31 @@ fn handle_of(id: u32, name: u32) -> Handle {
     }
 }
 
-/// Adds the lanes of the processors.
-fn add_cpus(alloc: Global, plan: &Plan, events: &[Event], lanes: &mut Lanes) -> Result<(), Memory>
+/// What callbacks ran in a run: their frames, and a box for each start.
+#[derive(Drop)]
+struct Ran {
+    frames: Frames,
+    boxes: Vec<FrameBox>,
+}
+
+fn ran_in(alloc: Global, events: &[Event]) -> Result<Ran, Memory>
     requires { length events.now < 2 ^ 32 }
 {
     let frames = frames_of(alloc, events)?;
     let boxes = boxes_of(alloc, events, &frames)?;
+    Ok(Ran { frames, boxes })
+}
+
+/// Adds the lanes of the processors.
+fn add_cpus(
+    alloc: Global,
+    plan: &Plan,
+    events: &[Event],
+    ran: &Ran,
+    lanes: &mut Lanes,
+) -> Result<(), Memory> {
     for cpu in 0..plan.cpus() {
-        lanes.cpu(plan, cpu, events, &frames, boxes.as_slice())?;
+        lanes.cpu(alloc, plan, cpu, events, &ran.frames, ran.boxes.as_slice())?;
     }
     Ok(())
 }
@@ -69,13 +86,15 @@ fn add_devices(
     alloc: Global,
     plan: &Plan,
     events: &[Event],
+    ran: &Ran,
     lanes: &mut Lanes,
-) -> Result<(), Memory> {
+) -> Result<(), Memory>
+    requires { length events.now < 2 ^ 32 }
+{
     for o in 0..plan.declared_len() {
         if let Some(Declared::Device(device)) = declared_at(plan, o + 1) {
-            let mut stages = Vec::new(alloc);
-            stages_of(events, &mut stages, o + 1)?;
-            lanes.device(handle_of(o + 1, device.name), stages.as_slice())?;
+            let object = handle_of(o + 1, device.name);
+            lanes.device(alloc, plan, object, &device, events, ran.boxes.as_slice())?;
         }
     }
     Ok(())
@@ -94,7 +113,8 @@ fn add_requests(
     let spans = spans_of(alloc, events, &requests)?;
     for o in 0..plan.declared_len() {
         if let Some(Declared::Queue(queue)) = declared_at(plan, o + 1) {
-            lanes.queue(handle_of(o + 1, queue.name), requests.queue_pieces())?;
+            let object = handle_of(o + 1, queue.name);
+            lanes.queue(alloc, object, queue.device, events, requests.queue_pieces())?;
         }
     }
     lanes.requests(alloc, events.len(), spans.as_slice(), &requests)
@@ -110,9 +130,11 @@ pub(crate) fn lanes_of(alloc: Global, plan: &Plan, events: &[Event]) -> Result<L
 {
     let mut lanes = Lanes::new(alloc);
     lanes.clock(events)?;
-    add_cpus(alloc, plan, events, &mut lanes)?;
-    add_devices(alloc, plan, events, &mut lanes)?;
+    let ran = ran_in(alloc, events)?;
+    add_cpus(alloc, plan, events, &ran, &mut lanes)?;
+    add_devices(alloc, plan, events, &ran, &mut lanes)?;
     add_requests(alloc, plan, events, &mut lanes)?;
+    lanes.columns(events)?;
     lanes.fault(events)?;
     Ok(lanes)
 }

@@ -11,10 +11,14 @@
 //! - **How does text of the trace reach the page?** By `Page::text` of `wdf_page` alone.
 #![tactic(auto)]
 
+mod cpus;
+mod devices;
+mod drawn;
 mod lanes;
 mod layout;
 mod level;
 mod page;
+mod requests;
 mod script;
 mod shape;
 mod style;

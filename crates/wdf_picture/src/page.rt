@@ -1,19 +1,17 @@
 //! The page.
 ghost use Rattle.std.specs.Prelude.{◌<◌, ◌^◌, length};
 
+use crate::drawn::{push_attribute, push_line, push_merged, push_object, push_shapes};
 use crate::lanes::Lanes;
 use crate::layout::{MERGED_FROM, Scale, lanes_of};
 use crate::script::SCRIPT;
-use crate::shape::{Label, Lane, LaneName, Role, Shape, place_word};
+use crate::shape::{Lane, LaneName, Shape};
 use crate::style::STYLE;
 use crate::waits::push_waits;
 use std::alloc::Global;
-use wdf_base::{Ending, Event, Handle, Memory, Plan, WaitLine};
-use wdf_lines::{ending_word, line_of, name_bytes};
+use wdf_base::{Ending, Event, Memory, Plan, WaitLine};
+use wdf_lines::{ending_word, line_of};
 use wdf_page::Page;
-
-/// The most rows of the picture in which blocks are kept apart.
-const HEIGHT: usize = 65_536;
 
 /// A run that is told: its events, how it ended, and its wait list.
 #[derive(Drop)]
@@ -21,186 +19,6 @@ pub struct Told<'a> {
     pub events: &'a [Event],
     pub ending: Ending,
     pub waits: &'a [WaitLine],
-}
-
-/// Adds an object: its name, a dot and its id.
-pub(crate) fn push_object(page: &mut Page, plan: &Plan, object: Handle) -> Result<(), Memory> {
-    page.text(name_bytes(plan, object.name))?;
-    page.markup(".")?;
-    page.number(u64::from(object.id.0))
-}
-
-/// Adds a number as an attribute of this name.
-fn push_attribute(page: &mut Page, name: &'static str, value: u64) -> Result<(), Memory> {
-    page.markup(name)?;
-    page.number(value)?;
-    page.markup("\"")
-}
-
-/// Adds the label of a callback.
-fn push_callback(page: &mut Page, plan: &Plan, label: &Label) -> Result<(), Memory> {
-    let Label::Callback {
-        callback,
-        object,
-        request,
-        level,
-    } = label
-    else {
-        return Ok(());
-    };
-    page.markup(callback.word())?;
-    page.markup(" ")?;
-    push_object(page, plan, *object)?;
-    if let Some(request) = request {
-        page.markup(" ")?;
-        push_object(page, plan, *request)?;
-    }
-    page.markup(" @")?;
-    page.number(u64::from(*level))
-}
-
-/// Adds a label.
-fn push_label(page: &mut Page, plan: &Plan, label: &Label) -> Result<(), Memory> {
-    match *label {
-        Label::Nothing => Ok(()),
-        Label::Word(word) => page.markup(word),
-        Label::Callback { .. } => push_callback(page, plan, label),
-        Label::Request { request, told } => {
-            push_object(page, plan, request)?;
-            page.markup(" ")?;
-            page.markup(place_word(told))
-        }
-        Label::Count { word, count } => {
-            page.number(u64::from(count))?;
-            page.markup(" ")?;
-            page.markup(word)
-        }
-        Label::Time(time) => page.number(time),
-    }
-}
-
-fn role_class(role: Role) -> &'static str {
-    match role {
-        Role::Frame => " b",
-        Role::Request => " q",
-        Role::Other => "",
-    }
-}
-
-/// Adds the trace line of the event with this number.
-fn push_line(page: &mut Page, plan: &Plan, events: &[Event], number: u32) -> Result<(), Memory> {
-    if number == 0 {
-        return Ok(());
-    }
-    match events.get(number as usize - 1) {
-        Some(event) => page.text(line_of(plan, number as usize, event).bytes()),
-        None => Ok(()),
-    }
-}
-
-/// Adds the title of a shape: the trace line of its event, and of a box that of the last event in it.
-fn push_title(page: &mut Page, plan: &Plan, events: &[Event], shape: &Shape) -> Result<(), Memory> {
-    page.markup("<title>")?;
-    push_line(page, plan, events, shape.number)?;
-    if matches!(shape.role, Role::Frame) && shape.to > shape.number {
-        page.markup("\n")?;
-        push_line(page, plan, events, shape.to)?;
-    }
-    page.markup("</title>")
-}
-
-/// Adds the place of a shape.
-fn push_place(page: &mut Page, shape: &Shape, scale: &Scale) -> Result<(), Memory> {
-    let x = scale.x(shape.from);
-    let end = scale.x(shape.to);
-    push_attribute(page, " x=\"", x)?;
-    push_attribute(page, " y=\"", u64::from(shape.y))?;
-    push_attribute(page, " width=\"", end.saturating_sub(x).max(1))?;
-    push_attribute(page, " height=\"", u64::from(shape.height))
-}
-
-/// Adds what the script reads of a shape: its slots, its event and what it is about.
-fn push_data(page: &mut Page, shape: &Shape) -> Result<(), Memory> {
-    push_attribute(page, "\" data-a=\"", u64::from(shape.from))?;
-    push_attribute(page, " data-b=\"", u64::from(shape.to))?;
-    push_attribute(page, " data-n=\"", u64::from(shape.number))?;
-    push_attribute(page, " data-o=\"", u64::from(shape.about))?;
-    push_attribute(page, " data-r=\"", u64::from(shape.with))
-}
-
-/// Adds a shape.
-fn push_shape(
-    page: &mut Page,
-    plan: &Plan,
-    events: &[Event],
-    scale: &Scale,
-    shape: &Shape,
-) -> Result<(), Memory> {
-    page.markup("<svg class=\"")?;
-    page.markup(shape.look.class())?;
-    page.markup(role_class(shape.role))?;
-    push_data(page, shape)?;
-    push_place(page, shape, scale)?;
-    page.markup(">")?;
-    push_title(page, plan, events, shape)?;
-    page.markup("<rect width=\"100%\" height=\"100%\"/>")?;
-    if !matches!(shape.label, Label::Nothing) {
-        page.markup("<text x=\"3\" y=\"12\">")?;
-        push_label(page, plan, &shape.label)?;
-        page.markup("</text>")?;
-    }
-    page.markup("</svg>\n")
-}
-
-/// Adds all shapes as they are.
-fn push_shapes(
-    page: &mut Page,
-    plan: &Plan,
-    events: &[Event],
-    scale: &Scale,
-    shapes: &[Shape],
-) -> Result<(), Memory> {
-    for shape in shapes {
-        push_shape(page, plan, events, scale, shape)?;
-    }
-    Ok(())
-}
-
-/// Adds a block of shapes of less than a pixel.
-fn push_block(page: &mut Page, scale: &Scale, shape: &Shape) -> Result<(), Memory> {
-    page.markup("<rect class=\"m ")?;
-    page.markup(shape.look.class())?;
-    page.markup("\"")?;
-    push_attribute(page, " x=\"", scale.x(shape.from))?;
-    push_attribute(page, " y=\"", u64::from(shape.y))?;
-    page.markup(" width=\"2\"")?;
-    push_attribute(page, " height=\"", u64::from(shape.height))?;
-    page.markup("/>\n")
-}
-
-/// Adds the shapes that are a few pixels wide, and a block for those of one pixel that aren't.
-fn push_merged(
-    alloc: Global,
-    page: &mut Page,
-    plan: &Plan,
-    events: &[Event],
-    scale: &Scale,
-    shapes: &[Shape],
-) -> Result<(), Memory> {
-    let mut filled = vec![in alloc; 0u64; HEIGHT]?;
-    for shape in shapes {
-        let x = scale.x(shape.from);
-        let y = (shape.y as usize).min(HEIGHT - 1);
-        if scale.x(shape.to) > x.saturating_add(2) {
-            push_shape(page, plan, events, scale, shape)?;
-        } else if filled.as_slice().get(y).is_some_and(|to| *to <= x) {
-            push_block(page, scale, shape)?;
-            if y < filled.len() {
-                filled[y] = x.saturating_add(2);
-            }
-        }
-    }
-    Ok(())
 }
 
 /// Adds the name of a lane.
@@ -258,7 +76,9 @@ fn push_rules(page: &mut Page, lanes: &[Lane]) -> Result<(), Memory> {
 fn step_of(slots: u32) -> u32
     ensures { 0 < result }
 {
-    if slots <= 60 {
+    if slots <= 12 {
+        1
+    } else if slots <= 60 {
         5
     } else if slots <= 600 {
         10
@@ -273,7 +93,7 @@ fn step_of(slots: u32) -> u32
 fn push_ruler(page: &mut Page, scale: &Scale) -> Result<(), Memory> {
     let step = step_of(scale.slots);
     page.markup("<g id=\"ruler\">\n")?;
-    for k in 0..(scale.slots / step).saturating_add(1) {
+    for k in 0..(scale.slots.saturating_sub(1) / step).saturating_add(1) {
         let slot = k.saturating_mul(step);
         push_attribute(
             page,
@@ -319,6 +139,7 @@ fn push_plot(
     if scale.slots > MERGED_FROM {
         push_merged(alloc, page, plan, events, scale, lanes.shapes.as_slice())?;
     } else {
+        push_shapes(page, plan, events, scale, lanes.behind.as_slice())?;
         push_shapes(page, plan, events, scale, lanes.shapes.as_slice())?;
     }
     page.markup("</g></g></svg>\n")
@@ -373,7 +194,9 @@ fn push_parts(page: &mut Page, parts: &[&'static str]) -> Result<(), Memory> {
 }
 
 /// Adds the head of the page.
-fn push_head(page: &mut Page, told: &Told) -> Result<(), Memory> {
+fn push_head(page: &mut Page, plan: &Plan, told: &Told) -> Result<(), Memory>
+    requires { length told.now.events.now < 2 ^ 32 }
+{
     page.markup(
         "<!DOCTYPE html>\n<html lang=\"en\">\n<head>\n<meta charset=\"utf-8\">\n<meta name=\"viewport\" content=\"width=device-width, initial-scale=1\">\n<link rel=\"icon\" href=\"data:,\">\n<title>",
     )?;
@@ -384,7 +207,21 @@ fn push_head(page: &mut Page, told: &Told) -> Result<(), Memory> {
     push_ending(page, told)?;
     page.markup("</h1><p>")?;
     page.markup(meaning_of(told.ending))?;
-    page.markup("</p></header>\n")
+    page.markup("</p>")?;
+    push_last(page, plan, told)?;
+    page.markup("</header>\n")
+}
+
+/// Adds the line of the fault, where the run ends in one.
+fn push_last(page: &mut Page, plan: &Plan, told: &Told) -> Result<(), Memory>
+    requires { length told.now.events.now < 2 ^ 32 }
+{
+    if let Ending::Fault(_) = told.ending {
+        page.markup("<p class=\"last\">")?;
+        push_line(page, plan, told.events, told.events.len() as u32)?;
+        page.markup("</p>")?;
+    }
+    Ok(())
 }
 
 /// Adds the words of the run's ending.
@@ -406,8 +243,8 @@ pub fn html(alloc: Global, plan: &Plan, told: &Told) -> Result<Page, Memory>
     let mut page = Page::new(alloc);
     let lanes = lanes_of(alloc, plan, told.events)?;
     let scale = Scale::of(told.events.len() as u32);
-    push_head(&mut page, told)?;
-    push_waits(&mut page, plan, told.waits)?;
+    push_head(&mut page, plan, told)?;
+    push_waits(alloc, &mut page, plan, told.waits)?;
     page.markup("<div id=\"tools\" hidden></div>\n<main id=\"run\">\n")?;
     push_names(&mut page, plan, &lanes)?;
     push_plot(alloc, &mut page, plan, told.events, &scale, &lanes)?;
@@ -430,9 +267,12 @@ pub fn html(alloc: Global, plan: &Plan, told: &Told) -> Result<Page, Memory>
 /// Adds what the colours and marks mean.
 fn push_legend(page: &mut Page) -> Result<(), Memory> {
     page.markup(
-        "<p id=\"legend\"><span class=\"k L0\">@0 passive level</span> <span class=\"k L2\">@2 dispatch level</span> <span class=\"k L3\">@3.. device level</span> <span class=\"k wait\">waits</span> <span class=\"k park\">parked</span> <span class=\"k call\">call</span></p>\n",
+        "<p class=\"legend\"><b>callbacks</b> <span class=\"k L0\">@0 passive level</span> <span class=\"k L2\">@2 dispatch level</span> <span class=\"k L3\">@3.. device level</span> <span class=\"k wait\">waits</span> <span class=\"k park\">parked, until it is back</span> <span class=\"k call\">call</span> <span class=\"k fault\">fault</span></p>\n",
     )?;
     page.markup(
-        "<p id=\"places\"><span class=\"k queued\">queued</span> <span class=\"k owned\">owned</span> <span class=\"k sent\">sent</span> <span class=\"k returning\">returning</span> <span class=\"k done\">done</span> <span class=\"k cancel\">cancel</span> <span class=\"k fault\">fault</span></p>\n",
+        "<p class=\"legend\"><b>devices and queues</b> <span class=\"k d0\">D0</span> <span class=\"k stage\">stage</span> <span class=\"k up\">up, started</span> <span class=\"k down\">down, stopped</span> <span class=\"k inq\">waiting</span> <span class=\"k fromq\">held</span></p>\n",
+    )?;
+    page.markup(
+        "<p class=\"legend\"><b>requests</b> <span class=\"k queued\">queued</span> <span class=\"k owned\">owned</span> <span class=\"k sent\">sent</span> <span class=\"k returning\">returning</span> <span class=\"k done\">done</span> <span class=\"k cancel\">cancel</span></p>\n",
     )
 }

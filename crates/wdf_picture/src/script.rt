@@ -1,7 +1,7 @@
 //! The script of the page. It is written by `tools/view/embed.py` from `picture.js` beside that.
 
 /// The lines of it.
-pub(crate) const SCRIPT: [&str; 130] = [
+pub(crate) const SCRIPT: [&str; 133] = [
     "(() => {",
     "'use strict';",
     "const byId = id => document.getElementById(id);",
@@ -12,8 +12,8 @@ pub(crate) const SCRIPT: [&str; 130] = [
     "let width = first, about = 0, at = 0, lines = null;",
     "const each = (list, f) => { for (const item of list) f(item); };",
     "const all = [...(kept ? kept.content : live).querySelectorAll('svg.s')].map(e => ({ e, a: Number(e.dataset.a), b: Number(e.dataset.b) }));",
-    "const textOf = n => { lines = lines || byId('lines').textContent.split('\\n'); return lines[n - 1] || ''; };",
-    "const isAbout = e => about === 0 || Number(e.dataset.o) === about || Number(e.dataset.r) === about;",
+    "const textOf = n => { lines = lines || byId('lines').textContent.split('\\n'); return n === 0 ? 'from the beginning' : lines[n - 1] || ''; };",
+    "const isAbout = e => about === 0 || e.classList.contains('column') || Number(e.dataset.o) === about || Number(e.dataset.r) === about;",
     "const place = (e, a, b) => { const x = a * width / slots; e.setAttribute('x', x); e.setAttribute('width', Math.max(1, b * width / slots - x)); };",
     "const dim = e => e.classList.toggle('dim', !isAbout(e));",
     "const here = document.createElementNS(NS, 'rect');",
@@ -85,7 +85,7 @@ pub(crate) const SCRIPT: [&str; 130] = [
     "  each(names.querySelectorAll('text'), t => t.classList.toggle('dim', about !== 0 && Number(t.dataset.o) !== about));",
     "};",
     "const shapeAt = event => event.target.closest ? event.target.closest('svg.s') : null;",
-    "plot.addEventListener('pointerover', event => { const s = shapeAt(event); if (s) say(Number(s.dataset.n)); });",
+    "plot.addEventListener('pointermove', event => { const s = shapeAt(event); if (s) say(Number(s.dataset.n)); });",
     "let drag = null;",
     "run.addEventListener('pointerdown', event => { if (event.pointerType === 'mouse' && event.button === 0) drag = { x: event.clientX, left: run.scrollLeft, moved: false }; });",
     "addEventListener('pointermove', event => { if (drag) { const d = event.clientX - drag.x; if (Math.abs(d) > 4) drag.moved = true; if (drag.moved) run.scrollLeft = drag.left - d; } });",
@@ -100,6 +100,9 @@ pub(crate) const SCRIPT: [&str; 130] = [
     "run.addEventListener('wheel', event => { if (event.ctrlKey || event.altKey) { event.preventDefault(); zoom(event.deltaY < 0 ? 1.25 : 0.8, event.clientX); } }, { passive: false });",
     "run.addEventListener('scroll', later);",
     "addEventListener('resize', later);",
+    "let before = 0;",
+    "addEventListener('beforeprint', () => { before = width; width = 820; draw(); });",
+    "addEventListener('afterprint', () => { if (before) { width = before; before = 0; draw(); } });",
     "addEventListener('keydown', event => {",
     "  if (event.target.tagName === 'INPUT') return;",
     "  const step = { ArrowRight: 1, ArrowLeft: -1, PageDown: 20, PageUp: -20 }[event.key];",

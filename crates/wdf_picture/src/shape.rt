@@ -1,6 +1,6 @@
 //! What is drawn: shapes from slot to slot, and lanes with their names.
-use wdf_base::{Callback, Handle, Stage};
-use wdf_spans::Told;
+use wdf_base::{Callback, Fault, Handle};
+use wdf_spans::{Standing, Told};
 
 /// How a shape looks.
 #[derive(Clone, Copy, Debug, PartialEq, Eq)]
@@ -14,8 +14,13 @@ pub(crate) enum Look {
     Waiting,
     Parked,
     Calling,
-    Tick,
-    Stage(Stage),
+    /// A tick of the clock, over the whole height.
+    Column,
+    /// The time that a tick began.
+    Time,
+    Band(Standing),
+    /// A stage that the framework passes.
+    Stage,
     InQueue,
     FromQueue,
     Place(Told),
@@ -33,8 +38,10 @@ impl Look {
             Look::Waiting => "s wait",
             Look::Parked => "s park",
             Look::Calling => "s call",
-            Look::Tick => "s tick",
-            Look::Stage(stage) => stage_class(stage),
+            Look::Column => "s column",
+            Look::Time => "s time",
+            Look::Band(standing) => standing_class(standing),
+            Look::Stage => "s stage",
             Look::InQueue => "s inq",
             Look::FromQueue => "s fromq",
             Look::Place(told) => place_class(told),
@@ -44,12 +51,36 @@ impl Look {
     }
 }
 
-/// The class of a stage's piece: with power, without it, or on the way.
-fn stage_class(stage: Stage) -> &'static str {
-    match stage {
-        Stage::Working | Stage::QueuesUp => "s on",
-        Stage::Sleeping | Stage::Removed | Stage::NoHardware | Stage::Closed => "s off",
-        _ => "s turn",
+/// The class of a piece of a band.
+fn standing_class(standing: Standing) -> &'static str {
+    match standing {
+        Standing::Working => "s on",
+        Standing::Sleeping => "s asleep",
+        Standing::Off | Standing::Removed => "s off",
+        Standing::Powered => "s d0",
+        Standing::QueuesUp | Standing::Started => "s up",
+        Standing::QueuesDown | Standing::Stopped => "s down",
+        Standing::Drained => "s drained",
+        Standing::Purged | Standing::Closed | Standing::Unpowered => "s off",
+    }
+}
+
+/// The word of what holds in a piece of a band.
+pub(crate) fn standing_word(standing: Standing) -> &'static str {
+    match standing {
+        Standing::Off => "off",
+        Standing::Working => "working",
+        Standing::Sleeping => "sleeping",
+        Standing::Removed => "removed",
+        Standing::Powered => "D0",
+        Standing::Unpowered => "no power",
+        Standing::QueuesUp => "queues up",
+        Standing::QueuesDown => "queues down",
+        Standing::Started => "started",
+        Standing::Stopped => "stopped",
+        Standing::Drained => "drained",
+        Standing::Purged => "purged",
+        Standing::Closed => "closed",
     }
 }
 
@@ -93,7 +124,12 @@ pub(crate) enum Label {
         word: &'static str,
         count: u32,
     },
-    Time(u64),
+    Tick(u64),
+    /// A fault, with the line of the scenario.
+    Fault {
+        fault: Fault,
+        line: u32,
+    },
 }
 
 /// What a shape counts as.
@@ -116,12 +152,33 @@ pub(crate) struct Shape {
     pub(crate) to: u32,
     pub(crate) y: u32,
     pub(crate) height: u32,
+    /// How many hundredths of its height are filled, from below.
+    pub(crate) filled: u32,
     /// The number of the event whose line is its title.
     pub(crate) number: u32,
     /// The ids of the objects that it is about, 0 for none.
     pub(crate) about: u32,
     pub(crate) with: u32,
     pub(crate) label: Label,
+}
+
+impl Shape {
+    /// A shape without a label that is about nothing.
+    pub(crate) fn plain(look: Look, from: u32, to: u32, y: u32, height: u32) -> Shape {
+        Shape {
+            role: Role::Other,
+            look,
+            from,
+            to,
+            y,
+            height,
+            filled: 100,
+            number: from.saturating_add(1),
+            about: 0,
+            with: 0,
+            label: Label::Nothing,
+        }
+    }
 }
 
 /// The name of a lane.

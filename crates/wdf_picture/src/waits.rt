@@ -1,4 +1,5 @@
 //! The wait list of a stuck run: what is open, and an arrow from each to what it waits for.
+use std::alloc::Global;
 use wdf_base::{Cause, Handle, Memory, OpenThing, Plan, WaitLine};
 use wdf_lines::wait_line;
 use wdf_page::Page;
@@ -46,26 +47,48 @@ fn is_named(thing: &OpenThing, cause: Cause) -> bool {
     }
 }
 
-/// The place in the wait list of what the line at a place waits for, if it is there.
-fn next_of(waits: &[WaitLine], at: usize) -> Option<usize> {
-    let line = waits.get(at)?;
+/// The place in the wait list of what a line waits for, if it is there.
+fn next_of(waits: &[WaitLine], line: &WaitLine) -> Option<usize> {
     let cause = line.cause?;
     waits.iter().position(|other| is_named(&other.thing, cause))
 }
 
-/// Whether the line at a place waits for itself, by way of others.
-fn is_in_circle(waits: &[WaitLine], at: usize) -> bool {
-    let mut place = at;
-    for _ in 0..waits.len() {
-        match next_of(waits, place) {
-            Some(next) => place = next,
-            None => return false,
+/// For each line of a wait list the place of what it waits for, if it is there.
+#[derive(Drop)]
+struct Arrows {
+    next: Vec<Option<usize>>,
+}
+
+impl Arrows {
+    fn new(alloc: Global, waits: &[WaitLine]) -> Result<Arrows, Memory> {
+        let mut next = Vec::new(alloc);
+        for line in waits {
+            next.push(next_of(waits, line))?;
         }
-        if place == at {
-            return true;
+        Ok(Arrows { next })
+    }
+
+    fn next(&self, at: usize) -> Option<usize> {
+        match self.next.as_slice().get(at) {
+            Some(next) => *next,
+            None => None,
         }
     }
-    false
+
+    /// Whether the line at a place waits for itself, by way of others.
+    fn is_in_circle(&self, at: usize) -> bool {
+        let mut place = at;
+        for _ in 0..self.next.len() {
+            match self.next(place) {
+                Some(next) => place = next,
+                None => return false,
+            }
+            if place == at {
+                return true;
+            }
+        }
+        false
+    }
 }
 
 /// Adds a number as an attribute of this name.
@@ -107,11 +130,14 @@ fn push_arrow(page: &mut Page, from: usize, to: usize, red: bool) -> Result<(), 
 }
 
 /// Adds a line of the wait list.
-fn push_wait(page: &mut Page, plan: &Plan, waits: &[WaitLine], at: usize) -> Result<(), Memory> {
-    let Some(line) = waits.get(at) else {
-        return Ok(());
-    };
-    let red = is_in_circle(waits, at);
+fn push_wait(
+    page: &mut Page,
+    plan: &Plan,
+    line: &WaitLine,
+    arrows: &Arrows,
+    at: usize,
+) -> Result<(), Memory> {
+    let red = arrows.is_in_circle(at);
     let y = (at as u64).saturating_mul(LINE).saturating_add(3);
     page.markup(if red {
         "<g class=\"w circle\">"
@@ -127,7 +153,7 @@ fn push_wait(page: &mut Page, plan: &Plan, waits: &[WaitLine], at: usize) -> Res
     push_number(page, "<text x=\"12\" y=\"", y.saturating_add(16), "\">")?;
     page.text(wait_line(plan, line).bytes())?;
     page.markup("</text></g>\n")?;
-    match next_of(waits, at) {
+    match arrows.next(at) {
         Some(next) => push_arrow(page, at, next, red),
         None => Ok(()),
     }
@@ -138,7 +164,12 @@ fn push_wait(page: &mut Page, plan: &Plan, waits: &[WaitLine], at: usize) -> Res
 /// # Errors
 ///
 /// [`Memory`] where memory was refused.
-pub(crate) fn push_waits(page: &mut Page, plan: &Plan, waits: &[WaitLine]) -> Result<(), Memory> {
+pub(crate) fn push_waits(
+    alloc: Global,
+    page: &mut Page,
+    plan: &Plan,
+    waits: &[WaitLine],
+) -> Result<(), Memory> {
     if waits.is_empty() {
         return Ok(());
     }
@@ -155,8 +186,9 @@ pub(crate) fn push_waits(page: &mut Page, plan: &Plan, waits: &[WaitLine]) -> Re
     page.markup(
         "<marker id=\"red\" viewBox=\"0 0 10 10\" refX=\"9\" refY=\"5\" markerUnits=\"userSpaceOnUse\" markerWidth=\"12\" markerHeight=\"12\" orient=\"auto\"><path d=\"M0 0L10 5L0 10z\"/></marker></defs>\n",
     )?;
+    let arrows = Arrows::new(alloc, waits)?;
     for at in 0..waits.len() {
-        push_wait(page, plan, waits, at)?;
+        push_wait(page, plan, &waits[at], &arrows, at)?;
     }
     page.markup("</svg></section>\n")
 }

@@ -28,6 +28,18 @@ pub struct Piece {
     pub to: u32,
 }
 
+/// A stay of a frame on a processor, from its start or from where it comes back, to where it ends or leaves.
+#[derive(Clone, Copy, Debug, PartialEq, Eq)]
+pub struct Stay {
+    /// The number of the frame.
+    pub frame: u32,
+    pub cpu: Cpu,
+    /// How many frames are below it.
+    pub depth: u32,
+    pub from: u32,
+    pub to: u32,
+}
+
 /// How a frame is at an event.
 #[derive(Clone, Copy, Debug, PartialEq, Eq)]
 struct Row {
@@ -42,7 +54,11 @@ struct Row {
     base: u32,
     /// The slot at which it first left its processor or ended, 0 before that.
     stay: u32,
+    /// Since which slot it is on its processor.
+    come: u32,
     is_open: bool,
+    /// Whether it has left its processor.
+    is_away: bool,
 }
 
 /// The row of what is no frame.
@@ -54,7 +70,9 @@ const BLANK: Row = Row {
     since: 0,
     base: 0,
     stay: 0,
+    come: 0,
     is_open: false,
+    is_away: false,
 };
 
 /// The most processors that a number of eight bits has.
@@ -68,6 +86,7 @@ pub struct Frames {
     /// A row for each event by its number, which is the number of the frame where the event is a start.
     rows: Vec<Row>,
     pieces: Vec<Piece>,
+    stays: Vec<Stay>,
 }
 
 impl Frames {
@@ -79,12 +98,18 @@ impl Frames {
             tops: [0; CPUS],
             rows,
             pieces: Vec::new(alloc),
+            stays: Vec::new(alloc),
         })
     }
 
     /// The pieces of all frames.
     pub fn pieces(&self) -> &[Piece] {
         self.pieces.as_slice()
+    }
+
+    /// The stays of all frames, in the order of their ends.
+    pub fn stays(&self) -> &[Stay] {
+        self.stays.as_slice()
     }
 
     /// The slot after the last of a frame.
@@ -146,22 +171,36 @@ impl Frames {
         Ok(())
     }
 
-    /// A frame leaves its processor or ends, with the slot before this one. The first time counts.
-    fn leave(&mut self, frame: u32, at: u32) {
+    /// A frame leaves its processor or ends, with the slot before this one. The first time it does so is kept.
+    fn leave(&mut self, frame: u32, at: u32) -> Result<(), Memory> {
         let mut row = self.row(frame);
+        if row.is_away || !row.is_open {
+            return Ok(());
+        }
         if row.stay == 0 {
             row.stay = at;
-            self.put(frame, row);
         }
+        row.is_away = true;
+        self.put(frame, row);
+        self.stays.push(Stay {
+            frame,
+            cpu: row.cpu,
+            depth: row.depth,
+            from: row.come,
+            to: at,
+        })?;
+        Ok(())
     }
 
-    /// Puts a frame on top of a processor.
-    fn push(&mut self, cpu: Cpu, frame: u32) {
+    /// Puts a frame on top of a processor, from this slot on.
+    fn push(&mut self, cpu: Cpu, frame: u32, at: u32) {
         let below = self.top(cpu);
         let mut row = self.row(frame);
         row.below = below;
         row.depth = self.depth_above(below);
         row.cpu = cpu;
+        row.come = at;
+        row.is_away = false;
         self.put(frame, row);
         self.tops[cpu.0 as usize] = frame;
     }
@@ -189,14 +228,14 @@ impl Frames {
         row.base = self.depth_above(self.top(cpu));
         row.is_open = true;
         self.put(frame, row);
-        self.push(cpu, frame);
+        self.push(cpu, frame, at);
     }
 
     /// The frame on top of a processor ends with the slot before this one.
     fn end_top(&mut self, cpu: Cpu, at: u32) -> Result<(), Memory> {
         let frame = self.top(cpu);
         self.turn(frame, Phase::Running, at)?;
-        self.leave(frame, at);
+        self.leave(frame, at)?;
         let mut row = self.row(frame);
         row.is_open = false;
         self.put(frame, row);
@@ -235,12 +274,11 @@ impl Frames {
             Event::Park { cpu, frame } => {
                 self.pop(cpu, frame.0);
                 self.turn(frame.0, Phase::Parked, next)?;
-                self.leave(frame.0, next);
-                Ok(())
+                self.leave(frame.0, next)
             }
             Event::Unpark { cpu, frame } => {
                 self.turn(frame.0, Phase::Waiting, at)?;
-                self.push(cpu, frame.0);
+                self.push(cpu, frame.0, at);
                 Ok(())
             }
             Event::Did { cpu, .. } => self.call(cpu, at, next),
@@ -255,7 +293,7 @@ impl Frames {
             let number = frame + 1;
             if self.row(number).is_open {
                 self.turn(number, Phase::Running, total)?;
-                self.leave(number, total);
+                self.leave(number, total)?;
             }
         }
         Ok(())

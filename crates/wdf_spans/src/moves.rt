@@ -1,38 +1,55 @@
-//! Where an event leaves a request, as a reader of the trace has it.
+//! What an event tells of where a request goes, as a reader of the trace has it.
 use wdf_base::{
-    Arg, Call, CallKind, Callback, Declared, Event, Handle, ObjectId, Plan, Post, QueueInfo,
-    Status, Value,
+    Arg, Call, CallKind, Callback, Declared, DispatchKind, Event, Handle, ObjectId, Plan, Post,
+    QueueInfo, Status, Value,
 };
 
 /// Where a request is told to be.
 #[derive(Clone, Copy, Debug, PartialEq, Eq)]
 pub enum Told {
-    /// In a queue, or on its way there.
+    /// In a queue.
     Queued,
     /// In the driver's hands.
     Owned,
-    /// At a target.
+    /// At a target, and also when that is done with it, until the driver has it back.
     Sent,
-    /// On its way back to the driver: its target is done with it.
+    /// On its way out: it was cancelled in its queue, or the framework is to complete it.
     Returning,
     /// Completed.
     Done,
 }
 
-/// What an event tells of a request: where it is now, and in which queue where that is told.
+/// The way that a request goes.
+#[derive(Clone, Copy, Debug, PartialEq, Eq)]
+pub(crate) enum Way {
+    /// It arrives for this queue, which takes it if it accepts any; for none where it is refused.
+    Arrives(Option<ObjectId>),
+    /// The driver gets it from this queue.
+    Presented(ObjectId),
+    /// The driver makes it, or has it back from a target.
+    Comes,
+    /// The driver gives it back to its queue.
+    Requeued,
+    /// The driver gives it to another queue.
+    Forwarded(ObjectId),
+    /// The driver sends it to a target, and forgets it or not.
+    Sent { forgotten: bool },
+    /// Its target is done with it.
+    Finished,
+    /// It is cancelled.
+    Cancelled,
+    Completed,
+}
+
+/// A request, and the way that it goes.
 #[derive(Clone, Copy, Debug, PartialEq, Eq)]
 pub(crate) struct Move {
     pub request: Handle,
-    pub told: Told,
-    pub queue: Option<ObjectId>,
+    pub way: Way,
 }
 
-fn moved(request: Handle, told: Told, queue: Option<ObjectId>) -> Option<Move> {
-    Some(Move {
-        request,
-        told,
-        queue,
-    })
+fn moved(request: Handle, way: Way) -> Option<Move> {
+    Some(Move { request, way })
 }
 
 /// The object that an argument is.
@@ -44,7 +61,7 @@ fn object_in(argument: Arg) -> Option<Handle> {
 }
 
 /// The id of the object that an argument is.
-fn id_in(argument: Arg) -> Option<ObjectId> {
+pub(crate) fn id_in(argument: Arg) -> Option<ObjectId> {
     match object_in(argument) {
         Some(object) => Some(object.id),
         None => None,
@@ -53,6 +70,13 @@ fn id_in(argument: Arg) -> Option<ObjectId> {
 
 fn is_success(answer: Value) -> bool {
     matches!(answer, Value::Stat(Status::Success))
+}
+
+fn is_number(argument: Arg, number: u64) -> bool {
+    match argument {
+        Arg::Val(Value::Num(value)) => value == number,
+        _ => false,
+    }
 }
 
 /// Whether a callback gets a request out of its queue.
@@ -71,31 +95,45 @@ fn is_presenting(callback: Callback) -> bool {
 fn told_by_start(callback: Callback, object: Handle, request: Option<Handle>) -> Option<Move> {
     let request = request?;
     if is_presenting(callback) {
-        moved(request, Told::Owned, Some(object.id))
+        moved(request, Way::Presented(object.id))
     } else if matches!(callback, Callback::EvtRequestCompletion) {
-        moved(request, Told::Owned, None)
+        moved(request, Way::Comes)
     } else {
         None
+    }
+}
+
+/// What a call that succeeds tells of the request that it is made on.
+fn told_by_success(call: &Call, request: Handle) -> Option<Move> {
+    match call.kind {
+        CallKind::WdfRequestRequeue => moved(request, Way::Requeued),
+        CallKind::WdfRequestForwardToIoQueue => {
+            let queue = id_in(call.b)?;
+            moved(request, Way::Forwarded(queue))
+        }
+        CallKind::WdfRequestStopAcknowledge => {
+            if is_number(call.b, 0) {
+                None
+            } else {
+                moved(request, Way::Requeued)
+            }
+        }
+        _ => None,
     }
 }
 
 /// What a call tells of the request that it is made on.
 fn told_by_call(call: &Call, answer: Value) -> Option<Move> {
     let request = object_in(call.a)?;
-    match call.kind {
-        CallKind::WdfRequestComplete => moved(request, Told::Done, None),
-        CallKind::WdfRequestRequeue if is_success(answer) => moved(request, Told::Queued, None),
-        CallKind::WdfRequestForwardToIoQueue if is_success(answer) => {
-            moved(request, Told::Queued, id_in(call.b))
-        }
-        CallKind::WdfRequestStopAcknowledge
-            if matches!(call.b, Arg::Val(Value::Num(1))) && is_success(answer) => {
-            moved(request, Told::Queued, None)
-        }
-        CallKind::WdfRequestSend if matches!(answer, Value::Num(1)) => {
-            moved(request, Told::Sent, None)
-        }
-        _ => None,
+    if matches!(call.kind, CallKind::WdfRequestComplete) {
+        moved(request, Way::Completed)
+    } else if matches!(call.kind, CallKind::WdfRequestSend) && matches!(answer, Value::Num(1)) {
+        let forgotten = is_number(call.c, 1);
+        moved(request, Way::Sent { forgotten })
+    } else if is_success(answer) {
+        told_by_success(call, request)
+    } else {
+        None
     }
 }
 
@@ -103,9 +141,10 @@ fn told_by_call(call: &Call, answer: Value) -> Option<Move> {
 fn told_by_answer(call: &Call, answer: Value) -> Option<Move> {
     match answer {
         Value::Obj(request) => match call.kind {
-            CallKind::WdfRequestCreate => moved(request, Told::Owned, None),
+            CallKind::WdfRequestCreate => moved(request, Way::Comes),
             CallKind::WdfIoQueueRetrieveNextRequest => {
-                moved(request, Told::Owned, id_in(call.a))
+                let queue = id_in(call.a)?;
+                moved(request, Way::Presented(queue))
             }
             _ => None,
         },
@@ -142,13 +181,63 @@ fn queue_for(plan: &Plan, device: Handle, post: &Post) -> Option<ObjectId> {
     rest
 }
 
+/// The callback of a queue for a type of requests.
+fn handler_for(post: &Post) -> Callback {
+    match post {
+        Post::Read { .. } => Callback::EvtIoRead,
+        Post::Write { .. } => Callback::EvtIoWrite,
+        Post::Control { .. } => Callback::EvtIoDeviceControl,
+        _ => Callback::EvtIoDefault,
+    }
+}
+
+/// Whether a post is a read or a write of length 0.
+fn is_empty(post: &Post) -> bool {
+    matches!(
+        post,
+        Post::Read { length: 0, .. } | Post::Write { length: 0, .. }
+    )
+}
+
+/// Whether a queue keeps an arrival, if it accepts any: the framework completes one that nobody can get.
+fn keeps(plan: &Plan, declared: Declared, post: &Post) -> bool {
+    let Declared::Queue(queue) = declared else {
+        return false;
+    };
+    if is_empty(post) && !queue.zero {
+        return false;
+    }
+    matches!(queue.dispatch, DispatchKind::Manual)
+        || plan.script(handler_for(post), declared).is_some()
+        || plan.script(Callback::EvtIoDefault, declared).is_some()
+}
+
+/// The queue that keeps an arrival, if it accepts any.
+fn queue_that_keeps(plan: &Plan, device: Handle, post: &Post) -> Option<ObjectId> {
+    let queue = queue_for(plan, device, post)?;
+    if queue.0 == 0 || queue.0 > plan.declared_len() {
+        return None;
+    }
+    let declared = plan.declared(queue);
+    if keeps(plan, declared, post) {
+        Some(queue)
+    } else {
+        None
+    }
+}
+
 /// What a post tells of its request.
 fn told_by_post(plan: &Plan, post: &Post, answer: Option<Handle>) -> Option<Move> {
     match *post {
         Post::Read { device, .. } | Post::Write { device, .. } | Post::Control { device, .. } => {
-            moved(answer?, Told::Queued, queue_for(plan, device, post))
+            let request = answer?;
+            moved(request, Way::Arrives(queue_that_keeps(plan, device, post)))
         }
-        Post::Done { request, .. } => moved(request, Told::Returning, None),
+        Post::Cancel { .. } => {
+            let request = answer?;
+            moved(request, Way::Cancelled)
+        }
+        Post::Done { request, .. } => moved(request, Way::Finished),
         _ => None,
     }
 }
@@ -167,19 +256,7 @@ pub(crate) fn move_by(plan: &Plan, event: &Event) -> Option<Move> {
             None => told_by_answer(call, *answer),
         },
         Event::Posted { post, answer, .. } => told_by_post(plan, post, *answer),
-        Event::Complete { request, .. } => moved(*request, Told::Done, None),
-        _ => None,
-    }
-}
-
-/// The request that an event cancels.
-pub(crate) fn cancelled_by(event: &Event) -> Option<Handle> {
-    match event {
-        Event::Posted {
-            post: Post::Cancel { .. },
-            answer,
-            ..
-        } => *answer,
+        Event::Complete { request, .. } => moved(*request, Way::Completed),
         _ => None,
     }
 }

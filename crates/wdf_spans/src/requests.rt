@@ -3,8 +3,8 @@ ghost use Rattle.std.specs.Prelude.{◌≡◌, ◌^◌, ◌-◌, ◌<◌, length
 ghost use Rattle.wdf_spans.specs.Births.{births_from};
 
 use crate::born::{Birth, birth_by, request_born};
-use crate::moves::{Move, Told, cancelled_by, move_by};
-use crate::queues::{QueuePiece, Queues};
+use crate::moves::{Move, Told, Way, id_in, move_by};
+use crate::queues::{Counted, QueuePiece, Queues};
 use std::alloc::Global;
 use wdf_base::{Event, Handle, Memory, Plan};
 
@@ -33,11 +33,14 @@ struct Row {
     request: Handle,
     birth: u32,
     told: Told,
-    /// The queue that it is in or that it was taken from, 0 for none.
+    /// The queue that it is in, or from which the driver got it; 0 for none.
     queue: u32,
     /// Since which slot it is there; once it is gone, the slot after its last.
     since: u32,
     is_there: bool,
+    is_cancelled: bool,
+    /// Whether the driver gave it up when it sent it.
+    is_forgotten: bool,
 }
 
 /// The row of what is no request.
@@ -47,11 +50,62 @@ const BLANK: Row = Row {
         name: 0,
     },
     birth: 0,
-    told: Told::Queued,
+    told: Told::Done,
     queue: 0,
     since: 0,
     is_there: false,
+    is_cancelled: false,
+    is_forgotten: false,
 };
+
+impl Row {
+    /// The queues at which it counts.
+    fn counted(&self) -> Counted {
+        let queue = self.queue;
+        match self.told {
+            Told::Queued => Counted {
+                waits: queue,
+                held: 0,
+            },
+            Told::Owned => Counted {
+                waits: 0,
+                held: queue,
+            },
+            Told::Sent => Counted {
+                waits: 0,
+                held: if self.is_forgotten { 0 } else { queue },
+            },
+            _ => Counted { waits: 0, held: 0 },
+        }
+    }
+
+    /// The row of a request that comes into a queue, which keeps it or not.
+    fn into_queue(&self, queue: u32, keeps: bool) -> Row {
+        Row {
+            queue,
+            told: if keeps { Told::Queued } else { Told::Returning },
+            ..*self
+        }
+    }
+
+    /// The row of a request at another place.
+    fn at(&self, told: Told) -> Row {
+        Row { told, ..*self }
+    }
+
+    /// The row of a request that is cancelled: one that waits leaves its queue.
+    fn cancelled(&self) -> Row {
+        let told = match self.told {
+            Told::Queued => Told::Returning,
+            other => other,
+        };
+        Row {
+            told,
+            is_cancelled: true,
+            ..*self
+        }
+    }
+}
 
 /// What is told of the requests of a run.
 #[derive(Drop)]
@@ -71,7 +125,7 @@ impl Requests {
         let declared = plan.declared_len();
         Ok(Requests {
             rows: vec![in alloc; BLANK; declared as usize + events + 1]?,
-            queues: Queues::new(alloc, declared)?,
+            queues: Queues::new(alloc, plan)?,
             pieces: Vec::new(alloc),
             cancels: Vec::new(alloc),
         })
@@ -103,7 +157,11 @@ impl Requests {
     }
 
     fn row(&self, id: u32) -> Row {
-        match self.rows.as_slice().get(id as usize) {
+        self.row_at(id as usize)
+    }
+
+    fn row_at(&self, at: usize) -> Row {
+        match self.rows.as_slice().get(at) {
             Some(row) => *row,
             None => BLANK,
         }
@@ -135,25 +193,110 @@ impl Requests {
         let mut row = BLANK;
         row.request = request;
         row.birth = number;
-        row.told = Told::Owned;
+        row.told = Told::Returning;
         row.since = at;
         row.is_there = true;
         self.put(request.id.0, row);
     }
 
-    /// A request goes to a place, from this slot on.
-    fn go(&mut self, step: Move, at: u32) -> Result<(), Memory> {
-        let id = step.request.id.0;
-        let mut row = self.row(id);
-        self.cut(row, at)?;
-        self.queues.leave(row.queue, row.told, at)?;
-        row.told = step.told;
-        row.since = at;
-        if let Some(queue) = step.queue {
-            row.queue = queue.0;
+    /// The row of a request after it went a way.
+    fn gone_by(&self, row: Row, way: Way) -> Row {
+        match way {
+            Way::Arrives(None) => row.at(Told::Returning),
+            Way::Arrives(Some(queue)) => row.into_queue(queue.0, self.queues.accepts(queue.0)),
+            Way::Presented(queue) => Row {
+                queue: queue.0,
+                told: Told::Owned,
+                ..row
+            },
+            Way::Comes => row.at(Told::Owned),
+            Way::Requeued => {
+                let keeps = !row.is_cancelled && !self.queues.is_purged(row.queue);
+                row.into_queue(row.queue, keeps)
+            }
+            Way::Forwarded(queue) => row.into_queue(queue.0, !row.is_cancelled),
+            Way::Sent { forgotten } => Row {
+                told: Told::Sent,
+                is_forgotten: forgotten,
+                ..row
+            },
+            Way::Finished => {
+                if row.is_forgotten {
+                    row.at(Told::Returning)
+                } else {
+                    row
+                }
+            }
+            Way::Cancelled => row.cancelled(),
+            Way::Completed => row.at(Told::Done),
         }
-        self.put(id, row);
-        self.queues.enter(row.queue, row.told, at)
+    }
+
+    /// A request is told otherwise from this slot on: a piece begins where its place is another.
+    fn change(&mut self, old: Row, new: Row, at: u32) -> Result<(), Memory> {
+        let mut row = new;
+        if old.told != new.told || old.queue != new.queue {
+            self.cut(old, at)?;
+            row.since = at;
+        }
+        self.put(row.request.id.0, row);
+        self.queues.leave(old.counted(), at)?;
+        self.queues.enter(row.counted(), at)
+    }
+
+    /// A request goes a way, from this slot on.
+    fn go(&mut self, step: Move, at: u32) -> Result<(), Memory> {
+        let row = self.row(step.request.id.0);
+        if matches!(step.way, Way::Cancelled) {
+            self.cancels.push((at, step.request))?;
+        }
+        let new = self.gone_by(row, step.way);
+        self.change(row, new, at)
+    }
+
+    /// What waits in a queue is cancelled in it.
+    fn purge(&mut self, queue: u32, at: u32) -> Result<(), Memory> {
+        if self.queues.waiting(queue) == 0 {
+            return Ok(());
+        }
+        for id in 0..self.rows.len() {
+            let row = self.row_at(id);
+            if row.is_there && row.queue == queue && matches!(row.told, Told::Queued) {
+                self.change(row, row.cancelled(), at)?;
+            }
+        }
+        Ok(())
+    }
+
+    /// A queue hears of an event, which may give it another mode.
+    fn hear(&mut self, queue: u32, event: &Event, at: u32) -> Result<(), Memory> {
+        if self.queues.hear(queue, event) {
+            self.purge(queue, at)
+        } else {
+            Ok(())
+        }
+    }
+
+    /// The queues of a device hear of a stage.
+    fn hear_stage(&mut self, device: u32, event: &Event, at: u32) -> Result<(), Memory> {
+        for k in 0..self.queues.declared() {
+            if self.queues.device(k + 1) == device {
+                self.hear(k + 1, event, at)?;
+            }
+        }
+        Ok(())
+    }
+
+    /// The queues that an event speaks of hear of it.
+    fn hear_of(&mut self, event: &Event, at: u32) -> Result<(), Memory> {
+        match *event {
+            Event::Did { call, .. } | Event::Waiting { call, .. } => match id_in(call.a) {
+                Some(id) => self.hear(id.0, event, at),
+                None => Ok(()),
+            },
+            Event::Stage { device, .. } => self.hear_stage(device.id.0, event, at),
+            _ => Ok(()),
+        }
     }
 
     /// An object is gone with the slot before this one.
@@ -177,9 +320,7 @@ impl Requests {
         if let Some(step) = move_by(plan, event) {
             self.go(step, at)?;
         }
-        if let Some(request) = cancelled_by(event) {
-            self.cancels.push((at, request))?;
-        }
+        self.hear_of(event, at)?;
         if let Event::Destroy { object } = *event {
             self.gone(object, next)?;
         }
@@ -188,10 +329,7 @@ impl Requests {
 
     /// Ends the piece of the object with this id with the run, where it is a request that is still there.
     fn finish_row(&mut self, at: usize, total: u32) -> Result<(), Memory> {
-        let mut row = match self.rows.as_slice().get(at) {
-            Some(row) => *row,
-            None => BLANK,
-        };
+        let mut row = self.row_at(at);
         if row.is_there {
             self.cut(row, total)?;
             row.since = total;
