@@ -9,7 +9,8 @@ Each kind of work is run at several sizes by `order`, by `seed 5`, by `replay` o
 has the size and the events of the run by the seed, and for each word microseconds of the processor for each event, the
 exponent of growth since the size before (1.0: twice the events take twice the time) and the most memory in MB. The seconds
 are the best of two runs; `run` has other events each time, and its column is by its own. An exponent is left out where the
-smaller size took less than 20 ms. Where KINDs are named, only they are run.
+smaller size took less than 20 ms. `replay` reads 1 MiB at most, and says "too long" of more. Where KINDs are named, only they
+are run.
 """
 
 import math
@@ -19,6 +20,8 @@ import machine
 from measure import PROGRAM, run
 
 RUNS = 2
+# How many bytes an input has at most.
+LONGEST = 1 << 20
 HEAD = "device D working\n"
 
 
@@ -115,13 +118,17 @@ def columns(program, text):
             seeded = trace
         figures[words] = events_of(trace), seconds, memory
     count = events_of(seeded)
-    _, seconds, memory = best(program, "replay", text + b"trace\n" + seeded)
-    figures["replay"] = count, seconds, memory
+    traced = text + b"trace\n" + seeded
+    if len(traced) <= LONGEST:
+        _, seconds, memory = best(program, "replay", traced)
+        figures["replay"] = count, seconds, memory
     return count, figures
 
 
 def cell(now, before):
     """What a column says of one size, beside the size before."""
+    if now is None:
+        return f"{'too long':>9}          "
     events, seconds, memory = now
     grown = "    "
     if before and before[1] >= 0.02 and events != before[0]:
@@ -140,7 +147,7 @@ def main():
         before = {}
         for size in KINDS[name][1]:
             count, figures = columns(program, KINDS[name][0](size))
-            print(f"{name:12}{size:6}{count:6}" + "".join(f"|{cell(figures[w], before.get(w))} " for w in order), flush=True)
+            print(f"{name:12}{size:6}{count:6}" + "".join(f"|{cell(figures.get(w), before.get(w))} " for w in order), flush=True)
             before = figures
 
 
