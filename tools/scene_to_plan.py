@@ -8,13 +8,13 @@
     tools/scene_to_plan.py specs scenarios/silent/*.scn > crates/law_stuck_worked/specs/SilentRuns.antt
     tools/scene_to_plan.py specs SCENARIOS OF tools/stack > crates/law_stack_worked/specs/StackOrders.antt
     tools/scene_to_plan.py proofs tools/stack/*.scn > crates/law_stack_worked/proofs/StackRuns.antt
-    tools/scene_to_plan.py specs tools/idle/*.scn > crates/law_idle_worked/specs/IdleRuns.antt
+    tools/scene_to_plan.py specs SCENARIOS OF tools/idle > crates/law_idle_worked/specs/IdleSequences.antt
     tools/scene_to_plan.py proofs tools/idle/*.scn > crates/law_idle_worked/proofs/IdleRuns.antt
 
 Each argument after the first is the path of a scenario `NAME.scn` with its trace beside it in `NAME.out`;
 NAME names the run. `specs` gives the plan, the events and the wait list of each, `proofs` that the definitions
 of wdf_model compute them. The runs of tools/stack have two files of specs: StackOrders with those that have a `pnp`
-block, and StackRequests. The runs of scenarios/stuck have three: StuckObjects, StuckRequests and StuckSequences. They
+block, and StackRequests; those of tools/idle likewise IdleSequences and IdleRequests. The runs of scenarios/stuck have three: StuckObjects, StuckRequests and StuckSequences. They
 and those of scenarios/spinning are for crates/law_stuck_worked, and so are those of scenarios/silent, which targets
 never answer: of these only the specs are written here. What it writes still has to go through `rt tidy` in the crate.
 It serves the worked runs alone: what the program reads is read by its own parser.
@@ -687,6 +687,15 @@ class Run:
         ])
 
 
+def cited_from(runs, subject, with_pnp, others):
+    """The imports of what the specs of these runs say: those with a `pnp` block have a file of their own."""
+    words = {with_pnp: [], others: []}
+    for r in runs:
+        of_run = [f"{r.label}_{w}" for w in ("plan", "events", "waits") if w != "waits" or r.waits]
+        words[with_pnp if r.scene.pnp else others] += of_run
+    return "\n".join(f"use Rattle.law_{subject}_worked.specs.{m}.{{{', '.join(ws)}}}" for m, ws in words.items())
+
+
 def main():
     runs = [Run(path) for path in sys.argv[2:]]
     folder = os.path.basename(os.path.dirname(sys.argv[2]))
@@ -694,15 +703,9 @@ def main():
         head = SPECS_HEAD.replace("FOLDER", "tools/" + (folder if folder in BLAMED or folder in ("stack", "idle") else "runs"))
         parts = [head] + [run.definitions() for run in runs]
     elif folder == "idle":
-        cited = ", ".join(f"{r.label}_{w}" for r in runs for w in ("plan", "events"))
-        parts = [IDLE_HEAD + f"use Rattle.law_idle_worked.specs.IdleRuns.{{{cited}}}"] + [run.idle_fact() for run in runs]
+        parts = [IDLE_HEAD + cited_from(runs, "idle", "IdleSequences", "IdleRequests")] + [run.idle_fact() for run in runs]
     elif folder == "stack":
-        words = {"StackOrders": [], "StackRequests": []}
-        for r in runs:
-            of_run = [f"{r.label}_{w}" for w in ("plan", "events", "waits") if w != "waits" or r.waits]
-            words["StackOrders" if r.scene.pnp else "StackRequests"] += of_run
-        cited = "\n".join(f"use Rattle.law_stack_worked.specs.{m}.{{{', '.join(ws)}}}" for m, ws in words.items())
-        parts = [STACK_HEAD + cited] + [run.stack_fact() for run in runs]
+        parts = [STACK_HEAD + cited_from(runs, "stack", "StackOrders", "StackRequests")] + [run.stack_fact() for run in runs]
     else:
         module = BLAMED.get(folder, "law_machine_worked.specs.RunsOf" + folder.capitalize())
         words = [f"{r.label}_{w}" for r in runs for w in ("plan", "events", "waits") if w != "waits" or r.waits]

@@ -2,7 +2,7 @@
 use Rattle.std.proofs.Common.{◌≡◌, refl, Some}
 use Rattle.wdf_laws.specs.Words.{ever}
 use Rattle.law_idle.specs.Idling.{time_after, awake_rest, asleep_rest, is_held}
-use Rattle.law_idle_worked.specs.IdleRuns.{sleeps_when_unused_plan, hold_by_device_plan}
+use Rattle.law_idle_worked.specs.IdleRequests.{sleeps_when_unused_plan, hold_by_device_plan}
 use Rattle.law_idle.specs.First.{first_break}
 use Rattle.law_idle_worked.specs.Broken.{early, late, forgotten, held, unheard, used, unwanted}
 

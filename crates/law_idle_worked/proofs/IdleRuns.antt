@@ -9,7 +9,8 @@ use Rattle.law_idle_worked.proofs.Ended.{over}
 use Rattle.wdf_laws.specs.Words.{ever}
 use Rattle.law_idle.specs.Idling.{time_after, awake_rest, asleep_rest, is_held}
 use Rattle.law_idle_worked.specs.Shown.{IsIdleRun}
-use Rattle.law_idle_worked.specs.IdleRuns.{arrival_after_sleep_plan, arrival_after_sleep_events, arrival_before_sleep_plan, arrival_before_sleep_events, arrival_within_sleep_plan, arrival_within_sleep_events, both_at_one_tick_plan, both_at_one_tick_events, cancelled_in_sleep_plan, cancelled_in_sleep_events, held_awake_plan, held_awake_events, hold_by_device_plan, hold_by_device_events, hold_by_driver_plan, hold_by_driver_events, rebalanced_plan, rebalanced_events, refused_removal_plan, refused_removal_events, refused_stop_plan, refused_stop_events, removed_in_sleep_plan, removed_in_sleep_events, sleeps_when_unused_plan, sleeps_when_unused_events, started_plan, started_events, surprised_plan, surprised_events, two_timeouts_plan, two_timeouts_events, used_for_a_while_plan, used_for_a_while_events}
+use Rattle.law_idle_worked.specs.IdleRequests.{arrival_after_sleep_plan, arrival_after_sleep_events, arrival_before_sleep_plan, arrival_before_sleep_events, arrival_within_sleep_plan, arrival_within_sleep_events, cancelled_in_sleep_plan, cancelled_in_sleep_events, held_awake_plan, held_awake_events, hold_by_device_plan, hold_by_device_events, hold_by_driver_plan, hold_by_driver_events, sleeps_when_unused_plan, sleeps_when_unused_events, two_timeouts_plan, two_timeouts_events, used_for_a_while_plan, used_for_a_while_events}
+use Rattle.law_idle_worked.specs.IdleSequences.{both_at_one_tick_plan, both_at_one_tick_events, rebalanced_plan, rebalanced_events, refused_removal_plan, refused_removal_events, refused_stop_plan, refused_stop_events, removed_in_sleep_plan, removed_in_sleep_events, started_plan, started_events, surprised_plan, surprised_events}
 
 pub arrival_after_sleep : IsIdleRun arrival_after_sleep_plan arrival_after_sleep_events ending.Finished
 unfolding run_with value_of time_after awake_rest asleep_rest is_held ever

@@ -6,7 +6,7 @@ use Rattle.wdf_base.specs.declared.event.Post.TheVariants as post
 use Rattle.wdf_base.specs.declared.event.Event.{Event}
 use Rattle.wdf_base.specs.declared.event.Event.TheVariants as event
 use Rattle.law_machine_worked.specs.Writing.{h}
-use Rattle.law_idle_worked.specs.IdleRuns.{sleeps_when_unused_events, hold_by_device_events}
+use Rattle.law_idle_worked.specs.IdleRequests.{sleeps_when_unused_events, hold_by_device_events}
 
 -- own: device D's timeout is 2, and it goes to sleep after 1
 abbrev pub early : List Event

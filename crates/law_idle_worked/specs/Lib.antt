@@ -1,4 +1,5 @@
-pub mod IdleRuns
+pub mod IdleRequests
+pub mod IdleSequences
 pub mod Shown
 pub mod Broken
 pub mod Longest

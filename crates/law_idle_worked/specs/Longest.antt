@@ -7,7 +7,7 @@ use Rattle.wdf_base.specs.declared.event.Event.TheVariants as event
 use Rattle.wdf_base.specs.declared.plan.Plan.{Plan}
 use Rattle.wdf_model.specs.agents.IdlePolicy.{IdlePolicy, policy_at, policy_after, policy_due, policy_next}
 use Rattle.law_machine_worked.specs.Writing.{h}
-use Rattle.law_idle_worked.specs.IdleRuns.{hold_by_device_plan}
+use Rattle.law_idle_worked.specs.IdleRequests.{hold_by_device_plan}
 
 -- own: a plan whose device's timeout is 2000000
 abbrev pub long_plan : Plan
