@@ -4,6 +4,7 @@ use Rattle.std.specs.List.{list_all}
 use Rattle.std.proofs.lemmas.Bool.{eqb-true}
 use Rattle.std.proofs.lemmas.Bool.Decides.{nat_tests}
 use Rattle.std.proofs.lemmas.List.Folds.{list_all-map}
+use Rattle.wdf_base.proofs.Tests.{both_left}
 use Rattle.wdf_base.specs.declared.plan.Plan.{Plan}
 use Rattle.wdf_base.specs.declared.ids.Handle.{Handle}
 use Rattle.wdf_base.specs.declared.declared.DeviceInfo.{DeviceInfo}
@@ -52,13 +53,9 @@ above : (v : ℕ) → nat_lt 0 (min v LONGEST_TIMEOUT) ≡ true → nat_lt 0 v �
 above zero h = absurd (let z : ⊥ = cc in z)
 above (suc v) h = grind (arith, nat_tests)
 
-left_of : (a b : Bool) → (a && b) ≡ true → a ≡ true
-left_of true b h = refl
-left_of false b h = h
-
 timed_is : (plan : Plan) (d : ℕ) (r : RegisterInfo) → is_register_named plan d (codes "IDLE_TIMEOUT") r ≡ true → timed_by plan r ≡ Some d
 timed_is plan d r h =
-    let same : r.device.0 ≡ d = eqb-true r.device.0 d (left_of (r.device.0 == d) _ h) in
+    let same : r.device.0 ≡ d = eqb-true r.device.0 d (both_left (r.device.0 == d) _ h) in
     let named : is_register_named plan r.device.0 (codes "IDLE_TIMEOUT") r ≡ true = subst (λ n. is_register_named plan n (codes "IDLE_TIMEOUT") r ≡ true) (sym same) h in
     rw named (ap Some same)
 

@@ -5,28 +5,10 @@ use Rattle.std.proofs.lemmas.Bool.{eqb-true}
 use Rattle.std.proofs.lemmas.Bool.Decides.{nat_tests}
 use Rattle.std.proofs.lemmas.List.FromFn.{get_or-range_with_len, length-range_with_len}
 use Rattle.std.proofs.lemmas.List.Sums.{position_or_len_is}
+use Rattle.wdf_base.proofs.Tests.{both_left, both_right, both}
+use Rattle.wdf_model.proofs.Counts.{equal}
 use Rattle.law_stuck_causes.proofs.Members.{Has}
-
--- ---- truth values
-
-pub same_so : (a b : Bool) → (a ≡ true → b ≡ true) → (b ≡ true → a ≡ true) → a ≡ b
-same_so true b h k = sym (h refl)
-same_so false true h k = k refl
-same_so false false h k = refl
-
-left_of : (a b : Bool) → (a && b) ≡ true → a ≡ true
-left_of true b h = refl
-left_of false b h = h
-
-right_of : (a b : Bool) → (a && b) ≡ true → b ≡ true
-right_of true b h = h
-right_of false b h = absurd (let z : ⊥ = cc in z)
-
-both_of : (a b : Bool) → a ≡ true → b ≡ true → (a && b) ≡ true
-both_of a b h k = rw (h, k) refl
-
-equal : (a b : ℕ) → a ≡ b → (a == b) ≡ true
-equal a b h = grind (arith, nat_tests)
+use Rattle.law_idle.proofs.Pending.{same_so}
 
 -- ---- what is kept
 
@@ -70,12 +52,12 @@ asked_nothing p h (x ∷ xs) = rw (h x, asked_nothing p h xs) refl
 
 asked_of : (p : ℕ → Bool) (x : ℕ) (xs : List ℕ) → list_all p xs ≡ true → Has x xs → p x ≡ true
 asked_of p x [] h k = absurd k
-asked_of p x (y ∷ ys) h (inl e) = rw e (left_of (p y) (list_all p ys) h)
-asked_of p x (y ∷ ys) h (inr k) = asked_of p x ys (right_of (p y) (list_all p ys) h) k
+asked_of p x (y ∷ ys) h (inl e) = rw e (both_left (p y) (list_all p ys) h)
+asked_of p x (y ∷ ys) h (inr k) = asked_of p x ys (both_right (p y) (list_all p ys) h) k
 
 asked_each : (p : ℕ → Bool) (xs : List ℕ) → ((x : ℕ) → Has x xs → p x ≡ true) → list_all p xs ≡ true
 asked_each p [] h = refl
-asked_each p (x ∷ xs) h = both_of (p x) (list_all p xs) (h x (inl refl)) (asked_each p xs (λ y k. h y (inr k)))
+asked_each p (x ∷ xs) h = both (p x) (list_all p xs) (h x (inl refl)) (asked_each p xs (λ y k. h y (inr k)))
 
 -- a test of those that take part, asked of one list, and asked of another that has them all, as far as they are in the first
 module _ (part here verdict : ℕ → Bool) (ids all : List ℕ) (there : (d : ℕ) → part d ≡ true → Has d ids) (into : (d : ℕ) → here d ≡ true → Has d all) (from : (d : ℕ) → Has d all → here d ≡ true) where

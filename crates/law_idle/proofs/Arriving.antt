@@ -1,6 +1,7 @@
 -- A request that arrives is new, and is one of few.
 use Rattle.std.proofs.Common.{if◌then◌else◌, ◌≡◌, ℕ, ◌+◌, Bool, true, false, ◌&&◌, nat_lt, [], ◌∷◌, Some, None, refl, sym, ap, subst, ◌∙◌, arith}
 use Rattle.std.proofs.lemmas.Bool.Decides.{nat_tests}
+use Rattle.wdf_base.proofs.Tests.{both_left, both_right}
 use Rattle.wdf_base.specs.Meaning.{Meaning}
 use Rattle.wdf_base.specs.declared.ids.Handle.{Handle}
 use Rattle.wdf_base.specs.declared.plan.Plan.{Plan}
@@ -26,7 +27,6 @@ use Rattle.wdf_model.specs.rules.Posts.{ARRIVALS, arrival_answer, arrival_deeds,
 use Rattle.wdf_model.specs.rules.Steps.{after, may}
 use Rattle.wdf_model.specs.agents.IdlePolicy.{arrives_for}
 use Rattle.wdf_model.proofs.Sames.{handle_decides}
-use Rattle.law_idle.proofs.Lists.{left_of, right_of}
 
 pub record Arriving {A : Type 0} (plan : Plan) (m : Meaning A) (S : State A) (e : Event) (r : Handle) : Type 0 where
   pub fresh : r.id.0 ≡ next_id S.tree
@@ -61,7 +61,7 @@ by_parts plan m S agent p r device f n code fits answer is =
     let live = live_answer S r (is_live (life_of S.tree device.id.0)) answer in
     record {
       fresh = sym (ap (λ (x : Handle). x.id.0) live.1);
-      few = right_of (is_handle plan kind.Device device) (nat_lt S.requests.arrived ARRIVALS) fits;
+      few = both_right (is_handle plan kind.Device device) (nat_lt S.requests.arrived ARRIVALS) fits;
       counted = is ∙ counts plan S agent f n code device.id.0 (is_live (life_of S.tree device.id.0)) refl live.0;
     }
 
@@ -69,18 +69,18 @@ pub arrives_new : {A : Type 0} (plan : Plan) (m : Meaning A) (S : State A) (agen
 arrives_new plan m S agent d (post.Read device n) r h is =
     let due = same_option same_post (due_of m S agent) (Some (post.Read device n)) in
     by_parts plan m S agent (post.Read device n) r device form.Read n 0
-    (right_of due (may_arrive plan S device) (left_of (due && may_arrive plan S device) (same_option same_handle (arrival_answer S device.id.0) (Some r)) h))
-    (right_of (due && may_arrive plan S device) (same_option same_handle (arrival_answer S device.id.0) (Some r)) h) refl
+    (both_right due (may_arrive plan S device) (both_left (due && may_arrive plan S device) (same_option same_handle (arrival_answer S device.id.0) (Some r)) h))
+    (both_right (due && may_arrive plan S device) (same_option same_handle (arrival_answer S device.id.0) (Some r)) h) refl
 arrives_new plan m S agent d (post.Write device n) r h is =
     let due = same_option same_post (due_of m S agent) (Some (post.Write device n)) in
     by_parts plan m S agent (post.Write device n) r device form.Write n 0
-    (right_of due (may_arrive plan S device) (left_of (due && may_arrive plan S device) (same_option same_handle (arrival_answer S device.id.0) (Some r)) h))
-    (right_of (due && may_arrive plan S device) (same_option same_handle (arrival_answer S device.id.0) (Some r)) h) refl
+    (both_right due (may_arrive plan S device) (both_left (due && may_arrive plan S device) (same_option same_handle (arrival_answer S device.id.0) (Some r)) h))
+    (both_right (due && may_arrive plan S device) (same_option same_handle (arrival_answer S device.id.0) (Some r)) h) refl
 arrives_new plan m S agent d (post.Control device code n) r h is =
     let due = same_option same_post (due_of m S agent) (Some (post.Control device code n)) in
     by_parts plan m S agent (post.Control device code n) r device form.Control n code
-    (right_of due (may_arrive plan S device) (left_of (due && may_arrive plan S device) (same_option same_handle (arrival_answer S device.id.0) (Some r)) h))
-    (right_of (due && may_arrive plan S device) (same_option same_handle (arrival_answer S device.id.0) (Some r)) h) refl
+    (both_right due (may_arrive plan S device) (both_left (due && may_arrive plan S device) (same_option same_handle (arrival_answer S device.id.0) (Some r)) h))
+    (both_right (due && may_arrive plan S device) (same_option same_handle (arrival_answer S device.id.0) (Some r)) h) refl
 arrives_new plan m S agent d (post.Cancel k) r h is = absurd (let z : ⊥ = cc in z)
 arrives_new plan m S agent d (post.Ask a n) r h is = absurd (let z : ⊥ = cc in z)
 arrives_new plan m S agent d (post.Act a) r h is = absurd (let z : ⊥ = cc in z)

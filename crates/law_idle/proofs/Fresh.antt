@@ -1,6 +1,7 @@
 -- A request that arrives wasn't completed before.
 use Rattle.std.proofs.Common.{◌≡◌, ◌<◌, ℕ, Bool, true, false, List, Option, Some, None, take, refl, ap, subst, arith}
 use Rattle.std.proofs.lemmas.Bool.{eqb-true}
+use Rattle.wdf_base.proofs.Tests.{both_left}
 use Rattle.wdf_base.specs.Meaning.{Meaning}
 use Rattle.wdf_base.specs.declared.ids.Handle.{Handle}
 use Rattle.wdf_base.specs.declared.plan.Plan.{Plan}
@@ -18,7 +19,6 @@ use Rattle.wdf_laws.specs.Words.{ever}
 use Rattle.law_trace_once.proofs.Completions.{completes_at_each}
 use Rattle.law_trace_families.proofs.Families.{family_at_each}
 use Rattle.law_trace_families.proofs.Drained.{ever_place, told_from}
-use Rattle.law_idle.proofs.Lists.{left_of}
 
 is_some_id : (r : ℕ) (o : Option ℕ) → is_id r o ≡ true → o ≡ Some r
 is_some_id r None h = absurd (let z : ⊥ = cc in z)
@@ -49,7 +49,7 @@ module _ {A : Type 0} (plan : Plan) (m : Meaning A) (run : List Event) (is_run :
       let place = ever_place (sign.Completion r) run k h in
       let is : completed place.2.0 ≡ Some r = is_some_id r (completed place.2.0) place.2.2 in
       let once : completes_once (take place.0 run) (Some r) ≡ true = subst (λ o. completes_once (take place.0 run) o ≡ true) is (completes_at_each plan m run place.0 place.2.0 is_run place.2.1) in
-      let came : ever (sign.Arrival r) (take place.0 run) ≡ true = left_of (ever (sign.Arrival r) (take place.0 run)) _ once in
+      let came : ever (sign.Arrival r) (take place.0 run) ≡ true = both_left (ever (sign.Arrival r) (take place.0 run)) _ once in
       let earlier = ever_place (sign.Arrival r) run place.0 came in
       let t = tells plan r earlier.2.0 earlier.2.2 in
       let low : earlier.0 < k = (let a = earlier.1 in let b = place.1 in omega arith) in

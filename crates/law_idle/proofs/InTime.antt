@@ -3,6 +3,7 @@ use Rattle.std.proofs.Common.{if◌then◌else◌, ◌≡◌, ◌≤◌, ◌<◌
 use Rattle.std.specs.List.{list_all, list_any}
 use Rattle.std.proofs.lemmas.Bool.{eqb-true}
 use Rattle.std.proofs.lemmas.Bool.Decides.{nat_tests}
+use Rattle.wdf_base.proofs.Tests.{both_left, both_right, first as on_left, second as on_right}
 use Rattle.wdf_base.specs.Meaning.{Meaning}
 use Rattle.wdf_base.specs.Resolved.{IsResolved}
 use Rattle.wdf_base.specs.declared.plan.Plan.{Plan}
@@ -36,14 +37,6 @@ use Rattle.law_idle.proofs.Ticks.{due_is, is_due, is_first, nothing_due, tick_at
 use Rattle.law_idle.proofs.Told.{Told, has_some, none_as}
 
 -- ---- truth values
-
-left_of : (a b : Bool) → (a && b) ≡ true → a ≡ true
-left_of true b h = refl
-left_of false b h = h
-
-right_of : (a b : Bool) → (a && b) ≡ true → b ≡ true
-right_of true b h = h
-right_of false b h = absurd (let z : ⊥ = cc in z)
 
 past : (a b : ℕ) → nat_le a b ≡ false → b < a
 past a b h = grind (arith, nat_tests)
@@ -125,11 +118,7 @@ all_kept keep p (x ∷ xs) h = by (keep x) refl (all_kept keep p xs h)
 any_at : (p : PostLine → Bool) (xs : List PostLine) (j : ℕ) (l : PostLine) → slice_get xs j ≡ Some l → p l ≡ true → list_any p xs ≡ true
 any_at p [] j l h k = absurd (let z : ⊥ = cc in z)
 any_at p (x ∷ xs) zero l h k = let same : x ≡ l = cc in let is : p x ≡ true = ap p same ∙ k in rw is refl
-any_at p (x ∷ xs) (suc j) l h k = later (p x) (list_any p xs) (any_at p xs j l h k)
-  where
-    later : (a b : Bool) → b ≡ true → (a || b) ≡ true
-    later true b h = refl
-    later false b h = h
+any_at p (x ∷ xs) (suc j) l h k = on_right (p x) (list_any p xs) (any_at p xs j l h k)
 
 -- ---- the manager's line
 
@@ -244,11 +233,7 @@ module _ {A : Type 0} (plan : Plan) (m : Meaning A) (policy : A → Option IdleP
   rests_by n time d true (Some info) at part at_plan s =
       let q : Quiet n d = quiet_at n d info time at at_plan part in
       let well : is_well_rested plan (take n run) d ≡ true = both (not (is_asleep d (take n run) && has_pending d (take n run))) (not (is_idle plan d (take n run) && nat_le (since plan d (take n run) + timeout_of plan d) (time_after (take n run)))) (ap not q.unwanted) (ap not q.short) in
-      later (not (takes_part plan d)) (is_well_rested plan (take n run) d) well
-    where
-      later : (a b : Bool) → b ≡ true → (a || b) ≡ true
-      later true b h = refl
-      later false b h = h
+      on_right (not (takes_part plan d)) (is_well_rested plan (take n run) d) well
 
   ticks : (n time : ℕ) → slice_get run n ≡ Some (event.Tick time) → keeps_idle_law plan (take n run) (event.Tick time) ≡ true
   ticks n time at = all_kept (λ id. is_some (device_of plan id)) (rests_well plan (take n run)) (declared_ids plan) (λ d s. rests_by n time d (takes_part plan d) (device_of plan d) at refl refl s)
@@ -260,10 +245,6 @@ module _ {A : Type 0} (plan : Plan) (m : Meaning A) (policy : A → Option IdleP
 
   abbrev was_wanted : ℕ → ℕ → Bool
   was_wanted n d = is_asleep d (take n run) && has_pending d (take n run)
-
-  later : (a b : Bool) → b ≡ true → (a || b) ≡ true
-  later true b h = refl
-  later false b h = h
 
   asleep_by : (n : ℕ) (h : Handle) (q : Post) → q ≡ post.Ask asks.Sleep h → first_post (k n).now ≡ Some q → slept_well n h.id.0 ≡ true
   asleep_by n h q is f =
@@ -320,32 +301,16 @@ module _ {A : Type 0} (plan : Plan) (m : Meaning A) (policy : A → Option IdleP
       any_at (λ (y : PostLine). is_wake_of h.id.0 y.post) plan.pnp (k n).now.manager.posted l.0 l.1 (ap (is_wake_of h.id.0) (l.2 ∙ is) ∙ equals h.id.0 h.id.0 refl)
 
   sleeps_by : (n : ℕ) (h : Handle) (q : Post) (o : Option Post) → q ≡ post.Ask asks.Sleep h → first_post (k n).now ≡ o → first_there o (app_due (k n).now.manager) ≡ Some q → sleeps_in_time plan (take n run) h.id.0 ≡ true
-  sleeps_by n h q None is f due = let s = sleep_line n h q is due in either (not (takes_part plan h.id.0)) (is_sent_to_sleep plan h.id.0) (slept_well n h.id.0) s
-    where
-      either : (a b c : Bool) → b ≡ true → (a || b || c) ≡ true
-      either true b c h = refl
-      either false b c h = rw h refl
+  sleeps_by n h q None is f due = on_left (not (takes_part plan h.id.0) || is_sent_to_sleep plan h.id.0) (slept_well n h.id.0) (on_right (not (takes_part plan h.id.0)) (is_sent_to_sleep plan h.id.0) (sleep_line n h q is due))
   sleeps_by n h q (Some p) is f due =
       let same : p ≡ q = cc in
-      third (not (takes_part plan h.id.0)) (is_sent_to_sleep plan h.id.0) (slept_well n h.id.0) (asleep_by n h q is (f ∙ ap Some same))
-    where
-      third : (a b c : Bool) → c ≡ true → (a || b || c) ≡ true
-      third true b c h = refl
-      third false b c h = later b c h
+      on_right (not (takes_part plan h.id.0) || is_sent_to_sleep plan h.id.0) (slept_well n h.id.0) (asleep_by n h q is (f ∙ ap Some same))
 
   wakes_by : (n : ℕ) (h : Handle) (q : Post) (o : Option Post) → q ≡ post.Ask asks.Wake h → first_post (k n).now ≡ o → first_there o (app_due (k n).now.manager) ≡ Some q → is_wanted plan (take n run) h.id.0 ≡ true
-  wakes_by n h q None is f due = let s = wake_line n h q is due in either (not (takes_part plan h.id.0)) (is_woken_by_line plan h.id.0) (was_wanted n h.id.0) s
-    where
-      either : (a b c : Bool) → b ≡ true → (a || b || c) ≡ true
-      either true b c h = refl
-      either false b c h = rw h refl
+  wakes_by n h q None is f due = on_left (not (takes_part plan h.id.0) || is_woken_by_line plan h.id.0) (was_wanted n h.id.0) (on_right (not (takes_part plan h.id.0)) (is_woken_by_line plan h.id.0) (wake_line n h q is due))
   wakes_by n h q (Some p) is f due =
       let same : p ≡ q = cc in
-      third (not (takes_part plan h.id.0)) (is_woken_by_line plan h.id.0) (was_wanted n h.id.0) (awake_by n h q is (f ∙ ap Some same))
-    where
-      third : (a b c : Bool) → c ≡ true → (a || b || c) ≡ true
-      third true b c h = refl
-      third false b c h = later b c h
+      on_right (not (takes_part plan h.id.0) || is_woken_by_line plan h.id.0) (was_wanted n h.id.0) (awake_by n h q is (f ∙ ap Some same))
 
   -- ---- each event
 
@@ -355,8 +320,8 @@ module _ {A : Type 0} (plan : Plan) (m : Meaning A) (policy : A → Option IdleP
   due_ask : (a : Ask) (h : Handle) (o : Option Post) → same_option same_post o (Some (post.Ask a h)) ≡ true → o ≡ Some (post.Ask a h)
   due_ask a h None e = absurd (let z : ⊥ = cc in z)
   due_ask a h (Some (post.Ask b g)) e =
-      let one : b ≡ a = ask_is b a (left_of (same_ask b a) (same_handle g h) e) in
-      let two : g ≡ h = (handle_decides g h).0 (right_of (same_ask b a) (same_handle g h) e) in
+      let one : b ≡ a = ask_is b a (both_left (same_ask b a) (same_handle g h) e) in
+      let two : g ≡ h = (handle_decides g h).0 (both_right (same_ask b a) (same_handle g h) e) in
       rw (one, two) refl
   due_ask a h (Some _) e = absurd (let z : ⊥ = cc in z)
 
@@ -365,10 +330,10 @@ module _ {A : Type 0} (plan : Plan) (m : Meaning A) (policy : A → Option IdleP
     | inl may_come ↦
         let S : State A = state_after plan m (take n run) in
         let p : Post = post.Ask a h in
-        let parts : (same_option same_post (due_of m S agent) (Some p) && post_fits plan S agent p) ≡ true = left_of (same_option same_post (due_of m S agent) (Some p) && post_fits plan S agent p) _ may_come in
-        let fits : post_fits plan S agent p ≡ true = right_of (same_option same_post (due_of m S agent) (Some p)) (post_fits plan S agent p) parts in
-        let manager : agent ≡ 0 = eqb-true agent 0 (left_of (agent == 0) _ (left_of (agent == 0 && _) _ fits)) in
-        let due : same_option same_post (due_of m S 0) (Some p) ≡ true = subst (λ a. same_option same_post (due_of m S a) (Some p) ≡ true) manager (left_of (same_option same_post (due_of m S agent) (Some p)) (post_fits plan S agent p) parts) in
+        let parts : (same_option same_post (due_of m S agent) (Some p) && post_fits plan S agent p) ≡ true = both_left (same_option same_post (due_of m S agent) (Some p) && post_fits plan S agent p) _ may_come in
+        let fits : post_fits plan S agent p ≡ true = both_right (same_option same_post (due_of m S agent) (Some p)) (post_fits plan S agent p) parts in
+        let manager : agent ≡ 0 = eqb-true agent 0 (both_left (agent == 0) _ (both_left (agent == 0 && _) _ fits)) in
+        let due : same_option same_post (due_of m S 0) (Some p) ≡ true = subst (λ a. same_option same_post (due_of m S a) (Some p) ≡ true) manager (both_left (same_option same_post (due_of m S agent) (Some p)) (post_fits plan S agent p) parts) in
         sym (due_is plan m policy has run resolved is_run n) ∙ due_ask a h (due_of m S 0) due
     | inr t ↦ absurd (let s = t.tick in let z : ⊥ = cc in z)
   ]

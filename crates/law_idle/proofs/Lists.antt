@@ -2,6 +2,7 @@
 use Rattle.std.proofs.Common.{if◌then◌else◌, ◌≡◌, Bool, true, false, not, ◌&&◌, ◌||◌, List, [], ◌∷◌, ◌++◌, reverse, None, Some, refl, sym, ap, subst, ◌∙◌}
 use Rattle.std.specs.List.{flat_map, list_all, list_any}
 use Rattle.std.proofs.lemmas.List.Concat.{flat_map-cons}
+use Rattle.wdf_base.proofs.Tests.{both_left, both_right, both}
 use Rattle.wdf_base.specs.declared.call.Callback.{Callback}
 use Rattle.wdf_base.specs.declared.call.Callback.TheVariants as callback
 use Rattle.wdf_base.specs.declared.event.Ask.{Ask}
@@ -35,17 +36,6 @@ record Close (ss : List Step) : Type 0 where
 
 -- ---- truth values
 
-pub left_of : (a b : Bool) → (a && b) ≡ true → a ≡ true
-left_of true b h = refl
-left_of false b h = h
-
-pub right_of : (a b : Bool) → (a && b) ≡ true → b ≡ true
-right_of true b h = h
-right_of false b h = absurd (let z : ⊥ = cc in z)
-
-both_of : (a b : Bool) → a ≡ true → b ≡ true → (a && b) ≡ true
-both_of a b h k = rw (h, k) refl
-
 not_so : (a : Bool) → not a ≡ true → a ≡ false
 not_so true h = absurd (let z : ⊥ = cc in z)
 not_so false h = refl
@@ -64,7 +54,7 @@ any_behind p (x ∷ xs) ys = rw (any_behind p xs ys) (nested (p x) (list_any p x
 
 all_behind : (p : Step → Bool) (xs ys : List Step) → list_all p xs ≡ true → list_all p ys ≡ true → list_all p (xs ++ ys) ≡ true
 all_behind p [] ys h k = k
-all_behind p (x ∷ xs) ys h k = both_of (p x) (list_all p (xs ++ ys)) (left_of (p x) (list_all p xs) h) (all_behind p xs ys (right_of (p x) (list_all p xs) h) k)
+all_behind p (x ∷ xs) ys h k = both (p x) (list_all p (xs ++ ys)) (both_left (p x) (list_all p xs) h) (all_behind p xs ys (both_right (p x) (list_all p xs) h) k)
 
 -- ---- one list behind another
 
@@ -73,11 +63,11 @@ three a b c h k l = rw (h, k, l) refl
 
 -- what is said of a tidy list that goes on
 tail_tidy : (s : Step) (ss : List Step) → is_tidy (s ∷ ss) ≡ true → is_tidy ss ≡ true
-tail_tidy s ss h = right_of ((not (is_rest_step s) || is_end ss) && not (has_query ss)) (is_tidy ss) h
+tail_tidy s ss h = both_right ((not (is_rest_step s) || is_end ss) && not (has_query ss)) (is_tidy ss) h
 
 pub tail_asks_not : (s : Step) (ss : List Step) → is_tidy (s ∷ ss) ≡ true → has_query ss ≡ false
 tail_asks_not s ss h =
-    not_so (has_query ss) (right_of (not (is_rest_step s) || is_end ss) (not (has_query ss)) (left_of ((not (is_rest_step s) || is_end ss) && not (has_query ss)) (is_tidy ss) h))
+    not_so (has_query ss) (both_right (not (is_rest_step s) || is_end ss) (not (has_query ss)) (both_left ((not (is_rest_step s) || is_end ss) && not (has_query ss)) (is_tidy ss) h))
 
 pub tidy_tail : (s : Step) (ss : List Step) → is_tidy (s ∷ ss) ≡ true → is_tidy ss ≡ true
 tidy_tail s ss h = tail_tidy s ss h
@@ -89,7 +79,7 @@ none_left (s ∷ ss) h = absurd (let z : ⊥ = cc in z)
 -- after a step by which a device becomes awake or asleep nothing is left
 pub rest_is_last : (s : Step) (ss : List Step) → is_rest_step s ≡ true → is_tidy (s ∷ ss) ≡ true → ss ≡ []
 rest_is_last s ss r h =
-    let first : (not (is_rest_step s) || is_end ss) ≡ true = left_of (not (is_rest_step s) || is_end ss) (not (has_query ss)) (left_of ((not (is_rest_step s) || is_end ss) && not (has_query ss)) (is_tidy ss) h) in
+    let first : (not (is_rest_step s) || is_end ss) ≡ true = both_left (not (is_rest_step s) || is_end ss) (not (has_query ss)) (both_left ((not (is_rest_step s) || is_end ss) && not (has_query ss)) (is_tidy ss) h) in
     none_left ss (rw r at first)
 
 or_so : (a b : Bool) → a ≡ false → (not a || b) ≡ true
@@ -112,20 +102,20 @@ tidy_behind (x ∷ xs) ys o c =
 plain_asks_not : (ss : List Step) → all_plain ss ≡ true → has_query ss ≡ false
 plain_asks_not [] h = refl
 plain_asks_not (s ∷ ss) h =
-    let one : is_query_step s ≡ false = not_so (is_query_step s) (right_of (not (is_rest_step s)) (not (is_query_step s)) (left_of (is_plain s) (all_plain ss) h)) in
-    rw one (plain_asks_not ss (right_of (is_plain s) (all_plain ss) h))
+    let one : is_query_step s ≡ false = not_so (is_query_step s) (both_right (not (is_rest_step s)) (not (is_query_step s)) (both_left (is_plain s) (all_plain ss) h)) in
+    rw one (plain_asks_not ss (both_right (is_plain s) (all_plain ss) h))
 
 plain_goes_on : (ss : List Step) → all_plain ss ≡ true → list_any is_rest_step ss ≡ false
 plain_goes_on [] h = refl
 plain_goes_on (s ∷ ss) h =
-    let one : is_rest_step s ≡ false = not_so (is_rest_step s) (left_of (not (is_rest_step s)) (not (is_query_step s)) (left_of (is_plain s) (all_plain ss) h)) in
-    rw one (plain_goes_on ss (right_of (is_plain s) (all_plain ss) h))
+    let one : is_rest_step s ≡ false = not_so (is_rest_step s) (both_left (not (is_rest_step s)) (not (is_query_step s)) (both_left (is_plain s) (all_plain ss) h)) in
+    rw one (plain_goes_on ss (both_right (is_plain s) (all_plain ss) h))
 
 plain_tidy : (ss : List Step) → all_plain ss ≡ true → is_tidy ss ≡ true
 plain_tidy [] h = refl
 plain_tidy (s ∷ ss) h =
-    let more : all_plain ss ≡ true = right_of (is_plain s) (all_plain ss) h in
-    let one : is_rest_step s ≡ false = not_so (is_rest_step s) (left_of (not (is_rest_step s)) (not (is_query_step s)) (left_of (is_plain s) (all_plain ss) h)) in
+    let more : all_plain ss ≡ true = both_right (is_plain s) (all_plain ss) h in
+    let one : is_rest_step s ≡ false = not_so (is_rest_step s) (both_left (not (is_rest_step s)) (not (is_query_step s)) (both_left (is_plain s) (all_plain ss) h)) in
     three (not (is_rest_step s) || is_end ss) (not (has_query ss)) (is_tidy ss) (or_so (is_rest_step s) (is_end ss) one) (ap not (plain_asks_not ss more)) (plain_tidy ss more)
 
 plain_open : (ss : List Step) → all_plain ss ≡ true → Open ss

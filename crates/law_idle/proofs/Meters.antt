@@ -1,6 +1,7 @@
 -- The clock and the count of arrivals, which no deed moves but those that are made for it.
 use Rattle.std.proofs.Common.{if◌then◌else◌, ◌≡◌, ◌≤◌, ℕ, Bool, true, false, not, ◌&&◌, List, [], ◌∷◌, fold, refl, ◌∙◌, arith}
 use Rattle.std.specs.List.{list_all}
+use Rattle.wdf_base.proofs.Tests.{both_left, both_right}
 use Rattle.wdf_base.specs.Meaning.{Meaning}
 use Rattle.wdf_base.specs.Lives.{is_live}
 use Rattle.wdf_base.specs.declared.plan.Plan.{Plan}
@@ -106,19 +107,11 @@ deed_steady {A} plan (CloseDevice d) S h =
 deed_steady plan PassTick S h = absurd (let z : ⊥ = cc in z)
 deed_steady plan _ S h = record { clock = refl; arrived = omega arith }
 
-left_of : (a b : Bool) → (a && b) ≡ true → a ≡ true
-left_of true b h = refl
-left_of false b h = h
-
-right_of : (a b : Bool) → (a && b) ≡ true → b ≡ true
-right_of true b h = h
-right_of false b h = absurd (let z : ⊥ = cc in z)
-
 deeds_steady : {A : Type 0} (plan : Plan) (ds : List Deed) (S : State A) → list_all (λ d. not (is_pass d)) ds ≡ true → Steady S (do_deeds plan ds S)
 deeds_steady plan [] S h = record { clock = refl; arrived = omega arith }
 deeds_steady plan (d ∷ ds) S h =
-    let one = deed_steady plan d S (left_of (not (is_pass d)) (list_all (λ x. not (is_pass x)) ds) h) in
-    let rest = deeds_steady plan ds (do_deed plan d S) (right_of (not (is_pass d)) (list_all (λ x. not (is_pass x)) ds) h) in
+    let one = deed_steady plan d S (both_left (not (is_pass d)) (list_all (λ x. not (is_pass x)) ds) h) in
+    let rest = deeds_steady plan ds (do_deed plan d S) (both_right (not (is_pass d)) (list_all (λ x. not (is_pass x)) ds) h) in
     record { clock = rest.clock ∙ one.clock; arrived = let a = one.arrived in let b = rest.arrived in omega arith }
 
 abbrev pub is_tick : Event → Bool

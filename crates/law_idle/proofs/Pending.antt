@@ -3,6 +3,7 @@ use Rattle.std.proofs.Common.{if◌then◌else◌, ◌≡◌, ◌≤◌, ℕ, ze
 use Rattle.std.specs.List.{list_all, list_any}
 use Rattle.std.proofs.lemmas.Bool.{eqb-true}
 use Rattle.std.proofs.lemmas.Bool.Decides.{nat_tests}
+use Rattle.wdf_base.proofs.Tests.{both_left, both_right, both}
 use Rattle.wdf_base.specs.declared.event.Event.{Event}
 use Rattle.wdf_model.specs.Tables.{entry, flag, put}
 use Rattle.wdf_model.specs.agents.IdlePolicy.{IdleDevice, count_of, pending_after, with_completion}
@@ -16,7 +17,6 @@ use Rattle.wdf_laws.specs.Signs.{shows}
 use Rattle.wdf_laws.specs.Words.{ever}
 use Rattle.law_trace_once.proofs.Words.{ever_next}
 use Rattle.law_idle.specs.Idling.{has_pending}
-use Rattle.law_idle.proofs.Lists.{left_of, right_of}
 use Rattle.law_idle.proofs.Told.{has_some}
 
 -- an event brings request r to device d
@@ -32,13 +32,10 @@ pub record Pending (es : List Event) (x : IdleDevice) : Type 0 where
 
 -- ---- truth values and lists
 
-same_so : (a b : Bool) → (a ≡ true → b ≡ true) → (b ≡ true → a ≡ true) → a ≡ b
+pub same_so : (a b : Bool) → (a ≡ true → b ≡ true) → (b ≡ true → a ≡ true) → a ≡ b
 same_so true b h k = sym (h refl)
 same_so false true h k = k refl
 same_so false false h k = refl
-
-both_of : (a b : Bool) → a ≡ true → b ≡ true → (a && b) ≡ true
-both_of a b h k = rw (h, k) refl
 
 any_last : {T : Type 0} (p : T → Bool) (xs : List T) (y : T) → list_any p (xs ++ y ∷ []) ≡ (list_any p xs || p y)
 any_last p [] y = or_none (p y)
@@ -73,8 +70,8 @@ passing p (x ∷ xs) h = passes_by p x xs (p x) refl (passing p xs) h
 none_fails : {T : Type 0} (p : T → Bool) (xs : List T) → list_all p xs ≡ true → list_any (λ x. not (p x)) xs ≡ true → ⊥
 none_fails p [] h k = let z : ⊥ = cc in z
 none_fails p (x ∷ xs) h k =
-    let one : p x ≡ true = left_of (p x) (list_all p xs) h in
-    none_fails p xs (right_of (p x) (list_all p xs) h) (rw one at k)
+    let one : p x ≡ true = both_left (p x) (list_all p xs) h in
+    none_fails p xs (both_right (p x) (list_all p xs) h) (rw one at k)
 
 some_fails_by : {T : Type 0} (p : T → Bool) (x : T) (xs : List T) (b : Bool) → p x ≡ b → (list_all p xs ≡ false → list_any (λ y. not (p y)) xs ≡ true) → (b && list_all p xs) ≡ false → (not b || list_any (λ y. not (p y)) xs) ≡ true
 some_fails_by p x xs true e rest h = rest h
@@ -138,8 +135,8 @@ pends_by : (d : ℕ) (es : List Event) → list_any (λ e. not (is_settled es d 
 pends_by d es h =
     let p = passing (λ e. not (is_settled es d e)) es h in
     let u = unsettled_by es (is_id d (arrived_at p.item)) (arrived p.item) p.passes in
-    let brought : brings d u.request p.item ≡ true = both_of (is_id d (arrived_at p.item)) (is_id u.request (arrived p.item)) u.here (ap (is_id u.request) u.is ∙ itself u.request) in
-    (u.request, both_of (list_any (brings d u.request) es) (not (ever (sign.Completion u.request) es)) (p.there (brings d u.request) brought) (ap not u.open_))
+    let brought : brings d u.request p.item ≡ true = both (is_id d (arrived_at p.item)) (is_id u.request (arrived p.item)) u.here (ap (is_id u.request) u.is ∙ itself u.request) in
+    (u.request, both (list_any (brings d u.request) es) (not (ever (sign.Completion u.request) es)) (p.there (brings d u.request) brought) (ap not u.open_))
 
 is_some_id : (r : ℕ) (o : Option ℕ) → is_id r o ≡ true → o ≡ Some r
 is_some_id r None h = absurd (let z : ⊥ = cc in z)
@@ -147,15 +144,15 @@ is_some_id r (Some x) h = ap Some (eqb-true x r h)
 
 unsettled_of : (es : List Event) (d r : ℕ) (e : Event) → brings d r e ≡ true → not (ever (sign.Completion r) es) ≡ true → not (is_settled es d e) ≡ true
 unsettled_of es d r e b h =
-    let here : is_id d (arrived_at e) ≡ true = left_of (is_id d (arrived_at e)) (is_id r (arrived e)) b in
-    let is : arrived e ≡ Some r = is_some_id r (arrived e) (right_of (is_id d (arrived_at e)) (is_id r (arrived e)) b) in
+    let here : is_id d (arrived_at e) ≡ true = both_left (is_id d (arrived_at e)) (is_id r (arrived e)) b in
+    let is : arrived e ≡ Some r = is_some_id r (arrived e) (both_right (is_id d (arrived_at e)) (is_id r (arrived e)) b) in
     rw (here, is) h
 
 fails_by : (d : ℕ) (es : List Event) (r : ℕ) → pends d r es ≡ true → list_any (λ e. not (is_settled es d e)) es ≡ true
 fails_by d es r h =
-    let any : list_any (brings d r) es ≡ true = left_of (list_any (brings d r) es) (not (ever (sign.Completion r) es)) h in
+    let any : list_any (brings d r) es ≡ true = both_left (list_any (brings d r) es) (not (ever (sign.Completion r) es)) h in
     let p = passing (brings d r) es any in
-    p.there (λ e. not (is_settled es d e)) (unsettled_of es d r p.item p.passes (right_of (list_any (brings d r) es) (not (ever (sign.Completion r) es)) h))
+    p.there (λ e. not (is_settled es d e)) (unsettled_of es d r p.item p.passes (both_right (list_any (brings d r) es) (not (ever (sign.Completion r) es)) h))
 
 off_of : (b : Bool) → not b ≡ true → b ≡ false
 off_of true h = absurd (let z : ⊥ = cc in z)

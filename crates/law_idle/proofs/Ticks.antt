@@ -1,6 +1,7 @@
 -- When time passes, the policy has nothing due for a device.
 use Rattle.std.proofs.Common.{if◌then◌else◌, ◌≡◌, ◌<◌, ℕ, zero, suc, ◌+◌, Bool, true, false, not, ◌&&◌, nat_lt, nat_le, List, [], ◌∷◌, ◌⊎◌, inl, inr, Option, Some, None, filter, length, slice_get, take, option_and_then, refl, sym, ap, subst, ◌∙◌, arith}
 use Rattle.std.specs.List.{filter_map}
+use Rattle.wdf_base.proofs.Tests.{both_left, both_right}
 use Rattle.wdf_base.specs.Meaning.{Meaning}
 use Rattle.wdf_base.specs.Resolved.{IsResolved, is_handle}
 use Rattle.wdf_base.specs.declared.plan.Plan.{Plan}
@@ -49,14 +50,6 @@ pub record IsDue (now : ℕ) (x : IdleDevice) (q : Post) : Type 0 where
   -- it is woken while it is asleep with a pending request, or put to sleep while it is idle long enough
   pub why : ((ask ≡ asks.Wake) × (is_wanted x ≡ true)) ⊎ ((ask ≡ asks.Sleep) × (is_idle x ≡ true) × (nat_le (x.since + x.timeout) now ≡ true))
 
-left_of : (a b : Bool) → (a && b) ≡ true → a ≡ true
-left_of true b h = refl
-left_of false b h = h
-
-right_of : (a b : Bool) → (a && b) ≡ true → b ≡ true
-right_of true b h = h
-right_of false b h = absurd (let z : ⊥ = cc in z)
-
 due_by : (now : ℕ) (x : IdleDevice) (q : Post) (b c : Bool) → is_wanted x ≡ b → (is_idle x && nat_le (x.since + x.timeout) now) ≡ c
     → (if b then Some (post.Ask asks.Wake x.device) else if c then Some (post.Ask asks.Sleep x.device) else None) ≡ Some q → IsDue now x q
 due_by now x q true c e f h = record { ask = asks.Wake; is = (let s : q ≡ post.Ask asks.Wake x.device = cc in s); same = refl; why = inl (refl, e) }
@@ -64,7 +57,7 @@ due_by now x q false true e f h = record {
   ask = asks.Sleep;
   is = (let s : q ≡ post.Ask asks.Sleep x.device = cc in s);
   same = refl;
-  why = inr (refl, left_of (is_idle x) (nat_le (x.since + x.timeout) now) f, right_of (is_idle x) (nat_le (x.since + x.timeout) now) f);
+  why = inr (refl, both_left (is_idle x) (nat_le (x.since + x.timeout) now) f, both_right (is_idle x) (nat_le (x.since + x.timeout) now) f);
 }
 due_by now x q false false e f h = absurd (let z : ⊥ = cc in z)
 
@@ -126,8 +119,8 @@ module _ {A : Type 0} (plan : Plan) (m : Meaning A) (policy : A → Option IdleP
       let d_ : ℕ = x.device.id.0 in
       let r : Rests (awake_rest plan d_ (take n run)) (asleep_rest d_ (take n run)) (sequence_of S.pnp d_) = rests_at plan m run resolved is_run d_ w.info w.declared n in
       elim d.why [
-        | inl a ↦ at_rest_free _ S.pnp d_ (r.asleep_is (sym (ap (λ (z : Rest). z.now) w.told.asleep) ∙ left_of x.asleep _ a.1))
-        | inr b ↦ at_rest_free _ S.pnp d_ (r.awake_is (sym (ap (λ (z : Rest). z.now) w.told.awake) ∙ left_of x.awake _ (left_of (x.awake && _) (not x.hold) b.1)))
+        | inl a ↦ at_rest_free _ S.pnp d_ (r.asleep_is (sym (ap (λ (z : Rest). z.now) w.told.asleep) ∙ both_left x.asleep _ a.1))
+        | inr b ↦ at_rest_free _ S.pnp d_ (r.awake_is (sym (ap (λ (z : Rest). z.now) w.told.awake) ∙ both_left x.awake _ (both_left (x.awake && _) (not x.hold) b.1)))
       ]
 
   may_come : (q : Post) → first_post k.now ≡ Some q → may plan m S (event.Posted 0 q None) ≡ true
