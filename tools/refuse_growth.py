@@ -7,7 +7,7 @@ Not part of the gate. It needs Linux with glibc, and gcc: a small library in C, 
 loaded before the C library, counts the calls of the program for memory (`malloc`, `realloc` and their like) and refuses the
 k-th, or the k-th and each after it.
 
-Each form of words is run for k from 1 on until no request is refused: `check`, `order`, `seed 3`, `replay` and `run` on each
+These forms of words are run for k from 1 on until no request is refused: `check`, `order`, `seed 3`, `replay` and `run` on each
 scenario (examples/first-read.kmdf and examples/deadlock.kmdf where none is named), then `gen 1` and `load 1`. Every k up to N is
 tried (200 where none is named), and above it about each fiftieth part more; the row says how many of them were tried.
 

@@ -3,11 +3,12 @@
 
 tools/rules.txt has a rule a line, with bars between its parts: its words, and the definitions that state it, with commas
 between them. Then, where the script doesn't find what shows most, its laws and its wrong bodies, by their names; `-` says that
-it has none of its own. A definition is a name of crates/wdf_model, or of the crate in brackets after it; other brackets name a
-row. Each name has to exist. The script adds the functions whose contracts cite a definition (code), and where no laws or
-wrong bodies are given, the laws over it (functions without a body in the crates whose names begin with law_) and the wrong
-bodies inside the code. A contract cites a definition where its file imports that name from the definition's crate, or says it
-after the name of a module of that crate.
+it has none of its own. A definition is a name of crates/wdf_model, or of the crate in brackets after it, or of the file there (a
+path below crates/); other brackets name a row. Each name has to exist, and one that several files of its crate have needs its
+file. The script adds the functions whose contracts cite a definition (code), and where no laws or wrong bodies are given, the
+laws over it (functions without a body in the crates whose names begin with law_) and the wrong bodies inside the code. A
+contract cites a definition where its file imports that name from the definition's crate, or says it after the name of a module
+of that crate; where the definition's file is given, from that file.
 """
 
 import re
@@ -24,16 +25,18 @@ TESTS = ("test_", "check_")
 HEAD = """# The rules of the machine, and where each is kept
 
 `tools/rules.py` writes this page from `tools/rules.txt` and checks it in the gate: each name is there. `docs/MACHINE.md` explains
-the rules to a driver writer, and links from each subject to its rules here. In a row:
+the rules to a driver writer, `docs/STACKS.md` those of stacks and `docs/LINT.md` those of the static check; each links from its
+subjects to the rules here. In a row:
 
 - **definition**: what the rule is. [How to read a definition](MACHINE.md#how-to-read-a-definition) explains the signs and letters.
 - **code**: functions whose contracts say that they are the definition.
 - **law**: a statement that is proved of all runs, or of all states, and that the rule is for, or that rests on it.
-- **wrong body**: an edit of the code that the prover refuses. The gate tries those in `must-fail/`, `tools/wrong_bodies.py` those in
-  `wrong/`.
+- **wrong body**: an edit of the code that the prover has to refuse. The gate tries those in `must-fail/`, `tools/wrong_bodies.py`
+  those in `wrong/`.
 
-A row without a law has those that hold of all rules: `each_event_fits` and `events_do_what_they_may`, in the crates
-`law_machine_base` and `law_machine_deeds`. A row without a wrong body has a contract like the others, and none is tried on it.
+A row of the machine without a law has those that hold of each event: `each_event_fits` and `events_do_what_they_may`, in the
+crates `law_machine_base` and `law_machine_deeds`. One of the agents, of stacks or of the static check has the contracts of its
+code alone. A row without a wrong body has a contract like the others, and none is tried on it.
 """
 
 DEFINITION = re.compile(r"^(?:(?:abbrev|unfoldable)(?: pub)?|pub)? ?([A-Za-z_][A-Za-z0-9_']*) :", re.M)
@@ -44,7 +47,7 @@ RUST = re.compile(rf"^\s*{VISIBLE}(?:struct|enum|fn|const|trait) ([A-Za-z_][A-Za
 VARIANT = re.compile(r"^    (?:pub )?([A-Za-z][A-Za-z0-9_]*)\s*[,({:]", re.M)
 FUNCTION = re.compile(rf"^\s*{VISIBLE}(?:const )?fn ([a-z_][a-z0-9_]*)")
 WORD = re.compile(r"(?:([A-Za-z_][A-Za-z0-9_']*)\.)?([A-Za-z_][A-Za-z0-9_']*)")
-USE = re.compile(r"^ *ghost use Rattle\.(\w+)\.specs[A-Za-z0-9_.']*?(?:\.\{([^}]*)\}| as (\w+));", re.M)
+USE = re.compile(r"^ *ghost use Rattle\.(\w+)\.specs([A-Za-z0-9_.']*?)(?:\.\{([^}]*)\}| as (\w+));", re.M)
 
 
 def sources(crate, suffix):
@@ -53,34 +56,49 @@ def sources(crate, suffix):
 
 
 def names_of(crate):
-    """What a crate defines, each name with its file: definitions before types, fields and variants."""
+    """What a crate defines, each name with its files: definitions before types, fields and variants."""
     names = {}
     antt = [path for path in sources(crate, ".antt") if "specs" in path.relative_to(CRATES).parts]
     for paths, form in [(antt, DEFINITION), (antt, TYPE), (sources(crate, ".rt"), RUST), (antt, MEMBER), (sources(crate, ".rt"), VARIANT)]:
+        found = {}
         for path in paths:
-            for name in form.findall(path.read_text()):
-                names.setdefault(name, path)
+            for name in set(form.findall(path.read_text())):
+                found.setdefault(name, []).append(path)
+        for name, files in found.items():
+            names.setdefault(name, files)
     return names
 
 
+def has_name(path, name):
+    """Whether a file defines a name, in one form or another."""
+    text = path.read_text()
+    return any(name in form.findall(text) for form in (DEFINITION, TYPE, RUST, MEMBER, VARIANT))
+
+
+def module_of(path):
+    """The module that a file of definitions is, after its crate's `specs`; None for a file of code."""
+    parts = path.relative_to(CRATES).with_suffix("").parts
+    return "".join(f".{part}" for part in parts[2:]) if parts[1] == "specs" else None
+
+
 def imports_of(text):
-    """What a file imports: the crate of each name, and the crate of each module by the name it has there."""
+    """What a file imports: the crate and the module of each name, and those of each module by the name it has there."""
     names, modules = {}, {}
-    for crate, inside, module in USE.findall(text):
+    for crate, inside, told, module in USE.findall(text):
         if module:
-            modules[module] = crate
-        for name in inside.split(","):
-            names[name.split(" as ")[0].strip()] = crate
+            modules[module] = crate, inside
+        for name in told.split(","):
+            names[name.split(" as ")[0].strip()] = crate, inside
     return names, modules
 
 
 def cited(contract, names, modules):
-    """The definitions that a contract cites, each with its crate."""
+    """The definitions that a contract cites, each with its crate and its module."""
     for module, name in WORD.findall(contract):
         if module in modules:
-            yield modules[module], name
+            yield *modules[module], name
         elif not module and name in names:
-            yield names[name], name
+            yield *names[name], name
 
 
 def functions_of(path):
@@ -125,8 +143,8 @@ class Found:
                 if "tests" in path.parts or crate.startswith(TESTS):
                     continue
                 table = self.laws if crate.startswith(LAWS) else self.code
-                for definition in set(cited(contract, names, modules)):
-                    table.setdefault(definition, []).append((key, path))
+                for its_crate, module, definition in set(cited(contract, names, modules)):
+                    table.setdefault((its_crate, definition), []).append((key, path, module))
 
     def law(self, name):
         """The law with this name, with its file, or None where none or more than one has it."""
@@ -137,6 +155,11 @@ class Found:
 
 def link(shown, path):
     return f"[`{shown}`](../{path.relative_to(CRATES.parent)})"
+
+
+def of_module(functions, module):
+    """Those of some functions that cite a definition of this module, or all where none is asked for, each with its file."""
+    return [(key, path) for key, path, of in functions if module in (None, of)]
 
 
 def names_in(part):
@@ -161,11 +184,22 @@ def parsed(text):
         yield number, subject, words, [(m.group(1), m.group(2)) for m in found], laws, edits
 
 
-def several(items, definitions=(), most=3):
-    """The first few of some files with what to show of each: those that have the name of a definition, if there are any."""
-    items = sorted(dict(items).items())
-    items = [item for item in items if item[0].split("::")[-1] in definitions] or items
+def several(items, most=3):
+    """The first few of some files with what to show of each."""
+    items = list(dict(items).items())
     return listed(items[:most]) + (f" and {len(items) - most} more" if len(items) > most else "")
+
+
+def code_of(definitions, few=3):
+    """The code to show of some definitions, each with the functions that cite it: first those that have a definition's name, then
+    the few that cite a definition that no function is named for; all where there is none of either."""
+    named, others, rest = [], [], []
+    for definition, functions in definitions:
+        same = [item for item in functions if item[0].split("::")[-1] == definition]
+        named += same
+        others += functions if not same and len(set(functions)) <= few else []
+        rest += functions
+    return several(sorted(set(named)) + sorted(set(others)) or sorted(set(rest)))
 
 
 def listed(items):
@@ -181,28 +215,34 @@ def page():
         if words is None:
             out.append(f"\n## {subject}\n\n| rule | definition | code | law | wrong body |\n|---|---|---|---|---|")
             continue
-        told, by_code, by_law, lasts = [], [], [], set()
+        told, by_definition, by_law = [], [], []
         for name, remark in definitions:
-            crate = remark if remark and (CRATES / remark).is_dir() else "wdf_model"
+            file = CRATES / remark if remark and (CRATES / remark).is_file() else None
+            crate = remark.split("/")[0] if remark and (CRATES / remark).exists() else "wdf_model"
             last = name.split(".")[-1]
-            lasts.add(last)
             if crate not in known:
                 known[crate] = names_of(crate)
-            if last not in known[crate]:
-                wrong.append(f"{RULES.name}, line {number}: {crate} has no {name}")
+            files = [file] if file else known[crate].get(last, [])
+            if not files or not has_name(files[0], last):
+                wrong.append(f"{RULES.name}, line {number}: {remark if file else crate} has no {name}")
                 continue
-            told.append(link(name, known[crate][last]) + (f" ({remark})" if remark and crate != remark else ""))
-            by_code += found.code.get((crate, last), [])
-            by_law += found.laws.get((crate, last), [])
-        by_edit = [(edit.stem, edit) for key, _ in by_code for edit in found.edits.get(key, [])]
-        shown_laws, shown_edits = several(by_law), several(by_edit)
+            if len(files) > 1:
+                wrong.append(f"{RULES.name}, line {number}: several files of {crate} have {name}: {', '.join(str(path.relative_to(CRATES)) for path in files)}")
+                continue
+            told.append(link(name, files[0]) + (f" ({remark})" if remark and not (CRATES / remark).exists() else ""))
+            module = module_of(file) if file else None
+            functions = of_module(found.code.get((crate, last), []), module)
+            by_definition.append((last, [item for item in functions if item[0].split("::")[-1] not in (laws or ())]))
+            by_law += of_module(found.laws.get((crate, last), []), module)
+        by_edit = [(edit.stem, edit) for _, functions in by_definition for key, _ in functions for edit in found.edits.get(key, [])]
+        shown_laws, shown_edits = several(sorted(by_law)), several(sorted(by_edit))
         if laws is not None:
             wrong += [f"{RULES.name}, line {number}: there is no law {name}" for name in laws if not found.law(name)]
             shown_laws = listed(found.law(name) for name in laws if found.law(name))
         if edits is not None:
             wrong += [f"{RULES.name}, line {number}: there is no wrong body {name}" for name in edits if len(found.wrong.get(name, [])) != 1]
             shown_edits = listed((name, found.wrong[name][0]) for name in edits if name in found.wrong)
-        out.append(f"| {words} | {', '.join(told)} | {several(by_code, lasts)} | {shown_laws} | {shown_edits} |")
+        out.append(f"| {words} | {', '.join(told)} | {code_of(by_definition)} | {shown_laws} | {shown_edits} |")
     if wrong:
         sys.exit("\n".join(wrong))
     return "\n".join(out) + "\n"

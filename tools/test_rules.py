@@ -15,8 +15,15 @@ abbrev pub takes : Queue → ℕ
 takes q = q.front
 abbrev pub drops : Queue → Queue
 drops q = q
+abbrev pub waits : Queue → Queue
+waits q = q
+"""
+OTHERS = """-- another thing that waits
+abbrev pub waits : ℕ → ℕ
+waits n = n
 """
 PART = """ghost use Rattle.wdf_model.specs.Queues as queues;
+ghost use Rattle.wdf_model.specs.Others as others;
 ghost use Rattle.wdf_other.specs.Queues.{drops};
 
 /// The front.
@@ -38,6 +45,16 @@ pub fn also_takes(queue: &Queue) -> u32
 {
     takes(queue)
 }
+
+pub fn stays(queue: &mut Queue)
+    ensures { queue.new ≡ queues.waits queue.old }
+{}
+
+pub fn waits(count: u32) -> u32
+    ensures { result ≡ others.waits count }
+{
+    count
+}
 """
 LAW = """ghost use Rattle.wdf_model.specs.Queues.{takes};
 
@@ -53,6 +70,8 @@ RULES = """Queues
 a queue gives its front | takes
 a queue drops | drops | drops_once | -
 its front is kept | Queue.front | - | front_is_zero
+a queue waits | waits (wdf_model/specs/Queues.antt) | - | -
+one of two definitions | takes, waits (wdf_model/specs/Queues.antt) | - | -
 """
 MODEL_FILE, PART_FILE = "../crates/wdf_model/specs/Queues.antt", "../crates/wdf_part/src/lib.rt"
 WANTED = [
@@ -60,10 +79,14 @@ WANTED = [
     "| [`law_queue::takes_once`](../crates/law_queue/src/lib.rt) | [`front_is_zero`](../crates/wdf_part/must-fail/front_is_zero.edit) |",
     f"| a queue drops | [`drops`]({MODEL_FILE}) |  | [`law_other::drops_once`](../crates/law_other/src/lib.rt) |  |",
     f"| its front is kept | [`Queue.front`]({MODEL_FILE}) |  |  | [`front_is_zero`](../crates/wdf_part/must-fail/front_is_zero.edit) |",
+    f"| a queue waits | [`waits`]({MODEL_FILE}) | [`wdf_part::stays`]({PART_FILE}) |  |  |",
+    f"| one of two definitions | [`takes`]({MODEL_FILE}), [`waits`]({MODEL_FILE}) | [`wdf_part::takes`]({PART_FILE}), [`wdf_part::stays`]({PART_FILE}) |  |  |",
 ]
 # A rule that can't be written so, and what the script says then.
 REFUSED = [
     ("no such rule | puts", "wdf_model has no puts"),
+    ("no such rule there | puts (wdf_model/specs/Others.antt)", "wdf_model/specs/Others.antt has no puts"),
+    ("which of two | waits", "several files of wdf_model have waits: wdf_model/specs/Others.antt, wdf_model/specs/Queues.antt"),
     ("no such law | takes | puts_once", "there is no law puts_once"),
     ("no such wrong body | takes | - | front_is_one", "there is no wrong body front_is_one"),
 ]
@@ -79,6 +102,7 @@ def page_of(rules_text):
     with tempfile.TemporaryDirectory() as room:
         rules.CRATES, rules.RULES = Path(room) / "crates", Path(room) / "rules.txt"
         put(rules.CRATES / "wdf_model/specs/Queues.antt", MODEL)
+        put(rules.CRATES / "wdf_model/specs/Others.antt", OTHERS)
         put(rules.CRATES / "law_queue/src/lib.rt", LAW)
         put(rules.CRATES / "law_other/src/lib.rt", LAWS)
         put(rules.CRATES / "wdf_part/src/lib.rt", PART)
