@@ -32,7 +32,7 @@ sys.dont_write_bytecode = True
 from built import PROGRAM, ROOT, needs, program_at
 
 SCENARIOS = [os.path.join(ROOT, "examples", name) for name in ("first-read.kmdf", "deadlock.kmdf")]
-FORMS = ("check", "order", "seed 3", "replay", "run")
+FORMS = ("check", "order", "seed 3", "replay", "run", "idle", "stack", "lint")
 ALONE = ("gen 1", "load 1")
 VARIED = [os.path.join(ROOT, "examples", name) for name in ("echo-bug.kmdf", "eight-processors.kmdf")]
 SEEDS = range(20)

@@ -1,5 +1,6 @@
-//! The law on runs in which idle devices sleep: when time passes no device sleeps with a pending request, none that is idle
-//! is awake past its timeout, each goes to sleep exactly when it has been idle that long, and is woken for a request alone.
+//! The law on runs in which idle devices sleep. When time passes no device sleeps with a pending request, and none that is
+//! idle is awake past its timeout. A device that no line of `pnp` puts to sleep does so exactly when it has been idle that
+//! long. One that no line of `pnp` wakes is woken for a request alone.
 #![tactic(auto)]
 
 ghost use Rattle.std.specs.Prelude.{◌≡◌, ℕ, true, List, Option, Some, slice_get, take};

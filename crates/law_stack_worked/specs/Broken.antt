@@ -1,5 +1,6 @@
--- Lists of events, made by hand from worked runs, that break the laws on stacks.
-use Rattle.std.specs.Prelude.{List, [], ◌∷◌, Some, None}
+-- Lists of events, made by hand from worked runs, that break the laws on stacks, and where.
+use Rattle.std.specs.Prelude.{if◌then◌else◌, ◌≡◌, ◌×◌, ℕ, suc, Bool, List, [], ◌∷◌, ◌++◌, Option, Some, None, option_map}
+use Rattle.wdf_base.specs.declared.plan.Plan.{Plan}
 use Rattle.wdf_base.specs.declared.event.Ask.TheVariants as ask
 use Rattle.wdf_base.specs.declared.event.Post.TheVariants as post
 use Rattle.wdf_base.specs.declared.event.Stage.TheVariants as stage
@@ -11,6 +12,20 @@ use Rattle.wdf_base.specs.declared.call.Callback.TheVariants as callback
 use Rattle.wdf_base.specs.declared.value.Status.TheVariants as status
 use Rattle.wdf_base.specs.declared.value.Value.TheVariants.{Num, Obj, Stat}
 use Rattle.law_machine_worked.specs.Writing.{h, p, c}
+use Rattle.law_stack.specs.Laws.{order_law, request_law}
+
+-- how many events of a list come before the first that breaks a law, if one does (own)
+abbrev pub breaks_from : (Plan → List Event → Event → Bool) → Plan → List Event → List Event → Option ℕ
+breaks_from law plan before [] = None
+breaks_from law plan before (e ∷ es) = if law plan before e then option_map suc (breaks_from law plan (before ++ e ∷ []) es) else Some 0
+
+-- the event that so many come before is the first that breaks the law on requests, and each keeps that on orders (own)
+abbrev pub BreaksRequestLaw : Plan → List Event → ℕ → Type 0
+BreaksRequestLaw plan events k = (breaks_from request_law plan [] events ≡ Some k) × (breaks_from order_law plan [] events ≡ None)
+
+-- the event that so many come before is the first that breaks the law on orders, and each keeps that on requests (own)
+abbrev pub BreaksOrderLaw : Plan → List Event → ℕ → Type 0
+BreaksOrderLaw plan events k = (breaks_from order_law plan [] events ≡ Some k) × (breaks_from request_law plan [] events ≡ None)
 
 -- a connector posts an arrival, and nothing was sent to its target
 abbrev pub arrives_unsent : List Event

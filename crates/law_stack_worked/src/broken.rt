@@ -1,41 +1,40 @@
-//! Lists made by hand, each of which breaks a law on stacks.
-ghost use Rattle.std.specs.Prelude.{◌≡◌, false};
-ghost use Rattle.law_stack.specs.Laws.{keeps_stack_laws};
+//! Lists made by hand, each of which breaks one of the laws on stacks, and which of its events does.
 ghost use Rattle.law_stack_worked.specs.Broken as lists;
+ghost use Rattle.law_stack_worked.specs.Broken.{BreaksOrderLaw, BreaksRequestLaw};
 ghost use Rattle.law_stack_worked.specs.StackOrders.{starts_from_the_bottom_plan, the_middle_device_is_removed_plan};
 ghost use Rattle.law_stack_worked.specs.StackRequests.{status_comes_up_plan};
 
-/// An arrival without a Send breaks the first law.
+/// An arrival without a Send breaks the law on requests.
 pub fn arrives_unsent()
-    ensures { keeps_stack_laws status_comes_up_plan lists.arrives_unsent ≡ false }
+    ensures { BreaksRequestLaw status_comes_up_plan lists.arrives_unsent 3 }
 {}
 
 /// Two arrivals for one Send break it too.
 pub fn arrives_twice()
-    ensures { keeps_stack_laws status_comes_up_plan lists.arrives_twice ≡ false }
+    ensures { BreaksRequestLaw status_comes_up_plan lists.arrives_twice 5 }
 {}
 
-/// A connector that answers SUCCESS without an arrival breaks the second law.
+/// A connector that answers SUCCESS without an arrival breaks it too.
 pub fn done_before_arrival()
-    ensures { keeps_stack_laws status_comes_up_plan lists.done_before_arrival ≡ false }
+    ensures { BreaksRequestLaw status_comes_up_plan lists.done_before_arrival 4 }
 {}
 
 /// Another status than that of the request below breaks it.
 pub fn done_with_another_status()
-    ensures { keeps_stack_laws status_comes_up_plan lists.done_with_another_status ≡ false }
+    ensures { BreaksRequestLaw status_comes_up_plan lists.done_with_another_status 10 }
 {}
 
 /// A done before the completion below breaks it.
 pub fn done_before_completion()
-    ensures { keeps_stack_laws status_comes_up_plan lists.done_before_completion ≡ false }
+    ensures { BreaksRequestLaw status_comes_up_plan lists.done_before_completion 6 }
 {}
 
-/// A start from the top breaks the third law.
+/// A start from the top breaks the law on orders.
 pub fn starts_from_the_top()
-    ensures { keeps_stack_laws starts_from_the_bottom_plan lists.starts_from_the_top ≡ false }
+    ensures { BreaksOrderLaw starts_from_the_bottom_plan lists.starts_from_the_top 0 }
 {}
 
 /// A removal from the bottom breaks it too.
 pub fn removed_from_the_bottom()
-    ensures { keeps_stack_laws the_middle_device_is_removed_plan lists.removed_from_the_bottom ≡ false }
+    ensures { BreaksOrderLaw the_middle_device_is_removed_plan lists.removed_from_the_bottom 13 }
 {}

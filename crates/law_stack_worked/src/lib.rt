@@ -1,7 +1,7 @@
 //! Worked runs with stacks of devices, for each a law. It says that the events are the run which the written machine makes of
 //! its plan with the agents of the word `stack`, that the run ends as the trace says, and why it is stuck, if it is. It also
 //! says that each event keeps the laws on stacks. The scenarios and traces are in `tools/stack`. Lists made by hand break
-//! each of these laws.
+//! each of these laws, at an event that is named.
 #![tactic(auto)]
 
 pub mod broken;

@@ -27,8 +27,8 @@ abbrev pub KeepsStackLaws : Plan → List Event → Type 0
 KeepsStackLaws plan run = (k : ℕ) (e : Event) → slice_get run k ≡ Some e → stack_law plan (take k run) e ≡ true
 
 -- The laws that runs with these agents keep beside the nine. With the idle policy: when time passes no device sleeps with a
--- pending request, none that is idle is awake past its timeout, each goes to sleep exactly when it has been idle that long, and
--- is woken for a request alone.
+-- pending request, and none that is idle is awake past its timeout. One that no line of `pnp` puts to sleep does so exactly when
+-- it has been idle that long; one that no line of `pnp` wakes is woken for a request alone.
 abbrev pub KeepsAgentLaws : RunAgents → Plan → List Event → Type 0
 KeepsAgentLaws Usual plan run = ⊤
 KeepsAgentLaws Idle plan run = KeepsIdleLaw plan run
