@@ -10,7 +10,11 @@ use Rattle.wdf_parse.specs.StandsFor.{StandsFor, without_number, without_numbers
 use Rattle.wdf_parse.proofs.ReadBack.{printed_canonical, read_back}
 use Rattle.wdf_parse.proofs.Uniqueness.{one_stands, stands_read}
 use Rattle.wdf_refusals.specs.First.{first_refusal}
-use Rattle.law_canonical.specs.Canonical.{HasPlanToo, IsCanonical}
+use Rattle.wdf_plan.specs.Plans.{plan_of}
+use Rattle.wdf_base.specs.declared.plan.Plan.{Plan}
+use Rattle.law_bare.proofs.Agents.{usual_picked, usual_run}
+use Rattle.law_canonical.specs.Canonical.{HasPlanToo, HasRunsToo, IsCanonical, RunAlike}
+use Rattle.law_canonical.proofs.Order.{IsRising, actions_alike, lines_rise}
 use Rattle.law_canonical.proofs.Plans.{plans_alike}
 use Rattle.law_canonical.proofs.Refusals.{refusals_alike}
 
@@ -43,3 +47,16 @@ has_plan_too input scene stands none = let is = canonical_is input scene stands 
 pub canonical_again : (text : List ℕ) (scene again : Scene) → IsCanonical text scene → (stands : StandsFor text again) → canonical_text again.version stands.ws ≡ text
 canonical_again text scene again is stands =
     canonical_printed text again stands ∙ ap printed (one_stands text again is.again stands is.stands) ∙ sym (canonical_printed text is.again is.stands) ∙ is.canonical
+
+-- two scenes that are the same but for line numbers, which rise, have the same runs but for them
+pub runs_alike : (a b : Scene) → without_numbers a ≡ without_numbers b → IsRising 1 a.lines → IsRising 1 b.lines → RunAlike (plan_of a) (plan_of b)
+runs_alike a b same r t =
+    let plans = plans_alike a b same in
+    let actions = actions_alike a b same r t in
+    record { picks = ap (λ (P : Plan). P.picks) plans; limit = ap (λ (P : Plan). P.limit) plans; picked = usual_picked (plan_of a) (plan_of b) plans actions; runs = usual_run (plan_of a) (plan_of b) plans actions }
+
+pub has_runs_too : (input : List ℕ) (scene : Scene) (stands : StandsFor input scene) → first_refusal scene ≡ None → HasRunsToo (canonical_text scene.version stands.ws) scene
+has_runs_too input scene stands none =
+    let is = canonical_is input scene stands in
+    let text = canonical_text scene.version stands.ws in
+    (is.again, is.stands, refusals_alike scene is.again (sym is.same) none, runs_alike scene is.again (sym is.same) (lines_rise input scene stands) (lines_rise text is.again is.stands))

@@ -1,8 +1,8 @@
-pub mod Lists
 pub mod Scenes
 pub mod Refusals
 pub mod Numbers
 pub mod Parts
 pub mod Scripts
 pub mod Plans
+pub mod Order
 pub mod Canonical

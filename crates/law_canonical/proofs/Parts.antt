@@ -21,8 +21,8 @@ use Rattle.wdf_blocks.specs.Blocks.{form_at, given, ticks_in}
 use Rattle.wdf_blocks.specs.Placed.{placed}
 use Rattle.wdf_refusals.specs.Numbers.{name_number}
 use Rattle.wdf_plan.specs.Parts.{agent, app_agent, app_post, app_post_in, class_on, device_agent, device_info, device_post, device_post_in, interrupt_info, object_of, object_on, parent_order, period_of, pnp_post, queue_info, register_on, serves, stands_in, target_agent, target_info, when_on}
-use Rattle.law_canonical.specs.Lines.{bare_agent, bare_post, bare_when}
-use Rattle.law_canonical.proofs.Lists.{gathered_alike}
+use Rattle.law_bare.specs.Lines.{bare_agent, bare_post, bare_when}
+use Rattle.law_bare.proofs.Lists.{gathered_alike}
 use Rattle.law_canonical.proofs.Numbers.{act_alike, handle_alike, name_alike, number_alike}
 use Rattle.law_canonical.proofs.Scenes.{block_alike, effective_alike, effective_scope_alike, given_alike, has_given_alike, places_alike, undeclared, unplaced}
 

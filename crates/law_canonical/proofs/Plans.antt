@@ -13,8 +13,8 @@ use Rattle.wdf_blocks.specs.Placed.{placed}
 use Rattle.wdf_plan.specs.Parts.{app_agent, class_on, device_agent, line_picks, object_on, pnp_post, register_on, target_agent, when_on}
 use Rattle.wdf_plan.specs.Plans.{all_agents, all_objects, name_in, plan_of, plan_with}
 use Rattle.wdf_plan.specs.Scripts.{nodes_on, script_on}
-use Rattle.law_canonical.specs.Lines.{bare_agent, bare_post, bare_script, bare_when, without_lines}
-use Rattle.law_canonical.proofs.Lists.{flat_same, gathered_alike, gathered_same, mapped_same}
+use Rattle.law_bare.specs.Lines.{bare_agent, bare_post, bare_script, bare_when, without_lines}
+use Rattle.law_bare.proofs.Lists.{flat_same, gathered_alike, gathered_same, mapped_same}
 use Rattle.law_canonical.proofs.Parts.{app_agent_alike, class_alike, device_agent_alike, object_on_alike, pnp_alike, register_alike, target_agent_alike, when_alike}
 use Rattle.law_canonical.proofs.Scenes.{form_alike, names_alike, places_alike, undeclared, unplaced}
 use Rattle.law_canonical.proofs.Scripts.{nodes_on_alike, script_alike}

@@ -41,7 +41,7 @@ use Rattle.wdf_refusals.specs.declared.refusal.PlanRefusal.TheVariants as refusa
 use Rattle.wdf_refusals.specs.First.{first_refusal, first_some, if_holds, if_over, if_twice, refused, refused_at}
 use Rattle.wdf_refusals.specs.Limits.{exceeded, exceeds, over_objects}
 use Rattle.wdf_refusals.specs.Rows.{block_is, earlier_line, first_line, given_line, has_callbacks, home, incompatible_level, is_deferred_block, is_timer_block, is_working_block, lacks_parent, no_parent, nodes_of, reserved_line, taken_line, twice_assigned, twice_attribute, twice_declared, twice_given, twice_named, unknown_action, unknown_argument, unknown_class, unknown_name, unknown_node, unknown_parent, unknown_word, unlike_block, unlike_parent, wrong_callback}
-use Rattle.law_canonical.proofs.Lists.{any_map, any_same, cond_alike, find_map, find_same, none_by, or_alike}
+use Rattle.law_bare.proofs.Lists.{any_map, any_same, cond_alike, find_map, find_same, none_by, or_alike}
 use Rattle.law_canonical.proofs.Scenes.{block_alike, given_alike, has_given_alike, names_alike, objects_alike, parent_level_alike, places_alike, stands_alike, undeclared, unplaced, variables_alike}
 
 -- ---- the six reasons

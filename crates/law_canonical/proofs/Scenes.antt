@@ -22,7 +22,7 @@ use Rattle.wdf_blocks.specs.Declarations.{declarations, declared_by, declared_on
 use Rattle.wdf_blocks.specs.Forms.{assigned_name}
 use Rattle.wdf_blocks.specs.Placed.{counted, nothing, opened_by, outside, placed, placed_from, placed_line}
 use Rattle.wdf_blocks.specs.Variables.{assigned_from, variables, variables_at, variables_in, with_assigned}
-use Rattle.law_canonical.proofs.Lists.{at_map, drop_map, find_map, mapped_some, position_map}
+use Rattle.law_bare.proofs.Lists.{at_map, drop_map, find_map, mapped_some, position_map}
 
 -- a line of a scene where it is, and a declaration, without the number of its line
 abbrev pub unplaced : Placed → Placed

@@ -31,8 +31,8 @@ use Rattle.wdf_plan.specs.declared.course.Course.{Course}
 use Rattle.wdf_plan.specs.declared.course.Nest.{Nest}
 use Rattle.wdf_plan.specs.declared.course.Nest.TheVariants as nest
 use Rattle.wdf_plan.specs.Scripts.{act_on, again, argument_of, block_owner, class_number, ends_callback, going, is_branch, is_else, is_loop, loop_line, loops, named_node, nest_at, nests_after, node_of, nodes_on, number_after, onward, outer, owner_in, owner_of, passed, plain_act, reach, script_on, skipping, statement_at, statement_on, statements_from, statements_of, told_line}
-use Rattle.law_canonical.specs.Lines.{bare_script, bare_statement}
-use Rattle.law_canonical.proofs.Lists.{at_mapped, drop_map, map_alike, take_mapped}
+use Rattle.law_bare.specs.Lines.{bare_script, bare_statement}
+use Rattle.law_bare.proofs.Lists.{at_mapped, drop_map, map_alike, take_mapped}
 use Rattle.law_canonical.proofs.Numbers.{handle_alike, number_alike}
 use Rattle.law_canonical.proofs.Parts.{object_alike}
 use Rattle.law_canonical.proofs.Refusals.{nodes_alike}

@@ -1,0 +1,7 @@
+pub mod Lists
+pub mod Plans
+pub mod Deeds
+pub mod Ready
+pub mod Alike
+pub mod Runs
+pub mod Agents
