@@ -8,7 +8,8 @@ a release. From the root:
     python3 tools/wrong_bodies.py [--jobs N] [CRATE..]      tries those of these crates, or all: 10 to 40 seconds each
     python3 tools/wrong_bodies.py --look [CRATE..]          only looks whether each can be applied: under a second
 
-It works on a copy of crates/, and begins with what checks on this machine left. A line is written for each wrong body:
+It works on a copy of crates/, and begins with the libraries that `rt check` and `rt lib` left in their out/ folders; others
+are built first, which takes minutes. A line is written for each wrong body:
 refused, refused by a limit of the prover, NOT REFUSED, or why it wasn't tried, with its seconds. The status is 0 where each
 was refused (with --look: can be applied), else 1.
 """
@@ -73,9 +74,17 @@ def look(crates):
     return failed
 
 
+def left_out(folder, names):
+    """What a copy doesn't get: wrong bodies, and what was built but for libraries and what checks keep. The kit takes a
+    library only where its stamp fits its sources."""
+    if Path(folder).name == "out":
+        return [name for name in names if name not in ("rlib", "incremental")]
+    return [name for name in names if name in ("must-fail", "wrong")]
+
+
 def copy_of(room):
-    """A copy of the repository's crates in this folder, without what was built and without wrong bodies."""
-    shutil.copytree(CRATES, room / "crates", ignore=shutil.ignore_patterns("out", "must-fail", "wrong"))
+    """A copy of the repository's crates in this folder, without wrong bodies."""
+    shutil.copytree(CRATES, room / "crates", ignore=left_out, symlinks=True)
     for name in ("crates.txt", "HANDLES"):
         shutil.copy(ROOT / name, room / name)
     subprocess.run(["git", "init", "-q", str(room)], check=True)
