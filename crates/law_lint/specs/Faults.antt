@@ -10,14 +10,7 @@ is_of_marks fault.CompleteBeforeCancelCallback = true
 is_of_marks fault.MarkedTwice = true
 is_of_marks _ = false
 
--- a fault of locks: 11, 12 and 13
-abbrev pub is_of_locks : Fault → Bool
-is_of_locks fault.LockHeldAlready = true
-is_of_locks fault.LockNotHeld = true
-is_of_locks fault.ReturnHoldingLock = true
-is_of_locks _ = false
-
--- one of the eight: also 4 and 8
+-- one of the eight: 4 to 8 and 11 to 13
 abbrev pub is_of_scripts : Fault → Bool
 is_of_scripts fault.NotOwned = true
 is_of_scripts fault.CompleteWhileMarked = true
