@@ -92,7 +92,7 @@ asking_owns hold.Stop e = absurd (let z : ⊥ = cc in z)
 
 -- ---- no fault
 
-held_owned : (b : Bool) (p : Place) → is_owned p ≡ true → held_at b p ≡ true
+pub held_owned : (b : Bool) (p : Place) → is_owned p ≡ true → held_at b p ≡ true
 held_owned b place.Owned h = refl
 held_owned b (place.Queued q) h = absurd (let z : ⊥ = cc in z)
 held_owned b (place.Returning q) h = absurd (let z : ⊥ = cc in z)

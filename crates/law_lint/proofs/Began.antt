@@ -14,6 +14,9 @@ use Rattle.wdf_base.specs.declared.declared.Declared.{Declared}
 use Rattle.wdf_base.specs.declared.declared.Declared.TheVariants as declared
 use Rattle.wdf_base.specs.declared.declared.DeferredKind.TheVariants as deferred
 use Rattle.wdf_base.specs.declared.declared.PlainKind.TheVariants as plain
+use Rattle.wdf_base.specs.declared.declared.QueueInfo.{QueueInfo}
+use Rattle.wdf_base.specs.declared.declared.Scope.{Scope}
+use Rattle.wdf_base.specs.declared.declared.Scope.TheVariants as scope
 use Rattle.wdf_base.specs.declared.frame.Frame.{Frame}
 use Rattle.wdf_base.specs.declared.rank.Owner.{Owner}
 use Rattle.wdf_base.specs.declared.rank.Owner.TheVariants as owner
@@ -23,7 +26,7 @@ use Rattle.wdf_base.specs.Kinds.{class_kind, declared_name, class_name}
 use Rattle.wdf_base.specs.Plan.{declared_of, is_script_of}
 use Rattle.wdf_base.specs.Resolved.{IsResolved, all_differ, owner_fits, script_fits, agent_name, apps, objects_in_order, register_name}
 use Rattle.wdf_base.specs.Same.{same_callback, same_kind, same_option, same_irql, same_object_id}
-use Rattle.wdf_base.specs.SamePlan.{same_declared}
+use Rattle.wdf_base.specs.SamePlan.{same_declared, same_queue, same_scope}
 use Rattle.wdf_model.specs.declared.entries.Node.{Node}
 use Rattle.wdf_model.specs.Plans.{script_on, as_interrupt}
 use Rattle.wdf_model.specs.parts.Tree.{kind_of, made_as, node_of}
@@ -31,7 +34,7 @@ use Rattle.wdf_model.specs.State.{State, declared_in}
 use Rattle.wdf_model.proofs.Sames.{callback_decides}
 use Rattle.wdf_model.proofs.Tests.{both_left, both_right}
 use Rattle.wdf_lint.specs.Abstracts.{callback_of, id_of, owner_of}
-use Rattle.wdf_lint.specs.Steps.{is_of_interrupt}
+use Rattle.wdf_lint.specs.Steps.{is_of_interrupt, is_scoped, is_scoped_queue}
 use Rattle.law_lint.proofs.HeldAs.{is_interrupt}
 use Rattle.wdf_base.specs.declared.declared.InterruptInfo.{InterruptInfo}
 use Rattle.wdf_model.proofs.Counts.{equal}
@@ -39,10 +42,18 @@ use Rattle.std.proofs.lemmas.List.{append_assoc}
 use Rattle.wdf_base.specs.declared.ids.Handle.{Handle}
 use Rattle.std.proofs.lemmas.List.Quantifiers.{position-Some}
 
+-- a declared queue whose scope keeps its callbacks apart
+pub record Scoped (plan : Plan) (o : ℕ) : Type 0 where
+  pub queue : QueueInfo
+  pub there : declared_of plan o ≡ Some (declared.Queue queue)
+  pub scoped : is_scoped queue.scope ≡ true
+
 pub record Began (plan : Plan) (frame : Frame) : Type 0 where
   pub callback : callback_of plan frame.script ≡ frame.callback
   -- in a resolved plan an interrupt's callback is on the interrupt that owns its script
   pub interrupt : IsResolved plan → is_of_interrupt (row_of frame.callback).owner ≡ true → (frame.object.id.0 ≡ id_of plan (owner_of plan frame.script)) × (is_interrupt plan frame.object.id.0 ≡ true)
+  -- the callback of such a queue is on one
+  pub queue : is_scoped_queue (owner_of plan frame.script) ≡ true → Scoped plan frame.object.id.0
 
 -- what it speaks of is the same of another frame
 pub record Alike (f g : Frame) : Type 0 where
@@ -63,6 +74,7 @@ began_alike plan f g a b = record {
   interrupt = λ res is.
       let old = b.interrupt res (ap (λ c. is_of_interrupt (row_of c).owner) (sym a.callback) ∙ is) in
       (ap (λ (o : Handle). o.id.0) a.object ∙ old.0 ∙ ap (λ k. id_of plan (owner_of plan k)) (sym a.script), ap (λ (o : Handle). is_interrupt plan o.id.0) a.object ∙ old.1);
+  queue = λ is. subst (λ (o : Handle). Scoped plan o.id.0) (sym a.object) (b.queue (ap (λ k. is_scoped_queue (owner_of plan k)) (sym a.script) ∙ is));
 }
 
 -- ---- the only one of a list
@@ -240,6 +252,53 @@ all_at p (y ∷ ys) (suc k) x h at = all_at p ys k x (both_right (p y) (list_all
 
 owner_here : (plan : Plan) (k : ℕ) (s : Script) → slice_get plan.scripts k ≡ Some s → owner_of plan k ≡ s.owner
 owner_here plan k s at = ap (λ (o : Option Script). unwrap_or (option_map (λ (x : Script). x.owner) o) declared.Driver) at
+
+-- ---- the queue that owns a script
+
+scoped_like : (s t : Scope) → same_scope s t ≡ true → is_scoped s ≡ true → is_scoped t ≡ true
+scoped_like s scope.PerDevice same is = refl
+scoped_like s scope.PerQueue same is = refl
+scoped_like scope.PerDevice scope.Unscoped same is = absurd (let z : ⊥ = cc in z)
+scoped_like scope.PerQueue scope.Unscoped same is = absurd (let z : ⊥ = cc in z)
+scoped_like scope.Unscoped scope.Unscoped same is = is
+
+queues_scope : (a b : QueueInfo) → same_queue a b ≡ true → same_scope a.scope b.scope ≡ true
+queues_scope a b h = both_right _ (same_scope a.scope b.scope) (both_left (_ && same_scope a.scope b.scope) _ h)
+
+-- what is the same as such a queue is one
+like_scoped : (a b : Declared) → same_declared a b ≡ true → is_scoped_queue a ≡ true → (q : QueueInfo) × (b ≡ declared.Queue q) × (is_scoped q.scope ≡ true)
+like_scoped (declared.Queue i) (declared.Queue j) same is = (j, refl, scoped_like i.scope j.scope (queues_scope i j same) is)
+like_scoped (declared.Queue i) declared.Driver same is = absurd (let z : ⊥ = cc in z)
+like_scoped (declared.Queue i) (declared.Device d) same is = absurd (let z : ⊥ = cc in z)
+like_scoped (declared.Queue i) (declared.Interrupt d) same is = absurd (let z : ⊥ = cc in z)
+like_scoped (declared.Queue i) (declared.Target d) same is = absurd (let z : ⊥ = cc in z)
+like_scoped (declared.Queue i) (declared.OfClass d) same is = absurd (let z : ⊥ = cc in z)
+like_scoped declared.Driver b same is = absurd (let z : ⊥ = cc in z)
+like_scoped (declared.Device d) b same is = absurd (let z : ⊥ = cc in z)
+like_scoped (declared.Interrupt d) b same is = absurd (let z : ⊥ = cc in z)
+like_scoped (declared.Target d) b same is = absurd (let z : ⊥ = cc in z)
+like_scoped (declared.OfClass d) b same is = absurd (let z : ⊥ = cc in z)
+
+-- what a declared queue is in the state, it is in the plan
+made_queue : (plan : Plan) (n : Node) (o : ℕ) (k : Kind) (j : QueueInfo) → made_as plan n o k ≡ Some (declared.Queue j) → declared_of plan o ≡ Some (declared.Queue j)
+made_queue plan n o kind.Driver j h = h
+made_queue plan n o kind.Device j h = h
+made_queue plan n o kind.Queue j h = h
+made_queue plan n o kind.Interrupt j h = h
+made_queue plan n o kind.Target j h = h
+made_queue plan n o _ j h = absurd (let z : ⊥ = cc in z)
+
+pub queue_began : {A : Type 0} (plan : Plan) (S : State A) (c : Callback) (o k : ℕ) → script_on plan c (declared_in plan S o) ≡ Some k → is_scoped_queue (owner_of plan k) ≡ true → Scoped plan o
+queue_began plan S c o k found is = by (declared_in plan S o) refl found
+  where
+    by : (d : Option Declared) → declared_in plan S o ≡ d → script_on plan c d ≡ Some k → Scoped plan o
+    by None e h = absurd (let z : ⊥ = cc in z)
+    by (Some d) e h =
+        let f = found_by (is_script_of c d) plan.scripts k h in
+        let s : Script = f.0 in
+        let own : is_scoped_queue s.owner ≡ true = ap is_scoped_queue (sym (owner_here plan k s f.1)) ∙ is in
+        let q = like_scoped s.owner d (both_right (same_callback s.callback c) (same_declared s.owner d) f.2) own in
+        record { queue = q.0; there = made_queue plan (node_of S.tree o) o (kind_of S.tree o) q.0 (e ∙ ap Some q.1); scoped = q.2 }
 
 own_id : (plan : Plan) (k : ℕ) (s : Script) (i : InterruptInfo) → slice_get plan.scripts k ≡ Some s → s.owner ≡ declared.Interrupt i → id_of plan (declared.Interrupt i) ≡ id_of plan (owner_of plan k)
 own_id plan k s i at is = ap (id_of plan) (sym is) ∙ sym (ap (id_of plan) (owner_here plan k s at))

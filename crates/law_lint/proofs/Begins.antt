@@ -63,9 +63,24 @@ use Rattle.law_free_runs.proofs.FreeStates.{FreeState}
 use Rattle.law_lint.proofs.Others.{Places, event_later}
 use Rattle.law_lint.proofs.Sane.{AllSane, Sane}
 use Rattle.law_lint.proofs.Holdings.{Left, deeds_left, none_both, none_lock, taken_if_any}
-use Rattle.law_lint.proofs.Began.{Began, found_by, interrupt_began}
+use Rattle.law_lint.proofs.Began.{Began, found_by, interrupt_began, queue_began}
 use Rattle.law_lint.proofs.Stands.{FrameBegins, FrameStands, Grasps, GripOf, InHand, Stands, begins_stands}
 use Rattle.law_lint.proofs.Events.{told}
+use Rattle.wdf_base.specs.Resolved.{IsResolved}
+use Rattle.wdf_model.specs.Ids.{object_id}
+use Rattle.wdf_model.specs.declared.entries.Holding.{Holding}
+use Rattle.wdf_model.specs.declared.deed.Deed.TheVariants.{AskStop}
+use Rattle.wdf_model.specs.parts.Power.{Power, acknowledged, holding_of}
+use Rattle.wdf_model.specs.parts.Power as power
+use Rattle.law_machine_counts.proofs.Releases.{holding_here}
+use Rattle.wdf_lint.specs.Abstracts.{plan_sends}
+use Rattle.wdf_lint.specs.Steps.{is_stop}
+use Rattle.law_lint.proofs.Around.{Around}
+use Rattle.law_lint.proofs.Calming.{event_calms}
+use Rattle.law_lint.proofs.Flags.{AllAsked}
+use Rattle.law_lint.proofs.Owning.{From, Guarded, OwnAs, Stopping}
+use Rattle.law_lint.proofs.Starting.{begins_with, came_from, held_parts, origin_held, owned_held, stop_callback, stop_due, unasked}
+use Rattle.law_lint.proofs.Unsent.{none_there}
 
 -- ---- the script of a callback is one of that callback
 
@@ -270,6 +285,10 @@ taken_requests : {A : Type 0} (plan : Plan) (W : State A) (cpu f : ℕ) (frame :
 taken_requests plan W cpu f frame level None = refl
 taken_requests plan W cpu f frame level (Some l) = refl
 
+taken_power : {A : Type 0} (plan : Plan) (W : State A) (cpu f : ℕ) (frame : Frame) (level : ℕ) (l : Option LockRef) → (do_deeds plan (PushFrame (cpu_of cpu) (frame_id f) frame (irql_of level) ∷ take_if_any f l) W).power ≡ W.power
+taken_power plan W cpu f frame level None = refl
+taken_power plan W cpu f frame level (Some l) = refl
+
 pushed_frames : (C : Cpus) (cpu f : ℕ) (frame : Frame) (level : ℕ) → on C f ≡ 0 → (frame_of (cpus.push C cpu f frame level) f ≡ frame) × ((x : ℕ) → x ≢ f → (on (cpus.push C cpu f frame level) x ≡ on C x) × (frame_of (cpus.push C cpu f frame level) x ≡ frame_of C x))
 pushed_frames C cpu f frame level none = (
   ap (λ (r : Running). r.frame) (entry_put_same no_frame C.frames f (record { frame = frame; level = record { 0 = level } })),
@@ -298,9 +317,11 @@ start_unlocking : {A : Type 0} (plan : Plan) (S : State A) (cpu : ℕ) (c : Call
 start_unlocking plan S cpu c o None g = effect_unlocking plan S (row_of c).rank cpu c o g
 start_unlocking plan S cpu c o (Some r) g = effect_for_unlocking (row_of c).rank o r.id.0 g
 
-pub start_stands : {A : Type 0} (plan : Plan) (m : Meaning A) (S : State A) (k : Cpu) (c : Callback) (o : Handle) (r : Option Handle) → may plan m S (event.Start k c o r) ≡ true → Numbered S → FreeState plan S → AllSane S.requests → Stands plan S
+pub start_stands : {A : Type 0} (plan : Plan) (m : Meaning A) (S : State A) (k : Cpu) (c : Callback) (o : Handle) (r : Option Handle) → may plan m S (event.Start k c o r) ≡ true → Numbered S → FreeState plan S → AllSane S.requests → Around plan S → (IsResolved plan → AllAsked S.power) → Stands plan S
     → Stands plan (after plan m S (event.Start k c o r))
-start_stands {A} plan m S k c o r h numbered state sane st = told plan m (event.Start k c o r) U (begins_stands plan S U f frame b st begins new later free left)
+start_stands {A} plan m S k c o r h numbered state sane around asked st =
+    told plan m (event.Start k c o r) U
+    (begins_stands plan S U f frame b st begins new later (event_calms plan S (event.Start k c o r) st refl refl (event_fits plan m S (event.Start k c o r) h) places) free left)
   where
     places : Places S
     places = state.places
@@ -392,6 +413,43 @@ start_stands {A} plan m S k c o r h numbered state sane st = told plan m (event.
     hand_free hold.Away e q is i = absurd i
     hand_free hold.Stop e q is i = absurd i
 
+    power_ : U.power ≡ W.power
+    power_ = ap (λ (T : State A). T.power) split ∙ taken_power plan W k.0 f frame level l
+
+    -- where nothing sends, what it has comes from its object, a queue
+    from_ : plan_sends plan ≡ false → (q : Handle) → r ≡ Some q → InHand b.hold U.requests q.id.0 → From U.requests frame q.id.0
+    from_ off q is i =
+        let own : is_own_or_marked (hold_at_start c) ≡ true = begins_with (hold_at_start c) U.requests q.id.0 (subst (λ x. InHand x U.requests q.id.0) holds i) in
+        let unsent : is_sent (place_of S.requests q.id.0) ≡ false = none_there S places (around.unsent off) q.id.0 in
+        let came = came_from plan S places c o.id.0 q.id.0 own (for_it q is) unsent in
+        record {
+          origin = subst (λ (R : Requests). origin_of R q.id.0 ≡ Some o.id.0) (sym requests_) (subst (λ x. origin_of (do_deeds plan (start_effect plan S k.0 c o.id.0 x) S).requests q.id.0 ≡ Some o.id.0) (sym is) came.0);
+          lock = came.1;
+        }
+
+    -- an EvtIoStop that may acknowledge begins for a request that the driver owns, and that wasn't asked for yet
+    stopping_ : Guarded plan frame.script → is_stop b.hold ≡ true → Stopping U.requests U.power frame b.acknowledged
+    stopping_ guard is =
+        let calls : c ≡ callback.EvtIoStop = stop_callback c (ap is_stop (sym holds) ∙ is) in
+        let due = stop_due plan m S k.0 o.id.0 r (subst (λ x. is_ready_for plan m S k.0 x o.id.0 r ≡ true) calls ready) in
+        let q : Handle = due.0 in
+        let effect_ : es ≡ AskStop (object_id q.id.0) ∷ [] = ap (λ x. start_effect plan S k.0 x o.id.0 r) calls ∙ ap (start_effect plan S k.0 callback.EvtIoStop o.id.0) due.1 in
+        let requests_now : U.requests ≡ S.requests = requests_ ∙ ap (λ ds. (do_deeds plan ds S).requests) effect_ in
+        let power_now : U.power ≡ power.stop_asked S.power q.id.0 = power_ ∙ ap (λ ds. (do_deeds plan ds S).power) effect_ in
+        let here : holding_of U.power q.id.0 ≡ record (holding_of S.power q.id.0) { stop_asked = true } = ap (λ (P : Power). holding_of P q.id.0) power_now ∙ holding_here S.power q.id.0 (λ y. record y { stop_asked = true }) in
+        let unsent : is_sent (place_of S.requests q.id.0) ≡ false = none_there S places (around.unsent guard.sends) q.id.0 in
+        let held = held_parts plan S o.id.0 q.id.0 due.2 in
+        let fresh : acknowledged S.power q.id.0 ≡ false = unasked (holding_of S.power q.id.0) (asked guard.resolved q.id.0) held.2 in
+        record {
+          request = q;
+          has = due.1;
+          calls = calls;
+          owned = subst (λ (R : Requests). is_owned (place_of R q.id.0) ≡ true) (sym requests_now) (owned_held (is_forgotten S.targets q.id.0) (place_of S.requests q.id.0) held.1 unsent);
+          origin = subst (λ (R : Requests). origin_of R q.id.0 ≡ Some o.id.0) (sym requests_now) (origin_held (origin_of S.requests q.id.0) o.id.0 held.0);
+          asked = ap (λ (y : Holding). y.stop_asked) here;
+          fresh = λ e. ap (λ (y : Holding). y.acknowledged) here ∙ fresh;
+        }
+
     -- its own lock is none that a call took
     left : (g : ℕ) → Left S.locks U.locks g
     left g = deeds_left plan (deeds plan S (event.Start k c o r)) S g
@@ -418,7 +476,9 @@ start_stands {A} plan m S k c o r h numbered state sane st = told plan m (event.
       began = subst (Began plan) (sym begins.here) (record {
         callback = is_callback;
         interrupt = λ res is. interrupt_began plan S c o.id.0 frame.script res (there_some (script_in plan S c o.id.0) declares_) is;
+        queue = λ is. queue_began plan S c o.id.0 frame.script (there_some (script_in plan S c o.id.0) declares_) is;
       });
+      own = subst (λ (x : Frame). OwnAs plan U.requests U.power x b) (sym begins.here) (record { from = from_; stopping = stopping_ });
     }
 
     not_theirs : (g : ℕ) → 1 ≤ on S.cpus g → (x : ℕ) → Loose (request_of S.requests x) → Grasps S g (st.states g) x → ⊥

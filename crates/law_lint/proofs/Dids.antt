@@ -1,15 +1,11 @@
 -- The invariant over the calls that aren't on a callback's own request.
-use Rattle.std.proofs.Common.{if◌then◌else◌, ◌≡◌, ℕ, ◌==◌, ◌<◌, ◌≤◌, Bool, true, false, not, ◌&&◌, List, [], ◌∷◌, ◌++◌, Option, Some, None, length, count_by, slice_get, unwrap_or, refl, sym, ap, subst, ◌∙◌, arith}
-use Rattle.std.specs.List.{flat_map, list_all}
-use Rattle.std.proofs.lemmas.Bool.{eqb-true}
+use Rattle.std.proofs.Common.{◌≡◌, ◌≢◌, ℕ, ◌==◌, ◌<◌, ◌≤◌, Bool, true, false, List, [], ◌∷◌, ◌++◌, Option, Some, None, length, count_by, refl, sym, ap, subst, ◌∙◌, arith}
+use Rattle.std.specs.List.{flat_map}
 use Rattle.wdf_base.specs.Meaning.{Meaning}
 use Rattle.wdf_base.specs.declared.plan.Plan.{Plan}
 use Rattle.wdf_base.specs.declared.ids.Cpu.{Cpu}
 use Rattle.wdf_base.specs.declared.value.Value.{Value}
-use Rattle.wdf_base.specs.declared.value.Value.TheVariants.{Num}
 use Rattle.wdf_base.specs.declared.call.Arg.{Arg}
-use Rattle.wdf_base.specs.declared.call.Arg.TheVariants.{Val}
-use Rattle.wdf_base.specs.declared.event.Fault.{Fault}
 use Rattle.wdf_base.specs.Same.{same_call_kind}
 use Rattle.wdf_base.specs.declared.call.Call.{Call}
 use Rattle.wdf_base.specs.declared.call.CallKind.{CallKind}
@@ -17,38 +13,34 @@ use Rattle.wdf_base.specs.declared.call.CallKind.TheVariants as call
 use Rattle.wdf_base.specs.declared.event.Event.TheVariants as event
 use Rattle.wdf_base.specs.declared.frame.Frame.{Frame}
 use Rattle.wdf_base.specs.declared.frame.Intent.TheVariants as intent
-use Rattle.wdf_base.specs.declared.script.ArgNode.{ArgNode}
-use Rattle.wdf_base.specs.declared.script.ArgNode.TheVariants as arg
 use Rattle.wdf_base.specs.declared.script.ExprNode.{ExprNode}
-use Rattle.wdf_base.specs.declared.script.ExprNode.TheVariants as node
-use Rattle.wdf_model.specs.Ids.{frame_id, object_id}
+use Rattle.wdf_model.specs.Ids.{frame_id}
 use Rattle.wdf_model.specs.parts.Cpus.{all_frames, frame_of}
 use Rattle.wdf_model.specs.parts.Requests.{request_of}
 use Rattle.wdf_model.specs.State.{State, object_in}
 use Rattle.wdf_model.specs.declared.deed.Deed.{Deed}
-use Rattle.wdf_model.specs.declared.deed.Deed.TheVariants.{Acknowledge, GoOn}
-use Rattle.wdf_model.specs.rules.Calls.{origin_or_none, outcome, requeue_outcome, second_deeds, success}
+use Rattle.wdf_model.specs.declared.deed.Deed.TheVariants.{GoOn}
+use Rattle.wdf_model.specs.rules.Calls.{outcome, second_deeds}
 use Rattle.wdf_model.specs.rules.Deeds.{do_deed, do_deeds}
-use Rattle.wdf_model.specs.rules.Script.{arg_of, intent_of, node_value, statement_at, value_of, value_to}
-use Rattle.wdf_model.specs.rules.Faults.{arg_is}
+use Rattle.wdf_model.specs.rules.Script.{arg_of, intent_of, statement_at}
 use Rattle.wdf_model.specs.rules.Steps.{after, answered, deeds, did_deeds, may, woke_deeds}
 use Rattle.law_machine_base.specs.Fits.{all_fit}
 use Rattle.law_machine_base.proofs.OwnEvents.{IsDid, IsWoke, did_tells, woke_tells}
 use Rattle.law_machine_base.proofs.FitsOfEvents.{by_its_top, event_fits}
-use Rattle.wdf_model.proofs.Tests.{both, both_left, both_right}
 use Rattle.law_machine_counts.proofs.StillDeeds.{all_still, none_behind, outcome_none, second_none}
 use Rattle.law_machine_counts.proofs.StillFrames.{Still, deeds_still}
 use Rattle.law_machine_counts.proofs.StepStates.{fit_before, in_turn}
 use Rattle.wdf_lint.specs.declared.state.Abstract.{Abstract}
 use Rattle.wdf_lint.specs.declared.state.Hold.{Hold}
 use Rattle.wdf_lint.specs.declared.state.Known.TheVariants as known
-use Rattle.wdf_lint.specs.Steps.{is_own_or_marked, is_request_word, is_zero, node_of, on_request, rule_of_acknowledging, rule_of_call, way, ways}
+use Rattle.wdf_lint.specs.Steps.{acquired, acquired_at, interrupt_in, is_own_or_marked, node_of, released_at, rule_of_call, variable_in, way, ways}
 use Rattle.wdf_lint.specs.Walks.{IsClean, IsIn, IsReached}
-use Rattle.law_lint.proofs.Acting.{calling}
 use Rattle.law_lint.proofs.Calls.{GripOf}
 use Rattle.law_lint.proofs.Grips.{LaterAt}
-use Rattle.law_lint.proofs.Others.{all_apart, deeds_later, event_later, is_owners, is_owners_call}
-use Rattle.law_lint.proofs.Stands.{FrameGoes, FrameStands, InHand, Stands, goes_stands, grip_later, hand_before, is_on_request, reaches, stays_later}
+use Rattle.law_lint.proofs.Others.{event_later, is_owners_call}
+use Rattle.law_lint.proofs.Stands.{FrameGoes, FrameStands, InHand, Stands, goes_stands, is_on_request, reaches, stays_later}
+use Rattle.law_lint.proofs.Calming.{event_calms}
+use Rattle.law_lint.proofs.Owning.{Calms, grip_later, hand_before, own_answered}
 use Rattle.law_lint.proofs.Events.{answered_rest, goes_on_frames, top_there, told}
 use Rattle.law_lint.proofs.Faults.{Calls, calls, rule_off}
 use Rattle.law_lint.proofs.Answers.{CallWent, call_went}
@@ -109,11 +101,18 @@ unknown_way call.WdfRequestMarkCancelableEx h off = absurd (let z : ⊥ = cc in 
 unknown_way call.WdfRequestUnmarkCancelable h off = absurd (let z : ⊥ = cc in z)
 unknown_way _ h off = (0, refl)
 
+-- what the call leaves of each request that is to be acknowledged; of the frame's own only where it acknowledges none
+pub record CalmHere {A : Type 0} (plan : Plan) (S U : State A) (f : ℕ) (st : Stands plan S) (c : CallKind) (x : Option ExprNode) : Type 0 where
+  pub fresh : Bool
+  pub ends : (called plan (frame_of S.cpus f).script (st.states f) c x).acknowledged ≡ false → (fresh ≡ true) × ((st.states f).acknowledged ≡ false)
+  pub mine : Calms plan (frame_of S.cpus f) (st.states f) fresh S.power U.power
+  pub others : (g : ℕ) → g ≢ f → 1 ≤ on S.cpus g → Calms plan (frame_of S.cpus g) (st.states g) true S.power U.power
+
 -- the frame is answered, the others may do what they may: the invariant is kept
 answer_stands : {A : Type 0} (plan : Plan) (S U : State A) (f : ℕ) (v : Value) (st : Stands plan S) → FrameGoes S U f (answered plan (frame_of S.cpus f) v) → 1 ≤ on S.cpus f
     → (c : CallKind) (x : Option ExprNode) → CallWent plan (st.states f) (frame_of S.cpus f) (st.states f).hold v c x → ((x : ℕ) → x < length S.requests.all → LaterAt x S.requests U.requests)
-    → Locked plan S.locks U.locks f (frame_of S.cpus f).variables (called plan (frame_of S.cpus f).script (st.states f) c x) → Stands plan U
-answer_stands plan S U f v st go there c x_ w later l =
+    → Locked plan S.locks U.locks f (frame_of S.cpus f).variables (called plan (frame_of S.cpus f).script (st.states f) c x) → CalmHere plan S U f st c x → Stands plan U
+answer_stands plan S U f v st go there c x_ w later l calm =
     let old : FrameStands plan S f (st.states f) = st.stands f there in
     let rest = answered_rest plan (frame_of S.cpus f) v in
     let now : (frame_of U.cpus f).request ≡ (frame_of S.cpus f).request = ap (λ (x : Frame). x.request) go.here ∙ rest.request in
@@ -132,6 +131,8 @@ answer_stands plan S U f v st go there c x_ w later l =
       locks = subst (λ (x : Frame). HeldAs plan U.locks f x.variables w.state) (sym go.here)
           (held_assigned plan U.locks f (called plan (frame_of S.cpus f).script (st.states f) c x_) (frame_of S.cpus f) w.state (answered plan (frame_of S.cpus f) v) w.assigned w.interrupts l.now);
       began = began_alike plan (frame_of S.cpus f) (frame_of U.cpus f) (subst (Alike (frame_of S.cpus f)) (sym go.here) rest) old.began;
+      own = own_answered plan S.requests U.requests S.power U.power (frame_of S.cpus f) (frame_of U.cpus f) (st.states f) w.state calm.fresh (subst (Alike (frame_of S.cpus f)) (sym go.here) rest) w.hold (λ e. calm.ends (sym w.acknowledged ∙ e))
+          (λ r has. let g = old.grips r has in (g.0, later r.id.0 g.1)) calm.mine old.own;
     })
     (λ x k.
     let has : (frame_of S.cpus f).request ≡ Some k.request = sym now ∙ k.has in
@@ -144,7 +145,7 @@ answer_stands plan S U f v st go there c x_ w later l =
           (hand_before (st.states f).hold S.requests U.requests k.request.id.0 (later k.request.id.0 g.1).later g.0
           (subst (λ h. InHand h U.requests k.request.id.0) w.hold (subst (λ y. InHand w.state.hold U.requests y) (sym k.same) k.in_hand)));
     })
-    (λ g n more. stays_later plan S U g (st.states g) (st.stands g more) (λ r has. later r.id.0 ((st.stands g more).grips r has).1))
+    (λ g n more. stays_later plan S U g (st.states g) (st.stands g more) (λ r has. later r.id.0 ((st.stands g more).grips r has).1) (calm.others g n more))
     l.others
 
 -- a frame that is about to make a call on nothing of its own is answered as the walk says
@@ -190,10 +191,17 @@ woke_locked {A} plan S k f c v a free clean fs does off of =
     subst (λ q. Locked plan S.locks (do_deeds plan (woke_deeds plan c v f frame) S).locks f frame.variables (called plan frame.script a q (node_of plan s.x))) (sym kind)
     (woke_locks plan S k f frame a free.once fs.locks c.kind c.count c.a c.b c.c (node_of plan s.x) (node_of plan s.y) v (subst (λ q. rule_of_call plan frame.script a q (node_of plan s.x) (node_of plan s.y) ≡ None) kind rule) off (call_names plan frame c s fs.began of))
 
-pub did_stands : {A : Type 0} (plan : Plan) (m : Meaning A) (S : State A) (k : Cpu) (c : Call) (v : Value) → FreeState plan S → IsClean plan → has_ways c.kind ≡ false → may plan m S (event.Did k c v) ≡ true
-    → ((x : ℕ) → x < length S.requests.all → LaterAt x S.requests (do_deeds plan (deeds plan S (event.Did k c v)) S).requests) → Stands plan S
-    → Stands plan (after plan m S (event.Did k c v))
-did_stands {A} plan m S k c v free clean off h later st =
+-- what the call leaves of requests to be acknowledged, by its frame and its statement
+abbrev pub CalmDid : {A : Type 0} (plan : Plan) (m : Meaning A) (S : State A) (k : Cpu) (c : Call) (v : Value) → may plan m S (event.Did k c v) ≡ true → Stands plan S → Type 0
+CalmDid plan m S k c v h st =
+    let d : IsDid plan S k.0 c v = did_tells plan m S k c v h in
+    let s : Calls plan (frame_of S.cpus d.frame) (statement_at plan (frame_of S.cpus d.frame)) c = calls plan (frame_of S.cpus d.frame) c d.about.about in
+    CalmHere plan S (do_deeds plan (deeds plan S (event.Did k c v)) S) d.frame st s.kind (node_of plan s.x)
+
+pub did_stands : {A : Type 0} (plan : Plan) (m : Meaning A) (S : State A) (k : Cpu) (c : Call) (v : Value) → FreeState plan S → IsClean plan → has_ways c.kind ≡ false → (h : may plan m S (event.Did k c v) ≡ true)
+    → ((x : ℕ) → x < length S.requests.all → LaterAt x S.requests (do_deeds plan (deeds plan S (event.Did k c v)) S).requests) → (st : Stands plan S)
+    → CalmDid plan m S k c v h st → Stands plan (after plan m S (event.Did k c v))
+did_stands {A} plan m S k c v free clean off h later st calm =
     let d : IsDid plan S k.0 c v = did_tells plan m S k c v h in
     let f = d.frame in
     let ds : List Deed = (outcome plan S k.0 f c).deeds ++ second_deeds f c in
@@ -207,79 +215,60 @@ did_stands {A} plan m S k c v free clean off h later st =
     (subst (λ es. FrameGoes S (do_deeds plan es S) f (answered plan (frame_of S.cpus f) v)) (sym same) (still_goes plan S ds f (answered plan (frame_of S.cpus f) v) still fits_))
     there (calls plan (frame_of S.cpus f) c d.about.about).kind (node_of plan (calls plan (frame_of S.cpus f) c d.about.about).x)
     (plain_went plan S k.0 f (st.states f) c v clean (st.stands f there) d.about.about off)
-    later (did_locked plan S k c v (st.states f) d free clean (st.stands f there)))
+    later (did_locked plan S k c v (st.states f) d free clean (st.stands f there)) calm)
+
+-- such a call acknowledges nothing
+acquired_done : (a : Abstract) (v : Option ℕ) → (acquired a v).acknowledged ≡ a.acknowledged
+acquired_done a None = refl
+acquired_done a (Some v) = refl
+
+acquired_at_done : (a : Abstract) (i : Option ℕ) → (acquired_at a i).acknowledged ≡ a.acknowledged
+acquired_at_done a None = refl
+acquired_at_done a (Some i) = refl
+
+released_at_done : (a : Abstract) (i : Option ℕ) → (released_at a i).acknowledged ≡ a.acknowledged
+released_at_done a None = refl
+released_at_done a (Some i) = refl
+
+called_done : (plan : Plan) (k : ℕ) (a : Abstract) (c : CallKind) (x : Option ExprNode) → same_call_kind c call.WdfRequestStopAcknowledge ≡ false → (called plan k a c x).acknowledged ≡ a.acknowledged
+called_done plan k a call.WdfRequestStopAcknowledge x off = absurd (let z : ⊥ = cc in z)
+called_done plan k a call.WdfSpinLockAcquire x off = acquired_done a (variable_in x)
+called_done plan k a call.WdfWaitLockAcquire x off = acquired_done a (variable_in x)
+called_done plan k a call.WdfInterruptAcquireLock x off = acquired_at_done a (interrupt_in plan k x)
+called_done plan k a call.WdfInterruptReleaseLock x off = released_at_done a (interrupt_in plan k x)
+called_done plan k a _ x off = refl
+
+no_owners : (k : CallKind) → is_owners_call k ≡ false → same_call_kind k call.WdfRequestStopAcknowledge ≡ false
+no_owners call.WdfRequestStopAcknowledge off = absurd (let z : ⊥ = cc in z)
+no_owners _ off = refl
+
+calm_plain : {A : Type 0} (plan : Plan) (S U : State A) (f : ℕ) (st : Stands plan S) → 1 ≤ on S.cpus f → (c : CallKind) (x : Option ExprNode) → same_call_kind c call.WdfRequestStopAcknowledge ≡ false
+    → ((g : ℕ) → 1 ≤ on S.cpus g → Calms plan (frame_of S.cpus g) (st.states g) true S.power U.power) → CalmHere plan S U f st c x
+calm_plain plan S U f st there c x off calm = record {
+  fresh = true;
+  ends = λ e. (refl, sym (called_done plan (frame_of S.cpus f).script (st.states f) c x off) ∙ e);
+  mine = calm f there;
+  others = λ g n more. calm g more;
+}
 
 -- a call that no owner makes
 pub plain_stands : {A : Type 0} (plan : Plan) (m : Meaning A) (S : State A) (k : Cpu) (c : Call) (v : Value) → IsClean plan → has_ways c.kind ≡ false → is_owners_call c.kind ≡ false → may plan m S (event.Did k c v) ≡ true → FreeState plan S → Stands plan S
     → Stands plan (after plan m S (event.Did k c v))
 plain_stands plan m S k c v clean off none h free st =
-    did_stands plan m S k c v free clean off h (λ x old. event_later plan S (event.Did k c v) x none (event_fits plan m S (event.Did k c v) h) free.places old) st
-
--- ---- StopAcknowledge
-
-zero_node : (f : Frame) (operand : ℕ → Option Value) (e : ℕ) (n : Option ExprNode) → is_zero n ≡ true → node_value f operand e n ≡ Some (Num 0)
-zero_node f operand e (Some (node.Number n)) h = ap (λ q. Some (Num q)) (eqb-true n 0 h)
-zero_node f operand e _ h = absurd (let z : ⊥ = cc in z)
-
-zero_value : (plan : Plan) (f : Frame) (e : ℕ) → is_zero (slice_get plan.exprs e) ≡ true → value_of plan f e ≡ Some (Num 0)
-unfolding value_of
-zero_value plan f e h = zero_node f (value_to e plan f) e (slice_get plan.exprs e) h
-
-zero_argument : (plan : Plan) (f : Frame) (y : ArgNode) → is_zero (node_of plan y) ≡ true → arg_is (arg_of plan f y) 0 ≡ true
-zero_argument plan f (arg.Expression e) h = ap (λ (o : Option Value). arg_is (Val (unwrap_or o (Num 0))) 0) (zero_value plan f e h)
-zero_argument plan f arg.NoArgument h = absurd (let z : ⊥ = cc in z)
-zero_argument plan f (arg.OfClass c) h = absurd (let z : ⊥ = cc in z)
-
--- the deeds of an acknowledgement that keeps the request are no owner's
-acknowledging : {A : Type 0} (plan : Plan) (S : State A) (cpu f n : ℕ) (x y z : Arg) (b : Bool) → arg_is y 0 ≡ b → b ≡ true → list_all (λ d. not (is_owners d)) (if b then success (Acknowledge (object_id (object_in x)) ∷ []) else requeue_outcome S (object_in x) (origin_or_none S (object_in x))).deeds ≡ true
-acknowledging plan S cpu f n x y z true e h = refl
-acknowledging plan S cpu f n x y z false e h = absurd (let q : ⊥ = cc in q)
-
-none_owners : (ds es : List Deed) → list_all (λ d. not (is_owners d)) ds ≡ true → list_all (λ d. not (is_owners d)) es ≡ true → list_all (λ d. not (is_owners d)) (ds ++ es) ≡ true
-none_owners [] es h k = k
-none_owners (d ∷ ds) es h k = both (not (is_owners d)) (list_all (λ x. not (is_owners x)) (ds ++ es)) (both_left (not (is_owners d)) (list_all (λ x. not (is_owners x)) ds) h) (none_owners ds es (both_right (not (is_owners d)) (list_all (λ x. not (is_owners x)) ds) h) k)
-
-stop_at : {A : Type 0} (plan : Plan) (S : State A) (cpu f n : ℕ) (x y z : Arg) → arg_is y 0 ≡ true → list_all (λ d. not (is_owners d)) (outcome plan S cpu f (calling call.WdfRequestStopAcknowledge n x y z)).deeds ≡ true
-stop_at plan S cpu f n x y z h = acknowledging plan S cpu f n x y z (arg_is y 0) refl h
-
-on_both : (a b : Bool) (r : Option Fault) → on_request (a && b) r ≡ None → b ≡ true
-on_both true true r h = refl
-on_both true false r h = absurd (let z : ⊥ = cc in z)
-on_both false b r h = absurd (let z : ⊥ = cc in z)
-
-stops_zero : (plan : Plan) (script : ℕ) (a : Abstract) (k : CallKind) (px py : Option ExprNode) → rule_of_call plan script a k px py ≡ None → same_call_kind k call.WdfRequestStopAcknowledge ≡ true → is_zero py ≡ true
-stops_zero plan script a call.WdfRequestStopAcknowledge px py rule is = on_both (is_request_word px) (is_zero py) (rule_of_acknowledging plan script a) rule
-stops_zero plan script a _ px py rule is = absurd (let z : ⊥ = cc in z)
-
-is_kind : (k : CallKind) → same_call_kind k call.WdfRequestStopAcknowledge ≡ true → k ≡ call.WdfRequestStopAcknowledge
-is_kind call.WdfRequestStopAcknowledge h = refl
-is_kind _ h = absurd (let z : ⊥ = cc in z)
-
--- its deeds are no owner's
-pub stop_none : {A : Type 0} (plan : Plan) (m : Meaning A) (S : State A) (k : Cpu) (c : Call) (v : Value) → IsClean plan → same_call_kind c.kind call.WdfRequestStopAcknowledge ≡ true → may plan m S (event.Did k c v) ≡ true → Stands plan S
-    → list_all (λ d. not (is_owners d)) (deeds plan S (event.Did k c v)) ≡ true
-stop_none {A} plan m S k c v clean stops h st =
+    let calm = event_calms plan S (event.Did k c v) st none refl (event_fits plan m S (event.Did k c v) h) free.places in
+    did_stands plan m S k c v free clean off h (λ x old. event_later plan S (event.Did k c v) x none (event_fits plan m S (event.Did k c v) h) free.places old) st (
     let d : IsDid plan S k.0 c v = did_tells plan m S k c v h in
-    let f = d.frame in
-    let frame : Frame = frame_of S.cpus f in
-    let there : 1 ≤ on S.cpus f = top_there S.cpus k.0 f d.about.top in
+    let frame : Frame = frame_of S.cpus d.frame in
+    let there : 1 ≤ on S.cpus d.frame = top_there S.cpus k.0 d.frame d.about.top in
     let s : Calls plan frame (statement_at plan frame) c = calls plan frame c d.about.about in
     let kind : c.kind ≡ s.kind = ap (λ (q : Call). q.kind) s.call in
-    let rule : rule_of_call plan frame.script (st.states f) s.kind (node_of plan s.x) (node_of plan s.y) ≡ None = rule_off plan S k.0 f (st.states f) clean (st.stands f there) c s in
-    let zero_ : is_zero (node_of plan s.y) ≡ true = stops_zero plan frame.script (st.states f) s.kind (node_of plan s.x) (node_of plan s.y) rule (sym (ap (λ q. same_call_kind q call.WdfRequestStopAcknowledge) kind) ∙ stops) in
-    let keeps : arg_is c.b 0 ≡ true = ap (λ (q : Call). arg_is q.b 0) s.call ∙ zero_argument plan frame s.y zero_ in
-    let it : c.kind ≡ call.WdfRequestStopAcknowledge = is_kind c.kind stops in
-    let none : list_all (λ d. not (is_owners d)) (outcome plan S k.0 f c).deeds ≡ true = subst (λ q. list_all (λ d. not (is_owners d)) (outcome plan S k.0 f (calling q c.count c.a c.b c.c)).deeds ≡ true) (sym it) (stop_at plan S k.0 f c.count c.a c.b c.c keeps) in
-    let second : list_all (λ d. not (is_owners d)) (second_deeds f c) ≡ true = subst (λ q. list_all (λ d. not (is_owners d)) (second_deeds f (calling q c.count c.a c.b c.c)) ≡ true) (sym it) refl in
-    let same : deeds plan S (event.Did k c v) ≡ ((outcome plan S k.0 f c).deeds ++ second_deeds f c) ++ GoOn (frame_id f) (answered plan frame v) ∷ [] = by_its_top S k.0 f (did_deeds plan S k.0 c v) d.about.top in
-    ap (λ es. list_all (λ d. not (is_owners d)) es) same
-    ∙ none_owners ((outcome plan S k.0 f c).deeds ++ second_deeds f c) (GoOn (frame_id f) (answered plan frame v) ∷ []) (none_owners (outcome plan S k.0 f c).deeds (second_deeds f c) none second) refl
+    calm_plain plan S _ d.frame st there s.kind (node_of plan s.x) (no_owners s.kind (sym (ap is_owners_call kind) ∙ none)) calm)
 
-pub stop_stands : {A : Type 0} (plan : Plan) (m : Meaning A) (S : State A) (k : Cpu) (c : Call) (v : Value) → IsClean plan → same_call_kind c.kind call.WdfRequestStopAcknowledge ≡ true → may plan m S (event.Did k c v) ≡ true → FreeState plan S → Stands plan S
-    → Stands plan (after plan m S (event.Did k c v))
-stop_stands plan m S k c v clean stops h free st =
-    did_stands plan m S k c v free clean (ap has_ways (is_kind c.kind stops)) h
-    (λ x old. deeds_later plan (deeds plan S (event.Did k c v)) S x (event_fits plan m S (event.Did k c v) h) free.places old (all_apart plan (deeds plan S (event.Did k c v)) S x (stop_none plan m S k c v clean stops h st))) st
+-- ---- a wait that is over
+
+on_none : (k : CallKind) → is_on_request k ≡ false → same_call_kind k call.WdfRequestStopAcknowledge ≡ false
+on_none call.WdfRequestStopAcknowledge off = absurd (let z : ⊥ = cc in z)
+on_none _ off = refl
 
 pub woke_stands : {A : Type 0} (plan : Plan) (m : Meaning A) (S : State A) (k : Cpu) (c : Call) (v : Value) → IsClean plan → may plan m S (event.Woke k c v) ≡ true → FreeState plan S → Stands plan S
     → Stands plan (after plan m S (event.Woke k c v))
@@ -298,4 +287,7 @@ woke_stands {A} plan m S k c v clean h free st =
     (plain_went plan S k.0 f (st.states f) c v clean (st.stands f there) w.about (off_request c.kind w.on_request))
     (λ x old. event_later plan S (event.Woke k c v) x refl fit free.places old)
     (subst (λ es. Locked plan S.locks (do_deeds plan es S).locks f (frame_of S.cpus f).variables (called plan (frame_of S.cpus f).script (st.states f) (calls plan (frame_of S.cpus f) c w.about).kind (node_of plan (calls plan (frame_of S.cpus f) c w.about).x)))
-    (sym (by_its_top S k.0 f (woke_deeds plan c v) d.top)) (woke_locked plan S k f c v (st.states f) free clean (st.stands f there) w.about w.release w.kind)))
+    (sym (by_its_top S k.0 f (woke_deeds plan c v) d.top)) (woke_locked plan S k f c v (st.states f) free clean (st.stands f there) w.about w.release w.kind))
+    (calm_plain plan S _ f st there (calls plan (frame_of S.cpus f) c w.about).kind (node_of plan (calls plan (frame_of S.cpus f) c w.about).x)
+    (on_none (calls plan (frame_of S.cpus f) c w.about).kind (sym (ap (λ (q : Call). is_on_request q.kind) (calls plan (frame_of S.cpus f) c w.about).call) ∙ w.on_request))
+    (event_calms plan S (event.Woke k c v) st refl refl fit free.places)))

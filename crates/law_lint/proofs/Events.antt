@@ -171,7 +171,7 @@ pub top_there : (C : Cpus) (cpu f : ℕ) → top C cpu ≡ Some f → 1 ≤ on C
 top_there C cpu f t = let e = pop_on C cpu f t f in let one : flag (f == f) ≡ 1 = ap flag (equal f f refl) in omega arith
 
 pub told : {A : Type 0} (plan : Plan) (m : Meaning A) (e : Event) (S : State A) → Stands plan S → Stands plan (counted m e S)
-told plan m e S st = record { states = st.states; stands = λ f more. let k = st.stands f more in record { reached = k.reached; simulates = k.simulates; grips = k.grips; has = k.has; waits = k.waits; locks = k.locks; began = k.began }; off = st.off; alone = λ f g x ft gt fg gg. st.alone f g x ft gt (record { request = fg.request; has = fg.has; same = fg.same; in_hand = fg.in_hand }) (record { request = gg.request; has = gg.has; same = gg.same; in_hand = gg.in_hand }) }
+told plan m e S st = record { states = st.states; stands = λ f more. let k = st.stands f more in record { reached = k.reached; simulates = k.simulates; grips = k.grips; has = k.has; waits = k.waits; locks = k.locks; began = k.began; own = k.own }; off = st.off; alone = λ f g x ft gt fg gg. st.alone f g x ft gt (record { request = fg.request; has = fg.has; same = fg.same; in_hand = fg.in_hand }) (record { request = gg.request; has = gg.has; same = gg.same; in_hand = gg.in_hand }) }
 
 -- a step that changes nothing but its frame
 frame_event : {A : Type 0} (plan : Plan) (m : Meaning A) (S : State A) (e : Event) (cpu : ℕ) (f : ℕ) (step : Frame → Frame) → top S.cpus cpu ≡ Some f → deeds plan S e ≡ by_top S cpu (λ g frame. GoOn (frame_id g) (step frame) ∷ [])
@@ -182,7 +182,7 @@ frame_event {A} plan m S e cpu f step t ds st w alike idle =
     let same : deeds plan S e ≡ GoOn (frame_id f) next ∷ [] = ds ∙ by_its_top S cpu f (λ g frame. GoOn (frame_id g) (step frame) ∷ []) t in
     told plan m e (do_deeds plan (deeds plan S e) S)
     (subst (λ es. Stands plan (do_deeds plan es S)) (sym same)
-    (inside_stands plan S (do_deed plan (GoOn (frame_id f) next) S) f next st (goes_on_frames plan S f next) (top_there S.cpus cpu f t) refl refl w alike idle))
+    (inside_stands plan S (do_deed plan (GoOn (frame_id f) next) S) f next st (goes_on_frames plan S f next) (top_there S.cpus cpu f t) refl refl refl w alike idle))
 
 local_of : (i : Intent) → shape i ≡ 0 → (c : Change) × (next : ℕ) × (i ≡ intent.Local c next)
 local_of (intent.Local c next) h = (c, next, refl)

@@ -1,5 +1,5 @@
 -- What a callback has of its request stays, whatever others do: no deed but those on the request by its owner takes it away.
-use Rattle.std.proofs.Common.{if◌then◌else◌, ◌≡◌, ◌≢◌, ℕ, ◌==◌, ◌<◌, ◌≤◌, Bool, true, false, ◌&&◌, ◌||◌, List, [], ◌∷◌, ◌⊎◌, inl, inr, is_some, is_none, length, count_by, map, fold, refl, sym, ap, subst, arith}
+use Rattle.std.proofs.Common.{if◌then◌else◌, ◌≡◌, ◌≢◌, ℕ, ◌==◌, ◌<◌, ◌≤◌, Bool, true, false, ◌&&◌, ◌||◌, List, [], ◌∷◌, ◌⊎◌, inl, inr, is_some, is_none, length, count_by, map, fold, refl, sym, ap, subst, ◌∙◌, arith}
 use Rattle.std.specs.Prelude.{⊤}
 use Rattle.std.proofs.lemmas.Bool.{cases_Bool}
 use Rattle.std.proofs.lemmas.List.{length-map}
@@ -64,9 +64,11 @@ pub record Later (p q : Request) : Type 0 where
   pub owned : Owned p → Owned q
   pub cancelable : Cancelable p → Cancelable q ⊎ Spent q
   pub spent : Spent p → Spent q
+  -- who owns it owns it on, from the same queue
+  pub rests : is_owned p.place ≡ true → is_none p.info.origin ≡ false → (is_owned q.place ≡ true) × (q.info.origin ≡ p.info.origin)
 
 pub later_same : (p : Request) → Later p p
-later_same p = record { owned = λ h. h; cancelable = λ h. inl h; spent = λ h. h }
+later_same p = record { owned = λ h. h; cancelable = λ h. inl h; spent = λ h. h; rests = λ own came. (own, refl) }
 
 pub later_then : (p q r : Request) → Later p q → Later q r → Later p r
 later_then p q r h k = record {
@@ -76,6 +78,7 @@ later_then p q r h k = record {
     | inr y ↦ inr (k.spent y)
   ];
   spent = λ x. k.spent (h.spent x);
+  rests = λ own came. let one = h.rests own came in let two = k.rests one.0 (ap is_none one.1 ∙ came) in (two.0, two.1 ∙ one.1);
 }
 
 -- a request that nobody owns, and that isn't done
@@ -104,6 +107,7 @@ loose_moves q p l = record {
   owned = λ h. absurd (loose_owned q true l h.owned);
   cancelable = λ h. absurd (loose_owned q true l h.owned);
   spent = still_over q p l;
+  rests = λ own came. absurd (loose_owned q true l own);
 }
 
 unarmed_stays : (k : Mark) → is_armed k ≡ false → is_armed (mark_cancelled k) ≡ false
@@ -123,6 +127,7 @@ cancels_later q = record {
   owned = λ h. record { owned = h.owned; off = unarmed_stays q.info.mark h.off; came = h.came };
   cancelable = λ h. inr (record { off = never_marked q.info.mark; over = inl refl });
   spent = λ h. record { off = never_marked q.info.mark; over = inl refl };
+  rests = λ own came. (own, refl);
 }
 
 due_unmarked : (k : Mark) → is_due k ≡ true → (is_marked k ≡ false) × (is_armed k ≡ true)
@@ -136,6 +141,7 @@ taken_later q d = let is = due_unmarked q.info.mark d in record {
   owned = λ h. absurd (let no = h.off in let yes = is.1 in let z : ⊥ = cc in z);
   cancelable = λ h. absurd (let no = h.marked in let yes = is.0 in let z : ⊥ = cc in z);
   spent = λ h. record { off = refl; over = h.over };
+  rests = λ own came. (own, refl);
 }
 
 unmarked_by : (q : Request) (b : Bool) → is_marked q.info.mark ≡ b → b ≡ false → Later q (if b then with_mark marks.Unmarked q else q)
@@ -148,6 +154,7 @@ forgotten_by q true e = record {
   owned = λ h. absurd (not_over q e h.owned h.came);
   cancelable = λ h. absurd (not_over q e h.owned h.came);
   spent = λ h. record { off = refl; over = inr refl };
+  rests = λ own came. absurd (not_over q e own came);
 }
   where
     not_done : (p : Place) → is_owned p ≡ true → is_done p ≡ false

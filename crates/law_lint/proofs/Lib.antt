@@ -22,4 +22,13 @@ mod Sane
 mod Begins
 mod Sound
 mod LockFaults
-mod Unstopped
+mod Scripts
+mod Flags
+mod Owning
+mod Resting
+mod Calming
+mod Unsent
+mod Around
+mod StageCalms
+mod Acknowledging
+mod Starting

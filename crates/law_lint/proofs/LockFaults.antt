@@ -48,7 +48,6 @@ use Rattle.wdf_lint.specs.Steps.{interrupt_in, is_free, is_in, is_of_interrupt, 
 use Rattle.wdf_lint.specs.Walks.{IsClean}
 use Rattle.law_free_runs.specs.FreeRuns.{IsFreeRun}
 use Rattle.law_free_runs.proofs.FreeStates.{FreeState}
-use Rattle.law_lint.specs.Faults.{is_of_locks}
 use Rattle.law_lint.proofs.Dids.{call_names}
 use Rattle.law_lint.proofs.Events.{owns, same_there, top_there}
 use Rattle.law_lint.proofs.Faults.{Calls, calls, rule_off}
@@ -348,6 +347,13 @@ calls_free {A} plan resolved clean run free n k x line at is =
         let f : HasFault plan (free.states n) k.0 x = faulted plan m (free.states n) k x line found.0 found.2 (owns plan m (free.states n) k.0 found.0 found.1) (of_call x is).2 in
         let there = top_there (free.states n).cpus k.0 f.acts.frame f.acts.top in
         lock_off plan (free.states n) k.0 f.acts.frame (st.stands.states f.acts.frame) resolved clean st.state (st.stands.stands f.acts.frame there) f.intent f.acts.about x is f.first f.holds
+
+-- a fault of locks: 11, 12 and 13
+abbrev pub is_of_locks : Fault → Bool
+is_of_locks fault.LockHeldAlready = true
+is_of_locks fault.LockNotHeld = true
+is_of_locks fault.ReturnHoldingLock = true
+is_of_locks _ = false
 
 pub locks_are_kept : {A : Type 0} (plan : Plan) (run : List Event) (n : ℕ) (k : Cpu) (x : Fault) (line : ℕ) → IsResolved plan → IsClean plan → IsFreeRun A plan run → slice_get run n ≡ Some (event.Fault k x line) → is_of_locks x ≡ false
 locks_are_kept plan run n k fault.LockHeldAlready line resolved clean free at = absurd (calls_free plan resolved clean run free n k fault.LockHeldAlready line at Twice)

@@ -79,7 +79,7 @@ is_owners_call _ = false
 abbrev pub is_owners_event : Event → Bool
 is_owners_event e = is_completion e || first_part is_owners_call e
 
-or_right : (a b : Bool) → b ≡ true → (a || b) ≡ true
+pub or_right : (a b : Bool) → b ≡ true → (a || b) ≡ true
 or_right true b h = refl
 or_right false b h = h
 
@@ -108,7 +108,7 @@ owners_event e (SendRequest r t forget) o h = or_right (is_completion e) (first_
 owners_event e (CompleteRequest r) o h = or_either (is_completion e) (calls call.WdfRequestComplete e) (first_part is_owners_call e) h (λ k. calls_among call.WdfRequestComplete is_owners_call e refl k)
 owners_event e _ o h = absurd (let z : ⊥ = cc in z)
 
-not_owners : (e : Event) → is_owners_event e ≡ false → (d : Deed) → may_do e d ≡ true → not (is_owners d) ≡ true
+pub not_owners : (e : Event) → is_owners_event e ≡ false → (d : Deed) → may_do e d ≡ true → not (is_owners d) ≡ true
 not_owners e off d h = by (is_owners d) refl
   where
     by : (b : Bool) → is_owners d ≡ b → not b ≡ true

@@ -22,7 +22,12 @@ use Rattle.wdf_model.specs.Ids.{frame_id, object_id}
 use Rattle.wdf_model.specs.Plans.{declares}
 use Rattle.wdf_model.specs.parts.Cpus.{frame_of}
 use Rattle.wdf_model.specs.parts.Control.{accepts, is_purged, mode_of}
-use Rattle.wdf_model.specs.parts.Requests.{Requests, is_cancelled, mark_answer, mark_of, request_of}
+use Rattle.wdf_model.specs.parts.Power.{Power}
+use Rattle.wdf_model.specs.parts.Requests.{Requests, is_cancelled, mark_answer, mark_of, origin_of, request_of}
+use Rattle.std.specs.List.{list_all}
+use Rattle.wdf_base.specs.Callbacks.{row_of}
+use Rattle.wdf_base.specs.Same.{same_call_kind}
+use Rattle.wdf_model.proofs.Tests.{both, both_left, both_right}
 use Rattle.wdf_model.specs.State.{State, object_in}
 use Rattle.wdf_model.specs.declared.deed.Deed.{Deed}
 use Rattle.wdf_model.specs.declared.deed.Deed.TheVariants.{Forward, GiveBack, GoOn, MarkRequest, Requeue, SendRequest}
@@ -40,7 +45,7 @@ use Rattle.law_machine_counts.proofs.StepStates.{fit_before, in_turn}
 use Rattle.wdf_lint.specs.declared.state.Abstract.{Abstract}
 use Rattle.wdf_lint.specs.declared.state.Hold.{Hold}
 use Rattle.wdf_lint.specs.declared.state.Hold.TheVariants as hold
-use Rattle.wdf_lint.specs.Steps.{Way, is_own_or_marked, is_request_word, node_of, rule_of_call, rule_of_giving, rule_of_marking, unless, ways}
+use Rattle.wdf_lint.specs.Steps.{Way, is_own_or_marked, is_request_word, is_stop, node_of, rule_of_call, rule_of_giving, rule_of_marking, unless, ways}
 use Rattle.wdf_lint.specs.Walks.{IsClean, IsIn, IsReached}
 use Rattle.law_lint.proofs.Acting.{calling, giving_owns, marking_owns, on_it, own_argument}
 use Rattle.law_lint.proofs.Calls.{Goes, GripOf, InHand, complete_goes, forward_goes, mark_goes, requeue_goes, send_goes, unmark_marked_goes, unmark_owned_goes}
@@ -49,7 +54,11 @@ use Rattle.law_lint.proofs.Grips.{LaterAt}
 use Rattle.law_lint.proofs.Others.{AllApart, deeds_later}
 use Rattle.law_lint.proofs.Spent.{StaysSpent, deeds_spent}
 use Rattle.law_lint.proofs.Sane.{AllSane, AllSaneDeeds, deeds_sane}
-use Rattle.law_lint.proofs.Stands.{FrameGoes, FrameStands, Grasps, Stands, Stays, goes_stands, grip_later, hand_before, reaches}
+use Rattle.law_lint.proofs.Stands.{FrameGoes, FrameStands, Grasps, Stands, Stays, goes_stands, reaches}
+use Rattle.law_lint.proofs.Calming.{one_on_queue}
+use Rattle.law_lint.proofs.Flags.{FlagsKept}
+use Rattle.law_lint.proofs.Owning.{Guarded, OwnAs, Stopping, grip_later, hand_before, hand_origin, has_origin, own_alike, stopping_later}
+use Rattle.law_lint.proofs.Resting.{all_calm, deeds_flags, is_flagging, none_flagging}
 use Rattle.law_lint.proofs.Events.{answered_rest, top_there, told}
 use Rattle.law_lint.proofs.Faults.{Calls, calls, holds_so, rule_off}
 use Rattle.law_lint.proofs.Frames.{Simulates}
@@ -176,17 +185,26 @@ record StaysAt (R U : Requests) (x : ℕ) (h : Hold) : Type 0 where
   pub grip : GripOf h (request_of U x)
   pub within : x < length U.all
   pub before : InHand h U x → InHand h R x
+  pub origin : InHand h U x → origin_of U x ≡ origin_of R x
 
 at_later : (R U : Requests) (x : ℕ) (h : Hold) → LaterAt x R U → GripOf h (request_of R x) → x < length R.all → StaysAt R U x h
-at_later R U x h l g old = record { grip = grip_later h (request_of R x) (request_of U x) l.later g; within = let long = l.long in omega arith; before = λ i. hand_before h R U x l.later g i }
+at_later R U x h l g old = record { grip = grip_later h (request_of R x) (request_of U x) l.later g; within = let long = l.long in omega arith; before = λ i. hand_before h R U x l.later g i; origin = λ i. hand_origin h R U x l.later g i }
 
 -- one that hasn't the request in its hands
 at_spent : (R U : Requests) (x : ℕ) (h : Hold) → StaysSpent x R U → GripOf h (request_of R x) → x < length R.all → (InHand h R x → ⊥) → StaysAt R U x h
 at_spent R U x hold.Own s g old free = absurd (free tt)
 at_spent R U x hold.Marked s (inl c) old free = absurd (free c.marked)
-at_spent R U x hold.Marked s (inr p) old free = record { grip = inr (s.spent p); within = let long = s.long in omega arith; before = λ i. absurd (let now = s.spent p in let off = now.off in let q : ⊥ = cc in q) }
-at_spent R U x hold.Away s g old free = record { grip = tt; within = let long = s.long in omega arith; before = λ i. i }
-at_spent R U x hold.Stop s g old free = record { grip = tt; within = let long = s.long in omega arith; before = λ i. i }
+at_spent R U x hold.Marked s (inr p) old free = record { grip = inr (s.spent p); within = let long = s.long in omega arith; before = λ i. absurd (let now = s.spent p in let off = now.off in let q : ⊥ = cc in q); origin = λ i. absurd (let now = s.spent p in let off = now.off in let q : ⊥ = cc in q) }
+at_spent R U x hold.Away s g old free = record { grip = tt; within = let long = s.long in omega arith; before = λ i. i; origin = λ i. absurd i }
+at_spent R U x hold.Stop s g old free = record { grip = tt; within = let long = s.long in omega arith; before = λ i. i; origin = λ i. absurd i }
+
+left_all : (p : Deed → Bool) (ds es : List Deed) → list_all p (ds ++ es) ≡ true → list_all p ds ≡ true
+left_all p [] es h = refl
+left_all p (d ∷ ds) es h = both (p d) (list_all p ds) (both_left (p d) (list_all p (ds ++ es)) h) (left_all p ds es (both_right (p d) (list_all p (ds ++ es)) h))
+
+pub ways_none : (k : CallKind) → has_ways k ≡ true → same_call_kind k call.WdfRequestStopAcknowledge ≡ false
+ways_none call.WdfRequestStopAcknowledge h = absurd (let z : ⊥ = cc in z)
+ways_none _ h = refl
 
 -- ---- the event
 
@@ -263,6 +281,9 @@ owner_keeps {A} plan m S k c v clean row h free st = (
     requests_ : U.requests ≡ (do_deeds plan o.deeds S).requests
     requests_ = ap (λ es. (do_deeds plan es S).requests) same ∙ ap (λ (T : State A). T.requests) (in_turn plan ds (GoOn (frame_id f) next ∷ []) S) ∙ ap (λ es. (do_deeds plan es S).requests) alone
 
+    power_ : U.power ≡ (do_deeds plan o.deeds S).power
+    power_ = ap (λ es. (do_deeds plan es S).power) same ∙ ap (λ (T : State A). T.power) (in_turn plan ds (GoOn (frame_id f) next ∷ []) S) ∙ ap (λ es. (do_deeds plan es S).power) alone
+
     fits_first : all_fit plan o.deeds S ≡ true
     fits_first = subst (λ es. all_fit plan es S ≡ true) alone fits_
 
@@ -303,6 +324,23 @@ owner_keeps {A} plan m S k c v clean row h free st = (
     one_request : (q : Handle) → (frame_of U.cpus f).request ≡ Some q → q.id.0 ≡ object_in c.a
     one_request q has = let e : Some q ≡ Some request.0 = sym has ∙ now ∙ request.1 in let is : q ≡ request.0 = cc in ap (λ (x : Handle). x.id.0) is ∙ sym at_it
 
+    -- what it still has is of its queue
+    own_ : OwnAs plan U.requests U.power frame b
+    own_ = record {
+      from = λ off r has i.
+          let e : r.id.0 ≡ object_in c.a = one_request r (now ∙ has) in
+          let hand : InHand w.hold (do_deeds plan o.deeds S).requests (object_in c.a) = subst (λ (R : Requests). InHand w.hold R (object_in c.a)) requests_ (subst (λ n. InHand w.hold U.requests n) e (subst (λ q. InHand q U.requests r.id.0) went.hold i)) in
+          let old = fs.own.from off r has (subst (λ n. InHand a.hold S.requests n) (sym e) (go.goes.before hand)) in
+          let kept : origin_of U.requests r.id.0 ≡ origin_of S.requests r.id.0 = subst (λ n. origin_of U.requests n ≡ origin_of S.requests n) (sym e) (ap (λ (R : Requests). origin_of R (object_in c.a)) requests_ ∙ go.goes.origin hand) in
+          record { origin = kept ∙ old.origin; lock = old.lock };
+      stopping = λ guard is. absurd (let no = go.goes.not_stop in let yes : is_stop w.hold ≡ true = subst (λ q. is_stop q ≡ true) went.hold is in let q : ⊥ = cc in q);
+    }
+
+    -- the call neither acknowledges nor advances power
+    calm_ : list_all (λ d. not (is_flagging d)) o.deeds ≡ true
+    calm_ = left_all (λ d. not (is_flagging d)) o.deeds (GoOn (frame_id f) next ∷ [])
+        (ap (λ es. list_all (λ d. not (is_flagging d)) (es ++ GoOn (frame_id f) next ∷ [])) (sym alone) ∙ ap (list_all (λ d. not (is_flagging d))) (sym same) ∙ none_flagging plan S (event.Did k c v) (ways_none c.kind row) refl)
+
     new : FrameStands plan U f b
     new = record {
       reached = subst (λ n. IsReached plan n b) (sym (ap (λ (x : Frame). x.script) goes_.here ∙ (answered_rest plan frame v).script)) (reaches plan frame.script a b fs.reached went.is_in);
@@ -315,6 +353,7 @@ owner_keeps {A} plan m S k c v clean row h free st = (
       waits = λ p e. absurd (let none : (frame_of U.cpus f).pending ≡ None = ap (λ (x : Frame). x.pending) goes_.here in let q : ⊥ = cc in q);
       locks = subst (λ (x : Frame). HeldAs plan U.locks f x.variables b) (sym goes_.here) (held_assigned plan U.locks f (called plan frame.script a s.kind (node_of plan s.x)) frame b next went.assigned went.interrupts locks_.now);
       began = began_alike plan frame (frame_of U.cpus f) (subst (Alike frame) (sym goes_.here) (answered_rest plan frame v)) fs.began;
+      own = own_alike plan U.requests U.power frame (frame_of U.cpus f) b (subst (Alike frame) (sym goes_.here) (answered_rest plan frame v)) own_;
     }
 
     shrinks : (x : ℕ) → Grasps U f b x → Grasps S f a x
@@ -340,8 +379,40 @@ owner_keeps {A} plan m S k c v clean row h free st = (
           ]
         ]
 
-    stay : (g : ℕ) → g ≢ f → 1 ≤ on S.cpus g → Stays S U g (st.states g)
+    -- an EvtIoStop that may acknowledge has another request: the two queues' scopes keep them apart
+    own_other : (g : ℕ) → g ≢ f → (more : 1 ≤ on S.cpus g) → Guarded plan (frame_of S.cpus g).script → (t : Stopping S.requests S.power (frame_of S.cpus g) (st.states g).acknowledged) → AllApart plan o.deeds S t.request.id.0
+    own_other g n more guard t = elim (one_or_two t.request.id.0 (object_in c.a)) [
+      | inr apart ↦ go.others t.request.id.0 apart
+      | inl e ↦ elim go.own [
+        | inr all ↦ all t.request.id.0
+        | inl mine ↦ absurd (
+            let from = fs.own.from guard.sends request.0 request.1 (subst (λ q. InHand a.hold S.requests q) at_it mine) in
+            let queues : Some (frame_of S.cpus g).object.id.0 ≡ Some frame.object.id.0 = sym t.origin ∙ ap (origin_of S.requests) (e ∙ at_it) ∙ from.origin in
+            n (one_on_queue plan S free g f more there ((st.stands g more).began.queue guard.scoped) (ap (λ q. (row_of q).lock) t.calls) from.lock (same_number queues)))
+      ]
+    ]
+      where
+        same_number : {i j : ℕ} → Some i ≡ Some j → j ≡ i
+        same_number {i} {j} e = cc
+
+    stopping_other : (g : ℕ) → g ≢ f → 1 ≤ on S.cpus g → Guarded plan (frame_of S.cpus g).script → (t : Stopping S.requests S.power (frame_of S.cpus g) (st.states g).acknowledged) → Stopping U.requests U.power (frame_of S.cpus g) (st.states g).acknowledged
+    stopping_other g n more guard t =
+        let x : ℕ = t.request.id.0 in
+        let old : x < length S.requests.all = ((st.stands g more).grips t.request t.has).1 in
+        let apart : AllApart plan o.deeds S x = own_other g n more guard t in
+        let flags : FlagsKept true S.power (do_deeds plan o.deeds S).power x =
+        deeds_flags plan true o.deeds S x fits_first free.places old t.owned (has_origin (request_of S.requests x).info.origin (frame_of S.cpus g).object.id.0 t.origin) apart (all_calm plan true o.deeds S x calm_) in
+        stopping_later S.requests U.requests S.power U.power (frame_of S.cpus g) (st.states g).acknowledged (st.states g).acknowledged true t (λ e. (refl, e)) (later x old apart).later (subst (λ (P : Power). FlagsKept true S.power P x) (sym power_) flags)
+
+    stay : (g : ℕ) → g ≢ f → 1 ≤ on S.cpus g → Stays plan S U g (st.states g)
     stay g n more = record {
+      own = record {
+        from = λ off q has i.
+            let at = at_other g n more q has in
+            let old = (st.stands g more).own.from off q has (at.before i) in
+            record { origin = at.origin i ∙ old.origin; lock = old.lock };
+        stopping = λ guard is. stopping_other g n more guard ((st.stands g more).own.stopping guard is);
+      };
       grips = λ q has. let at = at_other g n more q has in (at.grip, at.within);
       before = λ q has i. (at_other g n more q has).before i;
     }

@@ -2,6 +2,7 @@
 use Rattle.std.proofs.Common.{if◌then◌else◌, ◌≡◌, ℕ, ◌+◌, ◌==◌, ◌<◌, ◌≤◌, nat_lt, Bool, true, false, not, ◌&&◌, ◌||◌, List, [], ◌∷◌, ◌⊎◌, inl, inr, Option, Some, None, length, slice_get, refl, sym, ap, subst, ◌∙◌, arith}
 use Rattle.std.specs.List.{list_all}
 use Rattle.wdf_base.specs.Meaning.{Meaning}
+use Rattle.wdf_base.specs.Resolved.{IsResolved}
 use Rattle.wdf_base.specs.declared.plan.Plan.{Plan}
 use Rattle.wdf_base.specs.declared.ids.Cpu.{Cpu}
 use Rattle.wdf_base.specs.declared.ids.Handle.{Handle}
@@ -30,7 +31,8 @@ use Rattle.wdf_model.specs.rules.Posts.{arrival_info, arrival_place, is_data, pl
 use Rattle.wdf_model.specs.rules.Steps.{after, deeds, may}
 use Rattle.wdf_model.proofs.Tests.{both, both_left, both_right}
 use Rattle.law_machine_base.proofs.FitsOfEvents.{event_fits}
-use Rattle.law_machine_deeds.specs.MayDo.{is_request, may_do, posts}
+use Rattle.law_machine_deeds.specs.MayDo.{calls, is_request, may_do, posts}
+use Rattle.law_machine_deeds.proofs.Passing.{event_passes}
 use Rattle.law_machine_deeds.proofs.Walk.{all_pass, event_may}
 use Rattle.law_machine_counts.proofs.StepStates.{StepsIn}
 use Rattle.law_machine_counts.proofs.StepsOverRuns.{none_yet}
@@ -73,10 +75,14 @@ use Rattle.wdf_base.specs.Lives.{is_live}
 use Rattle.wdf_base.specs.Places.{is_sent}
 use Rattle.law_machine_base.proofs.OwnEvents.{waiting_tells}
 use Rattle.law_lint.proofs.Begins.{start_stands}
-use Rattle.law_lint.proofs.Dids.{has_ways, plain_stands, stop_none, stop_stands, woke_stands}
+use Rattle.law_lint.proofs.Acknowledging.{stop_asks, stop_none, stop_stands}
+use Rattle.law_lint.proofs.Around.{Around, around_event, around_opening, around_tick}
+use Rattle.law_lint.proofs.Dids.{has_ways, plain_stands, woke_stands}
+use Rattle.law_lint.proofs.Flags.{AllAskDeeds, AllAsked, all_unasking, deeds_asked, is_acknowledging, none_acknowledging}
 use Rattle.law_lint.proofs.Events.{Acts, Does, Faults, Own, Wakes, local_stands, log_stands, owns, register_stands, same_there, spend_stands, top_there}
 use Rattle.law_lint.proofs.Framework.{cleanup_stands, closing_unarmed, completion_stands, destroy_stands, post_stands, stage_stands, tick_stands}
-use Rattle.law_lint.proofs.Owners.{owner_keeps}
+use Rattle.law_lint.proofs.Owners.{owner_keeps, ways_none}
+use Rattle.law_lint.proofs.Resting.{no_acknowledge}
 use Rattle.law_lint.proofs.Waits.{end_stands, fault_stands, park_stands, unpark_stands, waiting_stands, waits_for_none}
 use Rattle.wdf_model.proofs.FrameCounts.{none_or_some, on}
 
@@ -118,6 +124,9 @@ pub record Standing {A : Type 0} (plan : Plan) (S : State A) : Type 0 where
   pub stands : Stands plan S
   pub sane : AllSane S.requests
   pub state : FreeState plan S
+  pub around : Around plan S
+  -- what is acknowledged was asked to stop
+  pub asked : IsResolved plan → AllAsked S.power
 
 -- no frame has the next number
 next_free : {A : Type 0} (S : State A) → StepsIn S.number S.number S → on S.cpus (S.number + 1) ≡ 0
@@ -127,15 +136,22 @@ next_free S h = elim (none_or_some (on S.cpus (S.number + 1))) [
 ]
 
 -- the requests and what keeps them, after an event
-standing_by : {A : Type 0} (plan : Plan) (m : Meaning A) (S : State A) (e : Event) → may plan m S e ≡ true → Standing plan S → Stands plan (after plan m S e) → AllSane (do_deeds plan (deeds plan S e) S).requests → Standing plan (after plan m S e)
-standing_by plan m S e h k stands sane = record {
+standing_by : {A : Type 0} (plan : Plan) (m : Meaning A) (S : State A) (e : Event) → may plan m S e ≡ true → Standing plan S → Stands plan (after plan m S e) → AllSane (do_deeds plan (deeds plan S e) S).requests → (IsResolved plan → AllAskDeeds plan (deeds plan S e) S)
+    → Standing plan (after plan m S e)
+standing_by plan m S e h k stands sane asks = record {
   stands = stands;
   sane = sane;
   state = event_state plan m S e h k.state;
+  around = around_event plan m S e h k.state k.around;
+  asked = λ resolved. deeds_asked plan (deeds plan S e) S (asks resolved) (k.asked resolved);
 }
 
+-- an event that isn't an acknowledgement
+unasking : {A : Type 0} (plan : Plan) (S : State A) (e : Event) → calls call.WdfRequestStopAcknowledge e ≡ false → IsResolved plan → AllAskDeeds plan (deeds plan S e) S
+unasking plan S e off resolved = all_unasking plan (deeds plan S e) S (event_passes (λ d. not (is_acknowledging d)) plan S e (none_acknowledging e off))
+
 quiet_standing : {A : Type 0} (plan : Plan) (m : Meaning A) (S : State A) (e : Event) → may plan m S e ≡ true → is_owners_event e ≡ false → posts is_request e ≡ false → Standing plan S → Stands plan (after plan m S e) → Standing plan (after plan m S e)
-quiet_standing plan m S e h off no_post k stands = standing_by plan m S e h k stands (event_sane plan S e off no_post (event_fits plan m S e h) k.sane)
+quiet_standing plan m S e h off no_post k stands = standing_by plan m S e h k stands (event_sane plan S e off no_post (event_fits plan m S e h) k.sane) (unasking plan S e (no_acknowledge e off))
 
 rest_plain : (k : CallKind) → has_ways k ≡ false → same_call_kind k call.WdfRequestStopAcknowledge ≡ false → is_owners_call k ≡ false
 rest_plain call.WdfRequestComplete h s = absurd (let z : ⊥ = cc in z)
@@ -160,11 +176,12 @@ both_all p q r h (d ∷ ds) a b = both (r d) (list_all r ds) (h d (both_left (p 
 
 did_standing : {A : Type 0} (plan : Plan) (m : Meaning A) (S : State A) (k : Cpu) (c : Call) (v : Value) → IsClean plan → may plan m S (event.Did k c v) ≡ true → Standing plan S → (b s : Bool) → has_ways c.kind ≡ b → same_call_kind c.kind call.WdfRequestStopAcknowledge ≡ s
     → Standing plan (after plan m S (event.Did k c v))
-did_standing plan m S k c v clean h st true s e f = let o = owner_keeps plan m S k c v clean e h st.state st.stands in standing_by plan m S (event.Did k c v) h st o.0 (o.1 st.sane)
+did_standing plan m S k c v clean h st true s e f = let o = owner_keeps plan m S k c v clean e h st.state st.stands in standing_by plan m S (event.Did k c v) h st o.0 (o.1 st.sane) (unasking plan S (event.Did k c v) (ways_none c.kind e))
 did_standing plan m S k c v clean h st false true e f =
     standing_by plan m S (event.Did k c v) h st (stop_stands plan m S k c v clean f h st.state st.stands)
     (deeds_sane plan (deeds plan S (event.Did k c v)) S (event_fits plan m S (event.Did k c v) h) (all_ask_none plan (deeds plan S (event.Did k c v)) S
-    (both_all (may_do (event.Did k c v)) (λ d. not (is_owners d)) (λ d. not (is_asking d)) (λ d a b. neither (event.Did k c v) d refl a b) (deeds plan S (event.Did k c v)) (event_may plan S (event.Did k c v)) (stop_none plan m S k c v clean f h st.stands))) st.sane)
+    (both_all (may_do (event.Did k c v)) (λ d. not (is_owners d)) (λ d. not (is_asking d)) (λ d a b. neither (event.Did k c v) d refl a b) (deeds plan S (event.Did k c v)) (event_may plan S (event.Did k c v)) (stop_none plan m S k c v clean f h st.state st.stands))) st.sane)
+    (stop_asks plan m S k c v clean f h st.state st.stands)
 did_standing plan m S k c v clean h st false false e f =
     let off : is_owners_call c.kind ≡ false = rest_plain c.kind e f in
     quiet_standing plan m S (event.Did k c v) h off refl st (plain_stands plan m S k c v clean e off h st.state st.stands)
@@ -174,7 +191,7 @@ waiting_off plan m S k c h = (waits_for_none plan S c.kind c.count c.a c.b c.c (
 
 -- each event keeps it
 pub event_standing : {A : Type 0} (plan : Plan) (m : Meaning A) (S : State A) (e : Event) → IsClean plan → may plan m S e ≡ true → Standing plan S → Standing plan (after plan m S e)
-event_standing plan m S (event.Start k c o r) clean h st = quiet_standing plan m S (event.Start k c o r) h refl refl st (start_stands plan m S k c o r h (next_free S st.state.steps) st.state st.sane st.stands)
+event_standing plan m S (event.Start k c o r) clean h st = quiet_standing plan m S (event.Start k c o r) h refl refl st (start_stands plan m S k c o r h (next_free S st.state.steps) st.state st.sane st.around st.asked st.stands)
 event_standing plan m S (event.Local k line) clean h st = quiet_standing plan m S (event.Local k line) h refl refl st (local_stands plan m S k line h st.stands)
 event_standing plan m S (event.Log k v) clean h st = quiet_standing plan m S (event.Log k v) h refl refl st (log_stands plan m S k v h st.stands)
 event_standing plan m S (event.Spend k n) clean h st = quiet_standing plan m S (event.Spend k n) h refl refl st (spend_stands plan m S k n h st.stands)
@@ -186,14 +203,15 @@ event_standing plan m S (event.Park k f) clean h st = quiet_standing plan m S (e
 event_standing plan m S (event.Unpark k f) clean h st = quiet_standing plan m S (event.Unpark k f) h refl refl st (unpark_stands plan m S k f h st.state.steps.framed.once st.stands)
 event_standing plan m S (event.End k c o v) clean h st = quiet_standing plan m S (event.End k c o v) h refl refl st (end_stands plan m S k c o v h st.state st.stands)
 event_standing plan m S (event.Fault k x line) clean h st = quiet_standing plan m S (event.Fault k x line) h refl refl st (fault_stands plan m S k x line st.stands)
-event_standing plan m S (event.Stage d s i) clean h st = quiet_standing plan m S (event.Stage d s i) h refl refl st (stage_stands plan m S d s i h st.state.places st.stands)
+event_standing plan m S (event.Stage d s i) clean h st = quiet_standing plan m S (event.Stage d s i) h refl refl st (stage_stands plan m S d s i h st.state.places st.around st.stands)
 event_standing plan m S (event.Complete r s) clean h st =
     standing_by plan m S (event.Complete r s) h st (completion_stands plan m S r s h st.state.places st.stands)
-    (deeds_sane plan (CompleteRequest r.id ∷ []) S (event_fits plan m S (event.Complete r s) h) (closing_unarmed plan m S r s h (st.sane r.id.0), tt) st.sane)
+    (deeds_sane plan (CompleteRequest r.id ∷ []) S (event_fits plan m S (event.Complete r s) h) (closing_unarmed plan m S r s h (st.sane r.id.0), tt) st.sane) (unasking plan S (event.Complete r s) refl)
 event_standing plan m S (event.Cleanup o) clean h st = quiet_standing plan m S (event.Cleanup o) h refl refl st (cleanup_stands plan m S o h st.state.places st.stands)
 event_standing plan m S (event.Destroy o) clean h st = quiet_standing plan m S (event.Destroy o) h refl refl st (destroy_stands plan m S o h st.state.places st.stands)
 event_standing plan m S (event.Posted agent p answer) clean h st =
     standing_by plan m S (event.Posted agent p answer) h st (post_stands plan m S agent p answer h st.state.places st.stands) (posted_sane plan S agent p answer (event_fits plan m S (event.Posted agent p answer) h) st.sane)
+    (unasking plan S (event.Posted agent p answer) refl)
 event_standing plan m S (event.Tick time) clean h st = absurd (let z : ⊥ = cc in z)
 
 pub tick_standing : {A : Type 0} (plan : Plan) (m : Meaning A) (S : State A) (time : ℕ) → Standing plan S → Standing plan (after plan m S (event.Tick time))
@@ -201,6 +219,8 @@ tick_standing plan m S time st = record {
   stands = tick_stands plan m S time st.stands;
   sane = st.sane;
   state = tick_state plan m S time st.state;
+  around = around_tick plan m S time st.around;
+  asked = st.asked;
 }
 
 -- ---- the opening
@@ -215,6 +235,8 @@ opening_standing plan m = record {
   };
   sane = λ x. record { armed = λ a. absurd (let z : ⊥ = cc in z); sent = λ s. absurd (let z : ⊥ = cc in z) };
   state = opening_state plan m;
+  around = around_opening plan m (opening_state plan m);
+  asked = λ resolved x h. absurd (let z : ⊥ = cc in z);
 }
 
 -- ---- each place of a free run
@@ -260,7 +282,7 @@ not_owned plan S cpu f a clean st c x is q = elim is as (λ y _. call_faults (vi
   | Twice ↦ (λ h. absurd (let e = q.once in let z : ⊥ = cc in z))
 ]
 
-holds_off : {A : Type 0} (plan : Plan) (S : State A) (cpu f : ℕ) (a : Abstract) → IsClean plan → FrameStands plan S f a → (i : Intent) → intent_of plan (frame_of S.cpus f) ≡ i → (x : Fault) → IsOfOwning x → holds_of (view_of plan S cpu f) i x ≡ true → Acknowledges i × (x ≡ fault.NotOwned)
+pub holds_off : {A : Type 0} (plan : Plan) (S : State A) (cpu f : ℕ) (a : Abstract) → IsClean plan → FrameStands plan S f a → (i : Intent) → intent_of plan (frame_of S.cpus f) ≡ i → (x : Fault) → IsOfOwning x → holds_of (view_of plan S cpu f) i x ≡ true → Acknowledges i × (x ≡ fault.NotOwned)
 holds_off plan S cpu f a clean st (intent.Do c) does x is h = by (same_call_kind c.kind call.WdfRequestStopAcknowledge) refl
   where
     by : (b : Bool) → same_call_kind c.kind call.WdfRequestStopAcknowledge ≡ b → (same_call_kind c.kind call.WdfRequestStopAcknowledge ≡ true) × (x ≡ fault.NotOwned)

@@ -8,25 +8,23 @@ use Rattle.wdf_base.specs.declared.call.CallKind.TheVariants as call
 use Rattle.wdf_base.specs.declared.frame.Frame.{Frame}
 use Rattle.wdf_base.specs.declared.frame.Pending.{Pending}
 use Rattle.wdf_base.specs.declared.frame.Intent.TheVariants as intent
-use Rattle.wdf_model.specs.declared.entries.Request.{Request}
 use Rattle.wdf_model.specs.parts.Cpus.{frame_of}
 use Rattle.wdf_model.specs.parts.Requests.{Requests, request_of}
 use Rattle.wdf_model.specs.State.{State, object_in}
 use Rattle.wdf_model.specs.rules.Script.{intent_of}
 use Rattle.wdf_model.proofs.Counts.{equal, not_equal, one_or_two}
 use Rattle.wdf_lint.specs.declared.state.Abstract.{Abstract}
-use Rattle.wdf_lint.specs.declared.state.Hold.{Hold}
-use Rattle.wdf_lint.specs.declared.state.Hold.TheVariants as hold
 use Rattle.wdf_lint.specs.Steps.{is_own_or_marked, steps}
 use Rattle.wdf_lint.specs.Walks.{IsIn, IsReached}
 use Rattle.wdf_model.specs.rules.Faults.{is_release}
-use Rattle.law_lint.proofs.Began.{Alike, Began, began_alike}
+use Rattle.law_lint.proofs.Began.{Alike, Began, alike_itself, began_alike}
 use Rattle.law_lint.proofs.HeldAs.{HeldAs, held_assigned, held_later}
 use Rattle.law_lint.proofs.Holdings.{Left, left_same}
 use Rattle.law_lint.proofs.Locking.{OfKind}
 use Rattle.wdf_model.specs.parts.Locks.{Locks, held_by_call}
 use Rattle.law_lint.proofs.Frames.{Simulates, Went, went_simulates}
-use Rattle.law_lint.proofs.Grips.{Later, LaterAt}
+use Rattle.law_lint.proofs.Grips.{LaterAt}
+use Rattle.law_lint.proofs.Owning.{Calms, OwnAs, grip_later, hand_before, own_later, own_still}
 use Rattle.wdf_model.proofs.FrameCounts.{on}
 pub use Rattle.law_lint.proofs.Calls.{GripOf, InHand}
 
@@ -62,6 +60,8 @@ pub record FrameStands {A : Type 0} (plan : Plan) (S : State A) (f : ℕ) (a : A
   pub locks : HeldAs plan S.locks f (frame_of S.cpus f).variables a
   -- its script is its callback's
   pub began : Began plan (frame_of S.cpus f)
+  -- its request is of its queue, and one to be acknowledged can be
+  pub own : OwnAs plan S.requests S.power (frame_of S.cpus f) a
 
 -- a frame has a request in its hands
 pub record Grasps {A : Type 0} (S : State A) (f : ℕ) (a : Abstract) (x : ℕ) : Type 0 where
@@ -82,23 +82,6 @@ pub record Stands {A : Type 0} (plan : Plan) (S : State A) : Type 0 where
 pub reaches : (plan : Plan) (k : ℕ) (a b : Abstract) → IsReached plan k a → IsIn b (steps plan k a) → IsReached plan k b
 reaches plan k a b r is = (a ∷ r.0, (is, r.1))
 
--- ---- what others make of a request
-
-pub grip_later : (h : Hold) (p q : Request) → Later p q → GripOf h p → GripOf h q
-grip_later hold.Own p q l g = l.owned g
-grip_later hold.Marked p q l (inl c) = l.cancelable c
-grip_later hold.Marked p q l (inr s) = inr (l.spent s)
-grip_later hold.Away p q l g = tt
-grip_later hold.Stop p q l g = tt
-
--- what is in a frame's hands then was in its hands before
-pub hand_before : (h : Hold) (R U : Requests) (x : ℕ) → Later (request_of R x) (request_of U x) → GripOf h (request_of R x) → InHand h U x → InHand h R x
-hand_before hold.Own R U x l g i = tt
-hand_before hold.Marked R U x l (inl c) i = c.marked
-hand_before hold.Marked R U x l (inr s) i = absurd (let t = l.spent s in let off = t.off in let z : ⊥ = cc in z)
-hand_before hold.Away R U x l g i = i
-hand_before hold.Stop R U x l g i = i
-
 -- ---- one frame goes on, and the others stay where they are
 
 -- frame f is now this, and the others are as they were
@@ -108,14 +91,15 @@ pub record FrameGoes {A : Type 0} (S U : State A) (f : ℕ) (next : Frame) : Typ
   pub there : (x : ℕ) → on U.cpus x ≡ on S.cpus x
 
 -- of another frame: what it has of its request, and that it has no more in its hands than before
-pub record Stays {A : Type 0} (S U : State A) (g : ℕ) (a : Abstract) : Type 0 where
+pub record Stays {A : Type 0} (plan : Plan) (S U : State A) (g : ℕ) (a : Abstract) : Type 0 where
   pub grips : (r : Handle) → (frame_of S.cpus g).request ≡ Some r → GripOf a.hold (request_of U.requests r.id.0) × (r.id.0 < length U.requests.all)
   pub before : (r : Handle) → (frame_of S.cpus g).request ≡ Some r → InHand a.hold U.requests r.id.0 → InHand a.hold S.requests r.id.0
+  pub own : OwnAs plan U.requests U.power (frame_of S.cpus g) a
 
 -- a frame whose request others left alone
 pub stays_later : {A : Type 0} (plan : Plan) (S U : State A) (g : ℕ) (a : Abstract) → FrameStands plan S g a
-    → ((r : Handle) → (frame_of S.cpus g).request ≡ Some r → LaterAt r.id.0 S.requests U.requests) → Stays S U g a
-stays_later plan S U g a st later = record {
+    → ((r : Handle) → (frame_of S.cpus g).request ≡ Some r → LaterAt r.id.0 S.requests U.requests) → Calms plan (frame_of S.cpus g) a true S.power U.power → Stays plan S U g a
+stays_later plan S U g a st later calm = record {
   grips = λ r has.
       let l = later r has in
       let old = st.grips r has in
@@ -123,12 +107,14 @@ stays_later plan S U g a st later = record {
       let in_ : r.id.0 < length S.requests.all = old.1 in
       (grip_later a.hold (request_of S.requests r.id.0) (request_of U.requests r.id.0) l.later old.0, omega arith);
   before = λ r has i. hand_before a.hold S.requests U.requests r.id.0 (later r has).later (st.grips r has).0 i;
+  own = own_later plan S.requests U.requests S.power U.power (frame_of S.cpus g) a a true refl (λ e. (refl, e)) (λ r has. ((st.grips r has).0, later r has)) calm st.own;
 }
 
-moved_stands : {A : Type 0} (plan : Plan) (S U : State A) (g : ℕ) (a : Abstract) → frame_of U.cpus g ≡ frame_of S.cpus g → Left S.locks U.locks g → Stays S U g a → FrameStands plan S g a → FrameStands plan U g a
+moved_stands : {A : Type 0} (plan : Plan) (S U : State A) (g : ℕ) (a : Abstract) → frame_of U.cpus g ≡ frame_of S.cpus g → Left S.locks U.locks g → Stays plan S U g a → FrameStands plan S g a → FrameStands plan U g a
 moved_stands plan S U g a e left s st = record {
   locks = subst (λ (x : Frame). HeldAs plan U.locks g x.variables a) (sym e) (held_later plan S.locks U.locks g (frame_of S.cpus g).variables a left st.locks);
   began = subst (Began plan) (sym e) st.began;
+  own = subst (λ (x : Frame). OwnAs plan U.requests U.power x a) (sym e) s.own;
   reached = subst (λ (x : Frame). IsReached plan x.script a) (sym e) st.reached;
   simulates = subst (Simulates a) (sym e) st.simulates;
   grips = λ r has. s.grips r (sym (ap (λ (x : Frame). x.request) e) ∙ has);
@@ -136,8 +122,8 @@ moved_stands plan S U g a e left s st = record {
   waits = λ p w. subst (λ (x : Frame). Awaits plan x p) (sym e) (st.waits p (sym (ap (λ (x : Frame). x.pending) e) ∙ w));
 }
 
-grasped_before : {A : Type 0} (S U : State A) (g x : ℕ) (a : Abstract) → frame_of U.cpus g ≡ frame_of S.cpus g → Stays S U g a → Grasps U g a x → Grasps S g a x
-grasped_before S U g x a e s k =
+grasped_before : {A : Type 0} (plan : Plan) (S U : State A) (g x : ℕ) (a : Abstract) → frame_of U.cpus g ≡ frame_of S.cpus g → Stays plan S U g a → Grasps U g a x → Grasps S g a x
+grasped_before plan S U g x a e s k =
     let has : (frame_of S.cpus g).request ≡ Some k.request = sym (ap (λ (y : Frame). y.request) e) ∙ k.has in
     record {
       request = k.request;
@@ -158,7 +144,7 @@ state_there states f b x n = rw (not_equal x f n) refl
 -- the invariant after a frame goes on
 pub goes_stands : {A : Type 0} (plan : Plan) (S U : State A) (f : ℕ) (next : Frame) (b : Abstract) (st : Stands plan S) → FrameGoes S U f next → 1 ≤ on S.cpus f
     → FrameStands plan U f b → ((x : ℕ) → Grasps U f b x → Grasps S f (st.states f) x)
-    → ((g : ℕ) → g ≢ f → 1 ≤ on S.cpus g → Stays S U g (st.states g)) → ((g : ℕ) → g ≢ f → Left S.locks U.locks g) → Stands plan U
+    → ((g : ℕ) → g ≢ f → 1 ≤ on S.cpus g → Stays plan S U g (st.states g)) → ((g : ℕ) → g ≢ f → Left S.locks U.locks g) → Stands plan U
 goes_stands {A} plan S U f next b st go there new shrinks stay left = record {
   off = λ g none. (let same = go.there g in let was : on S.cpus g ≡ 0 = sym same ∙ none in elim (one_or_two g f) [
     | inl e ↦ absurd (let here : 1 ≤ on S.cpus g = subst (λ y. 1 ≤ on S.cpus y) (sym e) there in let z : ⊥ = omega arith in z)
@@ -182,16 +168,16 @@ goes_stands {A} plan S U f next b st go there new shrinks stay left = record {
       | inl e ↦
           subst (λ y. Grasps S y (st.states y) x) (sym e)
           (shrinks x (subst (λ s. Grasps U f s x) (state_here st.states f b) (subst (λ y. Grasps U y (with_state st.states f b y) x) e k)))
-      | inr n ↦ grasped_before S U g x (st.states g) (go.others g n) (stay g n was) (subst (λ s. Grasps U g s x) (state_there st.states f b g n) k)
+      | inr n ↦ grasped_before plan S U g x (st.states g) (go.others g n) (stay g n was) (subst (λ s. Grasps U g s x) (state_there st.states f b g n) k)
     ]
 
 -- ---- a step inside a frame, or one that is seen but changes no request
 
 -- the frame goes on as a walk does, and no request changes
-pub inside_stands : {A : Type 0} (plan : Plan) (S U : State A) (f : ℕ) (next : Frame) (st : Stands plan S) → FrameGoes S U f next → 1 ≤ on S.cpus f → U.requests ≡ S.requests → U.locks ≡ S.locks
+pub inside_stands : {A : Type 0} (plan : Plan) (S U : State A) (f : ℕ) (next : Frame) (st : Stands plan S) → FrameGoes S U f next → 1 ≤ on S.cpus f → U.requests ≡ S.requests → U.locks ≡ S.locks → U.power ≡ S.power
     → (w : Went (steps plan (frame_of S.cpus f).script (st.states f)) (st.states f) (frame_of S.cpus f) next)
     → Alike (frame_of S.cpus f) next → next.pending ≡ None → Stands plan U
-inside_stands {A} plan S U f next st go there same locks_ w alike idle =
+inside_stands {A} plan S U f next st go there same locks_ power w alike idle =
     let old : FrameStands plan S f (st.states f) = st.stands f there in
     let now : (frame_of U.cpus f).request ≡ (frame_of S.cpus f).request = ap (λ (x : Frame). x.request) go.here ∙ alike.request in
     goes_stands plan S U f next w.state st go there
@@ -205,6 +191,7 @@ inside_stands {A} plan S U f next st go there same locks_ w alike idle =
       locks = subst (λ (x : Frame). HeldAs plan U.locks f x.variables w.state) (sym go.here) (subst (λ (L : Locks). HeldAs plan L f next.variables w.state) (sym locks_)
           (held_assigned plan S.locks f (st.states f) (frame_of S.cpus f) w.state next w.assigned w.interrupts old.locks));
       began = began_alike plan (frame_of S.cpus f) (frame_of U.cpus f) (subst (Alike (frame_of S.cpus f)) (sym go.here) alike) old.began;
+      own = own_still plan S.requests U.requests S.power U.power (frame_of S.cpus f) (frame_of U.cpus f) (st.states f) w.state same power (subst (Alike (frame_of S.cpus f)) (sym go.here) alike) w.hold w.acknowledged old.own;
     })
     (λ x k. record {
       request = k.request;
@@ -215,27 +202,28 @@ inside_stands {A} plan S U f next st go there same locks_ w alike idle =
     (λ g n more. record {
       grips = λ r has. subst (λ (R : Requests). GripOf (st.states g).hold (request_of R r.id.0) × (r.id.0 < length R.all)) (sym same) ((st.stands g more).grips r has);
       before = λ r has i. subst (λ (R : Requests). InHand (st.states g).hold R r.id.0) same i;
+      own = own_still plan S.requests U.requests S.power U.power (frame_of S.cpus g) (frame_of S.cpus g) (st.states g) (st.states g) same power (alike_itself (frame_of S.cpus g)) refl refl (st.stands g more).own;
     })
     (λ g n. left_same S.locks U.locks g locks_)
 
 -- ---- no frame goes on
 
 -- the frames that are there were there, and are as they were; others did to requests what others may
-pub fewer_stand : {A : Type 0} (plan : Plan) (S U : State A) → Stands plan S → ((x : ℕ) → 1 ≤ on U.cpus x → (1 ≤ on S.cpus x) × (frame_of U.cpus x ≡ frame_of S.cpus x))
-    → ((x : ℕ) → x < length S.requests.all → LaterAt x S.requests U.requests)
+pub fewer_stand : {A : Type 0} (plan : Plan) (S U : State A) (st : Stands plan S) → ((x : ℕ) → 1 ≤ on U.cpus x → (1 ≤ on S.cpus x) × (frame_of U.cpus x ≡ frame_of S.cpus x))
+    → ((x : ℕ) → x < length S.requests.all → LaterAt x S.requests U.requests) → ((g : ℕ) → 1 ≤ on S.cpus g → Calms plan (frame_of S.cpus g) (st.states g) true S.power U.power)
     → ((g : ℕ) → Left S.locks U.locks g) → ((f : ℕ) → on U.cpus f ≡ 0 → held_by_call U.locks f ≡ 0) → Stands plan U
-fewer_stand {A} plan S U st same later left off = record {
+fewer_stand {A} plan S U st same later calm left off = record {
   states = st.states;
   off = off;
   stands = λ g more. let is = same g more in moved_stands plan S U g (st.states g) is.1 (left g) (stay g is.0) (st.stands g is.0);
   alone = λ g h x gt ht gg hg.
       let gs = same g gt in
       let hs = same h ht in
-      st.alone g h x gs.0 hs.0 (grasped_before S U g x (st.states g) gs.1 (stay g gs.0) gg) (grasped_before S U h x (st.states h) hs.1 (stay h hs.0) hg);
+      st.alone g h x gs.0 hs.0 (grasped_before plan S U g x (st.states g) gs.1 (stay g gs.0) gg) (grasped_before plan S U h x (st.states h) hs.1 (stay h hs.0) hg);
 }
   where
-    stay : (g : ℕ) → 1 ≤ on S.cpus g → Stays S U g (st.states g)
-    stay g more = stays_later plan S U g (st.states g) (st.stands g more) (λ r has. later r.id.0 ((st.stands g more).grips r has).1)
+    stay : (g : ℕ) → 1 ≤ on S.cpus g → Stays plan S U g (st.states g)
+    stay g more = stays_later plan S U g (st.states g) (st.stands g more) (λ r has. later r.id.0 ((st.stands g more).grips r has).1) (calm g more)
 
 -- ---- a frame begins
 
@@ -246,10 +234,10 @@ pub record FrameBegins {A : Type 0} (S U : State A) (f : ℕ) (frame : Frame) : 
 
 -- the invariant after a frame begins: what is in its hands was in no other's
 pub begins_stands : {A : Type 0} (plan : Plan) (S U : State A) (f : ℕ) (frame : Frame) (b : Abstract) (st : Stands plan S) → FrameBegins S U f frame → FrameStands plan U f b
-    → ((x : ℕ) → x < length S.requests.all → LaterAt x S.requests U.requests)
+    → ((x : ℕ) → x < length S.requests.all → LaterAt x S.requests U.requests) → ((g : ℕ) → 1 ≤ on S.cpus g → Calms plan (frame_of S.cpus g) (st.states g) true S.power U.power)
     → ((g x : ℕ) → 1 ≤ on S.cpus g → Grasps U f b x → Grasps S g (st.states g) x → ⊥)
     → ((g : ℕ) → Left S.locks U.locks g) → Stands plan U
-begins_stands {A} plan S U f frame b st k new later free left = record {
+begins_stands {A} plan S U f frame b st k new later calm free left = record {
   off = λ g none. elim (one_or_two g f) [
     | inl e ↦ let was : held_by_call S.locks g ≡ 0 = st.off g (ap (on S.cpus) e ∙ k.new) in let l = left g in let less = l.fewer in omega arith
     | inr n ↦ let is = k.others g n in let was : held_by_call S.locks g ≡ 0 = st.off g (sym is.0 ∙ none) in let l = left g in let less = l.fewer in omega arith
@@ -274,8 +262,8 @@ begins_stands {A} plan S U f frame b st k new later free left = record {
   ];
 }
   where
-    stay : (g : ℕ) → 1 ≤ on S.cpus g → Stays S U g (st.states g)
-    stay g more = stays_later plan S U g (st.states g) (st.stands g more) (λ r has. later r.id.0 ((st.stands g more).grips r has).1)
+    stay : (g : ℕ) → 1 ≤ on S.cpus g → Stays plan S U g (st.states g)
+    stay g more = stays_later plan S U g (st.states g) (st.stands g more) (λ r has. later r.id.0 ((st.stands g more).grips r has).1) (calm g more)
 
     there : (g : ℕ) → g ≢ f → 1 ≤ on U.cpus g → 1 ≤ on S.cpus g
     there g n more = let is = k.others g n in let same = is.0 in omega arith
@@ -284,4 +272,4 @@ begins_stands {A} plan S U f frame b st k new later free left = record {
     mine g x e gg = subst (λ s. Grasps U f s x) (state_here st.states f b) (subst (λ y. Grasps U y (with_state st.states f b y) x) e gg)
 
     theirs : (g x : ℕ) → (n : g ≢ f) → 1 ≤ on U.cpus g → Grasps U g (with_state st.states f b g) x → Grasps S g (st.states g) x
-    theirs g x n more gg = grasped_before S U g x (st.states g) (k.others g n).1 (stay g (there g n more)) (subst (λ s. Grasps U g s x) (state_there st.states f b g n) gg)
+    theirs g x n more gg = grasped_before plan S U g x (st.states g) (k.others g n).1 (stay g (there g n more)) (subst (λ s. Grasps U g s x) (state_there st.states f b g n) gg)

@@ -70,8 +70,11 @@ use Rattle.wdf_lint.specs.Walks.{IsReached}
 use Rattle.law_lint.proofs.Acting.{calling}
 use Rattle.law_lint.proofs.Grips.{LaterAt, at_same}
 use Rattle.law_lint.proofs.Others.{event_later, is_owners_call}
-use Rattle.law_lint.proofs.Stands.{FrameGoes, FrameStands, InHand, Stands, fewer_stand, goes_stands, grip_later, hand_before, is_on_request, stays_later}
+use Rattle.law_lint.proofs.Stands.{FrameGoes, FrameStands, InHand, Stands, fewer_stand, goes_stands, is_on_request, stays_later}
+use Rattle.law_lint.proofs.Calming.{event_calms}
 use Rattle.law_lint.proofs.Events.{top_there, told}
+use Rattle.law_lint.proofs.Flags.{flags_same}
+use Rattle.law_lint.proofs.Owning.{Calms, grip_later, hand_before, own_answered}
 use Rattle.law_lint.proofs.Frames.{Simulates}
 use Rattle.law_lint.proofs.Framework.{FramesSame}
 use Rattle.law_lint.proofs.Dids.{still_goes}
@@ -176,6 +179,7 @@ waiting_stands {A} plan m S k c h free st =
     let now : (frame_of U.cpus f).request ≡ frame.request = ap (λ (x : Frame). x.request) go.here in
     let unreleased : is_release c.kind ≡ false = waits_for_no_release plan S c.kind c.count c.a c.b c.c d.unmet in
     let left : (g : ℕ) → Left S.locks U.locks g = λ g. event_left plan S (event.Waiting k c) g refl refl unreleased in
+    let calm : (g : ℕ) → 1 ≤ on S.cpus g → Calms plan (frame_of S.cpus g) (st.states g) true S.power U.power = event_calms plan S (event.Waiting k c) st off.1 refl fit free.places in
     told plan m (event.Waiting k c) U
     (goes_stands plan S U f next (st.states f) st go there
     (record {
@@ -199,6 +203,8 @@ waiting_stands {A} plan m S k c h free st =
           };
       locks = subst (λ (x : Frame). HeldAs plan U.locks f x.variables (st.states f)) (sym go.here) (held_later plan S.locks U.locks f frame.variables (st.states f) (left f) fs.locks);
       began = began_alike plan frame (frame_of U.cpus f) (subst (Alike frame) (sym go.here) (record { script = refl; callback = refl; object = refl; request = refl })) fs.began;
+      own = own_answered plan S.requests U.requests S.power U.power frame (frame_of U.cpus f) (st.states f) (st.states f) true (subst (Alike frame) (sym go.here) (record { script = refl; callback = refl; object = refl; request = refl })) refl (λ e. (refl, e))
+          (λ r has. let g = fs.grips r has in (g.0, later r.id.0 g.1)) (calm f there) fs.own;
     })
     (λ x g.
     let has = sym now ∙ g.has in
@@ -210,7 +216,7 @@ waiting_stands {A} plan m S k c h free st =
       in_hand = subst (λ y. InHand (st.states f).hold S.requests y) g.same
           (hand_before (st.states f).hold S.requests U.requests g.request.id.0 (later g.request.id.0 grip.1).later grip.0 (subst (λ y. InHand (st.states f).hold U.requests y) (sym g.same) g.in_hand));
     })
-    (λ g n more. stays_later plan S U g (st.states g) (st.stands g more) (λ r has. later r.id.0 ((st.stands g more).grips r has).1))
+    (λ g n more. stays_later plan S U g (st.states g) (st.stands g more) (λ r has. later r.id.0 ((st.stands g more).grips r has).1) (calm g more))
     (λ g n. left g))
 
 -- ---- a frame parks, comes back, ends or has a fault
@@ -221,10 +227,11 @@ Once C = (f : ℕ) → on C f ≤ 1
 
 quiet_frames : {A : Type 0} (plan : Plan) (m : Meaning A) (S : State A) (e : Event) → FramesSame S.cpus (do_deeds plan (deeds plan S e) S).cpus
     → ((x : ℕ) → x < length S.requests.all → LaterAt x S.requests (do_deeds plan (deeds plan S e) S).requests) → ((g : ℕ) → Left S.locks (do_deeds plan (deeds plan S e) S).locks g)
-    → ((x : ℕ) → on (do_deeds plan (deeds plan S e) S).cpus x ≡ 0 → (held_by_call S.locks x ≡ 0) ⊎ (on S.cpus x ≡ 0)) → Stands plan S → Stands plan (after plan m S e)
-quiet_frames plan m S e frames later left ended st =
+    → ((x : ℕ) → on (do_deeds plan (deeds plan S e) S).cpus x ≡ 0 → (held_by_call S.locks x ≡ 0) ⊎ (on S.cpus x ≡ 0)) → (st : Stands plan S)
+    → ((g : ℕ) → 1 ≤ on S.cpus g → Calms plan (frame_of S.cpus g) (st.states g) true S.power (do_deeds plan (deeds plan S e) S).power) → Stands plan (after plan m S e)
+quiet_frames plan m S e frames later left ended st calm =
     told plan m e (do_deeds plan (deeds plan S e) S)
-    (fewer_stand plan S (do_deeds plan (deeds plan S e) S) st frames later left
+    (fewer_stand plan S (do_deeds plan (deeds plan S e) S) st frames later calm left
     (λ g none. let l = left g in let less = l.fewer in elim (ended g none) [
       | inl held ↦ omega arith
       | inr off ↦ let was = st.off g off in omega arith
@@ -233,16 +240,16 @@ quiet_frames plan m S e frames later left ended st =
 pub park_stands : {A : Type 0} (plan : Plan) (m : Meaning A) (S : State A) (k : Cpu) (f : FrameId) → may plan m S (event.Park k f) ≡ true → Stands plan S → Stands plan (after plan m S (event.Park k f))
 park_stands plan m S k f h st =
     let on_top : top S.cpus k.0 ≡ Some f.0 = top_is (top S.cpus k.0) f.0 (both_left (same_id (top S.cpus k.0) f.0) (irql S.cpus k.0 == 0) (both_left (same_id (top S.cpus k.0) f.0 && irql S.cpus k.0 == 0) (waits_on S (frame_of S.cpus f.0).pending) h)) in
-    quiet_frames plan m S (event.Park k f) (λ x more. (let e = parks (λ y. y == x) S.cpus k.0 f.0 on_top in omega arith, refl)) (λ x old. at_same x S.requests S.requests refl) (λ g. left_same S.locks S.locks g refl) (λ x none. inr (let e = parks (λ y. y == x) S.cpus k.0 f.0 on_top in omega arith)) st
+    quiet_frames plan m S (event.Park k f) (λ x more. (let e = parks (λ y. y == x) S.cpus k.0 f.0 on_top in omega arith, refl)) (λ x old. at_same x S.requests S.requests refl) (λ g. left_same S.locks S.locks g refl) (λ x none. inr (let e = parks (λ y. y == x) S.cpus k.0 f.0 on_top in omega arith)) st (λ g more r has guard is. flags_same true S.power S.power r.id.0 refl)
 
 pub unpark_stands : {A : Type 0} (plan : Plan) (m : Meaning A) (S : State A) (k : Cpu) (f : FrameId) → may plan m S (event.Unpark k f) ≡ true → Once S.cpus → Stands plan S → Stands plan (after plan m S (event.Unpark k f))
 unpark_stands plan m S k f h once st =
     let comes : may_unpark S k.0 f.0 ≡ true = both_right (is_cpu plan k) (may_unpark S k.0 f.0) h in
     let listed : contains f.0 S.cpus.parked ≡ true = both_left (contains f.0 S.cpus.parked) (is_empty_cpu S.cpus k.0) (both_left (contains f.0 S.cpus.parked && is_empty_cpu S.cpus k.0) (wait_is_over S (frame_of S.cpus f.0).pending) comes) in
-    quiet_frames plan m S (event.Unpark k f) (λ x more. (let e = unparks (λ y. y == x) S.cpus k.0 f.0 (parked_once S.cpus f.0 (once f.0) listed) in omega arith, refl)) (λ x old. at_same x S.requests S.requests refl) (λ g. left_same S.locks S.locks g refl) (λ x none. inr (let e = unparks (λ y. y == x) S.cpus k.0 f.0 (parked_once S.cpus f.0 (once f.0) listed) in omega arith)) st
+    quiet_frames plan m S (event.Unpark k f) (λ x more. (let e = unparks (λ y. y == x) S.cpus k.0 f.0 (parked_once S.cpus f.0 (once f.0) listed) in omega arith, refl)) (λ x old. at_same x S.requests S.requests refl) (λ g. left_same S.locks S.locks g refl) (λ x none. inr (let e = unparks (λ y. y == x) S.cpus k.0 f.0 (parked_once S.cpus f.0 (once f.0) listed) in omega arith)) st (λ g more r has guard is. flags_same true S.power S.power r.id.0 refl)
 
 pub fault_stands : {A : Type 0} (plan : Plan) (m : Meaning A) (S : State A) (k : Cpu) (x : Fault) (line : ℕ) → Stands plan S → Stands plan (after plan m S (event.Fault k x line))
-fault_stands plan m S k x line st = quiet_frames plan m S (event.Fault k x line) (λ y more. (more, refl)) (λ y old. at_same y S.requests S.requests refl) (λ g. left_same S.locks S.locks g refl) (λ y none. inr none) st
+fault_stands plan m S k x line st = quiet_frames plan m S (event.Fault k x line) (λ y more. (more, refl)) (λ y old. at_same y S.requests S.requests refl) (λ g. left_same S.locks S.locks g refl) (λ y none. inr none) st (λ g more r has guard is. flags_same true S.power S.power r.id.0 refl)
 
 ended_cpus : {A : Type 0} (plan : Plan) (S : State A) (cpu : ℕ) (c : Callback) (o : ℕ) (v : Value) (l : Option LockRef) (r : Rank) → (do_deeds plan (release_if_any l ++ PopFrame (cpu_of cpu) ∷ end_of_step plan S r c o v) S).cpus ≡ cpus.pop S.cpus cpu
 ended_cpus plan S cpu c o v None rank.Sequence = refl
@@ -286,4 +293,4 @@ end_stands plan m S k c o v h free st =
           let count = popped (λ y. y == x) S.cpus k.0 d.frame d.about.top in
           let other : flag (d.frame == x) ≡ 0 = ap flag (not_equal d.frame x (λ e. n (sym e))) in
           inr (omega arith)
-    ]) st
+    ]) st (event_calms plan S (event.End k c o v) st refl refl (event_fits plan m S (event.End k c o v) h) free.places)

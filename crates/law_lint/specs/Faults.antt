@@ -1,15 +1,7 @@
 -- The faults that the static check's rules are named for. (own)
 use Rattle.std.specs.Prelude.{Bool, true, false}
-use Rattle.std.specs.List.{list_any}
-use Rattle.wdf_base.specs.declared.plan.Plan.{Plan}
-use Rattle.wdf_base.specs.declared.call.CallKind.TheVariants as call
 use Rattle.wdf_base.specs.declared.event.Fault.{Fault}
 use Rattle.wdf_base.specs.declared.event.Fault.TheVariants as fault
-use Rattle.wdf_base.specs.declared.script.Act.{Act}
-use Rattle.wdf_base.specs.declared.script.Act.TheVariants as act
-use Rattle.wdf_base.specs.declared.script.Script.{Script}
-use Rattle.wdf_base.specs.declared.script.Statement.{Statement}
-use Rattle.wdf_base.specs.Same.{same_call_kind}
 
 -- a fault of a request's mark: 5, 6 and 7
 abbrev pub is_of_marks : Fault → Bool
@@ -18,14 +10,7 @@ is_of_marks fault.CompleteBeforeCancelCallback = true
 is_of_marks fault.MarkedTwice = true
 is_of_marks _ = false
 
--- a fault of locks: 11, 12 and 13
-abbrev pub is_of_locks : Fault → Bool
-is_of_locks fault.LockHeldAlready = true
-is_of_locks fault.LockNotHeld = true
-is_of_locks fault.ReturnHoldingLock = true
-is_of_locks _ = false
-
--- one of the eight: also 4 and 8
+-- one of the eight: 4 to 8 and 11 to 13
 abbrev pub is_of_scripts : Fault → Bool
 is_of_scripts fault.NotOwned = true
 is_of_scripts fault.CompleteWhileMarked = true
@@ -36,12 +21,3 @@ is_of_scripts fault.LockHeldAlready = true
 is_of_scripts fault.LockNotHeld = true
 is_of_scripts fault.ReturnHoldingLock = true
 is_of_scripts _ = false
-
--- a call of WdfRequestStopAcknowledge
-abbrev pub is_acknowledge : Act → Bool
-is_acknowledge (act.Call k into a b c) = same_call_kind k call.WdfRequestStopAcknowledge
-is_acknowledge _ = false
-
--- some callback of the plan acknowledges
-abbrev pub plan_acknowledges : Plan → Bool
-plan_acknowledges plan = list_any (λ (s : Script). list_any (λ (x : Statement). is_acknowledge x.act) s.statements) plan.scripts
