@@ -1,5 +1,5 @@
 //! Reading the whole input.
-ghost use Rattle.std.specs.Prelude.{◌≡◌, ◌≢◌, ◌+◌, ◌≤◌, ◌<◌, ℕ, length, vec_len, vec_capacity, IfOk, IfErr, OnOk, OnErr};
+ghost use Rattle.std.specs.Prelude.{◌≡◌, ◌≢◌, ◌+◌, ◌≤◌, ◌<◌, ◌^◌, ℕ, length, vec_len, vec_capacity, IfOk, IfErr, OnOk, OnErr};
 ghost use Rattle.std.specs.Io.KnownBytes.{Keeps};
 ghost use Rattle.wdf_io.specs.Outside.{Rose};
 ghost use Rattle.wdf_input.specs.Input.{UsesUp, TakesAll, ReadsInto, TakesCount, TakesAtMost};
@@ -42,7 +42,6 @@ impl From<AllocError> for InputError {
 ///
 /// `Fault` where a read failed, `TooLarge` where byte `INPUT_LIMIT + 1` was read, `Memory` where
 /// memory for the text was refused.
-#[tactic(auto, using(crate::proofs::Taken::at_most_kept))]
 pub fn read_whole<S: Source>(alloc: Global, source: &mut S) -> Result<Vec<u8>, InputError>
     ensures text { IfOk result (λ text. TakesAll (S.left source.old) (S.left source.new) text.items) }
     ensures small { IfOk result (λ text. vec_len text ≤ INPUT_LIMIT) }
@@ -54,10 +53,36 @@ pub fn read_whole<S: Source>(alloc: Global, source: &mut S) -> Result<Vec<u8>, I
     ensures quiet { result ≢ Err InputError.Fault → S.faults source.new ≡ S.faults source.old }
     ensures never_falls { S.faults source.old ≤ S.faults source.new }
 {
+    read_within(alloc, source, INPUT_LIMIT)
+}
+
+/// Reads the source to its end, where it has at most `limit` bytes, and never past the byte after these.
+///
+/// # Errors
+///
+/// `Fault` where a read failed, `TooLarge` where byte `limit + 1` was read, `Memory` where memory for the text was refused.
+#[tactic(auto, using(crate::proofs::Taken::at_most_kept))]
+pub fn read_within<S: Source>(
+    alloc: Global,
+    source: &mut S,
+    limit: usize,
+) -> Result<Vec<u8>, InputError>
+    requires { limit < 2 ^ 32 }
+
+    ensures text { IfOk result (λ text. TakesAll (S.left source.old) (S.left source.new) text.items) }
+    ensures small { IfOk result (λ text. vec_len text ≤ limit) }
+
+    ensures too_large { result ≡ Err InputError.TooLarge → TakesCount (S.left source.old) (S.left source.new) (limit + 1) }
+    ensures no_further { result ≢ Err InputError.TooLarge → TakesAtMost (S.left source.old) (S.left source.new) limit }
+
+    ensures fault { result ≡ Err InputError.Fault → Rose (S.faults source.old) (S.faults source.new) }
+    ensures quiet { result ≢ Err InputError.Fault → S.faults source.new ≡ S.faults source.old }
+    ensures never_falls { S.faults source.old ≤ S.faults source.new }
+{
     let mut text = Vec::new(alloc);
     let mut piece = [0; PIECE];
-    while text.len() <= INPUT_LIMIT {
-        match read_piece(source, &mut piece, &mut text) {
+    while text.len() <= limit {
+        match read_piece(source, &mut piece, &mut text, limit) {
             Ok(0) => return Ok(text),
             Ok(_) => {}
             Err(error) => return Err(error),
@@ -72,11 +97,14 @@ fn read_piece<S: Source>(
     source: &mut S,
     piece: &mut [u8; PIECE],
     text: &mut Vec<u8>,
+    limit: usize,
 ) -> Result<usize, InputError>
-    requires { vec_len text.old ≤ INPUT_LIMIT }
+    requires fits { limit < 2 ^ 32 }
+    requires within { vec_len text.old ≤ limit }
+
     ensures bytes { OnOk result (ReadsInto (S.left source.old) (S.left source.new) text.old.items text.new.items) }
     ensures count { IfOk result (λ n. vec_len text.new ≡ vec_len text.old + n) }
-    ensures within { vec_len text.new ≤ INPUT_LIMIT + 1 }
+    ensures within { vec_len text.new ≤ limit + 1 }
     ensures end { IfOk result (λ n. n ≡ 0 → UsesUp (S.left source.old) (S.left source.new)) }
     ensures untouched { OnErr result (Keeps (S.left source.old) (S.left source.new)) }
     ensures never_large { result ≢ Err InputError.TooLarge }
@@ -86,7 +114,7 @@ fn read_piece<S: Source>(
     ensures never_falls { S.faults source.old ≤ S.faults source.new }
 {
     make_room(text)?;
-    let most = PIECE.min(INPUT_LIMIT + 1 - text.len());
+    let most = PIECE.min(limit + 1 - text.len());
     match source.read(&mut piece[..most]) {
         Ok(count) => {
             text.extend_from_slice(&piece[..count]).unwrap();

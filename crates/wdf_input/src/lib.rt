@@ -3,4 +3,4 @@
 
 mod input;
 
-pub use input::{INPUT_LIMIT, InputError, read_whole};
+pub use input::{INPUT_LIMIT, InputError, read_whole, read_within};

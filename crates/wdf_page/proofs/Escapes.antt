@@ -3,7 +3,7 @@ use Rattle.std.proofs.Common.{◌≡◌, ℕ, ◌+◌, ◌<◌, List, [], ◌∷
 use Rattle.std.proofs.lemmas.List.{take_more}
 use Rattle.std.specs.List.{list_all}
 use Rattle.std.proofs.lemmas.List.Folds.{list_all-append}
-use Rattle.wdf_page.specs.Escaped.{entity_of, escaped, is_inert}
+use Rattle.wdf_page.specs.Escaped.{entity_of, escaped, has_only_entities, is_inert}
 
 pub escaped-append : (xs ys : List ℕ) → escaped (xs ++ ys) ≡ escaped xs ++ escaped ys
 escaped-append [] ys = refl
@@ -21,3 +21,12 @@ entity_inert b = grind arith
 pub escaped_inert : (xs : List ℕ) → list_all is_inert (escaped xs) ≡ true
 escaped_inert [] = refl
 escaped_inert (x ∷ xs) = grind (arith, list_all-append is_inert (entity_of x) (escaped xs), entity_inert x, escaped_inert xs)
+
+-- after an entity, or a byte without one, the same has to hold of what is left
+entity_first : (b : ℕ) (ys : List ℕ) → has_only_entities ys ≡ true → has_only_entities (entity_of b ++ ys) ≡ true
+entity_first b ys h = grind arith
+
+-- each `&` of it begins an entity
+pub only_entities : (xs : List ℕ) → has_only_entities (escaped xs) ≡ true
+only_entities [] = refl
+only_entities (x ∷ xs) = entity_first x (escaped xs) (only_entities xs)

@@ -1,16 +1,16 @@
 ghost use Rattle.std.specs.Prelude.{◌≡◌, ◌++◌, [], true, OnOk, decimal};
 ghost use Rattle.std.specs.List.{list_all};
-ghost use Rattle.wdf_page.specs.Escaped.{entity_of, escaped, is_inert};
+ghost use Rattle.wdf_page.specs.Escaped.{entity_of, escaped, has_only_entities, is_inert};
 
-use itoa::Buffer;
 use std::alloc::Global;
 use std::marker::Model;
 use wdf_base::Memory;
+use wdf_writing::Text;
 
 /// A page that is being written. Contracts see its bytes.
 #[derive(Drop)]
 pub struct Page {
-    text: Vec<u8>,
+    text: Text,
 }
 
 impl Model for Page {
@@ -18,7 +18,7 @@ impl Model for Page {
 
     ghost Value = { List ℕ };
 
-    ghost view = { λ page. page.text.items };
+    ghost view = { λ page. page.text };
 }
 
 impl Page {
@@ -27,7 +27,7 @@ impl Page {
         ensures { result ≡ [] }
     {
         Page {
-            text: Vec::new(alloc),
+            text: Text::new(alloc),
         }
     }
 
@@ -35,15 +35,7 @@ impl Page {
     pub fn bytes(&self) -> &[u8]
         ensures { result.now ≡ self.now }
     {
-        self.text.as_slice()
-    }
-
-    /// Adds these bytes as they are.
-    fn add(&mut self, piece: &[u8]) -> Result<(), Memory>
-        ensures { OnOk result (self.new ≡ self.old ++ piece.now) }
-    {
-        self.text.extend_from_slice(piece)?;
-        Ok(())
+        self.text.bytes()
     }
 
     /// Adds markup of the program's own.
@@ -54,7 +46,7 @@ impl Page {
     pub fn markup(&mut self, piece: &'static str) -> Result<(), Memory>
         ensures { OnOk result (self.new ≡ self.old ++ piece.now) }
     {
-        self.add(piece.as_bytes())
+        self.text.push(piece.as_bytes())
     }
 
     /// Adds a number in decimal digits.
@@ -65,8 +57,7 @@ impl Page {
     pub fn number(&mut self, number: u64) -> Result<(), Memory>
         ensures { OnOk result (self.new ≡ self.old ++ decimal number) }
     {
-        let mut buffer = Buffer::new();
-        self.add(buffer.format(number).as_bytes())
+        self.text.push_number(number)
     }
 
     /// Adds a byte of a text, or the entity that stands for it.
@@ -74,12 +65,12 @@ impl Page {
         ensures { OnOk result (self.new ≡ self.old ++ entity_of byte) }
     {
         match byte {
-            b'<' => self.add(b"&lt;"),
-            b'>' => self.add(b"&gt;"),
-            b'&' => self.add(b"&amp;"),
-            b'"' => self.add(b"&quot;"),
-            b'\'' => self.add(b"&#39;"),
-            _ => self.add(&[byte]),
+            b'<' => self.text.push(b"&lt;"),
+            b'>' => self.text.push(b"&gt;"),
+            b'&' => self.text.push(b"&amp;"),
+            b'"' => self.text.push(b"&quot;"),
+            b'\'' => self.text.push(b"&#39;"),
+            _ => self.text.push(&[byte]),
         }
     }
 
@@ -88,10 +79,12 @@ impl Page {
     /// # Errors
     ///
     /// [`Memory`] where memory was refused.
-    #[tactic(auto, using(crate::proofs::Escapes::escaped_more, crate::proofs::Escapes::escaped_inert))]
+    #[tactic(auto, using(crate::proofs::Escapes::escaped_more, crate::proofs::Escapes::escaped_inert, crate::proofs::Escapes::only_entities))]
     pub fn text(&mut self, text: &[u8]) -> Result<(), Memory>
         ensures escaped { OnOk result (self.new ≡ self.old ++ escaped text.now) }
+        // What is added has no mark that ends a text or an attribute, and each `&` of it begins an entity.
         ensures inert { list_all is_inert (escaped text.now) ≡ true }
+        ensures entities { has_only_entities (escaped text.now) ≡ true }
     {
         for byte in text {
             match self.add_escaped(*byte) {
