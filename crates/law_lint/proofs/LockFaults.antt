@@ -1,10 +1,8 @@
 -- In a free run of a resolved clean plan no frame acquires a lock that it holds, gives back one that it didn't acquire, or
 -- ends with one.
-use Rattle.std.proofs.Common.{if◌then◌else◌, ◌≡◌, ℕ, ◌==◌, ◌<◌, Bool, true, false, not, ◌&&◌, ◌||◌, List, ◌∷◌, [], ◌⊎◌, inl, inr, Option, Some, None, find, length, option_map, slice_get, refl, sym, ap, subst, ◌∙◌, arith}
+use Rattle.std.proofs.Common.{if◌then◌else◌, ◌≡◌, ℕ, ◌==◌, Bool, true, false, not, ◌&&◌, ◌||◌, List, ◌∷◌, [], ◌⊎◌, inl, inr, Option, Some, None, find, option_map, slice_get, refl, sym, ap, subst, ◌∙◌}
 use Rattle.std.specs.List.{list_any}
 use Rattle.std.proofs.lemmas.Bool.{eqb-true}
-use Rattle.std.proofs.lemmas.Option.{slice_get_within}
-use Rattle.wdf_base.specs.Meaning.{Meaning}
 use Rattle.wdf_base.specs.Resolved.{IsResolved}
 use Rattle.wdf_base.specs.declared.plan.Plan.{Plan}
 use Rattle.wdf_base.specs.declared.ids.Cpu.{Cpu}
@@ -33,7 +31,7 @@ use Rattle.wdf_model.specs.parts.Locks.{holder, object_lock, own_lock, parent_lo
 use Rattle.wdf_model.specs.State.{State, declared_in, object_in}
 use Rattle.wdf_model.specs.rules.Faults.{View, call_faults, fault_of, holds_lock, holds_of, is_acquire, is_release, is_fault_of_access, is_fault_of_return, is_script_fault}
 use Rattle.wdf_model.specs.rules.Script.{intent_of, statement_at}
-use Rattle.wdf_model.specs.rules.Steps.{may, own_event, view_of}
+use Rattle.wdf_model.specs.rules.Steps.{view_of}
 use Rattle.wdf_model.proofs.Counts.{equal}
 use Rattle.wdf_model.proofs.Tests.{both, both_left, both_right, not_true}
 use Rattle.law_machine_lives.proofs.Framing.{IsHeld}
@@ -49,12 +47,11 @@ use Rattle.wdf_lint.specs.Walks.{IsClean}
 use Rattle.law_free_runs.specs.FreeRuns.{IsFreeRun}
 use Rattle.law_free_runs.proofs.FreeStates.{FreeState}
 use Rattle.law_lint.proofs.Dids.{call_names}
-use Rattle.law_lint.proofs.Events.{owns, same_there, top_there}
 use Rattle.law_lint.proofs.Faults.{Calls, calls, rule_off}
 use Rattle.law_lint.proofs.Holdings.{HasLock}
 use Rattle.law_lint.proofs.HeldAs.{HasPlain, is_interrupt, none_of_interrupt, none_plain, object_at, HasIn}
 use Rattle.law_lint.proofs.Locking.{Names, of_kind}
-use Rattle.law_lint.proofs.Sound.{HasFault, Standing, faulted, returns_free, standing_place}
+use Rattle.law_lint.proofs.Sound.{fault_at, returns_free}
 use Rattle.law_lint.proofs.Stands.{FrameStands}
 use Rattle.law_lint.proofs.Weights.{free_weight, given_by, kept_by}
 use Rattle.wdf_base.specs.declared.declared.ClassInfo.{ClassInfo}
@@ -335,18 +332,10 @@ lock_off plan S cpu f a resolved clean free fs (intent.Log v) does x is first h 
 lock_off plan S cpu f a resolved clean free fs (intent.Spend n) does x is first h = let z : ⊥ = cc in z
 
 pub calls_free : {A : Type 0} (plan : Plan) → IsResolved plan → IsClean plan → (run : List Event) (free : IsFreeRun A plan run) (n : ℕ) (k : Cpu) (x : Fault) (line : ℕ) → slice_get run n ≡ Some (event.Fault k x line) → IsOfCalls x → ⊥
-calls_free {A} plan resolved clean run free n k x line at is =
-    let step = free.goes n (event.Fault k x line) at in
-    let within : n < length run = slice_get_within run n (event.Fault k x line) at in
-    by step.meaning step.may_come (standing_place plan clean run free n (omega arith))
-  where
-    by : (m : Meaning A) → (may plan m (free.states n) (event.Fault k x line) ≡ true) ⊎ ((time : ℕ) × (event.Fault k x line ≡ event.Tick time)) → Standing plan (free.states n) → ⊥
-    by m (inr t) st = let e = t.1 in let q : ⊥ = cc in q
-    by m (inl h) st =
-        let found = same_there (own_event plan m (free.states n) k.0) (event.Fault k x line) h in
-        let f : HasFault plan (free.states n) k.0 x = faulted plan m (free.states n) k x line found.0 found.2 (owns plan m (free.states n) k.0 found.0 found.1) (of_call x is).2 in
-        let there = top_there (free.states n).cpus k.0 f.acts.frame f.acts.top in
-        lock_off plan (free.states n) k.0 f.acts.frame (st.stands.states f.acts.frame) resolved clean st.state (st.stands.stands f.acts.frame there) f.intent f.acts.about x is f.first f.holds
+calls_free plan resolved clean run free n k x line at is =
+    let w = fault_at plan clean run free n k x line at (of_call x is).2 in
+    let f = w.fault in
+    lock_off plan (free.states n) k.0 f.acts.frame (w.standing.stands.states f.acts.frame) resolved clean w.standing.state w.stands f.intent f.acts.about x is f.first f.holds
 
 -- a fault of locks: 11, 12 and 13
 abbrev pub is_of_locks : Fault → Bool

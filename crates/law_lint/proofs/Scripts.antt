@@ -1,6 +1,5 @@
 -- In a free run of a resolved clean plan no fault comes that a rule is named for.
-use Rattle.std.proofs.Common.{◌≡◌, ℕ, ◌<◌, Bool, true, false, not, ◌&&◌, ◌||◌, List, ◌⊎◌, inl, inr, Some, length, slice_get, refl, sym, ap, subst, ◌∙◌, arith}
-use Rattle.std.proofs.lemmas.Option.{slice_get_within}
+use Rattle.std.proofs.Common.{◌≡◌, ℕ, Bool, true, false, not, ◌&&◌, ◌||◌, List, Some, slice_get, refl, sym, ap, subst, ◌∙◌}
 use Rattle.wdf_base.specs.Meaning.{Meaning}
 use Rattle.wdf_base.specs.Places.{is_owned}
 use Rattle.wdf_base.specs.Resolved.{IsResolved}
@@ -26,7 +25,7 @@ use Rattle.wdf_model.specs.parts.Targets.{is_forgotten}
 use Rattle.wdf_model.specs.State.{State, is_with_driver, object_in}
 use Rattle.wdf_model.specs.rules.Faults.{View, arg_is, call_faults, holds_of, is_handle_of, is_script_fault, is_stop_of}
 use Rattle.wdf_model.specs.rules.Script.{intent_of}
-use Rattle.wdf_model.specs.rules.Steps.{may, own_event, view_of}
+use Rattle.wdf_model.specs.rules.Steps.{view_of}
 use Rattle.wdf_model.proofs.Counts.{equal}
 use Rattle.wdf_model.proofs.Tests.{both, both_left}
 use Rattle.wdf_lint.specs.declared.state.Abstract.{Abstract}
@@ -37,10 +36,9 @@ use Rattle.law_free_runs.proofs.FreeRuns.{runs_are_free}
 use Rattle.law_lint.specs.Faults.{is_of_scripts}
 use Rattle.law_lint.proofs.Acknowledging.{StopCall, is_kind, stop_call}
 use Rattle.law_lint.proofs.Acting.{calling, held_owned}
-use Rattle.law_lint.proofs.Events.{owns, same_there, top_there}
 use Rattle.law_lint.proofs.LockFaults.{locks_are_kept}
 use Rattle.law_lint.proofs.Owning.{Stopping}
-use Rattle.law_lint.proofs.Sound.{Acknowledges, HasFault, Standing, faulted, holds_off, marks_are_kept, NotOwned, standing_place}
+use Rattle.law_lint.proofs.Sound.{Acknowledges, NotOwned, fault_at, holds_off, marks_are_kept}
 use Rattle.law_lint.proofs.Stands.{FrameStands}
 
 -- ---- a frame that acknowledges
@@ -118,20 +116,11 @@ no_script x is = elim is as (λ q _. is_script_fault q ≡ false) [
 ]
 
 none_of_stops : {A : Type 0} (plan : Plan) → IsResolved plan → IsClean plan → (run : List Event) (free : IsFreeRun A plan run) (n : ℕ) (k : Cpu) (x : Fault) (line : ℕ) → slice_get run n ≡ Some (event.Fault k x line) → IsOfStops x → ⊥
-none_of_stops {A} plan resolved clean run free n k x line at is =
-    let step = free.goes n (event.Fault k x line) at in
-    let within : n < length run = slice_get_within run n (event.Fault k x line) at in
-    by step.meaning step.may_come (standing_place plan clean run free n (omega arith))
-  where
-    by : (m : Meaning A) → (may plan m (free.states n) (event.Fault k x line) ≡ true) ⊎ ((time : ℕ) × (event.Fault k x line ≡ event.Tick time)) → Standing plan (free.states n) → ⊥
-    by m (inr t) st = let e = t.1 in let q : ⊥ = cc in q
-    by m (inl h) st =
-        let found = same_there (own_event plan m (free.states n) k.0) (event.Fault k x line) h in
-        let w : HasFault plan (free.states n) k.0 x = faulted plan m (free.states n) k x line found.0 found.2 (owns plan m (free.states n) k.0 found.0 found.1) (no_script x is) in
-        let f : ℕ = w.acts.frame in
-        let fs = st.stands.stands f (top_there (free.states n).cpus k.0 f w.acts.top) in
-        intent_off plan (free.states n) k.0 f (st.stands.states f) resolved clean fs w.intent w.acts.about
-        (acknowledges plan (free.states n) k.0 f (st.stands.states f) clean fs w.intent w.acts.about x is w.holds) x is w.holds
+none_of_stops plan resolved clean run free n k x line at is =
+    let w = fault_at plan clean run free n k x line at (no_script x is) in
+    let f = w.fault in
+    intent_off plan (free.states n) k.0 f.acts.frame (w.standing.stands.states f.acts.frame) resolved clean w.stands f.intent f.acts.about
+    (acknowledges plan (free.states n) k.0 f.acts.frame (w.standing.stands.states f.acts.frame) clean w.stands f.intent f.acts.about x is f.holds) x is f.holds
 
 -- ---- all eight
 

@@ -331,23 +331,35 @@ faulted plan m S k x line z same (Does i a clean e) is = absurd (by i a (subst (
         let script : is_script_fault x ≡ true = ap is_script_fault (sym one) in
         let q : ⊥ = cc in q
 
--- Where the plan is clean, no fault of a free run is about who owns a request, but NotOwned of a frame that is about to acknowledge.
-pub sound : {A : Type 0} (plan : Plan) → IsClean plan → (run : List Event) (free : IsFreeRun A plan run) (n : ℕ) (k : Cpu) (x : Fault) (line : ℕ) → slice_get run n ≡ Some (event.Fault k x line) → IsOfOwning x
-    → (i : Intent) × Acts plan (free.states n) k.0 i × Acknowledges i × (x ≡ fault.NotOwned)
-sound {A} plan clean run free n k x line at is =
+-- ---- a fault of a free run
+
+-- the frame that has it, where the invariant holds
+pub record FaultAt {A : Type 0} (plan : Plan) (S : State A) (cpu : ℕ) (x : Fault) : Type 0 where
+  pub standing : Standing plan S
+  pub fault : HasFault plan S cpu x
+  pub stands : FrameStands plan S fault.acts.frame (standing.stands.states fault.acts.frame)
+
+pub fault_at : {A : Type 0} (plan : Plan) → IsClean plan → (run : List Event) (free : IsFreeRun A plan run) (n : ℕ) (k : Cpu) (x : Fault) (line : ℕ) → slice_get run n ≡ Some (event.Fault k x line) → is_script_fault x ≡ false → FaultAt plan (free.states n) k.0 x
+fault_at {A} plan clean run free n k x line at is =
     let step = free.goes n (event.Fault k x line) at in
     let within : n < length run = slice_get_within run n (event.Fault k x line) at in
-    let st : Standing plan (free.states n) = standing_place plan clean run free n (omega arith) in
-    by step.meaning step.may_come st
+    by step.meaning step.may_come (standing_place plan clean run free n (omega arith))
   where
-    by : (m : Meaning A) → (may plan m (free.states n) (event.Fault k x line) ≡ true) ⊎ ((time : ℕ) × (event.Fault k x line ≡ event.Tick time)) → Standing plan (free.states n) → (i : Intent) × Acts plan (free.states n) k.0 i × Acknowledges i × (x ≡ fault.NotOwned)
+    by : (m : Meaning A) → (may plan m (free.states n) (event.Fault k x line) ≡ true) ⊎ ((time : ℕ) × (event.Fault k x line ≡ event.Tick time)) → Standing plan (free.states n) → FaultAt plan (free.states n) k.0 x
     by m (inr t) st = absurd (let e = t.1 in let q : ⊥ = cc in q)
     by m (inl h) st =
         let found = same_there (own_event plan m (free.states n) k.0) (event.Fault k x line) h in
-        let f : HasFault plan (free.states n) k.0 x = faulted plan m (free.states n) k x line found.0 found.2 (owns plan m (free.states n) k.0 found.0 found.1) (not_of_return x is).2 in
-        let there = top_there (free.states n).cpus k.0 f.acts.frame f.acts.top in
-        let off = holds_off plan (free.states n) k.0 f.acts.frame (st.stands.states f.acts.frame) clean (st.stands.stands f.acts.frame there) f.intent f.acts.about x is f.holds in
-        (f.intent, f.acts, off.0, off.1)
+        let f : HasFault plan (free.states n) k.0 x = faulted plan m (free.states n) k x line found.0 found.2 (owns plan m (free.states n) k.0 found.0 found.1) is in
+        record { standing = st; fault = f; stands = st.stands.stands f.acts.frame (top_there (free.states n).cpus k.0 f.acts.frame f.acts.top) }
+
+-- Where the plan is clean, no fault of a free run is about who owns a request, but NotOwned of a frame that is about to acknowledge.
+pub sound : {A : Type 0} (plan : Plan) → IsClean plan → (run : List Event) (free : IsFreeRun A plan run) (n : ℕ) (k : Cpu) (x : Fault) (line : ℕ) → slice_get run n ≡ Some (event.Fault k x line) → IsOfOwning x
+    → (i : Intent) × Acts plan (free.states n) k.0 i × Acknowledges i × (x ≡ fault.NotOwned)
+sound plan clean run free n k x line at is =
+    let w = fault_at plan clean run free n k x line at (not_of_return x is).2 in
+    let f = w.fault in
+    let off = holds_off plan (free.states n) k.0 f.acts.frame (w.standing.stands.states f.acts.frame) clean w.stands f.intent f.acts.about x is f.holds in
+    (f.intent, f.acts, off.0, off.1)
 
 -- ---- every free run of a clean plan
 
@@ -367,7 +379,7 @@ of_owning x is = elim is as (λ y _. IsOfOwning y) [
 marks_other : (x : Fault) → IsOfMarks x → x ≡ fault.NotOwned → ⊥
 marks_other x is e = search rules
 
--- T5's half for the faults of marks, in every free run
+-- none comes in a free run
 pub no_fault_of_marks : {A : Type 0} (plan : Plan) → IsClean plan → (run : List Event) → IsFreeRun A plan run → (n : ℕ) (k : Cpu) (x : Fault) (line : ℕ) → slice_get run n ≡ Some (event.Fault k x line) → IsOfMarks x → ⊥
 no_fault_of_marks plan clean run free n k x line at of =
     let found = sound plan clean run free n k x line at (of_owning x of) in
@@ -424,18 +436,10 @@ return_off plan S cpu f a clean st (intent.Spend n) does h = let z : ⊥ = cc in
 
 -- in a free run of a clean plan no callback ends with a lock that a call took
 pub returns_free : {A : Type 0} (plan : Plan) → IsClean plan → (run : List Event) (free : IsFreeRun A plan run) (n : ℕ) (k : Cpu) (line : ℕ) → slice_get run n ≡ Some (event.Fault k fault.ReturnHoldingLock line) → ⊥
-returns_free {A} plan clean run free n k line at =
-    let step = free.goes n (event.Fault k fault.ReturnHoldingLock line) at in
-    let within : n < length run = slice_get_within run n (event.Fault k fault.ReturnHoldingLock line) at in
-    by step.meaning step.may_come (standing_place plan clean run free n (omega arith))
-  where
-    by : (m : Meaning A) → (may plan m (free.states n) (event.Fault k fault.ReturnHoldingLock line) ≡ true) ⊎ ((time : ℕ) × (event.Fault k fault.ReturnHoldingLock line ≡ event.Tick time)) → Standing plan (free.states n) → ⊥
-    by m (inr t) st = let e = t.1 in let q : ⊥ = cc in q
-    by m (inl h) st =
-        let found = same_there (own_event plan m (free.states n) k.0) (event.Fault k fault.ReturnHoldingLock line) h in
-        let f : HasFault plan (free.states n) k.0 fault.ReturnHoldingLock = faulted plan m (free.states n) k fault.ReturnHoldingLock line found.0 found.2 (owns plan m (free.states n) k.0 found.0 found.1) refl in
-        let there = top_there (free.states n).cpus k.0 f.acts.frame f.acts.top in
-        return_off plan (free.states n) k.0 f.acts.frame (st.stands.states f.acts.frame) clean (st.stands.stands f.acts.frame there) f.intent f.acts.about f.holds
+returns_free plan clean run free n k line at =
+    let w = fault_at plan clean run free n k fault.ReturnHoldingLock line at refl in
+    let f = w.fault in
+    return_off plan (free.states n) k.0 f.acts.frame (w.standing.stands.states f.acts.frame) clean w.stands f.intent f.acts.about f.holds
 
 pub locks_are_given_back : {A : Type 0} (plan : Plan) (run : List Event) (n : ℕ) (k : Cpu) (line : ℕ) → IsClean plan → IsFreeRun A plan run → slice_get run n ≡ Some (event.Fault k fault.ReturnHoldingLock line) → ⊥
 locks_are_given_back plan run n k line clean free at = returns_free plan clean run free n k line at
