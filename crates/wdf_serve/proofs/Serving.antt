@@ -1,10 +1,10 @@
 -- What the program does for its arguments.
-use Rattle.std.proofs.Common.{ℕ, ◌≡◌, inl, inr, IsTrue, List, refl}
+use Rattle.std.proofs.Common.{ℕ, ◌≡◌, inl, inr, IsTrue, List, [], Ok, Err, refl, subst}
 use Rattle.wdf_output.specs.Refusals.{no_memory_line}
 use Rattle.wdf_output.specs.Said.{Sinking, Says}
 use Rattle.wdf_serve.specs.Promises.{Promises}
 use Rattle.wdf_serve.specs.Runs.{WroteSomeRun, is_end_status}
-use Rattle.wdf_serve.specs.Serving.{Arguments, Serves, words_after_name}
+use Rattle.wdf_serve.specs.Serving.{Arguments, LacksArguments, Serves, words_after_name}
 use Rattle.wdf_serve.specs.Words.{service_for}
 use Rattle.wdf_top.specs.Causes.{is_status}
 use Rattle.wdf_top.specs.Agents.{RunAgents}
@@ -16,6 +16,12 @@ use Rattle.wdf_top.proofs.Statuses.{differs}
 pub by_words : (arguments : Arguments) (words : List (List ℕ)) (s : Sourcing) (k : Sinking) (answer : ℕ) → words ≡ words_after_name arguments
     → Promises words s k answer → Serves arguments s k answer
 by_words arguments words s k answer same promises = inl (rw same at promises)
+
+-- where the system can't give the arguments, there are no words
+pub without_words : (arguments : Arguments) (words : List (List ℕ)) (s : Sourcing) (k : Sinking) (answer : ℕ) → words ≡ words_after_name arguments
+    → LacksArguments arguments → Promises words s k answer → Promises [] s k answer
+without_words (Ok arguments) words s k answer same lacks promises = absurd lacks
+without_words (Err error) words s k answer same lacks promises = subst (λ ws. Promises ws s k answer) same promises
 
 -- memory for the words was refused
 pub by_lack : (arguments : Arguments) (s : Sourcing) (k : Sinking) (answer : ℕ) → IsUnread s → Says k no_memory_line 15 answer → Serves arguments s k answer

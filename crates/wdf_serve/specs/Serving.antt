@@ -1,5 +1,5 @@
 -- What the program does for its arguments. (own)
-use Rattle.std.specs.Prelude.{ℕ, ◌≡◌, ◌⊎◌, List, [], map, drop, string_bytes, Result, Ok, Err}
+use Rattle.std.specs.Prelude.{ℕ, ◌≡◌, ◌≢◌, ◌⊎◌, List, [], map, drop, string_bytes, Result, Ok, Err}
 use Rattle.std.specs.IoError.{error_kind}
 use Rattle.std.specs.Vec.Iter.{into_iter_items}
 use Rattle.std.specs.declared.alloc.Global.{Global}
@@ -25,6 +25,11 @@ words_after_name (Err error) = []
 abbrev pub LacksMemory : Arguments → Type 0
 LacksMemory (Ok arguments) = ⊥
 LacksMemory (Err error) = error_kind error ≡ OutOfMemory
+
+-- the system can't give the arguments, and not for lack of memory
+abbrev pub LacksArguments : Arguments → Type 0
+LacksArguments (Ok arguments) = ⊥
+LacksArguments (Err error) = error_kind error ≢ OutOfMemory
 
 -- What the program does for its arguments: it keeps what the top call promises for the words after its name. Or memory
 -- for the words is refused: then nothing is read, and the line `out of memory` is due with 15.

@@ -1,12 +1,13 @@
 //! The program over any reader and any writer.
-ghost use Rattle.std.specs.Prelude.{◌≡◌, IfOk, IsErr, IsTrue, map, drop, string_bytes};
+ghost use Rattle.std.specs.Prelude.{◌≡◌, IfOk, IsErr, IsOk, IsTrue, [], map, drop, string_bytes};
 ghost use Rattle.std.specs.Vec.Iter.{into_iter_items};
 ghost use Rattle.wdf_io.specs.Outside.{EndsRefused};
 ghost use Rattle.wdf_io.specs.Streams.{RefusedBy};
 ghost use Rattle.wdf_output.specs.Refusals.{no_memory_line};
 ghost use Rattle.wdf_output.specs.Said.{Says, sinking};
 ghost use Rattle.wdf_serve.specs.Runs.{WroteSomeRun, is_end_status};
-ghost use Rattle.wdf_serve.specs.Serving.{Serves, LacksMemory, words_after_name};
+ghost use Rattle.wdf_serve.specs.Promises.{Promises};
+ghost use Rattle.wdf_serve.specs.Serving.{Serves, LacksArguments, LacksMemory, words_after_name};
 ghost use Rattle.wdf_serve.specs.Words.{service_for};
 ghost use Rattle.wdf_top.specs.Agents.{RunAgents};
 ghost use Rattle.wdf_top.specs.Answers.{Picking, Run};
@@ -53,6 +54,12 @@ pub fn serve<T: Threads + Sync, R: Read, W: Write, G: Gate + Sync>(
     ensures lacking { LacksMemory arguments
         → IsUnread (sourcing source.old.left source.new.left source.old.faults source.new.faults)
         × Says (sinking sink.old.written sink.new.written sink.old.faults sink.new.faults) no_memory_line 15 result }
+    // Where the system can't give the arguments for another reason, that isn't told as a lack of memory: it is the call
+    // without words.
+    ensures only_memory { LacksArguments arguments → Promises []
+        (sourcing source.old.left source.new.left source.old.faults source.new.faults)
+        (sinking sink.old.written sink.new.written sink.old.faults sink.new.faults)
+        result }
     // The writer isn't tried again after its failure.
     ensures not_again { result ≡ 13 → EndsRefused RefusedBy (λ k. k.faults) sink.old sink.new }
     ensures listed { IsTrue (is_status result) }
@@ -67,6 +74,7 @@ pub fn serve<T: Threads + Sync, R: Read, W: Write, G: Gate + Sync>(
 fn words_of(alloc: Global, arguments: io::Result<Args>) -> Result<Vec<String>, AllocError>
     ensures words { IfOk result (λ words. map string_bytes words.items ≡ words_after_name arguments) }
     ensures lacking { LacksMemory arguments → IsErr result }
+    ensures only_memory { LacksArguments arguments → IsOk result }
 {
     match arguments {
         Ok(arguments) => after_name(alloc, arguments),

@@ -9,6 +9,7 @@ returns-in-Ok g c =
       served = served;
       headline = serving.headline c.args.arguments _ _ _ served;
       lacking = λ lacks. let never = c.in-Ok.ensures.lacking lacks in absurd (let z : ⊥ = cc in z);
+      only_memory = λ lacks. serving.without_words c.args.arguments _ _ _ c.top.result c.in-Ok.ensures.words lacks (rw c.deref.ensures.value at c.top.ensures.promises);
       not_again = c.top.ensures.not_again;
       listed = serving.listed c.args.arguments _ _ _ served;
     }
@@ -19,6 +20,7 @@ returns-in-Err g c =
       served = served;
       headline = serving.headline c.args.arguments _ _ _ served;
       lacking = λ lacks. ((refl, refl), c.tell.ensures.said);
+      only_memory = λ lacks. let never = c.in-Err.ensures.only_memory lacks in absurd (let z : ⊥ = cc in z);
       not_again = c.tell.ensures.not_again;
       listed = serving.listed c.args.arguments _ _ _ served;
     }
