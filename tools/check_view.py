@@ -4,10 +4,12 @@
 It needs Debian's `chromium` (apt-get install chromium), and fails where there is none; the gate doesn't run it. For each
 example: the page has as many boxes as the trace has starts, and as many first pieces of spans as requests come to be;
 pointing at a box shows its trace line; a click dims what isn't about that object, and a second one nothing; the arrow keys
-go from event to event, a drag moves the picture, a search finds the last event, a zoom makes it wider; without the script there
-are as many shapes; the console has no message. A trace with a line taken out gets the line and the status of `replay`. The JSON
-of `perfetto`, where the program has that word, has a slice for each start, its slices nest, and each span ends. The page of a run of 20,000 events opens with
-blocks, and a zoom draws what is in them. The pictures of the documents are those that the programs make. With --pictures it takes screenshots in light, in dark and at 400 pixels' width."""
+go from event to event, a drag moves the picture and leaves the labels in view, a search finds the last event, a zoom makes it
+wider; without the script there are as many shapes; the page has no address; the console has no message. A trace with a line
+taken out gets the line and the status of `replay`. The JSON of `perfetto`, where the program has that word, has a slice for each
+start, its slices nest, and each span ends. The pages of a run of 20,000 events and of one of 200,000 open with blocks, and a zoom
+draws what is in them. The pictures of the documents are those that the programs make. With --pictures it takes screenshots in
+light, in dark and at 400 pixels' width."""
 import base64
 import glob
 import json
@@ -204,6 +206,16 @@ def births(trace):
     return len(arrived) + len(made)
 
 
+# Whether each label of a shape that is in view is in view too.
+LABELS = """(() => { const left = document.getElementById('names').getBoundingClientRect().right;
+  return [...document.querySelectorAll('#shapes svg.s:not(.fault)')].filter(s => s.querySelector('text')).every(s =>
+    s.querySelector('rect').getBoundingClientRect().right <= left || s.querySelector('text').getBoundingClientRect().left >= left); })()"""
+
+# A point in the first box that is in view, beside the names of the lanes.
+BOX_IN_VIEW = """(() => { const left = document.getElementById('names').getBoundingClientRect().right;
+  const box = [...document.querySelectorAll('#shapes svg.b > rect')].map(b => b.getBoundingClientRect()).find(b => b.x >= left);
+  return box && [box.x + 4, box.y + 5]; })()"""
+
 # What counts the shapes of a page.
 SHAPES = "document.querySelectorAll('#shapes svg.s').length"
 
@@ -246,28 +258,36 @@ def move(tab, want, trace):
     tab.mouse("mouseReleased", 500, y, button="left", clickCount=1)
     room = tab.value("(r => r.scrollWidth - r.clientWidth)(document.getElementById('run'))")
     want("a drag moves it", tab.value("document.getElementById('run').scrollLeft") > 0, room > 0)
+    time.sleep(0.1)
+    want("labels stay in view", tab.value(LABELS), True)
     last = [line for line in trace.splitlines() if re.match(r"\d+ ", line)][-1]
     tab.value(f"(s => {{ s.value = {json.dumps(last)}; s.dispatchEvent(new KeyboardEvent('keydown', {{ key: 'Enter' }})); }})(document.querySelector('#tools input'))")
     want("a search finds the last event", tab.value("document.getElementById('line').textContent"), last)
 
 
-def look_at_large(tab, trace, page):
+def look_at_large(tab, name, trace, page):
     """What is wrong with the page of a large run."""
+    began = time.monotonic()
     opened(tab, page)
+    print(f"the browser opens it in {time.monotonic() - began:.1f} s", flush=True)
     bad = []
     starts = len(re.findall(r"^\d+ cpu\d+ start ", trace, re.M))
     drawn, blocks = tab.value(SHAPES), tab.value("document.querySelectorAll('#shapes rect.m').length")
-    kept = tab.value("document.getElementById('all').content.querySelectorAll('svg.b').length")
+    kept = tab.value("document.getElementById('all').textContent.split('\\n').filter(row => row.split('|')[0].split(' ').includes('b')).length")
     if kept != starts:
-        bad.append(f"the large run has {kept} boxes in its page, and {starts} starts")
+        bad.append(f"{name} has {kept} boxes in its page, and {starts} starts")
     if not 0 < drawn + blocks < 20_000:
-        bad.append(f"the large run draws {drawn} shapes and {blocks} blocks at first")
-    for _ in range(12):
+        bad.append(f"{name} draws {drawn} shapes and {blocks} blocks at first")
+    for _ in range(18):
         tab.ask("Input.dispatchKeyEvent", type="keyDown", key="+", text="+")
     time.sleep(0.5)
-    if tab.value("document.querySelectorAll('#shapes svg.b').length") == 0:
-        bad.append("a zoom into the large run draws no box")
-    return bad + [f"the large run: {message}" for message in tab.messages]
+    place = tab.value(BOX_IN_VIEW)
+    if place is None:
+        return bad + [f"a zoom into {name} draws no box"]
+    tab.mouse("mouseMoved", *place)
+    if tab.value("document.getElementById('line').textContent") not in trace.splitlines():
+        bad.append(f"a box of {name} has no trace line")
+    return bad + [f"{name}: {message}" for message in tab.messages]
 
 
 def look(tab, name, trace, page, pictures):
@@ -327,26 +347,40 @@ def look_at_example(tab, simulator, viewer, path, folder, pictures):
     with open(page, "w", encoding="ascii") as it:
         it.write(shown.stdout)
     bad = look(tab, name, trace, page, pictures) + look_at_refusal(simulator, viewer, name, text, trace)
+    if "://" in shown.stdout:
+        bad.append(f"{name}: the page has an address of something outside")
     if "perfetto" in words_of(viewer):
         told = subprocess.run([viewer, "perfetto"], input=given, capture_output=True, text=True, check=True)
         bad += look_at_json(name, trace, told.stdout)
     return bad
 
 
-def large(simulator, viewer, folder):
-    """The trace and the page of a run of 20,000 events."""
+def large_runs():
+    """A run of 20,000 events, and one of 200,000, more than which no run has."""
     sys.path.insert(0, os.path.join(here, "..", "bench"))
-    from machine import reads
+    from machine import interrupts, reads
 
-    text = reads(2850).replace("on EvtIoDefault\n", "on EvtIoDefault\nlet x = ( length + 1 )\n")
-    trace = subprocess.run([simulator, "order"], input=text, capture_output=True, text=True, check=True).stdout
-    began = time.monotonic()
-    shown = subprocess.run([viewer, "html"], input=text + "trace\n" + trace, capture_output=True, text=True, check=True).stdout
-    print(f"the large run: {trace.split()[-1]} events, a page of {len(shown) / 1e6:.1f} MB in {time.monotonic() - began:.2f} s", flush=True)
-    page = os.path.join(folder, "large.html")
-    with open(page, "w", encoding="ascii") as it:
-        it.write(shown)
-    return trace, page
+    yield "the large run", reads(2850).replace("on EvtIoDefault\n", "on EvtIoDefault\nlet x = ( length + 1 )\n")
+    yield "the longest run", interrupts(200_000)
+
+
+def look_at_large_runs(tab, simulator, viewer, folder):
+    """What is wrong with the pages of large runs."""
+    bad = []
+    for name, text in large_runs():
+        trace = subprocess.run([simulator, "order"], input=text, capture_output=True, text=True, check=False).stdout
+        given = text + "trace\n" + trace
+        began = time.monotonic()
+        shown = subprocess.run([viewer, "html"], input=given, capture_output=True, text=True, check=True).stdout
+        print(f"{name}: {trace.split()[-1]} events, a page of {len(shown) / 1e6:.1f} MB in {time.monotonic() - began:.2f} s", flush=True)
+        page = os.path.join(folder, "large.html")
+        with open(page, "w", encoding="ascii") as it:
+            it.write(shown)
+        bad += look_at_large(tab, name, trace, page)
+        if "perfetto" in words_of(viewer):
+            told = subprocess.run([viewer, "perfetto"], input=given, capture_output=True, text=True, check=True)
+            bad += look_at_json(name, trace, told.stdout)
+    return bad
 
 
 def main():
@@ -372,7 +406,7 @@ def main():
             examples = sorted(glob.glob(os.path.join(here, "..", "examples", "*.kmdf")))
             for path in examples:
                 bad += look_at_example(tab, simulator, viewer, path, folder, pictures)
-            bad += look_at_large(tab, *large(simulator, viewer, folder))
+            bad += look_at_large_runs(tab, simulator, viewer, folder)
             checked = subprocess.run([sys.executable, os.path.join(here, "view", "pictures.py"), viewer, "--check"], capture_output=True, text=True, check=False)
             bad += checked.stdout.splitlines() + checked.stderr.splitlines()[-1:]
         finally:
@@ -380,7 +414,7 @@ def main():
             started.wait()
     for line in bad:
         print(line)
-    print(f"{len(examples)} examples and a large run, {len(bad)} things wrong")
+    print(f"{len(examples)} examples and two large runs, {len(bad)} things wrong")
     sys.exit(1 if bad else 0)
 
 

@@ -4,14 +4,36 @@ const byId = id => document.getElementById(id);
 const plot = byId('plot'), run = byId('run'), live = byId('shapes'), line = byId('line'), names = byId('names');
 const slots = Number(plot.dataset.slots), first = Number(plot.dataset.width);
 const ruler = byId('ruler'), kept = byId('all');
-const NS = 'http://www.w3.org/2000/svg';
+const NS = plot.namespaceURI;
 let width = first, about = 0, at = 0, lines = null;
 const each = (list, f) => { for (const item of list) f(item); };
-const all = [...(kept ? kept.content : live).querySelectorAll('svg.s')].map(e => ({ e, a: Number(e.dataset.a), b: Number(e.dataset.b) }));
+const labelOf = e => e.classList.contains('fault') ? null : e.querySelector(':scope > text');
+const shapeOf = e => ({ e, a: Number(e.dataset.a), b: Number(e.dataset.b), o: Number(e.dataset.o), r: Number(e.dataset.r), free: e.classList.contains('column'), t: labelOf(e), x: 3 });
+const rowOf = text => { const f = text.split('|'), [a, b, y, h, filled, n, o, r] = f.slice(1, 9).map(Number); return { c: f[0], a, b, y, h, filled, n, o, r, label: f[9] }; };
+const all = kept ? kept.textContent.split('\n').filter(text => text).map(rowOf) : [...live.querySelectorAll('svg.s')].map(shapeOf);
 const textOf = n => { lines = lines || byId('lines').textContent.split('\n'); return n === 0 ? 'from the beginning' : lines[n - 1] || ''; };
-const isAbout = e => about === 0 || e.classList.contains('column') || Number(e.dataset.o) === about || Number(e.dataset.r) === about;
+const isAbout = s => about === 0 || s.free || s.o === about || s.r === about;
 const place = (e, a, b) => { const x = a * width / slots; e.setAttribute('x', x); e.setAttribute('width', Math.max(1, b * width / slots - x)); };
-const dim = e => e.classList.toggle('dim', !isAbout(e));
+const labelAt = (a, b) => { const x = a * width / slots, left = run.scrollLeft; return x < left && b * width / slots > left ? left - x + 3 : 3; };
+const showLabels = () => each(all, s => { const x = s.t ? labelAt(s.a, s.b) : s.x; if (x !== s.x) { s.x = x; s.t.setAttribute('x', x); } });
+const dim = s => s.e.classList.toggle('dim', !isAbout(s));
+const part = (parent, name, attributes) => { const e = document.createElementNS(NS, name); for (const key in attributes) e.setAttribute(key, attributes[key]); parent.append(e); return e; };
+const made = s => {
+  const e = document.createElementNS(NS, 'svg');
+  e.setAttribute('class', isAbout(s) ? s.c : s.c + ' dim'); e.setAttribute('y', s.y); e.setAttribute('height', s.h);
+  Object.assign(e.dataset, { a: s.a, b: s.b, n: s.n, o: s.o, r: s.r });
+  place(e, s.a, s.b);
+  part(e, 'title', {}).textContent = textOf(s.n);
+  part(e, 'rect', { width: '100%', y: 100 - s.filled + '%', height: s.filled + '%' });
+  if (s.label) part(e, 'text', s.c.includes('fault') ? { x: -3, y: '100%', dy: -6 } : { x: labelAt(s.a, s.b), y: 12 }).textContent = s.label;
+  return e;
+};
+const blockOf = (s, x) => {
+  const e = document.createElementNS(NS, 'rect');
+  e.setAttribute('class', 'm ' + s.c); e.setAttribute('x', x); e.setAttribute('y', s.y); e.setAttribute('width', 2); e.setAttribute('height', s.h);
+  e.classList.remove('b', 'q'); if (!isAbout(s)) e.classList.add('dim');
+  return e;
+};
 const here = document.createElementNS(NS, 'rect');
 here.setAttribute('class', 'here'); here.setAttribute('y', 0); here.setAttribute('height', '100%'); here.setAttribute('visibility', 'hidden');
 plot.append(here);
@@ -37,29 +59,21 @@ const drawRuler = () => {
 const drawLarge = () => {
   const from = run.scrollLeft * slots / width, to = (run.scrollLeft + run.clientWidth) * slots / width;
   const filled = new Map(), drawn = [];
-  for (const { e, a, b } of all) {
-    if (b < from || a > to) continue;
-    const x = a * width / slots, y = e.getAttribute('y');
-    if ((b - a) * width / slots >= 2 && drawn.length < 6000) {
-      const copy = e.cloneNode(true);
-      place(copy, a, b); dim(copy); drawn.push(copy);
-    } else if (!(filled.get(y) > x)) {
-      const block = document.createElementNS(NS, 'rect');
-      block.setAttribute('class', 'm ' + e.getAttribute('class')); block.setAttribute('x', x); block.setAttribute('y', y);
-      block.setAttribute('width', 2); block.setAttribute('height', e.getAttribute('height'));
-      block.classList.remove('b', 'q'); if (!isAbout(e)) block.classList.add('dim');
-      filled.set(y, x + 2); drawn.push(block);
-    }
+  for (const s of all) {
+    if (s.b < from || s.a > to) continue;
+    const x = s.a * width / slots;
+    if ((s.b - s.a) * width / slots >= 2 && drawn.length < 6000) drawn.push(made(s));
+    else if (!(filled.get(s.y) > x)) { filled.set(s.y, x + 2); drawn.push(blockOf(s, x)); }
   }
   live.replaceChildren(...drawn);
 };
 let waiting = false;
 const draw = () => {
   plot.setAttribute('width', width + 20);
-  if (kept) drawLarge(); else each(all, s => { place(s.e, s.a, s.b); dim(s.e); });
+  if (kept) drawLarge(); else { each(all, s => { place(s.e, s.a, s.b); dim(s); }); showLabels(); }
   drawRuler(); mark();
 };
-const later = () => { if (!waiting) { waiting = true; requestAnimationFrame(() => { waiting = false; if (kept) drawLarge(); drawRuler(); }); } };
+const later = () => { if (!waiting) { waiting = true; requestAnimationFrame(() => { waiting = false; if (kept) drawLarge(); else showLabels(); drawRuler(); }); } };
 const zoom = (factor, clientX) => {
   const box = run.getBoundingClientRect(), offset = names.getBoundingClientRect().width;
   const mid = clientX === undefined ? run.clientWidth / 2 : clientX - box.left;
@@ -77,7 +91,7 @@ const go = n => {
 };
 const pick = id => {
   about = about === id ? 0 : id;
-  if (kept) drawLarge(); else each(all, s => dim(s.e));
+  if (kept) drawLarge(); else each(all, dim);
   each(names.querySelectorAll('text'), t => t.classList.toggle('dim', about !== 0 && Number(t.dataset.o) !== about));
 };
 const shapeAt = event => event.target.closest ? event.target.closest('svg.s') : null;
@@ -96,9 +110,9 @@ run.addEventListener('click', event => {
 run.addEventListener('wheel', event => { if (event.ctrlKey || event.altKey) { event.preventDefault(); zoom(event.deltaY < 0 ? 1.25 : 0.8, event.clientX); } }, { passive: false });
 run.addEventListener('scroll', later);
 addEventListener('resize', later);
-let before = 0;
-addEventListener('beforeprint', () => { before = width; width = 820; draw(); });
-addEventListener('afterprint', () => { if (before) { width = before; before = 0; draw(); } });
+let before = 0, leftBefore = 0;
+addEventListener('beforeprint', () => { before = width; leftBefore = run.scrollLeft; width = 820; run.scrollLeft = 0; draw(); });
+addEventListener('afterprint', () => { if (before) { width = before; before = 0; plot.setAttribute('width', width + 20); run.scrollLeft = leftBefore; draw(); } });
 addEventListener('keydown', event => {
   if (event.target.tagName === 'INPUT') return;
   const step = { ArrowRight: 1, ArrowLeft: -1, PageDown: 20, PageUp: -20 }[event.key];

@@ -189,7 +189,38 @@ pub(crate) fn push_shapes(
     Ok(())
 }
 
-/// Adds a block of shapes of less than a pixel.
+/// Adds a field of a row.
+fn push_field(page: &mut Page, value: u32) -> Result<(), Memory> {
+    page.markup("|")?;
+    page.number(u64::from(value))
+}
+
+/// Adds a shape as a row of fields, from which the script makes it where a zoom shows it.
+fn push_row(page: &mut Page, plan: &Plan, shape: &Shape) -> Result<(), Memory> {
+    page.markup(shape.look.class())?;
+    page.markup(role_class(shape.role))?;
+    push_field(page, shape.from)?;
+    push_field(page, shape.to)?;
+    push_field(page, shape.y)?;
+    push_field(page, shape.height)?;
+    push_field(page, shape.filled)?;
+    push_field(page, shape.number)?;
+    push_field(page, shape.about)?;
+    push_field(page, shape.with)?;
+    page.markup("|")?;
+    push_label(page, plan, &shape.label)?;
+    page.markup("\n")
+}
+
+/// Adds a row for each shape.
+pub(crate) fn push_rows(page: &mut Page, plan: &Plan, shapes: &[Shape]) -> Result<(), Memory> {
+    for shape in shapes {
+        push_row(page, plan, shape)?;
+    }
+    Ok(())
+}
+
+/// Adds a block of shapes of a pixel or two.
 fn push_block(page: &mut Page, scale: &Scale, shape: &Shape) -> Result<(), Memory> {
     page.markup("<rect class=\"m ")?;
     page.markup(shape.look.class())?;
@@ -201,7 +232,7 @@ fn push_block(page: &mut Page, scale: &Scale, shape: &Shape) -> Result<(), Memor
     page.markup("/>\n")
 }
 
-/// Adds the shapes that are a few pixels wide, and a block for those of one pixel that aren't.
+/// Adds the shapes that are more than two pixels wide, and a block for those that aren't.
 pub(crate) fn push_merged(
     alloc: Global,
     page: &mut Page,

@@ -7,7 +7,7 @@ use std::alloc::Global;
 use wdf_base::{Declared, Event, Handle, Memory, ObjectId, Plan};
 use wdf_spans::{FrameBox, Frames, boxes_of, frames_of, requests_of, spans_of};
 
-/// Past so many events shapes of less than a pixel are merged into blocks.
+/// Past so many events shapes of a pixel or two are merged into blocks.
 pub const MERGED_FROM: u32 = 5_000;
 
 /// How far across the picture a slot is.

@@ -6,8 +6,8 @@
 //!   picture, and each shape has its trace line as a title.
 //! - **How is a shape placed?** From slot to slot, in an SVG of its own that clips its label. So the script moves a shape by
 //!   two attributes, and the program writes shapes of all kinds by one function.
-//! - **What of large runs?** Past [`MERGED_FROM`] events shapes of less than a pixel are merged into blocks. All shapes are
-//!   in the page too, in an inert template from which the script takes those that a zoom shows.
+//! - **What of large runs?** Past [`MERGED_FROM`] events shapes of a pixel or two are merged into blocks. All shapes are
+//!   in the page too, as rows of fields, from which the script makes those that a zoom shows.
 //! - **How does text of the trace reach the page?** By `Page::text` of `wdf_page` alone.
 #![tactic(auto)]
 

@@ -1,7 +1,7 @@
 //! The page.
 ghost use Rattle.std.specs.Prelude.{◌<◌, ◌^◌, length};
 
-use crate::drawn::{push_attribute, push_line, push_merged, push_object, push_shapes};
+use crate::drawn::{push_attribute, push_line, push_merged, push_object, push_rows, push_shapes};
 use crate::lanes::Lanes;
 use crate::layout::{MERGED_FROM, Scale, lanes_of};
 use crate::script::SCRIPT;
@@ -146,19 +146,13 @@ fn push_plot(
 }
 
 /// Adds all shapes of a large run, for the script.
-fn push_all(
-    page: &mut Page,
-    plan: &Plan,
-    events: &[Event],
-    scale: &Scale,
-    shapes: &[Shape],
-) -> Result<(), Memory> {
+fn push_all(page: &mut Page, plan: &Plan, scale: &Scale, shapes: &[Shape]) -> Result<(), Memory> {
     if scale.slots <= MERGED_FROM {
         return Ok(());
     }
-    page.markup("<template id=\"all\"><svg>\n")?;
-    push_shapes(page, plan, events, scale, shapes)?;
-    page.markup("</svg></template>\n")
+    page.markup("<pre id=\"all\" hidden>\n")?;
+    push_rows(page, plan, shapes)?;
+    page.markup("</pre>\n")
 }
 
 /// Adds the trace line by line.
@@ -251,13 +245,7 @@ pub fn html(alloc: Global, plan: &Plan, told: &Told) -> Result<Page, Memory>
     page.markup("</main>\n<p id=\"line\" aria-live=\"polite\"></p>\n")?;
     push_legend(&mut page)?;
     push_lines(&mut page, plan, told.events)?;
-    push_all(
-        &mut page,
-        plan,
-        told.events,
-        &scale,
-        lanes.shapes.as_slice(),
-    )?;
+    push_all(&mut page, plan, &scale, lanes.shapes.as_slice())?;
     page.markup("<script>\n")?;
     push_parts(&mut page, &SCRIPT)?;
     page.markup("</script>\n</body>\n</html>\n")?;

@@ -103,14 +103,15 @@ fn push_number(
     page.markup(back)
 }
 
-/// Adds the arrow from a line to another.
+/// Adds the arrow from a line to another. It leaves a line above its middle and ends below one, so that two lines that wait for
+/// each other have two arrows that can be told apart.
 fn push_arrow(page: &mut Page, from: usize, to: usize, red: bool) -> Result<(), Memory> {
-    let start = (from as u64).saturating_mul(LINE).saturating_add(15);
-    let end = (to as u64).saturating_mul(LINE).saturating_add(15);
+    let start = (from as u64).saturating_mul(LINE).saturating_add(10);
+    let end = (to as u64).saturating_mul(LINE).saturating_add(20);
     let bend = (from.abs_diff(to) as u64)
         .saturating_mul(20)
         .saturating_add(560)
-        .min(900);
+        .min(860);
     page.markup(if red {
         "<path class=\"arrow circle\" "
     } else {

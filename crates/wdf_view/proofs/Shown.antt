@@ -1,5 +1,5 @@
 -- From what becomes of an input's parts to what becomes of the whole.
-use Rattle.std.proofs.Common.{ℕ, List, [], length, ◌≡◌, ◌≤◌, ◌∙◌, sym, append-nil, arith, Option, Some, None, Result, Ok, Err, IfOk, IfErr}
+use Rattle.std.proofs.Common.{ℕ, List, [], length, ◌≡◌, ◌≤◌, ◌∙◌, sym, append-nil, arith, Option, Some, None, Result, Ok, Err, IfOk, IfErr, inl, inr}
 use Rattle.wdf_base.specs.declared.plan.Plan.{Plan}
 use Rattle.wdf_base.specs.Resolved.{IsResolved}
 use Rattle.wdf_parse.proofs.ProperNames.{stands_scene, stands_properly}
@@ -9,9 +9,9 @@ use Rattle.wdf_output.specs.declared.refusal.Refusal.{Refusal}
 use Rattle.wdf_output.specs.declared.refusal.Refusal.TheVariants.{ReadFault, TooLarge, NoMemory, NoScene, NoPlan}
 use Rattle.wdf_view.specs.declared.bad.Bad.{Bad}
 use Rattle.wdf_view.specs.declared.bad.Bad.TheVariants.{Unread, BadTrace}
-use Rattle.wdf_input.specs.declared.input.TheConstants.{INPUT_LIMIT}
-use Rattle.wdf_input.specs.Input.{TakesAll, TakesAtMost}
-use Rattle.wdf_view.specs.Causes.{HasPlan, IsAcceptedBy, IsTextCause, IsTraceCause, IsInputCause, IsShown, IsShownFrom, IsCause, IsRead, Sourcing}
+use Rattle.wdf_view.specs.declared.read.TheConstants.{RUN_LIMIT}
+use Rattle.wdf_input.proofs.Taken.{all_within}
+use Rattle.wdf_view.specs.Causes.{HasPlan, IsAcceptedBy, IsTextCause, IsTraceCause, IsInputCause, IsShown, IsShownFrom, IsCause, IsRead, IsReadCause, Sourcing}
 
 -- the plan of a text is resolved
 pub text_plan_resolved : (text : List ℕ) (plan : Plan) → HasPlan text plan → IsResolved plan
@@ -35,16 +35,19 @@ trace_input input plan (Unread (NoScene refusal)) has cause = absurd cause
 trace_input input plan (Unread (NoPlan refusal)) has cause = absurd cause
 trace_input input plan (BadTrace line y) has cause = (plan, has, cause)
 
--- all that was left, within the limit, is at most the limit
-within_limit : (before after : Option (List ℕ)) (input : List ℕ) → TakesAll before after input → length input ≤ INPUT_LIMIT → TakesAtMost before after INPUT_LIMIT
-within_limit None after input all small = ([], omega arith, tt)
-within_limit (Some left) after input all small = (input, small, rw all.1 (all.0 ∙ sym (append-nil input)))
+-- an input that wasn't read isn't shown
+pub read_cause : (s : Sourcing) (refusal : Refusal) → IsReadCause s refusal → IsCause s (Unread refusal)
+read_cause s ReadFault cause = cause
+read_cause s TooLarge cause = inl cause
+read_cause s NoMemory cause = cause
+read_cause s (NoScene refusal) cause = absurd cause
+read_cause s (NoPlan refusal) cause = absurd cause
 
 -- an input that was read isn't shown for one of these reasons
 input_cause : (s : Sourcing) (input : List ℕ) (bad : Bad) → IsRead s input → IsInputCause input bad → IsCause s bad
 input_cause s input (Unread ReadFault) is_read cause = absurd cause
-input_cause s input (Unread TooLarge) is_read cause = absurd cause
-input_cause s input (Unread NoMemory) is_read cause = (is_read.2, within_limit s.before s.after input is_read.0 is_read.1)
+input_cause s input (Unread TooLarge) is_read cause = inr (input, is_read, cause)
+input_cause s input (Unread NoMemory) is_read cause = (is_read.2, all_within s.before s.after input RUN_LIMIT is_read.0 is_read.1)
 input_cause s input (Unread (NoScene refusal)) is_read cause = (input, is_read, cause)
 input_cause s input (Unread (NoPlan refusal)) is_read cause = (input, is_read, cause)
 input_cause s input (BadTrace line y) is_read cause = (input, is_read, cause)

@@ -4,11 +4,12 @@ use Rattle.wdf_output.specs.Said.{Sinking, Says}
 use Rattle.wdf_view.specs.declared.bad.Bad.{Bad}
 use Rattle.wdf_view.specs.declared.words.Form.{Form}
 use Rattle.wdf_view.specs.Causes.{Sourcing, IsCause, IsShownFrom, bad_line, bad_status}
+use Rattle.wdf_view.specs.Formed.{IsFormed}
 use Rattle.wdf_view.specs.Views.{Tells, usage_line}
 
 -- a picture was said
-pub picture_told : (form : Form) (s : Sourcing) (k : Sinking) (text : List ℕ) (answer : ℕ) → IsShownFrom s → Says k text 0 answer → Tells (Some form) s k answer
-picture_told form s k text answer shown said = (text, 0, inl (shown, refl), said)
+pub picture_told : (form : Form) (s : Sourcing) (k : Sinking) (text : List ℕ) (answer : ℕ) → IsShownFrom s → IsFormed form text → Says k text 0 answer → Tells (Some form) s k answer
+picture_told form s k text answer shown formed said = (text, 0, inl (shown, formed, refl), said)
 
 -- why there is none was said
 pub refusal_told : (form : Form) (s : Sourcing) (k : Sinking) (bad : Bad) (answer : ℕ) → IsCause s bad → Says k (bad_line bad) (bad_status bad) answer → Tells (Some form) s k answer

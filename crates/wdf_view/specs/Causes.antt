@@ -1,5 +1,5 @@
 -- When an input is shown, and when and why it isn't. (own)
-use Rattle.std.specs.Prelude.{ℕ, ◌≡◌, ◌≤◌, ◌+◌, ◌⊎◌, ◌++◌, List, length, codes, decimal, Option, None, Some}
+use Rattle.std.specs.Prelude.{ℕ, ◌≡◌, ◌≤◌, ◌<◌, ◌+◌, ◌⊎◌, ◌++◌, List, length, codes, decimal, Option, None, Some}
 use Rattle.wdf_base.specs.declared.plan.Plan.{Plan}
 use Rattle.wdf_base.specs.declared.event.Ending.{Ending}
 use Rattle.wdf_scene.specs.declared.scene.Scene.{Scene}
@@ -15,11 +15,12 @@ use Rattle.wdf_replay.specs.declared.verdict.Why.TheVariants as why
 use Rattle.wdf_replay.specs.Verdicts as verdict
 use Rattle.wdf_split.specs.Inputs.{scenario_in, trace_in}
 use Rattle.wdf_io.specs.Outside.{Rose}
-use Rattle.wdf_input.specs.declared.input.TheConstants.{INPUT_LIMIT}
+use Rattle.wdf_parse.specs.declared.parsing.TheConstants.{TEXT_LIMIT}
 use Rattle.wdf_input.specs.Input.{TakesAll, TakesCount, TakesAtMost}
 use Rattle.wdf_output.specs.declared.refusal.Refusal.{Refusal}
 use Rattle.wdf_output.specs.declared.refusal.Refusal.TheVariants.{ReadFault, TooLarge, NoMemory, NoScene, NoPlan}
 use Rattle.wdf_output.specs.Refusals.{refusal_line, refusal_status}
+use Rattle.wdf_view.specs.declared.read.TheConstants.{RUN_LIMIT}
 use Rattle.wdf_view.specs.declared.bad.Bad.{Bad}
 use Rattle.wdf_view.specs.declared.bad.Bad.TheVariants.{Unread, BadTrace}
 
@@ -40,16 +41,24 @@ IsUnread s = (s.after ≡ s.before) × (s.faults_after ≡ s.faults_before)
 
 -- the whole input was read, within the limit, and no read failed
 abbrev pub IsRead : Sourcing → List ℕ → Type 0
-IsRead s input = TakesAll s.before s.after input × (length input ≤ INPUT_LIMIT) × (s.faults_after ≡ s.faults_before)
+IsRead s input = TakesAll s.before s.after input × (length input ≤ RUN_LIMIT) × (s.faults_after ≡ s.faults_before)
+
+-- why an input wasn't read to its end: a read failed, it has more bytes than it may, or memory was refused
+abbrev pub IsReadCause : Sourcing → Refusal → Type 0
+IsReadCause s ReadFault = Rose s.faults_before s.faults_after × TakesAtMost s.before s.after RUN_LIMIT
+IsReadCause s TooLarge = TakesCount s.before s.after (RUN_LIMIT + 1) × (s.faults_after ≡ s.faults_before)
+IsReadCause s NoMemory = (s.faults_after ≡ s.faults_before) × TakesAtMost s.before s.after RUN_LIMIT
+IsReadCause s (NoScene refusal) = ⊥
+IsReadCause s (NoPlan refusal) = ⊥
 
 -- a scene stands for the text, and this is its plan
 abbrev pub HasPlan : List ℕ → Plan → Type 0
 HasPlan text plan = (scene : Scene) × StandsFor text scene × (first_refusal scene ≡ None) × (plan ≡ plan_of scene)
 
--- why a text has no plan, or memory was refused
+-- why a text has no plan, or is none of a scenario; memory may be refused
 abbrev pub IsTextCause : List ℕ → Refusal → Type 0
 IsTextCause text ReadFault = ⊥
-IsTextCause text TooLarge = ⊥
+IsTextCause text TooLarge = TEXT_LIMIT < length text
 IsTextCause text NoMemory = ⊥
 IsTextCause text (NoScene refusal) = IsRefusalOf (reading text) refusal × IsNoScene text refusal
 IsTextCause text (NoPlan refusal) = (scene : Scene) × StandsFor text scene × ((refusal ≡ plan.Memory) ⊎ (first_refusal scene ≡ Some refusal))
@@ -84,9 +93,9 @@ IsInputCause input (BadTrace line y) = IsBadTrace input line y
 
 -- why there is no picture, a row for each reason
 abbrev pub IsCause : Sourcing → Bad → Type 0
-IsCause s (Unread ReadFault) = Rose s.faults_before s.faults_after × TakesAtMost s.before s.after INPUT_LIMIT
-IsCause s (Unread TooLarge) = TakesCount s.before s.after (INPUT_LIMIT + 1) × (s.faults_after ≡ s.faults_before)
-IsCause s (Unread NoMemory) = (s.faults_after ≡ s.faults_before) × TakesAtMost s.before s.after INPUT_LIMIT
+IsCause s (Unread ReadFault) = IsReadCause s ReadFault
+IsCause s (Unread TooLarge) = IsReadCause s TooLarge ⊎ ((input : List ℕ) × IsRead s input × IsTextCause (scenario_in input) TooLarge)
+IsCause s (Unread NoMemory) = IsReadCause s NoMemory
 IsCause s (Unread (NoScene refusal)) = (input : List ℕ) × IsRead s input × IsTextCause (scenario_in input) (NoScene refusal)
 IsCause s (Unread (NoPlan refusal)) = (input : List ℕ) × IsRead s input × IsTextCause (scenario_in input) (NoPlan refusal)
 IsCause s (BadTrace line y) = (input : List ℕ) × IsRead s input × IsBadTrace input line y

@@ -1,3 +1,4 @@
 pub mod Words
+pub mod Formed
 pub mod Causes
 pub mod Views

@@ -1,9 +1,11 @@
 //! A trace is judged, and its run is drawn.
 ghost use Rattle.std.specs.Prelude.{◌≡◌, ◌≤◌, ◌^◌, ◌<◌, [], length, IfOk, IfErr};
 ghost use Rattle.wdf_base.specs.Resolved.{IsResolved};
+ghost use Rattle.wdf_view.specs.Formed.{IsFormed, drawn_bytes};
 ghost use Rattle.wdf_view.specs.Causes.{HasPlan, IsAcceptedBy, IsInputCause, IsShown, IsTraceCause};
 
 use crate::bad::Bad;
+use crate::drawn::Drawn;
 use crate::read::plan_of_text;
 use crate::words::Form;
 use std::alloc::Global;
@@ -11,8 +13,7 @@ use wdf_base::{Agent, Event, Memory, Plan, WaitLine};
 use wdf_core::Core;
 use wdf_dev::{AnyAgent, agents};
 use wdf_output::Refusal;
-use wdf_page::Page;
-use wdf_parse::TEXT_LIMIT;
+use wdf_perfetto::perfetto;
 use wdf_picture::{Told, html};
 use wdf_replay::{Verdict, replay};
 use wdf_run_text::from_place;
@@ -49,7 +50,9 @@ fn waits_of<A: Agent>(alloc: Global, core: &Core<A>) -> Result<Vec<WaitLine>, Me
 }
 
 /// The picture of the run on a core.
-fn draw<A: Agent>(alloc: Global, form: Form, core: &Core<A>) -> Result<Page, Memory> {
+fn draw<A: Agent>(alloc: Global, form: Form, core: &Core<A>) -> Result<Drawn, Memory>
+    ensures { IfOk result (λ drawn. IsFormed form (drawn_bytes drawn)) }
+{
     let events = events_of(alloc, core)?;
     let waits = waits_of(alloc, core)?;
     let _limit = core.plan().limit();
@@ -60,16 +63,19 @@ fn draw<A: Agent>(alloc: Global, form: Form, core: &Core<A>) -> Result<Page, Mem
         waits: waits.as_slice(),
     };
     match form {
-        Form::Html => html(alloc, core.plan(), &told),
+        Form::Html => Ok(Drawn::Html(html(alloc, core.plan(), &told)?)),
+        Form::Perfetto => Ok(Drawn::Json(perfetto(alloc, core.plan(), told.events)?)),
     }
 }
 
-/// A page that was drawn; no memory where it wasn't.
-fn drawn(page: Result<Page, Memory>) -> Result<Page, Bad>
-    ensures { IfErr result (λ bad. bad ≡ Bad.Unread Refusal.NoMemory) }
+/// What was drawn; no memory where nothing was.
+fn or_no_memory(form: Form, drawn: Result<Drawn, Memory>) -> Result<Drawn, Bad>
+    requires { IfOk drawn (λ drawn. IsFormed form (drawn_bytes drawn)) }
+    ensures formed { IfOk result (λ drawn. IsFormed form (drawn_bytes drawn)) }
+    ensures refused { IfErr result (λ bad. bad ≡ Bad.Unread Refusal.NoMemory) }
 {
-    match page {
-        Ok(page) => Ok(page),
+    match drawn {
+        Ok(drawn) => Ok(drawn),
         Err(_) => Err(Bad::Unread(Refusal::NoMemory)),
     }
 }
@@ -80,22 +86,24 @@ fn draw_core(
     form: Form,
     core: &mut Core<AnyAgent>,
     trace: &[u8],
-) -> Result<Page, Bad>
+) -> Result<Drawn, Bad>
     requires resolved { IsResolved core.old.plan }
     requires fresh { core.old.journal ≡ [] }
-    ensures accepted { IfOk result (λ page. IsAcceptedBy core.old.plan trace.now) }
+    ensures formed { IfOk result (λ drawn. IsFormed form (drawn_bytes drawn)) }
+    ensures accepted { IfOk result (λ drawn. IsAcceptedBy core.old.plan trace.now) }
     ensures refused { IfErr result (IsTraceCause core.old.plan trace.now) }
 {
     match replay(core, trace) {
-        Verdict::Accepted(_) => drawn(draw(alloc, form, core)),
+        Verdict::Accepted(_) => or_no_memory(form, draw(alloc, form, core)),
         Verdict::RefusedAt { line, why } => Err(Bad::BadTrace { line, why }),
     }
 }
 
 /// The picture of a plan's trace.
-fn draw_trace(alloc: Global, form: Form, plan: Plan, trace: &[u8]) -> Result<Page, Bad>
+fn draw_trace(alloc: Global, form: Form, plan: Plan, trace: &[u8]) -> Result<Drawn, Bad>
     requires { IsResolved plan }
-    ensures accepted { IfOk result (λ page. IsAcceptedBy plan trace.now) }
+    ensures formed { IfOk result (λ drawn. IsFormed form (drawn_bytes drawn)) }
+    ensures accepted { IfOk result (λ drawn. IsAcceptedBy plan trace.now) }
     ensures refused { IfErr result (IsTraceCause plan trace.now) }
 {
     match opening(alloc, plan) {
@@ -105,9 +113,9 @@ fn draw_trace(alloc: Global, form: Form, plan: Plan, trace: &[u8]) -> Result<Pag
 }
 
 /// The picture of an input.
-pub(crate) fn draw_input(alloc: Global, form: Form, input: &[u8]) -> Result<Page, Bad>
-    requires { length input.now ≤ TEXT_LIMIT }
-    ensures shown { IfOk result (λ page. IsShown input.now) }
+pub(crate) fn draw_input(alloc: Global, form: Form, input: &[u8]) -> Result<Drawn, Bad>
+    ensures formed { IfOk result (λ drawn. IsFormed form (drawn_bytes drawn)) }
+    ensures shown { IfOk result (λ drawn. IsShown input.now) }
     ensures cause { IfErr result (IsInputCause input.now) }
 {
     let parts = split(input);

@@ -3,27 +3,29 @@ ghost use Rattle.std.specs.Prelude.{◌≡◌, Some, map, string_bytes, IfOk, If
 ghost use Rattle.wdf_io.specs.Outside.{EndsRefused};
 ghost use Rattle.wdf_output.specs.Said.{sinking};
 ghost use Rattle.wdf_view.specs.Causes.{IsCause, IsShownFrom, sourcing};
+ghost use Rattle.wdf_view.specs.Formed.{IsFormed, drawn_bytes};
 ghost use Rattle.wdf_view.specs.Views.{Tells};
 ghost use Rattle.wdf_view.specs.Words.{form_of_words};
 
 use crate::bad::{Bad, tell_bad};
+use crate::drawn::Drawn;
 use crate::judged::draw_input;
 use crate::read::read_input;
 use crate::words::{Form, form_of};
 use std::alloc::Global;
 use wdf_io::{Sink, Source};
 use wdf_output::say;
-use wdf_page::Page;
 
 /// What is written for words of no form.
-const USAGE: &[u8] = b"usage: kmdfview html\n";
+const USAGE: &[u8] = b"usage: kmdfview html | perfetto\n";
 
 /// The status of words of no form.
 const USAGE_STATUS: u8 = 2;
 
 /// The picture of the whole input of a source.
-fn draw_source<S: Source>(alloc: Global, form: Form, source: &mut S) -> Result<Page, Bad>
-    ensures shown { IfOk result (λ page. IsShownFrom (sourcing (S.left source.old) (S.left source.new) (S.faults source.old) (S.faults source.new))) }
+fn draw_source<S: Source>(alloc: Global, form: Form, source: &mut S) -> Result<Drawn, Bad>
+    ensures formed { IfOk result (λ drawn. IsFormed form (drawn_bytes drawn)) }
+    ensures shown { IfOk result (λ drawn. IsShownFrom (sourcing (S.left source.old) (S.left source.new) (S.faults source.old) (S.faults source.new))) }
     ensures cause { IfErr result (IsCause (sourcing (S.left source.old) (S.left source.new) (S.faults source.old) (S.faults source.new))) }
 {
     match read_input(alloc, source) {
@@ -41,7 +43,7 @@ fn show<S: Source, K: Sink>(alloc: Global, form: Form, source: &mut S, sink: &mu
     ensures not_again { result ≡ 13 → EndsRefused K.refused K.faults sink.old sink.new }
 {
     match draw_source(alloc, form, source) {
-        Ok(page) => say(sink, page.bytes(), 0),
+        Ok(drawn) => say(sink, drawn.bytes(), 0),
         Err(bad) => tell_bad(sink, bad),
     }
 }
@@ -49,8 +51,9 @@ fn show<S: Source, K: Sink>(alloc: Global, form: Form, source: &mut S, sink: &mu
 /// Serves the words after the program's name, and answers the status to end with. It always returns.
 ///
 /// `html` reads a scenario, a line `trace` and a trace, as `kmdfsim replay` does, and writes a page that shows the run,
-/// with the status 0. Where `replay` refuses the input, its line is written, with its status. For other words there is a
-/// line of usage, with the status 2. Where the sink fails the status is 13.
+/// with the status 0. `perfetto` writes the run as JSON for a viewer of traces. Where `replay` refuses the input, its line is
+/// written, with its status. For other words there is a line of usage, with the status 2. Where the sink fails the status is
+/// 13.
 pub fn view<S: Source, K: Sink>(alloc: Global, words: &[String], source: &mut S, sink: &mut K) -> u8
     ensures told { Tells (form_of_words (map string_bytes words.now))
         (sourcing (S.left source.old) (S.left source.new) (S.faults source.old) (S.faults source.new))

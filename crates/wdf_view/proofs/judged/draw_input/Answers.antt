@@ -1,12 +1,6 @@
 -- What becomes of the input's two parts.
-use Rattle.std.proofs.Common.{arith}
-use Rattle.std.proofs.lemmas.List.{length-take-le}
 use Rattle.wdf_view.proofs.Shown.{cause_of, shown_of, text_input, text_plan_resolved}
 use Rattle.wdf_view.proofs.judged.draw_input.Goals as goal
-
-pub plan_of_text-requires : goal.plan_of_text-requires
-plan_of_text-requires c =
-    omega (arith, length-take-le c.split-parts.result.scenario c.args.input.now c.split-parts.ensures.scenario_within, c.split-parts.ensures.scenario_within, c.requires)
 
 pub draw_trace-requires : goal.draw_trace-requires
 draw_trace-requires c = text_plan_resolved _ c.in-Ok.plan c.in-Ok.ensures.plan
@@ -15,12 +9,14 @@ pub returns-in-Ok : goal.returns-in-Ok
 returns-in-Ok c =
     let has = rw c.split-parts.ensures.scenario at c.in-Ok.ensures.plan in
     record {
+      formed = c.draw_trace.ensures.formed;
       shown = shown_of c.args.input.now c.in-Ok.plan _ has (rw c.split-parts.ensures.trace at (rw c.from_place.ensures at c.draw_trace.ensures.accepted));
       cause = cause_of c.args.input.now c.in-Ok.plan _ has (rw c.split-parts.ensures.trace at (rw c.from_place.ensures at c.draw_trace.ensures.refused));
     }
 
 pub returns-in-Err : goal.returns-in-Err
 returns-in-Err c = record {
+  formed = tt;
   shown = tt;
   cause = text_input c.args.input.now c.in-Err.refusal (rw c.split-parts.ensures.scenario at c.in-Err.ensures.cause);
 }

@@ -5,7 +5,7 @@ use Rattle.wdf_view.proofs.top.show.Goals as goal
 
 pub returns-in-Ok : goal.returns-in-Ok
 returns-in-Ok g c = record {
-  told = picture_told c.args.form _ _ c.bytes.result.now _ c.in-Ok.ensures.shown c.say.ensures.said;
+  told = picture_told c.args.form _ _ c.bytes.result.now _ c.in-Ok.ensures.shown (rw c.bytes.ensures c.in-Ok.ensures.formed) c.say.ensures.said;
   not_again = c.say.ensures.not_again (λ h. omega (arith, h));
 }
 
