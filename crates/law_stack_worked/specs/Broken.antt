@@ -1,5 +1,5 @@
 -- Lists of events, made by hand from worked runs, that break the laws on stacks, and where.
-use Rattle.std.specs.Prelude.{if◌then◌else◌, ◌≡◌, ◌×◌, ℕ, suc, Bool, List, [], ◌∷◌, ◌++◌, Option, Some, None, option_map}
+use Rattle.std.specs.Prelude.{if◌then◌else◌, ◌≡◌, ℕ, suc, Bool, List, [], ◌∷◌, ◌++◌, Option, Some, None, option_map}
 use Rattle.wdf_base.specs.declared.plan.Plan.{Plan}
 use Rattle.wdf_base.specs.declared.event.Ask.TheVariants as ask
 use Rattle.wdf_base.specs.declared.event.Post.TheVariants as post
