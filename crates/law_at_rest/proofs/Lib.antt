@@ -4,4 +4,6 @@ pub mod Lines
 pub mod Devices
 pub mod Itself
 pub mod Arrived
+pub mod Targets
+pub mod Proper
 pub mod Due

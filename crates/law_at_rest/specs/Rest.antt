@@ -1,5 +1,5 @@
 -- What is so of a state in which nothing may come before the limit of events. (own)
-use Rattle.std.specs.Prelude.{◌≡◌, ◌⊎◌, ◌≤◌, ℕ, true, false, ⊤, length, None, Some, slice_get}
+use Rattle.std.specs.Prelude.{◌≡◌, ◌⊎◌, ◌≤◌, ℕ, true, false, [], length, None, Some, slice_get}
 use Rattle.wdf_base.specs.Meaning.{Meaning}
 use Rattle.wdf_base.specs.Plan.{posts_of}
 use Rattle.wdf_base.specs.declared.plan.Plan.{Plan}
@@ -11,11 +11,13 @@ use Rattle.wdf_base.specs.declared.ids.Handle.{Handle}
 use Rattle.wdf_model.specs.declared.entries.DeviceAction.{DeviceAction}
 use Rattle.wdf_model.specs.agents.App as app
 use Rattle.wdf_model.specs.agents.Device.{Device}
+use Rattle.wdf_model.specs.agents.LowerTarget.{LowerTarget}
 use Rattle.wdf_model.specs.parts.Deferred.Timers.{any_later_timer}
 use Rattle.wdf_model.specs.parts.Pnp.{busy}
 use Rattle.wdf_model.specs.State.{State}
 use Rattle.wdf_model.specs.rules.Posts.{due_of, post_fits}
 use Rattle.wdf_model.specs.rules.Ready.{any_spends}
+use Rattle.wdf_dev.specs.Agents.{agent_meaning}
 use Rattle.wdf_dev.specs.declared.any.AnyAgent.{AnyAgent}
 use Rattle.wdf_dev.specs.declared.any.AnyAgent.TheVariants as agent
 
@@ -46,13 +48,33 @@ HasAsked plan S p = HasPosted plan 0 p ⊎ ((l : PostLine) × (slice_get (posts_
 abbrev pub HasActed : Device → Type 0
 HasActed d = (j : ℕ) (l : DeviceAction) → slice_get d.actions j ≡ Some l → l.tick ≡ None
 
--- The agent with this number has nothing left to post. Of what a target is to be done with nothing is said here.
+-- a target is done with all that was sent to it
+abbrev pub HasFinished : LowerTarget → Type 0
+HasFinished t = t.sent ≡ []
+
+-- The agent with this number has nothing left to post, but for the Plug and Play manager where a device isn't done.
 abbrev pub IsOver : {A : Type 0} → Plan → State A → ℕ → AnyAgent → Type 0
 IsOver plan S k (agent.PnpManager p) = HasAsked plan S p
 IsOver plan S k (agent.App p) = HasPosted plan k p
 IsOver plan S k (agent.Device d) = HasActed d
-IsOver plan S k (agent.LowerTarget t) = ⊤
+IsOver plan S k (agent.LowerTarget t) = HasFinished t
 
--- Each agent has nothing left to post.
+-- Each agent has nothing left to post, but for the Plug and Play manager where a device isn't done.
 abbrev pub AllOver : Plan → State AnyAgent → Type 0
 AllOver plan S = (k : ℕ) (a : AnyAgent) → slice_get S.agents k ≡ Some a → IsOver plan S k a
+
+-- Nothing is due, but a post of the Plug and Play manager that asks a device for a sequence while one of it is under way.
+abbrev pub AsksAreDue : State AnyAgent → Type 0
+AsksAreDue S = (k : ℕ) (p : Post) → due_of agent_meaning S k ≡ Some p → (k ≡ 0) × IsAskedOfBusy S p
+
+-- the agent with this number has nothing left to post
+abbrev pub HasPlayed : Plan → ℕ → AnyAgent → Type 0
+HasPlayed plan k (agent.PnpManager p) = HasPosted plan 0 p
+HasPlayed plan k (agent.App p) = HasPosted plan k p
+HasPlayed plan k (agent.Device d) = HasActed d
+HasPlayed plan k (agent.LowerTarget t) = HasFinished t
+
+-- The whole scenario was played: each agent has nothing left to post, and none has a post due.
+pub record AllPlayed (plan : Plan) (S : State AnyAgent) : Type 0 where
+  pub played : (k : ℕ) (a : AnyAgent) → slice_get S.agents k ≡ Some a → HasPlayed plan k a
+  pub due : (k : ℕ) → due_of agent_meaning S k ≡ None

@@ -37,13 +37,13 @@ use Rattle.wdf_model.specs.rules.Ready.{IsRunOf, state_after}
 use Rattle.wdf_model.specs.rules.Steps.{after, deeds, may}
 use Rattle.wdf_model.proofs.Tests.{both_left, both_right}
 use Rattle.law_machine_base.proofs.OwnEvents.{IsDid}
-use Rattle.law_machine_lives.proofs.Keeping.{Known, each_place}
+use Rattle.law_machine_lives.proofs.Keeping.{Known, at_the_end, each_place}
 use Rattle.law_trace_families.proofs.Stays.{Stays, event_stays}
 use Rattle.law_trace_requests.proofs.FirstParts.{did_after}
-use Rattle.law_handles.specs.Handles.{AllNamed, InFrame, InValue, IsNamed}
+use Rattle.law_handles.specs.Handles.{AllNamed, InCall, InFrame, InValue, IsNamed}
 use Rattle.law_handles.proofs.Changes.{deeds_in}
 use Rattle.law_handles.proofs.Events.{event_tells, named_still, new_named}
-use Rattle.law_handles.proofs.Values.{frame_more, value_more, zeros}
+use Rattle.law_handles.proofs.Values.{InIntent, frame_more, intent_in, value_more, zeros}
 
 -- what is so of a state, and with it of the id 0 and of the objects that the plan's expressions name
 pub record Named {A : Type 0} (plan : Plan) (S : State A) : Type 0 where
@@ -208,7 +208,20 @@ module _ {A : Type 0} (plan : Plan) (m : Meaning A) (S : State A) where
         let both = deeds_in (IsNamed plan next) (blank_named plan next zeroth_still two_still) plan (deeds plan S e) S tells frames_more cells_more in
         record { zeroth = zeroth_still; two = two_still; literals = literals; named = record { frames = both.0; cells = both.1 } }
 
+named_each : {A : Type 0} (plan : Plan) (m : Meaning A) (run : List Event) → IsResolved plan → IsRunOf plan m run → (n : ℕ) → Named plan (state_after plan m (take n run))
+named_each plan m run resolved is_run n =
+    each_place plan m (Named plan) (opens plan m resolved) (λ S e known h held. step plan m S e known h held)
+    (λ S time held. record { zeroth = held.zeroth; two = held.two; literals = held.literals; named = record { frames = held.named.frames; cells = held.named.cells } }) run is_run n
+
 pub named_at_each : {A : Type 0} (plan : Plan) (m : Meaning A) (run : List Event) → IsResolved plan → IsRunOf plan m run → (n : ℕ) → AllNamed plan (state_after plan m (take n run))
-named_at_each plan m run resolved is_run n =
-    (each_place plan m (Named plan) (opens plan m resolved) (λ S e known h held. step plan m S e known h held)
-    (λ S time held. record { zeroth = held.zeroth; two = held.two; literals = held.literals; named = record { frames = held.named.frames; cells = held.named.cells } }) run is_run n).named
+named_at_each plan m run resolved is_run n = (named_each plan m run resolved is_run n).named
+
+-- the handles in a call that is done after a run
+pub call_named : {A : Type 0} (plan : Plan) (m : Meaning A) (run : List Event) → IsResolved plan → IsRunOf plan m run → (cpu : ℕ) (c : Call) (v : Value) → IsDid plan (state_after plan m run) cpu c v
+    → InCall (IsNamed plan (state_after plan m run).tree) c
+call_named {A} plan m run resolved is_run cpu c v d =
+    let S : State A = state_after plan m run in
+    let P : Handle → Type 0 = IsNamed plan S.tree in
+    let n : Named plan S = at_the_end plan m (λ (T : State A). Named plan T) run (named_each plan m run resolved is_run (length run)) in
+    let f = frame_of S.cpus d.frame in
+    subst (InIntent P plan n.literals f (n.named.frames d.frame)) d.about.about (intent_in P plan n.literals f (n.named.frames d.frame))

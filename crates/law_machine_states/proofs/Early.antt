@@ -69,7 +69,7 @@ all_asked [] S x h = h
 all_asked (y ∷ ys) S x h = all_asked ys (ask_object S y) x (asked_one S y (is_live (life_of S.tree y)) refl x h)
 
 -- the object that a deed cleans up or ends, if any
-abbrev Finishes : Deed → ℕ → Type 0
+abbrev pub Finishes : Deed → ℕ → Type 0
 Finishes (CleanUp o) x = x ≡ o.0
 Finishes (EndLife o) x = x ≡ o.0
 Finishes _ x = ⊥
@@ -77,7 +77,7 @@ Finishes _ x = ⊥
 others_stay : (T : Tree) (o x : ℕ) (f : Node → Node) → x ≢ o → is_past_cleanup (life_of T x) ≡ false → is_past_cleanup (life_of (with_node T o f) x) ≡ false
 others_stay T o x f n h = ap (λ (m : Node). is_past_cleanup m.life) (entry_put_other gone T.nodes o x (f (node_of T o)) n) ∙ h
 
-early_still : {A : Type 0} (plan : Plan) (d : Deed) (S : State A) (x : ℕ) → (Finishes d x → ⊥) → is_past_cleanup (life_of S.tree x) ≡ false → is_past_cleanup (life_of (do_deed plan d S).tree x) ≡ false
+pub early_still : {A : Type 0} (plan : Plan) (d : Deed) (S : State A) (x : ℕ) → (Finishes d x → ⊥) → is_past_cleanup (life_of S.tree x) ≡ false → is_past_cleanup (life_of (do_deed plan d S).tree x) ≡ false
 early_still plan (Create k class parent) S x n h = early_made S.tree k class parent.0 x h
 early_still plan (MakeRequest class parent) S x n h = early_made S.tree kind.Made class parent.0 x h
 early_still plan (Arrive device info p) S x n h = ap (λ T. is_past_cleanup (life_of T x)) (arrived_tree S device.0 info p) ∙ early_made S.tree kind.Request 0 device.0 x h

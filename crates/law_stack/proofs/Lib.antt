@@ -5,7 +5,7 @@ mod Counting
 mod Dues
 mod Firsts
 pub mod Heard
-mod Held
+pub mod Held
 mod Knowing
 mod Leading
 mod Levels
@@ -19,6 +19,6 @@ mod Rising
 mod Sequences
 pub mod Served
 mod Steps
-mod Targets
+pub mod Targets
 mod Turning
-mod Undone
+pub mod Undone
