@@ -17,9 +17,12 @@ use wdf_turn::Gate;
 /// How many turns each worker has for each event that the run may have.
 const TURNS_AN_EVENT: u32 = 4;
 
-/// Goes on from the journal by workers, until no event may follow: one for each processor, one for the
-/// framework and the clock, and one for all agents. Each has a thread of its own where one can be made.
-/// What they leave is finished here, always by the first event that may follow.
+/// Goes on from the journal until no event may follow. There is one worker for each processor, one for the framework
+/// and the clock, and one for all agents. What they leave is done here, always by the first event that may follow.
+///
+/// The clauses say this: the plan is kept, the journal begins with the given one, each of its events could follow those
+/// before it, and the run has ended. No clause says that a worker has a thread, passes the gate, takes a turn or goes on
+/// after its first wait: a body that does all here keeps them too. That is to be seen in the code, and tests show it.
 ///
 /// # Errors
 ///

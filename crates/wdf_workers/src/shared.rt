@@ -12,7 +12,8 @@ use std::thread::Threads;
 use wdf_base::Memory;
 use wdf_turn::{Gate, Seat, Turn};
 
-/// Shares a value among workers until their turns are over, and answers what they made of it.
+/// Shares a value among workers until their turns are over, and answers what they made of it. The clauses say that it has
+/// the same root and that its history begins with the given one. No clause says that a worker had a turn.
 ///
 /// # Errors
 ///

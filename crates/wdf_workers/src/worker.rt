@@ -40,7 +40,8 @@ fn take_turn<T: Advance>(turn: &Turn<T>, seat: &mut Seat<T>, crew: Crew) -> Prog
 }
 
 /// Lets other threads run until the history is longer than this, and answers true; false where it was looked at so many
-/// times in vain. So a worker that has nothing to do keeps the value from no other, and uses its turns up slowly.
+/// times in vain. So a worker that has nothing to do keeps the value from no other, and uses its turns up slowly. No clause
+/// says that it looks.
 fn await_growth<T: Advance, G: Gate>(
     turn: &Turn<T>,
     seat: &mut Seat<T>,
@@ -86,7 +87,7 @@ fn turn_and_wait<T: Advance, G: Gate>(
 }
 
 /// All turns of a worker, or fewer: it leaves where nothing may follow any more, or where nobody has added anything for
-/// so many of its turns. It passes the gate before each.
+/// so many of its turns. It passes the gate before each. The clauses say only that its seat is idle again, and the same.
 fn work<T: Advance, G: Gate>(
     turn: &Turn<T>,
     seat: &mut Seat<T>,
@@ -111,7 +112,8 @@ fn work<T: Advance, G: Gate>(
     }
 }
 
-/// Has each seat's worker do its turns, in a thread of its own where one can be made.
+/// Has each seat's worker do its turns, in a thread of its own where one can be made. The clauses say only that each seat is
+/// idle again, and the same.
 pub fn work_all<R: Threads + Sync, T: Advance + Send, G: Gate + Sync>(
     rt: &R,
     turn: &Turn<T>,
