@@ -8,4 +8,4 @@ mod trace;
 
 pub use refusal::Refusal;
 pub use texts::{SINK_FAULT, say, tell};
-pub use trace::{status_of, write_run};
+pub use trace::{status_of, write_end, write_line, write_run};

@@ -16,8 +16,12 @@ use wdf_core::Core;
 use wdf_io::{Failed, Sink, write_all};
 use wdf_lines::{LINE_LIMIT, Line, ending_line, line_of, wait_line};
 
-/// Writes a line and its line feed.
-fn write_line<K: Sink>(sink: &mut K, mut line: Line) -> Result<(), Failed>
+/// Writes a line and its line feed, in one piece.
+///
+/// # Errors
+///
+/// [`Failed`] where a write of the sink failed. A front of the line may be written by then.
+pub fn write_line<K: Sink>(sink: &mut K, mut line: Line) -> Result<(), Failed>
     requires { length line < LINE_LIMIT }
     ensures whole { OnOk result (Gains (K.written sink.old) (K.written sink.new) (line ++ codes "\n")) }
     ensures cut { OnErr result (IsCutShort (sinking (K.written sink.old) (K.written sink.new) (K.faults sink.old) (K.faults sink.new)) (line ++ codes "\n")) }
@@ -109,7 +113,11 @@ fn write_waits<A: Agent, K: Sink>(core: &Core<A>, sink: &mut K) -> Result<(), Fa
 }
 
 /// Writes the line of how the run ended, and the wait list of a stuck run.
-fn write_end<A: Agent, K: Sink>(core: &Core<A>, sink: &mut K) -> Result<(), Failed>
+///
+/// # Errors
+///
+/// [`Failed`] where a write of the sink failed. A front of these lines may be written by then.
+pub fn write_end<A: Agent, K: Sink>(core: &Core<A>, sink: &mut K) -> Result<(), Failed>
     requires { ending_of core.now.plan A.meaning core.now.journal ≢ Ending.Running }
     ensures whole { OnOk result (Gains (K.written sink.old) (K.written sink.new) (ending_lines core.now.plan A.meaning core.now.journal)) }
     ensures cut { OnErr result (IsCutShort (sinking (K.written sink.old) (K.written sink.new) (K.faults sink.old) (K.faults sink.new)) (ending_lines core.now.plan A.meaning core.now.journal)) }

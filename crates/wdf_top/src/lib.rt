@@ -27,3 +27,4 @@ pub use laws::{one_trace_a_plan, plans_of_texts_are_resolved, traces_are_of_runs
 pub use run::opening;
 pub use scenario::read_plan;
 pub use top::top_plain;
+pub use words::number_word;

@@ -79,8 +79,8 @@ pub(crate) fn is_number(word: &[u8]) -> bool
     word.iter().all(|byte| byte.is_ascii_digit())
 }
 
-/// The number that one to twenty decimal digits write.
-fn number_word(word: &[u8]) -> Option<u64>
+/// The number that one to twenty decimal digits write; `None` where the word is none, or the number isn't below 2^64.
+pub fn number_word(word: &[u8]) -> Option<u64>
     ensures { result ≡ number_word word.now }
 {
     if (1..=20).contains(&word.len()) && is_number(word) {

@@ -30,5 +30,7 @@ mod state;
 mod worker;
 
 pub use crew::Crew;
-pub use run::run_threads;
+pub use run::{finish, run_threads, shift_of};
+pub use shared::{seated, worked};
 pub use state::{Advance, Progress, RunState};
+pub use worker::Shift;

@@ -9,7 +9,7 @@ use crate::state::RunState;
 use crate::worker::Shift;
 use std::alloc::Global;
 use std::thread::Threads;
-use wdf_base::{Agent, Memory};
+use wdf_base::{Agent, Memory, Plan};
 use wdf_core::Core;
 use wdf_run::run_order;
 use wdf_turn::Gate;
@@ -36,16 +36,21 @@ pub fn run_threads<R: Threads + Sync, A: Agent + Send, G: Gate + Sync>(
     ensures run { IfOk result (λ after. IsRunOf core.plan A.meaning after.journal) }
     ensures ended { IfOk result (λ after. ending_of core.plan A.meaning after.journal ≢ ending.Running) }
 {
-    let shift = Shift {
-        processors: core.plan().cpus(),
-        turns: core.plan().limit().saturating_mul(TURNS_AN_EVENT),
-    };
+    let shift = shift_of(core.plan());
     let state = share(rt, alloc, RunState { core }, shift, gate)?;
     Ok(finish(state))
 }
 
+/// The shift of the workers of a plan's run.
+pub fn shift_of(plan: &Plan) -> Shift {
+    Shift {
+        processors: plan.cpus(),
+        turns: plan.limit().saturating_mul(TURNS_AN_EVENT),
+    }
+}
+
 /// Takes the first event that may follow, until none may.
-fn finish<A: Agent>(state: RunState<A>) -> Core<A>
+pub fn finish<A: Agent>(state: RunState<A>) -> Core<A>
     ensures plan { result.plan ≡ state.core.plan }
     ensures journal { IsPrefix state.core.journal result.journal }
     ensures run { IsRunOf state.core.plan A.meaning result.journal }

@@ -27,13 +27,16 @@ pub fn share<R: Threads + Sync, T: Advance + Send + Drop, G: Gate + Sync>(
     ensures root { IfOk result (λ after. T.root after ≡ T.root value) }
     ensures list { IfOk result (λ after. IsPrefix (T.events value) (T.events after)) }
 {
-    let workers = u32::from(shift.processors) + 2;
-    let (turn, seats) = seated(alloc, value, workers)?;
+    let (turn, seats) = seated(alloc, value, shift.workers())?;
     Ok(worked(rt, turn, seats, shift, gate))
 }
 
 /// A turnstile with the value, and a seat for each worker.
-fn seated<T: Advance + Drop>(
+///
+/// # Errors
+///
+/// [`Memory`], with the value dropped, where memory for the seats or for the turnstile was refused.
+pub fn seated<T: Advance + Drop>(
     alloc: Global,
     value: T,
     workers: u32,
@@ -71,7 +74,7 @@ fn work_row<R: Threads + Sync, T: Advance + Send, G: Gate + Sync>(
 }
 
 /// What the workers make of the value in all their turns.
-fn worked<R: Threads + Sync, T: Advance + Send, G: Gate + Sync>(
+pub fn worked<R: Threads + Sync, T: Advance + Send, G: Gate + Sync>(
     rt: &R,
     turn: Turn<T>,
     mut seats: Vec<Seat<T>>,

@@ -1,5 +1,5 @@
 //! What a worker does.
-ghost use Rattle.std.specs.Prelude.{◌≡◌, ◌<◌, ℕ, All, length, slice_index_or};
+ghost use Rattle.std.specs.Prelude.{◌≡◌, ◌+◌, ◌<◌, ℕ, All, length, slice_index_or};
 ghost use Rattle.wdf_workers.specs.Rows.{IsIdleSeat, IsSameSeat};
 
 use crate::crew::{Crew, crew_of};
@@ -15,6 +15,15 @@ pub struct Shift {
     pub processors: u8,
     /// How many turns each worker has.
     pub turns: u32,
+}
+
+impl Shift {
+    /// How many workers the run has: one for each processor, one for the framework and the clock, and one for all agents.
+    pub fn workers(self) -> u32
+        ensures { result ≡ self.processors + 2 }
+    {
+        u32::from(self.processors) + 2
+    }
 }
 
 /// How often, at most, a worker whose turn added nothing looks whether the history has grown, before its next turn.
