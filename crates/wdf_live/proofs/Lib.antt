@@ -1,0 +1,5 @@
+pub mod Lines
+pub mod Sent
+pub mod Printing
+pub mod Remaining
+pub mod Exits

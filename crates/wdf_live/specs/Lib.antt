@@ -1,0 +1,4 @@
+pub mod Slot
+pub mod Told
+pub mod Printed
+pub mod Watched
