@@ -7,37 +7,51 @@
 anew for each way through crates.txt from the crate to the library: half a minute for wdf_core, minutes for wdf_serve, before
 anything is proved. This script has `rt` remember it for three seconds. What is proved is the same. The gate doesn't use it.
 """
+import importlib.machinery
 import os
 import runpy
 import shutil
 import sys
 import time
 
-RT = os.path.realpath(shutil.which("rt") or sys.exit("rt isn't in the path"))
-sys.path.insert(0, os.path.dirname(RT))
-import rtlib  # noqa: E402  (the kit's, beside rt)
-
 SECONDS = 3
-plain_stamp, plain_below = rtlib.Crate.stamp, rtlib.Crate.below
 stamps, belows = {}, {}
 
 
-def stamp(crate):
-    """The checksum of all that the crate's library is made from, at most three seconds old."""
-    made, at = stamps.get(crate.folder, (None, 0.0))
-    if made is None or time.monotonic() - at > SECONDS:
-        made = plain_stamp(crate)
-        stamps[crate.folder] = (made, time.monotonic())
-    return made
+def remember(crate_type):
+    """Has the kit's crates remember what they are asked for again and again."""
+    plain_stamp, plain_below = crate_type.stamp, crate_type.below
+
+    def stamp(crate):
+        """The checksum of all that the crate's library is made from, at most three seconds old."""
+        made, at = stamps.get(crate.folder, (None, 0.0))
+        if made is None or time.monotonic() - at > SECONDS:
+            made = plain_stamp(crate)
+            stamps[crate.folder] = (made, time.monotonic())
+        return made
+
+    def below(crate):
+        """The libraries below the crate, each after those that it uses."""
+        if crate.folder not in belows:
+            belows[crate.folder] = plain_below(crate)
+        return list(belows[crate.folder])
+
+    crate_type.stamp, crate_type.below = stamp, below
 
 
-def below(crate):
-    """The libraries below the crate, each after those that it uses."""
-    if crate.folder not in belows:
-        belows[crate.folder] = plain_below(crate)
-    return list(belows[crate.folder])
+# `rt` loads its library `rtlib` anew for itself, so it is changed once that is done.
+load = importlib.machinery.SourceFileLoader.exec_module
 
 
-rtlib.Crate.stamp, rtlib.Crate.below = stamp, below
-sys.argv[0] = RT
-runpy.run_path(RT, run_name="__main__")
+def load_and_change(loader, module):
+    """Loads a module; where it is the kit's library, has its crates remember."""
+    load(loader, module)
+    if module.__name__ == "rtlib":
+        remember(module.Crate)
+
+
+importlib.machinery.SourceFileLoader.exec_module = load_and_change
+rt = os.path.realpath(shutil.which("rt") or sys.exit("rt isn't in the path"))
+sys.path.insert(0, os.path.dirname(rt))
+sys.argv[0] = rt
+runpy.run_path(rt, run_name="__main__")
