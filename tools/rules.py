@@ -6,9 +6,9 @@ between them. Then, where the script doesn't find what shows most, its laws and 
 it has none of its own. A definition is a name of crates/wdf_model, or of the crate in brackets after it, or of the file there (a
 path below crates/); other brackets name a row. Each name has to exist, and one that several files of its crate have needs its
 file. The script adds the functions whose contracts cite a definition (code), and where no laws or wrong bodies are given, the
-laws over it (functions without a body in the crates whose names begin with law_) and the wrong bodies inside the code. A
-contract cites a definition where its file imports that name from the definition's crate, or says it after the name of a module
-of that crate; where the definition's file is given, from that file.
+laws over it (functions without a body in the crates whose names begin with law_) and the wrong bodies inside the code. Some
+rule has to name each wrong body. A contract cites a definition where its file imports that name from the definition's crate,
+or says it after the name of a module of that crate; where the definition's file is given, from that file.
 """
 
 import re
@@ -26,7 +26,8 @@ HEAD = """# The rules of the machine, and where each is kept
 
 `tools/rules.py` writes this page from `tools/rules.txt` and checks it in the gate: each name is there. `docs/MACHINE.md` explains
 the rules to a driver writer, `docs/STACKS.md` those of stacks and `docs/LINT.md` those of the static check; each links from its
-subjects to the rules here. In a row:
+subjects to the rules here. From [Texts of scenarios](#texts-of-scenarios) on the rules are of what is around the machine: texts,
+plans, traces, the program, threads, containers, pictures. In a row:
 
 - **definition**: what the rule is. [How to read a definition](MACHINE.md#how-to-read-a-definition) explains the signs and letters.
 - **code**: functions whose contracts say that they are the definition.
@@ -35,13 +36,14 @@ subjects to the rules here. In a row:
   those in `wrong/`.
 
 A row of the machine without a law has those that hold of each event: `each_event_fits` and `events_do_what_they_may`, in the
-crates `law_machine_base` and `law_machine_deeds`. One of the agents, of stacks or of the static check has the contracts of its
-code alone. A row without a wrong body has a contract like the others, and none is tried on it.
+crates `law_machine_base` and `law_machine_deeds`. One of the agents, of stacks, of the static check or of what is around the
+machine has the contracts of its code alone. A row without a wrong body has a contract like the others, and none is tried on it.
+Each wrong body has its rule.
 """
 
 DEFINITION = re.compile(r"^(?:(?:abbrev|unfoldable)(?: pub)?|pub)? ?([A-Za-z_][A-Za-z0-9_']*) :", re.M)
 TYPE = re.compile(r"^pub (?:record|data) ([A-Za-z_][A-Za-z0-9_']*)", re.M)
-MEMBER = re.compile(r"^  (?:pub )?([A-Za-z_][A-Za-z0-9_']*) :", re.M)
+MEMBER = re.compile(r"^  (?:(?:(?:abbrev|unfoldable) )?pub )?([A-Za-z_][A-Za-z0-9_']*) :", re.M)
 VISIBLE = r"(?:pub(?:\((?:crate|super)\))? )?"
 RUST = re.compile(rf"^\s*{VISIBLE}(?:struct|enum|fn|const|trait) ([A-Za-z_][A-Za-z0-9_]*)", re.M)
 VARIANT = re.compile(r"^    (?:pub )?([A-Za-z][A-Za-z0-9_]*)\s*[,({:]", re.M)
@@ -153,8 +155,12 @@ class Found:
         return found[0] if len(found) == 1 else None
 
 
+def link_to(path):
+    return f"../{path.relative_to(CRATES.parent)}"
+
+
 def link(shown, path):
-    return f"[`{shown}`](../{path.relative_to(CRATES.parent)})"
+    return f"[`{shown}`]({link_to(path)})"
 
 
 def of_module(functions, module):
@@ -248,8 +254,17 @@ def page():
     return "\n".join(out) + "\n"
 
 
+def unnamed(text):
+    """The wrong bodies that a page doesn't name."""
+    edits = sorted([*CRATES.glob("*/must-fail/*.edit"), *CRATES.glob("*/wrong/*.edit")])
+    return [str(edit.relative_to(CRATES)) for edit in edits if f"({link_to(edit)})" not in text]
+
+
 def main():
     text = page()
+    left = unnamed(text)
+    if left:
+        sys.exit("\n".join(f"{RULES.name} names no rule for the wrong body {edit}" for edit in left))
     if "--check" in sys.argv[1:]:
         if not PAGE.exists() or PAGE.read_text() != text:
             sys.exit("docs/RULES.md isn't what tools/rules.py writes: run it")

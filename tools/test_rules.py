@@ -82,6 +82,8 @@ WANTED = [
     f"| a queue waits | [`waits`]({MODEL_FILE}) | [`wdf_part::stays`]({PART_FILE}) |  |  |",
     f"| one of two definitions | [`takes`]({MODEL_FILE}), [`waits`]({MODEL_FILE}) | [`wdf_part::takes`]({PART_FILE}), [`wdf_part::stays`]({PART_FILE}) |  |  |",
 ]
+# Rules that don't name the one wrong body.
+UNNAMED = "Queues\na queue drops | drops | drops_once | -\n"
 # A rule that can't be written so, and what the script says then.
 REFUSED = [
     ("no such rule | puts", "wdf_model has no puts"),
@@ -97,8 +99,8 @@ def put(path, text):
     path.write_text(text)
 
 
-def page_of(rules_text):
-    """The page for a made tree, or what the script says of it when it ends."""
+def page_of(rules_text, then=lambda text: text):
+    """The page for a made tree, or what is made of it, or what the script says of the tree when it ends."""
     with tempfile.TemporaryDirectory() as room:
         rules.CRATES, rules.RULES = Path(room) / "crates", Path(room) / "rules.txt"
         put(rules.CRATES / "wdf_model/specs/Queues.antt", MODEL)
@@ -109,7 +111,7 @@ def page_of(rules_text):
         put(rules.CRATES / "wdf_part/must-fail/front_is_zero.edit", EDIT)
         put(rules.RULES, rules_text)
         try:
-            return rules.page()
+            return then(rules.page())
         except SystemExit as end:
             return str(end)
 
@@ -121,6 +123,10 @@ def main():
         heard = page_of(f"Queues\n{rule}\n")
         if heard != f"rules.txt, line 2: {said}":
             wrong.append(f"of {rule!r}: {heard}")
+    for text, left in [(RULES, []), (UNNAMED, ["wdf_part/must-fail/front_is_zero.edit"])]:
+        heard = page_of(text, rules.unnamed)
+        if heard != left:
+            wrong.append(f"wrong bodies without a rule: {heard}")
     sys.exit("\n".join([*wrong, *found]) if wrong else 0)
 
 
