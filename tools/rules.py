@@ -30,15 +30,15 @@ subjects to the rules here. From [Texts of scenarios](#texts-of-scenarios) on th
 plans, traces, the program, threads, containers, pictures. In a row:
 
 - **definition**: what the rule is. [How to read a definition](MACHINE.md#how-to-read-a-definition) explains the signs and letters.
-- **code**: functions whose contracts say that they are the definition.
+- **code**: functions whose contracts name the definition: first those of its name, most of which are said to be the definition.
 - **law**: a statement that is proved of all runs, or of all states, and that the rule is for, or that rests on it.
 - **wrong body**: an edit of the code that the prover has to refuse. The gate tries those in `must-fail/`, `tools/wrong_bodies.py`
   those in `wrong/`.
 
 A row of the machine without a law has those that hold of each event: `each_event_fits` and `events_do_what_they_may`, in the
 crates `law_machine_base` and `law_machine_deeds`. One of the agents, of stacks, of the static check or of what is around the
-machine has the contracts of its code alone. A row without a wrong body has a contract like the others, and none is tried on it.
-Each wrong body has its rule.
+machine has the contracts of its code alone. Each wrong body has its rule. The code of a row without one is proved like any other,
+and no edit is tried on it.
 """
 
 DEFINITION = re.compile(r"^(?:(?:abbrev|unfoldable)(?: pub)?|pub)? ?([A-Za-z_][A-Za-z0-9_']*) :", re.M)
