@@ -52,6 +52,11 @@ def antt_list(items):
     return " ∷ ".join([f"({i})" for i in items] + ["[]"])
 
 
+def grouped(text):
+    """A list as an argument."""
+    return text if text == "[]" else f"({text})"
+
+
 def long_list(items, pad):
     if not items:
         return "[]"
@@ -224,22 +229,19 @@ class Scene:
             return "declared.Driver"
         if o["kind"] == "device":
             working = "true" if o["working"] else "false"
-            return (f"declared.Device (record {{ name = {o['name']}; working = {working}; scope = {self.scope(o)}; "
-                    f"level = {self.level(o)} }})")
-        home = f"device = record {{ 0 = {o['device']} }}"
+            return f"a_device {o['name']} {working} {self.scope(o)} {self.level(o)}"
+        home = f"{o['name']} {o['device']}"
         if o["kind"] == "queue":
             dispatch = {"sequential": "dispatch.Sequential", "manual": "dispatch.Manual"}.get(
-                o["args"][0], "dispatch.Parallel " + o["args"][-1])
-            serves = "; ".join(f"{s} = {'true' if s in o['serves'] else 'false'}" for s in ("rest", "read", "write", "control"))
-            return (f"declared.Queue (record {{ name = {o['name']}; {home}; dispatch = {dispatch}; serves = record {{ {serves} }}; "
-                    f"powered = {'true' if o['powered'] else 'false'}; zero = {'true' if o['zero'] else 'false'}; "
-                    f"scope = {self.scope(o)}; level = {self.level(o)} }})")
+                o["args"][0], f"(dispatch.Parallel {o['args'][-1]})")
+            serves = " ".join("true" if s in o["serves"] else "false" for s in ("rest", "read", "write", "control"))
+            given = f"{'true' if o['powered'] else 'false'} {'true' if o['zero'] else 'false'}"
+            return f"a_queue {home} {dispatch} (serves {serves}) {given} {self.scope(o)} {self.level(o)}"
         if o["kind"] == "interrupt":
             irql = 0 if o["args"][0] == "passive" else int(o["args"][0])
-            return f"declared.Interrupt (record {{ name = {o['name']}; {home}; level = record {{ 0 = {irql} }} }})"
+            return f"an_interrupt {home} {irql}"
         delay, status, depth = o["args"]
-        return (f"declared.Target (record {{ name = {o['name']}; {home}; delay = {delay}; status = status.{STATUS[status]}; "
-                f"depth = {depth} }})")
+        return f"a_target {home} {delay} status.{STATUS[status]} {depth}"
 
     def class_info(self, c):
         if c["kind"] in PLAIN:
@@ -293,22 +295,25 @@ class Scene:
         return f"declared.OfClass {owner[1]}" if owner[0] == "class" else self.declared(owner[1])
 
     def plan(self, label):
-        out = [f"abbrev pub {label}_plan : Plan", f"{label}_plan = record {{",
-               f"  cpus = {self.cpus}; limit = {self.limit}; objects = {self.limit_objects};",
-               "  names = " + antt_list([f'codes "{n}"' for n in self.names]) + ";",
-               "  declared = " + long_list([f"({self.declared(k)})" for k in range(1, len(self.objects) + 1)], "    ") + ";",
-               "  classes = " + antt_list([self.class_info(c) for c in self.classes]) + ";",
-               "  registers = " + antt_list([f"record {{ name = {r['name']}; device = record {{ 0 = {r['device']} }}; value = {r['value']} }}"
-                                             for r in self.registers]) + ";",
-               "  whens = " + antt_list([f"record {{ access = access.{a.capitalize()}; register = {self.register(r)}; "
-                                         f"action = {self.action(t)}; after = {n}; line = {number} }}"
-                                         for number, a, r, t, n in self.whens]) + ";",
-               "  pnp = " + self.posts(self.pnp) + ";",
-               "  agents = " + long_list([f"(record {{ name = {n}; posts = {self.posts(p)} }})" for n, p in self.agents()], "    ") + ";",
-               "  exprs = " + antt_list(self.exprs) + ";",
-               "  scripts = " + long_list([s.text() for s in self.scripts], "    ") + ";",
-               "  picks = " + antt_list(self.picks) + ";", "}"]
-        return "\n".join(out)
+        """The plan, of which the base says what it has none of."""
+        fields = {
+            "names": antt_list([f'codes "{n}"' for n in self.names]),
+            "declared": long_list([self.declared(k) for k in range(1, len(self.objects) + 1)], "    "),
+            "classes": antt_list([self.class_info(c) for c in self.classes]),
+            "registers": antt_list([f"record {{ name = {r['name']}; device = record {{ 0 = {r['device']} }}; value = {r['value']} }}"
+                                    for r in self.registers]),
+            "whens": antt_list([f"record {{ access = access.{a.capitalize()}; register = {self.register(r)}; "
+                                f"action = {self.action(t)}; after = {n}; line = {number} }}"
+                                for number, a, r, t, n in self.whens]),
+            "pnp": self.posts(self.pnp),
+            "agents": antt_list([f"an_agent {n} {grouped(self.posts(p))}" for n, p in self.agents()]),
+            "exprs": antt_list(self.exprs),
+            "scripts": long_list([s.text() for s in self.scripts], "    "),
+            "picks": antt_list(self.picks),
+        }
+        given = [f"  {name} = {text};" for name, text in fields.items() if text != "[]"]
+        base = f"record (a_plan {self.cpus} {self.limit} {self.limit_objects}) {{"
+        return "\n".join([f"abbrev pub {label}_plan : Plan", f"{label}_plan = {base}", *given, "}"])
 
     # ---- events
 
@@ -532,9 +537,10 @@ class Script:
         return self.node(f"node.Object {self.scene.handle(head)}"), rest
 
     def text(self):
-        body = "\n        ∷ ".join(self.statements + ["[]"])
-        return (f"(record {{ callback = callback.{self.callback}; owner = {self.scene.owner(self.owner)}; line = {self.line};\n"
-                f"      statements = {body} }})")
+        begin, between = ("\n          ", "\n          ∷ ") if len(self.statements) > 1 else (" ", "")
+        body = between.join(self.statements)
+        body = f"({body} ∷ [])" if body else "[]"
+        return f"a_script callback.{self.callback} ({self.scene.owner(self.owner)}) {self.line}{begin}{body}"
 
 
 # The modules of the stuck runs.
@@ -575,7 +581,7 @@ use Rattle.wdf_base.specs.declared.event.Step.TheVariants as step
 use Rattle.wdf_base.specs.declared.wait.OpenThing.TheVariants as thing
 use Rattle.wdf_base.specs.declared.wait.Cause.TheVariants as cause
 use Rattle.wdf_base.specs.declared.wait.WaitLine.{WaitLine}
-use Rattle.law_machine_worked.specs.Writing.{h, p, f, c, at, s, line}
+use Rattle.law_machine_worked.specs.Writing.{h, p, f, c, at, s, line, a_plan, a_device, a_queue, serves, an_interrupt, a_target, an_agent, a_script}
 """
 
 PROOFS_HEAD = """-- Worked runs, computed from the definitions. Made by tools/scene_to_plan.py.
@@ -687,6 +693,25 @@ class Run:
         ])
 
 
+def is_used(word, text):
+    return re.search(rf"(?<![\w.]){re.escape(word)}(?!\w)", text) is not None
+
+
+def needed(head, text):
+    """The imports of a head that a text needs."""
+    lines = []
+    for line in head.split("\n"):
+        as_module = re.fullmatch(r"use .* as (\w+)", line)
+        names = re.fullmatch(r"(use .*\.\{)(.*)(\})", line)
+        if names and not line.startswith("use Rattle.std"):
+            left = [name for name in names[2].split(", ") if is_used(name, text)]
+            line = names[1] + ", ".join(left) + names[3] if left else None
+        elif as_module and not is_used(as_module[1], text):
+            line = None
+        lines += [line] if line is not None else []
+    return "\n".join(lines)
+
+
 def cited_from(runs, subject, with_pnp, others):
     """The imports of what the specs of these runs say: those with a `pnp` block have a file of their own."""
     words = {with_pnp: [], others: []}
@@ -701,7 +726,8 @@ def main():
     folder = os.path.basename(os.path.dirname(sys.argv[2]))
     if sys.argv[1] == "specs":
         head = SPECS_HEAD.replace("FOLDER", "tools/" + (folder if folder in BLAMED or folder in ("stack", "idle") else "runs"))
-        parts = [head] + [run.definitions() for run in runs]
+        texts = [run.definitions() for run in runs]
+        parts = [needed(head, "\n".join(texts)), *texts]
     elif folder == "idle":
         parts = [IDLE_HEAD + cited_from(runs, "idle", "IdleSequences", "IdleRequests")] + [run.idle_fact() for run in runs]
     elif folder == "stack":

@@ -28,55 +28,25 @@ use Rattle.wdf_base.specs.declared.event.Step.TheVariants as step
 use Rattle.wdf_base.specs.declared.wait.OpenThing.TheVariants as thing
 use Rattle.wdf_base.specs.declared.wait.Cause.TheVariants as cause
 use Rattle.wdf_base.specs.declared.wait.WaitLine.{WaitLine}
-use Rattle.law_machine_worked.specs.Writing.{h, p, c, at, s, line}
+use Rattle.law_machine_worked.specs.Writing.{h, p, c, at, s, line, a_plan, a_device, a_queue, serves, an_interrupt, a_target, an_agent, a_script}
 
 abbrev pub deleted_timer_plan : Plan
-deleted_timer_plan = record {
-  cpus = 1;
-  limit = 100;
-  objects = 16;
+deleted_timer_plan = record (a_plan 1 100 16) {
   names = (codes "driver") ∷ (codes "req") ∷ (codes "T") ∷ (codes "D") ∷ [];
-  declared = (declared.Driver)
-      ∷ (declared.Device (record { name = 3; working = false; scope = scope.Unscoped; level = level.Dispatch }))
+  declared = declared.Driver
+      ∷ a_device 3 false scope.Unscoped level.Dispatch
       ∷ [];
   classes = (class.Deferred 2 deferred.Timer (record { 0 = 2 }) false 0) ∷ [];
-  registers = [];
-  whens = [];
   pnp = (at 22 0 (post.Ask ask.Start (h 2 3))) ∷ [];
-  agents = (record { name = 3; posts = [] })
-      ∷ [];
+  agents = (an_agent 3 []) ∷ [];
   exprs = (node.Context context.OwnObject) ∷ (node.Number 1) ∷ (node.Number 2) ∷ (node.Variable 0) ∷ (node.Number 1) ∷ [];
-  scripts = (record {
-    callback = callback.EvtTimerFunc;
-    owner = declared.OfClass 0;
-    line = 5;
-    statements = s 6 1 (act.Call call.WdfObjectDelete None (arg.Expression 0) arg.NoArgument arg.NoArgument)
-        ∷ [];
-  })
-      ∷ (record {
-        callback = callback.EvtCleanupCallback;
-        owner = declared.OfClass 0;
-        line = 8;
-        statements = s 9 1 (act.Log 1)
-            ∷ [];
-      })
-      ∷ (record {
-        callback = callback.EvtDestroyCallback;
-        owner = declared.OfClass 0;
-        line = 11;
-        statements = s 12 1 (act.Log 2)
-            ∷ [];
-      })
-      ∷ (record {
-        callback = callback.EvtDeviceD0Entry;
-        owner = declared.Device (record { name = 3; working = false; scope = scope.Unscoped; level = level.Dispatch });
-        line = 16;
-        statements = s 17 1 (act.Call call.WdfTimerCreate (Some 0) (arg.OfClass 0) arg.NoArgument arg.NoArgument)
-            ∷ s 18 2 (act.Call call.WdfTimerStart None (arg.Expression 3) (arg.Expression 4) arg.NoArgument)
-            ∷ [];
-      })
+  scripts = a_script callback.EvtTimerFunc (declared.OfClass 0) 5 (s 6 1 (act.Call call.WdfObjectDelete None (arg.Expression 0) arg.NoArgument arg.NoArgument) ∷ [])
+      ∷ a_script callback.EvtCleanupCallback (declared.OfClass 0) 8 (s 9 1 (act.Log 1) ∷ [])
+      ∷ a_script callback.EvtDestroyCallback (declared.OfClass 0) 11 (s 12 1 (act.Log 2) ∷ [])
+      ∷ a_script callback.EvtDeviceD0Entry (a_device 3 false scope.Unscoped level.Dispatch) 16
+      (s 17 1 (act.Call call.WdfTimerCreate (Some 0) (arg.OfClass 0) arg.NoArgument arg.NoArgument)
+      ∷ s 18 2 (act.Call call.WdfTimerStart None (arg.Expression 3) (arg.Expression 4) arg.NoArgument) ∷ [])
       ∷ [];
-  picks = [];
 }
 
 abbrev pub deleted_timer_events : List Event
@@ -103,49 +73,20 @@ deleted_timer_events = event.Posted 0 (post.Ask ask.Start (h 2 3)) None
     ∷ []
 
 abbrev pub failed_start_plan : Plan
-failed_start_plan = record {
-  cpus = 1;
-  limit = 100;
-  objects = 16;
+failed_start_plan = record (a_plan 1 100 16) {
   names = (codes "driver") ∷ (codes "req") ∷ (codes "D") ∷ (codes "I") ∷ [];
-  declared = (declared.Driver)
-      ∷ (declared.Device (record { name = 2; working = false; scope = scope.Unscoped; level = level.Dispatch }))
-      ∷ (declared.Interrupt (record { name = 3; device = record { 0 = 2 }; level = record { 0 = 5 } }))
+  declared = declared.Driver
+      ∷ a_device 2 false scope.Unscoped level.Dispatch
+      ∷ an_interrupt 3 2 5
       ∷ [];
-  classes = [];
-  registers = [];
-  whens = [];
   pnp = (at 18 0 (post.Ask ask.Start (h 2 2))) ∷ [];
-  agents = (record { name = 2; posts = [] })
-      ∷ [];
+  agents = (an_agent 2 []) ∷ [];
   exprs = (node.Literal status.Unsuccessful) ∷ [];
-  scripts = (record {
-    callback = callback.EvtInterruptIsr;
-    owner = declared.Interrupt (record { name = 3; device = record { 0 = 2 }; level = record { 0 = 5 } });
-    line = 6;
-    statements = [];
-  })
-      ∷ (record {
-        callback = callback.EvtDeviceD0Entry;
-        owner = declared.Device (record { name = 2; working = false; scope = scope.Unscoped; level = level.Dispatch });
-        line = 9;
-        statements = s 10 1 (act.Return 0)
-            ∷ [];
-      })
-      ∷ (record {
-        callback = callback.EvtDeviceReleaseHardware;
-        owner = declared.Device (record { name = 2; working = false; scope = scope.Unscoped; level = level.Dispatch });
-        line = 12;
-        statements = [];
-      })
-      ∷ (record {
-        callback = callback.EvtDeviceD0Exit;
-        owner = declared.Device (record { name = 2; working = false; scope = scope.Unscoped; level = level.Dispatch });
-        line = 14;
-        statements = [];
-      })
+  scripts = a_script callback.EvtInterruptIsr (an_interrupt 3 2 5) 6 []
+      ∷ a_script callback.EvtDeviceD0Entry (a_device 2 false scope.Unscoped level.Dispatch) 9 (s 10 1 (act.Return 0) ∷ [])
+      ∷ a_script callback.EvtDeviceReleaseHardware (a_device 2 false scope.Unscoped level.Dispatch) 12 []
+      ∷ a_script callback.EvtDeviceD0Exit (a_device 2 false scope.Unscoped level.Dispatch) 14 []
       ∷ [];
-  picks = [];
 }
 
 abbrev pub failed_start_events : List Event
@@ -165,35 +106,21 @@ failed_start_events = event.Posted 0 (post.Ask ask.Start (h 2 2)) None
     ∷ []
 
 abbrev pub leaked_reference_plan : Plan
-leaked_reference_plan = record {
-  cpus = 1;
-  limit = 100;
-  objects = 16;
+leaked_reference_plan = record (a_plan 1 100 16) {
   names = (codes "driver") ∷ (codes "req") ∷ (codes "O") ∷ (codes "D") ∷ (codes "Q") ∷ (codes "A") ∷ [];
-  declared = (declared.Driver)
-      ∷ (declared.Device (record { name = 3; working = true; scope = scope.Unscoped; level = level.Dispatch }))
-      ∷ (declared.Queue (record { name = 4; device = record { 0 = 2 }; dispatch = dispatch.Sequential; serves = record { rest = true; read = false; write = false; control = false }; powered = true; zero = false; scope = scope.Unscoped; level = level.Dispatch }))
+  declared = declared.Driver
+      ∷ a_device 3 true scope.Unscoped level.Dispatch
+      ∷ a_queue 4 2 dispatch.Sequential (serves true false false false) true false scope.Unscoped level.Dispatch
       ∷ [];
   classes = (class.Plain 2 plain.Object) ∷ [];
-  registers = [];
-  whens = [];
-  pnp = [];
-  agents = (record { name = 5; posts = (at 18 0 (post.Read (h 2 3) 16)) ∷ [] })
-      ∷ (record { name = 3; posts = [] })
-      ∷ [];
+  agents = (an_agent 5 ((at 18 0 (post.Read (h 2 3) 16)) ∷ [])) ∷ (an_agent 3 []) ∷ [];
   exprs = (node.Context context.NearestDevice) ∷ (node.Variable 0) ∷ (node.Variable 0) ∷ (node.Context context.OwnRequest) ∷ (node.Literal status.Success) ∷ [];
-  scripts = (record {
-    callback = callback.EvtIoRead;
-    owner = declared.Queue (record { name = 4; device = record { 0 = 2 }; dispatch = dispatch.Sequential; serves = record { rest = true; read = false; write = false; control = false }; powered = true; zero = false; scope = scope.Unscoped; level = level.Dispatch });
-    line = 9;
-    statements = s 10 1 (act.Call call.WdfObjectCreate (Some 0) (arg.OfClass 0) (arg.Expression 0) arg.NoArgument)
-        ∷ s 11 2 (act.Call call.WdfObjectReference None (arg.Expression 1) arg.NoArgument arg.NoArgument)
-        ∷ s 12 3 (act.Call call.WdfObjectDelete None (arg.Expression 2) arg.NoArgument arg.NoArgument)
-        ∷ s 13 4 (act.Call call.WdfRequestComplete None (arg.Expression 3) (arg.Expression 4) arg.NoArgument)
-        ∷ [];
-  })
+  scripts = a_script callback.EvtIoRead (a_queue 4 2 dispatch.Sequential (serves true false false false) true false scope.Unscoped level.Dispatch) 9
+      (s 10 1 (act.Call call.WdfObjectCreate (Some 0) (arg.OfClass 0) (arg.Expression 0) arg.NoArgument)
+      ∷ s 11 2 (act.Call call.WdfObjectReference None (arg.Expression 1) arg.NoArgument arg.NoArgument)
+      ∷ s 12 3 (act.Call call.WdfObjectDelete None (arg.Expression 2) arg.NoArgument arg.NoArgument)
+      ∷ s 13 4 (act.Call call.WdfRequestComplete None (arg.Expression 3) (arg.Expression 4) arg.NoArgument) ∷ [])
       ∷ [];
-  picks = [];
 }
 
 abbrev pub leaked_reference_events : List Event
@@ -213,31 +140,16 @@ abbrev pub leaked_reference_waits : List WaitLine
 leaked_reference_waits = (line (thing.Leaving (h 5 2)) (Some (cause.References 1))) ∷ []
 
 abbrev pub never_acknowledged_plan : Plan
-never_acknowledged_plan = record {
-  cpus = 1;
-  limit = 100;
-  objects = 16;
+never_acknowledged_plan = record (a_plan 1 100 16) {
   names = (codes "driver") ∷ (codes "req") ∷ (codes "D") ∷ (codes "Q") ∷ (codes "A") ∷ [];
-  declared = (declared.Driver)
-      ∷ (declared.Device (record { name = 2; working = true; scope = scope.Unscoped; level = level.Dispatch }))
-      ∷ (declared.Queue (record { name = 3; device = record { 0 = 2 }; dispatch = dispatch.Sequential; serves = record { rest = true; read = false; write = false; control = false }; powered = true; zero = false; scope = scope.Unscoped; level = level.Dispatch }))
+  declared = declared.Driver
+      ∷ a_device 2 true scope.Unscoped level.Dispatch
+      ∷ a_queue 3 2 dispatch.Sequential (serves true false false false) true false scope.Unscoped level.Dispatch
       ∷ [];
-  classes = [];
-  registers = [];
-  whens = [];
   pnp = (at 15 1 (post.Ask ask.Sleep (h 2 2))) ∷ [];
-  agents = (record { name = 4; posts = (at 12 0 (post.Read (h 2 2) 16)) ∷ [] })
-      ∷ (record { name = 2; posts = [] })
+  agents = (an_agent 4 ((at 12 0 (post.Read (h 2 2) 16)) ∷ [])) ∷ (an_agent 2 []) ∷ [];
+  scripts = a_script callback.EvtIoRead (a_queue 3 2 dispatch.Sequential (serves true false false false) true false scope.Unscoped level.Dispatch) 7 []
       ∷ [];
-  exprs = [];
-  scripts = (record {
-    callback = callback.EvtIoRead;
-    owner = declared.Queue (record { name = 3; device = record { 0 = 2 }; dispatch = dispatch.Sequential; serves = record { rest = true; read = false; write = false; control = false }; powered = true; zero = false; scope = scope.Unscoped; level = level.Dispatch });
-    line = 7;
-    statements = [];
-  })
-      ∷ [];
-  picks = [];
 }
 
 abbrev pub never_acknowledged_events : List Event
@@ -253,55 +165,22 @@ abbrev pub never_acknowledged_waits : List WaitLine
 never_acknowledged_waits = (line (thing.Owned (h 4 1)) None) ∷ (line (thing.Sequence (h 2 2) (step.Pass stage.Settled None)) (Some (cause.ByRequest (h 4 1)))) ∷ []
 
 abbrev pub removed_plan : Plan
-removed_plan = record {
-  cpus = 1;
-  limit = 100;
-  objects = 16;
+removed_plan = record (a_plan 1 100 16) {
   names = (codes "driver") ∷ (codes "req") ∷ (codes "D") ∷ (codes "R") ∷ (codes "W") ∷ (codes "T") ∷ (codes "A") ∷ [];
-  declared = (declared.Driver)
-      ∷ (declared.Device (record { name = 2; working = true; scope = scope.Unscoped; level = level.Dispatch }))
-      ∷ (declared.Queue (record { name = 3; device = record { 0 = 2 }; dispatch = dispatch.Sequential; serves = record { rest = false; read = true; write = false; control = false }; powered = true; zero = false; scope = scope.Unscoped; level = level.Dispatch }))
-      ∷ (declared.Queue (record { name = 4; device = record { 0 = 2 }; dispatch = dispatch.Sequential; serves = record { rest = false; read = false; write = true; control = false }; powered = true; zero = false; scope = scope.Unscoped; level = level.Dispatch }))
-      ∷ (declared.Target (record { name = 5; device = record { 0 = 2 }; delay = 2; status = status.Success; depth = 4 }))
+  declared = declared.Driver
+      ∷ a_device 2 true scope.Unscoped level.Dispatch
+      ∷ a_queue 3 2 dispatch.Sequential (serves false true false false) true false scope.Unscoped level.Dispatch
+      ∷ a_queue 4 2 dispatch.Sequential (serves false false true false) true false scope.Unscoped level.Dispatch
+      ∷ a_target 5 2 2 status.Success 4
       ∷ [];
-  classes = [];
-  registers = [];
-  whens = [];
   pnp = (at 31 1 (post.Ask ask.Remove (h 2 2))) ∷ [];
-  agents = (record { name = 6; posts = (at 26 0 (post.Read (h 2 2) 1)) ∷ (at 27 0 (post.Read (h 2 2) 1)) ∷ (at 28 0 (post.Write (h 2 2) 1)) ∷ [] })
-      ∷ (record { name = 2; posts = [] })
-      ∷ (record { name = 5; posts = [] })
-      ∷ [];
+  agents = (an_agent 6 ((at 26 0 (post.Read (h 2 2) 1)) ∷ (at 27 0 (post.Read (h 2 2) 1)) ∷ (at 28 0 (post.Write (h 2 2) 1)) ∷ [])) ∷ (an_agent 2 []) ∷ (an_agent 5 []) ∷ [];
   exprs = (node.Context context.OwnRequest) ∷ (node.Literal status.Cancelled) ∷ (node.Context context.OwnRequest) ∷ (node.Object (h 5 5)) ∷ (node.Number 0) ∷ (node.Context context.OwnRequest) ∷ (node.Context context.CompletionStatus) ∷ [];
-  scripts = (record {
-    callback = callback.EvtIoRead;
-    owner = declared.Queue (record { name = 3; device = record { 0 = 2 }; dispatch = dispatch.Sequential; serves = record { rest = false; read = true; write = false; control = false }; powered = true; zero = false; scope = scope.Unscoped; level = level.Dispatch });
-    line = 7;
-    statements = [];
-  })
-      ∷ (record {
-        callback = callback.EvtIoStop;
-        owner = declared.Queue (record { name = 3; device = record { 0 = 2 }; dispatch = dispatch.Sequential; serves = record { rest = false; read = true; write = false; control = false }; powered = true; zero = false; scope = scope.Unscoped; level = level.Dispatch });
-        line = 9;
-        statements = s 10 1 (act.Call call.WdfRequestComplete None (arg.Expression 0) (arg.Expression 1) arg.NoArgument)
-            ∷ [];
-      })
-      ∷ (record {
-        callback = callback.EvtIoWrite;
-        owner = declared.Queue (record { name = 4; device = record { 0 = 2 }; dispatch = dispatch.Sequential; serves = record { rest = false; read = false; write = true; control = false }; powered = true; zero = false; scope = scope.Unscoped; level = level.Dispatch });
-        line = 15;
-        statements = s 16 1 (act.Call call.WdfRequestSend None (arg.Expression 2) (arg.Expression 3) (arg.Expression 4))
-            ∷ [];
-      })
-      ∷ (record {
-        callback = callback.EvtRequestCompletion;
-        owner = declared.Target (record { name = 5; device = record { 0 = 2 }; delay = 2; status = status.Success; depth = 4 });
-        line = 20;
-        statements = s 21 1 (act.Call call.WdfRequestComplete None (arg.Expression 5) (arg.Expression 6) arg.NoArgument)
-            ∷ [];
-      })
+  scripts = a_script callback.EvtIoRead (a_queue 3 2 dispatch.Sequential (serves false true false false) true false scope.Unscoped level.Dispatch) 7 []
+      ∷ a_script callback.EvtIoStop (a_queue 3 2 dispatch.Sequential (serves false true false false) true false scope.Unscoped level.Dispatch) 9 (s 10 1 (act.Call call.WdfRequestComplete None (arg.Expression 0) (arg.Expression 1) arg.NoArgument) ∷ [])
+      ∷ a_script callback.EvtIoWrite (a_queue 4 2 dispatch.Sequential (serves false false true false) true false scope.Unscoped level.Dispatch) 15 (s 16 1 (act.Call call.WdfRequestSend None (arg.Expression 2) (arg.Expression 3) (arg.Expression 4)) ∷ [])
+      ∷ a_script callback.EvtRequestCompletion (a_target 5 2 2 status.Success 4) 20 (s 21 1 (act.Call call.WdfRequestComplete None (arg.Expression 5) (arg.Expression 6) arg.NoArgument) ∷ [])
       ∷ [];
-  picks = [];
 }
 
 abbrev pub removed_events : List Event
@@ -346,60 +225,30 @@ removed_events = event.Posted 1 (post.Read (h 2 2) 1) (Some (h 6 1))
     ∷ []
 
 abbrev pub sleep_and_wake_plan : Plan
-sleep_and_wake_plan = record {
-  cpus = 1;
-  limit = 200;
-  objects = 16;
+sleep_and_wake_plan = record (a_plan 1 200 16) {
   names = (codes "driver") ∷ (codes "req") ∷ (codes "D") ∷ (codes "Q") ∷ (codes "A") ∷ [];
-  declared = (declared.Driver)
-      ∷ (declared.Device (record { name = 2; working = true; scope = scope.Unscoped; level = level.Dispatch }))
-      ∷ (declared.Queue (record { name = 3; device = record { 0 = 2 }; dispatch = dispatch.Parallel 3; serves = record { rest = true; read = false; write = false; control = false }; powered = true; zero = false; scope = scope.Unscoped; level = level.Dispatch }))
+  declared = declared.Driver
+      ∷ a_device 2 true scope.Unscoped level.Dispatch
+      ∷ a_queue 3 2 (dispatch.Parallel 3) (serves true false false false) true false scope.Unscoped level.Dispatch
       ∷ [];
-  classes = [];
-  registers = [];
-  whens = [];
   pnp = (at 39 1 (post.Ask ask.Sleep (h 2 2))) ∷ (at 40 2 (post.Ask ask.Wake (h 2 2))) ∷ [];
-  agents = (record { name = 4; posts = (at 34 0 (post.Read (h 2 2) 1)) ∷ (at 35 0 (post.Read (h 2 2) 2)) ∷ (at 36 0 (post.Read (h 2 2) 3)) ∷ [] })
-      ∷ (record { name = 2; posts = [] })
-      ∷ [];
+  agents = (an_agent 4 ((at 34 0 (post.Read (h 2 2) 1)) ∷ (at 35 0 (post.Read (h 2 2) 2)) ∷ (at 36 0 (post.Read (h 2 2) 3)) ∷ [])) ∷ (an_agent 2 []) ∷ [];
   exprs = (node.Context context.OwnRequest) ∷ (node.Number 0) ∷ (node.Variable 0) ∷ (node.Number 1) ∷ (node.Binary operator.Equals 2 3) ∷ (node.Context context.OwnRequest) ∷ (node.Literal status.Success) ∷ (node.Context context.OwnRequest) ∷ (node.Number 0) ∷ (node.Number 1) ∷ (node.Context context.RequestLength) ∷ (node.Number 1) ∷ (node.Binary operator.Equals 10 11) ∷ (node.Context context.OwnRequest) ∷ (node.Number 0) ∷ (node.Context context.RequestLength) ∷ (node.Number 2) ∷ (node.Binary operator.Equals 15 16) ∷ (node.Context context.OwnRequest) ∷ (node.Number 1) ∷ (node.Context context.RequestLength) ∷ (node.Number 3) ∷ (node.Binary operator.Equals 20 21) ∷ (node.Context context.OwnRequest) ∷ (node.Literal status.Success) ∷ (node.Context context.OwnRequest) ∷ (node.Literal status.Success) ∷ [];
-  scripts = (record {
-    callback = callback.EvtIoRead;
-    owner = declared.Queue (record { name = 3; device = record { 0 = 2 }; dispatch = dispatch.Parallel 3; serves = record { rest = true; read = false; write = false; control = false }; powered = true; zero = false; scope = scope.Unscoped; level = level.Dispatch });
-    line = 7;
-    statements = s 8 1 (act.Call call.GetContext (Some 0) (arg.Expression 0) (arg.Expression 1) arg.NoArgument)
-        ∷ s 9 2 (act.If 4 3)
-        ∷ s 10 4 (act.Call call.WdfRequestComplete None (arg.Expression 5) (arg.Expression 6) arg.NoArgument)
-        ∷ s 12 4 (act.Call call.SetContext None (arg.Expression 7) (arg.Expression 8) (arg.Expression 9))
-        ∷ [];
-  })
-      ∷ (record {
-        callback = callback.EvtIoStop;
-        owner = declared.Queue (record { name = 3; device = record { 0 = 2 }; dispatch = dispatch.Parallel 3; serves = record { rest = true; read = false; write = false; control = false }; powered = true; zero = false; scope = scope.Unscoped; level = level.Dispatch });
-        line = 15;
-        statements = s 16 1 (act.If 12 2)
-            ∷ s 17 2 (act.Call call.WdfRequestStopAcknowledge None (arg.Expression 13) (arg.Expression 14) arg.NoArgument)
-            ∷ s 19 3 (act.If 17 4)
-            ∷ s 20 4 (act.Call call.WdfRequestStopAcknowledge None (arg.Expression 18) (arg.Expression 19) arg.NoArgument)
-            ∷ s 22 5 (act.If 22 6)
-            ∷ s 23 6 (act.Call call.WdfRequestComplete None (arg.Expression 23) (arg.Expression 24) arg.NoArgument)
-            ∷ [];
-      })
-      ∷ (record {
-        callback = callback.EvtIoResume;
-        owner = declared.Queue (record { name = 3; device = record { 0 = 2 }; dispatch = dispatch.Parallel 3; serves = record { rest = true; read = false; write = false; control = false }; powered = true; zero = false; scope = scope.Unscoped; level = level.Dispatch });
-        line = 26;
-        statements = s 27 1 (act.Call call.WdfRequestComplete None (arg.Expression 25) (arg.Expression 26) arg.NoArgument)
-            ∷ [];
-      })
-      ∷ (record {
-        callback = callback.EvtDeviceD0Exit;
-        owner = declared.Device (record { name = 2; working = true; scope = scope.Unscoped; level = level.Dispatch });
-        line = 30;
-        statements = [];
-      })
+  scripts = a_script callback.EvtIoRead (a_queue 3 2 (dispatch.Parallel 3) (serves true false false false) true false scope.Unscoped level.Dispatch) 7
+      (s 8 1 (act.Call call.GetContext (Some 0) (arg.Expression 0) (arg.Expression 1) arg.NoArgument)
+      ∷ s 9 2 (act.If 4 3)
+      ∷ s 10 4 (act.Call call.WdfRequestComplete None (arg.Expression 5) (arg.Expression 6) arg.NoArgument)
+      ∷ s 12 4 (act.Call call.SetContext None (arg.Expression 7) (arg.Expression 8) (arg.Expression 9)) ∷ [])
+      ∷ a_script callback.EvtIoStop (a_queue 3 2 (dispatch.Parallel 3) (serves true false false false) true false scope.Unscoped level.Dispatch) 15
+      (s 16 1 (act.If 12 2)
+      ∷ s 17 2 (act.Call call.WdfRequestStopAcknowledge None (arg.Expression 13) (arg.Expression 14) arg.NoArgument)
+      ∷ s 19 3 (act.If 17 4)
+      ∷ s 20 4 (act.Call call.WdfRequestStopAcknowledge None (arg.Expression 18) (arg.Expression 19) arg.NoArgument)
+      ∷ s 22 5 (act.If 22 6)
+      ∷ s 23 6 (act.Call call.WdfRequestComplete None (arg.Expression 23) (arg.Expression 24) arg.NoArgument) ∷ [])
+      ∷ a_script callback.EvtIoResume (a_queue 3 2 (dispatch.Parallel 3) (serves true false false false) true false scope.Unscoped level.Dispatch) 26 (s 27 1 (act.Call call.WdfRequestComplete None (arg.Expression 25) (arg.Expression 26) arg.NoArgument) ∷ [])
+      ∷ a_script callback.EvtDeviceD0Exit (a_device 2 true scope.Unscoped level.Dispatch) 30 []
       ∷ [];
-  picks = [];
 }
 
 abbrev pub sleep_and_wake_events : List Event

@@ -28,63 +28,38 @@ use Rattle.wdf_base.specs.declared.plan.Plan.{Plan}
 use Rattle.wdf_base.specs.declared.wait.OpenThing.TheVariants as thing
 use Rattle.wdf_base.specs.declared.wait.Cause.TheVariants as cause
 use Rattle.wdf_base.specs.declared.wait.WaitLine.{WaitLine}
-use Rattle.law_machine_worked.specs.Writing.{h, p, f, c, at, s, line}
+use Rattle.law_machine_worked.specs.Writing.{h, p, f, c, at, s, line, a_plan, a_device, a_queue, serves, an_interrupt, an_agent, a_script}
 
 abbrev pub blocked_dpc_plan : Plan
-blocked_dpc_plan = record {
-  cpus = 2;
-  limit = 100;
-  objects = 16;
+blocked_dpc_plan = record (a_plan 2 100 16) {
   names = (codes "driver") ∷ (codes "req") ∷ (codes "L") ∷ (codes "W") ∷ (codes "C") ∷ (codes "D") ∷ (codes "Q") ∷ (codes "A") ∷ [];
-  declared = (declared.Driver)
-      ∷ (declared.Device (record { name = 5; working = true; scope = scope.PerDevice; level = level.Dispatch }))
-      ∷ (declared.Queue (record { name = 6; device = record { 0 = 2 }; dispatch = dispatch.Sequential; serves = record { rest = true; read = false; write = false; control = false }; powered = true; zero = false; scope = scope.PerDevice; level = level.Dispatch }))
+  declared = declared.Driver
+      ∷ a_device 5 true scope.PerDevice level.Dispatch
+      ∷ a_queue 6 2 dispatch.Sequential (serves true false false false) true false scope.PerDevice level.Dispatch
       ∷ [];
   classes = (class.Plain 2 plain.SpinLock) ∷ (class.Deferred 3 deferred.WorkItem (record { 0 = 2 }) false 0) ∷ (class.Deferred 4 deferred.Dpc (record { 0 = 2 }) true 0) ∷ [];
-  registers = [];
-  whens = [];
-  pnp = [];
-  agents = (record { name = 7; posts = (at 41 0 (post.Read (h 2 5) 1)) ∷ (at 42 0 (post.Read (h 2 5) 1)) ∷ [] })
-      ∷ (record { name = 5; posts = [] })
-      ∷ [];
+  agents = (an_agent 7 ((at 41 0 (post.Read (h 2 5) 1)) ∷ (at 42 0 (post.Read (h 2 5) 1)) ∷ [])) ∷ (an_agent 5 []) ∷ [];
   exprs = (node.Context context.NearestDevice) ∷ (node.Number 0) ∷ (node.Context context.NearestDevice) ∷ (node.Number 1) ∷ (node.Variable 1) ∷ (node.Number 1) ∷ (node.Variable 0) ∷ (node.Number 1) ∷ (node.Context context.NearestDevice) ∷ (node.Context context.NearestDevice) ∷ (node.Context context.NearestDevice) ∷ (node.Number 0) ∷ (node.Variable 0) ∷ (node.Context context.NearestDevice) ∷ (node.Number 1) ∷ (node.Variable 1) ∷ (node.Variable 2) ∷ (node.Variable 3) ∷ (node.Variable 0) ∷ (node.Number 1) ∷ (node.Variable 1) ∷ [];
-  scripts = (record {
-    callback = callback.EvtWorkItem;
-    owner = declared.OfClass 1;
-    line = 7;
-    statements = s 8 1 (act.Call call.GetContext (Some 0) (arg.Expression 0) (arg.Expression 1) arg.NoArgument)
-        ∷ s 9 2 (act.Call call.GetContext (Some 1) (arg.Expression 2) (arg.Expression 3) arg.NoArgument)
-        ∷ s 10 3 (act.Call call.WdfSpinLockAcquire None (arg.Expression 4) arg.NoArgument arg.NoArgument)
-        ∷ s 11 4 (act.Spend 5)
-        ∷ s 12 5 (act.Call call.WdfSpinLockAcquire None (arg.Expression 6) arg.NoArgument arg.NoArgument)
-        ∷ [];
-  })
-      ∷ (record {
-        callback = callback.EvtDpcFunc;
-        owner = declared.OfClass 2;
-        line = 17;
-        statements = s 18 1 (act.Log 7)
-            ∷ [];
-      })
-      ∷ (record {
-        callback = callback.EvtIoRead;
-        owner = declared.Queue (record { name = 6; device = record { 0 = 2 }; dispatch = dispatch.Sequential; serves = record { rest = true; read = false; write = false; control = false }; powered = true; zero = false; scope = scope.PerDevice; level = level.Dispatch });
-        line = 25;
-        statements = s 26 1 (act.Call call.WdfSpinLockCreate (Some 0) (arg.OfClass 0) (arg.Expression 8) arg.NoArgument)
-            ∷ s 27 2 (act.Call call.WdfSpinLockCreate (Some 1) (arg.OfClass 0) (arg.Expression 9) arg.NoArgument)
-            ∷ s 28 3 (act.Call call.SetContext None (arg.Expression 10) (arg.Expression 11) (arg.Expression 12))
-            ∷ s 29 4 (act.Call call.SetContext None (arg.Expression 13) (arg.Expression 14) (arg.Expression 15))
-            ∷ s 30 5 (act.Call call.WdfDpcCreate (Some 2) (arg.OfClass 2) arg.NoArgument arg.NoArgument)
-            ∷ s 31 6 (act.Call call.WdfDpcEnqueue None (arg.Expression 16) arg.NoArgument arg.NoArgument)
-            ∷ s 32 7 (act.Call call.WdfWorkItemCreate (Some 3) (arg.OfClass 1) arg.NoArgument arg.NoArgument)
-            ∷ s 33 8 (act.Call call.WdfWorkItemEnqueue None (arg.Expression 17) arg.NoArgument arg.NoArgument)
-            ∷ s 34 9 (act.Call call.WdfSpinLockAcquire None (arg.Expression 18) arg.NoArgument arg.NoArgument)
-            ∷ s 35 10 (act.Spend 19)
-            ∷ s 36 11 (act.Call call.WdfSpinLockAcquire None (arg.Expression 20) arg.NoArgument arg.NoArgument)
-            ∷ [];
-      })
+  scripts = a_script callback.EvtWorkItem (declared.OfClass 1) 7
+      (s 8 1 (act.Call call.GetContext (Some 0) (arg.Expression 0) (arg.Expression 1) arg.NoArgument)
+      ∷ s 9 2 (act.Call call.GetContext (Some 1) (arg.Expression 2) (arg.Expression 3) arg.NoArgument)
+      ∷ s 10 3 (act.Call call.WdfSpinLockAcquire None (arg.Expression 4) arg.NoArgument arg.NoArgument)
+      ∷ s 11 4 (act.Spend 5)
+      ∷ s 12 5 (act.Call call.WdfSpinLockAcquire None (arg.Expression 6) arg.NoArgument arg.NoArgument) ∷ [])
+      ∷ a_script callback.EvtDpcFunc (declared.OfClass 2) 17 (s 18 1 (act.Log 7) ∷ [])
+      ∷ a_script callback.EvtIoRead (a_queue 6 2 dispatch.Sequential (serves true false false false) true false scope.PerDevice level.Dispatch) 25
+      (s 26 1 (act.Call call.WdfSpinLockCreate (Some 0) (arg.OfClass 0) (arg.Expression 8) arg.NoArgument)
+      ∷ s 27 2 (act.Call call.WdfSpinLockCreate (Some 1) (arg.OfClass 0) (arg.Expression 9) arg.NoArgument)
+      ∷ s 28 3 (act.Call call.SetContext None (arg.Expression 10) (arg.Expression 11) (arg.Expression 12))
+      ∷ s 29 4 (act.Call call.SetContext None (arg.Expression 13) (arg.Expression 14) (arg.Expression 15))
+      ∷ s 30 5 (act.Call call.WdfDpcCreate (Some 2) (arg.OfClass 2) arg.NoArgument arg.NoArgument)
+      ∷ s 31 6 (act.Call call.WdfDpcEnqueue None (arg.Expression 16) arg.NoArgument arg.NoArgument)
+      ∷ s 32 7 (act.Call call.WdfWorkItemCreate (Some 3) (arg.OfClass 1) arg.NoArgument arg.NoArgument)
+      ∷ s 33 8 (act.Call call.WdfWorkItemEnqueue None (arg.Expression 17) arg.NoArgument arg.NoArgument)
+      ∷ s 34 9 (act.Call call.WdfSpinLockAcquire None (arg.Expression 18) arg.NoArgument arg.NoArgument)
+      ∷ s 35 10 (act.Spend 19)
+      ∷ s 36 11 (act.Call call.WdfSpinLockAcquire None (arg.Expression 20) arg.NoArgument arg.NoArgument) ∷ [])
       ∷ [];
-  picks = [];
 }
 
 abbrev pub blocked_dpc_events : List Event
@@ -115,59 +90,37 @@ abbrev pub blocked_dpc_waits : List WaitLine
 blocked_dpc_waits = (line (thing.Waiting (f 2) callback.EvtIoRead (h 3 6)) (Some (cause.ByLock (h 6 2) (f 13)))) ∷ (line (thing.Waiting (f 13) callback.EvtWorkItem (h 8 3)) (Some (cause.ByLock (h 5 2) (f 2)))) ∷ (line (thing.Owned (h 4 1)) None) ∷ (line (thing.Queued (h 9 1) (h 3 6)) (Some (cause.Full))) ∷ (line (thing.Deferred (h 7 4)) (Some (cause.ScopeHeld))) ∷ []
 
 abbrev pub deadlock_plan : Plan
-deadlock_plan = record {
-  cpus = 2;
-  limit = 100;
-  objects = 16;
+deadlock_plan = record (a_plan 2 100 16) {
   names = (codes "driver") ∷ (codes "req") ∷ (codes "L") ∷ (codes "X") ∷ (codes "Y") ∷ (codes "D") ∷ [];
-  declared = (declared.Driver)
-      ∷ (declared.Device (record { name = 5; working = false; scope = scope.Unscoped; level = level.Dispatch }))
+  declared = declared.Driver
+      ∷ a_device 5 false scope.Unscoped level.Dispatch
       ∷ [];
   classes = (class.Plain 2 plain.WaitLock) ∷ (class.Deferred 3 deferred.WorkItem (record { 0 = 2 }) false 0) ∷ (class.Deferred 4 deferred.WorkItem (record { 0 = 2 }) false 0) ∷ [];
-  registers = [];
-  whens = [];
   pnp = (at 37 0 (post.Ask ask.Start (h 2 5))) ∷ [];
-  agents = (record { name = 5; posts = [] })
-      ∷ [];
+  agents = (an_agent 5 []) ∷ [];
   exprs = (node.Context context.NearestDevice) ∷ (node.Number 0) ∷ (node.Context context.NearestDevice) ∷ (node.Number 1) ∷ (node.Variable 0) ∷ (node.Number 1) ∷ (node.Variable 1) ∷ (node.Context context.NearestDevice) ∷ (node.Number 0) ∷ (node.Context context.NearestDevice) ∷ (node.Number 1) ∷ (node.Variable 1) ∷ (node.Number 1) ∷ (node.Variable 0) ∷ (node.Context context.NearestDevice) ∷ (node.Context context.NearestDevice) ∷ (node.Context context.NearestDevice) ∷ (node.Number 0) ∷ (node.Variable 0) ∷ (node.Context context.NearestDevice) ∷ (node.Number 1) ∷ (node.Variable 1) ∷ (node.Variable 2) ∷ (node.Variable 3) ∷ [];
-  scripts = (record {
-    callback = callback.EvtWorkItem;
-    owner = declared.OfClass 1;
-    line = 7;
-    statements = s 8 1 (act.Call call.GetContext (Some 0) (arg.Expression 0) (arg.Expression 1) arg.NoArgument)
-        ∷ s 9 2 (act.Call call.GetContext (Some 1) (arg.Expression 2) (arg.Expression 3) arg.NoArgument)
-        ∷ s 10 3 (act.Call call.WdfWaitLockAcquire None (arg.Expression 4) arg.NoArgument arg.NoArgument)
-        ∷ s 11 4 (act.Spend 5)
-        ∷ s 12 5 (act.Call call.WdfWaitLockAcquire None (arg.Expression 6) arg.NoArgument arg.NoArgument)
-        ∷ [];
-  })
-      ∷ (record {
-        callback = callback.EvtWorkItem;
-        owner = declared.OfClass 2;
-        line = 16;
-        statements = s 17 1 (act.Call call.GetContext (Some 0) (arg.Expression 7) (arg.Expression 8) arg.NoArgument)
-            ∷ s 18 2 (act.Call call.GetContext (Some 1) (arg.Expression 9) (arg.Expression 10) arg.NoArgument)
-            ∷ s 19 3 (act.Call call.WdfWaitLockAcquire None (arg.Expression 11) arg.NoArgument arg.NoArgument)
-            ∷ s 20 4 (act.Spend 12)
-            ∷ s 21 5 (act.Call call.WdfWaitLockAcquire None (arg.Expression 13) arg.NoArgument arg.NoArgument)
-            ∷ [];
-      })
-      ∷ (record {
-        callback = callback.EvtDeviceD0Entry;
-        owner = declared.Device (record { name = 5; working = false; scope = scope.Unscoped; level = level.Dispatch });
-        line = 25;
-        statements = s 26 1 (act.Call call.WdfWaitLockCreate (Some 0) (arg.OfClass 0) (arg.Expression 14) arg.NoArgument)
-            ∷ s 27 2 (act.Call call.WdfWaitLockCreate (Some 1) (arg.OfClass 0) (arg.Expression 15) arg.NoArgument)
-            ∷ s 28 3 (act.Call call.SetContext None (arg.Expression 16) (arg.Expression 17) (arg.Expression 18))
-            ∷ s 29 4 (act.Call call.SetContext None (arg.Expression 19) (arg.Expression 20) (arg.Expression 21))
-            ∷ s 30 5 (act.Call call.WdfWorkItemCreate (Some 2) (arg.OfClass 1) arg.NoArgument arg.NoArgument)
-            ∷ s 31 6 (act.Call call.WdfWorkItemCreate (Some 3) (arg.OfClass 2) arg.NoArgument arg.NoArgument)
-            ∷ s 32 7 (act.Call call.WdfWorkItemEnqueue None (arg.Expression 22) arg.NoArgument arg.NoArgument)
-            ∷ s 33 8 (act.Call call.WdfWorkItemEnqueue None (arg.Expression 23) arg.NoArgument arg.NoArgument)
-            ∷ [];
-      })
+  scripts = a_script callback.EvtWorkItem (declared.OfClass 1) 7
+      (s 8 1 (act.Call call.GetContext (Some 0) (arg.Expression 0) (arg.Expression 1) arg.NoArgument)
+      ∷ s 9 2 (act.Call call.GetContext (Some 1) (arg.Expression 2) (arg.Expression 3) arg.NoArgument)
+      ∷ s 10 3 (act.Call call.WdfWaitLockAcquire None (arg.Expression 4) arg.NoArgument arg.NoArgument)
+      ∷ s 11 4 (act.Spend 5)
+      ∷ s 12 5 (act.Call call.WdfWaitLockAcquire None (arg.Expression 6) arg.NoArgument arg.NoArgument) ∷ [])
+      ∷ a_script callback.EvtWorkItem (declared.OfClass 2) 16
+      (s 17 1 (act.Call call.GetContext (Some 0) (arg.Expression 7) (arg.Expression 8) arg.NoArgument)
+      ∷ s 18 2 (act.Call call.GetContext (Some 1) (arg.Expression 9) (arg.Expression 10) arg.NoArgument)
+      ∷ s 19 3 (act.Call call.WdfWaitLockAcquire None (arg.Expression 11) arg.NoArgument arg.NoArgument)
+      ∷ s 20 4 (act.Spend 12)
+      ∷ s 21 5 (act.Call call.WdfWaitLockAcquire None (arg.Expression 13) arg.NoArgument arg.NoArgument) ∷ [])
+      ∷ a_script callback.EvtDeviceD0Entry (a_device 5 false scope.Unscoped level.Dispatch) 25
+      (s 26 1 (act.Call call.WdfWaitLockCreate (Some 0) (arg.OfClass 0) (arg.Expression 14) arg.NoArgument)
+      ∷ s 27 2 (act.Call call.WdfWaitLockCreate (Some 1) (arg.OfClass 0) (arg.Expression 15) arg.NoArgument)
+      ∷ s 28 3 (act.Call call.SetContext None (arg.Expression 16) (arg.Expression 17) (arg.Expression 18))
+      ∷ s 29 4 (act.Call call.SetContext None (arg.Expression 19) (arg.Expression 20) (arg.Expression 21))
+      ∷ s 30 5 (act.Call call.WdfWorkItemCreate (Some 2) (arg.OfClass 1) arg.NoArgument arg.NoArgument)
+      ∷ s 31 6 (act.Call call.WdfWorkItemCreate (Some 3) (arg.OfClass 2) arg.NoArgument arg.NoArgument)
+      ∷ s 32 7 (act.Call call.WdfWorkItemEnqueue None (arg.Expression 22) arg.NoArgument arg.NoArgument)
+      ∷ s 33 8 (act.Call call.WdfWorkItemEnqueue None (arg.Expression 23) arg.NoArgument arg.NoArgument) ∷ [])
       ∷ [];
-  picks = [];
 }
 
 abbrev pub deadlock_events : List Event
@@ -206,41 +159,20 @@ abbrev pub deadlock_waits : List WaitLine
 deadlock_waits = (line (thing.Waiting (f 13) callback.EvtWorkItem (h 5 3)) (Some (cause.ByLock (h 4 2) (f 18)))) ∷ (line (thing.Waiting (f 18) callback.EvtWorkItem (h 6 4)) (Some (cause.ByLock (h 3 2) (f 13)))) ∷ []
 
 abbrev pub device_scope_plan : Plan
-device_scope_plan = record {
-  cpus = 2;
-  limit = 100;
-  objects = 16;
+device_scope_plan = record (a_plan 2 100 16) {
   names = (codes "driver") ∷ (codes "req") ∷ (codes "D") ∷ (codes "R") ∷ (codes "W") ∷ (codes "A") ∷ [];
-  declared = (declared.Driver)
-      ∷ (declared.Device (record { name = 2; working = true; scope = scope.PerDevice; level = level.Dispatch }))
-      ∷ (declared.Queue (record { name = 3; device = record { 0 = 2 }; dispatch = dispatch.Sequential; serves = record { rest = false; read = true; write = false; control = false }; powered = true; zero = false; scope = scope.PerDevice; level = level.Dispatch }))
-      ∷ (declared.Queue (record { name = 4; device = record { 0 = 2 }; dispatch = dispatch.Sequential; serves = record { rest = false; read = false; write = true; control = false }; powered = true; zero = false; scope = scope.PerDevice; level = level.Dispatch }))
+  declared = declared.Driver
+      ∷ a_device 2 true scope.PerDevice level.Dispatch
+      ∷ a_queue 3 2 dispatch.Sequential (serves false true false false) true false scope.PerDevice level.Dispatch
+      ∷ a_queue 4 2 dispatch.Sequential (serves false false true false) true false scope.PerDevice level.Dispatch
       ∷ [];
-  classes = [];
-  registers = [];
-  whens = [];
-  pnp = [];
-  agents = (record { name = 5; posts = (at 21 0 (post.Read (h 2 2) 8)) ∷ (at 22 0 (post.Write (h 2 2) 8)) ∷ [] })
-      ∷ (record { name = 2; posts = [] })
-      ∷ [];
+  agents = (an_agent 5 ((at 21 0 (post.Read (h 2 2) 8)) ∷ (at 22 0 (post.Write (h 2 2) 8)) ∷ [])) ∷ (an_agent 2 []) ∷ [];
   exprs = (node.Number 1) ∷ (node.Context context.OwnRequest) ∷ (node.Literal status.Success) ∷ (node.Context context.OwnRequest) ∷ (node.Literal status.Success) ∷ [];
-  scripts = (record {
-    callback = callback.EvtIoRead;
-    owner = declared.Queue (record { name = 3; device = record { 0 = 2 }; dispatch = dispatch.Sequential; serves = record { rest = false; read = true; write = false; control = false }; powered = true; zero = false; scope = scope.PerDevice; level = level.Dispatch });
-    line = 8;
-    statements = s 9 1 (act.Spend 0)
-        ∷ s 10 2 (act.Call call.WdfRequestComplete None (arg.Expression 1) (arg.Expression 2) arg.NoArgument)
-        ∷ [];
-  })
-      ∷ (record {
-        callback = callback.EvtIoWrite;
-        owner = declared.Queue (record { name = 4; device = record { 0 = 2 }; dispatch = dispatch.Sequential; serves = record { rest = false; read = false; write = true; control = false }; powered = true; zero = false; scope = scope.PerDevice; level = level.Dispatch });
-        line = 15;
-        statements = s 16 1 (act.Call call.WdfRequestComplete None (arg.Expression 3) (arg.Expression 4) arg.NoArgument)
-            ∷ [];
-      })
+  scripts = a_script callback.EvtIoRead (a_queue 3 2 dispatch.Sequential (serves false true false false) true false scope.PerDevice level.Dispatch) 8
+      (s 9 1 (act.Spend 0)
+      ∷ s 10 2 (act.Call call.WdfRequestComplete None (arg.Expression 1) (arg.Expression 2) arg.NoArgument) ∷ [])
+      ∷ a_script callback.EvtIoWrite (a_queue 4 2 dispatch.Sequential (serves false false true false) true false scope.PerDevice level.Dispatch) 15 (s 16 1 (act.Call call.WdfRequestComplete None (arg.Expression 3) (arg.Expression 4) arg.NoArgument) ∷ [])
       ∷ [];
-  picks = [];
 }
 
 abbrev pub device_scope_events : List Event
@@ -261,48 +193,28 @@ device_scope_events = event.Posted 1 (post.Read (h 2 2) 8) (Some (h 5 1))
     ∷ []
 
 abbrev pub isr_and_dpc_plan : Plan
-isr_and_dpc_plan = record {
-  cpus = 1;
-  limit = 100;
-  objects = 16;
+isr_and_dpc_plan = record (a_plan 1 100 16) {
   names = (codes "driver") ∷ (codes "req") ∷ (codes "L") ∷ (codes "D") ∷ (codes "STS") ∷ (codes "CTL") ∷ (codes "I") ∷ [];
-  declared = (declared.Driver)
-      ∷ (declared.Device (record { name = 3; working = false; scope = scope.Unscoped; level = level.Dispatch }))
-      ∷ (declared.Interrupt (record { name = 6; device = record { 0 = 2 }; level = record { 0 = 5 } }))
+  declared = declared.Driver
+      ∷ a_device 3 false scope.Unscoped level.Dispatch
+      ∷ an_interrupt 6 2 5
       ∷ [];
   classes = (class.Plain 2 plain.SpinLock) ∷ [];
   registers = (record { name = 4; device = record { 0 = 2 }; value = 1 }) ∷ (record { name = 5; device = record { 0 = 2 }; value = 0 }) ∷ [];
   whens = (record { access = access.Write; register = 1; action = action.Raise (h 3 6); after = 0; line = 9 }) ∷ (record { access = access.Read; register = 0; action = action.Lower (h 3 6); after = 0; line = 10 }) ∷ [];
   pnp = (at 29 0 (post.Ask ask.Start (h 2 3))) ∷ [];
-  agents = (record { name = 3; posts = [] })
-      ∷ [];
+  agents = (an_agent 3 []) ∷ [];
   exprs = (node.Context context.OwnObject) ∷ (node.Context context.OwnObject) ∷ (node.Number 7) ∷ (node.Context context.NearestDevice) ∷ (node.Variable 0) ∷ (node.Number 1) ∷ (node.Variable 0) ∷ [];
-  scripts = (record {
-    callback = callback.EvtInterruptIsr;
-    owner = declared.Interrupt (record { name = 6; device = record { 0 = 2 }; level = record { 0 = 5 } });
-    line = 12;
-    statements = s 13 1 (act.Get 0 0)
-        ∷ s 14 2 (act.Call call.WdfInterruptQueueDpcForIsr None (arg.Expression 0) arg.NoArgument arg.NoArgument)
-        ∷ s 15 3 (act.Call call.WdfInterruptQueueDpcForIsr None (arg.Expression 1) arg.NoArgument arg.NoArgument)
-        ∷ [];
-  })
-      ∷ (record {
-        callback = callback.EvtInterruptDpc;
-        owner = declared.Interrupt (record { name = 6; device = record { 0 = 2 }; level = record { 0 = 5 } });
-        line = 17;
-        statements = s 18 1 (act.Log 2)
-            ∷ [];
-      })
-      ∷ (record {
-        callback = callback.EvtDeviceD0EntryPostInterruptsEnabled;
-        owner = declared.Device (record { name = 3; working = false; scope = scope.Unscoped; level = level.Dispatch });
-        line = 21;
-        statements = s 22 1 (act.Call call.WdfSpinLockCreate (Some 0) (arg.OfClass 0) (arg.Expression 3) arg.NoArgument)
-            ∷ s 23 2 (act.Call call.WdfSpinLockAcquire None (arg.Expression 4) arg.NoArgument arg.NoArgument)
-            ∷ s 24 3 (act.Put 1 5)
-            ∷ s 25 4 (act.Call call.WdfSpinLockRelease None (arg.Expression 6) arg.NoArgument arg.NoArgument)
-            ∷ [];
-      })
+  scripts = a_script callback.EvtInterruptIsr (an_interrupt 6 2 5) 12
+      (s 13 1 (act.Get 0 0)
+      ∷ s 14 2 (act.Call call.WdfInterruptQueueDpcForIsr None (arg.Expression 0) arg.NoArgument arg.NoArgument)
+      ∷ s 15 3 (act.Call call.WdfInterruptQueueDpcForIsr None (arg.Expression 1) arg.NoArgument arg.NoArgument) ∷ [])
+      ∷ a_script callback.EvtInterruptDpc (an_interrupt 6 2 5) 17 (s 18 1 (act.Log 2) ∷ [])
+      ∷ a_script callback.EvtDeviceD0EntryPostInterruptsEnabled (a_device 3 false scope.Unscoped level.Dispatch) 21
+      (s 22 1 (act.Call call.WdfSpinLockCreate (Some 0) (arg.OfClass 0) (arg.Expression 3) arg.NoArgument)
+      ∷ s 23 2 (act.Call call.WdfSpinLockAcquire None (arg.Expression 4) arg.NoArgument arg.NoArgument)
+      ∷ s 24 3 (act.Put 1 5)
+      ∷ s 25 4 (act.Call call.WdfSpinLockRelease None (arg.Expression 6) arg.NoArgument arg.NoArgument) ∷ [])
       ∷ [];
   picks = (0) ∷ (0) ∷ (0) ∷ (0) ∷ (0) ∷ (0) ∷ (0) ∷ (1) ∷ [];
 }
@@ -330,56 +242,29 @@ isr_and_dpc_events = event.Posted 0 (post.Ask ask.Start (h 2 3)) None
     ∷ []
 
 abbrev pub passive_interrupt_plan : Plan
-passive_interrupt_plan = record {
-  cpus = 2;
-  limit = 100;
-  objects = 16;
+passive_interrupt_plan = record (a_plan 2 100 16) {
   names = (codes "driver") ∷ (codes "req") ∷ (codes "D") ∷ (codes "C") ∷ (codes "I") ∷ [];
-  declared = (declared.Driver)
-      ∷ (declared.Device (record { name = 2; working = false; scope = scope.Unscoped; level = level.Dispatch }))
-      ∷ (declared.Interrupt (record { name = 4; device = record { 0 = 2 }; level = record { 0 = 0 } }))
+  declared = declared.Driver
+      ∷ a_device 2 false scope.Unscoped level.Dispatch
+      ∷ an_interrupt 4 2 0
       ∷ [];
-  classes = [];
   registers = (record { name = 3; device = record { 0 = 2 }; value = 0 }) ∷ [];
   whens = (record { access = access.Write; register = 0; action = action.Raise (h 3 4); after = 0; line = 7 }) ∷ (record { access = access.Read; register = 0; action = action.Lower (h 3 4); after = 0; line = 8 }) ∷ [];
   pnp = (at 31 0 (post.Ask ask.Start (h 2 2))) ∷ (at 32 3 (post.Ask ask.Surprise (h 2 2))) ∷ [];
-  agents = (record { name = 2; posts = [] })
-      ∷ [];
+  agents = (an_agent 2 []) ∷ [];
   exprs = (node.Variable 0) ∷ (node.Number 1) ∷ (node.Number 2) ∷ (node.Object (h 3 4)) ∷ (node.Number 5) ∷ (node.Number 1) ∷ (node.Object (h 3 4)) ∷ (node.Object (h 3 4)) ∷ (node.Object (h 3 4)) ∷ [];
-  scripts = (record {
-    callback = callback.EvtInterruptIsr;
-    owner = declared.Interrupt (record { name = 4; device = record { 0 = 2 }; level = record { 0 = 0 } });
-    line = 10;
-    statements = s 11 1 (act.Get 0 0)
-        ∷ s 12 2 (act.Log 0)
-        ∷ [];
-  })
-      ∷ (record {
-        callback = callback.EvtInterruptEnable;
-        owner = declared.Interrupt (record { name = 4; device = record { 0 = 2 }; level = record { 0 = 0 } });
-        line = 14;
-        statements = s 15 1 (act.Log 1)
-            ∷ [];
-      })
-      ∷ (record {
-        callback = callback.EvtInterruptDisable;
-        owner = declared.Interrupt (record { name = 4; device = record { 0 = 2 }; level = record { 0 = 0 } });
-        line = 17;
-        statements = s 18 1 (act.Log 2)
-            ∷ [];
-      })
-      ∷ (record {
-        callback = callback.EvtDeviceD0EntryPostInterruptsEnabled;
-        owner = declared.Device (record { name = 2; working = false; scope = scope.Unscoped; level = level.Dispatch });
-        line = 21;
-        statements = s 22 1 (act.Call call.WdfInterruptAcquireLock None (arg.Expression 3) arg.NoArgument arg.NoArgument)
-            ∷ s 23 2 (act.Put 0 4)
-            ∷ s 24 3 (act.Spend 5)
-            ∷ s 25 4 (act.Call call.WdfInterruptReleaseLock None (arg.Expression 6) arg.NoArgument arg.NoArgument)
-            ∷ s 26 5 (act.Call call.WdfInterruptAcquireLock None (arg.Expression 7) arg.NoArgument arg.NoArgument)
-            ∷ s 27 6 (act.Call call.WdfInterruptReleaseLock None (arg.Expression 8) arg.NoArgument arg.NoArgument)
-            ∷ [];
-      })
+  scripts = a_script callback.EvtInterruptIsr (an_interrupt 4 2 0) 10
+      (s 11 1 (act.Get 0 0)
+      ∷ s 12 2 (act.Log 0) ∷ [])
+      ∷ a_script callback.EvtInterruptEnable (an_interrupt 4 2 0) 14 (s 15 1 (act.Log 1) ∷ [])
+      ∷ a_script callback.EvtInterruptDisable (an_interrupt 4 2 0) 17 (s 18 1 (act.Log 2) ∷ [])
+      ∷ a_script callback.EvtDeviceD0EntryPostInterruptsEnabled (a_device 2 false scope.Unscoped level.Dispatch) 21
+      (s 22 1 (act.Call call.WdfInterruptAcquireLock None (arg.Expression 3) arg.NoArgument arg.NoArgument)
+      ∷ s 23 2 (act.Put 0 4)
+      ∷ s 24 3 (act.Spend 5)
+      ∷ s 25 4 (act.Call call.WdfInterruptReleaseLock None (arg.Expression 6) arg.NoArgument arg.NoArgument)
+      ∷ s 26 5 (act.Call call.WdfInterruptAcquireLock None (arg.Expression 7) arg.NoArgument arg.NoArgument)
+      ∷ s 27 6 (act.Call call.WdfInterruptReleaseLock None (arg.Expression 8) arg.NoArgument arg.NoArgument) ∷ [])
       ∷ [];
   picks = (0) ∷ (0) ∷ (0) ∷ (0) ∷ (0) ∷ (0) ∷ (0) ∷ (0) ∷ (0) ∷ (0) ∷ (0) ∷ (0) ∷ (1) ∷ [];
 }
@@ -429,54 +314,32 @@ passive_interrupt_events = event.Posted 0 (post.Ask ask.Start (h 2 2)) None
     ∷ []
 
 abbrev pub periodic_timer_plan : Plan
-periodic_timer_plan = record {
-  cpus = 2;
-  limit = 60;
-  objects = 16;
+periodic_timer_plan = record (a_plan 2 60 16) {
   names = (codes "driver") ∷ (codes "req") ∷ (codes "T") ∷ (codes "W") ∷ (codes "D") ∷ [];
-  declared = (declared.Driver)
-      ∷ (declared.Device (record { name = 4; working = false; scope = scope.PerDevice; level = level.Dispatch }))
+  declared = declared.Driver
+      ∷ a_device 4 false scope.PerDevice level.Dispatch
       ∷ [];
   classes = (class.Deferred 2 deferred.Timer (record { 0 = 2 }) true 2) ∷ (class.Deferred 3 deferred.WorkItem (record { 0 = 2 }) false 0) ∷ [];
-  registers = [];
-  whens = [];
   pnp = (at 33 0 (post.Ask ask.Start (h 2 4))) ∷ [];
-  agents = (record { name = 4; posts = [] })
-      ∷ [];
+  agents = (an_agent 4 []) ∷ [];
   exprs = (node.Number 1) ∷ (node.Number 1) ∷ (node.Context context.NearestDevice) ∷ (node.Number 0) ∷ (node.Variable 0) ∷ (node.Number 1) ∷ (node.Variable 1) ∷ (node.Variable 0) ∷ (node.Context context.NearestDevice) ∷ (node.Number 0) ∷ (node.Variable 0) ∷ (node.Variable 0) ∷ (node.Number 1) ∷ (node.Variable 0) ∷ (node.Number 1) ∷ (node.Number 3) ∷ (node.Variable 2) ∷ [];
-  scripts = (record {
-    callback = callback.EvtTimerFunc;
-    owner = declared.OfClass 0;
-    line = 7;
-    statements = s 8 1 (act.Log 0)
-        ∷ s 9 2 (act.Spend 1)
-        ∷ [];
-  })
-      ∷ (record {
-        callback = callback.EvtWorkItem;
-        owner = declared.OfClass 1;
-        line = 13;
-        statements = s 14 1 (act.Call call.GetContext (Some 0) (arg.Expression 2) (arg.Expression 3) arg.NoArgument)
-            ∷ s 15 2 (act.Call call.WdfTimerStop (Some 1) (arg.Expression 4) (arg.Expression 5) arg.NoArgument)
-            ∷ s 16 3 (act.Log 6)
-            ∷ s 17 4 (act.Call call.WdfObjectDelete None (arg.Expression 7) arg.NoArgument arg.NoArgument)
-            ∷ [];
-      })
-      ∷ (record {
-        callback = callback.EvtDeviceD0Entry;
-        owner = declared.Device (record { name = 4; working = false; scope = scope.PerDevice; level = level.Dispatch });
-        line = 22;
-        statements = s 23 1 (act.Call call.WdfTimerCreate (Some 0) (arg.OfClass 0) arg.NoArgument arg.NoArgument)
-            ∷ s 24 2 (act.Call call.SetContext None (arg.Expression 8) (arg.Expression 9) (arg.Expression 10))
-            ∷ s 25 3 (act.Call call.WdfTimerStart (Some 1) (arg.Expression 11) (arg.Expression 12) arg.NoArgument)
-            ∷ s 26 4 (act.Call call.WdfTimerStart (Some 1) (arg.Expression 13) (arg.Expression 14) arg.NoArgument)
-            ∷ s 27 5 (act.Spend 15)
-            ∷ s 28 6 (act.Call call.WdfWorkItemCreate (Some 2) (arg.OfClass 1) arg.NoArgument arg.NoArgument)
-            ∷ s 29 7 (act.Call call.WdfWorkItemEnqueue None (arg.Expression 16) arg.NoArgument arg.NoArgument)
-            ∷ [];
-      })
+  scripts = a_script callback.EvtTimerFunc (declared.OfClass 0) 7
+      (s 8 1 (act.Log 0)
+      ∷ s 9 2 (act.Spend 1) ∷ [])
+      ∷ a_script callback.EvtWorkItem (declared.OfClass 1) 13
+      (s 14 1 (act.Call call.GetContext (Some 0) (arg.Expression 2) (arg.Expression 3) arg.NoArgument)
+      ∷ s 15 2 (act.Call call.WdfTimerStop (Some 1) (arg.Expression 4) (arg.Expression 5) arg.NoArgument)
+      ∷ s 16 3 (act.Log 6)
+      ∷ s 17 4 (act.Call call.WdfObjectDelete None (arg.Expression 7) arg.NoArgument arg.NoArgument) ∷ [])
+      ∷ a_script callback.EvtDeviceD0Entry (a_device 4 false scope.PerDevice level.Dispatch) 22
+      (s 23 1 (act.Call call.WdfTimerCreate (Some 0) (arg.OfClass 0) arg.NoArgument arg.NoArgument)
+      ∷ s 24 2 (act.Call call.SetContext None (arg.Expression 8) (arg.Expression 9) (arg.Expression 10))
+      ∷ s 25 3 (act.Call call.WdfTimerStart (Some 1) (arg.Expression 11) (arg.Expression 12) arg.NoArgument)
+      ∷ s 26 4 (act.Call call.WdfTimerStart (Some 1) (arg.Expression 13) (arg.Expression 14) arg.NoArgument)
+      ∷ s 27 5 (act.Spend 15)
+      ∷ s 28 6 (act.Call call.WdfWorkItemCreate (Some 2) (arg.OfClass 1) arg.NoArgument arg.NoArgument)
+      ∷ s 29 7 (act.Call call.WdfWorkItemEnqueue None (arg.Expression 16) arg.NoArgument arg.NoArgument) ∷ [])
       ∷ [];
-  picks = [];
 }
 
 abbrev pub periodic_timer_events : List Event

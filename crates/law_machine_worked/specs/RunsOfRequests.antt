@@ -22,43 +22,23 @@ use Rattle.wdf_base.specs.declared.call.Callback.TheVariants as callback
 use Rattle.wdf_base.specs.declared.value.Status.TheVariants as status
 use Rattle.wdf_base.specs.declared.value.Value.TheVariants.{Num, Obj, Stat}
 use Rattle.wdf_base.specs.declared.plan.Plan.{Plan}
-use Rattle.law_machine_worked.specs.Writing.{h, p, f, c, at, s}
+use Rattle.law_machine_worked.specs.Writing.{h, p, f, c, at, s, a_plan, a_device, a_queue, serves, an_agent, a_script}
 
 abbrev pub cancel_comes_first_plan : Plan
-cancel_comes_first_plan = record {
-  cpus = 1;
-  limit = 100;
-  objects = 16;
+cancel_comes_first_plan = record (a_plan 1 100 16) {
   names = (codes "driver") ∷ (codes "req") ∷ (codes "D") ∷ (codes "Q") ∷ (codes "A") ∷ [];
-  declared = (declared.Driver)
-      ∷ (declared.Device (record { name = 2; working = true; scope = scope.Unscoped; level = level.Dispatch }))
-      ∷ (declared.Queue (record { name = 3; device = record { 0 = 2 }; dispatch = dispatch.Sequential; serves = record { rest = true; read = false; write = false; control = false }; powered = true; zero = false; scope = scope.Unscoped; level = level.Dispatch }))
+  declared = declared.Driver
+      ∷ a_device 2 true scope.Unscoped level.Dispatch
+      ∷ a_queue 3 2 dispatch.Sequential (serves true false false false) true false scope.Unscoped level.Dispatch
       ∷ [];
-  classes = [];
-  registers = [];
-  whens = [];
-  pnp = [];
-  agents = (record { name = 4; posts = (at 20 0 (post.Read (h 2 2) 16)) ∷ (at 21 0 (post.Cancel 1)) ∷ [] })
-      ∷ (record { name = 2; posts = [] })
-      ∷ [];
+  agents = (an_agent 4 ((at 20 0 (post.Read (h 2 2) 16)) ∷ (at 21 0 (post.Cancel 1)) ∷ [])) ∷ (an_agent 2 []) ∷ [];
   exprs = (node.Context context.OwnRequest) ∷ (node.Context context.OwnRequest) ∷ (node.Variable 1) ∷ (node.Literal status.Success) ∷ (node.Binary operator.Equals 2 3) ∷ (node.Context context.OwnRequest) ∷ (node.Literal status.Success) ∷ (node.Context context.OwnRequest) ∷ (node.Literal status.Cancelled) ∷ [];
-  scripts = (record {
-    callback = callback.EvtIoRead;
-    owner = declared.Queue (record { name = 3; device = record { 0 = 2 }; dispatch = dispatch.Sequential; serves = record { rest = true; read = false; write = false; control = false }; powered = true; zero = false; scope = scope.Unscoped; level = level.Dispatch });
-    line = 7;
-    statements = s 8 1 (act.Call call.WdfRequestMarkCancelableEx (Some 0) (arg.Expression 0) arg.NoArgument arg.NoArgument)
-        ∷ s 9 2 (act.Call call.WdfRequestUnmarkCancelable (Some 1) (arg.Expression 1) arg.NoArgument arg.NoArgument)
-        ∷ s 10 3 (act.If 4 4)
-        ∷ s 11 4 (act.Call call.WdfRequestComplete None (arg.Expression 5) (arg.Expression 6) arg.NoArgument)
-        ∷ [];
-  })
-      ∷ (record {
-        callback = callback.EvtRequestCancel;
-        owner = declared.Queue (record { name = 3; device = record { 0 = 2 }; dispatch = dispatch.Sequential; serves = record { rest = true; read = false; write = false; control = false }; powered = true; zero = false; scope = scope.Unscoped; level = level.Dispatch });
-        line = 14;
-        statements = s 15 1 (act.Call call.WdfRequestComplete None (arg.Expression 7) (arg.Expression 8) arg.NoArgument)
-            ∷ [];
-      })
+  scripts = a_script callback.EvtIoRead (a_queue 3 2 dispatch.Sequential (serves true false false false) true false scope.Unscoped level.Dispatch) 7
+      (s 8 1 (act.Call call.WdfRequestMarkCancelableEx (Some 0) (arg.Expression 0) arg.NoArgument arg.NoArgument)
+      ∷ s 9 2 (act.Call call.WdfRequestUnmarkCancelable (Some 1) (arg.Expression 1) arg.NoArgument arg.NoArgument)
+      ∷ s 10 3 (act.If 4 4)
+      ∷ s 11 4 (act.Call call.WdfRequestComplete None (arg.Expression 5) (arg.Expression 6) arg.NoArgument) ∷ [])
+      ∷ a_script callback.EvtRequestCancel (a_queue 3 2 dispatch.Sequential (serves true false false false) true false scope.Unscoped level.Dispatch) 14 (s 15 1 (act.Call call.WdfRequestComplete None (arg.Expression 7) (arg.Expression 8) arg.NoArgument) ∷ [])
       ∷ [];
   picks = (0) ∷ (0) ∷ (0) ∷ (1) ∷ [];
 }
@@ -79,39 +59,19 @@ cancel_comes_first_events = event.Posted 1 (post.Read (h 2 2) 16) (Some (h 4 1))
     ∷ []
 
 abbrev pub completed_too_early_plan : Plan
-completed_too_early_plan = record {
-  cpus = 1;
-  limit = 100;
-  objects = 16;
+completed_too_early_plan = record (a_plan 1 100 16) {
   names = (codes "driver") ∷ (codes "req") ∷ (codes "D") ∷ (codes "Q") ∷ (codes "A") ∷ [];
-  declared = (declared.Driver)
-      ∷ (declared.Device (record { name = 2; working = true; scope = scope.Unscoped; level = level.Dispatch }))
-      ∷ (declared.Queue (record { name = 3; device = record { 0 = 2 }; dispatch = dispatch.Sequential; serves = record { rest = true; read = false; write = false; control = false }; powered = true; zero = false; scope = scope.Unscoped; level = level.Dispatch }))
+  declared = declared.Driver
+      ∷ a_device 2 true scope.Unscoped level.Dispatch
+      ∷ a_queue 3 2 dispatch.Sequential (serves true false false false) true false scope.Unscoped level.Dispatch
       ∷ [];
-  classes = [];
-  registers = [];
-  whens = [];
-  pnp = [];
-  agents = (record { name = 4; posts = (at 18 0 (post.Read (h 2 2) 16)) ∷ (at 19 0 (post.Cancel 1)) ∷ [] })
-      ∷ (record { name = 2; posts = [] })
-      ∷ [];
+  agents = (an_agent 4 ((at 18 0 (post.Read (h 2 2) 16)) ∷ (at 19 0 (post.Cancel 1)) ∷ [])) ∷ (an_agent 2 []) ∷ [];
   exprs = (node.Context context.OwnRequest) ∷ (node.Context context.OwnRequest) ∷ (node.Context context.OwnRequest) ∷ (node.Literal status.Success) ∷ (node.Context context.OwnRequest) ∷ (node.Literal status.Cancelled) ∷ [];
-  scripts = (record {
-    callback = callback.EvtIoRead;
-    owner = declared.Queue (record { name = 3; device = record { 0 = 2 }; dispatch = dispatch.Sequential; serves = record { rest = true; read = false; write = false; control = false }; powered = true; zero = false; scope = scope.Unscoped; level = level.Dispatch });
-    line = 7;
-    statements = s 8 1 (act.Call call.WdfRequestMarkCancelableEx (Some 0) (arg.Expression 0) arg.NoArgument arg.NoArgument)
-        ∷ s 9 2 (act.Call call.WdfRequestUnmarkCancelable (Some 1) (arg.Expression 1) arg.NoArgument arg.NoArgument)
-        ∷ s 10 3 (act.Call call.WdfRequestComplete None (arg.Expression 2) (arg.Expression 3) arg.NoArgument)
-        ∷ [];
-  })
-      ∷ (record {
-        callback = callback.EvtRequestCancel;
-        owner = declared.Queue (record { name = 3; device = record { 0 = 2 }; dispatch = dispatch.Sequential; serves = record { rest = true; read = false; write = false; control = false }; powered = true; zero = false; scope = scope.Unscoped; level = level.Dispatch });
-        line = 12;
-        statements = s 13 1 (act.Call call.WdfRequestComplete None (arg.Expression 4) (arg.Expression 5) arg.NoArgument)
-            ∷ [];
-      })
+  scripts = a_script callback.EvtIoRead (a_queue 3 2 dispatch.Sequential (serves true false false false) true false scope.Unscoped level.Dispatch) 7
+      (s 8 1 (act.Call call.WdfRequestMarkCancelableEx (Some 0) (arg.Expression 0) arg.NoArgument arg.NoArgument)
+      ∷ s 9 2 (act.Call call.WdfRequestUnmarkCancelable (Some 1) (arg.Expression 1) arg.NoArgument arg.NoArgument)
+      ∷ s 10 3 (act.Call call.WdfRequestComplete None (arg.Expression 2) (arg.Expression 3) arg.NoArgument) ∷ [])
+      ∷ a_script callback.EvtRequestCancel (a_queue 3 2 dispatch.Sequential (serves true false false false) true false scope.Unscoped level.Dispatch) 12 (s 13 1 (act.Call call.WdfRequestComplete None (arg.Expression 4) (arg.Expression 5) arg.NoArgument) ∷ [])
       ∷ [];
   picks = (0) ∷ (0) ∷ (0) ∷ (1) ∷ [];
 }
@@ -126,43 +86,23 @@ completed_too_early_events = event.Posted 1 (post.Read (h 2 2) 16) (Some (h 4 1)
     ∷ []
 
 abbrev pub notified_plan : Plan
-notified_plan = record {
-  cpus = 1;
-  limit = 100;
-  objects = 16;
+notified_plan = record (a_plan 1 100 16) {
   names = (codes "driver") ∷ (codes "req") ∷ (codes "D") ∷ (codes "R") ∷ (codes "M") ∷ (codes "A") ∷ [];
-  declared = (declared.Driver)
-      ∷ (declared.Device (record { name = 2; working = true; scope = scope.Unscoped; level = level.Dispatch }))
-      ∷ (declared.Queue (record { name = 3; device = record { 0 = 2 }; dispatch = dispatch.Sequential; serves = record { rest = true; read = false; write = false; control = false }; powered = true; zero = false; scope = scope.Unscoped; level = level.Dispatch }))
-      ∷ (declared.Queue (record { name = 4; device = record { 0 = 2 }; dispatch = dispatch.Manual; serves = record { rest = false; read = false; write = false; control = false }; powered = true; zero = false; scope = scope.Unscoped; level = level.Dispatch }))
+  declared = declared.Driver
+      ∷ a_device 2 true scope.Unscoped level.Dispatch
+      ∷ a_queue 3 2 dispatch.Sequential (serves true false false false) true false scope.Unscoped level.Dispatch
+      ∷ a_queue 4 2 dispatch.Manual (serves false false false false) true false scope.Unscoped level.Dispatch
       ∷ [];
-  classes = [];
-  registers = [];
-  whens = [];
-  pnp = [];
-  agents = (record { name = 5; posts = (at 21 0 (post.Read (h 2 2) 16)) ∷ [] })
-      ∷ (record { name = 2; posts = [] })
-      ∷ [];
+  agents = (an_agent 5 ((at 21 0 (post.Read (h 2 2) 16)) ∷ [])) ∷ (an_agent 2 []) ∷ [];
   exprs = (node.Object (h 4 4)) ∷ (node.Number 1) ∷ (node.Context context.OwnRequest) ∷ (node.Object (h 4 4)) ∷ (node.Context context.OwnObject) ∷ (node.Context context.OwnObject) ∷ (node.Variable 0) ∷ (node.Literal status.Success) ∷ [];
-  scripts = (record {
-    callback = callback.EvtIoRead;
-    owner = declared.Queue (record { name = 3; device = record { 0 = 2 }; dispatch = dispatch.Sequential; serves = record { rest = true; read = false; write = false; control = false }; powered = true; zero = false; scope = scope.Unscoped; level = level.Dispatch });
-    line = 7;
-    statements = s 8 1 (act.Call call.WdfIoQueueReadyNotify None (arg.Expression 0) (arg.Expression 1) arg.NoArgument)
-        ∷ s 9 2 (act.Call call.WdfRequestForwardToIoQueue (Some 0) (arg.Expression 2) (arg.Expression 3) arg.NoArgument)
-        ∷ [];
-  })
-      ∷ (record {
-        callback = callback.EvtIoQueueState;
-        owner = declared.Queue (record { name = 4; device = record { 0 = 2 }; dispatch = dispatch.Manual; serves = record { rest = false; read = false; write = false; control = false }; powered = true; zero = false; scope = scope.Unscoped; level = level.Dispatch });
-        line = 13;
-        statements = s 14 1 (act.Call call.WdfIoQueueRetrieveNextRequest (Some 0) (arg.Expression 4) arg.NoArgument arg.NoArgument)
-            ∷ s 15 2 (act.Call call.WdfIoQueueRetrieveNextRequest (Some 1) (arg.Expression 5) arg.NoArgument arg.NoArgument)
-            ∷ s 16 3 (act.Call call.WdfRequestComplete None (arg.Expression 6) (arg.Expression 7) arg.NoArgument)
-            ∷ [];
-      })
+  scripts = a_script callback.EvtIoRead (a_queue 3 2 dispatch.Sequential (serves true false false false) true false scope.Unscoped level.Dispatch) 7
+      (s 8 1 (act.Call call.WdfIoQueueReadyNotify None (arg.Expression 0) (arg.Expression 1) arg.NoArgument)
+      ∷ s 9 2 (act.Call call.WdfRequestForwardToIoQueue (Some 0) (arg.Expression 2) (arg.Expression 3) arg.NoArgument) ∷ [])
+      ∷ a_script callback.EvtIoQueueState (a_queue 4 2 dispatch.Manual (serves false false false false) true false scope.Unscoped level.Dispatch) 13
+      (s 14 1 (act.Call call.WdfIoQueueRetrieveNextRequest (Some 0) (arg.Expression 4) arg.NoArgument arg.NoArgument)
+      ∷ s 15 2 (act.Call call.WdfIoQueueRetrieveNextRequest (Some 1) (arg.Expression 5) arg.NoArgument arg.NoArgument)
+      ∷ s 16 3 (act.Call call.WdfRequestComplete None (arg.Expression 6) (arg.Expression 7) arg.NoArgument) ∷ [])
       ∷ [];
-  picks = [];
 }
 
 abbrev pub notified_events : List Event
@@ -181,32 +121,16 @@ notified_events = event.Posted 1 (post.Read (h 2 2) 16) (Some (h 5 1))
     ∷ []
 
 abbrev pub one_read_plan : Plan
-one_read_plan = record {
-  cpus = 1;
-  limit = 100;
-  objects = 16;
+one_read_plan = record (a_plan 1 100 16) {
   names = (codes "driver") ∷ (codes "req") ∷ (codes "D") ∷ (codes "Q") ∷ (codes "A") ∷ [];
-  declared = (declared.Driver)
-      ∷ (declared.Device (record { name = 2; working = true; scope = scope.Unscoped; level = level.Dispatch }))
-      ∷ (declared.Queue (record { name = 3; device = record { 0 = 2 }; dispatch = dispatch.Sequential; serves = record { rest = true; read = false; write = false; control = false }; powered = true; zero = false; scope = scope.Unscoped; level = level.Dispatch }))
+  declared = declared.Driver
+      ∷ a_device 2 true scope.Unscoped level.Dispatch
+      ∷ a_queue 3 2 dispatch.Sequential (serves true false false false) true false scope.Unscoped level.Dispatch
       ∷ [];
-  classes = [];
-  registers = [];
-  whens = [];
-  pnp = [];
-  agents = (record { name = 4; posts = (at 13 0 (post.Read (h 2 2) 16)) ∷ [] })
-      ∷ (record { name = 2; posts = [] })
-      ∷ [];
+  agents = (an_agent 4 ((at 13 0 (post.Read (h 2 2) 16)) ∷ [])) ∷ (an_agent 2 []) ∷ [];
   exprs = (node.Context context.OwnRequest) ∷ (node.Literal status.Success) ∷ [];
-  scripts = (record {
-    callback = callback.EvtIoRead;
-    owner = declared.Queue (record { name = 3; device = record { 0 = 2 }; dispatch = dispatch.Sequential; serves = record { rest = true; read = false; write = false; control = false }; powered = true; zero = false; scope = scope.Unscoped; level = level.Dispatch });
-    line = 7;
-    statements = s 8 1 (act.Call call.WdfRequestComplete None (arg.Expression 0) (arg.Expression 1) arg.NoArgument)
-        ∷ [];
-  })
+  scripts = a_script callback.EvtIoRead (a_queue 3 2 dispatch.Sequential (serves true false false false) true false scope.Unscoped level.Dispatch) 7 (s 8 1 (act.Call call.WdfRequestComplete None (arg.Expression 0) (arg.Expression 1) arg.NoArgument) ∷ [])
       ∷ [];
-  picks = [];
 }
 
 abbrev pub one_read_events : List Event
@@ -219,54 +143,30 @@ one_read_events = event.Posted 1 (post.Read (h 2 2) 16) (Some (h 4 1))
     ∷ []
 
 abbrev pub purged_plan : Plan
-purged_plan = record {
-  cpus = 1;
-  limit = 100;
-  objects = 16;
+purged_plan = record (a_plan 1 100 16) {
   names = (codes "driver") ∷ (codes "req") ∷ (codes "W") ∷ (codes "D") ∷ (codes "Q") ∷ (codes "P") ∷ (codes "A") ∷ [];
-  declared = (declared.Driver)
-      ∷ (declared.Device (record { name = 3; working = true; scope = scope.Unscoped; level = level.Passive }))
-      ∷ (declared.Queue (record { name = 4; device = record { 0 = 2 }; dispatch = dispatch.Parallel 4; serves = record { rest = true; read = false; write = false; control = false }; powered = true; zero = false; scope = scope.Unscoped; level = level.Passive }))
-      ∷ (declared.Queue (record { name = 5; device = record { 0 = 2 }; dispatch = dispatch.Manual; serves = record { rest = false; read = false; write = false; control = false }; powered = false; zero = false; scope = scope.Unscoped; level = level.Passive }))
+  declared = declared.Driver
+      ∷ a_device 3 true scope.Unscoped level.Passive
+      ∷ a_queue 4 2 (dispatch.Parallel 4) (serves true false false false) true false scope.Unscoped level.Passive
+      ∷ a_queue 5 2 dispatch.Manual (serves false false false false) false false scope.Unscoped level.Passive
       ∷ [];
   classes = (class.Deferred 2 deferred.WorkItem (record { 0 = 2 }) false 0) ∷ [];
-  registers = [];
-  whens = [];
-  pnp = [];
-  agents = (record { name = 6; posts = (at 36 0 (post.Read (h 2 3) 1)) ∷ (at 37 0 (post.Read (h 2 3) 2)) ∷ (at 38 0 (post.Read (h 2 3) 3)) ∷ (at 39 1 (post.Cancel 1)) ∷ [] })
-      ∷ (record { name = 3; posts = [] })
-      ∷ [];
+  agents = (an_agent 6 ((at 36 0 (post.Read (h 2 3) 1)) ∷ (at 37 0 (post.Read (h 2 3) 2)) ∷ (at 38 0 (post.Read (h 2 3) 3)) ∷ (at 39 1 (post.Cancel 1)) ∷ [])) ∷ (an_agent 3 []) ∷ [];
   exprs = (node.Object (h 4 5)) ∷ (node.Variable 0) ∷ (node.Object (h 4 5)) ∷ (node.Context context.RequestLength) ∷ (node.Number 3) ∷ (node.Binary operator.Equals 3 4) ∷ (node.Variable 0) ∷ (node.Context context.OwnRequest) ∷ (node.Literal status.Success) ∷ (node.Context context.OwnRequest) ∷ (node.Object (h 4 5)) ∷ (node.Context context.RequestLength) ∷ (node.Context context.OwnRequest) ∷ (node.Literal status.Cancelled) ∷ [];
-  scripts = (record {
-    callback = callback.EvtWorkItem;
-    owner = declared.OfClass 0;
-    line = 8;
-    statements = s 9 1 (act.Call call.WdfIoQueuePurgeSynchronously (Some 0) (arg.Expression 0) arg.NoArgument arg.NoArgument)
-        ∷ s 10 2 (act.Log 1)
-        ∷ s 11 3 (act.Call call.WdfIoQueueStart None (arg.Expression 2) arg.NoArgument arg.NoArgument)
-        ∷ [];
-  })
-      ∷ (record {
-        callback = callback.EvtIoRead;
-        owner = declared.Queue (record { name = 4; device = record { 0 = 2 }; dispatch = dispatch.Parallel 4; serves = record { rest = true; read = false; write = false; control = false }; powered = true; zero = false; scope = scope.Unscoped; level = level.Passive });
-        line = 17;
-        statements = s 18 1 (act.If 5 4)
-            ∷ s 19 2 (act.Call call.WdfWorkItemCreate (Some 0) (arg.OfClass 0) arg.NoArgument arg.NoArgument)
-            ∷ s 20 3 (act.Call call.WdfWorkItemEnqueue None (arg.Expression 6) arg.NoArgument arg.NoArgument)
-            ∷ s 21 5 (act.Call call.WdfRequestComplete None (arg.Expression 7) (arg.Expression 8) arg.NoArgument)
-            ∷ s 23 5 (act.Call call.WdfRequestForwardToIoQueue (Some 1) (arg.Expression 9) (arg.Expression 10) arg.NoArgument)
-            ∷ [];
-      })
-      ∷ (record {
-        callback = callback.EvtIoCanceledOnQueue;
-        owner = declared.Queue (record { name = 5; device = record { 0 = 2 }; dispatch = dispatch.Manual; serves = record { rest = false; read = false; write = false; control = false }; powered = false; zero = false; scope = scope.Unscoped; level = level.Passive });
-        line = 29;
-        statements = s 30 1 (act.Log 11)
-            ∷ s 31 2 (act.Call call.WdfRequestComplete None (arg.Expression 12) (arg.Expression 13) arg.NoArgument)
-            ∷ [];
-      })
+  scripts = a_script callback.EvtWorkItem (declared.OfClass 0) 8
+      (s 9 1 (act.Call call.WdfIoQueuePurgeSynchronously (Some 0) (arg.Expression 0) arg.NoArgument arg.NoArgument)
+      ∷ s 10 2 (act.Log 1)
+      ∷ s 11 3 (act.Call call.WdfIoQueueStart None (arg.Expression 2) arg.NoArgument arg.NoArgument) ∷ [])
+      ∷ a_script callback.EvtIoRead (a_queue 4 2 (dispatch.Parallel 4) (serves true false false false) true false scope.Unscoped level.Passive) 17
+      (s 18 1 (act.If 5 4)
+      ∷ s 19 2 (act.Call call.WdfWorkItemCreate (Some 0) (arg.OfClass 0) arg.NoArgument arg.NoArgument)
+      ∷ s 20 3 (act.Call call.WdfWorkItemEnqueue None (arg.Expression 6) arg.NoArgument arg.NoArgument)
+      ∷ s 21 5 (act.Call call.WdfRequestComplete None (arg.Expression 7) (arg.Expression 8) arg.NoArgument)
+      ∷ s 23 5 (act.Call call.WdfRequestForwardToIoQueue (Some 1) (arg.Expression 9) (arg.Expression 10) arg.NoArgument) ∷ [])
+      ∷ a_script callback.EvtIoCanceledOnQueue (a_queue 5 2 dispatch.Manual (serves false false false false) false false scope.Unscoped level.Passive) 29
+      (s 30 1 (act.Log 11)
+      ∷ s 31 2 (act.Call call.WdfRequestComplete None (arg.Expression 12) (arg.Expression 13) arg.NoArgument) ∷ [])
       ∷ [];
-  picks = [];
 }
 
 abbrev pub purged_events : List Event
@@ -314,40 +214,19 @@ purged_events = event.Posted 1 (post.Read (h 2 3) 1) (Some (h 5 1))
     ∷ []
 
 abbrev pub returned_by_cancel_plan : Plan
-returned_by_cancel_plan = record {
-  cpus = 1;
-  limit = 100;
-  objects = 16;
+returned_by_cancel_plan = record (a_plan 1 100 16) {
   names = (codes "driver") ∷ (codes "req") ∷ (codes "D") ∷ (codes "Q") ∷ (codes "A") ∷ [];
-  declared = (declared.Driver)
-      ∷ (declared.Device (record { name = 2; working = true; scope = scope.Unscoped; level = level.Dispatch }))
-      ∷ (declared.Queue (record { name = 3; device = record { 0 = 2 }; dispatch = dispatch.Sequential; serves = record { rest = true; read = false; write = false; control = false }; powered = true; zero = false; scope = scope.Unscoped; level = level.Dispatch }))
+  declared = declared.Driver
+      ∷ a_device 2 true scope.Unscoped level.Dispatch
+      ∷ a_queue 3 2 dispatch.Sequential (serves true false false false) true false scope.Unscoped level.Dispatch
       ∷ [];
-  classes = [];
-  registers = [];
-  whens = [];
-  pnp = [];
-  agents = (record { name = 4; posts = (at 17 0 (post.Read (h 2 2) 16)) ∷ (at 18 0 (post.Cancel 1)) ∷ [] })
-      ∷ (record { name = 2; posts = [] })
-      ∷ [];
+  agents = (an_agent 4 ((at 17 0 (post.Read (h 2 2) 16)) ∷ (at 18 0 (post.Cancel 1)) ∷ [])) ∷ (an_agent 2 []) ∷ [];
   exprs = (node.Context context.OwnObject) ∷ (node.Context context.OwnRequest) ∷ (node.Context context.OwnRequest) ∷ (node.Literal status.Cancelled) ∷ [];
-  scripts = (record {
-    callback = callback.EvtIoRead;
-    owner = declared.Queue (record { name = 3; device = record { 0 = 2 }; dispatch = dispatch.Sequential; serves = record { rest = true; read = false; write = false; control = false }; powered = true; zero = false; scope = scope.Unscoped; level = level.Dispatch });
-    line = 7;
-    statements = s 8 1 (act.Call call.WdfIoQueueStop None (arg.Expression 0) arg.NoArgument arg.NoArgument)
-        ∷ s 9 2 (act.Call call.WdfRequestRequeue (Some 0) (arg.Expression 1) arg.NoArgument arg.NoArgument)
-        ∷ [];
-  })
-      ∷ (record {
-        callback = callback.EvtIoCanceledOnQueue;
-        owner = declared.Queue (record { name = 3; device = record { 0 = 2 }; dispatch = dispatch.Sequential; serves = record { rest = true; read = false; write = false; control = false }; powered = true; zero = false; scope = scope.Unscoped; level = level.Dispatch });
-        line = 11;
-        statements = s 12 1 (act.Call call.WdfRequestComplete None (arg.Expression 2) (arg.Expression 3) arg.NoArgument)
-            ∷ [];
-      })
+  scripts = a_script callback.EvtIoRead (a_queue 3 2 dispatch.Sequential (serves true false false false) true false scope.Unscoped level.Dispatch) 7
+      (s 8 1 (act.Call call.WdfIoQueueStop None (arg.Expression 0) arg.NoArgument arg.NoArgument)
+      ∷ s 9 2 (act.Call call.WdfRequestRequeue (Some 0) (arg.Expression 1) arg.NoArgument arg.NoArgument) ∷ [])
+      ∷ a_script callback.EvtIoCanceledOnQueue (a_queue 3 2 dispatch.Sequential (serves true false false false) true false scope.Unscoped level.Dispatch) 11 (s 12 1 (act.Call call.WdfRequestComplete None (arg.Expression 2) (arg.Expression 3) arg.NoArgument) ∷ [])
       ∷ [];
-  picks = [];
 }
 
 abbrev pub returned_by_cancel_events : List Event
@@ -365,40 +244,20 @@ returned_by_cancel_events = event.Posted 1 (post.Read (h 2 2) 16) (Some (h 4 1))
     ∷ []
 
 abbrev pub unmark_comes_first_plan : Plan
-unmark_comes_first_plan = record {
-  cpus = 1;
-  limit = 100;
-  objects = 16;
+unmark_comes_first_plan = record (a_plan 1 100 16) {
   names = (codes "driver") ∷ (codes "req") ∷ (codes "D") ∷ (codes "Q") ∷ (codes "A") ∷ [];
-  declared = (declared.Driver)
-      ∷ (declared.Device (record { name = 2; working = true; scope = scope.Unscoped; level = level.Dispatch }))
-      ∷ (declared.Queue (record { name = 3; device = record { 0 = 2 }; dispatch = dispatch.Sequential; serves = record { rest = true; read = false; write = false; control = false }; powered = true; zero = false; scope = scope.Unscoped; level = level.Dispatch }))
+  declared = declared.Driver
+      ∷ a_device 2 true scope.Unscoped level.Dispatch
+      ∷ a_queue 3 2 dispatch.Sequential (serves true false false false) true false scope.Unscoped level.Dispatch
       ∷ [];
-  classes = [];
-  registers = [];
-  whens = [];
-  pnp = [];
-  agents = (record { name = 4; posts = (at 20 0 (post.Read (h 2 2) 16)) ∷ (at 21 0 (post.Cancel 1)) ∷ [] })
-      ∷ (record { name = 2; posts = [] })
-      ∷ [];
+  agents = (an_agent 4 ((at 20 0 (post.Read (h 2 2) 16)) ∷ (at 21 0 (post.Cancel 1)) ∷ [])) ∷ (an_agent 2 []) ∷ [];
   exprs = (node.Context context.OwnRequest) ∷ (node.Context context.OwnRequest) ∷ (node.Variable 1) ∷ (node.Literal status.Success) ∷ (node.Binary operator.Equals 2 3) ∷ (node.Context context.OwnRequest) ∷ (node.Literal status.Success) ∷ (node.Context context.OwnRequest) ∷ (node.Literal status.Cancelled) ∷ [];
-  scripts = (record {
-    callback = callback.EvtIoRead;
-    owner = declared.Queue (record { name = 3; device = record { 0 = 2 }; dispatch = dispatch.Sequential; serves = record { rest = true; read = false; write = false; control = false }; powered = true; zero = false; scope = scope.Unscoped; level = level.Dispatch });
-    line = 7;
-    statements = s 8 1 (act.Call call.WdfRequestMarkCancelableEx (Some 0) (arg.Expression 0) arg.NoArgument arg.NoArgument)
-        ∷ s 9 2 (act.Call call.WdfRequestUnmarkCancelable (Some 1) (arg.Expression 1) arg.NoArgument arg.NoArgument)
-        ∷ s 10 3 (act.If 4 4)
-        ∷ s 11 4 (act.Call call.WdfRequestComplete None (arg.Expression 5) (arg.Expression 6) arg.NoArgument)
-        ∷ [];
-  })
-      ∷ (record {
-        callback = callback.EvtRequestCancel;
-        owner = declared.Queue (record { name = 3; device = record { 0 = 2 }; dispatch = dispatch.Sequential; serves = record { rest = true; read = false; write = false; control = false }; powered = true; zero = false; scope = scope.Unscoped; level = level.Dispatch });
-        line = 14;
-        statements = s 15 1 (act.Call call.WdfRequestComplete None (arg.Expression 7) (arg.Expression 8) arg.NoArgument)
-            ∷ [];
-      })
+  scripts = a_script callback.EvtIoRead (a_queue 3 2 dispatch.Sequential (serves true false false false) true false scope.Unscoped level.Dispatch) 7
+      (s 8 1 (act.Call call.WdfRequestMarkCancelableEx (Some 0) (arg.Expression 0) arg.NoArgument arg.NoArgument)
+      ∷ s 9 2 (act.Call call.WdfRequestUnmarkCancelable (Some 1) (arg.Expression 1) arg.NoArgument arg.NoArgument)
+      ∷ s 10 3 (act.If 4 4)
+      ∷ s 11 4 (act.Call call.WdfRequestComplete None (arg.Expression 5) (arg.Expression 6) arg.NoArgument) ∷ [])
+      ∷ a_script callback.EvtRequestCancel (a_queue 3 2 dispatch.Sequential (serves true false false false) true false scope.Unscoped level.Dispatch) 14 (s 15 1 (act.Call call.WdfRequestComplete None (arg.Expression 7) (arg.Expression 8) arg.NoArgument) ∷ [])
       ∷ [];
   picks = (0) ∷ (0) ∷ (0) ∷ (0) ∷ (1) ∷ [];
 }

@@ -25,97 +25,50 @@ use Rattle.wdf_base.specs.declared.call.Callback.TheVariants as callback
 use Rattle.wdf_base.specs.declared.value.Status.TheVariants as status
 use Rattle.wdf_base.specs.declared.value.Value.TheVariants.{Num, Obj, Stat}
 use Rattle.wdf_base.specs.declared.plan.Plan.{Plan}
-use Rattle.law_machine_worked.specs.Writing.{h, p, c, at, s}
+use Rattle.law_machine_worked.specs.Writing.{h, p, c, at, s, line, a_plan, a_device, a_queue, serves, an_interrupt, an_agent, a_script}
 
 abbrev pub serial_port_plan : Plan
-serial_port_plan = record {
-  cpus = 2;
-  limit = 1000;
-  objects = 32;
+serial_port_plan = record (a_plan 2 1000 32) {
   names = (codes "driver") ∷ (codes "req") ∷ (codes "TM") ∷ (codes "D") ∷ (codes "RX") ∷ (codes "CTL") ∷ (codes "IRQ") ∷ (codes "WQ") ∷ (codes "RQ") ∷ (codes "PEND") ∷ (codes "A") ∷ [];
-  declared = (declared.Driver)
-      ∷ (declared.Device (record { name = 3; working = false; scope = scope.PerDevice; level = level.Dispatch }))
-      ∷ (declared.Interrupt (record { name = 6; device = record { 0 = 2 }; level = record { 0 = 6 } }))
-      ∷ (declared.Queue (record { name = 7; device = record { 0 = 2 }; dispatch = dispatch.Parallel 2; serves = record { rest = false; read = false; write = true; control = false }; powered = true; zero = false; scope = scope.PerDevice; level = level.Dispatch }))
-      ∷ (declared.Queue (record { name = 8; device = record { 0 = 2 }; dispatch = dispatch.Parallel 4; serves = record { rest = false; read = true; write = false; control = false }; powered = true; zero = false; scope = scope.PerDevice; level = level.Dispatch }))
-      ∷ (declared.Queue (record { name = 9; device = record { 0 = 2 }; dispatch = dispatch.Manual; serves = record { rest = false; read = false; write = false; control = false }; powered = false; zero = false; scope = scope.PerDevice; level = level.Dispatch }))
+  declared = declared.Driver
+      ∷ a_device 3 false scope.PerDevice level.Dispatch
+      ∷ an_interrupt 6 2 6
+      ∷ a_queue 7 2 (dispatch.Parallel 2) (serves false false true false) true false scope.PerDevice level.Dispatch
+      ∷ a_queue 8 2 (dispatch.Parallel 4) (serves false true false false) true false scope.PerDevice level.Dispatch
+      ∷ a_queue 9 2 dispatch.Manual (serves false false false false) false false scope.PerDevice level.Dispatch
       ∷ [];
   classes = (class.Deferred 2 deferred.Timer (record { 0 = 2 }) false 0) ∷ [];
   registers = (record { name = 4; device = record { 0 = 2 }; value = 0 }) ∷ (record { name = 5; device = record { 0 = 2 }; value = 0 }) ∷ [];
   whens = (record { access = access.Write; register = 1; action = action.Set 0 65; after = 3; line = 13 }) ∷ (record { access = access.Write; register = 1; action = action.Raise (h 3 6); after = 3; line = 14 }) ∷ (record { access = access.Read; register = 0; action = action.Lower (h 3 6); after = 0; line = 15 }) ∷ [];
   pnp = (at 69 0 (post.Ask ask.Start (h 2 3))) ∷ (at 70 10 (post.Ask ask.Sleep (h 2 3))) ∷ (at 71 15 (post.Ask ask.Wake (h 2 3))) ∷ (at 72 40 (post.Ask ask.Surprise (h 2 3))) ∷ [];
-  agents = (record { name = 10; posts = (at 62 0 (post.Read (h 2 3) 16)) ∷ (at 63 1 (post.Read (h 2 3) 16)) ∷ (at 64 4 (post.Write (h 2 3) 1)) ∷ (at 65 20 (post.Write (h 2 3) 1)) ∷ (at 66 25 (post.Read (h 2 3) 16)) ∷ [] })
-      ∷ (record { name = 3; posts = [] })
-      ∷ [];
+  agents = (an_agent 10 ((at 62 0 (post.Read (h 2 3) 16)) ∷ (at 63 1 (post.Read (h 2 3) 16)) ∷ (at 64 4 (post.Write (h 2 3) 1)) ∷ (at 65 20 (post.Write (h 2 3) 1)) ∷ (at 66 25 (post.Read (h 2 3) 16)) ∷ [])) ∷ (an_agent 3 []) ∷ [];
   exprs = (node.Number 99) ∷ (node.Context context.NearestDevice) ∷ (node.Number 1) ∷ (node.Variable 0) ∷ (node.Context context.OwnObject) ∷ (node.Object (h 6 9)) ∷ (node.Variable 0) ∷ (node.Literal status.NoMoreEntries) ∷ (node.Binary operator.Differs 6 7) ∷ (node.Variable 0) ∷ (node.Literal status.Success) ∷ (node.Number 1) ∷ (node.Context context.OwnRequest) ∷ (node.Literal status.Success) ∷ (node.Context context.OwnRequest) ∷ (node.Object (h 6 9)) ∷ (node.Variable 0) ∷ (node.Literal status.Success) ∷ (node.Binary operator.Differs 16 17) ∷ (node.Context context.OwnRequest) ∷ (node.Variable 0) ∷ (node.Context context.NearestDevice) ∷ (node.Number 0) ∷ (node.Variable 0) ∷ (node.Context context.NearestDevice) ∷ (node.Number 0) ∷ (node.Variable 0) ∷ (node.Number 2) ∷ (node.Context context.NearestDevice) ∷ (node.Number 0) ∷ (node.Variable 0) ∷ (node.Number 1) ∷ [];
-  scripts = (record {
-    callback = callback.EvtTimerFunc;
-    owner = declared.OfClass 0;
-    line = 5;
-    statements = s 6 1 (act.Log 0)
-        ∷ [];
-  })
-      ∷ (record {
-        callback = callback.EvtInterruptIsr;
-        owner = declared.Interrupt (record { name = 6; device = record { 0 = 2 }; level = record { 0 = 6 } });
-        line = 17;
-        statements = s 18 1 (act.Get 0 0)
-            ∷ s 19 2 (act.Call call.SetContext None (arg.Expression 1) (arg.Expression 2) (arg.Expression 3))
-            ∷ s 20 3 (act.Call call.WdfInterruptQueueDpcForIsr None (arg.Expression 4) arg.NoArgument arg.NoArgument)
-            ∷ [];
-      })
-      ∷ (record {
-        callback = callback.EvtInterruptDpc;
-        owner = declared.Interrupt (record { name = 6; device = record { 0 = 2 }; level = record { 0 = 6 } });
-        line = 22;
-        statements = s 23 1 (act.Call call.WdfIoQueueRetrieveNextRequest (Some 0) (arg.Expression 5) arg.NoArgument arg.NoArgument)
-            ∷ s 24 2 (act.If 8 3)
-            ∷ s 25 3 (act.Call call.WdfRequestComplete None (arg.Expression 9) (arg.Expression 10) arg.NoArgument)
-            ∷ [];
-      })
-      ∷ (record {
-        callback = callback.EvtIoWrite;
-        owner = declared.Queue (record { name = 7; device = record { 0 = 2 }; dispatch = dispatch.Parallel 2; serves = record { rest = false; read = false; write = true; control = false }; powered = true; zero = false; scope = scope.PerDevice; level = level.Dispatch });
-        line = 31;
-        statements = s 32 1 (act.Put 1 11)
-            ∷ s 33 2 (act.Call call.WdfRequestComplete None (arg.Expression 12) (arg.Expression 13) arg.NoArgument)
-            ∷ [];
-      })
-      ∷ (record {
-        callback = callback.EvtIoRead;
-        owner = declared.Queue (record { name = 8; device = record { 0 = 2 }; dispatch = dispatch.Parallel 4; serves = record { rest = false; read = true; write = false; control = false }; powered = true; zero = false; scope = scope.PerDevice; level = level.Dispatch });
-        line = 38;
-        statements = s 39 1 (act.Call call.WdfRequestForwardToIoQueue (Some 0) (arg.Expression 14) (arg.Expression 15) arg.NoArgument)
-            ∷ s 40 2 (act.If 18 3)
-            ∷ s 41 3 (act.Call call.WdfRequestComplete None (arg.Expression 19) (arg.Expression 20) arg.NoArgument)
-            ∷ [];
-      })
-      ∷ (record {
-        callback = callback.EvtDevicePrepareHardware;
-        owner = declared.Device (record { name = 3; working = false; scope = scope.PerDevice; level = level.Dispatch });
-        line = 48;
-        statements = s 49 1 (act.Call call.WdfTimerCreate (Some 0) (arg.OfClass 0) arg.NoArgument arg.NoArgument)
-            ∷ s 50 2 (act.Call call.SetContext None (arg.Expression 21) (arg.Expression 22) (arg.Expression 23))
-            ∷ [];
-      })
-      ∷ (record {
-        callback = callback.EvtDeviceD0Entry;
-        owner = declared.Device (record { name = 3; working = false; scope = scope.PerDevice; level = level.Dispatch });
-        line = 52;
-        statements = s 53 1 (act.Call call.GetContext (Some 0) (arg.Expression 24) (arg.Expression 25) arg.NoArgument)
-            ∷ s 54 2 (act.Call call.WdfTimerStart None (arg.Expression 26) (arg.Expression 27) arg.NoArgument)
-            ∷ [];
-      })
-      ∷ (record {
-        callback = callback.EvtDeviceD0Exit;
-        owner = declared.Device (record { name = 3; working = false; scope = scope.PerDevice; level = level.Dispatch });
-        line = 56;
-        statements = s 57 1 (act.Call call.GetContext (Some 0) (arg.Expression 28) (arg.Expression 29) arg.NoArgument)
-            ∷ s 58 2 (act.Call call.WdfTimerStop None (arg.Expression 30) (arg.Expression 31) arg.NoArgument)
-            ∷ [];
-      })
+  scripts = a_script callback.EvtTimerFunc (declared.OfClass 0) 5 (s 6 1 (act.Log 0) ∷ [])
+      ∷ a_script callback.EvtInterruptIsr (an_interrupt 6 2 6) 17
+      (s 18 1 (act.Get 0 0)
+      ∷ s 19 2 (act.Call call.SetContext None (arg.Expression 1) (arg.Expression 2) (arg.Expression 3))
+      ∷ s 20 3 (act.Call call.WdfInterruptQueueDpcForIsr None (arg.Expression 4) arg.NoArgument arg.NoArgument) ∷ [])
+      ∷ a_script callback.EvtInterruptDpc (an_interrupt 6 2 6) 22
+      (s 23 1 (act.Call call.WdfIoQueueRetrieveNextRequest (Some 0) (arg.Expression 5) arg.NoArgument arg.NoArgument)
+      ∷ s 24 2 (act.If 8 3)
+      ∷ s 25 3 (act.Call call.WdfRequestComplete None (arg.Expression 9) (arg.Expression 10) arg.NoArgument) ∷ [])
+      ∷ a_script callback.EvtIoWrite (a_queue 7 2 (dispatch.Parallel 2) (serves false false true false) true false scope.PerDevice level.Dispatch) 31
+      (s 32 1 (act.Put 1 11)
+      ∷ s 33 2 (act.Call call.WdfRequestComplete None (arg.Expression 12) (arg.Expression 13) arg.NoArgument) ∷ [])
+      ∷ a_script callback.EvtIoRead (a_queue 8 2 (dispatch.Parallel 4) (serves false true false false) true false scope.PerDevice level.Dispatch) 38
+      (s 39 1 (act.Call call.WdfRequestForwardToIoQueue (Some 0) (arg.Expression 14) (arg.Expression 15) arg.NoArgument)
+      ∷ s 40 2 (act.If 18 3)
+      ∷ s 41 3 (act.Call call.WdfRequestComplete None (arg.Expression 19) (arg.Expression 20) arg.NoArgument) ∷ [])
+      ∷ a_script callback.EvtDevicePrepareHardware (a_device 3 false scope.PerDevice level.Dispatch) 48
+      (s 49 1 (act.Call call.WdfTimerCreate (Some 0) (arg.OfClass 0) arg.NoArgument arg.NoArgument)
+      ∷ s 50 2 (act.Call call.SetContext None (arg.Expression 21) (arg.Expression 22) (arg.Expression 23)) ∷ [])
+      ∷ a_script callback.EvtDeviceD0Entry (a_device 3 false scope.PerDevice level.Dispatch) 52
+      (s 53 1 (act.Call call.GetContext (Some 0) (arg.Expression 24) (arg.Expression 25) arg.NoArgument)
+      ∷ s 54 2 (act.Call call.WdfTimerStart None (arg.Expression 26) (arg.Expression 27) arg.NoArgument) ∷ [])
+      ∷ a_script callback.EvtDeviceD0Exit (a_device 3 false scope.PerDevice level.Dispatch) 56
+      (s 57 1 (act.Call call.GetContext (Some 0) (arg.Expression 28) (arg.Expression 29) arg.NoArgument)
+      ∷ s 58 2 (act.Call call.WdfTimerStop None (arg.Expression 30) (arg.Expression 31) arg.NoArgument) ∷ [])
       ∷ [];
-  picks = [];
 }
 
 abbrev pub serial_port_events : List Event

@@ -25,60 +25,35 @@ use Rattle.wdf_base.specs.declared.call.Callback.TheVariants as callback
 use Rattle.wdf_base.specs.declared.value.Status.TheVariants as status
 use Rattle.wdf_base.specs.declared.value.Value.TheVariants.{Num, Obj, Stat}
 use Rattle.wdf_base.specs.declared.plan.Plan.{Plan}
-use Rattle.law_machine_worked.specs.Writing.{h, p, f, c, at, s}
+use Rattle.law_machine_worked.specs.Writing.{h, p, f, c, at, s, a_plan, a_device, a_queue, serves, a_target, an_agent, a_script}
 
 abbrev pub drained_plan : Plan
-drained_plan = record {
-  cpus = 2;
-  limit = 200;
-  objects = 32;
+drained_plan = record (a_plan 2 200 32) {
   names = (codes "driver") ∷ (codes "req") ∷ (codes "W") ∷ (codes "D") ∷ (codes "Q") ∷ (codes "P") ∷ (codes "A") ∷ [];
-  declared = (declared.Driver)
-      ∷ (declared.Device (record { name = 3; working = true; scope = scope.Unscoped; level = level.Passive }))
-      ∷ (declared.Queue (record { name = 4; device = record { 0 = 2 }; dispatch = dispatch.Sequential; serves = record { rest = true; read = false; write = false; control = false }; powered = true; zero = false; scope = scope.Unscoped; level = level.Passive }))
-      ∷ (declared.Queue (record { name = 5; device = record { 0 = 2 }; dispatch = dispatch.Manual; serves = record { rest = false; read = false; write = false; control = false }; powered = true; zero = false; scope = scope.Unscoped; level = level.Passive }))
+  declared = declared.Driver
+      ∷ a_device 3 true scope.Unscoped level.Passive
+      ∷ a_queue 4 2 dispatch.Sequential (serves true false false false) true false scope.Unscoped level.Passive
+      ∷ a_queue 5 2 dispatch.Manual (serves false false false false) true false scope.Unscoped level.Passive
       ∷ [];
   classes = (class.Deferred 2 deferred.WorkItem (record { 0 = 2 }) false 0) ∷ [];
-  registers = [];
-  whens = [];
-  pnp = [];
-  agents = (record { name = 6; posts = (at 37 0 (post.Read (h 2 3) 1)) ∷ (at 38 0 (post.Read (h 2 3) 2)) ∷ [] })
-      ∷ (record { name = 3; posts = [] })
-      ∷ [];
+  agents = (an_agent 6 ((at 37 0 (post.Read (h 2 3) 1)) ∷ (at 38 0 (post.Read (h 2 3) 2)) ∷ [])) ∷ (an_agent 3 []) ∷ [];
   exprs = (node.Object (h 4 5)) ∷ (node.Variable 0) ∷ (node.Object (h 4 5)) ∷ (node.Context context.OwnRequest) ∷ (node.Object (h 4 5)) ∷ (node.Context context.RequestLength) ∷ (node.Number 2) ∷ (node.Binary operator.Equals 5 6) ∷ (node.Variable 1) ∷ (node.Number 1) ∷ (node.Object (h 4 5)) ∷ (node.Variable 2) ∷ (node.Literal status.Success) ∷ (node.Object (h 4 5)) ∷ (node.Variable 2) ∷ (node.Literal status.Success) ∷ (node.Context context.OwnRequest) ∷ (node.Literal status.Cancelled) ∷ [];
-  scripts = (record {
-    callback = callback.EvtWorkItem;
-    owner = declared.OfClass 0;
-    line = 8;
-    statements = s 9 1 (act.Call call.WdfIoQueueDrainSynchronously (Some 0) (arg.Expression 0) arg.NoArgument arg.NoArgument)
-        ∷ s 10 2 (act.Log 1)
-        ∷ s 11 3 (act.Call call.WdfIoQueueRetrieveNextRequest (Some 1) (arg.Expression 2) arg.NoArgument arg.NoArgument)
-        ∷ [];
-  })
-      ∷ (record {
-        callback = callback.EvtIoRead;
-        owner = declared.Queue (record { name = 4; device = record { 0 = 2 }; dispatch = dispatch.Sequential; serves = record { rest = true; read = false; write = false; control = false }; powered = true; zero = false; scope = scope.Unscoped; level = level.Passive });
-        line = 17;
-        statements = s 18 1 (act.Call call.WdfRequestForwardToIoQueue (Some 0) (arg.Expression 3) (arg.Expression 4) arg.NoArgument)
-            ∷ s 19 2 (act.If 7 9)
-            ∷ s 20 3 (act.Call call.WdfWorkItemCreate (Some 1) (arg.OfClass 0) arg.NoArgument arg.NoArgument)
-            ∷ s 21 4 (act.Call call.WdfWorkItemEnqueue None (arg.Expression 8) arg.NoArgument arg.NoArgument)
-            ∷ s 22 5 (act.Spend 9)
-            ∷ s 23 6 (act.Call call.WdfIoQueueRetrieveNextRequest (Some 2) (arg.Expression 10) arg.NoArgument arg.NoArgument)
-            ∷ s 24 7 (act.Call call.WdfRequestComplete None (arg.Expression 11) (arg.Expression 12) arg.NoArgument)
-            ∷ s 25 8 (act.Call call.WdfIoQueueRetrieveNextRequest (Some 2) (arg.Expression 13) arg.NoArgument arg.NoArgument)
-            ∷ s 26 9 (act.Call call.WdfRequestComplete None (arg.Expression 14) (arg.Expression 15) arg.NoArgument)
-            ∷ [];
-      })
-      ∷ (record {
-        callback = callback.EvtIoCanceledOnQueue;
-        owner = declared.Queue (record { name = 5; device = record { 0 = 2 }; dispatch = dispatch.Manual; serves = record { rest = false; read = false; write = false; control = false }; powered = true; zero = false; scope = scope.Unscoped; level = level.Passive });
-        line = 31;
-        statements = s 32 1 (act.Call call.WdfRequestComplete None (arg.Expression 16) (arg.Expression 17) arg.NoArgument)
-            ∷ [];
-      })
+  scripts = a_script callback.EvtWorkItem (declared.OfClass 0) 8
+      (s 9 1 (act.Call call.WdfIoQueueDrainSynchronously (Some 0) (arg.Expression 0) arg.NoArgument arg.NoArgument)
+      ∷ s 10 2 (act.Log 1)
+      ∷ s 11 3 (act.Call call.WdfIoQueueRetrieveNextRequest (Some 1) (arg.Expression 2) arg.NoArgument arg.NoArgument) ∷ [])
+      ∷ a_script callback.EvtIoRead (a_queue 4 2 dispatch.Sequential (serves true false false false) true false scope.Unscoped level.Passive) 17
+      (s 18 1 (act.Call call.WdfRequestForwardToIoQueue (Some 0) (arg.Expression 3) (arg.Expression 4) arg.NoArgument)
+      ∷ s 19 2 (act.If 7 9)
+      ∷ s 20 3 (act.Call call.WdfWorkItemCreate (Some 1) (arg.OfClass 0) arg.NoArgument arg.NoArgument)
+      ∷ s 21 4 (act.Call call.WdfWorkItemEnqueue None (arg.Expression 8) arg.NoArgument arg.NoArgument)
+      ∷ s 22 5 (act.Spend 9)
+      ∷ s 23 6 (act.Call call.WdfIoQueueRetrieveNextRequest (Some 2) (arg.Expression 10) arg.NoArgument arg.NoArgument)
+      ∷ s 24 7 (act.Call call.WdfRequestComplete None (arg.Expression 11) (arg.Expression 12) arg.NoArgument)
+      ∷ s 25 8 (act.Call call.WdfIoQueueRetrieveNextRequest (Some 2) (arg.Expression 13) arg.NoArgument arg.NoArgument)
+      ∷ s 26 9 (act.Call call.WdfRequestComplete None (arg.Expression 14) (arg.Expression 15) arg.NoArgument) ∷ [])
+      ∷ a_script callback.EvtIoCanceledOnQueue (a_queue 5 2 dispatch.Manual (serves false false false false) true false scope.Unscoped level.Passive) 31 (s 32 1 (act.Call call.WdfRequestComplete None (arg.Expression 16) (arg.Expression 17) arg.NoArgument) ∷ [])
       ∷ [];
-  picks = [];
 }
 
 abbrev pub drained_events : List Event
@@ -115,50 +90,35 @@ drained_events = event.Posted 1 (post.Read (h 2 3) 1) (Some (h 5 1))
     ∷ []
 
 abbrev pub every_statement_plan : Plan
-every_statement_plan = record {
-  cpus = 1;
-  limit = 100;
-  objects = 16;
+every_statement_plan = record (a_plan 1 100 16) {
   names = (codes "driver") ∷ (codes "req") ∷ (codes "D") ∷ (codes "Q") ∷ (codes "A") ∷ [];
-  declared = (declared.Driver)
-      ∷ (declared.Device (record { name = 2; working = true; scope = scope.Unscoped; level = level.Dispatch }))
-      ∷ (declared.Queue (record { name = 3; device = record { 0 = 2 }; dispatch = dispatch.Sequential; serves = record { rest = true; read = false; write = false; control = false }; powered = true; zero = false; scope = scope.Unscoped; level = level.Dispatch }))
+  declared = declared.Driver
+      ∷ a_device 2 true scope.Unscoped level.Dispatch
+      ∷ a_queue 3 2 dispatch.Sequential (serves true false false false) true false scope.Unscoped level.Dispatch
       ∷ [];
-  classes = [];
-  registers = [];
-  whens = [];
-  pnp = [];
-  agents = (record { name = 4; posts = (at 33 0 (post.Control (h 2 2) 5 9)) ∷ [] })
-      ∷ (record { name = 2; posts = [] })
-      ∷ [];
+  agents = (an_agent 4 ((at 33 0 (post.Control (h 2 2) 5 9)) ∷ [])) ∷ (an_agent 2 []) ∷ [];
   exprs = (node.Number 0) ∷ (node.Number 3) ∷ (node.Variable 0) ∷ (node.Number 2) ∷ (node.Binary operator.Add 2 3) ∷ (node.Variable 0) ∷ (node.Number 4) ∷ (node.Binary operator.Equals 5 6) ∷ (node.Variable 0) ∷ (node.Number 0) ∷ (node.Number 1) ∷ (node.Number 0) ∷ (node.Number 1) ∷ (node.Binary operator.Subtract 11 12) ∷ (node.Variable 1) ∷ (node.Variable 1) ∷ (node.Number 2) ∷ (node.Binary operator.Multiply 15 16) ∷ (node.Number 3) ∷ (node.Binary operator.Divide 17 18) ∷ (node.Literal status.Success) ∷ (node.Number 0) ∷ (node.Binary operator.Equals 20 21) ∷ (node.Context context.OwnObject) ∷ (node.Context context.OwnObject) ∷ (node.Binary operator.Equals 23 24) ∷ (node.Number 7) ∷ (node.Number 3) ∷ (node.Binary operator.BitAnd 26 27) ∷ (node.Number 7) ∷ (node.Number 2) ∷ (node.Binary operator.BitXor 29 30) ∷ (node.Number 3) ∷ (node.Number 3) ∷ (node.Binary operator.AtMost 32 33) ∷ (node.Number 3) ∷ (node.Number 3) ∷ (node.Binary operator.Below 35 36) ∷ (node.Context context.OwnRequest) ∷ (node.Context context.RequestCode) ∷ [];
-  scripts = (record {
-    callback = callback.EvtIoDefault;
-    owner = declared.Queue (record { name = 3; device = record { 0 = 2 }; dispatch = dispatch.Sequential; serves = record { rest = true; read = false; write = false; control = false }; powered = true; zero = false; scope = scope.Unscoped; level = level.Dispatch });
-    line = 7;
-    statements = s 8 1 (act.Let 0 0)
-        ∷ s 9 2 (act.Repeat 1 0 6)
-        ∷ s 10 3 (act.Let 0 4)
-        ∷ s 11 4 (act.If 7 5)
-        ∷ s 12 5 (act.Log 8)
-        ∷ s 9 6 (act.Again 0 2)
-        ∷ s 16 7 (act.Repeat 9 0 9)
-        ∷ s 17 8 (act.Log 10)
-        ∷ s 16 9 (act.Again 0 7)
-        ∷ s 19 10 (act.Let 1 13)
-        ∷ s 20 11 (act.Log 14)
-        ∷ s 21 12 (act.Log 19)
-        ∷ s 22 13 (act.Log 22)
-        ∷ s 23 14 (act.Log 25)
-        ∷ s 24 15 (act.Log 28)
-        ∷ s 25 16 (act.Log 31)
-        ∷ s 26 17 (act.Log 34)
-        ∷ s 27 18 (act.Log 37)
-        ∷ s 28 19 (act.Call call.WdfRequestComplete None (arg.Expression 38) (arg.Expression 39) arg.NoArgument)
-        ∷ [];
-  })
+  scripts = a_script callback.EvtIoDefault (a_queue 3 2 dispatch.Sequential (serves true false false false) true false scope.Unscoped level.Dispatch) 7
+      (s 8 1 (act.Let 0 0)
+      ∷ s 9 2 (act.Repeat 1 0 6)
+      ∷ s 10 3 (act.Let 0 4)
+      ∷ s 11 4 (act.If 7 5)
+      ∷ s 12 5 (act.Log 8)
+      ∷ s 9 6 (act.Again 0 2)
+      ∷ s 16 7 (act.Repeat 9 0 9)
+      ∷ s 17 8 (act.Log 10)
+      ∷ s 16 9 (act.Again 0 7)
+      ∷ s 19 10 (act.Let 1 13)
+      ∷ s 20 11 (act.Log 14)
+      ∷ s 21 12 (act.Log 19)
+      ∷ s 22 13 (act.Log 22)
+      ∷ s 23 14 (act.Log 25)
+      ∷ s 24 15 (act.Log 28)
+      ∷ s 25 16 (act.Log 31)
+      ∷ s 26 17 (act.Log 34)
+      ∷ s 27 18 (act.Log 37)
+      ∷ s 28 19 (act.Call call.WdfRequestComplete None (arg.Expression 38) (arg.Expression 39) arg.NoArgument) ∷ [])
       ∷ [];
-  picks = [];
 }
 
 abbrev pub every_statement_events : List Event
@@ -190,52 +150,32 @@ every_statement_events = event.Posted 1 (post.Control (h 2 2) 5 9) (Some (h 4 1)
     ∷ []
 
 abbrev pub sent_and_cancelled_plan : Plan
-sent_and_cancelled_plan = record {
-  cpus = 1;
-  limit = 200;
-  objects = 32;
+sent_and_cancelled_plan = record (a_plan 1 200 32) {
   names = (codes "driver") ∷ (codes "req") ∷ (codes "M") ∷ (codes "D") ∷ (codes "Q") ∷ (codes "T") ∷ (codes "A") ∷ [];
-  declared = (declared.Driver)
-      ∷ (declared.Device (record { name = 3; working = true; scope = scope.Unscoped; level = level.Dispatch }))
-      ∷ (declared.Queue (record { name = 4; device = record { 0 = 2 }; dispatch = dispatch.Parallel 4; serves = record { rest = true; read = false; write = false; control = false }; powered = true; zero = false; scope = scope.Unscoped; level = level.Dispatch }))
-      ∷ (declared.Target (record { name = 5; device = record { 0 = 2 }; delay = 5; status = status.Unsuccessful; depth = 4 }))
+  declared = declared.Driver
+      ∷ a_device 3 true scope.Unscoped level.Dispatch
+      ∷ a_queue 4 2 (dispatch.Parallel 4) (serves true false false false) true false scope.Unscoped level.Dispatch
+      ∷ a_target 5 2 5 status.Unsuccessful 4
       ∷ [];
   classes = (class.Plain 2 plain.Request) ∷ [];
-  registers = [];
-  whens = [];
-  pnp = [];
-  agents = (record { name = 6; posts = (at 34 0 (post.Read (h 2 3) 1)) ∷ (at 35 0 (post.Read (h 2 3) 2)) ∷ (at 36 1 (post.Cancel 2)) ∷ [] })
-      ∷ (record { name = 3; posts = [] })
-      ∷ (record { name = 5; posts = [] })
-      ∷ [];
+  agents = (an_agent 6 ((at 34 0 (post.Read (h 2 3) 1)) ∷ (at 35 0 (post.Read (h 2 3) 2)) ∷ (at 36 1 (post.Cancel 2)) ∷ [])) ∷ (an_agent 3 []) ∷ (an_agent 5 []) ∷ [];
   exprs = (node.Context context.RequestLength) ∷ (node.Number 1) ∷ (node.Binary operator.Equals 0 1) ∷ (node.Context context.OwnRequest) ∷ (node.Object (h 4 5)) ∷ (node.Number 1) ∷ (node.Context context.RequestLength) ∷ (node.Number 2) ∷ (node.Binary operator.Equals 6 7) ∷ (node.Context context.OwnRequest) ∷ (node.Variable 0) ∷ (node.Object (h 4 5)) ∷ (node.Number 0) ∷ (node.Variable 0) ∷ (node.Context context.OwnRequest) ∷ (node.Context context.OwnRequest) ∷ (node.Object (h 4 5)) ∷ (node.Number 0) ∷ (node.Object (h 4 5)) ∷ (node.Number 2) ∷ (node.Context context.CompletionStatus) ∷ (node.Context context.RequestLength) ∷ (node.Number 2) ∷ (node.Binary operator.Equals 21 22) ∷ (node.Context context.OwnRequest) ∷ (node.Context context.OwnRequest) ∷ (node.Context context.CompletionStatus) ∷ [];
-  scripts = (record {
-    callback = callback.EvtIoRead;
-    owner = declared.Queue (record { name = 4; device = record { 0 = 2 }; dispatch = dispatch.Parallel 4; serves = record { rest = true; read = false; write = false; control = false }; powered = true; zero = false; scope = scope.Unscoped; level = level.Dispatch });
-    line = 9;
-    statements = s 10 1 (act.If 2 2)
-        ∷ s 11 2 (act.Call call.WdfRequestSend None (arg.Expression 3) (arg.Expression 4) (arg.Expression 5))
-        ∷ s 13 3 (act.If 8 9)
-        ∷ s 14 4 (act.Call call.WdfRequestCreate (Some 0) (arg.OfClass 0) (arg.Expression 9) arg.NoArgument)
-        ∷ s 15 5 (act.Call call.WdfRequestSend None (arg.Expression 10) (arg.Expression 11) (arg.Expression 12))
-        ∷ s 16 6 (act.Call call.WdfRequestCancelSentRequest (Some 1) (arg.Expression 13) arg.NoArgument arg.NoArgument)
-        ∷ s 17 7 (act.Call call.WdfRequestCancelSentRequest (Some 2) (arg.Expression 14) arg.NoArgument arg.NoArgument)
-        ∷ s 18 8 (act.Call call.WdfRequestSend None (arg.Expression 15) (arg.Expression 16) (arg.Expression 17))
-        ∷ s 19 9 (act.Call call.WdfIoTargetStop None (arg.Expression 18) (arg.Expression 19) arg.NoArgument)
-        ∷ [];
-  })
-      ∷ (record {
-        callback = callback.EvtRequestCompletion;
-        owner = declared.Target (record { name = 5; device = record { 0 = 2 }; delay = 5; status = status.Unsuccessful; depth = 4 });
-        line = 24;
-        statements = s 25 1 (act.Log 20)
-            ∷ s 26 2 (act.If 23 4)
-            ∷ s 27 3 (act.Call call.WdfRequestIsCanceled (Some 0) (arg.Expression 24) arg.NoArgument arg.NoArgument)
-            ∷ s 28 4 (act.Call call.WdfRequestComplete None (arg.Expression 25) (arg.Expression 26) arg.NoArgument)
-            ∷ [];
-      })
+  scripts = a_script callback.EvtIoRead (a_queue 4 2 (dispatch.Parallel 4) (serves true false false false) true false scope.Unscoped level.Dispatch) 9
+      (s 10 1 (act.If 2 2)
+      ∷ s 11 2 (act.Call call.WdfRequestSend None (arg.Expression 3) (arg.Expression 4) (arg.Expression 5))
+      ∷ s 13 3 (act.If 8 9)
+      ∷ s 14 4 (act.Call call.WdfRequestCreate (Some 0) (arg.OfClass 0) (arg.Expression 9) arg.NoArgument)
+      ∷ s 15 5 (act.Call call.WdfRequestSend None (arg.Expression 10) (arg.Expression 11) (arg.Expression 12))
+      ∷ s 16 6 (act.Call call.WdfRequestCancelSentRequest (Some 1) (arg.Expression 13) arg.NoArgument arg.NoArgument)
+      ∷ s 17 7 (act.Call call.WdfRequestCancelSentRequest (Some 2) (arg.Expression 14) arg.NoArgument arg.NoArgument)
+      ∷ s 18 8 (act.Call call.WdfRequestSend None (arg.Expression 15) (arg.Expression 16) (arg.Expression 17))
+      ∷ s 19 9 (act.Call call.WdfIoTargetStop None (arg.Expression 18) (arg.Expression 19) arg.NoArgument) ∷ [])
+      ∷ a_script callback.EvtRequestCompletion (a_target 5 2 5 status.Unsuccessful 4) 24
+      (s 25 1 (act.Log 20)
+      ∷ s 26 2 (act.If 23 4)
+      ∷ s 27 3 (act.Call call.WdfRequestIsCanceled (Some 0) (arg.Expression 24) arg.NoArgument arg.NoArgument)
+      ∷ s 28 4 (act.Call call.WdfRequestComplete None (arg.Expression 25) (arg.Expression 26) arg.NoArgument) ∷ [])
       ∷ [];
-  picks = [];
 }
 
 abbrev pub sent_and_cancelled_events : List Event
@@ -285,55 +225,21 @@ sent_and_cancelled_events = event.Posted 1 (post.Read (h 2 3) 1) (Some (h 5 1))
     ∷ []
 
 abbrev pub stopped_while_sent_plan : Plan
-stopped_while_sent_plan = record {
-  cpus = 1;
-  limit = 100;
-  objects = 16;
+stopped_while_sent_plan = record (a_plan 1 100 16) {
   names = (codes "driver") ∷ (codes "req") ∷ (codes "D") ∷ (codes "R") ∷ (codes "T") ∷ (codes "A") ∷ [];
-  declared = (declared.Driver)
-      ∷ (declared.Device (record { name = 2; working = true; scope = scope.Unscoped; level = level.Dispatch }))
-      ∷ (declared.Queue (record { name = 3; device = record { 0 = 2 }; dispatch = dispatch.Sequential; serves = record { rest = true; read = false; write = false; control = false }; powered = true; zero = false; scope = scope.Unscoped; level = level.Dispatch }))
-      ∷ (declared.Target (record { name = 4; device = record { 0 = 2 }; delay = 3; status = status.Success; depth = 1 }))
+  declared = declared.Driver
+      ∷ a_device 2 true scope.Unscoped level.Dispatch
+      ∷ a_queue 3 2 dispatch.Sequential (serves true false false false) true false scope.Unscoped level.Dispatch
+      ∷ a_target 4 2 3 status.Success 1
       ∷ [];
-  classes = [];
-  registers = [];
-  whens = [];
   pnp = (at 27 1 (post.Ask ask.Sleep (h 2 2))) ∷ (at 28 2 (post.Ask ask.Wake (h 2 2))) ∷ [];
-  agents = (record { name = 5; posts = (at 24 0 (post.Read (h 2 2) 7)) ∷ [] })
-      ∷ (record { name = 2; posts = [] })
-      ∷ (record { name = 4; posts = [] })
-      ∷ [];
+  agents = (an_agent 5 ((at 24 0 (post.Read (h 2 2) 7)) ∷ [])) ∷ (an_agent 2 []) ∷ (an_agent 4 []) ∷ [];
   exprs = (node.Context context.OwnRequest) ∷ (node.Object (h 4 4)) ∷ (node.Number 0) ∷ (node.Context context.OwnRequest) ∷ (node.Number 0) ∷ (node.Context context.CompletionStatus) ∷ (node.Context context.OwnRequest) ∷ (node.Context context.CompletionStatus) ∷ [];
-  scripts = (record {
-    callback = callback.EvtIoRead;
-    owner = declared.Queue (record { name = 3; device = record { 0 = 2 }; dispatch = dispatch.Sequential; serves = record { rest = true; read = false; write = false; control = false }; powered = true; zero = false; scope = scope.Unscoped; level = level.Dispatch });
-    line = 7;
-    statements = s 8 1 (act.Call call.WdfRequestSend None (arg.Expression 0) (arg.Expression 1) (arg.Expression 2))
-        ∷ [];
-  })
-      ∷ (record {
-        callback = callback.EvtIoStop;
-        owner = declared.Queue (record { name = 3; device = record { 0 = 2 }; dispatch = dispatch.Sequential; serves = record { rest = true; read = false; write = false; control = false }; powered = true; zero = false; scope = scope.Unscoped; level = level.Dispatch });
-        line = 10;
-        statements = s 11 1 (act.Call call.WdfRequestStopAcknowledge None (arg.Expression 3) (arg.Expression 4) arg.NoArgument)
-            ∷ [];
-      })
-      ∷ (record {
-        callback = callback.EvtIoResume;
-        owner = declared.Queue (record { name = 3; device = record { 0 = 2 }; dispatch = dispatch.Sequential; serves = record { rest = true; read = false; write = false; control = false }; powered = true; zero = false; scope = scope.Unscoped; level = level.Dispatch });
-        line = 13;
-        statements = s 14 1 (act.Log 5)
-            ∷ [];
-      })
-      ∷ (record {
-        callback = callback.EvtRequestCompletion;
-        owner = declared.Target (record { name = 4; device = record { 0 = 2 }; delay = 3; status = status.Success; depth = 1 });
-        line = 18;
-        statements = s 19 1 (act.Call call.WdfRequestComplete None (arg.Expression 6) (arg.Expression 7) arg.NoArgument)
-            ∷ [];
-      })
+  scripts = a_script callback.EvtIoRead (a_queue 3 2 dispatch.Sequential (serves true false false false) true false scope.Unscoped level.Dispatch) 7 (s 8 1 (act.Call call.WdfRequestSend None (arg.Expression 0) (arg.Expression 1) (arg.Expression 2)) ∷ [])
+      ∷ a_script callback.EvtIoStop (a_queue 3 2 dispatch.Sequential (serves true false false false) true false scope.Unscoped level.Dispatch) 10 (s 11 1 (act.Call call.WdfRequestStopAcknowledge None (arg.Expression 3) (arg.Expression 4) arg.NoArgument) ∷ [])
+      ∷ a_script callback.EvtIoResume (a_queue 3 2 dispatch.Sequential (serves true false false false) true false scope.Unscoped level.Dispatch) 13 (s 14 1 (act.Log 5) ∷ [])
+      ∷ a_script callback.EvtRequestCompletion (a_target 4 2 3 status.Success 1) 18 (s 19 1 (act.Call call.WdfRequestComplete None (arg.Expression 6) (arg.Expression 7) arg.NoArgument) ∷ [])
       ∷ [];
-  picks = [];
 }
 
 abbrev pub stopped_while_sent_events : List Event
@@ -366,52 +272,26 @@ stopped_while_sent_events = event.Posted 1 (post.Read (h 2 2) 7) (Some (h 5 1))
     ∷ []
 
 abbrev pub target_stopped_plan : Plan
-target_stopped_plan = record {
-  cpus = 1;
-  limit = 100;
-  objects = 16;
+target_stopped_plan = record (a_plan 1 100 16) {
   names = (codes "driver") ∷ (codes "req") ∷ (codes "W") ∷ (codes "D") ∷ (codes "Q") ∷ (codes "T") ∷ (codes "A") ∷ [];
-  declared = (declared.Driver)
-      ∷ (declared.Device (record { name = 3; working = true; scope = scope.Unscoped; level = level.Dispatch }))
-      ∷ (declared.Queue (record { name = 4; device = record { 0 = 2 }; dispatch = dispatch.Parallel 2; serves = record { rest = true; read = false; write = false; control = false }; powered = true; zero = false; scope = scope.Unscoped; level = level.Dispatch }))
-      ∷ (declared.Target (record { name = 5; device = record { 0 = 2 }; delay = 9; status = status.Success; depth = 2 }))
+  declared = declared.Driver
+      ∷ a_device 3 true scope.Unscoped level.Dispatch
+      ∷ a_queue 4 2 (dispatch.Parallel 2) (serves true false false false) true false scope.Unscoped level.Dispatch
+      ∷ a_target 5 2 9 status.Success 2
       ∷ [];
   classes = (class.Deferred 2 deferred.WorkItem (record { 0 = 2 }) false 0) ∷ [];
-  registers = [];
-  whens = [];
-  pnp = [];
-  agents = (record { name = 6; posts = (at 28 0 (post.Read (h 2 3) 1)) ∷ (at 29 0 (post.Read (h 2 3) 2)) ∷ [] })
-      ∷ (record { name = 3; posts = [] })
-      ∷ (record { name = 5; posts = [] })
-      ∷ [];
+  agents = (an_agent 6 ((at 28 0 (post.Read (h 2 3) 1)) ∷ (at 29 0 (post.Read (h 2 3) 2)) ∷ [])) ∷ (an_agent 3 []) ∷ (an_agent 5 []) ∷ [];
   exprs = (node.Object (h 4 5)) ∷ (node.Number 0) ∷ (node.Object (h 4 5)) ∷ (node.Context context.OwnRequest) ∷ (node.Object (h 4 5)) ∷ (node.Number 0) ∷ (node.Context context.RequestLength) ∷ (node.Number 2) ∷ (node.Binary operator.Equals 6 7) ∷ (node.Variable 0) ∷ (node.Context context.OwnRequest) ∷ (node.Context context.CompletionStatus) ∷ [];
-  scripts = (record {
-    callback = callback.EvtWorkItem;
-    owner = declared.OfClass 0;
-    line = 5;
-    statements = s 6 1 (act.Call call.WdfIoTargetStop None (arg.Expression 0) (arg.Expression 1) arg.NoArgument)
-        ∷ s 7 2 (act.Call call.WdfIoTargetStart None (arg.Expression 2) arg.NoArgument arg.NoArgument)
-        ∷ [];
-  })
-      ∷ (record {
-        callback = callback.EvtIoRead;
-        owner = declared.Queue (record { name = 4; device = record { 0 = 2 }; dispatch = dispatch.Parallel 2; serves = record { rest = true; read = false; write = false; control = false }; powered = true; zero = false; scope = scope.Unscoped; level = level.Dispatch });
-        line = 13;
-        statements = s 14 1 (act.Call call.WdfRequestSend None (arg.Expression 3) (arg.Expression 4) (arg.Expression 5))
-            ∷ s 15 2 (act.If 8 4)
-            ∷ s 16 3 (act.Call call.WdfWorkItemCreate (Some 0) (arg.OfClass 0) arg.NoArgument arg.NoArgument)
-            ∷ s 17 4 (act.Call call.WdfWorkItemEnqueue None (arg.Expression 9) arg.NoArgument arg.NoArgument)
-            ∷ [];
-      })
-      ∷ (record {
-        callback = callback.EvtRequestCompletion;
-        owner = declared.Target (record { name = 5; device = record { 0 = 2 }; delay = 9; status = status.Success; depth = 2 });
-        line = 22;
-        statements = s 23 1 (act.Call call.WdfRequestComplete None (arg.Expression 10) (arg.Expression 11) arg.NoArgument)
-            ∷ [];
-      })
+  scripts = a_script callback.EvtWorkItem (declared.OfClass 0) 5
+      (s 6 1 (act.Call call.WdfIoTargetStop None (arg.Expression 0) (arg.Expression 1) arg.NoArgument)
+      ∷ s 7 2 (act.Call call.WdfIoTargetStart None (arg.Expression 2) arg.NoArgument arg.NoArgument) ∷ [])
+      ∷ a_script callback.EvtIoRead (a_queue 4 2 (dispatch.Parallel 2) (serves true false false false) true false scope.Unscoped level.Dispatch) 13
+      (s 14 1 (act.Call call.WdfRequestSend None (arg.Expression 3) (arg.Expression 4) (arg.Expression 5))
+      ∷ s 15 2 (act.If 8 4)
+      ∷ s 16 3 (act.Call call.WdfWorkItemCreate (Some 0) (arg.OfClass 0) arg.NoArgument arg.NoArgument)
+      ∷ s 17 4 (act.Call call.WdfWorkItemEnqueue None (arg.Expression 9) arg.NoArgument arg.NoArgument) ∷ [])
+      ∷ a_script callback.EvtRequestCompletion (a_target 5 2 9 status.Success 2) 22 (s 23 1 (act.Call call.WdfRequestComplete None (arg.Expression 10) (arg.Expression 11) arg.NoArgument) ∷ [])
       ∷ [];
-  picks = [];
 }
 
 abbrev pub target_stopped_events : List Event

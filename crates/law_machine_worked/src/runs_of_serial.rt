@@ -5,6 +5,7 @@ ghost use Rattle.law_machine_worked.specs.Shown.{IsShown};
 ghost use Rattle.law_machine_worked.specs.RunsOfSerial.{serial_port_plan, serial_port_events};
 
 /// A serial port's driver starts, reads, writes, sleeps, wakes and is pulled out, in 161 events.
+#[tactic(auto, using(crate::proofs::RunsOfSerial::serial_port))]
 pub fn serial_port()
     ensures { IsShown serial_port_plan serial_port_events ending.Finished [] }
 {}

@@ -23,46 +23,26 @@ use Rattle.wdf_base.specs.declared.plan.Plan.{Plan}
 use Rattle.wdf_base.specs.declared.wait.OpenThing.TheVariants as thing
 use Rattle.wdf_base.specs.declared.wait.Cause.TheVariants as cause
 use Rattle.wdf_base.specs.declared.wait.WaitLine.{WaitLine}
-use Rattle.law_machine_worked.specs.Writing.{h, p, c, at, s, line}
+use Rattle.law_machine_worked.specs.Writing.{h, p, c, at, s, line, a_plan, a_device, a_queue, serves, a_target, an_agent, a_script}
 
 abbrev pub never_answered_plan : Plan
-never_answered_plan = record {
-  cpus = 1;
-  limit = 100;
-  objects = 16;
+never_answered_plan = record (a_plan 1 100 16) {
   names = (codes "driver") ∷ (codes "req") ∷ (codes "Own") ∷ (codes "D") ∷ (codes "Q") ∷ (codes "T") ∷ (codes "A") ∷ [];
-  declared = (declared.Driver)
-      ∷ (declared.Device (record { name = 3; working = true; scope = scope.Unscoped; level = level.Dispatch }))
-      ∷ (declared.Queue (record { name = 4; device = record { 0 = 2 }; dispatch = dispatch.Sequential; serves = record { rest = true; read = false; write = false; control = false }; powered = true; zero = false; scope = scope.Unscoped; level = level.Dispatch }))
-      ∷ (declared.Target (record { name = 5; device = record { 0 = 2 }; delay = 1; status = status.Success; depth = 4 }))
+  declared = declared.Driver
+      ∷ a_device 3 true scope.Unscoped level.Dispatch
+      ∷ a_queue 4 2 dispatch.Sequential (serves true false false false) true false scope.Unscoped level.Dispatch
+      ∷ a_target 5 2 1 status.Success 4
       ∷ [];
   classes = (class.Plain 2 plain.Request) ∷ [];
-  registers = [];
-  whens = [];
-  pnp = [];
-  agents = (record { name = 6; posts = (at 22 0 (post.Read (h 2 3) 1)) ∷ [] })
-      ∷ (record { name = 3; posts = [] })
-      ∷ (record { name = 5; posts = [] })
-      ∷ [];
+  agents = (an_agent 6 ((at 22 0 (post.Read (h 2 3) 1)) ∷ [])) ∷ (an_agent 3 []) ∷ (an_agent 5 []) ∷ [];
   exprs = (node.Context context.NearestDevice) ∷ (node.Variable 0) ∷ (node.Object (h 4 5)) ∷ (node.Number 0) ∷ (node.Variable 0) ∷ (node.Context context.OwnRequest) ∷ (node.Literal status.Success) ∷ [];
-  scripts = (record {
-    callback = callback.EvtIoRead;
-    owner = declared.Queue (record { name = 4; device = record { 0 = 2 }; dispatch = dispatch.Sequential; serves = record { rest = true; read = false; write = false; control = false }; powered = true; zero = false; scope = scope.Unscoped; level = level.Dispatch });
-    line = 9;
-    statements = s 10 1 (act.Call call.WdfRequestCreate (Some 0) (arg.OfClass 0) (arg.Expression 0) arg.NoArgument)
-        ∷ s 11 2 (act.Call call.WdfRequestSend None (arg.Expression 1) (arg.Expression 2) (arg.Expression 3))
-        ∷ s 12 3 (act.Call call.WdfObjectDelete None (arg.Expression 4) arg.NoArgument arg.NoArgument)
-        ∷ s 13 4 (act.Call call.WdfRequestComplete None (arg.Expression 5) (arg.Expression 6) arg.NoArgument)
-        ∷ [];
-  })
-      ∷ (record {
-        callback = callback.EvtRequestCompletion;
-        owner = declared.Target (record { name = 5; device = record { 0 = 2 }; delay = 1; status = status.Success; depth = 4 });
-        line = 17;
-        statements = [];
-      })
+  scripts = a_script callback.EvtIoRead (a_queue 4 2 dispatch.Sequential (serves true false false false) true false scope.Unscoped level.Dispatch) 9
+      (s 10 1 (act.Call call.WdfRequestCreate (Some 0) (arg.OfClass 0) (arg.Expression 0) arg.NoArgument)
+      ∷ s 11 2 (act.Call call.WdfRequestSend None (arg.Expression 1) (arg.Expression 2) (arg.Expression 3))
+      ∷ s 12 3 (act.Call call.WdfObjectDelete None (arg.Expression 4) arg.NoArgument arg.NoArgument)
+      ∷ s 13 4 (act.Call call.WdfRequestComplete None (arg.Expression 5) (arg.Expression 6) arg.NoArgument) ∷ [])
+      ∷ a_script callback.EvtRequestCompletion (a_target 5 2 1 status.Success 4) 17 []
       ∷ [];
-  picks = [];
 }
 
 abbrev pub never_answered_events : List Event

@@ -24,39 +24,25 @@ use Rattle.wdf_base.specs.declared.plan.Plan.{Plan}
 use Rattle.wdf_base.specs.declared.wait.OpenThing.TheVariants as thing
 use Rattle.wdf_base.specs.declared.wait.Cause.TheVariants as cause
 use Rattle.wdf_base.specs.declared.wait.WaitLine.{WaitLine}
-use Rattle.law_machine_worked.specs.Writing.{h, p, f, c, at, s, line}
+use Rattle.law_machine_worked.specs.Writing.{h, p, f, c, at, s, line, a_plan, a_device, a_queue, serves, an_agent, a_script}
 
 abbrev pub child_with_a_reference_plan : Plan
-child_with_a_reference_plan = record {
-  cpus = 1;
-  limit = 100;
-  objects = 16;
+child_with_a_reference_plan = record (a_plan 1 100 16) {
   names = (codes "driver") ∷ (codes "req") ∷ (codes "P") ∷ (codes "C") ∷ (codes "D") ∷ (codes "Q") ∷ (codes "A") ∷ [];
-  declared = (declared.Driver)
-      ∷ (declared.Device (record { name = 4; working = true; scope = scope.Unscoped; level = level.Dispatch }))
-      ∷ (declared.Queue (record { name = 5; device = record { 0 = 2 }; dispatch = dispatch.Sequential; serves = record { rest = true; read = false; write = false; control = false }; powered = true; zero = false; scope = scope.Unscoped; level = level.Dispatch }))
+  declared = declared.Driver
+      ∷ a_device 4 true scope.Unscoped level.Dispatch
+      ∷ a_queue 5 2 dispatch.Sequential (serves true false false false) true false scope.Unscoped level.Dispatch
       ∷ [];
   classes = (class.Plain 2 plain.Object) ∷ (class.Plain 3 plain.Object) ∷ [];
-  registers = [];
-  whens = [];
-  pnp = [];
-  agents = (record { name = 6; posts = (at 21 0 (post.Read (h 2 4) 1)) ∷ [] })
-      ∷ (record { name = 4; posts = [] })
-      ∷ [];
+  agents = (an_agent 6 ((at 21 0 (post.Read (h 2 4) 1)) ∷ [])) ∷ (an_agent 4 []) ∷ [];
   exprs = (node.Context context.NearestDevice) ∷ (node.Variable 0) ∷ (node.Variable 1) ∷ (node.Variable 0) ∷ (node.Context context.OwnRequest) ∷ (node.Literal status.Success) ∷ [];
-  scripts = (record {
-    callback = callback.EvtIoRead;
-    owner = declared.Queue (record { name = 5; device = record { 0 = 2 }; dispatch = dispatch.Sequential; serves = record { rest = true; read = false; write = false; control = false }; powered = true; zero = false; scope = scope.Unscoped; level = level.Dispatch });
-    line = 11;
-    statements = s 12 1 (act.Call call.WdfObjectCreate (Some 0) (arg.OfClass 0) (arg.Expression 0) arg.NoArgument)
-        ∷ s 13 2 (act.Call call.WdfObjectCreate (Some 1) (arg.OfClass 1) (arg.Expression 1) arg.NoArgument)
-        ∷ s 14 3 (act.Call call.WdfObjectReference None (arg.Expression 2) arg.NoArgument arg.NoArgument)
-        ∷ s 15 4 (act.Call call.WdfObjectDelete None (arg.Expression 3) arg.NoArgument arg.NoArgument)
-        ∷ s 16 5 (act.Call call.WdfRequestComplete None (arg.Expression 4) (arg.Expression 5) arg.NoArgument)
-        ∷ [];
-  })
+  scripts = a_script callback.EvtIoRead (a_queue 5 2 dispatch.Sequential (serves true false false false) true false scope.Unscoped level.Dispatch) 11
+      (s 12 1 (act.Call call.WdfObjectCreate (Some 0) (arg.OfClass 0) (arg.Expression 0) arg.NoArgument)
+      ∷ s 13 2 (act.Call call.WdfObjectCreate (Some 1) (arg.OfClass 1) (arg.Expression 1) arg.NoArgument)
+      ∷ s 14 3 (act.Call call.WdfObjectReference None (arg.Expression 2) arg.NoArgument arg.NoArgument)
+      ∷ s 15 4 (act.Call call.WdfObjectDelete None (arg.Expression 3) arg.NoArgument arg.NoArgument)
+      ∷ s 16 5 (act.Call call.WdfRequestComplete None (arg.Expression 4) (arg.Expression 5) arg.NoArgument) ∷ [])
       ∷ [];
-  picks = [];
 }
 
 abbrev pub child_with_a_reference_events : List Event
@@ -78,49 +64,30 @@ abbrev pub child_with_a_reference_waits : List WaitLine
 child_with_a_reference_waits = (line (thing.Leaving (h 5 2)) (Some (cause.ByChild (h 6 3)))) ∷ (line (thing.Leaving (h 6 3)) (Some (cause.References 1))) ∷ []
 
 abbrev pub deleted_while_it_is_held_plan : Plan
-deleted_while_it_is_held_plan = record {
-  cpus = 2;
-  limit = 100;
-  objects = 16;
+deleted_while_it_is_held_plan = record (a_plan 2 100 16) {
   names = (codes "driver") ∷ (codes "req") ∷ (codes "Pair") ∷ (codes "Note") ∷ (codes "Lock") ∷ (codes "D") ∷ (codes "M") ∷ (codes "Q") ∷ (codes "W") ∷ (codes "A") ∷ [];
-  declared = (declared.Driver)
-      ∷ (declared.Device (record { name = 5; working = true; scope = scope.Unscoped; level = level.Passive }))
-      ∷ (declared.Queue (record { name = 6; device = record { 0 = 2 }; dispatch = dispatch.Manual; serves = record { rest = false; read = false; write = false; control = true }; powered = true; zero = false; scope = scope.Unscoped; level = level.Passive }))
-      ∷ (declared.Queue (record { name = 7; device = record { 0 = 2 }; dispatch = dispatch.Sequential; serves = record { rest = false; read = true; write = false; control = false }; powered = true; zero = false; scope = scope.Unscoped; level = level.Passive }))
-      ∷ (declared.Queue (record { name = 8; device = record { 0 = 2 }; dispatch = dispatch.Sequential; serves = record { rest = false; read = false; write = true; control = false }; powered = true; zero = false; scope = scope.Unscoped; level = level.Passive }))
+  declared = declared.Driver
+      ∷ a_device 5 true scope.Unscoped level.Passive
+      ∷ a_queue 6 2 dispatch.Manual (serves false false false true) true false scope.Unscoped level.Passive
+      ∷ a_queue 7 2 dispatch.Sequential (serves false true false false) true false scope.Unscoped level.Passive
+      ∷ a_queue 8 2 dispatch.Sequential (serves false false true false) true false scope.Unscoped level.Passive
       ∷ [];
   classes = (class.Plain 2 plain.Object) ∷ (class.Plain 3 plain.Object) ∷ (class.Plain 4 plain.WaitLock) ∷ [];
-  registers = [];
-  whens = [];
-  pnp = [];
-  agents = (record { name = 9; posts = (at 37 0 (post.Control (h 2 5) 1 0)) ∷ (at 38 0 (post.Read (h 2 5) 1)) ∷ (at 39 0 (post.Write (h 2 5) 1)) ∷ [] })
-      ∷ (record { name = 5; posts = [] })
-      ∷ [];
+  agents = (an_agent 9 ((at 37 0 (post.Control (h 2 5) 1 0)) ∷ (at 38 0 (post.Read (h 2 5) 1)) ∷ (at 39 0 (post.Write (h 2 5) 1)) ∷ [])) ∷ (an_agent 5 []) ∷ [];
   exprs = (node.Context context.NearestDevice) ∷ (node.Variable 0) ∷ (node.Variable 0) ∷ (node.Context context.NearestDevice) ∷ (node.Number 0) ∷ (node.Variable 1) ∷ (node.Number 1) ∷ (node.Variable 0) ∷ (node.Variable 1) ∷ (node.Context context.NearestDevice) ∷ (node.Number 0) ∷ (node.Variable 0) ∷ (node.Object (h 3 6)) ∷ [];
-  scripts = (record {
-    callback = callback.EvtIoRead;
-    owner = declared.Queue (record { name = 7; device = record { 0 = 2 }; dispatch = dispatch.Sequential; serves = record { rest = false; read = true; write = false; control = false }; powered = true; zero = false; scope = scope.Unscoped; level = level.Passive });
-    line = 17;
-    statements = s 18 1 (act.Call call.WdfObjectCreate (Some 0) (arg.OfClass 0) (arg.Expression 0) arg.NoArgument)
-        ∷ s 19 2 (act.Call call.WdfObjectCreate None (arg.OfClass 1) (arg.Expression 1) arg.NoArgument)
-        ∷ s 20 3 (act.Call call.WdfWaitLockCreate (Some 1) (arg.OfClass 2) (arg.Expression 2) arg.NoArgument)
-        ∷ s 21 4 (act.Call call.SetContext None (arg.Expression 3) (arg.Expression 4) (arg.Expression 5))
-        ∷ s 22 5 (act.Spend 6)
-        ∷ s 23 6 (act.Call call.WdfObjectDelete None (arg.Expression 7) arg.NoArgument arg.NoArgument)
-        ∷ s 24 7 (act.Call call.WdfWaitLockAcquire None (arg.Expression 8) arg.NoArgument arg.NoArgument)
-        ∷ [];
-  })
-      ∷ (record {
-        callback = callback.EvtIoWrite;
-        owner = declared.Queue (record { name = 8; device = record { 0 = 2 }; dispatch = dispatch.Sequential; serves = record { rest = false; read = false; write = true; control = false }; powered = true; zero = false; scope = scope.Unscoped; level = level.Passive });
-        line = 29;
-        statements = s 30 1 (act.Call call.GetContext (Some 0) (arg.Expression 9) (arg.Expression 10) arg.NoArgument)
-            ∷ s 31 2 (act.Call call.WdfWaitLockAcquire None (arg.Expression 11) arg.NoArgument arg.NoArgument)
-            ∷ s 32 3 (act.Call call.WdfIoQueueDrainSynchronously None (arg.Expression 12) arg.NoArgument arg.NoArgument)
-            ∷ [];
-      })
+  scripts = a_script callback.EvtIoRead (a_queue 7 2 dispatch.Sequential (serves false true false false) true false scope.Unscoped level.Passive) 17
+      (s 18 1 (act.Call call.WdfObjectCreate (Some 0) (arg.OfClass 0) (arg.Expression 0) arg.NoArgument)
+      ∷ s 19 2 (act.Call call.WdfObjectCreate None (arg.OfClass 1) (arg.Expression 1) arg.NoArgument)
+      ∷ s 20 3 (act.Call call.WdfWaitLockCreate (Some 1) (arg.OfClass 2) (arg.Expression 2) arg.NoArgument)
+      ∷ s 21 4 (act.Call call.SetContext None (arg.Expression 3) (arg.Expression 4) (arg.Expression 5))
+      ∷ s 22 5 (act.Spend 6)
+      ∷ s 23 6 (act.Call call.WdfObjectDelete None (arg.Expression 7) arg.NoArgument arg.NoArgument)
+      ∷ s 24 7 (act.Call call.WdfWaitLockAcquire None (arg.Expression 8) arg.NoArgument arg.NoArgument) ∷ [])
+      ∷ a_script callback.EvtIoWrite (a_queue 8 2 dispatch.Sequential (serves false false true false) true false scope.Unscoped level.Passive) 29
+      (s 30 1 (act.Call call.GetContext (Some 0) (arg.Expression 9) (arg.Expression 10) arg.NoArgument)
+      ∷ s 31 2 (act.Call call.WdfWaitLockAcquire None (arg.Expression 11) arg.NoArgument arg.NoArgument)
+      ∷ s 32 3 (act.Call call.WdfIoQueueDrainSynchronously None (arg.Expression 12) arg.NoArgument arg.NoArgument) ∷ [])
       ∷ [];
-  picks = [];
 }
 
 abbrev pub deleted_while_it_is_held_events : List Event
@@ -148,43 +115,24 @@ abbrev pub deleted_while_it_is_held_waits : List WaitLine
 deleted_while_it_is_held_waits = (line (thing.Waiting (f 3) callback.EvtIoRead (h 4 7)) (Some (cause.ByLock (h 10 4) (f 10)))) ∷ (line (thing.Waiting (f 10) callback.EvtIoWrite (h 5 8)) (Some (cause.ByRequest (h 6 1)))) ∷ (line (thing.Queued (h 6 1) (h 3 6)) (Some (cause.Manual))) ∷ (line (thing.Owned (h 7 1)) None) ∷ (line (thing.Owned (h 11 1)) None) ∷ (line (thing.Leaving (h 8 2)) (Some (cause.ByChild (h 9 3)))) ∷ (line (thing.Leaving (h 9 3)) (Some (cause.ByChild (h 10 4)))) ∷ (line (thing.Leaving (h 10 4)) (Some (cause.ByFrame (f 3)))) ∷ []
 
 abbrev pub deleted_while_it_runs_plan : Plan
-deleted_while_it_runs_plan = record {
-  cpus = 1;
-  limit = 100;
-  objects = 16;
+deleted_while_it_runs_plan = record (a_plan 1 100 16) {
   names = (codes "driver") ∷ (codes "req") ∷ (codes "W") ∷ (codes "D") ∷ (codes "M") ∷ (codes "Q") ∷ (codes "A") ∷ [];
-  declared = (declared.Driver)
-      ∷ (declared.Device (record { name = 3; working = true; scope = scope.Unscoped; level = level.Passive }))
-      ∷ (declared.Queue (record { name = 4; device = record { 0 = 2 }; dispatch = dispatch.Manual; serves = record { rest = false; read = false; write = true; control = false }; powered = true; zero = false; scope = scope.Unscoped; level = level.Passive }))
-      ∷ (declared.Queue (record { name = 5; device = record { 0 = 2 }; dispatch = dispatch.Sequential; serves = record { rest = false; read = true; write = false; control = false }; powered = true; zero = false; scope = scope.Unscoped; level = level.Passive }))
+  declared = declared.Driver
+      ∷ a_device 3 true scope.Unscoped level.Passive
+      ∷ a_queue 4 2 dispatch.Manual (serves false false true false) true false scope.Unscoped level.Passive
+      ∷ a_queue 5 2 dispatch.Sequential (serves false true false false) true false scope.Unscoped level.Passive
       ∷ [];
   classes = (class.Deferred 2 deferred.WorkItem (record { 0 = 2 }) false 0) ∷ [];
-  registers = [];
-  whens = [];
-  pnp = [];
-  agents = (record { name = 6; posts = (at 25 0 (post.Write (h 2 3) 1)) ∷ (at 26 0 (post.Read (h 2 3) 1)) ∷ [] })
-      ∷ (record { name = 3; posts = [] })
-      ∷ [];
+  agents = (an_agent 6 ((at 25 0 (post.Write (h 2 3) 1)) ∷ (at 26 0 (post.Read (h 2 3) 1)) ∷ [])) ∷ (an_agent 3 []) ∷ [];
   exprs = (node.Context context.OwnObject) ∷ (node.Object (h 3 4)) ∷ (node.Variable 0) ∷ (node.Context context.OwnRequest) ∷ (node.Literal status.Success) ∷ [];
-  scripts = (record {
-    callback = callback.EvtWorkItem;
-    owner = declared.OfClass 0;
-    line = 5;
-    statements = s 6 1 (act.Call call.WdfObjectDelete None (arg.Expression 0) arg.NoArgument arg.NoArgument)
-        ∷ s 7 2 (act.Call call.WdfIoQueueDrainSynchronously None (arg.Expression 1) arg.NoArgument arg.NoArgument)
-        ∷ [];
-  })
-      ∷ (record {
-        callback = callback.EvtIoRead;
-        owner = declared.Queue (record { name = 5; device = record { 0 = 2 }; dispatch = dispatch.Sequential; serves = record { rest = false; read = true; write = false; control = false }; powered = true; zero = false; scope = scope.Unscoped; level = level.Passive });
-        line = 17;
-        statements = s 18 1 (act.Call call.WdfWorkItemCreate (Some 0) (arg.OfClass 0) arg.NoArgument arg.NoArgument)
-            ∷ s 19 2 (act.Call call.WdfWorkItemEnqueue None (arg.Expression 2) arg.NoArgument arg.NoArgument)
-            ∷ s 20 3 (act.Call call.WdfRequestComplete None (arg.Expression 3) (arg.Expression 4) arg.NoArgument)
-            ∷ [];
-      })
+  scripts = a_script callback.EvtWorkItem (declared.OfClass 0) 5
+      (s 6 1 (act.Call call.WdfObjectDelete None (arg.Expression 0) arg.NoArgument arg.NoArgument)
+      ∷ s 7 2 (act.Call call.WdfIoQueueDrainSynchronously None (arg.Expression 1) arg.NoArgument arg.NoArgument) ∷ [])
+      ∷ a_script callback.EvtIoRead (a_queue 5 2 dispatch.Sequential (serves false true false false) true false scope.Unscoped level.Passive) 17
+      (s 18 1 (act.Call call.WdfWorkItemCreate (Some 0) (arg.OfClass 0) arg.NoArgument arg.NoArgument)
+      ∷ s 19 2 (act.Call call.WdfWorkItemEnqueue None (arg.Expression 2) arg.NoArgument arg.NoArgument)
+      ∷ s 20 3 (act.Call call.WdfRequestComplete None (arg.Expression 3) (arg.Expression 4) arg.NoArgument) ∷ [])
       ∷ [];
-  picks = [];
 }
 
 abbrev pub deleted_while_it_runs_events : List Event
@@ -207,42 +155,22 @@ abbrev pub deleted_while_it_runs_waits : List WaitLine
 deleted_while_it_runs_waits = (line (thing.Waiting (f 8) callback.EvtWorkItem (h 7 2)) (Some (cause.ByRequest (h 5 1)))) ∷ (line (thing.Queued (h 5 1) (h 3 4)) (Some (cause.Manual))) ∷ (line (thing.Leaving (h 7 2)) (Some (cause.ByFrame (f 8)))) ∷ []
 
 abbrev pub destroyed_never_plan : Plan
-destroyed_never_plan = record {
-  cpus = 1;
-  limit = 100;
-  objects = 16;
+destroyed_never_plan = record (a_plan 1 100 16) {
   names = (codes "driver") ∷ (codes "req") ∷ (codes "Note") ∷ (codes "D") ∷ (codes "M") ∷ (codes "Q") ∷ (codes "A") ∷ [];
-  declared = (declared.Driver)
-      ∷ (declared.Device (record { name = 3; working = true; scope = scope.Unscoped; level = level.Dispatch }))
-      ∷ (declared.Queue (record { name = 4; device = record { 0 = 2 }; dispatch = dispatch.Manual; serves = record { rest = false; read = false; write = true; control = false }; powered = true; zero = false; scope = scope.Unscoped; level = level.Dispatch }))
-      ∷ (declared.Queue (record { name = 5; device = record { 0 = 2 }; dispatch = dispatch.Sequential; serves = record { rest = false; read = true; write = false; control = false }; powered = true; zero = false; scope = scope.Unscoped; level = level.Dispatch }))
+  declared = declared.Driver
+      ∷ a_device 3 true scope.Unscoped level.Dispatch
+      ∷ a_queue 4 2 dispatch.Manual (serves false false true false) true false scope.Unscoped level.Dispatch
+      ∷ a_queue 5 2 dispatch.Sequential (serves false true false false) true false scope.Unscoped level.Dispatch
       ∷ [];
   classes = (class.Plain 2 plain.Object) ∷ [];
-  registers = [];
-  whens = [];
-  pnp = [];
-  agents = (record { name = 6; posts = (at 23 0 (post.Write (h 2 3) 1)) ∷ (at 24 0 (post.Read (h 2 3) 1)) ∷ [] })
-      ∷ (record { name = 3; posts = [] })
-      ∷ [];
+  agents = (an_agent 6 ((at 23 0 (post.Write (h 2 3) 1)) ∷ (at 24 0 (post.Read (h 2 3) 1)) ∷ [])) ∷ (an_agent 3 []) ∷ [];
   exprs = (node.Object (h 3 4)) ∷ (node.Context context.NearestDevice) ∷ (node.Variable 0) ∷ (node.Context context.OwnRequest) ∷ (node.Literal status.Success) ∷ [];
-  scripts = (record {
-    callback = callback.EvtDestroyCallback;
-    owner = declared.OfClass 0;
-    line = 5;
-    statements = s 6 1 (act.Call call.WdfIoQueueDrainSynchronously None (arg.Expression 0) arg.NoArgument arg.NoArgument)
-        ∷ [];
-  })
-      ∷ (record {
-        callback = callback.EvtIoRead;
-        owner = declared.Queue (record { name = 5; device = record { 0 = 2 }; dispatch = dispatch.Sequential; serves = record { rest = false; read = true; write = false; control = false }; powered = true; zero = false; scope = scope.Unscoped; level = level.Dispatch });
-        line = 15;
-        statements = s 16 1 (act.Call call.WdfObjectCreate (Some 0) (arg.OfClass 0) (arg.Expression 1) arg.NoArgument)
-            ∷ s 17 2 (act.Call call.WdfObjectDelete None (arg.Expression 2) arg.NoArgument arg.NoArgument)
-            ∷ s 18 3 (act.Call call.WdfRequestComplete None (arg.Expression 3) (arg.Expression 4) arg.NoArgument)
-            ∷ [];
-      })
+  scripts = a_script callback.EvtDestroyCallback (declared.OfClass 0) 5 (s 6 1 (act.Call call.WdfIoQueueDrainSynchronously None (arg.Expression 0) arg.NoArgument arg.NoArgument) ∷ [])
+      ∷ a_script callback.EvtIoRead (a_queue 5 2 dispatch.Sequential (serves false true false false) true false scope.Unscoped level.Dispatch) 15
+      (s 16 1 (act.Call call.WdfObjectCreate (Some 0) (arg.OfClass 0) (arg.Expression 1) arg.NoArgument)
+      ∷ s 17 2 (act.Call call.WdfObjectDelete None (arg.Expression 2) arg.NoArgument arg.NoArgument)
+      ∷ s 18 3 (act.Call call.WdfRequestComplete None (arg.Expression 3) (arg.Expression 4) arg.NoArgument) ∷ [])
       ∷ [];
-  picks = [];
 }
 
 abbrev pub destroyed_never_events : List Event
@@ -265,43 +193,24 @@ abbrev pub destroyed_never_waits : List WaitLine
 destroyed_never_waits = (line (thing.Waiting (f 10) callback.EvtDestroyCallback (h 7 2)) (Some (cause.ByRequest (h 5 1)))) ∷ (line (thing.Queued (h 5 1) (h 3 4)) (Some (cause.Manual))) ∷ (line (thing.Leaving (h 7 2)) (Some (cause.ByFrame (f 10)))) ∷ []
 
 abbrev pub queued_while_it_runs_plan : Plan
-queued_while_it_runs_plan = record {
-  cpus = 1;
-  limit = 100;
-  objects = 16;
+queued_while_it_runs_plan = record (a_plan 1 100 16) {
   names = (codes "driver") ∷ (codes "req") ∷ (codes "Work") ∷ (codes "D") ∷ (codes "M") ∷ (codes "Q") ∷ (codes "A") ∷ [];
-  declared = (declared.Driver)
-      ∷ (declared.Device (record { name = 3; working = true; scope = scope.Unscoped; level = level.Passive }))
-      ∷ (declared.Queue (record { name = 4; device = record { 0 = 2 }; dispatch = dispatch.Manual; serves = record { rest = false; read = false; write = true; control = false }; powered = true; zero = false; scope = scope.Unscoped; level = level.Passive }))
-      ∷ (declared.Queue (record { name = 5; device = record { 0 = 2 }; dispatch = dispatch.Sequential; serves = record { rest = false; read = true; write = false; control = false }; powered = true; zero = false; scope = scope.Unscoped; level = level.Passive }))
+  declared = declared.Driver
+      ∷ a_device 3 true scope.Unscoped level.Passive
+      ∷ a_queue 4 2 dispatch.Manual (serves false false true false) true false scope.Unscoped level.Passive
+      ∷ a_queue 5 2 dispatch.Sequential (serves false true false false) true false scope.Unscoped level.Passive
       ∷ [];
   classes = (class.Deferred 2 deferred.WorkItem (record { 0 = 2 }) false 0) ∷ [];
-  registers = [];
-  whens = [];
-  pnp = [];
-  agents = (record { name = 6; posts = (at 25 0 (post.Write (h 2 3) 1)) ∷ (at 26 0 (post.Read (h 2 3) 1)) ∷ [] })
-      ∷ (record { name = 3; posts = [] })
-      ∷ [];
+  agents = (an_agent 6 ((at 25 0 (post.Write (h 2 3) 1)) ∷ (at 26 0 (post.Read (h 2 3) 1)) ∷ [])) ∷ (an_agent 3 []) ∷ [];
   exprs = (node.Context context.OwnObject) ∷ (node.Object (h 3 4)) ∷ (node.Variable 0) ∷ (node.Context context.OwnRequest) ∷ (node.Literal status.Success) ∷ [];
-  scripts = (record {
-    callback = callback.EvtWorkItem;
-    owner = declared.OfClass 0;
-    line = 5;
-    statements = s 6 1 (act.Call call.WdfWorkItemEnqueue None (arg.Expression 0) arg.NoArgument arg.NoArgument)
-        ∷ s 7 2 (act.Call call.WdfIoQueueDrainSynchronously None (arg.Expression 1) arg.NoArgument arg.NoArgument)
-        ∷ [];
-  })
-      ∷ (record {
-        callback = callback.EvtIoRead;
-        owner = declared.Queue (record { name = 5; device = record { 0 = 2 }; dispatch = dispatch.Sequential; serves = record { rest = false; read = true; write = false; control = false }; powered = true; zero = false; scope = scope.Unscoped; level = level.Passive });
-        line = 17;
-        statements = s 18 1 (act.Call call.WdfWorkItemCreate (Some 0) (arg.OfClass 0) arg.NoArgument arg.NoArgument)
-            ∷ s 19 2 (act.Call call.WdfWorkItemEnqueue None (arg.Expression 2) arg.NoArgument arg.NoArgument)
-            ∷ s 20 3 (act.Call call.WdfRequestComplete None (arg.Expression 3) (arg.Expression 4) arg.NoArgument)
-            ∷ [];
-      })
+  scripts = a_script callback.EvtWorkItem (declared.OfClass 0) 5
+      (s 6 1 (act.Call call.WdfWorkItemEnqueue None (arg.Expression 0) arg.NoArgument arg.NoArgument)
+      ∷ s 7 2 (act.Call call.WdfIoQueueDrainSynchronously None (arg.Expression 1) arg.NoArgument arg.NoArgument) ∷ [])
+      ∷ a_script callback.EvtIoRead (a_queue 5 2 dispatch.Sequential (serves false true false false) true false scope.Unscoped level.Passive) 17
+      (s 18 1 (act.Call call.WdfWorkItemCreate (Some 0) (arg.OfClass 0) arg.NoArgument arg.NoArgument)
+      ∷ s 19 2 (act.Call call.WdfWorkItemEnqueue None (arg.Expression 2) arg.NoArgument arg.NoArgument)
+      ∷ s 20 3 (act.Call call.WdfRequestComplete None (arg.Expression 3) (arg.Expression 4) arg.NoArgument) ∷ [])
       ∷ [];
-  picks = [];
 }
 
 abbrev pub queued_while_it_runs_events : List Event

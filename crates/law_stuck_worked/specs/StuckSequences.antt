@@ -26,42 +26,21 @@ use Rattle.wdf_base.specs.declared.event.Step.TheVariants as step
 use Rattle.wdf_base.specs.declared.wait.OpenThing.TheVariants as thing
 use Rattle.wdf_base.specs.declared.wait.Cause.TheVariants as cause
 use Rattle.wdf_base.specs.declared.wait.WaitLine.{WaitLine}
-use Rattle.law_machine_worked.specs.Writing.{h, p, f, c, at, s, line}
+use Rattle.law_machine_worked.specs.Writing.{h, p, f, c, at, s, line, a_plan, a_device, a_queue, serves, an_interrupt, an_agent, a_script}
 
 abbrev pub callback_of_a_step_plan : Plan
-callback_of_a_step_plan = record {
-  cpus = 1;
-  limit = 100;
-  objects = 16;
+callback_of_a_step_plan = record (a_plan 1 100 16) {
   names = (codes "driver") ∷ (codes "req") ∷ (codes "D") ∷ (codes "Q") ∷ (codes "A") ∷ [];
-  declared = (declared.Driver)
-      ∷ (declared.Device (record { name = 2; working = false; scope = scope.Unscoped; level = level.Dispatch }))
-      ∷ (declared.Queue (record { name = 3; device = record { 0 = 2 }; dispatch = dispatch.Sequential; serves = record { rest = true; read = false; write = false; control = false }; powered = true; zero = false; scope = scope.Unscoped; level = level.Dispatch }))
+  declared = declared.Driver
+      ∷ a_device 2 false scope.Unscoped level.Dispatch
+      ∷ a_queue 3 2 dispatch.Sequential (serves true false false false) true false scope.Unscoped level.Dispatch
       ∷ [];
-  classes = [];
-  registers = [];
-  whens = [];
   pnp = (at 19 1 (post.Ask ask.Start (h 2 2))) ∷ (at 20 1 (post.Ask ask.Sleep (h 2 2))) ∷ [];
-  agents = (record { name = 4; posts = (at 16 0 (post.Read (h 2 2) 1)) ∷ [] })
-      ∷ (record { name = 2; posts = [] })
-      ∷ [];
+  agents = (an_agent 4 ((at 16 0 (post.Read (h 2 2) 1)) ∷ [])) ∷ (an_agent 2 []) ∷ [];
   exprs = (node.Context context.OwnRequest) ∷ (node.Literal status.Success) ∷ (node.Object (h 3 3)) ∷ [];
-  scripts = (record {
-    callback = callback.EvtIoRead;
-    owner = declared.Queue (record { name = 3; device = record { 0 = 2 }; dispatch = dispatch.Sequential; serves = record { rest = true; read = false; write = false; control = false }; powered = true; zero = false; scope = scope.Unscoped; level = level.Dispatch });
-    line = 7;
-    statements = s 8 1 (act.Call call.WdfRequestComplete None (arg.Expression 0) (arg.Expression 1) arg.NoArgument)
-        ∷ [];
-  })
-      ∷ (record {
-        callback = callback.EvtDeviceD0Entry;
-        owner = declared.Device (record { name = 2; working = false; scope = scope.Unscoped; level = level.Dispatch });
-        line = 11;
-        statements = s 12 1 (act.Call call.WdfIoQueueDrainSynchronously None (arg.Expression 2) arg.NoArgument arg.NoArgument)
-            ∷ [];
-      })
+  scripts = a_script callback.EvtIoRead (a_queue 3 2 dispatch.Sequential (serves true false false false) true false scope.Unscoped level.Dispatch) 7 (s 8 1 (act.Call call.WdfRequestComplete None (arg.Expression 0) (arg.Expression 1) arg.NoArgument) ∷ [])
+      ∷ a_script callback.EvtDeviceD0Entry (a_device 2 false scope.Unscoped level.Dispatch) 11 (s 12 1 (act.Call call.WdfIoQueueDrainSynchronously None (arg.Expression 2) arg.NoArgument arg.NoArgument) ∷ [])
       ∷ [];
-  picks = [];
 }
 
 abbrev pub callback_of_a_step_events : List Event
@@ -78,41 +57,22 @@ abbrev pub callback_of_a_step_waits : List WaitLine
 callback_of_a_step_waits = (line (thing.Waiting (f 5) callback.EvtDeviceD0Entry (h 2 2)) (Some (cause.ByRequest (h 4 1)))) ∷ (line (thing.Queued (h 4 1) (h 3 3)) (Some (cause.Unpowered))) ∷ (line (thing.Sequence (h 2 2) (step.Run callback.EvtDeviceD0Entry None)) (Some (cause.ByFrame (f 5)))) ∷ (line (thing.Asking (h 2 2)) None) ∷ []
 
 abbrev pub disabled_waits_for_a_frame_plan : Plan
-disabled_waits_for_a_frame_plan = record {
-  cpus = 1;
-  limit = 100;
-  objects = 16;
+disabled_waits_for_a_frame_plan = record (a_plan 1 100 16) {
   names = (codes "driver") ∷ (codes "req") ∷ (codes "D") ∷ (codes "M") ∷ (codes "Q") ∷ (codes "I") ∷ (codes "A") ∷ [];
-  declared = (declared.Driver)
-      ∷ (declared.Device (record { name = 2; working = false; scope = scope.Unscoped; level = level.Passive }))
-      ∷ (declared.Queue (record { name = 3; device = record { 0 = 2 }; dispatch = dispatch.Manual; serves = record { rest = false; read = false; write = true; control = false }; powered = false; zero = false; scope = scope.Unscoped; level = level.Passive }))
-      ∷ (declared.Queue (record { name = 4; device = record { 0 = 2 }; dispatch = dispatch.Parallel 2; serves = record { rest = false; read = true; write = false; control = false }; powered = false; zero = false; scope = scope.Unscoped; level = level.Passive }))
-      ∷ (declared.Interrupt (record { name = 5; device = record { 0 = 2 }; level = record { 0 = 0 } }))
+  declared = declared.Driver
+      ∷ a_device 2 false scope.Unscoped level.Passive
+      ∷ a_queue 3 2 dispatch.Manual (serves false false true false) false false scope.Unscoped level.Passive
+      ∷ a_queue 4 2 (dispatch.Parallel 2) (serves false true false false) false false scope.Unscoped level.Passive
+      ∷ an_interrupt 5 2 0
       ∷ [];
-  classes = [];
-  registers = [];
-  whens = [];
   pnp = (at 30 0 (post.Ask ask.Start (h 2 2))) ∷ (at 31 1 (post.Ask ask.Sleep (h 2 2))) ∷ [];
-  agents = (record { name = 6; posts = (at 25 0 (post.Write (h 2 2) 1)) ∷ (at 26 0 (post.Read (h 2 2) 1)) ∷ (at 27 0 (post.Read (h 2 2) 1)) ∷ [] })
-      ∷ (record { name = 2; posts = [] })
-      ∷ [];
+  agents = (an_agent 6 ((at 25 0 (post.Write (h 2 2) 1)) ∷ (at 26 0 (post.Read (h 2 2) 1)) ∷ (at 27 0 (post.Read (h 2 2) 1)) ∷ [])) ∷ (an_agent 2 []) ∷ [];
   exprs = (node.Object (h 5 5)) ∷ (node.Object (h 3 3)) ∷ [];
-  scripts = (record {
-    callback = callback.EvtIoRead;
-    owner = declared.Queue (record { name = 4; device = record { 0 = 2 }; dispatch = dispatch.Parallel 2; serves = record { rest = false; read = true; write = false; control = false }; powered = false; zero = false; scope = scope.Unscoped; level = level.Passive });
-    line = 14;
-    statements = s 15 1 (act.Call call.WdfInterruptAcquireLock None (arg.Expression 0) arg.NoArgument arg.NoArgument)
-        ∷ s 16 2 (act.Call call.WdfIoQueueDrainSynchronously None (arg.Expression 1) arg.NoArgument arg.NoArgument)
-        ∷ [];
-  })
-      ∷ (record {
-        callback = callback.EvtInterruptIsr;
-        owner = declared.Interrupt (record { name = 5; device = record { 0 = 2 }; level = record { 0 = 0 } });
-        line = 20;
-        statements = [];
-      })
+  scripts = a_script callback.EvtIoRead (a_queue 4 2 (dispatch.Parallel 2) (serves false true false false) false false scope.Unscoped level.Passive) 14
+      (s 15 1 (act.Call call.WdfInterruptAcquireLock None (arg.Expression 0) arg.NoArgument arg.NoArgument)
+      ∷ s 16 2 (act.Call call.WdfIoQueueDrainSynchronously None (arg.Expression 1) arg.NoArgument arg.NoArgument) ∷ [])
+      ∷ a_script callback.EvtInterruptIsr (an_interrupt 5 2 0) 20 []
       ∷ [];
-  picks = [];
 }
 
 abbrev pub disabled_waits_for_a_frame_events : List Event
@@ -141,47 +101,23 @@ abbrev pub disabled_waits_for_a_frame_waits : List WaitLine
 disabled_waits_for_a_frame_waits = (line (thing.Waiting (f 8) callback.EvtIoRead (h 4 4)) (Some (cause.ByRequest (h 6 1)))) ∷ (line (thing.Waiting (f 13) callback.EvtIoRead (h 4 4)) (Some (cause.ByLock (h 5 5) (f 8)))) ∷ (line (thing.Queued (h 6 1) (h 3 3)) (Some (cause.Manual))) ∷ (line (thing.Owned (h 7 1)) None) ∷ (line (thing.Owned (h 8 1)) None) ∷ (line (thing.Sequence (h 2 2) (step.Pass stage.Disabled (Some (h 5 5)))) (Some (cause.ByFrame (f 8)))) ∷ []
 
 abbrev pub enable_waits_for_a_frame_plan : Plan
-enable_waits_for_a_frame_plan = record {
-  cpus = 1;
-  limit = 100;
-  objects = 16;
+enable_waits_for_a_frame_plan = record (a_plan 1 100 16) {
   names = (codes "driver") ∷ (codes "req") ∷ (codes "D") ∷ (codes "M") ∷ (codes "Q") ∷ (codes "I") ∷ (codes "A") ∷ [];
-  declared = (declared.Driver)
-      ∷ (declared.Device (record { name = 2; working = false; scope = scope.Unscoped; level = level.Passive }))
-      ∷ (declared.Queue (record { name = 3; device = record { 0 = 2 }; dispatch = dispatch.Manual; serves = record { rest = false; read = false; write = true; control = false }; powered = false; zero = false; scope = scope.Unscoped; level = level.Passive }))
-      ∷ (declared.Queue (record { name = 4; device = record { 0 = 2 }; dispatch = dispatch.Sequential; serves = record { rest = false; read = true; write = false; control = false }; powered = false; zero = false; scope = scope.Unscoped; level = level.Passive }))
-      ∷ (declared.Interrupt (record { name = 5; device = record { 0 = 2 }; level = record { 0 = 0 } }))
+  declared = declared.Driver
+      ∷ a_device 2 false scope.Unscoped level.Passive
+      ∷ a_queue 3 2 dispatch.Manual (serves false false true false) false false scope.Unscoped level.Passive
+      ∷ a_queue 4 2 dispatch.Sequential (serves false true false false) false false scope.Unscoped level.Passive
+      ∷ an_interrupt 5 2 0
       ∷ [];
-  classes = [];
-  registers = [];
-  whens = [];
   pnp = (at 31 1 (post.Ask ask.Start (h 2 2))) ∷ [];
-  agents = (record { name = 6; posts = (at 27 0 (post.Write (h 2 2) 1)) ∷ (at 28 0 (post.Read (h 2 2) 1)) ∷ [] })
-      ∷ (record { name = 2; posts = [] })
-      ∷ [];
+  agents = (an_agent 6 ((at 27 0 (post.Write (h 2 2) 1)) ∷ (at 28 0 (post.Read (h 2 2) 1)) ∷ [])) ∷ (an_agent 2 []) ∷ [];
   exprs = (node.Object (h 5 5)) ∷ (node.Object (h 3 3)) ∷ [];
-  scripts = (record {
-    callback = callback.EvtIoRead;
-    owner = declared.Queue (record { name = 4; device = record { 0 = 2 }; dispatch = dispatch.Sequential; serves = record { rest = false; read = true; write = false; control = false }; powered = false; zero = false; scope = scope.Unscoped; level = level.Passive });
-    line = 14;
-    statements = s 15 1 (act.Call call.WdfInterruptAcquireLock None (arg.Expression 0) arg.NoArgument arg.NoArgument)
-        ∷ s 16 2 (act.Call call.WdfIoQueueDrainSynchronously None (arg.Expression 1) arg.NoArgument arg.NoArgument)
-        ∷ [];
-  })
-      ∷ (record {
-        callback = callback.EvtInterruptIsr;
-        owner = declared.Interrupt (record { name = 5; device = record { 0 = 2 }; level = record { 0 = 0 } });
-        line = 20;
-        statements = [];
-      })
-      ∷ (record {
-        callback = callback.EvtInterruptEnable;
-        owner = declared.Interrupt (record { name = 5; device = record { 0 = 2 }; level = record { 0 = 0 } });
-        line = 22;
-        statements = [];
-      })
+  scripts = a_script callback.EvtIoRead (a_queue 4 2 dispatch.Sequential (serves false true false false) false false scope.Unscoped level.Passive) 14
+      (s 15 1 (act.Call call.WdfInterruptAcquireLock None (arg.Expression 0) arg.NoArgument arg.NoArgument)
+      ∷ s 16 2 (act.Call call.WdfIoQueueDrainSynchronously None (arg.Expression 1) arg.NoArgument arg.NoArgument) ∷ [])
+      ∷ a_script callback.EvtInterruptIsr (an_interrupt 5 2 0) 20 []
+      ∷ a_script callback.EvtInterruptEnable (an_interrupt 5 2 0) 22 []
       ∷ [];
-  picks = [];
 }
 
 abbrev pub enable_waits_for_a_frame_events : List Event
@@ -200,49 +136,24 @@ abbrev pub enable_waits_for_a_frame_waits : List WaitLine
 enable_waits_for_a_frame_waits = (line (thing.Waiting (f 3) callback.EvtIoRead (h 4 4)) (Some (cause.ByRequest (h 6 1)))) ∷ (line (thing.Queued (h 6 1) (h 3 3)) (Some (cause.Manual))) ∷ (line (thing.Owned (h 7 1)) None) ∷ (line (thing.Sequence (h 2 2) (step.Run callback.EvtInterruptEnable (Some (h 5 5)))) (Some (cause.ByFrame (f 3)))) ∷ []
 
 abbrev pub flush_of_what_is_kept_plan : Plan
-flush_of_what_is_kept_plan = record {
-  cpus = 1;
-  limit = 100;
-  objects = 16;
+flush_of_what_is_kept_plan = record (a_plan 1 100 16) {
   names = (codes "driver") ∷ (codes "req") ∷ (codes "W") ∷ (codes "D") ∷ (codes "M") ∷ (codes "Q") ∷ (codes "F") ∷ (codes "A") ∷ [];
-  declared = (declared.Driver)
-      ∷ (declared.Device (record { name = 3; working = true; scope = scope.PerDevice; level = level.Passive }))
-      ∷ (declared.Queue (record { name = 4; device = record { 0 = 2 }; dispatch = dispatch.Manual; serves = record { rest = false; read = false; write = false; control = true }; powered = true; zero = false; scope = scope.Unscoped; level = level.Passive }))
-      ∷ (declared.Queue (record { name = 5; device = record { 0 = 2 }; dispatch = dispatch.Sequential; serves = record { rest = false; read = true; write = false; control = false }; powered = true; zero = false; scope = scope.PerDevice; level = level.Passive }))
-      ∷ (declared.Queue (record { name = 6; device = record { 0 = 2 }; dispatch = dispatch.Sequential; serves = record { rest = false; read = false; write = true; control = false }; powered = true; zero = false; scope = scope.Unscoped; level = level.Passive }))
+  declared = declared.Driver
+      ∷ a_device 3 true scope.PerDevice level.Passive
+      ∷ a_queue 4 2 dispatch.Manual (serves false false false true) true false scope.Unscoped level.Passive
+      ∷ a_queue 5 2 dispatch.Sequential (serves false true false false) true false scope.PerDevice level.Passive
+      ∷ a_queue 6 2 dispatch.Sequential (serves false false true false) true false scope.Unscoped level.Passive
       ∷ [];
   classes = (class.Deferred 2 deferred.WorkItem (record { 0 = 2 }) true 0) ∷ [];
-  registers = [];
-  whens = [];
-  pnp = [];
-  agents = (record { name = 7; posts = (at 33 0 (post.Control (h 2 3) 1 0)) ∷ (at 34 0 (post.Read (h 2 3) 1)) ∷ (at 35 0 (post.Write (h 2 3) 1)) ∷ [] })
-      ∷ (record { name = 3; posts = [] })
-      ∷ [];
+  agents = (an_agent 7 ((at 33 0 (post.Control (h 2 3) 1 0)) ∷ (at 34 0 (post.Read (h 2 3) 1)) ∷ (at 35 0 (post.Write (h 2 3) 1)) ∷ [])) ∷ (an_agent 3 []) ∷ [];
   exprs = (node.Object (h 3 4)) ∷ (node.Variable 0) ∷ (node.Variable 0) ∷ [];
-  scripts = (record {
-    callback = callback.EvtWorkItem;
-    owner = declared.OfClass 0;
-    line = 6;
-    statements = [];
-  })
-      ∷ (record {
-        callback = callback.EvtIoRead;
-        owner = declared.Queue (record { name = 5; device = record { 0 = 2 }; dispatch = dispatch.Sequential; serves = record { rest = false; read = true; write = false; control = false }; powered = true; zero = false; scope = scope.PerDevice; level = level.Passive });
-        line = 18;
-        statements = s 19 1 (act.Call call.WdfIoQueueDrainSynchronously None (arg.Expression 0) arg.NoArgument arg.NoArgument)
-            ∷ [];
-      })
-      ∷ (record {
-        callback = callback.EvtIoWrite;
-        owner = declared.Queue (record { name = 6; device = record { 0 = 2 }; dispatch = dispatch.Sequential; serves = record { rest = false; read = false; write = true; control = false }; powered = true; zero = false; scope = scope.Unscoped; level = level.Passive });
-        line = 25;
-        statements = s 26 1 (act.Call call.WdfWorkItemCreate (Some 0) (arg.OfClass 0) arg.NoArgument arg.NoArgument)
-            ∷ s 27 2 (act.Call call.WdfWorkItemEnqueue None (arg.Expression 1) arg.NoArgument arg.NoArgument)
-            ∷ s 28 3 (act.Call call.WdfWorkItemFlush None (arg.Expression 2) arg.NoArgument arg.NoArgument)
-            ∷ [];
-      })
+  scripts = a_script callback.EvtWorkItem (declared.OfClass 0) 6 []
+      ∷ a_script callback.EvtIoRead (a_queue 5 2 dispatch.Sequential (serves false true false false) true false scope.PerDevice level.Passive) 18 (s 19 1 (act.Call call.WdfIoQueueDrainSynchronously None (arg.Expression 0) arg.NoArgument arg.NoArgument) ∷ [])
+      ∷ a_script callback.EvtIoWrite (a_queue 6 2 dispatch.Sequential (serves false false true false) true false scope.Unscoped level.Passive) 25
+      (s 26 1 (act.Call call.WdfWorkItemCreate (Some 0) (arg.OfClass 0) arg.NoArgument arg.NoArgument)
+      ∷ s 27 2 (act.Call call.WdfWorkItemEnqueue None (arg.Expression 1) arg.NoArgument arg.NoArgument)
+      ∷ s 28 3 (act.Call call.WdfWorkItemFlush None (arg.Expression 2) arg.NoArgument arg.NoArgument) ∷ [])
       ∷ [];
-  picks = [];
 }
 
 abbrev pub flush_of_what_is_kept_events : List Event
@@ -263,42 +174,22 @@ abbrev pub flush_of_what_is_kept_waits : List WaitLine
 flush_of_what_is_kept_waits = (line (thing.Waiting (f 3) callback.EvtIoRead (h 4 5)) (Some (cause.ByRequest (h 6 1)))) ∷ (line (thing.Waiting (f 7) callback.EvtIoWrite (h 5 6)) (Some (cause.ByWork (h 9 2)))) ∷ (line (thing.Queued (h 6 1) (h 3 4)) (Some (cause.Manual))) ∷ (line (thing.Owned (h 7 1)) None) ∷ (line (thing.Owned (h 8 1)) None) ∷ (line (thing.Deferred (h 9 2)) (Some (cause.ScopeHeld))) ∷ []
 
 abbrev pub flush_of_what_runs_plan : Plan
-flush_of_what_runs_plan = record {
-  cpus = 1;
-  limit = 100;
-  objects = 16;
+flush_of_what_runs_plan = record (a_plan 1 100 16) {
   names = (codes "driver") ∷ (codes "req") ∷ (codes "W") ∷ (codes "D") ∷ (codes "M") ∷ (codes "Q") ∷ (codes "A") ∷ [];
-  declared = (declared.Driver)
-      ∷ (declared.Device (record { name = 3; working = true; scope = scope.Unscoped; level = level.Passive }))
-      ∷ (declared.Queue (record { name = 4; device = record { 0 = 2 }; dispatch = dispatch.Manual; serves = record { rest = false; read = false; write = true; control = false }; powered = true; zero = false; scope = scope.Unscoped; level = level.Passive }))
-      ∷ (declared.Queue (record { name = 5; device = record { 0 = 2 }; dispatch = dispatch.Sequential; serves = record { rest = false; read = true; write = false; control = false }; powered = true; zero = false; scope = scope.Unscoped; level = level.Passive }))
+  declared = declared.Driver
+      ∷ a_device 3 true scope.Unscoped level.Passive
+      ∷ a_queue 4 2 dispatch.Manual (serves false false true false) true false scope.Unscoped level.Passive
+      ∷ a_queue 5 2 dispatch.Sequential (serves false true false false) true false scope.Unscoped level.Passive
       ∷ [];
   classes = (class.Deferred 2 deferred.WorkItem (record { 0 = 2 }) false 0) ∷ [];
-  registers = [];
-  whens = [];
-  pnp = [];
-  agents = (record { name = 6; posts = (at 24 0 (post.Write (h 2 3) 1)) ∷ (at 25 0 (post.Read (h 2 3) 1)) ∷ [] })
-      ∷ (record { name = 3; posts = [] })
-      ∷ [];
+  agents = (an_agent 6 ((at 24 0 (post.Write (h 2 3) 1)) ∷ (at 25 0 (post.Read (h 2 3) 1)) ∷ [])) ∷ (an_agent 3 []) ∷ [];
   exprs = (node.Object (h 3 4)) ∷ (node.Variable 0) ∷ (node.Variable 0) ∷ [];
-  scripts = (record {
-    callback = callback.EvtWorkItem;
-    owner = declared.OfClass 0;
-    line = 5;
-    statements = s 6 1 (act.Call call.WdfIoQueueDrainSynchronously None (arg.Expression 0) arg.NoArgument arg.NoArgument)
-        ∷ [];
-  })
-      ∷ (record {
-        callback = callback.EvtIoRead;
-        owner = declared.Queue (record { name = 5; device = record { 0 = 2 }; dispatch = dispatch.Sequential; serves = record { rest = false; read = true; write = false; control = false }; powered = true; zero = false; scope = scope.Unscoped; level = level.Passive });
-        line = 16;
-        statements = s 17 1 (act.Call call.WdfWorkItemCreate (Some 0) (arg.OfClass 0) arg.NoArgument arg.NoArgument)
-            ∷ s 18 2 (act.Call call.WdfWorkItemEnqueue None (arg.Expression 1) arg.NoArgument arg.NoArgument)
-            ∷ s 19 3 (act.Call call.WdfWorkItemFlush None (arg.Expression 2) arg.NoArgument arg.NoArgument)
-            ∷ [];
-      })
+  scripts = a_script callback.EvtWorkItem (declared.OfClass 0) 5 (s 6 1 (act.Call call.WdfIoQueueDrainSynchronously None (arg.Expression 0) arg.NoArgument arg.NoArgument) ∷ [])
+      ∷ a_script callback.EvtIoRead (a_queue 5 2 dispatch.Sequential (serves false true false false) true false scope.Unscoped level.Passive) 16
+      (s 17 1 (act.Call call.WdfWorkItemCreate (Some 0) (arg.OfClass 0) arg.NoArgument arg.NoArgument)
+      ∷ s 18 2 (act.Call call.WdfWorkItemEnqueue None (arg.Expression 1) arg.NoArgument arg.NoArgument)
+      ∷ s 19 3 (act.Call call.WdfWorkItemFlush None (arg.Expression 2) arg.NoArgument arg.NoArgument) ∷ [])
       ∷ [];
-  picks = [];
 }
 
 abbrev pub flush_of_what_runs_events : List Event
@@ -318,70 +209,32 @@ abbrev pub flush_of_what_runs_waits : List WaitLine
 flush_of_what_runs_waits = (line (thing.Waiting (f 3) callback.EvtIoRead (h 4 5)) (Some (cause.ByFrame (f 8)))) ∷ (line (thing.Waiting (f 8) callback.EvtWorkItem (h 7 2)) (Some (cause.ByRequest (h 5 1)))) ∷ (line (thing.Queued (h 5 1) (h 3 4)) (Some (cause.Manual))) ∷ (line (thing.Owned (h 6 1)) None) ∷ []
 
 abbrev pub quiet_waits_for_a_frame_plan : Plan
-quiet_waits_for_a_frame_plan = record {
-  cpus = 1;
-  limit = 100;
-  objects = 16;
+quiet_waits_for_a_frame_plan = record (a_plan 1 100 16) {
   names = (codes "driver") ∷ (codes "req") ∷ (codes "Call") ∷ (codes "Clock") ∷ (codes "D") ∷ (codes "M") ∷ (codes "Q") ∷ (codes "W") ∷ (codes "I") ∷ (codes "A") ∷ [];
-  declared = (declared.Driver)
-      ∷ (declared.Device (record { name = 4; working = false; scope = scope.PerDevice; level = level.Dispatch }))
-      ∷ (declared.Queue (record { name = 5; device = record { 0 = 2 }; dispatch = dispatch.Manual; serves = record { rest = false; read = false; write = false; control = true }; powered = false; zero = false; scope = scope.Unscoped; level = level.Dispatch }))
-      ∷ (declared.Queue (record { name = 6; device = record { 0 = 2 }; dispatch = dispatch.Sequential; serves = record { rest = false; read = true; write = false; control = false }; powered = false; zero = false; scope = scope.PerDevice; level = level.Passive }))
-      ∷ (declared.Queue (record { name = 7; device = record { 0 = 2 }; dispatch = dispatch.Sequential; serves = record { rest = false; read = false; write = true; control = false }; powered = false; zero = false; scope = scope.PerDevice; level = level.Dispatch }))
-      ∷ (declared.Interrupt (record { name = 8; device = record { 0 = 2 }; level = record { 0 = 5 } }))
+  declared = declared.Driver
+      ∷ a_device 4 false scope.PerDevice level.Dispatch
+      ∷ a_queue 5 2 dispatch.Manual (serves false false false true) false false scope.Unscoped level.Dispatch
+      ∷ a_queue 6 2 dispatch.Sequential (serves false true false false) false false scope.PerDevice level.Passive
+      ∷ a_queue 7 2 dispatch.Sequential (serves false false true false) false false scope.PerDevice level.Dispatch
+      ∷ an_interrupt 8 2 5
       ∷ [];
   classes = (class.Deferred 2 deferred.Dpc (record { 0 = 2 }) true 0) ∷ (class.Deferred 3 deferred.Timer (record { 0 = 2 }) true 0) ∷ [];
-  registers = [];
-  whens = [];
   pnp = (at 53 0 (post.Ask ask.Start (h 2 4))) ∷ (at 54 1 (post.Ask ask.Sleep (h 2 4))) ∷ [];
-  agents = (record { name = 9; posts = (at 48 0 (post.Control (h 2 4) 1 0)) ∷ (at 49 0 (post.Read (h 2 4) 1)) ∷ (at 50 1 (post.Write (h 2 4) 1)) ∷ [] })
-      ∷ (record { name = 4; posts = [] })
-      ∷ [];
+  agents = (an_agent 9 ((at 48 0 (post.Control (h 2 4) 1 0)) ∷ (at 49 0 (post.Read (h 2 4) 1)) ∷ (at 50 1 (post.Write (h 2 4) 1)) ∷ [])) ∷ (an_agent 4 []) ∷ [];
   exprs = (node.Variable 0) ∷ (node.Object (h 6 8)) ∷ (node.Variable 1) ∷ (node.Number 1) ∷ (node.Object (h 3 5)) ∷ [];
-  scripts = (record {
-    callback = callback.EvtDpcFunc;
-    owner = declared.OfClass 0;
-    line = 6;
-    statements = [];
-  })
-      ∷ (record {
-        callback = callback.EvtTimerFunc;
-        owner = declared.OfClass 1;
-        line = 11;
-        statements = [];
-      })
-      ∷ (record {
-        callback = callback.EvtIoRead;
-        owner = declared.Queue (record { name = 6; device = record { 0 = 2 }; dispatch = dispatch.Sequential; serves = record { rest = false; read = true; write = false; control = false }; powered = false; zero = false; scope = scope.PerDevice; level = level.Passive });
-        line = 25;
-        statements = s 26 1 (act.Call call.WdfDpcCreate (Some 0) (arg.OfClass 0) arg.NoArgument arg.NoArgument)
-            ∷ s 27 2 (act.Call call.WdfDpcEnqueue None (arg.Expression 0) arg.NoArgument arg.NoArgument)
-            ∷ s 28 3 (act.Call call.WdfInterruptQueueDpcForIsr None (arg.Expression 1) arg.NoArgument arg.NoArgument)
-            ∷ s 29 4 (act.Call call.WdfTimerCreate (Some 1) (arg.OfClass 1) arg.NoArgument arg.NoArgument)
-            ∷ s 30 5 (act.Call call.WdfTimerStart None (arg.Expression 2) (arg.Expression 3) arg.NoArgument)
-            ∷ s 31 6 (act.Call call.WdfIoQueueDrainSynchronously None (arg.Expression 4) arg.NoArgument arg.NoArgument)
-            ∷ [];
-      })
-      ∷ (record {
-        callback = callback.EvtIoWrite;
-        owner = declared.Queue (record { name = 7; device = record { 0 = 2 }; dispatch = dispatch.Sequential; serves = record { rest = false; read = false; write = true; control = false }; powered = false; zero = false; scope = scope.PerDevice; level = level.Dispatch });
-        line = 37;
-        statements = [];
-      })
-      ∷ (record {
-        callback = callback.EvtInterruptIsr;
-        owner = declared.Interrupt (record { name = 8; device = record { 0 = 2 }; level = record { 0 = 5 } });
-        line = 41;
-        statements = [];
-      })
-      ∷ (record {
-        callback = callback.EvtInterruptDpc;
-        owner = declared.Interrupt (record { name = 8; device = record { 0 = 2 }; level = record { 0 = 5 } });
-        line = 43;
-        statements = [];
-      })
+  scripts = a_script callback.EvtDpcFunc (declared.OfClass 0) 6 []
+      ∷ a_script callback.EvtTimerFunc (declared.OfClass 1) 11 []
+      ∷ a_script callback.EvtIoRead (a_queue 6 2 dispatch.Sequential (serves false true false false) false false scope.PerDevice level.Passive) 25
+      (s 26 1 (act.Call call.WdfDpcCreate (Some 0) (arg.OfClass 0) arg.NoArgument arg.NoArgument)
+      ∷ s 27 2 (act.Call call.WdfDpcEnqueue None (arg.Expression 0) arg.NoArgument arg.NoArgument)
+      ∷ s 28 3 (act.Call call.WdfInterruptQueueDpcForIsr None (arg.Expression 1) arg.NoArgument arg.NoArgument)
+      ∷ s 29 4 (act.Call call.WdfTimerCreate (Some 1) (arg.OfClass 1) arg.NoArgument arg.NoArgument)
+      ∷ s 30 5 (act.Call call.WdfTimerStart None (arg.Expression 2) (arg.Expression 3) arg.NoArgument)
+      ∷ s 31 6 (act.Call call.WdfIoQueueDrainSynchronously None (arg.Expression 4) arg.NoArgument arg.NoArgument) ∷ [])
+      ∷ a_script callback.EvtIoWrite (a_queue 7 2 dispatch.Sequential (serves false false true false) false false scope.PerDevice level.Dispatch) 37 []
+      ∷ a_script callback.EvtInterruptIsr (an_interrupt 8 2 5) 41 []
+      ∷ a_script callback.EvtInterruptDpc (an_interrupt 8 2 5) 43 []
       ∷ [];
-  picks = [];
 }
 
 abbrev pub quiet_waits_for_a_frame_events : List Event
@@ -412,31 +265,16 @@ abbrev pub quiet_waits_for_a_frame_waits : List WaitLine
 quiet_waits_for_a_frame_waits = (line (thing.Waiting (f 8) callback.EvtIoRead (h 4 6)) (Some (cause.ByRequest (h 7 1)))) ∷ (line (thing.Queued (h 7 1) (h 3 5)) (Some (cause.Manual))) ∷ (line (thing.Owned (h 8 1)) None) ∷ (line (thing.Queued (h 11 1) (h 5 7)) (Some (cause.ScopeHeld))) ∷ (line (thing.Sequence (h 2 4) (step.Pass stage.Quiet None)) (Some (cause.ByFrame (f 8)))) ∷ (line (thing.Deferred (h 6 8)) (Some (cause.ScopeHeld))) ∷ (line (thing.Deferred (h 9 2)) (Some (cause.ScopeHeld))) ∷ (line (thing.Deferred (h 10 3)) (Some (cause.ScopeHeld))) ∷ []
 
 abbrev pub removed_waits_for_a_request_plan : Plan
-removed_waits_for_a_request_plan = record {
-  cpus = 1;
-  limit = 100;
-  objects = 16;
+removed_waits_for_a_request_plan = record (a_plan 1 100 16) {
   names = (codes "driver") ∷ (codes "req") ∷ (codes "D") ∷ (codes "Q") ∷ (codes "A") ∷ [];
-  declared = (declared.Driver)
-      ∷ (declared.Device (record { name = 2; working = false; scope = scope.Unscoped; level = level.Dispatch }))
-      ∷ (declared.Queue (record { name = 3; device = record { 0 = 2 }; dispatch = dispatch.Sequential; serves = record { rest = true; read = false; write = false; control = false }; powered = false; zero = false; scope = scope.Unscoped; level = level.Dispatch }))
+  declared = declared.Driver
+      ∷ a_device 2 false scope.Unscoped level.Dispatch
+      ∷ a_queue 3 2 dispatch.Sequential (serves true false false false) false false scope.Unscoped level.Dispatch
       ∷ [];
-  classes = [];
-  registers = [];
-  whens = [];
   pnp = (at 16 1 (post.Ask ask.Remove (h 2 2))) ∷ [];
-  agents = (record { name = 4; posts = (at 13 0 (post.Read (h 2 2) 1)) ∷ [] })
-      ∷ (record { name = 2; posts = [] })
+  agents = (an_agent 4 ((at 13 0 (post.Read (h 2 2) 1)) ∷ [])) ∷ (an_agent 2 []) ∷ [];
+  scripts = a_script callback.EvtIoRead (a_queue 3 2 dispatch.Sequential (serves true false false false) false false scope.Unscoped level.Dispatch) 8 []
       ∷ [];
-  exprs = [];
-  scripts = (record {
-    callback = callback.EvtIoRead;
-    owner = declared.Queue (record { name = 3; device = record { 0 = 2 }; dispatch = dispatch.Sequential; serves = record { rest = true; read = false; write = false; control = false }; powered = false; zero = false; scope = scope.Unscoped; level = level.Dispatch });
-    line = 8;
-    statements = [];
-  })
-      ∷ [];
-  picks = [];
 }
 
 abbrev pub removed_waits_for_a_request_events : List Event
@@ -452,46 +290,20 @@ abbrev pub removed_waits_for_a_request_waits : List WaitLine
 removed_waits_for_a_request_waits = (line (thing.Owned (h 4 1)) None) ∷ (line (thing.Sequence (h 2 2) (step.Pass stage.Removed None)) (Some (cause.ByRequest (h 4 1)))) ∷ []
 
 abbrev pub resume_never_ends_plan : Plan
-resume_never_ends_plan = record {
-  cpus = 1;
-  limit = 100;
-  objects = 16;
+resume_never_ends_plan = record (a_plan 1 100 16) {
   names = (codes "driver") ∷ (codes "req") ∷ (codes "D") ∷ (codes "M") ∷ (codes "Q") ∷ (codes "A") ∷ [];
-  declared = (declared.Driver)
-      ∷ (declared.Device (record { name = 2; working = true; scope = scope.Unscoped; level = level.Passive }))
-      ∷ (declared.Queue (record { name = 3; device = record { 0 = 2 }; dispatch = dispatch.Manual; serves = record { rest = false; read = false; write = true; control = false }; powered = false; zero = false; scope = scope.Unscoped; level = level.Passive }))
-      ∷ (declared.Queue (record { name = 4; device = record { 0 = 2 }; dispatch = dispatch.Sequential; serves = record { rest = false; read = true; write = false; control = false }; powered = true; zero = false; scope = scope.Unscoped; level = level.Passive }))
+  declared = declared.Driver
+      ∷ a_device 2 true scope.Unscoped level.Passive
+      ∷ a_queue 3 2 dispatch.Manual (serves false false true false) false false scope.Unscoped level.Passive
+      ∷ a_queue 4 2 dispatch.Sequential (serves false true false false) true false scope.Unscoped level.Passive
       ∷ [];
-  classes = [];
-  registers = [];
-  whens = [];
   pnp = (at 27 1 (post.Ask ask.Sleep (h 2 2))) ∷ (at 28 2 (post.Ask ask.Wake (h 2 2))) ∷ [];
-  agents = (record { name = 5; posts = (at 23 0 (post.Write (h 2 2) 1)) ∷ (at 24 0 (post.Read (h 2 2) 1)) ∷ [] })
-      ∷ (record { name = 2; posts = [] })
-      ∷ [];
+  agents = (an_agent 5 ((at 23 0 (post.Write (h 2 2) 1)) ∷ (at 24 0 (post.Read (h 2 2) 1)) ∷ [])) ∷ (an_agent 2 []) ∷ [];
   exprs = (node.Context context.OwnRequest) ∷ (node.Number 0) ∷ (node.Object (h 3 3)) ∷ [];
-  scripts = (record {
-    callback = callback.EvtIoRead;
-    owner = declared.Queue (record { name = 4; device = record { 0 = 2 }; dispatch = dispatch.Sequential; serves = record { rest = false; read = true; write = false; control = false }; powered = true; zero = false; scope = scope.Unscoped; level = level.Passive });
-    line = 12;
-    statements = [];
-  })
-      ∷ (record {
-        callback = callback.EvtIoStop;
-        owner = declared.Queue (record { name = 4; device = record { 0 = 2 }; dispatch = dispatch.Sequential; serves = record { rest = false; read = true; write = false; control = false }; powered = true; zero = false; scope = scope.Unscoped; level = level.Passive });
-        line = 14;
-        statements = s 15 1 (act.Call call.WdfRequestStopAcknowledge None (arg.Expression 0) (arg.Expression 1) arg.NoArgument)
-            ∷ [];
-      })
-      ∷ (record {
-        callback = callback.EvtIoResume;
-        owner = declared.Queue (record { name = 4; device = record { 0 = 2 }; dispatch = dispatch.Sequential; serves = record { rest = false; read = true; write = false; control = false }; powered = true; zero = false; scope = scope.Unscoped; level = level.Passive });
-        line = 17;
-        statements = s 18 1 (act.Call call.WdfIoQueueDrainSynchronously None (arg.Expression 2) arg.NoArgument arg.NoArgument)
-            ∷ [];
-      })
+  scripts = a_script callback.EvtIoRead (a_queue 4 2 dispatch.Sequential (serves false true false false) true false scope.Unscoped level.Passive) 12 []
+      ∷ a_script callback.EvtIoStop (a_queue 4 2 dispatch.Sequential (serves false true false false) true false scope.Unscoped level.Passive) 14 (s 15 1 (act.Call call.WdfRequestStopAcknowledge None (arg.Expression 0) (arg.Expression 1) arg.NoArgument) ∷ [])
+      ∷ a_script callback.EvtIoResume (a_queue 4 2 dispatch.Sequential (serves false true false false) true false scope.Unscoped level.Passive) 17 (s 18 1 (act.Call call.WdfIoQueueDrainSynchronously None (arg.Expression 2) arg.NoArgument arg.NoArgument) ∷ [])
       ∷ [];
-  picks = [];
 }
 
 abbrev pub resume_never_ends_events : List Event
@@ -519,34 +331,20 @@ abbrev pub resume_never_ends_waits : List WaitLine
 resume_never_ends_waits = (line (thing.Waiting (f 16) callback.EvtIoResume (h 4 4)) (Some (cause.ByRequest (h 5 1)))) ∷ (line (thing.Queued (h 5 1) (h 3 3)) (Some (cause.Manual))) ∷ (line (thing.Owned (h 6 1)) None) ∷ (line (thing.Sequence (h 2 2) (step.Pass stage.Working None)) (Some (cause.ByFrame (f 16)))) ∷ []
 
 abbrev pub settled_waits_for_a_frame_plan : Plan
-settled_waits_for_a_frame_plan = record {
-  cpus = 1;
-  limit = 100;
-  objects = 16;
+settled_waits_for_a_frame_plan = record (a_plan 1 100 16) {
   names = (codes "driver") ∷ (codes "req") ∷ (codes "D") ∷ (codes "M") ∷ (codes "Q") ∷ (codes "A") ∷ [];
-  declared = (declared.Driver)
-      ∷ (declared.Device (record { name = 2; working = true; scope = scope.Unscoped; level = level.Passive }))
-      ∷ (declared.Queue (record { name = 3; device = record { 0 = 2 }; dispatch = dispatch.Manual; serves = record { rest = false; read = false; write = true; control = false }; powered = true; zero = false; scope = scope.Unscoped; level = level.Passive }))
-      ∷ (declared.Queue (record { name = 4; device = record { 0 = 2 }; dispatch = dispatch.Sequential; serves = record { rest = false; read = true; write = false; control = false }; powered = true; zero = false; scope = scope.Unscoped; level = level.Passive }))
+  declared = declared.Driver
+      ∷ a_device 2 true scope.Unscoped level.Passive
+      ∷ a_queue 3 2 dispatch.Manual (serves false false true false) true false scope.Unscoped level.Passive
+      ∷ a_queue 4 2 dispatch.Sequential (serves false true false false) true false scope.Unscoped level.Passive
       ∷ [];
-  classes = [];
-  registers = [];
-  whens = [];
   pnp = (at 22 1 (post.Ask ask.Sleep (h 2 2))) ∷ [];
-  agents = (record { name = 5; posts = (at 18 0 (post.Write (h 2 2) 1)) ∷ (at 19 0 (post.Read (h 2 2) 1)) ∷ [] })
-      ∷ (record { name = 2; posts = [] })
-      ∷ [];
+  agents = (an_agent 5 ((at 18 0 (post.Write (h 2 2) 1)) ∷ (at 19 0 (post.Read (h 2 2) 1)) ∷ [])) ∷ (an_agent 2 []) ∷ [];
   exprs = (node.Context context.OwnRequest) ∷ (node.Literal status.Success) ∷ (node.Object (h 3 3)) ∷ [];
-  scripts = (record {
-    callback = callback.EvtIoRead;
-    owner = declared.Queue (record { name = 4; device = record { 0 = 2 }; dispatch = dispatch.Sequential; serves = record { rest = false; read = true; write = false; control = false }; powered = true; zero = false; scope = scope.Unscoped; level = level.Passive });
-    line = 11;
-    statements = s 12 1 (act.Call call.WdfRequestComplete None (arg.Expression 0) (arg.Expression 1) arg.NoArgument)
-        ∷ s 13 2 (act.Call call.WdfIoQueueDrainSynchronously None (arg.Expression 2) arg.NoArgument arg.NoArgument)
-        ∷ [];
-  })
+  scripts = a_script callback.EvtIoRead (a_queue 4 2 dispatch.Sequential (serves false true false false) true false scope.Unscoped level.Passive) 11
+      (s 12 1 (act.Call call.WdfRequestComplete None (arg.Expression 0) (arg.Expression 1) arg.NoArgument)
+      ∷ s 13 2 (act.Call call.WdfIoQueueDrainSynchronously None (arg.Expression 2) arg.NoArgument arg.NoArgument) ∷ [])
       ∷ [];
-  picks = [];
 }
 
 abbrev pub settled_waits_for_a_frame_events : List Event

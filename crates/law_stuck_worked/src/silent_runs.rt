@@ -4,6 +4,7 @@ ghost use Rattle.law_stuck_worked.specs.SilentRuns.{never_answered_plan, never_a
 
 /// The driver makes a request, sends it and deletes it, and the target never answers: the object's line names `sent`, and
 /// the request's line names nothing.
+#[tactic(auto, using(crate::proofs::SilentRuns::never_answered))]
 pub fn never_answered()
     ensures { IsSilentRun never_answered_plan never_answered_events never_answered_waits }
 {}

@@ -1,5 +1,5 @@
 //! The laws of a trace at work: the worked runs keep them, and lists made by hand break each of them.
-#![tactic(auto)]
+#![tactic(auto, unfolding(wdf_laws::specs::Words::ever, wdf_laws::specs::Words::stands, wdf_laws::specs::Words::stood_at, wdf_laws::specs::Words::times, wdf_laws::specs::Frames::frames_after))]
 
 ghost use Rattle.std.specs.Prelude.{◌≡◌, Some, None};
 ghost use Rattle.law_trace_worked.specs.Found.{found};

@@ -1,6 +1,0 @@
--- The clause is the lemma on what is computed.
-use Rattle.law_stuck_worked.proofs.StuckRuns.{disabled_waits_for_a_frame}
-use Rattle.law_stuck_worked.proofs.stuck_runs.disabled_waits_for_a_frame.Goals as goal
-
-pub returns : goal.returns
-returns c = disabled_waits_for_a_frame

@@ -1,6 +1,0 @@
--- The clause is the lemma on what is computed.
-use Rattle.law_stuck_worked.proofs.StuckRuns.{queued_while_it_runs}
-use Rattle.law_stuck_worked.proofs.stuck_runs.queued_while_it_runs.Goals as goal
-
-pub returns : goal.returns
-returns c = queued_while_it_runs
