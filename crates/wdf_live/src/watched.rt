@@ -11,8 +11,9 @@ use std::sync::Wait;
 use wdf_base::{Agent, Event, Plan};
 use wdf_core::Core;
 use wdf_pipe::{Desk, Item, Pipe, PipePass};
+use wdf_crew::{Advance, Crew, Progress};
 use wdf_turn::Chronicle;
-use wdf_workers::{Advance, Crew, Progress, RunState};
+use wdf_workers::RunState;
 
 /// The machine of a run that is watched, and the one pass that sends. It is in the turnstile, so only the seat that holds
 /// the machine sends.
@@ -54,6 +55,9 @@ impl<R: Wait, A: Agent> Advance for Watched<'_, R, A> {
         send_new(self.desk, &self.state.core, before, &mut self.pass);
         progress
     }
+
+    // The end mark is sent by who has the value at the end.
+    fn end(&mut self) {}
 }
 
 /// Sends the event that was added to a journal which had so many, if there is one.

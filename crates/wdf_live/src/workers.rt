@@ -6,14 +6,14 @@ ghost use Rattle.wdf_pipe.specs.Pipe.{account};
 ghost use Rattle.wdf_pipe.specs.declared.item.Item.TheVariants.{End};
 ghost use Rattle.wdf_live.specs.Slot.{numbered};
 ghost use Rattle.wdf_turn.specs.Turns.{opening};
-ghost use Rattle.wdf_workers.specs.Rows.{IsRow};
+ghost use Rattle.wdf_crew.specs.Rows.{IsRow};
 
 use crate::watched::{Left, Watched};
 use std::sync::Wait;
 use std::thread::Threads;
 use wdf_base::Agent;
+use wdf_crew::{Shift, worked};
 use wdf_turn::{Gate, Seat, Turn};
-use wdf_workers::{Shift, worked};
 
 /// The workers of a watched run: the turnstile with what they share, and a seat for each.
 pub struct Workers<'a, R: Wait, A: Agent, G> {

@@ -1,8 +1,8 @@
 -- The seats that aren't joined are others, and the first seat counts them.
 use Rattle.std.proofs.Common.{length}
 use Rattle.std.specs.List.{All}
-use Rattle.wdf_workers.specs.Rows.{IsFirst, IsIdleSeat, IsOtherSeat}
-use Rattle.wdf_workers.proofs.seats.join_workers.Given as goal
+use Rattle.wdf_crew.specs.Rows.{IsFirst, IsIdleSeat, IsOtherSeat}
+use Rattle.wdf_crew.proofs.seats.join_workers.Given as goal
 
 abbrev pub invariant-join : goal.invariant-join
 invariant-join g l = record {

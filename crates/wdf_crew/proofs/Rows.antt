@@ -1,6 +1,7 @@
 -- Rows of seats: how they are made, what turns leave of them, and how they are taken apart.
-use Rattle.std.proofs.Common.{◌≡◌, ◌≢◌, ℕ, ◌+◌, ◌-◌, ◌<◌, ◌≤◌, List, [], ◌∷◌, ◌++◌, length, refl, sym, ap, ◌∙◌, subst, arith, length-append, append-nil, get_or, take, drop}
+use Rattle.std.proofs.Common.{◌≡◌, ◌≢◌, ℕ, zero, suc, ◌+◌, ◌-◌, ◌<◌, ◌≤◌, List, [], ◌∷◌, ◌++◌, length, refl, sym, ap, ◌∙◌, subst, arith, length-append, append-nil, get_or, take, drop}
 use Rattle.std.specs.List.{All}
+use Rattle.std.specs.Prelude.{slice_set}
 use Rattle.std.proofs.lemmas.List.{get_or_append_left}
 use Rattle.std.proofs.Math.Seq.{get_or-append_seam}
 use Rattle.wdf_turn.specs.Tokens.{split_off, new_token, joined, looked}
@@ -9,7 +10,7 @@ use Rattle.wdf_turn.specs.declared.seat.Seat.{Seat}
 use Rattle.wdf_turn.specs.declared.token.Token.{Token}
 use Rattle.wdf_turn.specs.declared.turn.Turn.{Turn}
 use Rattle.wdf_turn.proofs.Noted.{All-snoc}
-use Rattle.wdf_workers.specs.Rows.{IsIdleSeat, IsFirst, IsOtherSeat, IsSameSeat, IsRow}
+use Rattle.wdf_crew.specs.Rows.{IsIdleSeat, IsFirst, IsOtherSeat, IsSameSeat, IsRow}
 
 -- what holds of each item of a list holds of each before the last, and of the last
 All-front : {A : Type 0} (P : A → Type 0) (xs : List A) (x : A) → All P (xs ++ x ∷ []) → All P xs
@@ -91,6 +92,16 @@ module _ {T R : Type 0} (turn : Turn T R) where
     All-front (IsIdleSeat turn) others first row.idle k d h,
     subst (λ (s : Seat T). (token s).number ≢ 1) (get_or_append_left others (first ∷ []) d k h) (row.other k d (omega (arith, count))),
   )
+
+  told_each : (x s : Seat T) (xs : List (Seat T)) → IsIdleSeat turn s × IsSameSeat x s → All (IsIdleSeat turn) (x ∷ xs) → (k : ℕ) (d : Seat T) → k < length (x ∷ xs)
+      → IsIdleSeat turn (get_or (s ∷ xs) k d) × IsSameSeat (get_or (x ∷ xs) k d) (get_or (s ∷ xs) k d)
+  told_each x s xs told all zero d h = told
+  told_each x s xs told all (suc k) d h = (all (suc k) d h, (refl, refl))
+
+  -- one seat was used, holds nothing and is the same
+  pub row_told : (n : ℕ) (xs : List (Seat T)) (s d : Seat T) → IsRow turn n xs → IsIdleSeat turn s × IsSameSeat (get_or xs 0 d) s → IsRow turn n (slice_set xs 0 s)
+  row_told n [] s d row told = absurd (let count = row.count in omega arith)
+  row_told n (x ∷ xs) s d row told = row_worked n (x ∷ xs) (s ∷ xs) row refl (told_each x s xs told row.idle)
 
   row_last : (n : ℕ) (others : List (Seat T)) (first : Seat T) → IsRow turn n (others ++ first ∷ []) → length others ≡ n → IsFirst n first
   row_last n others first row count =

@@ -2,8 +2,8 @@
 use Rattle.std.proofs.Common.{◌≡◌, ◌+◌, ◌≤◌, length}
 use Rattle.std.specs.List.{All}
 use Rattle.wdf_turn.specs.Turns.{token}
-use Rattle.wdf_workers.specs.Rows.{IsFirst, IsIdleSeat, IsOtherSeat}
-use Rattle.wdf_workers.proofs.seats.seat_workers.Given as goal
+use Rattle.wdf_crew.specs.Rows.{IsFirst, IsIdleSeat, IsOtherSeat}
+use Rattle.wdf_crew.proofs.seats.seat_workers.Given as goal
 
 abbrev pub invariant-loop-made : goal.invariant-loop-made
 invariant-loop-made g l = record {

@@ -1,8 +1,8 @@
 -- The seat that is split off is another, and the first counts it; at the end the first is put after them.
 use Rattle.std.proofs.Common.{ap, sym, ◌∙◌, ◌-◌, arith, length}
 use Rattle.wdf_turn.specs.Turns.{token}
-use Rattle.wdf_workers.proofs.Rows.{one_longer, others_more, row_made, split_counts, split_is_other}
-use Rattle.wdf_workers.proofs.seats.seat_workers.Goals as goal
+use Rattle.wdf_crew.proofs.Rows.{one_longer, others_more, row_made, split_counts, split_is_other}
+use Rattle.wdf_crew.proofs.seats.seat_workers.Goals as goal
 
 pub loop-made-init : goal.loop-made-init
 loop-made-init g c = let e = c.requires.first in let none = ap length c.requires.empty in record {

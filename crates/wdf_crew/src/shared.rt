@@ -2,11 +2,11 @@
 ghost use Rattle.std.specs.Prelude.{◌≡◌, ◌-◌, ◌≤◌, ℕ, IfOk, length};
 ghost use mathlib.Core.List.{IsPrefix};
 ghost use Rattle.wdf_turn.specs.Turns.{opening};
-ghost use Rattle.wdf_workers.specs.Rows.{IsRow};
+ghost use Rattle.wdf_crew.specs.Rows.{IsRow};
 
+use crate::advance::Advance;
 use crate::seats::{join_workers, seat_workers};
-use crate::state::Advance;
-use crate::worker::{Shift, work_all};
+use crate::worker::{Shift, tell_end, work_all};
 use std::alloc::Global;
 use std::thread::Threads;
 use wdf_base::Memory;
@@ -59,8 +59,8 @@ pub fn seated<T: Advance + Drop>(
     }
 }
 
-/// Has the workers of a row do their turns.
-fn work_row<R: Threads + Sync, T: Advance + Send, G: Gate + Sync>(
+/// Has the workers of a row do their turns, and tells the value of their end.
+pub fn work_row<R: Threads + Sync, T: Advance + Send, G: Gate + Sync>(
     rt: &R,
     turn: &Turn<T>,
     seats: &mut [Seat<T>],
@@ -72,6 +72,7 @@ fn work_row<R: Threads + Sync, T: Advance + Send, G: Gate + Sync>(
     ensures row { (others : ℕ) × IsRow turn.now others seats.new }
 {
     work_all(rt, turn, seats, shift, gate);
+    tell_end(turn, &mut seats[0]);
 }
 
 /// What the workers make of the value in all their turns.

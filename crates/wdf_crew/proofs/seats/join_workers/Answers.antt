@@ -1,7 +1,7 @@
 -- The row's last seat is the first one; each other is joined into it.
 use Rattle.wdf_turn.specs.Turns.{token}
-use Rattle.wdf_workers.proofs.Rows.{first_joins, others_less, row_opened}
-use Rattle.wdf_workers.proofs.seats.join_workers.Goals as goal
+use Rattle.wdf_crew.proofs.Rows.{first_joins, others_less, row_opened}
+use Rattle.wdf_crew.proofs.seats.join_workers.Goals as goal
 
 pub join-init : goal.join-init
 join-init g c =

@@ -2,7 +2,7 @@
 ghost use Rattle.std.specs.Prelude.{◌≡◌, ◌-◌, ◌≤◌, ℕ, [], vec_capacity};
 ghost use Rattle.wdf_turn.specs.Tokens.{first_token};
 ghost use Rattle.wdf_turn.specs.Turns.{IsSeatOf, token, opening};
-ghost use Rattle.wdf_workers.specs.Rows.{IsFirst, IsIdleSeat, IsRow};
+ghost use Rattle.wdf_crew.specs.Rows.{IsFirst, IsIdleSeat, IsRow};
 
 use wdf_turn::{Chronicle, Seat, Turn};
 

@@ -1,9 +1,9 @@
 //! What a worker does.
 ghost use Rattle.std.specs.Prelude.{◌≡◌, ◌+◌, ◌<◌, ℕ, All, length, slice_index_or};
-ghost use Rattle.wdf_workers.specs.Rows.{IsIdleSeat, IsSameSeat};
+ghost use Rattle.wdf_crew.specs.Rows.{IsIdleSeat, IsSameSeat};
 
+use crate::advance::{Advance, Progress};
 use crate::crew::{Crew, crew_of};
-use crate::state::{Advance, Progress};
 use std::thread;
 use std::thread::Threads;
 use wdf_turn::{Attempt, Gate, Seat, Turn};
@@ -117,6 +117,39 @@ fn work<T: Advance, G: Gate>(
             Progress::Added => vain = 0,
             Progress::Waits if vain < VAIN_TURNS => vain += 1,
             _ => return,
+        }
+    }
+}
+
+/// How often, at most, the value is tried for when it has to hear of the end. No worker has it then, so the first try is
+/// the last; no clause says so.
+const LAST_TRIES: u32 = u32::MAX;
+
+/// Tells the value that the workers have had all their turns.
+pub fn tell_end<T: Advance>(turn: &Turn<T>, seat: &mut Seat<T>)
+    requires { IsIdleSeat turn.now seat.old }
+    ensures idle { IsIdleSeat turn.now seat.new }
+    ensures same { IsSameSeat seat.old seat.new }
+{
+    for _ in 0..LAST_TRIES {
+        if is_told(turn, seat) {
+            return;
+        }
+    }
+}
+
+/// Tries once to tell it, and answers whether it heard.
+fn is_told<T: Advance>(turn: &Turn<T>, seat: &mut Seat<T>) -> bool
+    requires { IsIdleSeat turn.now seat.old }
+    ensures idle { IsIdleSeat turn.now seat.new }
+    ensures same { IsSameSeat seat.old seat.new }
+{
+    match turn.try_take(seat) {
+        Attempt::Busy(_) => false,
+        Attempt::Taken(mut held) => {
+            held.value_mut().end();
+            turn.give(seat, held);
+            true
         }
     }
 }

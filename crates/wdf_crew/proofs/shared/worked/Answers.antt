@@ -1,8 +1,8 @@
 -- The seats that the workers leave are the row that is taken apart.
 use Rattle.std.proofs.Common.{◌≡◌, length, sym, ap, ◌∙◌, subst}
-use Rattle.wdf_workers.specs.Rows.{IsRow}
-use Rattle.wdf_workers.proofs.Rows.{written_over}
-use Rattle.wdf_workers.proofs.shared.worked.Goals as goal
+use Rattle.wdf_crew.specs.Rows.{IsRow}
+use Rattle.wdf_crew.proofs.Rows.{written_over}
+use Rattle.wdf_crew.proofs.shared.worked.Goals as goal
 
 pub join_workers-first-requires : goal.join_workers-first-requires
 join_workers-first-requires g c =
