@@ -1,5 +1,5 @@
 -- What the printer says of its end.
-use Rattle.wdf_live.proofs.beside.fn.print_beside.join_mut+arg2.Goals as goal
+use Rattle.wdf_live.proofs.beside.fn.print_beside.worked_beside.Goals as goal
 
 pub returns : goal.returns
 returns g c = record {
