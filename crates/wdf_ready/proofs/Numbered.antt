@@ -34,18 +34,22 @@ below p x = length (filter p (range_with_len 0 x))
 pub below_more : (p : ℕ → Bool) (x : ℕ) → below p (x + 1) ≡ below p x + one (p x)
 below_more p x = let s : x + 1 ≡ suc x = omega arith in let z : 0 + x ≡ x = omega arith in rw s (more_by p 0 x ∙ ap (λ y. below p x + one (p y)) z)
 
+-- one id more is at most one more that passes
+pub below_next : (p : ℕ → Bool) (x : ℕ) → below p (x + 1) ≤ below p x + 1
+below_next p x = let step = below_more p x in by (p x) step
+  where
+    by : (b : Bool) → below p (x + 1) ≡ below p x + one b → below p (x + 1) ≤ below p x + 1
+    by true e = omega arith
+    by false e = omega arith
+
 pub below_few : (p : ℕ → Bool) (x : ℕ) → below p x ≤ x
 below_few p zero = omega arith
 below_few p (suc x) =
     let s : x + 1 ≡ suc x = omega arith in
+    let same : below p (x + 1) ≡ below p (suc x) = ap (below p) s in
     let rest = below_few p x in
-    let step = below_more p x in
-    let small : one (p x) ≤ 1 = by (p x) in
-    rw (← s) (omega arith)
-  where
-    by : (b : Bool) → one b ≤ 1
-    by true = omega arith
-    by false = omega arith
+    let next = below_next p x in
+    omega arith
 
 -- ---- the k-th id that passes
 
@@ -73,20 +77,22 @@ placed p n x low on = let z : 0 + x ≡ x = omega arith in placed_from p 0 n x l
 -- an id with so many before it, between two others
 found_by : (p : ℕ → Bool) (at more place : ℕ) → below p at ≤ place → place < below p (at + more) → (x : ℕ) × (at ≤ x) × (x < at + more) × (p x ≡ true) × (below p x ≡ place)
 found_by p at zero place low high = let z : at + 0 ≡ at = omega arith in absurd (let h : place < below p at = subst (λ y. place < below p y) z high in omega arith)
-found_by p at (suc more) place low high = by (cases_lt place (below p (at + 1))) (cases_Bool (p at))
+found_by p at (suc more) place low high = by (cases_lt place (below p (at + 1))) (cases_Bool (p at)) (found_by p (at + 1) more place)
   where
     step : at + suc more ≡ at + 1 + more
     step = omega arith
 
-    by : (place < below p (at + 1)) ⊎ (below p (at + 1) ≤ place) → (p at ≡ true) ⊎ (p at ≡ false) → (x : ℕ) × (at ≤ x) × (x < at + suc more) × (p x ≡ true) × (below p x ≡ place)
-    by (inl here) (inl on) =
+    by : (place < below p (at + 1)) ⊎ (below p (at + 1) ≤ place) → (p at ≡ true) ⊎ (p at ≡ false)
+        → (below p (at + 1) ≤ place → place < below p (at + 1 + more) → (x : ℕ) × (at + 1 ≤ x) × (x < at + 1 + more) × (p x ≡ true) × (below p x ≡ place))
+        → (x : ℕ) × (at ≤ x) × (x < at + suc more) × (p x ≡ true) × (below p x ≡ place)
+    by (inl here) (inl on) rest =
         let one_more : below p (at + 1) ≡ below p at + 1 = below_more p at ∙ ap (λ b. below p at + one b) on in
         (at, omega arith, omega arith, on, omega arith)
-    by (inl here) (inr off) =
+    by (inl here) (inr off) rest =
         let same : below p (at + 1) ≡ below p at + 0 = below_more p at ∙ ap (λ b. below p at + one b) off in
         absurd (omega arith)
-    by (inr further) either =
-        let found = found_by p (at + 1) more place further (subst (λ y. place < below p y) step high) in
+    by (inr further) either rest =
+        let found = rest further (subst (λ y. place < below p y) step high) in
         let above = found.1 in
         let within = found.2 in
         (found.0, omega arith, omega arith, found.3, found.4)

@@ -7,6 +7,7 @@ ghost use Rattle.wdf_model.specs.rules.Groups as groups;
 ghost use Rattle.wdf_sets.specs.Nexts.{IsNext, NoneFrom};
 ghost use Rattle.wdf_ready.specs.Leaving.{DeletedSettled, callback_of, event_of, fits_tree, fitting, group_of, is_busy, is_kept, leavers, may_leave};
 ghost use Rattle.wdf_ready.specs.Lesser.{lesser_of};
+ghost use Rattle.wdf_ready.specs.declared.leaving.Leaving.TheVariants as how;
 ghost use Rattle.wdf_ready.specs.Search as search;
 
 use wdf_base::{Agent, Callback, Event, Handle, ObjectId};
@@ -37,7 +38,7 @@ fn lesser(one: Option<ObjectId>, other: Option<ObjectId>) -> Option<ObjectId>
 
 /// The first object from an id on that something beside lives can keep from its cleanup.
 fn next_busy<A: Agent>(parts: &Parts<A>, from: ObjectId) -> Option<ObjectId>
-    ensures { MatchOption result (NoneFrom (is_busy Leaving::Cleanup parts.now) from.0 OBJECTS) (λ o. IsNext (is_busy Leaving::Cleanup parts.now) from.0 OBJECTS o.0) }
+    ensures { MatchOption result (NoneFrom (is_busy how.Cleanup parts.now) from.0 OBJECTS) (λ o. IsNext (is_busy how.Cleanup parts.now) from.0 OBJECTS o.0) }
 {
     let framed = lesser(
         parts.cpus().next_occupied(from),

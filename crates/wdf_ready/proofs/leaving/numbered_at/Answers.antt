@@ -7,7 +7,7 @@ use Rattle.wdf_ready.proofs.leaving.numbered_at.Goals as goal
 pub returns-then-k-len : goal.returns-then-k-len
 returns-then-k-len g c =
     let all = leavers_counted c.args.plan.now g.A.Agent.meaning c.args.parts.now c.args.leaving c.requires.undeclared in
-    let count = c.len.ensures.count in
+    let count = c.len-len.ensures.count in
     let past = c.if-k-len.true in
     omega arith
 
@@ -18,5 +18,5 @@ returns-in-Some g c =
 
 pub returns-in-None : goal.returns-in-None
 returns-in-None g c =
-    let low : c.args.k < length (leavers c.args.leaving c.args.parts.now) = let count = c.len.ensures.count in let few = c.if-k-len.false in omega arith in
+    let low : c.args.k < length (leavers c.args.leaving c.args.parts.now) = let count = c.len-len.ensures.count in let few = c.if-k-len.false in omega arith in
     absurd (leaver_there (leavers c.args.leaving c.args.parts.now) c.args.k c.at.result (λ o. o.0) low c.at.ensures c.in-None.is)
