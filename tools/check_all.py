@@ -26,6 +26,8 @@ from built import PROGRAM, ROOT, program_at
 ROWS = (
     ("examples", "tools/check_examples.py P 20", None),
     ("threads", "tools/run_many.py --program P 20", None),
+    ("watched", "tools/run_many.py --program P --word watch 20", None),
+    ("first-line", "tools/first_line.py --program P", None),
     ("refused-growth", "tools/refuse_growth.py --program P", "gcc"),
     ("hostile", "tools/hostile.py --program P 1 20", None),
     ("lint", "tools/lint_search.py --program P --scenarios 20 --seeds 20", None),

@@ -1,9 +1,9 @@
 #!/usr/bin/env python3
 """Runs each example by threads many times, and has `replay` check each trace.
 
-    python3 tools/run_many.py [--jobs N] [--program PROGRAM] RUNS [SCENARIO ..]
+    python3 tools/run_many.py [--word WORD] [--jobs N] [--program PROGRAM] RUNS [SCENARIO ..]
 
-`kmdfsim run` is called RUNS times on each scenario: on those of examples/, if none is named. A row is printed for each
+`kmdfsim run`, or `kmdfsim watch` where WORD is that, is called RUNS times on each scenario: on those of examples/, if none is named. A row is printed for each
 scenario: how many runs there were, how many of their traces were different, and how the runs ended. Each trace is handed to
 `kmdfsim replay` after the scenario and a line `trace`; it accepts exactly the texts of runs that have ended. N runs go
 on side by side, one if none is given, since a run has threads of its own.
@@ -38,11 +38,11 @@ def call(program, word, text):
     return done.returncode, done.stdout
 
 
-def traced(program, scenario):
+def traced(program, word, scenario):
     """The ending and the trace of one run, which `replay` accepts."""
-    status, trace = call(program, "run", scenario)
+    status, trace = call(program, word, scenario)
     if status not in ENDINGS:
-        raise Bad(f"`run` ended with {status}: {trace[:200].decode(errors='replace').strip()}")
+        raise Bad(f"`{word}` ended with {status}: {trace[:200].decode(errors='replace').strip()}")
     mark = b"trace\n" if scenario.endswith(b"\n") else b"\ntrace\n"
     verdict, line = call(program, "replay", scenario + mark + trace)
     if verdict != 0 or not line.startswith(b"accepted "):
@@ -50,11 +50,11 @@ def traced(program, scenario):
     return ENDINGS[status], trace
 
 
-def run_many(program, scenario, runs, jobs):
+def run_many(program, word, scenario, runs, jobs):
     """How many traces were different, and how many runs ended in each way."""
     traces, endings = set(), collections.Counter()
     with multiprocessing.pool.ThreadPool(jobs) as pool:
-        for ending, trace in pool.imap_unordered(lambda _: traced(program, scenario), range(runs)):
+        for ending, trace in pool.imap_unordered(lambda _: traced(program, word, scenario), range(runs)):
             traces.add(trace)
             endings[ending] += 1
     return len(traces), endings
@@ -63,6 +63,7 @@ def run_many(program, scenario, runs, jobs):
 def arguments():
     """The arguments, checked."""
     parser = argparse.ArgumentParser(description="Runs each example by threads many times.")
+    parser.add_argument("--word", choices=("run", "watch"), default="run")
     parser.add_argument("--jobs", type=int, default=1, help="runs side by side")
     parser.add_argument("--program", default=PROGRAM)
     parser.add_argument("runs", type=int, metavar="RUNS")
@@ -86,13 +87,13 @@ def main():
             scenario = file.read()
         name = os.path.basename(path)
         try:
-            different, endings = run_many(given.program, scenario, given.runs, given.jobs)
+            different, endings = run_many(given.program, given.word, scenario, given.runs, given.jobs)
         except (Bad, subprocess.TimeoutExpired) as error:
             print(f"{name}: {error}", flush=True)
             bad += 1
             continue
         ways = ", ".join(f"{ending} {count}" for ending, count in endings.most_common())
-        print(f"{name}: {given.runs} runs, {different} different, all accepted; {ways}", flush=True)
+        print(f"{name}: {given.runs} runs by `{given.word}`, {different} different, all accepted; {ways}", flush=True)
     return 1 if bad else 0
 
 

@@ -70,7 +70,7 @@ HEAD = """# What one has to believe
 > writes is the text of a run of the written machine. It starts at the scenario's opening state, and includes every answer. The
 > run ends at a driver fault, at the event limit, or where the machine has no further step. And every such run keeps nine laws.
 
-It is said of the words `order`, `seed N`, `run`, `idle` and `stack`, where the status is 0, 3, 4 or 5. It is the clause
+It is said of the words `order`, `seed N`, `run`, `watch`, `idle` and `stack`, where the status is 0, 3, 4 or 5. It is the clause
 `headline` in the contract of [`serve`](../crates/wdf_serve/src/program.rt), and the record `WroteSomeRun` spells it out. The other
 clauses say what else the program promises: which text is due with which status, for all words and all input.
 
@@ -90,7 +90,7 @@ wrong in any way that the prover lets through, and what is promised still holds.
 - That the written machine is the Kernel-Mode Driver Framework in the stated profile. Each rule of `docs/RULES.md` names its
   definition, and the comments mark each with (KMDF) or (own).
 
-No clause says that memory is there when there should be some, that `run` returns, or how long anything takes.
+No clause says that memory is there when there should be some, that `run` or `watch` returns, or how long anything takes.
 `docs/PROVED.md` has the bounds of each claim, and what is only tested.
 
 ## How to check this page

@@ -19,6 +19,8 @@ enum Act {
     At(u32, Option<u32>),
     /// The first member from an id on.
     From(u32, Option<u32>),
+    /// The first member from an id on below another.
+    Next(u32, u32, Option<u32>),
 }
 
 /// Ids around the ends of words and blocks come in any order, below 9,001.
@@ -52,7 +54,7 @@ static AROUND: [Act; 26] = [
 ];
 
 /// Members are taken out, one of them twice, and one comes twice, below 5,000.
-static TAKEN_OUT: [Act; 11] = [
+static TAKEN_OUT: [Act; 14] = [
     Act::Put(63, true),
     Act::Put(64, true),
     Act::Put(64, true),
@@ -63,6 +65,9 @@ static TAKEN_OUT: [Act; 11] = [
     Act::At(0, Some(64)),
     Act::From(65, Some(4096)),
     Act::From(4097, None),
+    Act::Next(0, 64, None),
+    Act::Next(0, 65, Some(64)),
+    Act::Next(65, 4096, None),
     Act::Gap(63, 0, Some(64)),
 ];
 
@@ -88,6 +93,7 @@ fn does(set: &mut IdSet, bound: u32, act: Act) -> bool
         }
         Act::At(number, due) => return set.at(number) == due,
         Act::From(id, due) => return set.from(id) == due,
+        Act::Next(id, end, due) => return set.next(id, end) == due,
         _ => return false,
     }
     true

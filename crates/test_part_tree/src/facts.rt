@@ -35,8 +35,12 @@ pub enum Fact {
     Len(u32),
     /// Whether there is no room for another counted object.
     Full(bool),
-    /// The first object from an id on whose turn among its siblings has come.
+    /// The first object from an id on whose cleanup may come, by lives alone.
     TurnFrom(u32, Option<u32>),
+    /// The objects whose cleanup may come, by lives alone.
+    Turns(&'static [u32]),
+    /// The objects that may be destroyed, by the tree alone.
+    Ends(&'static [u32]),
     /// The first object from an id on that is cleaned up, and isn't destroyed yet.
     CleanedFrom(u32, Option<u32>),
     /// Whether some deletion isn't finished.
@@ -47,6 +51,36 @@ pub enum Fact {
 fn may_clean_alone(tree: &Tree, one: u32, all: &[u32]) -> bool {
     for id in all {
         if tree.may_clean(ObjectId(*id)) != (*id == one) {
+            return false;
+        }
+    }
+    true
+}
+
+/// Whether the objects whose cleanup may come are these, by their numbers.
+fn has_turns(tree: &Tree, all: &[u32]) -> bool {
+    let len = tree.turn_len();
+    if len as usize != all.len() {
+        return false;
+    }
+    for k in 0..len {
+        let o = ObjectId(all[k as usize]);
+        if tree.turn_at(k) != Some(o) || tree.turns_before(o) != k {
+            return false;
+        }
+    }
+    true
+}
+
+/// Whether the objects that may be destroyed are these, by their numbers.
+fn has_ends(tree: &Tree, all: &[u32]) -> bool {
+    let len = tree.end_len();
+    if len as usize != all.len() {
+        return false;
+    }
+    for k in 0..len {
+        let o = ObjectId(all[k as usize]);
+        if tree.end_at(k) != Some(o) || tree.ends_before(o) != k {
             return false;
         }
     }
@@ -79,6 +113,8 @@ fn holds_of_deletion(tree: &Tree, fact: Fact) -> bool {
             tree.goes_first(ObjectId(o)) == due.map(ObjectId)
         }
         Fact::TurnFrom(from, due) => tree.turn_from(ObjectId(from)) == due.map(ObjectId),
+        Fact::Turns(all) => has_turns(tree, all),
+        Fact::Ends(all) => has_ends(tree, all),
         Fact::CleanedFrom(from, due) => { tree.cleaned_from(ObjectId(from)) == due.map(ObjectId) }
         _ => holds_of_one(tree, fact),
     }

@@ -6,7 +6,7 @@ use std::test::Fail;
 use wdf_base::Memory;
 
 pub const USAGE: &[u8] =
-    b"usage: kmdfsim check | order | seed N | run | replay | gen N | load N | idle | stack | lint\n";
+    b"usage: kmdfsim check | order | seed N | run | replay | gen N | load N | idle | stack | lint | watch\n";
 
 static NO_SCENE: [Row; 9] = [
     Row {
@@ -143,9 +143,10 @@ fn scenes_without_a_plan_are_refused(rt: HostRuntime) -> Result<(), Fail> {
 }
 
 /// Words of no form.
-static NO_FORM: [&str; 13] = [
+static NO_FORM: [&str; 14] = [
     "",
     "run",
+    "watch",
     "--help",
     "check check",
     "order 1",

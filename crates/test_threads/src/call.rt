@@ -1,5 +1,6 @@
 //! One call of the program over a source and a sink in memory.
 use std::alloc::Global;
+use std::sync::Wait;
 use std::thread::Threads;
 use wdf_base::Memory;
 use wdf_io::{MemSink, MemSource};
@@ -35,7 +36,7 @@ fn add_word(all: &mut Vec<String>, alloc: Global, word: &str) -> Result<(), Memo
 }
 
 /// The words after the program's name.
-fn words_of(alloc: Global, words: &str) -> Result<Vec<String>, Memory> {
+pub fn words_of(alloc: Global, words: &str) -> Result<Vec<String>, Memory> {
     let mut all = Vec::new(alloc);
     for word in words.split_whitespace() {
         add_word(&mut all, alloc, word)?;
@@ -44,20 +45,20 @@ fn words_of(alloc: Global, words: &str) -> Result<Vec<String>, Memory> {
 }
 
 /// A source of an input.
-fn source_of(alloc: Global, input: &[u8], outside: Outside) -> Result<MemSource, Memory> {
+pub fn source_of(alloc: Global, input: &[u8], outside: Outside) -> Result<MemSource, Memory> {
     let input = Vec::from_slice(alloc, input)?;
     let fails = Vec::from_slice(alloc, &[outside.read_fails])?;
     Ok(MemSource::new(input, fails, outside.piece.max(1)))
 }
 
 /// An empty sink.
-fn sink_for(alloc: Global, outside: Outside) -> Result<MemSink, Memory> {
+pub fn sink_for(alloc: Global, outside: Outside) -> Result<MemSink, Memory> {
     let fails = Vec::from_slice(alloc, &[outside.write_fails])?;
     MemSink::new(alloc, ROOM, fails)
 }
 
 /// The status that the program ends with over a source and a sink.
-fn status_over<R: Threads + Sync, G: Gate + Sync>(
+fn status_over<R: Threads + Wait + Sync, G: Gate + Sync>(
     rt: &R,
     alloc: Global,
     words: &[String],
@@ -69,7 +70,7 @@ fn status_over<R: Threads + Sync, G: Gate + Sync>(
 }
 
 /// The same with words that are parted here.
-fn status_of<R: Threads + Sync, G: Gate + Sync>(
+fn status_of<R: Threads + Wait + Sync, G: Gate + Sync>(
     rt: &R,
     alloc: Global,
     words: &str,
@@ -84,7 +85,7 @@ fn status_of<R: Threads + Sync, G: Gate + Sync>(
 }
 
 /// The status that the program ends with, and where it wrote.
-pub fn call<R: Threads + Sync, G: Gate + Sync>(
+pub fn call<R: Threads + Wait + Sync, G: Gate + Sync>(
     rt: &R,
     alloc: Global,
     words: &str,

@@ -4,6 +4,7 @@ use crate::rows::{Row, Text, first_wrong};
 use crate::runs::is_verdict;
 use crate::texts::{KEPT, ONE_READ};
 use std::alloc::Global;
+use std::sync::Wait;
 use std::test::Fail;
 use std::thread::Threads;
 use wdf_base::Memory;
@@ -81,7 +82,11 @@ fn what_comes_to_no_run_is_refused(rt: HostRuntime) -> Result<(), Fail> {
 }
 
 /// Whether an input with one byte too many is told.
-fn is_too_large<R: Threads + Sync>(rt: &R, alloc: Global, input: &[u8]) -> Result<bool, Memory> {
+fn is_too_large<R: Threads + Wait + Sync>(
+    rt: &R,
+    alloc: Global,
+    input: &[u8],
+) -> Result<bool, Memory> {
     match call(rt, alloc, "run", input, STEADY, &OpenGate) {
         Ok((status, sink)) => Ok(status == 14 && sink.written() == b"input too large\n".as_slice()),
         Err(memory) => Err(memory),
@@ -122,7 +127,7 @@ static PIECES: [Pieces; 2] = [
 ];
 
 /// The verdicts on texts that end before a line, from the first on.
-static MISSING: [&[u8]; 7] = [
+pub static MISSING: [&[u8]; 7] = [
     b"refused at line 1: Missing\n",
     b"refused at line 2: Missing\n",
     b"refused at line 3: Missing\n",
@@ -163,7 +168,7 @@ fn has_whole_lines(text: &[u8]) -> bool {
 }
 
 /// Whether a front of a run's text is what is due where the write with this number fails.
-fn is_front<R: Threads + Sync>(
+fn is_front<R: Threads + Wait + Sync>(
     rt: &R,
     alloc: Global,
     pieces: &Pieces,
@@ -178,7 +183,7 @@ fn is_front<R: Threads + Sync>(
 }
 
 /// Lets one write fail. Whether the lines before it are a front of some run's text, with nothing after them.
-fn leaves_front<R: Threads + Sync>(
+fn leaves_front<R: Threads + Wait + Sync>(
     rt: &R,
     alloc: Global,
     pieces: &Pieces,
@@ -198,7 +203,7 @@ fn leaves_front<R: Threads + Sync>(
 }
 
 /// The number of the first of twenty writes that leaves no front where it fails.
-fn first_wrong_write<R: Threads + Sync>(
+fn first_wrong_write<R: Threads + Wait + Sync>(
     rt: &R,
     alloc: Global,
     pieces: &Pieces,

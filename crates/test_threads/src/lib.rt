@@ -31,6 +31,8 @@ mod texts;
 #[cfg(test)]
 mod top_workers;
 #[cfg(test)]
+mod watching;
+#[cfg(test)]
 mod words;
 #[cfg(test)]
 mod workers;

@@ -1,6 +1,7 @@
 //! Calls of the program in rows, with what is due of each.
 use crate::call::{Outside, call};
 use std::alloc::Global;
+use std::sync::Wait;
 use std::thread::Threads;
 use wdf_base::Memory;
 use wdf_serve::OpenGate;
@@ -38,7 +39,7 @@ pub fn is_due(written: &[u8], due: Text) -> bool {
 }
 
 /// Whether the program answers a row as is due.
-fn is_answered<R: Threads + Sync>(rt: &R, alloc: Global, row: &Row) -> Result<bool, Memory> {
+fn is_answered<R: Threads + Wait + Sync>(rt: &R, alloc: Global, row: &Row) -> Result<bool, Memory> {
     match call(rt, alloc, row.words, row.input, row.outside, &OpenGate) {
         Ok((status, sink)) => Ok(status == row.status && is_due(sink.written(), row.text)),
         Err(memory) => Err(memory),
@@ -46,7 +47,7 @@ fn is_answered<R: Threads + Sync>(rt: &R, alloc: Global, row: &Row) -> Result<bo
 }
 
 /// The place of the first row that isn't answered as is due.
-pub fn first_wrong<R: Threads + Sync>(
+pub fn first_wrong<R: Threads + Wait + Sync>(
     rt: &R,
     alloc: Global,
     rows: &[Row],

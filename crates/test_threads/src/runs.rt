@@ -4,6 +4,7 @@ use crate::call::{Outside, STEADY, call};
 use crate::rows::{Text, is_due};
 use crate::texts::{KEPT, ONE_READ, SPINNING, TWICE};
 use std::alloc::Global;
+use std::sync::Wait;
 use std::test::Fail;
 use std::thread::Threads;
 use wdf_base::Memory;
@@ -18,7 +19,7 @@ fn judged(alloc: Global, scenario: &[u8], trace: &[u8]) -> Result<Vec<u8>, Memor
 }
 
 /// Whether the verdict on an input is the due one.
-fn is_verdict_on<R: Threads + Sync>(
+fn is_verdict_on<R: Threads + Wait + Sync>(
     rt: &R,
     alloc: Global,
     input: &[u8],
@@ -31,7 +32,7 @@ fn is_verdict_on<R: Threads + Sync>(
 }
 
 /// Whether the verdict on a trace of a scenario is the due one.
-pub fn is_verdict<R: Threads + Sync>(
+pub fn is_verdict<R: Threads + Wait + Sync>(
     rt: &R,
     alloc: Global,
     scenario: &[u8],
@@ -80,7 +81,7 @@ static RUNS: [Run; 5] = [
 ];
 
 /// Whether what is written ends as is due, and `replay` accepts it.
-fn is_accepted<R: Threads + Sync>(
+fn is_accepted<R: Threads + Wait + Sync>(
     rt: &R,
     alloc: Global,
     run: &Run,
@@ -93,14 +94,15 @@ fn is_accepted<R: Threads + Sync>(
 }
 
 /// Whether a run by threads over a source in such pieces comes out as is due.
-fn comes_out<R: Threads + Sync>(
+fn comes_out<R: Threads + Wait + Sync>(
     rt: &R,
     alloc: Global,
+    word: &str,
     run: &Run,
     piece: usize,
 ) -> Result<bool, Memory> {
     let outside = Outside { piece, ..STEADY };
-    match call(rt, alloc, "run", run.scenario, outside, &OpenGate) {
+    match call(rt, alloc, word, run.scenario, outside, &OpenGate) {
         Ok((status, sink)) => {
             let accepted = is_accepted(rt, alloc, run, sink.written())?;
             Ok(accepted && status == run.status)
@@ -110,13 +112,14 @@ fn comes_out<R: Threads + Sync>(
 }
 
 /// The place of the first run that doesn't come out.
-fn first_wrong<R: Threads + Sync>(
+fn first_wrong<R: Threads + Wait + Sync>(
     rt: &R,
     alloc: Global,
+    word: &str,
     piece: usize,
 ) -> Result<Option<usize>, Memory> {
     for (place, run) in RUNS.iter().enumerate() {
-        match comes_out(rt, alloc, run, piece) {
+        match comes_out(rt, alloc, word, run, piece) {
             Ok(true) => {}
             Ok(false) => return Ok(Some(place)),
             Err(memory) => return Err(memory),
@@ -127,7 +130,8 @@ fn first_wrong<R: Threads + Sync>(
 
 #[test]
 fn runs_are_accepted(rt: HostRuntime) -> Result<(), Fail> {
-    assert_eq!(rt; first_wrong(&rt, rt.alloc(), 1)?, None);
-    assert_eq!(rt; first_wrong(&rt, rt.alloc(), 4096)?, None);
+    assert_eq!(rt; first_wrong(&rt, rt.alloc(), "run", 1)?, None);
+    assert_eq!(rt; first_wrong(&rt, rt.alloc(), "run", 4096)?, None);
+    assert_eq!(rt; first_wrong(&rt, rt.alloc(), "watch", 4096)?, None);
     Ok(())
 }

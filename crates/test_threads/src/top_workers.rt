@@ -2,13 +2,18 @@
 use crate::call::{STEADY, call};
 use crate::{DEVICE_SCOPE, TwoEnter, Watch};
 use std::alloc::Global;
+use std::sync::Wait;
 use std::sync::atomic::Ordering;
 use std::test::Fail;
 use std::thread::Threads;
 use wdf_base::Memory;
 
 /// Whether a run that is watched so comes out.
-fn comes_out<R: Threads + Sync>(rt: &R, alloc: Global, watch: &Watch) -> Result<bool, Memory> {
+fn comes_out<R: Threads + Wait + Sync>(
+    rt: &R,
+    alloc: Global,
+    watch: &Watch,
+) -> Result<bool, Memory> {
     match call(rt, alloc, "run", DEVICE_SCOPE, STEADY, &TwoEnter(watch)) {
         Ok((status, sink)) => Ok(status == 0 && sink.written().ends_with(b"\nfinished 14\n")),
         Err(memory) => Err(memory),

@@ -1,5 +1,5 @@
 -- Whether one event may follow the events so far.
-use Rattle.std.proofs.Common.{if◌then◌else◌, ◌≡◌, ◌↔◌, ℕ, zero, suc, ◌+◌, Bool, true, false, List, [], ◌∷◌, length, slice_get, Option, Some, None, sym, ap, refl, subst, ◌∙◌}
+use Rattle.std.proofs.Common.{if◌then◌else◌, ◌≡◌, ◌↔◌, ℕ, zero, suc, ◌+◌, Bool, true, false, List, [], ◌∷◌, length, slice_get, Some, sym, ap, refl, subst}
 use Rattle.std.specs.Prelude.{IsTrue}
 use Rattle.wdf_base.specs.Meaning.{Meaning}
 use Rattle.wdf_base.specs.declared.event.Event.{Event}
@@ -16,6 +16,8 @@ use Rattle.law_machine_lives.proofs.Keeping.{at_the_end, known_now}
 use Rattle.law_machine_once.specs.Owned.{StepsOwned}
 use Rattle.law_machine_once.proofs.Steps.{steps_owned_at_each}
 use Rattle.law_machine_places.specs.Placed.{IsAmong}
+use Rattle.law_stuck_objects.proofs.Places.{nothing_there, request_done}
+use Rattle.wdf_ready.specs.Leaving.{DeletedSettled}
 use Rattle.wdf_core.specs.Course.{IsUnderWay}
 use Rattle.wdf_core.specs.Going.{goes_on, is_tick}
 use Rattle.wdf_core.proofs.Journal.{ready_going, ready_stopped}
@@ -41,6 +43,12 @@ module _ {A : Type 0} (m : Meaning A) (plan : Plan) (journal : List Event) (S : 
   owned_now =
       subst (λ (T : State A). StepsOwned plan T) (sym u.state)
       (at_the_end plan m (λ (T : State A). StepsOwned plan T) journal (steps_owned_at_each plan m journal u.run (length journal)))
+
+  -- no request of an app is deleted that isn't completed, and nothing to which a request is sent
+  pub settled_now : DeletedSettled S
+  settled_now =
+      subst (λ (T : State A). DeletedSettled T) (sym u.state)
+      (record { done = request_done plan m journal u.resolved u.run; nothing = nothing_there plan m journal u.resolved u.run })
 
   -- ---- beside ticks
 

@@ -9,3 +9,4 @@ pub mod Places
 pub mod Counting
 pub mod Ticks
 pub mod Leasts
+mod Nexts

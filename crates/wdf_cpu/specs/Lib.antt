@@ -5,3 +5,4 @@ pub mod FrameTests
 pub mod Spending
 pub mod InUntils
 pub mod Kept
+pub mod Occupied

@@ -11,8 +11,9 @@ use crate::cpus::{Cpus, NO_FRAME, object_key, wait_key};
 use crate::stack::{pop_from, push_on};
 use crate::untils::move_until_if;
 use wdf_base::{Cpu, Frame, FrameId, Irql, ObjectId};
-use wdf_maps::{Counts, entry_at, put_at};
+use wdf_maps::{entry_at, put_at};
 use wdf_model::{EVENTS, FRAMES, Running};
+use wdf_tally::Tally;
 
 impl Cpus {
     /// A frame begins on a processor, on top.
@@ -113,7 +114,7 @@ impl Cpus {
 }
 
 /// One that was counted of an id is counted of another, where a frame is live; else nothing changes.
-fn moves_if(counts: &mut Counts, live: bool, from: Option<ObjectId>, to: Option<ObjectId>)
+fn moves_if(counts: &mut Tally, live: bool, from: Option<ObjectId>, to: Option<ObjectId>)
     requires { count_at counts.old to + 1 < 2 ^ 32 }
     ensures { counts.new ≡ (if live then moved_count counts.old from to else counts.old) }
 {

@@ -9,8 +9,9 @@ use crate::untils::Untils;
 use std::alloc::Global;
 use std::marker::Model;
 use wdf_base::{Callback, Frame, Handle, Irql, Memory, ObjectId, Plan, Status, VARIABLES, Value};
-use wdf_maps::{Counts, Rising};
+use wdf_maps::Rising;
 use wdf_model::{FRAMES, Running, object_in};
+use wdf_tally::Tally;
 
 /// The handle of no object.
 const NO_HANDLE: Handle = Handle {
@@ -39,7 +40,7 @@ pub(crate) const NO_FRAME: Running = Running {
 };
 
 /// The processors, their frames and the frames that are parked.
-#[derive(Debug, Drop)]
+#[derive(Drop)]
 pub struct Cpus {
     /// The frames by number.
     pub(crate) frames: Vec<Running>,
@@ -54,9 +55,9 @@ pub struct Cpus {
     /// The level of each frame, by number.
     pub(crate) peaks: Vec<u8>,
     /// How many frames run on an object.
-    pub(crate) on: Counts,
+    pub(crate) on: Tally,
     /// How many frames wait for an object.
-    pub(crate) waits: Counts,
+    pub(crate) waits: Tally,
     /// The ticks until which these frames spend.
     pub(crate) untils: Untils,
     /// What a number says that is no frame's.
@@ -88,8 +89,8 @@ impl Cpus {
             levels: Levels::make(alloc)?,
             live: Vec::with_capacity(alloc, FRAMES as usize)?,
             peaks: Vec::with_capacity(alloc, FRAMES as usize)?,
-            on: Counts::make(alloc)?,
-            waits: Counts::make(alloc)?,
+            on: Tally::make(alloc)?,
+            waits: Tally::make(alloc)?,
             untils: Untils::make(alloc)?,
             blank: NO_FRAME.frame,
         })

@@ -1,9 +1,12 @@
 //! All frames, running and parked.
-ghost use Rattle.std.specs.Prelude.{◌≡◌, ◌+◌, ◌<◌, ◌≤◌, ◌++◌, length, count_by, slice_get, Some, nat_lt};
+ghost use Rattle.std.specs.Prelude.{◌≡◌, ◌+◌, ◌<◌, ◌≤◌, ◌++◌, length, count_by, slice_get, MatchOption, Some, nat_lt};
 ghost use Rattle.std.specs.List.{flat_map, list_any};
 ghost use Rattle.wdf_model.specs.State.{waits_for};
 ghost use Rattle.wdf_model.specs.parts.Cpus as cpus;
+ghost use Rattle.wdf_model.specs.declared.room.TheConstants.{OBJECTS};
+ghost use Rattle.wdf_sets.specs.Nexts.{IsNext, NoneFrom};
 ghost use Rattle.wdf_cpu.specs.FrameTests.{passes};
+ghost use Rattle.wdf_cpu.specs.Occupied.{is_awaited, is_occupied};
 
 use crate::cpus::Cpus;
 use crate::frame_test::FrameTest;
@@ -55,6 +58,20 @@ impl Cpus {
         } else {
             self.any(FrameTest::WaitsFor(o))
         }
+    }
+
+    /// The first object from an id on that a frame is on, on a processor or parked.
+    pub fn next_occupied(&self, from: ObjectId) -> Option<ObjectId>
+        ensures { MatchOption result (NoneFrom (is_occupied self.now) from.0 OBJECTS) (λ o. IsNext (is_occupied self.now) from.0 OBJECTS o.0) }
+    {
+        self.on.next(from)
+    }
+
+    /// The first object from an id on that a frame waits for.
+    pub fn next_awaited(&self, from: ObjectId) -> Option<ObjectId>
+        ensures { MatchOption result (NoneFrom (is_awaited self.now) from.0 OBJECTS) (λ o. IsNext (is_awaited self.now) from.0 OBJECTS o.0) }
+    {
+        self.waits.next(from)
     }
 
     /// Whether a frame of this callback, on a processor or parked, is on a device, or on what has it as nearest device.

@@ -1,16 +1,16 @@
 -- The text that the printer wrote, and the rest of it.
-use Rattle.std.proofs.Common.{◌≡◌, ◌≢◌, ℕ, zero, suc, ◌+◌, ◌<◌, ◌≤◌, ◌⊎◌, inl, inr, Bool, true, false, List, [], ◌∷◌, ◌++◌, length, take, drop, Option, refl, ap, sym, ◌∙◌, subst, arith, codes, append_assoc, length-append, le_of_lt}
+use Rattle.std.proofs.Common.{◌≡◌, ◌≢◌, ℕ, zero, suc, ◌+◌, ◌≤◌, inl, inr, Bool, true, false, List, [], ◌∷◌, ◌++◌, length, take, drop, Option, refl, ap, sym, ◌∙◌, subst, arith, codes, append_assoc, length-append, le_of_lt}
 use Rattle.std.proofs.lemmas.List.{append-nil, take-append-le}
 use mathlib.Core.List.{IsPrefix}
 use Rattle.wdf_base.specs.Meaning.{Meaning}
 use Rattle.wdf_base.specs.declared.plan.Plan.{Plan}
 use Rattle.wdf_base.specs.declared.event.Event.{Event}
 use Rattle.wdf_base.specs.declared.event.Ending.TheVariants as ending
-use Rattle.wdf_io.specs.Outside.{Gains, Rose}
+use Rattle.wdf_io.specs.Outside.{Gains}
 use Rattle.wdf_lines.specs.Lines.{line_text, lines_from}
 use Rattle.wdf_live.proofs.Lines.{front}
 use Rattle.wdf_live.specs.Printed.{HasPrinted, IsTold}
-use Rattle.wdf_live.specs.Slot.{numbered}
+use Rattle.wdf_live.specs.Slot.{numbered, sent_of}
 use Rattle.wdf_live.specs.Told.{item_lines, lines_in}
 use Rattle.wdf_live.specs.Watched.{HasWatched, text_after}
 use Rattle.wdf_live.specs.declared.printer.Printed.{Printed}
@@ -81,12 +81,18 @@ printed_front plan run taken rest s p sent lines told =
     let count = f.count in
     (omega arith, subst (λ (l : List ℕ). IsTold p.failed s l) (f.lines ∙ ap (λ (k : ℕ). lines_from plan 1 (take k run)) (sym lines)) told)
 
+-- what was taken is a front of the journal with the end mark, whether or not that was sent
+with_end : (run : List Event) (ended : Bool) (taken rest : List Item) → sent_of run ended ≡ taken ++ rest → (more : List Item) × (numbered 1 run ++ End ∷ [] ≡ taken ++ more)
+with_end run true taken rest sent = (rest, sent)
+with_end run false taken rest sent = (rest ++ End ∷ [], ap (λ (l : List Item). l ++ End ∷ []) sent ∙ append_assoc taken rest (End ∷ []))
+
 -- what the two ends of the pipe know together: what was taken of all that was sent is printed
-pub both_ends : (plan : Plan) (run : List Event) (sender printer : Account) (rest : List Item) (s : Sinking) (p : Printed)
-    → sender ≡ account true false (numbered 1 run ++ End ∷ []) [] → sender.sent ≡ printer.taken ++ rest → p.lines ≡ lines_in printer.taken → IsTold p.failed s (item_lines plan printer.taken)
+pub both_ends : (plan : Plan) (run : List Event) (ended : Bool) (sender printer : Account) (rest : List Item) (s : Sinking) (p : Printed)
+    → sender ≡ account true false (sent_of run ended) [] → sender.sent ≡ printer.taken ++ rest → p.lines ≡ lines_in printer.taken → IsTold p.failed s (item_lines plan printer.taken)
     → HasPrinted plan run s p
-both_ends plan run sender printer rest s p is parted lines told =
-    printed_front plan run printer.taken rest s p (sym (ap (λ (v : Account). v.sent) is) ∙ parted) lines told
+both_ends plan run ended sender printer rest s p is parted lines told =
+    let whole = with_end run ended printer.taken rest (sym (ap (λ (v : Account). v.sent) is) ∙ parted) in
+    printed_front plan run printer.taken whole.0 s p whole.1 lines told
 
 -- what was printed of what the workers left was printed of the finished run; the printer's plan is the core's
 pub printed_whole : (plan other : Plan) (run longer : List Event) (s : Sinking) (p : Printed) → other ≡ plan → IsPrefix run longer → HasPrinted other run s p → HasPrinted plan longer s p

@@ -11,7 +11,7 @@ use Rattle.wdf_pipe.specs.declared.pipe.Account.{Account}
 use Rattle.wdf_pipe.specs.declared.item.Item.{Item}
 use Rattle.wdf_pipe.specs.declared.item.Item.TheVariants.{Numbered, End}
 use Rattle.wdf_pipe.specs.Pipe.{account}
-use Rattle.wdf_live.specs.Told.{item_line, item_lines, count_of, lines_in}
+use Rattle.wdf_live.specs.Told.{item_lines, lines_in}
 use Rattle.wdf_live.proofs.Lines.{item_lines_more, lines_in_more}
 
 -- a pass that has taken one item more

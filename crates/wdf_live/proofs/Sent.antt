@@ -1,9 +1,9 @@
 -- What has been sent, after one event more and where there is none.
-use Rattle.std.proofs.Common.{◌≡◌, ◌⊎◌, inl, inr, ℕ, zero, suc, ◌+◌, ◌<◌, ◌≤◌, true, false, List, [], ◌∷◌, ◌++◌, length, Some, slice_get, refl, ap, sym, ◌∙◌, subst, arith, length-append}
+use Rattle.std.proofs.Common.{◌≡◌, inl, inr, ℕ, ◌+◌, ◌<◌, ◌≤◌, true, false, List, [], ◌∷◌, ◌++◌, length, Some, slice_get, refl, ap, sym, ◌∙◌, arith, length-append}
 use Rattle.wdf_base.specs.declared.event.Event.{Event}
 use Rattle.wdf_pipe.specs.declared.pipe.Account.{Account}
 use Rattle.wdf_pipe.specs.declared.item.Item.{Item}
-use Rattle.wdf_pipe.specs.declared.item.Item.TheVariants.{Numbered, End}
+use Rattle.wdf_pipe.specs.declared.item.Item.TheVariants.{Numbered}
 use Rattle.wdf_pipe.specs.Pipe.{account}
 use Rattle.wdf_live.specs.Slot.{numbered}
 use Rattle.wdf_live.proofs.Lines.{numbered_more, numbered_length}

@@ -1,11 +1,10 @@
-//! The parts of a live printer: the lines of a run are written while its workers go on. No call of the program uses them
-//! yet: the one that hands the workers to the printer's call isn't proved.
+//! A live printer: the lines of a run are written while its workers go on.
 //!
 //! # Choices
 //!
 //! - **What makes the lines those of the run, in order?** A pipe from the workers to the printer with one pass that sends. The
-//!   pass is in the turnstile's value, beside the machine. So only the seat that holds the machine sends, and what has been
-//!   sent is the journal whenever a seat may take it.
+//!   pass is in the turnstile's value, beside the machine. So only the seat that holds the machine sends. Whenever a seat
+//!   may take it, what has been sent is the journal, and nothing more or the end mark behind it.
 //! - **Which of the two has the new thread?** The printer. Where no thread can be made, the call in the new thread is
 //!   made last: the workers come to their end first, and then all is printed. The other way round the printer would wait
 //!   for workers that don't run.
@@ -18,11 +17,10 @@
 mod beside;
 mod printer;
 mod rest;
+mod run;
 mod watched;
-mod workers;
 
-pub use beside::print_beside;
 pub use printer::{Printed, print_all, write_event};
-pub use rest::write_rest;
-pub use watched::{Left, Watched};
-pub use workers::{Workers, work_to_end};
+pub use rest::write_watched;
+pub use run::watch;
+pub use watched::Watched;

@@ -1,18 +1,17 @@
 //! What the workers of a watched run share.
-ghost use Rattle.std.specs.Prelude.{◌≡◌, ◌<◌, ◌++◌, ◌∷◌, [], true, false, List, length};
+ghost use Rattle.std.specs.Prelude.{◌≡◌, ◌<◌, true, false, List, length};
 ghost use Rattle.wdf_base.specs.declared.event.Event.{Event};
 ghost use Rattle.wdf_turn.specs.Tokens.{IsGrown};
-ghost use Rattle.crossbeam_queue.specs.Passes.{view, IsPassOf, ruled_capacity};
-ghost use Rattle.wdf_pipe.specs.Pipe.{account};
-ghost use Rattle.wdf_live.specs.Slot.{HasSent, numbered};
-ghost use Rattle.wdf_pipe.specs.declared.item.Item.TheVariants.{End};
+ghost use Rattle.crossbeam_queue.specs.Passes.{IsPassOf, ruled_capacity};
+ghost use Rattle.wdf_live.specs.Slot.{HasSent};
 
 use std::sync::Wait;
 use wdf_base::{Agent, Event, Plan};
 use wdf_core::Core;
+use wdf_crew::{Advance, Crew, Progress};
 use wdf_pipe::{Desk, Item, Pipe, PipePass};
 use wdf_turn::Chronicle;
-use wdf_workers::{Advance, Crew, Progress, RunState};
+use wdf_workers::RunState;
 
 /// The machine of a run that is watched, and the one pass that sends. It is in the turnstile, so only the seat that holds
 /// the machine sends.
@@ -24,9 +23,11 @@ pub struct Watched<'a, R: Wait, A: Agent> {
     pub desk: &'a Desk<'a, R>,
     /// The pass that sends.
     pub pass: PipePass,
+    /// Whether the end mark was sent. Then no event comes any more.
+    pub ended: bool,
     ghost own: { IsPassOf desk.now.pipe.now pass },
     ghost room: { state.core.plan.limit < ruled_capacity desk.now.pipe.now },
-    ghost sent: { HasSent pass state.core.journal },
+    ghost sent: { HasSent pass state.core.journal ended },
 }
 
 impl<'a, R: Wait, A: Agent> Chronicle for Watched<'a, R, A> {
@@ -49,10 +50,21 @@ impl<'a, R: Wait, A: Agent> Chronicle for Watched<'a, R, A> {
 impl<R: Wait, A: Agent> Advance for Watched<'_, R, A> {
     // The event that was added is sent before the machine is given back.
     fn advance(&mut self, crew: Crew) -> Progress {
+        if self.ended {
+            return Progress::Over;
+        }
         let before = self.state.core.journal_len();
         let progress = self.state.advance(crew);
         send_new(self.desk, &self.state.core, before, &mut self.pass);
         progress
+    }
+
+    // The end mark is sent, once.
+    fn end(&mut self) {
+        if !self.ended {
+            send_end(self.desk, &self.state.core, &mut self.pass);
+            self.ended = true;
+        }
     }
 }
 
@@ -65,9 +77,9 @@ fn send_new<R: Wait, A: Agent>(
 )
     requires own { IsPassOf desk.now.pipe.now pass.old }
     requires room { core.now.plan.limit < ruled_capacity desk.now.pipe.now }
-    requires grown { (journal : List Event) × HasSent pass.old journal × (before ≡ length journal) × IsGrown journal core.now.journal }
+    requires grown { (journal : List Event) × HasSent pass.old journal false × (before ≡ length journal) × IsGrown journal core.now.journal }
     ensures own { IsPassOf desk.now.pipe.now pass.new }
-    ensures sent { HasSent pass.new core.now.journal }
+    ensures sent { HasSent pass.new core.now.journal false }
 {
     if before < core.journal_len() {
         let event = core.journal_at(before);
@@ -75,28 +87,14 @@ fn send_new<R: Wait, A: Agent>(
     }
 }
 
-/// What is left of a watched machine: the machine, and the pass that has sent all.
-pub struct Left<A: Agent> {
-    /// The machine.
-    pub state: RunState<A>,
-    /// The pass that sent.
-    pub pass: PipePass,
-}
-
-impl<R: Wait, A: Agent> Watched<'_, R, A> {
-    /// Sends the end mark, once no worker has the machine any more.
-    pub fn end(self) -> Left<A>
-        ensures plan { result.state.core.plan ≡ self.entry.state.core.plan }
-        ensures own { IsPassOf self.entry.desk.now.pipe.now result.pass }
-        ensures sent { view result.pass ≡ account true false (numbered 1 result.state.core.journal ++ End ∷ []) [] }
-    {
-        let Watched {
-            state,
-            desk,
-            mut pass,
-        } = self;
-        let _events = state.core.journal_len();
-        desk.send(&mut pass, Item::End);
-        Left { state, pass }
-    }
+/// Sends the end mark, behind a journal that was sent.
+fn send_end<R: Wait, A: Agent>(desk: &Desk<'_, R>, core: &Core<A>, pass: &mut PipePass)
+    requires own { IsPassOf desk.now.pipe.now pass.old }
+    requires room { core.now.plan.limit < ruled_capacity desk.now.pipe.now }
+    requires sent { HasSent pass.old core.now.journal false }
+    ensures own { IsPassOf desk.now.pipe.now pass.new }
+    ensures sent { HasSent pass.new core.now.journal true }
+{
+    let _events = core.journal_len();
+    desk.send(pass, Item::End);
 }

@@ -1,3 +1,4 @@
 pub mod SameLocks
 pub mod Finding
 pub mod Keeping
+mod Taking

@@ -1,5 +1,5 @@
 -- The hold of each lock, by the id of its object.
-use Rattle.std.specs.Prelude.{if◌then◌else◌, ℕ, nat_lt, List, [], Option, None}
+use Rattle.std.specs.Prelude.{if◌then◌else◌, ℕ, nat_lt, Bool, List, [], Option, None, is_some}
 use Rattle.wdf_base.specs.declared.object.LockRef.{LockRef}
 use Rattle.wdf_base.specs.declared.object.LockRef.TheVariants as lock
 use Rattle.wdf_model.specs.declared.entries.Held.{Held}
@@ -20,6 +20,10 @@ abbrev pub held_at : Holds → LockRef → Option Held
 held_at H (lock.Object o) = entry None H.objects o.0
 held_at H (lock.DeviceScope o) = entry None H.devices o.0
 held_at H (lock.QueueScope o) = entry None H.queues o.0
+
+-- whether the lock of an object is held
+abbrev pub is_taken : Holds → ℕ → Bool
+is_taken H o = is_some (entry None H.objects o)
 
 abbrev pub put_hold : Holds → LockRef → Option Held → Holds
 put_hold H (lock.Object o) hold = record H { objects = put None H.objects o.0 hold }

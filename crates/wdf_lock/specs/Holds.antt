@@ -1,9 +1,14 @@
 -- Tests of holds, and the counts of those by calls.
-use Rattle.std.specs.Prelude.{ℕ, Bool, true, false, ◌≡◌, ◌<◌, ◌==◌, ◌&&◌, ◌-◌, List, length, get_or, Option, Some, None}
+use Rattle.std.specs.Prelude.{ℕ, Bool, true, false, not, ◌≡◌, ◌<◌, ◌==◌, ◌&&◌, ◌-◌, List, length, get_or, Option, Some, None}
 use Rattle.wdf_base.specs.declared.object.LockRef.{LockRef}
 use Rattle.wdf_base.specs.Same.{same_lock}
 use Rattle.wdf_model.specs.declared.entries.Held.{Held}
 use Rattle.wdf_model.specs.Tables.{entry, flag, put}
+use Rattle.wdf_model.specs.parts.Locks.{Locks, is_free_lock, object_lock}
+
+-- the lock of an object is held
+abbrev pub is_locked : Locks → ℕ → Bool
+is_locked L o = not (is_free_lock L (object_lock o))
 
 -- a hold of a lock
 abbrev pub is_of : LockRef → Held → Bool

@@ -1,18 +1,24 @@
-ghost use Rattle.std.specs.Prelude.{◌≡◌, [], IfOk};
-ghost use Rattle.wdf_lock.specs.Holders.{held_at, lock_id, no_holders, with_hold};
+ghost use Rattle.std.specs.Prelude.{◌≡◌, ◌<◌, [], IfOk, MatchOption, None};
+ghost use Rattle.wdf_model.specs.Tables.{put};
+ghost use Rattle.wdf_model.specs.declared.room.TheConstants.{OBJECTS};
+ghost use Rattle.wdf_sets.specs.Nexts.{IsNext, NoneFrom};
+ghost use Rattle.wdf_lock.specs.Holders.{held_at, is_taken, lock_id, no_holders, with_hold};
 
 use std::alloc::Global;
 use std::marker::Model;
 use wdf_base::{LockRef, Memory};
 use wdf_maps::{entry_at, put_at};
 use wdf_model::{Held, OBJECTS};
+use wdf_sets::IdSet;
 
 /// The hold of each lock, by the id of its object. Locks of ids that no object can have aren't kept.
-#[derive(Debug, Drop)]
+#[derive(Drop)]
 pub(crate) struct Holders {
     objects: Vec<Option<Held>>,
     devices: Vec<Option<Held>>,
     queues: Vec<Option<Held>>,
+    /// The objects whose lock is held.
+    taken: IdSet,
 }
 
 impl Model for Holders {
@@ -36,6 +42,7 @@ impl Holders {
             objects: Vec::with_capacity(alloc, OBJECTS as usize)?,
             devices: Vec::with_capacity(alloc, OBJECTS as usize)?,
             queues: Vec::with_capacity(alloc, OBJECTS as usize)?,
+            taken: IdSet::make(alloc, OBJECTS)?,
         })
     }
 
@@ -50,13 +57,29 @@ impl Holders {
         }
     }
 
+    /// The first object from an id on whose lock is held.
+    pub(crate) fn next_taken(&self, from: u32) -> Option<u32>
+        ensures { MatchOption result (NoneFrom (is_taken self.now) from OBJECTS) (λ o. IsNext (is_taken self.now) from OBJECTS o) }
+    {
+        self.taken.next(from, OBJECTS)
+    }
+
+    /// Says who holds the lock of an object.
+    fn set_object(&mut self, o: u32, held: Option<Held>)
+        requires { o < OBJECTS }
+        ensures { self.new ≡ record self.old { objects = put None self.old.objects o held } }
+    {
+        self.taken.put(o, held.is_some());
+        put_at(&mut self.objects, None, o, held);
+    }
+
     /// Says who holds a lock, if it is kept.
     pub(crate) fn set(&mut self, lock: LockRef, held: Option<Held>)
         ensures { self.new ≡ with_hold self.old lock held }
     {
         if lock_id(lock) < OBJECTS {
             match lock {
-                LockRef::Object(o) => put_at(&mut self.objects, None, o.0, held),
+                LockRef::Object(o) => self.set_object(o.0, held),
                 LockRef::DeviceScope(o) => put_at(&mut self.devices, None, o.0, held),
                 LockRef::QueueScope(o) => put_at(&mut self.queues, None, o.0, held),
             }

@@ -1,17 +1,19 @@
-ghost use Rattle.std.specs.Prelude.{◌≡◌, ◌<◌, ◌≤◌, true, count_by, length, option_map, IfOk};
+ghost use Rattle.std.specs.Prelude.{◌≡◌, ◌<◌, ◌≤◌, true, count_by, length, option_map, IfOk, MatchOption};
+ghost use Rattle.wdf_model.specs.declared.room.TheConstants.{OBJECTS};
+ghost use Rattle.wdf_sets.specs.Nexts.{IsNext, NoneFrom};
 ghost use Rattle.wdf_model.specs.parts.Locks as locks;
-ghost use Rattle.wdf_lock.specs.Holds.{is_of};
+ghost use Rattle.wdf_lock.specs.Holds.{is_locked, is_of};
 
 use crate::held::{count_call, drop_hold, find_hold, uncount_call};
 use crate::holders::{Holders, lock_id};
 use std::alloc::Global;
 use std::marker::Model;
-use wdf_base::{FrameId, LockRef, Memory, Plan};
-use wdf_maps::entry_at;
+use wdf_base::{FrameId, LockRef, Memory, ObjectId, Plan};
+use wdf_maps::{entry_at, object_at};
 use wdf_model::{EVENTS, FRAMES, Held, OBJECTS};
 
 /// The locks that are held, and by whom.
-#[derive(Debug, Drop)]
+#[derive(Drop)]
 pub struct Locks {
     /// What is held, in the order in which it was taken.
     held: Vec<Held>,
@@ -86,6 +88,13 @@ impl Locks {
             Some(lock) => self.is_free_lock(lock),
             None => true,
         }
+    }
+
+    /// The first object from an id on whose lock is held.
+    pub fn next_locked(&self, from: ObjectId) -> Option<ObjectId>
+        ensures { MatchOption result (NoneFrom (is_locked self.now) from.0 OBJECTS) (λ o. IsNext (is_locked self.now) from.0 OBJECTS o.0) }
+    {
+        object_at(self.holders.next_taken(from.0))
     }
 
     /// Whether this frame holds a lock.

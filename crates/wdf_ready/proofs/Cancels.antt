@@ -1,5 +1,5 @@
 -- The requests for which EvtRequestCancel is due, as a search finds them.
-use Rattle.std.proofs.Common.{Bool, true, false, ◌&&◌, ℕ, ◌≡◌, ◌⊎◌, ◌+◌, ◌<◌, ◌≤◌, find, length, Option, Some, None, inl, inr, refl, sym, ap, ◌∙◌, arith}
+use Rattle.std.proofs.Common.{Bool, true, false, ◌&&◌, ℕ, ◌≡◌, ◌⊎◌, ◌+◌, ◌<◌, ◌≤◌, find, length, Option, Some, None, inl, inr, sym, ap, ◌∙◌, arith}
 use Rattle.std.specs.Prelude.{nat_le}
 use Rattle.std.proofs.lemmas.Bool.{cases_lt, le-leb, leb-true}
 use Rattle.wdf_base.specs.declared.plan.Plan.{Plan}
@@ -11,8 +11,10 @@ use Rattle.wdf_model.specs.Tables.{ids_of}
 use Rattle.wdf_model.specs.parts.Requests.{Requests, mark_of}
 use Rattle.wdf_model.specs.rules.Groups.{places_if}
 use Rattle.wdf_request.specs.Closing.{due_requests}
-use Rattle.wdf_ready.specs.Idle.{IsNext, NoneFrom, is_due_at}
-use Rattle.wdf_ready.proofs.Skips.{First, find_filter, first_in, none_in, right_false}
+use Rattle.wdf_sets.specs.Nexts.{IsNext, NoneFrom}
+use Rattle.wdf_sets.proofs.Nexts.{First, find_filter, first_in, none_in}
+use Rattle.wdf_ready.specs.Idle.{is_due_at}
+use Rattle.wdf_ready.proofs.Skips.{right_false}
 
 pub few_places : (b : Bool) (n end : ℕ) → end ≤ places_if b n → end ≤ n
 few_places true n end h = h

@@ -11,3 +11,5 @@ pub mod Straight
 pub mod Begins
 pub mod Counting
 pub mod Decided
+pub mod Numbered
+pub mod Leavers

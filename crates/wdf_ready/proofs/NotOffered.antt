@@ -2,7 +2,7 @@
 -- on an object whose life doesn't let its callback start. No cleanup is offered of an object whose turn hasn't come.
 use Rattle.std.proofs.Common.{if◌then◌else◌, Bool, true, false, not, ◌&&◌, ◌==◌, nat_lt, ℕ, zero, suc, ◌≡◌, ◌<◌, ◌≤◌, List, [], ◌∷◌, length, Option, Some, None, option_map, is_some, unwrap_or, slice_get, ◌||◌, refl, arith}
 use Rattle.std.proofs.lemmas.Bool.{eqb-false, eqb-true, le-ltb, ltb-false}
-use Rattle.std.specs.List.{list_all, list_any}
+use Rattle.std.specs.List.{list_any}
 use Rattle.std.specs.Option.{option_and_then}
 use Rattle.wdf_base.specs.Meaning.{Meaning}
 use Rattle.wdf_base.specs.declared.plan.Plan.{Plan}
@@ -21,7 +21,7 @@ use Rattle.wdf_base.specs.declared.object.RequestForm.TheVariants as form
 use Rattle.wdf_base.specs.declared.rank.Rank.{Rank}
 use Rattle.wdf_base.specs.declared.rank.Rank.TheVariants as rank
 use Rattle.wdf_base.specs.Places.{is_returning_to}
-use Rattle.wdf_base.specs.Lives.{is_asked, is_cleaned, is_past_cleanup}
+use Rattle.wdf_base.specs.Lives.{is_cleaned}
 use Rattle.wdf_base.specs.Callbacks.{dpc_function}
 use Rattle.wdf_model.proofs.Tests.{left_fails, not_true, right_fails}
 use Rattle.wdf_model.specs.Ids.{cpu_of}
@@ -40,7 +40,7 @@ use Rattle.wdf_model.specs.parts.Power.{stop_was_asked}
 use Rattle.wdf_model.specs.parts.Queues.{front}
 use Rattle.wdf_model.specs.parts.Requests.{info_of, no_request}
 use Rattle.wdf_model.specs.parts.Targets.{the_target}
-use Rattle.wdf_model.specs.parts.Tree.{children, kind_of, life_of, may_clean, nearest_device, parent_of, started, younger_siblings}
+use Rattle.wdf_model.specs.parts.Tree.{kind_of, life_of, may_clean, nearest_device, started}
 use Rattle.wdf_model.specs.rules.Groups.{callback_for, handler_start, if_there, start_at, starts, starts_for, unparks}
 use Rattle.wdf_model.specs.rules.Starts.{clean_ready, is_finished, is_ready_for, is_unused, level_fits, life_fits, may_start}
 use Rattle.wdf_model.specs.rules.Steps.{is_cpu, is_proper_if_any, may, wait_is_over}
@@ -58,7 +58,6 @@ use Rattle.wdf_model.specs.rules.Groups.{stage_of_step, start_of_step}
 use Rattle.wdf_model.specs.rules.Starts.{line_is_up, presents, rank_ready_for}
 use Rattle.wdf_ready.specs.Idle.{can_be_due, can_start_at, highest_level, is_due_at, is_idle, is_sending_due, is_too_high, settles_next}
 use Rattle.wdf_ready.specs.Search.{if_allowed, offered}
-use Rattle.wdf_tree.specs.Turns.{has_turn}
 
 -- ---- conjunctions
 
@@ -147,19 +146,11 @@ module _ {A : Type 0} (S : State A) (cpu bound level : ℕ) (low : level ≤ bou
 
 -- ---- cleanups
 
--- where the first or the third fails, so do all three
-between_fails : (a b c : Bool) → (a && c) ≡ false → (a && b && c) ≡ false
-between_fails true b c h = right_fails b c h
-between_fails false b c h = refl
-
 -- no cleanup comes of an object whose turn hasn't come
-pub not_its_turn : {A : Type 0} (S : State A) (o : ℕ) → has_turn S.tree o ≡ false → clean_ready S o ≡ false
+pub not_its_turn : {A : Type 0} (S : State A) (o : ℕ) → may_clean S.tree o ≡ false → clean_ready S o ≡ false
 not_its_turn S o h =
-    let off : may_clean S.tree o ≡ false
-    = between_fails (is_asked (life_of S.tree o)) (list_all (λ x. is_past_cleanup (life_of S.tree x)) (children S.tree o))
-    (not (is_asked (life_of S.tree (parent_of S.tree o))) || list_all (λ x. is_past_cleanup (life_of S.tree x)) (younger_siblings S.tree o)) h in
     left_fails (may_clean S.tree o && is_unused S o && is_finished S o) (nothing_at S o)
-    (left_fails (may_clean S.tree o && is_unused S o) (is_finished S o) (left_fails (may_clean S.tree o) (is_unused S o) off))
+    (left_fails (may_clean S.tree o && is_unused S o) (is_finished S o) (left_fails (may_clean S.tree o) (is_unused S o) h))
 
 -- ---- starts
 
@@ -345,7 +336,7 @@ module _ {A : Type 0} (plan : Plan) (m : Meaning A) (S : State A) where
   no_stage d h = no_stage_by d (steps_left S.pnp d) h
 
   -- no cleanup callback starts on an object whose turn hasn't come, and no destroy callback on one that isn't cleaned
-  pub no_cleanup_start : (cpu o : ℕ) → has_turn S.tree o ≡ false → offered plan m S (group.Starts cpu rank.Cleanup) o ≡ None
+  pub no_cleanup_start : (cpu o : ℕ) → may_clean S.tree o ≡ false → offered plan m S (group.Starts cpu rank.Cleanup) o ≡ None
   no_cleanup_start cpu o h = not_ready cpu callback.EvtCleanupCallback o None (left_fails (clean_ready S o) (not (started S.tree o callback.EvtCleanupCallback)) (not_its_turn S o h))
 
   pub no_destroy_start : (cpu o : ℕ) → is_cleaned (life_of S.tree o) ≡ false → offered plan m S (group.Starts cpu rank.Destroy) o ≡ None

@@ -1,10 +1,10 @@
 -- What is passed over without a look: idle groups, requests that aren't closing or for which no callback is due, objects
 -- that aren't cleaned, or whose turn hasn't come.
-use Rattle.std.proofs.Common.{if◌then◌else◌, Bool, true, false, ◌&&◌, ℕ, zero, suc, ◌≡◌, ◌+◌, ◌-◌, ◌<◌, ◌≤◌, ◌^◌, List, [], ◌∷◌, filter, find, Option, Some, None, MatchOption, refl, sym, ap, subst, ◌∙◌, arith}
+use Rattle.std.proofs.Common.{if◌then◌else◌, Bool, true, false, ◌&&◌, ℕ, ◌≡◌, ◌+◌, ◌-◌, ◌<◌, ◌≤◌, ◌^◌, [], find, Option, Some, None, MatchOption, refl, sym, ap, subst, ◌∙◌, arith}
 use Rattle.std.specs.Prelude.{nat_le, nat_lt}
 use Rattle.std.specs.Option.{option_and_then}
 use Rattle.std.specs.List.{range_with_len}
-use Rattle.std.proofs.lemmas.Bool.{le-leb, leb-true, leb-false, ltb-false, ltb-true}
+use Rattle.std.proofs.lemmas.Bool.{le-leb, leb-true, ltb-false, ltb-true}
 use Rattle.wdf_base.specs.Meaning.{Meaning}
 use Rattle.wdf_base.specs.declared.event.Event.{Event}
 use Rattle.wdf_base.specs.declared.event.Event.TheVariants as event
@@ -20,75 +20,19 @@ use Rattle.wdf_model.proofs.Tests.{both_left}
 use Rattle.wdf_model.specs.declared.enums.Group.{Group}
 use Rattle.wdf_model.specs.declared.enums.Group.TheVariants as group
 use Rattle.wdf_model.specs.Tables.{ids_of}
-use Rattle.wdf_model.specs.parts.Tree.{life_of, next_id}
+use Rattle.wdf_model.specs.parts.Tree.{life_of, may_clean, next_id}
 use Rattle.wdf_model.specs.parts.Requests.{place_of}
 use Rattle.wdf_model.specs.State.{State, handle_in, is_proper}
 use Rattle.wdf_model.specs.rules.Starts.{callback_over, clean_ready, destroy_ready}
 use Rattle.wdf_model.specs.rules.Steps.{may}
 use Rattle.wdf_model.specs.rules.Groups.{completion_at, is_declared_somewhere, places_for, places_if, places_in}
 use Rattle.wdf_request.specs.Closing.{closing_requests}
-use Rattle.wdf_tree.specs.Turns.{has_turn}
-use Rattle.wdf_ready.specs.Idle.{IsNext, NoneFrom, can_start_at, is_due_at, is_idle, next_start, search_len}
+use Rattle.wdf_sets.specs.Nexts.{IsNext, NoneFrom}
+use Rattle.wdf_sets.proofs.Nexts.{First, find_filter, first_in, none_in}
+use Rattle.wdf_ready.specs.Idle.{can_start_at, is_due_at, is_idle, next_start, search_len}
 use Rattle.wdf_ready.specs.Search.{Skips, offered, offered_from}
 use Rattle.wdf_ready.proofs.NotOffered.{cannot_start, idle_offers_none, no_cleanup_start, no_destroy_start, no_stage, not_due, not_its_turn}
 use Rattle.wdf_ready.proofs.Places.{all_passed, past}
-
--- ---- what a search over ids found
-
--- an id that passes a test is the first one from a on
-pub record First (q : ℕ → Bool) (a n x : ℕ) : Type 0 where
-  pub from : a ≤ x
-  pub within : x < a + n
-  pub passes : q x ≡ true
-  pub before : (p : ℕ) → a ≤ p → p < x → q p ≡ false
-
-above_by : (a p : ℕ) → nat_le p a ≡ false → a ≤ p → a + 1 ≤ p
-above_by a p f above = let not_le = leb-false p a f in omega arith
-
-first_in_by : (q : ℕ → Bool) (a n x : ℕ) (b : Bool) → q a ≡ b → find q (range_with_len a (suc n)) ≡ Some x → (find q (range_with_len (a + 1) n) ≡ Some x → First q (a + 1) n x) → First q a (suc n) x
-first_in_by q a n x true e h rest =
-    let found = rw e at h in
-    let same : a ≡ x = cc in
-    rw (← same) (record { from = omega arith; within = omega arith; passes = e; before = λ p above below. absurd (omega arith) })
-first_in_by q a n x false e h rest =
-    let k : First q (a + 1) n x = rest (rw e at h) in
-    let after = k.from in
-    let below = k.within in
-    record { from = omega arith; within = omega arith; passes = k.passes; before = λ p above under. before_by p (nat_le p a) refl above under k }
-  where
-    before_by : (p : ℕ) (c : Bool) → nat_le p a ≡ c → a ≤ p → p < x → First q (a + 1) n x → q p ≡ false
-    before_by p true f above under k = let le = leb-true p a f in let same : a ≡ p = omega arith in rw (← same) e
-    before_by p false f above under k = k.before p (above_by a p f above) under
-
-pub first_in : (q : ℕ → Bool) (a n x : ℕ) → find q (range_with_len a n) ≡ Some x → First q a n x
-first_in q a zero x h = absurd (let z : ⊥ = cc in z)
-first_in q a (suc n) x h = first_in_by q a n x (q a) refl h (first_in q (a + 1) n x)
-
-none_in_by : (q : ℕ → Bool) (a n : ℕ) (b : Bool) → q a ≡ b → find q (range_with_len a (suc n)) ≡ None → (find q (range_with_len (a + 1) n) ≡ None → (p : ℕ) → a + 1 ≤ p → p < a + 1 + n → q p ≡ false)
-    → (p : ℕ) (c : Bool) → nat_le p a ≡ c → a ≤ p → p < a + suc n → q p ≡ false
-none_in_by q a n true e h rest p c f above below = let found = rw e at h in absurd (let z : ⊥ = cc in z)
-none_in_by q a n false e h rest p true f above below = let le = leb-true p a f in let same : a ≡ p = omega arith in rw (← same) e
-none_in_by q a n false e h rest p false f above below = let not_le = leb-false p a f in rest (rw e at h) p (omega arith) (omega arith)
-
-pub none_in : (q : ℕ → Bool) (a n : ℕ) → find q (range_with_len a n) ≡ None → (p : ℕ) → a ≤ p → p < a + n → q p ≡ false
-none_in q a zero h p above below = absurd (omega arith)
-none_in q a (suc n) h p above below = none_in_by q a n (q a) refl h (none_in q (a + 1) n) p (nat_le p a) refl above below
-
-find_filter_by : (p q : ℕ → Bool) (x : ℕ) (xs : List ℕ) (b : Bool) → q x ≡ b → find p (filter q xs) ≡ find (λ y. p y && q y) xs → find p (filter q (x ∷ xs)) ≡ find (λ y. p y && q y) (x ∷ xs)
-find_filter_by p q x xs true e rest = rw e (kept (p x) refl)
-  where
-    kept : (c : Bool) → p x ≡ c → find p (x ∷ filter q xs) ≡ (if p x && true then Some x else find (λ y. p y && q y) xs)
-    kept true f = rw f refl
-    kept false f = rw f rest
-find_filter_by p q x xs false e rest = rw e (dropped (p x))
-  where
-    dropped : (c : Bool) → find p (filter q xs) ≡ (if c && false then Some x else find (λ y. p y && q y) xs)
-    dropped true = rest
-    dropped false = rest
-
-pub find_filter : (p q : ℕ → Bool) (xs : List ℕ) → find p (filter q xs) ≡ find (λ y. p y && q y) xs
-find_filter p q [] = refl
-find_filter p q (x ∷ xs) = find_filter_by p q x xs (q x) refl (find_filter p q xs)
 
 -- ---- what is skipped
 
@@ -178,7 +122,7 @@ module _ {A : Type 0} (plan : Plan) (m : Meaning A) (S : State A) where
   never true q r h = rw h refl
   never false q r h = refl
 
-  no_cleanup : (o : ℕ) → has_turn S.tree o ≡ false → offered plan m S group.Cleanups o ≡ None
+  no_cleanup : (o : ℕ) → may_clean S.tree o ≡ false → offered plan m S group.Cleanups o ≡ None
   no_cleanup o h =
       not_allowed (event.Cleanup (handle_in plan S o)) (may plan m S (event.Cleanup (handle_in plan S o))) refl
       (never (is_proper plan S (handle_in plan S o)) (clean_ready S o) (callback_over plan S callback.EvtCleanupCallback o) (not_its_turn S o h))
@@ -199,11 +143,11 @@ module _ {A : Type 0} (plan : Plan) (m : Meaning A) (S : State A) where
       ends_by plan m S group.Completions (λ r. is_closing (place_of S.requests r)) no_completion from below
       (sym (find_filter (nat_le from) (λ r. is_closing (place_of S.requests r)) (ids_of S.requests.all)) ∙ h)
 
-  skips_cleanups : (from x : ℕ) → places_in plan S group.Cleanups ≤ 2 ^ 32 → find (λ o. nat_le from o && has_turn S.tree o) (ids_of S.tree.nodes) ≡ Some x → Skips plan m S group.Cleanups from x
-  skips_cleanups from x few h = skips_by plan m S group.Cleanups (λ o. has_turn S.tree o) no_cleanup from x few h
+  skips_cleanups : (from x : ℕ) → places_in plan S group.Cleanups ≤ 2 ^ 32 → find (λ o. nat_le from o && may_clean S.tree o) (ids_of S.tree.nodes) ≡ Some x → Skips plan m S group.Cleanups from x
+  skips_cleanups from x few h = skips_by plan m S group.Cleanups (λ o. may_clean S.tree o) no_cleanup from x few h
 
-  ends_cleanups : (from : ℕ) → from < places_in plan S group.Cleanups → find (λ o. nat_le from o && has_turn S.tree o) (ids_of S.tree.nodes) ≡ None → offered_from plan m S group.Cleanups from ≡ []
-  ends_cleanups from below h = ends_by plan m S group.Cleanups (λ o. has_turn S.tree o) no_cleanup from below h
+  ends_cleanups : (from : ℕ) → from < places_in plan S group.Cleanups → find (λ o. nat_le from o && may_clean S.tree o) (ids_of S.tree.nodes) ≡ None → offered_from plan m S group.Cleanups from ≡ []
+  ends_cleanups from below h = ends_by plan m S group.Cleanups (λ o. may_clean S.tree o) no_cleanup from below h
 
   skips_destroys : (from x : ℕ) → places_in plan S group.Destroys ≤ 2 ^ 32 → find (λ o. nat_le from o && is_cleaned (life_of S.tree o)) (ids_of S.tree.nodes) ≡ Some x → Skips plan m S group.Destroys from x
   skips_destroys from x few h = skips_by plan m S group.Destroys (λ o. is_cleaned (life_of S.tree o)) no_destroy from x few h
@@ -222,10 +166,10 @@ module _ {A : Type 0} (plan : Plan) (m : Meaning A) (S : State A) where
   completions_answer g from o is = subst (λ h. from < places_in plan S h → places_in plan S h ≤ 2 ^ 32 → find (nat_le from) (closing_requests S.requests) ≡ o → MatchOption o (offered_from plan m S h from ≡ []) (λ x. Skips plan m S h from x)) is
       (λ below few e. by_option group.Completions from o (find (nat_le from) (closing_requests S.requests)) e (ends_completions from below) (λ x h. skips_completions from x few h))
 
-  pub cleanups_answer : (g : Group) (from : ℕ) (o : Option ℕ) → group.Cleanups ≡ g → from < places_in plan S g → places_in plan S g ≤ 2 ^ 32 → find (λ x. nat_le from x && has_turn S.tree x) (ids_of S.tree.nodes) ≡ o
+  pub cleanups_answer : (g : Group) (from : ℕ) (o : Option ℕ) → group.Cleanups ≡ g → from < places_in plan S g → places_in plan S g ≤ 2 ^ 32 → find (λ x. nat_le from x && may_clean S.tree x) (ids_of S.tree.nodes) ≡ o
       → MatchOption o (offered_from plan m S g from ≡ []) (λ x. Skips plan m S g from x)
-  cleanups_answer g from o is = subst (λ h. from < places_in plan S h → places_in plan S h ≤ 2 ^ 32 → find (λ x. nat_le from x && has_turn S.tree x) (ids_of S.tree.nodes) ≡ o → MatchOption o (offered_from plan m S h from ≡ []) (λ x. Skips plan m S h from x)) is
-      (λ below few e. by_option group.Cleanups from o (find (λ x. nat_le from x && has_turn S.tree x) (ids_of S.tree.nodes)) e (ends_cleanups from below) (λ x h. skips_cleanups from x few h))
+  cleanups_answer g from o is = subst (λ h. from < places_in plan S h → places_in plan S h ≤ 2 ^ 32 → find (λ x. nat_le from x && may_clean S.tree x) (ids_of S.tree.nodes) ≡ o → MatchOption o (offered_from plan m S h from ≡ []) (λ x. Skips plan m S h from x)) is
+      (λ below few e. by_option group.Cleanups from o (find (λ x. nat_le from x && may_clean S.tree x) (ids_of S.tree.nodes)) e (ends_cleanups from below) (λ x h. skips_cleanups from x few h))
 
   pub destroys_answer : (g : Group) (from : ℕ) (o : Option ℕ) → group.Destroys ≡ g → from < places_in plan S g → places_in plan S g ≤ 2 ^ 32 → find (λ x. nat_le from x && is_cleaned (life_of S.tree x)) (ids_of S.tree.nodes) ≡ o
       → MatchOption o (offered_from plan m S g from ≡ []) (λ x. Skips plan m S g from x)
@@ -252,10 +196,10 @@ module _ {A : Type 0} (plan : Plan) (m : Meaning A) (S : State A) where
   pub start_answer_by : (cpu : ℕ) (r : Rank) (from : ℕ) (o : Option ℕ) → from < places_in plan S (group.Starts cpu r) → places_in plan S (group.Starts cpu r) ≤ 2 ^ 32 → next_start S r from ≡ o
       → MatchOption o (offered_from plan m S (group.Starts cpu r) from ≡ []) (λ x. Skips plan m S (group.Starts cpu r) from x)
   start_answer_by cpu rank.Cleanup from o below few e =
-      let all = ap (λ n. find (λ x. nat_le from x && has_turn S.tree x) (range_with_len 0 n)) (declared_places (is_declared_somewhere plan callback.EvtCleanupCallback) (next_id S.tree) from below) in
+      let all = ap (λ n. find (λ x. nat_le from x && may_clean S.tree x) (range_with_len 0 n)) (declared_places (is_declared_somewhere plan callback.EvtCleanupCallback) (next_id S.tree) from below) in
       by_option (group.Starts cpu rank.Cleanup) from o (next_start S rank.Cleanup from) e
-      (λ h. ends_by plan m S (group.Starts cpu rank.Cleanup) (λ x. has_turn S.tree x) (no_cleanup_start plan m S cpu) from below (all ∙ h))
-      (λ x h. skips_by plan m S (group.Starts cpu rank.Cleanup) (λ y. has_turn S.tree y) (no_cleanup_start plan m S cpu) from x few (all ∙ h))
+      (λ h. ends_by plan m S (group.Starts cpu rank.Cleanup) (λ x. may_clean S.tree x) (no_cleanup_start plan m S cpu) from below (all ∙ h))
+      (λ x h. skips_by plan m S (group.Starts cpu rank.Cleanup) (λ y. may_clean S.tree y) (no_cleanup_start plan m S cpu) from x few (all ∙ h))
   start_answer_by cpu rank.Destroy from o below few e =
       let all = ap (λ n. find (λ x. nat_le from x && is_cleaned (life_of S.tree x)) (range_with_len 0 n)) (declared_places (is_declared_somewhere plan callback.EvtDestroyCallback) (next_id S.tree) from below) in
       by_option (group.Starts cpu rank.Destroy) from o (next_start S rank.Destroy from) e

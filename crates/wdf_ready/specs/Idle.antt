@@ -1,6 +1,6 @@
 -- When nothing may come of a group, as levels and counts say without a look at its places; and of which places of a
 -- group for requests something may come. (own)
-use Rattle.std.specs.Prelude.{if◌then◌else◌, ℕ, Bool, true, false, not, ◌&&◌, ◌≡◌, ◌<◌, ◌≤◌, nat_le, nat_lt, length, Option, Some, None, find, slice_get}
+use Rattle.std.specs.Prelude.{if◌then◌else◌, ℕ, Bool, true, false, not, ◌&&◌, nat_le, nat_lt, length, Option, Some, None, find, slice_get}
 use Rattle.std.specs.List.{list_any}
 use Rattle.wdf_base.specs.Callbacks.{row_of}
 use Rattle.wdf_base.specs.Same.{same_option, same_step}
@@ -26,10 +26,9 @@ use Rattle.wdf_model.specs.parts.Interrupts.{is_enabled}
 use Rattle.wdf_model.specs.parts.Pnp.{next_step, steps_left}
 use Rattle.wdf_model.specs.parts.Queues.{is_empty_queue, is_free}
 use Rattle.wdf_model.specs.parts.Targets.{the_target}
-use Rattle.wdf_model.specs.parts.Tree.{life_of, nearest_device}
+use Rattle.wdf_model.specs.parts.Tree.{life_of, may_clean, nearest_device}
 use Rattle.wdf_model.specs.rules.Groups.{callback_for, places_in}
 use Rattle.wdf_model.specs.rules.Starts.{level_fits, rank_ready_for}
-use Rattle.wdf_tree.specs.Turns.{has_turn}
 
 -- ---- levels
 
@@ -90,7 +89,7 @@ search_len plan S g = if is_idle plan S g then 0 else places_in plan S g
 -- the first id from one on that a rank's callback may start on, as far as lives say. A cleanup callback may start on what
 -- is Asked and has its turn, a destroy callback on what is cleaned, another on any.
 abbrev pub next_start : {A : Type 0} → State A → Rank → ℕ → Option ℕ
-next_start S rank.Cleanup from = find (λ o. nat_le from o && has_turn S.tree o) (ids_of S.tree.nodes)
+next_start S rank.Cleanup from = find (λ o. nat_le from o && may_clean S.tree o) (ids_of S.tree.nodes)
 next_start S rank.Destroy from = find (λ o. nat_le from o && is_cleaned (life_of S.tree o)) (ids_of S.tree.nodes)
 next_start S _ from = Some from
 
@@ -103,14 +102,3 @@ is_sending_due plan S t (Some s) = rank_ready_for plan S rank.Completion callbac
 abbrev pub is_due_at : {A : Type 0} → Plan → State A → Rank → ℕ → ℕ → Bool
 is_due_at plan S rank.Completion t k = is_sending_due plan S t (slice_get (the_target S.targets t).sent k)
 is_due_at plan S r q k = rank_ready_for plan S (row_of (callback_for r)).rank (callback_for r) q k
-
--- no place from one on below an end passes a test
-abbrev pub NoneFrom : (ℕ → Bool) → ℕ → ℕ → Type 0
-NoneFrom test from end = (place : ℕ) → from ≤ place → place < end → test place ≡ false
-
--- the first such place that does
-pub record IsNext (test : ℕ → Bool) (from end place : ℕ) : Type 0 where
-  pub after : from ≤ place
-  pub within : place < end
-  pub passes : test place ≡ true
-  pub before : NoneFrom test from place

@@ -1,3 +1,5 @@
 pub mod Actors
 pub mod Idle
 pub mod Search
+pub mod Leaving
+pub mod Lesser

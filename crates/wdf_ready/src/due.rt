@@ -3,6 +3,7 @@ ghost use Rattle.std.specs.Prelude.{◌≡◌, ◌<◌, ◌≤◌, ◌^◌, leng
 ghost use Rattle.wdf_base.specs.declared.rank.Rank.TheVariants as rank;
 ghost use Rattle.wdf_model.specs.parts.Targets as targets;
 ghost use Rattle.wdf_model.specs.rules.Groups as groups;
+ghost use Rattle.wdf_sets.specs.Nexts.{IsNext, NoneFrom};
 ghost use Rattle.wdf_ready.specs.Idle as idle;
 
 use crate::candidates::callback_for;
@@ -55,8 +56,8 @@ fn next_cancel<A: Agent>(
 ) -> Option<usize>
     requires within { end ≤ groups.places_for plan.now parts.now rank.Cancel q.0 }
     requires small { end ≤ 2 ^ 32 }
-    ensures { MatchOption result (idle.NoneFrom (idle.is_due_at plan.now parts.now rank.Cancel q.0) from end)
-        (λ place. idle.IsNext (idle.is_due_at plan.now parts.now rank.Cancel q.0) from end place) }
+    ensures { MatchOption result (NoneFrom (idle.is_due_at plan.now parts.now rank.Cancel q.0) from end)
+        (λ place. IsNext (idle.is_due_at plan.now parts.now rank.Cancel q.0) from end place) }
 {
     let mut at = from;
     'search: while at < end {
@@ -86,8 +87,8 @@ fn next_of_all<A: Agent>(
 ) -> Option<usize>
     requires within { end ≤ groups.places_for plan.now parts.now rank object.0 }
     requires small { end ≤ 2 ^ 32 }
-    ensures { MatchOption result (idle.NoneFrom (idle.is_due_at plan.now parts.now rank object.0) from end)
-        (λ place. idle.IsNext (idle.is_due_at plan.now parts.now rank object.0) from end place) }
+    ensures { MatchOption result (NoneFrom (idle.is_due_at plan.now parts.now rank object.0) from end)
+        (λ place. IsNext (idle.is_due_at plan.now parts.now rank object.0) from end place) }
 {
     for place in from..end {
         if is_due_at(plan, parts, rank, object, place) {
@@ -108,8 +109,8 @@ pub(crate) fn next_due<A: Agent>(
 ) -> Option<usize>
     requires within { end ≤ groups.places_for plan.now parts.now rank object.0 }
     requires small { end ≤ 2 ^ 32 }
-    ensures { MatchOption result (idle.NoneFrom (idle.is_due_at plan.now parts.now rank object.0) from end)
-        (λ place. idle.IsNext (idle.is_due_at plan.now parts.now rank object.0) from end place) }
+    ensures { MatchOption result (NoneFrom (idle.is_due_at plan.now parts.now rank object.0) from end)
+        (λ place. IsNext (idle.is_due_at plan.now parts.now rank object.0) from end place) }
 {
     match rank {
         Rank::Cancel => next_cancel(plan, parts, object, from, end),
@@ -138,8 +139,8 @@ pub(crate) fn next_startable<A: Agent>(
     end: usize,
 ) -> Option<usize>
     requires small { end ≤ 2 ^ 32 }
-    ensures { MatchOption result (idle.NoneFrom (idle.can_start_at parts.now rank) from end)
-        (λ place. idle.IsNext (idle.can_start_at parts.now rank) from end place) }
+    ensures { MatchOption result (NoneFrom (idle.can_start_at parts.now rank) from end)
+        (λ place. IsNext (idle.can_start_at parts.now rank) from end place) }
 {
     for place in from..end {
         if can_start_at(parts, rank, ObjectId(place as u32)) {

@@ -11,6 +11,7 @@ mod due;
 mod endings;
 mod groups;
 mod idle;
+mod leaving;
 mod search;
 mod started;
 

@@ -4,13 +4,15 @@ ghost use Rattle.wdf_model.specs.declared.enums.Group.TheVariants as group;
 ghost use Rattle.wdf_model.specs.rules.Groups as groups;
 ghost use Rattle.wdf_ready.specs.Actors as actors;
 ghost use Rattle.wdf_ready.specs.Idle as idle;
+ghost use Rattle.wdf_ready.specs.Leaving.{DeletedSettled, group_of};
 ghost use Rattle.wdf_ready.specs.Search as search;
 
 use crate::actor::is_by;
-use crate::candidates::{candidate, completion_at, places_in};
+use crate::candidates::{candidate, completion_at, is_declared_somewhere, places_in};
 use crate::direct::{cleanup_offered, completion_offered, completions_len, end_offered, own_len};
 use crate::due::{next_due, next_startable};
 use crate::idle::is_idle;
+use crate::leaving::{Leaving, numbered_at, numbered_len};
 use crate::started::start_offered;
 use wdf_base::{Actor, Agent, Cpu, Event, ObjectId, Rank};
 use wdf_model::Group;
@@ -136,15 +138,33 @@ fn place_of(id: Option<ObjectId>) -> Option<usize>
     id.map(|id| id.0 as usize)
 }
 
-/// How many events may come of a group's places. Completions are counted without a search.
+/// How many cleanups or destructions may come. They are counted without a search where nothing declares their callback.
+fn leaving_len<A: Agent>(plan: &IndexedPlan, parts: &Parts<A>, leaving: Leaving) -> usize
+    requires agents { length parts.now.agents ≤ 2 ^ 16 }
+    requires settled { DeletedSettled parts.now }
+    ensures length { result ≡ length (search.offered_from plan.now A.meaning parts.now (group_of leaving) 0) }
+    ensures small { result ≤ 2 ^ 32 }
+{
+    if is_declared_somewhere(plan, leaving.callback()) {
+        searched_len(plan, parts, leaving.group())
+    } else {
+        numbered_len(plan, parts, leaving)
+    }
+}
+
+/// How many events may come of a group's places. Completions are counted without a search, and so are cleanups and
+/// destructions that have no callback.
 pub(crate) fn offered_len<A: Agent>(plan: &IndexedPlan, parts: &Parts<A>, group: Group) -> usize
     requires agents { length parts.now.agents ≤ 2 ^ 16 }
+    requires settled { DeletedSettled parts.now }
     ensures length { result ≡ length (search.offered_from plan.now A.meaning parts.now group 0) }
     ensures small { result ≤ 2 ^ 32 }
 {
     match group {
         Group::OwnEvent { cpu } => own_len(plan, parts, Cpu(cpu)),
         Group::Completions => completions_len(plan, parts),
+        Group::Cleanups => leaving_len(plan, parts, Leaving::Cleanup),
+        Group::Destroys => leaving_len(plan, parts, Leaving::Destroy),
         _ => searched_len(plan, parts, group),
     }
 }
@@ -167,6 +187,25 @@ fn searched_len<A: Agent>(plan: &IndexedPlan, parts: &Parts<A>, group: Group) ->
     count
 }
 
+/// The k-th of the cleanups or destructions that may come, or how many places of a list are left after them.
+fn leaving_at<A: Agent>(
+    plan: &IndexedPlan,
+    parts: &Parts<A>,
+    leaving: Leaving,
+    k: usize,
+) -> Result<Event, usize>
+    requires agents { length parts.now.agents ≤ 2 ^ 16 }
+    requires settled { DeletedSettled parts.now }
+    ensures { MatchResult result (λ event. slice_get (search.offered_from plan.now A.meaning parts.now (group_of leaving) 0) k ≡ Some event)
+        (λ rest. length (search.offered_from plan.now A.meaning parts.now (group_of leaving) 0) + rest ≡ k) }
+{
+    if is_declared_somewhere(plan, leaving.callback()) {
+        searched_at(plan, parts, leaving.group(), k)
+    } else {
+        numbered_at(plan, parts, leaving, k)
+    }
+}
+
 /// The k-th of the events that may come of a group's places, or how many places of a list are left after
 /// them.
 pub(crate) fn offered_at<A: Agent>(
@@ -176,11 +215,14 @@ pub(crate) fn offered_at<A: Agent>(
     k: usize,
 ) -> Result<Event, usize>
     requires agents { length parts.now.agents ≤ 2 ^ 16 }
+    requires settled { DeletedSettled parts.now }
     ensures { MatchResult result (λ event. slice_get (search.offered_from plan.now A.meaning parts.now group 0) k ≡ Some event)
         (λ rest. length (search.offered_from plan.now A.meaning parts.now group 0) + rest ≡ k) }
 {
     match group {
         Group::Completions => completion_offered(plan, parts, k),
+        Group::Cleanups => leaving_at(plan, parts, Leaving::Cleanup, k),
+        Group::Destroys => leaving_at(plan, parts, Leaving::Destroy, k),
         _ => searched_at(plan, parts, group, k),
     }
 }
@@ -215,6 +257,7 @@ fn searched_at<A: Agent>(
 pub fn allowed_len<A: Agent>(plan: &IndexedPlan, parts: &Parts<A>, all: &[Group]) -> usize
     requires agents { length parts.now.agents ≤ 2 ^ 16 }
     requires few { length all.now < 2 ^ 20 }
+    requires settled { DeletedSettled parts.now }
     ensures length { result ≡ length (search.events_of plan.now A.meaning parts.now all.now) }
     ensures small { result < 2 ^ 60 }
 {
@@ -232,7 +275,8 @@ pub fn allowed_at<A: Agent>(
     all: &[Group],
     k: usize,
 ) -> Option<Event>
-    requires { length parts.now.agents ≤ 2 ^ 16 }
+    requires agents { length parts.now.agents ≤ 2 ^ 16 }
+    requires settled { DeletedSettled parts.now }
     ensures { result ≡ slice_get (search.events_of plan.now A.meaning parts.now all.now) k }
 {
     let mut left = k;

@@ -1,18 +1,19 @@
 -- The members of a set, after an entry was written, and as the requests that pass its test.
-use Rattle.std.proofs.Common.{if◌then◌else◌, ℕ, zero, suc, ◌≡◌, ◌⊎◌, ◌+◌, ◌-◌, ◌<◌, ◌≤◌, nat_le, Bool, true, false, List, [], ◌∷◌, Some, length, slice_get, slice_set, refl, ap, sym, ◌∙◌, inl, inr, get_or-set_same, get_or-set_other, length-set, replicate, arith}
+use Rattle.std.proofs.Common.{if◌then◌else◌, ℕ, zero, suc, ◌≡◌, ◌⊎◌, ◌+◌, ◌-◌, ◌<◌, ◌≤◌, Bool, false, List, [], ◌∷◌, Option, Some, None, MatchOption, option_map, length, slice_set, refl, ap, sym, ◌∙◌, inl, inr, get_or-set_same, get_or-set_other, length-set, replicate, arith}
 use Rattle.std.proofs.lemmas.List.{length-replicate}
-use Rattle.std.specs.List.{filter, find, range_with_len}
+use Rattle.std.specs.List.{filter, range_with_len}
 use Rattle.std.proofs.lemmas.Bool.{cases_eq}
-use Rattle.std.proofs.lemmas.Bool.Decides.{nat_tests}
-use Rattle.wdf_base.specs.Places.{is_closing, is_due}
+use Rattle.wdf_base.specs.Places.{is_closing, is_due, is_sent}
+use Rattle.wdf_base.specs.declared.ids.ObjectId.{ObjectId}
 use Rattle.wdf_model.specs.declared.entries.Request.{Request}
 use Rattle.wdf_model.specs.declared.room.TheConstants.{OBJECTS}
 use Rattle.wdf_model.specs.Tables.{entry, put}
-use Rattle.wdf_model.specs.parts.Requests.{no_request}
+use Rattle.wdf_model.specs.parts.Requests.{Requests, no_request}
 use Rattle.wdf_model.proofs.Maps.{entry_put_same, entry_put_other, entry_past}
-use Rattle.wdf_sets.specs.Members.{is_in, members, rank}
-use Rattle.wdf_sets.proofs.Ranks.{one, rank_more, rank_mono}
-use Rattle.wdf_request.specs.Closing.{IsSetOf}
+use Rattle.wdf_sets.specs.Members.{is_in, members}
+use Rattle.wdf_sets.specs.Nexts.{IsNext, NoneFrom}
+use Rattle.wdf_sets.proofs.Nexts.{next_also, none_also}
+use Rattle.wdf_request.specs.Closing.{IsSetOf, is_out}
 
 -- ---- an entry is written
 
@@ -62,45 +63,7 @@ members_are test all bits none few set =
     ∙ ap (λ n. filter (λ r. test (entry no_request all r)) (range_with_len 0 n)) long
     ∙ filter_as_far (λ r. test (entry no_request all r)) 0 (length all) rest (λ x h. ap test (entry_past no_request all x (omega arith)) ∙ none)
 
--- ---- the first member from an id on
-
-first_by : (id a : ℕ) (rest : List ℕ) (k k' : ℕ) (b : Bool) → nat_le id a ≡ b → (id ≤ a → k ≡ 0) → (a < id → k ≡ suc k')
-    → slice_get rest k' ≡ find (nat_le id) rest → slice_get (a ∷ rest) k ≡ (if b then Some a else find (nat_le id) rest)
-first_by id a rest k k' true e none more further =
-    let near : id ≤ a = grind (arith, nat_tests) in
-    rw (none near) refl
-first_by id a rest k k' false e none more further =
-    let far : a < id = grind (arith, nat_tests) in
-    rw (more far) further
-
-from_by : (bits : List Bool) (id a : ℕ) (rest : List ℕ) (b : Bool) → is_in a bits ≡ b → a < length bits
-    → slice_get rest (rank id bits - rank (a + 1) bits) ≡ find (nat_le id) rest
-    → slice_get (if b then a ∷ rest else rest) (rank id bits - rank a bits) ≡ find (nat_le id) (if b then a ∷ rest else rest)
-from_by bits id a rest false e h further =
-    let more : rank (a + 1) bits ≡ rank a bits + one (is_in a bits) = rank_more bits a h in
-    let none : one (is_in a bits) ≡ 0 = ap one e in
-    let same : rank (a + 1) bits ≡ rank a bits = omega arith in
-    rw (← same) further
-from_by bits id a rest true e h further =
-    let more : rank (a + 1) bits ≡ rank a bits + one (is_in a bits) = rank_more bits a h in
-    let here : one (is_in a bits) ≡ 1 = ap one e in
-    first_by id a rest (rank id bits - rank a bits) (rank id bits - rank (a + 1) bits) (nat_le id a) refl
-    (λ h. let below = rank_mono bits id a h in omega arith)
-    (λ h. let below = rank_mono bits (a + 1) id (omega arith) in omega arith)
-    further
-
-from_part : (bits : List Bool) (id a n : ℕ) → a + n ≡ length bits
-    → slice_get (filter (λ x. is_in x bits) (range_with_len a n)) (rank id bits - rank a bits) ≡ find (nat_le id) (filter (λ x. is_in x bits) (range_with_len a n))
-from_part bits id a zero e = refl
-from_part bits id a (suc n) e =
-    from_by bits id a (filter (λ x. is_in x bits) (range_with_len (a + 1) n)) (is_in a bits) refl (omega arith) (from_part bits id (a + 1) n (omega arith))
-
--- the member with as many before it as there are before an id
-pub member_from : (bits : List Bool) (id : ℕ) → slice_get (members bits) (rank id bits) ≡ find (nat_le id) (members bits)
-member_from bits id =
-    let first : rank 0 bits ≡ 0 = refl in
-    let same : rank id bits - rank 0 bits ≡ rank id bits = omega arith in
-    rw same at (from_part bits id 0 (length bits) (omega arith))
+-- ---- each set
 
 -- the members are the requests that the framework will complete
 pub members_closing : (all : List Request) (bits : List Bool) → length all ≤ OBJECTS → IsSetOf (λ (r : Request). is_closing r.place) all bits
@@ -111,6 +74,17 @@ members_closing all bits few set = members_are (λ (r : Request). is_closing r.p
 pub members_due : (all : List Request) (bits : List Bool) → length all ≤ OBJECTS → IsSetOf (λ (r : Request). is_due r.info.mark) all bits
     → members bits ≡ filter (λ r. is_due (entry no_request all r).info.mark) (range_with_len 0 (length all))
 members_due all bits few set = members_are (λ (r : Request). is_due r.info.mark) all bits refl few set
+
+-- the first request from an id on that is Sent
+pub next_out : (R : Requests) (bits : List Bool) (from : ℕ) (found : Option ℕ) (result : Option ObjectId) → IsSetOf (λ (r : Request). is_sent r.place) R.all bits → option_map (λ (r : ObjectId). r.0) result ≡ found
+    → MatchOption found (NoneFrom (λ id. is_in id bits) from OBJECTS) (λ id. IsNext (λ x. is_in x bits) from OBJECTS id)
+    → MatchOption result (NoneFrom (is_out R) from OBJECTS) (λ (r : ObjectId). IsNext (is_out R) from OBJECTS r.0)
+next_out R bits from None None h e k = none_also (λ id. is_in id bits) (is_out R) from OBJECTS (λ id above below. h.same id) k
+next_out R bits from (Some x) (Some r) h e k =
+    let same : r.0 ≡ x = cc in
+    rw same (next_also (λ id. is_in id bits) (is_out R) from OBJECTS (λ id above below. h.same id) x k)
+next_out R bits from None (Some r) h e k = absurd (let z : ⊥ = cc in z)
+next_out R bits from (Some x) None h e k = absurd (let z : ⊥ = cc in z)
 
 -- ---- the empty set
 

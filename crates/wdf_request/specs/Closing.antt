@@ -1,6 +1,7 @@
--- The requests that the framework will complete, and those for which EvtRequestCancel is due, as sets of ids.
+-- The requests that the framework will complete, those for which EvtRequestCancel is due, and those that are Sent, as
+-- sets of ids.
 use Rattle.std.specs.Prelude.{ℕ, ◌≡◌, ◌≤◌, Bool, List, filter, length}
-use Rattle.wdf_base.specs.Places.{is_closing, is_due}
+use Rattle.wdf_base.specs.Places.{is_closing, is_due, is_sent}
 use Rattle.wdf_model.specs.declared.entries.Request.{Request}
 use Rattle.wdf_model.specs.declared.room.TheConstants.{OBJECTS}
 use Rattle.wdf_model.specs.Tables.{entry, ids_of}
@@ -13,6 +14,10 @@ closing_requests R = filter (λ r. is_closing (place_of R r)) (ids_of R.all)
 
 abbrev pub due_requests : Requests → List ℕ
 due_requests R = filter (λ r. is_due (mark_of R r)) (ids_of R.all)
+
+-- whether a request is Sent
+abbrev pub is_out : Requests → ℕ → Bool
+is_out R r = is_sent (place_of R r)
 
 -- The set has a bit for each object, and its members are the requests that pass a test.
 pub record IsSetOf (test : Request → Bool) (all : List Request) (bits : List Bool) : Type 0 where

@@ -1,6 +1,6 @@
 -- The requests that the fields stand for, and what is kept beside them.
 use Rattle.std.specs.Prelude.{◌≡◌, ◌≤◌, count_by, length, vec_capacity}
-use Rattle.wdf_base.specs.Places.{is_closing, is_due}
+use Rattle.wdf_base.specs.Places.{is_closing, is_due, is_sent}
 use Rattle.wdf_model.specs.declared.room.TheConstants.{OBJECTS}
 use Rattle.wdf_model.specs.declared.entries.Request.{Request}
 use Rattle.wdf_model.specs.parts.Requests.{Requests}
@@ -24,4 +24,5 @@ pub record IsSound (s : Inside) : Type 0 where
   pub open_count : s.open_count ≡ count_by is_open_request s.all.items
   pub closing : IsSetOf (λ (r : Request). is_closing r.place) s.all.items s.closing
   pub due : IsSetOf (λ (r : Request). is_due r.info.mark) s.all.items s.due
+  pub sendings : IsSetOf (λ (r : Request). is_sent r.place) s.all.items s.sendings
   pub noted : IsNoted s.all.items s.arrivals

@@ -1,4 +1,4 @@
-ghost use Rattle.std.specs.Prelude.{◌≡◌, ◌<◌, ◌≤◌, ◌==◌, IfOk, find, length, max, nat_le, option_map, slice_get};
+ghost use Rattle.std.specs.Prelude.{◌≡◌, ◌<◌, ◌≤◌, ◌==◌, IfOk, MatchOption, find, length, max, nat_le, option_map, slice_get};
 ghost use Rattle.std.specs.List.{list_any};
 ghost use Rattle.wdf_base.specs.Places.{is_returning_to, is_sent_to};
 ghost use Rattle.wdf_model.specs.Tables.{put};
@@ -7,7 +7,9 @@ ghost use Rattle.wdf_model.specs.parts.Requests.{no_request};
 ghost use Rattle.wdf_model.specs.rules.Ready.{is_open_request};
 ghost use Rattle.wdf_model.specs.rules.Starts.{is_unfinished_at};
 ghost use Rattle.wdf_maps.specs.Counts.{is_at};
-ghost use Rattle.wdf_request.specs.Closing.{closing_requests, due_requests};
+ghost use Rattle.wdf_model.specs.declared.room.TheConstants.{OBJECTS};
+ghost use Rattle.wdf_sets.specs.Nexts.{IsNext, NoneFrom};
+ghost use Rattle.wdf_request.specs.Closing.{closing_requests, due_requests, is_out};
 
 mod closing;
 
@@ -43,6 +45,8 @@ pub struct Requests {
     closing: IdSet,
     /// Those for which EvtRequestCancel is due.
     due: IdSet,
+    /// Those that are Sent.
+    sendings: IdSet,
     /// Which each arrival made.
     arrivals: Arrivals,
 }
@@ -73,6 +77,7 @@ impl Requests {
             open_count: 0,
             closing: IdSet::make(alloc, OBJECTS)?,
             due: IdSet::make(alloc, OBJECTS)?,
+            sendings: IdSet::make(alloc, OBJECTS)?,
             arrivals: Arrivals::make(alloc, plan)?,
         })
     }
@@ -236,6 +241,13 @@ impl Requests {
         object_at(self.due.from(from.0))
     }
 
+    /// The first request from an id on that is Sent.
+    pub fn next_sent(&self, from: ObjectId) -> Option<ObjectId>
+        ensures { MatchOption result (NoneFrom (is_out self.now) from.0 OBJECTS) (λ r. IsNext (is_out self.now) from.0 OBJECTS r.0) }
+    {
+        object_at(self.sendings.next(from.0, OBJECTS))
+    }
+
     /// Writes what is kept of a request.
     fn write(&mut self, r: ObjectId, request: Request)
         requires there { r.0 < max (length self.old.all) OBJECTS }
@@ -254,6 +266,7 @@ impl Requests {
         self.open_count = self.open_count + open_flag(request) - open_flag(old);
         self.closing.put(r.0, request.place.is_closing());
         self.due.put(r.0, request.info.mark.is_due());
+        self.sendings.put(r.0, request.place.is_sent());
         let info = &request.info;
         self.arrivals.note(info.agent, info.arrival, r.0);
         put_at(&mut self.all, NO_REQUEST, r.0, request);

@@ -2,7 +2,7 @@
 use Rattle.std.proofs.Common.{ℕ, List}
 use Rattle.wdf_output.specs.Said.{Sinking}
 use Rattle.wdf_serve.specs.Promises.{Promises}
-use Rattle.wdf_serve.specs.Words.{is_run, service_for}
+use Rattle.wdf_serve.specs.Words.{is_threaded, service_for}
 use Rattle.wdf_serve.proofs.Ended as ended
 use Rattle.wdf_serve.proofs.Forms.{usage_is, usage_of}
 use Rattle.wdf_top.specs.Top.{Sourcing, Tells}
@@ -18,6 +18,6 @@ promised words s k answer told = record {
   fault = ended.fault (service_for words) s k answer told;
   stuck = ended.stuck (service_for words) s k answer told;
   limit = ended.limit (service_for words) s k answer told;
-  usage_only = λ same. usage_is (is_run words) (form_of_words words) (cause.usage_only (service_for words) s k answer told same);
+  usage_only = λ same. usage_is (is_threaded words) (form_of_words words) (cause.usage_only (service_for words) s k answer told same);
   usage_always = λ other none_of. cause.usage_always (service_for words) s k answer (usage_of words other none_of) told;
 }

@@ -4,7 +4,7 @@ use Rattle.wdf_base.specs.declared.event.Ending.TheVariants as ending
 use Rattle.wdf_base.specs.declared.event.Fault.{Fault}
 use Rattle.wdf_output.specs.Said.{Sinking}
 use Rattle.wdf_serve.specs.Runs.{WroteRunTo, WroteSomeRun, is_end_status}
-use Rattle.wdf_serve.specs.Words.{is_run, service_for}
+use Rattle.wdf_serve.specs.Words.{is_threaded, service_for}
 use Rattle.wdf_top.specs.Agents.{RunAgents}
 use Rattle.wdf_top.specs.Answers.{Picking, Run}
 use Rattle.wdf_top.specs.Promises.{ServicePromises}
@@ -25,6 +25,6 @@ pub record Promises (words : List (List ℕ)) (s : Sourcing) (k : Sinking) (answ
   pub fault : (a : RunAgents) (by : Picking) → service_for words ≡ Reads (Run a by) → answer ≡ 3 → (f : Fault) × WroteRunTo a by s k 3 (ending.Fault f)
   pub stuck : (a : RunAgents) (by : Picking) → service_for words ≡ Reads (Run a by) → answer ≡ 4 → WroteRunTo a by s k 4 ending.Stuck
   pub limit : (a : RunAgents) (by : Picking) → service_for words ≡ Reads (Run a by) → answer ≡ 5 → WroteRunTo a by s k 5 ending.Limit
-  -- 2 comes exactly where the words are neither `run` nor one of the other forms, unless the sink fails.
-  pub usage_only : answer ≡ 2 → (is_run words ≡ false) × (form_of_words words ≡ None)
-  pub usage_always : is_run words ≡ false → form_of_words words ≡ None → (answer ≡ 2) ⊎ (answer ≡ 13)
+  -- 2 comes exactly where the words are neither `run` nor `watch` nor one of the other forms, unless the sink fails.
+  pub usage_only : answer ≡ 2 → (is_threaded words ≡ false) × (form_of_words words ≡ None)
+  pub usage_always : is_threaded words ≡ false → form_of_words words ≡ None → (answer ≡ 2) ⊎ (answer ≡ 13)

@@ -6,9 +6,10 @@ ghost use Rattle.wdf_serve.specs.Promises.{Promises};
 ghost use Rattle.wdf_serve.specs.Words.{service_for};
 ghost use Rattle.wdf_top.specs.Top.{sourcing, Tells};
 
-use crate::run::run_input;
-use crate::words::is_run;
+use crate::run::serve_threaded;
+use crate::words::{is_threaded, is_watch};
 use std::alloc::Global;
+use std::sync::Wait;
 use std::thread::Threads;
 use wdf_io::{Sink, Source};
 use wdf_top::top_plain;
@@ -22,9 +23,11 @@ use wdf_turn::Gate;
 /// every other list of words this is [`top_plain`]. The statuses are those of [`top_plain`]: `run` answers as
 /// `order` does.
 ///
-/// For every form but `run` it is [`top_plain`], which always returns; no clause says that of this call. For `run` it returns
-/// if the gate and the threads do.
-pub fn top<R: Threads + Sync, S: Source, K: Sink, G: Gate + Sync>(
+/// `watch` makes a run as `run` does, and writes each line as soon as its event is in the history, while the workers go on.
+///
+/// For every form but `run` and `watch` it is [`top_plain`], which always returns; no clause says that of this call. For these two it
+/// returns if the gate and the threads do.
+pub fn top<R: Threads + Wait + Sync, S: Source, K: Sink + Send, G: Gate + Sync>(
     rt: &R,
     alloc: Global,
     words: &[String],
@@ -44,8 +47,8 @@ pub fn top<R: Threads + Sync, S: Source, K: Sink, G: Gate + Sync>(
     answer(rt, alloc, words, source, sink, gate)
 }
 
-/// Has threads run the input where the words are `run`, and hands other words on.
-fn answer<R: Threads + Sync, S: Source, K: Sink, G: Gate + Sync>(
+/// Has threads run the input where the words are `run` or `watch`, and hands other words on.
+fn answer<R: Threads + Wait + Sync, S: Source, K: Sink + Send, G: Gate + Sync>(
     rt: &R,
     alloc: Global,
     words: &[String],
@@ -59,8 +62,8 @@ fn answer<R: Threads + Sync, S: Source, K: Sink, G: Gate + Sync>(
         result }
     ensures not_again { result ≡ 13 → EndsRefused K.refused K.faults sink.old sink.new }
 {
-    if is_run(words) {
-        run_input(rt, alloc, source, sink, gate)
+    if is_threaded(words) {
+        serve_threaded(rt, alloc, is_watch(words), source, sink, gate)
     } else {
         top_plain(alloc, words, source, sink)
     }

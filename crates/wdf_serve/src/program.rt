@@ -19,6 +19,7 @@ use std::alloc::{AllocError, Global};
 use std::env::Args;
 use std::io;
 use std::io::{ErrorKind, Read, Write};
+use std::sync::Wait;
 use std::thread::Threads;
 use wdf_io::{ReadSource, WriteSink};
 use wdf_output::{Refusal, tell};
@@ -30,7 +31,7 @@ use wdf_turn::Gate;
 ///
 /// Where the system can't give the arguments there are no words. Where memory for them is refused, the
 /// line `out of memory` is written, with the status 15, and nothing is read.
-pub fn serve<T: Threads + Sync, R: Read, W: Write, G: Gate + Sync>(
+pub fn serve<T: Threads + Wait + Sync, R: Read, W: Write + Send, G: Gate + Sync>(
     rt: &T,
     alloc: Global,
     arguments: io::Result<Args>,
@@ -43,10 +44,10 @@ pub fn serve<T: Threads + Sync, R: Read, W: Write, G: Gate + Sync>(
         (sourcing source.old.left source.new.left source.old.faults source.new.faults)
         (sinking sink.old.written sink.new.written sink.old.faults sink.new.faults)
         result }
-    // For words that ask for a run, as `order`, `seed N`, `run`, `idle` and `stack` do, 0, 3, 4 and 5 come only where what was
-    // written is the text of a run of the written machine from the opening of the whole input's plan, with the agents that
-    // the words ask for. That run has ended, the status is its ending's, and it keeps the nine laws of a trace and those of
-    // its agents.
+    // For words that ask for a run, as `order`, `seed N`, `run`, `watch`, `idle` and `stack` do, 0, 3, 4 and 5 come only where
+    // what was written is the text of a run of the written machine from the opening of the whole input's plan, with the agents
+    // that the words ask for. That run has ended, the status is its ending's, and it keeps the nine laws of a trace and those
+    // of its agents.
     ensures headline { (a : RunAgents) (by : Picking) → service_for (words_after_name arguments) ≡ Reads (Run a by) → IsTrue (is_end_status result)
         → WroteSomeRun a by (sourcing source.old.left source.new.left source.old.faults source.new.faults)
         (sinking sink.old.written sink.new.written sink.old.faults sink.new.faults) result }

@@ -2,3 +2,4 @@ pub mod Ranks
 mod Ones
 mod Passing
 mod Changes
+pub mod Nexts

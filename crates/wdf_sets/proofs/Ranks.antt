@@ -191,3 +191,37 @@ members_where bits p n e past = same_filter (λ x. is_in x bits) p 0 (length bit
     by_length : (length bits < n) ⊎ (n ≤ length bits) → filter p (range_with_len 0 (length bits)) ≡ filter p (range_with_len 0 n)
     by_length (inl shorter) = sym (none_past p 0 (length bits) n (omega arith) (λ x h. sym (e x) ∙ get_or_past bits x false (omega arith)))
     by_length (inr longer) = none_past p 0 n (length bits) longer (λ x h. past x (omega arith))
+
+-- ---- how many members a part of the ids has
+
+rank_step : (bits : List Bool) (x : ℕ) → rank (x + 1) bits ≡ rank x bits + one (is_in x bits)
+rank_step bits x = by (cases_lt x (length bits))
+  where
+    by : (x < length bits) ⊎ (length bits ≤ x) → rank (x + 1) bits ≡ rank x bits + one (is_in x bits)
+    by (inl there) = rank_more bits x there
+    by (inr past) =
+        let off : one (is_in x bits) ≡ 0 = ap one (get_or_past bits x false past) in
+        let here = rank_past bits x past in
+        let more = rank_past bits (x + 1) (omega arith) in
+        omega arith
+
+-- as many as ids there meet the test
+rank_further : (bits : List Bool) (p : ℕ → Bool) → ((x : ℕ) → is_in x bits ≡ p x) → (a n : ℕ) → rank (a + n) bits ≡ rank a bits + length (filter p (range_with_len a n))
+rank_further bits p e a zero = let z : a + 0 ≡ a = omega arith in rw z (omega arith)
+rank_further bits p e a (suc n) =
+    let z : a + suc n ≡ a + 1 + n = omega arith in
+    let rest : rank (a + 1 + n) bits ≡ rank (a + 1) bits + length (filter p (range_with_len (a + 1) n)) = rank_further bits p e (a + 1) n in
+    let step : rank (a + 1) bits ≡ rank a bits + one (p a) = rank_step bits a ∙ ap (λ b. rank a bits + one b) (e a) in
+    ap (λ k. rank k bits) z ∙ rest ∙ by (p a) step
+  where
+    by : (b : Bool) → rank (a + 1) bits ≡ rank a bits + one b → rank (a + 1) bits + length (filter p (range_with_len (a + 1) n)) ≡ rank a bits + length (cond b (a ∷ filter p (range_with_len (a + 1) n)) (filter p (range_with_len (a + 1) n)))
+    by true step = omega arith
+    by false step = omega arith
+
+-- the members below an id
+pub rank_first : (bits : List Bool) (p : ℕ → Bool) → ((x : ℕ) → is_in x bits ≡ p x) → (id : ℕ) → rank id bits ≡ length (filter p (range_with_len 0 id))
+rank_first bits p e id =
+    let first : rank 0 bits ≡ 0 = refl in
+    let z : 0 + id ≡ id = omega arith in
+    let all : rank (0 + id) bits ≡ rank 0 bits + length (filter p (range_with_len 0 id)) = rank_further bits p e 0 id in
+    ap (λ k. rank k bits) (sym z) ∙ all ∙ omega arith

@@ -2,3 +2,4 @@ pub mod Members
 pub mod Words
 pub mod Parts
 pub mod Counted
+pub mod Nexts

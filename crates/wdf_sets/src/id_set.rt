@@ -1,6 +1,7 @@
-ghost use Rattle.std.specs.Prelude.{◌≡◌, ◌+◌, ◌*◌, ◌/◌, ◌<◌, ◌≤◌, ◌^◌, IfOk, false, length, replicate, slice_get, slice_set};
+ghost use Rattle.std.specs.Prelude.{◌≡◌, ◌+◌, ◌*◌, ◌/◌, ◌<◌, ◌≤◌, ◌^◌, IfOk, MatchOption, false, length, replicate, slice_get, slice_set};
 ghost use Rattle.std.specs.Int.{div_ceil};
 ghost use Rattle.wdf_sets.specs.Members.{is_in, members, rank};
+ghost use Rattle.wdf_sets.specs.Nexts.{IsNext, NoneFrom};
 ghost use Rattle.wdf_sets.specs.Parts.{HasMember, number_of};
 
 use crate::bits::{Bits, Part, WORD};
@@ -137,6 +138,16 @@ impl IdSet {
         ensures { result ≡ slice_get (members self.now) (rank id self.now) }
     {
         self.at(self.before(id))
+    }
+
+    /// The first member from an id on that is below an end, `None` where there is none.
+    pub fn next(&self, from: u32, end: u32) -> Option<u32>
+        ensures { MatchOption result (NoneFrom (λ id. is_in id self.now) from end) (λ found. IsNext (λ id. is_in id self.now) from end found) }
+    {
+        match self.from(from) {
+            Some(found) => { if found < end { Some(found) } else { None } }
+            None => None,
+        }
     }
 
     /// The block of the member that has as many before it.

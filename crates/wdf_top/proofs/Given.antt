@@ -13,8 +13,9 @@ use Rattle.wdf_input.specs.declared.input.TheConstants.{INPUT_LIMIT}
 use Rattle.wdf_top.specs.Answers.{Answering, Answers, HasNoScene, HasNoPlan, HasPlan, IsTraceOf, Picking, answering_of, running}
 use Rattle.wdf_top.specs.Causes.{IsGiven, Stayed, Unhindered}
 use Rattle.wdf_input.specs.Input.{TakesAll, TakesAtMost, TakesCount, UsesUp}
+use Rattle.wdf_output.specs.Refusals.{no_memory_line}
 use Rattle.wdf_output.specs.Said.{Sinking, IsCutShort}
-use Rattle.wdf_top.specs.Top.{Sourcing, IsAnswered, IsReadDue, Tells, TellsBy, Usage, Reads, Scenario, Summary, Service, scenario_by}
+use Rattle.wdf_top.specs.Top.{Sourcing, IsAnswered, IsReadDue, Tells, TellsBy, TellsPlan, Usage, Reads, Scenario, Summary, Service, scenario_by}
 use Rattle.wdf_top.proofs.Statuses.{IsReader}
 
 -- ---- what was read
@@ -140,19 +141,28 @@ over_always way s k answer (text, status, due, inl said) left told over stayed =
 
 -- ---- an input that is given
 
--- where the input is given, what is due is its answer, or memory was wanting
-due_given : (way : Answering) (s : Sourcing) (text : List ℕ) (status : ℕ) (input : List ℕ) → IsGiven s input → IsReadDue way s text status → (status ≡ 15) ⊎ Answers way input text status
-due_given way s text status input given (inl p) =
+-- where the input is given, what is due is its answer, or the line `out of memory`
+due_or_memory : (way : Answering) (s : Sourcing) (text : List ℕ) (status : ℕ) (input : List ℕ) → IsGiven s input → IsReadDue way s text status
+    → ((text ≡ no_memory_line) × (status ≡ 15)) ⊎ Answers way input text status
+due_or_memory way s text status input given (inl p) =
     let whole : TakesAll (Some input) s.after p.0 = rw given.told at p.1.0 in
     inr (rw whole.0 p.2)
-due_given way s text status input given (inr (inl p)) =
+due_or_memory way s text status input given (inr (inl p)) =
     let taken : Takes (Some input) s.after p.0.0 = rw given.told at p.0.2 in
     let within : length p.0.0 ≤ length input = counted_within input p.0.0 s.after taken in
     let many : length p.0.0 ≡ INPUT_LIMIT + 1 = p.0.1 in
     let small : length input ≤ INPUT_LIMIT = given.small in
     absurd (omega arith)
-due_given way s text status input given (inr (inr (inl p))) = absurd (given.stayed p.0)
-due_given way s text status input given (inr (inr (inr p))) = inl p.3
+due_or_memory way s text status input given (inr (inr (inl p))) = absurd (given.stayed p.0)
+due_or_memory way s text status input given (inr (inr (inr p))) = inl (p.2, p.3)
+
+-- so memory was wanting, or it is the answer
+due_given : (way : Answering) (s : Sourcing) (text : List ℕ) (status : ℕ) (input : List ℕ) → IsGiven s input → IsReadDue way s text status → (status ≡ 15) ⊎ Answers way input text status
+due_given way s text status input given due =
+    elim (due_or_memory way s text status input given due) [
+      | inl h ↦ inl h.1
+      | inr h ↦ inr h
+    ]
 
 -- What is written for an input that is given, where the sink doesn't fail: its answer, with its status, unless memory was wanting.
 pub answers_given : (way : Answering) (s : Sourcing) (k : Sinking) (answer : ℕ) → TellsBy way s k answer
@@ -221,6 +231,15 @@ run_given m by s k answer told input given kept plan has =
     elim (answers_given (running m by) s k answer told input given kept) [
       | inl h ↦ inl h
       | inr h ↦ inr (h.0, plan_traced m by input plan has h.0 answer h.1, h.2)
+    ]
+
+-- at each exit the text of a run of the plan, or a front of it; or so of the line `out of memory`
+pub made_given : {A : Type 0} (m : Meaning A) (by : Picking) (s : Sourcing) (k : Sinking) (answer : ℕ) → TellsBy (running m by) s k answer
+    → (input : List ℕ) → IsGiven s input → (plan : Plan) → HasPlan input plan → TellsPlan plan m by k answer
+made_given m by s k answer (text, status, due, said) input given plan has =
+    elim (due_or_memory (running m by) s text status input given due) [
+      | inl h ↦ (text, status, inr h, said)
+      | inr h ↦ (text, status, inl (plan_traced m by input plan has text status h), said)
     ]
 
 -- ---- a form that reads

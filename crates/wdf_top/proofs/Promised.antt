@@ -17,6 +17,7 @@ promised v s k answer told = record {
   told = told;
   answered = λ r is. given.answers_given (answering_of r) s k answer (rw is at told);
   run = λ a by is. given.run_given (meaning_of a) by s k answer (rw is at told);
+  made = λ a by is. given.made_given (meaning_of a) by s k answer (rw is at told);
   verdict = λ is. judged.verdict_given s k answer (rw is at told);
   no_trace = λ is. judged.missing_given s k answer (rw is at told);
   generated = λ n is. cause.generated_given n s k answer (rw is at told);

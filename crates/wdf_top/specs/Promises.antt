@@ -23,7 +23,7 @@ use Rattle.wdf_split.specs.Inputs.{scenario_in, trace_in}
 use Rattle.wdf_top.specs.Agents.{RunAgents, meaning_of}
 use Rattle.wdf_top.specs.Answers.{Answers, HasNoScene, HasNoPlan, HasPlan, IsTraceOf, IsVerdict, IsSummaryOf, IsLinted, Picking, Reading, Run, Judgement, Findings, answering_of, refused_line}
 use Rattle.wdf_top.specs.Causes.{is_status, IsGiven, Stayed, Unhindered, WroteAccepted, WroteFor, WroteLint, WroteRefused, WroteRun, WroteSummary}
-use Rattle.wdf_top.specs.Top.{Sourcing, Service, Usage, Reads, Scenario, Summary, IsDue, Tells, reads_input, scenario_by}
+use Rattle.wdf_top.specs.Top.{Sourcing, Service, Usage, Reads, Scenario, Summary, IsDue, Tells, TellsPlan, reads_input, scenario_by}
 
 pub record ServicePromises (v : Service) (s : Sourcing) (k : Sinking) (answer : ℕ) : Type 0 where
   -- Which text is due with which status. It is written whole, or the sink fails and a front of it is written.
@@ -40,6 +40,10 @@ pub record ServicePromises (v : Service) (s : Sourcing) (k : Sinking) (answer : 
       → (input : List ℕ) → IsGiven s input → Stayed k.faults_before k.faults_after
       → (plan : Plan) → HasPlan input plan
       → (answer ≡ 15) ⊎ ((text : List ℕ) × IsTraceOf plan (meaning_of a) by text answer × Gains k.before k.after text)
+  -- Whatever becomes of the sink, at each exit what was written is the text of one such run. Where the sink failed it is a front
+  -- of that text. Or it is the line `out of memory`, or a front of it.
+  pub made : (a : RunAgents) (by : Picking) → v ≡ Reads (Run a by)
+      → (input : List ℕ) → IsGiven s input → (plan : Plan) → HasPlan input plan → TellsPlan plan (meaning_of a) by k answer
   -- So for each plan that stands for the scenario, the verdict on the trace is written.
   pub verdict : v ≡ Reads Judgement → (input : List ℕ) → IsGiven s input → Stayed k.faults_before k.faults_after
       → (plan : Plan) → HasPlan (scenario_in input) plan

@@ -16,7 +16,7 @@ use Rattle.wdf_output.specs.Refusals.{read_fault_line, too_large_line, no_memory
 use Rattle.wdf_output.specs.Said.{Sinking, Says}
 
 abbrev pub usage_line : List ℕ
-usage_line = codes "usage: kmdfsim check | order | seed N | run | replay | gen N | load N | idle | stack | lint\n"
+usage_line = codes "usage: kmdfsim check | order | seed N | run | replay | gen N | load N | idle | stack | lint | watch\n"
 
 -- what a source has left and how many faults it has counted, before a call and after it
 pub record Sourcing : Type 0 where

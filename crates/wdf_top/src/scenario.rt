@@ -33,6 +33,24 @@ pub fn read_plan<S: Source>(alloc: Global, source: &mut S) -> Result<Plan, Refus
     Ok(plan)
 }
 
+/// Reads the whole input and resolves its scene twice: one plan for the machine, which owns it, and an equal one for who reads
+/// it meanwhile.
+///
+/// # Errors
+///
+/// [`Refusal`], as of [`read_plan`].
+pub fn read_plan_twice<S: Source>(alloc: Global, source: &mut S) -> Result<(Plan, Plan), Refusal>
+    ensures plan { IfOk result (λ plans. (input : List ℕ) × IsRead (sourcing (S.left source.old) (S.left source.new) (S.faults source.old) (S.faults source.new)) input × HasPlan input plans.0) }
+    ensures same { IfOk result (λ plans. plans.1 ≡ plans.0) }
+    ensures cause { IfErr result (λ refusal. IsCause all_of (sourcing (S.left source.old) (S.left source.new) (S.faults source.old) (S.faults source.new)) refusal) }
+{
+    let text = read_whole(alloc, source)?;
+    let scene = parse(alloc, &text)?;
+    let plan = resolve(alloc, &scene)?;
+    let other = resolve(alloc, &scene)?;
+    Ok((plan, other))
+}
+
 /// Reads the whole input, whose scene has a plan, and prints the scene in canonical form.
 ///
 /// # Errors

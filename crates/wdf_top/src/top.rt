@@ -24,7 +24,7 @@ use wdf_stack::StackAgent;
 
 /// What is written for words of no form.
 const USAGE: &[u8] =
-    b"usage: kmdfsim check | order | seed N | run | replay | gen N | load N | idle | stack | lint\n";
+    b"usage: kmdfsim check | order | seed N | run | replay | gen N | load N | idle | stack | lint | watch\n";
 
 /// The status of words of no form.
 const USAGE_STATUS: u8 = 2;

@@ -84,7 +84,7 @@ pub live_unasked : (l : Life) → is_live l ≡ true → is_asked l ≡ false
 live_unasked life.Live h = refl
 live_unasked _ h = absurd (false≢true h)
 
-live_uncleaned : (l : Life) → is_live l ≡ true → is_cleaned l ≡ false
+pub live_uncleaned : (l : Life) → is_live l ≡ true → is_cleaned l ≡ false
 live_uncleaned life.Live h = refl
 live_uncleaned _ h = absurd (false≢true h)
 

@@ -7,3 +7,4 @@ pub mod Children
 pub mod Firsts
 pub mod Turns
 pub mod Gathering
+pub mod EndsKept

@@ -3,8 +3,9 @@
 //! # Choices
 //!
 //! - **What else does `ask_delete` take?** The room in which it gathers the subtree.
-//! - **How is an object found whose turn to be cleaned up has come?** From an id on (`turn_from`), and not by its
-//!   place in a list; a cleaned one likewise (`cleaned_from`).
+//! - **How is an object found whose turn to be cleaned up has come?** From an id on (`turn_from`), or by its number
+//!   among them (`turn_at`). One that may be destroyed is found by its number (`end_at`), a cleaned one from an id on
+//!   (`cleaned_from`).
 #![tactic(auto)]
 
 mod tree;

@@ -1,5 +1,6 @@
 mod acts;
 mod deletion;
+mod ends;
 mod gather;
 mod leaving;
 mod making;
@@ -36,8 +37,10 @@ pub struct Tree {
     asked: IdSet,
     /// The objects that are cleaned up, and aren't destroyed yet.
     cleaned: IdSet,
-    /// Of those whose cleanup is still to come, the ones whose turn among their siblings has come.
+    /// Those whose cleanup may come, by lives alone.
     turns: IdSet,
+    /// Those that may be destroyed, by the tree alone.
+    ends: IdSet,
 }
 
 impl Model for Tree {

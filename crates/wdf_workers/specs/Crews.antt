@@ -1,22 +1,14 @@
 -- Whose events a worker takes, and what its turn makes of the run.
-use Rattle.std.specs.Prelude.{if◌then◌else◌, ◌≡◌, ◌==◌, ℕ, nat_lt, Bool, true, false, ◌||◌, List, [], ◌∷◌, ◌++◌, Option, Some, None, slice_get, MatchOption}
+use Rattle.std.specs.Prelude.{◌≡◌, ℕ, Bool, true, false, ◌||◌, List, [], ◌∷◌, ◌++◌, Option, Some, None, slice_get, MatchOption}
 use Rattle.wdf_base.specs.declared.event.Event.{Event}
 use Rattle.wdf_base.specs.declared.event.Event.TheVariants as event
 use Rattle.wdf_base.specs.declared.event.Actor.TheVariants as actor
 use Rattle.wdf_model.specs.Runs.{place_for}
 use Rattle.wdf_ready.specs.Actors.{is_by}
-use Rattle.wdf_workers.specs.declared.crew.Crew.{Crew}
-use Rattle.wdf_workers.specs.declared.crew.Crew.TheVariants.{Processor, Framework, Agents}
-use Rattle.wdf_workers.specs.declared.state.Progress.{Progress}
-use Rattle.wdf_workers.specs.declared.state.Progress.TheVariants.{Added, Waits, Over}
-
--- The crew of a worker, counted from 0, where the machine has so many processors: a worker for each processor, then one for
--- the framework and the clock, then one for all agents.
-abbrev pub crew_of : ℕ → ℕ → Crew
-crew_of worker processors =
-    if nat_lt worker processors then Processor worker
-    else if worker == processors then Framework
-    else Agents
+use Rattle.wdf_crew.specs.declared.crew.Crew.{Crew}
+use Rattle.wdf_crew.specs.declared.crew.Crew.TheVariants.{Processor, Framework, Agents}
+use Rattle.wdf_crew.specs.declared.advance.Progress.{Progress}
+use Rattle.wdf_crew.specs.declared.advance.Progress.TheVariants.{Added, Waits, Over}
 
 -- a post of some agent
 abbrev pub is_post : Event → Bool

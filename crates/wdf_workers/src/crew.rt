@@ -1,38 +1,13 @@
-//! Whose events a worker takes.
+//! The events of a worker's crew.
 ghost use Rattle.std.specs.Prelude.{◌≡◌};
 ghost use Rattle.wdf_model.specs.Runs.{place_for};
 ghost use Rattle.wdf_model.specs.rules.Ready.{ready};
-ghost use Rattle.wdf_workers.specs.Crews as crews;
 ghost use Rattle.wdf_workers.specs.Crews.{takes_of};
 
 use wdf_base::{Actor, Agent, Event};
 use wdf_core::Core;
+use wdf_crew::Crew;
 use wdf_ready::is_by;
-
-/// Whose events a worker takes.
-#[derive(Clone, Copy, Debug, PartialEq, Eq)]
-pub enum Crew {
-    /// A processor's.
-    Processor(u8),
-    /// The framework's and the clock's.
-    Framework,
-    /// Those of all agents.
-    Agents,
-}
-
-/// The crew of a worker, counted from 0: first a worker for each processor, then one for the framework
-/// and the clock, then one for all agents.
-pub fn crew_of(worker: usize, processors: u8) -> Crew
-    ensures { result ≡ crews.crew_of worker processors }
-{
-    if worker < usize::from(processors) {
-        Crew::Processor(worker as u8)
-    } else if worker == usize::from(processors) {
-        Crew::Framework
-    } else {
-        Crew::Agents
-    }
-}
 
 /// Whether an event is one of the crew's.
 fn takes(crew: Crew, event: &Event) -> bool

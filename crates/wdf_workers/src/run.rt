@@ -4,13 +4,12 @@ ghost use mathlib.Core.List.{IsPrefix};
 ghost use Rattle.wdf_base.specs.declared.event.Ending.TheVariants as ending;
 ghost use Rattle.wdf_model.specs.rules.Ready.{IsRunOf, ending_of};
 
-use crate::shared::share;
 use crate::state::RunState;
-use crate::worker::Shift;
 use std::alloc::Global;
 use std::thread::Threads;
 use wdf_base::{Agent, Memory, Plan};
 use wdf_core::Core;
+use wdf_crew::{Shift, share};
 use wdf_run::run_order;
 use wdf_turn::Gate;
 

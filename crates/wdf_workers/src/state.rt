@@ -4,29 +4,11 @@ ghost use Rattle.wdf_model.specs.rules.Ready.{ready};
 ghost use Rattle.wdf_turn.specs.Tokens.{IsGrown};
 ghost use Rattle.wdf_workers.specs.Crews.{Advances, progress_of};
 
-use crate::crew::{Crew, first_of};
+use crate::crew::first_of;
 use wdf_base::{Agent, Event, Plan};
 use wdf_core::Core;
+use wdf_crew::{Advance, Crew, Progress};
 use wdf_turn::Chronicle;
-
-/// What a worker's turn comes to.
-#[derive(Clone, Copy, Debug, PartialEq, Eq)]
-pub enum Progress {
-    /// An event was added to the history.
-    Added,
-    /// Nothing was added: other workers' events alone may follow, or another worker has the value.
-    Waits,
-    /// Nothing may follow any more.
-    Over,
-}
-
-/// A history that workers carry on, each by the events of its crew.
-pub trait Advance: Chronicle {
-    /// Adds one event at most to the history, and says what that comes to.
-    fn advance(&mut self, crew: Crew) -> Progress
-        ensures root { Self.root self.new ≡ Self.root self.old }
-        ensures grown { IsGrown (Self.events self.old) (Self.events self.new) };
-}
 
 /// The machine of a run that workers share. Its root is the plan, and its history is the journal.
 #[derive(Drop)]
@@ -55,6 +37,9 @@ impl<A: Agent> Advance for RunState<A> {
     fn advance(&mut self, crew: Crew) -> Progress {
         take_first(&mut self.core, crew)
     }
+
+    // Nobody waits for it.
+    fn end(&mut self) {}
 }
 
 /// Takes the crew's first event among those that may follow, if there is one, and says what that comes to.

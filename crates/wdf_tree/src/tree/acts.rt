@@ -4,6 +4,7 @@ ghost use Rattle.std.specs.Prelude.{◌≡◌, ◌<◌, length, nat_lt};
 ghost use Rattle.wdf_model.specs.parts.Tree as tree;
 
 use super::Tree;
+use super::ends::note_end;
 use wdf_base::{Callback, ObjectId, Value};
 use wdf_model::{CELLS, EVENTS};
 
@@ -18,6 +19,7 @@ impl Tree {
     {
         let held = self.references(o);
         self.nodes[o.0 as usize].references = held + 1;
+        note_end(&mut self.ends, &self.nodes, &self.children, o);
     }
 
     /// The driver gives a reference to an object back. `false`, and nothing changes, where it holds
@@ -31,6 +33,7 @@ impl Tree {
     {
         let held = self.references(o);
         self.nodes[o.0 as usize].references = held.saturating_sub(1);
+        note_end(&mut self.ends, &self.nodes, &self.children, o);
         held > 0
     }
 

@@ -7,9 +7,10 @@ ghost use Rattle.wdf_model.specs.Tables.{same_id};
 ghost use Rattle.wdf_model.specs.parts.Tree as tree;
 
 use super::Tree;
+use super::ends::{note_end, note_ended};
 use super::gather::Subtree;
 use super::making::{DRIVER, counted, gone};
-use super::turns::note_around;
+use super::turns::{note_around, note_cleaned};
 use wdf_base::{Life, ObjectId};
 
 /// Whether an id was found, and it is this one.
@@ -124,7 +125,8 @@ impl Tree {
         self.asked.put(o.0, false);
         self.cleaned.put(o.0, true);
         let last = self.waiting.back(parent.0);
-        note_around(&mut self.turns, &self.nodes, &self.waiting, o, last);
+        note_cleaned(&mut self.turns, &self.nodes, &self.waiting, o, parent, last);
+        note_end(&mut self.ends, &self.nodes, &self.children, o);
     }
 
     /// Whether an object may be destroyed, by the tree alone: its cleanup is done, no reference is
@@ -143,10 +145,12 @@ impl Tree {
         ensures done { self.new ≡ tree.destroy self.old o.0 }
         ensures size { length self.new.nodes ≡ length self.old.nodes }
     {
+        let parent = self.parent(o);
         self.count -= counted(&self.nodes[o.0 as usize]);
         self.nodes[o.0 as usize] = gone();
         self.devices[o.0 as usize] = DRIVER;
         let _list = self.children.unlink(o.0);
         self.cleaned.put(o.0, false);
+        note_ended(&mut self.ends, &self.nodes, &self.children, o, parent);
     }
 }

@@ -1,13 +1,15 @@
 //! How objects come to be: those that the plan declares, those that calls make, and requests.
 
-ghost use Rattle.std.specs.Prelude.{◌≡◌, ◌<◌, ◌++◌, ◌∷◌, [], IfOk, if◌then◌else◌, true, false, is_ok, length};
+ghost use Rattle.std.specs.Prelude.{◌≡◌, ◌<◌, ◌*◌, ◌^◌, ◌++◌, ◌∷◌, [], IfOk, if◌then◌else◌, true, false, is_ok, length, replicate};
+ghost use Rattle.std.specs.Int.{div_ceil};
 ghost use Rattle.wdf_base.specs.Lives.{is_live};
 ghost use Rattle.wdf_model.specs.parts.Tree as tree;
 ghost use Rattle.wdf_ilist.specs.Family.{is_on_any};
 ghost use Rattle.wdf_tree.specs.Kin.{joined};
 ghost use Rattle.wdf_tree.specs.Refusal.{create_answer};
 
-use super::turns::note_if_any;
+use super::ends::note_end;
+use super::turns::note_joined;
 use super::{CreateRefusal, Tree};
 use std::alloc::Global;
 use wdf_base::{Declared, Kind, Life, Memory, ObjectId, Plan, Value};
@@ -88,6 +90,22 @@ fn join(family: &mut Links, parent: ObjectId, id: u32)
     }
 }
 
+/// Four sets without a member, each with room for as many objects.
+fn empty_sets(alloc: Global, room: u32) -> Result<(IdSet, IdSet, IdSet, IdSet), Memory>
+    requires { room < 2 ^ 31 }
+    ensures first { IfOk result (λ sets. sets.0 ≡ replicate (4096 * div_ceil room 4096) false) }
+    ensures second { IfOk result (λ sets. sets.1 ≡ replicate (4096 * div_ceil room 4096) false) }
+    ensures third { IfOk result (λ sets. sets.2 ≡ replicate (4096 * div_ceil room 4096) false) }
+    ensures fourth { IfOk result (λ sets. sets.3 ≡ replicate (4096 * div_ceil room 4096) false) }
+{
+    Ok((
+        IdSet::make(alloc, room)?,
+        IdSet::make(alloc, room)?,
+        IdSet::make(alloc, room)?,
+        IdSet::make(alloc, room)?,
+    ))
+}
+
 impl Tree {
     /// The tree at the opening of the plan's run: the driver object and the declared ones, all live.
     /// It takes the room for all objects that a run can make.
@@ -111,16 +129,20 @@ impl Tree {
         let mut devices = Vec::with_capacity(alloc, room as usize)?;
         nodes.push_reserved(gone());
         devices.push_reserved(DRIVER);
+        let children = Links::make(alloc, room, room)?;
+        let waiting = Links::make(alloc, room, room)?;
+        let (asked, cleaned, turns, ends) = empty_sets(alloc, room)?;
         Ok(Tree {
             limit,
             nodes,
             devices,
             count: 0,
-            children: Links::make(alloc, room, room)?,
-            waiting: Links::make(alloc, room, room)?,
-            asked: IdSet::make(alloc, room)?,
-            cleaned: IdSet::make(alloc, room)?,
-            turns: IdSet::make(alloc, room)?,
+            children,
+            waiting,
+            asked,
+            cleaned,
+            turns,
+            ends,
         })
     }
 
@@ -145,13 +167,15 @@ impl Tree {
     {
         let device = self.nearest_for(&node);
         let id = self.len();
-        let last = self.waiting.back(node.parent.0);
+        let parent = node.parent;
+        let last = self.waiting.back(parent.0);
         self.count += counted(&node);
-        join(&mut self.children, node.parent, id);
-        join(&mut self.waiting, node.parent, id);
+        join(&mut self.children, parent, id);
+        join(&mut self.waiting, parent, id);
         self.nodes.push_reserved(node);
         self.devices.push_reserved(device);
-        note_if_any(&mut self.turns, &self.nodes, &self.waiting, last);
+        note_joined(&mut self.turns, &self.nodes, &self.waiting, parent, last);
+        note_end(&mut self.ends, &self.nodes, &self.children, parent);
     }
 
     /// An object is made by a call, and is live. It is refused under a parent that isn't live

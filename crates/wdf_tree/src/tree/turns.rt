@@ -1,11 +1,13 @@
-//! The objects whose turn to be cleaned up has come, among their siblings.
+//! The objects whose cleanup may come, by lives alone.
 
-ghost use Rattle.std.specs.Prelude.{◌≡◌, ◌<◌, ◌≤◌, ◌&&◌, ℕ, IfSome, true, find, length, nat_le, option_and_then, option_map};
+ghost use Rattle.std.specs.Prelude.{◌≡◌, ◌<◌, ◌≤◌, ◌&&◌, ℕ, IfSome, true, filter, find, length, nat_le, option_and_then, option_map, slice_get};
+ghost use Rattle.std.specs.List.{range_with_len};
 ghost use Rattle.wdf_ilist.specs.Family.{after_in, is_on, list_at};
 ghost use Rattle.wdf_model.specs.Tables.{entry, ids_of};
+ghost use Rattle.wdf_model.specs.declared.room.TheConstants.{OBJECTS};
 ghost use Rattle.wdf_model.specs.parts.Tree as tree;
 ghost use Rattle.wdf_sets.specs.Members.{is_in};
-ghost use Rattle.wdf_tree.specs.Turns.{AreNoted, has_turn, is_turn as is_turn_by};
+ghost use Rattle.wdf_tree.specs.Turns.{AreNoted, is_turn as is_turn_by, turns_of};
 
 use super::Tree;
 use super::deletion::is_id;
@@ -35,14 +37,15 @@ fn parent_in(nodes: &[Node], o: ObjectId) -> ObjectId
     }
 }
 
-/// Whether an object's turn has come: its deletion was asked, and, where that of its parent was asked
-/// too, it is the last child that waits for cleanup.
+/// Whether an object's turn has come: its deletion was asked, no child of it waits for cleanup, and, where
+/// the deletion of its parent was asked too, it is the last child that does.
 #[tactic(auto, using(crate::proofs::Kept::asked_as_same))]
 fn is_turn(nodes: &[Node], waiting: &Links, o: ObjectId) -> bool
     ensures { result ≡ is_turn_by nodes.now waiting.now.lists o.0 }
 {
     let parent = parent_in(nodes, o);
     life_in(nodes, o) == Life::Asked
+        && waiting.is_empty(o.0)
         && (life_in(nodes, parent) != Life::Asked || is_id(waiting.back(parent.0), o.0))
 }
 
@@ -110,13 +113,74 @@ pub(super) fn note_if_any(turns: &mut IdSet, nodes: &[Node], waiting: &Links, fo
     }
 }
 
+/// Notes it of an object that came, by its parent and the child that was the last one there.
+pub(super) fn note_joined(
+    turns: &mut IdSet,
+    nodes: &[Node],
+    waiting: &Links,
+    parent: ObjectId,
+    sibling: Option<u32>,
+)
+    requires room { length nodes.now ≤ length turns.old }
+    ensures noted { AreNoted (is_turn_by nodes.now waiting.now.lists) turns.old turns.new }
+    ensures parent { parent.0 < length nodes.now → is_in parent.0 turns.new ≡ is_turn_by nodes.now waiting.now.lists parent.0 }
+    ensures sibling { IfSome sibling (λ x. x < length nodes.now → is_in x turns.new ≡ is_turn_by nodes.now waiting.now.lists x) }
+{
+    note_turn(turns, nodes, waiting, parent);
+    note_if_any(turns, nodes, waiting, sibling);
+}
+
+/// Notes it of an object that was cleaned up, of its parent, of the last sibling that waits for cleanup, and of its
+/// children that do.
+pub(super) fn note_cleaned(
+    turns: &mut IdSet,
+    nodes: &[Node],
+    waiting: &Links,
+    o: ObjectId,
+    parent: ObjectId,
+    sibling: Option<u32>,
+)
+    requires room { length nodes.now ≤ length turns.old }
+    ensures noted { AreNoted (is_turn_by nodes.now waiting.now.lists) turns.old turns.new }
+    ensures own { o.0 < length nodes.now → is_in o.0 turns.new ≡ is_turn_by nodes.now waiting.now.lists o.0 }
+    ensures parent { parent.0 < length nodes.now → is_in parent.0 turns.new ≡ is_turn_by nodes.now waiting.now.lists parent.0 }
+    ensures sibling { IfSome sibling (λ x. x < length nodes.now → is_in x turns.new ≡ is_turn_by nodes.now waiting.now.lists x) }
+    ensures children { (id : ℕ) → id < length nodes.now → is_on id (list_at waiting.now.lists o.0) ≡ true
+        → is_in id turns.new ≡ is_turn_by nodes.now waiting.now.lists id }
+{
+    note_turn(turns, nodes, waiting, parent);
+    note_around(turns, nodes, waiting, o, sibling);
+}
+
 impl Tree {
-    /// The first object from an id on whose deletion was asked, and whose turn among its siblings has
-    /// come: where the deletion of its parent was asked too, each younger sibling has been cleaned up.
+    /// The first object from an id on whose cleanup may come, by lives alone ([`Tree::may_clean`]).
     pub fn turn_from(&self, from: ObjectId) -> Option<ObjectId>
         ensures { option_map (λ o. o.0) result
-            ≡ find (λ o. nat_le from.0 o && has_turn self.now o) (ids_of self.now.nodes) }
+            ≡ find (λ o. nat_le from.0 o && tree.may_clean self.now o) (ids_of self.now.nodes) }
     {
         object_at(self.turns.from(from.0))
+    }
+
+    /// How many objects there are whose cleanup may come, by lives alone. There is room for each object.
+    pub fn turn_len(&self) -> u32
+        ensures count { result ≡ length (turns_of self.now) }
+        ensures room { length self.now.nodes ≤ OBJECTS }
+    {
+        self.turns.len()
+    }
+
+    /// The k-th of them, by rising id from 0; `None` exactly where there are fewer.
+    pub fn turn_at(&self, k: u32) -> Option<ObjectId>
+        ensures { option_map (λ o. o.0) result ≡ slice_get (turns_of self.now) k }
+    {
+        object_at(self.turns.at(k))
+    }
+
+    /// How many of them have a lesser id.
+    pub fn turns_before(&self, o: ObjectId) -> u32
+        ensures { result ≡ length (filter (tree.may_clean self.now) (range_with_len 0 o.0)) }
+    {
+        let lesser = self.turns.before(o.0);
+        lesser
     }
 }

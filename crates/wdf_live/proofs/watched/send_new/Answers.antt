@@ -1,5 +1,5 @@
 -- The event that was added is sent with its number.
-use Rattle.std.proofs.Common.{ap, sym, ◌∙◌, arith}
+use Rattle.std.proofs.Common.{ap, arith}
 use Rattle.crossbeam_queue.specs.Passes.{ruled_capacity, view}
 use Rattle.wdf_live.proofs.Sent.{has_room, sent_none, sent_one}
 use Rattle.wdf_live.proofs.watched.send_new.Goals as goal

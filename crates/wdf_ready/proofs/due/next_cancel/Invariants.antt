@@ -1,7 +1,8 @@
 -- At no place so far EvtRequestCancel is due.
 use Rattle.std.proofs.Common.{◌-◌, ◌≤◌}
 use Rattle.wdf_base.specs.declared.rank.Rank.TheVariants as rank
-use Rattle.wdf_ready.specs.Idle.{NoneFrom, is_due_at}
+use Rattle.wdf_sets.specs.Nexts.{NoneFrom}
+use Rattle.wdf_ready.specs.Idle.{is_due_at}
 use Rattle.wdf_ready.proofs.due.next_cancel.Given as goal
 
 abbrev pub invariant-search : goal.invariant-search

@@ -1,5 +1,6 @@
 -- At no place so far a callback is due.
-use Rattle.wdf_ready.specs.Idle.{NoneFrom, is_due_at}
+use Rattle.wdf_sets.specs.Nexts.{NoneFrom}
+use Rattle.wdf_ready.specs.Idle.{is_due_at}
 use Rattle.wdf_ready.proofs.due.next_of_all.Given as goal
 
 abbrev pub invariant-loop-place : goal.invariant-loop-place

@@ -1,5 +1,6 @@
 -- At no place so far a callback can start.
-use Rattle.wdf_ready.specs.Idle.{NoneFrom, can_start_at}
+use Rattle.wdf_sets.specs.Nexts.{NoneFrom}
+use Rattle.wdf_ready.specs.Idle.{can_start_at}
 use Rattle.wdf_ready.proofs.due.next_startable.Given as goal
 
 abbrev pub invariant-loop-place : goal.invariant-loop-place

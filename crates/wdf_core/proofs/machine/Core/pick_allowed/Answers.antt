@@ -1,4 +1,5 @@
 -- The groups offer what may come.
+use Rattle.wdf_core.proofs.Following.{settled_now}
 use Rattle.wdf_core.proofs.Journal.{agents_small, groups_small, picked_ready}
 use Rattle.wdf_core.proofs.machine.Core.pick_allowed.Goals as goal
 
@@ -10,6 +11,9 @@ picked-requires-clause-few g c = rw c.deref.ensures.value (groups_small g.A.Agen
 
 pub picked-requires-clause-room : goal.picked-requires-clause-room
 picked-requires-clause-room g c = rw c.deref.ensures.value c.self.invariant.counts
+
+pub picked-requires-clause-settled : goal.picked-requires-clause-settled
+picked-requires-clause-settled g c = settled_now g.A.Agent.meaning c.self.inside.plan c.self.inside.journal.items c.self.inside.parts c.self.inside.groups.items _ c.self.invariant.way
 
 pub returns-clause-picked : goal.returns-clause-picked
 returns-clause-picked g c =

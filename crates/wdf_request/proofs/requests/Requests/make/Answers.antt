@@ -1,7 +1,7 @@
 -- Nothing is kept of no request.
 use Rattle.std.proofs.Common.{refl, lit≤, arith}
 use Rattle.std.specs.Prelude.{IfOk, IsErr, Result, Ok, Err}
-use Rattle.wdf_base.specs.Places.{is_closing, is_due}
+use Rattle.wdf_base.specs.Places.{is_closing, is_due, is_sent}
 use Rattle.wdf_model.specs.declared.entries.Request.{Request}
 use Rattle.wdf_request.specs.Keys.{returning_queue, sent_target, unfinished_device}
 use Rattle.wdf_maps.proofs.Counting.{none_counted}
@@ -21,6 +21,7 @@ invariant_of-result c =
       open_count = rw none refl;
       closing = rw none (empty_set (λ (r : Request). is_closing r.place) 204800 _ refl (lit≤ tt) c.in_ok-make-4.ensures);
       due = rw none (empty_set (λ (r : Request). is_due r.info.mark) 204800 _ refl (lit≤ tt) c.in_ok-make-5.ensures);
+      sendings = rw none (empty_set (λ (r : Request). is_sent r.place) 204800 _ refl (lit≤ tt) c.in_ok-make-6.ensures);
       noted = rw none (none_noted _);
     }
 
@@ -34,3 +35,6 @@ failed (Err e) P h = tt
 
 pub returns-in_err-make-6 : goal.returns-in_err-make-6
 returns-in_err-make-6 c = failed c.from_residual-in_err-make-6.result _ c.from_residual-in_err-make-6.ensures.0
+
+pub returns-in_err-make-7 : goal.returns-in_err-make-7
+returns-in_err-make-7 c = failed c.from_residual-in_err-make-7.result _ c.from_residual-in_err-make-7.ensures.0

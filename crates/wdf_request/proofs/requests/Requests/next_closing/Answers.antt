@@ -1,6 +1,7 @@
 -- The members of the set are those requests.
 use Rattle.std.proofs.Common.{ap, find, nat_le, ◌∙◌}
-use Rattle.wdf_request.proofs.Members.{member_from, members_closing}
+use Rattle.wdf_sets.proofs.Nexts.{member_from}
+use Rattle.wdf_request.proofs.Members.{members_closing}
 use Rattle.wdf_request.proofs.requests.Requests.next_closing.Goals as goal
 
 pub returns : goal.returns

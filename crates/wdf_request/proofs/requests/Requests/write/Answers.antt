@@ -1,6 +1,6 @@
 -- What is kept stays right.
 use Rattle.std.proofs.Common.{◌≡◌, ◌<◌, length, refl, ap, length-set, ◌∙◌, arith}
-use Rattle.wdf_base.specs.Places.{is_closing, is_due}
+use Rattle.wdf_base.specs.Places.{is_closing, is_due, is_sent}
 use Rattle.wdf_model.specs.declared.entries.Request.{Request}
 use Rattle.wdf_model.specs.declared.room.TheConstants.{OBJECTS}
 use Rattle.wdf_model.specs.Tables.{entry}
@@ -39,6 +39,7 @@ invariant_of-self c =
       open_count = rw (put, c.open_flag.ensures, c.open_flag-2.ensures, old, kept.open_count) (omega arith);
       closing = rw (put, c.put.ensures, c.is_closing.ensures) (set_put (λ (x : Request). is_closing x.place) all c.self.inside.closing r c.args.request h kept.closing);
       due = rw (put, c.put-2.ensures, c.is_due.ensures) (set_put (λ (x : Request). is_due x.info.mark) all c.self.inside.due r c.args.request h kept.due);
+      sendings = rw (put, c.put-3.ensures, c.is_sent.ensures) (set_put (λ (x : Request). is_sent x.place) all c.self.inside.sendings r c.args.request h kept.sendings);
       noted = rw (put, c.note.ensures) (noted_put all c.self.inside.arrivals r c.args.request kept.noted);
     }
 

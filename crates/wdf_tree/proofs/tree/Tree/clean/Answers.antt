@@ -3,6 +3,7 @@ use Rattle.wdf_base.specs.Lives.{is_asked}
 use Rattle.wdf_model.specs.Tables.{entry}
 use Rattle.wdf_model.specs.declared.entries.Node.{Node}
 use Rattle.wdf_model.specs.parts.Tree.{Tree, gone, life_of, parent_of}
+use Rattle.wdf_tree.proofs.EndsKept.{ends_by_set}
 use Rattle.wdf_tree.proofs.Kept.{asked_stands, kept_by_cleanup, read_entry, there_if_asked}
 use Rattle.wdf_tree.proofs.Leaving.{leaving_by_cleanup}
 use Rattle.wdf_tree.proofs.Turns.{turns_after_cleanup}
@@ -20,5 +21,10 @@ invariant_of-self c =
       leaving = rw (c.put.ensures, c.put-2.ensures) (leaving_by_cleanup _ _ c.self.invariant.leaving c.self.invariant.kept.few there refl);
       turns = turns_after_cleanup _ _ _ _ _ c.unlink-list.ensures.gone c.self.invariant.turns c.self.invariant.kept.waiting_kin c.self.invariant.kept.few there refl
           (c.parent-parent.ensures ∙ sym (ap (λ (t : Tree). parent_of t c.args.o.0) c.self.view_is)) c.back-last.ensures
-          (record { noted = rw c.deref.ensures.value at c.note_around.ensures.noted; own = rw c.deref.ensures.value at c.note_around.ensures.own; children = rw c.deref.ensures.value at c.note_around.ensures.children }) (rw c.deref.ensures.value at c.note_around.ensures.sibling);
+          (record {
+            at = record { noted = rw c.deref.ensures.value at c.note_cleaned.ensures.noted; own = rw c.deref.ensures.value at c.note_cleaned.ensures.own; children = rw c.deref.ensures.value at c.note_cleaned.ensures.children };
+            parent_right = rw c.deref.ensures.value at c.note_cleaned.ensures.parent;
+            sibling = rw c.deref.ensures.value at c.note_cleaned.ensures.sibling;
+          });
+      ends = ends_by_set _ _ c.self.invariant.ends there (rw c.deref-2.ensures.value at c.note_end.ensures.noted) (rw c.deref-2.ensures.value at c.note_end.ensures.own);
     }

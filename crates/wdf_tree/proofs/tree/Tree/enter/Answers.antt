@@ -1,6 +1,7 @@
 use Rattle.std.proofs.Common.{◌≡◌, [], length, sym, ap, ◌∙◌, arith}
 use Rattle.wdf_model.specs.parts.Tree.{Tree, nearest_devices, own_device}
 use Rattle.wdf_tree.specs.Kin.{is_left, is_waiting}
+use Rattle.wdf_tree.proofs.EndsKept.{ends_by_push}
 use Rattle.wdf_tree.proofs.Kin.{next_is_free}
 use Rattle.wdf_tree.proofs.Kept.{devices_as_many, kept_by_push}
 use Rattle.wdf_tree.proofs.Leaving.{leaving_by_push}
@@ -19,7 +20,14 @@ invariant_of-self c =
           (c.nearest_for-device.ensures ∙ ap (λ (t : Tree). own_device (nearest_devices [] t.nodes) (length t.nodes) c.args.node) (sym c.self.view_is)) (omega arith));
       leaving = rw c.push_reserved.ensures.items (leaving_by_push c.args.node c.self.invariant.leaving c.requires.live);
       turns = turns_after_push c.args.node c.len-id.result _ _ c.back-last.result c.push_reserved.ensures.items c.join-2.ensures c.self.invariant.turns c.self.invariant.kept.waiting_kin c.requires.live (omega arith)
-          c.back-last.ensures (rw c.deref.ensures.value at c.note_if_any.ensures.noted) (rw c.deref.ensures.value at c.note_if_any.ensures.own);
+          c.back-last.ensures
+          (record {
+            noted = rw c.deref.ensures.value at c.note_joined.ensures.noted;
+            parent_right = rw c.deref.ensures.value at c.note_joined.ensures.parent;
+            sibling = rw c.deref.ensures.value at c.note_joined.ensures.sibling;
+          });
+      ends = ends_by_push c.self.inside.children c.args.node c.len-id.result _ _ c.push_reserved.ensures.items c.join.ensures c.self.invariant.ends c.requires.live
+          (rw c.deref-2.ensures.value at c.note_end.ensures.noted) (rw c.deref-2.ensures.value at c.note_end.ensures.own);
     }
 
 pub join-requires-clause-free : goal.join-requires-clause-free

@@ -6,4 +6,4 @@ use Rattle.wdf_tree.proofs.tree.Tree.turn_from.Goals as goal
 pub returns : goal.returns
 returns c =
     rw (c.object_at.ensures, c.from.ensures, ← c.self.view_is)
-    (first_turn (tree_in c.self.inside) c.self.inside.waiting c.self.inside.turns c.args.from.0 c.self.invariant.turns c.self.invariant.kept.waiting_kin c.self.invariant.kept.few)
+    (first_turn (tree_in c.self.inside) c.self.inside.waiting c.self.inside.turns c.self.invariant.turns c.self.invariant.kept.waiting_kin c.self.invariant.kept.few c.args.from.0)

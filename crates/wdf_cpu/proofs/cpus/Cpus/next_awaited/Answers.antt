@@ -1,0 +1,7 @@
+-- The ids that are counted are those objects.
+use Rattle.wdf_cpu.specs.Kept.{cpus_in}
+use Rattle.wdf_cpu.proofs.Nexts.{next_awaited_is}
+use Rattle.wdf_cpu.proofs.cpus.Cpus.next_awaited.Goals as goal
+
+pub returns : goal.returns
+returns c = rw (← c.self.view_is) (next_awaited_is (cpus_in c.self.inside) c.self.inside.waits c.args.from.0 c.next.result c.self.invariant.kept.waits c.next.ensures)

@@ -1,0 +1,3 @@
+pub mod Calls
+pub mod Crews
+pub mod Rows

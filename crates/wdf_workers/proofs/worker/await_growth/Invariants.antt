@@ -1,6 +1,0 @@
--- The seat holds nothing, and is still the same.
-use Rattle.wdf_workers.specs.Rows.{IsIdleSeat, IsSameSeat}
-use Rattle.wdf_workers.proofs.worker.await_growth.Given as goal
-
-abbrev pub invariant-loop-look : goal.invariant-loop-look
-invariant-loop-look g l = IsIdleSeat l.turn l.seat × IsSameSeat l.initial.seat l.seat
