@@ -69,6 +69,13 @@ class Names:
         return False
 
 
+def has_place(target, place):
+    """Whether a link can name this place: a heading of a page, a line of another file. Which line is left to who wrote it."""
+    if target.suffix != ".md":
+        return re.fullmatch("L[0-9]+", place) is not None
+    return place in places_of(target.read_text(encoding="utf-8"))
+
+
 def wrong_in(page, names):
     """What names nothing in a page, a line each."""
     whole = page.read_text(encoding="utf-8")
@@ -82,7 +89,7 @@ def wrong_in(page, names):
             if "://" in path:
                 continue
             target = (page.parent / path).resolve() if path else page
-            if not target.exists() or (place and place not in places_of(target.read_text(encoding="utf-8"))):
+            if not target.exists() or (place and not has_place(target, place)):
                 yield number, link
     for found in OF_CRATE.finditer(text.replace("\n", " ")):
         crate = found.group(2)

@@ -1,5 +1,5 @@
 #!/usr/bin/env python3
-"""Writes docs/RULES.md from tools/rules.txt, or with --check says whether it is what would be written.
+"""Writes docs/RULES.md from tools/rules.txt, or with --check says whether it is what would be written, but for the lines of its links.
 
 tools/rules.txt has a rule a line, with bars between its parts: its words, and the definitions that state it, with commas
 between them. Then, where the script doesn't find what shows most, its laws and its wrong bodies, by their names; `-` says that
@@ -13,6 +13,7 @@ or says it after the name of a module of that crate; where the definition's file
 
 import re
 import sys
+from collections import namedtuple
 from pathlib import Path
 
 ROOT = Path(__file__).resolve().parent.parent
@@ -52,6 +53,17 @@ WORD = re.compile(r"(?:([A-Za-z_][A-Za-z0-9_']*)\.)?([A-Za-z_][A-Za-z0-9_']*)")
 USE = re.compile(r"^ *ghost use Rattle\.(\w+)\.specs([A-Za-z0-9_.']*?)(?:\.\{([^}]*)\}| as (\w+));", re.M)
 
 
+# A file, and the line at which the comment on what is meant begins, or None.
+Place = namedtuple("Place", "path line")
+
+
+def begin(lines, number):
+    """The number from 1 of the first line of the comment above a line (from 0), or of that line."""
+    while number > 0 and re.match(r"\s*(--(?! ----)|///|#\[)", lines[number - 1]):
+        number -= 1
+    return number + 1
+
+
 def sources(crate, suffix):
     """The files of a crate, but for what was built."""
     return [p for p in sorted((CRATES / crate).rglob("*" + suffix)) if "out" not in p.relative_to(CRATES).parts]
@@ -71,10 +83,11 @@ def names_of(crate):
     return names
 
 
-def has_name(path, name):
-    """Whether a file defines a name, in one form or another."""
+def place_of(path, name):
+    """Where a file defines a name, in one form or another, or None."""
     text = path.read_text()
-    return any(name in form.findall(text) for form in (DEFINITION, TYPE, RUST, MEMBER, VARIANT))
+    found = [m.start(1) for form in (DEFINITION, TYPE, RUST, MEMBER, VARIANT) for m in form.finditer(text) if m.group(1) == name]
+    return Place(path, begin(text.split("\n"), text.count("\n", 0, found[0]))) if found else None
 
 
 def module_of(path):
@@ -104,7 +117,7 @@ def cited(contract, names, modules):
 
 
 def functions_of(path):
-    """The functions of a file: name, contract, first and last line."""
+    """The functions of a file: name, contract, first and last line, and where it is."""
     lines = path.read_text().split("\n")
     starts = [k for k, line in enumerate(lines) if FUNCTION.match(line)]
     for k, start in enumerate(starts):
@@ -114,7 +127,7 @@ def functions_of(path):
             if line.strip() in ("{", "{}"):
                 break
             contract.append(line)
-        yield FUNCTION.match(lines[start]).group(1), "\n".join(contract), start, end
+        yield FUNCTION.match(lines[start]).group(1), "\n".join(contract), start, end, Place(path, begin(lines, start))
 
 
 class Found:
@@ -136,9 +149,9 @@ class Found:
             lines = text.split("\n")
             names, modules = imports_of(text)
             mine = [(edit, told[1][5:]) for edit, told in edits if told[0] == f"file: {path.relative_to(folder)}"]
-            for name, contract, start, end in functions_of(path):
+            for name, contract, start, end, place in functions_of(path):
                 key = f"{crate}::{name}"
-                self.functions.setdefault(name, []).append((key, path))
+                self.functions.setdefault(name, []).append((key, place))
                 for edit, old in mine:
                     if any(old in line for line in lines[start:end]):
                         self.edits.setdefault(key, []).append(edit)
@@ -146,7 +159,7 @@ class Found:
                     continue
                 table = self.laws if crate.startswith(LAWS) else self.code
                 for its_crate, module, definition in set(cited(contract, names, modules)):
-                    table.setdefault((its_crate, definition), []).append((key, path, module))
+                    table.setdefault((its_crate, definition), []).append((key, place, module))
 
     def law(self, name):
         """The law with this name, with its file, or None where none or more than one has it."""
@@ -155,17 +168,17 @@ class Found:
         return found[0] if len(found) == 1 else None
 
 
-def link_to(path):
-    return f"../{path.relative_to(CRATES.parent)}"
+def link_to(place):
+    return f"../{place.path.relative_to(CRATES.parent)}" + (f"#L{place.line}" if place.line else "")
 
 
-def link(shown, path):
-    return f"[`{shown}`]({link_to(path)})"
+def link(shown, place):
+    return f"[`{shown}`]({link_to(place)})"
 
 
 def of_module(functions, module):
     """Those of some functions that cite a definition of this module, or all where none is asked for, each with its file."""
-    return [(key, path) for key, path, of in functions if module in (None, of)]
+    return [(key, place) for key, place, of in functions if module in (None, of)]
 
 
 def names_in(part):
@@ -229,25 +242,26 @@ def page():
             if crate not in known:
                 known[crate] = names_of(crate)
             files = [file] if file else known[crate].get(last, [])
-            if not files or not has_name(files[0], last):
+            place = place_of(files[0], last) if files else None
+            if not place:
                 wrong.append(f"{RULES.name}, line {number}: {remark if file else crate} has no {name}")
                 continue
             if len(files) > 1:
                 wrong.append(f"{RULES.name}, line {number}: several files of {crate} have {name}: {', '.join(str(path.relative_to(CRATES)) for path in files)}")
                 continue
-            told.append(link(name, files[0]) + (f" ({remark})" if remark and not (CRATES / remark).exists() else ""))
+            told.append(link(name, place) + (f" ({remark})" if remark and not (CRATES / remark).exists() else ""))
             module = module_of(file) if file else None
             functions = of_module(found.code.get((crate, last), []), module)
             by_definition.append((last, [item for item in functions if item[0].split("::")[-1] not in (laws or ())]))
             by_law += of_module(found.laws.get((crate, last), []), module)
-        by_edit = [(edit.stem, edit) for _, functions in by_definition for key, _ in functions for edit in found.edits.get(key, [])]
+        by_edit = [(edit.stem, Place(edit, None)) for _, functions in by_definition for key, _ in functions for edit in found.edits.get(key, [])]
         shown_laws, shown_edits = several(sorted(by_law)), several(sorted(by_edit))
         if laws is not None:
             wrong += [f"{RULES.name}, line {number}: there is no law {name}" for name in laws if not found.law(name)]
             shown_laws = listed(found.law(name) for name in laws if found.law(name))
         if edits is not None:
             wrong += [f"{RULES.name}, line {number}: there is no wrong body {name}" for name in edits if len(found.wrong.get(name, [])) != 1]
-            shown_edits = listed((name, found.wrong[name][0]) for name in edits if name in found.wrong)
+            shown_edits = listed((name, Place(found.wrong[name][0], None)) for name in edits if name in found.wrong)
         out.append(f"| {words} | {', '.join(told)} | {code_of(by_definition)} | {shown_laws} | {shown_edits} |")
     if wrong:
         sys.exit("\n".join(wrong))
@@ -257,7 +271,12 @@ def page():
 def unnamed(text):
     """The wrong bodies that a page doesn't name."""
     edits = sorted([*CRATES.glob("*/must-fail/*.edit"), *CRATES.glob("*/wrong/*.edit")])
-    return [str(edit.relative_to(CRATES)) for edit in edits if f"({link_to(edit)})" not in text]
+    return [str(edit.relative_to(CRATES)) for edit in edits if f"({link_to(Place(edit, None))})" not in text]
+
+
+def without_lines(text):
+    """A page without the lines of its links, which move with any line above them."""
+    return re.sub(r"#L[0-9]+\)", ")", text)
 
 
 def main():
@@ -266,7 +285,7 @@ def main():
     if left:
         sys.exit("\n".join(f"{RULES.name} names no rule for the wrong body {edit}" for edit in left))
     if "--check" in sys.argv[1:]:
-        if not PAGE.exists() or PAGE.read_text() != text:
+        if not PAGE.exists() or without_lines(PAGE.read_text()) != without_lines(text):
             sys.exit("docs/RULES.md isn't what tools/rules.py writes: run it")
     else:
         PAGE.write_text(text)

@@ -19,6 +19,7 @@ GOOD = """# A page
 
 `wdf_text`, `check_all` and `wdf_part::x` are there, `small` of `wdf_text` and `small`, `text_of` in `wdf_text` too, and so are
 `crates/wdf_text/specs/Texts.antt`, `Texts.antt`, `src/lib.rt`, `crates/NAME/out`, `tools/*.py` and [other](OTHER.md#what-it-is).
+A line can be named, as [this one](../crates/wdf_text/src/lib.rt#L2).
 `docs` and `either/or` are no path, [here](#a-page) is this page, `little` of `wdf_text` is a clause.
 
 ```kmdf
@@ -32,6 +33,7 @@ BAD = [
     ("the function `great` of `wdf_text`", "great of wdf_text"),
     ("[a link](NONE.md)", "NONE.md"),
     ("[a link](OTHER.md#what-it-was)", "OTHER.md#what-it-was"),
+    ("[a link](../crates/wdf_text/src/lib.rt#small)", "../crates/wdf_text/src/lib.rt#small"),
 ]
 
 

@@ -11,6 +11,8 @@ import rules
 MODEL = """-- a queue
 pub record Queue : Type 0 where
   pub front : ℕ
+-- its front,
+-- as a number
 abbrev pub takes : Queue → ℕ
 takes q = q.front
 abbrev pub drops : Queue → Queue
@@ -75,12 +77,12 @@ one of two definitions | takes, waits (wdf_model/specs/Queues.antt) | - | -
 """
 MODEL_FILE, PART_FILE = "../crates/wdf_model/specs/Queues.antt", "../crates/wdf_part/src/lib.rt"
 WANTED = [
-    f"| a queue gives its front | [`takes`]({MODEL_FILE}) | [`wdf_part::takes`]({PART_FILE}) "
-    "| [`law_queue::takes_once`](../crates/law_queue/src/lib.rt) | [`front_is_zero`](../crates/wdf_part/must-fail/front_is_zero.edit) |",
-    f"| a queue drops | [`drops`]({MODEL_FILE}) |  | [`law_other::drops_once`](../crates/law_other/src/lib.rt) |  |",
-    f"| its front is kept | [`Queue.front`]({MODEL_FILE}) |  |  | [`front_is_zero`](../crates/wdf_part/must-fail/front_is_zero.edit) |",
-    f"| a queue waits | [`waits`]({MODEL_FILE}) | [`wdf_part::stays`]({PART_FILE}) |  |  |",
-    f"| one of two definitions | [`takes`]({MODEL_FILE}), [`waits`]({MODEL_FILE}) | [`wdf_part::takes`]({PART_FILE}), [`wdf_part::stays`]({PART_FILE}) |  |  |",
+    f"| a queue gives its front | [`takes`]({MODEL_FILE}#L4) | [`wdf_part::takes`]({PART_FILE}#L5) "
+    "| [`law_queue::takes_once`](../crates/law_queue/src/lib.rt#L3) | [`front_is_zero`](../crates/wdf_part/must-fail/front_is_zero.edit) |",
+    f"| a queue drops | [`drops`]({MODEL_FILE}#L8) |  | [`law_other::drops_once`](../crates/law_other/src/lib.rt#L1) |  |",
+    f"| its front is kept | [`Queue.front`]({MODEL_FILE}#L3) |  |  | [`front_is_zero`](../crates/wdf_part/must-fail/front_is_zero.edit) |",
+    f"| a queue waits | [`waits`]({MODEL_FILE}#L10) | [`wdf_part::stays`]({PART_FILE}#L25) |  |  |",
+    f"| one of two definitions | [`takes`]({MODEL_FILE}#L4), [`waits`]({MODEL_FILE}#L10) | [`wdf_part::takes`]({PART_FILE}#L5), [`wdf_part::stays`]({PART_FILE}#L25) |  |  |",
 ]
 # Rules that don't name the one wrong body.
 UNNAMED = "Queues\na queue drops | drops | drops_once | -\n"
@@ -123,6 +125,8 @@ def main():
         heard = page_of(f"Queues\n{rule}\n")
         if heard != f"rules.txt, line 2: {said}":
             wrong.append(f"of {rule!r}: {heard}")
+    if rules.without_lines("[a](../b.rt#L12), [c](d)") != "[a](../b.rt), [c](d)":
+        wrong.append("lines of links aren't taken away")
     for text, left in [(RULES, []), (UNNAMED, ["wdf_part/must-fail/front_is_zero.edit"])]:
         heard = page_of(text, rules.unnamed)
         if heard != left:
