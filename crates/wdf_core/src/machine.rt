@@ -1,4 +1,4 @@
-ghost use Rattle.std.specs.Prelude.{◌≡◌, ◌<◌, ◌≤◌, ◌+◌, ◌^◌, ◌++◌, ◌∷◌, ◌↔◌, ◌%◌, ℕ, [], IfOk, IsFalse, IsTrue, MatchOption, None, Some, length, nat_lt, slice_get, true, vec_capacity};
+ghost use Rattle.std.specs.Prelude.{◌≡◌, ◌<◌, ◌≤◌, ◌+◌, ◌^◌, ◌++◌, ◌∷◌, ◌↔◌, ◌%◌, ℕ, [], IfOk, IsFalse, IsTrue, MatchOption, None, Some, find, length, nat_lt, slice_get, true, vec_capacity};
 ghost use Rattle.wdf_base.specs.Resolved.{IsResolved};
 ghost use Rattle.wdf_base.specs.declared.event.Event.{Event};
 ghost use Rattle.wdf_base.specs.declared.event.Event.TheVariants as event;
@@ -10,6 +10,7 @@ ghost use Rattle.wdf_core.specs.Course.{IsUnderWay};
 ghost use Rattle.wdf_core.specs.Going.{goes_on, is_tick, tick_if};
 ghost use Rattle.law_machine_places.specs.Placed.{IsAmong};
 ghost use Rattle.wdf_ready.specs.Actors.{is_by as is_step_of};
+ghost use Rattle.wdf_ready.specs.Sides.{is_of as is_event_of};
 
 use std::alloc::Global;
 use std::marker::Model;
@@ -19,8 +20,8 @@ use wdf_model::Group;
 use wdf_parts::Parts;
 use wdf_plan_index::IndexedPlan;
 use wdf_ready::{
-    allowed_at, allowed_len, first_by, groups_of, is_allowed, is_by, is_open, picked,
-    waits_for_time,
+    Side, allowed_at, allowed_len, first_by, first_of, groups_of, is_allowed, is_by, is_of,
+    is_open, picked, waits_for_time,
 };
 use wdf_same::same_event;
 use wdf_steps::step;
@@ -306,6 +307,60 @@ impl<A: Agent> Core<A> {
                 true
             }
             None => false,
+        }
+    }
+
+    /// Goes on by the first event of a side among those that may follow, and answers true; false, and nothing changes,
+    /// where none of them is the side's. The groups of other sides aren't searched. It takes no memory.
+    pub fn apply_first_of(&mut self, side: Side) -> bool
+        ensures plan { self.new.plan ≡ self.old.plan }
+        ensures taken { IsTrue result → (event : Event) × (find (is_event_of side) (ready self.old.plan A.meaning self.old.journal) ≡ Some event) × (self.new.journal ≡ self.old.journal ++ event ∷ []) }
+        ensures left { IsFalse result → (find (is_event_of side) (ready self.old.plan A.meaning self.old.journal) ≡ None) × (self.new.journal ≡ self.old.journal) }
+    {
+        match self.first_of_side(side) {
+            Some(event) => {
+                self.take(event);
+                true
+            }
+            None => false,
+        }
+    }
+
+    /// The first event of a side among those that may follow; `None` exactly where there is none.
+    fn first_of_side(&self, side: Side) -> Option<Event>
+        ensures { result ≡ find (is_event_of side) (ready self.now.plan A.meaning self.now.journal) }
+    {
+        let _ = &self.plan;
+        if !self.goes_on() {
+            return None;
+        }
+        match self.allowed_of(side) {
+            Some(event) => Some(event),
+            None => self.tick_of(side),
+        }
+    }
+
+    /// The first event of a side among those that may come, time aside; `None` exactly where there is none.
+    fn allowed_of(&self, side: Side) -> Option<Event>
+        requires { goes_on self.now.plan self.now.journal ≡ true }
+        ensures { result ≡ find (is_event_of side) (allowed self.now.plan A.meaning (state_after self.now.plan A.meaning self.now.journal)) }
+    {
+        first_of(&self.plan, &self.parts, &self.groups, side)
+    }
+
+    /// The next tick, where it may follow and is of the side, which has no other event.
+    fn tick_of(&self, side: Side) -> Option<Event>
+        requires going { goes_on self.now.plan self.now.journal ≡ true }
+        requires none { find (is_event_of side) (allowed self.now.plan A.meaning (state_after self.now.plan A.meaning self.now.journal)) ≡ None }
+        ensures { result ≡ find (is_event_of side) (ready self.now.plan A.meaning self.now.journal) }
+    {
+        let _ = &self.plan;
+        if !is_of(side, &self.tick()) {
+            return None;
+        }
+        match self.allowed_at(0) {
+            Some(_) => None,
+            None => self.tick_if_waiting(),
         }
     }
 

@@ -13,3 +13,4 @@ pub mod Counting
 pub mod Decided
 pub mod Numbered
 pub mod Leavers
+pub mod SidesOfGroups

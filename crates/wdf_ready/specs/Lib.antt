@@ -3,3 +3,4 @@ pub mod Idle
 pub mod Search
 pub mod Leaving
 pub mod Lesser
+pub mod Sides

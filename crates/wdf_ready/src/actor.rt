@@ -5,7 +5,7 @@ use wdf_base::{Actor, Event};
 use wdf_same::same_actor;
 
 /// The actor of an event.
-fn actor_of(event: &Event) -> Actor
+pub(crate) fn actor_of(event: &Event) -> Actor
     ensures { result ≡ actor_by_event event.now }
 {
     match event {

@@ -13,6 +13,7 @@ mod groups;
 mod idle;
 mod leaving;
 mod search;
+mod sides;
 mod started;
 
 pub use actor::is_by;
@@ -21,3 +22,4 @@ pub use counted::picked;
 pub use endings::{is_open, waits_for_time};
 pub use groups::groups_of;
 pub use search::{allowed_at, allowed_len, first_by};
+pub use sides::{Side, first_of, is_of};

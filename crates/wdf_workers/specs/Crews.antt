@@ -5,6 +5,8 @@ use Rattle.wdf_base.specs.declared.event.Event.TheVariants as event
 use Rattle.wdf_base.specs.declared.event.Actor.TheVariants as actor
 use Rattle.wdf_model.specs.Runs.{place_for}
 use Rattle.wdf_ready.specs.Actors.{is_by}
+use Rattle.wdf_ready.specs.declared.sides.Side.{Side}
+use Rattle.wdf_ready.specs.declared.sides.Side.TheVariants as side
 use Rattle.wdf_crew.specs.declared.crew.Crew.{Crew}
 use Rattle.wdf_crew.specs.declared.crew.Crew.TheVariants.{Processor, Framework, Agents}
 use Rattle.wdf_crew.specs.declared.advance.Progress.{Progress}
@@ -20,6 +22,12 @@ abbrev pub takes_of : Crew → Event → Bool
 takes_of (Processor cpu) e = is_by (actor.Cpu cpu) e
 takes_of Framework e = is_by actor.Framework e || is_by actor.Clock e
 takes_of Agents e = is_post e
+
+-- the side whose events a crew takes
+abbrev pub side_of : Crew → Side
+side_of (Processor cpu) = side.Processor cpu
+side_of Framework = side.Framework
+side_of Agents = side.Agents
 
 -- What a turn adds to the events so far: of those that may follow, the first that is the crew's. It adds nothing where none is.
 abbrev pub Advances : (List Event → List Event) → Crew → List Event → List Event → Type 0

@@ -4,7 +4,7 @@ ghost use Rattle.wdf_model.specs.rules.Ready.{ready};
 ghost use Rattle.wdf_turn.specs.Tokens.{IsGrown};
 ghost use Rattle.wdf_workers.specs.Crews.{Advances, progress_of};
 
-use crate::crew::first_of;
+use crate::crew::side_of;
 use wdf_base::{Agent, Event, Plan};
 use wdf_core::Core;
 use wdf_crew::{Advance, Crew, Progress};
@@ -49,12 +49,11 @@ fn take_first<A: Agent>(core: &mut Core<A>, crew: Crew) -> Progress
     ensures progress { result ≡ progress_of crew (ready core.old.plan A.meaning core.old.journal) }
     ensures grown { IsGrown core.old.journal core.new.journal }
 {
-    match first_of(core, crew) {
-        Some(place) => {
-            core.apply(place);
-            Progress::Added
-        }
-        None if core.any_ready() => Progress::Waits,
-        None => Progress::Over,
+    if core.apply_first_of(side_of(crew)) {
+        Progress::Added
+    } else if core.any_ready() {
+        Progress::Waits
+    } else {
+        Progress::Over
     }
 }

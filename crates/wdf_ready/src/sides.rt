@@ -1,0 +1,104 @@
+//! The first event of a side. All events that a group has are of one side, so the others are passed over without a search.
+ghost use Rattle.std.specs.Prelude.{◌≡◌, ◌≤◌, ◌^◌, find, length};
+ghost use Rattle.wdf_ready.specs.Leaving.{DeletedSettled};
+ghost use Rattle.wdf_ready.specs.Search as search;
+ghost use Rattle.wdf_ready.specs.Sides.{is_of as is_event_of, same_side as is_same_side, side_of, side_of_group};
+
+use crate::actor::actor_of;
+use crate::search::offered_at;
+use wdf_base::{Actor, Agent, Event};
+use wdf_model::Group;
+use wdf_parts::Parts;
+use wdf_plan_index::IndexedPlan;
+
+/// Whose events they are.
+#[derive(Clone, Copy, Debug)]
+pub enum Side {
+    /// A processor's.
+    Processor(u8),
+    /// The framework's and the clock's.
+    Framework,
+    /// Those of all agents.
+    Agents,
+}
+
+/// The side of an actor.
+fn of_actor(actor: Actor) -> Side
+    ensures { result ≡ side_of actor }
+{
+    match actor {
+        Actor::Cpu(cpu) => Side::Processor(cpu),
+        Actor::Framework | Actor::Clock => Side::Framework,
+        Actor::Agent(_) => Side::Agents,
+    }
+}
+
+/// The side of all events that a group has.
+fn of_group(group: Group) -> Side
+    ensures { result ≡ side_of_group group }
+{
+    match group {
+        Group::OwnEvent { cpu }
+        | Group::Parks { cpu }
+        | Group::Unparks { cpu }
+        | Group::Starts { cpu, .. }
+        | Group::StartsFor { cpu, .. } => Side::Processor(cpu),
+        Group::Stages | Group::Completions | Group::Cleanups | Group::Destroys => Side::Framework,
+        Group::Posts => Side::Agents,
+    }
+}
+
+/// Whether two sides are one.
+fn same_side(one: Side, other: Side) -> bool
+    ensures { result ≡ is_same_side one other }
+{
+    match (one, other) {
+        (Side::Processor(a), Side::Processor(b)) => a == b,
+        (Side::Framework, Side::Framework) | (Side::Agents, Side::Agents) => true,
+        _ => false,
+    }
+}
+
+/// Whether an event is of a side.
+pub fn is_of(side: Side, event: &Event) -> bool
+    ensures { result ≡ is_event_of side event.now }
+{
+    same_side(of_actor(actor_of(event)), side)
+}
+
+/// The first event of a side among those that may come of a group's places, if the group has such.
+fn first_in<A: Agent>(
+    plan: &IndexedPlan,
+    parts: &Parts<A>,
+    group: Group,
+    side: Side,
+) -> Option<Event>
+    requires agents { length parts.now.agents ≤ 2 ^ 16 }
+    requires settled { DeletedSettled parts.now }
+    ensures { result ≡ find (is_event_of side) (search.offered_from plan.now A.meaning parts.now group 0) }
+{
+    if same_side(of_group(group), side) {
+        offered_at(plan, parts, group, 0).ok()
+    } else {
+        None
+    }
+}
+
+/// The first event of a side among those that may come of all these groups; `None` exactly where there is none.
+pub fn first_of<A: Agent>(
+    plan: &IndexedPlan,
+    parts: &Parts<A>,
+    all: &[Group],
+    side: Side,
+) -> Option<Event>
+    requires agents { length parts.now.agents ≤ 2 ^ 16 }
+    requires settled { DeletedSettled parts.now }
+    ensures { result ≡ find (is_event_of side) (search.events_of plan.now A.meaning parts.now all.now) }
+{
+    for group in all {
+        if let Some(event) = first_in(plan, parts, *group, side) {
+            return Some(event);
+        }
+    }
+    None
+}
