@@ -16,7 +16,7 @@ NAME names the run. `specs` gives the plan, the events and the wait list of each
 of wdf_model compute them. The runs of tools/stack have two files of specs: StackOrders with those that have a `pnp`
 block, and StackRequests; those of tools/idle likewise IdleSequences and IdleRequests. The runs of scenarios/stuck have three: StuckObjects, StuckRequests and StuckSequences. They
 and those of scenarios/spinning are for crates/law_stuck_worked, and so are those of scenarios/silent, which targets
-never answer: of these only the specs are written here. What it writes still has to go through `rt tidy` in the crate.
+never answer: of these only the specs are written here. What it writes still has to go through `rt fmt` in the crate.
 It serves the worked runs alone: what the program reads is read by its own parser.
 """
 import os

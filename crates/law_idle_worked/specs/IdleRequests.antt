@@ -22,35 +22,20 @@ use Rattle.wdf_base.specs.declared.call.Callback.TheVariants as callback
 use Rattle.wdf_base.specs.declared.value.Status.TheVariants as status
 use Rattle.wdf_base.specs.declared.value.Value.TheVariants.{Num, Obj, Stat}
 use Rattle.wdf_base.specs.declared.plan.Plan.{Plan}
-use Rattle.law_machine_worked.specs.Writing.{h, p, c, at, s}
+use Rattle.law_machine_worked.specs.Writing.{h, p, c, at, s, a_plan, a_device, a_queue, serves, an_agent, a_script}
 
 abbrev pub arrival_after_sleep_plan : Plan
-arrival_after_sleep_plan = record {
-  cpus = 1;
-  limit = 100;
-  objects = 16;
+arrival_after_sleep_plan = record (a_plan 1 100 16) {
   names = (codes "driver") ∷ (codes "req") ∷ (codes "D") ∷ (codes "IDLE_TIMEOUT") ∷ (codes "Q") ∷ (codes "A") ∷ [];
-  declared = (declared.Driver)
-      ∷ (declared.Device (record { name = 2; working = true; scope = scope.Unscoped; level = level.Dispatch }))
-      ∷ (declared.Queue (record { name = 4; device = record { 0 = 2 }; dispatch = dispatch.Sequential; serves = record { rest = true; read = false; write = false; control = false }; powered = true; zero = false; scope = scope.Unscoped; level = level.Dispatch }))
+  declared = declared.Driver
+      ∷ a_device 2 true scope.Unscoped level.Dispatch
+      ∷ a_queue 4 2 dispatch.Sequential (serves true false false false) true false scope.Unscoped level.Dispatch
       ∷ [];
-  classes = [];
   registers = (record { name = 3; device = record { 0 = 2 }; value = 2 }) ∷ [];
-  whens = [];
-  pnp = [];
-  agents = (record { name = 5; posts = (at 14 2 (post.Read (h 2 2) 16)) ∷ [] })
-      ∷ (record { name = 2; posts = [] })
-      ∷ [];
+  agents = (an_agent 5 ((at 14 2 (post.Read (h 2 2) 16)) ∷ [])) ∷ (an_agent 2 []) ∷ [];
   exprs = (node.Context context.OwnRequest) ∷ (node.Literal status.Success) ∷ [];
-  scripts = (record {
-    callback = callback.EvtIoRead;
-    owner = declared.Queue (record { name = 4; device = record { 0 = 2 }; dispatch = dispatch.Sequential; serves = record { rest = true; read = false; write = false; control = false }; powered = true; zero = false; scope = scope.Unscoped; level = level.Dispatch });
-    line = 8;
-    statements = s 9 1 (act.Call call.WdfRequestComplete None (arg.Expression 0) (arg.Expression 1) arg.NoArgument)
-        ∷ [];
-  })
+  scripts = a_script callback.EvtIoRead (a_queue 4 2 dispatch.Sequential (serves true false false false) true false scope.Unscoped level.Dispatch) 8 (s 9 1 (act.Call call.WdfRequestComplete None (arg.Expression 0) (arg.Expression 1) arg.NoArgument) ∷ [])
       ∷ [];
-  picks = [];
 }
 
 abbrev pub arrival_after_sleep_events : List Event
@@ -78,30 +63,16 @@ arrival_after_sleep_events = event.Tick 1
     ∷ []
 
 abbrev pub arrival_before_sleep_plan : Plan
-arrival_before_sleep_plan = record {
-  cpus = 1;
-  limit = 100;
-  objects = 16;
+arrival_before_sleep_plan = record (a_plan 1 100 16) {
   names = (codes "driver") ∷ (codes "req") ∷ (codes "D") ∷ (codes "IDLE_TIMEOUT") ∷ (codes "Q") ∷ (codes "A") ∷ [];
-  declared = (declared.Driver)
-      ∷ (declared.Device (record { name = 2; working = true; scope = scope.Unscoped; level = level.Dispatch }))
-      ∷ (declared.Queue (record { name = 4; device = record { 0 = 2 }; dispatch = dispatch.Sequential; serves = record { rest = true; read = false; write = false; control = false }; powered = true; zero = false; scope = scope.Unscoped; level = level.Dispatch }))
+  declared = declared.Driver
+      ∷ a_device 2 true scope.Unscoped level.Dispatch
+      ∷ a_queue 4 2 dispatch.Sequential (serves true false false false) true false scope.Unscoped level.Dispatch
       ∷ [];
-  classes = [];
   registers = (record { name = 3; device = record { 0 = 2 }; value = 2 }) ∷ [];
-  whens = [];
-  pnp = [];
-  agents = (record { name = 5; posts = (at 14 2 (post.Read (h 2 2) 16)) ∷ [] })
-      ∷ (record { name = 2; posts = [] })
-      ∷ [];
+  agents = (an_agent 5 ((at 14 2 (post.Read (h 2 2) 16)) ∷ [])) ∷ (an_agent 2 []) ∷ [];
   exprs = (node.Context context.OwnRequest) ∷ (node.Literal status.Success) ∷ [];
-  scripts = (record {
-    callback = callback.EvtIoRead;
-    owner = declared.Queue (record { name = 4; device = record { 0 = 2 }; dispatch = dispatch.Sequential; serves = record { rest = true; read = false; write = false; control = false }; powered = true; zero = false; scope = scope.Unscoped; level = level.Dispatch });
-    line = 8;
-    statements = s 9 1 (act.Call call.WdfRequestComplete None (arg.Expression 0) (arg.Expression 1) arg.NoArgument)
-        ∷ [];
-  })
+  scripts = a_script callback.EvtIoRead (a_queue 4 2 dispatch.Sequential (serves true false false false) true false scope.Unscoped level.Dispatch) 8 (s 9 1 (act.Call call.WdfRequestComplete None (arg.Expression 0) (arg.Expression 1) arg.NoArgument) ∷ [])
       ∷ [];
   picks = (0) ∷ (0) ∷ (1) ∷ [];
 }
@@ -124,30 +95,16 @@ arrival_before_sleep_events = event.Tick 1
     ∷ []
 
 abbrev pub arrival_within_sleep_plan : Plan
-arrival_within_sleep_plan = record {
-  cpus = 1;
-  limit = 100;
-  objects = 16;
+arrival_within_sleep_plan = record (a_plan 1 100 16) {
   names = (codes "driver") ∷ (codes "req") ∷ (codes "D") ∷ (codes "IDLE_TIMEOUT") ∷ (codes "Q") ∷ (codes "A") ∷ [];
-  declared = (declared.Driver)
-      ∷ (declared.Device (record { name = 2; working = true; scope = scope.Unscoped; level = level.Dispatch }))
-      ∷ (declared.Queue (record { name = 4; device = record { 0 = 2 }; dispatch = dispatch.Sequential; serves = record { rest = true; read = false; write = false; control = false }; powered = true; zero = false; scope = scope.Unscoped; level = level.Dispatch }))
+  declared = declared.Driver
+      ∷ a_device 2 true scope.Unscoped level.Dispatch
+      ∷ a_queue 4 2 dispatch.Sequential (serves true false false false) true false scope.Unscoped level.Dispatch
       ∷ [];
-  classes = [];
   registers = (record { name = 3; device = record { 0 = 2 }; value = 2 }) ∷ [];
-  whens = [];
-  pnp = [];
-  agents = (record { name = 5; posts = (at 14 2 (post.Read (h 2 2) 16)) ∷ [] })
-      ∷ (record { name = 2; posts = [] })
-      ∷ [];
+  agents = (an_agent 5 ((at 14 2 (post.Read (h 2 2) 16)) ∷ [])) ∷ (an_agent 2 []) ∷ [];
   exprs = (node.Context context.OwnRequest) ∷ (node.Literal status.Success) ∷ [];
-  scripts = (record {
-    callback = callback.EvtIoRead;
-    owner = declared.Queue (record { name = 4; device = record { 0 = 2 }; dispatch = dispatch.Sequential; serves = record { rest = true; read = false; write = false; control = false }; powered = true; zero = false; scope = scope.Unscoped; level = level.Dispatch });
-    line = 8;
-    statements = s 9 1 (act.Call call.WdfRequestComplete None (arg.Expression 0) (arg.Expression 1) arg.NoArgument)
-        ∷ [];
-  })
+  scripts = a_script callback.EvtIoRead (a_queue 4 2 dispatch.Sequential (serves true false false false) true false scope.Unscoped level.Dispatch) 8 (s 9 1 (act.Call call.WdfRequestComplete None (arg.Expression 0) (arg.Expression 1) arg.NoArgument) ∷ [])
       ∷ [];
   picks = (0) ∷ (0) ∷ (0) ∷ (1) ∷ (1) ∷ [];
 }
@@ -177,30 +134,16 @@ arrival_within_sleep_events = event.Tick 1
     ∷ []
 
 abbrev pub cancelled_in_sleep_plan : Plan
-cancelled_in_sleep_plan = record {
-  cpus = 1;
-  limit = 100;
-  objects = 16;
+cancelled_in_sleep_plan = record (a_plan 1 100 16) {
   names = (codes "driver") ∷ (codes "req") ∷ (codes "D") ∷ (codes "IDLE_TIMEOUT") ∷ (codes "Q") ∷ (codes "A") ∷ [];
-  declared = (declared.Driver)
-      ∷ (declared.Device (record { name = 2; working = true; scope = scope.Unscoped; level = level.Dispatch }))
-      ∷ (declared.Queue (record { name = 4; device = record { 0 = 2 }; dispatch = dispatch.Sequential; serves = record { rest = true; read = false; write = false; control = false }; powered = true; zero = false; scope = scope.Unscoped; level = level.Dispatch }))
+  declared = declared.Driver
+      ∷ a_device 2 true scope.Unscoped level.Dispatch
+      ∷ a_queue 4 2 dispatch.Sequential (serves true false false false) true false scope.Unscoped level.Dispatch
       ∷ [];
-  classes = [];
   registers = (record { name = 3; device = record { 0 = 2 }; value = 2 }) ∷ [];
-  whens = [];
-  pnp = [];
-  agents = (record { name = 5; posts = (at 14 3 (post.Read (h 2 2) 16)) ∷ (at 15 3 (post.Cancel 1)) ∷ [] })
-      ∷ (record { name = 2; posts = [] })
-      ∷ [];
+  agents = (an_agent 5 ((at 14 3 (post.Read (h 2 2) 16)) ∷ (at 15 3 (post.Cancel 1)) ∷ [])) ∷ (an_agent 2 []) ∷ [];
   exprs = (node.Context context.OwnRequest) ∷ (node.Literal status.Success) ∷ [];
-  scripts = (record {
-    callback = callback.EvtIoRead;
-    owner = declared.Queue (record { name = 4; device = record { 0 = 2 }; dispatch = dispatch.Sequential; serves = record { rest = true; read = false; write = false; control = false }; powered = true; zero = false; scope = scope.Unscoped; level = level.Dispatch });
-    line = 8;
-    statements = s 9 1 (act.Call call.WdfRequestComplete None (arg.Expression 0) (arg.Expression 1) arg.NoArgument)
-        ∷ [];
-  })
+  scripts = a_script callback.EvtIoRead (a_queue 4 2 dispatch.Sequential (serves true false false false) true false scope.Unscoped level.Dispatch) 8 (s 9 1 (act.Call call.WdfRequestComplete None (arg.Expression 0) (arg.Expression 1) arg.NoArgument) ∷ [])
       ∷ [];
   picks = (0) ∷ (0) ∷ (0) ∷ (0) ∷ (0) ∷ (0) ∷ (0) ∷ (0) ∷ (1) ∷ [];
 }
@@ -221,33 +164,19 @@ cancelled_in_sleep_events = event.Tick 1
     ∷ []
 
 abbrev pub held_awake_plan : Plan
-held_awake_plan = record {
-  cpus = 1;
-  limit = 100;
-  objects = 16;
+held_awake_plan = record (a_plan 1 100 16) {
   names = (codes "driver") ∷ (codes "req") ∷ (codes "D") ∷ (codes "IDLE_TIMEOUT") ∷ (codes "IDLE_HOLD") ∷ (codes "Q") ∷ (codes "A") ∷ [];
-  declared = (declared.Driver)
-      ∷ (declared.Device (record { name = 2; working = true; scope = scope.Unscoped; level = level.Dispatch }))
-      ∷ (declared.Queue (record { name = 5; device = record { 0 = 2 }; dispatch = dispatch.Sequential; serves = record { rest = true; read = false; write = false; control = false }; powered = true; zero = false; scope = scope.Unscoped; level = level.Dispatch }))
+  declared = declared.Driver
+      ∷ a_device 2 true scope.Unscoped level.Dispatch
+      ∷ a_queue 5 2 dispatch.Sequential (serves true false false false) true false scope.Unscoped level.Dispatch
       ∷ [];
-  classes = [];
   registers = (record { name = 3; device = record { 0 = 2 }; value = 2 }) ∷ (record { name = 4; device = record { 0 = 2 }; value = 0 }) ∷ [];
-  whens = [];
-  pnp = [];
-  agents = (record { name = 6; posts = (at 16 0 (post.Read (h 2 2) 16)) ∷ (at 17 5 (post.Read (h 2 2) 16)) ∷ [] })
-      ∷ (record { name = 2; posts = [] })
-      ∷ [];
+  agents = (an_agent 6 ((at 16 0 (post.Read (h 2 2) 16)) ∷ (at 17 5 (post.Read (h 2 2) 16)) ∷ [])) ∷ (an_agent 2 []) ∷ [];
   exprs = (node.Number 1) ∷ (node.Context context.OwnRequest) ∷ (node.Literal status.Success) ∷ [];
-  scripts = (record {
-    callback = callback.EvtIoRead;
-    owner = declared.Queue (record { name = 5; device = record { 0 = 2 }; dispatch = dispatch.Sequential; serves = record { rest = true; read = false; write = false; control = false }; powered = true; zero = false; scope = scope.Unscoped; level = level.Dispatch });
-    line = 9;
-    statements = s 10 1 (act.Put 1 0)
-        ∷ s 11 2 (act.Call call.WdfRequestComplete None (arg.Expression 1) (arg.Expression 2) arg.NoArgument)
-        ∷ [];
-  })
+  scripts = a_script callback.EvtIoRead (a_queue 5 2 dispatch.Sequential (serves true false false false) true false scope.Unscoped level.Dispatch) 9
+      (s 10 1 (act.Put 1 0)
+      ∷ s 11 2 (act.Call call.WdfRequestComplete None (arg.Expression 1) (arg.Expression 2) arg.NoArgument) ∷ [])
       ∷ [];
-  picks = [];
 }
 
 abbrev pub held_awake_events : List Event
@@ -273,23 +202,13 @@ held_awake_events = event.Posted 1 (post.Read (h 2 2) 16) (Some (h 4 1))
     ∷ []
 
 abbrev pub hold_by_device_plan : Plan
-hold_by_device_plan = record {
-  cpus = 1;
-  limit = 100;
-  objects = 16;
+hold_by_device_plan = record (a_plan 1 100 16) {
   names = (codes "driver") ∷ (codes "req") ∷ (codes "D") ∷ (codes "IDLE_TIMEOUT") ∷ (codes "IDLE_HOLD") ∷ [];
-  declared = (declared.Driver)
-      ∷ (declared.Device (record { name = 2; working = true; scope = scope.Unscoped; level = level.Dispatch }))
+  declared = declared.Driver
+      ∷ a_device 2 true scope.Unscoped level.Dispatch
       ∷ [];
-  classes = [];
   registers = (record { name = 3; device = record { 0 = 2 }; value = 2 }) ∷ (record { name = 4; device = record { 0 = 2 }; value = 0 }) ∷ [];
-  whens = [];
-  pnp = [];
-  agents = (record { name = 2; posts = (at 7 1 (post.Act (action.Set 1 1))) ∷ (at 8 5 (post.Act (action.Set 1 0))) ∷ [] })
-      ∷ [];
-  exprs = [];
-  scripts = [];
-  picks = [];
+  agents = (an_agent 2 ((at 7 1 (post.Act (action.Set 1 1))) ∷ (at 8 5 (post.Act (action.Set 1 0))) ∷ [])) ∷ [];
 }
 
 abbrev pub hold_by_device_events : List Event
@@ -309,33 +228,19 @@ hold_by_device_events = event.Tick 1
     ∷ []
 
 abbrev pub hold_by_driver_plan : Plan
-hold_by_driver_plan = record {
-  cpus = 1;
-  limit = 100;
-  objects = 16;
+hold_by_driver_plan = record (a_plan 1 100 16) {
   names = (codes "driver") ∷ (codes "req") ∷ (codes "D") ∷ (codes "IDLE_TIMEOUT") ∷ (codes "IDLE_HOLD") ∷ (codes "Q") ∷ (codes "A") ∷ [];
-  declared = (declared.Driver)
-      ∷ (declared.Device (record { name = 2; working = true; scope = scope.Unscoped; level = level.Dispatch }))
-      ∷ (declared.Queue (record { name = 5; device = record { 0 = 2 }; dispatch = dispatch.Sequential; serves = record { rest = true; read = false; write = false; control = false }; powered = true; zero = false; scope = scope.Unscoped; level = level.Dispatch }))
+  declared = declared.Driver
+      ∷ a_device 2 true scope.Unscoped level.Dispatch
+      ∷ a_queue 5 2 dispatch.Sequential (serves true false false false) true false scope.Unscoped level.Dispatch
       ∷ [];
-  classes = [];
   registers = (record { name = 3; device = record { 0 = 2 }; value = 3 }) ∷ (record { name = 4; device = record { 0 = 2 }; value = 7 }) ∷ [];
-  whens = [];
-  pnp = [];
-  agents = (record { name = 6; posts = (at 16 5 (post.Control (h 2 2) 0 8)) ∷ (at 17 6 (post.Control (h 2 2) 1 8)) ∷ (at 18 12 (post.Control (h 2 2) 0 8)) ∷ [] })
-      ∷ (record { name = 2; posts = [] })
-      ∷ [];
+  agents = (an_agent 6 ((at 16 5 (post.Control (h 2 2) 0 8)) ∷ (at 17 6 (post.Control (h 2 2) 1 8)) ∷ (at 18 12 (post.Control (h 2 2) 0 8)) ∷ [])) ∷ (an_agent 2 []) ∷ [];
   exprs = (node.Context context.RequestCode) ∷ (node.Context context.OwnRequest) ∷ (node.Literal status.Success) ∷ [];
-  scripts = (record {
-    callback = callback.EvtIoDeviceControl;
-    owner = declared.Queue (record { name = 5; device = record { 0 = 2 }; dispatch = dispatch.Sequential; serves = record { rest = true; read = false; write = false; control = false }; powered = true; zero = false; scope = scope.Unscoped; level = level.Dispatch });
-    line = 9;
-    statements = s 10 1 (act.Put 1 0)
-        ∷ s 11 2 (act.Call call.WdfRequestComplete None (arg.Expression 1) (arg.Expression 2) arg.NoArgument)
-        ∷ [];
-  })
+  scripts = a_script callback.EvtIoDeviceControl (a_queue 5 2 dispatch.Sequential (serves true false false false) true false scope.Unscoped level.Dispatch) 9
+      (s 10 1 (act.Put 1 0)
+      ∷ s 11 2 (act.Call call.WdfRequestComplete None (arg.Expression 1) (arg.Expression 2) arg.NoArgument) ∷ [])
       ∷ [];
-  picks = [];
 }
 
 abbrev pub hold_by_driver_events : List Event
@@ -382,32 +287,17 @@ hold_by_driver_events = event.Tick 1
     ∷ []
 
 abbrev pub sleeps_when_unused_plan : Plan
-sleeps_when_unused_plan = record {
-  cpus = 1;
-  limit = 100;
-  objects = 16;
+sleeps_when_unused_plan = record (a_plan 1 100 16) {
   names = (codes "driver") ∷ (codes "req") ∷ (codes "D") ∷ (codes "IDLE_TIMEOUT") ∷ (codes "IDLE_HOLD") ∷ (codes "Q") ∷ (codes "A") ∷ [];
-  declared = (declared.Driver)
-      ∷ (declared.Device (record { name = 2; working = true; scope = scope.Unscoped; level = level.Dispatch }))
-      ∷ (declared.Queue (record { name = 5; device = record { 0 = 2 }; dispatch = dispatch.Sequential; serves = record { rest = true; read = false; write = false; control = false }; powered = true; zero = false; scope = scope.Unscoped; level = level.Dispatch }))
+  declared = declared.Driver
+      ∷ a_device 2 true scope.Unscoped level.Dispatch
+      ∷ a_queue 5 2 dispatch.Sequential (serves true false false false) true false scope.Unscoped level.Dispatch
       ∷ [];
-  classes = [];
   registers = (record { name = 3; device = record { 0 = 2 }; value = 2 }) ∷ (record { name = 4; device = record { 0 = 2 }; value = 0 }) ∷ [];
-  whens = [];
-  pnp = [];
-  agents = (record { name = 6; posts = (at 15 0 (post.Read (h 2 2) 16)) ∷ (at 16 5 (post.Read (h 2 2) 16)) ∷ [] })
-      ∷ (record { name = 2; posts = [] })
-      ∷ [];
+  agents = (an_agent 6 ((at 15 0 (post.Read (h 2 2) 16)) ∷ (at 16 5 (post.Read (h 2 2) 16)) ∷ [])) ∷ (an_agent 2 []) ∷ [];
   exprs = (node.Context context.OwnRequest) ∷ (node.Literal status.Success) ∷ [];
-  scripts = (record {
-    callback = callback.EvtIoRead;
-    owner = declared.Queue (record { name = 5; device = record { 0 = 2 }; dispatch = dispatch.Sequential; serves = record { rest = true; read = false; write = false; control = false }; powered = true; zero = false; scope = scope.Unscoped; level = level.Dispatch });
-    line = 9;
-    statements = s 10 1 (act.Call call.WdfRequestComplete None (arg.Expression 0) (arg.Expression 1) arg.NoArgument)
-        ∷ [];
-  })
+  scripts = a_script callback.EvtIoRead (a_queue 5 2 dispatch.Sequential (serves true false false false) true false scope.Unscoped level.Dispatch) 9 (s 10 1 (act.Call call.WdfRequestComplete None (arg.Expression 0) (arg.Expression 1) arg.NoArgument) ∷ [])
       ∷ [];
-  picks = [];
 }
 
 abbrev pub sleeps_when_unused_events : List Event
@@ -444,42 +334,20 @@ sleeps_when_unused_events = event.Posted 1 (post.Read (h 2 2) 16) (Some (h 4 1))
     ∷ []
 
 abbrev pub two_timeouts_plan : Plan
-two_timeouts_plan = record {
-  cpus = 1;
-  limit = 100;
-  objects = 16;
+two_timeouts_plan = record (a_plan 1 100 16) {
   names = (codes "driver") ∷ (codes "req") ∷ (codes "D") ∷ (codes "IDLE_TIMEOUT") ∷ (codes "Q") ∷ (codes "E") ∷ (codes "IDLE_TIMEOUT") ∷ (codes "F") ∷ (codes "A") ∷ [];
-  declared = (declared.Driver)
-      ∷ (declared.Device (record { name = 2; working = true; scope = scope.Unscoped; level = level.Dispatch }))
-      ∷ (declared.Queue (record { name = 4; device = record { 0 = 2 }; dispatch = dispatch.Sequential; serves = record { rest = true; read = false; write = false; control = false }; powered = true; zero = false; scope = scope.Unscoped; level = level.Dispatch }))
-      ∷ (declared.Device (record { name = 5; working = true; scope = scope.Unscoped; level = level.Dispatch }))
-      ∷ (declared.Queue (record { name = 7; device = record { 0 = 4 }; dispatch = dispatch.Sequential; serves = record { rest = true; read = false; write = false; control = false }; powered = true; zero = false; scope = scope.Unscoped; level = level.Dispatch }))
+  declared = declared.Driver
+      ∷ a_device 2 true scope.Unscoped level.Dispatch
+      ∷ a_queue 4 2 dispatch.Sequential (serves true false false false) true false scope.Unscoped level.Dispatch
+      ∷ a_device 5 true scope.Unscoped level.Dispatch
+      ∷ a_queue 7 4 dispatch.Sequential (serves true false false false) true false scope.Unscoped level.Dispatch
       ∷ [];
-  classes = [];
   registers = (record { name = 3; device = record { 0 = 2 }; value = 2 }) ∷ (record { name = 6; device = record { 0 = 4 }; value = 1 }) ∷ [];
-  whens = [];
-  pnp = [];
-  agents = (record { name = 8; posts = (at 23 3 (post.Read (h 4 5) 16)) ∷ [] })
-      ∷ (record { name = 2; posts = [] })
-      ∷ (record { name = 5; posts = [] })
-      ∷ [];
+  agents = (an_agent 8 ((at 23 3 (post.Read (h 4 5) 16)) ∷ [])) ∷ (an_agent 2 []) ∷ (an_agent 5 []) ∷ [];
   exprs = (node.Context context.OwnRequest) ∷ (node.Literal status.Success) ∷ (node.Context context.OwnRequest) ∷ (node.Literal status.Success) ∷ [];
-  scripts = (record {
-    callback = callback.EvtIoRead;
-    owner = declared.Queue (record { name = 4; device = record { 0 = 2 }; dispatch = dispatch.Sequential; serves = record { rest = true; read = false; write = false; control = false }; powered = true; zero = false; scope = scope.Unscoped; level = level.Dispatch });
-    line = 8;
-    statements = s 9 1 (act.Call call.WdfRequestComplete None (arg.Expression 0) (arg.Expression 1) arg.NoArgument)
-        ∷ [];
-  })
-      ∷ (record {
-        callback = callback.EvtIoRead;
-        owner = declared.Queue (record { name = 7; device = record { 0 = 4 }; dispatch = dispatch.Sequential; serves = record { rest = true; read = false; write = false; control = false }; powered = true; zero = false; scope = scope.Unscoped; level = level.Dispatch });
-        line = 17;
-        statements = s 18 1 (act.Call call.WdfRequestComplete None (arg.Expression 2) (arg.Expression 3) arg.NoArgument)
-            ∷ [];
-      })
+  scripts = a_script callback.EvtIoRead (a_queue 4 2 dispatch.Sequential (serves true false false false) true false scope.Unscoped level.Dispatch) 8 (s 9 1 (act.Call call.WdfRequestComplete None (arg.Expression 0) (arg.Expression 1) arg.NoArgument) ∷ [])
+      ∷ a_script callback.EvtIoRead (a_queue 7 4 dispatch.Sequential (serves true false false false) true false scope.Unscoped level.Dispatch) 17 (s 18 1 (act.Call call.WdfRequestComplete None (arg.Expression 2) (arg.Expression 3) arg.NoArgument) ∷ [])
       ∷ [];
-  picks = [];
 }
 
 abbrev pub two_timeouts_events : List Event
@@ -511,33 +379,19 @@ two_timeouts_events = event.Tick 1
     ∷ []
 
 abbrev pub used_for_a_while_plan : Plan
-used_for_a_while_plan = record {
-  cpus = 1;
-  limit = 100;
-  objects = 16;
+used_for_a_while_plan = record (a_plan 1 100 16) {
   names = (codes "driver") ∷ (codes "req") ∷ (codes "D") ∷ (codes "IDLE_TIMEOUT") ∷ (codes "Q") ∷ (codes "A") ∷ [];
-  declared = (declared.Driver)
-      ∷ (declared.Device (record { name = 2; working = true; scope = scope.Unscoped; level = level.Dispatch }))
-      ∷ (declared.Queue (record { name = 4; device = record { 0 = 2 }; dispatch = dispatch.Sequential; serves = record { rest = true; read = false; write = false; control = false }; powered = true; zero = false; scope = scope.Unscoped; level = level.Dispatch }))
+  declared = declared.Driver
+      ∷ a_device 2 true scope.Unscoped level.Dispatch
+      ∷ a_queue 4 2 dispatch.Sequential (serves true false false false) true false scope.Unscoped level.Dispatch
       ∷ [];
-  classes = [];
   registers = (record { name = 3; device = record { 0 = 2 }; value = 2 }) ∷ [];
-  whens = [];
-  pnp = [];
-  agents = (record { name = 5; posts = (at 15 0 (post.Read (h 2 2) 16)) ∷ [] })
-      ∷ (record { name = 2; posts = [] })
-      ∷ [];
+  agents = (an_agent 5 ((at 15 0 (post.Read (h 2 2) 16)) ∷ [])) ∷ (an_agent 2 []) ∷ [];
   exprs = (node.Number 3) ∷ (node.Context context.OwnRequest) ∷ (node.Literal status.Success) ∷ [];
-  scripts = (record {
-    callback = callback.EvtIoRead;
-    owner = declared.Queue (record { name = 4; device = record { 0 = 2 }; dispatch = dispatch.Sequential; serves = record { rest = true; read = false; write = false; control = false }; powered = true; zero = false; scope = scope.Unscoped; level = level.Dispatch });
-    line = 8;
-    statements = s 9 1 (act.Spend 0)
-        ∷ s 10 2 (act.Call call.WdfRequestComplete None (arg.Expression 1) (arg.Expression 2) arg.NoArgument)
-        ∷ [];
-  })
+  scripts = a_script callback.EvtIoRead (a_queue 4 2 dispatch.Sequential (serves true false false false) true false scope.Unscoped level.Dispatch) 8
+      (s 9 1 (act.Spend 0)
+      ∷ s 10 2 (act.Call call.WdfRequestComplete None (arg.Expression 1) (arg.Expression 2) arg.NoArgument) ∷ [])
       ∷ [];
-  picks = [];
 }
 
 abbrev pub used_for_a_while_events : List Event

@@ -20,28 +20,18 @@ use Rattle.wdf_base.specs.declared.call.Callback.TheVariants as callback
 use Rattle.wdf_base.specs.declared.value.Status.TheVariants as status
 use Rattle.wdf_base.specs.declared.value.Value.TheVariants.{Num, Obj, Stat}
 use Rattle.wdf_base.specs.declared.plan.Plan.{Plan}
-use Rattle.law_machine_worked.specs.Writing.{h, p, c, at, s}
+use Rattle.law_machine_worked.specs.Writing.{h, p, c, at, s, a_plan, a_device, a_queue, serves, an_agent, a_script}
 
 abbrev pub both_at_one_tick_plan : Plan
-both_at_one_tick_plan = record {
-  cpus = 1;
-  limit = 100;
-  objects = 16;
+both_at_one_tick_plan = record (a_plan 1 100 16) {
   names = (codes "driver") ∷ (codes "req") ∷ (codes "D") ∷ (codes "IDLE_TIMEOUT") ∷ (codes "E") ∷ (codes "IDLE_TIMEOUT") ∷ [];
-  declared = (declared.Driver)
-      ∷ (declared.Device (record { name = 2; working = true; scope = scope.Unscoped; level = level.Dispatch }))
-      ∷ (declared.Device (record { name = 4; working = true; scope = scope.Unscoped; level = level.Dispatch }))
+  declared = declared.Driver
+      ∷ a_device 2 true scope.Unscoped level.Dispatch
+      ∷ a_device 4 true scope.Unscoped level.Dispatch
       ∷ [];
-  classes = [];
   registers = (record { name = 3; device = record { 0 = 2 }; value = 2 }) ∷ (record { name = 5; device = record { 0 = 3 }; value = 2 }) ∷ [];
-  whens = [];
   pnp = (at 11 2 (post.Ask ask.Rebalance (h 2 2))) ∷ [];
-  agents = (record { name = 2; posts = [] })
-      ∷ (record { name = 4; posts = [] })
-      ∷ [];
-  exprs = [];
-  scripts = [];
-  picks = [];
+  agents = (an_agent 2 []) ∷ (an_agent 4 []) ∷ [];
 }
 
 abbrev pub both_at_one_tick_events : List Event
@@ -59,23 +49,14 @@ both_at_one_tick_events = event.Tick 1
     ∷ []
 
 abbrev pub rebalanced_plan : Plan
-rebalanced_plan = record {
-  cpus = 1;
-  limit = 100;
-  objects = 16;
+rebalanced_plan = record (a_plan 1 100 16) {
   names = (codes "driver") ∷ (codes "req") ∷ (codes "D") ∷ (codes "IDLE_TIMEOUT") ∷ [];
-  declared = (declared.Driver)
-      ∷ (declared.Device (record { name = 2; working = true; scope = scope.Unscoped; level = level.Dispatch }))
+  declared = declared.Driver
+      ∷ a_device 2 true scope.Unscoped level.Dispatch
       ∷ [];
-  classes = [];
   registers = (record { name = 3; device = record { 0 = 2 }; value = 2 }) ∷ [];
-  whens = [];
   pnp = (at 8 1 (post.Ask ask.Rebalance (h 2 2))) ∷ [];
-  agents = (record { name = 2; posts = [] })
-      ∷ [];
-  exprs = [];
-  scripts = [];
-  picks = [];
+  agents = (an_agent 2 []) ∷ [];
 }
 
 abbrev pub rebalanced_events : List Event
@@ -96,39 +77,19 @@ rebalanced_events = event.Tick 1
     ∷ []
 
 abbrev pub refused_removal_plan : Plan
-refused_removal_plan = record {
-  cpus = 1;
-  limit = 100;
-  objects = 16;
+refused_removal_plan = record (a_plan 1 100 16) {
   names = (codes "driver") ∷ (codes "req") ∷ (codes "D") ∷ (codes "IDLE_TIMEOUT") ∷ (codes "Q") ∷ (codes "A") ∷ [];
-  declared = (declared.Driver)
-      ∷ (declared.Device (record { name = 2; working = true; scope = scope.Unscoped; level = level.Dispatch }))
-      ∷ (declared.Queue (record { name = 4; device = record { 0 = 2 }; dispatch = dispatch.Sequential; serves = record { rest = true; read = false; write = false; control = false }; powered = true; zero = false; scope = scope.Unscoped; level = level.Dispatch }))
+  declared = declared.Driver
+      ∷ a_device 2 true scope.Unscoped level.Dispatch
+      ∷ a_queue 4 2 dispatch.Sequential (serves true false false false) true false scope.Unscoped level.Dispatch
       ∷ [];
-  classes = [];
   registers = (record { name = 3; device = record { 0 = 2 }; value = 2 }) ∷ [];
-  whens = [];
   pnp = (at 20 3 (post.Ask ask.Remove (h 2 2))) ∷ [];
-  agents = (record { name = 5; posts = (at 17 4 (post.Read (h 2 2) 16)) ∷ [] })
-      ∷ (record { name = 2; posts = [] })
-      ∷ [];
+  agents = (an_agent 5 ((at 17 4 (post.Read (h 2 2) 16)) ∷ [])) ∷ (an_agent 2 []) ∷ [];
   exprs = (node.Context context.OwnRequest) ∷ (node.Literal status.Success) ∷ (node.Literal status.Unsuccessful) ∷ [];
-  scripts = (record {
-    callback = callback.EvtIoRead;
-    owner = declared.Queue (record { name = 4; device = record { 0 = 2 }; dispatch = dispatch.Sequential; serves = record { rest = true; read = false; write = false; control = false }; powered = true; zero = false; scope = scope.Unscoped; level = level.Dispatch });
-    line = 8;
-    statements = s 9 1 (act.Call call.WdfRequestComplete None (arg.Expression 0) (arg.Expression 1) arg.NoArgument)
-        ∷ [];
-  })
-      ∷ (record {
-        callback = callback.EvtDeviceQueryRemove;
-        owner = declared.Device (record { name = 2; working = true; scope = scope.Unscoped; level = level.Dispatch });
-        line = 12;
-        statements = s 13 1 (act.Return 2)
-            ∷ [];
-      })
+  scripts = a_script callback.EvtIoRead (a_queue 4 2 dispatch.Sequential (serves true false false false) true false scope.Unscoped level.Dispatch) 8 (s 9 1 (act.Call call.WdfRequestComplete None (arg.Expression 0) (arg.Expression 1) arg.NoArgument) ∷ [])
+      ∷ a_script callback.EvtDeviceQueryRemove (a_device 2 true scope.Unscoped level.Dispatch) 12 (s 13 1 (act.Return 2) ∷ [])
       ∷ [];
-  picks = [];
 }
 
 abbrev pub refused_removal_events : List Event
@@ -161,31 +122,19 @@ refused_removal_events = event.Tick 1
     ∷ []
 
 abbrev pub refused_stop_plan : Plan
-refused_stop_plan = record {
-  cpus = 1;
-  limit = 100;
-  objects = 16;
+refused_stop_plan = record (a_plan 1 100 16) {
   names = (codes "driver") ∷ (codes "req") ∷ (codes "D") ∷ (codes "IDLE_TIMEOUT") ∷ [];
-  declared = (declared.Driver)
-      ∷ (declared.Device (record { name = 2; working = true; scope = scope.Unscoped; level = level.Dispatch }))
+  declared = declared.Driver
+      ∷ a_device 2 true scope.Unscoped level.Dispatch
       ∷ [];
-  classes = [];
   registers = (record { name = 3; device = record { 0 = 2 }; value = 2 }) ∷ [];
-  whens = [];
   pnp = (at 12 1 (post.Ask ask.Rebalance (h 2 2))) ∷ [];
-  agents = (record { name = 2; posts = [] })
-      ∷ [];
+  agents = (an_agent 2 []) ∷ [];
   exprs = (node.Number 3) ∷ (node.Literal status.Unsuccessful) ∷ [];
-  scripts = (record {
-    callback = callback.EvtDeviceQueryStop;
-    owner = declared.Device (record { name = 2; working = true; scope = scope.Unscoped; level = level.Dispatch });
-    line = 6;
-    statements = s 7 1 (act.Spend 0)
-        ∷ s 8 2 (act.Return 1)
-        ∷ [];
-  })
+  scripts = a_script callback.EvtDeviceQueryStop (a_device 2 true scope.Unscoped level.Dispatch) 6
+      (s 7 1 (act.Spend 0)
+      ∷ s 8 2 (act.Return 1) ∷ [])
       ∷ [];
-  picks = [];
 }
 
 abbrev pub refused_stop_events : List Event
@@ -206,32 +155,18 @@ refused_stop_events = event.Tick 1
     ∷ []
 
 abbrev pub removed_in_sleep_plan : Plan
-removed_in_sleep_plan = record {
-  cpus = 1;
-  limit = 100;
-  objects = 16;
+removed_in_sleep_plan = record (a_plan 1 100 16) {
   names = (codes "driver") ∷ (codes "req") ∷ (codes "D") ∷ (codes "IDLE_TIMEOUT") ∷ (codes "Q") ∷ (codes "A") ∷ [];
-  declared = (declared.Driver)
-      ∷ (declared.Device (record { name = 2; working = true; scope = scope.Unscoped; level = level.Dispatch }))
-      ∷ (declared.Queue (record { name = 4; device = record { 0 = 2 }; dispatch = dispatch.Sequential; serves = record { rest = true; read = false; write = false; control = false }; powered = true; zero = false; scope = scope.Unscoped; level = level.Dispatch }))
+  declared = declared.Driver
+      ∷ a_device 2 true scope.Unscoped level.Dispatch
+      ∷ a_queue 4 2 dispatch.Sequential (serves true false false false) true false scope.Unscoped level.Dispatch
       ∷ [];
-  classes = [];
   registers = (record { name = 3; device = record { 0 = 2 }; value = 2 }) ∷ [];
-  whens = [];
   pnp = (at 17 3 (post.Ask ask.Remove (h 2 2))) ∷ [];
-  agents = (record { name = 5; posts = (at 14 4 (post.Read (h 2 2) 16)) ∷ [] })
-      ∷ (record { name = 2; posts = [] })
-      ∷ [];
+  agents = (an_agent 5 ((at 14 4 (post.Read (h 2 2) 16)) ∷ [])) ∷ (an_agent 2 []) ∷ [];
   exprs = (node.Context context.OwnRequest) ∷ (node.Literal status.Success) ∷ [];
-  scripts = (record {
-    callback = callback.EvtIoRead;
-    owner = declared.Queue (record { name = 4; device = record { 0 = 2 }; dispatch = dispatch.Sequential; serves = record { rest = true; read = false; write = false; control = false }; powered = true; zero = false; scope = scope.Unscoped; level = level.Dispatch });
-    line = 8;
-    statements = s 9 1 (act.Call call.WdfRequestComplete None (arg.Expression 0) (arg.Expression 1) arg.NoArgument)
-        ∷ [];
-  })
+  scripts = a_script callback.EvtIoRead (a_queue 4 2 dispatch.Sequential (serves true false false false) true false scope.Unscoped level.Dispatch) 8 (s 9 1 (act.Call call.WdfRequestComplete None (arg.Expression 0) (arg.Expression 1) arg.NoArgument) ∷ [])
       ∷ [];
-  picks = [];
 }
 
 abbrev pub removed_in_sleep_events : List Event
@@ -255,25 +190,15 @@ removed_in_sleep_events = event.Tick 1
     ∷ []
 
 abbrev pub started_plan : Plan
-started_plan = record {
-  cpus = 1;
-  limit = 100;
-  objects = 16;
+started_plan = record (a_plan 1 100 16) {
   names = (codes "driver") ∷ (codes "req") ∷ (codes "D") ∷ (codes "IDLE_TIMEOUT") ∷ (codes "E") ∷ (codes "IDLE_TIMEOUT") ∷ [];
-  declared = (declared.Driver)
-      ∷ (declared.Device (record { name = 2; working = false; scope = scope.Unscoped; level = level.Dispatch }))
-      ∷ (declared.Device (record { name = 4; working = true; scope = scope.Unscoped; level = level.Dispatch }))
+  declared = declared.Driver
+      ∷ a_device 2 false scope.Unscoped level.Dispatch
+      ∷ a_device 4 true scope.Unscoped level.Dispatch
       ∷ [];
-  classes = [];
   registers = (record { name = 3; device = record { 0 = 2 }; value = 2 }) ∷ (record { name = 5; device = record { 0 = 3 }; value = 0 }) ∷ [];
-  whens = [];
   pnp = (at 11 1 (post.Ask ask.Start (h 2 2))) ∷ [];
-  agents = (record { name = 2; posts = [] })
-      ∷ (record { name = 4; posts = [] })
-      ∷ [];
-  exprs = [];
-  scripts = [];
-  picks = [];
+  agents = (an_agent 2 []) ∷ (an_agent 4 []) ∷ [];
 }
 
 abbrev pub started_events : List Event
@@ -291,33 +216,20 @@ started_events = event.Tick 1
     ∷ []
 
 abbrev pub surprised_plan : Plan
-surprised_plan = record {
-  cpus = 1;
-  limit = 100;
-  objects = 16;
+surprised_plan = record (a_plan 1 100 16) {
   names = (codes "driver") ∷ (codes "req") ∷ (codes "D") ∷ (codes "IDLE_TIMEOUT") ∷ (codes "Q") ∷ (codes "A") ∷ [];
-  declared = (declared.Driver)
-      ∷ (declared.Device (record { name = 2; working = true; scope = scope.Unscoped; level = level.Dispatch }))
-      ∷ (declared.Queue (record { name = 4; device = record { 0 = 2 }; dispatch = dispatch.Sequential; serves = record { rest = true; read = false; write = false; control = false }; powered = true; zero = false; scope = scope.Unscoped; level = level.Dispatch }))
+  declared = declared.Driver
+      ∷ a_device 2 true scope.Unscoped level.Dispatch
+      ∷ a_queue 4 2 dispatch.Sequential (serves true false false false) true false scope.Unscoped level.Dispatch
       ∷ [];
-  classes = [];
   registers = (record { name = 3; device = record { 0 = 2 }; value = 1 }) ∷ [];
-  whens = [];
   pnp = (at 18 1 (post.Ask ask.Surprise (h 2 2))) ∷ [];
-  agents = (record { name = 5; posts = (at 15 0 (post.Read (h 2 2) 16)) ∷ [] })
-      ∷ (record { name = 2; posts = [] })
-      ∷ [];
+  agents = (an_agent 5 ((at 15 0 (post.Read (h 2 2) 16)) ∷ [])) ∷ (an_agent 2 []) ∷ [];
   exprs = (node.Number 2) ∷ (node.Context context.OwnRequest) ∷ (node.Literal status.Success) ∷ [];
-  scripts = (record {
-    callback = callback.EvtIoRead;
-    owner = declared.Queue (record { name = 4; device = record { 0 = 2 }; dispatch = dispatch.Sequential; serves = record { rest = true; read = false; write = false; control = false }; powered = true; zero = false; scope = scope.Unscoped; level = level.Dispatch });
-    line = 8;
-    statements = s 9 1 (act.Spend 0)
-        ∷ s 10 2 (act.Call call.WdfRequestComplete None (arg.Expression 1) (arg.Expression 2) arg.NoArgument)
-        ∷ [];
-  })
+  scripts = a_script callback.EvtIoRead (a_queue 4 2 dispatch.Sequential (serves true false false false) true false scope.Unscoped level.Dispatch) 8
+      (s 9 1 (act.Spend 0)
+      ∷ s 10 2 (act.Call call.WdfRequestComplete None (arg.Expression 1) (arg.Expression 2) arg.NoArgument) ∷ [])
       ∷ [];
-  picks = [];
 }
 
 abbrev pub surprised_events : List Event

@@ -2,9 +2,6 @@
 -- tools/scene_to_plan.py from the scenarios and traces of tools/stack.
 use Rattle.std.specs.Prelude.{List, [], ◌∷◌, Some, None, true, false, codes}
 use Rattle.wdf_base.specs.declared.declared.Declared.TheVariants as declared
-use Rattle.wdf_base.specs.declared.declared.ClassInfo.TheVariants as class
-use Rattle.wdf_base.specs.declared.declared.PlainKind.TheVariants as plain
-use Rattle.wdf_base.specs.declared.declared.DeferredKind.TheVariants as deferred
 use Rattle.wdf_base.specs.declared.declared.Scope.TheVariants as scope
 use Rattle.wdf_base.specs.declared.declared.ExecutionLevel.TheVariants as level
 use Rattle.wdf_base.specs.declared.declared.DispatchKind.TheVariants as dispatch
@@ -18,7 +15,7 @@ use Rattle.wdf_base.specs.declared.script.ContextWord.TheVariants as context
 use Rattle.wdf_base.specs.declared.script.Operator.TheVariants as operator
 use Rattle.wdf_base.specs.declared.script.ArgNode.TheVariants as arg
 use Rattle.wdf_base.specs.declared.script.Act.TheVariants as act
-use Rattle.wdf_base.specs.declared.call.Arg.TheVariants.{Val, Class}
+use Rattle.wdf_base.specs.declared.call.Arg.TheVariants.{Val}
 use Rattle.wdf_base.specs.declared.call.CallKind.TheVariants as call
 use Rattle.wdf_base.specs.declared.call.Callback.TheVariants as callback
 use Rattle.wdf_base.specs.declared.value.Status.TheVariants as status
@@ -27,79 +24,31 @@ use Rattle.wdf_base.specs.declared.plan.Plan.{Plan}
 use Rattle.wdf_base.specs.declared.wait.OpenThing.TheVariants as thing
 use Rattle.wdf_base.specs.declared.wait.Cause.TheVariants as cause
 use Rattle.wdf_base.specs.declared.wait.WaitLine.{WaitLine}
-use Rattle.law_machine_worked.specs.Writing.{h, p, f, c, at, s, line}
+use Rattle.law_machine_worked.specs.Writing.{h, p, c, at, s, line, a_plan, a_device, a_queue, serves, a_target, an_agent, a_script}
 
 abbrev pub a_query_is_refused_plan : Plan
-a_query_is_refused_plan = record {
-  cpus = 1;
-  limit = 200;
-  objects = 32;
+a_query_is_refused_plan = record (a_plan 1 200 32) {
   names = (codes "driver") ∷ (codes "req") ∷ (codes "D") ∷ (codes "Q") ∷ (codes "TO_E") ∷ (codes "E") ∷ (codes "R") ∷ (codes "TO_F") ∷ (codes "F") ∷ (codes "S") ∷ [];
-  declared = (declared.Driver)
-      ∷ (declared.Device (record { name = 2; working = false; scope = scope.Unscoped; level = level.Dispatch }))
-      ∷ (declared.Queue (record { name = 3; device = record { 0 = 2 }; dispatch = dispatch.Sequential; serves = record { rest = true; read = false; write = false; control = false }; powered = true; zero = false; scope = scope.Unscoped; level = level.Dispatch }))
-      ∷ (declared.Target (record { name = 4; device = record { 0 = 2 }; delay = 0; status = status.Success; depth = 4 }))
-      ∷ (declared.Device (record { name = 5; working = false; scope = scope.Unscoped; level = level.Dispatch }))
-      ∷ (declared.Queue (record { name = 6; device = record { 0 = 5 }; dispatch = dispatch.Sequential; serves = record { rest = true; read = false; write = false; control = false }; powered = true; zero = false; scope = scope.Unscoped; level = level.Dispatch }))
-      ∷ (declared.Target (record { name = 7; device = record { 0 = 5 }; delay = 0; status = status.Success; depth = 4 }))
-      ∷ (declared.Device (record { name = 8; working = false; scope = scope.Unscoped; level = level.Dispatch }))
-      ∷ (declared.Queue (record { name = 9; device = record { 0 = 8 }; dispatch = dispatch.Sequential; serves = record { rest = true; read = false; write = false; control = false }; powered = true; zero = false; scope = scope.Unscoped; level = level.Dispatch }))
+  declared = declared.Driver
+      ∷ a_device 2 false scope.Unscoped level.Dispatch
+      ∷ a_queue 3 2 dispatch.Sequential (serves true false false false) true false scope.Unscoped level.Dispatch
+      ∷ a_target 4 2 0 status.Success 4
+      ∷ a_device 5 false scope.Unscoped level.Dispatch
+      ∷ a_queue 6 5 dispatch.Sequential (serves true false false false) true false scope.Unscoped level.Dispatch
+      ∷ a_target 7 5 0 status.Success 4
+      ∷ a_device 8 false scope.Unscoped level.Dispatch
+      ∷ a_queue 9 8 dispatch.Sequential (serves true false false false) true false scope.Unscoped level.Dispatch
       ∷ [];
-  classes = [];
-  registers = [];
-  whens = [];
   pnp = (at 42 0 (post.Ask ask.Start (h 8 8))) ∷ (at 43 0 (post.Ask ask.Remove (h 8 8))) ∷ (at 44 0 (post.Ask ask.Sleep (h 2 2))) ∷ [];
-  agents = (record { name = 2; posts = [] })
-      ∷ (record { name = 5; posts = [] })
-      ∷ (record { name = 8; posts = [] })
-      ∷ (record { name = 4; posts = [] })
-      ∷ (record { name = 7; posts = [] })
-      ∷ [];
+  agents = (an_agent 2 []) ∷ (an_agent 5 []) ∷ (an_agent 8 []) ∷ (an_agent 4 []) ∷ (an_agent 7 []) ∷ [];
   exprs = (node.Context context.OwnRequest) ∷ (node.Object (h 4 4)) ∷ (node.Number 0) ∷ (node.Context context.OwnRequest) ∷ (node.Context context.CompletionStatus) ∷ (node.Literal status.Unsuccessful) ∷ (node.Context context.OwnRequest) ∷ (node.Object (h 7 7)) ∷ (node.Number 0) ∷ (node.Context context.OwnRequest) ∷ (node.Context context.CompletionStatus) ∷ (node.Context context.OwnRequest) ∷ (node.Literal status.Success) ∷ [];
-  scripts = (record {
-    callback = callback.EvtIoRead;
-    owner = declared.Queue (record { name = 3; device = record { 0 = 2 }; dispatch = dispatch.Sequential; serves = record { rest = true; read = false; write = false; control = false }; powered = true; zero = false; scope = scope.Unscoped; level = level.Dispatch });
-    line = 7;
-    statements = s 8 1 (act.Call call.WdfRequestSend None (arg.Expression 0) (arg.Expression 1) (arg.Expression 2))
-        ∷ [];
-  })
-      ∷ (record {
-        callback = callback.EvtRequestCompletion;
-        owner = declared.Target (record { name = 4; device = record { 0 = 2 }; delay = 0; status = status.Success; depth = 4 });
-        line = 12;
-        statements = s 13 1 (act.Call call.WdfRequestComplete None (arg.Expression 3) (arg.Expression 4) arg.NoArgument)
-            ∷ [];
-      })
-      ∷ (record {
-        callback = callback.EvtDeviceQueryRemove;
-        owner = declared.Device (record { name = 5; working = false; scope = scope.Unscoped; level = level.Dispatch });
-        line = 18;
-        statements = s 19 1 (act.Return 5)
-            ∷ [];
-      })
-      ∷ (record {
-        callback = callback.EvtIoRead;
-        owner = declared.Queue (record { name = 6; device = record { 0 = 5 }; dispatch = dispatch.Sequential; serves = record { rest = true; read = false; write = false; control = false }; powered = true; zero = false; scope = scope.Unscoped; level = level.Dispatch });
-        line = 23;
-        statements = s 24 1 (act.Call call.WdfRequestSend None (arg.Expression 6) (arg.Expression 7) (arg.Expression 8))
-            ∷ [];
-      })
-      ∷ (record {
-        callback = callback.EvtRequestCompletion;
-        owner = declared.Target (record { name = 7; device = record { 0 = 5 }; delay = 0; status = status.Success; depth = 4 });
-        line = 28;
-        statements = s 29 1 (act.Call call.WdfRequestComplete None (arg.Expression 9) (arg.Expression 10) arg.NoArgument)
-            ∷ [];
-      })
-      ∷ (record {
-        callback = callback.EvtIoRead;
-        owner = declared.Queue (record { name = 9; device = record { 0 = 8 }; dispatch = dispatch.Sequential; serves = record { rest = true; read = false; write = false; control = false }; powered = true; zero = false; scope = scope.Unscoped; level = level.Dispatch });
-        line = 36;
-        statements = s 37 1 (act.Call call.WdfRequestComplete None (arg.Expression 11) (arg.Expression 12) arg.NoArgument)
-            ∷ [];
-      })
+  scripts = a_script callback.EvtIoRead (a_queue 3 2 dispatch.Sequential (serves true false false false) true false scope.Unscoped level.Dispatch) 7 (s 8 1 (act.Call call.WdfRequestSend None (arg.Expression 0) (arg.Expression 1) (arg.Expression 2)) ∷ [])
+      ∷ a_script callback.EvtRequestCompletion (a_target 4 2 0 status.Success 4) 12 (s 13 1 (act.Call call.WdfRequestComplete None (arg.Expression 3) (arg.Expression 4) arg.NoArgument) ∷ [])
+      ∷ a_script callback.EvtDeviceQueryRemove (a_device 5 false scope.Unscoped level.Dispatch) 18 (s 19 1 (act.Return 5) ∷ [])
+      ∷ a_script callback.EvtIoRead (a_queue 6 5 dispatch.Sequential (serves true false false false) true false scope.Unscoped level.Dispatch) 23 (s 24 1 (act.Call call.WdfRequestSend None (arg.Expression 6) (arg.Expression 7) (arg.Expression 8)) ∷ [])
+      ∷ a_script callback.EvtRequestCompletion (a_target 7 5 0 status.Success 4) 28 (s 29 1 (act.Call call.WdfRequestComplete None (arg.Expression 9) (arg.Expression 10) arg.NoArgument) ∷ [])
+      ∷ a_script callback.EvtIoRead (a_queue 9 8 dispatch.Sequential (serves true false false false) true false scope.Unscoped level.Dispatch) 36 (s 37 1 (act.Call call.WdfRequestComplete None (arg.Expression 11) (arg.Expression 12) arg.NoArgument) ∷ [])
       ∷ [];
-  picks = [];
 }
 
 abbrev pub a_query_is_refused_events : List Event
@@ -142,70 +91,27 @@ a_query_is_refused_events = event.Posted 0 (post.Ask ask.Start (h 8 8)) None
     ∷ []
 
 abbrev pub sleeps_and_wakes_plan : Plan
-sleeps_and_wakes_plan = record {
-  cpus = 1;
-  limit = 200;
-  objects = 32;
+sleeps_and_wakes_plan = record (a_plan 1 200 32) {
   names = (codes "driver") ∷ (codes "req") ∷ (codes "D") ∷ (codes "Q") ∷ (codes "TO_E") ∷ (codes "E") ∷ (codes "R") ∷ (codes "TO_F") ∷ (codes "F") ∷ (codes "S") ∷ (codes "A") ∷ [];
-  declared = (declared.Driver)
-      ∷ (declared.Device (record { name = 2; working = false; scope = scope.Unscoped; level = level.Dispatch }))
-      ∷ (declared.Queue (record { name = 3; device = record { 0 = 2 }; dispatch = dispatch.Sequential; serves = record { rest = true; read = false; write = false; control = false }; powered = true; zero = false; scope = scope.Unscoped; level = level.Dispatch }))
-      ∷ (declared.Target (record { name = 4; device = record { 0 = 2 }; delay = 0; status = status.Success; depth = 4 }))
-      ∷ (declared.Device (record { name = 5; working = false; scope = scope.Unscoped; level = level.Dispatch }))
-      ∷ (declared.Queue (record { name = 6; device = record { 0 = 5 }; dispatch = dispatch.Sequential; serves = record { rest = true; read = false; write = false; control = false }; powered = true; zero = false; scope = scope.Unscoped; level = level.Dispatch }))
-      ∷ (declared.Target (record { name = 7; device = record { 0 = 5 }; delay = 0; status = status.Success; depth = 4 }))
-      ∷ (declared.Device (record { name = 8; working = false; scope = scope.Unscoped; level = level.Dispatch }))
-      ∷ (declared.Queue (record { name = 9; device = record { 0 = 8 }; dispatch = dispatch.Sequential; serves = record { rest = true; read = false; write = false; control = false }; powered = true; zero = false; scope = scope.Unscoped; level = level.Dispatch }))
+  declared = declared.Driver
+      ∷ a_device 2 false scope.Unscoped level.Dispatch
+      ∷ a_queue 3 2 dispatch.Sequential (serves true false false false) true false scope.Unscoped level.Dispatch
+      ∷ a_target 4 2 0 status.Success 4
+      ∷ a_device 5 false scope.Unscoped level.Dispatch
+      ∷ a_queue 6 5 dispatch.Sequential (serves true false false false) true false scope.Unscoped level.Dispatch
+      ∷ a_target 7 5 0 status.Success 4
+      ∷ a_device 8 false scope.Unscoped level.Dispatch
+      ∷ a_queue 9 8 dispatch.Sequential (serves true false false false) true false scope.Unscoped level.Dispatch
       ∷ [];
-  classes = [];
-  registers = [];
-  whens = [];
   pnp = (at 42 0 (post.Ask ask.Start (h 2 2))) ∷ (at 43 1 (post.Ask ask.Sleep (h 5 5))) ∷ (at 44 3 (post.Ask ask.Wake (h 8 8))) ∷ [];
-  agents = (record { name = 10; posts = (at 39 2 (post.Read (h 2 2) 16)) ∷ [] })
-      ∷ (record { name = 2; posts = [] })
-      ∷ (record { name = 5; posts = [] })
-      ∷ (record { name = 8; posts = [] })
-      ∷ (record { name = 4; posts = [] })
-      ∷ (record { name = 7; posts = [] })
-      ∷ [];
+  agents = (an_agent 10 ((at 39 2 (post.Read (h 2 2) 16)) ∷ [])) ∷ (an_agent 2 []) ∷ (an_agent 5 []) ∷ (an_agent 8 []) ∷ (an_agent 4 []) ∷ (an_agent 7 []) ∷ [];
   exprs = (node.Context context.OwnRequest) ∷ (node.Object (h 4 4)) ∷ (node.Number 0) ∷ (node.Context context.OwnRequest) ∷ (node.Context context.CompletionStatus) ∷ (node.Context context.OwnRequest) ∷ (node.Object (h 7 7)) ∷ (node.Number 0) ∷ (node.Context context.OwnRequest) ∷ (node.Context context.CompletionStatus) ∷ (node.Context context.OwnRequest) ∷ (node.Literal status.Success) ∷ [];
-  scripts = (record {
-    callback = callback.EvtIoRead;
-    owner = declared.Queue (record { name = 3; device = record { 0 = 2 }; dispatch = dispatch.Sequential; serves = record { rest = true; read = false; write = false; control = false }; powered = true; zero = false; scope = scope.Unscoped; level = level.Dispatch });
-    line = 7;
-    statements = s 8 1 (act.Call call.WdfRequestSend None (arg.Expression 0) (arg.Expression 1) (arg.Expression 2))
-        ∷ [];
-  })
-      ∷ (record {
-        callback = callback.EvtRequestCompletion;
-        owner = declared.Target (record { name = 4; device = record { 0 = 2 }; delay = 0; status = status.Success; depth = 4 });
-        line = 12;
-        statements = s 13 1 (act.Call call.WdfRequestComplete None (arg.Expression 3) (arg.Expression 4) arg.NoArgument)
-            ∷ [];
-      })
-      ∷ (record {
-        callback = callback.EvtIoRead;
-        owner = declared.Queue (record { name = 6; device = record { 0 = 5 }; dispatch = dispatch.Sequential; serves = record { rest = true; read = false; write = false; control = false }; powered = true; zero = false; scope = scope.Unscoped; level = level.Dispatch });
-        line = 20;
-        statements = s 21 1 (act.Call call.WdfRequestSend None (arg.Expression 5) (arg.Expression 6) (arg.Expression 7))
-            ∷ [];
-      })
-      ∷ (record {
-        callback = callback.EvtRequestCompletion;
-        owner = declared.Target (record { name = 7; device = record { 0 = 5 }; delay = 0; status = status.Success; depth = 4 });
-        line = 25;
-        statements = s 26 1 (act.Call call.WdfRequestComplete None (arg.Expression 8) (arg.Expression 9) arg.NoArgument)
-            ∷ [];
-      })
-      ∷ (record {
-        callback = callback.EvtIoRead;
-        owner = declared.Queue (record { name = 9; device = record { 0 = 8 }; dispatch = dispatch.Sequential; serves = record { rest = true; read = false; write = false; control = false }; powered = true; zero = false; scope = scope.Unscoped; level = level.Dispatch });
-        line = 33;
-        statements = s 34 1 (act.Call call.WdfRequestComplete None (arg.Expression 10) (arg.Expression 11) arg.NoArgument)
-            ∷ [];
-      })
+  scripts = a_script callback.EvtIoRead (a_queue 3 2 dispatch.Sequential (serves true false false false) true false scope.Unscoped level.Dispatch) 7 (s 8 1 (act.Call call.WdfRequestSend None (arg.Expression 0) (arg.Expression 1) (arg.Expression 2)) ∷ [])
+      ∷ a_script callback.EvtRequestCompletion (a_target 4 2 0 status.Success 4) 12 (s 13 1 (act.Call call.WdfRequestComplete None (arg.Expression 3) (arg.Expression 4) arg.NoArgument) ∷ [])
+      ∷ a_script callback.EvtIoRead (a_queue 6 5 dispatch.Sequential (serves true false false false) true false scope.Unscoped level.Dispatch) 20 (s 21 1 (act.Call call.WdfRequestSend None (arg.Expression 5) (arg.Expression 6) (arg.Expression 7)) ∷ [])
+      ∷ a_script callback.EvtRequestCompletion (a_target 7 5 0 status.Success 4) 25 (s 26 1 (act.Call call.WdfRequestComplete None (arg.Expression 8) (arg.Expression 9) arg.NoArgument) ∷ [])
+      ∷ a_script callback.EvtIoRead (a_queue 9 8 dispatch.Sequential (serves true false false false) true false scope.Unscoped level.Dispatch) 33 (s 34 1 (act.Call call.WdfRequestComplete None (arg.Expression 10) (arg.Expression 11) arg.NoArgument) ∷ [])
       ∷ [];
-  picks = [];
 }
 
 abbrev pub sleeps_and_wakes_events : List Event
@@ -274,33 +180,17 @@ sleeps_and_wakes_events = event.Posted 0 (post.Ask ask.Start (h 8 8)) None
     ∷ []
 
 abbrev pub starts_from_the_bottom_plan : Plan
-starts_from_the_bottom_plan = record {
-  cpus = 1;
-  limit = 100;
-  objects = 16;
+starts_from_the_bottom_plan = record (a_plan 1 100 16) {
   names = (codes "driver") ∷ (codes "req") ∷ (codes "D") ∷ (codes "TO_E") ∷ (codes "E") ∷ [];
-  declared = (declared.Driver)
-      ∷ (declared.Device (record { name = 2; working = false; scope = scope.Unscoped; level = level.Dispatch }))
-      ∷ (declared.Target (record { name = 3; device = record { 0 = 2 }; delay = 0; status = status.Success; depth = 4 }))
-      ∷ (declared.Device (record { name = 4; working = false; scope = scope.Unscoped; level = level.Dispatch }))
+  declared = declared.Driver
+      ∷ a_device 2 false scope.Unscoped level.Dispatch
+      ∷ a_target 3 2 0 status.Success 4
+      ∷ a_device 4 false scope.Unscoped level.Dispatch
       ∷ [];
-  classes = [];
-  registers = [];
-  whens = [];
   pnp = (at 13 0 (post.Ask ask.Start (h 2 2))) ∷ [];
-  agents = (record { name = 2; posts = [] })
-      ∷ (record { name = 4; posts = [] })
-      ∷ (record { name = 3; posts = [] })
+  agents = (an_agent 2 []) ∷ (an_agent 4 []) ∷ (an_agent 3 []) ∷ [];
+  scripts = a_script callback.EvtRequestCompletion (a_target 3 2 0 status.Success 4) 6 []
       ∷ [];
-  exprs = [];
-  scripts = (record {
-    callback = callback.EvtRequestCompletion;
-    owner = declared.Target (record { name = 3; device = record { 0 = 2 }; delay = 0; status = status.Success; depth = 4 });
-    line = 6;
-    statements = [];
-  })
-      ∷ [];
-  picks = [];
 }
 
 abbrev pub starts_from_the_bottom_events : List Event
@@ -315,76 +205,28 @@ starts_from_the_bottom_events = event.Posted 0 (post.Ask ask.Start (h 4 4)) None
     ∷ []
 
 abbrev pub the_bottom_fails_to_start_plan : Plan
-the_bottom_fails_to_start_plan = record {
-  cpus = 1;
-  limit = 200;
-  objects = 32;
+the_bottom_fails_to_start_plan = record (a_plan 1 200 32) {
   names = (codes "driver") ∷ (codes "req") ∷ (codes "D") ∷ (codes "Q") ∷ (codes "TO_E") ∷ (codes "E") ∷ (codes "R") ∷ (codes "TO_F") ∷ (codes "F") ∷ (codes "S") ∷ [];
-  declared = (declared.Driver)
-      ∷ (declared.Device (record { name = 2; working = false; scope = scope.Unscoped; level = level.Dispatch }))
-      ∷ (declared.Queue (record { name = 3; device = record { 0 = 2 }; dispatch = dispatch.Sequential; serves = record { rest = true; read = false; write = false; control = false }; powered = true; zero = false; scope = scope.Unscoped; level = level.Dispatch }))
-      ∷ (declared.Target (record { name = 4; device = record { 0 = 2 }; delay = 0; status = status.Success; depth = 4 }))
-      ∷ (declared.Device (record { name = 5; working = false; scope = scope.Unscoped; level = level.Dispatch }))
-      ∷ (declared.Queue (record { name = 6; device = record { 0 = 5 }; dispatch = dispatch.Sequential; serves = record { rest = true; read = false; write = false; control = false }; powered = true; zero = false; scope = scope.Unscoped; level = level.Dispatch }))
-      ∷ (declared.Target (record { name = 7; device = record { 0 = 5 }; delay = 0; status = status.Success; depth = 4 }))
-      ∷ (declared.Device (record { name = 8; working = false; scope = scope.Unscoped; level = level.Dispatch }))
-      ∷ (declared.Queue (record { name = 9; device = record { 0 = 8 }; dispatch = dispatch.Sequential; serves = record { rest = true; read = false; write = false; control = false }; powered = true; zero = false; scope = scope.Unscoped; level = level.Dispatch }))
+  declared = declared.Driver
+      ∷ a_device 2 false scope.Unscoped level.Dispatch
+      ∷ a_queue 3 2 dispatch.Sequential (serves true false false false) true false scope.Unscoped level.Dispatch
+      ∷ a_target 4 2 0 status.Success 4
+      ∷ a_device 5 false scope.Unscoped level.Dispatch
+      ∷ a_queue 6 5 dispatch.Sequential (serves true false false false) true false scope.Unscoped level.Dispatch
+      ∷ a_target 7 5 0 status.Success 4
+      ∷ a_device 8 false scope.Unscoped level.Dispatch
+      ∷ a_queue 9 8 dispatch.Sequential (serves true false false false) true false scope.Unscoped level.Dispatch
       ∷ [];
-  classes = [];
-  registers = [];
-  whens = [];
   pnp = (at 42 0 (post.Ask ask.Start (h 2 2))) ∷ (at 43 0 (post.Ask ask.Surprise (h 2 2))) ∷ [];
-  agents = (record { name = 2; posts = [] })
-      ∷ (record { name = 5; posts = [] })
-      ∷ (record { name = 8; posts = [] })
-      ∷ (record { name = 4; posts = [] })
-      ∷ (record { name = 7; posts = [] })
-      ∷ [];
+  agents = (an_agent 2 []) ∷ (an_agent 5 []) ∷ (an_agent 8 []) ∷ (an_agent 4 []) ∷ (an_agent 7 []) ∷ [];
   exprs = (node.Context context.OwnRequest) ∷ (node.Object (h 4 4)) ∷ (node.Number 0) ∷ (node.Context context.OwnRequest) ∷ (node.Context context.CompletionStatus) ∷ (node.Context context.OwnRequest) ∷ (node.Object (h 7 7)) ∷ (node.Number 0) ∷ (node.Context context.OwnRequest) ∷ (node.Context context.CompletionStatus) ∷ (node.Literal status.Unsuccessful) ∷ (node.Context context.OwnRequest) ∷ (node.Literal status.Success) ∷ [];
-  scripts = (record {
-    callback = callback.EvtIoRead;
-    owner = declared.Queue (record { name = 3; device = record { 0 = 2 }; dispatch = dispatch.Sequential; serves = record { rest = true; read = false; write = false; control = false }; powered = true; zero = false; scope = scope.Unscoped; level = level.Dispatch });
-    line = 7;
-    statements = s 8 1 (act.Call call.WdfRequestSend None (arg.Expression 0) (arg.Expression 1) (arg.Expression 2))
-        ∷ [];
-  })
-      ∷ (record {
-        callback = callback.EvtRequestCompletion;
-        owner = declared.Target (record { name = 4; device = record { 0 = 2 }; delay = 0; status = status.Success; depth = 4 });
-        line = 12;
-        statements = s 13 1 (act.Call call.WdfRequestComplete None (arg.Expression 3) (arg.Expression 4) arg.NoArgument)
-            ∷ [];
-      })
-      ∷ (record {
-        callback = callback.EvtIoRead;
-        owner = declared.Queue (record { name = 6; device = record { 0 = 5 }; dispatch = dispatch.Sequential; serves = record { rest = true; read = false; write = false; control = false }; powered = true; zero = false; scope = scope.Unscoped; level = level.Dispatch });
-        line = 20;
-        statements = s 21 1 (act.Call call.WdfRequestSend None (arg.Expression 5) (arg.Expression 6) (arg.Expression 7))
-            ∷ [];
-      })
-      ∷ (record {
-        callback = callback.EvtRequestCompletion;
-        owner = declared.Target (record { name = 7; device = record { 0 = 5 }; delay = 0; status = status.Success; depth = 4 });
-        line = 25;
-        statements = s 26 1 (act.Call call.WdfRequestComplete None (arg.Expression 8) (arg.Expression 9) arg.NoArgument)
-            ∷ [];
-      })
-      ∷ (record {
-        callback = callback.EvtDevicePrepareHardware;
-        owner = declared.Device (record { name = 8; working = false; scope = scope.Unscoped; level = level.Dispatch });
-        line = 31;
-        statements = s 32 1 (act.Return 10)
-            ∷ [];
-      })
-      ∷ (record {
-        callback = callback.EvtIoRead;
-        owner = declared.Queue (record { name = 9; device = record { 0 = 8 }; dispatch = dispatch.Sequential; serves = record { rest = true; read = false; write = false; control = false }; powered = true; zero = false; scope = scope.Unscoped; level = level.Dispatch });
-        line = 36;
-        statements = s 37 1 (act.Call call.WdfRequestComplete None (arg.Expression 11) (arg.Expression 12) arg.NoArgument)
-            ∷ [];
-      })
+  scripts = a_script callback.EvtIoRead (a_queue 3 2 dispatch.Sequential (serves true false false false) true false scope.Unscoped level.Dispatch) 7 (s 8 1 (act.Call call.WdfRequestSend None (arg.Expression 0) (arg.Expression 1) (arg.Expression 2)) ∷ [])
+      ∷ a_script callback.EvtRequestCompletion (a_target 4 2 0 status.Success 4) 12 (s 13 1 (act.Call call.WdfRequestComplete None (arg.Expression 3) (arg.Expression 4) arg.NoArgument) ∷ [])
+      ∷ a_script callback.EvtIoRead (a_queue 6 5 dispatch.Sequential (serves true false false false) true false scope.Unscoped level.Dispatch) 20 (s 21 1 (act.Call call.WdfRequestSend None (arg.Expression 5) (arg.Expression 6) (arg.Expression 7)) ∷ [])
+      ∷ a_script callback.EvtRequestCompletion (a_target 7 5 0 status.Success 4) 25 (s 26 1 (act.Call call.WdfRequestComplete None (arg.Expression 8) (arg.Expression 9) arg.NoArgument) ∷ [])
+      ∷ a_script callback.EvtDevicePrepareHardware (a_device 8 false scope.Unscoped level.Dispatch) 31 (s 32 1 (act.Return 10) ∷ [])
+      ∷ a_script callback.EvtIoRead (a_queue 9 8 dispatch.Sequential (serves true false false false) true false scope.Unscoped level.Dispatch) 36 (s 37 1 (act.Call call.WdfRequestComplete None (arg.Expression 11) (arg.Expression 12) arg.NoArgument) ∷ [])
       ∷ [];
-  picks = [];
 }
 
 abbrev pub the_bottom_fails_to_start_events : List Event
@@ -421,63 +263,30 @@ the_bottom_fails_to_start_events = event.Posted 0 (post.Ask ask.Start (h 8 8)) N
     ∷ []
 
 abbrev pub the_lower_device_is_gone_plan : Plan
-the_lower_device_is_gone_plan = record {
-  cpus = 1;
-  limit = 200;
-  objects = 32;
+the_lower_device_is_gone_plan = record (a_plan 1 200 32) {
   names = (codes "driver") ∷ (codes "req") ∷ (codes "D") ∷ (codes "Q") ∷ (codes "TO_E") ∷ (codes "E") ∷ (codes "R") ∷ (codes "A") ∷ [];
-  declared = (declared.Driver)
-      ∷ (declared.Device (record { name = 2; working = true; scope = scope.Unscoped; level = level.Dispatch }))
-      ∷ (declared.Queue (record { name = 3; device = record { 0 = 2 }; dispatch = dispatch.Parallel 4; serves = record { rest = true; read = false; write = false; control = false }; powered = true; zero = false; scope = scope.Unscoped; level = level.Dispatch }))
-      ∷ (declared.Target (record { name = 4; device = record { 0 = 2 }; delay = 0; status = status.Success; depth = 4 }))
-      ∷ (declared.Device (record { name = 5; working = false; scope = scope.Unscoped; level = level.Dispatch }))
-      ∷ (declared.Queue (record { name = 6; device = record { 0 = 5 }; dispatch = dispatch.Sequential; serves = record { rest = true; read = false; write = false; control = false }; powered = true; zero = false; scope = scope.Unscoped; level = level.Dispatch }))
+  declared = declared.Driver
+      ∷ a_device 2 true scope.Unscoped level.Dispatch
+      ∷ a_queue 3 2 (dispatch.Parallel 4) (serves true false false false) true false scope.Unscoped level.Dispatch
+      ∷ a_target 4 2 0 status.Success 4
+      ∷ a_device 5 false scope.Unscoped level.Dispatch
+      ∷ a_queue 6 5 dispatch.Sequential (serves true false false false) true false scope.Unscoped level.Dispatch
       ∷ [];
-  classes = [];
-  registers = [];
-  whens = [];
   pnp = (at 39 0 (post.Ask ask.Start (h 5 5))) ∷ (at 40 0 (post.Ask ask.Rebalance (h 5 5))) ∷ [];
-  agents = (record { name = 7; posts = (at 36 1 (post.Read (h 2 2) 16)) ∷ [] })
-      ∷ (record { name = 2; posts = [] })
-      ∷ (record { name = 5; posts = [] })
-      ∷ (record { name = 4; posts = [] })
-      ∷ [];
+  agents = (an_agent 7 ((at 36 1 (post.Read (h 2 2) 16)) ∷ [])) ∷ (an_agent 2 []) ∷ (an_agent 5 []) ∷ (an_agent 4 []) ∷ [];
   exprs = (node.Context context.OwnRequest) ∷ (node.Object (h 4 4)) ∷ (node.Number 0) ∷ (node.Variable 0) ∷ (node.Number 0) ∷ (node.Binary operator.Equals 3 4) ∷ (node.Context context.OwnRequest) ∷ (node.Literal status.Unsuccessful) ∷ (node.Context context.OwnRequest) ∷ (node.Context context.CompletionStatus) ∷ (node.Context context.NearestDevice) ∷ (node.Number 0) ∷ (node.Context context.NearestDevice) ∷ (node.Number 0) ∷ (node.Number 1) ∷ (node.Variable 0) ∷ (node.Number 1) ∷ (node.Binary operator.Equals 15 16) ∷ (node.Literal status.Unsuccessful) ∷ (node.Context context.OwnRequest) ∷ (node.Literal status.Success) ∷ [];
-  scripts = (record {
-    callback = callback.EvtIoDefault;
-    owner = declared.Queue (record { name = 3; device = record { 0 = 2 }; dispatch = dispatch.Parallel 4; serves = record { rest = true; read = false; write = false; control = false }; powered = true; zero = false; scope = scope.Unscoped; level = level.Dispatch });
-    line = 7;
-    statements = s 8 1 (act.Call call.WdfRequestSend (Some 0) (arg.Expression 0) (arg.Expression 1) (arg.Expression 2))
-        ∷ s 9 2 (act.If 5 3)
-        ∷ s 10 3 (act.Call call.WdfRequestComplete None (arg.Expression 6) (arg.Expression 7) arg.NoArgument)
-        ∷ [];
-  })
-      ∷ (record {
-        callback = callback.EvtRequestCompletion;
-        owner = declared.Target (record { name = 4; device = record { 0 = 2 }; delay = 0; status = status.Success; depth = 4 });
-        line = 15;
-        statements = s 16 1 (act.Call call.WdfRequestComplete None (arg.Expression 8) (arg.Expression 9) arg.NoArgument)
-            ∷ [];
-      })
-      ∷ (record {
-        callback = callback.EvtDevicePrepareHardware;
-        owner = declared.Device (record { name = 5; working = false; scope = scope.Unscoped; level = level.Dispatch });
-        line = 21;
-        statements = s 22 1 (act.Call call.GetContext (Some 0) (arg.Expression 10) (arg.Expression 11) arg.NoArgument)
-            ∷ s 23 2 (act.Call call.SetContext None (arg.Expression 12) (arg.Expression 13) (arg.Expression 14))
-            ∷ s 24 3 (act.If 17 4)
-            ∷ s 25 4 (act.Return 18)
-            ∷ [];
-      })
-      ∷ (record {
-        callback = callback.EvtIoRead;
-        owner = declared.Queue (record { name = 6; device = record { 0 = 5 }; dispatch = dispatch.Sequential; serves = record { rest = true; read = false; write = false; control = false }; powered = true; zero = false; scope = scope.Unscoped; level = level.Dispatch });
-        line = 30;
-        statements = s 31 1 (act.Call call.WdfRequestComplete None (arg.Expression 19) (arg.Expression 20) arg.NoArgument)
-            ∷ [];
-      })
+  scripts = a_script callback.EvtIoDefault (a_queue 3 2 (dispatch.Parallel 4) (serves true false false false) true false scope.Unscoped level.Dispatch) 7
+      (s 8 1 (act.Call call.WdfRequestSend (Some 0) (arg.Expression 0) (arg.Expression 1) (arg.Expression 2))
+      ∷ s 9 2 (act.If 5 3)
+      ∷ s 10 3 (act.Call call.WdfRequestComplete None (arg.Expression 6) (arg.Expression 7) arg.NoArgument) ∷ [])
+      ∷ a_script callback.EvtRequestCompletion (a_target 4 2 0 status.Success 4) 15 (s 16 1 (act.Call call.WdfRequestComplete None (arg.Expression 8) (arg.Expression 9) arg.NoArgument) ∷ [])
+      ∷ a_script callback.EvtDevicePrepareHardware (a_device 5 false scope.Unscoped level.Dispatch) 21
+      (s 22 1 (act.Call call.GetContext (Some 0) (arg.Expression 10) (arg.Expression 11) arg.NoArgument)
+      ∷ s 23 2 (act.Call call.SetContext None (arg.Expression 12) (arg.Expression 13) (arg.Expression 14))
+      ∷ s 24 3 (act.If 17 4)
+      ∷ s 25 4 (act.Return 18) ∷ [])
+      ∷ a_script callback.EvtIoRead (a_queue 6 5 dispatch.Sequential (serves true false false false) true false scope.Unscoped level.Dispatch) 30 (s 31 1 (act.Call call.WdfRequestComplete None (arg.Expression 19) (arg.Expression 20) arg.NoArgument) ∷ [])
       ∷ [];
-  picks = [];
 }
 
 abbrev pub the_lower_device_is_gone_events : List Event
@@ -524,60 +333,26 @@ the_lower_device_is_gone_events = event.Posted 0 (post.Ask ask.Start (h 5 5)) No
     ∷ []
 
 abbrev pub the_lower_queue_is_stopped_plan : Plan
-the_lower_queue_is_stopped_plan = record {
-  cpus = 1;
-  limit = 200;
-  objects = 32;
+the_lower_queue_is_stopped_plan = record (a_plan 1 200 32) {
   names = (codes "driver") ∷ (codes "req") ∷ (codes "D") ∷ (codes "Q") ∷ (codes "TO_E") ∷ (codes "E") ∷ (codes "R") ∷ (codes "A") ∷ [];
-  declared = (declared.Driver)
-      ∷ (declared.Device (record { name = 2; working = true; scope = scope.Unscoped; level = level.Dispatch }))
-      ∷ (declared.Queue (record { name = 3; device = record { 0 = 2 }; dispatch = dispatch.Parallel 4; serves = record { rest = true; read = false; write = false; control = false }; powered = true; zero = false; scope = scope.Unscoped; level = level.Dispatch }))
-      ∷ (declared.Target (record { name = 4; device = record { 0 = 2 }; delay = 0; status = status.Success; depth = 4 }))
-      ∷ (declared.Device (record { name = 5; working = false; scope = scope.Unscoped; level = level.Dispatch }))
-      ∷ (declared.Queue (record { name = 6; device = record { 0 = 5 }; dispatch = dispatch.Sequential; serves = record { rest = true; read = false; write = false; control = false }; powered = true; zero = false; scope = scope.Unscoped; level = level.Dispatch }))
+  declared = declared.Driver
+      ∷ a_device 2 true scope.Unscoped level.Dispatch
+      ∷ a_queue 3 2 (dispatch.Parallel 4) (serves true false false false) true false scope.Unscoped level.Dispatch
+      ∷ a_target 4 2 0 status.Success 4
+      ∷ a_device 5 false scope.Unscoped level.Dispatch
+      ∷ a_queue 6 5 dispatch.Sequential (serves true false false false) true false scope.Unscoped level.Dispatch
       ∷ [];
-  classes = [];
-  registers = [];
-  whens = [];
   pnp = (at 35 0 (post.Ask ask.Start (h 2 2))) ∷ [];
-  agents = (record { name = 7; posts = (at 32 0 (post.Read (h 2 2) 16)) ∷ [] })
-      ∷ (record { name = 2; posts = [] })
-      ∷ (record { name = 5; posts = [] })
-      ∷ (record { name = 4; posts = [] })
-      ∷ [];
+  agents = (an_agent 7 ((at 32 0 (post.Read (h 2 2) 16)) ∷ [])) ∷ (an_agent 2 []) ∷ (an_agent 5 []) ∷ (an_agent 4 []) ∷ [];
   exprs = (node.Context context.OwnRequest) ∷ (node.Object (h 4 4)) ∷ (node.Number 0) ∷ (node.Variable 0) ∷ (node.Number 0) ∷ (node.Binary operator.Equals 3 4) ∷ (node.Context context.OwnRequest) ∷ (node.Literal status.Unsuccessful) ∷ (node.Context context.OwnRequest) ∷ (node.Context context.CompletionStatus) ∷ (node.Object (h 6 6)) ∷ (node.Context context.OwnRequest) ∷ (node.Literal status.Success) ∷ [];
-  scripts = (record {
-    callback = callback.EvtIoDefault;
-    owner = declared.Queue (record { name = 3; device = record { 0 = 2 }; dispatch = dispatch.Parallel 4; serves = record { rest = true; read = false; write = false; control = false }; powered = true; zero = false; scope = scope.Unscoped; level = level.Dispatch });
-    line = 7;
-    statements = s 8 1 (act.Call call.WdfRequestSend (Some 0) (arg.Expression 0) (arg.Expression 1) (arg.Expression 2))
-        ∷ s 9 2 (act.If 5 3)
-        ∷ s 10 3 (act.Call call.WdfRequestComplete None (arg.Expression 6) (arg.Expression 7) arg.NoArgument)
-        ∷ [];
-  })
-      ∷ (record {
-        callback = callback.EvtRequestCompletion;
-        owner = declared.Target (record { name = 4; device = record { 0 = 2 }; delay = 0; status = status.Success; depth = 4 });
-        line = 15;
-        statements = s 16 1 (act.Call call.WdfRequestComplete None (arg.Expression 8) (arg.Expression 9) arg.NoArgument)
-            ∷ [];
-      })
-      ∷ (record {
-        callback = callback.EvtDeviceD0Entry;
-        owner = declared.Device (record { name = 5; working = false; scope = scope.Unscoped; level = level.Dispatch });
-        line = 21;
-        statements = s 22 1 (act.Call call.WdfIoQueueStop None (arg.Expression 10) arg.NoArgument arg.NoArgument)
-            ∷ [];
-      })
-      ∷ (record {
-        callback = callback.EvtIoRead;
-        owner = declared.Queue (record { name = 6; device = record { 0 = 5 }; dispatch = dispatch.Sequential; serves = record { rest = true; read = false; write = false; control = false }; powered = true; zero = false; scope = scope.Unscoped; level = level.Dispatch });
-        line = 26;
-        statements = s 27 1 (act.Call call.WdfRequestComplete None (arg.Expression 11) (arg.Expression 12) arg.NoArgument)
-            ∷ [];
-      })
+  scripts = a_script callback.EvtIoDefault (a_queue 3 2 (dispatch.Parallel 4) (serves true false false false) true false scope.Unscoped level.Dispatch) 7
+      (s 8 1 (act.Call call.WdfRequestSend (Some 0) (arg.Expression 0) (arg.Expression 1) (arg.Expression 2))
+      ∷ s 9 2 (act.If 5 3)
+      ∷ s 10 3 (act.Call call.WdfRequestComplete None (arg.Expression 6) (arg.Expression 7) arg.NoArgument) ∷ [])
+      ∷ a_script callback.EvtRequestCompletion (a_target 4 2 0 status.Success 4) 15 (s 16 1 (act.Call call.WdfRequestComplete None (arg.Expression 8) (arg.Expression 9) arg.NoArgument) ∷ [])
+      ∷ a_script callback.EvtDeviceD0Entry (a_device 5 false scope.Unscoped level.Dispatch) 21 (s 22 1 (act.Call call.WdfIoQueueStop None (arg.Expression 10) arg.NoArgument arg.NoArgument) ∷ [])
+      ∷ a_script callback.EvtIoRead (a_queue 6 5 dispatch.Sequential (serves true false false false) true false scope.Unscoped level.Dispatch) 26 (s 27 1 (act.Call call.WdfRequestComplete None (arg.Expression 11) (arg.Expression 12) arg.NoArgument) ∷ [])
       ∷ [];
-  picks = [];
 }
 
 abbrev pub the_lower_queue_is_stopped_events : List Event
@@ -601,69 +376,27 @@ abbrev pub the_lower_queue_is_stopped_waits : List WaitLine
 the_lower_queue_is_stopped_waits = (line (thing.Sent (h 7 1) (h 4 4)) None) ∷ (line (thing.Queued (h 8 1) (h 6 6)) (Some (cause.Stopped))) ∷ []
 
 abbrev pub the_middle_device_is_removed_plan : Plan
-the_middle_device_is_removed_plan = record {
-  cpus = 1;
-  limit = 200;
-  objects = 32;
+the_middle_device_is_removed_plan = record (a_plan 1 200 32) {
   names = (codes "driver") ∷ (codes "req") ∷ (codes "D") ∷ (codes "Q") ∷ (codes "TO_E") ∷ (codes "E") ∷ (codes "R") ∷ (codes "TO_F") ∷ (codes "F") ∷ (codes "S") ∷ [];
-  declared = (declared.Driver)
-      ∷ (declared.Device (record { name = 2; working = false; scope = scope.Unscoped; level = level.Dispatch }))
-      ∷ (declared.Queue (record { name = 3; device = record { 0 = 2 }; dispatch = dispatch.Sequential; serves = record { rest = true; read = false; write = false; control = false }; powered = true; zero = false; scope = scope.Unscoped; level = level.Dispatch }))
-      ∷ (declared.Target (record { name = 4; device = record { 0 = 2 }; delay = 0; status = status.Success; depth = 4 }))
-      ∷ (declared.Device (record { name = 5; working = false; scope = scope.Unscoped; level = level.Dispatch }))
-      ∷ (declared.Queue (record { name = 6; device = record { 0 = 5 }; dispatch = dispatch.Sequential; serves = record { rest = true; read = false; write = false; control = false }; powered = true; zero = false; scope = scope.Unscoped; level = level.Dispatch }))
-      ∷ (declared.Target (record { name = 7; device = record { 0 = 5 }; delay = 0; status = status.Success; depth = 4 }))
-      ∷ (declared.Device (record { name = 8; working = false; scope = scope.Unscoped; level = level.Dispatch }))
-      ∷ (declared.Queue (record { name = 9; device = record { 0 = 8 }; dispatch = dispatch.Sequential; serves = record { rest = true; read = false; write = false; control = false }; powered = true; zero = false; scope = scope.Unscoped; level = level.Dispatch }))
+  declared = declared.Driver
+      ∷ a_device 2 false scope.Unscoped level.Dispatch
+      ∷ a_queue 3 2 dispatch.Sequential (serves true false false false) true false scope.Unscoped level.Dispatch
+      ∷ a_target 4 2 0 status.Success 4
+      ∷ a_device 5 false scope.Unscoped level.Dispatch
+      ∷ a_queue 6 5 dispatch.Sequential (serves true false false false) true false scope.Unscoped level.Dispatch
+      ∷ a_target 7 5 0 status.Success 4
+      ∷ a_device 8 false scope.Unscoped level.Dispatch
+      ∷ a_queue 9 8 dispatch.Sequential (serves true false false false) true false scope.Unscoped level.Dispatch
       ∷ [];
-  classes = [];
-  registers = [];
-  whens = [];
   pnp = (at 39 0 (post.Ask ask.Start (h 5 5))) ∷ (at 40 1 (post.Ask ask.Remove (h 5 5))) ∷ [];
-  agents = (record { name = 2; posts = [] })
-      ∷ (record { name = 5; posts = [] })
-      ∷ (record { name = 8; posts = [] })
-      ∷ (record { name = 4; posts = [] })
-      ∷ (record { name = 7; posts = [] })
-      ∷ [];
+  agents = (an_agent 2 []) ∷ (an_agent 5 []) ∷ (an_agent 8 []) ∷ (an_agent 4 []) ∷ (an_agent 7 []) ∷ [];
   exprs = (node.Context context.OwnRequest) ∷ (node.Object (h 4 4)) ∷ (node.Number 0) ∷ (node.Context context.OwnRequest) ∷ (node.Context context.CompletionStatus) ∷ (node.Context context.OwnRequest) ∷ (node.Object (h 7 7)) ∷ (node.Number 0) ∷ (node.Context context.OwnRequest) ∷ (node.Context context.CompletionStatus) ∷ (node.Context context.OwnRequest) ∷ (node.Literal status.Success) ∷ [];
-  scripts = (record {
-    callback = callback.EvtIoRead;
-    owner = declared.Queue (record { name = 3; device = record { 0 = 2 }; dispatch = dispatch.Sequential; serves = record { rest = true; read = false; write = false; control = false }; powered = true; zero = false; scope = scope.Unscoped; level = level.Dispatch });
-    line = 7;
-    statements = s 8 1 (act.Call call.WdfRequestSend None (arg.Expression 0) (arg.Expression 1) (arg.Expression 2))
-        ∷ [];
-  })
-      ∷ (record {
-        callback = callback.EvtRequestCompletion;
-        owner = declared.Target (record { name = 4; device = record { 0 = 2 }; delay = 0; status = status.Success; depth = 4 });
-        line = 12;
-        statements = s 13 1 (act.Call call.WdfRequestComplete None (arg.Expression 3) (arg.Expression 4) arg.NoArgument)
-            ∷ [];
-      })
-      ∷ (record {
-        callback = callback.EvtIoRead;
-        owner = declared.Queue (record { name = 6; device = record { 0 = 5 }; dispatch = dispatch.Sequential; serves = record { rest = true; read = false; write = false; control = false }; powered = true; zero = false; scope = scope.Unscoped; level = level.Dispatch });
-        line = 20;
-        statements = s 21 1 (act.Call call.WdfRequestSend None (arg.Expression 5) (arg.Expression 6) (arg.Expression 7))
-            ∷ [];
-      })
-      ∷ (record {
-        callback = callback.EvtRequestCompletion;
-        owner = declared.Target (record { name = 7; device = record { 0 = 5 }; delay = 0; status = status.Success; depth = 4 });
-        line = 25;
-        statements = s 26 1 (act.Call call.WdfRequestComplete None (arg.Expression 8) (arg.Expression 9) arg.NoArgument)
-            ∷ [];
-      })
-      ∷ (record {
-        callback = callback.EvtIoRead;
-        owner = declared.Queue (record { name = 9; device = record { 0 = 8 }; dispatch = dispatch.Sequential; serves = record { rest = true; read = false; write = false; control = false }; powered = true; zero = false; scope = scope.Unscoped; level = level.Dispatch });
-        line = 33;
-        statements = s 34 1 (act.Call call.WdfRequestComplete None (arg.Expression 10) (arg.Expression 11) arg.NoArgument)
-            ∷ [];
-      })
+  scripts = a_script callback.EvtIoRead (a_queue 3 2 dispatch.Sequential (serves true false false false) true false scope.Unscoped level.Dispatch) 7 (s 8 1 (act.Call call.WdfRequestSend None (arg.Expression 0) (arg.Expression 1) (arg.Expression 2)) ∷ [])
+      ∷ a_script callback.EvtRequestCompletion (a_target 4 2 0 status.Success 4) 12 (s 13 1 (act.Call call.WdfRequestComplete None (arg.Expression 3) (arg.Expression 4) arg.NoArgument) ∷ [])
+      ∷ a_script callback.EvtIoRead (a_queue 6 5 dispatch.Sequential (serves true false false false) true false scope.Unscoped level.Dispatch) 20 (s 21 1 (act.Call call.WdfRequestSend None (arg.Expression 5) (arg.Expression 6) (arg.Expression 7)) ∷ [])
+      ∷ a_script callback.EvtRequestCompletion (a_target 7 5 0 status.Success 4) 25 (s 26 1 (act.Call call.WdfRequestComplete None (arg.Expression 8) (arg.Expression 9) arg.NoArgument) ∷ [])
+      ∷ a_script callback.EvtIoRead (a_queue 9 8 dispatch.Sequential (serves true false false false) true false scope.Unscoped level.Dispatch) 33 (s 34 1 (act.Call call.WdfRequestComplete None (arg.Expression 10) (arg.Expression 11) arg.NoArgument) ∷ [])
       ∷ [];
-  picks = [];
 }
 
 abbrev pub the_middle_device_is_removed_events : List Event

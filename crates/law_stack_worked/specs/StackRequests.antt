@@ -8,9 +8,7 @@ use Rattle.wdf_base.specs.declared.declared.DeferredKind.TheVariants as deferred
 use Rattle.wdf_base.specs.declared.declared.Scope.TheVariants as scope
 use Rattle.wdf_base.specs.declared.declared.ExecutionLevel.TheVariants as level
 use Rattle.wdf_base.specs.declared.declared.DispatchKind.TheVariants as dispatch
-use Rattle.wdf_base.specs.declared.event.Ask.TheVariants as ask
 use Rattle.wdf_base.specs.declared.event.Post.TheVariants as post
-use Rattle.wdf_base.specs.declared.event.Stage.TheVariants as stage
 use Rattle.wdf_base.specs.declared.event.Event.{Event}
 use Rattle.wdf_base.specs.declared.event.Event.TheVariants as event
 use Rattle.wdf_base.specs.declared.script.ExprNode.TheVariants as node
@@ -24,87 +22,36 @@ use Rattle.wdf_base.specs.declared.call.Callback.TheVariants as callback
 use Rattle.wdf_base.specs.declared.value.Status.TheVariants as status
 use Rattle.wdf_base.specs.declared.value.Value.TheVariants.{Num, Obj, Stat}
 use Rattle.wdf_base.specs.declared.plan.Plan.{Plan}
-use Rattle.wdf_base.specs.declared.wait.OpenThing.TheVariants as thing
-use Rattle.wdf_base.specs.declared.wait.Cause.TheVariants as cause
-use Rattle.wdf_base.specs.declared.wait.WaitLine.{WaitLine}
-use Rattle.law_machine_worked.specs.Writing.{h, p, f, c, at, s, line}
+use Rattle.law_machine_worked.specs.Writing.{h, p, f, c, at, s, a_plan, a_device, a_queue, serves, a_target, an_agent, a_script}
 
 abbrev pub a_cancel_goes_down_plan : Plan
-a_cancel_goes_down_plan = record {
-  cpus = 1;
-  limit = 200;
-  objects = 32;
+a_cancel_goes_down_plan = record (a_plan 1 200 32) {
   names = (codes "driver") ∷ (codes "req") ∷ (codes "D") ∷ (codes "Q") ∷ (codes "TO_E") ∷ (codes "E") ∷ (codes "R") ∷ (codes "TO_F") ∷ (codes "F") ∷ (codes "S") ∷ (codes "A") ∷ [];
-  declared = (declared.Driver)
-      ∷ (declared.Device (record { name = 2; working = true; scope = scope.Unscoped; level = level.Dispatch }))
-      ∷ (declared.Queue (record { name = 3; device = record { 0 = 2 }; dispatch = dispatch.Parallel 4; serves = record { rest = true; read = false; write = false; control = false }; powered = true; zero = false; scope = scope.Unscoped; level = level.Dispatch }))
-      ∷ (declared.Target (record { name = 4; device = record { 0 = 2 }; delay = 0; status = status.Success; depth = 4 }))
-      ∷ (declared.Device (record { name = 5; working = true; scope = scope.Unscoped; level = level.Dispatch }))
-      ∷ (declared.Queue (record { name = 6; device = record { 0 = 5 }; dispatch = dispatch.Parallel 4; serves = record { rest = true; read = false; write = false; control = false }; powered = true; zero = false; scope = scope.Unscoped; level = level.Dispatch }))
-      ∷ (declared.Target (record { name = 7; device = record { 0 = 5 }; delay = 0; status = status.Success; depth = 4 }))
-      ∷ (declared.Device (record { name = 8; working = true; scope = scope.Unscoped; level = level.Dispatch }))
-      ∷ (declared.Queue (record { name = 9; device = record { 0 = 8 }; dispatch = dispatch.Sequential; serves = record { rest = true; read = false; write = false; control = false }; powered = true; zero = false; scope = scope.Unscoped; level = level.Dispatch }))
+  declared = declared.Driver
+      ∷ a_device 2 true scope.Unscoped level.Dispatch
+      ∷ a_queue 3 2 (dispatch.Parallel 4) (serves true false false false) true false scope.Unscoped level.Dispatch
+      ∷ a_target 4 2 0 status.Success 4
+      ∷ a_device 5 true scope.Unscoped level.Dispatch
+      ∷ a_queue 6 5 (dispatch.Parallel 4) (serves true false false false) true false scope.Unscoped level.Dispatch
+      ∷ a_target 7 5 0 status.Success 4
+      ∷ a_device 8 true scope.Unscoped level.Dispatch
+      ∷ a_queue 9 8 dispatch.Sequential (serves true false false false) true false scope.Unscoped level.Dispatch
       ∷ [];
-  classes = [];
-  registers = [];
-  whens = [];
-  pnp = [];
-  agents = (record { name = 10; posts = (at 48 0 (post.Read (h 2 2) 16)) ∷ (at 49 1 (post.Cancel 1)) ∷ [] })
-      ∷ (record { name = 2; posts = [] })
-      ∷ (record { name = 5; posts = [] })
-      ∷ (record { name = 8; posts = [] })
-      ∷ (record { name = 4; posts = [] })
-      ∷ (record { name = 7; posts = [] })
-      ∷ [];
+  agents = (an_agent 10 ((at 48 0 (post.Read (h 2 2) 16)) ∷ (at 49 1 (post.Cancel 1)) ∷ [])) ∷ (an_agent 2 []) ∷ (an_agent 5 []) ∷ (an_agent 8 []) ∷ (an_agent 4 []) ∷ (an_agent 7 []) ∷ [];
   exprs = (node.Context context.OwnRequest) ∷ (node.Object (h 4 4)) ∷ (node.Number 0) ∷ (node.Variable 0) ∷ (node.Number 0) ∷ (node.Binary operator.Equals 3 4) ∷ (node.Context context.OwnRequest) ∷ (node.Literal status.Unsuccessful) ∷ (node.Context context.OwnRequest) ∷ (node.Context context.CompletionStatus) ∷ (node.Context context.OwnRequest) ∷ (node.Object (h 7 7)) ∷ (node.Number 0) ∷ (node.Variable 0) ∷ (node.Number 0) ∷ (node.Binary operator.Equals 13 14) ∷ (node.Context context.OwnRequest) ∷ (node.Literal status.Unsuccessful) ∷ (node.Context context.OwnRequest) ∷ (node.Context context.CompletionStatus) ∷ (node.Context context.OwnRequest) ∷ (node.Context context.OwnRequest) ∷ (node.Literal status.Cancelled) ∷ [];
-  scripts = (record {
-    callback = callback.EvtIoDefault;
-    owner = declared.Queue (record { name = 3; device = record { 0 = 2 }; dispatch = dispatch.Parallel 4; serves = record { rest = true; read = false; write = false; control = false }; powered = true; zero = false; scope = scope.Unscoped; level = level.Dispatch });
-    line = 7;
-    statements = s 8 1 (act.Call call.WdfRequestSend (Some 0) (arg.Expression 0) (arg.Expression 1) (arg.Expression 2))
-        ∷ s 9 2 (act.If 5 3)
-        ∷ s 10 3 (act.Call call.WdfRequestComplete None (arg.Expression 6) (arg.Expression 7) arg.NoArgument)
-        ∷ [];
-  })
-      ∷ (record {
-        callback = callback.EvtRequestCompletion;
-        owner = declared.Target (record { name = 4; device = record { 0 = 2 }; delay = 0; status = status.Success; depth = 4 });
-        line = 15;
-        statements = s 16 1 (act.Call call.WdfRequestComplete None (arg.Expression 8) (arg.Expression 9) arg.NoArgument)
-            ∷ [];
-      })
-      ∷ (record {
-        callback = callback.EvtIoDefault;
-        owner = declared.Queue (record { name = 6; device = record { 0 = 5 }; dispatch = dispatch.Parallel 4; serves = record { rest = true; read = false; write = false; control = false }; powered = true; zero = false; scope = scope.Unscoped; level = level.Dispatch });
-        line = 23;
-        statements = s 24 1 (act.Call call.WdfRequestSend (Some 0) (arg.Expression 10) (arg.Expression 11) (arg.Expression 12))
-            ∷ s 25 2 (act.If 15 3)
-            ∷ s 26 3 (act.Call call.WdfRequestComplete None (arg.Expression 16) (arg.Expression 17) arg.NoArgument)
-            ∷ [];
-      })
-      ∷ (record {
-        callback = callback.EvtRequestCompletion;
-        owner = declared.Target (record { name = 7; device = record { 0 = 5 }; delay = 0; status = status.Success; depth = 4 });
-        line = 31;
-        statements = s 32 1 (act.Call call.WdfRequestComplete None (arg.Expression 18) (arg.Expression 19) arg.NoArgument)
-            ∷ [];
-      })
-      ∷ (record {
-        callback = callback.EvtIoRead;
-        owner = declared.Queue (record { name = 9; device = record { 0 = 8 }; dispatch = dispatch.Sequential; serves = record { rest = true; read = false; write = false; control = false }; powered = true; zero = false; scope = scope.Unscoped; level = level.Dispatch });
-        line = 39;
-        statements = s 40 1 (act.Call call.WdfRequestMarkCancelableEx None (arg.Expression 20) arg.NoArgument arg.NoArgument)
-            ∷ [];
-      })
-      ∷ (record {
-        callback = callback.EvtRequestCancel;
-        owner = declared.Queue (record { name = 9; device = record { 0 = 8 }; dispatch = dispatch.Sequential; serves = record { rest = true; read = false; write = false; control = false }; powered = true; zero = false; scope = scope.Unscoped; level = level.Dispatch });
-        line = 42;
-        statements = s 43 1 (act.Call call.WdfRequestComplete None (arg.Expression 21) (arg.Expression 22) arg.NoArgument)
-            ∷ [];
-      })
+  scripts = a_script callback.EvtIoDefault (a_queue 3 2 (dispatch.Parallel 4) (serves true false false false) true false scope.Unscoped level.Dispatch) 7
+      (s 8 1 (act.Call call.WdfRequestSend (Some 0) (arg.Expression 0) (arg.Expression 1) (arg.Expression 2))
+      ∷ s 9 2 (act.If 5 3)
+      ∷ s 10 3 (act.Call call.WdfRequestComplete None (arg.Expression 6) (arg.Expression 7) arg.NoArgument) ∷ [])
+      ∷ a_script callback.EvtRequestCompletion (a_target 4 2 0 status.Success 4) 15 (s 16 1 (act.Call call.WdfRequestComplete None (arg.Expression 8) (arg.Expression 9) arg.NoArgument) ∷ [])
+      ∷ a_script callback.EvtIoDefault (a_queue 6 5 (dispatch.Parallel 4) (serves true false false false) true false scope.Unscoped level.Dispatch) 23
+      (s 24 1 (act.Call call.WdfRequestSend (Some 0) (arg.Expression 10) (arg.Expression 11) (arg.Expression 12))
+      ∷ s 25 2 (act.If 15 3)
+      ∷ s 26 3 (act.Call call.WdfRequestComplete None (arg.Expression 16) (arg.Expression 17) arg.NoArgument) ∷ [])
+      ∷ a_script callback.EvtRequestCompletion (a_target 7 5 0 status.Success 4) 31 (s 32 1 (act.Call call.WdfRequestComplete None (arg.Expression 18) (arg.Expression 19) arg.NoArgument) ∷ [])
+      ∷ a_script callback.EvtIoRead (a_queue 9 8 dispatch.Sequential (serves true false false false) true false scope.Unscoped level.Dispatch) 39 (s 40 1 (act.Call call.WdfRequestMarkCancelableEx None (arg.Expression 20) arg.NoArgument arg.NoArgument) ∷ [])
+      ∷ a_script callback.EvtRequestCancel (a_queue 9 8 dispatch.Sequential (serves true false false false) true false scope.Unscoped level.Dispatch) 42 (s 43 1 (act.Call call.WdfRequestComplete None (arg.Expression 21) (arg.Expression 22) arg.NoArgument) ∷ [])
       ∷ [];
-  picks = [];
 }
 
 abbrev pub a_cancel_goes_down_events : List Event
@@ -146,54 +93,27 @@ a_cancel_goes_down_events = event.Posted 1 (post.Read (h 2 2) 16) (Some (h 10 1)
     ∷ []
 
 abbrev pub a_made_request_goes_down_plan : Plan
-a_made_request_goes_down_plan = record {
-  cpus = 1;
-  limit = 200;
-  objects = 32;
+a_made_request_goes_down_plan = record (a_plan 1 200 32) {
   names = (codes "driver") ∷ (codes "req") ∷ (codes "M") ∷ (codes "D") ∷ (codes "Q") ∷ (codes "TO_E") ∷ (codes "E") ∷ (codes "R") ∷ (codes "A") ∷ [];
-  declared = (declared.Driver)
-      ∷ (declared.Device (record { name = 3; working = true; scope = scope.Unscoped; level = level.Dispatch }))
-      ∷ (declared.Queue (record { name = 4; device = record { 0 = 2 }; dispatch = dispatch.Sequential; serves = record { rest = true; read = false; write = false; control = false }; powered = true; zero = false; scope = scope.Unscoped; level = level.Dispatch }))
-      ∷ (declared.Target (record { name = 5; device = record { 0 = 2 }; delay = 7; status = status.Unsuccessful; depth = 4 }))
-      ∷ (declared.Device (record { name = 6; working = true; scope = scope.Unscoped; level = level.Dispatch }))
-      ∷ (declared.Queue (record { name = 7; device = record { 0 = 5 }; dispatch = dispatch.Sequential; serves = record { rest = true; read = false; write = false; control = false }; powered = true; zero = false; scope = scope.Unscoped; level = level.Dispatch }))
+  declared = declared.Driver
+      ∷ a_device 3 true scope.Unscoped level.Dispatch
+      ∷ a_queue 4 2 dispatch.Sequential (serves true false false false) true false scope.Unscoped level.Dispatch
+      ∷ a_target 5 2 7 status.Unsuccessful 4
+      ∷ a_device 6 true scope.Unscoped level.Dispatch
+      ∷ a_queue 7 5 dispatch.Sequential (serves true false false false) true false scope.Unscoped level.Dispatch
       ∷ [];
   classes = (class.Plain 2 plain.Request) ∷ [];
-  registers = [];
-  whens = [];
-  pnp = [];
-  agents = (record { name = 8; posts = (at 31 0 (post.Read (h 2 3) 16)) ∷ [] })
-      ∷ (record { name = 3; posts = [] })
-      ∷ (record { name = 6; posts = [] })
-      ∷ (record { name = 5; posts = [] })
-      ∷ [];
+  agents = (an_agent 8 ((at 31 0 (post.Read (h 2 3) 16)) ∷ [])) ∷ (an_agent 3 []) ∷ (an_agent 6 []) ∷ (an_agent 5 []) ∷ [];
   exprs = (node.Context context.NearestDevice) ∷ (node.Context context.NearestDevice) ∷ (node.Number 0) ∷ (node.Context context.OwnRequest) ∷ (node.Variable 0) ∷ (node.Object (h 4 5)) ∷ (node.Number 0) ∷ (node.Context context.NearestDevice) ∷ (node.Number 0) ∷ (node.Variable 0) ∷ (node.Context context.CompletionStatus) ∷ (node.Context context.OwnRequest) ∷ (node.Literal status.Success) ∷ [];
-  scripts = (record {
-    callback = callback.EvtIoRead;
-    owner = declared.Queue (record { name = 4; device = record { 0 = 2 }; dispatch = dispatch.Sequential; serves = record { rest = true; read = false; write = false; control = false }; powered = true; zero = false; scope = scope.Unscoped; level = level.Dispatch });
-    line = 9;
-    statements = s 10 1 (act.Call call.WdfRequestCreate (Some 0) (arg.OfClass 0) (arg.Expression 0) arg.NoArgument)
-        ∷ s 11 2 (act.Call call.SetContext None (arg.Expression 1) (arg.Expression 2) (arg.Expression 3))
-        ∷ s 12 3 (act.Call call.WdfRequestSend (Some 1) (arg.Expression 4) (arg.Expression 5) (arg.Expression 6))
-        ∷ [];
-  })
-      ∷ (record {
-        callback = callback.EvtRequestCompletion;
-        owner = declared.Target (record { name = 5; device = record { 0 = 2 }; delay = 7; status = status.Unsuccessful; depth = 4 });
-        line = 16;
-        statements = s 17 1 (act.Call call.GetContext (Some 0) (arg.Expression 7) (arg.Expression 8) arg.NoArgument)
-            ∷ s 18 2 (act.Call call.WdfRequestComplete None (arg.Expression 9) (arg.Expression 10) arg.NoArgument)
-            ∷ [];
-      })
-      ∷ (record {
-        callback = callback.EvtIoDeviceControl;
-        owner = declared.Queue (record { name = 7; device = record { 0 = 5 }; dispatch = dispatch.Sequential; serves = record { rest = true; read = false; write = false; control = false }; powered = true; zero = false; scope = scope.Unscoped; level = level.Dispatch });
-        line = 25;
-        statements = s 26 1 (act.Call call.WdfRequestComplete None (arg.Expression 11) (arg.Expression 12) arg.NoArgument)
-            ∷ [];
-      })
+  scripts = a_script callback.EvtIoRead (a_queue 4 2 dispatch.Sequential (serves true false false false) true false scope.Unscoped level.Dispatch) 9
+      (s 10 1 (act.Call call.WdfRequestCreate (Some 0) (arg.OfClass 0) (arg.Expression 0) arg.NoArgument)
+      ∷ s 11 2 (act.Call call.SetContext None (arg.Expression 1) (arg.Expression 2) (arg.Expression 3))
+      ∷ s 12 3 (act.Call call.WdfRequestSend (Some 1) (arg.Expression 4) (arg.Expression 5) (arg.Expression 6)) ∷ [])
+      ∷ a_script callback.EvtRequestCompletion (a_target 5 2 7 status.Unsuccessful 4) 16
+      (s 17 1 (act.Call call.GetContext (Some 0) (arg.Expression 7) (arg.Expression 8) arg.NoArgument)
+      ∷ s 18 2 (act.Call call.WdfRequestComplete None (arg.Expression 9) (arg.Expression 10) arg.NoArgument) ∷ [])
+      ∷ a_script callback.EvtIoDeviceControl (a_queue 7 5 dispatch.Sequential (serves true false false false) true false scope.Unscoped level.Dispatch) 25 (s 26 1 (act.Call call.WdfRequestComplete None (arg.Expression 11) (arg.Expression 12) arg.NoArgument) ∷ [])
       ∷ [];
-  picks = [];
 }
 
 abbrev pub a_made_request_goes_down_events : List Event
@@ -219,54 +139,26 @@ a_made_request_goes_down_events = event.Posted 1 (post.Read (h 2 3) 16) (Some (h
     ∷ []
 
 abbrev pub a_sent_request_is_cancelled_plan : Plan
-a_sent_request_is_cancelled_plan = record {
-  cpus = 1;
-  limit = 200;
-  objects = 32;
+a_sent_request_is_cancelled_plan = record (a_plan 1 200 32) {
   names = (codes "driver") ∷ (codes "req") ∷ (codes "D") ∷ (codes "Q") ∷ (codes "TO_E") ∷ (codes "E") ∷ (codes "R") ∷ (codes "A") ∷ [];
-  declared = (declared.Driver)
-      ∷ (declared.Device (record { name = 2; working = true; scope = scope.Unscoped; level = level.Dispatch }))
-      ∷ (declared.Queue (record { name = 3; device = record { 0 = 2 }; dispatch = dispatch.Parallel 4; serves = record { rest = true; read = false; write = false; control = false }; powered = true; zero = false; scope = scope.Unscoped; level = level.Dispatch }))
-      ∷ (declared.Target (record { name = 4; device = record { 0 = 2 }; delay = 0; status = status.Success; depth = 4 }))
-      ∷ (declared.Device (record { name = 5; working = true; scope = scope.Unscoped; level = level.Dispatch }))
-      ∷ (declared.Queue (record { name = 6; device = record { 0 = 5 }; dispatch = dispatch.Manual; serves = record { rest = true; read = false; write = false; control = false }; powered = true; zero = false; scope = scope.Unscoped; level = level.Dispatch }))
+  declared = declared.Driver
+      ∷ a_device 2 true scope.Unscoped level.Dispatch
+      ∷ a_queue 3 2 (dispatch.Parallel 4) (serves true false false false) true false scope.Unscoped level.Dispatch
+      ∷ a_target 4 2 0 status.Success 4
+      ∷ a_device 5 true scope.Unscoped level.Dispatch
+      ∷ a_queue 6 5 dispatch.Manual (serves true false false false) true false scope.Unscoped level.Dispatch
       ∷ [];
-  classes = [];
-  registers = [];
-  whens = [];
-  pnp = [];
-  agents = (record { name = 7; posts = (at 29 0 (post.Read (h 2 2) 16)) ∷ (at 30 0 (post.Write (h 2 2) 8)) ∷ [] })
-      ∷ (record { name = 2; posts = [] })
-      ∷ (record { name = 5; posts = [] })
-      ∷ (record { name = 4; posts = [] })
-      ∷ [];
+  agents = (an_agent 7 ((at 29 0 (post.Read (h 2 2) 16)) ∷ (at 30 0 (post.Write (h 2 2) 8)) ∷ [])) ∷ (an_agent 2 []) ∷ (an_agent 5 []) ∷ (an_agent 4 []) ∷ [];
   exprs = (node.Context context.OwnRequest) ∷ (node.Object (h 4 4)) ∷ (node.Number 0) ∷ (node.Context context.OwnRequest) ∷ (node.Context context.OwnRequest) ∷ (node.Object (h 4 4)) ∷ (node.Number 0) ∷ (node.Number 2) ∷ (node.Context context.OwnRequest) ∷ (node.Context context.OwnRequest) ∷ (node.Context context.CompletionStatus) ∷ [];
-  scripts = (record {
-    callback = callback.EvtIoRead;
-    owner = declared.Queue (record { name = 3; device = record { 0 = 2 }; dispatch = dispatch.Parallel 4; serves = record { rest = true; read = false; write = false; control = false }; powered = true; zero = false; scope = scope.Unscoped; level = level.Dispatch });
-    line = 7;
-    statements = s 8 1 (act.Call call.WdfRequestSend (Some 0) (arg.Expression 0) (arg.Expression 1) (arg.Expression 2))
-        ∷ s 9 2 (act.Call call.WdfRequestCancelSentRequest None (arg.Expression 3) arg.NoArgument arg.NoArgument)
-        ∷ [];
-  })
-      ∷ (record {
-        callback = callback.EvtIoWrite;
-        owner = declared.Queue (record { name = 3; device = record { 0 = 2 }; dispatch = dispatch.Parallel 4; serves = record { rest = true; read = false; write = false; control = false }; powered = true; zero = false; scope = scope.Unscoped; level = level.Dispatch });
-        line = 11;
-        statements = s 12 1 (act.Call call.WdfRequestSend (Some 0) (arg.Expression 4) (arg.Expression 5) (arg.Expression 6))
-            ∷ s 13 2 (act.Spend 7)
-            ∷ s 14 3 (act.Call call.WdfRequestCancelSentRequest None (arg.Expression 8) arg.NoArgument arg.NoArgument)
-            ∷ [];
-      })
-      ∷ (record {
-        callback = callback.EvtRequestCompletion;
-        owner = declared.Target (record { name = 4; device = record { 0 = 2 }; delay = 0; status = status.Success; depth = 4 });
-        line = 18;
-        statements = s 19 1 (act.Call call.WdfRequestComplete None (arg.Expression 9) (arg.Expression 10) arg.NoArgument)
-            ∷ [];
-      })
+  scripts = a_script callback.EvtIoRead (a_queue 3 2 (dispatch.Parallel 4) (serves true false false false) true false scope.Unscoped level.Dispatch) 7
+      (s 8 1 (act.Call call.WdfRequestSend (Some 0) (arg.Expression 0) (arg.Expression 1) (arg.Expression 2))
+      ∷ s 9 2 (act.Call call.WdfRequestCancelSentRequest None (arg.Expression 3) arg.NoArgument arg.NoArgument) ∷ [])
+      ∷ a_script callback.EvtIoWrite (a_queue 3 2 (dispatch.Parallel 4) (serves true false false false) true false scope.Unscoped level.Dispatch) 11
+      (s 12 1 (act.Call call.WdfRequestSend (Some 0) (arg.Expression 4) (arg.Expression 5) (arg.Expression 6))
+      ∷ s 13 2 (act.Spend 7)
+      ∷ s 14 3 (act.Call call.WdfRequestCancelSentRequest None (arg.Expression 8) arg.NoArgument arg.NoArgument) ∷ [])
+      ∷ a_script callback.EvtRequestCompletion (a_target 4 2 0 status.Success 4) 18 (s 19 1 (act.Call call.WdfRequestComplete None (arg.Expression 9) (arg.Expression 10) arg.NoArgument) ∷ [])
       ∷ [];
-  picks = [];
 }
 
 abbrev pub a_sent_request_is_cancelled_events : List Event
@@ -303,61 +195,28 @@ a_sent_request_is_cancelled_events = event.Posted 1 (post.Read (h 2 2) 16) (Some
     ∷ []
 
 abbrev pub a_stopped_target_cancels_plan : Plan
-a_stopped_target_cancels_plan = record {
-  cpus = 1;
-  limit = 200;
-  objects = 32;
+a_stopped_target_cancels_plan = record (a_plan 1 200 32) {
   names = (codes "driver") ∷ (codes "req") ∷ (codes "W") ∷ (codes "D") ∷ (codes "Q") ∷ (codes "TO_E") ∷ (codes "E") ∷ (codes "R") ∷ (codes "A") ∷ [];
-  declared = (declared.Driver)
-      ∷ (declared.Device (record { name = 3; working = true; scope = scope.Unscoped; level = level.Passive }))
-      ∷ (declared.Queue (record { name = 4; device = record { 0 = 2 }; dispatch = dispatch.Parallel 4; serves = record { rest = true; read = false; write = false; control = false }; powered = true; zero = false; scope = scope.Unscoped; level = level.Passive }))
-      ∷ (declared.Target (record { name = 5; device = record { 0 = 2 }; delay = 0; status = status.Success; depth = 4 }))
-      ∷ (declared.Device (record { name = 6; working = true; scope = scope.Unscoped; level = level.Passive }))
-      ∷ (declared.Queue (record { name = 7; device = record { 0 = 5 }; dispatch = dispatch.Manual; serves = record { rest = true; read = false; write = false; control = false }; powered = true; zero = false; scope = scope.Unscoped; level = level.Passive }))
+  declared = declared.Driver
+      ∷ a_device 3 true scope.Unscoped level.Passive
+      ∷ a_queue 4 2 (dispatch.Parallel 4) (serves true false false false) true false scope.Unscoped level.Passive
+      ∷ a_target 5 2 0 status.Success 4
+      ∷ a_device 6 true scope.Unscoped level.Passive
+      ∷ a_queue 7 5 dispatch.Manual (serves true false false false) true false scope.Unscoped level.Passive
       ∷ [];
   classes = (class.Deferred 2 deferred.WorkItem (record { 0 = 2 }) false 0) ∷ [];
-  registers = [];
-  whens = [];
-  pnp = [];
-  agents = (record { name = 8; posts = (at 37 0 (post.Read (h 2 3) 16)) ∷ (at 38 1 (post.Control (h 2 3) 3 0)) ∷ [] })
-      ∷ (record { name = 3; posts = [] })
-      ∷ (record { name = 6; posts = [] })
-      ∷ (record { name = 5; posts = [] })
-      ∷ [];
+  agents = (an_agent 8 ((at 37 0 (post.Read (h 2 3) 16)) ∷ (at 38 1 (post.Control (h 2 3) 3 0)) ∷ [])) ∷ (an_agent 3 []) ∷ (an_agent 6 []) ∷ (an_agent 5 []) ∷ [];
   exprs = (node.Object (h 4 5)) ∷ (node.Number 0) ∷ (node.Number 1) ∷ (node.Context context.OwnRequest) ∷ (node.Object (h 4 5)) ∷ (node.Number 0) ∷ (node.Variable 0) ∷ (node.Context context.OwnRequest) ∷ (node.Literal status.Success) ∷ (node.Context context.OwnRequest) ∷ (node.Context context.CompletionStatus) ∷ [];
-  scripts = (record {
-    callback = callback.EvtWorkItem;
-    owner = declared.OfClass 0;
-    line = 8;
-    statements = s 9 1 (act.Call call.WdfIoTargetStop None (arg.Expression 0) (arg.Expression 1) arg.NoArgument)
-        ∷ s 10 2 (act.Log 2)
-        ∷ [];
-  })
-      ∷ (record {
-        callback = callback.EvtIoDefault;
-        owner = declared.Queue (record { name = 4; device = record { 0 = 2 }; dispatch = dispatch.Parallel 4; serves = record { rest = true; read = false; write = false; control = false }; powered = true; zero = false; scope = scope.Unscoped; level = level.Passive });
-        line = 16;
-        statements = s 17 1 (act.Call call.WdfRequestSend None (arg.Expression 3) (arg.Expression 4) (arg.Expression 5))
-            ∷ [];
-      })
-      ∷ (record {
-        callback = callback.EvtIoDeviceControl;
-        owner = declared.Queue (record { name = 4; device = record { 0 = 2 }; dispatch = dispatch.Parallel 4; serves = record { rest = true; read = false; write = false; control = false }; powered = true; zero = false; scope = scope.Unscoped; level = level.Passive });
-        line = 19;
-        statements = s 20 1 (act.Call call.WdfWorkItemCreate (Some 0) (arg.OfClass 0) arg.NoArgument arg.NoArgument)
-            ∷ s 21 2 (act.Call call.WdfWorkItemEnqueue None (arg.Expression 6) arg.NoArgument arg.NoArgument)
-            ∷ s 22 3 (act.Call call.WdfRequestComplete None (arg.Expression 7) (arg.Expression 8) arg.NoArgument)
-            ∷ [];
-      })
-      ∷ (record {
-        callback = callback.EvtRequestCompletion;
-        owner = declared.Target (record { name = 5; device = record { 0 = 2 }; delay = 0; status = status.Success; depth = 4 });
-        line = 26;
-        statements = s 27 1 (act.Call call.WdfRequestComplete None (arg.Expression 9) (arg.Expression 10) arg.NoArgument)
-            ∷ [];
-      })
+  scripts = a_script callback.EvtWorkItem (declared.OfClass 0) 8
+      (s 9 1 (act.Call call.WdfIoTargetStop None (arg.Expression 0) (arg.Expression 1) arg.NoArgument)
+      ∷ s 10 2 (act.Log 2) ∷ [])
+      ∷ a_script callback.EvtIoDefault (a_queue 4 2 (dispatch.Parallel 4) (serves true false false false) true false scope.Unscoped level.Passive) 16 (s 17 1 (act.Call call.WdfRequestSend None (arg.Expression 3) (arg.Expression 4) (arg.Expression 5)) ∷ [])
+      ∷ a_script callback.EvtIoDeviceControl (a_queue 4 2 (dispatch.Parallel 4) (serves true false false false) true false scope.Unscoped level.Passive) 19
+      (s 20 1 (act.Call call.WdfWorkItemCreate (Some 0) (arg.OfClass 0) arg.NoArgument arg.NoArgument)
+      ∷ s 21 2 (act.Call call.WdfWorkItemEnqueue None (arg.Expression 6) arg.NoArgument arg.NoArgument)
+      ∷ s 22 3 (act.Call call.WdfRequestComplete None (arg.Expression 7) (arg.Expression 8) arg.NoArgument) ∷ [])
+      ∷ a_script callback.EvtRequestCompletion (a_target 5 2 0 status.Success 4) 26 (s 27 1 (act.Call call.WdfRequestComplete None (arg.Expression 9) (arg.Expression 10) arg.NoArgument) ∷ [])
       ∷ [];
-  picks = [];
 }
 
 abbrev pub a_stopped_target_cancels_events : List Event
@@ -395,61 +254,27 @@ a_stopped_target_cancels_events = event.Posted 1 (post.Read (h 2 3) 16) (Some (h
     ∷ []
 
 abbrev pub depth_is_reached_plan : Plan
-depth_is_reached_plan = record {
-  cpus = 1;
-  limit = 200;
-  objects = 32;
+depth_is_reached_plan = record (a_plan 1 200 32) {
   names = (codes "driver") ∷ (codes "req") ∷ (codes "D") ∷ (codes "Q") ∷ (codes "TO_E") ∷ (codes "E") ∷ (codes "R") ∷ (codes "A") ∷ [];
-  declared = (declared.Driver)
-      ∷ (declared.Device (record { name = 2; working = true; scope = scope.Unscoped; level = level.Dispatch }))
-      ∷ (declared.Queue (record { name = 3; device = record { 0 = 2 }; dispatch = dispatch.Parallel 4; serves = record { rest = true; read = false; write = false; control = false }; powered = true; zero = false; scope = scope.Unscoped; level = level.Dispatch }))
-      ∷ (declared.Target (record { name = 4; device = record { 0 = 2 }; delay = 0; status = status.Success; depth = 1 }))
-      ∷ (declared.Device (record { name = 5; working = true; scope = scope.Unscoped; level = level.Dispatch }))
-      ∷ (declared.Queue (record { name = 6; device = record { 0 = 5 }; dispatch = dispatch.Sequential; serves = record { rest = true; read = false; write = false; control = false }; powered = true; zero = false; scope = scope.Unscoped; level = level.Dispatch }))
+  declared = declared.Driver
+      ∷ a_device 2 true scope.Unscoped level.Dispatch
+      ∷ a_queue 3 2 (dispatch.Parallel 4) (serves true false false false) true false scope.Unscoped level.Dispatch
+      ∷ a_target 4 2 0 status.Success 1
+      ∷ a_device 5 true scope.Unscoped level.Dispatch
+      ∷ a_queue 6 5 dispatch.Sequential (serves true false false false) true false scope.Unscoped level.Dispatch
       ∷ [];
-  classes = [];
-  registers = [];
-  whens = [];
-  pnp = [];
-  agents = (record { name = 7; posts = (at 33 0 (post.Read (h 2 2) 16)) ∷ (at 34 0 (post.Write (h 2 2) 8)) ∷ [] })
-      ∷ (record { name = 2; posts = [] })
-      ∷ (record { name = 5; posts = [] })
-      ∷ (record { name = 4; posts = [] })
-      ∷ [];
+  agents = (an_agent 7 ((at 33 0 (post.Read (h 2 2) 16)) ∷ (at 34 0 (post.Write (h 2 2) 8)) ∷ [])) ∷ (an_agent 2 []) ∷ (an_agent 5 []) ∷ (an_agent 4 []) ∷ [];
   exprs = (node.Context context.OwnRequest) ∷ (node.Object (h 4 4)) ∷ (node.Number 0) ∷ (node.Variable 0) ∷ (node.Number 0) ∷ (node.Binary operator.Equals 3 4) ∷ (node.Context context.OwnRequest) ∷ (node.Literal status.Unsuccessful) ∷ (node.Context context.OwnRequest) ∷ (node.Context context.CompletionStatus) ∷ (node.Context context.OwnRequest) ∷ (node.Literal status.Success) ∷ (node.Number 1) ∷ (node.Context context.OwnRequest) ∷ (node.Literal status.Success) ∷ [];
-  scripts = (record {
-    callback = callback.EvtIoDefault;
-    owner = declared.Queue (record { name = 3; device = record { 0 = 2 }; dispatch = dispatch.Parallel 4; serves = record { rest = true; read = false; write = false; control = false }; powered = true; zero = false; scope = scope.Unscoped; level = level.Dispatch });
-    line = 7;
-    statements = s 8 1 (act.Call call.WdfRequestSend (Some 0) (arg.Expression 0) (arg.Expression 1) (arg.Expression 2))
-        ∷ s 9 2 (act.If 5 3)
-        ∷ s 10 3 (act.Call call.WdfRequestComplete None (arg.Expression 6) (arg.Expression 7) arg.NoArgument)
-        ∷ [];
-  })
-      ∷ (record {
-        callback = callback.EvtRequestCompletion;
-        owner = declared.Target (record { name = 4; device = record { 0 = 2 }; delay = 0; status = status.Success; depth = 1 });
-        line = 15;
-        statements = s 16 1 (act.Call call.WdfRequestComplete None (arg.Expression 8) (arg.Expression 9) arg.NoArgument)
-            ∷ [];
-      })
-      ∷ (record {
-        callback = callback.EvtIoWrite;
-        owner = declared.Queue (record { name = 6; device = record { 0 = 5 }; dispatch = dispatch.Sequential; serves = record { rest = true; read = false; write = false; control = false }; powered = true; zero = false; scope = scope.Unscoped; level = level.Dispatch });
-        line = 23;
-        statements = s 24 1 (act.Call call.WdfRequestComplete None (arg.Expression 10) (arg.Expression 11) arg.NoArgument)
-            ∷ [];
-      })
-      ∷ (record {
-        callback = callback.EvtIoRead;
-        owner = declared.Queue (record { name = 6; device = record { 0 = 5 }; dispatch = dispatch.Sequential; serves = record { rest = true; read = false; write = false; control = false }; powered = true; zero = false; scope = scope.Unscoped; level = level.Dispatch });
-        line = 26;
-        statements = s 27 1 (act.Spend 12)
-            ∷ s 28 2 (act.Call call.WdfRequestComplete None (arg.Expression 13) (arg.Expression 14) arg.NoArgument)
-            ∷ [];
-      })
+  scripts = a_script callback.EvtIoDefault (a_queue 3 2 (dispatch.Parallel 4) (serves true false false false) true false scope.Unscoped level.Dispatch) 7
+      (s 8 1 (act.Call call.WdfRequestSend (Some 0) (arg.Expression 0) (arg.Expression 1) (arg.Expression 2))
+      ∷ s 9 2 (act.If 5 3)
+      ∷ s 10 3 (act.Call call.WdfRequestComplete None (arg.Expression 6) (arg.Expression 7) arg.NoArgument) ∷ [])
+      ∷ a_script callback.EvtRequestCompletion (a_target 4 2 0 status.Success 1) 15 (s 16 1 (act.Call call.WdfRequestComplete None (arg.Expression 8) (arg.Expression 9) arg.NoArgument) ∷ [])
+      ∷ a_script callback.EvtIoWrite (a_queue 6 5 dispatch.Sequential (serves true false false false) true false scope.Unscoped level.Dispatch) 23 (s 24 1 (act.Call call.WdfRequestComplete None (arg.Expression 10) (arg.Expression 11) arg.NoArgument) ∷ [])
+      ∷ a_script callback.EvtIoRead (a_queue 6 5 dispatch.Sequential (serves true false false false) true false scope.Unscoped level.Dispatch) 26
+      (s 27 1 (act.Spend 12)
+      ∷ s 28 2 (act.Call call.WdfRequestComplete None (arg.Expression 13) (arg.Expression 14) arg.NoArgument) ∷ [])
       ∷ [];
-  picks = [];
 }
 
 abbrev pub depth_is_reached_events : List Event
@@ -483,77 +308,27 @@ depth_is_reached_events = event.Posted 1 (post.Read (h 2 2) 16) (Some (h 7 1))
     ∷ []
 
 abbrev pub one_target_is_connected_plan : Plan
-one_target_is_connected_plan = record {
-  cpus = 1;
-  limit = 200;
-  objects = 32;
+one_target_is_connected_plan = record (a_plan 1 200 32) {
   names = (codes "driver") ∷ (codes "req") ∷ (codes "D") ∷ (codes "Q") ∷ (codes "TO_F") ∷ (codes "TO_E") ∷ (codes "E") ∷ (codes "R") ∷ (codes "F") ∷ (codes "S") ∷ (codes "A") ∷ [];
-  declared = (declared.Driver)
-      ∷ (declared.Device (record { name = 2; working = true; scope = scope.Unscoped; level = level.Dispatch }))
-      ∷ (declared.Queue (record { name = 3; device = record { 0 = 2 }; dispatch = dispatch.Sequential; serves = record { rest = true; read = false; write = false; control = false }; powered = true; zero = false; scope = scope.Unscoped; level = level.Dispatch }))
-      ∷ (declared.Target (record { name = 4; device = record { 0 = 2 }; delay = 0; status = status.Success; depth = 4 }))
-      ∷ (declared.Target (record { name = 5; device = record { 0 = 2 }; delay = 3; status = status.Unsuccessful; depth = 4 }))
-      ∷ (declared.Device (record { name = 6; working = true; scope = scope.Unscoped; level = level.Dispatch }))
-      ∷ (declared.Queue (record { name = 7; device = record { 0 = 6 }; dispatch = dispatch.Sequential; serves = record { rest = true; read = false; write = false; control = false }; powered = true; zero = false; scope = scope.Unscoped; level = level.Dispatch }))
-      ∷ (declared.Device (record { name = 8; working = true; scope = scope.Unscoped; level = level.Dispatch }))
-      ∷ (declared.Queue (record { name = 9; device = record { 0 = 8 }; dispatch = dispatch.Sequential; serves = record { rest = true; read = false; write = false; control = false }; powered = true; zero = false; scope = scope.Unscoped; level = level.Dispatch }))
+  declared = declared.Driver
+      ∷ a_device 2 true scope.Unscoped level.Dispatch
+      ∷ a_queue 3 2 dispatch.Sequential (serves true false false false) true false scope.Unscoped level.Dispatch
+      ∷ a_target 4 2 0 status.Success 4
+      ∷ a_target 5 2 3 status.Unsuccessful 4
+      ∷ a_device 6 true scope.Unscoped level.Dispatch
+      ∷ a_queue 7 6 dispatch.Sequential (serves true false false false) true false scope.Unscoped level.Dispatch
+      ∷ a_device 8 true scope.Unscoped level.Dispatch
+      ∷ a_queue 9 8 dispatch.Sequential (serves true false false false) true false scope.Unscoped level.Dispatch
       ∷ [];
-  classes = [];
-  registers = [];
-  whens = [];
-  pnp = [];
-  agents = (record { name = 10; posts = (at 42 0 (post.Read (h 2 2) 8)) ∷ (at 43 0 (post.Write (h 2 2) 8)) ∷ [] })
-      ∷ (record { name = 2; posts = [] })
-      ∷ (record { name = 6; posts = [] })
-      ∷ (record { name = 8; posts = [] })
-      ∷ (record { name = 4; posts = [] })
-      ∷ (record { name = 5; posts = [] })
-      ∷ [];
+  agents = (an_agent 10 ((at 42 0 (post.Read (h 2 2) 8)) ∷ (at 43 0 (post.Write (h 2 2) 8)) ∷ [])) ∷ (an_agent 2 []) ∷ (an_agent 6 []) ∷ (an_agent 8 []) ∷ (an_agent 4 []) ∷ (an_agent 5 []) ∷ [];
   exprs = (node.Context context.OwnRequest) ∷ (node.Object (h 4 4)) ∷ (node.Number 0) ∷ (node.Context context.OwnRequest) ∷ (node.Object (h 5 5)) ∷ (node.Number 0) ∷ (node.Context context.OwnRequest) ∷ (node.Context context.CompletionStatus) ∷ (node.Context context.OwnRequest) ∷ (node.Context context.CompletionStatus) ∷ (node.Context context.OwnRequest) ∷ (node.Literal status.Success) ∷ (node.Context context.OwnRequest) ∷ (node.Literal status.Success) ∷ [];
-  scripts = (record {
-    callback = callback.EvtIoRead;
-    owner = declared.Queue (record { name = 3; device = record { 0 = 2 }; dispatch = dispatch.Sequential; serves = record { rest = true; read = false; write = false; control = false }; powered = true; zero = false; scope = scope.Unscoped; level = level.Dispatch });
-    line = 7;
-    statements = s 8 1 (act.Call call.WdfRequestSend (Some 0) (arg.Expression 0) (arg.Expression 1) (arg.Expression 2))
-        ∷ [];
-  })
-      ∷ (record {
-        callback = callback.EvtIoWrite;
-        owner = declared.Queue (record { name = 3; device = record { 0 = 2 }; dispatch = dispatch.Sequential; serves = record { rest = true; read = false; write = false; control = false }; powered = true; zero = false; scope = scope.Unscoped; level = level.Dispatch });
-        line = 10;
-        statements = s 11 1 (act.Call call.WdfRequestSend (Some 0) (arg.Expression 3) (arg.Expression 4) (arg.Expression 5))
-            ∷ [];
-      })
-      ∷ (record {
-        callback = callback.EvtRequestCompletion;
-        owner = declared.Target (record { name = 4; device = record { 0 = 2 }; delay = 0; status = status.Success; depth = 4 });
-        line = 15;
-        statements = s 16 1 (act.Call call.WdfRequestComplete None (arg.Expression 6) (arg.Expression 7) arg.NoArgument)
-            ∷ [];
-      })
-      ∷ (record {
-        callback = callback.EvtRequestCompletion;
-        owner = declared.Target (record { name = 5; device = record { 0 = 2 }; delay = 3; status = status.Unsuccessful; depth = 4 });
-        line = 20;
-        statements = s 21 1 (act.Call call.WdfRequestComplete None (arg.Expression 8) (arg.Expression 9) arg.NoArgument)
-            ∷ [];
-      })
-      ∷ (record {
-        callback = callback.EvtIoDefault;
-        owner = declared.Queue (record { name = 7; device = record { 0 = 6 }; dispatch = dispatch.Sequential; serves = record { rest = true; read = false; write = false; control = false }; powered = true; zero = false; scope = scope.Unscoped; level = level.Dispatch });
-        line = 28;
-        statements = s 29 1 (act.Call call.WdfRequestComplete None (arg.Expression 10) (arg.Expression 11) arg.NoArgument)
-            ∷ [];
-      })
-      ∷ (record {
-        callback = callback.EvtIoDefault;
-        owner = declared.Queue (record { name = 9; device = record { 0 = 8 }; dispatch = dispatch.Sequential; serves = record { rest = true; read = false; write = false; control = false }; powered = true; zero = false; scope = scope.Unscoped; level = level.Dispatch });
-        line = 36;
-        statements = s 37 1 (act.Call call.WdfRequestComplete None (arg.Expression 12) (arg.Expression 13) arg.NoArgument)
-            ∷ [];
-      })
+  scripts = a_script callback.EvtIoRead (a_queue 3 2 dispatch.Sequential (serves true false false false) true false scope.Unscoped level.Dispatch) 7 (s 8 1 (act.Call call.WdfRequestSend (Some 0) (arg.Expression 0) (arg.Expression 1) (arg.Expression 2)) ∷ [])
+      ∷ a_script callback.EvtIoWrite (a_queue 3 2 dispatch.Sequential (serves true false false false) true false scope.Unscoped level.Dispatch) 10 (s 11 1 (act.Call call.WdfRequestSend (Some 0) (arg.Expression 3) (arg.Expression 4) (arg.Expression 5)) ∷ [])
+      ∷ a_script callback.EvtRequestCompletion (a_target 4 2 0 status.Success 4) 15 (s 16 1 (act.Call call.WdfRequestComplete None (arg.Expression 6) (arg.Expression 7) arg.NoArgument) ∷ [])
+      ∷ a_script callback.EvtRequestCompletion (a_target 5 2 3 status.Unsuccessful 4) 20 (s 21 1 (act.Call call.WdfRequestComplete None (arg.Expression 8) (arg.Expression 9) arg.NoArgument) ∷ [])
+      ∷ a_script callback.EvtIoDefault (a_queue 7 6 dispatch.Sequential (serves true false false false) true false scope.Unscoped level.Dispatch) 28 (s 29 1 (act.Call call.WdfRequestComplete None (arg.Expression 10) (arg.Expression 11) arg.NoArgument) ∷ [])
+      ∷ a_script callback.EvtIoDefault (a_queue 9 8 dispatch.Sequential (serves true false false false) true false scope.Unscoped level.Dispatch) 36 (s 37 1 (act.Call call.WdfRequestComplete None (arg.Expression 12) (arg.Expression 13) arg.NoArgument) ∷ [])
       ∷ [];
-  picks = [];
 }
 
 abbrev pub one_target_is_connected_events : List Event
@@ -589,51 +364,21 @@ one_target_is_connected_events = event.Posted 1 (post.Read (h 2 2) 8) (Some (h 1
     ∷ []
 
 abbrev pub status_comes_up_plan : Plan
-status_comes_up_plan = record {
-  cpus = 1;
-  limit = 100;
-  objects = 16;
+status_comes_up_plan = record (a_plan 1 100 16) {
   names = (codes "driver") ∷ (codes "req") ∷ (codes "D") ∷ (codes "Q") ∷ (codes "TO_E") ∷ (codes "E") ∷ (codes "F") ∷ (codes "A") ∷ [];
-  declared = (declared.Driver)
-      ∷ (declared.Device (record { name = 2; working = true; scope = scope.Unscoped; level = level.Dispatch }))
-      ∷ (declared.Queue (record { name = 3; device = record { 0 = 2 }; dispatch = dispatch.Sequential; serves = record { rest = true; read = false; write = false; control = false }; powered = true; zero = false; scope = scope.Unscoped; level = level.Dispatch }))
-      ∷ (declared.Target (record { name = 4; device = record { 0 = 2 }; delay = 0; status = status.Success; depth = 4 }))
-      ∷ (declared.Device (record { name = 5; working = true; scope = scope.Unscoped; level = level.Dispatch }))
-      ∷ (declared.Queue (record { name = 6; device = record { 0 = 5 }; dispatch = dispatch.Sequential; serves = record { rest = true; read = false; write = false; control = false }; powered = true; zero = false; scope = scope.Unscoped; level = level.Dispatch }))
+  declared = declared.Driver
+      ∷ a_device 2 true scope.Unscoped level.Dispatch
+      ∷ a_queue 3 2 dispatch.Sequential (serves true false false false) true false scope.Unscoped level.Dispatch
+      ∷ a_target 4 2 0 status.Success 4
+      ∷ a_device 5 true scope.Unscoped level.Dispatch
+      ∷ a_queue 6 5 dispatch.Sequential (serves true false false false) true false scope.Unscoped level.Dispatch
       ∷ [];
-  classes = [];
-  registers = [];
-  whens = [];
-  pnp = [];
-  agents = (record { name = 7; posts = (at 26 0 (post.Read (h 2 2) 16)) ∷ [] })
-      ∷ (record { name = 2; posts = [] })
-      ∷ (record { name = 5; posts = [] })
-      ∷ (record { name = 4; posts = [] })
-      ∷ [];
+  agents = (an_agent 7 ((at 26 0 (post.Read (h 2 2) 16)) ∷ [])) ∷ (an_agent 2 []) ∷ (an_agent 5 []) ∷ (an_agent 4 []) ∷ [];
   exprs = (node.Context context.OwnRequest) ∷ (node.Object (h 4 4)) ∷ (node.Number 0) ∷ (node.Context context.OwnRequest) ∷ (node.Context context.CompletionStatus) ∷ (node.Context context.OwnRequest) ∷ (node.Literal status.Unsuccessful) ∷ [];
-  scripts = (record {
-    callback = callback.EvtIoRead;
-    owner = declared.Queue (record { name = 3; device = record { 0 = 2 }; dispatch = dispatch.Sequential; serves = record { rest = true; read = false; write = false; control = false }; powered = true; zero = false; scope = scope.Unscoped; level = level.Dispatch });
-    line = 7;
-    statements = s 8 1 (act.Call call.WdfRequestSend None (arg.Expression 0) (arg.Expression 1) (arg.Expression 2))
-        ∷ [];
-  })
-      ∷ (record {
-        callback = callback.EvtRequestCompletion;
-        owner = declared.Target (record { name = 4; device = record { 0 = 2 }; delay = 0; status = status.Success; depth = 4 });
-        line = 12;
-        statements = s 13 1 (act.Call call.WdfRequestComplete None (arg.Expression 3) (arg.Expression 4) arg.NoArgument)
-            ∷ [];
-      })
-      ∷ (record {
-        callback = callback.EvtIoRead;
-        owner = declared.Queue (record { name = 6; device = record { 0 = 5 }; dispatch = dispatch.Sequential; serves = record { rest = true; read = false; write = false; control = false }; powered = true; zero = false; scope = scope.Unscoped; level = level.Dispatch });
-        line = 20;
-        statements = s 21 1 (act.Call call.WdfRequestComplete None (arg.Expression 5) (arg.Expression 6) arg.NoArgument)
-            ∷ [];
-      })
+  scripts = a_script callback.EvtIoRead (a_queue 3 2 dispatch.Sequential (serves true false false false) true false scope.Unscoped level.Dispatch) 7 (s 8 1 (act.Call call.WdfRequestSend None (arg.Expression 0) (arg.Expression 1) (arg.Expression 2)) ∷ [])
+      ∷ a_script callback.EvtRequestCompletion (a_target 4 2 0 status.Success 4) 12 (s 13 1 (act.Call call.WdfRequestComplete None (arg.Expression 3) (arg.Expression 4) arg.NoArgument) ∷ [])
+      ∷ a_script callback.EvtIoRead (a_queue 6 5 dispatch.Sequential (serves true false false false) true false scope.Unscoped level.Dispatch) 20 (s 21 1 (act.Call call.WdfRequestComplete None (arg.Expression 5) (arg.Expression 6) arg.NoArgument) ∷ [])
       ∷ [];
-  picks = [];
 }
 
 abbrev pub status_comes_up_events : List Event

@@ -1,6 +1,0 @@
--- The clause is the lemma on what is computed.
-use Rattle.law_idle_worked.proofs.IdleRuns.{refused_stop}
-use Rattle.law_idle_worked.proofs.refused_stop.Goals as goal
-
-pub returns : goal.returns
-returns c = refused_stop
