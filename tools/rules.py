@@ -32,7 +32,8 @@ plans, traces, the program, threads, containers, pictures. In a row:
 
 - **definition**: what the rule is. [How to read a definition](MACHINE.md#how-to-read-a-definition) explains the signs and letters.
 - **code**: functions whose contracts name the definition: first those of its name, most of which are said to be the definition.
-- **law**: a statement that is proved of all runs, or of all states, and that the rule is for, or that rests on it.
+- **law**: a statement that is proved of all runs, or of all states, and that the rule is for, or that rests on it. A few are of worked
+  cases or of whole tables, as their comments say.
 - **wrong body**: an edit of the code that the prover has to refuse. The gate tries those in `must-fail/`, `tools/wrong_bodies.py`
   those in `wrong/`.
 
