@@ -21,6 +21,7 @@ use wdf_turn::Gate;
 const LOOKS: u32 = 10_000_000;
 
 /// A sink in memory that counts the calls that write where its maker can look.
+#[derive(Drop)]
 struct CountedSink<'a> {
     inner: MemSink,
     writes: &'a AtomicU64,
