@@ -7,7 +7,7 @@
 //!   that isn't. So it is proved once, for any value that has a history.
 //! - **Whose seat is the first?** A worker's, as each seat is: there is one seat for each worker. It is the last of
 //!   the row, so that the others are taken off first and joined into it.
-//! - **When does a worker stop early?** Where it has the value and nothing may follow; and where in 32 of its turns, one
+//! - **When does a worker stop early?** Where it has the value and nothing may follow; and where in 33 of its turns, one
 //!   after the other, nobody added anything. So a run ends soon where no thread can be made: each worker then waits for
 //!   others that don't run, leaves, and the caller does the rest.
 //! - **What does a worker do after a turn that added nothing?** It looks up to a hundred times whether the history has

@@ -29,7 +29,7 @@ impl Shift {
 /// How often, at most, a worker whose turn added nothing looks whether the history has grown, before its next turn.
 const LOOKS: u32 = 100;
 
-/// After so many turns in which nobody added anything a worker leaves. What it leaves, the caller does.
+/// After so many turns in which nobody added anything a worker leaves in the next. What it leaves, the caller does.
 const VAIN_TURNS: u32 = 32;
 
 /// A turn: one try to take the value, one event at most, and the value goes back.

@@ -19,11 +19,11 @@ use wdf_turn::Gate;
 ///
 /// `run` reads a scenario from the source and runs it on the machine whose processors are threads. There is a worker
 /// for each processor, one for the framework and the clock, and one for all agents. Each of them passes the gate
-/// before each of its turns. `run` writes the trace of the run that they made, which may be another one each time. For
-/// every other list of words this is [`top_plain`]. The statuses are those of [`top_plain`]: `run` answers as
+/// before each of its turns. `run` writes the trace of the run that they made, which may be another one each time.
+/// For the words of [`top_plain`] it is that call. The statuses are those of [`top_plain`]: `run` and `watch` answer as
 /// `order` does.
 ///
-/// `watch` makes a run as `run` does, and writes each line as soon as its event is in the history, while the workers go on.
+/// `watch` makes a run as `run` does, and writes its lines while the workers go on. No clause says when a line is written.
 ///
 /// For every form but `run` and `watch` it is [`top_plain`], which always returns; no clause says that of this call. For these two it
 /// returns if the gate and the threads do.

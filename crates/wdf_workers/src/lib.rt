@@ -7,7 +7,7 @@
 //!   change of the workers doesn't try the edits of `wdf_run` again, and who runs by picks needs no threads.
 //! - **What do the workers do?** `wdf_crew` says it: it is the same for a run that is watched. Here is what they share, and
 //!   how a run begins and ends.
-//! - **How often does a worker try?** Four times `limit` turns, and at most 2^32 - 1 of them.
+//! - **How often does a worker try?** It has four turns for each event of `limit`, and at most 2^32 - 1.
 //! - **How does the caller finish?** By `run_order` with no picks, since a missing pick is 0. Where the workers came
 //!   to the end it adds nothing.
 //! - **What says that the journal is a run?** The core's own invariant: each core that comes out of a turnstile is
