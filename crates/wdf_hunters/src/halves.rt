@@ -1,0 +1,73 @@
+ghost use Rattle.std.specs.Prelude.{◌≡◌, ◌+◌, ◌-◌, ◌*◌, ◌/◌, ◌<◌, ◌≤◌, ◌^◌, ℕ, IfOk};
+ghost use Rattle.std.specs.Thread.{IsSync};
+ghost use Rattle.wdf_base.specs.declared.plan.Plan.{Plan};
+ghost use Rattle.wdf_plan.specs.Plans.{plan_of};
+ghost use Rattle.wdf_scene.specs.Naming.{HasProperNames};
+ghost use Rattle.wdf_scene.specs.Written.{IsScene};
+ghost use Rattle.wdf_table.specs.Tables.{all_seeds};
+ghost use Rattle.wdf_tries.specs.Tries.{IsHuntOf};
+
+use std::alloc::Global;
+use std::thread::{Threads, join};
+use wdf_base::Memory;
+use wdf_scene::Scene;
+use wdf_tries::{Hunted, hunt_range};
+
+/// A range with fewer seeds than this isn't halved.
+const FEW: u32 = 64;
+
+/// What two ranges come to that follow one another.
+fn both(first: Hunted, second: Hunted) -> Result<Hunted, Memory>
+    requires seeds { all_seeds first.tally + all_seeds second.tally < 2 ^ 64 }
+    requires events { first.events + second.events < 2 ^ 64 }
+    ensures hunt { (plan : Plan) (from m n : ℕ) → IsHuntOf plan from m first → IsHuntOf plan (from + m) n second → IfOk result (IsHuntOf plan from (m + n)) }
+    ensures seeds { IfOk result (λ hunted. all_seeds hunted.tally ≡ all_seeds first.tally + all_seeds second.tally) }
+    ensures events { IfOk result (λ hunted. hunted.events ≡ first.events + second.events) }
+{
+    let mut tally = first.tally;
+    tally.merge(second.tally)?;
+    Ok(Hunted {
+        tally,
+        events: first.events + second.events,
+    })
+}
+
+/// The tries of so many seeds, from this one on, halved so often among threads.
+///
+/// # Errors
+///
+/// [`Memory`] where memory was refused, or where the scene has no plan.
+pub fn hunt_threads<R: Threads + Sync>(
+    rt: &R,
+    alloc: Global,
+    scene: &Scene,
+    from: u64,
+    count: u32,
+    halvings: u32,
+) -> Result<Hunted, Memory>
+    requires scene { IsScene scene.now }
+    requires names { HasProperNames scene.now }
+    requires fits { from + count ≤ 2 ^ 64 }
+    ensures hunt { IfOk result (IsHuntOf (plan_of scene.now) from count) }
+    ensures seeds { IfOk result (λ hunted. all_seeds hunted.tally ≡ count) }
+    ensures events { IfOk result (λ hunted. hunted.events ≤ count * 2 ^ 32) }
+{
+    if halvings == 0 || count < FEW {
+        return hunt_range(alloc, scene, from, count);
+    }
+    let half = count / 2;
+    let rest = count - half;
+    let middle = from + u64::from(half);
+    let (first, second) = join(
+        rt,
+        || -> Result<Hunted, Memory>
+            requires { IsSync R.row × IsScene scene.now × HasProperNames scene.now × (from + half ≤ 2 ^ 64) × (0 < halvings) }
+            ensures { IfOk result (λ hunted. IsHuntOf (plan_of scene.entry.now) from half hunted × (all_seeds hunted.tally ≡ half) × (hunted.events ≤ half * 2 ^ 32)) }
+        { hunt_threads(rt, alloc, scene, from, half, halvings - 1) },
+        || -> Result<Hunted, Memory>
+            requires { IsSync R.row × IsScene scene.now × HasProperNames scene.now × (middle + rest ≤ 2 ^ 64) × (0 < halvings) }
+            ensures { IfOk result (λ hunted. IsHuntOf (plan_of scene.entry.now) middle rest hunted × (all_seeds hunted.tally ≡ rest) × (hunted.events ≤ rest * 2 ^ 32)) }
+        { hunt_threads(rt, alloc, scene, middle, rest, halvings - 1) },
+    );
+    both(first?, second?)
+}

@@ -1,0 +1,51 @@
+//! The kind in which a run ends.
+ghost use Rattle.std.specs.Prelude.{◌≡◌, ◌-◌, IfOk};
+ghost use Rattle.wdf_kinds.specs.Kinds.{fault_line};
+ghost use Rattle.wdf_model.specs.rules.Waits.{wait_list};
+ghost use Rattle.wdf_tries.specs.Tries.{kind_of};
+
+use std::alloc::Global;
+use wdf_base::{Agent, Memory, WaitLine};
+use wdf_core::Core;
+use wdf_kinds::{kind_text, line_of_fault};
+use wdf_writing::Text;
+
+/// The line of the text that the fault names which is the last event of a run; 0 where that is none.
+fn fault_line<A: Agent>(core: &Core<A>) -> u32
+    ensures { result ≡ fault_line core.now.journal }
+{
+    let count = core.journal_len();
+    if count == 0 {
+        return line_of_fault(None);
+    }
+    line_of_fault(Some(core.journal_at(count - 1)))
+}
+
+/// The wait list of a run.
+fn waits_of<A: Agent>(alloc: Global, core: &Core<A>) -> Result<Vec<WaitLine>, Memory>
+    ensures { IfOk result (λ waits. waits.items ≡ wait_list core.now.plan A.meaning core.now.journal) }
+{
+    let mut waits = Vec::new(alloc);
+    for k in 0..core.wait_len() {
+        waits.push(core.wait_at(k))?;
+    }
+    Ok(waits)
+}
+
+/// The kind in which the run of a core ends.
+///
+/// # Errors
+///
+/// [`Memory`] where memory was refused.
+pub fn kind_of<A: Agent>(alloc: Global, core: &Core<A>) -> Result<Text, Memory>
+    ensures { IfOk result (λ kind. kind ≡ kind_of core.now.plan A.meaning core.now.journal) }
+{
+    let waits = waits_of(alloc, core)?;
+    kind_text(
+        alloc,
+        core.plan(),
+        core.ending(),
+        fault_line(core),
+        waits.as_slice(),
+    )
+}
