@@ -1,9 +1,9 @@
 #!/usr/bin/env python3
 """Proves and builds a program, where it isn't built or its sources changed.
 
-    python3 tools/prove_program.py [kmdfsim | kmdfview]
+    python3 tools/prove_program.py [kmdfsim | kmdfview | kmdfhunt]
 
-`./kmdfsim` and `./kmdfview` call it. It copies the crates that the program needs, by crates.txt, without their wrong bodies, and runs `rt ci`
+`./kmdfsim`, `./kmdfview` and `./kmdfhunt` call it. It copies the crates that the program needs, by crates.txt, without their wrong bodies, and runs `rt ci`
 over the copy. The kit proves them side by side, as many at once as processors and memory allow, the longest chain first. What
 passed is kept beside the kit for the next call, and for the gate, where that folder can be written. A program that the gate
 left here is taken as it is, where it is newer than all that it is made from. The kit keeps no program that only one of its

@@ -1,0 +1,19 @@
+//! The run of a seed made plain: picks, most of them 0, whose run ends in the same kind and has no more events; and the
+//! scenario with these picks.
+//!
+//! # Choices
+//!
+//! - **How is it looked for?** First the tail is cut, then blocks of picks are set to 0, larger ones first, then single picks
+//!   are halved. What is tried is run, and taken where its run ends as it should.
+//! - **How many runs are tried?** At most 500 in each of the three parts, and four more.
+//! - **Whose picks are they at first?** The words of the seed, and then the places that they name.
+#![tactic(auto)]
+
+mod search;
+mod story;
+mod text;
+mod told;
+mod words;
+
+pub use story::story_of_seed;
+pub use text::story_text;
