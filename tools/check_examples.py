@@ -14,7 +14,8 @@ of refusals and faults scenarios/refused has a text; what it is answered is in i
 Each file of examples/ and scenarios/ must run to its end, with the status that its first comment names (`the status 4`), or
 with 0. A comment `Seed N: ENDING` must be so. What `order` and `seed N` write, for each N below SEEDS (3 where it isn't
 named), must be accepted by `replay`. Of each scenario of tools/runs, scenarios/stuck and scenarios/spinning `order` must
-write the trace beside it. Those traces were made by hand or by another program.
+write the trace beside it. Those traces were made by hand or by another program. So must `idle` of those of tools/idle, but for
+those with two registers IDLE_TIMEOUT: of them `check` must refuse the text.
 """
 
 import os
@@ -244,16 +245,25 @@ def check_files(program, seeds):
     return faults, count
 
 
+def scenarios_in(*tops):
+    folders = [folder for top in tops for folder, _, _ in os.walk(os.path.join(ROOT, top))]
+    return sorted(os.path.join(folder, name) for folder in folders for name in os.listdir(folder) if name.endswith(".scn"))
+
+
+def is_worked(program, words, path):
+    """Whether a scenario's trace is the one beside it, or the text is refused that no text can say."""
+    text = read(path)
+    if text.count("register IDLE_TIMEOUT") > 1:
+        return call(program, "check", text)[0] == 11
+    return call(program, words, text)[1] == read(path[:-4] + ".out")
+
+
 def check_worked(program):
     """The scenarios whose trace isn't the one beside them, and how many there are."""
-    tops = ("tools/runs", "scenarios/stuck", "scenarios/spinning")
-    folders = [folder for top in tops for folder, _, _ in os.walk(os.path.join(ROOT, top))]
-    scenarios = sorted(os.path.join(folder, name) for folder in folders for name in os.listdir(folder) if name.endswith(".scn"))
-    faults = []
-    for path in scenarios:
-        if call(program, "order", read(path))[1] != read(path[:-4] + ".out"):
-            faults.append(f"{os.path.relpath(path, ROOT)}: another run")
-    return faults, len(scenarios)
+    worked = [("order", path) for path in scenarios_in("tools/runs", "scenarios/stuck", "scenarios/spinning")]
+    worked += [("idle", path) for path in scenarios_in("tools/idle")]
+    faults = [f"{os.path.relpath(path, ROOT)}: another run" for words, path in worked if not is_worked(program, words, path)]
+    return faults, len(worked)
 
 
 def main():

@@ -1,12 +1,13 @@
 #!/usr/bin/env python3
-"""Writes the worked runs of tools/runs as tables for tests.
+"""Writes the worked runs of tools/runs, and those of tools/idle, as tables for tests.
 
     python3 tools/runs_to_tests.py [--check]
 
-For each folder SUBJECT of tools/runs it writes crates/test_worked_texts/src/SUBJECT.rt: of each run its name,
-its scenario and its trace as they are in NAME.scn and NAME.out, how many events the trace has and how it
-ends. No text is changed. A file's layout is that of `rt fmt`. With --check it writes nothing, and says which file
-isn't what it would write.
+For each folder SUBJECT of tools/runs, and for tools/idle, it writes crates/test_worked_texts/src/SUBJECT.rt: of each run
+its name, its scenario and its trace as they are in NAME.scn and NAME.out, how many events the trace has and how it
+ends. No text is changed, but for scenarios with two registers IDLE_TIMEOUT. They are in a table of their own, and there
+the second is called SECOND_TIMEOUT, since a text gives no name twice: a test gives it its name in the plan. A file's layout
+is that of `rt fmt`. With --check it writes nothing, and says which file isn't what it would write.
 """
 import os
 import re
@@ -14,7 +15,11 @@ import sys
 
 ROOT = os.path.dirname(os.path.dirname(os.path.abspath(__file__)))
 RUNS = os.path.join(ROOT, "tools", "runs")
+# The folders with worked runs, by subject.
+FOLDERS = {**{subject: os.path.join(RUNS, subject) for subject in os.listdir(RUNS)}, "idle": os.path.join(ROOT, "tools", "idle")}
 CRATE = os.path.join(ROOT, "crates", "test_worked_texts", "src")
+
+TIMEOUT = "register IDLE_TIMEOUT"
 
 ENDING = re.compile(r"^(finished|limit|fault|stuck) (\d+)$", re.MULTILINE)
 FAULT = re.compile(r" fault (\w+) \d+\n(?=fault )")
@@ -39,6 +44,9 @@ def ending(trace):
 
 def row(folder, name, indent):
     scenario = read(os.path.join(folder, name + ".scn"))
+    if has_two(scenario):
+        before, _, after = scenario.rpartition(TIMEOUT)
+        scenario = before + "register SECOND_TIMEOUT" + after
     trace = read(os.path.join(folder, name + ".out"))
     events, kind = ending(trace)
     return f"""Worked {{
@@ -50,25 +58,31 @@ def row(folder, name, indent):
 {indent}}}"""
 
 
-def table(subject):
-    folder = os.path.join(RUNS, subject)
-    names = sorted(name[:-4] for name in os.listdir(folder) if name.endswith(".scn"))
-    if len(names) == 1:
-        rows = row(folder, names[0], "")
-    else:
-        rows = "\n" + "".join(f"    {row(folder, name, '    ')},\n" for name in names)
-    used = "{Ending, Fault}" if "Fault::" in rows else "Ending"
-    return f"""//! Worked runs of tools/runs/{subject}, written by tools/runs_to_tests.py.
-use crate::worked::Worked;
-use wdf_base::{used};
+def has_two(scenario):
+    """Whether two devices of a scenario have a timeout."""
+    return scenario.count(TIMEOUT) == 2
 
-pub static RUNS: [Worked; {len(names)}] = [{rows}];
-"""
+
+def rows_of(folder, names):
+    if len(names) == 1:
+        return row(folder, names[0], "")
+    return "\n" + "".join(f"    {row(folder, name, '    ')},\n" for name in names)
+
+
+def table(subject):
+    folder = FOLDERS[subject]
+    names = sorted(name[:-4] for name in os.listdir(folder) if name.endswith(".scn"))
+    twos = [name for name in names if has_two(read(os.path.join(folder, name + ".scn")))]
+    tables = [("RUNS", [name for name in names if name not in twos])] + [("WITH_TWO", twos)] * bool(twos)
+    statics = [f"pub static {word}: [Worked; {len(some)}] = [{rows_of(folder, some)}];\n" for word, some in tables]
+    used = "{Ending, Fault}" if "Fault::" in "".join(statics) else "Ending"
+    head = f"//! Worked runs of {os.path.relpath(folder, ROOT)}, written by tools/runs_to_tests.py.\nuse crate::worked::Worked;\nuse wdf_base::{used};\n"
+    return "\n".join([head, *statics])
 
 
 def main():
     others = []
-    for subject in sorted(os.listdir(RUNS)):
+    for subject in sorted(FOLDERS):
         path = os.path.join(CRATE, subject + ".rt")
         if "--check" not in sys.argv[1:]:
             with open(path, "w", encoding="ascii") as file:

@@ -30,6 +30,8 @@ ASKS = [
     re.compile(r"cannot be applied to `(.+?)`: help: implement `(\w+)`"),
     re.compile(r"`(.+?)` doesn't implement `(\w+)`"),
 ]
+# Two results are compared, of which one has no comparison.
+RESULT = re.compile(r"`[!=]=` cannot be applied to `(Result<.+?>)`")
 # The type of a field at a place has no such trait.
 FIELD = re.compile(r"(\S+?):(\d+):\d+: error\[[a-z-]+\]: `(\w+)` cannot be derived")
 # Processor seconds after which the front end has found no error.
@@ -133,7 +135,8 @@ def answered(types, name, line):
         found = form.search(line)
         if found:
             return any([types.give(word, found[2]) for word in re.findall(r"\w+", found[1])])
-    return False
+    result = RESULT.search(line)
+    return bool(result) and any([types.give(word, "PartialEq") for word in re.findall(r"\w+", result[1])])
 
 
 def read(types, name, test):

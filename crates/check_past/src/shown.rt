@@ -1,7 +1,7 @@
 //! A presentation.
 
 /// A presentation of a request that had entered a queue.
-#[derive(Clone, Copy, Debug)]
+#[derive(Clone, Copy)]
 pub struct Shown {
     /// The queue that presents it.
     pub queue: u32,

@@ -34,6 +34,7 @@ pub fn nothing_gone_is_touched<A>()
 {}
 
 /// Time passes only where nothing else may follow and something waits for it.
+#[tactic(auto, using(crate::proofs::FactsOfEvents::tick_is_alone))]
 pub fn time_passes_alone<A>()
     ensures { (plan : Plan) (m : Meaning A) (run : List Event) (k time : ℕ) → slice_get (ready plan m run) k ≡ Some (event.Tick time)
         → IsTick m (state_after plan m run) (ready plan m run) (event.Tick time) }

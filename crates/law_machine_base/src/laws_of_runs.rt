@@ -12,22 +12,26 @@ ghost use Rattle.law_machine_base.specs.Fits.{all_fit};
 ghost use Rattle.law_machine_base.specs.OverRuns.{CompletedOnce, PlacesAgree};
 
 /// The deeds of each event that may come fit where they are done.
+#[tactic(auto, using(crate::proofs::FitsOfEvents::event_fits))]
 pub fn each_event_fits<A>()
     ensures { (plan : Plan) (m : Meaning A) (S : State A) (e : Event) → may plan m S e ≡ true → all_fit plan (deeds plan S e) S ≡ true }
 {}
 
 /// At each place of every run a request is Queued exactly where it waits in that queue, once, and
 /// Sent exactly where that target has it, once.
+#[tactic(auto, using(crate::proofs::LawsOverRuns::places_agree))]
 pub fn places_agree<A>()
     ensures { (plan : Plan) (m : Meaning A) (run : List Event) → IsRunOf plan m run → (n : ℕ) → PlacesAgree (state_after plan m (take n run)) }
 {}
 
 /// In every run no request is completed twice, and none before it arrives.
+#[tactic(auto, using(crate::proofs::LawsOverRuns::completed_once))]
 pub fn completed_once<A>()
     ensures { (plan : Plan) (m : Meaning A) (run : List Event) → IsRunOf plan m run → CompletedOnce run }
 {}
 
 /// In every run a request that came and is Done stays Done, whatever event may follow.
+#[tactic(auto, using(crate::proofs::LawsOverRuns::done_stays_done))]
 pub fn done_stays_done<A>()
     ensures { (plan : Plan) (m : Meaning A) (run : List Event) (k : ℕ) (e : Event) (r : ℕ) → IsRunOf plan m run
         → slice_get (ready plan m run) k ≡ Some e → r < next_id (state_after plan m run).tree

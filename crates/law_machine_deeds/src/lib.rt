@@ -10,6 +10,7 @@ ghost use Rattle.wdf_model.specs.rules.Steps.{deeds};
 ghost use Rattle.law_machine_deeds.specs.MayDo.{may_do};
 
 /// In every state of every plan, each deed of an event is one that the table lets the event do.
+#[tactic(auto, using(crate::proofs::Walk::event_may))]
 pub fn events_do_what_they_may<A>()
     ensures { (plan : Plan) (S : State A) (e : Event) → list_all (may_do e) (deeds plan S e) ≡ true }
 {}

@@ -15,6 +15,7 @@ ghost use Rattle.law_machine_places.specs.Placed.{IsAmong, has_place};
 
 /// An event is among those that may come, time aside, exactly where it may come and has a place. The state is one in
 /// which requests have their places, and steps are their devices' own, as each state of a run is.
+#[tactic(auto, using(crate::proofs::Exactly::exactly))]
 pub fn followers_have_places<A>()
     ensures { (plan : Plan) (m : Meaning A) (S : State A) (e : Event) → PlacesAgree S → StepsOwned plan S
         → ((may plan m S e && has_place plan S e) ≡ true) ↔ IsAmong e (allowed plan m S) }

@@ -18,12 +18,14 @@ ghost use Rattle.law_machine_room.specs.Kept.{RoomKept};
 
 /// At each place of every run of a resolved plan, the tables have their sizes, what grows has at most one item for each
 /// event, and what is named is there. (own)
+#[tactic(auto, using(crate::proofs::RoomLaws::room_is_kept))]
 pub fn room_is_kept<A>()
     ensures { (plan : Plan) (m : Meaning A) (run : List Event) → IsResolved plan → IsRunOf plan m run → (n : ℕ) → RoomKept plan (state_after plan m (take n run)) }
 {}
 
 /// After every run of a resolved plan, the deeds of each event that may follow can be done: what each names is there, and
 /// what it makes has room. (own)
+#[tactic(auto, using(crate::proofs::RoomLaws::each_event_is_doable))]
 pub fn each_event_is_doable<A>()
     ensures { (plan : Plan) (m : Meaning A) (run : List Event) (k : ℕ) (e : Event) → IsResolved plan → IsRunOf plan m run
         → slice_get (ready plan m run) k ≡ Some e → AreDoable plan (deeds plan (state_after plan m run) e) (state_after plan m run) }

@@ -20,6 +20,7 @@ ghost use Rattle.wdf_stack.specs.Agents.{stack_meaning};
 /// Every run of a plan with the agents of the word `stack` keeps the laws on requests at each place. Each arrival by a
 /// connector belongs to a Send: there is one without an arrival whose request isn't done. Each `done` by a connector has its
 /// cause in the events before it, with that status.
+#[tactic(auto, using(crate::proofs::Requests::requests_keep))]
 pub fn requests_go_down_and_come_up<A>()
     ensures { (plan : Plan) (m : Meaning A) (run : List Event) (k : ℕ) (e : Event) → IsStackMeaning m → IsRunOf plan m run → slice_get run k ≡ Some e → request_law plan (take k run) e ≡ true }
 {}

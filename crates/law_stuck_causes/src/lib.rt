@@ -49,6 +49,7 @@ ghost use Rattle.law_stuck_causes.specs.Left.{NothingLeft};
 /// The open things are each frame that is there, each open request, each device with steps left, and each object whose
 /// deletion hasn't come to its end. All queued work is open too, and the Plug and Play manager where it waits. So no
 /// request of a stuck run is only about to be completed.
+#[tactic(auto, using(crate::proofs::Listed::listed))]
 pub fn every_open_thing_has_its_line<A>()
     ensures { (plan : Plan) (m : Meaning A) (run : List Event) → IsRunOf plan m run → ending_of plan m run ≡ ending.Stuck
         → things_of (wait_list plan m run) ≡ open_things plan m (state_after plan m run) }
@@ -57,6 +58,7 @@ pub fn every_open_thing_has_its_line<A>()
 /// A finished run has nothing left that is open. No frame is left, no request that arrived and isn't done, none at a
 /// target, and no deletion that hasn't come to its end. No step of a device is left, no queued work, and no post that
 /// waits for a device.
+#[tactic(auto, using(crate::proofs::Finished::finished))]
 pub fn finished_runs_have_nothing_left<A>()
     ensures { (plan : Plan) (m : Meaning A) (run : List Event) → IsRunOf plan m run → ending_of plan m run ≡ ending.Finished
         → NothingLeft plan m (state_after plan m run) }
@@ -142,6 +144,7 @@ pub fn stages_name_a_cause<A>()
 
 /// In a stuck run the top frame of each processor waits in a call whose condition isn't met. None could go on, and none
 /// spends time.
+#[tactic(auto, using(crate::proofs::Tops::top_frames_wait))]
 pub fn top_frames_wait<A>()
     ensures { (plan : Plan) (m : Meaning A) (run : List Event) → IsRunOf plan m run → ending_of plan m run ≡ ending.Stuck → (cpu f : ℕ) → cpu < plan.cpus
         → top (state_after plan m run).cpus cpu ≡ Some f → waits_on (state_after plan m run) (frame_of (state_after plan m run).cpus f).pending ≡ true }
@@ -181,6 +184,7 @@ pub fn timers_name_a_cause<A>()
 {}
 
 /// The line of a request that the driver owns or has sent, and that of the Plug and Play manager, names no cause.
+#[tactic(auto, using(crate::proofs::Told::line_without))]
 pub fn other_lines_name_no_cause<A>()
     ensures { (plan : Plan) (m : Meaning A) (run : List Event) → IsRunOf plan m run → ending_of plan m run ≡ ending.Stuck → (k : ℕ) (t : OpenThing) (x : Option Cause)
         → slice_get (wait_list plan m run) k ≡ Some (record { thing = t; cause = x }) → has_no_cause t ≡ true → x ≡ None }

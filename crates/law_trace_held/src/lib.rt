@@ -19,6 +19,7 @@ ghost use Rattle.wdf_laws.specs.Laws.{is_managed_of};
 
 /// At each place of every run, a taking of a request from a power-managed queue came, with no giving up since, exactly
 /// where the driver holds the request from that queue.
+#[tactic(auto, using(crate::proofs::HoldingsOverRuns::held_as_told_at_each))]
 pub fn held_as_told<A>()
     ensures { (plan : Plan) (m : Meaning A) (run : List Event) (n r q : ℕ) → IsRunOf plan m run → is_managed plan q ≡ true
         → stands (sign.TakingFrom r q) (sign.GivingUp r) (take n run) ≡ is_held_from (state_after plan m (take n run)) q r }
@@ -26,6 +27,7 @@ pub fn held_as_told<A>()
 
 /// In every run, a device passes `settled` only where each request that is held from a power-managed queue of it, as the
 /// events before say, is acknowledged in the state.
+#[tactic(auto, using(crate::proofs::Settled::settles_acknowledged_at_each))]
 pub fn runs_settle_acknowledged<A>()
     ensures { (plan : Plan) (m : Meaning A) (run : List Event) (k : ℕ) (device : Handle) (j : Option Handle) (r q : ℕ) → IsRunOf plan m run
         → slice_get run k ≡ Some (event.Stage device stage.Settled j) → is_managed_of device.id.0 (queue_of plan q) ≡ true
@@ -34,6 +36,7 @@ pub fn runs_settle_acknowledged<A>()
 
 /// In every run, a device passes `settled` only after each request that is held from a power-managed queue of it, as the
 /// events before say, was acknowledged. It wasn't given up since, and the device's queues didn't go up since.
+#[tactic(auto, using(crate::proofs::AckedAsTold::settles_after_at_each))]
 pub fn runs_settle_after_acknowledgements<A>()
     ensures { (plan : Plan) (m : Meaning A) (run : List Event) (k : ℕ) (device : Handle) (j : Option Handle) (r q : ℕ) → IsRunOf plan m run
         → slice_get run k ≡ Some (event.Stage device stage.Settled j) → is_managed_of device.id.0 (queue_of plan q) ≡ true

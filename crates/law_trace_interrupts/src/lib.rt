@@ -19,6 +19,7 @@ ghost use Rattle.wdf_model.specs.rules.Ready.{IsRunOf};
 
 /// In every run of a resolved plan, the callbacks of an interrupt that take its lock begin alone. When one begins, none
 /// of them has begun and not ended. Where the interrupt is passive, the processor is empty, too.
+#[tactic(auto, using(crate::proofs::Alone::alone_at_each))]
 pub fn runs_serve_alone<A>()
     ensures { (plan : Plan) (m : Meaning A) (run : List Event) (k : ℕ) (cpu : Cpu) (c : Callback) (o : Handle) (r : Option Handle) (x : InterruptInfo) → IsResolved plan
         → IsRunOf plan m run → slice_get run k ≡ Some (event.Start cpu c o r) → interrupt_of plan o.id.0 ≡ Some x
@@ -27,6 +28,7 @@ pub fn runs_serve_alone<A>()
 
 /// In every run of a resolved plan, EvtInterruptDpc begins on an interrupt only after the interrupt was enabled, its device
 /// entered then, and not after the device's EvtDeviceD0Exit has begun since.
+#[tactic(auto, using(crate::proofs::Laws::defers_at_each))]
 pub fn runs_defer_when_enabled<A>()
     ensures { (plan : Plan) (m : Meaning A) (run : List Event) (k : ℕ) (cpu : Cpu) (o : Handle) (r : Option Handle) (x : InterruptInfo) → IsResolved plan
         → IsRunOf plan m run → slice_get run k ≡ Some (event.Start cpu callback.EvtInterruptDpc o r) → interrupt_of plan o.id.0 ≡ Some x
@@ -35,6 +37,7 @@ pub fn runs_defer_when_enabled<A>()
 
 /// In every run of a resolved plan, each event keeps the fourth law. EvtInterruptEnable begins only on an entered device, and
 /// an interrupt's other callbacks only after it was enabled there. Those with its lock begin alone.
+#[tactic(auto, using(crate::proofs::Laws::law_4_at_each))]
 pub fn runs_call_interrupts_in_power<A>()
     ensures { (plan : Plan) (m : Meaning A) (run : List Event) (k : ℕ) (e : Event) → IsResolved plan → IsRunOf plan m run
         → slice_get run k ≡ Some e → law_4 plan (take k run) (frames_after (take k run)) e ≡ true }

@@ -19,24 +19,28 @@ ghost use Rattle.wdf_laws.specs.Laws.{completes_once};
 
 /// In every run, an event that completes a request comes after the request's arrival, and no completion of that request
 /// comes before it.
+#[tactic(auto, using(crate::proofs::Completions::completes_at_each))]
 pub fn runs_complete_once<A>()
     ensures { (plan : Plan) (m : Meaning A) (run : List Event) (k : ℕ) (e : Event) → IsRunOf plan m run
         → slice_get run k ≡ Some e → completes_once (take k run) (completed e) ≡ true }
 {}
 
 /// In every run, an object is cleaned up at most once.
+#[tactic(auto, using(crate::proofs::Ends::cleaned_once))]
 pub fn runs_clean_up_once<A>()
     ensures { (plan : Plan) (m : Meaning A) (run : List Event) (k : ℕ) (o : Handle) → IsRunOf plan m run
         → slice_get run k ≡ Some (event.Cleanup o) → ever (sign.Cleaned o.id.0) (take k run) ≡ false }
 {}
 
 /// In every run, an object ends at most once.
+#[tactic(auto, using(crate::proofs::Ends::ends_once))]
 pub fn runs_end_once<A>()
     ensures { (plan : Plan) (m : Meaning A) (run : List Event) (k : ℕ) (o : Handle) → IsRunOf plan m run
         → slice_get run k ≡ Some (event.Destroy o) → ever (sign.Destroyed o.id.0) (take k run) ≡ false }
 {}
 
 /// In every run, no callback but the destroy callback begins on an object after the object's cleanup.
+#[tactic(auto, using(crate::proofs::Ends::begins_early))]
 pub fn runs_begin_before_cleanup<A>()
     ensures { (plan : Plan) (m : Meaning A) (run : List Event) (k : ℕ) (cpu : Cpu) (c : Callback) (o : Handle) (r : Option Handle) → IsRunOf plan m run
         → slice_get run k ≡ Some (event.Start cpu c o r) → same_callback c callback.EvtDestroyCallback ≡ false
@@ -44,12 +48,14 @@ pub fn runs_begin_before_cleanup<A>()
 {}
 
 /// In every run, an object ends after its cleanup.
+#[tactic(auto, using(crate::proofs::Cleanups::ends_after_cleanup))]
 pub fn runs_end_after_cleanup<A>()
     ensures { (plan : Plan) (m : Meaning A) (run : List Event) (k : ℕ) (o : Handle) → IsRunOf plan m run
         → slice_get run k ≡ Some (event.Destroy o) → ever (sign.Cleaned o.id.0) (take k run) ≡ true }
 {}
 
 /// In every run, an object ends after as many references to it were given back as were taken.
+#[tactic(auto, using(crate::proofs::References::ends_balanced))]
 pub fn runs_end_without_references<A>()
     ensures { (plan : Plan) (m : Meaning A) (run : List Event) (k : ℕ) (o : Handle) → IsRunOf plan m run
         → slice_get run k ≡ Some (event.Destroy o)

@@ -29,18 +29,21 @@ ghost use Rattle.law_trace_power.specs.Steps.{StepsAndPowerAgree};
 
 /// At each place of every run of a resolved plan, the steps that a device has left agree with its queues, its hardware
 /// and its enabled interrupts.
+#[tactic(auto, using(crate::proofs::Runs::steps_agree_at_each))]
 pub fn steps_and_power_agree<A>()
     ensures { (plan : Plan) (m : Meaning A) (run : List Event) → IsResolved plan → IsRunOf plan m run → (n : ℕ) → StepsAndPowerAgree plan (state_after plan m (take n run)) }
 {}
 
 /// In every run of a resolved plan, a power-managed queue presents a request only while its device has power, as the
 /// events before say.
+#[tactic(auto, using(crate::proofs::Laws::presents_at_each))]
 pub fn runs_present_with_power<A>()
     ensures { (plan : Plan) (m : Meaning A) (run : List Event) (k : ℕ) (e : Event) → IsResolved plan → IsRunOf plan m run
         → slice_get run k ≡ Some e → presented_with_power plan (take k run) (presented e) ≡ true }
 {}
 
 /// In every run of a resolved plan, EvtInterruptEnable begins on an interrupt only while its device is entered.
+#[tactic(auto, using(crate::proofs::Laws::enables_at_each))]
 pub fn runs_enable_when_entered<A>()
     ensures { (plan : Plan) (m : Meaning A) (run : List Event) (k : ℕ) (cpu : Cpu) (o : Handle) (r : Option Handle) (x : InterruptInfo) → IsResolved plan
         → IsRunOf plan m run → slice_get run k ≡ Some (event.Start cpu callback.EvtInterruptEnable o r) → interrupt_of plan o.id.0 ≡ Some x
@@ -49,6 +52,7 @@ pub fn runs_enable_when_entered<A>()
 
 /// In every run of a resolved plan, EvtInterruptDisable begins on an interrupt only after the interrupt was enabled, its
 /// device entered then, and not after the device's EvtDeviceD0Exit has begun since.
+#[tactic(auto, using(crate::proofs::Laws::disables_at_each))]
 pub fn runs_disable_after_enabled<A>()
     ensures { (plan : Plan) (m : Meaning A) (run : List Event) (k : ℕ) (cpu : Cpu) (o : Handle) (r : Option Handle) (x : InterruptInfo) → IsResolved plan
         → IsRunOf plan m run → slice_get run k ≡ Some (event.Start cpu callback.EvtInterruptDisable o r) → interrupt_of plan o.id.0 ≡ Some x
@@ -57,6 +61,7 @@ pub fn runs_disable_after_enabled<A>()
 
 /// In every run of a resolved plan, EvtIoQueueState begins on a power-managed queue only while its device has power, as
 /// the events before say.
+#[tactic(auto, using(crate::proofs::Isrs::notifies_at_each))]
 pub fn runs_notify_with_power<A>()
     ensures { (plan : Plan) (m : Meaning A) (run : List Event) (k : ℕ) (cpu : Cpu) (o : Handle) (r : Option Handle) → IsResolved plan → IsRunOf plan m run
         → slice_get run k ≡ Some (event.Start cpu callback.EvtIoQueueState o r) → has_power plan (take k run) (queue_of plan o.id.0) ≡ true }
@@ -64,6 +69,7 @@ pub fn runs_notify_with_power<A>()
 
 /// In every run of a resolved plan, EvtInterruptIsr begins on an interrupt only after the interrupt was enabled, its
 /// device entered then. Since then the interrupt wasn't disabled, and the device's EvtDeviceD0Exit hasn't begun.
+#[tactic(auto, using(crate::proofs::Isrs::serves_at_each))]
 pub fn runs_serve_when_enabled<A>()
     ensures { (plan : Plan) (m : Meaning A) (run : List Event) (k : ℕ) (cpu : Cpu) (o : Handle) (r : Option Handle) (x : InterruptInfo) → IsResolved plan
         → IsRunOf plan m run → slice_get run k ≡ Some (event.Start cpu callback.EvtInterruptIsr o r) → interrupt_of plan o.id.0 ≡ Some x

@@ -17,12 +17,14 @@ ghost use Rattle.law_trace_queues.specs.Agreement.{RequestsAndPowerAgree};
 
 /// At each place of every run of a resolved plan, a queue to which a request returns has power. While a resume is due for
 /// a held request, the queues of its device are up, and the device waits at the step right after `queues_up`.
+#[tactic(auto, using(crate::proofs::Laws::agrees_at_each))]
 pub fn requests_and_power_agree<A>()
     ensures { (plan : Plan) (m : Meaning A) (run : List Event) → IsResolved plan → IsRunOf plan m run → (n : ℕ) → RequestsAndPowerAgree plan (state_after plan m (take n run)) }
 {}
 
 /// In every run of a resolved plan, EvtIoCanceledOnQueue begins on a power-managed queue only while its device has power,
 /// as the events before say.
+#[tactic(auto, using(crate::proofs::Laws::returns_at_each))]
 pub fn runs_return_with_power<A>()
     ensures { (plan : Plan) (m : Meaning A) (run : List Event) (k : ℕ) (cpu : Cpu) (o : Handle) (r : Option Handle) → IsResolved plan → IsRunOf plan m run
         → slice_get run k ≡ Some (event.Start cpu callback.EvtIoCanceledOnQueue o r) → has_power plan (take k run) (queue_of plan o.id.0) ≡ true }
@@ -30,6 +32,7 @@ pub fn runs_return_with_power<A>()
 
 /// In every run of a resolved plan, EvtIoResume begins on a power-managed queue only while its device has power, as the
 /// events before say.
+#[tactic(auto, using(crate::proofs::Laws::resumes_at_each))]
 pub fn runs_resume_with_power<A>()
     ensures { (plan : Plan) (m : Meaning A) (run : List Event) (k : ℕ) (cpu : Cpu) (o : Handle) (r : Option Handle) → IsResolved plan → IsRunOf plan m run
         → slice_get run k ≡ Some (event.Start cpu callback.EvtIoResume o r) → has_power plan (take k run) (queue_of plan o.id.0) ≡ true }
@@ -37,6 +40,7 @@ pub fn runs_resume_with_power<A>()
 
 /// In every run of a resolved plan, each event keeps the fifth law: a power-managed queue presents, and its
 /// EvtIoCanceledOnQueue, EvtIoResume and EvtIoQueueState begin, only while its device has power.
+#[tactic(auto, using(crate::proofs::Laws::law_5_at_each))]
 pub fn runs_work_queues_with_power<A>()
     ensures { (plan : Plan) (m : Meaning A) (run : List Event) (k : ℕ) (e : Event) → IsResolved plan → IsRunOf plan m run → slice_get run k ≡ Some e → law_5 plan (take k run) e ≡ true }
 {}

@@ -12,6 +12,7 @@ ghost use Rattle.wdf_model.specs.rules.Ready.{IsRunOf};
 
 /// In every run of a resolved plan, each event keeps the second law: callbacks under one scope lock come one after the
 /// other.
+#[tactic(auto, using(crate::proofs::Scopes::law_2_at_each))]
 pub fn runs_begin_one_by_one<A>()
     ensures { (plan : Plan) (m : Meaning A) (run : List Event) (k : ℕ) (e : Event) → IsResolved plan → IsRunOf plan m run
         → slice_get run k ≡ Some e → law_2 plan run (frames_after (take k run)) e ≡ true }

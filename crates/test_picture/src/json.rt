@@ -79,7 +79,7 @@ fn nests(slices: &[Slice], one: &Slice) -> bool {
 }
 
 /// How many items there are of each phase that is looked at.
-#[derive(Clone, Copy, Debug, PartialEq, Eq)]
+#[derive(Clone, Copy, PartialEq, Eq)]
 pub struct Found {
     pub slices: usize,
     pub begins: usize,

@@ -10,7 +10,7 @@ use wdf_base::{
 };
 
 /// A plan that is being filled. A call answers [`Memory`] where memory was refused, and leaves the plan as it was.
-#[derive(Debug, Drop)]
+#[derive(Drop)]
 pub struct PlanBuilder {
     alloc: Global,
     plan: Plan,

@@ -1,6 +1,7 @@
-//! The scenarios and the traces of the worked runs in tools/runs, as tables for tests.
+//! The scenarios and the traces of the worked runs in tools/runs and tools/idle, as tables for tests.
 #![tactic(auto)]
 
+pub mod idle;
 pub mod power;
 pub mod processors;
 pub mod requests;

@@ -1,7 +1,7 @@
 use crate::value::Value;
 
 /// An event callback of the driver.
-#[derive(Clone, Copy, Debug, PartialEq, Eq, Hash)]
+#[derive(Clone, Copy, Debug, PartialEq, Eq)]
 pub enum Callback {
     EvtInterruptIsr,
     EvtDpcFunc,
@@ -39,7 +39,7 @@ pub enum Callback {
 }
 
 /// A framework call.
-#[derive(Clone, Copy, Debug, PartialEq, Eq, Hash)]
+#[derive(Clone, Copy, Debug, PartialEq, Eq)]
 pub enum CallKind {
     WdfObjectCreate,
     WdfSpinLockCreate,

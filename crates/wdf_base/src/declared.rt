@@ -43,7 +43,7 @@ pub enum DispatchKind {
 }
 
 /// The types of requests that a queue takes.
-#[derive(Clone, Copy, Debug, PartialEq, Eq)]
+#[derive(Clone, Copy, PartialEq, Eq)]
 pub struct Serves {
     /// It is the default queue, and takes what no other queue does.
     pub rest: bool,
@@ -53,7 +53,7 @@ pub struct Serves {
 }
 
 /// A declared device.
-#[derive(Clone, Copy, Debug, PartialEq, Eq)]
+#[derive(Clone, Copy, PartialEq, Eq)]
 pub struct DeviceInfo {
     /// The number of its name.
     pub name: u32,
@@ -64,7 +64,7 @@ pub struct DeviceInfo {
 }
 
 /// A declared queue.
-#[derive(Clone, Copy, Debug, PartialEq, Eq)]
+#[derive(Clone, Copy, PartialEq, Eq)]
 pub struct QueueInfo {
     /// The number of its name.
     pub name: u32,
@@ -80,7 +80,7 @@ pub struct QueueInfo {
 }
 
 /// A declared interrupt.
-#[derive(Clone, Copy, Debug, PartialEq, Eq)]
+#[derive(Clone, Copy, PartialEq, Eq)]
 pub struct InterruptInfo {
     /// The number of its name.
     pub name: u32,
@@ -90,7 +90,7 @@ pub struct InterruptInfo {
 }
 
 /// A declared I/O target.
-#[derive(Clone, Copy, Debug, PartialEq, Eq)]
+#[derive(Clone, Copy, PartialEq, Eq)]
 pub struct TargetInfo {
     /// The number of its name.
     pub name: u32,
@@ -104,7 +104,7 @@ pub struct TargetInfo {
 }
 
 /// What an object is in the plan.
-#[derive(Clone, Copy, Debug, PartialEq, Eq)]
+#[derive(Clone, Copy, PartialEq, Eq)]
 pub enum Declared {
     /// The driver object.
     Driver,
@@ -135,7 +135,7 @@ pub enum DeferredKind {
 }
 
 /// A class of objects that calls make.
-#[derive(Clone, Copy, Debug, PartialEq, Eq)]
+#[derive(Clone, Copy, PartialEq, Eq)]
 pub enum ClassInfo {
     Plain {
         /// The number of its name.
@@ -155,7 +155,7 @@ pub enum ClassInfo {
 }
 
 /// A register of a device.
-#[derive(Clone, Copy, Debug, PartialEq, Eq)]
+#[derive(Clone, Copy, PartialEq, Eq)]
 pub struct RegisterInfo {
     /// The number of its name.
     pub name: u32,
@@ -165,7 +165,7 @@ pub struct RegisterInfo {
 }
 
 /// What a device does some ticks after a register of it is read or written.
-#[derive(Clone, Copy, Debug, PartialEq, Eq)]
+#[derive(Clone, Copy, PartialEq, Eq)]
 pub struct WhenLine {
     pub access: Access,
     /// The register, which says the device.
@@ -178,7 +178,7 @@ pub struct WhenLine {
 }
 
 /// What an agent posts, and the tick from which it may.
-#[derive(Clone, Copy, Debug, PartialEq, Eq)]
+#[derive(Clone, Copy, PartialEq, Eq)]
 pub struct PostLine {
     pub tick: u64,
     pub post: Post,

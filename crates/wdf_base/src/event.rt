@@ -21,7 +21,7 @@ use crate::ids::{Cpu, FrameId, Handle};
 use crate::value::{Status, Value};
 
 /// Who takes a step of the machine.
-#[derive(Clone, Copy, Debug, PartialEq, Eq, Hash)]
+#[derive(Clone, Copy, PartialEq, Eq)]
 pub enum Actor {
     /// A processor, counted from 0.
     Cpu(u8),
@@ -34,7 +34,7 @@ pub enum Actor {
 }
 
 /// What the Plug and Play manager asks of a device.
-#[derive(Clone, Copy, Debug, PartialEq, Eq, Hash)]
+#[derive(Clone, Copy, Debug, PartialEq, Eq)]
 pub enum Ask {
     Start,
     Sleep,
@@ -45,7 +45,7 @@ pub enum Ask {
 }
 
 /// A step that the framework itself takes in a Plug and Play or power sequence.
-#[derive(Clone, Copy, Debug, PartialEq, Eq, Hash)]
+#[derive(Clone, Copy, Debug, PartialEq, Eq)]
 pub enum Stage {
     /// The device gets its hardware.
     Hardware,
@@ -83,7 +83,7 @@ impl Stage {
 }
 
 /// One step of a Plug and Play or power sequence of a device.
-#[derive(Clone, Copy, Debug, PartialEq, Eq)]
+#[derive(Clone, Copy, PartialEq, Eq)]
 pub enum Step {
     /// A callback runs: the device's own, or EvtInterruptEnable or EvtInterruptDisable of one of its
     /// interrupts.
@@ -99,7 +99,7 @@ pub enum Step {
 }
 
 /// Whether a register is read or written.
-#[derive(Clone, Copy, Debug, PartialEq, Eq, Hash)]
+#[derive(Clone, Copy, Debug, PartialEq, Eq)]
 pub enum Access {
     Read,
     Write,
@@ -259,7 +259,7 @@ pub enum Event {
 }
 
 /// A mistake of the driver that ends the run.
-#[derive(Clone, Copy, Debug, PartialEq, Eq, Hash)]
+#[derive(Clone, Copy, Debug, PartialEq, Eq)]
 pub enum Fault {
     StaleHandle,
     WrongKind,
@@ -281,7 +281,7 @@ pub enum Fault {
 
 /// How a run ends: whether a step may follow, and if not, why. Of the reasons a fault comes first, then the
 /// limit, then whether something is open.
-#[derive(Clone, Copy, Debug, PartialEq, Eq)]
+#[derive(Clone, Copy, PartialEq, Eq)]
 pub enum Ending {
     /// A step may follow.
     Running,

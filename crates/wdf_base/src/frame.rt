@@ -22,14 +22,14 @@ use crate::value::{Status, Value};
 pub const VARIABLES: usize = 16;
 
 /// A call that waits, with the answer that it gets when the wait is over.
-#[derive(Clone, Copy, Debug, PartialEq, Eq)]
+#[derive(Clone, Copy, PartialEq, Eq)]
 pub struct Pending {
     pub call: Call,
     pub answer: Value,
 }
 
 /// One running or waiting callback. Which locks it holds is kept elsewhere.
-#[derive(Clone, Copy, Debug, PartialEq, Eq)]
+#[derive(Clone, Copy, PartialEq, Eq)]
 pub struct Frame {
     pub callback: Callback,
     /// The object of the callback.

@@ -21,7 +21,7 @@ pub const FEW: u64 = 0xffff;
 
 /// A list whose items are read by their numbers, from 0. It has fewer than `CEILING` items, and
 /// fewer than 2^32.
-#[derive(Debug, Drop)]
+#[derive(Drop)]
 pub struct Items<T, const CEILING: u64> {
     items: Vec<T>,
 }

@@ -3,9 +3,8 @@
 //!
 //! # Choices
 //!
-//! - **Which derives?** Copy, comparison and Debug on all plain types. `Hash` on ids, handles and statuses, on
-//!   `Value`, `Callback`, `CallKind`, `LockRef` and `Actor`, and on some enums without fields. It isn't on the
-//!   others, since no map has them as keys.
+//! - **Which derives?** Copy on all plain types. Comparison, Debug and Hash only where some code or a test asks for them,
+//!   since each is a proof, here and in what is above. `tools/unused_derives.py` finds those that nothing asks for.
 #![tactic(auto)]
 
 mod agent;

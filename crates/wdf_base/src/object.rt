@@ -41,7 +41,7 @@ impl Kind {
 }
 
 /// How far the deletion of an object has come.
-#[derive(Clone, Copy, Debug, PartialEq, Eq)]
+#[derive(Clone, Copy, Debug)]
 pub enum Life {
     Live,
     /// Its deletion was asked.
@@ -178,7 +178,7 @@ impl Mark {
 }
 
 /// What a request asks for.
-#[derive(Clone, Copy, Debug, PartialEq, Eq, Hash)]
+#[derive(Clone, Copy, Debug, PartialEq, Eq)]
 pub enum RequestForm {
     Read,
     Write,
@@ -186,7 +186,7 @@ pub enum RequestForm {
 }
 
 /// A lock of the machine.
-#[derive(Clone, Copy, Debug, PartialEq, Eq, Hash)]
+#[derive(Clone, Copy, Debug, PartialEq, Eq)]
 pub enum LockRef {
     /// The lock of a spin lock, a wait lock or an interrupt.
     Object(ObjectId),
@@ -198,7 +198,7 @@ pub enum LockRef {
 }
 
 /// What is kept of a request beside its place.
-#[derive(Clone, Copy, Debug, PartialEq, Eq)]
+#[derive(Clone, Copy, PartialEq, Eq)]
 pub struct RequestInfo {
     /// The device that it arrived at. Of a made request the nearest device at or above its parent, or the
     /// driver object.

@@ -22,7 +22,7 @@ use crate::name::{NAME_LIMIT, Name};
 use crate::script::{AgentInfo, ExprNode, Script, Statement};
 
 /// A scenario with numbers in place of names.
-#[derive(Debug, Drop)]
+#[derive(Drop)]
 pub struct Plan {
     /// How many processors there are.
     pub cpus: u8,

@@ -13,7 +13,7 @@ use crate::ids::Irql;
 use crate::object::Kind;
 
 /// The place of a callback in the order in which starts are offered.
-#[derive(Clone, Copy, Debug, PartialEq, Eq)]
+#[derive(Clone, Copy)]
 pub enum Rank {
     /// The service routine of an interrupt.
     Isr,
@@ -46,7 +46,7 @@ pub enum Rank {
 }
 
 /// The kind of object that a callback runs on.
-#[derive(Clone, Copy, Debug, PartialEq, Eq)]
+#[derive(Clone, Copy)]
 pub enum Owner {
     Of(Kind),
     /// An object of a class, or a device.
@@ -54,7 +54,7 @@ pub enum Owner {
 }
 
 /// The level at which a callback runs.
-#[derive(Clone, Copy, Debug, PartialEq, Eq)]
+#[derive(Clone, Copy)]
 pub enum CallbackLevel {
     Level(Irql),
     /// The level of its interrupt, which is 0 for a passive one.
@@ -64,7 +64,7 @@ pub enum CallbackLevel {
 }
 
 /// The lock under which a callback runs.
-#[derive(Clone, Copy, Debug, PartialEq, Eq)]
+#[derive(Clone, Copy)]
 pub enum CallbackLock {
     NoLock,
     /// The lock of its interrupt.
@@ -76,7 +76,7 @@ pub enum CallbackLock {
 }
 
 /// When a callback comes, on what, how high and under which lock.
-#[derive(Clone, Copy, Debug, PartialEq, Eq)]
+#[derive(Clone, Copy)]
 pub struct CallbackRow {
     pub rank: Rank,
     pub owner: Owner,

@@ -20,7 +20,7 @@ use crate::same_plan::same_declared;
 use crate::value::Status;
 
 /// An operator of expressions. Numbers wrap; a comparison gives 1 or 0.
-#[derive(Clone, Copy, Debug, PartialEq, Eq)]
+#[derive(Clone, Copy, PartialEq, Eq)]
 pub enum Operator {
     Add,
     Subtract,
@@ -37,7 +37,7 @@ pub enum Operator {
 }
 
 /// A word of expressions that means a part of the running callback.
-#[derive(Clone, Copy, Debug, PartialEq, Eq)]
+#[derive(Clone, Copy, PartialEq, Eq)]
 pub enum ContextWord {
     /// `self`: the callback's object.
     OwnObject,
@@ -55,7 +55,7 @@ pub enum ContextWord {
 
 /// One node of an expression: an atom, or an operator with the numbers of its operands, each of
 /// which is less than the node's own number.
-#[derive(Clone, Copy, Debug, PartialEq, Eq)]
+#[derive(Clone, Copy, PartialEq, Eq)]
 pub enum ExprNode {
     Number(u64),
     /// A variable of the callback, by its number among them.
@@ -72,7 +72,7 @@ pub enum ExprNode {
 }
 
 /// An argument of a framework call in a script.
-#[derive(Clone, Copy, Debug, PartialEq, Eq)]
+#[derive(Clone, Copy, PartialEq, Eq)]
 pub enum ArgNode {
     /// The call has no such argument.
     NoArgument,
@@ -83,7 +83,7 @@ pub enum ArgNode {
 }
 
 /// What a statement does. Variables, expressions, registers and statements are given by their numbers.
-#[derive(Clone, Copy, Debug, PartialEq, Eq)]
+#[derive(Clone, Copy, PartialEq, Eq)]
 pub enum Act {
     Let {
         variable: u8,
@@ -137,7 +137,7 @@ pub enum Act {
 }
 
 /// A statement of a callback.
-#[derive(Clone, Copy, Debug, PartialEq, Eq)]
+#[derive(Clone, Copy, PartialEq, Eq)]
 pub struct Statement {
     /// The line of the text; for the end of a `repeat`'s body, that of the `repeat`.
     pub line: u32,
@@ -148,7 +148,7 @@ pub struct Statement {
 }
 
 /// The statements of a callback that is declared.
-#[derive(Debug, Drop)]
+#[derive(Drop)]
 pub struct Script {
     pub callback: Callback,
     /// What it is declared on.
@@ -170,7 +170,7 @@ impl Script {
 }
 
 /// An app, a device or a target as one that posts.
-#[derive(Debug, Drop)]
+#[derive(Drop)]
 pub struct AgentInfo {
     /// The number of its name.
     pub name: u32,

@@ -16,7 +16,7 @@ use crate::ids::Irql;
 use crate::object::Kind;
 
 /// What an argument of a framework call has to be.
-#[derive(Clone, Copy, Debug, PartialEq, Eq)]
+#[derive(Clone, Copy, PartialEq, Eq)]
 pub enum Sort {
     /// The call has no such argument.
     Absent,
@@ -37,7 +37,7 @@ pub enum Sort {
 }
 
 /// The greatest level at which a framework call may be made.
-#[derive(Clone, Copy, Debug, PartialEq, Eq)]
+#[derive(Clone, Copy, PartialEq, Eq)]
 pub enum CallLevel {
     AtMost(Irql),
     /// The level of the interrupt that it names.
@@ -47,7 +47,7 @@ pub enum CallLevel {
 }
 
 /// What a framework call takes, and how high it may be made.
-#[derive(Clone, Copy, Debug, PartialEq, Eq)]
+#[derive(Clone, Copy)]
 pub struct Signature {
     pub level: CallLevel,
     pub a: Sort,

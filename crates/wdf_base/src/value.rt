@@ -16,7 +16,7 @@ pub enum Status {
 }
 
 /// A value of a driver script.
-#[derive(Clone, Copy, Debug, PartialEq, Eq, Hash)]
+#[derive(Clone, Copy, Debug, PartialEq, Eq)]
 pub enum Value {
     /// An unsigned number, which wraps at 64 bits.
     Num(u64),

@@ -9,7 +9,7 @@ use crate::event::Step;
 use crate::ids::{FrameId, Handle};
 
 /// Something that a stuck run leaves open.
-#[derive(Clone, Copy, Debug, PartialEq, Eq)]
+#[derive(Clone, Copy, PartialEq, Eq)]
 pub enum OpenThing {
     /// A running or parked callback of `object`.
     Waiting {
@@ -56,7 +56,7 @@ pub enum OpenThing {
 }
 
 /// Why something open has no step.
-#[derive(Clone, Copy, Debug, PartialEq, Eq)]
+#[derive(Clone, Copy, PartialEq, Eq)]
 pub enum Cause {
     /// A frame keeps it.
     ByFrame { frame: FrameId },
@@ -90,7 +90,7 @@ pub enum Cause {
 
 /// One line of the wait list of a stuck run: what is open, and why. An owned or sent request and the
 /// Plug and Play manager have no cause.
-#[derive(Clone, Copy, Debug, PartialEq, Eq)]
+#[derive(Clone, Copy)]
 pub struct WaitLine {
     pub thing: OpenThing,
     pub cause: Option<Cause>,

@@ -18,23 +18,26 @@ pub const STATUSES: [Status; 10] = [
     Status::DeletePending,
 ];
 
+/// The word of each variant, in the order of the enum.
+const STATUS_WORDS: [&str; 10] = [
+    "SUCCESS",
+    "CANCELLED",
+    "UNSUCCESSFUL",
+    "INVALID_DEVICE_REQUEST",
+    "INVALID_DEVICE_STATE",
+    "NO_MORE_ENTRIES",
+    "WDF_PAUSED",
+    "WDF_BUSY",
+    "INSUFFICIENT_RESOURCES",
+    "DELETE_PENDING",
+];
+
 impl Status {
     /// The word of a status.
     pub fn word(self) -> &'static str
         ensures { result.now ≡ words.status_word self }
     {
-        match self {
-            Status::Success => "SUCCESS",
-            Status::Cancelled => "CANCELLED",
-            Status::Unsuccessful => "UNSUCCESSFUL",
-            Status::InvalidDeviceRequest => "INVALID_DEVICE_REQUEST",
-            Status::InvalidDeviceState => "INVALID_DEVICE_STATE",
-            Status::NoMoreEntries => "NO_MORE_ENTRIES",
-            Status::WdfPaused => "WDF_PAUSED",
-            Status::WdfBusy => "WDF_BUSY",
-            Status::InsufficientResources => "INSUFFICIENT_RESOURCES",
-            Status::DeletePending => "DELETE_PENDING",
-        }
+        STATUS_WORDS[self as usize]
     }
 
     /// The variant with this word, if there is one.
@@ -85,48 +88,49 @@ pub const CALLBACKS: [Callback; 33] = [
     Callback::EvtDestroyCallback,
 ];
 
+/// The word of each variant, in the order of the enum.
+const CALLBACK_WORDS: [&str; 33] = [
+    "EvtInterruptIsr",
+    "EvtDpcFunc",
+    "EvtInterruptDpc",
+    "EvtTimerFunc",
+    "EvtRequestCompletion",
+    "EvtRequestCancel",
+    "EvtIoCanceledOnQueue",
+    "EvtIoStop",
+    "EvtIoResume",
+    "EvtIoQueueState",
+    "EvtIoRead",
+    "EvtIoWrite",
+    "EvtIoDeviceControl",
+    "EvtIoDefault",
+    "EvtDevicePrepareHardware",
+    "EvtDeviceReleaseHardware",
+    "EvtDeviceD0Entry",
+    "EvtDeviceD0EntryPostInterruptsEnabled",
+    "EvtDeviceD0ExitPreInterruptsDisabled",
+    "EvtDeviceD0Exit",
+    "EvtDeviceSelfManagedIoInit",
+    "EvtDeviceSelfManagedIoRestart",
+    "EvtDeviceSelfManagedIoSuspend",
+    "EvtDeviceSelfManagedIoFlush",
+    "EvtDeviceSelfManagedIoCleanup",
+    "EvtDeviceQueryStop",
+    "EvtDeviceQueryRemove",
+    "EvtDeviceSurpriseRemoval",
+    "EvtInterruptEnable",
+    "EvtInterruptDisable",
+    "EvtWorkItem",
+    "EvtCleanupCallback",
+    "EvtDestroyCallback",
+];
+
 impl Callback {
     /// The word of a callback.
     pub fn word(self) -> &'static str
         ensures { result.now ≡ words.callback_word self }
     {
-        match self {
-            Callback::EvtInterruptIsr => "EvtInterruptIsr",
-            Callback::EvtDpcFunc => "EvtDpcFunc",
-            Callback::EvtInterruptDpc => "EvtInterruptDpc",
-            Callback::EvtTimerFunc => "EvtTimerFunc",
-            Callback::EvtRequestCompletion => "EvtRequestCompletion",
-            Callback::EvtRequestCancel => "EvtRequestCancel",
-            Callback::EvtIoCanceledOnQueue => "EvtIoCanceledOnQueue",
-            Callback::EvtIoStop => "EvtIoStop",
-            Callback::EvtIoResume => "EvtIoResume",
-            Callback::EvtIoQueueState => "EvtIoQueueState",
-            Callback::EvtIoRead => "EvtIoRead",
-            Callback::EvtIoWrite => "EvtIoWrite",
-            Callback::EvtIoDeviceControl => "EvtIoDeviceControl",
-            Callback::EvtIoDefault => "EvtIoDefault",
-            Callback::EvtDevicePrepareHardware => "EvtDevicePrepareHardware",
-            Callback::EvtDeviceReleaseHardware => "EvtDeviceReleaseHardware",
-            Callback::EvtDeviceD0Entry => "EvtDeviceD0Entry",
-            Callback::EvtDeviceD0EntryPostInterruptsEnabled =>
-                "EvtDeviceD0EntryPostInterruptsEnabled",
-            Callback::EvtDeviceD0ExitPreInterruptsDisabled =>
-                "EvtDeviceD0ExitPreInterruptsDisabled",
-            Callback::EvtDeviceD0Exit => "EvtDeviceD0Exit",
-            Callback::EvtDeviceSelfManagedIoInit => "EvtDeviceSelfManagedIoInit",
-            Callback::EvtDeviceSelfManagedIoRestart => "EvtDeviceSelfManagedIoRestart",
-            Callback::EvtDeviceSelfManagedIoSuspend => "EvtDeviceSelfManagedIoSuspend",
-            Callback::EvtDeviceSelfManagedIoFlush => "EvtDeviceSelfManagedIoFlush",
-            Callback::EvtDeviceSelfManagedIoCleanup => "EvtDeviceSelfManagedIoCleanup",
-            Callback::EvtDeviceQueryStop => "EvtDeviceQueryStop",
-            Callback::EvtDeviceQueryRemove => "EvtDeviceQueryRemove",
-            Callback::EvtDeviceSurpriseRemoval => "EvtDeviceSurpriseRemoval",
-            Callback::EvtInterruptEnable => "EvtInterruptEnable",
-            Callback::EvtInterruptDisable => "EvtInterruptDisable",
-            Callback::EvtWorkItem => "EvtWorkItem",
-            Callback::EvtCleanupCallback => "EvtCleanupCallback",
-            Callback::EvtDestroyCallback => "EvtDestroyCallback",
-        }
+        CALLBACK_WORDS[self as usize]
     }
 
     /// The variant with this word, if there is one.
@@ -189,58 +193,61 @@ pub const CALL_KINDS: [CallKind; 45] = [
     CallKind::WdfIoTargetStart,
 ];
 
+/// The word of each variant, in the order of the enum.
+const CALL_WORDS: [&str; 45] = [
+    "WdfObjectCreate",
+    "WdfSpinLockCreate",
+    "WdfWaitLockCreate",
+    "WdfRequestCreate",
+    "WdfDpcCreate",
+    "WdfTimerCreate",
+    "WdfWorkItemCreate",
+    "WdfObjectDelete",
+    "WdfObjectReference",
+    "WdfObjectDereference",
+    "GetContext",
+    "SetContext",
+    "WdfSpinLockAcquire",
+    "WdfSpinLockRelease",
+    "WdfWaitLockAcquire",
+    "WdfWaitLockRelease",
+    "WdfInterruptAcquireLock",
+    "WdfInterruptReleaseLock",
+    "WdfRequestComplete",
+    "WdfRequestMarkCancelableEx",
+    "WdfRequestUnmarkCancelable",
+    "WdfRequestIsCanceled",
+    "WdfRequestRequeue",
+    "WdfRequestForwardToIoQueue",
+    "WdfRequestStopAcknowledge",
+    "WdfRequestSend",
+    "WdfRequestCancelSentRequest",
+    "WdfIoQueueStart",
+    "WdfIoQueueStop",
+    "WdfIoQueueDrain",
+    "WdfIoQueuePurge",
+    "WdfIoQueueStopSynchronously",
+    "WdfIoQueueDrainSynchronously",
+    "WdfIoQueuePurgeSynchronously",
+    "WdfIoQueueRetrieveNextRequest",
+    "WdfIoQueueReadyNotify",
+    "WdfInterruptQueueDpcForIsr",
+    "WdfDpcEnqueue",
+    "WdfDpcCancel",
+    "WdfTimerStart",
+    "WdfTimerStop",
+    "WdfWorkItemEnqueue",
+    "WdfWorkItemFlush",
+    "WdfIoTargetStop",
+    "WdfIoTargetStart",
+];
+
 impl CallKind {
     /// The word of a framework call.
     pub fn word(self) -> &'static str
         ensures { result.now ≡ words.call_word self }
     {
-        match self {
-            CallKind::WdfObjectCreate => "WdfObjectCreate",
-            CallKind::WdfSpinLockCreate => "WdfSpinLockCreate",
-            CallKind::WdfWaitLockCreate => "WdfWaitLockCreate",
-            CallKind::WdfRequestCreate => "WdfRequestCreate",
-            CallKind::WdfDpcCreate => "WdfDpcCreate",
-            CallKind::WdfTimerCreate => "WdfTimerCreate",
-            CallKind::WdfWorkItemCreate => "WdfWorkItemCreate",
-            CallKind::WdfObjectDelete => "WdfObjectDelete",
-            CallKind::WdfObjectReference => "WdfObjectReference",
-            CallKind::WdfObjectDereference => "WdfObjectDereference",
-            CallKind::GetContext => "GetContext",
-            CallKind::SetContext => "SetContext",
-            CallKind::WdfSpinLockAcquire => "WdfSpinLockAcquire",
-            CallKind::WdfSpinLockRelease => "WdfSpinLockRelease",
-            CallKind::WdfWaitLockAcquire => "WdfWaitLockAcquire",
-            CallKind::WdfWaitLockRelease => "WdfWaitLockRelease",
-            CallKind::WdfInterruptAcquireLock => "WdfInterruptAcquireLock",
-            CallKind::WdfInterruptReleaseLock => "WdfInterruptReleaseLock",
-            CallKind::WdfRequestComplete => "WdfRequestComplete",
-            CallKind::WdfRequestMarkCancelableEx => "WdfRequestMarkCancelableEx",
-            CallKind::WdfRequestUnmarkCancelable => "WdfRequestUnmarkCancelable",
-            CallKind::WdfRequestIsCanceled => "WdfRequestIsCanceled",
-            CallKind::WdfRequestRequeue => "WdfRequestRequeue",
-            CallKind::WdfRequestForwardToIoQueue => "WdfRequestForwardToIoQueue",
-            CallKind::WdfRequestStopAcknowledge => "WdfRequestStopAcknowledge",
-            CallKind::WdfRequestSend => "WdfRequestSend",
-            CallKind::WdfRequestCancelSentRequest => "WdfRequestCancelSentRequest",
-            CallKind::WdfIoQueueStart => "WdfIoQueueStart",
-            CallKind::WdfIoQueueStop => "WdfIoQueueStop",
-            CallKind::WdfIoQueueDrain => "WdfIoQueueDrain",
-            CallKind::WdfIoQueuePurge => "WdfIoQueuePurge",
-            CallKind::WdfIoQueueStopSynchronously => "WdfIoQueueStopSynchronously",
-            CallKind::WdfIoQueueDrainSynchronously => "WdfIoQueueDrainSynchronously",
-            CallKind::WdfIoQueuePurgeSynchronously => "WdfIoQueuePurgeSynchronously",
-            CallKind::WdfIoQueueRetrieveNextRequest => "WdfIoQueueRetrieveNextRequest",
-            CallKind::WdfIoQueueReadyNotify => "WdfIoQueueReadyNotify",
-            CallKind::WdfInterruptQueueDpcForIsr => "WdfInterruptQueueDpcForIsr",
-            CallKind::WdfDpcEnqueue => "WdfDpcEnqueue",
-            CallKind::WdfDpcCancel => "WdfDpcCancel",
-            CallKind::WdfTimerStart => "WdfTimerStart",
-            CallKind::WdfTimerStop => "WdfTimerStop",
-            CallKind::WdfWorkItemEnqueue => "WdfWorkItemEnqueue",
-            CallKind::WdfWorkItemFlush => "WdfWorkItemFlush",
-            CallKind::WdfIoTargetStop => "WdfIoTargetStop",
-            CallKind::WdfIoTargetStart => "WdfIoTargetStart",
-        }
+        CALL_WORDS[self as usize]
     }
 
     /// The variant with this word, if there is one.
@@ -274,29 +281,32 @@ pub const FAULTS: [Fault; 16] = [
     Fault::ScriptError,
 ];
 
+/// The word of each variant, in the order of the enum.
+const FAULT_WORDS: [&str; 16] = [
+    "StaleHandle",
+    "WrongKind",
+    "IrqlTooHigh",
+    "NotOwned",
+    "CompleteWhileMarked",
+    "CompleteBeforeCancelCallback",
+    "MarkedTwice",
+    "AckOutsideStop",
+    "NoReferenceHeld",
+    "DeleteNotAllowed",
+    "LockHeldAlready",
+    "LockNotHeld",
+    "ReturnHoldingLock",
+    "HardwareReleased",
+    "SyncInOwnScope",
+    "ScriptError",
+];
+
 impl Fault {
     /// The word of a fault.
     pub fn word(self) -> &'static str
         ensures { result.now ≡ words.fault_word self }
     {
-        match self {
-            Fault::StaleHandle => "StaleHandle",
-            Fault::WrongKind => "WrongKind",
-            Fault::IrqlTooHigh => "IrqlTooHigh",
-            Fault::NotOwned => "NotOwned",
-            Fault::CompleteWhileMarked => "CompleteWhileMarked",
-            Fault::CompleteBeforeCancelCallback => "CompleteBeforeCancelCallback",
-            Fault::MarkedTwice => "MarkedTwice",
-            Fault::AckOutsideStop => "AckOutsideStop",
-            Fault::NoReferenceHeld => "NoReferenceHeld",
-            Fault::DeleteNotAllowed => "DeleteNotAllowed",
-            Fault::LockHeldAlready => "LockHeldAlready",
-            Fault::LockNotHeld => "LockNotHeld",
-            Fault::ReturnHoldingLock => "ReturnHoldingLock",
-            Fault::HardwareReleased => "HardwareReleased",
-            Fault::SyncInOwnScope => "SyncInOwnScope",
-            Fault::ScriptError => "ScriptError",
-        }
+        FAULT_WORDS[self as usize]
     }
 
     /// The variant with this word, if there is one.
@@ -323,25 +333,28 @@ pub const STAGES: [Stage; 12] = [
     Stage::Removed,
 ];
 
+/// The word of each variant, in the order of the enum.
+const STAGE_WORDS: [&str; 12] = [
+    "hardware",
+    "no_hardware",
+    "enabled",
+    "disabled",
+    "queues_up",
+    "queues_down",
+    "settled",
+    "quiet",
+    "closed",
+    "working",
+    "sleeping",
+    "removed",
+];
+
 impl Stage {
     /// The word of a stage.
     pub fn word(self) -> &'static str
         ensures { result.now ≡ words.stage_word self }
     {
-        match self {
-            Stage::Hardware => "hardware",
-            Stage::NoHardware => "no_hardware",
-            Stage::Enabled => "enabled",
-            Stage::Disabled => "disabled",
-            Stage::QueuesUp => "queues_up",
-            Stage::QueuesDown => "queues_down",
-            Stage::Settled => "settled",
-            Stage::Quiet => "quiet",
-            Stage::Closed => "closed",
-            Stage::Working => "working",
-            Stage::Sleeping => "sleeping",
-            Stage::Removed => "removed",
-        }
+        STAGE_WORDS[self as usize]
     }
 
     /// The variant with this word, if there is one.
@@ -362,19 +375,15 @@ pub const ASKS: [Ask; 6] = [
     Ask::Surprise,
 ];
 
+/// The word of each variant, in the order of the enum.
+const ASK_WORDS: [&str; 6] = ["start", "sleep", "wake", "rebalance", "remove", "surprise"];
+
 impl Ask {
     /// The word of what the Plug and Play manager asks.
     pub fn word(self) -> &'static str
         ensures { result.now ≡ words.ask_word self }
     {
-        match self {
-            Ask::Start => "start",
-            Ask::Sleep => "sleep",
-            Ask::Wake => "wake",
-            Ask::Rebalance => "rebalance",
-            Ask::Remove => "remove",
-            Ask::Surprise => "surprise",
-        }
+        ASK_WORDS[self as usize]
     }
 
     /// The variant with this word, if there is one.

@@ -7,7 +7,7 @@ use wdf_same::same_request_form;
 use wdf_scene::SceneLine;
 
 /// What at most one line of a block, or of a device, gives it.
-#[derive(Clone, Copy, Debug, PartialEq, Eq)]
+#[derive(Clone, Copy)]
 pub enum Attribute {
     Scope,
     Level,

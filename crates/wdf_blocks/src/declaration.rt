@@ -9,7 +9,7 @@ use wdf_same::same_kind;
 use wdf_scene::SceneLine;
 
 /// What a name is declared as.
-#[derive(Clone, Copy, Debug, PartialEq, Eq)]
+#[derive(Clone, Copy)]
 pub enum Thing {
     /// A device.
     Device,
@@ -28,7 +28,7 @@ pub enum Thing {
 }
 
 /// A name and what it is declared as.
-#[derive(Clone, Copy, Debug)]
+#[derive(Clone, Copy)]
 pub struct Declaration {
     /// The name.
     pub name: Name,
@@ -45,7 +45,7 @@ pub struct Declaration {
 }
 
 /// What a place in the text needs a name to stand for.
-#[derive(Clone, Copy, Debug, PartialEq, Eq, Hash)]
+#[derive(Clone, Copy, PartialEq, Eq, Hash)]
 pub enum Wanted {
     Anything,
     Device,

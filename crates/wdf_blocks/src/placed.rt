@@ -7,7 +7,7 @@ use wdf_scene::SceneLine;
 
 /// Where a line is: in which block, device and callback. Each is the place of the line that
 /// opened it.
-#[derive(Clone, Copy, Debug, PartialEq, Eq)]
+#[derive(Clone, Copy)]
 pub struct Stand {
     /// The innermost block that is no part of a callback.
     pub block: Option<u32>,
@@ -20,7 +20,7 @@ pub struct Stand {
 }
 
 /// How many of each come before a line.
-#[derive(Clone, Copy, Debug, PartialEq, Eq)]
+#[derive(Clone, Copy)]
 pub struct Counts {
     /// Nodes of expressions.
     pub nodes: u64,
@@ -45,7 +45,7 @@ pub struct Counts {
 }
 
 /// A line of the scene and where it is.
-#[derive(Clone, Copy, Debug)]
+#[derive(Clone, Copy)]
 pub struct Placed {
     /// Its place among the scene's lines, from 0.
     pub at: u32,

@@ -8,7 +8,7 @@ use wdf_model::Deed;
 use wdf_parts::Deeds;
 
 /// What a call answers, and what it does.
-#[derive(Debug, Drop)]
+#[derive(Drop)]
 pub struct Outcome {
     /// The value of the call in the script; of a call that waits, the value that it gets when the wait is
     /// over.

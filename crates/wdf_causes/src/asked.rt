@@ -12,7 +12,7 @@ use wdf_parts::Parts;
 use wdf_plan_index::IndexedPlan;
 
 /// What is asked of a frame.
-#[derive(Clone, Copy, Debug, PartialEq, Eq)]
+#[derive(Clone, Copy)]
 pub(crate) enum FrameTest {
     /// It runs on this object.
     On(ObjectId),
@@ -23,7 +23,7 @@ pub(crate) enum FrameTest {
 }
 
 /// What is asked of a request.
-#[derive(Clone, Copy, Debug, PartialEq, Eq)]
+#[derive(Clone, Copy)]
 pub(crate) enum RequestTest {
     /// The driver holds it from this queue.
     HeldFrom(ObjectId),

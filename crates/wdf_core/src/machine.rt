@@ -311,7 +311,7 @@ impl<A: Agent> Core<A> {
     }
 
     /// Goes on by the first event of a side among those that may follow, and answers true; false, and nothing changes,
-    /// where none of them is the side's. The groups of other sides aren't searched. It takes no memory.
+    /// where none of them is the side's. The groups of other sides are asked only whether the clock waits. It takes no memory.
     pub fn apply_first_of(&mut self, side: Side) -> bool
         ensures plan { self.new.plan ≡ self.old.plan }
         ensures taken { IsTrue result → (event : Event) × (find (is_event_of side) (ready self.old.plan A.meaning self.old.journal) ≡ Some event) × (self.new.journal ≡ self.old.journal ++ event ∷ []) }

@@ -5,7 +5,7 @@ use crate::cpus::wait_key;
 use wdf_base::{Callback, Frame, ObjectId, same_callback};
 
 /// A test of a frame.
-#[derive(Clone, Copy, Debug)]
+#[derive(Clone, Copy)]
 pub(crate) enum FrameTest {
     /// Whether it runs on an object.
     On(ObjectId),

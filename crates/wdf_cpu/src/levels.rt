@@ -15,7 +15,7 @@ use wdf_model::{EVENTS, FRAMES, HeldLevel};
 
 /// The levels that frames hold, the latest first. Each call but [`Levels::make`] takes no memory, and
 /// goes over levels only until it met those that the frame holds.
-#[derive(Debug, Drop)]
+#[derive(Drop)]
 pub(crate) struct Levels {
     held: VecDeque<HeldLevel>,
     /// How many of them each frame holds, by number.

@@ -8,7 +8,7 @@ use wdf_base::{Cpu, Memory};
 use wdf_model::FRAMES;
 
 /// The numbers of the frames of one processor, the top first. It has room for every frame of a run.
-#[derive(Debug, Drop)]
+#[derive(Drop)]
 pub(crate) struct Stack {
     frames: VecDeque<u32>,
 }

@@ -13,7 +13,7 @@ use wdf_model::FRAMES;
 /// at most once, and keys of 32 bits.
 ///
 /// Contracts see the list of the ticks, which rise.
-#[derive(Debug, Drop)]
+#[derive(Drop)]
 pub(crate) struct Untils {
     ticks: Vec<u64>,
 }

@@ -1,5 +1,5 @@
 /// What an agent has before it, so that no question looks through all that it has.
-#[derive(Clone, Copy, Debug, PartialEq, Eq)]
+#[derive(Clone, Copy)]
 pub struct Ahead {
     /// The place of the first that is due, or how many there are where none is.
     pub first: usize,

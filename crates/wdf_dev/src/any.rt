@@ -14,7 +14,7 @@ use wdf_base::{Agent, Event, Memory, ObjectId, Plan, Post};
 use wdf_plan_index::{Owner, ids_of};
 
 /// An agent of a run, of any kind.
-#[derive(Debug, Drop)]
+#[derive(Drop)]
 pub enum AnyAgent {
     /// The Plug and Play manager.
     PnpManager(PnpManager),

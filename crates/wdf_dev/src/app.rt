@@ -7,7 +7,7 @@ use std::marker::Model;
 use wdf_base::{Event, Items, MANY, Memory, Plan, Post, PostLine};
 
 /// An app: it posts its lines in order, each from its tick on. (own)
-#[derive(Debug, Drop)]
+#[derive(Drop)]
 pub struct App {
     /// Its number among the agents.
     agent: u16,

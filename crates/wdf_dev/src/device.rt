@@ -16,7 +16,7 @@ use wdf_model::DeviceAction;
 use wdf_same::same_access;
 
 /// A device: its registers, the level lines of its interrupts, and its actions. (own)
-#[derive(Debug, Drop)]
+#[derive(Drop)]
 pub struct Device {
     /// Its number among the agents.
     agent: u16,

@@ -18,7 +18,7 @@ use wdf_model::{SentRequest, object_in};
 use wdf_same::same_value;
 
 /// The driver below: it keeps what is sent to it in order, each for a stated time. (own)
-#[derive(Debug, Drop)]
+#[derive(Drop)]
 pub struct LowerTarget {
     /// Its number among the agents.
     agent: u16,

@@ -8,7 +8,7 @@ use std::marker::Model;
 use wdf_base::{Event, Memory, Plan, Post};
 
 /// The Plug and Play manager: it posts its lines in order, as an app does. It is agent 0. (own)
-#[derive(Debug, Drop)]
+#[derive(Drop)]
 pub struct PnpManager {
     lines: App,
 }

@@ -9,7 +9,7 @@ use wdf_base::{Agent, Event, Memory, Plan, Post};
 use wdf_dev::{AnyAgent, agents};
 
 /// An agent of a run in which idle devices sleep.
-#[derive(Debug, Drop)]
+#[derive(Drop)]
 pub enum IdleAgent {
     /// The idle policy, in the place of the Plug and Play manager.
     Policy(IdlePolicy),

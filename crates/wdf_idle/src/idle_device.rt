@@ -16,7 +16,7 @@ use wdf_same::same_value;
 const ARRIVALS: u32 = 4_096;
 
 /// A device that takes part: what the policy knows of it. (own)
-#[derive(Debug, Drop)]
+#[derive(Drop)]
 pub struct IdleDevice {
     pub(crate) device: Handle,
     /// After how many idle ticks it goes to sleep.

@@ -13,7 +13,7 @@ use wdf_dev::PnpManager;
 
 /// The idle policy: it puts a device to sleep that nobody has used for a while, and wakes it when a
 /// request arrives. It is agent 0. (own)
-#[derive(Debug, Drop)]
+#[derive(Drop)]
 pub struct IdlePolicy {
     /// The Plug and Play manager in whose place it is.
     manager: PnpManager,

@@ -15,7 +15,7 @@ pub const INPUT_LIMIT: usize = TEXT_LIMIT;
 const PIECE: usize = 8192;
 
 /// Why an input wasn't read to its end.
-#[derive(Clone, Copy, Debug, PartialEq, Eq)]
+#[derive(Clone, Copy)]
 pub enum InputError {
     /// A read failed.
     Fault,

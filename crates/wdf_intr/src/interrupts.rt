@@ -8,7 +8,7 @@ use wdf_maps::{entry_at, put_at};
 use wdf_model::OBJECTS;
 
 /// Which interrupts are enabled. (KMDF)
-#[derive(Debug, Drop)]
+#[derive(Drop)]
 pub struct Interrupts {
     /// By the interrupt's id.
     enabled: Vec<bool>,

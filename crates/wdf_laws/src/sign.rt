@@ -2,7 +2,7 @@
 use wdf_base::Callback;
 
 /// What is looked for in events. Requests, interrupts, devices and objects are named by their ids.
-#[derive(Clone, Copy, Debug)]
+#[derive(Clone, Copy)]
 pub enum Sign {
     /// A request arrives.
     Arrival(u32),
@@ -51,14 +51,14 @@ pub enum Sign {
 }
 
 /// A request that the driver takes from a queue.
-#[derive(Clone, Copy, Debug)]
+#[derive(Clone, Copy)]
 pub struct Taking {
     pub request: u32,
     pub queue: u32,
 }
 
 /// What an event says of an object: its parent, 0 for none, and the class that it was made from.
-#[derive(Clone, Copy, Debug)]
+#[derive(Clone, Copy)]
 pub struct Told {
     pub object: u32,
     pub parent: u32,
@@ -66,14 +66,14 @@ pub struct Told {
 }
 
 /// A frame on a processor's stack.
-#[derive(Clone, Copy, Debug)]
+#[derive(Clone, Copy)]
 pub struct Stacked {
     pub cpu: u8,
     pub frame: u64,
 }
 
 /// A callback that has begun and not ended: its frame has the number of the event that began it.
-#[derive(Clone, Copy, Debug)]
+#[derive(Clone, Copy)]
 pub struct Begun {
     pub frame: u64,
     pub callback: Callback,
@@ -81,7 +81,7 @@ pub struct Begun {
 }
 
 /// What holds now, and what held when a sign came last.
-#[derive(Clone, Copy, Debug)]
+#[derive(Clone, Copy)]
 pub struct Moment {
     pub current: bool,
     pub at: bool,

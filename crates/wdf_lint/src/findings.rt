@@ -8,7 +8,7 @@ use std::marker::Model;
 use wdf_base::Fault;
 
 /// A finding, and the statement at which it is.
-#[derive(Debug, Drop)]
+#[derive(Drop)]
 pub struct Found {
     pub line: u32,
     /// The number of the rule that is broken, 0 where the callback is too big.
@@ -19,7 +19,7 @@ pub struct Found {
 }
 
 /// The findings of a plan, in their order.
-#[derive(Debug, Drop)]
+#[derive(Drop)]
 pub struct FindingList {
     found: Vec<Found>,
 }

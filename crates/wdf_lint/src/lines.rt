@@ -6,7 +6,7 @@ use std::marker::Model;
 use wdf_base::Memory;
 
 /// Line numbers, in the order in which a path comes to them.
-#[derive(Debug, Drop)]
+#[derive(Drop)]
 pub struct Lines {
     lines: Vec<u32>,
 }

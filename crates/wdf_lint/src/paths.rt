@@ -8,14 +8,14 @@ use std::marker::Model;
 use wdf_base::Memory;
 
 /// The end of a path: the number of the path that it goes on, and a line.
-#[derive(Clone, Copy, Debug)]
+#[derive(Clone, Copy)]
 pub struct PathEnd {
     pub before: usize,
     pub line: u32,
 }
 
 /// Paths by their numbers, from 0. The first is one line; each other is an earlier path and a line more.
-#[derive(Debug, Drop)]
+#[derive(Drop)]
 pub struct Paths {
     ends: Vec<PathEnd>,
 }

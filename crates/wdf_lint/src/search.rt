@@ -21,7 +21,7 @@ use wdf_base::{Memory, Plan};
 const STATES: usize = 10_000;
 
 /// The states that were found, in the order of their paths.
-#[derive(Debug, Drop)]
+#[derive(Drop)]
 pub struct Search {
     pub states: IndexSet<Abstract>,
     /// The number of the path of each.

@@ -14,7 +14,7 @@ use std::marker::Model;
 use wdf_base::{Memory, Status, VARIABLES};
 
 /// What a walk knows of a variable.
-#[derive(Clone, Copy, Debug, PartialEq, Eq, Hash)]
+#[derive(Clone, Copy, PartialEq, Eq, Hash)]
 pub enum Known {
     Unknown,
     /// The number 0.
@@ -25,7 +25,7 @@ pub enum Known {
 }
 
 /// What the callback has of its request.
-#[derive(Clone, Copy, Debug, PartialEq, Eq, Hash)]
+#[derive(Clone, Copy, PartialEq, Eq, Hash)]
 pub enum Hold {
     Own,
     Marked,
@@ -34,7 +34,7 @@ pub enum Hold {
 }
 
 /// The spin or wait lock that the callback has acquired.
-#[derive(Clone, Copy, Debug, PartialEq, Eq, Hash)]
+#[derive(Clone, Copy, PartialEq, Eq, Hash)]
 pub enum HeldLock {
     Free,
     In(u8),
@@ -60,7 +60,7 @@ fn drop_id(ids: &mut Vec<u32>, id: u32)
 }
 
 /// Ids of interrupts, rising.
-#[derive(Debug, Drop)]
+#[derive(Drop)]
 pub struct Ids {
     ids: Vec<u32>,
 }
@@ -160,7 +160,7 @@ impl Hash for Ids {
 }
 
 /// An abstract state of a callback.
-#[derive(Debug, PartialEq, Eq, Hash, Drop)]
+#[derive(PartialEq, Eq, Hash, Drop)]
 pub struct Abstract {
     pub at: u32,
     pub variables: [Known; VARIABLES],

@@ -18,7 +18,7 @@ use std::alloc::Global;
 use wdf_base::{Memory, Plan};
 
 /// What a static check says of a plan's scripts.
-#[derive(Debug, Drop)]
+#[derive(Drop)]
 pub enum LintAnswer {
     /// No state that a walk comes to breaks a rule.
     Clean,

@@ -14,7 +14,7 @@ use std::alloc::Global;
 use wdf_base::{Act, CallKind, Callback, Declared, Plan, Script, VARIABLES, same_declared};
 
 /// A callback that is walked: what the walk asks of the plan besides its statements.
-#[derive(Debug, Drop)]
+#[derive(Drop)]
 pub struct Walked {
     /// The number of its script.
     pub script: u32,

@@ -16,7 +16,7 @@ use wdf_output::write_line;
 use wdf_pipe::{Desk, Item, PipePass};
 
 /// What the printer has done when it ends.
-#[derive(Clone, Copy, Debug, PartialEq, Eq)]
+#[derive(Clone, Copy)]
 pub struct Printed {
     /// How many events it took, of which the first is number 1. Their lines were written, but for a rest where `failed`.
     pub lines: usize,

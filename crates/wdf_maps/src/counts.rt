@@ -11,7 +11,7 @@ use wdf_model::OBJECTS;
 /// How many there are of each id. Ids that no object can have aren't counted.
 ///
 /// Contracts see the list of the counts, as far as ids came. No call but [`Counts::make`] takes memory.
-#[derive(Debug, Drop)]
+#[derive(Drop)]
 pub struct Counts {
     counts: Vec<u32>,
 }

@@ -8,7 +8,7 @@ use wdf_base::{Memory, ObjectId};
 
 /// Entries by rising id, at most one for each id. Contracts see a record of the entries and of how
 /// many there is room for. All calls but [`Rising::make`] take no memory.
-#[derive(Debug, Drop)]
+#[derive(Drop)]
 pub struct Rising<T: Entry> {
     entries: Vec<T>,
     room: u32,

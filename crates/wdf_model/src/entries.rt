@@ -10,7 +10,7 @@ use wdf_base::{
 pub const CELLS: usize = 8;
 
 /// An object of the tree. Of one that is gone only that is kept.
-#[derive(Clone, Copy, Debug, PartialEq, Eq)]
+#[derive(Clone, Copy)]
 pub struct Node {
     /// How far its deletion has come. (KMDF)
     pub life: Life,
@@ -31,7 +31,7 @@ pub struct Node {
 }
 
 /// One running or waiting callback.
-#[derive(Clone, Copy, Debug, PartialEq, Eq)]
+#[derive(Clone, Copy)]
 pub struct Running {
     /// The callback, and how far it has come.
     pub frame: Frame,
@@ -41,7 +41,7 @@ pub struct Running {
 
 /// The level of a lock that a frame acquired by a call or spins for. The frame's level is at least
 /// this. (KMDF)
-#[derive(Clone, Copy, Debug, PartialEq, Eq)]
+#[derive(Clone, Copy)]
 pub struct HeldLevel {
     /// The number of the frame.
     pub frame: FrameId,
@@ -50,7 +50,7 @@ pub struct HeldLevel {
 }
 
 /// A lock that is held, by one frame. (KMDF)
-#[derive(Clone, Copy, Debug, PartialEq, Eq)]
+#[derive(Clone, Copy)]
 pub struct Held {
     /// An object's lock, or a scope lock.
     pub lock: LockRef,
@@ -62,7 +62,7 @@ pub struct Held {
 }
 
 /// A request, arrived or made by the driver.
-#[derive(Clone, Copy, Debug, PartialEq, Eq)]
+#[derive(Clone, Copy)]
 pub struct Request {
     /// Where it is: at one place at a time. (KMDF)
     pub place: Place,
@@ -71,7 +71,7 @@ pub struct Request {
 }
 
 /// The control of a queue.
-#[derive(Clone, Copy, Debug, PartialEq, Eq)]
+#[derive(Clone, Copy)]
 pub struct QueueControl {
     /// The queue's device; the id 0 for what is no queue.
     pub device: ObjectId,
@@ -85,7 +85,7 @@ pub struct QueueControl {
 }
 
 /// The power of a device.
-#[derive(Clone, Copy, Debug, PartialEq, Eq)]
+#[derive(Clone, Copy)]
 pub struct DevicePower {
     /// Whether its queues are up: only then do its power-managed ones deliver. (KMDF)
     pub up: bool,
@@ -94,7 +94,7 @@ pub struct DevicePower {
 }
 
 /// What power has to know of a queue.
-#[derive(Clone, Copy, Debug, PartialEq, Eq)]
+#[derive(Clone, Copy)]
 pub struct QueuePower {
     /// The queue's device; the id 0 for what is no queue.
     pub device: ObjectId,
@@ -103,7 +103,7 @@ pub struct QueuePower {
 }
 
 /// A request that the driver holds from a power-managed queue. (KMDF)
-#[derive(Clone, Copy, Debug, PartialEq, Eq)]
+#[derive(Clone, Copy)]
 pub struct Holding {
     /// That queue; the id 0 for a request that isn't held from one.
     pub queue: ObjectId,
@@ -116,7 +116,7 @@ pub struct Holding {
 }
 
 /// A queued timer.
-#[derive(Clone, Copy, Debug, PartialEq, Eq)]
+#[derive(Clone, Copy)]
 pub struct Timed {
     /// The id of the timer object.
     pub timer: ObjectId,
@@ -125,7 +125,7 @@ pub struct Timed {
 }
 
 /// A request that was sent to a target.
-#[derive(Clone, Copy, Debug, PartialEq, Eq)]
+#[derive(Clone, Copy)]
 pub struct Sending {
     /// The request, arrived or made.
     pub request: ObjectId,
@@ -136,7 +136,7 @@ pub struct Sending {
 }
 
 /// What a device does by a line of the text. (own)
-#[derive(Clone, Copy, Debug, PartialEq, Eq)]
+#[derive(Clone, Copy)]
 pub struct DeviceAction {
     /// A register takes a value, or a level line goes up or down.
     pub action: Action,
@@ -149,7 +149,7 @@ pub struct DeviceAction {
 }
 
 /// A request that a target has, as its agent knows it. (own)
-#[derive(Clone, Copy, Debug, PartialEq, Eq)]
+#[derive(Clone, Copy)]
 pub struct SentRequest {
     /// The request, as events name it.
     pub request: Handle,

@@ -4,7 +4,7 @@ use wdf_base::Rank;
 
 /// The mode of a queue: Started at the opening, then as its last control call says. The queues of a
 /// closed device are Purged. (KMDF)
-#[derive(Clone, Copy, Debug, PartialEq, Eq)]
+#[derive(Clone, Copy)]
 pub enum Mode {
     /// It accepts requests that arrive, and delivers what waits.
     Started,
@@ -17,7 +17,7 @@ pub enum Mode {
 }
 
 /// How far a device has come. (own, after KMDF)
-#[derive(Clone, Copy, Debug, PartialEq, Eq)]
+#[derive(Clone, Copy, PartialEq, Eq)]
 pub enum Phase {
     /// It never was Working, and isn't Removed.
     Off,
@@ -30,7 +30,7 @@ pub enum Phase {
 }
 
 /// Candidates that come together in the order of what may follow. Each has places, from 0. (own)
-#[derive(Clone, Copy, Debug, PartialEq, Eq)]
+#[derive(Clone, Copy)]
 pub enum Group {
     /// The top frame's own event on a processor; one place.
     OwnEvent { cpu: u8 },

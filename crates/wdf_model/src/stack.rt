@@ -2,7 +2,7 @@ use crate::Phase;
 use wdf_base::{Ask, Handle, ObjectId, Post, Status};
 
 /// How far a request has come that was sent down a stack of devices, to the lower device.
-#[derive(Clone, Copy, Debug, PartialEq, Eq)]
+#[derive(Clone, Copy)]
 pub enum Descent {
     /// It has no arrival at the lower device yet.
     Waiting,
@@ -22,7 +22,7 @@ pub enum Descent {
 }
 
 /// A request that a connector has, in the order of the sends.
-#[derive(Clone, Copy, Debug, PartialEq, Eq)]
+#[derive(Clone, Copy)]
 pub struct Forwarded {
     /// The request that was sent.
     pub request: Handle,
@@ -34,7 +34,7 @@ pub struct Forwarded {
 }
 
 /// What a request asks for that arrived, as a connector posts it to the lower device.
-#[derive(Clone, Copy, Debug, PartialEq, Eq)]
+#[derive(Clone, Copy)]
 pub struct Arrival {
     pub request: ObjectId,
     /// The post by which it would arrive at the lower device.
@@ -42,14 +42,14 @@ pub struct Arrival {
 }
 
 /// A post of the Plug and Play manager: what it asks of which device.
-#[derive(Clone, Copy, Debug, PartialEq, Eq)]
+#[derive(Clone, Copy)]
 pub struct AskPost {
     pub ask: Ask,
     pub device: Handle,
 }
 
 /// A device as the stack manager knows it.
-#[derive(Clone, Copy, Debug, PartialEq, Eq)]
+#[derive(Clone, Copy)]
 pub struct StackDevice {
     pub device: Handle,
     /// The device above it, whose target is connected to it.

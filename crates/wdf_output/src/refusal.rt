@@ -22,7 +22,7 @@ const PARSE: &[u8] = b"parse refused at line ";
 const PLAN: &[u8] = b"plan refused at line ";
 
 /// Why an input has no plan.
-#[derive(Clone, Copy, Debug, PartialEq, Eq)]
+#[derive(Clone, Copy)]
 pub enum Refusal {
     /// A read of the input failed.
     ReadFault,

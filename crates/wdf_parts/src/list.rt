@@ -9,7 +9,7 @@ use wdf_model::Deed;
 /// The deeds of one event, in the order in which they are done: three at most.
 ///
 /// Contracts see the list of the definitions' deeds.
-#[derive(Debug, Drop)]
+#[derive(Drop)]
 pub struct Deeds {
     pub(crate) first: Option<Deed>,
     pub(crate) second: Option<Deed>,

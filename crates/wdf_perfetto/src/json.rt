@@ -70,7 +70,7 @@ fn slice_value(
 }
 
 /// A span beside the tracks, by its sort and its key.
-#[derive(Clone, Copy, Debug)]
+#[derive(Clone, Copy)]
 struct Key {
     sort: Sort,
     key: u32,
@@ -156,7 +156,7 @@ fn clock_value(alloc: Global, time: u64, at: u32) -> Result<Value, Memory>
 }
 
 /// A run that is shown.
-#[derive(Clone, Copy, Debug)]
+#[derive(Clone, Copy)]
 struct Shown<'a> {
     plan: &'a Plan,
     events: &'a [Event],

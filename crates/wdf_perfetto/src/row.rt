@@ -6,7 +6,7 @@ use wdf_base::{CallKind, Callback, Cpu, Fault, Handle, Stage};
 use wdf_spans::{Standing, Told};
 
 /// A group of tracks, which viewers call a process.
-#[derive(Clone, Copy, Debug, PartialEq, Eq)]
+#[derive(Clone, Copy)]
 pub enum Group {
     Processors,
     Devices,
@@ -41,14 +41,14 @@ impl Group {
 }
 
 /// A track, which viewers call a thread: a processor by its number, a device by its id.
-#[derive(Clone, Copy, Debug, PartialEq, Eq)]
+#[derive(Clone, Copy)]
 pub struct Track {
     pub group: Group,
     pub number: u32,
 }
 
 /// What a span beside the tracks is.
-#[derive(Clone, Copy, Debug, PartialEq, Eq)]
+#[derive(Clone, Copy, PartialEq, Eq)]
 pub enum Sort {
     Request,
     /// A callback that is parked.
@@ -68,7 +68,7 @@ impl Sort {
 }
 
 /// What is written on an item of the viewer.
-#[derive(Clone, Copy, Debug, PartialEq, Eq)]
+#[derive(Clone, Copy)]
 pub enum Title {
     Cpu(Cpu),
     Object(Handle),
@@ -86,7 +86,7 @@ pub enum Title {
 
 /// What the viewer is told: one event of the format. Times are slots, and `number` is that of the event of the run whose line
 /// is shown, 0 for none.
-#[derive(Clone, Copy, Debug, PartialEq, Eq)]
+#[derive(Clone, Copy)]
 pub enum Row {
     /// The name of a group.
     Names(Group),

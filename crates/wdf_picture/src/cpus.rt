@@ -109,7 +109,7 @@ fn rows_of(cpu: u8, pieces: &[Piece]) -> u32 {
 }
 
 /// A piece of a frame in which it is parked, and the row of its thread.
-#[derive(Clone, Copy, Debug)]
+#[derive(Clone, Copy)]
 struct Thread {
     piece: Piece,
     row: usize,

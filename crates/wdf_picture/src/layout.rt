@@ -11,7 +11,7 @@ use wdf_spans::{FrameBox, Frames, boxes_of, frames_of, requests_of, spans_of};
 pub const MERGED_FROM: u32 = 5_000;
 
 /// How far across the picture a slot is.
-#[derive(Clone, Copy, Debug)]
+#[derive(Clone, Copy)]
 pub(crate) struct Scale {
     /// How many slots there are.
     pub(crate) slots: u32,

@@ -3,7 +3,7 @@ use wdf_base::{Callback, Fault, Handle};
 use wdf_spans::{Standing, Told};
 
 /// How a shape looks.
-#[derive(Clone, Copy, Debug, PartialEq, Eq)]
+#[derive(Clone, Copy)]
 pub(crate) enum Look {
     /// A callback at passive level.
     Passive,
@@ -106,7 +106,7 @@ pub(crate) fn place_word(told: Told) -> &'static str {
 }
 
 /// What is written on a shape.
-#[derive(Clone, Copy, Debug, PartialEq, Eq)]
+#[derive(Clone, Copy)]
 pub(crate) enum Label {
     Nothing,
     Word(&'static str),
@@ -133,7 +133,7 @@ pub(crate) enum Label {
 }
 
 /// What a shape counts as.
-#[derive(Clone, Copy, Debug, PartialEq, Eq)]
+#[derive(Clone, Copy)]
 pub(crate) enum Role {
     /// The box of a start of a callback.
     Frame,
@@ -144,7 +144,7 @@ pub(crate) enum Role {
 }
 
 /// A shape from slot to slot.
-#[derive(Clone, Copy, Debug)]
+#[derive(Clone, Copy)]
 pub(crate) struct Shape {
     pub(crate) role: Role,
     pub(crate) look: Look,
@@ -182,7 +182,7 @@ impl Shape {
 }
 
 /// The name of a lane.
-#[derive(Clone, Copy, Debug, PartialEq, Eq)]
+#[derive(Clone, Copy)]
 pub(crate) enum LaneName {
     Word(&'static str),
     Cpu(u8),
@@ -190,7 +190,7 @@ pub(crate) enum LaneName {
 }
 
 /// A lane: what is drawn beside one name.
-#[derive(Clone, Copy, Debug, PartialEq, Eq)]
+#[derive(Clone, Copy)]
 pub(crate) struct Lane {
     pub(crate) name: LaneName,
     pub(crate) y: u32,

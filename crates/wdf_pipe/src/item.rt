@@ -2,7 +2,7 @@
 use wdf_base::Event;
 
 /// What the workers send to the printer.
-#[derive(Clone, Copy, Debug, PartialEq, Eq)]
+#[derive(Clone, Copy)]
 pub enum Item {
     /// An event of the run, with its number, from 1.
     Numbered(usize, Event),

@@ -170,7 +170,7 @@ impl Part for DevicePosts<'_> {
 }
 
 /// The sorts of agents that have posts of their own.
-#[derive(Clone, Copy, Debug, PartialEq, Eq)]
+#[derive(Clone, Copy)]
 pub enum AgentSort {
     /// Apps.
     App,

@@ -7,7 +7,7 @@ use wdf_blocks::forms::{is_end, opens};
 use wdf_scene::{NumberedLine, SceneLine};
 
 /// A block that is open in a callback.
-#[derive(Clone, Copy, Debug, PartialEq, Eq)]
+#[derive(Clone, Copy)]
 pub enum Nest {
     /// An `if`, before or after its `else`.
     Branch,
@@ -16,7 +16,7 @@ pub enum Nest {
 }
 
 /// How far a way came.
-#[derive(Clone, Copy, Debug, PartialEq, Eq)]
+#[derive(Clone, Copy)]
 pub struct Course {
     /// How many blocks are being passed over.
     pub skipping: u64,
@@ -27,7 +27,7 @@ pub struct Course {
 }
 
 /// A way that is kept of an open block: that from the end of its first branch on.
-#[derive(Clone, Copy, Debug, PartialEq, Eq)]
+#[derive(Clone, Copy)]
 pub struct Detour {
     /// The place of the block's `else`, or else of its `end`, among the lines.
     pub at: u32,

@@ -9,7 +9,7 @@ use wdf_blocks::declaration::same_line;
 use wdf_refusals::numbers::add_found;
 
 /// A post, and the line of the block in which it is.
-#[derive(Clone, Copy, Debug, PartialEq, Eq)]
+#[derive(Clone, Copy)]
 pub struct Posted {
     pub block: Option<u32>,
     pub post: PostLine,

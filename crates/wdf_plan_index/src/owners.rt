@@ -7,7 +7,7 @@ use std::alloc::Global;
 use wdf_base::{Declared, Memory, ObjectId, Plan};
 
 /// What has an agent of its own, besides the Plug and Play manager and the apps.
-#[derive(Clone, Copy, Debug, PartialEq, Eq)]
+#[derive(Clone, Copy)]
 pub enum Owner {
     /// A device.
     Device,

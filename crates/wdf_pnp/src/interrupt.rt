@@ -2,7 +2,7 @@ use std::marker::Model;
 use wdf_base::Handle;
 
 /// An interrupt, and which of its two callbacks are declared.
-#[derive(Debug, Drop)]
+#[derive(Drop)]
 pub(crate) struct InterruptSteps {
     pub(crate) interrupt: Handle,
     /// Whether EvtInterruptEnable is declared.

@@ -12,7 +12,7 @@ use wdf_base::{Ask, Callback, Handle, Stage, Step, same_callback};
 use wdf_model::Phase;
 
 /// What a device's steps are made of.
-#[derive(Debug, Drop)]
+#[derive(Drop)]
 pub(crate) struct DeviceSteps {
     /// The callbacks that it declares.
     pub(crate) callbacks: Vec<Callback>,

@@ -8,7 +8,7 @@ use wdf_base::{Ask, Memory, ObjectId, Plan, Step, Value};
 use wdf_model::Phase;
 
 /// Plug and Play and power of all devices: the phase of each, and the steps that it has left.
-#[derive(Debug, Drop)]
+#[derive(Drop)]
 pub struct Pnp {
     /// By the device's id.
     devices: Vec<Sequence>,

@@ -14,7 +14,7 @@ use wdf_declared::device_of;
 use wdf_model::Phase;
 
 /// How far a device has come, and what it has left of its list of steps.
-#[derive(Debug, Drop)]
+#[derive(Drop)]
 pub(crate) struct Sequence {
     steps: DeviceSteps,
     phase: Phase,

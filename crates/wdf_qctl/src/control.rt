@@ -13,7 +13,7 @@ use wdf_maps::{entry_at, put_at};
 use wdf_model::{Mode, QueueControl};
 
 /// The modes of the queues, their notification, and the devices that are closed.
-#[derive(Debug, Drop)]
+#[derive(Drop)]
 pub struct Control {
     /// By the queue's id, with the mode that its last control call gave it: the queues of a closed
     /// device are Purged, whatever that is.

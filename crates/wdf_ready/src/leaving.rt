@@ -92,7 +92,7 @@ impl Leaving {
         }
     }
 
-    /// How many objects may leave so by the tree alone. There is room for each object.
+    /// How many objects may leave so by the tree alone. There are at most `OBJECTS` objects.
     fn fitting_len<A: Agent>(self, parts: &Parts<A>) -> u32
         ensures count { result ≡ length (fitting self parts.now) }
         ensures room { length parts.now.tree.nodes ≤ OBJECTS }
@@ -172,7 +172,7 @@ impl Leaving {
         kept
     }
 
-    /// How many objects may leave so, their callbacks aside. There is room for each object.
+    /// How many objects may leave so, their callbacks aside. There are at most `OBJECTS` objects.
     fn len<A: Agent>(self, parts: &Parts<A>) -> u32
         requires settled { DeletedSettled parts.now }
         ensures count { result ≡ length (leavers self parts.now) }

@@ -153,7 +153,7 @@ fn leaving_len<A: Agent>(plan: &IndexedPlan, parts: &Parts<A>, leaving: Leaving)
 }
 
 /// How many events may come of a group's places. Completions are counted without a search, and so are cleanups and
-/// destructions that have no callback.
+/// destructions where nothing declares their callback.
 pub(crate) fn offered_len<A: Agent>(plan: &IndexedPlan, parts: &Parts<A>, group: Group) -> usize
     requires agents { length parts.now.agents ≤ 2 ^ 16 }
     requires settled { DeletedSettled parts.now }

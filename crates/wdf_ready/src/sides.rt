@@ -11,7 +11,7 @@ use wdf_model::Group;
 use wdf_parts::Parts;
 use wdf_plan_index::IndexedPlan;
 
-/// Whose events they are.
+/// Who does an event.
 #[derive(Clone, Copy, Debug)]
 pub enum Side {
     /// A processor's.

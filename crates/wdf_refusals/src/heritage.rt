@@ -12,7 +12,7 @@ use wdf_blocks::placed::Placed;
 use wdf_scene::{Scene, SceneLine};
 
 /// What the lines of a block give it; None where it inherits.
-#[derive(Clone, Copy, Debug, PartialEq, Eq, Drop)]
+#[derive(Clone, Copy, Drop)]
 pub struct Given {
     /// The level, if a line `level` gives one.
     pub level: Option<ExecutionLevel>,
@@ -21,7 +21,7 @@ pub struct Given {
 }
 
 /// The level and the scope that count for a device or a queue.
-#[derive(Clone, Copy, Debug, PartialEq, Eq, Drop)]
+#[derive(Clone, Copy, Drop)]
 pub struct Effective {
     /// The level.
     pub level: ExecutionLevel,

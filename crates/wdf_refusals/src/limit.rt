@@ -244,27 +244,30 @@ pub fn exceeded(names: &Names, variables: &Variables, placed: &Placed) -> Option
         .find(|limit| exceeds(names, variables, placed, *limit))
 }
 
+/// The word of each variant, in the order of the enum.
+const WORDS: [&str; 15] = [
+    "cpus",
+    "limit",
+    "objects",
+    "devices",
+    "apps",
+    "registers",
+    "classes",
+    "statements",
+    "posts",
+    "picks",
+    "variables",
+    "level",
+    "parallel",
+    "depth",
+    "ticks",
+];
+
 impl Limit {
     /// The word of the limit in a refusal.
     pub fn word(self) -> &'static str
         ensures { result.now ≡ spec.limit_word self }
     {
-        match self {
-            Limit::Cpus => "cpus",
-            Limit::Limit => "limit",
-            Limit::Objects => "objects",
-            Limit::Devices => "devices",
-            Limit::Apps => "apps",
-            Limit::Registers => "registers",
-            Limit::Classes => "classes",
-            Limit::Statements => "statements",
-            Limit::Posts => "posts",
-            Limit::Picks => "picks",
-            Limit::Variables => "variables",
-            Limit::Level => "level",
-            Limit::Parallel => "parallel",
-            Limit::Depth => "depth",
-            Limit::Ticks => "ticks",
-        }
+        WORDS[self as usize]
     }
 }

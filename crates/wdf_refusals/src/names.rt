@@ -14,7 +14,7 @@ use wdf_base::{Memory, Name};
 use wdf_blocks::declaration::{Declaration, Wanted};
 
 /// A name, and what a place in the text needs it to stand for.
-#[derive(Clone, Copy, Debug, PartialEq, Eq, Hash)]
+#[derive(Clone, Copy, PartialEq, Eq, Hash)]
 struct Use {
     name: Name,
     wanted: Wanted,

@@ -1,7 +1,7 @@
 use wdf_base::Ending;
 
 /// Why a line of a trace is refused.
-#[derive(Clone, Copy, Debug, PartialEq, Eq)]
+#[derive(Clone, Copy)]
 pub enum Why {
     /// No line feed ends the line, or it is the text of no event, of no ending and of no line of a wait list.
     NotALine,
@@ -14,7 +14,7 @@ pub enum Why {
 }
 
 /// What becomes of a trace.
-#[derive(Clone, Copy, Debug, PartialEq, Eq)]
+#[derive(Clone, Copy)]
 pub enum Verdict {
     /// The trace is the text of a run that ended so.
     Accepted(Ending),

@@ -8,7 +8,7 @@ use wdf_base::{Memory, Plan};
 use wdf_maps::entry_at;
 
 /// The requests of one agent's arrivals.
-#[derive(Debug, Drop)]
+#[derive(Drop)]
 struct Row {
     /// By the number of the arrival: the id of the request and one more, or 0.
     slots: Vec<u32>,
@@ -70,7 +70,7 @@ fn empty_rows(alloc: Global, plan: &Plan) -> Result<Vec<Row>, Memory>
 }
 
 /// Which request each arrival made, by the agent and the number of its arrival.
-#[derive(Debug, Drop)]
+#[derive(Drop)]
 pub(crate) struct Arrivals {
     /// By the agent's number.
     rows: Vec<Row>,

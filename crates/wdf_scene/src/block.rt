@@ -1,5 +1,5 @@
 /// A block of the text that is open: its first line was seen, and its `end` wasn't.
-#[derive(Clone, Copy, Debug, PartialEq, Eq)]
+#[derive(Clone, Copy, Debug)]
 pub enum Block {
     Driver,
     Class,

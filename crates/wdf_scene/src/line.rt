@@ -32,7 +32,7 @@ pub enum SceneArg {
 
 /// One node of an expression: an atom, or an operator with the numbers of its operands, each of
 /// which is less than the node's own number.
-#[derive(Clone, Copy, Debug, PartialEq, Eq)]
+#[derive(Clone, Copy, PartialEq, Eq)]
 pub enum SceneExpr {
     Number(u64),
     /// A variable or a declared object.
@@ -47,7 +47,7 @@ pub enum SceneExpr {
 }
 
 /// What comes before the one expression of a statement.
-#[derive(Clone, Copy, Debug, PartialEq, Eq)]
+#[derive(Clone, Copy)]
 pub enum StatementHead {
     Let(Name),
     Put(Name),
@@ -203,7 +203,7 @@ pub enum SceneLine {
 }
 
 /// A line of the text with its number, and with its numbers if it is a `picks` line.
-#[derive(Debug, Drop)]
+#[derive(Drop)]
 pub struct NumberedLine {
     /// The line's number in the text, from 1.
     pub number: u32,

@@ -5,7 +5,7 @@ use crate::line::{NumberedLine, SceneExpr, SceneLine};
 use wdf_base::{Items, MANY};
 
 /// A scenario as the lines of its text. A block's lines are between its first line and its `end`.
-#[derive(Debug, Drop)]
+#[derive(Drop)]
 pub struct Scene {
     /// The version of the text: 1, or 2 where it begins with `version 2`.
     pub version: u8,

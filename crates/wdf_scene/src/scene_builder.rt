@@ -8,7 +8,7 @@ use std::marker::Model;
 use wdf_base::{Items, Memory};
 
 /// A scene that is being filled. A call answers [`Memory`] where memory was refused, and leaves the scene as it was.
-#[derive(Debug, Drop)]
+#[derive(Drop)]
 pub struct SceneBuilder {
     alloc: Global,
     scene: Scene,

@@ -217,24 +217,16 @@ pub const OPERATORS: [Operator; 12] = [
     Operator::AtMost,
 ];
 
+/// The word of each variant, in the order of the enum.
+const OPERATOR_WORDS: [&str; 12] = [
+    "+", "-", "*", "/", "%", "&", "|", "^", "==", "!=", "<", "<=",
+];
+
 /// The word of an operator.
 pub fn operator_word(x: Operator) -> &'static str
     ensures { result.now ≡ words.operator_word x }
 {
-    match x {
-        Operator::Add => "+",
-        Operator::Subtract => "-",
-        Operator::Multiply => "*",
-        Operator::Divide => "/",
-        Operator::Remainder => "%",
-        Operator::BitAnd => "&",
-        Operator::BitOr => "|",
-        Operator::BitXor => "^",
-        Operator::Equals => "==",
-        Operator::Differs => "!=",
-        Operator::Below => "<",
-        Operator::AtMost => "<=",
-    }
+    OPERATOR_WORDS[x as usize]
 }
 
 /// The operator with this word, if there is one.

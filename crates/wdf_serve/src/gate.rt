@@ -4,7 +4,7 @@ use std::time::{Clock, Duration};
 use wdf_turn::Gate;
 
 /// A gate that holds no worker. One that has nothing to do lets others run.
-#[derive(Clone, Copy, Debug)]
+#[derive(Clone, Copy)]
 pub struct OpenGate;
 
 impl Gate for OpenGate {

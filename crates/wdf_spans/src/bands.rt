@@ -6,7 +6,7 @@ use std::alloc::Global;
 use wdf_base::{Arg, Call, CallKind, Callback, Event, Memory, ObjectId, Stage, Status, Value};
 
 /// What is told of a device or of a queue.
-#[derive(Clone, Copy, Debug, PartialEq, Eq)]
+#[derive(Clone, Copy)]
 pub enum Band {
     /// Which phase a device is in.
     Phase,
@@ -19,7 +19,7 @@ pub enum Band {
 }
 
 /// What holds of it.
-#[derive(Clone, Copy, Debug, PartialEq, Eq)]
+#[derive(Clone, Copy, PartialEq, Eq)]
 pub enum Standing {
     Off,
     Working,
@@ -61,7 +61,7 @@ impl Standing {
 }
 
 /// A band of one device or queue.
-#[derive(Clone, Copy, Debug, PartialEq, Eq)]
+#[derive(Clone, Copy)]
 pub struct BandOf {
     pub band: Band,
     /// The device or the queue.
@@ -129,7 +129,7 @@ impl BandOf {
 }
 
 /// A piece of a band, from a slot up to another.
-#[derive(Clone, Copy, Debug, PartialEq, Eq)]
+#[derive(Clone, Copy)]
 pub struct BandPiece {
     pub standing: Standing,
     pub from: u32,

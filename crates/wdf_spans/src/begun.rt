@@ -5,7 +5,7 @@ ghost use Rattle.wdf_spans.specs.Starts.{begun_by};
 use wdf_base::{Callback, Cpu, Event, Handle};
 
 /// A start of a callback, as its event says it.
-#[derive(Clone, Copy, Debug, PartialEq, Eq)]
+#[derive(Clone, Copy)]
 pub struct Begun {
     /// The number of the event, which is the number of the frame.
     pub number: u32,

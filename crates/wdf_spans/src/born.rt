@@ -5,7 +5,7 @@ ghost use Rattle.wdf_spans.specs.Births.{is_arrival, is_making, arrived, made, r
 use wdf_base::{Call, CallKind, Event, Handle, Post, Value};
 
 /// The event that brings a request into being.
-#[derive(Clone, Copy, Debug, PartialEq, Eq)]
+#[derive(Clone, Copy)]
 pub struct Birth {
     /// The number of the event.
     pub number: u32,

@@ -8,7 +8,7 @@ use std::alloc::Global;
 use wdf_base::{Event, Memory};
 
 /// A callback from its start to its end.
-#[derive(Clone, Copy, Debug, PartialEq, Eq)]
+#[derive(Clone, Copy)]
 pub struct FrameBox {
     pub begun: Begun,
     /// The slot after its last: that of its end, or the last of the run where it hasn't ended.

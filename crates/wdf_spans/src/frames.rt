@@ -5,7 +5,7 @@ use std::alloc::Global;
 use wdf_base::{Cpu, Event, Memory};
 
 /// What a frame does in a piece.
-#[derive(Clone, Copy, Debug, PartialEq, Eq)]
+#[derive(Clone, Copy, PartialEq, Eq)]
 pub enum Phase {
     Running,
     Waiting,
@@ -15,7 +15,7 @@ pub enum Phase {
 }
 
 /// A piece of a frame.
-#[derive(Clone, Copy, Debug, PartialEq, Eq)]
+#[derive(Clone, Copy)]
 pub struct Piece {
     /// The number of the frame.
     pub frame: u32,
@@ -29,7 +29,7 @@ pub struct Piece {
 }
 
 /// A stay of a frame on a processor, from its start or from where it comes back, to where it ends or leaves.
-#[derive(Clone, Copy, Debug, PartialEq, Eq)]
+#[derive(Clone, Copy)]
 pub struct Stay {
     /// The number of the frame.
     pub frame: u32,
@@ -41,7 +41,7 @@ pub struct Stay {
 }
 
 /// How a frame is at an event.
-#[derive(Clone, Copy, Debug, PartialEq, Eq)]
+#[derive(Clone, Copy)]
 struct Row {
     /// The frame below it on its processor, 0 for none.
     below: u32,

@@ -5,7 +5,7 @@ use wdf_base::{
 };
 
 /// Where a request is told to be.
-#[derive(Clone, Copy, Debug, PartialEq, Eq)]
+#[derive(Clone, Copy, PartialEq, Eq)]
 pub enum Told {
     /// In a queue.
     Queued,
@@ -20,7 +20,7 @@ pub enum Told {
 }
 
 /// The way that a request goes.
-#[derive(Clone, Copy, Debug, PartialEq, Eq)]
+#[derive(Clone, Copy)]
 pub(crate) enum Way {
     /// It arrives for this queue, which takes it if it accepts any; for none where it is refused.
     Arrives(Option<ObjectId>),
@@ -42,7 +42,7 @@ pub(crate) enum Way {
 }
 
 /// A request, and the way that it goes.
-#[derive(Clone, Copy, Debug, PartialEq, Eq)]
+#[derive(Clone, Copy)]
 pub(crate) struct Move {
     pub request: Handle,
     pub way: Way,

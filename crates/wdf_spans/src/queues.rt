@@ -4,7 +4,7 @@ use std::alloc::Global;
 use wdf_base::{Declared, Event, Memory, ObjectId, Plan};
 
 /// A piece of a queue's time, in which as many requests wait in it and as many are held from it.
-#[derive(Clone, Copy, Debug, PartialEq, Eq)]
+#[derive(Clone, Copy)]
 pub struct QueuePiece {
     /// The id of the queue.
     pub queue: u32,
@@ -15,7 +15,7 @@ pub struct QueuePiece {
 }
 
 /// The queues at which a request counts, 0 for none.
-#[derive(Clone, Copy, Debug, PartialEq, Eq)]
+#[derive(Clone, Copy)]
 pub(crate) struct Counted {
     /// Where it waits.
     pub waits: u32,
@@ -24,7 +24,7 @@ pub(crate) struct Counted {
 }
 
 /// A queue, as far as its pieces are told.
-#[derive(Clone, Copy, Debug, PartialEq, Eq)]
+#[derive(Clone, Copy)]
 struct Row {
     /// The piece that is open.
     piece: QueuePiece,

@@ -9,7 +9,7 @@ use std::alloc::Global;
 use wdf_base::{Event, Handle, Memory, Plan};
 
 /// A request from its birth to its destruction.
-#[derive(Clone, Copy, Debug, PartialEq, Eq)]
+#[derive(Clone, Copy)]
 pub struct RequestSpan {
     pub birth: Birth,
     /// The slot after its last: that of its destruction, or the last of the run where it is still there.
@@ -17,7 +17,7 @@ pub struct RequestSpan {
 }
 
 /// A piece of a request's span, in which it is at one place.
-#[derive(Clone, Copy, Debug, PartialEq, Eq)]
+#[derive(Clone, Copy)]
 pub struct RequestPiece {
     /// The number of the request's birth.
     pub birth: u32,
@@ -28,7 +28,7 @@ pub struct RequestPiece {
 }
 
 /// How an object that is a request is at an event.
-#[derive(Clone, Copy, Debug, PartialEq, Eq)]
+#[derive(Clone, Copy)]
 struct Row {
     request: Handle,
     birth: u32,

@@ -6,7 +6,7 @@ use crate::mark::is_mark;
 use wdf_run_text::line_at;
 
 /// Where the scenario of an input ends, and where its trace begins.
-#[derive(Clone, Copy, Debug, PartialEq, Eq)]
+#[derive(Clone, Copy)]
 pub struct Parts {
     /// How many bytes the scenario has.
     pub scenario: usize,

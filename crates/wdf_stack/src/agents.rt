@@ -15,7 +15,7 @@ use wdf_dev::{App, Device, LowerTarget};
 use wdf_plan_index::{Owner, ids_of};
 
 /// An agent of a run with stacks of devices, of any kind.
-#[derive(Debug, Drop)]
+#[derive(Drop)]
 pub enum StackAgent {
     /// The stack manager.
     StackManager(StackManager),

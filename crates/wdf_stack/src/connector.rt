@@ -27,7 +27,7 @@ const ARRIVALS: u32 = 4096;
 
 /// A connector: a target that is connected to the device below. What is sent to it arrives there, and is done as that device
 /// completes it. (own)
-#[derive(Debug, Drop)]
+#[derive(Drop)]
 pub struct Connector {
     /// Its number among the agents.
     agent: u16,

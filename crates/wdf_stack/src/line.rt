@@ -31,7 +31,7 @@ const COUNTED: u32 = 1_000_000_000;
 
 /// What was sent down and isn't done, in the order of the sends. Contracts see a record of the requests and of how many there is
 /// room for. No call but [`Line::make`] takes memory.
-#[derive(Debug, Drop)]
+#[derive(Drop)]
 pub(crate) struct Line {
     sent: Vec<Forwarded>,
     /// How many requests there is room for.

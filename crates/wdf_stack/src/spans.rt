@@ -9,7 +9,7 @@ use wdf_model::OBJECTS;
 
 /// Between which places of a line the requests are that have some key. Places are counted as if nothing had left the line, or
 /// as if only that had which left it at the front.
-#[derive(Clone, Copy, Debug)]
+#[derive(Clone, Copy)]
 pub(crate) struct Span {
     /// None of them is before this place, with all that left.
     pub(crate) low: u32,
@@ -26,7 +26,7 @@ const NOWHERE: Span = Span {
 /// Spans by key. What has a key that no object's id can be may be anywhere.
 ///
 /// Contracts see the list of the spans, as far as keys came. No call but [`Spans::make`] takes memory.
-#[derive(Debug, Drop)]
+#[derive(Drop)]
 pub(crate) struct Spans {
     spans: Vec<Span>,
 }

@@ -17,7 +17,7 @@ use wdf_model::{AskPost, Phase, StackDevice};
 
 /// The stack manager: it posts each line for the whole chain of the line's device, a post when the one before has ended. It is
 /// agent 0, in place of the Plug and Play manager. (own)
-#[derive(Debug, Drop)]
+#[derive(Drop)]
 pub struct StackManager {
     /// What its lines post.
     lines: Items<PostLine, MANY>,

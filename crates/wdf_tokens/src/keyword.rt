@@ -3,7 +3,7 @@ ghost use Rattle.std.specs.Prelude.{◌≡◌, ◌≤◌, length};
 ghost use Rattle.wdf_tokens.specs.Keywords.{keyword_word, keyword_of};
 
 /// A fixed word of the language.
-#[derive(Clone, Copy, Debug)]
+#[derive(Clone, Copy)]
 pub enum Keyword {
     Version,
     Cpus,
@@ -115,66 +115,69 @@ pub const KEYWORDS: [Keyword; 52] = [
     Keyword::Cancel,
 ];
 
+/// The word of each variant, in the order of the enum.
+const WORDS: [&str; 52] = [
+    "version",
+    "cpus",
+    "limit",
+    "objects",
+    "driver",
+    "class",
+    "device",
+    "interrupt",
+    "queue",
+    "target",
+    "app",
+    "pnp",
+    "order",
+    "on",
+    "end",
+    "scope",
+    "level",
+    "serialize",
+    "period",
+    "register",
+    "when",
+    "at",
+    "default",
+    "for",
+    "power",
+    "zero",
+    "picks",
+    "let",
+    "call",
+    "get",
+    "put",
+    "if",
+    "else",
+    "repeat",
+    "spend",
+    "log",
+    "return",
+    "working",
+    "sequential",
+    "parallel",
+    "manual",
+    "inherit",
+    "off",
+    "passive",
+    "after",
+    "set",
+    "raise",
+    "lower",
+    "read",
+    "write",
+    "control",
+    "cancel",
+];
+
 impl Keyword {
     /// The word itself.
     pub fn word(self) -> &'static str
         ensures word { result.now ≡ keyword_word self }
         ensures small { length result.now ≤ 32 }
     {
-        match self {
-            Keyword::Version => "version",
-            Keyword::Cpus => "cpus",
-            Keyword::Limit => "limit",
-            Keyword::Objects => "objects",
-            Keyword::Driver => "driver",
-            Keyword::Class => "class",
-            Keyword::Device => "device",
-            Keyword::Interrupt => "interrupt",
-            Keyword::Queue => "queue",
-            Keyword::Target => "target",
-            Keyword::App => "app",
-            Keyword::Pnp => "pnp",
-            Keyword::Order => "order",
-            Keyword::On => "on",
-            Keyword::End => "end",
-            Keyword::Scope => "scope",
-            Keyword::Level => "level",
-            Keyword::Serialize => "serialize",
-            Keyword::Period => "period",
-            Keyword::Register => "register",
-            Keyword::When => "when",
-            Keyword::At => "at",
-            Keyword::Default => "default",
-            Keyword::For => "for",
-            Keyword::Power => "power",
-            Keyword::Zero => "zero",
-            Keyword::Picks => "picks",
-            Keyword::Let => "let",
-            Keyword::Call => "call",
-            Keyword::Get => "get",
-            Keyword::Put => "put",
-            Keyword::If => "if",
-            Keyword::Else => "else",
-            Keyword::Repeat => "repeat",
-            Keyword::Spend => "spend",
-            Keyword::Log => "log",
-            Keyword::Return => "return",
-            Keyword::Working => "working",
-            Keyword::Sequential => "sequential",
-            Keyword::Parallel => "parallel",
-            Keyword::Manual => "manual",
-            Keyword::Inherit => "inherit",
-            Keyword::Off => "off",
-            Keyword::Passive => "passive",
-            Keyword::After => "after",
-            Keyword::Set => "set",
-            Keyword::Raise => "raise",
-            Keyword::Lower => "lower",
-            Keyword::Read => "read",
-            Keyword::Write => "write",
-            Keyword::Control => "control",
-            Keyword::Cancel => "cancel",
-        }
+        WORDS[self as usize]
     }
 
     /// The keyword with this word, if there is one.

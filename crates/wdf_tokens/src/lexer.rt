@@ -11,7 +11,7 @@ use wdf_base::{Callback, Memory, NAME_LIMIT, Name, Operator};
 use wdf_text::small_number;
 
 /// Why a line has no reading.
-#[derive(Clone, Copy, Debug, PartialEq, Eq)]
+#[derive(Clone, Copy)]
 pub enum TokenFault {
     /// A byte of the line is none of a text's, wherever it is.
     NotAscii,
@@ -22,7 +22,7 @@ pub enum TokenFault {
 }
 
 /// Why the tokens of a line weren't read.
-#[derive(Clone, Copy, Debug, PartialEq, Eq)]
+#[derive(Clone, Copy)]
 pub enum LexError {
     /// The line has no reading.
     Fault(TokenFault),
@@ -31,7 +31,7 @@ pub enum LexError {
 }
 
 /// What a piece of a line is.
-#[derive(Debug, Drop)]
+#[derive(Drop)]
 enum Content {
     /// A blank, or a comment.
     Blank,
@@ -44,7 +44,7 @@ enum Content {
 }
 
 /// The bytes at the front of a line that are read at once.
-#[derive(Debug, Drop)]
+#[derive(Drop)]
 struct Piece {
     size: usize,
     content: Content,

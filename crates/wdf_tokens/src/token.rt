@@ -1,7 +1,7 @@
 use wdf_base::{Callback, Name, Operator};
 
 /// A token of a line.
-#[derive(Clone, Copy, Debug)]
+#[derive(Clone, Copy)]
 pub enum Token {
     /// A number, written in decimal digits.
     Number(u64),

@@ -17,7 +17,7 @@ use wdf_output::{Refusal, tell, write_run};
 use wdf_run::{run_order, run_seed};
 
 /// What picks the events of a run.
-#[derive(Clone, Copy, Debug, PartialEq, Eq)]
+#[derive(Clone, Copy)]
 pub enum Picks {
     /// The picks of the scenario's `order` block.
     Listed,

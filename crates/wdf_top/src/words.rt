@@ -6,7 +6,7 @@ ghost use Rattle.wdf_top.specs.Words.{form_of_word, form_with_number, form_of_wo
 use wdf_text::small_number;
 
 /// What the program was asked to do. `run` is none of these forms: this call has no threads to run on.
-#[derive(Clone, Copy, Debug, PartialEq, Eq)]
+#[derive(Clone, Copy)]
 pub enum Form {
     /// Write the scenario in its canonical form.
     Check,

@@ -2,7 +2,7 @@ ghost use Rattle.std.specs.Prelude.{◌≡◌};
 ghost use Rattle.wdf_trace.specs.CauseWords.{cause_word_text, cause_word_of};
 
 /// The word that a cause begins with.
-#[derive(Clone, Copy, Debug, PartialEq, Eq)]
+#[derive(Clone, Copy)]
 pub enum CauseWord {
     Frame,
     Lock,
@@ -38,27 +38,30 @@ pub const CAUSE_WORDS: [CauseWord; 14] = [
     CauseWord::Sent,
 ];
 
+/// The word of each variant, in the order of the enum.
+const TEXTS: [&[u8]; 14] = [
+    b"frame",
+    b"lock",
+    b"request",
+    b"work",
+    b"stopped",
+    b"unpowered",
+    b"manual",
+    b"behind",
+    b"full",
+    b"scope",
+    b"cpus",
+    b"references",
+    b"child",
+    b"sent",
+];
+
 impl CauseWord {
     /// The word itself.
     fn text(self) -> &'static [u8]
         ensures { result.now ≡ cause_word_text self }
     {
-        match self {
-            CauseWord::Frame => b"frame",
-            CauseWord::Lock => b"lock",
-            CauseWord::Request => b"request",
-            CauseWord::Work => b"work",
-            CauseWord::Stopped => b"stopped",
-            CauseWord::Unpowered => b"unpowered",
-            CauseWord::Manual => b"manual",
-            CauseWord::Behind => b"behind",
-            CauseWord::Full => b"full",
-            CauseWord::Scope => b"scope",
-            CauseWord::Cpus => b"cpus",
-            CauseWord::References => b"references",
-            CauseWord::Child => b"child",
-            CauseWord::Sent => b"sent",
-        }
+        TEXTS[self as usize]
     }
 
     /// The word that reads so, if it is one.

@@ -3,7 +3,7 @@ ghost use Rattle.wdf_trace.specs.Verbs.{verb_word, verb_of};
 
 /// What an event does, as the third word of its line gives it. What the Plug and Play manager asks
 /// has words of its own, but for `start`.
-#[derive(Clone, Copy, Debug, PartialEq, Eq)]
+#[derive(Clone, Copy)]
 pub enum Verb {
     Start,
     Step,
@@ -63,39 +63,42 @@ pub const VERBS: [Verb; 26] = [
     Verb::Tick,
 ];
 
+/// The word of each variant, in the order of the enum.
+const WORDS: [&[u8]; 26] = [
+    b"start",
+    b"step",
+    b"log",
+    b"spend",
+    b"get",
+    b"put",
+    b"call",
+    b"wait",
+    b"woke",
+    b"park",
+    b"unpark",
+    b"end",
+    b"fault",
+    b"stage",
+    b"complete",
+    b"cleanup",
+    b"destroy",
+    b"read",
+    b"write",
+    b"control",
+    b"cancel",
+    b"set",
+    b"raise",
+    b"lower",
+    b"done",
+    b"tick",
+];
+
 impl Verb {
     /// The word of a verb.
     fn word(self) -> &'static [u8]
         ensures { result.now ≡ verb_word self }
     {
-        match self {
-            Verb::Start => b"start",
-            Verb::Step => b"step",
-            Verb::Log => b"log",
-            Verb::Spend => b"spend",
-            Verb::Get => b"get",
-            Verb::Put => b"put",
-            Verb::Call => b"call",
-            Verb::Wait => b"wait",
-            Verb::Woke => b"woke",
-            Verb::Park => b"park",
-            Verb::Unpark => b"unpark",
-            Verb::End => b"end",
-            Verb::Fault => b"fault",
-            Verb::Stage => b"stage",
-            Verb::Complete => b"complete",
-            Verb::Cleanup => b"cleanup",
-            Verb::Destroy => b"destroy",
-            Verb::Read => b"read",
-            Verb::Write => b"write",
-            Verb::Control => b"control",
-            Verb::Cancel => b"cancel",
-            Verb::Set => b"set",
-            Verb::Raise => b"raise",
-            Verb::Lower => b"lower",
-            Verb::Done => b"done",
-            Verb::Tick => b"tick",
-        }
+        WORDS[self as usize]
     }
 
     /// The verb with this word, if there is one.

@@ -56,7 +56,7 @@ impl Model for Tree {
 }
 
 /// Why no object was made.
-#[derive(Clone, Copy, Debug, PartialEq, Eq)]
+#[derive(Clone, Copy, PartialEq, Eq)]
 pub enum CreateRefusal {
     /// The parent isn't live.
     ParentDeleted,

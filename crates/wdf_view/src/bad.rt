@@ -10,7 +10,7 @@ use wdf_output::{Refusal, say, tell};
 use wdf_replay::Why;
 
 /// Why there is no picture.
-#[derive(Clone, Copy, Debug, PartialEq, Eq)]
+#[derive(Clone, Copy)]
 pub enum Bad {
     /// The input wasn't read, or its scenario has no plan, or memory was refused.
     Unread(Refusal),

@@ -16,7 +16,7 @@ use wdf_plan_index::IndexedPlan;
 use wdf_posts::due_of;
 
 /// The sections of the wait list.
-#[derive(Clone, Copy, Debug, PartialEq, Eq)]
+#[derive(Clone, Copy)]
 pub(crate) enum Section {
     /// The frames, by number.
     Frames,

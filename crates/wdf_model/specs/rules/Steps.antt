@@ -193,7 +193,7 @@ may plan m S (event.Cleanup o) = is_proper plan S o && clean_ready S o.id.0 && c
 may plan m S (event.Destroy o) = is_proper plan S o && destroy_ready S o.id.0 && callback_over plan S callback.EvtDestroyCallback o.id.0
 -- own: an agent posts what it has due, with the answer that the state gives
 may plan m S (event.Posted agent p answer) = may_post plan m S agent p answer
--- own: time passes where nothing else may come
+-- own: no candidate is a tick; `or_tick` of Ready.antt adds it where nothing else may come
 may plan m S (event.Tick time) = false
 
 -- ---- the state after an event: one row for each kind of event
