@@ -4,7 +4,8 @@
     python3 tools/editors.py [--check]
 
 With --check the list has to have exactly the words of the tables in the crates that read texts, each in a row that fits, and
-the files have to be what would be written. A word after `=>` in `match` tables of the files below is one of a table.
+the files have to be what would be written. A word of a table is in a `const` of words that a method of an enum indexes by
+its variant, or stands after `=>` in a `match`.
 """
 
 import json
@@ -58,8 +59,13 @@ def tables():
     """The words of each enum that the crates have a table of."""
     found = {}
     for path in TABLES:
-        for name, word in re.findall(r'\b(\w+)::\w+\s*=>\s*\{?\s*"([^"]+)"', read(path)):
+        text = read(path)
+        for name, word in re.findall(r'\b(\w+)::\w+\s*=>\s*\{?\s*"([^"]+)"', text):
             found.setdefault(name, set()).add(word)
+        lists = dict(re.findall(r"const (\w+): \[&str; \d+\] =\s*\[(.*?)\];", text, re.S))
+        for name, body in re.findall(r"^impl (\w+) \{(.*?)^\}", text, re.S | re.M):
+            for table in re.findall(r"\b(\w+)\[self as usize\]", body):
+                found.setdefault(name, set()).update(re.findall(r'"([^"]+)"', lists.get(table, "")))
     return found
 
 
