@@ -4,8 +4,8 @@
     python3 tools/editors.py [--check]
 
 With --check the list has to have exactly the words of the tables in the crates that read texts, each in a row that fits, and
-the files have to be what would be written. A word of a table is in a `const` of words that a method of an enum indexes by
-its variant, or stands after `=>` in a `match`.
+the files have to be what would be written. A word of a table is in a `const` of words that an enum's method or function
+indexes by the variant, or stands after `=>` in a `match`.
 """
 
 import json
@@ -63,9 +63,13 @@ def tables():
         for name, word in re.findall(r'\b(\w+)::\w+\s*=>\s*\{?\s*"([^"]+)"', text):
             found.setdefault(name, set()).add(word)
         lists = dict(re.findall(r"const (\w+): \[&str; \d+\] =\s*\[(.*?)\];", text, re.S))
+        uses = []
+        for name, body in re.findall(r"^pub fn \w+\(x: (\w+)\)(.*?)^\}", text, re.S | re.M):
+            uses += [(name, table) for table in re.findall(r"\b(\w+)\[x as usize\]", body)]
         for name, body in re.findall(r"^impl (\w+) \{(.*?)^\}", text, re.S | re.M):
-            for table in re.findall(r"\b(\w+)\[self as usize\]", body):
-                found.setdefault(name, set()).update(re.findall(r'"([^"]+)"', lists.get(table, "")))
+            uses += [(name, table) for table in re.findall(r"\b(\w+)\[self as usize\]", body)]
+        for name, table in uses:
+            found.setdefault(name, set()).update(re.findall(r'"([^"]+)"', lists.get(table, "")))
     return found
 
 
