@@ -31,14 +31,14 @@ fn copies_of(alloc: Global, words: &[Text]) -> Result<Vec<Text>, Memory>
 }
 
 /// An ending of one word.
-fn plain_wanted(word: &[u8]) -> Option<Wanted>
+fn plain_wanted(word: &Text) -> Option<Wanted>
     ensures { result ≡ plain_wanted word.now }
 {
-    if word == b"finished" {
+    if word.is(b"finished") {
         Some(Wanted::Finished)
-    } else if word == b"limit" {
+    } else if word.is(b"limit") {
         Some(Wanted::Limit)
-    } else if word == b"stuck" {
+    } else if word.is(b"stuck") {
         Some(Wanted::Stuck)
     } else {
         None
@@ -46,11 +46,11 @@ fn plain_wanted(word: &[u8]) -> Option<Wanted>
 }
 
 /// A fault in whatever line.
-fn fault_wanted(word: &[u8], name: &[u8]) -> Option<Wanted>
+fn fault_wanted(word: &Text, name: &Text) -> Option<Wanted>
     ensures { result ≡ fault_wanted word.now name.now }
 {
-    if word == b"fault" {
-        Fault::from_word(name).map(|fault| Wanted::Fault { fault })
+    if word.is(b"fault") {
+        Fault::from_word(name.bytes()).map(|fault| Wanted::Fault { fault })
     } else {
         None
     }
@@ -78,16 +78,16 @@ fn fault_at(fault: Option<Fault>, line: Option<u64>) -> Option<Wanted>
 
 /// A fault in a line of the text.
 fn placed_wanted(
-    word: &[u8],
-    name: &[u8],
-    at: &[u8],
-    line: &[u8],
-    number: &[u8],
+    word: &Text,
+    name: &Text,
+    at: &Text,
+    line: &Text,
+    number: &Text,
 ) -> Option<Wanted>
     ensures { result ≡ placed_wanted word.now name.now at.now line.now number.now }
 {
-    if word == b"fault" && at == b"at" && line == b"line" {
-        fault_at(Fault::from_word(name), number_in(number))
+    if word.is(b"fault") && at.is(b"at") && line.is(b"line") {
+        fault_at(Fault::from_word(name.bytes()), number_in(number.bytes()))
     } else {
         None
     }
@@ -98,15 +98,9 @@ fn wanted_in(words: &[Text]) -> Option<Wanted>
     ensures { result ≡ wanted_in words.now }
 {
     match words {
-        [word] => plain_wanted(word.bytes()),
-        [word, name] => fault_wanted(word.bytes(), name.bytes()),
-        [word, name, at, line, number] => placed_wanted(
-            word.bytes(),
-            name.bytes(),
-            at.bytes(),
-            line.bytes(),
-            number.bytes(),
-        ),
+        [word] => plain_wanted(word),
+        [word, name] => fault_wanted(word, name),
+        [word, name, at, line, number] => placed_wanted(word, name, at, line, number),
         _ => None,
     }
 }
@@ -131,10 +125,10 @@ fn both_in(first: Option<Pattern>, next: Option<Pattern>) -> Option<Rule>
 }
 
 /// Whether a word stands between two patterns.
-fn is_comes(word: &[u8]) -> bool
+fn is_comes(word: &Text) -> bool
     ensures { result ≡ is_comes word.now }
 {
-    word == b"comes"
+    word.is(b"comes")
 }
 
 /// The place of the word between two patterns.
@@ -142,7 +136,7 @@ fn comes_at(words: &[Text]) -> Option<usize>
     ensures place { result ≡ position is_comes words.now }
     ensures within { IfSome result (λ place. place < length words.now) }
 {
-    words.iter().position(|word| is_comes(word.bytes()))
+    words.iter().position(is_comes)
 }
 
 /// Two patterns, with a word between them.
@@ -159,16 +153,16 @@ fn after_in(alloc: Global, place: Option<usize>, words: &[Text]) -> Result<Optio
 }
 
 /// The rule that a word and the words after it give.
-fn rule_with(alloc: Global, word: &[u8], words: &[Text]) -> Result<Option<Rule>, Memory>
+fn rule_with(alloc: Global, word: &Text, words: &[Text]) -> Result<Option<Rule>, Memory>
     ensures { IfOk result (λ rule. rule ≡ rule_with word.now words.now) }
 {
-    if word == b"expect" {
+    if word.is(b"expect") {
         Ok(wanted_in(words).map(|wanted| Rule::Expect { wanted }))
-    } else if word == b"never" {
+    } else if word.is(b"never") {
         Ok(pattern_in(alloc, words)?.map(|pattern| Rule::Never { pattern }))
-    } else if word == b"once" {
+    } else if word.is(b"once") {
         Ok(pattern_in(alloc, words)?.map(|pattern| Rule::Once { pattern }))
-    } else if word == b"after" {
+    } else if word.is(b"after") {
         after_in(alloc, comes_at(words), words)
     } else {
         Ok(None)
@@ -180,7 +174,7 @@ pub(crate) fn rule_in(alloc: Global, words: &[Text]) -> Result<Option<Rule>, Mem
     ensures { IfOk result (λ rule. rule ≡ rule_in words.now) }
 {
     match words {
-        [word, more @ ..] => rule_with(alloc, word.bytes(), more),
+        [word, more @ ..] => rule_with(alloc, word, more),
         [] => Ok(None),
     }
 }
