@@ -1,18 +1,20 @@
 //! The call of the program.
 ghost use Rattle.std.specs.Prelude.{◌≡◌, ◌+◌, ◌<◌, ◌≤◌, ◌^◌, map, string_bytes};
 ghost use Rattle.wdf_io.specs.Outside.{EndsRefused};
-ghost use Rattle.wdf_output.specs.Said.{sinking};
+ghost use Rattle.wdf_output.specs.Said.{Says, sinking};
 ghost use Rattle.wdf_top.specs.Top.{TellsBy, sourcing};
 ghost use Rattle.wdf_hunt.specs.Answers.{Tells, seeking, shrinking};
+ghost use Rattle.wdf_hunt.specs.Cases.{case_refusal_line, case_refusal_status};
 ghost use Rattle.wdf_hunt.specs.Words.{form_of_words};
 
-use crate::read::read_scene;
+use crate::read::{CaseRefusal, read_case};
 use crate::story::tell_story;
 use crate::table::tell_table;
 use crate::words::{Form, form_of};
 use std::alloc::Global;
 use std::thread::Threads;
 use wdf_io::{Sink, Source};
+use wdf_lines::one_number;
 use wdf_output::{say, tell};
 
 /// What is written for words of no form.
@@ -20,6 +22,25 @@ const USAGE: &[u8] = b"usage: kmdfhunt seeds FROM COUNT | shrink N\n";
 
 /// The status of words of no form.
 const USAGE_STATUS: u8 = 2;
+
+/// The status of a text with a comment `#!` that can't be read.
+const UNREAD_STATUS: u8 = 10;
+
+/// Writes why an input is no case.
+fn tell_refusal<K: Sink>(sink: &mut K, refusal: CaseRefusal) -> u8
+    ensures said { Says (sinking (K.written sink.old) (K.written sink.new) (K.faults sink.old) (K.faults sink.new))
+        (case_refusal_line refusal) (case_refusal_status refusal) result }
+    ensures not_again { result ≡ 13 → EndsRefused K.refused K.faults sink.old sink.new }
+{
+    match refusal {
+        CaseRefusal::Scenario { refusal } => tell(sink, refusal),
+        CaseRefusal::Unread { line } => say(
+            sink,
+            one_number(b"expect refused at line ", line, b": BadLine\n").bytes(),
+            UNREAD_STATUS,
+        ),
+    }
+}
 
 /// Reads a scenario, and writes the table of its runs by the seeds of a range, or says why it can't.
 fn seek<R: Threads + Sync, S: Source, K: Sink>(
@@ -38,9 +59,9 @@ fn seek<R: Threads + Sync, S: Source, K: Sink>(
         result }
     ensures not_again { result ≡ 13 → EndsRefused K.refused K.faults sink.old sink.new }
 {
-    match read_scene(alloc, source) {
-        Ok(scene) => tell_table(rt, alloc, &scene, from, count, sink),
-        Err(refusal) => tell(sink, refusal),
+    match read_case(alloc, source) {
+        Ok(case) => tell_table(rt, alloc, &case, from, count, sink),
+        Err(refusal) => tell_refusal(sink, refusal),
     }
 }
 
@@ -52,9 +73,9 @@ fn shrink<S: Source, K: Sink>(alloc: Global, seed: u64, source: &mut S, sink: &m
         result }
     ensures not_again { result ≡ 13 → EndsRefused K.refused K.faults sink.old sink.new }
 {
-    match read_scene(alloc, source) {
-        Ok(scene) => tell_story(alloc, &scene, seed, sink),
-        Err(refusal) => tell(sink, refusal),
+    match read_case(alloc, source) {
+        Ok(case) => tell_story(alloc, &case, seed, sink),
+        Err(refusal) => tell_refusal(sink, refusal),
     }
 }
 
@@ -62,13 +83,15 @@ fn shrink<S: Source, K: Sink>(alloc: Global, seed: u64, source: &mut S, sink: &m
 ///
 /// `seeds FROM COUNT` reads a scenario, and runs it by each of COUNT seeds, from FROM on, as `kmdfsim seed N` does. It
 /// writes a line for each kind of ending that came, most frequent first: how many seeds, which of them has the run of the
-/// fewest events (of several the least seed), how many those are, and the kind. The status is 0 where each run finished,
-/// else that of the worst ending: 3, then 4, then 5.
+/// fewest events (of several the least seed), how many those are, and the kind. Comments that begin with `#!` say what is
+/// expected of each run. The status is 0 where each run finished, or ended as expected, and breaks no rule. Else it is that of
+/// the worst kind: 1 where a rule is broken, then 3, 4 and 5 by the ending.
 ///
-/// `shrink N` reads a scenario, and looks for plain picks whose run ends in the kind of the seed's run, with no more events.
+/// `shrink N` reads a scenario, and looks for plain picks whose run is of the kind of the seed's run, with no more events.
 /// It writes the scenario in canonical form with an `order` block of these picks. The status is 0.
 ///
-/// Where `kmdfsim` refuses the input, its line is written, with its status. For other words there is a line of usage, with the
+/// Where `kmdfsim` refuses the input, its line is written, with its status; where a comment `#!` can't be read, a line that
+/// names its line, with the status 10. For other words there is a line of usage, with the
 /// status 2. Where the sink fails the status is 13.
 pub fn hunt<R: Threads + Sync, S: Source, K: Sink>(
     rt: &R,

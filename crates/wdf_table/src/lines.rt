@@ -7,11 +7,13 @@ use std::alloc::Global;
 use wdf_base::Memory;
 use wdf_writing::Text;
 
-/// The status of a run that ends in a kind.
+/// The status of a run of a kind.
 fn kind_status(kind: &[u8]) -> u8
     ensures { result ≡ kind_status kind.now }
 {
-    if kind.starts_with(b"fault ") {
+    if kind.starts_with(b"broken: ") {
+        1
+    } else if kind.starts_with(b"fault ") {
         3
     } else if kind.starts_with(b"stuck") {
         4
@@ -22,7 +24,7 @@ fn kind_status(kind: &[u8]) -> u8
     }
 }
 
-/// The worse of two statuses: 3, then 4, then 5, then 0.
+/// The worse of two statuses: 1, then 3, 4 and 5, then 0.
 fn worse(a: u8, b: u8) -> u8
     ensures { result ≡ worse a b }
 {
@@ -104,7 +106,7 @@ impl Tally {
         )
     }
 
-    /// The status of the rows: that of the worst kind, and 0 where each run finished.
+    /// The status of the rows: that of the worst kind, and 0 where each run finished or ended as expected.
     pub fn status(&self) -> u8
         ensures value { result ≡ table_status self.now }
         ensures small { result ≤ 5 }

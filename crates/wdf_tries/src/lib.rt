@@ -10,8 +10,10 @@ mod kind;
 mod opening;
 mod range;
 mod seed;
+mod tried;
 
 pub use kind::kind_of;
 pub use opening::opened;
 pub use range::{Hunted, hunt_range};
 pub use seed::try_seed;
+pub use tried::Case;

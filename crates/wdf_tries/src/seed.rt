@@ -9,6 +9,7 @@ ghost use Rattle.wdf_tries.specs.Tries.{IsTryOf};
 
 use crate::kind::kind_of;
 use crate::opening::opened;
+use crate::tried::Case;
 use std::alloc::Global;
 use wdf_base::Memory;
 use wdf_core::Core;
@@ -29,13 +30,14 @@ fn run_of_seed(alloc: Global, scene: &Scene, seed: u64) -> Result<Core<AnyAgent>
     Ok(core)
 }
 
-/// The row of a run that the words of a seed have picked.
-fn row_of_run(alloc: Global, core: &Core<AnyAgent>, seed: u64) -> Result<Row, Memory>
-    requires { IsPickedRun core.now.plan agent_meaning (seed_words seed core.now.plan.limit) core.now.journal }
-    ensures row { IfOk result (IsTryOf core.now.plan seed) }
+/// The row of a run of a case that the words of a seed have picked.
+fn row_of_run(alloc: Global, case: &Case, core: &Core<AnyAgent>, seed: u64) -> Result<Row, Memory>
+    requires plan { core.now.plan ≡ plan_of case.now.scene }
+    requires picked { IsPickedRun (plan_of case.now.scene) agent_meaning (seed_words seed (plan_of case.now.scene).limit) core.now.journal }
+    ensures row { IfOk result (IsTryOf case.now seed) }
     ensures few { IfOk result (λ row. row.events < 2 ^ 32) }
 {
-    let kind = kind_of(alloc, core)?;
+    let kind = kind_of(alloc, core, case.expectations.as_slice())?;
     let _limit = core.plan().limit();
     Ok(Row {
         kind,
@@ -45,18 +47,18 @@ fn row_of_run(alloc: Global, core: &Core<AnyAgent>, seed: u64) -> Result<Row, Me
     })
 }
 
-/// The try of a seed: the kind in which its run ends, and how many events that has.
+/// The try of a seed: the kind of its run, and how many events that has.
 ///
 /// # Errors
 ///
 /// [`Memory`] where memory was refused, or where the scene has no plan.
-pub fn try_seed(alloc: Global, scene: &Scene, seed: u64) -> Result<Row, Memory>
-    requires scene { IsScene scene.now }
-    requires names { HasProperNames scene.now }
-    ensures row { IfOk result (IsTryOf (plan_of scene.now) seed) }
+pub fn try_seed(alloc: Global, case: &Case, seed: u64) -> Result<Row, Memory>
+    requires scene { IsScene case.now.scene }
+    requires names { HasProperNames case.now.scene }
+    ensures row { IfOk result (IsTryOf case.now seed) }
     ensures few { IfOk result (λ row. row.events < 2 ^ 32) }
     ensures one { IfOk result (λ row. row.count ≡ 1) }
 {
-    let core = run_of_seed(alloc, scene, seed)?;
-    row_of_run(alloc, &core, seed)
+    let core = run_of_seed(alloc, &case.scene, seed)?;
+    row_of_run(alloc, case, &core, seed)
 }

@@ -1,0 +1,4 @@
+pub mod Begun
+pub mod Found
+pub mod Followed
+pub mod Parted
