@@ -7,12 +7,14 @@
 #![tactic(auto)]
 
 mod kind;
+mod moving;
 mod opening;
 mod range;
 mod seed;
 mod tried;
 
 pub use kind::kind_of;
+pub use moving::{moved_case, words_of_seed};
 pub use opening::opened;
 pub use range::{Hunted, hunt_range};
 pub use seed::try_seed;

@@ -5,15 +5,17 @@ ghost use Rattle.wdf_plan.specs.Plans.{plan_of};
 ghost use Rattle.wdf_scene.specs.Naming.{HasProperNames};
 ghost use Rattle.wdf_scene.specs.Written.{IsScene};
 ghost use Rattle.wdf_run.specs.Seeds.{seed_words};
-ghost use Rattle.wdf_tries.specs.Tries.{IsTryOf};
+ghost use Rattle.wdf_tries.specs.Tries.{IsTryBy, IsTryOf};
 
 use crate::kind::kind_of;
+use crate::moving::scene_for;
 use crate::opening::opened;
 use crate::tried::Case;
 use std::alloc::Global;
 use wdf_base::Memory;
 use wdf_core::Core;
 use wdf_dev::AnyAgent;
+use wdf_expect::Expectation;
 use wdf_run::run_seed;
 use wdf_scene::Scene;
 use wdf_table::Row;
@@ -30,14 +32,18 @@ fn run_of_seed(alloc: Global, scene: &Scene, seed: u64) -> Result<Core<AnyAgent>
     Ok(core)
 }
 
-/// The row of a run of a case that the words of a seed have picked.
-fn row_of_run(alloc: Global, case: &Case, core: &Core<AnyAgent>, seed: u64) -> Result<Row, Memory>
-    requires plan { core.now.plan ≡ plan_of case.now.scene }
-    requires picked { IsPickedRun (plan_of case.now.scene) agent_meaning (seed_words seed (plan_of case.now.scene).limit) core.now.journal }
-    ensures row { IfOk result (IsTryOf case.now seed) }
+/// The row of a run that the words of a seed have picked, by what is expected of it.
+fn row_of_run(
+    alloc: Global,
+    core: &Core<AnyAgent>,
+    expectations: &[Expectation],
+    seed: u64,
+) -> Result<Row, Memory>
+    requires { IsPickedRun core.now.plan agent_meaning (seed_words seed core.now.plan.limit) core.now.journal }
+    ensures row { IfOk result (IsTryBy core.now.plan expectations.now seed) }
     ensures few { IfOk result (λ row. row.events < 2 ^ 32) }
 {
-    let kind = kind_of(alloc, core, case.expectations.as_slice())?;
+    let kind = kind_of(alloc, core, expectations)?;
     let _limit = core.plan().limit();
     Ok(Row {
         kind,
@@ -45,6 +51,23 @@ fn row_of_run(alloc: Global, case: &Case, core: &Core<AnyAgent>, seed: u64) -> R
         seed,
         events: core.journal_len() as u64,
     })
+}
+
+/// The try of a seed by the plan of a scene.
+fn try_scene(
+    alloc: Global,
+    scene: &Scene,
+    expectations: &[Expectation],
+    seed: u64,
+) -> Result<Row, Memory>
+    requires scene { IsScene scene.now }
+    requires names { HasProperNames scene.now }
+    ensures row { IfOk result (IsTryBy (plan_of scene.now) expectations.now seed) }
+    ensures few { IfOk result (λ row. row.events < 2 ^ 32) }
+    ensures one { IfOk result (λ row. row.count ≡ 1) }
+{
+    let core = run_of_seed(alloc, scene, seed)?;
+    row_of_run(alloc, &core, expectations, seed)
 }
 
 /// The try of a seed: the kind of its run, and how many events that has.
@@ -59,6 +82,10 @@ pub fn try_seed(alloc: Global, case: &Case, seed: u64) -> Result<Row, Memory>
     ensures few { IfOk result (λ row. row.events < 2 ^ 32) }
     ensures one { IfOk result (λ row. row.count ≡ 1) }
 {
-    let core = run_of_seed(alloc, &case.scene, seed)?;
-    row_of_run(alloc, case, &core, seed)
+    let expectations = case.expectations.as_slice();
+    if case.jitter == 0 {
+        return try_scene(alloc, &case.scene, expectations, seed);
+    }
+    let scene = scene_for(alloc, case, seed)?;
+    try_scene(alloc, &scene, expectations, seed)
 }
