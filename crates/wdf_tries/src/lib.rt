@@ -15,7 +15,7 @@ mod tried;
 
 pub use kind::kind_of;
 pub use moving::{moved_case, words_of_seed};
-pub use opening::opened;
+pub use opening::{limit_of, opened};
 pub use range::{Hunted, hunt_range};
 pub use seed::try_seed;
 pub use tried::Case;
