@@ -2,8 +2,9 @@
 //!
 //! # Choices
 //!
-//! - **Why is a plan resolved anew for each seed?** A core keeps its plan. That costs a part of what the opening of the
-//!   machine costs.
+//! - **Does each run take memory anew?** No: the tries of a range share one core, which begins anew for each seed. Only
+//!   the agents are made for each run; they have little. Where the lines of a scene are moved each seed has a plan of its
+//!   own, and so a core of its own.
 #![tactic(auto)]
 
 mod kind;

@@ -1,4 +1,4 @@
-ghost use Rattle.std.specs.Prelude.{◌≡◌, ◌<◌, ◌^◌, IfOk};
+ghost use Rattle.std.specs.Prelude.{◌≡◌, ◌<◌, ◌^◌, IfOk, OnOk};
 ghost use Rattle.wdf_dev.specs.Agents.{agent_meaning};
 ghost use Rattle.wdf_model.specs.rules.Ready.{IsPickedRun};
 ghost use Rattle.wdf_plan.specs.Plans.{plan_of};
@@ -9,7 +9,7 @@ ghost use Rattle.wdf_tries.specs.Tries.{IsTryBy, IsTryOf};
 
 use crate::kind::kind_of;
 use crate::moving::scene_for;
-use crate::opening::opened;
+use crate::opening::{opened, reopen};
 use crate::tried::Case;
 use std::alloc::Global;
 use wdf_base::Memory;
@@ -30,6 +30,16 @@ fn run_of_seed(alloc: Global, scene: &Scene, seed: u64) -> Result<Core<AnyAgent>
     let mut core = opened(alloc, scene)?;
     run_seed(&mut core, seed);
     Ok(core)
+}
+
+/// Makes the run that the words of a seed pick, to its end, in a core that begins anew for it.
+fn run_again(alloc: Global, core: &mut Core<AnyAgent>, seed: u64) -> Result<(), Memory>
+    ensures plan { core.new.plan ≡ core.old.plan }
+    ensures picked { OnOk result (IsPickedRun core.old.plan agent_meaning (seed_words seed core.old.plan.limit) core.new.journal) }
+{
+    reopen(alloc, core)?;
+    run_seed(core, seed);
+    Ok(())
 }
 
 /// The row of a run that the words of a seed have picked, by what is expected of it.
@@ -70,21 +80,45 @@ fn try_scene(
     row_of_run(alloc, &core, expectations, seed)
 }
 
-/// The try of a seed: the kind of its run, and how many events that has.
+/// The try of a seed by the plan of a core, which begins anew for it.
+fn try_again(
+    alloc: Global,
+    core: &mut Core<AnyAgent>,
+    expectations: &[Expectation],
+    seed: u64,
+) -> Result<Row, Memory>
+    ensures plan { core.new.plan ≡ core.old.plan }
+    ensures row { IfOk result (IsTryBy core.old.plan expectations.now seed) }
+    ensures few { IfOk result (λ row. row.events < 2 ^ 32) }
+    ensures one { IfOk result (λ row. row.count ≡ 1) }
+{
+    run_again(alloc, core, seed)?;
+    row_of_run(alloc, core, expectations, seed)
+}
+
+/// The try of a seed: the kind of its run, and how many events that has. Where nothing is moved the run is made in the
+/// given core of the case's plan, which begins anew for it.
 ///
 /// # Errors
 ///
 /// [`Memory`] where memory was refused, or where the scene has no plan.
-pub fn try_seed(alloc: Global, case: &Case, seed: u64) -> Result<Row, Memory>
+pub fn try_seed(
+    alloc: Global,
+    case: &Case,
+    core: &mut Core<AnyAgent>,
+    seed: u64,
+) -> Result<Row, Memory>
     requires scene { IsScene case.now.scene }
     requires names { HasProperNames case.now.scene }
+    requires plan { core.old.plan ≡ plan_of case.now.scene }
+    ensures plan { core.new.plan ≡ core.old.plan }
     ensures row { IfOk result (IsTryOf case.now seed) }
     ensures few { IfOk result (λ row. row.events < 2 ^ 32) }
     ensures one { IfOk result (λ row. row.count ≡ 1) }
 {
     let expectations = case.expectations.as_slice();
     if case.jitter == 0 {
-        return try_scene(alloc, &case.scene, expectations, seed);
+        return try_again(alloc, core, expectations, seed);
     }
     let scene = scene_for(alloc, case, seed)?;
     try_scene(alloc, &scene, expectations, seed)
