@@ -17,20 +17,7 @@ use wdf_core::Core;
 use wdf_dev::AnyAgent;
 use wdf_expect::Expectation;
 use wdf_run::run_seed;
-use wdf_scene::Scene;
 use wdf_table::Row;
-
-/// The run that the words of a seed pick, at its end.
-fn run_of_seed(alloc: Global, scene: &Scene, seed: u64) -> Result<Core<AnyAgent>, Memory>
-    requires scene { IsScene scene.now }
-    requires names { HasProperNames scene.now }
-    ensures plan { IfOk result (λ core. core.plan ≡ plan_of scene.now) }
-    ensures picked { IfOk result (λ core. IsPickedRun (plan_of scene.now) agent_meaning (seed_words seed (plan_of scene.now).limit) core.journal) }
-{
-    let mut core = opened(alloc, scene)?;
-    run_seed(&mut core, seed);
-    Ok(core)
-}
 
 /// Makes the run that the words of a seed pick, to its end, in a core that begins anew for it.
 fn run_again(alloc: Global, core: &mut Core<AnyAgent>, seed: u64) -> Result<(), Memory>
@@ -63,23 +50,6 @@ fn row_of_run(
     })
 }
 
-/// The try of a seed by the plan of a scene.
-fn try_scene(
-    alloc: Global,
-    scene: &Scene,
-    expectations: &[Expectation],
-    seed: u64,
-) -> Result<Row, Memory>
-    requires scene { IsScene scene.now }
-    requires names { HasProperNames scene.now }
-    ensures row { IfOk result (IsTryBy (plan_of scene.now) expectations.now seed) }
-    ensures few { IfOk result (λ row. row.events < 2 ^ 32) }
-    ensures one { IfOk result (λ row. row.count ≡ 1) }
-{
-    let core = run_of_seed(alloc, scene, seed)?;
-    row_of_run(alloc, &core, expectations, seed)
-}
-
 /// The try of a seed by the plan of a core, which begins anew for it.
 fn try_again(
     alloc: Global,
@@ -97,7 +67,7 @@ fn try_again(
 }
 
 /// The try of a seed: the kind of its run, and how many events that has. Where nothing is moved the run is made in the
-/// given core of the case's plan, which begins anew for it.
+/// given core of the case's plan, which begins anew for it; else in one of the moved scene's plan.
 ///
 /// # Errors
 ///
@@ -121,5 +91,6 @@ pub fn try_seed(
         return try_again(alloc, core, expectations, seed);
     }
     let scene = scene_for(alloc, case, seed)?;
-    try_scene(alloc, &scene, expectations, seed)
+    let mut moved = opened(alloc, &scene)?;
+    try_again(alloc, &mut moved, expectations, seed)
 }
