@@ -13,4 +13,5 @@ mod top;
 mod words;
 
 pub use top::hunt;
+pub use wdf_hunters::Progress;
 pub use words::Form;

@@ -13,6 +13,7 @@ use crate::table::tell_table;
 use crate::words::{Form, form_of};
 use std::alloc::Global;
 use std::thread::Threads;
+use wdf_hunters::Progress;
 use wdf_io::{Sink, Source};
 use wdf_lines::one_number;
 use wdf_output::{say, tell};
@@ -55,7 +56,7 @@ fn with_jitter(case: Case, jitter: u32) -> Case
 }
 
 /// Reads a scenario, and writes the table of its runs by the seeds of a range, or says why it can't.
-fn seek<R: Threads + Sync, S: Source, K: Sink>(
+fn seek<R: Threads + Sync, S: Source, K: Sink, P: Progress>(
     rt: &R,
     alloc: Global,
     from: u64,
@@ -63,6 +64,7 @@ fn seek<R: Threads + Sync, S: Source, K: Sink>(
     jitter: u32,
     source: &mut S,
     sink: &mut K,
+    progress: &mut P,
 ) -> u8
     requires some { 0 < count }
     requires fits { from + count ≤ 2 ^ 64 }
@@ -73,7 +75,10 @@ fn seek<R: Threads + Sync, S: Source, K: Sink>(
     ensures not_again { result ≡ 13 → EndsRefused K.refused K.faults sink.old sink.new }
 {
     match read_case(alloc, source) {
-        Ok(case) => tell_table(rt, alloc, &with_jitter(case, jitter), from, count, sink),
+        Ok(case) => {
+            let case = with_jitter(case, jitter);
+            tell_table(rt, alloc, &case, from, count, sink, progress)
+        }
         Err(refusal) => tell_refusal(sink, refusal),
     }
 }
@@ -112,15 +117,18 @@ fn shrink<S: Source, K: Sink>(
 /// With `jitter TICKS` each seed moves each `at` line by up to so many ticks to later, by the words that come after its picks,
 /// one for each line of the scenario; and what `shrink` writes has the moved ticks.
 ///
+/// While `seeds` goes on it is told how far it is, in rounds; nothing of that is on the sink.
+///
 /// Where `kmdfsim` refuses the input, its line is written, with its status; where a comment `#!` can't be read, a line that
 /// names its line, with the status 10. For other words there is a line of usage, with the
 /// status 2. Where the sink fails the status is 13.
-pub fn hunt<R: Threads + Sync, S: Source, K: Sink>(
+pub fn hunt<R: Threads + Sync, S: Source, K: Sink, P: Progress>(
     rt: &R,
     alloc: Global,
     words: &[String],
     source: &mut S,
     sink: &mut K,
+    progress: &mut P,
 ) -> u8
     ensures told { Tells (form_of_words (map string_bytes words.now))
         (sourcing (S.left source.old) (S.left source.new) (S.faults source.old) (S.faults source.new))
@@ -133,7 +141,7 @@ pub fn hunt<R: Threads + Sync, S: Source, K: Sink>(
             from,
             count,
             jitter,
-        }) => seek(rt, alloc, from, count, jitter, source, sink),
+        }) => seek(rt, alloc, from, count, jitter, source, sink, progress),
         Some(Form::Shrink { seed, jitter }) => shrink(alloc, seed, jitter, source, sink),
         None => say(sink, USAGE, USAGE_STATUS),
     }
