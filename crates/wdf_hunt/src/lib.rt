@@ -8,9 +8,11 @@
 
 mod read;
 mod story;
+mod suite;
 mod table;
 mod top;
 mod words;
 
+pub use suite::suite_line;
 pub use top::hunt;
 pub use words::Form;

@@ -14,7 +14,6 @@ use crate::words::{Form, form_of};
 use std::alloc::Global;
 use std::thread::Threads;
 use wdf_io::{Sink, Source};
-use wdf_lines::one_number;
 use wdf_output::{say, tell};
 
 /// What is written for words of no form.
@@ -34,11 +33,7 @@ fn tell_refusal<K: Sink>(sink: &mut K, refusal: CaseRefusal) -> u8
 {
     match refusal {
         CaseRefusal::Scenario { refusal } => tell(sink, refusal),
-        CaseRefusal::Unread { line } => say(
-            sink,
-            one_number(b"expect refused at line ", line, b": BadLine\n").bytes(),
-            UNREAD_STATUS,
-        ),
+        CaseRefusal::Unread { .. } => say(sink, refusal.line().bytes(), UNREAD_STATUS),
     }
 }
 
