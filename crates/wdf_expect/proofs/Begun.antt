@@ -28,8 +28,8 @@ begun_at ps ws i place p inside is =
 
 -- one word that isn't there is enough
 pub stops : (all here there rest said : Bool) → all ≡ here → here ≡ (there && rest) → said ≡ there → said ≡ false → false ≡ all
-stops all here there rest said is by same no = sym (is ∙ by ∙ ap (λ b. b && rest) (sym same ∙ no))
+stops all here there rest said is by same said_not = sym (is ∙ by ∙ ap (λ b. b && rest) (sym same ∙ said_not))
 
 -- else the others decide
 pub goes_on : (all here there rest said : Bool) → all ≡ here → here ≡ (there && rest) → said ≡ there → said ≡ true → all ≡ rest
-goes_on all here there rest said is by same yes = is ∙ by ∙ ap (λ b. b && rest) (sym same ∙ yes)
+goes_on all here there rest said is by same said_so = is ∙ by ∙ ap (λ b. b && rest) (sym same ∙ said_so)
