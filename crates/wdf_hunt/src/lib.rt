@@ -13,6 +13,6 @@ mod table;
 mod top;
 mod words;
 
-pub use suite::suite_line;
+pub use suite::{suite_line, unread_file_line};
 pub use top::hunt;
-pub use words::Form;
+pub use words::{Form, Range, suite_of};

@@ -1,6 +1,7 @@
 //! The line of a file in a suite of scenarios.
 ghost use Rattle.std.specs.Prelude.{◌≡◌, ◌+◌, ◌≤◌, ◌++◌, ◌^◌, ℕ, IfErr, IfOk, OnOk, length};
 ghost use Rattle.std.specs.Option.{option_copied};
+ghost use Rattle.wdf_output.specs.Refusals.{read_fault_line};
 ghost use Rattle.wdf_parse.specs.declared.parsing.TheConstants.{TEXT_LIMIT};
 ghost use Rattle.wdf_top.specs.Causes.{IsTextCause};
 ghost use Rattle.wdf_scene.specs.Naming.{HasProperNames};
@@ -181,4 +182,15 @@ pub fn suite_line<R: Threads + Sync>(
         Ok(case) => case_line(rt, alloc, number, name, &case, from, count),
         Err(refusal) => Ok((bad_line(alloc, number, name, refusal.line().bytes())?, 1)),
     }
+}
+
+/// The line of a file that couldn't be read.
+///
+/// # Errors
+///
+/// [`Memory`] where memory was refused.
+pub fn unread_file_line(alloc: Global, number: u64, name: &[u8]) -> Result<Text, Memory>
+    ensures { IfOk result (λ line. line ≡ bad_line number name.now read_fault_line) }
+{
+    bad_line(alloc, number, name, b"read fault\n")
 }

@@ -17,7 +17,7 @@ use wdf_io::{Sink, Source};
 use wdf_output::{say, tell};
 
 /// What is written for words of no form.
-const USAGE: &[u8] = b"usage: kmdfhunt seeds FROM COUNT | shrink N\n";
+const USAGE: &[u8] = b"usage: kmdfhunt seeds FROM COUNT | shrink N | test FOLDER [FROM COUNT]\n";
 
 /// The status of words of no form.
 const USAGE_STATUS: u8 = 2;
