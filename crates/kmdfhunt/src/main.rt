@@ -12,10 +12,12 @@ mod suite;
 use std::alloc::{AllocError, Global};
 use std::env::Args;
 use std::process::ExitCode;
+use std::rt::Files;
+use std::thread::Threads;
 use std::{env, io};
 use suite::tell_suite;
 use wdf_hunt::{hunt, suite_of};
-use wdf_io::{ReadSource, WriteSink};
+use wdf_io::{ReadSource, Sink, Source, WriteSink};
 
 /// The status of a program that has no memory for its words.
 const NO_MEMORY: u8 = 15;
@@ -29,20 +31,25 @@ fn words_of(alloc: Global, arguments: io::Result<Args>) -> Result<Vec<String>, A
     Ok(words)
 }
 
-/// Serves these words over the program's input and output, and answers the status to end with.
-fn serve(rt: &HostRuntime, words: &[String]) -> u8 {
-    let mut sink = WriteSink::new(rt.stdout());
-    if let ([_, folder, ..], Some(range)) = (words, suite_of(words)) {
-        return tell_suite(rt, folder.as_str(), range, &mut sink);
+/// Serves these words, and answers the status to end with.
+fn serve<R: Threads + Sync + Files + AllocGlobal + Clone + Drop, S: Source, K: Sink>(
+    rt: &R,
+    words: &[String],
+    source: &mut S,
+    sink: &mut K,
+) -> u8 {
+    match (words, suite_of(words)) {
+        ([_, folder, ..], Some(range)) => tell_suite(rt, folder.as_str(), range, sink),
+        _ => hunt(rt, rt.alloc(), words, source, sink),
     }
-    let mut source = ReadSource::new(rt.stdin());
-    hunt(rt, rt.alloc(), words, &mut source, &mut sink)
 }
 
-/// Serves the program's arguments, and ends with the status that is answered.
+/// Serves the program's arguments over its input and its output, and ends with the status that is answered.
 fn main(rt: HostRuntime) -> ExitCode {
+    let mut source = ReadSource::new(rt.stdin());
+    let mut sink = WriteSink::new(rt.stdout());
     let status = match words_of(rt.alloc(), env::args(&rt)) {
-        Ok(words) => serve(&rt, words.as_slice()),
+        Ok(words) => serve(&rt, words.as_slice(), &mut source, &mut sink),
         Err(_) => NO_MEMORY,
     };
     ExitCode::from(status)

@@ -2,6 +2,8 @@
 ghost use Rattle.std.specs.Prelude.{◌+◌, ◌≤◌, ◌^◌};
 
 use std::alloc::Global;
+use std::rt::Files;
+use std::thread::Threads;
 use std::{fs, io};
 use wdf_base::Memory;
 use wdf_hunt::{Range, suite_line, unread_file_line};
@@ -19,7 +21,10 @@ const BAD: u8 = 1;
 const ENDING: &str = ".kmdf";
 
 /// The names of a folder's scenarios, in their order.
-fn names_in(rt: &HostRuntime, folder: &str) -> io::Result<Vec<String>> {
+fn names_in<R: Files + AllocGlobal + Clone + Drop>(
+    rt: &R,
+    folder: &str,
+) -> io::Result<Vec<String>> {
     let mut names = Vec::new(rt.alloc());
     for entry in fs::read_dir(rt, folder)? {
         let entry = entry?;
@@ -32,14 +37,14 @@ fn names_in(rt: &HostRuntime, folder: &str) -> io::Result<Vec<String>> {
 }
 
 /// The text of a file in a folder.
-fn text_in(rt: &HostRuntime, folder: &str, name: &str) -> io::Result<Vec<u8>> {
+fn text_in<R: Files + AllocGlobal>(rt: &R, folder: &str, name: &str) -> io::Result<Vec<u8>> {
     let path = format!(in rt.alloc(); "{folder}/{name}")?;
     fs::read(rt, path.as_str())
 }
 
 /// The line of a file, and its status.
-fn file_line(
-    rt: &HostRuntime,
+fn file_line<R: Threads + Sync + Files + AllocGlobal>(
+    rt: &R,
     number: u64,
     folder: &str,
     name: &str,
@@ -62,8 +67,8 @@ fn file_line(
 }
 
 /// Writes the line of a file, and answers its status.
-fn tell_file<K: Sink>(
-    rt: &HostRuntime,
+fn tell_file<R: Threads + Sync + Files + AllocGlobal, K: Sink>(
+    rt: &R,
     number: u64,
     folder: &str,
     name: &str,
@@ -96,8 +101,8 @@ fn tell_plan<K: Sink>(alloc: Global, count: usize, sink: &mut K) -> u8 {
 }
 
 /// Writes a line for each of these files, and answers the status to end with.
-fn tell_files<K: Sink>(
-    rt: &HostRuntime,
+fn tell_files<R: Threads + Sync + Files + AllocGlobal, K: Sink>(
+    rt: &R,
     folder: &str,
     names: &[String],
     range: Range,
@@ -119,7 +124,12 @@ fn tell_files<K: Sink>(
 /// Tries each scenario of a folder over the seeds of a range, and writes a line for each: `ok`, or `not ok` with the reason. The
 /// status is 0 where each is as it should be, else 1; 12 where the folder can't be read, 13 where the output fails, and 15 where
 /// memory was refused.
-pub fn tell_suite<K: Sink>(rt: &HostRuntime, folder: &str, range: Range, sink: &mut K) -> u8
+pub fn tell_suite<R: Threads + Sync + Files + AllocGlobal + Clone + Drop, K: Sink>(
+    rt: &R,
+    folder: &str,
+    range: Range,
+    sink: &mut K,
+) -> u8
     requires { range.from + range.count ≤ 2 ^ 64 }
 {
     match names_in(rt, folder) {
