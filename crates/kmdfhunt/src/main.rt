@@ -1,22 +1,28 @@
-//! `kmdfhunt`: how the runs of many seeds of a scenario end. It hands the system's arguments and streams to the program, which
-//! does the work.
+//! `kmdfhunt`: how the runs of many seeds of a scenario end. It hands the system's arguments, streams and files over to what does
+//! the work.
 //!
 //! # Choices
 //!
-//! - **When is there a line on standard error of how far it is?** Where standard error is a terminal, and the last word isn't
+//! - **Which files of a folder are a suite?** Those whose name ends in `.kmdf`, in the order of their names, byte by byte.
+//! - **When is there a line on standard error of how far a table is?** Where standard error is a terminal, and the last word isn't
 //!   `--no-progress`. The line is wiped at the end.
+//! - **When is a line of a suite written?** When its file is done, so that one sees how far it is.
 #![tactic(auto)]
 
 mod progress;
+mod suite;
 
 use std::alloc::{AllocError, Global};
 use std::env::Args;
 use std::io::IsTerminal;
 use std::process::ExitCode;
+use std::rt::Files;
+use std::thread::Threads;
 use std::{env, io};
 use progress::Line;
-use wdf_hunt::hunt;
-use wdf_io::{ReadSource, WriteSink};
+use suite::tell_suite;
+use wdf_hunt::{Progress, hunt, suite_of};
+use wdf_io::{ReadSource, Sink, Source, WriteSink};
 
 /// The status of a program that has no memory for its words.
 const NO_MEMORY: u8 = 15;
@@ -42,6 +48,25 @@ fn takes_no_progress(words: &mut Vec<String>) -> bool {
     is_last
 }
 
+/// Serves these words, and answers the status to end with.
+fn serve<
+    R: Threads + Sync + Files + AllocGlobal + Clone + Drop,
+    S: Source,
+    K: Sink,
+    P: Progress,
+>(
+    rt: &R,
+    words: &[String],
+    source: &mut S,
+    sink: &mut K,
+    progress: &mut P,
+) -> u8 {
+    match (words, suite_of(words)) {
+        ([_, folder, ..], Some(range)) => tell_suite(rt, folder.as_str(), range, sink),
+        _ => hunt(rt, rt.alloc(), words, source, sink, progress),
+    }
+}
+
 /// Serves the program's arguments over its input and its output, and ends with the status that is answered.
 fn main(rt: HostRuntime) -> ExitCode {
     let mut source = ReadSource::new(rt.stdin());
@@ -50,10 +75,9 @@ fn main(rt: HostRuntime) -> ExitCode {
         Ok(mut words) => {
             let is_quiet = takes_no_progress(&mut words);
             let mut line = Line::new(&rt, !is_quiet && rt.stderr().is_terminal());
-            hunt(
+            serve(
                 &rt,
-                rt.alloc(),
-                &words,
+                words.as_slice(),
                 &mut source,
                 &mut sink,
                 &mut line,

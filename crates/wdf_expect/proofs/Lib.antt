@@ -1,4 +1,3 @@
 pub mod Begun
 pub mod Found
 pub mod Followed
-pub mod Parted

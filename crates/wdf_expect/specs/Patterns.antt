@@ -1,5 +1,5 @@
 -- Patterns of the lines of a trace, by words. (own)
-use Rattle.std.specs.Prelude.{if◌then◌else◌, ℕ, ◌-◌, ◌&&◌, Bool, true, false, List, [], ◌∷◌, bytes_eq, codes, drop, length, nat_eq, take}
+use Rattle.std.specs.Prelude.{if◌then◌else◌, ℕ, ◌-◌, ◌&&◌, Bool, true, false, List, [], ◌∷◌, bytes_eq, codes, drop, length, nat_eq, take, Option, Some, None}
 use Rattle.std.specs.List.{ends_with, starts_with}
 use Rattle.wdf_base.specs.declared.plan.Plan.{Plan}
 use Rattle.wdf_base.specs.declared.event.Event.{Event}
@@ -11,6 +11,11 @@ use Rattle.wdf_trace.specs.Reading.{words}
 abbrev pub is_word : List ℕ → List ℕ → Bool
 is_word word pattern =
     if ends_with nat_eq pattern (codes "*") then starts_with nat_eq word (take (length pattern - 1) pattern) else bytes_eq word pattern
+
+-- there is a word, and it is one that a pattern's word stands for
+abbrev pub is_there : Option (List ℕ) → List ℕ → Bool
+is_there None pattern = false
+is_there (Some word) pattern = is_word word pattern
 
 -- the words begin with words that the pattern's stand for, one for each; more words may come after these
 abbrev pub is_begun_by : List (List ℕ) → List (List ℕ) → Bool

@@ -2,7 +2,7 @@
 ghost use Rattle.std.specs.Prelude.{◌≡◌, drop, slice_get};
 ghost use Rattle.std.specs.Option.{option_copied};
 ghost use Rattle.wdf_trace.specs.Reading.{parts, words};
-ghost use Rattle.wdf_expect.specs.Patterns.{is_begun_by, is_word, matches};
+ghost use Rattle.wdf_expect.specs.Patterns.{is_begun_by, is_there, is_word, matches};
 
 use std::marker::Model;
 use wdf_base::{Event, Plan};
@@ -41,16 +41,23 @@ fn part_at(text: &[u8], separator: u8, place: usize) -> Option<&[u8]>
     text.split(|byte| *byte == separator).nth(place)
 }
 
+/// Whether a line has a word at this place that a pattern's word stands for.
+fn is_there(line: &[u8], place: usize, pattern: &Text) -> bool
+    ensures { result ≡ is_there (slice_get (words line.now) place) pattern.now }
+{
+    match part_at(line, b' ', place) {
+        Some(word) => is_word(word, pattern.bytes()),
+        None => false,
+    }
+}
+
 /// Whether the words of a line after its first begin with words that these stand for.
 fn is_begun_by(pattern: &[Text], line: &[u8]) -> bool
     ensures { result ≡ is_begun_by pattern.now (drop 1 (words line.now)) }
 {
     let mut place = 1;
     for word in pattern {
-        let Some(said) = part_at(line, b' ', place) else {
-            return false;
-        };
-        if !is_word(said, word.bytes()) {
+        if !is_there(line, place, word) {
             return false;
         }
         place += 1;

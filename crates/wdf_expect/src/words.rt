@@ -1,6 +1,7 @@
 //! Rules by their words.
 ghost use Rattle.std.specs.Prelude.{◌≡◌, ◌<◌, IfOk, IfSome, length, position};
 ghost use Rattle.std.specs.Char.{is_ascii_digit};
+ghost use Rattle.std.specs.List.{list_all};
 ghost use Rattle.wdf_expect.specs.Reading.{after_in, both_in, fault_at, fault_wanted, is_comes, number_in, pattern_in, placed_wanted, plain_wanted, rule_in, rule_with, wanted_in};
 
 use crate::pattern::Pattern;
@@ -56,11 +57,18 @@ fn fault_wanted(word: &Text, name: &Text) -> Option<Wanted>
     }
 }
 
+/// Whether a word has digits alone.
+fn is_number(word: &[u8]) -> bool
+    ensures { result ≡ list_all is_ascii_digit word.now }
+{
+    word.iter().all(|byte| byte.is_ascii_digit())
+}
+
 /// The number that a word of digits writes.
 fn number_in(word: &[u8]) -> Option<u64>
     ensures { result ≡ number_in word.now }
 {
-    if word.iter().all(u8::is_ascii_digit) {
+    if is_number(word) {
         small_number(word)
     } else {
         None

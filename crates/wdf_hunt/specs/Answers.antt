@@ -18,7 +18,7 @@ use Rattle.wdf_hunt.specs.declared.words.Form.{Form}
 use Rattle.wdf_hunt.specs.declared.words.Form.TheVariants.{Seeds, Shrink}
 
 abbrev pub usage_line : List ℕ
-usage_line = codes "usage: kmdfhunt seeds FROM COUNT [jitter TICKS] | shrink N [jitter TICKS]\n"
+usage_line = codes "usage: kmdfhunt seeds FROM COUNT [jitter TICKS] | shrink N [jitter TICKS] | test FOLDER [FROM COUNT]\n"
 
 -- the line of a comment that begins with `#!` and can't be read
 abbrev pub unread_line : ℕ → List ℕ

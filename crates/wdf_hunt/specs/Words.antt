@@ -5,6 +5,7 @@ use Rattle.wdf_top.specs.Words.{number_word}
 use Rattle.wdf_jitter.specs.declared.moved.TheConstants.{LAST_TICK}
 use Rattle.wdf_hunt.specs.declared.words.Form.{Form}
 use Rattle.wdf_hunt.specs.declared.words.Form.TheVariants.{Seeds, Shrink}
+use Rattle.wdf_hunt.specs.declared.words.Range.{Range}
 
 -- a range of seeds: one at least and less than 2 ^ 32, and none of them past the last seed
 abbrev pub seeds_form : ℕ → ℕ → ℕ → Option Form
@@ -35,3 +36,26 @@ form_of_words (word ∷ number ∷ jitter ∷ most ∷ []) = option_and_then (λ
 form_of_words (word ∷ from ∷ count ∷ jitter ∷ most ∷ []) =
     option_and_then (λ n. option_and_then (λ m. option_and_then (form_with_numbers word n m) (jitter_in jitter most)) (number_word count)) (number_word from)
 form_of_words _ = None
+
+-- ---- suites
+
+-- the seeds of a suite that names none
+abbrev pub usual_range : Range
+usual_range = record { from = 0; count = 100 }
+
+-- a range of seeds, if it is one
+abbrev pub range_of : Option Form → Option Range
+range_of (Some (Seeds from count jitter)) = Some (record { from = from; count = count })
+range_of _ = None
+
+-- the seeds that two numbers name
+abbrev pub numbers_range : Option ℕ → Option ℕ → Option Range
+numbers_range (Some from) (Some count) = range_of (seeds_form from count 0)
+numbers_range None count = None
+numbers_range (Some from) None = None
+
+-- Over which seeds the words ask for a suite, if they do: `test FOLDER`, with a range of seeds or without.
+abbrev pub suite_of_words : List (List ℕ) → Option Range
+suite_of_words (word ∷ folder ∷ []) = if bytes_eq word (codes "test") then Some usual_range else None
+suite_of_words (word ∷ folder ∷ from ∷ count ∷ []) = if bytes_eq word (codes "test") then numbers_range (number_word from) (number_word count) else None
+suite_of_words _ = None

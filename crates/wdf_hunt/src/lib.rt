@@ -8,10 +8,12 @@
 
 mod read;
 mod story;
+mod suite;
 mod table;
 mod top;
 mod words;
 
+pub use suite::{suite_line, unread_file_line};
 pub use top::hunt;
 pub use wdf_hunters::Progress;
-pub use words::Form;
+pub use words::{Form, Range, suite_of};

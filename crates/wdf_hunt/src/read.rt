@@ -6,12 +6,13 @@ ghost use Rattle.wdf_refusals.specs.First.{first_refusal};
 ghost use Rattle.wdf_top.specs.Causes.{IsCause, all_of};
 ghost use Rattle.wdf_top.specs.Top.{IsRead, sourcing};
 ghost use Rattle.wdf_expect.specs.Reading.{IsErrorOf, expectations_of};
-ghost use Rattle.wdf_hunt.specs.Cases.{IsCaseRefusal, IsReadCase};
+ghost use Rattle.wdf_hunt.specs.Cases.{IsCaseRefusal, IsReadCase, case_refusal_line};
 
 use std::alloc::Global;
 use wdf_expect::{ExpectError, expectations_of};
 use wdf_input::read_whole;
 use wdf_io::Source;
+use wdf_lines::{Message, one_number};
 use wdf_output::Refusal;
 use wdf_parse::parse;
 use wdf_plan::resolve;
@@ -27,6 +28,20 @@ pub enum CaseRefusal {
     Unread { line: u32 },
 }
 
+impl CaseRefusal {
+    /// The line that gives the refusal, with its line feed.
+    pub fn line(self) -> Message
+        ensures { result ≡ case_refusal_line self }
+    {
+        match self {
+            CaseRefusal::Scenario { refusal } => refusal.line(),
+            CaseRefusal::Unread { line } => {
+                one_number(b"expect refused at line ", line, b": BadLine\n")
+            }
+        }
+    }
+}
+
 /// Reads the whole input, and its scene, which has a plan.
 fn read_scene<S: Source>(alloc: Global, source: &mut S) -> Result<(Scene, Vec<u8>), Refusal>
     ensures scene { IfOk result (λ (scene, text). IsRead (sourcing (S.left source.old) (S.left source.new) (S.faults source.old) (S.faults source.new)) text.items × StandsFor text.items scene × (first_refusal scene ≡ None)) }
@@ -39,7 +54,7 @@ fn read_scene<S: Source>(alloc: Global, source: &mut S) -> Result<(Scene, Vec<u8
 }
 
 /// A scene with the expectations of its text.
-fn case_of(alloc: Global, scene: Scene, text: &[u8]) -> Result<Case, ExpectError>
+pub(crate) fn case_of(alloc: Global, scene: Scene, text: &[u8]) -> Result<Case, ExpectError>
     requires { length text.now ≤ TEXT_LIMIT }
     ensures scene { IfOk result (λ case. case.scene ≡ scene) }
     ensures expectations { IfOk result (λ case. expectations_of text.now ≡ Ok case.expectations) }

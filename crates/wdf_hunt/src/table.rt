@@ -18,7 +18,7 @@ use wdf_tries::{Case, Hunted};
 use wdf_writing::Text;
 
 /// How often a range is halved among threads.
-const HALVINGS: u32 = 5;
+pub(crate) const HALVINGS: u32 = 5;
 
 /// The table of what the tries of a range came to, and its status.
 fn table_of(alloc: Global, hunted: Hunted, from: u64, count: u32) -> Result<(Text, u8), Memory>

@@ -15,12 +15,12 @@ use std::alloc::Global;
 use std::thread::Threads;
 use wdf_hunters::Progress;
 use wdf_io::{Sink, Source};
-use wdf_lines::one_number;
 use wdf_output::{say, tell};
 use wdf_tries::Case;
 
 /// What is written for words of no form.
-const USAGE: &[u8] = b"usage: kmdfhunt seeds FROM COUNT [jitter TICKS] | shrink N [jitter TICKS]\n";
+const USAGE: &[u8] =
+    b"usage: kmdfhunt seeds FROM COUNT [jitter TICKS] | shrink N [jitter TICKS] | test FOLDER [FROM COUNT]\n";
 
 /// The status of words of no form.
 const USAGE_STATUS: u8 = 2;
@@ -36,11 +36,7 @@ fn tell_refusal<K: Sink>(sink: &mut K, refusal: CaseRefusal) -> u8
 {
     match refusal {
         CaseRefusal::Scenario { refusal } => tell(sink, refusal),
-        CaseRefusal::Unread { line } => say(
-            sink,
-            one_number(b"expect refused at line ", line, b": BadLine\n").bytes(),
-            UNREAD_STATUS,
-        ),
+        CaseRefusal::Unread { .. } => say(sink, refusal.line().bytes(), UNREAD_STATUS),
     }
 }
 

@@ -1,6 +1,6 @@
 //! The words of the program.
-ghost use Rattle.std.specs.Prelude.{◌≡◌, map, string_bytes};
-ghost use Rattle.wdf_hunt.specs.Words.{form_of_words, form_with_number, form_with_numbers, jitter_in, jitter_of, seeds_form};
+ghost use Rattle.std.specs.Prelude.{◌≡◌, ◌+◌, ◌≤◌, ◌^◌, IfSome, map, string_bytes};
+ghost use Rattle.wdf_hunt.specs.Words.{form_of_words, form_with_number, form_with_numbers, jitter_in, jitter_of, numbers_range, seeds_form, suite_of_words};
 
 use wdf_jitter::LAST_TICK;
 use wdf_top::number_word;
@@ -99,4 +99,59 @@ pub(crate) fn form_of(words: &[String]) -> Option<Form>
         ),
         _ => None,
     }
+}
+
+/// Seeds from one on, so many.
+#[derive(Clone, Copy)]
+pub struct Range {
+    /// The first seed.
+    pub from: u64,
+    /// How many there are.
+    pub count: u32,
+}
+
+/// The seeds of a suite that names none.
+const USUAL_RANGE: Range = Range {
+    from: 0,
+    count: 100,
+};
+
+/// The seeds that two numbers name, if they are a range.
+fn numbers_range(from: Option<u64>, count: Option<u64>) -> Option<Range>
+    ensures { result ≡ numbers_range from count }
+{
+    match seeds_form(from?, count?, 0) {
+        Some(Form::Seeds { from, count, .. }) => Some(Range { from, count }),
+        _ => None,
+    }
+}
+
+fn suite_range(words: &[String]) -> Option<Range>
+    ensures { result ≡ suite_of_words (map string_bytes words.now) }
+{
+    match words {
+        [word, _] => {
+            if word.as_str() == "test" {
+                Some(USUAL_RANGE)
+            } else {
+                None
+            }
+        }
+        [word, _, from, count] => {
+            if word.as_str() == "test" {
+                numbers_range(number_word(from.as_bytes()), number_word(count.as_bytes()))
+            } else {
+                None
+            }
+        }
+        _ => None,
+    }
+}
+
+/// Over which seeds the words ask for a suite, if they do: `test FOLDER`, or `test FOLDER FROM COUNT`.
+pub fn suite_of(words: &[String]) -> Option<Range>
+    ensures range { result ≡ suite_of_words (map string_bytes words.now) }
+    ensures fits { IfSome result (λ range. range.from + range.count ≤ 2 ^ 64) }
+{
+    suite_range(words)
 }

@@ -1,6 +1,6 @@
 -- What is written of a table, and its status. (own)
-use Rattle.std.specs.Prelude.{if◌then◌else◌, ℕ, ◌==◌, ◌+◌, ◌-◌, ◌++◌, List, [], ◌∷◌, codes, decimal, fold, min, nat_eq}
-use Rattle.std.specs.List.{starts_with}
+use Rattle.std.specs.Prelude.{if◌then◌else◌, ℕ, ◌==◌, ◌+◌, ◌-◌, ◌++◌, Bool, List, [], ◌∷◌, codes, decimal, fold, min, nat_eq, Option}
+use Rattle.std.specs.List.{find, starts_with}
 use Rattle.wdf_table.specs.declared.row.Row.{Row}
 
 -- ---- statuses
@@ -22,6 +22,14 @@ worse a b = if a == 0 then b else (if b == 0 then a else min a b)
 -- The status of a table: that of its worst kind, and 0 where each run finished, or ended as expected.
 abbrev pub table_status : List Row → ℕ
 table_status rows = fold (λ status row. worse status (kind_status row.kind)) 0 rows
+
+-- a row is of a kind with this status
+abbrev pub has_status : ℕ → Row → Bool
+has_status status row = kind_status row.kind == status
+
+-- the first row of the worst kind
+unfoldable pub worst_row : List Row → Option Row
+worst_row rows = find (has_status (table_status rows)) rows
 
 -- ---- lines
 

@@ -1,5 +1,6 @@
 ghost use Rattle.std.specs.Prelude.{◌≡◌, ◌+◌, ◌-◌, ◌<◌, ◌≤◌, ◌^◌, ◌++◌, IfOk, OnOk};
-ghost use Rattle.wdf_table.specs.Lines.{kind_status, row_lines, row_text, table_status, table_text, total_text, worse};
+ghost use Rattle.std.specs.Option.{option_copied};
+ghost use Rattle.wdf_table.specs.Lines.{has_status, kind_status, row_lines, row_text, table_status, table_text, total_text, worse, worst_row};
 
 use crate::row::Row;
 use crate::tally::Tally;
@@ -35,6 +36,13 @@ fn worse(a: u8, b: u8) -> u8
     } else {
         a.min(b)
     }
+}
+
+/// Whether a row is of a kind with this status.
+fn has_status(status: u8, row: &Row) -> bool
+    ensures { result ≡ has_status status row.now }
+{
+    kind_status(row.kind.bytes()) == status
 }
 
 /// Adds the line of a row.
@@ -112,5 +120,13 @@ impl Tally {
         ensures small { result ≤ 5 }
     {
         self.worst()
+    }
+    /// The first row of the worst kind.
+    #[tactic(auto, unfolding(crate::specs::Lines::worst_row))]
+    pub fn worst_row(&self) -> Option<&Row>
+        ensures { option_copied result ≡ worst_row self.now }
+    {
+        let status = self.worst();
+        self.rows().iter().find(|row| has_status(status, row))
     }
 }
