@@ -16,9 +16,9 @@ use Rattle.wdf_hunt.specs.Answers.{unread_line}
 abbrev pub IsReadScene : Sourcing → List ℕ → Scene → Type 0
 IsReadScene s input scene = IsRead s input × StandsFor input scene × (first_refusal scene ≡ None)
 
--- a case was read: a scene that has a plan, with the expectations of its text
+-- a case was read: a scene that has a plan, with the expectations of its text, and nothing to move
 abbrev pub IsReadCase : Sourcing → Case → Type 0
-IsReadCase s tried = (input : List ℕ) × IsReadScene s input tried.scene × (expectations_of input ≡ Ok tried.expectations)
+IsReadCase s tried = (input : List ℕ) × IsReadScene s input tried.scene × (expectations_of input ≡ Ok tried.expectations) × (tried.jitter ≡ 0)
 
 -- none was: the input has no plan, or a comment of it can't be read
 abbrev pub IsCaseRefusal : Sourcing → CaseRefusal → Type 0

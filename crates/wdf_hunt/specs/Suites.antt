@@ -22,9 +22,9 @@ use Rattle.wdf_hunt.specs.Cases.{case_refusal_line}
 abbrev pub IsSceneOf : List ℕ → Scene → Type 0
 IsSceneOf text scene = StandsFor text scene × (first_refusal scene ≡ None)
 
--- a text's case
+-- a text's case, in which nothing is moved
 abbrev pub IsCaseOf : List ℕ → Case → Type 0
-IsCaseOf text tried = IsSceneOf text tried.scene × (expectations_of text ≡ Ok tried.expectations)
+IsCaseOf text tried = IsSceneOf text tried.scene × (expectations_of text ≡ Ok tried.expectations) × (tried.jitter ≡ 0)
 
 -- why a text has none
 abbrev pub IsNoCase : List ℕ → CaseRefusal → Type 0

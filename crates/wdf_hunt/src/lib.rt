@@ -15,4 +15,5 @@ mod words;
 
 pub use suite::{suite_line, unread_file_line};
 pub use top::hunt;
+pub use wdf_hunters::Progress;
 pub use words::{Form, Range, suite_of};

@@ -58,12 +58,14 @@ pub(crate) fn case_of(alloc: Global, scene: Scene, text: &[u8]) -> Result<Case, 
     requires { length text.now ≤ TEXT_LIMIT }
     ensures scene { IfOk result (λ case. case.scene ≡ scene) }
     ensures expectations { IfOk result (λ case. expectations_of text.now ≡ Ok case.expectations) }
+    ensures unmoved { IfOk result (λ case. case.jitter ≡ 0) }
     ensures refused { IfErr result (IsErrorOf (expectations_of text.now)) }
 {
     let expectations = expectations_of(alloc, text)?;
     Ok(Case {
         scene,
         expectations,
+        jitter: 0,
     })
 }
 

@@ -11,7 +11,7 @@ ghost use Rattle.wdf_hunt.specs.Answers.{IsTableText, TellsDue};
 use std::alloc::Global;
 use std::thread::Threads;
 use wdf_base::Memory;
-use wdf_hunters::hunt_threads;
+use wdf_hunters::{Progress, hunt_rounds};
 use wdf_io::Sink;
 use wdf_output::{Refusal, say, tell};
 use wdf_tries::{Case, Hunted};
@@ -35,12 +35,13 @@ fn table_of(alloc: Global, hunted: Hunted, from: u64, count: u32) -> Result<(Tex
 }
 
 /// The table of a case's runs by the seeds of a range, and its status.
-fn hunted_table<R: Threads + Sync>(
+fn hunted_table<R: Threads + Sync, P: Progress>(
     rt: &R,
     alloc: Global,
     case: &Case,
     from: u64,
     count: u32,
+    progress: &mut P,
 ) -> Result<(Text, u8), Memory>
     requires scene { IsScene case.now.scene }
     requires names { HasProperNames case.now.scene }
@@ -49,18 +50,19 @@ fn hunted_table<R: Threads + Sync>(
     ensures due { IfOk result (λ (text, status). IsTableText case.now from count text status) }
     ensures small { IfOk result (λ (text, status). status ≤ 5) }
 {
-    let hunted = hunt_threads(rt, alloc, case, from, count, HALVINGS)?;
+    let hunted = hunt_rounds(rt, alloc, case, from, count, HALVINGS, progress)?;
     table_of(alloc, hunted, from, count)
 }
 
 /// Writes the table of a case's runs by the seeds of a range, or the line `out of memory`.
-pub(crate) fn tell_table<R: Threads + Sync, K: Sink>(
+pub(crate) fn tell_table<R: Threads + Sync, K: Sink, P: Progress>(
     rt: &R,
     alloc: Global,
     case: &Case,
     from: u64,
     count: u32,
     sink: &mut K,
+    progress: &mut P,
 ) -> u8
     requires scene { IsScene case.now.scene }
     requires names { HasProperNames case.now.scene }
@@ -71,7 +73,7 @@ pub(crate) fn tell_table<R: Threads + Sync, K: Sink>(
         result }
     ensures not_again { result ≡ 13 → EndsRefused K.refused K.faults sink.old sink.new }
 {
-    match hunted_table(rt, alloc, case, from, count) {
+    match hunted_table(rt, alloc, case, from, count, progress) {
         Ok((text, status)) => say(sink, text.bytes(), status),
         Err(memory) => tell(sink, Refusal::from(memory)),
     }

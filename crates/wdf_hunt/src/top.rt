@@ -3,7 +3,7 @@ ghost use Rattle.std.specs.Prelude.{◌≡◌, ◌+◌, ◌<◌, ◌≤◌, ◌^
 ghost use Rattle.wdf_io.specs.Outside.{EndsRefused};
 ghost use Rattle.wdf_output.specs.Said.{Says, sinking};
 ghost use Rattle.wdf_top.specs.Top.{TellsBy, sourcing};
-ghost use Rattle.wdf_hunt.specs.Answers.{Tells, seeking, shrinking};
+ghost use Rattle.wdf_hunt.specs.Answers.{Tells, seeking, shrinking, with_jitter};
 ghost use Rattle.wdf_hunt.specs.Cases.{case_refusal_line, case_refusal_status};
 ghost use Rattle.wdf_hunt.specs.Words.{form_of_words};
 
@@ -13,11 +13,14 @@ use crate::table::tell_table;
 use crate::words::{Form, form_of};
 use std::alloc::Global;
 use std::thread::Threads;
+use wdf_hunters::Progress;
 use wdf_io::{Sink, Source};
 use wdf_output::{say, tell};
+use wdf_tries::Case;
 
 /// What is written for words of no form.
-const USAGE: &[u8] = b"usage: kmdfhunt seeds FROM COUNT | shrink N | test FOLDER [FROM COUNT]\n";
+const USAGE: &[u8] =
+    b"usage: kmdfhunt seeds FROM COUNT [jitter TICKS] | shrink N [jitter TICKS] | test FOLDER [FROM COUNT]\n";
 
 /// The status of words of no form.
 const USAGE_STATUS: u8 = 2;
@@ -37,39 +40,61 @@ fn tell_refusal<K: Sink>(sink: &mut K, refusal: CaseRefusal) -> u8
     }
 }
 
+/// A case with so many ticks by which a seed may move a line.
+fn with_jitter(case: Case, jitter: u32) -> Case
+    ensures { result ≡ with_jitter jitter case }
+{
+    Case {
+        scene: case.scene,
+        expectations: case.expectations,
+        jitter,
+    }
+}
+
 /// Reads a scenario, and writes the table of its runs by the seeds of a range, or says why it can't.
-fn seek<R: Threads + Sync, S: Source, K: Sink>(
+fn seek<R: Threads + Sync, S: Source, K: Sink, P: Progress>(
     rt: &R,
     alloc: Global,
     from: u64,
     count: u32,
+    jitter: u32,
     source: &mut S,
     sink: &mut K,
+    progress: &mut P,
 ) -> u8
     requires some { 0 < count }
     requires fits { from + count ≤ 2 ^ 64 }
-    ensures told { TellsBy (seeking from count)
+    ensures told { TellsBy (seeking from count jitter)
         (sourcing (S.left source.old) (S.left source.new) (S.faults source.old) (S.faults source.new))
         (sinking (K.written sink.old) (K.written sink.new) (K.faults sink.old) (K.faults sink.new))
         result }
     ensures not_again { result ≡ 13 → EndsRefused K.refused K.faults sink.old sink.new }
 {
     match read_case(alloc, source) {
-        Ok(case) => tell_table(rt, alloc, &case, from, count, sink),
+        Ok(case) => {
+            let case = with_jitter(case, jitter);
+            tell_table(rt, alloc, &case, from, count, sink, progress)
+        }
         Err(refusal) => tell_refusal(sink, refusal),
     }
 }
 
 /// Reads a scenario, and writes the story of a seed, or says why it can't.
-fn shrink<S: Source, K: Sink>(alloc: Global, seed: u64, source: &mut S, sink: &mut K) -> u8
-    ensures told { TellsBy (shrinking seed)
+fn shrink<S: Source, K: Sink>(
+    alloc: Global,
+    seed: u64,
+    jitter: u32,
+    source: &mut S,
+    sink: &mut K,
+) -> u8
+    ensures told { TellsBy (shrinking seed jitter)
         (sourcing (S.left source.old) (S.left source.new) (S.faults source.old) (S.faults source.new))
         (sinking (K.written sink.old) (K.written sink.new) (K.faults sink.old) (K.faults sink.new))
         result }
     ensures not_again { result ≡ 13 → EndsRefused K.refused K.faults sink.old sink.new }
 {
     match read_case(alloc, source) {
-        Ok(case) => tell_story(alloc, &case, seed, sink),
+        Ok(case) => tell_story(alloc, with_jitter(case, jitter), seed, sink),
         Err(refusal) => tell_refusal(sink, refusal),
     }
 }
@@ -85,15 +110,21 @@ fn shrink<S: Source, K: Sink>(alloc: Global, seed: u64, source: &mut S, sink: &m
 /// `shrink N` reads a scenario, and looks for plain picks whose run is of the kind of the seed's run, with no more events.
 /// It writes the scenario in canonical form with an `order` block of these picks. The status is 0.
 ///
+/// With `jitter TICKS` each seed moves each `at` line by up to so many ticks to later, by the words that come after its picks,
+/// one for each line of the scenario; and what `shrink` writes has the moved ticks.
+///
+/// While `seeds` goes on it is told how far it is, in rounds; nothing of that is on the sink.
+///
 /// Where `kmdfsim` refuses the input, its line is written, with its status; where a comment `#!` can't be read, a line that
 /// names its line, with the status 10. For other words there is a line of usage, with the
 /// status 2. Where the sink fails the status is 13.
-pub fn hunt<R: Threads + Sync, S: Source, K: Sink>(
+pub fn hunt<R: Threads + Sync, S: Source, K: Sink, P: Progress>(
     rt: &R,
     alloc: Global,
     words: &[String],
     source: &mut S,
     sink: &mut K,
+    progress: &mut P,
 ) -> u8
     ensures told { Tells (form_of_words (map string_bytes words.now))
         (sourcing (S.left source.old) (S.left source.new) (S.faults source.old) (S.faults source.new))
@@ -102,8 +133,12 @@ pub fn hunt<R: Threads + Sync, S: Source, K: Sink>(
     ensures not_again { result ≡ 13 → EndsRefused K.refused K.faults sink.old sink.new }
 {
     match form_of(words) {
-        Some(Form::Seeds { from, count }) => seek(rt, alloc, from, count, source, sink),
-        Some(Form::Shrink { seed }) => shrink(alloc, seed, source, sink),
+        Some(Form::Seeds {
+            from,
+            count,
+            jitter,
+        }) => seek(rt, alloc, from, count, jitter, source, sink, progress),
+        Some(Form::Shrink { seed, jitter }) => shrink(alloc, seed, jitter, source, sink),
         None => say(sink, USAGE, USAGE_STATUS),
     }
 }

@@ -15,7 +15,7 @@ use wdf_tries::{Case, Hunted, hunt_range};
 const FEW: u32 = 64;
 
 /// What two ranges come to that follow one another.
-fn both(first: Hunted, second: Hunted) -> Result<Hunted, Memory>
+pub(crate) fn both(first: Hunted, second: Hunted) -> Result<Hunted, Memory>
     requires seeds { all_seeds first.tally + all_seeds second.tally < 2 ^ 64 }
     requires events { first.events + second.events < 2 ^ 64 }
     ensures hunt { (tried : Case) (from m n : ℕ) → IsHuntOf tried from m first → IsHuntOf tried (from + m) n second → IfOk result (IsHuntOf tried from (m + n)) }

@@ -1,28 +1,15 @@
 //! The story of a seed.
 ghost use Rattle.std.specs.Prelude.{◌≡◌, IfOk, OnOk};
-ghost use Rattle.wdf_plan.specs.Plans.{plan_of};
-ghost use Rattle.wdf_run.specs.Seeds.{seed_words};
 ghost use Rattle.wdf_scene.specs.Naming.{HasProperNames};
 ghost use Rattle.wdf_scene.specs.Written.{IsScene};
 ghost use Rattle.wdf_shrink.specs.Stories.{IsStory, IsStoryOfSeed};
 
+use crate::places::places_of;
 use crate::search::{clear_blocks, cut_tail, lower_picks, take};
 use crate::told::{Told, told_of};
-use crate::words::{places_of, words_of_seed};
 use std::alloc::Global;
 use wdf_base::Memory;
-use wdf_scene::Scene;
-use wdf_tries::{Case, opened};
-
-/// The most events of a run of a scene's plan.
-fn limit_of(alloc: Global, scene: &Scene) -> Result<u32, Memory>
-    requires scene { IsScene scene.now }
-    requires names { HasProperNames scene.now }
-    ensures { IfOk result (λ limit. limit ≡ (plan_of scene.now).limit) }
-{
-    let core = opened(alloc, scene)?;
-    Ok(core.plan().limit())
-}
+use wdf_tries::{Case, limit_of, words_of_seed};
 
 /// Picks without the zeros at their end, since a missing pick is 0.
 fn without_zeros(alloc: Global, picks: &[u64]) -> Result<Vec<u64>, Memory> {
@@ -62,7 +49,7 @@ pub fn story_of_seed(alloc: Global, case: &Case, seed: u64) -> Result<Vec<u64>, 
     ensures { IfOk result (λ picks. IsStoryOfSeed case.now seed picks.items) }
 {
     let limit = limit_of(alloc, &case.scene)?;
-    let mut picks = words_of_seed(alloc, seed, limit)?;
+    let mut picks = words_of_seed(alloc, seed, u64::from(limit))?;
     let goal = told_of(alloc, case, picks.as_slice())?;
     shrink(alloc, case, &goal, &mut picks)?;
     Ok(picks)

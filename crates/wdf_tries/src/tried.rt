@@ -9,4 +9,6 @@ pub struct Case {
     pub scene: Scene,
     /// What is expected.
     pub expectations: Expectations,
+    /// By how many ticks at most each seed moves each `at` line to later.
+    pub jitter: u32,
 }

@@ -1,6 +1,6 @@
 -- What is said of the case that was read, and of what is none.
 use Rattle.wdf_parse.proofs.ProperNames.{stands_scene, stands_properly}
-use Rattle.wdf_hunt.specs.Answers.{IsTableText}
+use Rattle.wdf_hunt.specs.Answers.{IsTableText, with_jitter}
 use Rattle.wdf_hunt.proofs.Told.{case_refusal_told, due_told}
 use Rattle.wdf_hunt.proofs.top.seek.Goals as goal
 
@@ -12,12 +12,12 @@ tell_table-requires-clause-names g c = λ lifetimes outlive. stands_properly c.i
 
 pub returns-in-Ok : goal.returns-in-Ok
 returns-in-Ok g c = record {
-  told = due_told (λ tried text status. IsTableText tried c.args.from c.args.count text status) _ _ c.in-Ok.case _ c.in-Ok.ensures c.tell_table.ensures.told;
+  told = due_told (λ tried text status. IsTableText (with_jitter c.args.jitter tried) c.args.from c.args.count text status) _ _ c.in-Ok.case _ c.in-Ok.ensures c.tell_table.ensures.told;
   not_again = c.tell_table.ensures.not_again;
 }
 
 pub returns-in-Err : goal.returns-in-Err
 returns-in-Err g c = record {
-  told = case_refusal_told (λ tried text status. IsTableText tried c.args.from c.args.count text status) _ _ c.in-Err.refusal _ c.in-Err.ensures c.tell_refusal.ensures.said;
+  told = case_refusal_told (λ tried text status. IsTableText (with_jitter c.args.jitter tried) c.args.from c.args.count text status) _ _ c.in-Err.refusal _ c.in-Err.ensures c.tell_refusal.ensures.said;
   not_again = c.tell_refusal.ensures.not_again;
 }
