@@ -133,11 +133,13 @@ pub fn hunt<R: Threads + Sync, S: Source, K: Sink, P: Progress>(
     ensures not_again { result ≡ 13 → EndsRefused K.refused K.faults sink.old sink.new }
 {
     match form_of(words) {
-        Some(Form::Seeds {
-            from,
-            count,
-            jitter,
-        }) => seek(rt, alloc, from, count, jitter, source, sink, progress),
+        Some(
+            Form::Seeds {
+                from,
+                count,
+                jitter,
+            },
+        ) => seek(rt, alloc, from, count, jitter, source, sink, progress),
         Some(Form::Shrink { seed, jitter }) => shrink(alloc, seed, jitter, source, sink),
         None => say(sink, USAGE, USAGE_STATUS),
     }
