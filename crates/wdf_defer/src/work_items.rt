@@ -35,6 +35,14 @@ fn empty_set(alloc: Global, bound: u32) -> Result<IdSet, Memory>
     Ok(IdSet::make(alloc, bound)?)
 }
 
+/// A set has no member any more.
+fn clear_set(set: &mut IdSet)
+    ensures members { members set.new ≡ [] }
+    ensures room { length set.new ≡ length set.old }
+{
+    set.clear();
+}
+
 impl WorkItems {
     /// No work item is queued. On [`Memory`] nothing is made.
     pub fn make(alloc: Global, _plan: &Plan) -> Result<WorkItems, Memory>
@@ -43,6 +51,13 @@ impl WorkItems {
         Ok(WorkItems {
             queued: empty_set(alloc, OBJECTS)?,
         })
+    }
+
+    /// No work item is queued once more.
+    pub fn begin_again(&mut self)
+        ensures { self.new ≡ work_items.no_work_items }
+    {
+        clear_set(&mut self.queued);
     }
 
     /// How many work items are queued.

@@ -44,6 +44,14 @@ impl<T: Entry> Rising<T> {
         })
     }
 
+    /// There is no entry any more.
+    pub fn clear(&mut self)
+        ensures room { self.new.room ≡ self.old.room }
+        ensures entries { self.new.entries ≡ [] }
+    {
+        self.entries.clear();
+    }
+
     /// How many entries there are.
     pub fn len(&self) -> u32
         ensures { result ≡ length self.now.entries }

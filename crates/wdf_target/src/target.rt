@@ -52,6 +52,15 @@ impl Target {
         }
     }
 
+    /// The target as it is at the opening once more, where it has the declared depth.
+    pub(crate) fn begin_again(&mut self, info: Option<TargetInfo>)
+        requires { self.old.depth ≡ (targets.opening_target info).depth }
+        ensures { self.new ≡ targets.opening_target info }
+    {
+        self.stopped = info.is_none();
+        self.sent.clear();
+    }
+
     /// How many requests it holds.
     pub(crate) fn len(&self) -> u32
         ensures { result ≡ length self.now.sent }
