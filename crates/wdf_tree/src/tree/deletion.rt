@@ -31,7 +31,7 @@ impl Tree {
         ensures done { self.new ≡ tree.ask_one self.old o.0 }
         ensures size { length self.new.nodes ≡ length self.old.nodes }
     {
-        if self.life(o) == Life::Live {
+        if self.life(o).is_live() {
             self.nodes[o.0 as usize].life = Life::Asked;
             self.asked.put(o.0, true);
             note_around(&mut self.turns, &self.nodes, &self.waiting, o, None);
@@ -106,10 +106,10 @@ impl Tree {
     pub fn may_clean(&self, o: ObjectId) -> bool
         ensures { result ≡ tree.may_clean self.now o.0 }
     {
-        if self.life(o) != Life::Asked || !self.are_children_clean(o) {
+        if !self.life(o).is_asked() || !self.are_children_clean(o) {
             return false;
         }
-        self.life(self.parent(o)) != Life::Asked || self.are_younger_clean(o)
+        !self.life(self.parent(o)).is_asked() || self.are_younger_clean(o)
     }
 
     /// The cleanup of an object is done.
@@ -135,7 +135,7 @@ impl Tree {
     pub fn may_destroy(&self, o: ObjectId) -> bool
         ensures { result ≡ tree.may_destroy self.now o.0 }
     {
-        self.life(o) == Life::Cleaned && self.references(o) == 0 && self.has_no_child(o)
+        self.life(o).is_cleaned() && self.references(o) == 0 && self.has_no_child(o)
     }
 
     /// An object is destroyed, and nothing of it is kept.

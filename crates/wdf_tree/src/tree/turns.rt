@@ -44,9 +44,9 @@ fn is_turn(nodes: &[Node], waiting: &Links, o: ObjectId) -> bool
     ensures { result ≡ is_turn_by nodes.now waiting.now.lists o.0 }
 {
     let parent = parent_in(nodes, o);
-    life_in(nodes, o) == Life::Asked
+    life_in(nodes, o).is_asked()
         && waiting.is_empty(o.0)
-        && (life_in(nodes, parent) != Life::Asked || is_id(waiting.back(parent.0), o.0))
+        && (!life_in(nodes, parent).is_asked() || is_id(waiting.back(parent.0), o.0))
 }
 
 /// Notes whether an object's turn has come.
