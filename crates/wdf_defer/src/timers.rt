@@ -138,6 +138,15 @@ impl Timers {
         })
     }
 
+    /// No timer is queued once more.
+    pub fn begin_again(&mut self)
+        ensures { self.new ≡ timers.no_timers }
+    {
+        self.queued.clear();
+        self.latest = 0;
+        self.least = None;
+    }
+
     /// How many timers are queued.
     pub fn len(&self) -> u32
         ensures { result ≡ length self.now.queued }

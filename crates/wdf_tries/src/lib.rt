@@ -2,8 +2,8 @@
 //!
 //! # Choices
 //!
-//! - **Why is a plan resolved anew for each seed?** A core keeps its plan. That costs a part of what the opening of the
-//!   machine costs.
+//! - **Does each run take memory anew?** No: the tries of a range share one core, which begins anew for each seed. Only
+//!   the agents are made for each run; they have little.
 #![tactic(auto)]
 
 mod kind;

@@ -5,6 +5,7 @@ ghost use Rattle.wdf_scene.specs.Written.{IsScene};
 ghost use Rattle.wdf_table.specs.Tables.{all_seeds};
 ghost use Rattle.wdf_tries.specs.Tries.{IsHuntOf};
 
+use crate::opening::opened;
 use crate::seed::try_seed;
 use std::alloc::Global;
 use wdf_base::Memory;
@@ -20,7 +21,7 @@ pub struct Hunted {
     pub events: u64,
 }
 
-/// The tries of so many seeds, from this one on.
+/// The tries of so many seeds, from this one on. One core begins anew for each.
 ///
 /// # Errors
 ///
@@ -33,10 +34,11 @@ pub fn hunt_range(alloc: Global, scene: &Scene, from: u64, count: u32) -> Result
     ensures seeds { IfOk result (λ hunted. all_seeds hunted.tally ≡ count) }
     ensures events { IfOk result (λ hunted. hunted.events ≤ count * 2 ^ 32) }
 {
+    let mut core = opened(alloc, scene)?;
     let mut tally = Tally::new(alloc);
     let mut events = 0;
     for k in 0..count {
-        let row = try_seed(alloc, scene, from + u64::from(k))?;
+        let row = try_seed(alloc, &mut core, from + u64::from(k))?;
         events += row.events;
         tally.add(row)?;
     }

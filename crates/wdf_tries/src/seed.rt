@@ -1,32 +1,26 @@
-ghost use Rattle.std.specs.Prelude.{◌≡◌, ◌<◌, ◌^◌, IfOk};
+ghost use Rattle.std.specs.Prelude.{◌≡◌, ◌<◌, ◌^◌, IfOk, OnOk};
 ghost use Rattle.wdf_dev.specs.Agents.{agent_meaning};
 ghost use Rattle.wdf_model.specs.rules.Ready.{IsPickedRun};
-ghost use Rattle.wdf_plan.specs.Plans.{plan_of};
-ghost use Rattle.wdf_scene.specs.Naming.{HasProperNames};
-ghost use Rattle.wdf_scene.specs.Written.{IsScene};
 ghost use Rattle.wdf_run.specs.Seeds.{seed_words};
 ghost use Rattle.wdf_tries.specs.Tries.{IsTryOf};
 
 use crate::kind::kind_of;
-use crate::opening::opened;
+use crate::opening::reopen;
 use std::alloc::Global;
 use wdf_base::Memory;
 use wdf_core::Core;
 use wdf_dev::AnyAgent;
 use wdf_run::run_seed;
-use wdf_scene::Scene;
 use wdf_table::Row;
 
-/// The run that the words of a seed pick, at its end.
-fn run_of_seed(alloc: Global, scene: &Scene, seed: u64) -> Result<Core<AnyAgent>, Memory>
-    requires scene { IsScene scene.now }
-    requires names { HasProperNames scene.now }
-    ensures plan { IfOk result (λ core. core.plan ≡ plan_of scene.now) }
-    ensures picked { IfOk result (λ core. IsPickedRun (plan_of scene.now) agent_meaning (seed_words seed (plan_of scene.now).limit) core.journal) }
+/// Makes the run that the words of a seed pick, to its end, from the opening on.
+fn run_again(alloc: Global, core: &mut Core<AnyAgent>, seed: u64) -> Result<(), Memory>
+    ensures plan { core.new.plan ≡ core.old.plan }
+    ensures picked { OnOk result (IsPickedRun core.old.plan agent_meaning (seed_words seed core.old.plan.limit) core.new.journal) }
 {
-    let mut core = opened(alloc, scene)?;
-    run_seed(&mut core, seed);
-    Ok(core)
+    reopen(alloc, core)?;
+    run_seed(core, seed);
+    Ok(())
 }
 
 /// The row of a run that the words of a seed have picked.
@@ -45,18 +39,18 @@ fn row_of_run(alloc: Global, core: &Core<AnyAgent>, seed: u64) -> Result<Row, Me
     })
 }
 
-/// The try of a seed: the kind in which its run ends, and how many events that has.
+/// The try of a seed: the kind in which its run ends, and how many events that has. The run is made in a core of the plan,
+/// which begins anew for it.
 ///
 /// # Errors
 ///
-/// [`Memory`] where memory was refused, or where the scene has no plan.
-pub fn try_seed(alloc: Global, scene: &Scene, seed: u64) -> Result<Row, Memory>
-    requires scene { IsScene scene.now }
-    requires names { HasProperNames scene.now }
-    ensures row { IfOk result (IsTryOf (plan_of scene.now) seed) }
+/// [`Memory`] where memory was refused.
+pub fn try_seed(alloc: Global, core: &mut Core<AnyAgent>, seed: u64) -> Result<Row, Memory>
+    ensures plan { core.new.plan ≡ core.old.plan }
+    ensures row { IfOk result (IsTryOf core.old.plan seed) }
     ensures few { IfOk result (λ row. row.events < 2 ^ 32) }
     ensures one { IfOk result (λ row. row.count ≡ 1) }
 {
-    let core = run_of_seed(alloc, scene, seed)?;
-    row_of_run(alloc, &core, seed)
+    run_again(alloc, core, seed)?;
+    row_of_run(alloc, core, seed)
 }
