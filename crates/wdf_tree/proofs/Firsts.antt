@@ -21,7 +21,7 @@ use Rattle.wdf_tree.specs.GoFirst.{go_first}
 use Rattle.wdf_tree.specs.Inside.{EndsAlone, ends_alone}
 use Rattle.wdf_tree.specs.Kin.{HoldsKin, is_kin, is_waiting, places, is_left}
 use Rattle.wdf_tree.proofs.Children.{same_place, left_children}
-use Rattle.wdf_tree.proofs.Kept.{all_of_entry, asked_as_same, asked_stands, cleaned_as_same}
+use Rattle.wdf_tree.proofs.Kept.{all_of_entry, asked_stands}
 use Rattle.wdf_tree.proofs.Kin.{on_places, place_on, places_by_ids}
 
 -- ---- rising ids

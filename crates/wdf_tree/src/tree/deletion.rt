@@ -102,7 +102,7 @@ impl Tree {
     /// Whether the cleanup of an object may come, by lives alone: its deletion was asked, no child
     /// waits for cleanup, and, where the deletion of its parent was asked too, no younger sibling
     /// does (own).
-    #[tactic(auto, using(crate::proofs::Kept::there_if_asked, crate::proofs::Kept::asked_as_same))]
+    #[tactic(auto, using(crate::proofs::Kept::there_if_asked))]
     pub fn may_clean(&self, o: ObjectId) -> bool
         ensures { result ≡ tree.may_clean self.now o.0 }
     {
@@ -131,7 +131,7 @@ impl Tree {
 
     /// Whether an object may be destroyed, by the tree alone: its cleanup is done, no reference is
     /// held, and no child is left (KMDF).
-    #[tactic(auto, using(crate::proofs::Kept::there_if_cleaned, crate::proofs::Kept::cleaned_as_same))]
+    #[tactic(auto, using(crate::proofs::Kept::there_if_cleaned))]
     pub fn may_destroy(&self, o: ObjectId) -> bool
         ensures { result ≡ tree.may_destroy self.now o.0 }
     {

@@ -16,7 +16,6 @@ use wdf_sets::IdSet;
 
 /// Whether an object may be destroyed: it is cleaned up, the driver holds no reference to it, and no child of it is
 /// left.
-#[tactic(auto, using(crate::proofs::Kept::cleaned_as_same))]
 fn is_end(nodes: &[Node], children: &Links, o: ObjectId) -> bool
     ensures { result ≡ is_end_by nodes.now children.now.lists o.0 }
 {

@@ -28,7 +28,7 @@ returns-then-not-is_asked c =
     let few = ap (λ (ns : List Node). length ns) view in
     let cleaned : is_cleaned (life_of V o) ≡ false = ap is_cleaned (sym c.life.ensures) ∙ sym c.is_cleaned.ensures ∙ c.if-is_cleaned.false in
     let mine : list_at c.self.inside.waiting.lists o ≡ places (is_kin is_waiting o) 0 V.nodes = c.self.invariant.kept.waiting_kin.kin o (omega arith) ∙ ap (places (is_kin is_waiting o) 0) view in
-    let asked : is_asked (life_of V (parent_of V o)) ≡ false = ap (λ q. is_asked (life_of V q)) (sym c.parent.ensures) ∙ ap is_asked (sym c.life-2.ensures) ∙ sym c.is_asked.ensures ∙ c.if-is_asked.false in
+    let asked : is_asked (life_of V (parent_of V o)) ≡ false = ap (λ q. is_asked (life_of V q)) (sym c.parent.ensures) ∙ ap is_asked (sym c.life-2.ensures) ∙ sym c.is_asked.ensures ∙ c.if-not-is_asked.true in
     c.front-child.ensures.first ∙ ap first_of mine ∙ sym (first_child V o cleaned asked)
 
 pub returns : goal.returns
@@ -39,7 +39,7 @@ returns c =
     let few = ap (λ (ns : List Node). length ns) view in
     let cleaned : is_cleaned (life_of V o) ≡ false = ap is_cleaned (sym c.life.ensures) ∙ sym c.is_cleaned.ensures ∙ c.if-is_cleaned.false in
     let mine : list_at c.self.inside.waiting.lists o ≡ places (is_kin is_waiting o) 0 V.nodes = c.self.invariant.kept.waiting_kin.kin o (omega arith) ∙ ap (places (is_kin is_waiting o) 0) view in
-    let asked : is_asked (life_of V (parent_of V o)) ≡ true = ap (λ q. is_asked (life_of V q)) (sym c.parent.ensures) ∙ ap is_asked (sym c.life-2.ensures) ∙ sym c.is_asked.ensures ∙ c.if-is_asked.true in
+    let asked : is_asked (life_of V (parent_of V o)) ≡ true = ap (λ q. is_asked (life_of V q)) (sym c.parent.ensures) ∙ ap is_asked (sym c.life-2.ensures) ∙ sym c.is_asked.ensures ∙ c.if-not-is_asked.false in
     let kin = subst (λ ns. HoldsKin is_waiting ns c.self.inside.waiting) view c.self.invariant.kept.waiting_kin in
     let waits = waits_under_asked V.nodes o (subst EndsAlone view c.self.invariant.kept.ends) c.requires.there cleaned asked in
     let above = there_if_asked V.nodes (parent_of V o) asked in
