@@ -18,7 +18,7 @@ pub rank_none : (n x : ℕ) → rank x (replicate n false) ≡ 0
 rank_none zero zero = refl
 rank_none zero (suc x) = refl
 rank_none (suc n) zero = refl
-rank_none (suc n) (suc x) = rank_cons x false (replicate n false) ∙ rank_none n x
+rank_none (suc n) (suc x) = let tail = rank_none n x in let head : rank (suc x) (false ∷ replicate n false) ≡ 0 + rank x (replicate n false) = rank_cons x false (replicate n false) in omega arith
 
 more_by : (bits : List Bool) (x : ℕ) (b : Bool) → x < length bits → is_in x bits ≡ b → rank (x + 1) bits ≡ rank x bits + one b
 more_by bits x true h e = count_by_more_yes (λ b. b) bits x false h e
