@@ -134,7 +134,7 @@ impl Holdings {
 
     /// Nothing is held, from any queue of a plan of as many ids, once more.
     pub(crate) fn begin_again(&mut self, plan: &Plan)
-        requires ids { length self.old.queues ≡ 1 + length plan.now.declared }
+        requires { length self.old.queues ≡ 1 + length plan.now.declared }
         ensures { self.new ≡ opening_holdings plan.now }
     {
         write_queues(&mut self.queues, plan);

@@ -74,7 +74,7 @@ impl Power {
 
     /// The opening of a plan's run once more, of as many ids.
     pub fn begin_again(&mut self, plan: &Plan)
-        requires ids { length self.old.devices ≡ 1 + length plan.now.declared }
+        requires { length self.old.devices ≡ 1 + length plan.now.declared }
         ensures { self.new ≡ power.opening_power plan.now }
     {
         write_devices(&mut self.devices, plan);

@@ -61,7 +61,7 @@ impl Control {
 
     /// The control at the opening of a plan's run once more, of as many ids.
     pub fn begin_again(&mut self, plan: &Plan)
-        requires ids { length self.old.controls ≡ 1 + length plan.now.declared }
+        requires { length self.old.controls ≡ 1 + length plan.now.declared }
         ensures { self.new ≡ control.opening_control plan.now }
     {
         self.closed.clear();

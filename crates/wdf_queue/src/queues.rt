@@ -52,7 +52,7 @@ impl Queues {
 
     /// The queues at the opening of a plan's run once more, of as many ids.
     pub fn begin_again(&mut self, plan: &Plan)
-        requires ids { length self.old.dispatch ≡ 1 + length plan.now.declared }
+        requires { length self.old.dispatch ≡ 1 + length plan.now.declared }
         ensures { self.new ≡ queues.opening_queues plan.now }
     {
         self.waiting.clear();

@@ -15,15 +15,15 @@ loop-k-init c = record {
   room = rw (c.push_reserved.ensures.capacity, c.clear.ensures.capacity) c.requires;
 }
 
-pub push_reserved-2-requires : goal.push_reserved-2-requires
-push_reserved-2-requires c = omega (arith, c.loop-k.invariant.as_many, c.loop-k.invariant.room)
+pub push_reserved-in-loop-k-requires : goal.push_reserved-in-loop-k-requires
+push_reserved-in-loop-k-requires c = omega (arith, c.loop-k.invariant.as_many, c.loop-k.invariant.room)
 
 pub loop-k-preserved : goal.loop-k-preserved
 loop-k-preserved c =
     let id = c.loop-k.k + 1 in
     let here : 0 + id ≡ id = omega arith in
     record {
-      those = rw (c.push_reserved-2.ensures.items, c.loop-k.invariant.those, map-range_with_len_more (λ q. opening_dispatch (queue_of c.args.plan.now q)) 0 id id here, c.declared.ensures, ← c.opening_dispatch.ensures) refl;
-      as_many = omega (arith, c.push_reserved-2.ensures.len, c.loop-k.invariant.as_many);
-      room = rw c.push_reserved-2.ensures.capacity c.loop-k.invariant.room;
+      those = rw (c.push_reserved-in-loop-k.ensures.items, c.loop-k.invariant.those, map-range_with_len_more (λ q. opening_dispatch (queue_of c.args.plan.now q)) 0 id id here, c.declared.ensures, ← c.opening_dispatch.ensures) refl;
+      as_many = omega (arith, c.push_reserved-in-loop-k.ensures.len, c.loop-k.invariant.as_many);
+      room = rw c.push_reserved-in-loop-k.ensures.capacity c.loop-k.invariant.room;
     }
