@@ -103,7 +103,7 @@ impl Cpus {
     {
         let _ = plan;
         self.frames.clear();
-        clear_stacks(self.stacks.as_mut_slice());
+        clear_stacks(&mut self.stacks);
         self.parked.clear();
         self.levels.clear();
         self.live.clear();
@@ -115,7 +115,14 @@ impl Cpus {
 }
 
 /// Each processor is empty again.
-fn clear_stacks(stacks: &mut [Stack])
+fn clear_stacks(stacks: &mut Vec<Stack>)
+    ensures { stacks.new.items ≡ map (λ _. []) stacks.old.items }
+{
+    clear_each(stacks.as_mut_slice());
+}
+
+/// Each of these processors is empty again.
+fn clear_each(stacks: &mut [Stack])
     ensures { stacks.new ≡ map (λ _. []) stacks.old }
 {
     for stack in stacks.iter_mut() {

@@ -10,7 +10,7 @@ pub invariant_of-self : goal.invariant_of-self
 invariant_of-self c =
     let none : List ℕ = [] in
     let many : length c.self.inside.stacks.items ≡ c.args.plan.now.cpus = ap (λ (C : Cpus). length C.stacks) c.self.view_is ∙ c.requires in
-    let stacks : c.clear_stacks.new.stacks ≡ replicate c.args.plan.now.cpus [] = c.clear_stacks.ensures ∙ sym (splat_is_map c.self.inside.stacks.items c.args.plan.now.cpus none many) in
+    let stacks : c.clear_stacks.new.stacks.items ≡ replicate c.args.plan.now.cpus [] = c.clear_stacks.ensures ∙ sym (splat_is_map c.self.inside.stacks.items c.args.plan.now.cpus none many) in
     record {
       frames_room = rw c.clear.ensures.capacity c.self.invariant.frames_room;
       live_room = rw c.clear-4.ensures.capacity c.self.invariant.live_room;
@@ -25,5 +25,5 @@ pub returns : goal.returns
 returns c =
     let none : List ℕ = [] in
     let many : length c.self.inside.stacks.items ≡ c.args.plan.now.cpus = ap (λ (C : Cpus). length C.stacks) c.self.view_is ∙ c.requires in
-    let stacks : c.clear_stacks.new.stacks ≡ replicate c.args.plan.now.cpus [] = c.clear_stacks.ensures ∙ sym (splat_is_map c.self.inside.stacks.items c.args.plan.now.cpus none many) in
+    let stacks : c.clear_stacks.new.stacks.items ≡ replicate c.args.plan.now.cpus [] = c.clear_stacks.ensures ∙ sym (splat_is_map c.self.inside.stacks.items c.args.plan.now.cpus none many) in
     rw (c.clear.ensures.items, stacks, c.clear-2.ensures.entries, c.clear-3.ensures) refl

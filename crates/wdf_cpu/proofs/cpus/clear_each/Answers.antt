@@ -1,7 +1,7 @@
 -- One stack more is empty.
 use Rattle.std.proofs.Common.{◌<◌, [], length, arith}
 use Rattle.std.proofs.lemmas.List.Edits.{map_over_more}
-use Rattle.wdf_cpu.proofs.cpus.clear_stacks.Goals as goal
+use Rattle.wdf_cpu.proofs.cpus.clear_each.Goals as goal
 
 pub loop-stack-preserved : goal.loop-stack-preserved
 loop-stack-preserved c =
