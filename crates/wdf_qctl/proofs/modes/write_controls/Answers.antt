@@ -15,8 +15,8 @@ loop-k-init c = record {
   room = rw (c.push_reserved.ensures.capacity, c.clear.ensures.capacity) c.requires;
 }
 
-pub push_reserved-in-loop-k-requires : goal.push_reserved-in-loop-k-requires
-push_reserved-in-loop-k-requires c = omega (arith, c.loop-k.invariant.as_many, c.loop-k.invariant.room)
+pub push_reserved-requires-in-loop-k : goal.push_reserved-requires-in-loop-k
+push_reserved-requires-in-loop-k c = omega (arith, c.loop-k.invariant.as_many, c.loop-k.invariant.room)
 
 pub loop-k-preserved : goal.loop-k-preserved
 loop-k-preserved c =
