@@ -128,7 +128,7 @@ impl Timers {
     {
         self.queued.clear();
         self.latest = 0;
-        self.least = None;
+        self.floors.clear();
     }
 
     /// How many timers are queued.

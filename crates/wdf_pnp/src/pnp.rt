@@ -30,9 +30,10 @@ fn begin_all(devices: &mut Vec<Sequence>, plan: &Plan)
     requires steps { (d : ℕ) → (entry pnp.no_sequence devices.old.items d).steps ≡ (sequence_at plan.now d).steps }
     ensures { devices.new.items ≡ (pnp.opening_pnp plan.now).devices }
 {
-    for id in 0..1 + plan.declared_len() {
-        let device = &mut devices[id as usize];
-        device.begin_again(plan, ObjectId(id));
+    let ids = 1 + plan.declared_len() as usize;
+    for id in 0..ids {
+        let device = &mut devices[id];
+        device.begin_again(plan, ObjectId(id as u32));
     }
 }
 

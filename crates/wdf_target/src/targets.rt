@@ -53,9 +53,10 @@ fn begin_all(all: &mut Vec<Target>, plan: &Plan)
     requires depths { (t : ℕ) → (entry targets.no_target all.old.items t).depth ≡ (targets.the_target (targets.opening_targets plan.now) t).depth }
     ensures { all.new.items ≡ (targets.opening_targets plan.now).targets }
 {
-    for id in 0..1 + plan.declared_len() {
-        let target = &mut all[id as usize];
-        target.begin_again(target_of(plan, ObjectId(id)));
+    let ids = plan.declared_len() as usize + 1;
+    for id in 0..ids {
+        let target = &mut all[id];
+        target.begin_again(target_of(plan, ObjectId(id as u32)));
     }
 }
 

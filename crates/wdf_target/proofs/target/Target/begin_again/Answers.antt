@@ -12,4 +12,4 @@ opened None = refl
 opened (Some i) = refl
 
 pub returns : goal.returns
-returns c = rw (ap (λ (t : Target). t.depth) c.self.view_is ∙ c.requires, c.is_none.ensures, c.clear.ensures.entries) (opened c.args.info)
+returns c = rw (ap (λ (t : Target). t.depth) c.self.view_is ∙ c.requires, c.is_none-self-inside.ensures, c.clear.ensures.entries) (opened c.args.info)
