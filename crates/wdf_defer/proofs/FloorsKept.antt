@@ -2,7 +2,7 @@
 -- a search may pass over.
 use Rattle.std.proofs.Common.{if◌then◌else◌, ℕ, suc, zero, ◌≡◌, ◌+◌, ◌*◌, ◌/◌, ◌<◌, ◌≤◌, Bool, true, false, not, ◌==◌, nat_lt, nat_le, ◌&&◌, ◌||◌, List, [], ◌∷◌, slice_get, Option, Some, None, is_some, ◌⊎◌, inl, inr, refl, sym, ap, ◌∙◌, subst, arith}
 use Rattle.std.specs.List.{list_all}
-use Rattle.std.proofs.lemmas.Bool.{cases_Bool, eqb-false, eqb-true, leb-true, le-leb, ltb-false, ltb-true}
+use Rattle.std.proofs.lemmas.Bool.{cases_Bool, eq-eqb, eqb-false, eqb-true, le-leb, leb-true, ltb-false, ltb-true}
 use Rattle.std.proofs.lemmas.Bool.Decides.{nat_tests}
 use Rattle.wdf_model.specs.declared.room.TheConstants.{OBJECTS}
 use Rattle.wdf_model.specs.declared.entries.Timed.{Timed}
@@ -12,11 +12,11 @@ use Rattle.wdf_model.proofs.Maps.{entry_put_other, entry_put_same}
 use Rattle.wdf_model.proofs.Tests.{both, both_left, both_right}
 use Rattle.wdf_maps.specs.Places.{SplitsAt, entry_of, others, rises, with_entry}
 use Rattle.wdf_maps.proofs.EntriesById.{entry_below, others_absent}
-use Rattle.wdf_maps.proofs.PlacesOfKeys.{keys_rise, rises_high, rises_rest}
+use Rattle.wdf_maps.proofs.PlacesOfKeys.{key_from, keys_rise, rises_high, rises_rest}
 use Rattle.wdf_sets.specs.Nexts.{NoneFrom}
 use Rattle.wdf_defer.specs.Floors.{IsFloor, NEVER, are_floors, floor_of}
 use Rattle.wdf_defer.specs.Ticks.{timer_id}
-use Rattle.wdf_defer.specs.Timers.{is_due_at}
+use Rattle.wdf_defer.specs.Timers.{AreApart, is_due_at}
 
 -- ---- lists whose timers all pass a test
 
@@ -176,3 +176,23 @@ none_there ts o (Some t) is off = absurd (let z : ⊥ = cc in z)
 -- none goes where it isn't there
 pub nothing_went : (floors : List ℕ) (ts after : List Timed) (o : ℕ) → are_floors floors ts ≡ true → is_some (entry_of timer_id ts o) ≡ false → after ≡ others timer_id o ts → are_floors floors after ≡ true
 nothing_went floors ts after o h off is = subst (λ us. are_floors floors us ≡ true) (sym (is ∙ others_absent timer_id o ts (none_there ts o (entry_of timer_id ts o) refl off))) h
+
+-- ---- each timer is found by its id
+
+own_by : (x t : Timed) (ts : List Timed) (b : Bool) → timer_id x < timer_id t → (timer_id x == timer_id t) ≡ b → entry_of timer_id ts (timer_id t) ≡ Some t → (if b then Some x else entry_of timer_id ts (timer_id t)) ≡ Some t
+own_by x t ts true low e rest = absurd (let same = eqb-true (timer_id x) (timer_id t) e in omega arith)
+own_by x t ts false low e rest = rest
+
+own_place : (low high k : ℕ) (ts : List Timed) (t : Timed) → rises timer_id low high ts ≡ true → slice_get ts k ≡ Some t → entry_of timer_id ts (timer_id t) ≡ Some t
+own_place low high k [] t h at = absurd (let z : ⊥ = cc in z)
+own_place low high zero (x ∷ ts) t h at =
+    let same : x ≡ t = cc in
+    let itself : (timer_id x == timer_id t) ≡ true = eq-eqb (timer_id x) (timer_id t) (ap timer_id same) in
+    rw (itself, same) refl
+own_place low high (suc k) (x ∷ ts) t h at =
+    let rest = rises_rest timer_id low high x ts h in
+    let above = key_from timer_id (suc (timer_id x)) high k ts t rest at in
+    own_by x t ts (timer_id x == timer_id t) (omega arith) refl (own_place (suc (timer_id x)) high k ts t rest at)
+
+pub apart : (ts : List Timed) → rises timer_id 0 OBJECTS ts ≡ true → AreApart (record { queued = ts })
+apart ts h = record { found = λ k t at. own_place 0 OBJECTS k ts t h at }

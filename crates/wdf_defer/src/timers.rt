@@ -5,7 +5,7 @@ ghost use Rattle.wdf_maps.specs.Places.{rises, with_entry};
 ghost use Rattle.wdf_sets.specs.Nexts.{IsNext, NoneFrom};
 ghost use Rattle.wdf_defer.specs.Floors.{IsFloor, are_floors};
 ghost use Rattle.wdf_defer.specs.Ticks.{Replaces, due_tick, earlier, earliest_of, latest_of, timer_id};
-ghost use Rattle.wdf_defer.specs.Timers.{is_due_at};
+ghost use Rattle.wdf_defer.specs.Timers.{AreApart, is_due_at};
 
 use crate::floors::{BLOCK, Floors, NEVER};
 use std::alloc::Global;
@@ -170,7 +170,8 @@ impl Timers {
     /// The first place from one on, by rising id, of a queued timer whose due tick is reached. Timers of 64 ids are passed
     /// over at once where none of them is due.
     pub fn next_due(&self, from: u32, now: u64) -> Option<u32>
-        ensures { MatchOption result (NoneFrom (is_due_at self.now now) from (length self.now.queued)) (λ place. IsNext (is_due_at self.now now) from (length self.now.queued) place) }
+        ensures next { MatchOption result (NoneFrom (is_due_at self.now now) from (length self.now.queued)) (λ place. IsNext (is_due_at self.now now) from (length self.now.queued) place) }
+        ensures apart { AreApart self.now }
     {
         let mut at = from;
         'search: while at < self.queued.len() {

@@ -48,7 +48,8 @@ module _ {T : Type 0} (key : T → ℕ) where
       let r = at_least (suc (key x)) high i xs d (rises_rest low high x xs h) (omega arith) in
       omega arith
 
-  key_from : (low high j : ℕ) (xs : List T) (y : T) → rises key low high xs ≡ true → slice_get xs j ≡ Some y → low ≤ key y
+  -- the key of an item of the list is from the lowest on
+  pub key_from : (low high j : ℕ) (xs : List T) (y : T) → rises key low high xs ≡ true → slice_get xs j ≡ Some y → low ≤ key y
   key_from low high j [] y h to = absurd (let z : ⊥ = cc in z)
   key_from low high zero (w ∷ xs) y h to = let same : w ≡ y = cc in let s : key w ≡ key y = ap key same in let a = rises_low low high w xs h in omega arith
   key_from low high (suc j) (w ∷ xs) y h to =
