@@ -30,6 +30,16 @@ impl Model for Target {
     ghost invariant = { IsSound };
 }
 
+/// Whether a target is stopped at the opening: what is no target is.
+fn opening_stopped(info: Option<TargetInfo>) -> bool
+    ensures { result ≡ (targets.opening_target info).stopped }
+{
+    match info {
+        Some(_) => false,
+        None => true,
+    }
+}
+
 impl Target {
     /// A target that has nothing. On [`Memory`] nothing is made.
     fn make(alloc: Global, depth: u64, stopped: bool) -> Result<Target, Memory>
@@ -57,7 +67,7 @@ impl Target {
         requires { self.old.depth ≡ (targets.opening_target info).depth }
         ensures { self.new ≡ targets.opening_target info }
     {
-        self.stopped = info.is_none();
+        self.stopped = opening_stopped(info);
         self.sent.clear();
     }
 

@@ -11,8 +11,8 @@ use Rattle.wdf_tree.proofs.tree.Tree.clear.Goals as goal
 pub push_reserved-requires : goal.push_reserved-requires
 push_reserved-requires c = let room = c.self.invariant.kept.room_for_nodes in omega (arith, c.clear.ensures.len, c.clear.ensures.capacity)
 
-pub push_reserved-2-requires : goal.push_reserved-2-requires
-push_reserved-2-requires c = let room = c.self.invariant.kept.room_for_devices in omega (arith, c.clear-2.ensures.len, c.clear-2.ensures.capacity)
+pub push_reserved-requires-2 : goal.push_reserved-requires-2
+push_reserved-requires-2 c = let room = c.self.invariant.kept.room_for_devices in omega (arith, c.clear-2.ensures.len, c.clear-2.ensures.capacity)
 
 pub invariant_of-self : goal.invariant_of-self
 invariant_of-self c =
