@@ -23,11 +23,7 @@ use wdf_plan_index::IndexedPlan;
 use wdf_steps::{may, own_event};
 
 /// An event, if it may come.
-fn allowed<A: Agent>(
-    plan: &IndexedPlan,
-    parts: &Parts<A>,
-    event: Option<Event>,
-) -> Option<Event>
+fn allowed<A: Agent>(plan: &IndexedPlan, parts: &Parts<A>, event: Option<Event>) -> Option<Event>
     ensures { result ≡ search.if_allowed plan.now A.meaning parts.now event }
 {
     let event = event?;
