@@ -24,13 +24,13 @@ pub returns-in-Parks : goal.returns-in-Parks
 returns-in-Parks g c = c.allowed.ensures ∙ ap (if_allowed c.args.plan.now g.A.Agent.meaning c.args.parts.now) c.parks.ensures ∙ ap (λ h. offered c.args.plan.now g.A.Agent.meaning c.args.parts.now h c.args.place) (sym c.in-Parks.is)
 
 pub returns-in-Unparks : goal.returns-in-Unparks
-returns-in-Unparks g c = c.allowed.ensures ∙ ap (if_allowed c.args.plan.now g.A.Agent.meaning c.args.parts.now) c.unparks.ensures ∙ ap (λ h. offered c.args.plan.now g.A.Agent.meaning c.args.parts.now h c.args.place) (sym c.in-Unparks.is)
+returns-in-Unparks g c = c.allowed-in-Unparks.ensures ∙ ap (if_allowed c.args.plan.now g.A.Agent.meaning c.args.parts.now) c.unparks.ensures ∙ ap (λ h. offered c.args.plan.now g.A.Agent.meaning c.args.parts.now h c.args.place) (sym c.in-Unparks.is)
 
 pub returns-in-StartsFor : goal.returns-in-StartsFor
-returns-in-StartsFor g c = c.allowed.ensures ∙ ap (if_allowed c.args.plan.now g.A.Agent.meaning c.args.parts.now) c.start_for.ensures ∙ ap (λ h. offered c.args.plan.now g.A.Agent.meaning c.args.parts.now h c.args.place) (sym c.in-StartsFor.is)
+returns-in-StartsFor g c = c.allowed-in-StartsFor.ensures ∙ ap (if_allowed c.args.plan.now g.A.Agent.meaning c.args.parts.now) c.start_for.ensures ∙ ap (λ h. offered c.args.plan.now g.A.Agent.meaning c.args.parts.now h c.args.place) (sym c.in-StartsFor.is)
 
 pub returns-in-Stages : goal.returns-in-Stages
-returns-in-Stages g c = c.allowed.ensures ∙ ap (if_allowed c.args.plan.now g.A.Agent.meaning c.args.parts.now) c.stage_at.ensures ∙ ap (λ h. offered c.args.plan.now g.A.Agent.meaning c.args.parts.now h c.args.place) (sym c.in-Stages.is)
+returns-in-Stages g c = c.allowed-in-Stages.ensures ∙ ap (if_allowed c.args.plan.now g.A.Agent.meaning c.args.parts.now) c.stage_at.ensures ∙ ap (λ h. offered c.args.plan.now g.A.Agent.meaning c.args.parts.now h c.args.place) (sym c.in-Stages.is)
 
 pub returns-in-Posts : goal.returns-in-Posts
-returns-in-Posts g c = c.allowed.ensures ∙ ap (if_allowed c.args.plan.now g.A.Agent.meaning c.args.parts.now) c.posted_at.ensures ∙ ap (λ h. offered c.args.plan.now g.A.Agent.meaning c.args.parts.now h c.args.place) (sym c.in-Posts.is)
+returns-in-Posts g c = c.allowed-in-Posts.ensures ∙ ap (if_allowed c.args.plan.now g.A.Agent.meaning c.args.parts.now) c.posted_at.ensures ∙ ap (λ h. offered c.args.plan.now g.A.Agent.meaning c.args.parts.now h c.args.place) (sym c.in-Posts.is)
