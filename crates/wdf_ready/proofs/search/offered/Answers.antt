@@ -27,7 +27,7 @@ pub returns-in-Unparks : goal.returns-in-Unparks
 returns-in-Unparks g c = c.allowed-in-Unparks.ensures ∙ ap (if_allowed c.args.plan.now g.A.Agent.meaning c.args.parts.now) c.unparks.ensures ∙ ap (λ h. offered c.args.plan.now g.A.Agent.meaning c.args.parts.now h c.args.place) (sym c.in-Unparks.is)
 
 pub returns-in-StartsFor : goal.returns-in-StartsFor
-returns-in-StartsFor g c = c.allowed-in-StartsFor.ensures ∙ ap (if_allowed c.args.plan.now g.A.Agent.meaning c.args.parts.now) c.start_for.ensures ∙ ap (λ h. offered c.args.plan.now g.A.Agent.meaning c.args.parts.now h c.args.place) (sym c.in-StartsFor.is)
+returns-in-StartsFor g c = c.allowed-in-StartsFor.ensures ∙ ap (if_allowed c.args.plan.now g.A.Agent.meaning c.args.parts.now) c.start_for-event.ensures ∙ ap (λ h. offered c.args.plan.now g.A.Agent.meaning c.args.parts.now h c.args.place) (sym c.in-StartsFor.is)
 
 pub returns-in-Stages : goal.returns-in-Stages
 returns-in-Stages g c = c.allowed-in-Stages.ensures ∙ ap (if_allowed c.args.plan.now g.A.Agent.meaning c.args.parts.now) c.stage_at.ensures ∙ ap (λ h. offered c.args.plan.now g.A.Agent.meaning c.args.parts.now h c.args.place) (sym c.in-Stages.is)
