@@ -10,7 +10,6 @@ use wdf_base::{Agent, Callback, Cpu, Event, ObjectId, Place, Rank, Step, same_ca
 use wdf_model::Group;
 use wdf_parts::Parts;
 use wdf_plan_index::IndexedPlan;
-use wdf_posts::{due_of, post_answer};
 
 /// The start of a callback on an object.
 pub(crate) fn starts<A: Agent>(
@@ -140,18 +139,6 @@ pub(crate) fn completion_at<A: Agent>(
         }),
         _ => None,
     }
-}
-
-/// What an agent posts now.
-pub(crate) fn posted_at<A: Agent>(plan: &IndexedPlan, parts: &Parts<A>, agent: u16) -> Option<Event>
-    ensures { result ≡ groups.candidate plan.now A.meaning parts.now group.Posts agent }
-{
-    let post = due_of(parts, agent)?;
-    Some(Event::Posted {
-        agent,
-        post,
-        answer: post_answer(plan, parts, agent, &post),
-    })
 }
 
 /// The top frame leaves a processor.

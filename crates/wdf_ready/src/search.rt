@@ -9,9 +9,11 @@ ghost use Rattle.wdf_ready.specs.Search as search;
 
 use crate::actor::is_by;
 use crate::candidates::{
-    completion_at, is_declared_somewhere, parks, places_in, posted_at, stage_at, start_for, unparks,
+    completion_at, is_declared_somewhere, parks, places_in, stage_at, start_for, unparks,
 };
-use crate::direct::{cleanup_offered, completion_offered, completions_len, end_offered, own_len};
+use crate::direct::{
+    cleanup_offered, completion_offered, completions_len, end_offered, own_len, post_offered,
+};
 use crate::due::{next_due, next_startable};
 use crate::idle::is_idle;
 use crate::leaving::{Leaving, numbered_at, numbered_len};
@@ -60,7 +62,7 @@ fn offered<A: Agent>(
         Group::Completions => completion_at(plan, parts, id),
         Group::Cleanups => cleanup_offered(plan, parts, id),
         Group::Destroys => end_offered(plan, parts, id),
-        Group::Posts => allowed(plan, parts, posted_at(plan, parts, place as u16)),
+        Group::Posts => post_offered(plan, parts, place as u16),
     }
 }
 

@@ -33,4 +33,4 @@ pub returns-in-Stages : goal.returns-in-Stages
 returns-in-Stages g c = c.allowed-in-Stages.ensures ∙ ap (if_allowed c.args.plan.now g.A.Agent.meaning c.args.parts.now) c.stage_at.ensures ∙ ap (λ h. offered c.args.plan.now g.A.Agent.meaning c.args.parts.now h c.args.place) (sym c.in-Stages.is)
 
 pub returns-in-Posts : goal.returns-in-Posts
-returns-in-Posts g c = c.allowed-in-Posts.ensures ∙ ap (if_allowed c.args.plan.now g.A.Agent.meaning c.args.parts.now) c.posted_at.ensures ∙ ap (λ h. offered c.args.plan.now g.A.Agent.meaning c.args.parts.now h c.args.place) (sym c.in-Posts.is)
+returns-in-Posts g c = c.post_offered.ensures ∙ ap (λ h. offered c.args.plan.now g.A.Agent.meaning c.args.parts.now h c.args.place) (sym c.in-Posts.is)
