@@ -1,11 +1,15 @@
 -- What an event touches: the groups whose events may differ before and after it. A group that it doesn't touch offers the
 -- same events in the state before and in the state after. (own)
-use Rattle.std.specs.Prelude.{ℕ, Bool, true, false, ◌==◌, List, [], ◌∷◌, filter}
+use Rattle.std.specs.Prelude.{◌≡◌, ◌≤◌, ℕ, Bool, true, false, ◌==◌, List, [], ◌∷◌, ◌++◌, filter, Option, Some}
 use Rattle.std.specs.List.{flat_map, list_any}
 use Rattle.wdf_base.specs.Meaning.{Meaning}
 use Rattle.wdf_base.specs.declared.plan.Plan.{Plan}
 use Rattle.wdf_base.specs.declared.event.Event.{Event}
 use Rattle.wdf_base.specs.declared.event.Event.TheVariants as event
+use Rattle.wdf_base.specs.Callbacks.{row_of}
+use Rattle.wdf_base.specs.declared.call.Callback.{Callback}
+use Rattle.wdf_base.specs.declared.event.Step.TheVariants as step
+use Rattle.wdf_base.specs.declared.ids.Handle.{Handle}
 use Rattle.wdf_base.specs.declared.rank.Rank.{Rank}
 use Rattle.wdf_base.specs.declared.rank.Rank.TheVariants as rank
 use Rattle.wdf_model.specs.declared.deed.Deed.{Deed}
@@ -13,6 +17,9 @@ use Rattle.wdf_model.specs.declared.deed.Deed.TheVariants as deed
 use Rattle.wdf_model.specs.declared.enums.Group.{Group}
 use Rattle.wdf_model.specs.declared.enums.Group.TheVariants as group
 use Rattle.wdf_model.specs.State.{State}
+use Rattle.wdf_model.specs.Tables.{contains}
+use Rattle.wdf_model.specs.parts.Cpus.{top}
+use Rattle.wdf_model.specs.parts.Pnp.{next_step}
 use Rattle.wdf_model.specs.rules.Groups.{candidates_in}
 use Rattle.wdf_model.specs.rules.Steps.{deeds, may}
 
@@ -172,7 +179,7 @@ changed_by cpu (deed.CleanUp o) = ObjectTree ∷ []
 changed_by cpu (deed.EndLife o) = ObjectTree ∷ RequestTable ∷ []
 -- of the processors the event's own alone
 changed_by cpu (deed.PushFrame on f frame level) = Processor cpu ∷ TopFrame cpu ∷ TopWait cpu ∷ RunningObjects ∷ WaitedObjects ∷ []
--- the rows of events say more, where the frame begins or ends to wait
+-- the rows of events say it where the frame begins or ends to wait
 changed_by cpu (deed.GoOn f frame) = TopFrame cpu ∷ []
 changed_by cpu (deed.Raise f level) = Processor cpu ∷ []
 changed_by cpu (deed.Lower f level) = Processor cpu ∷ []
@@ -228,6 +235,10 @@ changed_by cpu deed.PassTick = ClockTick ∷ []
 
 -- ---- what an event changes: one row for each kind
 
+-- what changes where a frame comes to processor cpu or leaves it
+abbrev pub changed_on : ℕ → List Piece
+changed_on cpu = Processor cpu ∷ TopFrame cpu ∷ TopWait cpu ∷ RunningObjects ∷ WaitedObjects ∷ []
+
 -- what the deeds of event e, of processor cpu, change; and the agents hear of it
 abbrev pub changed_by_deeds : {A : Type 0} → Plan → State A → ℕ → Event → List Piece
 changed_by_deeds plan S cpu e = AgentStates ∷ flat_map (changed_by cpu) (deeds plan S e)
@@ -239,24 +250,25 @@ changed plan S (event.Local cpu line) = TopFrame cpu.0 ∷ []
 -- the same
 changed plan S (event.Log cpu v) = TopFrame cpu.0 ∷ []
 -- the top frame, by its place and its tick
-changed plan S (event.Spend cpu n) = changed_by_deeds plan S cpu.0 (event.Spend cpu n)
--- the top frame, and the device's agent
-changed plan S (event.Register cpu a k v) = changed_by_deeds plan S cpu.0 (event.Register cpu a k v)
--- the frame, and what the call does
-changed plan S (event.Did cpu c v) = changed_by_deeds plan S cpu.0 (event.Did cpu c v)
+changed plan S (event.Spend cpu n) = TopFrame cpu.0 ∷ AgentStates ∷ []
+-- the top frame; what the register does is its agent's
+changed plan S (event.Register cpu a k v) = TopFrame cpu.0 ∷ AgentStates ∷ []
+-- the top frame, and what the call does
+changed plan S (event.Did cpu c v) = TopFrame cpu.0 ∷ changed_by_deeds plan S cpu.0 (event.Did cpu c v)
 -- the same, and the frame waits
-changed plan S (event.Waiting cpu c) = TopWait cpu.0 ∷ WaitedObjects ∷ changed_by_deeds plan S cpu.0 (event.Waiting cpu c)
+changed plan S (event.Waiting cpu c) = TopFrame cpu.0 ∷ TopWait cpu.0 ∷ WaitedObjects ∷ changed_by_deeds plan S cpu.0 (event.Waiting cpu c)
 -- the same, and it waits no more
-changed plan S (event.Woke cpu c v) = TopWait cpu.0 ∷ WaitedObjects ∷ changed_by_deeds plan S cpu.0 (event.Woke cpu c v)
--- the rank's own effect, the processor, and the lock
-changed plan S (event.Start cpu c o r) = changed_by_deeds plan S cpu.0 (event.Start cpu c o r)
+changed plan S (event.Woke cpu c v) = TopFrame cpu.0 ∷ TopWait cpu.0 ∷ WaitedObjects ∷ changed_by_deeds plan S cpu.0 (event.Woke cpu c v)
+-- the processor, the rank's own effect, and the lock
+changed plan S (event.Start cpu c o r) = changed_on cpu.0 ++ changed_by_deeds plan S cpu.0 (event.Start cpu c o r)
 -- the processor, the lock, and the steps of a device whose step ends
-changed plan S (event.End cpu c o v) = changed_by_deeds plan S cpu.0 (event.End cpu c o v)
--- the processor and the parked frames
-changed plan S (event.Park cpu f) = changed_by_deeds plan S cpu.0 (event.Park cpu f)
-changed plan S (event.Unpark cpu f) = changed_by_deeds plan S cpu.0 (event.Unpark cpu f)
+changed plan S (event.End cpu c o v) = changed_on cpu.0 ++ changed_by_deeds plan S cpu.0 (event.End cpu c o v)
+-- the processor and the parked frames; wide in that frames run on the same objects as before, and wait for the same
+changed plan S (event.Park cpu f) = changed_on cpu.0 ++ ParkedFrames ∷ AgentStates ∷ []
+-- the same
+changed plan S (event.Unpark cpu f) = changed_on cpu.0 ++ ParkedFrames ∷ AgentStates ∷ []
 -- the agents alone, and nothing may follow
-changed plan S (event.Fault cpu x line) = changed_by_deeds plan S cpu.0 (event.Fault cpu x line)
+changed plan S (event.Fault cpu x line) = AgentStates ∷ []
 -- what the stage does
 changed plan S (event.Stage d s i) = changed_by_deeds plan S 0 (event.Stage d s i)
 -- the request, and what is asked by its deletion
@@ -268,7 +280,7 @@ changed plan S (event.Destroy o) = changed_by_deeds plan S 0 (event.Destroy o)
 -- what the post does
 changed plan S (event.Posted agent p answer) = changed_by_deeds plan S 0 (event.Posted agent p answer)
 -- the clock
-changed plan S (event.Tick time) = changed_by_deeds plan S 0 (event.Tick time)
+changed plan S (event.Tick time) = AgentStates ∷ ClockTick ∷ []
 
 -- ---- what an event touches
 
@@ -279,6 +291,15 @@ touches plan S e g = list_any (λ p. has_piece p (read_by g)) (changed plan S e)
 -- the events of group g that may come in state S, by rising place
 abbrev pub offers : {A : Type 0} → Plan → Meaning A → State A → Group → List Event
 offers plan m S g = filter (may plan m S) (candidates_in plan m S g)
+
+-- What is so in each state of a run, and the law needs: a frame is on top of one processor, and not parked; its number is
+-- that of an event; and the callback of a device's next step has the rank of steps.
+pub record Orderly {A : Type 0} (S : State A) : Type 0 where
+  pub tops : (a b f : ℕ) → top S.cpus a ≡ Some f → top S.cpus b ≡ Some f → a ≡ b
+  pub running : (cpu f : ℕ) → top S.cpus cpu ≡ Some f → contains f S.cpus.parked ≡ false
+  pub numbered : (cpu f : ℕ) → top S.cpus cpu ≡ Some f → f ≤ S.number
+  pub parked : (f : ℕ) → contains f S.cpus.parked ≡ true → f ≤ S.number
+  pub ranked : (d : ℕ) (c : Callback) (i : Option Handle) → next_step S.pnp d ≡ Some (step.Run c i) → (row_of c).rank ≡ rank.Sequence
 
 -- group g is the own event of this processor
 abbrev pub is_own_of : ℕ → Group → Bool
