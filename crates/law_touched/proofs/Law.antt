@@ -1,7 +1,7 @@
 -- A group that an event doesn't touch offers the same events before and after it.
-use Rattle.std.proofs.Common.{◌≡◌, ℕ, Bool, true, false, ◌==◌, ◌||◌, List, [], ◌∷◌, ◌++◌, filter, length, refl, ap, sym, subst, ◌∙◌}
+use Rattle.std.proofs.Common.{◌≡◌, ℕ, Bool, true, false, ◌==◌, ◌||◌, List, [], ◌∷◌, ◌++◌, ◌+◌, filter, length, length-append, refl, ap, sym, subst, ◌∙◌}
 use Rattle.std.proofs.lemmas.List.Elements.{filter-append}
-use Rattle.std.specs.List.{flat_map, list_any}
+use Rattle.std.specs.List.{flat_map, list_any, sum_by}
 use Rattle.wdf_base.specs.Meaning.{Meaning}
 use Rattle.wdf_base.specs.declared.plan.Plan.{Plan}
 use Rattle.wdf_base.specs.declared.ids.Cpu.{Cpu}
@@ -83,3 +83,10 @@ filter_flat p f (x ∷ xs) = filter-append p (f x) (flat_map f xs) ∙ ap (λ ys
 
 pub allowed_by_groups : {A : Type 0} (plan : Plan) (m : Meaning A) (S : State A) → allowed plan m S ≡ flat_map (offers plan m S) (groups plan)
 allowed_by_groups plan m S = filter_flat (may plan m S) (candidates_in plan m S) (groups plan)
+
+length_flat : {X Y : Type 0} (f : X → List Y) (xs : List X) → length (flat_map f xs) ≡ sum_by (λ x. length (f x)) xs
+length_flat f [] = refl
+length_flat f (x ∷ xs) = length-append (f x) (flat_map f xs) ∙ ap (λ n. length (f x) + n) (length_flat f xs)
+
+pub allowed_count : {A : Type 0} (plan : Plan) (m : Meaning A) (S : State A) → length (allowed plan m S) ≡ sum_by (λ g. length (offers plan m S g)) (groups plan)
+allowed_count plan m S = ap length (allowed_by_groups plan m S) ∙ length_flat (offers plan m S) (groups plan)

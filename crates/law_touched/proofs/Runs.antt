@@ -31,8 +31,10 @@ use Rattle.law_machine_once.specs.Owned.{StepsOwned}
 use Rattle.law_machine_once.proofs.Steps.{steps_owned_at_each}
 use Rattle.wdf_model.specs.declared.enums.Group.{Group}
 use Rattle.std.specs.List.{flat_map}
-use Rattle.law_touched.specs.Touched.{Orderly, offers, touches}
-use Rattle.law_touched.proofs.Law.{untouched, untouched_by_tick}
+use Rattle.wdf_base.specs.declared.ids.Cpu.{Cpu}
+use Rattle.wdf_base.specs.declared.value.Value.{Value}
+use Rattle.law_touched.specs.Touched.{Orderly, is_own_of, offers, touches}
+use Rattle.law_touched.proofs.Law.{local_touches, log_touches, untouched, untouched_by_tick}
 
 -- a frame that is there once is on top of one processor
 two_tops : (C : Cpus) (a b f : ℕ) → on C f ≤ 1 → top C a ≡ Some f → top C b ≡ Some f → a ≢ b → ⊥
@@ -84,3 +86,12 @@ module _ {A : Type 0} (plan : Plan) (m : Meaning A) (run : List Event) (is_run :
 
     pub untouched_in_run : slice_get (ready plan m run) k ≡ Some e → offers plan m (state_after plan m run) g ≡ offers plan m (state_after plan m (run ++ e ∷ [])) g
     untouched_in_run at = by_following (follows plan m run k e at) ∙ ap (λ (T : State A). offers plan m T g) (sym (state_goes_on plan m run e))
+
+  -- an event inside a frame leaves the counts of the other groups
+  pub local_counts : (k : ℕ) (cpu : Cpu) (line : ℕ) (g : Group) → slice_get (ready plan m run) k ≡ Some (event.Local cpu line) → is_own_of cpu.0 g ≡ false
+      → length (offers plan m (state_after plan m run) g) ≡ length (offers plan m (state_after plan m (run ++ event.Local cpu line ∷ [])) g)
+  local_counts k cpu line g at other = ap length (untouched_in_run k (event.Local cpu line) g (local_touches plan (state_after plan m run) cpu line g ∙ other) at)
+
+  pub log_counts : (k : ℕ) (cpu : Cpu) (v : Value) (g : Group) → slice_get (ready plan m run) k ≡ Some (event.Log cpu v) → is_own_of cpu.0 g ≡ false
+      → length (offers plan m (state_after plan m run) g) ≡ length (offers plan m (state_after plan m (run ++ event.Log cpu v ∷ [])) g)
+  log_counts k cpu v g at other = ap length (untouched_in_run k (event.Log cpu v) g (log_touches plan (state_after plan m run) cpu v g ∙ other) at)
